@@ -9,7 +9,7 @@ same : (x : ℕ) → eqb x x ≡ true
 same x = elim (eqb_tells x x) [ inl e ↦ e.0 | inr e ↦ absurd (e.1 refl) ]
 
 module _ {E : Type 0} where
-  -- more behind both lists, of which no more is read
+  -- more after both lists, of which no more is read
   more_behind : (n : ℕ) (a b c d : List (Result ℕ E)) → n ≤ length a → n ≤ length b → first_alike n (a ++ c) (b ++ d) ≡ first_alike n a b
   unfolding first_alike
   more_behind zero a b c d few less = refl
@@ -19,7 +19,7 @@ module _ {E : Type 0} where
   more_behind (suc n) (Ok x ∷ a) (Err e ∷ b) c d few less = refl
   more_behind (suc n) (Ok x ∷ a) (Ok y ∷ b) c d few less = ap (λ r. cond (eqb x y) r (Ok false)) (more_behind n a b c d (omega (arith, few)) (omega (arith, less)))
 
-  -- what the item x in front and the result y behind make of what is between them
+  -- what the item x in front and the result y at the back make of what is between them
   abbrev pub at_ends : ℕ → Result ℕ E → Result Bool E → Result Bool E
   at_ends x (Ok y) r = cond (eqb x y) r (Ok false)
   at_ends x (Err e) r = Err e
@@ -53,7 +53,7 @@ module _ {E : Type 0} where
   unfolding alike first_alike
   alike_failed e l = let half : (length (Err e ∷ l) + 1) / 2 ≡ suc (length l / 2) = omega arith in ap (λ k. first_alike k (Err e ∷ l) (reverse (Err e ∷ l))) half
 
-  -- two items that differ, two that are the same, and a failure behind
+  -- two items that differ, two that are the same, and a failure at the back
   pub alike_differ : (x y : ℕ) (l : List (Result ℕ E)) → x ≢ y → alike (Ok x ∷ (l ++ Ok y ∷ [])) ≡ Ok false
   alike_differ x y l differ = alike_between x (Ok y) l ∙ elim (eqb_tells x y) [ inl e ↦ absurd (differ e.1) | inr e ↦ ap (λ b. cond b (alike l) (Ok false)) e.0 ]
 

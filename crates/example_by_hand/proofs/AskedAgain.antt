@@ -1,4 +1,4 @@
--- How answers that are asked for again are cut from a list, and made draw by draw.
+-- How answers that are drawn again are cut from a list, and made draw by draw.
 use Rattle.std.specs.Prelude.{◌≡◌, ℕ, zero, suc, map, List, [], ◌∷◌, ◌++◌, Option, Some, None, Result, Ok, Err}
 use Rattle.std.proofs.Common.{arith, refl}
 use Rattle.fallible_iterator.specs.Lists.{result_answer}

@@ -1,4 +1,4 @@
--- How many numbers a countdown gives.
+-- How many numbers a countdown yields.
 use Rattle.std.specs.Prelude.{◌≡◌, ℕ, zero, suc, length}
 use Rattle.std.proofs.Common.{refl, ap}
 use Rattle.example_by_hand.specs.Down.{down_from}

@@ -1,4 +1,4 @@
--- Where a partition of what is listed into vectors was refused.
+-- Where an allocation failed in a partition of what is listed into vectors.
 use Rattle.std.specs.Prelude.{◌≡◌, ℕ, ◌≤◌, Bool, true, false, List, [], ◌∷◌, ◌++◌, map, Result, Some, Ok, Err, vec_len, vec_capacity}
 use Rattle.std.specs.List.{FoldsTo}
 use Rattle.std.proofs.Common.{refl, sym, ap, subst, ◌∙◌, inl, inr}
@@ -47,7 +47,7 @@ module _ {E F : Type 0} (call : F → ℕ → Result Bool E → F → Type 0) (f
         full = asked.3;
       }
 
-  -- Where the answer is a refusal, a side was full.
+  -- If an allocation failed, a side was full.
   pub side_full : {S : Type 0} {steps : S → Answered ℕ E → S → Type 0} {s : S} (l : List (Result ℕ E)) → Lists steps s l → (fault : Fault E) (a : AllocError) → Partitions {B = Vec ℕ Global} steps call (λ xs v. v.items ≡ xs) ⊥ (λ v _. vec_capacity v ≤ vec_len v) s f (Err fault) → fault ≡ Memory a → SideFull h l
   side_full l i (Source e) a k is = absurd cc
   side_full l i (Memory b) a (inl k) is = absurd k

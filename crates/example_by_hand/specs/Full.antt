@@ -1,4 +1,4 @@
--- Where a partition into vectors may be refused.
+-- Where an allocation may fail in a partition into vectors.
 use Rattle.std.specs.Prelude.{◌≡◌, ℕ, ◌≤◌, Bool, cond, List, ◌∷◌, ◌++◌, Result, Ok, vec_len, vec_capacity}
 use Rattle.fallible_iterator.specs.Lists.{partitioned}
 use Rattle.std.specs.declared.alloc.Global.{Global}

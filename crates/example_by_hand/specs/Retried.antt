@@ -1,8 +1,8 @@
--- Answers of a source that is asked again at a failure.
+-- Answers of a source that is drawn again after a failure.
 use Rattle.std.specs.Prelude.{◌≡◌, ℕ, zero, suc, Result, Ok, Err, List, [], ◌∷◌}
 use Rattle.fallible_iterator.specs.Traces.{Answered, failure}
 
--- What draws make where up to so many failures are passed over: the answer behind them.
+-- What draws make where up to so many failures are passed over: the answer after them.
 abbrev pub MakesRetried : {A E : Type 0} → ℕ → List (Answered A E) → Answered A E → Type 0
 MakesRetried left (Ok o ∷ []) r = r ≡ Ok o
 MakesRetried zero (Err e ∷ []) r = r ≡ failure e

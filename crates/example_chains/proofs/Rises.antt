@@ -1,4 +1,4 @@
--- What one number more, and the one behind it, make of how often a number is above the one before it.
+-- What one number more, and the one after it, make of how often a number is above the one before it.
 use Rattle.std.specs.Prelude.{◌≡◌, ℕ, ◌+◌, ◌%◌, ◌^◌, List, ◌∷◌, Result, Ok, Err, true, false, nat_lt, length, filter, cond}
 use Rattle.std.specs.List.{zip}
 use Rattle.std.proofs.Common.{refl, ap, arith, ◌∙◌}
@@ -22,7 +22,7 @@ module _ {E : Type 0} (n x y : ℕ) where
   not_above (Err e) h = refl
   not_above (Ok xs) h = ap (λ k. Ok ((n + k) % 2 ^ 64)) (none_above x y xs h)
 
--- the item y behind x, where it is greater, and where it isn't
+-- the item y after x, where it is greater, and where it isn't
 pub rises_on : {E : Type 0} (n x y : ℕ) (l : List (Result ℕ E)) → nat_lt x y ≡ true → risen_from n (Ok x ∷ Ok y ∷ l) ≡ risen_from ((n + 1) % 2 ^ 64) (Ok y ∷ l)
 unfolding collected
 rises_on n x y l h = above n x y (collected l) h

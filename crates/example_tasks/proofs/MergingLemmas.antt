@@ -1,4 +1,4 @@
--- One merged item: what is answered and left, by what the looks and the draws say of both lists.
+-- One merged item: what is returned and left, by what the looks and the draws say of both lists.
 use Rattle.std.specs.Prelude.{◌≡◌, ℕ, Bool, true, false, nat_lt, List, [], ◌∷◌, Some, None, Result, Ok, Err}
 use Rattle.std.proofs.Common.{refl, subst}
 use Rattle.fallible_iterator.specs.Traces.{Answered}
@@ -72,7 +72,7 @@ module _ {E : Type 0} where
   pub left_gives : (x : ℕ) (a b : List (Result ℕ E)) → Ok (Some x) ≡ nth_of 0 a → Ok None ≡ first_if (λ y. nat_lt y x) b → Gives a b (Ok (Some x)) (rest_first (looked_ahead a)) (rest_if (λ y. nat_lt y x) b)
   left_gives x a b s f = subst (λ (k : List (Result ℕ E)). Gives k b (Ok (Some x)) (rest_first (looked_ahead k)) (rest_if (λ y. nat_lt y x) b)) (item_first x a s) (first_first x (rest_first a) b f)
 
-  -- what a draw of the left gives, once its first item was looked at
+  -- what a draw of the left yields, once its first item was looked at
   pub looked_first : (x : ℕ) (a : List (Result ℕ E)) → Ok (Some x) ≡ nth_of 0 a → Ok (Some x) ≡ nth_of 0 (looked_ahead a)
   unfolding nth_of looked_ahead
   looked_first x [] s = s

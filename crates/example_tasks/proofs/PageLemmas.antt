@@ -43,7 +43,7 @@ module _ {P : Type 0} (gives : P → ℕ → Result (List ℕ) PageRefused → P
   pub lists_book : (book : List (Result (List ℕ) PageRefused)) (s : Cursor P) (pages : P) → cursor_parts s ≡ at_start pages → AnswersBook gives pages 0 book → Lists (seen_as cursor_parts (unbounded_contract (DrawsRow gives))).steps s (rows_in book)
   lists_book book s pages e i = lists_seen cursor_parts (DrawsRow gives) s e refl (gives_book book pages 0 i)
 
--- a book answers its pages
+-- a book returns its pages
 pub answers_pages : (pages : List (Vec ℕ Global)) (s : Book) (place : ℕ) → pages_left s ≡ pages → AnswersBook GivesPage s place (pages_of pages)
 answers_pages [] s place e = λ page t given. (subst (λ (l : List (Vec ℕ Global)). TakesPage l page (pages_left t)) e given).0
 answers_pages (rows ∷ pages) s place e = λ page t given.

@@ -28,7 +28,7 @@ abbrev pub with_number : List ℕ → List (Result Token TextFault) → List (Re
 with_number [] l = l
 with_number (digit ∷ digits) l = number_token (digit ∷ digits) ∷ l
 
--- the tokens of a text behind digits that belong to it
+-- the tokens of a text after digits that belong to it
 unfoldable pub tokens_behind : List ℕ → List ℕ → List (Result Token TextFault)
 tokens_behind digits [] = with_number digits []
 tokens_behind digits (byte ∷ text) = if is_ascii_digit byte then tokens_behind (digits ++ byte ∷ []) text else with_number digits (sign_token byte ∷ tokens_behind [] text)
@@ -37,7 +37,7 @@ tokens_behind digits (byte ∷ text) = if is_ascii_digit byte then tokens_behind
 abbrev pub tokens_of : List ℕ → List (Result Token TextFault)
 tokens_of text = tokens_behind [] text
 
--- so many digits stand in front of a text, and the tokens of the text are those of the rest behind them
+-- so many digits stand in front of a text, and the tokens of the text are those of the rest after them
 pub record ReadsDigits (text : List ℕ) (end : ℕ) : Type 0 where
   pub fits : end ≤ length text
   pub same : tokens_of text ≡ tokens_behind (take end text) (drop end text)
@@ -61,7 +61,7 @@ with_factor level factor = record { sum = level.sum; product = level.product * f
 abbrev pub with_plus : Level → Level
 with_plus level = record { sum = level_value level; product = 1 }
 
--- What one token makes of the levels outside, the nearest first, of the level at hand, and of whether a number or an opening parenthesis is to come: each token where it may stand, and else a failure.
+-- What one token makes of the levels outside, the nearest first, of the level at hand, and of whether a number or an opening parenthesis is to come: each token where it may stand, and otherwise a failure.
 abbrev pub after_token : List Level × Level × Bool → Token → Result (List Level × Level × Bool) TextFault
 after_token (outside, level, true) (Number n) = Ok (outside, with_factor level n, false)
 after_token (outside, level, true) Open = Ok (level ∷ outside, no_terms, true)
@@ -83,7 +83,7 @@ value_from state l = on_value (folded (λ e. e) after_token state l) value_at_en
 abbrev pub value_of_tokens : List (Result Token TextFault) → Result ℕ TextFault
 value_of_tokens l = value_from ([], no_terms, true) l
 
--- ---- values where memory may be refused
+-- ---- values where an allocation may fail
 
 -- one token, where so many parentheses may be open at once: an opening one that would be one more is the failure `Memory`
 abbrev pub after_token_in : ℕ → List Level × Level × Bool → Token → Result (List Level × Level × Bool) TextFault

@@ -3,12 +3,12 @@ use Rattle.std.specs.Prelude.{◌≡◌, ℕ, Bool, true, false, nat_lt, List, [
 use Rattle.fallible_iterator.specs.Traces.{Answered}
 use Rattle.fallible_iterator.specs.Lists.{Lists}
 
--- the second where the test is true, else the first
+-- the second if the test is true, otherwise the first
 abbrev pub picked : {E : Type 0} → Bool → List (Result ℕ E) → List (Result ℕ E) → List (Result ℕ E)
 picked true second first = second
 picked false second first = first
 
--- x and the list behind it, into which the second list is merged by `into`
+-- x and the list after it, into which the second list is merged by `into`
 abbrev pub merged_at : {E : Type 0} → ℕ → (List (Result ℕ E) → List (Result ℕ E)) → List (Result ℕ E) → List (Result ℕ E)
 merged_at x into [] = Ok x ∷ into []
 merged_at x into (Err e ∷ b) = Err e ∷ merged_at x into b

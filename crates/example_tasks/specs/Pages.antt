@@ -1,4 +1,4 @@
--- What a draw of rows from pages asks and answers.
+-- What a draw of rows from pages requests and returns.
 use Rattle.std.specs.Prelude.{◌≡◌, ℕ, ◌+◌, ◌%◌, ◌^◌, List, [], ◌∷◌, ◌++◌, Result, Ok, Err}
 use Rattle.std.specs.Vec.Iter.{into_iter_items}
 use Rattle.fallible_iterator.specs.Traces.{Answered, item, failure, end}
@@ -19,14 +19,14 @@ rows_of (Err e) = Err e
 abbrev pub cursor_parts : {P : Type 0} → Cursor P → P × (List ℕ × ℕ)
 cursor_parts c = (c.pages, (into_iter_items c.rows, c.place))
 
--- What becomes of an asked page: its first row is answered and the others are in hand, and the next page is asked for after them. An empty one is an end. A refused one is a failure. After both the same page is asked for again.
+-- What becomes of a requested page: its first row is returned and the others are buffered, and the next page is requested after them. An empty one is an end. A refused one is a failure. After both the same page is requested again.
 abbrev pub Opens : Result (List ℕ) PageRefused → ℕ → Answered ℕ PageRefused → List ℕ → ℕ → Type 0
 Opens (Ok (x ∷ rest)) place r rows next = (r ≡ item x) × (rows ≡ rest) × (next ≡ (place + 1) % 2 ^ 32)
 Opens (Ok []) place r rows next = (r ≡ end) × (rows ≡ []) × (next ≡ place)
 Opens (Err e) place r rows next = (r ≡ failure e) × (rows ≡ []) × (next ≡ place)
 
 module _ {P : Type 0} (gives : P → ℕ → Result (List ℕ) PageRefused → P → Type 0) where
-  -- One draw: a row in hand is answered, and no page is asked for. Where none is, one page is.
+  -- One draw: a buffered row is returned, and no page is requested. If none is buffered, one page is.
   abbrev pub DrawsRow : P × (List ℕ × ℕ) → Answered ℕ PageRefused → P × (List ℕ × ℕ) → Type 0
   DrawsRow (pages, (x ∷ rest, place)) r (pages', (rows, next)) = (r ≡ item x) × (pages' ≡ pages) × (rows ≡ rest) × (next ≡ place)
   DrawsRow (pages, ([], place)) r (pages', (rows, next)) = (page : Result (List ℕ) PageRefused) × gives pages place page pages' × Opens page place r rows next
@@ -37,7 +37,7 @@ at_start pages = (pages, ([], 0))
 
 -- ---- what it lists
 
--- The pages answer as the book does: asked for this place, they answer its first answer. After a page of rows the next place is asked for, after a refusal the same one. Behind the book's end a page is empty.
+-- The pages return what the book does: requested at this place, they return its first answer. After a page of rows the next place is requested, after a refusal the same one. After the book's end a page is empty.
 abbrev pub AnswersBook : {P : Type 0} → (P → ℕ → Result (List ℕ) PageRefused → P → Type 0) → P → ℕ → List (Result (List ℕ) PageRefused) → Type 0
 AnswersBook {P} gives pages place [] = (page : Result (List ℕ) PageRefused) (pages' : P) → gives pages place page pages' → page ≡ Ok []
 AnswersBook {P} gives pages place (Ok rows ∷ book) = (page : Result (List ℕ) PageRefused) (pages' : P) → gives pages place page pages' → (page ≡ Ok rows) × AnswersBook gives pages' ((place + 1) % 2 ^ 32) book
@@ -56,7 +56,7 @@ rows_in (Err e ∷ book) = Err e ∷ rows_in book
 abbrev pub pages_left : Book → List (Vec ℕ Global)
 pages_left s = into_iter_items s.pages
 
--- A book's first page that is left is given, whatever the place. Behind the last one a page is empty.
+-- A book's first page that is left is returned, whatever the place. After the last one a page is empty.
 abbrev pub TakesPage : List (Vec ℕ Global) → Result (List ℕ) PageRefused → List (Vec ℕ Global) → Type 0
 TakesPage [] page rest = (page ≡ Ok []) × (rest ≡ [])
 TakesPage (rows ∷ pages) page rest = (page ≡ Ok rows.items) × (rest ≡ pages)

@@ -16,7 +16,7 @@ abbrev pub ReadsAll : Option (List ℕ) → Option (List ℕ) → (List ℕ → 
 ReadsAll unread unread' Holds = (bytes : List ℕ) × Consumes unread unread' bytes × IsAtEnd unread' × Holds bytes
 
 module _ {R : Type 0} (left : R → Option (List ℕ)) (fails : ErrorKind → R → R → Type 0) where
-  -- it gave all bytes that were left, and is at its end; or it failed
+  -- it yielded all bytes that were left, and is at its end; or it failed
   abbrev pub ReadsWhole : R → Result (Vec ℕ Global) Error → R → Type 0
   ReadsWhole r (Ok bytes) q = Consumes (left r) (left q) bytes.items × IsAtEnd (left q)
   ReadsWhole r (Err e) q = fails (error_kind e) r q

@@ -13,12 +13,12 @@ use Rattle.example_tasks.specs.declared.table.Totals.{Totals}
 abbrev pub record_of : List ℕ → Record
 record_of bytes = record { low = from_le_bytes w32 (take 4 bytes); high = from_le_bytes w32 (take 4 (drop 4 bytes)) }
 
--- what is behind the last whole record: nothing, or a record cut short
+-- what comes after the last whole record: nothing, or a record cut short
 abbrev pub cut_of : List ℕ → List (Result Record CutShort)
 cut_of [] = []
 cut_of (byte ∷ bytes) = Err (record {}) ∷ []
 
--- so many whole records, and what is behind them
+-- so many whole records, and what comes after them
 abbrev pub records_then : ℕ → List ℕ → List (Result Record CutShort)
 records_then zero bytes = cut_of bytes
 records_then (suc n) bytes = Ok (record_of bytes) ∷ records_then n (drop 8 bytes)
@@ -37,7 +37,7 @@ DrawsRecord bytes (Err e) rest = (0 < length bytes) × (length bytes < 8) × (re
 abbrev pub is_good : Record → Bool
 is_good r = nat_le r.low r.high
 
--- a record, where it is good; else the fault that tells its place
+-- a record, where it is good; otherwise the fault that tells its place
 abbrev pub checked : ℕ → Record → Result Record TableFault
 checked place r = if is_good r then Ok r else Err (Bad place)
 

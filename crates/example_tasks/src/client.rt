@@ -19,9 +19,9 @@ pub struct Row {
 #[derive(Clone, Copy, Debug, PartialEq, Eq)]
 pub struct Lost;
 
-/// How many elements a std iterator gives up to its end: code that knows nothing of fallible iterators. It draws up to the end.
+/// How many elements a std iterator yields up to its `None`: code that knows nothing of fallible iterators. It draws up to the `None`.
 ///
-/// Asks that the iterator may be drawn from and ends, and that the number fits a `usize`.
+/// Requires that the iterator may be drawn from and ends, and that the number fits a `usize`.
 pub fn lines_of_report<S: std::iter::Iterator<Item = Result<Row, Lost>>>(rows: S) -> usize
     requires can { S.can_next rows }
     requires finite { IsFinite (S.remaining rows) }

@@ -14,7 +14,7 @@ pub fn front_above_100(readings: Vec<Result<u32, u8>>) -> Result<usize, u8>
         .count()
 }
 
-/// How many readings stand behind the last one up to 100, or the failure that comes before it from the back. It draws nothing after either.
+/// How many readings come after the last one up to 100, or the failure that comes before it from the back. It draws nothing after either.
 pub fn back_above_100(readings: Vec<Result<u32, u8>>) -> Result<usize, u8>
     ensures { result ≡ counted
         (taken_while (λ x. Ok (nat_lt 100 x)) (reversed (results readings.items))) }

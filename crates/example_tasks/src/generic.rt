@@ -7,7 +7,7 @@ use std::alloc::Global;
 
 /// The running sums of the items, modulo 2 ^ 64. It draws up to the end or the first failure, which is the answer then, as want of memory is.
 ///
-/// Asks that the source may be drawn from, and that it is finite.
+/// Requires that `next` may be called on the source, and that it is finite.
 pub fn running_sums<I: FallibleIterator<Item = u32>>(
     alloc: Global,
     it: I,

@@ -7,9 +7,9 @@ ghost use Rattle.example_tasks.specs.Merging.{ListBoth, merged};
 
 use fallible_iterator::{FallibleIterator, Peekable};
 
-/// The lesser of the next items of two sources, and of equal ones that of the left; none where both are at their ends. It draws at most once from each, from the left first. It fails where the left does, or else the right. The other item stays held, and both may be drawn from again, also after a failure.
+/// The lesser of the next items of two sources, and of equal ones that of the left; `None` if both return `Ok(None)`. It draws at most once from each, from the left first. It fails where the left does, or else the right. The other item stays buffered, and both may be used again, also after a failure.
 ///
-/// Asks that both may be drawn from.
+/// Requires that `next` may be called on both.
 pub fn next_merged<I, J>(
     left: &mut Peekable<I>,
     right: &mut Peekable<J>,

@@ -15,17 +15,17 @@ use std::vec::IntoIter;
 #[derive(Clone, Copy, Debug, PartialEq, Eq)]
 pub struct PageRefused;
 
-/// What gives pages of rows by their places, and may refuse one.
+/// Something that returns pages of rows by their places, and may refuse one.
 pub trait Pages: Drop + Sized {
-    // What asking for the page at a place may answer, and leave.
+    // What a request for the page at a place may return, and leave.
     ghost gives: { Self → ℕ → Result (List ℕ) PageRefused → Self → Type 0 };
 
-    /// The rows of the page at this place. There are none behind the last page.
+    /// Returns the rows of the page at this place. There are none after the last page.
     fn page(&mut self, place: u32) -> Result<IntoIter<u32, Global>, PageRefused>
         ensures { gives self.old place (rows_of result) self.new };
 }
 
-/// The rows of pages, in order. A draw asks for a page where no row is in hand, and for no other. Where the page is refused, it fails, and the next draw asks for the same page again. An empty page is an end.
+/// The rows of pages, in order. A draw requests a page if no row is buffered, and no other. If the page is refused, it fails, and the next draw requests the same page again. An empty page is an `Ok(None)`.
 ///
 /// It states no bound, so it is drained through `take`.
 #[derive(Drop)]
@@ -36,7 +36,7 @@ pub struct Cursor<P> {
 }
 
 impl<P: Pages> Cursor<P> {
-    /// The rows of these pages from page 0 on. Making them asks for no page.
+    /// The rows of these pages from page 0 on. Creating them requests no page.
     pub fn new(alloc: Global, pages: P) -> Cursor<P>
         ensures parts { cursor_parts result ≡ at_start pages }
         ensures lists { (book : List (Result (List ℕ) PageRefused))
@@ -86,7 +86,7 @@ impl<P: Pages> FallibleIterator for Cursor<P> {
     ghost lawful = { lawful_seen cursor_parts (lawful_unbounded (DrawsRow P.gives)) };
 }
 
-/// The sum of the first n rows of these pages, modulo 2 ^ 64. It draws up to the n-th row, the end or the first refusal, which is the answer then.
+/// The sum of the first n rows of these pages, modulo 2 ^ 64. It draws up to the n-th row, `Ok(None)` or the first refusal, which is returned then.
 pub fn sum_of_first<P: Pages>(alloc: Global, pages: P, n: usize) -> Result<u64, PageRefused>
     ensures { (book : List (Result (List ℕ) PageRefused)) → AnswersBook P.gives pages 0 book
         → result ≡ folded (λ e. e) (λ s x. Ok ((s + x) % 2 ^ 64)) 0 (taken n (rows_in book)) }

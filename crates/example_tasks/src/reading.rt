@@ -7,7 +7,7 @@ use std::alloc::Global;
 use std::io;
 use std::io::{ErrorKind, Read};
 
-/// What gives all its bytes, as every reader does.
+/// Something that yields all its bytes, as every reader does.
 pub trait ReadWhole {
     // The bytes that are left, where they are known.
     ghost left: { Self → Option (List ℕ) };

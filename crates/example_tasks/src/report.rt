@@ -1,4 +1,4 @@
-//! The totals of a table that a reader gives, as lines of text.
+//! The totals of a table that a reader yields, as lines of text.
 ghost use Rattle.std.specs.Prelude.{◌≡◌, ◌≢◌, Err, OnOk, OnErr, MatchResult};
 ghost use Rattle.std.specs.IoError.{error_kind};
 ghost use Rattle.std.specs.Io.KnownBytes.{Appends, Keeps};
@@ -12,7 +12,7 @@ use std::alloc::Global;
 use std::io;
 use std::io::{ErrorKind, Write};
 
-/// Why a run gave no report.
+/// Why a run made no report.
 #[derive(Clone, Copy, Debug, PartialEq, Eq)]
 pub enum RunFault {
     /// The table has a fault.
@@ -115,7 +115,7 @@ fn write_line<W: Write>(fault: &RunFault, err: &mut W) -> io::Result<()>
     }
 }
 
-/// Writes the one line that tells of `fault` to `err`, and answers the status that a program ends with after it: 1 and 5 for a bad record and one cut short, 2 for `Read`, 3 for `Memory`, 4 for `Write`. Where the line could not be written, the status is an `Err`.
+/// Writes the one line that tells of `fault` to `err`, and returns the status that a program ends with after it: 1 and 5 for a bad record and one cut short, 2 for `Read`, 3 for `Memory`, 4 for `Write`. If the line could not be written, the status is an `Err`.
 pub fn fault_line<W: Write>(fault: &RunFault, err: &mut W) -> Result<u8, u8>
     ensures status { MatchResult result (λ status. status ≡ status_of fault.now)
         (λ status. status ≡ status_of fault.now) }

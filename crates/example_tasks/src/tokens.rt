@@ -167,7 +167,7 @@ impl Calculation {
             (λ e. e ≢ TextFault.Memory
             → after_token (reverse self.outside.items, self.level, self.is_begun) token ≡ Err e) }
 
-        // Memory is refused at an opening parenthesis alone, where the levels outside fill their vector.
+        // An allocation may fail at an opening parenthesis alone, if the levels outside fill their vector.
         ensures memory { result ≡ Err TextFault.Memory → (token ≡ Token.Open)
             × (self.is_begun ≡ true) × (vec_capacity self.outside ≤ vec_len self.outside) }
         ensures capacity { IfOk result (λ c. vec_capacity self.outside ≤ vec_capacity c.outside) }
@@ -214,7 +214,7 @@ impl Calculation {
 
 /// The value of tokens of numbers, `+`, `*` and parentheses, modulo 2 ^ 64. It draws up to the end or the first failure, which is the answer then. It fails with `Unexpected` at a token that may not stand there, and with `Memory` at an opening parenthesis for which there is none: where as many are open as the vector of those has room for.
 ///
-/// Asks that the source may be drawn from, and that it is finite.
+/// Requires that `next` may be called on the source, and that it is finite.
 pub fn value_of<I: FallibleIterator<Item = Token, Error = TextFault>>(
     alloc: Global,
     mut tokens: I,

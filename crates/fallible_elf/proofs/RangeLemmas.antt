@@ -29,7 +29,7 @@ module _ (unit : ℕ) (bytes : List ℕ) (place : ℕ) where
   not_last (inl a) = and_left _ _ (ne_eqb _ 0 a)
   not_last (inr (a, b)) = and_right _ _ (ne_eqb _ 0 b)
 
-  -- a range, and those behind it are left
+  -- a range, and those after it are left
   pub takes_range : (f : Option ElfFault) (left k : ℕ) (r : Range) → left ≡ suc k → ((u64_at bytes place ≡ 0 → ⊥) ⊎ ((u64_at bytes place ≡ 0) × (u64_at bytes (place + 8) ≡ 0 → ⊥))) → r ≡ range_at unit bytes place → TakesShown (ranges_from f unit bytes place left) (Ok (Some r)) (ranges_from f unit bytes (place + 16) k)
   unfolding ranges_from
   takes_range f left k r some more is = rw (some, not_last more, is) (refl, refl)

@@ -21,7 +21,7 @@ module _ {A : Type 0} (l : List (Result A ElfFault)) where
   unfolding CollectedAs
   failure_is r f i e = subst (λ (r : Result (Vec A Global) (Fault ElfFault)). CollectedAs (λ all v. v.items ≡ all) l r) e i
 
-  -- the fault that is handed on is that of the list
+  -- the fault that is passed on is that of the list
   pub fault_is : {B : Type 0} (r : Result (Vec A Global) (Fault ElfFault)) (fault : Fault ElfFault) → CollectedAs (λ all v. v.items ≡ all) l r → r ≡ Err fault → (told : Result B (Fault ElfFault)) → IsErrAnd told (λ given. given ≡ fault) → (f : ElfFault) → told ≡ Err (Source f) → collected l ≡ Err f
   fault_is {B = B} r fault i e told made f is =
       let same : Source f ≡ fault = subst (λ (t : Result B (Fault ElfFault)). IsErrAnd t (λ given. given ≡ fault)) is made in

@@ -11,7 +11,7 @@ use Rattle.fallible_elf.specs.declared.header.Table.{Table}
 use Rattle.fallible_elf.specs.declared.section.Section.{Section}
 
 module _ (names names_size : ℕ) (bytes : List ℕ) (place : ℕ) where
-  -- behind the last header: the fault, and then nothing
+  -- after the last header: the fault, and then nothing
   pub takes_fault : (f g : Option ElfFault) (left : ℕ) (e : ElfFault) → left ≡ 0 → f ≡ Some e → g ≡ None → TakesShown (headers_from names names_size f bytes place left) (Err e) (headers_from names names_size g bytes place left)
   unfolding headers_from
   takes_fault f g left e none is after = rw (none, is, after) (refl, refl)

@@ -21,7 +21,7 @@ made_by : (r : Result (Unit {0}) ElfFault) (s : Result Set ElfFault) (t : Set) �
 made_by (Ok u) s t e = e
 made_by (Err f) s t e = absurd (cc)
 
--- a set ends behind its place, whatever its form
+-- a set ends after its place, whatever its form
 short_behind : (bytes : List ℕ) (limit place : ℕ) (set : Set) → short_set bytes limit place ≡ Ok set → place < set.end
 unfolding short_set
 short_behind bytes limit place set e = let h = ap (λ (s : Set). s.end) (made (first_fault (short_checks bytes limit place)) _ set e) in omega (arith, h)
@@ -51,7 +51,7 @@ enough f bytes limit (suc n) zero place p q = rw (le-ltb place limit (omega (ari
 enough f bytes limit (suc n) (suc m) place p q = ap (λ l. if nat_lt place limit then l else fault_in f) (then_alike bytes limit place (set_at bytes limit place) _ _ (λ set e. let on = ends_behind bytes limit place set e in enough f bytes limit n m set.end (omega (arith, on, p)) (omega (arith, on, q))))
 
 module _ (bytes : List ℕ) (limit place : ℕ) where
-  -- behind the last set: the fault, and then nothing
+  -- after the last set: the fault, and then nothing
   pub takes_fault : (f g : Option ElfFault) (e : ElfFault) → limit ≤ place → f ≡ Some e → g ≡ None → TakesShown (sets_between f bytes place limit) (Err e) (sets_between g bytes place limit)
   unfolding sets_from
   takes_fault f g e behind is after = let none : limit - place ≡ 0 = omega arith in rw (none, is, after) (refl, refl)
@@ -60,7 +60,7 @@ module _ (bytes : List ℕ) (limit place : ℕ) where
   unfolding sets_from
   takes_end f g behind is after = let none : limit - place ≡ 0 = omega arith in rw (none, is, after) (refl, refl)
 
-  -- a set, and those behind it are left
+  -- a set, and those after it are left
   takes_of : (f : Option ElfFault) (k : ℕ) (set : Set) → place < limit → limit - place ≡ suc k → set_at bytes limit place ≡ Ok set → TakesShown (sets_between f bytes place limit) (Ok (Some set)) (sets_between f bytes set.end limit)
   unfolding sets_from
   takes_of f k set before some is = let on = ends_behind bytes limit place set is in rw (some, lt-ltb place limit before, is) (refl, enough f bytes limit (limit - set.end) k set.end (omega arith) (omega (arith, on, some)))

@@ -1,4 +1,4 @@
--- Lines that a loop writes, one behind the other.
+-- Lines that a loop writes, one after the other.
 use Rattle.std.specs.Prelude.{◌≡◌, ℕ, suc, ◌+◌, ◌<◌, ◌≤◌, List, [], ◌∷◌, ◌++◌, length, take, decimal, Option, Result, Ok, Err, OnOk}
 use Rattle.std.proofs.Common.{sym, ap, subst, ◌∙◌, append_assoc, append-nil, get_or, arith}
 use Rattle.std.proofs.KnownBytes.{Appends-trans}
@@ -33,7 +33,7 @@ module _ {A : Type 0} (line : ℕ → A → List ℕ) where
     pub writes_all : (old new : Option (List ℕ)) (k : ℕ) → length xs ≤ k → Appends old new (so_far k) → Appends old new (table_text word line xs)
     writes_all old new k past p = subst (λ t. Appends old new (word ++ decimal (length xs) ++ 10 ∷ lines_from line 0 t)) (take_all k xs past) p
 
--- three texts, a name and an end, one behind the other
+-- three texts, a name and an end, one after the other
 pub writes_named : {T E : Type 0} (r : Result T E) (a b c d e f : Option (List ℕ)) (number kind extent name name' end : List ℕ) → name ≡ name' → Appends a b number → Appends b c kind → Appends c d extent → Appends d e (shown name) → OnOk r (Appends e f end) → OnOk r (Appends a f (number ++ kind ++ extent ++ shown name' ++ end))
 writes_named (Ok x) a b c d e f number kind extent name name' end is p q w n l =
     let front = Appends-trans a c d (number ++ kind) extent (Appends-trans a b c number kind p q) w in

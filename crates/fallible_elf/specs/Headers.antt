@@ -75,11 +75,11 @@ nameless_table bytes = record { place = table_place bytes; count = section_count
 abbrev pub no_table : Table
 no_table = record { place = 0; count = 0; names = 0; names_size = 0 }
 
--- the table of headers that lie in the file: without names where their number is 0, and else with them, or the first fault of the names
+-- the table of headers that lie in the file: without names where their number is 0, and otherwise with them, or the first fault of the names
 abbrev pub named_table : List ℕ → Result Table ElfFault
 named_table bytes = if eqb (names_number bytes) 0 then Ok (nameless_table bytes) else on_value (first_fault (names_checks bytes)) (λ _. Ok (full_table bytes))
 
--- what stands behind a good header: no table, where its place is 0, and else the table
+-- what comes after a good header: no table, where its place is 0, and otherwise the table
 abbrev pub table_behind : List ℕ → Result Table ElfFault
 table_behind bytes = if eqb (table_place bytes) 0 then Ok no_table else on_value (first_fault (table_checks bytes)) (λ _. named_table bytes)
 

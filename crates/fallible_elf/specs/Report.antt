@@ -37,7 +37,7 @@ HasTables bytes tables = (collected (headers_of bytes) ≡ Ok tables.sections.it
 abbrev pub HasSections : List ℕ → Type 0
 HasSections bytes = (sections : List Section) × (collected (headers_of bytes) ≡ Ok sections)
 
--- a fault, or else what comes behind
+-- a fault, or otherwise what comes after
 abbrev pub fault_or : {A : Type 0} → Result A ElfFault → Option ElfFault → Option ElfFault
 fault_or (Ok x) rest = rest
 fault_or (Err f) rest = Some f
@@ -48,7 +48,7 @@ first_damage bytes = fault_or (collected (headers_of bytes)) (fault_or (found_of
 
 -- ---- what is written
 
--- the text of sections, and behind it that of the sets and ranges of the file, where none of these has a fault
+-- the text of sections, and after it that of the sets and ranges of the file, where none of these has a fault
 abbrev pub report_with : List ℕ → List Section → List ℕ
 report_with bytes sections = sections_text bytes sections ++ text_where (λ (sets, ranges). sets_text sets ++ ranges_text ranges) (found_of bytes)
 

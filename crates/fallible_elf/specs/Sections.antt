@@ -25,7 +25,7 @@ header_at names names_size bytes place = if eqb names_size 0 then Ok (section_at
     else if nat_lt (u32_at bytes place) names_size then Ok (section_at (Some (names + u32_at bytes place)) bytes place)
     else Err (fault_at place NameOutOfRange)
 
--- so many headers from a place on, one behind the other, each of 64 bytes, and then the fault, where there is one
+-- so many headers from a place on, one after the other, each of 64 bytes, and then the fault, where there is one
 unfoldable pub headers_from : ℕ → ℕ → Option ElfFault → List ℕ → ℕ → ℕ → List (Result Section ElfFault)
 headers_from names names_size f bytes place zero = fault_in f
 headers_from names names_size f bytes place (suc n) = header_at names names_size bytes place ∷ headers_from names names_size f bytes (place + 64) n

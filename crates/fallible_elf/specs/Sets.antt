@@ -14,7 +14,7 @@ use Rattle.fallible_elf.specs.declared.set.Range.{Range}
 
 -- ---- one set
 
--- A set has one of two forms. In the short one four bytes say how many bytes come behind them, fewer than 2 ^ 32 - 16, and the offset of the unit has four bytes. In the long one four bytes of 255 come first, then eight that say how many bytes come behind them, and the offset of the unit has eight bytes.
+-- A set has one of two forms. In the short one four bytes say how many bytes come after them, fewer than 2 ^ 32 - 16, and the offset of the unit has four bytes. In the long one four bytes of 255 come first, then eight that say how many bytes come after them, and the offset of the unit has eight bytes.
 
 -- whether the set at a place has the long form
 abbrev pub is_long : List ℕ → ℕ → Bool
@@ -35,7 +35,7 @@ form_checks bytes limit place =
     ∷ (nat_lt (u32_at bytes place) 4294967280 || is_long bytes place, fault_at place SetForm)
     ∷ []
 
--- A set of the short form: 16 bytes stand before its ranges. It ends in the section, behind those 16 bytes. Its version, at 4, is 2. At 10 stands the size of an address, 8, and at 11 that of a segment, 0.
+-- A set of the short form: 16 bytes stand before its ranges. It ends in the section, after those 16 bytes. Its version, at 4, is 2. At 10 stands the size of an address, 8, and at 11 that of a segment, 0.
 abbrev pub short_checks : List ℕ → ℕ → ℕ → List (Bool × ElfFault)
 short_checks bytes limit place =
     (nat_le (place + 16) (short_end bytes place) && nat_le (short_end bytes place) limit, fault_at place SetCut)
@@ -44,7 +44,7 @@ short_checks bytes limit place =
     ∷ (eqb (slice_index bytes (place + 11)) 0, fault_at (place + 11) SegmentSize)
     ∷ []
 
--- A set of the long form: 32 bytes stand before its ranges. It ends in the section, behind those 32 bytes. Its version, at 12, is 2. At 22 stands the size of an address, 8, and at 23 that of a segment, 0.
+-- A set of the long form: 32 bytes stand before its ranges. It ends in the section, after those 32 bytes. Its version, at 12, is 2. At 22 stands the size of an address, 8, and at 23 that of a segment, 0.
 abbrev pub long_checks : List ℕ → ℕ → ℕ → List (Bool × ElfFault)
 long_checks bytes limit place =
     (nat_le (place + 32) limit, fault_at place SetCut)
@@ -68,12 +68,12 @@ set_at bytes limit place = on_value (first_fault (form_checks bytes limit place)
 
 -- ---- the sets of a section
 
--- a set, and what comes behind it; nothing comes behind a fault
+-- a set, and what comes after it; nothing comes after a fault
 abbrev pub set_then : Result Set ElfFault → (Set → List (Result Set ElfFault)) → List (Result Set ElfFault)
 set_then (Ok set) rest = Ok set ∷ rest set
 set_then (Err f) rest = Err f ∷ []
 
--- the sets from a place up to the limit, one behind the other, at most so many, and then the fault, where there is one
+-- the sets from a place up to the limit, one after the other, at most so many, and then the fault, where there is one
 unfoldable pub sets_from : Option ElfFault → List ℕ → ℕ → ℕ → ℕ → List (Result Set ElfFault)
 sets_from f bytes limit place zero = fault_in f
 sets_from f bytes limit place (suc most) = if nat_lt place limit then set_then (set_at bytes limit place) (λ set. sets_from f bytes limit set.end most) else fault_in f
@@ -131,7 +131,7 @@ range_at unit bytes place = record { unit = unit; address = u64_at bytes place; 
 abbrev pub is_last : List ℕ → ℕ → Bool
 is_last bytes place = eqb (u64_at bytes place) 0 && eqb (u64_at bytes (place + 8)) 0
 
--- the ranges from a place on, one behind the other, up to the end, or at most so many and then the fault
+-- the ranges from a place on, one after the other, up to the end, or at most so many and then the fault
 unfoldable pub ranges_from : Option ElfFault → ℕ → List ℕ → ℕ → ℕ → List (Result Range ElfFault)
 ranges_from f unit bytes place zero = fault_in f
 ranges_from f unit bytes place (suc n) = if is_last bytes place then [] else Ok (range_at unit bytes place) ∷ ranges_from f unit bytes (place + 16) n
@@ -140,7 +140,7 @@ ranges_from f unit bytes place (suc n) = if is_last bytes place then [] else Ok 
 abbrev pub room : List ℕ → Set → ℕ
 room bytes set = (min set.end (length bytes) - set.place) / 16
 
--- the ranges of a set up to their end; where they have none, the fault behind them
+-- the ranges of a set up to their end; where they have none, the fault after them
 abbrev pub ranges_in : List ℕ → Set → List (Result Range ElfFault)
 ranges_in bytes set = ranges_from (Some (fault_at (set.place + 16 * room bytes set) RangesNotEnded)) set.unit bytes set.place (room bytes set)
 

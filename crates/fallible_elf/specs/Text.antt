@@ -11,7 +11,7 @@ use Rattle.fallible_elf.specs.declared.set.Set.{Set}
 
 -- ---- words
 
--- a number to the base 16, behind `0x`
+-- a number to the base 16, after `0x`
 abbrev pub hex : ℕ → List ℕ
 hex n = codes "0x" ++ digits 16 false n
 
@@ -19,12 +19,12 @@ hex n = codes "0x" ++ digits 16 false n
 abbrev pub shown : List ℕ → List ℕ
 shown name = flat_map escape_ascii name
 
--- the lines of a list's items, one behind the other, by their numbers, the first of which is given
+-- the lines of a list's items, one after the other, by their numbers, the first of which is n
 abbrev pub lines_from : {A : Type 0} → (ℕ → A → List ℕ) → ℕ → List A → List ℕ
 lines_from line n [] = []
 lines_from line n (x ∷ xs) = line n x ++ lines_from line (n + 1) xs
 
--- how many there are, on a line behind a word, and then their lines
+-- how many there are, on a line after a word, and then their lines
 abbrev pub table_text : {A : Type 0} → List ℕ → (ℕ → A → List ℕ) → List A → List ℕ
 table_text word line xs = word ++ decimal (length xs) ++ 10 ∷ lines_from line 0 xs
 

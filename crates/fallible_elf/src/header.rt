@@ -107,7 +107,7 @@ fn table_with_names(file: &[u8], place: usize, count: usize) -> Result<Table, El
     })
 }
 
-// The table behind a good header.
+// The table after a good header.
 fn table_behind(file: &[u8]) -> Result<Table, ElfFault>
     requires { 64 ≤ length file.now }
     ensures { result ≡ table_behind file.now }

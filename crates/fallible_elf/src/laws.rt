@@ -6,7 +6,7 @@ ghost use Rattle.fallible_elf.specs.declared.fault.ElfFault.{ElfFault};
 ghost use Rattle.fallible_elf.specs.declared.header.Table.{Table};
 ghost use Rattle.fallible_elf.specs.declared.section.Section.{Section};
 
-/// Where a file has a table, there are as many headers as its count says, and the header with the number n stands 64 * n bytes behind the first one.
+/// If a file has a table, there are as many headers as its count says, and the header with the number n stands 64 * n bytes after the first one.
 pub fn law_headers()
     ensures { (bytes : List ℕ) (table : Table) → table_of bytes ≡ Ok table
         → (length (headers_of bytes) ≡ table.count)

@@ -4,7 +4,7 @@ ghost use Rattle.fallible_elf.specs.Numbers.{u16_at, u32_at, u64_at};
 
 /// The number of the two bytes from a place on.
 ///
-/// Asks that they lie in `bytes`.
+/// Requires that they lie in `bytes`.
 #[tactic(auto, unfolding(crate::specs::Numbers::u16_at))]
 pub fn u16_at(bytes: &[u8], place: usize) -> u16
     requires { place + 2 ≤ length bytes.now }
@@ -15,7 +15,7 @@ pub fn u16_at(bytes: &[u8], place: usize) -> u16
 
 /// The number of the four bytes from a place on.
 ///
-/// Asks that they lie in `bytes`.
+/// Requires that they lie in `bytes`.
 #[tactic(auto, unfolding(crate::specs::Numbers::u32_at))]
 pub fn u32_at(bytes: &[u8], place: usize) -> u32
     requires { place + 4 ≤ length bytes.now }
@@ -31,7 +31,7 @@ pub fn u32_at(bytes: &[u8], place: usize) -> u32
 
 /// The number of the eight bytes from a place on.
 ///
-/// Asks that they lie in `bytes`.
+/// Requires that they lie in `bytes`.
 #[tactic(auto, unfolding(crate::specs::Numbers::u64_at))]
 pub fn u64_at(bytes: &[u8], place: usize) -> u64
     requires { place + 8 ≤ length bytes.now }

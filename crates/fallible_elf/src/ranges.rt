@@ -16,7 +16,7 @@ use fallible_iterator::laws::law_flat_map_finite;
 use fallible_iterator::{FallibleIterator, Fault, IntoFallibleIterator};
 use std::alloc::Global;
 
-/// The ranges of a set, in their order. A draw reads one. Where they have no end, it fails behind the last one, and then ends.
+/// The ranges of a set, in their order. A draw reads one. If they have no end, it fails after the last one, and then each call returns `Ok(None)`.
 #[derive(Drop)]
 pub struct Ranges<'a> {
     file: &'a [u8],
@@ -25,7 +25,7 @@ pub struct Ranges<'a> {
     // For how many there is room.
     left: usize,
     unit: u64,
-    // What is answered where the room ends.
+    // What is returned where the room ends.
     fault: Option<ElfFault>,
     ghost within: { 16 * left ≤ length file.now - place },
 }

@@ -1,4 +1,4 @@
-//! The sections and the address ranges of a file that a reader gives, as lines of text.
+//! The sections and the address ranges of a file that a reader yields, as lines of text.
 ghost use Rattle.std.specs.Prelude.{◌≡◌, ◌≢◌, ◌⊎◌, ⊤, Err, Some, None, OnOk, OnErr, MatchResult};
 ghost use Rattle.std.specs.IoError.{error_kind};
 ghost use Rattle.std.specs.Io.KnownBytes.{Appends, Keeps};
@@ -17,7 +17,7 @@ use std::alloc::Global;
 use std::io;
 use std::io::ErrorKind;
 
-/// Why a run gave no report.
+/// Why a run made no report.
 #[derive(Clone, Copy, Debug, PartialEq, Eq)]
 pub enum RunFault {
     /// The file has a fault.
@@ -189,7 +189,7 @@ fn write_line<W: WriteText>(fault: &RunFault, err: &mut W) -> io::Result<()>
     }
 }
 
-/// Writes the one line that tells of `fault` to `err`, and answers the status that a program ends with after it: 1 for a damaged file, 5 for one that is no ELF file of 64 bits whose numbers begin with their least byte, and 6 for one whose address ranges aren't read; 2 for `Read`, 3 for `Memory`, 4 for `Write`. Where the line could not be written, the status is an `Err`.
+/// Writes the one line that tells of `fault` to `err`, and returns the status that a program ends with after it: 1 for a damaged file, 5 for one that is no ELF file of 64 bits whose numbers begin with their least byte, and 6 for one whose address ranges aren't read; 2 for `Read`, 3 for `Memory`, 4 for `Write`. If the line could not be written, the status is an `Err`.
 pub fn fault_line<W: WriteText>(fault: &RunFault, err: &mut W) -> Result<u8, u8>
     ensures status { MatchResult result (λ status. status ≡ status_of fault.now)
         (λ status. status ≡ status_of fault.now) }

@@ -24,7 +24,7 @@ pub struct Sections<'a> {
     left: usize,
     names: usize,
     names_size: usize,
-    // What is answered behind the last header.
+    // What is returned after the last header.
     fault: Option<ElfFault>,
     ghost headers_within: { place + 64 * left ≤ length file.now },
     ghost names_within: { names + names_size ≤ length file.now },

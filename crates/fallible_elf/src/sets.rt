@@ -52,7 +52,7 @@ fn region_of(file: &[u8], section: &Section) -> Result<Region, ElfFault>
     })
 }
 
-/// The sets of a section, in their order. A draw reads the header of one set. Behind a fault it ends. Where the section has a fault before its sets, that is the one answer before the end.
+/// The sets of a section, in their order. A draw reads the header of one set. After a fault each call returns `Ok(None)`. If the section has a fault before its sets, that is the one result before that.
 #[derive(Drop)]
 pub struct Sets<'a> {
     file: &'a [u8],
@@ -60,7 +60,7 @@ pub struct Sets<'a> {
     place: usize,
     // Where their section ends.
     end: usize,
-    // What is answered behind the last set.
+    // What is returned after the last set.
     fault: Option<ElfFault>,
     ghost within: { end ≤ length file.now },
 }

@@ -1,4 +1,4 @@
--- What the rows of a reader answered, where `take` and `filter` stand above them.
+-- What the rows of a reader returned, where `take` and `filter` stand above them.
 use Rattle.std.proofs.Common.{◌≡◌, ℕ, ◌++◌, ◌∷◌, [], ◌⊎◌, ◌<◌, ◌≤◌, inl, inr, List, Bool, length, map, subst, Option, Some, Result, Ok, count_by, ap, ◌∙◌}
 use Rattle.std.specs.Fn.{Mut}
 use Rattle.std.specs.Borrow.{Bor}
@@ -27,7 +27,7 @@ module _ {B : Type 0} (left : B → Option (List ℕ)) (stays : Bool → B → B
   abbrev row_contract : Contract (Rows B) ℕ RowFault
   row_contract = seen_as rows_parts (unbounded_contract (row_step left stays))
 
-  -- what the rows of the reader answered, of which so many are above 100, and what was read
+  -- what the rows of the reader returned, of which so many are above 100, and what was read
   pub record ChainReads (n count : ℕ) (last : Answered ℕ RowFault) (p : B × Option Ahead) : Type 0 where
     pub items : List ℕ
     pub reads : ReadsAtMost n items last p

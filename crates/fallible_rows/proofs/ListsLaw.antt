@@ -50,7 +50,7 @@ module _ {B : Type 0} (left : B → Option (List ℕ)) (stays : Bool → B → B
   by_draws s [] h = h
   by_draws s (y ∷ l) h = h
 
-  -- rows that ended for good list nothing
+  -- rows that are exhausted list nothing
   over_gives : (p : B × Option Ahead) → p.1 ≡ None → AlwaysGives (row_step left stays) p []
   over_gives p is = subst (λ (o : Option Ahead). AlwaysGives (row_step left stays) (p.0, o) []) (sym is) (λ answer q h. h.0)
 

@@ -1,4 +1,4 @@
--- What was read, by what the rows of a reader answered.
+-- What was read, by what the rows of a reader returned.
 use Rattle.std.proofs.Common.{Bool, true, false, ◌≡◌, ℕ, zero, suc, ◌+◌, ◌-◌, ◌<◌, ◌≤◌, ◌⊎◌, inl, inr, List, [], ◌∷◌, ◌++◌, length, map, refl, sym, ap, subst, ◌∙◌, arith, append-nil, Option, Some, None, Result, Ok, Err, count_by}
 use Rattle.std.specs.Prelude.{replicate}
 use Rattle.std.specs.Io.KnownBytes.{Consumes, IsAtEnd}
@@ -145,7 +145,7 @@ module _ {B : Type 0} (left : B → Option (List ℕ)) (stays : Bool → B → B
         by_ends s zero d = last_refused (h.closed ++ h.unclosed) e (sym (append-nil (row_answers a.place (rows (h.closed ++ h.unclosed)))) ∙ sym d ∙ are) (end_consumes (h.closed ++ h.unclosed) r h.last p.0 h.given s.met_end) (inl (met_end h.last h.closed h.unclosed trace s)) few
         by_ends s (suc n) d = absurd (let m = (items_then_last (row_answers a.place (rows (h.closed ++ h.unclosed))) (replicate n end) end (failure e) xs no_item-end (sym d ∙ are)).1 in cc)
 
-    -- where as many rows as are looked at were answered
+    -- where as many rows as are looked at were returned
     by_limit : (trace : Answers) → trace ≡ map item xs → ReadsRows left stays r a trace p → length xs ≡ row_limit → Counts (Ok count)
     by_limit trace are h long = elim h.stopped [
       | inl s ↦ counts_of_numbers h.closed (sym s.answers ∙ are) (between s) (inr (within h.last h.closed h.unclosed trace s, h.are_closed, long)) (omega (arith, long))

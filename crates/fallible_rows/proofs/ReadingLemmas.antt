@@ -1,4 +1,4 @@
--- Lemmas on bytes that readers hold in a buffer, and give one at a time.
+-- Lemmas on bytes that readers hold in a buffer, and yield one at a time.
 use Rattle.std.proofs.Common.{Bool, true, false, ◌≡◌, ℕ, ◌+◌, List, [], ◌∷◌, ◌++◌, length, take, drop, if◌then◌else◌, ◌==◌, refl, sym, ap, subst, ◌∙◌, arith, Option, Some, None, ◌<◌, ◌≤◌}
 use Rattle.std.specs.Prelude.{⊤}
 use Rattle.std.specs.Io.Buffered.{reader_buffer, reader_capacity, reader_inner}
@@ -16,7 +16,7 @@ consumes_first true held byte rest behind is = tt
 consumes_first false held byte rest None is = tt
 consumes_first false held byte rest (Some more) is = ap (λ l. l ++ more) is
 
--- the reader of which so many bytes more were given
+-- the reader of which so many bytes more were yielded
 abbrev pub given_more : {R : Type 0} → Buffered R → ℕ → Buffered R
 given_more s n = record { reader = s.reader; given = s.given + n }
 
@@ -37,7 +37,7 @@ module _ {R : Type 0} (remaining : R → Option (List ℕ)) where
 
 -- ---- a reader that is lent
 
--- the same reference, behind which this stands
+-- the same reference, which this stands under
 abbrev pub lent_as : {R : Type 0} → Lent R → R → Lent R
 lent_as s q = record { reader = record s.reader { now = q } }
 

@@ -1,4 +1,4 @@
--- Lemmas on what is reported of rows that were answered.
+-- Lemmas on what is reported of rows that were returned.
 use Rattle.std.proofs.Common.{◌≡◌, ℕ, zero, suc, ◌+◌, ◌-◌, ◌<◌, ◌≤◌, inl, inr, Bool, true, false, cond, nat_lt, List, [], ◌∷◌, ◌++◌, length, take, map, refl, sym, ap, subst, ◌∙◌, arith, append_assoc, Option, Some, None, is_none, unwrap_or, Ok, Err, count_by, position, IfSome}
 use Rattle.std.specs.List.{position_from}
 use Rattle.std.specs.Io.KnownBytes.{Consumes, IsAtEnd}

@@ -38,7 +38,7 @@ module _ {B : Type 0} (left : B → Option (List ℕ)) (stays : Bool → B → B
   abbrev Stops : B → Ahead → List ℕ → List ℕ → Answers → B × Option Ahead → Type 0
   Stops last a closed unclosed trace p = StopsBetween left stays last a closed unclosed trace p ⊎ (StopsAtEnd left stays last a closed unclosed trace p ⊎ StopsAtFailure left stays last a closed unclosed trace p)
 
-  -- ---- ended for good
+  -- ---- exhausted
 
   over_to : (trace : Answers) (r : B) (o : Option Ahead) (p : B × Option Ahead) → o ≡ None → Run step (r, o) trace p → ((n : ℕ) × (trace ≡ replicate n end)) × (p ≡ (r, None))
   over_to [] r o p is ran = ((0, refl), sym ran ∙ ap (λ u. (r, u)) is)
@@ -49,7 +49,7 @@ module _ {B : Type 0} (left : B → Option (List ℕ)) (stays : Bool → B → B
   over_from zero r = refl
   over_from (suc n) r = ((r, None), (refl, refl), over_from n r)
 
-  -- ends after a draw that ended them for good
+  -- ends after a draw that exhausted them
   over_after : (n : ℕ) (p : B × Option Ahead) → p.1 ≡ None → Run step p (replicate n end) p
   over_after n p is = subst (λ (o : Option Ahead). Run step (p.0, o) (replicate n end) (p.0, o)) (sym is) (over_from n p.0)
 
@@ -129,7 +129,7 @@ module _ {B : Type 0} (left : B → Option (List ℕ)) (stays : Bool → B → B
         stopped = inl (record { after = a; none_unclosed = refl; limit = omega arith; place = omega (arith, none); is_left = sym is; answers = ap (row_answers a.place) (sym rows-none) });
       }
 
-  -- the bytes of one row were read, and then it ended for good
+  -- the bytes of one row were read, and then the rows were exhausted
   in_one_row : (r : B) (a : Ahead) (row : List ℕ) (last : B) (trace : Answers) (p : B × Option Ahead) → IsOneRow row → GivesBytes left stays r row last → StopsAtEnd left stays last a [] row trace p ⊎ StopsAtFailure left stays last a [] row trace p → ReadsRows left stays r a trace p
   in_one_row r a row last trace p one given stopped = record { closed = []; unclosed = row; last = last; given = given; are_closed = inl refl; one = one; stopped = inr stopped }
 

@@ -25,7 +25,7 @@ IsOneRow-more row byte one other = All-append not_newline row (byte ∷ []) one 
 pub gives_more : {B : Type 0} (left : B → Option (List ℕ)) (stays : Bool → B → B → Type 0) (row : List ℕ) (byte : ℕ) (p q r : B) → GivesBytes left stays p row q → GivesByte left stays q byte r → GivesBytes left stays p (row ++ byte ∷ []) r
 gives_more left stays row byte p q r h k = turns_then (GivesByte left stays) row (byte ∷ []) p q r h (r, k, refl)
 
--- a row that stands whole in what a reader holds, and was given with its newline
+-- a row that stands whole in what a reader holds, and was yielded with its newline
 pub row_ahead : {B : Type 0} (left : B → Option (List ℕ)) (stays : Bool → B → B → Type 0) (r q : B) (held : List ℕ) (count value more limit : ℕ) → HasNumberAhead held count value → GivesBytes left stays r (take (count + 1) held) q → more + count + 1 ≡ limit → ReadsRow left stays r limit (Number count value, Newline more) q
 row_ahead left stays r q held count value more limit h given at =
     let whole : held ≡ (h.row ++ 10 ∷ []) ++ h.rest = h.are ∙ sym (append_assoc h.row (10 ∷ []) h.rest) in

@@ -1,4 +1,4 @@
--- What counting answers and leaves.
+-- What counting returns and leaves.
 use Rattle.std.specs.Prelude.{◌≡◌, ℕ, List, Option, Result, Ok, Err}
 use Rattle.fallible_rows.specs.Report.{tally}
 use Rattle.fallible_rows.specs.Run.{ReadsPrefix, IsRefusedAt, NoneRefusedYet}

@@ -7,7 +7,7 @@ use Rattle.fallible_rows.specs.declared.reading.Buffered.{Buffered}
 use Rattle.fallible_rows.specs.declared.reading.Bytes.{Bytes}
 
 module _ {R : Type 0} (left : R → Option (List ℕ)) (stays : Bool → R → R → Type 0) where
-  -- it gave this byte, the first of those that were left
+  -- it yielded this byte, the first of those that were left
   abbrev pub GivesByte : R → ℕ → R → Type 0
   GivesByte r byte q = Consumes (left r) (left q) (byte ∷ []) × stays false r q
 
@@ -25,7 +25,7 @@ module _ {R : Type 0} (left : R → Option (List ℕ)) (stays : Bool → R → R
   ReadsOne r (Ok None) q = GivesEnd r q
   ReadsOne r (Err e) q = FailsToRead r q
 
-  -- the reader gave these bytes, one at a time
+  -- the reader yielded these bytes, one at a time
   abbrev pub GivesBytes : R → List ℕ → R → Type 0
   GivesBytes r bytes q = FoldsTo GivesByte r bytes q
 
@@ -37,7 +37,7 @@ NoReadFails {R} stays = (r q : R) → stays true r q → ⊥
 abbrev pub bytes_left : Bytes → Option (List ℕ)
 bytes_left s = Some s.bytes.now
 
--- the bytes that a buffered reader holds and has not given
+-- the bytes that a buffered reader holds and has not yielded
 abbrev pub held_bytes : {R : Type 0} → Buffered R → List ℕ
 held_bytes s = drop s.given (reader_buffer s.reader)
 

@@ -18,12 +18,12 @@ is_refused row = is_none (row_number row)
 abbrev pub is_above : List ℕ → Bool
 is_above row = nat_lt 100 (unwrap_or (row_number row) 0)
 
--- the count where no row is refused, and else the place, from 1, of the refused row at an index
+-- the count if no row is refused, and otherwise the place, from 1, of the refused row at an index
 abbrev pub unless_refused : Option ℕ → ℕ → Result ℕ ℕ
 unless_refused None count = Ok count
 unless_refused (Some index) count = Err (index + 1)
 
--- how many of the rows that are looked at are above 100, or else the place of the first that is refused
+-- how many of the rows that are looked at are above 100, or otherwise the place of the first that is refused
 abbrev pub tally : List ℕ → Result ℕ ℕ
 tally bytes = unless_refused (position is_refused (first_rows bytes)) (count_by is_above (first_rows bytes))
 
@@ -32,6 +32,6 @@ abbrev pub line_of_count : Result ℕ ℕ → Result (List ℕ) ℕ
 line_of_count (Ok count) = Ok (decimal count ++ 10 ∷ [])
 line_of_count (Err place) = Err place
 
--- the line that tells how many rows are above 100, or else the place of the first that is refused
+-- the line that tells how many rows are above 100, or otherwise the place of the first that is refused
 abbrev pub report : List ℕ → Result (List ℕ) ℕ
 report bytes = line_of_count (tally bytes)

@@ -9,7 +9,7 @@ use Rattle.fallible_rows.specs.declared.fault.RowFault.TheVariants.{Row, Read}
 use Rattle.fallible_rows.specs.declared.rows.Ahead.{Ahead}
 use Rattle.fallible_rows.specs.declared.rows.Rows.{Rows}
 
--- the parts of the rows of a reader: the reader, and how many bytes may be read and the place of the next row, until they end for good
+-- the parts of the rows of a reader: the reader, and how many bytes may be read and the place of the next row, until they are exhausted
 abbrev pub rows_parts : {B : Type 0} → Rows B → B × Option Ahead
 rows_parts s = (s.reader, s.ahead)
 
@@ -98,7 +98,7 @@ module _ {B : Type 0} (left : B → Option (List ℕ)) (stays : Bool → B → B
     pub given : GivesBytes left stays r row last
     pub ended : EndsByNewline last a row answer p ⊎ (EndsByEnd last a row answer p ⊎ EndsByFailure last a row answer p)
 
-  -- One answer: a row, and an end without a read once they have ended for good.
+  -- One answer: a row, and an end without a read once they are exhausted.
   abbrev pub row_step : B × Option Ahead → Answered ℕ RowFault → B × Option Ahead → Type 0
   row_step (r, Some a) answer p = DrawsRow r a answer p
   row_step (r, None) answer p = (answer ≡ end) × (p ≡ (r, None))
@@ -140,7 +140,7 @@ module _ {B : Type 0} (left : B → Option (List ℕ)) (stays : Bool → B → B
     pub one : IsOneRow unclosed
     pub stopped : StopsBetween last a closed unclosed trace p ⊎ (StopsAtEnd last a closed unclosed trace p ⊎ StopsAtFailure last a closed unclosed trace p)
 
-  -- The trace of the rows of a reader: what was read, and ends alone once they have ended for good.
+  -- The trace of the rows of a reader: what was read, and ends alone once they are exhausted.
   abbrev pub RowsTrace : B × Option Ahead → List (Answered ℕ RowFault) → B × Option Ahead → Type 0
   RowsTrace (r, Some a) trace p = ReadsRows r a trace p
   RowsTrace (r, None) trace p = ((ends : ℕ) × (trace ≡ replicate ends end)) × (p ≡ (r, None))
@@ -163,7 +163,7 @@ module _ {B : Type 0} (left : B → Option (List ℕ)) (stays : Bool → B → B
     pub tells : left p.0 ≡ Some bytes
     pub within : length bytes < limit
 
-  -- it can give all of them, one at a time, and then meet its end
+  -- it can yield all of them, one at a time, and then meet its end
   pub record CanGiveAll (p : B × Option Ahead) (bytes : List ℕ) : Type 0 where
     pub last : B
     pub after : B

@@ -23,7 +23,7 @@ CloseDeciding bytes =
     ((prefix : List ℕ) × (bytes ≡ prefix ++ 10 ∷ []))
     × ((length (rows bytes) ≡ row_limit) ⊎ ((place : ℕ) × (report bytes ≡ Err place)))
 
--- A reader lost these first bytes of those that it had, and no others. They are those up to and with the newline that closes the first row that is refused, or row 1,000,000, whichever is first, and else all that it had; and their report is that of all. They are at most `u64::MAX`, and fewer where the end had to be met.
+-- A reader lost these first bytes of those that it had, and no others. They are those up to the newline that closes the first row that is refused, or row 1,000,000, whichever is first, and that newline, and otherwise all that it had; and their report is that of all. They are at most `u64::MAX`, and fewer where the end had to be met.
 pub record ReadsPrefix (old new : Option (List ℕ)) (bytes : List ℕ) : Type 0 where
   pub taken : Consumes old new bytes
   pub within : length bytes ≤ byte_limit

@@ -6,14 +6,14 @@ ghost use Rattle.fallible_rows.specs.Fault.{status_of, line_of};
 use std::io;
 use std::io::Write;
 
-/// Why a run gave no report.
+/// Why a run made no report.
 #[derive(Debug, PartialEq, Eq, Drop)]
 pub enum RowFault {
     /// The row at this place, from 1, is not a number.
     Row(u32),
     /// A read failed.
     Read,
-    /// There was no memory. `run` never answers it; the program does, where its buffer was refused.
+    /// An allocation failed. `run` never returns it; the program does, if that of its buffer failed.
     Memory,
     /// The report could not be written.
     Write,
@@ -49,7 +49,7 @@ fn write_line<W: Write>(fault: &RowFault, err: &mut W) -> io::Result<()>
 /// with after it: 1 for `Row`, 2 for `Read`, 3 for `Memory`, 4 for `Write`.
 ///
 /// `Ok` of the status where that line and nothing else was written, and `Err` of the same status
-/// where it could not be, and part of it may have been. It takes no memory.
+/// where it could not be, and part of it may have been. It allocates nothing.
 pub fn fault_line<W: Write>(fault: &RowFault, err: &mut W) -> Result<u8, u8>
     ensures status { MatchResult result (λ status. status ≡ status_of fault.now)
         (λ status. status ≡ status_of fault.now) }

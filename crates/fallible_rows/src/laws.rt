@@ -8,7 +8,7 @@ use crate::reading::ReadByte;
 use crate::rows::Rows;
 use fallible_iterator::FallibleIterator;
 
-/// A trace of `Rows` is the answers of the rows of the bytes that were read, in order, and then, where the reader's end was met, ends. Where a byte was wanted and none came, it is the answers of the closed rows alone, the failure `Read`, and then ends. It asks that the place of the next row fits a `u32`, as that of each value does.
+/// A trace of `Rows` is the answers of the rows of the bytes that were read, in order, and then, if the reader's end was met, `Ok(None)` at each position. If a byte was wanted and none came, it is the answers of the closed rows alone, the failure `Read`, and then `Ok(None)` at each position. It requires that the place of the next row fits a `u32`, as that of each value does.
 pub fn law_rows<B: ReadByte>()
     ensures { (s : Rows B) (trace : List (Answered ℕ RowFault)) (t : Rows B)
         → IsPlaced (rows_parts s)
@@ -16,7 +16,7 @@ pub fn law_rows<B: ReadByte>()
         ↔ RowsTrace B.left B.stays (rows_parts s) trace (rows_parts t) }
 {}
 
-/// Over a reader that tells its bytes, fewer than the limit, a trace in which no read fails has for each of their rows, place by place, its number or the failure `Row` of the smaller of its place and `u32::MAX`, and then ends. Each such trace is one that draws can answer, where the reader can give the bytes.
+/// Over a reader that tells its bytes, fewer than the limit, a trace in which no read fails has for each of their rows, position by position, its number or the failure `Row` of the smaller of its place and `u32::MAX`, and then `Ok(None)` at each position. Each such trace is one that draws can return, if the reader can yield the bytes.
 pub fn law_rows_of_bytes<B: ReadByte>()
     ensures only { (s : Rows B) (bytes : List ℕ) (trace : List (Answered ℕ RowFault)) (t : Rows B)
         → BeginsWith B.left B.stays (rows_parts s) bytes → NeverFailsToRead trace

@@ -1,4 +1,4 @@
-//! Readers that are asked for one byte at a time, and tell what they hold in a buffer.
+//! Readers that are read one byte at a time, and tell what they hold in a buffer.
 ghost use Rattle.std.specs.Prelude.{◌≡◌, ◌≤◌, ℕ, Bool, false, List, [], length, take, Option, Some, ⊤};
 ghost use Rattle.std.specs.Io.Buffered.{reader_buffer, reader_remaining};
 ghost use Rattle.fallible_rows.specs.Reading.{ReadsOne, GivesBytes, bytes_left, held_bytes, buffered_left};
@@ -9,7 +9,7 @@ use std::io::{BufRead, BufReader, Read};
 #[derive(Debug, Drop)]
 pub struct ReadFailed;
 
-/// What gives its bytes one at a time, as every reader does.
+/// Something that yields its bytes one at a time, as every reader does.
 pub trait ReadByte: Drop + Sized {
     // The bytes that are left, where they are known.
     ghost left: { Self → Option (List ℕ) };
@@ -24,7 +24,7 @@ pub trait ReadByte: Drop + Sized {
     fn read_byte(&mut self) -> Result<Option<u8>, ReadFailed>
         ensures { ReadsOne left stays self.old result self.new };
 
-    /// The bytes that it holds in a buffer, and gives next.
+    /// The bytes that it holds in a buffer, and yields next.
     fn buffered(&self) -> &[u8]
         ensures { result.now ≡ in_buffer self.now };
 
@@ -97,7 +97,7 @@ impl<R: ReadByte> ReadByte for Lent<'_, R> {
 #[derive(Drop)]
 pub struct Buffered<R> {
     reader: BufReader<R>,
-    // how many bytes of its buffer were given
+    // how many bytes of its buffer were yielded
     given: usize,
 }
 
@@ -118,7 +118,7 @@ impl<R: Read + Drop> ReadByte for Buffered<R> {
 
     ghost in_buffer = { held_bytes };
 
-    /// The next byte of the buffer, and where that is empty what one read gives, which fills it.
+    /// The next byte of the buffer. If that is empty, one read fills it, and this is what it yields.
     fn read_byte(&mut self) -> Result<Option<u8>, ReadFailed> {
         let Some(byte) = self.reader.buffer().get(self.given) else {
             self.reader.consume(self.given);

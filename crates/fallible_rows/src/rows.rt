@@ -18,13 +18,13 @@ use fallible_iterator::FallibleIterator;
 ///
 /// The bytes are cut at each newline (byte 10), and an empty last piece is no row. A row is a number where it is 1 to 20 ASCII digits with a value of at most 18446744073709551615; zeros may come first, and a sign, a blank or a carriage return may not.
 ///
-/// A draw asks the reader for one byte at a time, up to and with the newline that ends a row, or to the input's end; a row is judged then, also where it was known before to be no number. A row that stands whole in the reader's buffer (`ReadByte::buffered`) may be taken from there at once, with its newline and no byte behind it. Where a read fails, for whatever reason, or a byte is wanted when as many as the limit were read, it answers the failure `Read`; the input's end wanted after the limit counts as a byte. An interrupted read isn't tried again. After `Read` and after the input's end it ends for good and reads no more.
+/// A draw reads one byte at a time from the reader, up to the newline that ends a row, and that newline, or to the input's end; a row is judged then, also if it was known before to be no number. A row that stands whole in the reader's buffer (`ReadByte::buffered`) may be taken from there at once, with its newline and no byte after it. If a read fails, for whatever reason, or a byte is wanted when as many as the limit were read, it fails with `Read`; the input's end wanted after the limit counts as a byte. An interrupted read isn't tried again. After `Read` and after the input's end each call returns `Ok(None)` and reads no more.
 ///
-/// It states no bound, so it is drained through `take`. Neither its making nor a draw takes memory.
+/// It states no bound, so it is drained through `take`. Neither its creation nor a draw allocates.
 #[derive(Drop)]
 pub struct Rows<B> {
     reader: B,
-    // none once it has ended for good
+    // none once it is exhausted
     ahead: Option<Ahead>,
 }
 
@@ -77,7 +77,7 @@ enum Close {
     Failure,
 }
 
-// Reads one row, of at most `limit` bytes with its newline: at once where it is a short number that stands whole in the buffer, and else byte by byte.
+// Reads one row, of at most `limit` bytes with its newline: at once if it is a short number that stands whole in the buffer, and otherwise byte by byte.
 fn read_row<B: ReadByte>(reader: &mut B, limit: u64) -> (Digits, Close)
     ensures { ReadsRow B.left B.stays reader.old limit result reader.new }
 {
@@ -122,7 +122,7 @@ impl<B: ReadByte> FallibleIterator for Rows<B> {
 
     ghost contract = { seen_as rows_parts (unbounded_contract (row_step B.left B.stays)) };
 
-    /// Reads one row and what ends it, and nothing once it has ended for good.
+    /// Reads one row and what ends it, and nothing once it is exhausted.
     fn next(&mut self) -> Result<Option<u64>, RowFault> {
         let Some(Ahead { left, place }) = self.ahead.take() else {
             return Ok(None);

@@ -13,7 +13,7 @@ use Rattle.std.specs.declared.alloc.Global.{Global}
 use Rattle.std.specs.declared.alloc.AllocError.{AllocError}
 
 module _ {S X B : Type 0} (made : X → B → Type 0) (steps : S → Answered B AllocError → S → Type 0) (from : AllocError → AllocError → Type 0) (line : X → List ℕ) where
-  -- what is written when the lines of the rest come behind what was
+  -- what is written when the lines of the rest come after what was
   abbrev pub with_lines : List ℕ → List (Result X AllocError) → List ℕ
   with_lines written rest = written ++ text_of line rest
 
@@ -23,7 +23,7 @@ module _ {S X B : Type 0} (made : X → B → Type 0) (steps : S → Answered B 
     pub appended : Appends old now written
     pub here : MadeFromHere made steps from with_lines whole s written
 
--- Whatever list of values the whole gives, of its text some was written so far, and what s still gives is the rest.
+-- Whatever list of values the whole yields, of its text some was written so far, and what s still yields is the rest.
 abbrev pub PrintsOn : {S X B : Type 0} → (X → B → Type 0) → (S → Answered B AllocError → S → Type 0) → (X → List ℕ) → Option (List ℕ) → Option (List ℕ) → S → S → Type 0
 PrintsOn {X = X} made steps line old now s0 s = (l : List (Result X AllocError)) → ListsUpToRefusal made steps same_refusal s0 l → PrintsFromHere made steps same_refusal line (text_of line l) old now s
 

@@ -29,7 +29,7 @@ row_with (Some k) (Some a) = Some (record { key = k; amount = a })
 row_with (Some k) None = None
 row_with None a = None
 
--- the row that a line is, where it is one: the numbers before and behind its first comma
+-- the row that a line is, if it is one: the numbers before and after its first comma
 abbrev pub row_of : List ℕ → Option Row
 row_of text = if nat_lt (position_or_len is_comma text) (length text)
     then row_with (number_of (before_first is_comma text)) (number_of (after_first is_comma text))
@@ -90,7 +90,7 @@ batch_line rows = line_of (first_key rows) rows
 abbrev pub batches_text : List Row → List ℕ
 batches_text rows = text_of batch_line (chunked {E = AllocError} 3 (items rows))
 
--- a refusal becomes itself
+-- an allocation failure becomes itself
 abbrev pub same_refusal : AllocError → AllocError → Type 0
 same_refusal refused e = e ≡ refused
 

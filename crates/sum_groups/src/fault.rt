@@ -61,7 +61,7 @@ fn write_line<W: WriteText>(fault: &Fault, errors: &mut W) -> io::Result<()>
     }
 }
 
-// Tells of a fault, and answers the status that the program ends with, as an `Err` where the line can't be written.
+// Tells of a fault, and returns the status that the program ends with, as an `Err` if the line can't be written.
 pub(crate) fn tell<W: WriteText>(fault: &Fault, errors: &mut W) -> Result<u8, u8>
     ensures status { MatchResult result (λ status. status ≡ status_of fault.now)
         (λ status. status ≡ status_of fault.now) }

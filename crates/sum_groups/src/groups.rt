@@ -110,7 +110,7 @@ fn print_line<W: Write>(output: &mut W, name: u64, rows: &[Row]) -> Result<(), F
     }
 }
 
-// Writes one line a group, up to the end or the first refusal.
+// Writes one line a group, up to `Ok(None)` or the first allocation failure.
 fn print_each_group<I, W: Write>(mut groups: I, output: &mut W) -> Result<(), Fault>
 where
     I: FallibleIterator<Item = (u64, Vec<Row>), Error = AllocError>,
@@ -128,7 +128,7 @@ where
     Ok(())
 }
 
-// Writes one line a batch, under the key of its first row, up to the end or the first refusal.
+// Writes one line a batch, under the key of its first row, up to `Ok(None)` or the first allocation failure.
 fn print_each_batch<I, W: Write>(mut batches: I, output: &mut W) -> Result<(), Fault>
 where
     I: FallibleIterator<Item = Vec<Row>, Error = AllocError>,

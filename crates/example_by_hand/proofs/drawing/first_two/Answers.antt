@@ -1,4 +1,4 @@
--- What is looked at behind the first.
+-- What is looked at after the first.
 use Rattle.std.proofs.Common.{refl, rules}
 use Rattle.fallible_iterator.specs.Lists.{rest_first, looked_ahead, nth_of}
 use Rattle.fallible_iterator.proofs.Lemmas.Lent.{failure_stays, value_made}

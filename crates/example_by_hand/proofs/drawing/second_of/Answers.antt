@@ -1,4 +1,4 @@
--- The first draw leaves the rest, of which the second one answers the first.
+-- The first draw leaves the rest, of which the second one returns the first.
 use Rattle.example_by_hand.proofs.drawing.second_of.Goals as goal
 
 pub returns-clause-value : goal.returns-clause-value

@@ -1,4 +1,4 @@
--- Two draws leave what stands behind two items, of which the third answers the first.
+-- Two draws leave what comes after two items, of which the third returns the first.
 use Rattle.std.proofs.Common.{rules, ◌*◌, Ok, nat_lt}
 use Rattle.example_by_hand.proofs.drawing.third_draw.Goals as goal
 

@@ -1,4 +1,4 @@
--- A countdown from a byte gives at most 255 numbers, and each lists what it shows.
+-- A countdown from a byte yields at most 255 numbers, and each lists what it shows.
 use Rattle.std.proofs.Common.{rules, arith}
 use Rattle.fallible_iterator.specs.Laws.Showing.{lists_shown}
 use Rattle.example_by_hand.specs.Down.{counts_down}

@@ -1,4 +1,4 @@
--- A countdown from below 256 gives at most 255 numbers, and each lists what it shows.
+-- A countdown from below 256 yields at most 255 numbers, and each lists what it shows.
 use Rattle.std.proofs.Common.{rules, arith, ◌<◌}
 use Rattle.fallible_iterator.specs.Laws.Own.{lists_giving}
 use Rattle.fallible_iterator.specs.Laws.Showing.{lists_shown}

@@ -1,4 +1,4 @@
--- The fold behind `map` is the fold that doubles.
+-- The fold after `map` is the fold that doubles.
 use Rattle.std.proofs.Common.{◌≡◌, ◌∙◌, ◌+◌, ◌*◌, ◌%◌, ◌^◌, sym, rules, Ok}
 use Rattle.fallible_iterator.specs.Laws.Showing.{shown_before}
 use Rattle.fallible_iterator.specs.Lists.{folded}

@@ -1,4 +1,4 @@
--- Each text is made of the number at its place, up to a refusal.
+-- Each text is made of the number at its place, up to an allocation failure.
 use Rattle.std.proofs.Common.{rules, tests, Ok}
 use Rattle.std.specs.Fmt.{decimal}
 use Rattle.fallible_iterator.proofs.Lemmas.Making.{collected_made, made_by_map}

@@ -1,4 +1,4 @@
--- Memory is wanted only behind the thousandth reading.
+-- Memory is wanted only after the thousandth reading.
 use Rattle.std.specs.Prelude.{◌≡◌, ℕ, ◌≤◌, ◌<◌, List, length, map, Result, Some, Ok, Err}
 use Rattle.std.proofs.Common.{rules, ap, arith, inl, inr, ◌∙◌}
 use Rattle.std.proofs.lemmas.List.{length-append, length-map}
@@ -12,7 +12,7 @@ use Rattle.fallible_iterator.specs.Fault.{Fault}
 use Rattle.fallible_iterator.specs.Fault.TheVariants.{Source, Memory}
 use Rattle.example_chains.specs.declared.collecting.Tally.{Tally}
 
--- A refused item stands behind the items that the tally counts.
+-- A rejected item stands after the items that the tally counts.
 tally_full : {S E : Type 0} {steps : S → Answered ℕ E → S → Type 0} {s : S} (l : List (Result ℕ E)) → Lists steps s l → (fault : Fault E) (a : AllocError) → Collects {C = Tally} steps (λ items tally. tally.count ≡ length items) ⊥ (λ tally _. 1000 ≤ tally.count) s (Err fault) → fault ≡ Memory a → 1000 < length l
 tally_full l i (Source e) a k is = absurd cc
 tally_full l i (Memory b) a (inl k) is = absurd k

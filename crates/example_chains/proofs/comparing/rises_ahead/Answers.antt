@@ -1,4 +1,4 @@
--- What an item, the one behind it, a failure and the end make of it.
+-- What an item, the one after it, a failure and the end make of it.
 use Rattle.std.proofs.Common.{rules, arith, refl, ◌∷◌, Ok}
 use Rattle.fallible_iterator.specs.Lists.{collected}
 use Rattle.fallible_iterator.proofs.Lemmas.Loops.{goes_on, fails, ends}

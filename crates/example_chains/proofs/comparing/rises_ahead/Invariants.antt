@@ -1,4 +1,4 @@
--- A bound is counted down, and what the whole answers is what the rest answers from here.
+-- A bound is counted down, and what the whole returns is what the rest returns from here.
 use Rattle.fallible_iterator.specs.Contract.{seen_as}
 use Rattle.fallible_iterator.specs.Peeking.Peekable.{peekable_contract, peekable_parts}
 use Rattle.fallible_iterator.proofs.Lemmas.Loops.{CountsDown, AnswersFromHere}

@@ -1,4 +1,4 @@
--- A filter before the doubling keeps as many as one behind it.
+-- A filter before the doubling keeps as many as one after it.
 use Rattle.std.proofs.Common.{◌≡◌, ◌∙◌, ◌*◌, sym, ap, rules, Ok}
 use Rattle.std.specs.Prelude.{nat_lt}
 use Rattle.fallible_iterator.specs.Lists.{counted, filtered, results}

@@ -1,4 +1,4 @@
--- What both columns list, place by place.
+-- What both columns list, position by position.
 use Rattle.std.specs.Prelude.{◌^◌, ◌-◌}
 use Rattle.std.proofs.Common.{rules}
 use Rattle.example_itertools.proofs.joining.places_of_both.Goals as goal

@@ -1,4 +1,4 @@
--- What both columns list, compared place by place.
+-- What both columns list, compared position by position.
 use Rattle.std.specs.Prelude.{◌%◌, Ok, nat_eq}
 use Rattle.std.proofs.Common.{rules}
 use Rattle.example_itertools.proofs.joining.same_last_digits.Goals as goal

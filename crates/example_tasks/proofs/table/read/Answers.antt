@@ -1,4 +1,4 @@
--- The bytes give their records.
+-- The bytes yield their records.
 use Rattle.std.proofs.Common.{refl}
 use Rattle.fallible_iterator.proofs.Lemmas.Lists.Passing.{lists_seen}
 use Rattle.example_tasks.specs.Tables.{DrawsRecord}

@@ -1,4 +1,4 @@
--- The headers stand one behind the other.
+-- The headers stand one after the other.
 use Rattle.fallible_elf.proofs.SectionLemmas.{by_number}
 use Rattle.fallible_elf.proofs.laws.law_headers.Goals as goal
 

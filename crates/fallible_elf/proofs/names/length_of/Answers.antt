@@ -1,4 +1,4 @@
--- The loop stops at the first 0, or behind the last byte.
+-- The loop stops at the first 0, or after the last byte.
 use Rattle.std.proofs.Common.{rules, arith}
 use Rattle.fallible_elf.proofs.NameLemmas.{length_is}
 use Rattle.fallible_elf.proofs.names.length_of.Goals as goal

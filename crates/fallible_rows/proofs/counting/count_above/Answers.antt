@@ -1,4 +1,4 @@
--- What the chain's rows answered is what was read, and the reader is the one that was lent.
+-- What the chain's rows returned is what was read, and the reader is the one that was lent.
 use Rattle.std.proofs.Common.{rules, tests, ◌≡◌, ◌-◌, ◌^◌, sym, subst, refl, lit≤}
 use Rattle.fallible_iterator.specs.Laws.Contract.{lawful_seen}
 use Rattle.fallible_iterator.specs.Laws.BoundsRuns.{lawful_unbounded}

@@ -1,4 +1,4 @@
--- The groups are written, and behind them the batches of the same rows.
+-- The groups are written, and after them the batches of the same rows.
 use Rattle.sum_groups.proofs.Printing.{ok_with, printed_both}
 use Rattle.sum_groups.proofs.groups.print_both.Goals as goal
 

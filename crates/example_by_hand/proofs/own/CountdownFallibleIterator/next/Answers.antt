@@ -5,7 +5,7 @@ use Rattle.fallible_iterator.specs.Showing.{TakesShown}
 use Rattle.example_by_hand.specs.Down.{down_from}
 use Rattle.example_by_hand.proofs.own.CountdownFallibleIterator.next.Goals as goal
 
--- an end of a countdown from 0, and else its number
+-- an end of a countdown from 0, and otherwise its number
 ends_at : (n : ℕ) → n ≡ 0 → TakesShown (down_from n) (Ok None) (down_from n)
 unfolding down_from
 ends_at n e = rw e (refl, refl)

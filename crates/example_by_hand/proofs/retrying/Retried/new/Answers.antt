@@ -1,4 +1,4 @@
--- What is asked for again, it lists.
+-- It lists what is drawn again.
 use Rattle.fallible_iterator.proofs.Lemmas.Gathered.{lists_gathered_by}
 use Rattle.example_by_hand.proofs.AskedAgain.{cuts_retried}
 use Rattle.example_by_hand.specs.Retried.{MakesRetried, retried}

@@ -1,4 +1,4 @@
--- A book answers its pages.
+-- A book returns its pages.
 use Rattle.example_tasks.proofs.PageLemmas.{answers_pages}
 use Rattle.example_tasks.proofs.pages.Book.new.Goals as goal
 

@@ -1,4 +1,4 @@
--- A header is the first of what is shown, and behind the last one the fault.
+-- A header is the first of what is shown, and after the last one the fault.
 use Rattle.std.proofs.Common.{rules, arith}
 use Rattle.fallible_elf.proofs.SectionLemmas.{takes_fault, takes_end, takes_header}
 use Rattle.fallible_elf.proofs.sections.SectionsFallibleIterator.next.Goals as goal

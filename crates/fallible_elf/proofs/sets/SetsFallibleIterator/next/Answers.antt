@@ -1,4 +1,4 @@
--- A set is the first of what is shown, and behind the last one the fault.
+-- A set is the first of what is shown, and after the last one the fault.
 use Rattle.std.proofs.Common.{rules}
 use Rattle.fallible_elf.proofs.SetLemmas.{takes_fault, takes_end, takes_set, takes_damaged}
 use Rattle.fallible_elf.proofs.sets.SetsFallibleIterator.next.Goals as goal
