@@ -23,7 +23,7 @@ pub use summing::sum_of_rows;
 
 /// Reads the first 1,000,000 rows of `reader`, and nothing after them, and writes to `writer` how many of them are above 100, in decimal, and a newline. A row ends at each newline and at the end of the bytes; an empty last one is none. It reads at most `u64::MAX` bytes.
 ///
-/// It fails with `Row` of the place, from 1, of the first of those rows that is not a number of 1 to 20 digits within `u64`; with `Read` where a read fails, for whatever reason, or a byte more than `u64::MAX` is wanted; with `Write` where the writer fails. Only at `Write` may something have been written that is not the report. It allocates, and never fails with `Memory`.
+/// It fails with `Row` of the place, from 1, of the first of those rows that is not a number of 1 to 20 digits within `u64`; with `Read` where a read fails, for whatever reason, or a byte more than `u64::MAX` is wanted; with `Write` where the writer fails. Only at `Write` may something have been written that is not the report. It allocates nothing, and never fails with `Memory`.
 ///
 /// After `Row` the reader yields what follows the newline of that row; after `Ok` and `Write` what follows the newline of row 1,000,000; and where that newline isn't there, it is at its end. After `Read` it has lost what was read so far, and no row closed by then was refused.
 pub fn run<R: ReadByte, W: Write>(

@@ -136,7 +136,7 @@ fn flatten_and_flat_map_fold_each_source_once(rt: HostRuntime) -> Result<(), Fai
 }
 
 const ENDED_IN_HAND: [Answered; 2] = [Ok(Some(1)), Ok(None)];
-// An end that it holds ends a fold, and the next fold goes on behind it.
+// An end that it holds ends a fold, and the next fold goes on after it.
 const ENDED_FOLDED: [Step<'static>; 2] = [(Digits, Ok(Some(0)), &[]), (Digits, Ok(Some(3)), &[])];
 
 const ENDED_DRAWN: [Step<'static>; 4] = [

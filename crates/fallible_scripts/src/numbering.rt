@@ -45,7 +45,7 @@ where
     }
 }
 
-// Makes the calls, and fails the test at the first that answers otherwise, or brings the source other calls.
+// Makes the calls, and fails the test at the first that returns otherwise, or brings the source other calls.
 fn expect_numbered<I: FallibleIterator<Item = (usize, u32), Error = u32>>(
     it: &mut I,
     log: &Log,

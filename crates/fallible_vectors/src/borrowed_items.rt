@@ -64,7 +64,7 @@ fn lent_pages_are_collected_up_to_a_failure_and_counted(rt: HostRuntime) -> Resu
     Ok(())
 }
 
-// A line or a word is an item. A closure that gives an iterator can't give one over a named function.
+// A line or a word is an item. A closure that yields an iterator can't yield one over a named function.
 fn found(text: &str) -> Result<&str, ()> {
     Ok(text)
 }
@@ -100,7 +100,7 @@ fn short_words_after_a_short_one(text: &str) -> Result<usize, ()> {
     words.take_while(|word: &&str| Ok(word.len() == 3)).count()
 }
 
-// A text, and what `short_words_after_a_short_one` answers.
+// A text, and what `short_words_after_a_short_one` returns.
 const SHORT_WORDS: [(&str, Result<usize, ()>); 2] = [
     ("one two six three ten", Ok(2)),
     ("three ten", Ok(0)),

@@ -5,7 +5,7 @@ use std::test::Fail;
 use test_support::numbers::numbers;
 use test_support::scripted::Script;
 
-// Fails the test where three draws of the std iterator over it give other elements, or where it hints at anything.
+// Fails the test where three draws of the std iterator over it yield other elements, or where it hints at anything.
 fn expect_elements<I: FallibleIterator<Item = u32, Error = u32>>(
     it: I,
     expected: &[Option<Result<u32, u32>>; 3],

@@ -11,7 +11,7 @@ use test_support::collected::{expect_collected, expect_refused, expect_source_fa
 use test_support::listed::listed;
 use test_support::numbers::numbers;
 
-// What `collect` through a reference makes of the answers, and what the next draw answers.
+// What `collect` through a reference makes of the answers, and what the next draw returns.
 fn collected(
     alloc: Global,
     answers: &[Result<u32, u32>],
@@ -44,19 +44,19 @@ const UP_TO_FOUR: [Result<u32, u32>; 5] = [Ok(0), Ok(1), Ok(2), Ok(3), Ok(4)];
 
 const DOUBLED: Made = Ok(&[0, 2, 4, 6, 8]);
 
-// How much greater failures are, what the source gives, and what is collected.
+// How much greater failures are, what the source yields, and what is collected.
 const WITH_GREATER_FAILURES: [(u32, &[Result<u32, u32>], Made); 2] = [
     (100, &[Ok(1), Err(5)], Err(105)),
     (0, &[Ok(0), Err(1), Ok(2), Err(3)], Err(1)),
 ];
 
-// What the source of `filter` with `even_thirds` gives, and what is collected.
+// What the source of `filter` with `even_thirds` yields, and what is collected.
 const EVEN_THIRDS: [(&[Result<u32, u32>], Made); 2] = [
     (&[Ok(0), Ok(2), Ok(4), Ok(6)], Ok(&[0, 6])),
     (&[Ok(0), Ok(1), Ok(2), Ok(3)], Err(1)),
 ];
 
-// What the source of `filter_map` with `ten_more_of_even` gives, and what is collected.
+// What the source of `filter_map` with `ten_more_of_even` yields, and what is collected.
 const TEN_MORE_OF_EVEN: [(&[Result<u32, u32>], Made); 2] = [
     (&[Ok(0), Ok(2), Ok(3), Ok(4), Ok(6)], Ok(&[10, 12, 14, 16])),
     (&[Ok(0), Ok(1), Ok(2), Ok(3), Ok(4), Ok(5), Ok(6)], Err(1)),
@@ -107,7 +107,7 @@ fn collect_from_a_std_iterator_goes_on_where_its_room_is_full(rt: HostRuntime) -
     Ok(())
 }
 
-// A collection of a user's own, which counts and never refuses.
+// A collection of a user's own, which counts and never fails.
 #[derive(Drop)]
 struct Total {
     count: u64,
@@ -172,7 +172,7 @@ fn collect_into_a_vec_whose_request_may_be_refused(rt: HostRuntime) -> Result<()
     Ok(())
 }
 
-// What a source that fails with 1 gives: `collect` leaves 2 as its next draw.
+// What a source that fails with 1 yields: `collect` leaves 2 as its next draw.
 const FAILING: [&[Result<u32, u32>]; 2] = [
     &[Ok(0), Err(1), Ok(2), Err(3)],
     &[Ok(0), Err(1), Ok(2)],

@@ -1,4 +1,4 @@
-// Nothing is drawn after the answer that decides, so a borrowed source still gives the rest.
+// Nothing is drawn after the answer that decides, so a borrowed source still yields the rest.
 ghost use Rattle.std.specs.Prelude.{⊤};
 
 use fallible_iterator::{Collect, FallibleIterator};
@@ -58,7 +58,7 @@ fn count_fold_and_collect_draw_nothing_after_what_decides(rt: HostRuntime) -> Re
         (it.by_ref().fold(0, low_sum), it.next()),
         (Err(5), Ok(Some(3)))
     );
-    // Its collection is refused.
+    // The allocation of its collection fails.
     let mut it = numbers(&ONE_AND_TWO);
     expect_refused(it.by_ref().collect::<Greedy>(rt.alloc()))?;
     assert_eq!(rt; it.next(), Ok(Some(1)));

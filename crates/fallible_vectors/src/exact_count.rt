@@ -8,7 +8,7 @@ use fallible_iterator::{Answer, FallibleIterator};
 use std::test::Fail;
 use test_support::answered::expect_answers;
 
-// Gives 3 as many times as is left, and then ends.
+// Yields 3 as many times as is left, and then ends.
 #[derive(Drop)]
 struct Threes {
     left: u64,

@@ -40,7 +40,7 @@ impl<'a, I: FallibleIterator<Item = u32, Error = u32>> FallibleIterator for Watc
     ghost lawful = { lawful_seen (λ w. w.it) I.lawful };
 }
 
-// The sum, which stops with a power of two behind a sum of 1.
+// The sum, which stops with a power of two after a sum of 1.
 fn up_to_a_power(sum: u32, x: u32) -> Result<u32, u32> {
     if x.is_power_of_two() && sum == 1 {
         Err(x)

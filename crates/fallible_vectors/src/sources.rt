@@ -81,7 +81,7 @@ fn repeat_and_repeat_err_go_on(rt: HostRuntime) -> Result<(), Fail> {
         [it.next(), it.next(), it.next()],
         [failure(), failure(), failure()]
     );
-    // The second clone is refused.
+    // The second clone fails.
     let clones = Cell::new(0);
     let value = Text {
         text: "x",

@@ -16,7 +16,7 @@ fn checked_sum(sum: u32, x: u32) -> Result<u32, u32> {
     }
 }
 
-// The contract alone says what a fold answers: here the closure's answer on the one item.
+// The contract alone says what a fold returns: here the closure's answer on the one item.
 fn folded_once(x: u32) -> Result<u32, u32>
     ensures { result ≡ Ok x }
 {
@@ -28,13 +28,13 @@ fn folded_once(x: u32) -> Result<u32, u32>
     )
 }
 
-// What a source gives, and how many items it has.
+// What a source yields, and how many items it has.
 const COUNTED: [(&[Result<u32, u32>], Result<usize, u32>); 2] = [
     (&[Ok(0), Ok(1), Ok(2), Ok(3)], Ok(4)),
     (&[Ok(0), Err(7), Err(8)], Err(7)),
 ];
 
-// What a source gives, and what `checked_sum` makes of it.
+// What a source yields, and what `checked_sum` makes of it.
 const SUMMED: [(&[Result<u32, u32>], Result<u32, u32>); 2] = [
     (&[Ok(0), Ok(1), Ok(2), Ok(1)], Ok(4)),
     (&[Ok(0), Ok(1), Ok(3), Ok(2)], Err(3)),
@@ -118,7 +118,7 @@ where
     })
 }
 
-// What a source gives, and how many steps it takes.
+// What a source yields, and how many steps it takes.
 const STEPS_TAKEN: [(&[Result<u32, u32>], Result<u32, u32>); 2] = [
     (&[Ok(5), Ok(6), Ok(7)], Ok(3)),
     (&[Ok(5), Err(6), Ok(7)], Err(6)),

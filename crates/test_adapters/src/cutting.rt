@@ -11,7 +11,7 @@ use test_support::numbers::numbers;
 
 const END: Drawn = Ok(None);
 
-// How many items `take` gives, what its source gives, what draws answer, what is collected then, and what the source gives next.
+// How many items `take` yields, what its source yields, what draws return, what is collected then, and what the source yields next.
 const TAKEN: [(usize, &[Drawn], &[Answer<u32, u32>], &[u32], Drawn); 3] = [
     (
         2,
@@ -56,7 +56,7 @@ fn take_counts_items_alone_and_ends_with_its_source(rt: HostRuntime) -> Result<(
     Ok(())
 }
 
-// What the sources of `take_while` give.
+// What the sources of `take_while` yield.
 const UP_AND_DOWN: [Drawn; 3] = [Ok(Some(1)), Ok(Some(5)), Ok(Some(2))];
 
 const UP_TO_THREE: [Drawn; 5] = [
@@ -69,7 +69,7 @@ const UP_TO_THREE: [Drawn; 5] = [
 
 const ENDED_BETWEEN: [Drawn; 5] = [Ok(Some(1)), END, Ok(Some(1)), Ok(Some(2)), Ok(Some(1))];
 
-// The bound that `take_while` stays below, what its source gives, what draws answer, and what the source gives next.
+// The bound that `take_while` stays below, what its source yields, what draws return, and what the source yields next.
 const BELOW: [(u32, &[Drawn], &[Answer<u32, u32>], Drawn); 5] = [
     (3, &UP_AND_DOWN, &[Item(1), End, End], Ok(Some(2))),
     (0, &UP_TO_THREE, &[End], Ok(Some(1))),
@@ -131,10 +131,10 @@ const NOTHING: [(Hint, &[Answer<u32, u32>]); 2] = [
     ((0, Some(0)), &[End, End, End, End]),
 ];
 
-// Hints, and what the draws behind each answer.
+// Hints, and what the draws after each return.
 type Course = &'static [(Hint, &'static [Answer<u32, u32>])];
 
-// How many items `skip` leaves out, what its source gives, and the course. It counts on after a failure.
+// How many items `skip` leaves out, what its source yields, and the course. It counts on after a failure.
 const SKIPPED: [(usize, &[Result<u32, u32>], Course); 6] = [
     (
         0,
@@ -180,7 +180,7 @@ fn skip_leaves_out_as_many_items(rt: HostRuntime) -> Result<(), Fail> {
     Ok(())
 }
 
-// The step, what the source of `step_by` gives, the course, and what is collected then.
+// The step, what the source of `step_by` yields, the course, and what is collected then.
 type Stepped = (usize, &'static [Result<u32, u32>], Course, &'static [u32]);
 
 const STEPPED: [Stepped; 3] = [

@@ -10,7 +10,7 @@ const UP_AND_DOWN: [Result<u32, u32>; 5] = [Ok(1), Ok(2), Ok(3), Ok(4), Ok(1)];
 
 const UP_TO_THREE: [Result<u32, u32>; 3] = [Ok(1), Ok(2), Ok(3)];
 
-// The bound that `skip_while` leaves items out below, an item on which its closure fails with 8, what its source gives, and what draws answer. It leaves a failed item out, and skips on.
+// The bound that `skip_while` leaves items out below, an item on which its closure fails with 8, what its source yields, and what draws return. It leaves a failed item out, and skips on.
 const SKIPPED_BELOW: [(u32, Option<u32>, &[Result<u32, u32>], &[Answer<u32, u32>]); 4] = [
     (
         1,
@@ -36,7 +36,7 @@ fn skip_while_keeps_all_from_its_first_false(rt: HostRuntime) -> Result<(), Fail
     Ok(())
 }
 
-// What the source of `filter_map` with `ten_more_of_even` gives, and what draws answer.
+// What the source of `filter_map` with `ten_more_of_even` yields, and what draws return.
 const TEN_MORE_OF_EVEN: [(&[Result<u32, u32>], &[Answer<u32, u32>]); 2] = [
     (
         &[Ok(0), Ok(2), Ok(3), Ok(4), Ok(6)],

@@ -1,4 +1,4 @@
-// The adapter that ends for good: an end that it met is kept, whoever drew it.
+// The adapter that is exhausted: an end that it met is kept, whoever drew it.
 use crate::script::{Drawn, expect_next, expect_same, script_of};
 use fallible_iterator::Answer::{End, Failure, Item};
 use fallible_iterator::{Answer, FallibleIterator};
@@ -15,7 +15,7 @@ const ENDED_BETWEEN: [Drawn; 3] = [Ok(Some(1)), END, Ok(Some(2))];
 
 const FAILING_BETWEEN: [Drawn; 3] = [Ok(Some(1)), Err(9), Ok(Some(2))];
 
-// What the source of `fuse` gives, what draws answer, the sum of the items that are left, and what the source gives next, after two more draws. In the second row the fold meets the end.
+// What the source of `fuse` yields, what draws return, the sum of the items that are left, and what the source yields next, after two more draws. In the second row the fold meets the end.
 const FUSED: [(&[Drawn], &[Answer<u32, u32>], Result<u32, u32>, Drawn); 3] = [
     (
         &ENDED_BETWEEN,
@@ -74,7 +74,7 @@ fn filters_over_fuse_only_end_after_its_end(rt: HostRuntime) -> Result<(), Fail>
     expect_next(&mut source, Err(9))
 }
 
-// The bound that `skip_while` over `fuse` leaves items out below, and what draws answer.
+// The bound that `skip_while` over `fuse` leaves items out below, and what draws return.
 const SKIPPED_BELOW: [(u32, &[Answer<u32, u32>]); 2] = [
     (2, &TWO_AND_ENDS),
     (3, &[End, End, End, End]),

@@ -15,10 +15,10 @@ use test_support::numbers::numbers;
 use test_support::test_error::TestError;
 use test_support::text::Text;
 
-// What a source gives.
+// What a source yields.
 type Given = &'static [Result<u32, u32>];
 
-// Hints, and what the draws behind each answer.
+// Hints, and what the draws after each return.
 type Course = &'static [(Hint, &'static [Answer<u32, u32>])];
 
 // Twice an item, and a failure of 2.
@@ -92,7 +92,7 @@ fn inspect_shows_each_item_and_fails_on_one(rt: HostRuntime) -> Result<(), Fail>
     expect_answers(&rt, &mut it, &[Item(1), Failure(20), Item(3), End])
 }
 
-// A call of a nest of numbered items, and what it answers.
+// A call of a nest of numbered items, and what it returns.
 enum Numbered {
     // as many draws
     Draws(&'static [Answer<(usize, u32), u32>]),
@@ -100,7 +100,7 @@ enum Numbered {
     Nth(usize, Result<Option<(usize, u32)>, u32>),
 }
 
-// Makes the calls, and fails the test at the first that answers otherwise.
+// Makes the calls, and fails the test at the first that returns otherwise.
 fn expect_numbered<I: FallibleIterator<Item = (usize, u32), Error = u32>>(
     rt: &HostRuntime,
     it: &mut I,
@@ -127,7 +127,7 @@ where
     Ok(())
 }
 
-// What the source of `enumerate` gives, and the calls. It counts the items that `nth` drew.
+// What the source of `enumerate` yields, and the calls. It counts the items that `nth` drew.
 const NUMBERED: [(Given, &[Numbered]); 3] = [
     (
         &[Ok(5), Err(9), Ok(6)],
@@ -172,7 +172,7 @@ fn half(x: u32) -> Result<Option<u32>, u32> {
     }
 }
 
-// What the source of `map_while` with `half` gives, the course, the sum of the items that are left, and the last draws. In the second row the fold stops at a none.
+// What the source of `map_while` with `half` yields, the course, the sum of the items that are left, and the last draws. In the second row the fold stops at a none.
 const HALVES: [(Given, Course, Result<u32, u32>, &[Answer<u32, u32>]); 2] = [
     (
         &[Ok(4), Ok(0), Err(9), Ok(7), Ok(6)],

@@ -1,26 +1,26 @@
-// Sources over a script of answers, and what calls answer beside what they are expected to.
+// Sources over a script of answers, and what calls return beside what they are expected to.
 use fallible_iterator::FallibleIterator;
 use std::alloc::{AllocError, Global};
 use std::fmt::Debug;
 use std::test::Fail;
 use test_support::scripted::Script;
 
-/// What a draw of numbers answers, `Ok(None)` at an end.
+/// What a draw of numbers returns, `Ok(None)` at an end.
 pub type Drawn = Result<Option<u32>, u32>;
 
-/// A source that gives these answers, and then ends.
+/// A source that yields these answers, and then ends.
 pub fn script_of(alloc: Global, answers: &[Drawn]) -> Result<Script<u32, u32>, AllocError> {
     Ok(Script {
         answers: answers.to_vec(alloc)?.into_iter(),
     })
 }
 
-/// Fails the test where the source gives anything else next.
+/// Fails the test where the source yields anything else next.
 pub fn expect_next(source: &mut Script<u32, u32>, expected: Drawn) -> Result<(), Fail> {
     expect_same(source.next(), expected)
 }
 
-/// Fails the test where a call answered anything else.
+/// Fails the test where a call returned anything else.
 pub fn expect_same<T: Debug + Drop + PartialEq>(answered: T, expected: T) -> Result<(), Fail> {
     if answered == expected {
         Ok(())

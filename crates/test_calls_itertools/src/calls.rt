@@ -15,7 +15,7 @@ use test_support::counted_numbers::counted;
 use test_support::scripted::{Script, scripted};
 use test_support::test_error::TestError;
 
-// Gives 1, 1 and 2, and adds its calls to `log`.
+// Yields 1, 1 and 2, and adds its calls to `log`.
 fn one_one_two<'a>(
     alloc: Global,
     log: &'a Log,
@@ -24,10 +24,10 @@ fn one_one_two<'a>(
     Ok(Counted::new(scripted(alloc, answers)?, log))
 }
 
-// How many items a fold gives, and the calls that come for it.
+// How many items a fold yields, and the calls that come for it.
 type Folded = (Result<u32, TestError>, Calls);
 
-// Fails the test where the iterator's own fold gives another number of items, or brings its source other calls since the log was taken last.
+// Fails the test where the iterator's own fold yields another number of items, or brings its source other calls since the log was taken last.
 fn expect_folded<I: FallibleIterator<Error = TestError>>(
     it: &mut I,
     log: &Log,
@@ -82,7 +82,7 @@ const ONE_BY_ONE_FOLD: Folded = (Ok(1), ONE_FOLD);
 
 const DUE: (Result<Option<u32>, TestError>, Calls) = (Ok(None), NO_CALL);
 
-// What is held is answered before the end, which is due then: a fold goes no further, and the end takes no draw.
+// What is held is returned before the end, which is due then: a fold goes no further, and the end takes no draw.
 #[test]
 fn adapters_that_hold_fold_up_to_an_end(rt: HostRuntime) -> Result<(), Fail> {
     let (alloc, log) = (rt.alloc(), Log::new());
@@ -132,7 +132,7 @@ fn adapters_that_answer_at_no_end_fold_by_one_fold(rt: HostRuntime) -> Result<()
     expect_folded(&mut Counted::new(it, &log).copied(), &log, &TWO_BY_ONE_FOLD)?;
     let mut pairs = one_one_two(alloc, &log)?.tuple_windows();
     expect_folded(&mut pairs, &log, &TWO_BY_ONE_FOLD)?;
-    // A refused item stops the fold, and then nothing is folded.
+    // A rejected item stops the fold, and then nothing is folded.
     let mut up_to_two = one_one_two(alloc, &log)?.take_while_inclusive(below_two);
     expect_folded(&mut up_to_two, &log, &THREE_BY_ONE_FOLD)?;
     expect_folded(&mut up_to_two, &log, &NONE_BY_NO_FOLD)?;
@@ -197,14 +197,14 @@ const RIGHTS: [Calls; 2] = [FOUR_NEXTS, TWO_NEXTS];
 
 const NEXT_AFTER_A_LOOK: (Result<Option<u32>, TestError>, Calls) = (Ok(Some(2)), NO_CALL);
 
-// Two sides are drawn in turn, and a fold of the source would let go of the item that stays next.
+// Two sides are drawn in turn, and a fold of the source would drop the item that stays next.
 #[test]
 fn adapters_of_two_sides_and_peeking_take_while_draw_one_by_one(
     rt: HostRuntime,
 ) -> Result<(), Fail> {
     let (alloc, log) = (rt.alloc(), Log::new());
     let (beside, other) = (Log::new(), Log::new());
-    // The left's end is the fourth draw, and the right is drawn behind its own.
+    // The left's end is the fourth draw, and the right is drawn after its own.
     let right = Counted::new(scripted(alloc, [Ok(Some(5u32))])?, &beside);
     let mut longest = one_one_two(alloc, &log)?.zip_longest(right);
     expect_folded(&mut longest, &log, &THREE_BY_FOUR_DRAWS)?;
@@ -313,7 +313,7 @@ const EXACTLY_ONE: ExactlyOne = (Ok(Ok(9)), TWO_NEXTS);
 
 const AT_MOST_ONE_OF_NONE: AtMostOne = (Ok(Ok(None)), ONE_NEXT);
 
-// They draw up to the second item or an end, and nothing behind it.
+// They draw up to the second item or an end, and nothing after it.
 #[test]
 fn at_most_one_and_exactly_one_draw_twice_at_most(rt: HostRuntime) {
     let log = Log::new();

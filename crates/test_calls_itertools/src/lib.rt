@@ -1,4 +1,4 @@
-//! What the calls of `fallible_itertools` make of their sources, and what stands after each refused request of memory.
+//! What the calls of `fallible_itertools` make of their sources, and what stands after each failed allocation.
 #![tactic(auto)]
 
 #[cfg(test)]

@@ -1,4 +1,4 @@
-// Refused memory: clones of the adapters, most with something held, and draws that clone, each request refused in turn. `PeekingTakeWhile` has no clone, since it borrows.
+// Allocation failures: clones of the adapters, most with something held, and draws that clone, each allocation failing in turn. `PeekingTakeWhile` has no clone, since it borrows.
 use fallible_iterator::Answer::{End, Failure, Item};
 use fallible_iterator::{Answer, Convert, FallibleIterator};
 use fallible_itertools::EitherOrBoth::{Both, Left};
@@ -110,7 +110,7 @@ fn refused_clones_of_adapters_that_hold_an_item(rt: HostRuntime) -> Result<(), F
     expect_refused_clones_of_asking(&rt, &r, &mut it, &OF_DEDUP_BY_KEY)
 }
 
-// 2 is held behind the separator, which is a request too.
+// 2 is held after the separator, which is a request too.
 const OF_INTERSPERSE: NumbersCase = Case {
     name: "Intersperse",
     requests: 3,
@@ -143,7 +143,7 @@ const OF_CHUNKS: Asks<'static> = ("Chunks", 2, [(2, Some(4)), NONE]);
 
 const OF_CHUNK_BY: Asks<'static> = ("ChunkBy", 3, [UP_TO_THREE, NONE]);
 
-// The failure is due behind a batch of one number, and a group of one is held behind the first group.
+// The failure is due after a batch of one number, and a group of one is held after the first group.
 #[test]
 fn refused_clones_of_batches_and_groups(rt: HostRuntime) -> Result<(), Fail> {
     let r = Requests::refusing(u32::MAX);
@@ -183,7 +183,7 @@ fn in_order<'a>(x: &Number<'a>, y: &Number<'a>) -> Result<bool, TestError> {
     Ok(x.value <= y.value)
 }
 
-// Of 7, 8 and 7 the last is left in the source, behind a refused item.
+// Of 7, 8 and 7 the last is left in the source, after a rejected item.
 const OF_COPIED_AND_TAKE_WHILE_INCLUSIVE: NumbersCase = Case {
     name: "Copied and TakeWhileInclusive",
     requests: 1,
@@ -192,7 +192,7 @@ const OF_COPIED_AND_TAKE_WHILE_INCLUSIVE: NumbersCase = Case {
     expected: &[End],
 };
 
-// The failures of 2 and 3, which ask, are left in the source.
+// The failures of 2 and 3, which allocate, are left in the source.
 const OF_INSPECT_ERR_AND_OR_ELSE: NumbersCase = Case {
     name: "InspectErr and OrElse",
     requests: 2,
@@ -248,7 +248,7 @@ fn refused_clones_of_adapters_that_hold_nothing_or_join(rt: HostRuntime) -> Resu
     expect_refused_clones_of_asking(&rt, &r, &mut it, &OF_MERGE_BY)
 }
 
-// The later item of the pair is lost, and the earlier one stays held. The last row meets no refusal.
+// The later item of the pair is lost, and the earlier one stays held. In the last row no allocation fails.
 #[test]
 fn tuple_windows_loses_the_item_whose_clone_is_refused(rt: HostRuntime) -> Result<(), Fail> {
     let r = Requests::refusing(u32::MAX);
@@ -269,7 +269,7 @@ fn tuple_windows_loses_the_item_whose_clone_is_refused(rt: HostRuntime) -> Resul
     Ok(())
 }
 
-// What `intersperse` of 1, 2 and 3 answers where one of the separator's clones is refused: the refusal stands in its place, and the item behind it is held. The last row meets no refusal.
+// What `intersperse` of 1, 2 and 3 returns where one of the separator's clones fails: the failure stands in its place, and the item after it is held. In the last row no allocation fails.
 const INTERSPERSED: [[Answer<u32, TestError>; 6]; 3] = [
     [
         Item(1),

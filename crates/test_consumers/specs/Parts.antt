@@ -12,7 +12,7 @@ use Rattle.std.specs.declared.cmp.Ordering.{Ordering}
 use Rattle.std.specs.declared.cmp.Ordering.TheVariants.{Less, Equal, Greater}
 use Rattle.test_consumers.specs.declared.parts.Parts.{Parts}
 
--- Less where neither part is greater and one is less, greater the other way round, and equal where both are equal; else there is no order.
+-- Less where neither part is greater and one is less, greater the other way round, and equal where both are equal; otherwise there is no order.
 abbrev pub of_both : Ordering → Ordering → Option Ordering
 of_both Less Less = Some Less
 of_both Less Equal = Some Less

@@ -230,7 +230,7 @@ impl Collect<i32> for Never {
     }
 }
 
-// The even items in one collection and the others in another, and what the next draw answers.
+// The even items in one collection and the others in another, and what the next draw returns.
 fn partition_by_even<C: Collect<i32>>(
     alloc: Global,
     answers: &[Result<i32, u32>],
@@ -260,7 +260,7 @@ const ONE_FAILS: [Result<i32, u32>; 3] = [Ok(0), Err(9), Ok(2)];
 
 const MOSTLY_EVEN: [Result<i32, u32>; 5] = [Ok(0), Ok(1), Ok(2), Ok(4), Ok(6)];
 
-// What follows a failure and a refused item is left; where the making is refused, all is.
+// What follows a failure and a rejected item is left; if the creation fails, all is.
 const LEFT: [Result<Option<i32>, u32>; 3] = [Ok(Some(2)), Ok(Some(6)), Ok(Some(0))];
 
 #[test]
@@ -278,7 +278,7 @@ fn partition_draws_nothing_after_a_failure_or_a_refusal(rt: HostRuntime) -> Resu
     Ok(())
 }
 
-// The first halves in one collection and the second ones in another, and what the next draw answers.
+// The first halves in one collection and the second ones in another, and what the next draw returns.
 fn unzip_of<A: Collect<i32>, B: Collect<i32>>(
     alloc: Global,
     answers: &[Result<(i32, i32), u32>],
@@ -312,7 +312,7 @@ const ONE_PAIR_FAILS: [Result<(i32, i32), u32>; 3] = [Ok((0, 1)), Err(9), Ok((2,
 
 const MORE_PAIRS: [Result<(i32, i32), u32>; 4] = [Ok((0, 1)), Ok((2, 3)), Ok((4, 5)), Ok((6, 7))];
 
-// What follows a failure and a refused part is left; where the second making is refused, all is.
+// What follows a failure and a rejected part is left; if the second creation fails, all is.
 const PAIRS_LEFT: [Result<Option<(i32, i32)>, u32>; 3] = [
     Ok(Some((2, 3))),
     Ok(Some((6, 7))),

@@ -9,7 +9,7 @@ use std::slice::Iter;
 use std::test::Fail;
 use test_support::numbers::numbers;
 
-// what a draw answers
+// what a draw returns
 type Drawn = Result<Option<f64>, u32>;
 
 // `convert` of the answers.
@@ -22,7 +22,7 @@ fn doubles<'a>(answers: &'a [Result<f64, u32>]) -> Convert<Copied<Iter<'a, Resul
     convert(answers.iter().copied())
 }
 
-// A comparison, with what it answers.
+// A comparison, with what it returns.
 #[derive(Debug, PartialEq, Eq, Drop)]
 enum Comparison {
     // `partial_cmp`
@@ -43,7 +43,7 @@ enum Comparison {
 
 use Comparison::{AtLeast, AtMost, Equal, Greater, Less, PartialCmp, Unequal};
 
-// What the comparison that is named answers.
+// What the comparison that is named returns.
 fn compared<L, R>(left: L, right: R, named: &Comparison) -> Comparison
 where
     L: FallibleIterator<Error = u32>,
@@ -64,7 +64,7 @@ where
     }
 }
 
-// What is compared, what that answers, and what the next draw on the right answers.
+// What is compared, what that returns, and what the next draw on the right returns.
 type Row = (
     &'static [Result<f64, u32>],
     &'static [Result<f64, u32>],
@@ -72,7 +72,7 @@ type Row = (
     Drawn,
 );
 
-// Fails the test where a comparison or the next draw on the right answers otherwise.
+// Fails the test where a comparison or the next draw on the right returns otherwise.
 fn expect_compared(rows: &[Row]) -> Result<(), Fail> {
     for (left, right, expected, next) in rows {
         let mut rest = doubles(right);
@@ -158,7 +158,7 @@ const ROUNDS: [Row; 14] = [
     (&TWO, &TWO, Unequal(Ok(false)), Ok(None)),
 ];
 
-// Whether the left one is less, and what the next draw on the right answers.
+// Whether the left one is less, and what the next draw on the right returns.
 fn lt_of(left: &[Result<f64, u32>], right: &[Result<f64, u32>]) -> (Result<bool, u32>, Drawn) {
     let mut right = convert(right.iter().copied());
     let answer = convert(left.iter().copied()).lt(&mut right);

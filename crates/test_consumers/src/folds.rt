@@ -2,7 +2,7 @@
 use fallible_iterator::{FallibleIterator, empty, once};
 use test_support::numbers::numbers;
 
-// what a draw answers
+// what a draw returns
 type Drawn = Result<Option<u32>, u32>;
 
 // A call that takes the iterator.
@@ -16,7 +16,7 @@ enum Fold {
 
 use Fold::{Last, Reduce};
 
-// What the call answers, and what the next draw does.
+// What the call returns, and what the next draw does.
 fn folded(call: Fold, answers: &[Result<u32, u32>]) -> (Drawn, Drawn) {
     let mut it = numbers(answers);
     let came = match call {
@@ -30,7 +30,7 @@ fn folded(call: Fold, answers: &[Result<u32, u32>]) -> (Drawn, Drawn) {
     (came, it.next())
 }
 
-// The call, what it is made on, what it answers, and what the next draw does. `reduce` begins with the first item.
+// The call, what it is made on, what it returns, and what the next draw does. `reduce` begins with the first item.
 const FOLDED: [(Fold, &[Result<u32, u32>], Drawn, Drawn); 8] = [
     (Last, &[Ok(0), Ok(1), Ok(2), Ok(3)], Ok(Some(3)), Ok(None)),
     (Last, &[], Ok(None), Ok(None)),

@@ -1,4 +1,4 @@
-// What a consumer that takes the iterator leaves: nothing is drawn after the answer that decides, so a borrowed source gives what follows it.
+// What a consumer that takes the iterator leaves: nothing is drawn after the answer that decides, so a borrowed source yields what follows it.
 use fallible_iterator::{DoubleEndedFallibleIterator, FallibleIterator, Fault};
 use std::alloc::{AllocError, Global};
 use std::cmp::Ordering;
@@ -7,10 +7,10 @@ use test_support::closures::add_up;
 use test_support::collected::{expect_collected, expect_source_fault};
 use test_support::scripted::{Script, scripted};
 
-// what a draw answers
+// what a draw returns
 type Drawn = Result<Option<u32>, u32>;
 
-// what a draw of pairs answers
+// what a draw of pairs returns
 type DrawnPair = Result<Option<(u32, u32)>, u32>;
 
 const END: Drawn = Ok(None);
@@ -19,12 +19,12 @@ const FAILURE: Drawn = Err(9);
 
 const TWO: Drawn = Ok(Some(2));
 
-// Gives 1, then what decides, and then the item that follows.
+// Yields 1, then what decides, and then the item that follows.
 fn around(alloc: Global, decides: Drawn, follows: u32) -> Result<Script<u32, u32>, AllocError> {
     scripted(alloc, [Ok(Some(1)), decides, Ok(Some(follows))])
 }
 
-// A consumer, with what it answers.
+// A consumer, with what it returns.
 #[derive(Debug, PartialEq, Eq, Drop)]
 enum Consumer {
     // `count`
@@ -55,12 +55,12 @@ fn each_of(mut s: Script<u32, u32>) -> (Result<(), u32>, Drawn) {
     (s.by_ref().for_each(accept), s.next())
 }
 
-// The sum from the back, and what the next draw from the back answers.
+// The sum from the back, and what the next draw from the back returns.
 fn sum_from_back(mut s: Script<u32, u32>) -> (Result<u32, u32>, Drawn) {
     (s.by_ref().rfold(0, add_up), s.next_back())
 }
 
-// What the consumer that is named answers, and what the next draw does.
+// What the consumer that is named returns, and what the next draw does.
 fn consumed(mut s: Script<u32, u32>, named: &Consumer) -> (Consumer, Drawn) {
     let came = match named {
         Count(_) => Count(s.by_ref().count()),
@@ -85,7 +85,7 @@ const UP_TO_THE_END: [Drawn; 3] = [Ok(Some(1)), END, TWO];
 
 const UP_TO_THE_FAILURE: [Drawn; 3] = [Ok(Some(1)), FAILURE, TWO];
 
-// A script, what a consumer of it answers, and what the next draw does: from the back after a fold from there.
+// A script, what a consumer of it returns, and what the next draw does: from the back after a fold from there.
 const CONSUMED: [([Drawn; 3], Consumer, Drawn); 16] = [
     (UP_TO_THE_END, Count(Ok(1)), TWO),
     (UP_TO_THE_END, ForEach(Ok(())), TWO),
@@ -182,7 +182,7 @@ fn unzip_leaves_what_follows(rt: HostRuntime) -> Result<(), Fail> {
     Ok(())
 }
 
-// What a second draw on the left and on the right answers, after an item that is the same, how the two compare then, whether they are equal, and what the next draw on the right answers.
+// What a second draw on the left and on the right returns, after an item that is the same, how the two compare then, whether they are equal, and what the next draw on the right returns.
 type Round = (
     Drawn,
     Drawn,

@@ -19,7 +19,7 @@ fn copied_of<'a, T: Copy>(
     convert(answers.iter().copied())
 }
 
-// Which of the items is answered.
+// Which of the items is returned.
 #[derive(Clone, Copy, Debug)]
 enum Best {
     // `max`
@@ -30,7 +30,7 @@ enum Best {
 
 use Best::{Max, Min};
 
-// The best item, and what the next draw answers.
+// The best item, and what the next draw returns.
 fn best_of<T: Copy + Ord>(
     best: Best,
     answers: &[Result<T, u32>],
@@ -43,10 +43,10 @@ fn best_of<T: Copy + Ord>(
     (came, it.next())
 }
 
-// what a draw answers
+// what a draw returns
 type Drawn = Result<Option<i32>, u32>;
 
-// The best of what, which it is, and what the next draw answers. It stops at a failure.
+// The best of what, which it is, and what the next draw returns. It stops at a failure.
 const BEST: [(Best, &[Result<i32, u32>], Drawn, Drawn); 4] = [
     (Max, &[Ok(0), Ok(3), Ok(1), Ok(-10)], Ok(Some(3)), Ok(None)),
     (Max, &[], Ok(None), Ok(None)),
@@ -106,7 +106,7 @@ fn max_by_product(
     it.max_by(|best: &i32, x: &i32| compare(sign, failing, *best, *x))
 }
 
-// The least item of those compared so, and what the next draw answers.
+// The least item of those compared so, and what the next draw returns.
 fn min_by_product(
     answers: &[Result<i32, (i32, i32)>],
     sign: i32,
@@ -122,12 +122,12 @@ fn min_by_product(
     (least, it.next())
 }
 
-// what a draw of what is compared so answers
+// what a draw of what is compared so returns
 type Compared = Result<Option<i32>, (i32, i32)>;
 
 const FIVE_TWO_SEVEN: [Result<i32, (i32, i32)>; 3] = [Ok(5), Ok(2), Ok(7)];
 
-// Answers, the sign, the item at which comparing fails, the greatest item, the least, and what the next draw behind that answers. By the order back they are the least and the greatest.
+// Answers, the sign, the item at which comparing fails, the greatest item, the least, and what the next draw after that returns. By the order back they are the least and the greatest.
 const BY_PRODUCT: [(
     &[Result<i32, (i32, i32)>],
     i32,
@@ -215,7 +215,7 @@ const BY_KEY: [(
     (&[Ok(3), Ok(1), Ok(3), Ok(2)], 1, NOWHERE, (Ok(Some(3)), 4)),
 ];
 
-// what a draw of pairs answers
+// what a draw of pairs returns
 type Paired = Result<Option<(i32, char)>, i32>;
 
 const FOUR_PAIRS: [Result<(i32, char), i32>; 4] = [

@@ -7,7 +7,7 @@ use std::test::Fail;
 use test_support::listed::listed;
 use test_support::numbers::numbers;
 
-// what a draw answers
+// what a draw returns
 type Drawn = Result<Option<u32>, u32>;
 
 // no item is this
@@ -15,7 +15,7 @@ const NOWHERE: u32 = 100;
 
 const FOUR: [Result<u32, u32>; 4] = [Ok(0), Ok(1), Ok(2), Ok(3)];
 
-// What `for_each` is called on, the item at which its closure fails with 20, its answer, the items that the closure took, and what the next draw answers.
+// What `for_each` is called on, the item at which its closure fails with 20, its answer, the items that the closure took, and what the next draw returns.
 type Visit = (
     &'static [Result<u32, u32>],
     u32,
@@ -30,7 +30,7 @@ const VISITS: [Visit; 3] = [
     (&[Ok(1), Err(2), Ok(3)], NOWHERE, Err(2), &[1], Ok(Some(3))),
 ];
 
-// What `for_each` answers, whose closure pushes the items and fails with 20 at `failing`, and what the next draw does.
+// What `for_each` returns, whose closure pushes the items and fails with 20 at `failing`, and what the next draw does.
 fn push_each(
     seen: &mut Vec<u32>,
     answers: &[Result<u32, u32>],
@@ -75,7 +75,7 @@ fn all_over_a_fuse_meets_the_end_once(rt: HostRuntime) {
     assert_eq!(rt; (answered, calls), ((Ok(true), Ok(None)), 2));
 }
 
-// A search or a draw, with what it answers.
+// A search or a draw, with what it returns.
 #[derive(Debug, PartialEq, Eq, Drop)]
 enum Search {
     // `all` whose items are below 4. The predicate fails with 20.
@@ -141,7 +141,7 @@ where
     }
 }
 
-// Makes the searches, one after another. Fails the test where one answers otherwise.
+// Makes the searches, one after another. Fails the test where one returns otherwise.
 fn expect_searches<I: FallibleIterator<Item = u32, Error = u32>>(
     it: &mut I,
     failing: u32,

@@ -207,9 +207,9 @@ fn bytes_exchanged(rt: HostRuntime) -> Result<(), Fail> {
         ),
         (247, [45, 0, 0, 0].as_slice(), fault(Damage::SetCut, 247)),
         (247, [11, 0, 0, 0].as_slice(), fault(Damage::SetCut, 247)),
-        // A set of no range, and behind it none.
+        // A set of no range, and after it none.
         (247, [12, 0, 0, 0].as_slice(), fault(Damage::SetCut, 263)),
-        // The last name of the table, and one behind it.
+        // The last name of the table, and one after it.
         (648, [47, 0, 0, 0].as_slice(), good),
         (
             648,
@@ -262,7 +262,7 @@ fn no_names(rt: HostRuntime) -> Result<(), Fail> {
     Ok(())
 }
 
-// A set of the long form, as `gcc -gdwarf64` writes it, of the unit 2 ^ 32 + 103: 12 bytes for its length of 84, the version, the unit, the sizes, 8 bytes up to the ranges, which are those of the object, and 16 behind their end.
+// A set of the long form, as `gcc -gdwarf64` writes it, of the unit 2 ^ 32 + 103: 12 bytes for its length of 84, the version, the unit, the sizes, 8 bytes up to the ranges, which are those of the object, and 16 after their end.
 const LONG_SET: [u8; 96] = [
     255, 255, 255, 255, 84, 0, 0, 0, 0, 0, 0, 0, 2, 0, 103, 0, //
     0, 0, 1, 0, 0, 0, 8, 0, 0, 0, 0, 0, 0, 0, 0, 0, //
@@ -274,7 +274,7 @@ const LONG_SET: [u8; 96] = [
 
 // Bytes in the place of those of the object with the long set, and the damage and its place.
 const LONG_DAMAGES: [(usize, &[u8], Damage, usize); 8] = [
-    // A length of 84 and one more, of 19, of 20 where no set comes behind, of 2 ^ 64 - 1.
+    // A length of 84 and one more, of 19, of 20 where no set comes after, of 2 ^ 64 - 1.
     (203, &[85], Damage::SetCut, 199),
     (203, &[19], Damage::SetCut, 199),
     (203, &[20], Damage::SetCut, 231),
@@ -353,7 +353,7 @@ fn counts_that_lie(rt: HostRuntime) -> Result<(), Fail> {
     Ok(())
 }
 
-// Gives its bytes, and then fails at each read.
+// Yields its bytes, and then fails at each read.
 #[derive(Drop)]
 struct BrokenReader<'a> {
     bytes: &'a [u8],

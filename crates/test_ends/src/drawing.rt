@@ -65,7 +65,7 @@ fn into_fallible_from_both_ends(rt: HostRuntime) -> Result<(), Fail> {
     expect_answers_at(&rt, &mut it, &BACK_FRONT_BACK, &LAST_OF_FOUR)
 }
 
-// What the two sources of `chain` give, the ends drawn from, and what they answer. It fails from the back, and goes on in front of that.
+// What the two sources of `chain` yield, the ends drawn from, and what they return. It fails from the back, and goes on in front of that.
 type Chained = (
     &'static [Result<u32, u32>],
     &'static [Result<u32, u32>],

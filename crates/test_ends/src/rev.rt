@@ -66,7 +66,7 @@ fn counted_letters(text: &str, from_behind: bool, as_elements: bool) -> Result<u
     }
 }
 
-// Whether it counts from behind, whether as elements, and what it answers.
+// Whether it counts from the back, whether as elements, and what it returns.
 const COUNTED_LETTERS: [(bool, bool, Result<usize, ()>); 4] = [
     (false, false, Err(())),
     (true, false, Err(())),
@@ -95,7 +95,7 @@ fn rev_of_rev_draws_the_front(rt: HostRuntime) -> Result<(), Fail> {
     expect_numbers_at(&rt, &mut it, &FRONT_AND_BACK, &ITEMS_ONE_AND_TWO)
 }
 
-// What the source of `filter` with `even_thirds` gives, and what is collected from the back.
+// What the source of `filter` with `even_thirds` yields, and what is collected from the back.
 const EVEN_THIRDS: [(&[Result<u32, u32>], Made); 2] = [
     (&[Ok(0), Ok(2), Ok(4), Ok(6)], Ok(&[6, 0])),
     (&[Ok(0), Ok(1), Ok(2), Ok(3)], Err(3)),
@@ -109,7 +109,7 @@ fn filter_from_back_keeps_the_same_or_fails_at_the_last_odd(rt: HostRuntime) -> 
     Ok(())
 }
 
-// What the source of `filter_map` with `ten_more_of_even` gives, and what is collected from the back.
+// What the source of `filter_map` with `ten_more_of_even` yields, and what is collected from the back.
 const TEN_MORE_OF_EVEN: [(&[Result<u32, u32>], Made); 2] = [
     (&[Ok(0), Ok(2), Ok(3), Ok(4), Ok(6)], Ok(&[16, 14, 12, 10])),
     (&[Ok(0), Ok(1), Ok(2), Ok(3), Ok(4), Ok(5), Ok(6)], Err(5)),
@@ -123,7 +123,7 @@ fn filter_map_from_back_gives_what_is_made_or_fails_at_5(rt: HostRuntime) -> Res
     Ok(())
 }
 
-// What the predicate of `find` answers, but at 2, where it fails with 29; and what `find` answers from the back.
+// What the predicate of `find` returns, but at 2, where it fails with 29; and what `find` returns from the back.
 const FOUND_FROM_BACK: [(bool, Result<Option<u32>, u32>); 2] = [
     (true, Ok(Some(3))),
     (false, Err(29)),

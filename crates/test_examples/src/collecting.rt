@@ -1,4 +1,4 @@
-// Where a collection of one's own refuses, which no clause promises.
+// Where a collection of one's own fails, which no clause promises.
 use example_chains::collecting::tallied;
 use fallible_iterator::Fault;
 use std::test::Fail;

@@ -8,16 +8,16 @@ use std::test::Fail;
 
 type Reading = Result<u32, u8>;
 
-// A 0, items above and below 10 behind it, and a failure.
+// A 0, items above and below 10 after it, and a failure.
 const LOOPED: [Reading; 6] = [Ok(5), Ok(0), Ok(7), Ok(12), Ok(3), Err(9)];
 
 // Digits, what is none, and a failure.
 const TYPED: [Result<u8, u8>; 4] = [Ok(b'1'), Ok(b'2'), Ok(b'x'), Err(9)];
 
-// A failure with an item behind it.
+// A failure with an item after it.
 const FAILING: [Reading; 3] = [Ok(101), Err(9), Ok(700)];
 
-// Two items behind a 0.
+// Two items after a 0.
 const BEHIND: [Reading; 4] = [Ok(5), Ok(0), Ok(600), Ok(501)];
 
 #[test]

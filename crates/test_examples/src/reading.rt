@@ -1,4 +1,4 @@
-// What a source over a reader answers. Its clauses leave open when it fails.
+// What a source over a reader returns. Its clauses leave open when it fails.
 use example_by_hand::reading::{Bytes, ReadFailed, newlines_of_three};
 use fallible_iterator::FallibleIterator;
 use std::io::{self, ErrorKind, Read};

@@ -41,7 +41,7 @@ fn from_the_back(rt: HostRuntime) -> Result<(), Fail> {
     expect_same(&found, &BEHIND_TWO)
 }
 
-// The answers, what `rposition` gives, and what is left then.
+// The answers, what `rposition` returns, and what is left then.
 const PLACES: [(&[Result<u32, u32>], (Result<Option<usize>, u32>, Drawn)); 4] = [
     (
         &[Ok(1), Ok(5), Ok(2), Ok(3), Ok(5)],

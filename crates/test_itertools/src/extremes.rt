@@ -87,7 +87,7 @@ fn counted_and_joined(rt: HostRuntime) -> Result<(), Fail> {
 // So many that their text has 1,003 bytes.
 const MANY: [Result<u32, u32>; 201] = [Ok(100); 201];
 
-// Memory is not refused after some keys, or some bytes.
+// No allocation fails after some keys, or some bytes.
 #[test]
 fn many_are_counted_and_joined(rt: HostRuntime) -> Result<(), Fail> {
     let counts = numbers(&MANY)

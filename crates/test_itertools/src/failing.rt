@@ -1,4 +1,4 @@
-// The adapters that act on failures. The source goes on behind a failure and behind an end.
+// The adapters that act on failures. The source goes on after a failure and after an end.
 use crate::rows::{Drawn, END, expect_same, folded_after};
 use fallible_iterator::Answer::{End, Failure, Item};
 use fallible_iterator::Side::{Back, Front};
@@ -36,10 +36,10 @@ const FAULTY: [Result<u32, u32>; 10] = [
     Ok(4),
 ];
 
-// What is drawn first, and then the fold of what is left, as digits, and what the source gives next.
+// What is drawn first, and then the fold of what is left, as digits, and what the source yields next.
 type Folded = (&'static [Answer<u32, u32>], (Result<u32, u32>, Drawn));
 
-// A fold goes on behind a failure that became an item or nothing, and stops at an end and at a failure.
+// A fold goes on after a failure that became an item or nothing, and stops at an end and at a failure.
 const RECOVERED: [Folded; 4] = [
     (
         &[Item(3), Item(1), End, Failure(70), Item(2), Item(4), End],
@@ -73,7 +73,7 @@ fn or_else_puts_items_failures_and_nothing_in_the_place_of_failures(
     expect_hinted_numbers(&rt, &mut numbers(&BOTH_ENDS).or_else(recover), &HINTED)
 }
 
-// One more failure that was shown, behind the digits of those before.
+// One more failure that was shown, after the digits of those before.
 fn show(shown: &mut u32, e: u32) {
     *shown = shown.wrapping_mul(10).wrapping_add(e);
 }

@@ -24,12 +24,12 @@ fn digits(items: Vec<u32>) -> u32 {
 
 const FOUR: [Drawn; 4] = [Ok(Some(1)), Ok(Some(2)), Ok(Some(3)), Ok(Some(4))];
 
-// How many items a batch has, what the source answers, and what the batches are, as digits.
+// How many items a batch has, what the source returns, and what the batches are, as digits.
 const BATCHES: [(usize, &[Drawn], &[Answer<u32, TestError>]); 4] = [
     (2, &FOUR, &[Item(12), Item(34), End, End]),
     (3, &FOUR, &[Item(123), Item(4), End]),
     (1, &FOUR, &[Item(1), Item(2), Item(3), Item(4), End]),
-    // An end and a failure come behind the short batch, and the next call goes on.
+    // An end and a failure come after the short batch, and the next call goes on.
     (
         2,
         &[
@@ -105,7 +105,7 @@ const BEHIND: (
     Result<Option<(u32, u32)>, TestError>,
 ) = (Ok(Some(777)), Ok(Some((7, 7))));
 
-// A draw asks no bound of its source.
+// A draw requires no bound of its source.
 #[test]
 fn batches_and_pairs_come_of_a_source_with_no_end(rt: HostRuntime) -> Result<(), Fail> {
     let mut batches = repeat::<u32, TestError>(7)

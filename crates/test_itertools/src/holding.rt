@@ -1,4 +1,4 @@
-// The adapters that hold. The source goes on behind an end.
+// The adapters that hold. The source goes on after an end.
 use crate::rows::{Drawn, END, Folded, expect_same, folded_after, script};
 use fallible_iterator::Answer::{End, Failure, Item};
 use fallible_iterator::{Answer, FallibleIterator};
@@ -21,7 +21,7 @@ const EQUAL: [Drawn; 8] = [
     Ok(Some(3)),
 ];
 
-// What is held comes before the end or the failure, which is the next answer. A fold stops there, and the next one goes on behind it.
+// What is held comes before the end or the failure, which is the next answer. A fold stops there, and the next one goes on after it.
 const DEDUPED: [Folded; 4] = [
     (
         &EQUAL,
@@ -187,7 +187,7 @@ const PAIRED: [Result<Option<u32>, TestError>; 6] = [
     Ok(Some(4)),
 ];
 
-// What is hinted, and what five draws answer.
+// What is hinted, and what five draws return.
 const WINDOWS: (Hint, [Result<Option<(u32, u32)>, TestError>; 5]) = (
     (0, None),
     [

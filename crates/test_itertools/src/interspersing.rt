@@ -1,4 +1,4 @@
-// `intersperse`. The source goes on behind an end.
+// `intersperse`. The source goes on after an end.
 use crate::rows::expect_same;
 use fallible_iterator::Answer::{End, Failure, Item};
 use fallible_iterator::{Answer, FallibleIterator, convert};
@@ -95,7 +95,7 @@ fn intersperse_loses_nothing_where_a_clone_is_refused(rt: HostRuntime) -> Result
 
 const FOUR: [Result<u32, TestError>; 4] = [Ok(1), Ok(2), Ok(7), Ok(3)];
 
-// The separator, what the fold gives that stops at a 7, and what is drawn next.
+// The separator, what the fold returns that stops at a 7, and what is drawn next.
 const STOPPED: [(u32, (Result<u32, TestError>, Drawn)); 2] = [
     (7, (Err(TestError::Number(1)), Ok(Some(2)))),
     (0, (Err(TestError::Number(1020)), Ok(Some(0)))),

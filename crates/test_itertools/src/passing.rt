@@ -1,4 +1,4 @@
-// The adapters that let answers pass.
+// The adapters that let items pass.
 use crate::rows::{Drawn, END, Folded, expect_same, folded_after, script};
 use fallible_iterator::Answer::{End, Failure, Item};
 use fallible_iterator::Side::{Back, Front};
@@ -16,7 +16,7 @@ const SIDES: [Side; 5] = [Front, Back, Front, Back, Front];
 
 const COPIED: [Answer<u32, u32>; 5] = [Item(1), Item(3), Failure(9), Item(2), End];
 
-// What is hinted, what the fold gives, and what is drawn then.
+// What is hinted, what the fold returns, and what is drawn then.
 const COPIED_FOLD: (Hint, Result<u32, u32>, Drawn) = ((4, Some(4)), Err(9), Ok(Some(2)));
 
 #[test]
@@ -41,7 +41,7 @@ const FAILING: [Drawn; 7] = [
     Ok(Some(6)),
 ];
 
-// A fold draws nothing behind the refused item.
+// A fold draws nothing after the rejected item.
 const INCLUSIVE: [Folded; 4] = [
     (&LOW, &[Item(1), Item(5), End, End], (Ok(0), Ok(Some(2)))),
     (&LOW, &[], (Ok(15), Ok(Some(2)))),
@@ -84,7 +84,7 @@ const SHORT_FAILING: [Drawn; 6] = [
     Ok(Some(4)),
 ];
 
-// What a source answers, what is drawn first, and then the fold of what is left, and two draws of what was peeked into.
+// What a source returns, what is drawn first, and then the fold of what is left, and two draws of what was peeked into.
 type Left = (
     &'static [Drawn],
     &'static [Answer<u32, u32>],

@@ -8,13 +8,13 @@ use test_support::closures::put_behind;
 use test_support::expected_numbers::expect_numbers;
 use test_support::scripted::Script;
 
-/// What a draw answers.
+/// What a draw returns.
 pub type Drawn = Result<Option<u32>, u32>;
 
 /// An end.
 pub const END: Drawn = Ok(None);
 
-/// What a source answers, what is drawn first, and then the fold of what is left, as digits, and what the source gives next.
+/// What a source returns, what is drawn first, and then the fold of what is left, as digits, and what the source yields next.
 pub type Folded = (
     &'static [Drawn],
     &'static [Answer<u32, u32>],

@@ -46,7 +46,7 @@ fn fold_while_stops_where_it_is_done_or_fails(rt: HostRuntime) -> Result<(), Fai
     Ok(())
 }
 
-// The answers, whether their last digits never go down, and what the next draw answers.
+// The answers, whether their last digits never go down, and what the next draw returns.
 const SORTED: [(Numbers, (Result<bool, u32>, Drawn)); 7] = [
     (&[], (Ok(true), Ok(None))),
     (&[Ok(55)], (Ok(true), Ok(None))),

@@ -9,7 +9,7 @@ use test_support::numbers::numbers;
 
 type Numbers = &'static [Result<u32, u32>];
 
-// The answers, what `checked_sum` gives, and what the next draw does.
+// The answers, what `checked_sum` returns, and what the next draw does.
 const SUMS: [(Numbers, (Drawn, Drawn)); 5] = [
     (&[], (Ok(Some(0)), Ok(None))),
     (&[Ok(5), Ok(6), Ok(7)], (Ok(Some(18)), Ok(None))),

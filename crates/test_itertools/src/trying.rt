@@ -31,7 +31,7 @@ const FOUR: [Result<u32, u32>; 4] = [Ok(5), Ok(6), Ok(7), Ok(8)];
 
 const FAILING: [Result<u32, u32>; 3] = [Ok(5), Err(9), Ok(7)];
 
-// The answers, at which item the closure fails, and what the search answers and the next draw does.
+// The answers, at which item the closure fails, and what the search returns and the next draw does.
 const EACH: [(Numbers, u32, (Result<(), Failed>, Drawn)); 4] = [
     (&FOUR, NOWHERE, (Ok(()), Ok(None))),
     (&FOUR, 6, (Err(Failed::Closure(6)), Ok(Some(7)))),
@@ -39,7 +39,7 @@ const EACH: [(Numbers, u32, (Result<(), Failed>, Drawn)); 4] = [
     (&FAILING, 5, (Err(Failed::Closure(5)), Err(9))),
 ];
 
-// The answers, which item is looked for, at which the closure fails, and what the search answers and the next draw does.
+// The answers, which item is looked for, at which the closure fails, and what the search returns and the next draw does.
 const FOUND: [(Numbers, u32, u32, (Result<Option<u32>, Failed>, Drawn)); 6] = [
     (&FOUR, 6, NOWHERE, (Ok(Some(6)), Ok(Some(7)))),
     (&FOUR, 7, 6, (Err(Failed::Closure(6)), Ok(Some(7)))),

@@ -1,4 +1,4 @@
-// The adapter that begins anew at each end.
+// The adapter that starts anew at each `Ok(None)`.
 ghost use Rattle.std.specs.Prelude.{◌≡◌, ◌+◌, ◌≤◌, MatchResult, MatchOption};
 ghost use Rattle.std.proofs.Common.{rules};
 ghost use Rattle.fallible_iterator.specs.Contract.{counted_contract};
@@ -82,7 +82,7 @@ fn cycle_answers_the_end_that_a_clone_begins_with(rt: HostRuntime) -> Result<(),
     expect_answers(&rt, &mut it, &[End, Item(5), End, Item(5)])
 }
 
-// Gives 1, 2, and then ends. Its second clone is refused.
+// Yields 1, 2, and then ends. Its second clone fails.
 #[derive(Drop)]
 struct Pair<'a> {
     left: u32,
@@ -133,7 +133,7 @@ impl<'a> FallibleIterator for Pair<'a> {
     ghost lawful = { Prim.search rules };
 }
 
-// Whether a pair is cycled after so many clones. Fails the test where that gives other answers.
+// Whether a pair is cycled after so many clones. Fails the test where that yields other answers.
 fn is_cycled(
     rt: &HostRuntime,
     clones: u32,
@@ -154,7 +154,7 @@ fn is_cycled(
     }
 }
 
-// How many clones were made, whether the pair is cycled, and what the cycle then answers.
+// How many clones were made, whether the pair is cycled, and what the cycle then returns.
 const REFUSED: [(u32, bool, &[Answer<u32, TestError>]); 2] = [
     (
         0,

@@ -35,7 +35,7 @@ fn flatten_drops_an_inner_iterator_at_its_end(rt: HostRuntime) -> Result<(), Fai
     expect_numbers(&rt, &mut it, &[Item(1), Failure(7), End])
 }
 
-// What the range gives.
+// What the range yields.
 fn ranged(range: Range<u32>) -> Result<IntoFallible<Range<u32>>, Infallible> {
     Ok(IntoFallible::from(range))
 }
@@ -117,7 +117,7 @@ where
     ([first, second], it.next())
 }
 
-// The same of a flat_map whose closure answers the inner iterator as it is.
+// The same of a flat_map whose closure returns the inner iterator as it is.
 fn draws_flat_mapped<U: FallibleIterator<Item = u32, Error = u32>>(inner: U) -> [Drawn; 2]
 where
     U: Drop,
@@ -138,7 +138,7 @@ where
         .fold(0, add_up)
 }
 
-// Gives the answers of the script.
+// Yields the answers of the script.
 fn given(alloc: Global, script: &[Drawn]) -> Result<Take<Script<u32, u32>>, AllocError>
     ensures { IfOk result
         (λ s. ⟦<Take<Script<u32, u32>> as FallibleIterator>⟧.contract.bound s 9) }
@@ -147,7 +147,7 @@ fn given(alloc: Global, script: &[Drawn]) -> Result<Take<Script<u32, u32>>, Allo
     Ok(Script { answers }.take(9))
 }
 
-// What two draws of a flatten of this inner iterator answer, and what that gives next; and the same of a flat_map.
+// What two draws of a flatten of this inner iterator return, and what that yields next; and the same of a flat_map.
 fn drawn_and_left(alloc: Global, inner: &[Drawn]) -> Result<[([Drawn; 2], Drawn); 2], AllocError> {
     let mut flat = given(alloc, inner)?;
     let mut mapped = given(alloc, inner)?;
@@ -159,7 +159,7 @@ fn drawn_and_left(alloc: Global, inner: &[Drawn]) -> Result<[([Drawn; 2], Drawn)
 
 const ONE_END_TWO: [Drawn; 3] = [Ok(Some(1)), END, Ok(Some(2))];
 
-// What the inner iterator gives, what two draws answer, and what it gives next.
+// What the inner iterator yields, what two draws return, and what it yields next.
 const DRAWN: [(&[Drawn], ([Drawn; 2], Drawn)); 2] = [
     (&ONE_END_TWO, ([Ok(Some(1)), END], Ok(Some(2)))),
     (&[END, Ok(Some(2))], ([END, END], Ok(Some(2)))),
@@ -185,14 +185,14 @@ fn folds_of_flatten_and_flat_map_draw_nothing_after_an_inner_end(
     Ok(())
 }
 
-// What a draw and a fold that is stopped come to, and what the inner iterator gives next.
+// What a draw and a fold that is stopped come to, and what the inner iterator yields next.
 fn stopped_and_left(alloc: Global, inner: &[Drawn]) -> Result<(Stopped, [Drawn; 2]), AllocError> {
     let mut inner = given(alloc, inner)?;
     let stopped = draw_and_stop(&mut inner);
     Ok((stopped, [inner.next(), inner.next()]))
 }
 
-// What the inner iterator gives, what a draw and a fold that is stopped come to, and what it gives next. In the second the end is met by the inner iterator in hand.
+// What the inner iterator yields, what a draw and a fold that is stopped come to, and what it yields next. In the second the end is met by the inner iterator in hand.
 const STOPPED: [(&[Drawn], Stopped, [Drawn; 2]); 2] = [
     (
         &[Ok(Some(1)), Ok(Some(2)), END, Ok(Some(3))],

@@ -12,7 +12,7 @@ use test_support::numbers::numbers;
 use test_support::scripted::{Script, scripted};
 use test_support::test_error::TestError;
 
-// What a draw answers.
+// What a draw returns.
 type Drawn = Result<Option<u32>, u32>;
 
 #[test]
@@ -52,7 +52,7 @@ fn chain_hints_at_no_more_than_fits(rt: HostRuntime) {
 // A course of hints and answers.
 type Course = &'static [(Hint, &'static [Answer<u32, u32>])];
 
-// What the front answers, the one item behind it, and the course of their chain. It draws the front on after a failure.
+// What the front returns, the one item after it, and the course of their chain. It draws the front on after a failure.
 const CHAINED: [(&[Result<u32, u32>], u32, Course); 3] = [
     (
         &[Ok(1), Err(9)],
@@ -91,7 +91,7 @@ fn chain_hints_at_the_sides_that_are_still_drawn(rt: HostRuntime) -> Result<(), 
     Ok(())
 }
 
-// What the first and the second give, the course of their chain, and what the first gives next. The second is drawn at the first's end.
+// What the first and the second yield, the course of their chain, and what the first yields next. The second is drawn at the first's end.
 const UP_TO_THE_END: [(&[Drawn], &[Result<u32, u32>], Course, Drawn); 2] = [
     (
         &[Ok(None)],
@@ -125,7 +125,7 @@ type PairCourse = &'static [(Hint, &'static [Answer<(u32, u32), u32>])];
 
 const TENS: [Result<u32, u32>; 3] = [Ok(10), Ok(20), Ok(30)];
 
-// What the left and the right give, the course of their zip, and what the right gives next. It hints at the shorter side.
+// What the left and the right yield, the course of their zip, and what the right yields next. It hints at the shorter side.
 const ZIPPED: [(&[Result<u32, u32>], &[Result<u32, u32>], PairCourse, Drawn); 3] = [
     (
         &[Ok(1)],

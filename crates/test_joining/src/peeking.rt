@@ -17,7 +17,7 @@ use test_support::test_error::TestError;
 
 type Drawn = Result<Option<u32>, u32>;
 
-// A call of what looks ahead, with what it answers.
+// A call of what looks ahead, with what it returns.
 #[derive(Debug, PartialEq, Eq, Drop)]
 enum Look {
     // `peek`
@@ -57,7 +57,7 @@ fn sum_up_to_two(total: u32, x: u32) -> Result<u32, u32> {
     }
 }
 
-// Makes the calls of what looks ahead in a script, one after another. Fails the test where one answers otherwise.
+// Makes the calls of what looks ahead in a script, one after another. Fails the test where one returns otherwise.
 fn expect_looks(rt: &HostRuntime, script: &[Drawn], expected: &[Look]) -> Result<(), Fail> {
     let answers = script.to_vec(rt.alloc())?.into_iter();
     let mut it = Script { answers }.peekable();
@@ -303,7 +303,7 @@ fn what_is_looked_at_is_the_next_item(rt: HostRuntime) {
     }
 }
 
-// Whether the closure accepts the item, what is answered, and how often it was called by then.
+// Whether the closure accepts the item, what is returned, and how often it was called by then.
 const CALLS: [(bool, Drawn, u32); 3] = [
     (false, Ok(None), 1),
     (true, Ok(Some(1)), 2),

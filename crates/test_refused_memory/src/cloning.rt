@@ -1,4 +1,4 @@
-// A clone of each struct, each of its requests refused in turn: each struct's clone is the clone of each of its parts.
+// A clone of each struct, each of its allocations failing in turn: each struct's clone is the clone of each of its parts.
 use fallible_iterator::Answer::{End, Failure, Item};
 use fallible_iterator::{
     FallibleIterator, IntoFallible, convert, empty, from_fn, once, once_err, repeat, repeat_err,
@@ -21,7 +21,7 @@ use test_support::{asking, course};
 // A case of numbers, or of items with numbers.
 type NumbersCase = Case<'static, u32, TestError>;
 
-// A failure whose clone asks.
+// A failure whose clone allocates.
 type Asked<'a> = asking::Failure<'a>;
 
 // What is hinted at two items, at one, and at none.
@@ -46,7 +46,7 @@ const OF_CONVERT: NumbersCase = Case {
     expected: &[Item(1), Item(2), End],
 };
 
-// A closure is `Clone` only where it is `Copy`, so its clone asks for no memory.
+// A closure is `Clone` only where it is `Copy`, so its clone allocates nothing.
 const OF_FROM_FN: NumbersCase = Case {
     name: "FromFn",
     requests: 0,
@@ -334,7 +334,7 @@ const OF_TAKE_WHILE_AND_FUSE: NumbersCase = Case {
     expected: &[Item(1), End, End],
 };
 
-// The clone only ends, where the source gives 3 next.
+// The clone only ends, where the source yields 3 next.
 const OF_TAKE_WHILE_BEHIND_ITS_END: NumbersCase = Case {
     name: "TakeWhile behind its end",
     requests: 1,

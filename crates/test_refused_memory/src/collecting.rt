@@ -1,4 +1,4 @@
-// Collections that refuse to be made, or refuse each item in turn.
+// Collections whose creation fails, or that reject each item in turn.
 ghost use Rattle.std.specs.Prelude.{⊤};
 
 use fallible_iterator::{Collect, FallibleIterator, Fault};
@@ -9,7 +9,7 @@ use test_support::listed::listed;
 use test_support::requests::Requests;
 use test_support::test_error::TestError;
 
-// The numbers of its items, each of which asks as it is pushed.
+// The numbers of its items, each of which allocates as it is pushed.
 #[derive(Debug, PartialEq, Drop)]
 struct Kept {
     values: Vec<u32>,
@@ -91,7 +91,7 @@ fn numbers_of_both(came: &Came<(Kept, Kept)>) -> Came<(&[u32], &[u32])> {
     }
 }
 
-// The number that the source gives next.
+// The number that the source yields next.
 fn next_of(drawn: Result<Option<Number<'_>>, TestError>) -> Option<u32> {
     match drawn {
         Ok(Some(item)) => Some(item.value),
@@ -139,7 +139,7 @@ fn is_even(x: &Number<'_>) -> Result<bool, TestError> {
     Ok(x.value % 2 == 0)
 }
 
-// The push that is refused, what `collect` makes then, the next number of the source, and how many pushes were made. No item is pushed after one that is refused.
+// The push that fails, what `collect` makes then, the next number of the source, and how many pushes were made. No item is pushed after one that is rejected.
 const COLLECTED: [(u32, Came<&[u32]>, Option<u32>, u32); 5] = [
     (0, Came::Refused, Some(2), 1),
     (1, Came::Refused, Some(3), 2),
@@ -199,7 +199,7 @@ fn unzipped<'a, C: Collect<Number<'a>>, D: Collect<Number<'a>>>(
     Ok((outcome_of(made), next_of(next)))
 }
 
-// The same of `unzip`. Each pair asks twice, first for its first half; where that is refused, it asks no more.
+// The same of `unzip`. Each pair allocates twice, first for its first half; if that fails, it allocates no more.
 const UNZIPPED: [(u32, Came<(&[u32], &[u32])>, Option<u32>, u32); 9] = [
     (0, Came::Refused, Some(2), 1),
     (1, Came::Refused, Some(2), 2),

@@ -1,14 +1,14 @@
-// Draws that clone, each clone refused in turn.
+// Draws that clone, each clone failing in turn.
 use fallible_iterator::{FallibleIterator, convert, repeat, repeat_err};
 use test_support::asking::{Failure, Number};
 use test_support::counting::Counting;
 use test_support::requests::Requests;
 use test_support::test_error::TestError;
 
-// What a draw answers, by the number of its item.
+// What a draw returns, by the number of its item.
 type Drawn = Result<Option<u32>, TestError>;
 
-// The number, and none for the failure that is no refusal.
+// The number, and none for the failure that is no allocation failure.
 fn value(drawn: Result<Option<Number<'_>>, Failure<'_>>) -> Drawn {
     match drawn {
         Ok(item) => Ok(item.map(|item| item.value)),
@@ -65,7 +65,7 @@ enum Draws {
     RepeatErr,
 }
 
-// What they answer.
+// What they return.
 fn drawn(draws: Draws, requests: &Requests) -> [Drawn; 4] {
     match draws {
         Draws::Cloned => cloned(requests),
@@ -74,7 +74,7 @@ fn drawn(draws: Draws, requests: &Requests) -> [Drawn; 4] {
     }
 }
 
-// The answers of items and of the failure, of a refused clone, and of an end.
+// The answers of items and of the failure, of a failed clone, and of an end.
 const ONE: Drawn = Ok(Some(1));
 
 const TWO: Drawn = Ok(Some(2));
@@ -89,7 +89,7 @@ const MEMORY: Drawn = Err(TestError::Memory);
 
 const ENDED: Drawn = Ok(None);
 
-// The number of the refused clone, what the draws answer then, and whether that clone is asked for. `cloned` loses the item whose clone is refused. `repeat` keeps its value, and `repeat_err` its failure.
+// The number of the failed clone, what the draws return then, and whether that clone is made. `cloned` loses the item whose clone fails. `repeat` keeps its value, and `repeat_err` its failure.
 const DRAWN: [(Draws, u32, [Drawn; 4], bool); 15] = [
     (Draws::Cloned, 0, [MEMORY, TWO, THREE, ENDED], true),
     (Draws::Cloned, 1, [ONE, MEMORY, THREE, ENDED], true),
@@ -118,7 +118,7 @@ fn draws_whose_clone_is_refused_answer_it_and_go_on(rt: HostRuntime) {
     }
 }
 
-// Eight draws of a cycle of 1 and 2; none where the first clone is refused.
+// Eight draws of a cycle of 1 and 2; none where the first clone fails.
 fn cycled(requests: &Requests) -> Option<[[Drawn; 4]; 2]> {
     match Counting::new(1, 3, requests).cycle() {
         Ok(mut it) => Some([four(&mut it), four(&mut it)]),
@@ -126,7 +126,7 @@ fn cycled(requests: &Requests) -> Option<[[Drawn; 4]; 2]> {
     }
 }
 
-// The same of a cycle. After a refused clone the run stays past its end, and the next draw clones again.
+// The same of a cycle. After a failed clone the run stays past its end, and the next draw clones again.
 const CYCLED: [(u32, Option<[[Drawn; 4]; 2]>, bool); 5] = [
     (0, None, true),
     (

@@ -1,4 +1,4 @@
-//! Refused memory: collections, items, failures and sources of the tests' own refuse each request in turn, and the tests look at what came of it.
+//! Allocation failures: collections, items, failures and sources of the tests' own fail each allocation in turn, and the tests look at what came of it.
 #![tactic(auto)]
 
 #[cfg(test)]

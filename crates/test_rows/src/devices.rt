@@ -6,7 +6,7 @@ use std::io::{BufReader, ErrorKind, Read, Write};
 use std::process::Abort;
 use std::test::Fail;
 
-// Gives so many bytes a read at most, but for one read, which fails. The reads after it go on with the bytes.
+// Yields so many bytes a read at most, but for one read, which fails. The reads after it go on with the bytes.
 #[derive(Drop)]
 struct Device<'a> {
     bytes: &'a [u8],
@@ -108,7 +108,7 @@ fn closed(bytes: &[u8]) -> &[u8] {
     }
 }
 
-// What `run` answers over the device, and what it wrote: through a buffer of so many bytes, or with none by single bytes.
+// What `run` returns over the device, and what it wrote: through a buffer of so many bytes, or with none by single bytes.
 fn run_on(
     alloc: Global,
     device: &mut Device<'_>,
@@ -140,7 +140,7 @@ fn report_of(
     }
 }
 
-// Each read fails in turn, until a run meets none that fails: it answers as all bytes say. Where a read failed, the fault is that of a row that was closed before, or `Read`, and nothing is written.
+// Each read fails in turn, until a run meets none that fails: it returns what all bytes say. Where a read failed, the fault is that of a row that was closed before, or `Read`, and nothing is written.
 fn expect_each_read_failed(
     rt: &impl Abort,
     alloc: Global,

@@ -8,7 +8,7 @@ use std::io::{BufReader, ErrorKind, Read, Write};
 use std::process::Abort;
 use std::test::Fail;
 
-// Gives one byte at a time, and fails after the last one.
+// Yields one byte at a time, and fails after the last one.
 #[derive(Drop)]
 struct BrokenReader<'a> {
     bytes: &'a [u8],
@@ -28,7 +28,7 @@ impl Read for BrokenReader<'_> {
     }
 }
 
-// Gives one byte at a time.
+// Yields one byte at a time.
 #[derive(Drop)]
 struct SlowReader<'a>(&'a [u8]);
 
@@ -39,7 +39,7 @@ impl Read for SlowReader<'_> {
     }
 }
 
-// Gives one byte at a time, but for one read, which fails. The reads after it go on with the bytes.
+// Yields one byte at a time, but for one read, which fails. The reads after it go on with the bytes.
 #[derive(Drop)]
 struct FalteringReader<'a> {
     bytes: &'a [u8],
@@ -81,7 +81,7 @@ impl Write for BrokenWriter {
     }
 }
 
-// What `run` answers, and what it wrote.
+// What `run` returns, and what it wrote.
 fn run_on<R: Read + Drop>(alloc: Global, reader: &mut R) -> (Result<(), RowFault>, Vec<u8>) {
     let mut written = Vec::new(alloc);
     let outcome = run(alloc, reader, &mut written);
@@ -233,7 +233,7 @@ fn run_answers_a_read_that_fails_once_and_reads_no_more(rt: HostRuntime) {
     }
 }
 
-// What `run` answers over a reader that gives these bytes and then fails.
+// What `run` returns over a reader that yields these bytes and then fails.
 fn run_on_broken(alloc: Global, bytes: &[u8]) -> Result<(), RowFault> {
     let mut reader = BrokenReader {
         bytes,
@@ -474,7 +474,7 @@ fn rows_reads_nothing_where_it_is_made_and_after_a_failed_read(rt: HostRuntime) 
     assert_eq!(rt; reader.reads, 4);
 }
 
-// What the first five draws answer of the rows `12`, `x` and `3`, where a read fails after so many of them closed.
+// What the first five draws return of the rows `12`, `x` and `3`, where a read fails after so many of them closed.
 fn answers_up_to_a_failed_read(closed: u32) -> [Answer<u64, RowFault>; 5] {
     match closed {
         0 => [

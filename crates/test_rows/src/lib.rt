@@ -1,4 +1,4 @@
-//! Vectors: what the program on rows answers to inputs worked out by hand, and over devices that fail or give and take in pieces. They stand apart, so that the rows are proved once.
+//! Vectors: what the program on rows returns for inputs worked out by hand, and over devices that fail or yield and take in pieces. They stand apart, so that the rows are proved once.
 #![tactic(auto)]
 
 #[cfg(test)]

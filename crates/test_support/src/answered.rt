@@ -1,4 +1,4 @@
-//! What the next draws answer.
+//! What the next draws return.
 ghost use Rattle.fallible_iterator.specs.Contract.{KeptByDraws};
 ghost use Rattle.fallible_iterator.specs.Ends.{from_front};
 

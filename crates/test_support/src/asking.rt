@@ -1,4 +1,4 @@
-//! Values of which each clone asks for memory.
+//! Values of which each clone allocates.
 ghost use Rattle.std.specs.Prelude.{nat_eq};
 ghost use Rattle.std.specs.Ordering.{on};
 ghost use Rattle.std.specs.Cmp.{on_per, partial_equiv_from_equiv, nat_eq_equiv};
@@ -11,7 +11,7 @@ use std::alloc::AllocError;
 pub struct Number<'a> {
     /// the number
     pub value: u32,
-    /// where it asks
+    /// where it allocates
     pub requests: &'a Requests,
 }
 
@@ -29,7 +29,7 @@ impl<'a> Clone for Number<'a> {
     }
 }
 
-/// What asks for memory where it is kept.
+/// What allocates where it is kept.
 pub trait Asking: Drop + Sized {
     /// Its number, where the request is met.
     fn keep(self) -> Result<u32, AllocError>;
@@ -52,12 +52,12 @@ impl PartialEq for Number<'_> {
     }
 }
 
-/// A failure whose own clone asks, or the one that a refusal becomes.
+/// A failure whose own clone allocates, or the one that an allocation failure becomes.
 #[derive(Clone, Debug, PartialEq, Drop)]
 pub enum Failure<'a> {
-    /// a failure that is no refusal
+    /// a failure that is no allocation failure
     Own(Number<'a>),
-    /// what a refused request becomes
+    /// what a failed allocation becomes
     Memory,
 }
 

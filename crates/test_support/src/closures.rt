@@ -1,6 +1,6 @@
 //! What the tests hand to adapters and consumers.
 
-/// The items as digits, each behind those that came before.
+/// The items as digits, each after those that came before.
 pub fn put_behind(digits: u32, x: u32) -> Result<u32, u32> {
     Ok(digits.wrapping_mul(10).wrapping_add(x))
 }

@@ -1,4 +1,4 @@
-//! What `collect` answers.
+//! What `collect` returns.
 use fallible_iterator::Fault;
 use std::fmt::Debug;
 use std::test::Fail;
@@ -36,7 +36,7 @@ where
     }
 }
 
-/// Fails the test where memory was not refused.
+/// Fails the test unless an allocation failed.
 pub fn expect_refused<C, E>(made: Result<C, Fault<E>>) -> Result<(), Fail>
 where
     C: Drop,

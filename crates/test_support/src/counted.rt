@@ -74,7 +74,7 @@ impl Log {
     }
 }
 
-/// A fallible iterator that adds one to its log for each call from outside, and answers as the one that it holds. Each of its calls is that one's call of the same name, which is not counted.
+/// A fallible iterator that adds one to its log for each call from outside, and returns what the one returns that it holds. Each of its calls is that one's call of the same name, which is not counted.
 #[derive(Drop)]
 pub struct Counted<'a, I> {
     it: I,

@@ -10,7 +10,7 @@ use std::slice::Iter;
 /// A source over listed answers, whose calls are counted.
 pub type Numbers<'a> = Counted<'a, Convert<Copied<Iter<'a, Result<u32, u32>>>>>;
 
-/// Gives the answers, and adds its calls to `log`.
+/// Yields the answers, and adds its calls to `log`.
 pub fn counted<'a>(answers: &'a [Result<u32, u32>], log: &'a Log) -> Numbers<'a>
     ensures can_next { ⟦<Counted<'a, Convert<Copied<Iter<'a, Result<u32, u32>>>>> as FallibleIterator>⟧.contract.can_next
         result }

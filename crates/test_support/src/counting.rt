@@ -1,4 +1,4 @@
-//! A source of which each clone asks for memory.
+//! A source of which each clone allocates.
 ghost use Rattle.std.specs.Prelude.{◌≡◌, ◌+◌, ◌-◌, ◌≤◌, MatchResult, MatchOption, Some};
 ghost use Rattle.std.proofs.Common.{rules};
 ghost use Rattle.fallible_iterator.specs.Contract.{counted_contract};
@@ -9,19 +9,19 @@ use crate::test_error::TestError;
 use fallible_iterator::{DoubleEndedFallibleIterator, FallibleIterator};
 use std::alloc::AllocError;
 
-/// Gives the numbers from `from` on that are below `to`, and then ends.
+/// Yields the numbers from `from` on that are below `to`, and then ends.
 #[derive(Debug, Drop)]
 pub struct Counting<'a> {
     /// the next number
     pub from: u32,
-    /// the number behind the last
+    /// the number after the last
     pub to: u32,
-    /// where clones ask
+    /// where clones allocate
     pub requests: &'a Requests,
 }
 
 impl<'a> Counting<'a> {
-    /// From one number up to the one before the other. Its clones ask where it says.
+    /// From one number up to the one before the other. Its clones allocate where it says.
     pub fn new(from: u32, to: u32, requests: &'a Requests) -> Counting<'a> {
         Counting { from, to, requests }
     }
@@ -80,7 +80,7 @@ impl<'a> DoubleEndedFallibleIterator for Counting<'a> {
     ghost lawful_ends = { Prim.search rules };
 }
 
-/// Gives references to two numbers, the first of them for each odd number that it counts, and then ends.
+/// Yields references to two numbers, the first of them for each odd number that it counts, and then ends.
 #[derive(Debug, Drop)]
 pub struct Pointing<'a> {
     /// what counts
@@ -90,7 +90,7 @@ pub struct Pointing<'a> {
 }
 
 impl<'a> Pointing<'a> {
-    /// Points to these numbers. Its clones ask where `counting` does.
+    /// Points to these numbers. Its clones allocate where `counting` does.
     pub fn new(counting: Counting<'a>, numbers: &'a [u32; 2]) -> Pointing<'a> {
         Pointing { counting, numbers }
     }

@@ -1,4 +1,4 @@
-//! What the next draws answer, with the hints before and between them.
+//! What the next draws return, with the hints before and between them.
 ghost use Rattle.fallible_iterator.specs.Contract.{KeptByDraws};
 
 use crate::answered::expect_answers;

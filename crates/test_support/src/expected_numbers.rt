@@ -1,4 +1,4 @@
-//! What draws of numbers answer. It says what `answered` and `course` say, of one type of item and of failure: so a call hands on one bound in place of eight, and takes a third of the proof.
+//! What draws of numbers return. It says what `answered` and `course` say, of one type of item and of failure: so a call passes on one bound in place of eight, and takes a third of the proof.
 ghost use Rattle.fallible_iterator.specs.Contract.{KeptByDraws};
 ghost use Rattle.fallible_iterator.specs.Ends.{from_front};
 

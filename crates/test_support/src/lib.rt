@@ -1,4 +1,4 @@
-//! What the tests share: sources over listed and scripted answers, closures, what draws are expected to answer, iterators that count the calls which they get, and values and sources whose requests for memory are refused.
+//! What the tests share: sources over listed and scripted answers, closures, what draws are expected to return, iterators that count the calls which they get, and values and sources whose allocations fail.
 #![tactic(auto)]
 
 pub mod answered;

@@ -1,4 +1,4 @@
-//! Clones of which each request for memory is refused in turn, and what clones and their originals answer.
+//! Clones of which each allocation fails in turn, and what clones and their originals return.
 ghost use Rattle.fallible_iterator.specs.Contract.{KeptByDraws};
 
 use crate::answered::expect_answers;
@@ -12,7 +12,7 @@ use std::alloc::{AllocError, Global};
 use std::fmt::Debug;
 use std::test::Fail;
 
-/// What a value that is cloned hints, asks and answers.
+/// What a value that is cloned hints, allocates and returns.
 #[derive(Debug, Drop)]
 pub struct Case<'a, T, E> {
     /// what is cloned
@@ -23,14 +23,14 @@ pub struct Case<'a, T, E> {
     pub hints: [Hint; 2],
     /// what the draws before the first clone answer
     pub first: &'a [Answer<T, E>],
-    /// what each clone answers then, and the original after all of them
+    /// what each clone returns then, and the original after all of them
     pub expected: &'a [Answer<T, E>],
 }
 
 /// The name of a case, how many requests a clone makes, and what is hinted at first and after all answers.
 pub type Asks<'a> = (&'a str, u32, [Hint; 2]);
 
-/// Refuses each request of a clone in turn, and then none. Fails the test where a refused request gives a clone or changes a hint, where a clone makes other requests, or where a clone, made before one of the answers expected, or the original, which is drawn from after that, doesn't give those that are left. It does so too where the hint isn't that of the case, or a clone hints otherwise than its original.
+/// Fails each allocation of a clone in turn, and then none. Fails the test where a clone is made though its allocation failed, or that changes a hint, where a clone makes other requests, or where a clone, made before one of the answers expected, or the original, which is drawn from after that, doesn't yield those that are left. It does so too where the hint isn't that of the case, or a clone hints otherwise than its original.
 pub fn expect_refused_clones<I: FallibleIterator + Clone>(
     rt: &HostRuntime,
     requests: &Requests,
@@ -77,7 +77,7 @@ where
     expect_hint(name, last.size_hint(), last_hint)
 }
 
-// Fails the test where a refused request gives a clone or changes the hint, where a clone after it doesn't give the answers expected, or where an unrefused clone makes other requests.
+// Fails the test where a clone is made though its allocation failed, or that changes the hint, where a clone after it doesn't yield the answers expected, or where a clone that doesn't fail makes other requests.
 fn expect_refusals<I: FallibleIterator + Clone>(
     rt: &HostRuntime,
     requests: &Requests,
@@ -118,7 +118,7 @@ where
     }
 }
 
-// Fails the test where a clone, made before one of the answers expected, hints otherwise than its original, or doesn't give those that are left.
+// Fails the test where a clone, made before one of the answers expected, hints otherwise than its original, or doesn't yield those that are left.
 fn expect_clones<I: FallibleIterator + Clone>(
     rt: &HostRuntime,
     it: &mut I,
@@ -151,7 +151,7 @@ fn expect_hint(case: &str, hint: Hint, expected: Hint) -> Result<(), Fail> {
     }
 }
 
-// Fails the test where the next draws answer otherwise.
+// Fails the test where the next draws return otherwise.
 fn expect<I: FallibleIterator>(
     rt: &HostRuntime,
     case: &str,
@@ -187,7 +187,7 @@ where
     expect_refused_clones(rt, requests, it, case)
 }
 
-/// The same of items that ask for memory, of which the case gives the numbers.
+/// The same of items that allocate, of which the case has the numbers.
 pub fn expect_refused_clones_of_asking<
     'a,
     I: FallibleIterator<Item = Number<'a>, Error = TestError> + Clone,
@@ -215,7 +215,7 @@ where
     )
 }
 
-/// Refuses one request, and draws items that ask. Fails the test where they don't give the numbers expected, or make other requests.
+/// Fails one allocation, and draws items that allocate. Fails the test where they don't yield the numbers expected, or make other requests.
 pub fn expect_refused_draw_of_asking<'a, I: FallibleIterator<Item = Number<'a>, Error = TestError>>(
     rt: &HostRuntime,
     requests: &'a Requests,

@@ -1,8 +1,8 @@
-//! Requests for memory, one of which is refused.
+//! Allocations, one of which fails.
 use std::alloc::AllocError;
 use std::cell::Cell;
 
-/// Counts the requests that are made of it, and refuses one of them.
+/// Counts its allocations, and fails one of them.
 #[derive(Debug, Drop)]
 pub struct Requests {
     made: Cell<u32>,
@@ -10,7 +10,7 @@ pub struct Requests {
 }
 
 impl Requests {
-    /// Refuses request number `number`, from 0.
+    /// Fails allocation number `number`, from 0.
     pub fn refusing(number: u32) -> Requests {
         Requests {
             made: Cell::new(0),
@@ -18,13 +18,13 @@ impl Requests {
         }
     }
 
-    /// Counts anew, and refuses request number `number` from here on.
+    /// Counts anew, and fails allocation number `number` from here on.
     pub fn refuse(&self, number: u32) {
         self.made.set(0);
         self.refused.set(number);
     }
 
-    /// Counts anew, and refuses none.
+    /// Counts anew, and fails none.
     pub fn refuse_none(&self) {
         self.refuse(u32::MAX);
     }
@@ -45,7 +45,7 @@ impl Requests {
         self.made.get()
     }
 
-    /// Whether the one that is to be refused was made.
+    /// Whether the one that is to fail was made.
     pub fn met(&self) -> bool {
         self.refused.get() < self.made.get()
     }

@@ -1,8 +1,8 @@
-//! What calls answer, beside what they are expected to.
+//! What calls return, beside what they are expected to.
 use std::fmt::Debug;
 use std::test::Fail;
 
-/// Fails the test at the first row whose two values differ: what was answered, and what is expected.
+/// Fails the test at the first row whose two values differ: what was returned, and what is expected.
 pub fn expect_rows<T: Debug + PartialEq>(rows: &[(T, T)]) -> Result<(), Fail> {
     for (answered, expected) in rows {
         if answered != expected {

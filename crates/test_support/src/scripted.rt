@@ -9,7 +9,7 @@ use fallible_iterator::{DoubleEndedFallibleIterator, FallibleIterator};
 use std::alloc::{AllocError, Global};
 use std::vec::IntoIter;
 
-/// Gives the answers, and then ends.
+/// Yields the answers, and then ends.
 #[derive(Clone, Drop)]
 pub struct Script<T, E> {
     /// the answers that are left
@@ -41,7 +41,7 @@ impl<T: Drop, E: Drop> FallibleIterator for Script<T, E> {
     ghost lawful = { Prim.search rules };
 }
 
-// From the back it gives the last answer first.
+// From the back it yields the last answer first.
 impl<T: Drop, E: Drop> DoubleEndedFallibleIterator for Script<T, E> {
     ghost ends = { counted_ends (λ s r t. MatchResult r
         (λ o. MatchOption o (into_iter_len t.answers ≤ into_iter_len s.answers)
@@ -58,7 +58,7 @@ impl<T: Drop, E: Drop> DoubleEndedFallibleIterator for Script<T, E> {
     ghost lawful_ends = { Prim.search rules };
 }
 
-/// A source that gives these answers, and then ends.
+/// A source that yields these answers, and then ends.
 pub fn scripted<T: Drop, E: Drop, const N: usize>(
     alloc: Global,
     answers: [Result<Option<T>, E>; N],

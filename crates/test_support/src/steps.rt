@@ -1,4 +1,4 @@
-//! Calls of a nest of numbers, each beside what it answers and the calls that its sources got by then.
+//! Calls of a nest of numbers, each beside what it returns and the calls that its sources got by then.
 ghost use Rattle.std.specs.Prelude.{◌^◌, ◌-◌};
 ghost use Rattle.fallible_iterator.specs.Contract.{AtMost, KeptByDraws};
 
@@ -28,20 +28,20 @@ pub enum Do {
     Stop,
     /// `try_fold` that fails with its first item
     StopWithItem,
-    /// `try_fold` that fails on its first item: with 7 where that is this one, and else with 8
+    /// `try_fold` that fails on its first item: with 7 where that is this one, and otherwise with 8
     StopAt(u32),
 }
 
-/// What a call answers.
+/// What a call returns.
 pub type Answered = Result<Option<u32>, u32>;
 
-/// A call, what it answers, and the calls that each source got by then, from the first call of the nest on.
+/// A call, what it returns, and the calls that each source got by then, from the first call of the nest on.
 pub type Step<'a> = (Do, Answered, &'a [Calls]);
 
-/// What `count` answers, and the calls that each source got by then.
+/// What `count` returns, and the calls that each source got by then.
 pub type CountStep<'a> = (Result<usize, u32>, &'a [Calls]);
 
-/// What `last` answers, and the calls that each source got by then.
+/// What `last` returns, and the calls that each source got by then.
 pub type LastStep<'a> = (Answered, &'a [Calls]);
 
 // Does the call.
@@ -69,7 +69,7 @@ pub fn stopped_at(is_expected: bool) -> Result<u32, u32> {
     Err(if is_expected { 7 } else { 8 })
 }
 
-/// Fails the test where the call answered otherwise, or brought the sources other calls, by their logs.
+/// Fails the test where the call returned otherwise, or brought the sources other calls, by their logs.
 pub fn expect_calls<T: Debug + PartialEq>(
     call: &impl Debug,
     answered: &T,
@@ -93,7 +93,7 @@ pub fn expect_calls<T: Debug + PartialEq>(
     }
 }
 
-/// Makes the calls, one after another, and fails the test at the first that answers otherwise, or brings the sources other calls by their logs.
+/// Makes the calls, one after another, and fails the test at the first that returns otherwise, or brings the sources other calls by their logs.
 pub fn expect_steps<I: FallibleIterator<Item = u32, Error = u32>>(
     it: &mut I,
     logs: &[&Log],
@@ -111,7 +111,7 @@ where
     Ok(())
 }
 
-/// Fails the test where `count` answers otherwise, or brings the sources other calls by their logs.
+/// Fails the test where `count` returns otherwise, or brings the sources other calls by their logs.
 pub fn expect_count<I: FallibleIterator<Error = u32>>(
     it: I,
     logs: &[&Log],
@@ -125,7 +125,7 @@ where
     expect_calls(&"count", &it.count(), &expected.0, logs, expected.1)
 }
 
-/// Fails the test where `last` answers otherwise, or brings the sources other calls by their logs.
+/// Fails the test where `last` returns otherwise, or brings the sources other calls by their logs.
 pub fn expect_last<I: FallibleIterator<Item = u32, Error = u32>>(
     it: I,
     logs: &[&Log],

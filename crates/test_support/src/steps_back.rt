@@ -1,4 +1,4 @@
-//! Calls of a nest of numbers that has two ends, each beside what it answers and the calls that its sources got by then.
+//! Calls of a nest of numbers that has two ends, each beside what it returns and the calls that its sources got by then.
 ghost use Rattle.fallible_iterator.specs.Ends.{from_back};
 
 use crate::calls::Calls;
@@ -21,11 +21,11 @@ pub enum DoBack {
     DigitsBack,
     /// `try_rfold` that fails with its first item
     StopBack,
-    /// `try_rfold` that fails on the item of this number, counted from 1: with 7 where that is this item, and else with 8
+    /// `try_rfold` that fails on the item of this number, counted from 1: with 7 where that is this item, and otherwise with 8
     StopBackAt(u32, u32),
 }
 
-/// A call, what it answers, and the calls that each source got by then, from the first call of the nest on.
+/// A call, what it returns, and the calls that each source got by then, from the first call of the nest on.
 pub type StepBack<'a> = (DoBack, Answered, &'a [Calls]);
 
 // Does the call.
@@ -56,7 +56,7 @@ where
     }
 }
 
-/// Makes the calls, one after another, and fails the test at the first that answers otherwise, or brings the sources other calls by their logs.
+/// Makes the calls, one after another, and fails the test at the first that returns otherwise, or brings the sources other calls by their logs.
 pub fn expect_steps_back<I: DoubleEndedFallibleIterator<Item = u32, Error = u32>>(
     it: &mut I,
     logs: &[&Log],

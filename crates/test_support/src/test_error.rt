@@ -6,7 +6,7 @@ use std::alloc::AllocError;
 pub enum TestError {
     /// a number that tells failures apart
     Number(u32),
-    /// what a refused request becomes
+    /// what a failed allocation becomes
     Memory,
 }
 

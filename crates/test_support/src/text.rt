@@ -1,4 +1,4 @@
-//! A text whose second clone is refused, the clones of all texts with the same count taken together.
+//! A text whose second clone fails, the clones of all texts with the same count taken together.
 use std::alloc::AllocError;
 use std::cell::Cell;
 

@@ -16,7 +16,7 @@ const TABLE: [u8; 24] = [
     7, 0, 0, 0, 0, 0, 1, 0,
 ];
 
-// Gives its bytes, and then fails at each read.
+// Yields its bytes, and then fails at each read.
 #[derive(Drop)]
 struct BrokenReader<'a> {
     bytes: &'a [u8],
@@ -53,7 +53,7 @@ impl Write for BrokenWriter {
     }
 }
 
-// What `run` answers over these bytes, where a read fails after them.
+// What `run` returns over these bytes, where a read fails after them.
 fn run_on_broken(alloc: Global, bytes: &[u8], kind: ErrorKind) -> Result<(), RunFault> {
     let mut reader = BrokenReader { bytes, kind };
     run(alloc, &mut reader, &mut Vec::new(alloc))
@@ -74,7 +74,7 @@ fn expect_fault(rt: &impl Abort, alloc: Global, mut table: &[u8], fault: TableFa
     assert!(rt; written.is_empty());
 }
 
-// A table of 600 records has more bytes than one read gives.
+// A table of 600 records has more bytes than one read yields.
 #[test]
 fn reports(rt: HostRuntime) -> Result<(), Fail> {
     let alloc = rt.alloc();
