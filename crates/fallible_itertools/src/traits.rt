@@ -545,7 +545,7 @@ pub trait FallibleItertools: FallibleIterator {
 
     // ---- adapters that join
 
-    /// Merges the items of two sources. Of an item of this iterator and the next one of `other`, the closure returns whether the former goes first. If one side returned `Ok(None)`, the other's item is yielded without a call of the closure.
+    /// Merges the items of two sources. Of an item of this iterator and the next one of `other`, the closure returns whether the former goes first. If one side returns `Ok(None)`, the other's item is yielded without a call of the closure.
     ///
     /// Creating it draws nothing. It buffers at most one item of each side. `next` draws this side once if nothing of it is buffered. Then, unless that failed, it draws `other` once if nothing of `other` is buffered. An `Ok(None)` of a side isn't remembered. It fails as either side does, and loses nothing that is buffered. If the closure fails, its failure is yielded, and the two items that it was called on are lost. Its folds draw as `next` does. Bounds of both sides, added up, bound it.
     ///

@@ -84,7 +84,7 @@ fn rows_of(alloc: Global, bytes: &[u8]) -> Result<Vec<&[u8]>, AllocError> {
     Ok(rows)
 }
 
-// What `run` is to answer of all bytes: how many rows are above 100, or the place of the first that is no number.
+// What `run` is to return for all bytes: how many rows are above 100, or the place of the first that is no number.
 fn answer_of(alloc: Global, bytes: &[u8]) -> Result<Result<usize, RowFault>, AllocError> {
     let mut above = 0usize;
     for (place, row) in (1u32..).zip(rows_of(alloc, bytes)?) {
@@ -207,7 +207,7 @@ fn run_over_readers_that_fail_at_each_read_in_turn(rt: HostRuntime) -> Result<()
 
 const TEN_ABOVE: &[u8] = b"101\n102\n103\n104\n105\n106\n107\n108\n109\n110\n";
 
-// What `run` answers of ten rows above 100 over a writer, what that keeps, and whether the failed write was met.
+// What `run` returns for ten rows above 100 over a writer, what that keeps, and whether the failed write was met.
 fn run_into(
     alloc: Global,
     piece: usize,
