@@ -54,7 +54,7 @@ module _ {A B E C : Type 0} (turns : C → A × B → ControlFlow (Result (Optio
     pub right_ran : Run right-steps t (map item (map (λ p. p.1) pairs) ++ where_drawn last_right) right
     pub exit : LastTurnRound state last_left last_right r
 
-  -- The other value became an iterator, as `into` allows, and the comparison with that one returned so.
+  -- The other value became an iterator, as `into` allows, and the comparison with it had this result.
   pub record ComparedByWith {S O T : Type 0} (into : O → T → Type 0) (left-steps : S → Answered A E → S → Type 0) (right-steps : T → Answered B E → T → Type 0) (s : S) (other : O) (c : C) (r : Result (Option Ordering) E) : Type 0 where
     pub right : T
     pub made : into other right

@@ -22,7 +22,7 @@ abbrev pub due_answer : {B E : Type 0} → Option (Option E) → List (Answered 
 due_answer None = []
 due_answer (Some stop) = stop_answer stop ∷ []
 
--- `asks p asked o q`: the adapter holds p, and is called on an item, `Some x`, or on a stop, `None`; it returns o, and holds q then. Of an item:
+-- `asks p asked o q` says that the adapter holds p, is called on an item, `Some x`, or on a stop, `None`, returns o, and holds q then; here for an item.
 abbrev pub asks_item : {P X B E : Type 0} → (P → Option X → Outcome B E → P → Type 0) → P → X → Outcome B E → P → Type 0
 asks_item asks p x o q = asks p (Some x) o q
 
