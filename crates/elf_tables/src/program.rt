@@ -8,7 +8,7 @@ use example_tasks::writing::WriteText;
 use fallible_elf::report::{RunFault, fault_line, run};
 use std::alloc::Global;
 
-// `run` over `input`. The report is made in memory, so it is written whole, and nothing where there is no memory for it.
+// `run` over `input`. The report is made in memory, so it is written whole, and nothing if its allocation fails.
 fn run_whole<R: ReadWhole, W: WriteText>(
     alloc: Global,
     input: &mut R,

@@ -5,7 +5,7 @@ ghost use Rattle.fallible_iterator.specs.Lists.{Lists, CollectedAs, scanned};
 use fallible_iterator::{FallibleIterator, Fault};
 use std::alloc::Global;
 
-/// The running sums of the items, modulo 2 ^ 64. It draws up to the end or the first failure, which is the answer then, as want of memory is.
+/// The running sums of the items, modulo 2 ^ 64. It draws up to `Ok(None)` or the first failure, which is returned then, as an allocation failure is.
 ///
 /// Requires that `next` may be called on the source, and that it is finite.
 pub fn running_sums<I: FallibleIterator<Item = u32>>(

@@ -27,7 +27,7 @@ fn number_at(place: u64, line: &str) -> Result<u64, LineFault>
     number_of(line).ok_or(LineFault::Line(place))
 }
 
-/// The sum of the numbers that lines are, modulo 2 ^ 64. It draws up to the end or the first failure, which is the answer then. It fails with `Line` and the place of a line that is no number; places are counted modulo 2 ^ 64.
+/// The sum of the numbers that lines are, modulo 2 ^ 64. It draws up to `Ok(None)` or the first failure, which is returned then. It fails with `Line` and the place of a line that is no number; places are counted modulo 2 ^ 64.
 ///
 /// Requires that `next` may be called on the source, and that it is finite.
 pub fn sum_of<I: FallibleIterator<Item = String, Error = LineFault>>(

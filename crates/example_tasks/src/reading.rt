@@ -15,7 +15,7 @@ pub trait ReadWhole {
     // What a failure of this kind leaves.
     ghost fails: { ErrorKind → Self → Self → Type 0 };
 
-    /// The bytes up to the end. It fails where a read fails, or where there is no memory for the bytes.
+    /// The bytes up to the end. It fails if a read fails, or the allocation of the bytes.
     fn read_whole(&mut self, alloc: Global) -> io::Result<Vec<u8>>
         ensures { ReadsWhole left fails self.old result self.new };
 }

@@ -19,7 +19,7 @@ pub enum RunFault {
     Table(TableFault),
     /// A read failed.
     Read,
-    /// There was no memory for the table.
+    /// The allocation of the table failed.
     Memory,
     /// The report could not be written.
     Write,
@@ -50,7 +50,7 @@ fn write_report<W: Write>(totals: Totals, writer: &mut W) -> io::Result<()>
     )
 }
 
-/// Reads a table up to the end of `reader`, which may be any reader of std, and writes its totals to `writer`. It fails with `Table` and the table's first fault, with `Read` where a read fails, with `Memory` where there is none for the table, and with `Write` where the writer fails. An interrupted read is tried again. After `Ok` and `Table` the reader is at its end. Only at `Ok` and `Write` may something have been written.
+/// Reads a table up to the end of `reader`, which may be any reader of std, and writes its totals to `writer`. It fails with `Table` and the table's first fault, with `Read` where a read fails, with `Memory` if the allocation of the table fails, and with `Write` where the writer fails. An interrupted read is tried again. After `Ok` and `Table` the reader is at its end. Only at `Ok` and `Write` may something have been written.
 pub fn run<R: ReadWhole, W: Write>(
     alloc: Global,
     reader: &mut R,

@@ -40,7 +40,7 @@ impl Record {
     }
 }
 
-/// The records of bytes, eight bytes each. A draw takes the bytes of one record. Where fewer are left, it takes them and fails, and then it ends.
+/// The records of bytes, eight bytes each. A draw takes the bytes of one record. If fewer are left, it takes them and fails, and then each call returns `Ok(None)`.
 #[derive(Drop)]
 pub struct Records<'a> {
     /// The bytes that are left.
@@ -72,7 +72,7 @@ impl FallibleIterator for Records<'_> {
     ghost lawful = { Prim.search rules };
 }
 
-/// The records of a table. Making them draws nothing.
+/// The records of a table. Creating them draws nothing.
 pub fn read<'a>(bytes: &'a [u8]) -> Records<'a>
     ensures same { result.bytes.now ≡ bytes.now }
     ensures lists { Lists ⟦<Records<'a> as FallibleIterator>⟧.contract.steps
@@ -81,7 +81,7 @@ pub fn read<'a>(bytes: &'a [u8]) -> Records<'a>
     Records { bytes }
 }
 
-/// How many records come before the first one that isn't good; none where all are good. It draws up to that record. It fails where the table ends within a record and none before it is bad.
+/// How many records come before the first one that isn't good; `None` if all are good. It draws up to that record. It fails where the table ends within a record and none before it is bad.
 pub fn first_bad(bytes: &[u8]) -> Result<Option<usize>, CutShort>
     ensures { result ≡ position_in (λ r. Ok (nat_lt r.high r.low)) (records bytes.now) }
 {

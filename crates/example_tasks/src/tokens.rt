@@ -36,11 +36,11 @@ pub enum TextFault {
     Unknown,
     /// A token where none of its kind may stand, or an end where one is missing.
     Unexpected,
-    /// There was no memory.
+    /// An allocation failed.
     Memory,
 }
 
-// The token that digits are, as an answer.
+// The token that digits are, as `next` returns it.
 fn number_token(digits: &[u8]) -> Result<Option<Token>, TextFault>
     requires { IsAscii digits.now }
     ensures { result ≡ result_answer (number_token digits.now) }
@@ -54,7 +54,7 @@ fn number_token(digits: &[u8]) -> Result<Option<Token>, TextFault>
     }
 }
 
-// The token that another byte is, as an answer.
+// The token that another byte is, as `next` returns it.
 fn sign_token(byte: u8) -> Result<Option<Token>, TextFault>
     ensures { result ≡ result_answer (sign_token byte) }
 {
@@ -212,7 +212,7 @@ impl Calculation {
     }
 }
 
-/// The value of tokens of numbers, `+`, `*` and parentheses, modulo 2 ^ 64. It draws up to the end or the first failure, which is the answer then. It fails with `Unexpected` at a token that may not stand there, and with `Memory` at an opening parenthesis for which there is none: where as many are open as the vector of those has room for.
+/// The value of tokens of numbers, `+`, `*` and parentheses, modulo 2 ^ 64. It draws up to `Ok(None)` or the first failure, which is returned then. It fails with `Unexpected` at a token that may not stand there, and with `Memory` at an opening parenthesis if an allocation fails: only if as many are open as the vector of those has room for.
 ///
 /// Requires that `next` may be called on the source, and that it is finite.
 pub fn value_of<I: FallibleIterator<Item = Token, Error = TextFault>>(
@@ -246,7 +246,7 @@ pub fn law_written()
         → value_of_tokens (items (written as_sum e)) ≡ Ok (expression_value e) }
 {}
 
-/// The value of a text of numbers, `+`, `*` and parentheses, modulo 2 ^ 64. It draws up to the first fault. It fails with `Unknown` at what is no token, with `Unexpected` at a token that may not stand there, and with `Memory` at an opening parenthesis for which there is none: where as many are open as the vector of those has room for. `evaluate(alloc, "2+3*(4+10)*2")` is `Ok(86)`.
+/// The value of a text of numbers, `+`, `*` and parentheses, modulo 2 ^ 64. It draws up to the first fault. It fails with `Unknown` at what is no token, with `Unexpected` at a token that may not stand there, and with `Memory` at an opening parenthesis if an allocation fails: only if as many are open as the vector of those has room for. `evaluate(alloc, "2+3*(4+10)*2")` is `Ok(86)`.
 pub fn evaluate(alloc: Global, text: &str) -> Result<u64, TextFault>
     ensures value { result ≢ Err TextFault.Memory
         → result ≡ value_of_tokens (tokens_of text.now) }

@@ -24,7 +24,7 @@ pub enum RunFault {
     Elf(ElfFault),
     /// A read failed.
     Read,
-    /// There was no memory.
+    /// An allocation failed.
     Memory,
     /// The report could not be written.
     Write,
@@ -69,7 +69,7 @@ fn write_tables<W: WriteText>(file: &[u8], tables: &Tables, writer: &mut W) -> i
     Ok(())
 }
 
-/// Writes the sections of a file to `writer`, and then its sets and their ranges. At a fault of a section nothing is written, and at one of a set or a range the sections alone. It fails with `Elf` and the file's first fault, with `Memory` where there is none, before anything is written, and with `Write` where the writer fails.
+/// Writes the sections of a file to `writer`, and then its sets and their ranges. At a fault of a section nothing is written, and at one of a set or a range the sections alone. It fails with `Elf` and the file's first fault, with `Memory` if an allocation fails, before anything is written, and with `Write` where the writer fails.
 pub fn report<W: WriteText>(alloc: Global, file: &[u8], writer: &mut W) -> Result<(), RunFault>
     ensures ok { OnOk result (Reports file.now None
         (W.written writer.old) (W.written writer.new)) }
@@ -91,7 +91,7 @@ pub fn report<W: WriteText>(alloc: Global, file: &[u8], writer: &mut W) -> Resul
     }
 }
 
-/// Reads a file up to the end of `reader`, which may be any reader of std, and writes its report to `writer`, as `report` does. It also fails with `Read` where a read fails, and with `Memory` where there is none for the file. An interrupted read is tried again. At `Read` and `Memory` nothing is written.
+/// Reads a file up to the end of `reader`, which may be any reader of std, and writes its report to `writer`, as `report` does. It also fails with `Read` where a read fails, and with `Memory` if the allocation for the file fails. An interrupted read is tried again. At `Read` and `Memory` nothing is written.
 pub fn run<R: ReadWhole, W: WriteText>(
     alloc: Global,
     reader: &mut R,
@@ -111,7 +111,7 @@ pub fn run<R: ReadWhole, W: WriteText>(
         × R.fails kind reader.old reader.new)
         × Keeps (W.written writer.old) (W.written writer.new) }
 
-    // Reading failed for want of memory, or the file was read, and there was none for its tables.
+    // An allocation failed: as the file was read, or for its tables.
     ensures memory { result ≡ Err RunFault.Memory
         → (R.fails ErrorKind.OutOfMemory reader.old reader.new
         ⊎ ReadsAll (R.left reader.old) (R.left reader.new) (λ _. ⊤))

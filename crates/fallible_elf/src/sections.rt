@@ -14,7 +14,7 @@ use crate::section::Section;
 use fallible_iterator::{FallibleIterator, Fault};
 use std::alloc::Global;
 
-/// The sections of a file, in the order of their headers. A draw reads one header, and fails where the name is damaged; the next draw goes on with the next header. Where the file has a fault before its headers, that is the one answer before the end.
+/// The sections of a file, in the order of their headers. A draw reads one header, and fails where the name is damaged; the next draw goes on with the next header. Where the file has a fault before its headers, that is the one result before `Ok(None)`.
 #[derive(Drop)]
 pub struct Sections<'a> {
     file: &'a [u8],
@@ -62,7 +62,7 @@ impl FallibleIterator for Sections<'_> {
         (lawful_listing (λ s. headers_from s.names s.names_size s.fault s.file.now s.place s.left)) };
 }
 
-/// The sections of a file. Making them reads where the headers are, and none of them.
+/// The sections of a file. Creating them reads where the headers are, and none of them.
 pub fn sections_of<'a>(file: &'a [u8]) -> Sections<'a>
     ensures lists { Lists ⟦<Sections<'a> as FallibleIterator>⟧.contract.steps result
         (headers_of file.now) }

@@ -20,7 +20,7 @@ pub trait ReadByte: Drop + Sized {
     // The bytes that it holds in a buffer.
     ghost in_buffer: { Self → List ℕ };
 
-    /// The next byte, or none at the end. A failed read takes no byte.
+    /// The next byte, or `None` at the end. A failed read takes no byte.
     fn read_byte(&mut self) -> Result<Option<u8>, ReadFailed>
         ensures { ReadsOne left stays self.old result self.new };
 

@@ -21,7 +21,7 @@ fn report_of_bytes(alloc: Global, bytes: &[u8]) -> Result<Vec<u8>, Fault>
     }
 }
 
-// Prints the report of `input`. It is made in memory, so it is written whole, and nothing where there is a fault or no memory for it.
+// Prints the report of `input`. It is made in memory, so it is written whole, and nothing if there is a fault or its allocation fails.
 fn run<R: ReadWhole, W: WriteText>(
     alloc: Global,
     input: &mut R,
