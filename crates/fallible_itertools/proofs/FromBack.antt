@@ -1,4 +1,4 @@
--- What a call from the back answers and leaves of what is listed from both ends.
+-- What a call from the back returns and leaves of what is listed from both ends.
 use Rattle.std.specs.Prelude.{◌≡◌, ℕ, ◌+◌, zero, suc, length, Bool, true, false, cond, is_some, Option, Some, None, Result, Ok, Err, List, [], ◌∷◌, ◌++◌, map, reverse}
 use Rattle.std.specs.List.{FoldsTo}
 use Rattle.std.proofs.Common.{refl, sym, ap, subst, ◌∙◌, arith, inr}

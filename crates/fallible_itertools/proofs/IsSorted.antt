@@ -9,7 +9,7 @@ use Rattle.fallible_iterator.proofs.Lemmas.Lists.Drawn.{RestAt, drawn}
 use Rattle.fallible_itertools.specs.IsSorted.{comes_after, OrderCall, while_in_order, sorted_after, sorted_by_key}
 use Rattle.std.specs.declared.cmp.Ordering.{Ordering}
 
--- `all` goes on where it is true, and answers false where it isn't
+-- `all` goes on where it is true, and returns false where it isn't
 goes_on_true : {A : Type 0} (n : ℕ) (x : A) (v : Bool) → all_pick n x v ≡ None → v ≡ true
 goes_on_true n x true e = refl
 goes_on_true n x false e = absurd cc

@@ -16,7 +16,7 @@ same : {A : Type 0} (l : List A) → map (λ y. y) l ≡ l
 same [] = refl
 same (x ∷ l) = ap {B = List _} (λ k. x ∷ k) (same l)
 
--- Values V are seen as those of a fallible iterator. What std's `next` yielded is `answer` of it, and `shown` is what it yields of a list.
+-- Values V are seen as those of a fallible iterator. What std's `next` returned is `answer` of it, and `shown` is what it returns of a list.
 module _ {V S A E Z : Type 0} (view : V → S) (steps : S → Answered A E → S → Type 0) (answer : Option Z → Answered A E) (shown : List (Result A E) → List Z) (nothing : shown [] ≡ [])
     (element : (o : Option Z) (y : Result A E) (l : List (Result A E)) → answer o ≡ result_answer y → (z : Z) × (o ≡ Some z) × (shown (y ∷ l) ≡ z ∷ shown l)) (none : (o : Option Z) → answer o ≡ Ok None → o ≡ None) where
   abbrev gives : V → Option Z → V → Type 0

@@ -1,4 +1,4 @@
--- What a call at one end answers and leaves of what is listed from both.
+-- What a call at one end returns and leaves of what is listed from both.
 use Rattle.std.specs.Prelude.{◌≡◌, Result, Some, None, Ok, Err, List, [], ◌∷◌, ◌++◌, map, reverse}
 use Rattle.std.proofs.Common.{refl, sym, ap, subst, ◌∙◌}
 use Rattle.fallible_contract.specs.Traces.{Answered, Run, item}

@@ -64,7 +64,7 @@ module _ {V S A E : Type 0} (view : V → S) (make : S → V) (made : (s : V) �
   pub runs_given : (s : V) (given : List (Option A)) (t : V) → FoldsTo given_by s given t ↔ Run steps (view s) (map (λ o. Ok o) given) (view t)
   runs_given s given t = (to_answers given s t, from_answers given s t)
 
--- ---- asked by `convert`
+-- ---- required by `convert`
 
 -- V's values are seen as those of a fallible iterator
 module _ {V S A E : Type 0} (m : Contract S A E) (view : V → S) where

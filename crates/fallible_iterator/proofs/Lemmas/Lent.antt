@@ -160,7 +160,7 @@ lent_step : {S A E : Type 0} (steps : S → Answered A E → S → Type 0) {it u
 lent_step steps v r same step = subst (λ (u : MutBor _). steps u.now r v.now) same step
 
 module _ {S U A B E : Type 0} {steps : S → Answered A E → S → Type 0} {others : U → Answered B E → U → Type 0} {it : MutBor S} {other : MutBor U} (s t : Zip (MutBor S) (MutBor U)) {r : Answered (A × B) E} where
-  -- A draw over `zip` of two borrows answers the first pair, or the failure in its place, where the lists don't end there. A pair leaves each lender without its first.
+  -- A draw over `zip` of two borrows returns the first pair, or the failure in its place, where the lists don't end there. A pair leaves each lender without its first.
   pub pair_lent : (a : List (Result A E)) (b : List (Result B E)) → s.left ≡ it → s.right ≡ other → lent_zip_steps steps others s r t → Lists steps it.now a → Lists others other.now b → ¬ (nth_of 0 (zipped a b) ≡ Ok None) → (r ≡ nth_of 0 (zipped a b)) × ((p : Option (A × B)) → r ≡ Ok p → Lists steps t.left.now (rest_first a) × Lists others t.right.now (rest_first b))
   unfolding nth_of zipped
   pair_lent [] b left right w i j no_end = absurd (no_end refl)
@@ -200,7 +200,7 @@ module _ {S U A E : Type 0} (steps : S → Answered A E → S → Type 0) (other
   drawn_of_first (s, u, SecondAlone) d r a at w i no_end = absurd cc
 
 module _ {S U A E : Type 0} {steps : S → Answered A E → S → Type 0} {others : U → Answered A E → U → Type 0} {it : MutBor S} {other : MutBor U} (s t : Chain (MutBor S) (MutBor U)) {r : Answered A E} {a b : List (Result A E)} where
-  -- A draw over `chain` of two borrows of which the first doesn't end answers its first, and leaves the first lender without it, and the second as it was.
+  -- A draw over `chain` of two borrows of which the first doesn't end returns its first, and leaves the first lender without it, and the second as it was.
   pub chain_lent : s.first ≡ it → s.second ≡ other → s.still_drawn ≡ Both → lent_chain_steps steps others s r t → Lists steps it.now a → Lists others other.now b → ¬ (nth_of 0 a ≡ Ok None) → (r ≡ nth_of 0 a) × Lists steps t.first.now (rest_first a) × Lists others t.second.now b
   chain_lent first second still w i j no_end =
       let listed : Lists steps s.first.now a = subst (λ (u : MutBor S). Lists steps u.now a) (sym first) i in

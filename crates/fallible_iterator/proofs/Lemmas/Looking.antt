@@ -8,7 +8,7 @@ use Rattle.fallible_core.specs.Peeking.Peekable.{looked_ahead, peekable_contract
 use Rattle.fallible_iterator.proofs.Lemmas.Loops.{CountsDown, AnswersFromHere}
 use Rattle.fallible_core.specs.declared.peeking.peekable.Peekable.{Peekable}
 
--- A look from s answered r and left t.
+-- A look from s returned r and left t.
 abbrev pub Looked : {S A E : Type 0} → (S → Answered A E → S → Type 0) → S → Answered A E → S → Type 0
 Looked {A = A} {E = E} steps s r t = (l : List (Result A E)) → Lists steps s l → (r ≡ nth_of 0 l) × Lists steps t (looked_ahead l)
 

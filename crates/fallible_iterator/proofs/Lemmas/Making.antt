@@ -163,7 +163,7 @@ module _ {S V B E : Type 0} (steps : S → Answered B E → S → Type 0) (made 
       by (inl is) = inl (ap (before v) is)
       by (inr r) = inr r
 
-  -- what `collect` answers over what lists made values
+  -- what `collect` returns over what lists made values
   pub collected_made : {C : Type 0} (into : List B → C → Type 0) (at_making : Type 0) (at_item : C → B → Type 0) {s : S} (l : List (Result V E)) (r : Result C (Fault E)) → Collects steps into at_making at_item s r → ListsMade made steps from s l → CollectedMade made from into l r
   collected_made into at_making at_item {s} l (Ok c) k i = let all = all_collected k.items l s k.after i.runs k.ran in (all.0, k.items, all.1, all.2, k.is_made)
   collected_made into at_making at_item {s} l (Err (Source e)) k i = failed_or_refused k.items e l s k.after i.runs k.ran

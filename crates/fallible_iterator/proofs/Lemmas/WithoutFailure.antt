@@ -1,4 +1,4 @@
--- What is returned of a source that lists where no draw fails.
+-- What calls return over a source that lists, where no draw fails.
 use Rattle.std.specs.Prelude.{◌≡◌, ℕ, zero, suc, length, List, [], ◌∷◌, ◌++◌, map, Option, Some, None, Result, Ok, Err, Bool, ⊤}
 use Rattle.std.specs.List.{filter_map, cons_option}
 use Rattle.std.specs.Result.{IsOk}

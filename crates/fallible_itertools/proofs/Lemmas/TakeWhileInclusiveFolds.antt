@@ -83,7 +83,7 @@ module _ {S F X E : Type 0} (m : Contract S X E) (a : Mut F (Bor X × Unit {0}) 
       drawn : Steps (parts s p.1) (item x) (parts t q.1)
       turn : goes_on turns p.0 x q.0
 
-    -- what the source's turn answers, by the predicate's answer and the caller's turn
+    -- what the source's turn returns, by the predicate's answer and the caller's turn
     module _ (s t : S) (p q : C × (Bool × F)) (x : X) (unrefused : p.1.0 ≡ false) (step : m.steps s (item x) t) where
       went_kept : (b : Bool) (made : ControlFlow (Answered R E) (Unit {0})) → Calls p.1 x (Ok b) q.1 → TurnedBy {E = E} turns p.0 (Kept x) made q.0 → Continue tt ≡ stopped_where made q.1.0 → WentOn s t p q x
       went_kept true made called (Continue u, turn, is) on = record { unrefused = called.1 ∙ unrefused; drawn = item_step s t p.1 q.1 x true unrefused step called; turn = turn }

@@ -152,7 +152,7 @@ module _ {K : Type 0} (cmp : K → K → Ordering) (k : K) where
       by Equal e n later = absurd (true≢false n)
       by Greater e n later = ap (cond (eq_by_cmp cmp q x) (Some x)) (later n) ∙ swapped (ap is_eq e) (eq_by_cmp cmp q x) (eq_by_cmp cmp q k) refl refl (find (eq_by_cmp cmp q) xs)
 
--- `insert` answers false only at a key that was there
+-- `insert` returns false only at a key that was there
 stays_where : (added has : Bool) (P Q : Type 0) → added ≡ not has → MatchBool added P Q → has ≡ true → Q
 stays_where false has P Q e p h = p
 stays_where true has P Q e p h = absurd (true≢false (e ∙ ap not h))

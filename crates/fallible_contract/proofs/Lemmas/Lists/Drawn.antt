@@ -112,12 +112,12 @@ pub contents_unzipped : {A B E C D : Type 0} (made_first : List A → C → Type
 unfolding UnzippedAs
 contents_unzipped made_first made_second l c w = rw w.1 w.2
 
--- the failure of the source that `collect` answers is the first of the list
+-- the failure of the source that `collect` returns is the first of the list
 pub failure_collected : {A E C : Type 0} (made : List A → C → Type 0) (l : List (Result A E)) {r : Result C (Fault E)} {e : E} → CollectedAs made l r → r ≡ Err (Source e) → collected l ≡ Err e
 unfolding CollectedAs
 failure_collected made l w is = subst (λ (r : Result _ (Fault _)). CollectedBy made l r) is w
 
--- and so is that which `unzip` answers
+-- the failure of the source that `unzip` returns is the first of the list
 pub failure_unzipped : {A B E C D : Type 0} (made_first : List A → C → Type 0) (made_second : List B → D → Type 0) (l : List (Result (A × B) E)) {r : Result (C × D) (Fault E)} {e : E} → UnzippedAs made_first made_second l r → r ≡ Err (Source e) → collected l ≡ Err e
 unfolding UnzippedAs
 failure_unzipped made_first made_second l w is = subst (λ (r : Result _ (Fault _)). CollectedBy (MadeOfPairs made_first made_second) l r) is w

@@ -86,7 +86,7 @@ pub contents_partitioned : {A E C : Type 0} (made : List A → C → Type 0) (h 
 unfolding PartitionedAs
 contents_partitioned made h l c w = rw w.1 (w.2, w.3)
 
--- the failure of the source or of the closure that `partition` answers is that of `partitioned`
+-- the failure of the source or of the closure that `partition` returns is that of `partitioned`
 pub failure_partitioned : {A E C : Type 0} (made : List A → C → Type 0) (h : A → Result Bool E) (l : List (Result A E)) {r : Result (C × C) (Fault E)} {e : E} → PartitionedAs made h l r → r ≡ Err (Source e) → partitioned h l ≡ Err e
 unfolding PartitionedAs
 failure_partitioned made h l w is = subst (λ (r : Result _ (Fault _)). PartitionedBy made h l r) is w

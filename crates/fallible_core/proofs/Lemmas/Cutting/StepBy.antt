@@ -91,7 +91,7 @@ module _ {S A E : Type 0} (steps : S → Answered A E → S → Type 0) where
   pub step_by_law : (p : S × (ℕ × ℕ)) (trace : List (Answered A E)) (q : S × (ℕ × ℕ)) → Run (step_by_step steps) p trace q ↔ StepByTrace steps p trace q
   step_by_law = runs_by_answers (StepByTrace steps) step_by_answers
 
-  -- ---- one draw: what `Skip` answers, and after an item the items between two are to be left out
+  -- ---- one draw: what `Skip` returns, and after an item the items between two are to be left out
 
   -- with a kept item as many are left out next as lie between two; a failure and an end leave what was left
   abbrev LeftNext : ℕ → Answered A E → ℕ → ℕ

@@ -33,7 +33,7 @@ module _ {T E : Type 0} (is_clone : T → T → Type 0) (is_infallible : T → T
 
 -- ---- from both ends
 
--- an item beside its clone, as one beside what the call of `Cloned` answers
+-- an item beside its clone, as one beside what the call of `Cloned` returns
 abbrev pub with_clone : {T E : Type 0} → Result (Bor T × T) E → Result (Bor T × Result T E) E
 with_clone (Ok c) = Ok (c.0, Ok c.1)
 with_clone (Err e) = Err e

@@ -1,4 +1,4 @@
--- What looking ahead answers over a source that is listed, and what is listed then.
+-- What looking ahead returns over a source that is listed, and what is listed then.
 use Rattle.std.specs.Prelude.{◌≡◌, Bool, Option, Some, None, Result, Ok, Err, List, [], ◌∷◌, true, false}
 use Rattle.std.proofs.Common.{refl, sym, ap, subst, ◌∙◌, inl, inr}
 use Rattle.std.specs.Fn.{Shared}

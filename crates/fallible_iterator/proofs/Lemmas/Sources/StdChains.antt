@@ -61,7 +61,7 @@ map_twice h of (y ∷ ys) = ap (λ l. h (of y) ∷ l) (map_twice h of ys)
 pub mapped_read : {S X Y Z : Type 0} {gives : S → Option Z → S → Type 0} (h : X → Z) (of : Y → X) (ys : List Y) {s : S} → YieldsList gives (λ z. z) s (map (λ y. h (of y)) ys) → RunsRead gives h s (map of ys)
 mapped_read {gives = gives} h of ys {s} yields = yielded_read h (map of ys) (subst (λ all. YieldsList gives (λ z. z) s all) (sym (map_twice h of ys)) yields)
 
--- the same of a chain whose elements are in an `Ok`, in the words that `convert` asks
+-- what is read of a chain whose elements are in an `Ok`, in the words that `convert` requires
 pub items_yielded : {S A E : Type 0} (gives : S → Option (Result A E) → S → Type 0) (xs : List A) {s : S} → YieldsList gives (λ z. z) s (map (λ x. Ok x) xs) → ItemsRead gives s xs
 items_yielded gives xs {s} yields = read_items gives s xs (yielded_read (λ x. Ok x) xs yields)
 

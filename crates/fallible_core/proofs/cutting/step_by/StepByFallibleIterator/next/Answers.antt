@@ -1,4 +1,4 @@
--- What `Skip` answers, and after an item the items between two are to be left out.
+-- What `Skip` returns, and after an item the items between two are to be left out.
 use Rattle.std.proofs.Common.{Some, None, Ok, Err}
 use Rattle.fallible_core.proofs.Lemmas.Cutting.StepBy.{steps_from_skip}
 use Rattle.fallible_core.proofs.cutting.step_by.StepByFallibleIterator.next.Goals as goal
