@@ -18,7 +18,7 @@ is_kept keeps (None, r) = true
 abbrev pub kept : {A E : Type 0} → (ℕ → Bool) → List (Option ℕ × Answered A E) → List (Answered A E)
 kept keeps answers = map (λ p. p.1) (filter (is_kept keeps) answers)
 
--- The trace is the source's without the items whose number, from 1, isn't kept; failures and ends are kept. The source's trace doesn't end in a left-out item. How many items are left out next, `to_skip`, is told by how many items the source's trace has.
+-- The trace of an adapter that keeps items by their numbers is the source's without the items whose number, from 1, isn't kept; failures and ends are kept. The source's trace doesn't end in a left-out item. How many items are left out next, `to_skip`, is told by how many items the source's trace has.
 pub record KeptByNumber {S A E : Type 0} (keeps : ℕ → Bool) (to_skip_after : ℕ → ℕ) (steps : S → Answered A E → S → Type 0) (s : S) (trace : List (Answered A E)) (t : S) (to_skip : ℕ) : Type 0 where
   pub source_trace : List (Answered A E)
   pub drawn : Run steps s source_trace t

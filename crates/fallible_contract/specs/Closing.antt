@@ -8,7 +8,7 @@ use Rattle.fallible_contract.specs.WithSteps.{with_steps_contract}
 abbrev pub ClosesLast : {Q : Type 0} → (Q → Bool) → List Q → Type 0
 ClosesLast {Q} closes places = (front : List Q) × (x : Q) × (places ≡ front ++ x ∷ []) × (closes x ≡ true)
 
--- The trace is the answers of the places, and then ends without draws. A place that closes stands last alone, and where one stood earlier there are no places; ends without draws come only where one stood, here or earlier. The value is left closed where one stood, here or earlier.
+-- The trace of an adapter that one place closes is the answers of the places, and then ends without draws. A place that closes stands last alone, and where one stood earlier there are no places; ends without draws come only where one stood, here or earlier. The value is left closed where one stood, here or earlier.
 pub record ClosingTrace {Q B E : Type 0} (answer : Q → Answered B E) (closes : Q → Bool) (closed : Bool) (places : List Q) (trace : List (Answered B E)) (closed' : Bool) : Type 0 where
   pub ends : ℕ
   pub answers : trace ≡ map answer places ++ replicate ends end

@@ -115,7 +115,7 @@ module _ {A E : Type 0} (rule : A → A → Option Ordering) where
     pub made : into other right
     pub compared : Compared left-steps right-steps s right r
 
-  -- Its answer, read so, is the result.
+  -- The value became an iterator, and the comparison's result, read by `reads`, is r.
   pub record ReadWith {S O T X : Type 0} (reads : Option Ordering → X) (into : O → T → Type 0) (left-steps : S → Answered A E → S → Type 0) (right-steps : T → Answered A E → T → Type 0) (s : S) (other : O) (r : Result X E) : Type 0 where
     pub answer : Result (Option Ordering) E
     pub compared : ComparedWith into left-steps right-steps s other answer

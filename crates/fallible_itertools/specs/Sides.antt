@@ -32,12 +32,12 @@ GivesIf steps p (Some r) t = Gives steps p r t
 GivesIf steps p None t = t ≡ p.0
 
 module _ {S A E : Type 0} (m : Contract S A E) where
-  -- a held item is one more than a bound of the source
+  -- a bound of a side: one of the source, and one more if an item is held
   abbrev pub side_bound : S × Option A → ℕ → Type 0
   side_bound (s, Some x) n = (k : ℕ) × m.bound s k × (k + 1 ≤ n)
   side_bound (s, None) n = m.bound s n
 
-  -- and one more that remains
+  -- what remains of a side: of the source, and one more if an item is held
   abbrev pub side_remaining : S × Option A → Count
   side_remaining (s, Some x) = count_map (λ n. n + 1) (m.remaining s)
   side_remaining (s, None) = m.remaining s

@@ -111,7 +111,7 @@ fn digits_mapped_flat(outer: &Log, inners: &Log) -> Result<u32, Infallible> {
 const FLAT_MAP: (Option<u32>, [Calls; 2]) = (Some(3434), [ONE_FOLD, TWO_FOLDS]);
 // The calls of the outer source, of the first inner iterator and of the second.
 const FLATTEN: [Step<'static>; 1] = [(Sum, Ok(Some(6)), &[ONE_FOLD, ONE_FOLD, ONE_FOLD])];
-// The inner iterator in hand is folded first.
+// The current inner iterator is folded first.
 const FLATTEN_IN_HAND: [Step<'static>; 2] = [
     (Next, Ok(Some(1)), &[ONE_NEXT, ONE_NEXT, NO_CALL]),
     (

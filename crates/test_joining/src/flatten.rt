@@ -192,7 +192,7 @@ fn stopped_and_left(alloc: Global, inner: &[Drawn]) -> Result<(Stopped, [Drawn; 
     Ok((stopped, [inner.next(), inner.next()]))
 }
 
-// What the inner iterator yields, what a draw and a fold that is stopped come to, and what it yields next. In the second the end is met by the inner iterator in hand.
+// What the inner iterator yields, what a draw and a fold that is stopped come to, and what it yields next. In the second the end is met by the current inner iterator.
 const STOPPED: [(&[Drawn], Stopped, [Drawn; 2]); 2] = [
     (
         &[Ok(Some(1)), Ok(Some(2)), END, Ok(Some(3))],

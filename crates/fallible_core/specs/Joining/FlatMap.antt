@@ -24,10 +24,10 @@ module _ {I U F J : Type 0} where
   abbrev pub flat_map_closure : FlatMap I U F J → F
   flat_map_closure s = map_closure (flat_map_mapped s)
 
-  -- the inner iterator in hand
+  -- the current inner iterator
   abbrev pub flat_map_inner : FlatMap I U F J → Option J
   flat_map_inner s = s.in_hand
 
-  -- the `Map` of the closure over the source, and the inner iterator in hand
+  -- the `Map` of the closure over the source, and the current inner iterator
   abbrev pub flat_map_parts : FlatMap I U F J → Map I F × Option J
   flat_map_parts s = (flat_map_mapped s, flat_map_inner s)

@@ -81,13 +81,13 @@ pub data FlattenAnswers {S X C B E : Type 0} (outer : S → Answered X E → S �
   still_in_hand : {s : S} {c d : C} {trace : List (Answered B E)} → Unfinished inner c trace d → FlattenAnswers outer into inner s (Some c) trace s (Some d)
   outer_drawn : {s t : S} {hand hand' : Option C} {trace : List (Answered B E)} → Joined outer into inner s hand trace t hand' → FlattenAnswers outer into inner s hand trace t hand'
 
--- `Flatten`, by its parts: the outer source, and the inner iterator in hand.
+-- `Flatten`, by its parts: the outer source, and the current inner iterator.
 abbrev pub FlattenTrace : {S X C B E : Type 0} → (S → Answered X E → S → Type 0) → (X → C → Type 0) → (C → Answered B E → C → Type 0) → S × Option C → List (Answered B E) → S × Option C → Type 0
 FlattenTrace outer into inner p trace q = FlattenAnswers outer into inner p.0 p.1 trace q.0 q.1
 
 -- ---- the contract
 
--- k is a bound of the inner iterator in hand; 0 where there is none
+-- k is a bound of the current inner iterator; 0 where there is none
 abbrev pub NumberInHand : {C : Type 0} → Option C → (C → ℕ → Type 0) → ℕ → Type 0
 NumberInHand (Some c) to_come k = to_come c k
 NumberInHand None to_come k = k ≡ 0
@@ -109,7 +109,7 @@ module _ {S X C B E : Type 0} (m : Contract S X E) (into : X → C → Type 0) (
   abbrev pub EachAtMost : ℕ → S → Type 0
   EachAtMost b s = EachInner (λ c. (k : ℕ) × inner.bound c k × (k ≤ b)) s
 
-  -- The outer source has at most so many items, each of which becomes at most so many, and the inner iterator in hand has at most so many.
+  -- The outer source has at most so many items, each of which becomes at most so many, and the current inner iterator has at most so many.
   pub record FlattenNumber (s : S) (hand : Option C) (n : ℕ) : Type 0 where
     pub outer : ℕ
     pub each : ℕ
@@ -119,7 +119,7 @@ module _ {S X C B E : Type 0} (m : Contract S X E) (into : X → C → Type 0) (
     pub in_hand_is : NumberInHand hand inner.bound in_hand
     pub sum : each * outer + in_hand ≤ n
 
-  -- Its condition: one of the outer source, and a bound of it, since many inner iterators may end at once; one of the inner iterator in hand and of each that may come. There is a bound where the outer source and the inner iterator in hand have one, and one serves for all that may come.
+  -- `Flatten`'s contract. Its condition: one of the outer source, and a bound of it, since many inner iterators may end at once; one of the current inner iterator and of each that may come. There is a bound where the outer source and the current inner iterator have one, and one serves for all that may come.
   abbrev pub flatten_contract : Contract (S × Option C) B E
   flatten_contract = record {
     can_next = λ p. m.can_next p.0 × m.is_finite p.0 × IfSome p.1 inner.can_next × EachInner inner.can_next p.0;
@@ -149,11 +149,11 @@ module _ {X C B E V R : Type 0} (into : X → C → Type 0) (inner : Contract C 
 abbrev pub flatten_source : {I J : Type 0} → Flatten I J → I
 flatten_source s = s.it
 
--- the inner iterator in hand
+-- the current inner iterator
 abbrev pub flatten_inner : {I J : Type 0} → Flatten I J → Option J
 flatten_inner s = s.in_hand
 
--- the outer source, and the inner iterator in hand
+-- the outer source, and the current inner iterator
 abbrev pub flatten_parts : {I J : Type 0} → Flatten I J → I × Option J
 flatten_parts s = (flatten_source s, flatten_inner s)
 

@@ -25,7 +25,7 @@ module _ {S X C B E : Type 0} (outer : S → Answered X E → S → Type 0) (int
   abbrev J : S → Option C → List (Answered B E) → S → Option C → Type 0
   J = Joined outer into inner
 
-  -- an answer, which is no end, of the inner iterator in hand
+  -- an answer, which is no end, of the current inner iterator
   joined_more : (s t : S) (c d : C) (hand : Option C) (r : Answered B E) (trace : List (Answered B E)) → inner c r d → is_end r ≡ false → Joined outer into inner s (Some d) trace t hand → Joined outer into inner s (Some c) (r ∷ trace) t hand
   joined_more s t c d hand r trace step free j = let f = j.hand_finished in record {
     in_hand = r ∷ j.in_hand;
@@ -38,7 +38,7 @@ module _ {S X C B E : Type 0} (outer : S → Answered X E → S → Type 0) (int
     answers = ap (λ l. r ∷ l) j.answers;
   }
 
-  -- one more answer of the inner iterator in hand
+  -- one more answer of the current inner iterator
   more_in_hand : (s t : S) (c d : C) (hand hand' : Option C) (r : Answered B E) (trace : List (Answered B E)) → inner c r d → is_end r ≡ false → hand ≡ Some d → D s hand trace t hand' → D s (Some c) (r ∷ trace) t hand'
   more_in_hand s t c d hand _ r _ step free e nothing_drawn = rw e (still_in_hand {trace = r ∷ []} (record { drawn = (d, step, refl); no_end = (free, tt); not_empty = λ e. absurd cc }))
   more_in_hand s _ c d _ _ r trace step free e (still_in_hand {c = k} {d = l} u) = let same : k ≡ d = cc in still_in_hand {trace = r ∷ trace} (record { drawn = (d, step, rw (sym same) u.drawn); no_end = (free, u.no_end); not_empty = λ e. absurd cc })
@@ -52,7 +52,7 @@ module _ {S X C B E : Type 0} (outer : S → Answered X E → S → Type 0) (int
   hand_finished_at (Some k) c answers e h = let same : k ≡ c = cc in rw (sym same) h
   hand_finished_at None c answers e h = absurd cc
 
-  -- the inner iterator in hand ended
+  -- the current inner iterator ended
   end_in_hand : (s t : S) (c d : C) (hand hand' : Option C) (trace : List (Answered B E)) → inner c end d → hand ≡ None → (trace ≡ [] → ⊥) → D s hand trace t hand' → D s (Some c) trace t hand'
   end_in_hand s t c d _ _ _ step e some nothing_drawn = absurd (some refl)
   end_in_hand s _ c d _ _ trace step e some (still_in_hand u) = absurd cc
@@ -128,11 +128,11 @@ module _ {S X C B E : Type 0} (outer : S → Answered X E → S → Type 0) (int
 -- ---- one draw
 
 module _ {S X C B E : Type 0} {outer : S → Answered X E → S → Type 0} {into : X → C → Type 0} {inner : C → Answered B E → C → Type 0} where
-  -- an answer, which is no end, of the inner iterator in hand
+  -- an answer, which is no end, of the current inner iterator
   pub flatten_in_hand : {s : S} {c d : C} {hand : Option C} (r : Answered B E) → hand ≡ Some c → inner c r d → is_end r ≡ false → FlattenTrace outer into inner (s, hand) (r ∷ []) (s, (Some d))
   flatten_in_hand {d = d} r e step free = rw e (still_in_hand {trace = r ∷ []} (record { drawn = (d, step, refl); no_end = (free, tt); not_empty = λ e. absurd cc }))
 
-  -- the inner iterator in hand ended first
+  -- the current inner iterator ended first
   pub flatten_after_end : {s t : S} {c : C} {hand hand' : Option C} {r : Answered B E} (d : C) → hand ≡ Some c → inner c end d → FlattenTrace outer into inner (s, None) (r ∷ []) (t, hand') → FlattenTrace outer into inner (s, hand) (r ∷ []) (t, hand')
   flatten_after_end {s} {t} {c} {hand} {hand'} {r} d e step p = rw e (end_in_hand outer into inner s t c d None hand' (r ∷ []) step refl (λ k. cc) p)
 
@@ -171,7 +171,7 @@ module _ {S X C B E : Type 0} (outer : S → Answered X E → S → Type 0) (int
   drawn_from : (s t : S) (hand hand' : Option C) (r : Answered B E) (l : List (Result B E)) → One s hand r t hand' → Gives s hand l → DrawnFrom r (t, hand') l
   drawn_from s t hand hand' r l f g = record { from = (s, hand); draws = from_flattens outer into steps s t hand hand' (r ∷ []) f; all = g }
 
-  -- the inner iterator in hand is at its end
+  -- the current inner iterator is at its end
   end_then : (rest : List (Result B E)) (c : C) (s : S) → AlwaysGives {A = B} {E = E} steps c [] → Gives s None rest → (r : Answered B E) (t : S) (hand : Option C) → One s (Some c) r t hand → DrawnFrom r (t, hand) rest
   end_then rest c s a then _ _ _ (gives {d = d} y step f) = absurd (let h = a (Ok (Some y)) d step in cc)
   end_then rest c s a then _ _ _ (fails {d = d} e step f) = absurd (let h = a (Err e) d step in cc)

@@ -1,4 +1,4 @@
--- Folds of `Flatten`: one of the inner iterator in hand, and after its end one of the outer source, whose turn folds the inner iterator that the item becomes.
+-- Folds of `Flatten`: one of the current inner iterator, and after its end one of the outer source, whose turn folds the inner iterator that the item becomes.
 use Rattle.std.specs.Prelude.{◌≡◌, ◌≢◌, false, List, [], ◌∷◌, ◌++◌, map, Option, Some, None, Ok, Err}
 use Rattle.std.specs.List.{FoldsTo}
 use Rattle.std.proofs.Common.{refl, sym, ◌∙◌, ap, subst}
@@ -26,7 +26,7 @@ module _ {S X C B E : Type 0} (m : Contract S X E) (into : X → C → Type 0) (
   same_at_item : (s u : S) (c : C) (x : X) → m.steps s (item x) u → into x c → (r : Answered B E) (q : S × Option C) → Draw (u, Some c) r q → Draw (s, None) r q
   same_at_item s u c x step becomes r q drawn = flatten_at_item x step becomes drawn
 
-  -- items of the inner iterator in hand are items of the whole
+  -- items of the current inner iterator are items of the whole
   yields_in_hand : (items : List B) (s : S) (c d : C) → Yields inner.steps c items d → Yields Draw (s, Some c) items (s, Some d)
   yields_in_hand [] s c d e = ap (λ (k : C). (s, Some k)) e
   yields_in_hand (y ∷ items) s c d w = ((s, Some w.0), flatten_in_hand (item y) refl w.1 refl, yields_in_hand items s w.0 d w.2)
@@ -37,7 +37,7 @@ module _ {S X C B E : Type 0} (m : Contract S X E) (into : X → C → Type 0) (
   run_in_hand (y ∷ items) last s c d free w = ((s, Some w.0), flatten_in_hand (item y) refl w.1 refl, run_in_hand items last s w.0 d free w.2)
 
   module _ {V : Type 0} {on : V → B → V → Type 0} {P : V → B → Type 0} {s : S} {c : C} {v : V} where
-    -- what holds at each turn of the whole holds at each turn over the inner iterator in hand
+    -- what holds at each turn of the whole holds at each turn over the current inner iterator
     pub holds_in_hand : HoldsAtEachTurn Draw on P (s, Some c) v → HoldsAtEachTurn inner.steps on P c v
     holds_in_hand h = holds_into (λ (k : C). (s, Some k)) (λ k y l step. flatten_in_hand (item y) refl step refl) h
 
@@ -91,7 +91,7 @@ module _ {S X C B E : Type 0} (m : Contract S X E) (into : X → C → Type 0) (
     driven_joined : {s t : S} {p q : V × Option C} {r : Answered (Answered R E) E} → p.1 ≡ None → Driven m.steps Joins s p r t q → Driven Draw turns (s, None) p.0 (within r) (t, q.1) q.0
     driven_joined {s = s} {t = t} {p = p} {q = q} {r = r} is f = items_joined f.items f.last s t p f.at.carried q r is f.ran f.at.went f.at.exit
 
-    -- The same, where the caller's state and the inner iterator in hand are lent by reference. What was lent is what those that came back point to, once they are known to be the same.
+    -- The same, where the caller's state and the current inner iterator are lent by reference. What was lent is what those that came back point to, once they are known to be the same.
     pub driven_beside : {s t : S} {b d : Beside V (Option C)} {r : Answered (Answered R E) E} (hand : Option C) (v : V) → b.p.now ≡ None → Driven m.steps (TurnThrough beside beside_names Joins) s b r t d
         → (d.p.ghost_name ≡ b.p.ghost_name → hand ≡ d.p.now) → (d.c.ghost_name ≡ b.c.ghost_name → v ≡ d.c.now) → Driven Draw turns (s, None) b.c.now (within r) (t, hand) v
     driven_beside {s = s} {t = t} {b = b} {d = d} {r = r} hand v is w is_hand is_v = let same = names_kept beside beside_names Joins w in

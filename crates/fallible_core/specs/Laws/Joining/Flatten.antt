@@ -96,7 +96,7 @@ module _ {S X C B E : Type 0} (m : Contract S X E) (l : Lawful m) (into : X → 
   each_after_draw : (P : C → Type 0) (s u : S) → ((x : X) → m.may_give u x → m.may_give s x) → EachInner m into inner P s → EachInner m into inner P u
   each_after_draw P s u fewer p = record { at = λ x c given becomes. p.at x c (fewer x given) becomes }
 
-  -- the number where there is one more answer of the inner iterator in hand
+  -- the number where there is one more answer of the current inner iterator
   number_in_hand : (s : S) (c d : C) (n j : ℕ) (b : FlattenNumber m into inner s (Some c) n) → inner.bound d j → FlattenNumber m into inner s (Some d) (b.each * b.outer + j)
   number_in_hand s c d n j b is = record { outer = b.outer; each = b.each; in_hand = j; outer_is = b.outer_is; each_is = b.each_is; in_hand_is = is; sum = omega arith }
 

@@ -1,4 +1,4 @@
--- A fold of the inner iterator in hand, and after its end one of the outer source.
+-- A fold of the current inner iterator, and after its end one of the outer source.
 use Rattle.fallible_core.proofs.Lemmas.Joining.FlattenFolds.{driven_in_hand, driven_over_hand, holds_in_hand, holds_over_hand}
 use Rattle.fallible_core.proofs.joining.flatten.drive_joined.Goals.{in-Some+in-Ok-None, in-None}
 use Rattle.fallible_core.proofs.joining.flatten.drive_joined.Goals as goal

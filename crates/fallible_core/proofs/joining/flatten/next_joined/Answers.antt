@@ -1,4 +1,4 @@
--- An answer of the inner iterator in hand, or one of the outer source after its end, is one from the start. An item of the outer source goes before what follows.
+-- An answer of the current inner iterator, or one of the outer source after its end, is one from the start. An item of the outer source goes before what follows.
 use Rattle.std.proofs.Common.{arith, refl, Ok, Err, Some}
 use Rattle.fallible_core.specs.Laws.Joining.Flatten.{begun_keeps}
 use Rattle.fallible_core.proofs.Lemmas.Joining.Flatten.{flatten_in_hand, flatten_after_end, flatten_at_item, flatten_outer_failure, flatten_outer_end}
