@@ -26,7 +26,7 @@ REASONS = [
      "into any `FromIterator`: the proved `iterator`, and std's `collect` of results"),
     (r"fallible_core/traits\.rs", r"FallibleIterator\.(partition|unzip)", "changed",
      "into any `Default + Extend`, by the proved turns"),
-    (r"fallible_core/traits\.rs", r"FallibleIterator\.cycle", "changed", "answers no `Result`"),
+    (r"fallible_core/traits\.rs", r"FallibleIterator\.cycle", "changed", "returns no `Result`"),
     (r"fallible_core/traits\.rs", r"FallibleIterator\.chain", "changed", "the result's type names the argument"),
     (r"fallible_core/traits\.rs", r"FallibleIterator\.step_by", "changed", "`assert!(step != 0)` for the precondition"),
     (r"fallible_core/traits\.rs", r"FallibleIterator\.size_hint", "new", "a default"),
@@ -34,7 +34,7 @@ REASONS = [
     (r"fallible_core/number\.rs", r"Drop for Number\.drop", "left out", "it only takes the value apart"),
     (r"chunk\w+\.rs", r".*\.(next|drive|ask)|grouped", "changed",
      "no allocator is passed, and the refusal's arm has no value"),
-    (r"batch\.rs", r"alone|pushed", "changed", "no allocator is passed, and `push` answers nothing"),
+    (r"batch\.rs", r"alone|pushed", "changed", "no allocator is passed, and `push` returns nothing"),
     (r"counts\.rs", r"Collect for Tally\.empty", "left out", "`counts` makes the empty map"),
     (r"counts\.rs", r"Collect for Tally\.push_one", "changed", "`insert` is never refused"),
     (r"join\.rs", r"append", "changed", "`push_str` is never refused; a failing `Display` panics, as in `to_string`"),
@@ -99,7 +99,7 @@ def table(same, rows):
             places = defaultdict(list)
             for of, path, name in rows[k]:
                 if of == crate:
-                    places[path].append("`%s`" % name)
+                    places[path].append("`%s`" % name.split(" for ")[-1])
             unlike += sum(map(len, places.values()))
             where = "; ".join("%s: %s" % (path, ", ".join(names)) for path, names in places.items())
             cells += ["| %s | %s | %s |" % (where, REASONS[k][2], REASONS[k][3])] * bool(places)
