@@ -10,7 +10,7 @@ REASONS = [
      "`collect` goes by Rust's `FromIterator`"),
     (r"fallible_contract/collecting\.rs", r"Collect for Extended\.push_one", "new",
      "`partition` and `unzip` fill whatever extends"),
-    (r"memory\.rs", r"TryClone\.try_clone", "new", "the proved bodies ask for a clone that may be refused"),
+    (r"memory\.rs", r"TryClone\.try_clone", "new", "the proved bodies make a clone that may be refused"),
     (r"fallible_core/joining/flat_map\.rs", r"\w+ for FlatMap\.(clone|fmt)", "new",
      "what `derive_where` writes"),
     (r"fallible_core/joining/cycle\.rs|fallible_core/one_to_one/cloned\.rs|sources/repeat\w*\.rs"
