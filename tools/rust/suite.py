@@ -94,7 +94,7 @@ def module(path, blocks, count):
     """One file as a module of the suite."""
     s = "\n\n".join(blocks)
     s = re.sub(r"\bcrate::", "crate::%s::" % re.split(r"[/.]", path)[0], s)
-    s = re.sub(r"(?<![\w:])(fallible_(?!iter|contract|core)\w+)::", r"crate::\1::", s)
+    s = re.sub(r"(?<![\w:])((?:fallible_(?!iter|contract|core)|test_|example_)\w+)::", r"crate::\1::", s)
     s = re.sub(r"\bfallible_iterator::laws::", "crate::laws::", s)
     s = re.sub(r"(?<![\w:])fallible_(contract|core)::", r"fallible_iterator::fallible_\1::", s)
     s = re.sub(r"(?<=[{ ])Fault, |, Fault(?=[,}])", "", s)
