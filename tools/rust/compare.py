@@ -94,15 +94,13 @@ def table(same, rows):
             raise Refused("compare: no body is of the row %r" % (row,))
     lines = []
     for crate, alike in same.items():
-        cells, unlike = [], 0
+        reasons = defaultdict(list)
         for k in sorted(rows):
-            places = defaultdict(list)
-            for of, path, name in rows[k]:
+            for of, _, name in rows[k]:
                 if of == crate:
-                    places[path].append("`%s`" % name.split(" for ")[-1])
-            unlike += sum(map(len, places.values()))
-            where = "; ".join("%s: %s" % (path, ", ".join(names)) for path, names in places.items())
-            cells += ["| %s | %s | %s |" % (where, REASONS[k][2], REASONS[k][3])] * bool(places)
+                    reasons[REASONS[k][2:]].append("`%s`" % name.split(" for ")[-1])
+        cells = ["| %s | %s | %s |" % (", ".join(names), *reason) for reason, names in reasons.items()]
+        unlike = sum(map(len, reasons.values()))
         lines += ["In `%s` %d bodies are word for word the proved ones. %d are not:" % (crate, alike, unlike),
-                  "", "| Where | How | Why |", "|---|---|---|", *cells, ""]
+                  "", "| Body | How | Why |", "|---|---|---|", *cells, ""]
     return "\n".join(lines[:-1])
