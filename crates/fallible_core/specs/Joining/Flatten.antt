@@ -119,7 +119,7 @@ module _ {S X C B E : Type 0} (m : Contract S X E) (into : X → C → Type 0) (
     pub in_hand_is : NumberInHand hand inner.bound in_hand
     pub sum : each * outer + in_hand ≤ n
 
-  -- `Flatten`'s contract. Its condition: one of the outer source, and a bound of it, since many inner iterators may end at once; one of the current inner iterator and of each that may come. There is a bound where the outer source and the current inner iterator have one, and one serves for all that may come.
+  -- The contract of `Flatten`. `next` may be called where it may be on the outer source, which has a bound, since many inner iterators may end at once, and on the inner iterator in hand and each that may come. There is a bound where the outer source and the inner iterator in hand have one, and one serves for all that may come.
   abbrev pub flatten_contract : Contract (S × Option C) B E
   flatten_contract = record {
     can_next = λ p. m.can_next p.0 × m.is_finite p.0 × IfSome p.1 inner.can_next × EachInner inner.can_next p.0;

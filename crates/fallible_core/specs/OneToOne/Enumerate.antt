@@ -27,7 +27,7 @@ pub record IsNumberable {S A E : Type 0} (m : Contract S A E) (s : S) (n : ℕ) 
   pub bounds : m.bound s bound
   pub fits : n + bound ≤ 2 ^ 64 - 1
 
--- `Enumerate`'s contract. Its condition: one of the source, and the numbers of all items to come fit a `usize`. What may still come is an item that the source may yield, with a number from the next one on, below each bound of those to come.
+-- The contract of `Enumerate`. `next` may be called where it may be on the source and the numbers of all items to come fit a `usize`. What may still come is an item that the source may give, with a number from the next one on, below each bound of those to come.
 abbrev pub enumerate_contract : {S A E : Type 0} → Contract S A E → Contract (S × ℕ) (ℕ × A) E
 enumerate_contract m = record {
   can_next = λ p. IsNumberable m p.0 p.1;
