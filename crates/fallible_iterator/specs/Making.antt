@@ -16,6 +16,10 @@ IsRefusal from e = (a : AllocError) × from a e
 abbrev pub AnswersRefusal : {B E : Type 0} → (AllocError → E → Type 0) → Answered B E → Type 0
 AnswersRefusal {E = E} from r = (e : E) × (r ≡ Err e) × IsRefusal from e
 
+-- whatever is drawn from s next, it is such a failure
+abbrev pub RefusesNext : {S B E : Type 0} → (S → Answered B E → S → Type 0) → (AllocError → E → Type 0) → S → Type 0
+RefusesNext {S} {B} {E} steps from s = (r : Answered B E) (t : S) → steps s r t → AnswersRefusal from r
+
 module _ {X B E : Type 0} (made : X → B → Type 0) where
   -- the answer is the list's: a value that is made of the item, or the same failure
   abbrev pub IsMadeOf : Result X E → Answered B E → Type 0
@@ -25,12 +29,16 @@ module _ {X B E : Type 0} (made : X → B → Type 0) where
   IsMadeOf (Err d) r = r ≡ Err d
 
   module _ {S : Type 0} (steps : S → Answered B E → S → Type 0) (from : AllocError → E → Type 0) where
-    -- Whatever is drawn from s, the answers are those of the list, in order, with values made of its items, and then an end; up to an allocation failure, after which nothing is said.
+    -- The answer is a refusal, or a value that was held, made of some x that is none of the list's, and the next answer is a refusal.
+    abbrev pub AtRefusal : Answered B E → S → Type 0
+    AtRefusal r t = AnswersRefusal from r ⊎ ((x : X) × (y : B) × made x y × (r ≡ Ok (Some y)) × RefusesNext steps from t)
+
+    -- Whatever is drawn from s, the answers are those of the list, in order, with values made of its items, and then an end. That is so up to a refusal and what was held before it; after a refusal nothing is said.
     abbrev pub GivesMade : S → List (Result X E) → Type 0
     GivesMade s [] = (r : Answered B E) (t : S) → steps s r t → r ≡ end
-    GivesMade s (y ∷ l) = (r : Answered B E) (t : S) → steps s r t → AnswersRefusal from r ⊎ (IsMadeOf y r × GivesMade t l)
+    GivesMade s (y ∷ l) = (r : Answered B E) (t : S) → steps s r t → AtRefusal r t ⊎ (IsMadeOf y r × GivesMade t l)
 
-    -- The answers of s, up to its first end, list l, with values made of its items; up to an allocation failure.
+    -- The answers of s, up to its first end, list l, with values made of its items; up to a refusal and what was held before it.
     pub record ListsMade (s : S) (l : List (Result X E)) : Type 0 where
       pub runs : GivesMade s l
 
@@ -48,6 +56,14 @@ module _ {V B E : Type 0} (made : V → B → Type 0) (from : AllocError → E �
   abbrev pub Makes : {F X : Type 0} → (F → X → Result B E → F → Type 0) → F → (X → Result V E) → Type 0
   Makes {F} {X} call f h = (x : X) (r : Result B E) (g : F) → call f x r g → (g ≡ f) × IsToldOrRefused (h x) r
 
+-- The closure f acts as the function h on values: called on one that is made of x it answers a value made of h x, or a refusal; and it stays as it is.
+abbrev pub MakesOf : {X B Y C E F : Type 0} → (X → B → Type 0) → (Y → C → Type 0) → (AllocError → E → Type 0) → (F → B → Result C E → F → Type 0) → F → (X → Y) → Type 0
+MakesOf {X} {B} {Y} {C} {E} {F} of made from call f h = (x : X) (y : B) (r : Result C E) (g : F) → of x y → call f y r g → (g ≡ f) × IsToldOrRefused made from (Ok (h x)) r
+
+-- The same of a closure on the value so far and an item: where they are made of d and x it answers a value made of h d x, or a refusal.
+abbrev pub MakesWith : {X B D C E F : Type 0} → (X → B → Type 0) → (D → C → Type 0) → (AllocError → E → Type 0) → (F → C → B → Result C E → F → Type 0) → F → (D → X → D) → Type 0
+MakesWith {X} {B} {D} {C} {E} {F} of made from call f h = (d : D) (c : C) (x : X) (y : B) (r : Result C E) (g : F) → made d c → of x y → call f c y r g → (g ≡ f) × IsToldOrRefused made from (Ok (h d x)) r
+
 -- Each value is made of the item at its place.
 abbrev pub EachMade : {V B : Type 0} → (V → B → Type 0) → List V → List B → Type 0
 EachMade made [] [] = ⊤
@@ -60,3 +76,7 @@ abbrev pub CollectedMade : {V B E C : Type 0} → (V → B → Type 0) → (Allo
 CollectedMade {V} {B} made from into l (Ok c) = (vs : List V) × (ys : List B) × (collected l ≡ Ok vs) × EachMade made vs ys × into ys c
 CollectedMade made from into l (Err (Source e)) = (collected l ≡ Err e) ⊎ IsRefusal from e
 CollectedMade made from into l (Err (Memory a)) = ⊤
+
+-- What a consumer answers over what lists made values, where its answer over the list is told and says nothing of the values: that one, or a refusal.
+abbrev pub SameOrRefused : {R E : Type 0} → (AllocError → E → Type 0) → Result R E → Result R E → Type 0
+SameOrRefused from told r = IsToldOrRefused (λ v y. y ≡ v) from told r

@@ -1,15 +1,17 @@
--- What `map` lists whose closure makes values up to an allocation failure, and what `collect` makes of such a list.
-use Rattle.std.specs.Prelude.{◌≡◌, Some, None, Result, Ok, Err, List, [], ◌∷◌, ◌++◌, map, ◌⊎◌}
+-- What `map` lists whose closure makes values up to a refusal, what a `map` behind it lists, and what consumers make of such a list.
+use Rattle.std.specs.Prelude.{◌≡◌, ℕ, ◌+◌, Some, None, Result, Ok, Err, List, [], ◌∷◌, ◌++◌, length, map, ◌⊎◌}
+use Rattle.std.specs.List.{FoldsTo}
 use Rattle.std.specs.Fn.{Mut}
-use Rattle.std.proofs.Common.{refl, sym, ap, subst, inl, inr}
-use Rattle.fallible_contract.specs.Traces.{Answered, Run, item, end, failure}
+use Rattle.std.proofs.Common.{refl, sym, ap, subst, arith, append-nil, inl, inr, ◌∙◌}
+use Rattle.fallible_contract.specs.Traces.{Answered, Run, item, end}
 use Rattle.fallible_contract.specs.Closures.{call_on}
+use Rattle.fallible_contract.specs.Folds.{CountExit, Counted, FoldExit, Folded, call_with, went_on_with}
 use Rattle.fallible_contract.specs.Collecting.{Collects}
 use Rattle.fallible_contract.specs.Passing.{passing_step}
 use Rattle.fallible_contract.specs.Laws.Passing.{Passes, done, end_passes, failure_passes, keeps, refuses, closes, leaves_out, to_passes}
-use Rattle.fallible_contract.specs.Lists.{AlwaysGives, Lists, before, collected}
+use Rattle.fallible_contract.specs.Lists.{AlwaysGives, Converts, Lists, before, collected, counted, folded, one_more_than}
 use Rattle.fallible_core.specs.OneToOne.Map.{map_outcome, map_parts, mapped}
-use Rattle.fallible_iterator.specs.Making.{AnswersRefusal, CollectedMade, EachMade, GivesMade, IsMadeOf, IsRefusal, IsToldOrRefused, ListsMade, Makes}
+use Rattle.fallible_iterator.specs.Making.{AnswersRefusal, AtRefusal, CollectedMade, EachMade, GivesMade, IsMadeOf, IsRefusal, IsToldOrRefused, ListsMade, Makes, MakesOf, MakesWith, RefusesNext, SameOrRefused}
 use Rattle.std.specs.declared.alloc.AllocError.{AllocError}
 use Rattle.fallible_contract.specs.declared.collecting.Fault.{Fault}
 use Rattle.fallible_contract.specs.declared.collecting.Fault.TheVariants.{Source, Memory}
@@ -82,8 +84,8 @@ module _ {S F X V B E : Type 0} (steps : S → Answered X E → S → Type 0) (c
   called_on x l s _ t g a (closes z v step called is c) = absurd (none_ends made from z v is)
   called_on x l s r t g a (leaves_out z v step called is c) = absurd (none_left_out made from z v is)
 
-  then_rest : (l : List (Result X E)) (x : X) (k : List (Result V E)) → ((t : S) → AlwaysGives steps t l → Gives t f k) → (r : Answered B E) (t : S) (g : F) → After l x r t g → AnswersRefusal from r ⊎ (IsMadeOf made (h x) r × Gives t g k)
-  then_rest l x k later r t g (inl q) = inl q
+  then_rest : (l : List (Result X E)) (x : X) (k : List (Result V E)) → ((t : S) → AlwaysGives steps t l → Gives t f k) → (r : Answered B E) (t : S) (g : F) → After l x r t g → AtRefusal made (passing_step steps call map_outcome) from r (t, g) ⊎ (IsMadeOf made (h x) r × Gives t g k)
+  then_rest l x k later r t g (inl q) = inl (inl q)
   then_rest l x k later r t g (inr w) = inr (w.0, subst (λ (j : F). Gives t j k) (sym w.1) (later t w.2))
 
   all_made : (l : List (Result X E)) (s : S) → AlwaysGives steps s l → Gives s f (mapped h l)
@@ -93,78 +95,335 @@ module _ {S F X V B E : Type 0} (steps : S → Answered X E → S → Type 0) (c
   all_made (Ok x ∷ l) s a = λ r t w. then_rest l x (mapped h l) (λ u b. all_made l u b) r t.0 t.1 (called_on x l s r t.0 t.1 a (to_passes w))
 
 module _ {W P V B E : Type 0} (made : V → B → Type 0) (from : AllocError → E → Type 0) (view : W → P) (steps : P → Answered B E → P → Type 0) where
-  abbrev Seen : W → List (Result V E) → Type 0
-  Seen s l = GivesMade made (λ u r v. steps (view u) r (view v)) from s l
+  abbrev SeenSteps : W → Answered B E → W → Type 0
+  SeenSteps u r v = steps (view u) r (view v)
 
-  rest_seen : (y : Result V E) (l : List (Result V E)) (r : Answered B E) (t : W) → (GivesMade made steps from (view t) l → Seen t l) → AnswersRefusal from r ⊎ (IsMadeOf made y r × GivesMade made steps from (view t) l) → AnswersRefusal from r ⊎ (IsMadeOf made y r × Seen t l)
-  rest_seen y l r t later (inl q) = inl q
+  next_seen : (t : W) → RefusesNext steps from (view t) → RefusesNext SeenSteps from t
+  next_seen t a = λ r u w. a r (view u) w
+
+  refusal_seen : (r : Answered B E) (t : W) → AtRefusal made steps from r (view t) → AtRefusal made SeenSteps from r t
+  refusal_seen r t (inl q) = inl q
+  refusal_seen r t (inr (x, y, m, is, next)) = inr (x, y, m, is, next_seen t next)
+
+  rest_seen : (y : Result V E) (l : List (Result V E)) (r : Answered B E) (t : W) → (GivesMade made steps from (view t) l → GivesMade made SeenSteps from t l) → AtRefusal made steps from r (view t) ⊎ (IsMadeOf made y r × GivesMade made steps from (view t) l) → AtRefusal made SeenSteps from r t ⊎ (IsMadeOf made y r × GivesMade made SeenSteps from t l)
+  rest_seen y l r t later (inl q) = inl (refusal_seen r t q)
   rest_seen y l r t later (inr k) = inr (k.0, later k.1)
 
-  -- a value whose answers are those of its parts yields what they yield
-  made_seen : (l : List (Result V E)) (s : W) → GivesMade made steps from (view s) l → Seen s l
+  -- a value whose answers are those of its parts gives what they give
+  pub made_seen : (l : List (Result V E)) (s : W) → GivesMade made steps from (view s) l → GivesMade made SeenSteps from s l
   made_seen [] s a = λ r t w. a r (view t) w
   made_seen (y ∷ l) s a = λ r t w. rest_seen y l r t (λ b. made_seen l t b) (a r (view t) w)
 
--- `map` whose closure makes what h says lists what h makes, up to an allocation failure
+  -- a value whose answers are those of its parts lists what they list
+  pub lists_made_seen : (s : W) (p : P) (l k : List (Result V E)) → view s ≡ p → l ≡ k → GivesMade made steps from p l → ListsMade made SeenSteps from s k
+  lists_made_seen s p l k at same a = record { runs = made_seen k s (subst (λ (q : P). GivesMade made steps from q k) (sym at) (subst (λ (j : List (Result V E)). GivesMade made steps from p j) same a)) }
+
+-- `map` whose closure makes what h says lists what h makes, up to a refusal
 pub made_by_map : {S F X V B E : Type 0} (steps : S → Answered X E → S → Type 0) (g : Mut F (X × Unit {0}) (Result B E)) (made : V → B → Type 0) (from : AllocError → E → Type 0) (h : X → Result V E) {it : S} {f : F} (l : List (Result X E)) {s : Map S F} → map_parts s ≡ (it, f) → Makes made from (call_on g) f h → Lists steps it l
     → ListsMade made (λ u r v. passing_step steps (call_on g) map_outcome (map_parts u) r (map_parts v)) from s (mapped h l)
-made_by_map steps g made from h {it} {f} l {s} parts makes i = record { runs = made_seen made from map_parts (passing_step steps (call_on g) map_outcome) (mapped h l) s (subst (λ (q : _). GivesMade made (passing_step steps (call_on g) map_outcome) from q (mapped h l)) (sym parts) (all_made steps (call_on g) made from f h makes l it i.runs)) }
+made_by_map steps g made from h {it} {f} l {s} parts makes i = lists_made_seen made from map_parts (passing_step steps (call_on g) map_outcome) s (it, f) _ _ parts refl (all_made steps (call_on g) made from f h makes l it i.runs)
 
--- ---- what `collect` makes of it
+-- ---- what one answer of what lists made values is
+
+module _ {S X B E : Type 0} (made : X → B → Type 0) (steps : S → Answered B E → S → Type 0) (from : AllocError → E → Type 0) where
+  -- what is known of an answer and what comes then, where the list goes on with z
+  abbrev AnswerTold : Result X E → Answered B E → S → Type 0 → Type 0
+  AnswerTold z r t G = AtRefusal made steps from r t ⊎ (IsMadeOf made z r × G)
+
+  pub end_told : {P : Type 0} (z : Result X E) (t : S) {G : Type 0} → AnswerTold z (Ok None) t G → P
+  end_told z t (inl (inl r)) = absurd (let e = r.1 in cc)
+  end_told z t (inl (inr h)) = absurd (let e = h.3 in cc)
+  end_told (Ok x) t (inr k) = absurd k.0
+  end_told (Err d) t (inr k) = absurd (let e = k.0 in cc)
+
+  pub failure_told : (z : Result X E) (e : E) (t : S) {G : Type 0} → AnswerTold z (Err e) t G → IsRefusal from e ⊎ ((z ≡ Err e) × G)
+  failure_told z e t (inl (inl r)) = inl (subst (IsRefusal from) (let q = r.1 in cc) r.2)
+  failure_told z e t (inl (inr h)) = absurd (let q = h.3 in cc)
+  failure_told (Ok x) e t (inr k) = absurd k.0
+  failure_told (Err d) e t (inr k) = inr ((let q = k.0 in cc), k.1)
+
+  -- an item is made of one that was held, before a refusal, or of the list's
+  abbrev ItemTold : Result X E → B → S → Type 0 → Type 0
+  ItemTold z y t G = ((x : X) × made x y × RefusesNext steps from t) ⊎ ((x : X) × (z ≡ Ok x) × made x y × G)
+
+  pub item_told : (z : Result X E) (y : B) (t : S) {G : Type 0} → AnswerTold z (Ok (Some y)) t G → ItemTold z y t G
+  item_told z y t (inl (inl r)) = absurd (let e = r.1 in cc)
+  item_told z y t (inl (inr (x, w, m, is, next))) = inl (x, subst (made x) (let same : w ≡ y = (let e = is in cc) in same) m, next)
+  item_told (Ok x) y t (inr k) = inr (x, refl, k.0, k.1)
+  item_told (Err d) y t (inr k) = absurd (let e = k.0 in cc)
+
+-- ---- what `map` lists over what lists made values
+
+module _ {S F X Y B C E : Type 0} (steps : S → Answered B E → S → Type 0) (call : F → B → Result C E → F → Type 0) (of : X → B → Type 0) (made : Y → C → Type 0) (from : AllocError → E → Type 0) (f : F) (h : X → Y) (makes : MakesOf of made from call f h) where
+  abbrev MapSteps : S × F → Answered C E → S × F → Type 0
+  MapSteps = passing_step steps call map_outcome
+
+  abbrev OneOf : S → Answered C E → S → F → Type 0
+  OneOf s r t g = Passes steps call map_outcome s f (r ∷ []) t g
+
+  no_item_refuses : {P : Type 0} (x : B) → AnswersRefusal from (Ok (Some x)) → P
+  no_item_refuses x r = absurd (let e = r.1 in cc)
+
+  refused_one : (s : S) (r : Answered C E) (t : S) (g : F) → RefusesNext steps from s → OneOf s r t g → AnswersRefusal from r
+  refused_one s _ t g a (end_passes step d) = absurd (let e = (a (Ok None) _ step).1 in cc)
+  refused_one s _ t g a (failure_passes e step d) = let k = a (Err e) _ step in (e, refl, subst (IsRefusal from) (let q = k.1 in cc) k.2)
+  refused_one s _ t g a (keeps x v y step called is d) = no_item_refuses x (a (Ok (Some x)) _ step)
+  refused_one s _ t g a (refuses x v e step called is d) = no_item_refuses x (a (Ok (Some x)) _ step)
+  refused_one s _ t g a (closes x v step called is d) = no_item_refuses x (a (Ok (Some x)) _ step)
+  refused_one s r t g a (leaves_out x v step called is d) = no_item_refuses x (a (Ok (Some x)) _ step)
+
+  refuses_behind : (t : S) (g : F) → g ≡ f → RefusesNext steps from t → RefusesNext MapSteps from (t, g)
+  refuses_behind t g same a = subst (λ (j : F). RefusesNext MapSteps from (t, j)) (sym same) (λ r q w. refused_one t r q.0 q.1 a (to_passes w))
+
+  ended_of : (s : S) (r : Answered C E) (t : S) (g : F) → GivesMade of steps from s [] → OneOf s r t g → r ≡ end
+  ended_of s _ t g a (end_passes step d) = refl
+  ended_of s _ t g a (failure_passes e step d) = absurd (let w = a (Err e) _ step in cc)
+  ended_of s _ t g a (keeps x v y step called is d) = absurd (let w = a (Ok (Some x)) _ step in cc)
+  ended_of s _ t g a (refuses x v e step called is d) = absurd (let w = a (Ok (Some x)) _ step in cc)
+  ended_of s _ t g a (closes x v step called is d) = absurd (let w = a (Ok (Some x)) _ step in cc)
+  ended_of s r t g a (leaves_out x v step called is d) = absurd (let w = a (Ok (Some x)) _ step in cc)
+
+  -- what the map makes of one of the list
+  abbrev told_of : Result X E → Result Y E
+  told_of (Ok x) = Ok (h x)
+  told_of (Err e) = Err e
+
+  abbrev AfterOf : Result X E → List (Result X E) → Answered C E → S → F → Type 0
+  AfterOf z l r t g = AtRefusal made MapSteps from r (t, g) ⊎ (IsMadeOf made (told_of z) r × (g ≡ f) × GivesMade of steps from t l)
+
+  failed_of : (z : Result X E) (l : List (Result X E)) (e : E) (t : S) → IsRefusal from e ⊎ ((z ≡ Err e) × GivesMade of steps from t l) → AfterOf z l (Err e) t f
+  failed_of z l e t (inl r) = inl (inl (e, refl, r))
+  failed_of z l e t (inr k) = inr (subst (λ (w : Result X E). IsMadeOf made (told_of w) (Err e)) (sym k.0) refl, refl, k.1)
+
+  kept_of : (z : Result X E) (l : List (Result X E)) (b : B) (v : Result C E) (y : C) (t : S) (g : F) → map_outcome b v ≡ Kept y → call f b v g → ItemTold of steps from z b t (GivesMade of steps from t l) → AfterOf z l (Ok (Some y)) t g
+  kept_of z l b v y t g is called (inl (x, m, next)) = let c = makes x b v g m called in inl (inr (h x, y, kept_made made from b (Ok (h x)) v y is c.1, refl, refuses_behind t g c.0 next))
+  kept_of z l b v y t g is called (inr (x, same, m, rest)) = let c = makes x b v g m called in inr (subst (λ (w : Result X E). IsMadeOf made (told_of w) (Ok (Some y))) (sym same) (kept_made made from b (Ok (h x)) v y is c.1), c.0, rest)
+
+  refused_by_call : (x : X) (b : B) (v : Result C E) (e : E) → map_outcome b v ≡ Failure e → IsToldOrRefused made from (Ok (h x)) v → AnswersRefusal {B = C} from (Err e)
+  refused_by_call x b v e is m = elim (failed_made made from b (Ok (h x)) v e is m) [ inl r ↦ r | inr k ↦ absurd k ]
+
+  lost_of : (z : Result X E) (l : List (Result X E)) (b : B) (v : Result C E) (e : E) (t : S) (g : F) → map_outcome b v ≡ Failure e → call f b v g → ItemTold of steps from z b t (GivesMade of steps from t l) → AfterOf z l (Err e) t g
+  lost_of z l b v e t g is called (inl (x, m, next)) = inl (inl (refused_by_call x b v e is (makes x b v g m called).1))
+  lost_of z l b v e t g is called (inr (x, same, m, rest)) = inl (inl (refused_by_call x b v e is (makes x b v g m called).1))
+
+  one_of : (z : Result X E) (l : List (Result X E)) (s : S) (r : Answered C E) (t : S) (g : F) → GivesMade of steps from s (z ∷ l) → OneOf s r t g → AfterOf z l r t g
+  one_of z l s _ t g a (end_passes step d) = end_told of steps from z _ (a (Ok None) _ step)
+  one_of z l s _ t g a (failure_passes e step done) = failed_of z l e t (failure_told of steps from z e t (a (Err e) t step))
+  one_of z l s _ t g a (keeps b v y step called is done) = kept_of z l b v y t g is called (item_told of steps from z b t (a (Ok (Some b)) t step))
+  one_of z l s _ t g a (refuses b v e step called is done) = lost_of z l b v e t g is called (item_told of steps from z b t (a (Ok (Some b)) t step))
+  one_of z l s _ t g a (closes b v step called is d) = absurd (none_ends made from b v is)
+  one_of z l s r t g a (leaves_out b v step called is d) = absurd (none_left_out made from b v is)
+
+  abbrev GivesOf : S → F → List (Result Y E) → Type 0
+  GivesOf t g k = GivesMade made MapSteps from (t, g) k
+
+  then_of : (z : Result X E) (l : List (Result X E)) (k : List (Result Y E)) → ((t : S) → GivesMade of steps from t l → GivesOf t f k) → (r : Answered C E) (t : S) (g : F) → AfterOf z l r t g → AtRefusal made MapSteps from r (t, g) ⊎ (IsMadeOf made (told_of z) r × GivesOf t g k)
+  then_of z l k later r t g (inl q) = inl q
+  then_of z l k later r t g (inr w) = inr (w.0, subst (λ (j : F). GivesOf t j k) (sym w.1) (later t w.2))
+
+  abbrev one_told : X → Result Y E
+  one_told x = Ok (h x)
+
+  all_of_made : (l : List (Result X E)) (s : S) → GivesMade of steps from s l → GivesOf s f (mapped (λ x. Ok (h x)) l)
+  unfolding mapped
+  all_of_made [] s a = λ r t w. ended_of s r t.0 t.1 a (to_passes w)
+  all_of_made (Err d ∷ l) s a = λ r t w. then_of (Err d) l (mapped (λ x. Ok (h x)) l) (λ u b. all_of_made l u b) r t.0 t.1 (one_of (Err d) l s r t.0 t.1 a (to_passes w))
+  all_of_made (Ok x ∷ l) s a = λ r t w. then_of (Ok x) l (mapped (λ x. Ok (h x)) l) (λ u b. all_of_made l u b) r t.0 t.1 (one_of (Ok x) l s r t.0 t.1 a (to_passes w))
+
+-- `map` over what lists made values lists what h makes of them, up to a refusal
+pub made_by_map_of_made : {S F X Y B C E : Type 0} (steps : S → Answered B E → S → Type 0) (g : Mut F (B × Unit {0}) (Result C E)) (of : X → B → Type 0) (made : Y → C → Type 0) (from : AllocError → E → Type 0) (h : X → Y) {it : S} {f : F} (l : List (Result X E)) {s : Map S F} → map_parts s ≡ (it, f) → MakesOf of made from (call_on g) f h → ListsMade of steps from it l
+    → ListsMade made (λ u r v. passing_step steps (call_on g) map_outcome (map_parts u) r (map_parts v)) from s (mapped (λ x. Ok (h x)) l)
+made_by_map_of_made steps g of made from h {it} {f} l {s} parts makes i = lists_made_seen made from map_parts (passing_step steps (call_on g) map_outcome) s (it, f) _ _ parts refl (all_of_made steps (call_on g) of made from f h makes l it i.runs)
+
+-- ---- what draws up to a last answer are made of
+
+module _ {V B E : Type 0} (made : V → B → Type 0) where
+  -- what the list goes on with behind the items, by the last answer
+  abbrev RestTold : Answered B E → List (Result V E) → Type 0
+  RestTold (Ok None) rest = rest ≡ []
+  RestTold (Err e) rest = (k : List (Result V E)) × (rest ≡ Err e ∷ k)
+  RestTold (Ok (Some y)) rest = (v : V) × made v y
+
+  record DrawnMade (l : List (Result V E)) (ys : List B) (last : Answered B E) : Type 0 where
+    values : List V
+    rest : List (Result V E)
+    list_is : l ≡ map (λ v. Ok v) values ++ rest
+    each : EachMade made values ys
+    rest_is : RestTold last rest
+
+  one_before : (v : V) (y : B) (l : List (Result V E)) (ys : List B) (last : Answered B E) → made v y → DrawnMade l ys last → DrawnMade (Ok v ∷ l) (y ∷ ys) last
+  one_before v y l ys last m d = record { values = v ∷ d.values; rest = d.rest; list_is = ap (λ k. Ok v ∷ k) d.list_is; each = (m, d.each); rest_is = d.rest_is }
+
+  none_before : (l : List (Result V E)) (last : Answered B E) → RestTold last l → DrawnMade l [] last
+  none_before l last is = record { values = []; rest = l; list_is = refl; each = tt; rest_is = is }
 
 module _ {S V B E : Type 0} (steps : S → Answered B E → S → Type 0) (made : V → B → Type 0) (from : AllocError → E → Type 0) where
   abbrev Made : S → List (Result V E) → Type 0
   Made s l = GivesMade made steps from s l
 
-  no_end : {P : Type 0} (y : Result V E) {Q : Type 0} → AnswersRefusal {B = B} from (Ok None) ⊎ (IsMadeOf {B = B} made y (Ok None) × Q) → P
-  no_end y (inl r) = absurd (let e = r.1 in cc)
-  no_end (Ok v) (inr k) = absurd k.0
-  no_end (Err d) (inr k) = absurd (let e = k.0 in cc)
+  -- the last answer is a refusal, or the draws were those of the list
+  abbrev DrawsTold : List (Result V E) → List B → Answered B E → Type 0
+  DrawsTold l ys last = AnswersRefusal from last ⊎ DrawnMade made l ys last
 
-  no_item : {P : Type 0} (d : E) (y : B) {Q : Type 0} → AnswersRefusal {B = B} from (Ok (Some y)) ⊎ (IsMadeOf made (Err d) (Ok (Some y)) × Q) → P
-  no_item d y (inl r) = absurd (let e = r.1 in cc)
-  no_item d y (inr k) = absurd (let e = k.0 in cc)
+  after_held : (ys : List B) (last : Answered B E) (s t : S) → RefusesNext steps from s → Run steps s (map item ys ++ last ∷ []) t → AnswersRefusal from last
+  after_held [] last s t a ran = a last ran.0 ran.1
+  after_held (y ∷ ys) last s t a ran = absurd (let e = (a (item y) ran.0 ran.1).1 in cc)
 
-  an_item : (v : V) (y : B) {Q : Type 0} → AnswersRefusal {B = B} from (Ok (Some y)) ⊎ (IsMadeOf {E = E} made (Ok v) (Ok (Some y)) × Q) → made v y × Q
-  an_item v y (inl r) = absurd (let e = r.1 in cc)
-  an_item v y (inr k) = k
+  one_more : (v : V) (y : B) (l : List (Result V E)) (ys : List B) (last : Answered B E) → made v y → DrawsTold l ys last → DrawsTold (Ok v ∷ l) (y ∷ ys) last
+  one_more v y l ys last m (inl r) = inl r
+  one_more v y l ys last m (inr d) = inr (one_before made v y l ys last m d)
 
-  a_failure : (d e : E) {Q : Type 0} → AnswersRefusal {B = B} from (Err e) ⊎ (IsMadeOf {B = B} made (Err d) (Err e) × Q) → (e ≡ d) ⊎ IsRefusal from e
-  a_failure d e (inl r) = inr (subst (IsRefusal from) (let q = r.1 in cc) r.2)
-  a_failure d e (inr k) = inl (let q = k.0 in cc)
+  last_failed : (z : Result V E) (e : E) (l : List (Result V E)) {G : Type 0} → IsRefusal from e ⊎ ((z ≡ Err e) × G) → DrawsTold (z ∷ l) [] (Err e)
+  last_failed z e l (inl r) = inl (e, refl, r)
+  last_failed z e l (inr k) = inr (none_before made (z ∷ l) (Err e) (l, ap (λ w. w ∷ l) k.0))
 
-  a_refusal : (v : V) (e : E) {Q : Type 0} → AnswersRefusal {B = B} from (Err e) ⊎ (IsMadeOf {B = B} made (Ok v) (Err e) × Q) → IsRefusal from e
-  a_refusal v e (inl r) = subst (IsRefusal from) (let q = r.1 in cc) r.2
-  a_refusal v e (inr k) = absurd k.0
+  last_item : (z : Result V E) (y : B) (l : List (Result V E)) (t : S) {G : Type 0} → ItemTold made steps from z y t G → DrawsTold (z ∷ l) [] (Ok (Some y))
+  last_item z y l t (inl (x, m, next)) = inr (none_before made (z ∷ l) (Ok (Some y)) (x, m))
+  last_item z y l t (inr (x, same, m, rest)) = inr (none_before made (z ∷ l) (Ok (Some y)) (x, m))
 
-  all_collected : (ys : List B) (l : List (Result V E)) (s t : S) → Made s l → Run steps s (map item ys ++ end ∷ []) t → (vs : List V) × (collected l ≡ Ok vs) × EachMade made vs ys
+  first_item : (z : Result V E) (y : B) (l : List (Result V E)) (ys : List B) (last : Answered B E) (u t : S) → ((k : GivesMade made steps from u l) → DrawsTold l ys last) → Run steps u (map item ys ++ last ∷ []) t → ItemTold made steps from z y u (GivesMade made steps from u l) → DrawsTold (z ∷ l) (y ∷ ys) last
+  first_item z y l ys last u t later ran (inl (x, m, next)) = inl (after_held ys last u t next ran)
+  first_item z y l ys last u t later ran (inr (x, same, m, rest)) = subst (λ (w : Result V E). DrawsTold (w ∷ l) (y ∷ ys) last) (sym same) (one_more x y l ys last m (later rest))
+
+  last_told : (z : Result V E) (l : List (Result V E)) (last : Answered B E) (s t : S) → Made s (z ∷ l) → steps s last t → DrawsTold (z ∷ l) [] last
+  last_told z l (Ok None) s t a step = end_told made steps from z t (a (Ok None) t step)
+  last_told z l (Err e) s t a step = last_failed z e l (failure_told made steps from z e t (a (Err e) t step))
+  last_told z l (Ok (Some y)) s t a step = last_item z y l t (item_told made steps from z y t (a (Ok (Some y)) t step))
+
+  ended_told : (last : Answered B E) → last ≡ end → DrawsTold [] [] last
+  ended_told last is = inr (subst (λ (r : Answered B E). DrawnMade made [] [] r) (sym is) (none_before made [] end refl))
+
+  draws_told : (ys : List B) (last : Answered B E) (l : List (Result V E)) (s t : S) → Made s l → Run steps s (map item ys ++ last ∷ []) t → DrawsTold l ys last
+  draws_told [] last [] s t a ran = ended_told last (a last ran.0 ran.1)
+  draws_told [] last (z ∷ l) s t a ran = last_told z l last s ran.0 a ran.1
+  draws_told (y ∷ ys) last [] s t a ran = absurd (let e = a (item y) ran.0 ran.1 in cc)
+  draws_told (y ∷ ys) last (z ∷ l) s t a ran = first_item z y l ys last ran.0 t (λ k. draws_told ys last l ran.0 t k ran.2) ran.2 (item_told made steps from z y ran.0 (a (item y) ran.0 ran.1))
+
+-- ---- what consumers make of it
+
+module _ {V E : Type 0} where
+  collected_front : (vs : List V) (rest : List (Result V E)) (ws : List V) → collected rest ≡ Ok ws → collected (map (λ v. Ok v) vs ++ rest) ≡ Ok (vs ++ ws)
   unfolding collected
-  all_collected [] [] s t a ran = ([], refl, tt)
-  all_collected [] (y ∷ l) s t a ran = no_end y (a end ran.0 ran.1)
-  all_collected (y ∷ ys) [] s t a ran = absurd (let e = a (item y) ran.0 ran.1 in cc)
-  all_collected (y ∷ ys) (Err d ∷ l) s t a ran = no_item d y (a (item y) ran.0 ran.1)
-  all_collected (y ∷ ys) (Ok v ∷ l) s t a ran = let k = an_item v y (a (item y) ran.0 ran.1) in let rest = all_collected ys l ran.0 t k.1 ran.2 in (v ∷ rest.0, ap (before v) rest.1, (k.0, rest.2))
+  collected_front [] rest ws is = is
+  collected_front (v ∷ vs) rest ws is = ap (before v) (collected_front vs rest ws is)
 
-  failure_told : (d e : E) (l : List (Result V E)) → (e ≡ d) ⊎ IsRefusal from e → (collected (Err d ∷ l) ≡ Err e) ⊎ IsRefusal from e
+  failed_front : (vs : List V) (rest : List (Result V E)) (e : E) → collected rest ≡ Err e → collected (map (λ v. Ok v) vs ++ rest) ≡ Err e
   unfolding collected
-  failure_told d e l (inl same) = inl (ap (λ c. Err c) (sym same))
-  failure_told d e l (inr r) = inr r
+  failed_front [] rest e is = is
+  failed_front (v ∷ vs) rest e is = ap (before v) (failed_front vs rest e is)
 
-  failed_or_refused : (ys : List B) (e : E) (l : List (Result V E)) (s t : S) → Made s l → Run steps s (map item ys ++ failure e ∷ []) t → (collected l ≡ Err e) ⊎ IsRefusal from e
+  failed_at : (e : E) (l : List (Result V E)) → collected (Err e ∷ l) ≡ Err e
   unfolding collected
-  failed_or_refused [] e [] s t a ran = absurd (let q = a (failure e) ran.0 ran.1 in cc)
-  failed_or_refused [] e (Ok v ∷ l) s t a ran = inr (a_refusal v e (a (failure e) ran.0 ran.1))
-  failed_or_refused [] e (Err d ∷ l) s t a ran = failure_told d e l (a_failure d e (a (failure e) ran.0 ran.1))
-  failed_or_refused (y ∷ ys) e [] s t a ran = absurd (let q = a (item y) ran.0 ran.1 in cc)
-  failed_or_refused (y ∷ ys) e (Err d ∷ l) s t a ran = no_item d y (a (item y) ran.0 ran.1)
-  failed_or_refused (y ∷ ys) e (Ok v ∷ l) s t a ran = let k = an_item v y (a (item y) ran.0 ran.1) in by (failed_or_refused ys e l ran.0 t k.1 ran.2)
-    where
-      by : (collected l ≡ Err e) ⊎ IsRefusal from e → (before v (collected l) ≡ Err e) ⊎ IsRefusal from e
-      by (inl is) = inl (ap (before v) is)
-      by (inr r) = inr r
+  failed_at e l = refl
+
+  counted_front : (vs : List V) (rest : List (Result V E)) (n : ℕ) → counted rest ≡ Ok n → counted (map (λ v. Ok v) vs ++ rest) ≡ Ok (length vs + n)
+  unfolding counted
+  counted_front [] rest n is = is ∙ ap (λ k. Ok k) (omega arith)
+  counted_front (v ∷ vs) rest n is = ap one_more_than (counted_front vs rest n is) ∙ ap (λ k. Ok k) (omega arith)
+
+  count_failed : (vs : List V) (rest : List (Result V E)) (e : E) → counted rest ≡ Err e → counted (map (λ v. Ok v) vs ++ rest) ≡ Err e
+  unfolding counted
+  count_failed [] rest e is = is
+  count_failed (v ∷ vs) rest e is = ap one_more_than (count_failed vs rest e is)
+
+  count_failed_at : (e : E) (l : List (Result V E)) → counted (Err e ∷ l) ≡ Err e
+  unfolding counted
+  count_failed_at e l = refl
+
+nothing_collected : {V E : Type 0} → collected {A = V} {E = E} [] ≡ Ok []
+unfolding collected
+nothing_collected = refl
+
+none_counted : (V : Type 0) {E : Type 0} → counted {A = V} {E = E} [] ≡ Ok 0
+unfolding counted
+none_counted V = refl
+
+each_length : {V B : Type 0} (made : V → B → Type 0) (vs : List V) (ys : List B) → EachMade made vs ys → length ys ≡ length vs
+each_length made [] [] m = refl
+each_length made [] (y ∷ ys) m = absurd m
+each_length made (v ∷ vs) [] m = absurd m
+each_length made (v ∷ vs) (y ∷ ys) m = let e = each_length made vs ys m.1 in omega (arith, e)
+
+-- a refusal fails whatever is told
+pub refused_result : {V B E : Type 0} (made : V → B → Type 0) (from : AllocError → E → Type 0) (told : Result V E) (e : E) → IsRefusal from e → IsToldOrRefused made from told (Err e)
+refused_result made from (Ok v) e r = r
+refused_result made from (Err d) e r = inr r
+
+pub failed_result : {V B E : Type 0} (made : V → B → Type 0) (from : AllocError → E → Type 0) (told : Result V E) (e : E) → told ≡ Err e → IsToldOrRefused made from told (Err e)
+failed_result made from told e is = subst (λ (w : Result _ _). IsToldOrRefused made from w (Err e)) (sym is) (inl refl)
+
+module _ {S V B E : Type 0} (steps : S → Answered B E → S → Type 0) (made : V → B → Type 0) (from : AllocError → E → Type 0) where
+  collected_by : {C : Type 0} (into : List B → C → Type 0) (l : List (Result V E)) (ys : List B) (c : C) → into ys c → DrawsTold steps made from l ys end → CollectedMade made from into l (Ok c)
+  collected_by into l ys c is (inl r) = absurd (let e = r.1 in cc)
+  collected_by into l ys c is (inr d) = (d.values ++ [], ys, ap collected d.list_is ∙ collected_front d.values d.rest [] (ap collected d.rest_is ∙ nothing_collected), subst (λ (vs : List V). EachMade made vs ys) (sym (append-nil d.values)) d.each, is)
+
+  failed_by : (l : List (Result V E)) (ys : List B) (e : E) → DrawsTold steps made from l ys (Err e) → (collected l ≡ Err e) ⊎ IsRefusal from e
+  failed_by l ys e (inl r) = inr (subst (IsRefusal from) (let q = r.1 in cc) r.2)
+  failed_by l ys e (inr d) = inl (ap collected d.list_is ∙ failed_front d.values d.rest e (ap collected d.rest_is.1 ∙ failed_at e d.rest_is.0))
 
   -- what `collect` returns over what lists made values
   pub collected_made : {C : Type 0} (into : List B → C → Type 0) (at_making : Type 0) (at_item : C → B → Type 0) {s : S} (l : List (Result V E)) (r : Result C (Fault E)) → Collects steps into at_making at_item s r → ListsMade made steps from s l → CollectedMade made from into l r
-  collected_made into at_making at_item {s} l (Ok c) k i = let all = all_collected k.items l s k.after i.runs k.ran in (all.0, k.items, all.1, all.2, k.is_made)
-  collected_made into at_making at_item {s} l (Err (Source e)) k i = failed_or_refused k.items e l s k.after i.runs k.ran
+  collected_made into at_making at_item {s} l (Ok c) k i = collected_by into l k.items c k.is_made (draws_told steps made from k.items end l s k.after i.runs k.ran)
+  collected_made into at_making at_item {s} l (Err (Source e)) k i = failed_by l k.items e (draws_told steps made from k.items (Err e) l s k.after i.runs k.ran)
   collected_made into at_making at_item l (Err (Memory a)) k i = tt
+
+  counted_by : (l : List (Result V E)) (ys : List B) (last : Answered B E) (r : Result ℕ E) → CountExit (length ys) last r → DrawsTold steps made from l ys last → SameOrRefused from (counted l) r
+  counted_by l ys (Ok (Some y)) r exit d = absurd exit
+  counted_by l ys (Ok None) r exit (inl w) = absurd (let e = w.1 in cc)
+  counted_by l ys (Ok None) r exit (inr d) = rw (exit, ap counted d.list_is ∙ counted_front d.values d.rest 0 (ap counted d.rest_is ∙ none_counted V)) (each_length made d.values ys d.each ∙ omega arith)
+  counted_by l ys (Err e) r exit (inl w) = rw exit (refused_result (λ v y. y ≡ v) from (counted l) e (subst (IsRefusal from) (let q = w.1 in cc) w.2))
+  counted_by l ys (Err e) r exit (inr d) = rw exit (failed_result (λ v y. y ≡ v) from (counted l) e (ap counted d.list_is ∙ count_failed d.values d.rest e (ap counted d.rest_is.1 ∙ count_failed_at e d.rest_is.0)))
+
+  -- what `count` answers over what lists made values
+  pub counted_made : {s t : S} (l : List (Result V E)) (r : Result ℕ E) → Counted steps s r t → ListsMade made steps from s l → SameOrRefused from (counted l) r
+  counted_made {s} {t} l r k i = counted_by l k.items k.last r k.at.exit (draws_told steps made from k.items k.last l s t i.runs k.ran)
+
+-- ---- what folds make of it
+
+module _ {X B D C E E' F : Type 0} (of : X → B → Type 0) (made : D → C → Type 0) (from' : AllocError → E' → Type 0) (call : F → C → B → Result C E' → F → Type 0) (f : F) (h : D → X → D) (makes : MakesWith of made from' call f h) (convert : E → E') where
+  abbrev Fold : D → List (Result X E) → Result D E'
+  Fold d l = folded convert (λ a x. Ok (h a x)) d l
+
+  fold_went : (x : X) (y : B) (d : D) (c : C) (q : C × F) → made d c → of x y → went_on_with call (c, f) y q → made (h d x) q.0 × (q.1 ≡ f)
+  fold_went x y d c q m n called = let k = makes d c x y (Ok q.0) q.1 m n called in (k.1, k.0)
+
+  -- what the value is made of after calls that went on, of which the fold of the list goes on
+  record Went (vs : List X) (d : D) (q : C × F) : Type 0 where
+    value : D
+    is_made : made value q.0
+    stays : q.1 ≡ f
+    goes_on : (rest : List (Result X E)) → Fold d (map (λ v. Ok v) vs ++ rest) ≡ Fold value rest
+
+  went_before : (v : X) (vs : List X) (d : D) (q : C × F) → Went vs (h d v) q → Went (v ∷ vs) d q
+  unfolding folded
+  went_before v vs d q w = record { value = w.value; is_made = w.is_made; stays = w.stays; goes_on = w.goes_on }
+
+  all_went : (vs : List X) (ys : List B) (d : D) (c : C) (q : C × F) → EachMade of vs ys → made d c → FoldsTo {P = C × F} (went_on_with call) (c, f) ys q → Went vs d q
+  all_went [] [] d c q each m went = subst (λ (p : C × F). Went [] d p) went (record { value = d; is_made = m; stays = refl; goes_on = λ rest. refl })
+  all_went [] (y ∷ ys) d c q each m went = absurd each
+  all_went (v ∷ vs) [] d c q each m went = absurd each
+  all_went (v ∷ vs) (y ∷ ys) d c q each m went = let k = fold_went v y d c went.0 m each.0 went.1 in went_before v vs d q (all_went vs ys (h d v) (went.0).0 q each.1 k.0 (subst (λ (g : F). FoldsTo {P = C × F} (went_on_with call) ((went.0).0, g) ys q) k.1 went.2))
+
+  fold_ended : (d : D) → Fold d [] ≡ Ok d
+  unfolding folded
+  fold_ended d = refl
+
+  fold_failed : (d : D) (e : E) (l : List (Result X E)) → Fold d (Err e ∷ l) ≡ Err (convert e)
+  unfolding folded
+  fold_failed d e l = refl
+
+  module _ (from : AllocError → E → Type 0) (converts_by : E → E' → Type 0) (converts : Converts converts_by convert) (refusals : (e : E) (e' : E') → IsRefusal from e → converts_by e e' → IsRefusal from' e') where
+    by_exit : (l : List (Result X E)) (ys : List B) (last : Answered B E) (d : D) (c : C) (q : C × F) (r : Result C E') → made d c → FoldsTo {P = C × F} (went_on_with call) (c, f) ys q → FoldExit call converts_by q.0 q.1 last r → AnswersRefusal from last ⊎ DrawnMade of l ys last → IsToldOrRefused made from' (Fold d l) r
+    by_exit l ys (Ok None) d c q r m went exit (inl w) = absurd (let e = w.1 in cc)
+    by_exit l ys (Ok (Some y)) d c q r m went exit (inl w) = absurd (let e = w.1 in cc)
+    by_exit l ys (Err e) d c q r m went (e', by, is) (inl w) = rw is (refused_result made from' (Fold d l) e' (refusals e e' (subst (IsRefusal from) (let k = w.1 in cc) w.2) by))
+    by_exit l ys (Ok None) d c q r m went exit (inr k) = let w = all_went k.values ys d c q k.each m went in
+        rw (exit, ap (Fold d) k.list_is ∙ w.goes_on k.rest ∙ ap (Fold w.value) k.rest_is ∙ fold_ended w.value) w.is_made
+    by_exit l ys (Err e) d c q r m went (e', by, is) (inr k) = let w = all_went k.values ys d c q k.each m went in
+        rw is (failed_result made from' (Fold d l) e' (ap (Fold d) k.list_is ∙ w.goes_on k.rest ∙ ap (Fold w.value) k.rest_is.1 ∙ fold_failed w.value e k.rest_is.0 ∙ ap (λ z. Err z) (sym (converts e e' by))))
+    by_exit l ys (Ok (Some y)) d c q r m went (g, e', called, is) (inr k) = let w = all_went k.values ys d c q k.each m went in
+        rw is (refused_result made from' (Fold d l) e' (makes w.value q.0 k.rest_is.0 y (Err e') g w.is_made k.rest_is.1 (subst (λ (j : F). call j q.0 y (Err e') g) w.stays called)).1)
+
+-- What `try_fold` answers over what lists made values: a value made of the one that the list is folded to, its first failure, or a refusal. What a refused request becomes is a refusal of the closure's error too.
+pub folded_made : {S X B D C E E' F : Type 0} (steps : S → Answered B E → S → Type 0) (g : Mut F (C × (B × Unit {0})) (Result C E')) (of : X → B → Type 0) (made : D → C → Type 0) (from : AllocError → E → Type 0) (from' : AllocError → E' → Type 0) (converts_by : E → E' → Type 0) (convert : E → E') (h : D → X → D) {s t : S} {f : F} {c : C} (d : D) (l : List (Result X E)) (r : Result C E') → Folded steps (call_with g) converts_by s c f r t → made d c → MakesWith of made from' (call_with g) f h → Converts converts_by convert → ((e : E) (e' : E') → IsRefusal from e → converts_by e e' → IsRefusal from' e') → ListsMade of steps from s l → IsToldOrRefused made from' (folded convert (λ a x. Ok (h a x)) d l) r
+folded_made steps g of made from from' converts_by convert h {s} {t} {f} {c} d l r k m makes converts refusals i = by_exit of made from' (call_with g) f h makes convert from converts_by converts refusals l k.items k.last d c (k.at.value, k.at.closure) r m k.at.went k.at.exit (draws_told steps of from k.items k.last l s t i.runs k.ran)
