@@ -10,6 +10,7 @@ ghost use Rattle.fallible_iterator.specs.Contract.{seen_as, AtMost, Stays};
 ghost use Rattle.fallible_iterator.specs.Fault.TheVariants.{Source};
 ghost use Rattle.fallible_iterator.specs.Folds.{call_with, takes_with, HoldsAtEachTurn, CallableInFold, goes_on};
 ghost use Rattle.fallible_iterator.specs.Lists.{Acts, ActsWith, Lists, ListsForGood, Converts, pointed_to, CollectedAs, MadeOf, rest_nth, collected};
+ghost use Rattle.fallible_iterator.specs.Making.{ListsMade};
 ghost use Rattle.fallible_iterator.specs.Picking.{call_at_two, takes_at_two};
 ghost use Rattle.fallible_iterator.specs.Searching.{CallableInSearch, WentOn, Searched, all_pick, each_pick, find_pick, position_pick};
 ghost use Rattle.fallible_itertools.specs.ChunkBy.{MadeGroup, chunk_by_contract, chunk_by_parts, chunked_by};
@@ -22,7 +23,6 @@ ghost use Rattle.fallible_itertools.specs.Counts.{IsCountsOf};
 ghost use Rattle.fallible_itertools.specs.Dedup.{dedup_contract, dedup_parts, deduped};
 ghost use Rattle.fallible_itertools.specs.DedupByKey.{dedup_by_key_contract, dedup_by_key_parts, dedup_key_asks, dedup_key_takes, deduped_by_key};
 ghost use Rattle.fallible_itertools.specs.ExactlyOne.{AtMostOne, at_most_one_of, wanting_one};
-ghost use Rattle.fallible_itertools.specs.Batch.{ListsUpToRefusal};
 ghost use Rattle.fallible_itertools.specs.Holding.{MayBeAsked};
 ghost use Rattle.fallible_itertools.specs.InspectErr.{inspect_err_contract, inspect_err_parts, seen_call};
 ghost use Rattle.fallible_itertools.specs.OrElse.{or_else_contract, or_else_parts, recovered};
@@ -889,7 +889,7 @@ pub trait FallibleItertools: FallibleIterator {
         ensures parts { chunks_parts result ≡ (self, ((n, None), None)) }
         ensures lists { (l : List (Result Self.Item Self.Error))
             → Lists Self.contract.steps self l
-            → ListsUpToRefusal (λ xs v. vec_items v ≡ xs)
+            → ListsMade (λ xs v. vec_items v ≡ xs)
             (seen_as chunks_parts (chunks_contract Self.Error.from_gives Self.contract)).steps
             Self.Error.from_gives result (chunked n l) }
     {
@@ -928,7 +928,7 @@ pub trait FallibleItertools: FallibleIterator {
             → (l : List (Result Self.Item Self.Error))
             → Acts (call_at F.FnMut) key h
             → Lists Self.contract.steps self l
-            → ListsUpToRefusal MadeGroup (seen_as chunk_by_parts
+            → ListsMade MadeGroup (seen_as chunk_by_parts
             (chunk_by_contract Self.Error.from_gives K.eq F.FnMut Self.contract)).steps
             Self.Error.from_gives result (chunked_by K.eq h l) }
     {

@@ -6,12 +6,13 @@ use Rattle.std.proofs.Common.{refl, sym, ap, subst, arith, inl, inr, ◌∙◌}
 use Rattle.fallible_iterator.specs.Closures.{call_at}
 use Rattle.fallible_iterator.specs.Contract.{Contract, seen_as}
 use Rattle.fallible_iterator.specs.Lists.{Acts, Lists}
+use Rattle.fallible_iterator.specs.Making.{ListsMade}
 use Rattle.fallible_itertools.specs.ChunkBy.{Group, MadeGroup, by_its_key, chunk_by_asks, chunk_by_contract, chunk_by_parts, chunked_by, chunked_by_from, group_at, group_at_stop, group_begun, group_by, group_grown, group_held, group_or}
-use Rattle.fallible_itertools.specs.Batch.{ListsUpToRefusal}
 use Rattle.fallible_itertools.specs.Holding.{held_one}
+use Rattle.fallible_iterator.proofs.Lemmas.Making.{lists_made_seen}
 use Rattle.fallible_itertools.proofs.Lemmas.HoldingHints.{GivesHeld}
 use Rattle.fallible_itertools.proofs.Lemmas.HoldingLists.{by_outcome, before_stop, held_list, listed_parts}
-use Rattle.fallible_itertools.proofs.Lemmas.HoldingMade.{Answers, OutcomeMade, Refuses, held_gives_made, lists_made_seen}
+use Rattle.fallible_itertools.proofs.Lemmas.HoldingMade.{Answers, IfKept, OutcomeMade, Refuses, held_gives_made}
 use Rattle.std.specs.declared.alloc.AllocError.{AllocError}
 use Rattle.fallible_iterator.specs.Outcome.{Outcome}
 use Rattle.fallible_iterator.specs.Outcome.TheVariants.{Kept, LeftOut, Failure, End}
@@ -119,6 +120,13 @@ module _ {A K E : Type 0} (from : AllocError → E → Type 0) (eq : K → K →
     on_stop : (p : F × Option (Group K A)) (a : Option (K × List A)) (o : Outcome (Group K A) E) (q : F × Option (Group K A)) → At p a → chunk_by_asks from eq c p None o q → At q (next eq h a None) × OutcomeMade MadeGroup (does eq h a None) o
     on_stop p a o q at w = let k = stop_on p.1 a o q.1 at.1 w.1 in ((w.0 ∙ at.0, k.0), k.1)
 
+group_made : {A K E : Type 0} (g : Option (Group K A)) (o : Outcome (Group K A) E) (q : Option (Group K A)) → group_at_stop g o q → IfKept (λ y. (k : K × List A) × MadeGroup k y) o
+group_made (Some g) o q w = rw w.0 ((g.0, vec_items g.1), (refl, refl))
+group_made None o q w = rw w.0 tt
+
+made_at_stop : {A K E F : Type 0} (from : AllocError → E → Type 0) (eq : K → K → Bool) (c : Mut F (Bor A × Unit {0}) (Result K E)) (p : F × Option (Group K A)) (o : Outcome (Group K A) E) (q : F × Option (Group K A)) → chunk_by_asks from eq c p None o q → IfKept (λ y. (k : K × List A) × MadeGroup k y) o
+made_at_stop from eq c p o q w = group_made p.1 o q.1 w.1
+
 module _ {A K E : Type 0} (eq : K → K → Bool) (h : A → Result K E) where
   full_at : (g : K × List A) (x : A) (j : K) (b : Bool) → Full (next_at g x j b)
   full_at g x j true = tt
@@ -198,8 +206,8 @@ module _ {A K E : Type 0} (eq : K → K → Bool) (h : A → Result K E) where
   pub chunked_by_in_parts : (a : List (Result A E)) (e : E) (b : List (Result A E)) → chunked_by eq h (a ++ Err e ∷ b) ≡ chunked_by eq h a ++ Err e ∷ chunked_by eq h b
   chunked_by_in_parts a e b = listed_parts (does eq h) (next eq h) None settles (λ a x is. no_end_by a (h x) is) (chunked_by eq h) chunked_by_is a e b
 
-pub lists_chunked_by : {S F A K E : Type 0} (m : Contract S A E) (from : AllocError → E → Type 0) (eq : K → K → Bool) (c : Mut F (Bor A × Unit {0}) (Result K E)) (f : F) (h : A → Result K E) → Acts (call_at c) f h → (s : ChunkBy S K F A E) (l : List (Result A E)) → chunk_by_parts s ≡ (s.it, ((f, None), None)) → Lists m.steps s.it l → ListsUpToRefusal MadeGroup (seen_as chunk_by_parts (chunk_by_contract from eq c m)).steps from s (chunked_by eq h l)
-lists_chunked_by m from eq c f h acts s l parts i = lists_made_seen chunk_by_parts MadeGroup (chunk_by_contract from eq c m).steps from s _ _ _ parts (chunked_by_is eq h l) (held_gives_made m.steps (chunk_by_asks from eq c) MadeGroup from (At from eq c f h acts) (does eq h) (next eq h) (on_item from eq c f h acts) (on_stop from eq c f h acts) Full (answers eq h) l s.it (f, None) None (refl, tt) i.runs)
+pub lists_chunked_by : {S F A K E : Type 0} (m : Contract S A E) (from : AllocError → E → Type 0) (eq : K → K → Bool) (c : Mut F (Bor A × Unit {0}) (Result K E)) (f : F) (h : A → Result K E) → Acts (call_at c) f h → (s : ChunkBy S K F A E) (l : List (Result A E)) → chunk_by_parts s ≡ (s.it, ((f, None), None)) → Lists m.steps s.it l → ListsMade MadeGroup (seen_as chunk_by_parts (chunk_by_contract from eq c m)).steps from s (chunked_by eq h l)
+lists_chunked_by m from eq c f h acts s l parts i = lists_made_seen MadeGroup from chunk_by_parts (chunk_by_contract from eq c m).steps s _ _ _ parts (chunked_by_is eq h l) (held_gives_made m.steps (chunk_by_asks from eq c) MadeGroup from (At from eq c f h acts) (does eq h) (next eq h) (on_item from eq c f h acts) (on_stop from eq c f h acts) Full (answers eq h) (made_at_stop from eq c) l s.it (f, None) None (refl, tt) i.runs)
 
 -- ---- its hint
 

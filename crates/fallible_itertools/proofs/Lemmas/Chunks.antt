@@ -4,10 +4,12 @@ use Rattle.std.proofs.Common.{refl, sym, ap, subst, inl, inr}
 use Rattle.std.proofs.lemmas.Bool.{lt-ltb, le-ltb}
 use Rattle.fallible_iterator.specs.Contract.{Contract, seen_as}
 use Rattle.fallible_iterator.specs.Lists.{Lists}
+use Rattle.fallible_iterator.specs.Making.{ListsMade}
 use Rattle.fallible_itertools.specs.Chunks.{Settles, batch_or, chunked, chunked_from, chunks_asks, chunks_contract, chunks_parts, short_batch}
-use Rattle.fallible_itertools.specs.Batch.{Grown, ListsUpToRefusal, held_items}
+use Rattle.fallible_itertools.specs.Batch.{Grown, held_items}
+use Rattle.fallible_iterator.proofs.Lemmas.Making.{lists_made_seen}
 use Rattle.fallible_itertools.proofs.Lemmas.HoldingLists.{by_outcome, before_stop, held_list, listed_parts}
-use Rattle.fallible_itertools.proofs.Lemmas.HoldingMade.{Answers, OutcomeMade, Refuses, held_gives_made, lists_made_seen}
+use Rattle.fallible_itertools.proofs.Lemmas.HoldingMade.{Answers, IfKept, OutcomeMade, Refuses, held_gives_made}
 use Rattle.std.specs.declared.vec.Vec.{Vec}
 use Rattle.std.specs.declared.alloc.Global.{Global}
 use Rattle.std.specs.declared.alloc.AllocError.{AllocError}
@@ -110,6 +112,12 @@ module _ {A E : Type 0} (from : AllocError → E → Type 0) (n : ℕ) where
   on_stop p a (Failure e) q at w = absurd w
   on_stop p a End q at (none, is) = (subst (λ k. At k []) (sym is) (at.0, subst (λ k. HeldAs k []) (sym none) tt), none_at_end p.1 a at.1 none)
 
+  made_at_stop : (p : ℕ × Option (Vec A Global)) (o : Outcome (Vec A Global) E) (q : ℕ × Option (Vec A Global)) → chunks_asks from p None o q → IfKept (λ v. (xs : List A) × made xs v) o
+  made_at_stop p (Kept w) q h = (vec_items w, refl)
+  made_at_stop p LeftOut q h = tt
+  made_at_stop p (Failure e) q h = h
+  made_at_stop p End q h = tt
+
   left_out_at : (xs : List A) (b : Bool) → Full xs → does_at E xs b ≡ LeftOut → Full (next_at xs b)
   left_out_at xs true full is = full
   left_out_at xs false full is = absurd cc
@@ -159,5 +167,5 @@ module _ {A E : Type 0} (from : AllocError → E → Type 0) (n : ℕ) where
   pub chunked_in_parts : (a : List (Result A E)) (e : E) (b : List (Result A E)) → chunked n (a ++ Err e ∷ b) ≡ chunked n a ++ Err e ∷ chunked n b
   chunked_in_parts a e b = listed_parts (does n) (next n) [] settles (λ a x is. no_end_at (a ++ x ∷ []) (ltb (length (a ++ x ∷ [])) n) is) (chunked n) chunked_is a e b
 
-pub lists_chunked : {S A E : Type 0} (m : Contract S A E) (from : AllocError → E → Type 0) (n : ℕ) (s : Chunks S A E) (l : List (Result A E)) → chunks_parts s ≡ (s.it, ((n, None), None)) → Lists m.steps s.it l → ListsUpToRefusal (λ xs v. vec_items v ≡ xs) (seen_as chunks_parts (chunks_contract from m)).steps from s (chunked n l)
-lists_chunked m from n s l parts i = lists_made_seen chunks_parts (λ xs v. vec_items v ≡ xs) (chunks_contract from m).steps from s _ _ _ parts (chunked_is from n l) (held_gives_made m.steps (chunks_asks from) (λ xs v. vec_items v ≡ xs) from (At from n) (does n) (next n) (on_item from n) (on_stop from n) Full (answers from n) l s.it (n, None) [] (refl, tt) i.runs)
+pub lists_chunked : {S A E : Type 0} (m : Contract S A E) (from : AllocError → E → Type 0) (n : ℕ) (s : Chunks S A E) (l : List (Result A E)) → chunks_parts s ≡ (s.it, ((n, None), None)) → Lists m.steps s.it l → ListsMade (λ xs v. vec_items v ≡ xs) (seen_as chunks_parts (chunks_contract from m)).steps from s (chunked n l)
+lists_chunked m from n s l parts i = lists_made_seen (λ xs v. vec_items v ≡ xs) from chunks_parts (chunks_contract from m).steps s _ _ _ parts (chunked_is from n l) (held_gives_made m.steps (chunks_asks from) (λ xs v. vec_items v ≡ xs) from (At from n) (does n) (next n) (on_item from n) (on_stop from n) Full (answers from n) (made_at_stop from n) l s.it (n, None) [] (refl, tt) i.runs)

@@ -4,7 +4,7 @@ use Rattle.std.proofs.Common.{refl, sym, ap, subst, inl, inr, ◌∙◌}
 use Rattle.fallible_iterator.specs.Traces.{Answered, item}
 use Rattle.fallible_iterator.specs.Lists.{AlwaysGives}
 use Rattle.fallible_iterator.specs.Laws.Passing.{Passes, done, end_passes, failure_passes, keeps, refuses, closes, leaves_out, to_passes, from_passes}
-use Rattle.fallible_itertools.specs.Batch.{AnswersRefusal, RefusesNext, AtRefusal, GivesUpToRefusal, IsMadeOf, IsRefusal, ListsUpToRefusal}
+use Rattle.fallible_iterator.specs.Making.{AtRefusal, GivesMade, IsMadeOf, IsRefusal, RefusesNext}
 use Rattle.fallible_itertools.specs.Holding.{asks_item, as_answered_item, BeforeStop, AtStop, Behind, holding_step}
 use Rattle.fallible_itertools.proofs.Lemmas.HoldingLists.{by_outcome, before_stop, held_list}
 use Rattle.std.specs.declared.alloc.AllocError.{AllocError}
@@ -19,7 +19,14 @@ OutcomeMade made LeftOut LeftOut = ⊤
 OutcomeMade made End End = ⊤
 OutcomeMade made a b = ⊥
 
--- a failure that is converted from an `AllocError`
+-- what is answered at a stop is no failure, and P holds of an item
+abbrev pub IfKept : {B E : Type 0} → (B → Type 0) → Outcome B E → Type 0
+IfKept P (Kept y) = P y
+IfKept P LeftOut = ⊤
+IfKept P (Failure e) = ⊥
+IfKept P End = ⊤
+
+-- a failure that is made of a refusal
 abbrev pub Refuses : {B E : Type 0} → (AllocError → E → Type 0) → Outcome B E → Type 0
 Refuses {E = E} from o = (e : E) × (o ≡ Failure e) × IsRefusal from e
 
@@ -54,7 +61,8 @@ module _ {S P Q X Y B E : Type 0} (steps : S → Answered X E → S → Type 0) 
     (At : P → Q → Type 0) (does : Q → Option X → Outcome Y E) (next : Q → Option X → Q)
     (on_item : (p : P) (a : Q) (x : X) (o : Outcome B E) (q : P) → At p a → asks p (Some x) o q → Refuses from o ⊎ (At q (next a (Some x)) × OutcomeMade made (does a (Some x)) o))
     (on_stop : (p : P) (a : Q) (o : Outcome B E) (q : P) → At p a → asks p None o q → At q (next a None) × OutcomeMade made (does a None) o)
-    (Full : Q → Type 0) (answers : Answers does next Full) where
+    (Full : Q → Type 0) (answers : Answers does next Full)
+    (made_at_stop : (p : P) (o : Outcome B E) (q : P) → asks p None o q → IfKept (λ y. (z : Y) × made z y) o) where
   abbrev State : Type 0
   State = S × (P × Option (Option E))
 
@@ -65,7 +73,7 @@ module _ {S P Q X Y B E : Type 0} (steps : S → Answered X E → S → Type 0) 
   UpTo = Passes steps (asks_item asks) as_answered_item
 
   abbrev Made : State → List (Result Y E) → Type 0
-  Made s l = GivesUpToRefusal made Steps from s l
+  Made s l = GivesMade made Steps from s l
 
   abbrev Gives : S → P → List (Result Y E) → Type 0
   Gives s p l = Made (s, (p, None)) l
@@ -73,7 +81,7 @@ module _ {S P Q X Y B E : Type 0} (steps : S → Answered X E → S → Type 0) 
   -- ---- an allocation failure
 
   abbrev Refused : Answered B E → State → Type 0
-  Refused = AtRefusal Steps from
+  Refused = AtRefusal made Steps from
 
   refusal_due : (e : E) → IsRefusal from e → (t : S) (g : P) → RefusesNext Steps from (t, (g, Some (Some e)))
   refusal_due e is t g r u w = (e, w.0, is)
@@ -81,12 +89,12 @@ module _ {S P Q X Y B E : Type 0} (steps : S → Answered X E → S → Type 0) 
   due_next : (e : E) → IsRefusal from e → (t : S) (q : P × Option (Option E)) → q.1 ≡ Some (Some e) → RefusesNext Steps from (t, q)
   due_next e is t q due = subst (λ (d : Option (Option E)). RefusesNext Steps from (t, (q.0, d))) (sym due) (refusal_due e is t q.0)
 
-  -- a stop that is an allocation failure: it is returned, or is due
-  refused_by : (e : E) → IsRefusal from e → (o : Outcome B E) (r : Answered B E) (t : S) (q : P × Option (Option E)) → BeforeStop (Some e) o r q.1 → Refused r (t, q)
-  refused_by e is (Kept y) r t q w = inr ((λ ended. let k = w.0 in cc), due_next e is t q w.1)
-  refused_by e is (Failure d) r t q w = inr ((λ ended. let k = w.0 in cc), due_next e is t q w.1)
-  refused_by e is End r t q w = inl (e, w.0, is)
-  refused_by e is LeftOut r t q w = absurd w
+  -- a stop that is a refusal: it is answered, or is due
+  refused_by : (e : E) → IsRefusal from e → (o : Outcome B E) (r : Answered B E) (t : S) (q : P × Option (Option E)) → IfKept (λ y. (z : Y) × made z y) o → BeforeStop (Some e) o r q.1 → Refused r (t, q)
+  refused_by e is (Kept y) r t q m w = inr (m.0, y, m.1, w.0, due_next e is t q w.1)
+  refused_by e is (Failure d) r t q m w = absurd m
+  refused_by e is End r t q m w = inl (e, w.0, is)
+  refused_by e is LeftOut r t q m w = absurd w
 
   -- ---- a stop
 
@@ -222,7 +230,7 @@ module _ {S P Q X Y B E : Type 0} (steps : S → Answered X E → S → Type 0) 
     by_first _ r t h q (failure_passes e step d) b = absurd (let k = (i (Err e) _ step).0 in cc)
     by_first _ r t h q (keeps z o y step called is done) b = elim (asked_as z o (Kept y) t h step called is) [ inl w ↦ absurd (let k = w.1 in cc) | inr k ↦ inr (first_kept (does a (Some x)) y r t h q k.1 b.0 b.1 k.0 k.2) ]
     by_first _ r t h q (refuses z o e step called is done) b = elim (asked_as z o (Failure e) t h step called is) [
-      | inl w ↦ (let same : w.0 ≡ e = (let k = w.1 in cc) in inl (refused_by e (subst (λ (c : E). IsRefusal from c) same w.2) b.0 r t q b.2))
+      | inl w ↦ (let same : w.0 ≡ e = (let k = w.1 in cc) in inl (refused_by e (subst (λ (c : E). IsRefusal from c) same w.2) b.0 r t q (made_at_stop h b.0 q.0 b.1) b.2))
       | inr k ↦ inr (first_failed (does a (Some x)) e r t h q k.1 b k.0 k.2)
     ]
     by_first _ r t h q (closes z o step called is done) b = elim (asked_as z o End t h step called is) [ inl w ↦ absurd (let k = w.1 in cc) | inr k ↦ absurd (first_end (does a (Some x)) refl k.1) ]
@@ -248,16 +256,3 @@ module _ {S P Q X Y B E : Type 0} (steps : S → Answered X E → S → Type 0) 
   held_gives_made [] s p a at i = at_end_given (does a None) s p a refl (λ r t q w. to_end s t p w.0 a w.1 r q at i (to_passes w.2) w.3)
   held_gives_made (Ok x ∷ l) s p a at i = item_given x (λ u. AlwaysGives steps u l) s p a i at (does a (Some x)) (held_list does next (next a (Some x)) l) (held_list does next (next (next a (Some x)) None) l) refl (λ is. nonempty does next Full answers l (next a (Some x)) (answers.left_out a x is)) (λ u h b f. held_gives_made l u h (next a (Some x)) b f) (λ u h b f. held_gives_made l u h (next (next a (Some x)) None) b f)
   held_gives_made (Err e ∷ l) s p a at i = at_failure_given e (does a None) (λ u. AlwaysGives steps u l) s p a (held_list does next (next a None) l) refl (λ r t q w. inr (to_failure e (λ u. AlwaysGives steps u l) s t p w.0 a w.1 r q at i (to_passes w.2) w.3)) (λ u h b f. held_gives_made l u h (next a None) b f)
-
--- ---- what is seen as its parts
-
-refuses_next_seen : {V P B E : Type 0} (view : V → P) (steps : P → Answered B E → P → Type 0) (from : AllocError → E → Type 0) (s : V) → RefusesNext steps from (view s) → RefusesNext (λ u r v. steps (view u) r (view v)) from s
-refuses_next_seen view steps from s a = λ r t w. a r (view t) w
-
-gives_made_seen : {V P Y B E : Type 0} (view : V → P) (made : Y → B → Type 0) (steps : P → Answered B E → P → Type 0) (from : AllocError → E → Type 0) (l : List (Result Y E)) (s : V) → GivesUpToRefusal made steps from (view s) l → GivesUpToRefusal made (λ u r v. steps (view u) r (view v)) from s l
-gives_made_seen view made steps from [] s a = λ r t w. a r (view t) w
-gives_made_seen view made steps from (y ∷ l) s a = λ r t w. elim (a r (view t) w) [ inl e ↦ inl (elim e [ inl d ↦ inl d | inr d ↦ inr (d.0, refuses_next_seen view steps from t d.1) ]) | inr k ↦ inr (k.0, gives_made_seen view made steps from l t k.1) ]
-
--- a value whose answers are those of its parts lists what they list
-pub lists_made_seen : {V P Y B E : Type 0} (view : V → P) (made : Y → B → Type 0) (steps : P → Answered B E → P → Type 0) (from : AllocError → E → Type 0) (s : V) (p : P) (l k : List (Result Y E)) → view s ≡ p → l ≡ k → GivesUpToRefusal made steps from p l → ListsUpToRefusal made (λ u r v. steps (view u) r (view v)) from s k
-lists_made_seen view made steps from s p l k at same a = record { runs = gives_made_seen view made steps from k s (subst (λ q. GivesUpToRefusal made steps from q k) (sym at) (subst (λ j. GivesUpToRefusal made steps from p j) same a)) }

@@ -1,57 +1,86 @@
--- Loops by hand over what lists values that are made of a list's items, up to an allocation failure.
-use Rattle.std.specs.Prelude.{◌≡◌, ◌≢◌, Some, None, Result, Ok, Err, List, [], ◌∷◌, ◌⊎◌}
-use Rattle.std.proofs.Common.{refl, inl, inr, ◌∙◌}
-use Rattle.fallible_iterator.specs.Traces.{Answered, end}
-use Rattle.fallible_itertools.specs.Batch.{AnswersRefusal, RefusesNext, AtRefusal, GivesUpToRefusal, IsMadeOf, ListsUpToRefusal}
+-- Loops by hand over what lists values that are made of a list's items, up to a refusal.
+use Rattle.std.specs.Prelude.{◌≡◌, Some, None, Result, Ok, Err, List, [], ◌∷◌, ◌⊎◌}
+use Rattle.std.proofs.Common.{refl, sym, ap, subst, inl, inr, ◌∙◌}
+use Rattle.fallible_iterator.specs.Traces.{Answered}
+use Rattle.fallible_iterator.specs.Making.{GivesMade, IsRefusal, IsToldOrRefused, ListsMade, RefusesNext}
+use Rattle.fallible_iterator.proofs.Lemmas.Making.{ItemTold, end_told, failed_result, failure_told, item_told, refused_result}
 use Rattle.std.specs.declared.alloc.AllocError.{AllocError}
 
-module _ {S X B E : Type 0} (made : X → B → Type 0) (steps : S → Answered B E → S → Type 0) (from : AllocError → E → Type 0) where
-  module _ {C R : Type 0} (answers : C → List (Result X E) → R) where
-    -- what the whole returns is what the rest that s lists returns from c on
-    pub record RestFromHere (whole : R) (s : S) (c : C) : Type 0 where
-      pub rest : List (Result X E)
-      pub lists : ListsUpToRefusal made steps from s rest
-      pub same : whole ≡ answers c rest
+module _ {S X B E C R : Type 0} (made : X → B → Type 0) (steps : S → Answered B E → S → Type 0) (from : AllocError → E → Type 0) (answers : C → List (Result X E) → R) where
+  -- what the whole answers is what the rest that s lists answers from c on
+  pub record RestFromHere (whole : R) (s : S) (c : C) : Type 0 where
+    pub rest : List (Result X E)
+    pub lists : ListsMade made steps from s rest
+    pub same : whole ≡ answers c rest
 
-    -- It is so, unless the next answer is an allocation failure.
-    abbrev pub MadeFromHere : R → S → C → Type 0
-    MadeFromHere whole s c = RefusesNext steps from s ⊎ RestFromHere whole s c
+  -- It is so, unless the next answer is a refusal.
+  abbrev pub OrRefusesNext : R → S → C → Type 0
+  OrRefusesNext whole s c = RefusesNext steps from s ⊎ RestFromHere whole s c
 
-    -- before the first value
-    pub begins : {s : S} {c : C} (l : List (Result X E)) → ListsUpToRefusal made steps from s l → MadeFromHere (answers c l) s c
-    begins l lists = inr (record { rest = l; lists = lists; same = refl })
+  -- Whatever whole s0 lists, what it answers from c0 on is what the rest that s lists answers from c on, unless the next answer is a refusal.
+  pub record MadeFromHere (s0 : S) (c0 : C) (s : S) (c : C) : Type 0 where
+    pub at : (whole : List (Result X E)) → ListsMade made steps from s0 whole → OrRefusesNext (answers c0 whole) s c
 
-    item_on : {whole : R} {t : S} {c d : C} (x : X) (y : B) (l : List (Result X E)) → whole ≡ answers c (Ok x ∷ l) → ((k : List (Result X E)) → made x y → answers c (Ok x ∷ k) ≡ answers d k) → AtRefusal steps from (Ok (Some y)) t ⊎ (made x y × GivesUpToRefusal made steps from t l) → MadeFromHere whole t d
-    item_on x y l is same (inl (inl r)) = absurd (let h = r.1 in cc)
-    item_on x y l is same (inl (inr n)) = inl n.1
-    item_on x y l is same (inr h) = inr (record { rest = l; lists = record { runs = h.1 }; same = is ∙ same l h.0 })
+  item_on : {whole : R} {t : S} {c d : C} (y : B) (z : Result X E) (l : List (Result X E)) → whole ≡ answers c (z ∷ l) → ((x : X) (k : List (Result X E)) → made x y → answers c (Ok x ∷ k) ≡ answers d k) → ItemTold made steps from z y t (GivesMade made steps from t l) → OrRefusesNext whole t d
+  item_on y z l is same (inl (x, m, next)) = inl next
+  item_on {c = c} y z l is same (inr (x, this, m, rest)) = inr (record { rest = l; lists = record { runs = rest }; same = is ∙ ap (λ w. answers c (w ∷ l)) this ∙ same x l m })
 
-    failure_on : {whole : R} {t : S} {d : C} (e : E) (y : B) (l : List (Result X E)) → AtRefusal steps from (Ok (Some y)) t ⊎ (IsMadeOf made (Err e) (Ok (Some y)) × GivesUpToRefusal made steps from t l) → MadeFromHere whole t d
-    failure_on e y l (inl (inl r)) = absurd (let h = r.1 in cc)
-    failure_on e y l (inl (inr n)) = inl n.1
-    failure_on e y l (inr h) = absurd (let k = h.0 in cc)
+  at_item : {whole : R} {s t : S} {c d : C} (y : B) (l : List (Result X E)) → GivesMade made steps from s l → whole ≡ answers c l → steps s (Ok (Some y)) t → ((x : X) (k : List (Result X E)) → made x y → answers c (Ok x ∷ k) ≡ answers d k) → OrRefusesNext whole t d
+  at_item y [] gives is drawn same = absurd (let h = gives _ _ drawn in cc)
+  at_item {t = t} y (z ∷ l) gives is drawn same = item_on y z l is same (item_told made steps from z y t (gives _ _ drawn))
 
-    at_item : {whole : R} {s t : S} {c d : C} (y : B) (l : List (Result X E)) → GivesUpToRefusal made steps from s l → whole ≡ answers c l → steps s (Ok (Some y)) t → ((x : X) (k : List (Result X E)) → made x y → answers c (Ok x ∷ k) ≡ answers d k) → MadeFromHere whole t d
-    at_item y [] gives is drawn same = absurd (let h = gives _ _ drawn in cc)
-    at_item y (Ok x ∷ l) gives is drawn same = item_on x y l is (same x) (gives _ _ drawn)
-    at_item y (Err e ∷ l) gives is drawn same = failure_on e y l (gives _ _ drawn)
+  after_item : {whole : R} {s t : S} {c d : C} (y : B) → OrRefusesNext whole s c → steps s (Ok (Some y)) t → ((x : X) (k : List (Result X E)) → made x y → answers c (Ok x ∷ k) ≡ answers d k) → OrRefusesNext whole t d
+  after_item y (inl r) drawn same = absurd (let h = (r _ _ drawn).1 in cc)
+  after_item y (inr here) drawn same = at_item y here.rest here.lists.runs here.same drawn same
 
-    no_end : {P : Type 0} (x : Result X E) (l : List (Result X E)) (t : S) → AtRefusal {B = B} steps from (Ok None) t ⊎ (IsMadeOf made x (Ok None) × GivesUpToRefusal made steps from t l) → P
-    no_end x l t (inl (inl r)) = absurd (let h = r.1 in cc)
-    no_end x l t (inl (inr n)) = absurd (n.0 refl)
-    no_end (Ok x) l t (inr h) = absurd h.0
-    no_end (Err e) l t (inr h) = absurd (let k = h.0 in cc)
+  -- a failure is a refusal, or the first of the rest
+  abbrev FailedBy : R → C → E → Type 0
+  FailedBy whole c e = IsRefusal from e ⊎ ((k : List (Result X E)) × (whole ≡ answers c (Err e ∷ k)))
 
-    at_end : {whole : R} {s t : S} {c : C} (l : List (Result X E)) → GivesUpToRefusal made steps from s l → whole ≡ answers c l → steps s (Ok None) t → whole ≡ answers c []
-    at_end [] gives is drawn = is
-    at_end {t = t} (x ∷ l) gives is drawn = no_end x l t (gives _ _ drawn)
+  failed_on : {whole : R} {c : C} (e : E) (z : Result X E) (l : List (Result X E)) {G : Type 0} → whole ≡ answers c (z ∷ l) → IsRefusal from e ⊎ ((z ≡ Err e) × G) → FailedBy whole c e
+  failed_on e z l is (inl r) = inl r
+  failed_on {c = c} e z l is (inr k) = inr (l, is ∙ ap (λ w. answers c (w ∷ l)) k.0)
 
+  at_failure : {whole : R} {s t : S} {c : C} (e : E) (l : List (Result X E)) → GivesMade made steps from s l → whole ≡ answers c l → steps s (Err e) t → FailedBy whole c e
+  at_failure e [] gives is drawn = absurd (let h = gives _ _ drawn in cc)
+  at_failure {t = t} e (z ∷ l) gives is drawn = failed_on e z l is (failure_told made steps from z e t (gives _ _ drawn))
+
+  after_failure : {whole : R} {s t : S} {c : C} (e : E) → OrRefusesNext whole s c → steps s (Err e) t → FailedBy whole c e
+  after_failure e (inl r) drawn = let h = r _ _ drawn in inl (subst (IsRefusal from) (let q = h.1 in cc) h.2)
+  after_failure e (inr here) drawn = at_failure e here.rest here.lists.runs here.same drawn
+
+  at_end : {whole : R} {s t : S} {c : C} (l : List (Result X E)) → GivesMade made steps from s l → whole ≡ answers c l → steps s (Ok None) t → whole ≡ answers c []
+  at_end [] gives is drawn = is
+  at_end {t = t} (z ∷ l) gives is drawn = end_told made steps from z t (gives _ _ drawn)
+
+  after_end : {whole : R} {s t : S} {c : C} → OrRefusesNext whole s c → steps s (Ok None) t → whole ≡ answers c []
+  after_end (inl r) drawn = absurd (let h = (r _ _ drawn).1 in cc)
+  after_end (inr here) drawn = at_end here.rest here.lists.runs here.same drawn
+
+module _ {S X B E C R : Type 0} {made : X → B → Type 0} {steps : S → Answered B E → S → Type 0} {from : AllocError → E → Type 0} {answers : C → List (Result X E) → R} {s0 : S} {c0 : C} where
+  -- before the first value
+  pub begins : MadeFromHere made steps from answers s0 c0 s0 c0
+  begins = record { at = λ whole lists. inr (record { rest = whole; lists = lists; same = refl }) }
+
+  module _ {s t : S} {c : C} {r : Answered B E} where
     -- after a value on which the loop goes on with d
-    pub goes_on : {whole : R} {s t : S} {c d : C} (y : B) → MadeFromHere whole s c → steps s (Ok (Some y)) t → ((x : X) (k : List (Result X E)) → made x y → answers c (Ok x ∷ k) ≡ answers d k) → MadeFromHere whole t d
-    goes_on y (inl r) drawn same = absurd (let h = (r _ _ drawn).1 in cc)
-    goes_on y (inr here) drawn same = at_item y here.rest here.lists.runs here.same drawn same
+    pub goes_on : (y : B) {d : C} → MadeFromHere made steps from answers s0 c0 s c → steps s r t → r ≡ Ok (Some y) → ((x : X) (k : List (Result X E)) → made x y → answers c (Ok x ∷ k) ≡ answers d k) → MadeFromHere made steps from answers s0 c0 t d
+    goes_on y here drawn is same = record { at = λ whole lists. after_item made steps from answers y (here.at whole lists) (subst (λ z. steps s z t) is drawn) same }
 
     -- at the end
-    pub ends : {whole : R} {s t : S} {c : C} → MadeFromHere whole s c → steps s (Ok None) t → whole ≡ answers c []
-    ends (inl r) drawn = absurd (let h = (r _ _ drawn).1 in cc)
-    ends (inr here) drawn = at_end here.rest here.lists.runs here.same drawn
+    pub ends : MadeFromHere made steps from answers s0 c0 s c → steps s r t → r ≡ Ok None → (whole : List (Result X E)) → ListsMade made steps from s0 whole → answers c0 whole ≡ answers c []
+    ends here drawn is whole lists = after_end made steps from answers (here.at whole lists) (subst (λ z. steps s z t) is drawn)
+
+-- Where the loop answers a result, it is told, or a refusal failed it.
+module _ {S X B E C V T : Type 0} {made : X → B → Type 0} {steps : S → Answered B E → S → Type 0} {from : AllocError → E → Type 0} {answers : C → List (Result X E) → Result V E} (into : V → T → Type 0) {s0 s t : S} {c0 c : C} {r : Answered B E} where
+  by_failure : (e : E) (whole : Result V E) → ((k : List (Result X E)) → answers c (Err e ∷ k) ≡ Err e) → FailedBy made steps from answers whole c e → IsToldOrRefused into from whole (Err e)
+  by_failure e whole same (inl w) = refused_result into from whole e w
+  by_failure e whole same (inr k) = failed_result into from whole e (k.1 ∙ same k.0)
+
+  -- at a failure, with which the loop is left
+  pub fails_told : (e : E) → MadeFromHere made steps from answers s0 c0 s c → steps s r t → r ≡ Err e → ((k : List (Result X E)) → answers c (Err e ∷ k) ≡ Err e) → (whole : List (Result X E)) → ListsMade made steps from s0 whole → IsToldOrRefused into from (answers c0 whole) (Err e)
+  fails_told e here drawn is same whole lists = by_failure e (answers c0 whole) same (after_failure made steps from answers e (here.at whole lists) (subst (λ z. steps s z t) is drawn))
+
+  -- at the end
+  pub ends_told : (v : Result T E) → MadeFromHere made steps from answers s0 c0 s c → steps s r t → r ≡ Ok None → IsToldOrRefused into from (answers c []) v → (whole : List (Result X E)) → ListsMade made steps from s0 whole → IsToldOrRefused into from (answers c0 whole) v
+  ends_told v here drawn is told whole lists = subst (λ w. IsToldOrRefused into from w v) (sym (ends here drawn is whole lists)) told
