@@ -9,6 +9,8 @@ pub mod Copied
 pub mod Counts
 pub mod Dedup
 pub mod DedupByKey
+pub mod Equal
+pub mod FindOrLast
 pub mod FoldWhile
 pub mod Holding
 pub mod HoldingHints

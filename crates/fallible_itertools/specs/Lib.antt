@@ -10,7 +10,9 @@ pub mod Copied
 pub mod Counts
 pub mod Dedup
 pub mod DedupByKey
+pub mod Equal
 pub mod ExactlyOne
+pub mod FindOrLast
 pub mod FoldWhile
 pub mod FromBack
 pub mod Holding

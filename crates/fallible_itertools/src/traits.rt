@@ -12,7 +12,7 @@ ghost use Rattle.fallible_iterator.specs.Folds.{call_with, takes_with, HoldsAtEa
 ghost use Rattle.fallible_iterator.specs.Lists.{Acts, ActsWith, Lists, ListsForGood, Converts, pointed_to, CollectedAs, MadeOf, rest_nth, collected};
 ghost use Rattle.fallible_iterator.specs.Making.{ListsMade};
 ghost use Rattle.fallible_iterator.specs.Picking.{call_at_two, takes_at_two};
-ghost use Rattle.fallible_iterator.specs.Searching.{CallableInSearch, WentOn, Searched, all_pick, each_pick, find_pick, position_pick};
+ghost use Rattle.fallible_iterator.specs.Searching.{CallableInSearch, WentOn, Searched, all_pick, any_pick, each_pick, find_pick, position_pick};
 ghost use Rattle.fallible_itertools.specs.ChunkBy.{MadeGroup, chunk_by_contract, chunk_by_parts, chunked_by};
 ghost use Rattle.fallible_itertools.specs.Chunks.{chunked, chunks_contract, chunks_parts};
 ghost use Rattle.fallible_itertools.specs.Coalesce.{OneOrBoth, coalesce_asks, coalesce_contract, coalesce_parts, coalesce_takes, coalesced};
@@ -22,6 +22,7 @@ ghost use Rattle.fallible_itertools.specs.Copied.{copied_contract, copied_parts}
 ghost use Rattle.fallible_itertools.specs.Counts.{IsCountsOf};
 ghost use Rattle.fallible_itertools.specs.Dedup.{dedup_contract, dedup_parts, deduped};
 ghost use Rattle.fallible_itertools.specs.DedupByKey.{dedup_by_key_contract, dedup_by_key_parts, dedup_key_asks, dedup_key_takes, deduped_by_key};
+ghost use Rattle.fallible_itertools.specs.Equal.{FirstCall, TestCall, contained, equal_to_first, rest_contained, rest_unequal};
 ghost use Rattle.fallible_itertools.specs.ExactlyOne.{AtMostOne, at_most_one_of, wanting_one};
 ghost use Rattle.fallible_itertools.specs.Holding.{MayBeAsked};
 ghost use Rattle.fallible_itertools.specs.InspectErr.{inspect_err_contract, inspect_err_parts, seen_call};
@@ -31,7 +32,8 @@ ghost use Rattle.fallible_itertools.specs.Join.{JoinedAs};
 ghost use Rattle.fallible_itertools.specs.MergeBy.{call_on_two, merge_by_closure, merge_by_contract, merge_by_left, merge_by_left_held, merge_by_parts, merge_by_right, merge_by_right_held, merged};
 ghost use Rattle.fallible_itertools.specs.MinMax.{MinMaxed, minmaxed};
 ghost use Rattle.fallible_itertools.specs.Sides.{OverBothForGood};
-ghost use Rattle.fallible_itertools.specs.IsSorted.{OrderCall, sorted_by_key};
+ghost use Rattle.fallible_itertools.specs.FindOrLast.{FoundOrLast, found_or_last};
+ghost use Rattle.fallible_itertools.specs.IsSorted.{ItselfCall, OrderCall, in_order, sorted_by_key};
 ghost use Rattle.fallible_itertools.specs.FoldWhile.{WhileCall, FoldedWhile, folded_while, rest_while};
 ghost use Rattle.fallible_itertools.specs.TakeWhileInclusive.{inclusive_contract, inclusive_parts, inclusive_predicate, inclusive_refused, inclusive_source, taken_while_inclusive};
 ghost use Rattle.fallible_itertools.specs.CheckedSum.{Totalled, totalled};
@@ -50,7 +52,9 @@ use crate::copied::Copied;
 use crate::counts::Tally;
 use crate::dedup::Dedup;
 use crate::dedup_by_key::DedupByKey;
+use crate::equal::{AllEqualTurn, ContainsTurn};
 use crate::exactly_one::NotOne;
+use crate::find_or_last::{FindLastTurn, or_last};
 use crate::fold_while::{FoldWhile, FoldWhileTurn, while_or_stop};
 use crate::inspect_err::InspectErr;
 use crate::intersperse::Intersperse;
@@ -319,7 +323,90 @@ pub trait FallibleItertools: FallibleIterator {
         answer_or_none(converted(self.drive(&mut (0, f), &PositionTurn)))
     }
 
-    /// Returns the sum of the items, 0 for none. If it overflows at one of them, it returns `Ok(None)`.
+    /// Whether an item equals the wanted one.
+    ///
+    /// It draws up to the first item that equals it, the first failure or the end. It fails with that failure. Nothing is drawn after the answer that decides, and what is left may be drawn from again.
+    ///
+    /// Requires that `next` may be called, and a bound.
+    ///
+    /// ```
+    /// let mut it = convert(readings.into_iter());
+    /// if it.contains(&0)? { it.draw() } else { Ok(None) }
+    /// ```
+    final fn contains(&mut self, wanted: &Self::Item) -> Result<bool, Self::Error>
+    where
+        Self::Item: PartialEq + Drop,
+        requires can_next { Self.contract.can_next self.old }
+        requires finite { Self.contract.is_finite self.old }
+        ensures searched { Searched (TestCall (λ x. Self.Item.eq x wanted.now)) any_pick
+            Self.contract.steps false self.old tt result self.new tt }
+        ensures value { OverList Self.contract.steps self.old
+            (λ l. result ≡ contained Self.Item.eq wanted.now l) }
+        ensures rest { OverList Self.contract.steps self.old
+            (λ l. ¬ (result ≡ Ok false)
+            → Lists Self.contract.steps self.new (rest_contained Self.Item.eq wanted.now l)) }
+        ensures stays { Stays Self.contract self.old self.new }
+    {
+        answer_or(self.drive(&mut (), &ContainsTurn { wanted }), false)
+    }
+
+    /// Whether the first item equals each later one; true where there is no item.
+    ///
+    /// It draws up to the first item that the first one doesn't equal, the first failure or the end. It fails with that failure. Nothing is drawn after the answer that decides, and what is left may be drawn from again.
+    ///
+    /// Requires that `next` may be called, and a bound.
+    ///
+    /// ```
+    /// convert(readings.into_iter())
+    ///     .filter(|reading| Ok(*reading > 100))
+    ///     .all_equal()
+    /// ```
+    final fn all_equal(&mut self) -> Result<bool, Self::Error>
+    where
+        Self::Item: PartialEq + Drop,
+        requires can_next { Self.contract.can_next self.old }
+        requires finite { Self.contract.is_finite self.old }
+        ensures searched { (first : Option Self.Item) × Searched (FirstCall Self.Item.eq) all_pick
+            Self.contract.steps true self.old None result self.new first }
+        ensures value { OverList Self.contract.steps self.old
+            (λ l. result ≡ equal_to_first Self.Item.eq l) }
+        ensures rest { OverList Self.contract.steps self.old
+            (λ l. ¬ (result ≡ Ok true)
+            → Lists Self.contract.steps self.new (rest_unequal Self.Item.eq l)) }
+        ensures stays { Stays Self.contract self.old self.new }
+    {
+        answer_or(self.drive(&mut None, &AllEqualTurn), true)
+    }
+
+    /// The first item on which the predicate returns true, and the last item where there is none; `None` where there is no item.
+    ///
+    /// It draws up to the first item on which the predicate returns true or fails, the first failure or the end, and calls the predicate on each item drawn, in order. Nothing is drawn after the answer that decides. It fails with the failure that comes first, of this iterator or of the predicate. It consumes the iterator, and no clause says what is left.
+    ///
+    /// Requires that `next` may be called, a bound, and that the predicate may be called on each item that may come until it decides.
+    ///
+    /// ```
+    /// convert(readings.into_iter()).find_or_last(|reading| Ok(*reading > 100))
+    /// ```
+    final fn find_or_last<F>(mut self, f: F) -> Result<Option<Self::Item>, Self::Error>
+    where
+        Self::Item: Drop,
+        F: FnMut(&Self::Item) -> Result<bool, Self::Error>,
+        requires can_next { Self.contract.can_next self }
+        requires finite { Self.contract.is_finite self }
+        requires callable { CallableInSearch (call_at F.FnMut) find_pick Self.contract.steps
+            (takes_at F.FnMut) self f }
+        ensures found { (left : Self) × (g : F)
+            × FoundOrLast (call_at F.FnMut) Self.contract.steps self f result left g }
+        ensures value { OverListWith (Acts (call_at F.FnMut) f) Self.contract.steps self
+            (λ h l. result ≡ found_or_last h l) }
+    {
+        let mut state = (None, f);
+        let answer = self.drive(&mut state, &FindLastTurn);
+        let (last, _) = state;
+        or_last(answer_or_none(answer), last)
+    }
+
+    /// The sum of the items, 0 of none, where it fits with each of them; none where it doesn't.
     ///
     /// It draws up to the first item at which the sum overflows, the first failure or `Ok(None)`. Nothing is drawn after that, so an overflow is returned also where a failure would come later. It fails with the first failure. It consumes the iterator, and no clause says what is left.
     ///
@@ -437,7 +524,36 @@ pub trait FallibleItertools: FallibleIterator {
         answer_or(self.drive(&mut state, &SortedTurn), true)
     }
 
-    // ---- adapters that let results pass
+    /// Whether no item is less than the one before it. An item that has no order with the one before it counts as less.
+    ///
+    /// It draws up to the first such item, the first failure or the end. Nothing is drawn after the answer that decides. It fails with that failure. It consumes the iterator, and no clause says what is left.
+    ///
+    /// Requires that `next` may be called, and a bound.
+    ///
+    /// ```
+    /// convert(readings.into_iter())
+    ///     .filter(|reading| Ok(*reading > 100))
+    ///     .is_sorted()
+    /// ```
+    final fn is_sorted(self) -> Result<bool, Self::Error>
+    where
+        Self::Item: PartialOrd + Drop,
+        requires can_next { Self.contract.can_next self }
+        requires finite { Self.contract.is_finite self }
+        ensures sorted { (left : Self) × (q : Option Self.Item × Unit {0})
+            × Searched (OrderCall Self.Item.partial_cmp ItselfCall) all_pick Self.contract.steps
+            true self (None, tt) result left q }
+        ensures value { (order : Self.Item → Self.Item → Option Ordering)
+            → order ≡ Self.Item.partial_cmp
+            → OverList Self.contract.steps self (λ l. result ≡ in_order order l) }
+    {
+        let itself = |item: Self::Item| -> Result<Self::Item, Self::Error>
+            ensures { result ≡ Ok item }
+        { Ok(item) };
+        self.is_sorted_by_key(itself)
+    }
+
+    // ---- adapters that let answers pass
 
     /// Yields a copy of what each item points to.
     ///

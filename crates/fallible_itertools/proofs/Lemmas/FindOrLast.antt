@@ -1,0 +1,59 @@
+-- The first item that passes, or else the last one, by one fold.
+use Rattle.std.specs.Prelude.{◌≡◌, ℕ, length, Bool, true, false, Option, Some, None, Result, Ok, Err, List, [], ◌∷◌, ◌++◌, map}
+use Rattle.std.specs.List.{FoldsTo, last_or}
+use Rattle.std.proofs.Common.{refl, sym, ap, subst, ◌∙◌}
+use Rattle.fallible_iterator.specs.Traces.{Answered, Run, item}
+use Rattle.fallible_iterator.specs.Folds.{goes_on, DriveExit, Driven}
+use Rattle.fallible_iterator.specs.Lists.{Lists, Acts, found, last_of}
+use Rattle.fallible_iterator.specs.Searching.{WentOn, Decided, SearchExit, SearchedBy, answer_by, find_pick}
+use Rattle.fallible_iterator.proofs.Lemmas.Folds.{drained_map}
+use Rattle.fallible_iterator.proofs.Lemmas.Lists.Drawn.{last_is}
+use Rattle.fallible_iterator.proofs.Lemmas.Lists.Searched.{find_is}
+use Rattle.fallible_itertools.specs.FindOrLast.{found_or, IsFindLastTurn, FoundOrLast, found_or_last}
+
+-- a search that stops at an item finds one
+finds_one : {A : Type 0} (n : ℕ) (x : A) (v : Bool) → find_pick n x v ≡ Some None → ⊥
+finds_one n x true e = cc
+finds_one n x false e = cc
+
+module _ {A E F : Type 0} (call : F → A → Result Bool E → F → Type 0) where
+  -- the search went on over the items, and the last of them is kept
+  went_last : (items : List A) (p q : Option A × F) → FoldsTo {P = Option A × F} (goes_on (IsFindLastTurn call)) p items q → FoldsTo (WentOn call find_pick) p.1 items q.1 × (q.0 ≡ last_or p.0 items)
+  went_last [] p q e = (ap (λ c. c.1) e, sym (ap (λ c. c.0) e))
+  went_last (x ∷ items) p q w = let d = went_last items w.0 q w.2 in ((w.0.1, (w.1).0, d.0), d.1 ∙ ap (λ o. last_or o items) (w.1).1)
+
+  found_exit : (last : Answered A E) (n : ℕ) (c d : Option A × F) (answer : Answered (Result (Option A) E) E) → DriveExit (IsFindLastTurn call) c last answer d → SearchExit call find_pick None n c.1 last (answer_by None answer) d.1
+  found_exit (Ok None) n c d answer h = (ap (answer_by None) h.0, ap (λ p. p.1) h.1)
+  found_exit (Err e) n c d answer h = (ap (answer_by None) h.0, ap (λ p. p.1) h.1)
+  found_exit (Ok (Some x)) n c d answer h = subst (λ (z : Result (Option A) E). Decided call find_pick n c.1 x z d.1) (sym (ap (answer_by None) h.2)) (h.1 n)
+
+  -- where the predicate decided, nothing else is asked
+  decided_or : (n : ℕ) (f : F) (x : A) (stop : Result (Option A) E) (g : F) (a b : Result (Option A) E) → Decided call find_pick n f x stop g → found_or stop a ≡ found_or stop b
+  decided_or n f x (Ok (Some y)) g a b d = refl
+  decided_or n f x (Ok None) g a b d = absurd (finds_one n x d.0 d.2)
+  decided_or n f x (Err e) g a b d = refl
+
+  kept_last : (last : Answered A E) (c d : Option A × F) (answer : Answered (Result (Option A) E) E) (items : List A) → c.0 ≡ last_or None items → DriveExit (IsFindLastTurn call) c last answer d → found_or (answer_by None answer) (Ok d.0) ≡ found_or (answer_by None answer) (Ok (last_or None items))
+  kept_last (Ok None) c d answer items at h = ap (λ (o : Option A). found_or (answer_by None answer) (Ok o)) (ap (λ p. p.0) h.1 ∙ at)
+  kept_last (Err e) c d answer items at h = ap (λ (o : Option A). found_or (answer_by None answer) (Ok o)) (ap (λ p. p.0) h.1 ∙ at)
+  kept_last (Ok (Some x)) c d answer items at h = subst (λ (z : Answered (Result (Option A) E) E). found_or (answer_by None z) (Ok d.0) ≡ found_or (answer_by None z) (Ok (last_or None items))) (sym h.2) (decided_or 0 c.1 x h.0 d.1 (Ok d.0) (Ok (last_or None items)) (h.1 0))
+
+  module _ {S : Type 0} {steps : S → Answered A E → S → Type 0} {s t : S} {f : F} {r : Result (Option A) E} where
+    pub found_or_last_by : {q : Option A × F} {answer : Answered (Result (Option A) E) E} → Driven steps (IsFindLastTurn call) s (None, f) answer t q → r ≡ found_or (answer_by None answer) (Ok q.0) → FoundOrLast call steps s f r t q.1
+    found_or_last_by {q = q} {answer = answer} w by = drained_map (λ items last h. let p = went_last items (None, f) h.carried h.went in record {
+      found = answer_by None answer;
+      search = record { closure = h.carried.1; went = p.0; exit = found_exit last (length items) h.carried q answer h.exit };
+      answer = by ∙ kept_last last h.carried q answer items p.1 h.exit;
+    }) w
+
+    -- where nothing was found, the list ended after the items
+    or_last_of : (items : List A) (last : Answered A E) (r : Result (Option A) E) (g : F) (l : List (Result A E)) → Lists steps s l → Run steps s (map item items ++ last ∷ []) t → SearchedBy call find_pick None f r g items last → found_or r (Ok (last_or None items)) ≡ found_or r (last_of l)
+    or_last_of items last (Ok (Some x)) g l i ran at = refl
+    or_last_of items last (Err e) g l i ran at = refl
+    or_last_of items (Ok None) (Ok None) g l i ran at = last_is l (record { items = items; last = Ok None; ran = ran; at = record { exit = refl } }) i
+    or_last_of items (Err e) (Ok None) g l i ran at = absurd (let d = at.exit.0 in cc)
+    or_last_of items (Ok (Some x)) (Ok None) g l i ran at = absurd (finds_one (length items) x at.exit.0 at.exit.2)
+
+    pub found_or_last_is : {g : F} (h : A → Result Bool E) → Acts call f h → (l : List (Result A E)) → Lists steps s l → FoundOrLast call steps s f r t g → r ≡ found_or_last h l
+    unfolding found_or_last
+    found_or_last_is {g = g} h acts l i w = w.at.answer ∙ or_last_of w.items w.last w.at.found g l i w.ran w.at.search ∙ ap (λ (z : Result (Option A) E). found_or z (last_of l)) (find_is l i {call = call} h acts (record { items = w.items; last = w.last; ran = w.ran; at = w.at.search }))

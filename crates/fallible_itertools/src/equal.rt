@@ -1,0 +1,56 @@
+//! Whether items equal one item.
+ghost use Rattle.std.specs.Prelude.{⊤};
+ghost use Rattle.fallible_iterator.specs.Searching.{IsSearchTurn, all_pick, any_pick};
+ghost use Rattle.fallible_itertools.specs.Equal.{FirstCall, TestCall};
+
+use fallible_iterator::Turn;
+use std::ops::ControlFlow;
+
+/// The turn of `contains`, which keeps nothing: it stops at the first item that equals the wanted one.
+#[derive(Drop)]
+pub struct ContainsTurn<'a, A> {
+    /// the wanted item
+    pub wanted: &'a A,
+}
+
+impl<'a, A: PartialEq + Drop, E> Turn<(), A, Result<bool, E>> for ContainsTurn<'a, A> {
+    ghost can_turn = { λ _ _ _. ⊤ };
+
+    ghost turns = { λ k c x r d. IsSearchTurn (TestCall (λ y. A.eq y k.wanted.now)) any_pick
+        c x r d };
+
+    /// The item, compared once.
+    #[inline(always)]
+    fn turn(&self, state: &mut (), item: A) -> ControlFlow<Result<bool, E>, ()> {
+        if item == *self.wanted {
+            ControlFlow::Break(Ok(true))
+        } else {
+            ControlFlow::Continue(())
+        }
+    }
+}
+
+/// The turn of `all_equal`, whose state is the first item, if one came: it stops at the first item that this doesn't equal.
+#[derive(Drop)]
+pub struct AllEqualTurn;
+
+impl<A: PartialEq + Drop, E> Turn<Option<A>, A, Result<bool, E>> for AllEqualTurn {
+    ghost can_turn = { λ _ _ _. ⊤ };
+
+    ghost turns = { λ _ c x r d. IsSearchTurn (FirstCall A.eq) all_pick c x r d };
+
+    /// The first item is kept, and each later one compared with it.
+    #[inline(always)]
+    fn turn(&self, state: &mut Option<A>, item: A) -> ControlFlow<Result<bool, E>, ()> {
+        if let Some(first) = state {
+            if *first == item {
+                ControlFlow::Continue(())
+            } else {
+                ControlFlow::Break(Ok(false))
+            }
+        } else {
+            *state = Some(item);
+            ControlFlow::Continue(())
+        }
+    }
+}
