@@ -5,7 +5,6 @@ use Rattle.std.proofs.Common.{refl, sym, ap, subst, ◌∙◌}
 use Rattle.fallible_iterator.specs.Traces.{Answered}
 use Rattle.fallible_iterator.specs.Lists.{Lists, Acts, on_value}
 use Rattle.fallible_iterator.specs.Searching.{WentOn, SearchExit, Searched, Decided, all_pick}
-use Rattle.fallible_iterator.proofs.Lemmas.Folds.{drained_map}
 use Rattle.fallible_iterator.proofs.Lemmas.Lists.Drawn.{RestAt, drawn}
 use Rattle.fallible_itertools.specs.IsSorted.{comes_after, OrderCall, ItselfCall, while_in_order, sorted_after, sorted_by_key, in_order}
 use Rattle.std.specs.declared.cmp.Ordering.{Ordering}
@@ -58,36 +57,6 @@ module _ {A E K F : Type 0} (order : K → K → Option Ordering) (call : F → 
       sorted_left w.last (length w.items) at.0 r q d.rest exit d.rest_is ∙ sym (ap (sorted_after order h None) d.list_is ∙ p.1)
 
 -- ---- the items themselves as keys
-
-module _ {A E F G V R : Type 0} {call : F → A → Result V E → F → Type 0} {other : G → A → Result V E → G → Type 0} {pick : ℕ → A → V → Option R} (seen : F → G) (calls : (f : F) (x : A) (r : Result V E) (g : F) → call f x r g → other (seen f) x r (seen g)) where
-  went_seen : (items : List A) (f g : F) → FoldsTo (WentOn call pick) f items g → FoldsTo (WentOn other pick) (seen f) items (seen g)
-  went_seen [] f g e = ap seen e
-  went_seen (x ∷ items) f g w = (seen w.0, ((w.1).0, calls f x (Ok (w.1).0) w.0 (w.1).1, (w.1).2), went_seen items w.0 g w.2)
-
-  decided_seen : (n : ℕ) (f : F) (x : A) (r : Result R E) (g : F) → Decided call pick n f x r g → Decided other pick n (seen f) x r (seen g)
-  decided_seen n f x (Ok z) g d = (d.0, calls f x (Ok d.0) g d.1, d.2)
-  decided_seen n f x (Err e) g d = calls f x (Err e) g d
-
-  exit_seen : (none : R) (n : ℕ) (f : F) (last : Answered A E) (r : Result R E) (g : F) → SearchExit call pick none n f last r g → SearchExit other pick none n (seen f) last r (seen g)
-  exit_seen none n f (Ok None) r g exit = (exit.0, ap seen exit.1)
-  exit_seen none n f (Err e) r g exit = (exit.0, ap seen exit.1)
-  exit_seen none n f (Ok (Some x)) r g exit = decided_seen n f x r g exit
-
-  -- a search is one by other calls, where each call is one of those
-  pub searched_seen : {S : Type 0} {steps : S → Answered A E → S → Type 0} (none : R) {s t : S} {f g : F} {r : Result R E} → Searched call pick steps none s f r t g → Searched other pick steps none s (seen f) r t (seen g)
-  searched_seen none {f = f} {g = g} {r = r} w = drained_map (λ items last h. record {
-    closure = seen h.closure;
-    went = went_seen items f h.closure h.went;
-    exit = exit_seen none (length items) h.closure last r g h.exit;
-  }) w
-
-module _ {A E F : Type 0} (order : A → A → Option Ordering) {call : F → A → Result A E → F → Type 0} (itself : (f : F) (x : A) (r : Result A E) (g : F) → call f x r g → r ≡ Ok x) where
-  ordered_itself : (p : Option A × F) (x : A) (r : Result Bool E) (q : Option A × F) → OrderCall order call p x r q → OrderCall order ItselfCall (p.0, tt) x r (q.0, tt)
-  ordered_itself p x (Ok v) q c = (c.0, itself p.1 x (Ok c.0) q.1 c.1, c.2, c.3)
-  ordered_itself p x (Err e) q c = itself p.1 x (Err e) q.1 c
-
-  pub sorted_itself : {S : Type 0} {steps : S → Answered A E → S → Type 0} {s t : S} {f : F} {q : Option A × F} {r : Result Bool E} → Searched (OrderCall order call) all_pick steps true s (None, f) r t q → Searched (OrderCall order ItselfCall) all_pick steps true s (None, tt) r t (q.0, tt)
-  sorted_itself w = searched_seen (λ (p : Option A × F). (p.0, tt)) ordered_itself true w
 
 pub in_order_is : {S A E : Type 0} {steps : S → Answered A E → S → Type 0} (order : A → A → Option Ordering) {s t : S} {q : Option A × Unit {0}} {r : Result Bool E} (l : List (Result A E)) → Searched (OrderCall order ItselfCall) all_pick steps true s (None, tt) r t q → Lists steps s l → r ≡ in_order order l
 unfolding in_order

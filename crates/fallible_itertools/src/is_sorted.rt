@@ -1,8 +1,8 @@
 //! Whether keys come in order.
-ghost use Rattle.std.specs.Prelude.{◌≡◌};
+ghost use Rattle.std.specs.Prelude.{◌≡◌, ⊤};
 ghost use Rattle.fallible_iterator.specs.Closures.{call_on, takes_on};
 ghost use Rattle.fallible_iterator.specs.Searching.{IsSearchTurn, all_pick};
-ghost use Rattle.fallible_itertools.specs.IsSorted.{OrderCall, comes_after};
+ghost use Rattle.fallible_itertools.specs.IsSorted.{ItselfCall, OrderCall, comes_after};
 
 use fallible_iterator::Turn;
 use std::ops::ControlFlow;
@@ -40,6 +40,29 @@ impl<A, K: PartialOrd + Drop, E, F: FnMut(A) -> Result<K, E>> Turn<
         };
         let in_order = may_come_after(&state.0, &key);
         state.0 = Some(key);
+        if in_order {
+            ControlFlow::Continue(())
+        } else {
+            ControlFlow::Break(Ok(false))
+        }
+    }
+}
+
+/// The turn of `is_sorted`, whose state is the last item, if one came, beside nothing: it stops at the first item that is out of order.
+#[derive(Drop)]
+pub struct InOrderTurn;
+
+impl<A: PartialOrd + Drop, E> Turn<(Option<A>, ()), A, Result<bool, E>> for InOrderTurn {
+    ghost can_turn = { λ _ _ _. ⊤ };
+
+    ghost turns = { λ _ p x r q. IsSearchTurn (OrderCall A.partial_cmp ItselfCall) all_pick
+        p x r q };
+
+    /// The item, which is the last one then.
+    #[inline(always)]
+    fn turn(&self, state: &mut (Option<A>, ()), item: A) -> ControlFlow<Result<bool, E>, ()> {
+        let in_order = may_come_after(&state.0, &item);
+        state.0 = Some(item);
         if in_order {
             ControlFlow::Continue(())
         } else {

@@ -58,7 +58,7 @@ use crate::find_or_last::{FindLastTurn, or_last};
 use crate::fold_while::{FoldWhile, FoldWhileTurn, while_or_stop};
 use crate::inspect_err::InspectErr;
 use crate::intersperse::Intersperse;
-use crate::is_sorted::SortedTurn;
+use crate::is_sorted::{InOrderTurn, SortedTurn};
 use crate::join::JoinTurn;
 use crate::merge_by::MergeBy;
 use crate::minmax::{MinMaxResult, MinMaxTurn};
@@ -535,7 +535,7 @@ pub trait FallibleItertools: FallibleIterator {
     ///     .filter(|reading| Ok(*reading > 100))
     ///     .is_sorted()
     /// ```
-    final fn is_sorted(self) -> Result<bool, Self::Error>
+    final fn is_sorted(mut self) -> Result<bool, Self::Error>
     where
         Self::Item: PartialOrd + Drop,
         requires can_next { Self.contract.can_next self }
@@ -547,10 +547,7 @@ pub trait FallibleItertools: FallibleIterator {
             → order ≡ Self.Item.partial_cmp
             → OverList Self.contract.steps self (λ l. result ≡ in_order order l) }
     {
-        let itself = |item: Self::Item| -> Result<Self::Item, Self::Error>
-            ensures { result ≡ Ok item }
-        { Ok(item) };
-        self.is_sorted_by_key(itself)
+        answer_or(self.drive(&mut (None, ()), &InOrderTurn), true)
     }
 
     // ---- adapters that let answers pass

@@ -3,9 +3,9 @@ use Rattle.std.specs.Prelude.{◌≡◌, ℕ, length, Bool, true, false, Option,
 use Rattle.std.specs.List.{FoldsTo, last_or}
 use Rattle.std.proofs.Common.{refl, sym, ap, subst, ◌∙◌}
 use Rattle.fallible_iterator.specs.Traces.{Answered, Run, item}
-use Rattle.fallible_iterator.specs.Folds.{goes_on, DriveExit, Driven}
+use Rattle.fallible_iterator.specs.Folds.{goes_on, CallableDriving, DriveExit, Driven}
 use Rattle.fallible_iterator.specs.Lists.{Lists, Acts, found, last_of}
-use Rattle.fallible_iterator.specs.Searching.{WentOn, Decided, SearchExit, SearchedBy, answer_by, find_pick}
+use Rattle.fallible_iterator.specs.Searching.{WentOn, Decided, SearchExit, SearchedBy, CallableInSearch, answer_by, find_pick}
 use Rattle.fallible_iterator.proofs.Lemmas.Folds.{drained_map}
 use Rattle.fallible_iterator.proofs.Lemmas.Lists.Drawn.{last_is}
 use Rattle.fallible_iterator.proofs.Lemmas.Lists.Searched.{find_is}
@@ -38,22 +38,25 @@ module _ {A E F : Type 0} (call : F → A → Result Bool E → F → Type 0) wh
   kept_last (Err e) c d answer items at h = ap (λ (o : Option A). found_or (answer_by None answer) (Ok o)) (ap (λ p. p.0) h.1 ∙ at)
   kept_last (Ok (Some x)) c d answer items at h = subst (λ (z : Answered (Result (Option A) E) E). found_or (answer_by None z) (Ok d.0) ≡ found_or (answer_by None z) (Ok (last_or None items))) (sym h.2) (decided_or 0 c.1 x h.0 d.1 (Ok d.0) (Ok (last_or None items)) (h.1 0))
 
-  module _ {S : Type 0} {steps : S → Answered A E → S → Type 0} {s t : S} {f : F} {r : Result (Option A) E} where
-    pub found_or_last_by : {q : Option A × F} {answer : Answered (Result (Option A) E) E} → Driven steps (IsFindLastTurn call) s (None, f) answer t q → r ≡ found_or (answer_by None answer) (Ok q.0) → FoundOrLast call steps s f r t q.1
-    found_or_last_by {q = q} {answer = answer} w by = drained_map (λ items last h. let p = went_last items (None, f) h.carried h.went in record {
-      found = answer_by None answer;
-      search = record { closure = h.carried.1; went = p.0; exit = found_exit last (length items) h.carried q answer h.exit };
-      answer = by ∙ kept_last last h.carried q answer items p.1 h.exit;
-    }) w
+  -- where the search may call the predicate, the fold may
+  pub last_callable : {S : Type 0} {steps : S → Answered A E → S → Type 0} {takes : F → A → Type 0} {s : S} {f : F} → CallableInSearch call find_pick steps takes s f → CallableDriving steps (IsFindLastTurn call) (λ p x. takes p.1 x) s (None, f)
+  last_callable {f = f} h = record { at = λ items t u p x ran went step. h.at items t u p.1 x ran (went_last items (None, f) p went).0 step }
 
-    -- where nothing was found, the list ended after the items
-    or_last_of : (items : List A) (last : Answered A E) (r : Result (Option A) E) (g : F) (l : List (Result A E)) → Lists steps s l → Run steps s (map item items ++ last ∷ []) t → SearchedBy call find_pick None f r g items last → found_or r (Ok (last_or None items)) ≡ found_or r (last_of l)
-    or_last_of items last (Ok (Some x)) g l i ran at = refl
-    or_last_of items last (Err e) g l i ran at = refl
-    or_last_of items (Ok None) (Ok None) g l i ran at = last_is l (record { items = items; last = Ok None; ran = ran; at = record { exit = refl } }) i
-    or_last_of items (Err e) (Ok None) g l i ran at = absurd (let d = at.exit.0 in cc)
-    or_last_of items (Ok (Some x)) (Ok None) g l i ran at = absurd (finds_one (length items) x at.exit.0 at.exit.2)
+  pub found_or_last_by : {S : Type 0} {steps : S → Answered A E → S → Type 0} {s t : S} {f : F} {r found : Result (Option A) E} {q : Option A × F} {answer : Answered (Result (Option A) E) E} → Driven steps (IsFindLastTurn call) s (None, f) answer t q → found ≡ answer_by None answer → r ≡ found_or found (Ok q.0) → FoundOrLast call steps s f r t q.1
+  found_or_last_by {f = f} {q = q} {answer = answer} w is by = drained_map (λ items last h. let p = went_last items (None, f) h.carried h.went in record {
+    found = answer_by None answer;
+    search = record { closure = h.carried.1; went = p.0; exit = found_exit last (length items) h.carried q answer h.exit };
+    answer = by ∙ ap (λ z. found_or z (Ok q.0)) is ∙ kept_last last h.carried q answer items p.1 h.exit;
+  }) w
 
-    pub found_or_last_is : {g : F} (h : A → Result Bool E) → Acts call f h → (l : List (Result A E)) → Lists steps s l → FoundOrLast call steps s f r t g → r ≡ found_or_last h l
-    unfolding found_or_last
-    found_or_last_is {g = g} h acts l i w = w.at.answer ∙ or_last_of w.items w.last w.at.found g l i w.ran w.at.search ∙ ap (λ (z : Result (Option A) E). found_or z (last_of l)) (find_is l i {call = call} h acts (record { items = w.items; last = w.last; ran = w.ran; at = w.at.search }))
+  -- where nothing was found, the list ended after the items
+  or_last_of : {S : Type 0} {steps : S → Answered A E → S → Type 0} (s t : S) (f : F) (items : List A) (last : Answered A E) (r : Result (Option A) E) (g : F) (l : List (Result A E)) → Lists steps s l → Run steps s (map item items ++ last ∷ []) t → SearchedBy call find_pick None f r g items last → found_or r (Ok (last_or None items)) ≡ found_or r (last_of l)
+  or_last_of s t f items last (Ok (Some x)) g l i ran at = refl
+  or_last_of s t f items last (Err e) g l i ran at = refl
+  or_last_of s t f items (Ok None) (Ok None) g l i ran at = last_is l (record { items = items; last = Ok None; ran = ran; at = record { exit = refl } }) i
+  or_last_of s t f items (Err e) (Ok None) g l i ran at = absurd (let d = at.exit.0 in cc)
+  or_last_of s t f items (Ok (Some x)) (Ok None) g l i ran at = absurd (finds_one (length items) x at.exit.0 at.exit.2)
+
+  pub found_or_last_is : {S : Type 0} {steps : S → Answered A E → S → Type 0} {s t : S} {f g : F} {r : Result (Option A) E} (h : A → Result Bool E) → Acts call f h → (l : List (Result A E)) → Lists steps s l → FoundOrLast call steps s f r t g → r ≡ found_or_last h l
+  unfolding found_or_last
+  found_or_last_is {s = s} {t = t} {f = f} {g = g} h acts l i w = w.at.answer ∙ or_last_of s t f w.items w.last w.at.found g l i w.ran w.at.search ∙ ap (λ (z : Result (Option A) E). found_or z (last_of l)) (find_is l i {call = call} h acts (record { items = w.items; last = w.last; ran = w.ran; at = w.at.search }))

@@ -1,10 +1,13 @@
--- The items themselves are the keys.
-use Rattle.std.proofs.Common.{rules}
-use Rattle.fallible_itertools.proofs.IsSorted.{sorted_itself, in_order_is}
+-- The fold whose state is the last item is the search, of which each item is its own key.
+use Rattle.std.proofs.Common.{true}
+use Rattle.fallible_iterator.specs.Searching.{all_pick}
+use Rattle.fallible_iterator.proofs.Lemmas.Searching.{searched}
+use Rattle.fallible_itertools.specs.IsSorted.{ItselfCall, OrderCall}
+use Rattle.fallible_itertools.proofs.IsSorted.{in_order_is}
 use Rattle.fallible_itertools.proofs.traits.FallibleItertools.is_sorted.Goals as goal
 
 pub returns-clause-sorted : goal.returns-clause-sorted
-returns-clause-sorted g c = let w = c.is_sorted_by_key.ensures.sorted in (w.0, _, sorted_itself g.Self.Item.PartialOrd.partial_cmp (λ f x r k called. search rules) w.2)
+returns-clause-sorted g c = (_, _, searched {call = OrderCall g.Self.Item.PartialOrd.partial_cmp ItselfCall} {pick = all_pick} true (λ p x r q w. w) c.drive.ensures c.answer_or.ensures)
 
 pub returns-clause-value : goal.returns-clause-value
 returns-clause-value g c order is l i = rw is (in_order_is g.Self.Item.PartialOrd.partial_cmp l (returns-clause-sorted g c).2 i)
