@@ -29,6 +29,7 @@ pub mod MinMax
 pub mod OrElse
 pub mod PeekingTakeWhile
 pub mod Sides
+pub mod Sorted
 pub mod TakeWhileInclusive
 pub mod TakeWhileInclusiveFolds
 pub mod TupleWindows

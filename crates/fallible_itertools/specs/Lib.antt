@@ -26,6 +26,7 @@ pub mod MinMax
 pub mod OrElse
 pub mod PeekingTakeWhile
 pub mod Sides
+pub mod Sorted
 pub mod TakeWhileInclusive
 pub mod TupleWindows
 pub mod ZipLongest

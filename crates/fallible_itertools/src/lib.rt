@@ -30,6 +30,7 @@ pub mod minmax;
 pub mod or_else;
 pub mod peeking_take_while;
 mod sides;
+mod sorted;
 pub mod take_while_inclusive;
 pub mod traits;
 pub mod tuple_windows;

@@ -1,6 +1,7 @@
 //! The extension trait of every fallible iterator.
 ghost use Rattle.std.specs.HashMap.{get, spare};
 ghost use Rattle.std.specs.Prelude.{◌≡◌, ℕ, ◌+◌, ◌≤◌, List, None, Result, ◌-◌, ◌^◌, true, Option, Ok, Err, false, Bool, Some, IfOk, ⊤, ◌<◌, vec_items};
+ghost use Rattle.std.specs.Fn.{ComputesKey};
 ghost use Rattle.std.specs.declared.cmp.Ordering.{Ordering};
 ghost use Rattle.fallible_iterator.specs.Clauses.{OverList, OverListWith, OverBoth};
 ghost use Rattle.fallible_iterator.specs.Closures.{IsCallable, call_at, takes_at, call_on, takes_on};
@@ -35,6 +36,7 @@ ghost use Rattle.fallible_itertools.specs.Sides.{OverBothForGood};
 ghost use Rattle.fallible_itertools.specs.FindOrLast.{FoundOrLast, found_or_last};
 ghost use Rattle.fallible_itertools.specs.IsSorted.{ItselfCall, OrderCall, in_order, sorted_by_key};
 ghost use Rattle.fallible_itertools.specs.FoldWhile.{WhileCall, FoldedWhile, folded_while, rest_while};
+ghost use Rattle.fallible_itertools.specs.Sorted.{CollectsSorted, IsSortedByCalls, IsSortedByKeyOf, IsSortedOf};
 ghost use Rattle.fallible_itertools.specs.TakeWhileInclusive.{inclusive_contract, inclusive_parts, inclusive_predicate, inclusive_refused, inclusive_source, taken_while_inclusive};
 ghost use Rattle.fallible_itertools.specs.CheckedSum.{Totalled, totalled};
 ghost use Rattle.fallible_itertools.specs.TupleWindows.{tuple_windows_contract, tuple_windows_parts, windowed};
@@ -64,6 +66,7 @@ use crate::merge_by::MergeBy;
 use crate::minmax::{MinMaxResult, MinMaxTurn};
 use crate::or_else::OrElse;
 use crate::sides::Holding;
+use crate::sorted::{sorted_items, sorted_items_by_key};
 use crate::take_while_inclusive::TakeWhileInclusive;
 use crate::tuple_windows::TupleWindows;
 use crate::zip_longest::ZipLongest;
@@ -880,7 +883,68 @@ pub trait FallibleItertools: FallibleIterator {
         }
     }
 
-    /// Returns the items as `Display` shows them, with the separator between each two.
+    /// The items in a `Vec`, in order. Equal items keep their order.
+    ///
+    /// It draws up to the end, the first failure or an item that the `Vec` refuses, and sorts after the end. It fails with `Fault::Source` of the first failure, and with `Fault::Memory` where memory is refused: for the item that was drawn last, or for sorting more than 20 items. It consumes the iterator, and no clause says what is left.
+    ///
+    /// Requires that `next` may be called, and a bound.
+    ///
+    /// ```
+    /// convert(readings.into_iter()).sorted(alloc)
+    /// ```
+    final fn sorted(self, alloc: Global) -> Result<Vec<Self::Item>, Fault<Self::Error>>
+    where
+        Self::Item: Ord + Drop,
+        requires can_next { Self.contract.can_next self }
+        requires finite { Self.contract.is_finite self }
+        ensures collects { CollectsSorted Self.contract.steps (IsSortedOf Self.Item.cmp) self
+            result }
+        ensures value { OverList Self.contract.steps self
+            (λ l. CollectedAs (IsSortedOf Self.Item.cmp) l result) }
+        ensures contents { OverList Self.contract.steps self
+            (λ l. IfOk result (MadeOf (IsSortedOf Self.Item.cmp) (collected l))) }
+        ensures failure { OverList Self.contract.steps self
+            (λ l. (e : Self.Error) → result ≡ Err (Source e) → collected l ≡ Err e) }
+    {
+        sorted_items(self.collect(alloc))
+    }
+
+    /// The items in a `Vec`, in the order of the keys that the closure makes of them. Items of equal keys keep their order.
+    ///
+    /// It draws and fails as `sorted` does. The closure doesn't fail, and is called on an item as often as its key is compared, after the last draw: a key that may fail is made by `map` before. It consumes the iterator, and no clause says what is left.
+    ///
+    /// Requires that `next` may be called, a bound, and that the closure may always be called.
+    ///
+    /// ```
+    /// convert(readings.into_iter()).sorted_by_key(alloc, |reading: &u32| *reading % 10)
+    /// ```
+    final fn sorted_by_key<K, F>(
+        self,
+        alloc: Global,
+        f: F,
+    ) -> Result<Vec<Self::Item>, Fault<Self::Error>>
+    where
+        Self::Item: Drop,
+        K: Ord + Drop,
+        F: FnMut(&Self::Item) -> K,
+        requires can_next { Self.contract.can_next self }
+        requires finite { Self.contract.is_finite self }
+        requires callable { F.IsAlwaysCallable f }
+        ensures collects { CollectsSorted Self.contract.steps (IsSortedByCalls F.FnMut K.cmp f)
+            self result }
+        ensures value { (key : Self.Item → K) → ComputesKey F.FnMut key f
+            → OverList Self.contract.steps self
+            (λ l. CollectedAs (IsSortedByKeyOf key K.cmp) l result) }
+        ensures contents { (key : Self.Item → K) → ComputesKey F.FnMut key f
+            → OverList Self.contract.steps self
+            (λ l. IfOk result (MadeOf (IsSortedByKeyOf key K.cmp) (collected l))) }
+        ensures failure { OverList Self.contract.steps self
+            (λ l. (e : Self.Error) → result ≡ Err (Source e) → collected l ≡ Err e) }
+    {
+        sorted_items_by_key(self.collect(alloc), f)
+    }
+
+    /// The items as they are shown, with the separator between each two.
     ///
     /// It draws up to `Ok(None)`, the first failure or an item that can't be appended. It fails with `Fault::Source` of the first failure. It fails with `Fault::Memory` if the last item drawn couldn't be appended: an allocation failed, or its `Display` did. It consumes the iterator, and no clause says what is left.
     ///
