@@ -8,6 +8,7 @@ pub mod Coalesce
 pub mod Copied
 pub mod Counts
 pub mod Dedup
+pub mod DedupBy
 pub mod DedupByKey
 pub mod Equal
 pub mod FindOrLast
@@ -24,6 +25,7 @@ pub mod IntersperseHints
 pub mod IntersperseTraces
 pub mod Join
 pub mod LoopsMade
+pub mod Merge
 pub mod MergeBy
 pub mod MinMax
 pub mod OrElse

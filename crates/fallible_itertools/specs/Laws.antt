@@ -4,10 +4,12 @@ pub mod Chunks
 pub mod Coalesce
 pub mod Copied
 pub mod Dedup
+pub mod DedupBy
 pub mod DedupByKey
 pub mod Holding
 pub mod InspectErr
 pub mod Intersperse
+pub mod Merge
 pub mod MergeBy
 pub mod OrElse
 pub mod PeekingTakeWhile

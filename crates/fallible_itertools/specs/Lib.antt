@@ -9,6 +9,7 @@ pub mod Converting
 pub mod Copied
 pub mod Counts
 pub mod Dedup
+pub mod DedupBy
 pub mod DedupByKey
 pub mod Equal
 pub mod ExactlyOne
@@ -21,6 +22,7 @@ pub mod Intersperse
 pub mod IsSorted
 pub mod Join
 pub mod Laws
+pub mod Merge
 pub mod MergeBy
 pub mod MinMax
 pub mod OrElse

@@ -5,6 +5,7 @@ mod failing;
 mod grouping;
 mod holding;
 mod intersperse;
+mod merge;
 mod merge_by;
 mod peeking_take_while;
 mod take_while_inclusive;
@@ -23,11 +24,12 @@ pub use grouping::{
     law_chunk_by, law_chunked, law_chunked_by, law_chunks, law_hints_chunk_by, law_hints_chunks,
 };
 pub use holding::{
-    law_coalesce, law_coalesced, law_dedup, law_dedup_by_key, law_deduped, law_deduped_by_key,
-    law_hints_coalesce, law_hints_dedup, law_hints_dedup_by_key, law_hints_tuple_windows,
-    law_tuple_windows,
+    law_coalesce, law_coalesced, law_dedup, law_dedup_by, law_dedup_by_key, law_deduped,
+    law_deduped_by, law_deduped_by_key, law_hints_coalesce, law_hints_dedup, law_hints_dedup_by,
+    law_hints_dedup_by_key, law_hints_tuple_windows, law_tuple_windows,
 };
 pub use intersperse::{law_hints_intersperse, law_intersperse};
+pub use merge::{law_hints_merge, law_merge};
 pub use merge_by::{law_hints_merge_by, law_merge_by};
 pub use peeking_take_while::{
     law_hints_peeking_take_while, law_peeking_take_while, law_rest_peeking_take_while,

@@ -22,6 +22,7 @@ ghost use Rattle.fallible_itertools.specs.Converting.{Converted, try_each_done, 
 ghost use Rattle.fallible_itertools.specs.Copied.{copied_contract, copied_parts};
 ghost use Rattle.fallible_itertools.specs.Counts.{IsCountsOf};
 ghost use Rattle.fallible_itertools.specs.Dedup.{dedup_contract, dedup_parts, deduped};
+ghost use Rattle.fallible_itertools.specs.DedupBy.{dedup_by_asks, dedup_by_contract, dedup_by_parts, dedup_by_takes, deduped_by};
 ghost use Rattle.fallible_itertools.specs.DedupByKey.{dedup_by_key_contract, dedup_by_key_parts, dedup_key_asks, dedup_key_takes, deduped_by_key};
 ghost use Rattle.fallible_itertools.specs.Equal.{FirstCall, TestCall, contained, equal_to_first, rest_contained, rest_unequal};
 ghost use Rattle.fallible_itertools.specs.ExactlyOne.{AtMostOne, at_most_one_of, wanting_one};
@@ -30,6 +31,7 @@ ghost use Rattle.fallible_itertools.specs.InspectErr.{inspect_err_contract, insp
 ghost use Rattle.fallible_itertools.specs.OrElse.{or_else_contract, or_else_parts, recovered};
 ghost use Rattle.fallible_itertools.specs.Intersperse.{intersperse_contract, intersperse_parts, interspersed};
 ghost use Rattle.fallible_itertools.specs.Join.{JoinedAs};
+ghost use Rattle.fallible_itertools.specs.Merge.{merge_contract, merge_left, merge_left_held, merge_parts, merge_right, merge_right_held, merged_in_order};
 ghost use Rattle.fallible_itertools.specs.MergeBy.{call_on_two, merge_by_closure, merge_by_contract, merge_by_left, merge_by_left_held, merge_by_parts, merge_by_right, merge_by_right_held, merged};
 ghost use Rattle.fallible_itertools.specs.MinMax.{MinMaxed, minmaxed};
 ghost use Rattle.fallible_itertools.specs.Sides.{OverBothForGood};
@@ -53,6 +55,7 @@ use crate::converting::converted;
 use crate::copied::Copied;
 use crate::counts::Tally;
 use crate::dedup::Dedup;
+use crate::dedup_by::DedupBy;
 use crate::dedup_by_key::DedupByKey;
 use crate::equal::{AllEqualTurn, ContainsTurn};
 use crate::exactly_one::NotOne;
@@ -62,6 +65,7 @@ use crate::inspect_err::InspectErr;
 use crate::intersperse::Intersperse;
 use crate::is_sorted::{InOrderTurn, SortedTurn};
 use crate::join::JoinTurn;
+use crate::merge::Merge;
 use crate::merge_by::MergeBy;
 use crate::minmax::{MinMaxResult, MinMaxTurn};
 use crate::or_else::OrElse;
@@ -161,7 +165,39 @@ pub trait FallibleItertools: FallibleIterator {
         }
     }
 
-    /// Yields the first of adjacent equal items.
+    /// Gives of adjacent items that the closure finds the same the first. It is called on references to the item that is held and the next one.
+    ///
+    /// It is made, draws and ends as `dedup` does. Where the closure fails, its failure is a stop: what is held is yielded first. The item that was drawn last is lost, and no other.
+    ///
+    /// Asks that the closure may be called on references to what is held and each item that may come. Each draw asks what one of `dedup` asks.
+    ///
+    /// ```
+    /// convert(readings.into_iter())
+    ///     .dedup_by(|first, second| Ok(*first / 10 == *second / 10))
+    ///     .count()
+    /// ```
+    final fn dedup_by<F>(self, same: F) -> DedupBy<Self, F>
+    where
+        Self::Item: Drop,
+        Self::Error: Drop,
+        F: FnMut(&Self::Item, &Self::Item) -> Result<bool, Self::Error>,
+        requires callable { IsCallable (dedup_by_asks (call_at_two F.FnMut))
+            (dedup_by_takes (takes_at_two F.FnMut)) (MayBeAsked Self.contract self) (None, same) }
+        ensures parts { dedup_by_parts result ≡ (self, ((None, same), None)) }
+        ensures lists { (h : Self.Item → Self.Item → Result Bool Self.Error)
+            (l : List (Result Self.Item Self.Error))
+            → ActsWith (call_at_two F.FnMut) same h → Lists Self.contract.steps self l
+            → Lists (seen_as dedup_by_parts (dedup_by_contract Self.contract F.FnMut)).steps
+            result (deduped_by h l) }
+    {
+        DedupBy {
+            it: self,
+            comparing: (None, same),
+            due: None,
+        }
+    }
+
+    /// Gives of adjacent equal items the first.
     ///
     /// Creating it draws nothing. The first of equal items is buffered until an item that differs comes, or a stop: `Ok(None)` or a failure. `next` draws up to that. The buffered item is yielded first. The stop is what the next call returns, without a draw. After a stop nothing is buffered, so equal items before and after it are both yielded.
     ///
@@ -661,7 +697,53 @@ pub trait FallibleItertools: FallibleIterator {
 
     // ---- adapters that join
 
-    /// Merges the items of two sources. Of an item of this iterator and the next one of `other`, the closure returns whether the former goes first. If one side returns `Ok(None)`, the other's item is yielded without a call of the closure.
+    /// Merges the items of two sources by their order: of an item and the next one of `other` the lesser goes first, and of equal ones this side's. Two sorted sources give a sorted one. Of two items without an order `other`'s goes first. Beside an end of one side the other's item is given.
+    ///
+    /// It is made, draws, holds and fails as `merge_by` does; no closure fails. A bound of each side, added up, bounds it.
+    ///
+    /// Asks nothing. Draws ask that both sides may be drawn from. What it lists is known where both sides end for good, as after `convert_fused` or `fuse`.
+    ///
+    /// ```
+    /// convert_fused(left.into_iter())
+    ///     .merge(convert_fused(right.into_iter()))
+    ///     .last()
+    /// ```
+    final fn merge<I>(self, other: I) -> Merge<Self, I::IntoFallibleIter>
+    where
+        I: IntoFallibleIterator<Item = Self::Item, Error = Self::Error>,
+        Self::Item: PartialOrd + Drop,
+        ensures left { merge_left result ≡ self }
+        ensures left_held { merge_left_held result ≡ None }
+        ensures right { I.into_gives other (merge_right result) }
+        ensures right_held { merge_right_held result ≡ None }
+        ensures bounded { (a b k : ℕ) → Self.contract.bound self a
+            → I.IntoFallibleIter.contract.bound (merge_right result) b → a + b ≤ k
+            → AtMost (seen_as merge_parts (merge_contract Self.Item.partial_cmp Self.contract
+            I.IntoFallibleIter.contract)) result k }
+        ensures for_good { OverBothForGood Self.contract.steps self I.into_gives other
+            I.IntoFallibleIter.contract.steps
+            (λ a b. ListsForGood (seen_as merge_parts (merge_contract Self.Item.partial_cmp
+            Self.contract I.IntoFallibleIter.contract)).steps result
+            (merged_in_order Self.Item.partial_cmp a b)) }
+        ensures lists { OverBothForGood Self.contract.steps self I.into_gives other
+            I.IntoFallibleIter.contract.steps
+            (λ a b. Lists (seen_as merge_parts (merge_contract Self.Item.partial_cmp
+            Self.contract I.IntoFallibleIter.contract)).steps result
+            (merged_in_order Self.Item.partial_cmp a b)) }
+    {
+        Merge {
+            left: Holding {
+                it: self,
+                held: None,
+            },
+            right: Holding {
+                it: other.into_fallible_iter(),
+                held: None,
+            },
+        }
+    }
+
+    /// Merges the items of two sources: of an item and the next one of `other`, the closure answers whether the former goes first. Beside an end of one side the other's item is given without asking.
     ///
     /// Creating it draws nothing. It buffers at most one item of each side. `next` draws this side once if nothing of it is buffered. Then, unless that failed, it draws `other` once if nothing of `other` is buffered. An `Ok(None)` of a side isn't remembered. It fails as either side does, and loses nothing that is buffered. If the closure fails, its failure is yielded, and the two items that it was called on are lost. Its folds draw as `next` does. Bounds of both sides, added up, bound it.
     ///

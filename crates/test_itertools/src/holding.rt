@@ -104,6 +104,24 @@ fn dedup_by_key_loses_the_item_without_a_key_alone(rt: HostRuntime) -> Result<()
     Ok(())
 }
 
+// The tens are compared. That fails on 77, of which dedup_by_key makes no key, so the same comes.
+#[test]
+fn dedup_by_loses_the_item_that_it_failed_on_alone(rt: HostRuntime) -> Result<(), Fail> {
+    for (answers, drawn, expected) in &DEDUPED_TENS {
+        let mut source = script(&rt, answers)?;
+        let mut it = (&mut source).dedup_by(|first: &u32, second: &u32| -> Result<bool, u32> {
+            if *second == 77 {
+                Err(5)
+            } else {
+                Ok(*first / 10 == *second / 10)
+            }
+        });
+        let folded = folded_after(&rt, &mut it, drawn)?;
+        expect_same(&(folded, source.next()), expected)?;
+    }
+    Ok(())
+}
+
 const SUMMED: [Drawn; 10] = [
     Ok(Some(1)),
     Ok(Some(2)),

@@ -102,6 +102,15 @@ const TWO: [Result<u32, u32>; 2] = [Ok(1), Ok(2)];
 
 const ONE: [Result<u32, u32>; 1] = [Ok(3)];
 
+// By their order the same comes.
+#[test]
+fn merge_holds_one_item_of_each_side(rt: HostRuntime) -> Result<(), Fail> {
+    let (left, right, course) = &MERGED[0];
+    let mut it = script(&rt, left)?.merge(script(&rt, right)?);
+    expect_hinted_numbers(&rt, &mut it, course)?;
+    expect_same(&numbers(&TWO).merge(numbers(&ONE)).size_hint(), &(3, None))
+}
+
 // The smaller item goes first, the left's of two equal ones. The closure fails on 50.
 #[test]
 fn merge_by_holds_one_item_of_each_side(rt: HostRuntime) -> Result<(), Fail> {

@@ -1,16 +1,19 @@
-// The laws of the adapters that buffer.
-ghost use Rattle.std.specs.Prelude.{◌≡◌, ◌++◌, ◌∷◌, List, Option, Result, Some, None, Err};
+// Of the adapters that hold.
+ghost use Rattle.std.specs.Prelude.{◌≡◌, ◌++◌, ◌∷◌, Bool, List, Option, Result, Some, None, Err};
 ghost use Rattle.fallible_iterator.specs.LawForm.{TracesAre};
 ghost use Rattle.fallible_iterator.specs.SoundHints.{KeepsBrackets, SoundHints};
 ghost use Rattle.fallible_iterator.specs.Closures.{call_at};
 ghost use Rattle.fallible_iterator.specs.Folds.{call_with};
+ghost use Rattle.fallible_iterator.specs.Picking.{call_at_two};
 ghost use Rattle.fallible_itertools.specs.Coalesce.{CoalesceTrace, OneOrBoth, coalesce_due, coalesce_parts, coalesce_source, coalesced};
+ghost use Rattle.fallible_itertools.specs.DedupBy.{DedupByTrace, dedup_by_due, dedup_by_parts, dedup_by_source, deduped_by};
 ghost use Rattle.fallible_itertools.specs.DedupByKey.{DedupByKeyTrace, dedup_by_key_due, dedup_by_key_parts, dedup_by_key_source, deduped_by_key};
 ghost use Rattle.fallible_itertools.specs.Dedup.{DedupTrace, dedup_due, dedup_parts, dedup_source, deduped};
 ghost use Rattle.fallible_itertools.specs.TupleWindows.{TupleWindowsTrace, tuple_windows_parts, tuple_windows_source};
 
 use crate::coalesce::Coalesce;
 use crate::dedup::Dedup;
+use crate::dedup_by::DedupBy;
 use crate::dedup_by_key::DedupByKey;
 use crate::tuple_windows::TupleWindows;
 use fallible_iterator::FallibleIterator;
@@ -76,7 +79,38 @@ where
         → SoundHints ⟦<Coalesce<I, F> as FallibleIterator>⟧.contract s }
 {}
 
-/// The answers of `DedupByKey` are the stop that is due, and then the first of adjacent items with equal keys: each stands where the next one that differs or a stop came, and each stop after what was buffered before it. The closure's failure is a stop.
+/// The answers of `DedupBy` are the stop that is due, the first of adjacent items that the closure finds the same, each where the next one that differs stands or a stop, and each stop after what was held before it. The closure's failure is a stop.
+pub fn law_dedup_by<I: FallibleIterator, F: FnMut(&I::Item, &I::Item) -> Result<bool, I::Error>>()
+where
+    I::Item: Drop,
+    I::Error: Drop,
+    ensures { TracesAre dedup_by_parts ⟦<DedupBy<I, F> as FallibleIterator>⟧.contract.steps
+        (DedupByTrace (call_at_two F.FnMut) I.contract.steps) }
+{}
+
+/// A failure parts a list: what stands before it is deduped by itself, and so is what comes after it.
+pub fn law_deduped_by<T, E>()
+    ensures { (h : T → T → Result Bool E) (a : List (Result T E)) (e : E) (b : List (Result T E))
+        → deduped_by h (a ++ Err e ∷ b) ≡ deduped_by h a ++ Err e ∷ deduped_by h b }
+{}
+
+/// Each hint of `DedupBy` is as sound as the hint of its source that it is made of; where a stop is due it is sound by itself.
+pub fn law_hints_dedup_by<
+    I: FallibleIterator,
+    F: FnMut(&I::Item, &I::Item) -> Result<bool, I::Error>,
+>()
+where
+    I::Item: Drop,
+    I::Error: Drop,
+    ensures none_due { (s : DedupBy I F I.Item I.Error) → dedup_by_due s ≡ None
+        → KeepsBrackets ⟦<DedupBy<I, F> as FallibleIterator>⟧.contract s I.contract
+        (dedup_by_source s) }
+    ensures due { (s : DedupBy I F I.Item I.Error) (stop : Option I.Error)
+        → dedup_by_due s ≡ Some stop
+        → SoundHints ⟦<DedupBy<I, F> as FallibleIterator>⟧.contract s }
+{}
+
+/// The answers of `DedupByKey` are the stop that is due, the first of adjacent items with equal keys, each where the next one that differs stands or a stop, and each stop behind what was held before it. The closure's failure is a stop.
 pub fn law_dedup_by_key<
     I: FallibleIterator,
     K: PartialEq + Drop,

@@ -1,0 +1,24 @@
+// The laws of `Merge`.
+ghost use Rattle.fallible_iterator.specs.LawForm.{TracesAre};
+ghost use Rattle.fallible_iterator.specs.SoundHints.{KeepsBracketsOfBoth};
+ghost use Rattle.fallible_itertools.specs.Merge.{MergeTrace, merge_left, merge_parts, merge_right};
+
+use crate::merge::Merge;
+use fallible_iterator::FallibleIterator;
+
+/// A trace of `Merge` has an answer for each place: the left's failure, without a draw of the right, of which what is held stays; the right's failure, behind which the left's item stands at the next place too; else the lesser of two items, where the other is held, an item alone, or an end.
+pub fn law_merge<T: FallibleIterator, U: FallibleIterator<Item = T::Item, Error = T::Error>>()
+where
+    T::Item: PartialOrd + Drop,
+    ensures { TracesAre merge_parts ⟦<Merge<T, U> as FallibleIterator>⟧.contract.steps
+        (MergeTrace T.Item.partial_cmp T.contract.steps U.contract.steps) }
+{}
+
+/// Each hint of `Merge` is as sound as the hints of both sides.
+pub fn law_hints_merge<T: FallibleIterator, U: FallibleIterator<Item = T::Item, Error = T::Error>>()
+where
+    T::Item: PartialOrd + Drop,
+    ensures { (s : Merge T U T.Item T.Error)
+        → KeepsBracketsOfBoth ⟦<Merge<T, U> as FallibleIterator>⟧.contract s T.contract
+        (merge_left s) U.contract (merge_right s) }
+{}
