@@ -24,12 +24,26 @@ fn digits(items: Vec<u32>) -> u32 {
 
 const FOUR: [Drawn; 4] = [Ok(Some(1)), Ok(Some(2)), Ok(Some(3)), Ok(Some(4))];
 
-// How many items a batch has, what the source returns, and what the batches are, as digits.
-const BATCHES: [(usize, &[Drawn], &[Answer<u32, TestError>]); 4] = [
+const NINE: [Drawn; 9] = [
+    Ok(Some(1)),
+    Ok(Some(2)),
+    Ok(Some(3)),
+    Ok(Some(4)),
+    Ok(Some(5)),
+    Ok(Some(6)),
+    Ok(Some(7)),
+    Ok(Some(8)),
+    Ok(Some(9)),
+];
+
+// How many items a batch has, what the source answers, and what the batches are, as digits.
+const BATCHES: [(usize, &[Drawn], &[Answer<u32, TestError>]); 5] = [
     (2, &FOUR, &[Item(12), Item(34), End, End]),
     (3, &FOUR, &[Item(123), Item(4), End]),
     (1, &FOUR, &[Item(1), Item(2), Item(3), Item(4), End]),
-    // An end and a failure come after the short batch, and the next call goes on.
+    // A batch of nine grows again and again.
+    (9, &NINE, &[Item(123456789), End]),
+    // An end and a failure come behind the short batch, and the next call goes on.
     (
         2,
         &[
@@ -153,7 +167,20 @@ const GROUPS: [Answer<(bool, u32), TestError>; 11] = [
     End,
 ];
 
-const HUNDREDS: [Result<u32, TestError>; 4] = [Ok(110), Ok(230), Ok(105), Ok(107)];
+// The last group has nine items, so it grows again and again.
+const HUNDREDS: [Result<u32, TestError>; 11] = [
+    Ok(110),
+    Ok(230),
+    Ok(105),
+    Ok(107),
+    Ok(100),
+    Ok(101),
+    Ok(102),
+    Ok(103),
+    Ok(104),
+    Ok(106),
+    Ok(108),
+];
 
 const THREE_GROUPS: [Result<u32, TestError>; 4] = [Ok(1), Ok(3), Ok(2), Ok(5)];
 
@@ -195,7 +222,7 @@ fn chunk_by_groups_adjacent_items_of_one_key(rt: HostRuntime) -> Result<(), Fail
         .map(|(odd, group)| Ok((odd, digits(group))));
     expect_answers(&rt, &mut it, &GROUPS)?;
     let readings = Vec::from_array(rt.alloc(), HUNDREDS)?;
-    assert_eq!(rt; last_hundreds(rt.alloc(), readings), Ok(Some((1, 2))));
+    assert_eq!(rt; last_hundreds(rt.alloc(), readings), Ok(Some((1, 9))));
     let readings = Vec::from_array(rt.alloc(), THREE_GROUPS)?;
     let last = last_batch_of_groups(rt.alloc(), convert(readings.into_iter()), 2);
     assert_eq!(rt; last, Ok(Some(1)));
