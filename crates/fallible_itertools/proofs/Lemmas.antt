@@ -1,4 +1,5 @@
 -- The lemmas on each adapter, on what adapters share, and on consumers that have the name of their module.
+pub mod Adjacent
 pub mod ChunkBy
 pub mod Chunked
 pub mod ChunkedBy
@@ -10,9 +11,9 @@ pub mod Counts
 pub mod Dedup
 pub mod DedupBy
 pub mod DedupByKey
-pub mod Equal
-pub mod FindOrLast
+pub mod Deduped
 pub mod FoldWhile
+pub mod Groups
 pub mod Holding
 pub mod HoldingHints
 pub mod HoldingLists
@@ -24,9 +25,11 @@ pub mod IntersperseFolds
 pub mod IntersperseHints
 pub mod IntersperseTraces
 pub mod Join
+pub mod Lengths
 pub mod LoopsMade
 pub mod Merge
 pub mod MergeBy
+pub mod Merged
 pub mod MinMax
 pub mod OrElse
 pub mod PeekingTakeWhile

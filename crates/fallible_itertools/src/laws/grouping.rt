@@ -1,9 +1,10 @@
 // The laws of the adapters that yield groups of items.
-ghost use Rattle.std.specs.Prelude.{◌≡◌, ℕ, ◌<◌, ◌++◌, ◌∷◌, List, None, Ok, Err, Option, Result, Some, map};
+ghost use Rattle.std.specs.Prelude.{◌≡◌, ℕ, ◌<◌, ◌++◌, ◌∷◌, false, List, None, Ok, Err, Option, Result, Some, All, length, map};
 ghost use Rattle.fallible_iterator.specs.BothEnds.{items_listed, failures_listed};
 ghost use Rattle.fallible_iterator.specs.LawForm.{TracesAre};
 ghost use Rattle.fallible_iterator.specs.Lists.{items};
 ghost use Rattle.fallible_iterator.specs.SoundHints.{KeepsBrackets, SoundHints};
+ghost use Rattle.fallible_itertools.specs.Adjacent.{AdjacentItems, IsGroup};
 ghost use Rattle.fallible_itertools.specs.ChunkBy.{ChunkByTrace, chunk_by_due, chunk_by_parts, chunk_by_source, chunked_by};
 ghost use Rattle.fallible_itertools.specs.Chunks.{BatchesOf, BatchesUpTo, ChunksTrace, chunked, chunks_due, chunks_parts, chunks_source, joined};
 
@@ -21,7 +22,7 @@ where
         (ChunksTrace I.Error.from_gives I.contract.steps) }
 {}
 
-/// The batches of a list joined are its items, each batch has some and at most n, and the failures are the list's. What stands before a failure is batched by itself, and so is what comes after it. If nothing fails, each batch but the last has n items.
+/// The batches of a list joined are its items, each batch has some and at most n, and the failures are the list's. What stands before a failure is batched by itself, and so is what comes after it. A batch that another one follows has n items. If nothing fails, each batch but the last has n items.
 pub fn law_chunked<T, E>()
     ensures items { (n : ℕ) → (l : List (Result T E))
         → joined (items_listed (chunked n l)) ≡ items_listed l }
@@ -29,6 +30,8 @@ pub fn law_chunked<T, E>()
         → 0 < n → BatchesUpTo n (items_listed (chunked n l)) }
     ensures whole { (n : ℕ) → (xs : List T)
         → 0 < n → BatchesOf n (items_listed (chunked {E = E} n (items xs))) }
+    ensures full { (n : ℕ) → (l : List (Result T E))
+        → 0 < n → AdjacentItems (λ b _. length b ≡ n) (chunked n l) }
     ensures failures { (n : ℕ) → (l : List (Result T E))
         → failures_listed (chunked n l) ≡ failures_listed l }
     ensures parts { (n : ℕ) (a : List (Result T E)) (e : E) (b : List (Result T E))
@@ -57,11 +60,15 @@ where
         (ChunkByTrace I.Error.from_gives K.eq F.FnMut I.contract.steps) }
 {}
 
-/// The groups of a list joined are its items, if each item has a key. What stands before a failure is grouped by itself, and so is what comes after it.
+/// The groups of a list joined are its items, if each item has a key. The key of a group is that of its first item, and those of its other items equal it. The keys of adjacent groups differ, unless a failure stands between. What stands before a failure is grouped by itself, and so is what comes after it.
 pub fn law_chunked_by<T, K: PartialEq, E>()
     ensures items { (key : T → K) → (l : List (Result T E))
         → joined (map (λ g. g.1) (items_listed (chunked_by K.eq (λ x. Ok (key x)) l)))
         ≡ items_listed l }
+    ensures groups { (h : T → Result K E) (l : List (Result T E))
+        → All (IsGroup K.eq h) (items_listed (chunked_by K.eq h l)) }
+    ensures adjacent { (h : T → Result K E) (l : List (Result T E))
+        → AdjacentItems (λ g k. K.eq g.0 k.0 ≡ false) (chunked_by K.eq h l) }
     ensures parts { (h : T → Result K E) (a : List (Result T E)) (e : E) (b : List (Result T E))
         → chunked_by K.eq h (a ++ Err e ∷ b)
         ≡ chunked_by K.eq h a ++ Err e ∷ chunked_by K.eq h b }

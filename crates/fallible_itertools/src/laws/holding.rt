@@ -1,10 +1,12 @@
-// Of the adapters that hold.
-ghost use Rattle.std.specs.Prelude.{◌≡◌, ◌++◌, ◌∷◌, Bool, List, Option, Result, Some, None, Err};
+// The laws of the adapters that buffer.
+ghost use Rattle.std.specs.Prelude.{◌≡◌, ◌++◌, ◌∷◌, false, List, Option, Result, Some, None, Ok, Err};
 ghost use Rattle.fallible_iterator.specs.LawForm.{TracesAre};
 ghost use Rattle.fallible_iterator.specs.SoundHints.{KeepsBrackets, SoundHints};
 ghost use Rattle.fallible_iterator.specs.Closures.{call_at};
 ghost use Rattle.fallible_iterator.specs.Folds.{call_with};
-ghost use Rattle.fallible_iterator.specs.Picking.{call_at_two};
+ghost use Rattle.fallible_iterator.specs.Lists.{filter_mapped, items, nth_of};
+ghost use Rattle.fallible_itertools.specs.Adjacent.{AdjacentItems, HaveKeys};
+ghost use Rattle.fallible_itertools.specs.ChunkBy.{chunked_by};
 ghost use Rattle.fallible_itertools.specs.Coalesce.{CoalesceTrace, OneOrBoth, coalesce_due, coalesce_parts, coalesce_source, coalesced};
 ghost use Rattle.fallible_itertools.specs.DedupBy.{DedupByTrace, dedup_by_due, dedup_by_parts, dedup_by_source, deduped_by};
 ghost use Rattle.fallible_itertools.specs.DedupByKey.{DedupByKeyTrace, dedup_by_key_due, dedup_by_key_parts, dedup_by_key_source, deduped_by_key};
@@ -28,10 +30,14 @@ where
         (DedupTrace I.Item.eq I.contract.steps) }
 {}
 
-/// A failure parts a list: what stands before it is deduped by itself, and so is what comes after it.
+/// No item equals the next one, unless a failure stands between. Each item is its own key, as `deduped_by_key` has it. A failure parts a list: what stands before it is deduped by itself, and so is what comes after it.
 pub fn law_deduped<T: PartialEq, E>()
-    ensures { (a : List (Result T E)) (e : E) (b : List (Result T E))
+    ensures parts { (a : List (Result T E)) (e : E) (b : List (Result T E))
         → deduped T.eq (a ++ Err e ∷ b) ≡ deduped T.eq a ++ Err e ∷ deduped T.eq b }
+    ensures adjacent { (l : List (Result T E))
+        → AdjacentItems (λ x y. T.eq x y ≡ false) (deduped T.eq l) }
+    ensures by_key { (l : List (Result T E))
+        → deduped T.eq l ≡ deduped_by_key T.eq (λ x. Ok x) l }
 {}
 
 /// Each hint of `Dedup` is as sound as the hint of its source that it is made of; if a stop is due it is sound by itself.
@@ -124,11 +130,16 @@ where
         (DedupByKeyTrace K.eq (call_at F.FnMut) I.contract.steps) }
 {}
 
-/// A failure parts a list: what stands before it is deduped by itself, and so is what comes after it.
+/// The key of no item equals that of the next one, unless a failure stands between. The items are the first ones of the groups that `chunked_by` makes. A failure parts a list: what stands before it is deduped by itself, and so is what comes after it.
 pub fn law_deduped_by_key<T, K: PartialEq, E>()
-    ensures { (h : T → Result K E) (a : List (Result T E)) (e : E) (b : List (Result T E))
+    ensures parts { (h : T → Result K E) (a : List (Result T E)) (e : E) (b : List (Result T E))
         → deduped_by_key K.eq h (a ++ Err e ∷ b)
         ≡ deduped_by_key K.eq h a ++ Err e ∷ deduped_by_key K.eq h b }
+    ensures adjacent { (h : T → Result K E) (l : List (Result T E))
+        → AdjacentItems (HaveKeys h (λ k j. K.eq k j ≡ false)) (deduped_by_key K.eq h l) }
+    ensures groups { (h : T → Result K E) (l : List (Result T E))
+        → deduped_by_key K.eq h l
+        ≡ filter_mapped (λ g. nth_of 0 (items g.1)) (chunked_by K.eq h l) }
 {}
 
 /// Each hint of `DedupByKey` is as sound as the hint of its source that it is made of; if a stop is due it is sound by itself.

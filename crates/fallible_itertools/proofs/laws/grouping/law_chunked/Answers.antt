@@ -2,6 +2,7 @@
 use Rattle.std.specs.Prelude.{⊤}
 use Rattle.fallible_itertools.proofs.Lemmas.Chunked.{all_joined, all_sized, all_whole, failures_stay}
 use Rattle.fallible_itertools.proofs.Lemmas.Chunks.{chunked_in_parts}
+use Rattle.fallible_itertools.proofs.Lemmas.Groups.{chunked_full}
 use Rattle.fallible_itertools.proofs.laws.grouping.law_chunked.Goals as goal
 
 pub returns-clause-items : goal.returns-clause-items
@@ -12,6 +13,9 @@ returns-clause-sizes g c n l some = all_sized _ n l some
 
 pub returns-clause-whole : goal.returns-clause-whole
 returns-clause-whole g c n xs some = all_whole _ n xs some
+
+pub returns-clause-full : goal.returns-clause-full
+returns-clause-full g c n l some = chunked_full _ n l some
 
 pub returns-clause-failures : goal.returns-clause-failures
 returns-clause-failures g c n l = failures_stay _ n l
