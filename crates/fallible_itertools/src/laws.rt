@@ -29,8 +29,7 @@ pub use holding::{
     law_hints_dedup_by_key, law_hints_tuple_windows, law_tuple_windows,
 };
 pub use intersperse::{law_hints_intersperse, law_intersperse};
-pub use merge::{law_hints_merge, law_merge};
-pub use merge_by::{law_hints_merge_by, law_merge_by};
+pub use merge_by::{law_hints_merge_by, law_merge_by, law_merged};
 pub use peeking_take_while::{
     law_hints_peeking_take_while, law_peeking_take_while, law_rest_peeking_take_while,
 };

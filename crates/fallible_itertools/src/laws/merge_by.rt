@@ -1,7 +1,11 @@
 // The laws of `MergeBy`.
+ghost use Rattle.std.specs.Prelude.{◌≡◌, ◌++◌, Bool, false, List, Ok, Result, IsPermutation, IsSortedBy};
+ghost use Rattle.fallible_iterator.specs.BothEnds.{items_listed, failures_listed};
 ghost use Rattle.fallible_iterator.specs.LawForm.{TracesAre};
 ghost use Rattle.fallible_iterator.specs.SoundHints.{KeepsBracketsOfBoth};
-ghost use Rattle.fallible_itertools.specs.MergeBy.{MergeByTrace, merge_by_left, merge_by_parts, merge_by_right};
+ghost use Rattle.fallible_iterator.specs.Lists.{items};
+ghost use Rattle.fallible_itertools.specs.Adjacent.{AdjacentItems, LetsLessFirst};
+ghost use Rattle.fallible_itertools.specs.MergeBy.{MergeByTrace, merged, merge_by_left, merge_by_parts, merge_by_right};
 
 use crate::merge_by::MergeBy;
 use fallible_iterator::FallibleIterator;
@@ -16,6 +20,25 @@ where
     T::Item: Drop,
     ensures { TracesAre merge_by_parts ⟦<MergeBy<T, U, F> as FallibleIterator>⟧.contract.steps
         (MergeByTrace T.contract.steps U.contract.steps F.FnMut) }
+{}
+
+/// Two sorted lists make a sorted list, if the closure never lets an item go first than which the other is less. So it is between failures, too. The merged list has the items and the failures of both, each as often.
+pub fn law_merged<T, E>()
+    ensures sorted { (lt : T → T → Bool) (goes : T → T → Bool)
+        → LetsLessFirst {E = E} lt (λ x y. Ok (goes x y))
+        → (xs : List T) (ys : List T) → IsSortedBy lt xs → IsSortedBy lt ys
+        → IsSortedBy lt (items_listed
+        (merged {E = E} (λ x y. Ok (goes x y)) (items xs) (items ys))) }
+    ensures adjacent { (lt : T → T → Bool) (h : T → T → Result Bool E) → LetsLessFirst lt h
+        → (a : List (Result T E)) (b : List (Result T E))
+        → AdjacentItems (λ x y. lt y x ≡ false) a → AdjacentItems (λ x y. lt y x ≡ false) b
+        → AdjacentItems (λ x y. lt y x ≡ false) (merged h a b) }
+    ensures items { (goes : T → T → Bool) (a : List (Result T E)) (b : List (Result T E))
+        → IsPermutation (items_listed a ++ items_listed b)
+        (items_listed (merged (λ x y. Ok (goes x y)) a b)) }
+    ensures failures { (goes : T → T → Bool) (a : List (Result T E)) (b : List (Result T E))
+        → IsPermutation (failures_listed a ++ failures_listed b)
+        (failures_listed (merged (λ x y. Ok (goes x y)) a b)) }
 {}
 
 /// Each hint of `MergeBy` is as sound as the hints of both sides.

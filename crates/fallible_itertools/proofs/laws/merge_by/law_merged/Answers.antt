@@ -1,0 +1,17 @@
+-- By both lists, of which the first answer of one is taken.
+use Rattle.std.specs.Prelude.{◌≡◌, false}
+use Rattle.fallible_iterator.specs.BothEnds.{failure_listed, item_listed}
+use Rattle.fallible_itertools.proofs.Lemmas.Merged.{merged_adjacent, merged_permutes, merged_sorted}
+use Rattle.fallible_itertools.proofs.laws.merge_by.law_merged.Goals as goal
+
+pub returns-clause-sorted : goal.returns-clause-sorted
+returns-clause-sorted g c lt goes lets xs ys first second = merged_sorted _ lt goes lets xs ys first second
+
+pub returns-clause-adjacent : goal.returns-clause-adjacent
+returns-clause-adjacent g c lt h lets a b first second = merged_adjacent (λ x y. lt y x ≡ false) h lets.0 lets.1 a b first second
+
+pub returns-clause-items : goal.returns-clause-items
+returns-clause-items g c goes a b = merged_permutes item_listed goes a b
+
+pub returns-clause-failures : goal.returns-clause-failures
+returns-clause-failures g c goes a b = merged_permutes failure_listed goes a b
