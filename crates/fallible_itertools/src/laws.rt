@@ -5,7 +5,7 @@ mod failing;
 mod grouping;
 mod holding;
 mod intersperse;
-mod merge;
+mod lengths;
 mod merge_by;
 mod peeking_take_while;
 mod take_while_inclusive;
@@ -29,6 +29,7 @@ pub use holding::{
     law_hints_dedup_by_key, law_hints_tuple_windows, law_tuple_windows,
 };
 pub use intersperse::{law_hints_intersperse, law_intersperse};
+pub use lengths::{law_interspersed, law_joined, law_windowed, law_zipped_longest};
 pub use merge_by::{law_hints_merge_by, law_merge_by, law_merged};
 pub use peeking_take_while::{
     law_hints_peeking_take_while, law_peeking_take_while, law_rest_peeking_take_while,

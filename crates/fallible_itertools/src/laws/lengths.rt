@@ -1,0 +1,51 @@
+// Of the list words: how long what they make is, and what stands at each place.
+ghost use Rattle.std.specs.Prelude.{◌≡◌, ℕ, ◌+◌, ◌-◌, ◌*◌, ◌++◌, List, Ok, Option, Result, IsPermutation, drop, length, max, option_map, sum_by, zip};
+ghost use Rattle.fallible_iterator.specs.BothEnds.{items_listed, failures_listed};
+ghost use Rattle.fallible_iterator.specs.Lists.{nth_of, on_value};
+ghost use Rattle.fallible_itertools.specs.Intersperse.{interspersed};
+ghost use Rattle.fallible_itertools.specs.Join.{joined};
+ghost use Rattle.fallible_itertools.specs.TupleWindows.{windowed};
+ghost use Rattle.fallible_itertools.specs.ZipLongest.{longest, zipped_longest};
+
+/// Of n items come 2n - 1, or none. At the even places stand the items, at the odd ones between them the separator. The failures are the list's.
+pub fn law_interspersed<T, E>()
+    ensures length { (s : T) (l : List (Result T E))
+        → length (items_listed (interspersed s l)) ≡ 2 * length (items_listed l) - 1 }
+    ensures items { (s : T) (l : List (Result T E)) (k : ℕ)
+        → nth_of (2 * k) (interspersed s l) ≡ nth_of k l }
+    ensures separators { (s : T) (l : List (Result T E)) (k : ℕ)
+        → nth_of (2 * k + 1) (interspersed s l)
+        ≡ on_value (nth_of (k + 1) l) (λ o. Ok (option_map (λ _. s) o)) }
+    ensures failures { (s : T) (l : List (Result T E))
+        → failures_listed (interspersed s l) ≡ failures_listed l }
+{}
+
+/// Of n items come n - 1 pairs, or none: each item but the last beside the next one. The failures are the list's.
+pub fn law_windowed<T, E>()
+    ensures length { (l : List (Result T E))
+        → length (items_listed (windowed l)) ≡ length (items_listed l) - 1 }
+    ensures pairs { (l : List (Result T E))
+        → items_listed (windowed l) ≡ zip (items_listed l) (drop 1 (items_listed l)) }
+    ensures failures { (l : List (Result T E))
+        → failures_listed (windowed l) ≡ failures_listed l }
+{}
+
+/// As many come as the longer list has items. At each place before a failure stand the items of both lists, or the one that is there. The failures are those of both lists.
+pub fn law_zipped_longest<T, U, E>()
+    ensures length { (a : List (Result T E)) (b : List (Result U E))
+        → length (items_listed (zipped_longest a b))
+        ≡ max (length (items_listed a)) (length (items_listed b)) }
+    ensures places { (k : ℕ) (a : List (Result T E)) (b : List (Result U E))
+        (x : Option T) (y : Option U) → nth_of k a ≡ Ok x → nth_of k b ≡ Ok y
+        → nth_of k (zipped_longest a b) ≡ Ok (longest x y) }
+    ensures failures { (a : List (Result T E)) (b : List (Result U E))
+        → IsPermutation (failures_listed a ++ failures_listed b)
+        (failures_listed (zipped_longest a b)) }
+{}
+
+/// The text of n items has the bytes of each, and n - 1 times those of the separator.
+pub fn law_joined<T>()
+    ensures { (show : T → List ℕ) (separator : List ℕ) (xs : List T)
+        → length (joined show separator xs)
+        ≡ sum_by (λ x. length (show x)) xs + (length xs - 1) * length separator }
+{}
