@@ -1,7 +1,8 @@
 -- Of adjacent items, by recursion.
-use Rattle.std.specs.Prelude.{◌≡◌, Result, Ok, Err, List, [], ◌∷◌, ◌++◌, ⊤}
-use Rattle.std.proofs.Common.{refl, ap, subst, ◌∙◌}
-use Rattle.fallible_iterator.specs.Lists.{before, collected, items}
+use Rattle.std.specs.Prelude.{◌≡◌, Result, Ok, Err, List, [], ◌∷◌, ◌++◌, ⊤, IfOk}
+use Rattle.std.proofs.Common.{refl, sym, ap, subst, ◌∙◌}
+use Rattle.fallible_iterator.specs.Fault.{Fault}
+use Rattle.fallible_iterator.specs.Lists.{CollectedAs, before, collected, items}
 use Rattle.fallible_itertools.specs.Adjacent.{Adjacent, AdjacentItems}
 
 module _ {A E : Type 0} (P : A → A → Type 0) where
@@ -67,3 +68,9 @@ module _ {A E : Type 0} (P : A → A → Type 0) where
 
   pub adjacent_collected : (l : List (Result A E)) (xs : List A) → collected l ≡ Ok xs → AdjacentItems P l → Adjacent P xs
   adjacent_collected l xs e h = adjacent_of_items xs (subst (λ (k : List (Result A E)). AdjacentItems P k) (items_collected l xs e) h)
+
+-- Of a collection of what is listed, as a `Vec`.
+pub adjacent_of_collected : {A C E : Type 0} (P : A → A → Type 0) (elements : C → List A) (l : List (Result A E)) (r : Result C (Fault E)) → CollectedAs (λ xs c. elements c ≡ xs) l r → AdjacentItems P l → IfOk r (λ c. Adjacent P (elements c))
+unfolding CollectedAs
+adjacent_of_collected P elements l (Ok c) h adjacent = subst (λ xs. Adjacent P xs) (sym h.2) (adjacent_collected P l h.0 h.1 adjacent)
+adjacent_of_collected P elements l (Err e) h adjacent = tt

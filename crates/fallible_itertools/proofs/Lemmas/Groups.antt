@@ -1,7 +1,7 @@
 -- What the groups are that `chunked_by` makes, and which batches `chunked` fills.
 use Rattle.std.specs.Prelude.{◌≡◌, ℕ, ◌+◌, ◌<◌, ◌≤◌, Bool, true, false, ltb, Option, Some, None, Result, Ok, Err, List, [], ◌∷◌, ◌++◌, length, All, ⊤}
 use Rattle.std.specs.List.{AllByRecursion}
-use Rattle.std.proofs.Common.{refl, arith, length-append}
+use Rattle.std.proofs.Common.{refl, ap, arith, length-append}
 use Rattle.std.proofs.lemmas.Bool.{ltb-true, ltb-false}
 use Rattle.std.proofs.lemmas.List.Elements.{All-from_recursion, All-nil, All-push}
 use Rattle.fallible_iterator.specs.BothEnds.{items_listed}
@@ -112,6 +112,42 @@ module _ {A K : Type 0} (E : Type 0) (eq : K → K → Bool) (h : A → Result K
   pub all_groups : (l : List (Result A E)) → All (IsGroup eq h) (items_listed (chunked_by eq h l))
   unfolding chunked_by
   all_groups l = All-from_recursion (IsGroup eq h) (items_listed (chunked_by eq h l)) (groups_from None l tt)
+
+  -- ---- an item without a key
+
+  -- what comes at the item whose key fails is what comes at the failure
+  lost_at : (a : Option (K × List A)) (x : A) (e : E) (l : List (Result A E)) → h x ≡ Err e → chunked_by_from eq h a (Ok x ∷ l) ≡ chunked_by_from eq h a (Err e ∷ l)
+  unfolding chunked_by_from
+  lost_at None x e l is = ap (λ v. begun x v l) is
+  lost_at (Some g) x e l is = ap (λ v. keyed g x v l) is
+
+  -- of two rests that are grouped alike
+  abbrev Alike : List (Result A E) → List (Result A E) → Type 0
+  Alike l k = (a : Option (K × List A)) → chunked_by_from eq h a l ≡ chunked_by_from eq h a k
+
+  alike_or : (g : K × List A) (b : Bool) (more more_too other other_too : List (Result (K × List A) E)) → more ≡ more_too → other ≡ other_too → group_or eq h g b more other ≡ group_or eq h g b more_too other_too
+  alike_or g true more more_too other other_too same also = same
+  alike_or g false more more_too other other_too same also = ap {B = List (Result (K × List A) E)} (λ k. Ok g ∷ k) also
+
+  alike_begun : (y : A) (v : Result K E) (l k : List (Result A E)) → Alike l k → begun y v l ≡ begun y v k
+  alike_begun y (Ok j) l k same = same (Some (j, y ∷ []))
+  alike_begun y (Err d) l k same = ap {B = List (Result (K × List A) E)} (λ r. Err d ∷ r) (same None)
+
+  alike_keyed : (g : K × List A) (y : A) (v : Result K E) (l k : List (Result A E)) → Alike l k → keyed g y v l ≡ keyed g y v k
+  alike_keyed g y (Ok j) l k same = alike_or g (eq g.0 j) _ _ _ _ (same (Some (g.0, g.1 ++ y ∷ []))) (same (Some (j, y ∷ [])))
+  alike_keyed g y (Err d) l k same = ap {B = List (Result (K × List A) E)} (λ r. Ok g ∷ Err d ∷ r) (same None)
+
+  lost_from : (a : Option (K × List A)) (before : List (Result A E)) (x : A) (e : E) (l : List (Result A E)) → h x ≡ Err e → chunked_by_from eq h a (before ++ Ok x ∷ l) ≡ chunked_by_from eq h a (before ++ Err e ∷ l)
+  unfolding chunked_by_from
+  lost_from a [] x e l is = lost_at a x e l is
+  lost_from None (Ok y ∷ before) x e l is = alike_begun y (h y) _ _ (λ a. lost_from a before x e l is)
+  lost_from (Some g) (Ok y ∷ before) x e l is = alike_keyed g y (h y) _ _ (λ a. lost_from a before x e l is)
+  lost_from None (Err d ∷ before) x e l is = ap {B = List (Result (K × List A) E)} (λ r. Err d ∷ r) (lost_from None before x e l is)
+  lost_from (Some g) (Err d ∷ before) x e l is = ap {B = List (Result (K × List A) E)} (λ r. Ok g ∷ Err d ∷ r) (lost_from None before x e l is)
+
+  pub chunked_by_of_lost : (before : List (Result A E)) (x : A) (e : E) (l : List (Result A E)) → h x ≡ Err e → chunked_by eq h (before ++ Ok x ∷ l) ≡ chunked_by eq h (before ++ Err e ∷ l)
+  unfolding chunked_by
+  chunked_by_of_lost before x e l is = lost_from None before x e l is
 
 -- ---- batches
 

@@ -60,7 +60,7 @@ where
         (ChunkByTrace I.Error.from_gives K.eq F.FnMut I.contract.steps) }
 {}
 
-/// The groups of a list joined are its items, if each item has a key. The key of a group is that of its first item, and those of its other items equal it. The keys of adjacent groups differ, unless a failure stands between. What stands before a failure is grouped by itself, and so is what comes after it.
+/// The groups of a list joined are its items, if each item has a key. The key of a group is that of its first item, and those of its other items equal it. The keys of adjacent groups differ, unless a failure stands between. An item whose key fails is that failure in its place. What stands before a failure is grouped by itself, and so is what comes after it.
 pub fn law_chunked_by<T, K: PartialEq, E>()
     ensures items { (key : T → K) → (l : List (Result T E))
         → joined (map (λ g. g.1) (items_listed (chunked_by K.eq (λ x. Ok (key x)) l)))
@@ -69,6 +69,9 @@ pub fn law_chunked_by<T, K: PartialEq, E>()
         → All (IsGroup K.eq h) (items_listed (chunked_by K.eq h l)) }
     ensures adjacent { (h : T → Result K E) (l : List (Result T E))
         → AdjacentItems (λ g k. K.eq g.0 k.0 ≡ false) (chunked_by K.eq h l) }
+    ensures lost { (h : T → Result K E) (a : List (Result T E)) (x : T) (e : E)
+        (b : List (Result T E)) → h x ≡ Err e
+        → chunked_by K.eq h (a ++ Ok x ∷ b) ≡ chunked_by K.eq h (a ++ Err e ∷ b) }
     ensures parts { (h : T → Result K E) (a : List (Result T E)) (e : E) (b : List (Result T E))
         → chunked_by K.eq h (a ++ Err e ∷ b)
         ≡ chunked_by K.eq h a ++ Err e ∷ chunked_by K.eq h b }
