@@ -8,6 +8,7 @@ use Rattle.fallible_iterator.specs.Comparing.{where_drawn, read_as, equal_where}
 use Rattle.fallible_iterator.specs.Lists.{AlwaysGives, Lists, ActsWith, on_value, unless_equal}
 use Rattle.fallible_iterator.proofs.Lemmas.Lists.Drawn.{RestAt, rest_at}
 use Rattle.fallible_itertools.specs.CmpBy.{IsCmpTurn, IsEqTurn, CallableInRounds, LastTurnRound, ComparedBy, ComparedByWith, compared_by}
+use Rattle.fallible_iterator.proofs.Lemmas.Lists.Compared.{gives_item}
 use Rattle.std.specs.declared.cmp.Ordering.{Ordering}
 use Rattle.std.specs.declared.cmp.Ordering.TheVariants.{Less, Equal, Greater}
 use Rattle.std.specs.declared.ops.ControlFlow.{ControlFlow}
@@ -41,12 +42,7 @@ right_fails turns c (Some x) e = refl
 
 -- ---- over lists
 
-gives_item : {S A E : Type 0} (steps : S → Answered A E → S → Type 0) (l : List (Result A E)) (s u : S) (x : A) → AlwaysGives steps s l → steps s (item x) u → (rest : List (Result A E)) × (l ≡ Ok x ∷ rest) × AlwaysGives steps u rest
-gives_item steps [] s u x a w = absurd (let h = a (Ok (Some x)) u w in cc)
-gives_item steps (Err y ∷ l) s u x a w = absurd (let h = (a (Ok (Some x)) u w).0 in cc)
-gives_item steps (Ok y ∷ l) s u x a w = let h = a (Ok (Some x)) u w in (l, (let q = h.0 in cc), h.1)
-
--- The turns act as h: they leave the state as it is, go on where h finds two items equal, and stop with what h returns elsewhere.
+-- The turns act as h: they leave the state as it is, go on where h finds two items equal, and stop with what h answers elsewhere.
 pub record TurnsAs {A B E C : Type 0} (turns : C → A × B → ControlFlow (Result (Option Ordering) E) (Unit {0}) → C → Type 0) (h : A → B → Result (Option Ordering) E) (c : C) : Type 0 where
   pub goes : (p : A × B) (d : C) → turns c p (Continue tt) d → (d ≡ c) × (h p.0 p.1 ≡ Ok (Some Equal))
   pub stops : (p : A × B) (r : Result (Option Ordering) E) (d : C) → turns c p (Break r) d → (h p.0 p.1 ≡ r) × ¬ (r ≡ Ok (Some Equal))

@@ -6,7 +6,7 @@ use Rattle.fallible_iterator.specs.Traces.{Answered, Run, item}
 use Rattle.fallible_iterator.specs.Folds.{DriveExit, Driven, FoldExit, Folded, went_on_with}
 use Rattle.fallible_iterator.specs.Searching.{WentOn, Decided, SearchExit, Searched, each_pick, find_pick, position_pick}
 use Rattle.fallible_iterator.specs.Lists.{AlwaysGives, Lists, Acts, ActsWith, Converts, stopped_or, rest_failed, rest_fold, failures_mapped}
-use Rattle.fallible_iterator.proofs.Lemmas.Lists.Rest.{rest_fold_is}
+use Rattle.fallible_iterator.proofs.Lemmas.Lists.Rest.{rest_fold_is, find_stops, position_stops}
 use Rattle.fallible_iterator.proofs.Lemmas.Lists.Searched.{each_is, find_is, position_is}
 use Rattle.fallible_itertools.specs.Converting.{ConvertsTo, Converted, try_each_done, try_found, try_position_in, stops_by, rest_try_stop, rest_try_each, rest_try_true}
 use Rattle.std.specs.declared.ops.ControlFlow.{ControlFlow}
@@ -124,14 +124,6 @@ module _ {A E' F V R : Type 0} (call : F → A → Result V E' → F → Type 0)
       rest_search : Acts call f h → Lists steps s l → Searched call pick (Converted from steps) none s f r t g → ¬ (r ≡ Ok none) → Lists steps t (rest_try_stop stops h l)
       rest_search acts i w no_end = subst (λ k. Lists steps t k) (rest_is_fold l) (rest_fold_is SearchCall (λ e v. ⊤) search_acts_as f (search_acts f acts) steps l (search_folded from steps none s t f g r w no_end) i tt refl)
 
-true_stops : {A : Type 0} (n : ℕ) (x : A) (v : Bool) → is_some (find_pick n x v) ≡ v
-true_stops n x true = refl
-true_stops n x false = refl
-
-true_places : {A : Type 0} (n : ℕ) (x : A) (v : Bool) → is_some (position_pick n x v) ≡ v
-true_places n x true = refl
-true_places n x false = refl
-
 module _ {S A E E' F : Type 0} {from : E → E' → Type 0} {steps : S → Answered A E → S → Type 0} {s t : S} {f g : F} (l : List (Result A E)) (i : Lists steps s l) where
   pub rest_each : {call : F → A → Result (Unit {0}) E' → F → Type 0} (h : A → Result (Unit {0}) E') {r : Result (Unit {0}) E'} {e : E'} → Acts call f h → Searched call each_pick (Converted from steps) tt s f r t g → r ≡ Err e → Lists steps t (rest_try_each h l)
   unfolding rest_try_each
@@ -139,11 +131,11 @@ module _ {S A E E' F : Type 0} {from : E → E' → Type 0} {steps : S → Answe
 
   pub rest_find : {call : F → A → Result Bool E' → F → Type 0} (h : A → Result Bool E') {r : Result (Option A) E'} → Acts call f h → Searched call find_pick (Converted from steps) None s f r t g → ¬ (r ≡ Ok None) → Lists steps t (rest_try_true h l)
   unfolding rest_try_true
-  rest_find {call = call} h acts d no_end = rest_search call find_pick (λ v. v) true_stops h from acts i d no_end
+  rest_find {call = call} h acts d no_end = rest_search call find_pick (λ v. v) find_stops h from acts i d no_end
 
   pub rest_place : {call : F → A → Result Bool E' → F → Type 0} (h : A → Result Bool E') {r : Result (Option ℕ) E'} → Acts call f h → Searched call position_pick (Converted from steps) None s f r t g → ¬ (r ≡ Ok None) → Lists steps t (rest_try_true h l)
   unfolding rest_try_true
-  rest_place {call = call} h acts d no_end = rest_search call position_pick (λ v. v) true_places h from acts i d no_end
+  rest_place {call = call} h acts d no_end = rest_search call position_pick (λ v. v) position_stops h from acts i d no_end
 
 -- the calls that don't fail, as calls which might fail otherwise
 abbrev pub unfailing : {F A V E E' : Type 0} → (F → A → Result V E' → F → Type 0) → F → A → Result V E → F → Type 0

@@ -18,6 +18,7 @@ use Rattle.fallible_iterator.proofs.Lemmas.Lists.Drawn.{counted_is, nth_is}
 use Rattle.fallible_iterator.proofs.Lemmas.Lists.Searched.{any_is, find_is}
 use Rattle.fallible_iterator.proofs.Lemmas.Ends.{draws_list, all_drawn}
 use Rattle.fallible_itertools.specs.FromBack.{CountedWhere, PlacedFromBack, before_last_true, rest_failure, last_position_in, rest_where, rest_position}
+use Rattle.fallible_iterator.proofs.Lemmas.Lists.Rest.{any_stops, find_stops}
 use Rattle.std.specs.declared.ops.ControlFlow.{ControlFlow}
 use Rattle.std.specs.declared.ops.ControlFlow.TheVariants.{Continue}
 
@@ -68,14 +69,6 @@ module _ {A E F V R : Type 0} (call : F → A → Result V E → F → Type 0) (
       let goes : stops went.1.0 ≡ false = sym (fits 0 x went.1.0) ∙ ap is_some (went.1.2 0) in
       let rest = stop_drawn items last n r g j l k (subst (λ (u : List (Result A E)). Run draws_list u (map item items ++ last ∷ []) k) (sym ran.1.1) ran.2) (subst (λ (c : F). FoldsTo (WentOn call pick) c items g) a.0 went.2) exit in
       ap (λ (z : A). rest_stop stops h (Ok z ∷ l)) same ∙ ap (λ (w : Result V E). rest_answer stops w l (rest_stop stops h l)) (sym a.1) ∙ ap (λ (b : Bool). stopped_or b l (rest_stop stops h l)) goes ∙ rest
-
-any_stops : {A : Type 0} (n : ℕ) (x : A) (v : Bool) → is_some (any_pick n x v) ≡ v
-any_stops n x true = refl
-any_stops n x false = refl
-
-find_stops : {A : Type 0} (n : ℕ) (x : A) (v : Bool) → is_some (find_pick n x v) ≡ v
-find_stops n x true = refl
-find_stops n x false = refl
 
 -- ---- a count
 

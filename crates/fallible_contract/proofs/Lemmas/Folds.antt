@@ -93,7 +93,8 @@ module _ {X N A C R : Type 0} (values : X → C) (names : X → N) (turns : C �
 abbrev counts : {A : Type 0} → ℕ → A → ℕ → Type 0
 counts n x k = k ≡ n + 1
 
-counted_up : {A : Type 0} (items : List A) (n k : ℕ) → FoldsTo counts n items k → k ≡ n + length items
+-- where each turn adds one, the number goes up by the number of items
+pub counted_up : {A : Type 0} (items : List A) (n k : ℕ) → FoldsTo {P = ℕ} {A = A} (λ n x k. k ≡ n + 1) n items k → k ≡ n + length items
 counted_up [] n k e = omega (arith, e)
 counted_up (x ∷ items) n k w = let e = counted_up items w.0 k w.2 in let one : w.0 ≡ n + 1 = w.1 in omega (arith, e, one)
 

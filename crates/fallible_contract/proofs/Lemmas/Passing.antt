@@ -1,5 +1,5 @@
--- A trace that lets items pass, answer by answer.
-use Rattle.std.specs.Prelude.{◌≡◌, ℕ, length, true, false, List, [], ◌∷◌, ◌++◌, map, Option, Result, Some, None, Ok, Err}
+-- A trace that lets answers pass, answer by answer.
+use Rattle.std.specs.Prelude.{◌≡◌, ℕ, length, true, false, List, [], ◌∷◌, ◌++◌, map, Option, Result, Some, None, Ok, Err, IsSome}
 use Rattle.std.specs.List.{FoldsTo}
 use Rattle.std.proofs.Common.{refl, sym, subst}
 use Rattle.fallible_contract.specs.Traces.{Answered, Run, Yields, item}
@@ -10,7 +10,7 @@ use Rattle.fallible_contract.proofs.Lemmas.Contract.{given_after}
 use Rattle.fallible_contract.specs.Laws.Closures.{reaches_here, reaches_weaken, reaches_from}
 use Rattle.fallible_contract.specs.Folds.{HoldsAtEachTurn}
 use Rattle.fallible_contract.proofs.Lemmas.Folds.{turns_map, holds_map}
-use Rattle.fallible_contract.specs.Passing.{ItemPassed, PassTest, PassAnswer, IfItem, outcome_answer, PassTrace}
+use Rattle.fallible_contract.specs.Passing.{ItemPassed, LeavesNoneOut, PassTest, PassAnswer, IfItem, outcome_answer, PassTrace}
 use Rattle.fallible_contract.specs.Searching.{WentOn, Decided, SearchExit, CallableInSearch, Searched, find_pick}
 use Rattle.fallible_contract.specs.Laws.Passing.{Passes, done, end_passes, failure_passes, keeps, refuses, closes, leaves_out, to_passes, from_passes}
 use Rattle.fallible_contract.specs.declared.passing.Outcome.{Outcome}
@@ -130,3 +130,7 @@ pub freely : {X E : Type 0} {P : X → Type 0} → ((x : X) → P x) → (drawn 
 freely all (Ok (Some x)) = all x
 freely all (Ok None) = tt
 freely all (Err e) = tt
+
+-- what leaves nothing out leaves out no item
+pub not_left_out : {X R B E : Type 0} (outcome : X → R → Outcome B E) → LeavesNoneOut outcome → (x : X) (v : R) → outcome x v ≡ LeftOut → ⊥
+not_left_out {B = B} {E = E} outcome all x v is = absurd (let some : false ≡ true = subst (λ (o : Outcome B E). IsSome (outcome_answer o)) is (all x v) in cc)

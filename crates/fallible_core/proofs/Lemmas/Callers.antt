@@ -11,7 +11,7 @@ use Rattle.fallible_contract.specs.Folds.{HoldsAtEachTurn, CountExit, FoldExit, 
 use Rattle.fallible_contract.specs.Passing.{PassTrace}
 use Rattle.fallible_contract.specs.Laws.Passing.{Passes, done, end_passes, failure_passes, keeps, refuses, closes, leaves_out, to_passes}
 use Rattle.fallible_contract.proofs.Lemmas.LawForm.{runs_by_answers}
-use Rattle.fallible_contract.proofs.Lemmas.Folds.{count_fits}
+use Rattle.fallible_contract.proofs.Lemmas.Folds.{count_fits, counted_up}
 use Rattle.fallible_contract.proofs.Lemmas.Passing.{passing_by_answers}
 use Rattle.fallible_core.specs.Cutting.Take.{take_step, take_contract, take_parts}
 use Rattle.fallible_core.specs.Filtering.Filter.{tested_outcome, filter_contract, filter_parts}
@@ -66,10 +66,6 @@ run_seen view steps (r ∷ rest) s t h = (view h.0, h.1, run_seen view steps res
 counts_beside : {A F : Type 0} {Q : ℕ × F → A → ℕ × F → Type 0} → ((p : ℕ × F) (x : A) (q : ℕ × F) → Q p x q → q.0 ≡ p.0 + 1) → (items : List A) (p q : ℕ × F) → FoldsTo {P = ℕ × F} Q p items q → FoldsTo {P = ℕ} {A = A} (λ n x k. k ≡ n + 1) p.0 items q.0
 counts_beside counts [] p q h = ap (λ u. u.0) h
 counts_beside counts (x ∷ items) p q h = (h.0.0, counts p x h.0 h.1, counts_beside counts items h.0 q h.2)
-
-counted_up : {A : Type 0} (items : List A) (n k : ℕ) → FoldsTo {P = ℕ} {A = A} (λ n x k. k ≡ n + 1) n items k → k ≡ n + length items
-counted_up [] n k e = omega (arith, e)
-counted_up (x ∷ items) n k w = let e = counted_up items w.0 k w.2 in let one : w.0 ≡ n + 1 = w.1 in omega (arith, e, one)
 
 module _ {A E F : Type 0} {call : F → ℕ → A → Result ℕ E → F → Type 0} (counts : (f : F) (n : ℕ) (x : A) (r : Result ℕ E) (g : F) → call f n x r g → r ≡ Ok (n + 1)) where
   exit_counted : (from : E → E → Type 0) → ((e d : E) → from e d → d ≡ e) → (n : ℕ) (g : F) (last : Answered A E) (r : Result ℕ E) → FoldExit call from n g last r → CountExit n last r

@@ -6,16 +6,13 @@ use Rattle.fallible_contract.specs.Picking.{OfEach}
 use Rattle.fallible_contract.specs.Lists.{AlwaysGives, Lists, Repeats, compared, repeated, unless_equal}
 use Rattle.fallible_contract.specs.Comparing.{where_drawn, LastRound, Compared, ComparedWith}
 use Rattle.fallible_contract.proofs.Lemmas.Lists.Compared.{last_round, right_left}
+use Rattle.fallible_core.proofs.Lemmas.Cutting.Take.{repeats_after}
 use Rattle.std.specs.declared.cmp.Ordering.{Ordering}
 use Rattle.std.specs.declared.cmp.Ordering.TheVariants.{Equal}
 
 one_more_repeated : {A E : Type 0} (n : ℕ) (x : A) → Ok x ∷ repeated n x ≡ repeated {A = A} {E = E} (n + 1) x
 unfolding repeated
 one_more_repeated {A} {E} n x = let e : suc n ≡ n + 1 = omega arith in ap (λ k. repeated {A = A} {E = E} k x) e
-
--- what repeats an answer repeats it after a draw too
-repeats_after : {S A E : Type 0} (steps : S → Answered A E → S → Type 0) (s u : S) (r : Answered A E) (y : Result A E) → Repeats steps s y → steps s r u → Repeats steps u y
-repeats_after steps s u r y i w = record { each = λ trace t v q ran step. i.each (r ∷ trace) t v q (u, w, ran) step }
 
 module _ {A E : Type 0} (rule : A → A → Option Ordering) where
   module _ {S T : Type 0} (left-steps : S → Answered A E → S → Type 0) (right-steps : T → Answered A E → T → Type 0) where

@@ -4,22 +4,22 @@ use Rattle.std.specs.Borrow.{Bor}
 use Rattle.std.proofs.Common.{refl, ap}
 use Rattle.fallible_iterator.specs.Contract.{Contract, seen_as}
 use Rattle.fallible_iterator.specs.Traces.{Answered}
-use Rattle.fallible_iterator.specs.Passing.{passing_step}
+use Rattle.fallible_iterator.specs.Passing.{LeavesNoneOut, passing_step}
 use Rattle.fallible_iterator.specs.Lists.{Lists}
 use Rattle.fallible_iterator.specs.BothEnds.{ListsBothEnds}
 use Rattle.fallible_iterator.specs.OneToOne.Cloned.{pointed_to}
 use Rattle.fallible_iterator.proofs.Lemmas.BothEnds.Passing.{listed_by_function}
 use Rattle.fallible_iterator.proofs.Lemmas.Lists.Passing.{passed, lists_seen, lists_passed}
 use Rattle.fallible_itertools.specs.Copied.{copied_call, copied_contract, copied_outcome, copied_parts}
-use Rattle.fallible_iterator.specs.Outcome.TheVariants.{LeftOut, End}
+use Rattle.fallible_iterator.specs.Outcome.TheVariants.{End}
 use Rattle.fallible_itertools.specs.declared.copied.Copied.{Copied}
 
 -- no item makes an end, and none is left out
 pub never_ends : {T E : Type 0} (x : Bor T) (u : Unit {0}) → copied_outcome {E = E} x u ≡ End → ⊥
 never_ends x u e = cc
 
-pub never_left_out : {T E : Type 0} (x : Bor T) (u : Unit {0}) → copied_outcome {E = E} x u ≡ LeftOut → ⊥
-never_left_out x u e = cc
+pub leaves_none_out : {T E : Type 0} → LeavesNoneOut {X = Bor T} {R = Unit {0}} {B = T} {E = E} copied_outcome
+leaves_none_out x u = refl
 
 pub pointed_to_is : {T E : Type 0} (l : List (Result (Bor T) E)) → passed copied_outcome (λ (p : Unit {0}) (x : Bor T). tt) (λ p x. p) tt l ≡ pointed_to l
 unfolding pointed_to

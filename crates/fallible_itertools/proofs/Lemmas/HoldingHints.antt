@@ -4,7 +4,7 @@ use Rattle.std.proofs.Common.{refl, sym, subst, arith, inl, inr, length-append}
 use Rattle.fallible_iterator.specs.Traces.{Answered, Yields, item, end}
 use Rattle.fallible_iterator.specs.Contract.{Contract, seen_as}
 use Rattle.fallible_iterator.specs.SoundHints.{BoundsAbove, BoundsBelow, AsSound, Brackets, KeepsBrackets, SoundHints}
-use Rattle.fallible_iterator.proofs.Lemmas.Hints.Drawn.{no_greater, sound_seen, brackets_seen}
+use Rattle.fallible_iterator.proofs.Lemmas.Hints.Drawn.{no_greater, sound_seen, brackets_seen, yields_after}
 use Rattle.fallible_iterator.proofs.Lemmas.Hints.Joining.{sum_above}
 use Rattle.fallible_iterator.specs.Hints.{fitting_sum}
 use Rattle.fallible_iterator.specs.Laws.Passing.{Passes, done, end_passes, failure_passes, keeps, refuses, closes, leaves_out, to_passes}
@@ -64,10 +64,6 @@ module _ {S P X B E : Type 0} (steps : S → Answered X E → S → Type 0) (ask
   abbrev AtLeast : S → P → ℕ → Type 0
   AtLeast s f n = (xs : List X) × (t : S) × Yields steps s xs t × (n ≤ length xs + held f)
 
-  yields_then : (xs ys : List X) (s t u : S) → Yields steps s xs t → Yields steps t ys u → Yields steps s (xs ++ ys) u
-  yields_then [] ys s t u e h = subst (λ v. Yields steps v ys u) (sym e) h
-  yields_then (x ∷ xs) ys s t u ran h = (ran.0, ran.1, yields_then xs ys ran.0 t u ran.2 h)
-
   -- nothing but the stop comes where one is due
   none_due : (stop : Option E) (ys : List B) (s : S) (f : P) (t : State) → Yields Steps (s, (f, Some stop)) ys t → length ys ≤ 0
   none_due stop [] s f t ran = omega arith
@@ -83,7 +79,7 @@ module _ {S P X B E : Type 0} (steps : S → Answered X E → S → Type 0) (ask
 
   first_and : (z : Answered B E) (y : B) (ys : List B) (s u : S) (f h : P) (q : P × Option (Option E)) (t : State) → Items s f z u h → Behind asks h z (item y) q → Yields Steps (u, q) ys t → (Yields Steps (u, (h, None)) ys t → AtLeast u h (length ys)) → AtLeast s f (length ys + 1)
   first_and (Ok (Some x)) y ys s u f h q t k b ran more = let r = more (subst (λ (d : P × Option (Option E)). Yields Steps (u, d) ys t) b.1 ran) in let e = length-append k.items r.0 in let le = k.reached.1 in
-      (k.items ++ r.0, r.1, yields_then k.items r.0 s k.at r.1 k.ran (subst (λ (v : S). Yields steps v r.0 r.1) (sym k.reached.0) r.2), omega (arith, e, r.3, le))
+      (k.items ++ r.0, r.1, yields_after steps k.items r.0 s k.at r.1 k.ran (subst (λ (v : S). Yields steps v r.0 r.1) (sym k.reached.0) r.2), omega (arith, e, r.3, le))
   first_and (Ok None) y ys s u f h q t k b ran more = let le = stop_last None b.0 y ys s u f h q t (length k.items) b.1 b.2 k.reached ran in (k.items, k.at, k.ran, omega (arith, le))
   first_and (Err e) y ys s u f h q t k b ran more = let le = stop_last (Some e) b.0 y ys s u f h q t (length k.items) b.1 b.2 k.reached ran in (k.items, k.at, k.ran, omega (arith, le))
 

@@ -6,16 +6,9 @@ use Rattle.fallible_iterator.specs.Traces.{Answered, item, failure, end}
 use Rattle.fallible_iterator.specs.Contract.{Contract, OnAnswer, KeptByDraw, Lawful, lenders_of_both}
 use Rattle.fallible_iterator.specs.Held.{held_count}
 use Rattle.fallible_itertools.specs.Sides.{Gives, GivesIf, side_bound, side_remaining, side_gives, Rule, SidesPlace, left_failed, right_failed, both_gave, left_gave, right_gave, left_behind, right_behind, place_answer, place_decides, sides_contract}
+use Rattle.fallible_iterator.specs.Laws.Joining.Chain.{both_finite, sum_finite}
 
 -- a sum of counts is finite where both are
-both_finite : (a b : Bool) → T (cond a b false) → T a × T b
-both_finite true b h = (tt, h)
-both_finite false b h = absurd h
-
-sum_finite : (a b : Bool) → T a → T b → T (cond a b false)
-sum_finite true b h k = k
-sum_finite false b h k = absurd h
-
 -- P holds of the item, where there is one
 abbrev pub OfItem : {A : Type 0} → (A → Type 0) → Option A → Type 0
 OfItem P (Some x) = P x

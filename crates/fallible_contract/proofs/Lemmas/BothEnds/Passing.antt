@@ -163,20 +163,22 @@ module _ {F X R : Type 0} (call : F → X → R → F → Type 0) (f : F) (h : X
   steady_acting : {E : Type 0} (l : List (Result X E)) → Steady call f (items_listed (map (with_answer h) l))
   steady_acting l = λ made p q w. subst (λ (g : F). All (GivesAt call g q) (items_listed (map (with_answer h) l))) (sym (stays_acting made p w)) (given_acting q l)
 
-module _ {F X R B E : Type 0} (call : F → X → R → F → Type 0) (outcome : X → R → Outcome B E) (never_ends : (x : X) (v : R) → outcome x v ≡ End → ⊥) (f : F) (h : X → R) (acts : Acts call f h) where
+module _ {X R B E : Type 0} (outcome : X → R → Outcome B E) (never_ends : (x : X) (v : R) → outcome x v ≡ End → ⊥) (h : X → R) where
   outcome_acting : (o : Outcome B E) → (o ≡ End → ⊥) → (l : List (Result B E)) → cons_option (outcome_listed o) l ≡ by_outcome o l
   outcome_acting (Kept y) not_end l = refl
   outcome_acting LeftOut not_end l = refl
   outcome_acting (Failure e) not_end l = refl
   outcome_acting End not_end l = absurd (not_end refl)
 
-  passed_acting : (l : List (Result X E)) → passed_list outcome (map (with_answer h) l) ≡ passed outcome (λ (p : Unit {0}) x. h x) (λ p x. p) tt l
+  -- what is listed where the answers stand beside the items, is what passes
+  pub passed_acting : (l : List (Result X E)) → passed_list outcome (map (with_answer h) l) ≡ passed outcome (λ (p : Unit {0}) x. h x) (λ p x. p) tt l
   passed_acting [] = refl
   passed_acting (Ok x ∷ l) = ap (cons_option (outcome_listed (outcome x (h x)))) (passed_acting l) ∙ outcome_acting (outcome x (h x)) (never_ends x (h x)) _
   passed_acting (Err e ∷ l) = ap {B = List (Result B E)} (λ k. Err e ∷ k) (passed_acting l)
 
+module _ {F X R B E : Type 0} (call : F → X → R → F → Type 0) (outcome : X → R → Outcome B E) (never_ends : (x : X) (v : R) → outcome x v ≡ End → ⊥) (f : F) (h : X → R) (acts : Acts call f h) where
   -- what an adapter lists whose closure acts as a function
   pub listed_by_function : {S : Type 0} (front back : S → Answered X E → S → Type 0) (s : S) (l : List (Result X E)) → ListsBothEnds front back s l
       → ListsBothEnds (passing_step front call outcome) (passing_step back call outcome) (s, f) (passed outcome (λ (p : Unit {0}) x. h x) (λ p x. p) tt l)
-  listed_by_function front back s l i = subst (λ (k : List (Result B E)). ListsBothEnds (passing_step front call outcome) (passing_step back call outcome) (s, f) k) (passed_acting l)
+  listed_by_function front back s l i = subst (λ (k : List (Result B E)). ListsBothEnds (passing_step front call outcome) (passing_step back call outcome) (s, f) k) (passed_acting outcome never_ends h l)
       (listed_passed front back call outcome never_ends (map (with_answer h) l) s f (steady_acting call f h acts l) (subst (λ (k : List (Result X E)). ListsBothEnds front back s k) (sym (source_beside h l)) i))

@@ -10,7 +10,7 @@ use Rattle.std.specs.declared.cmp.Ordering.{Ordering}
 use Rattle.std.specs.declared.cmp.Ordering.TheVariants.{Less, Equal, Greater}
 
 -- an item that was drawn was the list's first, and the rest lists what is left
-gives_item : {S A E : Type 0} (steps : S → Answered A E → S → Type 0) (l : List (Result A E)) (s u : S) (x : A) → AlwaysGives steps s l → steps s (item x) u → (rest : List (Result A E)) × (l ≡ Ok x ∷ rest) × AlwaysGives steps u rest
+pub gives_item : {S A E : Type 0} (steps : S → Answered A E → S → Type 0) (l : List (Result A E)) (s u : S) (x : A) → AlwaysGives steps s l → steps s (item x) u → (rest : List (Result A E)) × (l ≡ Ok x ∷ rest) × AlwaysGives steps u rest
 gives_item steps [] s u x a w = absurd (let h = a (Ok (Some x)) u w in cc)
 gives_item steps (Err y ∷ l) s u x a w = absurd (let h = (a (Ok (Some x)) u w).0 in cc)
 gives_item steps (Ok y ∷ l) s u x a w = let h = a (Ok (Some x)) u w in (l, (let q = h.0 in cc), h.1)

@@ -117,11 +117,11 @@ all_stops : {A : Type 0} (n : ℕ) (x : A) (v : Bool) → is_some (all_pick n x 
 all_stops n x true = refl
 all_stops n x false = refl
 
-any_stops : {A : Type 0} (n : ℕ) (x : A) (v : Bool) → is_some (any_pick n x v) ≡ v
+pub any_stops : {A : Type 0} (n : ℕ) (x : A) (v : Bool) → is_some (any_pick n x v) ≡ v
 any_stops n x true = refl
 any_stops n x false = refl
 
-find_stops : {A : Type 0} (n : ℕ) (x : A) (v : Bool) → is_some (find_pick n x v) ≡ v
+pub find_stops : {A : Type 0} (n : ℕ) (x : A) (v : Bool) → is_some (find_pick n x v) ≡ v
 find_stops n x true = refl
 find_stops n x false = refl
 
@@ -129,7 +129,7 @@ find_map_stops : {A B : Type 0} (n : ℕ) (x : A) (v : Option B) → is_some (fi
 find_map_stops n x (Some y) = refl
 find_map_stops n x None = refl
 
-position_stops : {A : Type 0} (n : ℕ) (x : A) (v : Bool) → is_some (position_pick n x v) ≡ v
+pub position_stops : {A : Type 0} (n : ℕ) (x : A) (v : Bool) → is_some (position_pick n x v) ≡ v
 position_stops n x true = refl
 position_stops n x false = refl
 

@@ -84,7 +84,7 @@ module _ {S A E : Type 0} (steps : S → Answered A E → S → Type 0) where
   taken_gives (Err e ∷ l) s (suc n) a = λ r t w. let d = a r t.0 w.0 in (d.0, subst (λ (k : ℕ). Gives t.0 k (taken (suc n) l)) (let counts : t.1 + items_in (r ∷ []) ≡ suc n = w.1 in let none : items_in (r ∷ []) ≡ 0 = ap (λ (q : Answered A E). items_in (q ∷ [])) d.0 in omega (arith, counts, none)) (taken_gives l t.0 (suc n) d.1))
 
   -- a source that repeats an item does so after a draw
-  repeats_after : (s t : S) (r : Answered A E) (y : Result A E) → Repeats steps s y → steps s r t → Repeats steps t y
+  pub repeats_after : (s t : S) (r : Answered A E) (y : Result A E) → Repeats steps s y → steps s r t → Repeats steps t y
   repeats_after s t r y p step = record { each = λ trace u v q ran last. p.each (r ∷ trace) u v q (t, step, ran) last }
 
   repeated_gives : (n : ℕ) (s : S) (x : A) → Repeats steps s (Ok x) → Gives s n (repeated n x)

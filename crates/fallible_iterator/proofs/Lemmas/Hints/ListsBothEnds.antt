@@ -10,7 +10,7 @@ use Rattle.fallible_contract.specs.BothEnds.{ListsBothEnds, item_listed, items_l
 use Rattle.fallible_contract.specs.Hints.{hint_sum}
 use Rattle.fallible_contract.proofs.Lemmas.Lists.Passing.{passed, by_outcome}
 use Rattle.fallible_contract.proofs.Lemmas.BothEnds.{lists_first, lists_from_back}
-use Rattle.fallible_contract.proofs.Lemmas.BothEnds.Passing.{filter_map-reverse, with_answer, source_beside}
+use Rattle.fallible_contract.proofs.Lemmas.BothEnds.Passing.{filter_map-reverse, with_answer, source_beside, passed_acting}
 use Rattle.fallible_core.specs.OneToOne.Map.{mapped}
 use Rattle.fallible_contract.specs.Failing.{failures_mapped}
 use Rattle.fallible_core.specs.OneToOne.Cloned.{pointed_to}
@@ -18,6 +18,8 @@ use Rattle.fallible_core.specs.Joining.Chain.{chained}
 use Rattle.fallible_iterator.specs.SoundHints.{Brackets, Bounds}
 use Rattle.fallible_iterator.proofs.Lemmas.Hints.Drawn.{no_greater}
 use Rattle.fallible_iterator.proofs.Lemmas.Hints.Joining.{sum_above}
+use Rattle.fallible_contract.specs.Passing.{LeavesNoneOut}
+use Rattle.fallible_contract.proofs.Lemmas.Passing.{not_left_out}
 use Rattle.fallible_contract.specs.declared.passing.Outcome.{Outcome}
 use Rattle.fallible_contract.specs.declared.passing.Outcome.TheVariants.{Kept, LeftOut, Failure, End}
 
@@ -106,7 +108,7 @@ module _ {X R B E : Type 0} (outcome : X → R → Outcome B E) where
   pub upper_passed : (asked : List (Result (X × R) E)) (h : ℕ × Option ℕ) → Bounds h (source_list asked) → Bounds (0, h.1) (passed_list outcome asked)
   upper_passed asked h b = above_fewer h (source_list asked) (passed_list outcome asked) (items_passed asked) b
 
-  module _ (never_left_out : (x : X) (v : R) → outcome x v ≡ LeftOut → ⊥) (never_ends : (x : X) (v : R) → outcome x v ≡ End → ⊥) where
+  module _ (leaves_none_out : LeavesNoneOut outcome) (never_ends : (x : X) (v : R) → outcome x v ≡ End → ⊥) where
     one_of_outcome : (o : Outcome B E) → (o ≡ LeftOut → ⊥) → (o ≡ End → ⊥) → (l : List (Result B E)) → length (cons_option (outcome_listed o) l) ≡ suc (length l)
     one_of_outcome (Kept y) a b l = refl
     one_of_outcome LeftOut a b l = absurd (a refl)
@@ -115,7 +117,7 @@ module _ {X R B E : Type 0} (outcome : X → R → Outcome B E) where
 
     long_passed : (asked : List (Result (X × R) E)) → length (passed_list outcome asked) ≡ length (source_list asked)
     long_passed [] = refl
-    long_passed (Ok c ∷ asked) = one_of_outcome (outcome c.0 c.1) (never_left_out c.0 c.1) (never_ends c.0 c.1) (passed_list outcome asked) ∙ ap suc (long_passed asked)
+    long_passed (Ok c ∷ asked) = one_of_outcome (outcome c.0 c.1) (not_left_out outcome leaves_none_out c.0 c.1) (never_ends c.0 c.1) (passed_list outcome asked) ∙ ap suc (long_passed asked)
     long_passed (Err e ∷ asked) = ap suc (long_passed asked)
 
     sure_of_outcome : (o : Outcome B E) (l : List (Result B E)) → failures_listed (cons_option (outcome_listed o) l) ≡ [] → failures_listed l ≡ []
@@ -136,26 +138,15 @@ module _ {X R B E : Type 0} (outcome : X → R → Outcome B E) where
 -- ---- a closure that acts as a function
 
 module _ {X R B E : Type 0} (outcome : X → R → Outcome B E) (never_ends : (x : X) (v : R) → outcome x v ≡ End → ⊥) (f : X → R) where
-  outcome_acting : (o : Outcome B E) → (o ≡ End → ⊥) → (l : List (Result B E)) → cons_option (outcome_listed o) l ≡ by_outcome o l
-  outcome_acting (Kept y) not_end l = refl
-  outcome_acting LeftOut not_end l = refl
-  outcome_acting (Failure e) not_end l = refl
-  outcome_acting End not_end l = absurd (not_end refl)
-
-  passed_acting : (l : List (Result X E)) → passed_list outcome (map (with_answer f) l) ≡ passed outcome (λ (p : Unit {0}) x. f x) (λ p x. p) tt l
-  passed_acting [] = refl
-  passed_acting (Ok x ∷ l) = ap (cons_option (outcome_listed (outcome x (f x)))) (passed_acting l) ∙ outcome_acting (outcome x (f x)) (never_ends x (f x)) _
-  passed_acting (Err e ∷ l) = ap {B = List (Result B E)} (λ k. Err e ∷ k) (passed_acting l)
-
   asked_bounds : (h : ℕ × Option ℕ) (l : List (Result X E)) → Bounds h l → Bounds h (source_list (map (with_answer f) l))
   asked_bounds h l b = subst (λ (k : List (Result X E)). Bounds h k) (sym (source_beside f l)) b
 
   -- the same of the adapter's list by its name
   pub upper_acting : (l : List (Result X E)) (k : List (Result B E)) (h : ℕ × Option ℕ) → passed outcome (λ (p : Unit {0}) x. f x) (λ p x. p) tt l ≡ k → Bounds h l → Bounds (0, h.1) k
-  upper_acting l k h is b = subst (λ (j : List (Result B E)). Bounds (0, h.1) j) (passed_acting l ∙ is) (upper_passed outcome (map (with_answer f) l) h (asked_bounds h l b))
+  upper_acting l k h is b = subst (λ (j : List (Result B E)). Bounds (0, h.1) j) (passed_acting outcome never_ends f l ∙ is) (upper_passed outcome (map (with_answer f) l) h (asked_bounds h l b))
 
-  pub bounds_acting : ((x : X) (v : R) → outcome x v ≡ LeftOut → ⊥) → (l : List (Result X E)) (k : List (Result B E)) (h : ℕ × Option ℕ) → passed outcome (λ (p : Unit {0}) x. f x) (λ p x. p) tt l ≡ k → Bounds h l → Bounds h k
-  bounds_acting never_left_out l k h is b = subst (λ (j : List (Result B E)). Bounds h j) (passed_acting l ∙ is) (bounds_passed outcome never_left_out never_ends (map (with_answer f) l) h (asked_bounds h l b))
+  pub bounds_acting : LeavesNoneOut outcome → (l : List (Result X E)) (k : List (Result B E)) (h : ℕ × Option ℕ) → passed outcome (λ (p : Unit {0}) x. f x) (λ p x. p) tt l ≡ k → Bounds h l → Bounds h k
+  bounds_acting leaves_none_out l k h is b = subst (λ (j : List (Result B E)). Bounds h j) (passed_acting outcome never_ends f l ∙ is) (bounds_passed outcome leaves_none_out never_ends (map (with_answer f) l) h (asked_bounds h l b))
 
 -- ---- `Cloned`
 

@@ -2,20 +2,10 @@
 use Rattle.std.specs.Prelude.{◌≡◌, ℕ, [], ◌∷◌, Option, Some, None, Result, Ok, Err, ⊤}
 use Rattle.std.proofs.Common.{ap, subst}
 use Rattle.fallible_contract.specs.Traces.{Answered, item, end}
-use Rattle.fallible_core.specs.OneToOne.Map.{map_outcome}
-use Rattle.fallible_core.specs.OneToOne.Inspect.{inspect_outcome}
 use Rattle.fallible_core.specs.OneToOne.Enumerate.{EnumerateTrace}
 use Rattle.fallible_core.specs.Laws.OneToOne.Enumerate.{Numbered, numbered_item, numbered_end, numbered_none, to_numbered}
 use Rattle.fallible_iterator.proofs.Lemmas.Hints.Drawn.{OneOfOne}
 use Rattle.fallible_contract.specs.declared.passing.Outcome.TheVariants.{LeftOut}
-
-pub map_leaves_none_out : {X B E : Type 0} (x : X) (v : Result B E) → map_outcome x v ≡ LeftOut → ⊥
-map_leaves_none_out x (Ok y) e = cc
-map_leaves_none_out x (Err d) e = cc
-
-pub inspect_leaves_none_out : {X E : Type 0} (x : X) (v : Result (Unit {0}) E) → inspect_outcome x v ≡ LeftOut → ⊥
-inspect_leaves_none_out x (Ok u) e = cc
-inspect_leaves_none_out x (Err d) e = cc
 
 -- ---- `Enumerate`
 

@@ -2,9 +2,10 @@
 use Rattle.std.specs.Prelude.{◌≡◌, ◌≤◌, List, [], ◌∷◌, length, ⊤}
 use Rattle.std.proofs.Common.{refl, arith}
 use Rattle.fallible_contract.specs.Traces.{Answered, Yields, item, end}
-use Rattle.fallible_contract.specs.Passing.{PassTrace}
+use Rattle.fallible_contract.specs.Passing.{PassTrace, LeavesNoneOut}
 use Rattle.fallible_contract.specs.Laws.Passing.{Passes, done, end_passes, keeps, closes, leaves_out, to_passes}
 use Rattle.fallible_iterator.proofs.Lemmas.Hints.Drawn.{ItemsOfItems, OneOfOne}
+use Rattle.fallible_contract.proofs.Lemmas.Passing.{not_left_out}
 use Rattle.fallible_contract.specs.declared.passing.Outcome.{Outcome}
 use Rattle.fallible_contract.specs.declared.passing.Outcome.TheVariants.{LeftOut, End}
 
@@ -21,15 +22,15 @@ module _ {S F X R B E : Type 0} (steps : S → Answered X E → S → Type 0) (c
   pub passing_items : ItemsOfItems passing_step steps (λ p. p.0) (λ p. ⊤)
   passing_items = record { drawn = λ p q y _ step. let d = item_of_items p.0 q.0 p.1 q.1 y (to_passes step) in (d.0, d.1, d.2, tt) }
 
-  module _ (never_left_out : (x : X) (v : R) → outcome x v ≡ LeftOut → ⊥) (never_ends : (x : X) (v : R) → outcome x v ≡ End → ⊥) where
+  module _ (leaves_none_out : LeavesNoneOut outcome) (never_ends : (x : X) (v : R) → outcome x v ≡ End → ⊥) where
     item_of_item : (s t : S) (f g : F) (y : B) → Passes steps call outcome s f (item y ∷ []) t g → (x : X) × steps s (item x) t
     item_of_item s t f g _ (keeps x v y step called is done) = (x, step)
-    item_of_item s t f g y (leaves_out x v step called is rest) = absurd (never_left_out x v is)
+    item_of_item s t f g y (leaves_out x v step called is rest) = absurd (not_left_out outcome leaves_none_out x v is)
 
     end_of_end : (s t : S) (f g : F) → Passes steps call outcome s f (end ∷ []) t g → steps s end t
     end_of_end s t f g (end_passes step done) = step
     end_of_end s t f g (closes x v step called is rest) = absurd (never_ends x v is)
-    end_of_end s t f g (leaves_out x v step called is rest) = absurd (never_left_out x v is)
+    end_of_end s t f g (leaves_out x v step called is rest) = absurd (not_left_out outcome leaves_none_out x v is)
 
     -- where no answer leaves an item out or makes an end
     pub passing_one : OneOfOne passing_step steps (λ p. p.0) (λ p. ⊤)

@@ -14,6 +14,7 @@ use Rattle.fallible_contract.proofs.Lemmas.Lists.Passing.{lists_seen}
 use Rattle.fallible_iterator.specs.Sources.Std.{element_by}
 use Rattle.fallible_iterator.specs.Sources.Convert.{ItemsRead, convert_parts, convert_contract}
 use Rattle.fallible_iterator.proofs.Lemmas.Sources.Std.{gives_read, read_back}
+use Rattle.fallible_contract.proofs.Lemmas.BothEnds.Passing.{map-reverse}
 use Rattle.fallible_iterator.specs.declared.sources.convert.Convert.{Convert}
 
 pub results_are : {A E : Type 0} (l : List (Result A E)) → map (λ y. y) l ≡ results l
@@ -25,10 +26,6 @@ pub items_are : {A E : Type 0} (l : List A) → map (λ x. Ok x) l ≡ items {E 
 unfolding items
 items_are [] = refl
 items_are {E = E} (x ∷ l) = ap (λ (t : List (Result _ E)). Ok x ∷ t) (items_are l)
-
-map-reverse : {X Y : Type 0} (f : X → Y) (l : List X) → map f (reverse l) ≡ reverse (map f l)
-map-reverse f [] = refl
-map-reverse f (x ∷ l) = ap (map f) (reverse-append (x ∷ []) l) ∙ map-append f (reverse l) (x ∷ []) ∙ ap (λ k. k ++ f x ∷ []) (map-reverse f l) ∙ sym (reverse-append (f x ∷ []) (map f l))
 
 results_reversed : {A E : Type 0} (l : List (Result A E)) → results (reverse l) ≡ reversed (results l)
 unfolding results reversed
