@@ -12,12 +12,15 @@ use Rattle.std.specs.declared.alloc.Global.{Global}
 use Rattle.std.specs.declared.alloc.AllocError.{AllocError}
 use Rattle.fallible_itertools.specs.declared.chunks.Chunks.{Chunks}
 
--- the batch is yielded, or held if it has fewer items than the size
-abbrev pub Settles : {A E : Type 0} → Vec A Global → ℕ × Option (Vec A Global) → Outcome (Vec A Global) E → ℕ × Option (Vec A Global) → Type 0
-Settles w p (Kept y) q = (y ≡ w) × (p.0 ≤ length (vec_items w)) × (q ≡ p)
-Settles w p LeftOut q = (length (vec_items w) < p.0) × (q ≡ (p.0, Some w))
-Settles w p (Failure e) q = ⊥
-Settles w p End q = ⊥
+-- what is held has the item behind what was, and so many items
+abbrev pub Grows : {A : Type 0} → Option (Vec A Global) → A → Option (Vec A Global) → ℕ → Type 0
+Grows held x None count = ⊥
+Grows held x (Some w) count = Grown held x w × (count ≡ length (vec_items w))
+
+-- the batch that is held is answered, and an end where none is
+abbrev pub LetsGo : {A E : Type 0} → Option (Vec A Global) → Outcome (Vec A Global) E → Option (Vec A Global) → Type 0
+LetsGo None o q = (o ≡ End) × (q ≡ None)
+LetsGo (Some v) o q = (o ≡ Kept v) × (q ≡ None)
 
 module _ {A E : Type 0} (from : AllocError → E → Type 0) where
   -- A batch is held until it has n items or a stop comes: an item is put after those that are held, and the batch that has n then is yielded. A stop yields the batch that is held. If an allocation fails the item is lost, and that is a stop.

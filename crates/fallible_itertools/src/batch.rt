@@ -1,21 +1,23 @@
-//! Items put one after another into a `Vec`, where an allocation may fail.
-ghost use Rattle.std.specs.Prelude.{◌≡◌, ◌≤◌, [], ◌∷◌, ◌++◌, IfOk, MatchResult, vec_len, vec_capacity};
+//! Items put behind one another in a `Vec`, where memory may be refused.
+ghost use Rattle.std.specs.Prelude.{min, ◌≡◌, ◌≤◌, [], ◌∷◌, ◌++◌, IfOk, MatchResult, vec_len, vec_capacity};
 
 use std::alloc::{AllocError, Global};
 
-/// The item alone. If the allocation fails, so does this, and the item is lost.
-pub fn alone<X: Drop>(alloc: Global, item: X) -> Result<Vec<X>, AllocError>
-    ensures { IfOk result (λ v. v.items ≡ item ∷ []) }
+/// The item alone, with room for so many items, but at most for 1024. It fails where memory is refused, and the item is lost.
+pub fn alone<X: Drop>(alloc: Global, room: usize, item: X) -> Result<Vec<X>, AllocError>
+    ensures { IfOk result (λ v. (v.items ≡ item ∷ []) × (min room 1024 ≤ vec_capacity v)) }
 {
-    let mut items = Vec::new(alloc);
+    let mut items = Vec::with_capacity(alloc, room.min(1024))?;
     pushed(&mut items, item)?;
     Ok(items)
 }
 
-/// Appends the item. If an allocation fails, so does this; the item is lost then, and no other.
+/// The item behind the others. It fails where memory is refused; then the item is lost, and no other.
+#[inline(always)]
 pub fn pushed<X: Drop>(items: &mut Vec<X>, item: X) -> Result<(), AllocError>
     ensures { MatchResult result
-        (λ _. items.new.items ≡ items.old.items ++ item ∷ [])
+        (λ _. (items.new.items ≡ items.old.items ++ item ∷ [])
+        × (vec_capacity items.old ≤ vec_capacity items.new))
         (λ _. (vec_capacity items.old ≤ vec_len items.old)
         × (items.new.items ≡ items.old.items)) }
 {

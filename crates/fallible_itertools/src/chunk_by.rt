@@ -107,7 +107,7 @@ impl<X: Drop, K: PartialEq + Drop, E: From<AllocError>, F: FnMut(&X) -> Result<K
     ghost holds = { λ _. holds_chunk_by E.from_gives K.eq F.FnMut };
 }
 
-// What becomes of an item by its key.
+// What becomes of an item by its key. A new group has room for as many items as the one that it follows.
 fn grouped<X: Drop, K: PartialEq + Drop, E: From<AllocError>>(
     alloc: Global,
     group: &mut Option<(K, Vec<X>)>,
@@ -120,39 +120,24 @@ fn grouped<X: Drop, K: PartialEq + Drop, E: From<AllocError>>(
         Ok(key) => key,
         Err(e) => return Outcome::Failure(e),
     };
-    match group.take() {
-        Some((of, mut items)) => {
-            if of == key {
-                match pushed(&mut items, item) {
-                    Ok(()) => {
-                        *group = Some((of, items));
-                        Outcome::LeftOut
-                    }
-                    Err(refused) => {
-                        *group = Some((of, items));
-                        Outcome::Failure(E::from(refused))
-                    }
-                }
-            } else {
-                match alone(alloc, item) {
-                    Ok(first) => {
-                        *group = Some((key, first));
-                        Outcome::Kept((of, items))
-                    }
-                    Err(refused) => {
-                        *group = Some((of, items));
-                        Outcome::Failure(E::from(refused))
-                    }
-                }
+    let room = match group {
+        Some((of, items)) => {
+            if *of == key {
+                return match pushed(items, item) {
+                    Ok(()) => Outcome::LeftOut,
+                    Err(refused) => Outcome::Failure(E::from(refused)),
+                };
             }
+            items.len()
         }
-        None => match alone(alloc, item) {
-            Ok(first) => {
-                *group = Some((key, first));
-                Outcome::LeftOut
-            }
-            Err(refused) => Outcome::Failure(E::from(refused)),
+        None => 0,
+    };
+    match alone(alloc, room, item) {
+        Ok(first) => match group.replace((key, first)) {
+            Some(whole) => Outcome::Kept(whole),
+            None => Outcome::LeftOut,
         },
+        Err(refused) => Outcome::Failure(E::from(refused)),
     }
 }
 

@@ -1,8 +1,9 @@
-// The adapter that yields batches of items.
-ghost use Rattle.std.specs.Prelude.{◌≡◌, ◌+◌, ⊤, None, Option, Result};
+// The adapter that gives batches of items.
+ghost use Rattle.std.specs.Prelude.{◌≡◌, ◌+◌, ⊤, MatchResult, None, Option, Result};
 ghost use Rattle.fallible_iterator.specs.Contract.{seen_as};
 ghost use Rattle.fallible_iterator.specs.Laws.Contract.{lawful_seen};
-ghost use Rattle.fallible_itertools.specs.Chunks.{Settles, batch_held, begun, room_left, chunks_asks, chunks_contract, chunks_parts};
+ghost use Rattle.fallible_itertools.specs.Batch.{NoRoom, SameHeld};
+ghost use Rattle.fallible_itertools.specs.Chunks.{Grows, LetsGo, batch_held, begun, room_left, chunks_asks, chunks_contract, chunks_parts};
 ghost use Rattle.fallible_itertools.specs.Holding.{held_one, holding_step};
 ghost use Rattle.fallible_itertools.specs.Laws.Chunks.{holds_chunks, lawful_chunks};
 
@@ -123,35 +124,57 @@ impl<X: Drop, E: From<AllocError>> Hold<(usize, Option<Vec<X>>), X, E> for Chunk
     fn ask(&self, holds: &mut (usize, Option<Vec<X>>), asked: Option<X>) -> Outcome<Vec<X>, E>
         ensures { chunks_asks E.from_gives holds.old asked result holds.new }
     {
-        match (holds.1.take(), asked) {
-            (None, Some(x)) => match alone(self.alloc, x) {
-                Ok(batch) => settled(holds, batch),
+        match asked {
+            Some(x) => match grown(self.alloc, holds.0, &mut holds.1, x) {
+                Ok(count) => {
+                    if count < holds.0 {
+                        Outcome::LeftOut
+                    } else {
+                        let_go(&mut holds.1)
+                    }
+                }
                 Err(refused) => Outcome::Failure(E::from(refused)),
             },
-            (Some(mut batch), Some(x)) => match pushed(&mut batch, x) {
-                Ok(()) => settled(holds, batch),
-                Err(refused) => {
-                    holds.1 = Some(batch);
-                    Outcome::Failure(E::from(refused))
-                }
-            },
-            (Some(batch), None) => Outcome::Kept(batch),
-            (None, None) => Outcome::End,
+            None => let_go(&mut holds.1),
         }
     }
 
     ghost holds = { λ _. holds_chunks E.from_gives };
 }
 
-// The batch, if it has enough items; otherwise it is buffered.
-fn settled<X: Drop, E>(holds: &mut (usize, Option<Vec<X>>), batch: Vec<X>) -> Outcome<Vec<X>, E>
-    ensures { Settles batch holds.old result holds.new }
+// The item in the batch that is held, or in a new one with room for n; how many items it has then.
+#[inline(always)]
+fn grown<X: Drop>(
+    alloc: Global,
+    n: usize,
+    held: &mut Option<Vec<X>>,
+    item: X,
+) -> Result<usize, AllocError>
+    ensures { MatchResult result (Grows held.old item held.new)
+        (λ _. NoRoom held.old × SameHeld held.old held.new) }
 {
-    if batch.len() < holds.0 {
-        holds.1 = Some(batch);
-        Outcome::LeftOut
-    } else {
-        Outcome::Kept(batch)
+    match held {
+        Some(batch) => {
+            pushed(batch, item)?;
+            Ok(batch.len())
+        }
+        None => {
+            let batch = alone(alloc, n, item)?;
+            let count = batch.len();
+            *held = Some(batch);
+            Ok(count)
+        }
+    }
+}
+
+// The batch that is held.
+#[inline(always)]
+fn let_go<X: Drop, E>(held: &mut Option<Vec<X>>) -> Outcome<Vec<X>, E>
+    ensures { LetsGo held.old result held.new }
+{
+    match held.take() {
+        Some(batch) => Outcome::Kept(batch),
+        None => Outcome::End,
     }
 }
 

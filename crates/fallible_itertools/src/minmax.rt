@@ -1,6 +1,7 @@
 //! The least and the greatest item in one pass.
 ghost use Rattle.std.specs.Prelude.{◌≡◌, ⊤};
 ghost use Rattle.fallible_itertools.specs.MinMax.{with_item};
+ghost use Rattle.fallible_itertools.specs.declared.minmax.MinMaxResult.TheVariants.{MinMax};
 ghost use Rattle.std.specs.declared.ops.ControlFlow.TheVariants.{Continue};
 
 use fallible_iterator::Turn;
@@ -32,15 +33,21 @@ pub fn widened<A: Ord + Drop>(so_far: MinMaxResult<A>, item: A) -> MinMaxResult<
                 MinMaxResult::MinMax(only, item)
             }
         }
-        MinMaxResult::MinMax(least, greatest) => {
-            if least.cmp(&item).is_gt() {
-                MinMaxResult::MinMax(item, greatest)
-            } else if greatest.cmp(&item).is_gt() {
-                MinMaxResult::MinMax(least, greatest)
-            } else {
-                MinMaxResult::MinMax(least, item)
-            }
+        MinMaxResult::MinMax(mut least, mut greatest) => {
+            widen(&mut least, &mut greatest, item);
+            MinMaxResult::MinMax(least, greatest)
         }
+    }
+}
+
+// The item takes the place of the least where it is less, and of the greatest where it isn't less than that.
+fn widen<A: Ord + Drop>(least: &mut A, greatest: &mut A, item: A)
+    ensures { MinMax least.new greatest.new ≡ with_item A.cmp (MinMax least.old greatest.old) item }
+{
+    if (*least).cmp(&item).is_gt() {
+        *least = item;
+    } else if !(*greatest).cmp(&item).is_gt() {
+        *greatest = item;
     }
 }
 
@@ -56,8 +63,13 @@ impl<A: Ord + Drop> Turn<MinMaxResult<A>, A, Infallible> for MinMaxTurn {
     /// Compares the item with those that are kept.
     #[inline(always)]
     fn turn(&self, state: &mut MinMaxResult<A>, item: A) -> ControlFlow<Infallible, ()> {
-        let so_far = replace(state, MinMaxResult::NoElements);
-        *state = widened(so_far, item);
+        match state {
+            MinMaxResult::MinMax(least, greatest) => widen(least, greatest, item),
+            _ => {
+                let so_far = replace(state, MinMaxResult::NoElements);
+                *state = widened(so_far, item);
+            }
+        }
         ControlFlow::Continue(())
     }
 }

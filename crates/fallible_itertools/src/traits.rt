@@ -1131,7 +1131,7 @@ pub trait FallibleItertools: FallibleIterator {
 
     /// Yields the items in batches of n. A batch before an `Ok(None)` or a failure may have fewer.
     ///
-    /// Creating it draws nothing and allocates nothing. `next` draws until the batch has n items, or a stop comes: `Ok(None)` or a failure. A buffered batch is yielded first. The stop is what the next call returns, without a draw.
+    /// Making it draws nothing and takes no memory. One call draws until the batch has n items, or a stop comes: an end or a failure. The batch that is held is yielded first, if there is one, and the stop is the next answer, which takes no draw. A batch takes room for n items at once, or for 1024 if n is more.
     ///
     /// It fails as the source does. If an allocation fails, for the first item of a batch or for one for which the batch has no room, the failure converted from `AllocError` is a stop too: that item is lost, and no other. After a failure and after `Ok(None)` the next call draws again.
     ///
@@ -1162,7 +1162,7 @@ pub trait FallibleItertools: FallibleIterator {
 
     /// Yields groups of adjacent items with equal keys, each with its key.
     ///
-    /// Creating it draws nothing, calls nothing and allocates nothing. `next` draws until an item has another key than the buffered group, or a stop comes: `Ok(None)` or a failure. It calls the closure once on each item. A buffered group is yielded first. The stop is what the next call returns, without a draw. After a stop a new group begins.
+    /// Making it draws nothing, calls nothing and takes no memory. One call draws until an item has another key than the group that is held, or a stop comes: an end or a failure. It makes the key of each item once. The group that is held is yielded first, if there is one, and the stop is the next answer, which takes no draw. Behind a stop a new group begins. A group takes room at once for as many items as the one that it follows has, or for 1024 if it has more.
     ///
     /// It fails as the source does. The closure's failure is a stop too, and so is the failure converted from `AllocError` if an allocation fails. Then the item is lost, and no other. After a failure and after `Ok(None)` the next call draws again.
     ///

@@ -1,8 +1,8 @@
-// The adapter that pairs the items of two sources up to `Ok(None)` of both.
-ghost use Rattle.std.specs.Prelude.{◌≡◌, Option, Result, None};
+// The adapter that joins the items of two sources up to the end of the longer one.
+ghost use Rattle.std.specs.Prelude.{Option, Result};
 ghost use Rattle.fallible_iterator.specs.Contract.{seen_as};
 ghost use Rattle.fallible_iterator.specs.Laws.Contract.{lawful_seen};
-ghost use Rattle.fallible_itertools.specs.ZipLongest.{longest, zip_longest_contract, zip_longest_parts};
+ghost use Rattle.fallible_itertools.specs.ZipLongest.{zip_longest_contract, zip_longest_parts};
 ghost use Rattle.fallible_itertools.specs.Laws.ZipLongest.{lawful_zip_longest};
 
 use crate::sides::Holding;
@@ -40,13 +40,20 @@ where
 
     /// Takes the left's buffered item, or draws the left once. Then, unless that failed, it draws the right once. Each fold draws so too.
     fn next(&mut self) -> Result<Option<EitherOrBoth<T::Item, U::Item>>, T::Error> {
-        let left = self.left.give()?;
-        match self.right.next() {
-            Ok(right) => Ok(joined(left, right)),
-            Err(e) => {
-                self.left.held = left;
-                Err(e)
-            }
+        match self.left.give()? {
+            Some(x) => match self.right.next() {
+                Ok(Some(y)) => Ok(Some(EitherOrBoth::Both(x, y))),
+                Ok(None) => Ok(Some(EitherOrBoth::Left(x))),
+                Err(e) => {
+                    self.left.held = Some(x);
+                    Err(e)
+                }
+            },
+            None => match self.right.next() {
+                Ok(Some(y)) => Ok(Some(EitherOrBoth::Right(y))),
+                Ok(None) => Ok(None),
+                Err(e) => Err(e),
+            },
         }
     }
 
@@ -55,16 +62,4 @@ where
     }
 
     ghost lawful = { lawful_seen zip_longest_parts (lawful_zip_longest T.lawful U.lawful) };
-}
-
-// The items of both, or the item of the one that has one.
-fn joined<A, B>(left: Option<A>, right: Option<B>) -> Option<EitherOrBoth<A, B>>
-    ensures { result ≡ longest left right }
-{
-    match (left, right) {
-        (Some(x), Some(y)) => Some(EitherOrBoth::Both(x, y)),
-        (Some(x), None) => Some(EitherOrBoth::Left(x)),
-        (None, Some(y)) => Some(EitherOrBoth::Right(y)),
-        (None, None) => None,
-    }
 }

@@ -19,10 +19,6 @@ use Rattle.fallible_iterator.specs.Outcome.TheVariants.{Kept, LeftOut, Failure, 
 use Rattle.fallible_itertools.specs.declared.chunk_by.ChunkBy.{ChunkBy}
 
 module _ {A K E : Type 0} (from : AllocError → E → Type 0) (eq : K → K → Bool) where
-  -- what becomes of an item is told by the key that was made and the group that was taken
-  pub by_taken : (g taken was : Option (Group K A)) (x : A) (v made : Result K E) (o : Outcome (Group K A) E) (q : Option (Group K A)) → v ≡ made → taken ≡ g → taken ≡ was → group_by from eq was x made o q → group_by from eq g x v o q
-  by_taken g taken was x v made o q is at here w = subst (λ k. group_by from eq k x v o q) (sym here ∙ at) (subst (λ z. group_by from eq was x z o q) (sym is) w)
-
   pub goes_on : (g : Group K A) (x : A) (k : K) (o : Outcome (Group K A) E) (q : Option (Group K A)) → eq g.0 k ≡ true → group_grown from g x o q → group_by from eq (Some g) x (Ok k) o q
   goes_on g x k o q is w = subst (λ b. group_at from g x k b o q) (sym is) w
 

@@ -4,10 +4,8 @@ use Rattle.std.proofs.Common.{refl, sym, ap, subst, inl, inr}
 use Rattle.std.proofs.lemmas.Bool.{lt-ltb, le-ltb}
 use Rattle.fallible_iterator.specs.Contract.{Contract, seen_as}
 use Rattle.fallible_iterator.specs.Lists.{Lists}
-use Rattle.fallible_iterator.specs.Making.{ListsMade}
-use Rattle.fallible_itertools.specs.Chunks.{Settles, batch_or, chunked, chunked_from, chunks_asks, chunks_contract, chunks_parts, short_batch}
-use Rattle.fallible_itertools.specs.Batch.{Grown, held_items}
-use Rattle.fallible_iterator.proofs.Lemmas.Making.{lists_made_seen}
+use Rattle.fallible_itertools.specs.Chunks.{Grows, batch_or, chunked, chunked_from, chunks_asks, chunks_contract, chunks_parts, short_batch}
+use Rattle.fallible_itertools.specs.Batch.{ListsUpToRefusal, held_items}
 use Rattle.fallible_itertools.proofs.Lemmas.HoldingLists.{by_outcome, before_stop, held_list, listed_parts}
 use Rattle.fallible_itertools.proofs.Lemmas.HoldingMade.{Answers, IfKept, OutcomeMade, Refuses, held_gives_made}
 use Rattle.std.specs.declared.vec.Vec.{Vec}
@@ -18,15 +16,10 @@ use Rattle.fallible_iterator.specs.Outcome.TheVariants.{Kept, LeftOut, Failure, 
 use Rattle.fallible_itertools.specs.declared.chunks.Chunks.{Chunks}
 
 module _ {A E : Type 0} (from : AllocError → E → Type 0) where
-  settled_as : (n : ℕ) (held : Option (Vec A Global)) (x : A) (w : Vec A Global) (o : Outcome (Vec A Global) E) (q : ℕ × Option (Vec A Global)) → Grown held x w → Settles w (n, None) o q → chunks_asks from (n, held) (Some x) o q
-  settled_as n held x w (Kept y) q grown (is, full, at) = (subst (λ v. Grown held x v) (sym is) grown, subst (λ v. n ≤ length (vec_items v)) (sym is) full, at)
-  settled_as n held x w LeftOut q grown (few, at) = (w, grown, few, at)
-  settled_as n held x w (Failure e) q grown s = absurd s
-  settled_as n held x w End q grown s = absurd s
-
-  -- what settles with the item after it is what becomes of that item
-  pub settled_grown : (n : ℕ) (held : Option (Vec A Global)) {was left : Option (Vec A Global)} {asked : Option A} (x : A) (w : Vec A Global) (o : Outcome (Vec A Global) E) (q : ℕ × Option (Vec A Global)) → asked ≡ Some x → was ≡ held → Grown was x w → left ≡ None → Settles w (n, left) o q → chunks_asks from (n, held) asked o q
-  settled_grown n held x w o q is same grown none s = rw is (settled_as n held x w o q (subst (λ k. Grown k x w) same grown) (subst (λ k. Settles w (n, k) o q) none s))
+  -- a batch that has too few items with the item behind it is left out
+  pub grown_left_out : (n : ℕ) (held left : Option (Vec A Global)) (x : A) (count : ℕ) → Grows held x left count → count < n → chunks_asks from (n, held) (Some x) LeftOut (n, left)
+  grown_left_out n held None x count grown few = absurd grown
+  grown_left_out n held (Some w) x count (grown, is) few = (w, grown, subst (λ k. k < n) is few, refl)
 
 -- ---- what it lists
 
