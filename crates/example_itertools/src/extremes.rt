@@ -1,11 +1,12 @@
 //! Callers of what is in `fallible_itertools` about extremes, counts, comparisons and the second end, with what they compute.
-ghost use Rattle.std.specs.Prelude.{◌≡◌, Ok, nat_eq, nat_lt};
+ghost use Rattle.std.specs.Prelude.{◌≡◌, ◌%◌, Ok, nat_eq, nat_lt};
 ghost use Rattle.std.specs.Ordering.{nat_cmp};
 ghost use Rattle.fallible_iterator.specs.Clauses.{OverList};
 ghost use Rattle.fallible_iterator.specs.Lists.{CollectedAs, filtered, found, nth_of, results, reversed, taken};
 ghost use Rattle.fallible_itertools.specs.Counts.{IsCountsOf};
 ghost use Rattle.fallible_itertools.specs.ExactlyOne.{at_most_one_of, wanting_one};
 ghost use Rattle.fallible_itertools.specs.MinMax.{minmaxed};
+ghost use Rattle.fallible_itertools.specs.Sorted.{IsSortedByKeyOf, IsSortedOf};
 
 use fallible_iterator::laws::law_back_convert;
 use fallible_iterator::{FallibleIterator, Fault, convert};
@@ -54,7 +55,28 @@ pub fn tally(
     convert(readings.into_iter()).counts(alloc)
 }
 
-/// The reading with n readings after it.
+/// The readings in order, or the first failure.
+pub fn readings_sorted(
+    alloc: Global,
+    readings: Vec<Result<u32, u8>>,
+) -> Result<Vec<u32>, Fault<u8>>
+    ensures { CollectedAs (IsSortedOf nat_cmp) (results readings.items) result }
+{
+    convert(readings.into_iter()).sorted(alloc)
+}
+
+/// The readings in the order of their last digits, or the first failure.
+pub fn sorted_by_last_digit(
+    alloc: Global,
+    readings: Vec<Result<u32, u8>>,
+) -> Result<Vec<u32>, Fault<u8>>
+    ensures { CollectedAs (IsSortedByKeyOf (λ x. x % 10) nat_cmp) (results readings.items)
+        result }
+{
+    convert(readings.into_iter()).sorted_by_key(alloc, |reading: &u32| *reading % 10)
+}
+
+/// The reading with n readings behind it.
 pub fn nth_last(readings: Vec<Result<u32, u8>>, n: usize) -> Result<Option<u32>, u8>
     ensures { result ≡ nth_of n (reversed (results readings.items)) }
 {

@@ -1,9 +1,11 @@
-//! Folds that may stop early, and keys that come in order.
-ghost use Rattle.std.specs.Prelude.{◌≡◌, ◌+◌, ◌%◌, ◌^◌, ℕ, eqb, List, Result, Ok, Err, if◌then◌else◌, nat_lt};
+//! Folds that stop before the end, items and keys that come in order, and items that are equal.
+ghost use Rattle.std.specs.Prelude.{◌≡◌, true, nat_eq, ◌+◌, ◌%◌, ◌^◌, ℕ, eqb, List, Result, Ok, Err, if◌then◌else◌, nat_lt};
 ghost use Rattle.std.specs.Ordering.{nat_cmp};
 ghost use Rattle.fallible_iterator.specs.Comparing.{by_cmp};
 ghost use Rattle.fallible_iterator.specs.Lists.{Lists, filtered, nth_of, results};
-ghost use Rattle.fallible_itertools.specs.IsSorted.{sorted_by_key};
+ghost use Rattle.fallible_itertools.specs.Equal.{contained, equal_to_first, rest_contained};
+ghost use Rattle.fallible_itertools.specs.FindOrLast.{found_or_last};
+ghost use Rattle.fallible_itertools.specs.IsSorted.{in_order, sorted_by_key};
 ghost use Rattle.fallible_itertools.specs.FoldWhile.{rest_while, folded_while};
 ghost use Rattle.fallible_itertools.specs.declared.fold_while.FoldWhile.TheVariants.{Continue, Done};
 
@@ -60,4 +62,48 @@ pub fn last_digits_sorted(readings: Vec<Result<u32, u8>>) -> Result<bool, u8>
     convert(readings.into_iter())
         .filter(|reading| Ok(*reading > 100))
         .is_sorted_by_key(|reading: u32| Ok(reading % 10))
+}
+
+/// Whether the readings above 100 never go down, or the first failure.
+pub fn above_100_sorted(readings: Vec<Result<u32, u8>>) -> Result<bool, u8>
+    ensures { result ≡ in_order (by_cmp nat_cmp)
+        (filtered (λ x. Ok (nat_lt 100 x)) (results readings.items)) }
+{
+    convert(readings.into_iter())
+        .filter(|reading| Ok(*reading > 100))
+        .is_sorted()
+}
+
+/// Whether the readings above 100 are all equal, or the first failure.
+pub fn above_100_equal(readings: Vec<Result<u32, u8>>) -> Result<bool, u8>
+    ensures { result ≡ equal_to_first nat_eq
+        (filtered (λ x. Ok (nat_lt 100 x)) (results readings.items)) }
+{
+    convert(readings.into_iter())
+        .filter(|reading| Ok(*reading > 100))
+        .all_equal()
+}
+
+/// Whether a reading is 0, or the failure that comes before it.
+pub fn has_zero(readings: Vec<Result<u32, u8>>) -> Result<bool, u8>
+    ensures { result ≡ contained nat_eq 0 (results readings.items) }
+{
+    let mut it = convert(readings.into_iter());
+    it.contains(&0)
+}
+
+/// The item after the first 0, or the first failure; `None` where there is no 0.
+pub fn after_zero(readings: Vec<Result<u32, u8>>) -> Result<Option<u32>, u8>
+    ensures { contained nat_eq 0 (results readings.items) ≡ Ok true
+        → result ≡ nth_of 0 (rest_contained nat_eq 0 (results readings.items)) }
+{
+    let mut it = convert(readings.into_iter());
+    if it.contains(&0)? { it.draw() } else { Ok(None) }
+}
+
+/// The first reading above 100, or else the last one, or the failure that comes before.
+pub fn above_100_or_last(readings: Vec<Result<u32, u8>>) -> Result<Option<u32>, u8>
+    ensures { result ≡ found_or_last (λ x. Ok (nat_lt 100 x)) (results readings.items) }
+{
+    convert(readings.into_iter()).find_or_last(|reading| Ok(*reading > 100))
 }

@@ -36,3 +36,8 @@ wanting_one (Ok (Ok (Some x))) = Ok (Ok x)
 wanting_one (Ok (Ok None)) = Ok (Err NoItem)
 wanting_one (Ok (Err p)) = Ok (Err (More p.0 p.1))
 wanting_one (Err e) = Err e
+
+-- the first two items, where there were more than one
+abbrev pub first_two : {A : Type 0} → NotOne A → Option (A × A)
+first_two NoItem = None
+first_two (More x y) = Some (x, y)

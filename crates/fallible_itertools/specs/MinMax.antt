@@ -9,6 +9,12 @@ use Rattle.std.specs.declared.cmp.Ordering.TheVariants.{Less, Equal, Greater}
 use Rattle.fallible_itertools.specs.declared.minmax.MinMaxResult.{MinMaxResult}
 use Rattle.fallible_itertools.specs.declared.minmax.MinMaxResult.TheVariants.{NoElements, OneElement, MinMax}
 
+-- the least item and the greatest, which of one item is the same
+abbrev pub least_and_greatest : {A : Type 0} → MinMaxResult A → Option (A × A)
+least_and_greatest NoElements = None
+least_and_greatest (OneElement x) = Some (x, x)
+least_and_greatest (MinMax a b) = Some (a, b)
+
 -- What is kept after one more item: it takes the place of the least where it is less, and of the greatest where it is greater or equal.
 abbrev pub with_item : {A : Type 0} → (A → A → Ordering) → MinMaxResult A → A → MinMaxResult A
 with_item cmp NoElements x = OneElement x

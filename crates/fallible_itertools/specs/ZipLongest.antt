@@ -30,6 +30,36 @@ longest (Some x) None = Some (Left x)
 longest None (Some y) = Some (Right y)
 longest None None = None
 
+-- the item of the left, if there is one
+abbrev pub left_of : {A B : Type 0} → EitherOrBoth A B → Option A
+left_of (Both x y) = Some x
+left_of (Left x) = Some x
+left_of (Right y) = None
+
+-- the item of the right, if there is one
+abbrev pub right_of : {A B : Type 0} → EitherOrBoth A B → Option B
+right_of (Both x y) = Some y
+right_of (Left x) = None
+right_of (Right y) = Some y
+
+-- the items, if there is one of each
+abbrev pub both_of : {A B : Type 0} → EitherOrBoth A B → Option (A × B)
+both_of (Both x y) = Some (x, y)
+both_of (Left x) = None
+both_of (Right y) = None
+
+-- the item of the left, if there is none of the right
+abbrev pub only_left : {A B : Type 0} → EitherOrBoth A B → Option A
+only_left (Both x y) = None
+only_left (Left x) = Some x
+only_left (Right y) = None
+
+-- the item of the right, if there is none of the left
+abbrev pub only_right : {A B : Type 0} → EitherOrBoth A B → Option B
+only_right (Both x y) = None
+only_right (Left x) = None
+only_right (Right y) = Some y
+
 -- P holds of the left's item, and Q of the right's
 abbrev pub OfEach : {A B : Type 0} → (A → Type 0) → (B → Type 0) → EitherOrBoth A B → Type 0
 OfEach P Q (Both x y) = P x × Q y

@@ -1,7 +1,6 @@
 //! The least and the greatest item in one pass.
 ghost use Rattle.std.specs.Prelude.{◌≡◌, ⊤};
-ghost use Rattle.fallible_itertools.specs.MinMax.{with_item};
-ghost use Rattle.fallible_itertools.specs.declared.minmax.MinMaxResult.TheVariants.{MinMax};
+ghost use Rattle.fallible_itertools.specs.MinMax.{least_and_greatest, with_item};
 ghost use Rattle.std.specs.declared.ops.ControlFlow.TheVariants.{Continue};
 
 use fallible_iterator::Turn;
@@ -20,7 +19,20 @@ pub enum MinMaxResult<T> {
     MinMax(T, T),
 }
 
-/// Returns the least and the greatest after one more item: the first of equal least ones, and the last of equal greatest ones.
+impl<T: Copy> MinMaxResult<T> {
+    /// The least item and the greatest, which are the same of one item; `None` where no item came.
+    pub fn into_option(self) -> Option<(T, T)>
+        ensures { result ≡ least_and_greatest self }
+    {
+        match self {
+            MinMaxResult::NoElements => None,
+            MinMaxResult::OneElement(only) => Some((only, only)),
+            MinMaxResult::MinMax(least, greatest) => Some((least, greatest)),
+        }
+    }
+}
+
+/// The least and the greatest after one more item: the first of equal least ones, and the last of equal greatest ones.
 pub fn widened<A: Ord + Drop>(so_far: MinMaxResult<A>, item: A) -> MinMaxResult<A>
     ensures { result ≡ with_item A.cmp so_far item }
 {

@@ -1,8 +1,8 @@
 // The adapter that joins the items of two sources up to the end of the longer one.
-ghost use Rattle.std.specs.Prelude.{Option, Result};
+ghost use Rattle.std.specs.Prelude.{◌≡◌, Option, Result, None, is_some, unwrap_or};
 ghost use Rattle.fallible_iterator.specs.Contract.{seen_as};
 ghost use Rattle.fallible_iterator.specs.Laws.Contract.{lawful_seen};
-ghost use Rattle.fallible_itertools.specs.ZipLongest.{zip_longest_contract, zip_longest_parts};
+ghost use Rattle.fallible_itertools.specs.ZipLongest.{both_of, only_left, left_of, longest, only_right, right_of, zip_longest_contract, zip_longest_parts};
 ghost use Rattle.fallible_itertools.specs.Laws.ZipLongest.{lawful_zip_longest};
 
 use crate::sides::Holding;
@@ -19,7 +19,137 @@ pub enum EitherOrBoth<A, B> {
     Right(B),
 }
 
-/// The items of two sources by their positions, up to `Ok(None)` of both. If the left fails, the right isn't drawn. If the right fails, the left's item is buffered for the next call.
+impl<A, B> EitherOrBoth<A, B> {
+    /// Whether there is an item of the left.
+    pub fn has_left(&self) -> bool
+        ensures { result ≡ is_some (left_of self.now) }
+    {
+        matches!(self, EitherOrBoth::Both(_, _) | EitherOrBoth::Left(_))
+    }
+
+    /// Whether there is an item of the right.
+    pub fn has_right(&self) -> bool
+        ensures { result ≡ is_some (right_of self.now) }
+    {
+        matches!(self, EitherOrBoth::Both(_, _) | EitherOrBoth::Right(_))
+    }
+
+    /// Whether there is an item of the left alone.
+    pub fn is_left(&self) -> bool
+        ensures { result ≡ is_some (only_left self.now) }
+    {
+        matches!(self, EitherOrBoth::Left(_))
+    }
+
+    /// Whether there is an item of the right alone.
+    pub fn is_right(&self) -> bool
+        ensures { result ≡ is_some (only_right self.now) }
+    {
+        matches!(self, EitherOrBoth::Right(_))
+    }
+
+    /// Whether there is an item of each.
+    pub fn is_both(&self) -> bool
+        ensures { result ≡ is_some (both_of self.now) }
+    {
+        matches!(self, EitherOrBoth::Both(_, _))
+    }
+
+    /// The item of the left, if there is one.
+    pub fn left(self) -> Option<A>
+    where
+        B: Drop,
+        ensures { result ≡ left_of self }
+    {
+        match self {
+            EitherOrBoth::Both(left, _right) => Some(left),
+            EitherOrBoth::Left(left) => Some(left),
+            EitherOrBoth::Right(_right) => None,
+        }
+    }
+
+    /// The item of the right, if there is one.
+    pub fn right(self) -> Option<B>
+    where
+        A: Drop,
+        ensures { result ≡ right_of self }
+    {
+        match self {
+            EitherOrBoth::Both(_left, right) => Some(right),
+            EitherOrBoth::Left(_left) => None,
+            EitherOrBoth::Right(right) => Some(right),
+        }
+    }
+
+    /// The items, if there is one of each.
+    pub fn both(self) -> Option<(A, B)>
+    where
+        A: Drop,
+        B: Drop,
+        ensures { result ≡ both_of self }
+    {
+        match self {
+            EitherOrBoth::Both(left, right) => Some((left, right)),
+            EitherOrBoth::Left(_left) => None,
+            EitherOrBoth::Right(_right) => None,
+        }
+    }
+
+    /// The item of the left, if there is none of the right.
+    pub fn just_left(self) -> Option<A>
+    where
+        A: Drop,
+        B: Drop,
+        ensures { result ≡ only_left self }
+    {
+        match self {
+            EitherOrBoth::Left(left) => Some(left),
+            EitherOrBoth::Both(_left, _right) => None,
+            EitherOrBoth::Right(_right) => None,
+        }
+    }
+
+    /// The item of the right, if there is none of the left.
+    pub fn just_right(self) -> Option<B>
+    where
+        A: Drop,
+        B: Drop,
+        ensures { result ≡ only_right self }
+    {
+        match self {
+            EitherOrBoth::Right(right) => Some(right),
+            EitherOrBoth::Both(_left, _right) => None,
+            EitherOrBoth::Left(_left) => None,
+        }
+    }
+
+    /// The same, left and right exchanged.
+    pub fn flip(self) -> EitherOrBoth<B, A>
+        ensures { (left_of result ≡ right_of self) × (right_of result ≡ left_of self) }
+    {
+        match self {
+            EitherOrBoth::Both(left, right) => EitherOrBoth::Both(right, left),
+            EitherOrBoth::Left(left) => EitherOrBoth::Right(left),
+            EitherOrBoth::Right(right) => EitherOrBoth::Left(right),
+        }
+    }
+
+    /// An item of each: `l` and `r` stand for one that there isn't.
+    pub fn or(self, l: A, r: B) -> (A, B)
+    where
+        A: Drop,
+        B: Drop,
+        ensures { result ≡ (unwrap_or (left_of self) l, unwrap_or (right_of self) r) }
+    {
+        match self {
+            EitherOrBoth::Both(left, right) => (left, right),
+            EitherOrBoth::Left(left) => (left, r),
+            EitherOrBoth::Right(right) => (l, right),
+        }
+    }
+}
+
+/// The items of two sources, place by place, up to the end of both. A failure of the left is the answer, and then the right isn't drawn. A failure of the right is the answer, and the left's item beside it is held for the next call.
 #[derive(Clone, Debug, Drop)]
 pub struct ZipLongest<T: FallibleIterator, U> {
     pub(crate) left: Holding<T, T::Item>,

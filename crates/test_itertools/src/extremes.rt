@@ -1,6 +1,6 @@
 // Extremes, counts, comparisons.
 use crate::rows::{Drawn, expect_same};
-use fallible_iterator::FallibleIterator;
+use fallible_iterator::{FallibleIterator, Fault};
 use fallible_itertools::MinMaxResult::{MinMax, NoElements, OneElement};
 use fallible_itertools::{FallibleItertools, MinMaxResult, NotOne};
 use std::cmp::Ordering;
@@ -56,6 +56,33 @@ const EXTREMES: [(Numbers, Result<MinMaxResult<u32>, u32>); 4] = [
 fn both_extremes() -> Result<(), Fail> {
     for (answers, expected) in &EXTREMES {
         expect_same(&numbers(answers).minmax(), expected)?;
+    }
+    Ok(())
+}
+
+// The readings, in order, and in the order of their last digits; or the failure.
+type InOrder = (Numbers, Result<(&'static [u32], &'static [u32]), u32>);
+
+const IN_ORDER: [InOrder; 3] = [
+    (&[], Ok((&[], &[]))),
+    (
+        &[Ok(55), Ok(12), Ok(5), Ok(31), Ok(2)],
+        Ok((&[2, 5, 12, 31, 55], &[31, 12, 2, 55, 5])),
+    ),
+    (&[Ok(3), Err(9), Ok(1)], Err(9)),
+];
+
+#[test]
+fn sorted_vectors(rt: HostRuntime) -> Result<(), Fail> {
+    for (answers, expected) in &IN_ORDER {
+        let sorted = numbers(answers).sorted(rt.alloc());
+        let by_digit = numbers(answers).sorted_by_key(rt.alloc(), |x: &u32| *x % 10);
+        let made = match (&sorted, &by_digit) {
+            (Ok(sorted), Ok(by_digit)) => Ok((sorted.as_slice(), by_digit.as_slice())),
+            (Err(Fault::Source(e)), Err(Fault::Source(_))) => Err(*e),
+            _ => return Err(Fail::new("nothing was sorted")),
+        };
+        expect_same(&made, expected)?;
     }
     Ok(())
 }

@@ -1,7 +1,7 @@
-// Folds stop where they are done, and sorted keys at the first that goes down; the next draw goes on after it.
+// Folds stop where they are done, sorted items and keys at the first that goes down, and searches where they find; the next draw goes on after it.
 ghost use Rattle.std.specs.Prelude.{◌^◌, ◌-◌};
 
-use crate::rows::{Drawn, expect_same};
+use crate::rows::{Drawn, END, expect_same};
 use fallible_iterator::FallibleIterator;
 use fallible_itertools::{FallibleItertools, FoldWhile};
 use std::test::Fail;
@@ -66,6 +66,66 @@ fn keys_are_sorted_up_to_the_first_that_goes_down() -> Result<(), Fail> {
             .by_ref()
             .is_sorted_by_key(|x: u32| if x == 99 { Err(7) } else { Ok(x % 10) });
         expect_same(&(sorted, it.next()), expected)?;
+    }
+    Ok(())
+}
+
+// What a call answers, and what the next draw answers.
+type Told = (Result<bool, u32>, Drawn);
+
+// The answers, and what `contains(&7)`, `all_equal`, `is_sorted` and `find_or_last` of 7 answer.
+const SEARCHED: [(Numbers, [Told; 3], (Drawn, Drawn)); 5] = [
+    (
+        &[],
+        [(Ok(false), END), (Ok(true), END), (Ok(true), END)],
+        (END, END),
+    ),
+    (
+        &[Ok(7), Ok(7), Ok(8)],
+        [(Ok(true), Ok(Some(7))), (Ok(false), END), (Ok(true), END)],
+        (Ok(Some(7)), Ok(Some(7))),
+    ),
+    (
+        &[Ok(6), Ok(5), Ok(9)],
+        [
+            (Ok(false), END),
+            (Ok(false), Ok(Some(9))),
+            (Ok(false), Ok(Some(9))),
+        ],
+        (Ok(Some(9)), END),
+    ),
+    (
+        &[Ok(6), Err(9), Ok(7)],
+        [
+            (Err(9), Ok(Some(7))),
+            (Err(9), Ok(Some(7))),
+            (Err(9), Ok(Some(7))),
+        ],
+        (Err(9), Ok(Some(7))),
+    ),
+    (
+        &[Ok(6), Ok(99), Ok(7)],
+        [(Ok(true), END), (Ok(false), Ok(Some(7))), (Ok(false), END)],
+        (Err(5), Ok(Some(7))),
+    ),
+];
+
+// The predicate fails on 99.
+#[test]
+fn searches_stop_where_they_find() -> Result<(), Fail> {
+    for (answers, told, found) in &SEARCHED {
+        let mut it = numbers(answers);
+        let contained = (it.contains(&7), it.next());
+        let mut it = numbers(answers);
+        let equal = (it.all_equal(), it.next());
+        let mut it = numbers(answers);
+        let sorted = (it.by_ref().is_sorted(), it.next());
+        expect_same(&[contained, equal, sorted], told)?;
+        let mut it = numbers(answers);
+        let last = it
+            .by_ref()
+            .find_or_last(|x: &u32| if *x == 99 { Err(5) } else { Ok(*x == 7) });
+        expect_same(&(last, it.next()), found)?;
     }
     Ok(())
 }
