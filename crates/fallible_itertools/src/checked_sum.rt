@@ -5,7 +5,7 @@ ghost use Rattle.fallible_itertools.specs.CheckedSum.{IsTotalTurn, total_by, sum
 use fallible_iterator::Turn;
 use std::ops::ControlFlow;
 
-/// Numbers whose sums and products may overflow: `u32`, `u64`, `usize` and `i64`.
+/// Numbers whose sums and products may not fit: those of every integer type.
 pub trait CheckedTotal: Drop + Sized {
     // What sums begin with.
     ghost zero: { Self };
@@ -34,6 +34,58 @@ pub trait CheckedTotal: Drop + Sized {
     /// Returns the product of the two; `None` if it overflows.
     fn times(&self, other: Self) -> Option<Self>
         ensures { result ≡ times self.now other };
+}
+
+impl CheckedTotal for u8 {
+    ghost zero = { 0 };
+
+    ghost one = { 1 };
+
+    ghost plus = { sum_below (2 ^ 8) };
+
+    ghost times = { product_below (2 ^ 8) };
+
+    fn zero() -> u8 {
+        0
+    }
+
+    fn one() -> u8 {
+        1
+    }
+
+    fn plus(&self, other: u8) -> Option<u8> {
+        self.checked_add(other)
+    }
+
+    fn times(&self, other: u8) -> Option<u8> {
+        self.checked_mul(other)
+    }
+}
+
+impl CheckedTotal for u16 {
+    ghost zero = { 0 };
+
+    ghost one = { 1 };
+
+    ghost plus = { sum_below (2 ^ 16) };
+
+    ghost times = { product_below (2 ^ 16) };
+
+    fn zero() -> u16 {
+        0
+    }
+
+    fn one() -> u16 {
+        1
+    }
+
+    fn plus(&self, other: u16) -> Option<u16> {
+        self.checked_add(other)
+    }
+
+    fn times(&self, other: u16) -> Option<u16> {
+        self.checked_mul(other)
+    }
 }
 
 impl CheckedTotal for u32 {
@@ -88,6 +140,32 @@ impl CheckedTotal for u64 {
     }
 }
 
+impl CheckedTotal for u128 {
+    ghost zero = { 0 };
+
+    ghost one = { 1 };
+
+    ghost plus = { sum_below (2 ^ 128) };
+
+    ghost times = { product_below (2 ^ 128) };
+
+    fn zero() -> u128 {
+        0
+    }
+
+    fn one() -> u128 {
+        1
+    }
+
+    fn plus(&self, other: u128) -> Option<u128> {
+        self.checked_add(other)
+    }
+
+    fn times(&self, other: u128) -> Option<u128> {
+        self.checked_mul(other)
+    }
+}
+
 impl CheckedTotal for usize {
     ghost zero = { 0 };
 
@@ -110,6 +188,84 @@ impl CheckedTotal for usize {
     }
 
     fn times(&self, other: usize) -> Option<usize> {
+        self.checked_mul(other)
+    }
+}
+
+impl CheckedTotal for i8 {
+    ghost zero = { pos 0 };
+
+    ghost one = { pos 1 };
+
+    ghost plus = { sum_within (2 ^ 7) };
+
+    ghost times = { product_within (2 ^ 7) };
+
+    fn zero() -> i8 {
+        0
+    }
+
+    fn one() -> i8 {
+        1
+    }
+
+    fn plus(&self, other: i8) -> Option<i8> {
+        self.checked_add(other)
+    }
+
+    fn times(&self, other: i8) -> Option<i8> {
+        self.checked_mul(other)
+    }
+}
+
+impl CheckedTotal for i16 {
+    ghost zero = { pos 0 };
+
+    ghost one = { pos 1 };
+
+    ghost plus = { sum_within (2 ^ 15) };
+
+    ghost times = { product_within (2 ^ 15) };
+
+    fn zero() -> i16 {
+        0
+    }
+
+    fn one() -> i16 {
+        1
+    }
+
+    fn plus(&self, other: i16) -> Option<i16> {
+        self.checked_add(other)
+    }
+
+    fn times(&self, other: i16) -> Option<i16> {
+        self.checked_mul(other)
+    }
+}
+
+impl CheckedTotal for i32 {
+    ghost zero = { pos 0 };
+
+    ghost one = { pos 1 };
+
+    ghost plus = { sum_within (2 ^ 31) };
+
+    ghost times = { product_within (2 ^ 31) };
+
+    fn zero() -> i32 {
+        0
+    }
+
+    fn one() -> i32 {
+        1
+    }
+
+    fn plus(&self, other: i32) -> Option<i32> {
+        self.checked_add(other)
+    }
+
+    fn times(&self, other: i32) -> Option<i32> {
         self.checked_mul(other)
     }
 }
@@ -140,7 +296,59 @@ impl CheckedTotal for i64 {
     }
 }
 
-/// The turn of `checked_sum`, whose state is the sum so far: it stops at the first item at which the sum overflows.
+impl CheckedTotal for i128 {
+    ghost zero = { pos 0 };
+
+    ghost one = { pos 1 };
+
+    ghost plus = { sum_within (2 ^ 127) };
+
+    ghost times = { product_within (2 ^ 127) };
+
+    fn zero() -> i128 {
+        0
+    }
+
+    fn one() -> i128 {
+        1
+    }
+
+    fn plus(&self, other: i128) -> Option<i128> {
+        self.checked_add(other)
+    }
+
+    fn times(&self, other: i128) -> Option<i128> {
+        self.checked_mul(other)
+    }
+}
+
+impl CheckedTotal for isize {
+    ghost zero = { pos 0 };
+
+    ghost one = { pos 1 };
+
+    ghost plus = { sum_within (2 ^ 63) };
+
+    ghost times = { product_within (2 ^ 63) };
+
+    fn zero() -> isize {
+        0
+    }
+
+    fn one() -> isize {
+        1
+    }
+
+    fn plus(&self, other: isize) -> Option<isize> {
+        self.checked_add(other)
+    }
+
+    fn times(&self, other: isize) -> Option<isize> {
+        self.checked_mul(other)
+    }
+}
+
+/// The turn of `checked_sum`, whose state is the sum so far: it stops at the first item with which the sum doesn't fit.
 #[derive(Drop)]
 pub struct SumTurn;
 
