@@ -6,6 +6,7 @@ pub mod failing;
 pub mod holding;
 pub mod interspersing;
 pub mod joining;
+pub mod ordering;
 pub mod passing;
 pub mod stopping;
 pub mod totals;
