@@ -1,10 +1,10 @@
 // The laws of `MergeBy`.
 ghost use Rattle.std.specs.Prelude.{◌≡◌, ◌++◌, Bool, false, List, Ok, Result, IsPermutation, IsSortedBy};
-ghost use Rattle.fallible_iterator.specs.BothEnds.{items_listed, failures_listed};
+ghost use Rattle.fallible_iterator.specs.BothEnds.{items_listed};
 ghost use Rattle.fallible_iterator.specs.LawForm.{TracesAre};
 ghost use Rattle.fallible_iterator.specs.SoundHints.{KeepsBracketsOfBoth};
 ghost use Rattle.fallible_iterator.specs.Lists.{items};
-ghost use Rattle.fallible_itertools.specs.Adjacent.{AdjacentItems, LetsLessFirst};
+ghost use Rattle.fallible_itertools.specs.Adjacent.{AdjacentItems, Interleaved, LetsLessFirst};
 ghost use Rattle.fallible_itertools.specs.MergeBy.{MergeByTrace, merged, merge_by_left, merge_by_parts, merge_by_right};
 
 use crate::merge_by::MergeBy;
@@ -22,7 +22,7 @@ where
         (MergeByTrace T.contract.steps U.contract.steps F.FnMut) }
 {}
 
-/// Two sorted lists make a sorted list, if the closure never lets an item go first than which the other is less. So it is between failures, too. The merged list has the items and the failures of both, each as often.
+/// Two sorted lists make a sorted list, if the closure never lets an item go first than which the other is less. So it is between failures, too. If the closure never fails, the merged list has the items of both, and the answers of each list in their order.
 pub fn law_merged<T, E>()
     ensures sorted { (lt : T → T → Bool) (goes : T → T → Bool)
         → LetsLessFirst {E = E} lt (λ x y. Ok (goes x y))
@@ -36,9 +36,8 @@ pub fn law_merged<T, E>()
     ensures items { (goes : T → T → Bool) (a : List (Result T E)) (b : List (Result T E))
         → IsPermutation (items_listed a ++ items_listed b)
         (items_listed (merged (λ x y. Ok (goes x y)) a b)) }
-    ensures failures { (goes : T → T → Bool) (a : List (Result T E)) (b : List (Result T E))
-        → IsPermutation (failures_listed a ++ failures_listed b)
-        (failures_listed (merged (λ x y. Ok (goes x y)) a b)) }
+    ensures answers { (goes : T → T → Bool) (a : List (Result T E)) (b : List (Result T E))
+        → Interleaved a b (merged (λ x y. Ok (goes x y)) a b) }
 {}
 
 /// Each hint of `MergeBy` is as sound as the hints of both sides.
