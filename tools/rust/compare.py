@@ -32,7 +32,7 @@ REASONS = [
     (r"fallible_core/traits\.rs", r"FallibleIterator\.size_hint", "new", "a default"),
     (r"fallible_core/comparing\.rs", r"compare", "changed", "one more parameter of a call: items of two types"),
     (r"fallible_core/number\.rs", r"Drop for Number\.drop", "left out", "it only takes the value apart"),
-    (r"chunk\w+\.rs", r".*\.(next|drive|ask)|grouped", "changed",
+    (r"chunk\w+\.rs", r".*\.(next|drive|ask)|grouped|grown", "changed",
      "no allocator is passed, and the refusal's arm has no value"),
     (r"batch\.rs", r"alone|pushed", "changed", "no allocator is passed, and `push` returns nothing"),
     (r"counts\.rs", r"Collect for Tally\.empty", "left out", "`counts` makes the empty map"),

@@ -96,14 +96,14 @@ ITERTOOLS = [
     (GROUPS, r"^    pub\(crate\) alloc: Global,\n", "", 2),
     (GROUPS, r"^struct (Chunk\w+) \{\n    alloc: Global,\n\}", r"struct \1;", 2),
     (GROUPS, r"let adapter = (\w+) \{ alloc: self\.alloc \};", r"let adapter = \1;", 3),
-    (GROUPS, r"\b(alone|grouped)\((?:self\.)?alloc, ", r"\1(", 4),
-    (r"chunk_by\.rs", r"^    alloc: Global,\n", "", 1),
+    (GROUPS, r"\b(alone|grouped|grown)\((?:self\.)?alloc, ", r"\1(", 4),
+    (GROUPS, r"^    alloc: Global,\n", "", 2),
     (r"traits\.rs", r"^            alloc,\n", "", 2),
     (r"traits\.rs", r"\bself, alloc: Global, ", "self, ", 3),
     (r"batch\.rs", r"\(alloc: Global, ", "(", 1),
-    (r"batch\.rs", r"Vec::new\(alloc\)", "Vec::new()", 1),
+    (r"batch\.rs", r"Vec::with_capacity\(alloc, (.*)\)\?", r"Vec::with_capacity(\1)", 1),
     (r"batch\.rs", r"match items\.push\(item\) \{[^{}]*\}", "items.push(item);\n    Ok(())", 1),
-    (r"(?:chunks|chunk_by|intersperse|tuple_windows)\.rs", ARM, NO_VALUE, 7),
+    (r"(?:chunks|chunk_by|intersperse|tuple_windows)\.rs", ARM, NO_VALUE, 5),
     # `counts` and `join`: the same folds, into what `new` makes.
     (r"counts\.rs", r"^    fn empty\((?:.*\n)*?    \}\n\n", "", 1),
     (r"counts\.rs", r"match self\.counts\.insert\(([^\n]*)\) \{[^{}]*\}",
@@ -141,7 +141,7 @@ ITERTOOLS = [
     (r"traits\.rs", r"^    fn counts\b", r'    #[cfg(feature = "std")]\n\g<0>', 1),
     (r"lib\.rs", r"\A(?://!.*\n)+\n", HEAD, 1),
     (r"lib\.rs", r"^pub mod \w+;", r"#[doc(hidden)]\n\g<0>", 25),
-    (r"(?:batch|counts|join)\.rs", r"\A(//!.*\n\n)", r"\1use fallible_iterator::memory::AllocError;\n", 3),
+    (r"(?:batch|chunks|counts|join)\.rs", r"\A(//.*\n\n)", r"\1use fallible_iterator::memory::AllocError;\n", 4),
 ]
 
 # Collections of std that are made by Rust's own `collect`.

@@ -1,5 +1,5 @@
 //! How often each item comes.
-ghost use Rattle.std.specs.Prelude.{◌≡◌, ◌+◌, ◌%◌, ◌^◌, None, unwrap_or};
+ghost use Rattle.std.specs.Prelude.{◌≡◌, None};
 ghost use Rattle.std.specs.HashMap as hash;
 ghost use Rattle.fallible_itertools.specs.Counts.{IsTally};
 
@@ -15,17 +15,7 @@ pub struct Tally<K: Eq + Hash> {
     pub counts: HashMap<K, usize>,
 }
 
-// How often the item was pushed.
-fn count_at<K: Eq + Hash>(counts: &HashMap<K, usize>, item: &K) -> usize
-    ensures { result ≡ unwrap_or (hash.get K.eq counts.now item.now) 0 }
-{
-    match counts.get(item) {
-        Some(count) => *count,
-        None => 0,
-    }
-}
-
-// Of equal items the first is the key. Only for a new item an allocation may fail, if no room is spare.
+// Of equal items the first stands in the map. Only a new one may be refused, where no room is spare.
 impl<K: Eq + Hash + Drop> Collect<K> for Tally<K> {
     ghost made = { λ items t. IsTally K.eq items t.counts };
 
@@ -40,8 +30,11 @@ impl<K: Eq + Hash + Drop> Collect<K> for Tally<K> {
     }
 
     fn push_one(&mut self, item: K) -> Result<(), AllocError> {
-        let count = count_at(&self.counts, &item);
-        match self.counts.insert(item, count.wrapping_add(1)) {
+        if let Some(count) = self.counts.get_mut(&item) {
+            *count = count.wrapping_add(1);
+            return Ok(());
+        }
+        match self.counts.insert(item, 1) {
             Ok(_) => Ok(()),
             Err(refused) => Err(AllocError::from(refused)),
         }

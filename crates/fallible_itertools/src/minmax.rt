@@ -53,6 +53,7 @@ pub fn widened<A: Ord + Drop>(so_far: MinMaxResult<A>, item: A) -> MinMaxResult<
 }
 
 // The item takes the place of the least where it is less, and of the greatest where it isn't less than that.
+#[inline(always)]
 fn widen<A: Ord + Drop>(least: &mut A, greatest: &mut A, item: A)
     ensures { MinMax least.new greatest.new ≡ with_item A.cmp (MinMax least.old greatest.old) item }
 {
