@@ -3,7 +3,7 @@ use Rattle.std.specs.Prelude.{◌≡◌, Some, None, Result, Ok, Err, List, [], 
 use Rattle.std.proofs.Common.{refl, sym, ap, subst, inl, inr, ◌∙◌}
 use Rattle.fallible_iterator.specs.Traces.{Answered}
 use Rattle.fallible_iterator.specs.Making.{GivesMade, IsRefusal, IsToldOrRefused, ListsMade, RefusesNext}
-use Rattle.fallible_iterator.proofs.Lemmas.Making.{ItemTold, end_told, failed_result, failure_told, item_told, refused_result}
+use Rattle.fallible_iterator.proofs.Lemmas.Making.{end_told, failed_result, failure_told, item_told, refused_result}
 use Rattle.std.specs.declared.alloc.AllocError.{AllocError}
 
 module _ {S X B E C R : Type 0} (made : X → B → Type 0) (steps : S → Answered B E → S → Type 0) (from : AllocError → E → Type 0) (answers : C → List (Result X E) → R) where
@@ -21,7 +21,11 @@ module _ {S X B E C R : Type 0} (made : X → B → Type 0) (steps : S → Answe
   pub record MadeFromHere (s0 : S) (c0 : C) (s : S) (c : C) : Type 0 where
     pub at : (whole : List (Result X E)) → ListsMade made steps from s0 whole → OrRefusesNext (answers c0 whole) s c
 
-  item_on : {whole : R} {t : S} {c d : C} (y : B) (z : Result X E) (l : List (Result X E)) → whole ≡ answers c (z ∷ l) → ((x : X) (k : List (Result X E)) → made x y → answers c (Ok x ∷ k) ≡ answers d k) → ItemTold made steps from z y t (GivesMade made steps from t l) → OrRefusesNext whole t d
+  -- an item is made of one that was held, before a refusal, or of the list's
+  abbrev ItemFrom : Result X E → B → S → Type 0 → Type 0
+  ItemFrom z y t G = ((x : X) × made x y × RefusesNext steps from t) ⊎ ((x : X) × (z ≡ Ok x) × made x y × G)
+
+  item_on : {whole : R} {t : S} {c d : C} (y : B) (z : Result X E) (l : List (Result X E)) → whole ≡ answers c (z ∷ l) → ((x : X) (k : List (Result X E)) → made x y → answers c (Ok x ∷ k) ≡ answers d k) → ItemFrom z y t (GivesMade made steps from t l) → OrRefusesNext whole t d
   item_on y z l is same (inl (x, m, next)) = inl next
   item_on {c = c} y z l is same (inr (x, this, m, rest)) = inr (record { rest = l; lists = record { runs = rest }; same = is ∙ ap (λ w. answers c (w ∷ l)) this ∙ same x l m })
 
@@ -71,15 +75,15 @@ module _ {S X B E C R : Type 0} {made : X → B → Type 0} {steps : S → Answe
     pub ends : MadeFromHere made steps from answers s0 c0 s c → steps s r t → r ≡ Ok None → (whole : List (Result X E)) → ListsMade made steps from s0 whole → answers c0 whole ≡ answers c []
     ends here drawn is whole lists = after_end made steps from answers (here.at whole lists) (subst (λ z. steps s z t) is drawn)
 
+by_failure : {X E V T C : Type 0} (into : V → T → Type 0) (from : AllocError → E → Type 0) (answers : C → List (Result X E) → Result V E) (c : C) (e : E) (whole : Result V E) → ((k : List (Result X E)) → answers c (Err e ∷ k) ≡ Err e) → IsRefusal from e ⊎ ((k : List (Result X E)) × (whole ≡ answers c (Err e ∷ k))) → IsToldOrRefused into from whole (Err e)
+by_failure into from answers c e whole same (inl w) = refused_result into from whole e w
+by_failure into from answers c e whole same (inr k) = failed_result into from whole e (k.1 ∙ same k.0)
+
 -- Where the loop answers a result, it is told, or a refusal failed it.
 module _ {S X B E C V T : Type 0} {made : X → B → Type 0} {steps : S → Answered B E → S → Type 0} {from : AllocError → E → Type 0} {answers : C → List (Result X E) → Result V E} (into : V → T → Type 0) {s0 s t : S} {c0 c : C} {r : Answered B E} where
-  by_failure : (e : E) (whole : Result V E) → ((k : List (Result X E)) → answers c (Err e ∷ k) ≡ Err e) → FailedBy made steps from answers whole c e → IsToldOrRefused into from whole (Err e)
-  by_failure e whole same (inl w) = refused_result into from whole e w
-  by_failure e whole same (inr k) = failed_result into from whole e (k.1 ∙ same k.0)
-
   -- at a failure, with which the loop is left
   pub fails_told : (e : E) → MadeFromHere made steps from answers s0 c0 s c → steps s r t → r ≡ Err e → ((k : List (Result X E)) → answers c (Err e ∷ k) ≡ Err e) → (whole : List (Result X E)) → ListsMade made steps from s0 whole → IsToldOrRefused into from (answers c0 whole) (Err e)
-  fails_told e here drawn is same whole lists = by_failure e (answers c0 whole) same (after_failure made steps from answers e (here.at whole lists) (subst (λ z. steps s z t) is drawn))
+  fails_told e here drawn is same whole lists = by_failure into from answers c e (answers c0 whole) same (after_failure made steps from answers e (here.at whole lists) (subst (λ z. steps s z t) is drawn))
 
   -- at the end
   pub ends_told : (v : Result T E) → MadeFromHere made steps from answers s0 c0 s c → steps s r t → r ≡ Ok None → IsToldOrRefused into from (answers c []) v → (whole : List (Result X E)) → ListsMade made steps from s0 whole → IsToldOrRefused into from (answers c0 whole) v
