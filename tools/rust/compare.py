@@ -39,7 +39,8 @@ REASONS = [
     (r"counts\.rs", r"Collect for Tally\.push_one", "changed", "`insert` is never refused"),
     (r"join\.rs", r"append", "changed", "`push_str` is never refused; a failing `Display` panics, as in `to_string`"),
     (r"traits\.rs", r"FallibleItertools\.counts", "changed", "the fold of the proved `collect`, into an empty map"),
-    (r"traits\.rs", r"FallibleItertools\.(join|chunks|chunk_by)", "changed",
+    (r"sorted\.rs", r"sorted_items(_by_key)?", "changed", "std's sort is never refused"),
+    (r"traits\.rs", r"FallibleItertools\.(join|chunks|chunk_by|sorted|sorted_by_key)", "changed",
      "no allocator is passed, and the refusal's arm has no value"),
 ]
 

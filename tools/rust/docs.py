@@ -53,17 +53,12 @@ SAYS = [
     (r" ?If (?:a|the)(?: later)? clone(?: for the first run)? can't be allocated,[^.]*\."
      r"(?: The item is buffered then too[^.]*\.)?", ""),
     (r" The run goes on after either\.", ""),
-    (r" If (?:the|an) allocation(?: for an item)? fails,[^.]*\.(?: Then that item[^.]*\.)?", ""),
-    (r", and so is (?:the failure converted from `AllocError` if an allocation fails|a failed allocation)", ""),
-    (r", (calls nothing) and allocates nothing", r" and \1"),
-    (r" and allocates nothing", ""),
-    (r" If it fails, an allocation failed, and the item is dropped\.", ""),
-    (r"`Ok\(None\)`, the first failure or an item that (?:the collection rejects|the map rejects|can't be appended)",
-     "`Ok(None)` or the first failure"),
-    (r" Tested, not proved: the collection[^.]*\.", ""),
-    (r"It fails with `Fault::Source` of the first failure.*? It consumes", "It fails with that failure. It consumes"),
-    (r"with `Fault::Source` of that failure", "with that failure"),
-    (r" Before a failure of the source all pairs were accepted\. A pair that is rejected is lost\.", ""),
+    (r"the end, the first failure or an item that (?:the collection refuses|the map refuses|the `Vec` refuses|can't be appended)",
+     "the end or the first failure"),
+    (r" That the collection is made before the first draw[^.]*\.", ""),
+    (r"It fails with `Fault::Source` of the first failure.*? It (takes|consumes)", r"It fails with that failure. It \1"),
+    (r"with `Fault::Source` of its failure", "with its failure"),
+    (r" Before a failure of the source all pairs were accepted\. A pair that is refused is lost\.", ""),
     (r" Of equal items (?:a set keeps|they keep)[^.]*\.", ""),
     # Signatures.
     (r" It calls `into_fallible_iter` once, and keeps the iterator\.", ""),
@@ -74,7 +69,7 @@ NO_TEST = {"number": "only proofs read it"}
 PROOFS = re.compile(r"\bRequires (?:that|what|nothing)\b|\brequires (?:that|what|no)\b|\bclauses?\b|\bproofs?\b|"
                     r"search finds|`Fault|\bAllocError\b|allocation fail|failed allocation|can't be allocated")
 # Calls whose signature is another in Rust.
-OTHER = {"collect", "partition", "unzip", "cycle", "chain", "counts", "join"}
+OTHER = {"collect", "partition", "unzip", "cycle", "chain", "counts", "join", "sorted", "sorted_by_key"}
 
 
 class Docs:
