@@ -3,6 +3,7 @@ ghost use Rattle.std.specs.Prelude.{◌≡◌, ℕ, ◌+◌, ◌-◌, ◌%◌, �
 ghost use Rattle.fallible_iterator.specs.Lists.{Lists, counted, filtered, folded, nth_of, rest_first, results, taken};
 ghost use Rattle.fallible_itertools.specs.Coalesce.{coalesced};
 ghost use Rattle.fallible_itertools.specs.Dedup.{deduped};
+ghost use Rattle.fallible_itertools.specs.DedupBy.{deduped_by};
 ghost use Rattle.fallible_itertools.specs.DedupByKey.{deduped_by_key};
 ghost use Rattle.fallible_itertools.specs.TupleWindows.{windowed};
 
@@ -69,7 +70,17 @@ pub fn first_of_each_ten(readings: Vec<Result<u32, u8>>) -> Result<u64, u8>
         )
 }
 
-/// How many readings are left if each that is below the one before it is merged with that, or the first failure.
+/// How many readings are left without those in the same ten as the last one that was kept, or the first failure.
+pub fn changes_of_tens(readings: Vec<Result<u32, u8>>) -> Result<usize, u8>
+    ensures { result ≡ counted
+        (deduped_by (λ x y. Ok (nat_eq (x / 10) (y / 10))) (results readings.items)) }
+{
+    convert(readings.into_iter())
+        .dedup_by(|first, second| Ok(*first / 10 == *second / 10))
+        .count()
+}
+
+/// How many readings are left where each that is below the one before it is put to that, or the first failure.
 pub fn peaks(readings: Vec<Result<u32, u8>>) -> Result<usize, u8>
     ensures { result ≡ counted (coalesced
         (λ x y. Ok (if nat_lt y x then Ok x else Err (x, y))) (results readings.items)) }

@@ -1,7 +1,10 @@
 //! Callers of the adapters that join: each states what it computes, and the contracts of the calls prove it.
+ghost use Rattle.std.specs.Ordering.{nat_cmp};
 ghost use Rattle.std.specs.Prelude.{◌≡◌, ◌%◌, Ok, nat_eq, nat_le};
-ghost use Rattle.fallible_iterator.specs.Lists.{counted, results};
+ghost use Rattle.fallible_iterator.specs.Comparing.{by_cmp};
+ghost use Rattle.fallible_iterator.specs.Lists.{counted, last_of, results};
 ghost use Rattle.fallible_itertools.specs.CmpBy.{equal_by};
+ghost use Rattle.fallible_itertools.specs.Merge.{merged_in_order};
 ghost use Rattle.fallible_itertools.specs.MergeBy.{merged};
 ghost use Rattle.fallible_itertools.specs.ZipLongest.{zipped_longest};
 
@@ -27,7 +30,20 @@ pub fn readings_merged(left: Vec<Result<u32, u8>>, right: Vec<Result<u32, u8>>) 
         .count()
 }
 
-/// Whether two columns have the same last digits, position by position, or the first failure.
+/// The last reading of two sorted columns together, or the first failure.
+pub fn last_of_both(
+    left: Vec<Result<u32, u8>>,
+    right: Vec<Result<u32, u8>>,
+) -> Result<Option<u32>, u8>
+    ensures { result ≡ last_of
+        (merged_in_order (by_cmp nat_cmp) (results left.items) (results right.items)) }
+{
+    convert_fused(left.into_iter())
+        .merge(convert_fused(right.into_iter()))
+        .last()
+}
+
+/// Whether two columns have the same last digits, place by place, or the first failure.
 pub fn same_last_digits(left: Vec<Result<u32, u8>>, right: Vec<Result<u32, u8>>) -> Result<bool, u8>
     ensures { result ≡ equal_by (λ x y. Ok (nat_eq (x % 10) (y % 10)))
         (results left.items) (results right.items) }
