@@ -1,6 +1,7 @@
 //! Callers of `fallible_itertools`: each states what it computes, and the contracts of the calls prove it.
 #![tactic(auto)]
 
+pub mod batching;
 pub mod extremes;
 pub mod failing;
 pub mod holding;

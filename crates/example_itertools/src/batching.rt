@@ -1,0 +1,87 @@
+//! Callers of what yields vectors: each states the value up to an allocation failure, by one term.
+ghost use Rattle.std.specs.Prelude.{◌≡◌, ℕ, ◌/◌, length, List, Result, Ok, max, nat_eq};
+ghost use Rattle.fallible_iterator.specs.Lists.{counted, folded, mapped, results};
+ghost use Rattle.fallible_iterator.specs.Making.{CollectedMade, SameOrRefused};
+ghost use Rattle.fallible_itertools.specs.ChunkBy.{chunked_by};
+ghost use Rattle.fallible_itertools.specs.Chunks.{chunked};
+ghost use Rattle.example_itertools.specs.declared.batching.NoBatch.{NoBatch};
+ghost use Rattle.std.specs.declared.alloc.AllocError.{AllocError};
+
+use fallible_iterator::{FallibleIterator, Fault, convert};
+use fallible_itertools::FallibleItertools;
+use std::alloc::{AllocError, Global};
+
+/// Why there is no batch.
+#[derive(Debug, Drop, PartialEq)]
+pub enum NoBatch {
+    /// A reading failed, with this code.
+    Failed(u8),
+    /// Memory doesn't suffice.
+    Memory,
+}
+
+impl From<AllocError> for NoBatch {
+    ghost use Rattle.example_itertools.specs.declared.batching.NoBatch.TheVariants.{Memory};
+
+    ghost from_gives = { λ refused why. why ≡ Memory };
+
+    /// `NoBatch::Memory`
+    fn from(_: AllocError) -> NoBatch {
+        NoBatch::Memory
+    }
+}
+
+/// The readings in batches of ten, or the first failure, up to an allocation failure.
+pub fn batches_of_ten(
+    alloc: Global,
+    readings: Vec<Result<u32, NoBatch>>,
+) -> Result<Vec<Vec<u32>>, Fault<NoBatch>>
+    ensures { CollectedMade (λ xs batch. batch.items ≡ xs) (λ refused why. why ≡ NoBatch.Memory)
+        (λ batches v. v.items ≡ batches) (chunked 10 (results readings.items)) result }
+{
+    convert(readings.into_iter())
+        .chunks(alloc, 10)
+        .collect(alloc)
+}
+
+/// How many readings each batch of ten has, or the first failure, up to an allocation failure.
+pub fn lengths_of_batches(
+    alloc: Global,
+    readings: Vec<Result<u32, NoBatch>>,
+) -> Result<Vec<usize>, Fault<NoBatch>>
+    ensures { CollectedMade (λ n m. m ≡ n) (λ refused why. why ≡ NoBatch.Memory)
+        (λ lengths v. v.items ≡ lengths)
+        (mapped (λ xs. Ok (length xs)) (chunked 10 (results readings.items))) result }
+{
+    convert(readings.into_iter())
+        .chunks(alloc, 10)
+        .map(|batch: Vec<u32>| Ok(batch.len()))
+        .collect(alloc)
+}
+
+/// How many groups of readings of the same hundreds there are, or the first failure, or an allocation failure.
+pub fn groups_of_hundreds(
+    alloc: Global,
+    readings: Vec<Result<u32, NoBatch>>,
+) -> Result<usize, NoBatch>
+    ensures { SameOrRefused (λ refused why. why ≡ NoBatch.Memory)
+        (counted (chunked_by nat_eq (λ x. Ok (x / 100)) (results readings.items))) result }
+{
+    convert(readings.into_iter())
+        .chunk_by(alloc, |reading| Ok(*reading / 100))
+        .count()
+}
+
+/// How many readings the largest of these groups has, or the first failure, or an allocation failure.
+pub fn largest_group(alloc: Global, readings: Vec<Result<u32, NoBatch>>) -> Result<usize, NoBatch>
+    ensures { SameOrRefused (λ refused why. why ≡ NoBatch.Memory)
+        (folded (λ e. e) (λ most group. Ok (max most (length group.1))) 0
+        (chunked_by nat_eq (λ x. Ok (x / 100)) (results readings.items))) result }
+{
+    convert(readings.into_iter())
+        .chunk_by(alloc, |reading| Ok(*reading / 100))
+        .fold(
+            0,
+            |most: usize, group: (u32, Vec<u32>)| Ok(most.max(group.1.len())),
+        )
+}
