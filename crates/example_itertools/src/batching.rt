@@ -1,7 +1,7 @@
 //! Callers of what yields vectors: each states the value up to an allocation failure, by one term.
 ghost use Rattle.std.specs.Prelude.{◌≡◌, ℕ, ◌/◌, length, List, Result, Ok, max, nat_eq};
 ghost use Rattle.fallible_iterator.specs.Lists.{counted, folded, mapped, results};
-ghost use Rattle.fallible_iterator.specs.Making.{CollectedMade, SameOrRefused};
+ghost use Rattle.fallible_iterator.specs.Making.{CollectedMade, ListsMade, SameOrRefused};
 ghost use Rattle.fallible_itertools.specs.ChunkBy.{chunked_by};
 ghost use Rattle.fallible_itertools.specs.Chunks.{chunked};
 ghost use Rattle.example_itertools.specs.declared.batching.NoBatch.{NoBatch};
@@ -84,4 +84,25 @@ pub fn largest_group(alloc: Global, readings: Vec<Result<u32, NoBatch>>) -> Resu
             0,
             |most: usize, group: (u32, Vec<u32>)| Ok(most.max(group.1.len())),
         )
+}
+
+/// How many items the largest batch has, or the first failure, or an allocation failure; by a loop.
+pub fn largest_batch<I>(mut batches: I) -> Result<usize, NoBatch>
+where
+    I: FallibleIterator<Item = Vec<u32>, Error = NoBatch>,
+    requires can_next { I.contract.can_next batches }
+    requires finite { I.contract.is_finite batches }
+    ensures { (l : List (Result (List ℕ) NoBatch))
+        → ListsMade (λ xs batch. batch.items ≡ xs) I.contract.steps
+        (λ refused why. why ≡ NoBatch.Memory) batches l
+        → SameOrRefused (λ refused why. why ≡ NoBatch.Memory)
+        (folded (λ e. e) (λ most xs. Ok (max most (length xs))) 0 l) result }
+{
+    let mut left = batches.number();
+    let mut most: usize = 0;
+    while let Some(batch) = batches.draw()? {
+        left = left.one_less();
+        most = most.max(batch.len());
+    }
+    Ok(most)
 }
