@@ -21,7 +21,7 @@ impl<'a, A: PartialEq + Drop, E> Turn<(), A, Result<bool, E>> for ContainsTurn<'
 
     /// The item, compared once.
     #[inline(always)]
-    fn turn(&self, state: &mut (), item: A) -> ControlFlow<Result<bool, E>, ()> {
+    fn turn(&self, _state: &mut (), item: A) -> ControlFlow<Result<bool, E>, ()> {
         if item == *self.wanted {
             ControlFlow::Break(Ok(true))
         } else {
