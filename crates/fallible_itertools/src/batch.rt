@@ -1,9 +1,9 @@
-//! Items put behind one another in a `Vec`, where memory may be refused.
+//! Items put one after another into a `Vec`, where an allocation may fail.
 ghost use Rattle.std.specs.Prelude.{min, ◌≡◌, ◌≤◌, [], ◌∷◌, ◌++◌, IfOk, MatchResult, vec_len, vec_capacity};
 
 use std::alloc::{AllocError, Global};
 
-/// The item alone, with room for so many items, but at most for 1024. It fails where memory is refused, and the item is lost.
+/// The item alone, with room for at least so many items, or for 1024 if that is less. If the allocation fails, so does this, and the item is lost.
 pub fn alone<X: Drop>(alloc: Global, room: usize, item: X) -> Result<Vec<X>, AllocError>
     ensures { IfOk result (λ v. (v.items ≡ item ∷ []) × (min room 1024 ≤ vec_capacity v)) }
 {
@@ -12,7 +12,7 @@ pub fn alone<X: Drop>(alloc: Global, room: usize, item: X) -> Result<Vec<X>, All
     Ok(items)
 }
 
-/// The item behind the others. It fails where memory is refused; then the item is lost, and no other.
+/// Appends the item. If an allocation fails, so does this; the item is lost then, and no other.
 #[inline(always)]
 pub fn pushed<X: Drop>(items: &mut Vec<X>, item: X) -> Result<(), AllocError>
     ensures { MatchResult result

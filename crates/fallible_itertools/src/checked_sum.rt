@@ -5,7 +5,7 @@ ghost use Rattle.fallible_itertools.specs.CheckedSum.{IsTotalTurn, total_by, sum
 use fallible_iterator::Turn;
 use std::ops::ControlFlow;
 
-/// Numbers whose sums and products may not fit: those of every integer type.
+/// Numbers whose sums and products may overflow: those of every integer type.
 pub trait CheckedTotal: Drop + Sized {
     // What sums begin with.
     ghost zero: { Self };
@@ -348,7 +348,7 @@ impl CheckedTotal for isize {
     }
 }
 
-/// The turn of `checked_sum`, whose state is the sum so far: it stops at the first item with which the sum doesn't fit.
+/// The turn of `checked_sum`, whose state is the sum so far: it stops at the first item at which the sum overflows.
 #[derive(Drop)]
 pub struct SumTurn;
 

@@ -107,7 +107,7 @@ impl<X: Drop, K: PartialEq + Drop, E: From<AllocError>, F: FnMut(&X) -> Result<K
     ghost holds = { λ _. holds_chunk_by E.from_gives K.eq F.FnMut };
 }
 
-// What becomes of an item by its key. A new group has room for as many items as the one that it follows.
+// What becomes of an item by its key. A new group has room for as many items as the one that it follows, up to 1024.
 fn grouped<X: Drop, K: PartialEq + Drop, E: From<AllocError>>(
     alloc: Global,
     group: &mut Option<(K, Vec<X>)>,

@@ -1,4 +1,4 @@
-// The adapter that gives batches of items.
+// The adapter that yields batches of items.
 ghost use Rattle.std.specs.Prelude.{◌≡◌, ◌+◌, ⊤, MatchResult, None, Option, Result};
 ghost use Rattle.fallible_iterator.specs.Contract.{seen_as};
 ghost use Rattle.fallible_iterator.specs.Laws.Contract.{lawful_seen};
@@ -142,7 +142,7 @@ impl<X: Drop, E: From<AllocError>> Hold<(usize, Option<Vec<X>>), X, E> for Chunk
     ghost holds = { λ _. holds_chunks E.from_gives };
 }
 
-// The item in the batch that is held, or in a new one with room for n; how many items it has then.
+// Appends the item to the buffered batch, or to a new one with room for n, and returns how many items the batch has then.
 #[inline(always)]
 fn grown<X: Drop>(
     alloc: Global,
@@ -167,7 +167,7 @@ fn grown<X: Drop>(
     }
 }
 
-// The batch that is held.
+// What becomes of the buffered batch at a stop, or once it is full: it is yielded, if there is one.
 #[inline(always)]
 fn let_go<X: Drop, E>(held: &mut Option<Vec<X>>) -> Outcome<Vec<X>, E>
     ensures { LetsGo held.old result held.new }

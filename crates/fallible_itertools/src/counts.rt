@@ -15,7 +15,7 @@ pub struct Tally<K: Eq + Hash> {
     pub counts: HashMap<K, usize>,
 }
 
-// Of equal items the first stands in the map. Only a new one may be refused, where no room is spare.
+// Of equal items the first is the key. Only for a new item an allocation may fail, if no room is spare.
 impl<K: Eq + Hash + Drop> Collect<K> for Tally<K> {
     ghost made = { λ items t. IsTally K.eq items t.counts };
 

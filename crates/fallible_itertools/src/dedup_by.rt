@@ -1,4 +1,4 @@
-//! The adapter that gives of adjacent items that a closure finds the same the first.
+//! The adapter that yields the first of adjacent items that a closure finds the same.
 ghost use Rattle.std.specs.Prelude.{Option, Result};
 ghost use Rattle.fallible_iterator.specs.Contract.{seen_as};
 ghost use Rattle.fallible_iterator.specs.Laws.Contract.{lawful_seen};
@@ -11,13 +11,13 @@ use crate::holding::{Hold, drive_holding, with_held};
 use fallible_iterator::extending::{FirstTurn, Outcome};
 use fallible_iterator::{FallibleIterator, Turn};
 
-/// Of adjacent items that the closure finds the same the first. It is held until an item comes that differs from it, or a stop: an end or a failure, which is answered next.
+/// The first of adjacent items that the closure finds the same. It is buffered until an item that differs comes, or a stop: `Ok(None)` or a failure, which the next call returns. The closure's failure is a stop.
 #[derive(Clone, Debug, Drop)]
 pub struct DedupBy<I: FallibleIterator, F> {
     pub(crate) it: I,
-    // the first of items that are the same, and the closure
+    // the first of items that are the same, which wasn't yielded yet, and the closure
     pub(crate) comparing: (Option<I::Item>, F),
-    // the stop that is due: an end, or a failure
+    // the stop that is due: `Ok(None)`, or a failure
     pub(crate) due: Option<Option<I::Error>>,
 }
 
@@ -33,7 +33,7 @@ where
 
     ghost contract = { seen_as dedup_by_parts (dedup_by_contract I.contract F.FnMut) };
 
-    /// Answers the stop that is due, without a draw, or draws until an item differs from the one that is held, or a stop comes.
+    /// Returns the stop that is due, without a draw. Otherwise it draws until an item differs from the buffered one, or a stop comes.
     fn next(&mut self) -> Result<Option<I::Item>, I::Error> {
         self.drive(&mut (), &FirstTurn)
     }
@@ -64,7 +64,7 @@ where
     ghost lawful = { lawful_seen dedup_by_parts (lawful_dedup_by F.FnMut I.lawful) };
 }
 
-// What becomes of an item by what the closure says of it and the one that is held.
+// What becomes of an item after the buffered one, by what the closure returns on the two.
 #[derive(Drop)]
 struct SameHold;
 

@@ -19,7 +19,7 @@ impl<'a, A: PartialEq + Drop, E> Turn<(), A, Result<bool, E>> for ContainsTurn<'
     ghost turns = { λ k c x r d. IsSearchTurn (TestCall (λ y. A.eq y k.wanted.now)) any_pick
         c x r d };
 
-    /// The item, compared once.
+    /// Compares the item once.
     #[inline(always)]
     fn turn(&self, _state: &mut (), item: A) -> ControlFlow<Result<bool, E>, ()> {
         if item == *self.wanted {
@@ -30,7 +30,7 @@ impl<'a, A: PartialEq + Drop, E> Turn<(), A, Result<bool, E>> for ContainsTurn<'
     }
 }
 
-/// The turn of `all_equal`, whose state is the first item, if one came: it stops at the first item that this doesn't equal.
+/// The turn of `all_equal`, whose state is the first item, if one came: it stops at an item that the first one doesn't equal.
 #[derive(Drop)]
 pub struct AllEqualTurn;
 
@@ -39,7 +39,7 @@ impl<A: PartialEq + Drop, E> Turn<Option<A>, A, Result<bool, E>> for AllEqualTur
 
     ghost turns = { λ _ c x r d. IsSearchTurn (FirstCall A.eq) all_pick c x r d };
 
-    /// The first item is kept, and each later one compared with it.
+    /// Keeps the first item, and compares each later one with it.
     #[inline(always)]
     fn turn(&self, state: &mut Option<A>, item: A) -> ControlFlow<Result<bool, E>, ()> {
         if let Some(first) = state {

@@ -12,7 +12,7 @@ pub enum NotOne<T> {
 }
 
 impl<T> NotOne<T> {
-    /// The first two items, if more than one came.
+    /// Returns the first two items, if more than one came.
     pub fn into_items(self) -> Option<(T, T)>
         ensures { result ≡ first_two self }
     {
@@ -22,7 +22,7 @@ impl<T> NotOne<T> {
         }
     }
 
-    /// Whether more than one item came.
+    /// Returns whether more than one item came.
     pub fn is_more(&self) -> bool
         ensures { result ≡ is_some (first_two self.now) }
     {

@@ -16,7 +16,7 @@ impl<A: Drop, E, F: FnMut(&A) -> Result<bool, E>> Turn<(Option<A>, F), A, Result
 
     ghost turns = { λ _ p x r q. IsFindLastTurn (call_at F.FnMut) p x r q };
 
-    /// The predicate's answer on the item, which is the last one then.
+    /// Calls the predicate once. The item is the last one then.
     #[inline(always)]
     fn turn(&self, state: &mut (Option<A>, F), item: A) -> ControlFlow<Result<Option<A>, E>, ()> {
         match (state.1)(&item) {
@@ -30,7 +30,7 @@ impl<A: Drop, E, F: FnMut(&A) -> Result<bool, E>> Turn<(Option<A>, F), A, Result
     }
 }
 
-/// What a search found, and the last item where it found nothing.
+/// Returns what a search found, or the last item if it found nothing.
 pub fn or_last<A: Drop, E>(found: Result<Option<A>, E>, last: Option<A>) -> Result<Option<A>, E>
     ensures { result ≡ found_or found (Ok last) }
 {

@@ -58,7 +58,7 @@ impl<A: PartialOrd + Drop, E> Turn<(Option<A>, ()), A, Result<bool, E>> for InOr
     ghost turns = { λ _ p x r q. IsSearchTurn (OrderCall A.partial_cmp ItselfCall) all_pick
         p x r q };
 
-    /// The item, which is the last one then.
+    /// Compares the item with the last one, if one came. The item is the last one then.
     #[inline(always)]
     fn turn(&self, state: &mut (Option<A>, ()), item: A) -> ControlFlow<Result<bool, E>, ()> {
         let in_order = may_come_after(&state.0, &item);

@@ -20,7 +20,7 @@ pub enum MinMaxResult<T> {
 }
 
 impl<T: Copy> MinMaxResult<T> {
-    /// The least item and the greatest, which are the same of one item; `None` where no item came.
+    /// Returns the least item and the greatest, which are one and the same if one item came; `None` if no item came.
     pub fn into_option(self) -> Option<(T, T)>
         ensures { result ≡ least_and_greatest self }
     {
@@ -32,7 +32,7 @@ impl<T: Copy> MinMaxResult<T> {
     }
 }
 
-/// The least and the greatest after one more item: the first of equal least ones, and the last of equal greatest ones.
+/// Returns the least and the greatest after one more item: the first of equal least ones, and the last of equal greatest ones.
 pub fn widened<A: Ord + Drop>(so_far: MinMaxResult<A>, item: A) -> MinMaxResult<A>
     ensures { result ≡ with_item A.cmp so_far item }
 {
@@ -52,7 +52,7 @@ pub fn widened<A: Ord + Drop>(so_far: MinMaxResult<A>, item: A) -> MinMaxResult<
     }
 }
 
-// The item takes the place of the least where it is less, and of the greatest where it isn't less than that.
+// The item replaces the least one if it is less. Otherwise it replaces the greatest one, unless it is less than that.
 #[inline(always)]
 fn widen<A: Ord + Drop>(least: &mut A, greatest: &mut A, item: A)
     ensures { MinMax least.new greatest.new ≡ with_item A.cmp (MinMax least.old greatest.old) item }

@@ -165,11 +165,11 @@ pub trait FallibleItertools: FallibleIterator {
         }
     }
 
-    /// Gives of adjacent items that the closure finds the same the first. It is called on references to the item that is held and the next one.
+    /// Yields the first of adjacent items that the closure finds the same. The closure is called on references to the buffered item and the next one.
     ///
-    /// It is made, draws and ends as `dedup` does. Where the closure fails, its failure is a stop: what is held is yielded first. The item that was drawn last is lost, and no other.
+    /// Laziness, draws and behaviour at a stop: as `dedup`. If the closure fails, its failure is a stop too: the buffered item is yielded first. The item that was drawn last is lost, and no other.
     ///
-    /// Asks that the closure may be called on references to what is held and each item that may come. Each draw asks what one of `dedup` asks.
+    /// Requires that the closure may be called on references to what is buffered and each item that may come. `next` requires what that of `dedup` requires.
     ///
     /// ```
     /// convert(readings.into_iter())
@@ -197,7 +197,7 @@ pub trait FallibleItertools: FallibleIterator {
         }
     }
 
-    /// Gives of adjacent equal items the first.
+    /// Yields the first of adjacent equal items.
     ///
     /// Creating it draws nothing. The first of equal items is buffered until an item that differs comes, or a stop: `Ok(None)` or a failure. `next` draws up to that. The buffered item is yielded first. The stop is what the next call returns, without a draw. After a stop nothing is buffered, so equal items before and after it are both yielded.
     ///
@@ -362,11 +362,11 @@ pub trait FallibleItertools: FallibleIterator {
         answer_or_none(converted(self.drive(&mut (0, f), &PositionTurn)))
     }
 
-    /// Whether an item equals the wanted one.
+    /// Returns whether an item equals the wanted one.
     ///
-    /// It draws up to the first item that equals it, the first failure or the end. It fails with that failure. Nothing is drawn after the answer that decides, and what is left may be drawn from again.
+    /// It draws up to the first item that equals it, the first failure or `Ok(None)`. It fails with that failure. Nothing is drawn after that, and the iterator may be used again.
     ///
-    /// Requires that `next` may be called, and a bound.
+    /// Requires that `next` may be called and that the iterator is finite.
     ///
     /// ```
     /// let mut it = convert(readings.into_iter());
@@ -389,11 +389,11 @@ pub trait FallibleItertools: FallibleIterator {
         answer_or(self.drive(&mut (), &ContainsTurn { wanted }), false)
     }
 
-    /// Whether the first item equals each later one; true where there is no item.
+    /// Returns whether the first item equals each later one; true if there is no item.
     ///
-    /// It draws up to the first item that the first one doesn't equal, the first failure or the end. It fails with that failure. Nothing is drawn after the answer that decides, and what is left may be drawn from again.
+    /// It draws up to an item that the first one doesn't equal, the first failure or `Ok(None)`. It fails with that failure. Nothing is drawn after that, and the iterator may be used again.
     ///
-    /// Requires that `next` may be called, and a bound.
+    /// Requires that `next` may be called and that the iterator is finite.
     ///
     /// ```
     /// convert(readings.into_iter())
@@ -417,11 +417,11 @@ pub trait FallibleItertools: FallibleIterator {
         answer_or(self.drive(&mut None, &AllEqualTurn), true)
     }
 
-    /// The first item on which the predicate returns true, and the last item where there is none; `None` where there is no item.
+    /// Returns the first item on which the predicate returns true, or the last item if there is none; `Ok(None)` if there is no item.
     ///
-    /// It draws up to the first item on which the predicate returns true or fails, the first failure or the end, and calls the predicate on each item drawn, in order. Nothing is drawn after the answer that decides. It fails with the failure that comes first, of this iterator or of the predicate. It consumes the iterator, and no clause says what is left.
+    /// It draws up to the first item on which the predicate returns true or fails, the first failure or `Ok(None)`. It calls the predicate on each item drawn, in order. Nothing is drawn after that. It fails with the first failure, of this iterator or of the predicate. It consumes the iterator, and no clause says what is left.
     ///
-    /// Requires that `next` may be called, a bound, and that the predicate may be called on each item that may come until it decides.
+    /// Requires that `next` may be called and that the iterator is finite, and that the predicate may be called on each item that may come until it decides.
     ///
     /// ```
     /// convert(readings.into_iter()).find_or_last(|reading| Ok(*reading > 100))
@@ -445,7 +445,7 @@ pub trait FallibleItertools: FallibleIterator {
         or_last(answer_or_none(answer), last)
     }
 
-    /// The sum of the items, 0 of none, where it fits with each of them; none where it doesn't.
+    /// Returns the sum of the items, 0 for none. If it overflows at one of them, it returns `Ok(None)`.
     ///
     /// It draws up to the first item at which the sum overflows, the first failure or `Ok(None)`. Nothing is drawn after that, so an overflow is returned also where a failure would come later. It fails with the first failure. It consumes the iterator, and no clause says what is left.
     ///
@@ -563,11 +563,11 @@ pub trait FallibleItertools: FallibleIterator {
         answer_or(self.drive(&mut state, &SortedTurn), true)
     }
 
-    /// Whether no item is less than the one before it. An item that has no order with the one before it counts as less.
+    /// Returns whether no item is less than the one before it. An item that can't be compared with the one before it counts as less.
     ///
-    /// It draws up to the first such item, the first failure or the end. Nothing is drawn after the answer that decides. It fails with that failure. It consumes the iterator, and no clause says what is left.
+    /// It draws up to the first item that is less, the first failure or `Ok(None)`. Nothing is drawn after that. It fails with that failure. It consumes the iterator, and no clause says what is left.
     ///
-    /// Requires that `next` may be called, and a bound.
+    /// Requires that `next` may be called and that the iterator is finite.
     ///
     /// ```
     /// convert(readings.into_iter())
@@ -589,7 +589,7 @@ pub trait FallibleItertools: FallibleIterator {
         answer_or(self.drive(&mut (None, ()), &InOrderTurn), true)
     }
 
-    // ---- adapters that let answers pass
+    // ---- adapters that let results pass
 
     /// Yields a copy of what each item points to.
     ///
@@ -697,11 +697,11 @@ pub trait FallibleItertools: FallibleIterator {
 
     // ---- adapters that join
 
-    /// Merges the items of two sources by their order: of an item and the next one of `other` the lesser goes first, and of equal ones this side's. Two sorted sources give a sorted one. Of two items without an order `other`'s goes first. Beside an end of one side the other's item is given.
+    /// Merges the items of two sources by their order. Of an item of this iterator and the next one of `other`, the lesser goes first, and of equal ones this side's. If the two can't be compared, `other`'s goes first. If one side returns `Ok(None)`, the other's item is yielded. Two sorted sources make a sorted one.
     ///
-    /// It is made, draws, holds and fails as `merge_by` does; no closure fails. A bound of each side, added up, bounds it.
+    /// Laziness, draws, buffered items, errors and folds: as `merge_by`, with no closure that may fail. Bounds of both sides, added up, bound it.
     ///
-    /// Asks nothing. Draws ask that both sides may be drawn from. What it lists is known where both sides end for good, as after `convert_fused` or `fuse`.
+    /// Requires nothing. `next` requires that it may be called on both sides, and `Item: Drop`. What it lists is known if both sides are fused, as after `convert_fused` or `fuse`.
     ///
     /// ```
     /// convert_fused(left.into_iter())
@@ -743,7 +743,7 @@ pub trait FallibleItertools: FallibleIterator {
         }
     }
 
-    /// Merges the items of two sources: of an item and the next one of `other`, the closure answers whether the former goes first. Beside an end of one side the other's item is given without asking.
+    /// Merges the items of two sources. Of an item of this iterator and the next one of `other`, the closure returns whether the former goes first. If one side returns `Ok(None)`, the other's item is yielded without a call of the closure.
     ///
     /// Creating it draws nothing. It buffers at most one item of each side. `next` draws this side once if nothing of it is buffered. Then, unless that failed, it draws `other` once if nothing of `other` is buffered. An `Ok(None)` of a side isn't remembered. It fails as either side does, and loses nothing that is buffered. If the closure fails, its failure is yielded, and the two items that it was called on are lost. Its folds draw as `next` does. Bounds of both sides, added up, bound it.
     ///
@@ -965,11 +965,11 @@ pub trait FallibleItertools: FallibleIterator {
         }
     }
 
-    /// The items in a `Vec`, in order. Equal items keep their order.
+    /// Returns the items in a `Vec`, in order. Equal items keep their order.
     ///
-    /// It draws up to the end, the first failure or an item that the `Vec` refuses, and sorts after the end. It fails with `Fault::Source` of the first failure, and with `Fault::Memory` where memory is refused: for the item that was drawn last, or for sorting more than 20 items. It consumes the iterator, and no clause says what is left.
+    /// It draws up to `Ok(None)`, the first failure or an item that the collection rejects. After `Ok(None)` it sorts. It fails with `Fault::Source` of the first failure. It fails with `Fault::Memory` if an allocation failed, for the last item drawn or for sorting more than 20 items. It consumes the iterator, and no clause says what is left.
     ///
-    /// Requires that `next` may be called, and a bound.
+    /// Requires that `next` may be called and that the iterator is finite.
     ///
     /// ```
     /// convert(readings.into_iter()).sorted(alloc)
@@ -991,11 +991,11 @@ pub trait FallibleItertools: FallibleIterator {
         sorted_items(self.collect(alloc))
     }
 
-    /// The items in a `Vec`, in the order of the keys that the closure makes of them. Items of equal keys keep their order.
+    /// Returns the items in a `Vec`, in the order of the keys that the closure returns for them. Items with equal keys keep their order.
     ///
-    /// It draws and fails as `sorted` does. The closure doesn't fail, and is called on an item as often as its key is compared, after the last draw: a key that may fail is made by `map` before. It consumes the iterator, and no clause says what is left.
+    /// Draws and errors: as `sorted`. The closure doesn't fail; a key that may fail is made by `map` before. The closure is called after the last draw, on an item as often as its key is compared. It consumes the iterator, and no clause says what is left.
     ///
-    /// Requires that `next` may be called, a bound, and that the closure may always be called.
+    /// Requires that `next` may be called and that the iterator is finite, and that the closure may be called on a reference to any item at any time.
     ///
     /// ```
     /// convert(readings.into_iter()).sorted_by_key(alloc, |reading: &u32| *reading % 10)
@@ -1026,7 +1026,7 @@ pub trait FallibleItertools: FallibleIterator {
         sorted_items_by_key(self.collect(alloc), f)
     }
 
-    /// The items as they are shown, with the separator between each two.
+    /// Returns the items as `Display` shows them, with the separator between each two.
     ///
     /// It draws up to `Ok(None)`, the first failure or an item that can't be appended. It fails with `Fault::Source` of the first failure. It fails with `Fault::Memory` if the last item drawn couldn't be appended: an allocation failed, or its `Display` did. It consumes the iterator, and no clause says what is left.
     ///
@@ -1131,7 +1131,7 @@ pub trait FallibleItertools: FallibleIterator {
 
     /// Yields the items in batches of n. A batch before an `Ok(None)` or a failure may have fewer.
     ///
-    /// Making it draws nothing and takes no memory. One call draws until the batch has n items, or a stop comes: an end or a failure. The batch that is held is yielded first, if there is one, and the stop is the next answer, which takes no draw. A batch takes room for n items at once, or for 1024 if n is more.
+    /// Creating it draws nothing and allocates nothing. `next` draws until the batch has n items, or a stop comes: `Ok(None)` or a failure. A buffered batch is yielded first. The stop is what the next call returns, without a draw. A new batch has room for n items at once, or for 1024 if n is more.
     ///
     /// It fails as the source does. If an allocation fails, for the first item of a batch or for one for which the batch has no room, the failure converted from `AllocError` is a stop too: that item is lost, and no other. After a failure and after `Ok(None)` the next call draws again.
     ///
@@ -1162,7 +1162,7 @@ pub trait FallibleItertools: FallibleIterator {
 
     /// Yields groups of adjacent items with equal keys, each with its key.
     ///
-    /// Making it draws nothing, calls nothing and takes no memory. One call draws until an item has another key than the group that is held, or a stop comes: an end or a failure. It makes the key of each item once. The group that is held is yielded first, if there is one, and the stop is the next answer, which takes no draw. Behind a stop a new group begins. A group takes room at once for as many items as the one that it follows has, or for 1024 if it has more.
+    /// Creating it draws nothing, calls nothing and allocates nothing. `next` draws until an item has another key than the buffered group, or a stop comes: `Ok(None)` or a failure. It calls the closure once on each item. A buffered group is yielded first. The stop is what the next call returns, without a draw. After a stop a new group begins. A new group has room at once for as many items as the one that it follows has, or for 1024 if that has more.
     ///
     /// It fails as the source does. The closure's failure is a stop too, and so is the failure converted from `AllocError` if an allocation fails. Then the item is lost, and no other. After a failure and after `Ok(None)` the next call draws again.
     ///

@@ -1,4 +1,4 @@
-// The adapter that joins the items of two sources up to the end of the longer one.
+// The adapter that pairs the items of two sources up to `Ok(None)` of both.
 ghost use Rattle.std.specs.Prelude.{◌≡◌, Option, Result, None, is_some, unwrap_or};
 ghost use Rattle.fallible_iterator.specs.Contract.{seen_as};
 ghost use Rattle.fallible_iterator.specs.Laws.Contract.{lawful_seen};
@@ -20,42 +20,42 @@ pub enum EitherOrBoth<A, B> {
 }
 
 impl<A, B> EitherOrBoth<A, B> {
-    /// Whether there is an item of the left.
+    /// Returns whether there is an item of the left.
     pub fn has_left(&self) -> bool
         ensures { result ≡ is_some (left_of self.now) }
     {
         matches!(self, EitherOrBoth::Both(_, _) | EitherOrBoth::Left(_))
     }
 
-    /// Whether there is an item of the right.
+    /// Returns whether there is an item of the right.
     pub fn has_right(&self) -> bool
         ensures { result ≡ is_some (right_of self.now) }
     {
         matches!(self, EitherOrBoth::Both(_, _) | EitherOrBoth::Right(_))
     }
 
-    /// Whether there is an item of the left alone.
+    /// Returns whether there is an item of the left alone.
     pub fn is_left(&self) -> bool
         ensures { result ≡ is_some (only_left self.now) }
     {
         matches!(self, EitherOrBoth::Left(_))
     }
 
-    /// Whether there is an item of the right alone.
+    /// Returns whether there is an item of the right alone.
     pub fn is_right(&self) -> bool
         ensures { result ≡ is_some (only_right self.now) }
     {
         matches!(self, EitherOrBoth::Right(_))
     }
 
-    /// Whether there is an item of each.
+    /// Returns whether there is an item of each.
     pub fn is_both(&self) -> bool
         ensures { result ≡ is_some (both_of self.now) }
     {
         matches!(self, EitherOrBoth::Both(_, _))
     }
 
-    /// The item of the left, if there is one.
+    /// Returns the item of the left, if there is one.
     pub fn left(self) -> Option<A>
     where
         B: Drop,
@@ -68,7 +68,7 @@ impl<A, B> EitherOrBoth<A, B> {
         }
     }
 
-    /// The item of the right, if there is one.
+    /// Returns the item of the right, if there is one.
     pub fn right(self) -> Option<B>
     where
         A: Drop,
@@ -81,7 +81,7 @@ impl<A, B> EitherOrBoth<A, B> {
         }
     }
 
-    /// The items, if there is one of each.
+    /// Returns both items, if there is one of each.
     pub fn both(self) -> Option<(A, B)>
     where
         A: Drop,
@@ -95,7 +95,7 @@ impl<A, B> EitherOrBoth<A, B> {
         }
     }
 
-    /// The item of the left, if there is none of the right.
+    /// Returns the item of the left, if there is none of the right.
     pub fn just_left(self) -> Option<A>
     where
         A: Drop,
@@ -109,7 +109,7 @@ impl<A, B> EitherOrBoth<A, B> {
         }
     }
 
-    /// The item of the right, if there is none of the left.
+    /// Returns the item of the right, if there is none of the left.
     pub fn just_right(self) -> Option<B>
     where
         A: Drop,
@@ -123,7 +123,7 @@ impl<A, B> EitherOrBoth<A, B> {
         }
     }
 
-    /// The same, left and right exchanged.
+    /// Returns the items with left and right exchanged.
     pub fn flip(self) -> EitherOrBoth<B, A>
         ensures { (left_of result ≡ right_of self) × (right_of result ≡ left_of self) }
     {
@@ -134,7 +134,7 @@ impl<A, B> EitherOrBoth<A, B> {
         }
     }
 
-    /// An item of each: `l` and `r` stand for one that there isn't.
+    /// Returns an item of each. `l` stands for a missing item of the left, and `r` for one of the right.
     pub fn or(self, l: A, r: B) -> (A, B)
     where
         A: Drop,
@@ -149,7 +149,7 @@ impl<A, B> EitherOrBoth<A, B> {
     }
 }
 
-/// The items of two sources, place by place, up to the end of both. A failure of the left is the answer, and then the right isn't drawn. A failure of the right is the answer, and the left's item beside it is held for the next call.
+/// The items of two sources by their positions, up to `Ok(None)` of both. If the left fails, the right isn't drawn. If the right fails, the left's item is buffered for the next call.
 #[derive(Clone, Debug, Drop)]
 pub struct ZipLongest<T: FallibleIterator, U> {
     pub(crate) left: Holding<T, T::Item>,

@@ -85,7 +85,7 @@ where
         → SoundHints ⟦<Coalesce<I, F> as FallibleIterator>⟧.contract s }
 {}
 
-/// The answers of `DedupBy` are the stop that is due, the first of adjacent items that the closure finds the same, each where the next one that differs stands or a stop, and each stop after what was held before it. The closure's failure is a stop.
+/// The answers of `DedupBy` are the stop that is due, and then the first of adjacent items that the closure finds the same: each stands where the next one that differs or a stop came, and each stop after what was buffered before it. The closure's failure is a stop.
 pub fn law_dedup_by<I: FallibleIterator, F: FnMut(&I::Item, &I::Item) -> Result<bool, I::Error>>()
 where
     I::Item: Drop,
@@ -100,7 +100,7 @@ pub fn law_deduped_by<T, E>()
         → deduped_by h (a ++ Err e ∷ b) ≡ deduped_by h a ++ Err e ∷ deduped_by h b }
 {}
 
-/// Each hint of `DedupBy` is as sound as the hint of its source that it is made of; where a stop is due it is sound by itself.
+/// Each hint of `DedupBy` is as sound as the hint of its source that it is made of; if a stop is due it is sound by itself.
 pub fn law_hints_dedup_by<
     I: FallibleIterator,
     F: FnMut(&I::Item, &I::Item) -> Result<bool, I::Error>,
@@ -116,7 +116,7 @@ where
         → SoundHints ⟦<DedupBy<I, F> as FallibleIterator>⟧.contract s }
 {}
 
-/// The answers of `DedupByKey` are the stop that is due, the first of adjacent items with equal keys, each where the next one that differs stands or a stop, and each stop behind what was held before it. The closure's failure is a stop.
+/// The answers of `DedupByKey` are the stop that is due, and then the first of adjacent items with equal keys: each stands where the next one that differs or a stop came, and each stop after what was buffered before it. The closure's failure is a stop.
 pub fn law_dedup_by_key<
     I: FallibleIterator,
     K: PartialEq + Drop,

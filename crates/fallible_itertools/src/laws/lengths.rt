@@ -1,4 +1,4 @@
-// Of the list words: how long what they make is, and what stands at each place.
+// The laws of the words of lists: how long what they make is, and what stands at each position.
 ghost use Rattle.std.specs.Prelude.{◌≡◌, ℕ, ◌+◌, ◌-◌, ◌*◌, ◌++◌, List, Ok, Option, Result, IsPermutation, drop, length, max, option_map, sum_by, zip};
 ghost use Rattle.fallible_iterator.specs.BothEnds.{items_listed, failures_listed};
 ghost use Rattle.fallible_iterator.specs.Lists.{nth_of, on_value};
@@ -7,7 +7,7 @@ ghost use Rattle.fallible_itertools.specs.Join.{joined};
 ghost use Rattle.fallible_itertools.specs.TupleWindows.{windowed};
 ghost use Rattle.fallible_itertools.specs.ZipLongest.{longest, zipped_longest};
 
-/// Of n items come 2n - 1, or none. At the even places stand the items, at the odd ones between them the separator. The failures are the list's.
+/// `interspersed` makes 2n - 1 items of n, and none of none. The items stand at the even positions, and the separator at the odd ones between them. The failures are the list's.
 pub fn law_interspersed<T, E>()
     ensures length { (s : T) (l : List (Result T E))
         → length (items_listed (interspersed s l)) ≡ 2 * length (items_listed l) - 1 }
@@ -20,7 +20,7 @@ pub fn law_interspersed<T, E>()
         → failures_listed (interspersed s l) ≡ failures_listed l }
 {}
 
-/// Of n items come n - 1 pairs, or none: each item but the last beside the next one. The failures are the list's.
+/// `windowed` makes n - 1 pairs of n items, and none of none: each item but the last, with the next one. The failures are the list's.
 pub fn law_windowed<T, E>()
     ensures length { (l : List (Result T E))
         → length (items_listed (windowed l)) ≡ length (items_listed l) - 1 }
@@ -30,7 +30,7 @@ pub fn law_windowed<T, E>()
         → failures_listed (windowed l) ≡ failures_listed l }
 {}
 
-/// As many come as the longer list has items. At each place before a failure stand the items of both lists, or the one that is there. The failures are those of both lists.
+/// `zipped_longest` makes as many items as the longer list has. Each position before a failure has the items of both lists, or the one that is there. The failures are those of both lists.
 pub fn law_zipped_longest<T, U, E>()
     ensures length { (a : List (Result T E)) (b : List (Result U E))
         → length (items_listed (zipped_longest a b))

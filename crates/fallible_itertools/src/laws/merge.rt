@@ -6,7 +6,7 @@ ghost use Rattle.fallible_itertools.specs.Merge.{MergeTrace, merge_left, merge_p
 use crate::merge::Merge;
 use fallible_iterator::FallibleIterator;
 
-/// A trace of `Merge` has an answer for each place: the left's failure, without a draw of the right, of which what is held stays; the right's failure, behind which the left's item stands at the next place too; else the lesser of two items, where the other is held, an item alone, or an end.
+/// A trace of `Merge` has an answer for each position. The left's failure takes no draw of the right, whose buffered item stays. After the right's failure the left's item stands at the next position too. Otherwise the answer is the first of two items by their order, which buffers the other, or an item alone, or `Ok(None)`.
 pub fn law_merge<T: FallibleIterator, U: FallibleIterator<Item = T::Item, Error = T::Error>>()
 where
     T::Item: PartialOrd + Drop,
