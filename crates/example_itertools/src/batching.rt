@@ -16,7 +16,7 @@ use std::alloc::{AllocError, Global};
 pub enum NoBatch {
     /// A reading failed, with this code.
     Failed(u8),
-    /// Memory doesn't suffice.
+    /// An allocation failed.
     Memory,
 }
 
@@ -25,7 +25,7 @@ impl From<AllocError> for NoBatch {
 
     ghost from_gives = { λ refused why. why ≡ Memory };
 
-    /// `NoBatch::Memory`
+    /// Returns `NoBatch::Memory`.
     fn from(_: AllocError) -> NoBatch {
         NoBatch::Memory
     }

@@ -76,7 +76,7 @@ pub fn sorted_by_last_digit(
     convert(readings.into_iter()).sorted_by_key(alloc, |reading: &u32| *reading % 10)
 }
 
-/// The reading with n readings behind it.
+/// The reading with n readings after it.
 pub fn nth_last(readings: Vec<Result<u32, u8>>, n: usize) -> Result<Option<u32>, u8>
     ensures { result ≡ nth_of n (reversed (results readings.items)) }
 {

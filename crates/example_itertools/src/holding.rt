@@ -80,7 +80,7 @@ pub fn changes_of_tens(readings: Vec<Result<u32, u8>>) -> Result<usize, u8>
         .count()
 }
 
-/// How many readings are left where each that is below the one before it is put to that, or the first failure.
+/// How many readings are left if each that is below the one before it is merged with that, or the first failure.
 pub fn peaks(readings: Vec<Result<u32, u8>>) -> Result<usize, u8>
     ensures { result ≡ counted (coalesced
         (λ x y. Ok (if nat_lt y x then Ok x else Err (x, y))) (results readings.items)) }

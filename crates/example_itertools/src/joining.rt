@@ -43,7 +43,7 @@ pub fn last_of_both(
         .last()
 }
 
-/// Whether two columns have the same last digits, place by place, or the first failure.
+/// Whether two columns have the same last digits, position by position, or the first failure.
 pub fn same_last_digits(left: Vec<Result<u32, u8>>, right: Vec<Result<u32, u8>>) -> Result<bool, u8>
     ensures { result ≡ equal_by (λ x y. Ok (nat_eq (x % 10) (y % 10)))
         (results left.items) (results right.items) }

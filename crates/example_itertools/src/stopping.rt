@@ -1,4 +1,4 @@
-//! Folds that stop before the end, items and keys that come in order, and items that are equal.
+//! Folds that may stop early, items and keys that come in order, and items that are equal.
 ghost use Rattle.std.specs.Prelude.{◌≡◌, true, nat_eq, ◌+◌, ◌%◌, ◌^◌, ℕ, eqb, List, Result, Ok, Err, if◌then◌else◌, nat_lt};
 ghost use Rattle.std.specs.Ordering.{nat_cmp};
 ghost use Rattle.fallible_iterator.specs.Comparing.{by_cmp};

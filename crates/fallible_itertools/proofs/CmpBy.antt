@@ -42,7 +42,7 @@ right_fails turns c (Some x) e = refl
 
 -- ---- over lists
 
--- The turns act as h: they leave the state as it is, go on where h finds two items equal, and stop with what h answers elsewhere.
+-- The turns act as h: they leave the state as it is, go on where h finds two items equal, and stop with what h returns elsewhere.
 pub record TurnsAs {A B E C : Type 0} (turns : C → A × B → ControlFlow (Result (Option Ordering) E) (Unit {0}) → C → Type 0) (h : A → B → Result (Option Ordering) E) (c : C) : Type 0 where
   pub goes : (p : A × B) (d : C) → turns c p (Continue tt) d → (d ≡ c) × (h p.0 p.1 ≡ Ok (Some Equal))
   pub stops : (p : A × B) (r : Result (Option Ordering) E) (d : C) → turns c p (Break r) d → (h p.0 p.1 ≡ r) × ¬ (r ≡ Ok (Some Equal))

@@ -12,12 +12,12 @@ use Rattle.std.specs.declared.alloc.Global.{Global}
 use Rattle.std.specs.declared.alloc.AllocError.{AllocError}
 use Rattle.fallible_itertools.specs.declared.chunks.Chunks.{Chunks}
 
--- what is held has the item behind what was, and so many items
+-- what is held has the item after those that were, and so many items
 abbrev pub Grows : {A : Type 0} → Option (Vec A Global) → A → Option (Vec A Global) → ℕ → Type 0
 Grows held x None count = ⊥
 Grows held x (Some w) count = Grown held x w × (count ≡ length (vec_items w))
 
--- the batch that is held is answered, and an end where none is
+-- the batch that is held is yielded, and an end is returned where none is
 abbrev pub LetsGo : {A E : Type 0} → Option (Vec A Global) → Outcome (Vec A Global) E → Option (Vec A Global) → Type 0
 LetsGo None o q = (o ≡ End) × (q ≡ None)
 LetsGo (Some v) o q = (o ≡ Kept v) × (q ≡ None)

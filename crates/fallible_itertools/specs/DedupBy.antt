@@ -1,4 +1,4 @@
--- `DedupBy`, which gives of adjacent items that a closure finds the same the first.
+-- `DedupBy`, which yields the first of adjacent items that a closure finds the same.
 use Rattle.std.specs.Prelude.{◌≡◌, Bool, true, false, Option, Some, None, Result, Ok, Err, List, [], ◌∷◌, ⊤}
 use Rattle.std.specs.Fn.{Mut}
 use Rattle.std.specs.Borrow.{Bor}
@@ -10,7 +10,7 @@ use Rattle.fallible_iterator.specs.Outcome.{Outcome}
 use Rattle.fallible_iterator.specs.Outcome.TheVariants.{Kept, LeftOut, Failure, End}
 use Rattle.fallible_itertools.specs.declared.dedup_by.DedupBy.{DedupBy}
 
--- What becomes of an item x beside the item y that is held, by the closure's answer: it is left out where they are the same, and else y is answered and x is held; where the closure fails, x is lost, and nothing else is.
+-- What becomes of an item x beside the item y that is held, by the closure's result: x is left out if they are the same, and otherwise y is yielded and x is held; if the closure fails, x is lost, and nothing else is.
 abbrev pub found_same : {A E : Type 0} → A → A → Result Bool E → Outcome A E → Option A → Type 0
 found_same y x (Ok true) o q = (o ≡ LeftOut) × (q ≡ Some y)
 found_same y x (Ok false) o q = (o ≡ Kept y) × (q ≡ Some x)
@@ -56,13 +56,13 @@ dedup_by_parts s = (s.it, (s.comparing, s.due))
 
 -- ---- what it lists
 
--- what stands before the rest, by the closure's answer on the item y that is held and the next one, x; `rest` is the list of what comes where that item is held, or none
+-- what stands before the rest, by the closure's result on the item y that is held and the next one, x; `rest` is the list of what comes where that item is held, or none
 abbrev pub same_before : {A E : Type 0} → A → A → Result Bool E → (Option A → List (Result A E)) → List (Result A E)
 same_before y x (Ok true) rest = rest (Some y)
 same_before y x (Ok false) rest = Ok y ∷ rest (Some x)
 same_before y x (Err e) rest = Ok y ∷ Err e ∷ rest None
 
--- the same as `deduped_by`, where an item may be held before the list
+-- what `deduped_by` makes of the list, if an item is held before it, or none is
 unfoldable pub deduped_by_from : {A E : Type 0} → (A → A → Result Bool E) → Option A → List (Result A E) → List (Result A E)
 deduped_by_from h None [] = []
 deduped_by_from h (Some y) [] = Ok y ∷ []

@@ -2,7 +2,7 @@
 use Rattle.std.specs.Prelude.{◌≡◌, Bool, true, Option, Some, None, Result, Ok, Err, List, [], ◌∷◌}
 use Rattle.fallible_iterator.specs.Lists.{any_of, all_of, rest_true, rest_false}
 
--- One test of an item that fails nowhere and changes nothing: its answer is what `test` says of the item.
+-- One test of an item that fails nowhere and changes nothing: it returns what `test` says of the item.
 abbrev pub TestCall : {A E : Type 0} → (A → Bool) → Unit {0} → A → Result Bool E → Unit {0} → Type 0
 TestCall test u x r w = r ≡ Ok (test x)
 

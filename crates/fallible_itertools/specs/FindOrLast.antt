@@ -20,13 +20,13 @@ module _ {A E F : Type 0} (call : F → A → Result Bool E → F → Type 0) wh
   IsFindLastTurn p x (Continue u) q = WentOn call find_pick p.1 x q.1 × (q.0 ≡ Some x)
   IsFindLastTurn p x (Break r) q = (n : ℕ) → Decided call find_pick n p.1 x r q.1
 
-  -- The search with the predicate f over the items and the last answer found `found`, and the answer is that or else the last of the items.
+  -- The search with the predicate f over the items and the last answer found `found`, and the result is that or else the last of the items.
   pub record FoundOrLastBy (f : F) (r : Result (Option A) E) (g : F) (items : List A) (last : Answered A E) : Type 0 where
     pub found : Result (Option A) E
     pub search : SearchedBy call find_pick None f found g items last
     pub answer : r ≡ found_or found (Ok (last_or None items))
 
-  -- The draws from s answered items and a last answer, and left t, by which the search with f, or else the last of the items, is r.
+  -- The draws from s returned items and a last answer, and left t, by which the search with f, or else the last of the items, is r.
   abbrev pub FoundOrLast : {S : Type 0} → (S → Answered A E → S → Type 0) → S → F → Result (Option A) E → S → F → Type 0
   FoundOrLast steps s f r t g = Drained steps (FoundOrLastBy f r g) s t
 

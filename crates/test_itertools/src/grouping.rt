@@ -36,14 +36,14 @@ const NINE: [Drawn; 9] = [
     Ok(Some(9)),
 ];
 
-// How many items a batch has, what the source answers, and what the batches are, as digits.
+// How many items a batch has, what the source returns, and what the batches are, as digits.
 const BATCHES: [(usize, &[Drawn], &[Answer<u32, TestError>]); 5] = [
     (2, &FOUR, &[Item(12), Item(34), End, End]),
     (3, &FOUR, &[Item(123), Item(4), End]),
     (1, &FOUR, &[Item(1), Item(2), Item(3), Item(4), End]),
-    // A batch of nine grows again and again.
+    // A batch of nine items grows more than once.
     (9, &NINE, &[Item(123456789), End]),
-    // An end and a failure come behind the short batch, and the next call goes on.
+    // An end and a failure come after the short batch, and the next call goes on.
     (
         2,
         &[
@@ -167,7 +167,7 @@ const GROUPS: [Answer<(bool, u32), TestError>; 11] = [
     End,
 ];
 
-// The last group has nine items, so it grows again and again.
+// The last group has nine items, so it grows more than once.
 const HUNDREDS: [Result<u32, TestError>; 11] = [
     Ok(110),
     Ok(230),

@@ -104,7 +104,7 @@ fn dedup_by_key_loses_the_item_without_a_key_alone(rt: HostRuntime) -> Result<()
     Ok(())
 }
 
-// The tens are compared. That fails on 77, of which dedup_by_key makes no key, so the same comes.
+// The tens are compared. That fails on 77, for which dedup_by_key makes no key, so both yield the same.
 #[test]
 fn dedup_by_loses_the_item_that_it_failed_on_alone(rt: HostRuntime) -> Result<(), Fail> {
     for (answers, drawn, expected) in &DEDUPED_TENS {

@@ -102,7 +102,7 @@ const TWO: [Result<u32, u32>; 2] = [Ok(1), Ok(2)];
 
 const ONE: [Result<u32, u32>; 1] = [Ok(3)];
 
-// By their order the same comes.
+// `merge` yields the same.
 #[test]
 fn merge_holds_one_item_of_each_side(rt: HostRuntime) -> Result<(), Fail> {
     let (left, right, course) = &MERGED[0];

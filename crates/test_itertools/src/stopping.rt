@@ -70,10 +70,10 @@ fn keys_are_sorted_up_to_the_first_that_goes_down() -> Result<(), Fail> {
     Ok(())
 }
 
-// What a call answers, and what the next draw answers.
+// What a call returns, and what the next draw returns.
 type Told = (Result<bool, u32>, Drawn);
 
-// The answers, and what `contains(&7)`, `all_equal`, `is_sorted` and `find_or_last` of 7 answer.
+// The answers, and what `contains(&7)`, `all_equal`, `is_sorted` and `find_or_last` of 7 return.
 const SEARCHED: [(Numbers, [Told; 3], (Drawn, Drawn)); 5] = [
     (
         &[],

@@ -12,7 +12,7 @@ module _ {A E : Type 0} (P : A → A → Type 0) where
   Next x (Ok y ∷ l) = P x y
   Next x (Err e ∷ l) = ⊤
 
-  -- the same as `AdjacentItems`
+  -- what `AdjacentItems` says, by recursion
   abbrev pub EachNext : List (Result A E) → Type 0
   EachNext [] = ⊤
   EachNext (Ok x ∷ l) = Next x l × EachNext l

@@ -16,7 +16,7 @@ use Rattle.fallible_iterator.specs.Outcome.TheVariants.{Kept, LeftOut, Failure, 
 use Rattle.fallible_itertools.specs.declared.chunks.Chunks.{Chunks}
 
 module _ {A E : Type 0} (from : AllocError → E → Type 0) where
-  -- a batch that has too few items with the item behind it is left out
+  -- an item is left out if the batch has too few items with it
   pub grown_left_out : (n : ℕ) (held left : Option (Vec A Global)) (x : A) (count : ℕ) → Grows held x left count → count < n → chunks_asks from (n, held) (Some x) LeftOut (n, left)
   grown_left_out n held None x count grown few = absurd grown
   grown_left_out n held (Some w) x count (grown, is) few = (w, grown, subst (λ k. k < n) is few, refl)

@@ -27,7 +27,7 @@ module _ {A E F : Type 0} (call : F → A → Result Bool E → F → Type 0) wh
   found_exit (Err e) n c d answer h = (ap (answer_by None) h.0, ap (λ p. p.1) h.1)
   found_exit (Ok (Some x)) n c d answer h = subst (λ (z : Result (Option A) E). Decided call find_pick n c.1 x z d.1) (sym (ap (answer_by None) h.2)) (h.1 n)
 
-  -- where the predicate decided, nothing else is asked
+  -- where the predicate decided, it isn't called again
   decided_or : (n : ℕ) (f : F) (x : A) (stop : Result (Option A) E) (g : F) (a b : Result (Option A) E) → Decided call find_pick n f x stop g → found_or stop a ≡ found_or stop b
   decided_or n f x (Ok (Some y)) g a b d = refl
   decided_or n f x (Ok None) g a b d = absurd (finds_one n x d.0 d.2)

@@ -15,7 +15,7 @@ module _ {A K : Type 0} (E : Type 0) (eq : K → K → Bool) (h : A → Result K
   abbrev keyed : K × List A → A → Result K E → List (Result A E) → List (Result (K × List A) E)
   keyed g x v l = by_its_key eq h (Some g) v (λ k. group_or eq h g (eq g.0 k) (chunked_by_from eq h (Some (g.0, g.1 ++ x ∷ [])) l) (chunked_by_from eq h (Some (k, x ∷ [])) l)) (chunked_by_from eq h None l)
 
-  -- the same where none is held
+  -- what comes at an item, by its key v, where no group is held
   abbrev begun : A → Result K E → List (Result A E) → List (Result (K × List A) E)
   begun x v l = by_its_key eq h None v (λ k. chunked_by_from eq h (Some (k, x ∷ [])) l) (chunked_by_from eq h None l)
 

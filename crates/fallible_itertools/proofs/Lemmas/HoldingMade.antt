@@ -19,14 +19,14 @@ OutcomeMade made LeftOut LeftOut = ⊤
 OutcomeMade made End End = ⊤
 OutcomeMade made a b = ⊥
 
--- what is answered at a stop is no failure, and P holds of an item
+-- what is returned at a stop is no failure, and P holds of an item
 abbrev pub IfKept : {B E : Type 0} → (B → Type 0) → Outcome B E → Type 0
 IfKept P (Kept y) = P y
 IfKept P LeftOut = ⊤
 IfKept P (Failure e) = ⊥
 IfKept P End = ⊤
 
--- a failure that is made of a refusal
+-- a failure that is converted from an `AllocError`
 abbrev pub Refuses : {B E : Type 0} → (AllocError → E → Type 0) → Outcome B E → Type 0
 Refuses {E = E} from o = (e : E) × (o ≡ Failure e) × IsRefusal from e
 
@@ -89,7 +89,7 @@ module _ {S P Q X Y B E : Type 0} (steps : S → Answered X E → S → Type 0) 
   due_next : (e : E) → IsRefusal from e → (t : S) (q : P × Option (Option E)) → q.1 ≡ Some (Some e) → RefusesNext Steps from (t, q)
   due_next e is t q due = subst (λ (d : Option (Option E)). RefusesNext Steps from (t, (q.0, d))) (sym due) (refusal_due e is t q.0)
 
-  -- a stop that is a refusal: it is answered, or is due
+  -- a stop that is an allocation failure: it is returned, or is due
   refused_by : (e : E) → IsRefusal from e → (o : Outcome B E) (r : Answered B E) (t : S) (q : P × Option (Option E)) → IfKept (λ y. (z : Y) × made z y) o → BeforeStop (Some e) o r q.1 → Refused r (t, q)
   refused_by e is (Kept y) r t q m w = inr (m.0, y, m.1, w.0, due_next e is t q w.1)
   refused_by e is (Failure d) r t q m w = absurd m

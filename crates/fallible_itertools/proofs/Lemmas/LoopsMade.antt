@@ -1,4 +1,4 @@
--- Loops by hand over what lists values that are made of a list's items, up to a refusal.
+-- Loops by hand over what lists values that are made of a list's items, up to an allocation failure.
 use Rattle.std.specs.Prelude.{◌≡◌, Some, None, Result, Ok, Err, List, [], ◌∷◌, ◌⊎◌}
 use Rattle.std.proofs.Common.{refl, sym, ap, subst, inl, inr, ◌∙◌}
 use Rattle.fallible_iterator.specs.Traces.{Answered}
@@ -7,21 +7,21 @@ use Rattle.fallible_iterator.proofs.Lemmas.Making.{end_told, failed_result, fail
 use Rattle.std.specs.declared.alloc.AllocError.{AllocError}
 
 module _ {S X B E C R : Type 0} (made : X → B → Type 0) (steps : S → Answered B E → S → Type 0) (from : AllocError → E → Type 0) (answers : C → List (Result X E) → R) where
-  -- what the whole answers is what the rest that s lists answers from c on
+  -- what the whole returns is what the rest that s lists returns from c on
   pub record RestFromHere (whole : R) (s : S) (c : C) : Type 0 where
     pub rest : List (Result X E)
     pub lists : ListsMade made steps from s rest
     pub same : whole ≡ answers c rest
 
-  -- It is so, unless the next answer is a refusal.
+  -- It is so, unless the next answer is an allocation failure.
   abbrev pub OrRefusesNext : R → S → C → Type 0
   OrRefusesNext whole s c = RefusesNext steps from s ⊎ RestFromHere whole s c
 
-  -- Whatever whole s0 lists, what it answers from c0 on is what the rest that s lists answers from c on, unless the next answer is a refusal.
+  -- Whatever whole s0 lists, what it returns from c0 on is what the rest that s lists returns from c on, unless the next answer is an allocation failure.
   pub record MadeFromHere (s0 : S) (c0 : C) (s : S) (c : C) : Type 0 where
     pub at : (whole : List (Result X E)) → ListsMade made steps from s0 whole → OrRefusesNext (answers c0 whole) s c
 
-  -- an item is made of one that was held, before a refusal, or of the list's
+  -- an item is made of one that was held, before an allocation failure, or of the list's
   abbrev ItemFrom : Result X E → B → S → Type 0 → Type 0
   ItemFrom z y t G = ((x : X) × made x y × RefusesNext steps from t) ⊎ ((x : X) × (z ≡ Ok x) × made x y × G)
 
@@ -37,7 +37,7 @@ module _ {S X B E C R : Type 0} (made : X → B → Type 0) (steps : S → Answe
   after_item y (inl r) drawn same = absurd (let h = (r _ _ drawn).1 in cc)
   after_item y (inr here) drawn same = at_item y here.rest here.lists.runs here.same drawn same
 
-  -- a failure is a refusal, or the first of the rest
+  -- a failure is an allocation failure, or the first of the rest
   abbrev FailedBy : R → C → E → Type 0
   FailedBy whole c e = IsRefusal from e ⊎ ((k : List (Result X E)) × (whole ≡ answers c (Err e ∷ k)))
 
@@ -79,7 +79,7 @@ by_failure : {X E V T C : Type 0} (into : V → T → Type 0) (from : AllocError
 by_failure into from answers c e whole same (inl w) = refused_result into from whole e w
 by_failure into from answers c e whole same (inr k) = failed_result into from whole e (k.1 ∙ same k.0)
 
--- Where the loop answers a result, it is told, or a refusal failed it.
+-- Where the loop returns a result, it is told, or an allocation failed.
 module _ {S X B E C V T : Type 0} {made : X → B → Type 0} {steps : S → Answered B E → S → Type 0} {from : AllocError → E → Type 0} {answers : C → List (Result X E) → Result V E} (into : V → T → Type 0) {s0 s t : S} {c0 c : C} {r : Answered B E} where
   -- at a failure, with which the loop is left
   pub fails_told : (e : E) → MadeFromHere made steps from answers s0 c0 s c → steps s r t → r ≡ Err e → ((k : List (Result X E)) → answers c (Err e ∷ k) ≡ Err e) → (whole : List (Result X E)) → ListsMade made steps from s0 whole → IsToldOrRefused into from (answers c0 whole) (Err e)

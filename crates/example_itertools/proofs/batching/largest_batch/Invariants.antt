@@ -1,4 +1,4 @@
--- A bound is counted down, and what the whole answers is what the rest answers from here.
+-- A bound is counted down, and what the whole returns is what the rest returns from here.
 use Rattle.std.specs.Prelude.{◌≡◌, Ok, length, max, vec_items}
 use Rattle.fallible_iterator.specs.Lists.{folded}
 use Rattle.fallible_iterator.proofs.Lemmas.Loops.{CountsDown}

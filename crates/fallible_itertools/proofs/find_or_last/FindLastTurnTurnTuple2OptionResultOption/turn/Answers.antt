@@ -1,4 +1,4 @@
--- The predicate's answer decides.
+-- What the predicate returns decides.
 use Rattle.std.proofs.Common.{refl}
 use Rattle.fallible_itertools.proofs.find_or_last.FindLastTurnTurnTuple2OptionResultOption.turn.Goals as goal
 

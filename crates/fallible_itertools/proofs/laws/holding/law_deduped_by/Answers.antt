@@ -1,4 +1,4 @@
--- A failure is a stop, behind which nothing is held.
+-- A failure is a stop, after which nothing is held.
 use Rattle.fallible_itertools.proofs.Lemmas.DedupBy.{deduped_by_in_parts}
 use Rattle.fallible_itertools.proofs.laws.holding.law_deduped_by.Goals as goal
 
