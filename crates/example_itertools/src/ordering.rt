@@ -1,4 +1,4 @@
-//! Callers that state what the laws of the words of lists say of their result.
+//! Callers that state what the laws of the list words say of their result.
 ghost use Rattle.std.specs.Prelude.{◌≡◌, false, nat_eq, IfOk};
 ghost use Rattle.fallible_iterator.specs.Lists.{CollectedAs, results};
 ghost use Rattle.fallible_itertools.specs.Adjacent.{Adjacent};

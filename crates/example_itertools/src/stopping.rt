@@ -92,7 +92,7 @@ pub fn has_zero(readings: Vec<Result<u32, u8>>) -> Result<bool, u8>
     it.contains(&0)
 }
 
-/// The item after the first 0, or the first failure; `None` where there is no 0.
+/// The item after the first 0, or the first failure; `None` if there is no 0.
 pub fn after_zero(readings: Vec<Result<u32, u8>>) -> Result<Option<u32>, u8>
     ensures { contained nat_eq 0 (results readings.items) ≡ Ok true
         → result ≡ nth_of 0 (rest_contained nat_eq 0 (results readings.items)) }

@@ -1,4 +1,4 @@
-// The laws of the words of lists: how long what they make is, and what stands at each position.
+// The laws of the list words: how long what they make is, and what stands at each position.
 ghost use Rattle.std.specs.Prelude.{◌≡◌, ℕ, ◌+◌, ◌-◌, ◌*◌, ◌++◌, List, Ok, Option, Result, IsPermutation, drop, length, max, option_map, sum_by, zip};
 ghost use Rattle.fallible_iterator.specs.BothEnds.{items_listed, failures_listed};
 ghost use Rattle.fallible_iterator.specs.Lists.{nth_of, on_value};
