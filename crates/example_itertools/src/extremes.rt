@@ -56,10 +56,7 @@ pub fn tally(
 }
 
 /// The readings in order, or the first failure.
-pub fn readings_sorted(
-    alloc: Global,
-    readings: Vec<Result<u32, u8>>,
-) -> Result<Vec<u32>, Fault<u8>>
+pub fn readings_sorted(alloc: Global, readings: Vec<Result<u32, u8>>) -> Result<Vec<u32>, Fault<u8>>
     ensures { CollectedAs (IsSortedOf nat_cmp) (results readings.items) result }
 {
     convert(readings.into_iter()).sorted(alloc)

@@ -98,7 +98,11 @@ pub fn after_zero(readings: Vec<Result<u32, u8>>) -> Result<Option<u32>, u8>
         → result ≡ nth_of 0 (rest_contained nat_eq 0 (results readings.items)) }
 {
     let mut it = convert(readings.into_iter());
-    if it.contains(&0)? { it.draw() } else { Ok(None) }
+    if it.contains(&0)? {
+        it.draw()
+    } else {
+        Ok(None)
+    }
 }
 
 /// The first reading above 100, or else the last one, or the failure that comes before.

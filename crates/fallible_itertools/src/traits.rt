@@ -370,7 +370,11 @@ pub trait FallibleItertools: FallibleIterator {
     ///
     /// ```
     /// let mut it = convert(readings.into_iter());
-    /// if it.contains(&0)? { it.draw() } else { Ok(None) }
+    /// if it.contains(&0)? {
+    ///     it.draw()
+    /// } else {
+    ///     Ok(None)
+    /// }
     /// ```
     final fn contains(&mut self, wanted: &Self::Item) -> Result<bool, Self::Error>
     where
