@@ -1,68 +1,40 @@
--- What loops that print say at each turn.
-use Rattle.std.proofs.Common.{◌≡◌, ℕ, List, [], ◌++◌, Option, Result, Some, None, Ok, Err, OnOk, refl, sym, subst, ap, ◌∙◌, append_assoc, append-nil, vec_items}
-use Rattle.std.specs.Io.KnownBytes.{Appends}
-use Rattle.std.proofs.KnownBytes.{Appends-nil, Appends-trans}
-use Rattle.fallible_iterator.specs.Traces.{Answered}
-use Rattle.fallible_itertools.specs.Batch.{ListsUpToRefusal}
-use Rattle.fallible_itertools.proofs.Lemmas.LoopsMade.{MadeFromHere, begins, goes_on, ends}
-use Rattle.sum_groups.specs.Groups.{batch_line, batches_text, first_key, group_line, groups_text, line_of, report_of, same_refusal, text_of}
-use Rattle.sum_groups.specs.declared.groups.Row.{Row}
-use Rattle.fallible_itertools.specs.ChunkBy.{MadeGroup}
+-- What is written of groups and of batches is their text.
+use Rattle.std.proofs.Common.{◌≡◌, ℕ, List, [], ◌∷◌, ◌++◌, Result, Ok, Err, refl, sym, ap, ◌∙◌, append_assoc, append-nil, vec_items}
+use Rattle.std.specs.Prelude.{IfOk, MatchResult}
+use Rattle.fallible_iterator.specs.Lists.{folded}
+use Rattle.fallible_iterator.specs.Making.{IsToldOrRefused}
+use Rattle.sum_groups.specs.Groups.{text_of}
 use Rattle.std.specs.declared.vec.Vec.{Vec}
 use Rattle.std.specs.declared.alloc.Global.{Global}
 use Rattle.std.specs.declared.alloc.AllocError.{AllocError}
+use Rattle.sum_groups.specs.declared.fault.Fault.{Fault}
+use Rattle.sum_groups.specs.declared.fault.Fault.TheVariants.{Memory}
 
-module _ {S X B : Type 0} (made : X → B → Type 0) (steps : S → Answered B AllocError → S → Type 0) (from : AllocError → AllocError → Type 0) (line : X → List ℕ) where
-  -- what is written when the lines of the rest come after what was
-  abbrev pub with_lines : List ℕ → List (Result X AllocError) → List ℕ
-  with_lines written rest = written ++ text_of line rest
+-- a vector has the bytes
+abbrev pub has_bytes : List ℕ → Vec ℕ Global → Type 0
+has_bytes bytes v = vec_items v ≡ bytes
 
-  -- Of the whole text some was written so far, and what s still lists is the rest.
-  pub record PrintsFromHere (whole : List ℕ) (old now : Option (List ℕ)) (s : S) : Type 0 where
-    pub written : List ℕ
-    pub appended : Appends old now written
-    pub here : MadeFromHere made steps from with_lines whole s written
+-- what a refused request becomes
+abbrev pub no_memory : AllocError → Fault → Type 0
+no_memory refused fault = fault ≡ Memory
 
--- Whatever list of values the whole yields, of its text some was written so far, and what s still yields is the rest.
-abbrev pub PrintsOn : {S X B : Type 0} → (X → B → Type 0) → (S → Answered B AllocError → S → Type 0) → (X → List ℕ) → Option (List ℕ) → Option (List ℕ) → S → S → Type 0
-PrintsOn {X = X} made steps line old now s0 s = (l : List (Result X AllocError)) → ListsUpToRefusal made steps same_refusal s0 l → PrintsFromHere made steps same_refusal line (text_of line l) old now s
+-- a line was written, or was refused
+pub line_told : (v : Vec ℕ Global) (d line text : List ℕ) (r : Result (Vec ℕ Global) Fault) → MatchResult r (λ w. vec_items w ≡ vec_items v ++ line) (λ fault. fault ≡ Memory) → vec_items v ≡ d → line ≡ text → IsToldOrRefused has_bytes no_memory (Ok (d ++ text)) r
+line_told v d line text (Ok w) m bytes same = m ∙ ap (λ k. k ++ line) bytes ∙ ap (λ k. d ++ k) same
+line_told v d line text (Err e) m bytes same = (record {}, m)
 
-module _ {S X B : Type 0} {made : X → B → Type 0} {steps : S → Answered B AllocError → S → Type 0} {from : AllocError → AllocError → Type 0} {line : X → List ℕ} where
-  begins_at : {old : Option (List ℕ)} {s : S} (l : List (Result X AllocError)) → ListsUpToRefusal made steps from s l → PrintsFromHere made steps from line (text_of line l) old old s
-  begins_at {old = old} l lists = record { written = []; appended = Appends-nil old; here = begins made steps from (with_lines made steps from line) l lists }
+-- where the lines were folded to d, it is the text before them and theirs
+text_folded : {A E : Type 0} (line : A → List ℕ) (convert : E → Fault) (l : List (Result A E)) (a d : List ℕ) → folded convert (λ t x. Ok (t ++ line x)) a l ≡ Ok d → d ≡ a ++ text_of line l
+unfolding folded
+text_folded line convert [] a d is = let same : a ≡ d = (let e = is in cc) in sym same ∙ sym (append-nil a)
+text_folded line convert (Ok x ∷ l) a d is = text_folded line convert l (a ++ line x) d is ∙ append_assoc a (line x) (text_of line l)
+text_folded line convert (Err e ∷ l) a d is = absurd (let k = is in cc)
 
-  prints_at : {whole : List ℕ} {old now more : Option (List ℕ)} {s t : S} (y : B) {text : List ℕ} → PrintsFromHere made steps from line whole old now s → steps s (Ok (Some y)) t → ((x : X) → made x y → line x ≡ text) → Appends now more text → PrintsFromHere made steps from line whole old more t
-  prints_at {old = old} {now = now} {more = more} y {text = text} p drawn same printed = record { written = p.written ++ text; appended = Appends-trans old now more p.written text p.appended printed; here = goes_on made steps from (with_lines made steps from line) y p.here drawn (λ x k m. ap (λ z. p.written ++ (z ++ text_of line k)) (same x m) ∙ sym (append_assoc p.written text (text_of line k))) }
+by_told : (told : Result (List ℕ) Fault) (whole : List ℕ) (r : Result (Vec ℕ Global) Fault) → ((d : List ℕ) → told ≡ Ok d → d ≡ whole) → IsToldOrRefused has_bytes no_memory told r → IfOk r (λ v. vec_items v ≡ whole)
+by_told (Ok d) whole (Ok v) same m = m ∙ same d refl
+by_told (Err e) whole (Ok v) same m = absurd m
+by_told told whole (Err e) same m = tt
 
-  printed_at : {whole : List ℕ} {old now : Option (List ℕ)} {s t : S} → PrintsFromHere made steps from line whole old now s → steps s (Ok None) t → Appends old now whole
-  printed_at {old = old} {now = now} p drawn = subst (λ w. Appends old now w) (sym (ends made steps from (with_lines made steps from line) p.here drawn ∙ append-nil p.written)) p.appended
-
-module _ {S X B : Type 0} {made : X → B → Type 0} {steps : S → Answered B AllocError → S → Type 0} {line : X → List ℕ} {old : Option (List ℕ)} {s0 : S} where
-  -- before the first line
-  pub begins_printing : PrintsOn made steps line old old s0 s0
-  begins_printing l lists = begins_at l lists
-
-  -- after a line
-  pub prints : {now more : Option (List ℕ)} {s t : S} {r : Answered B AllocError} (y : B) {text : List ℕ} → PrintsOn made steps line old now s0 s → steps s r t → r ≡ Ok (Some y) → ((x : X) → made x y → line x ≡ text) → Appends now more text → PrintsOn made steps line old more s0 t
-  prints {s = s} {t = t} y on drawn is same printed l lists = prints_at y (on l lists) (subst (λ r. steps s r t) is drawn) same printed
-
-  -- at the end
-  pub printed : {now : Option (List ℕ)} {s t : S} {r : Answered B AllocError} → PrintsOn made steps line old now s0 s → steps s r t → r ≡ Ok None → (l : List (Result X AllocError)) → ListsUpToRefusal made steps same_refusal s0 l → Appends old now (text_of line l)
-  printed {s = s} {t = t} on drawn is l lists = printed_at (on l lists) (subst (λ r. steps s r t) is drawn)
-
--- a group's line is that of the group that it is made of
-pub same_group : (x : ℕ × List Row) (y : ℕ × Vec Row Global) → MadeGroup x y → group_line x ≡ line_of y.0 (vec_items y.1)
-same_group x y m = ap (λ k. line_of k x.1) (sym m.0) ∙ ap (λ rows. line_of y.0 rows) (sym m.1)
-
--- a batch's line is that of the batch that it is made of
-pub same_batch : (xs : List Row) (v : Vec Row Global) → vec_items v ≡ xs → batch_line xs ≡ line_of (first_key (vec_items v)) (vec_items v)
-same_batch xs v m = ap (λ rows. batch_line rows) (sym m)
-
--- what follows where it is `Ok`
-pub ok_with : {T E P Q : Type 0} (r : Result T E) → (P → Q) → OnOk r P → OnOk r Q
-ok_with (Ok x) f p = f p
-ok_with (Err e) f p = tt
-
--- the groups and then the batches of rows are the report
-pub printed_both : (rows : List Row) (old now more : Option (List ℕ)) → Appends old now (groups_text rows) → Appends now more (batches_text rows) → Appends old more (report_of rows)
-printed_both rows old now more groups batches = Appends-trans old now more (groups_text rows) (batches_text rows) groups batches
+-- what a fold of lines answers is the text
+pub printed : {A E : Type 0} (line : A → List ℕ) (convert : E → Fault) (l : List (Result A E)) (a : List ℕ) (r : Result (Vec ℕ Global) Fault) → IsToldOrRefused has_bytes no_memory (folded convert (λ t x. Ok (t ++ line x)) a l) r → IfOk r (λ v. vec_items v ≡ a ++ text_of line l)
+printed line convert l a r told = by_told (folded convert (λ t x. Ok (t ++ line x)) a l) (a ++ text_of line l) r (λ d is. text_folded line convert l a d is) told

@@ -1,14 +1,11 @@
 -- What lines of rows say, and what is printed of rows.
-use Rattle.std.specs.Prelude.{◌≡◌, ⊤, ℕ, ◌+◌, ◌%◌, ◌^◌, Bool, ◌==◌, nat_eq, nat_lt, if◌then◌else◌, List, [], ◌∷◌, ◌++◌, length, map, Option, Some, None, Result, Ok, Err, OnOk, codes, decimal}
+use Rattle.std.specs.Prelude.{◌≡◌, ⊤, ℕ, ◌+◌, ◌%◌, ◌^◌, Bool, ◌==◌, nat_eq, nat_lt, if◌then◌else◌, List, [], ◌∷◌, ◌++◌, length, map, Option, Some, None, Result, Ok, Err, codes, decimal}
 use Rattle.std.specs.Option.{ok_or}
 use Rattle.std.specs.List.{before_first, after_first, position_or_len}
 use Rattle.std.specs.Str.Lines.{lines}
-use Rattle.std.specs.Io.KnownBytes.{Appends}
-use Rattle.fallible_iterator.specs.Traces.{Answered}
 use Rattle.fallible_iterator.specs.Lists.{collected, items, mapped, on_value, scanned, taken}
 use Rattle.fallible_itertools.specs.ChunkBy.{chunked_by}
 use Rattle.fallible_itertools.specs.Chunks.{chunked}
-use Rattle.fallible_itertools.specs.Batch.{ListsUpToRefusal}
 use Rattle.fallible_itertools.specs.CheckedSum.{sum_below, totalled}
 use Rattle.example_tasks.specs.Numbers.{number_of}
 use Rattle.std.specs.declared.alloc.AllocError.{AllocError}
@@ -89,14 +86,6 @@ batch_line rows = line_of (first_key rows) rows
 -- one line a batch of three rows
 abbrev pub batches_text : List Row → List ℕ
 batches_text rows = text_of batch_line (chunked {E = AllocError} 3 (items rows))
-
--- an allocation failure becomes itself
-abbrev pub same_refusal : AllocError → AllocError → Type 0
-same_refusal refused e = e ≡ refused
-
--- Where values made of a list's items come up to the end, the lines of those items were written.
-abbrev pub PrintsMade : {S X B : Type 0} → (X → B → Type 0) → (S → Answered B AllocError → S → Type 0) → (X → List ℕ) → S → Option (List ℕ) → Option (List ℕ) → Result (Unit {0}) Fault → Type 0
-PrintsMade {X = X} made steps line s old new r = (l : List (Result X AllocError)) → ListsUpToRefusal made steps same_refusal s l → OnOk r (Appends old new (text_of line l))
 
 -- the groups, and then the batches
 abbrev pub report_of : List Row → List ℕ

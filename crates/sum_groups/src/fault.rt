@@ -5,6 +5,7 @@ ghost use Rattle.std.specs.Io.KnownBytes.{Appends};
 ghost use Rattle.sum_groups.specs.Faults.{IsFaultOfRead, line_of, status_of};
 
 use example_tasks::writing::WriteText;
+use std::alloc::AllocError;
 use std::io;
 use std::io::ErrorKind;
 
@@ -18,6 +19,17 @@ pub(crate) enum Fault {
     Read,
     Memory,
     Print,
+}
+
+impl From<AllocError> for Fault {
+    ghost use Rattle.sum_groups.specs.declared.fault.Fault.TheVariants.{Memory};
+
+    ghost from_gives = { λ refused fault. fault ≡ Memory };
+
+    // `Fault::Memory`
+    fn from(_: AllocError) -> Fault {
+        Fault::Memory
+    }
 }
 
 // What a failed read comes to.

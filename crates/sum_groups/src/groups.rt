@@ -1,12 +1,11 @@
 // The rows of lines, and their groups and batches, each printed as a line.
-ghost use Rattle.std.specs.Prelude.{◌≡◌, ◌≢◌, ℕ, List, Option, Result, Ok, Err, OnOk, MatchResult, vec_items};
-ghost use Rattle.std.specs.Io.KnownBytes.{Appends};
+ghost use Rattle.std.specs.Prelude.{◌≡◌, ◌++◌, ℕ, List, Option, Result, Ok, Err, IfOk, MatchResult, vec_items};
 ghost use Rattle.fallible_iterator.specs.Lists.{Lists, collected, taken};
-ghost use Rattle.fallible_itertools.specs.ChunkBy.{MadeGroup};
-ghost use Rattle.sum_groups.specs.Groups.{IsFaultOf, PrintsMade, batch_line, batches_text, first_key, group_line, groups_text, line_of, report_of, row_at, row_of, rows_in, rows_of, sum_of};
+ghost use Rattle.sum_groups.specs.Groups.{IsFaultOf, batches_text, first_key, groups_text, line_of, report_of, row_at, row_of, rows_in, rows_of, sum_of};
 ghost use Rattle.std.specs.declared.vec.Vec.{Vec};
 ghost use Rattle.std.specs.declared.alloc.Global.{Global};
 ghost use Rattle.fallible_iterator.specs.declared.Fault.TheVariants.{Source};
+ghost use Rattle.sum_groups.specs.declared.fault.Fault.TheVariants.{Memory};
 ghost use Rattle.sum_groups.specs.declared.groups.Row.{Row};
 
 use crate::fault::Fault;
@@ -92,78 +91,46 @@ fn sum_of(rows: &[Row]) -> Result<Option<u64>, Infallible>
         .checked_sum()
 }
 
-// Writes the line of some rows, under a name.
-fn print_line<W: Write>(output: &mut W, name: u64, rows: &[Row]) -> Result<(), Fault>
-    ensures text { OnOk result
-        (Appends (W.contents output.old) (W.contents output.new) (line_of name rows.now)) }
-    ensures row { (place : ℕ) → result ≢ Err (Fault.NoRow place) }
+// The report with the line of some rows after it, under a name.
+fn print_line(mut report: Vec<u8>, name: u64, rows: &[Row]) -> Result<Vec<u8>, Fault>
+    ensures { MatchResult result
+        (λ printed. vec_items printed ≡ vec_items report ++ line_of name rows.now)
+        (λ fault. fault ≡ Memory) }
 {
     let many = rows.len();
     let printed = match sum_of(rows) {
-        Ok(Some(sum)) => writeln!(output, "{name}: {many} rows, {sum}"),
-        Ok(None) => writeln!(output, "{name}: {many} rows, too large"),
+        Ok(Some(sum)) => writeln!(report, "{name}: {many} rows, {sum}"),
+        Ok(None) => writeln!(report, "{name}: {many} rows, too large"),
         Err(never) => match never {},
     };
     match printed {
-        Ok(()) => Ok(()),
-        Err(_) => Err(Fault::Print),
+        Ok(()) => Ok(report),
+        Err(_) => Err(Fault::Memory),
     }
 }
 
-// Writes one line a group, up to `Ok(None)` or the first allocation failure.
-fn print_each_group<I, W: Write>(mut groups: I, output: &mut W) -> Result<(), Fault>
-where
-    I: FallibleIterator<Item = (u64, Vec<Row>), Error = AllocError>,
-    requires can_next { I.contract.can_next groups }
-    requires finite { I.contract.is_finite groups }
-    ensures text { PrintsMade MadeGroup I.contract.steps group_line groups
-        (W.contents output.old) (W.contents output.new) result }
-    ensures row { (place : ℕ) → result ≢ Err (Fault.NoRow place) }
+// The report with one line a group of adjacent rows of one key after it.
+fn print_groups(alloc: Global, report: Vec<u8>, rows: &[Row]) -> Result<Vec<u8>, Fault>
+    ensures { IfOk result
+        (λ printed. vec_items printed ≡ vec_items report ++ groups_text rows.now) }
 {
-    let mut left = groups.number();
-    while let Some((key, group)) = groups.draw().map_err(|_| Fault::Memory)? {
-        left = left.one_less();
-        print_line(output, key, group.as_slice())?;
-    }
-    Ok(())
+    convert::<Row, AllocError, _>(rows.iter().copied().map(Ok))
+        .chunk_by(alloc, |row: &Row| Ok(row.key))
+        .try_fold(report, |report: Vec<u8>, group: (u64, Vec<Row>)| {
+            print_line(report, group.0, group.1.as_slice())
+        })
 }
 
-// Writes one line a batch, under the key of its first row, up to `Ok(None)` or the first allocation failure.
-fn print_each_batch<I, W: Write>(mut batches: I, output: &mut W) -> Result<(), Fault>
-where
-    I: FallibleIterator<Item = Vec<Row>, Error = AllocError>,
-    requires can_next { I.contract.can_next batches }
-    requires finite { I.contract.is_finite batches }
-    ensures text { PrintsMade (λ xs v. vec_items v ≡ xs) I.contract.steps batch_line batches
-        (W.contents output.old) (W.contents output.new) result }
-    ensures row { (place : ℕ) → result ≢ Err (Fault.NoRow place) }
+// The report with one line a batch of three rows after it, under the key of its first row.
+fn print_batches(alloc: Global, report: Vec<u8>, rows: &[Row]) -> Result<Vec<u8>, Fault>
+    ensures { IfOk result
+        (λ printed. vec_items printed ≡ vec_items report ++ batches_text rows.now) }
 {
-    let mut left = batches.number();
-    while let Some(batch) = batches.draw().map_err(|_| Fault::Memory)? {
-        left = left.one_less();
-        print_line(output, first_key(batch.as_slice()), batch.as_slice())?;
-    }
-    Ok(())
-}
-
-// Writes one line a group of adjacent rows of one key.
-fn print_groups<W: Write>(alloc: Global, rows: &[Row], output: &mut W) -> Result<(), Fault>
-    ensures text { OnOk result
-        (Appends (W.contents output.old) (W.contents output.new) (groups_text rows.now)) }
-    ensures row { (place : ℕ) → result ≢ Err (Fault.NoRow place) }
-{
-    let groups = convert(rows.iter().copied().map(Ok)).chunk_by(alloc, |row: &Row| Ok(row.key));
-    print_each_group(groups, output)
-}
-
-// Writes one line a batch of three rows, under the key of its first row.
-fn print_batches<W: Write>(alloc: Global, rows: &[Row], output: &mut W) -> Result<(), Fault>
-    ensures text { OnOk result
-        (Appends (W.contents output.old) (W.contents output.new) (batches_text rows.now)) }
-    ensures row { (place : ℕ) → result ≢ Err (Fault.NoRow place) }
-{
-    let batches = convert(rows.iter().copied().map(Ok)).chunks(alloc, BATCH);
-    print_each_batch(batches, output)
+    convert::<Row, AllocError, _>(rows.iter().copied().map(Ok))
+        .chunks(alloc, BATCH)
+        .try_fold(report, |report: Vec<u8>, batch: Vec<Row>| {
+            print_line(report, first_key(batch.as_slice()), batch.as_slice())
+        })
 }
 
 // The key of the first row, 0 of none.
@@ -176,13 +143,12 @@ fn first_key(rows: &[Row]) -> u64
     }
 }
 
-// Writes the groups and then the batches of rows.
-fn print_both<W: Write>(alloc: Global, rows: &[Row], output: &mut W) -> Result<(), Fault>
-    ensures { OnOk result
-        (Appends (W.contents output.old) (W.contents output.new) (report_of rows.now)) }
+// The groups and then the batches of rows.
+fn print_both(alloc: Global, rows: &[Row]) -> Result<Vec<u8>, Fault>
+    ensures { IfOk result (λ printed. vec_items printed ≡ report_of rows.now) }
 {
-    print_groups(alloc, rows, output)?;
-    print_batches(alloc, rows, output)
+    let groups = print_groups(alloc, Vec::new(alloc), rows)?;
+    print_batches(alloc, groups, rows)
 }
 
 // The report of the rows that the lines of a text are, made in memory, or the fault of the first line that is none.
@@ -195,9 +161,8 @@ pub(crate) fn report_of(alloc: Global, text: &str) -> Result<Vec<u8>, Fault>
         Err(Collecting::Source(Fault::NoRow(place))) => return Err(Fault::NoRow(place)),
         Err(_) => return Err(Fault::Memory),
     };
-    let mut report = Vec::new(alloc);
-    match print_both(alloc, rows.as_slice(), &mut report) {
-        Ok(()) => Ok(report),
+    match print_both(alloc, rows.as_slice()) {
+        Ok(report) => Ok(report),
         Err(_) => Err(Fault::Memory),
     }
 }

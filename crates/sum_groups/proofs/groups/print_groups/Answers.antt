@@ -1,7 +1,14 @@
--- The groups are those of the rows' list.
-use Rattle.std.specs.Prelude.{Ok}
-use Rattle.std.proofs.Common.{rules}
+-- What is folded are the lines of the groups of the rows' list.
+use Rattle.std.specs.Prelude.{Ok, ◌++◌, vec_items}
+use Rattle.std.proofs.Common.{rules, refl, sym, ap, ◌∙◌}
+use Rattle.fallible_iterator.proofs.Lemmas.Making.{folded_made}
+use Rattle.fallible_itertools.specs.ChunkBy.{MadeGroup}
+use Rattle.sum_groups.specs.Groups.{group_line, line_of}
+use Rattle.sum_groups.specs.declared.fault.Fault.TheVariants.{Memory}
+use Rattle.sum_groups.proofs.Printing.{has_bytes, line_told, no_memory, printed}
 use Rattle.sum_groups.proofs.groups.print_groups.Goals as goal
 
-pub returns-clause-text : goal.returns-clause-text
-returns-clause-text g c = c.print_each_group.ensures.text _ (c.chunk_by-groups.ensures.lists (λ r. Ok r.key) _ (search rules) (c.convert.ensures.items _ (search rules)))
+pub returns : goal.returns
+returns c = printed group_line (λ e. Memory) _ _ _ (folded_made _ _ MadeGroup has_bytes _ no_memory _ (λ e. Memory) (λ text x. text ++ group_line x) _ _ _ c.try_fold.ensures.folded refl
+    (λ d v x y r g bytes same called. (search rules, line_told v d (line_of y.0 (vec_items y.1)) (group_line x) r (search rules) bytes (ap (λ k. line_of k (vec_items y.1)) same.0 ∙ ap (λ rows. line_of x.0 rows) same.1)))
+    (λ e fault is. is) (λ e fault refused is. (refused.0, is)) (c.chunk_by.ensures.lists (λ r. Ok r.key) _ (search rules) (c.convert.ensures.items _ (search rules))))
