@@ -12,13 +12,15 @@ pub mod Dedup
 pub mod DedupBy
 pub mod DedupByKey
 pub mod Deduped
+pub mod Equal
+pub mod FindOrLast
 pub mod FoldWhile
 pub mod Groups
 pub mod Holding
 pub mod HoldingHints
 pub mod HoldingLists
-pub mod HoldingTraces
 pub mod HoldingMade
+pub mod HoldingTraces
 pub mod InspectErr
 pub mod Intersperse
 pub mod IntersperseFolds

@@ -6,6 +6,7 @@ mod grouping;
 mod holding;
 mod intersperse;
 mod lengths;
+mod merge;
 mod merge_by;
 mod peeking_take_while;
 mod take_while_inclusive;
@@ -30,6 +31,7 @@ pub use holding::{
 };
 pub use intersperse::{law_hints_intersperse, law_intersperse};
 pub use lengths::{law_interspersed, law_joined, law_windowed, law_zipped_longest};
+pub use merge::{law_hints_merge, law_merge};
 pub use merge_by::{law_hints_merge_by, law_merge_by, law_merged};
 pub use peeking_take_while::{
     law_hints_peeking_take_while, law_peeking_take_while, law_rest_peeking_take_while,

@@ -1,6 +1,7 @@
 //! The least and the greatest item in one pass.
 ghost use Rattle.std.specs.Prelude.{◌≡◌, ⊤};
 ghost use Rattle.fallible_itertools.specs.MinMax.{least_and_greatest, with_item};
+ghost use Rattle.fallible_itertools.specs.declared.minmax.MinMaxResult.TheVariants.{MinMax};
 ghost use Rattle.std.specs.declared.ops.ControlFlow.TheVariants.{Continue};
 
 use fallible_iterator::Turn;

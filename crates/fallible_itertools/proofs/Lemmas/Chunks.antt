@@ -4,8 +4,10 @@ use Rattle.std.proofs.Common.{refl, sym, ap, subst, inl, inr}
 use Rattle.std.proofs.lemmas.Bool.{lt-ltb, le-ltb}
 use Rattle.fallible_iterator.specs.Contract.{Contract, seen_as}
 use Rattle.fallible_iterator.specs.Lists.{Lists}
+use Rattle.fallible_iterator.specs.Making.{ListsMade}
 use Rattle.fallible_itertools.specs.Chunks.{Grows, batch_or, chunked, chunked_from, chunks_asks, chunks_contract, chunks_parts, short_batch}
-use Rattle.fallible_itertools.specs.Batch.{ListsUpToRefusal, held_items}
+use Rattle.fallible_itertools.specs.Batch.{held_items}
+use Rattle.fallible_iterator.proofs.Lemmas.Making.{lists_made_seen}
 use Rattle.fallible_itertools.proofs.Lemmas.HoldingLists.{by_outcome, before_stop, held_list, listed_parts}
 use Rattle.fallible_itertools.proofs.Lemmas.HoldingMade.{Answers, IfKept, OutcomeMade, Refuses, held_gives_made}
 use Rattle.std.specs.declared.vec.Vec.{Vec}

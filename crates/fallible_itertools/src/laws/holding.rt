@@ -1,10 +1,11 @@
 // The laws of the adapters that buffer.
-ghost use Rattle.std.specs.Prelude.{◌≡◌, ◌++◌, ◌∷◌, false, List, Option, Result, Some, None, Ok, Err};
+ghost use Rattle.std.specs.Prelude.{◌≡◌, ◌++◌, ◌∷◌, Bool, false, List, Option, Result, Some, None, Ok, Err};
 ghost use Rattle.fallible_iterator.specs.LawForm.{TracesAre};
 ghost use Rattle.fallible_iterator.specs.SoundHints.{KeepsBrackets, SoundHints};
 ghost use Rattle.fallible_iterator.specs.Closures.{call_at};
 ghost use Rattle.fallible_iterator.specs.Folds.{call_with};
 ghost use Rattle.fallible_iterator.specs.Lists.{filter_mapped, items, nth_of};
+ghost use Rattle.fallible_iterator.specs.Picking.{call_at_two};
 ghost use Rattle.fallible_itertools.specs.Adjacent.{AdjacentItems, HaveKeys};
 ghost use Rattle.fallible_itertools.specs.ChunkBy.{chunked_by};
 ghost use Rattle.fallible_itertools.specs.Coalesce.{CoalesceTrace, OneOrBoth, coalesce_due, coalesce_parts, coalesce_source, coalesced};
