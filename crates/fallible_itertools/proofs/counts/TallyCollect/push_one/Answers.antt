@@ -3,7 +3,7 @@ use Rattle.std.specs.Prelude.{IsSome, unwrap_or}
 use Rattle.std.specs.HashMap.{get}
 use Rattle.std.proofs.Common.{BuildHasherDefault, FoldHasher, Some, ap, refl, subst, sym, ◌∙◌, ◌+◌, ◌%◌, ◌^◌}
 use Rattle.fallible_itertools.specs.Counts.{IsTally}
-use Rattle.fallible_itertools.proofs.Tallied.{tally_pushed}
+use Rattle.fallible_itertools.proofs.Lemmas.Counts.{tally_pushed}
 use Rattle.fallible_itertools.proofs.counts.TallyCollect.push_one.Goals as goal
 
 pub returns-in-Ok : goal.returns-in-Ok
