@@ -18,8 +18,8 @@ use Rattle.fallible_itertools.specs.declared.copied.Copied.{Copied}
 pub never_ends : {T E : Type 0} (x : Bor T) (u : Unit {0}) → copied_outcome {E = E} x u ≡ End → ⊥
 never_ends x u e = cc
 
-pub leaves_none_out : {T E : Type 0} → LeavesNoneOut {X = Bor T} {R = Unit {0}} {B = T} {E = E} copied_outcome
-leaves_none_out x u = refl
+pub leaves_none_out : {T : Type 0} (E : Type 0) → LeavesNoneOut {X = Bor T} {R = Unit {0}} {B = T} {E = E} copied_outcome
+leaves_none_out E x u = refl
 
 pub pointed_to_is : {T E : Type 0} (l : List (Result (Bor T) E)) → passed copied_outcome (λ (p : Unit {0}) (x : Bor T). tt) (λ p x. p) tt l ≡ pointed_to l
 unfolding pointed_to

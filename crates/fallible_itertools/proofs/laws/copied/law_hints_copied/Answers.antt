@@ -6,4 +6,4 @@ use Rattle.fallible_itertools.proofs.Lemmas.Copied.{never_ends, leaves_none_out}
 use Rattle.fallible_itertools.proofs.laws.copied.law_hints_copied.Goals as goal
 
 pub returns : goal.returns
-returns g c = λ s h is. (h, is, sound_seen copied_parts _ s h (same_sound _ _ _ _ (passing_one _ _ _ leaves_none_out never_ends) (copied_parts s) tt h))
+returns g c = λ s h is. (h, is, sound_seen copied_parts _ s h (same_sound _ _ _ _ (passing_one _ _ _ (leaves_none_out _) never_ends) (copied_parts s) tt h))

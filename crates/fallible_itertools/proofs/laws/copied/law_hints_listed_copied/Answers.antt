@@ -5,4 +5,4 @@ use Rattle.fallible_itertools.proofs.Lemmas.Copied.{never_ends, leaves_none_out,
 use Rattle.fallible_itertools.proofs.laws.copied.law_hints_listed_copied.Goals as goal
 
 pub returns : goal.returns
-returns g c = λ s l h is. (h, is, λ b. bounds_acting copied_outcome never_ends (λ x. tt) leaves_none_out l _ h (pointed_to_is l) b)
+returns g c = λ s l h is. (h, is, λ b. bounds_acting copied_outcome never_ends (λ x. tt) (leaves_none_out _) l _ h (pointed_to_is l) b)
