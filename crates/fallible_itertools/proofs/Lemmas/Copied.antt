@@ -4,7 +4,7 @@ use Rattle.std.specs.Borrow.{Bor}
 use Rattle.std.proofs.Common.{refl, ap}
 use Rattle.fallible_iterator.specs.Contract.{Contract, seen_as}
 use Rattle.fallible_iterator.specs.Traces.{Answered}
-use Rattle.fallible_iterator.specs.Passing.{LeavesNoneOut, passing_step}
+use Rattle.fallible_iterator.specs.Passing.{passing_step}
 use Rattle.fallible_iterator.specs.Lists.{Lists}
 use Rattle.fallible_iterator.specs.BothEnds.{ListsBothEnds}
 use Rattle.fallible_iterator.specs.OneToOne.Cloned.{pointed_to}
@@ -14,12 +14,9 @@ use Rattle.fallible_itertools.specs.Copied.{copied_call, copied_contract, copied
 use Rattle.fallible_iterator.specs.Outcome.TheVariants.{End}
 use Rattle.fallible_itertools.specs.declared.copied.Copied.{Copied}
 
--- no item makes an end, and none is left out
+-- no item makes an end
 pub never_ends : {T E : Type 0} (x : Bor T) (u : Unit {0}) → copied_outcome {E = E} x u ≡ End → ⊥
 never_ends x u e = cc
-
-pub leaves_none_out : {T : Type 0} (E : Type 0) → LeavesNoneOut {X = Bor T} {R = Unit {0}} {B = T} {E = E} copied_outcome
-leaves_none_out E x u = refl
 
 pub pointed_to_is : {T E : Type 0} (l : List (Result (Bor T) E)) → passed copied_outcome (λ (p : Unit {0}) (x : Bor T). tt) (λ p x. p) tt l ≡ pointed_to l
 unfolding pointed_to

@@ -2,8 +2,8 @@
 use Rattle.fallible_iterator.proofs.Lemmas.Hints.Drawn.{same_sound, sound_seen}
 use Rattle.fallible_iterator.proofs.Lemmas.Hints.Passing.{passing_one}
 use Rattle.fallible_itertools.specs.Copied.{copied_parts}
-use Rattle.fallible_itertools.proofs.Lemmas.Copied.{never_ends, leaves_none_out}
+use Rattle.fallible_itertools.proofs.Lemmas.Copied.{never_ends}
 use Rattle.fallible_itertools.proofs.laws.copied.law_hints_back_copied.Goals as goal
 
 pub returns : goal.returns
-returns g c = λ s h is. (h, is, sound_seen copied_parts _ s h (same_sound _ _ _ _ (passing_one _ _ _ (leaves_none_out _) never_ends) (copied_parts s) tt h))
+returns g c = λ s h is. (h, is, sound_seen copied_parts _ s h (same_sound _ _ _ _ (passing_one _ _ _ (λ x u. refl) never_ends) (copied_parts s) tt h))
