@@ -1,4 +1,5 @@
 -- Each item has one value in its place.
+use Rattle.std.proofs.Common.{refl}
 use Rattle.fallible_iterator.proofs.Lemmas.Hints.ListsBothEnds.{bounds_acting}
 use Rattle.fallible_itertools.specs.Copied.{copied_outcome}
 use Rattle.fallible_itertools.proofs.Lemmas.Copied.{never_ends, pointed_to_is}
