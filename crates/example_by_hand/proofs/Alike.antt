@@ -5,29 +5,29 @@ use Rattle.std.proofs.lemmas.List.{reverse-append, length-append, length-reverse
 use Rattle.std.proofs.lemmas.Bool.Decides.{eqb_tells}
 use Rattle.example_by_hand.specs.Alike.{first_alike, alike}
 
-same : (x : ℕ) → eqb x x ≡ true
-same x = elim (eqb_tells x x) [ inl e ↦ e.0 | inr e ↦ absurd (e.1 refl) ]
+eqb_same : (x : ℕ) → eqb x x ≡ true
+eqb_same x = elim (eqb_tells x x) [ inl e ↦ e.0 | inr e ↦ absurd (e.1 refl) ]
 
 module _ {E : Type 0} where
   -- more after both lists, of which no more is read
-  more_behind : (n : ℕ) (a b c d : List (Result ℕ E)) → n ≤ length a → n ≤ length b → first_alike n (a ++ c) (b ++ d) ≡ first_alike n a b
+  first_alike_append : (n : ℕ) (a b c d : List (Result ℕ E)) → n ≤ length a → n ≤ length b → first_alike n (a ++ c) (b ++ d) ≡ first_alike n a b
   unfolding first_alike
-  more_behind zero a b c d few less = refl
-  more_behind (suc n) [] b c d few less = absurd (omega (arith, few))
-  more_behind (suc n) (Err e ∷ a) b c d few less = refl
-  more_behind (suc n) (Ok x ∷ a) [] c d few less = absurd (omega (arith, less))
-  more_behind (suc n) (Ok x ∷ a) (Err e ∷ b) c d few less = refl
-  more_behind (suc n) (Ok x ∷ a) (Ok y ∷ b) c d few less = ap (λ r. cond (eqb x y) r (Ok false)) (more_behind n a b c d (omega (arith, few)) (omega (arith, less)))
+  first_alike_append zero a b c d few less = refl
+  first_alike_append (suc n) [] b c d few less = absurd (omega (arith, few))
+  first_alike_append (suc n) (Err e ∷ a) b c d few less = refl
+  first_alike_append (suc n) (Ok x ∷ a) [] c d few less = absurd (omega (arith, less))
+  first_alike_append (suc n) (Ok x ∷ a) (Err e ∷ b) c d few less = refl
+  first_alike_append (suc n) (Ok x ∷ a) (Ok y ∷ b) c d few less = ap (λ r. cond (eqb x y) r (Ok false)) (first_alike_append n a b c d (omega (arith, few)) (omega (arith, less)))
 
   -- what the item x in front and the result y at the back make of what is between them
   abbrev pub at_ends : ℕ → Result ℕ E → Result Bool E → Result Bool E
   at_ends x (Ok y) r = cond (eqb x y) r (Ok false)
   at_ends x (Err e) r = Err e
 
-  at_first : (n x : ℕ) (y : Result ℕ E) (a b : List (Result ℕ E)) → first_alike (suc n) (Ok x ∷ a) (y ∷ b) ≡ at_ends x y (first_alike n a b)
+  first_alike_cons : (n x : ℕ) (y : Result ℕ E) (a b : List (Result ℕ E)) → first_alike (suc n) (Ok x ∷ a) (y ∷ b) ≡ at_ends x y (first_alike n a b)
   unfolding first_alike
-  at_first n x (Ok y) a b = refl
-  at_first n x (Err e) a b = refl
+  first_alike_cons n x (Ok y) a b = refl
+  first_alike_cons n x (Err e) a b = refl
 
   pub alike_between : (x : ℕ) (y : Result ℕ E) (l : List (Result ℕ E)) → alike (Ok x ∷ (l ++ y ∷ [])) ≡ at_ends x y (alike l)
   unfolding alike
@@ -37,12 +37,12 @@ module _ {E : Type 0} where
       let turned : reverse whole ≡ y ∷ (reverse l ++ Ok x ∷ []) = reverse-append (Ok x ∷ []) (l ++ y ∷ []) ∙ ap (λ k. k ++ Ok x ∷ []) (reverse-append l (y ∷ [])) in
       let n = (length l + 1) / 2 in
       ap (λ k. first_alike k whole (reverse whole)) half ∙ ap (first_alike (suc n) whole) turned
-      ∙ at_first n x y (l ++ y ∷ []) (reverse l ++ Ok x ∷ [])
-      ∙ ap (at_ends x y) (more_behind n l (reverse l) (y ∷ []) (Ok x ∷ []) (omega arith) (let e = length-reverse l in omega (arith, e)))
+      ∙ first_alike_cons n x y (l ++ y ∷ []) (reverse l ++ Ok x ∷ [])
+      ∙ ap (at_ends x y) (first_alike_append n l (reverse l) (y ∷ []) (Ok x ∷ []) (omega arith) (let e = length-reverse l in omega (arith, e)))
 
   pub alike_alone : (x : ℕ) → alike {E = E} (Ok x ∷ []) ≡ Ok true
   unfolding alike first_alike
-  alike_alone x = ap (λ b. cond b (Ok true) (Ok false)) (same x)
+  alike_alone x = ap (λ b. cond b (Ok true) (Ok false)) (eqb_same x)
 
   pub alike_none : alike {E = E} [] ≡ Ok true
   unfolding alike first_alike

@@ -16,21 +16,21 @@ unfolding items
 items-append [] b = refl
 items-append (x ∷ a) b = ap (λ l. Ok x ∷ l) (items-append a b)
 
-pub ends_front : (low high : ℕ) → high ≤ low → TakesShown (numbers_between low high) (Ok None) (numbers_between low high)
+pub takes_shown_end : (low high : ℕ) → high ≤ low → TakesShown (numbers_between low high) (Ok None) (numbers_between low high)
 unfolding items
-ends_front low high none = let e : high - low ≡ 0 = omega (arith, none) in rw e (refl, refl)
+takes_shown_end low high none = let e : high - low ≡ 0 = omega (arith, none) in rw e (refl, refl)
 
-pub ends_none_shown : (low high : ℕ) → high ≤ low → TakesShown (reverse (numbers_between low high)) (Ok None) (reverse (numbers_between low high))
+pub takes_shown_end_at_back : (low high : ℕ) → high ≤ low → TakesShown (reverse (numbers_between low high)) (Ok None) (reverse (numbers_between low high))
 unfolding items
-ends_none_shown low high none = let e : high - low ≡ 0 = omega (arith, none) in rw e (refl, refl)
+takes_shown_end_at_back low high none = let e : high - low ≡ 0 = omega (arith, none) in rw e (refl, refl)
 
-pub takes_front : (low high next : ℕ) → low < high → next ≡ low + 1 → TakesShown (numbers_between low high) (Ok (Some low)) (numbers_between next high)
+pub takes_shown_front : (low high next : ℕ) → low < high → next ≡ low + 1 → TakesShown (numbers_between low high) (Ok (Some low)) (numbers_between next high)
 unfolding items
-takes_front low high next some is = let e : high - low ≡ suc (high - next) = omega (arith, some, is) in rw e (refl, ap (λ k. items (range_with_len k (high - next))) is)
+takes_shown_front low high next some is = let e : high - low ≡ suc (high - next) = omega (arith, some, is) in rw e (refl, ap (λ k. items (range_with_len k (high - next))) is)
 
-pub takes_last_shown : (low high next : ℕ) → low < high → next + 1 ≡ high → TakesShown (reverse (numbers_between low high)) (Ok (Some next)) (reverse (numbers_between low next))
+pub takes_shown_back : (low high next : ℕ) → low < high → next + 1 ≡ high → TakesShown (reverse (numbers_between low high)) (Ok (Some next)) (reverse (numbers_between low next))
 unfolding items
-takes_last_shown low high next some is =
+takes_shown_back low high next some is =
     let e : high - low ≡ suc (next - low) = omega (arith, some, is) in
     let last : low + (next - low) ≡ next = omega (arith, some, is) in
     let made : reverse (numbers_between low high) ≡ Ok next ∷ reverse (numbers_between low next) = ap (λ k. reverse (items (range_with_len low k))) e ∙ ap (λ l. reverse (items l)) (last_of_range low (next - low)) ∙ ap reverse (items-append (range_with_len low (next - low)) ((low + (next - low)) ∷ [])) ∙ reverse-append (items (range_with_len low (next - low))) (Ok (low + (next - low)) ∷ []) ∙ ap (λ k. Ok k ∷ reverse (numbers_between low next)) last in

@@ -5,7 +5,7 @@ ghost use Rattle.fallible_iterator.specs.Bridges.Unwrap.{unwrapped};
 ghost use Rattle.fallible_iterator.specs.Contract.{AtMost, NeverFails};
 ghost use Rattle.fallible_iterator.specs.Laws.Own.{lawful_giving};
 ghost use Rattle.fallible_iterator.specs.Laws.Showing.{lawful_listing};
-ghost use Rattle.fallible_iterator.specs.Laws.ShowingEnds.{lawful_listing_ends};
+ghost use Rattle.fallible_iterator.specs.Laws.ShowingEnds.{lawful_ends_listing};
 ghost use Rattle.fallible_iterator.specs.Lists.{Lists, CollectedAs, chained, counted, filtered, flattened, folded, found, mapped, repeated, results, reversed, taken, zipped};
 ghost use Rattle.fallible_iterator.specs.Own.{giving};
 ghost use Rattle.fallible_iterator.specs.Showing.{listing};
@@ -263,7 +263,7 @@ impl DoubleEndedFallibleIterator for Between {
         Ok(Some(self.high))
     }
 
-    ghost lawful_ends = { lawful_listing_ends shows_between };
+    ghost lawful_ends = { lawful_ends_listing shows_between };
 }
 
 impl Between {

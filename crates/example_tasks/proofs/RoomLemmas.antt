@@ -10,57 +10,57 @@ use Rattle.example_tasks.specs.declared.tokens.TextFault.{TextFault}
 use Rattle.example_tasks.specs.declared.tokens.TextFault.TheVariants.{Unknown, Unexpected, Memory}
 use Rattle.example_tasks.specs.declared.tokens.Level.{Level}
 
-abbrev State : Type 0
-State = List Level × Level × Bool
+abbrev StateOfRoomLemmas : Type 0
+StateOfRoomLemmas = List Level × Level × Bool
 
 -- a token after which the levels outside fit the room
-pub goes_on_in : (room : ℕ) (state after : State) (token : Token) → after_token state token ≡ Ok after → length after.0 ≤ room → after_token_in room state token ≡ Ok after
-goes_on_in room (outside, level, false) after token is fits = is
-goes_on_in room (outside, level, true) after (Number n) is fits = is
-goes_on_in room (outside, level, true) after Plus is fits = is
-goes_on_in room (outside, level, true) after Times is fits = is
-goes_on_in room (outside, level, true) after Close is fits = is
-goes_on_in room (outside, level, true) after Open is fits =
+pub after_token_in_goes_on : (room : ℕ) (state after : StateOfRoomLemmas) (token : Token) → after_token state token ≡ Ok after → length after.0 ≤ room → after_token_in room state token ≡ Ok after
+after_token_in_goes_on room (outside, level, false) after token is fits = is
+after_token_in_goes_on room (outside, level, true) after (Number n) is fits = is
+after_token_in_goes_on room (outside, level, true) after Plus is fits = is
+after_token_in_goes_on room (outside, level, true) after Times is fits = is
+after_token_in_goes_on room (outside, level, true) after Close is fits = is
+after_token_in_goes_on room (outside, level, true) after Open is fits =
     let same : (level ∷ outside, no_terms, true) ≡ after = cc in
-    let one_more : length (level ∷ outside) ≡ length after.0 = ap (λ (s : State). length s.0) same in
+    let one_more : length (level ∷ outside) ≡ length after.0 = ap (λ (s : StateOfRoomLemmas). length s.0) same in
     cond-true _ _ _ (lt-ltb (length outside) room (omega arith)) ∙ is
 
 -- one at which it fails, whatever the room
-pub fails_in : (room : ℕ) (state : State) (token : Token) (e : TextFault) → after_token state token ≡ Err e → after_token_in room state token ≡ Err e
-fails_in room (outside, level, false) token e is = is
-fails_in room (outside, level, true) (Number n) e is = is
-fails_in room (outside, level, true) Plus e is = is
-fails_in room (outside, level, true) Times e is = is
-fails_in room (outside, level, true) Close e is = is
-fails_in room (outside, level, true) Open e is = absurd cc
+pub after_token_in_fails : (room : ℕ) (state : StateOfRoomLemmas) (token : Token) (e : TextFault) → after_token state token ≡ Err e → after_token_in room state token ≡ Err e
+after_token_in_fails room (outside, level, false) token e is = is
+after_token_in_fails room (outside, level, true) (Number n) e is = is
+after_token_in_fails room (outside, level, true) Plus e is = is
+after_token_in_fails room (outside, level, true) Times e is = is
+after_token_in_fails room (outside, level, true) Close e is = is
+after_token_in_fails room (outside, level, true) Open e is = absurd cc
 
 -- an opening parenthesis for which there is no room
-pub full_in : (room : ℕ) (state : State) (token : Token) → token ≡ Open → state.2 ≡ true → room ≤ length state.0 → after_token_in room state token ≡ Err Memory
-full_in room (outside, level, false) token is begun full = absurd cc
-full_in room (outside, level, true) token is begun full = ap (after_token_in room (outside, level, true)) is ∙ cond-false _ _ _ (le-ltb (length outside) room full)
+pub after_token_in_full : (room : ℕ) (state : StateOfRoomLemmas) (token : Token) → token ≡ Open → state.2 ≡ true → room ≤ length state.0 → after_token_in room state token ≡ Err Memory
+after_token_in_full room (outside, level, false) token is begun full = absurd cc
+after_token_in_full room (outside, level, true) token is begun full = ap (after_token_in room (outside, level, true)) is ∙ cond-false _ _ _ (le-ltb (length outside) room full)
 
 -- one at which it fails, for want of room or whatever the room
-pub refused_in : (room : ℕ) (state : State) (token : Token) (e : TextFault) → (e ≡ Memory → (token ≡ Open) × (state.2 ≡ true) × (room ≤ length state.0)) → (e ≢ Memory → after_token state token ≡ Err e) → after_token_in room state token ≡ Err e
-refused_in room state token Memory full other = let h = full refl in full_in room state token h.0 h.1 h.2
-refused_in room state token Unknown full other = fails_in room state token Unknown (other (λ e. cc))
-refused_in room state token Unexpected full other = fails_in room state token Unexpected (other (λ e. cc))
+pub after_token_in_refused : (room : ℕ) (state : StateOfRoomLemmas) (token : Token) (e : TextFault) → (e ≡ Memory → (token ≡ Open) × (state.2 ≡ true) × (room ≤ length state.0)) → (e ≢ Memory → after_token state token ≡ Err e) → after_token_in room state token ≡ Err e
+after_token_in_refused room state token Memory full other = let h = full refl in after_token_in_full room state token h.0 h.1 h.2
+after_token_in_refused room state token Unknown full other = after_token_in_fails room state token Unknown (other (λ e. cc))
+after_token_in_refused room state token Unexpected full other = after_token_in_fails room state token Unexpected (other (λ e. cc))
 
 -- how many levels stand outside, of which a vector holds the nearest last
-pub long_outside : (v : Vec Level Global) → length (reverse v.items) ≡ vec_len v
-long_outside v = length-reverse v.items ∙ sym v.ok.0
+pub length_long_outside : (v : Vec Level Global) → length (reverse v.items) ≡ vec_len v
+length_long_outside v = length-reverse v.items ∙ sym v.ok.0
 
-pub fits_outside : (v : Vec Level Global) → length (reverse v.items) ≤ vec_capacity v
-fits_outside v = let few = v.ok.1 in omega (arith, long_outside v, few)
+pub length_fits_outside : (v : Vec Level Global) → length (reverse v.items) ≤ vec_capacity v
+length_fits_outside v = let few = v.ok.1 in omega (arith, length_long_outside v, few)
 
 pub fills_outside : (v : Vec Level Global) → vec_capacity v ≤ vec_len v → vec_capacity v ≤ length (reverse v.items)
-fills_outside v full = omega (arith, long_outside v)
+fills_outside v full = omega (arith, length_long_outside v)
 
 -- ---- what the rest comes to
 
-pub goes_on_from : (room : ℕ) (state after : State) (token : Token) (l : List (Result Token TextFault)) → after_token state token ≡ Ok after → length after.0 ≤ room → value_from_in room state (Ok token ∷ l) ≡ value_from_in room after l
+pub value_from_in_goes_on : (room : ℕ) (state after : StateOfRoomLemmas) (token : Token) (l : List (Result Token TextFault)) → after_token state token ≡ Ok after → length after.0 ≤ room → value_from_in room state (Ok token ∷ l) ≡ value_from_in room after l
 unfolding folded
-goes_on_from room state after token l is fits = rw (goes_on_in room state after token is fits) refl
+value_from_in_goes_on room state after token l is fits = rw (after_token_in_goes_on room state after token is fits) refl
 
-pub refused_from : (room : ℕ) (state : State) (token : Token) (e : TextFault) (l : List (Result Token TextFault)) → (e ≡ Memory → (token ≡ Open) × (state.2 ≡ true) × (room ≤ length state.0)) → (e ≢ Memory → after_token state token ≡ Err e) → Err e ≡ value_from_in room state (Ok token ∷ l)
+pub refused_from : (room : ℕ) (state : StateOfRoomLemmas) (token : Token) (e : TextFault) (l : List (Result Token TextFault)) → (e ≡ Memory → (token ≡ Open) × (state.2 ≡ true) × (room ≤ length state.0)) → (e ≢ Memory → after_token state token ≡ Err e) → Err e ≡ value_from_in room state (Ok token ∷ l)
 unfolding folded
-refused_from room state token e l full other = rw (refused_in room state token e full other) refl
+refused_from room state token e l full other = rw (after_token_in_refused room state token e full other) refl

@@ -98,7 +98,7 @@ module _ {A E : Type 0} (rule : A → A → Option Ordering) where
   LastRound (Ok (Some x)) (Some (Ok (Some y))) r = (r ≡ Ok (rule x y)) × ¬ (rule x y ≡ Some Equal)
 
   -- Both sides yielded pairs of items that compare equal, one by one; then came the last round, which decided.
-  pub record Compared {S T : Type 0} (left-steps : S → Answered A E → S → Type 0) (right-steps : T → Answered A E → T → Type 0) (s : S) (t : T) (r : Result (Option Ordering) E) : Type 0 where
+  pub record CompareDraws {S T : Type 0} (left-steps : S → Answered A E → S → Type 0) (right-steps : T → Answered A E → T → Type 0) (s : S) (t : T) (r : Result (Option Ordering) E) : Type 0 where
     pub pairs : List (A × A)
     pub equal : OfEach (λ p. rule p.0 p.1 ≡ Some Equal) pairs
     pub last_left : Answered A E
@@ -113,7 +113,7 @@ module _ {A E : Type 0} (rule : A → A → Option Ordering) where
   pub record ComparedWith {S O T : Type 0} (into : O → T → Type 0) (left-steps : S → Answered A E → S → Type 0) (right-steps : T → Answered A E → T → Type 0) (s : S) (other : O) (r : Result (Option Ordering) E) : Type 0 where
     pub right : T
     pub made : into other right
-    pub compared : Compared left-steps right-steps s right r
+    pub compared : CompareDraws left-steps right-steps s right r
 
   -- The value became an iterator, and the comparison's result, read by `reads`, is r.
   pub record ReadWith {S O T X : Type 0} (reads : Option Ordering → X) (into : O → T → Type 0) (left-steps : S → Answered A E → S → Type 0) (right-steps : T → Answered A E → T → Type 0) (s : S) (other : O) (r : Result X E) : Type 0 where

@@ -82,8 +82,8 @@ module _ {S A E F B E' : Type 0} (steps : S → Answered A E → S → Type 0) (
   CallableInFold takes s f b = HoldsAtEachTurn {C = B × F} steps (went_on_with call) (λ p x. takes p.1 p.0 x) s (b, f)
 
   -- The draws from s returned items and a last answer, and left t, by which the fold with f from b on returns r.
-  abbrev pub Folded : (E → E' → Type 0) → S → B → F → Result B E' → S → Type 0
-  Folded from s b f r t = Drained steps (FoldedBy call from b f r) s t
+  abbrev pub FoldDrains : (E → E' → Type 0) → S → B → F → Result B E' → S → Type 0
+  FoldDrains from s b f r t = Drained steps (FoldedBy call from b f r) s t
 
 -- ---- the fold that every other one goes through
 
@@ -150,8 +150,8 @@ pub record CountedUp {A E : Type 0} (n : ℕ) (r : Result (Unit {0}) E) (k : ℕ
   pub exit : OverExit last r
 
 -- The draws from s returned items and then an end or a failure, and left t. The number went from n to k, one more for each item, also before a failure. The result is the failure, if one came.
-abbrev pub CountedOn : {S A E : Type 0} → (S → Answered A E → S → Type 0) → S → ℕ → Result (Unit {0}) E → S → ℕ → Type 0
-CountedOn steps s n r t k = Drained steps (CountedUp n r k) s t
+abbrev pub CountDrainsOn : {S A E : Type 0} → (S → Answered A E → S → Type 0) → S → ℕ → Result (Unit {0}) E → S → ℕ → Type 0
+CountDrainsOn steps s n r t k = Drained steps (CountedUp n r k) s t
 
 -- the number of items n at an end, or the failure
 abbrev pub CountExit : {A E : Type 0} → ℕ → Answered A E → Result ℕ E → Type 0
@@ -163,8 +163,8 @@ pub record CountedBy {A E : Type 0} (r : Result ℕ E) (items : List A) (last : 
   pub exit : CountExit (length items) last r
 
 -- The draws from s returned items and then an end or a failure, and left t; the result is the number of the items, or the failure.
-abbrev pub Counted : {S A E : Type 0} → (S → Answered A E → S → Type 0) → S → Result ℕ E → S → Type 0
-Counted steps s r t = Drained steps (CountedBy r) s t
+abbrev pub CountDrains : {S A E : Type 0} → (S → Answered A E → S → Type 0) → S → Result ℕ E → S → Type 0
+CountDrains steps s r t = Drained steps (CountedBy r) s t
 
 -- ---- last
 
@@ -178,8 +178,8 @@ pub record LastBy {A E : Type 0} (r : Result (Option A) E) (items : List A) (las
   pub exit : LastExit items last r
 
 -- The draws from s returned items and then an end or a failure, and left t; the result is the last of the items, none if there are no items, or the failure.
-abbrev pub LastOf : {S A E : Type 0} → (S → Answered A E → S → Type 0) → S → Result (Option A) E → S → Type 0
-LastOf steps s r t = Drained steps (LastBy r) s t
+abbrev pub LastDrains : {S A E : Type 0} → (S → Answered A E → S → Type 0) → S → Result (Option A) E → S → Type 0
+LastDrains steps s r t = Drained steps (LastBy r) s t
 
 -- ---- nth
 
@@ -194,8 +194,8 @@ pub record NthBy {A E : Type 0} (n : ℕ) (r : Answered A E) (skipped : List A) 
   pub exit : NthExit n (length skipped) r
 
 -- The draws from s returned the skipped items and then r, the first answer that is the item with n items before it, a failure, or an end. They left t.
-abbrev pub Nth : {S A E : Type 0} → (S → Answered A E → S → Type 0) → S → ℕ → Answered A E → S → Type 0
-Nth steps s n r t = Drained steps (NthBy n r) s t
+abbrev pub NthDrains : {S A E : Type 0} → (S → Answered A E → S → Type 0) → S → ℕ → Answered A E → S → Type 0
+NthDrains steps s n r t = Drained steps (NthBy n r) s t
 
 -- One turn of an `nth` that is one fold, where n items are still to be passed over: it passes over one of them, or stops with the item where there are none.
 abbrev pub IsNthTurn : {A : Type 0} → ℕ → A → ControlFlow A (Unit {0}) → ℕ → Type 0

@@ -5,7 +5,7 @@ use Rattle.std.specs.Fn.{CalledAtTwo, TakesAtTwo, Mut}
 use Rattle.std.specs.Borrow.{Bor}
 use Rattle.fallible_contract.specs.Traces.{Answered, Run, item}
 use Rattle.fallible_contract.specs.Closures.{Calls}
-use Rattle.fallible_contract.specs.Folds.{Drained, Folded}
+use Rattle.fallible_contract.specs.Folds.{Drained, FoldDrains}
 use Rattle.std.specs.declared.cmp.Ordering.{Ordering}
 use Rattle.std.specs.declared.cmp.Ordering.TheVariants.{Less, Equal, Greater}
 
@@ -45,7 +45,7 @@ module _ {A E F : Type 0} (keeps : Ordering) (call : F → A → A → Result Or
 -- The result is that of a fold that carries the best so far, from none on.
 pub record PickedByFold {S A E F : Type 0} (keeps : Ordering) (call : F → A → A → Result Ordering E → F → Type 0) (steps : S → Answered A E → S → Type 0) (s : S) (f : F) (r : Result (Option A) E) : Type 0 where
   pub after : S
-  pub folded : Folded steps (PickCall keeps call) (λ e d. d ≡ e) s None f r after
+  pub folded : FoldDrains steps (PickCall keeps call) (λ e d. d ≡ e) s None f r after
 
 module _ {A : Type 0} (keeps : Ordering) where
   -- From a best on, there is an order for each of these items, and each next best is the one before it, if the order beside the next item is `keeps`, and otherwise that item.
@@ -68,7 +68,7 @@ module _ {A E F : Type 0} (call : F → A → A → Result Ordering E → F → 
   PickExit bests f (Ok (Some x)) r = IsSomeAnd (last_or None bests) (λ best. (e : E) × (g : F) × call f best x (Err e) g × (r ≡ Err e))
 
 -- The draws returned items and a last answer. The closure was called in order on the best up to each item and the item after that one, and returned the orders, by which the bests go on. The last answer decides the result.
-pub record Picked {S A E F : Type 0} (keeps : Ordering) (call : F → A → A → Result Ordering E → F → Type 0) (steps : S → Answered A E → S → Type 0) (s : S) (f : F) (r : Result (Option A) E) : Type 0 where
+pub record PickDrains {S A E F : Type 0} (keeps : Ordering) (call : F → A → A → Result Ordering E → F → Type 0) (steps : S → Answered A E → S → Type 0) (s : S) (f : F) (r : Result (Option A) E) : Type 0 where
   pub items : List A
   pub orders : List Ordering
   pub bests : List A
@@ -131,12 +131,12 @@ module _ {A : Type 0} (keeps : Ordering) (cmp : A → A → Ordering) where
   BestExit items (Err e) r = r ≡ Err e
   BestExit items (Ok (Some x)) r = ⊥
 
-  pub record BestBy {E : Type 0} (r : Result (Option A) E) (items : List A) (last : Answered A E) : Type 0 where
+  pub record BestOfDrained {E : Type 0} (r : Result (Option A) E) (items : List A) (last : Answered A E) : Type 0 where
     pub exit : BestExit items last r
 
   -- The draws returned items and then an end or a failure; the result is the best of them, or the failure.
-  abbrev pub Best : {S E : Type 0} → (S → Answered A E → S → Type 0) → S → Result (Option A) E → Type 0
-  Best {S = S} steps s r = (after : S) × Drained steps (BestBy r) s after
+  abbrev pub BestDrains : {S E : Type 0} → (S → Answered A E → S → Type 0) → S → Result (Option A) E → Type 0
+  BestDrains {S = S} steps s r = (after : S) × Drained steps (BestOfDrained r) s after
 
 -- ---- by an order of keys
 
@@ -148,7 +148,7 @@ module _ {A E F K : Type 0} (keeps : Ordering) (cmp : K → K → Ordering) (cal
   KeyExit keyed f (Ok (Some x)) r = (e : E) × (g : F) × call f x (Err e) g × (r ≡ Err e)
 
   -- The closure was called once on each item in order, and returned the keys beside them. Then came the last answer: at an end the result is the item at the last place of a best key; otherwise it is the failure, or that of the closure on the item.
-  pub record BestByKey {S : Type 0} (steps : S → Answered A E → S → Type 0) (s : S) (f : F) (r : Result (Option A) E) : Type 0 where
+  pub record BestByKeyDrains {S : Type 0} (steps : S → Answered A E → S → Type 0) (s : S) (f : F) (r : Result (Option A) E) : Type 0 where
     pub keyed : List (K × A)
     pub last : Answered A E
     pub closure : F

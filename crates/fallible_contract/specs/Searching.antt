@@ -43,25 +43,25 @@ module _ {A E F V R : Type 0} (call : F → A → Result V E → F → Type 0) (
   WentOn f x g = (v : V) × call f x (Ok v) g × ((n : ℕ) → pick n x v ≡ None)
 
   -- One call of the closure, which decides with n items before: the answer is what is picked, or the closure's failure.
-  abbrev pub Decided : ℕ → F → A → Result R E → F → Type 0
-  Decided n f x (Ok z) g = (v : V) × call f x (Ok v) g × (pick n x v ≡ Some z)
-  Decided n f x (Err e) g = call f x (Err e) g
+  abbrev pub SearchDecides : ℕ → F → A → Result R E → F → Type 0
+  SearchDecides n f x (Ok z) g = (v : V) × call f x (Ok v) g × (pick n x v ≡ Some z)
+  SearchDecides n f x (Err e) g = call f x (Err e) g
 
   -- one call, as the turn of a fold whose state is the closure
   abbrev pub IsSearchTurn : F → A → ControlFlow (Result R E) (Unit {0}) → F → Type 0
   IsSearchTurn f x (Continue u) g = WentOn f x g
-  IsSearchTurn f x (Break r) g = (n : ℕ) → Decided n f x r g
+  IsSearchTurn f x (Break r) g = (n : ℕ) → SearchDecides n f x r g
 
   -- one call, as the turn of a fold whose state is the number of items before, and the closure
   abbrev pub IsPositionTurn : ℕ × F → A → ControlFlow (Result R E) (Unit {0}) → ℕ × F → Type 0
   IsPositionTurn p x (Continue u) q = (q.0 ≡ p.0 + 1) × WentOn p.1 x q.1
-  IsPositionTurn p x (Break r) q = Decided p.0 p.1 x r q.1
+  IsPositionTurn p x (Break r) q = SearchDecides p.0 p.1 x r q.1
 
   -- The answer r by the last draw, with n items before it: `none` at an end; the failure; what the closure decided on the item. It leaves the closure as g.
   abbrev pub SearchExit : R → ℕ → F → Answered A E → Result R E → F → Type 0
   SearchExit none n f (Ok None) r g = (r ≡ Ok none) × (g ≡ f)
   SearchExit none n f (Err e) r g = (r ≡ Err e) × (g ≡ f)
-  SearchExit none n f (Ok (Some x)) r g = Decided n f x r g
+  SearchExit none n f (Ok (Some x)) r g = SearchDecides n f x r g
 
   -- The closure was called on the items in order, and the search went on. Then came the last answer: an end, a failure, or an item on which the closure decided or failed. The calls left g.
   pub record SearchedBy (none : R) (f : F) (r : Result R E) (g : F) (items : List A) (last : Answered A E) : Type 0 where
@@ -75,8 +75,8 @@ module _ {A E F V R : Type 0} (call : F → A → Result V E → F → Type 0) (
     CallableInSearch takes s f = HoldsAtEachTurn steps WentOn takes s f
 
     -- The draws from s returned items and a last answer, and left t, by which the search with f returns r and leaves it as g.
-    abbrev pub Searched : R → S → F → Result R E → S → F → Type 0
-    Searched none s f r t g = Drained steps (SearchedBy none f r g) s t
+    abbrev pub SearchDrains : R → S → F → Result R E → S → F → Type 0
+    SearchDrains none s f r t g = Drained steps (SearchedBy none f r g) s t
 
 -- what a search returns, from what its fold returned, which stops with the search's result
 abbrev pub answer_by : {E R : Type 0} → R → Answered (Result R E) E → Result R E
@@ -93,4 +93,4 @@ found_by (Ok (Some stop)) = stopped_answer stop
 -- One test, as the turn of the fold that `find` is: the test goes on, or it stops the fold with the item, or with its failure.
 abbrev pub IsFindTurn : {A E C : Type 0} → (C → A → Result Bool E → C → Type 0) → C → A → ControlFlow (Result A E) (Unit {0}) → C → Type 0
 IsFindTurn tests c x (Continue u) d = WentOn tests find_pick c x d
-IsFindTurn tests c x (Break stop) d = (n : ℕ) → Decided tests find_pick n c x (stopped_answer stop) d
+IsFindTurn tests c x (Break stop) d = (n : ℕ) → SearchDecides tests find_pick n c x (stopped_answer stop) d

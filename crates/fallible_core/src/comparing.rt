@@ -1,7 +1,7 @@
 //! Comparisons: one loop of rounds over a rule of two items.
 ghost use Rattle.std.specs.Prelude.{◌≡◌, ◌⊎◌};
 ghost use Rattle.fallible_contract.specs.Clauses.{OverBoth};
-ghost use Rattle.fallible_contract.specs.Comparing.{Compared, OneIsFinite, ReadWith, read_as};
+ghost use Rattle.fallible_contract.specs.Comparing.{CompareDraws, OneIsFinite, ReadWith, read_as};
 ghost use Rattle.fallible_contract.specs.Lists.{compared};
 
 use crate::joining::Zip;
@@ -21,7 +21,7 @@ where
     requires left { L.contract.can_next left }
     requires right { R.contract.can_next right }
     requires finite { L.contract.is_finite left ⊎ R.contract.is_finite right }
-    ensures { Compared K.rule L.contract.steps R.contract.steps left right result }
+    ensures { CompareDraws K.rule L.contract.steps R.contract.steps left right result }
 {
     let mut both = Zip { left, right };
     let mut count = both.number();

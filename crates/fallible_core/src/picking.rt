@@ -1,7 +1,7 @@
 //! The best of the items: one fold that keeps the better of two.
 ghost use Rattle.std.specs.Prelude.{◌≡◌, Option, Result, None};
 ghost use Rattle.fallible_contract.specs.Closures.{call_at, takes_at};
-ghost use Rattle.fallible_contract.specs.Folds.{CallableInFold, Folded};
+ghost use Rattle.fallible_contract.specs.Folds.{CallableInFold, FoldDrains};
 ghost use Rattle.fallible_contract.specs.Picking.{call_at_two, takes_at_two, PickCall, PickedByFold, takes_in_pick, KeyCall};
 ghost use Rattle.std.specs.declared.cmp.Ordering.{Ordering};
 
@@ -44,7 +44,7 @@ where
     requires callable { CallableInFold I.contract.steps (KeyCall keeps K.cmp (call_at F.FnMut))
         (λ g b x. takes_at F.FnMut g x) it f None }
     ensures { (left : I)
-        × Folded I.contract.steps (KeyCall keeps K.cmp (call_at F.FnMut)) (λ e d. d ≡ e)
+        × FoldDrains I.contract.steps (KeyCall keeps K.cmp (call_at F.FnMut)) (λ e d. d ≡ e)
         it None f result left }
 {
     let mut it = it;

@@ -4,16 +4,16 @@ ghost use Rattle.std.specs.Iterator.Runs.{EachRunFrom, ItemsAre};
 ghost use Rattle.fallible_contract.specs.Clauses.{OverList, OverListWith, OverBoth};
 ghost use Rattle.fallible_contract.specs.Contract.{Contract, AtMost, Lawful, Stays, NeverFails, seen_as};
 ghost use Rattle.fallible_contract.specs.Closures.{IsCallable, call_on, takes_on, call_at, takes_at};
-ghost use Rattle.fallible_contract.specs.Collecting.{Collects, Asks, Partitions, MadeOfPairs, PairRefused};
-ghost use Rattle.fallible_contract.specs.Lists.{rest_first, rest_nth, rest_true, rest_false, rest_value, rest_fold, items, Lists, ListsForGood, Acts, Repeats, repeated, counted, ActsWithState, CollectedAs, nth_of, folded, reduced, ActsWith, Converts, all_of, any_of, find_mapped, found, last_of, collected, partitioned, MadeOf, MadeOfSides, PartitionedAs, UnzippedAs, position_in, each_done, best_by, greatest, least, best_by_key, compared};
-ghost use Rattle.fallible_contract.specs.Comparing.{OneIsFinite, by_cmp, by_eq, read_as, reads_eq, reads_ne, reads_lt, reads_le, reads_gt, reads_ge, ComparedWith, ReadWith};
-ghost use Rattle.fallible_contract.specs.Picking.{call_at_two, takes_at_two, PickCall, takes_in_pick, Picked, KeyCall, Best, BestByKey};
-ghost use Rattle.fallible_contract.specs.Searching.{CallableInSearch, Searched, all_pick, any_pick, find_map_pick, find_pick, position_pick, each_pick};
+ghost use Rattle.fallible_contract.specs.Collecting as collecting;
+ghost use Rattle.fallible_contract.specs.Lists as list;
+ghost use Rattle.fallible_contract.specs.Comparing as comparing;
+ghost use Rattle.fallible_contract.specs.Picking as pick;
+ghost use Rattle.fallible_contract.specs.Searching as search;
 ghost use Rattle.fallible_contract.specs.Failing.{failures_mapped};
-ghost use Rattle.fallible_contract.specs.Folds.{HoldsAtEachTurn, CallableDriving, Driven, CallableInFold, call_with, takes_with, Folded, CountedOn, Counted, LastOf, Nth, ReduceCall, reduce_takes};
+ghost use Rattle.fallible_contract.specs.Folds as fold;
 ghost use Rattle.fallible_core.specs.OneToOne.Enumerate.{IsNumberable, enumerate_parts, enumerate_contract, numbered};
-ghost use Rattle.fallible_core.specs.Filtering.SkipWhile.{skip_call, skip_takes, skip_while_parts, skip_while_contract, skipped_while, skip_while_source, skip_while_found, skip_while_predicate};
-ghost use Rattle.fallible_core.specs.OneToOne.Scan.{scan_call, scan_takes, scan_parts, scan_contract, scanned, scan_source, scan_state, scan_closure};
+ghost use Rattle.fallible_core.specs.Filtering.SkipWhile as skip_while;
+ghost use Rattle.fallible_core.specs.OneToOne.Scan as scan;
 ghost use Rattle.fallible_core.specs.OneToOne.Map.{map_parts, map_contract, mapped, map_source, map_closure};
 ghost use Rattle.fallible_core.specs.OneToOne.Inspect.{inspect_parts, inspect_contract, inspected};
 ghost use Rattle.fallible_core.specs.Filtering.Filter.{filter_parts, filter_contract, filtered};
@@ -23,14 +23,14 @@ ghost use Rattle.fallible_core.specs.OneToOne.MapErr.{map_err_parts, map_err_con
 ghost use Rattle.fallible_core.specs.OneToOne.Cloned.{cloned_parts, cloned_contract, pointed_to};
 ghost use Rattle.fallible_core.specs.Ends.Rev.{rev_parts, rev_contract};
 ghost use Rattle.fallible_core.specs.Cutting.Take.{take_parts, take_contract, taken};
-ghost use Rattle.fallible_core.specs.Cutting.TakeWhile.{take_while_parts, take_while_contract, taken_while, take_while_source, take_while_predicate, take_while_refused};
+ghost use Rattle.fallible_core.specs.Cutting.TakeWhile as take_while;
 ghost use Rattle.fallible_core.specs.Cutting.Fuse.{fuse_parts, fuse_contract};
 ghost use Rattle.fallible_core.specs.Cutting.Skip.{skip_parts, skip_contract, skipped};
-ghost use Rattle.fallible_core.specs.Cutting.StepBy.{step_by_parts, step_by_contract, stepped, step_by_source, step_by_between, step_by_to_skip};
-ghost use Rattle.fallible_core.specs.Joining.Chain.{chain_parts, chain_contract, chained, chain_first, chain_second, chain_still_drawn};
-ghost use Rattle.fallible_core.specs.Joining.Zip.{zip_parts, zip_contract, zipped, NoFailureAtEnd, zip_left, zip_right};
-ghost use Rattle.fallible_core.specs.Joining.Flatten.{flatten_parts, flatten_contract, EachLists, flattened, flatten_inner, flatten_source};
-ghost use Rattle.fallible_core.specs.Joining.FlatMap.{flat_map_parts, flat_map_contract, flat_map_source, flat_map_closure, flat_map_inner};
+ghost use Rattle.fallible_core.specs.Cutting.StepBy as step_by;
+ghost use Rattle.fallible_core.specs.Joining.Chain as chain;
+ghost use Rattle.fallible_core.specs.Joining.Zip as zip;
+ghost use Rattle.fallible_core.specs.Joining.Flatten as flatten;
+ghost use Rattle.fallible_core.specs.Joining.FlatMap as flat_map;
 ghost use Rattle.fallible_core.specs.Borrowed.{borrowed};
 ghost use Rattle.fallible_core.specs.Bridges.Iterator.{iterator_parts, iterator_steps};
 ghost use Rattle.fallible_core.specs.Bridges.Unwrap.{unwrap_parts, unwrap_steps, unwrapped};
@@ -146,9 +146,9 @@ pub trait FallibleIterator: Drop + Sized {
     where
         requires can_next { contract.can_next self.old }
         requires finite { contract.is_finite self.old }
-        requires callable { CallableDriving contract.steps (K.turns turn.now) (K.can_turn turn.now)
-            self.old state.old }
-        ensures { Driven contract.steps (K.turns turn.now) self.old state.old result
+        requires callable { fold.CallableDriving contract.steps (K.turns turn.now)
+            (K.can_turn turn.now) self.old state.old }
+        ensures { fold.Driven contract.steps (K.turns turn.now) self.old state.old result
             self.new state.new }
     {
         let mut left = (*self).number();
@@ -171,7 +171,7 @@ pub trait FallibleIterator: Drop + Sized {
         Self::Item: Drop,
         requires can_next { contract.can_next self.old }
         requires fits { AtMost contract self.old (2 ^ 64 - 1 - number.old) }
-        ensures { CountedOn contract.steps self.old number.old result self.new number.new }
+        ensures { fold.CountDrainsOn contract.steps self.old number.old result self.new number.new }
     {
         match self.drive(number, &CountTurn) {
             Ok(None) => Ok(()),
@@ -197,8 +197,8 @@ pub trait FallibleIterator: Drop + Sized {
         Self::Item: Drop,
         requires can_next { contract.can_next self }
         requires fits { AtMost contract self (2 ^ 64 - 1) }
-        ensures counted { (after : Self) × Counted contract.steps self result after }
-        ensures value { OverList contract.steps self (λ l. result ≡ counted l) }
+        ensures counted { (after : Self) × fold.CountDrains contract.steps self result after }
+        ensures value { OverList contract.steps self (λ l. result ≡ list.counted l) }
     {
         let mut number = 0;
         match self.drive_count(&mut number) {
@@ -213,7 +213,7 @@ pub trait FallibleIterator: Drop + Sized {
         Self::Item: Drop,
         requires can_next { contract.can_next self.old }
         requires finite { contract.is_finite self.old }
-        ensures { LastOf contract.steps self.old result self.new }
+        ensures { fold.LastDrains contract.steps self.old result self.new }
     {
         let mut last = None;
         match self.drive(&mut last, &LastTurn) {
@@ -240,8 +240,8 @@ pub trait FallibleIterator: Drop + Sized {
         Self::Item: Drop,
         requires can_next { contract.can_next self }
         requires finite { contract.is_finite self }
-        ensures last { (after : Self) × LastOf contract.steps self result after }
-        ensures value { OverList contract.steps self (λ l. result ≡ last_of l) }
+        ensures last { (after : Self) × fold.LastDrains contract.steps self result after }
+        ensures value { OverList contract.steps self (λ l. result ≡ list.last_of l) }
     {
         self.drive_last()
     }
@@ -251,7 +251,7 @@ pub trait FallibleIterator: Drop + Sized {
     where
         Self::Item: Drop,
         requires { contract.can_next self.old }
-        ensures { Nth contract.steps self.old n result self.new }
+        ensures { fold.NthDrains contract.steps self.old n result self.new }
     {
         let mut left = n;
         while 0 < left {
@@ -283,10 +283,10 @@ pub trait FallibleIterator: Drop + Sized {
     where
         Self::Item: Drop,
         requires { contract.can_next self.old }
-        ensures nth { Nth contract.steps self.old n result self.new }
-        ensures value { OverList contract.steps self.old (λ l. result ≡ nth_of n l) }
+        ensures nth { fold.NthDrains contract.steps self.old n result self.new }
+        ensures value { OverList contract.steps self.old (λ l. result ≡ list.nth_of n l) }
         ensures rest { OverList contract.steps self.old
-            (λ l. ¬ (result ≡ Ok None) → Lists contract.steps self.new (rest_nth n l)) }
+            (λ l. ¬ (result ≡ Ok None) → list.Lists contract.steps self.new (list.rest_nth n l)) }
         ensures stays { Stays contract self.old self.new }
     {
         self.drive_nth(n)
@@ -313,16 +313,16 @@ pub trait FallibleIterator: Drop + Sized {
         F: FnMut(B, Self::Item) -> Result<B, E>,
         requires can_next { contract.can_next self.old }
         requires finite { contract.is_finite self.old }
-        requires callable { CallableInFold contract.steps (call_with F.FnMut) (takes_with F.FnMut)
-            self.old f init }
-        ensures folded { Folded contract.steps (call_with F.FnMut) E.from_gives
+        requires callable { fold.CallableInFold contract.steps (fold.call_with F.FnMut)
+            (fold.takes_with F.FnMut) self.old f init }
+        ensures folded { fold.FoldDrains contract.steps (fold.call_with F.FnMut) E.from_gives
             self.old init f result self.new }
-        ensures value { (convert : Self.Error → E) → Converts E.from_gives convert
-            → OverListWith (ActsWith (call_with F.FnMut) f) contract.steps self.old
-            (λ h l. result ≡ folded convert h init l) }
-        ensures rest { OverListWith (ActsWith (call_with F.FnMut) f) contract.steps self.old
-            (λ h l. (e : E) → result ≡ Err e
-            → Lists contract.steps self.new (rest_fold h init l)) }
+        ensures value { (convert : Self.Error → E) → list.Converts E.from_gives convert
+            → OverListWith (list.ActsWith (fold.call_with F.FnMut) f) contract.steps self.old
+            (λ h l. result ≡ list.folded convert h init l) }
+        ensures rest { OverListWith (list.ActsWith (fold.call_with F.FnMut) f) contract.steps
+            self.old (λ h l. (e : E) → result ≡ Err e
+            → list.Lists contract.steps self.new (list.rest_fold h init l)) }
         ensures stays { Stays contract self.old self.new }
     {
         let mut state = (Some(init), f);
@@ -356,12 +356,12 @@ pub trait FallibleIterator: Drop + Sized {
         F: FnMut(B, Self::Item) -> Result<B, Self::Error>,
         requires can_next { contract.can_next self }
         requires finite { contract.is_finite self }
-        requires callable { CallableInFold contract.steps (call_with F.FnMut) (takes_with F.FnMut)
-            self f init }
-        ensures folded { (left : Self) × Folded contract.steps (call_with F.FnMut)
+        requires callable { fold.CallableInFold contract.steps (fold.call_with F.FnMut)
+            (fold.takes_with F.FnMut) self f init }
+        ensures folded { (left : Self) × fold.FoldDrains contract.steps (fold.call_with F.FnMut)
             (λ e d. d ≡ e) self init f result left }
-        ensures value { OverListWith (ActsWith (call_with F.FnMut) f) contract.steps self
-            (λ h l. result ≡ folded (λ e. e) h init l) }
+        ensures value { OverListWith (list.ActsWith (fold.call_with F.FnMut) f) contract.steps self
+            (λ h l. result ≡ list.folded (λ e. e) h init l) }
     {
         self.try_fold(init, f)
     }
@@ -379,12 +379,13 @@ pub trait FallibleIterator: Drop + Sized {
         F: FnMut(Self::Item, Self::Item) -> Result<Self::Item, Self::Error>,
         requires can_next { contract.can_next self }
         requires finite { contract.is_finite self }
-        requires callable { CallableInFold contract.steps (ReduceCall (call_with F.FnMut))
-            (reduce_takes (takes_with F.FnMut)) self f None }
-        ensures reduced { (left : Self) × Folded contract.steps (ReduceCall (call_with F.FnMut))
-            (λ e d. d ≡ e) self None f result left }
-        ensures value { OverListWith (ActsWith (call_with F.FnMut) f) contract.steps self
-            (λ h l. result ≡ reduced h l) }
+        requires callable { fold.CallableInFold contract.steps
+            (fold.ReduceCall (fold.call_with F.FnMut))
+            (fold.reduce_takes (fold.takes_with F.FnMut)) self f None }
+        ensures reduced { (left : Self) × fold.FoldDrains contract.steps
+            (fold.ReduceCall (fold.call_with F.FnMut)) (λ e d. d ≡ e) self None f result left }
+        ensures value { OverListWith (list.ActsWith (fold.call_with F.FnMut) f) contract.steps self
+            (λ h l. result ≡ list.reduced h l) }
     {
         let mut state = (None, f);
         let answer = self.drive(&mut state, &ReduceTurn);
@@ -406,10 +407,10 @@ pub trait FallibleIterator: Drop + Sized {
         Self::Item: Drop,
         requires can_next { contract.can_next self.old }
         requires finite { contract.is_finite self.old }
-        requires callable { CallableInSearch (K.tests test.now) find_pick contract.steps
-            (K.can_test test.now) self.old state.old }
-        ensures { Searched (K.tests test.now) find_pick contract.steps None self.old state.old
-            result self.new state.new }
+        requires callable { search.CallableInSearch (K.tests test.now) search.find_pick
+            contract.steps (K.can_test test.now) self.old state.old }
+        ensures { search.SearchDrains (K.tests test.now) search.find_pick contract.steps None
+            self.old state.old result self.new state.new }
     {
         found(self.drive(state, &FindTurn { test }))
     }
@@ -433,8 +434,8 @@ pub trait FallibleIterator: Drop + Sized {
         F: FnMut(Self::Item) -> Result<B, Self::Error>,
         requires { IsCallable (call_on F.FnMut) (takes_on F.FnMut) (contract.may_give self) f }
         ensures parts { map_parts result ≡ (self, f) }
-        ensures lists { OverListWith (Acts (call_on F.FnMut) f) contract.steps self
-            (λ h l. Lists (seen_as map_parts (map_contract contract F.FnMut)).steps
+        ensures lists { OverListWith (list.Acts (call_on F.FnMut) f) contract.steps self
+            (λ h l. list.Lists (seen_as map_parts (map_contract contract F.FnMut)).steps
             result (mapped h l)) }
     {
         Map { it: self, f }
@@ -458,8 +459,8 @@ pub trait FallibleIterator: Drop + Sized {
         requires callable { IsCallable (call_at F.FnMut) (takes_at F.FnMut)
             (contract.may_give self) f }
         ensures parts { filter_parts result ≡ (self, f) }
-        ensures lists { OverListWith (Acts (call_at F.FnMut) f) contract.steps self
-            (λ h l. Lists (seen_as filter_parts (filter_contract contract F.FnMut)).steps
+        ensures lists { OverListWith (list.Acts (call_at F.FnMut) f) contract.steps self
+            (λ h l. list.Lists (seen_as filter_parts (filter_contract contract F.FnMut)).steps
             result (filtered h l)) }
     {
         Filter { it: self, f }
@@ -478,9 +479,11 @@ pub trait FallibleIterator: Drop + Sized {
     final fn take(self, n: usize) -> Take<Self>
         ensures parts { take_parts result ≡ (self, n) }
         ensures lists { OverList contract.steps self
-            (λ l. Lists (seen_as take_parts (take_contract contract)).steps result (taken n l)) }
-        ensures repeats { (x : Self.Item) → Repeats contract.steps self (Ok x)
-            → Lists (seen_as take_parts (take_contract contract)).steps result (repeated n x) }
+            (λ l. list.Lists (seen_as take_parts (take_contract contract)).steps result
+            (taken n l)) }
+        ensures repeats { (x : Self.Item) → list.Repeats contract.steps self (Ok x)
+            → list.Lists (seen_as take_parts (take_contract contract)).steps result
+            (list.repeated n x) }
     {
         Take {
             it: self,
@@ -504,12 +507,13 @@ pub trait FallibleIterator: Drop + Sized {
         P: FnMut(&Self::Item) -> Result<bool, Self::Error>,
         requires { IsCallable (call_at P.FnMut)
             (takes_at P.FnMut) (contract.may_give self) predicate }
-        ensures source { take_while_source result ≡ self }
-        ensures predicate { take_while_predicate result ≡ predicate }
-        ensures refused { take_while_refused result ≡ false }
-        ensures lists { OverListWith (Acts (call_at P.FnMut) predicate) contract.steps self
-            (λ h l. Lists (seen_as take_while_parts (take_while_contract contract P.FnMut)).steps
-            result (taken_while h l)) }
+        ensures source { take_while.take_while_source result ≡ self }
+        ensures predicate { take_while.take_while_predicate result ≡ predicate }
+        ensures refused { take_while.take_while_refused result ≡ false }
+        ensures lists { OverListWith (list.Acts (call_at P.FnMut) predicate) contract.steps self
+            (λ h l. list.Lists (seen_as take_while.take_while_parts
+            (take_while.take_while_contract contract P.FnMut)).steps
+            result (take_while.taken_while h l)) }
     {
         TakeWhile {
             it: self,
@@ -532,9 +536,9 @@ pub trait FallibleIterator: Drop + Sized {
     final fn fuse(self) -> Fuse<Self>
         ensures parts { fuse_parts result ≡ (self, false) }
         ensures lists { OverList contract.steps self
-            (λ l. Lists (seen_as fuse_parts (fuse_contract contract)).steps result l) }
+            (λ l. list.Lists (seen_as fuse_parts (fuse_contract contract)).steps result l) }
         ensures for_good { OverList contract.steps self
-            (λ l. ListsForGood (seen_as fuse_parts (fuse_contract contract)).steps result l) }
+            (λ l. list.ListsForGood (seen_as fuse_parts (fuse_contract contract)).steps result l) }
     {
         Fuse {
             it: self,
@@ -556,7 +560,8 @@ pub trait FallibleIterator: Drop + Sized {
     final fn skip(self, n: usize) -> Skip<Self>
         ensures parts { skip_parts result ≡ (self, n) }
         ensures lists { OverList contract.steps self
-            (λ l. Lists (seen_as skip_parts (skip_contract contract)).steps result (skipped n l)) }
+            (λ l. list.Lists (seen_as skip_parts (skip_contract contract)).steps result
+            (skipped n l)) }
     {
         Skip {
             it: self,
@@ -577,12 +582,12 @@ pub trait FallibleIterator: Drop + Sized {
     /// ```
     final fn step_by(self, step: usize) -> StepBy<Self>
         requires { 1 ≤ step }
-        ensures source { step_by_source result ≡ self }
-        ensures between { step_by_between result ≡ step - 1 }
-        ensures to_skip { step_by_to_skip result ≡ 0 }
+        ensures source { step_by.step_by_source result ≡ self }
+        ensures between { step_by.step_by_between result ≡ step - 1 }
+        ensures to_skip { step_by.step_by_to_skip result ≡ 0 }
         ensures lists { OverList contract.steps self
-            (λ l. Lists (seen_as step_by_parts (step_by_contract contract)).steps
-            result (stepped (step - 1) 0 l)) }
+            (λ l. list.Lists (seen_as step_by.step_by_parts
+            (step_by.step_by_contract contract)).steps result (step_by.stepped (step - 1) 0 l)) }
     {
         StepBy {
             it: self,
@@ -610,9 +615,9 @@ pub trait FallibleIterator: Drop + Sized {
         requires callable { IsCallable (call_on F.FnMut) (takes_on F.FnMut)
             (contract.may_give self) f }
         ensures parts { filter_map_parts result ≡ (self, f) }
-        ensures lists { OverListWith (Acts (call_on F.FnMut) f) contract.steps self
-            (λ h l. Lists (seen_as filter_map_parts (filter_map_contract contract F.FnMut)).steps
-            result (filter_mapped h l)) }
+        ensures lists { OverListWith (list.Acts (call_on F.FnMut) f) contract.steps self
+            (λ h l. list.Lists (seen_as filter_map_parts
+            (filter_map_contract contract F.FnMut)).steps result (filter_mapped h l)) }
     {
         FilterMap { it: self, f }
     }
@@ -633,8 +638,8 @@ pub trait FallibleIterator: Drop + Sized {
         F: FnMut(&Self::Item) -> Result<(), Self::Error>,
         requires { IsCallable (call_at F.FnMut) (takes_at F.FnMut) (contract.may_give self) f }
         ensures parts { inspect_parts result ≡ (self, f) }
-        ensures lists { OverListWith (Acts (call_at F.FnMut) f) contract.steps self
-            (λ h l. Lists (seen_as inspect_parts (inspect_contract contract F.FnMut)).steps
+        ensures lists { OverListWith (list.Acts (call_at F.FnMut) f) contract.steps self
+            (λ h l. list.Lists (seen_as inspect_parts (inspect_contract contract F.FnMut)).steps
             result (inspected h l)) }
     {
         Inspect { it: self, f }
@@ -657,8 +662,8 @@ pub trait FallibleIterator: Drop + Sized {
         F: FnMut(Self::Error) -> B,
         requires { IsCallable (call_on F.FnMut) (takes_on F.FnMut) (contract.may_fail self) f }
         ensures parts { map_err_parts result ≡ (self, f) }
-        ensures lists { OverListWith (Acts (call_on F.FnMut) f) contract.steps self
-            (λ h l. Lists (seen_as map_err_parts (map_err_contract contract F.FnMut)).steps
+        ensures lists { OverListWith (list.Acts (call_on F.FnMut) f) contract.steps self
+            (λ h l. list.Lists (seen_as map_err_parts (map_err_contract contract F.FnMut)).steps
             result (failures_mapped h l)) }
     {
         MapErr { it: self, f }
@@ -678,7 +683,7 @@ pub trait FallibleIterator: Drop + Sized {
         ensures parts { enumerate_parts result ≡ (self, 0) }
         ensures numberable { contract.can_next self → IsNumberable contract self 0 }
         ensures lists { OverList contract.steps self
-            (λ l. Lists (seen_as enumerate_parts (enumerate_contract contract)).steps
+            (λ l. list.Lists (seen_as enumerate_parts (enumerate_contract contract)).steps
             result (numbered 0 l)) }
     {
         Enumerate { it: self, count: 0 }
@@ -701,14 +706,15 @@ pub trait FallibleIterator: Drop + Sized {
     where
         P: FnMut(&Self::Item) -> Result<bool, Self::Error>,
         requires finite { contract.is_finite self }
-        requires callable { IsCallable (skip_call (call_at P.FnMut)) (skip_takes (takes_at P.FnMut))
-            (contract.may_give self) (false, predicate) }
-        ensures source { skip_while_source result ≡ self }
-        ensures found { skip_while_found result ≡ false }
-        ensures predicate { skip_while_predicate result ≡ predicate }
-        ensures lists { OverListWith (Acts (call_at P.FnMut) predicate) contract.steps self
-            (λ h l. Lists (seen_as skip_while_parts (skip_while_contract contract P.FnMut)).steps
-            result (skipped_while h l)) }
+        requires callable { IsCallable (skip_while.skip_call (call_at P.FnMut))
+            (skip_while.skip_takes (takes_at P.FnMut)) (contract.may_give self) (false, predicate) }
+        ensures source { skip_while.skip_while_source result ≡ self }
+        ensures found { skip_while.skip_while_found result ≡ false }
+        ensures predicate { skip_while.skip_while_predicate result ≡ predicate }
+        ensures lists { OverListWith (list.Acts (call_at P.FnMut) predicate) contract.steps self
+            (λ h l. list.Lists (seen_as skip_while.skip_while_parts
+            (skip_while.skip_while_contract contract P.FnMut)).steps
+            result (skip_while.skipped_while h l)) }
     {
         SkipWhile {
             it: self,
@@ -730,8 +736,8 @@ pub trait FallibleIterator: Drop + Sized {
         F: FnMut(Self::Item) -> Result<Option<B>, Self::Error>,
         requires { IsCallable (call_on F.FnMut) (takes_on F.FnMut) (contract.may_give self) f }
         ensures parts { map_while_parts result ≡ (self, f) }
-        ensures lists { OverListWith (Acts (call_on F.FnMut) f) contract.steps self
-            (λ h l. Lists (seen_as map_while_parts (map_while_contract contract F.FnMut)).steps
+        ensures lists { OverListWith (list.Acts (call_on F.FnMut) f) contract.steps self
+            (λ h l. list.Lists (seen_as map_while_parts (map_while_contract contract F.FnMut)).steps
             result (mapped_while h l)) }
     {
         MapWhile { it: self, f }
@@ -754,14 +760,16 @@ pub trait FallibleIterator: Drop + Sized {
     final fn scan<St, B, F>(self, initial_state: St, f: F) -> Scan<Self, St, F>
     where
         F: FnMut(&mut St, Self::Item) -> Result<Option<B>, Self::Error>,
-        requires { IsCallable (scan_call F.FnMut) (scan_takes F.FnMut) (contract.may_give self)
-            (initial_state, f) }
-        ensures source { scan_source result ≡ self }
-        ensures state { scan_state result ≡ initial_state }
-        ensures closure { scan_closure result ≡ f }
-        ensures lists { OverListWith (ActsWithState (scan_call F.FnMut) f) contract.steps self
-            (λ next l. Lists (seen_as scan_parts (scan_contract contract F.FnMut)).steps
-            result (scanned next initial_state l)) }
+        requires { IsCallable (scan.scan_call F.FnMut) (scan.scan_takes F.FnMut)
+            (contract.may_give self) (initial_state, f) }
+        ensures source { scan.scan_source result ≡ self }
+        ensures state { scan.scan_state result ≡ initial_state }
+        ensures closure { scan.scan_closure result ≡ f }
+        ensures lists { OverListWith (list.ActsWithState (scan.scan_call F.FnMut) f) contract.steps
+            self
+            (λ next l. list.Lists
+            (seen_as scan.scan_parts (scan.scan_contract contract F.FnMut)).steps
+            result (scan.scanned next initial_state l)) }
     {
         Scan {
             it: self,
@@ -788,7 +796,7 @@ pub trait FallibleIterator: Drop + Sized {
         ensures parts { cloned_parts result ≡ (self, tt) }
         ensures lists { OverList contract.steps self
             (λ l. ((x y : T) → T.is_clone x y → y ≡ x) → ((x : T) → T.is_infallible x)
-            → Lists (seen_as cloned_parts (cloned_contract T.is_clone T.is_infallible
+            → list.Lists (seen_as cloned_parts (cloned_contract T.is_clone T.is_infallible
             Self.Error.from_gives contract)).steps result (pointed_to l)) }
     {
         Cloned { it: self }
@@ -808,7 +816,7 @@ pub trait FallibleIterator: Drop + Sized {
         Self: DoubleEndedFallibleIterator,
         ensures parts { rev_parts result ≡ self }
         ensures lists { OverList Self.DoubleEndedFallibleIterator.ends.steps self
-            (λ l. Lists (seen_as rev_parts
+            (λ l. list.Lists (seen_as rev_parts
             (rev_contract contract Self.DoubleEndedFallibleIterator.ends)).steps result l) }
     {
         Rev { it: self }
@@ -828,13 +836,13 @@ pub trait FallibleIterator: Drop + Sized {
     final fn chain<I>(self, it: I) -> Chain<Self, I::IntoFallibleIter>
     where
         I: IntoFallibleIterator<Item = Self::Item, Error = Self::Error>,
-        ensures first { chain_first result ≡ self }
-        ensures second { I.into_gives it (chain_second result) }
-        ensures still_drawn { chain_still_drawn result ≡ Both }
+        ensures first { chain.chain_first result ≡ self }
+        ensures second { I.into_gives it (chain.chain_second result) }
+        ensures still_drawn { chain.chain_still_drawn result ≡ Both }
         ensures lists { OverBoth contract.steps self I.into_gives it
             I.IntoFallibleIter.contract.steps
-            (λ a b. Lists (seen_as chain_parts (chain_contract contract
-            I.IntoFallibleIter.contract)).steps result (chained a b)) }
+            (λ a b. list.Lists (seen_as chain.chain_parts (chain.chain_contract contract
+            I.IntoFallibleIter.contract)).steps result (chain.chained a b)) }
     {
         Chain {
             first: self,
@@ -857,19 +865,19 @@ pub trait FallibleIterator: Drop + Sized {
     final fn zip<I>(self, o: I) -> Zip<Self, I::IntoFallibleIter>
     where
         I: IntoFallibleIterator<Error = Self::Error>,
-        ensures left { zip_left result ≡ self }
-        ensures right { I.into_gives o (zip_right result) }
+        ensures left { zip.zip_left result ≡ self }
+        ensures right { I.into_gives o (zip.zip_right result) }
         ensures lists { OverBoth contract.steps self I.into_gives o
             I.IntoFallibleIter.contract.steps
-            (λ a b. NoFailureAtEnd a b
-            → Lists (seen_as zip_parts (zip_contract contract
-            I.IntoFallibleIter.contract)).steps result (zipped a b)) }
+            (λ a b. zip.NoFailureAtEnd a b
+            → list.Lists (seen_as zip.zip_parts (zip.zip_contract contract
+            I.IntoFallibleIter.contract)).steps result (zip.zipped a b)) }
         ensures items { OverList contract.steps self
             (λ a. (b : List I.Item)
             → ((right : I.IntoFallibleIter) → I.into_gives o right
-            → Lists I.IntoFallibleIter.contract.steps right (items b))
-            → Lists (seen_as zip_parts (zip_contract contract
-            I.IntoFallibleIter.contract)).steps result (zipped a (items b))) }
+            → list.Lists I.IntoFallibleIter.contract.steps right (list.items b))
+            → list.Lists (seen_as zip.zip_parts (zip.zip_contract contract
+            I.IntoFallibleIter.contract)).steps result (zip.zipped a (list.items b))) }
     {
         Zip {
             left: self,
@@ -893,14 +901,14 @@ pub trait FallibleIterator: Drop + Sized {
     where
         Self::Item: IntoFallibleIterator<Error = Self::Error>,
         requires { contract.is_finite self }
-        ensures source { flatten_source result ≡ self }
-        ensures inner { flatten_inner result ≡ None }
+        ensures source { flatten.flatten_source result ≡ self }
+        ensures inner { flatten.flatten_inner result ≡ None }
         ensures lists { OverListWith
-            (EachLists Self.Item.into_gives Self.Item.IntoFallibleIter.contract.steps)
+            (flatten.EachLists Self.Item.into_gives Self.Item.IntoFallibleIter.contract.steps)
             contract.steps self
-            (λ inner l. Lists (seen_as flatten_parts (flatten_contract contract
+            (λ inner l. list.Lists (seen_as flatten.flatten_parts (flatten.flatten_contract contract
             Self.Item.into_gives Self.Item.IntoFallibleIter.contract)).steps
-            result (flattened inner l)) }
+            result (flatten.flattened inner l)) }
     {
         Flatten {
             it: self,
@@ -927,15 +935,16 @@ pub trait FallibleIterator: Drop + Sized {
         requires finite { contract.is_finite self }
         requires callable { IsCallable (call_on F.FnMut) (takes_on F.FnMut)
             (contract.may_give self) f }
-        ensures source { flat_map_source result ≡ self }
-        ensures closure { flat_map_closure result ≡ f }
-        ensures inner { flat_map_inner result ≡ None }
+        ensures source { flat_map.flat_map_source result ≡ self }
+        ensures closure { flat_map.flat_map_closure result ≡ f }
+        ensures inner { flat_map.flat_map_inner result ≡ None }
         ensures lists { (inner : U → List (Result U.Item Self.Error))
-            → EachLists U.into_gives U.IntoFallibleIter.contract.steps inner
-            → OverListWith (Acts (call_on F.FnMut) f) contract.steps self
-            (λ h l. Lists (seen_as flat_map_parts (flat_map_contract contract F.FnMut
+            → flatten.EachLists U.into_gives U.IntoFallibleIter.contract.steps inner
+            → OverListWith (list.Acts (call_on F.FnMut) f) contract.steps self
+            (λ h l. list.Lists (seen_as flat_map.flat_map_parts
+            (flat_map.flat_map_contract contract F.FnMut
             U.into_gives U.IntoFallibleIter.contract)).steps
-            result (flattened inner (mapped h l))) }
+            result (flatten.flattened inner (mapped h l))) }
     {
         FlatMap {
             it: self.map(f),
@@ -964,13 +973,13 @@ pub trait FallibleIterator: Drop + Sized {
     where
         requires can_next { contract.can_next self }
         requires finite { contract.is_finite self }
-        ensures collects { Collects contract.steps C.made C.empty_refuses C.push_refuses
+        ensures collects { collecting.Collects contract.steps C.made C.empty_refuses C.push_refuses
             self result }
-        ensures value { OverList contract.steps self (λ l. CollectedAs C.made l result) }
+        ensures value { OverList contract.steps self (λ l. list.CollectedAs C.made l result) }
         ensures contents { OverList contract.steps self
-            (λ l. IfOk result (MadeOf C.made (collected l))) }
+            (λ l. IfOk result (list.MadeOf C.made (list.collected l))) }
         ensures failure { OverList contract.steps self
-            (λ l. (e : Self.Error) → result ≡ Err (Source e) → collected l ≡ Err e) }
+            (λ l. (e : Self.Error) → result ≡ Err (Source e) → list.collected l ≡ Err e) }
     {
         let mut made = match C::empty(alloc) {
             Ok(made) => made,
@@ -1004,16 +1013,16 @@ pub trait FallibleIterator: Drop + Sized {
         F: FnMut(&Self::Item) -> Result<bool, Self::Error>,
         requires can_next { contract.can_next self }
         requires finite { contract.is_finite self }
-        requires callable { HoldsAtEachTurn contract.steps (Asks (call_at F.FnMut))
+        requires callable { fold.HoldsAtEachTurn contract.steps (collecting.Asks (call_at F.FnMut))
             (takes_at F.FnMut) self f }
-        ensures partitions { Partitions contract.steps (call_at F.FnMut) B.made B.empty_refuses
-            B.push_refuses self f result }
-        ensures value { OverListWith (Acts (call_at F.FnMut) f) contract.steps self
-            (λ h l. PartitionedAs B.made h l result) }
-        ensures contents { OverListWith (Acts (call_at F.FnMut) f) contract.steps self
-            (λ h l. IfOk result (MadeOf (MadeOfSides B.made) (partitioned h l))) }
-        ensures failure { OverListWith (Acts (call_at F.FnMut) f) contract.steps self
-            (λ h l. (e : Self.Error) → result ≡ Err (Source e) → partitioned h l ≡ Err e) }
+        ensures partitions { collecting.Partitions contract.steps (call_at F.FnMut) B.made
+            B.empty_refuses B.push_refuses self f result }
+        ensures value { OverListWith (list.Acts (call_at F.FnMut) f) contract.steps self
+            (λ h l. list.PartitionedAs B.made h l result) }
+        ensures contents { OverListWith (list.Acts (call_at F.FnMut) f) contract.steps self
+            (λ h l. IfOk result (list.MadeOf (list.MadeOfSides B.made) (list.partitioned h l))) }
+        ensures failure { OverListWith (list.Acts (call_at F.FnMut) f) contract.steps self
+            (λ h l. (e : Self.Error) → result ≡ Err (Source e) → list.partitioned h l ≡ Err e) }
     {
         let first = match B::empty(alloc) {
             Ok(made) => made,
@@ -1049,15 +1058,18 @@ pub trait FallibleIterator: Drop + Sized {
         B: Drop,
         requires can_next { contract.can_next self }
         requires finite { contract.is_finite self }
-        ensures collects { Collects contract.steps (MadeOfPairs FromA.made FromB.made)
+        ensures collects { collecting.Collects contract.steps
+            (collecting.MadeOfPairs FromA.made FromB.made)
             (FromA.empty_refuses ⊎ FromB.empty_refuses)
-            (PairRefused FromA.made FromB.made FromA.push_refuses FromB.push_refuses) self result }
+            (collecting.PairRefused FromA.made FromB.made FromA.push_refuses FromB.push_refuses)
+            self result }
         ensures value { OverList contract.steps self
-            (λ l. UnzippedAs FromA.made FromB.made l result) }
+            (λ l. list.UnzippedAs FromA.made FromB.made l result) }
         ensures contents { OverList contract.steps self
-            (λ l. IfOk result (MadeOf (MadeOfPairs FromA.made FromB.made) (collected l))) }
+            (λ l. IfOk result (list.MadeOf (collecting.MadeOfPairs FromA.made FromB.made)
+            (list.collected l))) }
         ensures failure { OverList contract.steps self
-            (λ l. (e : Self.Error) → result ≡ Err (Source e) → collected l ≡ Err e) }
+            (λ l. (e : Self.Error) → result ≡ Err (Source e) → list.collected l ≡ Err e) }
     {
         let first = match FromA::empty(alloc) {
             Ok(made) => made,
@@ -1089,12 +1101,13 @@ pub trait FallibleIterator: Drop + Sized {
         F: FnMut(Self::Item) -> Result<(), Self::Error>,
         requires can_next { contract.can_next self }
         requires finite { contract.is_finite self }
-        requires callable { CallableInSearch (call_on F.FnMut) each_pick contract.steps
-            (takes_on F.FnMut) self f }
+        requires callable { search.CallableInSearch (call_on F.FnMut) search.each_pick
+            contract.steps (takes_on F.FnMut) self f }
         ensures searched { (left : Self) × (g : F)
-            × Searched (call_on F.FnMut) each_pick contract.steps tt self f result left g }
-        ensures value { OverListWith (Acts (call_on F.FnMut) f) contract.steps self
-            (λ h l. result ≡ each_done h l) }
+            × search.SearchDrains (call_on F.FnMut) search.each_pick contract.steps tt self f result
+            left g }
+        ensures value { OverListWith (list.Acts (call_on F.FnMut) f) contract.steps self
+            (λ h l. result ≡ list.each_done h l) }
     {
         let mut f = f;
         answer_or(self.drive(&mut f, &ForEachTurn), ())
@@ -1116,15 +1129,15 @@ pub trait FallibleIterator: Drop + Sized {
         F: FnMut(Self::Item) -> Result<bool, Self::Error>,
         requires can_next { contract.can_next self.old }
         requires finite { contract.is_finite self.old }
-        requires callable { CallableInSearch (call_on F.FnMut) all_pick contract.steps
+        requires callable { search.CallableInSearch (call_on F.FnMut) search.all_pick contract.steps
             (takes_on F.FnMut) self.old f }
-        ensures searched { (g : F) × Searched (call_on F.FnMut) all_pick contract.steps true
-            self.old f result self.new g }
-        ensures value { OverListWith (Acts (call_on F.FnMut) f) contract.steps self.old
-            (λ h l. result ≡ all_of h l) }
-        ensures rest { OverListWith (Acts (call_on F.FnMut) f) contract.steps self.old
+        ensures searched { (g : F) × search.SearchDrains (call_on F.FnMut) search.all_pick
+            contract.steps true self.old f result self.new g }
+        ensures value { OverListWith (list.Acts (call_on F.FnMut) f) contract.steps self.old
+            (λ h l. result ≡ list.all_of h l) }
+        ensures rest { OverListWith (list.Acts (call_on F.FnMut) f) contract.steps self.old
             (λ h l. ¬ (result ≡ Ok true)
-            → Lists contract.steps self.new (rest_false h l)) }
+            → list.Lists contract.steps self.new (list.rest_false h l)) }
         ensures stays { Stays contract self.old self.new }
     {
         let mut f = f;
@@ -1145,15 +1158,15 @@ pub trait FallibleIterator: Drop + Sized {
         F: FnMut(Self::Item) -> Result<bool, Self::Error>,
         requires can_next { contract.can_next self.old }
         requires finite { contract.is_finite self.old }
-        requires callable { CallableInSearch (call_on F.FnMut) any_pick contract.steps
+        requires callable { search.CallableInSearch (call_on F.FnMut) search.any_pick contract.steps
             (takes_on F.FnMut) self.old f }
-        ensures searched { (g : F) × Searched (call_on F.FnMut) any_pick contract.steps false
-            self.old f result self.new g }
-        ensures value { OverListWith (Acts (call_on F.FnMut) f) contract.steps self.old
-            (λ h l. result ≡ any_of h l) }
-        ensures rest { OverListWith (Acts (call_on F.FnMut) f) contract.steps self.old
+        ensures searched { (g : F) × search.SearchDrains (call_on F.FnMut) search.any_pick
+            contract.steps false self.old f result self.new g }
+        ensures value { OverListWith (list.Acts (call_on F.FnMut) f) contract.steps self.old
+            (λ h l. result ≡ list.any_of h l) }
+        ensures rest { OverListWith (list.Acts (call_on F.FnMut) f) contract.steps self.old
             (λ h l. ¬ (result ≡ Ok false)
-            → Lists contract.steps self.new (rest_true h l)) }
+            → list.Lists contract.steps self.new (list.rest_true h l)) }
         ensures stays { Stays contract self.old self.new }
     {
         let mut f = f;
@@ -1177,15 +1190,15 @@ pub trait FallibleIterator: Drop + Sized {
         F: FnMut(&Self::Item) -> Result<bool, Self::Error>,
         requires can_next { contract.can_next self.old }
         requires finite { contract.is_finite self.old }
-        requires callable { CallableInSearch (call_at F.FnMut) find_pick contract.steps
-            (takes_at F.FnMut) self.old f }
-        ensures searched { (g : F) × Searched (call_at F.FnMut) find_pick contract.steps None
-            self.old f result self.new g }
-        ensures value { OverListWith (Acts (call_at F.FnMut) f) contract.steps self.old
-            (λ h l. result ≡ found h l) }
-        ensures rest { OverListWith (Acts (call_at F.FnMut) f) contract.steps self.old
+        requires callable { search.CallableInSearch (call_at F.FnMut) search.find_pick
+            contract.steps (takes_at F.FnMut) self.old f }
+        ensures searched { (g : F) × search.SearchDrains (call_at F.FnMut) search.find_pick
+            contract.steps None self.old f result self.new g }
+        ensures value { OverListWith (list.Acts (call_at F.FnMut) f) contract.steps self.old
+            (λ h l. result ≡ list.found h l) }
+        ensures rest { OverListWith (list.Acts (call_at F.FnMut) f) contract.steps self.old
             (λ h l. ¬ (result ≡ Ok None)
-            → Lists contract.steps self.new (rest_true h l)) }
+            → list.Lists contract.steps self.new (list.rest_true h l)) }
         ensures stays { Stays contract self.old self.new }
     {
         let mut f = f;
@@ -1209,15 +1222,15 @@ pub trait FallibleIterator: Drop + Sized {
         F: FnMut(Self::Item) -> Result<Option<B>, Self::Error>,
         requires can_next { contract.can_next self.old }
         requires finite { contract.is_finite self.old }
-        requires callable { CallableInSearch (call_on F.FnMut) find_map_pick contract.steps
-            (takes_on F.FnMut) self.old f }
-        ensures searched { (g : F) × Searched (call_on F.FnMut) find_map_pick contract.steps None
-            self.old f result self.new g }
-        ensures value { OverListWith (Acts (call_on F.FnMut) f) contract.steps self.old
-            (λ h l. result ≡ find_mapped h l) }
-        ensures rest { OverListWith (Acts (call_on F.FnMut) f) contract.steps self.old
+        requires callable { search.CallableInSearch (call_on F.FnMut) search.find_map_pick
+            contract.steps (takes_on F.FnMut) self.old f }
+        ensures searched { (g : F) × search.SearchDrains (call_on F.FnMut) search.find_map_pick
+            contract.steps None self.old f result self.new g }
+        ensures value { OverListWith (list.Acts (call_on F.FnMut) f) contract.steps self.old
+            (λ h l. result ≡ list.find_mapped h l) }
+        ensures rest { OverListWith (list.Acts (call_on F.FnMut) f) contract.steps self.old
             (λ h l. ¬ (result ≡ Ok None)
-            → Lists contract.steps self.new (rest_value h l)) }
+            → list.Lists contract.steps self.new (list.rest_value h l)) }
         ensures stays { Stays contract self.old self.new }
     {
         let mut f = f;
@@ -1239,15 +1252,15 @@ pub trait FallibleIterator: Drop + Sized {
         F: FnMut(Self::Item) -> Result<bool, Self::Error>,
         requires can_next { contract.can_next self.old }
         requires fits { AtMost contract self.old (2 ^ 64 - 1) }
-        requires callable { CallableInSearch (call_on F.FnMut) position_pick contract.steps
-            (takes_on F.FnMut) self.old f }
-        ensures searched { (g : F) × Searched (call_on F.FnMut) position_pick contract.steps None
-            self.old f result self.new g }
-        ensures value { OverListWith (Acts (call_on F.FnMut) f) contract.steps self.old
-            (λ h l. result ≡ position_in h l) }
-        ensures rest { OverListWith (Acts (call_on F.FnMut) f) contract.steps self.old
+        requires callable { search.CallableInSearch (call_on F.FnMut) search.position_pick
+            contract.steps (takes_on F.FnMut) self.old f }
+        ensures searched { (g : F) × search.SearchDrains (call_on F.FnMut) search.position_pick
+            contract.steps None self.old f result self.new g }
+        ensures value { OverListWith (list.Acts (call_on F.FnMut) f) contract.steps self.old
+            (λ h l. result ≡ list.position_in h l) }
+        ensures rest { OverListWith (list.Acts (call_on F.FnMut) f) contract.steps self.old
             (λ h l. ¬ (result ≡ Ok None)
-            → Lists contract.steps self.new (rest_true h l)) }
+            → list.Lists contract.steps self.new (list.rest_true h l)) }
         ensures stays { Stays contract self.old self.new }
     {
         answer_or_none(self.drive(&mut (0, f), &PositionTurn))
@@ -1269,8 +1282,8 @@ pub trait FallibleIterator: Drop + Sized {
         Self::Item: Ord + Drop,
         requires can_next { contract.can_next self }
         requires finite { contract.is_finite self }
-        ensures best { Best Greater Self.Item.cmp contract.steps self result }
-        ensures value { OverList contract.steps self (λ l. result ≡ greatest Self.Item.cmp l) }
+        ensures best { pick.BestDrains Greater Self.Item.cmp contract.steps self result }
+        ensures value { OverList contract.steps self (λ l. result ≡ list.greatest Self.Item.cmp l) }
     {
         let compare = |best: &Self::Item, x: &Self::Item| -> Result<Ordering, Self::Error>
             ensures { result ≡ Ok (Self.Item.cmp best.now x.now) }
@@ -1292,8 +1305,8 @@ pub trait FallibleIterator: Drop + Sized {
         Self::Item: Ord + Drop,
         requires can_next { contract.can_next self }
         requires finite { contract.is_finite self }
-        ensures best { Best Less Self.Item.cmp contract.steps self result }
-        ensures value { OverList contract.steps self (λ l. result ≡ least Self.Item.cmp l) }
+        ensures best { pick.BestDrains Less Self.Item.cmp contract.steps self result }
+        ensures value { OverList contract.steps self (λ l. result ≡ list.least Self.Item.cmp l) }
     {
         let compare = |best: &Self::Item, x: &Self::Item| -> Result<Ordering, Self::Error>
             ensures { result ≡ Ok (Self.Item.cmp best.now x.now) }
@@ -1322,11 +1335,13 @@ pub trait FallibleIterator: Drop + Sized {
         F: FnMut(&Self::Item) -> Result<B, Self::Error>,
         requires can_next { contract.can_next self }
         requires finite { contract.is_finite self }
-        requires callable { CallableInFold contract.steps (KeyCall Greater B.cmp (call_at F.FnMut))
+        requires callable { fold.CallableInFold contract.steps
+            (pick.KeyCall Greater B.cmp (call_at F.FnMut))
             (λ g best x. takes_at F.FnMut g x) self f None }
-        ensures best { BestByKey Greater B.cmp (call_at F.FnMut) contract.steps self f result }
-        ensures value { OverListWith (Acts (call_at F.FnMut) f) contract.steps self
-            (λ h l. result ≡ best_by_key Greater B.cmp h l) }
+        ensures best { pick.BestByKeyDrains Greater B.cmp (call_at F.FnMut) contract.steps self f
+            result }
+        ensures value { OverListWith (list.Acts (call_at F.FnMut) f) contract.steps self
+            (λ h l. result ≡ list.best_by_key Greater B.cmp h l) }
     {
         without_key(best_by_key(self, Ordering::Greater, f))
     }
@@ -1344,11 +1359,13 @@ pub trait FallibleIterator: Drop + Sized {
         F: FnMut(&Self::Item) -> Result<B, Self::Error>,
         requires can_next { contract.can_next self }
         requires finite { contract.is_finite self }
-        requires callable { CallableInFold contract.steps (KeyCall Less B.cmp (call_at F.FnMut))
+        requires callable { fold.CallableInFold contract.steps
+            (pick.KeyCall Less B.cmp (call_at F.FnMut))
             (λ g best x. takes_at F.FnMut g x) self f None }
-        ensures best { BestByKey Less B.cmp (call_at F.FnMut) contract.steps self f result }
-        ensures value { OverListWith (Acts (call_at F.FnMut) f) contract.steps self
-            (λ h l. result ≡ best_by_key Less B.cmp h l) }
+        ensures best { pick.BestByKeyDrains Less B.cmp (call_at F.FnMut) contract.steps self f
+            result }
+        ensures value { OverListWith (list.Acts (call_at F.FnMut) f) contract.steps self
+            (λ h l. result ≡ list.best_by_key Less B.cmp h l) }
     {
         without_key(best_by_key(self, Ordering::Less, f))
     }
@@ -1369,11 +1386,13 @@ pub trait FallibleIterator: Drop + Sized {
         F: FnMut(&Self::Item, &Self::Item) -> Result<Ordering, Self::Error>,
         requires can_next { contract.can_next self }
         requires finite { contract.is_finite self }
-        requires callable { CallableInFold contract.steps (PickCall Greater (call_at_two F.FnMut))
-            (takes_in_pick (takes_at_two F.FnMut)) self f None }
-        ensures picked { Picked Greater (call_at_two F.FnMut) contract.steps self f result }
-        ensures value { OverListWith (ActsWith (call_at_two F.FnMut) f) contract.steps self
-            (λ h l. result ≡ best_by Greater h l) }
+        requires callable { fold.CallableInFold contract.steps
+            (pick.PickCall Greater (pick.call_at_two F.FnMut))
+            (pick.takes_in_pick (pick.takes_at_two F.FnMut)) self f None }
+        ensures picked { pick.PickDrains Greater (pick.call_at_two F.FnMut) contract.steps self f
+            result }
+        ensures value { OverListWith (list.ActsWith (pick.call_at_two F.FnMut) f) contract.steps
+            self (λ h l. result ≡ list.best_by Greater h l) }
     {
         best_by(self, Ordering::Greater, f)
     }
@@ -1393,11 +1412,13 @@ pub trait FallibleIterator: Drop + Sized {
         F: FnMut(&Self::Item, &Self::Item) -> Result<Ordering, Self::Error>,
         requires can_next { contract.can_next self }
         requires finite { contract.is_finite self }
-        requires callable { CallableInFold contract.steps (PickCall Less (call_at_two F.FnMut))
-            (takes_in_pick (takes_at_two F.FnMut)) self f None }
-        ensures picked { Picked Less (call_at_two F.FnMut) contract.steps self f result }
-        ensures value { OverListWith (ActsWith (call_at_two F.FnMut) f) contract.steps self
-            (λ h l. result ≡ best_by Less h l) }
+        requires callable { fold.CallableInFold contract.steps
+            (pick.PickCall Less (pick.call_at_two F.FnMut))
+            (pick.takes_in_pick (pick.takes_at_two F.FnMut)) self f None }
+        ensures picked { pick.PickDrains Less (pick.call_at_two F.FnMut) contract.steps self f
+            result }
+        ensures value { OverListWith (list.ActsWith (pick.call_at_two F.FnMut) f) contract.steps
+            self (λ h l. result ≡ list.best_by Less h l) }
     {
         best_by(self, Ordering::Less, f)
     }
@@ -1420,13 +1441,15 @@ pub trait FallibleIterator: Drop + Sized {
         requires can_next { contract.can_next self }
         requires right { (right : I.IntoFallibleIter) → I.into_gives other right
             → I.IntoFallibleIter.contract.can_next right }
-        requires finite { OneIsFinite contract I.into_gives I.IntoFallibleIter.contract
+        requires finite { comparing.OneIsFinite contract I.into_gives I.IntoFallibleIter.contract
             self other }
-        ensures compared { ComparedWith (by_cmp Self.Item.cmp) I.into_gives contract.steps
-            I.IntoFallibleIter.contract.steps self other (read_as (λ o. Some o) result) }
+        ensures compared { comparing.ComparedWith (comparing.by_cmp Self.Item.cmp) I.into_gives
+            contract.steps
+            I.IntoFallibleIter.contract.steps self other (comparing.read_as (λ o. Some o) result) }
         ensures value { OverBoth contract.steps self I.into_gives other
             I.IntoFallibleIter.contract.steps
-            (λ a b. read_as (λ o. Some o) result ≡ compared (by_cmp Self.Item.cmp) a b) }
+            (λ a b. comparing.read_as (λ o. Some o) result ≡ list.compared
+            (comparing.by_cmp Self.Item.cmp) a b) }
     {
         let answer = compare::<Self, I::IntoFallibleIter, ByCmp>(self, other.into_fallible_iter());
         ordered(answer)
@@ -1448,13 +1471,13 @@ pub trait FallibleIterator: Drop + Sized {
         requires can_next { contract.can_next self }
         requires right { (right : I.IntoFallibleIter) → I.into_gives other right
             → I.IntoFallibleIter.contract.can_next right }
-        requires finite { OneIsFinite contract I.into_gives I.IntoFallibleIter.contract
+        requires finite { comparing.OneIsFinite contract I.into_gives I.IntoFallibleIter.contract
             self other }
-        ensures compared { ComparedWith Self.Item.partial_cmp I.into_gives contract.steps
+        ensures compared { comparing.ComparedWith Self.Item.partial_cmp I.into_gives contract.steps
             I.IntoFallibleIter.contract.steps self other result }
         ensures value { OverBoth contract.steps self I.into_gives other
             I.IntoFallibleIter.contract.steps
-            (λ a b. result ≡ compared Self.Item.partial_cmp a b) }
+            (λ a b. result ≡ list.compared Self.Item.partial_cmp a b) }
     {
         compare::<Self, I::IntoFallibleIter, ByPartialCmp>(self, other.into_fallible_iter())
     }
@@ -1473,13 +1496,14 @@ pub trait FallibleIterator: Drop + Sized {
         requires can_next { contract.can_next self }
         requires right { (right : I.IntoFallibleIter) → I.into_gives other right
             → I.IntoFallibleIter.contract.can_next right }
-        requires finite { OneIsFinite contract I.into_gives I.IntoFallibleIter.contract
+        requires finite { comparing.OneIsFinite contract I.into_gives I.IntoFallibleIter.contract
             self other }
-        ensures compared { ReadWith (by_eq Self.Item.eq) reads_eq I.into_gives contract.steps
-            I.IntoFallibleIter.contract.steps self other result }
+        ensures compared { comparing.ReadWith (comparing.by_eq Self.Item.eq) comparing.reads_eq
+            I.into_gives contract.steps I.IntoFallibleIter.contract.steps self other result }
         ensures value { OverBoth contract.steps self I.into_gives other
             I.IntoFallibleIter.contract.steps
-            (λ a b. result ≡ read_as reads_eq (compared (by_eq Self.Item.eq) a b)) }
+            (λ a b. result ≡ comparing.read_as comparing.reads_eq
+            (list.compared (comparing.by_eq Self.Item.eq) a b)) }
     {
         compare_read::<Self, I, ByEq, ReadEq>(self, other)
     }
@@ -1500,13 +1524,14 @@ pub trait FallibleIterator: Drop + Sized {
         requires can_next { contract.can_next self }
         requires right { (right : I.IntoFallibleIter) → I.into_gives other right
             → I.IntoFallibleIter.contract.can_next right }
-        requires finite { OneIsFinite contract I.into_gives I.IntoFallibleIter.contract
+        requires finite { comparing.OneIsFinite contract I.into_gives I.IntoFallibleIter.contract
             self other }
-        ensures compared { ReadWith (by_eq Self.Item.eq) reads_ne I.into_gives contract.steps
-            I.IntoFallibleIter.contract.steps self other result }
+        ensures compared { comparing.ReadWith (comparing.by_eq Self.Item.eq) comparing.reads_ne
+            I.into_gives contract.steps I.IntoFallibleIter.contract.steps self other result }
         ensures value { OverBoth contract.steps self I.into_gives other
             I.IntoFallibleIter.contract.steps
-            (λ a b. result ≡ read_as reads_ne (compared (by_eq Self.Item.eq) a b)) }
+            (λ a b. result ≡ comparing.read_as comparing.reads_ne
+            (list.compared (comparing.by_eq Self.Item.eq) a b)) }
     {
         compare_read::<Self, I, ByEq, ReadNe>(self, other)
     }
@@ -1527,13 +1552,14 @@ pub trait FallibleIterator: Drop + Sized {
         requires can_next { contract.can_next self }
         requires right { (right : I.IntoFallibleIter) → I.into_gives other right
             → I.IntoFallibleIter.contract.can_next right }
-        requires finite { OneIsFinite contract I.into_gives I.IntoFallibleIter.contract
+        requires finite { comparing.OneIsFinite contract I.into_gives I.IntoFallibleIter.contract
             self other }
-        ensures compared { ReadWith Self.Item.partial_cmp reads_lt I.into_gives contract.steps
-            I.IntoFallibleIter.contract.steps self other result }
+        ensures compared { comparing.ReadWith Self.Item.partial_cmp comparing.reads_lt I.into_gives
+            contract.steps I.IntoFallibleIter.contract.steps self other result }
         ensures value { OverBoth contract.steps self I.into_gives other
             I.IntoFallibleIter.contract.steps
-            (λ a b. result ≡ read_as reads_lt (compared Self.Item.partial_cmp a b)) }
+            (λ a b. result ≡ comparing.read_as comparing.reads_lt
+            (list.compared Self.Item.partial_cmp a b)) }
     {
         compare_read::<Self, I, ByPartialCmp, ReadLt>(self, other)
     }
@@ -1554,13 +1580,14 @@ pub trait FallibleIterator: Drop + Sized {
         requires can_next { contract.can_next self }
         requires right { (right : I.IntoFallibleIter) → I.into_gives other right
             → I.IntoFallibleIter.contract.can_next right }
-        requires finite { OneIsFinite contract I.into_gives I.IntoFallibleIter.contract
+        requires finite { comparing.OneIsFinite contract I.into_gives I.IntoFallibleIter.contract
             self other }
-        ensures compared { ReadWith Self.Item.partial_cmp reads_le I.into_gives contract.steps
-            I.IntoFallibleIter.contract.steps self other result }
+        ensures compared { comparing.ReadWith Self.Item.partial_cmp comparing.reads_le I.into_gives
+            contract.steps I.IntoFallibleIter.contract.steps self other result }
         ensures value { OverBoth contract.steps self I.into_gives other
             I.IntoFallibleIter.contract.steps
-            (λ a b. result ≡ read_as reads_le (compared Self.Item.partial_cmp a b)) }
+            (λ a b. result ≡ comparing.read_as comparing.reads_le
+            (list.compared Self.Item.partial_cmp a b)) }
     {
         compare_read::<Self, I, ByPartialCmp, ReadLe>(self, other)
     }
@@ -1579,13 +1606,14 @@ pub trait FallibleIterator: Drop + Sized {
         requires can_next { contract.can_next self }
         requires right { (right : I.IntoFallibleIter) → I.into_gives other right
             → I.IntoFallibleIter.contract.can_next right }
-        requires finite { OneIsFinite contract I.into_gives I.IntoFallibleIter.contract
+        requires finite { comparing.OneIsFinite contract I.into_gives I.IntoFallibleIter.contract
             self other }
-        ensures compared { ReadWith Self.Item.partial_cmp reads_gt I.into_gives contract.steps
-            I.IntoFallibleIter.contract.steps self other result }
+        ensures compared { comparing.ReadWith Self.Item.partial_cmp comparing.reads_gt I.into_gives
+            contract.steps I.IntoFallibleIter.contract.steps self other result }
         ensures value { OverBoth contract.steps self I.into_gives other
             I.IntoFallibleIter.contract.steps
-            (λ a b. result ≡ read_as reads_gt (compared Self.Item.partial_cmp a b)) }
+            (λ a b. result ≡ comparing.read_as comparing.reads_gt
+            (list.compared Self.Item.partial_cmp a b)) }
     {
         compare_read::<Self, I, ByPartialCmp, ReadGt>(self, other)
     }
@@ -1606,13 +1634,14 @@ pub trait FallibleIterator: Drop + Sized {
         requires can_next { contract.can_next self }
         requires right { (right : I.IntoFallibleIter) → I.into_gives other right
             → I.IntoFallibleIter.contract.can_next right }
-        requires finite { OneIsFinite contract I.into_gives I.IntoFallibleIter.contract
+        requires finite { comparing.OneIsFinite contract I.into_gives I.IntoFallibleIter.contract
             self other }
-        ensures compared { ReadWith Self.Item.partial_cmp reads_ge I.into_gives contract.steps
-            I.IntoFallibleIter.contract.steps self other result }
+        ensures compared { comparing.ReadWith Self.Item.partial_cmp comparing.reads_ge I.into_gives
+            contract.steps I.IntoFallibleIter.contract.steps self other result }
         ensures value { OverBoth contract.steps self I.into_gives other
             I.IntoFallibleIter.contract.steps
-            (λ a b. result ≡ read_as reads_ge (compared Self.Item.partial_cmp a b)) }
+            (λ a b. result ≡ comparing.read_as comparing.reads_ge
+            (list.compared Self.Item.partial_cmp a b)) }
     {
         compare_read::<Self, I, ByPartialCmp, ReadGe>(self, other)
     }
@@ -1629,7 +1658,7 @@ pub trait FallibleIterator: Drop + Sized {
     final fn peekable(self) -> Peekable<Self>
         ensures parts { peekable_parts result ≡ (self, None) }
         ensures lists { OverList contract.steps self
-            (λ l. Lists (seen_as peekable_parts (peekable_contract contract)).steps result l) }
+            (λ l. list.Lists (seen_as peekable_parts (peekable_contract contract)).steps result l) }
     {
         Peekable {
             it: self,
@@ -1681,9 +1710,9 @@ pub trait FallibleIterator: Drop + Sized {
     final fn draw(&mut self) -> Result<Option<Self::Item>, Self::Error>
         requires { contract.can_next self.old }
         ensures drawn { contract.steps self.old result self.new }
-        ensures value { OverList contract.steps self.old (λ l. result ≡ nth_of 0 l) }
+        ensures value { OverList contract.steps self.old (λ l. result ≡ list.nth_of 0 l) }
         ensures rest { OverList contract.steps self.old
-            (λ l. ¬ (result ≡ Ok None) → Lists contract.steps self.new (rest_first l)) }
+            (λ l. ¬ (result ≡ Ok None) → list.Lists contract.steps self.new (list.rest_first l)) }
         ensures stays { Stays contract self.old self.new }
     {
         Self::next(self)
@@ -1705,7 +1734,7 @@ pub trait FallibleIterator: Drop + Sized {
         ensures value { result.now ≡ self.old }
         ensures same_reference { result.ghost_name ≡ self.entry.ghost_name }
         ensures lists { OverList contract.steps self.old
-            (λ l. Lists (borrowed contract).steps result l) }
+            (λ l. list.Lists (borrowed contract).steps result l) }
     {
         self
     }

@@ -13,26 +13,26 @@ use Rattle.std.specs.declared.alloc.Global.{Global}
 use Rattle.std.specs.declared.vec.Vec.{Vec}
 
 module _ {A : Type 0} (l : List (Result A ElfFault)) where
-  pub items_are : (r : Result (Vec A Global) (Fault ElfFault)) (v : Vec A Global) → CollectedAs (λ all v. v.items ≡ all) l r → r ≡ Ok v → collected l ≡ Ok v.items
+  pub collected_is_items : (r : Result (Vec A Global) (Fault ElfFault)) (v : Vec A Global) → CollectedAs (λ all v. v.items ≡ all) l r → r ≡ Ok v → collected l ≡ Ok v.items
   unfolding CollectedAs
-  items_are r v i e = let h = subst (λ (r : Result (Vec A Global) (Fault ElfFault)). CollectedAs (λ all v. v.items ≡ all) l r) e i in h.1 ∙ ap Ok (sym h.2)
+  collected_is_items r v i e = let h = subst (λ (r : Result (Vec A Global) (Fault ElfFault)). CollectedAs (λ all v. v.items ≡ all) l r) e i in h.1 ∙ ap Ok (sym h.2)
 
-  pub failure_is : (r : Result (Vec A Global) (Fault ElfFault)) (f : ElfFault) → CollectedAs (λ all v. v.items ≡ all) l r → r ≡ Err (Source f) → collected l ≡ Err f
+  pub collected_is_failure : (r : Result (Vec A Global) (Fault ElfFault)) (f : ElfFault) → CollectedAs (λ all v. v.items ≡ all) l r → r ≡ Err (Source f) → collected l ≡ Err f
   unfolding CollectedAs
-  failure_is r f i e = subst (λ (r : Result (Vec A Global) (Fault ElfFault)). CollectedAs (λ all v. v.items ≡ all) l r) e i
+  collected_is_failure r f i e = subst (λ (r : Result (Vec A Global) (Fault ElfFault)). CollectedAs (λ all v. v.items ≡ all) l r) e i
 
   -- the fault that is passed on is that of the list
-  pub fault_is : {B : Type 0} (r : Result (Vec A Global) (Fault ElfFault)) (fault : Fault ElfFault) → CollectedAs (λ all v. v.items ≡ all) l r → r ≡ Err fault → (told : Result B (Fault ElfFault)) → IsErrAnd told (λ given. given ≡ fault) → (f : ElfFault) → told ≡ Err (Source f) → collected l ≡ Err f
-  fault_is {B = B} r fault i e told made f is =
+  pub collected_is_fault : {B : Type 0} (r : Result (Vec A Global) (Fault ElfFault)) (fault : Fault ElfFault) → CollectedAs (λ all v. v.items ≡ all) l r → r ≡ Err fault → (told : Result B (Fault ElfFault)) → IsErrAnd told (λ given. given ≡ fault) → (f : ElfFault) → told ≡ Err (Source f) → collected l ≡ Err f
+  collected_is_fault {B = B} r fault i e told made f is =
       let same : Source f ≡ fault = subst (λ (t : Result B (Fault ElfFault)). IsErrAnd t (λ given. given ≡ fault)) is made in
-      failure_is r f i (e ∙ ap Err (sym same))
+      collected_is_failure r f i (e ∙ ap Err (sym same))
 
 module _ (bytes : List ℕ) where
-  pub found_are : (sets : List Set) (ranges : List Range) → collected (sets_of bytes) ≡ Ok sets → collected (ranges_of bytes) ≡ Ok ranges → found_of bytes ≡ Ok (sets, ranges)
-  found_are sets ranges s r = rw (s, r) refl
+  pub found_of_sets_and_ranges : (sets : List Set) (ranges : List Range) → collected (sets_of bytes) ≡ Ok sets → collected (ranges_of bytes) ≡ Ok ranges → found_of bytes ≡ Ok (sets, ranges)
+  found_of_sets_and_ranges sets ranges s r = rw (s, r) refl
 
-  pub no_sets : (f : ElfFault) → collected (sets_of bytes) ≡ Err f → found_of bytes ≡ Err f
-  no_sets f s = rw s refl
+  pub found_of_faulty_sets : (f : ElfFault) → collected (sets_of bytes) ≡ Err f → found_of bytes ≡ Err f
+  found_of_faulty_sets f s = rw s refl
 
-  pub no_ranges : (sets : List Set) (f : ElfFault) → collected (sets_of bytes) ≡ Ok sets → collected (ranges_of bytes) ≡ Err f → found_of bytes ≡ Err f
-  no_ranges sets f s r = rw (s, r) refl
+  pub found_of_faulty_ranges : (sets : List Set) (f : ElfFault) → collected (sets_of bytes) ≡ Ok sets → collected (ranges_of bytes) ≡ Err f → found_of bytes ≡ Err f
+  found_of_faulty_ranges sets f s r = rw (s, r) refl

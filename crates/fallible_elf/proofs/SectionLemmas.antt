@@ -12,42 +12,42 @@ use Rattle.fallible_elf.specs.declared.section.Section.{Section}
 
 module _ (names names_size : ℕ) (bytes : List ℕ) (place : ℕ) where
   -- after the last header: the fault, and then nothing
-  pub takes_fault : (f g : Option ElfFault) (left : ℕ) (e : ElfFault) → left ≡ 0 → f ≡ Some e → g ≡ None → TakesShown (headers_from names names_size f bytes place left) (Err e) (headers_from names names_size g bytes place left)
+  pub takes_shown_fault : (f g : Option ElfFault) (left : ℕ) (e : ElfFault) → left ≡ 0 → f ≡ Some e → g ≡ None → TakesShown (headers_from names names_size f bytes place left) (Err e) (headers_from names names_size g bytes place left)
   unfolding headers_from
-  takes_fault f g left e none is after = rw (none, is, after) (refl, refl)
+  takes_shown_fault f g left e none is after = rw (none, is, after) (refl, refl)
 
-  pub takes_end : (f g : Option ElfFault) (left : ℕ) → left ≡ 0 → f ≡ None → g ≡ None → TakesShown (headers_from names names_size f bytes place left) (Ok None) (headers_from names names_size g bytes place left)
+  pub takes_shown_end : (f g : Option ElfFault) (left : ℕ) → left ≡ 0 → f ≡ None → g ≡ None → TakesShown (headers_from names names_size f bytes place left) (Ok None) (headers_from names names_size g bytes place left)
   unfolding headers_from
-  takes_end f g left none is after = rw (none, is, after) (refl, refl)
+  takes_shown_end f g left none is after = rw (none, is, after) (refl, refl)
 
   -- a header or its fault, and the others are left
-  pub takes_header : (f : Option ElfFault) (left k : ℕ) (y : Result Section ElfFault) (r : Answered Section ElfFault) → left ≡ suc k → y ≡ header_at names names_size bytes place → r ≡ result_answer y → TakesShown (headers_from names names_size f bytes place left) r (headers_from names names_size f bytes (place + 64) k)
+  pub takes_shown_header : (f : Option ElfFault) (left k : ℕ) (y : Result Section ElfFault) (r : Answered Section ElfFault) → left ≡ suc k → y ≡ header_at names names_size bytes place → r ≡ result_answer y → TakesShown (headers_from names names_size f bytes place left) r (headers_from names names_size f bytes (place + 64) k)
   unfolding headers_from
-  takes_header f left k y r some is answers = rw (some, ← is) (answers, refl)
+  takes_shown_header f left k y r some is answers = rw (some, ← is) (answers, refl)
 
 -- the headers of the table that the file has, or its fault
-pub headers_are : (bytes : List ℕ) (table : Table) → Ok table ≡ table_of bytes → headers_from table.names table.names_size None bytes table.place table.count ≡ headers_of bytes
+pub headers_from_table : (bytes : List ℕ) (table : Table) → Ok table ≡ table_of bytes → headers_from table.names table.names_size None bytes table.place table.count ≡ headers_of bytes
 unfolding headers_of
-headers_are bytes table e = ap (headers_in bytes) e
+headers_from_table bytes table e = ap (headers_in bytes) e
 
-pub fault_is : (bytes : List ℕ) (f : ElfFault) → Err f ≡ table_of bytes → headers_from 0 0 (Some f) bytes 0 0 ≡ headers_of bytes
+pub headers_from_fault : (bytes : List ℕ) (f : ElfFault) → Err f ≡ table_of bytes → headers_from 0 0 (Some f) bytes 0 0 ≡ headers_of bytes
 unfolding headers_of headers_from
-fault_is bytes f e = ap (headers_in bytes) e
+headers_from_fault bytes f e = ap (headers_in bytes) e
 
 -- ---- by their numbers
 
-length_is : (names names_size : ℕ) (bytes : List ℕ) (place n : ℕ) → length (headers_from names names_size None bytes place n) ≡ n
+length_of_headers : (names names_size : ℕ) (bytes : List ℕ) (place n : ℕ) → length (headers_from names names_size None bytes place n) ≡ n
 unfolding headers_from
-length_is names names_size bytes place zero = refl
-length_is names names_size bytes place (suc n) = ap suc (length_is names names_size bytes (place + 64) n)
+length_of_headers names names_size bytes place zero = refl
+length_of_headers names names_size bytes place (suc n) = ap suc (length_of_headers names names_size bytes (place + 64) n)
 
-stands_at : (names names_size : ℕ) (bytes : List ℕ) (place n k : ℕ) (none : Result Section ElfFault) → k < n → slice_index_or (headers_from names names_size None bytes place n) k none ≡ header_at names names_size bytes (place + 64 * k)
+header_at_number : (names names_size : ℕ) (bytes : List ℕ) (place n k : ℕ) (none : Result Section ElfFault) → k < n → slice_index_or (headers_from names names_size None bytes place n) k none ≡ header_at names names_size bytes (place + 64 * k)
 unfolding headers_from
-stands_at names names_size bytes place zero k none below = absurd (omega arith)
-stands_at names names_size bytes place (suc n) zero none below = let same : place ≡ place + 64 * 0 = omega arith in ap (header_at names names_size bytes) same
-stands_at names names_size bytes place (suc n) (suc k) none below = let same : place + 64 + 64 * k ≡ place + 64 * suc k = omega arith in stands_at names names_size bytes (place + 64) n k none (omega arith) ∙ ap (header_at names names_size bytes) same
+header_at_number names names_size bytes place zero k none below = absurd (omega arith)
+header_at_number names names_size bytes place (suc n) zero none below = let same : place ≡ place + 64 * 0 = omega arith in ap (header_at names names_size bytes) same
+header_at_number names names_size bytes place (suc n) (suc k) none below = let same : place + 64 + 64 * k ≡ place + 64 * suc k = omega arith in header_at_number names names_size bytes (place + 64) n k none (omega arith) ∙ ap (header_at names names_size bytes) same
 
-pub by_number : (bytes : List ℕ) (table : Table) → table_of bytes ≡ Ok table → (length (headers_of bytes) ≡ table.count) × ((n : ℕ) (none : Result Section ElfFault) → n < table.count → slice_index_or (headers_of bytes) n none ≡ header_at table.names table.names_size bytes (table.place + 64 * n))
-by_number bytes t e =
-    let all : headers_from t.names t.names_size None bytes t.place t.count ≡ headers_of bytes = headers_are bytes t (sym e) in
-    (sym (ap length all) ∙ length_is t.names t.names_size bytes t.place t.count, (λ n none below. sym (ap (λ l. slice_index_or l n none) all) ∙ stands_at t.names t.names_size bytes t.place t.count n none below))
+pub headers_by_number : (bytes : List ℕ) (table : Table) → table_of bytes ≡ Ok table → (length (headers_of bytes) ≡ table.count) × ((n : ℕ) (none : Result Section ElfFault) → n < table.count → slice_index_or (headers_of bytes) n none ≡ header_at table.names table.names_size bytes (table.place + 64 * n))
+headers_by_number bytes t e =
+    let all : headers_from t.names t.names_size None bytes t.place t.count ≡ headers_of bytes = headers_from_table bytes t (sym e) in
+    (sym (ap length all) ∙ length_of_headers t.names t.names_size bytes t.place t.count, (λ n none below. sym (ap (λ l. slice_index_or l n none) all) ∙ header_at_number t.names t.names_size bytes t.place t.count n none below))

@@ -13,74 +13,74 @@ use Rattle.fallible_elf.specs.declared.set.Set.{Set}
 
 -- ---- sets
 
-made : (r : Result (Unit {0}) ElfFault) (s t : Set) → on_value r (λ _. Ok s) ≡ Ok t → s ≡ t
-made (Ok u) s t e = cc
-made (Err f) s t e = absurd (cc)
+set_is_made : (r : Result (Unit {0}) ElfFault) (s t : Set) → on_value r (λ _. Ok s) ≡ Ok t → s ≡ t
+set_is_made (Ok u) s t e = cc
+set_is_made (Err f) s t e = absurd (cc)
 
-made_by : (r : Result (Unit {0}) ElfFault) (s : Result Set ElfFault) (t : Set) → on_value r (λ _. s) ≡ Ok t → s ≡ Ok t
-made_by (Ok u) s t e = e
-made_by (Err f) s t e = absurd (cc)
+set_made_by_words : (r : Result (Unit {0}) ElfFault) (s : Result Set ElfFault) (t : Set) → on_value r (λ _. s) ≡ Ok t → s ≡ Ok t
+set_made_by_words (Ok u) s t e = e
+set_made_by_words (Err f) s t e = absurd (cc)
 
 -- a set ends after its place, whatever its form
-short_behind : (bytes : List ℕ) (limit place : ℕ) (set : Set) → short_set bytes limit place ≡ Ok set → place < set.end
+place_below_short_end : (bytes : List ℕ) (limit place : ℕ) (set : Set) → short_set bytes limit place ≡ Ok set → place < set.end
 unfolding short_set
-short_behind bytes limit place set e = let h = ap (λ (s : Set). s.end) (made (first_fault (short_checks bytes limit place)) _ set e) in omega (arith, h)
+place_below_short_end bytes limit place set e = let h = ap (λ (s : Set). s.end) (set_is_made (first_fault (short_checks bytes limit place)) _ set e) in omega (arith, h)
 
-long_behind : (bytes : List ℕ) (limit place : ℕ) (set : Set) → long_set bytes limit place ≡ Ok set → place < set.end
+place_below_long_end : (bytes : List ℕ) (limit place : ℕ) (set : Set) → long_set bytes limit place ≡ Ok set → place < set.end
 unfolding long_set
-long_behind bytes limit place set e = let h = ap (λ (s : Set). s.end) (made (first_fault (long_checks bytes limit place)) _ set e) in omega (arith, h)
+place_below_long_end bytes limit place set e = let h = ap (λ (s : Set). s.end) (set_is_made (first_fault (long_checks bytes limit place)) _ set e) in omega (arith, h)
 
-either_behind : (long : Bool) (bytes : List ℕ) (limit place : ℕ) (set : Set) → (if long then long_set bytes limit place else short_set bytes limit place) ≡ Ok set → place < set.end
-either_behind true bytes limit place set e = long_behind bytes limit place set e
-either_behind false bytes limit place set e = short_behind bytes limit place set e
+place_below_either_end : (long : Bool) (bytes : List ℕ) (limit place : ℕ) (set : Set) → (if long then long_set bytes limit place else short_set bytes limit place) ≡ Ok set → place < set.end
+place_below_either_end true bytes limit place set e = place_below_long_end bytes limit place set e
+place_below_either_end false bytes limit place set e = place_below_short_end bytes limit place set e
 
-ends_behind : (bytes : List ℕ) (limit place : ℕ) (set : Set) → set_at bytes limit place ≡ Ok set → place < set.end
+place_below_end : (bytes : List ℕ) (limit place : ℕ) (set : Set) → set_at bytes limit place ≡ Ok set → place < set.end
 unfolding set_at
-ends_behind bytes limit place set e = either_behind (is_long bytes place) bytes limit place set (made_by (first_fault (form_checks bytes limit place)) _ set e)
+place_below_end bytes limit place set e = place_below_either_end (is_long bytes place) bytes limit place set (set_made_by_words (first_fault (form_checks bytes limit place)) _ set e)
 
 -- where two bounds on how many come are large enough, the same sets come
-then_alike : (bytes : List ℕ) (limit place : ℕ) (y : Result Set ElfFault) (rest rest' : Set → List (Result Set ElfFault)) → ((set : Set) → y ≡ Ok set → rest set ≡ rest' set) → set_then y rest ≡ set_then y rest'
-then_alike bytes limit place (Ok set) rest rest' same = ap (λ l. Ok set ∷ l) (same set refl)
-then_alike bytes limit place (Err f) rest rest' same = refl
+set_then_alike : (bytes : List ℕ) (limit place : ℕ) (y : Result Set ElfFault) (rest rest' : Set → List (Result Set ElfFault)) → ((set : Set) → y ≡ Ok set → rest set ≡ rest' set) → set_then y rest ≡ set_then y rest'
+set_then_alike bytes limit place (Ok set) rest rest' same = ap (λ l. Ok set ∷ l) (same set refl)
+set_then_alike bytes limit place (Err f) rest rest' same = refl
 
-enough : (f : Option ElfFault) (bytes : List ℕ) (limit n m place : ℕ) → limit ≤ place + n → limit ≤ place + m → sets_from f bytes limit place n ≡ sets_from f bytes limit place m
+sets_from_enough_steps : (f : Option ElfFault) (bytes : List ℕ) (limit n m place : ℕ) → limit ≤ place + n → limit ≤ place + m → sets_from f bytes limit place n ≡ sets_from f bytes limit place m
 unfolding sets_from
-enough f bytes limit zero zero place p q = refl
-enough f bytes limit zero (suc m) place p q = rw (le-ltb place limit (omega (arith, p))) refl
-enough f bytes limit (suc n) zero place p q = rw (le-ltb place limit (omega (arith, q))) refl
-enough f bytes limit (suc n) (suc m) place p q = ap (λ l. if nat_lt place limit then l else fault_in f) (then_alike bytes limit place (set_at bytes limit place) _ _ (λ set e. let on = ends_behind bytes limit place set e in enough f bytes limit n m set.end (omega (arith, on, p)) (omega (arith, on, q))))
+sets_from_enough_steps f bytes limit zero zero place p q = refl
+sets_from_enough_steps f bytes limit zero (suc m) place p q = rw (le-ltb place limit (omega (arith, p))) refl
+sets_from_enough_steps f bytes limit (suc n) zero place p q = rw (le-ltb place limit (omega (arith, q))) refl
+sets_from_enough_steps f bytes limit (suc n) (suc m) place p q = ap (λ l. if nat_lt place limit then l else fault_in f) (set_then_alike bytes limit place (set_at bytes limit place) _ _ (λ set e. let on = place_below_end bytes limit place set e in sets_from_enough_steps f bytes limit n m set.end (omega (arith, on, p)) (omega (arith, on, q))))
 
 module _ (bytes : List ℕ) (limit place : ℕ) where
   -- after the last set: the fault, and then nothing
-  pub takes_fault : (f g : Option ElfFault) (e : ElfFault) → limit ≤ place → f ≡ Some e → g ≡ None → TakesShown (sets_between f bytes place limit) (Err e) (sets_between g bytes place limit)
+  pub takes_shown_fault : (f g : Option ElfFault) (e : ElfFault) → limit ≤ place → f ≡ Some e → g ≡ None → TakesShown (sets_between f bytes place limit) (Err e) (sets_between g bytes place limit)
   unfolding sets_from
-  takes_fault f g e behind is after = let none : limit - place ≡ 0 = omega arith in rw (none, is, after) (refl, refl)
+  takes_shown_fault f g e behind is after = let none : limit - place ≡ 0 = omega arith in rw (none, is, after) (refl, refl)
 
-  pub takes_end : (f g : Option ElfFault) → limit ≤ place → f ≡ None → g ≡ None → TakesShown (sets_between f bytes place limit) (Ok None) (sets_between g bytes place limit)
+  pub takes_shown_end : (f g : Option ElfFault) → limit ≤ place → f ≡ None → g ≡ None → TakesShown (sets_between f bytes place limit) (Ok None) (sets_between g bytes place limit)
   unfolding sets_from
-  takes_end f g behind is after = let none : limit - place ≡ 0 = omega arith in rw (none, is, after) (refl, refl)
+  takes_shown_end f g behind is after = let none : limit - place ≡ 0 = omega arith in rw (none, is, after) (refl, refl)
 
   -- a set, and those after it are left
-  takes_of : (f : Option ElfFault) (k : ℕ) (set : Set) → place < limit → limit - place ≡ suc k → set_at bytes limit place ≡ Ok set → TakesShown (sets_between f bytes place limit) (Ok (Some set)) (sets_between f bytes set.end limit)
+  takes_shown_of : (f : Option ElfFault) (k : ℕ) (set : Set) → place < limit → limit - place ≡ suc k → set_at bytes limit place ≡ Ok set → TakesShown (sets_between f bytes place limit) (Ok (Some set)) (sets_between f bytes set.end limit)
   unfolding sets_from
-  takes_of f k set before some is = let on = ends_behind bytes limit place set is in rw (some, lt-ltb place limit before, is) (refl, enough f bytes limit (limit - set.end) k set.end (omega arith) (omega (arith, on, some)))
+  takes_shown_of f k set before some is = let on = place_below_end bytes limit place set is in rw (some, lt-ltb place limit before, is) (refl, sets_from_enough_steps f bytes limit (limit - set.end) k set.end (omega arith) (omega (arith, on, some)))
 
-  pub takes_set : (f : Option ElfFault) (set : Set) → place < limit → Ok set ≡ set_at bytes limit place → TakesShown (sets_between f bytes place limit) (Ok (Some set)) (sets_between f bytes set.end limit)
-  takes_set f set before is = takes_of f (limit - place - 1) set before (omega arith) (sym is)
+  pub takes_shown_set : (f : Option ElfFault) (set : Set) → place < limit → Ok set ≡ set_at bytes limit place → TakesShown (sets_between f bytes place limit) (Ok (Some set)) (sets_between f bytes set.end limit)
+  takes_shown_set f set before is = takes_shown_of f (limit - place - 1) set before (omega arith) (sym is)
 
   -- a damaged one, and nothing is left
-  takes_damaged_of : (f : Option ElfFault) (k : ℕ) (e : ElfFault) → place < limit → limit - place ≡ suc k → set_at bytes limit place ≡ Err e → TakesShown (sets_between f bytes place limit) (Err e) (sets_between None bytes limit limit)
+  takes_shown_damaged : (f : Option ElfFault) (k : ℕ) (e : ElfFault) → place < limit → limit - place ≡ suc k → set_at bytes limit place ≡ Err e → TakesShown (sets_between f bytes place limit) (Err e) (sets_between None bytes limit limit)
   unfolding sets_from
-  takes_damaged_of f k e before some is = let none : limit - limit ≡ 0 = omega arith in rw (some, lt-ltb place limit before, is, none) (refl, refl)
+  takes_shown_damaged f k e before some is = let none : limit - limit ≡ 0 = omega arith in rw (some, lt-ltb place limit before, is, none) (refl, refl)
 
-  pub takes_damaged : (f : Option ElfFault) (e : ElfFault) → place < limit → Err e ≡ set_at bytes limit place → TakesShown (sets_between f bytes place limit) (Err e) (sets_between None bytes limit limit)
-  takes_damaged f e before is = takes_damaged_of f (limit - place - 1) e before (omega arith) (sym is)
+  pub takes_shown_damaged_set : (f : Option ElfFault) (e : ElfFault) → place < limit → Err e ≡ set_at bytes limit place → TakesShown (sets_between f bytes place limit) (Err e) (sets_between None bytes limit limit)
+  takes_shown_damaged_set f e before is = takes_shown_damaged f (limit - place - 1) e before (omega arith) (sym is)
 
 -- the sets of the region that a section has, or its fault
-pub sets_are : (bytes : List ℕ) (section : Section) (region : Region) → Ok region ≡ region_of bytes section → sets_between None bytes region.place region.end ≡ sets_in bytes section
+pub sets_between_is_sets_in : (bytes : List ℕ) (section : Section) (region : Region) → Ok region ≡ region_of bytes section → sets_between None bytes region.place region.end ≡ sets_in bytes section
 unfolding sets_in
-sets_are bytes section region e = ap (sets_of_region bytes) e
+sets_between_is_sets_in bytes section region e = ap (sets_of_region bytes) e
 
-pub fault_is : (bytes : List ℕ) (section : Section) (f : ElfFault) → Err f ≡ region_of bytes section → sets_between (Some f) bytes 0 0 ≡ sets_in bytes section
+pub sets_between_fault : (bytes : List ℕ) (section : Section) (f : ElfFault) → Err f ≡ region_of bytes section → sets_between (Some f) bytes 0 0 ≡ sets_in bytes section
 unfolding sets_in sets_from
-fault_is bytes section f e = ap (sets_of_region bytes) e
+sets_between_fault bytes section f e = ap (sets_of_region bytes) e

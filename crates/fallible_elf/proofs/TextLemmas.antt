@@ -7,35 +7,35 @@ use Rattle.std.specs.Io.KnownBytes.{Appends}
 use Rattle.fallible_elf.specs.Text.{shown, lines_from, table_text}
 
 module _ {A : Type 0} (line : ℕ → A → List ℕ) where
-  lines_append : (n : ℕ) (xs : List A) (y : A) → lines_from line n (xs ++ y ∷ []) ≡ lines_from line n xs ++ line (n + length xs) y
-  lines_append n [] y = let same : n ≡ n + 0 = omega arith in append-nil (line n y) ∙ ap (λ i. line i y) same
-  lines_append n (x ∷ xs) y = let same : n + 1 + length xs ≡ n + suc (length xs) = omega arith in ap (λ t. line n x ++ t) (lines_append (n + 1) xs y ∙ ap (λ i. lines_from line (n + 1) xs ++ line i y) same) ∙ sym (append_assoc (line n x) (lines_from line (n + 1) xs) (line (n + suc (length xs)) y))
+  lines_from_append : (n : ℕ) (xs : List A) (y : A) → lines_from line n (xs ++ y ∷ []) ≡ lines_from line n xs ++ line (n + length xs) y
+  lines_from_append n [] y = let same : n ≡ n + 0 = omega arith in append-nil (line n y) ∙ ap (λ i. line i y) same
+  lines_from_append n (x ∷ xs) y = let same : n + 1 + length xs ≡ n + suc (length xs) = omega arith in ap (λ t. line n x ++ t) (lines_from_append (n + 1) xs y ∙ ap (λ i. lines_from line (n + 1) xs ++ line i y) same) ∙ sym (append_assoc (line n x) (lines_from line (n + 1) xs) (line (n + suc (length xs)) y))
 
-  lines_more : (xs : List A) (k : ℕ) (d : A) → k < length xs → lines_from line 0 (take (k + 1) xs) ≡ lines_from line 0 (take k xs) ++ line k (get_or xs k d)
-  lines_more xs k d below = let front = take k xs in let same : 0 + length front ≡ k = omega (arith, length-take-le k xs (omega arith)) in ap (lines_from line 0) (take_more xs k d below) ∙ lines_append 0 front (get_or xs k d) ∙ ap (λ i. lines_from line 0 front ++ line i (get_or xs k d)) same
+  lines_from_more : (xs : List A) (k : ℕ) (d : A) → k < length xs → lines_from line 0 (take (k + 1) xs) ≡ lines_from line 0 (take k xs) ++ line k (get_or xs k d)
+  lines_from_more xs k d below = let front = take k xs in let same : 0 + length front ≡ k = omega (arith, length-take-le k xs (omega arith)) in ap (lines_from line 0) (take_more xs k d below) ∙ lines_from_append 0 front (get_or xs k d) ∙ ap (λ i. lines_from line 0 front ++ line i (get_or xs k d)) same
 
   module _ (word : List ℕ) (xs : List A) where
     -- what was written when so many lines were
-    abbrev pub so_far : ℕ → List ℕ
-    so_far k = word ++ decimal (length xs) ++ 10 ∷ lines_from line 0 (take k xs)
+    abbrev pub lines_so_far : ℕ → List ℕ
+    lines_so_far k = word ++ decimal (length xs) ++ 10 ∷ lines_from line 0 (take k xs)
 
-    more : (k : ℕ) (d : A) → k < length xs → so_far k ++ line k (get_or xs k d) ≡ so_far (k + 1)
-    more k d below =
+    so_far_one_more : (k : ℕ) (d : A) → k < length xs → lines_so_far k ++ line k (get_or xs k d) ≡ lines_so_far (k + 1)
+    so_far_one_more k d below =
         let t = line k (get_or xs k d) in
         let lines = lines_from line 0 (take k xs) in
-        append_assoc (word ++ decimal (length xs)) (10 ∷ lines) t ∙ ap (λ u. word ++ decimal (length xs) ++ 10 ∷ u) (sym (lines_more xs k d below))
+        append_assoc (word ++ decimal (length xs)) (10 ∷ lines) t ∙ ap (λ u. word ++ decimal (length xs) ++ 10 ∷ u) (sym (lines_from_more xs k d below))
 
     -- after a line
-    pub writes_line : (old now new : Option (List ℕ)) (k : ℕ) (x d : A) → k < length xs → x ≡ get_or xs k d → Appends old now (so_far k) → Appends now new (line k x) → Appends old new (so_far (k + 1))
-    writes_line old now new k x d below is p q = subst (λ t. Appends old new t) (ap (λ y. so_far k ++ line k y) is ∙ more k d below) (Appends-trans old now new (so_far k) (line k x) p q)
+    pub appends_line : (old now new : Option (List ℕ)) (k : ℕ) (x d : A) → k < length xs → x ≡ get_or xs k d → Appends old now (lines_so_far k) → Appends now new (line k x) → Appends old new (lines_so_far (k + 1))
+    appends_line old now new k x d below is p q = subst (λ t. Appends old new t) (ap (λ y. lines_so_far k ++ line k y) is ∙ so_far_one_more k d below) (Appends-trans old now new (lines_so_far k) (line k x) p q)
 
     -- after the last one
-    pub writes_all : (old new : Option (List ℕ)) (k : ℕ) → length xs ≤ k → Appends old new (so_far k) → Appends old new (table_text word line xs)
-    writes_all old new k past p = subst (λ t. Appends old new (word ++ decimal (length xs) ++ 10 ∷ lines_from line 0 t)) (take_all k xs past) p
+    pub appends_all_lines : (old new : Option (List ℕ)) (k : ℕ) → length xs ≤ k → Appends old new (lines_so_far k) → Appends old new (table_text word line xs)
+    appends_all_lines old new k past p = subst (λ t. Appends old new (word ++ decimal (length xs) ++ 10 ∷ lines_from line 0 t)) (take_all k xs past) p
 
 -- three texts, a name and an end, one after the other
-pub writes_named : {T E : Type 0} (r : Result T E) (a b c d e f : Option (List ℕ)) (number kind extent name name' end : List ℕ) → name ≡ name' → Appends a b number → Appends b c kind → Appends c d extent → Appends d e (shown name) → OnOk r (Appends e f end) → OnOk r (Appends a f (number ++ kind ++ extent ++ shown name' ++ end))
-writes_named (Ok x) a b c d e f number kind extent name name' end is p q w n l =
+pub on_ok_writes_named : {T E : Type 0} (r : Result T E) (a b c d e f : Option (List ℕ)) (number kind extent name name' end : List ℕ) → name ≡ name' → Appends a b number → Appends b c kind → Appends c d extent → Appends d e (shown name) → OnOk r (Appends e f end) → OnOk r (Appends a f (number ++ kind ++ extent ++ shown name' ++ end))
+on_ok_writes_named (Ok x) a b c d e f number kind extent name name' end is p q w n l =
     let front = Appends-trans a c d (number ++ kind) extent (Appends-trans a b c number kind p q) w in
     subst (λ z. Appends a f (number ++ kind ++ extent ++ shown z ++ end)) is (Appends-trans a e f (number ++ kind ++ extent ++ shown name) end (Appends-trans a d e (number ++ kind ++ extent) (shown name) front n) l)
-writes_named (Err x) a b c d e f number kind extent name name' end is p q w n l = tt
+on_ok_writes_named (Err x) a b c d e f number kind extent name name' end is p q w n l = tt

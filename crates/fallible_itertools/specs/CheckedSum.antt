@@ -57,8 +57,8 @@ module _ {N : Type 0} (op : N → N → Option N) where
     pub exit : TotalExit total last r
 
   -- The draws from s returned items and a last answer, by which the total from `start` on is r.
-  abbrev pub Totalled : {S E : Type 0} → (S → Answered N E → S → Type 0) → N → S → Result (Option N) E → Type 0
-  Totalled {S = S} steps start s r = (after : S) × Drained steps (TotalledBy start r) s after
+  abbrev pub TotalDrains : {S E : Type 0} → (S → Answered N E → S → Type 0) → N → S → Result (Option N) E → Type 0
+  TotalDrains {S = S} steps start s r = (after : S) × Drained steps (TotalledBy start r) s after
 
 -- what a checked total returns, from what its fold returned and the total that it left
 abbrev pub total_by : {N E : Type 0} → N → Answered (Unit {0}) E → Result (Option N) E

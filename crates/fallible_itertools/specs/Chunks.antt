@@ -84,9 +84,9 @@ module _ {A E : Type 0} where
   chunked n l = chunked_from n [] l
 
 -- the batches joined
-abbrev pub joined : {A : Type 0} → List (List A) → List A
-joined [] = []
-joined (b ∷ bs) = b ++ joined bs
+abbrev pub batches_joined : {A : Type 0} → List (List A) → List A
+batches_joined [] = []
+batches_joined (b ∷ bs) = b ++ batches_joined bs
 
 -- each batch has some items, and at most n
 abbrev pub BatchesUpTo : {A : Type 0} → ℕ → List (List A) → Type 0

@@ -42,7 +42,7 @@ module _ {A B E C : Type 0} (turns : C → A × B → ControlFlow (Result (Optio
   LastTurnRound c (Ok (Some x)) (Some (Ok (Some y))) r = (d : C) × turns c (x, y) (Break r) d
 
   -- Both sides yielded pairs of items, on which the turns went on, one by one; then came the last round, which decided.
-  pub record ComparedBy {S T : Type 0} (left-steps : S → Answered A E → S → Type 0) (right-steps : T → Answered B E → T → Type 0) (s : S) (t : T) (c : C) (r : Result (Option Ordering) E) : Type 0 where
+  pub record CompareByDraws {S T : Type 0} (left-steps : S → Answered A E → S → Type 0) (right-steps : T → Answered B E → T → Type 0) (s : S) (t : T) (c : C) (r : Result (Option Ordering) E) : Type 0 where
     pub pairs : List (A × B)
     pub state : C
     pub went : FoldsTo (goes_on turns) c pairs state
@@ -58,7 +58,7 @@ module _ {A B E C : Type 0} (turns : C → A × B → ControlFlow (Result (Optio
   pub record ComparedByWith {S O T : Type 0} (into : O → T → Type 0) (left-steps : S → Answered A E → S → Type 0) (right-steps : T → Answered B E → T → Type 0) (s : S) (other : O) (c : C) (r : Result (Option Ordering) E) : Type 0 where
     pub right : T
     pub made : into other right
-    pub compared : ComparedBy left-steps right-steps s right c r
+    pub compared : CompareByDraws left-steps right-steps s right c r
 
 -- how two lists compare by h, pair by pair: the first two items that h doesn't find equal decide, and a list that ends before the other is less; or the failure that comes first, of the first list before that of the second before that of h
 unfoldable pub compared_by : {A B E : Type 0} → (A → B → Result (Option Ordering) E) → List (Result A E) → List (Result B E) → Result (Option Ordering) E

@@ -4,7 +4,7 @@ use Rattle.std.specs.List.{last_or}
 use Rattle.fallible_iterator.specs.Traces.{Answered}
 use Rattle.fallible_iterator.specs.Folds.{Drained}
 use Rattle.fallible_iterator.specs.Lists.{found, last_of}
-use Rattle.fallible_iterator.specs.Searching.{WentOn, Decided, SearchedBy, find_pick}
+use Rattle.fallible_iterator.specs.Searching.{WentOn, SearchDecides, SearchedBy, find_pick}
 use Rattle.std.specs.declared.ops.ControlFlow.{ControlFlow}
 use Rattle.std.specs.declared.ops.ControlFlow.TheVariants.{Continue, Break}
 
@@ -18,7 +18,7 @@ module _ {A E F : Type 0} (call : F → A → Result Bool E → F → Type 0) wh
   -- One call of the predicate on an item, as the turn of a fold whose state is the item before, if one came, and the predicate: where the search goes on, the item is kept.
   abbrev pub IsFindLastTurn : Option A × F → A → ControlFlow (Result (Option A) E) (Unit {0}) → Option A × F → Type 0
   IsFindLastTurn p x (Continue u) q = WentOn call find_pick p.1 x q.1 × (q.0 ≡ Some x)
-  IsFindLastTurn p x (Break r) q = (n : ℕ) → Decided call find_pick n p.1 x r q.1
+  IsFindLastTurn p x (Break r) q = (n : ℕ) → SearchDecides call find_pick n p.1 x r q.1
 
   -- The search with the predicate f over the items and the last answer found `found`, and the result is that or else the last of the items.
   pub record FoundOrLastBy (f : F) (r : Result (Option A) E) (g : F) (items : List A) (last : Answered A E) : Type 0 where

@@ -1,7 +1,7 @@
 -- Folds that may stop early.
 use Rattle.std.specs.Prelude.{◌≡◌, Bool, true, false, Option, Some, None, Result, Ok, Err, List, [], ◌∷◌}
 use Rattle.fallible_iterator.specs.Traces.{Answered}
-use Rattle.fallible_iterator.specs.Folds.{Folded}
+use Rattle.fallible_iterator.specs.Folds.{FoldDrains}
 use Rattle.fallible_itertools.specs.declared.fold_while.FoldWhile.{FoldWhile}
 use Rattle.fallible_itertools.specs.declared.fold_while.FoldWhile.TheVariants.{Continue, Done}
 
@@ -29,8 +29,8 @@ module _ {A E F B : Type 0} (call : F → B → A → Result (FoldWhile B) E →
   WhileCall f b x r g = call f b x (while_answer r) g
 
   -- The draws from s returned items and a last answer, and left t, by which the fold with f from b on returns r: the last value at an end; the value with which the closure is done; the failure.
-  abbrev pub FoldedWhile : {S : Type 0} → (S → Answered A E → S → Type 0) → S → B → F → Result (FoldWhile B) E → S → Type 0
-  FoldedWhile steps s b f r t = (stop : Result B (Result B E)) × Folded steps WhileCall (λ e d. d ≡ Err e) s b f stop t × (r ≡ while_answer stop)
+  abbrev pub FoldWhileDrains : {S : Type 0} → (S → Answered A E → S → Type 0) → S → B → F → Result (FoldWhile B) E → S → Type 0
+  FoldWhileDrains steps s b f r t = (stop : Result B (Result B E)) × FoldDrains steps WhileCall (λ e d. d ≡ Err e) s b f stop t × (r ≡ while_answer stop)
 
 -- what `fold_while` stops with, from what the turns' fold returned and the value that this left
 abbrev pub IsStop : {B E : Type 0} → Answered (Result B E) E → Option B → Result B (Result B E) → Type 0

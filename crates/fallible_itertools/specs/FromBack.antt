@@ -2,7 +2,7 @@
 use Rattle.std.specs.Prelude.{◌≡◌, ℕ, List, [], ◌∷◌, reverse, Bool, true, false, cond, Option, Some, None, Result, Ok, Err}
 use Rattle.fallible_iterator.specs.Traces.{Answered}
 use Rattle.fallible_iterator.specs.Folds.{CountedBy, Drained}
-use Rattle.fallible_iterator.specs.Searching.{Searched, any_pick}
+use Rattle.fallible_iterator.specs.Searching.{SearchDrains, any_pick}
 use Rattle.fallible_iterator.specs.Comparing.{read_as}
 use Rattle.fallible_iterator.specs.Lists.{on_value, any_of, counted, rest_true}
 
@@ -17,7 +17,7 @@ pub record PlacedFromBack {S A E F : Type 0} (front back : S → Answered A E �
   pub found : Result Bool E
   pub closure : F
   pub before : S
-  pub searched : Searched call any_pick back false s f found before closure
+  pub searched : SearchDrains call any_pick back false s f found before closure
   pub counts : CountedWhere front found before r t
 
 -- what stands before the last item x for which h x is true, or before the failure of the list or of h that comes first from the back

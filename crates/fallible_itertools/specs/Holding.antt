@@ -42,20 +42,20 @@ module _ {P X B E : Type 0} (asks : P → Option X → Outcome B E → P → Typ
   AtStop h stop r q = (o : Outcome B E) × asks h None o q.0 × BeforeStop stop o r q.1
 
   -- What is returned if z is what the source's next answers made: an item as it is, and before a stop what is held.
-  abbrev pub Behind : P → Answered B E → Answered B E → P × Option (Option E) → Type 0
-  Behind h (Ok (Some y)) r q = (r ≡ Ok (Some y)) × (q ≡ (h, None))
-  Behind h (Ok None) r q = AtStop h None r q
-  Behind h (Err e) r q = AtStop h (Some e) r q
+  abbrev pub AnswersAfter : P → Answered B E → Answered B E → P × Option (Option E) → Type 0
+  AnswersAfter h (Ok (Some y)) r q = (r ≡ Ok (Some y)) × (q ≡ (h, None))
+  AnswersAfter h (Ok None) r q = AtStop h None r q
+  AnswersAfter h (Err e) r q = AtStop h (Some e) r q
 
   module _ {S : Type 0} (steps : S → Answered X E → S → Type 0) where
     -- one answer if no stop is due: the source is drawn up to an item that is yielded, or a stop
-    abbrev pub Draws : S → P → Answered B E → S → P × Option (Option E) → Type 0
-    Draws s p r t q = (h : P) × (z : Answered B E) × passing_step steps (asks_item asks) as_answered_item (s, p) z (t, h) × Behind h z r q
+    abbrev pub DrawsUpToAnswer : S → P → Answered B E → S → P × Option (Option E) → Type 0
+    DrawsUpToAnswer s p r t q = (h : P) × (z : Answered B E) × passing_step steps (asks_item asks) as_answered_item (s, p) z (t, h) × AnswersAfter h z r q
 
     -- One answer: the stop that is due, which takes no draw, or else what is drawn.
     abbrev pub holding_step : S × (P × Option (Option E)) → Answered B E → S × (P × Option (Option E)) → Type 0
     holding_step (s, (p, Some stop)) r (t, q) = (r ≡ stop_answer stop) × (t ≡ s) × (q ≡ (p, None))
-    holding_step (s, (p, None)) r (t, q) = Draws s p r t q
+    holding_step (s, (p, None)) r (t, q) = DrawsUpToAnswer s p r t q
 
 -- ---- a whole trace
 

@@ -19,23 +19,23 @@ module _ {A E : Type 0} (is_clone : A → A → Type 0) (is_infallible : A → T
 
   module _ {S : Type 0} (steps : S → Answered A E → S → Type 0) (separator : A) where
     -- What is returned if nothing is held, by what is drawn: for a failure and an end itself; for the first item itself; for each later item a clone of the separator, or the failure converted from its `AllocError`, and then the item itself. The last of the draws may have yielded a later item that isn't returned yet: it is held. Whether an item came, and what is held, stands beside the source.
-    pub data Interspersed : S → Bool → List (Answered A E) → S → Bool × Option A → Type 0 where
-      nothing_drawn : {s : S} {started : Bool} → Interspersed s started [] s (started, None)
-      then_end : {s u t : S} {started : Bool} {rest : List (Answered A E)} {k : Bool × Option A} → steps s end u → Interspersed u started rest t k → Interspersed s started (end ∷ rest) t k
-      then_failure : {s u t : S} {started : Bool} {rest : List (Answered A E)} {k : Bool × Option A} (e : E) → steps s (failure e) u → Interspersed u started rest t k → Interspersed s started (failure e ∷ rest) t k
-      then_first_item : {s u t : S} {rest : List (Answered A E)} {k : Bool × Option A} (x : A) → steps s (item x) u → Interspersed u true rest t k → Interspersed s false (item x ∷ rest) t k
-      then_later_item : {s u t : S} {rest : List (Answered A E)} {k : Bool × Option A} (x : A) (r : Answered A E) → steps s (item x) u → Separates separator r → Interspersed u true rest t k → Interspersed s true (r ∷ item x ∷ rest) t k
-      later_item_held : {s t : S} (x : A) (r : Answered A E) → steps s (item x) t → Separates separator r → Interspersed s true (r ∷ []) t (true, Some x)
+    pub data IntersperseAnswers : S → Bool → List (Answered A E) → S → Bool × Option A → Type 0 where
+      nothing_drawn : {s : S} {started : Bool} → IntersperseAnswers s started [] s (started, None)
+      then_end : {s u t : S} {started : Bool} {rest : List (Answered A E)} {k : Bool × Option A} → steps s end u → IntersperseAnswers u started rest t k → IntersperseAnswers s started (end ∷ rest) t k
+      then_failure : {s u t : S} {started : Bool} {rest : List (Answered A E)} {k : Bool × Option A} (e : E) → steps s (failure e) u → IntersperseAnswers u started rest t k → IntersperseAnswers s started (failure e ∷ rest) t k
+      then_first_item : {s u t : S} {rest : List (Answered A E)} {k : Bool × Option A} (x : A) → steps s (item x) u → IntersperseAnswers u true rest t k → IntersperseAnswers s false (item x ∷ rest) t k
+      then_later_item : {s u t : S} {rest : List (Answered A E)} {k : Bool × Option A} (x : A) (r : Answered A E) → steps s (item x) u → Separates separator r → IntersperseAnswers u true rest t k → IntersperseAnswers s true (r ∷ item x ∷ rest) t k
+      later_item_held : {s t : S} (x : A) (r : Answered A E) → steps s (item x) t → Separates separator r → IntersperseAnswers s true (r ∷ []) t (true, Some x)
 
     -- the held item first, if one is held; nothing is drawn before it was yielded
-    abbrev pub HeldThen : S → Bool × Option A → List (Answered A E) → S → Bool × Option A → Type 0
-    HeldThen s (started, None) trace t k = Interspersed s started trace t k
-    HeldThen s (started, Some x) trace t k = ((trace ≡ []) × (t ≡ s) × (k ≡ (started, Some x))) ⊎ ((rest : List (Answered A E)) × (trace ≡ item x ∷ rest) × Interspersed s started rest t k)
+    abbrev pub HeldFirst : S → Bool × Option A → List (Answered A E) → S → Bool × Option A → Type 0
+    HeldFirst s (started, None) trace t k = IntersperseAnswers s started trace t k
+    HeldFirst s (started, Some x) trace t k = ((trace ≡ []) × (t ≡ s) × (k ≡ (started, Some x))) ⊎ ((rest : List (Answered A E)) × (trace ≡ item x ∷ rest) × IntersperseAnswers s started rest t k)
 
   module _ {S : Type 0} (steps : S → Answered A E → S → Type 0) where
     -- `Intersperse`: the held item, and then the source's trace where a clone of the separator stands before each item but the first; failures and ends between two items part nothing. The parts are the source, the separator, and whether an item came beside the one that is held.
     abbrev pub IntersperseTrace : S × (A × (Bool × Option A)) → List (Answered A E) → S × (A × (Bool × Option A)) → Type 0
-    IntersperseTrace p trace q = (q.1.0 ≡ p.1.0) × HeldThen steps p.1.0 p.0 p.1.1 trace q.0 q.1.1
+    IntersperseTrace p trace q = (q.1.0 ≡ p.1.0) × HeldFirst steps p.1.0 p.0 p.1.1 trace q.0 q.1.1
 
   -- what becomes of an answer that was drawn if nothing is held: what is returned, and what is told and held then
   abbrev pub PlacedAs : A → Bool → Answered A E → Answered A E → Bool × Option A → Type 0

@@ -53,5 +53,5 @@ pub record MinMaxBy {A E : Type 0} (cmp : A → A → Ordering) (r : Result (Min
   pub exit : MinMaxExit cmp items last r
 
 -- The draws from s returned items and then an end or a failure; the result is what the items make, or the failure.
-abbrev pub MinMaxed : {S A E : Type 0} → (A → A → Ordering) → (S → Answered A E → S → Type 0) → S → Result (MinMaxResult A) E → Type 0
-MinMaxed {S = S} cmp steps s r = (after : S) × Drained steps (MinMaxBy cmp r) s after
+abbrev pub MinMaxDrains : {S A E : Type 0} → (A → A → Ordering) → (S → Answered A E → S → Type 0) → S → Result (MinMaxResult A) E → Type 0
+MinMaxDrains {S = S} cmp steps s r = (after : S) × Drained steps (MinMaxBy cmp r) s after

@@ -56,30 +56,30 @@ let_go (failure_at e) = Some (failure e)
 let_go end_at = Some end
 
 -- after a place where the item was rejected stands one where the closure was called on the same item
-abbrev pub AgainAt : {X E : Type 0} → Place X (Result Bool E) E → Place X (Result Bool E) E → Type 0
-AgainAt (asked x (Ok true)) w = ⊤
-AgainAt {E = E} (asked x (Ok false)) w = (v : Result Bool E) × (w ≡ asked x v)
-AgainAt (asked x (Err e)) w = ⊤
-AgainAt (failure_at e) w = ⊤
-AgainAt end_at w = ⊤
+abbrev pub LookedAgainAt : {X E : Type 0} → Place X (Result Bool E) E → Place X (Result Bool E) E → Type 0
+LookedAgainAt (asked x (Ok true)) w = ⊤
+LookedAgainAt {E = E} (asked x (Ok false)) w = (v : Result Bool E) × (w ≡ asked x v)
+LookedAgainAt (asked x (Err e)) w = ⊤
+LookedAgainAt (failure_at e) w = ⊤
+LookedAgainAt end_at w = ⊤
 
 abbrev pub AskedAgain : {X E : Type 0} → List (Place X (Result Bool E) E) → Type 0
 AskedAgain [] = ⊤
 AskedAgain (z ∷ []) = ⊤
-AskedAgain (z ∷ w ∷ places) = AgainAt z w × AskedAgain (w ∷ places)
+AskedAgain (z ∷ w ∷ places) = LookedAgainAt z w × AskedAgain (w ∷ places)
 
 module _ {S X E : Type 0} (looks : S → X → S → Type 0) where
   -- how the source is left at the last place: if the item was rejected it was looked at
-  abbrev pub LeftBehind : Place X (Result Bool E) E → S → S → Type 0
-  LeftBehind (asked x (Ok true)) u q = q ≡ u
-  LeftBehind (asked x (Ok false)) u q = looks u x q
-  LeftBehind (asked x (Err e)) u q = q ≡ u
-  LeftBehind (failure_at e) u q = q ≡ u
-  LeftBehind end_at u q = q ≡ u
+  abbrev pub LeavesSource : Place X (Result Bool E) E → S → S → Type 0
+  LeavesSource (asked x (Ok true)) u q = q ≡ u
+  LeavesSource (asked x (Ok false)) u q = looks u x q
+  LeavesSource (asked x (Err e)) u q = q ≡ u
+  LeavesSource (failure_at e) u q = q ≡ u
+  LeavesSource end_at u q = q ≡ u
 
   abbrev pub LeftAt : List (Place X (Result Bool E) E) → S → S → Type 0
   LeftAt [] u q = q ≡ u
-  LeftAt (z ∷ []) u q = LeftBehind z u q
+  LeftAt (z ∷ []) u q = LeavesSource z u q
   LeftAt (z ∷ w ∷ places) u q = LeftAt (w ∷ places) u q
 
 -- `PeekingTakeWhile`: the closure is called on the item of each place, and an item is replaced by the closure's failure on it, and a rejected one by an end. The answers that were taken are those of the source's draws; on a rejected item the closure is called again at the next place, and if that is the last it was looked at and stays next. The parts are the source and the closure.
@@ -93,16 +93,16 @@ pub record PeekingTrace {S F X E : Type 0} (steps : S → Answered X E → S →
   pub again : AskedAgain places
 
 -- the draw at a place, or the look at an item that was rejected
-abbrev pub DrawnAt : {S X E : Type 0} → (S → Answered X E → S → Type 0) → (S → X → S → Type 0) → Place X (Result Bool E) E → S → S → Type 0
-DrawnAt steps looks (asked x (Ok true)) s t = steps s (item x) t
-DrawnAt steps looks (asked x (Ok false)) s t = looks s x t
-DrawnAt steps looks (asked x (Err e)) s t = steps s (item x) t
-DrawnAt steps looks (failure_at e) s t = steps s (failure e) t
-DrawnAt steps looks end_at s t = steps s end t
+abbrev pub DrawsAtPlace : {S X E : Type 0} → (S → Answered X E → S → Type 0) → (S → X → S → Type 0) → Place X (Result Bool E) E → S → S → Type 0
+DrawsAtPlace steps looks (asked x (Ok true)) s t = steps s (item x) t
+DrawsAtPlace steps looks (asked x (Ok false)) s t = looks s x t
+DrawsAtPlace steps looks (asked x (Err e)) s t = steps s (item x) t
+DrawsAtPlace steps looks (failure_at e) s t = steps s (failure e) t
+DrawsAtPlace steps looks end_at s t = steps s end t
 
 -- One answer: that of one place, with the closure called on its item.
 abbrev pub peeking_step : {S F X E : Type 0} → (S → Answered X E → S → Type 0) → (S → X → S → Type 0) → (F → X → Result Bool E → F → Type 0) → S × F → Answered X E → S × F → Type 0
-peeking_step {X = X} {E = E} steps looks call p r q = (z : Place X (Result Bool E) E) × DrawnAt steps looks z p.0 q.0 × Calls call p.1 (filter_map call_of (z ∷ [])) q.1 × (r ≡ taken_answer z)
+peeking_step {X = X} {E = E} steps looks call p r q = (z : Place X (Result Bool E) E) × DrawsAtPlace steps looks z p.0 q.0 × Calls call p.1 (filter_map call_of (z ∷ [])) q.1 × (r ≡ taken_answer z)
 
 -- The contract: the closure may be called on each item that may come, and the hint has the source's upper bound alone.
 abbrev pub peeking_contract : {S F X E : Type 0} → Contract S X E → (S → X → S → Type 0) → Mut F (Bor X × Unit {0}) (Result Bool E) → Contract (S × F) X E

@@ -102,16 +102,16 @@ module _ {A B C E F V : Type 0} (rule : Rule A B C E F V) where
   place_answer (both_gave x y v) = rule.answer x y v
 
   -- what is held of the left after a place: the item that stood beside a failure of the right, or what the rule says
-  abbrev pub left_behind : Option A → SidesPlace A B E V → Option A
-  left_behind held (left_failed e) = None
-  left_behind held (right_failed x e) = x
-  left_behind held (both_gave x y v) = rule.left_held x y v
+  abbrev pub left_held_after : Option A → SidesPlace A B E V → Option A
+  left_held_after held (left_failed e) = None
+  left_held_after held (right_failed x e) = x
+  left_held_after held (both_gave x y v) = rule.left_held x y v
 
   -- what is held of the right after a place: what was held, if the left failed, or what the rule says
-  abbrev pub right_behind : Option B → SidesPlace A B E V → Option B
-  right_behind held (left_failed e) = held
-  right_behind held (right_failed x e) = None
-  right_behind held (both_gave x y v) = rule.right_held x y v
+  abbrev pub right_held_after : Option B → SidesPlace A B E V → Option B
+  right_held_after held (left_failed e) = held
+  right_held_after held (right_failed x e) = None
+  right_held_after held (both_gave x y v) = rule.right_held x y v
 
   -- the closure decides on what both yielded, and otherwise stays as it is
   abbrev pub place_decides : F → SidesPlace A B E V → F → Type 0
@@ -153,14 +153,14 @@ module _ {S U A B C E F V : Type 0} (steps : S → Answered A E → S → Type 0
   -- A place for each answer. A failure of the left is returned, and the right isn't drawn. A failure of the right is returned, and the left's item is held, so that it stands at the next place too; an end of the left isn't held. Of an item or an end of each the rule makes the answer; an end closes nothing, and both are drawn again. Nothing is allocated, so no allocation fails.
   pub record SidesTrace (p : (S × Option A) × (U × Option B) × F) (trace : List (Answered C E)) (q : (S × Option A) × (U × Option B) × F) : Type 0 where
     pub places : List (SidesPlace A B E V)
-    pub left : SideTrace left_gave (left_behind rule) steps p.0 places q.0
-    pub right : SideTrace right_gave (right_behind rule) others p.1 places q.1
+    pub left : SideTrace left_gave (left_held_after rule) steps p.0 places q.0
+    pub right : SideTrace right_gave (right_held_after rule) others p.1 places q.1
     pub decided : FoldsTo (place_decides rule) p.2 places q.2
     pub answers : trace ≡ map (place_answer rule) places
 
   -- one answer: that of one place
   abbrev pub sides_step : (S × Option A) × (U × Option B) × F → Answered C E → (S × Option A) × (U × Option B) × F → Type 0
-  sides_step p r q = (x : SidesPlace A B E V) × GivesIf steps p.0 (left_gave x) q.0.0 × (q.0.1 ≡ left_behind rule p.0.1 x) × GivesIf others p.1 (right_gave x) q.1.0 × (q.1.1 ≡ right_behind rule p.1.1 x) × place_decides rule p.2 x q.2 × (r ≡ place_answer rule x)
+  sides_step p r q = (x : SidesPlace A B E V) × GivesIf steps p.0 (left_gave x) q.0.0 × (q.0.1 ≡ left_held_after rule p.0.1 x) × GivesIf others p.1 (right_gave x) q.1.0 × (q.1.1 ≡ right_held_after rule p.1.1 x) × place_decides rule p.2 x q.2 × (r ≡ place_answer rule x)
 
 -- An end of one side closes nothing, so the bounds of both are added up, and what remains of both.
 abbrev pub sides_contract : {S U A B C E F V : Type 0} → Contract S A E → Contract U B E → Rule A B C E F V → ((S × Option A) × (U × Option B) × F → ℕ × Option ℕ → Type 0) → Contract ((S × Option A) × (U × Option B) × F) C E

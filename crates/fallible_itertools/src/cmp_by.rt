@@ -1,7 +1,7 @@
 //! Comparisons by a closure on two items: one loop of rounds, and its turns.
 ghost use Rattle.std.specs.Prelude.{◌≡◌, ◌⊎◌, Option};
 ghost use Rattle.fallible_iterator.specs.Folds.{call_with, goes_on, takes_with};
-ghost use Rattle.fallible_itertools.specs.CmpBy.{CallableInRounds, ComparedBy, IsCmpTurn, IsEqTurn};
+ghost use Rattle.fallible_itertools.specs.CmpBy.{CallableInRounds, CompareByDraws, IsCmpTurn, IsEqTurn};
 
 use fallible_iterator::extending::number_of_either;
 use fallible_iterator::{FallibleIterator, Turn};
@@ -27,7 +27,7 @@ where
     requires finite { L.contract.is_finite left ⊎ R.contract.is_finite right }
     requires callable { CallableInRounds L.contract.steps R.contract.steps
         (goes_on (K.turns turn.now)) (K.can_turn turn.now) left right state }
-    ensures { ComparedBy (K.turns turn.now) L.contract.steps R.contract.steps left right state
+    ensures { CompareByDraws (K.turns turn.now) L.contract.steps R.contract.steps left right state
         result }
 {
     let (mut left, mut right, mut count) = number_of_either(left, right);

@@ -5,9 +5,9 @@ ghost use Rattle.fallible_iterator.specs.Clauses.{OverList, OverListWith};
 ghost use Rattle.fallible_iterator.specs.Closures.{call_on, takes_on, call_at, takes_at};
 ghost use Rattle.fallible_iterator.specs.Contract.{AtMost, KeptByDraws, Stays};
 ghost use Rattle.fallible_iterator.specs.Ends.{from_front, from_back};
-ghost use Rattle.fallible_iterator.specs.Folds.{Nth};
+ghost use Rattle.fallible_iterator.specs.Folds.{NthDrains};
 ghost use Rattle.fallible_iterator.specs.Lists.{Acts, rest_nth, rest_true, found, nth_of};
-ghost use Rattle.fallible_iterator.specs.Searching.{CallableInSearch, Searched, any_pick, find_pick};
+ghost use Rattle.fallible_iterator.specs.Searching.{CallableInSearch, SearchDrains, any_pick, find_pick};
 ghost use Rattle.fallible_itertools.specs.FromBack.{CountedWhere, PlacedFromBack, last_position_in, rest_position};
 
 use fallible_iterator::extending::{AnyTurn, CountTurn, FindTest, FindTurn, answer_or, found};
@@ -19,7 +19,7 @@ where
     I: DoubleEndedFallibleIterator,
     I::Item: Drop,
     requires { I.ends.can_next it.old }
-    ensures { Nth I.ends.steps it.old n result it.new }
+    ensures { NthDrains I.ends.steps it.old n result it.new }
 {
     let mut left = n;
     while 0 < left {
@@ -68,7 +68,7 @@ pub trait DoubleEndedFallibleItertools: DoubleEndedFallibleIterator {
     where
         Self::Item: Drop,
         requires { Self.ends.can_next self.old }
-        ensures nth { Nth Self.ends.steps self.old n result self.new }
+        ensures nth { NthDrains Self.ends.steps self.old n result self.new }
         ensures value { OverList Self.ends.steps self.old (λ l. result ≡ nth_of n l) }
         ensures rest { (l : List (Result Self.Item Self.Error))
             → ListsBothEnds Self.contract.steps Self.ends.steps self.old l
@@ -97,7 +97,7 @@ pub trait DoubleEndedFallibleItertools: DoubleEndedFallibleIterator {
         requires finite { Self.contract.is_finite self.old }
         requires callable { CallableInSearch (call_at F.FnMut) find_pick Self.ends.steps
             (takes_at F.FnMut) self.old f }
-        ensures searched { (g : F) × Searched (call_at F.FnMut) find_pick Self.ends.steps None
+        ensures searched { (g : F) × SearchDrains (call_at F.FnMut) find_pick Self.ends.steps None
             self.old f result self.new g }
         ensures value { OverListWith (Acts (call_at F.FnMut) f) Self.ends.steps self.old
             (λ h l. result ≡ found h l) }

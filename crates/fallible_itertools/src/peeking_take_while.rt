@@ -8,7 +8,7 @@ ghost use Rattle.fallible_iterator.specs.Laws.Contract.{lawful_seen};
 ghost use Rattle.fallible_iterator.specs.Lists.{Acts, Lists, taken_while};
 ghost use Rattle.fallible_iterator.specs.Peeking.Peekable.{held_item, peekable_held};
 ghost use Rattle.fallible_itertools.specs.PeekingTakeWhile.{AcceptsHeld, LooksAhead, borrowed_looks, peekable_looks, peeking_closure, peeking_contract, peeking_parts, peeking_source, peeking_step};
-ghost use Rattle.fallible_itertools.specs.Laws.PeekingTakeWhile.{borrowed_looking, lawful_peeking, peekable_looking};
+ghost use Rattle.fallible_itertools.specs.Laws.PeekingTakeWhile.{looks_ahead_borrowed_looking, lawful_peeking, looks_ahead_peekable_looking};
 
 use fallible_iterator::{FallibleIterator, Peekable};
 
@@ -87,7 +87,7 @@ where
         }
     }
 
-    ghost looking = { peekable_looking I.lawful };
+    ghost looking = { looks_ahead_peekable_looking I.lawful };
 }
 
 // What the closure returns on the buffered item, and true if none is buffered.
@@ -118,7 +118,7 @@ impl<P: PeekingNext> PeekingNext for &mut P {
         (**self).next_accepted(accept)
     }
 
-    ghost looking = { borrowed_looking P.looking };
+    ghost looking = { looks_ahead_borrowed_looking P.looking };
 }
 
 /// The items of what looks ahead up to the first one that the closure rejects, which stays next. A call there returns `Ok(None)`, and the next call calls the closure on the same item again. An item on which the closure fails is lost, and its failure is yielded.

@@ -9,21 +9,21 @@ ghost use Rattle.fallible_iterator.specs.Collecting.{Collects};
 ghost use Rattle.fallible_iterator.specs.Comparing.{OneIsFinite, read_as, reads_eq};
 ghost use Rattle.fallible_iterator.specs.Contract.{seen_as, AtMost, Stays};
 ghost use Rattle.fallible_iterator.specs.Fault.TheVariants.{Source};
-ghost use Rattle.fallible_iterator.specs.Folds.{call_with, takes_with, HoldsAtEachTurn, CallableInFold, goes_on};
-ghost use Rattle.fallible_iterator.specs.Lists.{Acts, ActsWith, Lists, ListsForGood, Converts, pointed_to, CollectedAs, MadeOf, rest_nth, collected};
+ghost use Rattle.fallible_iterator.specs.Folds as fold;
+ghost use Rattle.fallible_iterator.specs.Lists as list;
 ghost use Rattle.fallible_iterator.specs.Making.{ListsMade};
 ghost use Rattle.fallible_iterator.specs.Picking.{call_at_two, takes_at_two};
-ghost use Rattle.fallible_iterator.specs.Searching.{CallableInSearch, WentOn, Searched, all_pick, any_pick, each_pick, find_pick, position_pick};
+ghost use Rattle.fallible_iterator.specs.Searching as search;
 ghost use Rattle.fallible_itertools.specs.ChunkBy.{MadeGroup, chunk_by_contract, chunk_by_parts, chunked_by};
 ghost use Rattle.fallible_itertools.specs.Chunks.{chunked, chunks_contract, chunks_parts};
-ghost use Rattle.fallible_itertools.specs.Coalesce.{OneOrBoth, coalesce_asks, coalesce_contract, coalesce_parts, coalesce_takes, coalesced};
-ghost use Rattle.fallible_itertools.specs.CmpBy.{CallableInRounds, ComparedByWith, IsCmpTurn, IsEqTurn, equal_by, ordered_by};
-ghost use Rattle.fallible_itertools.specs.Converting.{Converted, try_each_done, try_found, try_position_in, rest_try_each, rest_try_true};
+ghost use Rattle.fallible_itertools.specs.Coalesce as coalesce;
+ghost use Rattle.fallible_itertools.specs.CmpBy as comparing;
+ghost use Rattle.fallible_itertools.specs.Converting as trying;
 ghost use Rattle.fallible_itertools.specs.Copied.{copied_contract, copied_parts};
 ghost use Rattle.fallible_itertools.specs.Counts.{IsCountsOf};
 ghost use Rattle.fallible_itertools.specs.Dedup.{dedup_contract, dedup_parts, deduped};
 ghost use Rattle.fallible_itertools.specs.DedupBy.{dedup_by_asks, dedup_by_contract, dedup_by_parts, dedup_by_takes, deduped_by};
-ghost use Rattle.fallible_itertools.specs.DedupByKey.{dedup_by_key_contract, dedup_by_key_parts, dedup_key_asks, dedup_key_takes, deduped_by_key};
+ghost use Rattle.fallible_itertools.specs.DedupByKey as dedup_by_key;
 ghost use Rattle.fallible_itertools.specs.Equal.{FirstCall, TestCall, contained, equal_to_first, rest_contained, rest_unequal};
 ghost use Rattle.fallible_itertools.specs.ExactlyOne.{AtMostOne, at_most_one_of, wanting_one};
 ghost use Rattle.fallible_itertools.specs.Holding.{MayBeAsked};
@@ -32,17 +32,17 @@ ghost use Rattle.fallible_itertools.specs.OrElse.{or_else_contract, or_else_part
 ghost use Rattle.fallible_itertools.specs.Intersperse.{intersperse_contract, intersperse_parts, interspersed};
 ghost use Rattle.fallible_itertools.specs.Join.{JoinedAs};
 ghost use Rattle.fallible_itertools.specs.Merge.{merge_contract, merge_left, merge_left_held, merge_parts, merge_right, merge_right_held, merged_in_order};
-ghost use Rattle.fallible_itertools.specs.MergeBy.{call_on_two, merge_by_closure, merge_by_contract, merge_by_left, merge_by_left_held, merge_by_parts, merge_by_right, merge_by_right_held, merged};
-ghost use Rattle.fallible_itertools.specs.MinMax.{MinMaxed, minmaxed};
+ghost use Rattle.fallible_itertools.specs.MergeBy as merge_by;
+ghost use Rattle.fallible_itertools.specs.MinMax.{MinMaxDrains, minmaxed};
 ghost use Rattle.fallible_itertools.specs.Sides.{OverBothForGood};
 ghost use Rattle.fallible_itertools.specs.FindOrLast.{FoundOrLast, found_or_last};
 ghost use Rattle.fallible_itertools.specs.IsSorted.{ItselfCall, OrderCall, in_order, sorted_by_key};
-ghost use Rattle.fallible_itertools.specs.FoldWhile.{WhileCall, FoldedWhile, folded_while, rest_while};
+ghost use Rattle.fallible_itertools.specs.FoldWhile.{WhileCall, FoldWhileDrains, folded_while, rest_while};
 ghost use Rattle.fallible_itertools.specs.Sorted.{CollectsSorted, IsSortedByCalls, IsSortedByKeyOf, IsSortedOf};
-ghost use Rattle.fallible_itertools.specs.TakeWhileInclusive.{inclusive_contract, inclusive_parts, inclusive_predicate, inclusive_refused, inclusive_source, taken_while_inclusive};
-ghost use Rattle.fallible_itertools.specs.CheckedSum.{Totalled, totalled};
+ghost use Rattle.fallible_itertools.specs.TakeWhileInclusive as inclusive;
+ghost use Rattle.fallible_itertools.specs.CheckedSum.{TotalDrains, totalled};
 ghost use Rattle.fallible_itertools.specs.TupleWindows.{tuple_windows_contract, tuple_windows_parts, windowed};
-ghost use Rattle.fallible_itertools.specs.ZipLongest.{zip_longest_contract, zip_longest_held, zip_longest_left, zip_longest_parts, zip_longest_right, zipped_longest};
+ghost use Rattle.fallible_itertools.specs.ZipLongest as zip_longest;
 ghost use Rattle.fallible_itertools.specs.declared.exactly_one.NotOne.TheVariants.{More};
 ghost use Rattle.fallible_itertools.specs.declared.fold_while.FoldWhile.TheVariants.{Done};
 
@@ -114,14 +114,16 @@ pub trait FallibleItertools: FallibleIterator {
             Self::Item,
             Self::Item,
         ) -> Result<Result<Self::Item, (Self::Item, Self::Item)>, Self::Error>,
-        requires callable { IsCallable (coalesce_asks (call_with F.FnMut))
-            (coalesce_takes (takes_with F.FnMut)) (MayBeAsked Self.contract self) (None, f) }
-        ensures parts { coalesce_parts result ≡ (self, ((None, f), None)) }
-        ensures lists { (h : Self.Item → Self.Item → OneOrBoth Self.Item Self.Error)
+        requires callable { IsCallable (coalesce.coalesce_asks (fold.call_with F.FnMut))
+            (coalesce.coalesce_takes (fold.takes_with F.FnMut)) (MayBeAsked Self.contract self)
+            (None, f) }
+        ensures parts { coalesce.coalesce_parts result ≡ (self, ((None, f), None)) }
+        ensures lists { (h : Self.Item → Self.Item → coalesce.OneOrBoth Self.Item Self.Error)
             (l : List (Result Self.Item Self.Error))
-            → ActsWith (call_with F.FnMut) f h → Lists Self.contract.steps self l
-            → Lists (seen_as coalesce_parts (coalesce_contract Self.contract F.FnMut)).steps result
-            (coalesced h l) }
+            → list.ActsWith (fold.call_with F.FnMut) f h → list.Lists Self.contract.steps self l
+            → list.Lists (seen_as coalesce.coalesce_parts
+            (coalesce.coalesce_contract Self.contract F.FnMut)).steps result
+            (coalesce.coalesced h l) }
     {
         Coalesce {
             it: self,
@@ -148,15 +150,16 @@ pub trait FallibleItertools: FallibleIterator {
         F: FnMut(&Self::Item) -> Result<K, Self::Error>,
         requires callable { IsCallable (call_at F.FnMut) (takes_at F.FnMut)
             (Self.contract.may_give self) f }
-        ensures parts { dedup_by_key_parts result ≡ (self, ((None, f), None)) }
-        ensures callable { IsCallable (dedup_key_asks K.eq (call_at F.FnMut))
-            (dedup_key_takes (takes_at F.FnMut)) (MayBeAsked Self.contract self) (None, f) }
+        ensures parts { dedup_by_key.dedup_by_key_parts result ≡ (self, ((None, f), None)) }
+        ensures callable { IsCallable (dedup_by_key.dedup_key_asks K.eq (call_at F.FnMut))
+            (dedup_by_key.dedup_key_takes (takes_at F.FnMut)) (MayBeAsked Self.contract self)
+            (None, f) }
         ensures lists { (h : Self.Item → Result K Self.Error)
-            (l : List (Result Self.Item Self.Error)) → Acts (call_at F.FnMut) f h
-            → Lists Self.contract.steps self l
-            → Lists (seen_as dedup_by_key_parts
-            (dedup_by_key_contract K.eq Self.contract F.FnMut)).steps result
-            (deduped_by_key K.eq h l) }
+            (l : List (Result Self.Item Self.Error)) → list.Acts (call_at F.FnMut) f h
+            → list.Lists Self.contract.steps self l
+            → list.Lists (seen_as dedup_by_key.dedup_by_key_parts
+            (dedup_by_key.dedup_by_key_contract K.eq Self.contract F.FnMut)).steps result
+            (dedup_by_key.deduped_by_key K.eq h l) }
     {
         DedupByKey {
             it: self,
@@ -186,8 +189,8 @@ pub trait FallibleItertools: FallibleIterator {
         ensures parts { dedup_by_parts result ≡ (self, ((None, same), None)) }
         ensures lists { (h : Self.Item → Self.Item → Result Bool Self.Error)
             (l : List (Result Self.Item Self.Error))
-            → ActsWith (call_at_two F.FnMut) same h → Lists Self.contract.steps self l
-            → Lists (seen_as dedup_by_parts (dedup_by_contract Self.contract F.FnMut)).steps
+            → list.ActsWith (call_at_two F.FnMut) same h → list.Lists Self.contract.steps self l
+            → list.Lists (seen_as dedup_by_parts (dedup_by_contract Self.contract F.FnMut)).steps
             result (deduped_by h l) }
     {
         DedupBy {
@@ -212,9 +215,9 @@ pub trait FallibleItertools: FallibleIterator {
         Self::Error: Drop,
         ensures parts { dedup_parts result ≡ (self, (None, None)) }
         ensures lists { (l : List (Result Self.Item Self.Error))
-            → Lists Self.contract.steps self l
-            → Lists (seen_as dedup_parts (dedup_contract Self.Item.eq Self.contract)).steps result
-            (deduped Self.Item.eq l) }
+            → list.Lists Self.contract.steps self l
+            → list.Lists (seen_as dedup_parts (dedup_contract Self.Item.eq Self.contract)).steps
+            result (deduped Self.Item.eq l) }
     {
         Dedup {
             it: self,
@@ -240,10 +243,10 @@ pub trait FallibleItertools: FallibleIterator {
         Self::Error: From<AllocError>,
         ensures parts { tuple_windows_parts result ≡ (self, None) }
         ensures lists { (l : List (Result Self.Item Self.Error))
-            → Lists Self.contract.steps self l
+            → list.Lists Self.contract.steps self l
             → ((x y : Self.Item) → Self.Item.is_clone x y → y ≡ x)
             → ((x : Self.Item) → Self.Item.is_infallible x)
-            → Lists (seen_as tuple_windows_parts (tuple_windows_contract Self.Item.is_clone
+            → list.Lists (seen_as tuple_windows_parts (tuple_windows_contract Self.Item.is_clone
             Self.Item.is_infallible Self.Error.from_gives Self.contract)).steps result
             (windowed l) }
     {
@@ -276,16 +279,16 @@ pub trait FallibleItertools: FallibleIterator {
         F: FnMut(Self::Item) -> Result<(), E>,
         requires can_next { Self.contract.can_next self.old }
         requires finite { Self.contract.is_finite self.old }
-        requires callable { HoldsAtEachTurn Self.contract.steps
-            (WentOn (call_on F.FnMut) each_pick) (takes_on F.FnMut) self.old f }
-        ensures searched { (g : F) × Searched (call_on F.FnMut) each_pick
-            (Converted E.from_gives Self.contract.steps) tt self.old f result self.new g }
-        ensures value { (convert : Self.Error → E) → Converts E.from_gives convert
-            → OverListWith (Acts (call_on F.FnMut) f) Self.contract.steps self.old
-            (λ h l. result ≡ try_each_done convert h l) }
-        ensures rest { OverListWith (Acts (call_on F.FnMut) f) Self.contract.steps self.old
+        requires callable { fold.HoldsAtEachTurn Self.contract.steps
+            (search.WentOn (call_on F.FnMut) search.each_pick) (takes_on F.FnMut) self.old f }
+        ensures searched { (g : F) × search.SearchDrains (call_on F.FnMut) search.each_pick
+            (trying.Converted E.from_gives Self.contract.steps) tt self.old f result self.new g }
+        ensures value { (convert : Self.Error → E) → list.Converts E.from_gives convert
+            → OverListWith (list.Acts (call_on F.FnMut) f) Self.contract.steps self.old
+            (λ h l. result ≡ trying.try_each_done convert h l) }
+        ensures rest { OverListWith (list.Acts (call_on F.FnMut) f) Self.contract.steps self.old
             (λ h l. (e : E) → result ≡ Err e
-            → Lists Self.contract.steps self.new (rest_try_each h l)) }
+            → list.Lists Self.contract.steps self.new (trying.rest_try_each h l)) }
         ensures stays { Stays Self.contract self.old self.new }
     {
         let mut f = f;
@@ -312,16 +315,16 @@ pub trait FallibleItertools: FallibleIterator {
         F: FnMut(&Self::Item) -> Result<bool, E>,
         requires can_next { Self.contract.can_next self.old }
         requires finite { Self.contract.is_finite self.old }
-        requires callable { HoldsAtEachTurn Self.contract.steps
-            (WentOn (call_at F.FnMut) find_pick) (takes_at F.FnMut) self.old f }
-        ensures searched { (g : F) × Searched (call_at F.FnMut) find_pick
-            (Converted E.from_gives Self.contract.steps) None self.old f result self.new g }
-        ensures value { (convert : Self.Error → E) → Converts E.from_gives convert
-            → OverListWith (Acts (call_at F.FnMut) f) Self.contract.steps self.old
-            (λ h l. result ≡ try_found convert h l) }
-        ensures rest { OverListWith (Acts (call_at F.FnMut) f) Self.contract.steps self.old
+        requires callable { fold.HoldsAtEachTurn Self.contract.steps
+            (search.WentOn (call_at F.FnMut) search.find_pick) (takes_at F.FnMut) self.old f }
+        ensures searched { (g : F) × search.SearchDrains (call_at F.FnMut) search.find_pick
+            (trying.Converted E.from_gives Self.contract.steps) None self.old f result self.new g }
+        ensures value { (convert : Self.Error → E) → list.Converts E.from_gives convert
+            → OverListWith (list.Acts (call_at F.FnMut) f) Self.contract.steps self.old
+            (λ h l. result ≡ trying.try_found convert h l) }
+        ensures rest { OverListWith (list.Acts (call_at F.FnMut) f) Self.contract.steps self.old
             (λ h l. ¬ (result ≡ Ok None)
-            → Lists Self.contract.steps self.new (rest_try_true h l)) }
+            → list.Lists Self.contract.steps self.new (trying.rest_try_true h l)) }
         ensures stays { Stays Self.contract self.old self.new }
     {
         let mut f = f;
@@ -347,16 +350,16 @@ pub trait FallibleItertools: FallibleIterator {
         F: FnMut(Self::Item) -> Result<bool, E>,
         requires can_next { Self.contract.can_next self.old }
         requires fits { AtMost Self.contract self.old (2 ^ 64 - 1) }
-        requires callable { HoldsAtEachTurn Self.contract.steps
-            (WentOn (call_on F.FnMut) position_pick) (takes_on F.FnMut) self.old f }
-        ensures searched { (g : F) × Searched (call_on F.FnMut) position_pick
-            (Converted E.from_gives Self.contract.steps) None self.old f result self.new g }
-        ensures value { (convert : Self.Error → E) → Converts E.from_gives convert
-            → OverListWith (Acts (call_on F.FnMut) f) Self.contract.steps self.old
-            (λ h l. result ≡ try_position_in convert h l) }
-        ensures rest { OverListWith (Acts (call_on F.FnMut) f) Self.contract.steps self.old
+        requires callable { fold.HoldsAtEachTurn Self.contract.steps
+            (search.WentOn (call_on F.FnMut) search.position_pick) (takes_on F.FnMut) self.old f }
+        ensures searched { (g : F) × search.SearchDrains (call_on F.FnMut) search.position_pick
+            (trying.Converted E.from_gives Self.contract.steps) None self.old f result self.new g }
+        ensures value { (convert : Self.Error → E) → list.Converts E.from_gives convert
+            → OverListWith (list.Acts (call_on F.FnMut) f) Self.contract.steps self.old
+            (λ h l. result ≡ trying.try_position_in convert h l) }
+        ensures rest { OverListWith (list.Acts (call_on F.FnMut) f) Self.contract.steps self.old
             (λ h l. ¬ (result ≡ Ok None)
-            → Lists Self.contract.steps self.new (rest_try_true h l)) }
+            → list.Lists Self.contract.steps self.new (trying.rest_try_true h l)) }
         ensures stays { Stays Self.contract self.old self.new }
     {
         answer_or_none(converted(self.drive(&mut (0, f), &PositionTurn)))
@@ -381,13 +384,13 @@ pub trait FallibleItertools: FallibleIterator {
         Self::Item: PartialEq + Drop,
         requires can_next { Self.contract.can_next self.old }
         requires finite { Self.contract.is_finite self.old }
-        ensures searched { Searched (TestCall (λ x. Self.Item.eq x wanted.now)) any_pick
-            Self.contract.steps false self.old tt result self.new tt }
+        ensures searched { search.SearchDrains (TestCall (λ x. Self.Item.eq x wanted.now))
+            search.any_pick Self.contract.steps false self.old tt result self.new tt }
         ensures value { OverList Self.contract.steps self.old
             (λ l. result ≡ contained Self.Item.eq wanted.now l) }
         ensures rest { OverList Self.contract.steps self.old
             (λ l. ¬ (result ≡ Ok false)
-            → Lists Self.contract.steps self.new (rest_contained Self.Item.eq wanted.now l)) }
+            → list.Lists Self.contract.steps self.new (rest_contained Self.Item.eq wanted.now l)) }
         ensures stays { Stays Self.contract self.old self.new }
     {
         answer_or(self.drive(&mut (), &ContainsTurn { wanted }), false)
@@ -409,13 +412,13 @@ pub trait FallibleItertools: FallibleIterator {
         Self::Item: PartialEq + Drop,
         requires can_next { Self.contract.can_next self.old }
         requires finite { Self.contract.is_finite self.old }
-        ensures searched { (first : Option Self.Item) × Searched (FirstCall Self.Item.eq) all_pick
-            Self.contract.steps true self.old None result self.new first }
+        ensures searched { (first : Option Self.Item) × search.SearchDrains (FirstCall Self.Item.eq)
+            search.all_pick Self.contract.steps true self.old None result self.new first }
         ensures value { OverList Self.contract.steps self.old
             (λ l. result ≡ equal_to_first Self.Item.eq l) }
         ensures rest { OverList Self.contract.steps self.old
             (λ l. ¬ (result ≡ Ok true)
-            → Lists Self.contract.steps self.new (rest_unequal Self.Item.eq l)) }
+            → list.Lists Self.contract.steps self.new (rest_unequal Self.Item.eq l)) }
         ensures stays { Stays Self.contract self.old self.new }
     {
         answer_or(self.drive(&mut None, &AllEqualTurn), true)
@@ -436,11 +439,11 @@ pub trait FallibleItertools: FallibleIterator {
         F: FnMut(&Self::Item) -> Result<bool, Self::Error>,
         requires can_next { Self.contract.can_next self }
         requires finite { Self.contract.is_finite self }
-        requires callable { CallableInSearch (call_at F.FnMut) find_pick Self.contract.steps
-            (takes_at F.FnMut) self f }
+        requires callable { search.CallableInSearch (call_at F.FnMut) search.find_pick
+            Self.contract.steps (takes_at F.FnMut) self f }
         ensures found { (left : Self) × (g : F)
             × FoundOrLast (call_at F.FnMut) Self.contract.steps self f result left g }
-        ensures value { OverListWith (Acts (call_at F.FnMut) f) Self.contract.steps self
+        ensures value { OverListWith (list.Acts (call_at F.FnMut) f) Self.contract.steps self
             (λ h l. result ≡ found_or_last h l) }
     {
         let mut state = (None, f);
@@ -465,7 +468,7 @@ pub trait FallibleItertools: FallibleIterator {
         Self::Item: CheckedTotal,
         requires can_next { Self.contract.can_next self }
         requires finite { Self.contract.is_finite self }
-        ensures sum { Totalled Self.Item.plus Self.contract.steps Self.Item.zero self result }
+        ensures sum { TotalDrains Self.Item.plus Self.contract.steps Self.Item.zero self result }
         ensures value { OverList Self.contract.steps self
             (λ l. result ≡ totalled Self.Item.plus Self.Item.zero l) }
     {
@@ -486,7 +489,8 @@ pub trait FallibleItertools: FallibleIterator {
         Self::Item: CheckedTotal,
         requires can_next { Self.contract.can_next self }
         requires finite { Self.contract.is_finite self }
-        ensures product { Totalled Self.Item.times Self.contract.steps Self.Item.one self result }
+        ensures product { TotalDrains Self.Item.times Self.contract.steps Self.Item.one self
+            result }
         ensures value { OverList Self.contract.steps self
             (λ l. result ≡ totalled Self.Item.times Self.Item.one l) }
     {
@@ -517,18 +521,18 @@ pub trait FallibleItertools: FallibleIterator {
         F: FnMut(B, Self::Item) -> Result<FoldWhile<B>, Self::Error>,
         requires can_next { Self.contract.can_next self.old }
         requires finite { Self.contract.is_finite self.old }
-        requires callable { CallableInFold Self.contract.steps (WhileCall (call_with F.FnMut))
-            (takes_with F.FnMut) self.old f init }
-        ensures folded { FoldedWhile (call_with F.FnMut) Self.contract.steps self.old init f
-            result self.new }
-        ensures value { OverListWith (ActsWith (call_with F.FnMut) f) Self.contract.steps self.old
-            (λ h l. result ≡ folded_while h init l) }
-        ensures rest_done { OverListWith (ActsWith (call_with F.FnMut) f) Self.contract.steps
-            self.old (λ h l. (b : B) → result ≡ Ok (Done b)
-            → Lists Self.contract.steps self.new (rest_while h init l)) }
-        ensures rest_failed { OverListWith (ActsWith (call_with F.FnMut) f) Self.contract.steps
-            self.old (λ h l. (e : Self.Error) → result ≡ Err e
-            → Lists Self.contract.steps self.new (rest_while h init l)) }
+        requires callable { fold.CallableInFold Self.contract.steps
+            (WhileCall (fold.call_with F.FnMut)) (fold.takes_with F.FnMut) self.old f init }
+        ensures folded { FoldWhileDrains (fold.call_with F.FnMut) Self.contract.steps self.old init
+            f result self.new }
+        ensures value { OverListWith (list.ActsWith (fold.call_with F.FnMut) f) Self.contract.steps
+            self.old (λ h l. result ≡ folded_while h init l) }
+        ensures rest_done { OverListWith (list.ActsWith (fold.call_with F.FnMut) f)
+            Self.contract.steps self.old (λ h l. (b : B) → result ≡ Ok (Done b)
+            → list.Lists Self.contract.steps self.new (rest_while h init l)) }
+        ensures rest_failed { OverListWith (list.ActsWith (fold.call_with F.FnMut) f)
+            Self.contract.steps self.old (λ h l. (e : Self.Error) → result ≡ Err e
+            → list.Lists Self.contract.steps self.new (rest_while h init l)) }
         ensures stays { Stays Self.contract self.old self.new }
     {
         let mut state = (Some(init), f);
@@ -554,13 +558,13 @@ pub trait FallibleItertools: FallibleIterator {
         F: FnMut(Self::Item) -> Result<K, Self::Error>,
         requires can_next { Self.contract.can_next self }
         requires finite { Self.contract.is_finite self }
-        requires callable { CallableInSearch (OrderCall K.partial_cmp (call_on F.FnMut)) all_pick
-            Self.contract.steps (λ p x. takes_on F.FnMut p.1 x) self (None, f) }
+        requires callable { search.CallableInSearch (OrderCall K.partial_cmp (call_on F.FnMut))
+            search.all_pick Self.contract.steps (λ p x. takes_on F.FnMut p.1 x) self (None, f) }
         ensures sorted { (left : Self) × (q : Option K × F)
-            × Searched (OrderCall K.partial_cmp (call_on F.FnMut)) all_pick Self.contract.steps
-            true self (None, f) result left q }
+            × search.SearchDrains (OrderCall K.partial_cmp (call_on F.FnMut)) search.all_pick
+            Self.contract.steps true self (None, f) result left q }
         ensures value { (order : K → K → Option Ordering) → order ≡ K.partial_cmp
-            → OverListWith (Acts (call_on F.FnMut) f) Self.contract.steps self
+            → OverListWith (list.Acts (call_on F.FnMut) f) Self.contract.steps self
             (λ h l. result ≡ sorted_by_key order h l) }
     {
         let mut state = (None, f);
@@ -584,8 +588,8 @@ pub trait FallibleItertools: FallibleIterator {
         requires can_next { Self.contract.can_next self }
         requires finite { Self.contract.is_finite self }
         ensures sorted { (left : Self) × (q : Option Self.Item × Unit {0})
-            × Searched (OrderCall Self.Item.partial_cmp ItselfCall) all_pick Self.contract.steps
-            true self (None, tt) result left q }
+            × search.SearchDrains (OrderCall Self.Item.partial_cmp ItselfCall) search.all_pick
+            Self.contract.steps true self (None, tt) result left q }
         ensures value { (order : Self.Item → Self.Item → Option Ordering)
             → order ≡ Self.Item.partial_cmp
             → OverList Self.contract.steps self (λ l. result ≡ in_order order l) }
@@ -613,8 +617,8 @@ pub trait FallibleItertools: FallibleIterator {
         T: Copy,
         ensures parts { copied_parts result ≡ (self, tt) }
         ensures lists { OverList Self.contract.steps self
-            (λ l. Lists (seen_as copied_parts (copied_contract Self.contract)).steps
-            result (pointed_to l)) }
+            (λ l. list.Lists (seen_as copied_parts (copied_contract Self.contract)).steps
+            result (list.pointed_to l)) }
     {
         Copied { it: self }
     }
@@ -635,13 +639,13 @@ pub trait FallibleItertools: FallibleIterator {
         P: FnMut(&Self::Item) -> Result<bool, Self::Error>,
         requires { IsCallable (call_at P.FnMut) (takes_at P.FnMut)
             (Self.contract.may_give self) predicate }
-        ensures source { inclusive_source result ≡ self }
-        ensures predicate { inclusive_predicate result ≡ predicate }
-        ensures refused { inclusive_refused result ≡ false }
-        ensures lists { OverListWith (Acts (call_at P.FnMut) predicate) Self.contract.steps self
-            (λ h l. Lists (seen_as inclusive_parts
-            (inclusive_contract Self.contract P.FnMut)).steps
-            result (taken_while_inclusive h l)) }
+        ensures source { inclusive.inclusive_source result ≡ self }
+        ensures predicate { inclusive.inclusive_predicate result ≡ predicate }
+        ensures refused { inclusive.inclusive_refused result ≡ false }
+        ensures lists { OverListWith (list.Acts (call_at P.FnMut) predicate) Self.contract.steps
+            self (λ h l. list.Lists (seen_as inclusive.inclusive_parts
+            (inclusive.inclusive_contract Self.contract P.FnMut)).steps
+            result (inclusive.taken_while_inclusive h l)) }
     {
         TakeWhileInclusive {
             it: self,
@@ -671,7 +675,7 @@ pub trait FallibleItertools: FallibleIterator {
         ensures callable { IsCallable (seen_call F.FnMut) (takes_at F.FnMut)
             (Self.contract.may_fail self) f }
         ensures lists { OverList Self.contract.steps self
-            (λ l. Lists (seen_as inspect_err_parts
+            (λ l. list.Lists (seen_as inspect_err_parts
             (inspect_err_contract Self.contract F.FnMut)).steps result l) }
     {
         InspectErr { it: self, f }
@@ -692,9 +696,9 @@ pub trait FallibleItertools: FallibleIterator {
         requires { IsCallable (call_on F.FnMut) (takes_on F.FnMut)
             (Self.contract.may_fail self) f }
         ensures parts { or_else_parts result ≡ (self, f) }
-        ensures lists { OverListWith (Acts (call_on F.FnMut) f) Self.contract.steps self
-            (λ h l. Lists (seen_as or_else_parts (or_else_contract Self.contract F.FnMut)).steps
-            result (recovered h l)) }
+        ensures lists { OverListWith (list.Acts (call_on F.FnMut) f) Self.contract.steps self
+            (λ h l. list.Lists (seen_as or_else_parts
+            (or_else_contract Self.contract F.FnMut)).steps result (recovered h l)) }
     {
         OrElse { it: self, f }
     }
@@ -726,12 +730,12 @@ pub trait FallibleItertools: FallibleIterator {
             I.IntoFallibleIter.contract)) result k }
         ensures for_good { OverBothForGood Self.contract.steps self I.into_gives other
             I.IntoFallibleIter.contract.steps
-            (λ a b. ListsForGood (seen_as merge_parts (merge_contract Self.Item.partial_cmp
+            (λ a b. list.ListsForGood (seen_as merge_parts (merge_contract Self.Item.partial_cmp
             Self.contract I.IntoFallibleIter.contract)).steps result
             (merged_in_order Self.Item.partial_cmp a b)) }
         ensures lists { OverBothForGood Self.contract.steps self I.into_gives other
             I.IntoFallibleIter.contract.steps
-            (λ a b. Lists (seen_as merge_parts (merge_contract Self.Item.partial_cmp
+            (λ a b. list.Lists (seen_as merge_parts (merge_contract Self.Item.partial_cmp
             Self.contract I.IntoFallibleIter.contract)).steps result
             (merged_in_order Self.Item.partial_cmp a b)) }
     {
@@ -763,30 +767,32 @@ pub trait FallibleItertools: FallibleIterator {
         I: IntoFallibleIterator<Item = Self::Item, Error = Self::Error>,
         F: FnMut(&Self::Item, &Self::Item) -> Result<bool, Self::Error>,
         requires { (right : I.IntoFallibleIter) → I.into_gives other right
-            → IsCallable (call_on_two (call_at_two F.FnMut)) (λ g z. takes_at_two F.FnMut g z.0 z.1)
-            (λ z. Self.contract.may_give self z.0
+            → IsCallable (merge_by.call_on_two (call_at_two F.FnMut))
+            (λ g z. takes_at_two F.FnMut g z.0 z.1) (λ z. Self.contract.may_give self z.0
             × I.IntoFallibleIter.contract.may_give right z.1) f }
-        ensures left { merge_by_left result ≡ self }
-        ensures left_held { merge_by_left_held result ≡ None }
-        ensures right { I.into_gives other (merge_by_right result) }
-        ensures right_held { merge_by_right_held result ≡ None }
-        ensures closure { merge_by_closure result ≡ f }
+        ensures left { merge_by.merge_by_left result ≡ self }
+        ensures left_held { merge_by.merge_by_left_held result ≡ None }
+        ensures right { I.into_gives other (merge_by.merge_by_right result) }
+        ensures right_held { merge_by.merge_by_right_held result ≡ None }
+        ensures closure { merge_by.merge_by_closure result ≡ f }
         ensures bounded { (a b k : ℕ) → Self.contract.bound self a
-            → I.IntoFallibleIter.contract.bound (merge_by_right result) b → a + b ≤ k
-            → AtMost (seen_as merge_by_parts (merge_by_contract Self.contract
+            → I.IntoFallibleIter.contract.bound (merge_by.merge_by_right result) b → a + b ≤ k
+            → AtMost (seen_as merge_by.merge_by_parts (merge_by.merge_by_contract Self.contract
             I.IntoFallibleIter.contract F.FnMut)) result k }
         ensures for_good { (h : Self.Item → Self.Item → Result Bool Self.Error)
-            → ActsWith (call_at_two F.FnMut) f h
+            → list.ActsWith (call_at_two F.FnMut) f h
             → OverBothForGood Self.contract.steps self I.into_gives other
             I.IntoFallibleIter.contract.steps
-            (λ a b. ListsForGood (seen_as merge_by_parts (merge_by_contract Self.contract
-            I.IntoFallibleIter.contract F.FnMut)).steps result (merged h a b)) }
+            (λ a b. list.ListsForGood
+            (seen_as merge_by.merge_by_parts (merge_by.merge_by_contract Self.contract
+            I.IntoFallibleIter.contract F.FnMut)).steps result (merge_by.merged h a b)) }
         ensures lists { (h : Self.Item → Self.Item → Result Bool Self.Error)
-            → ActsWith (call_at_two F.FnMut) f h
+            → list.ActsWith (call_at_two F.FnMut) f h
             → OverBothForGood Self.contract.steps self I.into_gives other
             I.IntoFallibleIter.contract.steps
-            (λ a b. Lists (seen_as merge_by_parts (merge_by_contract Self.contract
-            I.IntoFallibleIter.contract F.FnMut)).steps result (merged h a b)) }
+            (λ a b. list.Lists (seen_as merge_by.merge_by_parts
+            (merge_by.merge_by_contract Self.contract
+            I.IntoFallibleIter.contract F.FnMut)).steps result (merge_by.merged h a b)) }
     {
         MergeBy {
             left: Holding {
@@ -815,21 +821,23 @@ pub trait FallibleItertools: FallibleIterator {
     final fn zip_longest<I>(self, other: I) -> ZipLongest<Self, I::IntoFallibleIter>
     where
         I: IntoFallibleIterator<Error = Self::Error>,
-        ensures left { zip_longest_left result ≡ self }
-        ensures held { zip_longest_held result ≡ None }
-        ensures right { I.into_gives other (zip_longest_right result) }
+        ensures left { zip_longest.zip_longest_left result ≡ self }
+        ensures held { zip_longest.zip_longest_held result ≡ None }
+        ensures right { I.into_gives other (zip_longest.zip_longest_right result) }
         ensures bounded { (a b k : ℕ) → Self.contract.bound self a
-            → I.IntoFallibleIter.contract.bound (zip_longest_right result) b → a + b ≤ k
-            → AtMost (seen_as zip_longest_parts (zip_longest_contract Self.contract
-            I.IntoFallibleIter.contract)) result k }
+            → I.IntoFallibleIter.contract.bound (zip_longest.zip_longest_right result) b → a + b ≤ k
+            → AtMost (seen_as zip_longest.zip_longest_parts
+            (zip_longest.zip_longest_contract Self.contract I.IntoFallibleIter.contract)) result k }
         ensures for_good { OverBothForGood Self.contract.steps self I.into_gives other
             I.IntoFallibleIter.contract.steps
-            (λ a b. ListsForGood (seen_as zip_longest_parts (zip_longest_contract Self.contract
-            I.IntoFallibleIter.contract)).steps result (zipped_longest a b)) }
+            (λ a b. list.ListsForGood
+            (seen_as zip_longest.zip_longest_parts (zip_longest.zip_longest_contract Self.contract
+            I.IntoFallibleIter.contract)).steps result (zip_longest.zipped_longest a b)) }
         ensures lists { OverBothForGood Self.contract.steps self I.into_gives other
             I.IntoFallibleIter.contract.steps
-            (λ a b. Lists (seen_as zip_longest_parts (zip_longest_contract Self.contract
-            I.IntoFallibleIter.contract)).steps result (zipped_longest a b)) }
+            (λ a b. list.Lists (seen_as zip_longest.zip_longest_parts
+            (zip_longest.zip_longest_contract Self.contract
+            I.IntoFallibleIter.contract)).steps result (zip_longest.zipped_longest a b)) }
     {
         ZipLongest {
             left: Holding {
@@ -863,10 +871,10 @@ pub trait FallibleItertools: FallibleIterator {
         ensures value { OverList Self.contract.steps self.old (λ l. result ≡ at_most_one_of l) }
         ensures rest_two { OverList Self.contract.steps self.old
             (λ l. (p : Self.Item × Self.Item) → result ≡ Ok (Err p)
-            → Lists Self.contract.steps self.new (rest_nth 1 l)) }
+            → list.Lists Self.contract.steps self.new (list.rest_nth 1 l)) }
         ensures rest_failure { OverList Self.contract.steps self.old
             (λ l. (e : Self.Error) → result ≡ Err e
-            → Lists Self.contract.steps self.new (rest_nth 1 l)) }
+            → list.Lists Self.contract.steps self.new (list.rest_nth 1 l)) }
         ensures stays { Stays Self.contract self.old self.new }
     {
         let first = match self.draw() {
@@ -898,10 +906,10 @@ pub trait FallibleItertools: FallibleIterator {
             (λ l. result ≡ wanting_one (at_most_one_of l)) }
         ensures rest_two { OverList Self.contract.steps self.old
             (λ l. (x y : Self.Item) → result ≡ Ok (Err (More x y))
-            → Lists Self.contract.steps self.new (rest_nth 1 l)) }
+            → list.Lists Self.contract.steps self.new (list.rest_nth 1 l)) }
         ensures rest_failure { OverList Self.contract.steps self.old
             (λ l. (e : Self.Error) → result ≡ Err e
-            → Lists Self.contract.steps self.new (rest_nth 1 l)) }
+            → list.Lists Self.contract.steps self.new (list.rest_nth 1 l)) }
         ensures stays { Stays Self.contract self.old self.new }
     {
         match self.at_most_one() {
@@ -928,7 +936,7 @@ pub trait FallibleItertools: FallibleIterator {
         Self::Item: Ord + Drop,
         requires can_next { Self.contract.can_next self }
         requires finite { Self.contract.is_finite self }
-        ensures minmaxed { MinMaxed Self.Item.cmp Self.contract.steps self result }
+        ensures minmaxed { MinMaxDrains Self.Item.cmp Self.contract.steps self result }
         ensures value { OverList Self.contract.steps self
             (λ l. result ≡ minmaxed Self.Item.cmp l) }
     {
@@ -957,11 +965,11 @@ pub trait FallibleItertools: FallibleIterator {
         ensures collects { Collects Self.contract.steps (IsCountsOf Self.Item.eq) ⊥
             (λ m x. (get Self.Item.eq m x ≡ None) × (spare m ≡ 0)) self result }
         ensures value { OverList Self.contract.steps self
-            (λ l. CollectedAs (IsCountsOf Self.Item.eq) l result) }
+            (λ l. list.CollectedAs (IsCountsOf Self.Item.eq) l result) }
         ensures contents { OverList Self.contract.steps self
-            (λ l. IfOk result (MadeOf (IsCountsOf Self.Item.eq) (collected l))) }
+            (λ l. IfOk result (list.MadeOf (IsCountsOf Self.Item.eq) (list.collected l))) }
         ensures failure { OverList Self.contract.steps self
-            (λ l. (e : Self.Error) → result ≡ Err (Source e) → collected l ≡ Err e) }
+            (λ l. (e : Self.Error) → result ≡ Err (Source e) → list.collected l ≡ Err e) }
     {
         match self.collect::<Tally<Self::Item>>(alloc) {
             Ok(made) => Ok(made.counts),
@@ -986,11 +994,11 @@ pub trait FallibleItertools: FallibleIterator {
         ensures collects { CollectsSorted Self.contract.steps (IsSortedOf Self.Item.cmp) self
             result }
         ensures value { OverList Self.contract.steps self
-            (λ l. CollectedAs (IsSortedOf Self.Item.cmp) l result) }
+            (λ l. list.CollectedAs (IsSortedOf Self.Item.cmp) l result) }
         ensures contents { OverList Self.contract.steps self
-            (λ l. IfOk result (MadeOf (IsSortedOf Self.Item.cmp) (collected l))) }
+            (λ l. IfOk result (list.MadeOf (IsSortedOf Self.Item.cmp) (list.collected l))) }
         ensures failure { OverList Self.contract.steps self
-            (λ l. (e : Self.Error) → result ≡ Err (Source e) → collected l ≡ Err e) }
+            (λ l. (e : Self.Error) → result ≡ Err (Source e) → list.collected l ≡ Err e) }
     {
         sorted_items(self.collect(alloc))
     }
@@ -1020,12 +1028,12 @@ pub trait FallibleItertools: FallibleIterator {
             self result }
         ensures value { (key : Self.Item → K) → ComputesKey F.FnMut key f
             → OverList Self.contract.steps self
-            (λ l. CollectedAs (IsSortedByKeyOf key K.cmp) l result) }
+            (λ l. list.CollectedAs (IsSortedByKeyOf key K.cmp) l result) }
         ensures contents { (key : Self.Item → K) → ComputesKey F.FnMut key f
             → OverList Self.contract.steps self
-            (λ l. IfOk result (MadeOf (IsSortedByKeyOf key K.cmp) (collected l))) }
+            (λ l. IfOk result (list.MadeOf (IsSortedByKeyOf key K.cmp) (list.collected l))) }
         ensures failure { OverList Self.contract.steps self
-            (λ l. (e : Self.Error) → result ≡ Err (Source e) → collected l ≡ Err e) }
+            (λ l. (e : Self.Error) → result ≡ Err (Source e) → list.collected l ≡ Err e) }
     {
         sorted_items_by_key(self.collect(alloc), f)
     }
@@ -1047,11 +1055,11 @@ pub trait FallibleItertools: FallibleIterator {
         ensures collects { Collects Self.contract.steps
             (JoinedAs Self.Item.output separator.now) ⊥ (λ _ _. ⊤) self result }
         ensures value { OverList Self.contract.steps self
-            (λ l. CollectedAs (JoinedAs Self.Item.output separator.now) l result) }
+            (λ l. list.CollectedAs (JoinedAs Self.Item.output separator.now) l result) }
         ensures contents { OverList Self.contract.steps self (λ l. IfOk result
-            (MadeOf (JoinedAs Self.Item.output separator.now) (collected l))) }
+            (list.MadeOf (JoinedAs Self.Item.output separator.now) (list.collected l))) }
         ensures failure { OverList Self.contract.steps self
-            (λ l. (e : Self.Error) → result ≡ Err (Source e) → collected l ≡ Err e) }
+            (λ l. (e : Self.Error) → result ≡ Err (Source e) → list.collected l ≡ Err e) }
     {
         let mut state = (false, String::new(alloc));
         match self.drive(&mut state, &JoinTurn { separator }) {
@@ -1082,17 +1090,17 @@ pub trait FallibleItertools: FallibleIterator {
         requires finite { OneIsFinite Self.contract I.into_gives I.IntoFallibleIter.contract
             self other }
         requires callable { (right : I.IntoFallibleIter) → I.into_gives other right
-            → CallableInRounds Self.contract.steps I.IntoFallibleIter.contract.steps
-            (goes_on (IsCmpTurn (call_with F.FnMut))) (λ g p. takes_with F.FnMut g p.0 p.1)
-            self right f }
-        ensures compared { ComparedByWith (IsCmpTurn (call_with F.FnMut)) I.into_gives
-            Self.contract.steps I.IntoFallibleIter.contract.steps self other f
+            → comparing.CallableInRounds Self.contract.steps I.IntoFallibleIter.contract.steps
+            (fold.goes_on (comparing.IsCmpTurn (fold.call_with F.FnMut)))
+            (λ g p. fold.takes_with F.FnMut g p.0 p.1) self right f }
+        ensures compared { comparing.ComparedByWith (comparing.IsCmpTurn (fold.call_with F.FnMut))
+            I.into_gives Self.contract.steps I.IntoFallibleIter.contract.steps self other f
             (read_as (λ o. Some o) result) }
         ensures value { (h : Self.Item → I.Item → Result Ordering Self.Error)
-            → ActsWith (call_with F.FnMut) f h
+            → list.ActsWith (fold.call_with F.FnMut) f h
             → OverBoth Self.contract.steps self I.into_gives other
             I.IntoFallibleIter.contract.steps
-            (λ a b. read_as (λ o. Some o) result ≡ ordered_by h a b) }
+            (λ a b. read_as (λ o. Some o) result ≡ comparing.ordered_by h a b) }
     {
         let answer = compare_by(self, other.into_fallible_iter(), f, &CmpTurn);
         ordered(answer)
@@ -1117,17 +1125,17 @@ pub trait FallibleItertools: FallibleIterator {
         requires finite { OneIsFinite Self.contract I.into_gives I.IntoFallibleIter.contract
             self other }
         requires callable { (right : I.IntoFallibleIter) → I.into_gives other right
-            → CallableInRounds Self.contract.steps I.IntoFallibleIter.contract.steps
-            (goes_on (IsEqTurn (call_with F.FnMut))) (λ g p. takes_with F.FnMut g p.0 p.1)
-            self right f }
+            → comparing.CallableInRounds Self.contract.steps I.IntoFallibleIter.contract.steps
+            (fold.goes_on (comparing.IsEqTurn (fold.call_with F.FnMut)))
+            (λ g p. fold.takes_with F.FnMut g p.0 p.1) self right f }
         ensures compared { (answer : Result (Option Ordering) Self.Error)
-            × ComparedByWith (IsEqTurn (call_with F.FnMut)) I.into_gives Self.contract.steps
-            I.IntoFallibleIter.contract.steps self other f answer
+            × comparing.ComparedByWith (comparing.IsEqTurn (fold.call_with F.FnMut)) I.into_gives
+            Self.contract.steps I.IntoFallibleIter.contract.steps self other f answer
             × (result ≡ read_as reads_eq answer) }
         ensures value { (h : Self.Item → I.Item → Result Bool Self.Error)
-            → ActsWith (call_with F.FnMut) f h
+            → list.ActsWith (fold.call_with F.FnMut) f h
             → OverBoth Self.contract.steps self I.into_gives other
-            I.IntoFallibleIter.contract.steps (λ a b. result ≡ equal_by h a b) }
+            I.IntoFallibleIter.contract.steps (λ a b. result ≡ comparing.equal_by h a b) }
     {
         let answer = compare_by(self, other.into_fallible_iter(), f, &EqTurn);
         ReadEq::read(answer)
@@ -1151,7 +1159,7 @@ pub trait FallibleItertools: FallibleIterator {
         requires { 0 < n }
         ensures parts { chunks_parts result ≡ (self, ((n, None), None)) }
         ensures lists { (l : List (Result Self.Item Self.Error))
-            → Lists Self.contract.steps self l
+            → list.Lists Self.contract.steps self l
             → ListsMade (λ xs v. vec_items v ≡ xs)
             (seen_as chunks_parts (chunks_contract Self.Error.from_gives Self.contract)).steps
             Self.Error.from_gives result (chunked n l) }
@@ -1189,8 +1197,8 @@ pub trait FallibleItertools: FallibleIterator {
         ensures parts { chunk_by_parts result ≡ (self, ((key, None), None)) }
         ensures lists { (h : Self.Item → Result K Self.Error)
             → (l : List (Result Self.Item Self.Error))
-            → Acts (call_at F.FnMut) key h
-            → Lists Self.contract.steps self l
+            → list.Acts (call_at F.FnMut) key h
+            → list.Lists Self.contract.steps self l
             → ListsMade MadeGroup (seen_as chunk_by_parts
             (chunk_by_contract Self.Error.from_gives K.eq F.FnMut Self.contract)).steps
             Self.Error.from_gives result (chunked_by K.eq h l) }
@@ -1218,10 +1226,10 @@ pub trait FallibleItertools: FallibleIterator {
         Self::Error: From<AllocError>,
         ensures parts { intersperse_parts result ≡ (self, (separator, (false, None))) }
         ensures lists { (l : List (Result Self.Item Self.Error))
-            → Lists Self.contract.steps self l
+            → list.Lists Self.contract.steps self l
             → ((copy : Self.Item) → Self.Item.is_clone separator copy → copy ≡ separator)
             → Self.Item.is_infallible separator
-            → Lists (seen_as intersperse_parts (intersperse_contract Self.Item.is_clone
+            → list.Lists (seen_as intersperse_parts (intersperse_contract Self.Item.is_clone
             Self.Item.is_infallible Self.Error.from_gives Self.contract)).steps result
             (interspersed separator l) }
     {

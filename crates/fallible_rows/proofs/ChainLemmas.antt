@@ -11,8 +11,8 @@ use Rattle.fallible_iterator.specs.Cutting.Take.{take_contract, take_parts}
 use Rattle.fallible_iterator.specs.Filtering.Filter.{filter_contract, filter_parts}
 use Rattle.fallible_iterator.proofs.Lemmas.Callers.{filtered_run, taken_run, run_seen}
 use Rattle.fallible_rows.specs.RowTraces.{rows_parts, row_step, ReadsRows}
-use Rattle.fallible_rows.proofs.ReportLemmas.{above}
-use Rattle.fallible_rows.proofs.RowsLaw.{to_trace}
+use Rattle.fallible_rows.proofs.ReportLemmas.{is_above_100}
+use Rattle.fallible_rows.proofs.RowsLaw.{reads_rows_of_run}
 use Rattle.fallible_iterator.specs.Take.{Take}
 use Rattle.fallible_iterator.specs.Filter.{Filter}
 use Rattle.fallible_rows.specs.declared.fault.RowFault.{RowFault}
@@ -31,21 +31,21 @@ module _ {B : Type 0} (left : B → Option (List ℕ)) (stays : Bool → B → B
   pub record ChainReads (n count : ℕ) (last : Answered ℕ RowFault) (p : B × Option Ahead) : Type 0 where
     pub items : List ℕ
     pub reads : ReadsAtMost n items last p
-    pub count_is : count ≡ count_by above items
+    pub count_is : count ≡ count_by is_above_100 items
 
   module _ (begin : Rows B) (begins : rows_parts begin ≡ (r, Some a)) (placed : a.place ≤ 4294967295) where
     reads_rows : (trace : List (Answered ℕ RowFault)) (t : Rows B) → Run row_contract.steps begin trace t → ReadsRows left stays r a trace (rows_parts t)
-    reads_rows trace t ran = to_trace left stays trace r a (rows_parts t) placed (subst (λ (p : B × Option Ahead). Run (row_step left stays) p trace (rows_parts t)) begins (run_seen rows_parts (row_step left stays) trace begin t ran))
+    reads_rows trace t ran = reads_rows_of_run left stays trace r a (rows_parts t) placed (subst (λ (p : B × Option Ahead). Run (row_step left stays) p trace (rows_parts t)) begins (run_seen rows_parts (row_step left stays) trace begin t ran))
 
-    pub chain_reads : {F : Type 0} (g : Mut F (Bor ℕ × Unit {0}) (Result Bool RowFault)) (s t : Filter (Take (Rows B)) F) (first : Take (Rows B)) (f : F) (n : ℕ) (xs : List ℕ) (last : Answered ℕ RowFault) → Acts (call_at g) f (λ x. Ok (above x)) → filter_parts s ≡ (first, f) → take_parts first ≡ (begin, n)
+    pub chain_reads : {F : Type 0} (g : Mut F (Bor ℕ × Unit {0}) (Result Bool RowFault)) (s t : Filter (Take (Rows B)) F) (first : Take (Rows B)) (f : F) (n : ℕ) (xs : List ℕ) (last : Answered ℕ RowFault) → Acts (call_at g) f (λ x. Ok (is_above_100 x)) → filter_parts s ≡ (first, f) → take_parts first ≡ (begin, n)
         → Run (seen_as filter_parts (filter_contract (seen_as take_parts (take_contract row_contract)) g)).steps s (map item xs ++ last ∷ []) t → ChainReads n (length xs) last (rows_parts t.it.it)
     chain_reads g s t first f n xs last acts at_filter at_take ran =
-        let b = filtered_run (seen_as take_parts (take_contract row_contract)) g above f first s t xs last acts at_filter ran in
+        let b = filtered_run (seen_as take_parts (take_contract row_contract)) g is_above_100 f first s t xs last acts at_filter ran in
         record {
           items = b.items;
           reads = elim (taken_run row_contract n begin first t.it b.items last at_take b.ran) [
             | inl d ↦ inl (reads_rows (map item b.items ++ last ∷ []) t.it.it d.0, d.1)
             | inr d ↦ inr (reads_rows (map item b.items) t.it.it d.0, d.1, d.2)
           ];
-          count_is = ap length b.are ∙ length-filter above b.items;
+          count_is = ap length b.are ∙ length-filter is_above_100 b.items;
         }

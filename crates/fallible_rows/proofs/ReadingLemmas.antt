@@ -21,19 +21,19 @@ abbrev pub given_more : {R : Type 0} → Buffered R → ℕ → Buffered R
 given_more s n = record { reader = s.reader; given = s.given + n }
 
 module _ {R : Type 0} (remaining : R → Option (List ℕ)) where
-  gives_front : (s : Buffered R) (front rest : List ℕ) → held_bytes s ≡ front ++ rest → GivesBytes (buffered_left remaining) (λ _ _ _. ⊤) s front (given_more s (length front))
-  gives_front s [] rest is = let none : s.given ≡ s.given + 0 = omega arith in ap (λ (n : ℕ). record { reader = s.reader; given = n }) none
-  gives_front s (byte ∷ front) rest is =
+  gives_bytes_front : (s : Buffered R) (front rest : List ℕ) → held_bytes s ≡ front ++ rest → GivesBytes (buffered_left remaining) (λ _ _ _. ⊤) s front (given_more s (length front))
+  gives_bytes_front s [] rest is = let none : s.given ≡ s.given + 0 = omega arith in ap (λ (n : ℕ). record { reader = s.reader; given = n }) none
+  gives_bytes_front s (byte ∷ front) rest is =
       let next : held_bytes (given_more s 1) ≡ front ++ rest = sym (drop-drop 1 s.given (reader_buffer s.reader)) ∙ ap (drop 1) is in
       let more : (s.given + 1) + length front ≡ s.given + length (byte ∷ front) = omega arith in
       let unknown = reader_capacity s.reader == 0 in
       let came = consumes_first unknown (held_bytes s) byte (held_bytes (given_more s 1)) (remaining (reader_inner s.reader)) (is ∙ ap (λ l. byte ∷ l) (sym next)) in
-      (given_more s 1, (came, tt), subst (λ (n : ℕ). GivesBytes (buffered_left remaining) (λ _ _ _. ⊤) (given_more s 1) front (record { reader = s.reader; given = n })) more (gives_front (given_more s 1) front rest next))
+      (given_more s 1, (came, tt), subst (λ (n : ℕ). GivesBytes (buffered_left remaining) (λ _ _ _. ⊤) (given_more s 1) front (record { reader = s.reader; given = n })) more (gives_bytes_front (given_more s 1) front rest next))
 
-  pub gives_held : (s : Buffered R) (n : ℕ) → n ≤ length (held_bytes s) → GivesBytes (buffered_left remaining) (λ _ _ _. ⊤) s (take n (held_bytes s)) (given_more s n)
-  gives_held s n l =
+  pub gives_bytes_held : (s : Buffered R) (n : ℕ) → n ≤ length (held_bytes s) → GivesBytes (buffered_left remaining) (λ _ _ _. ⊤) s (take n (held_bytes s)) (given_more s n)
+  gives_bytes_held s n l =
       let long : length (take n (held_bytes s)) ≡ n = omega (arith, length-take n (held_bytes s)) in
-      subst (λ (k : ℕ). GivesBytes (buffered_left remaining) (λ _ _ _. ⊤) s (take n (held_bytes s)) (given_more s k)) long (gives_front s (take n (held_bytes s)) (drop n (held_bytes s)) (sym (take-append-drop n (held_bytes s))))
+      subst (λ (k : ℕ). GivesBytes (buffered_left remaining) (λ _ _ _. ⊤) s (take n (held_bytes s)) (given_more s k)) long (gives_bytes_front s (take n (held_bytes s)) (drop n (held_bytes s)) (sym (take-append-drop n (held_bytes s))))
 
 -- ---- a reader that is lent
 
@@ -42,22 +42,22 @@ abbrev pub lent_as : {R : Type 0} → Lent R → R → Lent R
 lent_as s q = record { reader = record s.reader { now = q } }
 
 module _ {R : Type 0} (left : R → Option (List ℕ)) (stays : Bool → R → R → Type 0) where
-  pub gives_lent : (s : Lent R) (bytes : List ℕ) (q : R) → GivesBytes left stays s.reader.now bytes q → GivesBytes {R = Lent R} (λ t. left t.reader.now) (λ _ t u. u.reader.ghost_name ≡ t.reader.ghost_name) s bytes (lent_as s q)
-  gives_lent s [] q h = ap (lent_as s) h
-  gives_lent s (byte ∷ bytes) q h = (lent_as s h.0, (h.1.0, refl), gives_lent (lent_as s h.0) bytes q h.2)
+  pub gives_bytes_lent : (s : Lent R) (bytes : List ℕ) (q : R) → GivesBytes left stays s.reader.now bytes q → GivesBytes {R = Lent R} (λ t. left t.reader.now) (λ _ t u. u.reader.ghost_name ≡ t.reader.ghost_name) s bytes (lent_as s q)
+  gives_bytes_lent s [] q h = ap (lent_as s) h
+  gives_bytes_lent s (byte ∷ bytes) q h = (lent_as s h.0, (h.1.0, refl), gives_bytes_lent (lent_as s h.0) bytes q h.2)
 
 -- ---- bytes in memory
 
 module _ (stays : Bool → Bytes → Bytes → Type 0) (always : (s t : Bytes) → stays false s t) where
-  pub gives_first : (s t : Bytes) (byte : ℕ) (front rest : List ℕ) → s.bytes.now ≡ (byte ∷ front) ++ rest → t.bytes.now ≡ rest → GivesBytes bytes_left stays s (byte ∷ front) t
-  gives_first s t byte [] rest is after = (t, (is ∙ ap (λ l. byte ∷ l) (sym after), always s t), refl)
-  gives_first s t byte (next ∷ front) rest is after =
+  pub gives_bytes_first : (s t : Bytes) (byte : ℕ) (front rest : List ℕ) → s.bytes.now ≡ (byte ∷ front) ++ rest → t.bytes.now ≡ rest → GivesBytes bytes_left stays s (byte ∷ front) t
+  gives_bytes_first s t byte [] rest is after = (t, (is ∙ ap (λ l. byte ∷ l) (sym after), always s t), refl)
+  gives_bytes_first s t byte (next ∷ front) rest is after =
       let u : Bytes = record { bytes = record s.bytes { now = (next ∷ front) ++ rest } } in
-      (u, (is, always s u), gives_first u t next front rest refl after)
+      (u, (is, always s u), gives_bytes_first u t next front rest refl after)
 
-  gives_taken : (s t : Bytes) (n : ℕ) → 0 < n → n ≤ length s.bytes.now → t.bytes.now ≡ drop n s.bytes.now → (front : List ℕ) → take n s.bytes.now ≡ front → GivesBytes bytes_left stays s front t
-  gives_taken s t n some l after [] is = let long : length (take n s.bytes.now) ≡ 0 = ap length is in absurd (omega (arith, long, length-take n s.bytes.now))
-  gives_taken s t n some l after (byte ∷ front) is = gives_first s t byte front (drop n s.bytes.now) (sym (take-append-drop n s.bytes.now) ∙ ap (λ x. x ++ drop n s.bytes.now) is) after
+  gives_bytes_taken : (s t : Bytes) (n : ℕ) → 0 < n → n ≤ length s.bytes.now → t.bytes.now ≡ drop n s.bytes.now → (front : List ℕ) → take n s.bytes.now ≡ front → GivesBytes bytes_left stays s front t
+  gives_bytes_taken s t n some l after [] is = let long : length (take n s.bytes.now) ≡ 0 = ap length is in absurd (omega (arith, long, length-take n s.bytes.now))
+  gives_bytes_taken s t n some l after (byte ∷ front) is = gives_bytes_first s t byte front (drop n s.bytes.now) (sym (take-append-drop n s.bytes.now) ∙ ap (λ x. x ++ drop n s.bytes.now) is) after
 
   pub gives_bytes : (s t : Bytes) (n : ℕ) → 0 < n → n ≤ length s.bytes.now → t.bytes.now ≡ drop n s.bytes.now → GivesBytes bytes_left stays s (take n s.bytes.now) t
-  gives_bytes s t n some l after = gives_taken s t n some l after (take n s.bytes.now) refl
+  gives_bytes s t n some l after = gives_bytes_taken s t n some l after (take n s.bytes.now) refl

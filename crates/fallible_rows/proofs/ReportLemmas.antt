@@ -21,12 +21,12 @@ pub row_limit-is : row_limit ≡ 1000000
 unfolding row_limit
 row_limit-is = refl
 
-abbrev Answers : Type 0
-Answers = List (Answered ℕ RowFault)
+abbrev RowAnswers : Type 0
+RowAnswers = List (Answered ℕ RowFault)
 
 -- whether a number is above 100
-abbrev pub above : ℕ → Bool
-above x = nat_lt 100 x
+abbrev pub is_above_100 : ℕ → Bool
+is_above_100 x = nat_lt 100 x
 
 -- a row that is not refused
 abbrev pub is_taken : List ℕ → Type 0
@@ -43,20 +43,20 @@ item_is_taken place row None x is e = absurd cc
 pub record ItemRows (rs : List (List ℕ)) (xs : List ℕ) : Type 0 where
   pub numbers : AreNumbers rs
   pub long : length rs ≡ length xs
-  pub count : count_by is_above rs ≡ count_by above xs
+  pub count : count_by is_above rs ≡ count_by is_above_100 xs
 
-pub item_rows : (place : ℕ) (rs : List (List ℕ)) (xs : List ℕ) → row_answers place rs ≡ map item xs → ItemRows rs xs
-item_rows place [] [] e = record { numbers = All-nil is_taken; long = refl; count = refl }
-item_rows place [] (x ∷ xs) e = absurd cc
-item_rows place (row ∷ rest) [] e = absurd cc
-item_rows place (row ∷ rest) (x ∷ xs) e =
+pub item_rows_of_answers : (place : ℕ) (rs : List (List ℕ)) (xs : List ℕ) → row_answers place rs ≡ map item xs → ItemRows rs xs
+item_rows_of_answers place [] [] e = record { numbers = All-nil is_taken; long = refl; count = refl }
+item_rows_of_answers place [] (x ∷ xs) e = absurd cc
+item_rows_of_answers place (row ∷ rest) [] e = absurd cc
+item_rows_of_answers place (row ∷ rest) (x ∷ xs) e =
     let first : row_answer place row ≡ item x = cc in
     let h = item_is_taken place row (row_number row) x refl first in
-    let others = item_rows (place + 1) rest xs cc in
+    let others = item_rows_of_answers (place + 1) rest xs cc in
     record {
       numbers = All-cons is_taken row rest h.0 others.numbers;
       long = let l = others.long in omega (arith, l);
-      count = sum_by-cons (λ r. cond (is_above r) 1 0) row rest ∙ ap (λ b. cond b 1 0 + count_by is_above rest) h.1 ∙ ap (λ n. cond (above x) 1 0 + n) others.count ∙ sym (sum_by-cons (λ y. cond (above y) 1 0) x xs);
+      count = sum_by-cons (λ r. cond (is_above r) 1 0) row rest ∙ ap (λ b. cond b 1 0 + count_by is_above rest) h.1 ∙ ap (λ n. cond (is_above_100 x) 1 0 + n) others.count ∙ sym (sum_by-cons (λ y. cond (is_above_100 y) 1 0) x xs);
     }
 
 -- rows whose last answer alone is a failure
@@ -102,11 +102,11 @@ no_end_row place (Some n) e = cc
 no_end_row place None e = cc
 
 -- no row's answer is an end
-pub no_end : (place : ℕ) (rs : List (List ℕ)) (xs : List ℕ) → row_answers place rs ≡ map item xs ++ end ∷ [] → ⊥
-no_end place [] [] e = absurd cc
-no_end place [] (x ∷ xs) e = absurd cc
-no_end place (row ∷ rest) [] e = no_end_row place (row_number row) cc
-no_end place (row ∷ rest) (x ∷ xs) e = no_end (place + 1) rest xs cc
+pub row_answers_no_end : (place : ℕ) (rs : List (List ℕ)) (xs : List ℕ) → row_answers place rs ≡ map item xs ++ end ∷ [] → ⊥
+row_answers_no_end place [] [] e = absurd cc
+row_answers_no_end place [] (x ∷ xs) e = absurd cc
+row_answers_no_end place (row ∷ rest) [] e = no_end_row place (row_number row) cc
+row_answers_no_end place (row ∷ rest) (x ∷ xs) e = row_answers_no_end (place + 1) rest xs cc
 
 -- ---- reports
 
@@ -127,14 +127,14 @@ tally-numbers bytes numbers few =
     ap (λ rs. unless_refused (position is_refused rs) (count_by is_above rs)) all ∙ ap (λ o. unless_refused o (count_by is_above (rows bytes))) at
 
 -- the first rows up to and with one within the limit
-take_bad : (n : ℕ) (good : List (List ℕ)) (bad : List ℕ) (more : List (List ℕ)) → length good < n → (rest : List (List ℕ)) × (take n (good ++ bad ∷ more) ≡ good ++ bad ∷ rest)
-take_bad zero good bad more l = absurd (omega arith)
-take_bad (suc n) [] bad more l = (take n more, refl)
-take_bad (suc n) (row ∷ good) bad more l = let h = take_bad n good bad more (omega arith) in (h.0, ap (λ rs. row ∷ rs) h.1)
+take_up_to_refused : (n : ℕ) (good : List (List ℕ)) (bad : List ℕ) (more : List (List ℕ)) → length good < n → (rest : List (List ℕ)) × (take n (good ++ bad ∷ more) ≡ good ++ bad ∷ rest)
+take_up_to_refused zero good bad more l = absurd (omega arith)
+take_up_to_refused (suc n) [] bad more l = (take n more, refl)
+take_up_to_refused (suc n) (row ∷ good) bad more l = let h = take_up_to_refused n good bad more (omega arith) in (h.0, ap (λ rs. row ∷ rs) h.1)
 
 pub tally-refused : (bytes : List ℕ) (good : List (List ℕ)) (bad : List ℕ) (more : List (List ℕ)) → rows bytes ≡ good ++ bad ∷ more → AreNumbers good → is_refused bad ≡ true → length good < row_limit → tally bytes ≡ Err (length good + 1)
 tally-refused bytes good bad more are numbers refused few =
-    let h = take_bad row_limit good bad more few in
+    let h = take_up_to_refused row_limit good bad more few in
     let first : first_rows bytes ≡ good ++ bad ∷ h.0 = ap (take row_limit) are ∙ h.1 in
     let at = ap (position is_refused) first ∙ position_from-zero is_refused (good ++ bad ∷ h.0) ∙ first_refused 0 good bad h.0 numbers refused in
     let none : 0 + length good ≡ length good = omega arith in
@@ -159,8 +159,8 @@ same_with_more-full bytes closed long more =
     ap (λ rs. line_of_count (unless_refused (position is_refused rs) (count_by is_above rs))) (all ∙ sym rest)
 
 -- closed bytes of which the last row alone is refused
-refused_same : (bytes : List ℕ) (good : List (List ℕ)) (bad : List ℕ) → IsClosed bytes → rows bytes ≡ good ++ bad ∷ [] → AreNumbers good → is_refused bad ≡ true → length good < row_limit → SameWithMore bytes
-refused_same bytes good bad closed are numbers refused few more =
+same_with_more_refused : (bytes : List ℕ) (good : List (List ℕ)) (bad : List ℕ) → IsClosed bytes → rows bytes ≡ good ++ bad ∷ [] → AreNumbers good → is_refused bad ≡ true → length good < row_limit → SameWithMore bytes
+same_with_more_refused bytes good bad closed are numbers refused few more =
     let joined : rows (bytes ++ more) ≡ good ++ bad ∷ rows more = rows-closed bytes more closed ∙ ap (λ rs. rs ++ rows more) are ∙ append_assoc good (bad ∷ []) (rows more) in
     ap line_of_count (tally-refused bytes good bad [] are numbers refused few ∙ sym (tally-refused (bytes ++ more) good bad (rows more) joined numbers refused few))
 
@@ -178,11 +178,11 @@ but_last-good rs good bad are h =
     subst (λ l. AreNumbers (but_last l)) (sym are) (subst AreNumbers (sym (ap (λ n. take n (good ++ bad ∷ [])) long ∙ take_at good (bad ∷ []) (length good) refl)) h)
 
 module _ (old new : Option (List ℕ)) (bytes : List ℕ) (taken : Consumes old new bytes) where
-  pub prefix_at_end : IsAtEnd new × (length bytes < byte_limit) → AreNumbers (but_last (rows bytes)) → length (rows bytes) ≤ row_limit → ReadsPrefix old new bytes
-  prefix_at_end met numbers few = let fewer = met.1 in record { taken = taken; within = omega (arith, fewer); none_sooner = (numbers, few); closed = inr met; same_report = Consumes-whole old new bytes (λ known. report bytes ≡ report known) taken met.0 refl }
+  pub reads_prefix_at_end : IsAtEnd new × (length bytes < byte_limit) → AreNumbers (but_last (rows bytes)) → length (rows bytes) ≤ row_limit → ReadsPrefix old new bytes
+  reads_prefix_at_end met numbers few = let fewer = met.1 in record { taken = taken; within = omega (arith, fewer); none_sooner = (numbers, few); closed = inr met; same_report = Consumes-whole old new bytes (λ known. report bytes ≡ report known) taken met.0 refl }
 
-  pub prefix_full : length bytes ≤ byte_limit → IsClosed bytes → AreNumbers (rows bytes) → length (rows bytes) ≡ row_limit → ReadsPrefix old new bytes
-  prefix_full within closed numbers long = record {
+  pub reads_prefix_full : length bytes ≤ byte_limit → IsClosed bytes → AreNumbers (rows bytes) → length (rows bytes) ≡ row_limit → ReadsPrefix old new bytes
+  reads_prefix_full within closed numbers long = record {
     taken = taken;
     within = within;
     none_sooner = (but_last-numbers (rows bytes) numbers, omega (arith, long));
@@ -190,18 +190,18 @@ module _ (old new : Option (List ℕ)) (bytes : List ℕ) (taken : Consumes old 
     same_report = same_report-deciding old new bytes taken (same_with_more-full bytes closed long);
   }
 
-  pub prefix_refused : (good : List (List ℕ)) (bad : List ℕ) → length bytes ≤ byte_limit → IsClosed bytes → rows bytes ≡ good ++ bad ∷ [] → AreNumbers good → is_refused bad ≡ true → length good < row_limit → ReadsPrefix old new bytes
-  prefix_refused good bad within closed are numbers refused few =
+  pub reads_prefix_refused : (good : List (List ℕ)) (bad : List ℕ) → length bytes ≤ byte_limit → IsClosed bytes → rows bytes ≡ good ++ bad ∷ [] → AreNumbers good → is_refused bad ≡ true → length good < row_limit → ReadsPrefix old new bytes
+  reads_prefix_refused good bad within closed are numbers refused few =
       let long : length (rows bytes) ≡ length good + 1 = ap length are ∙ length_push good bad in
       record {
         taken = taken;
         within = within;
         none_sooner = (but_last-good (rows bytes) good bad are numbers, omega (arith, long, few));
         closed = inl (ends_with_newline bytes closed (omega (arith, long)), inr (length good + 1, ap line_of_count (tally-refused bytes good bad [] are numbers refused few)));
-        same_report = same_report-deciding old new bytes taken (refused_same bytes good bad closed are numbers refused few);
+        same_report = same_report-deciding old new bytes taken (same_with_more_refused bytes good bad closed are numbers refused few);
       }
 
-  pub prefix_refused_at_end : (good : List (List ℕ)) (bad : List ℕ) → IsAtEnd new × (length bytes < byte_limit) → rows bytes ≡ good ++ bad ∷ [] → AreNumbers good → length good < row_limit → ReadsPrefix old new bytes
-  prefix_refused_at_end good bad met are numbers few =
+  pub reads_prefix_refused_at_end : (good : List (List ℕ)) (bad : List ℕ) → IsAtEnd new × (length bytes < byte_limit) → rows bytes ≡ good ++ bad ∷ [] → AreNumbers good → length good < row_limit → ReadsPrefix old new bytes
+  reads_prefix_refused_at_end good bad met are numbers few =
       let long : length (rows bytes) ≡ length good + 1 = ap length are ∙ length_push good bad in
-      prefix_at_end met (but_last-good (rows bytes) good bad are numbers) (omega (arith, long, few))
+      reads_prefix_at_end met (but_last-good (rows bytes) good bad are numbers) (omega (arith, long, few))

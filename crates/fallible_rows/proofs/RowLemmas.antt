@@ -23,8 +23,8 @@ pub record IsNumber (row : List ℕ) : Type 0 where
   pub few : length row ≤ 20
   pub fits : digits_value 10 row ≤ 18446744073709551615
 
-digits_model : IsNumeralModel (λ ds. all_ascii_digits ds ≡ true) (digits_value 10)
-digits_model = numerals_by_value _ tells_all_ascii_digits
+is_numeral_model_digits : IsNumeralModel (λ ds. all_ascii_digits ds ≡ true) (digits_value 10)
+is_numeral_model_digits = numerals_by_value _ tells_all_ascii_digits
 
 pub IsNumber-from_test : (row : List ℕ) → is_number row ≡ true → IsNumber row
 IsNumber-from_test row h =
@@ -32,18 +32,18 @@ IsNumber-from_test row h =
     let middle = and_parts _ _ outer.0 in
     let inner = and_parts _ _ middle.0 in
     record {
-      digits = digits_model.to row inner.0;
+      digits = is_numeral_model_digits.to row inner.0;
       some = leb-true _ _ inner.1;
       few = leb-true _ _ middle.1;
       fits = leb-true _ _ outer.1;
     }
 
-pub test_from_IsNumber : (row : List ℕ) → IsNumber row → is_number row ≡ true
-test_from_IsNumber row n =
-    and_from _ _ (and_from _ _ (and_from _ _ (digits_model.from row n.digits) (le-leb _ _ n.some)) (le-leb _ _ n.few)) (le-leb _ _ n.fits)
+pub is_number_test_from_IsNumber : (row : List ℕ) → IsNumber row → is_number row ≡ true
+is_number_test_from_IsNumber row n =
+    and_from _ _ (and_from _ _ (and_from _ _ (is_numeral_model_digits.from row n.digits) (le-leb _ _ n.some)) (le-leb _ _ n.few)) (le-leb _ _ n.fits)
 
 pub row_number-number : (row : List ℕ) → IsNumber row → row_number row ≡ Some (digits_value 10 row)
-row_number-number row n = cond-true _ _ _ (test_from_IsNumber row n)
+row_number-number row n = cond-true _ _ _ (is_number_test_from_IsNumber row n)
 
 pub row_number-no_number : (row : List ℕ) → (IsNumber row → ⊥) → row_number row ≡ None
 row_number-no_number row not_so =
@@ -70,12 +70,12 @@ digits_value-more : (bytes : List ℕ) (byte : ℕ) → IsInRange 48 57 byte →
 digits_value-more bytes byte h = digits_value_push 10 bytes byte ∙ ap (λ d. digits_value 10 bytes * 10 + d) (digit_value-digit byte h)
 
 -- what the number of a row says of it
-pub number_of_row : (row : List ℕ) (n : ℕ) → row_number row ≡ Some n → IsNumber row × (digits_value 10 row ≡ n)
-number_of_row row n is = by_test (is_number row) refl
+pub is_number_of_row_number : (row : List ℕ) (n : ℕ) → row_number row ≡ Some n → IsNumber row × (digits_value 10 row ≡ n)
+is_number_of_row_number row n is = is_number_by_test (is_number row) refl
   where
-    by_test : (b : Bool) → is_number row ≡ b → IsNumber row × (digits_value 10 row ≡ n)
-    by_test true h = let number = IsNumber-from_test row h in let e = row_number-number row number in (number, cc)
-    by_test false h = let e : row_number row ≡ None = cond-false _ _ _ h in absurd cc
+    is_number_by_test : (b : Bool) → is_number row ≡ b → IsNumber row × (digits_value 10 row ≡ n)
+    is_number_by_test true h = let number = IsNumber-from_test row h in let e = row_number-number row number in (number, cc)
+    is_number_by_test false h = let e : row_number row ≡ None = cond-false _ _ _ h in absurd cc
 
 pub row_number-first : (byte : ℕ) → IsInRange 48 57 byte → row_number (byte ∷ []) ≡ Some (byte - 48)
 row_number-first byte h =
@@ -89,7 +89,7 @@ row_number-first byte h =
 
 pub row_number-more : (bytes : List ℕ) (byte n : ℕ) → row_number bytes ≡ Some n → length bytes < 20 → IsInRange 48 57 byte → n * 10 + (byte - 48) ≤ 18446744073709551615 → row_number (bytes ++ byte ∷ []) ≡ Some (n * 10 + (byte - 48))
 row_number-more bytes byte n is few h fits =
-    let before = number_of_row bytes n is in
+    let before = is_number_of_row_number bytes n is in
     let value = digits_value-more bytes byte h in
     let digit = digit_value-digit byte h in
     let below : digit_value byte < 10 = omega (arith, digit, h.0, h.1) in
@@ -102,12 +102,12 @@ pub IsOneRow-digits : (row : List ℕ) → AllDigits 10 row → IsOneRow row
 IsOneRow-digits [] h = All-nil (λ byte. byte ≢ 10)
 IsOneRow-digits (c ∷ cs) h = All-cons (λ byte. byte ≢ 10) c cs (λ e. omega (arith, digit_from_value c h.0)) (IsOneRow-digits cs h.1)
 
-pub short_value : (row : List ℕ) → AllDigits 10 row → length row ≤ 18 → digits_value 10 row < 1000000000000000000
-short_value row h few = digits_value_short digits_model row 18 (digits_model.from row h) few
+pub digits_value_of_short : (row : List ℕ) → AllDigits 10 row → length row ≤ 18 → digits_value 10 row < 1000000000000000000
+digits_value_of_short row h few = digits_value_short is_numeral_model_digits row 18 (is_numeral_model_digits.from row h) few
 
 pub row_number-digits : (row : List ℕ) → AllDigits 10 row → 0 < length row → length row ≤ 18 → row_number row ≡ Some (digits_value 10 row)
 row_number-digits row h some few =
-    let fits = short_value row h few in
+    let fits = digits_value_of_short row h few in
     row_number-number row (record { digits = h; some = omega (arith, some); few = omega (arith, few); fits = omega (arith, fits) })
 
 -- ---- a number at the front of bytes
@@ -121,8 +121,8 @@ AllDigits-more bytes n l h digit =
 pub digits_value-next : (bytes : List ℕ) (n : ℕ) → n < length bytes → IsInRange 48 57 (get_or bytes n 0) → digits_value 10 (take (n + 1) bytes) ≡ digits_value 10 (take n bytes) * 10 + (get_or bytes n 0 - 48)
 digits_value-next bytes n l digit = digits_value_more 10 bytes n l ∙ ap (λ d. digits_value 10 (take n bytes) * 10 + d) (digit_value-digit (get_or bytes n 0) digit)
 
-pub value_ahead : (bytes : List ℕ) (n : ℕ) → AllDigits 10 (take n bytes) → n ≤ 18 → digits_value 10 (take n bytes) < 1000000000000000000
-value_ahead bytes n h few = short_value (take n bytes) h (omega (arith, few, length-take n bytes))
+pub digits_value_ahead : (bytes : List ℕ) (n : ℕ) → AllDigits 10 (take n bytes) → n ≤ 18 → digits_value 10 (take n bytes) < 1000000000000000000
+digits_value_ahead bytes n h few = digits_value_of_short (take n bytes) h (omega (arith, few, length-take n bytes))
 
 pub number_ahead-is : (bytes : List ℕ) (n : ℕ) → AllDigits 10 (take n bytes) → 0 < n → n ≤ 18 → n < length bytes → get_or bytes n 0 ≡ 10 → HasNumberAhead bytes n (digits_value 10 (take n bytes))
 number_ahead-is bytes n h some few l newline =
@@ -150,7 +150,7 @@ row_number-too_long bytes byte more long =
 
 pub row_number-too_great : (bytes : List ℕ) (byte n : ℕ) (more : List ℕ) → row_number bytes ≡ Some n → IsInRange 48 57 byte → 18446744073709551615 < n * 10 + (byte - 48) → row_number ((bytes ++ byte ∷ []) ++ more) ≡ None
 row_number-too_great bytes byte n more is h great =
-    let before = number_of_row bytes n is in
+    let before = is_number_of_row_number bytes n is in
     let value = digits_value-more bytes byte h in
     let prefix : take (length (bytes ++ byte ∷ [])) ((bytes ++ byte ∷ []) ++ more) ≡ bytes ++ byte ∷ [] = take_at (bytes ++ byte ∷ []) more (length (bytes ++ byte ∷ [])) refl in
     row_number-by_value ((bytes ++ byte ∷ []) ++ more) (length (bytes ++ byte ∷ [])) (rw prefix (omega (arith, value, before.1)))
@@ -161,21 +161,21 @@ row_number-too_great bytes byte n more is h great =
 abbrev pub not_newline : ℕ → Type 0
 not_newline byte = byte ≢ 10
 
-newline_no : (byte : ℕ) → byte ≢ 10 → is_newline byte ≡ false
-newline_no byte other = ne_eqb byte 10 other
+is_newline_false : (byte : ℕ) → byte ≢ 10 → is_newline byte ≡ false
+is_newline_false byte other = ne_eqb byte 10 other
 
 -- a list of one element or more ends in one
-record Ends {X : Type 0} (xs : List X) : Type 0 where
+record EndsWithItem {X : Type 0} (xs : List X) : Type 0 where
   prefix : List X
   last : X
   is : xs ≡ prefix ++ last ∷ []
 
-ends_cons : {X : Type 0} (x : X) (xs : List X) → Ends xs → Ends (x ∷ xs)
-ends_cons x xs e = record { prefix = x ∷ e.prefix; last = e.last; is = ap (λ l. x ∷ l) e.is }
+ends_with_item_cons : {X : Type 0} (x : X) (xs : List X) → EndsWithItem xs → EndsWithItem (x ∷ xs)
+ends_with_item_cons x xs e = record { prefix = x ∷ e.prefix; last = e.last; is = ap (λ l. x ∷ l) e.is }
 
-ends_of : {X : Type 0} (x : X) (xs : List X) → Ends (x ∷ xs)
-ends_of x [] = record { prefix = []; last = x; is = refl }
-ends_of x (y ∷ ys) = ends_cons x (y ∷ ys) (ends_of y ys)
+ends_with_item_of_cons : {X : Type 0} (x : X) (xs : List X) → EndsWithItem (x ∷ xs)
+ends_with_item_of_cons x [] = record { prefix = []; last = x; is = refl }
+ends_with_item_of_cons x (y ∷ ys) = ends_with_item_cons x (y ∷ ys) (ends_with_item_of_cons y ys)
 
 -- a list of pieces whose last one is an empty one, or is not
 without_empty_last-empty : (pieces : List (List ℕ)) → without_empty_last (pieces ++ [] ∷ []) ≡ pieces
@@ -197,11 +197,11 @@ without_empty_last-onto piece prefix (x ∷ xs) = without_empty_last-full (piece
 without_empty_last-cons : (piece : List ℕ) (pieces : List (List ℕ)) → 0 < length pieces → without_empty_last (piece ∷ pieces) ≡ piece ∷ without_empty_last pieces
 without_empty_last-cons piece [] some = absurd (omega arith)
 without_empty_last-cons piece (p ∷ ps) some =
-    let e = ends_of p ps in
+    let e = ends_with_item_of_cons p ps in
     ap (λ l. without_empty_last (piece ∷ l)) e.is ∙ without_empty_last-onto piece e.prefix e.last ∙ ap (λ l. piece ∷ without_empty_last l) (sym e.is)
 
-no_newlines : (row : List ℕ) → IsOneRow row → All (λ byte. is_newline byte ≡ false) row
-no_newlines row one i d l = newline_no (get_or row i d) (one i d l)
+all_no_newlines : (row : List ℕ) → IsOneRow row → All (λ byte. is_newline byte ≡ false) row
+all_no_newlines row one i d l = is_newline_false (get_or row i d) (one i d l)
 
 -- the rows of no bytes, of a row and more, and of one row
 pub rows-none : rows [] ≡ []
@@ -209,11 +209,11 @@ rows-none = without_empty_last-empty []
 
 pub rows-row : (row rest : List ℕ) → IsOneRow row → rows (row ++ 10 ∷ rest) ≡ row ∷ rows rest
 rows-row row rest one =
-    ap without_empty_last (slice_split_at is_newline row 10 rest (no_newlines row one) refl) ∙ without_empty_last-cons row (slice_split is_newline rest) (omega (arith, length-slice_split is_newline rest))
+    ap without_empty_last (slice_split_at is_newline row 10 rest (all_no_newlines row one) refl) ∙ without_empty_last-cons row (slice_split is_newline rest) (omega (arith, length-slice_split is_newline rest))
 
 pub rows-one : (row : List ℕ) → IsOneRow row → row ≢ [] → rows row ≡ row ∷ []
 rows-one [] one some = absurd (some refl)
-rows-one (x ∷ xs) one some = ap without_empty_last (slice_split_none is_newline (x ∷ xs) (no_newlines (x ∷ xs) one)) ∙ without_empty_last-full [] (x ∷ xs) (omega arith)
+rows-one (x ∷ xs) one some = ap without_empty_last (slice_split_none is_newline (x ∷ xs) (all_no_newlines (x ∷ xs) one)) ∙ without_empty_last-full [] (x ∷ xs) (omega arith)
 
 -- ---- closed bytes
 
@@ -227,21 +227,21 @@ IsClosed-tail x y ys (inl e) = absurd cc
 IsClosed-tail x y ys (inr ([], e)) = absurd cc
 IsClosed-tail x y ys (inr (z ∷ zs, e)) = inr (zs, cc)
 
-newline_last : (x : ℕ) → IsClosed (x ∷ []) → x ≡ 10
-newline_last x (inl e) = absurd cc
-newline_last x (inr ([], e)) = cc
-newline_last x (inr (z ∷ [], e)) = absurd cc
-newline_last x (inr (z ∷ w ∷ zs, e)) = absurd cc
+last_byte_is_newline : (x : ℕ) → IsClosed (x ∷ []) → x ≡ 10
+last_byte_is_newline x (inl e) = absurd cc
+last_byte_is_newline x (inr ([], e)) = cc
+last_byte_is_newline x (inr (z ∷ [], e)) = absurd cc
+last_byte_is_newline x (inr (z ∷ w ∷ zs, e)) = absurd cc
 
-onto_closed : (x y : ℕ) (ys : List ℕ) → ClosedRows (y ∷ ys) → (b : Bool) → is_newline x ≡ b → ClosedRows (x ∷ y ∷ ys)
-onto_closed x y ys h true is = row_then [] (y ∷ ys) (ap (λ b. b ∷ y ∷ ys) (eqb-true x 10 is)) (All-nil not_newline) h
-onto_closed x y ys (no_rows e) false other = absurd cc
-onto_closed x y ys (row_then row rest e one h) false other = row_then (x ∷ row) rest (ap (λ l. x ∷ l) e) (All-cons not_newline x row (eqb-false x 10 other) one) h
+closed_rows_cons : (x y : ℕ) (ys : List ℕ) → ClosedRows (y ∷ ys) → (b : Bool) → is_newline x ≡ b → ClosedRows (x ∷ y ∷ ys)
+closed_rows_cons x y ys h true is = row_then [] (y ∷ ys) (ap (λ b. b ∷ y ∷ ys) (eqb-true x 10 is)) (All-nil not_newline) h
+closed_rows_cons x y ys (no_rows e) false other = absurd cc
+closed_rows_cons x y ys (row_then row rest e one h) false other = row_then (x ∷ row) rest (ap (λ l. x ∷ l) e) (All-cons not_newline x row (eqb-false x 10 other) one) h
 
-pub closed_rows : (bytes : List ℕ) → IsClosed bytes → ClosedRows bytes
-closed_rows [] h = no_rows refl
-closed_rows (x ∷ []) h = row_then [] [] (ap (λ b. b ∷ []) (newline_last x h)) (All-nil not_newline) (no_rows refl)
-closed_rows (x ∷ y ∷ ys) h = onto_closed x y ys (closed_rows (y ∷ ys) (IsClosed-tail x y ys h)) (is_newline x) refl
+pub closed_rows_of_bytes : (bytes : List ℕ) → IsClosed bytes → ClosedRows bytes
+closed_rows_of_bytes [] h = no_rows refl
+closed_rows_of_bytes (x ∷ []) h = row_then [] [] (ap (λ b. b ∷ []) (last_byte_is_newline x h)) (All-nil not_newline) (no_rows refl)
+closed_rows_of_bytes (x ∷ y ∷ ys) h = closed_rows_cons x y ys (closed_rows_of_bytes (y ∷ ys) (IsClosed-tail x y ys h)) (is_newline x) refl
 
 -- a row before closed bytes
 pub IsClosed-row : (row rest : List ℕ) → IsClosed rest → IsClosed (row ++ 10 ∷ rest)
@@ -256,4 +256,4 @@ rows-closed_rows bytes more (row_then row rest e one h) =
     ∙ ap (λ l. l ++ rows more) (sym (rows-row row rest one)) ∙ ap (λ l. rows l ++ rows more) (sym e)
 
 pub rows-closed : (bytes more : List ℕ) → IsClosed bytes → rows (bytes ++ more) ≡ rows bytes ++ rows more
-rows-closed bytes more h = rows-closed_rows bytes more (closed_rows bytes h)
+rows-closed bytes more h = rows-closed_rows bytes more (closed_rows_of_bytes bytes h)

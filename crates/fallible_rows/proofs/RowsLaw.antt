@@ -4,70 +4,70 @@ use Rattle.std.specs.Prelude.{replicate, ◌↔◌}
 use Rattle.std.proofs.lemmas.List.{length-append}
 use Rattle.std.proofs.lemmas.List.Elements.{All-nil}
 use Rattle.fallible_iterator.specs.Traces.{Answered, Run, failure, end}
-use Rattle.fallible_iterator.specs.Laws.Closures.{turns_then}
+use Rattle.fallible_iterator.specs.Laws.Closures.{folds_to_then}
 use Rattle.fallible_iterator.proofs.Lemmas.Callers.{turns_split}
 use Rattle.fallible_rows.specs.Reading.{GivesByte, GivesBytes}
 use Rattle.fallible_rows.specs.Rows.{rows, row_number}
 use Rattle.fallible_rows.specs.RowTraces.{told_place, answer_of_number, row_answer, row_answers, IsPlaced, IsOneRow, EndsByEnd, EndsByFailure, DrawsRow, row_step, StopsBetween, StopsAtEnd, StopsAtFailure, ReadsRows, RowsTrace}
-use Rattle.fallible_rows.proofs.RowLemmas.{not_newline, rows-none, rows-row, rows-one, ClosedRows, no_rows, row_then, closed_rows, IsClosed-row}
+use Rattle.fallible_rows.proofs.RowLemmas.{not_newline, rows-none, rows-row, rows-one, ClosedRows, no_rows, row_then, closed_rows_of_bytes, IsClosed-row}
 use Rattle.fallible_rows.specs.declared.fault.RowFault.{RowFault}
 use Rattle.fallible_rows.specs.declared.fault.RowFault.TheVariants.{Row, Read}
 use Rattle.fallible_rows.specs.declared.rows.Ahead.{Ahead}
 
-abbrev Answers : Type 0
-Answers = List (Answered ℕ RowFault)
+abbrev RowAnswers : Type 0
+RowAnswers = List (Answered ℕ RowFault)
 
 -- ---- places
 
-told_answer : (place : ℕ) (o : Option ℕ) → answer_of_number (told_place place) o ≡ answer_of_number place o
-told_answer place (Some n) = refl
-told_answer place None = let e : told_place (told_place place) ≡ told_place place = omega arith in ap {B = Answered ℕ RowFault} (λ p. Err (Row p)) e
+answer_of_number_told : (place : ℕ) (o : Option ℕ) → answer_of_number (told_place place) o ≡ answer_of_number place o
+answer_of_number_told place (Some n) = refl
+answer_of_number_told place None = let e : told_place (told_place place) ≡ told_place place = omega arith in ap {B = Answered ℕ RowFault} (λ p. Err (Row p)) e
 
 -- a place that is told has the answers of the place
-pub told_answers : (place : ℕ) (rs : List (List ℕ)) → row_answers (told_place place) rs ≡ row_answers place rs
-told_answers place [] = refl
-told_answers place (row ∷ rest) =
+pub row_answers_told : (place : ℕ) (rs : List (List ℕ)) → row_answers (told_place place) rs ≡ row_answers place rs
+row_answers_told place [] = refl
+row_answers_told place (row ∷ rest) =
     let next : told_place (told_place place + 1) ≡ told_place (place + 1) = omega arith in
-    let rests : row_answers (told_place place + 1) rest ≡ row_answers (place + 1) rest = sym (told_answers (told_place place + 1) rest) ∙ ap (λ k. row_answers k rest) next ∙ told_answers (place + 1) rest in
-    ap {B = Answers} (λ x. x ∷ row_answers (told_place place + 1) rest) (told_answer place (row_number row)) ∙ ap {B = Answers} (λ l. row_answer place row ∷ l) rests
+    let rests : row_answers (told_place place + 1) rest ≡ row_answers (place + 1) rest = sym (row_answers_told (told_place place + 1) rest) ∙ ap (λ k. row_answers k rest) next ∙ row_answers_told (place + 1) rest in
+    ap {B = RowAnswers} (λ x. x ∷ row_answers (told_place place + 1) rest) (answer_of_number_told place (row_number row)) ∙ ap {B = RowAnswers} (λ l. row_answer place row ∷ l) rests
 
 module _ {B : Type 0} (left : B → Option (List ℕ)) (stays : Bool → B → B → Type 0) where
-  abbrev step : B × Option Ahead → Answered ℕ RowFault → B × Option Ahead → Type 0
-  step = row_step left stays
+  abbrev step_of_rows : B × Option Ahead → Answered ℕ RowFault → B × Option Ahead → Type 0
+  step_of_rows = row_step left stays
 
-  abbrev Stops : B → Ahead → List ℕ → List ℕ → Answers → B × Option Ahead → Type 0
-  Stops last a closed unclosed trace p = StopsBetween left stays last a closed unclosed trace p ⊎ (StopsAtEnd left stays last a closed unclosed trace p ⊎ StopsAtFailure left stays last a closed unclosed trace p)
+  abbrev StopsReading : B → Ahead → List ℕ → List ℕ → RowAnswers → B × Option Ahead → Type 0
+  StopsReading last a closed unclosed trace p = StopsBetween left stays last a closed unclosed trace p ⊎ (StopsAtEnd left stays last a closed unclosed trace p ⊎ StopsAtFailure left stays last a closed unclosed trace p)
 
   -- ---- exhausted
 
-  over_to : (trace : Answers) (r : B) (o : Option Ahead) (p : B × Option Ahead) → o ≡ None → Run step (r, o) trace p → ((n : ℕ) × (trace ≡ replicate n end)) × (p ≡ (r, None))
-  over_to [] r o p is ran = ((0, refl), sym ran ∙ ap (λ u. (r, u)) is)
-  over_to (x ∷ rest) r None p is ran = let h = over_to rest r None p refl (subst (λ (u : B × Option Ahead). Run step u rest p) ran.1.1 ran.2) in ((suc h.0.0, (λ i. ran.1.0 i ∷ h.0.1 i)), h.1)
-  over_to (x ∷ rest) r (Some a) p is ran = absurd cc
+  ends_alone_after_rows : (trace : RowAnswers) (r : B) (o : Option Ahead) (p : B × Option Ahead) → o ≡ None → Run step_of_rows (r, o) trace p → ((n : ℕ) × (trace ≡ replicate n end)) × (p ≡ (r, None))
+  ends_alone_after_rows [] r o p is ran = ((0, refl), sym ran ∙ ap (λ u. (r, u)) is)
+  ends_alone_after_rows (x ∷ rest) r None p is ran = let h = ends_alone_after_rows rest r None p refl (subst (λ (u : B × Option Ahead). Run step_of_rows u rest p) ran.1.1 ran.2) in ((suc h.0.0, (λ i. ran.1.0 i ∷ h.0.1 i)), h.1)
+  ends_alone_after_rows (x ∷ rest) r (Some a) p is ran = absurd cc
 
-  over_from : (n : ℕ) (r : B) → Run step (r, None) (replicate n end) (r, None)
-  over_from zero r = refl
-  over_from (suc n) r = ((r, None), (refl, refl), over_from n r)
+  run_of_ends : (n : ℕ) (r : B) → Run step_of_rows (r, None) (replicate n end) (r, None)
+  run_of_ends zero r = refl
+  run_of_ends (suc n) r = ((r, None), (refl, refl), run_of_ends n r)
 
   -- ends after a draw that exhausted them
-  over_after : (n : ℕ) (p : B × Option Ahead) → p.1 ≡ None → Run step p (replicate n end) p
-  over_after n p is = subst (λ (o : Option Ahead). Run step (p.0, o) (replicate n end) (p.0, o)) (sym is) (over_from n p.0)
+  run_of_ends_after : (n : ℕ) (p : B × Option Ahead) → p.1 ≡ None → Run step_of_rows p (replicate n end) p
+  run_of_ends_after n p is = subst (λ (o : Option Ahead). Run step_of_rows (p.0, o) (replicate n end) (p.0, o)) (sym is) (run_of_ends n p.0)
 
   -- ---- a row before others
 
-  more_given : (r q last : B) (row closed unclosed : List ℕ) (mid : B) → GivesBytes left stays r row mid → GivesByte left stays mid 10 q → GivesBytes left stays q (closed ++ unclosed) last → GivesBytes left stays r ((row ++ 10 ∷ closed) ++ unclosed) last
-  more_given r q last row closed unclosed mid given newline others =
-      subst (λ l. GivesBytes left stays r l last) (sym (append_assoc row (10 ∷ closed) unclosed)) (turns_then (GivesByte left stays) row (10 ∷ (closed ++ unclosed)) r mid last given (q, newline, others))
+  gives_bytes_before : (r q last : B) (row closed unclosed : List ℕ) (mid : B) → GivesBytes left stays r row mid → GivesByte left stays mid 10 q → GivesBytes left stays q (closed ++ unclosed) last → GivesBytes left stays r ((row ++ 10 ∷ closed) ++ unclosed) last
+  gives_bytes_before r q last row closed unclosed mid given newline others =
+      subst (λ l. GivesBytes left stays r l last) (sym (append_assoc row (10 ∷ closed) unclosed)) (folds_to_then (GivesByte left stays) row (10 ∷ (closed ++ unclosed)) r mid last given (q, newline, others))
 
   -- the answers of a row and of the others
-  first_answer : (place place' : ℕ) (row bytes : List ℕ) → IsOneRow row → place' ≡ told_place (place + 1) → row_answer place row ∷ row_answers place' (rows bytes) ≡ row_answers place (rows (row ++ 10 ∷ bytes))
-  first_answer place place' row bytes one next =
-      ap {B = Answers} (λ l. row_answer place row ∷ l) (ap (λ k. row_answers k (rows bytes)) next ∙ told_answers (place + 1) (rows bytes)) ∙ ap (row_answers place) (sym (rows-row row bytes one))
+  row_answers_first : (place place' : ℕ) (row bytes : List ℕ) → IsOneRow row → place' ≡ told_place (place + 1) → row_answer place row ∷ row_answers place' (rows bytes) ≡ row_answers place (rows (row ++ 10 ∷ bytes))
+  row_answers_first place place' row bytes one next =
+      ap {B = RowAnswers} (λ l. row_answer place row ∷ l) (ap (λ k. row_answers k (rows bytes)) next ∙ row_answers_told (place + 1) (rows bytes)) ∙ ap (row_answers place) (sym (rows-row row bytes one))
 
   -- after is where one more row leaves a
   module _ (a after : Ahead) (row : List ℕ) (one : IsOneRow row) (limit : after.left + length row + 1 ≡ a.left) (next : after.place ≡ told_place (a.place + 1)) where
-    stops_later : (last : B) (closed unclosed : List ℕ) (trace : Answers) (p : B × Option Ahead) → Stops last after closed unclosed trace p → Stops last a (row ++ 10 ∷ closed) unclosed (row_answer a.place row ∷ trace) p
-    stops_later last closed unclosed trace p (inl s) =
+    stops_reading_later : (last : B) (closed unclosed : List ℕ) (trace : RowAnswers) (p : B × Option Ahead) → StopsReading last after closed unclosed trace p → StopsReading last a (row ++ 10 ∷ closed) unclosed (row_answer a.place row ∷ trace) p
+    stops_reading_later last closed unclosed trace p (inl s) =
         let long = length-append row (10 ∷ closed) in
         let many : length (rows (row ++ 10 ∷ closed)) ≡ length (row ∷ rows closed) = ap length (rows-row row closed one) in
         let here = s.limit in let there = s.place in
@@ -77,9 +77,9 @@ module _ {B : Type 0} (left : B → Option (List ℕ)) (stays : Bool → B → B
           limit = omega (arith, long, here, limit);
           place = omega (arith, many, there, next);
           is_left = s.is_left;
-          answers = ap {B = Answers} (λ l. row_answer a.place row ∷ l) s.answers ∙ first_answer a.place after.place row closed one next;
+          answers = ap {B = RowAnswers} (λ l. row_answer a.place row ∷ l) s.answers ∙ row_answers_first a.place after.place row closed one next;
         })
-    stops_later last closed unclosed trace p (inr (inl s)) =
+    stops_reading_later last closed unclosed trace p (inr (inl s)) =
         let long = length-append row (10 ∷ (closed ++ unclosed)) in
         let joined : (row ++ 10 ∷ closed) ++ unclosed ≡ row ++ 10 ∷ (closed ++ unclosed) = append_assoc row (10 ∷ closed) unclosed in
         let same : length ((row ++ 10 ∷ closed) ++ unclosed) ≡ length (row ++ 10 ∷ (closed ++ unclosed)) = ap length joined in
@@ -89,10 +89,10 @@ module _ {B : Type 0} (left : B → Option (List ℕ)) (stays : Bool → B → B
           met_end = s.met_end;
           limit = omega (arith, long, same, here, limit);
           is_left = s.is_left;
-          answers = ap {B = Answers} (λ l. row_answer a.place row ∷ l) s.answers ∙ ap (λ l. l ++ replicate s.ends end) (first_answer a.place after.place row (closed ++ unclosed) one next) ∙ ap (λ l. row_answers a.place (rows l) ++ replicate s.ends end) (sym joined);
+          answers = ap {B = RowAnswers} (λ l. row_answer a.place row ∷ l) s.answers ∙ ap (λ l. l ++ replicate s.ends end) (row_answers_first a.place after.place row (closed ++ unclosed) one next) ∙ ap (λ l. row_answers a.place (rows l) ++ replicate s.ends end) (sym joined);
           ended = s.ended;
         }))
-    stops_later last closed unclosed trace p (inr (inr s)) =
+    stops_reading_later last closed unclosed trace p (inr (inr s)) =
         let long = length-append row (10 ∷ (closed ++ unclosed)) in
         let joined : (row ++ 10 ∷ closed) ++ unclosed ≡ row ++ 10 ∷ (closed ++ unclosed) = append_assoc row (10 ∷ closed) unclosed in
         let same : length ((row ++ 10 ∷ closed) ++ unclosed) ≡ length (closed ++ unclosed) + length row + 1 = ap length joined ∙ omega (arith, long) in
@@ -100,18 +100,18 @@ module _ {B : Type 0} (left : B → Option (List ℕ)) (stays : Bool → B → B
           ends = s.ends;
           missed = elim s.missed [ inl h ↦ inl (let e = h.0 in omega (arith, same, e, limit), h.1) | inr h ↦ inr (let e = h.0 in omega (arith, same, e, limit), h.1) ];
           is_left = s.is_left;
-          answers = ap {B = Answers} (λ l. row_answer a.place row ∷ l) s.answers ∙ ap (λ l. l ++ failure Read ∷ replicate s.ends end) (first_answer a.place after.place row closed one next);
+          answers = ap {B = RowAnswers} (λ l. row_answer a.place row ∷ l) s.answers ∙ ap (λ l. l ++ failure Read ∷ replicate s.ends end) (row_answers_first a.place after.place row closed one next);
         }))
 
-    row_before : (r q mid : B) (trace : Answers) (p : B × Option Ahead) → GivesBytes left stays r row mid → GivesByte left stays mid 10 q → ReadsRows left stays q after trace p → ReadsRows left stays r a (row_answer a.place row ∷ trace) p
-    row_before r q mid trace p given newline h = record {
+    reads_rows_with_row_before : (r q mid : B) (trace : RowAnswers) (p : B × Option Ahead) → GivesBytes left stays r row mid → GivesByte left stays mid 10 q → ReadsRows left stays q after trace p → ReadsRows left stays r a (row_answer a.place row ∷ trace) p
+    reads_rows_with_row_before r q mid trace p given newline h = record {
       closed = row ++ 10 ∷ h.closed;
       unclosed = h.unclosed;
       last = h.last;
-      given = more_given r q h.last row h.closed h.unclosed mid given newline h.given;
+      given = gives_bytes_before r q h.last row h.closed h.unclosed mid given newline h.given;
       are_closed = IsClosed-row row h.closed h.are_closed;
       one = h.one;
-      stopped = stops_later h.last h.closed h.unclosed trace p h.stopped;
+      stopped = stops_reading_later h.last h.closed h.unclosed trace p h.stopped;
     }
 
   -- ---- from runs to traces
@@ -130,17 +130,17 @@ module _ {B : Type 0} (left : B → Option (List ℕ)) (stays : Bool → B → B
       }
 
   -- the bytes of one row were read, and then the rows were exhausted
-  in_one_row : (r : B) (a : Ahead) (row : List ℕ) (last : B) (trace : Answers) (p : B × Option Ahead) → IsOneRow row → GivesBytes left stays r row last → StopsAtEnd left stays last a [] row trace p ⊎ StopsAtFailure left stays last a [] row trace p → ReadsRows left stays r a trace p
-  in_one_row r a row last trace p one given stopped = record { closed = []; unclosed = row; last = last; given = given; are_closed = inl refl; one = one; stopped = inr stopped }
+  reads_rows_in_one_row : (r : B) (a : Ahead) (row : List ℕ) (last : B) (trace : RowAnswers) (p : B × Option Ahead) → IsOneRow row → GivesBytes left stays r row last → StopsAtEnd left stays last a [] row trace p ⊎ StopsAtFailure left stays last a [] row trace p → ReadsRows left stays r a trace p
+  reads_rows_in_one_row r a row last trace p one given stopped = record { closed = []; unclosed = row; last = last; given = given; are_closed = inl refl; one = one; stopped = inr stopped }
 
-  at_end : (r : B) (a : Ahead) (row : List ℕ) (last : B) (n : ℕ) (x : Answered ℕ RowFault) (mid : B × Option Ahead) → IsOneRow row → GivesBytes left stays r row last → EndsByEnd left stays last a row x mid → ReadsRows left stays r a (x ∷ replicate n end) mid
-  at_end r a row last n x mid one given e = in_one_row r a row last (x ∷ replicate n end) mid one given (inl (elim e.answered [
+  reads_rows_at_end : (r : B) (a : Ahead) (row : List ℕ) (last : B) (n : ℕ) (x : Answered ℕ RowFault) (mid : B × Option Ahead) → IsOneRow row → GivesBytes left stays r row last → EndsByEnd left stays last a row x mid → ReadsRows left stays r a (x ∷ replicate n end) mid
+  reads_rows_at_end r a row last n x mid one given e = reads_rows_in_one_row r a row last (x ∷ replicate n end) mid one given (inl (elim e.answered [
     | inl h ↦ record {
       ends = suc n;
       met_end = e.met_end;
       limit = e.limit;
       is_left = e.is_left;
-      answers = ap {B = Answers} (λ y. y ∷ replicate n end) h.1 ∙ ap (λ l. row_answers a.place l ++ replicate (suc n) end) (sym rows-none ∙ ap rows (sym h.0));
+      answers = ap {B = RowAnswers} (λ y. y ∷ replicate n end) h.1 ∙ ap (λ l. row_answers a.place l ++ replicate (suc n) end) (sym rows-none ∙ ap rows (sym h.0));
       ended = λ _. omega arith;
     }
     | inr h ↦ record {
@@ -148,71 +148,71 @@ module _ {B : Type 0} (left : B → Option (List ℕ)) (stays : Bool → B → B
       met_end = e.met_end;
       limit = e.limit;
       is_left = e.is_left;
-      answers = ap {B = Answers} (λ y. y ∷ replicate n end) h.1 ∙ ap (λ l. row_answers a.place l ++ replicate n end) (sym (rows-one row one h.0));
+      answers = ap {B = RowAnswers} (λ y. y ∷ replicate n end) h.1 ∙ ap (λ l. row_answers a.place l ++ replicate n end) (sym (rows-one row one h.0));
       ended = λ none. absurd (h.0 none);
     }
   ]))
 
-  at_failure : (r : B) (a : Ahead) (row : List ℕ) (last : B) (n : ℕ) (x : Answered ℕ RowFault) (mid : B × Option Ahead) → IsOneRow row → GivesBytes left stays r row last → EndsByFailure left stays last a row x mid → ReadsRows left stays r a (x ∷ replicate n end) mid
-  at_failure r a row last n x mid one given e = in_one_row r a row last (x ∷ replicate n end) mid one given (inr (record { ends = n; missed = e.missed; is_left = e.is_left; answers = ap {B = Answers} (λ y. y ∷ replicate n end) e.answered ∙ ap (λ l. row_answers a.place l ++ failure Read ∷ replicate n end) (sym rows-none) }))
+  reads_rows_at_failure : (r : B) (a : Ahead) (row : List ℕ) (last : B) (n : ℕ) (x : Answered ℕ RowFault) (mid : B × Option Ahead) → IsOneRow row → GivesBytes left stays r row last → EndsByFailure left stays last a row x mid → ReadsRows left stays r a (x ∷ replicate n end) mid
+  reads_rows_at_failure r a row last n x mid one given e = reads_rows_in_one_row r a row last (x ∷ replicate n end) mid one given (inr (record { ends = n; missed = e.missed; is_left = e.is_left; answers = ap {B = RowAnswers} (λ y. y ∷ replicate n end) e.answered ∙ ap (λ l. row_answers a.place l ++ failure Read ∷ replicate n end) (sym rows-none) }))
 
-  pub to_trace : (trace : Answers) (r : B) (a : Ahead) (p : B × Option Ahead) → a.place ≤ 4294967295 → Run step (r, Some a) trace p → ReadsRows left stays r a trace p
-  to_trace [] r a p placed ran = reads_rows-none r a p placed ran
-  to_trace (x ∷ rest) r a p placed ran = let d : DrawsRow left stays r a x ran.0 = ran.1 in elim d.ended [
+  pub reads_rows_of_run : (trace : RowAnswers) (r : B) (a : Ahead) (p : B × Option Ahead) → a.place ≤ 4294967295 → Run step_of_rows (r, Some a) trace p → ReadsRows left stays r a trace p
+  reads_rows_of_run [] r a p placed ran = reads_rows-none r a p placed ran
+  reads_rows_of_run (x ∷ rest) r a p placed ran = let d : DrawsRow left stays r a x ran.0 = ran.1 in elim d.ended [
     | inl e ↦ let next = e.place in
-        let others = to_trace rest ran.0.0 e.after p (omega (arith, next)) (subst (λ (o : Option Ahead). Run step (ran.0.0, o) rest p) e.is_left ran.2) in
-        subst (λ (y : Answered ℕ RowFault). ReadsRows left stays r a (y ∷ rest) p) (sym e.answered) (row_before a e.after d.row d.one e.limit e.place r ran.0.0 d.last rest p d.given e.newline others)
+        let others = reads_rows_of_run rest ran.0.0 e.after p (omega (arith, next)) (subst (λ (o : Option Ahead). Run step_of_rows (ran.0.0, o) rest p) e.is_left ran.2) in
+        subst (λ (y : Answered ℕ RowFault). ReadsRows left stays r a (y ∷ rest) p) (sym e.answered) (reads_rows_with_row_before a e.after d.row d.one e.limit e.place r ran.0.0 d.last rest p d.given e.newline others)
     | inr s ↦ elim s [
-      | inl e ↦ let h = over_to rest ran.0.0 ran.0.1 p e.is_left ran.2 in
+      | inl e ↦ let h = ends_alone_after_rows rest ran.0.0 ran.0.1 p e.is_left ran.2 in
           let same : p ≡ ran.0 = h.1 ∙ ap (λ (o : Option Ahead). (ran.0.0, o)) (sym e.is_left) in
-          subst (λ (l : Answers). ReadsRows left stays r a (x ∷ l) p) (sym h.0.1) (subst (λ (q : B × Option Ahead). ReadsRows left stays r a (x ∷ replicate h.0.0 end) q) (sym same) (at_end r a d.row d.last h.0.0 x ran.0 d.one d.given e))
-      | inr e ↦ let h = over_to rest ran.0.0 ran.0.1 p e.is_left ran.2 in
+          subst (λ (l : RowAnswers). ReadsRows left stays r a (x ∷ l) p) (sym h.0.1) (subst (λ (q : B × Option Ahead). ReadsRows left stays r a (x ∷ replicate h.0.0 end) q) (sym same) (reads_rows_at_end r a d.row d.last h.0.0 x ran.0 d.one d.given e))
+      | inr e ↦ let h = ends_alone_after_rows rest ran.0.0 ran.0.1 p e.is_left ran.2 in
           let same : p ≡ ran.0 = h.1 ∙ ap (λ (o : Option Ahead). (ran.0.0, o)) (sym e.is_left) in
-          subst (λ (l : Answers). ReadsRows left stays r a (x ∷ l) p) (sym h.0.1) (subst (λ (q : B × Option Ahead). ReadsRows left stays r a (x ∷ replicate h.0.0 end) q) (sym same) (at_failure r a d.row d.last h.0.0 x ran.0 d.one d.given e))
+          subst (λ (l : RowAnswers). ReadsRows left stays r a (x ∷ l) p) (sym h.0.1) (subst (λ (q : B × Option Ahead). ReadsRows left stays r a (x ∷ replicate h.0.0 end) q) (sym same) (reads_rows_at_failure r a d.row d.last h.0.0 x ran.0 d.one d.given e))
     ]
   ]
 
   -- ---- from traces to runs
 
   -- how many bytes were read and closed
-  closed_within : (last : B) (a : Ahead) (closed unclosed : List ℕ) (trace : Answers) (p : B × Option Ahead) → Stops last a closed unclosed trace p → length closed ≤ a.left
-  closed_within last a closed unclosed trace p (inl s) = let e = s.limit in omega (arith, e)
-  closed_within last a closed unclosed trace p (inr (inl s)) = let e = s.limit in let long = length-append closed unclosed in omega (arith, e, long)
-  closed_within last a closed unclosed trace p (inr (inr s)) = let long = length-append closed unclosed in elim s.missed [ inl h ↦ let e = h.0 in omega (arith, e, long) | inr h ↦ let e = h.0 in omega (arith, e, long) ]
+  length_closed_within : (last : B) (a : Ahead) (closed unclosed : List ℕ) (trace : RowAnswers) (p : B × Option Ahead) → StopsReading last a closed unclosed trace p → length closed ≤ a.left
+  length_closed_within last a closed unclosed trace p (inl s) = let e = s.limit in omega (arith, e)
+  length_closed_within last a closed unclosed trace p (inr (inl s)) = let e = s.limit in let long = length-append closed unclosed in omega (arith, e, long)
+  length_closed_within last a closed unclosed trace p (inr (inr s)) = let long = length-append closed unclosed in elim s.missed [ inl h ↦ let e = h.0 in omega (arith, e, long) | inr h ↦ let e = h.0 in omega (arith, e, long) ]
 
   -- the same after the first row
-  pub record StopsAfterRow (last : B) (a after : Ahead) (row closed unclosed : List ℕ) (trace : Answers) (p : B × Option Ahead) : Type 0 where
-    pub rest : Answers
+  pub record StopsAfterRow (last : B) (a after : Ahead) (row closed unclosed : List ℕ) (trace : RowAnswers) (p : B × Option Ahead) : Type 0 where
+    pub rest : RowAnswers
     pub is : trace ≡ row_answer a.place row ∷ rest
-    pub stopped : Stops last after closed unclosed rest p
+    pub stopped : StopsReading last after closed unclosed rest p
 
-  stops_after : (last : B) (a after : Ahead) (row closed unclosed : List ℕ) (trace : Answers) (p : B × Option Ahead) → IsOneRow row → after.left + length row + 1 ≡ a.left → after.place ≡ told_place (a.place + 1) → Stops last a (row ++ 10 ∷ closed) unclosed trace p → StopsAfterRow last a after row closed unclosed trace p
-  stops_after last a after row closed unclosed trace p one limit next (inl s) =
+  stops_after_row_of_run : (last : B) (a after : Ahead) (row closed unclosed : List ℕ) (trace : RowAnswers) (p : B × Option Ahead) → IsOneRow row → after.left + length row + 1 ≡ a.left → after.place ≡ told_place (a.place + 1) → StopsReading last a (row ++ 10 ∷ closed) unclosed trace p → StopsAfterRow last a after row closed unclosed trace p
+  stops_after_row_of_run last a after row closed unclosed trace p one limit next (inl s) =
       let long = length-append row (10 ∷ closed) in
       let many : length (rows (row ++ 10 ∷ closed)) ≡ length (row ∷ rows closed) = ap length (rows-row row closed one) in
       let here = s.limit in let there = s.place in
       record {
         rest = row_answers after.place (rows closed);
-        is = s.answers ∙ sym (first_answer a.place after.place row closed one next);
+        is = s.answers ∙ sym (row_answers_first a.place after.place row closed one next);
         stopped = inl (record { after = s.after; none_unclosed = s.none_unclosed; limit = omega (arith, long, here, limit); place = omega (arith, many, there, next); is_left = s.is_left; answers = refl });
       }
-  stops_after last a after row closed unclosed trace p one limit next (inr (inl s)) =
+  stops_after_row_of_run last a after row closed unclosed trace p one limit next (inr (inl s)) =
       let long = length-append row (10 ∷ (closed ++ unclosed)) in
       let joined : (row ++ 10 ∷ closed) ++ unclosed ≡ row ++ 10 ∷ (closed ++ unclosed) = append_assoc row (10 ∷ closed) unclosed in
       let same : length ((row ++ 10 ∷ closed) ++ unclosed) ≡ length (row ++ 10 ∷ (closed ++ unclosed)) = ap length joined in
       let here = s.limit in
       record {
         rest = row_answers after.place (rows (closed ++ unclosed)) ++ replicate s.ends end;
-        is = s.answers ∙ ap (λ l. row_answers a.place (rows l) ++ replicate s.ends end) joined ∙ ap (λ l. l ++ replicate s.ends end) (sym (first_answer a.place after.place row (closed ++ unclosed) one next));
+        is = s.answers ∙ ap (λ l. row_answers a.place (rows l) ++ replicate s.ends end) joined ∙ ap (λ l. l ++ replicate s.ends end) (sym (row_answers_first a.place after.place row (closed ++ unclosed) one next));
         stopped = inr (inl (record { ends = s.ends; met_end = s.met_end; limit = omega (arith, long, same, here, limit); is_left = s.is_left; answers = refl; ended = s.ended }));
       }
-  stops_after last a after row closed unclosed trace p one limit next (inr (inr s)) =
+  stops_after_row_of_run last a after row closed unclosed trace p one limit next (inr (inr s)) =
       let long = length-append row (10 ∷ (closed ++ unclosed)) in
       let joined : (row ++ 10 ∷ closed) ++ unclosed ≡ row ++ 10 ∷ (closed ++ unclosed) = append_assoc row (10 ∷ closed) unclosed in
       let same : length ((row ++ 10 ∷ closed) ++ unclosed) ≡ length (closed ++ unclosed) + length row + 1 = ap length joined ∙ omega (arith, long) in
       record {
         rest = row_answers after.place (rows closed) ++ failure Read ∷ replicate s.ends end;
-        is = s.answers ∙ ap (λ l. l ++ failure Read ∷ replicate s.ends end) (sym (first_answer a.place after.place row closed one next));
+        is = s.answers ∙ ap (λ l. l ++ failure Read ∷ replicate s.ends end) (sym (row_answers_first a.place after.place row closed one next));
         stopped = inr (inr (record {
           ends = s.ends;
           missed = elim s.missed [ inl h ↦ inl (let e = h.0 in omega (arith, same, e, limit), h.1) | inr h ↦ inr (let e = h.0 in omega (arith, same, e, limit), h.1) ];
@@ -221,55 +221,55 @@ module _ {B : Type 0} (left : B → Option (List ℕ)) (stays : Bool → B → B
         }));
       }
 
-  same_ahead : (a b : Ahead) → a.left ≡ b.left → a.place ≡ b.place → a ≡ b
-  same_ahead a b e d = ap (λ (n : ℕ). record { left = n; place = a.place }) e ∙ ap (λ (n : ℕ). record { left = b.left; place = n }) d
+  ahead_same_of_parts : (a b : Ahead) → a.left ≡ b.left → a.place ≡ b.place → a ≡ b
+  ahead_same_of_parts a b e d = ap (λ (n : ℕ). record { left = n; place = a.place }) e ∙ ap (λ (n : ℕ). record { left = b.left; place = n }) d
 
   -- where no row was closed
-  last_draw : (r last : B) (a : Ahead) (unclosed : List ℕ) (trace : Answers) (p : B × Option Ahead) → a.place ≤ 4294967295 → GivesBytes left stays r unclosed last → IsOneRow unclosed → Stops last a [] unclosed trace p → Run step (r, Some a) trace p
-  last_draw r last a unclosed trace p placed given one (inl s) =
+  run_of_last_draw : (r last : B) (a : Ahead) (unclosed : List ℕ) (trace : RowAnswers) (p : B × Option Ahead) → a.place ≤ 4294967295 → GivesBytes left stays r unclosed last → IsOneRow unclosed → StopsReading last a [] unclosed trace p → Run step_of_rows (r, Some a) trace p
+  run_of_last_draw r last a unclosed trace p placed given one (inl s) =
       let none : length (rows []) ≡ 0 = ap length rows-none in
       let e = s.limit in let d = s.place in
-      let same : a ≡ s.after = same_ahead a s.after (omega (arith, e)) (omega (arith, d, none)) in
+      let same : a ≡ s.after = ahead_same_of_parts a s.after (omega (arith, e)) (omega (arith, d, none)) in
       let here : r ≡ last = subst (λ l. GivesBytes left stays r l last) s.none_unclosed given in
       let is : trace ≡ [] = s.answers ∙ ap (row_answers a.place) rows-none in
-      subst (λ (l : Answers). Run step (r, Some a) l p) (sym is) (ap (λ (b : B). (b, Some a)) here ∙ ap (λ (b : Ahead). (last, Some b)) same ∙ sym s.is_left)
-  last_draw r last a [] trace p placed given one (inr (inl s)) = ends_from s.ends s.answers (s.ended refl)
+      subst (λ (l : RowAnswers). Run step_of_rows (r, Some a) l p) (sym is) (ap (λ (b : B). (b, Some a)) here ∙ ap (λ (b : Ahead). (last, Some b)) same ∙ sym s.is_left)
+  run_of_last_draw r last a [] trace p placed given one (inr (inl s)) = run_from_end s.ends s.answers (s.ended refl)
     where
-      ends_from : (n : ℕ) → trace ≡ row_answers a.place (rows []) ++ replicate n end → 0 < n → Run step (r, Some a) trace p
-      ends_from zero e some = absurd (omega arith)
-      ends_from (suc n) e some =
+      run_from_end : (n : ℕ) → trace ≡ row_answers a.place (rows []) ++ replicate n end → 0 < n → Run step_of_rows (r, Some a) trace p
+      run_from_end zero e some = absurd (omega arith)
+      run_from_end (suc n) e some =
           let is : trace ≡ end ∷ replicate n end = e ∙ ap (λ l. row_answers a.place l ++ replicate (suc n) end) rows-none in
           let d : DrawsRow left stays r a end p = record { row = []; one = one; last = last; given = given; ended = inr (inl (record { met_end = s.met_end; limit = s.limit; is_left = s.is_left; answered = inl (refl, refl) })) } in
-          subst (λ (l : Answers). Run step (r, Some a) l p) (sym is) (p, d, over_after n p s.is_left)
-  last_draw r last a (x ∷ xs) trace p placed given one (inr (inl s)) =
+          subst (λ (l : RowAnswers). Run step_of_rows (r, Some a) l p) (sym is) (p, d, run_of_ends_after n p s.is_left)
+  run_of_last_draw r last a (x ∷ xs) trace p placed given one (inr (inl s)) =
       let some : (x ∷ xs) ≢ [] = λ e. cc in
       let is : trace ≡ row_answer a.place (x ∷ xs) ∷ replicate s.ends end = s.answers ∙ ap (λ l. row_answers a.place l ++ replicate s.ends end) (rows-one (x ∷ xs) one some) in
       let d : DrawsRow left stays r a (row_answer a.place (x ∷ xs)) p = record { row = x ∷ xs; one = one; last = last; given = given; ended = inr (inl (record { met_end = s.met_end; limit = s.limit; is_left = s.is_left; answered = inr (some, refl) })) } in
-      subst (λ (l : Answers). Run step (r, Some a) l p) (sym is) (p, d, over_after s.ends p s.is_left)
-  last_draw r last a unclosed trace p placed given one (inr (inr s)) =
+      subst (λ (l : RowAnswers). Run step_of_rows (r, Some a) l p) (sym is) (p, d, run_of_ends_after s.ends p s.is_left)
+  run_of_last_draw r last a unclosed trace p placed given one (inr (inr s)) =
       let is : trace ≡ failure Read ∷ replicate s.ends end = s.answers ∙ ap (λ l. row_answers a.place l ++ failure Read ∷ replicate s.ends end) rows-none in
       let d : DrawsRow left stays r a (failure Read) p = record { row = unclosed; one = one; last = last; given = given; ended = inr (inr (record { missed = s.missed; is_left = s.is_left; answered = refl })) } in
-      subst (λ (l : Answers). Run step (r, Some a) l p) (sym is) (p, d, over_after s.ends p s.is_left)
+      subst (λ (l : RowAnswers). Run step_of_rows (r, Some a) l p) (sym is) (p, d, run_of_ends_after s.ends p s.is_left)
 
-  from_closed : (closed : List ℕ) → ClosedRows closed → (r last : B) (a : Ahead) (unclosed : List ℕ) (trace : Answers) (p : B × Option Ahead) → a.place ≤ 4294967295 → GivesBytes left stays r (closed ++ unclosed) last → IsOneRow unclosed → Stops last a closed unclosed trace p → Run step (r, Some a) trace p
-  from_closed closed (no_rows e) r last a unclosed trace p placed given one s =
-      last_draw r last a unclosed trace p placed (subst (λ l. GivesBytes left stays r (l ++ unclosed) last) e given) one (subst (λ l. Stops last a l unclosed trace p) e s)
-  from_closed closed (row_then row rest e is_one h) r last a unclosed trace p placed given one s =
+  run_from_closed_rows : (closed : List ℕ) → ClosedRows closed → (r last : B) (a : Ahead) (unclosed : List ℕ) (trace : RowAnswers) (p : B × Option Ahead) → a.place ≤ 4294967295 → GivesBytes left stays r (closed ++ unclosed) last → IsOneRow unclosed → StopsReading last a closed unclosed trace p → Run step_of_rows (r, Some a) trace p
+  run_from_closed_rows closed (no_rows e) r last a unclosed trace p placed given one s =
+      run_of_last_draw r last a unclosed trace p placed (subst (λ l. GivesBytes left stays r (l ++ unclosed) last) e given) one (subst (λ l. StopsReading last a l unclosed trace p) e s)
+  run_from_closed_rows closed (row_then row rest e is_one h) r last a unclosed trace p placed given one s =
       let joined : closed ++ unclosed ≡ row ++ 10 ∷ (rest ++ unclosed) = ap (λ l. l ++ unclosed) e ∙ append_assoc row (10 ∷ rest) unclosed in
       let parts = turns_split (GivesByte left stays) row (10 ∷ (rest ++ unclosed)) r last (subst (λ l. GivesBytes left stays r l last) joined given) in
-      let stopped : Stops last a (row ++ 10 ∷ rest) unclosed trace p = subst (λ l. Stops last a l unclosed trace p) e s in
-      let within = closed_within last a (row ++ 10 ∷ rest) unclosed trace p stopped in
+      let stopped : StopsReading last a (row ++ 10 ∷ rest) unclosed trace p = subst (λ l. StopsReading last a l unclosed trace p) e s in
+      let within = length_closed_within last a (row ++ 10 ∷ rest) unclosed trace p stopped in
       let long = length-append row (10 ∷ rest) in
       let after : Ahead = record { left = a.left - length row - 1; place = told_place (a.place + 1) } in
       let limit : after.left + length row + 1 ≡ a.left = omega (arith, long, within) in
-      let t = stops_after last a after row rest unclosed trace p is_one limit refl stopped in
+      let t = stops_after_row_of_run last a after row rest unclosed trace p is_one limit refl stopped in
       let q = parts.2.0 in
       let d : DrawsRow left stays r a (row_answer a.place row) (q, Some after) = record { row = row; one = is_one; last = parts.0; given = parts.1; ended = inl (record { after = after; newline = parts.2.1; limit = limit; place = refl; is_left = refl; answered = refl }) } in
-      subst (λ (l : Answers). Run step (r, Some a) l p) (sym t.is) ((q, Some after), d, from_closed rest h q last after unclosed t.rest p (omega arith) parts.2.2 one t.stopped)
+      subst (λ (l : RowAnswers). Run step_of_rows (r, Some a) l p) (sym t.is) ((q, Some after), d, run_from_closed_rows rest h q last after unclosed t.rest p (omega arith) parts.2.2 one t.stopped)
 
-  pub from_trace : (trace : Answers) (r : B) (a : Ahead) (p : B × Option Ahead) → a.place ≤ 4294967295 → ReadsRows left stays r a trace p → Run step (r, Some a) trace p
-  from_trace trace r a p placed h = from_closed h.closed (closed_rows h.closed h.are_closed) r h.last a h.unclosed trace p placed h.given h.one h.stopped
+  pub run_from_trace : (trace : RowAnswers) (r : B) (a : Ahead) (p : B × Option Ahead) → a.place ≤ 4294967295 → ReadsRows left stays r a trace p → Run step_of_rows (r, Some a) trace p
+  run_from_trace trace r a p placed h = run_from_closed_rows h.closed (closed_rows_of_bytes h.closed h.are_closed) r h.last a h.unclosed trace p placed h.given h.one h.stopped
 
-  pub rows_runs : (trace : Answers) (p q : B × Option Ahead) → IsPlaced p → Run step p trace q ↔ RowsTrace left stays p trace q
-  rows_runs trace (r, Some a) q placed = (to_trace trace r a q placed, from_trace trace r a q placed)
-  rows_runs trace (r, None) q placed = (over_to trace r None q refl, (λ h. subst (λ (l : Answers). Run step (r, None) l q) (sym h.0.1) (subst (λ (u : B × Option Ahead). Run step (r, None) (replicate h.0.0 end) u) (sym h.1) (over_from h.0.0 r))))
+  pub rows_runs : (trace : RowAnswers) (p q : B × Option Ahead) → IsPlaced p → Run step_of_rows p trace q ↔ RowsTrace left stays p trace q
+  rows_runs trace (r, Some a) q placed = (reads_rows_of_run trace r a q placed, run_from_trace trace r a q placed)
+  rows_runs trace (r, None) q placed = (ends_alone_after_rows trace r None q refl, (λ h. subst (λ (l : RowAnswers). Run step_of_rows (r, None) l q) (sym h.0.1) (subst (λ (u : B × Option Ahead). Run step_of_rows (r, None) (replicate h.0.0 end) u) (sym h.1) (run_of_ends h.0.0 r))))

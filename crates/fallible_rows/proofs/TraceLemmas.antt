@@ -3,9 +3,9 @@ use Rattle.std.proofs.Common.{Bool, ◌↔◌, ◌≡◌, ◌≢◌, ℕ, ◌+�
 use Rattle.std.proofs.lemmas.List.{take_at, length_push}
 use Rattle.std.proofs.lemmas.List.Elements.{All-nil, All-cons, All-append}
 use Rattle.fallible_iterator.specs.Traces.{Answered, Run, failure, end}
-use Rattle.fallible_iterator.specs.Laws.Closures.{turns_then}
+use Rattle.fallible_iterator.specs.Laws.Closures.{folds_to_then}
 use Rattle.fallible_iterator.proofs.Lemmas.Callers.{turns_split}
-use Rattle.fallible_iterator.proofs.Lemmas.LawForm.{traces_of_parts}
+use Rattle.fallible_iterator.proofs.Lemmas.LawForm.{traces_are_of_parts}
 use Rattle.fallible_rows.specs.Digits.{TellsOf, HasNumberAhead, ClosesAs, ReadsRow}
 use Rattle.fallible_rows.specs.Reading.{GivesByte, GivesBytes}
 use Rattle.fallible_rows.specs.RowTraces.{rows_parts, told_place, row_answer, IsOneRow, DrawsRow}
@@ -22,12 +22,12 @@ use Rattle.fallible_rows.specs.declared.rows.Close.TheVariants.{Newline, End, Fa
 pub IsOneRow-more : (row : List ℕ) (byte : ℕ) → IsOneRow row → byte ≢ 10 → IsOneRow (row ++ byte ∷ [])
 IsOneRow-more row byte one other = All-append not_newline row (byte ∷ []) one (All-cons not_newline byte [] other (All-nil not_newline))
 
-pub gives_more : {B : Type 0} (left : B → Option (List ℕ)) (stays : Bool → B → B → Type 0) (row : List ℕ) (byte : ℕ) (p q r : B) → GivesBytes left stays p row q → GivesByte left stays q byte r → GivesBytes left stays p (row ++ byte ∷ []) r
-gives_more left stays row byte p q r h k = turns_then (GivesByte left stays) row (byte ∷ []) p q r h (r, k, refl)
+pub gives_bytes_more : {B : Type 0} (left : B → Option (List ℕ)) (stays : Bool → B → B → Type 0) (row : List ℕ) (byte : ℕ) (p q r : B) → GivesBytes left stays p row q → GivesByte left stays q byte r → GivesBytes left stays p (row ++ byte ∷ []) r
+gives_bytes_more left stays row byte p q r h k = folds_to_then (GivesByte left stays) row (byte ∷ []) p q r h (r, k, refl)
 
 -- a row that stands whole in what a reader holds, and was yielded with its newline
-pub row_ahead : {B : Type 0} (left : B → Option (List ℕ)) (stays : Bool → B → B → Type 0) (r q : B) (held : List ℕ) (count value more limit : ℕ) → HasNumberAhead held count value → GivesBytes left stays r (take (count + 1) held) q → more + count + 1 ≡ limit → ReadsRow left stays r limit (Number count value, Newline more) q
-row_ahead left stays r q held count value more limit h given at =
+pub reads_row_ahead : {B : Type 0} (left : B → Option (List ℕ)) (stays : Bool → B → B → Type 0) (r q : B) (held : List ℕ) (count value more limit : ℕ) → HasNumberAhead held count value → GivesBytes left stays r (take (count + 1) held) q → more + count + 1 ≡ limit → ReadsRow left stays r limit (Number count value, Newline more) q
+reads_row_ahead left stays r q held count value more limit h given at =
     let whole : held ≡ (h.row ++ 10 ∷ []) ++ h.rest = h.are ∙ sym (append_assoc h.row (10 ∷ []) h.rest) in
     let long : length (h.row ++ 10 ∷ []) ≡ count + 1 = let row = h.long in omega (arith, length_push h.row 10, row) in
     let taken : take (count + 1) held ≡ h.row ++ 10 ∷ [] = ap (take (count + 1)) whole ∙ take_at (h.row ++ 10 ∷ []) h.rest (count + 1) long in
@@ -46,8 +46,8 @@ abbrev pub rows_of : {B : Type 0} → B × Option Ahead → Rows B
 rows_of p = record { reader = p.0; ahead = p.1 }
 
 -- a run of the struct is one of its parts, and the other way round
-pub rows_seen : {B : Type 0} (step : B × Option Ahead → Answered ℕ RowFault → B × Option Ahead → Type 0) (trace : List (Answered ℕ RowFault)) (s t : Rows B) → Run (λ u r v. step (rows_parts u) r (rows_parts v)) s trace t ↔ Run step (rows_parts s) trace (rows_parts t)
-rows_seen step trace s t = traces_of_parts rows_parts rows_of (λ x. refl) (λ p. refl) step (λ p l q. Run step p l q) (λ p l q. ((λ h. h), (λ h. h))) s trace t
+pub run_rows_seen : {B : Type 0} (step : B × Option Ahead → Answered ℕ RowFault → B × Option Ahead → Type 0) (trace : List (Answered ℕ RowFault)) (s t : Rows B) → Run (λ u r v. step (rows_parts u) r (rows_parts v)) s trace t ↔ Run step (rows_parts s) trace (rows_parts t)
+run_rows_seen step trace s t = traces_are_of_parts rows_parts rows_of (λ x. refl) (λ p. refl) step (λ p l q. Run step p l q) (λ p l q. ((λ h. h), (λ h. h))) s trace t
 
 -- ---- one draw
 
@@ -55,8 +55,8 @@ module _ {B : Type 0} (left : B → Option (List ℕ)) (stays : Bool → B → B
   closes_as : (c : Close) → close ≡ c → ClosesAs left stays a.left read.row read.last c q
   closes_as c is = subst (λ (z : Close). ClosesAs left stays a.left read.row read.last z q) is read.closed
 
-  pub drawn_by_newline : (more place : ℕ) (answer : Answered ℕ RowFault) → close ≡ Newline more → place ≡ told_place (a.place + 1) → ((bytes : List ℕ) → TellsOf digits bytes → answer ≡ row_answer a.place bytes) → DrawsRow left stays r a answer (q, Some (record { left = more; place = place }))
-  drawn_by_newline more place answer is next answered = let c = closes_as (Newline more) is in record {
+  pub draws_row_by_newline : (more place : ℕ) (answer : Answered ℕ RowFault) → close ≡ Newline more → place ≡ told_place (a.place + 1) → ((bytes : List ℕ) → TellsOf digits bytes → answer ≡ row_answer a.place bytes) → DrawsRow left stays r a answer (q, Some (record { left = more; place = place }))
+  draws_row_by_newline more place answer is next answered = let c = closes_as (Newline more) is in record {
     row = read.row;
     one = read.one;
     last = read.last;
@@ -64,8 +64,8 @@ module _ {B : Type 0} (left : B → Option (List ℕ)) (stays : Bool → B → B
     ended = inl (record { after = record { left = more; place = place }; newline = c.0; limit = c.1; place = next; is_left = refl; answered = answered read.row read.tells });
   }
 
-  pub drawn_by_end : (answer : Answered ℕ RowFault) → close ≡ End → ((bytes : List ℕ) → TellsOf digits bytes → ((bytes ≡ []) × (answer ≡ end)) ⊎ ((bytes ≢ []) × (answer ≡ row_answer a.place bytes))) → DrawsRow left stays r a answer (q, None)
-  drawn_by_end answer is answered = let c = closes_as End is in record {
+  pub draws_row_by_end : (answer : Answered ℕ RowFault) → close ≡ End → ((bytes : List ℕ) → TellsOf digits bytes → ((bytes ≡ []) × (answer ≡ end)) ⊎ ((bytes ≢ []) × (answer ≡ row_answer a.place bytes))) → DrawsRow left stays r a answer (q, None)
+  draws_row_by_end answer is answered = let c = closes_as End is in record {
     row = read.row;
     one = read.one;
     last = read.last;
@@ -73,8 +73,8 @@ module _ {B : Type 0} (left : B → Option (List ℕ)) (stays : Bool → B → B
     ended = inr (inl (record { met_end = c.0; limit = c.1; is_left = refl; answered = answered read.row read.tells }));
   }
 
-  pub drawn_by_failure : close ≡ Failure → DrawsRow left stays r a (failure Read) (q, None)
-  drawn_by_failure is = record {
+  pub draws_row_by_failure : close ≡ Failure → DrawsRow left stays r a (failure Read) (q, None)
+  draws_row_by_failure is = record {
     row = read.row;
     one = read.one;
     last = read.last;

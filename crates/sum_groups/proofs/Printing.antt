@@ -36,5 +36,5 @@ by_told (Err e) whole (Ok v) same m = absurd m
 by_told told whole (Err e) same m = tt
 
 -- what a fold of lines answers is the text
-pub printed : {A E : Type 0} (line : A → List ℕ) (convert : E → Fault) (l : List (Result A E)) (a : List ℕ) (r : Result (Vec ℕ Global) Fault) → IsToldOrRefused has_bytes no_memory (folded convert (λ t x. Ok (t ++ line x)) a l) r → IfOk r (λ v. vec_items v ≡ a ++ text_of line l)
-printed line convert l a r told = by_told (folded convert (λ t x. Ok (t ++ line x)) a l) (a ++ text_of line l) r (λ d is. text_folded line convert l a d is) told
+pub appends_text : {A E : Type 0} (line : A → List ℕ) (convert : E → Fault) (l : List (Result A E)) (a : List ℕ) (r : Result (Vec ℕ Global) Fault) → IsToldOrRefused has_bytes no_memory (folded convert (λ t x. Ok (t ++ line x)) a l) r → IfOk r (λ v. vec_items v ≡ a ++ text_of line l)
+appends_text line convert l a r told = by_told (folded convert (λ t x. Ok (t ++ line x)) a l) (a ++ text_of line l) r (λ d is. text_folded line convert l a d is) told

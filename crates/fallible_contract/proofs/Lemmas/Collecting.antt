@@ -21,52 +21,52 @@ module _ {A C R : Type 0} (made : List A → C → Type 0) (turns : C → A → 
     made_by : {r : Answered R E} {d : C} → (w : Driven steps turns s c r t d) → made w.items w.at.carried
     made_by w = made_after [] w.items c w.at.carried is_empty w.at.went
 
-    gathered_at_end : (d : C) (w : Driven steps turns s c (Ok None) t d) (last : Answered A E) → Run steps s (map item w.items ++ last ∷ []) t → DriveExit turns w.at.carried last (Ok None) d → CollectsAll steps made s d
-    gathered_at_end d w (Ok None) ran e = record { items = w.items; after = t; ran = ran; is_made = subst (λ z. made w.items z) (sym e.1) (made_by w) }
-    gathered_at_end d w (Ok (Some x)) ran e = absurd (let f = e.2 in cc)
-    gathered_at_end d w (Err f) ran e = absurd (let f = e.0 in cc)
+    collects_all_at_end : (d : C) (w : Driven steps turns s c (Ok None) t d) (last : Answered A E) → Run steps s (map item w.items ++ last ∷ []) t → DriveExit turns w.at.carried last (Ok None) d → CollectsAll steps made s d
+    collects_all_at_end d w (Ok None) ran e = record { items = w.items; after = t; ran = ran; is_made = subst (λ z. made w.items z) (sym e.1) (made_by w) }
+    collects_all_at_end d w (Ok (Some x)) ran e = absurd (let f = e.2 in cc)
+    collects_all_at_end d w (Err f) ran e = absurd (let f = e.0 in cc)
 
-    pub gathered_all : (d : C) → Driven steps turns s c (Ok None) t d → CollectsAll steps made s d
-    gathered_all d w = gathered_at_end d w w.last w.ran w.at.exit
+    pub collects_all_gathered : (d : C) → Driven steps turns s c (Ok None) t d → CollectsAll steps made s d
+    collects_all_gathered d w = collects_all_at_end d w w.last w.ran w.at.exit
 
-    gathered_at_failure : (d : C) (e : E) (w : Driven steps turns s c (Err e) t d) (last : Answered A E) → Run steps s (map item w.items ++ last ∷ []) t → DriveExit turns w.at.carried last (Err e) d → FailsWith steps made s e
-    gathered_at_failure d e w (Ok None) ran h = absurd (let f = h.0 in cc)
-    gathered_at_failure d e w (Ok (Some x)) ran h = absurd (let f = h.2 in cc)
-    gathered_at_failure d e w (Err f) ran h = let same : f ≡ e = (let is = h.0 in cc) in record { items = w.items; collection = w.at.carried; after = t; ran = subst (λ z. Run steps s (map item w.items ++ Err z ∷ []) t) same ran; is_made = made_by w }
+    fails_with_at_failure : (d : C) (e : E) (w : Driven steps turns s c (Err e) t d) (last : Answered A E) → Run steps s (map item w.items ++ last ∷ []) t → DriveExit turns w.at.carried last (Err e) d → FailsWith steps made s e
+    fails_with_at_failure d e w (Ok None) ran h = absurd (let f = h.0 in cc)
+    fails_with_at_failure d e w (Ok (Some x)) ran h = absurd (let f = h.2 in cc)
+    fails_with_at_failure d e w (Err f) ran h = let same : f ≡ e = (let is = h.0 in cc) in record { items = w.items; collection = w.at.carried; after = t; ran = subst (λ z. Run steps s (map item w.items ++ Err z ∷ []) t) same ran; is_made = made_by w }
 
-    pub gathered_failed : (d : C) (e : E) → Driven steps turns s c (Err e) t d → FailsWith steps made s e
-    gathered_failed d e w = gathered_at_failure d e w w.last w.ran w.at.exit
+    pub fails_with_gathered : (d : C) (e : E) → Driven steps turns s c (Err e) t d → FailsWith steps made s e
+    fails_with_gathered d e w = fails_with_at_failure d e w w.last w.ran w.at.exit
 
-    gathered_at_stop : (d : C) (q : R) (stops : C → A → Type 0) → ((c : C) (x : A) (d : C) → turns c x (Break q) d → stops c x) → (w : Driven steps turns s c (Ok (Some q)) t d) (last : Answered A E) → Run steps s (map item w.items ++ last ∷ []) t → DriveExit turns w.at.carried last (Ok (Some q)) d → RefusesItem steps made stops s
-    gathered_at_stop d q stops by w (Ok None) ran h = absurd (let f = h.0 in cc)
-    gathered_at_stop d q stops by w (Ok (Some x)) ran h = let same : h.0 ≡ q = (let f = h.2 in cc) in record { items = w.items; refused = x; collection = w.at.carried; after = t; ran = ran; is_made = made_by w; refuses_it = by w.at.carried x d (subst (λ (z : R). turns w.at.carried x (Break z) d) same h.1) }
-    gathered_at_stop d q stops by w (Err f) ran h = absurd (let f = h.0 in cc)
+    refuses_item_at_stop : (d : C) (q : R) (stops : C → A → Type 0) → ((c : C) (x : A) (d : C) → turns c x (Break q) d → stops c x) → (w : Driven steps turns s c (Ok (Some q)) t d) (last : Answered A E) → Run steps s (map item w.items ++ last ∷ []) t → DriveExit turns w.at.carried last (Ok (Some q)) d → RefusesItem steps made stops s
+    refuses_item_at_stop d q stops by w (Ok None) ran h = absurd (let f = h.0 in cc)
+    refuses_item_at_stop d q stops by w (Ok (Some x)) ran h = let same : h.0 ≡ q = (let f = h.2 in cc) in record { items = w.items; refused = x; collection = w.at.carried; after = t; ran = ran; is_made = made_by w; refuses_it = by w.at.carried x d (subst (λ (z : R). turns w.at.carried x (Break z) d) same h.1) }
+    refuses_item_at_stop d q stops by w (Err f) ran h = absurd (let f = h.0 in cc)
 
-    pub gathered_stopped : (d : C) (q : R) (stops : C → A → Type 0) → ((c : C) (x : A) (d : C) → turns c x (Break q) d → stops c x) → Driven steps turns s c (Ok (Some q)) t d → RefusesItem steps made stops s
-    gathered_stopped d q stops by w = gathered_at_stop d q stops by w w.last w.ran w.at.exit
+    pub refuses_item_gathered : (d : C) (q : R) (stops : C → A → Type 0) → ((c : C) (x : A) (d : C) → turns c x (Break q) d → stops c x) → Driven steps turns s c (Ok (Some q)) t d → RefusesItem steps made stops s
+    refuses_item_gathered d q stops by w = refuses_item_at_stop d q stops by w w.last w.ran w.at.exit
 
 -- ---- collect
 
 module _ {S A E C : Type 0} {steps : S → Answered A E → S → Type 0} {made : List A → C → Type 0} {refuses : C → A → Type 0} {turns : C → A → ControlFlow AllocError (Unit {0}) → C → Type 0}
     (turn : (c : C) (x : A) (r : ControlFlow AllocError (Unit {0})) (d : C) → turns c x r d → IsCollectTurn made refuses c x r d) {s t : S} {c : C} (is_empty : made [] c) where
-  pub collected_all : {d : C} → Driven steps turns s c (Ok None) t d → CollectsAll steps made s d
-  collected_all {d} w = gathered_all made turns (λ c x d p. turn c x (Continue tt) d p) steps is_empty d w
+  pub collects_all_by_turns : {d : C} → Driven steps turns s c (Ok None) t d → CollectsAll steps made s d
+  collects_all_by_turns {d} w = collects_all_gathered made turns (λ c x d p. turn c x (Continue tt) d p) steps is_empty d w
 
-  pub collect_failed : {d : C} {e : E} → Driven steps turns s c (Err e) t d → FailsWith steps made s e
-  collect_failed {d} {e} w = gathered_failed made turns (λ c x d p. turn c x (Continue tt) d p) steps is_empty d e w
+  pub fails_with_by_turns : {d : C} {e : E} → Driven steps turns s c (Err e) t d → FailsWith steps made s e
+  fails_with_by_turns {d} {e} w = fails_with_gathered made turns (λ c x d p. turn c x (Continue tt) d p) steps is_empty d e w
 
-  pub collect_refused : {d : C} {a : AllocError} → Driven steps turns s c (Ok (Some a)) t d → RefusesItem steps made refuses s
-  collect_refused {d} {a} w = gathered_stopped made turns (λ c x d p. turn c x (Continue tt) d p) steps is_empty d a refuses (λ c x d p. turn c x (Break a) d p) w
+  pub refuses_item_by_turns : {d : C} {a : AllocError} → Driven steps turns s c (Ok (Some a)) t d → RefusesItem steps made refuses s
+  refuses_item_by_turns {d} {a} w = refuses_item_gathered made turns (λ c x d p. turn c x (Continue tt) d p) steps is_empty d a refuses (λ c x d p. turn c x (Break a) d p) w
 
 -- ---- unzip
 
 -- one more of a mapped list
-pub parts_more : {X Y : Type 0} (h : X → Y) (items : List X) (x : X) → map h items ++ h x ∷ [] ≡ map h (items ++ x ∷ [])
-parts_more h [] x = refl
-parts_more h (y ∷ items) x = ap (λ l. h y ∷ l) (parts_more h items x)
+pub map_one_more : {X Y : Type 0} (h : X → Y) (items : List X) (x : X) → map h items ++ h x ∷ [] ≡ map h (items ++ x ∷ [])
+map_one_more h [] x = refl
+map_one_more h (y ∷ items) x = ap (λ l. h y ∷ l) (map_one_more h items x)
 
 module _ {A B C D : Type 0} (made_first : List A → C → Type 0) (made_second : List B → D → Type 0) (first_refuses : C → A → Type 0) (second_refuses : D → B → Type 0) where
   -- a turn with a pair pushes it to the pair of the collections
-  pub pair_pushed : (c : C × D) (x : A × B) (r : ControlFlow AllocError (Unit {0})) (d : C × D) → IsUnzipTurn made_first made_second first_refuses second_refuses c x r d → IsCollectTurn (MadeOfPairs made_first made_second) (PairRefused made_first made_second first_refuses second_refuses) c x r d
-  pair_pushed c x (Continue u) d w = λ items h. (subst (λ l. made_first l d.0) (parts_more (λ p. p.0) items x) (w.0 (map (λ p. p.0) items) h.0), subst (λ l. made_second l d.1) (parts_more (λ p. p.1) items x) (w.1 (map (λ p. p.1) items) h.1))
-  pair_pushed c x (Break a) d w = w
+  pub collect_turn_of_pair : (c : C × D) (x : A × B) (r : ControlFlow AllocError (Unit {0})) (d : C × D) → IsUnzipTurn made_first made_second first_refuses second_refuses c x r d → IsCollectTurn (MadeOfPairs made_first made_second) (PairRefused made_first made_second first_refuses second_refuses) c x r d
+  collect_turn_of_pair c x (Continue u) d w = λ items h. (subst (λ l. made_first l d.0) (map_one_more (λ p. p.0) items x) (w.0 (map (λ p. p.0) items) h.0), subst (λ l. made_second l d.1) (map_one_more (λ p. p.1) items x) (w.1 (map (λ p. p.1) items) h.1))
+  collect_turn_of_pair c x (Break a) d w = w

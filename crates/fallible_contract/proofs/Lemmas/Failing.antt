@@ -8,30 +8,30 @@ use Rattle.fallible_contract.specs.Failing.{failing_outcome, FailingTrace, faili
 use Rattle.fallible_contract.specs.Passing.{passing_step}
 use Rattle.fallible_contract.specs.Lists.{AlwaysGives, Acts}
 use Rattle.fallible_contract.specs.BothEnds.{ListsBothEnds, items_listed, failures_listed, source_list, passed_list}
-use Rattle.fallible_contract.proofs.Lemmas.LawForm.{IsByAnswers, answers_renamed}
-use Rattle.fallible_contract.proofs.Lemmas.Passing.{passing_by_answers, answer_passed}
-use Rattle.fallible_contract.proofs.Lemmas.Exchange.{gives_exchanged, listed_exchanged, list_exchanged_twice}
-use Rattle.fallible_contract.proofs.Lemmas.Lists.Passing.{passed, all_given}
-use Rattle.fallible_contract.proofs.Lemmas.BothEnds.Passing.{listed_passed, listed_by_function}
+use Rattle.fallible_contract.proofs.Lemmas.LawForm.{IsByAnswers, is_by_answers_renamed}
+use Rattle.fallible_contract.proofs.Lemmas.Passing.{passing_by_answers, pass_trace_answer}
+use Rattle.fallible_contract.proofs.Lemmas.Exchange.{always_gives_exchanged, lists_both_ends_exchanged, map_exchanged_twice}
+use Rattle.fallible_contract.proofs.Lemmas.Lists.Passing.{passed, gives_all}
+use Rattle.fallible_contract.proofs.Lemmas.BothEnds.Passing.{lists_both_ends_passed, lists_both_ends_by_function}
 use Rattle.fallible_contract.specs.declared.passing.Outcome.{Outcome}
 use Rattle.fallible_contract.specs.declared.passing.Outcome.TheVariants.{End}
 
 pub failing_by_answers : {S F X D E : Type 0} (steps : S → Answered X D → S → Type 0) (call : F → D → E → F → Type 0) → IsByAnswers (FailingTrace steps call)
-failing_by_answers steps call = answers_renamed exchanged (passing_by_answers (steps_exchanged steps) call failing_outcome)
+failing_by_answers steps call = is_by_answers_renamed exchanged (passing_by_answers (steps_exchanged steps) call failing_outcome)
 
 pub recovering_by_answers : {S F X D V E : Type 0} (steps : S → Answered X D → S → Type 0) (call : F → D → V → F → Type 0) (outcome : D → V → Outcome X E) → IsByAnswers (RecoveringTrace steps call outcome)
-recovering_by_answers steps call outcome = answers_renamed exchanged (passing_by_answers (steps_exchanged steps) call (λ d v. outcome_exchanged (outcome d v)))
+recovering_by_answers steps call outcome = is_by_answers_renamed exchanged (passing_by_answers (steps_exchanged steps) call (λ d v. outcome_exchanged (outcome d v)))
 
 -- what it makes of one answer of its source is its trace of one answer
-pub failing_answered : {S F X D E : Type 0} (steps : S → Answered X D → S → Type 0) {call : F → D → E → F → Type 0} {s t : S} {f g : F} (r : Answered X E) (drawn : Answered X D) → steps s drawn t → FailingAnswer call f drawn r g → FailingTrace steps call (s, f) (r ∷ []) (t, g)
-failing_answered steps r (Ok (Some x)) step made = answer_passed (Err x) step (ap exchanged made.0, made.1)
-failing_answered steps r (Ok None) step made = answer_passed (Ok None) step (ap exchanged made.0, made.1)
-failing_answered steps r (Err d) step made = answer_passed (Ok (Some d)) step (made.0, made.1, ap (λ q. Some (exchanged q)) (sym made.2))
+pub failing_trace_answered : {S F X D E : Type 0} (steps : S → Answered X D → S → Type 0) {call : F → D → E → F → Type 0} {s t : S} {f g : F} (r : Answered X E) (drawn : Answered X D) → steps s drawn t → FailingAnswer call f drawn r g → FailingTrace steps call (s, f) (r ∷ []) (t, g)
+failing_trace_answered steps r (Ok (Some x)) step made = pass_trace_answer (Err x) step (ap exchanged made.0, made.1)
+failing_trace_answered steps r (Ok None) step made = pass_trace_answer (Ok None) step (ap exchanged made.0, made.1)
+failing_trace_answered steps r (Err d) step made = pass_trace_answer (Ok (Some d)) step (made.0, made.1, ap (λ q. Some (exchanged q)) (sym made.2))
 
 -- ---- what it lists is what an adapter that is called on items does, exchanged
 
-never_ends : {X D E : Type 0} (d : D) (e : E) → failing_outcome {X = X} d e ≡ End → ⊥
-never_ends d e is = absurd cc
+failing_never_ends : {X D E : Type 0} (d : D) (e : E) → failing_outcome {X = X} d e ≡ End → ⊥
+failing_never_ends d e is = absurd cc
 
 -- What replaces the items of a list and nothing else replaces the failures of the list exchanged.
 module _ {X D E : Type 0} (k : List (Result D X) → List (Result E X)) (h : D → E) (none : k [] ≡ []) (at_item : (d : D) (l : List (Result D X)) → k (Ok d ∷ l) ≡ Ok (h d) ∷ k l) (at_failure : (x : X) (l : List (Result D X)) → k (Err x ∷ l) ≡ Err x ∷ k l) where
@@ -42,33 +42,33 @@ module _ {X D E : Type 0} (k : List (Result D X) → List (Result E X)) (h : D �
   mapped_exchanged (Err d ∷ l) = at_item d (map exchanged_result l) ∙ ap {B = List (Result E X)} (λ j. Ok (h d) ∷ j) (mapped_exchanged l)
 
 mapped_back : {X D E : Type 0} (h : D → E) (l : List (Result X D)) → map exchanged_result (passed failing_outcome (λ (p : Unit {0}) d. h d) (λ p d. p) tt (map exchanged_result l)) ≡ failures_mapped h l
-mapped_back h l = ap (map exchanged_result) (mapped_exchanged (passed failing_outcome (λ (p : Unit {0}) d. h d) (λ p d. p) tt) h refl (λ d k. refl) (λ x k. refl) l) ∙ list_exchanged_twice (failures_mapped h l)
+mapped_back h l = ap (map exchanged_result) (mapped_exchanged (passed failing_outcome (λ (p : Unit {0}) d. h d) (λ p d. p) tt) h refl (λ d k. refl) (λ x k. refl) l) ∙ map_exchanged_twice (failures_mapped h l)
 
 -- The closure's answers, where each call from a state of which `At` holds answers h d on d and leaves such a state.
-pub gives_failing : {S F X D E : Type 0} (call : F → D → E → F → Type 0) (At : F → Type 0) (h : D → E) → ((f : F) (d : D) (e : E) (g : F) → At f → call f d e g → At g × (e ≡ h d)) → (steps : S → Answered X D → S → Type 0) (s : S) (f : F) (l : List (Result X D)) → At f → AlwaysGives steps s l → AlwaysGives (failing_step steps call) (s, f) (failures_mapped h l)
-gives_failing {X = X} {E = E} call At h acts steps s f l at a = subst (λ (k : List (Result X E)). AlwaysGives (failing_step steps call) (s, f) k) (mapped_back h l)
-    (gives_exchanged (passing_step (steps_exchanged steps) call failing_outcome) _ (s, f)
-    (all_given (steps_exchanged steps) call failing_outcome (λ g p. At g) (λ (p : Unit {0}) d. h d) (λ p d. p) (λ g p d e k at called. acts g d e k at called) (map exchanged_result l) s f tt at (gives_exchanged steps l s a)))
+pub always_gives_failing : {S F X D E : Type 0} (call : F → D → E → F → Type 0) (At : F → Type 0) (h : D → E) → ((f : F) (d : D) (e : E) (g : F) → At f → call f d e g → At g × (e ≡ h d)) → (steps : S → Answered X D → S → Type 0) (s : S) (f : F) (l : List (Result X D)) → At f → AlwaysGives steps s l → AlwaysGives (failing_step steps call) (s, f) (failures_mapped h l)
+always_gives_failing {X = X} {E = E} call At h acts steps s f l at a = subst (λ (k : List (Result X E)). AlwaysGives (failing_step steps call) (s, f) k) (mapped_back h l)
+    (always_gives_exchanged (passing_step (steps_exchanged steps) call failing_outcome) _ (s, f)
+    (gives_all (steps_exchanged steps) call failing_outcome (λ g p. At g) (λ (p : Unit {0}) d. h d) (λ p d. p) (λ g p d e k at called. acts g d e k at called) (map exchanged_result l) s f tt at (always_gives_exchanged steps l s a)))
 
 -- the failures of a list are the items of the list exchanged
-asked_exchanged : {A E : Type 0} (l : List (Result A E)) → items_listed (map exchanged_result l) ≡ failures_listed l
-asked_exchanged [] = refl
-asked_exchanged (Ok x ∷ l) = asked_exchanged l
-asked_exchanged (Err e ∷ l) = ap (λ k. e ∷ k) (asked_exchanged l)
+items_listed_exchanged : {A E : Type 0} (l : List (Result A E)) → items_listed (map exchanged_result l) ≡ failures_listed l
+items_listed_exchanged [] = refl
+items_listed_exchanged (Ok x ∷ l) = items_listed_exchanged l
+items_listed_exchanged (Err e ∷ l) = ap (λ k. e ∷ k) (items_listed_exchanged l)
 
 module _ {S F X D E : Type 0} (front back : S → Answered X D → S → Type 0) (call : F → D → E → F → Type 0) (s : S) (f : F) where
   abbrev ListsMapped : List (Result X E) → Type 0
   ListsMapped l = ListsBothEnds (failing_step front call) (failing_step back call) (s, f) l
 
-  back_exchanged : (k : List (Result E X)) (l : List (Result X E)) → map exchanged_result k ≡ l → ListsBothEnds (passing_step (steps_exchanged front) call failing_outcome) (passing_step (steps_exchanged back) call failing_outcome) (s, f) k → ListsMapped l
-  back_exchanged k l is i = subst (λ (j : List (Result X E)). ListsMapped j) is (listed_exchanged (passing_step (steps_exchanged front) call failing_outcome) (passing_step (steps_exchanged back) call failing_outcome) (s, f) k i)
+  lists_mapped_back : (k : List (Result E X)) (l : List (Result X E)) → map exchanged_result k ≡ l → ListsBothEnds (passing_step (steps_exchanged front) call failing_outcome) (passing_step (steps_exchanged back) call failing_outcome) (s, f) k → ListsMapped l
+  lists_mapped_back k l is i = subst (λ (j : List (Result X E)). ListsMapped j) is (lists_both_ends_exchanged (passing_step (steps_exchanged front) call failing_outcome) (passing_step (steps_exchanged back) call failing_outcome) (s, f) k i)
 
   -- the closure's answers on the failures, where it is steady on them
-  pub listed_failures : (asked : List (Result X (D × E))) → Steady call f (failures_listed asked) → ListsBothEnds front back s (failures_mapped (λ c. c.0) asked) → ListsMapped (failures_mapped (λ c. c.1) asked)
-  listed_failures asked steady i = back_exchanged _ _ (ap (map exchanged_result) (mapped_exchanged (passed_list failing_outcome) (λ c. c.1) refl (λ c k. refl) (λ x k. refl) asked) ∙ list_exchanged_twice (failures_mapped (λ c. c.1) asked))
-      (listed_passed (steps_exchanged front) (steps_exchanged back) call failing_outcome never_ends (map exchanged_result asked) s f (subst (λ (c : List (D × E)). Steady call f c) (sym (asked_exchanged asked)) steady)
-      (subst (λ (k : List (Result D X)). ListsBothEnds (steps_exchanged front) (steps_exchanged back) s k) (sym (mapped_exchanged source_list (λ c. c.0) refl (λ c k. refl) (λ x k. refl) asked)) (listed_exchanged front back s (failures_mapped (λ c. c.0) asked) i)))
+  pub lists_mapped_failures : (asked : List (Result X (D × E))) → Steady call f (failures_listed asked) → ListsBothEnds front back s (failures_mapped (λ c. c.0) asked) → ListsMapped (failures_mapped (λ c. c.1) asked)
+  lists_mapped_failures asked steady i = lists_mapped_back _ _ (ap (map exchanged_result) (mapped_exchanged (passed_list failing_outcome) (λ c. c.1) refl (λ c k. refl) (λ x k. refl) asked) ∙ map_exchanged_twice (failures_mapped (λ c. c.1) asked))
+      (lists_both_ends_passed (steps_exchanged front) (steps_exchanged back) call failing_outcome failing_never_ends (map exchanged_result asked) s f (subst (λ (c : List (D × E)). Steady call f c) (sym (items_listed_exchanged asked)) steady)
+      (subst (λ (k : List (Result D X)). ListsBothEnds (steps_exchanged front) (steps_exchanged back) s k) (sym (mapped_exchanged source_list (λ c. c.0) refl (λ c k. refl) (λ x k. refl) asked)) (lists_both_ends_exchanged front back s (failures_mapped (λ c. c.0) asked) i)))
 
   -- the same, where it acts as a function
-  pub listed_function : (h : D → E) → Acts call f h → (l : List (Result X D)) → ListsBothEnds front back s l → ListsMapped (failures_mapped h l)
-  listed_function h acts l i = back_exchanged _ _ (mapped_back h l) (listed_by_function call failing_outcome never_ends f h acts (steps_exchanged front) (steps_exchanged back) s (map exchanged_result l) (listed_exchanged front back s l i))
+  pub lists_mapped_function : (h : D → E) → Acts call f h → (l : List (Result X D)) → ListsBothEnds front back s l → ListsMapped (failures_mapped h l)
+  lists_mapped_function h acts l i = lists_mapped_back _ _ (mapped_back h l) (lists_both_ends_by_function call failing_outcome failing_never_ends f h acts (steps_exchanged front) (steps_exchanged back) s (map exchanged_result l) (lists_both_ends_exchanged front back s l i))

@@ -9,9 +9,9 @@ use Rattle.fallible_contract.specs.Closures.{Reaches, IsCallable}
 use Rattle.fallible_contract.specs.Folds.{Drained, HoldsAtEachTurn, goes_on, DriveExit, Driven, TurnThrough, beside, beside_names, within}
 use Rattle.fallible_contract.specs.Folding.{TurnedBy, FoldingTurn, FoldingTakes}
 use Rattle.fallible_contract.specs.Laws.Closures.{reaches_here, reaches_weaken, reaches_from}
-use Rattle.fallible_contract.specs.Laws.Passing.{done, end_passes, failure_passes, keeps, refuses, closes, leaves_out, to_passes, from_passes}
-use Rattle.fallible_contract.proofs.Lemmas.Contract.{given_after}
-use Rattle.fallible_contract.proofs.Lemmas.Folds.{holds_here, holds_after, driven_after, driven_end, driven_failure, driven_stop, driven_through, names_kept}
+use Rattle.fallible_contract.specs.Laws.Passing.{done, end_passes, failure_passes, keeps, refuses, closes, leaves_out, passes_of_pass_trace, pass_trace_of_passes}
+use Rattle.fallible_contract.proofs.Lemmas.Contract.{may_give_before}
+use Rattle.fallible_contract.proofs.Lemmas.Folds.{holds_at_first_turn, holds_each_turn_after, driven_after, driven_end, driven_failure, driven_stop, driven_through, names_kept}
 use Rattle.std.specs.declared.ops.ControlFlow.{ControlFlow}
 use Rattle.std.specs.declared.ops.ControlFlow.TheVariants.{Continue, Break}
 use Rattle.fallible_contract.specs.declared.folds.Beside.{Beside}
@@ -21,21 +21,21 @@ use Rattle.fallible_contract.specs.declared.passing.Outcome.TheVariants.{Kept, L
 -- ---- draws from another value, of which every step is one from this one
 
 module _ {S A E : Type 0} (steps : S → Answered A E → S → Type 0) (s u : S) (same : (r : Answered A E) (t : S) → steps u r t → steps s r t) where
-  run_from : (items : List A) (last : Answered A E) (t : S) → Run steps u (map item items ++ last ∷ []) t → Run steps s (map item items ++ last ∷ []) t
-  run_from [] last t ran = (ran.0, same last ran.0 ran.1, ran.2)
-  run_from (x ∷ items) last t ran = (ran.0, same (item x) ran.0 ran.1, ran.2)
+  run_after_first : (items : List A) (last : Answered A E) (t : S) → Run steps u (map item items ++ last ∷ []) t → Run steps s (map item items ++ last ∷ []) t
+  run_after_first [] last t ran = (ran.0, same last ran.0 ran.1, ran.2)
+  run_after_first (x ∷ items) last t ran = (ran.0, same (item x) ran.0 ran.1, ran.2)
 
   module _ {C : Type 0} {goes : C → A → C → Type 0} {P : C → A → Type 0} {c : C} (h : HoldsAtEachTurn steps goes P s c) where
-    at_items : (items : List A) (t v : S) (d : C) (x : A) → Yields steps u items t → FoldsTo goes c items d → steps t (item x) v → P d x
-    at_items [] t v d x ran went step = h.at [] s v d x refl went (same (item x) v (subst (λ (z : S). steps z (item x) v) (sym ran) step))
-    at_items (y ∷ items) t v d x ran went step = h.at (y ∷ items) t v d x (ran.0, same (item y) ran.0 ran.1, ran.2) went step
+    holds_at_items_after : (items : List A) (t v : S) (d : C) (x : A) → Yields steps u items t → FoldsTo goes c items d → steps t (item x) v → P d x
+    holds_at_items_after [] t v d x ran went step = h.at [] s v d x refl went (same (item x) v (subst (λ (z : S). steps z (item x) v) (sym ran) step))
+    holds_at_items_after (y ∷ items) t v d x ran went step = h.at (y ∷ items) t v d x (ran.0, same (item y) ran.0 ran.1, ran.2) went step
 
 module _ {S A E : Type 0} {steps : S → Answered A E → S → Type 0} {s u : S} (same : (r : Answered A E) (t : S) → steps u r t → steps s r t) where
-  pub drained_from : {came : List A → Answered A E → Type 0} {t : S} → Drained steps came u t → Drained steps came s t
-  drained_from {t = t} w = record { items = w.items; last = w.last; ran = run_from steps s u same w.items w.last t w.ran; at = w.at }
+  pub drained_after_first : {came : List A → Answered A E → Type 0} {t : S} → Drained steps came u t → Drained steps came s t
+  drained_after_first {t = t} w = record { items = w.items; last = w.last; ran = run_after_first steps s u same w.items w.last t w.ran; at = w.at }
 
-  pub holds_from : {C : Type 0} {goes : C → A → C → Type 0} {P : C → A → Type 0} {c : C} → HoldsAtEachTurn steps goes P s c → HoldsAtEachTurn steps goes P u c
-  holds_from h = record { at = at_items steps s u same h }
+  pub holds_each_turn_after_first : {C : Type 0} {goes : C → A → C → Type 0} {P : C → A → Type 0} {c : C} → HoldsAtEachTurn steps goes P s c → HoldsAtEachTurn steps goes P u c
+  holds_each_turn_after_first h = record { at = holds_at_items_after steps s u same h }
 
 -- ---- draws of what holds another value
 
@@ -72,75 +72,75 @@ module _ {S P A E : Type 0} (Q : P → Type 0) (steps : P → Answered A E → P
   yields_while [] p q at e = (ap into e, subst Q e at)
   yields_while (x ∷ items) p q at w = let rest = yields_while items w.0 q (keeps_on p x w.0 at w.1) w.2 in ((into w.0, holds p (item x) w.0 at w.1, rest.0), rest.1)
 
-  pub holds_while : {C : Type 0} {goes : C → A → C → Type 0} {T : C → A → Type 0} {p : P} {c : C} → Q p → HoldsAtEachTurn held goes T (into p) c → HoldsAtEachTurn steps goes T p c
-  holds_while {p = p} at h = record { at = λ items q u d x ran went step. let y = yields_while items p q at ran in h.at items (into q) (into u) d x y.0 went (holds q (item x) u y.1 step) }
+  pub holds_each_turn_while : {C : Type 0} {goes : C → A → C → Type 0} {T : C → A → Type 0} {p : P} {c : C} → Q p → HoldsAtEachTurn held goes T (into p) c → HoldsAtEachTurn steps goes T p c
+  holds_each_turn_while {p = p} at h = record { at = λ items q u d x ran went step. let y = yields_while items p q at ran in h.at items (into q) (into u) d x y.0 went (holds q (item x) u y.1 step) }
 
 -- ---- an adapter's fold through its source's
 
 module _ {S C F X V B E R : Type 0} (steps : S → Answered X E → S → Type 0) (call : F → X → V → F → Type 0) (outcome : X → V → Outcome B E) (turns : C → B → ControlFlow R (Unit {0}) → C → Type 0) where
-  abbrev Turned : C × F → X → ControlFlow (Answered R E) (Unit {0}) → C × F → Type 0
-  Turned = FoldingTurn call outcome turns
+  abbrev TurnedOfFolding : C × F → X → ControlFlow (Answered R E) (Unit {0}) → C × F → Type 0
+  TurnedOfFolding = FoldingTurn call outcome turns
 
-  abbrev Steps : S × F → Answered B E → S × F → Type 0
-  Steps = passing_step steps call outcome
+  abbrev StepsOfFolding : S × F → Answered B E → S × F → Type 0
+  StepsOfFolding = passing_step steps call outcome
 
-  abbrev Drives : S → C × F → Answered R E → S → C × F → Type 0
-  Drives s p r t q = Driven Steps turns (s, p.1) p.0 r (t, q.1) q.0
+  abbrev DrivesOfFolding : S → C × F → Answered R E → S → C × F → Type 0
+  DrivesOfFolding s p r t q = Driven StepsOfFolding turns (s, p.1) p.0 r (t, q.1) q.0
 
   -- after an item that is left out, what may be returned may be returned from before it
-  left_same : {s u : S} {f g : F} (x : X) (v : V) → steps s (item x) u → call f x v g → outcome x v ≡ LeftOut → (r : Answered B E) (q : S × F) → Steps (u, g) r q → Steps (s, f) r q
-  left_same x v step called is r q p = from_passes (leaves_out x v step called is (to_passes p))
+  step_left_out : {s u : S} {f g : F} (x : X) (v : V) → steps s (item x) u → call f x v g → outcome x v ≡ LeftOut → (r : Answered B E) (q : S × F) → StepsOfFolding (u, g) r q → StepsOfFolding (s, f) r q
+  step_left_out x v step called is r q p = pass_trace_of_passes (leaves_out x v step called is (passes_of_pass_trace p))
 
   -- the item on which the source's turn stops
-  stops_at : (x : X) (v : V) (o : Outcome B E) (s t : S) (p q : C × F) (r : Answered R E) → steps s (item x) t → call p.1 x v q.1 → outcome x v ≡ o → TurnedBy turns p.0 o (Break r) q.0 → Drives s p r t q
-  stops_at x v (Kept y) s t p q r step called is (Continue u, w, e) = absurd cc
-  stops_at x v (Kept y) s t p q r step called is (Break why, w, e) = let same : r ≡ Ok (Some why) = cc in subst (λ a. Drives s p a t q) (sym same) (driven_stop y (from_passes (keeps x v y step called is done)) w)
-  stops_at x v LeftOut s t p q r step called is w = absurd (let e = w.0 in cc)
-  stops_at x v (Failure d) s t p q r step called is w = let same : r ≡ Err d = (let e = w.0 in cc) in subst (λ a. Drives s p a t q) (sym same) (subst (λ c. Drives s p (Err d) t (c, q.1)) (sym w.1) (driven_failure (from_passes (refuses x v d step called is done))))
-  stops_at x v End s t p q r step called is w = let same : r ≡ Ok None = (let e = w.0 in cc) in subst (λ a. Drives s p a t q) (sym same) (subst (λ c. Drives s p (Ok None) t (c, q.1)) (sym w.1) (driven_end (from_passes (closes x v step called is done))))
+  drives_to_stop : (x : X) (v : V) (o : Outcome B E) (s t : S) (p q : C × F) (r : Answered R E) → steps s (item x) t → call p.1 x v q.1 → outcome x v ≡ o → TurnedBy turns p.0 o (Break r) q.0 → DrivesOfFolding s p r t q
+  drives_to_stop x v (Kept y) s t p q r step called is (Continue u, w, e) = absurd cc
+  drives_to_stop x v (Kept y) s t p q r step called is (Break why, w, e) = let same : r ≡ Ok (Some why) = cc in subst (λ a. DrivesOfFolding s p a t q) (sym same) (driven_stop y (pass_trace_of_passes (keeps x v y step called is done)) w)
+  drives_to_stop x v LeftOut s t p q r step called is w = absurd (let e = w.0 in cc)
+  drives_to_stop x v (Failure d) s t p q r step called is w = let same : r ≡ Err d = (let e = w.0 in cc) in subst (λ a. DrivesOfFolding s p a t q) (sym same) (subst (λ c. DrivesOfFolding s p (Err d) t (c, q.1)) (sym w.1) (driven_failure (pass_trace_of_passes (refuses x v d step called is done))))
+  drives_to_stop x v End s t p q r step called is w = let same : r ≡ Ok None = (let e = w.0 in cc) in subst (λ a. DrivesOfFolding s p a t q) (sym same) (subst (λ c. DrivesOfFolding s p (Ok None) t (c, q.1)) (sym w.1) (driven_end (pass_trace_of_passes (closes x v step called is done))))
 
   -- the last answer of the source's fold
-  last_through : (last : Answered X E) (s t : S) (p q : C × F) (r : Answered (Answered R E) E) → steps s last t → DriveExit Turned p last r q → Drives s p (within r) t q
-  last_through (Ok None) s t p q r step w = subst (λ a. Drives s p (within a) t q) (sym w.0) (subst (λ z. Drives s p (Ok None) t z) (sym w.1) (driven_end (from_passes (end_passes step done))))
-  last_through (Err d) s t p q r step w = subst (λ a. Drives s p (within a) t q) (sym w.0) (subst (λ z. Drives s p (Err d) t z) (sym w.1) (driven_failure (from_passes (failure_passes d step done))))
-  last_through (Ok (Some x)) s t p q r step w = subst (λ a. Drives s p (within a) t q) (sym w.2) (let turned = w.1 in stops_at x turned.0 (outcome x turned.0) s t p q w.0 step turned.1 refl turned.2)
+  drives_last_through : (last : Answered X E) (s t : S) (p q : C × F) (r : Answered (Answered R E) E) → steps s last t → DriveExit TurnedOfFolding p last r q → DrivesOfFolding s p (within r) t q
+  drives_last_through (Ok None) s t p q r step w = subst (λ a. DrivesOfFolding s p (within a) t q) (sym w.0) (subst (λ z. DrivesOfFolding s p (Ok None) t z) (sym w.1) (driven_end (pass_trace_of_passes (end_passes step done))))
+  drives_last_through (Err d) s t p q r step w = subst (λ a. DrivesOfFolding s p (within a) t q) (sym w.0) (subst (λ z. DrivesOfFolding s p (Err d) t z) (sym w.1) (driven_failure (pass_trace_of_passes (failure_passes d step done))))
+  drives_last_through (Ok (Some x)) s t p q r step w = subst (λ a. DrivesOfFolding s p (within a) t q) (sym w.2) (let turned = w.1 in drives_to_stop x turned.0 (outcome x turned.0) s t p q w.0 step turned.1 refl turned.2)
 
   -- an item on which the source's turn went on, before the rest of the fold
   module _ (x : X) (v : V) (s u : S) (p k : C × F) (step : steps s (item x) u) (called : call p.1 x v k.1) where
-    goes_on_at : (o : Outcome B E) (t : S) (q : C × F) (r : Answered R E) → outcome x v ≡ o → TurnedBy {E = E} turns p.0 o (Continue tt) k.0 → Drives u k r t q → Drives s p r t q
-    goes_on_at (Kept y) t q r is (Continue z, w, e) rest = driven_after y (from_passes (keeps x v y step called is done)) w rest
-    goes_on_at (Kept y) t q r is (Break why, w, e) rest = absurd cc
-    goes_on_at LeftOut t q r is w rest = drained_from (left_same x v step called is) (subst (λ c. Drives u (c, k.1) r t q) w.1 rest)
-    goes_on_at (Failure d) t q r is w rest = absurd (let e = w.0 in cc)
-    goes_on_at End t q r is w rest = absurd (let e = w.0 in cc)
+    drives_on : (o : Outcome B E) (t : S) (q : C × F) (r : Answered R E) → outcome x v ≡ o → TurnedBy {E = E} turns p.0 o (Continue tt) k.0 → DrivesOfFolding u k r t q → DrivesOfFolding s p r t q
+    drives_on (Kept y) t q r is (Continue z, w, e) rest = driven_after y (pass_trace_of_passes (keeps x v y step called is done)) w rest
+    drives_on (Kept y) t q r is (Break why, w, e) rest = absurd cc
+    drives_on LeftOut t q r is w rest = drained_after_first (step_left_out x v step called is) (subst (λ c. DrivesOfFolding u (c, k.1) r t q) w.1 rest)
+    drives_on (Failure d) t q r is w rest = absurd (let e = w.0 in cc)
+    drives_on End t q r is w rest = absurd (let e = w.0 in cc)
 
-  items_through : (items : List X) (last : Answered X E) (s t : S) (p k q : C × F) (r : Answered (Answered R E) E) → Run steps s (map item items ++ last ∷ []) t → FoldsTo (goes_on Turned) p items k → DriveExit Turned k last r q → Drives s p (within r) t q
-  items_through [] last s t p k q r ran went at = last_through last s t p q r (subst (λ (u : S). steps s last u) ran.2 ran.1) (subst (λ (z : C × F). DriveExit Turned z last r q) (sym went) at)
-  items_through (x ∷ items) last s t p k q r ran went at = let turned = went.1 in
-      goes_on_at x turned.0 s ran.0 p went.0 ran.1 turned.1 (outcome x turned.0) t q (within r) refl turned.2 (items_through items last ran.0 t went.0 k q r ran.2 went.2 at)
+  drives_items_through : (items : List X) (last : Answered X E) (s t : S) (p k q : C × F) (r : Answered (Answered R E) E) → Run steps s (map item items ++ last ∷ []) t → FoldsTo (goes_on TurnedOfFolding) p items k → DriveExit TurnedOfFolding k last r q → DrivesOfFolding s p (within r) t q
+  drives_items_through [] last s t p k q r ran went at = drives_last_through last s t p q r (subst (λ (u : S). steps s last u) ran.2 ran.1) (subst (λ (z : C × F). DriveExit TurnedOfFolding z last r q) (sym went) at)
+  drives_items_through (x ∷ items) last s t p k q r ran went at = let turned = went.1 in
+      drives_on x turned.0 s ran.0 p went.0 ran.1 turned.1 (outcome x turned.0) t q (within r) refl turned.2 (drives_items_through items last ran.0 t went.0 k q r ran.2 went.2 at)
 
   -- ---- where the source's turn may be taken
 
   module _ (P : C → B → Type 0) where
-    abbrev Holds : S → C × F → Type 0
-    Holds s p = HoldsAtEachTurn Steps (goes_on turns) P (s, p.1) p.0
+    abbrev HoldsOfFolding : S → C × F → Type 0
+    HoldsOfFolding s p = HoldsAtEachTurn StepsOfFolding (goes_on turns) P (s, p.1) p.0
 
-    holds_on : (x : X) (v : V) (o : Outcome B E) (s u : S) (p k : C × F) → steps s (item x) u → call p.1 x v k.1 → outcome x v ≡ o → TurnedBy {E = E} turns p.0 o (Continue tt) k.0 → Holds s p → Holds u k
-    holds_on x v (Kept y) s u p k step called is (Continue z, w, e) holds = holds_after holds (from_passes (keeps x v y step called is done)) w
-    holds_on x v (Kept y) s u p k step called is (Break why, w, e) holds = absurd cc
-    holds_on x v LeftOut s u p k step called is w holds = subst (λ c. Holds u (c, k.1)) (sym w.1) (holds_from (left_same x v step called is) holds)
-    holds_on x v (Failure d) s u p k step called is w holds = absurd (let e = w.0 in cc)
-    holds_on x v End s u p k step called is w holds = absurd (let e = w.0 in cc)
+    holds_of_goes_on : (x : X) (v : V) (o : Outcome B E) (s u : S) (p k : C × F) → steps s (item x) u → call p.1 x v k.1 → outcome x v ≡ o → TurnedBy {E = E} turns p.0 o (Continue tt) k.0 → HoldsOfFolding s p → HoldsOfFolding u k
+    holds_of_goes_on x v (Kept y) s u p k step called is (Continue z, w, e) holds = holds_each_turn_after holds (pass_trace_of_passes (keeps x v y step called is done)) w
+    holds_of_goes_on x v (Kept y) s u p k step called is (Break why, w, e) holds = absurd cc
+    holds_of_goes_on x v LeftOut s u p k step called is w holds = subst (λ c. HoldsOfFolding u (c, k.1)) (sym w.1) (holds_each_turn_after_first (step_left_out x v step called is) holds)
+    holds_of_goes_on x v (Failure d) s u p k step called is w holds = absurd (let e = w.0 in cc)
+    holds_of_goes_on x v End s u p k step called is w holds = absurd (let e = w.0 in cc)
 
-    holds_at : (items : List X) (s t : S) (p q : C × F) → Yields steps s items t → FoldsTo (goes_on Turned) p items q → Holds s p → Holds t q
-    holds_at [] s t p q ran went holds = subst (λ (u : S). Holds u q) ran (subst (λ z. Holds s z) went holds)
-    holds_at (x ∷ items) s t p q ran went holds = let turned = went.1 in
-        holds_at items ran.0 t went.0 q ran.2 went.2 (holds_on x turned.0 (outcome x turned.0) s ran.0 p went.0 ran.1 turned.1 refl turned.2 holds)
+    holds_of_items : (items : List X) (s t : S) (p q : C × F) → Yields steps s items t → FoldsTo (goes_on TurnedOfFolding) p items q → HoldsOfFolding s p → HoldsOfFolding t q
+    holds_of_items [] s t p q ran went holds = subst (λ (u : S). HoldsOfFolding u q) ran (subst (λ z. HoldsOfFolding s z) went holds)
+    holds_of_items (x ∷ items) s t p q ran went holds = let turned = went.1 in
+        holds_of_items items ran.0 t went.0 q ran.2 went.2 (holds_of_goes_on x turned.0 (outcome x turned.0) s ran.0 p went.0 ran.1 turned.1 refl turned.2 holds)
 
 -- A fold of the source by that turn is a fold of the adapter.
 pub drives_through : {S C F X V B E R : Type 0} {steps : S → Answered X E → S → Type 0} {call : F → X → V → F → Type 0} {outcome : X → V → Outcome B E} {turns : C → B → ControlFlow R (Unit {0}) → C → Type 0} {s t : S} {p q : C × F} {r : Answered (Answered R E) E}
     → Driven steps (FoldingTurn call outcome turns) s p r t q → Driven (passing_step steps call outcome) turns (s, p.1) p.0 (within r) (t, q.1) q.0
-drives_through {steps = steps} {call = call} {outcome = outcome} {turns = turns} {s = s} {t = t} {p = p} {q = q} {r = r} w = items_through steps call outcome turns w.items w.last s t p w.at.carried q r w.ran w.at.went w.at.exit
+drives_through {steps = steps} {call = call} {outcome = outcome} {turns = turns} {s = s} {t = t} {p = p} {q = q} {r = r} w = drives_items_through steps call outcome turns w.items w.last s t p w.at.carried q r w.ran w.at.went w.at.exit
 
 module _ {S C F X V B E R : Type 0} {steps : S → Answered X E → S → Type 0} {call : F → X → V → F → Type 0} {outcome : X → V → Outcome B E} {turns : C → B → ControlFlow R (Unit {0}) → C → Type 0} {s t : S} {b d : Beside C F} {r : Answered (Answered R E) E} where
   -- The same, where the adapter's closure and the caller's state are lent by reference. What was lent is what those that came back point to, once they are known to be the same.
@@ -153,29 +153,29 @@ module _ {S C F X V B E R : Type 0} {steps : S → Answered X E → S → Type 0
 
 -- calls of the source's turns bring the closure where calls on what comes do
 module _ {S C F X V B E R : Type 0} {m : Contract S X E} (l : Lawful m) (call : F → X → V → F → Type 0) (outcome : X → V → Outcome B E) (turns : C → B → ControlFlow R (Unit {0}) → C → Type 0) where
-  turned_reach : (items : List X) (s t : S) (p q : C × F) → m.can_next s → Yields m.steps s items t → FoldsTo (goes_on (FoldingTurn call outcome turns)) p items q → Reaches call (m.may_give s) p.1 q.1
-  turned_reach [] s t p q c ran went = subst (λ (r : C × F). Reaches call (m.may_give s) p.1 r.1) went reaches_here
-  turned_reach (x ∷ items) s t p q c ran went = let a = l.kept_by_draw s (item x) ran.0 c ran.1 in let turned = went.1 in
-      reaches_from x turned.0 a.answer.0 turned.1 (reaches_weaken a.may_give (turned_reach items ran.0 t went.0 q a.can_next ran.2 went.2))
+  reaches_turned : (items : List X) (s t : S) (p q : C × F) → m.can_next s → Yields m.steps s items t → FoldsTo (goes_on (FoldingTurn call outcome turns)) p items q → Reaches call (m.may_give s) p.1 q.1
+  reaches_turned [] s t p q c ran went = subst (λ (r : C × F). Reaches call (m.may_give s) p.1 r.1) went reaches_here
+  reaches_turned (x ∷ items) s t p q c ran went = let a = l.kept_by_draw s (item x) ran.0 c ran.1 in let turned = went.1 in
+      reaches_from x turned.0 a.answer.0 turned.1 (reaches_weaken a.may_give (reaches_turned items ran.0 t went.0 q a.can_next ran.2 went.2))
 
   -- The source's turn may be taken at each item where the closure may be called on what comes, and the caller's turn at each item of the adapter.
-  pub takes_through : {pre : F → X → Type 0} {P : C → B → Type 0} {s : S} {f : F} {c : C} → m.can_next s → IsCallable call pre (m.may_give s) f → HoldsAtEachTurn (passing_step m.steps call outcome) (goes_on turns) P (s, f) c
+  pub holds_each_turn_through : {pre : F → X → Type 0} {P : C → B → Type 0} {s : S} {f : F} {c : C} → m.can_next s → IsCallable call pre (m.may_give s) f → HoldsAtEachTurn (passing_step m.steps call outcome) (goes_on turns) P (s, f) c
       → HoldsAtEachTurn m.steps (goes_on (FoldingTurn call outcome turns)) (FoldingTakes call outcome pre P) s (c, f)
-  takes_through {pre = pre} {P = P} {s = s} {f = f} {c = c} can callable holds = record {
+  holds_each_turn_through {pre = pre} {P = P} {s = s} {f = f} {c = c} can callable holds = record {
     at = λ items t u p x ran went step. (
-      callable.at p.1 x (turned_reach items s t (c, f) p can ran went) (given_after l s items t u x can ran step),
-      (λ v g y called is. holds_here (holds_at m.steps call outcome turns P items s t (c, f) p ran went holds) (from_passes (keeps x v y step called is done))),
+      callable.at p.1 x (reaches_turned items s t (c, f) p can ran went) (may_give_before l s items t u x can ran step),
+      (λ v g y called is. holds_at_first_turn (holds_of_items m.steps call outcome turns P items s t (c, f) p ran went holds) (pass_trace_of_passes (keeps x v y step called is done))),
     );
   }
 
 -- The same where it is known at each item that the closure may be called.
-pub takes_where : {S C F X V B E R : Type 0} {steps : S → Answered X E → S → Type 0} (call : F → X → V → F → Type 0) (outcome : X → V → Outcome B E) (turns : C → B → ControlFlow R (Unit {0}) → C → Type 0) (pre : F → X → Type 0) {P : C → B → Type 0} {s : S} {f : F} {c : C} → ((items : List X) (t u : S) (p : C × F) (x : X) → Yields steps s items t → FoldsTo (goes_on (FoldingTurn call outcome turns)) (c, f) items p → steps t (item x) u → pre p.1 x)
+pub takes_where_reached : {S C F X V B E R : Type 0} {steps : S → Answered X E → S → Type 0} (call : F → X → V → F → Type 0) (outcome : X → V → Outcome B E) (turns : C → B → ControlFlow R (Unit {0}) → C → Type 0) (pre : F → X → Type 0) {P : C → B → Type 0} {s : S} {f : F} {c : C} → ((items : List X) (t u : S) (p : C × F) (x : X) → Yields steps s items t → FoldsTo (goes_on (FoldingTurn call outcome turns)) (c, f) items p → steps t (item x) u → pre p.1 x)
     → HoldsAtEachTurn (passing_step steps call outcome) (goes_on turns) P (s, f) c → HoldsAtEachTurn steps (goes_on (FoldingTurn call outcome turns)) (FoldingTakes call outcome pre P) s (c, f)
-takes_where {steps = steps} call outcome turns pre {P = P} {s = s} {f = f} {c = c} free holds = record {
-  at = λ items t u p x ran went step. (free items t u p x ran went step, (λ v g y called is. holds_here (holds_at steps call outcome turns P items s t (c, f) p ran went holds) (from_passes (keeps x v y step called is done))));
+takes_where_reached {steps = steps} call outcome turns pre {P = P} {s = s} {f = f} {c = c} free holds = record {
+  at = λ items t u p x ran went step. (free items t u p x ran went step, (λ v g y called is. holds_at_first_turn (holds_of_items steps call outcome turns P items s t (c, f) p ran went holds) (pass_trace_of_passes (keeps x v y step called is done))));
 }
 
 -- The same where no call requires anything.
-pub takes_freely : {S C F X V B E R : Type 0} {steps : S → Answered X E → S → Type 0} (call : F → X → V → F → Type 0) (outcome : X → V → Outcome B E) (turns : C → B → ControlFlow R (Unit {0}) → C → Type 0) {pre : F → X → Type 0} {P : C → B → Type 0} {s : S} {f : F} {c : C} → ((g : F) (x : X) → pre g x)
+pub takes_where_always_callable : {S C F X V B E R : Type 0} {steps : S → Answered X E → S → Type 0} (call : F → X → V → F → Type 0) (outcome : X → V → Outcome B E) (turns : C → B → ControlFlow R (Unit {0}) → C → Type 0) {pre : F → X → Type 0} {P : C → B → Type 0} {s : S} {f : F} {c : C} → ((g : F) (x : X) → pre g x)
     → HoldsAtEachTurn (passing_step steps call outcome) (goes_on turns) P (s, f) c → HoldsAtEachTurn steps (goes_on (FoldingTurn call outcome turns)) (FoldingTakes call outcome pre P) s (c, f)
-takes_freely {steps = steps} call outcome turns {pre = pre} free holds = takes_where call outcome turns pre (λ items t u p x ran went step. free p.1 x) holds
+takes_where_always_callable {steps = steps} call outcome turns {pre = pre} free holds = takes_where_reached call outcome turns pre (λ items t u p x ran went step. free p.1 x) holds

@@ -19,8 +19,8 @@ module _ {P A E : Type 0} (D : P → List (Answered A E) → P → Type 0) where
     pub splits : (p q : P) (r : Answered A E) (rest : List (Answered A E)) → D p (r ∷ rest) q → FirstOf p r rest q
 
 -- so is one whose answers are those of such a trace under other names
-pub answers_renamed : {P A B D E : Type 0} {T : P → List (Answered B D) → P → Type 0} (name : Answered A E → Answered B D) → IsByAnswers T → IsByAnswers (λ p trace q. T p (map name trace) q)
-answers_renamed name by = record {
+pub is_by_answers_renamed : {P A B D E : Type 0} {T : P → List (Answered B D) → P → Type 0} (name : Answered A E → Answered B D) → IsByAnswers T → IsByAnswers (λ p trace q. T p (map name trace) q)
+is_by_answers_renamed name by = record {
   none = by.none;
   same = by.same;
   joins = λ p u q r rest d e. by.joins p u q (name r) (map name rest) d e;
@@ -32,27 +32,27 @@ module _ {P A E : Type 0} (D : P → List (Answered A E) → P → Type 0) (by :
   abbrev at_one_answer : P → Answered A E → P → Type 0
   at_one_answer p r q = D p (r ∷ []) q
 
-  run_to : (trace : List (Answered A E)) (p q : P) → Run at_one_answer p trace q → D p trace q
-  run_to [] p q e = subst (λ (z : P). D p [] z) e (by.none p)
-  run_to (r ∷ rest) p q h = by.joins p h.0 q r rest h.1 (run_to rest h.0 q h.2)
+  by_answers_of_run : (trace : List (Answered A E)) (p q : P) → Run at_one_answer p trace q → D p trace q
+  by_answers_of_run [] p q e = subst (λ (z : P). D p [] z) e (by.none p)
+  by_answers_of_run (r ∷ rest) p q h = by.joins p h.0 q r rest h.1 (by_answers_of_run rest h.0 q h.2)
 
-  run_from : (trace : List (Answered A E)) (p q : P) → D p trace q → Run at_one_answer p trace q
-  run_from [] p q d = by.same p q d
-  run_from (r ∷ rest) p q d = let h = by.splits p q r rest d in (h.then_at, h.first, run_from rest h.then_at q h.others)
+  run_of_by_answers : (trace : List (Answered A E)) (p q : P) → D p trace q → Run at_one_answer p trace q
+  run_of_by_answers [] p q d = by.same p q d
+  run_of_by_answers (r ∷ rest) p q d = let h = by.splits p q r rest d in (h.then_at, h.first, run_of_by_answers rest h.then_at q h.others)
 
   pub runs_by_answers : (p : P) (trace : List (Answered A E)) (q : P) → Run at_one_answer p trace q ↔ D p trace q
-  runs_by_answers p trace q = (run_to trace p q, run_from trace p q)
+  runs_by_answers p trace q = (by_answers_of_run trace p q, run_of_by_answers trace p q)
 
 -- Runs of a type whose values are seen by their parts, of which each names one value, are runs over the parts.
 module _ {V P A E : Type 0} (parts : V → P) (make : P → V) (made : (s : V) → make (parts s) ≡ s) (has : (p : P) → parts (make p) ≡ p) (steps : P → Answered A E → P → Type 0) where
-  to_parts : (trace : List (Answered A E)) (s t : V) → Run (λ u r v. steps (parts u) r (parts v)) s trace t → Run steps (parts s) trace (parts t)
-  to_parts [] s t e = ap parts e
-  to_parts (r ∷ rest) s t h = (parts h.0, h.1, to_parts rest h.0 t h.2)
+  run_of_parts : (trace : List (Answered A E)) (s t : V) → Run (λ u r v. steps (parts u) r (parts v)) s trace t → Run steps (parts s) trace (parts t)
+  run_of_parts [] s t e = ap parts e
+  run_of_parts (r ∷ rest) s t h = (parts h.0, h.1, run_of_parts rest h.0 t h.2)
 
-  from_parts : (trace : List (Answered A E)) (s t : V) → Run steps (parts s) trace (parts t) → Run (λ u r v. steps (parts u) r (parts v)) s trace t
-  from_parts [] s t e = sym (made s) ∙ ap make e ∙ made t
-  from_parts (r ∷ rest) s t h = let e = has h.0 in (make h.0, subst (λ (p : P). steps (parts s) r p) (sym e) h.1, from_parts rest (make h.0) t (subst (λ (p : P). Run steps p rest (parts t)) (sym e) h.2))
+  run_from_parts : (trace : List (Answered A E)) (s t : V) → Run steps (parts s) trace (parts t) → Run (λ u r v. steps (parts u) r (parts v)) s trace t
+  run_from_parts [] s t e = sym (made s) ∙ ap make e ∙ made t
+  run_from_parts (r ∷ rest) s t h = let e = has h.0 in (make h.0, subst (λ (p : P). steps (parts s) r p) (sym e) h.1, run_from_parts rest (make h.0) t (subst (λ (p : P). Run steps p rest (parts t)) (sym e) h.2))
 
   -- so a law of the runs over the parts is one of the values
-  pub traces_of_parts : (D : P → List (Answered A E) → P → Type 0) → ((p : P) (trace : List (Answered A E)) (q : P) → Run steps p trace q ↔ D p trace q) → TracesAre parts (λ u r v. steps (parts u) r (parts v)) D
-  traces_of_parts D law s trace t = ((λ ran. (law (parts s) trace (parts t)).0 (to_parts trace s t ran)), (λ d. from_parts trace s t ((law (parts s) trace (parts t)).1 d)))
+  pub traces_are_of_parts : (D : P → List (Answered A E) → P → Type 0) → ((p : P) (trace : List (Answered A E)) (q : P) → Run steps p trace q ↔ D p trace q) → TracesAre parts (λ u r v. steps (parts u) r (parts v)) D
+  traces_are_of_parts D law s trace t = ((λ ran. (law (parts s) trace (parts t)).0 (run_of_parts trace s t ran)), (λ d. run_from_parts trace s t ((law (parts s) trace (parts t)).1 d)))

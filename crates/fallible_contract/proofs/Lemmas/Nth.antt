@@ -3,38 +3,38 @@ use Rattle.std.specs.Prelude.{◌≡◌, ℕ, suc, ◌+◌, ◌≤◌, length, L
 use Rattle.std.specs.List.{FoldsTo}
 use Rattle.std.proofs.Common.{refl, sym, ap, subst, ◌∙◌, arith}
 use Rattle.fallible_contract.specs.Traces.{Answered, item}
-use Rattle.fallible_contract.specs.Folds.{goes_on, DriveExit, Driven, NthExit, Nth, IsNthTurn}
-use Rattle.fallible_contract.proofs.Lemmas.Folds.{drained_map, drained_more, drained_last}
+use Rattle.fallible_contract.specs.Folds.{goes_on, DriveExit, Driven, NthExit, NthDrains, IsNthTurn}
+use Rattle.fallible_contract.proofs.Lemmas.Folds.{drained_map, drained_of_longer, drained_by_last}
 
-exit_more : {A E : Type 0} (n k skipped : ℕ) (r : Answered A E) → k ≡ n + 1 → NthExit n skipped r → NthExit k (suc skipped) r
-exit_more n k skipped (Ok (Some x)) e h = omega (arith, e, h)
-exit_more n k skipped (Ok None) e h = omega (arith, e, h)
-exit_more n k skipped (Err d) e h = omega (arith, e, h)
+nth_exit_more : {A E : Type 0} (n k skipped : ℕ) (r : Answered A E) → k ≡ n + 1 → NthExit n skipped r → NthExit k (suc skipped) r
+nth_exit_more n k skipped (Ok (Some x)) e h = omega (arith, e, h)
+nth_exit_more n k skipped (Ok None) e h = omega (arith, e, h)
+nth_exit_more n k skipped (Err d) e h = omega (arith, e, h)
 
-exit_now : {A E : Type 0} (n : ℕ) (r : Answered A E) → n ≤ 0 → NthExit n 0 r
-exit_now n (Ok (Some x)) h = omega (arith, h)
-exit_now n (Ok None) h = omega arith
-exit_now n (Err e) h = omega arith
+nth_exit_now : {A E : Type 0} (n : ℕ) (r : Answered A E) → n ≤ 0 → NthExit n 0 r
+nth_exit_now n (Ok (Some x)) h = omega (arith, h)
+nth_exit_now n (Ok None) h = omega arith
+nth_exit_now n (Err e) h = omega arith
 
 module _ {S A E : Type 0} {steps : S → Answered A E → S → Type 0} where
   -- a skipped item, and then the rest
-  pub nth_after : {s u t : S} {r : Answered A E} (n k : ℕ) (x : A) → k ≡ n + 1 → steps s (item x) u → Nth steps u n r t → Nth steps s k r t
-  nth_after {r = r} n k x e step rest = drained_more x step (λ skipped last h. record { is = h.is; exit = exit_more n k (length skipped) r e h.exit }) rest
+  pub nth_drains_after : {s u t : S} {r : Answered A E} (n k : ℕ) (x : A) → k ≡ n + 1 → steps s (item x) u → NthDrains steps u n r t → NthDrains steps s k r t
+  nth_drains_after {r = r} n k x e step rest = drained_of_longer x step (λ skipped last h. record { is = h.is; exit = nth_exit_more n k (length skipped) r e h.exit }) rest
 
   -- the answer comes with no item skipped
-  pub nth_now : {s t : S} {r : Answered A E} (n : ℕ) → NthExit n 0 r → steps s r t → Nth steps s n r t
-  nth_now {r = r} n exit step = drained_last r step (record { is = refl; exit = exit })
+  pub nth_drains_now : {s t : S} {r : Answered A E} (n : ℕ) → NthExit n 0 r → steps s r t → NthDrains steps s n r t
+  nth_drains_now {r = r} n exit step = drained_by_last r step (record { is = refl; exit = exit })
 
   -- the answer to a draw where nothing is left to skip
-  pub nth_next : {s t : S} (n : ℕ) (r : Answered A E) → n ≤ 0 → steps s r t → Nth steps s n r t
-  nth_next n r none step = nth_now n (exit_now n r none) step
+  pub nth_drains_next : {s t : S} (n : ℕ) (r : Answered A E) → n ≤ 0 → steps s r t → NthDrains steps s n r t
+  nth_drains_next n r none step = nth_drains_now n (nth_exit_now n r none) step
 
 -- ---- as one fold
 
 -- each turn that goes on passes over one item
-passed_over : {A : Type 0} (items : List A) (n d : ℕ) → FoldsTo (goes_on IsNthTurn) n items d → n ≡ d + length items
-passed_over [] n d w = omega (arith, w)
-passed_over (x ∷ items) n d w = let rest = passed_over items w.0 d w.2 in let one : n ≡ w.0 + 1 = w.1 in omega (arith, one, rest)
+length_passed_over : {A : Type 0} (items : List A) (n d : ℕ) → FoldsTo (goes_on IsNthTurn) n items d → n ≡ d + length items
+length_passed_over [] n d w = omega (arith, w)
+length_passed_over (x ∷ items) n d w = let rest = length_passed_over items w.0 d w.2 in let one : n ≡ w.0 + 1 = w.1 in omega (arith, one, rest)
 
 reached_last : {A E : Type 0} (items : List A) (last r : Answered A E) (n d k : ℕ) → n ≡ d + length items → DriveExit IsNthTurn d last r k → (last ≡ r) × NthExit n (length items) r
 reached_last items (Ok None) r n d k over at = (sym at.0, subst (NthExit n (length items)) (sym at.0) (omega (arith, over)))
@@ -42,5 +42,5 @@ reached_last items (Err e) r n d k over at = (sym at.0, subst (NthExit n (length
 reached_last items (Ok (Some x)) r n d k over at = let same : r ≡ item x = at.2 ∙ ap item at.1.1 in let none = at.1.0 in (sym same, subst (NthExit n (length items)) (sym same) (omega (arith, over, none)))
 
 -- the fold that passes over n items and stops with the next one is `nth`
-pub nth_reached : {S A E : Type 0} {steps : S → Answered A E → S → Type 0} {s t : S} {n k : ℕ} {r : Answered A E} → Driven steps IsNthTurn s n r t k → Nth steps s n r t
-nth_reached {n = n} {k = k} {r = r} w = drained_map (λ items last h. let e = reached_last items last r n h.carried k (passed_over items n h.carried h.went) h.exit in record { is = e.0; exit = e.1 }) w
+pub nth_drains_reached : {S A E : Type 0} {steps : S → Answered A E → S → Type 0} {s t : S} {n k : ℕ} {r : Answered A E} → Driven steps IsNthTurn s n r t k → NthDrains steps s n r t
+nth_drains_reached {n = n} {k = k} {r = r} w = drained_map (λ items last h. let e = reached_last items last r n h.carried k (length_passed_over items n h.carried h.went) h.exit in record { is = e.0; exit = e.1 }) w

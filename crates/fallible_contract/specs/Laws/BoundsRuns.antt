@@ -3,7 +3,7 @@ use Rattle.std.specs.Prelude.{ℕ, ◌-◌, ◌≤◌, ◌<◌, [], ◌∷◌, S
 use Rattle.std.proofs.Common.{refl, arith}
 use Rattle.fallible_contract.specs.Traces.{Answered, item}
 use Rattle.fallible_contract.specs.Contract.{Contract, OnAnswer, Lawful, BoundsRuns, unbounded_contract}
-use Rattle.fallible_contract.specs.Laws.Contract.{no_more}
+use Rattle.fallible_contract.specs.Laws.Contract.{no_more_after}
 
 -- ---- the number of a type that states no other
 
@@ -22,21 +22,21 @@ module _ {S A E : Type 0} {steps : S → Answered A E → S → Type 0} where
 
 -- a value that has a bound has one after a draw
 pub bound_stays : {S A E : Type 0} (m : Contract S A E) (s t : S) (r : Answered A E) → OnAnswer m s r t → ((n : ℕ) × m.bound s n) → ((n : ℕ) × m.bound t n)
-bound_stays m s t r a p = let k = no_more m s t r a p.0 p.1 in (k.0, k.1)
+bound_stays m s t r a p = let k = no_more_after m s t r a p.0 p.1 in (k.0, k.1)
 
 -- a contract that bounds its runs is lawful
 module _ {S A E : Type 0} (steps : S → Answered A E → S → Type 0) where
-  answer_unbounded : (s t : S) (r : Answered A E) → steps s r t → OnAnswer (unbounded_contract steps) s r t
-  answer_unbounded s t (Ok (Some x)) step = (tt, (λ n b. bounds_fewer x step b), (λ f. absurd f))
-  answer_unbounded s t (Ok None) step = ((λ n b. bounds_end step b), (λ f. absurd f))
-  answer_unbounded s t (Err e) step = (tt, (λ n b. bounds_failure e step b), (λ f. absurd f))
+  on_answer_unbounded : (s t : S) (r : Answered A E) → steps s r t → OnAnswer (unbounded_contract steps) s r t
+  on_answer_unbounded s t (Ok (Some x)) step = (tt, (λ n b. bounds_fewer x step b), (λ f. absurd f))
+  on_answer_unbounded s t (Ok None) step = ((λ n b. bounds_end step b), (λ f. absurd f))
+  on_answer_unbounded s t (Err e) step = (tt, (λ n b. bounds_failure e step b), (λ f. absurd f))
 
   pub lawful_unbounded : Lawful (unbounded_contract steps)
   lawful_unbounded = record {
     kept_by_draw = λ s r t c step. record {
       can_next = tt;
-      is_finite = bound_stays (unbounded_contract steps) s t r (answer_unbounded s t r step);
-      answer = answer_unbounded s t r step;
+      is_finite = bound_stays (unbounded_contract steps) s t r (on_answer_unbounded s t r step);
+      answer = on_answer_unbounded s t r step;
       may_give = λ x g. tt;
       may_fail = λ e g. tt;
       lenders = refl;

@@ -5,47 +5,47 @@ use Rattle.std.proofs.lemmas.Bool.{cases_Bool}
 use Rattle.fallible_contract.specs.Traces.{LastKept, Answered, Run, item, end, failure}
 use Rattle.fallible_contract.specs.Contract.{Contract, KeptByDraw, Lawful}
 use Rattle.fallible_contract.specs.ByNumber.{with_numbers, is_kept, kept, KeptByNumber}
-use Rattle.fallible_contract.specs.Laws.Contract.{kept_after, goes_later}
+use Rattle.fallible_contract.specs.Laws.Contract.{kept_by_draws_after, kept_by_draw_after}
 
 module _ {A E : Type 0} (keeps : ℕ → Bool) where
   -- none is kept of these, and then it isn't the first one, nor any of the others
-  none_kept : (b : Bool) (p : Option ℕ × Answered A E) (rest : List (Option ℕ × Answered A E)) → map (λ p. p.1) (cond b (p ∷ rest) rest) ≡ [] → (b ≡ false) × (map (λ p. p.1) rest ≡ [])
-  none_kept true p rest e = absurd cc
-  none_kept false p rest e = (refl, e)
+  none_kept_of_nil : (b : Bool) (p : Option ℕ × Answered A E) (rest : List (Option ℕ × Answered A E)) → map (λ p. p.1) (cond b (p ∷ rest) rest) ≡ [] → (b ≡ false) × (map (λ p. p.1) rest ≡ [])
+  none_kept_of_nil true p rest e = absurd cc
+  none_kept_of_nil false p rest e = (refl, e)
 
-  last_missing : (p : Option ℕ × Answered A E) (rest : List (Option ℕ × Answered A E)) → LastKept (is_kept keeps) (p ∷ rest) → kept keeps (p ∷ rest) ≡ [] → ⊥
-  last_missing p [] last e = let h = (none_kept (is_kept keeps p) p [] e).0 in let d : true ≡ false = cc in cc
-  last_missing p (q ∷ rest) last e = last_missing q rest last (none_kept (is_kept keeps p) p (filter (is_kept keeps) (q ∷ rest)) e).1
+  last_kept_never_nil : (p : Option ℕ × Answered A E) (rest : List (Option ℕ × Answered A E)) → LastKept (is_kept keeps) (p ∷ rest) → kept keeps (p ∷ rest) ≡ [] → ⊥
+  last_kept_never_nil p [] last e = let h = (none_kept_of_nil (is_kept keeps p) p [] e).0 in let d : true ≡ false = cc in cc
+  last_kept_never_nil p (q ∷ rest) last e = last_kept_never_nil q rest last (none_kept_of_nil (is_kept keeps p) p (filter (is_kept keeps) (q ∷ rest)) e).1
 
-  pub last_tail : (p : Option ℕ × Answered A E) (rest : List (Option ℕ × Answered A E)) → LastKept (is_kept keeps) (p ∷ rest) → LastKept (is_kept keeps) rest
-  last_tail p [] last = tt
-  last_tail p (q ∷ rest) last = last
+  pub last_kept_tail : (p : Option ℕ × Answered A E) (rest : List (Option ℕ × Answered A E)) → LastKept (is_kept keeps) (p ∷ rest) → LastKept (is_kept keeps) rest
+  last_kept_tail p [] last = tt
+  last_kept_tail p (q ∷ rest) last = last
 
   -- where none is kept, there is none
-  pub no_answers : (source : List (Answered A E)) (k : ℕ) → LastKept (is_kept keeps) (with_numbers k source) → kept keeps (with_numbers k source) ≡ [] → source ≡ []
-  no_answers [] k last e = refl
-  no_answers (Ok (Some x) ∷ source) k last e = absurd (last_missing (Some k, item x) (with_numbers (k + 1) source) last e)
-  no_answers (Ok None ∷ source) k last e = absurd (last_missing (None, end) (with_numbers k source) last e)
-  no_answers (Err d ∷ source) k last e = absurd (last_missing (None, failure d) (with_numbers k source) last e)
+  pub source_nil_of_no_answers : (source : List (Answered A E)) (k : ℕ) → LastKept (is_kept keeps) (with_numbers k source) → kept keeps (with_numbers k source) ≡ [] → source ≡ []
+  source_nil_of_no_answers [] k last e = refl
+  source_nil_of_no_answers (Ok (Some x) ∷ source) k last e = absurd (last_kept_never_nil (Some k, item x) (with_numbers (k + 1) source) last e)
+  source_nil_of_no_answers (Ok None ∷ source) k last e = absurd (last_kept_never_nil (None, end) (with_numbers k source) last e)
+  source_nil_of_no_answers (Err d ∷ source) k last e = absurd (last_kept_never_nil (None, failure d) (with_numbers k source) last e)
 
 module _ {S A E : Type 0} (m : Contract S A E) (keeps : ℕ → Bool) (l : Lawful m) where
   -- the answer was the last one drawn
-  goes_last : (source : List (Answered A E)) (k : ℕ) (s u t : S) (r q : Answered A E) → m.can_next s → m.steps s q u → Run m.steps u source t → r ∷ [] ≡ q ∷ kept keeps (with_numbers k source) → LastKept (is_kept keeps) (with_numbers k source) → KeptByDraw m s r t
-  goes_last source k s u t r q c step ran e last =
+  kept_by_draw_last : (source : List (Answered A E)) (k : ℕ) (s u t : S) (r q : Answered A E) → m.can_next s → m.steps s q u → Run m.steps u source t → r ∷ [] ≡ q ∷ kept keeps (with_numbers k source) → LastKept (is_kept keeps) (with_numbers k source) → KeptByDraw m s r t
+  kept_by_draw_last source k s u t r q c step ran e last =
       let same : q ≡ r = cc in
       let none : kept keeps (with_numbers k source) ≡ [] = cc in
-      let at : u ≡ t = rw (no_answers keeps source k last none) at ran in
+      let at : u ≡ t = rw (source_nil_of_no_answers keeps source k last none) at ran in
       subst (λ (v : S). KeptByDraw m s r v) at (subst (λ (z : Answered A E). KeptByDraw m s z u) same (l.kept_by_draw s q u c step))
 
-  goes_kept : (source : List (Answered A E)) (k : ℕ) (s t : S) (r : Answered A E) → m.can_next s → Run m.steps s source t → r ∷ [] ≡ kept keeps (with_numbers k source) → LastKept (is_kept keeps) (with_numbers k source) → KeptByDraw m s r t
-  goes_kept [] k s t r c ran e last = absurd cc
-  goes_kept (Ok (Some x) ∷ source) k s t r c ran e last = elim (cases_Bool (keeps k)) [
-    | inl h ↦ goes_last source (k + 1) s ran.0 t r (item x) c ran.1 ran.2 (rw h at e) (last_tail keeps (Some k, item x) (with_numbers (k + 1) source) last)
-    | inr h ↦ let a = l.kept_by_draw s (item x) ran.0 c ran.1 in goes_later (kept_after a) (goes_kept source (k + 1) ran.0 t r a.can_next ran.2 (rw h at e) (last_tail keeps (Some k, item x) (with_numbers (k + 1) source) last))
+  kept_by_draw_at_kept : (source : List (Answered A E)) (k : ℕ) (s t : S) (r : Answered A E) → m.can_next s → Run m.steps s source t → r ∷ [] ≡ kept keeps (with_numbers k source) → LastKept (is_kept keeps) (with_numbers k source) → KeptByDraw m s r t
+  kept_by_draw_at_kept [] k s t r c ran e last = absurd cc
+  kept_by_draw_at_kept (Ok (Some x) ∷ source) k s t r c ran e last = elim (cases_Bool (keeps k)) [
+    | inl h ↦ kept_by_draw_last source (k + 1) s ran.0 t r (item x) c ran.1 ran.2 (rw h at e) (last_kept_tail keeps (Some k, item x) (with_numbers (k + 1) source) last)
+    | inr h ↦ let a = l.kept_by_draw s (item x) ran.0 c ran.1 in kept_by_draw_after (kept_by_draws_after a) (kept_by_draw_at_kept source (k + 1) ran.0 t r a.can_next ran.2 (rw h at e) (last_kept_tail keeps (Some k, item x) (with_numbers (k + 1) source) last))
   ]
-  goes_kept (Ok None ∷ source) k s t r c ran e last = goes_last source k s ran.0 t r end c ran.1 ran.2 e (last_tail keeps (None, end) (with_numbers k source) last)
-  goes_kept (Err d ∷ source) k s t r c ran e last = goes_last source k s ran.0 t r (failure d) c ran.1 ran.2 e (last_tail keeps (None, failure d) (with_numbers k source) last)
+  kept_by_draw_at_kept (Ok None ∷ source) k s t r c ran e last = kept_by_draw_last source k s ran.0 t r end c ran.1 ran.2 e (last_kept_tail keeps (None, end) (with_numbers k source) last)
+  kept_by_draw_at_kept (Err d ∷ source) k s t r c ran e last = kept_by_draw_last source k s ran.0 t r (failure d) c ran.1 ran.2 e (last_kept_tail keeps (None, failure d) (with_numbers k source) last)
 
   -- one answer that is kept goes as a draw with that answer goes
-  pub goes_by_number : (to_skip_after : ℕ → ℕ) (s t : S) (r : Answered A E) (to_skip : ℕ) → m.can_next s → KeptByNumber keeps to_skip_after m.steps s (r ∷ []) t to_skip → KeptByDraw m s r t
-  goes_by_number to_skip_after s t r to_skip c h = goes_kept h.source_trace 1 s t r c h.drawn h.answers h.last_kept
+  pub kept_by_draw_by_number : (to_skip_after : ℕ → ℕ) (s t : S) (r : Answered A E) (to_skip : ℕ) → m.can_next s → KeptByNumber keeps to_skip_after m.steps s (r ∷ []) t to_skip → KeptByDraw m s r t
+  kept_by_draw_by_number to_skip_after s t r to_skip c h = kept_by_draw_at_kept h.source_trace 1 s t r c h.drawn h.answers h.last_kept

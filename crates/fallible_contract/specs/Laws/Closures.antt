@@ -5,30 +5,30 @@ use Rattle.std.proofs.Common.{refl, sym, subst}
 use Rattle.fallible_contract.specs.Closures.{Reaches, IsCallable, MayAnswer}
 
 -- turns over two lists, one after the other
-pub turns_then : {P A : Type 0} (R : P → A → P → Type 0) (xs ys : List A) (p q r : P) → FoldsTo R p xs q → FoldsTo R q ys r → FoldsTo R p (xs ++ ys) r
-turns_then R [] ys p q r e w = subst (λ z. FoldsTo R z ys r) (sym e) w
-turns_then R (x ∷ xs) ys p q r v w = (v.0, v.1, turns_then R xs ys v.0 q r v.2 w)
+pub folds_to_then : {P A : Type 0} (R : P → A → P → Type 0) (xs ys : List A) (p q r : P) → FoldsTo R p xs q → FoldsTo R q ys r → FoldsTo R p (xs ++ ys) r
+folds_to_then R [] ys p q r e w = subst (λ z. FoldsTo R z ys r) (sym e) w
+folds_to_then R (x ∷ xs) ys p q r v w = (v.0, v.1, folds_to_then R xs ys v.0 q r v.2 w)
 
-turns_weaken : {F X R : Type 0} (call : F → X → R → F → Type 0) (P Q : X → Type 0) → ((x : X) → P x → Q x) → (made : List (X × R)) (f g : F) → FoldsTo (λ p c q. P c.0 × call p c.0 c.1 q) f made g → FoldsTo (λ p c q. Q c.0 × call p c.0 c.1 q) f made g
-turns_weaken call P Q h [] f g w = w
-turns_weaken call P Q h (c ∷ made) f g w = (w.0, (h c.0 w.1.0, w.1.1), turns_weaken call P Q h made w.0 g w.2)
+folds_to_weaken : {F X R : Type 0} (call : F → X → R → F → Type 0) (P Q : X → Type 0) → ((x : X) → P x → Q x) → (made : List (X × R)) (f g : F) → FoldsTo (λ p c q. P c.0 × call p c.0 c.1 q) f made g → FoldsTo (λ p c q. Q c.0 × call p c.0 c.1 q) f made g
+folds_to_weaken call P Q h [] f g w = w
+folds_to_weaken call P Q h (c ∷ made) f g w = (w.0, (h c.0 w.1.0, w.1.1), folds_to_weaken call P Q h made w.0 g w.2)
 
 module _ {F X R : Type 0} {call : F → X → R → F → Type 0} where
   pub reaches_here : {P : X → Type 0} {f : F} → Reaches call P f f
   reaches_here = record { made = []; by = refl }
 
   pub reaches_weaken : {P Q : X → Type 0} {f g : F} → ((x : X) → P x → Q x) → Reaches call P f g → Reaches call Q f g
-  reaches_weaken {P} {Q} {f} {g} h r = record { made = r.made; by = turns_weaken call P Q h r.made f g r.by }
+  reaches_weaken {P} {Q} {f} {g} h r = record { made = r.made; by = folds_to_weaken call P Q h r.made f g r.by }
 
   pub reaches_then : {P : X → Type 0} {f g h : F} → Reaches call P f g → Reaches call P g h → Reaches call P f h
-  reaches_then {P} {f} {g} {h} r s = record { made = r.made ++ s.made; by = turns_then _ r.made s.made f g h r.by s.by }
+  reaches_then {P} {f} {g} {h} r s = record { made = r.made ++ s.made; by = folds_to_then _ r.made s.made f g h r.by s.by }
 
   -- one more call, before the others
   pub reaches_from : {P : X → Type 0} {f g h : F} (x : X) (v : R) → P x → call f x v g → Reaches call P g h → Reaches call P f h
   reaches_from {P} {f} {g} {h} x v given called r = record { made = (x, v) ∷ r.made; by = (g, (given, called), r.by) }
 
-  pub callable_after : {pre : F → X → Type 0} {P Q : X → Type 0} {f g : F} → ((x : X) → Q x → P x) → Reaches call P f g → IsCallable call pre P f → IsCallable call pre Q g
-  callable_after h r c = record { at = λ k x s q. c.at k x (reaches_then r (reaches_weaken h s)) (h x q) }
+  pub is_callable_after : {pre : F → X → Type 0} {P Q : X → Type 0} {f g : F} → ((x : X) → Q x → P x) → Reaches call P f g → IsCallable call pre P f → IsCallable call pre Q g
+  is_callable_after h r c = record { at = λ k x s q. c.at k x (reaches_then r (reaches_weaken h s)) (h x q) }
 
 module _ {F X R : Type 0} {call : F → X → R → F → Type 0} {P : X → Type 0} {f : F} {Q : X → R → Type 0} where
   -- what may be returned after calls may be returned

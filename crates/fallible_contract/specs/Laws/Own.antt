@@ -7,14 +7,14 @@ use Rattle.fallible_contract.specs.Contract.{Contract, OnAnswer, KeptByDraw, Kep
 use Rattle.fallible_contract.specs.Lists.{AlwaysGives, Lists}
 use Rattle.fallible_contract.specs.Passing.{IfItem}
 use Rattle.fallible_contract.specs.Own.{LowersAtItem, LowersAtAnswer, bounded_by, bounded_with_failures, giving, items_and_failures_in, Gathers, MayCome, AllCome, MadeOfComing, gathering}
-use Rattle.fallible_contract.specs.Laws.Contract.{kept_after, kept_run}
+use Rattle.fallible_contract.specs.Laws.Contract.{kept_by_draws_after, kept_by_draws_run}
 
 -- ---- a source of which each step says more
 
 module _ {S A E : Type 0} (steps more : S → Answered A E → S → Type 0) where
-  gives_narrowed : (s : S) (l : List (Result A E)) → AlwaysGives steps s l → AlwaysGives (λ s r t. steps s r t × more s r t) s l
-  gives_narrowed s [] i = λ r t w. i r t w.0
-  gives_narrowed s (y ∷ l) i = λ r t w. let h = i r t w.0 in (h.0, gives_narrowed t l h.1)
+  always_gives_narrowed : (s : S) (l : List (Result A E)) → AlwaysGives steps s l → AlwaysGives (λ s r t. steps s r t × more s r t) s l
+  always_gives_narrowed s [] i = λ r t w. i r t w.0
+  always_gives_narrowed s (y ∷ l) i = λ r t w. let h = i r t w.0 in (h.0, always_gives_narrowed t l h.1)
 
 -- ---- a source that knows how many are left
 
@@ -23,8 +23,8 @@ module _ {S A E : Type 0} (m : Contract S A E) (left : S → ℕ) (lowers : Answ
   abbrev B : Contract S A E
   B = record m { steps = λ s r t. m.steps s r t × lowers r (left s) (left t); bound = λ s n. left s ≤ n; is_finite = λ _. ⊤; remaining = remains }
 
-  goes_bounded : (s t : S) (r : Answered A E) → KeptByDraw m s r t → OnAnswer B s r t → KeptByDraw B s r t
-  goes_bounded s t r g answer = record {
+  kept_by_draw_bounded : (s t : S) (r : Answered A E) → KeptByDraw m s r t → OnAnswer B s r t → KeptByDraw B s r t
+  kept_by_draw_bounded s t r g answer = record {
     can_next = g.can_next;
     is_finite = λ f. tt;
     answer = answer;
@@ -35,67 +35,67 @@ module _ {S A E : Type 0} (m : Contract S A E) (left : S → ℕ) (lowers : Answ
 
   lawful_bounded : ((s t : S) (r : Answered A E) → lowers r (left s) (left t) → OnAnswer m s r t → OnAnswer B s r t) → Lawful m → Lawful B
   lawful_bounded answers l = record {
-    kept_by_draw = λ s r t c step. let g = l.kept_by_draw s r t c step.0 in goes_bounded s t r g (answers s t r step.1 g.answer);
+    kept_by_draw = λ s r t c step. let g = l.kept_by_draw s r t c step.0 in kept_by_draw_bounded s t r g (answers s t r step.1 g.answer);
     bounded = λ s. ((λ f. (left s, omega arith)), (λ n. tt));
   }
 
 module _ {S A E : Type 0} (m : Contract S A E) (left : S → ℕ) where
-  answer_bounded_by : (s t : S) (r : Answered A E) → LowersAtItem r (left s) (left t) → OnAnswer m s r t → OnAnswer (bounded_by left m) s r t
-  answer_bounded_by s t (Ok (Some x)) lower a = (a.0, (λ n b. (left t, omega arith, omega (arith, lower, b))), a.2)
-  answer_bounded_by s t (Ok None) lower a = ((λ n b. (left t, omega arith, omega (arith, lower, b))), a.1)
-  answer_bounded_by s t (Err e) lower a = (a.0, (λ n b. (left t, omega arith, omega (arith, lower, b))), a.2)
+  on_answer_bounded : (s t : S) (r : Answered A E) → LowersAtItem r (left s) (left t) → OnAnswer m s r t → OnAnswer (bounded_by left m) s r t
+  on_answer_bounded s t (Ok (Some x)) lower a = (a.0, (λ n b. (left t, omega arith, omega (arith, lower, b))), a.2)
+  on_answer_bounded s t (Ok None) lower a = ((λ n b. (left t, omega arith, omega (arith, lower, b))), a.1)
+  on_answer_bounded s t (Err e) lower a = (a.0, (λ n b. (left t, omega arith, omega (arith, lower, b))), a.2)
 
-  answer_with_failures : (s t : S) (r : Answered A E) → LowersAtAnswer r (left s) (left t) → OnAnswer m s r t → OnAnswer (bounded_with_failures left m) s r t
-  answer_with_failures s t (Ok (Some x)) lower a = (a.0, (λ n b. (left t, omega arith, omega (arith, lower, b))), (λ f. (tt, omega (arith, lower))))
-  answer_with_failures s t (Ok None) lower a = ((λ n b. (left t, omega arith, omega (arith, lower, b))), (λ f. (tt, omega (arith, lower))))
-  answer_with_failures s t (Err e) lower a = (a.0, (λ n b. (left t, omega arith, omega (arith, lower, b))), (λ f. (tt, omega (arith, lower))))
+  on_answer_with_failures : (s t : S) (r : Answered A E) → LowersAtAnswer r (left s) (left t) → OnAnswer m s r t → OnAnswer (bounded_with_failures left m) s r t
+  on_answer_with_failures s t (Ok (Some x)) lower a = (a.0, (λ n b. (left t, omega arith, omega (arith, lower, b))), (λ f. (tt, omega (arith, lower))))
+  on_answer_with_failures s t (Ok None) lower a = ((λ n b. (left t, omega arith, omega (arith, lower, b))), (λ f. (tt, omega (arith, lower))))
+  on_answer_with_failures s t (Err e) lower a = (a.0, (λ n b. (left t, omega arith, omega (arith, lower, b))), (λ f. (tt, omega (arith, lower))))
 
 pub lawful_bounded_by : {S A E : Type 0} {m : Contract S A E} (left : S → ℕ) → Lawful m → Lawful (bounded_by left m)
-lawful_bounded_by {m = m} left l = lawful_bounded m left LowersAtItem m.remaining (answer_bounded_by m left) l
+lawful_bounded_by {m = m} left l = lawful_bounded m left LowersAtItem m.remaining (on_answer_bounded m left) l
 
 pub lawful_bounded_with_failures : {S A E : Type 0} {m : Contract S A E} (left : S → ℕ) → Lawful m → Lawful (bounded_with_failures left m)
-lawful_bounded_with_failures {m = m} left l = lawful_bounded m left LowersAtAnswer (λ s. at_most (left s)) (answer_with_failures m left) l
+lawful_bounded_with_failures {m = m} left l = lawful_bounded m left LowersAtAnswer (λ s. at_most (left s)) (on_answer_with_failures m left) l
 
 -- each lists what m does
 pub lists_bounded_by : {S A E : Type 0} (m : Contract S A E) {s : S} {l : List (Result A E)} (left : S → ℕ) → Lists m.steps s l → Lists (bounded_by left m).steps s l
-lists_bounded_by m {s = s} {l = l} left i = record { runs = gives_narrowed m.steps (λ s r t. LowersAtItem r (left s) (left t)) s l i.runs }
+lists_bounded_by m {s = s} {l = l} left i = record { runs = always_gives_narrowed m.steps (λ s r t. LowersAtItem r (left s) (left t)) s l i.runs }
 
 pub lists_bounded_with_failures : {S A E : Type 0} (m : Contract S A E) {s : S} {l : List (Result A E)} (left : S → ℕ) → Lists m.steps s l → Lists (bounded_with_failures left m).steps s l
-lists_bounded_with_failures m {s = s} {l = l} left i = record { runs = gives_narrowed m.steps (λ s r t. LowersAtAnswer r (left s) (left t)) s l i.runs }
+lists_bounded_with_failures m {s = s} {l = l} left i = record { runs = always_gives_narrowed m.steps (λ s r t. LowersAtAnswer r (left s) (left t)) s l i.runs }
 
 -- ---- a source that says which items come
 
 module _ {S A E : Type 0} (m : Contract S A E) (P : A → Type 0) where
-  answer_giving : (s t : S) (r : Answered A E) → IfItem P r → OnAnswer m s r t → OnAnswer (giving P m) s r t
-  answer_giving s t (Ok (Some x)) is a = ((a.0, is), a.1, a.2)
-  answer_giving s t (Ok None) is a = a
-  answer_giving s t (Err e) is a = a
+  on_answer_giving : (s t : S) (r : Answered A E) → IfItem P r → OnAnswer m s r t → OnAnswer (giving P m) s r t
+  on_answer_giving s t (Ok (Some x)) is a = ((a.0, is), a.1, a.2)
+  on_answer_giving s t (Ok None) is a = a
+  on_answer_giving s t (Err e) is a = a
 
-  goes_giving : (s t : S) (r : Answered A E) → IfItem P r → KeptByDraw m s r t → KeptByDraw (giving P m) s r t
-  goes_giving s t r is g = record {
+  kept_by_draw_giving : (s t : S) (r : Answered A E) → IfItem P r → KeptByDraw m s r t → KeptByDraw (giving P m) s r t
+  kept_by_draw_giving s t r is g = record {
     can_next = g.can_next;
     is_finite = g.is_finite;
-    answer = answer_giving s t r is g.answer;
+    answer = on_answer_giving s t r is g.answer;
     may_give = λ x h. (g.may_give x h.0, h.1);
     may_fail = g.may_fail;
     lenders = g.lenders;
   }
 
 pub lawful_giving : {S A E : Type 0} {m : Contract S A E} (P : A → Type 0) → Lawful m → Lawful (giving P m)
-lawful_giving {m = m} P l = record { kept_by_draw = λ s r t c step. goes_giving m P s t r step.1 (l.kept_by_draw s r t c step.0); bounded = l.bounded }
+lawful_giving {m = m} P l = record { kept_by_draw = λ s r t c step. kept_by_draw_giving m P s t r step.1 (l.kept_by_draw s r t c step.0); bounded = l.bounded }
 
 -- m, with what is known of its items besides, lists what m does
 pub lists_giving : {S A E : Type 0} (m : Contract S A E) {s : S} {l : List (Result A E)} (P : A → Type 0) → Lists m.steps s l → Lists (giving P m).steps s l
-lists_giving m {s = s} {l = l} P i = record { runs = gives_narrowed m.steps (λ _ r _. IfItem P r) s l i.runs }
+lists_giving m {s = s} {l = l} P i = record { runs = always_gives_narrowed m.steps (λ _ r _. IfItem P r) s l i.runs }
 
 -- ---- what several draws lower
 
 -- a failure counts besides the items
-items_most : {A E : Type 0} (trace : List (Answered A E)) → items_in trace ≤ items_and_failures_in trace
-items_most [] = omega arith
-items_most (Ok (Some x) ∷ rest) = let k = items_most rest in omega (arith, k)
-items_most (Ok None ∷ rest) = let k = items_most rest in omega (arith, k)
-items_most (Err e ∷ rest) = let k = items_most rest in omega (arith, k)
+items_in_at_most : {A E : Type 0} (trace : List (Answered A E)) → items_in trace ≤ items_and_failures_in trace
+items_in_at_most [] = omega arith
+items_in_at_most (Ok (Some x) ∷ rest) = let k = items_in_at_most rest in omega (arith, k)
+items_in_at_most (Ok None ∷ rest) = let k = items_in_at_most rest in omega (arith, k)
+items_in_at_most (Err e ∷ rest) = let k = items_in_at_most rest in omega (arith, k)
 
 module _ {P A E : Type 0} (m : Contract P A E) where
   bound_lowered : (s t u : P) (r : Answered A E) (rest : List (Answered A E)) → OnAnswer m s r t → ((n : ℕ) → m.bound t n → (k : ℕ) × m.bound u k × (k + items_in rest ≤ n)) → (n : ℕ) → m.bound s n → (k : ℕ) × m.bound u k × (k + items_in (r ∷ rest) ≤ n)
@@ -108,66 +108,66 @@ module _ {P A E : Type 0} (m : Contract P A E) where
   lowers_bound l s [] t c ran n b = (n, subst (λ (u : P). m.bound u n) ran b, omega arith)
   lowers_bound l s (r ∷ rest) t c ran n b = let g = l.kept_by_draw s r ran.0 c ran.1 in bound_lowered s ran.0 t r rest g.answer (lowers_bound l ran.0 rest t g.can_next ran.2) n b
 
-  remaining_lowered : (s t u : P) (r : Answered A E) (rest : List (Answered A E)) → OnAnswer m s r t → (IsFinite (m.remaining t) → IsFinite (m.remaining u) × (size (m.remaining u) + items_and_failures_in rest ≤ size (m.remaining t))) → IsFinite (m.remaining s) → IsFinite (m.remaining u) × (size (m.remaining u) + items_and_failures_in (r ∷ rest) ≤ size (m.remaining s))
-  remaining_lowered s t u (Ok (Some x)) rest a then f = let j = a.2 f in let k = then j.0 in (k.0, omega (arith, j.1, k.1))
-  remaining_lowered s t u (Ok None) rest a then f = let j = a.1 f in let k = then j.0 in (k.0, omega (arith, j.1, k.1))
-  remaining_lowered s t u (Err e) rest a then f = let j = a.2 f in let k = then j.0 in (k.0, omega (arith, j.1, k.1))
+  remaining_is_finite_after : (s t u : P) (r : Answered A E) (rest : List (Answered A E)) → OnAnswer m s r t → (IsFinite (m.remaining t) → IsFinite (m.remaining u) × (size (m.remaining u) + items_and_failures_in rest ≤ size (m.remaining t))) → IsFinite (m.remaining s) → IsFinite (m.remaining u) × (size (m.remaining u) + items_and_failures_in (r ∷ rest) ≤ size (m.remaining s))
+  remaining_is_finite_after s t u (Ok (Some x)) rest a then f = let j = a.2 f in let k = then j.0 in (k.0, omega (arith, j.1, k.1))
+  remaining_is_finite_after s t u (Ok None) rest a then f = let j = a.1 f in let k = then j.0 in (k.0, omega (arith, j.1, k.1))
+  remaining_is_finite_after s t u (Err e) rest a then f = let j = a.2 f in let k = then j.0 in (k.0, omega (arith, j.1, k.1))
 
   -- each item and each failure drawn lowers by one what remains
-  pub lowers_remaining : Lawful m → (s : P) (trace : List (Answered A E)) (t : P) → m.can_next s → Run m.steps s trace t → IsFinite (m.remaining s) → IsFinite (m.remaining t) × (size (m.remaining t) + items_and_failures_in trace ≤ size (m.remaining s))
-  lowers_remaining l s [] t c ran f = subst (λ (u : P). IsFinite (m.remaining u) × (size (m.remaining u) + 0 ≤ size (m.remaining s))) ran (f, omega arith)
-  lowers_remaining l s (r ∷ rest) t c ran f = let g = l.kept_by_draw s r ran.0 c ran.1 in remaining_lowered s ran.0 t r rest g.answer (lowers_remaining l ran.0 rest t g.can_next ran.2) f
+  pub remaining_is_finite_of_run : Lawful m → (s : P) (trace : List (Answered A E)) (t : P) → m.can_next s → Run m.steps s trace t → IsFinite (m.remaining s) → IsFinite (m.remaining t) × (size (m.remaining t) + items_and_failures_in trace ≤ size (m.remaining s))
+  remaining_is_finite_of_run l s [] t c ran f = subst (λ (u : P). IsFinite (m.remaining u) × (size (m.remaining u) + 0 ≤ size (m.remaining s))) ran (f, omega arith)
+  remaining_is_finite_of_run l s (r ∷ rest) t c ran f = let g = l.kept_by_draw s r ran.0 c ran.1 in remaining_is_finite_after s ran.0 t r rest g.answer (remaining_is_finite_of_run l ran.0 rest t g.can_next ran.2) f
 
-  came : (s t : P) (r : Answered A E) → OnAnswer m s r t → MayCome m s r
-  came s t (Ok (Some x)) a = a.0
-  came s t (Ok None) a = tt
-  came s t (Err e) a = a.0
+  may_come_at_draw : (s t : P) (r : Answered A E) → OnAnswer m s r t → MayCome m s r
+  may_come_at_draw s t (Ok (Some x)) a = a.0
+  may_come_at_draw s t (Ok None) a = tt
+  may_come_at_draw s t (Err e) a = a.0
 
-  comes_before : (s t : P) → KeptByDraws m s t → (r : Answered A E) → MayCome m t r → MayCome m s r
-  comes_before s t p (Ok (Some x)) h = p.may_give x h
-  comes_before s t p (Ok None) h = tt
-  comes_before s t p (Err e) h = p.may_fail e h
+  may_come_before : (s t : P) → KeptByDraws m s t → (r : Answered A E) → MayCome m t r → MayCome m s r
+  may_come_before s t p (Ok (Some x)) h = p.may_give x h
+  may_come_before s t p (Ok None) h = tt
+  may_come_before s t p (Err e) h = p.may_fail e h
 
-  pub all_before : (s t : P) → KeptByDraws m s t → (trace : List (Answered A E)) → AllCome m t trace → AllCome m s trace
-  all_before s t p [] h = tt
-  all_before s t p (r ∷ rest) h = (comes_before s t p r h.0, all_before s t p rest h.1)
+  pub all_come_before : (s t : P) → KeptByDraws m s t → (trace : List (Answered A E)) → AllCome m t trace → AllCome m s trace
+  all_come_before s t p [] h = tt
+  all_come_before s t p (r ∷ rest) h = (may_come_before s t p r h.0, all_come_before s t p rest h.1)
 
   -- each answer that was drawn was one to come
-  pub all_came : Lawful m → (s : P) (trace : List (Answered A E)) (t : P) → m.can_next s → Run m.steps s trace t → AllCome m s trace
-  all_came l s [] t c ran = tt
-  all_came l s (r ∷ rest) t c ran = let g = l.kept_by_draw s r ran.0 c ran.1 in (came s ran.0 r g.answer, all_before s ran.0 (kept_after g) rest (all_came l ran.0 rest t g.can_next ran.2))
+  pub all_come_of_run : Lawful m → (s : P) (trace : List (Answered A E)) (t : P) → m.can_next s → Run m.steps s trace t → AllCome m s trace
+  all_come_of_run l s [] t c ran = tt
+  all_come_of_run l s (r ∷ rest) t c ran = let g = l.kept_by_draw s r ran.0 c ran.1 in (may_come_at_draw s ran.0 r g.answer, all_come_before s ran.0 (kept_by_draws_after g) rest (all_come_of_run l ran.0 rest t g.can_next ran.2))
 
 -- ---- an adapter that takes several items for an answer
 
 module _ {S P A E B F : Type 0} (view : S → P) (made : List (Answered A E) → Answered B F → Type 0) (m : Contract P A E) where
-  abbrev G : Contract S B F
-  G = gathering view made m
+  abbrev GatheringHere : Contract S B F
+  GatheringHere = gathering view made m
 
-  answer_gathered : Lawful m → (s t : S) (r : Answered B F) → m.can_next (view s) → Gathers m.steps made (view s) r (view t) → OnAnswer G s r t
-  answer_gathered l s t (Ok (Some y)) c h = (
-    record { taken = h.taken; coming = all_came m l (view s) h.taken (view t) c h.drawn; answers = h.answers },
+  on_answer_gathered : Lawful m → (s t : S) (r : Answered B F) → m.can_next (view s) → Gathers m.steps made (view s) r (view t) → OnAnswer GatheringHere s r t
+  on_answer_gathered l s t (Ok (Some y)) c h = (
+    record { taken = h.taken; coming = all_come_of_run m l (view s) h.taken (view t) c h.drawn; answers = h.answers },
     (λ n b. let k = lowers_bound m l (view s) h.taken (view t) c h.drawn n b in (k.0, k.1, let enough = h.enough in omega (arith, k.2, enough))),
-    (λ f. let k = lowers_remaining m l (view s) h.taken (view t) c h.drawn f in (k.0, let enough = h.enough in let most = items_most h.taken in omega (arith, k.1, enough, most))),
+    (λ f. let k = remaining_is_finite_of_run m l (view s) h.taken (view t) c h.drawn f in (k.0, let enough = h.enough in let most = items_in_at_most h.taken in omega (arith, k.1, enough, most))),
   )
-  answer_gathered l s t (Ok None) c h = let k = kept_run l (view s) h.taken (view t) c h.drawn in (k.bound, k.remaining)
-  answer_gathered l s t (Err e) c h = (
-    record { taken = h.taken; coming = all_came m l (view s) h.taken (view t) c h.drawn; answers = h.answers },
-    (kept_run l (view s) h.taken (view t) c h.drawn).bound,
-    (λ f. let k = lowers_remaining m l (view s) h.taken (view t) c h.drawn f in (k.0, let enough = h.enough in omega (arith, k.1, enough))),
+  on_answer_gathered l s t (Ok None) c h = let k = kept_by_draws_run l (view s) h.taken (view t) c h.drawn in (k.bound, k.remaining)
+  on_answer_gathered l s t (Err e) c h = (
+    record { taken = h.taken; coming = all_come_of_run m l (view s) h.taken (view t) c h.drawn; answers = h.answers },
+    (kept_by_draws_run l (view s) h.taken (view t) c h.drawn).bound,
+    (λ f. let k = remaining_is_finite_of_run m l (view s) h.taken (view t) c h.drawn f in (k.0, let enough = h.enough in omega (arith, k.1, enough))),
   )
 
-  made_before : (s t : S) (r : Answered B F) → KeptByDraws m (view s) (view t) → MadeOfComing m (view t) made r → MadeOfComing m (view s) made r
-  made_before s t r p h = record { taken = h.taken; coming = all_before m (view s) (view t) p h.taken h.coming; answers = h.answers }
+  made_of_coming_before : (s t : S) (r : Answered B F) → KeptByDraws m (view s) (view t) → MadeOfComing m (view t) made r → MadeOfComing m (view s) made r
+  made_of_coming_before s t r p h = record { taken = h.taken; coming = all_come_before m (view s) (view t) p h.taken h.coming; answers = h.answers }
 
-  goes_gathered : Lawful m → (s t : S) (r : Answered B F) → m.can_next (view s) → Gathers m.steps made (view s) r (view t) → KeptByDraw G s r t
-  goes_gathered l s t r c h = let k = kept_run l (view s) h.taken (view t) c h.drawn in record {
+  kept_by_draw_gathered : Lawful m → (s t : S) (r : Answered B F) → m.can_next (view s) → Gathers m.steps made (view s) r (view t) → KeptByDraw GatheringHere s r t
+  kept_by_draw_gathered l s t r c h = let k = kept_by_draws_run l (view s) h.taken (view t) c h.drawn in record {
     can_next = k.can_next;
     is_finite = k.is_finite;
-    answer = answer_gathered l s t r c h;
-    may_give = λ y g. made_before s t (Ok (Some y)) k g;
-    may_fail = λ e g. made_before s t (Err e) k g;
+    answer = on_answer_gathered l s t r c h;
+    may_give = λ y g. made_of_coming_before s t (Ok (Some y)) k g;
+    may_fail = λ e g. made_of_coming_before s t (Err e) k g;
     lenders = k.lenders;
   }
 
 pub lawful_gathering : {S P A E B F : Type 0} {m : Contract P A E} (view : S → P) (made : List (Answered A E) → Answered B F → Type 0) → Lawful m → Lawful (gathering view made m)
-lawful_gathering {m = m} view made l = record { kept_by_draw = λ s r t c h. goes_gathered view made m l s t r c h; bounded = λ s. l.bounded (view s) }
+lawful_gathering {m = m} view made l = record { kept_by_draw = λ s r t c h. kept_by_draw_gathered view made m l s t r c h; bounded = λ s. l.bounded (view s) }

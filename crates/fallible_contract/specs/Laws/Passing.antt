@@ -6,7 +6,7 @@ use Rattle.fallible_contract.specs.Traces.{LastKept, Answered, Run, item}
 use Rattle.fallible_contract.specs.Contract.{Contract, OnAnswer, KeptByDraw, KeptByDraws, Lawful}
 use Rattle.fallible_contract.specs.Passing.{PassTrace, passing_contract, leaving_out_contract, Place, asked, failure_at, end_at, source_answer, call_of, outcome_answer, answer_at, has_answer}
 use Rattle.fallible_contract.specs.Closures.{Calls, Reaches}
-use Rattle.fallible_contract.specs.Laws.Contract.{kept_run}
+use Rattle.fallible_contract.specs.Laws.Contract.{kept_by_draws_run}
 use Rattle.fallible_contract.specs.Laws.Closures.{reaches_here, reaches_weaken, reaches_from, may_answer_here, may_answer_after}
 use Rattle.fallible_contract.specs.declared.passing.Outcome.{Outcome}
 use Rattle.fallible_contract.specs.declared.passing.Outcome.TheVariants.{Kept, LeftOut, Failure, End}
@@ -23,17 +23,17 @@ module _ {S F X R B E : Type 0} (steps : S → Answered X E → S → Type 0) (c
     leaves_out : {s u t : S} {f h g : F} {r : Answered B E} {trace : List (Answered B E)} (x : X) (v : R) → steps s (item x) u → call f x v h → outcome x v ≡ LeftOut → Passes u h (r ∷ trace) t g → Passes s f (r ∷ trace) t g
 
 module _ {X R B E : Type 0} (outcome : X → R → Outcome B E) where
-  pub kept_tail : (p : Place X R E) (rest : List (Place X R E)) → LastKept (has_answer outcome) (p ∷ rest) → LastKept (has_answer outcome) rest
-  kept_tail p [] h = tt
-  kept_tail p (q ∷ rest) h = h
+  pub last_kept_tail : (p : Place X R E) (rest : List (Place X R E)) → LastKept (has_answer outcome) (p ∷ rest) → LastKept (has_answer outcome) rest
+  last_kept_tail p [] h = tt
+  last_kept_tail p (q ∷ rest) h = h
 
-  pub kept_cons : (p : Place X R E) (rest : List (Place X R E)) → IsSome (answer_at outcome p) → LastKept (has_answer outcome) rest → LastKept (has_answer outcome) (p ∷ rest)
-  kept_cons p [] some h = some
-  kept_cons p (q ∷ rest) some h = h
+  pub last_kept_cons : (p : Place X R E) (rest : List (Place X R E)) → IsSome (answer_at outcome p) → LastKept (has_answer outcome) rest → LastKept (has_answer outcome) (p ∷ rest)
+  last_kept_cons p [] some h = some
+  last_kept_cons p (q ∷ rest) some h = h
 
-  pub kept_before : (p : Place X R E) (rest : List (Place X R E)) (r : Answered B E) (trace : List (Answered B E)) → r ∷ trace ≡ filter_map (answer_at outcome) rest → LastKept (has_answer outcome) rest → LastKept (has_answer outcome) (p ∷ rest)
-  kept_before p [] r trace e h = absurd cc
-  kept_before p (q ∷ rest) r trace e h = h
+  pub last_kept_before : (p : Place X R E) (rest : List (Place X R E)) (r : Answered B E) (trace : List (Answered B E)) → r ∷ trace ≡ filter_map (answer_at outcome) rest → LastKept (has_answer outcome) rest → LastKept (has_answer outcome) (p ∷ rest)
+  last_kept_before p [] r trace e h = absurd cc
+  last_kept_before p (q ∷ rest) r trace e h = h
 
   some_nonempty : (o : Option (Answered B E)) (rest : List (Answered B E)) → IsSome o → cons_option o rest ≡ [] → ⊥
   some_nonempty None rest h e = let h' : false ≡ true = h in cc
@@ -44,41 +44,41 @@ module _ {X R B E : Type 0} (outcome : X → R → Outcome B E) where
   cons_nonempty (Some r) rest h e = cc
 
   -- places that end kept have an answer
-  pub answered : (p : Place X R E) (rest : List (Place X R E)) → LastKept (has_answer outcome) (p ∷ rest) → filter_map (answer_at outcome) (p ∷ rest) ≡ [] → ⊥
-  answered p [] h e = some_nonempty (answer_at outcome p) [] h e
-  answered p (q ∷ rest) h e = cons_nonempty (answer_at outcome p) (filter_map (answer_at outcome) (q ∷ rest)) (answered q rest h) e
+  pub answers_never_nil : (p : Place X R E) (rest : List (Place X R E)) → LastKept (has_answer outcome) (p ∷ rest) → filter_map (answer_at outcome) (p ∷ rest) ≡ [] → ⊥
+  answers_never_nil p [] h e = some_nonempty (answer_at outcome p) [] h e
+  answers_never_nil p (q ∷ rest) h e = cons_nonempty (answer_at outcome p) (filter_map (answer_at outcome) (q ∷ rest)) (answers_never_nil q rest h) e
 
 module _ {S F X R B E : Type 0} {steps : S → Answered X E → S → Type 0} {call : F → X → R → F → Type 0} {outcome : X → R → Outcome B E} where
-  skip_first : {s u t : S} {f h g : F} (x : X) (v : R) (trace : List (Answered B E)) (p : Place X R E) (rest : List (Place X R E)) → steps s (item x) u → call f x v h → outcome x v ≡ LeftOut → trace ≡ filter_map (answer_at outcome) (p ∷ rest) → LastKept (has_answer outcome) (p ∷ rest) → Passes steps call outcome u h trace t g → Passes steps call outcome s f trace t g
-  skip_first x v [] p rest step called is e close h = absurd (answered outcome p rest close (sym e))
-  skip_first x v (r ∷ trace) p rest step called is e close h = leaves_out x v step called is h
+  passes_left_out : {s u t : S} {f h g : F} (x : X) (v : R) (trace : List (Answered B E)) (p : Place X R E) (rest : List (Place X R E)) → steps s (item x) u → call f x v h → outcome x v ≡ LeftOut → trace ≡ filter_map (answer_at outcome) (p ∷ rest) → LastKept (has_answer outcome) (p ∷ rest) → Passes steps call outcome u h trace t g → Passes steps call outcome s f trace t g
+  passes_left_out x v [] p rest step called is e close h = absurd (answers_never_nil outcome p rest close (sym e))
+  passes_left_out x v (r ∷ trace) p rest step called is e close h = leaves_out x v step called is h
 
   module _ {s u t : S} {f h g : F} (x : X) (v : R) (step : steps s (item x) u) (called : call f x v h) where
-    from_asked : (o : Outcome B E) → outcome x v ≡ o → (rest : List (Place X R E)) (trace : List (Answered B E)) → trace ≡ cons_option (outcome_answer o) (filter_map (answer_at outcome) rest) → LastKept (has_answer outcome) (asked x v ∷ rest)
+    last_kept_from_asked : (o : Outcome B E) → outcome x v ≡ o → (rest : List (Place X R E)) (trace : List (Answered B E)) → trace ≡ cons_option (outcome_answer o) (filter_map (answer_at outcome) rest) → LastKept (has_answer outcome) (asked x v ∷ rest)
         → Passes steps call outcome u h (filter_map (answer_at outcome) rest) t g → Passes steps call outcome s f trace t g
-    from_asked (Kept y) is rest trace e close rests = subst (λ (l : List (Answered B E)). Passes steps call outcome s f l t g) (sym e) (keeps x v y step called is rests)
-    from_asked (Failure d) is rest trace e close rests = subst (λ (l : List (Answered B E)). Passes steps call outcome s f l t g) (sym e) (refuses x v d step called is rests)
-    from_asked End is rest trace e close rests = subst (λ (l : List (Answered B E)). Passes steps call outcome s f l t g) (sym e) (closes x v step called is rests)
-    from_asked LeftOut is [] trace e close rests = absurd (let some : is_some (outcome_answer (outcome x v)) ≡ true = close in let none : is_some (outcome_answer {B = B} {E = E} LeftOut) ≡ true = subst (λ (o : Outcome B E). is_some (outcome_answer o) ≡ true) is some in cc)
-    from_asked LeftOut is (p ∷ rest) trace e close rests = subst (λ (l : List (Answered B E)). Passes steps call outcome s f l t g) (sym e) (skip_first x v (filter_map (answer_at outcome) (p ∷ rest)) p rest step called is refl close rests)
+    last_kept_from_asked (Kept y) is rest trace e close rests = subst (λ (l : List (Answered B E)). Passes steps call outcome s f l t g) (sym e) (keeps x v y step called is rests)
+    last_kept_from_asked (Failure d) is rest trace e close rests = subst (λ (l : List (Answered B E)). Passes steps call outcome s f l t g) (sym e) (refuses x v d step called is rests)
+    last_kept_from_asked End is rest trace e close rests = subst (λ (l : List (Answered B E)). Passes steps call outcome s f l t g) (sym e) (closes x v step called is rests)
+    last_kept_from_asked LeftOut is [] trace e close rests = absurd (let some : is_some (outcome_answer (outcome x v)) ≡ true = close in let none : is_some (outcome_answer {B = B} {E = E} LeftOut) ≡ true = subst (λ (o : Outcome B E). is_some (outcome_answer o) ≡ true) is some in cc)
+    last_kept_from_asked LeftOut is (p ∷ rest) trace e close rests = subst (λ (l : List (Answered B E)). Passes steps call outcome s f l t g) (sym e) (passes_left_out x v (filter_map (answer_at outcome) (p ∷ rest)) p rest step called is refl close rests)
 
-  from_places : (places : List (Place X R E)) (s : S) (f : F) (trace : List (Answered B E)) (t : S) (g : F) → Run steps s (map source_answer places) t → Calls call f (filter_map call_of places) g → trace ≡ filter_map (answer_at outcome) places → LastKept (has_answer outcome) places → Passes steps call outcome s f trace t g
-  from_places [] s f trace t g ran called e close = subst (λ (l : List (Answered B E)). Passes steps call outcome s f l t g) (sym e) (subst (λ (u : S). Passes steps call outcome s f [] u g) ran (subst (λ (h : F). Passes steps call outcome s f [] s h) called done))
-  from_places (failure_at d ∷ places) s f trace t g ran called e close = subst (λ (l : List (Answered B E)). Passes steps call outcome s f l t g) (sym e) (failure_passes d ran.1 (from_places places ran.0 f _ t g ran.2 called refl (kept_tail outcome (failure_at d) places close)))
-  from_places (end_at ∷ places) s f trace t g ran called e close = subst (λ (l : List (Answered B E)). Passes steps call outcome s f l t g) (sym e) (end_passes ran.1 (from_places places ran.0 f _ t g ran.2 called refl (kept_tail outcome end_at places close)))
-  from_places (asked x v ∷ places) s f trace t g ran called e close = from_asked x v ran.1 called.1 (outcome x v) refl places trace e close (from_places places ran.0 called.0 _ t g ran.2 called.2 refl (kept_tail outcome (asked x v) places close))
+  passes_from_places : (places : List (Place X R E)) (s : S) (f : F) (trace : List (Answered B E)) (t : S) (g : F) → Run steps s (map source_answer places) t → Calls call f (filter_map call_of places) g → trace ≡ filter_map (answer_at outcome) places → LastKept (has_answer outcome) places → Passes steps call outcome s f trace t g
+  passes_from_places [] s f trace t g ran called e close = subst (λ (l : List (Answered B E)). Passes steps call outcome s f l t g) (sym e) (subst (λ (u : S). Passes steps call outcome s f [] u g) ran (subst (λ (h : F). Passes steps call outcome s f [] s h) called done))
+  passes_from_places (failure_at d ∷ places) s f trace t g ran called e close = subst (λ (l : List (Answered B E)). Passes steps call outcome s f l t g) (sym e) (failure_passes d ran.1 (passes_from_places places ran.0 f _ t g ran.2 called refl (last_kept_tail outcome (failure_at d) places close)))
+  passes_from_places (end_at ∷ places) s f trace t g ran called e close = subst (λ (l : List (Answered B E)). Passes steps call outcome s f l t g) (sym e) (end_passes ran.1 (passes_from_places places ran.0 f _ t g ran.2 called refl (last_kept_tail outcome end_at places close)))
+  passes_from_places (asked x v ∷ places) s f trace t g ran called e close = last_kept_from_asked x v ran.1 called.1 (outcome x v) refl places trace e close (passes_from_places places ran.0 called.0 _ t g ran.2 called.2 refl (last_kept_tail outcome (asked x v) places close))
 
-  pub to_passes : {s t : S} {f g : F} {trace : List (Answered B E)} → PassTrace steps call outcome (s, f) trace (t, g) → Passes steps call outcome s f trace t g
-  to_passes {s} {t} {f} {g} {trace} p = from_places p.places s f trace t g p.drawn p.called p.answers p.last_kept
+  pub passes_of_pass_trace : {s t : S} {f g : F} {trace : List (Answered B E)} → PassTrace steps call outcome (s, f) trace (t, g) → Passes steps call outcome s f trace t g
+  passes_of_pass_trace {s} {t} {f} {g} {trace} p = passes_from_places p.places s f trace t g p.drawn p.called p.answers p.last_kept
 
-  pub from_passes : {s t : S} {f g : F} {trace : List (Answered B E)} → Passes steps call outcome s f trace t g → PassTrace steps call outcome (s, f) trace (t, g)
-  from_passes done = record { places = []; drawn = refl; called = refl; answers = refl; last_kept = tt }
-  from_passes (end_passes {u = u} step h) = let p = from_passes h in record { places = end_at ∷ p.places; drawn = (u, step, p.drawn); called = p.called; answers = ap (λ l. Ok None ∷ l) p.answers; last_kept = kept_cons outcome end_at p.places refl p.last_kept }
-  from_passes (failure_passes {u = u} e step h) = let p = from_passes h in record { places = failure_at e ∷ p.places; drawn = (u, step, p.drawn); called = p.called; answers = ap (λ l. Err e ∷ l) p.answers; last_kept = kept_cons outcome (failure_at e) p.places refl p.last_kept }
-  from_passes (keeps {u = u} {h = j} x v y step called is h) = let p = from_passes h in record { places = asked x v ∷ p.places; drawn = (u, step, p.drawn); called = (j, called, p.called); answers = rw is (ap (λ l. item y ∷ l) p.answers); last_kept = kept_cons outcome (asked x v) p.places (rw is refl) p.last_kept }
-  from_passes (refuses {u = u} {h = j} x v e step called is h) = let p = from_passes h in record { places = asked x v ∷ p.places; drawn = (u, step, p.drawn); called = (j, called, p.called); answers = rw is (ap (λ l. Err e ∷ l) p.answers); last_kept = kept_cons outcome (asked x v) p.places (rw is refl) p.last_kept }
-  from_passes (closes {u = u} {h = j} x v step called is h) = let p = from_passes h in record { places = asked x v ∷ p.places; drawn = (u, step, p.drawn); called = (j, called, p.called); answers = rw is (ap (λ l. Ok None ∷ l) p.answers); last_kept = kept_cons outcome (asked x v) p.places (rw is refl) p.last_kept }
-  from_passes (leaves_out {u = u} {h = j} {r = r} {trace = trace} x v step called is h) = let p = from_passes h in record { places = asked x v ∷ p.places; drawn = (u, step, p.drawn); called = (j, called, p.called); answers = rw is p.answers; last_kept = kept_before outcome (asked x v) p.places r trace p.answers p.last_kept }
+  pub pass_trace_of_passes : {s t : S} {f g : F} {trace : List (Answered B E)} → Passes steps call outcome s f trace t g → PassTrace steps call outcome (s, f) trace (t, g)
+  pass_trace_of_passes done = record { places = []; drawn = refl; called = refl; answers = refl; last_kept = tt }
+  pass_trace_of_passes (end_passes {u = u} step h) = let p = pass_trace_of_passes h in record { places = end_at ∷ p.places; drawn = (u, step, p.drawn); called = p.called; answers = ap (λ l. Ok None ∷ l) p.answers; last_kept = last_kept_cons outcome end_at p.places refl p.last_kept }
+  pass_trace_of_passes (failure_passes {u = u} e step h) = let p = pass_trace_of_passes h in record { places = failure_at e ∷ p.places; drawn = (u, step, p.drawn); called = p.called; answers = ap (λ l. Err e ∷ l) p.answers; last_kept = last_kept_cons outcome (failure_at e) p.places refl p.last_kept }
+  pass_trace_of_passes (keeps {u = u} {h = j} x v y step called is h) = let p = pass_trace_of_passes h in record { places = asked x v ∷ p.places; drawn = (u, step, p.drawn); called = (j, called, p.called); answers = rw is (ap (λ l. item y ∷ l) p.answers); last_kept = last_kept_cons outcome (asked x v) p.places (rw is refl) p.last_kept }
+  pass_trace_of_passes (refuses {u = u} {h = j} x v e step called is h) = let p = pass_trace_of_passes h in record { places = asked x v ∷ p.places; drawn = (u, step, p.drawn); called = (j, called, p.called); answers = rw is (ap (λ l. Err e ∷ l) p.answers); last_kept = last_kept_cons outcome (asked x v) p.places (rw is refl) p.last_kept }
+  pass_trace_of_passes (closes {u = u} {h = j} x v step called is h) = let p = pass_trace_of_passes h in record { places = asked x v ∷ p.places; drawn = (u, step, p.drawn); called = (j, called, p.called); answers = rw is (ap (λ l. Ok None ∷ l) p.answers); last_kept = last_kept_cons outcome (asked x v) p.places (rw is refl) p.last_kept }
+  pass_trace_of_passes (leaves_out {u = u} {h = j} {r = r} {trace = trace} x v step called is h) = let p = pass_trace_of_passes h in record { places = asked x v ∷ p.places; drawn = (u, step, p.drawn); called = (j, called, p.called); answers = rw is p.answers; last_kept = last_kept_before outcome (asked x v) p.places r trace p.answers p.last_kept }
 
 -- Calls on what comes leave callable what they were made on.
 abbrev pub StaysCallable : {F X R : Type 0} → (F → X → R → F → Type 0) → ((X → Type 0) → F → Type 0) → Type 1
@@ -90,41 +90,41 @@ module _ {S F X R B E : Type 0} (m : Contract S X E) (l : Lawful m) (call : F �
   abbrev P : S → F → List (Answered B E) → S → F → Type 0
   P = Passes m.steps call outcome
 
-  passes_keep : (s t : S) (f g : F) (trace : List (Answered B E)) → m.can_next s → P s f trace t g → KeptByDraws m s t
-  passes_keep s t f g trace c p = let q = from_passes p in kept_run l s (map source_answer q.places) t c q.drawn
+  kept_by_draws_passes : (s t : S) (f g : F) (trace : List (Answered B E)) → m.can_next s → P s f trace t g → KeptByDraws m s t
+  kept_by_draws_passes s t f g trace c p = let q = pass_trace_of_passes p in kept_by_draws_run l s (map source_answer q.places) t c q.drawn
 
-  passes_reaches : (s t : S) (f g : F) (trace : List (Answered B E)) → m.can_next s → P s f trace t g → Reaches call (m.may_give s) f g
-  passes_reaches s _ f _ _ c done = reaches_here
-  passes_reaches s t f g _ c (end_passes {u = u} step p) = let a = l.kept_by_draw s (Ok None) u c step in reaches_weaken a.may_give (passes_reaches u t f g _ a.can_next p)
-  passes_reaches s t f g _ c (failure_passes {u = u} e step p) = let a = l.kept_by_draw s (Err e) u c step in reaches_weaken a.may_give (passes_reaches u t f g _ a.can_next p)
-  passes_reaches s t f g _ c (keeps {u = u} {h = h} x v y step called is p) = let a = l.kept_by_draw s (item x) u c step in reaches_from x v a.answer.0 called (reaches_weaken a.may_give (passes_reaches u t h g _ a.can_next p))
-  passes_reaches s t f g _ c (refuses {u = u} {h = h} x v e step called is p) = let a = l.kept_by_draw s (item x) u c step in reaches_from x v a.answer.0 called (reaches_weaken a.may_give (passes_reaches u t h g _ a.can_next p))
-  passes_reaches s t f g _ c (closes {u = u} {h = h} x v step called is p) = let a = l.kept_by_draw s (item x) u c step in reaches_from x v a.answer.0 called (reaches_weaken a.may_give (passes_reaches u t h g _ a.can_next p))
-  passes_reaches s t f g _ c (leaves_out {u = u} {h = h} x v step called is p) = let a = l.kept_by_draw s (item x) u c step in reaches_from x v a.answer.0 called (reaches_weaken a.may_give (passes_reaches u t h g _ a.can_next p))
+  reaches_passes : (s t : S) (f g : F) (trace : List (Answered B E)) → m.can_next s → P s f trace t g → Reaches call (m.may_give s) f g
+  reaches_passes s _ f _ _ c done = reaches_here
+  reaches_passes s t f g _ c (end_passes {u = u} step p) = let a = l.kept_by_draw s (Ok None) u c step in reaches_weaken a.may_give (reaches_passes u t f g _ a.can_next p)
+  reaches_passes s t f g _ c (failure_passes {u = u} e step p) = let a = l.kept_by_draw s (Err e) u c step in reaches_weaken a.may_give (reaches_passes u t f g _ a.can_next p)
+  reaches_passes s t f g _ c (keeps {u = u} {h = h} x v y step called is p) = let a = l.kept_by_draw s (item x) u c step in reaches_from x v a.answer.0 called (reaches_weaken a.may_give (reaches_passes u t h g _ a.can_next p))
+  reaches_passes s t f g _ c (refuses {u = u} {h = h} x v e step called is p) = let a = l.kept_by_draw s (item x) u c step in reaches_from x v a.answer.0 called (reaches_weaken a.may_give (reaches_passes u t h g _ a.can_next p))
+  reaches_passes s t f g _ c (closes {u = u} {h = h} x v step called is p) = let a = l.kept_by_draw s (item x) u c step in reaches_from x v a.answer.0 called (reaches_weaken a.may_give (reaches_passes u t h g _ a.can_next p))
+  reaches_passes s t f g _ c (leaves_out {u = u} {h = h} x v step called is p) = let a = l.kept_by_draw s (item x) u c step in reaches_from x v a.answer.0 called (reaches_weaken a.may_give (reaches_passes u t h g _ a.can_next p))
 
   module _ (callable : (X → Type 0) → F → Type 0) (hints : S × F → ℕ × Option ℕ → Type 0) where
-    abbrev M : Contract (S × F) B E
-    M = passing_contract m call callable outcome hints
+    abbrev ContractHere : Contract (S × F) B E
+    ContractHere = passing_contract m call callable outcome hints
 
     -- a draw after a left-out item was a draw
-    answer_after : (s u t : S) (f h g : F) (r : Answered B E) (x : X) (v : R) → KeptByDraw m s (item x) u → call f x v h → OnAnswer M (u, h) r (t, g) → OnAnswer M (s, f) r (t, g)
-    answer_after s u t f h g (Ok (Some y)) x v a called b = (may_answer_after a.may_give (reaches_from x v a.answer.0 called reaches_here) b.0, (λ n c. let j = a.answer.1 n c in let k = b.1 j.0 j.1 in (k.0, k.1, omega (arith, j.2, k.2))), (λ e. let j = a.answer.2 e in let k = b.2 j.0 in (k.0, omega (arith, j.1, k.1))))
-    answer_after s u t f h g (Ok None) x v a called b = ((λ n c. let j = a.answer.1 n c in let k = b.0 j.0 j.1 in (k.0, k.1, omega (arith, j.2, k.2))), (λ e. let j = a.answer.2 e in let k = b.1 j.0 in (k.0, omega (arith, j.1, k.1))))
-    answer_after s u t f h g (Err e) x v a called b = (elim b.0 [ inl c ↦ inl (a.may_fail e c) | inr c ↦ inr (may_answer_after a.may_give (reaches_from x v a.answer.0 called reaches_here) c) ], (λ n c. let j = a.answer.1 n c in let k = b.1 j.0 j.1 in (k.0, k.1, omega (arith, j.2, k.2))), (λ d. let j = a.answer.2 d in let k = b.2 j.0 in (k.0, omega (arith, j.1, k.1))))
+    on_answer_after : (s u t : S) (f h g : F) (r : Answered B E) (x : X) (v : R) → KeptByDraw m s (item x) u → call f x v h → OnAnswer ContractHere (u, h) r (t, g) → OnAnswer ContractHere (s, f) r (t, g)
+    on_answer_after s u t f h g (Ok (Some y)) x v a called b = (may_answer_after a.may_give (reaches_from x v a.answer.0 called reaches_here) b.0, (λ n c. let j = a.answer.1 n c in let k = b.1 j.0 j.1 in (k.0, k.1, omega (arith, j.2, k.2))), (λ e. let j = a.answer.2 e in let k = b.2 j.0 in (k.0, omega (arith, j.1, k.1))))
+    on_answer_after s u t f h g (Ok None) x v a called b = ((λ n c. let j = a.answer.1 n c in let k = b.0 j.0 j.1 in (k.0, k.1, omega (arith, j.2, k.2))), (λ e. let j = a.answer.2 e in let k = b.1 j.0 in (k.0, omega (arith, j.1, k.1))))
+    on_answer_after s u t f h g (Err e) x v a called b = (elim b.0 [ inl c ↦ inl (a.may_fail e c) | inr c ↦ inr (may_answer_after a.may_give (reaches_from x v a.answer.0 called reaches_here) c) ], (λ n c. let j = a.answer.1 n c in let k = b.1 j.0 j.1 in (k.0, k.1, omega (arith, j.2, k.2))), (λ d. let j = a.answer.2 d in let k = b.2 j.0 in (k.0, omega (arith, j.1, k.1))))
 
-    passes_answer : (s t : S) (f g : F) (r : Answered B E) → m.can_next s → P s f (r ∷ []) t g → OnAnswer M (s, f) r (t, g)
-    passes_answer s t f g _ c (end_passes step done) = (l.kept_by_draw s (Ok None) t c step).answer
-    passes_answer s t f g _ c (failure_passes e step done) = let a = (l.kept_by_draw s (Err e) t c step).answer in (inl a.0, a.1, a.2)
-    passes_answer s t f g _ c (keeps x v y step called is done) = let a = (l.kept_by_draw s (item x) t c step).answer in (may_answer_here g x v a.0 called is, a.1, a.2)
-    passes_answer s t f g _ c (refuses x v e step called is done) = let a = (l.kept_by_draw s (item x) t c step).answer in (inr (may_answer_here g x v a.0 called is), (λ n b. let k = a.1 n b in (k.0, k.1, omega (arith, k.2))), a.2)
-    passes_answer s t f g _ c (closes x v step called is done) = let a = (l.kept_by_draw s (item x) t c step).answer in ((λ n b. let k = a.1 n b in (k.0, k.1, omega (arith, k.2))), (λ d. let k = a.2 d in (k.0, omega (arith, k.1))))
-    passes_answer s t f g r c (leaves_out {u = u} {h = h} x v step called is rest) = let a = l.kept_by_draw s (item x) u c step in answer_after s u t f h g r x v a called (passes_answer u t h g r a.can_next rest)
+    on_answer_passes : (s t : S) (f g : F) (r : Answered B E) → m.can_next s → P s f (r ∷ []) t g → OnAnswer ContractHere (s, f) r (t, g)
+    on_answer_passes s t f g _ c (end_passes step done) = (l.kept_by_draw s (Ok None) t c step).answer
+    on_answer_passes s t f g _ c (failure_passes e step done) = let a = (l.kept_by_draw s (Err e) t c step).answer in (inl a.0, a.1, a.2)
+    on_answer_passes s t f g _ c (keeps x v y step called is done) = let a = (l.kept_by_draw s (item x) t c step).answer in (may_answer_here g x v a.0 called is, a.1, a.2)
+    on_answer_passes s t f g _ c (refuses x v e step called is done) = let a = (l.kept_by_draw s (item x) t c step).answer in (inr (may_answer_here g x v a.0 called is), (λ n b. let k = a.1 n b in (k.0, k.1, omega (arith, k.2))), a.2)
+    on_answer_passes s t f g _ c (closes x v step called is done) = let a = (l.kept_by_draw s (item x) t c step).answer in ((λ n b. let k = a.1 n b in (k.0, k.1, omega (arith, k.2))), (λ d. let k = a.2 d in (k.0, omega (arith, k.1))))
+    on_answer_passes s t f g r c (leaves_out {u = u} {h = h} x v step called is rest) = let a = l.kept_by_draw s (item x) u c step in on_answer_after s u t f h g r x v a called (on_answer_passes u t h g r a.can_next rest)
 
-    goes_passing : StaysCallable call callable → (p : S × F) (r : Answered B E) (q : S × F) → M.can_next p → M.steps p r q → KeptByDraw M p r q
-    goes_passing after (s, f) r (t, g) c step = let p = to_passes step in let a = passes_keep s t f g _ c.0 p in let reached = passes_reaches s t f g _ c.0 p in record {
+    kept_by_draw_passing : StaysCallable call callable → (p : S × F) (r : Answered B E) (q : S × F) → ContractHere.can_next p → ContractHere.steps p r q → KeptByDraw ContractHere p r q
+    kept_by_draw_passing after (s, f) r (t, g) c step = let p = passes_of_pass_trace step in let a = kept_by_draws_passes s t f g _ c.0 p in let reached = reaches_passes s t f g _ c.0 p in record {
       can_next = (a.can_next, after (m.may_give s) (m.may_give t) f g a.may_give reached c.1);
       is_finite = a.is_finite;
-      answer = passes_answer s t f g r c.0 p;
+      answer = on_answer_passes s t f g r c.0 p;
       may_give = λ y h. may_answer_after a.may_give reached h;
       may_fail = λ e h. elim h [ inl b ↦ inl (a.may_fail e b) | inr b ↦ inr (may_answer_after a.may_give reached b) ];
       lenders = a.lenders;
@@ -132,43 +132,43 @@ module _ {S F X R B E : Type 0} (m : Contract S X E) (l : Lawful m) (call : F �
 
 -- the contract is lawful if the closure stays callable after calls on what comes
 pub lawful_passing : {S F X R B E : Type 0} {m : Contract S X E} (call : F → X → R → F → Type 0) (callable : (X → Type 0) → F → Type 0) (outcome : X → R → Outcome B E) (hints : S × F → ℕ × Option ℕ → Type 0) → StaysCallable call callable → Lawful m → Lawful (passing_contract m call callable outcome hints)
-lawful_passing {m} call callable outcome hints after l = record { kept_by_draw = goes_passing m l call outcome callable hints after; bounded = λ p. l.bounded p.0 }
+lawful_passing {m} call callable outcome hints after l = record { kept_by_draw = kept_by_draw_passing m l call outcome callable hints after; bounded = λ p. l.bounded p.0 }
 
 -- a bound of the source, required besides, stays
 module _ {S F A E : Type 0} (p : Contract (S × F) A E) (needs : S → Type 0) where
-  abbrev needing : Contract (S × F) A E
-  needing = record p { can_next = λ s. needs s.0 × p.can_next s }
+  abbrev needing_contract : Contract (S × F) A E
+  needing_contract = record p { can_next = λ s. needs s.0 × p.can_next s }
 
-  answer_needing : (s t : S × F) (r : Answered A E) → OnAnswer p s r t → OnAnswer needing s r t
-  answer_needing s t (Ok (Some x)) h = h
-  answer_needing s t (Ok None) h = h
-  answer_needing s t (Err e) h = h
+  on_answer_needing : (s t : S × F) (r : Answered A E) → OnAnswer p s r t → OnAnswer needing_contract s r t
+  on_answer_needing s t (Ok (Some x)) h = h
+  on_answer_needing s t (Ok None) h = h
+  on_answer_needing s t (Err e) h = h
 
-  goes_needing : (s t : S × F) (r : Answered A E) → needs t.0 → KeptByDraw p s r t → KeptByDraw needing s r t
-  goes_needing s t r n g = record { can_next = (n, g.can_next); is_finite = g.is_finite; answer = answer_needing s t r g.answer; may_give = g.may_give; may_fail = g.may_fail; lenders = g.lenders }
+  kept_by_draw_needing : (s t : S × F) (r : Answered A E) → needs t.0 → KeptByDraw p s r t → KeptByDraw needing_contract s r t
+  kept_by_draw_needing s t r n g = record { can_next = (n, g.can_next); is_finite = g.is_finite; answer = on_answer_needing s t r g.answer; may_give = g.may_give; may_fail = g.may_fail; lenders = g.lenders }
 
 pub lawful_leaving_out : {S F X R B E : Type 0} {m : Contract S X E} (call : F → X → R → F → Type 0) (callable : (X → Type 0) → F → Type 0) (outcome : X → R → Outcome B E) (hints : S × F → ℕ × Option ℕ → Type 0) → StaysCallable call callable → Lawful m → Lawful (leaving_out_contract m call callable outcome hints)
 lawful_leaving_out {m = m} call callable outcome hints after l = let p = passing_contract m call callable outcome hints in
     let k : Lawful p = lawful_passing call callable outcome hints after l in
-    record { kept_by_draw = λ s r t c step. let a = k.kept_by_draw s r t c.1 step in goes_needing p m.is_finite s t r (a.is_finite c.0) a; bounded = λ s. l.bounded s.0 }
+    record { kept_by_draw = λ s r t c step. let a = k.kept_by_draw s r t c.1 step in kept_by_draw_needing p m.is_finite s t r (a.is_finite c.0) a; bounded = λ s. l.bounded s.0 }
 
 -- ---- one answer
 
 module _ {S F X R B E : Type 0} {steps : S → Answered X E → S → Type 0} {call : F → X → R → F → Type 0} {outcome : X → R → Outcome B E} {s t : S} {f g : F} where
-  pub passes_item : (x : X) (v : R) (y : B) → steps s (item x) t → call f x v g → outcome x v ≡ Kept y → PassTrace steps call outcome (s, f) (item y ∷ []) (t, g)
-  passes_item x v y step called is = from_passes (keeps x v y step called is done)
+  pub pass_trace_item : (x : X) (v : R) (y : B) → steps s (item x) t → call f x v g → outcome x v ≡ Kept y → PassTrace steps call outcome (s, f) (item y ∷ []) (t, g)
+  pass_trace_item x v y step called is = pass_trace_of_passes (keeps x v y step called is done)
 
-  pub passes_refusal : (x : X) (v : R) (e : E) → steps s (item x) t → call f x v g → outcome x v ≡ Failure e → PassTrace steps call outcome (s, f) (Err e ∷ []) (t, g)
-  passes_refusal x v e step called is = from_passes (refuses x v e step called is done)
+  pub pass_trace_refusal : (x : X) (v : R) (e : E) → steps s (item x) t → call f x v g → outcome x v ≡ Failure e → PassTrace steps call outcome (s, f) (Err e ∷ []) (t, g)
+  pass_trace_refusal x v e step called is = pass_trace_of_passes (refuses x v e step called is done)
 
 module _ {S F X R B E : Type 0} {steps : S → Answered X E → S → Type 0} {call : F → X → R → F → Type 0} {outcome : X → R → Outcome B E} {s t : S} {f : F} where
-  pub passes_end : steps s (Ok None) t → PassTrace steps call outcome (s, f) (Ok None ∷ []) (t, f)
-  passes_end step = from_passes (end_passes step done)
+  pub pass_trace_end : steps s (Ok None) t → PassTrace steps call outcome (s, f) (Ok None ∷ []) (t, f)
+  pass_trace_end step = pass_trace_of_passes (end_passes step done)
 
-  pub passes_failure : {e : E} → steps s (Err e) t → PassTrace steps call outcome (s, f) (Err e ∷ []) (t, f)
-  passes_failure {e} step = from_passes (failure_passes e step done)
+  pub pass_trace_failure : {e : E} → steps s (Err e) t → PassTrace steps call outcome (s, f) (Err e ∷ []) (t, f)
+  pass_trace_failure {e} step = pass_trace_of_passes (failure_passes e step done)
 
 module _ {S F X R B E : Type 0} {steps : S → Answered X E → S → Type 0} {call : F → X → R → F → Type 0} {outcome : X → R → Outcome B E} {s t : S} {f g : F} where
   -- an item that makes an end
-  pub passes_closing : (x : X) (v : R) → steps s (item x) t → call f x v g → outcome x v ≡ End → PassTrace steps call outcome (s, f) (Ok None ∷ []) (t, g)
-  passes_closing x v step called is = from_passes (closes x v step called is done)
+  pub pass_trace_closing : (x : X) (v : R) → steps s (item x) t → call f x v g → outcome x v ≡ End → PassTrace steps call outcome (s, f) (Ok None ∷ []) (t, g)
+  pass_trace_closing x v step called is = pass_trace_of_passes (closes x v step called is done)

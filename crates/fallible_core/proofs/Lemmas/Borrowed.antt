@@ -10,20 +10,20 @@ use Rattle.std.specs.declared.boxed.Box.{Box}
 use Rattle.std.specs.declared.alloc.Global.{Global}
 
 module _ {S A E : Type 0} (steps : S → Answered A E → S → Type 0) where
-  abbrev through : MutBor S → Answered A E → MutBor S → Type 0
-  through s r t = steps s.now r t.now × (t.ghost_name ≡ s.ghost_name)
+  abbrev step_through : MutBor S → Answered A E → MutBor S → Type 0
+  step_through s r t = steps s.now r t.now × (t.ghost_name ≡ s.ghost_name)
 
-  pub run_through : (trace : List (Answered A E)) (s t : MutBor S) → Run through s trace t → Run steps s.now trace t.now
+  pub run_through : (trace : List (Answered A E)) (s t : MutBor S) → Run step_through s trace t → Run steps s.now trace t.now
   run_through [] s t e = ap (λ (u : MutBor S). u.now) e
   run_through (r ∷ rest) s t h = (h.0.now, h.1.0, run_through rest h.0 t h.2)
 
-  pub run_over : (trace : List (Answered A E)) (s : MutBor S) (x : S) → Run steps s.now trace x → Run through s trace (record s { now = x })
-  run_over [] s x e = ap (λ (y : S). record s { now = y }) e
-  run_over (r ∷ rest) s x h = let u : MutBor S = record s { now = h.0 } in (u, (h.1, refl), run_over rest u x h.2)
+  pub run_of_borrow : (trace : List (Answered A E)) (s : MutBor S) (x : S) → Run steps s.now trace x → Run step_through s trace (record s { now = x })
+  run_of_borrow [] s x e = ap (λ (y : S). record s { now = y }) e
+  run_of_borrow (r ∷ rest) s x h = let u : MutBor S = record s { now = h.0 } in (u, (h.1, refl), run_of_borrow rest u x h.2)
 
-  through_gives : (l : List (Result A E)) (s : MutBor S) → AlwaysGives steps s.now l → AlwaysGives through s l
-  through_gives [] s a = λ r t w. a r t.now w.0
-  through_gives (y ∷ l) s a = λ r t w. let d = a r t.now w.0 in (d.0, through_gives l t d.1)
+  always_gives_through : (l : List (Result A E)) (s : MutBor S) → AlwaysGives steps s.now l → AlwaysGives step_through s l
+  always_gives_through [] s a = λ r t w. a r t.now w.0
+  always_gives_through (y ∷ l) s a = λ r t w. let d = a r t.now w.0 in (d.0, always_gives_through l t d.1)
 
   abbrev in_box : Box S Global → Answered A E → Box S Global → Type 0
   in_box s r t = steps s.value r t.value
@@ -38,4 +38,4 @@ module _ {S A E : Type 0} (steps : S → Answered A E → S → Type 0) where
 
 -- it lists what the one that it points to lists
 pub lists_borrowed : {S A E : Type 0} (m : Contract S A E) (s : MutBor S) (l : List (Result A E)) → Lists m.steps s.now l → Lists (borrowed m).steps s l
-lists_borrowed m s l i = record { runs = through_gives m.steps l s i.runs }
+lists_borrowed m s l i = record { runs = always_gives_through m.steps l s i.runs }

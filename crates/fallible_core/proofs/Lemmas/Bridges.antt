@@ -12,92 +12,92 @@ use Rattle.fallible_contract.specs.Traces.{Answered}
 use Rattle.fallible_contract.specs.Lists.{AlwaysGives, Lists, result_answer, items}
 use Rattle.fallible_core.specs.Bridges.Unwrap.{unwrapped}
 
-same : {A : Type 0} (l : List A) → map (λ y. y) l ≡ l
-same [] = refl
-same (x ∷ l) = ap {B = List _} (λ k. x ∷ k) (same l)
+map_identity : {A : Type 0} (l : List A) → map (λ y. y) l ≡ l
+map_identity [] = refl
+map_identity (x ∷ l) = ap {B = List _} (λ k. x ∷ k) (map_identity l)
 
--- Values V are seen as those of a fallible iterator. What std's `next` returned is `answer` of it, and `shown` is what it returns of a list.
-module _ {V S A E Z : Type 0} (view : V → S) (steps : S → Answered A E → S → Type 0) (answer : Option Z → Answered A E) (shown : List (Result A E) → List Z) (nothing : shown [] ≡ [])
-    (element : (o : Option Z) (y : Result A E) (l : List (Result A E)) → answer o ≡ result_answer y → (z : Z) × (o ≡ Some z) × (shown (y ∷ l) ≡ z ∷ shown l)) (none : (o : Option Z) → answer o ≡ Ok None → o ≡ None) where
-  abbrev gives : V → Option Z → V → Type 0
-  gives s o t = steps (view s) (answer o) (view t)
+-- Values V are seen as those of a fallible iterator. What std's `next` returned is `unwrapped_answer` of it, and `shown` is what it returns of a list.
+module _ {V S A E Z : Type 0} (view : V → S) (steps : S → Answered A E → S → Type 0) (unwrapped_answer : Option Z → Answered A E) (shown : List (Result A E) → List Z) (nothing : shown [] ≡ [])
+    (element : (o : Option Z) (y : Result A E) (l : List (Result A E)) → unwrapped_answer o ≡ result_answer y → (z : Z) × (o ≡ Some z) × (shown (y ∷ l) ≡ z ∷ shown l)) (none : (o : Option Z) → unwrapped_answer o ≡ Ok None → o ≡ None) where
+  abbrev gives_transposed : V → Option Z → V → Type 0
+  gives_transposed s o t = steps (view s) (unwrapped_answer o) (view t)
 
   -- what calls returned is the front of what is shown, and what is left lists the rest
-  rest_after : (l : List (Result A E)) (xs : List Z) (s t : V) → AlwaysGives steps (view s) l → Yields gives s xs t → (more : List (Result A E)) × (shown l ≡ xs ++ shown more) × AlwaysGives steps (view t) more
-  rest_after l [] s t g y = (l, refl, subst (λ (u : V). AlwaysGives steps (view u) l) y g)
-  rest_after [] (x ∷ xs) s t g y = absurd (let e = none (Some x) (g (answer (Some x)) (view y.0) y.1) in cc)
-  rest_after (r ∷ l) (x ∷ xs) s t g y =
-      let d = g (answer (Some x)) (view y.0) y.1 in
+  always_gives_rest_after : (l : List (Result A E)) (xs : List Z) (s t : V) → AlwaysGives steps (view s) l → Yields gives_transposed s xs t → (more : List (Result A E)) × (shown l ≡ xs ++ shown more) × AlwaysGives steps (view t) more
+  always_gives_rest_after l [] s t g y = (l, refl, subst (λ (u : V). AlwaysGives steps (view u) l) y g)
+  always_gives_rest_after [] (x ∷ xs) s t g y = absurd (let e = none (Some x) (g (unwrapped_answer (Some x)) (view y.0) y.1) in cc)
+  always_gives_rest_after (r ∷ l) (x ∷ xs) s t g y =
+      let d = g (unwrapped_answer (Some x)) (view y.0) y.1 in
       let first = element (Some x) r l d.0 in
       let is : Some x ≡ Some first.0 = first.1 in
       let shows : shown (r ∷ l) ≡ first.0 ∷ shown l = first.2 in
-      let k = rest_after l xs y.0 t d.1 y.2 in
+      let k = always_gives_rest_after l xs y.0 t d.1 y.2 in
       let cut : shown l ≡ xs ++ shown k.0 = k.1 in
       (k.0, cc, k.2)
 
   -- std's none comes only where nothing is left
-  ended : (more : List (Result A E)) (t u : V) → AlwaysGives steps (view t) more → gives t None u → length (shown more) ≡ 0
-  ended [] t u g y = ap length nothing
-  ended (r ∷ more) t u g y = absurd (let d = g (answer None) (view u) y in let first = element None r more d.0 in let is : None ≡ Some first.0 = first.1 in cc)
+  length_at_end : (more : List (Result A E)) (t u : V) → AlwaysGives steps (view t) more → gives_transposed t None u → length (shown more) ≡ 0
+  length_at_end [] t u g y = ap length nothing
+  length_at_end (r ∷ more) t u g y = absurd (let d = g (unwrapped_answer None) (view u) y in let first = element None r more d.0 in let is : None ≡ Some first.0 = first.1 in cc)
 
-  pub reads : (l : List (Result A E)) (s : V) → Lists steps (view s) l → EachRunFrom gives s (λ p. ItemsAre p (shown l))
-  reads l s i p _ e =
+  pub each_run_reads : (l : List (Result A E)) (s : V) → Lists steps (view s) l → EachRunFrom gives_transposed s (λ p. ItemsAre p (shown l))
+  each_run_reads l s i p _ e =
       let t = took p in
-      let k = rest_after l p.items p.from t.0 (subst (λ (u : V). AlwaysGives steps (view u) l) (sym e) i.runs) t.1 in
-      as_is p (shown l) (lists p (λ y. y) (shown l) (shown k.0) (λ w. ended k.0 t.0 (t.2 w).0 k.2 (t.2 w).1) (k.1 ∙ ap (λ j. j ++ shown k.0) (sym (same p.items))))
+      let k = always_gives_rest_after l p.items p.from t.0 (subst (λ (u : V). AlwaysGives steps (view u) l) (sym e) i.runs) t.1 in
+      as_is p (shown l) (lists p (λ y. y) (shown l) (shown k.0) (λ w. length_at_end k.0 t.0 (t.2 w).0 k.2 (t.2 w).1) (k.1 ∙ ap (λ j. j ++ shown k.0) (sym (map_identity p.items))))
 
 -- ---- `Iterator`
 
 module _ {A E : Type 0} where
-  an_element : (o : Option (Result A E)) (y : Result A E) (l : List (Result A E)) → option_transpose o ≡ result_answer y → (z : Result A E) × (o ≡ Some z) × (y ∷ l ≡ z ∷ l)
-  an_element None (Ok x) l e = absurd cc
-  an_element None (Err d) l e = absurd cc
-  an_element (Some (Ok z)) (Ok x) l e = (Ok x, cc, refl)
-  an_element (Some (Ok z)) (Err d) l e = absurd cc
-  an_element (Some (Err z)) (Ok x) l e = absurd cc
-  an_element (Some (Err z)) (Err d) l e = (Err d, cc, refl)
+  first_element : (o : Option (Result A E)) (y : Result A E) (l : List (Result A E)) → option_transpose o ≡ result_answer y → (z : Result A E) × (o ≡ Some z) × (y ∷ l ≡ z ∷ l)
+  first_element None (Ok x) l e = absurd cc
+  first_element None (Err d) l e = absurd cc
+  first_element (Some (Ok z)) (Ok x) l e = (Ok x, cc, refl)
+  first_element (Some (Ok z)) (Err d) l e = absurd cc
+  first_element (Some (Err z)) (Ok x) l e = absurd cc
+  first_element (Some (Err z)) (Err d) l e = (Err d, cc, refl)
 
-  no_element : (o : Option (Result A E)) → option_transpose o ≡ Ok None → o ≡ None
-  no_element None e = refl
-  no_element (Some (Ok z)) e = absurd cc
-  no_element (Some (Err z)) e = absurd cc
+  none_of_no_elements : (o : Option (Result A E)) → option_transpose o ≡ Ok None → o ≡ None
+  none_of_no_elements None e = refl
+  none_of_no_elements (Some (Ok z)) e = absurd cc
+  none_of_no_elements (Some (Err z)) e = absurd cc
 
 module _ {V S A E : Type 0} (view : V → S) (steps : S → Answered A E → S → Type 0) where
-  pub reads_list : (l : List (Result A E)) (s : V) → Lists steps (view s) l → EachRunFrom (λ s o t. steps (view s) (option_transpose o) (view t)) s (λ p. ItemsAre p l)
-  reads_list l s i = reads view steps option_transpose (λ k. k) refl an_element no_element l s i
+  pub each_run_reads_list : (l : List (Result A E)) (s : V) → Lists steps (view s) l → EachRunFrom (λ s o t. steps (view s) (option_transpose o) (view t)) s (λ p. ItemsAre p l)
+  each_run_reads_list l s i = each_run_reads view steps option_transpose (λ k. k) refl first_element none_of_no_elements l s i
 
 -- ---- `Unwrap`
 
 module _ {S A E : Type 0} (m : Contract S A E) where
   -- what can never fail did not fail now
-  pub no_failure : (s t : S) (r : Answered A E) → NeverFails m s → m.steps s r t → IsOk r
-  no_failure s t (Ok o) sure step = refl
-  no_failure s t (Err e) sure step = absurd (sure [] s t e refl step)
+  pub is_ok_where_sure : (s t : S) (r : Answered A E) → NeverFails m s → m.steps s r t → IsOk r
+  is_ok_where_sure s t (Ok o) sure step = refl
+  is_ok_where_sure s t (Err e) sure step = absurd (sure [] s t e refl step)
 
   -- and can't fail after a draw
-  sure_after : (s t : S) (r : Answered A E) → NeverFails m s → m.steps s r t → NeverFails m t
-  sure_after s t r sure step trace u v e ran fails = sure (r ∷ trace) u v e (t, step, ran) fails
+  never_fails_after : (s t : S) (r : Answered A E) → NeverFails m s → m.steps s r t → NeverFails m t
+  never_fails_after s t r sure step trace u v e ran fails = sure (r ∷ trace) u v e (t, step, ran) fails
 
   -- a draw of what can never fail is a call of std's `next` as std requires it to be
-  pub progress : {V : Type 0} (view : V → S) → Lawful m → (s t : V) (o : Option A) → m.can_next (view s) → NeverFails m (view s) → m.steps (view s) (Ok o) (view t) → MakesProgress {S = V} {A = A} (λ v. m.can_next (view v) × NeverFails m (view v)) (λ v. m.remaining (view v)) s o t
-  progress view l s t (Some x) c sure step =
+  pub makes_progress_where_sure : {V : Type 0} (view : V → S) → Lawful m → (s t : V) (o : Option A) → m.can_next (view s) → NeverFails m (view s) → m.steps (view s) (Ok o) (view t) → MakesProgress {S = V} {A = A} (λ v. m.can_next (view v) × NeverFails m (view v)) (λ v. m.remaining (view v)) s o t
+  makes_progress_where_sure view l s t (Some x) c sure step =
       let g = l.kept_by_draw (view s) (Ok (Some x)) (view t) c step in
-      let later : m.can_next (view t) × NeverFails m (view t) = (g.can_next, sure_after (view s) (view t) (Ok (Some x)) sure step) in
+      let later : m.can_next (view t) × NeverFails m (view t) = (g.can_next, never_fails_after (view s) (view t) (Ok (Some x)) sure step) in
       record { on = λ f. let less = g.answer.2 f in (later, less.0, less.1); keeps = later; rests = λ f. tt }
-  progress view l s t None c sure step = record { on = λ f. tt; keeps = tt; rests = λ f. ((l.kept_by_draw (view s) (Ok None) (view t) c step).answer.1 f).0 }
+  makes_progress_where_sure view l s t None c sure step = record { on = λ f. tt; keeps = tt; rests = λ f. ((l.kept_by_draw (view s) (Ok None) (view t) c step).answer.1 f).0 }
 
 module _ {A E : Type 0} where
   -- an item, or none, is an answer
-  abbrev answer : Option A → Answered A E
-  answer o = Ok o
+  abbrev unwrapped_answer : Option A → Answered A E
+  unwrapped_answer o = Ok o
 
-  an_item : (o : Option A) (y : Result A E) (l : List (Result A E)) → answer o ≡ result_answer y → (z : A) × (o ≡ Some z) × (unwrapped (y ∷ l) ≡ z ∷ unwrapped l)
+  first_unwrapped : (o : Option A) (y : Result A E) (l : List (Result A E)) → unwrapped_answer o ≡ result_answer y → (z : A) × (o ≡ Some z) × (unwrapped (y ∷ l) ≡ z ∷ unwrapped l)
   unfolding unwrapped
-  an_item o (Ok x) l e = (x, cc, refl)
-  an_item o (Err d) l e = absurd cc
+  first_unwrapped o (Ok x) l e = (x, cc, refl)
+  first_unwrapped o (Err d) l e = absurd cc
 
-  no_item : (o : Option A) → answer o ≡ Ok None → o ≡ None
-  no_item o e = cc
+  none_of_no_items : (o : Option A) → unwrapped_answer o ≡ Ok None → o ≡ None
+  none_of_no_items o e = cc
 
 -- of items alone nothing is left out
 pub items_unwrapped : {A : Type 0} (E : Type 0) (l : List A) → unwrapped (items {E = E} l) ≡ l
@@ -110,5 +110,5 @@ unfolding unwrapped
 none_unwrapped A E = refl
 
 module _ {V S A E : Type 0} (view : V → S) (steps : S → Answered A E → S → Type 0) where
-  pub reads_unwrapped : (l : List (Result A E)) (s : V) → Lists steps (view s) l → EachRunFrom (λ s o t. steps (view s) (Ok o) (view t)) s (λ p. ItemsAre p (unwrapped l))
-  reads_unwrapped l s i = reads view steps answer unwrapped (none_unwrapped A E) an_item no_item l s i
+  pub each_run_reads_unwrapped : (l : List (Result A E)) (s : V) → Lists steps (view s) l → EachRunFrom (λ s o t. steps (view s) (Ok o) (view t)) s (λ p. ItemsAre p (unwrapped l))
+  each_run_reads_unwrapped l s i = each_run_reads view steps unwrapped_answer unwrapped (none_unwrapped A E) first_unwrapped none_of_no_items l s i

@@ -65,7 +65,7 @@ FinishedInHand inner (Some c) answers = Finished inner c answers
 FinishedInHand inner None answers = answers ≡ []
 
 -- The outer source was drawn. The trace joins the answers of the current inner iterator, if there was one, and a part for each answer of the outer source.
-pub record Joined {S X C B E : Type 0} (outer : S → Answered X E → S → Type 0) (into : X → C → Type 0) (inner : C → Answered B E → C → Type 0) (s : S) (hand : Option C) (trace : List (Answered B E)) (t : S) (hand' : Option C) : Type 0 where
+pub record JoinedTrace {S X C B E : Type 0} (outer : S → Answered X E → S → Type 0) (into : X → C → Type 0) (inner : C → Answered B E → C → Type 0) (s : S) (hand : Option C) (trace : List (Answered B E)) (t : S) (hand' : Option C) : Type 0 where
   pub in_hand : List (Answered B E)
   pub parts : List (Part X C B E)
   pub last : Part X C B E
@@ -79,7 +79,7 @@ pub record Joined {S X C B E : Type 0} (outer : S → Answered X E → S → Typ
 pub data FlattenAnswers {S X C B E : Type 0} (outer : S → Answered X E → S → Type 0) (into : X → C → Type 0) (inner : C → Answered B E → C → Type 0) : S → Option C → List (Answered B E) → S → Option C → Type 0 where
   nothing_drawn : {s : S} {hand : Option C} → FlattenAnswers outer into inner s hand [] s hand
   still_in_hand : {s : S} {c d : C} {trace : List (Answered B E)} → Unfinished inner c trace d → FlattenAnswers outer into inner s (Some c) trace s (Some d)
-  outer_drawn : {s t : S} {hand hand' : Option C} {trace : List (Answered B E)} → Joined outer into inner s hand trace t hand' → FlattenAnswers outer into inner s hand trace t hand'
+  outer_drawn : {s t : S} {hand hand' : Option C} {trace : List (Answered B E)} → JoinedTrace outer into inner s hand trace t hand' → FlattenAnswers outer into inner s hand trace t hand'
 
 -- `Flatten`, by its parts: the outer source, and the current inner iterator.
 abbrev pub FlattenTrace : {S X C B E : Type 0} → (S → Answered X E → S → Type 0) → (X → C → Type 0) → (C → Answered B E → C → Type 0) → S × Option C → List (Answered B E) → S × Option C → Type 0

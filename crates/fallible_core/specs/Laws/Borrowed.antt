@@ -8,14 +8,14 @@ use Rattle.fallible_contract.specs.Ends.{Ends, from_back, ends_of, LawfulEnds}
 use Rattle.fallible_core.specs.Borrowed.{borrowed}
 
 module _ {S A E : Type 0} (m : Contract S A E) where
-  answer_borrowed : (s t : MutBor S) (r : Answered A E) → OnAnswer m s.now r t.now → OnAnswer (borrowed m) s r t
-  answer_borrowed s t (Ok (Some x)) h = h
-  answer_borrowed s t (Ok None) h = h
-  answer_borrowed s t (Err e) h = h
+  on_answer_borrowed : (s t : MutBor S) (r : Answered A E) → OnAnswer m s.now r t.now → OnAnswer (borrowed m) s r t
+  on_answer_borrowed s t (Ok (Some x)) h = h
+  on_answer_borrowed s t (Ok None) h = h
+  on_answer_borrowed s t (Err e) h = h
 
 pub lawful_borrowed : {S A E : Type 0} {m : Contract S A E} → Lawful m → Lawful (borrowed m)
 lawful_borrowed {m = m} l = record {
-  kept_by_draw = λ s r t c step. let g = l.kept_by_draw s.now r t.now c step.0 in record { can_next = g.can_next; is_finite = g.is_finite; answer = answer_borrowed m s t r g.answer; may_give = g.may_give; may_fail = g.may_fail; lenders = ap₂ lender_and step.1 g.lenders };
+  kept_by_draw = λ s r t c step. let g = l.kept_by_draw s.now r t.now c step.0 in record { can_next = g.can_next; is_finite = g.is_finite; answer = on_answer_borrowed m s t r g.answer; may_give = g.may_give; may_fail = g.may_fail; lenders = ap₂ lender_and step.1 g.lenders };
   bounded = λ s. l.bounded s.now;
 }
 

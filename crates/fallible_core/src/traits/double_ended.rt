@@ -5,7 +5,7 @@ ghost use Rattle.fallible_contract.specs.Clauses.{OverListWith};
 ghost use Rattle.fallible_contract.specs.Contract.{Stays};
 ghost use Rattle.fallible_contract.specs.Ends.{Ends, from_front, from_back, LawfulEnds};
 ghost use Rattle.fallible_contract.specs.Lists.{ActsWith, Converts, rest_first, rest_fold, folded, nth_of};
-ghost use Rattle.fallible_contract.specs.Folds.{CallableDriving, Driven, CallableInFold, call_with, takes_with, Folded};
+ghost use Rattle.fallible_contract.specs.Folds.{CallableDriving, Driven, CallableInFold, call_with, takes_with, FoldDrains};
 
 use crate::traits::FallibleIterator;
 use fallible_contract::folds::{TryFoldTurn, Turn};
@@ -81,7 +81,7 @@ pub trait DoubleEndedFallibleIterator: FallibleIterator {
         requires finite { Self.contract.is_finite self.old }
         requires callable { CallableInFold ends.steps (call_with F.FnMut) (takes_with F.FnMut)
             self.old f init }
-        ensures folded { Folded ends.steps (call_with F.FnMut) E.from_gives
+        ensures folded { FoldDrains ends.steps (call_with F.FnMut) E.from_gives
             self.old init f result self.new }
         ensures value { (convert : Self.Error → E) → Converts E.from_gives convert
             → OverListWith (ActsWith (call_with F.FnMut) f) ends.steps self.old
@@ -125,7 +125,7 @@ pub trait DoubleEndedFallibleIterator: FallibleIterator {
         requires finite { Self.contract.is_finite self }
         requires callable { CallableInFold ends.steps (call_with F.FnMut) (takes_with F.FnMut)
             self f init }
-        ensures folded { (left : Self) × Folded ends.steps (call_with F.FnMut)
+        ensures folded { (left : Self) × FoldDrains ends.steps (call_with F.FnMut)
             (λ e d. d ≡ e) self init f result left }
         ensures value { OverListWith (ActsWith (call_with F.FnMut) f) ends.steps self
             (λ h l. result ≡ folded (λ e. e) h init l) }

@@ -15,13 +15,13 @@ use Rattle.fallible_contract.specs.declared.answers.Side.{Side}
 use Rattle.fallible_contract.specs.declared.answers.Side.TheVariants.{Front, Back}
 
 module _ {S A E : Type 0} (steps : S → Answered A E → S → Type 0) where
-  rest_of_list : (trace : List (Answered A E)) (l : List (Result A E)) (s t : S) → AlwaysGives steps s l → Run steps s trace t → length trace ≤ length l → AlwaysGives steps t (drop (length trace) l)
-  rest_of_list [] l s t a ran within = subst (λ (u : S). AlwaysGives steps u l) ran a
-  rest_of_list (r ∷ trace) [] s t a ran within = absurd (omega (arith, within))
-  rest_of_list (r ∷ trace) (y ∷ l) s t a ran within = rest_of_list trace l ran.0 t (a r ran.0 ran.1).1 ran.2 (omega (arith, within))
+  always_gives_rest_of_list : (trace : List (Answered A E)) (l : List (Result A E)) (s t : S) → AlwaysGives steps s l → Run steps s trace t → length trace ≤ length l → AlwaysGives steps t (drop (length trace) l)
+  always_gives_rest_of_list [] l s t a ran within = subst (λ (u : S). AlwaysGives steps u l) ran a
+  always_gives_rest_of_list (r ∷ trace) [] s t a ran within = absurd (omega (arith, within))
+  always_gives_rest_of_list (r ∷ trace) (y ∷ l) s t a ran within = always_gives_rest_of_list trace l ran.0 t (a r ran.0 ran.1).1 ran.2 (omega (arith, within))
 
-  pub answers_left : {s t : S} {n : ℕ} {values : List (Answer A E)} (l : List (Result A E)) → IsAnswers steps s n values t → n ≤ length l → Lists steps s l → Lists steps t (drop n l)
-  answers_left {s} {t} {n} l p within i = record { runs = subst (λ (k : ℕ). AlwaysGives steps t (drop k l)) p.count (rest_of_list p.trace l s t i.runs p.ran (let c = p.count in omega (arith, c, within))) }
+  pub lists_answers_left : {s t : S} {n : ℕ} {values : List (Answer A E)} (l : List (Result A E)) → IsAnswers steps s n values t → n ≤ length l → Lists steps s l → Lists steps t (drop n l)
+  lists_answers_left {s} {t} {n} l p within i = record { runs = subst (λ (k : ℕ). AlwaysGives steps t (drop k l)) p.count (always_gives_rest_of_list p.trace l s t i.runs p.ran (let c = p.count in omega (arith, c, within))) }
 
 -- ---- sides
 
@@ -37,12 +37,12 @@ rest_at Back l = reverse (rest_first (reverse l))
 
 module _ {A E : Type 0} where
   -- a list is empty, or has a last
-  last_view : (l : List (Result A E)) → (l ≡ []) ⊎ ((k : List (Result A E)) × (y : Result A E) × (l ≡ k ++ y ∷ []))
-  last_view l = view (reverse l) refl
+  nil_or_last : (l : List (Result A E)) → (l ≡ []) ⊎ ((k : List (Result A E)) × (y : Result A E) × (l ≡ k ++ y ∷ []))
+  nil_or_last l = last_view_by (reverse l) refl
     where
-      view : (r : List (Result A E)) → reverse l ≡ r → (l ≡ []) ⊎ ((k : List (Result A E)) × (y : Result A E) × (l ≡ k ++ y ∷ []))
-      view [] e = inl (sym (reverse-reverse l) ∙ ap reverse e)
-      view (y ∷ k) e = inr (reverse k, y, sym (reverse-reverse l) ∙ ap reverse e ∙ reverse-append (y ∷ []) k)
+      last_view_by : (r : List (Result A E)) → reverse l ≡ r → (l ≡ []) ⊎ ((k : List (Result A E)) × (y : Result A E) × (l ≡ k ++ y ∷ []))
+      last_view_by [] e = inl (sym (reverse-reverse l) ∙ ap reverse e)
+      last_view_by (y ∷ k) e = inr (reverse k, y, sym (reverse-reverse l) ∙ ap reverse e ∙ reverse-append (y ∷ []) k)
 
   told-append : (a b : List (Result A E)) → told (a ++ b) ≡ told a ++ told b
   unfolding told
@@ -55,21 +55,21 @@ module _ {A E : Type 0} where
   told-length (y ∷ a) = ap suc (told-length a)
 
   -- more values after a list from which no more are taken than it has
-  more_behind : (sides : List Side) (a b c : List (Answer A E)) → backs sides ≤ length b → by_sides sides a (b ++ c) ≡ by_sides sides a b
+  by_sides_append_back : (sides : List Side) (a b c : List (Answer A E)) → backs sides ≤ length b → by_sides sides a (b ++ c) ≡ by_sides sides a b
   unfolding by_sides
-  more_behind [] a b c few = refl
-  more_behind (Front ∷ sides) [] b c few = ap (λ l. End ∷ l) (more_behind sides [] b c (omega (arith, few)))
-  more_behind (Front ∷ sides) (x ∷ a) b c few = ap (λ l. x ∷ l) (more_behind sides a b c (omega (arith, few)))
-  more_behind (Back ∷ sides) a [] c few = absurd (omega (arith, few))
-  more_behind (Back ∷ sides) a (x ∷ b) c few = ap (λ l. x ∷ l) (more_behind sides a b c (omega (arith, few)))
+  by_sides_append_back [] a b c few = refl
+  by_sides_append_back (Front ∷ sides) [] b c few = ap (λ l. End ∷ l) (by_sides_append_back sides [] b c (omega (arith, few)))
+  by_sides_append_back (Front ∷ sides) (x ∷ a) b c few = ap (λ l. x ∷ l) (by_sides_append_back sides a b c (omega (arith, few)))
+  by_sides_append_back (Back ∷ sides) a [] c few = absurd (omega (arith, few))
+  by_sides_append_back (Back ∷ sides) a (x ∷ b) c few = ap (λ l. x ∷ l) (by_sides_append_back sides a b c (omega (arith, few)))
 
-  more_in_front : (sides : List Side) (a b c : List (Answer A E)) → fronts sides ≤ length a → by_sides sides (a ++ c) b ≡ by_sides sides a b
+  by_sides_append_front : (sides : List Side) (a b c : List (Answer A E)) → fronts sides ≤ length a → by_sides sides (a ++ c) b ≡ by_sides sides a b
   unfolding by_sides
-  more_in_front [] a b c few = refl
-  more_in_front (Back ∷ sides) a [] c few = ap (λ l. End ∷ l) (more_in_front sides a [] c (omega (arith, few)))
-  more_in_front (Back ∷ sides) a (x ∷ b) c few = ap (λ l. x ∷ l) (more_in_front sides a b c (omega (arith, few)))
-  more_in_front (Front ∷ sides) [] b c few = absurd (omega (arith, few))
-  more_in_front (Front ∷ sides) (x ∷ a) b c few = ap (λ l. x ∷ l) (more_in_front sides a b c (omega (arith, few)))
+  by_sides_append_front [] a b c few = refl
+  by_sides_append_front (Back ∷ sides) a [] c few = ap (λ l. End ∷ l) (by_sides_append_front sides a [] c (omega (arith, few)))
+  by_sides_append_front (Back ∷ sides) a (x ∷ b) c few = ap (λ l. x ∷ l) (by_sides_append_front sides a b c (omega (arith, few)))
+  by_sides_append_front (Front ∷ sides) [] b c few = absurd (omega (arith, few))
+  by_sides_append_front (Front ∷ sides) (x ∷ a) b c few = ap (λ l. x ∷ l) (by_sides_append_front sides a b c (omega (arith, few)))
 
 fronts_within : (n : ℕ) (sides : List Side) → fronts (take n sides) ≤ n
 fronts_within zero sides = omega arith
@@ -91,91 +91,91 @@ less_of_both (suc b) (suc n) = elim (less_of_both b n) [ inl e ↦ inl (omega (a
 -- ---- one draw more
 
 module _ {A E : Type 0} where
-  told_first : (y : Result A E) (l : List (Result A E)) → answer_of (nth_of 0 (y ∷ l)) ≡ answer_of (result_answer y)
+  answer_of_nth_of_0 : (y : Result A E) (l : List (Result A E)) → answer_of (nth_of 0 (y ∷ l)) ≡ answer_of (result_answer y)
   unfolding nth_of
-  told_first (Ok x) l = refl
-  told_first (Err e) l = refl
+  answer_of_nth_of_0 (Ok x) l = refl
+  answer_of_nth_of_0 (Err e) l = refl
 
   -- the answers of one side more
-  answers_front : (sides : List Side) (y : Result A E) (l : List (Result A E)) → answers_at_ends (Front ∷ sides) (y ∷ l) ≡ answer_of (result_answer y) ∷ answers_at_ends sides l
+  answers_at_ends_front : (sides : List Side) (y : Result A E) (l : List (Result A E)) → answers_at_ends (Front ∷ sides) (y ∷ l) ≡ answer_of (result_answer y) ∷ answers_at_ends sides l
   unfolding answers_at_ends by_sides told
-  answers_front sides y l =
+  answers_at_ends_front sides y l =
       let few : backs (take (length l) sides) ≤ length (told (reverse l)) = (let h = backs_within (length l) sides in let e = told-length (reverse l) in let r = length-reverse l in omega (arith, h, e, r)) in
       ap (λ k. answer_of (result_answer y) ∷ (k ++ map (λ _. End) (drop (length l) sides)))
       (ap (by_sides (take (length l) sides) (told l)) (ap told (reverse-append (y ∷ []) l) ∙ told-append (reverse l) (y ∷ []))
-      ∙ more_behind (take (length l) sides) (told l) (told (reverse l)) (told (y ∷ [])) few)
+      ∙ by_sides_append_back (take (length l) sides) (told l) (told (reverse l)) (told (y ∷ [])) few)
 
-  answers_back : (sides : List Side) (k : List (Result A E)) (y : Result A E) → answers_at_ends (Back ∷ sides) (k ++ y ∷ []) ≡ answer_of (result_answer y) ∷ answers_at_ends sides k
+  answers_at_ends_back : (sides : List Side) (k : List (Result A E)) (y : Result A E) → answers_at_ends (Back ∷ sides) (k ++ y ∷ []) ≡ answer_of (result_answer y) ∷ answers_at_ends sides k
   unfolding answers_at_ends by_sides told
-  answers_back sides k y =
+  answers_at_ends_back sides k y =
       let len : length (k ++ y ∷ []) ≡ suc (length k) = omega (arith, length-append k (y ∷ [])) in
       let few : fronts (take (length k) sides) ≤ length (told k) = (let h = fronts_within (length k) sides in let e = told-length k in omega (arith, h, e)) in
       ap (λ n. by_sides (take n (Back ∷ sides)) (told (k ++ y ∷ [])) (told (reverse (k ++ y ∷ []))) ++ map (λ _. End) (drop n (Back ∷ sides))) len
       ∙ ap (λ b. by_sides (Back ∷ take (length k) sides) (told (k ++ y ∷ [])) (told b) ++ map (λ _. End) (drop (length k) sides)) (reverse-append k (y ∷ []))
       ∙ ap (λ a. answer_of (result_answer y) ∷ (by_sides (take (length k) sides) a (told (reverse k)) ++ map (λ _. End) (drop (length k) sides))) (told-append k (y ∷ []))
-      ∙ ap (λ b. answer_of (result_answer y) ∷ (b ++ map (λ _. End) (drop (length k) sides))) (more_in_front (take (length k) sides) (told k) (told (reverse k)) (told (y ∷ [])) few)
+      ∙ ap (λ b. answer_of (result_answer y) ∷ (b ++ map (λ _. End) (drop (length k) sides))) (by_sides_append_front (take (length k) sides) (told k) (told (reverse k)) (told (y ∷ [])) few)
 
   drop_take_cons : (i : ℕ) (y : Result A E) (l : List (Result A E)) (m n : ℕ) → (m ≡ suc n) ⊎ ((m ≡ 0) × (n ≡ 0)) → drop (suc i) (take m (y ∷ l)) ≡ drop i (take n l)
   drop_take_cons i y l m n (inl more) = ap (λ k. drop (suc i) (take k (y ∷ l))) more
   drop_take_cons i y l m n (inr none) = ap (λ k. drop (suc i) (take k (y ∷ l))) none.0 ∙ sym (drop-nil i) ∙ sym (ap (λ k. drop i (take k l)) none.1)
 
   -- what one side more leaves
-  left_front : (sides : List Side) (y : Result A E) (l : List (Result A E)) → rest_ends (Front ∷ sides) (y ∷ l) ≡ rest_ends sides l
+  rest_ends_front : (sides : List Side) (y : Result A E) (l : List (Result A E)) → rest_ends (Front ∷ sides) (y ∷ l) ≡ rest_ends sides l
   unfolding rest_ends
-  left_front sides y l = drop_take_cons (fronts sides) y l (suc (length l) - backs sides) (length l - backs sides) (less_of_both (backs sides) (length l))
+  rest_ends_front sides y l = drop_take_cons (fronts sides) y l (suc (length l) - backs sides) (length l - backs sides) (less_of_both (backs sides) (length l))
 
-  left_back : (sides : List Side) (k : List (Result A E)) (y : Result A E) → rest_ends (Back ∷ sides) (k ++ y ∷ []) ≡ rest_ends sides k
+  rest_ends_back : (sides : List Side) (k : List (Result A E)) (y : Result A E) → rest_ends (Back ∷ sides) (k ++ y ∷ []) ≡ rest_ends sides k
   unfolding rest_ends
-  left_back sides k y =
+  rest_ends_back sides k y =
       let less : length (k ++ y ∷ []) - suc (backs sides) ≡ length k - backs sides = (let e = length-append k (y ∷ []) in omega (arith, e)) in
       ap (λ n. drop (fronts sides) (take n (k ++ y ∷ []))) less
       ∙ ap (drop (fronts sides)) (take-append-le (length k - backs sides) k (y ∷ []) (omega arith))
 
-  none_left : (i n : ℕ) → ◌≡◌ {A = List (Result A E)} (drop i (take n [])) []
-  none_left i zero = drop-nil i
-  none_left i (suc n) = drop-nil i
+  drop_take_nil : (i n : ℕ) → ◌≡◌ {A = List (Result A E)} (drop i (take n [])) []
+  drop_take_nil i zero = drop-nil i
+  drop_take_nil i (suc n) = drop-nil i
 
   -- what is drawn at the back of a list with a last
-  drawn_back : (k : List (Result A E)) (y : Result A E) → (answer_of_side Back (k ++ y ∷ []) ≡ answer_of (result_answer y)) × (rest_at Back (k ++ y ∷ []) ≡ k)
+  answer_and_rest_at_back : (k : List (Result A E)) (y : Result A E) → (answer_of_side Back (k ++ y ∷ []) ≡ answer_of (result_answer y)) × (rest_at Back (k ++ y ∷ []) ≡ k)
   unfolding rest_first
-  drawn_back k y = let last = reverse-append k (y ∷ []) in
-      (ap (λ l. answer_of (nth_of 0 l)) last ∙ told_first y (reverse k), ap (λ l. reverse (rest_first l)) last ∙ reverse-reverse k)
+  answer_and_rest_at_back k y = let last = reverse-append k (y ∷ []) in
+      (ap (λ l. answer_of (nth_of 0 l)) last ∙ answer_of_nth_of_0 y (reverse k), ap (λ l. reverse (rest_first l)) last ∙ reverse-reverse k)
 
-  none_answered : (l : List (Result A E)) → [] ≡ answers_at_ends [] l
+  answers_at_ends_nil : (l : List (Result A E)) → [] ≡ answers_at_ends [] l
   unfolding answers_at_ends by_sides
-  none_answered [] = refl
-  none_answered (y ∷ l) = refl
+  answers_at_ends_nil [] = refl
+  answers_at_ends_nil (y ∷ l) = refl
 
-  none_drawn : (l : List (Result A E)) → rest_ends [] l ≡ l
+  rest_ends_nil : (l : List (Result A E)) → rest_ends [] l ≡ l
   unfolding rest_ends
-  none_drawn l = let all : length l - 0 ≡ length l = omega arith in ap (λ n. take n l) all ∙ take-length l
+  rest_ends_nil l = let all : length l - 0 ≡ length l = omega arith in ap (λ n. take n l) all ∙ take-length l
 
   abbrev OneMore : Side → List Side → List (Result A E) → Type 0
   OneMore side sides l = (answers_at_ends (side ∷ sides) l ≡ answer_of_side side l ∷ answers_at_ends sides (rest_at side l)) × (rest_ends (side ∷ sides) l ≡ rest_ends sides (rest_at side l))
 
-  more_of_none : (side : Side) (sides : List Side) → OneMore side sides []
+  one_more_of_none : (side : Side) (sides : List Side) → OneMore side sides []
   unfolding answers_at_ends rest_ends nth_of rest_first by_sides told
-  more_of_none Front sides = (refl, none_left (suc (fronts sides)) (0 - backs sides) ∙ sym (none_left (fronts sides) (0 - backs sides)))
-  more_of_none Back sides = (refl, none_left (fronts sides) (0 - suc (backs sides)) ∙ sym (none_left (fronts sides) (0 - backs sides)))
+  one_more_of_none Front sides = (refl, drop_take_nil (suc (fronts sides)) (0 - backs sides) ∙ sym (drop_take_nil (fronts sides) (0 - backs sides)))
+  one_more_of_none Back sides = (refl, drop_take_nil (fronts sides) (0 - suc (backs sides)) ∙ sym (drop_take_nil (fronts sides) (0 - backs sides)))
 
   -- a side more is one draw and then the others, whatever the list
   one_more : (side : Side) (sides : List Side) (l : List (Result A E)) → OneMore side sides l
   unfolding rest_first
-  one_more Front sides [] = more_of_none Front sides
-  one_more Front sides (y ∷ l) = (answers_front sides y l ∙ ap (λ a. a ∷ answers_at_ends sides l) (sym (told_first y l)), left_front sides y l)
-  one_more Back sides l = elim (last_view l) [
-    | inl none ↦ subst (OneMore Back sides) (sym none) (more_of_none Back sides)
-    | inr s ↦ let d = drawn_back s.0 s.1 in subst (OneMore Back sides) (sym s.2) (answers_back sides s.0 s.1 ∙ ap (λ a. a ∷ answers_at_ends sides s.0) (sym d.0) ∙ ap (λ k. answer_of_side Back (s.0 ++ s.1 ∷ []) ∷ answers_at_ends sides k) (sym d.1), left_back sides s.0 s.1 ∙ ap (rest_ends sides) (sym d.1))
+  one_more Front sides [] = one_more_of_none Front sides
+  one_more Front sides (y ∷ l) = (answers_at_ends_front sides y l ∙ ap (λ a. a ∷ answers_at_ends sides l) (sym (answer_of_nth_of_0 y l)), rest_ends_front sides y l)
+  one_more Back sides l = elim (nil_or_last l) [
+    | inl none ↦ subst (OneMore Back sides) (sym none) (one_more_of_none Back sides)
+    | inr s ↦ let d = answer_and_rest_at_back s.0 s.1 in subst (OneMore Back sides) (sym s.2) (answers_at_ends_back sides s.0 s.1 ∙ ap (λ a. a ∷ answers_at_ends sides s.0) (sym d.0) ∙ ap (λ k. answer_of_side Back (s.0 ++ s.1 ∷ []) ∷ answers_at_ends sides k) (sym d.1), rest_ends_back sides s.0 s.1 ∙ ap (rest_ends sides) (sym d.1))
   ]
 
 module _ {S A E : Type 0} (front back : S → Answered A E → S → Type 0) where
-  drawn_at : (side : Side) (s t : S) (r : Answered A E) (l : List (Result A E)) → ListsBothEnds front back s l → step_at front back side s r t → (answer_of r ≡ answer_of_side side l) × ListsBothEnds front back t (rest_at side l)
-  drawn_at Front s t r l i step = let d = rest_at_front l i step in (ap answer_of d.0, d.1)
-  drawn_at Back s t r l i step = let d = rest_at_back l i step in (ap answer_of d.0, d.1)
+  answer_and_rest_at_side : (side : Side) (s t : S) (r : Answered A E) (l : List (Result A E)) → ListsBothEnds front back s l → step_at front back side s r t → (answer_of r ≡ answer_of_side side l) × ListsBothEnds front back t (rest_at side l)
+  answer_and_rest_at_side Front s t r l i step = let d = rest_at_front l i step in (ap answer_of d.0, d.1)
+  answer_and_rest_at_side Back s t r l i step = let d = rest_at_back l i step in (ap answer_of d.0, d.1)
 
   told_at_ends : (pairs : List (Side × Answered A E)) (l : List (Result A E)) (s t : S) → ListsBothEnds front back s l → RunAtEnds front back s pairs t → (map (λ p. answer_of p.1) pairs ≡ answers_at_ends (map (λ p. p.0) pairs) l) × ListsBothEnds front back t (rest_ends (map (λ p. p.0) pairs) l)
-  told_at_ends [] l s t i ran = (none_answered l, subst (λ (u : S). ListsBothEnds front back u (rest_ends [] l)) ran (subst (λ (k : List (Result A E)). ListsBothEnds front back s k) (sym (none_drawn l)) i))
-  told_at_ends (p ∷ pairs) l s t i ran = let d = drawn_at p.0 s ran.0 p.1 l i ran.1 in let rest = told_at_ends pairs (rest_at p.0 l) ran.0 t d.1 ran.2 in let more = one_more p.0 (map (λ q. q.0) pairs) l in
+  told_at_ends [] l s t i ran = (answers_at_ends_nil l, subst (λ (u : S). ListsBothEnds front back u (rest_ends [] l)) ran (subst (λ (k : List (Result A E)). ListsBothEnds front back s k) (sym (rest_ends_nil l)) i))
+  told_at_ends (p ∷ pairs) l s t i ran = let d = answer_and_rest_at_side p.0 s ran.0 p.1 l i ran.1 in let rest = told_at_ends pairs (rest_at p.0 l) ran.0 t d.1 ran.2 in let more = one_more p.0 (map (λ q. q.0) pairs) l in
       (ap (λ a. a ∷ map (λ q. answer_of q.1) pairs) d.0 ∙ ap (λ k. answer_of_side p.0 l ∷ k) rest.0 ∙ sym more.0, subst (λ (k : List (Result A E)). ListsBothEnds front back t k) (sym more.1) rest.1)
 
   pub answers_at_told : {s t : S} {sides : List Side} {values : List (Answer A E)} (l : List (Result A E)) → IsAnswersAt front back s sides values t → ListsBothEnds front back s l → (values ≡ answers_at_ends sides l) × ListsBothEnds front back t (rest_ends sides l)

@@ -4,8 +4,8 @@ use Rattle.std.proofs.Common.{refl, sym, ap, subst, arith, ◌∙◌}
 use Rattle.fallible_contract.specs.Traces.{Answered, Run, item}
 use Rattle.fallible_contract.specs.Picking.{OfEach}
 use Rattle.fallible_contract.specs.Lists.{AlwaysGives, Lists, Repeats, compared, repeated, unless_equal}
-use Rattle.fallible_contract.specs.Comparing.{where_drawn, LastRound, Compared, ComparedWith}
-use Rattle.fallible_contract.proofs.Lemmas.Lists.Compared.{last_round, right_left}
+use Rattle.fallible_contract.specs.Comparing.{where_drawn, LastRound, CompareDraws, ComparedWith}
+use Rattle.fallible_contract.proofs.Lemmas.Lists.Compared.{compared_at_last_round, right_left_of_where_drawn}
 use Rattle.fallible_core.proofs.Lemmas.Cutting.Take.{repeats_after}
 use Rattle.std.specs.declared.cmp.Ordering.{Ordering}
 use Rattle.std.specs.declared.cmp.Ordering.TheVariants.{Equal}
@@ -22,7 +22,7 @@ module _ {A E : Type 0} (rule : A → A → Option Ordering) where
       unfolding compared repeated
       compared_from [] b s t equal again gives ran run =
           let is : last ≡ Ok (Some x) = again.each [] s ran.0 last refl ran.1 in
-          last_round rule (Ok (Some x)) y r (Ok x ∷ repeated (length b) x) b (repeated (length b) x, refl) (right_left rule right-steps y b t v gives run) (subst (λ (z : Answered A E). LastRound rule z y r) is exit)
+          compared_at_last_round rule (Ok (Some x)) y r (Ok x ∷ repeated (length b) x) b (repeated (length b) x, refl) (right_left_of_where_drawn rule right-steps y b t v gives run) (subst (λ (z : Answered A E). LastRound rule z y r) is exit)
       compared_from (p ∷ pairs) [] s t equal again gives ran run = absurd (let h = gives (Ok (Some p.1)) run.0 run.1 in cc)
       compared_from (p ∷ pairs) (Err e ∷ b) s t equal again gives ran run = absurd (let h = (gives (Ok (Some p.1)) run.0 run.1).0 in cc)
       compared_from (p ∷ pairs) (Ok z ∷ b) s t equal again gives ran run =
@@ -34,7 +34,7 @@ module _ {A E : Type 0} (rule : A → A → Option Ordering) where
 
 module _ {S T A E : Type 0} {rule : A → A → Option Ordering} {left-steps : S → Answered A E → S → Type 0} {right-steps : T → Answered A E → T → Type 0} {s : S} (x : A) (b : List (Result A E)) where
   -- a side that yields the item x without end compares as x does, repeated once more often than the other side is long
-  pub compared_repeats : {t : T} {r : Result (Option Ordering) E} → Compared rule left-steps right-steps s t r → Repeats left-steps s (Ok x) → Lists right-steps t b → r ≡ compared rule (repeated (length b + 1) x) b
+  pub compared_repeats : {t : T} {r : Result (Option Ordering) E} → CompareDraws rule left-steps right-steps s t r → Repeats left-steps s (Ok x) → Lists right-steps t b → r ≡ compared rule (repeated (length b + 1) x) b
   compared_repeats {t} {r} c again j = compared_from rule left-steps right-steps c.last_left c.last_right r x c.left c.right c.exit c.pairs b s t c.equal again j.runs c.left_ran c.right_ran ∙ ap (λ a. compared rule a b) (one_more_repeated (length b) x)
 
   pub compared_with_repeats : {O : Type 0} {into : O → T → Type 0} {other : O} {r : Result (Option Ordering) E} → ComparedWith rule into left-steps right-steps s other r → Repeats left-steps s (Ok x) → ((right : T) → into other right → Lists right-steps right b) → r ≡ compared rule (repeated (length b + 1) x) b

@@ -6,26 +6,26 @@ use Rattle.std.proofs.lemmas.Bool.{true≢false}
 use Rattle.fallible_contract.specs.Comparing.{by_cmp, by_eq, equal_where, read_as, reads_eq}
 use Rattle.fallible_contract.specs.Lists.{compared, unless_equal}
 -- lemmas of `fallible_contract` on one comparison, reexported
-pub use Rattle.fallible_contract.proofs.Lemmas.Comparing.{EitherAtMost, either_begins, either_fewer, end_of_either}
+pub use Rattle.fallible_contract.proofs.Lemmas.Comparing.{EitherAtMost, either_at_most_begins, either_at_most_fewer, end_of_either}
 use Rattle.std.specs.declared.cmp.Ordering.{Ordering}
 use Rattle.std.specs.declared.cmp.Ordering.TheVariants.{Less, Equal, Greater}
 
 module _ {E : Type 0} where
   -- one pair, and then the rest
-  pair_read : (v : Bool) (o : Ordering) (p q : Result (Option Ordering) E) → v ≡ is_eq o → read_as reads_eq p ≡ read_as reads_eq q → read_as reads_eq (unless_equal (equal_where v) p) ≡ read_as reads_eq (unless_equal (Some o) q)
-  pair_read true Less p q e same = absurd (true≢false e)
-  pair_read true Equal p q e same = same
-  pair_read true Greater p q e same = absurd (true≢false e)
-  pair_read false Less p q e same = refl
-  pair_read false Equal p q e same = absurd (true≢false (sym e))
-  pair_read false Greater p q e same = refl
+  read_as_unless_equal : (v : Bool) (o : Ordering) (p q : Result (Option Ordering) E) → v ≡ is_eq o → read_as reads_eq p ≡ read_as reads_eq q → read_as reads_eq (unless_equal (equal_where v) p) ≡ read_as reads_eq (unless_equal (Some o) q)
+  read_as_unless_equal true Less p q e same = absurd (true≢false e)
+  read_as_unless_equal true Equal p q e same = same
+  read_as_unless_equal true Greater p q e same = absurd (true≢false e)
+  read_as_unless_equal false Less p q e same = refl
+  read_as_unless_equal false Equal p q e same = absurd (true≢false (sym e))
+  read_as_unless_equal false Greater p q e same = refl
 
   -- an order that was found, read as whether it is equal
-  order_read : (r : Result Ordering E) → read_as reads_eq (read_as (λ o. Some o) r) ≡ read_as is_eq r
-  order_read (Ok Less) = refl
-  order_read (Ok Equal) = refl
-  order_read (Ok Greater) = refl
-  order_read (Err e) = refl
+  read_as_reads_eq : (r : Result Ordering E) → read_as reads_eq (read_as (λ o. Some o) r) ≡ read_as is_eq r
+  read_as_reads_eq (Ok Less) = refl
+  read_as_reads_eq (Ok Equal) = refl
+  read_as_reads_eq (Ok Greater) = refl
+  read_as_reads_eq (Err e) = refl
 
   true_where_equal : (r : Result Ordering E) → read_as is_eq r ≡ Ok true ↔ r ≡ Ok Equal
   true_where_equal (Ok Less) = ((λ e. absurd (let h = e in cc)), (λ e. absurd (let h = e in cc)))
@@ -35,17 +35,17 @@ module _ {E : Type 0} where
 
 module _ {A E : Type 0} (eq : A → A → Bool) (cmp : A → A → Ordering) (agree : (x y : A) → eq x y ≡ is_eq (cmp x y)) where
   -- where items are equal just where their order is, so are lists
-  lists_read : (a b : List (Result A E)) → read_as reads_eq (compared (by_eq eq) a b) ≡ read_as reads_eq (compared (by_cmp cmp) a b)
+  read_as_compared : (a b : List (Result A E)) → read_as reads_eq (compared (by_eq eq) a b) ≡ read_as reads_eq (compared (by_cmp cmp) a b)
   unfolding compared
-  lists_read (Err e ∷ a) b = refl
-  lists_read [] [] = refl
-  lists_read [] (Ok y ∷ b) = refl
-  lists_read [] (Err e ∷ b) = refl
-  lists_read (Ok x ∷ a) [] = refl
-  lists_read (Ok x ∷ a) (Ok y ∷ b) = pair_read (eq x y) (cmp x y) (compared (by_eq eq) a b) (compared (by_cmp cmp) a b) (agree x y) (lists_read a b)
-  lists_read (Ok x ∷ a) (Err e ∷ b) = refl
+  read_as_compared (Err e ∷ a) b = refl
+  read_as_compared [] [] = refl
+  read_as_compared [] (Ok y ∷ b) = refl
+  read_as_compared [] (Err e ∷ b) = refl
+  read_as_compared (Ok x ∷ a) [] = refl
+  read_as_compared (Ok x ∷ a) (Ok y ∷ b) = read_as_unless_equal (eq x y) (cmp x y) (compared (by_eq eq) a b) (compared (by_cmp cmp) a b) (agree x y) (read_as_compared a b)
+  read_as_compared (Ok x ∷ a) (Err e ∷ b) = refl
 
   pub eq_reads_cmp : (a b : List (Result A E)) (equal : Result Bool E) (order : Result Ordering E) → equal ≡ read_as reads_eq (compared (by_eq eq) a b) → read_as (λ o. Some o) order ≡ compared (by_cmp cmp) a b → (equal ≡ read_as is_eq order) × (equal ≡ Ok true ↔ order ≡ Ok Equal)
   eq_reads_cmp a b equal order p q =
-      let same : equal ≡ read_as is_eq order = p ∙ lists_read a b ∙ sym (ap (read_as reads_eq) q) ∙ order_read order in
+      let same : equal ≡ read_as is_eq order = p ∙ read_as_compared a b ∙ sym (ap (read_as reads_eq) q) ∙ read_as_reads_eq order in
       (same, ((λ e. (true_where_equal order).0 (sym same ∙ e)), (λ e. same ∙ (true_where_equal order).1 e)))

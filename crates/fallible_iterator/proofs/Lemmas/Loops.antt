@@ -15,39 +15,39 @@ module _ {S A E B R : Type 0} where
     pub at : (whole : List (Result A E)) → Lists steps s0 whole → (rest : List (Result A E)) × Lists steps s rest × (answers b0 whole ≡ answers b rest)
 
   module _ (steps : S → Answered A E → S → Type 0) (answers : B → List (Result A E) → R) (s t : S) (b : B) (r : Answered A E) (drawn : steps s r t) where
-    item_on : (x : A) (c : B) (v : R) (rest : List (Result A E)) → r ≡ Ok (Some x) → ((l : List (Result A E)) → answers b (Ok x ∷ l) ≡ answers c l) → AlwaysGives steps s rest → v ≡ answers b rest → (l : List (Result A E)) × Lists steps t l × (v ≡ answers c l)
-    item_on x c v [] is same i e = absurd (let h = i r t drawn in cc)
-    item_on x c v (Ok y ∷ l) is same i e = let h = i r t drawn in let at : y ≡ x = (let q = h.0 in cc) in (l, record { runs = h.1 }, e ∙ ap (λ z. answers b (Ok z ∷ l)) at ∙ same l)
-    item_on x c v (Err y ∷ l) is same i e = absurd (let h = (i r t drawn).0 in cc)
+    lists_after_item : (x : A) (c : B) (v : R) (rest : List (Result A E)) → r ≡ Ok (Some x) → ((l : List (Result A E)) → answers b (Ok x ∷ l) ≡ answers c l) → AlwaysGives steps s rest → v ≡ answers b rest → (l : List (Result A E)) × Lists steps t l × (v ≡ answers c l)
+    lists_after_item x c v [] is same i e = absurd (let h = i r t drawn in cc)
+    lists_after_item x c v (Ok y ∷ l) is same i e = let h = i r t drawn in let at : y ≡ x = (let q = h.0 in cc) in (l, record { runs = h.1 }, e ∙ ap (λ z. answers b (Ok z ∷ l)) at ∙ same l)
+    lists_after_item x c v (Err y ∷ l) is same i e = absurd (let h = (i r t drawn).0 in cc)
 
-    item_decides : (x : A) (v : R) (rest : List (Result A E)) → r ≡ Ok (Some x) → ((l : List (Result A E)) → v ≡ answers b (Ok x ∷ l)) → AlwaysGives steps s rest → v ≡ answers b rest
-    item_decides x v [] is same i = absurd (let h = i r t drawn in cc)
-    item_decides x v (Ok y ∷ l) is same i = let at : x ≡ y = (let q = (i r t drawn).0 in cc) in same l ∙ ap (λ z. answers b (Ok z ∷ l)) at
-    item_decides x v (Err y ∷ l) is same i = absurd (let h = (i r t drawn).0 in cc)
+    answer_of_item : (x : A) (v : R) (rest : List (Result A E)) → r ≡ Ok (Some x) → ((l : List (Result A E)) → v ≡ answers b (Ok x ∷ l)) → AlwaysGives steps s rest → v ≡ answers b rest
+    answer_of_item x v [] is same i = absurd (let h = i r t drawn in cc)
+    answer_of_item x v (Ok y ∷ l) is same i = let at : x ≡ y = (let q = (i r t drawn).0 in cc) in same l ∙ ap (λ z. answers b (Ok z ∷ l)) at
+    answer_of_item x v (Err y ∷ l) is same i = absurd (let h = (i r t drawn).0 in cc)
 
-    failure_decides : (e : E) (v : R) (rest : List (Result A E)) → r ≡ Err e → ((l : List (Result A E)) → v ≡ answers b (Err e ∷ l)) → AlwaysGives steps s rest → v ≡ answers b rest
-    failure_decides e v [] is same i = absurd (let h = i r t drawn in cc)
-    failure_decides e v (Ok y ∷ l) is same i = absurd (let h = (i r t drawn).0 in cc)
-    failure_decides e v (Err d ∷ l) is same i = let at : e ≡ d = (let q = (i r t drawn).0 in cc) in same l ∙ ap (λ z. answers b (Err z ∷ l)) at
+    answer_of_failure : (e : E) (v : R) (rest : List (Result A E)) → r ≡ Err e → ((l : List (Result A E)) → v ≡ answers b (Err e ∷ l)) → AlwaysGives steps s rest → v ≡ answers b rest
+    answer_of_failure e v [] is same i = absurd (let h = i r t drawn in cc)
+    answer_of_failure e v (Ok y ∷ l) is same i = absurd (let h = (i r t drawn).0 in cc)
+    answer_of_failure e v (Err d ∷ l) is same i = let at : e ≡ d = (let q = (i r t drawn).0 in cc) in same l ∙ ap (λ z. answers b (Err z ∷ l)) at
 
-    end_decides : (v : R) (rest : List (Result A E)) → r ≡ Ok None → v ≡ answers b [] → AlwaysGives steps s rest → v ≡ answers b rest
-    end_decides v [] is same i = same
-    end_decides v (Ok y ∷ l) is same i = absurd (let h = (i r t drawn).0 in cc)
-    end_decides v (Err y ∷ l) is same i = absurd (let h = (i r t drawn).0 in cc)
+    answer_of_end : (v : R) (rest : List (Result A E)) → r ≡ Ok None → v ≡ answers b [] → AlwaysGives steps s rest → v ≡ answers b rest
+    answer_of_end v [] is same i = same
+    answer_of_end v (Ok y ∷ l) is same i = absurd (let h = (i r t drawn).0 in cc)
+    answer_of_end v (Err y ∷ l) is same i = absurd (let h = (i r t drawn).0 in cc)
 
   module _ {steps : S → Answered A E → S → Type 0} {answers : B → List (Result A E) → R} {s0 s t : S} {b0 b : B} {r : Answered A E} where
     -- after an item on which the loop goes on with the value c
-    pub goes_on : (x : A) {c : B} → AnswersFromHere steps answers s0 b0 s b → steps s r t → r ≡ Ok (Some x) → ((l : List (Result A E)) → answers b (Ok x ∷ l) ≡ answers c l) → AnswersFromHere steps answers s0 b0 t c
-    goes_on x {c = c} here drawn is same = record { at = λ whole i. let k = here.at whole i in item_on steps answers s t b r drawn x c _ k.0 is same k.1.runs k.2 }
+    pub answers_from_here_on : (x : A) {c : B} → AnswersFromHere steps answers s0 b0 s b → steps s r t → r ≡ Ok (Some x) → ((l : List (Result A E)) → answers b (Ok x ∷ l) ≡ answers c l) → AnswersFromHere steps answers s0 b0 t c
+    answers_from_here_on x {c = c} here drawn is same = record { at = λ whole i. let k = here.at whole i in lists_after_item steps answers s t b r drawn x c _ k.0 is same k.1.runs k.2 }
 
     -- at an item at which the loop is left with v
-    pub stops : (x : A) {v : R} → AnswersFromHere steps answers s0 b0 s b → steps s r t → r ≡ Ok (Some x) → ((l : List (Result A E)) → v ≡ answers b (Ok x ∷ l)) → (whole : List (Result A E)) → Lists steps s0 whole → v ≡ answers b0 whole
-    stops x {v = v} here drawn is same whole i = let k = here.at whole i in item_decides steps answers s t b r drawn x v k.0 is same k.1.runs ∙ sym k.2
+    pub answer_at_stop : (x : A) {v : R} → AnswersFromHere steps answers s0 b0 s b → steps s r t → r ≡ Ok (Some x) → ((l : List (Result A E)) → v ≡ answers b (Ok x ∷ l)) → (whole : List (Result A E)) → Lists steps s0 whole → v ≡ answers b0 whole
+    answer_at_stop x {v = v} here drawn is same whole i = let k = here.at whole i in answer_of_item steps answers s t b r drawn x v k.0 is same k.1.runs ∙ sym k.2
 
     -- at a failure, with which the loop is left
-    pub fails : (e : E) {v : R} → AnswersFromHere steps answers s0 b0 s b → steps s r t → r ≡ Err e → ((l : List (Result A E)) → v ≡ answers b (Err e ∷ l)) → (whole : List (Result A E)) → Lists steps s0 whole → v ≡ answers b0 whole
-    fails e {v = v} here drawn is same whole i = let k = here.at whole i in failure_decides steps answers s t b r drawn e v k.0 is same k.1.runs ∙ sym k.2
+    pub answer_at_failure : (e : E) {v : R} → AnswersFromHere steps answers s0 b0 s b → steps s r t → r ≡ Err e → ((l : List (Result A E)) → v ≡ answers b (Err e ∷ l)) → (whole : List (Result A E)) → Lists steps s0 whole → v ≡ answers b0 whole
+    answer_at_failure e {v = v} here drawn is same whole i = let k = here.at whole i in answer_of_failure steps answers s t b r drawn e v k.0 is same k.1.runs ∙ sym k.2
 
     -- at the end
-    pub ends : {v : R} → AnswersFromHere steps answers s0 b0 s b → steps s r t → r ≡ Ok None → v ≡ answers b [] → (whole : List (Result A E)) → Lists steps s0 whole → v ≡ answers b0 whole
-    ends {v = v} here drawn is same whole i = let k = here.at whole i in end_decides steps answers s t b r drawn v k.0 is same k.1.runs ∙ sym k.2
+    pub answer_at_end : {v : R} → AnswersFromHere steps answers s0 b0 s b → steps s r t → r ≡ Ok None → v ≡ answers b [] → (whole : List (Result A E)) → Lists steps s0 whole → v ≡ answers b0 whole
+    answer_at_end {v = v} here drawn is same whole i = let k = here.at whole i in answer_of_end steps answers s t b r drawn v k.0 is same k.1.runs ∙ sym k.2

@@ -5,10 +5,10 @@ use Rattle.std.specs.Fn.{Mut}
 use Rattle.std.proofs.Common.{refl, sym, ap, subst, arith, append-nil, inl, inr, ◌∙◌}
 use Rattle.fallible_contract.specs.Traces.{Answered, Run, item, end}
 use Rattle.fallible_contract.specs.Closures.{call_on}
-use Rattle.fallible_contract.specs.Folds.{CountExit, Counted, FoldExit, Folded, call_with, went_on_with}
+use Rattle.fallible_contract.specs.Folds.{CountExit, CountDrains, FoldExit, FoldDrains, call_with, went_on_with}
 use Rattle.fallible_contract.specs.Collecting.{Collects}
 use Rattle.fallible_contract.specs.Passing.{passing_step}
-use Rattle.fallible_contract.specs.Laws.Passing.{Passes, done, end_passes, failure_passes, keeps, refuses, closes, leaves_out, to_passes}
+use Rattle.fallible_contract.specs.Laws.Passing.{Passes, done, end_passes, failure_passes, keeps, refuses, closes, leaves_out, passes_of_pass_trace}
 use Rattle.fallible_contract.specs.Lists.{AlwaysGives, Converts, Lists, before, collected, counted, folded, one_more_than}
 use Rattle.fallible_core.specs.OneToOne.Map.{map_outcome, map_parts, mapped}
 use Rattle.fallible_iterator.specs.Making.{AnswersRefusal, AtRefusal, CollectedMade, EachMade, GivesMade, IsMadeOf, IsRefusal, IsToldOrRefused, ListsMade, Makes, MakesOf, MakesWith, RefusesNext, SameOrRefused}
@@ -21,20 +21,20 @@ use Rattle.fallible_core.specs.declared.one_to_one.map.Map.{Map}
 -- ---- what one call makes
 
 module _ {X V B E : Type 0} (made : V → B → Type 0) (from : AllocError → E → Type 0) (x : X) where
-  kept_made : (z : Result V E) (v : Result B E) (y : B) → map_outcome x v ≡ Kept y → IsToldOrRefused made from z v → IsMadeOf made z (Ok (Some y))
-  kept_made (Ok w) (Ok k) y is m = subst (made w) (let e = is in cc) m
-  kept_made (Err d) (Ok k) y is m = absurd m
-  kept_made z (Err e) y is m = absurd (let e = is in cc)
+  is_made_of_kept : (z : Result V E) (v : Result B E) (y : B) → map_outcome x v ≡ Kept y → IsToldOrRefused made from z v → IsMadeOf made z (Ok (Some y))
+  is_made_of_kept (Ok w) (Ok k) y is m = subst (made w) (let e = is in cc) m
+  is_made_of_kept (Err d) (Ok k) y is m = absurd m
+  is_made_of_kept z (Err e) y is m = absurd (let e = is in cc)
 
-  failed_made : (z : Result V E) (v : Result B E) (e : E) → map_outcome x v ≡ Failure e → IsToldOrRefused made from z v → AnswersRefusal {B = B} from (Err e) ⊎ IsMadeOf {B = B} made z (Err e)
-  failed_made z (Ok k) e is m = absurd (let e = is in cc)
-  failed_made (Ok w) (Err d) e is m = inl (e, refl, subst (IsRefusal from) (let same = is in cc) m)
-  failed_made (Err c) (Err d) e is (inl same) = inr (let i = is in cc)
-  failed_made (Err c) (Err d) e is (inr m) = inl (e, refl, subst (IsRefusal from) (let i = is in cc) m)
+  answers_refusal_failed_made : (z : Result V E) (v : Result B E) (e : E) → map_outcome x v ≡ Failure e → IsToldOrRefused made from z v → AnswersRefusal {B = B} from (Err e) ⊎ IsMadeOf {B = B} made z (Err e)
+  answers_refusal_failed_made z (Ok k) e is m = absurd (let e = is in cc)
+  answers_refusal_failed_made (Ok w) (Err d) e is m = inl (e, refl, subst (IsRefusal from) (let same = is in cc) m)
+  answers_refusal_failed_made (Err c) (Err d) e is (inl same) = inr (let i = is in cc)
+  answers_refusal_failed_made (Err c) (Err d) e is (inr m) = inl (e, refl, subst (IsRefusal from) (let i = is in cc) m)
 
-  none_ends : (v : Result B E) → map_outcome x v ≡ End → ⊥
-  none_ends (Ok y) is = cc
-  none_ends (Err e) is = cc
+  made_never_ends : (v : Result B E) → map_outcome x v ≡ End → ⊥
+  made_never_ends (Ok y) is = cc
+  made_never_ends (Err e) is = cc
 
   none_left_out : (v : Result B E) → map_outcome x v ≡ LeftOut → ⊥
   none_left_out (Ok y) is = cc
@@ -43,56 +43,56 @@ module _ {X V B E : Type 0} (made : V → B → Type 0) (from : AllocError → E
 -- ---- what `map` lists
 
 module _ {S F X V B E : Type 0} (steps : S → Answered X E → S → Type 0) (call : F → X → Result B E → F → Type 0) (made : V → B → Type 0) (from : AllocError → E → Type 0) (f : F) (h : X → Result V E) (makes : Makes made from call f h) where
-  abbrev Gives : S → F → List (Result V E) → Type 0
-  Gives s g l = GivesMade made (passing_step steps call map_outcome) from (s, g) l
+  abbrev GivesMadeItems : S → F → List (Result V E) → Type 0
+  GivesMadeItems s g l = GivesMade made (passing_step steps call map_outcome) from (s, g) l
 
-  abbrev One : S → Answered B E → S → F → Type 0
-  One s r t g = Passes steps call map_outcome s f (r ∷ []) t g
+  abbrev OneDrawn : S → Answered B E → S → F → Type 0
+  OneDrawn s r t g = Passes steps call map_outcome s f (r ∷ []) t g
 
-  ended : (s : S) (r : Answered B E) (t : S) (g : F) → AlwaysGives {A = X} steps s [] → One s r t g → r ≡ end
-  ended s _ t g a (end_passes step d) = refl
-  ended s _ t g a (failure_passes e step d) = absurd (let w = a (Err e) _ step in cc)
-  ended s _ t g a (keeps x v y step called is d) = absurd (let w = a (Ok (Some x)) _ step in cc)
-  ended s _ t g a (refuses x v e step called is d) = absurd (let w = a (Ok (Some x)) _ step in cc)
-  ended s _ t g a (closes x v step called is d) = absurd (let w = a (Ok (Some x)) _ step in cc)
-  ended s r t g a (leaves_out x v step called is d) = absurd (let w = a (Ok (Some x)) _ step in cc)
+  end_of_nil : (s : S) (r : Answered B E) (t : S) (g : F) → AlwaysGives {A = X} steps s [] → OneDrawn s r t g → r ≡ end
+  end_of_nil s _ t g a (end_passes step d) = refl
+  end_of_nil s _ t g a (failure_passes e step d) = absurd (let w = a (Err e) _ step in cc)
+  end_of_nil s _ t g a (keeps x v y step called is d) = absurd (let w = a (Ok (Some x)) _ step in cc)
+  end_of_nil s _ t g a (refuses x v e step called is d) = absurd (let w = a (Ok (Some x)) _ step in cc)
+  end_of_nil s _ t g a (closes x v step called is d) = absurd (let w = a (Ok (Some x)) _ step in cc)
+  end_of_nil s r t g a (leaves_out x v step called is d) = absurd (let w = a (Ok (Some x)) _ step in cc)
 
-  failed : (d : E) (l : List (Result X E)) (s : S) (r : Answered B E) (t : S) (g : F) → AlwaysGives steps s (Err d ∷ l) → One s r t g → (r ≡ Err d) × (g ≡ f) × AlwaysGives steps t l
-  failed d l s _ t g a (end_passes step c) = absurd (let w = (a (Ok None) _ step).0 in cc)
-  failed d l s _ t g a (failure_passes e step done) = let w = a (Err e) t step in ((let q = w.0 in cc), refl, w.1)
-  failed d l s _ t g a (keeps x v y step called is c) = absurd (let w = (a (Ok (Some x)) _ step).0 in cc)
-  failed d l s _ t g a (refuses x v e step called is c) = absurd (let w = (a (Ok (Some x)) _ step).0 in cc)
-  failed d l s _ t g a (closes x v step called is c) = absurd (let w = (a (Ok (Some x)) _ step).0 in cc)
-  failed d l s r t g a (leaves_out x v step called is c) = absurd (let w = (a (Ok (Some x)) _ step).0 in cc)
+  failure_of_first : (d : E) (l : List (Result X E)) (s : S) (r : Answered B E) (t : S) (g : F) → AlwaysGives steps s (Err d ∷ l) → OneDrawn s r t g → (r ≡ Err d) × (g ≡ f) × AlwaysGives steps t l
+  failure_of_first d l s _ t g a (end_passes step c) = absurd (let w = (a (Ok None) _ step).0 in cc)
+  failure_of_first d l s _ t g a (failure_passes e step done) = let w = a (Err e) t step in ((let q = w.0 in cc), refl, w.1)
+  failure_of_first d l s _ t g a (keeps x v y step called is c) = absurd (let w = (a (Ok (Some x)) _ step).0 in cc)
+  failure_of_first d l s _ t g a (refuses x v e step called is c) = absurd (let w = (a (Ok (Some x)) _ step).0 in cc)
+  failure_of_first d l s _ t g a (closes x v step called is c) = absurd (let w = (a (Ok (Some x)) _ step).0 in cc)
+  failure_of_first d l s r t g a (leaves_out x v step called is c) = absurd (let w = (a (Ok (Some x)) _ step).0 in cc)
 
   -- what a call on the list's item returned
-  told : (x z : X) (v : Result B E) (g : F) → z ≡ x → call f z v g → (g ≡ f) × IsToldOrRefused made from (h x) v
-  told x z v g same called = let c = makes z v g called in (c.0, subst (λ (k : X). IsToldOrRefused made from (h k) v) same c.1)
+  told_or_refused : (x z : X) (v : Result B E) (g : F) → z ≡ x → call f z v g → (g ≡ f) × IsToldOrRefused made from (h x) v
+  told_or_refused x z v g same called = let c = makes z v g called in (c.0, subst (λ (k : X). IsToldOrRefused made from (h k) v) same c.1)
 
-  abbrev After : List (Result X E) → X → Answered B E → S → F → Type 0
-  After l x r t g = AnswersRefusal from r ⊎ (IsMadeOf made (h x) r × (g ≡ f) × AlwaysGives steps t l)
+  abbrev AfterItem : List (Result X E) → X → Answered B E → S → F → Type 0
+  AfterItem l x r t g = AnswersRefusal from r ⊎ (IsMadeOf made (h x) r × (g ≡ f) × AlwaysGives steps t l)
 
-  or_failed : (l : List (Result X E)) (x : X) (e : E) (t : S) (g : F) → g ≡ f → AlwaysGives steps t l → AnswersRefusal {B = B} from (Err e) ⊎ IsMadeOf made (h x) (Err e) → After l x (Err e) t g
-  or_failed l x e t g same a (inl r) = inl r
-  or_failed l x e t g same a (inr m) = inr (m, same, a)
+  after_or_failed : (l : List (Result X E)) (x : X) (e : E) (t : S) (g : F) → g ≡ f → AlwaysGives steps t l → AnswersRefusal {B = B} from (Err e) ⊎ IsMadeOf made (h x) (Err e) → AfterItem l x (Err e) t g
+  after_or_failed l x e t g same a (inl r) = inl r
+  after_or_failed l x e t g same a (inr m) = inr (m, same, a)
 
-  called_on : (x : X) (l : List (Result X E)) (s : S) (r : Answered B E) (t : S) (g : F) → AlwaysGives steps s (Ok x ∷ l) → One s r t g → After l x r t g
-  called_on x l s _ t g a (end_passes step c) = absurd (let w = (a (Ok None) _ step).0 in cc)
-  called_on x l s _ t g a (failure_passes e step c) = absurd (let w = (a (Err e) _ step).0 in cc)
-  called_on x l s _ t g a (keeps z v y step called is done) = let w = a (Ok (Some z)) t step in let c = told x z v g (let q = w.0 in cc) called in inr (kept_made made from z (h x) v y is c.1, c.0, w.1)
-  called_on x l s _ t g a (refuses z v e step called is done) = let w = a (Ok (Some z)) t step in let c = told x z v g (let q = w.0 in cc) called in or_failed l x e t g c.0 w.1 (failed_made made from z (h x) v e is c.1)
-  called_on x l s _ t g a (closes z v step called is c) = absurd (none_ends made from z v is)
-  called_on x l s r t g a (leaves_out z v step called is c) = absurd (none_left_out made from z v is)
+  after_called_on : (x : X) (l : List (Result X E)) (s : S) (r : Answered B E) (t : S) (g : F) → AlwaysGives steps s (Ok x ∷ l) → OneDrawn s r t g → AfterItem l x r t g
+  after_called_on x l s _ t g a (end_passes step c) = absurd (let w = (a (Ok None) _ step).0 in cc)
+  after_called_on x l s _ t g a (failure_passes e step c) = absurd (let w = (a (Err e) _ step).0 in cc)
+  after_called_on x l s _ t g a (keeps z v y step called is done) = let w = a (Ok (Some z)) t step in let c = told_or_refused x z v g (let q = w.0 in cc) called in inr (is_made_of_kept made from z (h x) v y is c.1, c.0, w.1)
+  after_called_on x l s _ t g a (refuses z v e step called is done) = let w = a (Ok (Some z)) t step in let c = told_or_refused x z v g (let q = w.0 in cc) called in after_or_failed l x e t g c.0 w.1 (answers_refusal_failed_made made from z (h x) v e is c.1)
+  after_called_on x l s _ t g a (closes z v step called is c) = absurd (made_never_ends made from z v is)
+  after_called_on x l s r t g a (leaves_out z v step called is c) = absurd (none_left_out made from z v is)
 
-  then_rest : (l : List (Result X E)) (x : X) (k : List (Result V E)) → ((t : S) → AlwaysGives steps t l → Gives t f k) → (r : Answered B E) (t : S) (g : F) → After l x r t g → AtRefusal made (passing_step steps call map_outcome) from r (t, g) ⊎ (IsMadeOf made (h x) r × Gives t g k)
-  then_rest l x k later r t g (inl q) = inl (inl q)
-  then_rest l x k later r t g (inr w) = inr (w.0, subst (λ (j : F). Gives t j k) (sym w.1) (later t w.2))
+  answers_refusal_then_rest : (l : List (Result X E)) (x : X) (k : List (Result V E)) → ((t : S) → AlwaysGives steps t l → GivesMadeItems t f k) → (r : Answered B E) (t : S) (g : F) → AfterItem l x r t g → AtRefusal made (passing_step steps call map_outcome) from r (t, g) ⊎ (IsMadeOf made (h x) r × GivesMadeItems t g k)
+  answers_refusal_then_rest l x k later r t g (inl q) = inl (inl q)
+  answers_refusal_then_rest l x k later r t g (inr w) = inr (w.0, subst (λ (j : F). GivesMadeItems t j k) (sym w.1) (later t w.2))
 
-  all_made : (l : List (Result X E)) (s : S) → AlwaysGives steps s l → Gives s f (mapped h l)
+  gives_all_made : (l : List (Result X E)) (s : S) → AlwaysGives steps s l → GivesMadeItems s f (mapped h l)
   unfolding mapped
-  all_made [] s a = λ r t w. ended s r t.0 t.1 a (to_passes w)
-  all_made (Err d ∷ l) s a = λ r t w. let k = failed d l s r t.0 t.1 a (to_passes w) in inr (k.0, subst (λ (g : F). Gives t.0 g (mapped h l)) (sym k.1) (all_made l t.0 k.2))
-  all_made (Ok x ∷ l) s a = λ r t w. then_rest l x (mapped h l) (λ u b. all_made l u b) r t.0 t.1 (called_on x l s r t.0 t.1 a (to_passes w))
+  gives_all_made [] s a = λ r t w. end_of_nil s r t.0 t.1 a (passes_of_pass_trace w)
+  gives_all_made (Err d ∷ l) s a = λ r t w. let k = failure_of_first d l s r t.0 t.1 a (passes_of_pass_trace w) in inr (k.0, subst (λ (g : F). GivesMadeItems t.0 g (mapped h l)) (sym k.1) (gives_all_made l t.0 k.2))
+  gives_all_made (Ok x ∷ l) s a = λ r t w. answers_refusal_then_rest l x (mapped h l) (λ u b. gives_all_made l u b) r t.0 t.1 (after_called_on x l s r t.0 t.1 a (passes_of_pass_trace w))
 
 module _ {W P V B E : Type 0} (made : V → B → Type 0) (from : AllocError → E → Type 0) (view : W → P) (steps : P → Answered B E → P → Type 0) where
   abbrev SeenSteps : W → Answered B E → W → Type 0
@@ -105,23 +105,23 @@ module _ {W P V B E : Type 0} (made : V → B → Type 0) (from : AllocError →
   refusal_seen r t (inl q) = inl q
   refusal_seen r t (inr (x, y, m, is, next)) = inr (x, y, m, is, next_seen t next)
 
-  rest_seen : (y : Result V E) (l : List (Result V E)) (r : Answered B E) (t : W) → (GivesMade made steps from (view t) l → GivesMade made SeenSteps from t l) → AtRefusal made steps from r (view t) ⊎ (IsMadeOf made y r × GivesMade made steps from (view t) l) → AtRefusal made SeenSteps from r t ⊎ (IsMadeOf made y r × GivesMade made SeenSteps from t l)
-  rest_seen y l r t later (inl q) = inl (refusal_seen r t q)
-  rest_seen y l r t later (inr k) = inr (k.0, later k.1)
+  answers_refusal_rest_seen : (y : Result V E) (l : List (Result V E)) (r : Answered B E) (t : W) → (GivesMade made steps from (view t) l → GivesMade made SeenSteps from t l) → AtRefusal made steps from r (view t) ⊎ (IsMadeOf made y r × GivesMade made steps from (view t) l) → AtRefusal made SeenSteps from r t ⊎ (IsMadeOf made y r × GivesMade made SeenSteps from t l)
+  answers_refusal_rest_seen y l r t later (inl q) = inl (refusal_seen r t q)
+  answers_refusal_rest_seen y l r t later (inr k) = inr (k.0, later k.1)
 
   -- a value whose answers are those of its parts gives what they give
-  pub made_seen : (l : List (Result V E)) (s : W) → GivesMade made steps from (view s) l → GivesMade made SeenSteps from s l
-  made_seen [] s a = λ r t w. a r (view t) w
-  made_seen (y ∷ l) s a = λ r t w. rest_seen y l r t (λ b. made_seen l t b) (a r (view t) w)
+  pub seen_made : (l : List (Result V E)) (s : W) → GivesMade made steps from (view s) l → GivesMade made SeenSteps from s l
+  seen_made [] s a = λ r t w. a r (view t) w
+  seen_made (y ∷ l) s a = λ r t w. answers_refusal_rest_seen y l r t (λ b. seen_made l t b) (a r (view t) w)
 
   -- a value whose answers are those of its parts lists what they list
   pub lists_made_seen : (s : W) (p : P) (l k : List (Result V E)) → view s ≡ p → l ≡ k → GivesMade made steps from p l → ListsMade made SeenSteps from s k
-  lists_made_seen s p l k at same a = record { runs = made_seen k s (subst (λ (q : P). GivesMade made steps from q k) (sym at) (subst (λ (j : List (Result V E)). GivesMade made steps from p j) same a)) }
+  lists_made_seen s p l k at same a = record { runs = seen_made k s (subst (λ (q : P). GivesMade made steps from q k) (sym at) (subst (λ (j : List (Result V E)). GivesMade made steps from p j) same a)) }
 
 -- `map` whose closure makes what h says lists what h makes, up to a refusal
-pub made_by_map : {S F X V B E : Type 0} (steps : S → Answered X E → S → Type 0) (g : Mut F (X × Unit {0}) (Result B E)) (made : V → B → Type 0) (from : AllocError → E → Type 0) (h : X → Result V E) {it : S} {f : F} (l : List (Result X E)) {s : Map S F} → map_parts s ≡ (it, f) → Makes made from (call_on g) f h → Lists steps it l
+pub lists_made_by_map : {S F X V B E : Type 0} (steps : S → Answered X E → S → Type 0) (g : Mut F (X × Unit {0}) (Result B E)) (made : V → B → Type 0) (from : AllocError → E → Type 0) (h : X → Result V E) {it : S} {f : F} (l : List (Result X E)) {s : Map S F} → map_parts s ≡ (it, f) → Makes made from (call_on g) f h → Lists steps it l
     → ListsMade made (λ u r v. passing_step steps (call_on g) map_outcome (map_parts u) r (map_parts v)) from s (mapped h l)
-made_by_map steps g made from h {it} {f} l {s} parts makes i = lists_made_seen made from map_parts (passing_step steps (call_on g) map_outcome) s (it, f) _ _ parts refl (all_made steps (call_on g) made from f h makes l it i.runs)
+lists_made_by_map steps g made from h {it} {f} l {s} parts makes i = lists_made_seen made from map_parts (passing_step steps (call_on g) map_outcome) s (it, f) _ _ parts refl (gives_all_made steps (call_on g) made from f h makes l it i.runs)
 
 -- ---- what one answer of what lists made values is
 
@@ -173,7 +173,7 @@ module _ {S F X Y B C E : Type 0} (steps : S → Answered B E → S → Type 0) 
   refused_one s r t g a (leaves_out x v step called is d) = no_item_refuses x (a (Ok (Some x)) _ step)
 
   refuses_behind : (t : S) (g : F) → g ≡ f → RefusesNext steps from t → RefusesNext MapSteps from (t, g)
-  refuses_behind t g same a = subst (λ (j : F). RefusesNext MapSteps from (t, j)) (sym same) (λ r q w. refused_one t r q.0 q.1 a (to_passes w))
+  refuses_behind t g same a = subst (λ (j : F). RefusesNext MapSteps from (t, j)) (sym same) (λ r q w. refused_one t r q.0 q.1 a (passes_of_pass_trace w))
 
   ended_of : (s : S) (r : Answered C E) (t : S) (g : F) → GivesMade of steps from s [] → OneOf s r t g → r ≡ end
   ended_of s _ t g a (end_passes step d) = refl
@@ -196,11 +196,11 @@ module _ {S F X Y B C E : Type 0} (steps : S → Answered B E → S → Type 0) 
   failed_of z l e t (inr k) = inr (subst (λ (w : Result X E). IsMadeOf made (told_of w) (Err e)) (sym k.0) refl, refl, k.1)
 
   kept_of : (z : Result X E) (l : List (Result X E)) (b : B) (v : Result C E) (y : C) (t : S) (g : F) → map_outcome b v ≡ Kept y → call f b v g → ItemTold of steps from z b t (GivesMade of steps from t l) → AfterOf z l (Ok (Some y)) t g
-  kept_of z l b v y t g is called (inl (x, m, next)) = let c = makes x b v g m called in inl (inr (h x, y, kept_made made from b (Ok (h x)) v y is c.1, refl, refuses_behind t g c.0 next))
-  kept_of z l b v y t g is called (inr (x, same, m, rest)) = let c = makes x b v g m called in inr (subst (λ (w : Result X E). IsMadeOf made (told_of w) (Ok (Some y))) (sym same) (kept_made made from b (Ok (h x)) v y is c.1), c.0, rest)
+  kept_of z l b v y t g is called (inl (x, m, next)) = let c = makes x b v g m called in inl (inr (h x, y, is_made_of_kept made from b (Ok (h x)) v y is c.1, refl, refuses_behind t g c.0 next))
+  kept_of z l b v y t g is called (inr (x, same, m, rest)) = let c = makes x b v g m called in inr (subst (λ (w : Result X E). IsMadeOf made (told_of w) (Ok (Some y))) (sym same) (is_made_of_kept made from b (Ok (h x)) v y is c.1), c.0, rest)
 
   refused_by_call : (x : X) (b : B) (v : Result C E) (e : E) → map_outcome b v ≡ Failure e → IsToldOrRefused made from (Ok (h x)) v → AnswersRefusal {B = C} from (Err e)
-  refused_by_call x b v e is m = elim (failed_made made from b (Ok (h x)) v e is m) [ inl r ↦ r | inr k ↦ absurd k ]
+  refused_by_call x b v e is m = elim (answers_refusal_failed_made made from b (Ok (h x)) v e is m) [ inl r ↦ r | inr k ↦ absurd k ]
 
   lost_of : (z : Result X E) (l : List (Result X E)) (b : B) (v : Result C E) (e : E) (t : S) (g : F) → map_outcome b v ≡ Failure e → call f b v g → ItemTold of steps from z b t (GivesMade of steps from t l) → AfterOf z l (Err e) t g
   lost_of z l b v e t g is called (inl (x, m, next)) = inl (inl (refused_by_call x b v e is (makes x b v g m called).1))
@@ -211,7 +211,7 @@ module _ {S F X Y B C E : Type 0} (steps : S → Answered B E → S → Type 0) 
   one_of z l s _ t g a (failure_passes e step done) = failed_of z l e t (failure_told of steps from z e t (a (Err e) t step))
   one_of z l s _ t g a (keeps b v y step called is done) = kept_of z l b v y t g is called (item_told of steps from z b t (a (Ok (Some b)) t step))
   one_of z l s _ t g a (refuses b v e step called is done) = lost_of z l b v e t g is called (item_told of steps from z b t (a (Ok (Some b)) t step))
-  one_of z l s _ t g a (closes b v step called is d) = absurd (none_ends made from b v is)
+  one_of z l s _ t g a (closes b v step called is d) = absurd (made_never_ends made from b v is)
   one_of z l s r t g a (leaves_out b v step called is d) = absurd (none_left_out made from b v is)
 
   abbrev GivesOf : S → F → List (Result Y E) → Type 0
@@ -226,9 +226,9 @@ module _ {S F X Y B C E : Type 0} (steps : S → Answered B E → S → Type 0) 
 
   all_of_made : (l : List (Result X E)) (s : S) → GivesMade of steps from s l → GivesOf s f (mapped (λ x. Ok (h x)) l)
   unfolding mapped
-  all_of_made [] s a = λ r t w. ended_of s r t.0 t.1 a (to_passes w)
-  all_of_made (Err d ∷ l) s a = λ r t w. then_of (Err d) l (mapped (λ x. Ok (h x)) l) (λ u b. all_of_made l u b) r t.0 t.1 (one_of (Err d) l s r t.0 t.1 a (to_passes w))
-  all_of_made (Ok x ∷ l) s a = λ r t w. then_of (Ok x) l (mapped (λ x. Ok (h x)) l) (λ u b. all_of_made l u b) r t.0 t.1 (one_of (Ok x) l s r t.0 t.1 a (to_passes w))
+  all_of_made [] s a = λ r t w. ended_of s r t.0 t.1 a (passes_of_pass_trace w)
+  all_of_made (Err d ∷ l) s a = λ r t w. then_of (Err d) l (mapped (λ x. Ok (h x)) l) (λ u b. all_of_made l u b) r t.0 t.1 (one_of (Err d) l s r t.0 t.1 a (passes_of_pass_trace w))
+  all_of_made (Ok x ∷ l) s a = λ r t w. then_of (Ok x) l (mapped (λ x. Ok (h x)) l) (λ u b. all_of_made l u b) r t.0 t.1 (one_of (Ok x) l s r t.0 t.1 a (passes_of_pass_trace w))
 
 -- `map` over what lists made values lists what h makes of them, up to a refusal
 pub made_by_map_of_made : {S F X Y B C E : Type 0} (steps : S → Answered B E → S → Type 0) (g : Mut F (B × Unit {0}) (Result C E)) (of : X → B → Type 0) (made : Y → C → Type 0) (from : AllocError → E → Type 0) (h : X → Y) {it : S} {f : F} (l : List (Result X E)) {s : Map S F} → map_parts s ≡ (it, f) → MakesOf of made from (call_on g) f h → ListsMade of steps from it l
@@ -258,8 +258,8 @@ module _ {V B E : Type 0} (made : V → B → Type 0) where
   none_before l last is = record { values = []; rest = l; list_is = refl; each = tt; rest_is = is }
 
 module _ {S V B E : Type 0} (steps : S → Answered B E → S → Type 0) (made : V → B → Type 0) (from : AllocError → E → Type 0) where
-  abbrev Made : S → List (Result V E) → Type 0
-  Made s l = GivesMade made steps from s l
+  abbrev MadeOrRefused : S → List (Result V E) → Type 0
+  MadeOrRefused s l = GivesMade made steps from s l
 
   -- the last answer is a refusal, or the draws were those of the list
   abbrev DrawsTold : List (Result V E) → List B → Answered B E → Type 0
@@ -285,7 +285,7 @@ module _ {S V B E : Type 0} (steps : S → Answered B E → S → Type 0) (made 
   first_item z y l ys last u t later ran (inl (x, m, next)) = inl (after_held ys last u t next ran)
   first_item z y l ys last u t later ran (inr (x, same, m, rest)) = subst (λ (w : Result V E). DrawsTold (w ∷ l) (y ∷ ys) last) (sym same) (one_more x y l ys last m (later rest))
 
-  last_told : (z : Result V E) (l : List (Result V E)) (last : Answered B E) (s t : S) → Made s (z ∷ l) → steps s last t → DrawsTold (z ∷ l) [] last
+  last_told : (z : Result V E) (l : List (Result V E)) (last : Answered B E) (s t : S) → MadeOrRefused s (z ∷ l) → steps s last t → DrawsTold (z ∷ l) [] last
   last_told z l (Ok None) s t a step = end_told made steps from z t (a (Ok None) t step)
   last_told z l (Err e) s t a step = last_failed z e l (failure_told made steps from z e t (a (Err e) t step))
   last_told z l (Ok (Some y)) s t a step = last_item z y l t (item_told made steps from z y t (a (Ok (Some y)) t step))
@@ -293,7 +293,7 @@ module _ {S V B E : Type 0} (steps : S → Answered B E → S → Type 0) (made 
   ended_told : (last : Answered B E) → last ≡ end → DrawsTold [] [] last
   ended_told last is = inr (subst (λ (r : Answered B E). DrawnMade made [] [] r) (sym is) (none_before made [] end refl))
 
-  draws_told : (ys : List B) (last : Answered B E) (l : List (Result V E)) (s t : S) → Made s l → Run steps s (map item ys ++ last ∷ []) t → DrawsTold l ys last
+  draws_told : (ys : List B) (last : Answered B E) (l : List (Result V E)) (s t : S) → MadeOrRefused s l → Run steps s (map item ys ++ last ∷ []) t → DrawsTold l ys last
   draws_told [] last [] s t a ran = ended_told last (a last ran.0 ran.1)
   draws_told [] last (z ∷ l) s t a ran = last_told z l last s ran.0 a ran.1
   draws_told (y ∷ ys) last [] s t a ran = absurd (let e = a (item y) ran.0 ran.1 in cc)
@@ -345,12 +345,12 @@ each_length made (v ∷ vs) [] m = absurd m
 each_length made (v ∷ vs) (y ∷ ys) m = let e = each_length made vs ys m.1 in omega (arith, e)
 
 -- a refusal fails whatever is told
-pub refused_result : {V B E : Type 0} (made : V → B → Type 0) (from : AllocError → E → Type 0) (told : Result V E) (e : E) → IsRefusal from e → IsToldOrRefused made from told (Err e)
+pub refused_result : {V B E : Type 0} (made : V → B → Type 0) (from : AllocError → E → Type 0) (told_or_refused : Result V E) (e : E) → IsRefusal from e → IsToldOrRefused made from told_or_refused (Err e)
 refused_result made from (Ok v) e r = r
 refused_result made from (Err d) e r = inr r
 
-pub failed_result : {V B E : Type 0} (made : V → B → Type 0) (from : AllocError → E → Type 0) (told : Result V E) (e : E) → told ≡ Err e → IsToldOrRefused made from told (Err e)
-failed_result made from told e is = subst (λ (w : Result _ _). IsToldOrRefused made from w (Err e)) (sym is) (inl refl)
+pub failed_result : {V B E : Type 0} (made : V → B → Type 0) (from : AllocError → E → Type 0) (told_or_refused : Result V E) (e : E) → told_or_refused ≡ Err e → IsToldOrRefused made from told_or_refused (Err e)
+failed_result made from told_or_refused e is = subst (λ (w : Result _ _). IsToldOrRefused made from w (Err e)) (sym is) (inl refl)
 
 module _ {S V B E : Type 0} (steps : S → Answered B E → S → Type 0) (made : V → B → Type 0) (from : AllocError → E → Type 0) where
   collected_by : {C : Type 0} (into : List B → C → Type 0) (l : List (Result V E)) (ys : List B) (c : C) → into ys c → DrawsTold steps made from l ys end → CollectedMade made from into l (Ok c)
@@ -375,7 +375,7 @@ module _ {S V B E : Type 0} (steps : S → Answered B E → S → Type 0) (made 
   counted_by l ys (Err e) r exit (inr d) = rw exit (failed_result (λ v y. y ≡ v) from (counted l) e (ap counted d.list_is ∙ count_failed d.values d.rest e (ap counted d.rest_is.1 ∙ count_failed_at e d.rest_is.0)))
 
   -- what `count` answers over what lists made values
-  pub counted_made : {s t : S} (l : List (Result V E)) (r : Result ℕ E) → Counted steps s r t → ListsMade made steps from s l → SameOrRefused from (counted l) r
+  pub counted_made : {s t : S} (l : List (Result V E)) (r : Result ℕ E) → CountDrains steps s r t → ListsMade made steps from s l → SameOrRefused from (counted l) r
   counted_made {s} {t} l r k i = counted_by l k.items k.last r k.at.exit (draws_told steps made from k.items k.last l s t i.runs k.ran)
 
 -- ---- what folds make of it
@@ -425,5 +425,5 @@ module _ {X B D C E E' F : Type 0} (of : X → B → Type 0) (made : D → C →
         rw is (refused_result made from' (Fold d l) e' (makes w.value q.0 k.rest_is.0 y (Err e') g w.is_made k.rest_is.1 (subst (λ (j : F). call j q.0 y (Err e') g) w.stays called)).1)
 
 -- What `try_fold` answers over what lists made values: a value made of the one that the list is folded to, its first failure, or a refusal. What a refused request becomes is a refusal of the closure's error too.
-pub folded_made : {S X B D C E E' F : Type 0} (steps : S → Answered B E → S → Type 0) (g : Mut F (C × (B × Unit {0})) (Result C E')) (of : X → B → Type 0) (made : D → C → Type 0) (from : AllocError → E → Type 0) (from' : AllocError → E' → Type 0) (converts_by : E → E' → Type 0) (convert : E → E') (h : D → X → D) {s t : S} {f : F} {c : C} (d : D) (l : List (Result X E)) (r : Result C E') → Folded steps (call_with g) converts_by s c f r t → made d c → MakesWith of made from' (call_with g) f h → Converts converts_by convert → ((e : E) (e' : E') → IsRefusal from e → converts_by e e' → IsRefusal from' e') → ListsMade of steps from s l → IsToldOrRefused made from' (folded convert (λ a x. Ok (h a x)) d l) r
+pub folded_made : {S X B D C E E' F : Type 0} (steps : S → Answered B E → S → Type 0) (g : Mut F (C × (B × Unit {0})) (Result C E')) (of : X → B → Type 0) (made : D → C → Type 0) (from : AllocError → E → Type 0) (from' : AllocError → E' → Type 0) (converts_by : E → E' → Type 0) (convert : E → E') (h : D → X → D) {s t : S} {f : F} {c : C} (d : D) (l : List (Result X E)) (r : Result C E') → FoldDrains steps (call_with g) converts_by s c f r t → made d c → MakesWith of made from' (call_with g) f h → Converts converts_by convert → ((e : E) (e' : E') → IsRefusal from e → converts_by e e' → IsRefusal from' e') → ListsMade of steps from s l → IsToldOrRefused made from' (folded convert (λ a x. Ok (h a x)) d l) r
 folded_made steps g of made from from' converts_by convert h {s} {t} {f} {c} d l r k m makes converts refusals i = by_exit of made from' (call_with g) f h makes convert from converts_by converts refusals l k.items k.last d c (k.at.value, k.at.closure) r m k.at.went k.at.exit (draws_told steps of from k.items k.last l s t i.runs k.ran)

@@ -59,27 +59,27 @@ module _ {A B E : Type 0} where
   folded_items convert f b (x ∷ xs) = folded_items convert f (f b x) xs
 
 module _ {A E : Type 0} (p : A → Bool) where
-  kept_of_items : (x : A) (xs : List A) (t : List (Result A E)) (b : Bool) → t ≡ items xs → cons_if x (Ok b) t ≡ items (cond b (x ∷ xs) xs)
+  cons_if_items : (x : A) (xs : List A) (t : List (Result A E)) (b : Bool) → t ≡ items xs → cons_if x (Ok b) t ≡ items (cond b (x ∷ xs) xs)
   unfolding items
-  kept_of_items x xs t true e = ap (λ (t : List (Result A E)). Ok x ∷ t) e
-  kept_of_items x xs t false e = e
+  cons_if_items x xs t true e = ap (λ (t : List (Result A E)). Ok x ∷ t) e
+  cons_if_items x xs t false e = e
 
   pub filtered_items : (xs : List A) → filtered {E = E} (λ x. Ok (p x)) (items xs) ≡ items (filter p xs)
   unfolding items filtered
   filtered_items [] = refl
-  filtered_items (x ∷ xs) = kept_of_items x (filter p xs) _ (p x) (filtered_items xs)
+  filtered_items (x ∷ xs) = cons_if_items x (filter p xs) _ (p x) (filtered_items xs)
 
 -- ---- one list and then another
 
 module _ {E : Type 0} where
-  added : (n : Result ℕ E) (k : Result ℕ E) → one_more_than (on_value n (λ n. on_value k (λ k. Ok (n + k)))) ≡ on_value (one_more_than n) (λ n. on_value k (λ k. Ok (n + k)))
-  added (Ok n) (Ok k) = ap Ok (omega arith)
-  added (Ok n) (Err e) = refl
-  added (Err e) k = refl
+  one_more_than_sum : (n : Result ℕ E) (k : Result ℕ E) → one_more_than (on_value n (λ n. on_value k (λ k. Ok (n + k)))) ≡ on_value (one_more_than n) (λ n. on_value k (λ k. Ok (n + k)))
+  one_more_than_sum (Ok n) (Ok k) = ap Ok (omega arith)
+  one_more_than_sum (Ok n) (Err e) = refl
+  one_more_than_sum (Err e) k = refl
 
-  none_added : (k : Result ℕ E) → k ≡ on_value k (λ k. Ok (0 + k))
-  none_added (Ok k) = ap Ok (omega arith)
-  none_added (Err e) = refl
+  on_value_zero : (k : Result ℕ E) → k ≡ on_value k (λ k. Ok (0 + k))
+  on_value_zero (Ok k) = ap Ok (omega arith)
+  on_value_zero (Err e) = refl
 
 module _ {A E : Type 0} where
   pub chained_nil : (l : List (Result A E)) → chained l [] ≡ l
@@ -103,34 +103,34 @@ module _ {A E : Type 0} where
 
   pub counted_chained : (a b : List (Result A E)) → counted (chained a b) ≡ on_value (counted a) (λ n. on_value (counted b) (λ k. Ok (n + k)))
   unfolding chained counted
-  counted_chained [] b = none_added (counted b)
-  counted_chained (Ok x ∷ a) b = ap one_more_than (counted_chained a b) ∙ added (counted a) (counted b)
+  counted_chained [] b = on_value_zero (counted b)
+  counted_chained (Ok x ∷ a) b = ap one_more_than (counted_chained a b) ∙ one_more_than_sum (counted a) (counted b)
   counted_chained (Err e ∷ a) b = refl
 
-  joined : (x : A) (xs ys : Result (List A) E) → before x (on_value xs (λ xs. on_value ys (λ ys. Ok (xs ++ ys)))) ≡ on_value (before x xs) (λ xs. on_value ys (λ ys. Ok (xs ++ ys)))
-  joined x (Ok xs) (Ok ys) = refl
-  joined x (Ok xs) (Err e) = refl
-  joined x (Err e) ys = refl
+  before_joined : (x : A) (xs ys : Result (List A) E) → before x (on_value xs (λ xs. on_value ys (λ ys. Ok (xs ++ ys)))) ≡ on_value (before x xs) (λ xs. on_value ys (λ ys. Ok (xs ++ ys)))
+  before_joined x (Ok xs) (Ok ys) = refl
+  before_joined x (Ok xs) (Err e) = refl
+  before_joined x (Err e) ys = refl
 
-  none_joined : (ys : Result (List A) E) → ys ≡ on_value ys (λ ys. Ok ([] ++ ys))
-  none_joined (Ok ys) = refl
-  none_joined (Err e) = refl
+  on_value_nil : (ys : Result (List A) E) → ys ≡ on_value ys (λ ys. Ok ([] ++ ys))
+  on_value_nil (Ok ys) = refl
+  on_value_nil (Err e) = refl
 
   pub collected_chained : (a b : List (Result A E)) → collected (chained a b) ≡ on_value (collected a) (λ xs. on_value (collected b) (λ ys. Ok (xs ++ ys)))
   unfolding chained collected
-  collected_chained [] b = none_joined (collected b)
-  collected_chained (Ok x ∷ a) b = ap (before x) (collected_chained a b) ∙ joined x (collected a) (collected b)
+  collected_chained [] b = on_value_nil (collected b)
+  collected_chained (Ok x ∷ a) b = ap (before x) (collected_chained a b) ∙ before_joined x (collected a) (collected b)
   collected_chained (Err e ∷ a) b = refl
 
 module _ {A B E E' : Type 0} (convert : E → E') (h : B → A → Result B E') where
-  goes_on : (a b : List (Result A E)) (r : Result B E') → ((c : B) → folded convert h c (chained a b) ≡ on_value (folded convert h c a) (λ c. folded convert h c b)) → on_value r (λ c. folded convert h c (chained a b)) ≡ on_value (on_value r (λ c. folded convert h c a)) (λ c. folded convert h c b)
-  goes_on a b (Ok c) rest = rest c
-  goes_on a b (Err e) rest = refl
+  on_value_folded : (a b : List (Result A E)) (r : Result B E') → ((c : B) → folded convert h c (chained a b) ≡ on_value (folded convert h c a) (λ c. folded convert h c b)) → on_value r (λ c. folded convert h c (chained a b)) ≡ on_value (on_value r (λ c. folded convert h c a)) (λ c. folded convert h c b)
+  on_value_folded a b (Ok c) rest = rest c
+  on_value_folded a b (Err e) rest = refl
 
   pub folded_chained : (c : B) (a b : List (Result A E)) → folded convert h c (chained a b) ≡ on_value (folded convert h c a) (λ c. folded convert h c b)
   unfolding chained folded
   folded_chained c [] b = refl
-  folded_chained c (Ok x ∷ a) b = goes_on a b (h c x) (λ d. folded_chained d a b)
+  folded_chained c (Ok x ∷ a) b = on_value_folded a b (h c x) (λ d. folded_chained d a b)
   folded_chained c (Err e ∷ a) b = refl
 
 -- ---- h x in the place of each item x
@@ -176,14 +176,14 @@ module _ {A B E : Type 0} (f : A → B) where
   counted_mapped (Ok x ∷ l) = ap one_more_than (counted_mapped l)
   counted_mapped (Err e ∷ l) = refl
 
-  all_mapped : (x : A) (xs : Result (List A) E) → before (f x) (on_value xs (λ xs. Ok (map f xs))) ≡ on_value (before x xs) (λ xs. Ok (map f xs))
-  all_mapped x (Ok xs) = refl
-  all_mapped x (Err e) = refl
+  before_all_mapped : (x : A) (xs : Result (List A) E) → before (f x) (on_value xs (λ xs. Ok (map f xs))) ≡ on_value (before x xs) (λ xs. Ok (map f xs))
+  before_all_mapped x (Ok xs) = refl
+  before_all_mapped x (Err e) = refl
 
   pub collected_mapped : (l : List (Result A E)) → collected (mapped (λ x. Ok (f x)) l) ≡ on_value (collected l) (λ xs. Ok (map f xs))
   unfolding mapped collected
   collected_mapped [] = refl
-  collected_mapped (Ok x ∷ l) = ap (before (f x)) (collected_mapped l) ∙ all_mapped x (collected l)
+  collected_mapped (Ok x ∷ l) = ap (before (f x)) (collected_mapped l) ∙ before_all_mapped x (collected l)
   collected_mapped (Err e ∷ l) = refl
 
   pub taken_mapped : (n : ℕ) (l : List (Result A E)) → taken n (mapped (λ x. Ok (f x)) l) ≡ mapped (λ x. Ok (f x)) (taken n l)
@@ -207,13 +207,13 @@ module _ {A B E : Type 0} (f : A → B) where
   nth_of_mapped (suc n) (Ok x ∷ l) = nth_of_mapped n l
   nth_of_mapped n (Err e ∷ l) = refl
 
-  last_mapped : (xs : Result (List A) E) → on_value (on_value xs (λ xs. Ok (map f xs))) (λ ys. Ok (last_or None ys)) ≡ on_value (on_value xs (λ xs. Ok (last_or None xs))) (λ o. Ok (option_map f o))
-  last_mapped (Ok xs) = ap Ok (last_or_mapped f None xs)
-  last_mapped (Err e) = refl
+  on_value_last_or : (xs : Result (List A) E) → on_value (on_value xs (λ xs. Ok (map f xs))) (λ ys. Ok (last_or None ys)) ≡ on_value (on_value xs (λ xs. Ok (last_or None xs))) (λ o. Ok (option_map f o))
+  on_value_last_or (Ok xs) = ap Ok (last_or_mapped f None xs)
+  on_value_last_or (Err e) = refl
 
   pub last_of_mapped : (l : List (Result A E)) → last_of (mapped (λ x. Ok (f x)) l) ≡ on_value (last_of l) (λ o. Ok (option_map f o))
   unfolding last_of
-  last_of_mapped l = ap (λ xs. on_value xs (λ ys. Ok (last_or None ys))) (collected_mapped l) ∙ last_mapped (collected l)
+  last_of_mapped l = ap (λ xs. on_value xs (λ ys. Ok (last_or None ys))) (collected_mapped l) ∙ on_value_last_or (collected l)
 
   pub folded_mapped : {C E' : Type 0} (convert : E → E') (g : C → B → Result C E') (c : C) (l : List (Result A E)) → folded convert g c (mapped (λ x. Ok (f x)) l) ≡ folded convert (λ c x. g c (f x)) c l
   unfolding mapped folded
@@ -237,22 +237,22 @@ module _ {A E : Type 0} where
   filtered_filtered g h (Ok x ∷ l) = filtered_first g x (h x) (filtered h l) ∙ ap (λ t. cons_if x (on_value (h x) (λ b. cond b (g x) (Ok false))) t) (filtered_filtered g h l)
   filtered_filtered g h (Err e ∷ l) = ap (λ (t : List (Result A E)). Err e ∷ t) (filtered_filtered g h l)
 
-  kept_before : (x : A) (v : Result Bool E) (a b : List (Result A E)) → cons_if x v (chained a b) ≡ chained (cons_if x v a) b
+  cons_if_chained : (x : A) (v : Result Bool E) (a b : List (Result A E)) → cons_if x v (chained a b) ≡ chained (cons_if x v a) b
   unfolding chained
-  kept_before x (Ok true) a b = refl
-  kept_before x (Ok false) a b = refl
-  kept_before x (Err e) a b = refl
+  cons_if_chained x (Ok true) a b = refl
+  cons_if_chained x (Ok false) a b = refl
+  cons_if_chained x (Err e) a b = refl
 
   pub filtered_chained : (h : A → Result Bool E) (a b : List (Result A E)) → filtered h (chained a b) ≡ chained (filtered h a) (filtered h b)
   unfolding chained filtered
   filtered_chained h [] b = refl
-  filtered_chained h (Ok x ∷ a) b = ap (λ t. cons_if x (h x) t) (filtered_chained h a b) ∙ kept_before x (h x) (filtered h a) (filtered h b)
+  filtered_chained h (Ok x ∷ a) b = ap (λ t. cons_if x (h x) t) (filtered_chained h a b) ∙ cons_if_chained x (h x) (filtered h a) (filtered h b)
   filtered_chained h (Err e ∷ a) b = ap (λ (t : List (Result A E)). Err e ∷ t) (filtered_chained h a b)
 
-  kept_last : (x : A) (v : Result Bool E) (t : List (Result A E)) → reverse (cons_if x v t) ≡ reverse t ++ cons_if x v []
-  kept_last x (Ok true) t = reverse-append (Ok x ∷ []) t
-  kept_last x (Ok false) t = sym (append-nil (reverse t))
-  kept_last x (Err e) t = reverse-append (Err e ∷ []) t
+  reverse_cons_if : (x : A) (v : Result Bool E) (t : List (Result A E)) → reverse (cons_if x v t) ≡ reverse t ++ cons_if x v []
+  reverse_cons_if x (Ok true) t = reverse-append (Ok x ∷ []) t
+  reverse_cons_if x (Ok false) t = sym (append-nil (reverse t))
+  reverse_cons_if x (Err e) t = reverse-append (Err e ∷ []) t
 
   -- of a last answer
   filtered_appended : (h : A → Result Bool E) (l : List (Result A E)) (y : Result A E) → filtered h (l ++ y ∷ []) ≡ filtered h l ++ filtered h (y ∷ [])
@@ -261,57 +261,57 @@ module _ {A E : Type 0} where
   pub reversed_filtered : (h : A → Result Bool E) (l : List (Result A E)) → reversed (filtered h l) ≡ filtered h (reversed l)
   unfolding reversed filtered
   reversed_filtered h [] = refl
-  reversed_filtered h (Ok x ∷ l) = kept_last x (h x) (filtered h l) ∙ ap (λ t. t ++ cons_if x (h x) []) (reversed_filtered h l) ∙ sym (filtered_appended h (reverse l) (Ok x)) ∙ ap (filtered h) (sym (reverse-append (Ok x ∷ []) l))
+  reversed_filtered h (Ok x ∷ l) = reverse_cons_if x (h x) (filtered h l) ∙ ap (λ t. t ++ cons_if x (h x) []) (reversed_filtered h l) ∙ sym (filtered_appended h (reverse l) (Ok x)) ∙ ap (filtered h) (sym (reverse-append (Ok x ∷ []) l))
   reversed_filtered h (Err e ∷ l) = reverse-append (Err e ∷ []) (filtered h l) ∙ ap (λ t. t ++ Err e ∷ []) (reversed_filtered h l) ∙ sym (filtered_appended h (reverse l) (Err e)) ∙ ap (filtered h) (sym (reverse-append (Err e ∷ []) l))
 
 module _ {A B E : Type 0} (f : A → B) where
-  kept_mapped : (x : A) (v : Result Bool E) (t : List (Result A E)) → cons_if (f x) v (mapped (λ x. Ok (f x)) t) ≡ mapped (λ x. Ok (f x)) (cons_if x v t)
+  cons_if_mapped : (x : A) (v : Result Bool E) (t : List (Result A E)) → cons_if (f x) v (mapped (λ x. Ok (f x)) t) ≡ mapped (λ x. Ok (f x)) (cons_if x v t)
   unfolding mapped
-  kept_mapped x (Ok true) t = refl
-  kept_mapped x (Ok false) t = refl
-  kept_mapped x (Err e) t = refl
+  cons_if_mapped x (Ok true) t = refl
+  cons_if_mapped x (Ok false) t = refl
+  cons_if_mapped x (Err e) t = refl
 
   pub filtered_mapped : (p : B → Result Bool E) (l : List (Result A E)) → filtered p (mapped (λ x. Ok (f x)) l) ≡ mapped (λ x. Ok (f x)) (filtered (λ x. p (f x)) l)
   unfolding mapped filtered
   filtered_mapped p [] = refl
-  filtered_mapped p (Ok x ∷ l) = ap (λ t. cons_if (f x) (p (f x)) t) (filtered_mapped p l) ∙ kept_mapped x (p (f x)) (filtered (λ x. p (f x)) l)
+  filtered_mapped p (Ok x ∷ l) = ap (λ t. cons_if (f x) (p (f x)) t) (filtered_mapped p l) ∙ cons_if_mapped x (p (f x)) (filtered (λ x. p (f x)) l)
   filtered_mapped p (Err e ∷ l) = ap (λ (t : List (Result B E)). Err e ∷ t) (filtered_mapped p l)
 
-  value_where : (x : A) (b : Bool) (t : List (Result A E)) → cons_some (Ok (cond b (Some (f x)) None)) (mapped (λ x. Ok (f x)) t) ≡ mapped (λ x. Ok (f x)) (cons_if x (Ok b) t)
+  cons_some_mapped : (x : A) (b : Bool) (t : List (Result A E)) → cons_some (Ok (cond b (Some (f x)) None)) (mapped (λ x. Ok (f x)) t) ≡ mapped (λ x. Ok (f x)) (cons_if x (Ok b) t)
   unfolding mapped
-  value_where x true t = refl
-  value_where x false t = refl
+  cons_some_mapped x true t = refl
+  cons_some_mapped x false t = refl
 
   pub filter_mapped_where : (p : A → Bool) (l : List (Result A E)) → filter_mapped (λ x. Ok (cond (p x) (Some (f x)) None)) l ≡ mapped (λ x. Ok (f x)) (filtered (λ x. Ok (p x)) l)
   unfolding mapped filtered filter_mapped
   filter_mapped_where p [] = refl
-  filter_mapped_where p (Ok x ∷ l) = ap (λ t. cons_some (Ok (cond (p x) (Some (f x)) None)) t) (filter_mapped_where p l) ∙ value_where x (p x) (filtered (λ x. Ok (p x)) l)
+  filter_mapped_where p (Ok x ∷ l) = ap (λ t. cons_some (Ok (cond (p x) (Some (f x)) None)) t) (filter_mapped_where p l) ∙ cons_some_mapped x (p x) (filtered (λ x. Ok (p x)) l)
   filter_mapped_where p (Err e ∷ l) = ap (λ (t : List (Result B E)). Err e ∷ t) (filter_mapped_where p l)
 
 module _ {A E : Type 0} (p : A → Bool) where
-  kept_collected : (x : A) (r : Result (List A) E) (t : List (Result A E)) (b : Bool) → p x ≡ b → collected t ≡ on_value r (λ xs. Ok (filter p xs)) → collected (cons_if x (Ok b) t) ≡ on_value (before x r) (λ xs. Ok (filter p xs))
+  collected_cons_if : (x : A) (r : Result (List A) E) (t : List (Result A E)) (b : Bool) → p x ≡ b → collected t ≡ on_value r (λ xs. Ok (filter p xs)) → collected (cons_if x (Ok b) t) ≡ on_value (before x r) (λ xs. Ok (filter p xs))
   unfolding collected
-  kept_collected x (Ok xs) t true is e = ap (before x) e ∙ ap (λ b. Ok (cond b (x ∷ filter p xs) (filter p xs))) (sym is)
-  kept_collected x (Ok xs) t false is e = e ∙ ap (λ b. Ok (cond b (x ∷ filter p xs) (filter p xs))) (sym is)
-  kept_collected x (Err d) t true is e = ap (before x) e
-  kept_collected x (Err d) t false is e = e
+  collected_cons_if x (Ok xs) t true is e = ap (before x) e ∙ ap (λ b. Ok (cond b (x ∷ filter p xs) (filter p xs))) (sym is)
+  collected_cons_if x (Ok xs) t false is e = e ∙ ap (λ b. Ok (cond b (x ∷ filter p xs) (filter p xs))) (sym is)
+  collected_cons_if x (Err d) t true is e = ap (before x) e
+  collected_cons_if x (Err d) t false is e = e
 
   pub collected_filtered : (l : List (Result A E)) → collected (filtered (λ x. Ok (p x)) l) ≡ on_value (collected l) (λ xs. Ok (filter p xs))
   unfolding filtered collected
   collected_filtered [] = refl
-  collected_filtered (Ok x ∷ l) = kept_collected x (collected l) (filtered (λ x. Ok (p x)) l) (p x) refl (collected_filtered l)
+  collected_filtered (Ok x ∷ l) = collected_cons_if x (collected l) (filtered (λ x. Ok (p x)) l) (p x) refl (collected_filtered l)
   collected_filtered (Err e ∷ l) = refl
 
   module _ {C E' : Type 0} (convert : E → E') (g : C → A → Result C E') where
-    kept_folded : (x : A) (c : C) (t l : List (Result A E)) (b : Bool) → ((d : C) → folded convert g d t ≡ folded convert (λ c x. cond (p x) (g c x) (Ok c)) d l) → folded convert g c (cons_if x (Ok b) t) ≡ on_value (cond b (g c x) (Ok c)) (λ d. folded convert (λ c x. cond (p x) (g c x) (Ok c)) d l)
+    folded_cons_if : (x : A) (c : C) (t l : List (Result A E)) (b : Bool) → ((d : C) → folded convert g d t ≡ folded convert (λ c x. cond (p x) (g c x) (Ok c)) d l) → folded convert g c (cons_if x (Ok b) t) ≡ on_value (cond b (g c x) (Ok c)) (λ d. folded convert (λ c x. cond (p x) (g c x) (Ok c)) d l)
     unfolding folded
-    kept_folded x c t l true rest = on_values (g c x) rest
-    kept_folded x c t l false rest = rest c
+    folded_cons_if x c t l true rest = on_values (g c x) rest
+    folded_cons_if x c t l false rest = rest c
 
     pub folded_filtered : (c : C) (l : List (Result A E)) → folded convert g c (filtered (λ x. Ok (p x)) l) ≡ folded convert (λ c x. cond (p x) (g c x) (Ok c)) c l
     unfolding filtered folded
     folded_filtered c [] = refl
-    folded_filtered c (Ok x ∷ l) = kept_folded x c (filtered (λ x. Ok (p x)) l) l (p x) (λ d. folded_filtered d l)
+    folded_filtered c (Ok x ∷ l) = folded_cons_if x c (filtered (λ x. Ok (p x)) l) l (p x) (λ d. folded_filtered d l)
     folded_filtered c (Err e ∷ l) = refl
 
 -- ---- the first and the rest
@@ -363,78 +363,78 @@ module _ {A B E : Type 0} (h : A → Result B E) where
     searched_mapped n (Ok x ∷ l) = searched_first n x (h x) l (searched_mapped (n + 1) l)
     searched_mapped n (Err d ∷ l) = refl
 
-  all_same : (n : ℕ) (y : B) (x : A) (v : Bool) → all_pick n y v ≡ all_pick n x v
-  all_same n y x true = refl
-  all_same n y x false = refl
+  all_pick_same : (n : ℕ) (y : B) (x : A) (v : Bool) → all_pick n y v ≡ all_pick n x v
+  all_pick_same n y x true = refl
+  all_pick_same n y x false = refl
 
   pub all_of_mapped : (q : B → Result Bool E) (l : List (Result A E)) → all_of q (mapped h l) ≡ all_of (λ x. on_value (h x) q) l
   unfolding all_of
-  all_of_mapped q l = searched_mapped all_pick all_pick all_same true q 0 l
+  all_of_mapped q l = searched_mapped all_pick all_pick all_pick_same true q 0 l
 
-  any_same : (n : ℕ) (y : B) (x : A) (v : Bool) → any_pick n y v ≡ any_pick n x v
-  any_same n y x true = refl
-  any_same n y x false = refl
+  any_pick_same : (n : ℕ) (y : B) (x : A) (v : Bool) → any_pick n y v ≡ any_pick n x v
+  any_pick_same n y x true = refl
+  any_pick_same n y x false = refl
 
   pub any_of_mapped : (q : B → Result Bool E) (l : List (Result A E)) → any_of q (mapped h l) ≡ any_of (λ x. on_value (h x) q) l
   unfolding any_of
-  any_of_mapped q l = searched_mapped any_pick any_pick any_same false q 0 l
+  any_of_mapped q l = searched_mapped any_pick any_pick any_pick_same false q 0 l
 
-  position_same : (n : ℕ) (y : B) (x : A) (v : Bool) → position_pick n y v ≡ position_pick n x v
-  position_same n y x true = refl
-  position_same n y x false = refl
+  position_pick_same : (n : ℕ) (y : B) (x : A) (v : Bool) → position_pick n y v ≡ position_pick n x v
+  position_pick_same n y x true = refl
+  position_pick_same n y x false = refl
 
   pub position_in_mapped : (q : B → Result Bool E) (l : List (Result A E)) → position_in q (mapped h l) ≡ position_in (λ x. on_value (h x) q) l
   unfolding position_in
-  position_in_mapped q l = searched_mapped position_pick position_pick position_same None q 0 l
+  position_in_mapped q l = searched_mapped position_pick position_pick position_pick_same None q 0 l
 
-  value_same : {C : Type 0} (n : ℕ) (y : B) (x : A) (v : Option C) → find_map_pick n y v ≡ find_map_pick n x v
-  value_same n y x (Some c) = refl
-  value_same n y x None = refl
+  find_map_pick_same : {C : Type 0} (n : ℕ) (y : B) (x : A) (v : Option C) → find_map_pick n y v ≡ find_map_pick n x v
+  find_map_pick_same n y x (Some c) = refl
+  find_map_pick_same n y x None = refl
 
   pub find_mapped_mapped : {C : Type 0} (q : B → Result (Option C) E) (l : List (Result A E)) → find_mapped q (mapped h l) ≡ find_mapped (λ x. on_value (h x) q) l
   unfolding find_mapped
-  find_mapped_mapped q l = searched_mapped find_map_pick find_map_pick value_same None q 0 l
+  find_mapped_mapped q l = searched_mapped find_map_pick find_map_pick find_map_pick_same None q 0 l
 
   pub each_done_mapped : (q : B → Result (Unit {0}) E) (l : List (Result A E)) → each_done q (mapped h l) ≡ each_done (λ x. on_value (h x) q) l
   unfolding each_done
   each_done_mapped q l = searched_mapped each_pick each_pick (λ n y x v. refl) tt q 0 l
 
 module _ {A E : Type 0} (p : A → Bool) where
-  all_decided : (n : ℕ) (x : A) (b c : Bool) {r : Result Bool E} → r ≡ Ok c → decided (all_pick n x) (Ok b) r ≡ Ok (b && c)
-  all_decided n x true c e = e
-  all_decided n x false c e = refl
+  decided_all_pick : (n : ℕ) (x : A) (b c : Bool) {r : Result Bool E} → r ≡ Ok c → decided (all_pick n x) (Ok b) r ≡ Ok (b && c)
+  decided_all_pick n x true c e = e
+  decided_all_pick n x false c e = refl
 
-  all_items : (n : ℕ) (xs : List A) → searched {E = E} all_pick true (λ x. Ok (p x)) n (items xs) ≡ Ok (list_all p xs)
+  searched_all_pick_items : (n : ℕ) (xs : List A) → searched {E = E} all_pick true (λ x. Ok (p x)) n (items xs) ≡ Ok (list_all p xs)
   unfolding items searched
-  all_items n [] = refl
-  all_items n (x ∷ xs) = all_decided n x (p x) (list_all p xs) (all_items (n + 1) xs)
+  searched_all_pick_items n [] = refl
+  searched_all_pick_items n (x ∷ xs) = decided_all_pick n x (p x) (list_all p xs) (searched_all_pick_items (n + 1) xs)
 
   pub all_of_items : (xs : List A) → all_of {E = E} (λ x. Ok (p x)) (items xs) ≡ Ok (list_all p xs)
   unfolding all_of
-  all_of_items xs = all_items 0 xs
+  all_of_items xs = searched_all_pick_items 0 xs
 
-  any_decided : (n : ℕ) (x : A) (b c : Bool) {r : Result Bool E} → r ≡ Ok c → decided (any_pick n x) (Ok b) r ≡ Ok (b || c)
-  any_decided n x true c e = refl
-  any_decided n x false c e = e
+  decided_any_pick : (n : ℕ) (x : A) (b c : Bool) {r : Result Bool E} → r ≡ Ok c → decided (any_pick n x) (Ok b) r ≡ Ok (b || c)
+  decided_any_pick n x true c e = refl
+  decided_any_pick n x false c e = e
 
-  any_items : (n : ℕ) (xs : List A) → searched {E = E} any_pick false (λ x. Ok (p x)) n (items xs) ≡ Ok (list_any p xs)
+  searched_any_pick_items : (n : ℕ) (xs : List A) → searched {E = E} any_pick false (λ x. Ok (p x)) n (items xs) ≡ Ok (list_any p xs)
   unfolding items searched
-  any_items n [] = refl
-  any_items n (x ∷ xs) = any_decided n x (p x) (list_any p xs) (any_items (n + 1) xs)
+  searched_any_pick_items n [] = refl
+  searched_any_pick_items n (x ∷ xs) = decided_any_pick n x (p x) (list_any p xs) (searched_any_pick_items (n + 1) xs)
 
   pub any_of_items : (xs : List A) → any_of {E = E} (λ x. Ok (p x)) (items xs) ≡ Ok (list_any p xs)
   unfolding any_of
-  any_of_items xs = any_items 0 xs
+  any_of_items xs = searched_any_pick_items 0 xs
 
-  found_decided : (n : ℕ) (x : A) (b : Bool) (o : Option A) {r : Result (Option A) E} → r ≡ Ok o → decided (find_pick n x) (Ok b) r ≡ Ok (cond b (Some x) o)
-  found_decided n x true o e = refl
-  found_decided n x false o e = e
+  decided_find_pick : (n : ℕ) (x : A) (b : Bool) (o : Option A) {r : Result (Option A) E} → r ≡ Ok o → decided (find_pick n x) (Ok b) r ≡ Ok (cond b (Some x) o)
+  decided_find_pick n x true o e = refl
+  decided_find_pick n x false o e = e
 
-  found_in_items : (n : ℕ) (xs : List A) → searched {E = E} find_pick None (λ x. Ok (p x)) n (items xs) ≡ Ok (find p xs)
+  searched_find_pick_items : (n : ℕ) (xs : List A) → searched {E = E} find_pick None (λ x. Ok (p x)) n (items xs) ≡ Ok (find p xs)
   unfolding items searched
-  found_in_items n [] = refl
-  found_in_items n (x ∷ xs) = found_decided n x (p x) (find p xs) (found_in_items (n + 1) xs)
+  searched_find_pick_items n [] = refl
+  searched_find_pick_items n (x ∷ xs) = decided_find_pick n x (p x) (find p xs) (searched_find_pick_items (n + 1) xs)
 
   pub found_items : (xs : List A) → found {E = E} (λ x. Ok (p x)) (items xs) ≡ Ok (find p xs)
   unfolding found
-  found_items xs = found_in_items 0 xs
+  found_items xs = searched_find_pick_items 0 xs

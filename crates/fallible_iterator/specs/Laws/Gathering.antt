@@ -9,19 +9,19 @@ use Rattle.fallible_iterator.specs.Gathering.{gathering_by}
 
 module _ {S P K A E B F : Type 0} (view : S → P) (key : S → K) (made : K → List (Answered A E) → Answered B F → Type 0) (m : Contract P A E) where
   -- by a part that says always the same
-  abbrev At : K → Contract S B F
-  At k = gathering view (made k) m
+  abbrev GatheringAt : K → Contract S B F
+  GatheringAt k = gathering view (made k) m
 
-  answer_by : (s t : S) (r : Answered B F) → OnAnswer (At (key s)) s r t → OnAnswer (gathering_by view key made m) s r t
-  answer_by s t (Ok (Some y)) a = a
-  answer_by s t (Ok None) a = a
-  answer_by s t (Err f) a = a
+  on_answer_of_gathering : (s t : S) (r : Answered B F) → OnAnswer (GatheringAt (key s)) s r t → OnAnswer (gathering_by view key made m) s r t
+  on_answer_of_gathering s t (Ok (Some y)) a = a
+  on_answer_of_gathering s t (Ok None) a = a
+  on_answer_of_gathering s t (Err f) a = a
 
-  goes_by : (s t : S) (r : Answered B F) → KeptByDraw (At (key s)) s r t → key t ≡ key s → KeptByDraw (gathering_by view key made m) s r t
-  goes_by s t r g same = record {
+  kept_by_draw_of_gathering : (s t : S) (r : Answered B F) → KeptByDraw (GatheringAt (key s)) s r t → key t ≡ key s → KeptByDraw (gathering_by view key made m) s r t
+  kept_by_draw_of_gathering s t r g same = record {
     can_next = g.can_next;
     is_finite = g.is_finite;
-    answer = answer_by s t r g.answer;
+    answer = on_answer_of_gathering s t r g.answer;
     may_give = λ y h. g.may_give y (subst (λ k. MadeOfComing m (view t) (made k) (item y)) same h);
     may_fail = λ f h. g.may_fail f (subst (λ k. MadeOfComing m (view t) (made k) (failure f)) same h);
     lenders = g.lenders;
@@ -29,6 +29,6 @@ module _ {S P K A E B F : Type 0} (view : S → P) (key : S → K) (made : K →
 
 pub lawful_gathering_by : {S P K A E B F : Type 0} {m : Contract P A E} (view : S → P) (key : S → K) (made : K → List (Answered A E) → Answered B F → Type 0) → Lawful m → Lawful (gathering_by view key made m)
 lawful_gathering_by {m = m} view key made l = record {
-  kept_by_draw = λ s r t c w. goes_by view key made m s t r ((lawful_gathering view (made (key s)) l).kept_by_draw s r t c w.0) w.1;
+  kept_by_draw = λ s r t c w. kept_by_draw_of_gathering view key made m s t r ((lawful_gathering view (made (key s)) l).kept_by_draw s r t c w.0) w.1;
   bounded = λ s. l.bounded (view s);
 }

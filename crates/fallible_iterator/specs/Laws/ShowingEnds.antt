@@ -13,25 +13,25 @@ use Rattle.fallible_iterator.specs.ShowingEnds.{listing_ends}
 
 module _ {S A E : Type 0} (shows : S → List (Result A E)) where
   -- from the back as many are shown as from the front
-  no_more : (s t : S) → NoMore (listing (λ u. reverse (shows u))) s t → NoMore (listing shows) s t
-  no_more s t less n b = let d = less n (let e = length-reverse (shows s) in omega (arith, e, b)) in let e = length-reverse (shows t) in (d.0, (let k = d.1 in omega (arith, e, k)), d.2)
+  no_more_from_back : (s t : S) → NoMore (listing (λ u. reverse (shows u))) s t → NoMore (listing shows) s t
+  no_more_from_back s t less n b = let d = less n (let e = length-reverse (shows s) in omega (arith, e, b)) in let e = length-reverse (shows t) in (d.0, (let k = d.1 in omega (arith, e, k)), d.2)
 
-  fewer : (s t : S) → Fewer (listing (λ u. reverse (shows u))) s t → Fewer (listing shows) s t
-  fewer s t less n b = let d = less n (let e = length-reverse (shows s) in omega (arith, e, b)) in let e = length-reverse (shows t) in (d.0, (let k = d.1 in omega (arith, e, k)), d.2)
+  fewer_from_back : (s t : S) → Fewer (listing (λ u. reverse (shows u))) s t → Fewer (listing shows) s t
+  fewer_from_back s t less n b = let d = less n (let e = length-reverse (shows s) in omega (arith, e, b)) in let e = length-reverse (shows t) in (d.0, (let k = d.1 in omega (arith, e, k)), d.2)
 
-  less_remains : (s t : S) → length (reverse (shows t)) < length (reverse (shows s)) → IsFinite ((listing shows).remaining s) → IsFinite ((listing shows).remaining t) × (size ((listing shows).remaining t) < size ((listing shows).remaining s))
-  less_remains s t less f = (tt, (let d = length-reverse (shows s) in let e = length-reverse (shows t) in omega (arith, d, e, less)))
+  less_remains_from_back : (s t : S) → length (reverse (shows t)) < length (reverse (shows s)) → IsFinite ((listing shows).remaining s) → IsFinite ((listing shows).remaining t) × (size ((listing shows).remaining t) < size ((listing shows).remaining s))
+  less_remains_from_back s t less f = (tt, (let d = length-reverse (shows s) in let e = length-reverse (shows t) in omega (arith, d, e, less)))
 
-  no_more_remains : (s t : S) → length (reverse (shows t)) ≤ length (reverse (shows s)) → NoMoreRemains (listing shows) s t
-  no_more_remains s t less f = (tt, (let d = length-reverse (shows s) in let e = length-reverse (shows t) in omega (arith, d, e, less)))
+  no_more_remains_from_back : (s t : S) → length (reverse (shows t)) ≤ length (reverse (shows s)) → NoMoreRemains (listing shows) s t
+  no_more_remains_from_back s t less f = (tt, (let d = length-reverse (shows s) in let e = length-reverse (shows t) in omega (arith, d, e, less)))
 
-  answer_back : (s t : S) (r : Answered A E) → OnAnswer (listing (λ u. reverse (shows u))) s r t → OnAnswer (from_back (listing shows) (listing_ends shows)) s r t
-  answer_back s t (Ok (Some x)) a = (tt, fewer s t a.1, less_remains s t (a.2 tt).1)
-  answer_back s t (Ok None) a = (no_more s t a.0, no_more_remains s t (a.1 tt).1)
-  answer_back s t (Err e) a = (tt, no_more s t a.1, less_remains s t (a.2 tt).1)
+  on_answer_back : (s t : S) (r : Answered A E) → OnAnswer (listing (λ u. reverse (shows u))) s r t → OnAnswer (from_back (listing shows) (listing_ends shows)) s r t
+  on_answer_back s t (Ok (Some x)) a = (tt, fewer_from_back s t a.1, less_remains_from_back s t (a.2 tt).1)
+  on_answer_back s t (Ok None) a = (no_more_from_back s t a.0, no_more_remains_from_back s t (a.1 tt).1)
+  on_answer_back s t (Err e) a = (tt, no_more_from_back s t a.1, less_remains_from_back s t (a.2 tt).1)
 
-  pub lawful_listing_ends : LawfulEnds (listing shows) (listing_ends shows)
-  lawful_listing_ends = record {
+  pub lawful_ends_listing : LawfulEnds (listing shows) (listing_ends shows)
+  lawful_ends_listing = record {
     front_can = λ s c. tt;
     may_give = λ s x g. tt;
     may_fail = λ s x g. tt;
@@ -40,7 +40,7 @@ module _ {S A E : Type 0} (shows : S → List (Result A E)) where
       kept_by_draw = λ s r t c step. record {
         can_next = tt;
         is_finite = λ f. tt;
-        answer = answer_back s t r ((lawful_listing (λ u. reverse (shows u))).kept_by_draw s r t tt step).answer;
+        answer = on_answer_back s t r ((lawful_listing (λ u. reverse (shows u))).kept_by_draw s r t tt step).answer;
         may_give = λ x g. tt;
         may_fail = λ e g. tt;
         lenders = refl;
@@ -50,21 +50,21 @@ module _ {S A E : Type 0} (shows : S → List (Result A E)) where
   }
 
   -- what takes of the list that is shown
-  shown_front : (n : ℕ) (l : List (Result A E)) (s t : S) (r : Answered A E) → shows s ≡ l → TakesShown l r (shows t) → ((k : List (Result A E)) → shows t ≡ k → ListsBothEndsFor (listing shows).steps (listing_ends shows).steps n t k) → TakesFirst (λ k. ListsBothEndsFor (listing shows).steps (listing_ends shows).steps n t k) r l
-  shown_front n [] s t r e w all = (w.0, all [] w.1)
-  shown_front n (y ∷ l) s t r e w all = (w.0, all l w.1)
+  takes_first_shown_front : (n : ℕ) (l : List (Result A E)) (s t : S) (r : Answered A E) → shows s ≡ l → TakesShown l r (shows t) → ((k : List (Result A E)) → shows t ≡ k → ListsBothEndsFor (listing shows).steps (listing_ends shows).steps n t k) → TakesFirst (λ k. ListsBothEndsFor (listing shows).steps (listing_ends shows).steps n t k) r l
+  takes_first_shown_front n [] s t r e w all = (w.0, all [] w.1)
+  takes_first_shown_front n (y ∷ l) s t r e w all = (w.0, all l w.1)
 
-  shown_back : (n : ℕ) (l : List (Result A E)) (s t : S) (r : Answered A E) → TakesShown l r (reverse (shows t)) → ((k : List (Result A E)) → shows t ≡ k → ListsBothEndsFor (listing shows).steps (listing_ends shows).steps n t k) → TakesFirst (λ k. ListsBothEndsFor (listing shows).steps (listing_ends shows).steps n t (reverse k)) r l
-  shown_back n [] s t r w all = (w.0, all [] (sym (reverse-reverse (shows t)) ∙ ap reverse w.1))
-  shown_back n (y ∷ l) s t r w all = (w.0, all (reverse l) (sym (reverse-reverse (shows t)) ∙ ap reverse w.1))
+  takes_first_shown_back : (n : ℕ) (l : List (Result A E)) (s t : S) (r : Answered A E) → TakesShown l r (reverse (shows t)) → ((k : List (Result A E)) → shows t ≡ k → ListsBothEndsFor (listing shows).steps (listing_ends shows).steps n t k) → TakesFirst (λ k. ListsBothEndsFor (listing shows).steps (listing_ends shows).steps n t (reverse k)) r l
+  takes_first_shown_back n [] s t r w all = (w.0, all [] (sym (reverse-reverse (shows t)) ∙ ap reverse w.1))
+  takes_first_shown_back n (y ∷ l) s t r w all = (w.0, all (reverse l) (sym (reverse-reverse (shows t)) ∙ ap reverse w.1))
 
-  shown_for : (n : ℕ) (s : S) (l : List (Result A E)) → shows s ≡ l → ListsBothEndsFor (listing shows).steps (listing_ends shows).steps n s l
-  shown_for zero s l e = tt
-  shown_for (suc n) s l e = (
-    (λ r t step. shown_front n l s t r e (subst (λ (k : List (Result A E)). TakesShown k r (shows t)) e step) (λ k same. shown_for n t k same)),
-    (λ r t step. shown_back n (reverse l) s t r (subst (λ (k : List (Result A E)). TakesShown (reverse k) r (reverse (shows t))) e step) (λ k same. shown_for n t k same)),
+  lists_both_ends_for_shown : (n : ℕ) (s : S) (l : List (Result A E)) → shows s ≡ l → ListsBothEndsFor (listing shows).steps (listing_ends shows).steps n s l
+  lists_both_ends_for_shown zero s l e = tt
+  lists_both_ends_for_shown (suc n) s l e = (
+    (λ r t step. takes_first_shown_front n l s t r e (subst (λ (k : List (Result A E)). TakesShown k r (shows t)) e step) (λ k same. lists_both_ends_for_shown n t k same)),
+    (λ r t step. takes_first_shown_back n (reverse l) s t r (subst (λ (k : List (Result A E)). TakesShown (reverse k) r (reverse (shows t))) e step) (λ k same. lists_both_ends_for_shown n t k same)),
   )
 
   -- A type whose value shows what it lists lists that from both ends.
-  pub lists_both_shown : (s : S) → ListsBothEnds (listing shows).steps (listing_ends shows).steps s (shows s)
-  lists_both_shown s = record { for = λ n. shown_for n s (shows s) refl }
+  pub lists_both_ends_shown : (s : S) → ListsBothEnds (listing shows).steps (listing_ends shows).steps s (shows s)
+  lists_both_ends_shown s = record { for = λ n. lists_both_ends_for_shown n s (shows s) refl }

@@ -3,7 +3,7 @@ ghost use Rattle.std.specs.Prelude.{◌≡◌, ℕ, ◌++◌, ◌∷◌, [], map
 ghost use Rattle.fallible_contract.specs.Contract.{Stays};
 ghost use Rattle.fallible_contract.specs.Ends.{from_front};
 ghost use Rattle.fallible_contract.specs.Traces.{Answered, Run, item};
-ghost use Rattle.fallible_contract.specs.Folds.{Folded, Nth, call_with};
+ghost use Rattle.fallible_contract.specs.Folds.{FoldDrains, NthDrains, call_with};
 ghost use Rattle.fallible_contract.specs.LawForm.{TracesAre};
 ghost use Rattle.fallible_contract.specs.Closures.{call_on, call_at};
 ghost use Rattle.fallible_contract.specs.Lists.{Acts, rest_nth, result_answer};
@@ -49,11 +49,11 @@ where
         → Run (step_at I.contract.steps I.ends.steps side) s trace t
         → RunAtEnds I.contract.steps I.ends.steps s (from_side side trace) t }
     ensures fold { (s t : I) (b : B) (f : F) (r : Result B E)
-        (h : Folded I.contract.steps (call_with F.FnMut) E.from_gives s b f r t)
+        (h : FoldDrains I.contract.steps (call_with F.FnMut) E.from_gives s b f r t)
         → RunAtEnds I.contract.steps I.ends.steps s
         (from_side Front (map item h.items ++ h.last ∷ [])) t }
     ensures fold_back { (s t : I) (b : B) (f : F) (r : Result B E)
-        (h : Folded I.ends.steps (call_with F.FnMut) E.from_gives s b f r t)
+        (h : FoldDrains I.ends.steps (call_with F.FnMut) E.from_gives s b f r t)
         → RunAtEnds I.contract.steps
         I.ends.steps s (from_side Back (map item h.items ++ h.last ∷ [])) t }
     ensures then_others { (s t u : I) (drawn others : List (Side × Answered I.Item I.Error))
@@ -108,7 +108,7 @@ pub fn law_after_front<I: DoubleEndedFallibleIterator>()
     ensures nth { (s t : I) (n : ℕ) (r : Answered I.Item I.Error)
         (l : List (Result I.Item I.Error))
         → ListsBothEnds I.contract.steps I.ends.steps s l
-        → Nth I.contract.steps s n r t → ¬ (r ≡ Ok None)
+        → NthDrains I.contract.steps s n r t → ¬ (r ≡ Ok None)
         → ListsBothEnds I.contract.steps I.ends.steps t (rest_nth n l) }
 {}
 

@@ -10,7 +10,7 @@ ghost use Rattle.fallible_contract.specs.Laws.Ends.{lawful_ends_seen};
 ghost use Rattle.fallible_core.specs.Ends.Rev.{rev_parts};
 ghost use Rattle.fallible_iterator.specs.Sources.Convert.{convert_contract, convert_ends, convert_parts};
 ghost use Rattle.fallible_iterator.specs.Sources.Std.{element_by};
-ghost use Rattle.fallible_iterator.specs.Laws.Sources.Std.{lawful_std, lawful_std_ends};
+ghost use Rattle.fallible_iterator.specs.Laws.Sources.Std.{lawful_std, lawful_ends_std};
 
 use crate::sources::std_fold::{Progressing, turn_of_element};
 use fallible_contract::folds::Turn;
@@ -92,7 +92,7 @@ impl<T, E, I: std::iter::DoubleEndedIterator<Item = Result<T, E>>> DoubleEndedFa
     }
 
     ghost lawful_ends = { lawful_ends_seen convert_parts
-        (lawful_std_ends Ok Err I.can_next I.can_next_back I.next_gives I.next_back_gives
+        (lawful_ends_std Ok Err I.can_next I.can_next_back I.next_gives I.next_back_gives
         I.remaining) };
 }
 

@@ -9,7 +9,7 @@ ghost use Rattle.fallible_contract.specs.Laws.Contract.{lawful_seen};
 ghost use Rattle.fallible_contract.specs.Laws.Ends.{lawful_ends_seen};
 ghost use Rattle.fallible_core.specs.Ends.Rev.{rev_parts};
 ghost use Rattle.fallible_iterator.specs.Sources.IntoFallible.{into_fallible_contract, into_fallible_ends, never, into_fallible_parts};
-ghost use Rattle.fallible_iterator.specs.Laws.Sources.Std.{lawful_std, lawful_std_ends};
+ghost use Rattle.fallible_iterator.specs.Laws.Sources.Std.{lawful_std, lawful_ends_std};
 
 use crate::sources::std_fold::{Progressing, turn_of_element};
 use fallible_contract::folds::Turn;
@@ -91,7 +91,7 @@ impl<T, I: std::iter::DoubleEndedIterator<Item = T>> DoubleEndedFallibleIterator
     }
 
     ghost lawful_ends = { lawful_ends_seen into_fallible_parts
-        (lawful_std_ends (λ x. x) never I.can_next I.can_next_back I.next_gives I.next_back_gives
+        (lawful_ends_std (λ x. x) never I.can_next I.can_next_back I.next_gives I.next_back_gives
         I.remaining) };
 }
 

@@ -12,18 +12,18 @@ use Rattle.fallible_itertools.specs.Holding.{held_one}
 use Rattle.fallible_iterator.proofs.Lemmas.Making.{lists_made_seen}
 use Rattle.fallible_itertools.proofs.Lemmas.HoldingHints.{GivesHeld}
 use Rattle.fallible_itertools.proofs.Lemmas.HoldingLists.{by_outcome, before_stop, held_list, listed_parts}
-use Rattle.fallible_itertools.proofs.Lemmas.HoldingMade.{Answers, IfKept, OutcomeMade, Refuses, held_gives_made}
+use Rattle.fallible_itertools.proofs.Lemmas.HoldingMade.{AnswersHeld, IfKept, OutcomeMade, IsRefused, gives_held_made}
 use Rattle.std.specs.declared.alloc.AllocError.{AllocError}
 use Rattle.fallible_iterator.specs.Outcome.{Outcome}
 use Rattle.fallible_iterator.specs.Outcome.TheVariants.{Kept, LeftOut, Failure, End}
 use Rattle.fallible_itertools.specs.declared.chunk_by.ChunkBy.{ChunkBy}
 
 module _ {A K E : Type 0} (from : AllocError → E → Type 0) (eq : K → K → Bool) where
-  pub goes_on : (g : Group K A) (x : A) (k : K) (o : Outcome (Group K A) E) (q : Option (Group K A)) → eq g.0 k ≡ true → group_grown from g x o q → group_by from eq (Some g) x (Ok k) o q
-  goes_on g x k o q is w = subst (λ b. group_at from g x k b o q) (sym is) w
+  pub group_by_same_key : (g : Group K A) (x : A) (k : K) (o : Outcome (Group K A) E) (q : Option (Group K A)) → eq g.0 k ≡ true → group_grown from g x o q → group_by from eq (Some g) x (Ok k) o q
+  group_by_same_key g x k o q is w = subst (λ b. group_at from g x k b o q) (sym is) w
 
-  pub begins : (g : Group K A) (x : A) (k : K) (o : Outcome (Group K A) E) (q : Option (Group K A)) → eq g.0 k ≡ false → group_begun from (Some g) x k o q → group_by from eq (Some g) x (Ok k) o q
-  begins g x k o q is w = subst (λ b. group_at from g x k b o q) (sym is) w
+  pub group_by_other_key : (g : Group K A) (x : A) (k : K) (o : Outcome (Group K A) E) (q : Option (Group K A)) → eq g.0 k ≡ false → group_begun from (Some g) x k o q → group_by from eq (Some g) x (Ok k) o q
+  group_by_other_key g x k o q is w = subst (λ b. group_at from g x k b o q) (sym is) w
 
 -- ---- what it lists
 
@@ -35,86 +35,86 @@ module _ {A K : Type 0} where
   HeldAs (Some g) None = ⊥
   HeldAs (Some g) (Some k) = MadeGroup k g
 
-  abbrev Full : Option (K × List A) → Type 0
-  Full None = ⊥
-  Full (Some k) = ⊤
+  abbrev FullGroup : Option (K × List A) → Type 0
+  FullGroup None = ⊥
+  FullGroup (Some k) = ⊤
 
-  abbrev next_at : K × List A → A → K → Bool → Option (K × List A)
-  next_at g x k true = Some (g.0, g.1 ++ x ∷ [])
-  next_at g x k false = Some (k, x ∷ [])
+  abbrev next_group_at : K × List A → A → K → Bool → Option (K × List A)
+  next_group_at g x k true = Some (g.0, g.1 ++ x ∷ [])
+  next_group_at g x k false = Some (k, x ∷ [])
 
 module _ {A K : Type 0} (E : Type 0) where
-  abbrev does_at : K × List A → Bool → Outcome (K × List A) E
-  does_at g true = LeftOut
-  does_at g false = Kept g
+  abbrev group_outcome_at : K × List A → Bool → Outcome (K × List A) E
+  group_outcome_at g true = LeftOut
+  group_outcome_at g false = Kept g
 
 module _ {A K E : Type 0} (eq : K → K → Bool) where
-  abbrev does_by : Option (K × List A) → Result K E → Outcome (K × List A) E
-  does_by None (Ok k) = LeftOut
-  does_by (Some g) (Ok k) = does_at E g (eq g.0 k)
-  does_by a (Err e) = Failure e
+  abbrev group_outcome_by : Option (K × List A) → Result K E → Outcome (K × List A) E
+  group_outcome_by None (Ok k) = LeftOut
+  group_outcome_by (Some g) (Ok k) = group_outcome_at E g (eq g.0 k)
+  group_outcome_by a (Err e) = Failure e
 
-  abbrev next_by : Option (K × List A) → A → Result K E → Option (K × List A)
-  next_by None x (Ok k) = Some (k, x ∷ [])
-  next_by (Some g) x (Ok k) = next_at g x k (eq g.0 k)
-  next_by a x (Err e) = a
+  abbrev next_group_by : Option (K × List A) → A → Result K E → Option (K × List A)
+  next_group_by None x (Ok k) = Some (k, x ∷ [])
+  next_group_by (Some g) x (Ok k) = next_group_at g x k (eq g.0 k)
+  next_group_by a x (Err e) = a
 
   module _ (h : A → Result K E) where
-    abbrev does : Option (K × List A) → Option A → Outcome (K × List A) E
-    does a (Some x) = does_by a (h x)
-    does None None = End
-    does (Some g) None = Kept g
+    abbrev group_outcome : Option (K × List A) → Option A → Outcome (K × List A) E
+    group_outcome a (Some x) = group_outcome_by a (h x)
+    group_outcome None None = End
+    group_outcome (Some g) None = Kept g
 
-    abbrev next : Option (K × List A) → Option A → Option (K × List A)
-    next a (Some x) = next_by a x (h x)
-    next a None = None
+    abbrev next_group : Option (K × List A) → Option A → Option (K × List A)
+    next_group a (Some x) = next_group_by a x (h x)
+    next_group a None = None
 
 module _ {A K E : Type 0} (from : AllocError → E → Type 0) (eq : K → K → Bool) where
-  at_on : (g : Group K A) (k : K × List A) (x : A) (j : K) (b : Bool) (o : Outcome (Group K A) E) (q : Option (Group K A)) → MadeGroup k g → group_at from g x j b o q → Refuses from o ⊎ (HeldAs q (next_at k x j b) × OutcomeMade MadeGroup (does_at E k b) o)
-  at_on g k x j true (Kept y) q same w = absurd w
-  at_on g k x j true LeftOut q same (v, grown, is) = inr (subst (λ z. HeldAs z (Some (k.0, k.1 ++ x ∷ []))) (sym is) (same.0, subst (λ (xs : List A). vec_items v ≡ xs ++ x ∷ []) same.1 grown), tt)
-  at_on g k x j true (Failure e) q same w = inl (e, refl, w.0)
-  at_on g k x j true End q same w = absurd w
-  at_on g k x j false (Kept y) q same (is, rest) = inr (subst (λ z. HeldAs z (Some (j, x ∷ []))) (sym rest.2) (refl, rest.1), subst (λ z. MadeGroup k z) (sym is) same)
-  at_on g k x j false LeftOut q same w = absurd w
-  at_on g k x j false (Failure e) q same w = inl (e, refl, w.0)
-  at_on g k x j false End q same w = absurd w
+  refuses_at_on : (g : Group K A) (k : K × List A) (x : A) (j : K) (b : Bool) (o : Outcome (Group K A) E) (q : Option (Group K A)) → MadeGroup k g → group_at from g x j b o q → IsRefused from o ⊎ (HeldAs q (next_group_at k x j b) × OutcomeMade MadeGroup (group_outcome_at E k b) o)
+  refuses_at_on g k x j true (Kept y) q same w = absurd w
+  refuses_at_on g k x j true LeftOut q same (v, grown, is) = inr (subst (λ z. HeldAs z (Some (k.0, k.1 ++ x ∷ []))) (sym is) (same.0, subst (λ (xs : List A). vec_items v ≡ xs ++ x ∷ []) same.1 grown), tt)
+  refuses_at_on g k x j true (Failure e) q same w = inl (e, refl, w.0)
+  refuses_at_on g k x j true End q same w = absurd w
+  refuses_at_on g k x j false (Kept y) q same (is, rest) = inr (subst (λ z. HeldAs z (Some (j, x ∷ []))) (sym rest.2) (refl, rest.1), subst (λ z. MadeGroup k z) (sym is) same)
+  refuses_at_on g k x j false LeftOut q same w = absurd w
+  refuses_at_on g k x j false (Failure e) q same w = inl (e, refl, w.0)
+  refuses_at_on g k x j false End q same w = absurd w
 
-  begun_on : (x : A) (j : K) (o : Outcome (Group K A) E) (q : Option (Group K A)) → group_begun from None x j o q → Refuses from o ⊎ (HeldAs q (Some (j, x ∷ [])) × OutcomeMade {Y = K × List A} MadeGroup LeftOut o)
-  begun_on x j (Kept y) q w = absurd w
-  begun_on x j LeftOut q (v, grown, is) = inr (subst (λ z. HeldAs z (Some (j, x ∷ []))) (sym is) (refl, grown), tt)
-  begun_on x j (Failure e) q w = inl (e, refl, w.0)
-  begun_on x j End q w = absurd w
+  refuses_begun_on : (x : A) (j : K) (o : Outcome (Group K A) E) (q : Option (Group K A)) → group_begun from None x j o q → IsRefused from o ⊎ (HeldAs q (Some (j, x ∷ [])) × OutcomeMade {Y = K × List A} MadeGroup LeftOut o)
+  refuses_begun_on x j (Kept y) q w = absurd w
+  refuses_begun_on x j LeftOut q (v, grown, is) = inr (subst (λ z. HeldAs z (Some (j, x ∷ []))) (sym is) (refl, grown), tt)
+  refuses_begun_on x j (Failure e) q w = inl (e, refl, w.0)
+  refuses_begun_on x j End q w = absurd w
 
-  failed_on : (g : Option (Group K A)) (a : Option (K × List A)) (e : E) (o : Outcome (Group K A) E) (q : Option (Group K A)) → HeldAs g a → (o ≡ Failure e) × (q ≡ g) → HeldAs q a × OutcomeMade {Y = K × List A} MadeGroup (Failure e) o
-  failed_on g a e o q same (is, at) = (subst (λ z. HeldAs z a) (sym at) same, subst (λ (z : Outcome (Group K A) E). OutcomeMade {Y = K × List A} MadeGroup (Failure e) z) (sym is) refl)
+  held_as_failed_on : (g : Option (Group K A)) (a : Option (K × List A)) (e : E) (o : Outcome (Group K A) E) (q : Option (Group K A)) → HeldAs g a → (o ≡ Failure e) × (q ≡ g) → HeldAs q a × OutcomeMade {Y = K × List A} MadeGroup (Failure e) o
+  held_as_failed_on g a e o q same (is, at) = (subst (λ z. HeldAs z a) (sym at) same, subst (λ (z : Outcome (Group K A) E). OutcomeMade {Y = K × List A} MadeGroup (Failure e) z) (sym is) refl)
 
-  by_on : (g : Option (Group K A)) (a : Option (K × List A)) (x : A) (v : Result K E) (o : Outcome (Group K A) E) (q : Option (Group K A)) → HeldAs g a → group_by from eq g x v o q → Refuses from o ⊎ (HeldAs q (next_by eq a x v) × OutcomeMade MadeGroup (does_by eq a v) o)
-  by_on None None x (Ok j) o q same w = begun_on x j o q w
-  by_on None (Some k) x (Ok j) o q same w = absurd same
-  by_on (Some g) None x (Ok j) o q same w = absurd same
-  by_on (Some g) (Some k) x (Ok j) o q same w = at_on g k x j (eq k.0 j) o q same (subst (λ (i : K). group_at from g x j (eq i j) o q) same.0 w)
-  by_on None None x (Err e) o q same w = inr (failed_on None None e o q same w)
-  by_on None (Some k) x (Err e) o q same w = absurd same
-  by_on (Some g) None x (Err e) o q same w = absurd same
-  by_on (Some g) (Some k) x (Err e) o q same w = inr (failed_on (Some g) (Some k) e o q same w)
+  refuses_by_on : (g : Option (Group K A)) (a : Option (K × List A)) (x : A) (v : Result K E) (o : Outcome (Group K A) E) (q : Option (Group K A)) → HeldAs g a → group_by from eq g x v o q → IsRefused from o ⊎ (HeldAs q (next_group_by eq a x v) × OutcomeMade MadeGroup (group_outcome_by eq a v) o)
+  refuses_by_on None None x (Ok j) o q same w = refuses_begun_on x j o q w
+  refuses_by_on None (Some k) x (Ok j) o q same w = absurd same
+  refuses_by_on (Some g) None x (Ok j) o q same w = absurd same
+  refuses_by_on (Some g) (Some k) x (Ok j) o q same w = refuses_at_on g k x j (eq k.0 j) o q same (subst (λ (i : K). group_at from g x j (eq i j) o q) same.0 w)
+  refuses_by_on None None x (Err e) o q same w = inr (held_as_failed_on None None e o q same w)
+  refuses_by_on None (Some k) x (Err e) o q same w = absurd same
+  refuses_by_on (Some g) None x (Err e) o q same w = absurd same
+  refuses_by_on (Some g) (Some k) x (Err e) o q same w = inr (held_as_failed_on (Some g) (Some k) e o q same w)
 
   module _ {F : Type 0} (c : Mut F (Bor A × Unit {0}) (Result K E)) (f : F) (h : A → Result K E) (acts : Acts (call_at c) f h) where
-    abbrev At : F × Option (Group K A) → Option (K × List A) → Type 0
-    At p a = (p.0 ≡ f) × HeldAs p.1 a
+    abbrev HeldAndState : F × Option (Group K A) → Option (K × List A) → Type 0
+    HeldAndState p a = (p.0 ≡ f) × HeldAs p.1 a
 
-    on_item : (p : F × Option (Group K A)) (a : Option (K × List A)) (x : A) (o : Outcome (Group K A) E) (q : F × Option (Group K A)) → At p a → chunk_by_asks from eq c p (Some x) o q → Refuses from o ⊎ (At q (next eq h a (Some x)) × OutcomeMade MadeGroup (does eq h a (Some x)) o)
-    on_item p a x o q at (v, called, w) = let k = acts x v q.0 (subst (λ (z : F). call_at c z x v q.0) at.0 called) in
-        elim (by_on p.1 a x (h x) o q.1 at.1 (subst (λ (z : Result K E). group_by from eq p.1 x z o q.1) k.1 w)) [ inl e ↦ inl e | inr d ↦ inr ((k.0, d.0), d.1) ]
+    refuses_on_item : (p : F × Option (Group K A)) (a : Option (K × List A)) (x : A) (o : Outcome (Group K A) E) (q : F × Option (Group K A)) → HeldAndState p a → chunk_by_asks from eq c p (Some x) o q → IsRefused from o ⊎ (HeldAndState q (next_group eq h a (Some x)) × OutcomeMade MadeGroup (group_outcome eq h a (Some x)) o)
+    refuses_on_item p a x o q at (v, called, w) = let k = acts x v q.0 (subst (λ (z : F). call_at c z x v q.0) at.0 called) in
+        elim (refuses_by_on p.1 a x (h x) o q.1 at.1 (subst (λ (z : Result K E). group_by from eq p.1 x z o q.1) k.1 w)) [ inl e ↦ inl e | inr d ↦ inr ((k.0, d.0), d.1) ]
 
-    stop_on : (g : Option (Group K A)) (a : Option (K × List A)) (o : Outcome (Group K A) E) (q : Option (Group K A)) → HeldAs g a → group_at_stop g o q → HeldAs q None × OutcomeMade MadeGroup (does eq h a None) o
-    stop_on None None o q same (is, at) = (subst (λ z. HeldAs z None) (sym at) tt, subst (λ (z : Outcome (Group K A) E). OutcomeMade {Y = K × List A} MadeGroup End z) (sym is) tt)
-    stop_on None (Some k) o q same w = absurd same
-    stop_on (Some g) None o q same w = absurd same
-    stop_on (Some g) (Some k) o q same (is, at) = (subst (λ z. HeldAs z None) (sym at) tt, subst (λ (z : Outcome (Group K A) E). OutcomeMade MadeGroup (Kept k) z) (sym is) same)
+    held_as_stop_on : (g : Option (Group K A)) (a : Option (K × List A)) (o : Outcome (Group K A) E) (q : Option (Group K A)) → HeldAs g a → group_at_stop g o q → HeldAs q None × OutcomeMade MadeGroup (group_outcome eq h a None) o
+    held_as_stop_on None None o q same (is, at) = (subst (λ z. HeldAs z None) (sym at) tt, subst (λ (z : Outcome (Group K A) E). OutcomeMade {Y = K × List A} MadeGroup End z) (sym is) tt)
+    held_as_stop_on None (Some k) o q same w = absurd same
+    held_as_stop_on (Some g) None o q same w = absurd same
+    held_as_stop_on (Some g) (Some k) o q same (is, at) = (subst (λ z. HeldAs z None) (sym at) tt, subst (λ (z : Outcome (Group K A) E). OutcomeMade MadeGroup (Kept k) z) (sym is) same)
 
-    on_stop : (p : F × Option (Group K A)) (a : Option (K × List A)) (o : Outcome (Group K A) E) (q : F × Option (Group K A)) → At p a → chunk_by_asks from eq c p None o q → At q (next eq h a None) × OutcomeMade MadeGroup (does eq h a None) o
-    on_stop p a o q at w = let k = stop_on p.1 a o q.1 at.1 w.1 in ((w.0 ∙ at.0, k.0), k.1)
+    at_on_stop : (p : F × Option (Group K A)) (a : Option (K × List A)) (o : Outcome (Group K A) E) (q : F × Option (Group K A)) → HeldAndState p a → chunk_by_asks from eq c p None o q → HeldAndState q (next_group eq h a None) × OutcomeMade MadeGroup (group_outcome eq h a None) o
+    at_on_stop p a o q at w = let k = held_as_stop_on p.1 a o q.1 at.1 w.1 in ((w.0 ∙ at.0, k.0), k.1)
 
 group_made : {A K E : Type 0} (g : Option (Group K A)) (o : Outcome (Group K A) E) (q : Option (Group K A)) → group_at_stop g o q → IfKept (λ y. (k : K × List A) × MadeGroup k y) o
 group_made (Some g) o q w = rw w.0 ((g.0, vec_items g.1), (refl, refl))
@@ -124,103 +124,103 @@ made_at_stop : {A K E F : Type 0} (from : AllocError → E → Type 0) (eq : K �
 made_at_stop from eq c p o q w = group_made p.1 o q.1 w.1
 
 module _ {A K E : Type 0} (eq : K → K → Bool) (h : A → Result K E) where
-  full_at : (g : K × List A) (x : A) (j : K) (b : Bool) → Full (next_at g x j b)
-  full_at g x j true = tt
-  full_at g x j false = tt
+  full_after_next : (g : K × List A) (x : A) (j : K) (b : Bool) → FullGroup (next_group_at g x j b)
+  full_after_next g x j true = tt
+  full_after_next g x j false = tt
 
-  left_out_by : (a : Option (K × List A)) (x : A) (v : Result K E) → does_by eq a v ≡ LeftOut → Full (next_by eq a x v)
-  left_out_by None x (Ok k) is = tt
-  left_out_by (Some g) x (Ok k) is = full_at g x k (eq g.0 k)
-  left_out_by None x (Err e) is = absurd cc
-  left_out_by (Some g) x (Err e) is = absurd cc
+  full_left_out : (a : Option (K × List A)) (x : A) (v : Result K E) → group_outcome_by eq a v ≡ LeftOut → FullGroup (next_group_by eq a x v)
+  full_left_out None x (Ok k) is = tt
+  full_left_out (Some g) x (Ok k) is = full_after_next g x k (eq g.0 k)
+  full_left_out None x (Err e) is = absurd cc
+  full_left_out (Some g) x (Err e) is = absurd cc
 
-  no_end_at : (g : K × List A) (b : Bool) → does_at E g b ≡ End → ⊥
+  no_end_at : (g : K × List A) (b : Bool) → group_outcome_at E g b ≡ End → ⊥
   no_end_at g true is = cc
   no_end_at g false is = cc
 
-  no_end_by : (a : Option (K × List A)) (v : Result K E) → does_by eq a v ≡ End → ⊥
+  no_end_by : (a : Option (K × List A)) (v : Result K E) → group_outcome_by eq a v ≡ End → ⊥
   no_end_by None (Ok k) is = cc
   no_end_by (Some g) (Ok k) is = no_end_at g (eq g.0 k) is
   no_end_by None (Err e) is = cc
   no_end_by (Some g) (Err e) is = cc
 
-  at_stop_full : (a : Option (K × List A)) → Full a → (y : K × List A) × (does eq h a None ≡ Kept y)
+  at_stop_full : (a : Option (K × List A)) → FullGroup a → (y : K × List A) × (group_outcome eq h a None ≡ Kept y)
   at_stop_full None full = absurd full
   at_stop_full (Some g) full = (g, refl)
 
-  none_left : (a : Option (K × List A)) → does eq h a None ≡ LeftOut → ⊥
-  none_left None is = cc
-  none_left (Some g) is = cc
+  group_never_left_out : (a : Option (K × List A)) → group_outcome eq h a None ≡ LeftOut → ⊥
+  group_never_left_out None is = cc
+  group_never_left_out (Some g) is = cc
 
-  answers : Answers {X = A} {Y = K × List A} {E = E} (does eq h) (next eq h) Full
-  answers = record {
-    left_out = λ a x is. left_out_by a x (h x) is;
+  answers_of_chunk_by : AnswersHeld {X = A} {Y = K × List A} {E = E} (group_outcome eq h) (next_group eq h) FullGroup
+  answers_of_chunk_by = record {
+    left_out = λ a x is. full_left_out a x (h x) is;
     at_stop = at_stop_full;
     no_end = λ a x is. no_end_by a (h x) is;
-    none_left = none_left;
+    none_left = group_never_left_out;
   }
 
-  abbrev Listed : Option (K × List A) → List (Result A E) → List (Result (K × List A) E)
-  Listed a l = held_list (does eq h) (next eq h) a l
+  abbrev ListedFrom : Option (K × List A) → List (Result A E) → List (Result (K × List A) E)
+  ListedFrom a l = held_list (group_outcome eq h) (next_group eq h) a l
 
-  cons_at : (g : K × List A) (x : A) (j : K) (b : Bool) (l : List (Result A E)) (more other : List (Result (K × List A) E)) (failed : E → List (Result (K × List A) E)) → Listed (Some (g.0, g.1 ++ x ∷ [])) l ≡ more → Listed (Some (j, x ∷ [])) l ≡ other → by_outcome (does_at E g b) (Listed (next_at g x j b) l) failed ≡ group_or eq h g b more other
-  cons_at g x j true l more other failed is_more is_other = is_more
-  cons_at g x j false l more other failed is_more is_other = ap (λ k. Ok g ∷ k) is_other
+  by_outcome_cons_at : (g : K × List A) (x : A) (j : K) (b : Bool) (l : List (Result A E)) (more other : List (Result (K × List A) E)) (failed : E → List (Result (K × List A) E)) → ListedFrom (Some (g.0, g.1 ++ x ∷ [])) l ≡ more → ListedFrom (Some (j, x ∷ [])) l ≡ other → by_outcome (group_outcome_at E g b) (ListedFrom (next_group_at g x j b) l) failed ≡ group_or eq h g b more other
+  by_outcome_cons_at g x j true l more other failed is_more is_other = is_more
+  by_outcome_cons_at g x j false l more other failed is_more is_other = ap (λ k. Ok g ∷ k) is_other
 
-  abbrev From : Option (K × List A) → List (Result A E) → List (Result (K × List A) E)
-  From a l = chunked_by_from eq h a l
+  abbrev ChunkedFrom : Option (K × List A) → List (Result A E) → List (Result (K × List A) E)
+  ChunkedFrom a l = chunked_by_from eq h a l
 
   -- what the closure's failure makes
   abbrev lost_at : Option (K × List A) → List (Result A E) → E → List (Result (K × List A) E)
-  lost_at a l e = before_stop (does eq h a None) (Err e ∷ Listed None l)
+  lost_at a l e = before_stop (group_outcome eq h a None) (Err e ∷ ListedFrom None l)
 
-  begun_by : (x : A) (v : Result K E) (l : List (Result A E)) → ((a : Option (K × List A)) → Listed a l ≡ From a l) → by_outcome (does_by eq None v) (Listed (next_by eq None x v) l) (lost_at (next_by eq None x v) l) ≡ by_its_key eq h None v (λ k. From (Some (k, x ∷ [])) l) (From None l)
-  begun_by x (Ok k) l later = later (Some (k, x ∷ []))
-  begun_by x (Err e) l later = ap (λ z. Err e ∷ z) (later None)
+  by_outcome_begun : (x : A) (v : Result K E) (l : List (Result A E)) → ((a : Option (K × List A)) → ListedFrom a l ≡ ChunkedFrom a l) → by_outcome (group_outcome_by eq None v) (ListedFrom (next_group_by eq None x v) l) (lost_at (next_group_by eq None x v) l) ≡ by_its_key eq h None v (λ k. ChunkedFrom (Some (k, x ∷ [])) l) (ChunkedFrom None l)
+  by_outcome_begun x (Ok k) l later = later (Some (k, x ∷ []))
+  by_outcome_begun x (Err e) l later = ap (λ z. Err e ∷ z) (later None)
 
-  cons_by : (g : K × List A) (x : A) (v : Result K E) (l : List (Result A E)) → ((a : Option (K × List A)) → Listed a l ≡ From a l) → by_outcome (does_by eq (Some g) v) (Listed (next_by eq (Some g) x v) l) (lost_at (next_by eq (Some g) x v) l) ≡ by_its_key eq h (Some g) v (λ j. group_or eq h g (eq g.0 j) (From (Some (g.0, g.1 ++ x ∷ [])) l) (From (Some (j, x ∷ [])) l)) (From None l)
-  cons_by g x (Ok j) l later = cons_at g x j (eq g.0 j) l _ _ _ (later (Some (g.0, g.1 ++ x ∷ []))) (later (Some (j, x ∷ [])))
-  cons_by g x (Err e) l later = ap (λ k. Ok g ∷ Err e ∷ k) (later None)
+  by_outcome_cons : (g : K × List A) (x : A) (v : Result K E) (l : List (Result A E)) → ((a : Option (K × List A)) → ListedFrom a l ≡ ChunkedFrom a l) → by_outcome (group_outcome_by eq (Some g) v) (ListedFrom (next_group_by eq (Some g) x v) l) (lost_at (next_group_by eq (Some g) x v) l) ≡ by_its_key eq h (Some g) v (λ j. group_or eq h g (eq g.0 j) (ChunkedFrom (Some (g.0, g.1 ++ x ∷ [])) l) (ChunkedFrom (Some (j, x ∷ [])) l)) (ChunkedFrom None l)
+  by_outcome_cons g x (Ok j) l later = by_outcome_cons_at g x j (eq g.0 j) l _ _ _ (later (Some (g.0, g.1 ++ x ∷ []))) (later (Some (j, x ∷ [])))
+  by_outcome_cons g x (Err e) l later = ap (λ k. Ok g ∷ Err e ∷ k) (later None)
 
-  from_is : (a : Option (K × List A)) (l : List (Result A E)) → Listed a l ≡ From a l
+  listed_is_chunked_from : (a : Option (K × List A)) (l : List (Result A E)) → ListedFrom a l ≡ ChunkedFrom a l
   unfolding chunked_by_from
-  from_is None [] = refl
-  from_is (Some g) [] = refl
-  from_is None (Ok x ∷ l) = begun_by x (h x) l (λ a. from_is a l)
-  from_is (Some g) (Ok x ∷ l) = cons_by g x (h x) l (λ a. from_is a l)
-  from_is None (Err e ∷ l) = ap (λ z. Err e ∷ z) (from_is None l)
-  from_is (Some g) (Err e ∷ l) = ap (λ z. Ok g ∷ Err e ∷ z) (from_is None l)
+  listed_is_chunked_from None [] = refl
+  listed_is_chunked_from (Some g) [] = refl
+  listed_is_chunked_from None (Ok x ∷ l) = by_outcome_begun x (h x) l (λ a. listed_is_chunked_from a l)
+  listed_is_chunked_from (Some g) (Ok x ∷ l) = by_outcome_cons g x (h x) l (λ a. listed_is_chunked_from a l)
+  listed_is_chunked_from None (Err e ∷ l) = ap (λ z. Err e ∷ z) (listed_is_chunked_from None l)
+  listed_is_chunked_from (Some g) (Err e ∷ l) = ap (λ z. Ok g ∷ Err e ∷ z) (listed_is_chunked_from None l)
 
-  pub chunked_by_is : (l : List (Result A E)) → Listed None l ≡ chunked_by eq h l
+  pub listed_is_chunked_by : (l : List (Result A E)) → ListedFrom None l ≡ chunked_by eq h l
   unfolding chunked_by
-  chunked_by_is l = from_is None l
+  listed_is_chunked_by l = listed_is_chunked_from None l
 
-  settles : (a : Option (K × List A)) → next eq h a None ≡ None
-  settles a = refl
+  next_at_stop : (a : Option (K × List A)) → next_group eq h a None ≡ None
+  next_at_stop a = refl
 
   -- What stands before a failure is grouped by itself, and so is what comes after it.
   pub chunked_by_in_parts : (a : List (Result A E)) (e : E) (b : List (Result A E)) → chunked_by eq h (a ++ Err e ∷ b) ≡ chunked_by eq h a ++ Err e ∷ chunked_by eq h b
-  chunked_by_in_parts a e b = listed_parts (does eq h) (next eq h) None settles (λ a x is. no_end_by a (h x) is) (chunked_by eq h) chunked_by_is a e b
+  chunked_by_in_parts a e b = listed_parts (group_outcome eq h) (next_group eq h) None next_at_stop (λ a x is. no_end_by a (h x) is) (chunked_by eq h) listed_is_chunked_by a e b
 
-pub lists_chunked_by : {S F A K E : Type 0} (m : Contract S A E) (from : AllocError → E → Type 0) (eq : K → K → Bool) (c : Mut F (Bor A × Unit {0}) (Result K E)) (f : F) (h : A → Result K E) → Acts (call_at c) f h → (s : ChunkBy S K F A E) (l : List (Result A E)) → chunk_by_parts s ≡ (s.it, ((f, None), None)) → Lists m.steps s.it l → ListsMade MadeGroup (seen_as chunk_by_parts (chunk_by_contract from eq c m)).steps from s (chunked_by eq h l)
-lists_chunked_by m from eq c f h acts s l parts i = lists_made_seen MadeGroup from chunk_by_parts (chunk_by_contract from eq c m).steps s _ _ _ parts (chunked_by_is eq h l) (held_gives_made m.steps (chunk_by_asks from eq c) MadeGroup from (At from eq c f h acts) (does eq h) (next eq h) (on_item from eq c f h acts) (on_stop from eq c f h acts) Full (answers eq h) (made_at_stop from eq c) l s.it (f, None) None (refl, tt) i.runs)
+pub lists_up_to_refusal_chunked : {S F A K E : Type 0} (m : Contract S A E) (from : AllocError → E → Type 0) (eq : K → K → Bool) (c : Mut F (Bor A × Unit {0}) (Result K E)) (f : F) (h : A → Result K E) → Acts (call_at c) f h → (s : ChunkBy S K F A E) (l : List (Result A E)) → chunk_by_parts s ≡ (s.it, ((f, None), None)) → Lists m.steps s.it l → ListsMade MadeGroup (seen_as chunk_by_parts (chunk_by_contract from eq c m)).steps from s (chunked_by eq h l)
+lists_up_to_refusal_chunked m from eq c f h acts s l parts i = lists_made_seen MadeGroup from chunk_by_parts (chunk_by_contract from eq c m).steps s _ _ _ parts (listed_is_chunked_by eq h l) (gives_held_made m.steps (chunk_by_asks from eq c) MadeGroup from (HeldAndState from eq c f h acts) (group_outcome eq h) (next_group eq h) (refuses_on_item from eq c f h acts) (at_on_stop from eq c f h acts) FullGroup (answers_of_chunk_by eq h) (made_at_stop from eq c) l s.it (f, None) None (refl, tt) i.runs)
 
 -- ---- its hint
 
 module _ {A K E F : Type 0} (from : AllocError → E → Type 0) (eq : K → K → Bool) (c : Mut F (Bor A × Unit {0}) (Result K E)) where
-  held_at : (g : Group K A) (x : A) (j : K) (b : Bool) (q : Option (Group K A)) → group_at from g x j b LeftOut q → 1 ≤ held_one q
-  held_at g x j true q w = rw w.2 (omega arith)
-  held_at g x j false q w = absurd w
+  held_one_at_least : (g : Group K A) (x : A) (j : K) (b : Bool) (q : Option (Group K A)) → group_at from g x j b LeftOut q → 1 ≤ held_one q
+  held_one_at_least g x j true q w = rw w.2 (omega arith)
+  held_one_at_least g x j false q w = absurd w
 
-  held_by : (g : Option (Group K A)) (x : A) (v : Result K E) (q : Option (Group K A)) → group_by from eq g x v LeftOut q → 1 ≤ held_one q
-  held_by None x (Ok j) q w = rw w.2 (omega arith)
-  held_by (Some g) x (Ok j) q w = held_at g x j (eq g.0 j) q w
-  held_by None x (Err e) q w = absurd (let is = w.0 in cc)
-  held_by (Some g) x (Err e) q w = absurd (let is = w.0 in cc)
+  held_one_at_least_by : (g : Option (Group K A)) (x : A) (v : Result K E) (q : Option (Group K A)) → group_by from eq g x v LeftOut q → 1 ≤ held_one q
+  held_one_at_least_by None x (Ok j) q w = rw w.2 (omega arith)
+  held_one_at_least_by (Some g) x (Ok j) q w = held_one_at_least g x j (eq g.0 j) q w
+  held_one_at_least_by None x (Err e) q w = absurd (let is = w.0 in cc)
+  held_one_at_least_by (Some g) x (Err e) q w = absurd (let is = w.0 in cc)
 
-  none_held : (g q : Option (Group K A)) → group_at_stop {E = E} g End q → held_one g ≡ 0
-  none_held None q w = refl
-  none_held (Some g) q w = absurd (let is = w.0 in cc)
+  held_one_none : (g q : Option (Group K A)) → group_at_stop {E = E} g End q → held_one g ≡ 0
+  held_one_none None q w = refl
+  held_one_none (Some g) q w = absurd (let is = w.0 in cc)
 
   pub gives_held : GivesHeld (chunk_by_asks from eq c) group_held
-  gives_held = record { left_out = λ p x q w. held_by p.1 x w.0 q.1 w.2; at_stop = λ p q w. none_held p.1 q.1 w.1 }
+  gives_held = record { left_out = λ p x q w. held_one_at_least_by p.1 x w.0 q.1 w.2; at_stop = λ p q w. held_one_none p.1 q.1 w.1 }

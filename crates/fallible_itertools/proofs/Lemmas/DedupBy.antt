@@ -10,7 +10,7 @@ use Rattle.fallible_iterator.proofs.Lemmas.Lists.Passing.{lists_seen}
 use Rattle.fallible_itertools.specs.DedupBy.{found_same, dedup_by_asks, same_before, dedup_by_contract, dedup_by_parts, deduped_by, deduped_by_from}
 use Rattle.fallible_itertools.specs.Holding.{held_beside, held_one}
 use Rattle.fallible_itertools.proofs.Lemmas.HoldingHints.{GivesHeld}
-use Rattle.fallible_itertools.proofs.Lemmas.HoldingLists.{by_outcome, before_stop, held_list, listed_parts, held_gives}
+use Rattle.fallible_itertools.proofs.Lemmas.HoldingLists.{by_outcome, before_stop, held_list, listed_parts, gives_held_list}
 use Rattle.fallible_iterator.specs.Outcome.{Outcome}
 use Rattle.fallible_iterator.specs.Outcome.TheVariants.{Kept, LeftOut, Failure, End}
 use Rattle.fallible_itertools.specs.declared.dedup_by.DedupBy.{DedupBy}
@@ -102,7 +102,7 @@ module _ {A E : Type 0} (h : A → A → Result Bool E) where
 
 pub lists_deduped_by : {S A F E : Type 0} (m : Contract S A E) (g : Mut F (Bor A × (Bor A × Unit {0})) (Result Bool E)) (s : DedupBy S F A E) (f : F) (h : A → A → Result Bool E) (l : List (Result A E)) → dedup_by_parts s ≡ (s.it, ((None, f), None)) → ActsWith (call_at_two g) f h → Lists m.steps s.it l
     → Lists (seen_as dedup_by_parts (dedup_by_contract m g)).steps s (deduped_by h l)
-lists_deduped_by m g s f h l parts a i = lists_seen dedup_by_parts (dedup_by_contract m g).steps s parts (deduped_is h l) (held_gives m.steps (dedup_by_asks (call_at_two g)) (At h (call_at_two g) f a) (does h) (next h) (acts h (call_at_two g) f a) (no_end h) (none_left h) l s.it (None, f) None refl i.runs)
+lists_deduped_by m g s f h l parts a i = lists_seen dedup_by_parts (dedup_by_contract m g).steps s parts (deduped_is h l) (gives_held_list m.steps (dedup_by_asks (call_at_two g)) (At h (call_at_two g) f a) (does h) (next h) (acts h (call_at_two g) f a) (no_end h) (none_left h) l s.it (None, f) None refl i.runs)
 
 -- ---- its hint
 

@@ -9,140 +9,140 @@ use Rattle.fallible_iterator.specs.Lists.{Acts, Lists}
 use Rattle.fallible_iterator.proofs.Lemmas.Lists.Passing.{lists_seen}
 use Rattle.fallible_itertools.specs.DedupByKey.{keyed_at, keyed_by, key_before, key_at, dedup_key_asks, dedup_key_takes, dedup_by_key_contract, dedup_by_key_parts, deduped_by_key, deduped_key_from}
 use Rattle.fallible_itertools.specs.Holding.{OrStop, held_beside, held_one}
-use Rattle.fallible_itertools.proofs.Lemmas.Holding.{callable_beside}
+use Rattle.fallible_itertools.proofs.Lemmas.Holding.{is_callable_beside}
 use Rattle.fallible_itertools.proofs.Lemmas.HoldingHints.{GivesHeld}
-use Rattle.fallible_itertools.proofs.Lemmas.HoldingLists.{by_outcome, before_stop, held_list, listed_parts, held_gives}
+use Rattle.fallible_itertools.proofs.Lemmas.HoldingLists.{by_outcome, before_stop, held_list, listed_parts, gives_held_list}
 use Rattle.fallible_iterator.specs.Outcome.{Outcome}
 use Rattle.fallible_iterator.specs.Outcome.TheVariants.{Kept, LeftOut, Failure, End}
 use Rattle.fallible_itertools.specs.declared.dedup_by_key.DedupByKey.{DedupByKey}
 
-abbrev next_at : {H : Type 0} → H → H → Bool → Option H
-next_at held this true = Some held
-next_at held this false = Some this
+abbrev next_held_at : {H : Type 0} → H → H → Bool → Option H
+next_held_at held this true = Some held
+next_held_at held this false = Some this
 
 module _ {A K E : Type 0} (eq : K → K → Bool) where
-  abbrev does_at : K × A → Bool → Outcome A E
-  does_at held true = LeftOut
-  does_at held false = Kept held.1
+  abbrev held_outcome_at : K × A → Bool → Outcome A E
+  held_outcome_at held true = LeftOut
+  held_outcome_at held false = Kept held.1
 
-  abbrev next_by : Option (K × A) → A → Result K E → Option (K × A)
-  next_by held x (Err e) = held
-  next_by None x (Ok k) = Some (k, x)
-  next_by (Some held) x (Ok k) = next_at held (k, x) (eq held.0 k)
+  abbrev next_held_by : Option (K × A) → A → Result K E → Option (K × A)
+  next_held_by held x (Err e) = held
+  next_held_by None x (Ok k) = Some (k, x)
+  next_held_by (Some held) x (Ok k) = next_held_at held (k, x) (eq held.0 k)
 
-  abbrev does_by : Option (K × A) → A → Result K E → Outcome A E
-  does_by held x (Err e) = Failure e
-  does_by None x (Ok k) = LeftOut
-  does_by (Some held) x (Ok k) = does_at held (eq held.0 k)
+  abbrev held_outcome_by : Option (K × A) → A → Result K E → Outcome A E
+  held_outcome_by held x (Err e) = Failure e
+  held_outcome_by None x (Ok k) = LeftOut
+  held_outcome_by (Some held) x (Ok k) = held_outcome_at held (eq held.0 k)
 
-  at_is : (held this : K × A) (b : Bool) (o : Outcome A E) (q : Option (K × A)) → keyed_at eq held this b o q → (q ≡ next_at held this b) × (o ≡ does_at held b)
-  at_is held this true o q w = (w.1, w.0)
-  at_is held this false o q w = (w.1, w.0)
+  held_and_outcome_at : (held this : K × A) (b : Bool) (o : Outcome A E) (q : Option (K × A)) → keyed_at eq held this b o q → (q ≡ next_held_at held this b) × (o ≡ held_outcome_at held b)
+  held_and_outcome_at held this true o q w = (w.1, w.0)
+  held_and_outcome_at held this false o q w = (w.1, w.0)
 
-  by_is : (held : Option (K × A)) (x : A) (v : Result K E) (o : Outcome A E) (q : Option (K × A)) → keyed_by eq held x v o q → (q ≡ next_by held x v) × (o ≡ does_by held x v)
-  by_is None x (Err e) o q w = (w.1, w.0)
-  by_is (Some held) x (Err e) o q w = (w.1, w.0)
-  by_is None x (Ok k) o q w = (w.1, w.0)
-  by_is (Some held) x (Ok k) o q w = at_is held (k, x) (eq held.0 k) o q w
+  held_and_outcome_by : (held : Option (K × A)) (x : A) (v : Result K E) (o : Outcome A E) (q : Option (K × A)) → keyed_by eq held x v o q → (q ≡ next_held_by held x v) × (o ≡ held_outcome_by held x v)
+  held_and_outcome_by None x (Err e) o q w = (w.1, w.0)
+  held_and_outcome_by (Some held) x (Err e) o q w = (w.1, w.0)
+  held_and_outcome_by None x (Ok k) o q w = (w.1, w.0)
+  held_and_outcome_by (Some held) x (Ok k) o q w = held_and_outcome_at held (k, x) (eq held.0 k) o q w
 
   module _ (h : A → Result K E) where
-    abbrev next : Option (K × A) → Option A → Option (K × A)
-    next a (Some x) = next_by a x (h x)
-    next a None = None
+    abbrev next_held : Option (K × A) → Option A → Option (K × A)
+    next_held a (Some x) = next_held_by a x (h x)
+    next_held a None = None
 
-    abbrev does : Option (K × A) → Option A → Outcome A E
-    does a (Some x) = does_by a x (h x)
-    does None None = End
-    does (Some held) None = Kept held.1
+    abbrev held_outcome : Option (K × A) → Option A → Outcome A E
+    held_outcome a (Some x) = held_outcome_by a x (h x)
+    held_outcome None None = End
+    held_outcome (Some held) None = Kept held.1
 
-    none_left : (a : Option (K × A)) → does a None ≡ LeftOut → ⊥
-    none_left None is = absurd cc
-    none_left (Some y) is = absurd cc
+    outcome_never_left_out : (a : Option (K × A)) → held_outcome a None ≡ LeftOut → ⊥
+    outcome_never_left_out None is = absurd cc
+    outcome_never_left_out (Some y) is = absurd cc
 
-    no_end_at : (held : K × A) (b : Bool) → does_at held b ≡ End → ⊥
+    no_end_at : (held : K × A) (b : Bool) → held_outcome_at held b ≡ End → ⊥
     no_end_at held true is = absurd cc
     no_end_at held false is = absurd cc
 
-    no_end_by : (a : Option (K × A)) (x : A) (v : Result K E) → does_by a x v ≡ End → ⊥
+    no_end_by : (a : Option (K × A)) (x : A) (v : Result K E) → held_outcome_by a x v ≡ End → ⊥
     no_end_by a x (Err e) is = absurd cc
     no_end_by None x (Ok k) is = absurd cc
     no_end_by (Some held) x (Ok k) is = no_end_at held (eq held.0 k) is
 
-    no_end : (a : Option (K × A)) (x : A) → does a (Some x) ≡ End → ⊥
-    no_end a x is = no_end_by a x (h x) is
+    outcome_never_end : (a : Option (K × A)) (x : A) → held_outcome a (Some x) ≡ End → ⊥
+    outcome_never_end a x is = no_end_by a x (h x) is
 
-    cons_before : (held this : K × A) (b : Bool) (l : List (Result A E)) (failed : E → List (Result A E)) → ((a : Option (K × A)) → held_list does next a l ≡ deduped_key_from eq h a l) → by_outcome (does_at held b) (held_list does next (next_at held this b) l) failed ≡ key_before eq held b (deduped_key_from eq h (Some held) l) (deduped_key_from eq h (Some this) l)
-    cons_before held this true l failed rest = rest (Some held)
-    cons_before held this false l failed rest = ap (λ k. Ok held.1 ∷ k) (rest (Some this))
+    by_outcome_cons_before : (held this : K × A) (b : Bool) (l : List (Result A E)) (failed : E → List (Result A E)) → ((a : Option (K × A)) → held_list held_outcome next_held a l ≡ deduped_key_from eq h a l) → by_outcome (held_outcome_at held b) (held_list held_outcome next_held (next_held_at held this b) l) failed ≡ key_before eq held b (deduped_key_from eq h (Some held) l) (deduped_key_from eq h (Some this) l)
+    by_outcome_cons_before held this true l failed rest = rest (Some held)
+    by_outcome_cons_before held this false l failed rest = ap (λ k. Ok held.1 ∷ k) (rest (Some this))
 
-    cons_at : (a : Option (K × A)) (x : A) (v : Result K E) (l : List (Result A E)) → ((a : Option (K × A)) → held_list does next a l ≡ deduped_key_from eq h a l) → by_outcome (does_by a x v) (held_list does next (next_by a x v) l) (λ e. before_stop (does (next_by a x v) None) (Err e ∷ held_list does next None l)) ≡ key_at eq a x v (λ p. deduped_key_from eq h p l)
-    cons_at None x (Err e) l rest = ap (λ k. Err e ∷ k) (rest None)
-    cons_at (Some held) x (Err e) l rest = ap (λ k. Ok held.1 ∷ Err e ∷ k) (rest None)
-    cons_at None x (Ok k) l rest = rest (Some (k, x))
-    cons_at (Some held) x (Ok k) l rest = cons_before held (k, x) (eq held.0 k) l _ rest
+    by_outcome_cons_at : (a : Option (K × A)) (x : A) (v : Result K E) (l : List (Result A E)) → ((a : Option (K × A)) → held_list held_outcome next_held a l ≡ deduped_key_from eq h a l) → by_outcome (held_outcome_by a x v) (held_list held_outcome next_held (next_held_by a x v) l) (λ e. before_stop (held_outcome (next_held_by a x v) None) (Err e ∷ held_list held_outcome next_held None l)) ≡ key_at eq a x v (λ p. deduped_key_from eq h p l)
+    by_outcome_cons_at None x (Err e) l rest = ap (λ k. Err e ∷ k) (rest None)
+    by_outcome_cons_at (Some held) x (Err e) l rest = ap (λ k. Ok held.1 ∷ Err e ∷ k) (rest None)
+    by_outcome_cons_at None x (Ok k) l rest = rest (Some (k, x))
+    by_outcome_cons_at (Some held) x (Ok k) l rest = by_outcome_cons_before held (k, x) (eq held.0 k) l _ rest
 
-    from_is : (a : Option (K × A)) (l : List (Result A E)) → held_list does next a l ≡ deduped_key_from eq h a l
+    held_list_is_deduped_from : (a : Option (K × A)) (l : List (Result A E)) → held_list held_outcome next_held a l ≡ deduped_key_from eq h a l
     unfolding deduped_key_from
-    from_is None [] = refl
-    from_is (Some held) [] = refl
-    from_is None (Ok x ∷ l) = cons_at None x (h x) l (λ a. from_is a l)
-    from_is (Some held) (Ok x ∷ l) = cons_at (Some held) x (h x) l (λ a. from_is a l)
-    from_is None (Err e ∷ l) = ap (λ k. Err e ∷ k) (from_is None l)
-    from_is (Some held) (Err e ∷ l) = ap (λ k. Ok held.1 ∷ Err e ∷ k) (from_is None l)
+    held_list_is_deduped_from None [] = refl
+    held_list_is_deduped_from (Some held) [] = refl
+    held_list_is_deduped_from None (Ok x ∷ l) = by_outcome_cons_at None x (h x) l (λ a. held_list_is_deduped_from a l)
+    held_list_is_deduped_from (Some held) (Ok x ∷ l) = by_outcome_cons_at (Some held) x (h x) l (λ a. held_list_is_deduped_from a l)
+    held_list_is_deduped_from None (Err e ∷ l) = ap (λ k. Err e ∷ k) (held_list_is_deduped_from None l)
+    held_list_is_deduped_from (Some held) (Err e ∷ l) = ap (λ k. Ok held.1 ∷ Err e ∷ k) (held_list_is_deduped_from None l)
 
-    deduped_is : (l : List (Result A E)) → held_list does next None l ≡ deduped_by_key eq h l
+    held_list_is_deduped_by_key : (l : List (Result A E)) → held_list held_outcome next_held None l ≡ deduped_by_key eq h l
     unfolding deduped_by_key
-    deduped_is l = from_is None l
+    held_list_is_deduped_by_key l = held_list_is_deduped_from None l
 
-    settles : (a : Option (K × A)) → next a None ≡ None
-    settles a = refl
+    next_at_stop : (a : Option (K × A)) → next_held a None ≡ None
+    next_at_stop a = refl
 
     -- What stands before a failure is deduped by itself, and so is what comes after it.
     pub deduped_by_key_in_parts : (a : List (Result A E)) (e : E) (b : List (Result A E)) → deduped_by_key eq h (a ++ Err e ∷ b) ≡ deduped_by_key eq h a ++ Err e ∷ deduped_by_key eq h b
-    deduped_by_key_in_parts a e b = listed_parts does next None settles no_end (deduped_by_key eq h) deduped_is a e b
+    deduped_by_key_in_parts a e b = listed_parts held_outcome next_held None next_at_stop outcome_never_end (deduped_by_key eq h) held_list_is_deduped_by_key a e b
 
     module _ {F : Type 0} (call : F → A → Result K E → F → Type 0) (f : F) (acts_as : Acts call f h) where
-      pair_at : (q : Option (K × A) × F) {held : Option (K × A)} → q.0 ≡ held → q.1 ≡ f → q ≡ (held, f)
-      pair_at (a, g) same is = rw (same, is) refl
+      pair_of_parts : (q : Option (K × A) × F) {held : Option (K × A)} → q.0 ≡ held → q.1 ≡ f → q ≡ (held, f)
+      pair_of_parts (a, g) same is = rw (same, is) refl
 
       -- what is held stands beside the closure
-      abbrev At : Option (K × A) × F → Option (K × A) → Type 0
-      At p a = p ≡ (a, f)
+      abbrev HeldAndClosure : Option (K × A) × F → Option (K × A) → Type 0
+      HeldAndClosure p a = p ≡ (a, f)
 
-      acts_on : (a : Option (K × A)) (x : Option A) (o : Outcome A E) (q : Option (K × A) × F) → dedup_key_asks eq call (a, f) x o q → At q (next a x) × (o ≡ does a x)
-      acts_on a (Some x) o q w = let d = acts_as x w.0 q.1 w.1 in let v = by_is a x w.0 o q.0 w.2 in (pair_at q (v.0 ∙ ap (next_by a x) d.1) d.0, v.1 ∙ ap (does_by a x) d.1)
-      acts_on None None o q w = (w.1, w.0)
-      acts_on (Some held) None o q w = (w.1, w.0)
+      acts_on_asked : (a : Option (K × A)) (x : Option A) (o : Outcome A E) (q : Option (K × A) × F) → dedup_key_asks eq call (a, f) x o q → HeldAndClosure q (next_held a x) × (o ≡ held_outcome a x)
+      acts_on_asked a (Some x) o q w = let d = acts_as x w.0 q.1 w.1 in let v = held_and_outcome_by a x w.0 o q.0 w.2 in (pair_of_parts q (v.0 ∙ ap (next_held_by a x) d.1) d.0, v.1 ∙ ap (held_outcome_by a x) d.1)
+      acts_on_asked None None o q w = (w.1, w.0)
+      acts_on_asked (Some held) None o q w = (w.1, w.0)
 
-      acts : (p : Option (K × A) × F) (a : Option (K × A)) (x : Option A) (o : Outcome A E) (q : Option (K × A) × F) → At p a → dedup_key_asks eq call p x o q → At q (next a x) × (o ≡ does a x)
-      acts p a x o q at w = acts_on a x o q (subst (λ k. dedup_key_asks eq call k x o q) at w)
+      acts_by_next : (p : Option (K × A) × F) (a : Option (K × A)) (x : Option A) (o : Outcome A E) (q : Option (K × A) × F) → HeldAndClosure p a → dedup_key_asks eq call p x o q → HeldAndClosure q (next_held a x) × (o ≡ held_outcome a x)
+      acts_by_next p a x o q at w = acts_on_asked a x o q (subst (λ k. dedup_key_asks eq call k x o q) at w)
 
 pub lists_deduped_by_key : {S A K F E : Type 0} (m : Contract S A E) (eq : K → K → Bool) (g : Mut F (Bor A × Unit {0}) (Result K E)) (s : DedupByKey S K F A E) (f : F) (h : A → Result K E) (l : List (Result A E)) → dedup_by_key_parts s ≡ (s.it, ((None, f), None)) → Acts (call_at g) f h → Lists m.steps s.it l
     → Lists (seen_as dedup_by_key_parts (dedup_by_key_contract eq m g)).steps s (deduped_by_key eq h l)
-lists_deduped_by_key m eq g s f h l parts a i = lists_seen dedup_by_key_parts (dedup_by_key_contract eq m g).steps s parts (deduped_is eq h l) (held_gives m.steps (dedup_key_asks eq (call_at g)) (At eq h (call_at g) f a) (does eq h) (next eq h) (acts eq h (call_at g) f a) (no_end eq h) (none_left eq h) l s.it (None, f) None refl i.runs)
+lists_deduped_by_key m eq g s f h l parts a i = lists_seen dedup_by_key_parts (dedup_by_key_contract eq m g).steps s parts (held_list_is_deduped_by_key eq h l) (gives_held_list m.steps (dedup_key_asks eq (call_at g)) (HeldAndClosure eq h (call_at g) f a) (held_outcome eq h) (next_held eq h) (acts_by_next eq h (call_at g) f a) (outcome_never_end eq h) (outcome_never_left_out eq h) l s.it (None, f) None refl i.runs)
 
 -- ---- its hint
 
 module _ {A K F E : Type 0} (eq : K → K → Bool) (call : F → A → Result K E → F → Type 0) where
-  one_at : (held this : K × A) (b : Bool) (q : Option (K × A)) → keyed_at eq {E = E} held this b LeftOut q → 1 ≤ held_one q
-  one_at held this true q w = rw w.1 (omega arith)
-  one_at held this false q w = absurd (let is = w.0 in cc)
+  held_one_at_key : (held this : K × A) (b : Bool) (q : Option (K × A)) → keyed_at eq {E = E} held this b LeftOut q → 1 ≤ held_one q
+  held_one_at_key held this true q w = rw w.1 (omega arith)
+  held_one_at_key held this false q w = absurd (let is = w.0 in cc)
 
-  one_held : (held : Option (K × A)) (x : A) (v : Result K E) (q : Option (K × A)) → keyed_by eq held x v LeftOut q → 1 ≤ held_one q
-  one_held None x (Err e) q w = absurd (let is = w.0 in cc)
-  one_held (Some held) x (Err e) q w = absurd (let is = w.0 in cc)
-  one_held None x (Ok k) q w = rw w.1 (omega arith)
-  one_held (Some held) x (Ok k) q w = one_at held (k, x) (eq held.0 k) q w
+  held_one_where_left_out : (held : Option (K × A)) (x : A) (v : Result K E) (q : Option (K × A)) → keyed_by eq held x v LeftOut q → 1 ≤ held_one q
+  held_one_where_left_out None x (Err e) q w = absurd (let is = w.0 in cc)
+  held_one_where_left_out (Some held) x (Err e) q w = absurd (let is = w.0 in cc)
+  held_one_where_left_out None x (Ok k) q w = rw w.1 (omega arith)
+  held_one_where_left_out (Some held) x (Ok k) q w = held_one_at_key held (k, x) (eq held.0 k) q w
 
-  left_out : (p : Option (K × A) × F) (x : A) (q : Option (K × A) × F) → dedup_key_asks eq call p (Some x) LeftOut q → 1 ≤ held_beside q
-  left_out p x q w = one_held p.0 x w.0 q.0 w.2
+  held_beside_where_left_out : (p : Option (K × A) × F) (x : A) (q : Option (K × A) × F) → dedup_key_asks eq call p (Some x) LeftOut q → 1 ≤ held_beside q
+  held_beside_where_left_out p x q w = held_one_where_left_out p.0 x w.0 q.0 w.2
 
-  at_stop : (p q : Option (K × A) × F) → dedup_key_asks eq call p None End q → held_beside p ≡ 0
-  at_stop (None, f) q w = refl
-  at_stop (Some held, f) q w = absurd (let is = w.0 in cc)
+  held_beside_at_stop : (p q : Option (K × A) × F) → dedup_key_asks eq call p None End q → held_beside p ≡ 0
+  held_beside_at_stop (None, f) q w = refl
+  held_beside_at_stop (Some held, f) q w = absurd (let is = w.0 in cc)
 
   pub gives_held : GivesHeld {E = E} (dedup_key_asks eq call) held_beside
-  gives_held = record { left_out = left_out; at_stop = at_stop }
+  gives_held = record { left_out = held_beside_where_left_out; at_stop = held_beside_at_stop }
 
 -- ---- where the closure may be called
 
@@ -151,9 +151,9 @@ module _ {A K F E : Type 0} (eq : K → K → Bool) (call : F → A → Result K
   closure_kept (None, f) o q w = ap (λ z. z.1) w.1
   closure_kept (Some held, f) o q w = ap (λ z. z.1) w.1
 
-  pub callable_dedup_key : {takes : F → A → Type 0} {P : A → Type 0} {f : F} → IsCallable call takes P f → IsCallable (dedup_key_asks eq call) (dedup_key_takes takes) (OrStop P) (None, f)
-  callable_dedup_key {takes = takes} {P = P} {f = f} c = callable_beside (dedup_key_asks eq call) call (λ p. p.1) (λ p x o q w. (w.0, w.1)) closure_kept (dedup_key_takes takes) (λ p x t. t) (λ p. tt) c
+  pub is_callable_dedup_key : {takes : F → A → Type 0} {P : A → Type 0} {f : F} → IsCallable call takes P f → IsCallable (dedup_key_asks eq call) (dedup_key_takes takes) (OrStop P) (None, f)
+  is_callable_dedup_key {takes = takes} {P = P} {f = f} c = is_callable_beside (dedup_key_asks eq call) call (λ p. p.1) (λ p x o q w. (w.0, w.1)) closure_kept (dedup_key_takes takes) (λ p x t. t) (λ p. tt) c
 
   -- one item, on which the closure was called
-  pub key_asked : (p : Option (K × A) × F) (asked : Option A) (x : A) (v : Result K E) (f : F) (o : Outcome A E) (q : Option (K × A)) → asked ≡ Some x → call p.1 x v f → keyed_by eq p.0 x v o q → dedup_key_asks eq call p asked o (q, f)
-  key_asked p asked x v f o q is called by = rw is (v, called, by)
+  pub dedup_key_asks_key : (p : Option (K × A) × F) (asked : Option A) (x : A) (v : Result K E) (f : F) (o : Outcome A E) (q : Option (K × A)) → asked ≡ Some x → call p.1 x v f → keyed_by eq p.0 x v o q → dedup_key_asks eq call p asked o (q, f)
+  dedup_key_asks_key p asked x v f o q is called by = rw is (v, called, by)

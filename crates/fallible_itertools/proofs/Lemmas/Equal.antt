@@ -4,9 +4,9 @@ use Rattle.std.specs.List.{FoldsTo}
 use Rattle.std.proofs.Common.{refl, sym, ap, subst, ◌∙◌}
 use Rattle.fallible_iterator.specs.Traces.{Answered, Run, item}
 use Rattle.fallible_iterator.specs.Lists.{AlwaysGives, Lists, Acts, all_of, rest_false}
-use Rattle.fallible_iterator.specs.Searching.{WentOn, Decided, SearchExit, SearchedBy, Searched, all_pick, any_pick}
-use Rattle.fallible_iterator.proofs.Lemmas.Lists.Searched.{all_is, any_is}
-use Rattle.fallible_iterator.proofs.Lemmas.Lists.Rest.{rest_all, rest_any}
+use Rattle.fallible_iterator.specs.Searching.{WentOn, SearchDecides, SearchExit, SearchedBy, SearchDrains, all_pick, any_pick}
+use Rattle.fallible_iterator.proofs.Lemmas.Lists.Searched.{all_of_lists, any_of_lists}
+use Rattle.fallible_iterator.proofs.Lemmas.Lists.Rest.{lists_rest_all, lists_rest_any}
 use Rattle.fallible_itertools.specs.Equal.{FirstCall, TestCall, contained, rest_contained, equal_to_first, rest_unequal}
 
 -- ---- contains
@@ -15,13 +15,13 @@ acts_wanted : {A E : Type 0} (eq : A → A → Bool) (wanted : A) → Acts (Test
 acts_wanted eq wanted x r g c = (refl, c)
 
 module _ {S A E : Type 0} {steps : S → Answered A E → S → Type 0} (eq : A → A → Bool) (wanted : A) {s t : S} {r : Result Bool E} (l : List (Result A E)) (i : Lists steps s l) where
-  pub contained_is : Searched (TestCall (λ x. eq x wanted)) any_pick steps false s tt r t tt → r ≡ contained eq wanted l
+  pub contained_is : SearchDrains (TestCall (λ x. eq x wanted)) any_pick steps false s tt r t tt → r ≡ contained eq wanted l
   unfolding contained
-  contained_is w = any_is l i {call = TestCall (λ x. eq x wanted)} (λ x. Ok (eq x wanted)) (acts_wanted eq wanted) w
+  contained_is w = any_of_lists l i {call = TestCall (λ x. eq x wanted)} (λ x. Ok (eq x wanted)) (acts_wanted eq wanted) w
 
-  pub rest_contained_is : Searched (TestCall (λ x. eq x wanted)) any_pick steps false s tt r t tt → ¬ (r ≡ Ok false) → Lists steps t (rest_contained eq wanted l)
+  pub rest_contained_is : SearchDrains (TestCall (λ x. eq x wanted)) any_pick steps false s tt r t tt → ¬ (r ≡ Ok false) → Lists steps t (rest_contained eq wanted l)
   unfolding rest_contained
-  rest_contained_is w no_end = rest_any l i {call = TestCall (λ x. eq x wanted)} (λ x. Ok (eq x wanted)) (acts_wanted eq wanted) w no_end
+  rest_contained_is w no_end = lists_rest_any l i {call = TestCall (λ x. eq x wanted)} (λ x. Ok (eq x wanted)) (acts_wanted eq wanted) w no_end
 
 -- ---- all_equal
 
@@ -31,7 +31,7 @@ pick_at_any n k x true z e = absurd cc
 pick_at_any n k x false z e = e
 
 module _ {S A E : Type 0} (steps : S → Answered A E → S → Type 0) (eq : A → A → Bool) (t : S) (r : Result Bool E) (q : Option A) where
-  decided_at_any : (n k : ℕ) (c : Option A) (x : A) (r : Result Bool E) → Decided (FirstCall eq) all_pick n c x r q → Decided (FirstCall eq) all_pick k c x r q
+  decided_at_any : (n k : ℕ) (c : Option A) (x : A) (r : Result Bool E) → SearchDecides (FirstCall eq) all_pick n c x r q → SearchDecides (FirstCall eq) all_pick k c x r q
   decided_at_any n k c x (Ok z) d = (d.0, d.1, pick_at_any n k x d.0 z d.2)
   decided_at_any n k c x (Err e) d = d
 
@@ -41,7 +41,7 @@ module _ {S A E : Type 0} (steps : S → Answered A E → S → Type 0) (eq : A 
   exit_at_any n k c (Ok (Some x)) exit = decided_at_any n k c x r exit
 
   -- the first item decides nothing
-  first_goes_on : (n : ℕ) (x : A) (r : Result Bool E) → Decided (FirstCall eq) all_pick n None x r q → ⊥
+  first_goes_on : (n : ℕ) (x : A) (r : Result Bool E) → SearchDecides (FirstCall eq) all_pick n None x r q → ⊥
   first_goes_on n x (Ok z) d = let v : d.0 ≡ true = (let e = d.1.0 in cc) in let p = subst (λ b. all_pick n x b ≡ Some z) v d.2 in cc
   first_goes_on n x (Err e) d = let f = d.0 in cc
 
@@ -49,7 +49,7 @@ module _ {S A E : Type 0} (steps : S → Answered A E → S → Type 0) (eq : A 
   abbrev AfterFirst : Answered A E → S → Type 0
   AfterFirst (Ok None) mid = r ≡ Ok true
   AfterFirst (Err e) mid = (r ≡ Err e) × (mid ≡ t)
-  AfterFirst (Ok (Some x)) mid = Searched (FirstCall eq) all_pick steps true mid (Some x) r t q
+  AfterFirst (Ok (Some x)) mid = SearchDrains (FirstCall eq) all_pick steps true mid (Some x) r t q
 
   record FromFirst (s : S) : Type 0 where
     first : Answered A E
@@ -80,7 +80,7 @@ module _ {S A E : Type 0} (steps : S → Answered A E → S → Type 0) (eq : A 
     };
   }
 
-  from_first : (s : S) → Searched (FirstCall eq) all_pick steps true s None r t q → FromFirst s
+  from_first : (s : S) → SearchDrains (FirstCall eq) all_pick steps true s None r t q → FromFirst s
   from_first s w = of_items s w.items w.last w.ran w.at
 
 acts_first : {A E : Type 0} (eq : A → A → Bool) (x : A) → Acts (FirstCall {E = E} eq) (Some x) (λ y. Ok (eq x y))
@@ -94,7 +94,7 @@ module _ {S A E : Type 0} {steps : S → Answered A E → S → Type 0} (eq : A 
   equal_after t r q [] (Err e) mid step i after = absurd (let f = i.runs (Err e) mid step in cc)
   equal_after t r q (Ok y ∷ l) (Ok None) mid step i after = absurd (let e = (i.runs (Ok None) mid step).0 in cc)
   equal_after t r q (Ok y ∷ l) (Ok (Some x)) mid step i after = let h = i.runs (Ok (Some x)) mid step in let same : x ≡ y = (let e = h.0 in cc) in
-      all_is l (record { runs = h.1 }) {call = FirstCall eq} (λ z. Ok (eq x z)) (acts_first eq x) after ∙ ap (λ (w : A). all_of (λ z. Ok (eq w z)) l) same
+      all_of_lists l (record { runs = h.1 }) {call = FirstCall eq} (λ z. Ok (eq x z)) (acts_first eq x) after ∙ ap (λ (w : A). all_of (λ z. Ok (eq w z)) l) same
   equal_after t r q (Ok y ∷ l) (Err e) mid step i after = absurd (let f = (i.runs (Err e) mid step).0 in cc)
   equal_after t r q (Err e ∷ l) (Ok None) mid step i after = absurd (let f = (i.runs (Ok None) mid step).0 in cc)
   equal_after t r q (Err e ∷ l) (Ok (Some x)) mid step i after = absurd (let f = (i.runs (Ok (Some x)) mid step).0 in cc)
@@ -107,14 +107,14 @@ module _ {S A E : Type 0} {steps : S → Answered A E → S → Type 0} (eq : A 
   unequal_after t r q [] (Err e) mid step i after no_end = absurd (let f = i.runs (Err e) mid step in cc)
   unequal_after t r q (Ok y ∷ l) (Ok None) mid step i after no_end = absurd (no_end after)
   unequal_after t r q (Ok y ∷ l) (Ok (Some x)) mid step i after no_end = let h = i.runs (Ok (Some x)) mid step in let same : x ≡ y = (let e = h.0 in cc) in
-      subst (λ (w : A). Lists steps t (rest_false (λ z. Ok (eq w z)) l)) same (rest_all l (record { runs = h.1 }) {call = FirstCall eq} (λ z. Ok (eq x z)) (acts_first eq x) after no_end)
+      subst (λ (w : A). Lists steps t (rest_false (λ z. Ok (eq w z)) l)) same (lists_rest_all l (record { runs = h.1 }) {call = FirstCall eq} (λ z. Ok (eq x z)) (acts_first eq x) after no_end)
   unequal_after t r q (Ok y ∷ l) (Err e) mid step i after no_end = absurd (let f = (i.runs (Err e) mid step).0 in cc)
   unequal_after t r q (Err e ∷ l) (Ok None) mid step i after no_end = absurd (no_end after)
   unequal_after t r q (Err e ∷ l) (Ok (Some x)) mid step i after no_end = absurd (let f = (i.runs (Ok (Some x)) mid step).0 in cc)
   unequal_after t r q (Err e ∷ l) (Err d) mid step i after no_end = record { runs = subst (λ (u : S). AlwaysGives steps u l) after.1 (i.runs (Err d) mid step).1 }
 
-  pub equal_to_first_is : {t : S} {r : Result Bool E} {q : Option A} (l : List (Result A E)) → Lists steps s l → Searched (FirstCall eq) all_pick steps true s None r t q → r ≡ equal_to_first eq l
+  pub equal_to_first_is : {t : S} {r : Result Bool E} {q : Option A} (l : List (Result A E)) → Lists steps s l → SearchDrains (FirstCall eq) all_pick steps true s None r t q → r ≡ equal_to_first eq l
   equal_to_first_is {t = t} {r = r} {q = q} l i w = let f = from_first steps eq t r q s w in equal_after t r q l f.first f.mid f.drawn i f.after
 
-  pub rest_unequal_is : {t : S} {r : Result Bool E} {q : Option A} (l : List (Result A E)) → Lists steps s l → Searched (FirstCall eq) all_pick steps true s None r t q → ¬ (r ≡ Ok true) → Lists steps t (rest_unequal eq l)
+  pub rest_unequal_is : {t : S} {r : Result Bool E} {q : Option A} (l : List (Result A E)) → Lists steps s l → SearchDrains (FirstCall eq) all_pick steps true s None r t q → ¬ (r ≡ Ok true) → Lists steps t (rest_unequal eq l)
   rest_unequal_is {t = t} {r = r} {q = q} l i w no_end = let f = from_first steps eq t r q s w in unequal_after t r q l f.first f.mid f.drawn i f.after no_end

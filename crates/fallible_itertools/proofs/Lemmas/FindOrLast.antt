@@ -5,10 +5,10 @@ use Rattle.std.proofs.Common.{refl, sym, ap, subst, ◌∙◌}
 use Rattle.fallible_iterator.specs.Traces.{Answered, Run, item}
 use Rattle.fallible_iterator.specs.Folds.{goes_on, CallableDriving, DriveExit, Driven}
 use Rattle.fallible_iterator.specs.Lists.{Lists, Acts, found, last_of}
-use Rattle.fallible_iterator.specs.Searching.{WentOn, Decided, SearchExit, SearchedBy, CallableInSearch, answer_by, find_pick}
+use Rattle.fallible_iterator.specs.Searching.{WentOn, SearchDecides, SearchExit, SearchedBy, CallableInSearch, answer_by, find_pick}
 use Rattle.fallible_iterator.proofs.Lemmas.Folds.{drained_map}
-use Rattle.fallible_iterator.proofs.Lemmas.Lists.Drawn.{last_is}
-use Rattle.fallible_iterator.proofs.Lemmas.Lists.Searched.{find_is}
+use Rattle.fallible_iterator.proofs.Lemmas.Lists.Drawn.{last_of_lists}
+use Rattle.fallible_iterator.proofs.Lemmas.Lists.Searched.{found_of_lists}
 use Rattle.fallible_itertools.specs.FindOrLast.{found_or, IsFindLastTurn, FoundOrLast, found_or_last}
 
 -- a search that stops at an item finds one
@@ -25,10 +25,10 @@ module _ {A E F : Type 0} (call : F → A → Result Bool E → F → Type 0) wh
   found_exit : (last : Answered A E) (n : ℕ) (c d : Option A × F) (answer : Answered (Result (Option A) E) E) → DriveExit (IsFindLastTurn call) c last answer d → SearchExit call find_pick None n c.1 last (answer_by None answer) d.1
   found_exit (Ok None) n c d answer h = (ap (answer_by None) h.0, ap (λ p. p.1) h.1)
   found_exit (Err e) n c d answer h = (ap (answer_by None) h.0, ap (λ p. p.1) h.1)
-  found_exit (Ok (Some x)) n c d answer h = subst (λ (z : Result (Option A) E). Decided call find_pick n c.1 x z d.1) (sym (ap (answer_by None) h.2)) (h.1 n)
+  found_exit (Ok (Some x)) n c d answer h = subst (λ (z : Result (Option A) E). SearchDecides call find_pick n c.1 x z d.1) (sym (ap (answer_by None) h.2)) (h.1 n)
 
   -- where the predicate decided, it isn't called again
-  decided_or : (n : ℕ) (f : F) (x : A) (stop : Result (Option A) E) (g : F) (a b : Result (Option A) E) → Decided call find_pick n f x stop g → found_or stop a ≡ found_or stop b
+  decided_or : (n : ℕ) (f : F) (x : A) (stop : Result (Option A) E) (g : F) (a b : Result (Option A) E) → SearchDecides call find_pick n f x stop g → found_or stop a ≡ found_or stop b
   decided_or n f x (Ok (Some y)) g a b d = refl
   decided_or n f x (Ok None) g a b d = absurd (finds_one n x d.0 d.2)
   decided_or n f x (Err e) g a b d = refl
@@ -53,10 +53,10 @@ module _ {A E F : Type 0} (call : F → A → Result Bool E → F → Type 0) wh
   or_last_of : {S : Type 0} {steps : S → Answered A E → S → Type 0} (s t : S) (f : F) (items : List A) (last : Answered A E) (r : Result (Option A) E) (g : F) (l : List (Result A E)) → Lists steps s l → Run steps s (map item items ++ last ∷ []) t → SearchedBy call find_pick None f r g items last → found_or r (Ok (last_or None items)) ≡ found_or r (last_of l)
   or_last_of s t f items last (Ok (Some x)) g l i ran at = refl
   or_last_of s t f items last (Err e) g l i ran at = refl
-  or_last_of s t f items (Ok None) (Ok None) g l i ran at = last_is l (record { items = items; last = Ok None; ran = ran; at = record { exit = refl } }) i
+  or_last_of s t f items (Ok None) (Ok None) g l i ran at = last_of_lists l (record { items = items; last = Ok None; ran = ran; at = record { exit = refl } }) i
   or_last_of s t f items (Err e) (Ok None) g l i ran at = absurd (let d = at.exit.0 in cc)
   or_last_of s t f items (Ok (Some x)) (Ok None) g l i ran at = absurd (finds_one (length items) x at.exit.0 at.exit.2)
 
   pub found_or_last_is : {S : Type 0} {steps : S → Answered A E → S → Type 0} {s t : S} {f g : F} {r : Result (Option A) E} (h : A → Result Bool E) → Acts call f h → (l : List (Result A E)) → Lists steps s l → FoundOrLast call steps s f r t g → r ≡ found_or_last h l
   unfolding found_or_last
-  found_or_last_is {s = s} {t = t} {f = f} {g = g} h acts l i w = w.at.answer ∙ or_last_of s t f w.items w.last w.at.found g l i w.ran w.at.search ∙ ap (λ (z : Result (Option A) E). found_or z (last_of l)) (find_is l i {call = call} h acts (record { items = w.items; last = w.last; ran = w.ran; at = w.at.search }))
+  found_or_last_is {s = s} {t = t} {f = f} {g = g} h acts l i w = w.at.answer ∙ or_last_of s t f w.items w.last w.at.found g l i w.ran w.at.search ∙ ap (λ (z : Result (Option A) E). found_or z (last_of l)) (found_of_lists l i {call = call} h acts (record { items = w.items; last = w.last; ran = w.ran; at = w.at.search }))

@@ -4,8 +4,8 @@ use Rattle.std.specs.List.{FoldsTo, flat_map}
 use Rattle.std.proofs.Common.{refl, sym, ap, subst, arith, inl, inr, length-append, ◌∙◌}
 use Rattle.std.proofs.lemmas.List.{append-nil}
 use Rattle.fallible_iterator.specs.Traces.{Answered, Run, item}
-use Rattle.fallible_iterator.specs.Laws.Passing.{Passes, done, end_passes, failure_passes, keeps, refuses, closes, leaves_out, to_passes, from_passes, passes_item, passes_refusal, passes_end, passes_failure, passes_closing}
-use Rattle.fallible_itertools.specs.Holding.{asks_item, as_answered_item, stop_answer, due_answer, BeforeStop, AtStop, Behind, holding_step, StopMade, MadeOfStop, MadeOfItem, DrawMade, LastMade, HoldingTrace}
+use Rattle.fallible_iterator.specs.Laws.Passing.{Passes, done, end_passes, failure_passes, keeps, refuses, closes, leaves_out, passes_of_pass_trace, pass_trace_of_passes, pass_trace_item, pass_trace_refusal, pass_trace_end, pass_trace_failure, pass_trace_closing}
+use Rattle.fallible_itertools.specs.Holding.{asks_item, as_answered_item, stop_answer, due_answer, BeforeStop, AtStop, AnswersAfter, holding_step, StopMade, MadeOfStop, MadeOfItem, DrawMade, LastMade, HoldingTrace}
 use Rattle.fallible_iterator.specs.Outcome.{Outcome}
 use Rattle.fallible_iterator.specs.Outcome.TheVariants.{Kept, LeftOut, Failure, End}
 
@@ -15,29 +15,29 @@ more_made : {Y Z : Type 0} (n : ℕ) (d : Y × List Z) (draws : List (Y × List 
 more_made n d [] last = let long = length-append d.1 [] in omega (arith, long, last)
 more_made n d (e ∷ draws) last = let long = length-append d.1 (flat_map (λ k. k.1) (e ∷ draws)) in let more = more_made n e draws last in omega (arith, long, more)
 
-last_tail : {Y Z : Type 0} (n : ℕ) (d : Y × List Z) (draws : List (Y × List Z)) → LastMade n (d ∷ draws) → LastMade n draws
-last_tail n d [] last = tt
-last_tail n d (e ∷ draws) last = last
+last_made_tail : {Y Z : Type 0} (n : ℕ) (d : Y × List Z) (draws : List (Y × List Z)) → LastMade n (d ∷ draws) → LastMade n draws
+last_made_tail n d [] last = tt
+last_made_tail n d (e ∷ draws) last = last
 
-last_cons : {Y Z : Type 0} (n : ℕ) (d : Y × List Z) (draws : List (Y × List Z)) → (draws ≡ [] → n < length d.1) → LastMade n draws → LastMade n (d ∷ draws)
-last_cons n d [] few last = few refl
-last_cons n d (e ∷ draws) few last = last
+last_made_cons : {Y Z : Type 0} (n : ℕ) (d : Y × List Z) (draws : List (Y × List Z)) → (draws ≡ [] → n < length d.1) → LastMade n draws → LastMade n (d ∷ draws)
+last_made_cons n d [] few last = few refl
+last_made_cons n d (e ∷ draws) few last = last
 
 module _ {S P X B E : Type 0} (steps : S → Answered X E → S → Type 0) (asks : P → Option X → Outcome B E → P → Type 0) where
-  abbrev State : Type 0
-  State = S × (P × Option (Option E))
+  abbrev StateOfHoldingTraces : Type 0
+  StateOfHoldingTraces = S × (P × Option (Option E))
 
-  abbrev Steps : State → Answered B E → State → Type 0
-  Steps = holding_step asks steps
+  abbrev StepsOfHoldingTraces : StateOfHoldingTraces → Answered B E → StateOfHoldingTraces → Type 0
+  StepsOfHoldingTraces = holding_step asks steps
 
-  abbrev Trace : State → List (Answered B E) → State → Type 0
-  Trace = HoldingTrace steps asks
+  abbrev TraceOfHoldingTraces : StateOfHoldingTraces → List (Answered B E) → StateOfHoldingTraces → Type 0
+  TraceOfHoldingTraces = HoldingTrace steps asks
 
-  abbrev Draw : Type 0
-  Draw = Answered X E × List (Answered B E)
+  abbrev DrawMadeHere : Type 0
+  DrawMadeHere = Answered X E × List (Answered B E)
 
-  abbrev all_made : List Draw → List (Answered B E)
-  all_made draws = flat_map (λ (d : Draw). d.1) draws
+  abbrev all_made : List DrawMadeHere → List (Answered B E)
+  all_made draws = flat_map (λ (d : DrawMadeHere). d.1) draws
 
   abbrev due_length : Option (Option E) → ℕ
   due_length d = length (due_answer {B = B} {E = E} d)
@@ -45,55 +45,55 @@ module _ {S P X B E : Type 0} (steps : S → Answered X E → S → Type 0) (ask
   -- ---- a run is a trace
 
   -- a draw that made an answer and the stop that is due then, before others
-  draw_first : (s u : S) (p g : P) (due : Option (Option E)) (a : Answered X E) (r : Answered B E) (trace : List (Answered B E)) (q : State) → steps s a u → DrawMade asks p (a, r ∷ due_answer due) g → Trace (u, (g, due)) trace q → Trace (s, (p, None)) (r ∷ trace) q
-  draw_first s u p g due a r trace q step made k = record {
+  trace_draw_first : (s u : S) (p g : P) (due : Option (Option E)) (a : Answered X E) (r : Answered B E) (trace : List (Answered B E)) (q : StateOfHoldingTraces) → steps s a u → DrawMade asks p (a, r ∷ due_answer due) g → TraceOfHoldingTraces (u, (g, due)) trace q → TraceOfHoldingTraces (s, (p, None)) (r ∷ trace) q
+  trace_draw_first s u p g due a r trace q step made k = record {
     draws = (a, r ∷ due_answer due) ∷ k.draws;
     drawn = (u, step, k.drawn);
     made = (g, made, k.made);
     answers = ap (λ (l : List (Answered B E)). r ∷ l) k.answers;
-    last = last_cons (due_length q.1.1) (a, r ∷ due_answer due) k.draws few k.last;
+    last = last_made_cons (due_length q.1.1) (a, r ∷ due_answer due) k.draws due_length_few k.last;
   }
     where
-      few : k.draws ≡ [] → due_length q.1.1 < length (r ∷ due_answer {B = B} due)
-      few none = let same : due_answer due ++ [] ≡ trace ++ due_answer q.1.1 = subst (λ (draws : List Draw). due_answer due ++ all_made draws ≡ trace ++ due_answer q.1.1) none k.answers in
+      due_length_few : k.draws ≡ [] → due_length q.1.1 < length (r ∷ due_answer {B = B} due)
+      due_length_few none = let same : due_answer due ++ [] ≡ trace ++ due_answer q.1.1 = subst (λ (draws : List DrawMadeHere). due_answer due ++ all_made draws ≡ trace ++ due_answer q.1.1) none k.answers in
           let long = ap (λ (l : List (Answered B E)). length l) same in let before = length-append (due_answer {B = B} due) [] in let behind = length-append trace (due_answer {B = B} q.1.1) in omega (arith, long, before, behind)
 
   -- an item that was left out, before others
-  left_first : (s u : S) (p g : P) (x : X) (r : Answered B E) (trace : List (Answered B E)) (q : State) → steps s (item x) u → asks p (Some x) LeftOut g → Trace (u, (g, None)) (r ∷ trace) q → Trace (s, (p, None)) (r ∷ trace) q
-  left_first s u p g x r trace q step called k = record {
+  trace_left_first : (s u : S) (p g : P) (x : X) (r : Answered B E) (trace : List (Answered B E)) (q : StateOfHoldingTraces) → steps s (item x) u → asks p (Some x) LeftOut g → TraceOfHoldingTraces (u, (g, None)) (r ∷ trace) q → TraceOfHoldingTraces (s, (p, None)) (r ∷ trace) q
+  trace_left_first s u p g x r trace q step called k = record {
     draws = (item x, []) ∷ k.draws;
     drawn = (u, step, k.drawn);
     made = (g, (LeftOut, g, called, (refl, refl)), k.made);
     answers = k.answers;
-    last = last_cons (due_length q.1.1) (item x, []) k.draws (λ none. absurd (let same : [] ≡ r ∷ (trace ++ due_answer q.1.1) = subst (λ (draws : List Draw). all_made draws ≡ r ∷ (trace ++ due_answer q.1.1)) none k.answers in cc)) k.last;
+    last = last_made_cons (due_length q.1.1) (item x, []) k.draws (λ none. absurd (let same : [] ≡ r ∷ (trace ++ due_answer q.1.1) = subst (λ (draws : List DrawMadeHere). all_made draws ≡ r ∷ (trace ++ due_answer q.1.1)) none k.answers in cc)) k.last;
   }
 
-  before_made : (stop : Option E) (o : Outcome B E) (r : Answered B E) (due : Option (Option E)) → BeforeStop stop o r due → StopMade stop o (r ∷ due_answer due)
-  before_made stop (Kept y) r due w = rw (w.0, w.1) refl
-  before_made stop (Failure e) r due w = rw (w.0, w.1) refl
-  before_made stop End r due w = rw (w.0, w.1) refl
-  before_made stop LeftOut r due w = absurd w
+  stop_made_before : (stop : Option E) (o : Outcome B E) (r : Answered B E) (due : Option (Option E)) → BeforeStop stop o r due → StopMade stop o (r ∷ due_answer due)
+  stop_made_before stop (Kept y) r due w = rw (w.0, w.1) refl
+  stop_made_before stop (Failure e) r due w = rw (w.0, w.1) refl
+  stop_made_before stop End r due w = rw (w.0, w.1) refl
+  stop_made_before stop LeftOut r due w = absurd w
 
-  drawn_first : (s t : S) (p h g : P) (due : Option (Option E)) (z r : Answered B E) (trace : List (Answered B E)) (q : State) → Passes steps (asks_item asks) as_answered_item s p (z ∷ []) t h → Behind asks h z r (g, due) → Trace (t, (g, due)) trace q → Trace (s, (p, None)) (r ∷ trace) q
-  drawn_first s t p h g due _ r trace q (end_passes step done) b k = draw_first s t p g due (Ok None) r trace q step (b.0, b.1, before_made None b.0 r due b.2) k
-  drawn_first s t p h g due _ r trace q (failure_passes e step done) b k = draw_first s t p g due (Err e) r trace q step (b.0, b.1, before_made (Some e) b.0 r due b.2) k
-  drawn_first s t p h g due _ r trace q (keeps x o y step called is done) b k = let undue : due ≡ None = ap (λ (d : P × Option (Option E)). d.1) b.1 in
-      draw_first s t p g due (item x) r trace q step (Kept y, h, subst (λ (c : Outcome B E). asks p (Some x) c h) is called, (rw (b.0, undue) refl, ap (λ (d : P × Option (Option E)). d.0) b.1)) k
-  drawn_first s t p h g due _ r trace q (refuses x o e step called is done) b k = draw_first s t p g due (item x) r trace q step (Failure e, h, subst (λ (c : Outcome B E). asks p (Some x) c h) is called, (b.0, b.1, before_made (Some e) b.0 r due b.2)) k
-  drawn_first s t p h g due _ r trace q (closes x o step called is done) b k = draw_first s t p g due (item x) r trace q step (End, h, subst (λ (c : Outcome B E). asks p (Some x) c h) is called, (b.0, b.1, before_made None b.0 r due b.2)) k
-  drawn_first s t p h g due z r trace q (leaves_out {u = u} {h = j} x o step called is rest) b k = left_first s u p j x r trace q step (subst (λ (c : Outcome B E). asks p (Some x) c j) is called) (drawn_first u t j h g due z r trace q rest b k)
+  trace_drawn_first : (s t : S) (p h g : P) (due : Option (Option E)) (z r : Answered B E) (trace : List (Answered B E)) (q : StateOfHoldingTraces) → Passes steps (asks_item asks) as_answered_item s p (z ∷ []) t h → AnswersAfter asks h z r (g, due) → TraceOfHoldingTraces (t, (g, due)) trace q → TraceOfHoldingTraces (s, (p, None)) (r ∷ trace) q
+  trace_drawn_first s t p h g due _ r trace q (end_passes step done) b k = trace_draw_first s t p g due (Ok None) r trace q step (b.0, b.1, stop_made_before None b.0 r due b.2) k
+  trace_drawn_first s t p h g due _ r trace q (failure_passes e step done) b k = trace_draw_first s t p g due (Err e) r trace q step (b.0, b.1, stop_made_before (Some e) b.0 r due b.2) k
+  trace_drawn_first s t p h g due _ r trace q (keeps x o y step called is done) b k = let undue : due ≡ None = ap (λ (d : P × Option (Option E)). d.1) b.1 in
+      trace_draw_first s t p g due (item x) r trace q step (Kept y, h, subst (λ (c : Outcome B E). asks p (Some x) c h) is called, (rw (b.0, undue) refl, ap (λ (d : P × Option (Option E)). d.0) b.1)) k
+  trace_drawn_first s t p h g due _ r trace q (refuses x o e step called is done) b k = trace_draw_first s t p g due (item x) r trace q step (Failure e, h, subst (λ (c : Outcome B E). asks p (Some x) c h) is called, (b.0, b.1, stop_made_before (Some e) b.0 r due b.2)) k
+  trace_drawn_first s t p h g due _ r trace q (closes x o step called is done) b k = trace_draw_first s t p g due (item x) r trace q step (End, h, subst (λ (c : Outcome B E). asks p (Some x) c h) is called, (b.0, b.1, stop_made_before None b.0 r due b.2)) k
+  trace_drawn_first s t p h g due z r trace q (leaves_out {u = u} {h = j} x o step called is rest) b k = trace_left_first s u p j x r trace q step (subst (λ (c : Outcome B E). asks p (Some x) c j) is called) (trace_drawn_first u t j h g due z r trace q rest b k)
 
   -- the stop that is due, before others
-  due_first : (s : S) (p : P) (stop : Option E) (trace : List (Answered B E)) (q : State) → Trace (s, (p, None)) trace q → Trace (s, (p, Some stop)) (stop_answer stop ∷ trace) q
-  due_first s p stop trace q k = record { draws = k.draws; drawn = k.drawn; made = k.made; answers = ap (λ (l : List (Answered B E)). stop_answer stop ∷ l) k.answers; last = k.last }
+  trace_due_first : (s : S) (p : P) (stop : Option E) (trace : List (Answered B E)) (q : StateOfHoldingTraces) → TraceOfHoldingTraces (s, (p, None)) trace q → TraceOfHoldingTraces (s, (p, Some stop)) (stop_answer stop ∷ trace) q
+  trace_due_first s p stop trace q k = record { draws = k.draws; drawn = k.drawn; made = k.made; answers = ap (λ (l : List (Answered B E)). stop_answer stop ∷ l) k.answers; last = k.last }
 
-  one_first : (p : State) (r : Answered B E) (u : State) (trace : List (Answered B E)) (q : State) → Steps p r u → Trace u trace q → Trace p (r ∷ trace) q
-  one_first (s, (p, Some stop)) r (t, g) trace q step k = rw step.0 (due_first s p stop trace q (subst (λ (v : S). Trace (v, (p, None)) trace q) step.1 (subst (λ (d : P × Option (Option E)). Trace (t, d) trace q) step.2 k)))
-  one_first (s, (p, None)) r (t, (g, due)) trace q step k = drawn_first s t p step.0 g due step.1 r trace q (to_passes step.2) step.3 k
+  trace_one_first : (p : StateOfHoldingTraces) (r : Answered B E) (u : StateOfHoldingTraces) (trace : List (Answered B E)) (q : StateOfHoldingTraces) → StepsOfHoldingTraces p r u → TraceOfHoldingTraces u trace q → TraceOfHoldingTraces p (r ∷ trace) q
+  trace_one_first (s, (p, Some stop)) r (t, g) trace q step k = rw step.0 (trace_due_first s p stop trace q (subst (λ (v : S). TraceOfHoldingTraces (v, (p, None)) trace q) step.1 (subst (λ (d : P × Option (Option E)). TraceOfHoldingTraces (t, d) trace q) step.2 k)))
+  trace_one_first (s, (p, None)) r (t, (g, due)) trace q step k = trace_drawn_first s t p step.0 g due step.1 r trace q (passes_of_pass_trace step.2) step.3 k
 
-  run_traced : (trace : List (Answered B E)) (p q : State) → Run Steps p trace q → Trace p trace q
-  run_traced [] p q ran = subst (λ (z : State). Trace p [] z) ran (record { draws = []; drawn = refl; made = refl; answers = append-nil (due_answer p.1.1); last = tt })
-  run_traced (r ∷ trace) p q ran = one_first p r ran.0 trace q ran.1 (run_traced trace ran.0 q ran.2)
+  trace_run_traced : (trace : List (Answered B E)) (p q : StateOfHoldingTraces) → Run StepsOfHoldingTraces p trace q → TraceOfHoldingTraces p trace q
+  trace_run_traced [] p q ran = subst (λ (z : StateOfHoldingTraces). TraceOfHoldingTraces p [] z) ran (record { draws = []; drawn = refl; made = refl; answers = append-nil (due_answer p.1.1); last = tt })
+  trace_run_traced (r ∷ trace) p q ran = trace_one_first p r ran.0 trace q ran.1 (trace_run_traced trace ran.0 q ran.2)
 
   -- ---- a trace is a run
 
@@ -104,21 +104,21 @@ module _ {S P X B E : Type 0} (steps : S → Answered X E → S → Type 0) (ask
   same_stop (Some e) (Some d) is = let same : e ≡ d = cc in ap Some same
 
   -- where nothing was drawn
-  none_drawn : (s : S) (p : P) (due d : Option (Option E)) (trace : List (Answered B E)) → due_answer due ++ [] ≡ trace ++ due_answer d → Run Steps (s, (p, due)) trace (s, (p, d))
-  none_drawn s p None None [] is = refl
-  none_drawn s p None None (r ∷ trace) is = absurd cc
-  none_drawn s p None (Some stop) [] is = absurd cc
-  none_drawn s p None (Some stop) (r ∷ trace) is = absurd cc
-  none_drawn s p (Some stop) None [] is = absurd cc
-  none_drawn s p (Some stop) None (r ∷ []) is = let same : stop_answer stop ≡ r = cc in ((s, (p, None)), (sym same, refl, refl), refl)
-  none_drawn s p (Some stop) None (r ∷ z ∷ trace) is = absurd (let none : [] ≡ z ∷ (trace ++ []) = cc in cc)
-  none_drawn s p (Some stop) (Some other) [] is = ap (λ (d : Option E). (s, (p, Some d))) (same_stop stop other (let same : stop_answer {B = B} stop ≡ stop_answer other = cc in same))
-  none_drawn s p (Some stop) (Some other) (r ∷ []) is = absurd (let none : [] ≡ stop_answer {B = B} other ∷ [] = cc in cc)
-  none_drawn s p (Some stop) (Some other) (r ∷ z ∷ trace) is = absurd (let none : [] ≡ z ∷ (trace ++ (stop_answer other ∷ [])) = cc in cc)
+  run_none_drawn : (s : S) (p : P) (due d : Option (Option E)) (trace : List (Answered B E)) → due_answer due ++ [] ≡ trace ++ due_answer d → Run StepsOfHoldingTraces (s, (p, due)) trace (s, (p, d))
+  run_none_drawn s p None None [] is = refl
+  run_none_drawn s p None None (r ∷ trace) is = absurd cc
+  run_none_drawn s p None (Some stop) [] is = absurd cc
+  run_none_drawn s p None (Some stop) (r ∷ trace) is = absurd cc
+  run_none_drawn s p (Some stop) None [] is = absurd cc
+  run_none_drawn s p (Some stop) None (r ∷ []) is = let same : stop_answer stop ≡ r = cc in ((s, (p, None)), (sym same, refl, refl), refl)
+  run_none_drawn s p (Some stop) None (r ∷ z ∷ trace) is = absurd (let none : [] ≡ z ∷ (trace ++ []) = cc in cc)
+  run_none_drawn s p (Some stop) (Some other) [] is = ap (λ (d : Option E). (s, (p, Some d))) (same_stop stop other (let same : stop_answer {B = B} stop ≡ stop_answer other = cc in same))
+  run_none_drawn s p (Some stop) (Some other) (r ∷ []) is = absurd (let none : [] ≡ stop_answer {B = B} other ∷ [] = cc in cc)
+  run_none_drawn s p (Some stop) (Some other) (r ∷ z ∷ trace) is = absurd (let none : [] ≡ z ∷ (trace ++ (stop_answer other ∷ [])) = cc in cc)
 
   -- one draw: an item that was left out, or one answer and the stop that is due then
   abbrev FirstMade : S → P → Answered X E → List (Answered B E) → S → P → Type 0
-  FirstMade s p a m u g = ((x : X) × (a ≡ item x) × asks p (Some x) LeftOut g × (m ≡ [])) ⊎ ((r : Answered B E) × (due : Option (Option E)) × (m ≡ r ∷ due_answer due) × Steps (s, (p, None)) r (u, (g, due)))
+  FirstMade s p a m u g = ((x : X) × (a ≡ item x) × asks p (Some x) LeftOut g × (m ≡ [])) ⊎ ((r : Answered B E) × (due : Option (Option E)) × (m ≡ r ∷ due_answer due) × StepsOfHoldingTraces (s, (p, None)) r (u, (g, due)))
 
   abbrev StopFirst : Option E → Outcome B E → List (Answered B E) → Type 0
   StopFirst stop o m = (r : Answered B E) × (due : Option (Option E)) × (m ≡ r ∷ due_answer due) × BeforeStop stop o r due
@@ -129,58 +129,58 @@ module _ {S P X B E : Type 0} (steps : S → Answered X E → S → Type 0) (ask
   stop_first stop End m is = (stop_answer stop, None, is, (refl, refl))
   stop_first stop LeftOut m is = absurd is
 
-  item_first : (o : Outcome B E) (s u : S) (p h g : P) (x : X) (m : List (Answered B E)) → steps s (item x) u → asks p (Some x) o h → MadeOfItem asks o h m g → FirstMade s p (item x) m u g
-  item_first (Kept y) s u p h g x m step called w = inr (item y, None, w.0, (h, item y, passes_item x (Kept y) y step called refl, (refl, ap (λ (k : P). (k, None)) w.1)))
-  item_first LeftOut s u p h g x m step called w = inl (x, refl, subst (λ (k : P). asks p (Some x) LeftOut k) (sym w.1) called, w.0)
-  item_first (Failure e) s u p h g x m step called w = let k = stop_first (Some e) w.0 m w.2 in inr (k.0, k.1, k.2, (h, Err e, passes_refusal x (Failure e) e step called refl, (w.0, w.1, k.3)))
-  item_first End s u p h g x m step called w = let k = stop_first None w.0 m w.2 in inr (k.0, k.1, k.2, (h, Ok None, passes_closing x End step called refl, (w.0, w.1, k.3)))
+  first_made_item : (o : Outcome B E) (s u : S) (p h g : P) (x : X) (m : List (Answered B E)) → steps s (item x) u → asks p (Some x) o h → MadeOfItem asks o h m g → FirstMade s p (item x) m u g
+  first_made_item (Kept y) s u p h g x m step called w = inr (item y, None, w.0, (h, item y, pass_trace_item x (Kept y) y step called refl, (refl, ap (λ (k : P). (k, None)) w.1)))
+  first_made_item LeftOut s u p h g x m step called w = inl (x, refl, subst (λ (k : P). asks p (Some x) LeftOut k) (sym w.1) called, w.0)
+  first_made_item (Failure e) s u p h g x m step called w = let k = stop_first (Some e) w.0 m w.2 in inr (k.0, k.1, k.2, (h, Err e, pass_trace_refusal x (Failure e) e step called refl, (w.0, w.1, k.3)))
+  first_made_item End s u p h g x m step called w = let k = stop_first None w.0 m w.2 in inr (k.0, k.1, k.2, (h, Ok None, pass_trace_closing x End step called refl, (w.0, w.1, k.3)))
 
   first_made : (a : Answered X E) (s u : S) (p g : P) (m : List (Answered B E)) → steps s a u → DrawMade asks p (a, m) g → FirstMade s p a m u g
-  first_made (Ok (Some x)) s u p g m step w = item_first w.0 s u p w.1 g x m step w.2 w.3
-  first_made (Ok None) s u p g m step w = let k = stop_first None w.0 m w.2 in inr (k.0, k.1, k.2, (p, Ok None, passes_end step, (w.0, w.1, k.3)))
-  first_made (Err e) s u p g m step w = let k = stop_first (Some e) w.0 m w.2 in inr (k.0, k.1, k.2, (p, Err e, passes_failure step, (w.0, w.1, k.3)))
+  first_made (Ok (Some x)) s u p g m step w = first_made_item w.0 s u p w.1 g x m step w.2 w.3
+  first_made (Ok None) s u p g m step w = let k = stop_first None w.0 m w.2 in inr (k.0, k.1, k.2, (p, Ok None, pass_trace_end step, (w.0, w.1, k.3)))
+  first_made (Err e) s u p g m step w = let k = stop_first (Some e) w.0 m w.2 in inr (k.0, k.1, k.2, (p, Err e, pass_trace_failure step, (w.0, w.1, k.3)))
 
   -- an item that was left out before an answer
-  pub left_before : (s u : S) (p g : P) (x : X) (r : Answered B E) (v : State) → steps s (item x) u → asks p (Some x) LeftOut g → Steps (u, (g, None)) r v → Steps (s, (p, None)) r v
-  left_before s u p g x r (t, q) step called w = (w.0, w.1, from_passes (leaves_out x LeftOut step called refl (to_passes w.2)), w.3)
+  pub step_left_before : (s u : S) (p g : P) (x : X) (r : Answered B E) (v : StateOfHoldingTraces) → steps s (item x) u → asks p (Some x) LeftOut g → StepsOfHoldingTraces (u, (g, None)) r v → StepsOfHoldingTraces (s, (p, None)) r v
+  step_left_before s u p g x r (t, q) step called w = (w.0, w.1, pass_trace_of_passes (leaves_out x LeftOut step called refl (passes_of_pass_trace w.2)), w.3)
 
   -- ---- one answer by hand
 
-  pub item_step : {s u : S} {p g : P} {due : Option (Option E)} (x : X) (y : B) → steps s (item x) u → asks p (Some x) (Kept y) g → due ≡ None → Steps (s, (p, None)) (item y) (u, (g, due))
-  item_step {g = g} x y step called is = (g, item y, passes_item x (Kept y) y step called refl, (refl, ap (λ (d : Option (Option E)). (g, d)) is))
+  pub step_item : {s u : S} {p g : P} {due : Option (Option E)} (x : X) (y : B) → steps s (item x) u → asks p (Some x) (Kept y) g → due ≡ None → StepsOfHoldingTraces (s, (p, None)) (item y) (u, (g, due))
+  step_item {g = g} x y step called is = (g, item y, pass_trace_item x (Kept y) y step called refl, (refl, ap (λ (d : Option (Option E)). (g, d)) is))
 
-  pub refused_step : {s u : S} {p h : P} {r : Answered B E} {q : P × Option (Option E)} (x : X) (e : E) → steps s (item x) u → asks p (Some x) (Failure e) h → AtStop asks h (Some e) r q → Steps (s, (p, None)) r (u, q)
-  refused_step {h = h} x e step called w = (h, Err e, passes_refusal x (Failure e) e step called refl, w)
+  pub step_refused : {s u : S} {p h : P} {r : Answered B E} {q : P × Option (Option E)} (x : X) (e : E) → steps s (item x) u → asks p (Some x) (Failure e) h → AtStop asks h (Some e) r q → StepsOfHoldingTraces (s, (p, None)) r (u, q)
+  step_refused {h = h} x e step called w = (h, Err e, pass_trace_refusal x (Failure e) e step called refl, w)
 
-  pub end_step : {s u : S} {p : P} {r : Answered B E} {q : P × Option (Option E)} → steps s (Ok None) u → AtStop asks p None r q → Steps (s, (p, None)) r (u, q)
-  end_step {p = p} step w = (p, Ok None, passes_end step, w)
+  pub step_end : {s u : S} {p : P} {r : Answered B E} {q : P × Option (Option E)} → steps s (Ok None) u → AtStop asks p None r q → StepsOfHoldingTraces (s, (p, None)) r (u, q)
+  step_end {p = p} step w = (p, Ok None, pass_trace_end step, w)
 
-  pub failure_step : {s u : S} {p : P} {r : Answered B E} {q : P × Option (Option E)} (e : E) → steps s (Err e) u → AtStop asks p (Some e) r q → Steps (s, (p, None)) r (u, q)
-  failure_step {p = p} e step w = (p, Err e, passes_failure step, w)
+  pub step_failure : {s u : S} {p : P} {r : Answered B E} {q : P × Option (Option E)} (e : E) → steps s (Err e) u → AtStop asks p (Some e) r q → StepsOfHoldingTraces (s, (p, None)) r (u, q)
+  step_failure {p = p} e step w = (p, Err e, pass_trace_failure step, w)
 
   -- ---- draws that are a trace
 
-  module _ (d : Option (Option E)) (q : State) where
+  module _ (d : Option (Option E)) (q : StateOfHoldingTraces) where
     -- where no stop is due
-    run_undue : (s u : S) (p g : P) (a : Answered X E) (m rest : List (Answered B E)) → steps s a u → due_length d < length (m ++ rest) → ((due : Option (Option E)) (trace : List (Answered B E)) → due_answer due ++ rest ≡ trace ++ due_answer d → Run Steps (u, (g, due)) trace q) → FirstMade s p a m u g → (trace : List (Answered B E)) → m ++ rest ≡ trace ++ due_answer d → Run Steps (s, (p, None)) trace q
+    run_undue : (s u : S) (p g : P) (a : Answered X E) (m rest : List (Answered B E)) → steps s a u → due_length d < length (m ++ rest) → ((due : Option (Option E)) (trace : List (Answered B E)) → due_answer due ++ rest ≡ trace ++ due_answer d → Run StepsOfHoldingTraces (u, (g, due)) trace q) → FirstMade s p a m u g → (trace : List (Answered B E)) → m ++ rest ≡ trace ++ due_answer d → Run StepsOfHoldingTraces (s, (p, None)) trace q
     run_undue s u p g a m rest step more later f [] is = absurd (let long = ap (λ (l : List (Answered B E)). length l) is in omega (arith, long, more))
     run_undue s u p g a m rest step more later (inl k) (r ∷ trace) is = let w = later None (r ∷ trace) (subst (λ (l : List (Answered B E)). l ++ rest ≡ r ∷ (trace ++ due_answer d)) k.3 is) in
-        (w.0, left_before s u p g k.0 r w.0 (subst (λ (c : Answered X E). steps s c u) k.1 step) k.2 w.1, w.2)
+        (w.0, step_left_before s u p g k.0 r w.0 (subst (λ (c : Answered X E). steps s c u) k.1 step) k.2 w.1, w.2)
     run_undue s u p g a m rest step more later (inr k) (r ∷ trace) is = let both : k.0 ∷ (due_answer k.1 ++ rest) ≡ r ∷ (trace ++ due_answer d) = subst (λ (l : List (Answered B E)). l ++ rest ≡ r ∷ (trace ++ due_answer d)) k.2 is in
         let same : k.0 ≡ r = cc in let others : due_answer k.1 ++ rest ≡ trace ++ due_answer d = cc in
-        ((u, (g, k.1)), subst (λ (c : Answered B E). Steps (s, (p, None)) c (u, (g, k.1))) same k.3, later k.1 trace others)
+        ((u, (g, k.1)), subst (λ (c : Answered B E). StepsOfHoldingTraces (s, (p, None)) c (u, (g, k.1))) same k.3, later k.1 trace others)
 
     -- where one may be
-    run_due : (s : S) (p : P) (made : List (Answered B E)) → due_length d < length made → ((trace : List (Answered B E)) → made ≡ trace ++ due_answer d → Run Steps (s, (p, None)) trace q) → (due : Option (Option E)) (trace : List (Answered B E)) → due_answer due ++ made ≡ trace ++ due_answer d → Run Steps (s, (p, due)) trace q
+    run_due : (s : S) (p : P) (made : List (Answered B E)) → due_length d < length made → ((trace : List (Answered B E)) → made ≡ trace ++ due_answer d → Run StepsOfHoldingTraces (s, (p, None)) trace q) → (due : Option (Option E)) (trace : List (Answered B E)) → due_answer due ++ made ≡ trace ++ due_answer d → Run StepsOfHoldingTraces (s, (p, due)) trace q
     run_due s p made more later None trace is = later trace is
     run_due s p made more later (Some stop) [] is = absurd (let long = ap (λ (l : List (Answered B E)). length l) is in omega (arith, long, more))
     run_due s p made more later (Some stop) (r ∷ trace) is = let same : stop_answer stop ≡ r = cc in let others : made ≡ trace ++ due_answer d = cc in ((s, (p, None)), (sym same, refl, refl), later trace others)
 
-  run_from : (draws : List Draw) (s : S) (p : P) (due : Option (Option E)) (trace : List (Answered B E)) (t : S) (g : P) (d : Option (Option E)) → Run steps s (map (λ (k : Draw). k.0) draws) t → FoldsTo (DrawMade asks) p draws g → due_answer due ++ all_made draws ≡ trace ++ due_answer d → LastMade (due_length d) draws → Run Steps (s, (p, due)) trace (t, (g, d))
-  run_from [] s p due trace t g d ran made is last = subst (λ (v : S). Run Steps (s, (p, due)) trace (v, (g, d))) ran (subst (λ (h : P). Run Steps (s, (p, due)) trace (s, (h, d))) made (none_drawn s p due d trace is))
+  run_from : (draws : List DrawMadeHere) (s : S) (p : P) (due : Option (Option E)) (trace : List (Answered B E)) (t : S) (g : P) (d : Option (Option E)) → Run steps s (map (λ (k : DrawMadeHere). k.0) draws) t → FoldsTo (DrawMade asks) p draws g → due_answer due ++ all_made draws ≡ trace ++ due_answer d → LastMade (due_length d) draws → Run StepsOfHoldingTraces (s, (p, due)) trace (t, (g, d))
+  run_from [] s p due trace t g d ran made is last = subst (λ (v : S). Run StepsOfHoldingTraces (s, (p, due)) trace (v, (g, d))) ran (subst (λ (h : P). Run StepsOfHoldingTraces (s, (p, due)) trace (s, (h, d))) made (run_none_drawn s p due d trace is))
   run_from ((a, m) ∷ draws) s p due trace t g d ran made is last = let more = more_made (due_length d) (a, m) draws last in
-      run_due d (t, (g, d)) s p (m ++ all_made draws) more (run_undue d (t, (g, d)) s ran.0 p made.0 a m (all_made draws) ran.1 more (λ due' trace' is'. run_from draws ran.0 made.0 due' trace' t g d ran.2 made.2 is' (last_tail (due_length d) (a, m) draws last)) (first_made a s ran.0 p made.0 m ran.1 made.1)) due trace is
+      run_due d (t, (g, d)) s p (m ++ all_made draws) more (run_undue d (t, (g, d)) s ran.0 p made.0 a m (all_made draws) ran.1 more (λ due' trace' is'. run_from draws ran.0 made.0 due' trace' t g d ran.2 made.2 is' (last_made_tail (due_length d) (a, m) draws last)) (first_made a s ran.0 p made.0 m ran.1 made.1)) due trace is
 
   -- A run is a trace, and a trace is a run.
-  pub holding_law : (p : State) (trace : List (Answered B E)) (q : State) → Run Steps p trace q ↔ Trace p trace q
-  holding_law p trace q = (run_traced trace p q, λ k. run_from k.draws p.0 p.1.0 p.1.1 trace q.0 q.1.0 q.1.1 k.drawn k.made k.answers k.last)
+  pub holding_law : (p : StateOfHoldingTraces) (trace : List (Answered B E)) (q : StateOfHoldingTraces) → Run StepsOfHoldingTraces p trace q ↔ TraceOfHoldingTraces p trace q
+  holding_law p trace q = (trace_run_traced trace p q, λ k. run_from k.draws p.0 p.1.0 p.1.1 trace q.0 q.1.0 q.1.1 k.drawn k.made k.answers k.last)

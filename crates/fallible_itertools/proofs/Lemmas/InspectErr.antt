@@ -9,47 +9,47 @@ use Rattle.fallible_iterator.specs.Closures.{call_at, Reaches, IsCallable}
 use Rattle.fallible_iterator.specs.Contract.{Contract, seen_as}
 use Rattle.fallible_iterator.specs.Failing.{FailingAnswer, failing_step, failures_mapped}
 use Rattle.fallible_iterator.specs.Laws.Closures.{reaches_here, reaches_from}
-use Rattle.fallible_iterator.specs.Laws.Failing.{drawn_once}
+use Rattle.fallible_iterator.specs.Laws.Failing.{drawn_once_of_trace}
 use Rattle.fallible_iterator.specs.Lists.{Lists}
 use Rattle.fallible_iterator.specs.Traces.{Answered}
-use Rattle.fallible_iterator.proofs.Lemmas.BothEnds.{listed_by, takes_back, takes_front}
-use Rattle.fallible_iterator.proofs.Lemmas.Failing.{gives_failing}
+use Rattle.fallible_iterator.proofs.Lemmas.BothEnds.{lists_both_ends_by_draws, takes_first_back, takes_first_front}
+use Rattle.fallible_iterator.proofs.Lemmas.Failing.{always_gives_failing}
 use Rattle.fallible_iterator.proofs.Lemmas.Lists.Passing.{lists_seen}
 use Rattle.fallible_itertools.specs.InspectErr.{inspect_err_contract, inspect_err_parts, seen_call}
 use Rattle.fallible_itertools.specs.declared.inspect_err.InspectErr.{InspectErr}
 
 module _ {F D : Type 0} (g : Mut F (Bor D × Unit {0}) (Unit {0})) (P : D → Type 0) where
-  seen_reaches : (made : List (D × D)) (f h : F) → FoldsTo (λ p c q. P c.0 × seen_call g p c.0 c.1 q) f made h → Reaches (call_at g) P f h
-  seen_reaches [] f h w = subst (λ (k : F). Reaches (call_at g) P f k) w reaches_here
-  seen_reaches (c ∷ made) f h w = reaches_from c.0 tt w.1.0 w.1.1.0 (seen_reaches made w.0 h w.2)
+  reaches_seen : (made : List (D × D)) (f h : F) → FoldsTo (λ p c q. P c.0 × seen_call g p c.0 c.1 q) f made h → Reaches (call_at g) P f h
+  reaches_seen [] f h w = subst (λ (k : F). Reaches (call_at g) P f k) w reaches_here
+  reaches_seen (c ∷ made) f h w = reaches_from c.0 tt w.1.0 w.1.1.0 (reaches_seen made w.0 h w.2)
 
   -- Where it may be called on a reference to each failure, it may where it hands the failure on.
-  pub callable_seen : {takes : F → D → Type 0} {f : F} → IsCallable (call_at g) takes P f → IsCallable (seen_call g) takes P f
-  callable_seen {f = f} c = record { at = λ h d reached given. c.at h d (seen_reaches reached.made f h reached.by) given }
+  pub is_callable_seen : {takes : F → D → Type 0} {f : F} → IsCallable (call_at g) takes P f → IsCallable (seen_call g) takes P f
+  is_callable_seen {f = f} c = record { at = λ h d reached given. c.at h d (reaches_seen reached.made f h reached.by) given }
 
 -- each failure in its own place
-pub failures_same : {X D : Type 0} (l : List (Result X D)) → failures_mapped (λ d. d) l ≡ l
+pub failures_mapped_same : {X D : Type 0} (l : List (Result X D)) → failures_mapped (λ d. d) l ≡ l
 unfolding failures_mapped
-failures_same [] = refl
-failures_same (Ok x ∷ l) = ap (λ k. Ok x ∷ k) (failures_same l)
-failures_same (Err d ∷ l) = ap (λ k. Err d ∷ k) (failures_same l)
+failures_mapped_same [] = refl
+failures_mapped_same (Ok x ∷ l) = ap (λ k. Ok x ∷ k) (failures_mapped_same l)
+failures_mapped_same (Err d ∷ l) = ap (λ k. Err d ∷ k) (failures_mapped_same l)
 
 pub lists_inspected_failures : {S F X D : Type 0} (m : Contract S X D) (g : Mut F (Bor D × Unit {0}) (Unit {0})) (s : InspectErr S F) (f : F) (l : List (Result X D)) → inspect_err_parts s ≡ (s.it, f) → Lists m.steps s.it l
     → Lists (seen_as inspect_err_parts (inspect_err_contract m g)).steps s l
-lists_inspected_failures m g s f l parts i = lists_seen inspect_err_parts (inspect_err_contract m g).steps s parts (failures_same l)
-    (gives_failing (seen_call g) (λ k. Unit {0}) (λ d. d) (λ k d e n at called. (tt, called.1)) m.steps s.it f l tt i.runs)
+lists_inspected_failures m g s f l parts i = lists_seen inspect_err_parts (inspect_err_contract m g).steps s parts (failures_mapped_same l)
+    (always_gives_failing (seen_call g) (λ k. Unit {0}) (λ d. d) (λ k d e n at called. (tt, called.1)) m.steps s.it f l tt i.runs)
 
 -- ---- from both ends
 
-same_answer : {F X D : Type 0} (g : Mut F (Bor D × Unit {0}) (Unit {0})) (f h : F) (drawn r : Answered X D) → FailingAnswer (seen_call g) f drawn r h → r ≡ drawn
-same_answer g f h (Ok v) r made = made.0
-same_answer g f h (Err d) r made = made.2 ∙ ap (λ e. Err e) made.1.1
+seen_failure_same : {F X D : Type 0} (g : Mut F (Bor D × Unit {0}) (Unit {0})) (f h : F) (drawn r : Answered X D) → FailingAnswer (seen_call g) f drawn r h → r ≡ drawn
+seen_failure_same g f h (Ok v) r made = made.0
+seen_failure_same g f h (Err d) r made = made.2 ∙ ap (λ e. Err e) made.1.1
 
 module _ {S F X D : Type 0} (g : Mut F (Bor D × Unit {0}) (Unit {0})) where
   -- each draw is one of the source, with the same answer
-  drawn_same : (steps : S → Answered X D → S → Type 0) (p q : S × F) (r : Answered X D) → failing_step steps (seen_call g) p r q → steps p.0 r q.0
-  drawn_same steps p q r step = let d = drawn_once steps (seen_call g) p q r step in subst (λ (a : Answered X D). steps p.0 a q.0) (sym (same_answer g p.1 q.1 d.0 r d.2)) d.1
+  source_step_of_seen_step : (steps : S → Answered X D → S → Type 0) (p q : S × F) (r : Answered X D) → failing_step steps (seen_call g) p r q → steps p.0 r q.0
+  source_step_of_seen_step steps p q r step = let d = drawn_once_of_trace steps (seen_call g) p q r step in subst (λ (a : Answered X D). steps p.0 a q.0) (sym (seen_failure_same g p.1 q.1 d.0 r d.2)) d.1
 
-  pub listed_inspected_failures : (front back : S → Answered X D → S → Type 0) (p : S × F) (l : List (Result X D)) → ListsBothEnds front back p.0 l → ListsBothEnds (failing_step front (seen_call g)) (failing_step back (seen_call g)) p l
-  listed_inspected_failures front back p l i = listed_by (failing_step front (seen_call g)) (failing_step back (seen_call g)) (λ q k. ListsBothEnds front back q.0 k)
-      (λ q k listed r u step. takes_front listed (drawn_same front q u r step)) (λ q k listed r u step. takes_back listed (drawn_same back q u r step)) p l i
+  pub lists_both_ends_inspected_failures : (front back : S → Answered X D → S → Type 0) (p : S × F) (l : List (Result X D)) → ListsBothEnds front back p.0 l → ListsBothEnds (failing_step front (seen_call g)) (failing_step back (seen_call g)) p l
+  lists_both_ends_inspected_failures front back p l i = lists_both_ends_by_draws (failing_step front (seen_call g)) (failing_step back (seen_call g)) (λ q k. ListsBothEnds front back q.0 k)
+      (λ q k listed r u step. takes_first_front listed (source_step_of_seen_step front q u r step)) (λ q k listed r u step. takes_first_back listed (source_step_of_seen_step back q u r step)) p l i

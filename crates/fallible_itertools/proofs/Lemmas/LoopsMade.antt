@@ -25,17 +25,17 @@ module _ {S X B E C R : Type 0} (made : X → B → Type 0) (steps : S → Answe
   abbrev ItemFrom : Result X E → B → S → Type 0 → Type 0
   ItemFrom z y t G = ((x : X) × made x y × RefusesNext steps from t) ⊎ ((x : X) × (z ≡ Ok x) × made x y × G)
 
-  item_on : {whole : R} {t : S} {c d : C} (y : B) (z : Result X E) (l : List (Result X E)) → whole ≡ answers c (z ∷ l) → ((x : X) (k : List (Result X E)) → made x y → answers c (Ok x ∷ k) ≡ answers d k) → ItemFrom z y t (GivesMade made steps from t l) → OrRefusesNext whole t d
-  item_on y z l is same (inl (x, m, next)) = inl next
-  item_on {c = c} y z l is same (inr (x, this, m, rest)) = inr (record { rest = l; lists = record { runs = rest }; same = is ∙ ap (λ w. answers c (w ∷ l)) this ∙ same x l m })
+  made_from_here_item_on : {whole : R} {t : S} {c d : C} (y : B) (z : Result X E) (l : List (Result X E)) → whole ≡ answers c (z ∷ l) → ((x : X) (k : List (Result X E)) → made x y → answers c (Ok x ∷ k) ≡ answers d k) → ItemFrom z y t (GivesMade made steps from t l) → OrRefusesNext whole t d
+  made_from_here_item_on y z l is same (inl (x, m, next)) = inl next
+  made_from_here_item_on {c = c} y z l is same (inr (x, this, m, rest)) = inr (record { rest = l; lists = record { runs = rest }; same = is ∙ ap (λ w. answers c (w ∷ l)) this ∙ same x l m })
 
-  at_item : {whole : R} {s t : S} {c d : C} (y : B) (l : List (Result X E)) → GivesMade made steps from s l → whole ≡ answers c l → steps s (Ok (Some y)) t → ((x : X) (k : List (Result X E)) → made x y → answers c (Ok x ∷ k) ≡ answers d k) → OrRefusesNext whole t d
-  at_item y [] gives is drawn same = absurd (let h = gives _ _ drawn in cc)
-  at_item {t = t} y (z ∷ l) gives is drawn same = item_on y z l is same (item_told made steps from z y t (gives _ _ drawn))
+  made_from_here_at_item : {whole : R} {s t : S} {c d : C} (y : B) (l : List (Result X E)) → GivesMade made steps from s l → whole ≡ answers c l → steps s (Ok (Some y)) t → ((x : X) (k : List (Result X E)) → made x y → answers c (Ok x ∷ k) ≡ answers d k) → OrRefusesNext whole t d
+  made_from_here_at_item y [] gives is drawn same = absurd (let h = gives _ _ drawn in cc)
+  made_from_here_at_item {t = t} y (z ∷ l) gives is drawn same = made_from_here_item_on y z l is same (item_told made steps from z y t (gives _ _ drawn))
 
   after_item : {whole : R} {s t : S} {c d : C} (y : B) → OrRefusesNext whole s c → steps s (Ok (Some y)) t → ((x : X) (k : List (Result X E)) → made x y → answers c (Ok x ∷ k) ≡ answers d k) → OrRefusesNext whole t d
   after_item y (inl r) drawn same = absurd (let h = (r _ _ drawn).1 in cc)
-  after_item y (inr here) drawn same = at_item y here.rest here.lists.runs here.same drawn same
+  after_item y (inr here) drawn same = made_from_here_at_item y here.rest here.lists.runs here.same drawn same
 
   -- a failure is an allocation failure, or the first of the rest
   abbrev FailedBy : R → C → E → Type 0
@@ -53,27 +53,27 @@ module _ {S X B E C R : Type 0} (made : X → B → Type 0) (steps : S → Answe
   after_failure e (inl r) drawn = let h = r _ _ drawn in inl (subst (IsRefusal from) (let q = h.1 in cc) h.2)
   after_failure e (inr here) drawn = at_failure e here.rest here.lists.runs here.same drawn
 
-  at_end : {whole : R} {s t : S} {c : C} (l : List (Result X E)) → GivesMade made steps from s l → whole ≡ answers c l → steps s (Ok None) t → whole ≡ answers c []
-  at_end [] gives is drawn = is
-  at_end {t = t} (z ∷ l) gives is drawn = end_told made steps from z t (gives _ _ drawn)
+  whole_after_nil : {whole : R} {s t : S} {c : C} (l : List (Result X E)) → GivesMade made steps from s l → whole ≡ answers c l → steps s (Ok None) t → whole ≡ answers c []
+  whole_after_nil [] gives is drawn = is
+  whole_after_nil {t = t} (z ∷ l) gives is drawn = end_told made steps from z t (gives _ _ drawn)
 
   after_end : {whole : R} {s t : S} {c : C} → OrRefusesNext whole s c → steps s (Ok None) t → whole ≡ answers c []
   after_end (inl r) drawn = absurd (let h = (r _ _ drawn).1 in cc)
-  after_end (inr here) drawn = at_end here.rest here.lists.runs here.same drawn
+  after_end (inr here) drawn = whole_after_nil here.rest here.lists.runs here.same drawn
 
 module _ {S X B E C R : Type 0} {made : X → B → Type 0} {steps : S → Answered B E → S → Type 0} {from : AllocError → E → Type 0} {answers : C → List (Result X E) → R} {s0 : S} {c0 : C} where
   -- before the first value
-  pub begins : MadeFromHere made steps from answers s0 c0 s0 c0
-  begins = record { at = λ whole lists. inr (record { rest = whole; lists = lists; same = refl }) }
+  pub made_from_here_first : MadeFromHere made steps from answers s0 c0 s0 c0
+  made_from_here_first = record { at = λ whole lists. inr (record { rest = whole; lists = lists; same = refl }) }
 
   module _ {s t : S} {c : C} {r : Answered B E} where
     -- after a value on which the loop goes on with d
-    pub goes_on : (y : B) {d : C} → MadeFromHere made steps from answers s0 c0 s c → steps s r t → r ≡ Ok (Some y) → ((x : X) (k : List (Result X E)) → made x y → answers c (Ok x ∷ k) ≡ answers d k) → MadeFromHere made steps from answers s0 c0 t d
-    goes_on y here drawn is same = record { at = λ whole lists. after_item made steps from answers y (here.at whole lists) (subst (λ z. steps s z t) is drawn) same }
+    pub made_from_here_on : (y : B) {d : C} → MadeFromHere made steps from answers s0 c0 s c → steps s r t → r ≡ Ok (Some y) → ((x : X) (k : List (Result X E)) → made x y → answers c (Ok x ∷ k) ≡ answers d k) → MadeFromHere made steps from answers s0 c0 t d
+    made_from_here_on y here drawn is same = record { at = λ whole lists. after_item made steps from answers y (here.at whole lists) (subst (λ z. steps s z t) is drawn) same }
 
     -- at the end
-    pub ends : MadeFromHere made steps from answers s0 c0 s c → steps s r t → r ≡ Ok None → (whole : List (Result X E)) → ListsMade made steps from s0 whole → answers c0 whole ≡ answers c []
-    ends here drawn is whole lists = after_end made steps from answers (here.at whole lists) (subst (λ z. steps s z t) is drawn)
+    pub whole_at_end : MadeFromHere made steps from answers s0 c0 s c → steps s r t → r ≡ Ok None → (whole : List (Result X E)) → ListsMade made steps from s0 whole → answers c0 whole ≡ answers c []
+    whole_at_end here drawn is whole lists = after_end made steps from answers (here.at whole lists) (subst (λ z. steps s z t) is drawn)
 
 by_failure : {X E V T C : Type 0} (into : V → T → Type 0) (from : AllocError → E → Type 0) (answers : C → List (Result X E) → Result V E) (c : C) (e : E) (whole : Result V E) → ((k : List (Result X E)) → answers c (Err e ∷ k) ≡ Err e) → IsRefusal from e ⊎ ((k : List (Result X E)) × (whole ≡ answers c (Err e ∷ k))) → IsToldOrRefused into from whole (Err e)
 by_failure into from answers c e whole same (inl w) = refused_result into from whole e w
@@ -87,4 +87,4 @@ module _ {S X B E C V T : Type 0} {made : X → B → Type 0} {steps : S → Ans
 
   -- at the end
   pub ends_told : (v : Result T E) → MadeFromHere made steps from answers s0 c0 s c → steps s r t → r ≡ Ok None → IsToldOrRefused into from (answers c []) v → (whole : List (Result X E)) → ListsMade made steps from s0 whole → IsToldOrRefused into from (answers c0 whole) v
-  ends_told v here drawn is told whole lists = subst (λ w. IsToldOrRefused into from w v) (sym (ends here drawn is whole lists)) told
+  ends_told v here drawn is told whole lists = subst (λ w. IsToldOrRefused into from w v) (sym (whole_at_end here drawn is whole lists)) told

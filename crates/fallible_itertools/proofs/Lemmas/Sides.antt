@@ -7,85 +7,85 @@ use Rattle.fallible_iterator.specs.Traces.{Answered, Run, Yields, item, failure,
 use Rattle.fallible_iterator.specs.Contract.{Contract, Lawful}
 use Rattle.fallible_iterator.specs.Held.{held_count}
 use Rattle.fallible_iterator.specs.Lists.{GivesForGood, result_answer}
-use Rattle.fallible_itertools.specs.Sides.{low_with, side_gives, Gives, GivesIf, Rule, SidesPlace, left_failed, right_failed, both_gave, left_gave, right_gave, left_behind, right_behind, place_answer, place_decides, drawn_at, before_drawn, IsGiven, SideTrace, SidesTrace, sides_step}
-use Rattle.fallible_itertools.specs.Laws.Sides.{IsLawfulRule, side_given}
+use Rattle.fallible_itertools.specs.Sides.{low_with, side_gives, Gives, GivesIf, Rule, SidesPlace, left_failed, right_failed, both_gave, left_gave, right_gave, left_held_after, right_held_after, place_answer, place_decides, drawn_at, before_drawn, IsGiven, SideTrace, SidesTrace, sides_step}
+use Rattle.fallible_itertools.specs.Laws.Sides.{IsLawfulRule, side_kept_given}
 
 -- a result that is a failure, and which
-pub failed_with : {X E : Type 0} (r : Result X E) (e : E) → IsErrAnd r (λ d. d ≡ e) → r ≡ Err e
-failed_with (Ok x) e h = absurd h
-failed_with (Err d) e h = ap Err h
+pub failure_of_gives_if : {X E : Type 0} (r : Result X E) (e : E) → IsErrAnd r (λ d. d ≡ e) → r ≡ Err e
+failure_of_gives_if (Ok x) e h = absurd h
+failure_of_gives_if (Err d) e h = ap Err h
 
 -- what a side yielded, known as another value
-pub gave_item : {S A E : Type 0} (steps : S → Answered A E → S → Type 0) (p : S × Option A) (t : S) {x y : Option A} → x ≡ y → Gives steps p (Ok x) t → Gives steps p (Ok y) t
-gave_item steps p t same g = subst (λ (z : _). Gives steps p (Ok z) t) same g
+pub gives_gave_item : {S A E : Type 0} (steps : S → Answered A E → S → Type 0) (p : S × Option A) (t : S) {x y : Option A} → x ≡ y → Gives steps p (Ok x) t → Gives steps p (Ok y) t
+gives_gave_item steps p t same g = subst (λ (z : _). Gives steps p (Ok z) t) same g
 
 -- an item that a side yielded is one that might come
 pub item_may_come : {S A E : Type 0} (m : Contract S A E) → Lawful m → (p : S × Option A) (t : S) {x : Option A} {y : A} → m.can_next p.0 → x ≡ Some y → Gives m.steps p (Ok x) t → side_gives m p y
-item_may_come m l p t {y = y} c same g = (side_given m l p t (Some y) c (gave_item m.steps p t same g)).1
+item_may_come m l p t {y = y} c same g = (side_kept_given m l p t (Some y) c (gives_gave_item m.steps p t same g)).1
 
 module _ {S U A B C E F V : Type 0} (steps : S → Answered A E → S → Type 0) (others : U → Answered B E → U → Type 0) (rule : Rule A B C E F V) where
-  abbrev pub Parts : Type 0
-  Parts = (S × Option A) × (U × Option B) × F
+  abbrev pub SidesState : Type 0
+  SidesState = (S × Option A) × (U × Option B) × F
 
-  abbrev pub Step : Parts → Answered C E → Parts → Type 0
-  Step = sides_step steps others rule
+  abbrev pub SidesStep : SidesState → Answered C E → SidesState → Type 0
+  SidesStep = sides_step steps others rule
 
 -- ---- whole traces: one side
 
 module _ {A E X S : Type 0} (gave : X → Option (Answered A E)) (behind : Option A → X → Option A) (steps : S → Answered A E → S → Type 0) where
   -- one place before others
-  drawn_first : (h : Option A) (o : Option (Answered A E)) (s m t : S) (rest : List (Answered A E)) → GivesIf steps (s, h) o m → Run steps m rest t → Run steps s (before_drawn h o rest) t
-  drawn_first (Some x) (Some r) s m t rest g ran = subst (λ (z : S). Run steps z rest t) g.1 ran
-  drawn_first (Some x) None s m t rest g ran = subst (λ (z : S). Run steps z rest t) g ran
-  drawn_first None None s m t rest g ran = subst (λ (z : S). Run steps z rest t) g ran
-  drawn_first None (Some r) s m t rest g ran = (m, g, ran)
+  run_drawn_first : (h : Option A) (o : Option (Answered A E)) (s m t : S) (rest : List (Answered A E)) → GivesIf steps (s, h) o m → Run steps m rest t → Run steps s (before_drawn h o rest) t
+  run_drawn_first (Some x) (Some r) s m t rest g ran = subst (λ (z : S). Run steps z rest t) g.1 ran
+  run_drawn_first (Some x) None s m t rest g ran = subst (λ (z : S). Run steps z rest t) g ran
+  run_drawn_first None None s m t rest g ran = subst (λ (z : S). Run steps z rest t) g ran
+  run_drawn_first None (Some r) s m t rest g ran = (m, g, ran)
 
-  given_first : (h : Option A) (o : Option (Answered A E)) (s m : S) → GivesIf steps (s, h) o m → IsGiven h o
-  given_first (Some x) (Some r) s m g = g.0
-  given_first (Some x) None s m g = tt
-  given_first None o s m g = tt
+  is_given_first : (h : Option A) (o : Option (Answered A E)) (s m : S) → GivesIf steps (s, h) o m → IsGiven h o
+  is_given_first (Some x) (Some r) s m g = g.0
+  is_given_first (Some x) None s m g = tt
+  is_given_first None o s m g = tt
 
-  pub side_first : (p q : S × Option A) (m : S) (x : X) (places : List X) → GivesIf steps p (gave x) m → SideTrace gave behind steps (m, behind p.1 x) places q → SideTrace gave behind steps p (x ∷ places) q
-  side_first p q m x places g d = record { drawn = drawn_first p.1 (gave x) p.0 m q.0 (drawn_at gave behind (behind p.1 x) places) g d.drawn; held = (given_first p.1 (gave x) p.0 m g, d.held) }
+  pub side_trace_first : (p q : S × Option A) (m : S) (x : X) (places : List X) → GivesIf steps p (gave x) m → SideTrace gave behind steps (m, behind p.1 x) places q → SideTrace gave behind steps p (x ∷ places) q
+  side_trace_first p q m x places g d = record { drawn = run_drawn_first p.1 (gave x) p.0 m q.0 (drawn_at gave behind (behind p.1 x) places) g d.drawn; held = (is_given_first p.1 (gave x) p.0 m g, d.held) }
 
   -- a first place and the others
-  first_drawn : (h : Option A) (o : Option (Answered A E)) (s t : S) (rest : List (Answered A E)) → IsGiven h o → Run steps s (before_drawn h o rest) t → (m : S) × GivesIf steps (s, h) o m × Run steps m rest t
-  first_drawn (Some x) (Some r) s t rest is ran = (s, (is, refl), ran)
-  first_drawn (Some x) None s t rest is ran = (s, refl, ran)
-  first_drawn None None s t rest is ran = (s, refl, ran)
-  first_drawn None (Some r) s t rest is ran = (ran.0, ran.1, ran.2)
+  run_first_and_rest : (h : Option A) (o : Option (Answered A E)) (s t : S) (rest : List (Answered A E)) → IsGiven h o → Run steps s (before_drawn h o rest) t → (m : S) × GivesIf steps (s, h) o m × Run steps m rest t
+  run_first_and_rest (Some x) (Some r) s t rest is ran = (s, (is, refl), ran)
+  run_first_and_rest (Some x) None s t rest is ran = (s, refl, ran)
+  run_first_and_rest None None s t rest is ran = (s, refl, ran)
+  run_first_and_rest None (Some r) s t rest is ran = (ran.0, ran.1, ran.2)
 
   pub side_rest : (p q : S × Option A) (x : X) (places : List X) → SideTrace gave behind steps p (x ∷ places) q → (m : S) × GivesIf steps p (gave x) m × SideTrace gave behind steps (m, behind p.1 x) places q
-  side_rest p q x places d = let f = first_drawn p.1 (gave x) p.0 q.0 (drawn_at gave behind (behind p.1 x) places) d.held.0 d.drawn in (f.0, f.1, record { drawn = f.2; held = d.held.1 })
+  side_rest p q x places d = let f = run_first_and_rest p.1 (gave x) p.0 q.0 (drawn_at gave behind (behind p.1 x) places) d.held.0 d.drawn in (f.0, f.1, record { drawn = f.2; held = d.held.1 })
 
 -- ---- whole traces: both sides
 
 module _ {S U A B C E F V : Type 0} (steps : S → Answered A E → S → Type 0) (others : U → Answered B E → U → Type 0) (rule : Rule A B C E F V) where
-  abbrev Trace : Parts steps others rule → List (Answered C E) → Parts steps others rule → Type 0
-  Trace = SidesTrace steps others rule
+  abbrev TraceOfSides : SidesState steps others rule → List (Answered C E) → SidesState steps others rule → Type 0
+  TraceOfSides = SidesTrace steps others rule
 
-  place_first : (x : SidesPlace A B E V) (p m q : Parts steps others rule) (rest : List (Answered C E)) → GivesIf steps p.0 (left_gave x) m.0.0 → m.0.1 ≡ left_behind rule p.0.1 x → GivesIf others p.1 (right_gave x) m.1.0 → m.1.1 ≡ right_behind rule p.1.1 x → place_decides rule p.2 x m.2 → Trace m rest q → Trace p (place_answer rule x ∷ rest) q
-  place_first x p ((s, h), (u, k), f) q rest a e b i c d = record {
+  trace_place_first : (x : SidesPlace A B E V) (p m q : SidesState steps others rule) (rest : List (Answered C E)) → GivesIf steps p.0 (left_gave x) m.0.0 → m.0.1 ≡ left_held_after rule p.0.1 x → GivesIf others p.1 (right_gave x) m.1.0 → m.1.1 ≡ right_held_after rule p.1.1 x → place_decides rule p.2 x m.2 → TraceOfSides m rest q → TraceOfSides p (place_answer rule x ∷ rest) q
+  trace_place_first x p ((s, h), (u, k), f) q rest a e b i c d = record {
     places = x ∷ d.places;
-    left = side_first left_gave (left_behind rule) steps p.0 q.0 s x d.places a (subst (λ (z : Option A). SideTrace left_gave (left_behind rule) steps (s, z) d.places q.0) e d.left);
-    right = side_first right_gave (right_behind rule) others p.1 q.1 u x d.places b (subst (λ (z : Option B). SideTrace right_gave (right_behind rule) others (u, z) d.places q.1) i d.right);
+    left = side_trace_first left_gave (left_held_after rule) steps p.0 q.0 s x d.places a (subst (λ (z : Option A). SideTrace left_gave (left_held_after rule) steps (s, z) d.places q.0) e d.left);
+    right = side_trace_first right_gave (right_held_after rule) others p.1 q.1 u x d.places b (subst (λ (z : Option B). SideTrace right_gave (right_held_after rule) others (u, z) d.places q.1) i d.right);
     decided = (f, c, d.decided);
     answers = ap {B = List (Answered C E)} (λ l. place_answer rule x ∷ l) d.answers;
   }
 
-  to_places : (trace : List (Answered C E)) (p q : Parts steps others rule) → Run (Step steps others rule) p trace q → Trace p trace q
-  to_places [] p q e = record { places = []; left = record { drawn = ap (λ (z : Parts steps others rule). z.0.0) e; held = ap (λ (z : Parts steps others rule). z.0.1) (sym e) }; right = record { drawn = ap (λ (z : Parts steps others rule). z.1.0) e; held = ap (λ (z : Parts steps others rule). z.1.1) (sym e) }; decided = ap (λ (z : Parts steps others rule). z.2) e; answers = refl }
-  to_places (r ∷ rest) p q ran = let w = ran.1 in rw w.6 (place_first w.0 p ran.0 q rest w.1 w.2 w.3 w.4 w.5 (to_places rest ran.0 q ran.2))
+  trace_places : (trace : List (Answered C E)) (p q : SidesState steps others rule) → Run (SidesStep steps others rule) p trace q → TraceOfSides p trace q
+  trace_places [] p q e = record { places = []; left = record { drawn = ap (λ (z : SidesState steps others rule). z.0.0) e; held = ap (λ (z : SidesState steps others rule). z.0.1) (sym e) }; right = record { drawn = ap (λ (z : SidesState steps others rule). z.1.0) e; held = ap (λ (z : SidesState steps others rule). z.1.1) (sym e) }; decided = ap (λ (z : SidesState steps others rule). z.2) e; answers = refl }
+  trace_places (r ∷ rest) p q ran = let w = ran.1 in rw w.6 (trace_place_first w.0 p ran.0 q rest w.1 w.2 w.3 w.4 w.5 (trace_places rest ran.0 q ran.2))
 
-  from_places : (places : List (SidesPlace A B E V)) (p q : Parts steps others rule) → SideTrace left_gave (left_behind rule) steps p.0 places q.0 → SideTrace right_gave (right_behind rule) others p.1 places q.1 → FoldsTo (place_decides rule) p.2 places q.2 → Run (Step steps others rule) p (map (place_answer rule) places) q
-  from_places [] ((s, h), (u, k), f) ((t, i), (v, j), g) a b c = rw (a.drawn, a.held, b.drawn, b.held, c) refl
-  from_places (x ∷ places) p q a b c =
-      let m = side_rest left_gave (left_behind rule) steps p.0 q.0 x places a in
-      let n = side_rest right_gave (right_behind rule) others p.1 q.1 x places b in
-      (((m.0, left_behind rule p.0.1 x), (n.0, right_behind rule p.1.1 x), c.0), (x, m.1, refl, n.1, refl, c.1, refl), from_places places ((m.0, left_behind rule p.0.1 x), (n.0, right_behind rule p.1.1 x), c.0) q m.2 n.2 c.2)
+  run_from_places : (places : List (SidesPlace A B E V)) (p q : SidesState steps others rule) → SideTrace left_gave (left_held_after rule) steps p.0 places q.0 → SideTrace right_gave (right_held_after rule) others p.1 places q.1 → FoldsTo (place_decides rule) p.2 places q.2 → Run (SidesStep steps others rule) p (map (place_answer rule) places) q
+  run_from_places [] ((s, h), (u, k), f) ((t, i), (v, j), g) a b c = rw (a.drawn, a.held, b.drawn, b.held, c) refl
+  run_from_places (x ∷ places) p q a b c =
+      let m = side_rest left_gave (left_held_after rule) steps p.0 q.0 x places a in
+      let n = side_rest right_gave (right_held_after rule) others p.1 q.1 x places b in
+      (((m.0, left_held_after rule p.0.1 x), (n.0, right_held_after rule p.1.1 x), c.0), (x, m.1, refl, n.1, refl, c.1, refl), run_from_places places ((m.0, left_held_after rule p.0.1 x), (n.0, right_held_after rule p.1.1 x), c.0) q m.2 n.2 c.2)
 
-  pub sides_law : (p : Parts steps others rule) (trace : List (Answered C E)) (q : Parts steps others rule) → Run (Step steps others rule) p trace q ↔ Trace p trace q
-  sides_law p trace q = (to_places trace p q, (λ d. rw d.answers (from_places d.places p q d.left d.right d.decided)))
+  pub sides_law : (p : SidesState steps others rule) (trace : List (Answered C E)) (q : SidesState steps others rule) → Run (SidesStep steps others rule) p trace q ↔ TraceOfSides p trace q
+  sides_law p trace q = (trace_places trace p q, (λ d. rw d.answers (run_from_places d.places p q d.left d.right d.decided)))
 
 -- ---- what it lists
 
@@ -106,14 +106,14 @@ module _ {S A E : Type 0} (steps : S → Answered A E → S → Type 0) where
   first_for_good (y ∷ l) s t r i w = i r t w
 
   module _ (R : S → List (Result A E) → Type 0) (goes : (s t : S) (r : Answered A E) (l : List (Result A E)) → R s l → steps s r t → (r ≡ first_answer l) × R t (rest_of l)) where
-    ends_by : (trace : List (Answered A E)) (s t u : S) (r : Answered A E) → R s [] → Run steps s trace t → steps t r u → r ≡ end
-    ends_by [] s t u r i ran w = (goes s u r [] i (subst (λ (z : S). steps z r u) (sym ran) w)).0
-    ends_by (a ∷ trace) s t u r i ran w = ends_by trace ran.0 t u r (goes s ran.0 a [] i ran.1).1 ran.2 w
+    end_after_fused_end : (trace : List (Answered A E)) (s t u : S) (r : Answered A E) → R s [] → Run steps s trace t → steps t r u → r ≡ end
+    end_after_fused_end [] s t u r i ran w = (goes s u r [] i (subst (λ (z : S). steps z r u) (sym ran) w)).0
+    end_after_fused_end (a ∷ trace) s t u r i ran w = end_after_fused_end trace ran.0 t u r (goes s ran.0 a [] i ran.1).1 ran.2 w
 
     -- what lists so at each draw lists so for good
-    pub for_good_by : (l : List (Result A E)) (s : S) → R s l → GivesForGood steps s l
-    for_good_by [] s i = record { each = λ trace t u r ran w. ends_by trace s t u r i ran w }
-    for_good_by (y ∷ l) s i = λ r t w. let d = goes s t r (y ∷ l) i w in (d.0, for_good_by l t d.1)
+    pub gives_for_good_of_sides : (l : List (Result A E)) (s : S) → R s l → GivesForGood steps s l
+    gives_for_good_of_sides [] s i = record { each = λ trace t u r ran w. end_after_fused_end trace s t u r i ran w }
+    gives_for_good_of_sides (y ∷ l) s i = λ r t w. let d = goes s t r (y ∷ l) i w in (d.0, gives_for_good_of_sides l t d.1)
 
 -- what a side lists: the held item, and then what its source lists for good
 abbrev pub SideLists : {S A E : Type 0} → (S → Answered A E → S → Type 0) → S × Option A → List (Result A E) → Type 0
@@ -148,12 +148,12 @@ pub record ListsBy {A B C E F V : Type 0} (rule : Rule A B C E F V) (Q : F → T
 
 module _ {S U A B C E F V : Type 0} (steps : S → Answered A E → S → Type 0) (others : U → Answered B E → U → Type 0) (rule : Rule A B C E F V) (Q : F → Type 0) (W : List (Result A E) → List (Result B E) → List (Result C E)) (by : ListsBy rule Q W) (lawful : IsLawfulRule rule) where
   -- the sides list a and b, and the closure is one that is reached
-  abbrev Together : Parts steps others rule → List (Result C E) → Type 0
-  Together p l = (a : List (Result A E)) × (b : List (Result B E)) × SideLists steps p.0 a × SideLists others p.1 b × Q p.2 × (W a b ≡ l)
+  abbrev ListTogether : SidesState steps others rule → List (Result C E) → Type 0
+  ListTogether p l = (a : List (Result A E)) × (b : List (Result B E)) × SideLists steps p.0 a × SideLists others p.1 b × Q p.2 × (W a b ≡ l)
 
   -- one place, where the sides of p list a and b
-  module _ (p : Parts steps others rule) (a : List (Result A E)) (b : List (Result B E)) (i : SideLists steps p.0 a) (k : SideLists others p.1 b) (c : Q p.2) where
-    together_on : (x : SidesPlace A B E V) (t : S) (u : U) (g : F) → GivesIf steps p.0 (left_gave x) t → GivesIf others p.1 (right_gave x) u → place_decides rule p.2 x g → (place_answer rule x ≡ first_answer (W a b)) × Together ((t, left_behind rule p.0.1 x), (u, right_behind rule p.1.1 x), g) (rest_of (W a b))
+  module _ (p : SidesState steps others rule) (a : List (Result A E)) (b : List (Result B E)) (i : SideLists steps p.0 a) (k : SideLists others p.1 b) (c : Q p.2) where
+    together_on : (x : SidesPlace A B E V) (t : S) (u : U) (g : F) → GivesIf steps p.0 (left_gave x) t → GivesIf others p.1 (right_gave x) u → place_decides rule p.2 x g → (place_answer rule x ≡ first_answer (W a b)) × ListTogether ((t, left_held_after rule p.0.1 x), (u, right_held_after rule p.1.1 x), g) (rest_of (W a b))
     together_on (left_failed e) t u g m n d =
         let first = side_gives_first steps p.0 t (failure e) a i m in
         let w = by.left_fails a b e first.0 in
@@ -169,17 +169,17 @@ module _ {S U A B C E F V : Type 0} (steps : S → Answered A E → S → Type 0
         let w = by.both_give a b x y v p.2 g c first.0 second.0 d in
         (w.1, (left_over (rule.left_held x y v) a, left_over (rule.right_held x y v) b, side_lists_on steps t x (rule.left_held x y v) a (lawful.left_kept x y v) first.0 first.1, side_lists_on others u y (rule.right_held x y v) b (lawful.right_kept x y v) second.0 second.1, w.0, w.2))
 
-  together_goes : (p q : Parts steps others rule) (r : Answered C E) (l : List (Result C E)) → Together p l → Step steps others rule p r q → (r ≡ first_answer l) × Together q (rest_of l)
+  together_goes : (p q : SidesState steps others rule) (r : Answered C E) (l : List (Result C E)) → ListTogether p l → SidesStep steps others rule p r q → (r ≡ first_answer l) × ListTogether q (rest_of l)
   together_goes p ((t, h), (u, k), g) r l i w = rw (w.2, w.4, w.6, ← i.5) (together_on p i.0 i.1 i.2 i.3 i.4 w.0 t u g w.1 w.3 w.5)
 
-  pub sides_for_good : (p : Parts steps others rule) (a : List (Result A E)) (b : List (Result B E)) → SideLists steps p.0 a → SideLists others p.1 b → Q p.2 → GivesForGood (Step steps others rule) p (W a b)
-  sides_for_good p a b i k c = for_good_by (Step steps others rule) Together (λ s t r l d w. together_goes s t r l d w) (W a b) p (a, b, i, k, c, refl)
+  pub gives_for_good_sides : (p : SidesState steps others rule) (a : List (Result A E)) (b : List (Result B E)) → SideLists steps p.0 a → SideLists others p.1 b → Q p.2 → GivesForGood (SidesStep steps others rule) p (W a b)
+  gives_for_good_sides p a b i k c = gives_for_good_of_sides (SidesStep steps others rule) ListTogether (λ s t r l d w. together_goes s t r l d w) (W a b) p (a, b, i, k, c, refl)
 
 -- ---- hints
 
-one_at_most : {A : Type 0} (h : Option A) → held_count h ≤ 1
-one_at_most (Some x) = omega arith
-one_at_most None = omega arith
+held_count_one_at_most : {A : Type 0} (h : Option A) → held_count h ≤ 1
+held_count_one_at_most (Some x) = omega arith
+held_count_one_at_most None = omega arith
 
 -- From the side come items and then an end, and they and its held item are n at most.
 pub record ItemsThenEnd {S A E : Type 0} (steps : S → Answered A E → S → Type 0) (p : S × Option A) (n : ℕ) : Type 0 where
@@ -191,15 +191,15 @@ pub record ItemsThenEnd {S A E : Type 0} (steps : S → Answered A E → S → T
   pub few : length came + held_count p.1 ≤ n
 
 module _ {S A E : Type 0} (steps : S → Answered A E → S → Type 0) where
-  items_from : (p : S × Option A) (t : S) (x h : Option A) (n : ℕ) → (h ≡ None) ⊎ (h ≡ x) → Gives steps p (Ok x) t → ItemsThenEnd steps (t, h) n → ItemsThenEnd steps p ((held_count x - held_count h) + n)
-  items_from (s, Some y) t None h n kept g d = absurd (let no = g.0 in cc)
-  items_from (s, Some y) t (Some x) h n kept g d = record { came = d.came; left = d.left; last = d.last; ran = subst (λ (z : S). Yields steps z d.came d.left) g.1 d.ran; ended = d.ended; few = omega (arith, d.few, one_at_most h) }
-  items_from (s, None) t None h n kept g d = record { came = []; left = s; last = t; ran = refl; ended = g; few = omega arith }
-  items_from (s, None) t (Some x) h n kept g d = record { came = x ∷ d.came; left = d.left; last = d.last; ran = (t, g, d.ran); ended = d.ended; few = omega (arith, d.few, one_at_most h) }
+  items_then_end_from : (p : S × Option A) (t : S) (x h : Option A) (n : ℕ) → (h ≡ None) ⊎ (h ≡ x) → Gives steps p (Ok x) t → ItemsThenEnd steps (t, h) n → ItemsThenEnd steps p ((held_count x - held_count h) + n)
+  items_then_end_from (s, Some y) t None h n kept g d = absurd (let no = g.0 in cc)
+  items_then_end_from (s, Some y) t (Some x) h n kept g d = record { came = d.came; left = d.left; last = d.last; ran = subst (λ (z : S). Yields steps z d.came d.left) g.1 d.ran; ended = d.ended; few = omega (arith, d.few, held_count_one_at_most h) }
+  items_then_end_from (s, None) t None h n kept g d = record { came = []; left = s; last = t; ran = refl; ended = g; few = omega arith }
+  items_then_end_from (s, None) t (Some x) h n kept g d = record { came = x ∷ d.came; left = d.left; last = d.last; ran = (t, g, d.ran); ended = d.ended; few = omega (arith, d.few, held_count_one_at_most h) }
 
-  none_from : (p : S × Option A) (t : S) → Gives steps p end t → ItemsThenEnd steps p 0
-  none_from (s, Some y) t g = absurd (let no = g.0 in cc)
-  none_from (s, None) t g = record { came = []; left = s; last = t; ran = refl; ended = g; few = omega arith }
+  items_then_end_none_from : (p : S × Option A) (t : S) → Gives steps p end t → ItemsThenEnd steps p 0
+  items_then_end_none_from (s, Some y) t g = absurd (let no = g.0 in cc)
+  items_then_end_none_from (s, None) t g = record { came = []; left = s; last = t; ran = refl; ended = g; few = omega arith }
 
 -- How many items are yielded where so many of each side are consumed; an end is yielded at an end of both.
 pub record GivesAsMany {A B C E F V : Type 0} (rule : Rule A B C E F V) (many : ℕ → ℕ → ℕ) : Type 0 where
@@ -209,40 +209,40 @@ pub record GivesAsMany {A B C E F V : Type 0} (rule : Rule A B C E F V) (many : 
 
 module _ {S U A B C E F V : Type 0} (steps : S → Answered A E → S → Type 0) (others : U → Answered B E → U → Type 0) (rule : Rule A B C E F V) (many : ℕ → ℕ → ℕ) (by : GivesAsMany rule many) (lawful : IsLawfulRule rule) where
   -- Both sides yield items and then an end, and as many as these make came at least.
-  pub record BothEnd (p : Parts steps others rule) (n : ℕ) : Type 0 where
+  pub record BothEnd (p : SidesState steps others rule) (n : ℕ) : Type 0 where
     pub of_left : ℕ
     pub of_right : ℕ
     pub left : ItemsThenEnd steps p.0 of_left
     pub right : ItemsThenEnd others p.1 of_right
     pub few : many of_left of_right ≤ n
 
-  both_end_now : (p : Parts steps others rule) (t : S) (u : U) (g : F) (x : SidesPlace A B E V) → GivesIf steps p.0 (left_gave x) t → GivesIf others p.1 (right_gave x) u → place_decides rule p.2 x g → place_answer rule x ≡ end → BothEnd p 0
+  both_end_now : (p : SidesState steps others rule) (t : S) (u : U) (g : F) (x : SidesPlace A B E V) → GivesIf steps p.0 (left_gave x) t → GivesIf others p.1 (right_gave x) u → place_decides rule p.2 x g → place_answer rule x ≡ end → BothEnd p 0
   both_end_now p t u g (left_failed e) m n d is = absurd cc
   both_end_now p t u g (right_failed x e) m n d is = absurd cc
   both_end_now p t u g (both_gave x y v) m n d is =
       let no = by.end_given p.2 g x y v d is in
-      record { of_left = 0; of_right = 0; left = none_from steps p.0 t (subst (λ (z : Option A). Gives steps p.0 (Ok z) t) no.0 m); right = none_from others p.1 u (subst (λ (z : Option B). Gives others p.1 (Ok z) u) no.1 n); few = omega (arith, by.nothing) }
+      record { of_left = 0; of_right = 0; left = items_then_end_none_from steps p.0 t (subst (λ (z : Option A). Gives steps p.0 (Ok z) t) no.0 m); right = items_then_end_none_from others p.1 u (subst (λ (z : Option B). Gives others p.1 (Ok z) u) no.1 n); few = omega (arith, by.nothing) }
 
-  both_end_on : (p : Parts steps others rule) (t : S) (u : U) (g : F) (x : SidesPlace A B E V) (z : C) (k : ℕ) → GivesIf steps p.0 (left_gave x) t → GivesIf others p.1 (right_gave x) u → place_decides rule p.2 x g → place_answer rule x ≡ item z → BothEnd ((t, left_behind rule p.0.1 x), (u, right_behind rule p.1.1 x), g) k → BothEnd p (k + 1)
+  both_end_on : (p : SidesState steps others rule) (t : S) (u : U) (g : F) (x : SidesPlace A B E V) (z : C) (k : ℕ) → GivesIf steps p.0 (left_gave x) t → GivesIf others p.1 (right_gave x) u → place_decides rule p.2 x g → place_answer rule x ≡ item z → BothEnd ((t, left_held_after rule p.0.1 x), (u, right_held_after rule p.1.1 x), g) k → BothEnd p (k + 1)
   both_end_on p t u g (left_failed e) z k m n d is b = absurd cc
   both_end_on p t u g (right_failed x e) z k m n d is b = absurd cc
   both_end_on p t u g (both_gave x y v) z k m n d is b = record {
     of_left = (held_count x - held_count (rule.left_held x y v)) + b.of_left;
     of_right = (held_count y - held_count (rule.right_held x y v)) + b.of_right;
-    left = items_from steps p.0 t x (rule.left_held x y v) b.of_left (lawful.left_kept x y v) m b.left;
-    right = items_from others p.1 u y (rule.right_held x y v) b.of_right (lawful.right_kept x y v) n b.right;
+    left = items_then_end_from steps p.0 t x (rule.left_held x y v) b.of_left (lawful.left_kept x y v) m b.left;
+    right = items_then_end_from others p.1 u y (rule.right_held x y v) b.of_right (lawful.right_kept x y v) n b.right;
     few = omega (arith, by.item_given p.2 g x y v z b.of_left b.of_right d is, b.few);
   }
 
-  both_end_first : (p q : Parts steps others rule) (z : C) (k : ℕ) → Step steps others rule p (item z) q → BothEnd q k → BothEnd p (k + 1)
-  both_end_first p ((t, h), (u, i), g) z k w b = both_end_on p t u g w.0 z k w.1 w.3 w.5 (sym w.6) (subst (λ (e : Option A). BothEnd ((t, e), (u, right_behind rule p.1.1 w.0), g) k) w.2 (subst (λ (e : Option B). BothEnd ((t, h), (u, e), g) k) w.4 b))
+  both_end_first : (p q : SidesState steps others rule) (z : C) (k : ℕ) → SidesStep steps others rule p (item z) q → BothEnd q k → BothEnd p (k + 1)
+  both_end_first p ((t, h), (u, i), g) z k w b = both_end_on p t u g w.0 z k w.1 w.3 w.5 (sym w.6) (subst (λ (e : Option A). BothEnd ((t, e), (u, right_held_after rule p.1.1 w.0), g) k) w.2 (subst (λ (e : Option B). BothEnd ((t, h), (u, e), g) k) w.4 b))
 
   -- a run of items and then an end
-  pub both_end : (zs : List C) (p q r : Parts steps others rule) → Yields (Step steps others rule) p zs q → Step steps others rule q end r → BothEnd p (length zs)
-  both_end [] p q ((t, h), (u, k), g) ran w = subst (λ (z : Parts steps others rule). BothEnd z 0) (sym ran) (both_end_now q t u g w.0 w.1 w.3 w.5 (sym w.6))
+  pub both_end : (zs : List C) (p q r : SidesState steps others rule) → Yields (SidesStep steps others rule) p zs q → SidesStep steps others rule q end r → BothEnd p (length zs)
+  both_end [] p q ((t, h), (u, k), g) ran w = subst (λ (z : SidesState steps others rule). BothEnd z 0) (sym ran) (both_end_now q t u g w.0 w.1 w.3 w.5 (sym w.6))
   both_end (z ∷ zs) p q r ran w = let b = both_end_first p ran.0 z (length zs) ran.1 (both_end zs ran.0 q r ran.2 w) in record { of_left = b.of_left; of_right = b.of_right; left = b.left; right = b.right; few = omega (arith, b.few) }
 
 -- a lower bound of a side's source bounds what the side yields
-pub low_of : {A : Type 0} (h : Option A) (n i j : ℕ) → i ≤ j → j + held_count h ≤ n → low_with h i ≤ n
-low_of (Some x) n i j le few = omega (arith, le, few)
-low_of None n i j le few = omega (arith, le, few)
+pub low_with_of : {A : Type 0} (h : Option A) (n i j : ℕ) → i ≤ j → j + held_count h ≤ n → low_with h i ≤ n
+low_with_of (Some x) n i j le few = omega (arith, le, few)
+low_with_of None n i j le few = omega (arith, le, few)

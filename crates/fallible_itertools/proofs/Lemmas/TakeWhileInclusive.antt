@@ -14,15 +14,15 @@ use Rattle.fallible_iterator.specs.Cutting.TakeWhile.{is_refused, place_drawn}
 use Rattle.fallible_iterator.specs.SoundHints.{BoundsBelow, AsSound}
 use Rattle.fallible_iterator.proofs.Lemmas.Closing.{closing_law}
 use Rattle.fallible_iterator.proofs.Lemmas.Lists.Passing.{lists_seen}
-use Rattle.fallible_iterator.proofs.Lemmas.Cutting.TakeWhile.{to_both, from_both}
-use Rattle.fallible_iterator.proofs.Lemmas.Hints.Drawn.{ItemsOfItems, above_of_source}
+use Rattle.fallible_iterator.proofs.Lemmas.Cutting.TakeWhile.{both_of_folds_to, folds_to_of_both}
+use Rattle.fallible_iterator.proofs.Lemmas.Hints.Drawn.{ItemsOfItems, bounds_above_of_source}
 use Rattle.fallible_itertools.specs.TakeWhileInclusive.{cons_through, taken_while_inclusive, inclusive_outcome, inclusive_answer, hint_of_first, InclusiveTrace, inclusive_parts, inclusive_contract}
 use Rattle.fallible_itertools.specs.declared.take_while_inclusive.TakeWhileInclusive.{TakeWhileInclusive}
 
 -- it leaves nothing out
-pub leaves_none_out : {X E : Type 0} → LeavesNoneOut {X = X} {B = X} {E = E} inclusive_outcome
-leaves_none_out x (Ok b) = refl
-leaves_none_out x (Err e) = refl
+pub leaves_none_out_of_inclusive : {X E : Type 0} → LeavesNoneOut {X = X} {B = X} {E = E} inclusive_outcome
+leaves_none_out_of_inclusive x (Ok b) = refl
+leaves_none_out_of_inclusive x (Err e) = refl
 
 module _ {S F X E : Type 0} (steps : S → Answered X E → S → Type 0) (call : F → X → Result Bool E → F → Type 0) where
   -- one draw
@@ -31,88 +31,88 @@ module _ {S F X E : Type 0} (steps : S → Answered X E → S → Type 0) (call 
 
   pub inclusive_law : (p : (S × F) × Bool) (trace : List (Answered X E)) (q : (S × F) × Bool) → FoldsTo inclusive_step p trace q ↔ InclusiveTrace steps call p trace q
   inclusive_law p trace q = let law = closing_law (place_drawn steps call) inclusive_answer is_refused p.0 p.1 trace q.0 q.1 in
-      ((λ h. let d = law.0 h in let both = to_both steps call d.0 (p.0).0 (p.0).1 (q.0).0 (q.0).1 d.1 in record { places = d.0; drawn = both.0; called = both.1; cut = d.2 }), (λ h. law.1 (h.places, from_both steps call h.places (p.0).0 (p.0).1 (q.0).0 (q.0).1 (h.drawn, h.called), h.cut)))
+      ((λ h. let d = law.0 h in let both = both_of_folds_to steps call d.0 (p.0).0 (p.0).1 (q.0).0 (q.0).1 d.1 in record { places = d.0; drawn = both.0; called = both.1; cut = d.2 }), (λ h. law.1 (h.places, folds_to_of_both steps call h.places (p.0).0 (p.0).1 (q.0).0 (q.0).1 (h.drawn, h.called), h.cut)))
 
 -- ---- what it lists
 
 module _ {S F X E : Type 0} (steps : S → Answered X E → S → Type 0) (call : F → X → Result Bool E → F → Type 0) (f : F) (h : X → Result Bool E) (acts : Acts call f h) where
-  abbrev Gives : S → F → Bool → List (Result X E) → Type 0
-  Gives s g b l = AlwaysGives (inclusive_step steps call) ((s, g), b) l
+  abbrev GivesInclusive : S → F → Bool → List (Result X E) → Type 0
+  GivesInclusive s g b l = AlwaysGives (inclusive_step steps call) ((s, g), b) l
 
   -- where the flag and the predicate are known
-  gives_where : (t : S) (k : F) (b c : Bool) (l : List (Result X E)) → k ≡ f → b ≡ c → Gives t f c l → Gives t k b l
-  gives_where t k b c l same is g = subst (λ (z : F). Gives t z b l) (sym same) (subst (λ (z : Bool). Gives t f z l) (sym is) g)
+  gives_inclusive_of_draws : (t : S) (k : F) (b c : Bool) (l : List (Result X E)) → k ≡ f → b ≡ c → GivesInclusive t f c l → GivesInclusive t k b l
+  gives_inclusive_of_draws t k b c l same is g = subst (λ (z : F). GivesInclusive t z b l) (sym same) (subst (λ (z : Bool). GivesInclusive t f z l) (sym is) g)
 
   -- the place of the first draw, where the list is empty, begins with a failure, or with an item
-  at_none : (z : Place X (Result Bool E) E) (s t : S) (r : Answered X E) → AlwaysGives {A = X} steps s [] → steps s (source_answer z) t → r ≡ inclusive_answer z → r ≡ end
-  at_none (asked y v) s t r a step e = absurd (let d = a (item y) t step in cc)
-  at_none (failure_at d) s t r a step e = absurd (let k = a (Err d) t step in cc)
-  at_none end_at s t r a step e = e
+  end_of_nil : (z : Place X (Result Bool E) E) (s t : S) (r : Answered X E) → AlwaysGives {A = X} steps s [] → steps s (source_answer z) t → r ≡ inclusive_answer z → r ≡ end
+  end_of_nil (asked y v) s t r a step e = absurd (let d = a (item y) t step in cc)
+  end_of_nil (failure_at d) s t r a step e = absurd (let k = a (Err d) t step in cc)
+  end_of_nil end_at s t r a step e = e
 
-  at_failure : (z : Place X (Result Bool E) E) (d : E) (l : List (Result X E)) (s t : S) (k : F) → AlwaysGives steps s (Err d ∷ l) → place_drawn steps call (s, f) z (t, k) → (z ≡ failure_at d) × AlwaysGives steps t l × (k ≡ f)
-  at_failure (asked y v) d l s t k a drawn = absurd (let q = (a (item y) t drawn.0).0 in cc)
-  at_failure (failure_at c) d l s t k a drawn = let q = a (Err c) t drawn.0 in let same : c ≡ d = (let e = q.0 in cc) in (ap (λ (e : E). failure_at e) same, q.1, sym drawn.1)
-  at_failure end_at d l s t k a drawn = absurd (let q = (a end t drawn.0).0 in cc)
+  failure_of_first : (z : Place X (Result Bool E) E) (d : E) (l : List (Result X E)) (s t : S) (k : F) → AlwaysGives steps s (Err d ∷ l) → place_drawn steps call (s, f) z (t, k) → (z ≡ failure_at d) × AlwaysGives steps t l × (k ≡ f)
+  failure_of_first (asked y v) d l s t k a drawn = absurd (let q = (a (item y) t drawn.0).0 in cc)
+  failure_of_first (failure_at c) d l s t k a drawn = let q = a (Err c) t drawn.0 in let same : c ≡ d = (let e = q.0 in cc) in (ap (λ (e : E). failure_at e) same, q.1, sym drawn.1)
+  failure_of_first end_at d l s t k a drawn = absurd (let q = (a end t drawn.0).0 in cc)
 
-  at_item : (z : Place X (Result Bool E) E) (x : X) (l : List (Result X E)) (s t : S) (k : F) → AlwaysGives steps s (Ok x ∷ l) → place_drawn steps call (s, f) z (t, k) → (z ≡ asked x (h x)) × AlwaysGives steps t l × (k ≡ f)
-  at_item (asked y v) x l s t k a drawn =
+  item_of_first : (z : Place X (Result Bool E) E) (x : X) (l : List (Result X E)) (s t : S) (k : F) → AlwaysGives steps s (Ok x ∷ l) → place_drawn steps call (s, f) z (t, k) → (z ≡ asked x (h x)) × AlwaysGives steps t l × (k ≡ f)
+  item_of_first (asked y v) x l s t k a drawn =
       let q = a (item y) t drawn.0 in
       let same : y ≡ x = (let e = q.0 in cc) in
       let called = acts y v drawn.1.0 drawn.1.1 in
       (ap (λ (w : Result Bool E). asked y w) called.1 ∙ ap (λ (w : X). asked w (h w)) same, q.1, sym drawn.1.2 ∙ called.0)
-  at_item (failure_at c) x l s t k a drawn = absurd (let q = (a (Err c) t drawn.0).0 in cc)
-  at_item end_at x l s t k a drawn = absurd (let q = (a end t drawn.0).0 in cc)
+  item_of_first (failure_at c) x l s t k a drawn = absurd (let q = (a (Err c) t drawn.0).0 in cc)
+  item_of_first end_at x l s t k a drawn = absurd (let q = (a end t drawn.0).0 in cc)
 
-  through_item : (x : X) (v : Result Bool E) (l rest : List (Result X E)) (s : S) → h x ≡ v → AlwaysGives steps s (Ok x ∷ l) → ((u : S) → AlwaysGives steps u l → Gives u f false rest) → Gives s f false (cons_through x v rest)
-  through_item x (Ok true) l rest s is a then = λ r q w. let d = at_item w.0 x l s (q.0).0 (q.0).1 a w.1 in let z : w.0 ≡ asked x (Ok true) = d.0 ∙ ap (λ (v : Result Bool E). asked x v) is in
-      (w.2 ∙ ap inclusive_answer z, gives_where (q.0).0 (q.0).1 q.1 false rest d.2 (w.3 ∙ ap is_refused z) (then (q.0).0 d.1))
-  through_item x (Ok false) l rest s is a then = λ r q w. let d = at_item w.0 x l s (q.0).0 (q.0).1 a w.1 in let z : w.0 ≡ asked x (Ok false) = d.0 ∙ ap (λ (v : Result Bool E). asked x v) is in
-      (w.2 ∙ ap inclusive_answer z, gives_where (q.0).0 (q.0).1 q.1 true [] d.2 (w.3 ∙ ap is_refused z) (λ r t over. over.0))
-  through_item x (Err e) l rest s is a then = λ r q w. let d = at_item w.0 x l s (q.0).0 (q.0).1 a w.1 in let z : w.0 ≡ asked x (Err e) = d.0 ∙ ap (λ (v : Result Bool E). asked x v) is in
-      (w.2 ∙ ap inclusive_answer z, gives_where (q.0).0 (q.0).1 q.1 false rest d.2 (w.3 ∙ ap is_refused z) (then (q.0).0 d.1))
+  gives_through_item : (x : X) (v : Result Bool E) (l rest : List (Result X E)) (s : S) → h x ≡ v → AlwaysGives steps s (Ok x ∷ l) → ((u : S) → AlwaysGives steps u l → GivesInclusive u f false rest) → GivesInclusive s f false (cons_through x v rest)
+  gives_through_item x (Ok true) l rest s is a then = λ r q w. let d = item_of_first w.0 x l s (q.0).0 (q.0).1 a w.1 in let z : w.0 ≡ asked x (Ok true) = d.0 ∙ ap (λ (v : Result Bool E). asked x v) is in
+      (w.2 ∙ ap inclusive_answer z, gives_inclusive_of_draws (q.0).0 (q.0).1 q.1 false rest d.2 (w.3 ∙ ap is_refused z) (then (q.0).0 d.1))
+  gives_through_item x (Ok false) l rest s is a then = λ r q w. let d = item_of_first w.0 x l s (q.0).0 (q.0).1 a w.1 in let z : w.0 ≡ asked x (Ok false) = d.0 ∙ ap (λ (v : Result Bool E). asked x v) is in
+      (w.2 ∙ ap inclusive_answer z, gives_inclusive_of_draws (q.0).0 (q.0).1 q.1 true [] d.2 (w.3 ∙ ap is_refused z) (λ r t over. over.0))
+  gives_through_item x (Err e) l rest s is a then = λ r q w. let d = item_of_first w.0 x l s (q.0).0 (q.0).1 a w.1 in let z : w.0 ≡ asked x (Err e) = d.0 ∙ ap (λ (v : Result Bool E). asked x v) is in
+      (w.2 ∙ ap inclusive_answer z, gives_inclusive_of_draws (q.0).0 (q.0).1 q.1 false rest d.2 (w.3 ∙ ap is_refused z) (then (q.0).0 d.1))
 
-  inclusive_gives : (l : List (Result X E)) (s : S) → AlwaysGives steps s l → Gives s f false (taken_while_inclusive h l)
+  gives_inclusive : (l : List (Result X E)) (s : S) → AlwaysGives steps s l → GivesInclusive s f false (taken_while_inclusive h l)
   unfolding taken_while_inclusive
-  inclusive_gives [] s a = λ r q w. at_none w.0 s (q.0).0 r a w.1.0 w.2
-  inclusive_gives (Ok x ∷ l) s a = through_item x (h x) l (taken_while_inclusive h l) s refl a (λ u b. inclusive_gives l u b)
-  inclusive_gives (Err e ∷ l) s a = λ r q w. let d = at_failure w.0 e l s (q.0).0 (q.0).1 a w.1 in
-      (w.2 ∙ ap inclusive_answer d.0, gives_where (q.0).0 (q.0).1 q.1 false (taken_while_inclusive h l) d.2 (w.3 ∙ ap is_refused d.0) (inclusive_gives l (q.0).0 d.1))
+  gives_inclusive [] s a = λ r q w. end_of_nil w.0 s (q.0).0 r a w.1.0 w.2
+  gives_inclusive (Ok x ∷ l) s a = gives_through_item x (h x) l (taken_while_inclusive h l) s refl a (λ u b. gives_inclusive l u b)
+  gives_inclusive (Err e ∷ l) s a = λ r q w. let d = failure_of_first w.0 e l s (q.0).0 (q.0).1 a w.1 in
+      (w.2 ∙ ap inclusive_answer d.0, gives_inclusive_of_draws (q.0).0 (q.0).1 q.1 false (taken_while_inclusive h l) d.2 (w.3 ∙ ap is_refused d.0) (gives_inclusive l (q.0).0 d.1))
 
 pub lists_inclusive : {S F X E : Type 0} (m : Contract S X E) (g : Mut F (Bor X × Unit {0}) (Result Bool E)) (s : TakeWhileInclusive S F) (f : F) (h : X → Result Bool E) (l : List (Result X E)) → inclusive_parts s ≡ ((s.it, f), false) → Acts (call_at g) f h → Lists m.steps s.it l
     → Lists (seen_as inclusive_parts (inclusive_contract m g)).steps s (taken_while_inclusive h l)
-lists_inclusive m g s f h l parts a i = lists_seen inclusive_parts (inclusive_contract m g).steps s parts refl (inclusive_gives m.steps (call_at g) f h a l s.it i.runs)
+lists_inclusive m g s f h l parts a i = lists_seen inclusive_parts (inclusive_contract m g).steps s parts refl (gives_inclusive m.steps (call_at g) f h a l s.it i.runs)
 
 -- ---- its hint
 
 module _ {S F X E : Type 0} (steps : S → Answered X E → S → Type 0) (call : F → X → Result Bool E → F → Type 0) where
-  given : (z : Place X (Result Bool E) E) (y : X) → item y ≡ inclusive_answer z → (x : X) × (source_answer z ≡ item x)
-  given (asked x v) y e = (x, refl)
-  given (failure_at d) y e = absurd cc
-  given end_at y e = absurd cc
+  item_given : (z : Place X (Result Bool E) E) (y : X) → item y ≡ inclusive_answer z → (x : X) × (source_answer z ≡ item x)
+  item_given (asked x v) y e = (x, refl)
+  item_given (failure_at d) y e = absurd cc
+  item_given end_at y e = absurd cc
 
-  one_given : (p q : (S × F) × Bool) (y : X) → inclusive_step steps call p (item y) q → (xs : List X) × Yields steps (p.0).0 xs (q.0).0 × (1 ≤ length xs)
-  one_given (p, true) q y w = absurd (let e = w.0 in cc)
-  one_given (p, false) q y w = let d = given w.0 y w.2 in (d.0 ∷ [], ((q.0).0, subst (λ (r : Answered X E). steps p.0 r (q.0).0) d.1 w.1.0, refl), omega arith)
+  yields_one_at_least : (p q : (S × F) × Bool) (y : X) → inclusive_step steps call p (item y) q → (xs : List X) × Yields steps (p.0).0 xs (q.0).0 × (1 ≤ length xs)
+  yields_one_at_least (p, true) q y w = absurd (let e = w.0 in cc)
+  yields_one_at_least (p, false) q y w = let d = item_given w.0 y w.2 in (d.0 ∷ [], ((q.0).0, subst (λ (r : Answered X E). steps p.0 r (q.0).0) d.1 w.1.0, refl), omega arith)
 
   -- an item of it comes of one of the source
-  pub inclusive_items : ItemsOfItems (inclusive_step steps call) steps (λ p. (p.0).0) (λ p. Unit {0})
-  inclusive_items = record { drawn = λ p q y _ w. let d = one_given p q y w in (d.0, d.1, d.2, tt) }
+  pub items_of_items_inclusive : ItemsOfItems (inclusive_step steps call) steps (λ p. (p.0).0) (λ p. Unit {0})
+  items_of_items_inclusive = record { drawn = λ p q y _ w. let d = yields_one_at_least p q y w in (d.0, d.1, d.2, tt) }
 
-  ended : (z : Place X (Result Bool E) E) → end ≡ inclusive_answer z → source_answer z ≡ end
-  ended (asked x (Ok b)) e = absurd cc
-  ended (asked x (Err d)) e = absurd cc
-  ended (failure_at d) e = absurd cc
-  ended end_at e = refl
+  end_given : (z : Place X (Result Bool E) E) → end ≡ inclusive_answer z → source_answer z ≡ end
+  end_given (asked x (Ok b)) e = absurd cc
+  end_given (asked x (Err d)) e = absurd cc
+  end_given (failure_at d) e = absurd cc
+  end_given end_at e = refl
 
   -- where no item came before an end, the source ended
-  below_first : (xs : List X) (p t u : (S × F) × Bool) (n : ℕ) → p.1 ≡ false → BoundsBelow steps (p.0).0 n → Yields (inclusive_step steps call) p xs t → inclusive_step steps call t end u → min n 1 ≤ length xs
-  below_first (x ∷ xs) p t u n unrefused b ran w = omega arith
-  below_first [] (p, true) t u n unrefused b ran w = absurd cc
-  below_first [] (p, false) t u n unrefused b ran w = let first : inclusive_step steps call (p, false) end u = subst (λ (z : (S × F) × Bool). inclusive_step steps call z end u) (sym ran) w in
-      let le = b [] p.0 (u.0).0 refl (subst (λ (r : Answered X E). steps p.0 r (u.0).0) (ended first.0 first.2) first.1.0) in omega (arith, le)
+  min_one_at_most : (xs : List X) (p t u : (S × F) × Bool) (n : ℕ) → p.1 ≡ false → BoundsBelow steps (p.0).0 n → Yields (inclusive_step steps call) p xs t → inclusive_step steps call t end u → min n 1 ≤ length xs
+  min_one_at_most (x ∷ xs) p t u n unrefused b ran w = omega arith
+  min_one_at_most [] (p, true) t u n unrefused b ran w = absurd cc
+  min_one_at_most [] (p, false) t u n unrefused b ran w = let first : inclusive_step steps call (p, false) end u = subst (λ (z : (S × F) × Bool). inclusive_step steps call z end u) (sym ran) w in
+      let le = b [] p.0 (u.0).0 refl (subst (λ (r : Answered X E). steps p.0 r (u.0).0) (end_given first.0 first.2) first.1.0) in omega (arith, le)
 
-  pub inclusive_sound : (p : (S × F) × Bool) (h k : ℕ × Option ℕ) → p.1 ≡ false → h ≡ hint_of_first k → AsSound (inclusive_step steps call) p h steps (p.0).0 k
-  inclusive_sound p h k unrefused is = subst (λ (j : ℕ × Option ℕ). AsSound (inclusive_step steps call) p j steps (p.0).0 k) (sym is) (record {
-    above = λ b. above_of_source (inclusive_step steps call) steps (λ p. (p.0).0) (λ p. Unit {0}) inclusive_items p tt k.1 b;
-    below = λ b xs t u ran step. below_first xs p t u k.0 unrefused b ran step;
+  pub as_sound_inclusive : (p : (S × F) × Bool) (h k : ℕ × Option ℕ) → p.1 ≡ false → h ≡ hint_of_first k → AsSound (inclusive_step steps call) p h steps (p.0).0 k
+  as_sound_inclusive p h k unrefused is = subst (λ (j : ℕ × Option ℕ). AsSound (inclusive_step steps call) p j steps (p.0).0 k) (sym is) (record {
+    above = λ b. bounds_above_of_source (inclusive_step steps call) steps (λ p. (p.0).0) (λ p. Unit {0}) items_of_items_inclusive p tt k.1 b;
+    below = λ b xs t u ran step. min_one_at_most xs p t u k.0 unrefused b ran step;
   })

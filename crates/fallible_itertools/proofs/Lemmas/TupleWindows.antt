@@ -5,8 +5,8 @@ use Rattle.fallible_iterator.specs.Traces.{Answered}
 use Rattle.fallible_iterator.specs.Contract.{Contract, seen_as}
 use Rattle.fallible_iterator.specs.Lists.{Lists}
 use Rattle.fallible_iterator.specs.Passing.{passing_step}
-use Rattle.fallible_iterator.specs.Laws.Passing.{leaves_out, to_passes, from_passes, passes_end, passes_failure}
-use Rattle.fallible_iterator.proofs.Lemmas.Lists.Passing.{passed, all_given, lists_seen}
+use Rattle.fallible_iterator.specs.Laws.Passing.{leaves_out, passes_of_pass_trace, pass_trace_of_passes, pass_trace_end, pass_trace_failure}
+use Rattle.fallible_iterator.proofs.Lemmas.Lists.Passing.{passed, gives_all, lists_seen}
 use Rattle.fallible_itertools.specs.Holding.{as_answered_item}
 use Rattle.fallible_itertools.specs.TupleWindows.{window_at, windows_asks, tuple_windows_contract, tuple_windows_parts, windowed, windows_from}
 use Rattle.std.specs.declared.alloc.AllocError.{AllocError}
@@ -14,61 +14,61 @@ use Rattle.fallible_iterator.specs.Outcome.{Outcome}
 use Rattle.fallible_iterator.specs.Outcome.TheVariants.{Kept, LeftOut, Failure, End}
 use Rattle.fallible_itertools.specs.declared.tuple_windows.TupleWindows.{TupleWindows}
 
-abbrev next : {A : Type 0} → Option A → A → Option A
-next a x = Some x
+abbrev next_item : {A : Type 0} → Option A → A → Option A
+next_item a x = Some x
 
 module _ {A E : Type 0} where
-  abbrev does : Option A → A → Outcome (A × A) E
-  does None x = LeftOut
-  does (Some y) x = Kept (y, x)
+  abbrev window_outcome : Option A → A → Outcome (A × A) E
+  window_outcome None x = LeftOut
+  window_outcome (Some y) x = Kept (y, x)
 
-  abbrev listed : Option A → List (Result A E) → List (Result (A × A) E)
-  listed a l = passed as_answered_item does next a l
+  abbrev windows_listed : Option A → List (Result A E) → List (Result (A × A) E)
+  windows_listed a l = passed as_answered_item window_outcome next_item a l
 
-  from_is : (y : A) (l : List (Result A E)) → listed (Some y) l ≡ windows_from y l
+  windows_listed_is_windows_from : (y : A) (l : List (Result A E)) → windows_listed (Some y) l ≡ windows_from y l
   unfolding windows_from
-  from_is y [] = refl
-  from_is y (Ok x ∷ l) = ap (λ k. Ok (y, x) ∷ k) (from_is x l)
-  from_is y (Err e ∷ l) = ap (λ k. Err e ∷ k) (from_is y l)
+  windows_listed_is_windows_from y [] = refl
+  windows_listed_is_windows_from y (Ok x ∷ l) = ap (λ k. Ok (y, x) ∷ k) (windows_listed_is_windows_from x l)
+  windows_listed_is_windows_from y (Err e ∷ l) = ap (λ k. Err e ∷ k) (windows_listed_is_windows_from y l)
 
-  windowed_is : (l : List (Result A E)) → listed None l ≡ windowed l
+  windows_listed_is_windowed : (l : List (Result A E)) → windows_listed None l ≡ windowed l
   unfolding windowed
-  windowed_is [] = refl
-  windowed_is (Ok x ∷ l) = from_is x l
-  windowed_is (Err e ∷ l) = ap (λ k. Err e ∷ k) (windowed_is l)
+  windows_listed_is_windowed [] = refl
+  windows_listed_is_windowed (Ok x ∷ l) = windows_listed_is_windows_from x l
+  windows_listed_is_windowed (Err e ∷ l) = ap (λ k. Err e ∷ k) (windows_listed_is_windowed l)
 
 module _ {A E : Type 0} (is_clone : A → A → Type 0) (is_infallible : A → Type 0) (from : AllocError → E → Type 0) (equal : (x y : A) → is_clone x y → y ≡ x) (infallible : (x : A) → is_infallible x) where
-  acts_at : (y x : A) (o : Outcome (A × A) E) (q : Option A) → window_at is_clone is_infallible from y x o q → (q ≡ Some x) × (o ≡ Kept (y, x))
-  acts_at y x (Kept both) q w = (w.2, ap {B = Outcome (A × A) E} Kept (pair_is both w.0 (equal x both.1 w.1)))
+  held_and_outcome_at : (y x : A) (o : Outcome (A × A) E) (q : Option A) → window_at is_clone is_infallible from y x o q → (q ≡ Some x) × (o ≡ Kept (y, x))
+  held_and_outcome_at y x (Kept both) q w = (w.2, ap {B = Outcome (A × A) E} Kept (pair_of_items both w.0 (equal x both.1 w.1)))
     where
-      pair_is : (p : A × A) {a b : A} → p.0 ≡ a → p.1 ≡ b → ◌≡◌ {A = A × A} p (a, b)
-      pair_is (c, d) is same = rw (is, same) refl
-  acts_at y x LeftOut q w = absurd w
-  acts_at y x (Failure e) q w = absurd (w.0.0 (infallible x))
-  acts_at y x End q w = absurd w
+      pair_of_items : (p : A × A) {a b : A} → p.0 ≡ a → p.1 ≡ b → ◌≡◌ {A = A × A} p (a, b)
+      pair_of_items (c, d) is same = rw (is, same) refl
+  held_and_outcome_at y x LeftOut q w = absurd w
+  held_and_outcome_at y x (Failure e) q w = absurd (w.0.0 (infallible x))
+  held_and_outcome_at y x End q w = absurd w
 
-  acts_on : (a : Option A) (x : A) (o : Outcome (A × A) E) (q : Option A) → windows_asks is_clone is_infallible from a x o q → (q ≡ next a x) × (o ≡ does a x)
-  acts_on None x o q w = (w.1, w.0)
-  acts_on (Some y) x o q w = acts_at y x o q w
+  acts_on_asked : (a : Option A) (x : A) (o : Outcome (A × A) E) (q : Option A) → windows_asks is_clone is_infallible from a x o q → (q ≡ next_item a x) × (o ≡ window_outcome a x)
+  acts_on_asked None x o q w = (w.1, w.0)
+  acts_on_asked (Some y) x o q w = held_and_outcome_at y x o q w
 
-  acts : (p a : Option A) (x : A) (o : Outcome (A × A) E) (q : Option A) → p ≡ a → windows_asks is_clone is_infallible from p x o q → (q ≡ next a x) × (o ≡ does a x)
-  acts p a x o q at w = acts_on a x o q (subst (λ k. windows_asks is_clone is_infallible from k x o q) at w)
+  acts_by_next : (p a : Option A) (x : A) (o : Outcome (A × A) E) (q : Option A) → p ≡ a → windows_asks is_clone is_infallible from p x o q → (q ≡ next_item a x) × (o ≡ window_outcome a x)
+  acts_by_next p a x o q at w = acts_on_asked a x o q (subst (λ k. windows_asks is_clone is_infallible from k x o q) at w)
 
   pub lists_windowed : {S : Type 0} (m : Contract S A E) (s : TupleWindows S A E) (l : List (Result A E)) → tuple_windows_parts s ≡ (s.it, None) → Lists m.steps s.it l → Lists (seen_as tuple_windows_parts (tuple_windows_contract is_clone is_infallible from m)).steps s (windowed l)
-  lists_windowed m s l parts i = lists_seen tuple_windows_parts (tuple_windows_contract is_clone is_infallible from m).steps s parts (windowed_is l) (all_given m.steps (windows_asks is_clone is_infallible from) as_answered_item (λ p a. p ≡ a) does next acts l s.it None None refl i.runs)
+  lists_windowed m s l parts i = lists_seen tuple_windows_parts (tuple_windows_contract is_clone is_infallible from m).steps s parts (windows_listed_is_windowed l) (gives_all m.steps (windows_asks is_clone is_infallible from) as_answered_item (λ p a. p ≡ a) window_outcome next_item acts_by_next l s.it None None refl i.runs)
 
 -- ---- one draw where none is held
 
 module _ {S A E : Type 0} (steps : S → Answered A E → S → Type 0) (is_clone : A → A → Type 0) (is_infallible : A → Type 0) (from : AllocError → E → Type 0) where
-  abbrev Step : S × Option A → Answered (A × A) E → S × Option A → Type 0
-  Step = passing_step steps (windows_asks is_clone is_infallible from) as_answered_item
+  abbrev StepOfTupleWindows : S × Option A → Answered (A × A) E → S × Option A → Type 0
+  StepOfTupleWindows = passing_step steps (windows_asks is_clone is_infallible from) as_answered_item
 
   -- the first item, and then a pair
-  pub first_before : {s u : S} {held : Option A} {q : S × Option A} (x : A) {r : Answered (A × A) E} → None ≡ held → steps s (Ok (Some x)) u → Step (u, Some x) r q → Step (s, held) r q
-  first_before {s = s} {q = q} x {r = r} none step w = subst (λ (h : Option A). Step (s, h) r q) none (from_passes (leaves_out x LeftOut step (refl, refl) refl (to_passes w)))
+  pub step_first_before : {s u : S} {held : Option A} {q : S × Option A} (x : A) {r : Answered (A × A) E} → None ≡ held → steps s (Ok (Some x)) u → StepOfTupleWindows (u, Some x) r q → StepOfTupleWindows (s, held) r q
+  step_first_before {s = s} {q = q} x {r = r} none step w = subst (λ (h : Option A). StepOfTupleWindows (s, h) r q) none (pass_trace_of_passes (leaves_out x LeftOut step (refl, refl) refl (passes_of_pass_trace w)))
 
-  pub ended_first : {s t : S} {held after : Option A} → None ≡ held → after ≡ None → steps s (Ok None) t → Step (s, held) (Ok None) (t, after)
-  ended_first {s = s} {t = t} {after = after} none is step = subst (λ (h : Option A). Step (s, h) (Ok None) (t, after)) none (subst (λ (h : Option A). Step (s, None) (Ok None) (t, h)) (sym is) (passes_end step))
+  pub step_ended_first : {s t : S} {held after : Option A} → None ≡ held → after ≡ None → steps s (Ok None) t → StepOfTupleWindows (s, held) (Ok None) (t, after)
+  step_ended_first {s = s} {t = t} {after = after} none is step = subst (λ (h : Option A). StepOfTupleWindows (s, h) (Ok None) (t, after)) none (subst (λ (h : Option A). StepOfTupleWindows (s, None) (Ok None) (t, h)) (sym is) (pass_trace_end step))
 
-  pub failed_first : {s t : S} {held after : Option A} {e : E} → None ≡ held → after ≡ None → steps s (Err e) t → Step (s, held) (Err e) (t, after)
-  failed_first {s = s} {t = t} {after = after} {e = e} none is step = subst (λ (h : Option A). Step (s, h) (Err e) (t, after)) none (subst (λ (h : Option A). Step (s, None) (Err e) (t, h)) (sym is) (passes_failure step))
+  pub step_failed_first : {s t : S} {held after : Option A} {e : E} → None ≡ held → after ≡ None → steps s (Err e) t → StepOfTupleWindows (s, held) (Err e) (t, after)
+  step_failed_first {s = s} {t = t} {after = after} {e = e} none is step = subst (λ (h : Option A). StepOfTupleWindows (s, h) (Err e) (t, after)) none (subst (λ (h : Option A). StepOfTupleWindows (s, None) (Err e) (t, h)) (sym is) (pass_trace_failure step))

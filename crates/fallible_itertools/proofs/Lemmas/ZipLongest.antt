@@ -8,10 +8,10 @@ use Rattle.fallible_iterator.specs.Held.{held_count}
 use Rattle.fallible_iterator.specs.Lists.{Lists, ListsForGood}
 use Rattle.fallible_iterator.specs.SoundHints.{AsSoundAsBoth}
 use Rattle.fallible_iterator.proofs.Lemmas.Lists.ForGood.{lists_once, lists_for_good_seen}
-use Rattle.fallible_itertools.specs.Sides.{low_with, SidesPlace, left_failed, right_failed, both_gave, right_behind}
+use Rattle.fallible_itertools.specs.Sides.{low_with, SidesPlace, left_failed, right_failed, both_gave, right_held_after}
 use Rattle.fallible_itertools.specs.ZipLongest.{longest, longest_rule, zip_longest_parts, zip_longest_contract, ZipLongestTrace, zipped_longest}
-use Rattle.fallible_itertools.specs.Laws.ZipLongest.{lawful_longest}
-use Rattle.fallible_itertools.proofs.Lemmas.Sides.{first_answer, rest_of, left_over, ListsBy, sides_for_good, GivesAsMany, both_end, low_of, Step, sides_law}
+use Rattle.fallible_itertools.specs.Laws.ZipLongest.{is_lawful_rule_longest}
+use Rattle.fallible_itertools.proofs.Lemmas.Sides.{first_answer, rest_of, left_over, ListsBy, gives_for_good_sides, GivesAsMany, both_end, low_with_of, SidesStep, sides_law}
 use Rattle.fallible_itertools.specs.declared.zip_longest.EitherOrBoth.{EitherOrBoth}
 use Rattle.fallible_itertools.specs.declared.zip_longest.ZipLongest.{ZipLongest}
 
@@ -22,32 +22,32 @@ one_of_each None (Some y) i j = omega arith
 one_of_each None None i j = omega arith
 
 module _ {A B E : Type 0} where
-  left_fails : (a : List (Result A E)) (b : List (Result B E)) (e : E) → failure e ≡ first_answer a → (failure e ≡ first_answer (zipped_longest a b)) × (zipped_longest (rest_of a) b ≡ rest_of (zipped_longest a b))
+  zipped_longest_left_failure : (a : List (Result A E)) (b : List (Result B E)) (e : E) → failure e ≡ first_answer a → (failure e ≡ first_answer (zipped_longest a b)) × (zipped_longest (rest_of a) b ≡ rest_of (zipped_longest a b))
   unfolding zipped_longest
-  left_fails [] b e is = absurd cc
-  left_fails (Ok x ∷ a) b e is = absurd cc
-  left_fails (Err d ∷ a) b e is = let same : e ≡ d = cc in (ap Err same, refl)
+  zipped_longest_left_failure [] b e is = absurd cc
+  zipped_longest_left_failure (Ok x ∷ a) b e is = absurd cc
+  zipped_longest_left_failure (Err d ∷ a) b e is = let same : e ≡ d = cc in (ap Err same, refl)
 
-  right_fails : (a : List (Result A E)) (b : List (Result B E)) (x : Option A) (e : E) → Ok x ≡ first_answer a → failure e ≡ first_answer b → (failure e ≡ first_answer (zipped_longest a b)) × (zipped_longest (left_over x a) (rest_of b) ≡ rest_of (zipped_longest a b))
+  zipped_longest_right_failure : (a : List (Result A E)) (b : List (Result B E)) (x : Option A) (e : E) → Ok x ≡ first_answer a → failure e ≡ first_answer b → (failure e ≡ first_answer (zipped_longest a b)) × (zipped_longest (left_over x a) (rest_of b) ≡ rest_of (zipped_longest a b))
   unfolding zipped_longest
-  right_fails a [] x e is fails = absurd cc
-  right_fails a (Ok y ∷ b) x e is fails = absurd cc
-  right_fails [] (Err d ∷ b) x e is fails = let no : x ≡ None = cc in let same : e ≡ d = cc in rw no (ap Err same, refl)
-  right_fails (Ok y ∷ a) (Err d ∷ b) x e is fails = let here : x ≡ Some y = cc in let same : e ≡ d = cc in rw here (ap Err same, refl)
-  right_fails (Err c ∷ a) (Err d ∷ b) x e is fails = absurd cc
+  zipped_longest_right_failure a [] x e is fails = absurd cc
+  zipped_longest_right_failure a (Ok y ∷ b) x e is fails = absurd cc
+  zipped_longest_right_failure [] (Err d ∷ b) x e is fails = let no : x ≡ None = cc in let same : e ≡ d = cc in rw no (ap Err same, refl)
+  zipped_longest_right_failure (Ok y ∷ a) (Err d ∷ b) x e is fails = let here : x ≡ Some y = cc in let same : e ≡ d = cc in rw here (ap Err same, refl)
+  zipped_longest_right_failure (Err c ∷ a) (Err d ∷ b) x e is fails = absurd cc
 
-  both_give : (a : List (Result A E)) (b : List (Result B E)) (x : Option A) (y : Option B) → Ok x ≡ first_answer a → Ok y ≡ first_answer b → (Ok (longest x y) ≡ first_answer (zipped_longest a b)) × (zipped_longest (rest_of a) (rest_of b) ≡ rest_of (zipped_longest a b))
+  zipped_longest_of_both : (a : List (Result A E)) (b : List (Result B E)) (x : Option A) (y : Option B) → Ok x ≡ first_answer a → Ok y ≡ first_answer b → (Ok (longest x y) ≡ first_answer (zipped_longest a b)) × (zipped_longest (rest_of a) (rest_of b) ≡ rest_of (zipped_longest a b))
   unfolding zipped_longest
-  both_give (Err e ∷ a) b x y i k = absurd cc
-  both_give [] (Err e ∷ b) x y i k = absurd cc
-  both_give (Ok z ∷ a) (Err e ∷ b) x y i k = absurd cc
-  both_give [] [] x y i k = let m : x ≡ None = cc in let n : y ≡ None = cc in rw (m, n) (refl, refl)
-  both_give [] (Ok w ∷ b) x y i k = let m : x ≡ None = cc in let n : y ≡ Some w = cc in rw (m, n) (refl, refl)
-  both_give (Ok z ∷ a) [] x y i k = let m : x ≡ Some z = cc in let n : y ≡ None = cc in rw (m, n) (refl, refl)
-  both_give (Ok z ∷ a) (Ok w ∷ b) x y i k = let m : x ≡ Some z = cc in let n : y ≡ Some w = cc in rw (m, n) (refl, refl)
+  zipped_longest_of_both (Err e ∷ a) b x y i k = absurd cc
+  zipped_longest_of_both [] (Err e ∷ b) x y i k = absurd cc
+  zipped_longest_of_both (Ok z ∷ a) (Err e ∷ b) x y i k = absurd cc
+  zipped_longest_of_both [] [] x y i k = let m : x ≡ None = cc in let n : y ≡ None = cc in rw (m, n) (refl, refl)
+  zipped_longest_of_both [] (Ok w ∷ b) x y i k = let m : x ≡ None = cc in let n : y ≡ Some w = cc in rw (m, n) (refl, refl)
+  zipped_longest_of_both (Ok z ∷ a) [] x y i k = let m : x ≡ Some z = cc in let n : y ≡ None = cc in rw (m, n) (refl, refl)
+  zipped_longest_of_both (Ok z ∷ a) (Ok w ∷ b) x y i k = let m : x ≡ Some z = cc in let n : y ≡ Some w = cc in rw (m, n) (refl, refl)
 
-  lists_longest : ListsBy (longest_rule {A = A} {B = B} {E = E}) (λ f. ⊤) zipped_longest
-  lists_longest = record { left_fails = left_fails; right_fails = right_fails; both_give = λ a b x y v f g q i k d. let w = both_give a b x y i k in (tt, w.0, w.1) }
+  lists_by_longest : ListsBy (longest_rule {A = A} {B = B} {E = E}) (λ f. ⊤) zipped_longest
+  lists_by_longest = record { left_fails = zipped_longest_left_failure; right_fails = zipped_longest_right_failure; both_give = λ a b x y v f g q i k d. let w = zipped_longest_of_both a b x y i k in (tt, w.0, w.1) }
 
   -- ---- hints
 
@@ -57,19 +57,19 @@ module _ {A B E : Type 0} where
   end_of_both None (Some y) is = absurd cc
   end_of_both None None is = (refl, refl)
 
-  as_many_longest : GivesAsMany (longest_rule {A = A} {B = B} {E = E}) max
-  as_many_longest = record { item_given = λ f g x y v z i j d is. one_of_each x y i j; end_given = λ f g x y v d is. end_of_both x y is; nothing = refl }
+  gives_as_many_longest : GivesAsMany (longest_rule {A = A} {B = B} {E = E}) max
+  gives_as_many_longest = record { item_given = λ f g x y v z i j d is. one_of_each x y i j; end_given = λ f g x y v d is. end_of_both x y is; nothing = refl }
 
 module _ {S U A B E : Type 0} (steps : S → Answered A E → S → Type 0) (others : U → Answered B E → U → Type 0) where
-  abbrev Zipped : (S × Option A) × (U × Option B) × Unit {0} → Answered (EitherOrBoth A B) E → (S × Option A) × (U × Option B) × Unit {0} → Type 0
-  Zipped = Step steps others (longest_rule {A = A} {B = B} {E = E})
+  abbrev ZippedSteps : (S × Option A) × (U × Option B) × Unit {0} → Answered (EitherOrBoth A B) E → (S × Option A) × (U × Option B) × Unit {0} → Type 0
+  ZippedSteps = SidesStep steps others (longest_rule {A = A} {B = B} {E = E})
 
-  pub zip_longest_sound : (p : (S × Option A) × (U × Option B) × Unit {0}) (h g k : ℕ × Option ℕ) → h ≡ (max (low_with p.0.1 g.0) k.0, None) → AsSoundAsBoth Zipped p h steps p.0.0 g others p.1.0 k
-  zip_longest_sound p h g k is = rw is (record {
+  pub as_sound_as_both_zip_longest : (p : (S × Option A) × (U × Option B) × Unit {0}) (h g k : ℕ × Option ℕ) → h ≡ (max (low_with p.0.1 g.0) k.0, None) → AsSoundAsBoth ZippedSteps p h steps p.0.0 g others p.1.0 k
+  as_sound_as_both_zip_longest p h g k is = rw is (record {
     above = λ i j xs t ran. tt;
     below = λ i j zs q r ran w.
-        let b = both_end steps others longest_rule max as_many_longest lawful_longest zs p q r ran w in
-        let low = low_of p.0.1 b.of_left g.0 _ (i b.left.came b.left.left b.left.last b.left.ran b.left.ended) b.left.few in
+        let b = both_end steps others longest_rule max gives_as_many_longest is_lawful_rule_longest zs p q r ran w in
+        let low = low_with_of p.0.1 b.of_left g.0 _ (i b.left.came b.left.left b.left.last b.left.ran b.left.ended) b.left.few in
         let le = j b.right.came b.right.left b.right.last b.right.ran b.right.ended in
         omega (arith, low, le, b.right.few, b.few);
   })
@@ -77,45 +77,45 @@ module _ {S U A B E : Type 0} (steps : S → Answered A E → S → Type 0) (oth
 -- ---- what it lists
 
 module _ {S U A B E : Type 0} (left : Contract S A E) (right : Contract U B E) (c : ZipLongest S U A E) (s : S) (a : List (Result A E)) (b : List (Result B E)) where
-  pub lists_zipped_longest_for_good : zip_longest_parts {B = B} c ≡ ((s, None), (c.right, None), tt) → ListsForGood left.steps s a → ListsForGood right.steps c.right b → ListsForGood (seen_as zip_longest_parts (zip_longest_contract left right)).steps c (zipped_longest a b)
-  lists_zipped_longest_for_good parts i k = lists_for_good_seen zip_longest_parts (zip_longest_contract left right).steps c parts refl (sides_for_good left.steps right.steps longest_rule (λ f. ⊤) zipped_longest lists_longest lawful_longest ((s, None), (c.right, None), tt) a b i.runs k.runs tt)
+  pub lists_for_good_zipped_longest : zip_longest_parts {B = B} c ≡ ((s, None), (c.right, None), tt) → ListsForGood left.steps s a → ListsForGood right.steps c.right b → ListsForGood (seen_as zip_longest_parts (zip_longest_contract left right)).steps c (zipped_longest a b)
+  lists_for_good_zipped_longest parts i k = lists_for_good_seen zip_longest_parts (zip_longest_contract left right).steps c parts refl (gives_for_good_sides left.steps right.steps longest_rule (λ f. ⊤) zipped_longest lists_by_longest is_lawful_rule_longest ((s, None), (c.right, None), tt) a b i.runs k.runs tt)
 
   pub lists_zipped_longest : zip_longest_parts {B = B} c ≡ ((s, None), (c.right, None), tt) → ListsForGood left.steps s a → ListsForGood right.steps c.right b → Lists (seen_as zip_longest_parts (zip_longest_contract left right)).steps c (zipped_longest a b)
-  lists_zipped_longest parts i k = lists_once _ (lists_zipped_longest_for_good parts i k)
+  lists_zipped_longest parts i k = lists_once _ (lists_for_good_zipped_longest parts i k)
 
 -- ---- whole traces
 
-none_back : {A B E : Type 0} (h : Option B) (x : SidesPlace A B E (Unit {0})) → h ≡ None → right_behind (longest_rule {A = A} {B = B} {E = E}) h x ≡ None
-none_back h (left_failed e) is = is
-none_back h (right_failed x e) is = refl
-none_back h (both_gave x y v) is = refl
+right_behind_none_back : {A B E : Type 0} (h : Option B) (x : SidesPlace A B E (Unit {0})) → h ≡ None → right_held_after (longest_rule {A = A} {B = B} {E = E}) h x ≡ None
+right_behind_none_back h (left_failed e) is = is
+right_behind_none_back h (right_failed x e) is = refl
+right_behind_none_back h (both_gave x y v) is = refl
 
 module _ {S U A B E : Type 0} (steps : S → Answered A E → S → Type 0) (others : U → Answered B E → U → Type 0) where
-  abbrev Sides : Type 0
-  Sides = (S × Option A) × (U × Option B) × Unit {0}
+  abbrev SidesHere : Type 0
+  SidesHere = (S × Option A) × (U × Option B) × Unit {0}
 
-  abbrev Seen : ZipLongest S U A E → Answered (EitherOrBoth A B) E → ZipLongest S U A E → Type 0
-  Seen s r t = Zipped steps others (zip_longest_parts s) r (zip_longest_parts t)
+  abbrev SeenSteps : ZipLongest S U A E → Answered (EitherOrBoth A B) E → ZipLongest S U A E → Type 0
+  SeenSteps s r t = ZippedSteps steps others (zip_longest_parts s) r (zip_longest_parts t)
 
-  abbrev of_parts : Sides → ZipLongest S U A E
+  abbrev of_parts : SidesHere → ZipLongest S U A E
   of_parts p = record { left = record { it = p.0.0; held = p.0.1 }; right = p.1.0 }
 
-  parts_of : (p : Sides) → p.1.1 ≡ None → zip_longest_parts (of_parts p) ≡ p
-  parts_of ((s, h), (u, k), f) e = rw e refl
+  zip_longest_parts_of : (p : SidesHere) → p.1.1 ≡ None → zip_longest_parts (of_parts p) ≡ p
+  zip_longest_parts_of ((s, h), (u, k), f) e = rw e refl
 
   -- nothing is held of the right
-  right_holds_none : (p q : Sides) (r : Answered (EitherOrBoth A B) E) → p.1.1 ≡ None → Zipped steps others p r q → q.1.1 ≡ None
-  right_holds_none p q r e w = w.4 ∙ none_back p.1.1 w.0 e
+  right_holds_none : (p q : SidesHere) (r : Answered (EitherOrBoth A B) E) → p.1.1 ≡ None → ZippedSteps steps others p r q → q.1.1 ≡ None
+  right_holds_none p q r e w = w.4 ∙ right_behind_none_back p.1.1 w.0 e
 
-  to_sides : (trace : List (Answered (EitherOrBoth A B) E)) (s t : ZipLongest S U A E) → Run Seen s trace t → Run (Zipped steps others) (zip_longest_parts s) trace (zip_longest_parts t)
-  to_sides [] s t e = ap zip_longest_parts e
-  to_sides (r ∷ rest) s t ran = (zip_longest_parts ran.0, ran.1, to_sides rest ran.0 t ran.2)
+  run_of_sides : (trace : List (Answered (EitherOrBoth A B) E)) (s t : ZipLongest S U A E) → Run SeenSteps s trace t → Run (ZippedSteps steps others) (zip_longest_parts s) trace (zip_longest_parts t)
+  run_of_sides [] s t e = ap zip_longest_parts e
+  run_of_sides (r ∷ rest) s t ran = (zip_longest_parts ran.0, ran.1, run_of_sides rest ran.0 t ran.2)
 
-  from_sides : (trace : List (Answered (EitherOrBoth A B) E)) (s t : ZipLongest S U A E) → Run (Zipped steps others) (zip_longest_parts s) trace (zip_longest_parts t) → Run Seen s trace t
-  from_sides [] s t e = ap of_parts e
-  from_sides (r ∷ rest) s t ran =
-      let same = parts_of ran.0 (right_holds_none (zip_longest_parts s) ran.0 r refl ran.1) in
-      (of_parts ran.0, subst (λ (p : Sides). Zipped steps others (zip_longest_parts s) r p) (sym same) ran.1, from_sides rest (of_parts ran.0) t (subst (λ (p : Sides). Run (Zipped steps others) p rest (zip_longest_parts t)) (sym same) ran.2))
+  run_from_sides : (trace : List (Answered (EitherOrBoth A B) E)) (s t : ZipLongest S U A E) → Run (ZippedSteps steps others) (zip_longest_parts s) trace (zip_longest_parts t) → Run SeenSteps s trace t
+  run_from_sides [] s t e = ap of_parts e
+  run_from_sides (r ∷ rest) s t ran =
+      let same = zip_longest_parts_of ran.0 (right_holds_none (zip_longest_parts s) ran.0 r refl ran.1) in
+      (of_parts ran.0, subst (λ (p : SidesHere). ZippedSteps steps others (zip_longest_parts s) r p) (sym same) ran.1, run_from_sides rest (of_parts ran.0) t (subst (λ (p : SidesHere). Run (ZippedSteps steps others) p rest (zip_longest_parts t)) (sym same) ran.2))
 
-  pub zip_longest_law : TracesAre zip_longest_parts Seen (ZipLongestTrace steps others)
-  zip_longest_law s trace t = let law = sides_law steps others longest_rule (zip_longest_parts s) trace (zip_longest_parts t) in ((λ ran. law.0 (to_sides trace s t ran)), (λ d. from_sides trace s t (law.1 d)))
+  pub zip_longest_law : TracesAre zip_longest_parts SeenSteps (ZipLongestTrace steps others)
+  zip_longest_law s trace t = let law = sides_law steps others longest_rule (zip_longest_parts s) trace (zip_longest_parts t) in ((λ ran. law.0 (run_of_sides trace s t ran)), (λ d. run_from_sides trace s t (law.1 d)))

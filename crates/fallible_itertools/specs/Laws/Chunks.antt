@@ -12,17 +12,17 @@ use Rattle.std.specs.declared.alloc.Global.{Global}
 use Rattle.std.specs.declared.alloc.AllocError.{AllocError}
 
 -- where the same items are held, there is one answer held or none, as before
-pub same_held : {A : Type 0} (a b : Option (Vec A Global)) → SameHeld a b → held_one b ≡ held_one a
-same_held None None w = refl
-same_held None (Some v) w = absurd w
-same_held (Some v) None w = absurd w
-same_held (Some v) (Some y) w = refl
+pub held_one_of_same : {A : Type 0} (a b : Option (Vec A Global)) → SameHeld a b → held_one b ≡ held_one a
+held_one_of_same None None w = refl
+held_one_of_same None (Some v) w = absurd w
+held_one_of_same (Some v) None w = absurd w
+held_one_of_same (Some v) (Some y) w = refl
 
 module _ {A E : Type 0} (from : AllocError → E → Type 0) where
   pub holds_chunks : Holds (chunks_asks {A = A} from) batch_held
   holds_chunks p (Some x) (Kept y) q w = rw w.2 (omega arith)
   holds_chunks p (Some x) LeftOut q w = rw w.3 (omega arith)
-  holds_chunks p (Some x) (Failure e) q w = omega (arith, same_held p.1 q.1 w.3)
+  holds_chunks p (Some x) (Failure e) q w = omega (arith, held_one_of_same p.1 q.1 w.3)
   holds_chunks p (Some x) End q w = w
   holds_chunks p None (Kept y) q w = rw (w.0, w.1) (omega arith)
   holds_chunks p None LeftOut q w = w

@@ -10,14 +10,14 @@ use Rattle.fallible_itertools.specs.Laws.Holding.{lawful_holding}
 use Rattle.fallible_iterator.specs.Outcome.{Outcome}
 
 module _ {A F E : Type 0} (call : F → A → A → OneOrBoth A E → F → Type 0) where
-  holds_by : (x : A) (v : OneOrBoth A E) (o : Outcome A E) (q : Option A) → coalesced_by v o q → HeldAfter 1 (Some x) o (held_one q)
-  holds_by x (Ok (Ok z)) o q (is, at) = rw (is, at) (omega arith)
-  holds_by x (Ok (Err both)) o q (is, at) = rw (is, at) (omega arith)
-  holds_by x (Err e) o q (is, at) = rw (is, at) (omega arith)
+  held_after_of_coalesce : (x : A) (v : OneOrBoth A E) (o : Outcome A E) (q : Option A) → coalesced_by v o q → HeldAfter 1 (Some x) o (held_one q)
+  held_after_of_coalesce x (Ok (Ok z)) o q (is, at) = rw (is, at) (omega arith)
+  held_after_of_coalesce x (Ok (Err both)) o q (is, at) = rw (is, at) (omega arith)
+  held_after_of_coalesce x (Err e) o q (is, at) = rw (is, at) (omega arith)
 
   pub holds_coalesce : Holds {E = E} (coalesce_asks call) held_beside
   holds_coalesce (None, f) (Some x) o q (is, at) = rw (is, at) (omega arith)
-  holds_coalesce (Some y, f) (Some x) o q w = holds_by x w.0 o q.0 w.2
+  holds_coalesce (Some y, f) (Some x) o q w = held_after_of_coalesce x w.0 o q.0 w.2
   holds_coalesce (None, f) None o q (is, at) = rw (is, at) (omega arith)
   holds_coalesce (Some y, f) None o q (is, at) = rw (is, at) (omega arith)
 

@@ -9,12 +9,12 @@ use Rattle.std.specs.declared.alloc.AllocError.{AllocError}
 
 module _ {A E : Type 0} (is_clone : A → A → Type 0) (is_infallible : A → Type 0) (from : AllocError → E → Type 0) where
   module _ {S : Type 0} (m : Contract S A E) where
-    abbrev P : Contract (S × (A × (Bool × Option A))) A E
-    P = intersperse_contract is_clone is_infallible from m
+    abbrev ContractHere : Contract (S × (A × (Bool × Option A))) A E
+    ContractHere = intersperse_contract is_clone is_infallible from m
 
     -- the held item comes
-    held_goes : (s : S) (z : A) (started : Bool) (x : A) → m.can_next s → KeptByDraw P (s, (z, (started, Some x))) (item x) (s, (z, (started, None)))
-    held_goes s z started x c = record {
+    kept_by_draw_held : (s : S) (z : A) (started : Bool) (x : A) → m.can_next s → KeptByDraw ContractHere (s, (z, (started, Some x))) (item x) (s, (z, (started, None)))
+    kept_by_draw_held s z started x c = record {
       can_next = c;
       is_finite = λ e. e;
       answer = (inl refl, (λ n b. (2 * b.0, (b.0, b.1, omega arith), omega (arith, b.2))), (λ f. (f, omega arith)));
@@ -24,49 +24,49 @@ module _ {A E : Type 0} (is_clone : A → A → Type 0) (is_infallible : A → T
     }
 
     -- an answer of the source comes as it is
-    answer_drawn : (s t : S) (z : A) (b c : Bool) (r : Answered A E) → OnAnswer m s r t → OnAnswer P (s, (z, (b, None))) r (t, (z, (c, None)))
-    answer_drawn s t z b c (Ok (Some x)) a = (inr (inl a.0), (λ n d. let k = a.1 d.0 d.1 in (2 * k.0, (k.0, k.1, omega arith), omega (arith, k.2, d.2))), (λ f. let j = a.2 f in (j.0, omega (arith, j.1))))
-    answer_drawn s t z b c (Ok None) a = ((λ n d. let k = a.0 d.0 d.1 in (2 * k.0, (k.0, k.1, omega arith), omega (arith, k.2, d.2))), (λ f. let j = a.1 f in (j.0, omega (arith, j.1))))
-    answer_drawn s t z b c (Err e) a = (inl a.0, (λ n d. let k = a.1 d.0 d.1 in (2 * k.0, (k.0, k.1, omega arith), omega (arith, k.2, d.2))), (λ f. let j = a.2 f in (j.0, omega (arith, j.1))))
+    on_answer_drawn : (s t : S) (z : A) (b c : Bool) (r : Answered A E) → OnAnswer m s r t → OnAnswer ContractHere (s, (z, (b, None))) r (t, (z, (c, None)))
+    on_answer_drawn s t z b c (Ok (Some x)) a = (inr (inl a.0), (λ n d. let k = a.1 d.0 d.1 in (2 * k.0, (k.0, k.1, omega arith), omega (arith, k.2, d.2))), (λ f. let j = a.2 f in (j.0, omega (arith, j.1))))
+    on_answer_drawn s t z b c (Ok None) a = ((λ n d. let k = a.0 d.0 d.1 in (2 * k.0, (k.0, k.1, omega arith), omega (arith, k.2, d.2))), (λ f. let j = a.1 f in (j.0, omega (arith, j.1))))
+    on_answer_drawn s t z b c (Err e) a = (inl a.0, (λ n d. let k = a.1 d.0 d.1 in (2 * k.0, (k.0, k.1, omega arith), omega (arith, k.2, d.2))), (λ f. let j = a.2 f in (j.0, omega (arith, j.1))))
 
-    drawn_goes : (s t : S) (z : A) (b c : Bool) (r : Answered A E) → KeptByDraw m s r t → KeptByDraw P (s, (z, (b, None))) r (t, (z, (c, None)))
-    drawn_goes s t z b c r a = record {
+    kept_by_draw_drawn : (s t : S) (z : A) (b c : Bool) (r : Answered A E) → KeptByDraw m s r t → KeptByDraw ContractHere (s, (z, (b, None))) r (t, (z, (c, None)))
+    kept_by_draw_drawn s t z b c r a = record {
       can_next = a.can_next;
       is_finite = a.is_finite;
-      answer = answer_drawn s t z b c r a.answer;
+      answer = on_answer_drawn s t z b c r a.answer;
       may_give = λ y h. elim h [ inl e ↦ absurd cc | inr g ↦ elim g [ inl d ↦ inr (inl (a.may_give y d)) | inr d ↦ inr (inr d) ] ];
       may_fail = λ e h. elim h [ inl d ↦ inl (a.may_fail e d) | inr d ↦ inr d ];
       lenders = a.lenders;
     }
 
     -- a later item is held, and a clone of the separator comes, or the failure of a failed one
-    answer_parted : (s t : S) (z x : A) (r : Answered A E) → Separates is_clone is_infallible from z r → OnAnswer m s (item x) t → OnAnswer P (s, (z, (true, None))) r (t, (z, (true, Some x)))
-    answer_parted s t z x (Ok (Some y)) w a = (inr (inr w), (λ n d. let k = a.1 d.0 d.1 in (2 * k.0 + 1, (k.0, k.1, omega arith), omega (arith, k.2, d.2))), (λ f. let j = a.2 f in (j.0, omega (arith, j.1))))
-    answer_parted s t z x (Ok None) w a = absurd w
-    answer_parted s t z x (Err e) w a = (inr w, (λ n d. let k = a.1 d.0 d.1 in (2 * k.0 + 1, (k.0, k.1, omega arith), omega (arith, k.2, d.2))), (λ f. let j = a.2 f in (j.0, omega (arith, j.1))))
+    on_answer_parted : (s t : S) (z x : A) (r : Answered A E) → Separates is_clone is_infallible from z r → OnAnswer m s (item x) t → OnAnswer ContractHere (s, (z, (true, None))) r (t, (z, (true, Some x)))
+    on_answer_parted s t z x (Ok (Some y)) w a = (inr (inr w), (λ n d. let k = a.1 d.0 d.1 in (2 * k.0 + 1, (k.0, k.1, omega arith), omega (arith, k.2, d.2))), (λ f. let j = a.2 f in (j.0, omega (arith, j.1))))
+    on_answer_parted s t z x (Ok None) w a = absurd w
+    on_answer_parted s t z x (Err e) w a = (inr w, (λ n d. let k = a.1 d.0 d.1 in (2 * k.0 + 1, (k.0, k.1, omega arith), omega (arith, k.2, d.2))), (λ f. let j = a.2 f in (j.0, omega (arith, j.1))))
 
-    separated_goes : (s t : S) (z x : A) (r : Answered A E) → Separates is_clone is_infallible from z r → KeptByDraw m s (item x) t → KeptByDraw P (s, (z, (true, None))) r (t, (z, (true, Some x)))
-    separated_goes s t z x r w a = record {
+    kept_by_draw_separated : (s t : S) (z x : A) (r : Answered A E) → Separates is_clone is_infallible from z r → KeptByDraw m s (item x) t → KeptByDraw ContractHere (s, (z, (true, None))) r (t, (z, (true, Some x)))
+    kept_by_draw_separated s t z x r w a = record {
       can_next = a.can_next;
       is_finite = a.is_finite;
-      answer = answer_parted s t z x r w a.answer;
+      answer = on_answer_parted s t z x r w a.answer;
       may_give = λ y h. elim h [ inl e ↦ (let same : x ≡ y = cc in inr (inl (subst (λ (u : A). m.may_give s u) same a.answer.0))) | inr g ↦ elim g [ inl d ↦ inr (inl (a.may_give y d)) | inr d ↦ inr (inr d) ] ];
       may_fail = λ e h. elim h [ inl d ↦ inl (a.may_fail e d) | inr d ↦ inr d ];
       lenders = a.lenders;
     }
 
-    placed_goes : (s t : S) (z : A) (started : Bool) (drawn r : Answered A E) (k : Bool × Option A) → KeptByDraw m s drawn t → PlacedAs is_clone is_infallible from z started drawn r k → KeptByDraw P (s, (z, (started, None))) r (t, (z, k))
-    placed_goes s t z started (Ok None) r k a w = rw (w.0, w.1) (drawn_goes s t z started started end a)
-    placed_goes s t z started (Err e) r k a w = rw (w.0, w.1) (drawn_goes s t z started started (Err e) a)
-    placed_goes s t z false (Ok (Some x)) r k a w = rw (w.0, w.1) (drawn_goes s t z false true (item x) a)
-    placed_goes s t z true (Ok (Some x)) r k a w = rw w.1 (separated_goes s t z x r w.0 a)
+    kept_by_draw_placed : (s t : S) (z : A) (started : Bool) (drawn r : Answered A E) (k : Bool × Option A) → KeptByDraw m s drawn t → PlacedAs is_clone is_infallible from z started drawn r k → KeptByDraw ContractHere (s, (z, (started, None))) r (t, (z, k))
+    kept_by_draw_placed s t z started (Ok None) r k a w = rw (w.0, w.1) (kept_by_draw_drawn s t z started started end a)
+    kept_by_draw_placed s t z started (Err e) r k a w = rw (w.0, w.1) (kept_by_draw_drawn s t z started started (Err e) a)
+    kept_by_draw_placed s t z false (Ok (Some x)) r k a w = rw (w.0, w.1) (kept_by_draw_drawn s t z false true (item x) a)
+    kept_by_draw_placed s t z true (Ok (Some x)) r k a w = rw w.1 (kept_by_draw_separated s t z x r w.0 a)
 
-    goes_intersperse : Lawful m → (p : S × (A × (Bool × Option A))) (r : Answered A E) (q : S × (A × (Bool × Option A))) → P.can_next p → P.steps p r q → KeptByDraw P p r q
-    goes_intersperse l (s, (z, (started, Some x))) r (t, (y, k)) c step = rw (step.0, step.1, step.2, step.3) (held_goes s z started x c)
-    goes_intersperse l (s, (z, (started, None))) r (t, (y, k)) c step = let d = step.1 in rw step.0 (placed_goes s t z started d.0 r k (l.kept_by_draw s d.0 t c d.1) d.2)
+    kept_by_draw_intersperse : Lawful m → (p : S × (A × (Bool × Option A))) (r : Answered A E) (q : S × (A × (Bool × Option A))) → ContractHere.can_next p → ContractHere.steps p r q → KeptByDraw ContractHere p r q
+    kept_by_draw_intersperse l (s, (z, (started, Some x))) r (t, (y, k)) c step = rw (step.0, step.1, step.2, step.3) (kept_by_draw_held s z started x c)
+    kept_by_draw_intersperse l (s, (z, (started, None))) r (t, (y, k)) c step = let d = step.1 in rw step.0 (kept_by_draw_placed s t z started d.0 r k (l.kept_by_draw s d.0 t c d.1) d.2)
 
   pub lawful_intersperse : {S : Type 0} {m : Contract S A E} → Lawful m → Lawful (intersperse_contract is_clone is_infallible from m)
   lawful_intersperse {m = m} l = record {
-    kept_by_draw = goes_intersperse m l;
+    kept_by_draw = kept_by_draw_intersperse m l;
     bounded = λ p. ((λ e. let k = (l.bounded p.0).0 e in (2 * k.0 + held_one p.1.1.1, (k.0, k.1, omega arith))), (λ h. (l.bounded p.0).1 ((h.1).0, (h.1).1)));
   }

@@ -10,54 +10,54 @@ use Rattle.fallible_iterator.specs.Contract.{Contract, KeptByDraw, Lawful, OnAns
 use Rattle.fallible_iterator.specs.Closures.{Calls, IsCallable, Reaches, call_at, takes_at}
 use Rattle.fallible_iterator.specs.Passing.{Place, asked, failure_at, end_at, call_of, passing_contract}
 use Rattle.fallible_iterator.specs.Hints.{upper_alone}
-use Rattle.fallible_iterator.specs.Laws.Closures.{callable_after, may_answer_after, reaches_from, reaches_here}
-use Rattle.fallible_iterator.specs.Laws.Passing.{lawful_passing, passes_item, passes_refusal, passes_end, passes_failure}
+use Rattle.fallible_iterator.specs.Laws.Closures.{is_callable_after, may_answer_after, reaches_from, reaches_here}
+use Rattle.fallible_iterator.specs.Laws.Passing.{lawful_passing, pass_trace_item, pass_trace_refusal, pass_trace_end, pass_trace_failure}
 use Rattle.fallible_iterator.specs.Laws.Peeking.Peekable.{lawful_peekable}
 use Rattle.fallible_iterator.specs.Cutting.TakeWhile.{taken_answer, take_while_outcome}
 use Rattle.fallible_iterator.specs.Peeking.Peekable.{Peeks, peekable_contract, peekable_parts, peekable_step}
-use Rattle.fallible_itertools.specs.PeekingTakeWhile.{DrawnAt, LooksAhead, borrowed_looks, peekable_looks, peeking_contract}
+use Rattle.fallible_itertools.specs.PeekingTakeWhile.{DrawsAtPlace, LooksAhead, borrowed_looks, peekable_looks, peeking_contract}
 use Rattle.fallible_iterator.specs.Peekable.{Peekable}
 
 -- ---- a `Peekable` looks ahead
 
 module _ {S X E : Type 0} (steps : S → Answered X E → S → Type 0) where
-  abbrev H : Type 0
-  H = S × Option (Option X)
+  abbrev HeldState : Type 0
+  HeldState = S × Option (Option X)
 
   -- what was looked at is held, and is what a draw returns
-  pub looked_step : (p q : H) (o : Option X) → Peeks steps p (Ok o) q → peekable_step steps p (Ok o) (q.0, None) × (q.1 ≡ Some o)
+  pub looked_step : (p q : HeldState) (o : Option X) → Peeks steps p (Ok o) q → peekable_step steps p (Ok o) (q.0, None) × (q.1 ≡ Some o)
   looked_step (s, Some h) q o w = let same : o ≡ h = (let e = w.0 in cc) in ((w.0, w.1, refl), w.2 ∙ ap (λ z. Some z) (sym same))
   looked_step (s, None) q o w = ((w.0, refl), w.1)
 
-  none_left : (p q : H) (r : Answered X E) → peekable_step steps p r q → q.1 ≡ None
-  none_left (s, Some o) q r step = step.2
-  none_left (s, None) q r step = step.1
+  none_held_after_draw : (p q : HeldState) (r : Answered X E) → peekable_step steps p r q → q.1 ≡ None
+  none_held_after_draw (s, Some o) q r step = step.2
+  none_held_after_draw (s, None) q r step = step.1
 
   -- a draw of what is held
-  pub held_step : (q u : H) (o : Option X) (r : Answered X E) → q.1 ≡ Some o → peekable_step steps q r u → (r ≡ Ok o) × (u ≡ (q.0, None))
+  pub held_step : (q u : HeldState) (o : Option X) (r : Answered X E) → q.1 ≡ Some o → peekable_step steps q r u → (r ≡ Ok o) × (u ≡ (q.0, None))
   held_step (s, Some h) u o r is w = let same : h ≡ o = cc in (w.0 ∙ ap (λ z. Ok z) same, rw (← w.1, ← w.2) refl)
   held_step (s, None) u o r is w = absurd cc
 
   -- a look at what is held
-  held_look : (q u : H) (o : Option X) (x : X) → q.1 ≡ Some o → Peeks steps q (item x) u → (o ≡ Some x) × (u ≡ q)
-  held_look (s, Some h) u o x is w = let same : h ≡ o = cc in let at : h ≡ Some x = (let e = w.0 in cc) in (sym same ∙ at, rw (← w.1, ← w.2) refl)
-  held_look (s, None) u o x is w = absurd cc
+  held_item_is_looked_at : (q u : HeldState) (o : Option X) (x : X) → q.1 ≡ Some o → Peeks steps q (item x) u → (o ≡ Some x) × (u ≡ q)
+  held_item_is_looked_at (s, Some h) u o x is w = let same : h ≡ o = cc in let at : h ≡ Some x = (let e = w.0 in cc) in (sym same ∙ at, rw (← w.1, ← w.2) refl)
+  held_item_is_looked_at (s, None) u o x is w = absurd cc
 
   -- an item that a draw yields, held
-  pub looks_first : (p u : H) (x : X) → peekable_step steps p (item x) u → Peeks steps p (item x) (u.0, Some (Some x))
-  looks_first (s, Some h) u x w = let same : Some x ≡ h = (let e = w.0 in cc) in (w.0, w.1, ap (λ z. Some z) same)
-  looks_first (s, None) u x w = (w.0, refl)
+  pub peeks_looks_first : (p u : HeldState) (x : X) → peekable_step steps p (item x) u → Peeks steps p (item x) (u.0, Some (Some x))
+  peeks_looks_first (s, Some h) u x w = let same : Some x ≡ h = (let e = w.0 in cc) in (w.0, w.1, ap (λ z. Some z) same)
+  peeks_looks_first (s, None) u x w = (w.0, refl)
 
-  held_again : (q : H) (o : Option X) → q.1 ≡ Some o → Peeks steps q (Ok o) q
-  held_again (s, Some h) o is = let same : h ≡ o = cc in (ap (λ z. Ok z) (sym same), refl, refl)
-  held_again (s, None) o is = absurd cc
+  peeks_held_again : (q : HeldState) (o : Option X) → q.1 ≡ Some o → Peeks steps q (Ok o) q
+  peeks_held_again (s, Some h) o is = let same : h ≡ o = cc in (ap (λ z. Ok z) (sym same), refl, refl)
+  peeks_held_again (s, None) o is = absurd cc
 
 module _ {S X E : Type 0} {m : Contract S X E} (l : Lawful m) where
-  abbrev Q : Contract (S × Option (Option X)) X E
-  Q = peekable_contract m
+  abbrev PeekableHere : Contract (S × Option (Option X)) X E
+  PeekableHere = peekable_contract m
 
-  item_held : (s t : S) (x : X) → KeptByDraw m s (item x) t → KeptByDraw Q (s, None) end (t, Some (Some x))
-  item_held s t x a = record {
+  kept_by_draw_holding_item : (s t : S) (x : X) → KeptByDraw m s (item x) t → KeptByDraw PeekableHere (s, None) end (t, Some (Some x))
+  kept_by_draw_holding_item s t x a = record {
     can_next = a.can_next;
     is_finite = a.is_finite;
     answer = ((λ n b. let k = a.answer.1 b.0 b.1 in (n, (k.0, k.1, omega (arith, k.2, b.2)), omega arith)), (λ f. let j = a.answer.2 f in (j.0, omega (arith, j.1))));
@@ -66,8 +66,8 @@ module _ {S X E : Type 0} {m : Contract S X E} (l : Lawful m) where
     lenders = a.lenders;
   }
 
-  still : (p : S × Option (Option X)) → Q.can_next p → KeptByDraw Q p end p
-  still p c = record {
+  kept_by_draw_where_still : (p : S × Option (Option X)) → PeekableHere.can_next p → KeptByDraw PeekableHere p end p
+  kept_by_draw_where_still p c = record {
     can_next = c;
     is_finite = λ f. f;
     answer = ((λ n b. (n, b, omega arith)), (λ f. (f, omega arith)));
@@ -76,46 +76,46 @@ module _ {S X E : Type 0} {m : Contract S X E} (l : Lawful m) where
     lenders = refl;
   }
 
-  kept_look : (p q : S × Option (Option X)) (x : X) → Q.can_next p → Peeks m.steps p (item x) q → KeptByDraw Q p end q
-  kept_look (s, None) (t, held) x c w = rw w.1 (item_held s t x (l.kept_by_draw s (item x) t c w.0))
-  kept_look (s, Some o) (t, held) x c w = rw (w.1, w.2) (still (s, Some o) c)
+  kept_by_draw_look : (p q : S × Option (Option X)) (x : X) → PeekableHere.can_next p → Peeks m.steps p (item x) q → KeptByDraw PeekableHere p end q
+  kept_by_draw_look (s, None) (t, held) x c w = rw w.1 (kept_by_draw_holding_item s t x (l.kept_by_draw s (item x) t c w.0))
+  kept_by_draw_look (s, Some o) (t, held) x c w = rw (w.1, w.2) (kept_by_draw_where_still (s, Some o) c)
 
-  given_look : (p q : S × Option (Option X)) (x : X) → Q.can_next p → Peeks m.steps p (item x) q → Q.may_give p x
-  given_look p q x c w = ((lawful_peekable l).kept_by_draw p (item x) (q.0, None) c (looked_step m.steps p q (Some x) w).0).answer.0
+  may_give_looked : (p q : S × Option (Option X)) (x : X) → PeekableHere.can_next p → Peeks m.steps p (item x) q → PeekableHere.may_give p x
+  may_give_looked p q x c w = ((lawful_peekable l).kept_by_draw p (item x) (q.0, None) c (looked_step m.steps p q (Some x) w).0).answer.0
 
-  next_look : (p q u : S × Option (Option X)) (x : X) (r : Answered X E) → Peeks m.steps p (item x) q → peekable_step m.steps q r u → (r ≡ item x) × peekable_step m.steps p (item x) u
-  next_look p q u x r w step = let k = looked_step m.steps p q (Some x) w in let h = held_step m.steps q u (Some x) r k.1 step in (h.0, subst (λ z. peekable_step m.steps p (item x) z) (sym h.1) k.0)
+  step_of_looked : (p q u : S × Option (Option X)) (x : X) (r : Answered X E) → Peeks m.steps p (item x) q → peekable_step m.steps q r u → (r ≡ item x) × peekable_step m.steps p (item x) u
+  step_of_looked p q u x r w step = let k = looked_step m.steps p q (Some x) w in let h = held_step m.steps q u (Some x) r k.1 step in (h.0, subst (λ z. peekable_step m.steps p (item x) z) (sym h.1) k.0)
 
-  again_look : (p q u : S × Option (Option X)) (x y : X) → Peeks m.steps p (item x) q → Peeks m.steps q (item y) u → (y ≡ x) × Peeks m.steps p (item x) u
-  again_look p q u x y w v = let k = looked_step m.steps p q (Some x) w in let h = held_look m.steps q u (Some x) y k.1 v in ((let e = h.0 in cc), subst (λ z. Peeks m.steps p (item x) z) (sym h.1) w)
+  looked_again : (p q u : S × Option (Option X)) (x y : X) → Peeks m.steps p (item x) q → Peeks m.steps q (item y) u → (y ≡ x) × Peeks m.steps p (item x) u
+  looked_again p q u x y w v = let k = looked_step m.steps p q (Some x) w in let h = held_item_is_looked_at m.steps q u (Some x) y k.1 v in ((let e = h.0 in cc), subst (λ z. Peeks m.steps p (item x) z) (sym h.1) w)
 
-  seen_answer : (s t : Peekable S X E) → OnAnswer Q (peekable_parts s) end (peekable_parts t) → OnAnswer (seen_as peekable_parts Q) s end t
-  seen_answer s t h = h
+  on_answer_seen : (s t : Peekable S X E) → OnAnswer PeekableHere (peekable_parts s) end (peekable_parts t) → OnAnswer (seen_as peekable_parts PeekableHere) s end t
+  on_answer_seen s t h = h
 
   -- a `Peekable` of its parts
   abbrev of_held : S × Option (Option X) → Peekable S X E
   of_held p = record { it = p.0; held = p.1 }
 
-  pub peekable_looking : LooksAhead (seen_as peekable_parts (peekable_contract m)) (peekable_looks m.steps)
-  peekable_looking = record {
-    kept = λ s x t c w. let k = kept_look (peekable_parts s) (peekable_parts t) x c w in record { can_next = k.can_next; is_finite = k.is_finite; answer = seen_answer s t k.answer; may_give = k.may_give; may_fail = k.may_fail; lenders = k.lenders };
-    given = λ s x t c w. given_look (peekable_parts s) (peekable_parts t) x c w;
+  pub looks_ahead_peekable_looking : LooksAhead (seen_as peekable_parts (peekable_contract m)) (peekable_looks m.steps)
+  looks_ahead_peekable_looking = record {
+    kept = λ s x t c w. let k = kept_by_draw_look (peekable_parts s) (peekable_parts t) x c w in record { can_next = k.can_next; is_finite = k.is_finite; answer = on_answer_seen s t k.answer; may_give = k.may_give; may_fail = k.may_fail; lenders = k.lenders };
+    given = λ s x t c w. may_give_looked (peekable_parts s) (peekable_parts t) x c w;
     comes = λ s x t w. (of_held (t.it, None), (looked_step m.steps (peekable_parts s) (peekable_parts t) (Some x) w).0);
-    next = λ s x t r u w step. next_look (peekable_parts s) (peekable_parts t) (peekable_parts u) x r w step;
-    again = λ s x t y u w v. again_look (peekable_parts s) (peekable_parts t) (peekable_parts u) x y w v;
-    first = λ s x u step. (of_held (u.it, Some (Some x)), looks_first m.steps (peekable_parts s) (peekable_parts u) x step, (refl, refl, none_left m.steps (peekable_parts s) (peekable_parts u) (item x) step));
-    same = λ s x t w. held_again m.steps (peekable_parts t) (Some x) (looked_step m.steps (peekable_parts s) (peekable_parts t) (Some x) w).1;
+    next = λ s x t r u w step. step_of_looked (peekable_parts s) (peekable_parts t) (peekable_parts u) x r w step;
+    again = λ s x t y u w v. looked_again (peekable_parts s) (peekable_parts t) (peekable_parts u) x y w v;
+    first = λ s x u step. (of_held (u.it, Some (Some x)), peeks_looks_first m.steps (peekable_parts s) (peekable_parts u) x step, (refl, refl, none_held_after_draw m.steps (peekable_parts s) (peekable_parts u) (item x) step));
+    same = λ s x t w. peeks_held_again m.steps (peekable_parts t) (Some x) (looked_step m.steps (peekable_parts s) (peekable_parts t) (Some x) w).1;
   }
 
 -- ---- what is borrowed looks ahead as it does itself
 
 module _ {S X E : Type 0} {m : Contract S X E} {looks : S → X → S → Type 0} (k : LooksAhead m looks) where
-  kept_borrowed : (s t : MutBor S) (x : X) → m.can_next s.now → borrowed_looks looks s x t → KeptByDraw (borrowed m) s end t
-  kept_borrowed s t x c w = let a = k.kept s.now x t.now c w.0 in record { can_next = a.can_next; is_finite = a.is_finite; answer = a.answer; may_give = a.may_give; may_fail = a.may_fail; lenders = ap₂ lender_and w.1 a.lenders }
+  kept_by_draw_borrowed : (s t : MutBor S) (x : X) → m.can_next s.now → borrowed_looks looks s x t → KeptByDraw (borrowed m) s end t
+  kept_by_draw_borrowed s t x c w = let a = k.kept s.now x t.now c w.0 in record { can_next = a.can_next; is_finite = a.is_finite; answer = a.answer; may_give = a.may_give; may_fail = a.may_fail; lenders = ap₂ lender_and w.1 a.lenders }
 
-  pub borrowed_looking : LooksAhead (borrowed m) (borrowed_looks looks)
-  borrowed_looking = record {
-    kept = λ s x t c w. kept_borrowed s t x c w;
+  pub looks_ahead_borrowed_looking : LooksAhead (borrowed m) (borrowed_looks looks)
+  looks_ahead_borrowed_looking = record {
+    kept = λ s x t c w. kept_by_draw_borrowed s t x c w;
     given = λ s x t c w. k.given s.now x t.now c w.0;
     comes = λ s x t w. let d = k.comes s.now x t.now w.0 in (record s { now = d.0 }, (d.1, refl));
     next = λ s x t r u w step. let d = k.next s.now x t.now r u.now w.0 step.0 in (d.0, (d.1, step.1 ∙ w.1));
@@ -127,37 +127,37 @@ module _ {S X E : Type 0} {m : Contract S X E} {looks : S → X → S → Type 0
 -- ---- the adapter
 
 module _ {S F X E : Type 0} (m : Contract S X E) (l : Lawful m) (looks : S → X → S → Type 0) (k : LooksAhead m looks) (g : Mut F (Bor X × Unit {0}) (Result Bool E)) where
-  abbrev callable : (X → Type 0) → F → Type 0
-  callable P f = IsCallable (call_at g) (takes_at g) P f
+  abbrev callable_here : (X → Type 0) → F → Type 0
+  callable_here P f = IsCallable (call_at g) (takes_at g) P f
 
-  abbrev passing : Contract (S × F) X E
-  passing = passing_contract m (call_at g) callable take_while_outcome (λ p h. upper_alone m p.0 h)
+  abbrev PassingHere : Contract (S × F) X E
+  PassingHere = passing_contract m (call_at g) callable_here take_while_outcome (λ p h. upper_alone m p.0 h)
 
-  abbrev N : Contract (S × F) X E
-  N = peeking_contract m looks g
+  abbrev PeekingHere : Contract (S × F) X E
+  PeekingHere = peeking_contract m looks g
 
-  lawful_taking : Lawful passing
-  lawful_taking = lawful_passing (call_at g) callable take_while_outcome (λ p h. upper_alone m p.0 h) (λ P Q f h weak reached c. callable_after weak reached c) l
+  lawful_taking : Lawful PassingHere
+  lawful_taking = lawful_passing (call_at g) callable_here take_while_outcome (λ p h. upper_alone m p.0 h) (λ P PeekableHere f h weak reached c. is_callable_after weak reached c) l
 
   -- what a draw keeps, whatever the steps are
-  answer_as : (p q : S × F) (r : Answered X E) → OnAnswer passing p r q → OnAnswer N p r q
-  answer_as p q (Ok (Some x)) h = h
-  answer_as p q (Ok None) h = h
-  answer_as p q (Err e) h = h
+  on_answer_as : (p q : S × F) (r : Answered X E) → OnAnswer PassingHere p r q → OnAnswer PeekingHere p r q
+  on_answer_as p q (Ok (Some x)) h = h
+  on_answer_as p q (Ok None) h = h
+  on_answer_as p q (Err e) h = h
 
-  kept_as : (p q : S × F) (r : Answered X E) → KeptByDraw passing p r q → KeptByDraw N p r q
-  kept_as p q r a = record { can_next = a.can_next; is_finite = a.is_finite; answer = answer_as p q r a.answer; may_give = a.may_give; may_fail = a.may_fail; lenders = a.lenders }
+  kept_by_draw_as : (p q : S × F) (r : Answered X E) → KeptByDraw PassingHere p r q → KeptByDraw PeekingHere p r q
+  kept_by_draw_as p q r a = record { can_next = a.can_next; is_finite = a.is_finite; answer = on_answer_as p q r a.answer; may_give = a.may_give; may_fail = a.may_fail; lenders = a.lenders }
 
   -- the one call at a place
-  one_call : (p q : F) (x : X) (v : Result Bool E) → Calls (call_at g) p ((x, v) ∷ []) q → call_at g p x v q
-  one_call p q x v called = subst (λ (h : F). call_at g p x v h) called.2 called.1
+  call_of_place : (p q : F) (x : X) (v : Result Bool E) → Calls (call_at g) p ((x, v) ∷ []) q → call_at g p x v q
+  call_of_place p q x v called = subst (λ (h : F). call_at g p x v h) called.2 called.1
 
-  refused_goes : (p q : S) (f h : F) (x : X) → N.can_next (p, f) → looks p x q → call_at g f x (Ok false) h → KeptByDraw N (p, f) end (q, h)
-  refused_goes p q f h x c look called =
+  kept_by_draw_refused : (p q : S) (f h : F) (x : X) → PeekingHere.can_next (p, f) → looks p x q → call_at g f x (Ok false) h → KeptByDraw PeekingHere (p, f) end (q, h)
+  kept_by_draw_refused p q f h x c look called =
       let a = k.kept p x q c.0 look in
       let reached : Reaches (call_at g) (m.may_give p) f h = reaches_from x (Ok false) (k.given p x q c.0 look) called reaches_here in
       record {
-        can_next = (a.can_next, callable_after a.may_give reached c.1);
+        can_next = (a.can_next, is_callable_after a.may_give reached c.1);
         is_finite = a.is_finite;
         answer = a.answer;
         may_give = λ y b. may_answer_after a.may_give reached b;
@@ -165,15 +165,15 @@ module _ {S F X E : Type 0} (m : Contract S X E) (l : Lawful m) (looks : S → X
         lenders = a.lenders;
       }
 
-  place_goes : (z : Place X (Result Bool E) E) (p q : S) (f h : F) → N.can_next (p, f) → DrawnAt m.steps looks z p q → Calls (call_at g) f (filter_map call_of (z ∷ [])) h → KeptByDraw N (p, f) (taken_answer z) (q, h)
-  place_goes (asked x (Ok true)) p q f h c step called = kept_as (p, f) (q, h) (item x) (lawful_taking.kept_by_draw (p, f) (item x) (q, h) c (passes_item x (Ok true) x step (one_call f h x (Ok true) called) refl))
-  place_goes (asked x (Ok false)) p q f h c step called = refused_goes p q f h x c step (one_call f h x (Ok false) called)
-  place_goes (asked x (Err e)) p q f h c step called = kept_as (p, f) (q, h) (Err e) (lawful_taking.kept_by_draw (p, f) (failure e) (q, h) c (passes_refusal x (Err e) e step (one_call f h x (Err e) called) refl))
-  place_goes (failure_at e) p q f h c step called = kept_as (p, f) (q, h) (Err e) (lawful_taking.kept_by_draw (p, f) (failure e) (q, h) c (rw (sym called) (passes_failure step)))
-  place_goes end_at p q f h c step called = kept_as (p, f) (q, h) end (lawful_taking.kept_by_draw (p, f) end (q, h) c (rw (sym called) (passes_end step)))
+  kept_by_draw_place : (z : Place X (Result Bool E) E) (p q : S) (f h : F) → PeekingHere.can_next (p, f) → DrawsAtPlace m.steps looks z p q → Calls (call_at g) f (filter_map call_of (z ∷ [])) h → KeptByDraw PeekingHere (p, f) (taken_answer z) (q, h)
+  kept_by_draw_place (asked x (Ok true)) p q f h c step called = kept_by_draw_as (p, f) (q, h) (item x) (lawful_taking.kept_by_draw (p, f) (item x) (q, h) c (pass_trace_item x (Ok true) x step (call_of_place f h x (Ok true) called) refl))
+  kept_by_draw_place (asked x (Ok false)) p q f h c step called = kept_by_draw_refused p q f h x c step (call_of_place f h x (Ok false) called)
+  kept_by_draw_place (asked x (Err e)) p q f h c step called = kept_by_draw_as (p, f) (q, h) (Err e) (lawful_taking.kept_by_draw (p, f) (failure e) (q, h) c (pass_trace_refusal x (Err e) e step (call_of_place f h x (Err e) called) refl))
+  kept_by_draw_place (failure_at e) p q f h c step called = kept_by_draw_as (p, f) (q, h) (Err e) (lawful_taking.kept_by_draw (p, f) (failure e) (q, h) c (rw (sym called) (pass_trace_failure step)))
+  kept_by_draw_place end_at p q f h c step called = kept_by_draw_as (p, f) (q, h) end (lawful_taking.kept_by_draw (p, f) end (q, h) c (rw (sym called) (pass_trace_end step)))
 
-  goes_peeking : (p : S × F) (r : Answered X E) (q : S × F) → N.can_next p → N.steps p r q → KeptByDraw N p r q
-  goes_peeking p r q c w = subst (λ (a : Answered X E). KeptByDraw N p a q) (sym w.3) (place_goes w.0 p.0 q.0 p.1 q.1 c w.1 w.2)
+  kept_by_draw_peeking : (p : S × F) (r : Answered X E) (q : S × F) → PeekingHere.can_next p → PeekingHere.steps p r q → KeptByDraw PeekingHere p r q
+  kept_by_draw_peeking p r q c w = subst (λ (a : Answered X E). KeptByDraw PeekingHere p a q) (sym w.3) (kept_by_draw_place w.0 p.0 q.0 p.1 q.1 c w.1 w.2)
 
 pub lawful_peeking : {S F X E : Type 0} {m : Contract S X E} {looks : S → X → S → Type 0} (g : Mut F (Bor X × Unit {0}) (Result Bool E)) → Lawful m → LooksAhead m looks → Lawful (peeking_contract m looks g)
-lawful_peeking {m = m} {looks = looks} g l k = record { kept_by_draw = λ p r q c w. goes_peeking m l looks k g p r q c w; bounded = λ p. l.bounded p.0 }
+lawful_peeking {m = m} {looks = looks} g l k = record { kept_by_draw = λ p r q c w. kept_by_draw_peeking m l looks k g p r q c w; bounded = λ p. l.bounded p.0 }

@@ -5,7 +5,7 @@ use Rattle.std.proofs.Common.{refl, sym, subst, ap₂, arith, inl, inr}
 use Rattle.fallible_iterator.specs.Traces.{Answered, item, failure, end}
 use Rattle.fallible_iterator.specs.Contract.{Contract, OnAnswer, KeptByDraw, Lawful, lenders_of_both}
 use Rattle.fallible_iterator.specs.Held.{held_count}
-use Rattle.fallible_itertools.specs.Sides.{Gives, GivesIf, side_bound, side_remaining, side_gives, Rule, SidesPlace, left_failed, right_failed, both_gave, left_gave, right_gave, left_behind, right_behind, place_answer, place_decides, sides_contract}
+use Rattle.fallible_itertools.specs.Sides.{Gives, GivesIf, side_bound, side_remaining, side_gives, Rule, SidesPlace, left_failed, right_failed, both_gave, left_gave, right_gave, left_held_after, right_held_after, place_answer, place_decides, sides_contract}
 use Rattle.fallible_iterator.specs.Laws.Joining.Chain.{both_finite, sum_finite}
 
 -- a sum of counts is finite where both are
@@ -28,51 +28,51 @@ module _ {S A E : Type 0} (m : Contract S A E) where
     pub lenders : m.lenders q.0 ≡ m.lenders p.0
 
   -- a side that consumes so many consumes fewer as well
-  fewer_let_go : (p q : S × Option A) {i j : ℕ} → SideKept p q i i → j ≤ i → SideKept p q j j
-  fewer_let_go p q k le = record { can_next = k.can_next; is_finite = k.is_finite; bound = λ n b. let a = k.bound n b in (a.0, a.1, omega (arith, a.2, le)); remaining = λ f. let a = k.remaining f in (a.0, omega (arith, a.1, le)); gives = k.gives; fails = k.fails; lenders = k.lenders }
+  side_kept_fewer_let_go : (p q : S × Option A) {i j : ℕ} → SideKept p q i i → j ≤ i → SideKept p q j j
+  side_kept_fewer_let_go p q k le = record { can_next = k.can_next; is_finite = k.is_finite; bound = λ n b. let a = k.bound n b in (a.0, a.1, omega (arith, a.2, le)); remaining = λ f. let a = k.remaining f in (a.0, omega (arith, a.1, le)); gives = k.gives; fails = k.fails; lenders = k.lenders }
 
   -- a side that isn't drawn stays
-  pub side_stays : (p : S × Option A) → m.can_next p.0 → SideKept p p 0 0
-  side_stays p c = record { can_next = c; is_finite = λ h. h; bound = λ n b. (n, b, omega arith); remaining = λ f. (f, omega arith); gives = λ y h. h; fails = λ e h. h; lenders = refl }
+  pub side_kept_stays : (p : S × Option A) → m.can_next p.0 → SideKept p p 0 0
+  side_kept_stays p c = record { can_next = c; is_finite = λ h. h; bound = λ n b. (n, b, omega arith); remaining = λ f. (f, omega arith); gives = λ y h. h; fails = λ e h. h; lenders = refl }
 
   -- a side yields its held item
-  held_given : (s : S) (x : A) → m.can_next s → SideKept (s, Some x) (s, None) 1 1
-  held_given s x c = record { can_next = c; is_finite = λ h. h; bound = λ n b. b; remaining = λ f. (f, omega arith); gives = λ y h. inr h; fails = λ e h. h; lenders = refl }
+  side_kept_held_given : (s : S) (x : A) → m.can_next s → SideKept (s, Some x) (s, None) 1 1
+  side_kept_held_given s x c = record { can_next = c; is_finite = λ h. h; bound = λ n b. b; remaining = λ f. (f, omega arith); gives = λ y h. inr h; fails = λ e h. h; lenders = refl }
 
   module _ (l : Lawful m) where
-    item_drawn : (s t : S) (x : A) → m.can_next s → m.steps s (item x) t → SideKept (s, None) (t, None) 1 1
-    item_drawn s t x c step = let a = l.kept_by_draw s (item x) t c step in record { can_next = a.can_next; is_finite = a.is_finite; bound = λ n b. let k = a.answer.1 n b in (k.0, k.1, omega (arith, k.2)); remaining = λ f. let j = a.answer.2 f in (j.0, omega (arith, j.1)); gives = a.may_give; fails = a.may_fail; lenders = a.lenders }
+    side_kept_item_drawn : (s t : S) (x : A) → m.can_next s → m.steps s (item x) t → SideKept (s, None) (t, None) 1 1
+    side_kept_item_drawn s t x c step = let a = l.kept_by_draw s (item x) t c step in record { can_next = a.can_next; is_finite = a.is_finite; bound = λ n b. let k = a.answer.1 n b in (k.0, k.1, omega (arith, k.2)); remaining = λ f. let j = a.answer.2 f in (j.0, omega (arith, j.1)); gives = a.may_give; fails = a.may_fail; lenders = a.lenders }
 
-    end_drawn : (s t : S) → m.can_next s → m.steps s end t → SideKept (s, None) (t, None) 0 0
-    end_drawn s t c step = let a = l.kept_by_draw s end t c step in record { can_next = a.can_next; is_finite = a.is_finite; bound = λ n b. let k = a.answer.0 n b in (k.0, k.1, omega (arith, k.2)); remaining = λ f. let j = a.answer.1 f in (j.0, omega (arith, j.1)); gives = a.may_give; fails = a.may_fail; lenders = a.lenders }
+    side_kept_end_drawn : (s t : S) → m.can_next s → m.steps s end t → SideKept (s, None) (t, None) 0 0
+    side_kept_end_drawn s t c step = let a = l.kept_by_draw s end t c step in record { can_next = a.can_next; is_finite = a.is_finite; bound = λ n b. let k = a.answer.0 n b in (k.0, k.1, omega (arith, k.2)); remaining = λ f. let j = a.answer.1 f in (j.0, omega (arith, j.1)); gives = a.may_give; fails = a.may_fail; lenders = a.lenders }
 
-    failure_drawn : (s t : S) (e : E) → m.can_next s → m.steps s (failure e) t → SideKept (s, None) (t, None) 0 1
-    failure_drawn s t e c step = let a = l.kept_by_draw s (failure e) t c step in record { can_next = a.can_next; is_finite = a.is_finite; bound = λ n b. let k = a.answer.1 n b in (k.0, k.1, omega (arith, k.2)); remaining = λ f. let j = a.answer.2 f in (j.0, omega (arith, j.1)); gives = a.may_give; fails = a.may_fail; lenders = a.lenders }
+    side_kept_failure_drawn : (s t : S) (e : E) → m.can_next s → m.steps s (failure e) t → SideKept (s, None) (t, None) 0 1
+    side_kept_failure_drawn s t e c step = let a = l.kept_by_draw s (failure e) t c step in record { can_next = a.can_next; is_finite = a.is_finite; bound = λ n b. let k = a.answer.1 n b in (k.0, k.1, omega (arith, k.2)); remaining = λ f. let j = a.answer.2 f in (j.0, omega (arith, j.1)); gives = a.may_give; fails = a.may_fail; lenders = a.lenders }
 
     -- a side fails, which holds nothing then
-    pub side_fails : (p : S × Option A) (t : S) (e : E) → m.can_next p.0 → Gives m.steps p (failure e) t → SideKept p (t, None) 0 1 × m.may_fail p.0 e
-    side_fails (s, Some x) t e c g = absurd (let no = g.0 in cc)
-    side_fails (s, None) t e c g = (failure_drawn s t e c g, (l.kept_by_draw s (failure e) t c g).answer.0)
+    pub side_kept_fails : (p : S × Option A) (t : S) (e : E) → m.can_next p.0 → Gives m.steps p (failure e) t → SideKept p (t, None) 0 1 × m.may_fail p.0 e
+    side_kept_fails (s, Some x) t e c g = absurd (let no = g.0 in cc)
+    side_kept_fails (s, None) t e c g = (side_kept_failure_drawn s t e c g, (l.kept_by_draw s (failure e) t c g).answer.0)
 
     -- a side yields an item or an end, and holds nothing then
-    pub side_given : (p : S × Option A) (t : S) (x : Option A) → m.can_next p.0 → Gives m.steps p (Ok x) t → SideKept p (t, None) (held_count x) (held_count x) × OfItem (side_gives m p) x
-    side_given (s, Some y) t (Some x) c g = let same : x ≡ y = (let e = g.0 in cc) in (subst (λ (u : S). SideKept (s, Some y) (u, None) 1 1) (sym g.1) (held_given s y c), inl same)
-    side_given (s, Some y) t None c g = absurd (let no = g.0 in cc)
-    side_given (s, None) t (Some x) c g = (item_drawn s t x c g, (l.kept_by_draw s (item x) t c g).answer.0)
-    side_given (s, None) t None c g = (end_drawn s t c g, tt)
+    pub side_kept_given : (p : S × Option A) (t : S) (x : Option A) → m.can_next p.0 → Gives m.steps p (Ok x) t → SideKept p (t, None) (held_count x) (held_count x) × OfItem (side_gives m p) x
+    side_kept_given (s, Some y) t (Some x) c g = let same : x ≡ y = (let e = g.0 in cc) in (subst (λ (u : S). SideKept (s, Some y) (u, None) 1 1) (sym g.1) (side_kept_held_given s y c), inl same)
+    side_kept_given (s, Some y) t None c g = absurd (let no = g.0 in cc)
+    side_kept_given (s, None) t (Some x) c g = (side_kept_item_drawn s t x c g, (l.kept_by_draw s (item x) t c g).answer.0)
+    side_kept_given (s, None) t None c g = (side_kept_end_drawn s t c g, tt)
 
     -- what was yielded is held again
-    put_back : (p : S × Option A) (t : S) (x : Option A) → SideKept p (t, None) (held_count x) (held_count x) → OfItem (side_gives m p) x → SideKept p (t, x) 0 0
-    put_back p t None k g = k
-    put_back p t (Some x) k g = record { can_next = k.can_next; is_finite = k.is_finite; bound = λ n b. let j = k.bound n b in (j.0 + 1, (j.0, j.1, omega arith), omega (arith, j.2)); remaining = λ f. let j = k.remaining f in (j.0, omega (arith, j.1)); gives = λ y h. elim h [ inl e ↦ subst (λ (z : A). side_gives m p z) (sym e) g | inr h ↦ k.gives y h ]; fails = k.fails; lenders = k.lenders }
+    side_kept_put_back : (p : S × Option A) (t : S) (x : Option A) → SideKept p (t, None) (held_count x) (held_count x) → OfItem (side_gives m p) x → SideKept p (t, x) 0 0
+    side_kept_put_back p t None k g = k
+    side_kept_put_back p t (Some x) k g = record { can_next = k.can_next; is_finite = k.is_finite; bound = λ n b. let j = k.bound n b in (j.0 + 1, (j.0, j.1, omega arith), omega (arith, j.2)); remaining = λ f. let j = k.remaining f in (j.0, omega (arith, j.1)); gives = λ y h. elim h [ inl e ↦ subst (λ (z : A). side_gives m p z) (sym e) g | inr h ↦ k.gives y h ]; fails = k.fails; lenders = k.lenders }
 
-    pub side_puts_back : (p : S × Option A) (t : S) (x : Option A) → m.can_next p.0 → Gives m.steps p (Ok x) t → SideKept p (t, x) 0 0
-    side_puts_back p t x c g = let k = side_given p t x c g in put_back p t x k.0 k.1
+    pub side_kept_puts_back : (p : S × Option A) (t : S) (x : Option A) → m.can_next p.0 → Gives m.steps p (Ok x) t → SideKept p (t, x) 0 0
+    side_kept_puts_back p t x c g = let k = side_kept_given p t x c g in side_kept_put_back p t x k.0 k.1
 
     -- what was yielded is held again, or dropped
-    pub side_holds : (p : S × Option A) (t : S) (x h : Option A) → (h ≡ None) ⊎ (h ≡ x) → m.can_next p.0 → Gives m.steps p (Ok x) t → SideKept p (t, h) (held_count x - held_count h) (held_count x - held_count h)
-    side_holds p t x h (inl e) c g = rw e (fewer_let_go p (t, None) (side_given p t x c g).0 (omega arith))
-    side_holds p t x h (inr e) c g = rw e (fewer_let_go p (t, x) (side_puts_back p t x c g) (omega arith))
+    pub side_kept_holds : (p : S × Option A) (t : S) (x h : Option A) → (h ≡ None) ⊎ (h ≡ x) → m.can_next p.0 → Gives m.steps p (Ok x) t → SideKept p (t, h) (held_count x - held_count h) (held_count x - held_count h)
+    side_kept_holds p t x h (inl e) c g = rw e (side_kept_fewer_let_go p (t, None) (side_kept_given p t x c g).0 (omega arith))
+    side_kept_holds p t x h (inr e) c g = rw e (side_kept_fewer_let_go p (t, x) (side_kept_puts_back p t x c g) (omega arith))
 
 -- ---- both sides
 
@@ -95,36 +95,36 @@ module _ {A B C E F V : Type 0} (rule : Rule A B C E F V) where
     pub refuses_before : (P P' : A → Type 0) (Q Q' : B → Type 0) (f : F) (x : Option A) (y : Option B) (v : V) (g : F) (e : E) → ((z : A) → P' z → P z) → ((z : B) → Q' z → Q z) → OfItem P x → OfItem Q y → rule.decides f x y v g → rule.refuses P' Q' g e → rule.refuses P Q f e
 
 module _ {S U A B C E F V : Type 0} (left : Contract S A E) (right : Contract U B E) (rule : Rule A B C E F V) (hints : (S × Option A) × (U × Option B) × F → ℕ × Option ℕ → Type 0) where
-  abbrev Parts : Type 0
-  Parts = (S × Option A) × (U × Option B) × F
+  abbrev SidesState : Type 0
+  SidesState = (S × Option A) × (U × Option B) × F
 
-  abbrev J : Contract Parts C E
-  J = sides_contract left right rule hints
+  abbrev SidesHere : Contract SidesState C E
+  SidesHere = sides_contract left right rule hints
 
   -- an item consumes one item at least, and a failure an item or a failure
-  abbrev Owed : Parts → Answered C E → ℕ → ℕ → Type 0
-  Owed p (Ok (Some z)) i d = J.may_give p z × (1 ≤ i) × (1 ≤ d)
-  Owed p (Ok None) i d = ⊤
-  Owed p (Err e) i d = J.may_fail p e × (1 ≤ d)
+  abbrev OwedFor : SidesState → Answered C E → ℕ → ℕ → Type 0
+  OwedFor p (Ok (Some z)) i d = SidesHere.may_give p z × (1 ≤ i) × (1 ≤ d)
+  OwedFor p (Ok None) i d = ⊤
+  OwedFor p (Err e) i d = SidesHere.may_fail p e × (1 ≤ d)
 
   -- what is left of both sides
-  module _ (p q : Parts) (i d j k : ℕ) (a : SideKept left p.0 q.0 i d) (b : SideKept right p.1 q.1 j k) where
-    bounds : (n : ℕ) → J.bound p n → (m : ℕ) × J.bound q m × (m + (i + j) ≤ n)
-    bounds n h = let x = a.bound h.0 h.2 in let y = b.bound h.1 h.3 in (x.0 + y.0, (x.0, y.0, x.1, y.1, omega arith), omega (arith, x.2, y.2, h.4))
+  module _ (p q : SidesState) (i d j k : ℕ) (a : SideKept left p.0 q.0 i d) (b : SideKept right p.1 q.1 j k) where
+    bound_after : (n : ℕ) → SidesHere.bound p n → (m : ℕ) × SidesHere.bound q m × (m + (i + j) ≤ n)
+    bound_after n h = let x = a.bound h.0 h.2 in let y = b.bound h.1 h.3 in (x.0 + y.0, (x.0, y.0, x.1, y.1, omega arith), omega (arith, x.2, y.2, h.4))
 
-    remains : IsFinite (J.remaining p) → IsFinite (J.remaining q) × (size (J.remaining q) + (d + k) ≤ size (J.remaining p))
-    remains f = let both = both_finite (side_remaining left p.0).bounded (side_remaining right p.1).bounded f in let x = a.remaining both.0 in let y = b.remaining both.1 in (sum_finite (side_remaining left q.0).bounded (side_remaining right q.1).bounded x.0 y.0, omega (arith, x.1, y.1))
+    remaining_is_finite_after : IsFinite (SidesHere.remaining p) → IsFinite (SidesHere.remaining q) × (size (SidesHere.remaining q) + (d + k) ≤ size (SidesHere.remaining p))
+    remaining_is_finite_after f = let both = both_finite (side_remaining left p.0).bounded (side_remaining right p.1).bounded f in let x = a.remaining both.0 in let y = b.remaining both.1 in (sum_finite (side_remaining left q.0).bounded (side_remaining right q.1).bounded x.0 y.0, omega (arith, x.1, y.1))
 
-    answer_of : (r : Answered C E) → Owed p r (i + j) (d + k) → OnAnswer J p r q
-    answer_of (Ok (Some z)) o = (o.0, (λ n h. let m = bounds n h in (m.0, m.1, omega (arith, m.2, o.1))), (λ f. let m = remains f in (m.0, omega (arith, m.1, o.2))))
-    answer_of (Ok None) o = ((λ n h. let m = bounds n h in (m.0, m.1, omega (arith, m.2))), (λ f. let m = remains f in (m.0, omega (arith, m.1))))
-    answer_of (Err e) o = (o.0, (λ n h. let m = bounds n h in (m.0, m.1, omega (arith, m.2))), (λ f. let m = remains f in (m.0, omega (arith, m.1, o.1))))
+    on_answer_of_sides : (r : Answered C E) → OwedFor p r (i + j) (d + k) → OnAnswer SidesHere p r q
+    on_answer_of_sides (Ok (Some z)) o = (o.0, (λ n h. let m = bound_after n h in (m.0, m.1, omega (arith, m.2, o.1))), (λ f. let m = remaining_is_finite_after f in (m.0, omega (arith, m.1, o.2))))
+    on_answer_of_sides (Ok None) o = ((λ n h. let m = bound_after n h in (m.0, m.1, omega (arith, m.2))), (λ f. let m = remaining_is_finite_after f in (m.0, omega (arith, m.1))))
+    on_answer_of_sides (Err e) o = (o.0, (λ n h. let m = bound_after n h in (m.0, m.1, omega (arith, m.2))), (λ f. let m = remaining_is_finite_after f in (m.0, omega (arith, m.1, o.1))))
 
-    pub both_go : IsLawfulRule rule → (r : Answered C E) → Owed p r (i + j) (d + k) → rule.askable (side_gives left q.0) (side_gives right q.1) q.2 → ((e : E) → rule.refuses (side_gives left q.0) (side_gives right q.1) q.2 e → rule.refuses (side_gives left p.0) (side_gives right p.1) p.2 e) → KeptByDraw J p r q
-    both_go w r o askable refuses = record {
+    pub kept_by_draw_of_both : IsLawfulRule rule → (r : Answered C E) → OwedFor p r (i + j) (d + k) → rule.askable (side_gives left q.0) (side_gives right q.1) q.2 → ((e : E) → rule.refuses (side_gives left q.0) (side_gives right q.1) q.2 e → rule.refuses (side_gives left p.0) (side_gives right p.1) p.2 e) → KeptByDraw SidesHere p r q
+    kept_by_draw_of_both w r o askable refuses = record {
       can_next = (a.can_next, b.can_next, askable);
       is_finite = λ h. (a.is_finite h.0, b.is_finite h.1);
-      answer = answer_of r o;
+      answer = on_answer_of_sides r o;
       may_give = λ z h. w.gives_more (side_gives left p.0) (side_gives left q.0) (side_gives right p.1) (side_gives right q.1) z a.gives b.gives h;
       may_fail = λ e h. elim h [ inl x ↦ inl (a.fails e x) | inr y ↦ elim y [ inl z ↦ inr (inl (b.fails e z)) | inr z ↦ inr (inr (refuses e z)) ] ];
       lenders = ap₂ lenders_of_both a.lenders b.lenders;
@@ -132,40 +132,40 @@ module _ {S U A B C E F V : Type 0} (left : Contract S A E) (right : Contract U 
 
   module _ (l : Lawful left) (m : Lawful right) (w : IsLawfulRule rule) where
     -- what the rule makes is owed
-    owed : (p : Parts) (n : ℕ) (r : Answered C E) → MadeBy rule (side_gives left p.0) (side_gives right p.1) p.2 n r → Owed p r n n
-    owed p n (Ok (Some z)) o = (o.0, o.1, o.1)
-    owed p n (Ok None) o = tt
-    owed p n (Err e) o = (inr (inr o.0), o.1)
+    owed_by_rule : (p : SidesState) (n : ℕ) (r : Answered C E) → MadeBy rule (side_gives left p.0) (side_gives right p.1) p.2 n r → OwedFor p r n n
+    owed_by_rule p n (Ok (Some z)) o = (o.0, o.1, o.1)
+    owed_by_rule p n (Ok None) o = tt
+    owed_by_rule p n (Err e) o = (inr (inr o.0), o.1)
 
-    goes_place : (p : Parts) (t : S) (u : U) (g : F) (x : SidesPlace A B E V) → J.can_next p → GivesIf left.steps p.0 (left_gave x) t → GivesIf right.steps p.1 (right_gave x) u → place_decides rule p.2 x g → KeptByDraw J p (place_answer rule x) ((t, left_behind rule p.0.1 x), (u, right_behind rule p.1.1 x), g)
-    goes_place p t u g (left_failed e) c a b d =
-        let k = side_fails left l p.0 t e c.0 a in
-        rw (b, d) (both_go p ((t, None), p.1, p.2) 0 1 0 0 k.0 (side_stays right p.1 c.1) w (failure e) (inl k.1, omega arith) (w.askable_less (side_gives left p.0) (side_gives left (t, None)) (side_gives right p.1) (side_gives right p.1) p.2 k.0.gives (λ z h. h) c.2) (λ e h. w.refuses_more (side_gives left p.0) (side_gives left (t, None)) (side_gives right p.1) (side_gives right p.1) p.2 e k.0.gives (λ z h. h) h))
-    goes_place p t u g (right_failed x e) c a b d =
-        let k = side_puts_back left l p.0 t x c.0 a in
-        let j = side_fails right m p.1 u e c.1 b in
-        rw d (both_go p ((t, x), (u, None), p.2) 0 0 0 1 k j.0 w (failure e) (inr (inl j.1), omega arith) (w.askable_less (side_gives left p.0) (side_gives left (t, x)) (side_gives right p.1) (side_gives right (u, None)) p.2 k.gives j.0.gives c.2) (λ e h. w.refuses_more (side_gives left p.0) (side_gives left (t, x)) (side_gives right p.1) (side_gives right (u, None)) p.2 e k.gives j.0.gives h))
-    goes_place p t u g (both_gave x y v) c a b d =
+    kept_by_draw_place : (p : SidesState) (t : S) (u : U) (g : F) (x : SidesPlace A B E V) → SidesHere.can_next p → GivesIf left.steps p.0 (left_gave x) t → GivesIf right.steps p.1 (right_gave x) u → place_decides rule p.2 x g → KeptByDraw SidesHere p (place_answer rule x) ((t, left_held_after rule p.0.1 x), (u, right_held_after rule p.1.1 x), g)
+    kept_by_draw_place p t u g (left_failed e) c a b d =
+        let k = side_kept_fails left l p.0 t e c.0 a in
+        rw (b, d) (kept_by_draw_of_both p ((t, None), p.1, p.2) 0 1 0 0 k.0 (side_kept_stays right p.1 c.1) w (failure e) (inl k.1, omega arith) (w.askable_less (side_gives left p.0) (side_gives left (t, None)) (side_gives right p.1) (side_gives right p.1) p.2 k.0.gives (λ z h. h) c.2) (λ e h. w.refuses_more (side_gives left p.0) (side_gives left (t, None)) (side_gives right p.1) (side_gives right p.1) p.2 e k.0.gives (λ z h. h) h))
+    kept_by_draw_place p t u g (right_failed x e) c a b d =
+        let k = side_kept_puts_back left l p.0 t x c.0 a in
+        let j = side_kept_fails right m p.1 u e c.1 b in
+        rw d (kept_by_draw_of_both p ((t, x), (u, None), p.2) 0 0 0 1 k j.0 w (failure e) (inr (inl j.1), omega arith) (w.askable_less (side_gives left p.0) (side_gives left (t, x)) (side_gives right p.1) (side_gives right (u, None)) p.2 k.gives j.0.gives c.2) (λ e h. w.refuses_more (side_gives left p.0) (side_gives left (t, x)) (side_gives right p.1) (side_gives right (u, None)) p.2 e k.gives j.0.gives h))
+    kept_by_draw_place p t u g (both_gave x y v) c a b d =
         let h = rule.left_held x y v in
         let i = rule.right_held x y v in
-        let k = side_holds left l p.0 t x h (w.left_kept x y v) c.0 a in
-        let j = side_holds right m p.1 u y i (w.right_kept x y v) c.1 b in
+        let k = side_kept_holds left l p.0 t x h (w.left_kept x y v) c.0 a in
+        let j = side_kept_holds right m p.1 u y i (w.right_kept x y v) c.1 b in
         let n = held_count x - held_count h in
         let o = held_count y - held_count i in
-        let P = (side_given left l p.0 t x c.0 a).1 in
-        let Q = (side_given right m p.1 u y c.1 b).1 in
-        both_go p ((t, h), (u, i), g) n n o o k j w (rule.answer x y v) (owed p (n + o) (rule.answer x y v) (w.made (side_gives left p.0) (side_gives right p.1) p.2 x y v g P Q d)) (w.askable_after (side_gives left p.0) (side_gives left (t, h)) (side_gives right p.1) (side_gives right (u, i)) p.2 x y v g k.gives j.gives P Q d c.2) (λ e r. w.refuses_before (side_gives left p.0) (side_gives left (t, h)) (side_gives right p.1) (side_gives right (u, i)) p.2 x y v g e k.gives j.gives P Q d r)
+        let P = (side_kept_given left l p.0 t x c.0 a).1 in
+        let Q = (side_kept_given right m p.1 u y c.1 b).1 in
+        kept_by_draw_of_both p ((t, h), (u, i), g) n n o o k j w (rule.answer x y v) (owed_by_rule p (n + o) (rule.answer x y v) (w.made (side_gives left p.0) (side_gives right p.1) p.2 x y v g P Q d)) (w.askable_after (side_gives left p.0) (side_gives left (t, h)) (side_gives right p.1) (side_gives right (u, i)) p.2 x y v g k.gives j.gives P Q d c.2) (λ e r. w.refuses_before (side_gives left p.0) (side_gives left (t, h)) (side_gives right p.1) (side_gives right (u, i)) p.2 x y v g e k.gives j.gives P Q d r)
 
-    goes_sides : (p : Parts) (r : Answered C E) (q : Parts) → J.can_next p → J.steps p r q → KeptByDraw J p r q
-    goes_sides p r ((t, h), (u, k), g) c step = rw (step.2, step.4, step.6) (goes_place p t u g step.0 c step.1 step.3 step.5)
+    kept_by_draw_sides : (p : SidesState) (r : Answered C E) (q : SidesState) → SidesHere.can_next p → SidesHere.steps p r q → KeptByDraw SidesHere p r q
+    kept_by_draw_sides p r ((t, h), (u, k), g) c step = rw (step.2, step.4, step.6) (kept_by_draw_place p t u g step.0 c step.1 step.3 step.5)
 
     bound_of_side : {T X : Type 0} (s : Contract T X E) → Lawful s → (z : T × Option X) → s.is_finite z.0 ↔ ((n : ℕ) × side_bound s z n)
     bound_of_side s law (t, Some x) = ((λ e. let k = (law.bounded t).0 e in (k.0 + 1, (k.0, k.1, omega arith))), (λ h. (law.bounded t).1 (h.1.0, h.1.1)))
     bound_of_side s law (t, None) = law.bounded t
 
-    pub lawful_sides : Lawful J
+    pub lawful_sides : Lawful SidesHere
     lawful_sides = record {
-      kept_by_draw = goes_sides;
+      kept_by_draw = kept_by_draw_sides;
       bounded = λ p. (
         (λ e. let a = (bound_of_side left l p.0).0 e.0 in let b = (bound_of_side right m p.1).0 e.1 in (a.0 + b.0, (a.0, b.0, a.1, b.1, omega arith))),
         (λ h. ((bound_of_side left l p.0).1 (h.1.0, h.1.2), (bound_of_side right m p.1).1 (h.1.1, h.1.3))),

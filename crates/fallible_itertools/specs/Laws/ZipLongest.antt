@@ -13,18 +13,18 @@ of_each_more P P' Q Q' (Both x y) p q h = (p x h.0, q y h.1)
 of_each_more P P' Q Q' (Left x) p q h = p x h
 of_each_more P P' Q Q' (Right y) p q h = q y h
 
-made_longest : {A B : Type 0} (E : Type 0) (P : A → Type 0) (Q : B → Type 0) (x : Option A) (y : Option B) → OfItem P x → OfItem Q y → MadeBy (longest_rule {A = A} {B = B} {E = E}) P Q tt ((held_count x - 0) + (held_count y - 0)) (Ok (longest x y))
-made_longest E P Q (Some x) (Some y) p q = ((p, q), omega arith)
-made_longest E P Q (Some x) None p q = (p, omega arith)
-made_longest E P Q None (Some y) p q = (q, omega arith)
-made_longest E P Q None None p q = tt
+made_by_longest : {A B : Type 0} (E : Type 0) (P : A → Type 0) (Q : B → Type 0) (x : Option A) (y : Option B) → OfItem P x → OfItem Q y → MadeBy (longest_rule {A = A} {B = B} {E = E}) P Q tt ((held_count x - 0) + (held_count y - 0)) (Ok (longest x y))
+made_by_longest E P Q (Some x) (Some y) p q = ((p, q), omega arith)
+made_by_longest E P Q (Some x) None p q = (p, omega arith)
+made_by_longest E P Q None (Some y) p q = (q, omega arith)
+made_by_longest E P Q None None p q = tt
 
 module _ {A B E : Type 0} where
-  pub lawful_longest : IsLawfulRule (longest_rule {A = A} {B = B} {E = E})
-  lawful_longest = record {
+  pub is_lawful_rule_longest : IsLawfulRule (longest_rule {A = A} {B = B} {E = E})
+  is_lawful_rule_longest = record {
     left_kept = λ x y v. inl refl;
     right_kept = λ x y v. inl refl;
-    made = λ P Q f x y v g p q d. made_longest E P Q x y p q;
+    made = λ P Q f x y v g p q d. made_by_longest E P Q x y p q;
     askable_less = λ P P' Q Q' f p q h. tt;
     askable_after = λ P P' Q Q' f x y v g p q i j d h. tt;
     gives_more = of_each_more;
@@ -33,4 +33,4 @@ module _ {A B E : Type 0} where
   }
 
 pub lawful_zip_longest : {S U A B E : Type 0} {left : Contract S A E} {right : Contract U B E} → Lawful left → Lawful right → Lawful (zip_longest_contract left right)
-lawful_zip_longest {left = left} {right = right} l k = lawful_sides left right longest_rule (zip_longest_hints left right) l k lawful_longest
+lawful_zip_longest {left = left} {right = right} l k = lawful_sides left right longest_rule (zip_longest_hints left right) l k is_lawful_rule_longest

@@ -6,7 +6,7 @@ ghost use Rattle.fallible_iterator.specs.Lists.{items};
 ghost use Rattle.fallible_iterator.specs.SoundHints.{KeepsBrackets, SoundHints};
 ghost use Rattle.fallible_itertools.specs.Adjacent.{AdjacentItems, IsGroup};
 ghost use Rattle.fallible_itertools.specs.ChunkBy.{ChunkByTrace, chunk_by_due, chunk_by_parts, chunk_by_source, chunked_by};
-ghost use Rattle.fallible_itertools.specs.Chunks.{BatchesOf, BatchesUpTo, ChunksTrace, chunked, chunks_due, chunks_parts, chunks_source, joined};
+ghost use Rattle.fallible_itertools.specs.Chunks.{BatchesOf, BatchesUpTo, ChunksTrace, chunked, chunks_due, chunks_parts, chunks_source, batches_joined};
 
 use crate::chunk_by::ChunkBy;
 use crate::chunks::Chunks;
@@ -25,7 +25,7 @@ where
 /// The batches of a list joined are its items, each batch has some and at most n, and the failures are the list's. What stands before a failure is batched by itself, and so is what comes after it. A batch that another one follows has n items. If nothing fails, each batch but the last has n items.
 pub fn law_chunked<T, E>()
     ensures items { (n : ℕ) → (l : List (Result T E))
-        → joined (items_listed (chunked n l)) ≡ items_listed l }
+        → batches_joined (items_listed (chunked n l)) ≡ items_listed l }
     ensures sizes { (n : ℕ) → (l : List (Result T E))
         → 0 < n → BatchesUpTo n (items_listed (chunked n l)) }
     ensures whole { (n : ℕ) → (xs : List T)
@@ -63,7 +63,7 @@ where
 /// The groups of a list joined are its items, if each item has a key. The key of a group is that of its first item, and those of its other items equal it. The keys of adjacent groups differ, unless a failure stands between. An item whose key fails is that failure in its place. What stands before a failure is grouped by itself, and so is what comes after it.
 pub fn law_chunked_by<T, K: PartialEq, E>()
     ensures items { (key : T → K) → (l : List (Result T E))
-        → joined (map (λ g. g.1) (items_listed (chunked_by K.eq (λ x. Ok (key x)) l)))
+        → batches_joined (map (λ g. g.1) (items_listed (chunked_by K.eq (λ x. Ok (key x)) l)))
         ≡ items_listed l }
     ensures groups { (h : T → Result K E) (l : List (Result T E))
         → All (IsGroup K.eq h) (items_listed (chunked_by K.eq h l)) }

@@ -5,7 +5,7 @@ use Rattle.std.proofs.lemmas.List.{length-append, length-map}
 use Rattle.fallible_iterator.specs.Traces.{Answered}
 use Rattle.fallible_iterator.specs.Collecting.{Collects}
 use Rattle.fallible_iterator.specs.Lists.{Lists, results}
-use Rattle.fallible_iterator.proofs.Lemmas.Lists.Drawn.{drawn}
+use Rattle.fallible_iterator.proofs.Lemmas.Lists.Drawn.{drawn_of_lists}
 use Rattle.example_chains.proofs.collecting.tallied.Goals as goal
 use Rattle.std.specs.declared.alloc.AllocError.{AllocError}
 use Rattle.fallible_iterator.specs.Fault.{Fault}
@@ -17,7 +17,7 @@ tally_full : {S E : Type 0} {steps : S → Answered ℕ E → S → Type 0} {s :
 tally_full l i (Source e) a k is = absurd cc
 tally_full l i (Memory b) a (inl k) is = absurd k
 tally_full {E = E} {steps = steps} {s = s} l i (Memory b) a (inr k) is =
-    let d = drawn steps k.items (Ok (Some k.refused)) l s k.after i.runs k.ran in
+    let d = drawn_of_lists steps k.items (Ok (Some k.refused)) l s k.after i.runs k.ran in
     let long = ap length d.list_is ∙ length-append (map (λ x. Ok x) k.items) d.rest in
     let front = length-map {B = Result ℕ E} k.items (λ x. Ok x) in
     let rest_is_long = ap length d.rest_is.1 in

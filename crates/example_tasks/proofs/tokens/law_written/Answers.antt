@@ -1,6 +1,6 @@
 -- A tree's tokens come to its value.
-use Rattle.example_tasks.proofs.GrammarLemmas.{evaluates}
+use Rattle.example_tasks.proofs.GrammarLemmas.{value_of_tokens_written}
 use Rattle.example_tasks.proofs.tokens.law_written.Goals as goal
 
 pub returns : goal.returns
-returns c = evaluates
+returns c = value_of_tokens_written

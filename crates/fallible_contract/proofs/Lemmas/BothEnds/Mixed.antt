@@ -2,20 +2,20 @@
 use Rattle.std.specs.Prelude.{List, [], ◌∷◌, ◌++◌, map}
 use Rattle.fallible_contract.specs.Traces.{Answered, Run, item}
 use Rattle.fallible_contract.specs.Folds.{Drained}
-use Rattle.fallible_contract.specs.Laws.Closures.{turns_then}
+use Rattle.fallible_contract.specs.Laws.Closures.{folds_to_then}
 use Rattle.fallible_contract.specs.BothEnds.{step_at, RunAtEnds, from_side}
 use Rattle.fallible_contract.specs.declared.answers.Side.{Side}
 
 module _ {S A E : Type 0} (front back : S → Answered A E → S → Type 0) where
   -- a run from one end
-  pub run_mixed : (side : Side) (trace : List (Answered A E)) (s t : S) → Run (step_at front back side) s trace t → RunAtEnds front back s (from_side side trace) t
-  run_mixed side [] s t ran = ran
-  run_mixed side (r ∷ trace) s t ran = (ran.0, ran.1, run_mixed side trace ran.0 t ran.2)
+  pub run_at_ends_mixed : (side : Side) (trace : List (Answered A E)) (s t : S) → Run (step_at front back side) s trace t → RunAtEnds front back s (from_side side trace) t
+  run_at_ends_mixed side [] s t ran = ran
+  run_at_ends_mixed side (r ∷ trace) s t ran = (ran.0, ran.1, run_at_ends_mixed side trace ran.0 t ran.2)
 
   -- draws, and then others
-  pub mix_then : (drawn others : List (Side × Answered A E)) (s t u : S) → RunAtEnds front back s drawn t → RunAtEnds front back t others u → RunAtEnds front back s (drawn ++ others) u
-  mix_then drawn others s t u first rest = turns_then _ drawn others s t u first rest
+  pub run_at_ends_then : (drawn others : List (Side × Answered A E)) (s t u : S) → RunAtEnds front back s drawn t → RunAtEnds front back t others u → RunAtEnds front back s (drawn ++ others) u
+  run_at_ends_then drawn others s t u first rest = folds_to_then _ drawn others s t u first rest
 
   -- a fold from one end, also one that stopped: its items, and the answer that decided
-  pub folded_mixed : {came : List A → Answered A E → Type 0} {s t : S} (side : Side) (fold : Drained (step_at front back side) came s t) → RunAtEnds front back s (from_side side (map item fold.items ++ fold.last ∷ [])) t
-  folded_mixed {s = s} {t = t} side fold = run_mixed side (map item fold.items ++ fold.last ∷ []) s t fold.ran
+  pub run_at_ends_of_fold : {came : List A → Answered A E → Type 0} {s t : S} (side : Side) (fold : Drained (step_at front back side) came s t) → RunAtEnds front back s (from_side side (map item fold.items ++ fold.last ∷ [])) t
+  run_at_ends_of_fold {s = s} {t = t} side fold = run_at_ends_mixed side (map item fold.items ++ fold.last ∷ []) s t fold.ran

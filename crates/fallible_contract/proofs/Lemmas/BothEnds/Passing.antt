@@ -7,11 +7,11 @@ use Rattle.std.proofs.lemmas.List.Elements.{filter_map-append, All-nil, All-cons
 use Rattle.fallible_contract.specs.Traces.{Answered, item, end}
 use Rattle.fallible_contract.specs.Passing.{passing_step}
 use Rattle.fallible_contract.specs.Closures.{Calls, Steady}
-use Rattle.fallible_contract.specs.Laws.Passing.{Passes, done, end_passes, failure_passes, keeps, refuses, closes, leaves_out, to_passes}
+use Rattle.fallible_contract.specs.Laws.Passing.{Passes, done, end_passes, failure_passes, keeps, refuses, closes, leaves_out, passes_of_pass_trace}
 use Rattle.fallible_contract.specs.BothEnds.{TakesFirst, ListsBothEnds, item_listed, items_listed, source_result, source_list, outcome_listed, passed_result, passed_list}
 use Rattle.fallible_contract.specs.Lists.{Acts}
 use Rattle.fallible_contract.proofs.Lemmas.Lists.Passing.{by_outcome, passed}
-use Rattle.fallible_contract.proofs.Lemmas.BothEnds.{takes_front, listed_by_swapping, listed_swapped}
+use Rattle.fallible_contract.proofs.Lemmas.BothEnds.{takes_first_front, lists_both_ends_by_swapping, lists_both_ends_swapped}
 use Rattle.fallible_contract.specs.declared.passing.Outcome.{Outcome}
 use Rattle.fallible_contract.specs.declared.passing.Outcome.TheVariants.{Kept, LeftOut, Failure, End}
 
@@ -74,10 +74,10 @@ module _ {S F X R B E : Type 0} (front back : S → Answered X E → S → Type 
     steady : Steady call g (items_listed others)
 
   asked_first : (asked : List (Result (X × R) E)) (s u : S) (f g : F) (x : X) (v : R) → ListsBothEnds front back s (source_list asked) → Steady call f (items_listed asked) → front s (item x) u → call f x v g → AskedFirst asked x v u g
-  asked_first [] s u f g x v i k step called = absurd (let e = (takes_front i step).0 in cc)
-  asked_first (Err e ∷ asked) s u f g x v i k step called = absurd (let e = (takes_front i step).0 in cc)
+  asked_first [] s u f g x v i k step called = absurd (let e = (takes_first_front i step).0 in cc)
+  asked_first (Err e ∷ asked) s u f g x v i k step called = absurd (let e = (takes_first_front i step).0 in cc)
   asked_first (Ok c ∷ asked) s u f g x v i k step called =
-      let h = takes_front i step in
+      let h = takes_first_front i step in
       let same : x ≡ c.0 = (let e = h.0 in cc) in
       let answer = steady_answer call c (items_listed asked) f g v k (subst (λ (z : X). call f z v g) same called) in
       record {
@@ -87,33 +87,33 @@ module _ {S F X R B E : Type 0} (front back : S → Answered X E → S → Type 
         steady = steady_after call (items_listed asked) f g x v (steady_rest call c (items_listed asked) f k) called;
       }
 
-  says : (asked : List (Result (X × R) E)) (s : S) (f : F) → ListsBothEnds front back s (source_list asked) → Steady call f (items_listed asked) → Says (s, f) (passed_list outcome asked)
-  says asked s f i k = record { asked = asked; list_is = refl; listed = i; steady = k }
+  says_of_passed_list : (asked : List (Result (X × R) E)) (s : S) (f : F) → ListsBothEnds front back s (source_list asked) → Steady call f (items_listed asked) → Says (s, f) (passed_list outcome asked)
+  says_of_passed_list asked s f i k = record { asked = asked; list_is = refl; listed = i; steady = k }
 
-  end_taken : (asked : List (Result (X × R) E)) (s u : S) (f : F) → ListsBothEnds front back s (source_list asked) → front s end u → TakesFirst (λ l. Says (u, f) l) end (passed_list outcome asked)
-  end_taken [] s u f i step = (refl, says [] u f (takes_front i step).1 (steady_none call f))
-  end_taken (Ok c ∷ asked) s u f i step = absurd (let e = (takes_front i step).0 in cc)
-  end_taken (Err e ∷ asked) s u f i step = absurd (let e = (takes_front i step).0 in cc)
+  takes_first_end : (asked : List (Result (X × R) E)) (s u : S) (f : F) → ListsBothEnds front back s (source_list asked) → front s end u → TakesFirst (λ l. Says (u, f) l) end (passed_list outcome asked)
+  takes_first_end [] s u f i step = (refl, says_of_passed_list [] u f (takes_first_front i step).1 (steady_none call f))
+  takes_first_end (Ok c ∷ asked) s u f i step = absurd (let e = (takes_first_front i step).0 in cc)
+  takes_first_end (Err e ∷ asked) s u f i step = absurd (let e = (takes_first_front i step).0 in cc)
 
-  failure_taken : (asked : List (Result (X × R) E)) (s u : S) (f : F) (d : E) → ListsBothEnds front back s (source_list asked) → Steady call f (items_listed asked) → front s (Err d) u → TakesFirst (λ l. Says (u, f) l) (Err d) (passed_list outcome asked)
-  failure_taken [] s u f d i k step = absurd (let e = (takes_front i step).0 in cc)
-  failure_taken (Ok c ∷ asked) s u f d i k step = absurd (let e = (takes_front i step).0 in cc)
-  failure_taken (Err e ∷ asked) s u f d i k step = let h = takes_front i step in let same : d ≡ e = (let q = h.0 in cc) in (ap (λ (z : E). Err z) same, says asked u f h.1 k)
+  takes_first_failure : (asked : List (Result (X × R) E)) (s u : S) (f : F) (d : E) → ListsBothEnds front back s (source_list asked) → Steady call f (items_listed asked) → front s (Err d) u → TakesFirst (λ l. Says (u, f) l) (Err d) (passed_list outcome asked)
+  takes_first_failure [] s u f d i k step = absurd (let e = (takes_first_front i step).0 in cc)
+  takes_first_failure (Ok c ∷ asked) s u f d i k step = absurd (let e = (takes_first_front i step).0 in cc)
+  takes_first_failure (Err e ∷ asked) s u f d i k step = let h = takes_first_front i step in let same : d ≡ e = (let q = h.0 in cc) in (ap (λ (z : E). Err z) same, says_of_passed_list asked u f h.1 k)
 
   -- the answer that an outcome is takes the first of the list
-  outcome_taken : (asked : List (Result (X × R) E)) (u : S) (g : F) (x : X) (v : R) (y : Result B E) (r : Answered B E) → AskedFirst asked x v u g → outcome_listed (outcome x v) ≡ Some y → ((k : List (Result B E)) → Says (u, g) k → TakesFirst (λ l. Says (u, g) l) r (y ∷ k)) → TakesFirst (λ l. Says (u, g) l) r (passed_list outcome asked)
-  outcome_taken asked u g x v y r a is taken = subst (λ (l : List (Result B E)). TakesFirst (λ l. Says (u, g) l) r l) (sym (a.list_is ∙ ap (λ (o : Option (Result B E)). cons_option o (passed_list outcome a.others)) is)) (taken (passed_list outcome a.others) (says a.others u g a.listed a.steady))
+  takes_first_outcome : (asked : List (Result (X × R) E)) (u : S) (g : F) (x : X) (v : R) (y : Result B E) (r : Answered B E) → AskedFirst asked x v u g → outcome_listed (outcome x v) ≡ Some y → ((k : List (Result B E)) → Says (u, g) k → TakesFirst (λ l. Says (u, g) l) r (y ∷ k)) → TakesFirst (λ l. Says (u, g) l) r (passed_list outcome asked)
+  takes_first_outcome asked u g x v y r a is taken = subst (λ (l : List (Result B E)). TakesFirst (λ l. Says (u, g) l) r l) (sym (a.list_is ∙ ap (λ (o : Option (Result B E)). cons_option o (passed_list outcome a.others)) is)) (taken (passed_list outcome a.others) (says_of_passed_list a.others u g a.listed a.steady))
 
-  pub front_taken : (asked : List (Result (X × R) E)) (s t : S) (f g : F) (r : Answered B E) → ListsBothEnds front back s (source_list asked) → Steady call f (items_listed asked) → Passes front call outcome s f (r ∷ []) t g → TakesFirst (λ l. Says (t, g) l) r (passed_list outcome asked)
-  front_taken asked s t f g _ i k (end_passes step done) = end_taken asked s t f i step
-  front_taken asked s t f g _ i k (failure_passes e step done) = failure_taken asked s t f e i k step
-  front_taken asked s t f g _ i k (keeps x v y step called is done) = outcome_taken asked t g x v (Ok y) (item y) (asked_first asked s t f g x v i k step called) (ap outcome_listed is) (λ l h. (refl, h))
-  front_taken asked s t f g _ i k (refuses x v e step called is done) = outcome_taken asked t g x v (Err e) (Err e) (asked_first asked s t f g x v i k step called) (ap outcome_listed is) (λ l h. (refl, h))
-  front_taken asked s t f g _ i k (closes x v step called is done) = absurd (never_ends x v is)
-  front_taken asked s t f g r i k (leaves_out {u = u} {h = h} x v step called is rest) =
+  pub takes_first_of_passed : (asked : List (Result (X × R) E)) (s t : S) (f g : F) (r : Answered B E) → ListsBothEnds front back s (source_list asked) → Steady call f (items_listed asked) → Passes front call outcome s f (r ∷ []) t g → TakesFirst (λ l. Says (t, g) l) r (passed_list outcome asked)
+  takes_first_of_passed asked s t f g _ i k (end_passes step done) = takes_first_end asked s t f i step
+  takes_first_of_passed asked s t f g _ i k (failure_passes e step done) = takes_first_failure asked s t f e i k step
+  takes_first_of_passed asked s t f g _ i k (keeps x v y step called is done) = takes_first_outcome asked t g x v (Ok y) (item y) (asked_first asked s t f g x v i k step called) (ap outcome_listed is) (λ l h. (refl, h))
+  takes_first_of_passed asked s t f g _ i k (refuses x v e step called is done) = takes_first_outcome asked t g x v (Err e) (Err e) (asked_first asked s t f g x v i k step called) (ap outcome_listed is) (λ l h. (refl, h))
+  takes_first_of_passed asked s t f g _ i k (closes x v step called is done) = absurd (never_ends x v is)
+  takes_first_of_passed asked s t f g r i k (leaves_out {u = u} {h = h} x v step called is rest) =
       let a = asked_first asked s u f h x v i k step called in
       let same : passed_list outcome asked ≡ passed_list outcome a.others = a.list_is ∙ ap (λ (o : Outcome B E). cons_option (outcome_listed o) (passed_list outcome a.others)) is in
-      subst (λ (l : List (Result B E)). TakesFirst (λ l. Says (t, g) l) r l) (sym same) (front_taken a.others u t h g r a.listed a.steady rest)
+      subst (λ (l : List (Result B E)). TakesFirst (λ l. Says (t, g) l) r l) (sym same) (takes_first_of_passed a.others u t h g r a.listed a.steady rest)
 
 -- ---- draws from the back are draws from the front of the ends swapped
 
@@ -121,21 +121,21 @@ module _ {S F X R B E : Type 0} (front back : S → Answered X E → S → Type 
   abbrev SaysBoth : S × F → List (Result B E) → Type 0
   SaysBoth = Says front back call outcome never_ends
 
-  says_swapped : (p : S × F) (l : List (Result B E)) → Says back front call outcome never_ends p l → SaysBoth p (reverse l)
-  says_swapped p l a = record {
+  says_both_swapped : (p : S × F) (l : List (Result B E)) → Says back front call outcome never_ends p l → SaysBoth p (reverse l)
+  says_both_swapped p l a = record {
     asked = reverse a.asked;
     list_is = ap reverse a.list_is ∙ sym (filter_map-reverse (passed_result outcome) a.asked);
-    listed = subst (λ (k : List (Result X E)). ListsBothEnds front back p.0 k) (sym (map-reverse source_result a.asked)) (listed_swapped a.listed);
+    listed = subst (λ (k : List (Result X E)). ListsBothEnds front back p.0 k) (sym (map-reverse source_result a.asked)) (lists_both_ends_swapped a.listed);
     steady = subst (λ (pairs : List (X × R)). Steady call p.1 pairs) (sym (filter_map-reverse item_listed a.asked)) (steady_reversed call (items_listed a.asked) p.1 a.steady);
   }
 
-  passed_front : (p : S × F) (l : List (Result B E)) → SaysBoth p l → (r : Answered B E) (q : S × F) → passing_step front call outcome p r q → TakesFirst (λ k. SaysBoth q k) r l
-  passed_front p l a r q step = subst (λ (k : List (Result B E)). TakesFirst (λ j. SaysBoth q j) r k) (sym a.list_is) (front_taken front back call outcome never_ends a.asked p.0 q.0 p.1 q.1 r a.listed a.steady (to_passes step))
+  takes_first_passed_front : (p : S × F) (l : List (Result B E)) → SaysBoth p l → (r : Answered B E) (q : S × F) → passing_step front call outcome p r q → TakesFirst (λ k. SaysBoth q k) r l
+  takes_first_passed_front p l a r q step = subst (λ (k : List (Result B E)). TakesFirst (λ j. SaysBoth q j) r k) (sym a.list_is) (takes_first_of_passed front back call outcome never_ends a.asked p.0 q.0 p.1 q.1 r a.listed a.steady (passes_of_pass_trace step))
 
 module _ {S F X R B E : Type 0} (front back : S → Answered X E → S → Type 0) (call : F → X → R → F → Type 0) (outcome : X → R → Outcome B E) (never_ends : (x : X) (v : R) → outcome x v ≡ End → ⊥) where
   -- The source lists what it was called on, and the closure returns the answers beside the items, in whatever state: the adapter lists what becomes of them.
-  pub listed_passed : (asked : List (Result (X × R) E)) (s : S) (f : F) → Steady call f (items_listed asked) → ListsBothEnds front back s (source_list asked) → ListsBothEnds (passing_step front call outcome) (passing_step back call outcome) (s, f) (passed_list outcome asked)
-  listed_passed asked s f steady i = listed_by_swapping (passing_step front call outcome) (passing_step back call outcome) (Says front back call outcome never_ends) (Says back front call outcome never_ends) (says_swapped back front call outcome never_ends) (says_swapped front back call outcome never_ends) (passed_front front back call outcome never_ends) (passed_front back front call outcome never_ends) (s, f) (passed_list outcome asked) (record { asked = asked; list_is = refl; listed = i; steady = steady })
+  pub lists_both_ends_passed : (asked : List (Result (X × R) E)) (s : S) (f : F) → Steady call f (items_listed asked) → ListsBothEnds front back s (source_list asked) → ListsBothEnds (passing_step front call outcome) (passing_step back call outcome) (s, f) (passed_list outcome asked)
+  lists_both_ends_passed asked s f steady i = lists_both_ends_by_swapping (passing_step front call outcome) (passing_step back call outcome) (Says front back call outcome never_ends) (Says back front call outcome never_ends) (says_both_swapped back front call outcome never_ends) (says_both_swapped front back call outcome never_ends) (takes_first_passed_front front back call outcome never_ends) (takes_first_passed_front back front call outcome never_ends) (s, f) (passed_list outcome asked) (record { asked = asked; list_is = refl; listed = i; steady = steady })
 
 -- ---- a closure that acts as a function
 
@@ -144,41 +144,41 @@ abbrev pub with_answer : {X R E : Type 0} → (X → R) → Result X E → Resul
 with_answer h (Ok x) = Ok (x, h x)
 with_answer h (Err e) = Err e
 
-pub source_beside : {X R E : Type 0} (h : X → R) (l : List (Result X E)) → source_list (map (with_answer h) l) ≡ l
-source_beside h [] = refl
-source_beside h (Ok x ∷ l) = ap {B = List (Result _ _)} (λ k. Ok x ∷ k) (source_beside h l)
-source_beside h (Err e ∷ l) = ap {B = List (Result _ _)} (λ k. Err e ∷ k) (source_beside h l)
+pub source_list_with_answer : {X R E : Type 0} (h : X → R) (l : List (Result X E)) → source_list (map (with_answer h) l) ≡ l
+source_list_with_answer h [] = refl
+source_list_with_answer h (Ok x ∷ l) = ap {B = List (Result _ _)} (λ k. Ok x ∷ k) (source_list_with_answer h l)
+source_list_with_answer h (Err e ∷ l) = ap {B = List (Result _ _)} (λ k. Err e ∷ k) (source_list_with_answer h l)
 
 module _ {F X R : Type 0} (call : F → X → R → F → Type 0) (f : F) (h : X → R) (acts : Acts call f h) where
   -- calls leave it as it is
-  pub stays_acting : (made : List (X × R)) (p : F) → Calls call f made p → p ≡ f
-  stays_acting [] p w = sym w
-  stays_acting (c ∷ made) p w = stays_acting made p (subst (λ (g : F). Calls call g made p) (acts c.0 c.1 w.0 w.1).0 w.2)
+  pub closure_stays_of_calls : (made : List (X × R)) (p : F) → Calls call f made p → p ≡ f
+  closure_stays_of_calls [] p w = sym w
+  closure_stays_of_calls (c ∷ made) p w = closure_stays_of_calls made p (subst (λ (g : F). Calls call g made p) (acts c.0 c.1 w.0 w.1).0 w.2)
 
-  given_acting : {E : Type 0} (q : F) (l : List (Result X E)) → All (GivesAt call f q) (items_listed (map (with_answer h) l))
-  given_acting q [] = All-nil (GivesAt call f q)
-  given_acting q (Ok x ∷ l) = All-cons (GivesAt call f q) (x, h x) (items_listed (map (with_answer h) l)) (λ r called. (acts x r q called).1) (given_acting q l)
-  given_acting q (Err e ∷ l) = given_acting q l
+  all_given_with_answer : {E : Type 0} (q : F) (l : List (Result X E)) → All (GivesAt call f q) (items_listed (map (with_answer h) l))
+  all_given_with_answer q [] = All-nil (GivesAt call f q)
+  all_given_with_answer q (Ok x ∷ l) = All-cons (GivesAt call f q) (x, h x) (items_listed (map (with_answer h) l)) (λ r called. (acts x r q called).1) (all_given_with_answer q l)
+  all_given_with_answer q (Err e ∷ l) = all_given_with_answer q l
 
-  steady_acting : {E : Type 0} (l : List (Result X E)) → Steady call f (items_listed (map (with_answer h) l))
-  steady_acting l = λ made p q w. subst (λ (g : F). All (GivesAt call g q) (items_listed (map (with_answer h) l))) (sym (stays_acting made p w)) (given_acting q l)
+  steady_with_answer : {E : Type 0} (l : List (Result X E)) → Steady call f (items_listed (map (with_answer h) l))
+  steady_with_answer l = λ made p q w. subst (λ (g : F). All (GivesAt call g q) (items_listed (map (with_answer h) l))) (sym (closure_stays_of_calls made p w)) (all_given_with_answer q l)
 
 module _ {X R B E : Type 0} (outcome : X → R → Outcome B E) (never_ends : (x : X) (v : R) → outcome x v ≡ End → ⊥) (h : X → R) where
-  outcome_acting : (o : Outcome B E) → (o ≡ End → ⊥) → (l : List (Result B E)) → cons_option (outcome_listed o) l ≡ by_outcome o l
-  outcome_acting (Kept y) not_end l = refl
-  outcome_acting LeftOut not_end l = refl
-  outcome_acting (Failure e) not_end l = refl
-  outcome_acting End not_end l = absurd (not_end refl)
+  cons_option_outcome : (o : Outcome B E) → (o ≡ End → ⊥) → (l : List (Result B E)) → cons_option (outcome_listed o) l ≡ by_outcome o l
+  cons_option_outcome (Kept y) not_end l = refl
+  cons_option_outcome LeftOut not_end l = refl
+  cons_option_outcome (Failure e) not_end l = refl
+  cons_option_outcome End not_end l = absurd (not_end refl)
 
   -- what is listed where the answers stand beside the items, is what passes
-  pub passed_acting : (l : List (Result X E)) → passed_list outcome (map (with_answer h) l) ≡ passed outcome (λ (p : Unit {0}) x. h x) (λ p x. p) tt l
-  passed_acting [] = refl
-  passed_acting (Ok x ∷ l) = ap (cons_option (outcome_listed (outcome x (h x)))) (passed_acting l) ∙ outcome_acting (outcome x (h x)) (never_ends x (h x)) _
-  passed_acting (Err e ∷ l) = ap {B = List (Result B E)} (λ k. Err e ∷ k) (passed_acting l)
+  pub passed_list_with_answer : (l : List (Result X E)) → passed_list outcome (map (with_answer h) l) ≡ passed outcome (λ (p : Unit {0}) x. h x) (λ p x. p) tt l
+  passed_list_with_answer [] = refl
+  passed_list_with_answer (Ok x ∷ l) = ap (cons_option (outcome_listed (outcome x (h x)))) (passed_list_with_answer l) ∙ cons_option_outcome (outcome x (h x)) (never_ends x (h x)) _
+  passed_list_with_answer (Err e ∷ l) = ap {B = List (Result B E)} (λ k. Err e ∷ k) (passed_list_with_answer l)
 
 module _ {F X R B E : Type 0} (call : F → X → R → F → Type 0) (outcome : X → R → Outcome B E) (never_ends : (x : X) (v : R) → outcome x v ≡ End → ⊥) (f : F) (h : X → R) (acts : Acts call f h) where
   -- what an adapter lists whose closure acts as a function
-  pub listed_by_function : {S : Type 0} (front back : S → Answered X E → S → Type 0) (s : S) (l : List (Result X E)) → ListsBothEnds front back s l
+  pub lists_both_ends_by_function : {S : Type 0} (front back : S → Answered X E → S → Type 0) (s : S) (l : List (Result X E)) → ListsBothEnds front back s l
       → ListsBothEnds (passing_step front call outcome) (passing_step back call outcome) (s, f) (passed outcome (λ (p : Unit {0}) x. h x) (λ p x. p) tt l)
-  listed_by_function front back s l i = subst (λ (k : List (Result B E)). ListsBothEnds (passing_step front call outcome) (passing_step back call outcome) (s, f) k) (passed_acting outcome never_ends h l)
-      (listed_passed front back call outcome never_ends (map (with_answer h) l) s f (steady_acting call f h acts l) (subst (λ (k : List (Result X E)). ListsBothEnds front back s k) (sym (source_beside h l)) i))
+  lists_both_ends_by_function front back s l i = subst (λ (k : List (Result B E)). ListsBothEnds (passing_step front call outcome) (passing_step back call outcome) (s, f) k) (passed_list_with_answer outcome never_ends h l)
+      (lists_both_ends_passed front back call outcome never_ends (map (with_answer h) l) s f (steady_with_answer call f h acts l) (subst (λ (k : List (Result X E)). ListsBothEnds front back s k) (sym (source_list_with_answer h l)) i))

@@ -30,185 +30,185 @@ use Rattle.std.specs.declared.cmp.Ordering.TheVariants.{Less, Equal, Greater}
 module _ {K : Type 0} (test : K → Bool) where
   is_some-find : (xs : List K) → is_some (find test xs) ≡ list_any test xs
   is_some-find [] = refl
-  is_some-find (x ∷ xs) = by (test x) (is_some-find xs)
+  is_some-find (x ∷ xs) = by_cases (test x) (is_some-find xs)
     where
-      by : (b : Bool) → is_some (find test xs) ≡ list_any test xs → is_some (cond b (Some x) (find test xs)) ≡ (b || list_any test xs)
-      by true h = refl
-      by false h = h
+      by_cases : (b : Bool) → is_some (find test xs) ≡ list_any test xs → is_some (cond b (Some x) (find test xs)) ≡ (b || list_any test xs)
+      by_cases true h = refl
+      by_cases false h = h
 
   -- what is found passes, and is among the items
-  found_is_true : (xs : List K) (y : K) → find test xs ≡ Some y → test y ≡ true
-  found_is_true [] y e = absurd cc
-  found_is_true (x ∷ xs) y e = by (test x) refl e (found_is_true xs y)
+  test_of_found : (xs : List K) (y : K) → find test xs ≡ Some y → test y ≡ true
+  test_of_found [] y e = absurd cc
+  test_of_found (x ∷ xs) y e = by_cases (test x) refl e (test_of_found xs y)
     where
-      by : (b : Bool) → test x ≡ b → cond b (Some x) (find test xs) ≡ Some y → (find test xs ≡ Some y → test y ≡ true) → test y ≡ true
-      by true t h later = let same : x ≡ y = cc in subst (λ z. test z ≡ true) same t
-      by false t h later = later h
+      by_cases : (b : Bool) → test x ≡ b → cond b (Some x) (find test xs) ≡ Some y → (find test xs ≡ Some y → test y ≡ true) → test y ≡ true
+      by_cases true t h later = let same : x ≡ y = cc in subst (λ z. test z ≡ true) same t
+      by_cases false t h later = later h
 
-  found_is_among : (xs : List K) (y : K) → find test xs ≡ Some y → Contains xs y
-  found_is_among [] y e = absurd cc
-  found_is_among (x ∷ xs) y e = by (test x) e (found_is_among xs y)
+  contains_found : (xs : List K) (y : K) → find test xs ≡ Some y → Contains xs y
+  contains_found [] y e = absurd cc
+  contains_found (x ∷ xs) y e = by_cases (test x) e (contains_found xs y)
     where
-      by : (b : Bool) → cond b (Some x) (find test xs) ≡ Some y → (find test xs ≡ Some y → Contains xs y) → Contains (x ∷ xs) y
-      by true h later = (0, omega arith, cc)
-      by false h later = let r = later h in (suc r.0, omega (arith, r.1), r.2)
+      by_cases : (b : Bool) → cond b (Some x) (find test xs) ≡ Some y → (find test xs ≡ Some y → Contains xs y) → Contains (x ∷ xs) y
+      by_cases true h later = (0, omega arith, cc)
+      by_cases false h later = let r = later h in (suc r.0, omega (arith, r.1), r.2)
 
   lookup_key_is : {V : Type 0} (es : List (K × V)) → lookup_key test es ≡ find test (keys_of es)
   lookup_key_is [] = refl
   lookup_key_is (e ∷ es) = ap (cond (test e.0) (Some e.0)) (lookup_key_is es)
 
-module _ {K : Type 0} {eq : K → K → Bool} (laws : IsEquivalence eq) where
+module _ {K : Type 0} {eq : K → K → Bool} (equivalence_by_cmp : IsEquivalence eq) where
   finds_alike : (q k : K) → eq q k ≡ true → (xs : List K) → find (eq q) xs ≡ find (eq k) xs
-  finds_alike q k e xs = ap (λ t. find t xs) (λ i z. laws.congr q k z e i)
+  finds_alike q k e xs = ap (λ t. find t xs) (λ i z. equivalence_by_cmp.congr q k z e i)
 
-  apart_at : (x : K) (xs : List K) → AllByRecursion (λ y. eq x y ≡ false) xs → (y : K) (i : ℕ) → i < length xs → slice_index_or xs i y ≡ y → eq x y ≡ false
-  apart_at x [] a y i l e = absurd (let no : ⊥ = omega arith in no)
-  apart_at x (z ∷ xs) a y zero l e = subst (λ w. eq x w ≡ false) e a.0
-  apart_at x (z ∷ xs) a y (suc i) l e = apart_at x xs a.1 y i (omega arith) e
+  keys_apart : (x : K) (xs : List K) → AllByRecursion (λ y. eq x y ≡ false) xs → (y : K) (i : ℕ) → i < length xs → slice_index_or xs i y ≡ y → eq x y ≡ false
+  keys_apart x [] a y i l e = absurd (let no : ⊥ = omega arith in no)
+  keys_apart x (z ∷ xs) a y zero l e = subst (λ w. eq x w ≡ false) e a.0
+  keys_apart x (z ∷ xs) a y (suc i) l e = keys_apart x xs a.1 y i (omega arith) e
 
   -- of items that differ a search finds the one that is equal to the query
-  found_is : (q : K) (xs : List K) → IsDistinct eq xs → (y : K) → Contains xs y → eq q y ≡ true → find (eq q) xs ≡ Some y
+  find_is_some : (q : K) (xs : List K) → IsDistinct eq xs → (y : K) → Contains xs y → eq q y ≡ true → find (eq q) xs ≡ Some y
   unfolding IsDistinct
-  found_is q [] d y c t = absurd (let no : ⊥ = omega (arith, c.1) in no)
-  found_is q (x ∷ xs) d y (zero, l, c) t = subst (λ z. cond (eq q z) (Some z) (find (eq q) xs) ≡ Some y) (sym c) (ap (λ b. cond b (Some y) (find (eq q) xs)) t)
-  found_is q (x ∷ xs) d y (suc i, l, c) t = by (eq q x) refl (found_is q xs d.1 y (i, omega arith, c) t) (apart_at x xs d.0 y i (omega arith) c)
+  find_is_some q [] d y c t = absurd (let no : ⊥ = omega (arith, c.1) in no)
+  find_is_some q (x ∷ xs) d y (zero, l, c) t = subst (λ z. cond (eq q z) (Some z) (find (eq q) xs) ≡ Some y) (sym c) (ap (λ b. cond b (Some y) (find (eq q) xs)) t)
+  find_is_some q (x ∷ xs) d y (suc i, l, c) t = by_cases (eq q x) refl (find_is_some q xs d.1 y (i, omega arith, c) t) (keys_apart x xs d.0 y i (omega arith) c)
     where
-      by : (b : Bool) → eq q x ≡ b → find (eq q) xs ≡ Some y → eq x y ≡ false → cond b (Some x) (find (eq q) xs) ≡ Some y
-      by true e later n = absurd (true≢false (sym t ∙ laws.congr q x y e ∙ n))
-      by false e later n = later
+      by_cases : (b : Bool) → eq q x ≡ b → find (eq q) xs ≡ Some y → eq x y ≡ false → cond b (Some x) (find (eq q) xs) ≡ Some y
+      by_cases true e later n = absurd (true≢false (sym t ∙ equivalence_by_cmp.congr q x y e ∙ n))
+      by_cases false e later n = later
 
-  found_after_permutation : (q : K) (xs ys : List K) → IsPermutation xs ys → IsDistinct eq ys → (y : K) → find (eq q) xs ≡ Some y → find (eq q) ys ≡ Some y
-  found_after_permutation q xs ys p d y e = found_is q ys d y (Contains-permutation xs ys y p (found_is_among (eq q) xs y e)) (found_is_true (eq q) xs y e)
+  find_is_some_permuted : (q : K) (xs ys : List K) → IsPermutation xs ys → IsDistinct eq ys → (y : K) → find (eq q) xs ≡ Some y → find (eq q) ys ≡ Some y
+  find_is_some_permuted q xs ys p d y e = find_is_some q ys d y (Contains-permutation xs ys y p (contains_found (eq q) xs y e)) (test_of_found (eq q) xs y e)
 
   -- items that differ are found whatever their order
   find_permuted : (q : K) (xs ys : List K) → IsPermutation xs ys → IsDistinct eq ys → find (eq q) ys ≡ find (eq q) xs
-  find_permuted q xs ys p d = by (find (eq q) xs) (find (eq q) ys) refl refl
+  find_permuted q xs ys p d = by_cases (find (eq q) xs) (find (eq q) ys) refl refl
     where
-      back : IsPermutation ys xs
-      back = IsPermutation-sym xs ys p
+      is_permutation_back : IsPermutation ys xs
+      is_permutation_back = IsPermutation-sym xs ys p
 
-      by : (o r : Option K) → find (eq q) xs ≡ o → find (eq q) ys ≡ r → r ≡ o
-      by (Some y) r e f = sym f ∙ found_after_permutation q xs ys p d y e
-      by None None e f = refl
-      by None (Some z) e f = sym (found_after_permutation q ys xs back (IsDistinct-IsPermutation eq laws.symm ys xs back d) z f) ∙ e
+      by_cases : (o r : Option K) → find (eq q) xs ≡ o → find (eq q) ys ≡ r → r ≡ o
+      by_cases (Some y) r e f = sym f ∙ find_is_some_permuted q xs ys p d y e
+      by_cases None None e f = refl
+      by_cases None (Some z) e f = sym (find_is_some_permuted q ys xs is_permutation_back (IsDistinct-IsPermutation eq equivalence_by_cmp.symm ys xs is_permutation_back d) z f) ∙ e
 
 -- ---- one more item
 
-module _ {K : Type 0} {eq : K → K → Bool} (laws : IsEquivalence eq) (items ks ns : List K) (k : K)
+module _ {K : Type 0} {eq : K → K → Bool} (equivalence_by_cmp : IsEquivalence eq) (items ks ns : List K) (k : K)
     (stays : list_any (eq k) ks ≡ true → ns ≡ ks)
     (added : list_any (eq k) ks ≡ false → (q : K) → find (eq q) ns ≡ cond (eq q k) (Some k) (find (eq q) ks))
     (first : FirstStays eq items (λ q. find (eq q) ks)) where
   -- a key that was there stays, and a new one is found by the queries that are equal to it
   first_stays : FirstStays eq (items ++ k ∷ []) (λ q. find (eq q) ns)
-  first_stays q = here (list_any (eq k) ks) refl ∙ sym (find-append (eq q) items (k ∷ []))
+  first_stays q = find_pushed (list_any (eq k) ks) refl ∙ sym (find-append (eq q) items (k ∷ []))
     where
-      now : K → Option K
-      now p = find (eq p) items
+      found_now : K → Option K
+      found_now p = find (eq p) items
 
-      there : (p : K) → eq p k ≡ true → is_some (now p) ≡ list_any (eq k) ks
-      there p e = ap is_some (sym (first p) ∙ finds_alike laws p k e ks) ∙ is_some-find (eq k) ks
+      is_some_found_now : (p : K) → eq p k ≡ true → is_some (found_now p) ≡ list_any (eq k) ks
+      is_some_found_now p e = ap is_some (sym (first p) ∙ finds_alike equivalence_by_cmp p k e ks) ∙ is_some-find (eq k) ks
 
-      same : list_any (eq k) ks ≡ true → (b : Bool) → eq q k ≡ b → (o : Option K) → now q ≡ o → o ≡ option_or o (cond b (Some k) None)
-      same h b e (Some y) f = refl
-      same h false e None f = refl
-      same h true e None f = absurd (true≢false (sym h ∙ sym (there q e) ∙ ap is_some f))
+      option_or_same : list_any (eq k) ks ≡ true → (b : Bool) → eq q k ≡ b → (o : Option K) → found_now q ≡ o → o ≡ option_or o (cond b (Some k) None)
+      option_or_same h b e (Some y) f = refl
+      option_or_same h false e None f = refl
+      option_or_same h true e None f = absurd (true≢false (sym h ∙ sym (is_some_found_now q e) ∙ ap is_some f))
 
-      new : list_any (eq k) ks ≡ false → (b : Bool) → eq q k ≡ b → (o : Option K) → now q ≡ o → cond b (Some k) o ≡ option_or o (cond b (Some k) None)
-      new h true e None f = refl
-      new h true e (Some y) f = absurd (true≢false (sym (ap is_some f) ∙ there q e ∙ h))
-      new h false e None f = refl
-      new h false e (Some y) f = refl
+      option_or_new : list_any (eq k) ks ≡ false → (b : Bool) → eq q k ≡ b → (o : Option K) → found_now q ≡ o → cond b (Some k) o ≡ option_or o (cond b (Some k) None)
+      option_or_new h true e None f = refl
+      option_or_new h true e (Some y) f = absurd (true≢false (sym (ap is_some f) ∙ is_some_found_now q e ∙ h))
+      option_or_new h false e None f = refl
+      option_or_new h false e (Some y) f = refl
 
-      here : (b : Bool) → list_any (eq k) ks ≡ b → find (eq q) ns ≡ option_or (now q) (cond (eq q k) (Some k) None)
-      here true h = ap (find (eq q)) (stays h) ∙ first q ∙ same h (eq q k) refl (now q) refl
-      here false h = added h q ∙ ap (cond (eq q k) (Some k)) (first q) ∙ new h (eq q k) refl (now q) refl
+      find_pushed : (b : Bool) → list_any (eq k) ks ≡ b → find (eq q) ns ≡ option_or (found_now q) (cond (eq q k) (Some k) None)
+      find_pushed true h = ap (find (eq q)) (stays h) ∙ first q ∙ option_or_same h (eq q k) refl (found_now q) refl
+      find_pushed false h = added h q ∙ ap (cond (eq q k) (Some k)) (first q) ∙ option_or_new h (eq q k) refl (found_now q) refl
 
 -- ---- std's four collections
 
 module _ {K : Type 0} (cmp : K → K → Ordering) (k : K) where
   keys_inserted : {V : Type 0} (v : V) (es : List (K × V)) → keys_of (insert_entry cmp es k v) ≡ insert_key cmp (keys_of es) k
   keys_inserted v [] = refl
-  keys_inserted v (e ∷ es) = by (cmp k e.0) (keys_inserted v es)
+  keys_inserted v (e ∷ es) = by_cases (cmp k e.0) (keys_inserted v es)
     where
-      by : (o : Ordering) → keys_of (insert_entry cmp es k v) ≡ insert_key cmp (keys_of es) k → keys_of (match_ordering o ((k, v) ∷ e ∷ es) ((e.0, v) ∷ es) (e ∷ insert_entry cmp es k v)) ≡ match_ordering o (k ∷ e.0 ∷ keys_of es) (e.0 ∷ keys_of es) (e.0 ∷ insert_key cmp (keys_of es) k)
-      by Less h = refl
-      by Equal h = refl
-      by Greater h = ap (λ l. e.0 ∷ l) h
+      by_cases : (o : Ordering) → keys_of (insert_entry cmp es k v) ≡ insert_key cmp (keys_of es) k → keys_of (match_ordering o ((k, v) ∷ e ∷ es) ((e.0, v) ∷ es) (e ∷ insert_entry cmp es k v)) ≡ match_ordering o (k ∷ e.0 ∷ keys_of es) (e.0 ∷ keys_of es) (e.0 ∷ insert_key cmp (keys_of es) k)
+      by_cases Less h = refl
+      by_cases Equal h = refl
+      by_cases Greater h = ap (λ l. e.0 ∷ l) h
 
   -- a new key at its place in the order is found by the queries that are equal to it
   find_inserted : IsEquivalence (eq_by_cmp cmp) → (ks : List K) → list_any (eq_by_cmp cmp k) ks ≡ false → (q : K) → find (eq_by_cmp cmp q) (insert_key cmp ks k) ≡ cond (eq_by_cmp cmp q k) (Some k) (find (eq_by_cmp cmp q) ks)
-  find_inserted laws [] h q = refl
-  find_inserted laws (x ∷ xs) h q = by (cmp k x) refl h (λ n. find_inserted laws xs n q)
+  find_inserted equivalence_by_cmp [] h q = refl
+  find_inserted equivalence_by_cmp (x ∷ xs) h q = by_cases (cmp k x) refl h (λ n. find_inserted equivalence_by_cmp xs n q)
     where
-      swapped : eq_by_cmp cmp k x ≡ false → (a b : Bool) → eq_by_cmp cmp q x ≡ a → eq_by_cmp cmp q k ≡ b → (o : Option K) → cond a (Some x) (cond b (Some k) o) ≡ cond b (Some k) (cond a (Some x) o)
-      swapped n true true e f o = absurd (true≢false (sym e ∙ laws.congr q k x f ∙ n))
-      swapped n true false e f o = refl
-      swapped n false b e f o = refl
+      cond_swapped : eq_by_cmp cmp k x ≡ false → (a b : Bool) → eq_by_cmp cmp q x ≡ a → eq_by_cmp cmp q k ≡ b → (o : Option K) → cond a (Some x) (cond b (Some k) o) ≡ cond b (Some k) (cond a (Some x) o)
+      cond_swapped n true true e f o = absurd (true≢false (sym e ∙ equivalence_by_cmp.congr q k x f ∙ n))
+      cond_swapped n true false e f o = refl
+      cond_swapped n false b e f o = refl
 
-      by : (r : Ordering) → cmp k x ≡ r → (is_eq r || list_any (eq_by_cmp cmp k) xs) ≡ false
+      by_cases : (r : Ordering) → cmp k x ≡ r → (is_eq r || list_any (eq_by_cmp cmp k) xs) ≡ false
           → (list_any (eq_by_cmp cmp k) xs ≡ false → find (eq_by_cmp cmp q) (insert_key cmp xs k) ≡ cond (eq_by_cmp cmp q k) (Some k) (find (eq_by_cmp cmp q) xs))
           → find (eq_by_cmp cmp q) (match_ordering r (k ∷ x ∷ xs) (x ∷ xs) (x ∷ insert_key cmp xs k)) ≡ cond (eq_by_cmp cmp q k) (Some k) (find (eq_by_cmp cmp q) (x ∷ xs))
-      by Less e n later = refl
-      by Equal e n later = absurd (true≢false n)
-      by Greater e n later = ap (cond (eq_by_cmp cmp q x) (Some x)) (later n) ∙ swapped (ap is_eq e) (eq_by_cmp cmp q x) (eq_by_cmp cmp q k) refl refl (find (eq_by_cmp cmp q) xs)
+      by_cases Less e n later = refl
+      by_cases Equal e n later = absurd (true≢false n)
+      by_cases Greater e n later = ap (cond (eq_by_cmp cmp q x) (Some x)) (later n) ∙ cond_swapped (ap is_eq e) (eq_by_cmp cmp q x) (eq_by_cmp cmp q k) refl refl (find (eq_by_cmp cmp q) xs)
 
 -- `insert` returns false only at a key that was there
-stays_where : (added has : Bool) (P Q : Type 0) → added ≡ not has → MatchBool added P Q → has ≡ true → Q
-stays_where false has P Q e p h = p
-stays_where true has P Q e p h = absurd (true≢false (e ∙ ap not h))
+stays_where_found : (added has : Bool) (P Q : Type 0) → added ≡ not has → MatchBool added P Q → has ≡ true → Q
+stays_where_found false has P Q e p h = p
+stays_where_found true has P Q e p h = absurd (true≢false (e ∙ ap not h))
 
 -- and where it returns true there is one more somewhere
-added_where : (added has : Bool) (P Q : Type 0) → added ≡ not has → MatchBool added P Q → has ≡ false → P
-added_where true has P Q e p h = p
-added_where false has P Q e p h = absurd (true≢false (sym (e ∙ ap not h)))
+added_where_not_found : (added has : Bool) (P Q : Type 0) → added ≡ not has → MatchBool added P Q → has ≡ false → P
+added_where_not_found true has P Q e p h = p
+added_where_not_found false has P Q e p h = absurd (true≢false (sym (e ∙ ap not h)))
 
 -- a set in which the first of equal items is found has the items and no others
-members_are : {K : Type 0} (eq : K → K → Bool) (items ks : List K) → FirstStays eq items (λ q. find (eq q) ks) → (q : K) → is_member eq ks q ≡ is_member eq items q
-members_are eq items ks first q = sym (is_some-find (eq q) ks) ∙ ap is_some (first q) ∙ is_some-find (eq q) items
+is_member_same : {K : Type 0} (eq : K → K → Bool) (items ks : List K) → FirstStays eq items (λ q. find (eq q) ks) → (q : K) → is_member eq ks q ≡ is_member eq items q
+is_member_same eq items ks first q = sym (is_some-find (eq q) ks) ∙ ap is_some (first q) ∙ is_some-find (eq q) items
 
 module _ {K : Type 0} {cmp : K → K → Ordering} (total : IsTotalOrder cmp) where
-  laws : IsEquivalence (eq_by_cmp cmp)
-  laws = eq_by_cmp_equiv total
+  equivalence_by_cmp : IsEquivalence (eq_by_cmp cmp)
+  equivalence_by_cmp = eq_by_cmp_equiv total
 
   pub sorted_set_pushed : (items : List K) (s n : sorted.BTreeSet K) (k : K) (added : Bool) → IsSortedSetOf cmp items s → OnFalse added (sorted.IsUnchanged s n) → added ≡ not (sorted.contains cmp s k) → n.keys ≡ insert_key cmp s.keys k → sorted.IsOrdered cmp n
       → IsSortedSetOf cmp (items ++ k ∷ []) n
   sorted_set_pushed items s n k added made u a e ordered =
-      let first = first_stays laws items s.keys n.keys k (λ h. stays_where added _ _ _ a u h) (λ h q. ap (find (eq_by_cmp cmp q)) e ∙ find_inserted cmp k laws s.keys h q) made.first in
-      record { has_items = (members_are (eq_by_cmp cmp) (items ++ k ∷ []) n.keys first, ordered); first = first }
+      let first = first_stays equivalence_by_cmp items s.keys n.keys k (λ h. stays_where_found added _ _ _ a u h) (λ h q. ap (find (eq_by_cmp cmp q)) e ∙ find_inserted cmp k equivalence_by_cmp s.keys h q) made.first in
+      record { has_items = (is_member_same (eq_by_cmp cmp) (items ++ k ∷ []) n.keys first, ordered); first = first }
 
   pub sorted_map_pushed : {V : Type 0} (pairs : List (K × V)) (m n : tree.BTreeMap K V) (p : K × V) (old : Option V) → old ≡ tree.get cmp m p.0 → tree.Updates cmp m n p.0 (Some p.1) → (IsSome old → tree.keys n ≡ tree.keys m) → n.entries ≡ insert_entry cmp m.entries p.0 p.1 → tree.IsOrdered cmp n
       → IsSortedMapOf cmp pairs m → IsSortedMapOf cmp (pairs ++ p ∷ []) n
   sorted_map_pushed pairs m n p old o updates stays e ordered made =
       let had = ap is_some o ∙ is_some-lookup (eq_by_cmp cmp p.0) m.entries in
-      let first = first_stays laws (keys_of pairs) (keys_of m.entries) (keys_of n.entries) p.0
+      let first = first_stays equivalence_by_cmp (keys_of pairs) (keys_of m.entries) (keys_of n.entries) p.0
       (λ h. stays (had ∙ h))
-      (λ h q. ap (find (eq_by_cmp cmp q)) (ap keys_of e ∙ keys_inserted cmp p.0 p.1 m.entries) ∙ find_inserted cmp p.0 laws (keys_of m.entries) h q)
+      (λ h q. ap (find (eq_by_cmp cmp q)) (ap keys_of e ∙ keys_inserted cmp p.0 p.1 m.entries) ∙ find_inserted cmp p.0 equivalence_by_cmp (keys_of m.entries) h q)
       (λ q. sym (lookup_key_is (eq_by_cmp cmp q) m.entries) ∙ made.first q) in
       record {
         has_pairs = (λ q. updates.0 q ∙ update_all_push (eq_by_cmp cmp) (λ _. None) (tree.get cmp m) pairs p q (made.has_pairs.0 q), ordered);
         first = λ q. lookup_key_is (eq_by_cmp cmp q) n.entries ∙ first q ∙ ap (find (eq_by_cmp cmp q)) (sym (map-append (λ e. e.0) pairs (p ∷ [])));
       }
 
-module _ {K S : Type 0} {eq : K → K → Bool} (laws : IsEquivalence eq) where
+module _ {K S : Type 0} {eq : K → K → Bool} (equivalence_by_cmp : IsEquivalence eq) where
   pub hashed_set_pushed : (items : List K) (s n : bag.HashSet K S) (k : K) (added : Bool) → IsHashedSetOf eq items s → bag.PutsKey s n k added → added ≡ not (bag.contains eq s k) → bag.IsUnique eq n
       → IsHashedSetOf eq (items ++ k ∷ []) n
   hashed_set_pushed items s n k added made put a unique =
-      let first = first_stays laws items s.keys n.keys k (λ h. stays_where added _ _ _ a put h) (λ h q. find_permuted laws q (k ∷ s.keys) n.keys (added_where added _ _ _ a put h) unique) made.first in
-      record { has_items = (members_are eq (items ++ k ∷ []) n.keys first, unique); first = first }
+      let first = first_stays equivalence_by_cmp items s.keys n.keys k (λ h. stays_where_found added _ _ _ a put h) (λ h q. find_permuted equivalence_by_cmp q (k ∷ s.keys) n.keys (added_where_not_found added _ _ _ a put h) unique) made.first in
+      record { has_items = (is_member_same eq (items ++ k ∷ []) n.keys first, unique); first = first }
 
   pub hashed_map_pushed : {V : Type 0} (pairs : List (K × V)) (m n : hash.HashMap K V S) (p : K × V) (old : Option V) → IsHashedMapOf eq pairs m → hash.PutsEntry eq m n p.0 p.1 old → old ≡ hash.get eq m p.0 → hash.Updates eq m n p.0 (Some p.1) → (IsSome old → hash.keys n ≡ hash.keys m) → hash.IsUnique eq n
       → IsHashedMapOf eq (pairs ++ p ∷ []) n
   hashed_map_pushed {V} pairs m n p old made put o updates stays unique =
       let had = ap is_some o ∙ is_some-lookup (eq p.0) m.entries in
-      let first = first_stays laws (keys_of pairs) (keys_of m.entries) (keys_of n.entries) p.0
+      let first = first_stays equivalence_by_cmp (keys_of pairs) (keys_of m.entries) (keys_of n.entries) p.0
       (λ h. stays (had ∙ h))
-      (λ h q. find_permuted laws q (p.0 ∷ keys_of m.entries) (keys_of n.entries) (put_permutes_keys old put (had ∙ h)) unique)
+      (λ h q. find_permuted equivalence_by_cmp q (p.0 ∷ keys_of m.entries) (keys_of n.entries) (is_permutation_put_permutes_keys old put (had ∙ h)) unique)
       (λ q. sym (lookup_key_is (eq q) m.entries) ∙ made.first q) in
       record {
         has_pairs = (λ q. updates.0 q ∙ update_all_push eq (λ _. None) (hash.get eq m) pairs p q (made.has_pairs.0 q), unique);
         first = λ q. lookup_key_is (eq q) n.entries ∙ first q ∙ ap (find (eq q)) (sym (map-append (λ e. e.0) pairs (p ∷ [])));
       }
     where
-      put_permutes_keys : (r : Option V) → hash.PutsEntry eq m n p.0 p.1 r → is_some r ≡ false → IsPermutation (p.0 ∷ keys_of m.entries) (keys_of n.entries)
-      put_permutes_keys None put h = IsPermutation-map (λ e. e.0) (p ∷ m.entries) n.entries put
-      put_permutes_keys (Some w) put h = absurd (true≢false h)
+      is_permutation_put_permutes_keys : (r : Option V) → hash.PutsEntry eq m n p.0 p.1 r → is_some r ≡ false → IsPermutation (p.0 ∷ keys_of m.entries) (keys_of n.entries)
+      is_permutation_put_permutes_keys None put h = IsPermutation-map (λ e. e.0) (p ∷ m.entries) n.entries put
+      is_permutation_put_permutes_keys (Some w) put h = absurd (true≢false h)

@@ -7,12 +7,12 @@ use Rattle.fallible_contract.specs.Lists.{AlwaysGives, Lists, GivesForGood, List
 -- ---- it lists so, and nothing more
 
 module _ {S A E : Type 0} (steps : S → Answered A E → S → Type 0) where
-  pub gives_once : (l : List (Result A E)) (s : S) → GivesForGood steps s l → AlwaysGives steps s l
-  gives_once [] s i = λ r t w. i.each [] s t r refl w
-  gives_once (y ∷ l) s i = λ r t w. let d = i r t w in (d.0, gives_once l t d.1)
+  pub always_gives_once : (l : List (Result A E)) (s : S) → GivesForGood steps s l → AlwaysGives steps s l
+  always_gives_once [] s i = λ r t w. i.each [] s t r refl w
+  always_gives_once (y ∷ l) s i = λ r t w. let d = i r t w in (d.0, always_gives_once l t d.1)
 
   pub lists_once : {s : S} {l : List (Result A E)} → ListsForGood steps s l → Lists steps s l
-  lists_once {s = s} {l = l} i = record { runs = gives_once l s i.runs }
+  lists_once {s = s} {l = l} i = record { runs = always_gives_once l s i.runs }
 
 -- ---- a value whose answers are those of its parts
 

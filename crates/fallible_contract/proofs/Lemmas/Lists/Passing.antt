@@ -3,25 +3,25 @@ use Rattle.std.specs.Prelude.{◌≡◌, Result, Some, None, Ok, Err, List, [], 
 use Rattle.std.proofs.Common.{refl, sym, ap, subst, ◌∙◌}
 use Rattle.fallible_contract.specs.Traces.{Answered}
 use Rattle.fallible_contract.specs.Passing.{passing_step}
-use Rattle.fallible_contract.specs.Laws.Passing.{Passes, done, end_passes, failure_passes, keeps, refuses, closes, leaves_out, to_passes, from_passes}
+use Rattle.fallible_contract.specs.Laws.Passing.{Passes, done, end_passes, failure_passes, keeps, refuses, closes, leaves_out, passes_of_pass_trace, pass_trace_of_passes}
 use Rattle.fallible_contract.specs.Lists.{AlwaysGives, Lists, Acts}
 use Rattle.fallible_contract.specs.declared.passing.Outcome.{Outcome}
 use Rattle.fallible_contract.specs.declared.passing.Outcome.TheVariants.{Kept, LeftOut, Failure, End}
 
 -- where each draw from s is one from a state that yields the list, s yields it
 module _ {S A E : Type 0} (steps : S → Answered A E → S → Type 0) where
-  pub gives_if : (l : List (Result A E)) (s : S) → ((r : Answered A E) (t : S) → steps s r t → (u : S) × steps u r t × AlwaysGives steps u l) → AlwaysGives steps s l
-  gives_if [] s f = λ r t w. let d = f r t w in d.2 r t d.1
-  gives_if (y ∷ l) s f = λ r t w. let d = f r t w in d.2 r t d.1
+  pub always_gives_if : (l : List (Result A E)) (s : S) → ((r : Answered A E) (t : S) → steps s r t → (u : S) × steps u r t × AlwaysGives steps u l) → AlwaysGives steps s l
+  always_gives_if [] s f = λ r t w. let d = f r t w in d.2 r t d.1
+  always_gives_if (y ∷ l) s f = λ r t w. let d = f r t w in d.2 r t d.1
 
 -- a value whose answers are those of its parts lists what they list
-pub gives_seen : {V P A E : Type 0} (view : V → P) (steps : P → Answered A E → P → Type 0) (l : List (Result A E)) (s : V) → AlwaysGives steps (view s) l → AlwaysGives (λ u r v. steps (view u) r (view v)) s l
-gives_seen view steps [] s a = λ r t w. a r (view t) w
-gives_seen view steps (y ∷ l) s a = λ r t w. let d = a r (view t) w in (d.0, gives_seen view steps l t d.1)
+pub always_gives_seen : {V P A E : Type 0} (view : V → P) (steps : P → Answered A E → P → Type 0) (l : List (Result A E)) (s : V) → AlwaysGives steps (view s) l → AlwaysGives (λ u r v. steps (view u) r (view v)) s l
+always_gives_seen view steps [] s a = λ r t w. a r (view t) w
+always_gives_seen view steps (y ∷ l) s a = λ r t w. let d = a r (view t) w in (d.0, always_gives_seen view steps l t d.1)
 
 -- the same, where parts and list are known by other names
 pub lists_seen : {V P A E : Type 0} (view : V → P) (steps : P → Answered A E → P → Type 0) (s : V) {p : P} {l k : List (Result A E)} → view s ≡ p → l ≡ k → AlwaysGives steps p l → Lists (λ u r v. steps (view u) r (view v)) s k
-lists_seen {A = A} {E = E} view steps s {p = p} {l = l} {k = k} at same a = record { runs = gives_seen view steps k s (subst (λ (q : _). AlwaysGives steps q k) (sym at) (subst (λ (j : List (Result A E)). AlwaysGives steps p j) same a)) }
+lists_seen {A = A} {E = E} view steps s {p = p} {l = l} {k = k} at same a = record { runs = always_gives_seen view steps k s (subst (λ (q : _). AlwaysGives steps q k) (sym at) (subst (λ (j : List (Result A E)). AlwaysGives steps p j) same a)) }
 
 -- what an outcome puts before the rest of the list
 abbrev pub by_outcome : {B E : Type 0} → Outcome B E → List (Result B E) → List (Result B E)
@@ -39,27 +39,27 @@ module _ {P X R B E : Type 0} (outcome : X → R → Outcome B E) (answers : P �
 
 module _ {S F P X R B E : Type 0} (steps : S → Answered X E → S → Type 0) (call : F → X → R → F → Type 0) (outcome : X → R → Outcome B E)
     (At : F → P → Type 0) (answers : P → X → R) (next : P → X → P) (acts : (f : F) (p : P) (x : X) (v : R) (g : F) → At f p → call f x v g → At g (next p x) × (v ≡ answers p x)) where
-  abbrev Gives : S → F → List (Result B E) → Type 0
-  Gives s f l = AlwaysGives (passing_step steps call outcome) (s, f) l
+  abbrev GivesPassed : S → F → List (Result B E) → Type 0
+  GivesPassed s f l = AlwaysGives (passing_step steps call outcome) (s, f) l
 
   -- what one draw yields, where the source's list is empty
-  none_given : (s : S) (f : F) (r : Answered B E) (t : S) (g : F) → AlwaysGives {A = X} steps s [] → Passes steps call outcome s f (r ∷ []) t g → r ≡ Ok None
-  none_given s f _ t g a (end_passes step d) = refl
-  none_given s f _ t g a (failure_passes e step d) = absurd (let h = a (Err e) _ step in cc)
-  none_given s f _ t g a (keeps x v y step called is d) = absurd (let h = a (Ok (Some x)) _ step in cc)
-  none_given s f _ t g a (refuses x v e step called is d) = absurd (let h = a (Ok (Some x)) _ step in cc)
-  none_given s f _ t g a (closes x v step called is d) = absurd (let h = a (Ok (Some x)) _ step in cc)
-  none_given s f r t g a (leaves_out x v step called is d) = absurd (let h = a (Ok (Some x)) _ step in cc)
+  end_of_nil : (s : S) (f : F) (r : Answered B E) (t : S) (g : F) → AlwaysGives {A = X} steps s [] → Passes steps call outcome s f (r ∷ []) t g → r ≡ Ok None
+  end_of_nil s f _ t g a (end_passes step d) = refl
+  end_of_nil s f _ t g a (failure_passes e step d) = absurd (let h = a (Err e) _ step in cc)
+  end_of_nil s f _ t g a (keeps x v y step called is d) = absurd (let h = a (Ok (Some x)) _ step in cc)
+  end_of_nil s f _ t g a (refuses x v e step called is d) = absurd (let h = a (Ok (Some x)) _ step in cc)
+  end_of_nil s f _ t g a (closes x v step called is d) = absurd (let h = a (Ok (Some x)) _ step in cc)
+  end_of_nil s f r t g a (leaves_out x v step called is d) = absurd (let h = a (Ok (Some x)) _ step in cc)
 
   -- one draw at a failure of the source's list
-  failure_given : (d : E) (l : List (Result X E)) (rest : List (Result B E)) (s : S) (f : F) → ((u : S) → AlwaysGives steps u l → Gives u f rest) → AlwaysGives steps s (Err d ∷ l)
-      → (r : Answered B E) (t : S) (g : F) → Passes steps call outcome s f (r ∷ []) t g → (r ≡ Err d) × Gives t g rest
-  failure_given d l rest s f then a _ t g (end_passes step c) = absurd (let h = (a (Ok None) _ step).0 in cc)
-  failure_given d l rest s f then a _ t g (failure_passes e step done) = let h = a (Err e) t step in ((let q = h.0 in cc), then t h.1)
-  failure_given d l rest s f then a _ t g (keeps x v y step called is c) = absurd (let h = (a (Ok (Some x)) _ step).0 in cc)
-  failure_given d l rest s f then a _ t g (refuses x v e step called is c) = absurd (let h = (a (Ok (Some x)) _ step).0 in cc)
-  failure_given d l rest s f then a _ t g (closes x v step called is c) = absurd (let h = (a (Ok (Some x)) _ step).0 in cc)
-  failure_given d l rest s f then a r t g (leaves_out x v step called is c) = absurd (let h = (a (Ok (Some x)) _ step).0 in cc)
+  always_gives_failure : (d : E) (l : List (Result X E)) (rest : List (Result B E)) (s : S) (f : F) → ((u : S) → AlwaysGives steps u l → GivesPassed u f rest) → AlwaysGives steps s (Err d ∷ l)
+      → (r : Answered B E) (t : S) (g : F) → Passes steps call outcome s f (r ∷ []) t g → (r ≡ Err d) × GivesPassed t g rest
+  always_gives_failure d l rest s f then a _ t g (end_passes step c) = absurd (let h = (a (Ok None) _ step).0 in cc)
+  always_gives_failure d l rest s f then a _ t g (failure_passes e step done) = let h = a (Err e) t step in ((let q = h.0 in cc), then t h.1)
+  always_gives_failure d l rest s f then a _ t g (keeps x v y step called is c) = absurd (let h = (a (Ok (Some x)) _ step).0 in cc)
+  always_gives_failure d l rest s f then a _ t g (refuses x v e step called is c) = absurd (let h = (a (Ok (Some x)) _ step).0 in cc)
+  always_gives_failure d l rest s f then a _ t g (closes x v step called is c) = absurd (let h = (a (Ok (Some x)) _ step).0 in cc)
+  always_gives_failure d l rest s f then a r t g (leaves_out x v step called is c) = absurd (let h = (a (Ok (Some x)) _ step).0 in cc)
 
   -- what is known of a call at an item of the source's list
   record CalledAs (l : List (Result X E)) (p : P) (x z : X) (v : R) (o : Outcome B E) (u : S) (g : F) : Type 0 where
@@ -78,7 +78,7 @@ module _ {S F P X R B E : Type 0} (steps : S → Answered X E → S → Type 0) 
         }
 
     kept_given : (rest : List (Result B E)) (y : B) → outcome x (answers p x) ≡ Kept y
-        → ((u : S) (g : F) → At g (next p x) → AlwaysGives steps u l → Gives u g rest) → (r : Answered B E) (t : S) (g : F) → Passes steps call outcome s f (r ∷ []) t g → (r ≡ Ok (Some y)) × Gives t g rest
+        → ((u : S) (g : F) → At g (next p x) → AlwaysGives steps u l → GivesPassed u g rest) → (r : Answered B E) (t : S) (g : F) → Passes steps call outcome s f (r ∷ []) t g → (r ≡ Ok (Some y)) × GivesPassed t g rest
     kept_given rest y is then _ t g (end_passes step c) = absurd (let h = (a (Ok None) _ step).0 in cc)
     kept_given rest y is then _ t g (failure_passes e step c) = absurd (let h = (a (Err e) _ step).0 in cc)
     kept_given rest y is then _ t g (keeps z v w step called out done) = let k = called_as (Kept y) is z v t g step called in ((let q = sym out ∙ k.outcome_is in cc), then t g k.at k.others)
@@ -87,7 +87,7 @@ module _ {S F P X R B E : Type 0} (steps : S → Answered X E → S → Type 0) 
     kept_given rest y is then r t g (leaves_out z v step called out c) = absurd (let q = sym out ∙ (called_as (Kept y) is z v _ _ step called).outcome_is in cc)
 
     failed_given : (rest : List (Result B E)) (d : E) → outcome x (answers p x) ≡ Failure d
-        → ((u : S) (g : F) → At g (next p x) → AlwaysGives steps u l → Gives u g rest) → (r : Answered B E) (t : S) (g : F) → Passes steps call outcome s f (r ∷ []) t g → (r ≡ Err d) × Gives t g rest
+        → ((u : S) (g : F) → At g (next p x) → AlwaysGives steps u l → GivesPassed u g rest) → (r : Answered B E) (t : S) (g : F) → Passes steps call outcome s f (r ∷ []) t g → (r ≡ Err d) × GivesPassed t g rest
     failed_given rest d is then _ t g (end_passes step c) = absurd (let h = (a (Ok None) _ step).0 in cc)
     failed_given rest d is then _ t g (failure_passes e step c) = absurd (let h = (a (Err e) _ step).0 in cc)
     failed_given rest d is then _ t g (keeps z v w step called out c) = absurd (let q = sym out ∙ (called_as (Failure d) is z v _ _ step called).outcome_is in cc)
@@ -105,33 +105,33 @@ module _ {S F P X R B E : Type 0} (steps : S → Answered X E → S → Type 0) 
 
     -- a state from which the draw is made once the item is left out
     draw_after_left_out : (rest : List (Result B E)) → outcome x (answers p x) ≡ LeftOut
-        → ((u : S) (g : F) → At g (next p x) → AlwaysGives steps u l → Gives u g rest) → (r : Answered B E) (t : S) (g : F) → Passes steps call outcome s f (r ∷ []) t g
+        → ((u : S) (g : F) → At g (next p x) → AlwaysGives steps u l → GivesPassed u g rest) → (r : Answered B E) (t : S) (g : F) → Passes steps call outcome s f (r ∷ []) t g
         → (q : S × F) × passing_step steps call outcome q r (t, g) × AlwaysGives (passing_step steps call outcome) q rest
     draw_after_left_out rest is then _ t g (end_passes step c) = absurd (let h = (a (Ok None) _ step).0 in cc)
     draw_after_left_out rest is then _ t g (failure_passes e step c) = absurd (let h = (a (Err e) _ step).0 in cc)
     draw_after_left_out rest is then _ t g (keeps z v w step called out c) = absurd (let q = sym out ∙ (called_as LeftOut is z v _ _ step called).outcome_is in cc)
     draw_after_left_out rest is then _ t g (refuses z v e step called out c) = absurd (let q = sym out ∙ (called_as LeftOut is z v _ _ step called).outcome_is in cc)
     draw_after_left_out rest is then _ t g (closes z v step called out c) = absurd (let q = sym out ∙ (called_as LeftOut is z v _ _ step called).outcome_is in cc)
-    draw_after_left_out rest is then r t g (leaves_out {u = u} {h = h} z v step called out c) = let k = called_as LeftOut is z v u h step called in ((u, h), from_passes c, then u h k.at k.others)
+    draw_after_left_out rest is then r t g (leaves_out {u = u} {h = h} z v step called out c) = let k = called_as LeftOut is z v u h step called in ((u, h), pass_trace_of_passes c, then u h k.at k.others)
 
-    item_given : (rest : List (Result B E)) (o : Outcome B E) → outcome x (answers p x) ≡ o → ((u : S) (g : F) → At g (next p x) → AlwaysGives steps u l → Gives u g rest) → Gives s f (by_outcome o rest)
-    item_given rest (Kept y) is then = λ r t w. kept_given rest y is then r t.0 t.1 (to_passes w)
-    item_given rest (Failure d) is then = λ r t w. failed_given rest d is then r t.0 t.1 (to_passes w)
-    item_given rest End is then = λ r t w. end_given is r t.0 t.1 (to_passes w)
-    item_given rest LeftOut is then = gives_if (passing_step steps call outcome) rest (s, f) (λ r t w. draw_after_left_out rest is then r t.0 t.1 (to_passes w))
+    gives_item : (rest : List (Result B E)) (o : Outcome B E) → outcome x (answers p x) ≡ o → ((u : S) (g : F) → At g (next p x) → AlwaysGives steps u l → GivesPassed u g rest) → GivesPassed s f (by_outcome o rest)
+    gives_item rest (Kept y) is then = λ r t w. kept_given rest y is then r t.0 t.1 (passes_of_pass_trace w)
+    gives_item rest (Failure d) is then = λ r t w. failed_given rest d is then r t.0 t.1 (passes_of_pass_trace w)
+    gives_item rest End is then = λ r t w. end_given is r t.0 t.1 (passes_of_pass_trace w)
+    gives_item rest LeftOut is then = always_gives_if (passing_step steps call outcome) rest (s, f) (λ r t w. draw_after_left_out rest is then r t.0 t.1 (passes_of_pass_trace w))
 
-  pub all_given : (l : List (Result X E)) (s : S) (f : F) (p : P) → At f p → AlwaysGives steps s l → Gives s f (passed outcome answers next p l)
-  all_given [] s f p at a = λ r t w. none_given s f r t.0 t.1 a (to_passes w)
-  all_given (Err d ∷ l) s f p at a = λ r t w. failure_given d l (passed outcome answers next p l) s f (λ u b. all_given l u f p at b) a r t.0 t.1 (to_passes w)
-  all_given (Ok x ∷ l) s f p at a = item_given l x s f p at a (passed outcome answers next (next p x) l) (outcome x (answers p x)) refl (λ u g k b. all_given l u g (next p x) k b)
+  pub gives_all : (l : List (Result X E)) (s : S) (f : F) (p : P) → At f p → AlwaysGives steps s l → GivesPassed s f (passed outcome answers next p l)
+  gives_all [] s f p at a = λ r t w. end_of_nil s f r t.0 t.1 a (passes_of_pass_trace w)
+  gives_all (Err d ∷ l) s f p at a = λ r t w. always_gives_failure d l (passed outcome answers next p l) s f (λ u b. gives_all l u f p at b) a r t.0 t.1 (passes_of_pass_trace w)
+  gives_all (Ok x ∷ l) s f p at a = gives_item l x s f p at a (passed outcome answers next (next p x) l) (outcome x (answers p x)) refl (λ u g k b. gives_all l u g (next p x) k b)
 
 -- ---- with a closure that acts as a function
 
 module _ {F X R : Type 0} (call : F → X → R → F → Type 0) (f : F) (h : X → R) (acts : Acts call f h) where
-  acts_still : (g : F) (p : Unit {0}) (x : X) (v : R) (k : F) → g ≡ f → call g x v k → (k ≡ f) × (v ≡ h x)
-  acts_still g p x v k e c = acts x v k (subst (λ (z : F). call z x v k) e c)
+  closure_still_acts : (g : F) (p : Unit {0}) (x : X) (v : R) (k : F) → g ≡ f → call g x v k → (k ≡ f) × (v ≡ h x)
+  closure_still_acts g p x v k e c = acts x v k (subst (λ (z : F). call z x v k) e c)
 
   -- what an adapter lists whose closure is called on each item
-  pub lists_passed : {S B E : Type 0} (steps : S → Answered X E → S → Type 0) (outcome : X → R → Outcome B E) (s : S) (l : List (Result X E)) → AlwaysGives steps s l
+  pub always_gives_passed : {S B E : Type 0} (steps : S → Answered X E → S → Type 0) (outcome : X → R → Outcome B E) (s : S) (l : List (Result X E)) → AlwaysGives steps s l
       → AlwaysGives (passing_step steps call outcome) (s, f) (passed outcome (λ (p : Unit {0}) x. h x) (λ p x. p) tt l)
-  lists_passed steps outcome s l a = all_given steps call outcome (λ g p. g ≡ f) (λ p x. h x) (λ p x. p) (acts_still) l s f tt refl a
+  always_gives_passed steps outcome s l a = gives_all steps call outcome (λ g p. g ≡ f) (λ p x. h x) (λ p x. p) (closure_still_acts) l s f tt refl a

@@ -17,20 +17,20 @@ fuse_law steps p trace q = let law = closing_law steps (λ r. r) is_end p.0 p.1 
 
 -- ---- what it lists
 
-result_no_end : {A E : Type 0} (y : Result A E) → is_end (result_answer y) ≡ false
-result_no_end (Ok x) = refl
-result_no_end (Err e) = refl
+is_end_result_no : {A E : Type 0} (y : Result A E) → is_end (result_answer y) ≡ false
+is_end_result_no (Ok x) = refl
+is_end_result_no (Err e) = refl
 
 module _ {S A E : Type 0} (steps : S → Answered A E → S → Type 0) where
   abbrev fused_step : S × Bool → Answered A E → S × Bool → Type 0
   fused_step = closing_step steps (λ r. r) is_end
 
-  fused_gives : (l : List (Result A E)) (s : S) → AlwaysGives steps s l → AlwaysGives fused_step (s, false) l
-  fused_gives [] s a = λ r t w. w.2 ∙ a w.0 t.0 w.1
-  fused_gives (y ∷ l) s a = λ r t w. let d = a w.0 t.0 w.1 in (w.2 ∙ d.0, subst (λ (b : Bool). AlwaysGives fused_step (t.0, b) l) (sym (w.3 ∙ ap is_end d.0 ∙ result_no_end y)) (fused_gives l t.0 d.1))
+  always_gives_fused : (l : List (Result A E)) (s : S) → AlwaysGives steps s l → AlwaysGives fused_step (s, false) l
+  always_gives_fused [] s a = λ r t w. w.2 ∙ a w.0 t.0 w.1
+  always_gives_fused (y ∷ l) s a = λ r t w. let d = a w.0 t.0 w.1 in (w.2 ∙ d.0, subst (λ (b : Bool). AlwaysGives fused_step (t.0, b) l) (sym (w.3 ∙ ap is_end d.0 ∙ is_end_result_no y)) (always_gives_fused l t.0 d.1))
 
 pub lists_fused : {S A E : Type 0} (m : Contract S A E) (s : Fuse S) (l : List (Result A E)) → fuse_parts s ≡ (s.it, false) → Lists m.steps s.it l → Lists (seen_as fuse_parts (fuse_contract m)).steps s l
-lists_fused m s l parts i = lists_seen fuse_parts (fuse_contract m).steps s parts refl (fused_gives m.steps l s.it i.runs)
+lists_fused m s l parts i = lists_seen fuse_parts (fuse_contract m).steps s parts refl (always_gives_fused m.steps l s.it i.runs)
 
 -- ---- what it lists for good
 
@@ -47,9 +47,9 @@ module _ {S A E : Type 0} (steps : S → Answered A E → S → Type 0) where
   ends_after [] s t u r a ran w = let first = subst (λ (q : S × Bool). fused_step steps q r u) (sym ran) w in first.2 ∙ a first.0 u.0 first.1
   ends_after (y ∷ trace) s t u r a ran w = let first = ran.1 in closed_ends trace ran.0 t u r (first.3 ∙ ap is_end (a first.0 (ran.0).0 first.1)) ran.2 w
 
-  fused_for_good : (l : List (Result A E)) (s : S) → AlwaysGives steps s l → GivesForGood (fused_step steps) (s, false) l
-  fused_for_good [] s a = record { each = λ trace t u r ran w. ends_after trace s t u r a ran w }
-  fused_for_good (y ∷ l) s a = λ r t w. let d = a w.0 t.0 w.1 in (w.2 ∙ d.0, subst (λ (b : Bool). GivesForGood (fused_step steps) (t.0, b) l) (sym (w.3 ∙ ap is_end d.0 ∙ result_no_end y)) (fused_for_good l t.0 d.1))
+  gives_for_good_fused : (l : List (Result A E)) (s : S) → AlwaysGives steps s l → GivesForGood (fused_step steps) (s, false) l
+  gives_for_good_fused [] s a = record { each = λ trace t u r ran w. ends_after trace s t u r a ran w }
+  gives_for_good_fused (y ∷ l) s a = λ r t w. let d = a w.0 t.0 w.1 in (w.2 ∙ d.0, subst (λ (b : Bool). GivesForGood (fused_step steps) (t.0, b) l) (sym (w.3 ∙ ap is_end d.0 ∙ is_end_result_no y)) (gives_for_good_fused l t.0 d.1))
 
-pub lists_fused_for_good : {S A E : Type 0} (m : Contract S A E) (s : Fuse S) (l : List (Result A E)) → fuse_parts s ≡ (s.it, false) → Lists m.steps s.it l → ListsForGood (seen_as fuse_parts (fuse_contract m)).steps s l
-lists_fused_for_good m s l parts i = lists_for_good_seen fuse_parts (fuse_contract m).steps s parts refl (fused_for_good m.steps l s.it i.runs)
+pub lists_for_good_fused : {S A E : Type 0} (m : Contract S A E) (s : Fuse S) (l : List (Result A E)) → fuse_parts s ≡ (s.it, false) → Lists m.steps s.it l → ListsForGood (seen_as fuse_parts (fuse_contract m)).steps s l
+lists_for_good_fused m s l parts i = lists_for_good_seen fuse_parts (fuse_contract m).steps s parts refl (gives_for_good_fused m.steps l s.it i.runs)

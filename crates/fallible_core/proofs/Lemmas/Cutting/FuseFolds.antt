@@ -4,72 +4,72 @@ use Rattle.std.proofs.Common.{refl, sym, ap, subst, ◌∙◌}
 use Rattle.fallible_contract.specs.Traces.{Answered, Run, item, is_end}
 use Rattle.fallible_contract.specs.Closing.{closing_step}
 use Rattle.fallible_contract.specs.Contract.{Contract, seen_as}
-use Rattle.fallible_contract.specs.Folds.{Drained, HoldsAtEachTurn, DriveExit, Driven, OverExit, CountedOn, LastExit, LastOf, Nth}
+use Rattle.fallible_contract.specs.Folds.{Drained, HoldsAtEachTurn, DriveExit, Driven, OverExit, CountDrainsOn, LastExit, LastDrains, NthDrains}
 use Rattle.fallible_contract.proofs.Lemmas.Folding.{holds_into, drained_into}
 use Rattle.fallible_core.specs.Cutting.Fuse.{fuse_parts, fuse_contract}
 use Rattle.std.specs.declared.ops.ControlFlow.{ControlFlow}
 use Rattle.fallible_core.specs.declared.cutting.fuse.Fuse.{Fuse}
 
 -- a fold's answer is an end where the last answer is one
-exit_end : {C A E R : Type 0} (turns : C → A → ControlFlow R (Unit {0}) → C → Type 0) (c : C) (last : Answered A E) (r : Answered R E) (d : C) → DriveExit turns c last r d → is_end r ≡ is_end last
-exit_end turns c (Ok None) r d at = ap is_end at.0
-exit_end turns c (Err e) r d at = ap is_end at.0
-exit_end turns c (Ok (Some x)) r d at = ap is_end at.2
+is_end_drive_exit : {C A E R : Type 0} (turns : C → A → ControlFlow R (Unit {0}) → C → Type 0) (c : C) (last : Answered A E) (r : Answered R E) (d : C) → DriveExit turns c last r d → is_end r ≡ is_end last
+is_end_drive_exit turns c (Ok None) r d at = ap is_end at.0
+is_end_drive_exit turns c (Err e) r d at = ap is_end at.0
+is_end_drive_exit turns c (Ok (Some x)) r d at = ap is_end at.2
 
 -- a count and a last item are found where the last answer is an end
 abbrev pub is_found : {C E : Type 0} → Result C E → Bool
 is_found (Ok v) = true
 is_found (Err e) = false
 
-count_found : {A E : Type 0} (last : Answered A E) (r : Result (Unit {0}) E) → OverExit last r → is_found r ≡ is_end last
-count_found (Ok None) r h = ap is_found h
-count_found (Err e) r h = ap is_found h
-count_found (Ok (Some x)) r h = absurd h
+is_found_count : {A E : Type 0} (last : Answered A E) (r : Result (Unit {0}) E) → OverExit last r → is_found r ≡ is_end last
+is_found_count (Ok None) r h = ap is_found h
+is_found_count (Err e) r h = ap is_found h
+is_found_count (Ok (Some x)) r h = absurd h
 
-last_found : {A E : Type 0} (items : List A) (last : Answered A E) (r : Result (Option A) E) → LastExit items last r → is_found r ≡ is_end last
-last_found items (Ok None) r h = ap is_found h
-last_found items (Err e) r h = ap is_found h
-last_found items (Ok (Some x)) r h = absurd h
+is_found_last : {A E : Type 0} (items : List A) (last : Answered A E) (r : Result (Option A) E) → LastExit items last r → is_found r ≡ is_end last
+is_found_last items (Ok None) r h = ap is_found h
+is_found_last items (Err e) r h = ap is_found h
+is_found_last items (Ok (Some x)) r h = absurd h
 
-module _ {S A E : Type 0} (steps : S → Answered A E → S → Type 0) where
+module _ {S A E : Type 0} (steps_of_fuse_folds : S → Answered A E → S → Type 0) where
   -- items leave it open
-  run_open : (items : List A) (last : Answered A E) (s t : S) (closed : Bool) → Run steps s (map item items ++ last ∷ []) t → closed ≡ is_end last → Run (closing_step steps (λ r. r) is_end) (s, false) (map item items ++ last ∷ []) (t, closed)
-  run_open [] last s t closed ran is = ((t, closed), (last, subst (λ (u : S). steps s last u) ran.2 ran.1, refl, is), refl)
+  run_open : (items : List A) (last : Answered A E) (s t : S) (closed : Bool) → Run steps_of_fuse_folds s (map item items ++ last ∷ []) t → closed ≡ is_end last → Run (closing_step steps_of_fuse_folds (λ r. r) is_end) (s, false) (map item items ++ last ∷ []) (t, closed)
+  run_open [] last s t closed ran is = ((t, closed), (last, subst (λ (u : S). steps_of_fuse_folds s last u) ran.2 ran.1, refl, is), refl)
   run_open (x ∷ items) last s t closed ran is = ((ran.0, false), (item x, ran.1, refl, refl), run_open items last ran.0 t closed ran.2 is)
 
-  drained_fused : {came : List A → Answered A E → Type 0} {s t : S} (closed : Bool) (w : Drained steps came s t) → closed ≡ is_end w.last → Drained (closing_step steps (λ r. r) is_end) came (s, false) (t, closed)
+  drained_fused : {came : List A → Answered A E → Type 0} {s t : S} (closed : Bool) (w : Drained steps_of_fuse_folds came s t) → closed ≡ is_end w.last → Drained (closing_step steps_of_fuse_folds (λ r. r) is_end) came (s, false) (t, closed)
   drained_fused {s = s} {t = t} closed w met = record { items = w.items; last = w.last; ran = run_open w.items w.last s t closed w.ran met; at = w.at }
 
 -- ---- of the struct
 
 module _ {S A E : Type 0} (m : Contract S A E) (s : Fuse S) where
-  abbrev steps : Fuse S → Answered A E → Fuse S → Type 0
-  steps = (seen_as fuse_parts (fuse_contract m)).steps
+  abbrev steps_of_fuse_folds : Fuse S → Answered A E → Fuse S → Type 0
+  steps_of_fuse_folds = (seen_as fuse_parts (fuse_contract m)).steps
 
   -- what holds at each turn of it, where it is open, holds at each of the source
-  pub open_holds : {C : Type 0} {goes_on : C → A → C → Type 0} {P : C → A → Type 0} {c : C} → s.ended ≡ false → HoldsAtEachTurn steps goes_on P s c → HoldsAtEachTurn m.steps goes_on P s.it c
-  open_holds {goes_on = goes_on} {P = P} {c = c} is h = holds_into {held = steps} (λ p. record { it = p; ended = false }) (λ p x q step. (item x, step, refl, refl)) (subst (λ (b : Bool). HoldsAtEachTurn steps goes_on P (record { it = s.it; ended = b }) c) is h)
+  pub holds_each_turn_open : {C : Type 0} {goes_on : C → A → C → Type 0} {P : C → A → Type 0} {c : C} → s.ended ≡ false → HoldsAtEachTurn steps_of_fuse_folds goes_on P s c → HoldsAtEachTurn m.steps goes_on P s.it c
+  holds_each_turn_open {goes_on = goes_on} {P = P} {c = c} is h = holds_into {held = steps_of_fuse_folds} (λ p. record { it = p; ended = false }) (λ p x q step. (item x, step, refl, refl)) (subst (λ (b : Bool). HoldsAtEachTurn steps_of_fuse_folds goes_on P (record { it = s.it; ended = b }) c) is h)
 
   -- where it is open, a drain of the source is one of it
-  open_drained : {came : List A → Answered A E → Type 0} {t : S} (closed : Bool) → s.ended ≡ false → (w : Drained m.steps came s.it t) → closed ≡ is_end w.last → Drained steps came s (record { it = t; ended = closed })
-  open_drained {came = came} {t = t} closed is w met = subst (λ (b : Bool). Drained steps came (record { it = s.it; ended = b }) (record { it = t; ended = closed })) (sym is)
+  drained_open : {came : List A → Answered A E → Type 0} {t : S} (closed : Bool) → s.ended ≡ false → (w : Drained m.steps came s.it t) → closed ≡ is_end w.last → Drained steps_of_fuse_folds came s (record { it = t; ended = closed })
+  drained_open {came = came} {t = t} closed is w met = subst (λ (b : Bool). Drained steps_of_fuse_folds came (record { it = s.it; ended = b }) (record { it = t; ended = closed })) (sym is)
       (drained_into (λ p. record { it = p.0; ended = p.1 }) (λ p r q step. step) (drained_fused m.steps closed w met))
 
-  pub open_driven : {C R : Type 0} {turns : C → A → ControlFlow R (Unit {0}) → C → Type 0} {t : S} {c d : C} {r : Answered R E} (closed : Bool) → s.ended ≡ false → closed ≡ is_end r → Driven m.steps turns s.it c r t d → Driven steps turns s c r (record { it = t; ended = closed }) d
-  open_driven {turns = turns} {d = d} {r = r} closed is met w = open_drained closed is w (met ∙ exit_end turns w.at.carried w.last r d w.at.exit)
+  pub driven_open : {C R : Type 0} {turns : C → A → ControlFlow R (Unit {0}) → C → Type 0} {t : S} {c d : C} {r : Answered R E} (closed : Bool) → s.ended ≡ false → closed ≡ is_end r → Driven m.steps turns s.it c r t d → Driven steps_of_fuse_folds turns s c r (record { it = t; ended = closed }) d
+  driven_open {turns = turns} {d = d} {r = r} closed is met w = drained_open closed is w (met ∙ is_end_drive_exit turns w.at.carried w.last r d w.at.exit)
 
-  pub open_nth : {n : ℕ} {r : Answered A E} {t : S} (closed : Bool) → s.ended ≡ false → closed ≡ is_end r → Nth m.steps s.it n r t → Nth steps s n r (record { it = t; ended = closed })
-  open_nth closed is met w = open_drained closed is w (met ∙ sym (ap is_end w.at.is))
+  pub nth_drains_open : {n : ℕ} {r : Answered A E} {t : S} (closed : Bool) → s.ended ≡ false → closed ≡ is_end r → NthDrains m.steps s.it n r t → NthDrains steps_of_fuse_folds s n r (record { it = t; ended = closed })
+  nth_drains_open closed is met w = drained_open closed is w (met ∙ sym (ap is_end w.at.is))
 
-  pub open_counted : {n k : ℕ} {r : Result (Unit {0}) E} {t : S} (closed : Bool) → s.ended ≡ false → closed ≡ is_found r → CountedOn m.steps s.it n r t k → CountedOn steps s n r (record { it = t; ended = closed }) k
-  open_counted {r = r} closed is met w = open_drained closed is w (met ∙ count_found w.last r w.at.exit)
+  pub count_drains_on_open : {n k : ℕ} {r : Result (Unit {0}) E} {t : S} (closed : Bool) → s.ended ≡ false → closed ≡ is_found r → CountDrainsOn m.steps s.it n r t k → CountDrainsOn steps_of_fuse_folds s n r (record { it = t; ended = closed }) k
+  count_drains_on_open {r = r} closed is met w = drained_open closed is w (met ∙ is_found_count w.last r w.at.exit)
 
-  pub open_last : {r : Result (Option A) E} {t : S} (closed : Bool) → s.ended ≡ false → closed ≡ is_found r → LastOf m.steps s.it r t → LastOf steps s r (record { it = t; ended = closed })
-  open_last {r = r} closed is met w = open_drained closed is w (met ∙ last_found w.items w.last r w.at.exit)
+  pub last_drains_open : {r : Result (Option A) E} {t : S} (closed : Bool) → s.ended ≡ false → closed ≡ is_found r → LastDrains m.steps s.it r t → LastDrains steps_of_fuse_folds s r (record { it = t; ended = closed })
+  last_drains_open {r = r} closed is met w = drained_open closed is w (met ∙ is_found_last w.items w.last r w.at.exit)
 
   -- where it is closed, a drain is an end without a draw
-  closed_step : s.ended ≡ true → steps s (Ok None) s
-  closed_step is = subst (λ (b : Bool). steps (record { it = s.it; ended = b }) (Ok None) (record { it = s.it; ended = b })) (sym is) (refl, refl, refl)
+  closed_step : s.ended ≡ true → steps_of_fuse_folds s (Ok None) s
+  closed_step is = subst (λ (b : Bool). steps_of_fuse_folds (record { it = s.it; ended = b }) (Ok None) (record { it = s.it; ended = b })) (sym is) (refl, refl, refl)
 
-  pub closed_drained : {came : List A → Answered A E → Type 0} → s.ended ≡ true → came [] (Ok None) → Drained steps came s s
-  closed_drained is at = record { items = []; last = Ok None; ran = (s, closed_step is, refl); at = at }
+  pub drained_closed : {came : List A → Answered A E → Type 0} → s.ended ≡ true → came [] (Ok None) → Drained steps_of_fuse_folds came s s
+  drained_closed is at = record { items = []; last = Ok None; ran = (s, closed_step is, refl); at = at }

@@ -6,7 +6,7 @@ use Rattle.std.specs.Borrow.{Bor}
 use Rattle.std.proofs.Common.{refl, sym, ap, subst, ◌∙◌}
 use Rattle.fallible_contract.specs.Contract.{Contract, seen_as}
 use Rattle.fallible_contract.specs.Lists.{AlwaysGives, Lists, Acts, result_answer}
-use Rattle.fallible_contract.proofs.Lemmas.Lists.Passing.{passed, by_outcome, lists_seen, lists_passed}
+use Rattle.fallible_contract.proofs.Lemmas.Lists.Passing.{passed, by_outcome, lists_seen, always_gives_passed}
 use Rattle.fallible_contract.specs.Traces.{Answered, Run}
 use Rattle.fallible_contract.specs.Closures.{Calls, call_at}
 use Rattle.fallible_contract.specs.Passing.{LeavesNoneOut, Place, asked, failure_at, end_at, source_answer, call_of, passing_step}
@@ -17,31 +17,31 @@ use Rattle.fallible_core.specs.declared.cutting.take_while.TakeWhile.{TakeWhile}
 
 module _ {S F X R E : Type 0} (steps : S → Answered X E → S → Type 0) (call : F → X → R → F → Type 0) where
   -- the call at a first place, and those at the others
-  pub first_call : (x : Place X R E) (places : List (Place X R E)) (f h g : F) → Calls call f (filter_map call_of (x ∷ [])) h → Calls call h (filter_map call_of places) g → Calls call f (filter_map call_of (x ∷ places)) g
-  first_call (asked x v) places f h g one rest = (one.0, one.1, subst (λ (k : F). Calls call k (filter_map call_of places) g) (sym one.2) rest)
-  first_call (failure_at e) places f h g one rest = subst (λ (k : F). Calls call k (filter_map call_of places) g) (sym one) rest
-  first_call end_at places f h g one rest = subst (λ (k : F). Calls call k (filter_map call_of places) g) (sym one) rest
+  pub calls_cons : (x : Place X R E) (places : List (Place X R E)) (f h g : F) → Calls call f (filter_map call_of (x ∷ [])) h → Calls call h (filter_map call_of places) g → Calls call f (filter_map call_of (x ∷ places)) g
+  calls_cons (asked x v) places f h g one rest = (one.0, one.1, subst (λ (k : F). Calls call k (filter_map call_of places) g) (sym one.2) rest)
+  calls_cons (failure_at e) places f h g one rest = subst (λ (k : F). Calls call k (filter_map call_of places) g) (sym one) rest
+  calls_cons end_at places f h g one rest = subst (λ (k : F). Calls call k (filter_map call_of places) g) (sym one) rest
 
-  pub calls_apart : (x : Place X R E) (places : List (Place X R E)) (f g : F) → Calls call f (filter_map call_of (x ∷ places)) g → (h : F) × Calls call f (filter_map call_of (x ∷ [])) h × Calls call h (filter_map call_of places) g
-  calls_apart (asked x v) places f g c = (c.0, (c.0, c.1, refl), c.2)
-  calls_apart (failure_at e) places f g c = (f, refl, c)
-  calls_apart end_at places f g c = (f, refl, c)
+  pub calls_first_and_rest : (x : Place X R E) (places : List (Place X R E)) (f g : F) → Calls call f (filter_map call_of (x ∷ places)) g → (h : F) × Calls call f (filter_map call_of (x ∷ [])) h × Calls call h (filter_map call_of places) g
+  calls_first_and_rest (asked x v) places f g c = (c.0, (c.0, c.1, refl), c.2)
+  calls_first_and_rest (failure_at e) places f g c = (f, refl, c)
+  calls_first_and_rest end_at places f g c = (f, refl, c)
 
   -- the draws from the source, and the calls at their places
-  abbrev pub Both : List (Place X R E) → S → F → S → F → Type 0
-  Both places s f t g = Run steps s (map source_answer places) t × Calls call f (filter_map call_of places) g
+  abbrev pub DrawnAndCalled : List (Place X R E) → S → F → S → F → Type 0
+  DrawnAndCalled places s f t g = Run steps s (map source_answer places) t × Calls call f (filter_map call_of places) g
 
-  pub to_both : (places : List (Place X R E)) (s : S) (f : F) (t : S) (g : F) → FoldsTo (place_drawn steps call) (s, f) places (t, g) → Both places s f t g
-  to_both [] s f t g e = (ap (λ p. p.0) e, ap (λ p. p.1) e)
-  to_both (x ∷ places) s f t g h = let b = to_both places h.0.0 h.0.1 t g h.2 in ((h.0.0, h.1.0, b.0), first_call x places f h.0.1 g h.1.1 b.1)
+  pub both_of_folds_to : (places : List (Place X R E)) (s : S) (f : F) (t : S) (g : F) → FoldsTo (place_drawn steps call) (s, f) places (t, g) → DrawnAndCalled places s f t g
+  both_of_folds_to [] s f t g e = (ap (λ p. p.0) e, ap (λ p. p.1) e)
+  both_of_folds_to (x ∷ places) s f t g h = let b = both_of_folds_to places h.0.0 h.0.1 t g h.2 in ((h.0.0, h.1.0, b.0), calls_cons x places f h.0.1 g h.1.1 b.1)
 
-  pub from_both : (places : List (Place X R E)) (s : S) (f : F) (t : S) (g : F) → Both places s f t g → FoldsTo (place_drawn steps call) (s, f) places (t, g)
-  from_both [] s f t g b = rw (b.0, b.1) refl
-  from_both (x ∷ places) s f t g b = let c = calls_apart x places f g b.1 in (((b.0).0, c.0), ((b.0).1, c.1), from_both places (b.0).0 c.0 t g ((b.0).2, c.2))
+  pub folds_to_of_both : (places : List (Place X R E)) (s : S) (f : F) (t : S) (g : F) → DrawnAndCalled places s f t g → FoldsTo (place_drawn steps call) (s, f) places (t, g)
+  folds_to_of_both [] s f t g b = rw (b.0, b.1) refl
+  folds_to_of_both (x ∷ places) s f t g b = let c = calls_first_and_rest x places f g b.1 in (((b.0).0, c.0), ((b.0).1, c.1), folds_to_of_both places (b.0).0 c.0 t g ((b.0).2, c.2))
 
 pub take_while_law : {S F X E : Type 0} (steps : S → Answered X E → S → Type 0) (call : F → X → Result Bool E → F → Type 0) (p : (S × F) × Bool) (trace : List (Answered X E)) (q : (S × F) × Bool) → FoldsTo (closing_step (place_drawn steps call) taken_answer is_refused) p trace q ↔ TakeWhileTrace steps call p trace q
 take_while_law steps call p trace q = let law = closing_law (place_drawn steps call) taken_answer is_refused p.0 p.1 trace q.0 q.1 in
-    ((λ h. let d = law.0 h in let both = to_both steps call d.0 (p.0).0 (p.0).1 (q.0).0 (q.0).1 d.1 in record { places = d.0; drawn = both.0; called = both.1; cut = d.2 }), (λ h. law.1 (h.places, from_both steps call h.places (p.0).0 (p.0).1 (q.0).0 (q.0).1 (h.drawn, h.called), h.cut)))
+    ((λ h. let d = law.0 h in let both = both_of_folds_to steps call d.0 (p.0).0 (p.0).1 (q.0).0 (q.0).1 d.1 in record { places = d.0; drawn = both.0; called = both.1; cut = d.2 }), (λ h. law.1 (h.places, folds_to_of_both steps call h.places (p.0).0 (p.0).1 (q.0).0 (q.0).1 (h.drawn, h.called), h.cut)))
 
 -- ---- what it lists
 
@@ -53,45 +53,45 @@ module _ {S F X E : Type 0} (steps : S → Answered X E → S → Type 0) (call 
   step_until_refused = closing_step (place_drawn steps call) taken_answer is_refused
 
   -- while no item was rejected, a draw is one that lets items pass
-  one_passed : (x : Place X (Result Bool E) E) (p q : S × F) (r : Answered X E) → place_drawn steps call p x q → r ≡ taken_answer x → once_drawn p r q
-  one_passed (asked x (Ok true)) p q r d e = record { places = asked x (Ok true) ∷ []; drawn = (q.0, d.0, refl); called = d.1; answers = ap (λ k. k ∷ []) e; last_kept = refl }
-  one_passed (asked x (Ok false)) p q r d e = record { places = asked x (Ok false) ∷ []; drawn = (q.0, d.0, refl); called = d.1; answers = ap (λ k. k ∷ []) e; last_kept = refl }
-  one_passed (asked x (Err c)) p q r d e = record { places = asked x (Err c) ∷ []; drawn = (q.0, d.0, refl); called = d.1; answers = ap (λ k. k ∷ []) e; last_kept = refl }
-  one_passed (failure_at c) p q r d e = record { places = failure_at c ∷ []; drawn = (q.0, d.0, refl); called = d.1; answers = ap (λ k. k ∷ []) e; last_kept = refl }
-  one_passed end_at p q r d e = record { places = end_at ∷ []; drawn = (q.0, d.0, refl); called = d.1; answers = ap (λ k. k ∷ []) e; last_kept = refl }
+  once_drawn_of_pass : (x : Place X (Result Bool E) E) (p q : S × F) (r : Answered X E) → place_drawn steps call p x q → r ≡ taken_answer x → once_drawn p r q
+  once_drawn_of_pass (asked x (Ok true)) p q r d e = record { places = asked x (Ok true) ∷ []; drawn = (q.0, d.0, refl); called = d.1; answers = ap (λ k. k ∷ []) e; last_kept = refl }
+  once_drawn_of_pass (asked x (Ok false)) p q r d e = record { places = asked x (Ok false) ∷ []; drawn = (q.0, d.0, refl); called = d.1; answers = ap (λ k. k ∷ []) e; last_kept = refl }
+  once_drawn_of_pass (asked x (Err c)) p q r d e = record { places = asked x (Err c) ∷ []; drawn = (q.0, d.0, refl); called = d.1; answers = ap (λ k. k ∷ []) e; last_kept = refl }
+  once_drawn_of_pass (failure_at c) p q r d e = record { places = failure_at c ∷ []; drawn = (q.0, d.0, refl); called = d.1; answers = ap (λ k. k ∷ []) e; last_kept = refl }
+  once_drawn_of_pass end_at p q r d e = record { places = end_at ∷ []; drawn = (q.0, d.0, refl); called = d.1; answers = ap (λ k. k ∷ []) e; last_kept = refl }
 
   -- what isn't an end is no rejection
-  not_refused : (x : Place X (Result Bool E) E) (y : Result X E) → taken_answer x ≡ result_answer y → is_refused x ≡ false
-  not_refused (asked x (Ok true)) y e = refl
-  not_refused (asked x (Ok false)) (Ok y) e = absurd cc
-  not_refused (asked x (Ok false)) (Err c) e = absurd cc
-  not_refused (asked x (Err c)) y e = refl
-  not_refused (failure_at c) y e = refl
-  not_refused end_at y e = refl
+  is_refused_not : (x : Place X (Result Bool E) E) (y : Result X E) → taken_answer x ≡ result_answer y → is_refused x ≡ false
+  is_refused_not (asked x (Ok true)) y e = refl
+  is_refused_not (asked x (Ok false)) (Ok y) e = absurd cc
+  is_refused_not (asked x (Ok false)) (Err c) e = absurd cc
+  is_refused_not (asked x (Err c)) y e = refl
+  is_refused_not (failure_at c) y e = refl
+  is_refused_not end_at y e = refl
 
-  until_refused_gives : (l : List (Result X E)) (p : S × F) → AlwaysGives once_drawn p l → AlwaysGives step_until_refused (p, false) l
-  until_refused_gives [] p a = λ r t w. a r t.0 (one_passed w.0 p t.0 r w.1 w.2)
-  until_refused_gives (y ∷ l) p a = λ r t w. let d = a r t.0 (one_passed w.0 p t.0 r w.1 w.2) in
-      (d.0, subst (λ (b : Bool). AlwaysGives step_until_refused (t.0, b) l) (sym (w.3 ∙ not_refused w.0 y (sym w.2 ∙ d.0))) (until_refused_gives l t.0 d.1))
+  always_gives_until_refused : (l : List (Result X E)) (p : S × F) → AlwaysGives once_drawn p l → AlwaysGives step_until_refused (p, false) l
+  always_gives_until_refused [] p a = λ r t w. a r t.0 (once_drawn_of_pass w.0 p t.0 r w.1 w.2)
+  always_gives_until_refused (y ∷ l) p a = λ r t w. let d = a r t.0 (once_drawn_of_pass w.0 p t.0 r w.1 w.2) in
+      (d.0, subst (λ (b : Bool). AlwaysGives step_until_refused (t.0, b) l) (sym (w.3 ∙ is_refused_not w.0 y (sym w.2 ∙ d.0))) (always_gives_until_refused l t.0 d.1))
 
-by_outcome_is : {X E : Type 0} (x : X) (v : Result Bool E) (l : List (Result X E)) → by_outcome (take_while_outcome x v) l ≡ cons_while x v l
-by_outcome_is x (Ok true) l = refl
-by_outcome_is x (Ok false) l = refl
-by_outcome_is x (Err e) l = refl
+by_outcome_of_take_while : {X E : Type 0} (x : X) (v : Result Bool E) (l : List (Result X E)) → by_outcome (take_while_outcome x v) l ≡ cons_while x v l
+by_outcome_of_take_while x (Ok true) l = refl
+by_outcome_of_take_while x (Ok false) l = refl
+by_outcome_of_take_while x (Err e) l = refl
 
-taken_while_is : {X E : Type 0} (h : X → Result Bool E) (l : List (Result X E)) → passed take_while_outcome (λ (p : Unit {0}) x. h x) (λ p x. p) tt l ≡ taken_while h l
+passed_is_taken_while : {X E : Type 0} (h : X → Result Bool E) (l : List (Result X E)) → passed take_while_outcome (λ (p : Unit {0}) x. h x) (λ p x. p) tt l ≡ taken_while h l
 unfolding taken_while
-taken_while_is h [] = refl
-taken_while_is h (Ok x ∷ l) = by_outcome_is x (h x) _ ∙ ap (λ t. cons_while x (h x) t) (taken_while_is h l)
-taken_while_is h (Err e ∷ l) = ap (λ t. Err e ∷ t) (taken_while_is h l)
+passed_is_taken_while h [] = refl
+passed_is_taken_while h (Ok x ∷ l) = by_outcome_of_take_while x (h x) _ ∙ ap (λ t. cons_while x (h x) t) (passed_is_taken_while h l)
+passed_is_taken_while h (Err e ∷ l) = ap (λ t. Err e ∷ t) (passed_is_taken_while h l)
 
 pub lists_taken_while : {S F X E : Type 0} (m : Contract S X E) (g : Mut F (Bor X × Unit {0}) (Result Bool E)) (s : TakeWhile S F) (f : F) (h : X → Result Bool E) (l : List (Result X E)) → take_while_parts s ≡ ((s.it, f), false) → Acts (call_at g) f h → Lists m.steps s.it l
     → Lists (seen_as take_while_parts (take_while_contract m g)).steps s (taken_while h l)
-lists_taken_while m g s f h l parts a i = lists_seen take_while_parts (take_while_contract m g).steps s parts (taken_while_is h l)
-    (until_refused_gives m.steps (call_at g) _ (s.it, f) (lists_passed (call_at g) f h a m.steps take_while_outcome s.it l i.runs))
+lists_taken_while m g s f h l parts a i = lists_seen take_while_parts (take_while_contract m g).steps s parts (passed_is_taken_while h l)
+    (always_gives_until_refused m.steps (call_at g) _ (s.it, f) (always_gives_passed (call_at g) f h a m.steps take_while_outcome s.it l i.runs))
 
 -- it leaves nothing out
-pub leaves_none_out : {X E : Type 0} → LeavesNoneOut {X = X} {B = X} {E = E} take_while_outcome
-leaves_none_out x (Ok true) = refl
-leaves_none_out x (Ok false) = refl
-leaves_none_out x (Err e) = refl
+pub leaves_none_out_of_take_while : {X E : Type 0} → LeavesNoneOut {X = X} {B = X} {E = E} take_while_outcome
+leaves_none_out_of_take_while x (Ok true) = refl
+leaves_none_out_of_take_while x (Ok false) = refl
+leaves_none_out_of_take_while x (Err e) = refl

@@ -6,28 +6,28 @@ use Rattle.std.specs.Borrow.{Bor}
 use Rattle.fallible_contract.specs.Contract.{Contract, seen_as}
 use Rattle.fallible_contract.specs.Closures.{call_at}
 use Rattle.fallible_contract.specs.Lists.{Lists, Acts}
-use Rattle.fallible_contract.proofs.Lemmas.Lists.Passing.{passed, by_outcome, lists_seen, lists_passed}
+use Rattle.fallible_contract.proofs.Lemmas.Lists.Passing.{passed, by_outcome, lists_seen, always_gives_passed}
 use Rattle.fallible_core.specs.Filtering.Filter.{tested_outcome, filter_parts, filter_contract, cons_if, filtered}
 use Rattle.fallible_contract.specs.declared.passing.Outcome.TheVariants.{End}
 use Rattle.fallible_core.specs.declared.filtering.filter.Filter.{Filter}
 
 -- no answer of the closure makes an end
-pub never_ends : {X E : Type 0} (x : X) (v : Result Bool E) → tested_outcome x v ≡ End → ⊥
-never_ends x (Ok true) e = absurd cc
-never_ends x (Ok false) e = absurd cc
-never_ends x (Err d) e = absurd cc
+pub tested_never_ends : {X E : Type 0} (x : X) (v : Result Bool E) → tested_outcome x v ≡ End → ⊥
+tested_never_ends x (Ok true) e = absurd cc
+tested_never_ends x (Ok false) e = absurd cc
+tested_never_ends x (Err d) e = absurd cc
 
-by_outcome_is : {X E : Type 0} (x : X) (v : Result Bool E) (l : List (Result X E)) → by_outcome (tested_outcome x v) l ≡ cons_if x v l
-by_outcome_is x (Ok true) l = refl
-by_outcome_is x (Ok false) l = refl
-by_outcome_is x (Err e) l = refl
+by_outcome_of_tested : {X E : Type 0} (x : X) (v : Result Bool E) (l : List (Result X E)) → by_outcome (tested_outcome x v) l ≡ cons_if x v l
+by_outcome_of_tested x (Ok true) l = refl
+by_outcome_of_tested x (Ok false) l = refl
+by_outcome_of_tested x (Err e) l = refl
 
-pub filtered_is : {X E : Type 0} (h : X → Result Bool E) (l : List (Result X E)) → passed tested_outcome (λ (p : Unit {0}) x. h x) (λ p x. p) tt l ≡ filtered h l
+pub passed_is_filtered : {X E : Type 0} (h : X → Result Bool E) (l : List (Result X E)) → passed tested_outcome (λ (p : Unit {0}) x. h x) (λ p x. p) tt l ≡ filtered h l
 unfolding filtered
-filtered_is h [] = refl
-filtered_is h (Ok x ∷ l) = by_outcome_is x (h x) _ ∙ ap (λ t. cons_if x (h x) t) (filtered_is h l)
-filtered_is h (Err e ∷ l) = ap (λ t. Err e ∷ t) (filtered_is h l)
+passed_is_filtered h [] = refl
+passed_is_filtered h (Ok x ∷ l) = by_outcome_of_tested x (h x) _ ∙ ap (λ t. cons_if x (h x) t) (passed_is_filtered h l)
+passed_is_filtered h (Err e ∷ l) = ap (λ t. Err e ∷ t) (passed_is_filtered h l)
 
 pub lists_filtered : {S F X E : Type 0} (m : Contract S X E) (g : Mut F (Bor X × Unit {0}) (Result Bool E)) (s : Filter S F) (f : F) (h : X → Result Bool E) (l : List (Result X E)) → filter_parts s ≡ (s.it, f) → Acts (call_at g) f h → Lists m.steps s.it l
     → Lists (seen_as filter_parts (filter_contract m g)).steps s (filtered h l)
-lists_filtered m g s f h l parts a i = lists_seen filter_parts (filter_contract m g).steps s parts (filtered_is h l) (lists_passed (call_at g) f h a m.steps tested_outcome s.it l i.runs)
+lists_filtered m g s f h l parts a i = lists_seen filter_parts (filter_contract m g).steps s parts (passed_is_filtered h l) (always_gives_passed (call_at g) f h a m.steps tested_outcome s.it l i.runs)

@@ -8,54 +8,54 @@ use Rattle.fallible_contract.specs.Traces.{Answered, Run, item}
 use Rattle.fallible_contract.specs.Closures.{Calls, call_at}
 use Rattle.fallible_contract.specs.Contract.{Contract, seen_as}
 use Rattle.fallible_contract.specs.Lists.{Lists, Acts}
-use Rattle.fallible_contract.proofs.Lemmas.Lists.Passing.{passed, by_outcome, all_given, lists_seen}
+use Rattle.fallible_contract.proofs.Lemmas.Lists.Passing.{passed, by_outcome, gives_all, lists_seen}
 use Rattle.fallible_contract.specs.Passing.{PassTrace, Place, asked, failure_at, end_at, source_answer, call_of, answer_at}
 use Rattle.fallible_contract.proofs.Lemmas.LawForm.{runs_by_answers}
 use Rattle.fallible_contract.proofs.Lemmas.Passing.{passing_by_answers}
-use Rattle.fallible_contract.specs.Laws.Passing.{Passes, done, end_passes, failure_passes, keeps, refuses, closes, leaves_out, kept_tail, kept_cons, kept_before, answered, to_passes, from_passes}
+use Rattle.fallible_contract.specs.Laws.Passing.{Passes, done, end_passes, failure_passes, keeps, refuses, closes, leaves_out, last_kept_tail, last_kept_cons, last_kept_before, answers_never_nil, passes_of_pass_trace, pass_trace_of_passes}
 use Rattle.fallible_core.specs.Filtering.SkipWhile.{cons_from, skipped_while, skip_call, skip_while_outcome, skip_while_parts, skip_while_contract, answers_false, false_at, EndsAtFalse, asked_outcome, AskedUntilFalse, SkipWhileTrace}
 use Rattle.fallible_core.specs.declared.filtering.skip_while.SkipWhile.{SkipWhile}
 
 -- ---- the places met, one before the others
 
 module _ {X E : Type 0} where
-  ends_at_cons : (p : Place X (Result Bool E) E) (met : List (Place X (Result Bool E) E)) → false_at p ≡ false → EndsAtFalse met → EndsAtFalse (p ∷ met)
-  ends_at_cons p [] e h = absurd h
-  ends_at_cons p (q ∷ rest) e h = (e, h)
+  ends_at_false_at_cons : (p : Place X (Result Bool E) E) (met : List (Place X (Result Bool E) E)) → false_at p ≡ false → EndsAtFalse met → EndsAtFalse (p ∷ met)
+  ends_at_false_at_cons p [] e h = absurd h
+  ends_at_false_at_cons p (q ∷ rest) e h = (e, h)
 
   -- a place with an answer before the others
-  until_cons : (p : Place X (Result Bool E) E) (met : List (Place X (Result Bool E) E)) (after : List (Answered X E)) (b : Bool) → false_at p ≡ false → IsSome (answer_at asked_outcome p) → AskedUntilFalse false met after b → AskedUntilFalse false (p ∷ met) after b
-  until_cons p met after true e some h = ends_at_cons p met e h
-  until_cons p met after false e some h = ((e, h.0), h.1, kept_cons asked_outcome p met some h.2)
+  asked_until_false_cons : (p : Place X (Result Bool E) E) (met : List (Place X (Result Bool E) E)) (after : List (Answered X E)) (b : Bool) → false_at p ≡ false → IsSome (answer_at asked_outcome p) → AskedUntilFalse false met after b → AskedUntilFalse false (p ∷ met) after b
+  asked_until_false_cons p met after true e some h = ends_at_false_at_cons p met e h
+  asked_until_false_cons p met after false e some h = ((e, h.0), h.1, last_kept_cons asked_outcome p met some h.2)
 
   -- a left-out item before the others, of which there are some
-  until_cons_left_out : (p : Place X (Result Bool E) E) (met : List (Place X (Result Bool E) E)) (after : List (Answered X E)) (b : Bool) (r : Answered X E) (trace : List (Answered X E)) → false_at p ≡ false → r ∷ trace ≡ filter_map (answer_at asked_outcome) met ++ after → AskedUntilFalse false met after b → AskedUntilFalse false (p ∷ met) after b
-  until_cons_left_out p met after true r trace e answers h = ends_at_cons p met e h
-  until_cons_left_out p met after false r trace e answers h = let same : r ∷ trace ≡ filter_map (answer_at asked_outcome) met ++ [] = subst (λ (l : List (Answered X E)). r ∷ trace ≡ filter_map (answer_at asked_outcome) met ++ l) h.1 answers in
-      ((e, h.0), h.1, kept_before asked_outcome p met r trace (same ∙ append-nil (filter_map (answer_at asked_outcome) met)) h.2)
+  asked_until_false_cons_left_out : (p : Place X (Result Bool E) E) (met : List (Place X (Result Bool E) E)) (after : List (Answered X E)) (b : Bool) (r : Answered X E) (trace : List (Answered X E)) → false_at p ≡ false → r ∷ trace ≡ filter_map (answer_at asked_outcome) met ++ after → AskedUntilFalse false met after b → AskedUntilFalse false (p ∷ met) after b
+  asked_until_false_cons_left_out p met after true r trace e answers h = ends_at_false_at_cons p met e h
+  asked_until_false_cons_left_out p met after false r trace e answers h = let same : r ∷ trace ≡ filter_map (answer_at asked_outcome) met ++ [] = subst (λ (l : List (Answered X E)). r ∷ trace ≡ filter_map (answer_at asked_outcome) met ++ l) h.1 answers in
+      ((e, h.0), h.1, last_kept_before asked_outcome p met r trace (same ∙ append-nil (filter_map (answer_at asked_outcome) met)) h.2)
 
   -- and the other way: what holds of the others
-  until_tail : (p : Place X (Result Bool E) E) (met : List (Place X (Result Bool E) E)) (after : List (Answered X E)) (b : Bool) → false_at p ≡ false → AskedUntilFalse false (p ∷ met) after b → AskedUntilFalse false met after b
-  until_tail p [] after true e h = absurd cc
-  until_tail p (q ∷ rest) after true e h = h.1
-  until_tail p met after false e h = (h.0.1, h.1, kept_tail asked_outcome p met h.2)
+  asked_until_false_tail : (p : Place X (Result Bool E) E) (met : List (Place X (Result Bool E) E)) (after : List (Answered X E)) (b : Bool) → false_at p ≡ false → AskedUntilFalse false (p ∷ met) after b → AskedUntilFalse false met after b
+  asked_until_false_tail p [] after true e h = absurd cc
+  asked_until_false_tail p (q ∷ rest) after true e h = h.1
+  asked_until_false_tail p met after false e h = (h.0.1, h.1, last_kept_tail asked_outcome p met h.2)
 
   -- places that end at a false have an answer
-  ends_answered : (p : Place X (Result Bool E) E) (rest : List (Place X (Result Bool E) E)) (after : List (Answered X E)) → EndsAtFalse (p ∷ rest) → filter_map (answer_at asked_outcome) (p ∷ rest) ++ after ≡ [] → ⊥
-  ends_answered (failure_at e) [] after h d = cc
-  ends_answered end_at [] after h d = cc
-  ends_answered (asked x (Ok false)) [] after h d = cc
-  ends_answered (asked x (Ok true)) [] after h d = cc
-  ends_answered (asked x (Err e)) [] after h d = cc
-  ends_answered (failure_at e) (q ∷ rest) after h d = cc
-  ends_answered end_at (q ∷ rest) after h d = cc
-  ends_answered (asked x (Ok false)) (q ∷ rest) after h d = cc
-  ends_answered (asked x (Ok true)) (q ∷ rest) after h d = ends_answered q rest after h.1 d
-  ends_answered (asked x (Err e)) (q ∷ rest) after h d = cc
+  ends_at_false_answered : (p : Place X (Result Bool E) E) (rest : List (Place X (Result Bool E) E)) (after : List (Answered X E)) → EndsAtFalse (p ∷ rest) → filter_map (answer_at asked_outcome) (p ∷ rest) ++ after ≡ [] → ⊥
+  ends_at_false_answered (failure_at e) [] after h d = cc
+  ends_at_false_answered end_at [] after h d = cc
+  ends_at_false_answered (asked x (Ok false)) [] after h d = cc
+  ends_at_false_answered (asked x (Ok true)) [] after h d = cc
+  ends_at_false_answered (asked x (Err e)) [] after h d = cc
+  ends_at_false_answered (failure_at e) (q ∷ rest) after h d = cc
+  ends_at_false_answered end_at (q ∷ rest) after h d = cc
+  ends_at_false_answered (asked x (Ok false)) (q ∷ rest) after h d = cc
+  ends_at_false_answered (asked x (Ok true)) (q ∷ rest) after h d = ends_at_false_answered q rest after h.1 d
+  ends_at_false_answered (asked x (Err e)) (q ∷ rest) after h d = cc
 
 module _ {S F X E : Type 0} (steps : S → Answered X E → S → Type 0) (call : F → X → Result Bool E → F → Type 0) where
-  abbrev P : S → Bool × F → List (Answered X E) → S → Bool × F → Type 0
-  P = Passes steps (skip_call call) skip_while_outcome
+  abbrev SkipPasses : S → Bool × F → List (Answered X E) → S → Bool × F → Type 0
+  SkipPasses = Passes steps (skip_call call) skip_while_outcome
 
   -- ---- after the first false all items pass, and the predicate isn't called
 
@@ -63,29 +63,29 @@ module _ {S F X E : Type 0} (steps : S → Answered X E → S → Type 0) (call 
     pub ran : Run steps s trace t
     pub same : q ≡ p
 
-  pub after_false : (s t : S) (p q : Bool × F) (trace : List (Answered X E)) → p.0 ≡ true → P s p trace t q → Passed s p trace t q
-  after_false s _ p _ _ e done = record { ran = refl; same = refl }
-  after_false s t p q _ e (end_passes {u = u} {trace = rest} step h) = let k = after_false u t p q rest e h in record { ran = (u, step, k.ran); same = k.same }
-  after_false s t p q _ e (failure_passes {u = u} {trace = rest} d step h) = let k = after_false u t p q rest e h in record { ran = (u, step, k.ran); same = k.same }
-  after_false s t p q _ e (keeps {u = u} {h = j} {trace = rest} x None y step called is h) = let k = after_false u t j q rest (ap (λ (z : Bool × F). z.0) called.1 ∙ e) h in
+  pub passed_after_false : (s t : S) (p q : Bool × F) (trace : List (Answered X E)) → p.0 ≡ true → SkipPasses s p trace t q → Passed s p trace t q
+  passed_after_false s _ p _ _ e done = record { ran = refl; same = refl }
+  passed_after_false s t p q _ e (end_passes {u = u} {trace = rest} step h) = let k = passed_after_false u t p q rest e h in record { ran = (u, step, k.ran); same = k.same }
+  passed_after_false s t p q _ e (failure_passes {u = u} {trace = rest} d step h) = let k = passed_after_false u t p q rest e h in record { ran = (u, step, k.ran); same = k.same }
+  passed_after_false s t p q _ e (keeps {u = u} {h = j} {trace = rest} x None y step called is h) = let k = passed_after_false u t j q rest (ap (λ (z : Bool × F). z.0) called.1 ∙ e) h in
       let same : x ≡ y = cc in record { ran = (u, subst (λ (z : X). steps s (item z) u) same step, k.ran); same = k.same ∙ called.1 }
-  after_false s t p q _ e (keeps x (Some v) y step called is h) = absurd (let d = called.0 in cc)
-  after_false s t p q _ e (refuses x None d step called is h) = absurd cc
-  after_false s t p q _ e (refuses x (Some v) d step called is h) = absurd (let c = called.0 in cc)
-  after_false s t p q _ e (closes x None step called is h) = absurd cc
-  after_false s t p q _ e (closes x (Some v) step called is h) = absurd (let d = called.0 in cc)
-  after_false s t p q _ e (leaves_out x None step called is h) = absurd cc
-  after_false s t p q _ e (leaves_out x (Some v) step called is h) = absurd (let d = called.0 in cc)
+  passed_after_false s t p q _ e (keeps x (Some v) y step called is h) = absurd (let d = called.0 in cc)
+  passed_after_false s t p q _ e (refuses x None d step called is h) = absurd cc
+  passed_after_false s t p q _ e (refuses x (Some v) d step called is h) = absurd (let c = called.0 in cc)
+  passed_after_false s t p q _ e (closes x None step called is h) = absurd cc
+  passed_after_false s t p q _ e (closes x (Some v) step called is h) = absurd (let d = called.0 in cc)
+  passed_after_false s t p q _ e (leaves_out x None step called is h) = absurd cc
+  passed_after_false s t p q _ e (leaves_out x (Some v) step called is h) = absurd (let d = called.0 in cc)
 
-  pub run_passes : (trace : List (Answered X E)) (s t : S) (f : F) → Run steps s trace t → P s (true, f) trace t (true, f)
-  run_passes [] s t f ran = subst (λ (u : S). P s (true, f) [] u (true, f)) ran done
+  pub run_passes : (trace : List (Answered X E)) (s t : S) (f : F) → Run steps s trace t → SkipPasses s (true, f) trace t (true, f)
+  run_passes [] s t f ran = subst (λ (u : S). SkipPasses s (true, f) [] u (true, f)) ran done
   run_passes (Ok None ∷ rest) s t f ran = end_passes ran.1 (run_passes rest ran.0 t f ran.2)
   run_passes (Err e ∷ rest) s t f ran = failure_passes e ran.1 (run_passes rest ran.0 t f ran.2)
   run_passes (Ok (Some x) ∷ rest) s t f ran = keeps x None x ran.1 (refl, refl) refl (run_passes rest ran.0 t f ran.2)
 
   -- ---- before it
 
-  record Skips (s : S) (f : F) (trace : List (Answered X E)) (t : S) (q : Bool × F) : Type 0 where
+  record SkipsOfSkipWhile (s : S) (f : F) (trace : List (Answered X E)) (t : S) (q : Bool × F) : Type 0 where
     met : List (Place X (Result Bool E) E)
     after : List (Answered X E)
     drawn : Run steps s (map source_answer met ++ after) t
@@ -93,56 +93,56 @@ module _ {S F X E : Type 0} (steps : S → Answered X E → S → Type 0) (call 
     answers : trace ≡ filter_map (answer_at asked_outcome) met ++ after
     until_false : AskedUntilFalse false met after q.0
 
-  before_false : (s t : S) (p q : Bool × F) (trace : List (Answered X E)) → p.0 ≡ false → P s p trace t q → Skips s p.1 trace t q
-  before_false s _ p _ _ e done = record { met = []; after = []; drawn = refl; called = refl; answers = refl; until_false = subst (λ (b : Bool). AskedUntilFalse {X = X} {E = E} false [] [] b) (sym e) (tt, refl, tt) }
-  before_false s t p q _ e (end_passes {u = u} {trace = rest} step h) = let k = before_false u t p q rest e h in record { met = end_at ∷ k.met; after = k.after; drawn = (u, step, k.drawn); called = k.called; answers = ap (λ (l : List (Answered X E)). Ok None ∷ l) k.answers; until_false = until_cons end_at k.met k.after q.0 refl refl k.until_false }
-  before_false s t p q _ e (failure_passes {u = u} {trace = rest} d step h) = let k = before_false u t p q rest e h in record { met = failure_at d ∷ k.met; after = k.after; drawn = (u, step, k.drawn); called = k.called; answers = ap (λ (l : List (Answered X E)). Err d ∷ l) k.answers; until_false = until_cons (failure_at d) k.met k.after q.0 refl refl k.until_false }
-  before_false s t p q _ e (keeps x None y step called is h) = absurd (let d = called.0 in cc)
-  before_false s t p q _ e (keeps {u = u} {h = j} {trace = rest} x (Some (Ok false)) y step called is h) = let k = after_false u t j q rest called.2 h in let same : x ≡ y = cc in
+  skips_before_false : (s t : S) (p q : Bool × F) (trace : List (Answered X E)) → p.0 ≡ false → SkipPasses s p trace t q → SkipsOfSkipWhile s p.1 trace t q
+  skips_before_false s _ p _ _ e done = record { met = []; after = []; drawn = refl; called = refl; answers = refl; until_false = subst (λ (b : Bool). AskedUntilFalse {X = X} {E = E} false [] [] b) (sym e) (tt, refl, tt) }
+  skips_before_false s t p q _ e (end_passes {u = u} {trace = rest} step h) = let k = skips_before_false u t p q rest e h in record { met = end_at ∷ k.met; after = k.after; drawn = (u, step, k.drawn); called = k.called; answers = ap (λ (l : List (Answered X E)). Ok None ∷ l) k.answers; until_false = asked_until_false_cons end_at k.met k.after q.0 refl refl k.until_false }
+  skips_before_false s t p q _ e (failure_passes {u = u} {trace = rest} d step h) = let k = skips_before_false u t p q rest e h in record { met = failure_at d ∷ k.met; after = k.after; drawn = (u, step, k.drawn); called = k.called; answers = ap (λ (l : List (Answered X E)). Err d ∷ l) k.answers; until_false = asked_until_false_cons (failure_at d) k.met k.after q.0 refl refl k.until_false }
+  skips_before_false s t p q _ e (keeps x None y step called is h) = absurd (let d = called.0 in cc)
+  skips_before_false s t p q _ e (keeps {u = u} {h = j} {trace = rest} x (Some (Ok false)) y step called is h) = let k = passed_after_false u t j q rest called.2 h in let same : x ≡ y = cc in
       record { met = asked x (Ok false) ∷ []; after = rest; drawn = (u, step, k.ran); called = (j.1, called.1, ap (λ (z : Bool × F). z.1) (sym k.same)); answers = ap (λ (z : X). item z ∷ rest) (sym same); until_false = subst (λ (b : Bool). AskedUntilFalse false (asked x (Ok false) ∷ []) rest b) (sym (ap (λ (z : Bool × F). z.0) k.same ∙ called.2)) refl }
-  before_false s t p q _ e (keeps x (Some (Ok true)) y step called is h) = absurd cc
-  before_false s t p q _ e (keeps x (Some (Err d)) y step called is h) = absurd cc
-  before_false s t p q _ e (refuses x None d step called is h) = absurd cc
-  before_false s t p q _ e (refuses x (Some (Ok false)) d step called is h) = absurd cc
-  before_false s t p q _ e (refuses x (Some (Ok true)) d step called is h) = absurd cc
-  before_false s t p q _ e (refuses {u = u} {h = j} {trace = rest} x (Some (Err c)) d step called is h) = let k = before_false u t j q rest called.2 h in let same : c ≡ d = cc in
-      record { met = asked x (Err c) ∷ k.met; after = k.after; drawn = (u, step, k.drawn); called = (j.1, called.1, k.called); answers = ap (λ (z : E). Err z ∷ rest) (sym same) ∙ ap (λ (l : List (Answered X E)). Err c ∷ l) k.answers; until_false = until_cons (asked x (Err c)) k.met k.after q.0 refl refl k.until_false }
-  before_false s t p q _ e (closes x None step called is h) = absurd cc
-  before_false s t p q _ e (closes x (Some (Ok false)) step called is h) = absurd cc
-  before_false s t p q _ e (closes x (Some (Ok true)) step called is h) = absurd cc
-  before_false s t p q _ e (closes x (Some (Err c)) step called is h) = absurd cc
-  before_false s t p q _ e (leaves_out x None step called is h) = absurd cc
-  before_false s t p q _ e (leaves_out x (Some (Ok false)) step called is h) = absurd cc
-  before_false s t p q _ e (leaves_out x (Some (Err c)) step called is h) = absurd cc
-  before_false s t p q _ e (leaves_out {u = u} {h = j} {r = r} {trace = rest} x (Some (Ok true)) step called is h) = let k = before_false u t j q (r ∷ rest) called.2 h in
-      record { met = asked x (Ok true) ∷ k.met; after = k.after; drawn = (u, step, k.drawn); called = (j.1, called.1, k.called); answers = k.answers; until_false = until_cons_left_out (asked x (Ok true)) k.met k.after q.0 r rest refl k.answers k.until_false }
+  skips_before_false s t p q _ e (keeps x (Some (Ok true)) y step called is h) = absurd cc
+  skips_before_false s t p q _ e (keeps x (Some (Err d)) y step called is h) = absurd cc
+  skips_before_false s t p q _ e (refuses x None d step called is h) = absurd cc
+  skips_before_false s t p q _ e (refuses x (Some (Ok false)) d step called is h) = absurd cc
+  skips_before_false s t p q _ e (refuses x (Some (Ok true)) d step called is h) = absurd cc
+  skips_before_false s t p q _ e (refuses {u = u} {h = j} {trace = rest} x (Some (Err c)) d step called is h) = let k = skips_before_false u t j q rest called.2 h in let same : c ≡ d = cc in
+      record { met = asked x (Err c) ∷ k.met; after = k.after; drawn = (u, step, k.drawn); called = (j.1, called.1, k.called); answers = ap (λ (z : E). Err z ∷ rest) (sym same) ∙ ap (λ (l : List (Answered X E)). Err c ∷ l) k.answers; until_false = asked_until_false_cons (asked x (Err c)) k.met k.after q.0 refl refl k.until_false }
+  skips_before_false s t p q _ e (closes x None step called is h) = absurd cc
+  skips_before_false s t p q _ e (closes x (Some (Ok false)) step called is h) = absurd cc
+  skips_before_false s t p q _ e (closes x (Some (Ok true)) step called is h) = absurd cc
+  skips_before_false s t p q _ e (closes x (Some (Err c)) step called is h) = absurd cc
+  skips_before_false s t p q _ e (leaves_out x None step called is h) = absurd cc
+  skips_before_false s t p q _ e (leaves_out x (Some (Ok false)) step called is h) = absurd cc
+  skips_before_false s t p q _ e (leaves_out x (Some (Err c)) step called is h) = absurd cc
+  skips_before_false s t p q _ e (leaves_out {u = u} {h = j} {r = r} {trace = rest} x (Some (Ok true)) step called is h) = let k = skips_before_false u t j q (r ∷ rest) called.2 h in
+      record { met = asked x (Ok true) ∷ k.met; after = k.after; drawn = (u, step, k.drawn); called = (j.1, called.1, k.called); answers = k.answers; until_false = asked_until_false_cons_left_out (asked x (Ok true)) k.met k.after q.0 r rest refl k.answers k.until_false }
 
   -- a left-out item before an answer
   module _ (x : X) (s u : S) (f h : F) (step : steps s (item x) u) (called : call f x (Ok true) h) where
-    left_out_first : (met : List (Place X (Result Bool E) E)) (after : List (Answered X E)) (trace : List (Answered X E)) (t : S) (q : Bool × F) → trace ≡ filter_map (answer_at asked_outcome) met ++ after → AskedUntilFalse false (asked x (Ok true) ∷ met) after q.0 → P u (false, h) trace t q → P s (false, f) trace t q
+    left_out_first : (met : List (Place X (Result Bool E) E)) (after : List (Answered X E)) (trace : List (Answered X E)) (t : S) (q : Bool × F) → trace ≡ filter_map (answer_at asked_outcome) met ++ after → AskedUntilFalse false (asked x (Ok true) ∷ met) after q.0 → SkipPasses u (false, h) trace t q → SkipPasses s (false, f) trace t q
     left_out_first met after (r ∷ trace) t q answers until rest = leaves_out x (Some (Ok true)) step (refl, called, refl) refl rest
     left_out_first [] after [] t (true, k) answers until rest = absurd cc
-    left_out_first (p ∷ met) after [] t (true, k) answers until rest = absurd (ends_answered p met after until.1 (sym answers))
+    left_out_first (p ∷ met) after [] t (true, k) answers until rest = absurd (ends_at_false_answered p met after until.1 (sym answers))
     left_out_first [] after [] t (false, k) answers until rest = absurd (let some : false ≡ true = until.2 in cc)
-    left_out_first (p ∷ met) after [] t (false, k) answers until rest = absurd (answered asked_outcome p met until.2 (sym (append-nil (filter_map (answer_at asked_outcome) (p ∷ met))) ∙ ap (λ (l : List (Answered X E)). filter_map (answer_at asked_outcome) (p ∷ met) ++ l) (sym until.1) ∙ sym answers))
+    left_out_first (p ∷ met) after [] t (false, k) answers until rest = absurd (answers_never_nil asked_outcome p met until.2 (sym (append-nil (filter_map (answer_at asked_outcome) (p ∷ met))) ∙ ap (λ (l : List (Answered X E)). filter_map (answer_at asked_outcome) (p ∷ met) ++ l) (sym until.1) ∙ sym answers))
 
-  skips_passes : (met : List (Place X (Result Bool E) E)) (after : List (Answered X E)) (s t : S) (f : F) (q : Bool × F) → Run steps s (map source_answer met ++ after) t → Calls (call) f (filter_map call_of met) q.1 → AskedUntilFalse false met after q.0 → P s (false, f) (filter_map (answer_at asked_outcome) met ++ after) t q
+  skips_passes : (met : List (Place X (Result Bool E) E)) (after : List (Answered X E)) (s t : S) (f : F) (q : Bool × F) → Run steps s (map source_answer met ++ after) t → Calls (call) f (filter_map call_of met) q.1 → AskedUntilFalse false met after q.0 → SkipPasses s (false, f) (filter_map (answer_at asked_outcome) met ++ after) t q
   skips_passes [] after s t f (true, k) ran called until = absurd until
   skips_passes [] after s t f (false, k) ran called until = let none = until.1 in let here : Run steps s [] t = subst (λ (l : List (Answered X E)). Run steps s l t) none ran in
-      subst (λ (l : List (Answered X E)). P s (false, f) l t (false, k)) (sym none) (subst (λ (u : S). P s (false, f) [] u (false, k)) here (subst (λ (h : F). P s (false, f) [] s (false, h)) called done))
-  skips_passes (failure_at e ∷ met) after s t f q ran called until = failure_passes e ran.1 (skips_passes met after ran.0 t f q ran.2 called (until_tail (failure_at e) met after q.0 refl until))
-  skips_passes (end_at ∷ met) after s t f q ran called until = end_passes ran.1 (skips_passes met after ran.0 t f q ran.2 called (until_tail end_at met after q.0 refl until))
-  skips_passes (asked x (Err e) ∷ met) after s t f q ran called until = refuses x (Some (Err e)) e ran.1 (refl, called.1, refl) refl (skips_passes met after ran.0 t called.0 q ran.2 called.2 (until_tail (asked x (Err e)) met after q.0 refl until))
-  skips_passes (asked x (Ok true) ∷ met) after s t f q ran called until = left_out_first x s ran.0 f called.0 ran.1 called.1 met after (filter_map (answer_at asked_outcome) met ++ after) t q refl until (skips_passes met after ran.0 t called.0 q ran.2 called.2 (until_tail (asked x (Ok true)) met after q.0 refl until))
-  skips_passes (asked x (Ok false) ∷ []) after s t f (true, k) ran called until = keeps x (Some (Ok false)) x ran.1 (refl, called.1, refl) refl (subst (λ (h : F). P ran.0 (true, called.0) after t (true, h)) called.2 (run_passes after ran.0 t called.0 ran.2))
+      subst (λ (l : List (Answered X E)). SkipPasses s (false, f) l t (false, k)) (sym none) (subst (λ (u : S). SkipPasses s (false, f) [] u (false, k)) here (subst (λ (h : F). SkipPasses s (false, f) [] s (false, h)) called done))
+  skips_passes (failure_at e ∷ met) after s t f q ran called until = failure_passes e ran.1 (skips_passes met after ran.0 t f q ran.2 called (asked_until_false_tail (failure_at e) met after q.0 refl until))
+  skips_passes (end_at ∷ met) after s t f q ran called until = end_passes ran.1 (skips_passes met after ran.0 t f q ran.2 called (asked_until_false_tail end_at met after q.0 refl until))
+  skips_passes (asked x (Err e) ∷ met) after s t f q ran called until = refuses x (Some (Err e)) e ran.1 (refl, called.1, refl) refl (skips_passes met after ran.0 t called.0 q ran.2 called.2 (asked_until_false_tail (asked x (Err e)) met after q.0 refl until))
+  skips_passes (asked x (Ok true) ∷ met) after s t f q ran called until = left_out_first x s ran.0 f called.0 ran.1 called.1 met after (filter_map (answer_at asked_outcome) met ++ after) t q refl until (skips_passes met after ran.0 t called.0 q ran.2 called.2 (asked_until_false_tail (asked x (Ok true)) met after q.0 refl until))
+  skips_passes (asked x (Ok false) ∷ []) after s t f (true, k) ran called until = keeps x (Some (Ok false)) x ran.1 (refl, called.1, refl) refl (subst (λ (h : F). SkipPasses ran.0 (true, called.0) after t (true, h)) called.2 (run_passes after ran.0 t called.0 ran.2))
   skips_passes (asked x (Ok false) ∷ p ∷ met) after s t f (true, k) ran called until = absurd (let d = until.0 in cc)
   skips_passes (asked x (Ok false) ∷ met) after s t f (false, k) ran called until = absurd (let d = until.0.0 in cc)
 
   -- ---- both ways
 
-  to_skip_while : (s t : S) (p q : Bool × F) (trace : List (Answered X E)) → P s p trace t q → SkipWhileTrace steps call (s, p) trace (t, q)
-  to_skip_while s t (true, f) q trace h = let k = after_false s t (true, f) q trace refl h in record { met = []; after = trace; drawn = k.ran; called = ap (λ (z : Bool × F). z.1) (sym k.same); answers = refl; until_false = (refl, ap (λ (z : Bool × F). z.0) k.same) }
-  to_skip_while s t (false, f) q trace h = let k = before_false s t (false, f) q trace refl h in record { met = k.met; after = k.after; drawn = k.drawn; called = k.called; answers = k.answers; until_false = k.until_false }
+  skip_while_trace_of_passes : (s t : S) (p q : Bool × F) (trace : List (Answered X E)) → SkipPasses s p trace t q → SkipWhileTrace steps call (s, p) trace (t, q)
+  skip_while_trace_of_passes s t (true, f) q trace h = let k = passed_after_false s t (true, f) q trace refl h in record { met = []; after = trace; drawn = k.ran; called = ap (λ (z : Bool × F). z.1) (sym k.same); answers = refl; until_false = (refl, ap (λ (z : Bool × F). z.0) k.same) }
+  skip_while_trace_of_passes s t (false, f) q trace h = let k = skips_before_false s t (false, f) q trace refl h in record { met = k.met; after = k.after; drawn = k.drawn; called = k.called; answers = k.answers; until_false = k.until_false }
 
   -- what came after the first false, where it came before the trace
   record OnlyAfter (s : S) (f : F) (trace : List (Answered X E)) (t : S) (q : Bool × F) : Type 0 where
@@ -153,13 +153,13 @@ module _ {S F X E : Type 0} (steps : S → Answered X E → S → Type 0) (call 
   only_after [] after trace s t f q ran called answers none found = record { ran = subst (λ (l : List (Answered X E)). Run steps s l t) (sym answers) ran; same = ap (λ (b : Bool). (b, f)) (sym found) ∙ ap (λ (h : F). (q.0, h)) called }
   only_after (p ∷ met) after trace s t f q ran called answers none found = absurd cc
 
-  from_skip_while : (s t : S) (p q : Bool × F) (trace : List (Answered X E)) → SkipWhileTrace steps call (s, p) trace (t, q) → P s p trace t q
-  from_skip_while s t (true, f) q trace h = let k = only_after h.met h.after trace s t f q h.drawn h.called h.answers h.until_false.0 h.until_false.1 in subst (λ (z : Bool × F). P s (true, f) trace t z) k.same (run_passes trace s t f k.ran)
-  from_skip_while s t (false, f) q trace h = subst (λ (l : List (Answered X E)). P s (false, f) l t q) (sym h.answers) (skips_passes h.met h.after s t f q h.drawn h.called h.until_false)
+  passes_of_skip_while_trace : (s t : S) (p q : Bool × F) (trace : List (Answered X E)) → SkipWhileTrace steps call (s, p) trace (t, q) → SkipPasses s p trace t q
+  passes_of_skip_while_trace s t (true, f) q trace h = let k = only_after h.met h.after trace s t f q h.drawn h.called h.answers h.until_false.0 h.until_false.1 in subst (λ (z : Bool × F). SkipPasses s (true, f) trace t z) k.same (run_passes trace s t f k.ran)
+  passes_of_skip_while_trace s t (false, f) q trace h = subst (λ (l : List (Answered X E)). SkipPasses s (false, f) l t q) (sym h.answers) (skips_passes h.met h.after s t f q h.drawn h.called h.until_false)
 
 pub skip_while_law : {S F X E : Type 0} (steps : S → Answered X E → S → Type 0) (call : F → X → Result Bool E → F → Type 0) (p : S × (Bool × F)) (trace : List (Answered X E)) (q : S × (Bool × F)) → Run (λ u r v. PassTrace steps (skip_call call) skip_while_outcome u (r ∷ []) v) p trace q ↔ SkipWhileTrace steps call p trace q
 skip_while_law steps call p trace q = let law = runs_by_answers (PassTrace steps (skip_call call) skip_while_outcome) (passing_by_answers steps (skip_call call) skip_while_outcome) p trace q in
-    ((λ ran. to_skip_while steps call p.0 q.0 p.1 q.1 trace (to_passes (law.0 ran))), (λ d. law.1 (from_passes (from_skip_while steps call p.0 q.0 p.1 q.1 trace d))))
+    ((λ ran. skip_while_trace_of_passes steps call p.0 q.0 p.1 q.1 trace (passes_of_pass_trace (law.0 ran))), (λ d. law.1 (pass_trace_of_passes (passes_of_skip_while_trace steps call p.0 q.0 p.1 q.1 trace d))))
 
 -- ---- what it lists
 
@@ -173,24 +173,24 @@ flag_after h true x = true
 flag_after h false x = answers_false (h x)
 
 module _ {X E : Type 0} (h : X → Result Bool E) where
-  abbrev listed : Bool → List (Result X E) → List (Result X E)
-  listed b l = passed skip_while_outcome (asked_by h) (flag_after h) b l
+  abbrev listed_of_flag : Bool → List (Result X E) → List (Result X E)
+  listed_of_flag b l = passed skip_while_outcome (asked_by h) (flag_after h) b l
 
-  all_listed : (l : List (Result X E)) → listed true l ≡ l
-  all_listed [] = refl
-  all_listed (Ok x ∷ l) = ap (λ k. Ok x ∷ k) (all_listed l)
-  all_listed (Err e ∷ l) = ap (λ k. Err e ∷ k) (all_listed l)
+  listed_true : (l : List (Result X E)) → listed_of_flag true l ≡ l
+  listed_true [] = refl
+  listed_true (Ok x ∷ l) = ap (λ k. Ok x ∷ k) (listed_true l)
+  listed_true (Err e ∷ l) = ap (λ k. Err e ∷ k) (listed_true l)
 
-  first_listed : (x : X) (v : Result Bool E) (l skipped : List (Result X E)) (rest : Bool → List (Result X E)) → rest true ≡ l → rest false ≡ skipped → by_outcome (skip_while_outcome x (Some v)) (rest (answers_false v)) ≡ cons_from x v l skipped
-  first_listed x (Ok false) l skipped rest all some = ap (λ k. Ok x ∷ k) all
-  first_listed x (Ok true) l skipped rest all some = some
-  first_listed x (Err e) l skipped rest all some = ap (λ k. Err e ∷ k) some
+  by_outcome_first_listed : (x : X) (v : Result Bool E) (l skipped : List (Result X E)) (rest : Bool → List (Result X E)) → rest true ≡ l → rest false ≡ skipped → by_outcome (skip_while_outcome x (Some v)) (rest (answers_false v)) ≡ cons_from x v l skipped
+  by_outcome_first_listed x (Ok false) l skipped rest all some = ap (λ k. Ok x ∷ k) all
+  by_outcome_first_listed x (Ok true) l skipped rest all some = some
+  by_outcome_first_listed x (Err e) l skipped rest all some = ap (λ k. Err e ∷ k) some
 
-  skipped_while_is : (l : List (Result X E)) → listed false l ≡ skipped_while h l
+  listed_is_skipped_while : (l : List (Result X E)) → listed_of_flag false l ≡ skipped_while h l
   unfolding skipped_while
-  skipped_while_is [] = refl
-  skipped_while_is (Ok x ∷ l) = first_listed x (h x) l (skipped_while h l) (λ b. listed b l) (all_listed l) (skipped_while_is l)
-  skipped_while_is (Err e ∷ l) = ap (λ k. Err e ∷ k) (skipped_while_is l)
+  listed_is_skipped_while [] = refl
+  listed_is_skipped_while (Ok x ∷ l) = by_outcome_first_listed x (h x) l (skipped_while h l) (λ b. listed_of_flag b l) (listed_true l) (listed_is_skipped_while l)
+  listed_is_skipped_while (Err e ∷ l) = ap (λ k. Err e ∷ k) (listed_is_skipped_while l)
 
 module _ {F X E : Type 0} (call : F → X → Result Bool E → F → Type 0) (f : F) (h : X → Result Bool E) (acts : Acts call f h) where
   acts_until_false : (p : Bool × F) (b : Bool) (x : X) (v : Option (Result Bool E)) (q : Bool × F) → p ≡ (b, f) → skip_call call p x v q → (q ≡ (flag_after h b x, f)) × (v ≡ asked_by h b x)
@@ -202,5 +202,5 @@ module _ {F X E : Type 0} (call : F → X → Result Bool E → F → Type 0) (f
 
 pub lists_skipped_while : {S F X E : Type 0} (m : Contract S X E) (g : Mut F (Bor X × Unit {0}) (Result Bool E)) (s : SkipWhile S F) (f : F) (h : X → Result Bool E) (l : List (Result X E)) → skip_while_parts s ≡ (s.it, (false, f)) → Acts (call_at g) f h → Lists m.steps s.it l
     → Lists (seen_as skip_while_parts (skip_while_contract m g)).steps s (skipped_while h l)
-lists_skipped_while {F = F} m g s f h l parts a i = lists_seen skip_while_parts (skip_while_contract m g).steps s parts (skipped_while_is h l)
-    (all_given m.steps (skip_call (call_at g)) skip_while_outcome (λ (p : Bool × F) b. p ≡ (b, f)) (asked_by h) (flag_after h) (acts_until_false (call_at g) f h a) l s.it (false, f) false refl i.runs)
+lists_skipped_while {F = F} m g s f h l parts a i = lists_seen skip_while_parts (skip_while_contract m g).steps s parts (listed_is_skipped_while h l)
+    (gives_all m.steps (skip_call (call_at g)) skip_while_outcome (λ (p : Bool × F) b. p ≡ (b, f)) (asked_by h) (flag_after h) (acts_until_false (call_at g) f h a) l s.it (false, f) false refl i.runs)

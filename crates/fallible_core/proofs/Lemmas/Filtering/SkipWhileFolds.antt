@@ -7,20 +7,20 @@ use Rattle.fallible_contract.specs.Traces.{Answered, item}
 use Rattle.fallible_contract.specs.Closures.{call_at}
 use Rattle.fallible_contract.specs.Contract.{Contract, seen_as}
 use Rattle.fallible_contract.specs.Folds.{HoldsAtEachTurn, Drained}
-use Rattle.fallible_contract.specs.Laws.Passing.{Passes, done, end_passes, failure_passes, keeps, refuses, closes, leaves_out, to_passes, from_passes}
+use Rattle.fallible_contract.specs.Laws.Passing.{Passes, done, end_passes, failure_passes, keeps, refuses, closes, leaves_out, passes_of_pass_trace, pass_trace_of_passes}
 use Rattle.fallible_contract.proofs.Lemmas.Folding.{holds_into, drained_into}
 use Rattle.fallible_core.specs.Filtering.SkipWhile.{skip_call, skip_while_outcome, skip_while_contract, skip_while_parts}
-use Rattle.fallible_core.proofs.Lemmas.Filtering.SkipWhile.{after_false, run_passes}
+use Rattle.fallible_core.proofs.Lemmas.Filtering.SkipWhile.{passed_after_false, run_passes}
 use Rattle.fallible_core.specs.declared.filtering.skip_while.SkipWhile.{SkipWhile}
 
-module _ {S F X E : Type 0} (steps : S → Answered X E → S → Type 0) (call : F → X → Result Bool E → F → Type 0) where
+module _ {S F X E : Type 0} (steps_of_skip_while_folds : S → Answered X E → S → Type 0) (call : F → X → Result Bool E → F → Type 0) where
   -- where an item is the answer, the predicate has returned false
-  found_by_item : (s t : S) (p q : Bool × F) (trace : List (Answered X E)) (x : X) → trace ≡ item x ∷ [] → Passes steps (skip_call call) skip_while_outcome s p trace t q → q.0 ≡ true
+  found_by_item : (s t : S) (p q : Bool × F) (trace : List (Answered X E)) (x : X) → trace ≡ item x ∷ [] → Passes steps_of_skip_while_folds (skip_call call) skip_while_outcome s p trace t q → q.0 ≡ true
   found_by_item s _ p _ _ x e done = absurd cc
   found_by_item s t p q _ x e (end_passes step h) = absurd cc
   found_by_item s t p q _ x e (failure_passes d step h) = absurd cc
-  found_by_item s t p q _ x e (keeps {u = u} {h = j} {trace = rest} y None z step called is h) = let on : j.0 ≡ true = ap (λ (k : Bool × F). k.0) called.1 ∙ called.0 in ap (λ (k : Bool × F). k.0) (after_false steps call u t j q rest on h).same ∙ on
-  found_by_item s t p q _ x e (keeps {u = u} {h = j} {trace = rest} y (Some (Ok false)) z step called is h) = ap (λ (k : Bool × F). k.0) (after_false steps call u t j q rest called.2 h).same ∙ called.2
+  found_by_item s t p q _ x e (keeps {u = u} {h = j} {trace = rest} y None z step called is h) = let on : j.0 ≡ true = ap (λ (k : Bool × F). k.0) called.1 ∙ called.0 in ap (λ (k : Bool × F). k.0) (passed_after_false steps_of_skip_while_folds call u t j q rest on h).same ∙ on
+  found_by_item s t p q _ x e (keeps {u = u} {h = j} {trace = rest} y (Some (Ok false)) z step called is h) = ap (λ (k : Bool × F). k.0) (passed_after_false steps_of_skip_while_folds call u t j q rest called.2 h).same ∙ called.2
   found_by_item s t p q _ x e (keeps y (Some (Ok true)) z step called is h) = absurd cc
   found_by_item s t p q _ x e (keeps y (Some (Err d)) z step called is h) = absurd cc
   found_by_item s t p q _ x e (refuses y v d step called is h) = absurd cc
@@ -31,28 +31,28 @@ module _ {S F X E : Type 0} (steps : S → Answered X E → S → Type 0) (call 
   found_by_item s t p q _ x e (leaves_out y (Some (Err d)) step called is h) = absurd cc
 
 module _ {S F X E : Type 0} (m : Contract S X E) (g : Mut F (Bor X × Unit {0}) (Result Bool E)) where
-  abbrev steps : SkipWhile S F → Answered X E → SkipWhile S F → Type 0
-  steps = (seen_as skip_while_parts (skip_while_contract m g)).steps
+  abbrev steps_of_skip_while_folds : SkipWhile S F → Answered X E → SkipWhile S F → Type 0
+  steps_of_skip_while_folds = (seen_as skip_while_parts (skip_while_contract m g)).steps
 
   -- the predicate has returned false
-  abbrev past : F → S → SkipWhile S F
-  past f s = record { it = s; skipping = (true, f) }
+  abbrev past_of_skip_while_folds : F → S → SkipWhile S F
+  past_of_skip_while_folds f s = record { it = s; skipping = (true, f) }
 
-  past_step : (f : F) (s t : S) (r : Answered X E) → m.steps s r t → steps (past f s) r (past f t)
-  past_step f s t r step = from_passes (run_passes m.steps (call_at g) (r ∷ []) s t f (t, step, refl))
+  step_of_source_past : (f : F) (s t : S) (r : Answered X E) → m.steps s r t → steps_of_skip_while_folds (past_of_skip_while_folds f s) r (past_of_skip_while_folds f t)
+  step_of_source_past f s t r step = pass_trace_of_passes (run_passes m.steps (call_at g) (r ∷ []) s t f (t, step, refl))
 
-  pub item_is_past : (s t : SkipWhile S F) (x : X) → steps s (item x) t → t.skipping.0 ≡ true
-  item_is_past s t x step = found_by_item m.steps (call_at g) s.it t.it s.skipping t.skipping (item x ∷ []) x refl (to_passes step)
+  pub item_is_past : (s t : SkipWhile S F) (x : X) → steps_of_skip_while_folds s (item x) t → t.skipping.0 ≡ true
+  item_is_past s t x step = found_by_item m.steps (call_at g) s.it t.it s.skipping t.skipping (item x ∷ []) x refl (passes_of_pass_trace step)
 
   module _ {s : SkipWhile S F} (at : s.skipping.0 ≡ true) where
     -- a draw of the source is one of it
-    pub step_past : {r : Answered X E} {t : S} → m.steps s.it r t → steps s r (record { it = t; skipping = s.skipping })
-    step_past {r = r} {t = t} step = subst (λ (b : Bool). steps (record { it = s.it; skipping = (b, s.skipping.1) }) r (record { it = t; skipping = (b, s.skipping.1) })) (sym at) (past_step s.skipping.1 s.it t r step)
+    pub step_of_source_skipping : {r : Answered X E} {t : S} → m.steps s.it r t → steps_of_skip_while_folds s r (record { it = t; skipping = s.skipping })
+    step_of_source_skipping {r = r} {t = t} step = subst (λ (b : Bool). steps_of_skip_while_folds (record { it = s.it; skipping = (b, s.skipping.1) }) r (record { it = t; skipping = (b, s.skipping.1) })) (sym at) (step_of_source_past s.skipping.1 s.it t r step)
 
     -- what holds at each turn of it holds at each of the source
-    pub holds_past : {C : Type 0} {goes : C → X → C → Type 0} {P : C → X → Type 0} {c : C} → HoldsAtEachTurn steps goes P s c → HoldsAtEachTurn m.steps goes P s.it c
-    holds_past {goes = goes} {P = P} {c = c} h = holds_into {held = steps} (past s.skipping.1) (λ p x q step. past_step s.skipping.1 p q (item x) step) (subst (λ (b : Bool). HoldsAtEachTurn steps goes P (record { it = s.it; skipping = (b, s.skipping.1) }) c) at h)
+    pub holds_each_turn_past : {C : Type 0} {goes : C → X → C → Type 0} {P : C → X → Type 0} {c : C} → HoldsAtEachTurn steps_of_skip_while_folds goes P s c → HoldsAtEachTurn m.steps goes P s.it c
+    holds_each_turn_past {goes = goes} {P = P} {c = c} h = holds_into {held = steps_of_skip_while_folds} (past_of_skip_while_folds s.skipping.1) (λ p x q step. step_of_source_past s.skipping.1 p q (item x) step) (subst (λ (b : Bool). HoldsAtEachTurn steps_of_skip_while_folds goes P (record { it = s.it; skipping = (b, s.skipping.1) }) c) at h)
 
     -- and draws of the source are draws of it
-    pub drained_past : {came : List X → Answered X E → Type 0} {t : S} → Drained m.steps came s.it t → Drained steps came s (record { it = t; skipping = s.skipping })
-    drained_past {came = came} {t = t} w = subst (λ (b : Bool). Drained steps came (record { it = s.it; skipping = (b, s.skipping.1) }) (record { it = t; skipping = (b, s.skipping.1) })) (sym at) (drained_into {held = steps} (past s.skipping.1) (λ p r q step. past_step s.skipping.1 p q r step) w)
+    pub drained_past : {came : List X → Answered X E → Type 0} {t : S} → Drained m.steps came s.it t → Drained steps_of_skip_while_folds came s (record { it = t; skipping = s.skipping })
+    drained_past {came = came} {t = t} w = subst (λ (b : Bool). Drained steps_of_skip_while_folds came (record { it = s.it; skipping = (b, s.skipping.1) }) (record { it = t; skipping = (b, s.skipping.1) })) (sym at) (drained_into {held = steps_of_skip_while_folds} (past_of_skip_while_folds s.skipping.1) (λ p r q step. step_of_source_past s.skipping.1 p q r step) w)

@@ -5,7 +5,7 @@ use Rattle.std.proofs.lemmas.List.{reverse-append}
 use Rattle.fallible_contract.specs.Traces.{Answered, end, is_end}
 use Rattle.fallible_contract.specs.Lists.{result_answer}
 use Rattle.fallible_contract.specs.BothEnds.{TakesFirst, ListsBothEnds}
-use Rattle.fallible_contract.proofs.Lemmas.BothEnds.{takes_front, listed_by_swapping, listed_swapped}
+use Rattle.fallible_contract.proofs.Lemmas.BothEnds.{takes_first_front, lists_both_ends_by_swapping, lists_both_ends_swapped}
 use Rattle.fallible_core.specs.Joining.Chain.{chained, chain_step, chain_back}
 use Rattle.fallible_core.specs.declared.joining.chain.StillDrawn.{StillDrawn}
 use Rattle.fallible_core.specs.declared.joining.chain.StillDrawn.TheVariants.{Both, FirstAlone, SecondAlone}
@@ -26,58 +26,58 @@ module _ {S U A E : Type 0} (steps back : S → Answered A E → S → Type 0) (
   ChainLists (s, u, SecondAlone) l = ListsBothEnds others others_back u l
 
   -- an answer of the first, which isn't its end
-  before_end : (t : S) (u : U) (r : Answered A E) (a b : List (Result A E)) → is_end r ≡ false → TakesFirst (λ k. ListsBothEnds steps back t k) r a → ListsBothEnds others others_back u b → TakesFirst (λ k. ChainLists (t, u, Both) k) r (a ++ b)
-  before_end t u r [] b no_end h j = absurd (let e = h.0 in let ends : is_end {A = A} {E = E} end ≡ false = subst (λ q. is_end q ≡ false) e no_end in cc)
-  before_end t u r (y ∷ a) b no_end h j = (h.0, (a, b, refl, h.1, j))
+  takes_first_before_end : (t : S) (u : U) (r : Answered A E) (a b : List (Result A E)) → is_end r ≡ false → TakesFirst (λ k. ListsBothEnds steps back t k) r a → ListsBothEnds others others_back u b → TakesFirst (λ k. ChainLists (t, u, Both) k) r (a ++ b)
+  takes_first_before_end t u r [] b no_end h j = absurd (let e = h.0 in let ends : is_end {A = A} {E = E} end ≡ false = subst (λ q. is_end q ≡ false) e no_end in cc)
+  takes_first_before_end t u r (y ∷ a) b no_end h j = (h.0, (a, b, refl, h.1, j))
 
   -- an answer of the second, in the draw that met the first's end
-  at_end : (s t : S) (v : U) (r : Answered A E) (a b : List (Result A E)) → TakesFirst (λ k. ListsBothEnds steps back t k) end a → TakesFirst (λ k. ListsBothEnds others others_back v k) r b → TakesFirst (λ k. ChainLists (t, v, SecondAlone) k) r (a ++ b)
-  at_end s t v r [] b h j = j
-  at_end s t v r (y ∷ a) b h j = absurd (result_no_end y end h.0 refl)
+  takes_first_at_end : (s t : S) (v : U) (r : Answered A E) (a b : List (Result A E)) → TakesFirst (λ k. ListsBothEnds steps back t k) end a → TakesFirst (λ k. ListsBothEnds others others_back v k) r b → TakesFirst (λ k. ChainLists (t, v, SecondAlone) k) r (a ++ b)
+  takes_first_at_end s t v r [] b h j = j
+  takes_first_at_end s t v r (y ∷ a) b h j = absurd (result_no_end y end h.0 refl)
 
-  taken : (p : S × U × StillDrawn) (l : List (Result A E)) → ChainLists p l → (r : Answered A E) (q : S × U × StillDrawn) → chain_step steps others p r q → TakesFirst (λ k. ChainLists q k) r l
-  taken (s, u, Both) l h r (t, v, left) (inl step) = rw (step.3, step.2, h.2) (before_end t u r h.0 h.1 step.1 (takes_front h.3 step.0) h.4)
-  taken (s, u, Both) l h r (t, v, left) (inr step) = rw (step.2, h.2) (at_end s t v r h.0 h.1 (takes_front h.3 step.0) (takes_front h.4 step.1))
-  taken (s, u, FirstAlone) l h r (t, v, left) step = rw step.2 (takes_front h step.0)
-  taken (s, u, SecondAlone) l h r (t, v, left) step = rw step.2 (takes_front h step.0)
+  takes_first_of_chain : (p : S × U × StillDrawn) (l : List (Result A E)) → ChainLists p l → (r : Answered A E) (q : S × U × StillDrawn) → chain_step steps others p r q → TakesFirst (λ k. ChainLists q k) r l
+  takes_first_of_chain (s, u, Both) l h r (t, v, left) (inl step) = rw (step.3, step.2, h.2) (takes_first_before_end t u r h.0 h.1 step.1 (takes_first_front h.3 step.0) h.4)
+  takes_first_of_chain (s, u, Both) l h r (t, v, left) (inr step) = rw (step.2, h.2) (takes_first_at_end s t v r h.0 h.1 (takes_first_front h.3 step.0) (takes_first_front h.4 step.1))
+  takes_first_of_chain (s, u, FirstAlone) l h r (t, v, left) step = rw step.2 (takes_first_front h step.0)
+  takes_first_of_chain (s, u, SecondAlone) l h r (t, v, left) step = rw step.2 (takes_first_front h step.0)
 
 module _ {S U A E : Type 0} (steps back : S → Answered A E → S → Type 0) (others others_back : U → Answered A E → U → Type 0) where
   -- the same, seen from the back
   abbrev ListsBack : S × U × StillDrawn → List (Result A E) → Type 0
   ListsBack p l = ChainLists others_back others back steps (chain_back p) l
 
-  to_seen_back : (p : S × U × StillDrawn) (l : List (Result A E)) → ChainLists steps back others others_back p l → ListsBack p (reverse l)
-  to_seen_back (s, u, Both) l h = (reverse h.1, reverse h.0, ap reverse h.2 ∙ reverse-append h.0 h.1, listed_swapped h.4, listed_swapped h.3)
-  to_seen_back (s, u, FirstAlone) l h = listed_swapped h
-  to_seen_back (s, u, SecondAlone) l h = listed_swapped h
+  lists_back_of_chain_lists : (p : S × U × StillDrawn) (l : List (Result A E)) → ChainLists steps back others others_back p l → ListsBack p (reverse l)
+  lists_back_of_chain_lists (s, u, Both) l h = (reverse h.1, reverse h.0, ap reverse h.2 ∙ reverse-append h.0 h.1, lists_both_ends_swapped h.4, lists_both_ends_swapped h.3)
+  lists_back_of_chain_lists (s, u, FirstAlone) l h = lists_both_ends_swapped h
+  lists_back_of_chain_lists (s, u, SecondAlone) l h = lists_both_ends_swapped h
 
-  from_seen_back : (p : S × U × StillDrawn) (l : List (Result A E)) → ListsBack p l → ChainLists steps back others others_back p (reverse l)
-  from_seen_back (s, u, Both) l h = (reverse h.1, reverse h.0, ap reverse h.2 ∙ reverse-append h.0 h.1, listed_swapped h.4, listed_swapped h.3)
-  from_seen_back (s, u, FirstAlone) l h = listed_swapped h
-  from_seen_back (s, u, SecondAlone) l h = listed_swapped h
+  chain_lists_of_lists_back : (p : S × U × StillDrawn) (l : List (Result A E)) → ListsBack p l → ChainLists steps back others others_back p (reverse l)
+  chain_lists_of_lists_back (s, u, Both) l h = (reverse h.1, reverse h.0, ap reverse h.2 ∙ reverse-append h.0 h.1, lists_both_ends_swapped h.4, lists_both_ends_swapped h.3)
+  chain_lists_of_lists_back (s, u, FirstAlone) l h = lists_both_ends_swapped h
+  chain_lists_of_lists_back (s, u, SecondAlone) l h = lists_both_ends_swapped h
 
-  taken_back : (p : S × U × StillDrawn) (l : List (Result A E)) → ListsBack p l → (r : Answered A E) (q : S × U × StillDrawn) → chain_step_back back others_back p r q → TakesFirst (λ k. ListsBack q k) r l
-  taken_back p l h r q step = taken others_back others back steps (chain_back p) l h r (chain_back q) step
+  takes_first_back : (p : S × U × StillDrawn) (l : List (Result A E)) → ListsBack p l → (r : Answered A E) (q : S × U × StillDrawn) → chain_step_back back others_back p r q → TakesFirst (λ k. ListsBack q k) r l
+  takes_first_back p l h r q step = takes_first_of_chain others_back others back steps (chain_back p) l h r (chain_back q) step
 
-  chain_lists : (p : S × U × StillDrawn) (l : List (Result A E)) → ChainLists steps back others others_back p l → ListsBothEnds (chain_step steps others) (chain_step_back back others_back) p l
-  chain_lists p l h = listed_by_swapping (chain_step steps others) (chain_step_back back others_back) (ChainLists steps back others others_back) ListsBack to_seen_back from_seen_back (taken steps back others others_back) taken_back p l h
+  lists_both_ends_chain : (p : S × U × StillDrawn) (l : List (Result A E)) → ChainLists steps back others others_back p l → ListsBothEnds (chain_step steps others) (chain_step_back back others_back) p l
+  lists_both_ends_chain p l h = lists_both_ends_by_swapping (chain_step steps others) (chain_step_back back others_back) (ChainLists steps back others others_back) ListsBack lists_back_of_chain_lists chain_lists_of_lists_back (takes_first_of_chain steps back others others_back) takes_first_back p l h
 
-chained_is : {A E : Type 0} (a b : List (Result A E)) → a ++ b ≡ chained a b
+append_is_chained : {A E : Type 0} (a b : List (Result A E)) → a ++ b ≡ chained a b
 unfolding chained
-chained_is [] b = refl
-chained_is (y ∷ a) b = ap {B = List (Result _ _)} (λ k. y ∷ k) (chained_is a b)
+append_is_chained [] b = refl
+append_is_chained (y ∷ a) b = ap {B = List (Result _ _)} (λ k. y ∷ k) (append_is_chained a b)
 
 module _ {S U A E : Type 0} {steps back : S → Answered A E → S → Type 0} {others others_back : U → Answered A E → U → Type 0} {s : S} {u : U} where
   -- where both sides are still drawn, the first's list and then the second's
-  pub listed_chained : {a b : List (Result A E)} → ListsBothEnds steps back s a → ListsBothEnds others others_back u b → ListsBothEnds (chain_step steps others) (chain_step_back back others_back) (s, u, Both) (chained a b)
-  listed_chained {a = a} {b = b} i j = chain_lists steps back others others_back (s, u, Both) (chained a b) (a, b, sym (chained_is a b), i, j)
+  pub lists_both_ends_chained : {a b : List (Result A E)} → ListsBothEnds steps back s a → ListsBothEnds others others_back u b → ListsBothEnds (chain_step steps others) (chain_step_back back others_back) (s, u, Both) (chained a b)
+  lists_both_ends_chained {a = a} {b = b} i j = lists_both_ends_chain steps back others others_back (s, u, Both) (chained a b) (a, b, sym (append_is_chained a b), i, j)
 
 module _ {S U A E : Type 0} {steps back : S → Answered A E → S → Type 0} {s : S} (others others_back : U → Answered A E → U → Type 0) (u : U) where
   -- where the first alone is still drawn, its list
-  pub listed_first_alone : {l : List (Result A E)} → ListsBothEnds steps back s l → ListsBothEnds (chain_step steps others) (chain_step_back back others_back) (s, u, FirstAlone) l
-  listed_first_alone {l = l} i = chain_lists steps back others others_back (s, u, FirstAlone) l i
+  pub lists_both_ends_first_alone : {l : List (Result A E)} → ListsBothEnds steps back s l → ListsBothEnds (chain_step steps others) (chain_step_back back others_back) (s, u, FirstAlone) l
+  lists_both_ends_first_alone {l = l} i = lists_both_ends_chain steps back others others_back (s, u, FirstAlone) l i
 
 module _ {S U A E : Type 0} {others others_back : U → Answered A E → U → Type 0} {u : U} (steps back : S → Answered A E → S → Type 0) (s : S) where
   -- where the second alone is still drawn, its list
-  pub listed_second_alone : {l : List (Result A E)} → ListsBothEnds others others_back u l → ListsBothEnds (chain_step steps others) (chain_step_back back others_back) (s, u, SecondAlone) l
-  listed_second_alone {l = l} i = chain_lists steps back others others_back (s, u, SecondAlone) l i
+  pub lists_both_ends_second_alone : {l : List (Result A E)} → ListsBothEnds others others_back u l → ListsBothEnds (chain_step steps others) (chain_step_back back others_back) (s, u, SecondAlone) l
+  lists_both_ends_second_alone {l = l} i = lists_both_ends_chain steps back others others_back (s, u, SecondAlone) l i

@@ -8,28 +8,28 @@ use Rattle.fallible_contract.specs.Traces.{Answered}
 use Rattle.fallible_contract.specs.Passing.{passing_step}
 use Rattle.fallible_contract.specs.Lists.{Lists}
 use Rattle.fallible_contract.specs.BothEnds.{ListsBothEnds, items_listed, source_list, passed_list}
-use Rattle.fallible_contract.proofs.Lemmas.BothEnds.Passing.{GivesAt, with_answer, source_beside, listed_passed}
-use Rattle.fallible_contract.proofs.Lemmas.Lists.Passing.{passed, all_given, lists_seen}
+use Rattle.fallible_contract.proofs.Lemmas.BothEnds.Passing.{GivesAt, with_answer, source_list_with_answer, lists_both_ends_passed}
+use Rattle.fallible_contract.proofs.Lemmas.Lists.Passing.{passed, gives_all, lists_seen}
 use Rattle.fallible_core.specs.OneToOne.Map.{map_outcome, mapped}
 use Rattle.fallible_core.specs.OneToOne.Cloned.{cloned_call, cloned_parts, cloned_contract, pointed_to}
-use Rattle.fallible_core.proofs.Lemmas.OneToOne.Map.{never_ends}
+use Rattle.fallible_core.proofs.Lemmas.OneToOne.Map.{map_never_ends}
 use Rattle.std.specs.declared.alloc.AllocError.{AllocError}
 use Rattle.fallible_core.specs.declared.one_to_one.cloned.Cloned.{Cloned}
 
-pointed_to_is : {T E : Type 0} (l : List (Result (Bor T) E)) → passed map_outcome (λ (p : Unit {0}) (x : Bor T). Ok x.now) (λ p x. p) tt l ≡ pointed_to l
+passed_is_pointed_to : {T E : Type 0} (l : List (Result (Bor T) E)) → passed map_outcome (λ (p : Unit {0}) (x : Bor T). Ok x.now) (λ p x. p) tt l ≡ pointed_to l
 unfolding pointed_to
-pointed_to_is [] = refl
-pointed_to_is (Ok x ∷ l) = ap (λ k. Ok x.now ∷ k) (pointed_to_is l)
-pointed_to_is (Err e ∷ l) = ap (λ k. Err e ∷ k) (pointed_to_is l)
+passed_is_pointed_to [] = refl
+passed_is_pointed_to (Ok x ∷ l) = ap (λ k. Ok x.now ∷ k) (passed_is_pointed_to l)
+passed_is_pointed_to (Err e ∷ l) = ap (λ k. Err e ∷ k) (passed_is_pointed_to l)
 
 module _ {T E : Type 0} (is_clone : T → T → Type 0) (is_infallible : T → Type 0) (from : AllocError → E → Type 0) (equal : (x y : T) → is_clone x y → y ≡ x) (infallible : (x : T) → is_infallible x) where
-  clone_is : (x : Bor T) (v : Result T E) → cloned_call is_clone is_infallible from tt x v tt → v ≡ Ok x.now
-  clone_is x (Ok y) c = ap (λ (z : T). Ok z) (equal x.now y c)
-  clone_is x (Err e) c = absurd (c.0 (infallible x.now))
+  clone_is_value : (x : Bor T) (v : Result T E) → cloned_call is_clone is_infallible from tt x v tt → v ≡ Ok x.now
+  clone_is_value x (Ok y) c = ap (λ (z : T). Ok z) (equal x.now y c)
+  clone_is_value x (Err e) c = absurd (c.0 (infallible x.now))
 
   pub lists_pointed_to : {S : Type 0} (m : Contract S (Bor T) E) (s : Cloned S) (l : List (Result (Bor T) E)) → Lists m.steps s.it l → Lists (seen_as cloned_parts (cloned_contract is_clone is_infallible from m)).steps s (pointed_to l)
-  lists_pointed_to m s l i = lists_seen cloned_parts (cloned_contract is_clone is_infallible from m).steps s refl (pointed_to_is l)
-      (all_given m.steps (cloned_call is_clone is_infallible from) map_outcome (λ (f p : Unit {0}). Unit {0}) (λ p x. Ok x.now) (λ p x. p) (λ f p x v g at c. (tt, clone_is x v c)) l s.it tt tt tt i.runs)
+  lists_pointed_to m s l i = lists_seen cloned_parts (cloned_contract is_clone is_infallible from m).steps s refl (passed_is_pointed_to l)
+      (gives_all m.steps (cloned_call is_clone is_infallible from) map_outcome (λ (f p : Unit {0}). Unit {0}) (λ p x. Ok x.now) (λ p x. p) (λ f p x v g at c. (tt, clone_is_value x v c)) l s.it tt tt tt i.runs)
 
 -- ---- from both ends
 
@@ -38,39 +38,39 @@ abbrev pub with_clone : {T E : Type 0} → Result (Bor T × T) E → Result (Bor
 with_clone (Ok c) = Ok (c.0, Ok c.1)
 with_clone (Err e) = Err e
 
-source_with_clones : {T E : Type 0} (asked : List (Result (Bor T × T) E)) → source_list (map with_clone asked) ≡ source_list asked
-source_with_clones [] = refl
-source_with_clones (Ok c ∷ asked) = ap {B = List (Result (Bor _) _)} (λ k. Ok c.0 ∷ k) (source_with_clones asked)
-source_with_clones (Err e ∷ asked) = ap {B = List (Result (Bor _) _)} (λ k. Err e ∷ k) (source_with_clones asked)
+source_list_with_clone : {T E : Type 0} (asked : List (Result (Bor T × T) E)) → source_list (map with_clone asked) ≡ source_list asked
+source_list_with_clone [] = refl
+source_list_with_clone (Ok c ∷ asked) = ap {B = List (Result (Bor _) _)} (λ k. Ok c.0 ∷ k) (source_list_with_clone asked)
+source_list_with_clone (Err e ∷ asked) = ap {B = List (Result (Bor _) _)} (λ k. Err e ∷ k) (source_list_with_clone asked)
 
-pub clones_passed : {T E : Type 0} (asked : List (Result (Bor T × T) E)) → passed_list map_outcome (map with_clone asked) ≡ mapped (λ c. Ok c.1) asked
+pub passed_list_with_clone : {T E : Type 0} (asked : List (Result (Bor T × T) E)) → passed_list map_outcome (map with_clone asked) ≡ mapped (λ c. Ok c.1) asked
 unfolding mapped
-clones_passed [] = refl
-clones_passed (Ok c ∷ asked) = ap {B = List (Result _ _)} (λ k. Ok c.1 ∷ k) (clones_passed asked)
-clones_passed (Err e ∷ asked) = ap {B = List (Result _ _)} (λ k. Err e ∷ k) (clones_passed asked)
+passed_list_with_clone [] = refl
+passed_list_with_clone (Ok c ∷ asked) = ap {B = List (Result _ _)} (λ k. Ok c.1 ∷ k) (passed_list_with_clone asked)
+passed_list_with_clone (Err e ∷ asked) = ap {B = List (Result _ _)} (λ k. Err e ∷ k) (passed_list_with_clone asked)
 
 module _ {T E : Type 0} (is_clone : T → T → Type 0) (is_infallible : T → Type 0) (from : AllocError → E → Type 0) where
   -- the one clone of the item, which never fails
   abbrev OneClone : Bor T × T → Type 0
   OneClone c = is_infallible c.0.now × ((y : T) → is_clone c.0.now y → y ≡ c.1)
 
-  given_clone : (c : Bor T × T) (p q : Unit {0}) → OneClone c → GivesAt (cloned_call is_clone is_infallible from) p q (c.0, Ok c.1)
-  given_clone c p q one = λ r called. one_answer r called
+  gives_at_clone : (c : Bor T × T) (p q : Unit {0}) → OneClone c → GivesAt (cloned_call is_clone is_infallible from) p q (c.0, Ok c.1)
+  gives_at_clone c p q one = λ r called. answer_of_one_clone r called
     where
-      one_answer : (r : Result T E) → cloned_call is_clone is_infallible from p c.0 r q → r ≡ Ok c.1
-      one_answer (Ok y) called = ap (λ (z : T). Ok z) (one.1 y called)
-      one_answer (Err e) called = absurd (called.0 one.0)
+      answer_of_one_clone : (r : Result T E) → cloned_call is_clone is_infallible from p c.0 r q → r ≡ Ok c.1
+      answer_of_one_clone (Ok y) called = ap (λ (z : T). Ok z) (one.1 y called)
+      answer_of_one_clone (Err e) called = absurd (called.0 one.0)
 
-  given_clones : (asked : List (Result (Bor T × T) E)) (p q : Unit {0}) → All OneClone (items_listed asked) → All (GivesAt (cloned_call is_clone is_infallible from) p q) (items_listed (map with_clone asked))
-  given_clones [] p q all = All-nil (GivesAt (cloned_call is_clone is_infallible from) p q)
-  given_clones (Ok c ∷ asked) p q all = All-cons (GivesAt (cloned_call is_clone is_infallible from) p q) (c.0, Ok c.1) (items_listed (map with_clone asked)) (given_clone c p q (All-head OneClone c (items_listed asked) all)) (given_clones asked p q (All-tail OneClone c (items_listed asked) all))
-  given_clones (Err e ∷ asked) p q all = given_clones asked p q all
+  all_clones_given : (asked : List (Result (Bor T × T) E)) (p q : Unit {0}) → All OneClone (items_listed asked) → All (GivesAt (cloned_call is_clone is_infallible from) p q) (items_listed (map with_clone asked))
+  all_clones_given [] p q all = All-nil (GivesAt (cloned_call is_clone is_infallible from) p q)
+  all_clones_given (Ok c ∷ asked) p q all = All-cons (GivesAt (cloned_call is_clone is_infallible from) p q) (c.0, Ok c.1) (items_listed (map with_clone asked)) (gives_at_clone c p q (All-head OneClone c (items_listed asked) all)) (all_clones_given asked p q (All-tail OneClone c (items_listed asked) all))
+  all_clones_given (Err e ∷ asked) p q all = all_clones_given asked p q all
 
   -- it lists the clones
-  pub listed_clones : {S : Type 0} (front back : S → Answered (Bor T) E → S → Type 0) (asked : List (Result (Bor T × T) E)) (s : S) → All OneClone (items_listed asked) → ListsBothEnds front back s (source_list asked)
+  pub lists_both_ends_clones : {S : Type 0} (front back : S → Answered (Bor T) E → S → Type 0) (asked : List (Result (Bor T × T) E)) (s : S) → All OneClone (items_listed asked) → ListsBothEnds front back s (source_list asked)
       → ListsBothEnds (passing_step front (cloned_call is_clone is_infallible from) map_outcome) (passing_step back (cloned_call is_clone is_infallible from) map_outcome) (s, tt) (passed_list map_outcome (map with_clone asked))
-  listed_clones front back asked s all i = listed_passed front back (cloned_call is_clone is_infallible from) map_outcome never_ends (map with_clone asked) s tt
-      (λ made p q w. given_clones asked p q all) (subst (λ (l : List (Result (Bor T) E)). ListsBothEnds front back s l) (sym (source_with_clones asked)) i)
+  lists_both_ends_clones front back asked s all i = lists_both_ends_passed front back (cloned_call is_clone is_infallible from) map_outcome map_never_ends (map with_clone asked) s tt
+      (λ made p q w. all_clones_given asked p q all) (subst (λ (l : List (Result (Bor T) E)). ListsBothEnds front back s l) (sym (source_list_with_clone asked)) i)
 
 -- ---- where a clone equals its original
 
@@ -78,18 +78,18 @@ module _ {T E : Type 0} (is_clone : T → T → Type 0) (is_infallible : T → T
 abbrev pub with_original : {T E : Type 0} → List (Result (Bor T) E) → List (Result (Bor T × T) E)
 with_original l = map (with_answer (λ x. x.now)) l
 
-pub originals_passed : {T E : Type 0} (l : List (Result (Bor T) E)) → passed_list map_outcome (map with_clone (with_original l)) ≡ pointed_to l
+pub passed_list_with_original : {T E : Type 0} (l : List (Result (Bor T) E)) → passed_list map_outcome (map with_clone (with_original l)) ≡ pointed_to l
 unfolding pointed_to
-originals_passed [] = refl
-originals_passed (Ok x ∷ l) = ap {B = List (Result _ _)} (λ k. Ok x.now ∷ k) (originals_passed l)
-originals_passed (Err e ∷ l) = ap {B = List (Result _ _)} (λ k. Err e ∷ k) (originals_passed l)
+passed_list_with_original [] = refl
+passed_list_with_original (Ok x ∷ l) = ap {B = List (Result _ _)} (λ k. Ok x.now ∷ k) (passed_list_with_original l)
+passed_list_with_original (Err e ∷ l) = ap {B = List (Result _ _)} (λ k. Err e ∷ k) (passed_list_with_original l)
 
 module _ {T E : Type 0} (is_clone : T → T → Type 0) (is_infallible : T → Type 0) (from : AllocError → E → Type 0) (equal : (x y : T) → is_clone x y → y ≡ x) (infallible : (x : T) → is_infallible x) where
-  one_original : (l : List (Result (Bor T) E)) → All (OneClone {E = E} is_clone is_infallible from) (items_listed (with_original l))
-  one_original [] = All-nil (OneClone {E = E} is_clone is_infallible from)
-  one_original (Ok x ∷ l) = All-cons (OneClone {E = E} is_clone is_infallible from) (x, x.now) (items_listed (with_original l)) (infallible x.now, λ y called. equal x.now y called) (one_original l)
-  one_original (Err e ∷ l) = one_original l
+  all_of_one_clone : (l : List (Result (Bor T) E)) → All (OneClone {E = E} is_clone is_infallible from) (items_listed (with_original l))
+  all_of_one_clone [] = All-nil (OneClone {E = E} is_clone is_infallible from)
+  all_of_one_clone (Ok x ∷ l) = All-cons (OneClone {E = E} is_clone is_infallible from) (x, x.now) (items_listed (with_original l)) (infallible x.now, λ y called. equal x.now y called) (all_of_one_clone l)
+  all_of_one_clone (Err e ∷ l) = all_of_one_clone l
 
-  pub listed_originals : {S : Type 0} (front back : S → Answered (Bor T) E → S → Type 0) (l : List (Result (Bor T) E)) (s : S) → ListsBothEnds front back s l
+  pub lists_both_ends_originals : {S : Type 0} (front back : S → Answered (Bor T) E → S → Type 0) (l : List (Result (Bor T) E)) (s : S) → ListsBothEnds front back s l
       → ListsBothEnds (passing_step front (cloned_call is_clone is_infallible from) map_outcome) (passing_step back (cloned_call is_clone is_infallible from) map_outcome) (s, tt) (passed_list map_outcome (map with_clone (with_original l)))
-  listed_originals front back l s i = listed_clones is_clone is_infallible from front back (with_original l) s (one_original l) (subst (λ (k : List (Result (Bor T) E)). ListsBothEnds front back s k) (sym (source_beside (λ x. x.now) l)) i)
+  lists_both_ends_originals front back l s i = lists_both_ends_clones is_clone is_infallible from front back (with_original l) s (all_of_one_clone l) (subst (λ (k : List (Result (Bor T) E)). ListsBothEnds front back s k) (sym (source_list_with_answer (λ x. x.now) l)) i)

@@ -5,30 +5,30 @@ use Rattle.std.proofs.Common.{refl, sym, ap, subst, ◌∙◌, arith, inl}
 use Rattle.fallible_contract.specs.Traces.{Answered, Run, item}
 use Rattle.fallible_contract.specs.Passing.{IfItem, passing_step}
 use Rattle.fallible_contract.specs.Contract.{Contract, Lawful}
-use Rattle.fallible_contract.specs.Folds.{HoldsAtEachTurn, goes_on, OverExit, CountedOn}
+use Rattle.fallible_contract.specs.Folds.{HoldsAtEachTurn, goes_on, OverExit, CountDrainsOn}
 use Rattle.fallible_contract.specs.Folding.{FoldingTurn, FoldingTakes}
-use Rattle.fallible_contract.specs.Laws.Passing.{Passes, done, end_passes, failure_passes, keeps, refuses, closes, leaves_out, to_passes}
-use Rattle.fallible_contract.proofs.Lemmas.Folds.{count_fits}
-use Rattle.fallible_contract.proofs.Lemmas.Folding.{takes_where}
+use Rattle.fallible_contract.specs.Laws.Passing.{Passes, done, end_passes, failure_passes, keeps, refuses, closes, leaves_out, passes_of_pass_trace}
+use Rattle.fallible_contract.proofs.Lemmas.Folds.{holds_each_turn_below}
+use Rattle.fallible_contract.proofs.Lemmas.Folding.{takes_where_reached}
 use Rattle.fallible_core.specs.OneToOne.Enumerate.{IsNumberable, number_call, number_outcome, number_takes}
-use Rattle.fallible_core.proofs.Lemmas.OneToOne.Enumerate.{enumerate_item, enumerate_end, enumerate_failure, numbered_step}
+use Rattle.fallible_core.proofs.Lemmas.OneToOne.Enumerate.{enumerate_trace_item, enumerate_trace_end, enumerate_trace_failure, numbered_step}
 use Rattle.std.specs.declared.ops.ControlFlow.{ControlFlow}
 
 -- ---- steps
 
 module _ {S A E : Type 0} (steps : S → Answered A E → S → Type 0) where
-  passed : (s t : S) (n k : ℕ) (r : Answered (ℕ × A) E) → Passes steps number_call number_outcome s n (r ∷ []) t k → numbered_step steps (s, n) r (t, k)
-  passed s t n k _ (end_passes step done) = enumerate_end step
-  passed s t n k _ (failure_passes e step done) = enumerate_failure step
-  passed s t n k _ (keeps x v y step called is done) = let numbered : ◌≡◌ {A = ℕ × A} (v, x) y = cc in
-      subst (λ (z : ℕ × A). numbered_step steps (s, n) (item z) (t, k)) (ap (λ (i : ℕ). (i, x)) (sym called.0) ∙ numbered) (subst (λ (j : ℕ). numbered_step steps (s, n) (item (n, x)) (t, j)) (sym called.1) (enumerate_item x step))
-  passed s t n k _ (refuses x v e step called is rest) = absurd cc
-  passed s t n k _ (closes x v step called is rest) = absurd cc
-  passed s t n k r (leaves_out x v step called is rest) = absurd cc
+  numbered_step_of_pass : (s t : S) (n k : ℕ) (r : Answered (ℕ × A) E) → Passes steps number_call number_outcome s n (r ∷ []) t k → numbered_step steps (s, n) r (t, k)
+  numbered_step_of_pass s t n k _ (end_passes step done) = enumerate_trace_end step
+  numbered_step_of_pass s t n k _ (failure_passes e step done) = enumerate_trace_failure step
+  numbered_step_of_pass s t n k _ (keeps x v y step called is done) = let numbered : ◌≡◌ {A = ℕ × A} (v, x) y = cc in
+      subst (λ (z : ℕ × A). numbered_step steps (s, n) (item z) (t, k)) (ap (λ (i : ℕ). (i, x)) (sym called.0) ∙ numbered) (subst (λ (j : ℕ). numbered_step steps (s, n) (item (n, x)) (t, j)) (sym called.1) (enumerate_trace_item x step))
+  numbered_step_of_pass s t n k _ (refuses x v e step called is rest) = absurd cc
+  numbered_step_of_pass s t n k _ (closes x v step called is rest) = absurd cc
+  numbered_step_of_pass s t n k r (leaves_out x v step called is rest) = absurd cc
 
 -- an item kept beside its number is one of `Enumerate`
-pub to_numbers : {S A E : Type 0} {steps : S → Answered A E → S → Type 0} (p : S × ℕ) (r : Answered (ℕ × A) E) (q : S × ℕ) → passing_step steps number_call number_outcome p r q → numbered_step steps p r q
-to_numbers {steps = steps} p r q step = passed steps p.0 q.0 p.1 q.1 r (to_passes step)
+pub numbered_step_of_passing : {S A E : Type 0} {steps : S → Answered A E → S → Type 0} (p : S × ℕ) (r : Answered (ℕ × A) E) (q : S × ℕ) → passing_step steps number_call number_outcome p r q → numbered_step steps p r q
+numbered_step_of_passing {steps = steps} p r q step = numbered_step_of_pass steps p.0 q.0 p.1 q.1 r (passes_of_pass_trace step)
 
 -- an item that comes may be counted
 pub drawn_numbered : {S A E : Type 0} {m : Contract S A E} {s t : S} {n : ℕ} → Lawful m → IsNumberable m s n → (drawn : Answered A E) → m.steps s drawn t → IfItem (λ x. number_takes n x) drawn
@@ -46,10 +46,10 @@ module _ {S A E C R : Type 0} {m : Contract S A E} (l : Lawful m) (turns : C →
       let rest = counts_along items w.0 q (j + 1) w.2 in (rest.0, (j + 1, refl, rest.1), omega (arith, up, rest.2))
 
   -- The numbers of all items to come fit, so each item may be counted, and the caller's turn be taken on it and its number.
-  pub takes_numbered : {P : C → ℕ × A → Type 0} {s : S} {n : ℕ} {c : C} → IsNumberable m s n → HoldsAtEachTurn (passing_step m.steps number_call number_outcome) (goes_on turns) P (s, n) c
+  pub holds_each_turn_numbered : {P : C → ℕ × A → Type 0} {s : S} {n : ℕ} {c : C} → IsNumberable m s n → HoldsAtEachTurn (passing_step m.steps number_call number_outcome) (goes_on turns) P (s, n) c
       → HoldsAtEachTurn m.steps (goes_on (FoldingTurn {E = E} number_call number_outcome turns)) (FoldingTakes {E = E} number_call number_outcome number_takes P) s (c, n)
-  takes_numbered {P = P} {s = s} {n = n} {c = c} can holds = takes_where number_call number_outcome turns (λ k x. number_takes k x)
-      (λ items t u p x ran went step. let k = counts_along items (c, n) p 0 went in let below = (count_fits {m = m} can.bound l can.can_next (inl can.bounds)).at items t u k.0 x ran k.1 step in let fits = can.fits in omega (arith, below, k.2, fits)) holds
+  holds_each_turn_numbered {P = P} {s = s} {n = n} {c = c} can holds = takes_where_reached number_call number_outcome turns (λ k x. number_takes k x)
+      (λ items t u p x ran went step. let k = counts_along items (c, n) p 0 went in let below = (holds_each_turn_below {m = m} can.bound l can.can_next (inl can.bounds)).at items t u k.0 x ran k.1 step in let fits = can.fits in omega (arith, below, k.2, fits)) holds
 
 -- ---- `count`
 
@@ -58,9 +58,9 @@ abbrev pub beside_numbers : {A : Type 0} → ℕ → List A → List (ℕ × A)
 beside_numbers n [] = []
 beside_numbers n (x ∷ items) = (n, x) ∷ beside_numbers (n + 1) items
 
-as_many : {A : Type 0} (items : List A) (n : ℕ) → length (beside_numbers n items) ≡ length items
-as_many [] n = refl
-as_many (x ∷ items) n = let rest = as_many items (n + 1) in omega (arith, rest)
+length_beside_numbers : {A : Type 0} (items : List A) (n : ℕ) → length (beside_numbers n items) ≡ length items
+length_beside_numbers [] n = refl
+length_beside_numbers (x ∷ items) n = let rest = length_beside_numbers items (n + 1) in omega (arith, rest)
 
 module _ {S A E : Type 0} (steps : S → Answered A E → S → Type 0) where
   -- items and a last answer of the source are the items beside their numbers, and what the last answer is of `Enumerate`
@@ -68,20 +68,20 @@ module _ {S A E : Type 0} (steps : S → Answered A E → S → Type 0) where
   run_numbered [] last answer s t n then ran = let same : n ≡ n + 0 = omega arith in
       ((ran.0, n), then s ran.0 n ran.1, subst (λ (k : ℕ). ◌≡◌ {A = S × ℕ} (ran.0, n) (t, k)) same (ap (λ (u : S). (u, n)) ran.2))
   run_numbered (x ∷ items) last answer s t n then ran = let same : n + 1 + length items ≡ n + suc (length items) = omega arith in
-      ((ran.0, n + 1), enumerate_item x ran.1, subst (λ (k : ℕ). Run (numbered_step steps) (ran.0, n + 1) (map item (beside_numbers (n + 1) items) ++ answer ∷ []) (t, k)) same (run_numbered items last answer ran.0 t (n + 1) then ran.2))
+      ((ran.0, n + 1), enumerate_trace_item x ran.1, subst (λ (k : ℕ). Run (numbered_step steps) (ran.0, n + 1) (map item (beside_numbers (n + 1) items) ++ answer ∷ []) (t, k)) same (run_numbered items last answer ran.0 t (n + 1) then ran.2))
 
   -- an end or a failure is the same of it
   over_numbered : (last : Answered A E) (r : Result (Unit {0}) E) → OverExit last r → (answer : Answered (ℕ × A) E) × OverExit answer r × ((u v : S) (k : ℕ) → steps u last v → numbered_step steps (u, k) answer (v, k))
-  over_numbered (Ok None) r exit = (Ok None, exit, (λ u v k step. enumerate_end step))
-  over_numbered (Err e) r exit = (Err e, exit, (λ u v k step. enumerate_failure step))
+  over_numbered (Ok None) r exit = (Ok None, exit, (λ u v k step. enumerate_trace_end step))
+  over_numbered (Err e) r exit = (Err e, exit, (λ u v k step. enumerate_trace_failure step))
   over_numbered (Ok (Some x)) r exit = absurd exit
 
 -- the source's count is one of `Enumerate`, whose own number goes up by as much
-pub counted_numbered : {S A E : Type 0} {steps : S → Answered A E → S → Type 0} {s t : S} {n i k : ℕ} {r : Result (Unit {0}) E} → CountedOn steps s i r t k → CountedOn (numbered_step steps) (s, n) i r (t, n + (k - i)) k
-counted_numbered {steps = steps} {s = s} {t = t} {n = n} {i = i} {k = k} {r = r} w = let last = over_numbered steps w.last r w.at.exit in let up = w.at.number in
+pub count_drains_on_numbered : {S A E : Type 0} {steps : S → Answered A E → S → Type 0} {s t : S} {n i k : ℕ} {r : Result (Unit {0}) E} → CountDrainsOn steps s i r t k → CountDrainsOn (numbered_step steps) (s, n) i r (t, n + (k - i)) k
+count_drains_on_numbered {steps = steps} {s = s} {t = t} {n = n} {i = i} {k = k} {r = r} w = let last = over_numbered steps w.last r w.at.exit in let up = w.at.number in
     let same : n + length w.items ≡ n + (k - i) = omega (arith, up) in record {
       items = beside_numbers n w.items;
       last = last.0;
       ran = subst (λ (j : ℕ). Run (numbered_step steps) (s, n) (map item (beside_numbers n w.items) ++ last.0 ∷ []) (t, j)) same (run_numbered steps w.items w.last last.0 s t n last.2 w.ran);
-      at = record { number = (let many = as_many w.items n in omega (arith, up, many)); exit = last.1 };
+      at = record { number = (let many = length_beside_numbers w.items n in omega (arith, up, many)); exit = last.1 };
     }

@@ -9,23 +9,23 @@ use Rattle.fallible_contract.specs.Lists.{AlwaysGives, Lists}
 use Rattle.fallible_contract.proofs.Lemmas.Lists.Passing.{lists_seen}
 use Rattle.fallible_contract.specs.Laws.Contract.{stays_after, stays_here}
 use Rattle.fallible_core.specs.Peeking.Peekable.{peekable_parts, held_answers, held_then, PeekableTrace, peekable_step, peekable_contract, seen, failure_told, held_of, held_item, Fills, Peeks, Looks, TakenIf, NextIf}
-use Rattle.fallible_core.specs.Laws.Peeking.Peekable.{drawn_goes}
+use Rattle.fallible_core.specs.Laws.Peeking.Peekable.{kept_by_draw_drawn}
 use Rattle.fallible_core.specs.declared.peeking.peekable.Peekable.{Peekable}
 
 -- ---- looking ahead
 
 module _ {S A E : Type 0} {m : Contract S A E} (l : Lawful m) where
-  abbrev Q : Contract (S × Option (Option A)) A E
-  Q = peekable_contract m
+  abbrev ContractHere : Contract (S × Option (Option A)) A E
+  ContractHere = peekable_contract m
 
   -- an item or an end that was drawn and is held comes next, as it came
-  sure_held : (s t : S) (o : Option A) → m.steps s (Ok o) t → NeverFails Q (s, None) → NeverFails Q (t, Some o)
-  sure_held s t o step never [] u v e ran fails = let d : Err e ≡ Ok o = (subst (λ (p : S × Option (Option A)). Q.steps p (Err e) v) (sym ran) fails).0 in absurd cc
-  sure_held s t o step never (r ∷ trace) u v e ((t', held'), held, ran) fails = never (r ∷ trace) u v e ((t', held'), (rw (held.0, held.1) step, held.2), ran) fails
+  never_fails_held : (s t : S) (o : Option A) → m.steps s (Ok o) t → NeverFails ContractHere (s, None) → NeverFails ContractHere (t, Some o)
+  never_fails_held s t o step never [] u v e ran fails = let d : Err e ≡ Ok o = (subst (λ (p : S × Option (Option A)). ContractHere.steps p (Err e) v) (sym ran) fails).0 in absurd cc
+  never_fails_held s t o step never (r ∷ trace) u v e ((t', held'), held, ran) fails = never (r ∷ trace) u v e ((t', held'), (rw (held.0, held.1) step, held.2), ran) fails
 
   -- an item that was drawn is held
-  item_stays : (s t : S) (x : A) → m.steps s (item x) t → KeptByDraw m s (item x) t → Stays Q (s, None) (t, Some (Some x))
-  item_stays s t x step a = record {
+  stays_item : (s t : S) (x : A) → m.steps s (item x) t → KeptByDraw m s (item x) t → Stays ContractHere (s, None) (t, Some (Some x))
+  stays_item s t x step a = record {
     can_next = a.can_next;
     is_finite = a.is_finite;
     bound = λ n b. let k = a.answer.1 b.0 b.1 in (n, (k.0, k.1, omega (arith, k.2, b.2)), omega arith);
@@ -33,12 +33,12 @@ module _ {S A E : Type 0} {m : Contract S A E} (l : Lawful m) where
     may_give = λ y h. elim h [ inl e ↦ (let same : x ≡ y = cc in inr (subst (λ (z : A). m.may_give s z) same a.answer.0)) | inr g ↦ inr (a.may_give y g) ];
     may_fail = a.may_fail;
     lenders = a.lenders;
-    sure = sure_held s t (Some x) step;
+    sure = never_fails_held s t (Some x) step;
   }
 
   -- an end that was drawn is held
-  end_stays : (s t : S) → m.steps s end t → KeptByDraw m s end t → Stays Q (s, None) (t, Some None)
-  end_stays s t step a = record {
+  stays_end : (s t : S) → m.steps s end t → KeptByDraw m s end t → Stays ContractHere (s, None) (t, Some None)
+  stays_end s t step a = record {
     can_next = a.can_next;
     is_finite = a.is_finite;
     bound = λ n b. let k = a.answer.0 b.0 b.1 in (n, (k.0, k.1, omega (arith, k.2, b.2)), omega arith);
@@ -46,19 +46,19 @@ module _ {S A E : Type 0} {m : Contract S A E} (l : Lawful m) where
     may_give = λ y h. elim h [ inl e ↦ absurd cc | inr g ↦ inr (a.may_give y g) ];
     may_fail = a.may_fail;
     lenders = a.lenders;
-    sure = sure_held s t None step;
+    sure = never_fails_held s t None step;
   }
 
-  peeked_stays : (s t : S) (r : Answered A E) (held : Option (Option A)) → m.can_next s → Peeks m.steps (s, None) r (t, held) → Stays Q (s, None) (t, held)
-  peeked_stays s t (Ok (Some x)) held c peeks = rw peeks.1 (item_stays s t x peeks.0 (l.kept_by_draw s (item x) t c peeks.0))
-  peeked_stays s t (Ok None) held c peeks = rw peeks.1 (end_stays s t peeks.0 (l.kept_by_draw s end t c peeks.0))
-  peeked_stays s t (Err e) held c peeks = let a = l.kept_by_draw s (Err e) t c peeks.0 in rw peeks.1 (stays_after (peeks.0, refl) (drawn_goes m s t (Err e) a) (stays_here a.can_next))
+  stays_peeked : (s t : S) (r : Answered A E) (held : Option (Option A)) → m.can_next s → Peeks m.steps (s, None) r (t, held) → Stays ContractHere (s, None) (t, held)
+  stays_peeked s t (Ok (Some x)) held c peeks = rw peeks.1 (stays_item s t x peeks.0 (l.kept_by_draw s (item x) t c peeks.0))
+  stays_peeked s t (Ok None) held c peeks = rw peeks.1 (stays_end s t peeks.0 (l.kept_by_draw s end t c peeks.0))
+  stays_peeked s t (Err e) held c peeks = let a = l.kept_by_draw s (Err e) t c peeks.0 in rw peeks.1 (stays_after (peeks.0, refl) (kept_by_draw_drawn m s t (Err e) a) (stays_here a.can_next))
 
-  pub stays_peek : (p : S × Option (Option A)) (r : Answered A E) (q : S × Option (Option A)) → m.can_next p.0 → Peeks m.steps p r q → Stays Q p q
+  pub stays_peek : (p : S × Option (Option A)) (r : Answered A E) (q : S × Option (Option A)) → m.can_next p.0 → Peeks m.steps p r q → Stays ContractHere p q
   stays_peek (s, Some o) r (t, held) c peeks = rw (peeks.1, peeks.2) (stays_here c)
-  stays_peek (s, None) r (t, held) c peeks = peeked_stays s t r held c peeks
+  stays_peek (s, None) r (t, held) c peeks = stays_peeked s t r held c peeks
 
-  pub stays_filled : (p : S × Option (Option A)) (r : Result (Unit {0}) E) (q : S × Option (Option A)) → m.can_next p.0 → Fills m.steps p r q → Stays Q p q
+  pub stays_filled : (p : S × Option (Option A)) (r : Result (Unit {0}) E) (q : S × Option (Option A)) → m.can_next p.0 → Fills m.steps p r q → Stays ContractHere p q
   stays_filled p r q c fills = stays_peek p fills.0 q c fills.1
 
 module _ {S A E : Type 0} (steps : S → Answered A E → S → Type 0) where
@@ -67,23 +67,23 @@ module _ {S A E : Type 0} (steps : S → Answered A E → S → Type 0) where
   peeks_again (s, Some y) (t, held) o step = let same : o ≡ y = cc in (step.0, step.1, ap (λ z. Some z) same)
   peeks_again (s, None) (t, held) o step = (step.0, refl)
 
-  none_held : (p q : S × Option (Option A)) (o : Option A) → peekable_step steps p (Ok o) q → q.1 ≡ None
-  none_held (s, Some y) (t, held) o step = step.2
-  none_held (s, None) (t, held) o step = step.1
+  none_held_after_draw : (p q : S × Option (Option A)) (o : Option A) → peekable_step steps p (Ok o) q → q.1 ≡ None
+  none_held_after_draw (s, Some y) (t, held) o step = step.2
+  none_held_after_draw (s, None) (t, held) o step = step.1
 
   module _ (test : A → Bool → Type 0) where
-    pub takes_item : (p q : S × Option (Option A)) (x : A) → peekable_step steps p (item x) q → test x true → NextIf steps test p (item x) q
-    takes_item p q x step true_of = record { peeked = item x; after = (q.0, Some (Some x)); peeks = peeks_again p q (Some x) step; taken = inl (true_of, refl, (refl, refl, none_held p q (Some x) step)) }
+    pub next_if_takes_item : (p q : S × Option (Option A)) (x : A) → peekable_step steps p (item x) q → test x true → NextIf steps test p (item x) q
+    next_if_takes_item p q x step true_of = record { peeked = item x; after = (q.0, Some (Some x)); peeks = peeks_again p q (Some x) step; taken = inl (true_of, refl, (refl, refl, none_held_after_draw p q (Some x) step)) }
 
-    pub keeps_item : (p q : S × Option (Option A)) (x : A) → peekable_step steps p (item x) q → test x false → NextIf steps test p end (q.0, Some (Some x))
-    keeps_item p q x step false_of = record { peeked = item x; after = (q.0, Some (Some x)); peeks = peeks_again p q (Some x) step; taken = inr (false_of, refl, refl) }
+    pub next_if_keeps_item : (p q : S × Option (Option A)) (x : A) → peekable_step steps p (item x) q → test x false → NextIf steps test p end (q.0, Some (Some x))
+    next_if_keeps_item p q x step false_of = record { peeked = item x; after = (q.0, Some (Some x)); peeks = peeks_again p q (Some x) step; taken = inr (false_of, refl, refl) }
 
-    pub keeps_end : (p q : S × Option (Option A)) → peekable_step steps p end q → NextIf steps test p end (q.0, Some None)
-    keeps_end p q step = record { peeked = end; after = (q.0, Some None); peeks = peeks_again p q None step; taken = (refl, refl) }
+    pub next_if_keeps_end : (p q : S × Option (Option A)) → peekable_step steps p end q → NextIf steps test p end (q.0, Some None)
+    next_if_keeps_end p q step = record { peeked = end; after = (q.0, Some None); peeks = peeks_again p q None step; taken = (refl, refl) }
 
-    pub takes_failure : (p q : S × Option (Option A)) (e : E) → peekable_step steps p (Err e) q → NextIf steps test p (Err e) q
-    takes_failure (s, Some o) q e step = absurd (let d = step.0 in cc)
-    takes_failure (s, None) (t, held) e step = record { peeked = Err e; after = (t, held); peeks = step; taken = (refl, refl) }
+    pub next_if_takes_failure : (p q : S × Option (Option A)) (e : E) → peekable_step steps p (Err e) q → NextIf steps test p (Err e) q
+    next_if_takes_failure (s, Some o) q e step = absurd (let d = step.0 in cc)
+    next_if_takes_failure (s, None) (t, held) e step = record { peeked = Err e; after = (t, held); peeks = step; taken = (refl, refl) }
 
 pub stays_kept : {S A E : Type 0} {m : Contract S A E} → Lawful m → (p q : S × Option (Option A)) (o : Option A) → m.can_next p.0 → peekable_step m.steps p (Ok o) q → Stays (peekable_contract m) p (q.0, Some o)
 stays_kept {m = m} l p q o c step = stays_peek l p (Ok o) (q.0, Some o) c (peeks_again m.steps p q o step)
@@ -91,22 +91,22 @@ stays_kept {m = m} l p q o c step = stays_peek l p (Ok o) (q.0, Some o) c (peeks
 -- ---- `peek`
 
 module _ {S A E : Type 0} (steps : S → Answered A E → S → Type 0) where
-  held_is : (p q : S × Option (Option A)) (a : Answered A E) → Peeks steps p a q → q.1 ≡ held_of a
-  held_is (s, Some o) (t, held) a peeks = rw (peeks.0, peeks.2) refl
-  held_is (s, None) (t, held) a peeks = peeks.1
+  held_of_answer : (p q : S × Option (Option A)) (a : Answered A E) → Peeks steps p a q → q.1 ≡ held_of a
+  held_of_answer (s, Some o) (t, held) a peeks = rw (peeks.0, peeks.2) refl
+  held_of_answer (s, None) (t, held) a peeks = peeks.1
 
   -- what is returned, where a failure was told and otherwise the held item is borrowed
-  answered_is : (a : Answered A E) (held : Option (Option A)) (shown : Option (Bor A)) (x : Result (Option (Bor A)) E) → held ≡ held_of a → option_copied shown ≡ held_item held → MatchResult (failure_told a) (λ _. x ≡ Ok shown) (λ e. x ≡ Err e) → seen x ≡ a
-  answered_is (Ok (Some y)) held (Some z) x is copied joined = let same : Some z.now ≡ Some y = rw is at copied in let at : z.now ≡ y = cc in rw joined (ap (λ w. item w) at)
-  answered_is (Ok (Some y)) held None x is copied joined = let none : None ≡ Some y = rw is at copied in absurd cc
-  answered_is (Ok None) held (Some z) x is copied joined = let some : Some z.now ≡ None = rw is at copied in absurd cc
-  answered_is (Ok None) held None x is copied joined = rw joined refl
-  answered_is (Err e) held shown x is copied joined = rw joined refl
+  seen_is_answer : (a : Answered A E) (held : Option (Option A)) (shown : Option (Bor A)) (x : Result (Option (Bor A)) E) → held ≡ held_of a → option_copied shown ≡ held_item held → MatchResult (failure_told a) (λ _. x ≡ Ok shown) (λ e. x ≡ Err e) → seen x ≡ a
+  seen_is_answer (Ok (Some y)) held (Some z) x is copied joined = let same : Some z.now ≡ Some y = rw is at copied in let at : z.now ≡ y = cc in rw joined (ap (λ w. item w) at)
+  seen_is_answer (Ok (Some y)) held None x is copied joined = let none : None ≡ Some y = rw is at copied in absurd cc
+  seen_is_answer (Ok None) held (Some z) x is copied joined = let some : Some z.now ≡ None = rw is at copied in absurd cc
+  seen_is_answer (Ok None) held None x is copied joined = rw joined refl
+  seen_is_answer (Err e) held shown x is copied joined = rw joined refl
 
   pub peeks_joined : (p q : S × Option (Option A)) (filled : Result (Unit {0}) E) (shown : Option (Bor A)) (x : Result (Option (Bor A)) E) → Fills steps p filled q → option_copied shown ≡ held_item q.1 → MatchResult filled (λ _. x ≡ Ok shown) (λ e. x ≡ Err e) → Peeks steps p (seen x) q
   peeks_joined p q filled shown x fills copied joined =
       let a = fills.0 in
-      let is = answered_is a q.1 shown x (held_is p q a fills.1) copied (subst (λ (r : Result (Unit {0}) E). MatchResult r (λ _. x ≡ Ok shown) (λ e. x ≡ Err e)) fills.2 joined) in
+      let is = seen_is_answer a q.1 shown x (held_of_answer p q a fills.1) copied (subst (λ (r : Result (Unit {0}) E). MatchResult r (λ _. x ≡ Ok shown) (λ e. x ≡ Err e)) fills.2 joined) in
       subst (λ (r : Answered A E). Peeks steps p r q) (sym is) fills.1
 
   pub fills_held : (p : S × Option (Option A)) (o : Option A) → p.1 ≡ Some o → Fills steps p (Ok tt) p
@@ -116,64 +116,64 @@ module _ {S A E : Type 0} (steps : S → Answered A E → S → Type 0) where
 
 module _ {S A E : Type 0} (steps : S → Answered A E → S → Type 0) where
   -- with nothing held they are the source's
-  to_source : (trace : List (Answered A E)) (s : S) (q : S × Option (Option A)) → Run (peekable_step steps) (s, None) trace q → Run steps s trace q.0 × (q.1 ≡ None)
-  to_source [] s q e = (ap (λ p. p.0) e, sym (ap (λ p. p.1) e))
-  to_source (r ∷ rest) s q h = let k = to_source rest h.0.0 q (rw h.1.1 at h.2) in ((h.0.0, h.1.0, k.0), k.1)
+  source_run_of_run : (trace : List (Answered A E)) (s : S) (q : S × Option (Option A)) → Run (peekable_step steps) (s, None) trace q → Run steps s trace q.0 × (q.1 ≡ None)
+  source_run_of_run [] s q e = (ap (λ p. p.0) e, sym (ap (λ p. p.1) e))
+  source_run_of_run (r ∷ rest) s q h = let k = source_run_of_run rest h.0.0 q (rw h.1.1 at h.2) in ((h.0.0, h.1.0, k.0), k.1)
 
-  from_source : (trace : List (Answered A E)) (s t : S) → Run steps s trace t → Run (peekable_step steps) (s, None) trace (t, None)
-  from_source [] s t e = ap (λ (u : S). (u, None)) e
-  from_source (r ∷ rest) s t h = ((h.0, None), (h.1, refl), from_source rest h.0 t h.2)
+  run_of_source_run : (trace : List (Answered A E)) (s t : S) → Run steps s trace t → Run (peekable_step steps) (s, None) trace (t, None)
+  run_of_source_run [] s t e = ap (λ (u : S). (u, None)) e
+  run_of_source_run (r ∷ rest) s t h = ((h.0, None), (h.1, refl), run_of_source_run rest h.0 t h.2)
 
-  to_trace : (trace : List (Answered A E)) (p q : S × Option (Option A)) → Run (peekable_step steps) p trace q → PeekableTrace steps p trace q
-  to_trace trace (s, None) q h = let k = to_source trace s q h in inr record { source_trace = trace; drawn = k.0; answers = refl; let_go = k.1 }
-  to_trace [] (s, Some o) q e = inl (refl, sym e)
-  to_trace (r ∷ rest) (s, Some o) q h = let k = to_source rest s q (rw (h.1.1, h.1.2) at h.2) in inr record { source_trace = rest; drawn = k.0; answers = rw h.1.0 refl; let_go = k.1 }
+  peekable_trace_of_run : (trace : List (Answered A E)) (p q : S × Option (Option A)) → Run (peekable_step steps) p trace q → PeekableTrace steps p trace q
+  peekable_trace_of_run trace (s, None) q h = let k = source_run_of_run trace s q h in inr record { source_trace = trace; drawn = k.0; answers = refl; let_go = k.1 }
+  peekable_trace_of_run [] (s, Some o) q e = inl (refl, sym e)
+  peekable_trace_of_run (r ∷ rest) (s, Some o) q h = let k = source_run_of_run rest s q (rw (h.1.1, h.1.2) at h.2) in inr record { source_trace = rest; drawn = k.0; answers = rw h.1.0 refl; let_go = k.1 }
 
-  answered : (source : List (Answered A E)) (p : S × Option (Option A)) (t : S) → Run steps p.0 source t → Run (peekable_step steps) p (held_answers p.1 ++ source) (t, None)
-  answered source (s, None) t ran = from_source source s t ran
-  answered source (s, Some o) t ran = ((s, None), (refl, refl, refl), from_source source s t ran)
+  run_of_held_answers : (source : List (Answered A E)) (p : S × Option (Option A)) (t : S) → Run steps p.0 source t → Run (peekable_step steps) p (held_answers p.1 ++ source) (t, None)
+  run_of_held_answers source (s, None) t ran = run_of_source_run source s t ran
+  run_of_held_answers source (s, Some o) t ran = ((s, None), (refl, refl, refl), run_of_source_run source s t ran)
 
-  from_trace : (trace : List (Answered A E)) (p q : S × Option (Option A)) → PeekableTrace steps p trace q → Run (peekable_step steps) p trace q
-  from_trace trace p (t, held) d = elim d [ inl e ↦ rw (e.0, e.1) refl | inr a ↦ rw (a.answers, a.let_go) (answered a.source_trace p t a.drawn) ]
+  run_from_trace : (trace : List (Answered A E)) (p q : S × Option (Option A)) → PeekableTrace steps p trace q → Run (peekable_step steps) p trace q
+  run_from_trace trace p (t, held) d = elim d [ inl e ↦ rw (e.0, e.1) refl | inr a ↦ rw (a.answers, a.let_go) (run_of_held_answers a.source_trace p t a.drawn) ]
 
   pub peekable_law : (p : S × Option (Option A)) (trace : List (Answered A E)) (q : S × Option (Option A)) → Run (peekable_step steps) p trace q ↔ PeekableTrace steps p trace q
-  peekable_law p trace q = (to_trace trace p q, from_trace trace p q)
+  peekable_law p trace q = (peekable_trace_of_run trace p q, run_from_trace trace p q)
 
 -- ---- one test for another
 
 module _ {S A E : Type 0} (steps : S → Answered A E → S → Type 0) (test test' : A → Bool → Type 0) (same : (x : A) (b : Bool) → test x b → test' x b) where
-  taken_by : (p : S × Option (Option A)) (peeked r : Answered A E) (q : S × Option (Option A)) → TakenIf steps test p peeked r q → TakenIf steps test' p peeked r q
-  taken_by p (Ok (Some x)) r q h = elim h [ inl t ↦ inl (same x true t.0, t.1, t.2) | inr t ↦ inr (same x false t.0, t.1, t.2) ]
-  taken_by p (Ok None) r q h = h
-  taken_by p (Err e) r q h = h
+  taken_if_by : (p : S × Option (Option A)) (peeked r : Answered A E) (q : S × Option (Option A)) → TakenIf steps test p peeked r q → TakenIf steps test' p peeked r q
+  taken_if_by p (Ok (Some x)) r q h = elim h [ inl t ↦ inl (same x true t.0, t.1, t.2) | inr t ↦ inr (same x false t.0, t.1, t.2) ]
+  taken_if_by p (Ok None) r q h = h
+  taken_if_by p (Err e) r q h = h
 
   pub next_if_by : (p : S × Option (Option A)) (r : Answered A E) (q : S × Option (Option A)) → NextIf steps test p r q → NextIf steps test' p r q
-  next_if_by p r q n = record { peeked = n.peeked; after = n.after; peeks = n.peeks; taken = taken_by n.after n.peeked r q n.taken }
+  next_if_by p r q n = record { peeked = n.peeked; after = n.after; peeks = n.peeks; taken = taken_if_by n.after n.peeked r q n.taken }
 
 -- ---- looking
 
-filled_with : {S A E : Type 0} (steps : S → Answered A E → S → Type 0) (p q : S × Option (Option A)) (a : Answered A E) (x : A) → Peeks steps p a q → Ok tt ≡ failure_told a → held_item q.1 ≡ Some x → a ≡ Ok (Some x)
-filled_with steps (s, Some o) q a x w t h = cc
-filled_with steps (s, None) q (Ok o) x w t h = cc
-filled_with steps (s, None) q (Err e) x w t h = absurd cc
+answer_filled_with_item : {S A E : Type 0} (steps : S → Answered A E → S → Type 0) (p q : S × Option (Option A)) (a : Answered A E) (x : A) → Peeks steps p a q → Ok tt ≡ failure_told a → held_item q.1 ≡ Some x → a ≡ Ok (Some x)
+answer_filled_with_item steps (s, Some o) q a x w t h = cc
+answer_filled_with_item steps (s, None) q (Ok o) x w t h = cc
+answer_filled_with_item steps (s, None) q (Err e) x w t h = absurd cc
 
 -- what a closure returns for the item that is held is what it returns for the one that was looked at
 pub looks_at_held : {S F A R E : Type 0} (steps : S → Answered A E → S → Type 0) {g : Shared F (Bor A × Unit {0}) R} {f : F} (p q : S × Option (Option A)) (x : A) {v : R} → Fills steps p (Ok tt) q → held_item q.1 ≡ Some x → FnReturnsAt g f x v → Looks steps g f p (Ok (Some v)) q
-looks_at_held {A = A} {E = E} steps p q x {v = v} w h called = (Ok (Some x), subst (λ (a : Answered A E). Peeks steps p a q) (filled_with steps p q w.0 x w.1 w.2 h) w.1, (v, called, refl))
+looks_at_held {A = A} {E = E} steps p q x {v = v} w h called = (Ok (Some x), subst (λ (a : Answered A E). Peeks steps p a q) (answer_filled_with_item steps p q w.0 x w.1 w.2 h) w.1, (v, called, refl))
 
 -- ---- what it lists
 
-peekable_gives : {S A E : Type 0} (steps : S → Answered A E → S → Type 0) (l : List (Result A E)) (s : S) → AlwaysGives steps s l → AlwaysGives (peekable_step steps) (s, None) l
-peekable_gives steps [] s g = λ r q w. g r q.0 w.0
-peekable_gives {A = A} steps (y ∷ l) s g = λ r q w. let d = g r q.0 w.0 in (d.0, subst (λ (held : Option (Option A)). AlwaysGives (peekable_step steps) (q.0, held) l) (sym w.1) (peekable_gives steps l q.0 d.1))
+always_gives_peekable : {S A E : Type 0} (steps : S → Answered A E → S → Type 0) (l : List (Result A E)) (s : S) → AlwaysGives steps s l → AlwaysGives (peekable_step steps) (s, None) l
+always_gives_peekable steps [] s g = λ r q w. g r q.0 w.0
+always_gives_peekable {A = A} steps (y ∷ l) s g = λ r q w. let d = g r q.0 w.0 in (d.0, subst (λ (held : Option (Option A)). AlwaysGives (peekable_step steps) (q.0, held) l) (sym w.1) (always_gives_peekable steps l q.0 d.1))
 
 pub lists_peekable : {S A E : Type 0} (m : Contract S A E) (s : Peekable S A E) (l : List (Result A E)) → peekable_parts s ≡ (s.it, None) → Lists m.steps s.it l → Lists (seen_as peekable_parts (peekable_contract m)).steps s l
-lists_peekable m s l parts i = lists_seen peekable_parts (peekable_step m.steps) s parts refl (peekable_gives m.steps l s.it i.runs)
+lists_peekable m s l parts i = lists_seen peekable_parts (peekable_step m.steps) s parts refl (always_gives_peekable m.steps l s.it i.runs)
 
-held_gives : {S A E : Type 0} (steps : S → Answered A E → S → Type 0) (held : Option (Option A)) (l : List (Result A E)) (s : S) → AlwaysGives steps s l → AlwaysGives (peekable_step steps) (s, held) (held_then held l)
-held_gives {S} {A} {E} steps (Some (Some x)) l s g = λ r q w. (w.0, subst (λ (t : S). AlwaysGives (peekable_step steps) (t, q.1) l) (sym w.1) (subst (λ (k : Option (Option A)). AlwaysGives (peekable_step steps) (s, k) l) (sym w.2) (peekable_gives steps l s g)))
-held_gives steps (Some None) l s g = λ r q w. w.0
-held_gives steps None l s g = peekable_gives steps l s g
+always_gives_held : {S A E : Type 0} (steps : S → Answered A E → S → Type 0) (held : Option (Option A)) (l : List (Result A E)) (s : S) → AlwaysGives steps s l → AlwaysGives (peekable_step steps) (s, held) (held_then held l)
+always_gives_held {S} {A} {E} steps (Some (Some x)) l s g = λ r q w. (w.0, subst (λ (t : S). AlwaysGives (peekable_step steps) (t, q.1) l) (sym w.1) (subst (λ (k : Option (Option A)). AlwaysGives (peekable_step steps) (s, k) l) (sym w.2) (always_gives_peekable steps l s g)))
+always_gives_held steps (Some None) l s g = λ r q w. w.0
+always_gives_held steps None l s g = always_gives_peekable steps l s g
 
 pub lists_held : {S A E : Type 0} (m : Contract S A E) (s : Peekable S A E) (l : List (Result A E)) → Lists m.steps s.it l → Lists (seen_as peekable_parts (peekable_contract m)).steps s (held_then s.held l)
-lists_held m s l i = lists_seen peekable_parts (peekable_step m.steps) s refl refl (held_gives m.steps s.held l s.it i.runs)
+lists_held m s l i = lists_seen peekable_parts (peekable_step m.steps) s refl refl (always_gives_held m.steps s.held l s.it i.runs)

@@ -11,77 +11,77 @@ use Rattle.fallible_core.specs.Peeking.Peekable.{peekable_parts, peekable_step, 
 use Rattle.fallible_core.specs.declared.peeking.peekable.Peekable.{Peekable}
 
 -- what is listed of a value is listed of its parts
-parts_give : {V P A E : Type 0} (view : V → P) (back : P → V) (same : (p : P) → view (back p) ≡ p) (steps : P → Answered A E → P → Type 0) (l : List (Result A E)) (s : V) → AlwaysGives (λ u r v. steps (view u) r (view v)) s l → AlwaysGives steps (view s) l
-parts_give view back same steps [] s a = λ r q w. a r (back q) (subst (λ z. steps (view s) r z) (sym (same q)) w)
-parts_give view back same steps (y ∷ l) s a = λ r q w. let d = a r (back q) (subst (λ z. steps (view s) r z) (sym (same q)) w) in (d.0, subst (λ z. AlwaysGives steps z l) (same q) (parts_give view back same steps l (back q) d.1))
+always_gives_parts : {V P A E : Type 0} (view : V → P) (back : P → V) (same : (p : P) → view (back p) ≡ p) (steps : P → Answered A E → P → Type 0) (l : List (Result A E)) (s : V) → AlwaysGives (λ u r v. steps (view u) r (view v)) s l → AlwaysGives steps (view s) l
+always_gives_parts view back same steps [] s a = λ r q w. a r (back q) (subst (λ z. steps (view s) r z) (sym (same q)) w)
+always_gives_parts view back same steps (y ∷ l) s a = λ r q w. let d = a r (back q) (subst (λ z. steps (view s) r z) (sym (same q)) w) in (d.0, subst (λ z. AlwaysGives steps z l) (same q) (always_gives_parts view back same steps l (back q) d.1))
 
 module _ {S A E : Type 0} (steps : S → Answered A E → S → Type 0) where
-  abbrev Step : S × Option (Option A) → Answered A E → S × Option (Option A) → Type 0
-  Step = peekable_step steps
+  abbrev StepOfPeekableLists : S × Option (Option A) → Answered A E → S × Option (Option A) → Type 0
+  StepOfPeekableLists = peekable_step steps
 
   -- what is listed where an answer is held
-  end_held : (t : S) → AlwaysGives Step (t, Some None) []
-  end_held t = λ r q w. w.0
+  always_gives_end_held : (t : S) → AlwaysGives StepOfPeekableLists (t, Some None) []
+  always_gives_end_held t = λ r q w. w.0
 
-  item_held : (t : S) (y : A) (l : List (Result A E)) → AlwaysGives Step (t, None) l → AlwaysGives Step (t, Some (Some y)) (Ok y ∷ l)
-  item_held t y l a = λ r q w. (w.0, subst (λ (u : S). AlwaysGives Step (u, q.1) l) (sym w.1) (subst (λ (k : Option (Option A)). AlwaysGives Step (t, k) l) (sym w.2) a))
+  always_gives_item_held : (t : S) (y : A) (l : List (Result A E)) → AlwaysGives StepOfPeekableLists (t, None) l → AlwaysGives StepOfPeekableLists (t, Some (Some y)) (Ok y ∷ l)
+  always_gives_item_held t y l a = λ r q w. (w.0, subst (λ (u : S). AlwaysGives StepOfPeekableLists (u, q.1) l) (sym w.1) (subst (λ (k : Option (Option A)). AlwaysGives StepOfPeekableLists (t, k) l) (sym w.2) a))
 
   -- a peek returns the first of the list, and leaves the list but for a failure
-  peeked : (p q : S × Option (Option A)) (r : Answered A E) (l : List (Result A E)) → AlwaysGives Step p l → Peeks steps p r q → (r ≡ nth_of 0 l) × AlwaysGives Step q (looked_ahead l)
+  nth_of_0_of_peek : (p q : S × Option (Option A)) (r : Answered A E) (l : List (Result A E)) → AlwaysGives StepOfPeekableLists p l → Peeks steps p r q → (r ≡ nth_of 0 l) × AlwaysGives StepOfPeekableLists q (looked_ahead l)
   unfolding nth_of looked_ahead
-  peeked (s, Some o) (t, k) r [] a w = (w.0 ∙ a (Ok o) (s, None) (refl, refl, refl), subst (λ (u : S). AlwaysGives {A = A} Step (u, k) []) (sym w.1) (subst (λ (h : Option (Option A)). AlwaysGives {A = A} Step (s, h) []) (sym w.2) a))
-  peeked (s, Some o) (t, k) r (Ok y ∷ l) a w = (w.0 ∙ (a (Ok o) (s, None) (refl, refl, refl)).0, subst (λ (u : S). AlwaysGives Step (u, k) (Ok y ∷ l)) (sym w.1) (subst (λ (h : Option (Option A)). AlwaysGives Step (s, h) (Ok y ∷ l)) (sym w.2) a))
-  peeked (s, Some o) (t, k) r (Err e ∷ l) a w = absurd (let h = (a (Ok o) (s, None) (refl, refl, refl)).0 in cc)
-  peeked (s, None) (t, k) (Ok None) [] a w = (refl, subst (λ (h : Option (Option A)). AlwaysGives {A = A} Step (t, h) []) (sym w.1) (end_held t))
-  peeked (s, None) (t, k) (Ok (Some x)) [] a w = absurd (let h = a (Ok (Some x)) (t, None) (w.0, refl) in cc)
-  peeked (s, None) (t, k) (Err e) [] a w = absurd (let h = a (Err e) (t, None) (w.0, refl) in cc)
-  peeked (s, None) (t, k) (Ok None) (Ok y ∷ l) a w = absurd (let h = (a (Ok None) (t, None) (w.0, refl)).0 in cc)
-  peeked (s, None) (t, k) (Ok (Some x)) (Ok y ∷ l) a w = let d = a (Ok (Some x)) (t, None) (w.0, refl) in let same : x ≡ y = (let h = d.0 in cc) in (d.0, subst (λ (h : Option (Option A)). AlwaysGives Step (t, h) (Ok y ∷ l)) (sym (w.1 ∙ ap (λ (z : A). Some (Some z)) same)) (item_held t y l d.1))
-  peeked (s, None) (t, k) (Err e) (Ok y ∷ l) a w = absurd (let h = (a (Err e) (t, None) (w.0, refl)).0 in cc)
-  peeked (s, None) (t, k) (Ok None) (Err y ∷ l) a w = absurd (let h = (a (Ok None) (t, None) (w.0, refl)).0 in cc)
-  peeked (s, None) (t, k) (Ok (Some x)) (Err y ∷ l) a w = absurd (let h = (a (Ok (Some x)) (t, None) (w.0, refl)).0 in cc)
-  peeked (s, None) (t, k) (Err e) (Err y ∷ l) a w = let d = a (Err e) (t, None) (w.0, refl) in (d.0, subst (λ (h : Option (Option A)). AlwaysGives Step (t, h) l) (sym w.1) d.1)
+  nth_of_0_of_peek (s, Some o) (t, k) r [] a w = (w.0 ∙ a (Ok o) (s, None) (refl, refl, refl), subst (λ (u : S). AlwaysGives {A = A} StepOfPeekableLists (u, k) []) (sym w.1) (subst (λ (h : Option (Option A)). AlwaysGives {A = A} StepOfPeekableLists (s, h) []) (sym w.2) a))
+  nth_of_0_of_peek (s, Some o) (t, k) r (Ok y ∷ l) a w = (w.0 ∙ (a (Ok o) (s, None) (refl, refl, refl)).0, subst (λ (u : S). AlwaysGives StepOfPeekableLists (u, k) (Ok y ∷ l)) (sym w.1) (subst (λ (h : Option (Option A)). AlwaysGives StepOfPeekableLists (s, h) (Ok y ∷ l)) (sym w.2) a))
+  nth_of_0_of_peek (s, Some o) (t, k) r (Err e ∷ l) a w = absurd (let h = (a (Ok o) (s, None) (refl, refl, refl)).0 in cc)
+  nth_of_0_of_peek (s, None) (t, k) (Ok None) [] a w = (refl, subst (λ (h : Option (Option A)). AlwaysGives {A = A} StepOfPeekableLists (t, h) []) (sym w.1) (always_gives_end_held t))
+  nth_of_0_of_peek (s, None) (t, k) (Ok (Some x)) [] a w = absurd (let h = a (Ok (Some x)) (t, None) (w.0, refl) in cc)
+  nth_of_0_of_peek (s, None) (t, k) (Err e) [] a w = absurd (let h = a (Err e) (t, None) (w.0, refl) in cc)
+  nth_of_0_of_peek (s, None) (t, k) (Ok None) (Ok y ∷ l) a w = absurd (let h = (a (Ok None) (t, None) (w.0, refl)).0 in cc)
+  nth_of_0_of_peek (s, None) (t, k) (Ok (Some x)) (Ok y ∷ l) a w = let d = a (Ok (Some x)) (t, None) (w.0, refl) in let same : x ≡ y = (let h = d.0 in cc) in (d.0, subst (λ (h : Option (Option A)). AlwaysGives StepOfPeekableLists (t, h) (Ok y ∷ l)) (sym (w.1 ∙ ap (λ (z : A). Some (Some z)) same)) (always_gives_item_held t y l d.1))
+  nth_of_0_of_peek (s, None) (t, k) (Err e) (Ok y ∷ l) a w = absurd (let h = (a (Err e) (t, None) (w.0, refl)).0 in cc)
+  nth_of_0_of_peek (s, None) (t, k) (Ok None) (Err y ∷ l) a w = absurd (let h = (a (Ok None) (t, None) (w.0, refl)).0 in cc)
+  nth_of_0_of_peek (s, None) (t, k) (Ok (Some x)) (Err y ∷ l) a w = absurd (let h = (a (Ok (Some x)) (t, None) (w.0, refl)).0 in cc)
+  nth_of_0_of_peek (s, None) (t, k) (Err e) (Err y ∷ l) a w = let d = a (Err e) (t, None) (w.0, refl) in (d.0, subst (λ (h : Option (Option A)). AlwaysGives StepOfPeekableLists (t, h) l) (sym w.1) d.1)
 
-  looked : {F R : Type 0} (g : Shared F (Bor A × Unit {0}) R) (f : F) (h : A → R) → LooksAs g f h → (a : Answered A E) (r : Result (Option R) E) (l : List (Result A E)) → a ≡ nth_of 0 l → LooksAt g f a r → r ≡ look_of h l
+  look_of_of_look : {F R : Type 0} (g : Shared F (Bor A × Unit {0}) R) (f : F) (h : A → R) → LooksAs g f h → (a : Answered A E) (r : Result (Option R) E) (l : List (Result A E)) → a ≡ nth_of 0 l → LooksAt g f a r → r ≡ look_of h l
   unfolding nth_of look_of
-  looked g f h acts (Ok (Some x)) r [] is w = absurd cc
-  looked g f h acts (Ok None) r [] is w = w
-  looked g f h acts (Err e) r [] is w = absurd cc
-  looked {R = R} g f h acts (Ok (Some x)) r (Ok y ∷ l) is w = w.2 ∙ ap (λ (v : R). Ok (Some v)) (acts x w.0 w.1 ∙ ap h (let same : x ≡ y = cc in same))
-  looked g f h acts (Ok None) r (Ok y ∷ l) is w = absurd cc
-  looked g f h acts (Err e) r (Ok y ∷ l) is w = absurd cc
-  looked g f h acts (Ok (Some x)) r (Err y ∷ l) is w = absurd cc
-  looked g f h acts (Ok None) r (Err y ∷ l) is w = absurd cc
-  looked g f h acts (Err e) r (Err y ∷ l) is w = w ∙ ap (λ (d : E). Err d) (let same : e ≡ y = cc in same)
+  look_of_of_look g f h acts (Ok (Some x)) r [] is w = absurd cc
+  look_of_of_look g f h acts (Ok None) r [] is w = w
+  look_of_of_look g f h acts (Err e) r [] is w = absurd cc
+  look_of_of_look {R = R} g f h acts (Ok (Some x)) r (Ok y ∷ l) is w = w.2 ∙ ap (λ (v : R). Ok (Some v)) (acts x w.0 w.1 ∙ ap h (let same : x ≡ y = cc in same))
+  look_of_of_look g f h acts (Ok None) r (Ok y ∷ l) is w = absurd cc
+  look_of_of_look g f h acts (Err e) r (Ok y ∷ l) is w = absurd cc
+  look_of_of_look g f h acts (Ok (Some x)) r (Err y ∷ l) is w = absurd cc
+  look_of_of_look g f h acts (Ok None) r (Err y ∷ l) is w = absurd cc
+  look_of_of_look g f h acts (Err e) r (Err y ∷ l) is w = w ∙ ap (λ (d : E). Err d) (let same : e ≡ y = cc in same)
 
   -- a test by a function, and what it takes
-  taken : (test : A → Bool → Type 0) (h : A → Bool) → ((x : A) (b : Bool) → test x b → b ≡ h x) → (a r : Answered A E) (p q : S × Option (Option A)) (l : List (Result A E)) → a ≡ nth_of 0 l → AlwaysGives Step p (looked_ahead l) → TakenIf steps test p a r q → (r ≡ first_if h l) × AlwaysGives Step q (rest_if h l)
+  first_if_of_next_if : (test : A → Bool → Type 0) (h : A → Bool) → ((x : A) (b : Bool) → test x b → b ≡ h x) → (a r : Answered A E) (p q : S × Option (Option A)) (l : List (Result A E)) → a ≡ nth_of 0 l → AlwaysGives StepOfPeekableLists p (looked_ahead l) → TakenIf steps test p a r q → (r ≡ first_if h l) × AlwaysGives StepOfPeekableLists q (rest_if h l)
   unfolding nth_of looked_ahead first_if rest_if
-  taken test h acts (Ok (Some x)) r p q [] is given w = absurd cc
-  taken test h acts (Ok None) r p q [] is given w = (w.0, subst (λ (z : S × Option (Option A)). AlwaysGives {A = A} Step z []) (sym w.1) given)
-  taken test h acts (Err e) r p q [] is given w = absurd cc
-  taken test h acts (Ok (Some x)) r p q (Ok y ∷ l) is given w = let same : x ≡ y = cc in elim w [
+  first_if_of_next_if test h acts (Ok (Some x)) r p q [] is given w = absurd cc
+  first_if_of_next_if test h acts (Ok None) r p q [] is given w = (w.0, subst (λ (z : S × Option (Option A)). AlwaysGives {A = A} StepOfPeekableLists z []) (sym w.1) given)
+  first_if_of_next_if test h acts (Err e) r p q [] is given w = absurd cc
+  first_if_of_next_if test h acts (Ok (Some x)) r p q (Ok y ∷ l) is given w = let same : x ≡ y = cc in elim w [
     | inl t ↦ (let yes : h y ≡ true = sym (acts x true t.0 ∙ ap h same) in rw yes (t.1 ∙ ap (λ (z : A). item z) same, (given r q t.2).1))
-    | inr t ↦ (let no : h y ≡ false = sym (acts x false t.0 ∙ ap h same) in rw no (t.1, subst (λ (z : S × Option (Option A)). AlwaysGives Step z (Ok y ∷ l)) (sym t.2) given))
+    | inr t ↦ (let no : h y ≡ false = sym (acts x false t.0 ∙ ap h same) in rw no (t.1, subst (λ (z : S × Option (Option A)). AlwaysGives StepOfPeekableLists z (Ok y ∷ l)) (sym t.2) given))
   ]
-  taken test h acts (Ok None) r p q (Ok y ∷ l) is given w = absurd cc
-  taken test h acts (Err e) r p q (Ok y ∷ l) is given w = absurd cc
-  taken test h acts (Ok (Some x)) r p q (Err y ∷ l) is given w = absurd cc
-  taken test h acts (Ok None) r p q (Err y ∷ l) is given w = absurd cc
-  taken test h acts (Err e) r p q (Err y ∷ l) is given w = (w.0 ∙ is, subst (λ (z : S × Option (Option A)). AlwaysGives Step z l) (sym w.1) given)
+  first_if_of_next_if test h acts (Ok None) r p q (Ok y ∷ l) is given w = absurd cc
+  first_if_of_next_if test h acts (Err e) r p q (Ok y ∷ l) is given w = absurd cc
+  first_if_of_next_if test h acts (Ok (Some x)) r p q (Err y ∷ l) is given w = absurd cc
+  first_if_of_next_if test h acts (Ok None) r p q (Err y ∷ l) is given w = absurd cc
+  first_if_of_next_if test h acts (Err e) r p q (Err y ∷ l) is given w = (w.0 ∙ is, subst (λ (z : S × Option (Option A)). AlwaysGives StepOfPeekableLists z l) (sym w.1) given)
 
 module _ {S A E : Type 0} (m : Contract S A E) (s t : Peekable S A E) (l : List (Result A E)) (i : Lists (seen_as peekable_parts (peekable_contract m)).steps s l) where
-  given_parts : AlwaysGives (peekable_step m.steps) (peekable_parts s) l
-  given_parts = parts_give peekable_parts (λ p. record { it = p.0; held = p.1 }) (λ p. refl) (peekable_step m.steps) l s i.runs
+  always_gives_of_lists : AlwaysGives (peekable_step m.steps) (peekable_parts s) l
+  always_gives_of_lists = always_gives_parts peekable_parts (λ p. record { it = p.0; held = p.1 }) (λ p. refl) (peekable_step m.steps) l s i.runs
 
   pub peek_listed : {r : Answered A E} → Peeks m.steps (peekable_parts s) r (peekable_parts t) → (r ≡ nth_of 0 l) × Lists (seen_as peekable_parts (peekable_contract m)).steps t (looked_ahead l)
-  peek_listed {r = r} w = let d = peeked m.steps (peekable_parts s) (peekable_parts t) r l given_parts w in (d.0, lists_seen peekable_parts (peekable_step m.steps) t refl refl d.1)
+  peek_listed {r = r} w = let d = nth_of_0_of_peek m.steps (peekable_parts s) (peekable_parts t) r l always_gives_of_lists w in (d.0, lists_seen peekable_parts (peekable_step m.steps) t refl refl d.1)
 
   pub look_listed : {F R : Type 0} {g : Shared F (Bor A × Unit {0}) R} {f : F} {r : Result (Option R) E} (h : A → R) → LooksAs g f h → Looks m.steps g f (peekable_parts s) r (peekable_parts t) → (r ≡ look_of h l) × Lists (seen_as peekable_parts (peekable_contract m)).steps t (looked_ahead l)
-  look_listed {g = g} {f = f} {r = r} h acts w = let d = peek_listed w.1 in (looked m.steps g f h acts w.0 r l d.0 w.2, d.1)
+  look_listed {g = g} {f = f} {r = r} h acts w = let d = peek_listed w.1 in (look_of_of_look m.steps g f h acts w.0 r l d.0 w.2, d.1)
 
   pub next_if_listed : {test : A → Bool → Type 0} {r : Answered A E} (h : A → Bool) → ((x : A) (b : Bool) → test x b → b ≡ h x) → NextIf m.steps test (peekable_parts s) r (peekable_parts t) → (r ≡ first_if h l) × Lists (seen_as peekable_parts (peekable_contract m)).steps t (rest_if h l)
   next_if_listed {test = test} {r = r} h acts w =
-      let d = peeked m.steps (peekable_parts s) w.after w.peeked l given_parts w.peeks in
-      let k = taken m.steps test h acts w.peeked r w.after (peekable_parts t) l d.0 d.1 w.taken in
+      let d = nth_of_0_of_peek m.steps (peekable_parts s) w.after w.peeked l always_gives_of_lists w.peeks in
+      let k = first_if_of_next_if m.steps test h acts w.peeked r w.after (peekable_parts t) l d.0 d.1 w.taken in
       (k.0, lists_seen peekable_parts (peekable_step m.steps) t refl refl k.1)

@@ -1,6 +1,6 @@
 -- The answer of the loop of rounds is read.
 use Rattle.fallible_contract.proofs.Lemmas.Comparing.{end_of_either}
-use Rattle.fallible_contract.proofs.Lemmas.Lists.Compared.{read_is}
+use Rattle.fallible_contract.proofs.Lemmas.Lists.Compared.{read_as_of_lists}
 use Rattle.fallible_core.proofs.comparing.compare_read.Goals as goal
 
 pub compare-answer-requires-clause-right : goal.compare-answer-requires-clause-right
@@ -13,4 +13,4 @@ pub returns-clause-compared : goal.returns-clause-compared
 returns-clause-compared g c = record { answer = _; compared = record { right = _; made = c.into_fallible_iter.ensures; compared = c.compare-answer.ensures }; is = c.read.ensures }
 
 pub returns-clause-value : goal.returns-clause-value
-returns-clause-value g c a b i j = read_is a b (returns-clause-compared g c) i j
+returns-clause-value g c a b i j = read_as_of_lists a b (returns-clause-compared g c) i j

@@ -19,93 +19,93 @@ sum_finite true b h k = k
 sum_finite false b h k = absurd h
 
 module _ {S U A E : Type 0} (first : Contract S A E) (second : Contract U A E) where
-  abbrev C : Contract (S × U × StillDrawn) A E
-  C = chain_contract first second
+  abbrev ContractHere : Contract (S × U × StillDrawn) A E
+  ContractHere = chain_contract first second
 
-  first_answer : (s t : S) (u : U) (r : Answered A E) → OnAnswer first s r t → OnAnswer C (s, u, FirstAlone) r (t, u, FirstAlone)
-  first_answer s t u (Ok (Some x)) a = a
-  first_answer s t u (Ok None) a = a
-  first_answer s t u (Err e) a = a
+  on_answer_first : (s t : S) (u : U) (r : Answered A E) → OnAnswer first s r t → OnAnswer ContractHere (s, u, FirstAlone) r (t, u, FirstAlone)
+  on_answer_first s t u (Ok (Some x)) a = a
+  on_answer_first s t u (Ok None) a = a
+  on_answer_first s t u (Err e) a = a
 
-  second_answer : (s : S) (u v : U) (r : Answered A E) → OnAnswer second u r v → OnAnswer C (s, u, SecondAlone) r (s, v, SecondAlone)
-  second_answer s u v (Ok (Some x)) a = a
-  second_answer s u v (Ok None) a = a
-  second_answer s u v (Err e) a = a
+  on_answer_second : (s : S) (u v : U) (r : Answered A E) → OnAnswer second u r v → OnAnswer ContractHere (s, u, SecondAlone) r (s, v, SecondAlone)
+  on_answer_second s u v (Ok (Some x)) a = a
+  on_answer_second s u v (Ok None) a = a
+  on_answer_second s u v (Err e) a = a
 
   -- an answer of the first, which isn't its end
-  before_end_answer : (s t : S) (u : U) (r : Answered A E) → is_end r ≡ false → OnAnswer first s r t → OnAnswer C (s, u, Both) r (t, u, Both)
-  before_end_answer s t u (Ok (Some x)) e a = (
+  on_answer_before_end : (s t : S) (u : U) (r : Answered A E) → is_end r ≡ false → OnAnswer first s r t → OnAnswer ContractHere (s, u, Both) r (t, u, Both)
+  on_answer_before_end s t u (Ok (Some x)) e a = (
     inl a.0,
     (λ n h. let k = a.1 h.0 h.2 in (k.0 + h.1, (k.0, h.1, k.1, h.3, omega arith), omega (arith, k.2, h.4))),
     (λ f. let b = both_finite (first.remaining s).bounded (second.remaining u).bounded f in let k = a.2 b.0 in (sum_finite (first.remaining t).bounded (second.remaining u).bounded k.0 b.1, omega (arith, k.1))),
   )
-  before_end_answer s t u (Ok None) e a = absurd cc
-  before_end_answer s t u (Err d) e a = (
+  on_answer_before_end s t u (Ok None) e a = absurd cc
+  on_answer_before_end s t u (Err d) e a = (
     inl a.0,
     (λ n h. let k = a.1 h.0 h.2 in (k.0 + h.1, (k.0, h.1, k.1, h.3, omega arith), omega (arith, k.2, h.4))),
     (λ f. let b = both_finite (first.remaining s).bounded (second.remaining u).bounded f in let k = a.2 b.0 in (sum_finite (first.remaining t).bounded (second.remaining u).bounded k.0 b.1, omega (arith, k.1))),
   )
 
   -- an answer of the second, in the draw that met the first's end
-  at_end_answer : (s t : S) (u v : U) (r : Answered A E) → OnAnswer second u r v → OnAnswer C (s, u, Both) r (t, v, SecondAlone)
-  at_end_answer s t u v (Ok (Some x)) a = (
+  on_answer_at_end : (s t : S) (u v : U) (r : Answered A E) → OnAnswer second u r v → OnAnswer ContractHere (s, u, Both) r (t, v, SecondAlone)
+  on_answer_at_end s t u v (Ok (Some x)) a = (
     inr a.0,
     (λ n h. let k = a.1 h.1 h.3 in (k.0, k.1, omega (arith, k.2, h.4))),
     (λ f. let b = both_finite (first.remaining s).bounded (second.remaining u).bounded f in let k = a.2 b.1 in (k.0, omega (arith, k.1))),
   )
-  at_end_answer s t u v (Ok None) a = (
+  on_answer_at_end s t u v (Ok None) a = (
     (λ n h. let k = a.0 h.1 h.3 in (k.0, k.1, omega (arith, k.2, h.4))),
     (λ f. let b = both_finite (first.remaining s).bounded (second.remaining u).bounded f in let k = a.1 b.1 in (k.0, omega (arith, k.1))),
   )
-  at_end_answer s t u v (Err e) a = (
+  on_answer_at_end s t u v (Err e) a = (
     inr a.0,
     (λ n h. let k = a.1 h.1 h.3 in (k.0, k.1, omega (arith, k.2, h.4))),
     (λ f. let b = both_finite (first.remaining s).bounded (second.remaining u).bounded f in let k = a.2 b.1 in (k.0, omega (arith, k.1))),
   )
 
   module _ (l : Lawful first) (k : Lawful second) where
-    first_goes : (s t : S) (u : U) (r : Answered A E) → C.can_next (s, u, FirstAlone) → first.steps s r t → KeptByDraw C (s, u, FirstAlone) r (t, u, FirstAlone)
-    first_goes s t u r c step = let a = l.kept_by_draw s r t c.0 step in record { can_next = (a.can_next, c.1); is_finite = a.is_finite; answer = first_answer s t u r a.answer; may_give = a.may_give; may_fail = a.may_fail; lenders = ap₂ lenders_of_both a.lenders refl }
+    kept_by_draw_first : (s t : S) (u : U) (r : Answered A E) → ContractHere.can_next (s, u, FirstAlone) → first.steps s r t → KeptByDraw ContractHere (s, u, FirstAlone) r (t, u, FirstAlone)
+    kept_by_draw_first s t u r c step = let a = l.kept_by_draw s r t c.0 step in record { can_next = (a.can_next, c.1); is_finite = a.is_finite; answer = on_answer_first s t u r a.answer; may_give = a.may_give; may_fail = a.may_fail; lenders = ap₂ lenders_of_both a.lenders refl }
 
-    second_goes : (s : S) (u v : U) (r : Answered A E) → C.can_next (s, u, SecondAlone) → second.steps u r v → KeptByDraw C (s, u, SecondAlone) r (s, v, SecondAlone)
-    second_goes s u v r c step = let b = k.kept_by_draw u r v c.1 step in record { can_next = (c.0, b.can_next); is_finite = b.is_finite; answer = second_answer s u v r b.answer; may_give = b.may_give; may_fail = b.may_fail; lenders = ap₂ lenders_of_both refl b.lenders }
+    kept_by_draw_second : (s : S) (u v : U) (r : Answered A E) → ContractHere.can_next (s, u, SecondAlone) → second.steps u r v → KeptByDraw ContractHere (s, u, SecondAlone) r (s, v, SecondAlone)
+    kept_by_draw_second s u v r c step = let b = k.kept_by_draw u r v c.1 step in record { can_next = (c.0, b.can_next); is_finite = b.is_finite; answer = on_answer_second s u v r b.answer; may_give = b.may_give; may_fail = b.may_fail; lenders = ap₂ lenders_of_both refl b.lenders }
 
-    before_end_goes : (s t : S) (u : U) (r : Answered A E) → C.can_next (s, u, Both) → first.steps s r t → is_end r ≡ false → KeptByDraw C (s, u, Both) r (t, u, Both)
-    before_end_goes s t u r c step e = let a = l.kept_by_draw s r t c.0 step in record {
+    kept_by_draw_before_end : (s t : S) (u : U) (r : Answered A E) → ContractHere.can_next (s, u, Both) → first.steps s r t → is_end r ≡ false → KeptByDraw ContractHere (s, u, Both) r (t, u, Both)
+    kept_by_draw_before_end s t u r c step e = let a = l.kept_by_draw s r t c.0 step in record {
       can_next = (a.can_next, c.1);
       is_finite = λ h. (a.is_finite h.0, h.1);
-      answer = before_end_answer s t u r e a.answer;
+      answer = on_answer_before_end s t u r e a.answer;
       may_give = λ x h. elim h [ inl h ↦ inl (a.may_give x h) | inr h ↦ inr h ];
       may_fail = λ d h. elim h [ inl h ↦ inl (a.may_fail d h) | inr h ↦ inr h ];
       lenders = ap₂ lenders_of_both a.lenders refl;
     }
 
-    at_end_goes : (s t : S) (u v : U) (r : Answered A E) → C.can_next (s, u, Both) → first.steps s end t → second.steps u r v → KeptByDraw C (s, u, Both) r (t, v, SecondAlone)
-    at_end_goes s t u v r c met step = let a = l.kept_by_draw s end t c.0 met in let b = k.kept_by_draw u r v c.1 step in record {
+    kept_by_draw_at_end : (s t : S) (u v : U) (r : Answered A E) → ContractHere.can_next (s, u, Both) → first.steps s end t → second.steps u r v → KeptByDraw ContractHere (s, u, Both) r (t, v, SecondAlone)
+    kept_by_draw_at_end s t u v r c met step = let a = l.kept_by_draw s end t c.0 met in let b = k.kept_by_draw u r v c.1 step in record {
       can_next = (a.can_next, b.can_next);
       is_finite = λ h. b.is_finite h.1;
-      answer = at_end_answer s t u v r b.answer;
+      answer = on_answer_at_end s t u v r b.answer;
       may_give = λ x h. inr (b.may_give x h);
       may_fail = λ d h. inr (b.may_fail d h);
       lenders = ap₂ lenders_of_both a.lenders b.lenders;
     }
 
-    goes_chain : (p : S × U × StillDrawn) (r : Answered A E) (q : S × U × StillDrawn) → C.can_next p → C.steps p r q → KeptByDraw C p r q
-    goes_chain (s, u, Both) r (t, v, after) c (inl step) = rw (step.2, step.3) (before_end_goes s t u r c step.0 step.1)
-    goes_chain (s, u, Both) r (t, v, after) c (inr step) = rw step.2 (at_end_goes s t u v r c step.0 step.1)
-    goes_chain (s, u, FirstAlone) r (t, v, after) c step = rw (step.1, step.2) (first_goes s t u r c step.0)
-    goes_chain (s, u, SecondAlone) r (t, v, after) c step = rw (step.1, step.2) (second_goes s u v r c step.0)
+    kept_by_draw_chain : (p : S × U × StillDrawn) (r : Answered A E) (q : S × U × StillDrawn) → ContractHere.can_next p → ContractHere.steps p r q → KeptByDraw ContractHere p r q
+    kept_by_draw_chain (s, u, Both) r (t, v, after) c (inl step) = rw (step.2, step.3) (kept_by_draw_before_end s t u r c step.0 step.1)
+    kept_by_draw_chain (s, u, Both) r (t, v, after) c (inr step) = rw step.2 (kept_by_draw_at_end s t u v r c step.0 step.1)
+    kept_by_draw_chain (s, u, FirstAlone) r (t, v, after) c step = rw (step.1, step.2) (kept_by_draw_first s t u r c step.0)
+    kept_by_draw_chain (s, u, SecondAlone) r (t, v, after) c step = rw (step.1, step.2) (kept_by_draw_second s u v r c step.0)
 
-    ends_chain : (p : S × U × StillDrawn) → C.is_finite p ↔ ((n : ℕ) × C.bound p n)
-    ends_chain (s, u, Both) = (
+    is_finite_iff_bound_chain : (p : S × U × StillDrawn) → ContractHere.is_finite p ↔ ((n : ℕ) × ContractHere.bound p n)
+    is_finite_iff_bound_chain (s, u, Both) = (
       (λ e. let a = (l.bounded s).0 e.0 in let b = (k.bounded u).0 e.1 in (a.0 + b.0, (a.0, b.0, a.1, b.1, omega arith))),
       (λ h. ((l.bounded s).1 (h.1.0, h.1.2), (k.bounded u).1 (h.1.1, h.1.3))),
     )
-    ends_chain (s, u, FirstAlone) = l.bounded s
-    ends_chain (s, u, SecondAlone) = k.bounded u
+    is_finite_iff_bound_chain (s, u, FirstAlone) = l.bounded s
+    is_finite_iff_bound_chain (s, u, SecondAlone) = k.bounded u
 
 pub lawful_chain : {S U A E : Type 0} {first : Contract S A E} {second : Contract U A E} → Lawful first → Lawful second → Lawful (chain_contract first second)
-lawful_chain {first = first} {second = second} l k = record { kept_by_draw = goes_chain first second l k; bounded = ends_chain first second l k }
+lawful_chain {first = first} {second = second} l k = record { kept_by_draw = kept_by_draw_chain first second l k; bounded = is_finite_iff_bound_chain first second l k }
 
 -- ---- the second end
 
@@ -123,51 +123,51 @@ may_come_back P Q (s, u, SecondAlone) x = ((λ h. h), (λ h. h))
 
 module _ {S U A E : Type 0} (first : Contract S A E) (second : Contract U A E) where
   -- What else is said of the sides is said of them swapped.
-  bound_back : (p : S × U × StillDrawn) (n : ℕ) → (C first second).bound p n ↔ (C second first).bound (chain_back p) n
+  bound_back : (p : S × U × StillDrawn) (n : ℕ) → (ContractHere first second).bound p n ↔ (ContractHere second first).bound (chain_back p) n
   bound_back (s, u, Both) n = ((λ h. (h.1, h.0, h.3, h.2, omega (arith, h.4))), (λ h. (h.1, h.0, h.3, h.2, omega (arith, h.4))))
   bound_back (s, u, FirstAlone) n = ((λ h. h), (λ h. h))
   bound_back (s, u, SecondAlone) n = ((λ h. h), (λ h. h))
 
-  is_finite_back : (p : S × U × StillDrawn) → (C first second).is_finite p ↔ (C second first).is_finite (chain_back p)
+  is_finite_back : (p : S × U × StillDrawn) → (ContractHere first second).is_finite p ↔ (ContractHere second first).is_finite (chain_back p)
   is_finite_back (s, u, Both) = ((λ h. (h.1, h.0)), (λ h. (h.1, h.0)))
   is_finite_back (s, u, FirstAlone) = ((λ h. h), (λ h. h))
   is_finite_back (s, u, SecondAlone) = ((λ h. h), (λ h. h))
 
-  finite_back : (p : S × U × StillDrawn) → IsFinite ((C first second).remaining p) ↔ IsFinite ((C second first).remaining (chain_back p))
-  finite_back (s, u, Both) = (
+  remaining_is_finite_back : (p : S × U × StillDrawn) → IsFinite ((ContractHere first second).remaining p) ↔ IsFinite ((ContractHere second first).remaining (chain_back p))
+  remaining_is_finite_back (s, u, Both) = (
     (λ h. let b = both_finite (first.remaining s).bounded (second.remaining u).bounded h in sum_finite (second.remaining u).bounded (first.remaining s).bounded b.1 b.0),
     (λ h. let b = both_finite (second.remaining u).bounded (first.remaining s).bounded h in sum_finite (first.remaining s).bounded (second.remaining u).bounded b.1 b.0),
   )
-  finite_back (s, u, FirstAlone) = ((λ h. h), (λ h. h))
-  finite_back (s, u, SecondAlone) = ((λ h. h), (λ h. h))
+  remaining_is_finite_back (s, u, FirstAlone) = ((λ h. h), (λ h. h))
+  remaining_is_finite_back (s, u, SecondAlone) = ((λ h. h), (λ h. h))
 
-  size_back : (p : S × U × StillDrawn) → size ((C first second).remaining p) ≡ size ((C second first).remaining (chain_back p))
+  size_back : (p : S × U × StillDrawn) → size ((ContractHere first second).remaining p) ≡ size ((ContractHere second first).remaining (chain_back p))
   size_back (s, u, Both) = omega arith
   size_back (s, u, FirstAlone) = refl
   size_back (s, u, SecondAlone) = refl
 
-  answer_back : (p : S × U × StillDrawn) (r : Answered A E) (q : S × U × StillDrawn) → OnAnswer (C second first) (chain_back p) r (chain_back q) → OnAnswer (C first second) p r q
-  answer_back p (Ok (Some x)) q a = (
+  on_answer_back : (p : S × U × StillDrawn) (r : Answered A E) (q : S × U × StillDrawn) → OnAnswer (ContractHere second first) (chain_back p) r (chain_back q) → OnAnswer (ContractHere first second) p r q
+  on_answer_back p (Ok (Some x)) q a = (
     (may_come_back first.may_give second.may_give p x).1 a.0,
     (λ n h. let k = a.1 n ((bound_back p n).0 h) in (k.0, (bound_back q k.0).1 k.1, k.2)),
-    (λ f. let k = a.2 ((finite_back p).0 f) in ((finite_back q).1 k.0, omega (arith, k.1, size_back p, size_back q))),
+    (λ f. let k = a.2 ((remaining_is_finite_back p).0 f) in ((remaining_is_finite_back q).1 k.0, omega (arith, k.1, size_back p, size_back q))),
   )
-  answer_back p (Ok None) q a = (
+  on_answer_back p (Ok None) q a = (
     (λ n h. let k = a.0 n ((bound_back p n).0 h) in (k.0, (bound_back q k.0).1 k.1, k.2)),
-    (λ f. let k = a.1 ((finite_back p).0 f) in ((finite_back q).1 k.0, omega (arith, k.1, size_back p, size_back q))),
+    (λ f. let k = a.1 ((remaining_is_finite_back p).0 f) in ((remaining_is_finite_back q).1 k.0, omega (arith, k.1, size_back p, size_back q))),
   )
-  answer_back p (Err e) q a = (
+  on_answer_back p (Err e) q a = (
     (may_come_back first.may_fail second.may_fail p e).1 a.0,
     (λ n h. let k = a.1 n ((bound_back p n).0 h) in (k.0, (bound_back q k.0).1 k.1, k.2)),
-    (λ f. let k = a.2 ((finite_back p).0 f) in ((finite_back q).1 k.0, omega (arith, k.1, size_back p, size_back q))),
+    (λ f. let k = a.2 ((remaining_is_finite_back p).0 f) in ((remaining_is_finite_back q).1 k.0, omega (arith, k.1, size_back p, size_back q))),
   )
 
   -- A draw that goes, seen from the back, goes, whatever the steps are.
-  goes_back : (steps : S × U × StillDrawn → Answered A E → S × U × StillDrawn → Type 0) (p : S × U × StillDrawn) (r : Answered A E) (q : S × U × StillDrawn) → KeptByDraw (C second first) (chain_back p) r (chain_back q) → KeptByDraw (record (C first second) { steps = steps }) p r q
-  goes_back steps p r q g = record {
+  kept_by_draw_back : (steps : S × U × StillDrawn → Answered A E → S × U × StillDrawn → Type 0) (p : S × U × StillDrawn) (r : Answered A E) (q : S × U × StillDrawn) → KeptByDraw (ContractHere second first) (chain_back p) r (chain_back q) → KeptByDraw (record (ContractHere first second) { steps = steps }) p r q
+  kept_by_draw_back steps p r q g = record {
     can_next = (g.can_next.1, g.can_next.0);
     is_finite = λ h. (is_finite_back q).1 (g.is_finite ((is_finite_back p).0 h));
-    answer = answer_back p r q g.answer;
+    answer = on_answer_back p r q g.answer;
     may_give = λ x h. (may_come_back first.may_give second.may_give p x).1 (g.may_give x ((may_come_back first.may_give second.may_give q x).0 h));
     may_fail = λ e h. (may_come_back first.may_fail second.may_fail p e).1 (g.may_fail e ((may_come_back first.may_fail second.may_fail q e).0 h));
     lenders = let e = g.lenders in ap₂ lenders_of_both (cc) (cc);
@@ -180,7 +180,7 @@ lawful_ends_chain {first = first} {f = f} {second = second} {e = e} l k = record
   may_fail = may_come_more l.may_fail k.may_fail;
   front = lawful_chain l.front k.front;
   back = record {
-    kept_by_draw = λ p r q c step. goes_back (from_back first f) (from_back second e) (chain_ends f e).steps p r q ((lawful_chain k.back l.back).kept_by_draw (chain_back p) r (chain_back q) (c.1, c.0) step);
+    kept_by_draw = λ p r q c step. kept_by_draw_back (from_back first f) (from_back second e) (chain_ends f e).steps p r q ((lawful_chain k.back l.back).kept_by_draw (chain_back p) r (chain_back q) (c.1, c.0) step);
     bounded = (lawful_chain l.back k.back).bounded;
   };
 }

@@ -8,52 +8,52 @@ use Rattle.fallible_core.specs.Joining.Cycle.{CycleAnswer, cycle_contract}
 use Rattle.std.specs.declared.alloc.AllocError.{AllocError}
 
 module _ {S A E : Type 0} (is_clone : S → S → Type 0) (is_infallible : S → Type 0) (from : AllocError → E → Type 0) (m : Contract S A E) where
-  abbrev C : Contract (S × S) A E
-  C = cycle_contract is_clone is_infallible from m
+  abbrev ContractHere : Contract (S × S) A E
+  ContractHere = cycle_contract is_clone is_infallible from m
 
   -- the answer was one to come
-  abbrev Came : S × S → Answered A E → Type 0
-  Came p (Ok (Some x)) = C.may_give p x
-  Came p (Ok None) = ⊤
-  Came p (Err e) = C.may_fail p e
+  abbrev CameBefore : S × S → Answered A E → Type 0
+  CameBefore p (Ok (Some x)) = ContractHere.may_give p x
+  CameBefore p (Ok None) = ⊤
+  CameBefore p (Err e) = ContractHere.may_fail p e
 
-  on_answer : (p q : S × S) (r : Answered A E) → C.steps p r q → Came p r → OnAnswer C p r q
-  on_answer p q (Ok (Some x)) step came = (came, (λ n b. bounds_fewer {steps = C.steps} x step b), (λ f. absurd f))
-  on_answer p q (Ok None) step came = ((λ n b. bounds_end {steps = C.steps} step b), (λ f. absurd f))
-  on_answer p q (Err e) step came = (came, (λ n b. bounds_failure {steps = C.steps} e step b), (λ f. absurd f))
+  on_answer_of_came : (p q : S × S) (r : Answered A E) → ContractHere.steps p r q → CameBefore p r → OnAnswer ContractHere p r q
+  on_answer_of_came p q (Ok (Some x)) step came = (came, (λ n b. bounds_fewer {steps = ContractHere.steps} x step b), (λ f. absurd f))
+  on_answer_of_came p q (Ok None) step came = ((λ n b. bounds_end {steps = ContractHere.steps} step b), (λ f. absurd f))
+  on_answer_of_came p q (Err e) step came = (came, (λ n b. bounds_failure {steps = ContractHere.steps} e step b), (λ f. absurd f))
 
-  came_from_run : (s t k : S) (r : Answered A E) → OnAnswer m s r t → Came (s, k) r
+  came_from_run : (s t k : S) (r : Answered A E) → OnAnswer m s r t → CameBefore (s, k) r
   came_from_run s t k (Ok (Some x)) a = inl a.0
   came_from_run s t k (Ok None) a = tt
   came_from_run s t k (Err e) a = inl a.0
 
-  came_from_clone : (s t k c : S) (r : Answered A E) → is_clone k c → OnAnswer m c r t → Came (s, k) r
+  came_from_clone : (s t k c : S) (r : Answered A E) → is_clone k c → OnAnswer m c r t → CameBefore (s, k) r
   came_from_clone s t k c (Ok (Some x)) is a = inr (c, is, a.0)
   came_from_clone s t k c (Ok None) is a = tt
   came_from_clone s t k c (Err e) is a = inr (inl (c, is, a.0))
 
   -- with what the answer and what is left have to do with the source, a draw keeps the contract
-  goes_by : (s t k : S) (r : Answered A E) → C.can_next (s, k) → m.can_next t → C.steps (s, k) r (t, k) → Came (s, k) r → ((x : A) → m.may_give t x → C.may_give (s, k) x) → ((e : E) → m.may_fail t e → C.may_fail (s, k) e) → KeptByDraw C (s, k) r (t, k)
-  goes_by s t k r c can step came gives fails = let a = on_answer (s, k) (t, k) r step came in record {
+  kept_by_draw_of_came : (s t k : S) (r : Answered A E) → ContractHere.can_next (s, k) → m.can_next t → ContractHere.steps (s, k) r (t, k) → CameBefore (s, k) r → ((x : A) → m.may_give t x → ContractHere.may_give (s, k) x) → ((e : E) → m.may_fail t e → ContractHere.may_fail (s, k) e) → KeptByDraw ContractHere (s, k) r (t, k)
+  kept_by_draw_of_came s t k r c can step came gives fails = let a = on_answer_of_came (s, k) (t, k) r step came in record {
     can_next = (can, c.1);
-    is_finite = bound_stays C (s, k) (t, k) r a;
+    is_finite = bound_stays ContractHere (s, k) (t, k) r a;
     answer = a;
     may_give = λ x h. elim h [ inl g ↦ gives x g | inr d ↦ inr d ];
     may_fail = λ e h. elim h [ inl g ↦ fails e g | inr d ↦ inr d ];
     lenders = refl;
   }
 
-  goes_cycle : Lawful m → (s t k : S) (r : Answered A E) → C.can_next (s, k) → CycleAnswer is_clone is_infallible from m.steps k s r t → KeptByDraw C (s, k) r (t, k)
-  goes_cycle l s t k r c h = elim h [
-    | inl d ↦ (let a = l.kept_by_draw s r t c.0 d.0 in goes_by s t k r c a.can_next (refl, inl d) (came_from_run s t k r a.answer) (λ x g. inl (a.may_give x g)) (λ e g. inl (a.may_fail e g)))
+  kept_by_draw_cycle : Lawful m → (s t k : S) (r : Answered A E) → ContractHere.can_next (s, k) → CycleAnswer is_clone is_infallible from m.steps k s r t → KeptByDraw ContractHere (s, k) r (t, k)
+  kept_by_draw_cycle l s t k r c h = elim h [
+    | inl d ↦ (let a = l.kept_by_draw s r t c.0 d.0 in kept_by_draw_of_came s t k r c a.can_next (refl, inl d) (came_from_run s t k r a.answer) (λ x g. inl (a.may_give x g)) (λ e g. inl (a.may_fail e g)))
     | inr i ↦ elim i [
-      | inl d ↦ (let a = l.kept_by_draw d.1 r t (c.1 d.1 d.3) d.4 in goes_by s t k r c a.can_next (refl, inr (inl d)) (came_from_clone s t k d.1 r d.3 a.answer) (λ x g. inr (d.1, d.3, a.may_give x g)) (λ e g. inr (inl (d.1, d.3, a.may_fail e g))))
-      | inr d ↦ (let a = l.kept_by_draw s end t c.0 d.1 in goes_by s t k r c a.can_next (refl, inr (inr d)) (rw d.2 (inr (inr d.3))) (λ x g. inl (a.may_give x g)) (λ e g. inl (a.may_fail e g)))
+      | inl d ↦ (let a = l.kept_by_draw d.1 r t (c.1 d.1 d.3) d.4 in kept_by_draw_of_came s t k r c a.can_next (refl, inr (inl d)) (came_from_clone s t k d.1 r d.3 a.answer) (λ x g. inr (d.1, d.3, a.may_give x g)) (λ e g. inr (inl (d.1, d.3, a.may_fail e g))))
+      | inr d ↦ (let a = l.kept_by_draw s end t c.0 d.1 in kept_by_draw_of_came s t k r c a.can_next (refl, inr (inr d)) (rw d.2 (inr (inr d.3))) (λ x g. inl (a.may_give x g)) (λ e g. inl (a.may_fail e g)))
     ]
   ]
 
-  goes_cycle_parts : Lawful m → (p : S × S) (r : Answered A E) (q : S × S) → C.can_next p → C.steps p r q → KeptByDraw C p r q
-  goes_cycle_parts l (s, k) r (t, k') c step = rw step.0 (goes_cycle l s t k r c step.1)
+  kept_by_draw_cycle_parts : Lawful m → (p : S × S) (r : Answered A E) (q : S × S) → ContractHere.can_next p → ContractHere.steps p r q → KeptByDraw ContractHere p r q
+  kept_by_draw_cycle_parts l (s, k) r (t, k') c step = rw step.0 (kept_by_draw_cycle l s t k r c step.1)
 
 pub lawful_cycle : {S A E : Type 0} {m : Contract S A E} (is_clone : S → S → Type 0) (is_infallible : S → Type 0) (from : AllocError → E → Type 0) → Lawful m → Lawful (cycle_contract is_clone is_infallible from m)
-lawful_cycle {m = m} is_clone is_infallible from l = record { kept_by_draw = goes_cycle_parts is_clone is_infallible from m l; bounded = λ p. ((λ e. e), (λ h. h)) }
+lawful_cycle {m = m} is_clone is_infallible from l = record { kept_by_draw = kept_by_draw_cycle_parts is_clone is_infallible from m l; bounded = λ p. ((λ e. e), (λ h. h)) }

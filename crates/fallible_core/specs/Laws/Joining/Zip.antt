@@ -4,70 +4,70 @@ use Rattle.std.specs.Iterator.{IsFinite, size}
 use Rattle.std.proofs.Common.{arith, inl, inr, refl, ap₂}
 use Rattle.fallible_contract.specs.Traces.{Answered, item, failure}
 use Rattle.fallible_contract.specs.Contract.{Contract, NoMore, NoMoreRemains, OnAnswer, KeptByDraw, Lawful, lenders_of_both}
-use Rattle.fallible_contract.specs.Laws.Contract.{no_more, no_more_remains}
+use Rattle.fallible_contract.specs.Laws.Contract.{no_more_after, no_more_remains_after}
 use Rattle.fallible_core.specs.Joining.Zip.{ZipPlace, left_failed, both_drawn, left_answer, zip_answer, right_step, zip_contract}
 use Rattle.fallible_core.specs.Laws.Joining.Chain.{both_finite, sum_finite}
 
 module _ {S U A B E : Type 0} (left : Contract S A E) (right : Contract U B E) where
-  abbrev Z : Contract (S × U) (A × B) E
-  Z = zip_contract left right
+  abbrev ContractHere : Contract (S × U) (A × B) E
+  ContractHere = zip_contract left right
 
   -- nothing more is to come of the pairs where nothing more is to come of either
-  no_more_pairs : (s t : S) (u v : U) → NoMore left s t → NoMore right u v → NoMore Z (s, u) (t, v)
+  no_more_pairs : (s t : S) (u v : U) → NoMore left s t → NoMore right u v → NoMore ContractHere (s, u) (t, v)
   no_more_pairs s t u v p q n b = elim b [ inl h ↦ let k = p n h in (k.0, inl k.1, k.2) | inr h ↦ let k = q n h in (k.0, inr k.1, k.2) ]
 
   -- what remains of both sides is no more, where it is no more of either
-  no_more_remains_of_pairs : (s t : S) (u v : U) → NoMoreRemains left s t → NoMoreRemains right u v → NoMoreRemains Z (s, u) (t, v)
+  no_more_remains_of_pairs : (s t : S) (u v : U) → NoMoreRemains left s t → NoMoreRemains right u v → NoMoreRemains ContractHere (s, u) (t, v)
   no_more_remains_of_pairs s t u v p q f = let b = both_finite (left.remaining s).bounded (right.remaining u).bounded f in let j = p b.0 in let k = q b.1 in (sum_finite (left.remaining t).bounded (right.remaining v).bounded j.0 k.0, omega (arith, j.1, k.1))
 
   -- less remains of both sides at q than at p, and it is finite there, if it is finite at p
   abbrev LessRemains : S × U → S × U → Type 0
-  LessRemains p q = IsFinite (Z.remaining p) → IsFinite (Z.remaining q) × (size (Z.remaining q) < size (Z.remaining p))
+  LessRemains p q = IsFinite (ContractHere.remaining p) → IsFinite (ContractHere.remaining q) × (size (ContractHere.remaining q) < size (ContractHere.remaining p))
 
-  less_of_left : (s t : S) (u v : U) → (IsFinite (left.remaining s) → IsFinite (left.remaining t) × (size (left.remaining t) < size (left.remaining s))) → NoMoreRemains right u v → LessRemains (s, u) (t, v)
-  less_of_left s t u v p q f = let b = both_finite (left.remaining s).bounded (right.remaining u).bounded f in let j = p b.0 in let k = q b.1 in (sum_finite (left.remaining t).bounded (right.remaining v).bounded j.0 k.0, omega (arith, j.1, k.1))
+  less_remains_of_left : (s t : S) (u v : U) → (IsFinite (left.remaining s) → IsFinite (left.remaining t) × (size (left.remaining t) < size (left.remaining s))) → NoMoreRemains right u v → LessRemains (s, u) (t, v)
+  less_remains_of_left s t u v p q f = let b = both_finite (left.remaining s).bounded (right.remaining u).bounded f in let j = p b.0 in let k = q b.1 in (sum_finite (left.remaining t).bounded (right.remaining v).bounded j.0 k.0, omega (arith, j.1, k.1))
 
-  less_of_right : (s t : S) (u v : U) → NoMoreRemains left s t → (IsFinite (right.remaining u) → IsFinite (right.remaining v) × (size (right.remaining v) < size (right.remaining u))) → LessRemains (s, u) (t, v)
-  less_of_right s t u v p q f = let b = both_finite (left.remaining s).bounded (right.remaining u).bounded f in let j = p b.0 in let k = q b.1 in (sum_finite (left.remaining t).bounded (right.remaining v).bounded j.0 k.0, omega (arith, j.1, k.1))
+  less_remains_of_right : (s t : S) (u v : U) → NoMoreRemains left s t → (IsFinite (right.remaining u) → IsFinite (right.remaining v) × (size (right.remaining v) < size (right.remaining u))) → LessRemains (s, u) (t, v)
+  less_remains_of_right s t u v p q f = let b = both_finite (left.remaining s).bounded (right.remaining u).bounded f in let j = p b.0 in let k = q b.1 in (sum_finite (left.remaining t).bounded (right.remaining v).bounded j.0 k.0, omega (arith, j.1, k.1))
 
   -- an answer of the left and one of the right
-  pair_answer : (s t : S) (u v : U) (x : Option A) (r : Answered B E) → OnAnswer left s (Ok x) t → OnAnswer right u r v → OnAnswer Z (s, u) (zip_answer (both_drawn x r)) (t, v)
-  pair_answer s t u v x (Err e) a b = (inr b.0, no_more_pairs s t u v (no_more left s t (Ok x) a) b.1, less_of_right s t u v (no_more_remains left s t (Ok x) a) b.2)
-  pair_answer s t u v (Some x) (Ok (Some y)) a b = (
+  on_answer_pair : (s t : S) (u v : U) (x : Option A) (r : Answered B E) → OnAnswer left s (Ok x) t → OnAnswer right u r v → OnAnswer ContractHere (s, u) (zip_answer (both_drawn x r)) (t, v)
+  on_answer_pair s t u v x (Err e) a b = (inr b.0, no_more_pairs s t u v (no_more_after left s t (Ok x) a) b.1, less_remains_of_right s t u v (no_more_remains_after left s t (Ok x) a) b.2)
+  on_answer_pair s t u v (Some x) (Ok (Some y)) a b = (
     (a.0, b.0),
     (λ n h. elim h [ inl h ↦ let k = a.1 n h in (k.0, inl k.1, k.2) | inr h ↦ let k = b.1 n h in (k.0, inr k.1, k.2) ]),
-    less_of_left s t u v a.2 (no_more_remains right u v (item y) b),
+    less_remains_of_left s t u v a.2 (no_more_remains_after right u v (item y) b),
   )
-  pair_answer s t u v (Some x) (Ok None) a b = (no_more_pairs s t u v (no_more left s t (item x) a) b.0, no_more_remains_of_pairs s t u v (no_more_remains left s t (item x) a) b.1)
-  pair_answer s t u v None (Ok y) a b = (no_more_pairs s t u v a.0 (no_more right u v (Ok y) b), no_more_remains_of_pairs s t u v a.1 (no_more_remains right u v (Ok y) b))
+  on_answer_pair s t u v (Some x) (Ok None) a b = (no_more_pairs s t u v (no_more_after left s t (item x) a) b.0, no_more_remains_of_pairs s t u v (no_more_remains_after left s t (item x) a) b.1)
+  on_answer_pair s t u v None (Ok y) a b = (no_more_pairs s t u v a.0 (no_more_after right u v (Ok y) b), no_more_remains_of_pairs s t u v a.1 (no_more_remains_after right u v (Ok y) b))
 
   module _ (l : Lawful left) (k : Lawful right) where
-    goes_place : (s t : S) (u v : U) (x : ZipPlace A B E) → Z.can_next (s, u) → left.steps s (left_answer x) t → right_step right.steps u x v → KeptByDraw Z (s, u) (zip_answer x) (t, v)
-    goes_place s t u v (left_failed e) c step same = let a = l.kept_by_draw s (failure e) t c.0 step in rw same record {
+    kept_by_draw_place : (s t : S) (u v : U) (x : ZipPlace A B E) → ContractHere.can_next (s, u) → left.steps s (left_answer x) t → right_step right.steps u x v → KeptByDraw ContractHere (s, u) (zip_answer x) (t, v)
+    kept_by_draw_place s t u v (left_failed e) c step same = let a = l.kept_by_draw s (failure e) t c.0 step in rw same record {
       can_next = (a.can_next, c.1);
       is_finite = λ h. elim h [ inl h ↦ inl (a.is_finite h) | inr h ↦ inr h ];
-      answer = (inl a.answer.0, no_more_pairs s t u u a.answer.1 (λ n h. (n, h, omega arith)), less_of_left s t u u a.answer.2 (λ f. (f, omega arith)));
+      answer = (inl a.answer.0, no_more_pairs s t u u a.answer.1 (λ n h. (n, h, omega arith)), less_remains_of_left s t u u a.answer.2 (λ f. (f, omega arith)));
       may_give = λ z h. (a.may_give z.0 h.0, h.1);
       may_fail = λ d h. elim h [ inl h ↦ inl (a.may_fail d h) | inr h ↦ inr h ];
       lenders = ap₂ lenders_of_both a.lenders refl;
     }
-    goes_place s t u v (both_drawn x r) c step drawn = let a = l.kept_by_draw s (Ok x) t c.0 step in let b = k.kept_by_draw u r v c.1 drawn in record {
+    kept_by_draw_place s t u v (both_drawn x r) c step drawn = let a = l.kept_by_draw s (Ok x) t c.0 step in let b = k.kept_by_draw u r v c.1 drawn in record {
       can_next = (a.can_next, b.can_next);
       is_finite = λ h. elim h [ inl h ↦ inl (a.is_finite h) | inr h ↦ inr (b.is_finite h) ];
-      answer = pair_answer s t u v x r a.answer b.answer;
+      answer = on_answer_pair s t u v x r a.answer b.answer;
       may_give = λ z h. (a.may_give z.0 h.0, b.may_give z.1 h.1);
       may_fail = λ d h. elim h [ inl h ↦ inl (a.may_fail d h) | inr h ↦ inr (b.may_fail d h) ];
       lenders = ap₂ lenders_of_both a.lenders b.lenders;
     }
 
-    goes_zip : (p : S × U) (r : Answered (A × B) E) (q : S × U) → Z.can_next p → Z.steps p r q → KeptByDraw Z p r q
-    goes_zip (s, u) r (t, v) c step = rw step.3 (goes_place s t u v step.0 c step.1 step.2)
+    kept_by_draw_zip : (p : S × U) (r : Answered (A × B) E) (q : S × U) → ContractHere.can_next p → ContractHere.steps p r q → KeptByDraw ContractHere p r q
+    kept_by_draw_zip (s, u) r (t, v) c step = rw step.3 (kept_by_draw_place s t u v step.0 c step.1 step.2)
 
-    zip_ends : (p : S × U) → Z.is_finite p ↔ ((n : ℕ) × Z.bound p n)
-    zip_ends (s, u) = (
+    is_finite_iff_bound_zip : (p : S × U) → ContractHere.is_finite p ↔ ((n : ℕ) × ContractHere.bound p n)
+    is_finite_iff_bound_zip (s, u) = (
       (λ e. elim e [ inl h ↦ let a = (l.bounded s).0 h in (a.0, inl a.1) | inr h ↦ let b = (k.bounded u).0 h in (b.0, inr b.1) ]),
       (λ h. elim h.1 [ inl b ↦ inl ((l.bounded s).1 (h.0, b)) | inr b ↦ inr ((k.bounded u).1 (h.0, b)) ]),
     )
 
 pub lawful_zip : {S U A B E : Type 0} {left : Contract S A E} {right : Contract U B E} → Lawful left → Lawful right → Lawful (zip_contract left right)
-lawful_zip {left = left} {right = right} l k = record { kept_by_draw = goes_zip left right l k; bounded = zip_ends left right l k }
+lawful_zip {left = left} {right = right} l k = record { kept_by_draw = kept_by_draw_zip left right l k; bounded = is_finite_iff_bound_zip left right l k }

@@ -7,27 +7,27 @@ use Rattle.fallible_core.specs.OneToOne.Enumerate.{numbered_from, EnumerateTrace
 
 module _ {S A E : Type 0} (steps : S → Answered A E → S → Type 0) where
   -- `EnumerateTrace`, built from the first answer on
-  pub data Numbered : S → ℕ → List (Answered (ℕ × A) E) → S → ℕ → Type 0 where
-    numbered_none : {s : S} {n : ℕ} → Numbered s n [] s n
-    numbered_item : {s u t : S} {n k : ℕ} {trace : List (Answered (ℕ × A) E)} (x : A) → steps s (item x) u → Numbered u (n + 1) trace t k → Numbered s n (item (n, x) ∷ trace) t k
-    numbered_end : {s u t : S} {n k : ℕ} {trace : List (Answered (ℕ × A) E)} → steps s (Ok None) u → Numbered u n trace t k → Numbered s n (Ok None ∷ trace) t k
-    numbered_failure : {s u t : S} {n k : ℕ} {trace : List (Answered (ℕ × A) E)} (e : E) → steps s (Err e) u → Numbered u n trace t k → Numbered s n (Err e ∷ trace) t k
+  pub data NumberedTrace : S → ℕ → List (Answered (ℕ × A) E) → S → ℕ → Type 0 where
+    numbered_none : {s : S} {n : ℕ} → NumberedTrace s n [] s n
+    numbered_item : {s u t : S} {n k : ℕ} {trace : List (Answered (ℕ × A) E)} (x : A) → steps s (item x) u → NumberedTrace u (n + 1) trace t k → NumberedTrace s n (item (n, x) ∷ trace) t k
+    numbered_end : {s u t : S} {n k : ℕ} {trace : List (Answered (ℕ × A) E)} → steps s (Ok None) u → NumberedTrace u n trace t k → NumberedTrace s n (Ok None ∷ trace) t k
+    numbered_failure : {s u t : S} {n k : ℕ} {trace : List (Answered (ℕ × A) E)} (e : E) → steps s (Err e) u → NumberedTrace u n trace t k → NumberedTrace s n (Err e ∷ trace) t k
 
-  from_source : (source : List (Answered A E)) (s t : S) (n k : ℕ) → Run steps s source t → k ≡ n + items_in source → Numbered s n (numbered_from n source) t k
-  from_source [] s t n k ran number_after = subst (λ (u : S). Numbered s n [] u k) ran (let same : n ≡ k = omega (arith, number_after) in subst (λ (j : ℕ). Numbered s n [] s j) same numbered_none)
-  from_source (Ok (Some x) ∷ rest) s t n k ran number_after = numbered_item x ran.1 (from_source rest ran.0 t (n + 1) k ran.2 (omega (arith, number_after)))
-  from_source (Ok None ∷ rest) s t n k ran number_after = numbered_end ran.1 (from_source rest ran.0 t n k ran.2 number_after)
-  from_source (Err e ∷ rest) s t n k ran number_after = numbered_failure e ran.1 (from_source rest ran.0 t n k ran.2 number_after)
+  numbered_from_source : (source : List (Answered A E)) (s t : S) (n k : ℕ) → Run steps s source t → k ≡ n + items_in source → NumberedTrace s n (numbered_from n source) t k
+  numbered_from_source [] s t n k ran number_after = subst (λ (u : S). NumberedTrace s n [] u k) ran (let same : n ≡ k = omega (arith, number_after) in subst (λ (j : ℕ). NumberedTrace s n [] s j) same numbered_none)
+  numbered_from_source (Ok (Some x) ∷ rest) s t n k ran number_after = numbered_item x ran.1 (numbered_from_source rest ran.0 t (n + 1) k ran.2 (omega (arith, number_after)))
+  numbered_from_source (Ok None ∷ rest) s t n k ran number_after = numbered_end ran.1 (numbered_from_source rest ran.0 t n k ran.2 number_after)
+  numbered_from_source (Err e ∷ rest) s t n k ran number_after = numbered_failure e ran.1 (numbered_from_source rest ran.0 t n k ran.2 number_after)
 
-  pub to_numbered : (s t : S) (n k : ℕ) (trace : List (Answered (ℕ × A) E)) → EnumerateTrace steps (s, n) trace (t, k) → Numbered s n trace t k
-  to_numbered s t n k trace p = subst (λ (l : List (Answered (ℕ × A) E)). Numbered s n l t k) (sym p.answers) (from_source p.source_trace s t n k p.drawn p.number_after)
+  pub numbered_of_trace : (s t : S) (n k : ℕ) (trace : List (Answered (ℕ × A) E)) → EnumerateTrace steps (s, n) trace (t, k) → NumberedTrace s n trace t k
+  numbered_of_trace s t n k trace p = subst (λ (l : List (Answered (ℕ × A) E)). NumberedTrace s n l t k) (sym p.answers) (numbered_from_source p.source_trace s t n k p.drawn p.number_after)
 
 module _ {S A E : Type 0} (m : Contract S A E) (l : Lawful m) where
-  abbrev M : Contract (S × ℕ) (ℕ × A) E
-  M = enumerate_contract m
+  abbrev ContractHere : Contract (S × ℕ) (ℕ × A) E
+  ContractHere = enumerate_contract m
 
-  numbered_goes : (s t : S) (n k : ℕ) (r : Answered (ℕ × A) E) → M.can_next (s, n) → Numbered m.steps s n (r ∷ []) t k → KeptByDraw M (s, n) r (t, k)
-  numbered_goes s t n _ _ c (numbered_item x step numbered_none) = let a = l.kept_by_draw s (item x) t c.can_next step in record {
+  kept_by_draw_numbered : (s t : S) (n k : ℕ) (r : Answered (ℕ × A) E) → ContractHere.can_next (s, n) → NumberedTrace m.steps s n (r ∷ []) t k → KeptByDraw ContractHere (s, n) r (t, k)
+  kept_by_draw_numbered s t n _ _ c (numbered_item x step numbered_none) = let a = l.kept_by_draw s (item x) t c.can_next step in record {
     can_next = (let b = a.answer.1 c.bound c.bounds in record { can_next = a.can_next; bound = b.0; bounds = b.1; fits = omega (arith, b.2, c.fits) });
     is_finite = a.is_finite;
     answer = ((a.answer.0, omega arith, (λ j b. let d = a.answer.1 j b in omega (arith, d.2))), a.answer.1, a.answer.2);
@@ -35,7 +35,7 @@ module _ {S A E : Type 0} (m : Contract S A E) (l : Lawful m) where
     may_fail = a.may_fail;
     lenders = a.lenders;
   }
-  numbered_goes s t n _ _ c (numbered_end step numbered_none) = let a = l.kept_by_draw s (Ok None) t c.can_next step in record {
+  kept_by_draw_numbered s t n _ _ c (numbered_end step numbered_none) = let a = l.kept_by_draw s (Ok None) t c.can_next step in record {
     can_next = (let b = a.answer.0 c.bound c.bounds in record { can_next = a.can_next; bound = b.0; bounds = b.1; fits = omega (arith, b.2, c.fits) });
     is_finite = a.is_finite;
     answer = a.answer;
@@ -43,7 +43,7 @@ module _ {S A E : Type 0} (m : Contract S A E) (l : Lawful m) where
     may_fail = a.may_fail;
     lenders = a.lenders;
   }
-  numbered_goes s t n _ _ c (numbered_failure e step numbered_none) = let a = l.kept_by_draw s (Err e) t c.can_next step in record {
+  kept_by_draw_numbered s t n _ _ c (numbered_failure e step numbered_none) = let a = l.kept_by_draw s (Err e) t c.can_next step in record {
     can_next = (let b = a.answer.1 c.bound c.bounds in record { can_next = a.can_next; bound = b.0; bounds = b.1; fits = omega (arith, b.2, c.fits) });
     is_finite = a.is_finite;
     answer = a.answer;
@@ -52,8 +52,8 @@ module _ {S A E : Type 0} (m : Contract S A E) (l : Lawful m) where
     lenders = a.lenders;
   }
 
-  goes_enumerate : (p : S × ℕ) (r : Answered (ℕ × A) E) (q : S × ℕ) → M.can_next p → M.steps p r q → KeptByDraw M p r q
-  goes_enumerate (s, n) r (t, k) c step = numbered_goes s t n k r c (to_numbered m.steps s t n k (r ∷ []) step)
+  kept_by_draw_enumerate : (p : S × ℕ) (r : Answered (ℕ × A) E) (q : S × ℕ) → ContractHere.can_next p → ContractHere.steps p r q → KeptByDraw ContractHere p r q
+  kept_by_draw_enumerate (s, n) r (t, k) c step = kept_by_draw_numbered s t n k r c (numbered_of_trace m.steps s t n k (r ∷ []) step)
 
 pub lawful_enumerate : {S A E : Type 0} {m : Contract S A E} → Lawful m → Lawful (enumerate_contract m)
-lawful_enumerate {m = m} l = record { kept_by_draw = goes_enumerate m l; bounded = λ p. l.bounded p.0 }
+lawful_enumerate {m = m} l = record { kept_by_draw = kept_by_draw_enumerate m l; bounded = λ p. l.bounded p.0 }

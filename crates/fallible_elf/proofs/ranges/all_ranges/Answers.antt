@@ -7,7 +7,7 @@ use Rattle.fallible_iterator.specs.Laws.Showing.{lists_shown}
 use Rattle.fallible_iterator.specs.Showing.{listing}
 use Rattle.fallible_elf.specs.Sets.{sets_in, range_sections, ranges_in}
 use Rattle.fallible_elf.specs.Shown.{shows_sets, shows_ranges}
-use Rattle.fallible_elf.proofs.RangeLemmas.{flattened_mapped, same_collected}
+use Rattle.fallible_elf.proofs.RangeLemmas.{flattened_mapped, collected_as_same}
 use Rattle.fallible_elf.specs.declared.ranges.SetIn.{SetIn}
 use Rattle.fallible_elf.specs.declared.sets.SectionIn.{SectionIn}
 use Rattle.fallible_elf.proofs.ranges.all_ranges.Goals as goal
@@ -19,4 +19,4 @@ pub returns : goal.returns
 returns c =
     let sets = c.flat_map-sets.ensures.lists (λ of. sets_in of.file.now of.section) (λ x s same. rw (← same.0) (lists_bounded_by (listing shows_sets) (λ r. r.end - r.place) (lists_shown shows_sets s))) _ _ (search rules) (c.filter.ensures.lists _ _ (search rules) c.sections_of.ensures.lists) in
     let each = flattened_mapped (λ (of : SectionIn). sets_in of.file.now of.section) (λ section. record { file = c.args.file; section = section }) (range_sections c.args.file.now) in
-    same_collected _ _ (flattened_mapped (λ (of : SetIn). ranges_in of.file.now of.set) (λ set. record { file = c.args.file; set = set }) _ ∙ ap (flattened (ranges_in c.args.file.now)) each) (c.collect.ensures.value _ (c.flat_map-joined.ensures.lists (λ of. ranges_in of.file.now of.set) (λ x s same. rw (← same.0) (lists_bounded_by (listing shows_ranges) (λ r. r.left) (lists_shown shows_ranges s))) _ _ (search rules) sets))
+    collected_as_same _ _ (flattened_mapped (λ (of : SetIn). ranges_in of.file.now of.set) (λ set. record { file = c.args.file; set = set }) _ ∙ ap (flattened (ranges_in c.args.file.now)) each) (c.collect.ensures.value _ (c.flat_map-joined.ensures.lists (λ of. ranges_in of.file.now of.set) (λ x s same. rw (← same.0) (lists_bounded_by (listing shows_ranges) (λ r. r.left) (lists_shown shows_ranges s))) _ _ (search rules) sets))

@@ -9,10 +9,10 @@ use Rattle.fallible_contract.proofs.Lemmas.ByNumber.{Leaves, leaves_nothing, kee
 use Rattle.fallible_core.proofs.Lemmas.Cutting.ByNumber.{leaves_one}
 use Rattle.fallible_core.specs.Cutting.Skip.{skip_step}
 use Rattle.fallible_core.specs.Cutting.StepBy.{step_by_step}
-use Rattle.fallible_core.proofs.Lemmas.Cutting.Skip.{skip_leaves}
-use Rattle.fallible_core.proofs.Lemmas.Cutting.StepBy.{step_by_leaves}
+use Rattle.fallible_core.proofs.Lemmas.Cutting.Skip.{leaves_of_skip_trace}
+use Rattle.fallible_core.proofs.Lemmas.Cutting.StepBy.{steps_of_step_by_trace}
 use Rattle.fallible_iterator.specs.SoundHints.{Brackets, AsSound}
-use Rattle.fallible_iterator.proofs.Lemmas.Hints.Drawn.{as_sound, OneOfOne, yields_after, pair_is, brackets_within, same_brackets}
+use Rattle.fallible_iterator.proofs.Lemmas.Hints.Drawn.{as_sound, OneOfOne, yields_after, pair_of_parts, brackets_within, brackets_same}
 
 -- ---- numbers
 
@@ -26,18 +26,18 @@ abbrev to_skip_after : ℕ → ℕ → ℕ → ℕ
 to_skip_after between r zero = r
 to_skip_after between r (suc m) = between
 
-drawn_by_steps : (between m : ℕ) → drawn_for between between m ≡ m * (between + 1)
-drawn_by_steps between zero = omega arith
-drawn_by_steps between (suc m) = omega arith
+drawn_for_steps : (between m : ℕ) → drawn_for between between m ≡ m * (between + 1)
+drawn_for_steps between zero = omega arith
+drawn_for_steps between (suc m) = omega arith
 
-left_by_steps : (between m : ℕ) → to_skip_after between between m ≡ between
-left_by_steps between zero = refl
-left_by_steps between (suc m) = refl
+to_skip_after_steps : (between m : ℕ) → to_skip_after between between m ≡ between
+to_skip_after_steps between zero = refl
+to_skip_after_steps between (suc m) = refl
 
 -- of u items no fewer are kept than were drawn for
-kept_at_least : (between r m u : ℕ) → drawn_for between r m ≤ u → m ≤ kept_of between r u
-kept_at_least between r zero u le = omega arith
-kept_at_least between r (suc m) u le =
+kept_of_at_least : (between r m u : ℕ) → drawn_for between r m ≤ u → m ≤ kept_of between r u
+kept_of_at_least between r zero u le = omega arith
+kept_of_at_least between r (suc m) u le =
     let past : r < u = omega (arith, le) in
     let rest : m * (between + 1) ≤ u - 1 - r = omega (arith, le) in
     let some : 0 < between + 1 = omega arith in
@@ -55,9 +55,9 @@ kept_of_some between r m b le = elim (cases_lt r b) [
 ]
 
 -- and no more, where no more than are left out next came after them
-kept_at_most : (between r m b j : ℕ) → b ≤ drawn_for between r m + j → j ≤ to_skip_after between r m → kept_of between r b ≤ m
-kept_at_most between r zero b j le few = rw (le-leb b r (omega (arith, le, few))) (omega arith)
-kept_at_most between r (suc m) b j le few = kept_of_some between r m b (omega (arith, le, few))
+kept_of_at_most : (between r m b j : ℕ) → b ≤ drawn_for between r m + j → j ≤ to_skip_after between r m → kept_of between r b ≤ m
+kept_of_at_most between r zero b j le few = rw (le-leb b r (omega (arith, le, few))) (omega arith)
+kept_of_at_most between r (suc m) b j le few = kept_of_some between r m b (omega (arith, le, few))
 
 -- ---- runs
 
@@ -79,53 +79,53 @@ module _ {S A E : Type 0} (steps : S → Answered A E → S → Type 0) (between
       let rest = source_yields ys ran.0.0 ran.0.1 q ran.2 in
       let next : length rest.0 ≡ drawn_for between between (length ys) = subst (λ (i : ℕ). length rest.0 ≡ drawn_for between i (length ys)) d.3 rest.2 in
       let now : q.1 ≡ to_skip_after between between (length ys) = subst (λ (i : ℕ). q.1 ≡ to_skip_after between i (length ys)) d.3 rest.3 in
-      (d.0 ++ rest.0, yields_after steps d.0 rest.0 s ran.0.0 q.0 d.1 rest.1, omega (arith, length-append d.0 rest.0, d.2, next, drawn_by_steps between (length ys)), cc (left_by_steps between (length ys)))
+      (d.0 ++ rest.0, yields_after steps d.0 rest.0 s ran.0.0 q.0 d.1 rest.1, omega (arith, length-append d.0 rest.0, d.2, next, drawn_for_steps between (length ys)), cc (to_skip_after_steps between (length ys)))
 
   -- runs and ends of such an adapter, as those of its source
-  kept_above : (o : Option ℕ) (r m n : ℕ) → n ≡ drawn_for between r m → IfSome o (λ u. n ≤ u) → IfSome (option_map (kept_of between r) o) (λ u. m ≤ u)
-  kept_above None r m n same h = tt
-  kept_above (Some u) r m n same h = kept_at_least between r m u (omega (arith, same, h))
+  if_some_kept_of : (o : Option ℕ) (r m n : ℕ) → n ≡ drawn_for between r m → IfSome o (λ u. n ≤ u) → IfSome (option_map (kept_of between r) o) (λ u. m ≤ u)
+  if_some_kept_of None r m n same h = tt
+  if_some_kept_of (Some u) r m n same h = kept_of_at_least between r m u (omega (arith, same, h))
 
-  pub kept_brackets : (s : S) (r : ℕ) (k : ℕ × Option ℕ) → Brackets steps s k → Brackets (leaves_one steps between) (s, r) (hint_kept between r k)
-  kept_brackets s r k b = record {
-    above = λ ys q ran. let d = source_yields ys s r q ran in kept_above k.1 r (length ys) (length d.0) d.2 (b.above d.0 q.0 d.1);
+  pub brackets_kept : (s : S) (r : ℕ) (k : ℕ × Option ℕ) → Brackets steps s k → Brackets (leaves_one steps between) (s, r) (hint_kept between r k)
+  brackets_kept s r k b = record {
+    above = λ ys q ran. let d = source_yields ys s r q ran in if_some_kept_of k.1 r (length ys) (length d.0) d.2 (b.above d.0 q.0 d.1);
     below = λ ys q z ran w.
         let d = source_yields ys s r q ran in
         let e = end_left q.1 z.1 q.0 z.0 w in
         let le = b.below (d.0 ++ e.0) e.1 z.0 (yields_after steps d.0 e.0 s q.0 e.1 d.1 e.2) e.3 in
         let few : length e.0 ≤ to_skip_after between r (length ys) = subst (λ (i : ℕ). length e.0 ≤ i) d.3 e.4 in
-        kept_at_most between r (length ys) k.0 (length e.0) (omega (arith, length-append d.0 e.0, d.2, le)) few;
+        kept_of_at_most between r (length ys) k.0 (length e.0) (omega (arith, length-append d.0 e.0, d.2, le)) few;
   }
 
 -- ---- `Skip` leaves none out between two
 
-less_is : (n b : ℕ) → kept_of 0 n b ≡ b - n
-less_is n b = elim (cases_lt n b) [
+kept_of_0 : (n b : ℕ) → kept_of 0 n b ≡ b - n
+kept_of_0 n b = elim (cases_lt n b) [
   | inl past ↦ rw (lt-leb b n past, div-one (b - 1 - n)) (omega (arith, past))
   | inr few ↦ rw (le-leb b n few) (omega (arith, few))
 ]
 
 less_upper : (n : ℕ) (o : Option ℕ) → option_map (kept_of 0 n) o ≡ option_map (λ u. u - n) o
 less_upper n None = refl
-less_upper n (Some u) = ap {B = Option ℕ} (λ z. Some z) (less_is n u)
+less_upper n (Some u) = ap {B = Option ℕ} (λ z. Some z) (kept_of_0 n u)
 
 module _ {S A E : Type 0} (steps : S → Answered A E → S → Type 0) where
-  pub skip_brackets : (p : S × ℕ) (k : ℕ × Option ℕ) → Brackets steps p.0 k → Brackets (skip_step steps) p (hint_less p.1 k)
-  skip_brackets p k b = subst (λ (h : ℕ × Option ℕ). Brackets (skip_step steps) p h) (pair_is (less_is p.1 k.0) (less_upper p.1 k.1)) (brackets_within (λ q. q) (skip_step steps) (leaves_one steps 0) (λ u r v w. skip_leaves steps {p = u} {q = v} w) p (hint_kept 0 p.1 k) (kept_brackets steps 0 p.0 p.1 k b))
+  pub brackets_skip : (p : S × ℕ) (k : ℕ × Option ℕ) → Brackets steps p.0 k → Brackets (skip_step steps) p (hint_less p.1 k)
+  brackets_skip p k b = subst (λ (h : ℕ × Option ℕ). Brackets (skip_step steps) p h) (pair_of_parts (kept_of_0 p.1 k.0) (less_upper p.1 k.1)) (brackets_within (λ q. q) (skip_step steps) (leaves_one steps 0) (λ u r v w. leaves_of_skip_trace steps {p = u} {q = v} w) p (hint_kept 0 p.1 k) (brackets_kept steps 0 p.0 p.1 k b))
 
-  pub skip_sound : (p : S × ℕ) (h k : ℕ × Option ℕ) → h ≡ hint_less p.1 k → AsSound (skip_step steps) p h steps p.0 k
-  skip_sound p h k is = as_sound (skip_step steps) steps p p.0 (λ i. i - p.1) (λ o. option_map (λ u. u - p.1) o) (λ j b. skip_brackets p j b) h k is
+  pub as_sound_skip : (p : S × ℕ) (h k : ℕ × Option ℕ) → h ≡ hint_less p.1 k → AsSound (skip_step steps) p h steps p.0 k
+  as_sound_skip p h k is = as_sound (skip_step steps) steps p p.0 (λ i. i - p.1) (λ o. option_map (λ u. u - p.1) o) (λ j b. brackets_skip p j b) h k is
 
   -- ---- `StepBy`
 
-  by_steps : (between : ℕ) → OneOfOne (step_by_step steps) (leaves_one steps between) (λ p. (p.0, (p.1).1)) (λ p. (p.1).0 ≡ between)
-  by_steps between = record {
-    item_drawn = λ p q x e w. let d = step_by_leaves steps {p = p} {q = q} w in (x, subst (λ (b : ℕ). Leaves steps b (p.1).1 p.0 (item x ∷ []) q.0 (q.1).1) e d.0, d.1 ∙ e);
-    end_drawn = λ p q e w. let d = step_by_leaves steps {p = p} {q = q} w in subst (λ (b : ℕ). Leaves steps b (p.1).1 p.0 (end ∷ []) q.0 (q.1).1) e d.0;
+  one_of_one_by_steps : (between : ℕ) → OneOfOne (step_by_step steps) (leaves_one steps between) (λ p. (p.0, (p.1).1)) (λ p. (p.1).0 ≡ between)
+  one_of_one_by_steps between = record {
+    item_drawn = λ p q x e w. let d = steps_of_step_by_trace steps {p = p} {q = q} w in (x, subst (λ (b : ℕ). Leaves steps b (p.1).1 p.0 (item x ∷ []) q.0 (q.1).1) e d.0, d.1 ∙ e);
+    end_drawn = λ p q e w. let d = steps_of_step_by_trace steps {p = p} {q = q} w in subst (λ (b : ℕ). Leaves steps b (p.1).1 p.0 (end ∷ []) q.0 (q.1).1) e d.0;
   }
 
-  pub step_by_brackets : (p : S × (ℕ × ℕ)) (k : ℕ × Option ℕ) → Brackets steps p.0 k → Brackets (step_by_step steps) p (hint_kept (p.1).0 (p.1).1 k)
-  step_by_brackets p k b = same_brackets (step_by_step steps) (leaves_one steps (p.1).0) (λ q. (q.0, (q.1).1)) (λ q. (q.1).0 ≡ (p.1).0) (by_steps (p.1).0) p refl (hint_kept (p.1).0 (p.1).1 k) (kept_brackets steps (p.1).0 p.0 (p.1).1 k b)
+  pub brackets_step : (p : S × (ℕ × ℕ)) (k : ℕ × Option ℕ) → Brackets steps p.0 k → Brackets (step_by_step steps) p (hint_kept (p.1).0 (p.1).1 k)
+  brackets_step p k b = brackets_same (step_by_step steps) (leaves_one steps (p.1).0) (λ q. (q.0, (q.1).1)) (λ q. (q.1).0 ≡ (p.1).0) (one_of_one_by_steps (p.1).0) p refl (hint_kept (p.1).0 (p.1).1 k) (brackets_kept steps (p.1).0 p.0 (p.1).1 k b)
 
-  pub step_by_sound : (p : S × (ℕ × ℕ)) (h k : ℕ × Option ℕ) → h ≡ hint_kept (p.1).0 (p.1).1 k → AsSound (step_by_step steps) p h steps p.0 k
-  step_by_sound p h k is = as_sound (step_by_step steps) steps p p.0 (kept_of (p.1).0 (p.1).1) (λ o. option_map (kept_of (p.1).0 (p.1).1) o) (λ j b. step_by_brackets p j b) h k is
+  pub as_sound_step : (p : S × (ℕ × ℕ)) (h k : ℕ × Option ℕ) → h ≡ hint_kept (p.1).0 (p.1).1 k → AsSound (step_by_step steps) p h steps p.0 k
+  as_sound_step p h k is = as_sound (step_by_step steps) steps p p.0 (kept_of (p.1).0 (p.1).1) (λ o. option_map (kept_of (p.1).0 (p.1).1) o) (λ j b. brackets_step p j b) h k is

@@ -6,13 +6,13 @@ use Rattle.fallible_contract.specs.Hints.{hint_less}
 use Rattle.fallible_iterator.specs.SoundHints.{BoundsAbove, BoundsBelow, Brackets, AsSound, AsSoundAsBoth}
 
 -- a number that is no greater has the same upper bound
-pub no_greater : (o : Option ℕ) (i j : ℕ) → i ≤ j → IfSome o (λ n. j ≤ n) → IfSome o (λ n. i ≤ n)
-no_greater None i j le h = tt
-no_greater (Some n) i j le h = omega (arith, le, h)
+pub if_some_no_greater : (o : Option ℕ) (i j : ℕ) → i ≤ j → IfSome o (λ n. j ≤ n) → IfSome o (λ n. i ≤ n)
+if_some_no_greater None i j le h = tt
+if_some_no_greater (Some n) i j le h = omega (arith, le, h)
 
 -- a hint is its two bounds
-pub pair_is : {i j : ℕ} {o u : Option ℕ} → i ≡ j → o ≡ u → ◌≡◌ {A = ℕ × Option ℕ} (i, o) (j, u)
-pair_is e f = rw (e, f) refl
+pub pair_of_parts : {i j : ℕ} {o u : Option ℕ} → i ≡ j → o ≡ u → ◌≡◌ {A = ℕ × Option ℕ} (i, o) (j, u)
+pair_of_parts e f = rw (e, f) refl
 
 -- runs one after another
 pub yields_after : {S A E : Type 0} (steps : S → Answered A E → S → Type 0) (xs ys : List A) (s t u : S) → Yields steps s xs t → Yields steps t ys u → Yields steps s (xs ++ ys) u
@@ -20,8 +20,8 @@ yields_after steps [] ys s t u e h = subst (λ v. Yields steps v ys u) (sym e) h
 yields_after steps (x ∷ xs) ys s t u ran h = (ran.0, ran.1, yields_after steps xs ys ran.0 t u ran.2 h)
 
 -- a hint that is made as said
-pub made_of : {S A E : Type 0} (steps : S → Answered A E → S → Type 0) (s : S) {h k : ℕ × Option ℕ} → h ≡ k → Brackets steps s k → Brackets steps s h
-made_of steps s e b = subst (λ (j : ℕ × Option ℕ). Brackets steps s j) (sym e) b
+pub brackets_of_bounds : {S A E : Type 0} (steps : S → Answered A E → S → Type 0) (s : S) {h k : ℕ × Option ℕ} → h ≡ k → Brackets steps s k → Brackets steps s h
+brackets_of_bounds steps s e b = subst (λ (j : ℕ × Option ℕ). Brackets steps s j) (sym e) b
 
 -- bounds that are made each by itself of the source's
 module _ {S A E T B D : Type 0} (steps : S → Answered A E → S → Type 0) (source : T → Answered B D → T → Type 0) where
@@ -39,27 +39,27 @@ module _ {S A E T B D U C F : Type 0} (steps : S → Answered A E → S → Type
     below = λ a b. subst (λ (n : ℕ). BoundsBelow steps s n) (sym (ap (λ (z : ℕ × Option ℕ). z.0) is)) (kept (j.0, None) (k.0, None) (record { above = λ xs t ran. tt; below = a }) (record { above = λ xs t ran. tt; below = b })).below;
   }
 
-pub sides_swapped : {S A E T B D U C F : Type 0} {steps : S → Answered A E → S → Type 0} {s : S} {h : ℕ × Option ℕ} {left : T → Answered B D → T → Type 0} {it : T} {j : ℕ × Option ℕ} {right : U → Answered C F → U → Type 0} {other : U} {k : ℕ × Option ℕ} → AsSoundAsBoth steps s h left it j right other k → AsSoundAsBoth steps s h right other k left it j
-sides_swapped a = record { above = λ i j. a.above j i; below = λ i j. a.below j i }
+pub as_sound_as_both_swapped : {S A E T B D U C F : Type 0} {steps : S → Answered A E → S → Type 0} {s : S} {h : ℕ × Option ℕ} {left : T → Answered B D → T → Type 0} {it : T} {j : ℕ × Option ℕ} {right : U → Answered C F → U → Type 0} {other : U} {k : ℕ × Option ℕ} → AsSoundAsBoth steps s h left it j right other k → AsSoundAsBoth steps s h right other k left it j
+as_sound_as_both_swapped a = record { above = λ i j. a.above j i; below = λ i j. a.below j i }
 
 -- ---- hints that are sound whatever the source's are
 
 module _ {S A E : Type 0} (steps : S → Answered A E → S → Type 0) (s : S) where
   -- nothing is said
-  pub nothing_said : Brackets steps s (0, None)
-  nothing_said = record { above = λ xs t ran. tt; below = λ xs t u ran step. omega arith }
+  pub brackets_nothing_said : Brackets steps s (0, None)
+  brackets_nothing_said = record { above = λ xs t ran. tt; below = λ xs t u ran step. omega arith }
 
-  none_of : ((x : A) (t : S) → steps s (item x) t → ⊥) → (xs : List A) (t : S) → Yields steps s xs t → length xs ≤ 0
-  none_of never [] t ran = omega arith
-  none_of never (x ∷ xs) t ran = absurd (never x ran.0 ran.1)
+  length_none : ((x : A) (t : S) → steps s (item x) t → ⊥) → (xs : List A) (t : S) → Yields steps s xs t → length xs ≤ 0
+  length_none never [] t ran = omega arith
+  length_none never (x ∷ xs) t ran = absurd (never x ran.0 ran.1)
 
   -- no end comes of items alone
-  pub no_end : (low : ℕ) → ((xs : List A) (t u : S) → Yields steps s xs t → steps t end u → ⊥) → Brackets steps s (low, None)
-  no_end low never = record { above = λ xs t ran. tt; below = λ xs t u ran step. absurd (never xs t u ran step) }
+  pub brackets_no_end : (low : ℕ) → ((xs : List A) (t u : S) → Yields steps s xs t → steps t end u → ⊥) → Brackets steps s (low, None)
+  brackets_no_end low never = record { above = λ xs t ran. tt; below = λ xs t u ran step. absurd (never xs t u ran step) }
 
   -- no item comes first
-  pub no_item : ((x : A) (t : S) → steps s (item x) t → ⊥) → Brackets steps s (0, Some 0)
-  no_item never = record { above = none_of never; below = λ xs t u ran step. omega arith }
+  pub brackets_no_item : ((x : A) (t : S) → steps s (item x) t → ⊥) → Brackets steps s (0, Some 0)
+  brackets_no_item never = record { above = length_none never; below = λ xs t u ran step. omega arith }
 
 -- ---- a type whose values are seen as those of another
 
@@ -75,27 +75,27 @@ module _ {V P A E : Type 0} (view : V → P) (steps : V → Answered A E → V �
     below = λ xs t u ran step. b.below xs (view t) (view u) (yields_within xs s t ran) (each t end u step);
   }
 
-  pub sound_within : (s : V) (h : ℕ × Option ℕ) → AsSound steps s h others (view s) h
-  sound_within s h = as_sound steps others s (view s) (λ n. n) (λ o. o) (λ k b. brackets_within s k b) h h refl
+  pub as_sound_within : (s : V) (h : ℕ × Option ℕ) → AsSound steps s h others (view s) h
+  as_sound_within s h = as_sound steps others s (view s) (λ n. n) (λ o. o) (λ k b. brackets_within s k b) h h refl
 
 module _ {V P A E : Type 0} (view : V → P) (steps : P → Answered A E → P → Type 0) where
-  abbrev seen : V → Answered A E → V → Type 0
-  seen u r v = steps (view u) r (view v)
+  abbrev seen_step : V → Answered A E → V → Type 0
+  seen_step u r v = steps (view u) r (view v)
 
-  pub brackets_seen : (s : V) (h : ℕ × Option ℕ) → Brackets steps (view s) h → Brackets seen s h
-  brackets_seen s h b = brackets_within view seen steps (λ u r v step. step) s h b
+  pub brackets_seen : (s : V) (h : ℕ × Option ℕ) → Brackets steps (view s) h → Brackets seen_step s h
+  brackets_seen s h b = brackets_within view seen_step steps (λ u r v step. step) s h b
 
-  pub above_seen : (s : V) (o : Option ℕ) → BoundsAbove steps (view s) o → BoundsAbove seen s o
-  above_seen s o b xs t ran = b xs (view t) (yields_within view seen steps (λ u r v step. step) xs s t ran)
+  pub bounds_above_seen : (s : V) (o : Option ℕ) → BoundsAbove steps (view s) o → BoundsAbove seen_step s o
+  bounds_above_seen s o b xs t ran = b xs (view t) (yields_within view seen_step steps (λ u r v step. step) xs s t ran)
 
-  below_seen : (s : V) (n : ℕ) → BoundsBelow steps (view s) n → BoundsBelow seen s n
-  below_seen s n b xs t u ran step = b xs (view t) (view u) (yields_within view seen steps (λ u r v step. step) xs s t ran) step
+  bounds_below_seen : (s : V) (n : ℕ) → BoundsBelow steps (view s) n → BoundsBelow seen_step s n
+  bounds_below_seen s n b xs t u ran step = b xs (view t) (view u) (yields_within view seen_step steps (λ u r v step. step) xs s t ran) step
 
-  pub sound_seen : {T B D : Type 0} {source : T → Answered B D → T → Type 0} {it : T} {k : ℕ × Option ℕ} (s : V) (h : ℕ × Option ℕ) → AsSound steps (view s) h source it k → AsSound seen s h source it k
-  sound_seen s h a = record { above = λ i. above_seen s h.1 (a.above i); below = λ i. below_seen s h.0 (a.below i) }
+  pub as_sound_seen : {T B D : Type 0} {source : T → Answered B D → T → Type 0} {it : T} {k : ℕ × Option ℕ} (s : V) (h : ℕ × Option ℕ) → AsSound steps (view s) h source it k → AsSound seen_step s h source it k
+  as_sound_seen s h a = record { above = λ i. bounds_above_seen s h.1 (a.above i); below = λ i. bounds_below_seen s h.0 (a.below i) }
 
-  pub sound_seen_of_both : {T B D U C F : Type 0} {left : T → Answered B D → T → Type 0} {it : T} {j : ℕ × Option ℕ} {right : U → Answered C F → U → Type 0} {other : U} {k : ℕ × Option ℕ} (s : V) (h : ℕ × Option ℕ) → AsSoundAsBoth steps (view s) h left it j right other k → AsSoundAsBoth seen s h left it j right other k
-  sound_seen_of_both s h a = record { above = λ i j. above_seen s h.1 (a.above i j); below = λ i j. below_seen s h.0 (a.below i j) }
+  pub as_sound_as_both_seen : {T B D U C F : Type 0} {left : T → Answered B D → T → Type 0} {it : T} {j : ℕ × Option ℕ} {right : U → Answered C F → U → Type 0} {other : U} {k : ℕ × Option ℕ} (s : V) (h : ℕ × Option ℕ) → AsSoundAsBoth steps (view s) h left it j right other k → AsSoundAsBoth seen_step s h left it j right other k
+  as_sound_as_both_seen s h a = record { above = λ i j. bounds_above_seen s h.1 (a.above i j); below = λ i j. bounds_below_seen s h.0 (a.below i j) }
 
 -- ---- a value that draws from a source
 
@@ -113,50 +113,50 @@ module _ {S T A B E D : Type 0} (steps : S → Answered A E → S → Type 0) (s
     pub item_drawn : ItemOfItem
     pub end_drawn : (s t : S) → P s → steps s end t → source (view s) end (view t)
 
-  many : ItemsOfItems → (xs : List A) (s t : S) → P s → Yields steps s xs t → (ys : List B) × Yields source (view s) ys (view t) × (length xs ≤ length ys)
-  many f [] s t p e = ([], ap view e, omega arith)
-  many f (x ∷ xs) s t p ran =
+  yields_at_least : ItemsOfItems → (xs : List A) (s t : S) → P s → Yields steps s xs t → (ys : List B) × Yields source (view s) ys (view t) × (length xs ≤ length ys)
+  yields_at_least f [] s t p e = ([], ap view e, omega arith)
+  yields_at_least f (x ∷ xs) s t p ran =
       let d = f.drawn s ran.0 x p ran.1 in
-      let rest = many f xs ran.0 t d.3 ran.2 in
+      let rest = yields_at_least f xs ran.0 t d.3 ran.2 in
       (d.0 ++ rest.0, yields_after source d.0 rest.0 (view s) (view ran.0) (view t) d.1 rest.1, omega (arith, length-append d.0 rest.0, d.2, rest.2))
 
   -- the source's upper bound is one of the value
-  pub above_of_source : ItemsOfItems → (s : S) → P s → (o : Option ℕ) → BoundsAbove source (view s) o → BoundsAbove steps s o
-  above_of_source f s p o b xs t ran = let d = many f xs s t p ran in no_greater o (length xs) (length d.0) d.2 (b d.0 (view t) d.1)
+  pub bounds_above_of_source : ItemsOfItems → (s : S) → P s → (o : Option ℕ) → BoundsAbove source (view s) o → BoundsAbove steps s o
+  bounds_above_of_source f s p o b xs t ran = let d = yields_at_least f xs s t p ran in if_some_no_greater o (length xs) (length d.0) d.2 (b d.0 (view t) d.1)
 
   -- so it is alone
-  upper_brackets : ItemsOfItems → (s : S) → P s → (k : ℕ × Option ℕ) → Brackets source (view s) k → Brackets steps s (0, k.1)
-  upper_brackets f s p k b = record { above = above_of_source f s p k.1 b.above; below = λ xs t u ran step. omega arith }
+  brackets_upper : ItemsOfItems → (s : S) → P s → (k : ℕ × Option ℕ) → Brackets source (view s) k → Brackets steps s (0, k.1)
+  brackets_upper f s p k b = record { above = bounds_above_of_source f s p k.1 b.above; below = λ xs t u ran step. omega arith }
 
-  pub upper_sound : ItemsOfItems → (s : S) → P s → (k h : ℕ × Option ℕ) → h ≡ (0, k.1) → AsSound steps s h source (view s) k
-  upper_sound f s p k h is = as_sound steps source s (view s) (λ n. 0) (λ o. o) (λ j b. upper_brackets f s p j b) h k is
+  pub as_sound_upper : ItemsOfItems → (s : S) → P s → (k h : ℕ × Option ℕ) → h ≡ (0, k.1) → AsSound steps s h source (view s) k
+  as_sound_upper f s p k h is = as_sound steps source s (view s) (λ n. 0) (λ o. o) (λ j b. brackets_upper f s p j b) h k is
 
-  pub as_many : ItemOfItem → (xs : List A) (s t : S) → P s → Yields steps s xs t → (ys : List B) × Yields source (view s) ys (view t) × (length ys ≡ length xs) × P t
-  as_many f [] s t p e = ([], ap view e, refl, subst P e p)
-  as_many f (x ∷ xs) s t p ran =
+  pub yields_as_many : ItemOfItem → (xs : List A) (s t : S) → P s → Yields steps s xs t → (ys : List B) × Yields source (view s) ys (view t) × (length ys ≡ length xs) × P t
+  yields_as_many f [] s t p e = ([], ap view e, refl, subst P e p)
+  yields_as_many f (x ∷ xs) s t p ran =
       let d = f s ran.0 x p ran.1 in
-      let rest = as_many f xs ran.0 t d.2 ran.2 in
+      let rest = yields_as_many f xs ran.0 t d.2 ran.2 in
       (d.0 ∷ rest.0, (view ran.0, d.1, rest.1), omega (arith, rest.2), rest.3)
 
   -- the source's hint is one of the value
-  pub same_brackets : OneOfOne → (s : S) → P s → (h : ℕ × Option ℕ) → Brackets source (view s) h → Brackets steps s h
-  same_brackets f s p h b = record {
-    above = λ xs t ran. let d = as_many f.item_drawn xs s t p ran in no_greater h.1 (length xs) (length d.0) (omega (arith, d.2)) (b.above d.0 (view t) d.1);
-    below = λ xs t u ran step. let d = as_many f.item_drawn xs s t p ran in let le = b.below d.0 (view t) (view u) d.1 (f.end_drawn t u d.3 step) in omega (arith, d.2, le);
+  pub brackets_same : OneOfOne → (s : S) → P s → (h : ℕ × Option ℕ) → Brackets source (view s) h → Brackets steps s h
+  brackets_same f s p h b = record {
+    above = λ xs t ran. let d = yields_as_many f.item_drawn xs s t p ran in if_some_no_greater h.1 (length xs) (length d.0) (omega (arith, d.2)) (b.above d.0 (view t) d.1);
+    below = λ xs t u ran step. let d = yields_as_many f.item_drawn xs s t p ran in let le = b.below d.0 (view t) (view u) d.1 (f.end_drawn t u d.3 step) in omega (arith, d.2, le);
   }
 
-  pub same_sound : OneOfOne → (s : S) → P s → (h : ℕ × Option ℕ) → AsSound steps s h source (view s) h
-  same_sound f s p h = as_sound steps source s (view s) (λ n. n) (λ o. o) (λ k b. same_brackets f s p k b) h h refl
+  pub as_sound_same : OneOfOne → (s : S) → P s → (h : ℕ × Option ℕ) → AsSound steps s h source (view s) h
+  as_sound_same f s p h = as_sound steps source s (view s) (λ n. n) (λ o. o) (λ k b. brackets_same f s p k b) h h refl
 
 -- ---- after a run of items
 
-above_after : (o : Option ℕ) (i j n : ℕ) → n ≡ i + j → IfSome o (λ u. n ≤ u) → IfSome (option_map (λ u. u - i) o) (λ u. j ≤ u)
-above_after None i j n same le = tt
-above_after (Some u) i j n same le = omega (arith, same, le)
+if_some_less_after : (o : Option ℕ) (i j n : ℕ) → n ≡ i + j → IfSome o (λ u. n ≤ u) → IfSome (option_map (λ u. u - i) o) (λ u. j ≤ u)
+if_some_less_after None i j n same le = tt
+if_some_less_after (Some u) i j n same le = omega (arith, same, le)
 
 module _ {S A E : Type 0} (steps : S → Answered A E → S → Type 0) where
   pub brackets_after : (s t : S) (xs : List A) (h : ℕ × Option ℕ) → Brackets steps s h → Yields steps s xs t → Brackets steps t (hint_less (length xs) h)
   brackets_after s t xs h b ran = record {
-    above = λ ys u more. above_after h.1 (length xs) (length ys) (length (xs ++ ys)) (length-append xs ys) (b.above (xs ++ ys) u (yields_after steps xs ys s t u ran more));
+    above = λ ys u more. if_some_less_after h.1 (length xs) (length ys) (length (xs ++ ys)) (length-append xs ys) (b.above (xs ++ ys) u (yields_after steps xs ys s t u ran more));
     below = λ ys u v more step. let le = b.below (xs ++ ys) u v (yields_after steps xs ys s t u ran more) step in omega (arith, le, length-append xs ys);
   }

@@ -9,32 +9,32 @@ use Rattle.fallible_core.specs.Joining.Chain.{chain_step, chain_hints}
 use Rattle.fallible_core.specs.Joining.Cycle.{cycle_step}
 use Rattle.fallible_core.specs.Joining.Zip.{ZipPlace, left_failed, both_drawn, left_answer, zip_answer, right_step, zip_step}
 use Rattle.fallible_iterator.specs.SoundHints.{BoundsAbove, BoundsBelow, Brackets, AsSound, AsSoundAsBoth}
-use Rattle.fallible_iterator.proofs.Lemmas.Hints.Drawn.{as_sound_as_both, OneOfOne, ItemOfItem, pair_is, as_many, no_end, nothing_said}
+use Rattle.fallible_iterator.proofs.Lemmas.Hints.Drawn.{as_sound_as_both, OneOfOne, ItemOfItem, pair_of_parts, yields_as_many, brackets_no_end, brackets_nothing_said}
 use Rattle.std.specs.declared.alloc.AllocError.{AllocError}
 use Rattle.fallible_core.specs.declared.joining.chain.StillDrawn.{StillDrawn}
 use Rattle.fallible_core.specs.declared.joining.chain.StillDrawn.TheVariants.{Both, FirstAlone, SecondAlone}
 
 -- the sums are the same whichever side is named first
-sum_of_swapped : (f b : Option ℕ) → fitting_sum f b ≡ fitting_sum b f
-sum_of_swapped (Some x) (Some y) = let same : x + y ≡ y + x = omega arith in ap (λ (n : ℕ). cond (ltb n (2 ^ 64)) (Some n) None) same
-sum_of_swapped (Some x) None = refl
-sum_of_swapped None (Some y) = refl
-sum_of_swapped None None = refl
+fitting_sum_swapped : (f b : Option ℕ) → fitting_sum f b ≡ fitting_sum b f
+fitting_sum_swapped (Some x) (Some y) = let same : x + y ≡ y + x = omega arith in ap (λ (n : ℕ). cond (ltb n (2 ^ 64)) (Some n) None) same
+fitting_sum_swapped (Some x) None = refl
+fitting_sum_swapped None (Some y) = refl
+fitting_sum_swapped None None = refl
 
-pub sum_swapped : (f b : ℕ × Option ℕ) → hint_sum f b ≡ hint_sum b f
-sum_swapped f b = pair_is (omega arith) (sum_of_swapped f.1 b.1)
+pub hint_sum_swapped : (f b : ℕ × Option ℕ) → hint_sum f b ≡ hint_sum b f
+hint_sum_swapped f b = pair_of_parts (omega arith) (fitting_sum_swapped f.1 b.1)
 
-sum_fits : (x y i : ℕ) → i ≤ x + y → IfSome (fitting_sum (Some x) (Some y)) (λ n. i ≤ n)
-sum_fits x y i le = elim (cases_lt (x + y) (2 ^ 64)) [
+if_some_fitting_sum : (x y i : ℕ) → i ≤ x + y → IfSome (fitting_sum (Some x) (Some y)) (λ n. i ≤ n)
+if_some_fitting_sum x y i le = elim (cases_lt (x + y) (2 ^ 64)) [
   | inl fits ↦ rw (lt-ltb (x + y) (2 ^ 64) fits) le
   | inr past ↦ rw (le-ltb (x + y) (2 ^ 64) past) tt
 ]
 
 -- the sum of bounds bounds the sum
-pub sum_above : (f b : Option ℕ) (i j n : ℕ) → n ≡ i + j → IfSome f (λ m. i ≤ m) → IfSome b (λ m. j ≤ m) → IfSome (fitting_sum f b) (λ m. n ≤ m)
-sum_above (Some x) (Some y) i j n same le ge = sum_fits x y n (omega (arith, same, le, ge))
-sum_above (Some x) None i j n same le ge = tt
-sum_above None b i j n same le ge = tt
+pub if_some_fitting_sum_above : (f b : Option ℕ) (i j n : ℕ) → n ≡ i + j → IfSome f (λ m. i ≤ m) → IfSome b (λ m. j ≤ m) → IfSome (fitting_sum f b) (λ m. n ≤ m)
+if_some_fitting_sum_above (Some x) (Some y) i j n same le ge = if_some_fitting_sum x y n (omega (arith, same, le, ge))
+if_some_fitting_sum_above (Some x) None i j n same le ge = tt
+if_some_fitting_sum_above None b i j n same le ge = tt
 
 -- ---- `Chain`
 
@@ -48,23 +48,23 @@ module _ {S U A E : Type 0} (steps : S → Answered A E → S → Type 0) (other
   first_item (s, u, FirstAlone) q r e w = (w.0, w.2)
   first_item (s, u, SecondAlone) q r e w = absurd cc
 
-  pub first_one : OneOfOne chained_step steps (λ p. p.0) (λ p. p.2 ≡ FirstAlone)
-  first_one = record { item_drawn = λ p q x e w. let d = first_item p q (item x) e w in (x, d.0, d.1); end_drawn = λ p q e w. (first_item p q end e w).0 }
+  pub one_of_one_first : OneOfOne chained_step steps (λ p. p.0) (λ p. p.2 ≡ FirstAlone)
+  one_of_one_first = record { item_drawn = λ p q x e w. let d = first_item p q (item x) e w in (x, d.0, d.1); end_drawn = λ p q e w. (first_item p q end e w).0 }
 
   second_item : (p q : S × U × StillDrawn) (r : Answered A E) → p.2 ≡ SecondAlone → chained_step p r q → others p.1 r q.1 × (q.2 ≡ SecondAlone)
   second_item (s, u, Both) q r e w = absurd cc
   second_item (s, u, FirstAlone) q r e w = absurd cc
   second_item (s, u, SecondAlone) q r e w = (w.0, w.2)
 
-  pub second_one : OneOfOne chained_step others (λ p. p.1) (λ p. p.2 ≡ SecondAlone)
-  second_one = record { item_drawn = λ p q x e w. let d = second_item p q (item x) e w in (x, d.0, d.1); end_drawn = λ p q e w. (second_item p q end e w).0 }
+  pub one_of_one_second : OneOfOne chained_step others (λ p. p.1) (λ p. p.2 ≡ SecondAlone)
+  one_of_one_second = record { item_drawn = λ p q x e w. let d = second_item p q (item x) e w in (x, d.0, d.1); end_drawn = λ p q e w. (second_item p q end e w).0 }
 
   -- the first stays as it is once its end was met
-  first_stays : (xs : List A) (p q : S × U × StillDrawn) → p.2 ≡ SecondAlone → Yields chained_step p xs q → q.0 ≡ p.0
-  first_stays [] p q e ran = sym (ap (λ (z : S × U × StillDrawn). z.0) ran)
-  first_stays (x ∷ xs) (s, u, Both) q e ran = absurd cc
-  first_stays (x ∷ xs) (s, u, FirstAlone) q e ran = absurd cc
-  first_stays (x ∷ xs) (s, u, SecondAlone) q e ran = first_stays xs ran.0 q ran.1.2 ran.2 ∙ ran.1.1
+  first_stays_in_second_alone : (xs : List A) (p q : S × U × StillDrawn) → p.2 ≡ SecondAlone → Yields chained_step p xs q → q.0 ≡ p.0
+  first_stays_in_second_alone [] p q e ran = sym (ap (λ (z : S × U × StillDrawn). z.0) ran)
+  first_stays_in_second_alone (x ∷ xs) (s, u, Both) q e ran = absurd cc
+  first_stays_in_second_alone (x ∷ xs) (s, u, FirstAlone) q e ran = absurd cc
+  first_stays_in_second_alone (x ∷ xs) (s, u, SecondAlone) q e ran = first_stays_in_second_alone xs ran.0 q ran.1.2 ran.2 ∙ ran.1.1
 
   -- A run of items of a chain of which both sides were still drawn: the first alone was drawn, or it met its end, and the second was drawn.
   record InFront (s : S) (u : U) (n : ℕ) (q : S × U × StillDrawn) : Type 0 where
@@ -84,52 +84,52 @@ module _ {S U A E : Type 0} (steps : S → Answered A E → S → Type 0) (other
     many : n ≡ length of_first + length of_second
     second : q.2 ≡ SecondAlone
 
-  in_front : (x : A) (s t : S) (u : U) (n : ℕ) (q : S × U × StillDrawn) → steps s (item x) t → InFront t u n q ⊎ InBack t u n q → InFront s u (suc n) q ⊎ InBack s u (suc n) q
-  in_front x s t u n q step (inl d) = inl (record { of_first = x ∷ d.of_first; ran = (t, step, d.ran); many = omega (arith, d.many); undrawn = d.undrawn; both = d.both })
-  in_front x s t u n q step (inr d) = inr (record { of_first = x ∷ d.of_first; of_second = d.of_second; after = d.after; ran = (t, step, d.ran); ended = d.ended; ran_second = d.ran_second; many = omega (arith, d.many); second = d.second })
+  in_front_or_in_back : (x : A) (s t : S) (u : U) (n : ℕ) (q : S × U × StillDrawn) → steps s (item x) t → InFront t u n q ⊎ InBack t u n q → InFront s u (suc n) q ⊎ InBack s u (suc n) q
+  in_front_or_in_back x s t u n q step (inl d) = inl (record { of_first = x ∷ d.of_first; ran = (t, step, d.ran); many = omega (arith, d.many); undrawn = d.undrawn; both = d.both })
+  in_front_or_in_back x s t u n q step (inr d) = inr (record { of_first = x ∷ d.of_first; of_second = d.of_second; after = d.after; ran = (t, step, d.ran); ended = d.ended; ran_second = d.ran_second; many = omega (arith, d.many); second = d.second })
 
-  runs : (xs : List A) (p : S × U × StillDrawn) (q : S × U × StillDrawn) → p.2 ≡ Both → Yields chained_step p xs q → InFront p.0 p.1 (length xs) q ⊎ InBack p.0 p.1 (length xs) q
-  runs [] p q e ran = inl (record { of_first = []; ran = ap (λ (z : S × U × StillDrawn). z.0) ran; many = refl; undrawn = sym (ap (λ (z : S × U × StillDrawn). z.1) ran); both = subst (λ (z : S × U × StillDrawn). z.2 ≡ Both) ran e })
-  runs (x ∷ xs) (s, u, FirstAlone) q e ran = absurd cc
-  runs (x ∷ xs) (s, u, SecondAlone) q e ran = absurd cc
-  runs (x ∷ xs) (s, u, Both) q e ran = elim ran.1 [
-    | inl d ↦ in_front x s ran.0.0 u (length xs) q d.0 (subst (λ (v : U). InFront ran.0.0 v (length xs) q ⊎ InBack ran.0.0 v (length xs) q) d.2 (runs xs ran.0 q d.3 ran.2))
+  in_front_or_in_back_of_run : (xs : List A) (p : S × U × StillDrawn) (q : S × U × StillDrawn) → p.2 ≡ Both → Yields chained_step p xs q → InFront p.0 p.1 (length xs) q ⊎ InBack p.0 p.1 (length xs) q
+  in_front_or_in_back_of_run [] p q e ran = inl (record { of_first = []; ran = ap (λ (z : S × U × StillDrawn). z.0) ran; many = refl; undrawn = sym (ap (λ (z : S × U × StillDrawn). z.1) ran); both = subst (λ (z : S × U × StillDrawn). z.2 ≡ Both) ran e })
+  in_front_or_in_back_of_run (x ∷ xs) (s, u, FirstAlone) q e ran = absurd cc
+  in_front_or_in_back_of_run (x ∷ xs) (s, u, SecondAlone) q e ran = absurd cc
+  in_front_or_in_back_of_run (x ∷ xs) (s, u, Both) q e ran = elim ran.1 [
+    | inl d ↦ in_front_or_in_back x s ran.0.0 u (length xs) q d.0 (subst (λ (v : U). InFront ran.0.0 v (length xs) q ⊎ InBack ran.0.0 v (length xs) q) d.2 (in_front_or_in_back_of_run xs ran.0 q d.3 ran.2))
     | inr d ↦
-        let rest = as_many chained_step others (λ p. p.1) (λ p. p.2 ≡ SecondAlone) second_one.item_drawn xs ran.0 q d.2 ran.2 in
-        let stays : q.0 ≡ ran.0.0 = first_stays xs ran.0 q d.2 ran.2 in
+        let rest = yields_as_many chained_step others (λ p. p.1) (λ p. p.2 ≡ SecondAlone) one_of_one_second.item_drawn xs ran.0 q d.2 ran.2 in
+        let stays : q.0 ≡ ran.0.0 = first_stays_in_second_alone xs ran.0 q d.2 ran.2 in
         inr (record { of_first = []; of_second = x ∷ rest.0; after = s; ran = refl; ended = subst (λ (t : S). steps s end t) (sym stays) d.0; ran_second = (ran.0.1, d.1, rest.1); many = omega (arith, rest.2); second = rest.3 })
   ]
 
   -- ---- bounds
 
-  ended_both : (p q : S × U × StillDrawn) → p.2 ≡ Both → chained_step p end q → steps p.0 end q.0 × others p.1 end q.1
-  ended_both (s, u, Both) q e w = elim w [ inl d ↦ absurd (let no : is_end {A = A} {E = E} end ≡ false = d.1 in cc) | inr d ↦ (d.0, d.1) ]
-  ended_both (s, u, FirstAlone) q e w = absurd cc
-  ended_both (s, u, SecondAlone) q e w = absurd cc
+  ends_of_both : (p q : S × U × StillDrawn) → p.2 ≡ Both → chained_step p end q → steps p.0 end q.0 × others p.1 end q.1
+  ends_of_both (s, u, Both) q e w = elim w [ inl d ↦ absurd (let no : is_end {A = A} {E = E} end ≡ false = d.1 in cc) | inr d ↦ (d.0, d.1) ]
+  ends_of_both (s, u, FirstAlone) q e w = absurd cc
+  ends_of_both (s, u, SecondAlone) q e w = absurd cc
 
-  both_above : (p q : S × U × StillDrawn) (f b : ℕ × Option ℕ) (n : ℕ) → Brackets steps p.0 f → Brackets others p.1 b → InFront p.0 p.1 n q ⊎ InBack p.0 p.1 n q → IfSome (hint_sum f b).1 (λ m. n ≤ m)
-  both_above p q f b n i j (inl d) = sum_above f.1 b.1 n 0 n (omega arith) (subst (λ (k : ℕ). IfSome f.1 (λ m. k ≤ m)) (sym d.many) (i.above d.of_first q.0 d.ran)) (j.above [] p.1 refl)
-  both_above p q f b n i j (inr d) = sum_above f.1 b.1 (length d.of_first) (length d.of_second) n d.many (i.above d.of_first d.after d.ran) (j.above d.of_second q.1 d.ran_second)
+  hint_sum_above : (p q : S × U × StillDrawn) (f b : ℕ × Option ℕ) (n : ℕ) → Brackets steps p.0 f → Brackets others p.1 b → InFront p.0 p.1 n q ⊎ InBack p.0 p.1 n q → IfSome (hint_sum f b).1 (λ m. n ≤ m)
+  hint_sum_above p q f b n i j (inl d) = if_some_fitting_sum_above f.1 b.1 n 0 n (omega arith) (subst (λ (k : ℕ). IfSome f.1 (λ m. k ≤ m)) (sym d.many) (i.above d.of_first q.0 d.ran)) (j.above [] p.1 refl)
+  hint_sum_above p q f b n i j (inr d) = if_some_fitting_sum_above f.1 b.1 (length d.of_first) (length d.of_second) n d.many (i.above d.of_first d.after d.ran) (j.above d.of_second q.1 d.ran_second)
 
-  both_below : (p q z : S × U × StillDrawn) (f b : ℕ × Option ℕ) (n : ℕ) → Brackets steps p.0 f → Brackets others p.1 b → InFront p.0 p.1 n q ⊎ InBack p.0 p.1 n q → chained_step q end z → f.0 + b.0 ≤ n
-  both_below p q z f b n i j (inl d) w =
-      let e = ended_both q z d.both w in
+  hint_sum_below : (p q z : S × U × StillDrawn) (f b : ℕ × Option ℕ) (n : ℕ) → Brackets steps p.0 f → Brackets others p.1 b → InFront p.0 p.1 n q ⊎ InBack p.0 p.1 n q → chained_step q end z → f.0 + b.0 ≤ n
+  hint_sum_below p q z f b n i j (inl d) w =
+      let e = ends_of_both q z d.both w in
       let le = i.below d.of_first q.0 z.0 d.ran e.0 in
       let ge : b.0 ≤ 0 = j.below [] p.1 z.1 refl (subst (λ (v : U). others v end z.1) d.undrawn e.1) in
       omega (arith, le, ge, d.many)
-  both_below p q z f b n i j (inr d) w =
+  hint_sum_below p q z f b n i j (inr d) w =
       let le = i.below d.of_first d.after q.0 d.ran d.ended in
       let ge = j.below d.of_second q.1 z.1 d.ran_second (second_item q z end d.second w).0 in
       omega (arith, le, ge, d.many)
 
-  pub both_brackets : (p : S × U × StillDrawn) (f b : ℕ × Option ℕ) → p.2 ≡ Both → Brackets steps p.0 f → Brackets others p.1 b → Brackets chained_step p (hint_sum f b)
-  both_brackets p f b e i j = record {
-    above = λ xs q ran. both_above p q f b (length xs) i j (runs xs p q e ran);
-    below = λ xs q z ran w. let le = both_below p q z f b (length xs) i j (runs xs p q e ran) w in omega (arith, le);
+  pub brackets_both : (p : S × U × StillDrawn) (f b : ℕ × Option ℕ) → p.2 ≡ Both → Brackets steps p.0 f → Brackets others p.1 b → Brackets chained_step p (hint_sum f b)
+  brackets_both p f b e i j = record {
+    above = λ xs q ran. hint_sum_above p q f b (length xs) i j (in_front_or_in_back_of_run xs p q e ran);
+    below = λ xs q z ran w. let le = hint_sum_below p q z f b (length xs) i j (in_front_or_in_back_of_run xs p q e ran) w in omega (arith, le);
   }
 
-  pub both_sound : (p : S × U × StillDrawn) (h f b : ℕ × Option ℕ) → p.2 ≡ Both → h ≡ hint_sum f b → AsSoundAsBoth chained_step p h steps p.0 f others p.1 b
-  both_sound p h f b e is = as_sound_as_both chained_step steps others p p.0 p.1 (λ i j. min (i + j) (2 ^ 64 - 1)) fitting_sum (λ j k i l. both_brackets p j k e i l) h f b is
+  pub as_sound_as_both_of_joining : (p : S × U × StillDrawn) (h f b : ℕ × Option ℕ) → p.2 ≡ Both → h ≡ hint_sum f b → AsSoundAsBoth chained_step p h steps p.0 f others p.1 b
+  as_sound_as_both_of_joining p h f b e is = as_sound_as_both chained_step steps others p p.0 p.1 (λ i j. min (i + j) (2 ^ 64 - 1)) fitting_sum (λ j k i l. brackets_both p j k e i l) h f b is
 
 module _ {S U A E : Type 0} (first : Contract S A E) (second : Contract U A E) where
   -- what its hints are made of, by the sides that are still drawn
@@ -168,34 +168,34 @@ module _ {S U A B E : Type 0} (steps : S → Answered A E → S → Type 0) (oth
   end_pair p q (both_drawn (Some a) (Ok None)) l r is = inr r
   end_pair p q (both_drawn None (Ok y)) l r is = inl l
 
-  left_item : ItemOfItem zipped_step steps (λ p. p.0) (λ p. ⊤)
-  left_item p q z _ w = let d = (item_pair p q z w.0 w.1 w.2 w.3).0 in (d.0, d.1, tt)
+  item_of_item_left : ItemOfItem zipped_step steps (λ p. p.0) (λ p. ⊤)
+  item_of_item_left p q z _ w = let d = (item_pair p q z w.0 w.1 w.2 w.3).0 in (d.0, d.1, tt)
 
-  right_item : ItemOfItem zipped_step others (λ p. p.1) (λ p. ⊤)
-  right_item p q z _ w = let d = (item_pair p q z w.0 w.1 w.2 w.3).1 in (d.0, d.1, tt)
+  item_of_item_right : ItemOfItem zipped_step others (λ p. p.1) (λ p. ⊤)
+  item_of_item_right p q z _ w = let d = (item_pair p q z w.0 w.1 w.2 w.3).1 in (d.0, d.1, tt)
 
   smaller_above : (g k : Option ℕ) (i j n : ℕ) → i ≡ n → j ≡ n → IfSome g (λ m. i ≤ m) → IfSome k (λ m. j ≤ m) → IfSome (smaller_bound g k) (λ m. n ≤ m)
   smaller_above (Some x) (Some y) i j n e d le ge = omega (arith, e, d, le, ge)
   smaller_above (Some x) None i j n e d le ge = omega (arith, e, le)
   smaller_above None k i j n e d le ge = subst (λ (m : ℕ). IfSome k (λ y. m ≤ y)) d ge
 
-  pub zip_brackets : (p : S × U) (g k : ℕ × Option ℕ) → Brackets steps p.0 g → Brackets others p.1 k → Brackets zipped_step p (hint_smaller g k)
-  zip_brackets p g k i j = record {
+  pub brackets_zip : (p : S × U) (g k : ℕ × Option ℕ) → Brackets steps p.0 g → Brackets others p.1 k → Brackets zipped_step p (hint_smaller g k)
+  brackets_zip p g k i j = record {
     above = λ zs q ran.
-        let a = as_many zipped_step steps (λ p. p.0) (λ p. ⊤) left_item zs p q tt ran in
-        let b = as_many zipped_step others (λ p. p.1) (λ p. ⊤) right_item zs p q tt ran in
+        let a = yields_as_many zipped_step steps (λ p. p.0) (λ p. ⊤) item_of_item_left zs p q tt ran in
+        let b = yields_as_many zipped_step others (λ p. p.1) (λ p. ⊤) item_of_item_right zs p q tt ran in
         smaller_above g.1 k.1 (length a.0) (length b.0) (length zs) a.2 b.2 (i.above a.0 q.0 a.1) (j.above b.0 q.1 b.1);
     below = λ zs q y ran w.
-        let a = as_many zipped_step steps (λ p. p.0) (λ p. ⊤) left_item zs p q tt ran in
-        let b = as_many zipped_step others (λ p. p.1) (λ p. ⊤) right_item zs p q tt ran in
+        let a = yields_as_many zipped_step steps (λ p. p.0) (λ p. ⊤) item_of_item_left zs p q tt ran in
+        let b = yields_as_many zipped_step others (λ p. p.1) (λ p. ⊤) item_of_item_right zs p q tt ran in
         elim (end_pair q y w.0 w.1 w.2 w.3) [
           | inl l ↦ let le = i.below a.0 q.0 y.0 a.1 l in omega (arith, le, a.2)
           | inr r ↦ let le = j.below b.0 q.1 y.1 b.1 r in omega (arith, le, b.2)
         ];
   }
 
-  pub zip_sound : (p : S × U) (h g k : ℕ × Option ℕ) → h ≡ hint_smaller g k → AsSoundAsBoth zipped_step p h steps p.0 g others p.1 k
-  zip_sound p h g k is = as_sound_as_both zipped_step steps others p p.0 p.1 min smaller_bound (λ f b i j. zip_brackets p f b i j) h g k is
+  pub as_sound_as_both_zip : (p : S × U) (h g k : ℕ × Option ℕ) → h ≡ hint_smaller g k → AsSoundAsBoth zipped_step p h steps p.0 g others p.1 k
+  as_sound_as_both_zip p h g k is = as_sound_as_both zipped_step steps others p p.0 p.1 min smaller_bound (λ f b i j. brackets_zip p f b i j) h g k is
 
 -- ---- `Cycle`
 
@@ -203,9 +203,9 @@ module _ {S A E : Type 0} (is_clone : S → S → Type 0) (is_infallible : S →
   abbrev cycled_step : S × S → Answered A E → S × S → Type 0
   cycled_step = cycle_step is_clone is_infallible from steps
 
-  kept_stays : (xs : List A) (p q : S × S) → Yields cycled_step p xs q → q.1 ≡ p.1
-  kept_stays [] p q ran = sym (ap (λ (z : S × S). z.1) ran)
-  kept_stays (x ∷ xs) p q ran = kept_stays xs ran.0 q ran.2 ∙ ran.1.0
+  cycle_kept_stays : (xs : List A) (p q : S × S) → Yields cycled_step p xs q → q.1 ≡ p.1
+  cycle_kept_stays [] p q ran = sym (ap (λ (z : S × S). z.1) ran)
+  cycle_kept_stays (x ∷ xs) p q ran = cycle_kept_stays xs ran.0 q ran.2 ∙ ran.1.0
 
   -- an end comes only where a clone returns one at once
   end_at_once : (p q : S × S) → cycled_step p end q → (c : S) × is_clone p.1 c × steps c end q.0
@@ -218,22 +218,22 @@ module _ {S A E : Type 0} (is_clone : S → S → Type 0) (is_infallible : S →
   ]
 
   -- where the lower bound bounds what comes from each clone of the kept source
-  pub cycle_brackets : (p : S × S) (k : ℕ × Option ℕ) → ((c : S) → is_clone p.1 c → BoundsBelow steps c k.0) → Brackets cycled_step p (cycle_hint k)
-  cycle_brackets p (zero, high) b = nothing_said cycled_step p
-  cycle_brackets p (suc low, high) b = no_end cycled_step p (2 ^ 64 - 1) (λ xs q z ran w.
+  pub brackets_cycle : (p : S × S) (k : ℕ × Option ℕ) → ((c : S) → is_clone p.1 c → BoundsBelow steps c k.0) → Brackets cycled_step p (cycle_hint k)
+  brackets_cycle p (zero, high) b = brackets_nothing_said cycled_step p
+  brackets_cycle p (suc low, high) b = brackets_no_end cycled_step p (2 ^ 64 - 1) (λ xs q z ran w.
       let d = end_at_once q z w in
-      let is : is_clone p.1 d.0 = subst (λ (k : S). is_clone k d.0) (kept_stays xs p q ran) d.1 in
+      let is : is_clone p.1 d.0 = subst (λ (k : S). is_clone k d.0) (cycle_kept_stays xs p q ran) d.1 in
       let few : suc low ≤ 0 = b d.0 is [] d.0 z.0 refl d.2 in
       omega (arith, few))
 
   -- it has no upper bound
-  cycle_above : (p : S × S) (k : ℕ × Option ℕ) → BoundsAbove cycled_step p (cycle_hint k).1
-  cycle_above p (zero, high) xs t ran = tt
-  cycle_above p (suc low, high) xs t ran = tt
+  bounds_above_cycle : (p : S × S) (k : ℕ × Option ℕ) → BoundsAbove cycled_step p (cycle_hint k).1
+  bounds_above_cycle p (zero, high) xs t ran = tt
+  bounds_above_cycle p (suc low, high) xs t ran = tt
 
   -- where each clone equals the kept source
-  pub cycle_sound : (p : S × S) (h k : ℕ × Option ℕ) → ((c : S) → is_clone p.1 c → c ≡ p.1) → h ≡ cycle_hint k → AsSound cycled_step p h steps p.1 k
-  cycle_sound p h k same is = record {
-    above = λ a. subst (λ (j : ℕ × Option ℕ). BoundsAbove cycled_step p j.1) (sym is) (cycle_above p k);
-    below = λ b. subst (λ (j : ℕ × Option ℕ). BoundsBelow cycled_step p j.0) (sym is) (cycle_brackets p k (λ c clone. subst (λ (s : S). BoundsBelow steps s k.0) (sym (same c clone)) b)).below;
+  pub as_sound_cycle : (p : S × S) (h k : ℕ × Option ℕ) → ((c : S) → is_clone p.1 c → c ≡ p.1) → h ≡ cycle_hint k → AsSound cycled_step p h steps p.1 k
+  as_sound_cycle p h k same is = record {
+    above = λ a. subst (λ (j : ℕ × Option ℕ). BoundsAbove cycled_step p j.1) (sym is) (bounds_above_cycle p k);
+    below = λ b. subst (λ (j : ℕ × Option ℕ). BoundsBelow cycled_step p j.0) (sym is) (brackets_cycle p k (λ c clone. subst (λ (s : S). BoundsBelow steps s k.0) (sym (same c clone)) b)).below;
   }

@@ -3,7 +3,7 @@ use Rattle.std.specs.Prelude.{◌≡◌, ◌≤◌, List, [], ◌∷◌, length,
 use Rattle.std.proofs.Common.{refl, arith}
 use Rattle.fallible_contract.specs.Traces.{Answered, Yields, item, end}
 use Rattle.fallible_contract.specs.Passing.{PassTrace, LeavesNoneOut}
-use Rattle.fallible_contract.specs.Laws.Passing.{Passes, done, end_passes, keeps, closes, leaves_out, to_passes}
+use Rattle.fallible_contract.specs.Laws.Passing.{Passes, done, end_passes, keeps, closes, leaves_out, passes_of_pass_trace}
 use Rattle.fallible_iterator.proofs.Lemmas.Hints.Drawn.{ItemsOfItems, OneOfOne}
 use Rattle.fallible_contract.proofs.Lemmas.Passing.{not_left_out}
 use Rattle.fallible_contract.specs.declared.passing.Outcome.{Outcome}
@@ -19,8 +19,8 @@ module _ {S F X R B E : Type 0} (steps : S → Answered X E → S → Type 0) (c
   item_of_items s t f g _ (keeps x v y step called is done) = (x ∷ [], (t, step, refl), omega arith)
   item_of_items s t f g y (leaves_out {u = u} {h = h} x v step called is rest) = let d = item_of_items u t h g y rest in (x ∷ d.0, (u, step, d.1), omega (arith, d.2))
 
-  pub passing_items : ItemsOfItems passing_step steps (λ p. p.0) (λ p. ⊤)
-  passing_items = record { drawn = λ p q y _ step. let d = item_of_items p.0 q.0 p.1 q.1 y (to_passes step) in (d.0, d.1, d.2, tt) }
+  pub items_of_items_passing : ItemsOfItems passing_step steps (λ p. p.0) (λ p. ⊤)
+  items_of_items_passing = record { drawn = λ p q y _ step. let d = item_of_items p.0 q.0 p.1 q.1 y (passes_of_pass_trace step) in (d.0, d.1, d.2, tt) }
 
   module _ (leaves_none_out : LeavesNoneOut outcome) (never_ends : (x : X) (v : R) → outcome x v ≡ End → ⊥) where
     item_of_item : (s t : S) (f g : F) (y : B) → Passes steps call outcome s f (item y ∷ []) t g → (x : X) × steps s (item x) t
@@ -33,8 +33,8 @@ module _ {S F X R B E : Type 0} (steps : S → Answered X E → S → Type 0) (c
     end_of_end s t f g (leaves_out x v step called is rest) = absurd (not_left_out outcome leaves_none_out x v is)
 
     -- where no answer leaves an item out or makes an end
-    pub passing_one : OneOfOne passing_step steps (λ p. p.0) (λ p. ⊤)
-    passing_one = record {
-      item_drawn = λ p q y _ step. let d = item_of_item p.0 q.0 p.1 q.1 y (to_passes step) in (d.0, d.1, tt);
-      end_drawn = λ p q _ step. end_of_end p.0 q.0 p.1 q.1 (to_passes step);
+    pub one_of_one_passing : OneOfOne passing_step steps (λ p. p.0) (λ p. ⊤)
+    one_of_one_passing = record {
+      item_drawn = λ p q y _ step. let d = item_of_item p.0 q.0 p.1 q.1 y (passes_of_pass_trace step) in (d.0, d.1, tt);
+      end_drawn = λ p q _ step. end_of_end p.0 q.0 p.1 q.1 (passes_of_pass_trace step);
     }

@@ -10,73 +10,73 @@ use Rattle.fallible_contract.specs.BothEnds.{items_listed}
 use Rattle.fallible_contract.specs.Held.{once_step, held_count}
 use Rattle.fallible_iterator.specs.Sources.Std.{std_step}
 use Rattle.fallible_iterator.specs.SoundHints.{BoundsAbove, Brackets, BracketsCalls, CountsDown, Bounds}
-use Rattle.fallible_iterator.proofs.Lemmas.Hints.Drawn.{no_item}
+use Rattle.fallible_iterator.proofs.Lemmas.Hints.Drawn.{brackets_no_item}
 
 -- ---- over a std iterator
 
 module _ {S A E Z : Type 0} (of_item : A → Z) (of_failure : E → Z) (can : S → Type 0) (gives : S → Option Z → S → Type 0) (remaining : S → Count) where
-  abbrev called : S → Answered A E → S → Type 0
-  called = std_step of_item of_failure can gives remaining
+  abbrev called_step : S → Answered A E → S → Type 0
+  called_step = std_step of_item of_failure can gives remaining
 
-  calls_of : (xs : List A) (s t : S) → Yields called s xs t → calls.Yields gives s (map of_item xs) t
-  calls_of [] s t e = e
-  calls_of (x ∷ xs) s t ran = (ran.0, ran.1.0, calls_of xs ran.0 t ran.2)
+  calls_yield_of_yields : (xs : List A) (s t : S) → Yields called_step s xs t → calls.Yields gives s (map of_item xs) t
+  calls_yield_of_yields [] s t e = e
+  calls_yield_of_yields (x ∷ xs) s t ran = (ran.0, ran.1.0, calls_yield_of_yields xs ran.0 t ran.2)
 
   -- what brackets the calls brackets the draws
-  pub calls_brackets : (s : S) (h : ℕ × Option ℕ) → BracketsCalls gives of_item s h → Brackets called s h
-  calls_brackets s h b = record {
-    above = λ xs t ran. b.above xs t (calls_of xs s t ran);
-    below = λ xs t u ran step. b.below xs u (t, calls_of xs s t ran, step.0);
+  pub brackets_calls : (s : S) (h : ℕ × Option ℕ) → BracketsCalls gives of_item s h → Brackets called_step s h
+  brackets_calls s h b = record {
+    above = λ xs t ran. b.above xs t (calls_yield_of_yields xs s t ran);
+    below = λ xs t u ran step. b.below xs u (t, calls_yield_of_yields xs s t ran, step.0);
   }
 
   -- each element lowers what remains
-  lowered : (xs : List A) (s t : S) → Yields called s xs t → IsFinite (remaining s) → length xs ≤ size (remaining s)
-  lowered [] s t ran f = omega arith
-  lowered (x ∷ xs) s t ran f = let d = ran.1.1.on f in let rest = lowered xs ran.0 t ran.2 d.1 in omega (arith, d.2, rest)
+  length_at_most_remaining : (xs : List A) (s t : S) → Yields called_step s xs t → IsFinite (remaining s) → length xs ≤ size (remaining s)
+  length_at_most_remaining [] s t ran f = omega arith
+  length_at_most_remaining (x ∷ xs) s t ran f = let d = ran.1.1.on f in let rest = length_at_most_remaining xs ran.0 t ran.2 d.1 in omega (arith, d.2, rest)
 
-  up_to : (o : Option ℕ) (s : S) (n : ℕ) → (IsFinite (remaining s) → n ≤ size (remaining s)) → IfSome o (UpTo (remaining s)) → IfSome o (λ u. n ≤ u)
-  up_to None s n few h = tt
-  up_to (Some u) s n few h = let le = few h.0 in omega (arith, le, h.1)
+  if_some_at_least : (o : Option ℕ) (s : S) (n : ℕ) → (IsFinite (remaining s) → n ≤ size (remaining s)) → IfSome o (UpTo (remaining s)) → IfSome o (λ u. n ≤ u)
+  if_some_at_least None s n few h = tt
+  if_some_at_least (Some u) s n few h = let le = few h.0 in omega (arith, le, h.1)
 
   -- so an upper bound of what remains is one of the draws
-  pub remaining_bounds : (s : S) (o : Option ℕ) → IfSome o (UpTo (remaining s)) → BoundsAbove called s o
-  remaining_bounds s o up xs t ran = up_to o s (length xs) (λ f. lowered xs s t ran f) up
+  pub bounds_above_remaining : (s : S) (o : Option ℕ) → IfSome o (UpTo (remaining s)) → BoundsAbove called_step s o
+  bounds_above_remaining s o up xs t ran = if_some_at_least o s (length xs) (λ f. length_at_most_remaining xs s t ran f) up
 
   -- ---- where each call takes one of what is left
 
   module _ (left : S → ℕ) (counts : CountsDown left gives) where
-    left_after : (xs : List A) (s t : S) → Yields called s xs t → left s ≡ left t + length xs
-    left_after [] s t ran = let same : left s ≡ left t = ap left ran in omega (arith, same)
-    left_after (x ∷ xs) s t ran = let one : left s ≡ left ran.0 + 1 = counts s (Some (of_item x)) ran.0 ran.1.0 in let rest = left_after xs ran.0 t ran.2 in omega (arith, one, rest)
+    number_left_after : (xs : List A) (s t : S) → Yields called_step s xs t → left s ≡ left t + length xs
+    number_left_after [] s t ran = let same : left s ≡ left t = ap left ran in omega (arith, same)
+    number_left_after (x ∷ xs) s t ran = let once_step_here : left s ≡ left ran.0 + 1 = counts s (Some (of_item x)) ran.0 ran.1.0 in let rest = number_left_after xs ran.0 t ran.2 in omega (arith, once_step_here, rest)
 
-    pub counted_brackets : (s : S) (h : ℕ × Option ℕ) → remaining s ≡ at_most (left s) → IsWithinCount h.0 (remaining s) → IfSome h.1 (UpTo (remaining s)) → Brackets called s h
-    counted_brackets s h is low up = record {
-      above = remaining_bounds s h.1 up;
+    pub brackets_counted : (s : S) (h : ℕ × Option ℕ) → remaining s ≡ at_most (left s) → IsWithinCount h.0 (remaining s) → IfSome h.1 (UpTo (remaining s)) → Brackets called_step s h
+    brackets_counted s h is low up = record {
+      above = bounds_above_remaining s h.1 up;
       below = λ xs t u ran step.
           let within : IsWithinCount h.0 (at_most (left s)) = subst (λ (c : Count). IsWithinCount h.0 c) is low in
           let le : h.0 ≤ left s = within tt in
-          let after = left_after xs s t ran in
+          let after = number_left_after xs s t ran in
           let none : left t ≡ 0 = counts t None u step.0 in
           omega (arith, le, after, none);
     }
 
-items_fewer : {A E : Type 0} (l : List (Result A E)) → length (items_listed l) ≤ length l
-items_fewer [] = omega arith
-items_fewer (Ok x ∷ l) = let le = items_fewer l in omega (arith, le)
-items_fewer (Err e ∷ l) = let le = items_fewer l in omega (arith, le)
+length_items_fewer : {A E : Type 0} (l : List (Result A E)) → length (items_listed l) ≤ length l
+length_items_fewer [] = omega arith
+length_items_fewer (Ok x ∷ l) = let le = length_items_fewer l in omega (arith, le)
+length_items_fewer (Err e ∷ l) = let le = length_items_fewer l in omega (arith, le)
 
-over_items : (o : Option ℕ) (i n : ℕ) → i ≤ n → IfSome o (UpTo (at_most n)) → IfSome o (λ u. i ≤ u)
-over_items None i n le up = tt
-over_items (Some u) i n le up = omega (arith, le, up.1)
+if_some_items_at_most : (o : Option ℕ) (i n : ℕ) → i ≤ n → IfSome o (UpTo (at_most n)) → IfSome o (λ u. i ≤ u)
+if_some_items_at_most None i n le up = tt
+if_some_items_at_most (Some u) i n le up = omega (arith, le, up.1)
 
-pub long_results : {A E : Type 0} (l : List (Result A E)) → length (results l) ≡ length l
+pub length_long_results : {A E : Type 0} (l : List (Result A E)) → length (results l) ≡ length l
 unfolding results
-long_results l = refl
+length_long_results l = refl
 
-pub long_items : {A : Type 0} (E : Type 0) (l : List A) → length (items {E = E} l) ≡ length l
+pub length_long_items : {A : Type 0} (E : Type 0) (l : List A) → length (items {E = E} l) ≡ length l
 unfolding items
-long_items E [] = refl
-long_items E (x ∷ l) = ap suc (long_items E l)
+length_long_items E [] = refl
+length_long_items E (x ∷ l) = ap suc (length_long_items E l)
 
 -- a hint within what remains bounds what is left
 pub bounds_rest : {A E S Z : Type 0} (rest : S → List Z) (s : S) (l : List (Result A E)) (c : Count) (h : ℕ × Option ℕ) → c ≡ item_count rest s → length l ≡ length (rest s) → IsWithinCount h.0 c → IfSome h.1 (UpTo c) → Bounds h l
@@ -84,7 +84,7 @@ bounds_rest rest s l c h is same low up =
     let within : IsWithinCount h.0 (item_count rest s) = subst (λ (d : Count). IsWithinCount h.0 d) is low in
     let over : IfSome h.1 (UpTo (item_count rest s)) = subst (λ (d : Count). IfSome h.1 (UpTo d)) is up in
     let le : h.0 ≤ length (rest s) = within tt in
-    record { above = over_items h.1 (length (items_listed l)) (length (rest s)) (omega (arith, items_fewer l, same)) over; below = λ none. omega (arith, le, same) }
+    record { above = if_some_items_at_most h.1 (length (items_listed l)) (length (rest s)) (omega (arith, length_items_fewer l, same)) over; below = λ none. omega (arith, le, same) }
 
 -- ---- one item, or one failure
 
@@ -93,27 +93,27 @@ module _ {A E : Type 0} where
   no_item_left (Some e) x w step = let d = step.0 in cc
   no_item_left None x w step = let d = step.0 in cc
 
-  pub failure_brackets : (v : Option E) → Brackets (once_step {A = A} failure) v (0, Some 0)
-  failure_brackets v = no_item (once_step {A = A} failure) v (λ x w step. no_item_left v x w step)
+  pub brackets_failure : (v : Option E) → Brackets (once_step {A = A} failure) v (0, Some 0)
+  brackets_failure v = brackets_no_item (once_step {A = A} failure) v (λ x w step. no_item_left v x w step)
 
 module _ {A : Type 0} (E : Type 0) where
-  abbrev one : Option A → Answered A E → Option A → Type 0
-  one = once_step item
+  abbrev once_step_here : Option A → Answered A E → Option A → Type 0
+  once_step_here = once_step item
 
-  no_more_items : (xs : List A) (w : Option A) → Yields one None xs w → length xs ≤ 0
-  no_more_items [] w ran = omega arith
-  no_more_items (x ∷ xs) w ran = absurd (let d = ran.1.0 in cc)
+  length_no_more_items : (xs : List A) (w : Option A) → Yields once_step_here None xs w → length xs ≤ 0
+  length_no_more_items [] w ran = omega arith
+  length_no_more_items (x ∷ xs) w ran = absurd (let d = ran.1.0 in cc)
 
   -- what an item leaves yields no other
-  at_most_one : (xs : List A) (v w : Option A) → Yields one v xs w → length xs ≤ held_count v
-  at_most_one xs None w ran = no_more_items xs w ran
-  at_most_one [] (Some y) w ran = omega arith
-  at_most_one (x ∷ xs) (Some y) w ran = let le = no_more_items xs w (subst (λ (u : Option A). Yields one u xs w) ran.1.1 ran.2) in omega (arith, le)
+  length_at_most_held : (xs : List A) (v w : Option A) → Yields once_step_here v xs w → length xs ≤ held_count v
+  length_at_most_held xs None w ran = length_no_more_items xs w ran
+  length_at_most_held [] (Some y) w ran = omega arith
+  length_at_most_held (x ∷ xs) (Some y) w ran = let le = length_no_more_items xs w (subst (λ (u : Option A). Yields once_step_here u xs w) ran.1.1 ran.2) in omega (arith, le)
 
-  end_behind : (xs : List A) (v w z : Option A) → Yields one v xs w → one w end z → held_count v ≤ length xs
-  end_behind xs None w z ran step = omega arith
-  end_behind [] (Some y) w z ran step = absurd (let at : one (Some y) end z = subst (λ (u : Option A). one u end z) (sym ran) step in let d = at.0 in cc)
-  end_behind (x ∷ xs) (Some y) w z ran step = omega arith
+  held_count_at_most : (xs : List A) (v w z : Option A) → Yields once_step_here v xs w → once_step_here w end z → held_count v ≤ length xs
+  held_count_at_most xs None w z ran step = omega arith
+  held_count_at_most [] (Some y) w z ran step = absurd (let at : once_step_here (Some y) end z = subst (λ (u : Option A). once_step_here u end z) (sym ran) step in let d = at.0 in cc)
+  held_count_at_most (x ∷ xs) (Some y) w z ran step = omega arith
 
-  pub once_brackets : (v : Option A) → Brackets one v (held_count v, Some (held_count v))
-  once_brackets v = record { above = λ xs w ran. at_most_one xs v w ran; below = λ xs w z ran step. end_behind xs v w z ran step }
+  pub brackets_once : (v : Option A) → Brackets once_step_here v (held_count v, Some (held_count v))
+  brackets_once v = record { above = λ xs w ran. length_at_most_held xs v w ran; below = λ xs w z ran step. held_count_at_most xs v w z ran step }

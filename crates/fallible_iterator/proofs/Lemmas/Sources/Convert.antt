@@ -13,19 +13,19 @@ use Rattle.fallible_contract.specs.Lists.{Lists, RunsRead, RunsReadBack, result_
 use Rattle.fallible_contract.proofs.Lemmas.Lists.Passing.{lists_seen}
 use Rattle.fallible_iterator.specs.Sources.Std.{element_by}
 use Rattle.fallible_iterator.specs.Sources.Convert.{ItemsRead, convert_parts, convert_contract}
-use Rattle.fallible_iterator.proofs.Lemmas.Sources.Std.{gives_read, read_back}
+use Rattle.fallible_iterator.proofs.Lemmas.Sources.Std.{gives_read, runs_read_back}
 use Rattle.fallible_contract.proofs.Lemmas.BothEnds.Passing.{map-reverse}
 use Rattle.fallible_iterator.specs.declared.sources.convert.Convert.{Convert}
 
-pub results_are : {A E : Type 0} (l : List (Result A E)) → map (λ y. y) l ≡ results l
+pub map_is_results : {A E : Type 0} (l : List (Result A E)) → map (λ y. y) l ≡ results l
 unfolding results
-results_are [] = refl
-results_are (y ∷ l) = ap (λ t. y ∷ t) (results_are l)
+map_is_results [] = refl
+map_is_results (y ∷ l) = ap (λ t. y ∷ t) (map_is_results l)
 
-pub items_are : {A E : Type 0} (l : List A) → map (λ x. Ok x) l ≡ items {E = E} l
+pub map_is_items : {A E : Type 0} (l : List A) → map (λ x. Ok x) l ≡ items {E = E} l
 unfolding items
-items_are [] = refl
-items_are {E = E} (x ∷ l) = ap (λ (t : List (Result _ E)). Ok x ∷ t) (items_are l)
+map_is_items [] = refl
+map_is_items {E = E} (x ∷ l) = ap (λ (t : List (Result _ E)). Ok x ∷ t) (map_is_items l)
 
 results_reversed : {A E : Type 0} (l : List (Result A E)) → results (reverse l) ≡ reversed (results l)
 unfolding results reversed
@@ -33,21 +33,21 @@ results_reversed l = refl
 
 pub items_reversed : {A E : Type 0} (l : List A) → items {E = E} (reverse l) ≡ reversed (items l)
 unfolding reversed
-items_reversed l = sym (items_are (reverse l)) ∙ map-reverse (λ x. Ok x) l ∙ ap reverse (items_are l)
+items_reversed l = sym (map_is_items (reverse l)) ∙ map-reverse (λ x. Ok x) l ∙ ap reverse (map_is_items l)
 
 module _ {A E : Type 0} where
   -- the answer that an element is comes from that element
-  pub reads_result : (z : Result A E) → element_by {A = A} {E = E} Ok Err (result_answer z) ≡ Some z
-  reads_result (Ok x) = refl
-  reads_result (Err e) = refl
+  pub element_by_reads_result : (z : Result A E) → element_by {A = A} {E = E} Ok Err (result_answer z) ≡ Some z
+  element_by_reads_result (Ok x) = refl
+  element_by_reads_result (Err e) = refl
 
-  pub answered : (r : Answered A E) (y : Result A E) → element_by {A = A} {E = E} Ok Err r ≡ Some y → r ≡ result_answer y
-  answered (Ok (Some x)) (Ok y) e = cc
-  answered (Ok (Some x)) (Err y) e = absurd cc
-  answered (Err d) (Ok y) e = absurd cc
-  answered (Err d) (Err y) e = cc
-  answered (Ok None) (Ok y) e = absurd cc
-  answered (Ok None) (Err y) e = absurd cc
+  pub answer_of_first_result : (r : Answered A E) (y : Result A E) → element_by {A = A} {E = E} Ok Err r ≡ Some y → r ≡ result_answer y
+  answer_of_first_result (Ok (Some x)) (Ok y) e = cc
+  answer_of_first_result (Ok (Some x)) (Err y) e = absurd cc
+  answer_of_first_result (Err d) (Ok y) e = absurd cc
+  answer_of_first_result (Err d) (Err y) e = cc
+  answer_of_first_result (Ok None) (Ok y) e = absurd cc
+  answer_of_first_result (Ok None) (Err y) e = absurd cc
 
   pub none_converted : (r : Answered A E) → element_by {A = A} {E = E} Ok Err r ≡ None → r ≡ Ok None
   none_converted (Ok (Some x)) e = absurd cc
@@ -56,10 +56,10 @@ module _ {A E : Type 0} where
 
 module _ {S A E : Type 0} (can : S → Type 0) (gives : S → Option (Result A E) → S → Type 0) (remaining : S → Count) (s : Convert S) where
   pub lists_results : (l : List (Result A E)) → RunsRead gives (λ y. y) s.it l → Lists (seen_as convert_parts (convert_contract can gives remaining)).steps s (results l)
-  lists_results l reads = lists_seen convert_parts (convert_contract can gives remaining).steps s refl (results_are l) (gives_read Ok Err can gives remaining (λ y. y) (λ y. y) answered l s.it reads)
+  lists_results l reads = lists_seen convert_parts (convert_contract can gives remaining).steps s refl (map_is_results l) (gives_read Ok Err can gives remaining (λ y. y) (λ y. y) answer_of_first_result l s.it reads)
 
   pub lists_items : (l : List A) → RunsRead gives Ok s.it l → Lists (seen_as convert_parts (convert_contract can gives remaining)).steps s (items l)
-  lists_items l reads = lists_seen convert_parts (convert_contract can gives remaining).steps s refl (items_are l) (gives_read Ok Err can gives remaining (λ x. Ok x) (λ x. Ok x) (λ r x. answered r (Ok x)) l s.it reads)
+  lists_items l reads = lists_seen convert_parts (convert_contract can gives remaining).steps s refl (map_is_items l) (gives_read Ok Err can gives remaining (λ x. Ok x) (λ x. Ok x) (λ r x. answer_of_first_result r (Ok x)) l s.it reads)
 
   -- the same, where the std iterator is known by another name
   pub lists_items_of : {it : S} → convert_parts s ≡ it → (l : List A) → RunsRead gives Ok it l → Lists (seen_as convert_parts (convert_contract can gives remaining)).steps s (items l)
@@ -67,31 +67,31 @@ module _ {S A E : Type 0} (can : S → Type 0) (gives : S → Option (Result A E
 
   -- from the back
   pub lists_results_back : (l : List (Result A E)) → RunsReadBack gives (λ y. y) s.it l → Lists (seen_as convert_parts (convert_contract can gives remaining)).steps s (reversed (results l))
-  lists_results_back l reads = subst (Lists (seen_as convert_parts (convert_contract can gives remaining)).steps s) (results_reversed l) (lists_results (reverse l) (read_back gives (λ y. y) s.it l reads))
+  lists_results_back l reads = subst (Lists (seen_as convert_parts (convert_contract can gives remaining)).steps s) (results_reversed l) (lists_results (reverse l) (runs_read_back gives (λ y. y) s.it l reads))
 
   pub lists_items_back : (l : List A) → RunsReadBack gives Ok s.it l → Lists (seen_as convert_parts (convert_contract can gives remaining)).steps s (reversed (items l))
-  lists_items_back l reads = subst (Lists (seen_as convert_parts (convert_contract can gives remaining)).steps s) (items_reversed l) (lists_items (reverse l) (read_back gives (λ x. Ok x) s.it l reads))
+  lists_items_back l reads = subst (Lists (seen_as convert_parts (convert_contract can gives remaining)).steps s) (items_reversed l) (lists_items (reverse l) (runs_read_back gives (λ x. Ok x) s.it l reads))
 
 -- ---- elements in an `Ok`
 
-below : {Z : Type 0} (zs : List Z) (k : ℕ) (z : Z) → slice_get zs k ≡ Some z → k < length zs
-below [] k z e = absurd (none-some z e)
-below (y ∷ zs) zero z e = omega arith
-below (y ∷ zs) (suc k) z e = omega (arith, below zs k z e)
+index_below_length : {Z : Type 0} (zs : List Z) (k : ℕ) (z : Z) → slice_get zs k ≡ Some z → k < length zs
+index_below_length [] k z e = absurd (none-some z e)
+index_below_length (y ∷ zs) zero z e = omega arith
+index_below_length (y ∷ zs) (suc k) z e = omega (arith, index_below_length zs k z e)
 
 module _ {S A E : Type 0} (gives : S → Option (Result A E) → S → Type 0) (s : S) (l : List A) where
-  at_place : (o : Option (Result A E)) (k : ℕ) (d : A) (z : Result A E) → option_map (λ y. y) o ≡ Some z → IfSome o (λ y. HoldsAt (λ x. y ≡ Ok x) l k) → o ≡ Some (Ok (slice_index_or l k d))
-  at_place None k d z e h = absurd cc
-  at_place (Some y) k d z e h = let is = h d in cc
+  element_at_place : (o : Option (Result A E)) (k : ℕ) (d : A) (z : Result A E) → option_map (λ y. y) o ≡ Some z → IfSome o (λ y. HoldsAt (λ x. y ≡ Ok x) l k) → o ≡ Some (Ok (slice_index_or l k d))
+  element_at_place None k d z e h = absurd cc
+  element_at_place (Some y) k d z e h = let is = h d in cc
 
   -- what is read in the words of any list
-  pub items_read : ItemsRead gives s l → RunsRead gives Ok s l
-  items_read reads p trigger from = let q = reads p trigger from in (q.0, q.1, λ k d lt. at_place (p.at k) k d _ (p.reads k (Ok d) lt) (q.2 k))
+  pub runs_read_items : ItemsRead gives s l → RunsRead gives Ok s l
+  runs_read_items reads p trigger from = let q = reads p trigger from in (q.0, q.1, λ k d lt. element_at_place (p.at k) k d _ (p.reads k (Ok d) lt) (q.2 k))
 
-  some_read : (o : Option (Result A E)) (k n : ℕ) → ((z : Result A E) → o ≡ Some z → k < n) → ((d : A) → k < n → o ≡ Some (Ok (slice_index_or l k d))) → IfSome o (λ y. HoldsAt (λ x. y ≡ Ok x) l k)
-  some_read None k n lt at = tt
-  some_read (Some y) k n lt at = λ d. let e = at d (lt y refl) in cc
+  if_some_read : (o : Option (Result A E)) (k n : ℕ) → ((z : Result A E) → o ≡ Some z → k < n) → ((d : A) → k < n → o ≡ Some (Ok (slice_index_or l k d))) → IfSome o (λ y. HoldsAt (λ x. y ≡ Ok x) l k)
+  if_some_read None k n lt at = tt
+  if_some_read (Some y) k n lt at = λ d. let e = at d (lt y refl) in cc
 
   -- and the other way round
-  pub read_items : RunsRead gives Ok s l → ItemsRead gives s l
-  read_items reads p trigger from = let q = reads p trigger from in (q.0, q.1, λ k. some_read (p.at k) k p.len (λ z e. let long = p.long in let lt = below p.items k z (sym (at-is p k) ∙ e) in omega (arith, long, lt)) (λ d lt. q.2 k d lt))
+  pub items_read_of_convert : RunsRead gives Ok s l → ItemsRead gives s l
+  items_read_of_convert reads p trigger from = let q = reads p trigger from in (q.0, q.1, λ k. if_some_read (p.at k) k p.len (λ z e. let long = p.long in let lt = index_below_length p.items k z (sym (at-is p k) ∙ e) in omega (arith, long, lt)) (λ d lt. q.2 k d lt))

@@ -8,8 +8,8 @@ use Rattle.fallible_contract.specs.Lists.{GivesForGood, ListsForGood, RunsRead, 
 use Rattle.fallible_contract.proofs.Lemmas.Lists.ForGood.{lists_for_good_seen}
 use Rattle.fallible_iterator.specs.Sources.Std.{std_step, element_by}
 use Rattle.fallible_iterator.specs.Sources.Convert.{convert_parts, convert_contract}
-use Rattle.fallible_iterator.proofs.Lemmas.Sources.Std.{gives_read, called}
-use Rattle.fallible_iterator.proofs.Lemmas.Sources.Convert.{answered, none_converted, results_are, items_are}
+use Rattle.fallible_iterator.proofs.Lemmas.Sources.Std.{gives_read, result_of_call}
+use Rattle.fallible_iterator.proofs.Lemmas.Sources.Convert.{answer_of_first_result, none_converted, map_is_results, map_is_items}
 use Rattle.fallible_iterator.specs.declared.sources.convert.Convert.{Convert}
 
 -- What a std `Fuse` yields, where `iter` is its iterator and `done` says that a `None` came: `fuse_steps` of std, whose struct can't be named here.
@@ -24,32 +24,32 @@ module _ {S V Z : Type 0} (iter : V → S) (done : V → Bool) (raw : S → Opti
   done_at_none s t o e w = subst (λ (p : Option Z). MatchOption p (done t ≡ true) (λ _. done t ≡ false)) e w.1
 
 module _ {S V A E : Type 0} (iter : V → S) (done : V → Bool) (can : V → Type 0) (raw : S → Option (Result A E) → S → Type 0) (remaining : V → Count) where
-  abbrev Gives : V → Option (Result A E) → V → Type 0
-  Gives = fused iter done raw
+  abbrev GivesInConvertFused : V → Option (Result A E) → V → Type 0
+  GivesInConvertFused = fused iter done raw
 
-  abbrev Step : V → Answered A E → V → Type 0
-  Step = std_step Ok Err can Gives remaining
+  abbrev StepOfConvertFused : V → Answered A E → V → Type 0
+  StepOfConvertFused = std_step Ok Err can GivesInConvertFused remaining
 
-  ends_done : (trace : List (Answered A E)) (s t u : V) (r : Answered A E) → done s ≡ true → Run Step s trace t → Step t r u → r ≡ end
+  ends_done : (trace : List (Answered A E)) (s t u : V) (r : Answered A E) → done s ≡ true → Run StepOfConvertFused s trace t → StepOfConvertFused t r u → r ≡ end
   ends_done [] s t u r is ran w = none_converted r (none_done iter done raw t u (element_by Ok Err r) (subst (λ (q : V). done q ≡ true) ran is) w.0)
   ends_done (y ∷ trace) s t u r is ran w =
       let first = ran.1.0 in
       ends_done trace ran.0 t u r (done_at_none iter done raw s ran.0 (element_by Ok Err y) (none_done iter done raw s ran.0 (element_by Ok Err y) is first) first) ran.2 w
 
   module _ {X : Type 0} (h : X → Result A E) (to : X → Result A E) (back : (r : Answered A E) (x : X) → element_by {A = A} {E = E} Ok Err r ≡ Some (h x) → r ≡ result_answer (to x)) where
-    ends_read : (trace : List (Answered A E)) (s t u : V) (r : Answered A E) → RunsRead Gives h s [] → Run Step s trace t → Step t r u → r ≡ end
-    ends_read [] s t u r reads ran w = gives_read Ok Err can Gives remaining h to back [] s reads r u (subst (λ (q : V). Step q r u) (sym ran) w)
+    ends_read : (trace : List (Answered A E)) (s t u : V) (r : Answered A E) → RunsRead GivesInConvertFused h s [] → Run StepOfConvertFused s trace t → StepOfConvertFused t r u → r ≡ end
+    ends_read [] s t u r reads ran w = gives_read Ok Err can GivesInConvertFused remaining h to back [] s reads r u (subst (λ (q : V). StepOfConvertFused q r u) (sym ran) w)
     ends_read (y ∷ trace) s t u r reads ran w =
-        let is_end = gives_read Ok Err can Gives remaining h to back [] s reads y ran.0 ran.1 in
+        let is_end = gives_read Ok Err can GivesInConvertFused remaining h to back [] s reads y ran.0 ran.1 in
         ends_done trace ran.0 t u r (done_at_none iter done raw s ran.0 (element_by Ok Err y) (ap (element_by Ok Err) is_end) ran.1.0) ran.2 w
 
-    read_for_good : (l : List X) (s : V) → RunsRead Gives h s l → GivesForGood Step s (map to l)
-    read_for_good [] s reads = record { each = λ trace t u r ran w. ends_read trace s t u r reads ran w }
-    read_for_good (x ∷ l) s reads = λ r t w. let d = called Ok Err can Gives remaining h to back r s t x l reads w.0 in (d.0, read_for_good l t d.1)
+    gives_for_good_read : (l : List X) (s : V) → RunsRead GivesInConvertFused h s l → GivesForGood StepOfConvertFused s (map to l)
+    gives_for_good_read [] s reads = record { each = λ trace t u r ran w. ends_read trace s t u r reads ran w }
+    gives_for_good_read (x ∷ l) s reads = λ r t w. let d = result_of_call Ok Err can GivesInConvertFused remaining h to back r s t x l reads w.0 in (d.0, gives_for_good_read l t d.1)
 
   module _ (s : Convert (V)) {it : V} (at : convert_parts s ≡ it) where
-    pub lists_results_for_good : (l : List (Result A E)) → RunsRead Gives (λ y. y) it l → ListsForGood (seen_as convert_parts (convert_contract can Gives remaining)).steps s (results l)
-    lists_results_for_good l reads = lists_for_good_seen convert_parts (convert_contract can Gives remaining).steps s at (results_are l) (read_for_good (λ y. y) (λ y. y) answered l it reads)
+    pub lists_for_good_results : (l : List (Result A E)) → RunsRead GivesInConvertFused (λ y. y) it l → ListsForGood (seen_as convert_parts (convert_contract can GivesInConvertFused remaining)).steps s (results l)
+    lists_for_good_results l reads = lists_for_good_seen convert_parts (convert_contract can GivesInConvertFused remaining).steps s at (map_is_results l) (gives_for_good_read (λ y. y) (λ y. y) answer_of_first_result l it reads)
 
-    pub lists_items_for_good : (l : List A) → RunsRead Gives Ok it l → ListsForGood (seen_as convert_parts (convert_contract can Gives remaining)).steps s (items l)
-    lists_items_for_good l reads = lists_for_good_seen convert_parts (convert_contract can Gives remaining).steps s at (items_are l) (read_for_good Ok (λ x. Ok x) (λ r x e. answered r (Ok x) e) l it reads)
+    pub lists_for_good_items : (l : List A) → RunsRead GivesInConvertFused Ok it l → ListsForGood (seen_as convert_parts (convert_contract can GivesInConvertFused remaining)).steps s (items l)
+    lists_for_good_items l reads = lists_for_good_seen convert_parts (convert_contract can GivesInConvertFused remaining).steps s at (map_is_items l) (gives_for_good_read Ok (λ x. Ok x) (λ r x e. answer_of_first_result r (Ok x) e) l it reads)

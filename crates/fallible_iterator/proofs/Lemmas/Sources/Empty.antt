@@ -12,16 +12,16 @@ module _ {S A E : Type 0} (same : (s t : S) → s ≡ t) where
   abbrev ends_only : S → Answered A E → S → Type 0
   ends_only s r t = r ≡ end
 
-  to_empty : (trace : List (Answered A E)) (s t : S) → Run ends_only s trace t → EmptyTrace trace
-  to_empty [] s t h = (0, refl)
-  to_empty (r ∷ rest) s t h = let n = to_empty rest h.0 t h.2 in (suc n.0, (λ i. h.1 i ∷ n.1 i))
+  empty_trace_of_run : (trace : List (Answered A E)) (s t : S) → Run ends_only s trace t → EmptyTrace trace
+  empty_trace_of_run [] s t h = (0, refl)
+  empty_trace_of_run (r ∷ rest) s t h = let n = empty_trace_of_run rest h.0 t h.2 in (suc n.0, (λ i. h.1 i ∷ n.1 i))
 
-  from_empty : (n : ℕ) (trace : List (Answered A E)) (s t : S) → trace ≡ replicate n end → Run ends_only s trace t
-  from_empty zero trace s t e = subst (λ l. Run ends_only s l t) (sym e) (same s t)
-  from_empty (suc n) trace s t e = subst (λ l. Run ends_only s l t) (sym e) (s, refl, from_empty n (replicate n end) s t refl)
+  run_from_empty : (n : ℕ) (trace : List (Answered A E)) (s t : S) → trace ≡ replicate n end → Run ends_only s trace t
+  run_from_empty zero trace s t e = subst (λ l. Run ends_only s l t) (sym e) (same s t)
+  run_from_empty (suc n) trace s t e = subst (λ l. Run ends_only s l t) (sym e) (s, refl, run_from_empty n (replicate n end) s t refl)
 
   pub empty_runs : (trace : List (Answered A E)) (s t : S) → Run ends_only s trace t ↔ EmptyTrace trace
-  empty_runs trace s t = (to_empty trace s t, (λ p. from_empty p.0 trace s t p.1))
+  empty_runs trace s t = (empty_trace_of_run trace s t, (λ p. run_from_empty p.0 trace s t p.1))
 
 -- ---- what it lists
 

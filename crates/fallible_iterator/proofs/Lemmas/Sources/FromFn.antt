@@ -15,9 +15,9 @@ module _ {F A E : Type 0} (g : Mut F (Unit {0}) (Answered A E)) where
   lists_calls s l a = lists_seen from_fn_parts (from_fn_contract g).steps s refl refl a
 
   module _ (shows : F → List (Result A E)) (takes : CallsTakeShown (call_of_none g) shows) where
-    gives_shown : (l : List (Result A E)) (f : F) → shows f ≡ l → CallsGive (call_of_none g) f l
-    gives_shown [] f e = λ r h called. (subst (λ (k : List (Result A E)). TakesShown k r (shows h)) e (takes f r h called)).0
-    gives_shown (y ∷ l) f e = λ r h called. let d = subst (λ (k : List (Result A E)). TakesShown k r (shows h)) e (takes f r h called) in (d.0, gives_shown l h d.1)
+    calls_give_shown : (l : List (Result A E)) (f : F) → shows f ≡ l → CallsGive (call_of_none g) f l
+    calls_give_shown [] f e = λ r h called. (subst (λ (k : List (Result A E)). TakesShown k r (shows h)) e (takes f r h called)).0
+    calls_give_shown (y ∷ l) f e = λ r h called. let d = subst (λ (k : List (Result A E)). TakesShown k r (shows h)) e (takes f r h called) in (d.0, calls_give_shown l h d.1)
 
     pub lists_shown_by : (s : FromFn F) → Lists (seen_as from_fn_parts (from_fn_contract g)).steps s (shows s.fun)
-    lists_shown_by s = lists_calls s (shows s.fun) (gives_shown (shows s.fun) s.fun refl)
+    lists_shown_by s = lists_calls s (shows s.fun) (calls_give_shown (shows s.fun) s.fun refl)

@@ -8,8 +8,8 @@ use Rattle.fallible_contract.specs.Lists.{Lists, RunsRead, RunsReadBack, result_
 use Rattle.fallible_contract.proofs.Lemmas.Lists.Passing.{lists_seen}
 use Rattle.fallible_iterator.specs.Sources.Std.{element_by}
 use Rattle.fallible_iterator.specs.Sources.IntoFallible.{into_fallible_parts, into_fallible_contract, never}
-use Rattle.fallible_iterator.proofs.Lemmas.Sources.Std.{gives_read, read_back}
-use Rattle.fallible_iterator.proofs.Lemmas.Sources.Convert.{items_are, items_reversed}
+use Rattle.fallible_iterator.proofs.Lemmas.Sources.Std.{gives_read, runs_read_back}
+use Rattle.fallible_iterator.proofs.Lemmas.Sources.Convert.{map_is_items, items_reversed}
 use Rattle.std.specs.declared.convert.Infallible.{Infallible}
 use Rattle.fallible_iterator.specs.declared.sources.into_fallible.IntoFallible.{IntoFallible}
 
@@ -25,8 +25,8 @@ none_given (Err d) e = elim d [ ]
 
 module _ {S A : Type 0} (can : S → Type 0) (gives : S → Option A → S → Type 0) (remaining : S → Count) (s : IntoFallible S) where
   pub lists_elements : (l : List A) → RunsRead gives (λ x. x) s.it l → Lists (seen_as into_fallible_parts (into_fallible_contract can gives remaining)).steps s (items l)
-  lists_elements l reads = lists_seen into_fallible_parts (into_fallible_contract can gives remaining).steps s refl (items_are l) (gives_read (λ x. x) never can gives remaining (λ x. x) (λ x. Ok x) item_answered l s.it reads)
+  lists_elements l reads = lists_seen into_fallible_parts (into_fallible_contract can gives remaining).steps s refl (map_is_items l) (gives_read (λ x. x) never can gives remaining (λ x. x) (λ x. Ok x) item_answered l s.it reads)
 
   -- from the back
   pub lists_elements_back : (l : List A) → RunsReadBack gives (λ x. x) s.it l → Lists (seen_as into_fallible_parts (into_fallible_contract can gives remaining)).steps s (reversed (items l))
-  lists_elements_back l reads = subst (Lists (seen_as into_fallible_parts (into_fallible_contract can gives remaining)).steps s) (items_reversed l) (lists_elements (reverse l) (read_back gives (λ x. x) s.it l reads))
+  lists_elements_back l reads = subst (Lists (seen_as into_fallible_parts (into_fallible_contract can gives remaining)).steps s) (items_reversed l) (lists_elements (reverse l) (runs_read_back gives (λ x. x) s.it l reads))

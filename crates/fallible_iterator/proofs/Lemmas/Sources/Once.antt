@@ -11,11 +11,11 @@ use Rattle.fallible_iterator.specs.Sources.OnceErr.{once_err_parts, once_err_con
 use Rattle.fallible_iterator.specs.declared.sources.once.Once.{Once}
 use Rattle.fallible_iterator.specs.declared.sources.once_err.OnceErr.{OnceErr}
 
-held_gives : {A B E : Type 0} (f : B → Answered A E) (x : B) (y : Result A E) → f x ≡ result_answer y → AlwaysGives (once_step f) (Some x) (y ∷ [])
-held_gives {B = B} f x y e = λ r t w. (w.0 ∙ e, λ q u v. (subst (λ (z : Option B). once_step f z q u) w.1 v).0)
+always_gives_held : {A B E : Type 0} (f : B → Answered A E) (x : B) (y : Result A E) → f x ≡ result_answer y → AlwaysGives (once_step f) (Some x) (y ∷ [])
+always_gives_held {B = B} f x y e = λ r t w. (w.0 ∙ e, λ q u v. (subst (λ (z : Option B). once_step f z q u) w.1 v).0)
 
 pub lists_once : {A E : Type 0} (s : Once A E) (x : A) → once_parts s ≡ Some x → Lists (seen_as once_parts (once_contract {A = A} {E = E})).steps s (Ok x ∷ [])
-lists_once {A} {E} s x parts = lists_seen once_parts (once_contract {A = A} {E = E}).steps s parts refl (held_gives item x (Ok x) refl)
+lists_once {A} {E} s x parts = lists_seen once_parts (once_contract {A = A} {E = E}).steps s parts refl (always_gives_held item x (Ok x) refl)
 
 pub lists_once_err : {A E : Type 0} (s : OnceErr A E) (e : E) → once_err_parts s ≡ Some e → Lists (seen_as once_err_parts (once_err_contract {A = A} {E = E})).steps s (Err e ∷ [])
-lists_once_err {A} {E} s e parts = lists_seen once_err_parts (once_err_contract {A = A} {E = E}).steps s parts refl (held_gives failure e (Err e) refl)
+lists_once_err {A} {E} s e parts = lists_seen once_err_parts (once_err_contract {A = A} {E = E}).steps s parts refl (always_gives_held failure e (Err e) refl)

@@ -10,16 +10,16 @@ use Rattle.fallible_contract.specs.Lists.{AlwaysGives, RunsRead, RunsReadBack, r
 use Rattle.fallible_iterator.specs.Sources.Std.{std_step, StdTrace, element_by}
 
 module _ {S A E Z : Type 0} (of_item : A → Z) (of_failure : E → Z) (can : S → Type 0) (gives : S → Option Z → S → Type 0) (remaining : S → Count) where
-  to_std : (trace : List (Answered A E)) (s t : S) → Run (std_step of_item of_failure can gives remaining) s trace t → StdTrace of_item of_failure can gives remaining s trace t
-  to_std [] s t h = h
-  to_std (r ∷ rest) s t h = (h.0, h.1, to_std rest h.0 t h.2)
+  std_trace_of_run : (trace : List (Answered A E)) (s t : S) → Run (std_step of_item of_failure can gives remaining) s trace t → StdTrace of_item of_failure can gives remaining s trace t
+  std_trace_of_run [] s t h = h
+  std_trace_of_run (r ∷ rest) s t h = (h.0, h.1, std_trace_of_run rest h.0 t h.2)
 
-  from_std : (trace : List (Answered A E)) (s t : S) → StdTrace of_item of_failure can gives remaining s trace t → Run (std_step of_item of_failure can gives remaining) s trace t
-  from_std [] s t h = h
-  from_std (r ∷ rest) s t h = (h.0, h.1, from_std rest h.0 t h.2)
+  run_from_std : (trace : List (Answered A E)) (s t : S) → StdTrace of_item of_failure can gives remaining s trace t → Run (std_step of_item of_failure can gives remaining) s trace t
+  run_from_std [] s t h = h
+  run_from_std (r ∷ rest) s t h = (h.0, h.1, run_from_std rest h.0 t h.2)
 
   pub std_runs : (s : S) (trace : List (Answered A E)) (t : S) → Run (std_step of_item of_failure can gives remaining) s trace t ↔ StdTrace of_item of_failure can gives remaining s trace t
-  std_runs s trace t = (to_std trace s t, from_std trace s t)
+  std_runs s trace t = (std_trace_of_run trace s t, run_from_std trace s t)
 
 -- ---- what it lists
 
@@ -34,42 +34,42 @@ module _ {S Z X : Type 0} (gives : S → Option Z → S → Type 0) (h : X → Z
   reads_no_item : (s t : S) (z : Z) → RunsRead gives h s [] → gives s (Some z) t → ⊥
   reads_no_item s t z reads w = let few : 1 ≤ 0 = (reads (one_call s t z w) (seen 1) refl).0 in omega (arith, few)
 
-  some_read : (s t : S) (x : X) (l : List X) → RunsRead gives h s (x ∷ l) → gives s None t → ⊥
-  some_read s t x l reads w = let all : 0 ≡ suc (length l) = (reads (no_more_calls s t w) (seen 0) refl).1 refl in omega (arith, all)
+  reads_some_absurd : (s t : S) (x : X) (l : List X) → RunsRead gives h s (x ∷ l) → gives s None t → ⊥
+  reads_some_absurd s t x l reads w = let all : 0 ≡ suc (length l) = (reads (no_more_calls s t w) (seen 0) refl).1 refl in omega (arith, all)
 
   first_read : (s t : S) (z : Z) (x : X) (l : List X) → RunsRead gives h s (x ∷ l) → gives s (Some z) t → z ≡ h x
   first_read s t z x l reads w = let at_0 : Some z ≡ Some (h x) = (reads (one_call s t z w) (seen 1) refl).2 0 x (omega arith) in cc
 
   -- what is read after the first call
-  rest_read : (s t : S) (z : Z) (x : X) (l : List X) → RunsRead gives h s (x ∷ l) → gives s (Some z) t → RunsRead gives h t l
-  rest_read s t z x l reads w p _ e =
+  runs_read_rest : (s t : S) (z : Z) (x : X) (l : List X) → RunsRead gives h s (x ∷ l) → gives s (Some z) t → RunsRead gives h t l
+  runs_read_rest s t z x l reads w p _ e =
       let q = reads (run gives s (z ∷ p.items) p.whole ((took p).0, (p.from, subst (gives s (Some z)) (sym e) w, (took p).1), (took p).2)) (seen _) refl in
       let few : suc (length p.items) ≤ suc (length l) = q.0 in
       (omega (arith, few, p.long), (λ whole. let all : suc (length p.items) ≡ suc (length l) = q.1 whole in omega (arith, all, p.long)), (λ k d lt. at-is p k ∙ q.2 (suc k) d (omega (arith, lt, p.long))))
 
 module _ {S A E Z X : Type 0} (of_item : A → Z) (of_failure : E → Z) (can : S → Type 0) (gives : S → Option Z → S → Type 0) (remaining : S → Count) (h : X → Z) (to : X → Result A E)
     (back : (r : Answered A E) (x : X) → element_by of_item of_failure r ≡ Some (h x) → r ≡ result_answer (to x)) where
-  abbrev Gives : S → List (Result A E) → Type 0
-  Gives s l = AlwaysGives (std_step of_item of_failure can gives remaining) s l
+  abbrev GivesRead : S → List (Result A E) → Type 0
+  GivesRead s l = AlwaysGives (std_step of_item of_failure can gives remaining) s l
 
-  ended : (r : Answered A E) (s t : S) → RunsRead gives h s [] → gives s (element_by of_item of_failure r) t → r ≡ Ok None
-  ended (Ok (Some x)) s t reads w = absurd (reads_no_item gives h s t (of_item x) reads w)
-  ended (Err e) s t reads w = absurd (reads_no_item gives h s t (of_failure e) reads w)
-  ended (Ok None) s t reads w = refl
+  end_of_no_runs : (r : Answered A E) (s t : S) → RunsRead gives h s [] → gives s (element_by of_item of_failure r) t → r ≡ Ok None
+  end_of_no_runs (Ok (Some x)) s t reads w = absurd (reads_no_item gives h s t (of_item x) reads w)
+  end_of_no_runs (Err e) s t reads w = absurd (reads_no_item gives h s t (of_failure e) reads w)
+  end_of_no_runs (Ok None) s t reads w = refl
 
   -- one call at an element
-  pub called : (r : Answered A E) (s t : S) (x : X) (l : List X) → RunsRead gives h s (x ∷ l) → gives s (element_by of_item of_failure r) t → (r ≡ result_answer (to x)) × RunsRead gives h t l
-  called (Ok (Some y)) s t x l reads w = (back (Ok (Some y)) x (ap Some (first_read gives h s t (of_item y) x l reads w)), rest_read gives h s t (of_item y) x l reads w)
-  called (Err e) s t x l reads w = (back (Err e) x (ap Some (first_read gives h s t (of_failure e) x l reads w)), rest_read gives h s t (of_failure e) x l reads w)
-  called (Ok None) s t x l reads w = absurd (some_read gives h s t x l reads w)
+  pub result_of_call : (r : Answered A E) (s t : S) (x : X) (l : List X) → RunsRead gives h s (x ∷ l) → gives s (element_by of_item of_failure r) t → (r ≡ result_answer (to x)) × RunsRead gives h t l
+  result_of_call (Ok (Some y)) s t x l reads w = (back (Ok (Some y)) x (ap Some (first_read gives h s t (of_item y) x l reads w)), runs_read_rest gives h s t (of_item y) x l reads w)
+  result_of_call (Err e) s t x l reads w = (back (Err e) x (ap Some (first_read gives h s t (of_failure e) x l reads w)), runs_read_rest gives h s t (of_failure e) x l reads w)
+  result_of_call (Ok None) s t x l reads w = absurd (reads_some_absurd gives h s t x l reads w)
 
-  pub gives_read : (l : List X) (s : S) → RunsRead gives h s l → Gives s (map to l)
-  gives_read [] s reads = λ r t w. ended r s t reads w.0
-  gives_read (x ∷ l) s reads = λ r t w. let d = called r s t x l reads w.0 in (d.0, gives_read l t d.1)
+  pub gives_read : (l : List X) (s : S) → RunsRead gives h s l → GivesRead s (map to l)
+  gives_read [] s reads = λ r t w. end_of_no_runs r s t reads w.0
+  gives_read (x ∷ l) s reads = λ r t w. let d = result_of_call r s t x l reads w.0 in (d.0, gives_read l t d.1)
 
 -- runs with the same items read the same list
-pub reads_alike : {S T X Z : Type 0} (gives : S → Option Z → S → Type 0) (others : T → Option Z → T → Type 0) (h : X → Z) (s : S) (t : T) (l : List X) → runs.EachRunFrom others t (λ p. runs.SomeRun gives s (λ q. runs.IsIdenticalRun p q)) → RunsRead gives h s l → RunsRead others h t l
-reads_alike gives others h s t l same reads p trigger from =
+pub runs_read_alike : {S T X Z : Type 0} (gives : S → Option Z → S → Type 0) (others : T → Option Z → T → Type 0) (h : X → Z) (s : S) (t : T) (l : List X) → runs.EachRunFrom others t (λ p. runs.SomeRun gives s (λ q. runs.IsIdenticalRun p q)) → RunsRead gives h s l → RunsRead others h t l
+runs_read_alike gives others h s t l same reads p trigger from =
     let same_run = same p trigger from in
     let q = reads same_run.0 (seen _) same_run.1 in
     let long : same_run.0.len ≡ p.len = same_run.2.0.0 in
@@ -77,8 +77,8 @@ reads_alike gives others h s t l same reads p trigger from =
     (omega (arith, few, long), (λ whole. sym long ∙ q.1 (same_run.2.1 ∙ whole)), (λ k d lt. sym (same_run.2.0.2 k) ∙ q.2 k d (omega (arith, lt, long))))
 
 -- what is read from the back is the list reversed
-pub read_back : {S X Z : Type 0} (back : S → Option Z → S → Type 0) (h : X → Z) (s : S) (l : List X) → RunsReadBack back h s l → RunsRead back h s (reverse l)
-read_back back h s l reads p seen at = let q = reads p seen at in let long = length-reverse l in (
+pub runs_read_back : {S X Z : Type 0} (back : S → Option Z → S → Type 0) (h : X → Z) (s : S) (l : List X) → RunsReadBack back h s l → RunsRead back h s (reverse l)
+runs_read_back back h s l reads p seen at = let q = reads p seen at in let long = length-reverse l in (
   omega (arith, q.0, long),
   (λ whole. let all : p.len ≡ length l = q.1 whole in omega (arith, all, long)),
   (λ k d lt. let le : p.len ≤ length l = q.0 in let j = length l - 1 - k in let same : length l - 1 - j ≡ k = omega (arith, lt, le) in

@@ -7,18 +7,18 @@ use Rattle.fallible_contract.specs.Held.{held_count, once_step}
 use Rattle.fallible_iterator.specs.Sources.Once.{once_contract}
 
 module _ {A E : Type 0} where
-  abbrev O : Contract (Option A) A E
-  O = once_contract
+  abbrev ContractHere : Contract (Option A) A E
+  ContractHere = once_contract
 
-  once_given : (x : A) → KeptByDraw O (Some x) (item x) None
-  once_given x = record { can_next = tt; is_finite = λ e. e; answer = (refl, (λ n b. (0, omega arith, omega (arith, b))), (λ f. (tt, omega arith))); may_give = λ y e. absurd cc; may_fail = λ d e. e; lenders = refl }
+  kept_by_draw_once_given : (x : A) → KeptByDraw ContractHere (Some x) (item x) None
+  kept_by_draw_once_given x = record { can_next = tt; is_finite = λ e. e; answer = (refl, (λ n b. (0, omega arith, omega (arith, b))), (λ f. (tt, omega arith))); may_give = λ y e. absurd cc; may_fail = λ d e. e; lenders = refl }
 
-  once_ended : KeptByDraw O None end None
-  once_ended = record { can_next = tt; is_finite = λ e. e; answer = ((λ n b. (n, b, omega arith)), (λ f. (f, omega arith))); may_give = λ y e. e; may_fail = λ d e. e; lenders = refl }
+  kept_by_draw_once_ended : KeptByDraw ContractHere None end None
+  kept_by_draw_once_ended = record { can_next = tt; is_finite = λ e. e; answer = ((λ n b. (n, b, omega arith)), (λ f. (f, omega arith))); may_give = λ y e. e; may_fail = λ d e. e; lenders = refl }
 
-  goes_once : (v : Option A) (r : Answered A E) (w : Option A) → once_step item v r w → KeptByDraw O v r w
-  goes_once (Some x) r w step = subst (λ (q : Answered A E). KeptByDraw O (Some x) q w) (sym step.0) (subst (λ (u : Option A). KeptByDraw O (Some x) (item x) u) (sym step.1) (once_given x))
-  goes_once None r w step = subst (λ (q : Answered A E). KeptByDraw O None q w) (sym step.0) (subst (λ (u : Option A). KeptByDraw O None end u) (sym step.1) once_ended)
+  kept_by_draw_once : (v : Option A) (r : Answered A E) (w : Option A) → once_step item v r w → KeptByDraw ContractHere v r w
+  kept_by_draw_once (Some x) r w step = subst (λ (q : Answered A E). KeptByDraw ContractHere (Some x) q w) (sym step.0) (subst (λ (u : Option A). KeptByDraw ContractHere (Some x) (item x) u) (sym step.1) (kept_by_draw_once_given x))
+  kept_by_draw_once None r w step = subst (λ (q : Answered A E). KeptByDraw ContractHere None q w) (sym step.0) (subst (λ (u : Option A). KeptByDraw ContractHere None end u) (sym step.1) kept_by_draw_once_ended)
 
-  pub lawful_once : Lawful O
-  lawful_once = record { kept_by_draw = λ v r w c step. goes_once v r w step; bounded = λ v. ((λ e. (held_count v, omega arith)), (λ p. tt)) }
+  pub lawful_once : Lawful ContractHere
+  lawful_once = record { kept_by_draw = λ v r w c step. kept_by_draw_once v r w step; bounded = λ v. ((λ e. (held_count v, omega arith)), (λ p. tt)) }

@@ -1,19 +1,19 @@
 use Rattle.std.proofs.Common.{◌≤◌, ◌<◌, ◌∙◌, arith, subst, length}
 use Rattle.fallible_rows.specs.Digits.{HasNumberAhead}
-use Rattle.fallible_rows.proofs.RowLemmas.{AllDigits-more, digits_value-next, value_ahead, number_ahead-is}
+use Rattle.fallible_rows.proofs.RowLemmas.{AllDigits-more, digits_value-next, digits_value_ahead, number_ahead-is}
 use Rattle.fallible_rows.proofs.digits.number_ahead.Goals as goal
 
 pub overflow_mul-value : goal.overflow_mul-value
 overflow_mul-value c =
     let few : c.loop-count.count ≤ 18 = omega (arith, c.loop-count-test.true, c.min-count-end.ensures) in
-    let below = value_ahead c.args.bytes.now c.loop-count.count c.loop-count.invariant.digits few in
+    let below = digits_value_ahead c.args.bytes.now c.loop-count.count c.loop-count.invariant.digits few in
     let is = c.loop-count.invariant.value in
     omega (arith, below, is)
 
 pub overflow_add-value : goal.overflow_add-value
 overflow_add-value c =
     let few : c.loop-count.count ≤ 18 = omega (arith, c.loop-count-test.true, c.min-count-end.ensures) in
-    let below = value_ahead c.args.bytes.now c.loop-count.count c.loop-count.invariant.digits few in
+    let below = digits_value_ahead c.args.bytes.now c.loop-count.count c.loop-count.invariant.digits few in
     let is = c.loop-count.invariant.value in
     omega (arith, below, is, c.from.ensures, c.if-is_ascii_digit.ensures.cases)
 

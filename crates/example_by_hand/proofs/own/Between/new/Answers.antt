@@ -3,13 +3,13 @@ use Rattle.std.specs.Prelude.{length, reverse}
 use Rattle.std.proofs.Common.{refl, arith, inr}
 use Rattle.fallible_iterator.specs.Lists.{reversed}
 use Rattle.fallible_iterator.specs.Laws.Showing.{lists_shown, never_fails_shown}
-use Rattle.fallible_iterator.specs.Laws.ShowingEnds.{lists_both_shown}
+use Rattle.fallible_iterator.specs.Laws.ShowingEnds.{lists_both_ends_shown}
 use Rattle.example_by_hand.specs.Between.{numbers_between, shows_between}
 use Rattle.example_by_hand.proofs.Between.{length_between}
 use Rattle.example_by_hand.proofs.own.Between.new.Goals as goal
 
 pub returns-clause-both : goal.returns-clause-both
-returns-clause-both c = lists_both_shown shows_between _
+returns-clause-both c = lists_both_ends_shown shows_between _
 
 pub returns-clause-lists : goal.returns-clause-lists
 returns-clause-lists c = lists_shown shows_between _

@@ -1,25 +1,25 @@
 -- An answer of the current inner iterator, or one of the outer source after its end, is one from the start. An item of the outer source goes before what follows.
 use Rattle.std.proofs.Common.{arith, refl, Ok, Err, Some}
-use Rattle.fallible_core.specs.Laws.Joining.Flatten.{begun_keeps}
-use Rattle.fallible_core.proofs.Lemmas.Joining.Flatten.{flatten_in_hand, flatten_after_end, flatten_at_item, flatten_outer_failure, flatten_outer_end}
+use Rattle.fallible_core.specs.Laws.Joining.Flatten.{kept_by_draws_begun}
+use Rattle.fallible_core.proofs.Lemmas.Joining.Flatten.{flatten_trace_in_hand, flatten_trace_after_end, flatten_trace_at_item, flatten_trace_outer_failure, flatten_trace_outer_end}
 use Rattle.fallible_core.proofs.joining.flatten.next_joined.Goals.{in-Some+in-Ok-None, in-None}
 use Rattle.fallible_core.proofs.joining.flatten.next_joined.Goals as goal
 
 pub returns-in-Ok-Some : goal.returns-in-Ok-Some
-returns-in-Ok-Some g c = c.loop-in_hand.invariant.whole _ _ (flatten_in_hand (Ok (Some c.in-Ok-Some.y)) c.in-Some.is (rw c.in-Ok-Some.field-0-is at c.in-Ok-Some.ensures) refl)
+returns-in-Ok-Some g c = c.loop-in_hand.invariant.whole _ _ (flatten_trace_in_hand (Ok (Some c.in-Ok-Some.y)) c.in-Some.is (rw c.in-Ok-Some.field-0-is at c.in-Ok-Some.ensures) refl)
 
 pub returns-in-Err : goal.returns-in-Err
-returns-in-Err g c = c.loop-in_hand.invariant.whole _ _ (flatten_in_hand (Err c.in-Err.e) c.in-Some.is c.in-Err.ensures refl)
+returns-in-Err g c = c.loop-in_hand.invariant.whole _ _ (flatten_trace_in_hand (Err c.in-Err.e) c.in-Some.is c.in-Err.ensures refl)
 
 pub returns-in-Ok-None-next : goal.returns-in-Ok-None-next
-returns-in-Ok-None-next g c = let ended = flatten_outer_end (rw c.in-Ok-None-next.field-0-is at c.in-Ok-None-next.ensures) in c.loop-in_hand.invariant.whole _ _ (elim c.match-in_hand.branch [
-  | in-Some+in-Ok-None w ↦ flatten_after_end w.next.new.self w.in-Some.is (rw w.in-Ok-None.field-0-is at w.in-Ok-None.ensures) ended
+returns-in-Ok-None-next g c = let ended = flatten_trace_outer_end (rw c.in-Ok-None-next.field-0-is at c.in-Ok-None-next.ensures) in c.loop-in_hand.invariant.whole _ _ (elim c.match-in_hand.branch [
+  | in-Some+in-Ok-None w ↦ flatten_trace_after_end w.next.new.self w.in-Some.is (rw w.in-Ok-None.field-0-is at w.in-Ok-None.ensures) ended
   | in-None w ↦ rw w.in-None.is ended
 ])
 
 pub returns-in-Err-next : goal.returns-in-Err-next
-returns-in-Err-next g c = let failed = flatten_outer_failure c.in-Err-next.e c.in-Err-next.ensures in c.loop-in_hand.invariant.whole _ _ (elim c.match-in_hand.branch [
-  | in-Some+in-Ok-None w ↦ flatten_after_end w.next.new.self w.in-Some.is (rw w.in-Ok-None.field-0-is at w.in-Ok-None.ensures) failed
+returns-in-Err-next g c = let failed = flatten_trace_outer_failure c.in-Err-next.e c.in-Err-next.ensures in c.loop-in_hand.invariant.whole _ _ (elim c.match-in_hand.branch [
+  | in-Some+in-Ok-None w ↦ flatten_trace_after_end w.next.new.self w.in-Some.is (rw w.in-Ok-None.field-0-is at w.in-Ok-None.ensures) failed
   | in-None w ↦ rw w.in-None.is failed
 ])
 
@@ -30,10 +30,10 @@ loop-in_hand-preserved g c = let m = g.O.FallibleIterator.contract in let inner 
     let step = rw c.in-Ok-Some-next.field-0-is at c.in-Ok-Some-next.ensures in
     let fewer = (l.kept_by_draw _ _ _ i.can_next.0 step).answer.1 i.bounded.0 i.bounded.1 in
     record {
-      can_next = (begun_keeps m l g.U.IntoFallibleIterator.into_gives inner k _ _ _ _ (i.can_next.0, i.can_next.1, tt, i.can_next.3) step c.into_fallible_iter.ensures).can_next;
+      can_next = (kept_by_draws_begun m l g.U.IntoFallibleIterator.into_gives inner k _ _ _ _ (i.can_next.0, i.can_next.1, tt, i.can_next.3) step c.into_fallible_iter.ensures).can_next;
       bounded = (fewer.0, fewer.1, omega (arith, fewer.2, i.bounded.2));
       whole = λ r q rest. i.whole r q (elim c.match-in_hand.branch [
-        | in-Some+in-Ok-None w ↦ flatten_after_end w.next.new.self w.in-Some.is (rw w.in-Ok-None.field-0-is at w.in-Ok-None.ensures) (flatten_at_item c.in-Ok-Some-next.x step c.into_fallible_iter.ensures rest)
-        | in-None w ↦ rw w.in-None.is (flatten_at_item c.in-Ok-Some-next.x step c.into_fallible_iter.ensures rest)
+        | in-Some+in-Ok-None w ↦ flatten_trace_after_end w.next.new.self w.in-Some.is (rw w.in-Ok-None.field-0-is at w.in-Ok-None.ensures) (flatten_trace_at_item c.in-Ok-Some-next.x step c.into_fallible_iter.ensures rest)
+        | in-None w ↦ rw w.in-None.is (flatten_trace_at_item c.in-Ok-Some-next.x step c.into_fallible_iter.ensures rest)
       ]);
     }

@@ -1,6 +1,6 @@
 -- The loop of rounds by the order is the comparison, which finds an order.
-use Rattle.fallible_contract.proofs.Lemmas.Comparing.{end_of_either, never_none, answered_as}
-use Rattle.fallible_contract.proofs.Lemmas.Lists.Compared.{compared_with_is}
+use Rattle.fallible_contract.proofs.Lemmas.Comparing.{end_of_either, order_never_none, compared_with_answer}
+use Rattle.fallible_contract.proofs.Lemmas.Lists.Compared.{compared_of_lists_with}
 use Rattle.fallible_core.proofs.traits.FallibleIterator.cmp.Goals as goal
 
 pub compare-answer-requires-clause-right : goal.compare-answer-requires-clause-right
@@ -10,10 +10,10 @@ pub compare-answer-requires-clause-finite : goal.compare-answer-requires-clause-
 compare-answer-requires-clause-finite g c = end_of_either _ _ _ c.into_fallible_iter.ensures c.requires.finite
 
 pub ordered-requires : goal.ordered-requires
-ordered-requires g c = never_none g.Self.Item.Ord.cmp c.compare-answer.ensures
+ordered-requires g c = order_never_none g.Self.Item.Ord.cmp c.compare-answer.ensures
 
 pub returns-clause-compared : goal.returns-clause-compared
-returns-clause-compared g c = answered_as _ _ c.into_fallible_iter.ensures c.compare-answer.ensures c.ordered.ensures
+returns-clause-compared g c = compared_with_answer _ _ c.into_fallible_iter.ensures c.compare-answer.ensures c.ordered.ensures
 
 pub returns-clause-value : goal.returns-clause-value
-returns-clause-value g c a b i j = compared_with_is a b (returns-clause-compared g c) i j
+returns-clause-value g c a b i j = compared_of_lists_with a b (returns-clause-compared g c) i j

@@ -1,34 +1,34 @@
 -- The fold whose state is the collection collects.
 use Rattle.std.specs.Prelude.{Ok, Err}
 use Rattle.std.proofs.Common.{inr}
-use Rattle.fallible_contract.proofs.Lemmas.Collecting.{collected_all, collect_failed, collect_refused}
-use Rattle.fallible_contract.proofs.Lemmas.Lists.Drawn.{collected_as, contents_collected, failure_collected, refused_as}
+use Rattle.fallible_contract.proofs.Lemmas.Collecting.{collects_all_by_turns, fails_with_by_turns, refuses_item_by_turns}
+use Rattle.fallible_contract.proofs.Lemmas.Lists.Drawn.{collected_as, made_of_collected, collected_is_failure, collected_as_refused}
 use Rattle.fallible_contract.specs.declared.collecting.Fault.TheVariants.{Source}
 use Rattle.fallible_core.proofs.traits.FallibleIterator.collect.Goals as goal
 
 pub returns-in-Ok-None-clause-collects : goal.returns-in-Ok-None-clause-collects
-returns-in-Ok-None-clause-collects g c = collected_all {refuses = g.C.Collect.push_refuses} (λ d x r e p. p) c.in-Ok.ensures (rw c.in-Ok-None.field-0-is at c.in-Ok-None.ensures)
+returns-in-Ok-None-clause-collects g c = collects_all_by_turns {refuses = g.C.Collect.push_refuses} (λ d x r e p. p) c.in-Ok.ensures (rw c.in-Ok-None.field-0-is at c.in-Ok-None.ensures)
 
 pub returns-in-Ok-None-clause-value : goal.returns-in-Ok-None-clause-value
 returns-in-Ok-None-clause-value g c l i = collected_as g.C.Collect.made g.C.Collect.empty_refuses g.C.Collect.push_refuses (Ok _) l (returns-in-Ok-None-clause-collects g c) i
 
 pub returns-clause-collects : goal.returns-clause-collects
-returns-clause-collects g c = collect_failed {made = g.C.Collect.made} {refuses = g.C.Collect.push_refuses} (λ d x r e p. p) c.in-Ok.ensures c.in-Err-drive.ensures
+returns-clause-collects g c = fails_with_by_turns {made = g.C.Collect.made} {refuses = g.C.Collect.push_refuses} (λ d x r e p. p) c.in-Ok.ensures c.in-Err-drive.ensures
 
 pub returns-clause-value : goal.returns-clause-value
 returns-clause-value g c l i = collected_as g.C.Collect.made g.C.Collect.empty_refuses g.C.Collect.push_refuses (Err (Source _)) l (returns-clause-collects g c) i
 
 pub returns-in-Ok-Some-clause-collects : goal.returns-in-Ok-Some-clause-collects
-returns-in-Ok-Some-clause-collects g c = inr (collect_refused (λ d x r e p. p) c.in-Ok.ensures (rw c.in-Ok-Some.field-0-is at c.in-Ok-Some.ensures))
+returns-in-Ok-Some-clause-collects g c = inr (refuses_item_by_turns (λ d x r e p. p) c.in-Ok.ensures (rw c.in-Ok-Some.field-0-is at c.in-Ok-Some.ensures))
 
 pub returns-in-Err-clause-value : goal.returns-in-Err-clause-value
-returns-in-Err-clause-value g c l i = refused_as g.C.Collect.made l _
+returns-in-Err-clause-value g c l i = collected_as_refused g.C.Collect.made l _
 
 pub returns-in-Ok-Some-clause-value : goal.returns-in-Ok-Some-clause-value
-returns-in-Ok-Some-clause-value g c l i = refused_as g.C.Collect.made l _
+returns-in-Ok-Some-clause-value g c l i = collected_as_refused g.C.Collect.made l _
 
 pub returns-in-Ok-None-clause-contents : goal.returns-in-Ok-None-clause-contents
-returns-in-Ok-None-clause-contents g c l i = contents_collected g.C.Collect.made l _ (returns-in-Ok-None-clause-value g c l i)
+returns-in-Ok-None-clause-contents g c l i = made_of_collected g.C.Collect.made l _ (returns-in-Ok-None-clause-value g c l i)
 
 pub returns-clause-failure : goal.returns-clause-failure
-returns-clause-failure g c l i e is = failure_collected g.C.Collect.made l (returns-clause-value g c l i) is
+returns-clause-failure g c l i e is = collected_is_failure g.C.Collect.made l (returns-clause-value g c l i) is

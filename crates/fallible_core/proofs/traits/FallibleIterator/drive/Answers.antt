@@ -1,10 +1,10 @@
 -- Each turn goes before the fold from there on.
 use Rattle.std.proofs.Common.{arith}
-use Rattle.fallible_contract.proofs.Lemmas.Folds.{holds_here, holds_after, driven_after, driven_end, driven_failure, driven_stop}
+use Rattle.fallible_contract.proofs.Lemmas.Folds.{holds_at_first_turn, holds_each_turn_after, driven_after, driven_end, driven_failure, driven_stop}
 use Rattle.fallible_core.proofs.traits.FallibleIterator.drive.Goals as goal
 
 pub turn-requires : goal.turn-requires
-turn-requires g c = holds_here c.loop-x.invariant.callable (rw c.in-Ok-Some.field-0-is at c.in-Ok-Some.ensures)
+turn-requires g c = holds_at_first_turn c.loop-x.invariant.callable (rw c.in-Ok-Some.field-0-is at c.in-Ok-Some.ensures)
 
 pub returns-in-Break : goal.returns-in-Break
 returns-in-Break g c = c.loop-x.invariant.whole _ _ _ (driven_stop _ (rw c.in-Ok-Some.field-0-is at c.in-Ok-Some.ensures) c.in-Break.ensures)
@@ -22,6 +22,6 @@ loop-x-preserved g c = let step = rw c.in-Ok-Some.field-0-is at c.in-Ok-Some.ens
     let fewer = goes.answer.1 b.0 b.1 in record {
       can_next = goes.can_next;
       bounded = (fewer.0, fewer.1, omega (arith, fewer.2, b.2));
-      callable = holds_after c.loop-x.invariant.callable step c.in-Continue.ensures;
+      callable = holds_each_turn_after c.loop-x.invariant.callable step c.in-Continue.ensures;
       whole = λ r t d rest. c.loop-x.invariant.whole r t d (driven_after _ step c.in-Continue.ensures rest);
     }

@@ -1,10 +1,10 @@
 -- The fold that keeps the better of two by the order finds the best.
 use Rattle.std.proofs.Common.{rules}
-use Rattle.fallible_contract.proofs.Lemmas.Picking.{best_by_order, best_by_order_is, least_is}
+use Rattle.fallible_contract.proofs.Lemmas.Picking.{best_drains_by_order, best_by_order_of_lists, least_of_lists}
 use Rattle.fallible_core.proofs.traits.FallibleIterator.min.Goals as goal
 
 pub returns-clause-best : goal.returns-clause-best
-returns-clause-best g c = best_by_order g.Self.Item.Ord.cmp c.best_by.ensures g.met.Self.Item.Ord.total tt (λ f x y r j k. search rules)
+returns-clause-best g c = best_drains_by_order g.Self.Item.Ord.cmp c.best_by.ensures g.met.Self.Item.Ord.total tt (λ f x y r j k. search rules)
 
 pub returns-clause-value : goal.returns-clause-value
-returns-clause-value g c l i = least_is g.Self.Item.Ord.cmp l _ (best_by_order_is g.Self.Item.Ord.cmp c.best_by.ensures l (λ x y r j k. search rules) i)
+returns-clause-value g c l i = least_of_lists g.Self.Item.Ord.cmp l _ (best_by_order_of_lists g.Self.Item.Ord.cmp c.best_by.ensures l (λ x y r j k. search rules) i)

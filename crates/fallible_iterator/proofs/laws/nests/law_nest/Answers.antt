@@ -1,7 +1,7 @@
 -- One law a type: that of the outermost first, whose source's trace the next one speaks of.
 use Rattle.std.specs.Prelude.{map}
 use Rattle.fallible_contract.specs.Passing.{source_answer}
-use Rattle.fallible_iterator.proofs.Lemmas.Nests.{pass_of_list, pass_of_source, take_of_list, take_of_source}
+use Rattle.fallible_iterator.proofs.Lemmas.Nests.{pass_trace_of_list, pass_trace_of_source, take_trace_of_list, take_trace_of_source}
 use Rattle.fallible_iterator.proofs.laws.nests.law_nest.Goals as goal
 
 pub returns : goal.returns
@@ -15,12 +15,12 @@ returns g c = λ s trace t. (
         kept = map source_answer maps.places;
         mapped = takes.source_trace;
         drawn = filters.drawn;
-        filters = pass_of_list _ filters;
-        maps = pass_of_list _ maps;
-        takes = take_of_list _ takes;
+        filters = pass_trace_of_list _ filters;
+        maps = pass_trace_of_list _ maps;
+        takes = take_trace_of_list _ takes;
       }),
   (λ h.
-      let filtered = (c.law_filter.ensures s.it.it h.kept t.it.it).1 (pass_of_source _ h.drawn h.filters) in
-      let mapped = (c.law_map.ensures s.it h.mapped t.it).1 (pass_of_source _ filtered h.maps) in
-      (c.law_take.ensures s trace t).1 (take_of_source _ mapped h.takes)),
+      let filtered = (c.law_filter.ensures s.it.it h.kept t.it.it).1 (pass_trace_of_source _ h.drawn h.filters) in
+      let mapped = (c.law_map.ensures s.it h.mapped t.it).1 (pass_trace_of_source _ filtered h.maps) in
+      (c.law_take.ensures s trace t).1 (take_trace_of_source _ mapped h.takes)),
 )

@@ -1,6 +1,6 @@
 -- The fold of what holds.
 use Rattle.fallible_iterator.proofs.Lemmas.Folding.{holds_into, drained_into}
-use Rattle.fallible_itertools.specs.Laws.ChunkBy.{asked_callable}
+use Rattle.fallible_itertools.specs.Laws.ChunkBy.{is_callable_asked}
 use Rattle.fallible_itertools.proofs.chunk_by.ChunkByFallibleIterator.drive.Goals as goal
 
 pub drive_holding-requires-clause-callable : goal.drive_holding-requires-clause-callable
@@ -10,4 +10,4 @@ pub returns : goal.returns
 returns g c = drained_into (λ p. record { it = p.0; alloc = c.args.self.now.alloc; group = p.1.0; due = p.1.1 }) (λ p r q step. step) c.drive_holding.ensures
 
 pub drive_holding-requires-clause-can_next : goal.drive_holding-requires-clause-can_next
-drive_holding-requires-clause-can_next g c = let k = c.requires.can_next in (k.0, k.1, asked_callable g.I.Error.From.from_gives g.K.PartialEq.eq g.F.FnMut g.I.FallibleIterator.contract c.args.self.now.it c.args.self.now.group k.2)
+drive_holding-requires-clause-can_next g c = let k = c.requires.can_next in (k.0, k.1, is_callable_asked g.I.Error.From.from_gives g.K.PartialEq.eq g.F.FnMut g.I.FallibleIterator.contract c.args.self.now.it c.args.self.now.group k.2)

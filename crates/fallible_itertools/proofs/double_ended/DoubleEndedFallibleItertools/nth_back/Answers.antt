@@ -1,11 +1,11 @@
 -- What the list from the back says of the item, and of what is left.
 use Rattle.fallible_iterator.specs.Laws.Contract.{stays_run}
-use Rattle.fallible_iterator.proofs.Lemmas.Lists.Drawn.{nth_is}
+use Rattle.fallible_iterator.proofs.Lemmas.Lists.Drawn.{nth_of_lists}
 use Rattle.fallible_itertools.proofs.FromBack.{nth_at_back}
 use Rattle.fallible_itertools.proofs.double_ended.DoubleEndedFallibleItertools.nth_back.Goals as goal
 
 pub returns-clause-value : goal.returns-clause-value
-returns-clause-value g c l i = nth_is l c.nth_from_back.ensures i
+returns-clause-value g c l i = nth_of_lists l c.nth_from_back.ensures i
 
 pub returns-clause-rest : goal.returns-clause-rest
 returns-clause-rest g c l i = nth_at_back l i c.nth_from_back.ensures

@@ -1,17 +1,17 @@
 -- The turn on a held item and then a fold of the source.
 use Rattle.std.proofs.Common.{sym}
-use Rattle.fallible_iterator.proofs.Lemmas.Folds.{holds_here, driven_stop}
-use Rattle.fallible_itertools.proofs.Lemmas.IntersperseFolds.{held_comes, nothing_held, held_then, driven_bare, driven_behind_held}
+use Rattle.fallible_iterator.proofs.Lemmas.Folds.{holds_at_first_turn, driven_stop}
+use Rattle.fallible_itertools.proofs.Lemmas.IntersperseFolds.{held_comes, holds_each_turn_nothing, holds_each_turn_then, driven_bare, driven_behind_held}
 use Rattle.fallible_itertools.proofs.intersperse.IntersperseFallibleIterator.drive.Goals as goal
 
 pub turn-requires : goal.turn-requires
-turn-requires g c = holds_here c.requires.callable (held_comes g.I.Item.Clone.is_clone g.I.Item.Clone.is_infallible g.I.Error.From.from_gives g.I.FallibleIterator.contract c.args.self.now c.take.new.self _ (sym c.in-Some.ensures.value) c.take.ensures.after)
+turn-requires g c = holds_at_first_turn c.requires.callable (held_comes g.I.Item.Clone.is_clone g.I.Item.Clone.is_infallible g.I.Error.From.from_gives g.I.FallibleIterator.contract c.args.self.now c.take.new.self _ (sym c.in-Some.ensures.value) c.take.ensures.after)
 
 pub drive_parting-requires-clause-callable : goal.drive_parting-requires-clause-callable
-drive_parting-requires-clause-callable g c = held_then g.I.Item.Clone.is_clone g.I.Item.Clone.is_infallible g.I.Error.From.from_gives g.I.FallibleIterator.contract c.args.self.now c.take.new.self _ (sym c.in-Some.ensures.value) c.take.ensures.after c.in-Continue.ensures c.requires.callable
+drive_parting-requires-clause-callable g c = holds_each_turn_then g.I.Item.Clone.is_clone g.I.Item.Clone.is_infallible g.I.Error.From.from_gives g.I.FallibleIterator.contract c.args.self.now c.take.new.self _ (sym c.in-Some.ensures.value) c.take.ensures.after c.in-Continue.ensures c.requires.callable
 
 pub drive_parting-requires-in-None-clause-callable : goal.drive_parting-requires-in-None-clause-callable
-drive_parting-requires-in-None-clause-callable g c = nothing_held g.I.Item.Clone.is_clone g.I.Item.Clone.is_infallible g.I.Error.From.from_gives g.I.FallibleIterator.contract c.args.self.now c.take.new.self (sym c.in-None.ensures.value) c.take.ensures.after c.requires.callable
+drive_parting-requires-in-None-clause-callable g c = holds_each_turn_nothing g.I.Item.Clone.is_clone g.I.Item.Clone.is_infallible g.I.Error.From.from_gives g.I.FallibleIterator.contract c.args.self.now c.take.new.self (sym c.in-None.ensures.value) c.take.ensures.after c.requires.callable
 
 pub returns-in-Continue : goal.returns-in-Continue
 returns-in-Continue g c = driven_behind_held g.I.Item.Clone.is_clone g.I.Item.Clone.is_infallible g.I.Error.From.from_gives g.I.FallibleIterator.contract c.args.self.now c.take.new.self _ (sym c.in-Some.ensures.value) c.take.ensures.after c.in-Continue.ensures c.drive_parting.ensures

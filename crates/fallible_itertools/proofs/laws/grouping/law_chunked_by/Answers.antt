@@ -1,11 +1,11 @@
 -- By the list, with the group that is held before it.
 use Rattle.fallible_itertools.proofs.Lemmas.ChunkBy.{chunked_by_in_parts}
-use Rattle.fallible_itertools.proofs.Lemmas.ChunkedBy.{all_joined}
+use Rattle.fallible_itertools.proofs.Lemmas.ChunkedBy.{parts_all_joined}
 use Rattle.fallible_itertools.proofs.Lemmas.Groups.{all_groups, chunked_by_of_lost, groups_differ}
 use Rattle.fallible_itertools.proofs.laws.grouping.law_chunked_by.Goals as goal
 
 pub returns-clause-items : goal.returns-clause-items
-returns-clause-items g c key l = all_joined _ g.K.PartialEq.eq key l
+returns-clause-items g c key l = parts_all_joined _ g.K.PartialEq.eq key l
 
 pub returns-clause-groups : goal.returns-clause-groups
 returns-clause-groups g c h l = all_groups _ g.K.PartialEq.eq h l

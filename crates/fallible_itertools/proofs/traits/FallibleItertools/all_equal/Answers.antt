@@ -2,13 +2,13 @@
 use Rattle.std.proofs.Common.{true}
 use Rattle.fallible_iterator.specs.Searching.{all_pick}
 use Rattle.fallible_iterator.specs.Laws.Contract.{stays_run}
-use Rattle.fallible_iterator.proofs.Lemmas.Searching.{searched}
+use Rattle.fallible_iterator.proofs.Lemmas.Searching.{search_drains_of_drive}
 use Rattle.fallible_itertools.specs.Equal.{FirstCall}
 use Rattle.fallible_itertools.proofs.Lemmas.Equal.{equal_to_first_is, rest_unequal_is}
 use Rattle.fallible_itertools.proofs.traits.FallibleItertools.all_equal.Goals as goal
 
 pub returns-clause-searched : goal.returns-clause-searched
-returns-clause-searched g c = (_, searched {call = FirstCall g.Self.Item.PartialEq.eq} {pick = all_pick} true (λ f x r g w. w) c.drive.ensures c.answer_or.ensures)
+returns-clause-searched g c = (_, search_drains_of_drive {call = FirstCall g.Self.Item.PartialEq.eq} {pick = all_pick} true (λ f x r g w. w) c.drive.ensures c.answer_or.ensures)
 
 pub returns-clause-value : goal.returns-clause-value
 returns-clause-value g c l i = equal_to_first_is g.Self.Item.PartialEq.eq l i (returns-clause-searched g c).1

@@ -2,7 +2,7 @@
 use Rattle.fallible_iterator.specs.Folds.{call_with}
 use Rattle.fallible_iterator.proofs.Lemmas.Comparing.{end_of_either}
 use Rattle.fallible_itertools.specs.CmpBy.{ordered_by}
-use Rattle.fallible_itertools.proofs.CmpBy.{always_ordered, cmp_acts, compared_by_is}
+use Rattle.fallible_itertools.proofs.CmpBy.{cmp_by_always_ordered, turns_as_cmp_acts, compared_by_of_lists}
 use Rattle.fallible_itertools.proofs.traits.FallibleItertools.cmp_by.Goals as goal
 
 pub compare_by-answer-requires-clause-right : goal.compare_by-answer-requires-clause-right
@@ -15,11 +15,11 @@ pub compare_by-answer-requires-clause-callable : goal.compare_by-answer-requires
 compare_by-answer-requires-clause-callable g c = c.requires.callable _ c.into_fallible_iter.ensures
 
 pub ordered-requires : goal.ordered-requires
-ordered-requires g c = always_ordered (call_with g.F.FnMut) _ c.compare_by-answer.ensures
+ordered-requires g c = cmp_by_always_ordered (call_with g.F.FnMut) _ c.compare_by-answer.ensures
 
 pub returns-clause-compared : goal.returns-clause-compared
 returns-clause-compared g c = rw c.ordered.ensures (record { right = _; made = c.into_fallible_iter.ensures; compared = c.compare_by-answer.ensures })
 
 pub returns-clause-value : goal.returns-clause-value
 unfolding ordered_by
-returns-clause-value g c h acts a b i j = compared_by_is _ (cmp_acts (call_with g.F.FnMut) h acts) a b (returns-clause-compared g c) i j
+returns-clause-value g c h acts a b i j = compared_by_of_lists _ (turns_as_cmp_acts (call_with g.F.FnMut) h acts) a b (returns-clause-compared g c) i j

@@ -2,13 +2,13 @@
 use Rattle.std.proofs.Common.{false}
 use Rattle.fallible_iterator.specs.Searching.{any_pick}
 use Rattle.fallible_iterator.specs.Laws.Contract.{stays_run}
-use Rattle.fallible_iterator.proofs.Lemmas.Searching.{searched}
+use Rattle.fallible_iterator.proofs.Lemmas.Searching.{search_drains_of_drive}
 use Rattle.fallible_itertools.specs.Equal.{TestCall}
 use Rattle.fallible_itertools.proofs.Lemmas.Equal.{contained_is, rest_contained_is}
 use Rattle.fallible_itertools.proofs.traits.FallibleItertools.contains.Goals as goal
 
 pub returns-clause-searched : goal.returns-clause-searched
-returns-clause-searched g c = searched {call = TestCall (λ x. g.Self.Item.PartialEq.eq x c.args.wanted.now)} {pick = any_pick} false (λ f x r g w. w) c.drive.ensures c.answer_or.ensures
+returns-clause-searched g c = search_drains_of_drive {call = TestCall (λ x. g.Self.Item.PartialEq.eq x c.args.wanted.now)} {pick = any_pick} false (λ f x r g w. w) c.drive.ensures c.answer_or.ensures
 
 pub returns-clause-value : goal.returns-clause-value
 returns-clause-value g c l i = contained_is g.Self.Item.PartialEq.eq _ l i (returns-clause-searched g c)

@@ -4,7 +4,7 @@ use Rattle.fallible_iterator.specs.Comparing.{read_as, reads_eq}
 use Rattle.fallible_iterator.specs.Folds.{call_with}
 use Rattle.fallible_iterator.proofs.Lemmas.Comparing.{end_of_either}
 use Rattle.fallible_itertools.specs.CmpBy.{equal_by}
-use Rattle.fallible_itertools.proofs.CmpBy.{eq_acts, compared_by_is}
+use Rattle.fallible_itertools.proofs.CmpBy.{turns_as_eq_acts, compared_by_of_lists}
 use Rattle.fallible_itertools.proofs.traits.FallibleItertools.eq_by.Goals as goal
 
 pub compare_by-answer-requires-clause-right : goal.compare_by-answer-requires-clause-right
@@ -21,4 +21,4 @@ returns-clause-compared g c = (_, record { right = _; made = c.into_fallible_ite
 
 pub returns-clause-value : goal.returns-clause-value
 unfolding equal_by
-returns-clause-value g c h acts a b i j = let w = returns-clause-compared g c in w.2 ∙ ap (read_as reads_eq) (compared_by_is _ (eq_acts (call_with g.F.FnMut) h acts) a b w.1 i j)
+returns-clause-value g c h acts a b i j = let w = returns-clause-compared g c in w.2 ∙ ap (read_as reads_eq) (compared_by_of_lists _ (turns_as_eq_acts (call_with g.F.FnMut) h acts) a b w.1 i j)

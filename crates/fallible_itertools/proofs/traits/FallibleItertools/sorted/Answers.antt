@@ -1,5 +1,5 @@
 -- What `collect` returned, sorted.
-use Rattle.fallible_iterator.proofs.Lemmas.Lists.Drawn.{failure_collected}
+use Rattle.fallible_iterator.proofs.Lemmas.Lists.Drawn.{collected_is_failure}
 use Rattle.fallible_itertools.specs.Sorted.{IsSortedOf}
 use Rattle.fallible_itertools.proofs.Lemmas.Sorted.{contents_where_made, sorted_as}
 use Rattle.fallible_itertools.proofs.traits.FallibleItertools.sorted.Goals as goal
@@ -14,4 +14,4 @@ pub returns-clause-contents : goal.returns-clause-contents
 returns-clause-contents g c l i = contents_where_made (IsSortedOf g.Self.Item.Ord.cmp) l _ (returns-clause-value g c l i)
 
 pub returns-clause-failure : goal.returns-clause-failure
-returns-clause-failure g c l i e is = failure_collected (IsSortedOf g.Self.Item.Ord.cmp) l (returns-clause-value g c l i) is
+returns-clause-failure g c l i e is = collected_is_failure (IsSortedOf g.Self.Item.Ord.cmp) l (returns-clause-value g c l i) is

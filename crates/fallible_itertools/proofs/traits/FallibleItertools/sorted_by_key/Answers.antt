@@ -1,5 +1,5 @@
 -- What `collect` returned, sorted by the keys.
-use Rattle.fallible_iterator.proofs.Lemmas.Lists.Drawn.{failure_collected}
+use Rattle.fallible_iterator.proofs.Lemmas.Lists.Drawn.{collected_is_failure}
 use Rattle.fallible_itertools.specs.Sorted.{IsSortedByCalls, IsSortedByKeyOf}
 use Rattle.fallible_itertools.proofs.Lemmas.Sorted.{contents_where_made, sorted_as, sorted_where}
 use Rattle.fallible_itertools.proofs.traits.FallibleItertools.sorted_by_key.Goals as goal
@@ -14,4 +14,4 @@ pub returns-clause-contents : goal.returns-clause-contents
 returns-clause-contents g c key computes l i = contents_where_made (IsSortedByKeyOf key g.K.Ord.cmp) l _ (returns-clause-value g c key computes l i)
 
 pub returns-clause-failure : goal.returns-clause-failure
-returns-clause-failure g c l i e is = failure_collected (IsSortedByCalls g.F.FnMut g.K.Ord.cmp c.args.f) l (sorted_as (IsSortedByCalls g.F.FnMut g.K.Ord.cmp c.args.f) l _ _ c.sorted_items_by_key.ensures (c.collect.ensures.value l i)) is
+returns-clause-failure g c l i e is = collected_is_failure (IsSortedByCalls g.F.FnMut g.K.Ord.cmp c.args.f) l (sorted_as (IsSortedByCalls g.F.FnMut g.K.Ord.cmp c.args.f) l _ _ c.sorted_items_by_key.ensures (c.collect.ensures.value l i)) is

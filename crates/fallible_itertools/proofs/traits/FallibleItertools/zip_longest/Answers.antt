@@ -1,11 +1,11 @@
 -- What both sides list for good, position by position.
 use Rattle.std.specs.Prelude.{◌+◌}
 use Rattle.std.proofs.Common.{refl, inr, arith}
-use Rattle.fallible_itertools.proofs.Lemmas.ZipLongest.{lists_zipped_longest, lists_zipped_longest_for_good}
+use Rattle.fallible_itertools.proofs.Lemmas.ZipLongest.{lists_zipped_longest, lists_for_good_zipped_longest}
 use Rattle.fallible_itertools.proofs.traits.FallibleItertools.zip_longest.Goals as goal
 
 pub returns-clause-for_good : goal.returns-clause-for_good
-returns-clause-for_good g c a b i k = lists_zipped_longest_for_good g.Self.FallibleIterator.contract g.I.IntoFallibleIter.FallibleIterator.contract _ _ a b refl i (k _ c.into_fallible_iter.ensures)
+returns-clause-for_good g c a b i k = lists_for_good_zipped_longest g.Self.FallibleIterator.contract g.I.IntoFallibleIter.FallibleIterator.contract _ _ a b refl i (k _ c.into_fallible_iter.ensures)
 
 pub returns-clause-lists : goal.returns-clause-lists
 returns-clause-lists g c a b i k = lists_zipped_longest g.Self.FallibleIterator.contract g.I.IntoFallibleIter.FallibleIterator.contract _ _ a b refl i (k _ c.into_fallible_iter.ensures)

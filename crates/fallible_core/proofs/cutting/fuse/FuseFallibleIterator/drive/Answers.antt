@@ -1,19 +1,19 @@
 -- While it is open a fold of the source is a fold of it, which the source's end closes; once closed it ends without a draw.
 use Rattle.std.proofs.Common.{refl, true}
-use Rattle.fallible_core.proofs.Lemmas.Cutting.FuseFolds.{open_driven, open_holds, closed_drained}
+use Rattle.fallible_core.proofs.Lemmas.Cutting.FuseFolds.{driven_open, holds_each_turn_open, drained_closed}
 use Rattle.fallible_core.proofs.cutting.fuse.FuseFallibleIterator.drive.Goals as goal
 
 pub returns-then-ended : goal.returns-then-ended
-returns-then-ended g c = closed_drained g.I.FallibleIterator.contract c.args.self.now c.if-ended.true (record { carried = _; went = refl; exit = (refl, refl) })
+returns-then-ended g c = drained_closed g.I.FallibleIterator.contract c.args.self.now c.if-ended.true (record { carried = _; went = refl; exit = (refl, refl) })
 
 pub drive-requires-clause-callable : goal.drive-requires-clause-callable
-drive-requires-clause-callable g c = open_holds g.I.FallibleIterator.contract c.args.self.now c.if-ended.false c.requires.callable
+drive-requires-clause-callable g c = holds_each_turn_open g.I.FallibleIterator.contract c.args.self.now c.if-ended.false c.requires.callable
 
 pub returns-in-Ok-Some : goal.returns-in-Ok-Some
-returns-in-Ok-Some g c = open_driven g.I.FallibleIterator.contract c.args.self.now c.args.self.now.ended c.if-ended.false c.if-ended.false (rw c.in-Ok-Some.field-0-is at c.in-Ok-Some.ensures)
+returns-in-Ok-Some g c = driven_open g.I.FallibleIterator.contract c.args.self.now c.args.self.now.ended c.if-ended.false c.if-ended.false (rw c.in-Ok-Some.field-0-is at c.in-Ok-Some.ensures)
 
 pub returns-in-Ok-None : goal.returns-in-Ok-None
-returns-in-Ok-None g c = open_driven g.I.FallibleIterator.contract c.args.self.now true c.if-ended.false refl (rw c.in-Ok-None.field-0-is at c.in-Ok-None.ensures)
+returns-in-Ok-None g c = driven_open g.I.FallibleIterator.contract c.args.self.now true c.if-ended.false refl (rw c.in-Ok-None.field-0-is at c.in-Ok-None.ensures)
 
 pub returns-in-Err : goal.returns-in-Err
-returns-in-Err g c = open_driven g.I.FallibleIterator.contract c.args.self.now c.args.self.now.ended c.if-ended.false c.if-ended.false c.in-Err.ensures
+returns-in-Err g c = driven_open g.I.FallibleIterator.contract c.args.self.now c.args.self.now.ended c.if-ended.false c.if-ended.false c.in-Err.ensures

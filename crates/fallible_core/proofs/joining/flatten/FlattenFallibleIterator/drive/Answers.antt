@@ -1,11 +1,11 @@
 -- A fold over the two parts is one over the struct of them.
 use Rattle.std.proofs.Common.{refl}
-use Rattle.fallible_contract.proofs.Lemmas.Overriding.{drained_held, holds_held}
+use Rattle.fallible_contract.proofs.Lemmas.Overriding.{drained_seen, holds_each_turn_seen}
 use Rattle.fallible_core.specs.Joining.Flatten.{flatten_contract, flatten_parts}
 use Rattle.fallible_core.proofs.joining.flatten.FlattenFallibleIterator.drive.Goals as goal
 
 pub drive_joined-requires-clause-callable : goal.drive_joined-requires-clause-callable
-drive_joined-requires-clause-callable g c = holds_held flatten_parts (λ s p. record { it = p.0; in_hand = p.1 }) (λ s p. refl) (flatten_contract g.I.FallibleIterator.contract g.U.IntoFallibleIterator.into_gives g.U.IntoFallibleIter.FallibleIterator.contract) c.requires.callable
+drive_joined-requires-clause-callable g c = holds_each_turn_seen flatten_parts (λ s p. record { it = p.0; in_hand = p.1 }) (λ s p. refl) (flatten_contract g.I.FallibleIterator.contract g.U.IntoFallibleIterator.into_gives g.U.IntoFallibleIter.FallibleIterator.contract) c.requires.callable
 
 pub returns : goal.returns
-returns g c = drained_held flatten_parts (λ s p. record { it = p.0; in_hand = p.1 }) (λ s p. refl) (flatten_contract g.I.FallibleIterator.contract g.U.IntoFallibleIterator.into_gives g.U.IntoFallibleIter.FallibleIterator.contract) c.drive_joined.ensures
+returns g c = drained_seen flatten_parts (λ s p. record { it = p.0; in_hand = p.1 }) (λ s p. refl) (flatten_contract g.I.FallibleIterator.contract g.U.IntoFallibleIterator.into_gives g.U.IntoFallibleIter.FallibleIterator.contract) c.drive_joined.ensures

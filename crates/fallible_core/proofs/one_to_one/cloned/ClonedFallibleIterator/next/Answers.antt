@@ -1,13 +1,13 @@
 -- One answer of the source, and the clone of what it points to, are the trace of one answer.
-use Rattle.fallible_contract.proofs.Lemmas.Passing.{answer_passed, freely}
-use Rattle.fallible_core.proofs.Lemmas.OneToOne.Map.{leaves_none_out}
+use Rattle.fallible_contract.proofs.Lemmas.Passing.{pass_trace_answer, if_item_freely}
+use Rattle.fallible_core.proofs.Lemmas.OneToOne.Map.{leaves_none_out_of_map}
 use Rattle.fallible_core.proofs.one_to_one.cloned.ClonedFallibleIterator.next.Goals as goal
 
 pub passed-requires-clause-takes : goal.passed-requires-clause-takes
-passed-requires-clause-takes g c = freely (λ x. tt) c.next.result
+passed-requires-clause-takes g c = if_item_freely (λ x. tt) c.next.result
 
 pub passed-requires-clause-answers : goal.passed-requires-clause-answers
-passed-requires-clause-answers g c = leaves_none_out
+passed-requires-clause-answers g c = leaves_none_out_of_map
 
 pub returns : goal.returns
-returns g c = answer_passed _ c.next.ensures c.passed.ensures
+returns g c = pass_trace_answer _ c.next.ensures c.passed.ensures

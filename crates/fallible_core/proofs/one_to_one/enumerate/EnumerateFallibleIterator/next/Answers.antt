@@ -1,7 +1,7 @@
 -- One answer of the source, numbered where it is an item, is the trace of one answer.
 use Rattle.std.proofs.Common.{refl}
-use Rattle.fallible_contract.proofs.Lemmas.Passing.{answer_passed}
-use Rattle.fallible_core.proofs.Lemmas.OneToOne.EnumerateFolds.{to_numbers, drawn_numbered}
+use Rattle.fallible_contract.proofs.Lemmas.Passing.{pass_trace_answer}
+use Rattle.fallible_core.proofs.Lemmas.OneToOne.EnumerateFolds.{numbered_step_of_passing, drawn_numbered}
 use Rattle.fallible_core.proofs.one_to_one.enumerate.EnumerateFallibleIterator.next.Goals as goal
 
 pub passed-requires-clause-takes : goal.passed-requires-clause-takes
@@ -11,4 +11,4 @@ pub passed-requires-clause-answers : goal.passed-requires-clause-answers
 passed-requires-clause-answers g c = λ x n. refl
 
 pub returns : goal.returns
-returns g c = to_numbers _ _ _ (answer_passed _ c.next.ensures c.passed.ensures)
+returns g c = numbered_step_of_passing _ _ _ (pass_trace_answer _ c.next.ensures c.passed.ensures)

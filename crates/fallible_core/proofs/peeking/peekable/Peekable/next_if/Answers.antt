@@ -5,27 +5,27 @@ use Rattle.fallible_contract.specs.Laws.Contract.{stays_here}
 use Rattle.fallible_contract.proofs.Lemmas.Contract.{stays_step}
 use Rattle.fallible_core.specs.Peeking.Peekable.{peekable_parts}
 use Rattle.fallible_core.specs.Laws.Peeking.Peekable.{lawful_peekable}
-use Rattle.fallible_core.proofs.Lemmas.Peeking.Peekable.{takes_item, keeps_item, keeps_end, takes_failure, stays_kept}
+use Rattle.fallible_core.proofs.Lemmas.Peeking.Peekable.{next_if_takes_item, next_if_keeps_item, next_if_keeps_end, next_if_takes_failure, stays_kept}
 use Rattle.fallible_core.proofs.Lemmas.Peeking.PeekableLists.{next_if_listed}
 use Rattle.fallible_core.proofs.peeking.peekable.Peekable.next_if.Goals as goal
 
 pub returns-then-f-clause-taken : goal.returns-then-f-clause-taken
-returns-then-f-clause-taken g c = takes_item _ _ _ _ _ (rw c.in-Ok-Some.field-0-is at c.in-Ok-Some.ensures) record { shown = _; shows = refl; says = record { met = c.if-f.ensures } }
+returns-then-f-clause-taken g c = next_if_takes_item _ _ _ _ _ (rw c.in-Ok-Some.field-0-is at c.in-Ok-Some.ensures) record { shown = _; shows = refl; says = record { met = c.if-f.ensures } }
 
 pub returns-in-Ok-Some-clause-taken : goal.returns-in-Ok-Some-clause-taken
-returns-in-Ok-Some-clause-taken g c = keeps_item _ _ _ (peekable_parts c.next.new.self) _ (rw c.in-Ok-Some.field-0-is at c.in-Ok-Some.ensures) record { shown = _; shows = refl; says = record { met = c.if-f.ensures } }
+returns-in-Ok-Some-clause-taken g c = next_if_keeps_item _ _ _ (peekable_parts c.next.new.self) _ (rw c.in-Ok-Some.field-0-is at c.in-Ok-Some.ensures) record { shown = _; shows = refl; says = record { met = c.if-f.ensures } }
 
 pub returns-in-Ok-Some-clause-stays : goal.returns-in-Ok-Some-clause-stays
 returns-in-Ok-Some-clause-stays g c = stays_kept g.met.I.FallibleIterator.lawful _ (peekable_parts c.next.new.self) (Some c.in-Ok-Some.x) c.requires.can_next (rw c.in-Ok-Some.field-0-is at c.in-Ok-Some.ensures)
 
 pub returns-in-Ok-None-clause-taken : goal.returns-in-Ok-None-clause-taken
-returns-in-Ok-None-clause-taken g c = keeps_end _ _ _ (peekable_parts c.next.new.self) (rw c.in-Ok-None.field-0-is at c.in-Ok-None.ensures)
+returns-in-Ok-None-clause-taken g c = next_if_keeps_end _ _ _ (peekable_parts c.next.new.self) (rw c.in-Ok-None.field-0-is at c.in-Ok-None.ensures)
 
 pub returns-in-Ok-None-clause-stays : goal.returns-in-Ok-None-clause-stays
 returns-in-Ok-None-clause-stays g c = stays_kept g.met.I.FallibleIterator.lawful _ (peekable_parts c.next.new.self) None c.requires.can_next (rw c.in-Ok-None.field-0-is at c.in-Ok-None.ensures)
 
 pub returns-clause-taken : goal.returns-clause-taken
-returns-clause-taken g c = takes_failure _ _ _ _ _ c.in-Err.ensures
+returns-clause-taken g c = next_if_takes_failure _ _ _ _ _ c.in-Err.ensures
 
 pub returns-then-f-clause-stays : goal.returns-then-f-clause-stays
 returns-then-f-clause-stays g c = stays_step (lawful_peekable g.met.I.FallibleIterator.lawful) (stays_here c.requires.can_next) c.next.ensures

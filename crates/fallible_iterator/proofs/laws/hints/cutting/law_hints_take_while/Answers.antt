@@ -2,12 +2,12 @@
 use Rattle.fallible_contract.specs.Closures.{call_at}
 use Rattle.fallible_contract.specs.Hints.{upper_alone}
 use Rattle.fallible_core.specs.Cutting.TakeWhile.{take_while_parts, place_drawn, taken_answer, is_refused}
-use Rattle.fallible_iterator.proofs.Lemmas.Hints.Drawn.{brackets_seen, upper_sound, sound_seen}
-use Rattle.fallible_iterator.proofs.Lemmas.Hints.Cutting.{take_while_items, hint_open, closed_brackets}
+use Rattle.fallible_iterator.proofs.Lemmas.Hints.Drawn.{brackets_seen, as_sound_upper, as_sound_seen}
+use Rattle.fallible_iterator.proofs.Lemmas.Hints.Cutting.{items_of_items_take_while, hint_of_open_fuse, brackets_closed}
 use Rattle.fallible_iterator.proofs.laws.hints.cutting.law_hints_take_while.Goals as goal
 
 pub returns-clause-open : goal.returns-clause-open
-returns-clause-open g c = λ s e h is. let k = hint_open (λ p k. upper_alone g.I.FallibleIterator.contract p.0 k) (take_while_parts s) h e is in (k.0, k.1, sound_seen take_while_parts _ s h (upper_sound _ _ _ _ (take_while_items g.I.FallibleIterator.contract.steps (call_at g.P.FnMut)) (take_while_parts s) e k.0 h k.2))
+returns-clause-open g c = λ s e h is. let k = hint_of_open_fuse (λ p k. upper_alone g.I.FallibleIterator.contract p.0 k) (take_while_parts s) h e is in (k.0, k.1, as_sound_seen take_while_parts _ s h (as_sound_upper _ _ _ _ (items_of_items_take_while g.I.FallibleIterator.contract.steps (call_at g.P.FnMut)) (take_while_parts s) e k.0 h k.2))
 
 pub returns-clause-closed : goal.returns-clause-closed
-returns-clause-closed g c = λ s e h is. brackets_seen take_while_parts _ s h (closed_brackets (place_drawn g.I.FallibleIterator.contract.steps (call_at g.P.FnMut)) taken_answer is_refused (λ p k. upper_alone g.I.FallibleIterator.contract p.0 k) (take_while_parts s) h e is)
+returns-clause-closed g c = λ s e h is. brackets_seen take_while_parts _ s h (brackets_closed (place_drawn g.I.FallibleIterator.contract.steps (call_at g.P.FnMut)) taken_answer is_refused (λ p k. upper_alone g.I.FallibleIterator.contract p.0 k) (take_while_parts s) h e is)

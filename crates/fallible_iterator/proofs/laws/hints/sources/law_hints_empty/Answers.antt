@@ -1,6 +1,6 @@
 -- No item comes.
-use Rattle.fallible_iterator.proofs.Lemmas.Hints.Drawn.{no_item, made_of}
+use Rattle.fallible_iterator.proofs.Lemmas.Hints.Drawn.{brackets_no_item, brackets_of_bounds}
 use Rattle.fallible_iterator.proofs.laws.hints.sources.law_hints_empty.Goals as goal
 
 pub returns : goal.returns
-returns g c = λ s h is. made_of _ s is (no_item _ s (λ x t step. cc))
+returns g c = λ s h is. brackets_of_bounds _ s is (brackets_no_item _ s (λ x t step. cc))
