@@ -149,7 +149,7 @@ ITERTOOLS = [
     (r"traits\.rs", r"^    fn counts\b", r'    #[cfg(feature = "std")]\n\g<0>', 1),
     (r"lib\.rs", r"\A(?://!.*\n)+\n", HEAD, 1),
     (r"lib\.rs", r"^pub mod \w+;", r"#[doc(hidden)]\n\g<0>", 27),
-    (r"(?:batch|counts|join)\.rs", r"\A(//!.*\n\n)", r"\1use fallible_iterator::memory::AllocError;\n", 3),
+    (r"(?:batch|chunks|counts|join)\.rs", r"\A(//.*\n\n)", r"\1use fallible_iterator::memory::AllocError;\n", 4),
 ]
 
 # Collections of std that are made by Rust's own `collect`.
