@@ -67,7 +67,7 @@ is_terms_sum left right v w t g = record {
       ∙ sym (add-mod (s + v) w (2 ^ 64))
       ∙ ap (λ k. k % 2 ^ 64) (sum_of_three s v w)
       ∙ sym (add-mod-mod s (v + w) (2 ^ 64));
-  comes_to_value_of_written = λ outside s rest.
+  comes = λ outside s rest.
       ap (after_tokens (outside, record { sum = s; product = 1 }, true)) (append_assoc left (Plus ∷ right) rest)
       ∙ t.comes outside s (Plus ∷ (right ++ rest))
       ∙ g outside (with_plus (t.level s)) rest;
