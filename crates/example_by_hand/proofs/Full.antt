@@ -43,7 +43,7 @@ module _ {E F : Type 0} (call : F → ℕ → Result Bool E → F → Type 0) (f
         no = k.collection.1.1;
         list_is = d.list_is ∙ ap (λ r. map (λ x. Ok x) k.items ++ r) d.rest_is.1;
         sent = sym a.1;
-        made = ap (λ (xs : List ℕ). partitioned h (map (λ x. Ok x) xs)) (sym parts.beside) ∙ both.1 ∙ (let yes = parts.first in let no = parts.second in cc);
+        made = ap (λ (xs : List ℕ). partitioned h (map (λ x. Ok x) xs)) (sym parts.beside) ∙ both.1 ∙ (let yes = parts.made_of_true in let no = parts.made_of_false in cc);
         full = asked.3;
       }
 

@@ -1,7 +1,7 @@
 //! What is left after a call through a borrow.
 ghost use Rattle.std.specs.Prelude.{◌≡◌, ◌-◌, ◌^◌, ℕ, eqb, List, Option, Result, Ok, Err, Some, None};
 ghost use Rattle.fallible_iterator.specs.Contract.{AtMost};
-ghost use Rattle.fallible_iterator.specs.Lists.{Lists, rest_first, rest_true, counted, found, looked_ahead, nth_of, on_value, position_in, results};
+ghost use Rattle.fallible_iterator.specs.Lists.{Lists, rest_first, rest_true, counted, found, rest_look, nth_of, on_value, position_in, results};
 
 use fallible_iterator::{FallibleIterator, convert};
 
@@ -67,7 +67,7 @@ where
     requires fits { AtMost I.contract it (2 ^ 64 - 1) }
     ensures { (l : List (Result ℕ I.Error)) → Lists I.contract.steps it l
         → result ≡ on_value (nth_of 0 l)
-        (λ first. on_value (counted (looked_ahead l)) (λ n. Ok (first, n))) }
+        (λ first. on_value (counted (rest_look l)) (λ n. Ok (first, n))) }
 {
     let mut ahead = it.peekable();
     let first = ahead.peek_copied()?;

@@ -11,7 +11,7 @@ use std::alloc::{AllocError, Global};
 use std::collections::{BTreeMap, BTreeSet, HashMap, HashSet, VecDeque};
 
 /// The doubled numbers as a vector and as a deque, each unless an allocation fails.
-pub fn doubled_in_order(
+pub fn doubled_vec_and_deque(
     alloc: Global,
     numbers: &[u32],
 ) -> (

@@ -5,7 +5,7 @@ ghost use Rattle.fallible_iterator.specs.Comparing.{by_cmp};
 ghost use Rattle.fallible_iterator.specs.Lists.{Lists, filtered, nth_of, results};
 ghost use Rattle.fallible_itertools.specs.Equal.{contained, equal_to_first, rest_contained};
 ghost use Rattle.fallible_itertools.specs.FindOrLast.{found_or_last};
-ghost use Rattle.fallible_itertools.specs.IsSorted.{in_order, sorted_by_key};
+ghost use Rattle.fallible_itertools.specs.IsSorted.{in_order, in_order_by_key};
 ghost use Rattle.fallible_itertools.specs.FoldWhile.{rest_while, folded_while};
 ghost use Rattle.fallible_itertools.specs.declared.fold_while.FoldWhile.TheVariants.{Continue, Done};
 
@@ -56,7 +56,7 @@ where
 
 /// Whether the last digits of the readings above 100 never go down, or the first failure.
 pub fn last_digits_sorted(readings: Vec<Result<u32, u8>>) -> Result<bool, u8>
-    ensures { result ≡ sorted_by_key (by_cmp nat_cmp) (λ x. Ok (x % 10))
+    ensures { result ≡ in_order_by_key (by_cmp nat_cmp) (λ x. Ok (x % 10))
         (filtered (λ x. Ok (nat_lt 100 x)) (results readings.items)) }
 {
     convert(readings.into_iter())

@@ -34,12 +34,12 @@ DrawsRecord bytes (Ok None) rest = (bytes ≡ []) × (rest ≡ [])
 DrawsRecord bytes (Err e) rest = (0 < length bytes) × (length bytes < 8) × (rest ≡ [])
 
 -- whether the first number is not above the second
-abbrev pub is_good : Record → Bool
-is_good r = nat_le r.low r.high
+abbrev pub is_low_to_high : Record → Bool
+is_low_to_high r = nat_le r.low r.high
 
 -- a record, where it is good; otherwise the fault that tells its place
 abbrev pub checked : ℕ → Record → Result Record TableFault
-checked place r = if is_good r then Ok r else Err (Bad place)
+checked place r = if is_low_to_high r then Ok r else Err (Bad place)
 
 -- the totals with one record more, all modulo 2 ^ 64
 abbrev pub with_record : Totals → Record → Totals

@@ -3,7 +3,7 @@ ghost use Rattle.std.specs.Prelude.{◌≡◌, ◌+◌, ◌*◌, ◌%◌, ◌^�
 ghost use Rattle.std.proofs.Common.{rules};
 ghost use Rattle.fallible_iterator.specs.Contract.{counted_contract};
 ghost use Rattle.fallible_iterator.specs.Lists.{Lists, folded, position_in, filtered};
-ghost use Rattle.example_tasks.specs.Tables.{DrawsRecord, record_of, records, is_good, checked, with_record, totals_of};
+ghost use Rattle.example_tasks.specs.Tables.{DrawsRecord, record_of, records, is_low_to_high, checked, with_record, totals_of};
 
 use fallible_iterator::FallibleIterator;
 
@@ -33,8 +33,8 @@ impl Record {
     }
 
     /// Whether the first number is not above the second.
-    pub fn is_good(&self) -> bool
-        ensures { result ≡ is_good self.now }
+    pub fn is_low_to_high(&self) -> bool
+        ensures { result ≡ is_low_to_high self.now }
     {
         self.low <= self.high
     }
@@ -91,9 +91,9 @@ pub fn first_bad(bytes: &[u8]) -> Result<Option<usize>, CutShort>
 /// The sum of the second numbers of the good records, modulo 2 ^ 64. It draws up to the table's end. It fails where that is within a record.
 pub fn high_of_good(bytes: &[u8]) -> Result<u64, CutShort>
     ensures { result ≡ folded (λ e. e) (λ s r. Ok ((s + r.high) % 2 ^ 64)) 0
-        (filtered (λ r. Ok (is_good r)) (records bytes.now)) }
+        (filtered (λ r. Ok (is_low_to_high r)) (records bytes.now)) }
 {
-    read(bytes).filter(|record| Ok(record.is_good())).fold(
+    read(bytes).filter(|record| Ok(record.is_low_to_high())).fold(
         0,
         |sum: u64, record: Record| Ok(sum.wrapping_add(u64::from(record.high))),
     )
@@ -136,7 +136,7 @@ impl Totals {
 fn checked(place: usize, drawn: Record) -> Result<Record, TableFault>
     ensures { result ≡ checked place drawn }
 {
-    if drawn.is_good() {
+    if drawn.is_low_to_high() {
         Ok(drawn)
     } else {
         Err(TableFault::Bad(place))

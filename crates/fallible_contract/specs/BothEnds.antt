@@ -60,7 +60,7 @@ came_from_back ((Back, r) ∷ drawn) = answer_came r (came_from_back drawn)
 -- What came from the front, what is left, and what came from the back, reversed, make the list; and `Ok(None)` was returned only where nothing was left.
 pub record Interleaves {S A E : Type 0} (front back : S → Answered A E → S → Type 0) (l : List (Result A E)) (drawn : List (Side × Answered A E)) (t : S) : Type 0 where
   pub after : List (Result A E)
-  pub listed : ListsBothEnds front back t after
+  pub lists_after : ListsBothEnds front back t after
   pub makes : l ≡ came_from_front drawn ++ after ++ reverse (came_from_back drawn)
   pub ends : (before after : List (Side × Answered A E)) (side : Side) → drawn ≡ before ++ (side, end) ∷ after → l ≡ came_from_front before ++ reverse (came_from_back before)
 

@@ -62,8 +62,8 @@ pub record Sides {A E F B : Type 0} (call : F → A → Result Bool E → F → 
   pub answered : List (A × Bool)
   pub beside : map (λ p. p.0) answered ≡ items
   pub called : FoldsTo {P = F} (λ g p h. call g p.0 (Ok p.1) h) f answered c.0
-  pub first : made (answered_true answered) c.1.0
-  pub second : made (answered_false answered) c.1.1
+  pub made_of_true : made (answered_true answered) c.1.0
+  pub made_of_false : made (answered_false answered) c.1.1
 
 -- The closure is called on the item, and returns.
 abbrev pub Asks : {A E F : Type 0} → (F → A → Result Bool E → F → Type 0) → F → A → F → Type 0

@@ -107,7 +107,7 @@ module _ {A E : Type 0} (rule : A → A → Option Ordering) where
     pub right : T
     pub left_ran : Run left-steps s (map item (map (λ p. p.0) pairs) ++ last_left ∷ []) left
     pub right_ran : Run right-steps t (map item (map (λ p. p.1) pairs) ++ where_drawn last_right) right
-    pub exit : LastRound last_left last_right r
+    pub last_round : LastRound last_left last_right r
 
   -- The other value became an iterator, as `into` allows, and the comparison with it had this result.
   pub record ComparedWith {S O T : Type 0} (into : O → T → Type 0) (left-steps : S → Answered A E → S → Type 0) (right-steps : T → Answered A E → T → Type 0) (s : S) (other : O) (r : Result (Option Ordering) E) : Type 0 where

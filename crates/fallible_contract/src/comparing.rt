@@ -6,7 +6,7 @@ ghost use Rattle.std.specs.declared.cmp.Ordering.{Ordering};
 use std::cmp::Ordering;
 
 /// How two items compare; `None` if they can't be compared.
-pub trait Rule<A> {
+pub trait Comparison<A> {
     // What the rule says of two items.
     ghost rule: { A → A → Option Ordering };
 
@@ -18,7 +18,7 @@ pub trait Rule<A> {
 /// By the order of the items.
 pub struct ByCmp;
 
-impl<A: Ord> Rule<A> for ByCmp {
+impl<A: Ord> Comparison<A> for ByCmp {
     ghost rule = { by_cmp A.cmp };
 
     fn compare(left: &A, right: &A) -> Option<Ordering> {
@@ -29,7 +29,7 @@ impl<A: Ord> Rule<A> for ByCmp {
 /// By a partial order of the items.
 pub struct ByPartialCmp;
 
-impl<A: PartialOrd> Rule<A> for ByPartialCmp {
+impl<A: PartialOrd> Comparison<A> for ByPartialCmp {
     ghost rule = { A.partial_cmp };
 
     fn compare(left: &A, right: &A) -> Option<Ordering> {
@@ -40,7 +40,7 @@ impl<A: PartialOrd> Rule<A> for ByPartialCmp {
 /// By the equality of the items: unlike ones can't be compared.
 pub struct ByEq;
 
-impl<A: PartialEq> Rule<A> for ByEq {
+impl<A: PartialEq> Comparison<A> for ByEq {
     ghost rule = { by_eq A.eq };
 
     fn compare(left: &A, right: &A) -> Option<Ordering> {
@@ -53,7 +53,7 @@ impl<A: PartialEq> Rule<A> for ByEq {
 }
 
 /// What one round decides, if neither side failed: `None` for two items that are equal by the rule, so that the comparison goes on.
-pub fn decide<A: Drop, K: Rule<A>>(left: Option<A>, right: Option<A>) -> Option<Option<Ordering>>
+pub fn decide<A: Drop, K: Comparison<A>>(left: Option<A>, right: Option<A>) -> Option<Option<Ordering>>
     ensures { result ≡ decided_round K.rule left right }
 {
     match (left, right) {

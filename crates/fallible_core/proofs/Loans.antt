@@ -18,11 +18,11 @@ module _ {M : Type 1} {𝓤 : Ura M} (𝓛 : Logic 𝓤) where
 
   module _ (κ : Lft) (q : Share) where
     -- the way to end a lifetime inside κ, which gives κ's token back
-    abbrev pub Ends : ℕ → Share → SProp 𝓤
-    Ends a s = wand 𝓤 (A.lft (a ∷ κ) s) (H.⇛ (sep 𝓤 (A.dead (a ∷ κ)) (A.lft κ q)))
+    abbrev pub LifetimeEnds : ℕ → Share → SProp 𝓤
+    LifetimeEnds a s = wand 𝓤 (A.lft (a ∷ κ) s) (H.⇛ (sep 𝓤 (A.dead (a ∷ κ)) (A.lft κ q)))
 
     abbrev pub Begun : ℕ × Share → SProp 𝓤
-    Begun p = sep 𝓤 (A.lft (p.0 ∷ κ) p.1) (Ends p.0 p.1)
+    Begun p = sep 𝓤 (A.lft (p.0 ∷ κ) p.1) (LifetimeEnds p.0 p.1)
 
     -- a new lifetime inside κ, with its token, and the way to end it
     pub begins : ent 𝓤 (A.lft κ q) (H.⇛ (ex 𝓤 Begun))
@@ -31,7 +31,7 @@ module _ {M : Type 1} {𝓤 : Ura M} (𝓛 : Logic 𝓤) where
         let s : Share = (common full_share q).0 in
         let Back : SProp 𝓤 = wand 𝓤 (A.lft (a ∷ κ) s) (sep 𝓤 (A.lft (a ∷ []) full_share) (A.lft κ q)) in
         use2 𝓛 (‵ (flft (a ∷ κ) s) ⊛ raw Back) (lft-common 𝓛 (a ∷ []) κ full_share q) $ split ! $ move ! (1 ∷ []) $
-        use1 𝓛 (raw (Ends a s)) (wand_i 𝓤 Back (A.lft (a ∷ κ) s) _ (qed 𝓛 (raw Back ∷ ‵ (flft (a ∷ κ) s) ∷ []) ∵ updating ! $ move ! (1 ∷ 0 ∷ []) $
+        use1 𝓛 (raw (LifetimeEnds a s)) (wand_i 𝓤 Back (A.lft (a ∷ κ) s) _ (qed 𝓛 (raw Back ∷ ‵ (flft (a ∷ κ) s) ∷ []) ∵ updating ! $ move ! (1 ∷ 0 ∷ []) $
         use2 𝓛 (‵ (flft (a ∷ []) full_share) ⊛ ‵ (flft κ q)) (apply∗ 𝓤 (A.lft (a ∷ κ) s) (sep 𝓤 (A.lft (a ∷ []) full_share) (A.lft κ q))) $ split ! $ lft_end ! tt $
         use1 𝓛 (‵ (fdead (a ∷ κ))) (𝓛.lfts.dead-incl (a ∷ κ) (a ∷ []) (meet_⊑_left (a ∷ []) κ)) $ at_once ! $ done !)) $
         at_once ! $ show ! Begun (a, s) $ move ! (1 ∷ 0 ∷ []) $ done !)

@@ -8,7 +8,7 @@ use crate::joining::Zip;
 use crate::number::Number;
 use crate::traits::FallibleIterator;
 use crate::traits::conversion::IntoFallibleIterator;
-use fallible_contract::comparing::{Reading, Rule, decide};
+use fallible_contract::comparing::{Reading, Comparison, decide};
 use std::cmp::Ordering;
 
 /// Draws the left and then the right in each round, until a failure, an `Ok(None)`, or two items that aren't equal by the rule.
@@ -17,7 +17,7 @@ where
     L: FallibleIterator,
     L::Item: Drop,
     R: FallibleIterator<Item = L::Item, Error = L::Error>,
-    K: Rule<L::Item>,
+    K: Comparison<L::Item>,
     requires left { L.contract.can_next left }
     requires right { R.contract.can_next right }
     requires finite { L.contract.is_finite left ⊎ R.contract.is_finite right }
@@ -65,7 +65,7 @@ where
     L: FallibleIterator,
     L::Item: Drop,
     I: IntoFallibleIterator<Item = L::Item, Error = L::Error>,
-    K: Rule<L::Item>,
+    K: Comparison<L::Item>,
     R: Reading,
     requires can_next { L.contract.can_next left }
     requires right { (right : I.IntoFallibleIter) → I.into_gives other right

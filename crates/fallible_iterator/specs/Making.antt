@@ -29,23 +29,23 @@ module _ {X B E : Type 0} (made : X → B → Type 0) where
   IsMadeOf (Err d) r = r ≡ Err d
 
   module _ {S : Type 0} (steps : S → Answered B E → S → Type 0) (from : AllocError → E → Type 0) where
-    -- The answer is a refusal, or a value that was held, made of some x that is none of the list's, and the next answer is a refusal.
+    -- The answer is an allocation failure. Or it is a buffered value, made of some x that is none of the list's, and the next answer is an allocation failure.
     abbrev pub AtRefusal : Answered B E → S → Type 0
     AtRefusal r t = AnswersRefusal from r ⊎ ((x : X) × (y : B) × made x y × (r ≡ Ok (Some y)) × RefusesNext steps from t)
 
-    -- Whatever is drawn from s, the answers are those of the list, in order, with values made of its items, and then an end. That is so up to a refusal and what was held before it; after a refusal nothing is said.
+    -- Whatever is drawn from s, the answers are those of the list, in order, with values made of its items, and then an end. That holds up to an allocation failure and what was buffered before it. What comes after an allocation failure isn't stated.
     abbrev pub GivesMade : S → List (Result X E) → Type 0
     GivesMade s [] = (r : Answered B E) (t : S) → steps s r t → r ≡ end
     GivesMade s (y ∷ l) = (r : Answered B E) (t : S) → steps s r t → AtRefusal r t ⊎ (IsMadeOf y r × GivesMade t l)
 
-    -- The answers of s, up to its first end, list l, with values made of its items; up to a refusal and what was held before it.
+    -- The answers of s, up to its first end, list l, with values made of its items; up to an allocation failure and what was buffered before it.
     pub record ListsMade (s : S) (l : List (Result X E)) : Type 0 where
       pub runs : GivesMade s l
 
 -- ---- a closure that makes values
 
 module _ {V B E : Type 0} (made : V → B → Type 0) (from : AllocError → E → Type 0) where
-  -- The answer is the one that is told: a value made of the one that is told, or that failure; or it is an allocation failure.
+  -- The answer is the given one: a value made of the given one, or that failure; or it is an allocation failure.
   abbrev pub IsToldOrRefused : Result V E → Result B E → Type 0
   IsToldOrRefused (Ok v) (Ok y) = made v y
   IsToldOrRefused (Err d) (Ok y) = ⊥
@@ -56,11 +56,11 @@ module _ {V B E : Type 0} (made : V → B → Type 0) (from : AllocError → E �
   abbrev pub Makes : {F X : Type 0} → (F → X → Result B E → F → Type 0) → F → (X → Result V E) → Type 0
   Makes {F} {X} call f h = (x : X) (r : Result B E) (g : F) → call f x r g → (g ≡ f) × IsToldOrRefused (h x) r
 
--- The closure f acts as the function h on values: called on one that is made of x it answers a value made of h x, or a refusal; and it stays as it is.
+-- The closure f acts as the function h on values: called on one that is made of x it returns a value made of h x, or an allocation failure; and it stays as it is.
 abbrev pub MakesOf : {X B Y C E F : Type 0} → (X → B → Type 0) → (Y → C → Type 0) → (AllocError → E → Type 0) → (F → B → Result C E → F → Type 0) → F → (X → Y) → Type 0
 MakesOf {X} {B} {Y} {C} {E} {F} of made from call f h = (x : X) (y : B) (r : Result C E) (g : F) → of x y → call f y r g → (g ≡ f) × IsToldOrRefused made from (Ok (h x)) r
 
--- The same of a closure on the value so far and an item: where they are made of d and x it answers a value made of h d x, or a refusal.
+-- The same of a closure on the value so far and an item: where they are made of d and x it returns a value made of h d x, or an allocation failure.
 abbrev pub MakesWith : {X B D C E F : Type 0} → (X → B → Type 0) → (D → C → Type 0) → (AllocError → E → Type 0) → (F → C → B → Result C E → F → Type 0) → F → (D → X → D) → Type 0
 MakesWith {X} {B} {D} {C} {E} {F} of made from call f h = (d : D) (c : C) (x : X) (y : B) (r : Result C E) (g : F) → made d c → of x y → call f c y r g → (g ≡ f) × IsToldOrRefused made from (Ok (h d x)) r
 
@@ -77,6 +77,6 @@ CollectedMade {V} {B} made from into l (Ok c) = (vs : List V) × (ys : List B) �
 CollectedMade made from into l (Err (Source e)) = (collected l ≡ Err e) ⊎ IsRefusal from e
 CollectedMade made from into l (Err (Memory a)) = ⊤
 
--- What a consumer answers over what lists made values, where its answer over the list is told and says nothing of the values: that one, or a refusal.
+-- What a consumer returns over what lists made values, if its result over the list is given and says nothing of the values: that result, or an allocation failure.
 abbrev pub SameOrRefused : {R E : Type 0} → (AllocError → E → Type 0) → Result R E → Result R E → Type 0
 SameOrRefused from told r = IsToldOrRefused (λ v y. y ≡ v) from told r

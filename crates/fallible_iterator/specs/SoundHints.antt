@@ -40,8 +40,8 @@ module _ {S A E : Type 0} (m : Contract S A E) (s : S) where
   SoundAbove = (h : ℕ × Option ℕ) → m.hints s h → BoundsAbove m.steps s h.1
 
   -- Each hint that s may return is made of one that its source may return, and is as sound as that one.
-  abbrev pub KeepsBrackets : {T B D : Type 0} → Contract T B D → T → Type 0
-  KeepsBrackets source it = (h : ℕ × Option ℕ) → m.hints s h → (k : ℕ × Option ℕ) × source.hints it k × AsSound m.steps s h source.steps it k
+  abbrev pub HintsAsSoundAs : {T B D : Type 0} → Contract T B D → T → Type 0
+  HintsAsSoundAs source it = (h : ℕ × Option ℕ) → m.hints s h → (k : ℕ × Option ℕ) × source.hints it k × AsSound m.steps s h source.steps it k
 
   -- Each hint that s may return is made of one of each of two sources, and is as sound as these both.
   abbrev pub KeepsBracketsOfBoth : {T U B C D F : Type 0} → Contract T B D → T → Contract U C F → U → Type 0

@@ -19,8 +19,8 @@ pub record AtMostOneBy {A E : Type 0} (r : Result (Result (Option A) (A × A)) E
   pub exit : AtMostOneExit items last r
 
 -- At most two draws from s, up to an end, a failure or the second item, returned r and left t.
-abbrev pub AtMostOne : {S A E : Type 0} → (S → Answered A E → S → Type 0) → S → Result (Result (Option A) (A × A)) E → S → Type 0
-AtMostOne steps s r t = Drained steps (AtMostOneBy r) s t
+abbrev pub AtMostOneDrains : {S A E : Type 0} → (S → Answered A E → S → Type 0) → S → Result (Result (Option A) (A × A)) E → S → Type 0
+AtMostOneDrains steps s r t = Drained steps (AtMostOneBy r) s t
 
 -- the item, if there is one; the first two where there are more; or the failure that comes before these
 unfoldable pub at_most_one_of : {A E : Type 0} → List (Result A E) → Result (Result (Option A) (A × A)) E

@@ -22,13 +22,13 @@ abbrev pub holding_parts : {I A : Type 0} → Holding I A → I × Option A
 holding_parts s = (holding_source s, holding_held s)
 
 -- What a side yields, if it is drawn, and the source that it leaves: the held item without a draw, and otherwise one answer that is drawn.
-abbrev pub Gives : {S A E : Type 0} → (S → Answered A E → S → Type 0) → S × Option A → Answered A E → S → Type 0
-Gives steps (s, Some x) r t = (r ≡ item x) × (t ≡ s)
-Gives steps (s, None) r t = steps s r t
+abbrev pub GivesHeldFirst : {S A E : Type 0} → (S → Answered A E → S → Type 0) → S × Option A → Answered A E → S → Type 0
+GivesHeldFirst steps (s, Some x) r t = (r ≡ item x) × (t ≡ s)
+GivesHeldFirst steps (s, None) r t = steps s r t
 
 -- what a side yields, if it is drawn, or no answer, if it isn't
 abbrev pub GivesIf : {S A E : Type 0} → (S → Answered A E → S → Type 0) → S × Option A → Option (Answered A E) → S → Type 0
-GivesIf steps p (Some r) t = Gives steps p r t
+GivesIf steps p (Some r) t = GivesHeldFirst steps p r t
 GivesIf steps p None t = t ≡ p.0
 
 module _ {S A E : Type 0} (m : Contract S A E) where

@@ -29,13 +29,13 @@ module _ {A E : Type 0} (is_clone : A → A → Type 0) (is_infallible : A → T
   TupleWindowsTrace steps p trace q = PassTrace steps windows_asks as_answered_item p trace q
 
   -- how many items come before the next pair
-  abbrev pub unheld : Option A → ℕ
-  unheld None = 1
-  unheld (Some y) = 0
+  abbrev pub items_lacking : Option A → ℕ
+  items_lacking None = 1
+  items_lacking (Some y) = 0
 
   -- `TupleWindows`' contract. It requires no bound of the source: one draw leaves out one item at most.
   abbrev pub tuple_windows_contract : {S : Type 0} → Contract S A E → Contract (S × Option A) (A × A) E
-  tuple_windows_contract m = passing_contract m windows_asks (λ Q p. ⊤) as_answered_item (λ p h. (k : ℕ × Option ℕ) × m.hints p.0 k × (h ≡ hint_less (unheld p.1) k))
+  tuple_windows_contract m = passing_contract m windows_asks (λ Q p. ⊤) as_answered_item (λ p h. (k : ℕ × Option ℕ) × m.hints p.0 k × (h ≡ hint_less (items_lacking p.1) k))
 
 -- the source
 abbrev pub tuple_windows_source : {I A E : Type 0} → TupleWindows I A E → I

@@ -1,6 +1,6 @@
 // A side of what joins two sources and buffers at most one item of each.
 ghost use Rattle.std.specs.Prelude.{◌≡◌, Option, Result, None};
-ghost use Rattle.fallible_itertools.specs.Sides.{Gives, OffersLow, holding_held, holding_parts, holding_source};
+ghost use Rattle.fallible_itertools.specs.Sides.{GivesHeldFirst, OffersLow, holding_held, holding_parts, holding_source};
 
 use fallible_iterator::FallibleIterator;
 
@@ -18,7 +18,7 @@ where
     // Takes the buffered item without a draw, or draws once.
     pub(crate) fn give(&mut self) -> Result<Option<I::Item>, I::Error>
         requires { I.contract.can_next (holding_source self.old) }
-        ensures given { Gives I.contract.steps (holding_parts self.old)
+        ensures given { GivesHeldFirst I.contract.steps (holding_parts self.old)
             result (holding_source self.new) }
         ensures let_go { holding_held self.new ≡ None }
     {

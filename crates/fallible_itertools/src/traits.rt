@@ -25,7 +25,7 @@ ghost use Rattle.fallible_itertools.specs.Dedup.{dedup_contract, dedup_parts, de
 ghost use Rattle.fallible_itertools.specs.DedupBy.{dedup_by_asks, dedup_by_contract, dedup_by_parts, dedup_by_takes, deduped_by};
 ghost use Rattle.fallible_itertools.specs.DedupByKey as dedup_by_key;
 ghost use Rattle.fallible_itertools.specs.Equal.{FirstCall, TestCall, contained, equal_to_first, rest_contained, rest_unequal};
-ghost use Rattle.fallible_itertools.specs.ExactlyOne.{AtMostOne, at_most_one_of, wanting_one};
+ghost use Rattle.fallible_itertools.specs.ExactlyOne.{AtMostOneDrains, at_most_one_of, wanting_one};
 ghost use Rattle.fallible_itertools.specs.Holding.{MayBeAsked};
 ghost use Rattle.fallible_itertools.specs.InspectErr.{inspect_err_contract, inspect_err_parts, seen_call};
 ghost use Rattle.fallible_itertools.specs.OrElse.{or_else_contract, or_else_parts, recovered};
@@ -36,7 +36,7 @@ ghost use Rattle.fallible_itertools.specs.MergeBy as merge_by;
 ghost use Rattle.fallible_itertools.specs.MinMax.{MinMaxDrains, minmaxed};
 ghost use Rattle.fallible_itertools.specs.Sides.{OverBothForGood};
 ghost use Rattle.fallible_itertools.specs.FindOrLast.{FoundOrLast, found_or_last};
-ghost use Rattle.fallible_itertools.specs.IsSorted.{ItselfCall, OrderCall, in_order, sorted_by_key};
+ghost use Rattle.fallible_itertools.specs.IsSorted.{ItselfCall, OrderCall, in_order, in_order_by_key};
 ghost use Rattle.fallible_itertools.specs.FoldWhile.{WhileCall, FoldWhileDrains, folded_while, rest_while};
 ghost use Rattle.fallible_itertools.specs.Sorted.{CollectsSorted, IsSortedByCalls, IsSortedByKeyOf, IsSortedOf};
 ghost use Rattle.fallible_itertools.specs.TakeWhileInclusive as inclusive;
@@ -565,7 +565,7 @@ pub trait FallibleItertools: FallibleIterator {
             Self.contract.steps true self (None, f) result left q }
         ensures value { (order : K → K → Option Ordering) → order ≡ K.partial_cmp
             → OverListWith (list.Acts (call_on F.FnMut) f) Self.contract.steps self
-            (λ h l. result ≡ sorted_by_key order h l) }
+            (λ h l. result ≡ in_order_by_key order h l) }
     {
         let mut state = (None, f);
         answer_or(self.drive(&mut state, &SortedTurn), true)
@@ -867,7 +867,7 @@ pub trait FallibleItertools: FallibleIterator {
     where
         Self::Item: Drop,
         requires { Self.contract.can_next self.old }
-        ensures drawn { AtMostOne Self.contract.steps self.old result self.new }
+        ensures drawn { AtMostOneDrains Self.contract.steps self.old result self.new }
         ensures value { OverList Self.contract.steps self.old (λ l. result ≡ at_most_one_of l) }
         ensures rest_two { OverList Self.contract.steps self.old
             (λ l. (p : Self.Item × Self.Item) → result ≡ Ok (Err p)
@@ -901,7 +901,7 @@ pub trait FallibleItertools: FallibleIterator {
         Self::Item: Drop,
         requires { Self.contract.can_next self.old }
         ensures drawn { (r : Result (Result (Option Self.Item) (Self.Item × Self.Item)) Self.Error)
-            × AtMostOne Self.contract.steps self.old r self.new × (result ≡ wanting_one r) }
+            × AtMostOneDrains Self.contract.steps self.old r self.new × (result ≡ wanting_one r) }
         ensures value { OverList Self.contract.steps self.old
             (λ l. result ≡ wanting_one (at_most_one_of l)) }
         ensures rest_two { OverList Self.contract.steps self.old

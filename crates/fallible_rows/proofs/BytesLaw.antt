@@ -13,7 +13,7 @@ use Rattle.fallible_rows.specs.Rows.{rows, is_newline}
 use Rattle.fallible_rows.specs.Reading.{GivesBytes}
 use Rattle.fallible_rows.specs.RowTraces.{row_answer, row_answers, IsOneRow, IsClosed, row_step, ReadsRows, AnswersRowsOf, NeverFailsToRead, BeginsWith, CanGiveAll}
 use Rattle.fallible_rows.proofs.RowLemmas.{not_newline, rows-closed}
-use Rattle.fallible_rows.proofs.RowsLaw.{reads_rows_of_run, run_from_trace}
+use Rattle.fallible_rows.proofs.RowsLaw.{reads_rows_of_run, run_of_reads_rows}
 use Rattle.fallible_rows.proofs.PrefixLemmas.{consumes_given, consumes_to_end}
 use Rattle.fallible_rows.specs.declared.fault.RowFault.{RowFault}
 use Rattle.fallible_rows.specs.declared.fault.RowFault.TheVariants.{Read}
@@ -112,7 +112,7 @@ module _ {B : Type 0} (left : B → Option (List ℕ)) (stays : Bool → B → B
           ended = λ _. omega arith;
         }));
       } in
-      subst (λ (u : B × Option Ahead). Run (row_step left stays) u (row_answers 1 (rows bytes) ++ replicate (n + 1) end) (c.after, None)) (sym b.begins) (run_from_trace left stays (row_answers 1 (rows bytes) ++ replicate (n + 1) end) p.0 ahead (c.after, None) (lit≤ tt) reads)
+      subst (λ (u : B × Option Ahead). Run (row_step left stays) u (row_answers 1 (rows bytes) ++ replicate (n + 1) end) (c.after, None)) (sym b.begins) (run_of_reads_rows left stays (row_answers 1 (rows bytes) ++ replicate (n + 1) end) p.0 ahead (c.after, None) (lit≤ tt) reads)
 
   pub run_for_each_bytes : (bytes : List ℕ) (trace : RowAnswers) (p : B × Option Ahead) → BeginsWith left stays p bytes → CanGiveAll left stays p bytes → AnswersRowsOf bytes trace → (q : B × Option Ahead) × Run (row_step left stays) p trace q
   run_for_each_bytes bytes trace p b c h =

@@ -19,8 +19,8 @@ use Rattle.fallible_rows.specs.declared.rows.Rows.{Rows}
 use Rattle.fallible_rows.specs.declared.rows.Close.{Close}
 use Rattle.fallible_rows.specs.declared.rows.Close.TheVariants.{Newline, End, Failure}
 
-pub IsOneRow-more : (row : List ℕ) (byte : ℕ) → IsOneRow row → byte ≢ 10 → IsOneRow (row ++ byte ∷ [])
-IsOneRow-more row byte one other = All-append not_newline row (byte ∷ []) one (All-cons not_newline byte [] other (All-nil not_newline))
+pub is_one_row_one_more : (row : List ℕ) (byte : ℕ) → IsOneRow row → byte ≢ 10 → IsOneRow (row ++ byte ∷ [])
+is_one_row_one_more row byte one other = All-append not_newline row (byte ∷ []) one (All-cons not_newline byte [] other (All-nil not_newline))
 
 pub gives_bytes_more : {B : Type 0} (left : B → Option (List ℕ)) (stays : Bool → B → B → Type 0) (row : List ℕ) (byte : ℕ) (p q r : B) → GivesBytes left stays p row q → GivesByte left stays q byte r → GivesBytes left stays p (row ++ byte ∷ []) r
 gives_bytes_more left stays row byte p q r h k = folds_to_then (GivesByte left stays) row (byte ∷ []) p q r h (r, k, refl)

@@ -10,15 +10,15 @@ use Rattle.std.specs.declared.cmp.Ordering.TheVariants.{Less, Equal, Greater}
 module _ {S T A E : Type 0} {rule : A → A → Option Ordering} {left-steps : S → Answered A E → S → Type 0} {right-steps : T → Answered A E → T → Type 0} {s : S} {t : T} where
   -- a round of two equal items, and then the rest
   pub compare_draws_after : {u : S} {v : T} {r : Result (Option Ordering) E} (x y : A) → rule x y ≡ Some Equal → left-steps s (item x) u → right-steps t (item y) v → CompareDraws rule left-steps right-steps u v r → CompareDraws rule left-steps right-steps s t r
-  compare_draws_after {u} {v} x y same step next rest = record { pairs = (x, y) ∷ rest.pairs; equal = (same, rest.equal); last_left = rest.last_left; last_right = rest.last_right; left = rest.left; right = rest.right; left_ran = (u, step, rest.left_ran); right_ran = (v, next, rest.right_ran); exit = rest.exit }
+  compare_draws_after {u} {v} x y same step next rest = record { pairs = (x, y) ∷ rest.pairs; equal = (same, rest.equal); last_left = rest.last_left; last_right = rest.last_right; left = rest.left; right = rest.right; left_ran = (u, step, rest.left_ran); right_ran = (v, next, rest.right_ran); last_round = rest.last_round }
 
   -- a left failure, after which the right isn't drawn
   pub compare_draws_left_failure : (u : S) (e : E) → left-steps s (Err e) u → CompareDraws rule left-steps right-steps s t (Err e)
-  compare_draws_left_failure u e step = record { pairs = []; equal = tt; last_left = Err e; last_right = None; left = u; right = t; left_ran = (u, step, refl); right_ran = refl; exit = refl }
+  compare_draws_left_failure u e step = record { pairs = []; equal = tt; last_left = Err e; last_right = None; left = u; right = t; left_ran = (u, step, refl); right_ran = refl; last_round = refl }
 
   -- a last round of two answers
   pub compare_draws_round : (u : S) (v : T) {r : Result (Option Ordering) E} (x y : Answered A E) → left-steps s x u → right-steps t y v → LastRound rule x (Some y) r → CompareDraws rule left-steps right-steps s t r
-  compare_draws_round u v x y step next exit = record { pairs = []; equal = tt; last_left = x; last_right = Some y; left = u; right = v; left_ran = (u, step, refl); right_ran = (v, next, refl); exit = exit }
+  compare_draws_round u v x y step next last_round = record { pairs = []; equal = tt; last_left = x; last_right = Some y; left = u; right = v; left_ran = (u, step, refl); right_ran = (v, next, refl); last_round = last_round }
 
 module _ {A E : Type 0} (rule : A → A → Option Ordering) where
   -- a right failure is the answer, where the left didn't fail
@@ -70,7 +70,7 @@ module _ {A : Type 0} (rule : A → A → Option Ordering) where
   round_goes_on (Some x) (Some y) e = (x, y, refl, refl, order_is_equal (rule x y) e)
 
 pub by_cmp_always_ordered : {S T A E : Type 0} {cmp : A → A → Ordering} {left-steps : S → Answered A E → S → Type 0} {right-steps : T → Answered A E → T → Type 0} {s : S} {t : T} → CompareDraws {E = E} (by_cmp cmp) left-steps right-steps s t (Ok None) → ⊥
-by_cmp_always_ordered c = order_not_none _ (λ x y e. absurd cc) c.last_left c.last_right c.exit
+by_cmp_always_ordered c = order_not_none _ (λ x y e. absurd cc) c.last_left c.last_right c.last_round
 
 module _ {S T A B E D : Type 0} (m : Contract S A E) (o : Contract T B D) where
   -- at most k items are to come of one of the two sides

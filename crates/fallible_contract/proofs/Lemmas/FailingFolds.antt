@@ -8,7 +8,7 @@ use Rattle.fallible_contract.specs.Failing.{failing_step, FailingAnswer, TakesFa
 use Rattle.fallible_contract.specs.Folds.{Drained, HoldsAtEachTurn, DrivenBy, CountedUp, LastBy, NthExit, NthBy}
 use Rattle.fallible_contract.specs.Laws.Closures.{reaches_here, is_callable_after}
 use Rattle.fallible_contract.proofs.Lemmas.Failing.{failing_trace_answered}
-use Rattle.fallible_contract.proofs.Lemmas.Folding.{holds_into}
+use Rattle.fallible_contract.proofs.Lemmas.Folding.{holds_at_each_turn_into}
 use Rattle.std.specs.declared.ops.ControlFlow.{ControlFlow}
 
 -- ---- what a call returns, by what came
@@ -78,7 +78,7 @@ fails_last_drained {steps = steps} {call = call} {s = s} {t = t} f h fails {made
 
 -- a turn of it may be taken where one of the source may
 pub holds_each_turn_failing : {S F X D E C : Type 0} {steps : S → Answered X D → S → Type 0} {call : F → D → E → F → Type 0} {goes : C → X → C → Type 0} {P : C → X → Type 0} {s : S} {c : C} (f : F) → HoldsAtEachTurn (failing_step steps call) goes P (s, f) c → HoldsAtEachTurn steps goes P s c
-holds_each_turn_failing {steps = steps} {call = call} f holds = holds_into {held = failing_step steps call} (λ u. (u, f)) (λ u x v step. failing_trace_answered steps (item x) (item x) step (refl, refl)) holds
+holds_each_turn_failing {steps = steps} {call = call} f holds = holds_at_each_turn_into {held = failing_step steps call} (λ u. (u, f)) (λ u x v step. failing_trace_answered steps (item x) (item x) step (refl, refl)) holds
 
 -- ---- the closure may be called on the failure that was met
 

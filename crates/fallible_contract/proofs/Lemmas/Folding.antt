@@ -54,9 +54,9 @@ module _ {S P A E : Type 0} (steps : P → Answered A E → P → Type 0) {D : T
   yields_into [] p q e = ap into e
   yields_into (x ∷ items) p q w = (into w.0, holds p x w.0 w.1, yields_into items w.0 q w.2)
 
-pub holds_into : {S P A D E C : Type 0} {steps : P → Answered A E → P → Type 0} {held : S → Answered A D → S → Type 0} (into : P → S) → ((p : P) (x : A) (q : P) → steps p (item x) q → held (into p) (item x) (into q))
+pub holds_at_each_turn_into : {S P A D E C : Type 0} {steps : P → Answered A E → P → Type 0} {held : S → Answered A D → S → Type 0} (into : P → S) → ((p : P) (x : A) (q : P) → steps p (item x) q → held (into p) (item x) (into q))
     → {goes : C → A → C → Type 0} {Q : C → A → Type 0} {p : P} {c : C} → HoldsAtEachTurn held goes Q (into p) c → HoldsAtEachTurn steps goes Q p c
-holds_into {steps = steps} {held = held} into holds {p = p} h = record { at = λ items q u d x ran went step. h.at items (into q) (into u) d x (yields_into steps held into holds items p q ran) went (holds q x u step) }
+holds_at_each_turn_into {steps = steps} {held = held} into holds {p = p} h = record { at = λ items q u d x ran went step. h.at items (into q) (into u) d x (yields_into steps held into holds items p q ran) went (holds q x u step) }
 
 -- ---- the same, where a value is held in this way only while Q holds of it, which items keep
 

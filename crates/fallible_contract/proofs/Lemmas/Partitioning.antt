@@ -30,16 +30,16 @@ folds_to_one_more_call step f g h (r ∷ qs) q went w = (went.0, went.1, folds_t
 
 module _ {A E F B : Type 0} (call : F → A → Result Bool E → F → Type 0) (made : List A → B → Type 0) (refuses : B → A → Type 0) (f : F) where
   pub sides_one_more : (c : F × (B × B)) (x : A) (d : F × (B × B)) → IsPartitionTurn call made refuses c x (Continue tt) d → (items : List A) → Sides call made f items c → Sides call made f (items ++ x ∷ []) d
-  sides_one_more c x d w items h = let ps = h.answered in let v = w.0 in let both = w.2 (answered_true ps) (answered_false ps) h.first h.second in record {
+  sides_one_more c x d w items h = let ps = h.answered in let v = w.0 in let both = w.2 (answered_true ps) (answered_false ps) h.made_of_true h.made_of_false in record {
     answered = ps ++ (x, v) ∷ [];
     beside = sym (map_one_more (λ p. p.0) ps (x, v)) ∙ ap (λ l. l ++ x ∷ []) h.beside;
     called = folds_to_one_more_call (λ g p h. call g p.0 (Ok p.1) h) f c.0 d.0 ps (x, v) h.called w.1;
-    first = subst (λ l. made l d.1.0) (answered_true_one_more ps x v) both.0;
-    second = subst (λ l. made l d.1.1) (answered_false_one_more ps x v) both.1;
+    made_of_true = subst (λ l. made l d.1.0) (answered_true_one_more ps x v) both.0;
+    made_of_false = subst (λ l. made l d.1.1) (answered_false_one_more ps x v) both.1;
   }
 
   pub sides_of_none : (a b : B) → made [] a → made [] b → Sides call made f [] (f, (a, b))
-  sides_of_none a b h k = record { answered = []; beside = refl; called = refl; first = h; second = k }
+  sides_of_none a b h k = record { answered = []; beside = refl; called = refl; made_of_true = h; made_of_false = k }
 
   folds_to_asks : (items : List A) (c d : F × (B × B)) → FoldsTo (goes_on (IsPartitionTurn call made refuses)) c items d → FoldsTo (Asks call) c.0 items d.0
   folds_to_asks [] c d e = ap (λ z. z.0) e

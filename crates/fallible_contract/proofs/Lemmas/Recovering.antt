@@ -12,7 +12,7 @@ use Rattle.fallible_contract.specs.Folding.{TurnedBy, FoldingTurn, FoldingTakes}
 use Rattle.fallible_contract.specs.Laws.Closures.{reaches_here, reaches_from, is_callable_after}
 use Rattle.fallible_contract.specs.Laws.Passing.{done, end_passes, failure_passes, keeps, refuses, closes, leaves_out, passes_of_pass_trace, pass_trace_of_passes}
 use Rattle.fallible_contract.proofs.Lemmas.Contract.{stays_yields}
-use Rattle.fallible_contract.proofs.Lemmas.Folding.{drained_after_first, holds_each_turn_after_first, holds_into}
+use Rattle.fallible_contract.proofs.Lemmas.Folding.{drained_after_first, holds_each_turn_after_first, holds_at_each_turn_into}
 use Rattle.fallible_contract.proofs.Lemmas.Folds.{holds_at_first_turn, holds_each_turn_after, holds_each_turn_after_items, driven_after, driven_end, driven_failure, driven_stop, driven_after_items}
 use Rattle.std.specs.declared.ops.ControlFlow.{ControlFlow}
 use Rattle.std.specs.declared.ops.ControlFlow.TheVariants.{Continue, Break}
@@ -101,7 +101,7 @@ module _ {S F X D V E C R : Type 0} (steps : S → Answered X D → S → Type 0
 
   -- a turn of the source's fold may be taken where one of the adapter's may
   pub holds_each_turn_source : {P : C → X → Type 0} {s : S} {f : F} {c : C} → HoldsAtEachTurn StepOfRecovering (goes_on turns) P (s, f) c → HoldsAtEachTurn steps (goes_on turns) P s c
-  holds_each_turn_source {f = f} h = holds_into {held = StepOfRecovering} (λ u. (u, f)) (λ u x v step. item_recovered steps call outcome step) h
+  holds_each_turn_source {f = f} h = holds_at_each_turn_into {held = StepOfRecovering} (λ u. (u, f)) (λ u x v step. item_recovered steps call outcome step) h
 
   -- what becomes of a failure that was met, by a turn on it
   module _ {s t : S} {c b : C} {d : D} (f : F) (met : MetFailure steps turns s c d t b) where

@@ -37,15 +37,15 @@ module _ {S A E : Type 0} (m : Contract S A E) (keeps : ℕ → Bool) (l : Lawfu
       let at : u ≡ t = rw (source_nil_of_no_answers keeps source k last none) at ran in
       subst (λ (v : S). KeptByDraw m s r v) at (subst (λ (z : Answered A E). KeptByDraw m s z u) same (l.kept_by_draw s q u c step))
 
-  kept_by_draw_at_kept : (source : List (Answered A E)) (k : ℕ) (s t : S) (r : Answered A E) → m.can_next s → Run m.steps s source t → r ∷ [] ≡ kept keeps (with_numbers k source) → LastKept (is_kept keeps) (with_numbers k source) → KeptByDraw m s r t
-  kept_by_draw_at_kept [] k s t r c ran e last = absurd cc
-  kept_by_draw_at_kept (Ok (Some x) ∷ source) k s t r c ran e last = elim (cases_Bool (keeps k)) [
+  kept_by_run_to_first_kept : (source : List (Answered A E)) (k : ℕ) (s t : S) (r : Answered A E) → m.can_next s → Run m.steps s source t → r ∷ [] ≡ kept keeps (with_numbers k source) → LastKept (is_kept keeps) (with_numbers k source) → KeptByDraw m s r t
+  kept_by_run_to_first_kept [] k s t r c ran e last = absurd cc
+  kept_by_run_to_first_kept (Ok (Some x) ∷ source) k s t r c ran e last = elim (cases_Bool (keeps k)) [
     | inl h ↦ kept_by_draw_last source (k + 1) s ran.0 t r (item x) c ran.1 ran.2 (rw h at e) (last_kept_tail keeps (Some k, item x) (with_numbers (k + 1) source) last)
-    | inr h ↦ let a = l.kept_by_draw s (item x) ran.0 c ran.1 in kept_by_draw_after (kept_by_draws_after a) (kept_by_draw_at_kept source (k + 1) ran.0 t r a.can_next ran.2 (rw h at e) (last_kept_tail keeps (Some k, item x) (with_numbers (k + 1) source) last))
+    | inr h ↦ let a = l.kept_by_draw s (item x) ran.0 c ran.1 in kept_by_draw_after (kept_by_draws_after a) (kept_by_run_to_first_kept source (k + 1) ran.0 t r a.can_next ran.2 (rw h at e) (last_kept_tail keeps (Some k, item x) (with_numbers (k + 1) source) last))
   ]
-  kept_by_draw_at_kept (Ok None ∷ source) k s t r c ran e last = kept_by_draw_last source k s ran.0 t r end c ran.1 ran.2 e (last_kept_tail keeps (None, end) (with_numbers k source) last)
-  kept_by_draw_at_kept (Err d ∷ source) k s t r c ran e last = kept_by_draw_last source k s ran.0 t r (failure d) c ran.1 ran.2 e (last_kept_tail keeps (None, failure d) (with_numbers k source) last)
+  kept_by_run_to_first_kept (Ok None ∷ source) k s t r c ran e last = kept_by_draw_last source k s ran.0 t r end c ran.1 ran.2 e (last_kept_tail keeps (None, end) (with_numbers k source) last)
+  kept_by_run_to_first_kept (Err d ∷ source) k s t r c ran e last = kept_by_draw_last source k s ran.0 t r (failure d) c ran.1 ran.2 e (last_kept_tail keeps (None, failure d) (with_numbers k source) last)
 
   -- one answer that is kept goes as a draw with that answer goes
   pub kept_by_draw_by_number : (to_skip_after : ℕ → ℕ) (s t : S) (r : Answered A E) (to_skip : ℕ) → m.can_next s → KeptByNumber keeps to_skip_after m.steps s (r ∷ []) t to_skip → KeptByDraw m s r t
-  kept_by_draw_by_number to_skip_after s t r to_skip c h = kept_by_draw_at_kept h.source_trace 1 s t r c h.drawn h.answers h.last_kept
+  kept_by_draw_by_number to_skip_after s t r to_skip c h = kept_by_run_to_first_kept h.source_trace 1 s t r c h.drawn h.answers h.last_kept

@@ -20,10 +20,10 @@ module _ {S A E : Type 0} (steps more : S → Answered A E → S → Type 0) whe
 
 module _ {S A E : Type 0} (m : Contract S A E) (left : S → ℕ) (lowers : Answered A E → ℕ → ℕ → Type 0) (remains : S → Count) where
   -- `bounded_by` and `bounded_with_failures`
-  abbrev B : Contract S A E
-  B = record m { steps = λ s r t. m.steps s r t × lowers r (left s) (left t); bound = λ s n. left s ≤ n; is_finite = λ _. ⊤; remaining = remains }
+  abbrev BoundedHere : Contract S A E
+  BoundedHere = record m { steps = λ s r t. m.steps s r t × lowers r (left s) (left t); bound = λ s n. left s ≤ n; is_finite = λ _. ⊤; remaining = remains }
 
-  kept_by_draw_bounded : (s t : S) (r : Answered A E) → KeptByDraw m s r t → OnAnswer B s r t → KeptByDraw B s r t
+  kept_by_draw_bounded : (s t : S) (r : Answered A E) → KeptByDraw m s r t → OnAnswer BoundedHere s r t → KeptByDraw BoundedHere s r t
   kept_by_draw_bounded s t r g answer = record {
     can_next = g.can_next;
     is_finite = λ f. tt;
@@ -33,7 +33,7 @@ module _ {S A E : Type 0} (m : Contract S A E) (left : S → ℕ) (lowers : Answ
     lenders = g.lenders;
   }
 
-  lawful_bounded : ((s t : S) (r : Answered A E) → lowers r (left s) (left t) → OnAnswer m s r t → OnAnswer B s r t) → Lawful m → Lawful B
+  lawful_bounded : ((s t : S) (r : Answered A E) → lowers r (left s) (left t) → OnAnswer m s r t → OnAnswer BoundedHere s r t) → Lawful m → Lawful BoundedHere
   lawful_bounded answers l = record {
     kept_by_draw = λ s r t c step. let g = l.kept_by_draw s r t c step.0 in kept_by_draw_bounded s t r g (answers s t r step.1 g.answer);
     bounded = λ s. ((λ f. (left s, omega arith)), (λ n. tt));

@@ -87,13 +87,13 @@ StaysCallable {F = F} {X = X} call callable = (P Q : X → Type 0) (f g : F) →
 -- ---- the contract of what lets items pass is lawful if the source's is
 
 module _ {S F X R B E : Type 0} (m : Contract S X E) (l : Lawful m) (call : F → X → R → F → Type 0) (outcome : X → R → Outcome B E) where
-  abbrev P : S → F → List (Answered B E) → S → F → Type 0
-  P = Passes m.steps call outcome
+  abbrev PassesHere : S → F → List (Answered B E) → S → F → Type 0
+  PassesHere = Passes m.steps call outcome
 
-  kept_by_draws_passes : (s t : S) (f g : F) (trace : List (Answered B E)) → m.can_next s → P s f trace t g → KeptByDraws m s t
+  kept_by_draws_passes : (s t : S) (f g : F) (trace : List (Answered B E)) → m.can_next s → PassesHere s f trace t g → KeptByDraws m s t
   kept_by_draws_passes s t f g trace c p = let q = pass_trace_of_passes p in kept_by_draws_run l s (map source_answer q.places) t c q.drawn
 
-  reaches_passes : (s t : S) (f g : F) (trace : List (Answered B E)) → m.can_next s → P s f trace t g → Reaches call (m.may_give s) f g
+  reaches_passes : (s t : S) (f g : F) (trace : List (Answered B E)) → m.can_next s → PassesHere s f trace t g → Reaches call (m.may_give s) f g
   reaches_passes s _ f _ _ c done = reaches_here
   reaches_passes s t f g _ c (end_passes {u = u} step p) = let a = l.kept_by_draw s (Ok None) u c step in reaches_weaken a.may_give (reaches_passes u t f g _ a.can_next p)
   reaches_passes s t f g _ c (failure_passes {u = u} e step p) = let a = l.kept_by_draw s (Err e) u c step in reaches_weaken a.may_give (reaches_passes u t f g _ a.can_next p)
@@ -112,7 +112,7 @@ module _ {S F X R B E : Type 0} (m : Contract S X E) (l : Lawful m) (call : F �
     on_answer_after s u t f h g (Ok None) x v a called b = ((λ n c. let j = a.answer.1 n c in let k = b.0 j.0 j.1 in (k.0, k.1, omega (arith, j.2, k.2))), (λ e. let j = a.answer.2 e in let k = b.1 j.0 in (k.0, omega (arith, j.1, k.1))))
     on_answer_after s u t f h g (Err e) x v a called b = (elim b.0 [ inl c ↦ inl (a.may_fail e c) | inr c ↦ inr (may_answer_after a.may_give (reaches_from x v a.answer.0 called reaches_here) c) ], (λ n c. let j = a.answer.1 n c in let k = b.1 j.0 j.1 in (k.0, k.1, omega (arith, j.2, k.2))), (λ d. let j = a.answer.2 d in let k = b.2 j.0 in (k.0, omega (arith, j.1, k.1))))
 
-    on_answer_passes : (s t : S) (f g : F) (r : Answered B E) → m.can_next s → P s f (r ∷ []) t g → OnAnswer ContractHere (s, f) r (t, g)
+    on_answer_passes : (s t : S) (f g : F) (r : Answered B E) → m.can_next s → PassesHere s f (r ∷ []) t g → OnAnswer ContractHere (s, f) r (t, g)
     on_answer_passes s t f g _ c (end_passes step done) = (l.kept_by_draw s (Ok None) t c step).answer
     on_answer_passes s t f g _ c (failure_passes e step done) = let a = (l.kept_by_draw s (Err e) t c step).answer in (inl a.0, a.1, a.2)
     on_answer_passes s t f g _ c (keeps x v y step called is done) = let a = (l.kept_by_draw s (item x) t c step).answer in (may_answer_here g x v a.0 called is, a.1, a.2)

@@ -139,10 +139,10 @@ IsTestable {A = A} g f P = (x : Bor A) → P x.now → g.pre f (x, tt)
 -- ---- what looking makes of what is listed
 
 -- what `peek` and `look` leave: the list, without the failure that stands first
-unfoldable pub looked_ahead : {A E : Type 0} → List (Result A E) → List (Result A E)
-looked_ahead [] = []
-looked_ahead (Ok x ∷ l) = Ok x ∷ l
-looked_ahead (Err e ∷ l) = l
+unfoldable pub rest_look : {A E : Type 0} → List (Result A E) → List (Result A E)
+rest_look [] = []
+rest_look (Ok x ∷ l) = Ok x ∷ l
+rest_look (Err e ∷ l) = l
 
 -- h of the item that stands first; none if the list is empty, and the failure that stands first
 unfoldable pub look_of : {A E R : Type 0} → (A → R) → List (Result A E) → Result (Option R) E

@@ -5,7 +5,7 @@ ghost use mathlib.Core.Option.{none};
 ghost use Rattle.fallible_contract.specs.Clauses.{OverList, OverListWith};
 ghost use Rattle.fallible_contract.specs.Contract.{Stays, seen_as};
 ghost use Rattle.fallible_contract.specs.Lists.{Lists, nth_of};
-ghost use Rattle.fallible_core.specs.Peeking.Peekable.{peekable_contract, seen, held_item, Fills, Peeks, Looks, IsTestable, peekable_parts, peekable_held, LooksAs, looked_ahead, look_of};
+ghost use Rattle.fallible_core.specs.Peeking.Peekable.{peekable_contract, seen, held_item, Fills, Peeks, Looks, IsTestable, peekable_parts, peekable_held, LooksAs, rest_look, look_of};
 ghost use Rattle.fallible_core.specs.contracts.peeking.peekable.Peekable.{the_row};
 
 use crate::peeking::Peekable;
@@ -70,7 +70,7 @@ where
             (seen_as peekable_parts (peekable_contract I.contract)).steps self.old
             (λ h l. (result ≡ look_of h l)
             × Lists (seen_as peekable_parts (peekable_contract I.contract)).steps
-            self.new (looked_ahead l)) }
+            self.new (rest_look l)) }
         ensures stays { Stays (peekable_contract I.contract)
             (peekable_parts self.old) (peekable_parts self.new) }
     {
@@ -102,7 +102,7 @@ where
             (seen_as peekable_parts (peekable_contract I.contract)).steps self.old
             (λ l. (result ≡ nth_of 0 l)
             × Lists (seen_as peekable_parts (peekable_contract I.contract)).steps
-            self.new (looked_ahead l)) }
+            self.new (rest_look l)) }
         ensures stays { Stays (peekable_contract I.contract)
             (peekable_parts self.old) (peekable_parts self.new) }
     {

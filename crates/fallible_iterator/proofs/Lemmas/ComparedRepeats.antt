@@ -35,7 +35,7 @@ module _ {A E : Type 0} (rule : A → A → Option Ordering) where
 module _ {S T A E : Type 0} {rule : A → A → Option Ordering} {left-steps : S → Answered A E → S → Type 0} {right-steps : T → Answered A E → T → Type 0} {s : S} (x : A) (b : List (Result A E)) where
   -- a side that yields the item x without end compares as x does, repeated once more often than the other side is long
   pub compared_repeats : {t : T} {r : Result (Option Ordering) E} → CompareDraws rule left-steps right-steps s t r → Repeats left-steps s (Ok x) → Lists right-steps t b → r ≡ compared rule (repeated (length b + 1) x) b
-  compared_repeats {t} {r} c again j = compared_from rule left-steps right-steps c.last_left c.last_right r x c.left c.right c.exit c.pairs b s t c.equal again j.runs c.left_ran c.right_ran ∙ ap (λ a. compared rule a b) (one_more_repeated (length b) x)
+  compared_repeats {t} {r} c again j = compared_from rule left-steps right-steps c.last_left c.last_right r x c.left c.right c.last_round c.pairs b s t c.equal again j.runs c.left_ran c.right_ran ∙ ap (λ a. compared rule a b) (one_more_repeated (length b) x)
 
   pub compared_with_repeats : {O : Type 0} {into : O → T → Type 0} {other : O} {r : Result (Option Ordering) E} → ComparedWith rule into left-steps right-steps s other r → Repeats left-steps s (Ok x) → ((right : T) → into other right → Lists right-steps right b) → r ≡ compared rule (repeated (length b + 1) x) b
   compared_with_repeats c again j = compared_repeats c.compared again (j c.right c.made)

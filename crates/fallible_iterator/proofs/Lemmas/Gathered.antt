@@ -41,17 +41,17 @@ module _ {S P A E B F : Type 0} (view : S → P) (made : List (Answered A E) →
   gives_then_of_run taken l r t is (inl (front, rest, same, whole, left)) = inr (rest, rw whole (cuts.goes_on front rest r (subst (λ k. made k r) same is)), left)
   gives_then_of_run taken l r t is (inr (more, same)) = inl (cuts.ends l more r (subst (λ k. made k r) same is))
 
-  gives_then_end : (r : Answered B F) (t : S) → GivesThen [] r t → r ≡ end
-  gives_then_end r t (inl k) = k.0
-  gives_then_end r t (inr k) = k.1
+  gives_then_nil : (r : Answered B F) (t : S) → GivesThen [] r t → r ≡ end
+  gives_then_nil r t (inl k) = k.0
+  gives_then_nil r t (inr k) = k.1
 
-  gives_then_answer : (y : Result B F) (out : List (Result B F)) (r : Answered B F) (t : S) → GivesThen (y ∷ out) r t → (r ≡ result_answer y) × ((rest : List (Result A E)) × (answers rest ≡ out) × AlwaysGives m.steps (view t) rest)
-  gives_then_answer y out r t (inl k) = absurd (let h = k.1 in cc)
-  gives_then_answer y out r t (inr k) = (k.1.0, (k.0, sym k.1.1, k.2))
+  gives_then_cons : (y : Result B F) (out : List (Result B F)) (r : Answered B F) (t : S) → GivesThen (y ∷ out) r t → (r ≡ result_answer y) × ((rest : List (Result A E)) × (answers rest ≡ out) × AlwaysGives m.steps (view t) rest)
+  gives_then_cons y out r t (inl k) = absurd (let h = k.1 in cc)
+  gives_then_cons y out r t (inr k) = (k.1.0, (k.0, sym k.1.1, k.2))
 
   always_gives_gathered : (out : List (Result B F)) (s : S) (l : List (Result A E)) → answers l ≡ out → AlwaysGives m.steps (view s) l → AlwaysGives (gathering view made m).steps s out
-  always_gives_gathered [] s l is i = λ r t g. gives_then_end r t (subst (λ k. GivesThen k r t) is (gives_then_of_run g.taken l r t g.answers (drawn_along_run m.steps (view s) (view t) g.taken l g.drawn i)))
-  always_gives_gathered (y ∷ out) s l is i = λ r t g. let k = gives_then_answer y out r t (subst (λ k. GivesThen k r t) is (gives_then_of_run g.taken l r t g.answers (drawn_along_run m.steps (view s) (view t) g.taken l g.drawn i))) in (k.0, always_gives_gathered out t k.1.0 k.1.1 k.1.2)
+  always_gives_gathered [] s l is i = λ r t g. gives_then_nil r t (subst (λ k. GivesThen k r t) is (gives_then_of_run g.taken l r t g.answers (drawn_along_run m.steps (view s) (view t) g.taken l g.drawn i)))
+  always_gives_gathered (y ∷ out) s l is i = λ r t g. let k = gives_then_cons y out r t (subst (λ k. GivesThen k r t) is (gives_then_of_run g.taken l r t g.answers (drawn_along_run m.steps (view s) (view t) g.taken l g.drawn i))) in (k.0, always_gives_gathered out t k.1.0 k.1.1 k.1.2)
 
   -- it lists the answers that are made of the list
   pub lists_gathered : {s : S} {l : List (Result A E)} → Lists m.steps (view s) l → Lists (gathering view made m).steps s (answers l)

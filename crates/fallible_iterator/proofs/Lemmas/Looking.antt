@@ -4,13 +4,13 @@ use Rattle.std.proofs.Common.{sym, subst, arith, ◌∙◌}
 use Rattle.fallible_contract.specs.Traces.{Answered}
 use Rattle.fallible_contract.specs.Contract.{Contract, Fewer, Stays, seen_as}
 use Rattle.fallible_contract.specs.Lists.{Lists, nth_of}
-use Rattle.fallible_core.specs.Peeking.Peekable.{looked_ahead, peekable_contract, peekable_parts}
+use Rattle.fallible_core.specs.Peeking.Peekable.{rest_look, peekable_contract, peekable_parts}
 use Rattle.fallible_iterator.proofs.Lemmas.Loops.{CountsDown, AnswersFromHere}
 use Rattle.fallible_core.specs.declared.peeking.peekable.Peekable.{Peekable}
 
 -- A look from s returned r and left t.
 abbrev pub Looked : {S A E : Type 0} → (S → Answered A E → S → Type 0) → S → Answered A E → S → Type 0
-Looked {A = A} {E = E} steps s r t = (l : List (Result A E)) → Lists steps s l → (r ≡ nth_of 0 l) × Lists steps t (looked_ahead l)
+Looked {A = A} {E = E} steps s r t = (l : List (Result A E)) → Lists steps s l → (r ≡ nth_of 0 l) × Lists steps t (rest_look l)
 
 -- what is counted down before a look is so after it
 pub counts_down_on : {S A E : Type 0} {m : Contract S A E} {s t : S} {left : ℕ} → CountsDown m s left → Stays m s t → CountsDown m t left
@@ -21,14 +21,14 @@ pub counts_down_taken : {S A E : Type 0} (m : Contract S A E) {s t : Peekable S 
 counts_down_taken m counts fewer stays one = let k = fewer counts.1.0 counts.1.1 in (stays.can_next, (k.0, k.1, (let below = k.2 in let up_to = counts.1.2 in omega (arith, below, up_to, one))))
 
 module _ {S A E B R : Type 0} (steps : S → Answered A E → S → Type 0) (answers : B → List (Result A E) → R) (t : S) (b : B) (r : Answered A E) where
-  lists_after_seen_item : (x : A) (c : B) (v : R) (rest : List (Result A E)) → r ≡ Ok (Some x) → ((l : List (Result A E)) → answers b (Ok x ∷ l) ≡ answers c (Ok x ∷ l)) → (r ≡ nth_of 0 rest) × Lists steps t (looked_ahead rest) → v ≡ answers b rest → (l : List (Result A E)) × Lists steps t l × (v ≡ answers c l)
-  unfolding nth_of looked_ahead
+  lists_after_seen_item : (x : A) (c : B) (v : R) (rest : List (Result A E)) → r ≡ Ok (Some x) → ((l : List (Result A E)) → answers b (Ok x ∷ l) ≡ answers c (Ok x ∷ l)) → (r ≡ nth_of 0 rest) × Lists steps t (rest_look rest) → v ≡ answers b rest → (l : List (Result A E)) × Lists steps t l × (v ≡ answers c l)
+  unfolding nth_of rest_look
   lists_after_seen_item x c v [] is same k e = absurd (let h = k.0 in cc)
   lists_after_seen_item x c v (Ok y ∷ l) is same k e = let at : x ≡ y = (let h = k.0 in cc) in (Ok y ∷ l, k.1, e ∙ subst (λ z. answers b (Ok z ∷ l) ≡ answers c (Ok z ∷ l)) at (same l))
   lists_after_seen_item x c v (Err d ∷ l) is same k e = absurd (let h = k.0 in cc)
 
-  lists_after_seen_end : (c : B) (v : R) (rest : List (Result A E)) → r ≡ Ok None → answers b [] ≡ answers c [] → (r ≡ nth_of 0 rest) × Lists steps t (looked_ahead rest) → v ≡ answers b rest → (l : List (Result A E)) × Lists steps t l × (v ≡ answers c l)
-  unfolding nth_of looked_ahead
+  lists_after_seen_end : (c : B) (v : R) (rest : List (Result A E)) → r ≡ Ok None → answers b [] ≡ answers c [] → (r ≡ nth_of 0 rest) × Lists steps t (rest_look rest) → v ≡ answers b rest → (l : List (Result A E)) × Lists steps t l × (v ≡ answers c l)
+  unfolding nth_of rest_look
   lists_after_seen_end c v [] is same k e = ([], k.1, e ∙ same)
   lists_after_seen_end c v (Ok y ∷ l) is same k e = absurd (let h = k.0 in cc)
   lists_after_seen_end c v (Err d ∷ l) is same k e = absurd (let h = k.0 in cc)

@@ -1,4 +1,4 @@
--- What `map` lists whose closure makes values up to a refusal, what a `map` behind it lists, and what consumers make of such a list.
+-- What `map` lists whose closure makes values up to an allocation failure, what a `map` after it lists, and what consumers make of such a list.
 use Rattle.std.specs.Prelude.{◌≡◌, ℕ, ◌+◌, Some, None, Result, Ok, Err, List, [], ◌∷◌, ◌++◌, length, map, ◌⊎◌}
 use Rattle.std.specs.List.{FoldsTo}
 use Rattle.std.specs.Fn.{Mut}
@@ -118,7 +118,7 @@ module _ {W P V B E : Type 0} (made : V → B → Type 0) (from : AllocError →
   pub lists_made_seen : (s : W) (p : P) (l k : List (Result V E)) → view s ≡ p → l ≡ k → GivesMade made steps from p l → ListsMade made SeenSteps from s k
   lists_made_seen s p l k at same a = record { runs = seen_made k s (subst (λ (q : P). GivesMade made steps from q k) (sym at) (subst (λ (j : List (Result V E)). GivesMade made steps from p j) same a)) }
 
--- `map` whose closure makes what h says lists what h makes, up to a refusal
+-- `map` whose closure makes what h says lists what h makes, up to an allocation failure
 pub lists_made_by_map : {S F X V B E : Type 0} (steps : S → Answered X E → S → Type 0) (g : Mut F (X × Unit {0}) (Result B E)) (made : V → B → Type 0) (from : AllocError → E → Type 0) (h : X → Result V E) {it : S} {f : F} (l : List (Result X E)) {s : Map S F} → map_parts s ≡ (it, f) → Makes made from (call_on g) f h → Lists steps it l
     → ListsMade made (λ u r v. passing_step steps (call_on g) map_outcome (map_parts u) r (map_parts v)) from s (mapped h l)
 lists_made_by_map steps g made from h {it} {f} l {s} parts makes i = lists_made_seen made from map_parts (passing_step steps (call_on g) map_outcome) s (it, f) _ _ parts refl (gives_all_made steps (call_on g) made from f h makes l it i.runs)
@@ -142,7 +142,7 @@ module _ {S X B E : Type 0} (made : X → B → Type 0) (steps : S → Answered 
   failure_told (Ok x) e t (inr k) = absurd k.0
   failure_told (Err d) e t (inr k) = inr ((let q = k.0 in cc), k.1)
 
-  -- an item is made of one that was held, before a refusal, or of the list's
+  -- an item is made of one that was buffered, before an allocation failure, or of the list's
   abbrev ItemTold : Result X E → B → S → Type 0 → Type 0
   ItemTold z y t G = ((x : X) × made x y × RefusesNext steps from t) ⊎ ((x : X) × (z ≡ Ok x) × made x y × G)
 
@@ -230,7 +230,7 @@ module _ {S F X Y B C E : Type 0} (steps : S → Answered B E → S → Type 0) 
   all_of_made (Err d ∷ l) s a = λ r t w. then_of (Err d) l (mapped (λ x. Ok (h x)) l) (λ u b. all_of_made l u b) r t.0 t.1 (one_of (Err d) l s r t.0 t.1 a (passes_of_pass_trace w))
   all_of_made (Ok x ∷ l) s a = λ r t w. then_of (Ok x) l (mapped (λ x. Ok (h x)) l) (λ u b. all_of_made l u b) r t.0 t.1 (one_of (Ok x) l s r t.0 t.1 a (passes_of_pass_trace w))
 
--- `map` over what lists made values lists what h makes of them, up to a refusal
+-- `map` over what lists made values lists what h makes of them, up to an allocation failure
 pub made_by_map_of_made : {S F X Y B C E : Type 0} (steps : S → Answered B E → S → Type 0) (g : Mut F (B × Unit {0}) (Result C E)) (of : X → B → Type 0) (made : Y → C → Type 0) (from : AllocError → E → Type 0) (h : X → Y) {it : S} {f : F} (l : List (Result X E)) {s : Map S F} → map_parts s ≡ (it, f) → MakesOf of made from (call_on g) f h → ListsMade of steps from it l
     → ListsMade made (λ u r v. passing_step steps (call_on g) map_outcome (map_parts u) r (map_parts v)) from s (mapped (λ x. Ok (h x)) l)
 made_by_map_of_made steps g of made from h {it} {f} l {s} parts makes i = lists_made_seen made from map_parts (passing_step steps (call_on g) map_outcome) s (it, f) _ _ parts refl (all_of_made steps (call_on g) of made from f h makes l it i.runs)
@@ -238,7 +238,7 @@ made_by_map_of_made steps g of made from h {it} {f} l {s} parts makes i = lists_
 -- ---- what draws up to a last answer are made of
 
 module _ {V B E : Type 0} (made : V → B → Type 0) where
-  -- what the list goes on with behind the items, by the last answer
+  -- what the list goes on with after the items, by the last answer
   abbrev RestTold : Answered B E → List (Result V E) → Type 0
   RestTold (Ok None) rest = rest ≡ []
   RestTold (Err e) rest = (k : List (Result V E)) × (rest ≡ Err e ∷ k)
@@ -261,7 +261,7 @@ module _ {S V B E : Type 0} (steps : S → Answered B E → S → Type 0) (made 
   abbrev MadeOrRefused : S → List (Result V E) → Type 0
   MadeOrRefused s l = GivesMade made steps from s l
 
-  -- the last answer is a refusal, or the draws were those of the list
+  -- the last answer is an allocation failure, or the draws were those of the list
   abbrev DrawsTold : List (Result V E) → List B → Answered B E → Type 0
   DrawsTold l ys last = AnswersRefusal from last ⊎ DrawnMade made l ys last
 
@@ -344,7 +344,7 @@ each_length made [] (y ∷ ys) m = absurd m
 each_length made (v ∷ vs) [] m = absurd m
 each_length made (v ∷ vs) (y ∷ ys) m = let e = each_length made vs ys m.1 in omega (arith, e)
 
--- a refusal fails whatever is told
+-- an allocation failure is one whatever the given result is
 pub refused_result : {V B E : Type 0} (made : V → B → Type 0) (from : AllocError → E → Type 0) (told_or_refused : Result V E) (e : E) → IsRefusal from e → IsToldOrRefused made from told_or_refused (Err e)
 refused_result made from (Ok v) e r = r
 refused_result made from (Err d) e r = inr r
@@ -374,7 +374,7 @@ module _ {S V B E : Type 0} (steps : S → Answered B E → S → Type 0) (made 
   counted_by l ys (Err e) r exit (inl w) = rw exit (refused_result (λ v y. y ≡ v) from (counted l) e (subst (IsRefusal from) (let q = w.1 in cc) w.2))
   counted_by l ys (Err e) r exit (inr d) = rw exit (failed_result (λ v y. y ≡ v) from (counted l) e (ap counted d.list_is ∙ count_failed d.values d.rest e (ap counted d.rest_is.1 ∙ count_failed_at e d.rest_is.0)))
 
-  -- what `count` answers over what lists made values
+  -- what `count` returns over what lists made values
   pub counted_made : {s t : S} (l : List (Result V E)) (r : Result ℕ E) → CountDrains steps s r t → ListsMade made steps from s l → SameOrRefused from (counted l) r
   counted_made {s} {t} l r k i = counted_by l k.items k.last r k.at.exit (draws_told steps made from k.items k.last l s t i.runs k.ran)
 
@@ -404,9 +404,9 @@ module _ {X B D C E E' F : Type 0} (of : X → B → Type 0) (made : D → C →
   all_went (v ∷ vs) [] d c q each m went = absurd each
   all_went (v ∷ vs) (y ∷ ys) d c q each m went = let k = fold_went v y d c went.0 m each.0 went.1 in went_before v vs d q (all_went vs ys (h d v) (went.0).0 q each.1 k.0 (subst (λ (g : F). FoldsTo {P = C × F} (went_on_with call) ((went.0).0, g) ys q) k.1 went.2))
 
-  fold_ended : (d : D) → Fold d [] ≡ Ok d
+  fold_nil : (d : D) → Fold d [] ≡ Ok d
   unfolding folded
-  fold_ended d = refl
+  fold_nil d = refl
 
   fold_failed : (d : D) (e : E) (l : List (Result X E)) → Fold d (Err e ∷ l) ≡ Err (convert e)
   unfolding folded
@@ -418,12 +418,12 @@ module _ {X B D C E E' F : Type 0} (of : X → B → Type 0) (made : D → C →
     by_exit l ys (Ok (Some y)) d c q r m went exit (inl w) = absurd (let e = w.1 in cc)
     by_exit l ys (Err e) d c q r m went (e', by, is) (inl w) = rw is (refused_result made from' (Fold d l) e' (refusals e e' (subst (IsRefusal from) (let k = w.1 in cc) w.2) by))
     by_exit l ys (Ok None) d c q r m went exit (inr k) = let w = all_went k.values ys d c q k.each m went in
-        rw (exit, ap (Fold d) k.list_is ∙ w.goes_on k.rest ∙ ap (Fold w.value) k.rest_is ∙ fold_ended w.value) w.is_made
+        rw (exit, ap (Fold d) k.list_is ∙ w.goes_on k.rest ∙ ap (Fold w.value) k.rest_is ∙ fold_nil w.value) w.is_made
     by_exit l ys (Err e) d c q r m went (e', by, is) (inr k) = let w = all_went k.values ys d c q k.each m went in
         rw is (failed_result made from' (Fold d l) e' (ap (Fold d) k.list_is ∙ w.goes_on k.rest ∙ ap (Fold w.value) k.rest_is.1 ∙ fold_failed w.value e k.rest_is.0 ∙ ap (λ z. Err z) (sym (converts e e' by))))
     by_exit l ys (Ok (Some y)) d c q r m went (g, e', called, is) (inr k) = let w = all_went k.values ys d c q k.each m went in
         rw is (refused_result made from' (Fold d l) e' (makes w.value q.0 k.rest_is.0 y (Err e') g w.is_made k.rest_is.1 (subst (λ (j : F). call j q.0 y (Err e') g) w.stays called)).1)
 
--- What `try_fold` answers over what lists made values: a value made of the one that the list is folded to, its first failure, or a refusal. What a refused request becomes is a refusal of the closure's error too.
+-- What `try_fold` returns over what lists made values: a value made of the one that the list is folded to, its first failure, or an allocation failure. The failure made of an `AllocError` is one of the closure's error too.
 pub folded_made : {S X B D C E E' F : Type 0} (steps : S → Answered B E → S → Type 0) (g : Mut F (C × (B × Unit {0})) (Result C E')) (of : X → B → Type 0) (made : D → C → Type 0) (from : AllocError → E → Type 0) (from' : AllocError → E' → Type 0) (converts_by : E → E' → Type 0) (convert : E → E') (h : D → X → D) {s t : S} {f : F} {c : C} (d : D) (l : List (Result X E)) (r : Result C E') → FoldDrains steps (call_with g) converts_by s c f r t → made d c → MakesWith of made from' (call_with g) f h → Converts converts_by convert → ((e : E) (e' : E') → IsRefusal from e → converts_by e e' → IsRefusal from' e') → ListsMade of steps from s l → IsToldOrRefused made from' (folded convert (λ a x. Ok (h a x)) d l) r
 folded_made steps g of made from from' converts_by convert h {s} {t} {f} {c} d l r k m makes converts refusals i = by_exit of made from' (call_with g) f h makes convert from converts_by converts refusals l k.items k.last d c (k.at.value, k.at.closure) r m k.at.went k.at.exit (draws_told steps of from k.items k.last l s t i.runs k.ran)

@@ -2,7 +2,7 @@
 ghost use Rattle.std.specs.Prelude.{◌≡◌, List, Option, Result, Ok, None};
 ghost use Rattle.fallible_contract.specs.Traces.{Answered};
 ghost use Rattle.fallible_contract.specs.Lists.{Lists, rest_first, nth_of};
-ghost use Rattle.fallible_core.specs.Peeking.Peekable.{Peeks, looked_ahead, peekable_parts};
+ghost use Rattle.fallible_core.specs.Peeking.Peekable.{Peeks, rest_look, peekable_parts};
 ghost use Rattle.fallible_core.specs.declared.peeking.peekable.Peekable.{Peekable};
 
 use fallible_core::peeking::Peekable;
@@ -29,5 +29,5 @@ where
         (l : List (Result I.Item I.Error))
         → Lists ⟦<Peekable<I> as FallibleIterator>⟧.contract.steps s l
         → Peeks I.contract.steps (peekable_parts s) r (peekable_parts t)
-        → Lists ⟦<Peekable<I> as FallibleIterator>⟧.contract.steps t (looked_ahead l) }
+        → Lists ⟦<Peekable<I> as FallibleIterator>⟧.contract.steps t (rest_look l) }
 {}

@@ -9,8 +9,8 @@ use std::marker::PhantomData;
 /// Yields nothing: each call returns `Ok(None)`.
 #[derive(Clone, Debug, Drop)]
 pub struct Empty<T, E> {
-    pub(crate) item: PhantomData<T>,
-    pub(crate) error: PhantomData<E>,
+    pub(crate) item_type: PhantomData<T>,
+    pub(crate) error_type: PhantomData<E>,
 }
 
 impl<T, E> FallibleIterator for Empty<T, E> {

@@ -85,7 +85,7 @@ pub fn once<T, E>(value: T) -> Once<T, E>
 {
     Once {
         value: Some(value),
-        error: PhantomData,
+        error_type: PhantomData,
     }
 }
 
@@ -106,7 +106,7 @@ pub fn once_err<T, E>(error: E) -> OnceErr<T, E>
         (Err error ∷ []) }
 {
     OnceErr {
-        item: PhantomData,
+        item_type: PhantomData,
         error: Some(error),
     }
 }
@@ -148,8 +148,8 @@ pub fn empty<T, E>() -> Empty<T, E>
     ensures lists { Lists (empty_contract {S = Empty T E} {A = T} {E = E}).steps result [] }
 {
     Empty {
-        item: PhantomData,
-        error: PhantomData,
+        item_type: PhantomData,
+        error_type: PhantomData,
     }
 }
 
@@ -170,7 +170,7 @@ pub fn repeat<T: Clone, E: From<AllocError>>(value: T) -> Repeat<T, E>
 {
     Repeat {
         value,
-        error: PhantomData,
+        error_type: PhantomData,
     }
 }
 
@@ -190,7 +190,7 @@ pub fn repeat_err<T, E: Clone + From<AllocError>>(error: E) -> RepeatErr<T, E>
     ensures parts { repeat_err_parts result ≡ error }
 {
     RepeatErr {
-        item: PhantomData,
+        item_type: PhantomData,
         error,
     }
 }

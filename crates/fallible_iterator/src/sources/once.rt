@@ -12,7 +12,7 @@ use std::marker::PhantomData;
 #[derive(Clone, Debug, Drop)]
 pub struct Once<T, E> {
     pub(crate) value: Option<T>,
-    pub(crate) error: PhantomData<E>,
+    pub(crate) error_type: PhantomData<E>,
 }
 
 impl<T: Drop, E> FallibleIterator for Once<T, E> {

@@ -11,7 +11,7 @@ use std::marker::PhantomData;
 /// One failure. Then each call returns `Ok(None)`.
 #[derive(Clone, Debug, Drop)]
 pub struct OnceErr<T, E> {
-    pub(crate) item: PhantomData<T>,
+    pub(crate) item_type: PhantomData<T>,
     pub(crate) error: Option<E>,
 }
 

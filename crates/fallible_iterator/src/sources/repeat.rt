@@ -13,7 +13,7 @@ use std::marker::PhantomData;
 #[derive(Clone, Debug, Drop)]
 pub struct Repeat<T, E> {
     pub(crate) value: T,
-    pub(crate) error: PhantomData<E>,
+    pub(crate) error_type: PhantomData<E>,
 }
 
 impl<T: Clone, E: From<AllocError>> FallibleIterator for Repeat<T, E> {

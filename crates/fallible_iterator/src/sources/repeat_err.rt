@@ -12,7 +12,7 @@ use std::marker::PhantomData;
 /// A clone of one error as each failure. If a clone can't be allocated, the failure is the one converted from `AllocError`, and the error stays.
 #[derive(Clone, Debug, Drop)]
 pub struct RepeatErr<T, E> {
-    pub(crate) item: PhantomData<T>,
+    pub(crate) item_type: PhantomData<T>,
     pub(crate) error: E,
 }
 

@@ -7,18 +7,18 @@ use Rattle.fallible_itertools.specs.Adjacent.{Adjacent, AdjacentItems}
 
 module _ {A E : Type 0} (P : A → A → Type 0) where
   -- P holds of x and the first of the list, where that is an item
-  abbrev pub Next : A → List (Result A E) → Type 0
-  Next x [] = ⊤
-  Next x (Ok y ∷ l) = P x y
-  Next x (Err e ∷ l) = ⊤
+  abbrev pub HoldsOfNext : A → List (Result A E) → Type 0
+  HoldsOfNext x [] = ⊤
+  HoldsOfNext x (Ok y ∷ l) = P x y
+  HoldsOfNext x (Err e ∷ l) = ⊤
 
   -- what `AdjacentItems` says, by recursion
   abbrev pub EachNext : List (Result A E) → Type 0
   EachNext [] = ⊤
-  EachNext (Ok x ∷ l) = Next x l × EachNext l
+  EachNext (Ok x ∷ l) = HoldsOfNext x l × EachNext l
   EachNext (Err e ∷ l) = EachNext l
 
-  of_next : (x y : A) (l after : List (Result A E)) → l ≡ Ok y ∷ after → Next x l → P x y
+  of_next : (x y : A) (l after : List (Result A E)) → l ≡ Ok y ∷ after → HoldsOfNext x l → P x y
   of_next x y [] after e h = absurd cc
   of_next x y (Ok z ∷ l) after e h = let same : y ≡ z = cc in rw same h
   of_next x y (Err d ∷ l) after e h = absurd cc
@@ -34,7 +34,7 @@ module _ {A E : Type 0} (P : A → A → Type 0) where
   rest_adjacent : (r : Result A E) (l : List (Result A E)) → AdjacentItems P (r ∷ l) → AdjacentItems P l
   rest_adjacent r l h before x y after e = h (r ∷ before) x y after (ap {B = List (Result A E)} (λ k. r ∷ k) e)
 
-  next_adjacent : (x : A) (l : List (Result A E)) → AdjacentItems P (Ok x ∷ l) → Next x l
+  next_adjacent : (x : A) (l : List (Result A E)) → AdjacentItems P (Ok x ∷ l) → HoldsOfNext x l
   next_adjacent x [] h = tt
   next_adjacent x (Ok y ∷ l) h = h [] x y l refl
   next_adjacent x (Err e ∷ l) h = tt

@@ -5,7 +5,7 @@ use Rattle.std.proofs.lemmas.Bool.{leb-false}
 use Rattle.std.proofs.Math.Nat.{div-lt_iff_lt-mul, div-le_self, suc-mul}
 use Rattle.fallible_iterator.specs.Traces.{Answered, Yields, end, item}
 use Rattle.fallible_iterator.specs.Contract.{Contract, seen_as}
-use Rattle.fallible_iterator.specs.SoundHints.{BoundsAbove, BoundsBelow, AsSound, Brackets, KeepsBrackets, SoundHints}
+use Rattle.fallible_iterator.specs.SoundHints.{BoundsAbove, BoundsBelow, AsSound, Brackets, HintsAsSoundAs, SoundHints}
 use Rattle.fallible_iterator.specs.Laws.Passing.{Passes, done, end_passes, failure_passes, keeps, refuses, closes, leaves_out, passes_of_pass_trace}
 use Rattle.fallible_iterator.proofs.Lemmas.Hints.Drawn.{brackets_seen, as_sound_seen}
 use Rattle.fallible_itertools.specs.Chunks.{batch_held, begun, chunks_asks, chunks_contract, chunks_due, chunks_hints, chunks_parts, room_left}
@@ -166,7 +166,7 @@ module _ {S A E : Type 0} (m : Contract S A E) (from : AllocError → E → Type
   GivenOfChunksHints = S × ((ℕ × Option (Vec A Global)) × Option (Option E))
 
   -- Each hint of `Chunks` is as sound as that of its source.
-  pub keeps_brackets_chunks : chunks_due s ≡ None → KeepsBrackets (seen_as chunks_parts (chunks_contract from m)) s m s.it
+  pub keeps_brackets_chunks : chunks_due s ≡ None → HintsAsSoundAs (seen_as chunks_parts (chunks_contract from m)) s m s.it
   keeps_brackets_chunks undue h is = let at : chunks_parts s ≡ (s.it, (s.batch, None)) = ap (λ (d : Option (Option E)). (s.it, (s.batch, d))) undue in
       let k : chunks_hints m (s.it, (s.batch, None)) h = subst (λ (p : GivenOfChunksHints). chunks_hints m p h) at is in
       (k.0, k.1, as_sound_seen chunks_parts _ s h (subst (λ (p : GivenOfChunksHints). AsSound (holding_step (chunks_asks from) m.steps) p h m.steps s.it k.0) (sym at) (as_sound_chunks from m.steps s.it s.batch h k.0 (k.2, k.3))))

@@ -56,9 +56,9 @@ module _ {A E : Type 0} (h : A → A → OneOrBoth A E) where
   outcome_never_end None x is = absurd cc
   outcome_never_end (Some y) x is = no_end_by (h y x) is
 
-  outcome_never_left_out : (a : Option A) → held_outcome a None ≡ LeftOut → ⊥
-  outcome_never_left_out None is = absurd cc
-  outcome_never_left_out (Some y) is = absurd cc
+  outcome_at_stop_not_left_out : (a : Option A) → held_outcome a None ≡ LeftOut → ⊥
+  outcome_at_stop_not_left_out None is = absurd cc
+  outcome_at_stop_not_left_out (Some y) is = absurd cc
 
   by_outcome_cons_at : (v : OneOrBoth A E) (l : List (Result A E)) → ((a : Option A) → held_list held_outcome next_held a l ≡ coalesced_from h a l) → by_outcome (held_outcome_by v) (held_list held_outcome next_held (next_held_by v) l) (λ e. before_stop (held_outcome (next_held_by v) None) (Err e ∷ held_list held_outcome next_held (next_held (next_held_by v) None) l)) ≡ coalesced_at v (λ held. coalesced_from h held l)
   by_outcome_cons_at (Ok (Ok z)) l rest = rest (Some z)
@@ -90,18 +90,18 @@ module _ {A E : Type 0} (h : A → A → OneOrBoth A E) where
     abbrev HeldAndClosure : Option A × F → Option A → Type 0
     HeldAndClosure p a = p ≡ (a, f)
 
-    acts_on_asked : (a x : Option A) (o : Outcome A E) (q : Option A × F) → coalesce_asks call (a, f) x o q → HeldAndClosure q (next_held a x) × (o ≡ held_outcome a x)
-    acts_on_asked None (Some x) o q w = (w.1, w.0)
-    acts_on_asked (Some y) (Some x) o q w = let d = acts_with y x w.0 q.1 w.1 in let v = held_and_outcome_by w.0 o q.0 w.2 in (pair_of_parts q (v.0 ∙ ap next_held_by d.1) d.0, v.1 ∙ ap held_outcome_by d.1)
-    acts_on_asked None None o q w = (w.1, w.0)
-    acts_on_asked (Some y) None o q w = (w.1, w.0)
+    asks_is_function : (a x : Option A) (o : Outcome A E) (q : Option A × F) → coalesce_asks call (a, f) x o q → HeldAndClosure q (next_held a x) × (o ≡ held_outcome a x)
+    asks_is_function None (Some x) o q w = (w.1, w.0)
+    asks_is_function (Some y) (Some x) o q w = let d = acts_with y x w.0 q.1 w.1 in let v = held_and_outcome_by w.0 o q.0 w.2 in (pair_of_parts q (v.0 ∙ ap next_held_by d.1) d.0, v.1 ∙ ap held_outcome_by d.1)
+    asks_is_function None None o q w = (w.1, w.0)
+    asks_is_function (Some y) None o q w = (w.1, w.0)
 
     acts_by_next : (p : Option A × F) (a x : Option A) (o : Outcome A E) (q : Option A × F) → HeldAndClosure p a → coalesce_asks call p x o q → HeldAndClosure q (next_held a x) × (o ≡ held_outcome a x)
-    acts_by_next p a x o q at w = acts_on_asked a x o q (subst (λ k. coalesce_asks call k x o q) at w)
+    acts_by_next p a x o q at w = asks_is_function a x o q (subst (λ k. coalesce_asks call k x o q) at w)
 
 pub lists_coalesced : {S A F E : Type 0} (m : Contract S A E) (g : Mut F (A × (A × Unit {0})) (OneOrBoth A E)) (s : Coalesce S F A E) (f : F) (h : A → A → OneOrBoth A E) (l : List (Result A E)) → coalesce_parts s ≡ (s.it, ((None, f), None)) → ActsWith (call_with g) f h → Lists m.steps s.it l
     → Lists (seen_as coalesce_parts (coalesce_contract m g)).steps s (coalesced h l)
-lists_coalesced m g s f h l parts a i = lists_seen coalesce_parts (coalesce_contract m g).steps s parts (held_list_is_coalesced h l) (gives_held_list m.steps (coalesce_asks (call_with g)) (HeldAndClosure h (call_with g) f a) (held_outcome h) (next_held h) (acts_by_next h (call_with g) f a) (outcome_never_end h) (outcome_never_left_out h) l s.it (None, f) None refl i.runs)
+lists_coalesced m g s f h l parts a i = lists_seen coalesce_parts (coalesce_contract m g).steps s parts (held_list_is_coalesced h l) (gives_held_list m.steps (coalesce_asks (call_with g)) (HeldAndClosure h (call_with g) f a) (held_outcome h) (next_held h) (acts_by_next h (call_with g) f a) (outcome_never_end h) (outcome_at_stop_not_left_out h) l s.it (None, f) None refl i.runs)
 
 -- ---- its hint
 

@@ -45,20 +45,20 @@ how_many_within test (x ∷ items) = by_cases (test x) (how_many_within test ite
     by_cases true h = omega (arith, h)
     by_cases false h = omega (arith, h)
 
-abbrev rounded : ℕ → ℕ
-rounded n = n % 2 ^ 64
+abbrev wrapped : ℕ → ℕ
+wrapped n = n % 2 ^ 64
 
 -- what a number that goes round is, of a count
-round_or_none : (n : ℕ) → unwrap_or (option_map rounded (above_zero n)) 0 ≡ rounded n
-round_or_none zero = refl
-round_or_none (suc n) = refl
+unwrap_or_0_wrapped_above_zero : (n : ℕ) → unwrap_or (option_map wrapped (above_zero n)) 0 ≡ wrapped n
+unwrap_or_0_wrapped_above_zero zero = refl
+unwrap_or_0_wrapped_above_zero (suc n) = refl
 
 above_zero_one_more : (n : ℕ) → above_zero (n + 1) ≡ Some (n + 1)
 above_zero_one_more n = subst (λ (k : ℕ). above_zero k ≡ Some k) (let e : suc n ≡ n + 1 = omega arith in e) refl
 
-round_within : (n : ℕ) → n ≤ 2 ^ 64 - 1 → option_map rounded (above_zero n) ≡ above_zero n
-round_within zero h = refl
-round_within (suc n) h = ap Some (omega (arith, h))
+wrapped_within : (n : ℕ) → n ≤ 2 ^ 64 - 1 → option_map wrapped (above_zero n) ≡ above_zero n
+wrapped_within zero h = refl
+wrapped_within (suc n) h = ap Some (omega (arith, h))
 
 -- ---- one more item
 
@@ -75,12 +75,12 @@ module _ {K S : Type 0} {eq : K → K → Bool} (laws : IsEquivalence eq) (m n :
       times_before : ℕ
       times_before = how_many (eq x) items
 
-      pushed_value_is_rounded : v ≡ rounded (times_before + 1)
-      pushed_value_is_rounded = is ∙ ap (λ (o : Option ℕ). (unwrap_or o 0 + 1) % 2 ^ 64) (t.counted x) ∙ ap (λ (c : ℕ). (c + 1) % 2 ^ 64) (round_or_none times_before) ∙ mod-add-mod times_before (2 ^ 64) 1
+      pushed_value_is_wrapped : v ≡ wrapped (times_before + 1)
+      pushed_value_is_wrapped = is ∙ ap (λ (o : Option ℕ). (unwrap_or o 0 + 1) % 2 ^ 64) (t.counted x) ∙ ap (λ (c : ℕ). (c + 1) % 2 ^ 64) (unwrap_or_0_wrapped_above_zero times_before) ∙ mod-add-mod times_before (2 ^ 64) 1
 
-      by_cases : (k : K) (b : Bool) → eq x k ≡ b → cond b (Some v) (hash.get eq m k) ≡ option_map rounded (times eq (items ++ x ∷ []) k)
-      by_cases k true e = ap Some pushed_value_is_rounded ∙ sym (ap (option_map rounded) (ap above_zero (how_many_more_by (eq k) items x true (laws.symm k x ∙ e) ∙ ap (λ (c : ℕ). c + 1) (how_many_alike (eq k) (eq x) (λ z. sym (laws.congr x k z e)) items)) ∙ above_zero_one_more times_before))
-      by_cases k false e = t.counted k ∙ sym (ap (λ (c : ℕ). option_map rounded (above_zero c)) (how_many_more_by (eq k) items x false (laws.symm k x ∙ e)))
+      by_cases : (k : K) (b : Bool) → eq x k ≡ b → cond b (Some v) (hash.get eq m k) ≡ option_map wrapped (times eq (items ++ x ∷ []) k)
+      by_cases k true e = ap Some pushed_value_is_wrapped ∙ sym (ap (option_map wrapped) (ap above_zero (how_many_more_by (eq k) items x true (laws.symm k x ∙ e) ∙ ap (λ (c : ℕ). c + 1) (how_many_alike (eq k) (eq x) (λ z. sym (laws.congr x k z e)) items)) ∙ above_zero_one_more times_before))
+      by_cases k false e = t.counted k ∙ sym (ap (λ (c : ℕ). option_map wrapped (above_zero c)) (how_many_more_by (eq k) items x false (laws.symm k x ∙ e)))
 
 -- ---- a drain of few enough items
 
@@ -95,7 +95,7 @@ module _ {S A E C H : Type 0} {m : Contract S A E} (law : Lawful m) {s : S} (can
   -- so the numbers don't go round
   counts_are_exact : (items : List A) (c : C) → length items ≤ 2 ^ 64 - 1 → IsTally eq items (counts c) → IsCountsOf eq items (counts c)
   counts_are_exact items c h t = record {
-    counted = λ k. t.counted k ∙ round_within (how_many (eq k) items) (let w = how_many_within (eq k) items in omega (arith, w, h));
+    counted = λ k. t.counted k ∙ wrapped_within (how_many (eq k) items) (let w = how_many_within (eq k) items in omega (arith, w, h));
     first = subst (λ (l : List A). FirstStays eq l (hash.get_key eq (counts c))) t.are t.made.first;
   }
 

@@ -42,18 +42,18 @@ module _ {A E : Type 0} (eq : A → A → Bool) where
   held_and_outcome_at y x true o q w = (w.1, w.0)
   held_and_outcome_at y x false o q w = (w.1, w.0)
 
-  acts_on_asked : (a : Option A) (x : Option A) (o : Outcome A E) (q : Option A) → dedup_asks eq a x o q → (q ≡ next_held eq a x) × (o ≡ held_outcome a x)
-  acts_on_asked None (Some x) o q w = (w.1, w.0)
-  acts_on_asked (Some y) (Some x) o q w = held_and_outcome_at y x (eq y x) o q w
-  acts_on_asked None None o q w = (w.1, w.0)
-  acts_on_asked (Some y) None o q w = (w.1, w.0)
+  asks_is_function : (a : Option A) (x : Option A) (o : Outcome A E) (q : Option A) → dedup_asks eq a x o q → (q ≡ next_held eq a x) × (o ≡ held_outcome a x)
+  asks_is_function None (Some x) o q w = (w.1, w.0)
+  asks_is_function (Some y) (Some x) o q w = held_and_outcome_at y x (eq y x) o q w
+  asks_is_function None None o q w = (w.1, w.0)
+  asks_is_function (Some y) None o q w = (w.1, w.0)
 
   acts_by_next : (p a : Option A) (x : Option A) (o : Outcome A E) (q : Option A) → p ≡ a → dedup_asks eq p x o q → (q ≡ next_held eq a x) × (o ≡ held_outcome a x)
-  acts_by_next p a x o q at w = acts_on_asked a x o q (subst (λ k. dedup_asks eq k x o q) at w)
+  acts_by_next p a x o q at w = asks_is_function a x o q (subst (λ k. dedup_asks eq k x o q) at w)
 
-  outcome_never_left_out : (a : Option A) → held_outcome a None ≡ LeftOut → ⊥
-  outcome_never_left_out None is = absurd cc
-  outcome_never_left_out (Some y) is = absurd cc
+  outcome_at_stop_not_left_out : (a : Option A) → held_outcome a None ≡ LeftOut → ⊥
+  outcome_at_stop_not_left_out None is = absurd cc
+  outcome_at_stop_not_left_out (Some y) is = absurd cc
 
   no_end_at : (y : A) (b : Bool) → held_outcome_at y b ≡ End → ⊥
   no_end_at y true is = absurd cc
@@ -85,7 +85,7 @@ module _ {A E : Type 0} (eq : A → A → Bool) where
   deduped_in_parts a e b = listed_parts held_outcome (next_held eq) None (next_at_stop eq) outcome_never_end (deduped eq) held_list_is_deduped a e b
 
 pub lists_deduped : {S A E : Type 0} (m : Contract S A E) (eq : A → A → Bool) (s : Dedup S A E) (l : List (Result A E)) → dedup_parts s ≡ (s.it, (None, None)) → Lists m.steps s.it l → Lists (seen_as dedup_parts (dedup_contract eq m)).steps s (deduped eq l)
-lists_deduped m eq s l parts i = lists_seen dedup_parts (dedup_contract eq m).steps s parts (held_list_is_deduped eq l) (gives_held_list m.steps (dedup_asks eq) (λ p a. p ≡ a) (held_outcome eq) (next_held eq) (acts_by_next eq) (outcome_never_end eq) (outcome_never_left_out eq) l s.it None None refl i.runs)
+lists_deduped m eq s l parts i = lists_seen dedup_parts (dedup_contract eq m).steps s parts (held_list_is_deduped eq l) (gives_held_list m.steps (dedup_asks eq) (λ p a. p ≡ a) (held_outcome eq) (next_held eq) (acts_by_next eq) (outcome_never_end eq) (outcome_at_stop_not_left_out eq) l s.it None None refl i.runs)
 
 -- ---- its hint
 

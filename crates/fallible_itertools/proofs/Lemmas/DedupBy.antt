@@ -88,21 +88,21 @@ module _ {A E : Type 0} (h : A → A → Result Bool E) where
     pair_at (a, g) same is = rw (same, is) refl
 
     -- an item is held beside the closure
-    abbrev At : Option A × F → Option A → Type 0
-    At p a = p ≡ (a, f)
+    abbrev IsBesideClosure : Option A × F → Option A → Type 0
+    IsBesideClosure p a = p ≡ (a, f)
 
-    acts_on : (a x : Option A) (o : Outcome A E) (q : Option A × F) → dedup_by_asks call (a, f) x o q → At q (next a x) × (o ≡ does a x)
+    acts_on : (a x : Option A) (o : Outcome A E) (q : Option A × F) → dedup_by_asks call (a, f) x o q → IsBesideClosure q (next a x) × (o ≡ does a x)
     acts_on None (Some x) o q w = (w.1, w.0)
     acts_on (Some y) (Some x) o q w = let d = acts_with y x w.0 q.1 w.1 in let v = by_is y x w.0 o q.0 w.2 in (pair_at q (v.0 ∙ ap (next_by y x) d.1) d.0, v.1 ∙ ap (does_by y) d.1)
     acts_on None None o q w = (w.1, w.0)
     acts_on (Some y) None o q w = (w.1, w.0)
 
-    acts : (p : Option A × F) (a x : Option A) (o : Outcome A E) (q : Option A × F) → At p a → dedup_by_asks call p x o q → At q (next a x) × (o ≡ does a x)
+    acts : (p : Option A × F) (a x : Option A) (o : Outcome A E) (q : Option A × F) → IsBesideClosure p a → dedup_by_asks call p x o q → IsBesideClosure q (next a x) × (o ≡ does a x)
     acts p a x o q at w = acts_on a x o q (subst (λ k. dedup_by_asks call k x o q) at w)
 
 pub lists_deduped_by : {S A F E : Type 0} (m : Contract S A E) (g : Mut F (Bor A × (Bor A × Unit {0})) (Result Bool E)) (s : DedupBy S F A E) (f : F) (h : A → A → Result Bool E) (l : List (Result A E)) → dedup_by_parts s ≡ (s.it, ((None, f), None)) → ActsWith (call_at_two g) f h → Lists m.steps s.it l
     → Lists (seen_as dedup_by_parts (dedup_by_contract m g)).steps s (deduped_by h l)
-lists_deduped_by m g s f h l parts a i = lists_seen dedup_by_parts (dedup_by_contract m g).steps s parts (deduped_is h l) (gives_held_list m.steps (dedup_by_asks (call_at_two g)) (At h (call_at_two g) f a) (does h) (next h) (acts h (call_at_two g) f a) (no_end h) (none_left h) l s.it (None, f) None refl i.runs)
+lists_deduped_by m g s f h l parts a i = lists_seen dedup_by_parts (dedup_by_contract m g).steps s parts (deduped_is h l) (gives_held_list m.steps (dedup_by_asks (call_at_two g)) (IsBesideClosure h (call_at_two g) f a) (does h) (next h) (acts h (call_at_two g) f a) (no_end h) (none_left h) l s.it (None, f) None refl i.runs)
 
 -- ---- its hint
 

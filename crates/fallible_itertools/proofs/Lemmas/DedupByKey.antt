@@ -55,9 +55,9 @@ module _ {A K E : Type 0} (eq : K → K → Bool) where
     held_outcome None None = End
     held_outcome (Some held) None = Kept held.1
 
-    outcome_never_left_out : (a : Option (K × A)) → held_outcome a None ≡ LeftOut → ⊥
-    outcome_never_left_out None is = absurd cc
-    outcome_never_left_out (Some y) is = absurd cc
+    outcome_at_stop_not_left_out : (a : Option (K × A)) → held_outcome a None ≡ LeftOut → ⊥
+    outcome_at_stop_not_left_out None is = absurd cc
+    outcome_at_stop_not_left_out (Some y) is = absurd cc
 
     no_end_at : (held : K × A) (b : Bool) → held_outcome_at held b ≡ End → ⊥
     no_end_at held true is = absurd cc
@@ -109,17 +109,17 @@ module _ {A K E : Type 0} (eq : K → K → Bool) where
       abbrev HeldAndClosure : Option (K × A) × F → Option (K × A) → Type 0
       HeldAndClosure p a = p ≡ (a, f)
 
-      acts_on_asked : (a : Option (K × A)) (x : Option A) (o : Outcome A E) (q : Option (K × A) × F) → dedup_key_asks eq call (a, f) x o q → HeldAndClosure q (next_held a x) × (o ≡ held_outcome a x)
-      acts_on_asked a (Some x) o q w = let d = acts_as x w.0 q.1 w.1 in let v = held_and_outcome_by a x w.0 o q.0 w.2 in (pair_of_parts q (v.0 ∙ ap (next_held_by a x) d.1) d.0, v.1 ∙ ap (held_outcome_by a x) d.1)
-      acts_on_asked None None o q w = (w.1, w.0)
-      acts_on_asked (Some held) None o q w = (w.1, w.0)
+      asks_is_function : (a : Option (K × A)) (x : Option A) (o : Outcome A E) (q : Option (K × A) × F) → dedup_key_asks eq call (a, f) x o q → HeldAndClosure q (next_held a x) × (o ≡ held_outcome a x)
+      asks_is_function a (Some x) o q w = let d = acts_as x w.0 q.1 w.1 in let v = held_and_outcome_by a x w.0 o q.0 w.2 in (pair_of_parts q (v.0 ∙ ap (next_held_by a x) d.1) d.0, v.1 ∙ ap (held_outcome_by a x) d.1)
+      asks_is_function None None o q w = (w.1, w.0)
+      asks_is_function (Some held) None o q w = (w.1, w.0)
 
       acts_by_next : (p : Option (K × A) × F) (a : Option (K × A)) (x : Option A) (o : Outcome A E) (q : Option (K × A) × F) → HeldAndClosure p a → dedup_key_asks eq call p x o q → HeldAndClosure q (next_held a x) × (o ≡ held_outcome a x)
-      acts_by_next p a x o q at w = acts_on_asked a x o q (subst (λ k. dedup_key_asks eq call k x o q) at w)
+      acts_by_next p a x o q at w = asks_is_function a x o q (subst (λ k. dedup_key_asks eq call k x o q) at w)
 
 pub lists_deduped_by_key : {S A K F E : Type 0} (m : Contract S A E) (eq : K → K → Bool) (g : Mut F (Bor A × Unit {0}) (Result K E)) (s : DedupByKey S K F A E) (f : F) (h : A → Result K E) (l : List (Result A E)) → dedup_by_key_parts s ≡ (s.it, ((None, f), None)) → Acts (call_at g) f h → Lists m.steps s.it l
     → Lists (seen_as dedup_by_key_parts (dedup_by_key_contract eq m g)).steps s (deduped_by_key eq h l)
-lists_deduped_by_key m eq g s f h l parts a i = lists_seen dedup_by_key_parts (dedup_by_key_contract eq m g).steps s parts (held_list_is_deduped_by_key eq h l) (gives_held_list m.steps (dedup_key_asks eq (call_at g)) (HeldAndClosure eq h (call_at g) f a) (held_outcome eq h) (next_held eq h) (acts_by_next eq h (call_at g) f a) (outcome_never_end eq h) (outcome_never_left_out eq h) l s.it (None, f) None refl i.runs)
+lists_deduped_by_key m eq g s f h l parts a i = lists_seen dedup_by_key_parts (dedup_by_key_contract eq m g).steps s parts (held_list_is_deduped_by_key eq h l) (gives_held_list m.steps (dedup_key_asks eq (call_at g)) (HeldAndClosure eq h (call_at g) f a) (held_outcome eq h) (next_held eq h) (acts_by_next eq h (call_at g) f a) (outcome_never_end eq h) (outcome_at_stop_not_left_out eq h) l s.it (None, f) None refl i.runs)
 
 -- ---- its hint
 

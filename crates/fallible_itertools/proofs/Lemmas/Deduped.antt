@@ -6,23 +6,23 @@ use Rattle.fallible_itertools.specs.Adjacent.{AdjacentItems, HaveKeys}
 use Rattle.fallible_itertools.specs.ChunkBy.{by_its_key, chunked_by, chunked_by_from, group_or}
 use Rattle.fallible_itertools.specs.Dedup.{deduped, deduped_at, dedup_before}
 use Rattle.fallible_itertools.specs.DedupByKey.{deduped_by_key, deduped_key_from, key_at, key_before}
-use Rattle.fallible_itertools.proofs.Lemmas.Adjacent.{EachNext, Next, adjacent_of_next}
+use Rattle.fallible_itertools.proofs.Lemmas.Adjacent.{EachNext, HoldsOfNext, adjacent_of_next}
 
 module _ {A K : Type 0} (E : Type 0) (eq : K → K → Bool) (h : A → Result K E) where
   -- two items have keys that differ
   abbrev Differ : A → A → Type 0
   Differ x y = HaveKeys h (λ k j. eq k j ≡ false) x y
 
-  next_kept : (z : A) (p : K × A) (b : Bool) (same other : List (Result A E)) → Differ z p.1 → Next Differ z same → Next Differ z (key_before eq p b same other)
+  next_kept : (z : A) (p : K × A) (b : Bool) (same other : List (Result A E)) → Differ z p.1 → HoldsOfNext Differ z same → HoldsOfNext Differ z (key_before eq p b same other)
   next_kept z p true same other d at = at
   next_kept z p false same other d at = d
 
-  next_keyed : (z x : A) (p : K × A) (v : Result K E) (rest : Option (K × A) → List (Result A E)) → Differ z p.1 → Next Differ z (rest (Some p)) → Next Differ z (key_at eq (Some p) x v rest)
+  next_keyed : (z x : A) (p : K × A) (v : Result K E) (rest : Option (K × A) → List (Result A E)) → Differ z p.1 → HoldsOfNext Differ z (rest (Some p)) → HoldsOfNext Differ z (key_at eq (Some p) x v rest)
   next_keyed z x p (Ok k) rest d at = next_kept z p (eq p.0 k) (rest (Some p)) (rest (Some (k, x))) d at
   next_keyed z x p (Err e) rest d at = d
 
   -- what is held comes first
-  next_held : (z : A) (p : K × A) (l : List (Result A E)) → Differ z p.1 → Next Differ z (deduped_key_from eq h (Some p) l)
+  next_held : (z : A) (p : K × A) (l : List (Result A E)) → Differ z p.1 → HoldsOfNext Differ z (deduped_key_from eq h (Some p) l)
   unfolding deduped_key_from
   next_held z p [] d = d
   next_held z p (Ok x ∷ l) d = next_keyed z x p (h x) (λ q. deduped_key_from eq h q l) d (next_held z p l d)
@@ -33,7 +33,7 @@ module _ {A K : Type 0} (E : Type 0) (eq : K → K → Bool) (h : A → Result K
   IsKeyed None = ⊤
   IsKeyed (Some p) = h p.1 ≡ Ok p.0
 
-  each_kept : (x : A) (p : K × A) (k : K) (b : Bool) (same other : List (Result A E)) → eq p.0 k ≡ b → (eq p.0 k ≡ false → Next Differ p.1 other) → EachNext Differ same → EachNext Differ other → EachNext Differ (key_before eq p b same other)
+  each_kept : (x : A) (p : K × A) (k : K) (b : Bool) (same other : List (Result A E)) → eq p.0 k ≡ b → (eq p.0 k ≡ false → HoldsOfNext Differ p.1 other) → EachNext Differ same → EachNext Differ other → EachNext Differ (key_before eq p b same other)
   each_kept x p k true same other is next h_same h_other = h_same
   each_kept x p k false same other is next h_same h_other = (next is, h_other)
 
@@ -119,14 +119,14 @@ module _ {A K : Type 0} (E : Type 0) (eq : K → K → Bool) (h : A → Result K
   group_held (Some g) = Some (g.0, g.1 ∷ g.2)
 
   -- of the rest, whatever is held before it
-  abbrev Same : List (Result A E) → Type 0
-  Same l = (a : Option (K × A × List A)) → deduped_key_from eq h (item_held a) l ≡ firsts (chunked_by_from eq h (group_held a) l)
+  abbrev SameFirsts : List (Result A E) → Type 0
+  SameFirsts l = (a : Option (K × A × List A)) → deduped_key_from eq h (item_held a) l ≡ firsts (chunked_by_from eq h (group_held a) l)
 
-  first_begun : (y : A) (v : Result K E) (l : List (Result A E)) → Same l → key_at eq None y v (λ o. deduped_key_from eq h o l) ≡ firsts (by_its_key eq h None v (λ k. chunked_by_from eq h (Some (k, y ∷ [])) l) (chunked_by_from eq h None l))
+  first_begun : (y : A) (v : Result K E) (l : List (Result A E)) → SameFirsts l → key_at eq None y v (λ o. deduped_key_from eq h o l) ≡ firsts (by_its_key eq h None v (λ k. chunked_by_from eq h (Some (k, y ∷ [])) l) (chunked_by_from eq h None l))
   first_begun y (Ok k) l rest = rest (Some (k, y, []))
   first_begun y (Err e) l rest = ap {B = List (Result A E)} (λ k. Err e ∷ k) (rest None) ∙ sym (firsts_of_failure e (chunked_by_from eq h None l))
 
-  first_keyed : (k : K) (x : A) (xs : List A) (y : A) (v : Result K E) (l : List (Result A E)) → Same l → key_at eq (Some (k, x)) y v (λ o. deduped_key_from eq h o l) ≡ firsts (by_its_key eq h (Some (k, x ∷ xs)) v (λ j. group_or eq h (k, x ∷ xs) (eq k j) (chunked_by_from eq h (Some (k, (x ∷ xs) ++ y ∷ [])) l) (chunked_by_from eq h (Some (j, y ∷ [])) l)) (chunked_by_from eq h None l))
+  first_keyed : (k : K) (x : A) (xs : List A) (y : A) (v : Result K E) (l : List (Result A E)) → SameFirsts l → key_at eq (Some (k, x)) y v (λ o. deduped_key_from eq h o l) ≡ firsts (by_its_key eq h (Some (k, x ∷ xs)) v (λ j. group_or eq h (k, x ∷ xs) (eq k j) (chunked_by_from eq h (Some (k, (x ∷ xs) ++ y ∷ [])) l) (chunked_by_from eq h (Some (j, y ∷ [])) l)) (chunked_by_from eq h None l))
   first_keyed k x xs y (Ok j) l rest = first_or k x xs (eq k j) _ _ _ _ (rest (Some (k, x, xs ++ y ∷ []))) (rest (Some (j, y, [])))
   first_keyed k x xs y (Err e) l rest = ap {B = List (Result A E)} (λ l. Ok x ∷ Err e ∷ l) (rest None) ∙ sym (ap {B = List (Result A E)} (λ l. Ok x ∷ l) (firsts_of_failure e (chunked_by_from eq h None l))) ∙ sym (firsts_of_one k x xs (Err e ∷ chunked_by_from eq h None l))
 

@@ -8,7 +8,7 @@ use Rattle.fallible_iterator.specs.BothEnds.{items_listed}
 use Rattle.fallible_itertools.specs.Adjacent.{AdjacentItems, HasKey, IsGroup}
 use Rattle.fallible_itertools.specs.ChunkBy.{by_its_key, chunked_by, chunked_by_from, group_or}
 use Rattle.fallible_itertools.specs.Chunks.{batch_or, chunked, chunked_from, short_batch}
-use Rattle.fallible_itertools.proofs.Lemmas.Adjacent.{EachNext, Next, adjacent_of_next}
+use Rattle.fallible_itertools.proofs.Lemmas.Adjacent.{EachNext, HoldsOfNext, adjacent_of_next}
 
 module _ {A K : Type 0} (E : Type 0) (eq : K → K → Bool) (h : A → Result K E) where
   -- what comes at an item, by its key v, where g is held
@@ -24,16 +24,16 @@ module _ {A K : Type 0} (E : Type 0) (eq : K → K → Bool) (h : A → Result K
   abbrev Differ : K × List A → K × List A → Type 0
   Differ g k = eq g.0 k.0 ≡ false
 
-  next_or : (z g : K × List A) (b : Bool) (more other : List (Result (K × List A) E)) → Differ z g → Next Differ z more → Next Differ z (group_or eq h g b more other)
+  next_or : (z g : K × List A) (b : Bool) (more other : List (Result (K × List A) E)) → Differ z g → HoldsOfNext Differ z more → HoldsOfNext Differ z (group_or eq h g b more other)
   next_or z g true more other d at = at
   next_or z g false more other d at = d
 
-  next_keyed : (z g : K × List A) (x : A) (v : Result K E) (l : List (Result A E)) → Differ z g → ((xs : List A) → Next Differ z (chunked_by_from eq h (Some (g.0, xs)) l)) → Next Differ z (keyed g x v l)
+  next_keyed : (z g : K × List A) (x : A) (v : Result K E) (l : List (Result A E)) → Differ z g → ((xs : List A) → HoldsOfNext Differ z (chunked_by_from eq h (Some (g.0, xs)) l)) → HoldsOfNext Differ z (keyed g x v l)
   next_keyed z g x (Ok k) l d rest = next_or z g (eq g.0 k) (chunked_by_from eq h (Some (g.0, g.1 ++ x ∷ [])) l) (chunked_by_from eq h (Some (k, x ∷ [])) l) d (rest (g.1 ++ x ∷ []))
   next_keyed z g x (Err e) l d rest = d
 
   -- a group of the key that is held comes first
-  next_held : (z : K × List A) (k : K) (xs : List A) (l : List (Result A E)) → eq z.0 k ≡ false → Next Differ z (chunked_by_from eq h (Some (k, xs)) l)
+  next_held : (z : K × List A) (k : K) (xs : List A) (l : List (Result A E)) → eq z.0 k ≡ false → HoldsOfNext Differ z (chunked_by_from eq h (Some (k, xs)) l)
   unfolding chunked_by_from
   next_held z k xs [] d = d
   next_held z k xs (Ok x ∷ l) d = next_keyed z (k, xs) x (h x) l d (λ ys. next_held z k ys l d)
@@ -43,7 +43,7 @@ module _ {A K : Type 0} (E : Type 0) (eq : K → K → Bool) (h : A → Result K
   abbrev EachOf : List (Result A E) → Type 0
   EachOf l = (a : Option (K × List A)) → EachNext Differ (chunked_by_from eq h a l)
 
-  each_or : (g : K × List A) (b : Bool) (more other : List (Result (K × List A) E)) → (b ≡ false → Next Differ g other) → EachNext Differ more → EachNext Differ other → EachNext Differ (group_or eq h g b more other)
+  each_or : (g : K × List A) (b : Bool) (more other : List (Result (K × List A) E)) → (b ≡ false → HoldsOfNext Differ g other) → EachNext Differ more → EachNext Differ other → EachNext Differ (group_or eq h g b more other)
   each_or g true more other next at_more at_other = at_more
   each_or g false more other next at_more at_other = (next refl, at_other)
 
@@ -153,33 +153,33 @@ module _ {A K : Type 0} (E : Type 0) (eq : K → K → Bool) (h : A → Result K
 
 module _ {A : Type 0} (E : Type 0) (n : ℕ) where
   -- the earlier of two batches is full
-  abbrev Full : List A → List A → Type 0
-  Full b c = length b ≡ n
+  abbrev IsFullBefore : List A → List A → Type 0
+  IsFullBefore b c = length b ≡ n
 
-  next_full : (b : List A) (l : List (Result (List A) E)) → length b ≡ n → Next Full b l
+  next_full : (b : List A) (l : List (Result (List A) E)) → length b ≡ n → HoldsOfNext IsFullBefore b l
   next_full b [] is = tt
   next_full b (Ok c ∷ l) is = is
   next_full b (Err e ∷ l) is = tt
 
-  full_or : (xs : List A) (b : Bool) (more other : List (Result (List A) E)) → ltb (length xs) n ≡ b → length xs ≤ n → (length xs < n → EachNext Full more) → EachNext Full other → EachNext Full (batch_or xs b more other)
+  full_or : (xs : List A) (b : Bool) (more other : List (Result (List A) E)) → ltb (length xs) n ≡ b → length xs ≤ n → (length xs < n → EachNext IsFullBefore more) → EachNext IsFullBefore other → EachNext IsFullBefore (batch_or xs b more other)
   full_or xs true more other is few at_more at_other = at_more (ltb-true (length xs) n is)
   full_or xs false more other is few at_more at_other = (next_full xs other (let enough : n ≤ length xs = ltb-false (length xs) n is in omega arith), at_other)
 
-  last_short : (xs : List A) → EachNext {E = E} Full (short_batch xs [])
+  last_short : (xs : List A) → EachNext {E = E} IsFullBefore (short_batch xs [])
   last_short [] = tt
   last_short (x ∷ xs) = (tt, tt)
 
-  short_full : (xs : List A) (e : E) (l : List (Result (List A) E)) → EachNext Full l → EachNext Full (short_batch xs (Err e ∷ l))
+  short_full : (xs : List A) (e : E) (l : List (Result (List A) E)) → EachNext IsFullBefore l → EachNext IsFullBefore (short_batch xs (Err e ∷ l))
   short_full [] e l rest = rest
   short_full (x ∷ xs) e l rest = (tt, rest)
 
-  full_from : (xs : List A) (l : List (Result A E)) → 0 < n → length xs < n → EachNext Full (chunked_from n xs l)
+  full_from : (xs : List A) (l : List (Result A E)) → 0 < n → length xs < n → EachNext IsFullBefore (chunked_from n xs l)
   unfolding chunked_from
   full_from xs [] some few = last_short xs
   full_from xs (Ok x ∷ l) some few = let k : length (xs ++ x ∷ []) ≡ length xs + 1 = length-append xs (x ∷ []) in
       full_or (xs ++ x ∷ []) (ltb (length (xs ++ x ∷ [])) n) _ _ refl (omega (arith, k)) (λ fewer. full_from (xs ++ x ∷ []) l some fewer) (full_from [] l some some)
   full_from xs (Err e ∷ l) some few = short_full xs e _ (full_from [] l some some)
 
-  pub chunked_full : (l : List (Result A E)) → 0 < n → AdjacentItems Full (chunked n l)
+  pub chunked_full : (l : List (Result A E)) → 0 < n → AdjacentItems IsFullBefore (chunked n l)
   unfolding chunked
-  chunked_full l some = adjacent_of_next Full (chunked n l) (full_from [] l some some)
+  chunked_full l some = adjacent_of_next IsFullBefore (chunked n l) (full_from [] l some some)

@@ -11,7 +11,7 @@ use Rattle.fallible_iterator.specs.Laws.Closures.{reaches_here, reaches_from, is
 use Rattle.fallible_iterator.specs.Laws.Passing.{lawful_leaving_out}
 use Rattle.fallible_iterator.specs.Laws.Contract.{kept_by_draws_run}
 use Rattle.fallible_iterator.proofs.Lemmas.Folds.{holds_at_first_turn, holds_each_turn_after, driven_after, driven_end, driven_failure, driven_stop}
-use Rattle.fallible_iterator.proofs.Lemmas.Folding.{holds_into}
+use Rattle.fallible_iterator.proofs.Lemmas.Folding.{holds_at_each_turn_into}
 use Rattle.fallible_itertools.specs.Holding.{asks_item, as_answered_item, stop_answer, BeforeStop, holding_step, OrStop, MayBeAsked, TurnBefore, StoppedBehind}
 use Rattle.std.specs.declared.ops.ControlFlow.{ControlFlow}
 use Rattle.std.specs.declared.ops.ControlFlow.TheVariants.{Break}
@@ -36,7 +36,7 @@ module _ {S P X B E : Type 0} (steps : S → Answered X E → S → Type 0) (ask
 
   module _ {C R : Type 0} (turns : C → B → ControlFlow R (Unit {0}) → C → Type 0) where
     pub holds_each_turn_before : {Q : C → B → Type 0} {p : S × P} {c : C} → HoldsAtEachTurn StepsOfHolding (goes_on turns) Q (NoneDue p) c → HoldsAtEachTurn UpTo (goes_on turns) Q p c
-    holds_each_turn_before h = holds_into {held = StepsOfHolding} NoneDue (λ p y q step. step_of_item p y q step) h
+    holds_each_turn_before h = holds_at_each_turn_into {held = StepsOfHolding} NoneDue (λ p y q step. step_of_item p y q step) h
 
     -- where it is known that none is due
     pub holds_each_turn_undue : {Q : C → B → Type 0} {s : S} {p : P} {due : Option (Option E)} {c : C} → due ≡ None → HoldsAtEachTurn StepsOfHolding (goes_on turns) Q (s, (p, due)) c → HoldsAtEachTurn StepsOfHolding (goes_on turns) Q (s, (p, None)) c

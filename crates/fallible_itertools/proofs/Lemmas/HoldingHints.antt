@@ -3,7 +3,7 @@ use Rattle.std.specs.Prelude.{◌≡◌, ℕ, ◌+◌, ◌≤◌, ◌⊎◌, min
 use Rattle.std.proofs.Common.{refl, sym, subst, arith, inl, inr, length-append}
 use Rattle.fallible_iterator.specs.Traces.{Answered, Yields, item, end}
 use Rattle.fallible_iterator.specs.Contract.{Contract, seen_as}
-use Rattle.fallible_iterator.specs.SoundHints.{BoundsAbove, BoundsBelow, AsSound, Brackets, KeepsBrackets, SoundHints}
+use Rattle.fallible_iterator.specs.SoundHints.{BoundsAbove, BoundsBelow, AsSound, Brackets, HintsAsSoundAs, SoundHints}
 use Rattle.fallible_iterator.proofs.Lemmas.Hints.Drawn.{if_some_no_greater, as_sound_seen, brackets_seen, yields_after}
 use Rattle.fallible_iterator.proofs.Lemmas.Hints.Joining.{if_some_fitting_sum_above}
 use Rattle.fallible_iterator.specs.Hints.{fitting_sum}
@@ -138,7 +138,7 @@ module _ {V S P X B E : Type 0} (view : V → S × (P × Option (Option E))) (m 
   SeenOfHoldingHints = seen_as view (holding_contract m asks pre held (one_at_least m held))
 
   -- Each hint of such an adapter is as sound as that of its source.
-  pub keeps_brackets_held : (s : V) (it : S) (f : P) → view s ≡ (it, (f, None)) → KeepsBrackets SeenOfHoldingHints s m it
+  pub keeps_brackets_held : (s : V) (it : S) (f : P) → view s ≡ (it, (f, None)) → HintsAsSoundAs SeenOfHoldingHints s m it
   keeps_brackets_held s it f at h is = let k : one_at_least m held (it, (f, None)) h = subst (λ (p : S × (P × Option (Option E))). one_at_least m held p h) at is in
       (k.0, k.1, as_sound_seen view _ s h (subst (λ (p : S × (P × Option (Option E))). AsSound (holding_step asks m.steps) p h m.steps it k.0) (sym at) (as_sound_held m.steps asks held holds gives it f k.0 h k.2)))
 

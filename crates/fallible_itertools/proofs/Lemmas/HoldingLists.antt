@@ -67,8 +67,8 @@ module _ {S P Q X B E : Type 0} (steps : S → Answered X E → S → Type 0) (a
   abbrev UpTo : S → P → List (Answered B E) → S → P → Type 0
   UpTo = Passes steps (asks_item asks) as_answered_item
 
-  abbrev pub Gives : S → P → List (Result B E) → Type 0
-  Gives s p l = AlwaysGives StepsOfHoldingLists (s, (p, None)) l
+  abbrev pub AlwaysGivesHeld : S → P → List (Result B E) → Type 0
+  AlwaysGivesHeld s p l = AlwaysGives StepsOfHoldingLists (s, (p, None)) l
 
   -- ---- a stop
 
@@ -80,7 +80,7 @@ module _ {S P Q X B E : Type 0} (steps : S → Answered X E → S → Type 0) (a
   -- after an end nothing is said
   abbrev ThenGives : Option E → S → P → List (Result B E) → Type 0
   ThenGives None s p rest = ⊤
-  ThenGives (Some e) s p rest = Gives s p rest
+  ThenGives (Some e) s p rest = AlwaysGivesHeld s p rest
 
   always_gives_due : (stop : Option E) (s : S) (p : P) (rest : List (Result B E)) → ThenGives stop s p rest → AlwaysGives StepsOfHoldingLists (s, (p, Some stop)) (StopThen stop rest)
   always_gives_due None s p rest g = λ r t w. w.0
@@ -97,7 +97,7 @@ module _ {S P Q X B E : Type 0} (steps : S → Answered X E → S → Type 0) (a
   always_gives_due_then : (stop : Option E) (t : S) (q : P × Option (Option E)) (rest : List (Result B E)) → q.1 ≡ Some stop → ThenGives stop t q.0 rest → AlwaysGives StepsOfHoldingLists (t, q) (StopThen stop rest)
   always_gives_due_then stop t q rest is g = subst (λ (d : Option (Option E)). AlwaysGives StepsOfHoldingLists (t, (q.0, d)) (StopThen stop rest)) (sym is) (always_gives_due stop t q.0 rest g)
 
-  gives_at_stop : (stop : Option E) (o : Outcome B E) (T : S → Type 0) (s : S) (p : P) (b : Q) (rest : List (Result B E)) → does b None ≡ o → ((r : Answered B E) (t : S) (q : P × Option (Option E)) → StepsOfHoldingLists (s, (p, None)) r (t, q) → MetStop stop T b r t q) → ((u : S) (h : P) → At h (next b None) → T u → ThenGives stop u h rest) → Gives s p (before_stop o (StopThen stop rest))
+  gives_at_stop : (stop : Option E) (o : Outcome B E) (T : S → Type 0) (s : S) (p : P) (b : Q) (rest : List (Result B E)) → does b None ≡ o → ((r : Answered B E) (t : S) (q : P × Option (Option E)) → StepsOfHoldingLists (s, (p, None)) r (t, q) → MetStop stop T b r t q) → ((u : S) (h : P) → At h (next b None) → T u → ThenGives stop u h rest) → AlwaysGivesHeld s p (before_stop o (StopThen stop rest))
   gives_at_stop stop (Kept y) T s p b rest is meets then = λ r t w. let k = meets r t.0 t.1 w in let c = at_met_as stop (Kept y) T b r t.0 t.1 is k in
       (c.1.0, always_gives_due_then stop t.0 t.1 rest c.1.1 (then t.0 t.1.0 c.0 k.2))
   gives_at_stop stop (Failure e) T s p b rest is meets then = λ r t w. let k = meets r t.0 t.1 w in let c = at_met_as stop (Failure e) T b r t.0 t.1 is k in
@@ -154,14 +154,14 @@ module _ {S P Q X B E : Type 0} (steps : S → Answered X E → S → Type 0) (a
     by_first_as o is r t q w = subst (λ v. ByFirst a x T v r t q) is (by_first w.1 r t w.0 q (passes_of_pass_trace w.2) w.3)
 
     -- what the outcome makes of the list that comes then
-    item_given : (o : Outcome B E) (l : List (Result B E)) (failed : List (Result B E)) → does a (Some x) ≡ o → ((u : S) (h : P) → At h (next a (Some x)) → T u → Gives u h l) → ((u : S) (h : P) → At h (next (next a (Some x)) None) → T u → Gives u h failed)
-        → Gives s p (by_outcome o l (λ e. before_stop (does (next a (Some x)) None) (Err e ∷ failed)))
+    item_given : (o : Outcome B E) (l : List (Result B E)) (failed : List (Result B E)) → does a (Some x) ≡ o → ((u : S) (h : P) → At h (next a (Some x)) → T u → AlwaysGivesHeld u h l) → ((u : S) (h : P) → At h (next (next a (Some x)) None) → T u → AlwaysGivesHeld u h failed)
+        → AlwaysGivesHeld s p (by_outcome o l (λ e. before_stop (does (next a (Some x)) None) (Err e ∷ failed)))
     item_given (Kept y) l failed is then fails = λ r t w. let k = by_first_as (Kept y) is r t.0 t.1 w in (k.0, subst (λ (d : Option (Option E)). AlwaysGives StepsOfHoldingLists (t.0, (t.1.0, d)) l) (sym k.1) (then t.0 t.1.0 k.2 k.3))
     item_given LeftOut l failed is then fails = always_gives_if StepsOfHoldingLists l (s, (p, None)) (λ r t w. let k = by_first_as LeftOut is r t.0 t.1 w in ((k.0, (k.1, None)), k.4, then k.0 k.1 k.2 k.3))
     item_given (Failure e) l failed is then fails = gives_at_stop (Some e) (does (next a (Some x)) None) T s p (next a (Some x)) failed refl (λ r t q w. by_first_as (Failure e) is r t q w) fails
     item_given End l failed is then fails = absurd (no_end a x is)
 
-  pub gives_held_list : (l : List (Result X E)) (s : S) (p : P) (a : Q) → At p a → AlwaysGives steps s l → Gives s p (held_list does next a l)
+  pub gives_held_list : (l : List (Result X E)) (s : S) (p : P) (a : Q) → At p a → AlwaysGives steps s l → AlwaysGivesHeld s p (held_list does next a l)
   gives_held_list [] s p a at i = gives_at_stop None (does a None) (λ u. ⊤) s p a [] refl (λ r t q w. met_to_end s t p w.0 a w.1 r q at i (passes_of_pass_trace w.2) w.3) (λ u h b f. tt)
   gives_held_list (Ok x ∷ l) s p a at i = item_given x (λ u. AlwaysGives steps u l) s p a i at (does a (Some x)) (held_list does next (next a (Some x)) l) (held_list does next (next (next a (Some x)) None) l) refl (λ u h b f. gives_held_list l u h (next a (Some x)) b f) (λ u h b f. gives_held_list l u h (next (next a (Some x)) None) b f)
   gives_held_list (Err e ∷ l) s p a at i = gives_at_stop (Some e) (does a None) (λ u. AlwaysGives steps u l) s p a (held_list does next (next a None) l) refl (λ r t q w. met_to_failure e (λ u. AlwaysGives steps u l) s t p w.0 a w.1 r q at i (passes_of_pass_trace w.2) w.3) (λ u h b f. gives_held_list l u h (next a None) b f)

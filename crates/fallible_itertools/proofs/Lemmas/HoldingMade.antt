@@ -11,7 +11,7 @@ use Rattle.std.specs.declared.alloc.AllocError.{AllocError}
 use Rattle.fallible_iterator.specs.Outcome.{Outcome}
 use Rattle.fallible_iterator.specs.Outcome.TheVariants.{Kept, LeftOut, Failure, End}
 
--- the outcome is one that is told, with a value made of the one that is told
+-- the outcome is the given one, with a value made of the given one
 abbrev pub OutcomeMade : {Y B E : Type 0} → (Y → B → Type 0) → Outcome Y E → Outcome B E → Type 0
 OutcomeMade made (Kept z) (Kept y) = made z y
 OutcomeMade made (Failure d) (Failure e) = e ≡ d
@@ -185,7 +185,7 @@ module _ {S P Q X Y B E : Type 0} (steps : S → Answered X E → S → Type 0) 
   met_to_failure e T s t p h a _ r q at i (closes x o step called is d) b = absurd (let k = (i (Ok (Some x)) _ step).0 in cc)
   met_to_failure e T s t p h a z r q at i (leaves_out x o step called is d) b = absurd (let k = (i (Ok (Some x)) _ step).0 in cc)
 
-  -- at an item x: what it was called on first, by the outcome that is told
+  -- at an item x: what it was called on first, by the given outcome
   abbrev ByFirst : Q → X → (S → Type 0) → Outcome Y E → Answered B E → S → P × Option (Option E) → Type 0
   ByFirst a x T (Kept z) r t q = IsMadeOf made (Ok z) r × (q.1 ≡ None) × At q.0 (next a (Some x)) × T t
   ByFirst a x T LeftOut r t q = (u : S) × (h : P) × At h (next a (Some x)) × T u × StepsOfHoldingMade (u, (h, None)) r (t, q)

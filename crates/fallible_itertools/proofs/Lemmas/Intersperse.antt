@@ -10,10 +10,10 @@ use Rattle.std.specs.declared.alloc.AllocError.{AllocError}
 use Rattle.fallible_itertools.specs.declared.intersperse.Intersperse.{Intersperse}
 
 module _ {A E : Type 0} (is_clone : A → A → Type 0) (is_infallible : A → Type 0) (from : AllocError → E → Type 0) (z : A) (equal : (copy : A) → is_clone z copy → copy ≡ z) (infallible : is_infallible z) where
-  separator_of_clone : (r : Answered A E) → Separates is_clone is_infallible from z r → r ≡ item z
-  separator_of_clone (Ok (Some copy)) w = ap (λ y. item y) (equal copy w)
-  separator_of_clone (Ok None) w = absurd w
-  separator_of_clone (Err e) w = absurd (w.0 infallible)
+  separator_answer_is_item : (r : Answered A E) → Separates is_clone is_infallible from z r → r ≡ item z
+  separator_answer_is_item (Ok (Some copy)) w = ap (λ y. item y) (equal copy w)
+  separator_answer_is_item (Ok None) w = absurd w
+  separator_answer_is_item (Err e) w = absurd (w.0 infallible)
 
   module _ {S : Type 0} (steps : S → Answered A E → S → Type 0) where
     abbrev StepOfIntersperse : S × (A × (Bool × Option A)) → Answered A E → S × (A × (Bool × Option A)) → Type 0
@@ -45,7 +45,7 @@ module _ {A E : Type 0} (is_clone : A → A → Type 0) (is_infallible : A → T
         separator_first : (drawn r : Answered A E) (q : S × (A × (Bool × Option A))) → q.1.0 ≡ z → drawn ≡ item x → PlacedAs is_clone is_infallible from z true drawn r q.1.1 → AlwaysGives StepOfIntersperse (q.0, (z, (true, None))) (each_after z l) → (r ≡ item z) × AlwaysGives StepOfIntersperse q (Ok x ∷ each_after z l)
         separator_first (Ok None) r q same is w rest = absurd cc
         separator_first (Err e) r q same is w rest = absurd cc
-        separator_first (Ok (Some y)) r (t, (u, k)) same is w rest = let e : y ≡ x = cc in (separator_of_clone r w.0, always_gives_left (t, (u, k)) (true, Some x) (Ok x ∷ each_after z l) same (w.1 ∙ ap (λ a. (true, Some a)) e) (always_gives_held x (each_after z l) t rest))
+        separator_first (Ok (Some y)) r (t, (u, k)) same is w rest = let e : y ≡ x = cc in (separator_answer_is_item r w.0, always_gives_left (t, (u, k)) (true, Some x) (Ok x ∷ each_after z l) same (w.1 ∙ ap (λ a. (true, Some a)) e) (always_gives_held x (each_after z l) t rest))
     always_gives_later (Err e ∷ l) s g = λ r q w. let d = g (w.1).0 q.0 (w.1).1 in failure_after_items (w.1).0 r q w.0 d.0 (w.1).2 (always_gives_later l q.0 d.1)
       where
         failure_after_items : (drawn r : Answered A E) (q : S × (A × (Bool × Option A))) → q.1.0 ≡ z → drawn ≡ Err e → PlacedAs is_clone is_infallible from z true drawn r q.1.1 → AlwaysGives StepOfIntersperse (q.0, (z, (true, None))) (each_after z l) → (r ≡ Err e) × AlwaysGives StepOfIntersperse q (each_after z l)

@@ -5,7 +5,7 @@ use Rattle.std.proofs.Common.{refl, sym, ap, subst, ◌∙◌, inl, inr}
 use Rattle.fallible_iterator.specs.Traces.{Answered, Run, Yields, item}
 use Rattle.fallible_iterator.specs.Contract.{Contract, seen_as}
 use Rattle.fallible_iterator.specs.Folds.{HoldsAtEachTurn, goes_on, DriveExit, Driven, TurnThrough, beside, beside_names, within}
-use Rattle.fallible_iterator.proofs.Lemmas.Folding.{holds_into, drained_into}
+use Rattle.fallible_iterator.proofs.Lemmas.Folding.{holds_at_each_turn_into, drained_into}
 use Rattle.fallible_iterator.proofs.Lemmas.Folds.{holds_at_first_turn, holds_each_turn_after, driven_after, driven_end, driven_failure, driven_stop, driven_through, names_kept}
 use Rattle.fallible_itertools.specs.Intersperse.{PlacedAs, intersperse_step, intersperse_contract, intersperse_parts, IsHeldTurn, IsAnswersTurn, IsPartingTurn, HeldTakes, PartingTakes}
 use Rattle.std.specs.declared.alloc.AllocError.{AllocError}
@@ -159,10 +159,10 @@ module _ {S A E : Type 0} (is_clone : A → A → Type 0) (is_infallible : A →
 
   module _ {C : Type 0} {on : C → A → C → Type 0} {P : C → A → Type 0} {c : C} where
     pub holds_each_turn_nothing : s.placing.1 ≡ None → k ≡ None → HoldsAtEachTurn whole_step on P s c → HoldsAtEachTurn parting_turn on P left_bare c
-    holds_each_turn_nothing is none h = holds_into {held = whole_step} made_of_parts (λ p x q step. step) (subst (λ (o : Option A). HoldsAtEachTurn whole_step on P (made_of_parts (s.it, (s.separator, (s.placing.0, o)))) c) (is ∙ sym none) h)
+    holds_each_turn_nothing is none h = holds_at_each_turn_into {held = whole_step} made_of_parts (λ p x q step. step) (subst (λ (o : Option A). HoldsAtEachTurn whole_step on P (made_of_parts (s.it, (s.separator, (s.placing.0, o)))) c) (is ∙ sym none) h)
 
     pub holds_each_turn_then : {d : C} (x : A) → s.placing.1 ≡ Some x → k ≡ None → on c x d → HoldsAtEachTurn whole_step on P s c → HoldsAtEachTurn parting_turn on P left_bare d
-    holds_each_turn_then x is none turn h = holds_into {held = whole_step} made_of_parts (λ p x q step. step) (holds_each_turn_after h (held_comes x is none) turn)
+    holds_each_turn_then x is none turn h = holds_at_each_turn_into {held = whole_step} made_of_parts (λ p x q step. step) (holds_each_turn_after h (held_comes x is none) turn)
 
   module _ {C R : Type 0} {turns : C → A → ControlFlow R (Unit {0}) → C → Type 0} {c d : C} {r : Answered R E} {q : S × (A × (Bool × Option A))} where
     pub driven_bare : s.placing.1 ≡ None → k ≡ None → Driven parting_turn turns left_bare c r q d → Driven whole_step turns s c r (made_of_parts q) d

@@ -3,7 +3,7 @@ use Rattle.std.specs.Prelude.{◌≡◌, ℕ, ◌+◌, ◌-◌, ◌^◌, ◌≤�
 use Rattle.std.proofs.Common.{refl, subst, arith}
 use Rattle.fallible_iterator.specs.Traces.{Answered, Yields, item, end}
 use Rattle.fallible_iterator.specs.Contract.{Contract, seen_as}
-use Rattle.fallible_iterator.specs.SoundHints.{Brackets, KeepsBrackets}
+use Rattle.fallible_iterator.specs.SoundHints.{Brackets, HintsAsSoundAs}
 use Rattle.fallible_iterator.proofs.Lemmas.Hints.Drawn.{as_sound, as_sound_seen}
 use Rattle.fallible_itertools.specs.Holding.{held_one}
 use Rattle.fallible_itertools.specs.Intersperse.{Separates, PlacedAs, intersperse_step, intersperse_contract, unparted, interspersed_items, interspersed_high, fitting}
@@ -75,5 +75,5 @@ module _ {A E : Type 0} (is_clone : A → A → Type 0) (is_infallible : A → T
           let low = interspersed_items_more p.1.1 k.0 (length d.0) (b.below d.0 q.0 u.0 d.1 e.0) in let many = d.2 in let none = e.1 in omega (arith, low, many, none);
     }
 
-  pub keeps_brackets_interspersed : {V S : Type 0} (view : V → S × (A × (Bool × Option A))) (m : Contract S A E) (s : V) → KeepsBrackets (seen_as view (intersperse_contract is_clone is_infallible from m)) s m (view s).0
+  pub keeps_brackets_interspersed : {V S : Type 0} (view : V → S × (A × (Bool × Option A))) (m : Contract S A E) (s : V) → HintsAsSoundAs (seen_as view (intersperse_contract is_clone is_infallible from m)) s m (view s).0
   keeps_brackets_interspersed view m s h is = (is.0, is.1, as_sound_seen view (StepOfIntersperseHints m.steps) s h (as_sound (StepOfIntersperseHints m.steps) m.steps (view s) (view s).0 (λ n. min (interspersed_items (view s).1.1 n) (2 ^ 64 - 1)) (interspersed_high (view s).1.1) (λ k b. brackets_of_intersperse_hints m.steps (view s) k b) h is.0 is.2))

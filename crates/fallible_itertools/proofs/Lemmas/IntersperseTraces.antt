@@ -58,12 +58,12 @@ module _ {S A E : Type 0} (is_clone : A → A → Type 0) (is_infallible : A →
   run_whole z s t _ _ k (then_later_item {u = u} {rest = rest} x r step parts w) = ((u, (z, (true, Some x))), (refl, (item x, step, (parts, refl))), ((u, (z, (true, None))), (refl, refl, refl, refl), run_whole z u t true rest k w))
   run_whole z s t _ _ _ (later_item_held x r step parts) = ((t, (z, (true, Some x))), (refl, (item x, step, (parts, refl))), refl)
 
-  run_from_trace : (p q : StateOfIntersperseTraces) (trace : List (Answered A E)) → TraceOfIntersperseTraces p trace q → Run StepOfIntersperseTraces p trace q
-  run_from_trace (s, (z, (started, None))) (t, (y, k)) trace (same, w) = rw same (run_whole z s t started trace k w)
-  run_from_trace (s, (z, (started, Some x))) (t, (y, k)) trace (same, w) = elim w [
+  run_of_intersperse_trace : (p q : StateOfIntersperseTraces) (trace : List (Answered A E)) → TraceOfIntersperseTraces p trace q → Run StepOfIntersperseTraces p trace q
+  run_of_intersperse_trace (s, (z, (started, None))) (t, (y, k)) trace (same, w) = rw same (run_whole z s t started trace k w)
+  run_of_intersperse_trace (s, (z, (started, Some x))) (t, (y, k)) trace (same, w) = elim w [
     | inl h ↦ rw (same, h.0, h.1, h.2) refl
     | inr h ↦ rw (same, h.1) ((s, (z, (started, None))), (refl, refl, refl, refl), run_whole z s t started h.0 k h.2)
   ]
 
   pub intersperse_law : (p : StateOfIntersperseTraces) (trace : List (Answered A E)) (q : StateOfIntersperseTraces) → Run StepOfIntersperseTraces p trace q ↔ TraceOfIntersperseTraces p trace q
-  intersperse_law p trace q = (trace_of_intersperse_traces trace p q, run_from_trace p q trace)
+  intersperse_law p trace q = (trace_of_intersperse_traces trace p q, run_of_intersperse_trace p q trace)

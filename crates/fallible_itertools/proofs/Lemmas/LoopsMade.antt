@@ -79,7 +79,7 @@ by_failure : {X E V T C : Type 0} (into : V → T → Type 0) (from : AllocError
 by_failure into from answers c e whole same (inl w) = refused_result into from whole e w
 by_failure into from answers c e whole same (inr k) = failed_result into from whole e (k.1 ∙ same k.0)
 
--- Where the loop returns a result, it is told, or an allocation failed.
+-- If the loop returns a result, it is the given one, or an allocation failed.
 module _ {S X B E C V T : Type 0} {made : X → B → Type 0} {steps : S → Answered B E → S → Type 0} {from : AllocError → E → Type 0} {answers : C → List (Result X E) → Result V E} (into : V → T → Type 0) {s0 s t : S} {c0 c : C} {r : Answered B E} where
   -- at a failure, with which the loop is left
   pub fails_told : (e : E) → MadeFromHere made steps from answers s0 c0 s c → steps s r t → r ≡ Err e → ((k : List (Result X E)) → answers c (Err e ∷ k) ≡ Err e) → (whole : List (Result X E)) → ListsMade made steps from s0 whole → IsToldOrRefused into from (answers c0 whole) (Err e)

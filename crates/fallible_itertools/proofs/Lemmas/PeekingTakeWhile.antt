@@ -325,4 +325,4 @@ module _ {S F X E : Type 0} (steps : S → Answered X E → S → Type 0) (looks
 
   -- an item of it comes of one of the source
   pub items_of_items_peeking : ItemsOfItems (peeking_step steps looks call) steps (λ p. p.0) (λ p. Unit {0})
-  items_of_items_peeking = record { drawn = λ p q y _ w. let d = yields_one_at_least w.0 p.0 q.0 y w.3 w.1 in (d.0, d.1, d.2, tt) }
+  items_of_items_peeking = record { items_of_item = λ p q y _ w. let d = yields_one_at_least w.0 p.0 q.0 y w.3 w.1 in (d.0, d.1, d.2, tt) }

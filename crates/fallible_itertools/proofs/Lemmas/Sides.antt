@@ -7,7 +7,7 @@ use Rattle.fallible_iterator.specs.Traces.{Answered, Run, Yields, item, failure,
 use Rattle.fallible_iterator.specs.Contract.{Contract, Lawful}
 use Rattle.fallible_iterator.specs.Held.{held_count}
 use Rattle.fallible_iterator.specs.Lists.{GivesForGood, result_answer}
-use Rattle.fallible_itertools.specs.Sides.{low_with, side_gives, Gives, GivesIf, Rule, SidesPlace, left_failed, right_failed, both_gave, left_gave, right_gave, left_held_after, right_held_after, place_answer, place_decides, drawn_at, before_drawn, IsGiven, SideTrace, SidesTrace, sides_step}
+use Rattle.fallible_itertools.specs.Sides.{low_with, side_gives, GivesHeldFirst, GivesIf, Rule, SidesPlace, left_failed, right_failed, both_gave, left_gave, right_gave, left_held_after, right_held_after, place_answer, place_decides, drawn_at, before_drawn, IsGiven, SideTrace, SidesTrace, sides_step}
 use Rattle.fallible_itertools.specs.Laws.Sides.{IsLawfulRule, side_kept_given}
 
 -- a result that is a failure, and which
@@ -16,11 +16,11 @@ failure_of_gives_if (Ok x) e h = absurd h
 failure_of_gives_if (Err d) e h = ap Err h
 
 -- what a side yielded, known as another value
-pub gives_gave_item : {S A E : Type 0} (steps : S → Answered A E → S → Type 0) (p : S × Option A) (t : S) {x y : Option A} → x ≡ y → Gives steps p (Ok x) t → Gives steps p (Ok y) t
-gives_gave_item steps p t same g = subst (λ (z : _). Gives steps p (Ok z) t) same g
+pub gives_gave_item : {S A E : Type 0} (steps : S → Answered A E → S → Type 0) (p : S × Option A) (t : S) {x y : Option A} → x ≡ y → GivesHeldFirst steps p (Ok x) t → GivesHeldFirst steps p (Ok y) t
+gives_gave_item steps p t same g = subst (λ (z : _). GivesHeldFirst steps p (Ok z) t) same g
 
 -- an item that a side yielded is one that might come
-pub item_may_come : {S A E : Type 0} (m : Contract S A E) → Lawful m → (p : S × Option A) (t : S) {x : Option A} {y : A} → m.can_next p.0 → x ≡ Some y → Gives m.steps p (Ok x) t → side_gives m p y
+pub item_may_come : {S A E : Type 0} (m : Contract S A E) → Lawful m → (p : S × Option A) (t : S) {x : Option A} {y : A} → m.can_next p.0 → x ≡ Some y → GivesHeldFirst m.steps p (Ok x) t → side_gives m p y
 item_may_come m l p t {y = y} c same g = (side_kept_given m l p t (Some y) c (gives_gave_item m.steps p t same g)).1
 
 module _ {S U A B C E F V : Type 0} (steps : S → Answered A E → S → Type 0) (others : U → Answered B E → U → Type 0) (rule : Rule A B C E F V) where
@@ -100,7 +100,7 @@ rest_of [] = []
 rest_of (y ∷ l) = l
 
 module _ {S A E : Type 0} (steps : S → Answered A E → S → Type 0) where
-  -- a draw returns what stands first, and leaves what lists the rest for good
+  -- a draw returns what stands first, and leaves what lists the rest and is fused
   pub first_for_good : (l : List (Result A E)) (s t : S) (r : Answered A E) → GivesForGood steps s l → steps s r t → (r ≡ first_answer l) × GivesForGood steps t (rest_of l)
   first_for_good [] s t r i w = (i.each [] s t r refl w, record { each = λ trace u v a ran k. i.each (r ∷ trace) u v a (t, w, ran) k })
   first_for_good (y ∷ l) s t r i w = i r t w
@@ -110,19 +110,19 @@ module _ {S A E : Type 0} (steps : S → Answered A E → S → Type 0) where
     end_after_fused_end [] s t u r i ran w = (goes s u r [] i (subst (λ (z : S). steps z r u) (sym ran) w)).0
     end_after_fused_end (a ∷ trace) s t u r i ran w = end_after_fused_end trace ran.0 t u r (goes s ran.0 a [] i ran.1).1 ran.2 w
 
-    -- what lists so at each draw lists so for good
+    -- what lists so at each draw is fused
     pub gives_for_good_of_sides : (l : List (Result A E)) (s : S) → R s l → GivesForGood steps s l
     gives_for_good_of_sides [] s i = record { each = λ trace t u r ran w. end_after_fused_end trace s t u r i ran w }
     gives_for_good_of_sides (y ∷ l) s i = λ r t w. let d = goes s t r (y ∷ l) i w in (d.0, gives_for_good_of_sides l t d.1)
 
--- what a side lists: the held item, and then what its source lists for good
+-- what a side lists: the held item, and then what its fused source lists
 abbrev pub SideLists : {S A E : Type 0} → (S → Answered A E → S → Type 0) → S × Option A → List (Result A E) → Type 0
 SideLists {A = A} {E = E} steps (s, Some x) l = (k : List (Result A E)) × (l ≡ Ok x ∷ k) × GivesForGood steps s k
 SideLists steps (s, None) l = GivesForGood steps s l
 
 module _ {S A E : Type 0} (steps : S → Answered A E → S → Type 0) where
   -- a side yields what stands first
-  pub side_gives_first : (p : S × Option A) (t : S) (r : Answered A E) (l : List (Result A E)) → SideLists steps p l → Gives steps p r t → (r ≡ first_answer l) × GivesForGood steps t (rest_of l)
+  pub side_gives_first : (p : S × Option A) (t : S) (r : Answered A E) (l : List (Result A E)) → SideLists steps p l → GivesHeldFirst steps p r t → (r ≡ first_answer l) × GivesForGood steps t (rest_of l)
   side_gives_first (s, Some x) t r l i g = rw i.1 (g.0, subst (λ (z : S). GivesForGood steps z i.0) (sym g.1) i.2)
   side_gives_first (s, None) t r l i g = first_for_good steps l s t r i g
 
@@ -191,13 +191,13 @@ pub record ItemsThenEnd {S A E : Type 0} (steps : S → Answered A E → S → T
   pub few : length came + held_count p.1 ≤ n
 
 module _ {S A E : Type 0} (steps : S → Answered A E → S → Type 0) where
-  items_then_end_from : (p : S × Option A) (t : S) (x h : Option A) (n : ℕ) → (h ≡ None) ⊎ (h ≡ x) → Gives steps p (Ok x) t → ItemsThenEnd steps (t, h) n → ItemsThenEnd steps p ((held_count x - held_count h) + n)
+  items_then_end_from : (p : S × Option A) (t : S) (x h : Option A) (n : ℕ) → (h ≡ None) ⊎ (h ≡ x) → GivesHeldFirst steps p (Ok x) t → ItemsThenEnd steps (t, h) n → ItemsThenEnd steps p ((held_count x - held_count h) + n)
   items_then_end_from (s, Some y) t None h n kept g d = absurd (let no = g.0 in cc)
   items_then_end_from (s, Some y) t (Some x) h n kept g d = record { came = d.came; left = d.left; last = d.last; ran = subst (λ (z : S). Yields steps z d.came d.left) g.1 d.ran; ended = d.ended; few = omega (arith, d.few, held_count_one_at_most h) }
   items_then_end_from (s, None) t None h n kept g d = record { came = []; left = s; last = t; ran = refl; ended = g; few = omega arith }
   items_then_end_from (s, None) t (Some x) h n kept g d = record { came = x ∷ d.came; left = d.left; last = d.last; ran = (t, g, d.ran); ended = d.ended; few = omega (arith, d.few, held_count_one_at_most h) }
 
-  items_then_end_none_from : (p : S × Option A) (t : S) → Gives steps p end t → ItemsThenEnd steps p 0
+  items_then_end_none_from : (p : S × Option A) (t : S) → GivesHeldFirst steps p end t → ItemsThenEnd steps p 0
   items_then_end_none_from (s, Some y) t g = absurd (let no = g.0 in cc)
   items_then_end_none_from (s, None) t g = record { came = []; left = s; last = t; ran = refl; ended = g; few = omega arith }
 
@@ -221,7 +221,7 @@ module _ {S U A B C E F V : Type 0} (steps : S → Answered A E → S → Type 0
   both_end_now p t u g (right_failed x e) m n d is = absurd cc
   both_end_now p t u g (both_gave x y v) m n d is =
       let no = by.end_given p.2 g x y v d is in
-      record { of_left = 0; of_right = 0; left = items_then_end_none_from steps p.0 t (subst (λ (z : Option A). Gives steps p.0 (Ok z) t) no.0 m); right = items_then_end_none_from others p.1 u (subst (λ (z : Option B). Gives others p.1 (Ok z) u) no.1 n); few = omega (arith, by.nothing) }
+      record { of_left = 0; of_right = 0; left = items_then_end_none_from steps p.0 t (subst (λ (z : Option A). GivesHeldFirst steps p.0 (Ok z) t) no.0 m); right = items_then_end_none_from others p.1 u (subst (λ (z : Option B). GivesHeldFirst others p.1 (Ok z) u) no.1 n); few = omega (arith, by.nothing) }
 
   both_end_on : (p : SidesState steps others rule) (t : S) (u : U) (g : F) (x : SidesPlace A B E V) (z : C) (k : ℕ) → GivesIf steps p.0 (left_gave x) t → GivesIf others p.1 (right_gave x) u → place_decides rule p.2 x g → place_answer rule x ≡ item z → BothEnd ((t, left_held_after rule p.0.1 x), (u, right_held_after rule p.1.1 x), g) k → BothEnd p (k + 1)
   both_end_on p t u g (left_failed e) z k m n d is b = absurd cc

@@ -96,7 +96,7 @@ module _ {S F X E : Type 0} (steps : S → Answered X E → S → Type 0) (call 
 
   -- an item of it comes of one of the source
   pub items_of_items_inclusive : ItemsOfItems (inclusive_step steps call) steps (λ p. (p.0).0) (λ p. Unit {0})
-  items_of_items_inclusive = record { drawn = λ p q y _ w. let d = yields_one_at_least p q y w in (d.0, d.1, d.2, tt) }
+  items_of_items_inclusive = record { items_of_item = λ p q y _ w. let d = yields_one_at_least p q y w in (d.0, d.1, d.2, tt) }
 
   end_given : (z : Place X (Result Bool E) E) → end ≡ inclusive_answer z → source_answer z ≡ end
   end_given (asked x (Ok b)) e = absurd cc

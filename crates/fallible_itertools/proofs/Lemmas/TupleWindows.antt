@@ -47,12 +47,12 @@ module _ {A E : Type 0} (is_clone : A → A → Type 0) (is_infallible : A → T
   held_and_outcome_at y x (Failure e) q w = absurd (w.0.0 (infallible x))
   held_and_outcome_at y x End q w = absurd w
 
-  acts_on_asked : (a : Option A) (x : A) (o : Outcome (A × A) E) (q : Option A) → windows_asks is_clone is_infallible from a x o q → (q ≡ next_item a x) × (o ≡ window_outcome a x)
-  acts_on_asked None x o q w = (w.1, w.0)
-  acts_on_asked (Some y) x o q w = held_and_outcome_at y x o q w
+  asks_is_function : (a : Option A) (x : A) (o : Outcome (A × A) E) (q : Option A) → windows_asks is_clone is_infallible from a x o q → (q ≡ next_item a x) × (o ≡ window_outcome a x)
+  asks_is_function None x o q w = (w.1, w.0)
+  asks_is_function (Some y) x o q w = held_and_outcome_at y x o q w
 
   acts_by_next : (p a : Option A) (x : A) (o : Outcome (A × A) E) (q : Option A) → p ≡ a → windows_asks is_clone is_infallible from p x o q → (q ≡ next_item a x) × (o ≡ window_outcome a x)
-  acts_by_next p a x o q at w = acts_on_asked a x o q (subst (λ k. windows_asks is_clone is_infallible from k x o q) at w)
+  acts_by_next p a x o q at w = asks_is_function a x o q (subst (λ k. windows_asks is_clone is_infallible from k x o q) at w)
 
   pub lists_windowed : {S : Type 0} (m : Contract S A E) (s : TupleWindows S A E) (l : List (Result A E)) → tuple_windows_parts s ≡ (s.it, None) → Lists m.steps s.it l → Lists (seen_as tuple_windows_parts (tuple_windows_contract is_clone is_infallible from m)).steps s (windowed l)
   lists_windowed m s l parts i = lists_seen tuple_windows_parts (tuple_windows_contract is_clone is_infallible from m).steps s parts (windows_listed_is_windowed l) (gives_all m.steps (windows_asks is_clone is_infallible from) as_answered_item (λ p a. p ≡ a) window_outcome next_item acts_by_next l s.it None None refl i.runs)

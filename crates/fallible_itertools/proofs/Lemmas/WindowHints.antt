@@ -4,12 +4,12 @@ use Rattle.std.proofs.Common.{refl, subst, arith, length-append}
 use Rattle.fallible_iterator.specs.Traces.{Answered, Yields, item, end}
 use Rattle.fallible_iterator.specs.Contract.{Contract, seen_as}
 use Rattle.fallible_iterator.specs.Hints.{hint_less}
-use Rattle.fallible_iterator.specs.SoundHints.{Brackets, KeepsBrackets}
+use Rattle.fallible_iterator.specs.SoundHints.{Brackets, HintsAsSoundAs}
 use Rattle.fallible_iterator.specs.Passing.{passing_step}
 use Rattle.fallible_iterator.specs.Laws.Passing.{Passes, done, end_passes, failure_passes, keeps, refuses, closes, leaves_out, passes_of_pass_trace}
 use Rattle.fallible_iterator.proofs.Lemmas.Hints.Drawn.{as_sound, as_sound_seen, yields_after}
 use Rattle.fallible_itertools.specs.Holding.{as_answered_item}
-use Rattle.fallible_itertools.specs.TupleWindows.{window_at, windows_asks, unheld, tuple_windows_contract}
+use Rattle.fallible_itertools.specs.TupleWindows.{window_at, windows_asks, items_lacking, tuple_windows_contract}
 use Rattle.std.specs.declared.alloc.AllocError.{AllocError}
 use Rattle.fallible_iterator.specs.Outcome.{Outcome}
 use Rattle.fallible_iterator.specs.Outcome.TheVariants.{Kept, LeftOut, End}
@@ -19,7 +19,7 @@ module _ {A E : Type 0} (is_clone : A → A → Type 0) (is_infallible : A → T
   asks_for_window = windows_asks is_clone is_infallible from
 
   abbrev left_to_begin : Option A → ℕ
-  left_to_begin = unheld is_clone is_infallible from
+  left_to_begin = items_lacking is_clone is_infallible from
 
   module _ {S : Type 0} (steps : S → Answered A E → S → Type 0) where
     abbrev WholeState : S → Option A → List (Answered (A × A) E) → S → Option A → Type 0
@@ -97,5 +97,5 @@ module _ {A E : Type 0} (is_clone : A → A → Type 0) (is_infallible : A → T
         windows_below p k b xs q u ran step = let d = run_taken_of_window_hints xs p q ran in let e = end_taken_of_window_hints q.0 u.0 q.1 u.1 end (passes_of_pass_trace step) refl in
             let long = length-append d.0 e.0 in let low : k.0 ≤ length (d.0 ++ e.0) = b.below (d.0 ++ e.0) e.1 e.2 (yields_after steps d.0 e.0 p.0 q.0 e.1 d.1 e.3) e.4 in let many = d.2 in let few = e.5 in omega (arith, long, low, many, few)
 
-  pub keeps_brackets_windows : {V S : Type 0} (view : V → S × Option A) (m : Contract S A E) (s : V) → KeepsBrackets (seen_as view (tuple_windows_contract is_clone is_infallible from m)) s m (view s).0
+  pub keeps_brackets_windows : {V S : Type 0} (view : V → S × Option A) (m : Contract S A E) (s : V) → HintsAsSoundAs (seen_as view (tuple_windows_contract is_clone is_infallible from m)) s m (view s).0
   keeps_brackets_windows view m s h is = (is.0, is.1, as_sound_seen view (StepsOfWindowHints m.steps) s h (as_sound (StepsOfWindowHints m.steps) m.steps (view s) (view s).0 (λ n. n - left_to_begin (view s).1) (λ o. option_map (λ u. u - left_to_begin (view s).1) o) (λ k b. brackets_windows m.steps (view s) k b) h is.0 is.2))

@@ -5,7 +5,7 @@ use Rattle.std.proofs.Common.{refl, sym, subst, ap₂, arith, inl, inr}
 use Rattle.fallible_iterator.specs.Traces.{Answered, item, failure, end}
 use Rattle.fallible_iterator.specs.Contract.{Contract, OnAnswer, KeptByDraw, Lawful, lenders_of_both}
 use Rattle.fallible_iterator.specs.Held.{held_count}
-use Rattle.fallible_itertools.specs.Sides.{Gives, GivesIf, side_bound, side_remaining, side_gives, Rule, SidesPlace, left_failed, right_failed, both_gave, left_gave, right_gave, left_held_after, right_held_after, place_answer, place_decides, sides_contract}
+use Rattle.fallible_itertools.specs.Sides.{GivesHeldFirst, GivesIf, side_bound, side_remaining, side_gives, Rule, SidesPlace, left_failed, right_failed, both_gave, left_gave, right_gave, left_held_after, right_held_after, place_answer, place_decides, sides_contract}
 use Rattle.fallible_iterator.specs.Laws.Joining.Chain.{both_finite, sum_finite}
 
 -- a sum of counts is finite where both are
@@ -50,12 +50,12 @@ module _ {S A E : Type 0} (m : Contract S A E) where
     side_kept_failure_drawn s t e c step = let a = l.kept_by_draw s (failure e) t c step in record { can_next = a.can_next; is_finite = a.is_finite; bound = λ n b. let k = a.answer.1 n b in (k.0, k.1, omega (arith, k.2)); remaining = λ f. let j = a.answer.2 f in (j.0, omega (arith, j.1)); gives = a.may_give; fails = a.may_fail; lenders = a.lenders }
 
     -- a side fails, which holds nothing then
-    pub side_kept_fails : (p : S × Option A) (t : S) (e : E) → m.can_next p.0 → Gives m.steps p (failure e) t → SideKept p (t, None) 0 1 × m.may_fail p.0 e
+    pub side_kept_fails : (p : S × Option A) (t : S) (e : E) → m.can_next p.0 → GivesHeldFirst m.steps p (failure e) t → SideKept p (t, None) 0 1 × m.may_fail p.0 e
     side_kept_fails (s, Some x) t e c g = absurd (let no = g.0 in cc)
     side_kept_fails (s, None) t e c g = (side_kept_failure_drawn s t e c g, (l.kept_by_draw s (failure e) t c g).answer.0)
 
     -- a side yields an item or an end, and holds nothing then
-    pub side_kept_given : (p : S × Option A) (t : S) (x : Option A) → m.can_next p.0 → Gives m.steps p (Ok x) t → SideKept p (t, None) (held_count x) (held_count x) × OfItem (side_gives m p) x
+    pub side_kept_given : (p : S × Option A) (t : S) (x : Option A) → m.can_next p.0 → GivesHeldFirst m.steps p (Ok x) t → SideKept p (t, None) (held_count x) (held_count x) × OfItem (side_gives m p) x
     side_kept_given (s, Some y) t (Some x) c g = let same : x ≡ y = (let e = g.0 in cc) in (subst (λ (u : S). SideKept (s, Some y) (u, None) 1 1) (sym g.1) (side_kept_held_given s y c), inl same)
     side_kept_given (s, Some y) t None c g = absurd (let no = g.0 in cc)
     side_kept_given (s, None) t (Some x) c g = (side_kept_item_drawn s t x c g, (l.kept_by_draw s (item x) t c g).answer.0)
@@ -66,11 +66,11 @@ module _ {S A E : Type 0} (m : Contract S A E) where
     side_kept_put_back p t None k g = k
     side_kept_put_back p t (Some x) k g = record { can_next = k.can_next; is_finite = k.is_finite; bound = λ n b. let j = k.bound n b in (j.0 + 1, (j.0, j.1, omega arith), omega (arith, j.2)); remaining = λ f. let j = k.remaining f in (j.0, omega (arith, j.1)); gives = λ y h. elim h [ inl e ↦ subst (λ (z : A). side_gives m p z) (sym e) g | inr h ↦ k.gives y h ]; fails = k.fails; lenders = k.lenders }
 
-    pub side_kept_puts_back : (p : S × Option A) (t : S) (x : Option A) → m.can_next p.0 → Gives m.steps p (Ok x) t → SideKept p (t, x) 0 0
+    pub side_kept_puts_back : (p : S × Option A) (t : S) (x : Option A) → m.can_next p.0 → GivesHeldFirst m.steps p (Ok x) t → SideKept p (t, x) 0 0
     side_kept_puts_back p t x c g = let k = side_kept_given p t x c g in side_kept_put_back p t x k.0 k.1
 
     -- what was yielded is held again, or dropped
-    pub side_kept_holds : (p : S × Option A) (t : S) (x h : Option A) → (h ≡ None) ⊎ (h ≡ x) → m.can_next p.0 → Gives m.steps p (Ok x) t → SideKept p (t, h) (held_count x - held_count h) (held_count x - held_count h)
+    pub side_kept_holds : (p : S × Option A) (t : S) (x h : Option A) → (h ≡ None) ⊎ (h ≡ x) → m.can_next p.0 → GivesHeldFirst m.steps p (Ok x) t → SideKept p (t, h) (held_count x - held_count h) (held_count x - held_count h)
     side_kept_holds p t x h (inl e) c g = rw e (side_kept_fewer_let_go p (t, None) (side_kept_given p t x c g).0 (omega arith))
     side_kept_holds p t x h (inr e) c g = rw e (side_kept_fewer_let_go p (t, x) (side_kept_puts_back p t x c g) (omega arith))
 

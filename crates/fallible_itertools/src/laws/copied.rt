@@ -5,7 +5,7 @@ ghost use Rattle.fallible_iterator.specs.BothEnds.{ListsBothEnds};
 ghost use Rattle.fallible_iterator.specs.Ends.{from_back};
 ghost use Rattle.fallible_iterator.specs.LawForm.{TracesAre};
 ghost use Rattle.fallible_iterator.specs.Lists.{pointed_to};
-ghost use Rattle.fallible_iterator.specs.SoundHints.{KeepsBounds, KeepsBrackets};
+ghost use Rattle.fallible_iterator.specs.SoundHints.{KeepsBounds, HintsAsSoundAs};
 ghost use Rattle.fallible_itertools.specs.Copied.{CopiedTrace, copied_parts, copied_source};
 
 use crate::copied::Copied;
@@ -29,14 +29,14 @@ where
 pub fn law_hints_copied<'a, T: Copy + 'a, I: FallibleIterator<Item = &'a T>>()
 where
     ensures { (s : Copied I)
-        → KeepsBrackets ⟦<Copied<I> as FallibleIterator>⟧.contract s I.contract (copied_source s) }
+        → HintsAsSoundAs ⟦<Copied<I> as FallibleIterator>⟧.contract s I.contract (copied_source s) }
 {}
 
 /// From the back each hint of `Copied` is as sound as the hint of its source that it is made of.
 pub fn law_hints_back_copied<'a, T: Copy + 'a, I: DoubleEndedFallibleIterator<Item = &'a T>>()
 where
     ensures { (s : Copied I)
-        → KeepsBrackets (from_back ⟦<Copied<I> as FallibleIterator>⟧.contract
+        → HintsAsSoundAs (from_back ⟦<Copied<I> as FallibleIterator>⟧.contract
         ⟦<Copied<I> as DoubleEndedFallibleIterator>⟧.ends) s
         (from_back I.contract I.ends) (copied_source s) }
 {}

@@ -5,7 +5,7 @@ ghost use Rattle.fallible_iterator.specs.Closures.{call_on};
 ghost use Rattle.fallible_iterator.specs.Ends.{from_back};
 ghost use Rattle.fallible_iterator.specs.LawForm.{TracesAre};
 ghost use Rattle.fallible_iterator.specs.Lists.{Acts};
-ghost use Rattle.fallible_iterator.specs.SoundHints.{KeepsBounds, KeepsBrackets, SoundHints};
+ghost use Rattle.fallible_iterator.specs.SoundHints.{KeepsBounds, HintsAsSoundAs, SoundHints};
 ghost use Rattle.fallible_itertools.specs.InspectErr.{InspectErrTrace, inspect_err_parts, inspect_err_source};
 ghost use Rattle.fallible_itertools.specs.OrElse.{OrElseTrace, or_else_closure, or_else_parts, or_else_source, recovered};
 
@@ -35,7 +35,7 @@ where
 pub fn law_hints_inspect_err<I: FallibleIterator, F: FnMut(&I::Error)>()
 where
     ensures { (s : InspectErr I F)
-        → KeepsBrackets ⟦<InspectErr<I, F> as FallibleIterator>⟧.contract s I.contract
+        → HintsAsSoundAs ⟦<InspectErr<I, F> as FallibleIterator>⟧.contract s I.contract
         (inspect_err_source s) }
 {}
 
@@ -43,7 +43,7 @@ where
 pub fn law_hints_back_inspect_err<I: DoubleEndedFallibleIterator, F: FnMut(&I::Error)>()
 where
     ensures { (s : InspectErr I F)
-        → KeepsBrackets (from_back ⟦<InspectErr<I, F> as FallibleIterator>⟧.contract
+        → HintsAsSoundAs (from_back ⟦<InspectErr<I, F> as FallibleIterator>⟧.contract
         ⟦<InspectErr<I, F> as DoubleEndedFallibleIterator>⟧.ends) s
         (from_back I.contract I.ends) (inspect_err_source s) }
 {}

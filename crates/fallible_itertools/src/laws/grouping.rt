@@ -3,7 +3,7 @@ ghost use Rattle.std.specs.Prelude.{◌≡◌, ℕ, ◌<◌, ◌++◌, ◌∷◌
 ghost use Rattle.fallible_iterator.specs.BothEnds.{items_listed, failures_listed};
 ghost use Rattle.fallible_iterator.specs.LawForm.{TracesAre};
 ghost use Rattle.fallible_iterator.specs.Lists.{items};
-ghost use Rattle.fallible_iterator.specs.SoundHints.{KeepsBrackets, SoundHints};
+ghost use Rattle.fallible_iterator.specs.SoundHints.{HintsAsSoundAs, SoundHints};
 ghost use Rattle.fallible_itertools.specs.Adjacent.{AdjacentItems, IsGroup};
 ghost use Rattle.fallible_itertools.specs.ChunkBy.{ChunkByTrace, chunk_by_due, chunk_by_parts, chunk_by_source, chunked_by};
 ghost use Rattle.fallible_itertools.specs.Chunks.{BatchesOf, BatchesUpTo, ChunksTrace, chunked, chunks_due, chunks_parts, chunks_source, batches_joined};
@@ -44,7 +44,7 @@ where
     I::Item: Drop,
     I::Error: Drop + From<AllocError>,
     ensures none_due { (s : Chunks I I.Item I.Error) → chunks_due s ≡ None
-        → KeepsBrackets ⟦<Chunks<I> as FallibleIterator>⟧.contract s I.contract (chunks_source s) }
+        → HintsAsSoundAs ⟦<Chunks<I> as FallibleIterator>⟧.contract s I.contract (chunks_source s) }
     ensures due { (s : Chunks I I.Item I.Error) (stop : Option I.Error) → chunks_due s ≡ Some stop
         → SoundHints ⟦<Chunks<I> as FallibleIterator>⟧.contract s }
 {}
@@ -85,7 +85,7 @@ where
     I::Item: Drop,
     I::Error: Drop + From<AllocError>,
     ensures none_due { (s : ChunkBy I K F I.Item I.Error) → chunk_by_due s ≡ None
-        → KeepsBrackets ⟦<ChunkBy<I, K, F> as FallibleIterator>⟧.contract s I.contract
+        → HintsAsSoundAs ⟦<ChunkBy<I, K, F> as FallibleIterator>⟧.contract s I.contract
         (chunk_by_source s) }
     ensures due { (s : ChunkBy I K F I.Item I.Error) (stop : Option I.Error)
         → chunk_by_due s ≡ Some stop

@@ -1,7 +1,7 @@
 // The laws of the adapters that buffer.
 ghost use Rattle.std.specs.Prelude.{◌≡◌, ◌++◌, ◌∷◌, Bool, false, List, Option, Result, Some, None, Ok, Err};
 ghost use Rattle.fallible_iterator.specs.LawForm.{TracesAre};
-ghost use Rattle.fallible_iterator.specs.SoundHints.{KeepsBrackets, SoundHints};
+ghost use Rattle.fallible_iterator.specs.SoundHints.{HintsAsSoundAs, SoundHints};
 ghost use Rattle.fallible_iterator.specs.Closures.{call_at};
 ghost use Rattle.fallible_iterator.specs.Folds.{call_with};
 ghost use Rattle.fallible_iterator.specs.Lists.{filter_mapped, items, nth_of};
@@ -47,7 +47,7 @@ where
     I::Item: PartialEq + Drop,
     I::Error: Drop,
     ensures none_due { (s : Dedup I I.Item I.Error) → dedup_due s ≡ None
-        → KeepsBrackets ⟦<Dedup<I> as FallibleIterator>⟧.contract s I.contract (dedup_source s) }
+        → HintsAsSoundAs ⟦<Dedup<I> as FallibleIterator>⟧.contract s I.contract (dedup_source s) }
     ensures due { (s : Dedup I I.Item I.Error) (stop : Option I.Error) → dedup_due s ≡ Some stop
         → SoundHints ⟦<Dedup<I> as FallibleIterator>⟧.contract s }
 {}
@@ -79,7 +79,7 @@ where
     I::Item: Drop,
     I::Error: Drop,
     ensures none_due { (s : Coalesce I F I.Item I.Error) → coalesce_due s ≡ None
-        → KeepsBrackets ⟦<Coalesce<I, F> as FallibleIterator>⟧.contract s I.contract
+        → HintsAsSoundAs ⟦<Coalesce<I, F> as FallibleIterator>⟧.contract s I.contract
         (coalesce_source s) }
     ensures due { (s : Coalesce I F I.Item I.Error) (stop : Option I.Error)
         → coalesce_due s ≡ Some stop
@@ -110,7 +110,7 @@ where
     I::Item: Drop,
     I::Error: Drop,
     ensures none_due { (s : DedupBy I F I.Item I.Error) → dedup_by_due s ≡ None
-        → KeepsBrackets ⟦<DedupBy<I, F> as FallibleIterator>⟧.contract s I.contract
+        → HintsAsSoundAs ⟦<DedupBy<I, F> as FallibleIterator>⟧.contract s I.contract
         (dedup_by_source s) }
     ensures due { (s : DedupBy I F I.Item I.Error) (stop : Option I.Error)
         → dedup_by_due s ≡ Some stop
@@ -153,7 +153,7 @@ where
     I::Item: Drop,
     I::Error: Drop,
     ensures none_due { (s : DedupByKey I K F I.Item I.Error) → dedup_by_key_due s ≡ None
-        → KeepsBrackets ⟦<DedupByKey<I, K, F> as FallibleIterator>⟧.contract s I.contract
+        → HintsAsSoundAs ⟦<DedupByKey<I, K, F> as FallibleIterator>⟧.contract s I.contract
         (dedup_by_key_source s) }
     ensures due { (s : DedupByKey I K F I.Item I.Error) (stop : Option I.Error)
         → dedup_by_key_due s ≡ Some stop
@@ -177,6 +177,6 @@ where
     I::Item: Clone + Drop,
     I::Error: From<AllocError>,
     ensures { (s : TupleWindows I I.Item I.Error)
-        → KeepsBrackets ⟦<TupleWindows<I> as FallibleIterator>⟧.contract s I.contract
+        → HintsAsSoundAs ⟦<TupleWindows<I> as FallibleIterator>⟧.contract s I.contract
         (tuple_windows_source s) }
 {}

@@ -1,7 +1,7 @@
 // The laws of `Intersperse`.
 ghost use Rattle.std.specs.Prelude.{Option, Result};
 ghost use Rattle.fallible_iterator.specs.LawForm.{TracesAre};
-ghost use Rattle.fallible_iterator.specs.SoundHints.{KeepsBrackets};
+ghost use Rattle.fallible_iterator.specs.SoundHints.{HintsAsSoundAs};
 ghost use Rattle.fallible_itertools.specs.Intersperse.{IntersperseTrace, intersperse_parts, intersperse_source};
 
 use crate::intersperse::Intersperse;
@@ -25,6 +25,6 @@ where
     I::Item: Clone + Drop,
     I::Error: From<AllocError>,
     ensures { (s : Intersperse I I.Item I.Error)
-        → KeepsBrackets ⟦<Intersperse<I> as FallibleIterator>⟧.contract s I.contract
+        → HintsAsSoundAs ⟦<Intersperse<I> as FallibleIterator>⟧.contract s I.contract
         (intersperse_source s) }
 {}

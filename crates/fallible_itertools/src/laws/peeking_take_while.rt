@@ -3,7 +3,7 @@ ghost use Rattle.std.specs.Prelude.{[], ◌∷◌, ◌++◌, Bool, IfSome, List,
 ghost use Rattle.fallible_iterator.specs.Closures.{call_at};
 ghost use Rattle.fallible_iterator.specs.LawForm.{TracesAre};
 ghost use Rattle.fallible_iterator.specs.Lists.{Acts, Lists, result_answer, taken_while};
-ghost use Rattle.fallible_iterator.specs.SoundHints.{KeepsBrackets};
+ghost use Rattle.fallible_iterator.specs.SoundHints.{HintsAsSoundAs};
 ghost use Rattle.fallible_iterator.specs.Traces.{Run, end};
 ghost use Rattle.fallible_itertools.specs.PeekingTakeWhile.{PeekingTrace, rest_by_while, peeking_closure, peeking_parts, peeking_source};
 
@@ -22,7 +22,7 @@ where
 pub fn law_hints_peeking_take_while<P: PeekingNext, F: FnMut(&P::Item) -> Result<bool, P::Error>>()
 where
     ensures { (s : PeekingTakeWhile P F)
-        → KeepsBrackets ⟦<PeekingTakeWhile<P, F> as FallibleIterator>⟧.contract s P.contract
+        → HintsAsSoundAs ⟦<PeekingTakeWhile<P, F> as FallibleIterator>⟧.contract s P.contract
         (peeking_source s) }
 {}
 

@@ -2,7 +2,7 @@
 ghost use Rattle.std.specs.Prelude.{◌≡◌, Result, true, false};
 ghost use Rattle.fallible_iterator.specs.Closures.{call_at};
 ghost use Rattle.fallible_iterator.specs.LawForm.{TracesAre};
-ghost use Rattle.fallible_iterator.specs.SoundHints.{KeepsBrackets, SoundHints};
+ghost use Rattle.fallible_iterator.specs.SoundHints.{HintsAsSoundAs, SoundHints};
 ghost use Rattle.fallible_itertools.specs.TakeWhileInclusive.{InclusiveTrace, inclusive_parts, inclusive_refused, inclusive_source};
 
 use crate::take_while_inclusive::TakeWhileInclusive;
@@ -25,7 +25,7 @@ pub fn law_hints_take_while_inclusive<
 where
     I::Item: Drop,
     ensures open { (s : TakeWhileInclusive I P) → inclusive_refused s ≡ false
-        → KeepsBrackets ⟦<TakeWhileInclusive<I, P> as FallibleIterator>⟧.contract s I.contract
+        → HintsAsSoundAs ⟦<TakeWhileInclusive<I, P> as FallibleIterator>⟧.contract s I.contract
         (inclusive_source s) }
     ensures closed { (s : TakeWhileInclusive I P) → inclusive_refused s ≡ true
         → SoundHints ⟦<TakeWhileInclusive<I, P> as FallibleIterator>⟧.contract s }

@@ -1,6 +1,6 @@
 -- Each way out is one of the lemmas.
 use Rattle.std.proofs.Common.{rules, ◌≡◌, ◌∙◌, Ok, Err, Some, None, nat_lt, sym}
-use Rattle.fallible_iterator.specs.Lists.{rest_first, rest_if, looked_ahead, nth_of}
+use Rattle.fallible_iterator.specs.Lists.{rest_first, rest_if, rest_look, nth_of}
 use Rattle.example_tasks.proofs.MergingLemmas.{gives_failure_of_left, gives_right_alone, gives_failure_of_right, gives_right, gives_left, looked_first}
 use Rattle.example_tasks.proofs.merging.next_merged.Goals as goal
 
@@ -13,7 +13,7 @@ pub returns-in_err-first-clause-rest : goal.returns-in_err-first-clause-rest
 returns-in_err-first-clause-rest g c a b la lb no_end =
     let looked = c.in_err-first.ensures.lists a la in
     record {
-      left = looked_ahead a;
+      left = rest_look a;
       right = b;
       lists_left = looked.1;
       lists_right = lb;
@@ -30,7 +30,7 @@ returns-in_default-clause-rest g c a b la lb no_end =
     let none : c.in_ok-first.field-0 ≡ None = search rules in
     let looked = c.in_ok-first.ensures.lists a la in
     record {
-      left = looked_ahead a;
+      left = rest_look a;
       right = rest_first b;
       lists_left = looked.1;
       lists_right = c.draw.ensures.rest b lb no_end;
@@ -48,7 +48,7 @@ returns-in_err-second-clause-rest g c a b la lb no_end =
     let looked = c.in_ok-first.ensures.lists a la in
     let taken = c.in_err-second.ensures.lists (λ y. nat_lt y c.in-Some.first) b (search rules) lb in
     record {
-      left = looked_ahead a;
+      left = rest_look a;
       right = rest_if (λ y. nat_lt y c.in-Some.first) b;
       lists_left = looked.1;
       lists_right = taken.1;
@@ -65,7 +65,7 @@ returns-in-Some-2-clause-rest g c a b la lb no_end =
     let looked = c.in_ok-first.ensures.lists a la in
     let taken = c.in_ok-second.ensures.lists (λ y. nat_lt y c.in-Some.first) b (search rules) lb in
     record {
-      left = looked_ahead a;
+      left = rest_look a;
       right = rest_if (λ y. nat_lt y c.in-Some.first) b;
       lists_left = looked.1;
       lists_right = taken.1;
@@ -84,7 +84,7 @@ returns-in-None-clause-rest g c a b la lb no_end =
     let looked = c.in_ok-first.ensures.lists a la in
     let taken = c.in_ok-second.ensures.lists (λ y. nat_lt y c.in-Some.first) b (search rules) lb in
     record {
-      left = rest_first (looked_ahead a);
+      left = rest_first (rest_look a);
       right = rest_if (λ y. nat_lt y c.in-Some.first) b;
       lists_left = c.draw-in-None.ensures.rest _ looked.1 no_end;
       lists_right = taken.1;

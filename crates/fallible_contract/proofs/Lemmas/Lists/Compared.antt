@@ -58,7 +58,7 @@ module _ {A E : Type 0} (rule : A → A → Option Ordering) where
 
 module _ {S T A E : Type 0} {rule : A → A → Option Ordering} {left-steps : S → Answered A E → S → Type 0} {right-steps : T → Answered A E → T → Type 0} {s : S} (a b : List (Result A E)) where
   pub compared_of_lists : {t : T} {r : Result (Option Ordering) E} → CompareDraws rule left-steps right-steps s t r → Lists left-steps s a → Lists right-steps t b → r ≡ compared rule a b
-  compared_of_lists {t} {r} c i j = compared_after_pairs rule left-steps right-steps c.last_left c.last_right r c.left c.right c.exit c.pairs a b s t c.equal i.runs j.runs c.left_ran c.right_ran
+  compared_of_lists {t} {r} c i j = compared_after_pairs rule left-steps right-steps c.last_left c.last_right r c.left c.right c.last_round c.pairs a b s t c.equal i.runs j.runs c.left_ran c.right_ran
 
   pub compared_of_lists_with : {O : Type 0} {into : O → T → Type 0} {other : O} {r : Result (Option Ordering) E} → ComparedWith rule into left-steps right-steps s other r → Lists left-steps s a → ((right : T) → into other right → Lists right-steps right b) → r ≡ compared rule a b
   compared_of_lists_with c i j = compared_of_lists c.compared i (j c.right c.made)

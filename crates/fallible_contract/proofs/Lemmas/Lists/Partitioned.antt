@@ -54,7 +54,7 @@ module _ {A E F : Type 0} (call : F → A → Result Bool E → F → Type 0) (h
   module _ {S B : Type 0} {steps : S → Answered A E → S → Type 0} (made : List A → B → Type 0) {s : S} (l : List (Result A E)) (i : Lists steps s l) where
     partitioned_by_all : (g : F) (p : B × B) → CollectsAll steps (Sides call made f) s (g, p) → PartitionedBy made h l (Ok p)
     partitioned_by_all g p k = let d = drawn_of_lists steps k.items (Ok None) l s k.after i.runs k.ran in let sides = k.is_made in
-        ((answered_true sides.answered, answered_false sides.answered), ap (partitioned h) d.list_is ∙ ap (λ (rest : _). partitioned h (map (λ x. Ok x) k.items ++ rest)) d.rest_is ∙ ap (λ (xs : List A). partitioned h (map (λ x. Ok x) xs ++ [])) (sym sides.beside) ∙ partitioned_front sides.answered g sides.called, sides.first, sides.second)
+        ((answered_true sides.answered, answered_false sides.answered), ap (partitioned h) d.list_is ∙ ap (λ (rest : _). partitioned h (map (λ x. Ok x) k.items ++ rest)) d.rest_is ∙ ap (λ (xs : List A). partitioned h (map (λ x. Ok x) xs ++ [])) (sym sides.beside) ∙ partitioned_front sides.answered g sides.called, sides.made_of_true, sides.made_of_false)
 
     source_partitioned : (e : E) → FailsWith steps (Sides call made f) s e → partitioned h l ≡ Err e
     source_partitioned e k = let d = drawn_of_lists steps k.items (Err e) l s k.after i.runs k.ran in let sides = k.is_made in

@@ -32,7 +32,7 @@ module _ {S A E : Type 0} (steps : S → Answered A E → S → Type 0) where
 pub lists_fused : {S A E : Type 0} (m : Contract S A E) (s : Fuse S) (l : List (Result A E)) → fuse_parts s ≡ (s.it, false) → Lists m.steps s.it l → Lists (seen_as fuse_parts (fuse_contract m)).steps s l
 lists_fused m s l parts i = lists_seen fuse_parts (fuse_contract m).steps s parts refl (always_gives_fused m.steps l s.it i.runs)
 
--- ---- what it lists for good
+-- ---- what it lists, fused
 
 module _ {S A E : Type 0} (steps : S → Answered A E → S → Type 0) where
   -- once closed, each answer is an end

@@ -5,7 +5,7 @@ use Rattle.fallible_contract.specs.Traces.{Answered, Run, item, is_end}
 use Rattle.fallible_contract.specs.Closing.{closing_step}
 use Rattle.fallible_contract.specs.Contract.{Contract, seen_as}
 use Rattle.fallible_contract.specs.Folds.{Drained, HoldsAtEachTurn, DriveExit, Driven, OverExit, CountDrainsOn, LastExit, LastDrains, NthDrains}
-use Rattle.fallible_contract.proofs.Lemmas.Folding.{holds_into, drained_into}
+use Rattle.fallible_contract.proofs.Lemmas.Folding.{holds_at_each_turn_into, drained_into}
 use Rattle.fallible_core.specs.Cutting.Fuse.{fuse_parts, fuse_contract}
 use Rattle.std.specs.declared.ops.ControlFlow.{ControlFlow}
 use Rattle.fallible_core.specs.declared.cutting.fuse.Fuse.{Fuse}
@@ -48,7 +48,7 @@ module _ {S A E : Type 0} (m : Contract S A E) (s : Fuse S) where
 
   -- what holds at each turn of it, where it is open, holds at each of the source
   pub holds_each_turn_open : {C : Type 0} {goes_on : C → A → C → Type 0} {P : C → A → Type 0} {c : C} → s.ended ≡ false → HoldsAtEachTurn steps_of_fuse_folds goes_on P s c → HoldsAtEachTurn m.steps goes_on P s.it c
-  holds_each_turn_open {goes_on = goes_on} {P = P} {c = c} is h = holds_into {held = steps_of_fuse_folds} (λ p. record { it = p; ended = false }) (λ p x q step. (item x, step, refl, refl)) (subst (λ (b : Bool). HoldsAtEachTurn steps_of_fuse_folds goes_on P (record { it = s.it; ended = b }) c) is h)
+  holds_each_turn_open {goes_on = goes_on} {P = P} {c = c} is h = holds_at_each_turn_into {held = steps_of_fuse_folds} (λ p. record { it = p; ended = false }) (λ p x q step. (item x, step, refl, refl)) (subst (λ (b : Bool). HoldsAtEachTurn steps_of_fuse_folds goes_on P (record { it = s.it; ended = b }) c) is h)
 
   -- where it is open, a drain of the source is one of it
   drained_open : {came : List A → Answered A E → Type 0} {t : S} (closed : Bool) → s.ended ≡ false → (w : Drained m.steps came s.it t) → closed ≡ is_end w.last → Drained steps_of_fuse_folds came s (record { it = t; ended = closed })

@@ -6,7 +6,7 @@ use Rattle.fallible_contract.specs.Traces.{Answered, Run, item}
 use Rattle.fallible_contract.specs.Contract.{Contract, seen_as}
 use Rattle.fallible_contract.specs.Folds.{HoldsAtEachTurn, goes_on, DriveExit, Driven, IsNthTurn}
 use Rattle.fallible_contract.proofs.Lemmas.ByNumber.{Leaves, none, keeps_item, keeps_end, keeps_failure, leaves_out, leaves_left_out_first, leaves_from_equal, leaves_nothing}
-use Rattle.fallible_contract.proofs.Lemmas.Folding.{holds_into, drained_into}
+use Rattle.fallible_contract.proofs.Lemmas.Folding.{holds_at_each_turn_into, drained_into}
 use Rattle.fallible_contract.proofs.Lemmas.Folds.{holds_each_turn_after, driven_after}
 use Rattle.fallible_core.specs.Cutting.Skip.{skip_parts, skip_step, skip_contract}
 use Rattle.fallible_core.proofs.Lemmas.Cutting.Skip.{leaves_of_skip_trace, skip_trace_of_leaves, leaves_plain_draw}
@@ -59,7 +59,7 @@ module _ {S A E : Type 0} (m : Contract S A E) (s : Skip S) where
 
     -- after that item what holds at each turn holds at each turn of the source
     pub holds_each_turn_past : {C : Type 0} {on : C → A → C → Type 0} {P : C → A → Type 0} {c d : C} → HoldsAtEachTurn (skip_here m).steps on P s c → on c x d → HoldsAtEachTurn m.steps on P t d
-    holds_each_turn_past {on = on} {P = P} {d = d} h turn = holds_into none_to_skip (λ p x q step. skip_step_past m.steps p (item x) q step) (subst (λ (n : ℕ). HoldsAtEachTurn (skip_here m).steps on P (record { it = t; to_skip = n }) d) nothing_more_to_skip (holds_each_turn_after h (skip_step_reached w) turn))
+    holds_each_turn_past {on = on} {P = P} {d = d} h turn = holds_at_each_turn_into none_to_skip (λ p x q step. skip_step_past m.steps p (item x) q step) (subst (λ (n : ℕ). HoldsAtEachTurn (skip_here m).steps on P (record { it = t; to_skip = n }) d) nothing_more_to_skip (holds_each_turn_after h (skip_step_reached w) turn))
 
     -- and a fold of the source is the rest of the fold
     pub driven_past : {C R : Type 0} {turns : C → A → ControlFlow R (Unit {0}) → C → Type 0} {c d z : C} {r : Answered R E} {u : S} → goes_on turns c x d → Driven m.steps turns t d r u z → Driven (skip_here m).steps turns s c r (record { it = u; to_skip = k }) z

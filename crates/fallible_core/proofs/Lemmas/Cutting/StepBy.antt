@@ -56,16 +56,16 @@ module _ (between r : ℕ) where
 
 module _ {S A E : Type 0} (steps : S → Answered A E → S → Type 0) where
   -- the definition, built from the first draw on
-  abbrev pub Steps : S × (ℕ × ℕ) → List (Answered A E) → S × (ℕ × ℕ) → Type 0
-  Steps p trace q = Leaves steps (p.1).0 (p.1).1 p.0 trace q.0 (q.1).1 × ((q.1).0 ≡ (p.1).0)
+  abbrev pub StepByLeaves : S × (ℕ × ℕ) → List (Answered A E) → S × (ℕ × ℕ) → Type 0
+  StepByLeaves p trace q = Leaves steps (p.1).0 (p.1).1 p.0 trace q.0 (q.1).1 × ((q.1).0 ≡ (p.1).0)
 
-  pub steps_of_step_by_trace : {p q : S × (ℕ × ℕ)} {trace : List (Answered A E)} → StepByTrace steps p trace q → Steps p trace q
+  pub steps_of_step_by_trace : {p q : S × (ℕ × ℕ)} {trace : List (Answered A E)} → StepByTrace steps p trace q → StepByLeaves p trace q
   steps_of_step_by_trace {p} d = (leaves_of_kept_by_number steps (fits_step (p.1).0 (p.1).1) (in_step_first (p.1).0 (p.1).1) d.0, d.1)
 
-  pub step_by_trace_of_leaves : {p q : S × (ℕ × ℕ)} {trace : List (Answered A E)} → Steps p trace q → StepByTrace steps p trace q
+  pub step_by_trace_of_leaves : {p q : S × (ℕ × ℕ)} {trace : List (Answered A E)} → StepByLeaves p trace q → StepByTrace steps p trace q
   step_by_trace_of_leaves {p} h = (kept_by_number_of_leaves steps (fits_step (p.1).0 (p.1).1) (in_step_first (p.1).0 (p.1).1) h.0, h.1)
 
-  steps_nothing : (p q : S × (ℕ × ℕ)) → Steps p [] q ↔ (p ≡ q)
+  steps_nothing : (p q : S × (ℕ × ℕ)) → StepByLeaves p [] q ↔ (p ≡ q)
   steps_nothing (s, (b, n)) (t, (c, k)) = (
     (λ d. let h = leaves_nothing steps b d.0 in rw (h.0, h.1, d.1) refl),
     (λ e. let h : s ≡ t = ap (λ z. z.0) e in let i : n ≡ k = ap (λ z. (z.1).1) e in let d : c ≡ b = sym (ap (λ z. (z.1).0) e) in (rw (h, i) none, d)),
@@ -74,10 +74,10 @@ module _ {S A E : Type 0} (steps : S → Answered A E → S → Type 0) where
   step_by_trace_nothing : (p q : S × (ℕ × ℕ)) → StepByTrace steps p [] q ↔ (p ≡ q)
   step_by_trace_nothing p q = ((λ d. (steps_nothing p q).0 (steps_of_step_by_trace {p = p} {q = q} d)), (λ e. step_by_trace_of_leaves {p = p} {q = q} ((steps_nothing p q).1 e)))
 
-  steps_of_first_and_rest : (p u q : S × (ℕ × ℕ)) (r : Answered A E) (rest : List (Answered A E)) → Steps p (r ∷ []) u → Steps u rest q → Steps p (r ∷ rest) q
+  steps_of_first_and_rest : (p u q : S × (ℕ × ℕ)) (r : Answered A E) (rest : List (Answered A E)) → StepByLeaves p (r ∷ []) u → StepByLeaves u rest q → StepByLeaves p (r ∷ rest) q
   steps_of_first_and_rest p (u, (c, i)) q r rest d e = (leaves_then steps (p.1).0 d.0 (rw d.1 at e.0), e.1 ∙ d.1)
 
-  steps_split : (p q : S × (ℕ × ℕ)) (r : Answered A E) (rest : List (Answered A E)) → Steps p (r ∷ rest) q → (u : S × (ℕ × ℕ)) × Steps p (r ∷ []) u × Steps u rest q
+  steps_split : (p q : S × (ℕ × ℕ)) (r : Answered A E) (rest : List (Answered A E)) → StepByLeaves p (r ∷ rest) q → (u : S × (ℕ × ℕ)) × StepByLeaves p (r ∷ []) u × StepByLeaves u rest q
   steps_split p q r rest d = let h = leaves_split steps (p.1).0 d.0 in ((h.0, ((p.1).0, h.1)), (h.2, refl), (h.3, d.1))
 
   step_by_answers : IsByAnswers (StepByTrace steps)

@@ -58,16 +58,16 @@ module _ {S A E : Type 0} (steps : S → Answered A E → S → Type 0) where
   run_only_ends zero s n t k e c over = rw (e, c) refl
   run_only_ends (suc ends) s n t k e c over = let none : n ≡ 0 = over (omega arith) in rw (c, none, ← e) (run_over (suc ends) s)
 
-  run_from_trace : (source : List (Answered A E)) (ends : ℕ) (s : S) (n : ℕ) (t : S) (k : ℕ) → Run steps s source t → PrefixesBelow source n → (0 < ends → items_in source ≡ n) → k + items_in source ≡ n → Run (take_step steps) (s, n) (source ++ replicate ends end) (t, k)
-  run_from_trace [] ends s n t k ran prefixes over c = run_only_ends ends s n t k ran (omega (arith, c)) (λ some. let none = over some in omega (arith, none))
-  run_from_trace (r ∷ source) ends s zero t k ran prefixes over c = absurd (let h = prefixes [] r source refl in omega (arith, h))
-  run_from_trace (r ∷ source) ends s (suc n) t k ran prefixes over c =
+  take_run_of_source_run : (source : List (Answered A E)) (ends : ℕ) (s : S) (n : ℕ) (t : S) (k : ℕ) → Run steps s source t → PrefixesBelow source n → (0 < ends → items_in source ≡ n) → k + items_in source ≡ n → Run (take_step steps) (s, n) (source ++ replicate ends end) (t, k)
+  take_run_of_source_run [] ends s n t k ran prefixes over c = run_only_ends ends s n t k ran (omega (arith, c)) (λ some. let none = over some in omega (arith, none))
+  take_run_of_source_run (r ∷ source) ends s zero t k ran prefixes over c = absurd (let h = prefixes [] r source refl in omega (arith, h))
+  take_run_of_source_run (r ∷ source) ends s (suc n) t k ran prefixes over c =
       let j : ℕ = k + items_in source in
       let here : j + items_in (r ∷ []) ≡ suc n = omega (arith, items_in_first_and_rest r source, c) in
-      ((ran.0, j), (ran.1, here), run_from_trace source ends ran.0 j t k ran.2 (prefixes_rest r source (suc n) j here prefixes) (λ some. let all = over some in omega (arith, items_in_first_and_rest r source, all, here)) refl)
+      ((ran.0, j), (ran.1, here), take_run_of_source_run source ends ran.0 j t k ran.2 (prefixes_rest r source (suc n) j here prefixes) (λ some. let all = over some in omega (arith, items_in_first_and_rest r source, all, here)) refl)
 
   pub take_law : (p : S × ℕ) (trace : List (Answered A E)) (q : S × ℕ) → Run (take_step steps) p trace q ↔ TakeTrace steps p trace q
-  take_law p trace q = (take_trace_of_run trace p.0 p.1 q.0 q.1, (λ d. rw d.answers (run_from_trace d.source_trace d.ends p.0 p.1 q.0 q.1 d.drawn d.prefixes d.over d.remaining)))
+  take_law p trace q = (take_trace_of_run trace p.0 p.1 q.0 q.1, (λ d. rw d.answers (take_run_of_source_run d.source_trace d.ends p.0 p.1 q.0 q.1 d.drawn d.prefixes d.over d.remaining)))
 
 -- ---- what it lists
 

@@ -8,7 +8,7 @@ use Rattle.fallible_contract.specs.Closures.{call_at}
 use Rattle.fallible_contract.specs.Contract.{Contract, seen_as}
 use Rattle.fallible_contract.specs.Folds.{HoldsAtEachTurn, Drained}
 use Rattle.fallible_contract.specs.Laws.Passing.{Passes, done, end_passes, failure_passes, keeps, refuses, closes, leaves_out, passes_of_pass_trace, pass_trace_of_passes}
-use Rattle.fallible_contract.proofs.Lemmas.Folding.{holds_into, drained_into}
+use Rattle.fallible_contract.proofs.Lemmas.Folding.{holds_at_each_turn_into, drained_into}
 use Rattle.fallible_core.specs.Filtering.SkipWhile.{skip_call, skip_while_outcome, skip_while_contract, skip_while_parts}
 use Rattle.fallible_core.proofs.Lemmas.Filtering.SkipWhile.{passed_after_false, run_passes}
 use Rattle.fallible_core.specs.declared.filtering.skip_while.SkipWhile.{SkipWhile}
@@ -51,7 +51,7 @@ module _ {S F X E : Type 0} (m : Contract S X E) (g : Mut F (Bor X × Unit {0}) 
 
     -- what holds at each turn of it holds at each of the source
     pub holds_each_turn_past : {C : Type 0} {goes : C → X → C → Type 0} {P : C → X → Type 0} {c : C} → HoldsAtEachTurn steps_of_skip_while_folds goes P s c → HoldsAtEachTurn m.steps goes P s.it c
-    holds_each_turn_past {goes = goes} {P = P} {c = c} h = holds_into {held = steps_of_skip_while_folds} (past_of_skip_while_folds s.skipping.1) (λ p x q step. step_of_source_past s.skipping.1 p q (item x) step) (subst (λ (b : Bool). HoldsAtEachTurn steps_of_skip_while_folds goes P (record { it = s.it; skipping = (b, s.skipping.1) }) c) at h)
+    holds_each_turn_past {goes = goes} {P = P} {c = c} h = holds_at_each_turn_into {held = steps_of_skip_while_folds} (past_of_skip_while_folds s.skipping.1) (λ p x q step. step_of_source_past s.skipping.1 p q (item x) step) (subst (λ (b : Bool). HoldsAtEachTurn steps_of_skip_while_folds goes P (record { it = s.it; skipping = (b, s.skipping.1) }) c) at h)
 
     -- and draws of the source are draws of it
     pub drained_past : {came : List X → Answered X E → Type 0} {t : S} → Drained m.steps came s.it t → Drained steps_of_skip_while_folds came s (record { it = t; skipping = s.skipping })

@@ -7,7 +7,7 @@ use Rattle.fallible_contract.specs.Traces.{Answered, Run, Yields, NoEnd, item, e
 use Rattle.fallible_contract.specs.Contract.{Contract, seen_as}
 use Rattle.fallible_contract.specs.Folds.{Drained, HoldsAtEachTurn, goes_on, DriveExit, DrivenBy}
 use Rattle.fallible_contract.specs.Laws.Closures.{folds_to_then}
-use Rattle.fallible_contract.proofs.Lemmas.Folding.{drained_into, holds_into}
+use Rattle.fallible_contract.proofs.Lemmas.Folding.{drained_into, holds_at_each_turn_into}
 use Rattle.fallible_contract.proofs.Lemmas.Overriding.{holds_each_turn_seen, drained_seen}
 use Rattle.fallible_core.specs.Joining.Chain.{chain_step, chain_contract, chain_is_finite, sides_back}
 use Rattle.fallible_core.proofs.Lemmas.Joining.Chain.{run_from_both, run_from_joined}
@@ -122,13 +122,13 @@ module _ {S U A E : Type 0} (steps : S → Answered A E → S → Type 0) (other
   module _ {C : Type 0} {on : C → A → C → Type 0} {P : C → A → Type 0} {s : S} {u : U} {c : C} where
     -- what holds at each turn over the chain holds at each turn over the side that is drawn
     holds_each_turn_first_alone : HoldsAtEachTurn StepOfChainFolds on P (s, u, FirstAlone) c → HoldsAtEachTurn steps on P s c
-    holds_each_turn_first_alone h = holds_into (λ (z : S). (z, u, FirstAlone)) (λ p x q step. (step, refl, refl)) h
+    holds_each_turn_first_alone h = holds_at_each_turn_into (λ (z : S). (z, u, FirstAlone)) (λ p x q step. (step, refl, refl)) h
 
     holds_each_turn_second_alone : HoldsAtEachTurn StepOfChainFolds on P (s, u, SecondAlone) c → HoldsAtEachTurn others on P u c
-    holds_each_turn_second_alone h = holds_into (λ (z : U). (s, z, SecondAlone)) (λ p x q step. (step, refl, refl)) h
+    holds_each_turn_second_alone h = holds_at_each_turn_into (λ (z : U). (s, z, SecondAlone)) (λ p x q step. (step, refl, refl)) h
 
     holds_each_turn_both : HoldsAtEachTurn StepOfChainFolds on P (s, u, Both) c → HoldsAtEachTurn steps on P s c
-    holds_each_turn_both h = holds_into (λ (z : S). (z, u, Both)) (λ p x q step. inl (step, refl, refl, refl)) h
+    holds_each_turn_both h = holds_at_each_turn_into (λ (z : S). (z, u, Both)) (λ p x q step. inl (step, refl, refl, refl)) h
 
     -- and after draws of the first that met its end, at each turn over the second
     holds_each_turn_over : {before : List A → Answered A E → Type 0} {t : S} {d : C} → ((items : List A) (met : Answered A E) → before items met → (met ≡ end) × FoldsTo on c items d) → Drained steps before s t → HoldsAtEachTurn StepOfChainFolds on P (s, u, Both) c → HoldsAtEachTurn others on P u d
@@ -157,18 +157,18 @@ module _ {S U A E : Type 0} (first : Contract S A E) (second : Contract U A E) w
 -- ---- of what is seen as a chain, as `Chain` is from the front, and from the back
 
 module _ {V S U A E : Type 0} (view : V → S × U × StillDrawn) (make : S × U × StillDrawn → V) (has : (p : S × U × StillDrawn) → view (make p) ≡ p) (first : Contract S A E) (second : Contract U A E) where
-  abbrev pub Drawn : V → Answered A E → V → Type 0
-  Drawn = (seen_as view (chain_contract first second)).steps
+  abbrev pub ChainStep : V → Answered A E → V → Type 0
+  ChainStep = (seen_as view (chain_contract first second)).steps
 
   module _ {C : Type 0} {on : C → A → C → Type 0} {P : C → A → Type 0} {s : V} {c : C} where
-    holds_each_turn_parts : {drawn : StillDrawn} → (view s).2 ≡ drawn → HoldsAtEachTurn Drawn on P s c → HoldsAtEachTurn (chain_step first.steps second.steps) on P ((view s).0, (view s).1, drawn) c
+    holds_each_turn_parts : {drawn : StillDrawn} → (view s).2 ≡ drawn → HoldsAtEachTurn ChainStep on P s c → HoldsAtEachTurn (chain_step first.steps second.steps) on P ((view s).0, (view s).1, drawn) c
     holds_each_turn_parts is h = subst (λ (d : StillDrawn). HoldsAtEachTurn (chain_step first.steps second.steps) on P ((view s).0, (view s).1, d) c) is (holds_each_turn_seen view (λ s p. make p) (λ s p. has p) (chain_contract first second) h)
 
-    pub holds_each_turn_second_by_itself : (view s).2 ≡ SecondAlone → HoldsAtEachTurn Drawn on P s c → HoldsAtEachTurn second.steps on P (view s).1 c
+    pub holds_each_turn_second_by_itself : (view s).2 ≡ SecondAlone → HoldsAtEachTurn ChainStep on P s c → HoldsAtEachTurn second.steps on P (view s).1 c
     holds_each_turn_second_by_itself is h = holds_each_turn_second_alone first.steps second.steps (holds_each_turn_parts is h)
 
     -- where the second isn't drawn alone
-    pub holds_each_turn_first : ((view s).2 ≡ SecondAlone → ⊥) → HoldsAtEachTurn Drawn on P s c → HoldsAtEachTurn first.steps on P (view s).0 c
+    pub holds_each_turn_first : ((view s).2 ≡ SecondAlone → ⊥) → HoldsAtEachTurn ChainStep on P s c → HoldsAtEachTurn first.steps on P (view s).0 c
     holds_each_turn_first drawn h = by_cases (view s).2 refl
       where
         by_cases : (d : StillDrawn) → (view s).2 ≡ d → HoldsAtEachTurn first.steps on P (view s).0 c
@@ -177,29 +177,29 @@ module _ {V S U A E : Type 0} (view : V → S × U × StillDrawn) (make : S × U
         by_cases SecondAlone is = absurd (drawn is)
 
     -- after draws of the first that met its end
-    pub holds_each_turn_second : {before : List A → Answered A E → Type 0} {t : S} {d : C} → (view s).2 ≡ Both → ((items : List A) (met : Answered A E) → before items met → (met ≡ end) × FoldsTo on c items d) → Drained first.steps before (view s).0 t → HoldsAtEachTurn Drawn on P s c → HoldsAtEachTurn second.steps on P (view s).1 d
+    pub holds_each_turn_second : {before : List A → Answered A E → Type 0} {t : S} {d : C} → (view s).2 ≡ Both → ((items : List A) (met : Answered A E) → before items met → (met ≡ end) × FoldsTo on c items d) → Drained first.steps before (view s).0 t → HoldsAtEachTurn ChainStep on P s c → HoldsAtEachTurn second.steps on P (view s).1 d
     holds_each_turn_second is met f h = holds_each_turn_over first.steps second.steps met f (holds_each_turn_parts is h)
 
   module _ {came : List A → Answered A E → Type 0} {s w : V} where
-    drained_parts : {p q : S × U × StillDrawn} → view s ≡ p → view w ≡ q → Drained (chain_step first.steps second.steps) came p q → Drained Drawn came s w
+    drained_parts : {p q : S × U × StillDrawn} → view s ≡ p → view w ≡ q → Drained (chain_step first.steps second.steps) came p q → Drained ChainStep came s w
     drained_parts {p} {q} e e' h = drained_seen view (λ s p. make p) (λ s p. has p) (chain_contract first second)
         (subst (λ z. Drained (chain_step first.steps second.steps) came z (view w)) (sym e) (subst (λ z. Drained (chain_step first.steps second.steps) came p z) (sym e') h))
 
-    pub drained_chain_first_alone : (view s).2 ≡ FirstAlone → (view w).1 ≡ (view s).1 → (view w).2 ≡ FirstAlone → Drained first.steps came (view s).0 (view w).0 → Drained Drawn came s w
+    pub drained_chain_first_alone : (view s).2 ≡ FirstAlone → (view w).1 ≡ (view s).1 → (view w).2 ≡ FirstAlone → Drained first.steps came (view s).0 (view w).0 → Drained ChainStep came s w
     drained_chain_first_alone is kept now h = drained_parts (ap (λ (d : StillDrawn). ((view s).0, (view s).1, d)) is) (ap₂ (λ (u : U) (d : StillDrawn). ((view w).0, u, d)) kept now) (drained_first_alone first.steps second.steps (view s).1 h)
 
-    pub drained_chain_second_alone : (view s).2 ≡ SecondAlone → (view w).0 ≡ (view s).0 → (view w).2 ≡ SecondAlone → Drained second.steps came (view s).1 (view w).1 → Drained Drawn came s w
+    pub drained_chain_second_alone : (view s).2 ≡ SecondAlone → (view w).0 ≡ (view s).0 → (view w).2 ≡ SecondAlone → Drained second.steps came (view s).1 (view w).1 → Drained ChainStep came s w
     drained_chain_second_alone is kept now h = drained_parts (ap (λ (d : StillDrawn). ((view s).0, (view s).1, d)) is) (ap₂ (λ (t : S) (d : StillDrawn). (t, (view w).1, d)) kept now) (drained_second_alone first.steps second.steps (view s).0 h)
 
     -- draws of the first that met no end, where the second isn't drawn alone
-    pub drained_chain_first : ((view s).2 ≡ SecondAlone → ⊥) → (view w).1 ≡ (view s).1 → (view w).2 ≡ (view s).2 → ((items : List A) (last : Answered A E) → came items last → is_end last ≡ false) → Drained first.steps came (view s).0 (view w).0 → Drained Drawn came s w
+    pub drained_chain_first : ((view s).2 ≡ SecondAlone → ⊥) → (view w).1 ≡ (view s).1 → (view w).2 ≡ (view s).2 → ((items : List A) (last : Answered A E) → came items last → is_end last ≡ false) → Drained first.steps came (view s).0 (view w).0 → Drained ChainStep came s w
     drained_chain_first drawn kept now other h = by_cases (view s).2 refl
       where
-        by_cases : (d : StillDrawn) → (view s).2 ≡ d → Drained Drawn came s w
+        by_cases : (d : StillDrawn) → (view s).2 ≡ d → Drained ChainStep came s w
         by_cases Both is = drained_parts (ap (λ (d : StillDrawn). ((view s).0, (view s).1, d)) is) (ap₂ (λ (u : U) (d : StillDrawn). ((view w).0, u, d)) kept (now ∙ is)) (drained_both first.steps second.steps (view s).1 other h)
         by_cases FirstAlone is = drained_chain_first_alone is kept (now ∙ is) h
         by_cases SecondAlone is = absurd (drawn is)
 
     -- draws of the first that met its end, and then draws of the second
-    pub drained_chain_over : {before after : List A → Answered A E → Type 0} → (view s).2 ≡ Both → (view w).2 ≡ SecondAlone → ((xs ys : List A) (met last : Answered A E) → before xs met → after ys last → (met ≡ end) × came (xs ++ ys) last) → Drained first.steps before (view s).0 (view w).0 → Drained second.steps after (view s).1 (view w).1 → Drained Drawn came s w
+    pub drained_chain_over : {before after : List A → Answered A E → Type 0} → (view s).2 ≡ Both → (view w).2 ≡ SecondAlone → ((xs ys : List A) (met last : Answered A E) → before xs met → after ys last → (met ≡ end) × came (xs ++ ys) last) → Drained first.steps before (view s).0 (view w).0 → Drained second.steps after (view s).1 (view w).1 → Drained ChainStep came s w
     drained_chain_over is now joins f b = drained_parts (ap (λ (d : StillDrawn). ((view s).0, (view s).1, d)) is) (ap (λ (d : StillDrawn). ((view w).0, (view w).1, d)) now) (drained_over first.steps second.steps joins f b)

@@ -40,12 +40,12 @@ module _ {S A E : Type 0} (is_clone : S → S → Type 0) (is_infallible : S →
   run_last [] s k t none ran = ap (λ (u : S). (u, k)) ran
   run_last (r ∷ lap) s k t none ran = ((ran.0, k), (refl, inl (ran.1, none.0)), run_last lap ran.0 k t none.1 ran.2)
 
-  run_from_trace : (k s t : S) (trace : List (Answered A E)) → TraceOfCycle k s trace t → Run StepsOfCycle (s, k) trace (t, k)
-  run_from_trace k _ _ _ (last_lap s t lap none ran) = run_last lap s k t none ran
-  run_from_trace k _ _ _ (then_a_clone s ended clone run t lap first rest none ran is drawn more) =
-      run_lap lap s k (end ∷ []) (first ∷ rest) ended (t, k) none ran (λ u last. ((run, k), (refl, inr (inl (last.0, clone, last.1, is, drawn))), run_from_trace k run t rest more))
-  run_from_trace k _ _ _ (then_a_refusal s ended t lap e rest none ran refused more) =
-      run_lap lap s k (end ∷ []) (Err e ∷ rest) ended (t, k) none ran (λ u last. ((ended, k), (refl, inr (inr (e, subst (λ (v : S). steps u end v) last.2 last.1, refl, refused))), run_from_trace k ended t rest more))
+  run_of_cycle_trace : (k s t : S) (trace : List (Answered A E)) → TraceOfCycle k s trace t → Run StepsOfCycle (s, k) trace (t, k)
+  run_of_cycle_trace k _ _ _ (last_lap s t lap none ran) = run_last lap s k t none ran
+  run_of_cycle_trace k _ _ _ (then_a_clone s ended clone run t lap first rest none ran is drawn more) =
+      run_lap lap s k (end ∷ []) (first ∷ rest) ended (t, k) none ran (λ u last. ((run, k), (refl, inr (inl (last.0, clone, last.1, is, drawn))), run_of_cycle_trace k run t rest more))
+  run_of_cycle_trace k _ _ _ (then_a_refusal s ended t lap e rest none ran refused more) =
+      run_lap lap s k (end ∷ []) (Err e ∷ rest) ended (t, k) none ran (λ u last. ((ended, k), (refl, inr (inr (e, subst (λ (v : S). steps u end v) last.2 last.1, refl, refused))), run_of_cycle_trace k ended t rest more))
 
   pub cycle_law : (p : S × S) (trace : List (Answered A E)) (q : S × S) → Run StepsOfCycle p trace q ↔ CycleTrace is_clone is_infallible from steps p trace q
-  cycle_law p trace q = (to_trace trace p.0 p.1 q.0 q.1, (λ h. rw h.0 (run_from_trace p.1 p.0 q.0 trace h.1)))
+  cycle_law p trace q = (to_trace trace p.0 p.1 q.0 q.1, (λ h. rw h.0 (run_of_cycle_trace p.1 p.0 q.0 trace h.1)))

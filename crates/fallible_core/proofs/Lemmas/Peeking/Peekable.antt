@@ -133,11 +133,11 @@ module _ {S A E : Type 0} (steps : S → Answered A E → S → Type 0) where
   run_of_held_answers source (s, None) t ran = run_of_source_run source s t ran
   run_of_held_answers source (s, Some o) t ran = ((s, None), (refl, refl, refl), run_of_source_run source s t ran)
 
-  run_from_trace : (trace : List (Answered A E)) (p q : S × Option (Option A)) → PeekableTrace steps p trace q → Run (peekable_step steps) p trace q
-  run_from_trace trace p (t, held) d = elim d [ inl e ↦ rw (e.0, e.1) refl | inr a ↦ rw (a.answers, a.let_go) (run_of_held_answers a.source_trace p t a.drawn) ]
+  run_of_peekable_trace : (trace : List (Answered A E)) (p q : S × Option (Option A)) → PeekableTrace steps p trace q → Run (peekable_step steps) p trace q
+  run_of_peekable_trace trace p (t, held) d = elim d [ inl e ↦ rw (e.0, e.1) refl | inr a ↦ rw (a.answers, a.let_go) (run_of_held_answers a.source_trace p t a.drawn) ]
 
   pub peekable_law : (p : S × Option (Option A)) (trace : List (Answered A E)) (q : S × Option (Option A)) → Run (peekable_step steps) p trace q ↔ PeekableTrace steps p trace q
-  peekable_law p trace q = (peekable_trace_of_run trace p q, run_from_trace trace p q)
+  peekable_law p trace q = (peekable_trace_of_run trace p q, run_of_peekable_trace trace p q)
 
 -- ---- one test for another
 

@@ -4,7 +4,7 @@ use Rattle.std.proofs.Common.{refl, sym, subst}
 use Rattle.fallible_contract.specs.Traces.{Answered}
 use Rattle.fallible_contract.specs.Contract.{Contract, seen_as}
 use Rattle.fallible_contract.specs.Folds.{Drained, HoldsAtEachTurn, goes_on, Driven}
-use Rattle.fallible_contract.proofs.Lemmas.Folding.{holds_into, drained_into}
+use Rattle.fallible_contract.proofs.Lemmas.Folding.{holds_at_each_turn_into, drained_into}
 use Rattle.fallible_contract.proofs.Lemmas.Folds.{holds_at_first_turn, holds_each_turn_after, driven_after, driven_stop}
 use Rattle.fallible_core.specs.Peeking.Peekable.{peekable_parts, peekable_contract}
 use Rattle.std.specs.declared.ops.ControlFlow.{ControlFlow}
@@ -44,7 +44,7 @@ module _ {S A E : Type 0} (m : Contract S A E) (s : Peekable S A E) where
   module _ {C : Type 0} {on : C → A → C → Type 0} {P : C → A → Type 0} {c : C} where
     -- what holds at each turn holds at each of the source, where nothing is held
     pub holds_each_turn_bare : s.held ≡ None → HoldsAtEachTurn steps_of_peekable_folds on P s c → HoldsAtEachTurn m.steps on P s.it c
-    holds_each_turn_bare is h = holds_into {held = steps_of_peekable_folds} bare_of_peekable_folds (λ p x q step. (step, refl)) (subst (λ (o : Option (Option A)). HoldsAtEachTurn steps_of_peekable_folds on P (with_held o) c) is h)
+    holds_each_turn_bare is h = holds_at_each_turn_into {held = steps_of_peekable_folds} bare_of_peekable_folds (λ p x q step. (step, refl)) (subst (λ (o : Option (Option A)). HoldsAtEachTurn steps_of_peekable_folds on P (with_held o) c) is h)
 
     -- and at a held item
     pub item_takes : (x : A) → s.held ≡ Some (Some x) → HoldsAtEachTurn steps_of_peekable_folds on P s c → P c x
@@ -52,4 +52,4 @@ module _ {S A E : Type 0} (m : Contract S A E) (s : Peekable S A E) where
 
     -- and, after that item, at each of the source
     pub holds_each_turn_item : {d : C} (x : A) → s.held ≡ Some (Some x) → on c x d → HoldsAtEachTurn steps_of_peekable_folds on P s c → HoldsAtEachTurn m.steps on P s.it d
-    holds_each_turn_item x is turn h = holds_into {held = steps_of_peekable_folds} bare_of_peekable_folds (λ p x q step. (step, refl)) (holds_each_turn_after {t = bare_of_peekable_folds s.it} (subst (λ (o : Option (Option A)). HoldsAtEachTurn steps_of_peekable_folds on P (with_held o) c) is h) (refl, refl, refl) turn)
+    holds_each_turn_item x is turn h = holds_at_each_turn_into {held = steps_of_peekable_folds} bare_of_peekable_folds (λ p x q step. (step, refl)) (holds_each_turn_after {t = bare_of_peekable_folds s.it} (subst (λ (o : Option (Option A)). HoldsAtEachTurn steps_of_peekable_folds on P (with_held o) c) is h) (refl, refl, refl) turn)

@@ -7,7 +7,7 @@ use Rattle.fallible_contract.specs.Traces.{Answered, item}
 use Rattle.fallible_contract.specs.Contract.{Contract, seen_as}
 use Rattle.fallible_contract.specs.Lists.{AlwaysGives, Lists, nth_of}
 use Rattle.fallible_contract.proofs.Lemmas.Lists.Passing.{lists_seen}
-use Rattle.fallible_core.specs.Peeking.Peekable.{peekable_parts, peekable_step, peekable_contract, Peeks, Looks, LooksAt, LooksAs, TakenIf, NextIf, looked_ahead, look_of, first_if, rest_if}
+use Rattle.fallible_core.specs.Peeking.Peekable.{peekable_parts, peekable_step, peekable_contract, Peeks, Looks, LooksAt, LooksAs, TakenIf, NextIf, rest_look, look_of, first_if, rest_if}
 use Rattle.fallible_core.specs.declared.peeking.peekable.Peekable.{Peekable}
 
 -- what is listed of a value is listed of its parts
@@ -27,8 +27,8 @@ module _ {S A E : Type 0} (steps : S → Answered A E → S → Type 0) where
   always_gives_item_held t y l a = λ r q w. (w.0, subst (λ (u : S). AlwaysGives StepOfPeekableLists (u, q.1) l) (sym w.1) (subst (λ (k : Option (Option A)). AlwaysGives StepOfPeekableLists (t, k) l) (sym w.2) a))
 
   -- a peek returns the first of the list, and leaves the list but for a failure
-  nth_of_0_of_peek : (p q : S × Option (Option A)) (r : Answered A E) (l : List (Result A E)) → AlwaysGives StepOfPeekableLists p l → Peeks steps p r q → (r ≡ nth_of 0 l) × AlwaysGives StepOfPeekableLists q (looked_ahead l)
-  unfolding nth_of looked_ahead
+  nth_of_0_of_peek : (p q : S × Option (Option A)) (r : Answered A E) (l : List (Result A E)) → AlwaysGives StepOfPeekableLists p l → Peeks steps p r q → (r ≡ nth_of 0 l) × AlwaysGives StepOfPeekableLists q (rest_look l)
+  unfolding nth_of rest_look
   nth_of_0_of_peek (s, Some o) (t, k) r [] a w = (w.0 ∙ a (Ok o) (s, None) (refl, refl, refl), subst (λ (u : S). AlwaysGives {A = A} StepOfPeekableLists (u, k) []) (sym w.1) (subst (λ (h : Option (Option A)). AlwaysGives {A = A} StepOfPeekableLists (s, h) []) (sym w.2) a))
   nth_of_0_of_peek (s, Some o) (t, k) r (Ok y ∷ l) a w = (w.0 ∙ (a (Ok o) (s, None) (refl, refl, refl)).0, subst (λ (u : S). AlwaysGives StepOfPeekableLists (u, k) (Ok y ∷ l)) (sym w.1) (subst (λ (h : Option (Option A)). AlwaysGives StepOfPeekableLists (s, h) (Ok y ∷ l)) (sym w.2) a))
   nth_of_0_of_peek (s, Some o) (t, k) r (Err e ∷ l) a w = absurd (let h = (a (Ok o) (s, None) (refl, refl, refl)).0 in cc)
@@ -55,8 +55,8 @@ module _ {S A E : Type 0} (steps : S → Answered A E → S → Type 0) where
   look_of_of_look g f h acts (Err e) r (Err y ∷ l) is w = w ∙ ap (λ (d : E). Err d) (let same : e ≡ y = cc in same)
 
   -- a test by a function, and what it takes
-  first_if_of_next_if : (test : A → Bool → Type 0) (h : A → Bool) → ((x : A) (b : Bool) → test x b → b ≡ h x) → (a r : Answered A E) (p q : S × Option (Option A)) (l : List (Result A E)) → a ≡ nth_of 0 l → AlwaysGives StepOfPeekableLists p (looked_ahead l) → TakenIf steps test p a r q → (r ≡ first_if h l) × AlwaysGives StepOfPeekableLists q (rest_if h l)
-  unfolding nth_of looked_ahead first_if rest_if
+  first_if_of_next_if : (test : A → Bool → Type 0) (h : A → Bool) → ((x : A) (b : Bool) → test x b → b ≡ h x) → (a r : Answered A E) (p q : S × Option (Option A)) (l : List (Result A E)) → a ≡ nth_of 0 l → AlwaysGives StepOfPeekableLists p (rest_look l) → TakenIf steps test p a r q → (r ≡ first_if h l) × AlwaysGives StepOfPeekableLists q (rest_if h l)
+  unfolding nth_of rest_look first_if rest_if
   first_if_of_next_if test h acts (Ok (Some x)) r p q [] is given w = absurd cc
   first_if_of_next_if test h acts (Ok None) r p q [] is given w = (w.0, subst (λ (z : S × Option (Option A)). AlwaysGives {A = A} StepOfPeekableLists z []) (sym w.1) given)
   first_if_of_next_if test h acts (Err e) r p q [] is given w = absurd cc
@@ -74,10 +74,10 @@ module _ {S A E : Type 0} (m : Contract S A E) (s t : Peekable S A E) (l : List 
   always_gives_of_lists : AlwaysGives (peekable_step m.steps) (peekable_parts s) l
   always_gives_of_lists = always_gives_parts peekable_parts (λ p. record { it = p.0; held = p.1 }) (λ p. refl) (peekable_step m.steps) l s i.runs
 
-  pub peek_listed : {r : Answered A E} → Peeks m.steps (peekable_parts s) r (peekable_parts t) → (r ≡ nth_of 0 l) × Lists (seen_as peekable_parts (peekable_contract m)).steps t (looked_ahead l)
+  pub peek_listed : {r : Answered A E} → Peeks m.steps (peekable_parts s) r (peekable_parts t) → (r ≡ nth_of 0 l) × Lists (seen_as peekable_parts (peekable_contract m)).steps t (rest_look l)
   peek_listed {r = r} w = let d = nth_of_0_of_peek m.steps (peekable_parts s) (peekable_parts t) r l always_gives_of_lists w in (d.0, lists_seen peekable_parts (peekable_step m.steps) t refl refl d.1)
 
-  pub look_listed : {F R : Type 0} {g : Shared F (Bor A × Unit {0}) R} {f : F} {r : Result (Option R) E} (h : A → R) → LooksAs g f h → Looks m.steps g f (peekable_parts s) r (peekable_parts t) → (r ≡ look_of h l) × Lists (seen_as peekable_parts (peekable_contract m)).steps t (looked_ahead l)
+  pub look_listed : {F R : Type 0} {g : Shared F (Bor A × Unit {0}) R} {f : F} {r : Result (Option R) E} (h : A → R) → LooksAs g f h → Looks m.steps g f (peekable_parts s) r (peekable_parts t) → (r ≡ look_of h l) × Lists (seen_as peekable_parts (peekable_contract m)).steps t (rest_look l)
   look_listed {g = g} {f = f} {r = r} h acts w = let d = peek_listed w.1 in (look_of_of_look m.steps g f h acts w.0 r l d.0 w.2, d.1)
 
   pub next_if_listed : {test : A → Bool → Type 0} {r : Answered A E} (h : A → Bool) → ((x : A) (b : Bool) → test x b → b ≡ h x) → NextIf m.steps test (peekable_parts s) r (peekable_parts t) → (r ≡ first_if h l) × Lists (seen_as peekable_parts (peekable_contract m)).steps t (rest_if h l)

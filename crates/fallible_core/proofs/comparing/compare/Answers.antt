@@ -15,13 +15,13 @@ pub returns-in-Err : goal.returns-in-Err
 returns-in-Err g c = c.loop-x.invariant.whole _ (compare_draws_left_failure _ _ c.in-Err.ensures)
 
 pub returns-in-Err-next : goal.returns-in-Err-next
-returns-in-Err-next g c = c.loop-x.invariant.whole _ (compare_draws_round _ _ _ _ c.in-Ok.ensures c.in-Err-next.ensures (last_round_right_failure g.K.Rule.rule c.in-Ok.x c.in-Err-next.e))
+returns-in-Err-next g c = c.loop-x.invariant.whole _ (compare_draws_round _ _ _ _ c.in-Ok.ensures c.in-Err-next.ensures (last_round_right_failure g.K.Comparison.rule c.in-Ok.x c.in-Err-next.e))
 
 pub returns-in-Some : goal.returns-in-Some
-returns-in-Some g c = c.loop-x.invariant.whole _ (compare_draws_round _ _ (Ok c.in-Ok.x) (Ok c.in-Ok-next.y) c.in-Ok.ensures c.in-Ok-next.ensures (last_round_decided g.K.Rule.rule _ c.in-Ok.x c.in-Ok-next.y c.in-Some.order (sym c.decide.ensures ∙ c.in-Some.is)))
+returns-in-Some g c = c.loop-x.invariant.whole _ (compare_draws_round _ _ (Ok c.in-Ok.x) (Ok c.in-Ok-next.y) c.in-Ok.ensures c.in-Ok-next.ensures (last_round_decided g.K.Comparison.rule _ c.in-Ok.x c.in-Ok-next.y c.in-Some.order (sym c.decide.ensures ∙ c.in-Some.is)))
 
 pub loop-x-preserved : goal.loop-x-preserved
-loop-x-preserved g c = let equal = round_goes_on g.K.Rule.rule c.in-Ok.x c.in-Ok-next.y (sym c.decide.ensures ∙ c.in-None.is) in
+loop-x-preserved g c = let equal = round_goes_on g.K.Comparison.rule c.in-Ok.x c.in-Ok-next.y (sym c.decide.ensures ∙ c.in-None.is) in
     let step = rw equal.2 at c.in-Ok.ensures in let next = rw equal.3 at c.in-Ok-next.ensures in
     let goes = g.met.L.FallibleIterator.lawful.kept_by_draw _ _ _ c.loop-x.invariant.can_left step in
     let went = g.met.R.FallibleIterator.lawful.kept_by_draw _ _ _ c.loop-x.invariant.can_right next in record {

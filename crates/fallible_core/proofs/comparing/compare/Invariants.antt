@@ -8,7 +8,7 @@ invariant-loop-x g l = let m = g.L.FallibleIterator.contract in let o = g.R.Fall
   can_left : m.can_next l.both.left;
   can_right : o.can_next l.both.right;
   bounded : EitherAtMost m o l.both.left l.both.right l.count.value;
-  whole : (r : _) → CompareDraws g.K.Rule.rule m.steps o.steps l.both.left l.both.right r → CompareDraws g.K.Rule.rule m.steps o.steps l.fn.left l.fn.right r;
+  whole : (r : _) → CompareDraws g.K.Comparison.rule m.steps o.steps l.both.left l.both.right r → CompareDraws g.K.Comparison.rule m.steps o.steps l.fn.left l.fn.right r;
 }
 
 abbrev pub decreases-loop-x : goal.decreases-loop-x

@@ -120,8 +120,8 @@ module _ {S A E : Type 0} (steps : S → Answered A E → S → Type 0) where
 
   one_of_one_by_steps : (between : ℕ) → OneOfOne (step_by_step steps) (leaves_one steps between) (λ p. (p.0, (p.1).1)) (λ p. (p.1).0 ≡ between)
   one_of_one_by_steps between = record {
-    item_drawn = λ p q x e w. let d = steps_of_step_by_trace steps {p = p} {q = q} w in (x, subst (λ (b : ℕ). Leaves steps b (p.1).1 p.0 (item x ∷ []) q.0 (q.1).1) e d.0, d.1 ∙ e);
-    end_drawn = λ p q e w. let d = steps_of_step_by_trace steps {p = p} {q = q} w in subst (λ (b : ℕ). Leaves steps b (p.1).1 p.0 (end ∷ []) q.0 (q.1).1) e d.0;
+    item_of_item = λ p q x e w. let d = steps_of_step_by_trace steps {p = p} {q = q} w in (x, subst (λ (b : ℕ). Leaves steps b (p.1).1 p.0 (item x ∷ []) q.0 (q.1).1) e d.0, d.1 ∙ e);
+    end_of_end = λ p q e w. let d = steps_of_step_by_trace steps {p = p} {q = q} w in subst (λ (b : ℕ). Leaves steps b (p.1).1 p.0 (end ∷ []) q.0 (q.1).1) e d.0;
   }
 
   pub brackets_step : (p : S × (ℕ × ℕ)) (k : ℕ × Option ℕ) → Brackets steps p.0 k → Brackets (step_by_step steps) p (hint_kept (p.1).0 (p.1).1 k)

@@ -48,7 +48,7 @@ module _ {S A E : Type 0} (steps : S → Answered A E → S → Type 0) where
   fused_end (s, false) q e w = subst (λ (r : Answered A E). steps s r q.0) (sym w.2) w.1
 
   pub one_of_one_fuse : OneOfOne fuse_step steps (λ p. p.0) (λ p. p.1 ≡ false)
-  one_of_one_fuse = record { item_drawn = λ p q x e w. fused_item p q x e w; end_drawn = λ p q e w. fused_end p q e w }
+  one_of_one_fuse = record { item_of_item = λ p q x e w. fused_item p q x e w; end_of_end = λ p q e w. fused_end p q e w }
 
 -- ---- `TakeWhile`
 
@@ -68,7 +68,7 @@ module _ {S F X E : Type 0} (steps : S → Answered X E → S → Type 0) (call 
   taken_item (p, false) q y e w = let d = accepted_is_item w.0 y w.2 in (d.0 ∷ [], ((q.0).0, subst (λ (r : Answered X E). steps p.0 r (q.0).0) d.1 w.1.0, refl), omega arith, w.3 ∙ d.2)
 
   pub items_of_items_take_while : ItemsOfItems take_while_step steps (λ p. (p.0).0) (λ p. p.1 ≡ false)
-  items_of_items_take_while = record { drawn = λ p q y e w. taken_item p q y e w }
+  items_of_items_take_while = record { items_of_item = λ p q y e w. taken_item p q y e w }
 
 -- ---- `Take`
 

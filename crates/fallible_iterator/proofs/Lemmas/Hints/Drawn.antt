@@ -75,8 +75,8 @@ module _ {V P A E : Type 0} (view : V → P) (steps : V → Answered A E → V �
     below = λ xs t u ran step. b.below xs (view t) (view u) (yields_within xs s t ran) (each t end u step);
   }
 
-  pub as_sound_within : (s : V) (h : ℕ × Option ℕ) → AsSound steps s h others (view s) h
-  as_sound_within s h = as_sound steps others s (view s) (λ n. n) (λ o. o) (λ k b. brackets_within s k b) h h refl
+  pub as_sound_of_steps_within : (s : V) (h : ℕ × Option ℕ) → AsSound steps s h others (view s) h
+  as_sound_of_steps_within s h = as_sound steps others s (view s) (λ n. n) (λ o. o) (λ k b. brackets_within s k b) h h refl
 
 module _ {V P A E : Type 0} (view : V → P) (steps : P → Answered A E → P → Type 0) where
   abbrev seen_step : V → Answered A E → V → Type 0
@@ -102,7 +102,7 @@ module _ {V P A E : Type 0} (view : V → P) (steps : P → Answered A E → P �
 module _ {S T A B E D : Type 0} (steps : S → Answered A E → S → Type 0) (source : T → Answered B D → T → Type 0) (view : S → T) (P : S → Type 0) where
   -- Where P holds of a value an item of it comes of items of its source, one at least, and P holds of what is left.
   pub record ItemsOfItems : Type 0 where
-    pub drawn : (s t : S) (x : A) → P s → steps s (item x) t → (ys : List B) × Yields source (view s) ys (view t) × (1 ≤ length ys) × P t
+    pub items_of_item : (s t : S) (x : A) → P s → steps s (item x) t → (ys : List B) × Yields source (view s) ys (view t) × (1 ≤ length ys) × P t
 
   -- Where P holds of a value an item of it comes of one item of its source, and P holds of what is left.
   abbrev pub ItemOfItem : Type 0
@@ -110,13 +110,13 @@ module _ {S T A B E D : Type 0} (steps : S → Answered A E → S → Type 0) (s
 
   -- The same, and an end of it comes of an end.
   pub record OneOfOne : Type 0 where
-    pub item_drawn : ItemOfItem
-    pub end_drawn : (s t : S) → P s → steps s end t → source (view s) end (view t)
+    pub item_of_item : ItemOfItem
+    pub end_of_end : (s t : S) → P s → steps s end t → source (view s) end (view t)
 
   yields_at_least : ItemsOfItems → (xs : List A) (s t : S) → P s → Yields steps s xs t → (ys : List B) × Yields source (view s) ys (view t) × (length xs ≤ length ys)
   yields_at_least f [] s t p e = ([], ap view e, omega arith)
   yields_at_least f (x ∷ xs) s t p ran =
-      let d = f.drawn s ran.0 x p ran.1 in
+      let d = f.items_of_item s ran.0 x p ran.1 in
       let rest = yields_at_least f xs ran.0 t d.3 ran.2 in
       (d.0 ++ rest.0, yields_after source d.0 rest.0 (view s) (view ran.0) (view t) d.1 rest.1, omega (arith, length-append d.0 rest.0, d.2, rest.2))
 
@@ -141,8 +141,8 @@ module _ {S T A B E D : Type 0} (steps : S → Answered A E → S → Type 0) (s
   -- the source's hint is one of the value
   pub brackets_same : OneOfOne → (s : S) → P s → (h : ℕ × Option ℕ) → Brackets source (view s) h → Brackets steps s h
   brackets_same f s p h b = record {
-    above = λ xs t ran. let d = yields_as_many f.item_drawn xs s t p ran in if_some_no_greater h.1 (length xs) (length d.0) (omega (arith, d.2)) (b.above d.0 (view t) d.1);
-    below = λ xs t u ran step. let d = yields_as_many f.item_drawn xs s t p ran in let le = b.below d.0 (view t) (view u) d.1 (f.end_drawn t u d.3 step) in omega (arith, d.2, le);
+    above = λ xs t ran. let d = yields_as_many f.item_of_item xs s t p ran in if_some_no_greater h.1 (length xs) (length d.0) (omega (arith, d.2)) (b.above d.0 (view t) d.1);
+    below = λ xs t u ran step. let d = yields_as_many f.item_of_item xs s t p ran in let le = b.below d.0 (view t) (view u) d.1 (f.end_of_end t u d.3 step) in omega (arith, d.2, le);
   }
 
   pub as_sound_same : OneOfOne → (s : S) → P s → (h : ℕ × Option ℕ) → AsSound steps s h source (view s) h

@@ -17,4 +17,4 @@ module _ {S F X D E : Type 0} (steps : S → Answered X D → S → Type 0) (cal
 
   -- an item comes of an item, and an end of an end
   pub one_of_one_failing : OneOfOne (failing_step steps call) steps (λ p. p.0) (λ p. ⊤)
-  one_of_one_failing = record { item_drawn = λ p q x _ step. (x, source_step_of_failing_step p q (Some x) step, tt); end_drawn = λ p q _ step. source_step_of_failing_step p q None step }
+  one_of_one_failing = record { item_of_item = λ p q x _ step. (x, source_step_of_failing_step p q (Some x) step, tt); end_of_end = λ p q _ step. source_step_of_failing_step p q None step }

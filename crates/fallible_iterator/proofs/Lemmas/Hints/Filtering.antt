@@ -33,4 +33,4 @@ module _ {S F X E : Type 0} (steps : S → Answered X E → S → Type 0) (call 
 
   -- once the predicate has returned false
   pub one_of_one_skip_while : OneOfOne skipped_step steps (λ p. p.0) (λ p. (p.1).0 ≡ true)
-  one_of_one_skip_while = record { item_drawn = λ p q x e w. let d = item_after_false p q (item x) e w in (x, d.0, d.1); end_drawn = λ p q e w. (item_after_false p q end e w).0 }
+  one_of_one_skip_while = record { item_of_item = λ p q x e w. let d = item_after_false p q (item x) e w in (x, d.0, d.1); end_of_end = λ p q e w. (item_after_false p q end e w).0 }

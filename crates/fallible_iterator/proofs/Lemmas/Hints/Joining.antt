@@ -49,7 +49,7 @@ module _ {S U A E : Type 0} (steps : S → Answered A E → S → Type 0) (other
   first_item (s, u, SecondAlone) q r e w = absurd cc
 
   pub one_of_one_first : OneOfOne chained_step steps (λ p. p.0) (λ p. p.2 ≡ FirstAlone)
-  one_of_one_first = record { item_drawn = λ p q x e w. let d = first_item p q (item x) e w in (x, d.0, d.1); end_drawn = λ p q e w. (first_item p q end e w).0 }
+  one_of_one_first = record { item_of_item = λ p q x e w. let d = first_item p q (item x) e w in (x, d.0, d.1); end_of_end = λ p q e w. (first_item p q end e w).0 }
 
   second_item : (p q : S × U × StillDrawn) (r : Answered A E) → p.2 ≡ SecondAlone → chained_step p r q → others p.1 r q.1 × (q.2 ≡ SecondAlone)
   second_item (s, u, Both) q r e w = absurd cc
@@ -57,7 +57,7 @@ module _ {S U A E : Type 0} (steps : S → Answered A E → S → Type 0) (other
   second_item (s, u, SecondAlone) q r e w = (w.0, w.2)
 
   pub one_of_one_second : OneOfOne chained_step others (λ p. p.1) (λ p. p.2 ≡ SecondAlone)
-  one_of_one_second = record { item_drawn = λ p q x e w. let d = second_item p q (item x) e w in (x, d.0, d.1); end_drawn = λ p q e w. (second_item p q end e w).0 }
+  one_of_one_second = record { item_of_item = λ p q x e w. let d = second_item p q (item x) e w in (x, d.0, d.1); end_of_end = λ p q e w. (second_item p q end e w).0 }
 
   -- the first stays as it is once its end was met
   first_stays_in_second_alone : (xs : List A) (p q : S × U × StillDrawn) → p.2 ≡ SecondAlone → Yields chained_step p xs q → q.0 ≡ p.0
@@ -95,7 +95,7 @@ module _ {S U A E : Type 0} (steps : S → Answered A E → S → Type 0) (other
   in_front_or_in_back_of_run (x ∷ xs) (s, u, Both) q e ran = elim ran.1 [
     | inl d ↦ in_front_or_in_back x s ran.0.0 u (length xs) q d.0 (subst (λ (v : U). InFront ran.0.0 v (length xs) q ⊎ InBack ran.0.0 v (length xs) q) d.2 (in_front_or_in_back_of_run xs ran.0 q d.3 ran.2))
     | inr d ↦
-        let rest = yields_as_many chained_step others (λ p. p.1) (λ p. p.2 ≡ SecondAlone) one_of_one_second.item_drawn xs ran.0 q d.2 ran.2 in
+        let rest = yields_as_many chained_step others (λ p. p.1) (λ p. p.2 ≡ SecondAlone) one_of_one_second.item_of_item xs ran.0 q d.2 ran.2 in
         let stays : q.0 ≡ ran.0.0 = first_stays_in_second_alone xs ran.0 q d.2 ran.2 in
         inr (record { of_first = []; of_second = x ∷ rest.0; after = s; ran = refl; ended = subst (λ (t : S). steps s end t) (sym stays) d.0; ran_second = (ran.0.1, d.1, rest.1); many = omega (arith, rest.2); second = rest.3 })
   ]

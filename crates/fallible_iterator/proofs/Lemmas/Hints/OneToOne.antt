@@ -21,6 +21,6 @@ module _ {S A E : Type 0} (steps : S → Answered A E → S → Type 0) where
 
   pub one_of_one_enumerate : OneOfOne enumerate_step steps (λ p. p.0) (λ p. ⊤)
   one_of_one_enumerate = record {
-    item_drawn = λ p q y _ step. let d = numbered_of_item p.0 q.0 p.1 q.1 y (numbered_of_trace steps p.0 q.0 p.1 q.1 (item y ∷ []) step) in (d.0, d.1, tt);
-    end_drawn = λ p q _ step. numbered_of_end p.0 q.0 p.1 q.1 (numbered_of_trace steps p.0 q.0 p.1 q.1 (end ∷ []) step);
+    item_of_item = λ p q y _ step. let d = numbered_of_item p.0 q.0 p.1 q.1 y (numbered_of_trace steps p.0 q.0 p.1 q.1 (item y ∷ []) step) in (d.0, d.1, tt);
+    end_of_end = λ p q _ step. numbered_of_end p.0 q.0 p.1 q.1 (numbered_of_trace steps p.0 q.0 p.1 q.1 (end ∷ []) step);
   }

@@ -20,7 +20,7 @@ module _ {S F X R B E : Type 0} (steps : S → Answered X E → S → Type 0) (c
   item_of_items s t f g y (leaves_out {u = u} {h = h} x v step called is rest) = let d = item_of_items u t h g y rest in (x ∷ d.0, (u, step, d.1), omega (arith, d.2))
 
   pub items_of_items_passing : ItemsOfItems passing_step steps (λ p. p.0) (λ p. ⊤)
-  items_of_items_passing = record { drawn = λ p q y _ step. let d = item_of_items p.0 q.0 p.1 q.1 y (passes_of_pass_trace step) in (d.0, d.1, d.2, tt) }
+  items_of_items_passing = record { items_of_item = λ p q y _ step. let d = item_of_items p.0 q.0 p.1 q.1 y (passes_of_pass_trace step) in (d.0, d.1, d.2, tt) }
 
   module _ (leaves_none_out : LeavesNoneOut outcome) (never_ends : (x : X) (v : R) → outcome x v ≡ End → ⊥) where
     item_of_item : (s t : S) (f g : F) (y : B) → Passes steps call outcome s f (item y ∷ []) t g → (x : X) × steps s (item x) t
@@ -35,6 +35,6 @@ module _ {S F X R B E : Type 0} (steps : S → Answered X E → S → Type 0) (c
     -- where no answer leaves an item out or makes an end
     pub one_of_one_passing : OneOfOne passing_step steps (λ p. p.0) (λ p. ⊤)
     one_of_one_passing = record {
-      item_drawn = λ p q y _ step. let d = item_of_item p.0 q.0 p.1 q.1 y (passes_of_pass_trace step) in (d.0, d.1, tt);
-      end_drawn = λ p q _ step. end_of_end p.0 q.0 p.1 q.1 (passes_of_pass_trace step);
+      item_of_item = λ p q y _ step. let d = item_of_item p.0 q.0 p.1 q.1 y (passes_of_pass_trace step) in (d.0, d.1, tt);
+      end_of_end = λ p q _ step. end_of_end p.0 q.0 p.1 q.1 (passes_of_pass_trace step);
     }

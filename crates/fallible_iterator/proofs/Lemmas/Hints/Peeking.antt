@@ -18,7 +18,7 @@ module _ {S A E : Type 0} (steps : S → Answered A E → S → Type 0) where
 
   -- where nothing is held
   pub one_of_one_peekable : OneOfOne peeked_step steps (λ p. p.0) (λ p. p.1 ≡ None)
-  one_of_one_peekable = record { item_drawn = λ p q x e w. let d = peeked_item_of_source p q (item x) e w in (x, d.0, d.1); end_drawn = λ p q e w. (peeked_item_of_source p q end e w).0 }
+  one_of_one_peekable = record { item_of_item = λ p q x e w. let d = peeked_item_of_source p q (item x) e w in (x, d.0, d.1); end_of_end = λ p q e w. (peeked_item_of_source p q end e w).0 }
 
   held_end_gives_no_item : (p q : S × Option (Option A)) (x : A) → p.1 ≡ Some None → peeked_step p (item x) q → ⊥
   held_end_gives_no_item (s, None) q x e w = cc
@@ -33,7 +33,7 @@ module _ {S A E : Type 0} (steps : S → Answered A E → S → Type 0) where
   held_item_is_first : (xs : List A) (s : S) (y : A) (q : S × Option (Option A)) → Yields peeked_step (s, Some (Some y)) xs q → (length xs ≡ 0) ⊎ ((ys : List A) × Yields steps s ys q.0 × (length xs ≡ length ys + 1) × (q.1 ≡ None))
   held_item_is_first [] s y q ran = inl refl
   held_item_is_first (x ∷ xs) s y q ran =
-      let rest = yields_as_many peeked_step steps (λ p. p.0) (λ p. p.1 ≡ None) one_of_one_peekable.item_drawn xs ran.0 q ran.1.2 ran.2 in
+      let rest = yields_as_many peeked_step steps (λ p. p.0) (λ p. p.1 ≡ None) one_of_one_peekable.item_of_item xs ran.0 q ran.1.2 ran.2 in
       inr (rest.0, subst (λ (t : S). Yields steps t rest.0 q.0) ran.1.1 rest.1, omega (arith, rest.2), rest.3)
 
   if_some_one_more : (o u : Option ℕ) (n : ℕ) → MatchOption o (u ≡ None) (λ m. SomeIff u (m + 1 < 2 ^ 64) (m + 1)) → IfSome o (λ m. n ≤ m) → IfSome u (λ m. n + 1 ≤ m)

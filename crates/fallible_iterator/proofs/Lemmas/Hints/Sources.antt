@@ -100,15 +100,15 @@ module _ {A : Type 0} (E : Type 0) where
   abbrev once_step_here : Option A → Answered A E → Option A → Type 0
   once_step_here = once_step item
 
-  length_no_more_items : (xs : List A) (w : Option A) → Yields once_step_here None xs w → length xs ≤ 0
-  length_no_more_items [] w ran = omega arith
-  length_no_more_items (x ∷ xs) w ran = absurd (let d = ran.1.0 in cc)
+  once_used_yields_no_items : (xs : List A) (w : Option A) → Yields once_step_here None xs w → length xs ≤ 0
+  once_used_yields_no_items [] w ran = omega arith
+  once_used_yields_no_items (x ∷ xs) w ran = absurd (let d = ran.1.0 in cc)
 
   -- what an item leaves yields no other
   length_at_most_held : (xs : List A) (v w : Option A) → Yields once_step_here v xs w → length xs ≤ held_count v
-  length_at_most_held xs None w ran = length_no_more_items xs w ran
+  length_at_most_held xs None w ran = once_used_yields_no_items xs w ran
   length_at_most_held [] (Some y) w ran = omega arith
-  length_at_most_held (x ∷ xs) (Some y) w ran = let le = length_no_more_items xs w (subst (λ (u : Option A). Yields once_step_here u xs w) ran.1.1 ran.2) in omega (arith, le)
+  length_at_most_held (x ∷ xs) (Some y) w ran = let le = once_used_yields_no_items xs w (subst (λ (u : Option A). Yields once_step_here u xs w) ran.1.1 ran.2) in omega (arith, le)
 
   held_count_at_most : (xs : List A) (v w z : Option A) → Yields once_step_here v xs w → once_step_here w end z → held_count v ≤ length xs
   held_count_at_most xs None w z ran step = omega arith

@@ -17,10 +17,10 @@ use Rattle.fallible_iterator.proofs.Lemmas.Sources.Std.{gives_read, runs_read_ba
 use Rattle.fallible_contract.proofs.Lemmas.BothEnds.Passing.{map-reverse}
 use Rattle.fallible_iterator.specs.declared.sources.convert.Convert.{Convert}
 
-pub map_is_results : {A E : Type 0} (l : List (Result A E)) → map (λ y. y) l ≡ results l
+pub map_id_is_results : {A E : Type 0} (l : List (Result A E)) → map (λ y. y) l ≡ results l
 unfolding results
-map_is_results [] = refl
-map_is_results (y ∷ l) = ap (λ t. y ∷ t) (map_is_results l)
+map_id_is_results [] = refl
+map_id_is_results (y ∷ l) = ap (λ t. y ∷ t) (map_id_is_results l)
 
 pub map_is_items : {A E : Type 0} (l : List A) → map (λ x. Ok x) l ≡ items {E = E} l
 unfolding items
@@ -56,7 +56,7 @@ module _ {A E : Type 0} where
 
 module _ {S A E : Type 0} (can : S → Type 0) (gives : S → Option (Result A E) → S → Type 0) (remaining : S → Count) (s : Convert S) where
   pub lists_results : (l : List (Result A E)) → RunsRead gives (λ y. y) s.it l → Lists (seen_as convert_parts (convert_contract can gives remaining)).steps s (results l)
-  lists_results l reads = lists_seen convert_parts (convert_contract can gives remaining).steps s refl (map_is_results l) (gives_read Ok Err can gives remaining (λ y. y) (λ y. y) answer_of_first_result l s.it reads)
+  lists_results l reads = lists_seen convert_parts (convert_contract can gives remaining).steps s refl (map_id_is_results l) (gives_read Ok Err can gives remaining (λ y. y) (λ y. y) answer_of_first_result l s.it reads)
 
   pub lists_items : (l : List A) → RunsRead gives Ok s.it l → Lists (seen_as convert_parts (convert_contract can gives remaining)).steps s (items l)
   lists_items l reads = lists_seen convert_parts (convert_contract can gives remaining).steps s refl (map_is_items l) (gives_read Ok Err can gives remaining (λ x. Ok x) (λ x. Ok x) (λ r x. answer_of_first_result r (Ok x)) l s.it reads)

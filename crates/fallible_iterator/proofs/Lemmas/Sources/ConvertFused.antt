@@ -1,4 +1,4 @@
--- `convert` of a std iterator's `fuse` lists for good: after the first `None` each answer is one.
+-- `convert` of a std iterator's `fuse` is fused: after the first `None` each call returns one.
 use Rattle.std.specs.Prelude.{◌≡◌, Bool, true, false, MatchBool, MatchOption, Option, Some, None, Result, Ok, Err, List, [], ◌∷◌, map}
 use Rattle.std.specs.Iterator.{Count}
 use Rattle.std.proofs.Common.{sym, ap, subst}
@@ -9,7 +9,7 @@ use Rattle.fallible_contract.proofs.Lemmas.Lists.ForGood.{lists_for_good_seen}
 use Rattle.fallible_iterator.specs.Sources.Std.{std_step, element_by}
 use Rattle.fallible_iterator.specs.Sources.Convert.{convert_parts, convert_contract}
 use Rattle.fallible_iterator.proofs.Lemmas.Sources.Std.{gives_read, result_of_call}
-use Rattle.fallible_iterator.proofs.Lemmas.Sources.Convert.{answer_of_first_result, none_converted, map_is_results, map_is_items}
+use Rattle.fallible_iterator.proofs.Lemmas.Sources.Convert.{answer_of_first_result, none_converted, map_id_is_results, map_is_items}
 use Rattle.fallible_iterator.specs.declared.sources.convert.Convert.{Convert}
 
 -- What a std `Fuse` yields, where `iter` is its iterator and `done` says that a `None` came: `fuse_steps` of std, whose struct can't be named here.
@@ -49,7 +49,7 @@ module _ {S V A E : Type 0} (iter : V → S) (done : V → Bool) (can : V → Ty
 
   module _ (s : Convert (V)) {it : V} (at : convert_parts s ≡ it) where
     pub lists_for_good_results : (l : List (Result A E)) → RunsRead GivesInConvertFused (λ y. y) it l → ListsForGood (seen_as convert_parts (convert_contract can GivesInConvertFused remaining)).steps s (results l)
-    lists_for_good_results l reads = lists_for_good_seen convert_parts (convert_contract can GivesInConvertFused remaining).steps s at (map_is_results l) (gives_for_good_read (λ y. y) (λ y. y) answer_of_first_result l it reads)
+    lists_for_good_results l reads = lists_for_good_seen convert_parts (convert_contract can GivesInConvertFused remaining).steps s at (map_id_is_results l) (gives_for_good_read (λ y. y) (λ y. y) answer_of_first_result l it reads)
 
     pub lists_for_good_items : (l : List A) → RunsRead GivesInConvertFused Ok it l → ListsForGood (seen_as convert_parts (convert_contract can GivesInConvertFused remaining)).steps s (items l)
     lists_for_good_items l reads = lists_for_good_seen convert_parts (convert_contract can GivesInConvertFused remaining).steps s at (map_is_items l) (gives_for_good_read Ok (λ x. Ok x) (λ r x e. answer_of_first_result r (Ok x) e) l it reads)

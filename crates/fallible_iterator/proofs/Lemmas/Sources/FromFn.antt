@@ -11,8 +11,8 @@ use Rattle.fallible_iterator.specs.Sources.FromFn.{from_fn_parts, from_fn_contra
 use Rattle.fallible_iterator.specs.declared.sources.from_fn.FromFn.{FromFn}
 
 module _ {F A E : Type 0} (g : Mut F (Unit {0}) (Answered A E)) where
-  pub lists_calls : (s : FromFn F) (l : List (Result A E)) → CallsGive (call_of_none g) s.fun l → Lists (seen_as from_fn_parts (from_fn_contract g)).steps s l
-  lists_calls s l a = lists_seen from_fn_parts (from_fn_contract g).steps s refl refl a
+  pub lists_from_fn : (s : FromFn F) (l : List (Result A E)) → CallsGive (call_of_none g) s.fun l → Lists (seen_as from_fn_parts (from_fn_contract g)).steps s l
+  lists_from_fn s l a = lists_seen from_fn_parts (from_fn_contract g).steps s refl refl a
 
   module _ (shows : F → List (Result A E)) (takes : CallsTakeShown (call_of_none g) shows) where
     calls_give_shown : (l : List (Result A E)) (f : F) → shows f ≡ l → CallsGive (call_of_none g) f l
@@ -20,4 +20,4 @@ module _ {F A E : Type 0} (g : Mut F (Unit {0}) (Answered A E)) where
     calls_give_shown (y ∷ l) f e = λ r h called. let d = subst (λ (k : List (Result A E)). TakesShown k r (shows h)) e (takes f r h called) in (d.0, calls_give_shown l h d.1)
 
     pub lists_shown_by : (s : FromFn F) → Lists (seen_as from_fn_parts (from_fn_contract g)).steps s (shows s.fun)
-    lists_shown_by s = lists_calls s (shows s.fun) (calls_give_shown (shows s.fun) s.fun refl)
+    lists_shown_by s = lists_from_fn s (shows s.fun) (calls_give_shown (shows s.fun) s.fun refl)

@@ -5,7 +5,7 @@ ghost use Rattle.fallible_core.specs.Cutting.Skip.{skip_source};
 ghost use Rattle.fallible_core.specs.Cutting.StepBy.{step_by_source};
 ghost use Rattle.fallible_core.specs.Cutting.Take.{take_source};
 ghost use Rattle.fallible_core.specs.Cutting.TakeWhile.{take_while_refused, take_while_source};
-ghost use Rattle.fallible_iterator.specs.SoundHints.{KeepsBrackets, SoundHints};
+ghost use Rattle.fallible_iterator.specs.SoundHints.{HintsAsSoundAs, SoundHints};
 
 use fallible_core::cutting::{Fuse, Skip, StepBy, Take, TakeWhile};
 use fallible_core::traits::FallibleIterator;
@@ -13,13 +13,13 @@ use fallible_core::traits::FallibleIterator;
 /// Each hint of `Take` is as sound as the hint of its source that it is made of.
 pub fn law_hints_take<I: FallibleIterator>()
     ensures { (s : Take I)
-        → KeepsBrackets ⟦<Take<I> as FallibleIterator>⟧.contract s I.contract (take_source s) }
+        → HintsAsSoundAs ⟦<Take<I> as FallibleIterator>⟧.contract s I.contract (take_source s) }
 {}
 
 /// Until the source returned `Ok(None)` each hint of `Fuse` is as sound as the source's; from then on each brackets what comes.
 pub fn law_hints_fuse<I: FallibleIterator>()
     ensures open { (s : Fuse I) → fuse_ended s ≡ false
-        → KeepsBrackets ⟦<Fuse<I> as FallibleIterator>⟧.contract s I.contract (fuse_source s) }
+        → HintsAsSoundAs ⟦<Fuse<I> as FallibleIterator>⟧.contract s I.contract (fuse_source s) }
     ensures closed { (s : Fuse I) → fuse_ended s ≡ true
         → SoundHints ⟦<Fuse<I> as FallibleIterator>⟧.contract s }
 {}
@@ -29,7 +29,7 @@ pub fn law_hints_take_while<I: FallibleIterator, P: FnMut(&I::Item) -> Result<bo
 where
     I::Item: Drop,
     ensures open { (s : TakeWhile I P) → take_while_refused s ≡ false
-        → KeepsBrackets ⟦<TakeWhile<I, P> as FallibleIterator>⟧.contract s I.contract
+        → HintsAsSoundAs ⟦<TakeWhile<I, P> as FallibleIterator>⟧.contract s I.contract
         (take_while_source s) }
     ensures closed { (s : TakeWhile I P) → take_while_refused s ≡ true
         → SoundHints ⟦<TakeWhile<I, P> as FallibleIterator>⟧.contract s }
@@ -40,7 +40,7 @@ pub fn law_hints_skip<I: FallibleIterator>()
 where
     I::Item: Drop,
     ensures { (s : Skip I)
-        → KeepsBrackets ⟦<Skip<I> as FallibleIterator>⟧.contract s I.contract (skip_source s) }
+        → HintsAsSoundAs ⟦<Skip<I> as FallibleIterator>⟧.contract s I.contract (skip_source s) }
 {}
 
 /// Each hint of `StepBy` is as sound as the hint of its source that it is made of.
@@ -48,6 +48,6 @@ pub fn law_hints_step_by<I: FallibleIterator>()
 where
     I::Item: Drop,
     ensures { (s : StepBy I)
-        → KeepsBrackets ⟦<StepBy<I> as FallibleIterator>⟧.contract s I.contract
+        → HintsAsSoundAs ⟦<StepBy<I> as FallibleIterator>⟧.contract s I.contract
         (step_by_source s) }
 {}

@@ -10,7 +10,7 @@ ghost use Rattle.fallible_core.specs.Filtering.Filter.{filter_source};
 ghost use Rattle.fallible_core.specs.Filtering.FilterMap.{filter_map_source};
 ghost use Rattle.fallible_core.specs.Joining.Chain.{chain_first, chain_second, chain_still_drawn};
 ghost use Rattle.fallible_core.specs.Ends.Rev.{rev_parts};
-ghost use Rattle.fallible_iterator.specs.SoundHints.{KeepsBrackets, KeepsBracketsOfBoth};
+ghost use Rattle.fallible_iterator.specs.SoundHints.{HintsAsSoundAs, KeepsBracketsOfBoth};
 ghost use Rattle.std.specs.declared.boxed.Box.{Box};
 ghost use Rattle.std.specs.declared.alloc.Global.{Global};
 ghost use Rattle.fallible_core.specs.declared.joining.chain.StillDrawn.TheVariants.{Both, FirstAlone, SecondAlone};
@@ -26,15 +26,15 @@ use std::alloc::AllocError;
 /// Each hint of a `&mut I` or a `Box<I>` is as sound as it is of the value that it points to; so also from the back.
 pub fn law_hints_borrowed<'a, I: FallibleIterator + 'a, D: DoubleEndedFallibleIterator + 'a>()
     ensures borrowed { (s : MutBor I)
-        → KeepsBrackets ⟦<&'a mut I as FallibleIterator>⟧.contract s I.contract s.now }
+        → HintsAsSoundAs ⟦<&'a mut I as FallibleIterator>⟧.contract s I.contract s.now }
     ensures boxed { (s : Box I Global)
-        → KeepsBrackets ⟦<Box<I> as FallibleIterator>⟧.contract s I.contract s.value }
+        → HintsAsSoundAs ⟦<Box<I> as FallibleIterator>⟧.contract s I.contract s.value }
     ensures back_borrowed { (s : MutBor D)
-        → KeepsBrackets (from_back ⟦<&'a mut D as FallibleIterator>⟧.contract
+        → HintsAsSoundAs (from_back ⟦<&'a mut D as FallibleIterator>⟧.contract
         ⟦<&'a mut D as DoubleEndedFallibleIterator>⟧.ends) s
         (from_back D.contract D.ends) s.now }
     ensures back_boxed { (s : Box D Global)
-        → KeepsBrackets (from_back ⟦<Box<D> as FallibleIterator>⟧.contract
+        → HintsAsSoundAs (from_back ⟦<Box<D> as FallibleIterator>⟧.contract
         ⟦<Box<D> as DoubleEndedFallibleIterator>⟧.ends) s
         (from_back D.contract D.ends) s.value }
 {}
@@ -42,10 +42,10 @@ pub fn law_hints_borrowed<'a, I: FallibleIterator + 'a, D: DoubleEndedFallibleIt
 /// Each hint of `Rev` is as sound as it is of its source from the back, and from the back as it is of its source.
 pub fn law_hints_rev<I: DoubleEndedFallibleIterator>()
     ensures front { (s : Rev I)
-        → KeepsBrackets ⟦<Rev<I> as FallibleIterator>⟧.contract s (from_back I.contract I.ends)
+        → HintsAsSoundAs ⟦<Rev<I> as FallibleIterator>⟧.contract s (from_back I.contract I.ends)
         (rev_parts s) }
     ensures back { (s : Rev I)
-        → KeepsBrackets (from_back ⟦<Rev<I> as FallibleIterator>⟧.contract
+        → HintsAsSoundAs (from_back ⟦<Rev<I> as FallibleIterator>⟧.contract
         ⟦<Rev<I> as DoubleEndedFallibleIterator>⟧.ends) s
         I.contract (rev_parts s) }
 {}
@@ -58,7 +58,7 @@ pub fn law_hints_back_map<
 >()
 where
     ensures { (s : Map I F)
-        → KeepsBrackets (from_back ⟦<Map<I, F> as FallibleIterator>⟧.contract
+        → HintsAsSoundAs (from_back ⟦<Map<I, F> as FallibleIterator>⟧.contract
         ⟦<Map<I, F> as DoubleEndedFallibleIterator>⟧.ends) s
         (from_back I.contract I.ends) (map_source s) }
 {}
@@ -71,7 +71,7 @@ pub fn law_hints_back_inspect<
 where
     I::Item: Drop,
     ensures { (s : Inspect I F)
-        → KeepsBrackets (from_back ⟦<Inspect<I, F> as FallibleIterator>⟧.contract
+        → HintsAsSoundAs (from_back ⟦<Inspect<I, F> as FallibleIterator>⟧.contract
         ⟦<Inspect<I, F> as DoubleEndedFallibleIterator>⟧.ends) s
         (from_back I.contract I.ends) (inspect_source s) }
 {}
@@ -80,7 +80,7 @@ where
 pub fn law_hints_back_map_err<I: DoubleEndedFallibleIterator, B, F: FnMut(I::Error) -> B>()
 where
     ensures { (s : MapErr I F)
-        → KeepsBrackets (from_back ⟦<MapErr<I, F> as FallibleIterator>⟧.contract
+        → HintsAsSoundAs (from_back ⟦<MapErr<I, F> as FallibleIterator>⟧.contract
         ⟦<MapErr<I, F> as DoubleEndedFallibleIterator>⟧.ends) s
         (from_back I.contract I.ends) (map_err_source s) }
 {}
@@ -90,7 +90,7 @@ pub fn law_hints_back_cloned<'a, T: Clone + 'a, I: DoubleEndedFallibleIterator<I
 where
     I::Error: From<AllocError>,
     ensures { (s : Cloned I)
-        → KeepsBrackets (from_back ⟦<Cloned<I> as FallibleIterator>⟧.contract
+        → HintsAsSoundAs (from_back ⟦<Cloned<I> as FallibleIterator>⟧.contract
         ⟦<Cloned<I> as DoubleEndedFallibleIterator>⟧.ends) s
         (from_back I.contract I.ends) (cloned_source s) }
 {}
@@ -103,7 +103,7 @@ pub fn law_hints_back_filter<
 where
     I::Item: Drop,
     ensures { (s : Filter I F)
-        → KeepsBrackets (from_back ⟦<Filter<I, F> as FallibleIterator>⟧.contract
+        → HintsAsSoundAs (from_back ⟦<Filter<I, F> as FallibleIterator>⟧.contract
         ⟦<Filter<I, F> as DoubleEndedFallibleIterator>⟧.ends) s
         (from_back I.contract I.ends) (filter_source s) }
 {}
@@ -116,7 +116,7 @@ pub fn law_hints_back_filter_map<
 >()
 where
     ensures { (s : FilterMap I F)
-        → KeepsBrackets (from_back ⟦<FilterMap<I, F> as FallibleIterator>⟧.contract
+        → HintsAsSoundAs (from_back ⟦<FilterMap<I, F> as FallibleIterator>⟧.contract
         ⟦<FilterMap<I, F> as DoubleEndedFallibleIterator>⟧.ends) s
         (from_back I.contract I.ends) (filter_map_source s) }
 {}
@@ -132,11 +132,11 @@ pub fn law_hints_back_chain<
         (from_back T.contract T.ends) (chain_first s) (from_back U.contract U.ends)
         (chain_second s) }
     ensures first_alone { (s : Chain T U) → chain_still_drawn s ≡ FirstAlone
-        → KeepsBrackets (from_back ⟦<Chain<T, U> as FallibleIterator>⟧.contract
+        → HintsAsSoundAs (from_back ⟦<Chain<T, U> as FallibleIterator>⟧.contract
         ⟦<Chain<T, U> as DoubleEndedFallibleIterator>⟧.ends) s
         (from_back T.contract T.ends) (chain_first s) }
     ensures second_alone { (s : Chain T U) → chain_still_drawn s ≡ SecondAlone
-        → KeepsBrackets (from_back ⟦<Chain<T, U> as FallibleIterator>⟧.contract
+        → HintsAsSoundAs (from_back ⟦<Chain<T, U> as FallibleIterator>⟧.contract
         ⟦<Chain<T, U> as DoubleEndedFallibleIterator>⟧.ends) s
         (from_back U.contract U.ends) (chain_second s) }
 {}

@@ -3,7 +3,7 @@ ghost use Rattle.std.specs.Prelude.{◌≡◌, Result, Option, true, false};
 ghost use Rattle.fallible_core.specs.Filtering.Filter.{filter_source};
 ghost use Rattle.fallible_core.specs.Filtering.FilterMap.{filter_map_source};
 ghost use Rattle.fallible_core.specs.Filtering.SkipWhile.{skip_while_source};
-ghost use Rattle.fallible_iterator.specs.SoundHints.{KeepsBrackets};
+ghost use Rattle.fallible_iterator.specs.SoundHints.{HintsAsSoundAs};
 
 use fallible_core::filtering::{Filter, FilterMap, SkipWhile};
 use fallible_core::traits::FallibleIterator;
@@ -13,7 +13,7 @@ pub fn law_hints_filter<I: FallibleIterator, F: FnMut(&I::Item) -> Result<bool, 
 where
     I::Item: Drop,
     ensures { (s : Filter I F)
-        → KeepsBrackets ⟦<Filter<I, F> as FallibleIterator>⟧.contract s I.contract
+        → HintsAsSoundAs ⟦<Filter<I, F> as FallibleIterator>⟧.contract s I.contract
         (filter_source s) }
 {}
 
@@ -25,7 +25,7 @@ pub fn law_hints_filter_map<
 >()
 where
     ensures { (s : FilterMap I F)
-        → KeepsBrackets ⟦<FilterMap<I, F> as FallibleIterator>⟧.contract s I.contract
+        → HintsAsSoundAs ⟦<FilterMap<I, F> as FallibleIterator>⟧.contract s I.contract
         (filter_map_source s) }
 {}
 
@@ -34,6 +34,6 @@ pub fn law_hints_skip_while<I: FallibleIterator, P: FnMut(&I::Item) -> Result<bo
 where
     I::Item: Drop,
     ensures { (s : SkipWhile I P)
-        → KeepsBrackets ⟦<SkipWhile<I, P> as FallibleIterator>⟧.contract s I.contract
+        → HintsAsSoundAs ⟦<SkipWhile<I, P> as FallibleIterator>⟧.contract s I.contract
         (skip_while_source s) }
 {}

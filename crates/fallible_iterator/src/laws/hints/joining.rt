@@ -3,7 +3,7 @@ ghost use Rattle.std.specs.Prelude.{◌≡◌, ℕ, Option, Result};
 ghost use Rattle.fallible_core.specs.Joining.Chain.{chain_first, chain_second, chain_still_drawn};
 ghost use Rattle.fallible_core.specs.Joining.Cycle.{cycle_kept};
 ghost use Rattle.fallible_core.specs.Joining.Zip.{zip_left, zip_right};
-ghost use Rattle.fallible_iterator.specs.SoundHints.{BoundsBelow, Brackets, KeepsBrackets, KeepsBracketsOfBoth, SoundHints};
+ghost use Rattle.fallible_iterator.specs.SoundHints.{BoundsBelow, Brackets, HintsAsSoundAs, KeepsBracketsOfBoth, SoundHints};
 ghost use Rattle.fallible_core.specs.declared.joining.chain.StillDrawn.TheVariants.{Both, FirstAlone, SecondAlone};
 
 use fallible_core::joining::{Chain, Cycle, FlatMap, Flatten, Zip};
@@ -17,10 +17,10 @@ pub fn law_hints_chain<T: FallibleIterator, U: FallibleIterator<Item = T::Item, 
         → KeepsBracketsOfBoth ⟦<Chain<T, U> as FallibleIterator>⟧.contract s T.contract
         (chain_first s) U.contract (chain_second s) }
     ensures first_alone { (s : Chain T U) → chain_still_drawn s ≡ FirstAlone
-        → KeepsBrackets ⟦<Chain<T, U> as FallibleIterator>⟧.contract s T.contract
+        → HintsAsSoundAs ⟦<Chain<T, U> as FallibleIterator>⟧.contract s T.contract
         (chain_first s) }
     ensures second_alone { (s : Chain T U) → chain_still_drawn s ≡ SecondAlone
-        → KeepsBrackets ⟦<Chain<T, U> as FallibleIterator>⟧.contract s U.contract
+        → HintsAsSoundAs ⟦<Chain<T, U> as FallibleIterator>⟧.contract s U.contract
         (chain_second s) }
 {}
 
@@ -60,5 +60,5 @@ where
         → Brackets ⟦<Cycle<I> as FallibleIterator>⟧.contract.steps s h) }
     ensures equal { (s : Cycle I)
         → ((c : I) → I.is_clone (cycle_kept s) c → c ≡ (cycle_kept s))
-        → KeepsBrackets ⟦<Cycle<I> as FallibleIterator>⟧.contract s I.contract (cycle_kept s) }
+        → HintsAsSoundAs ⟦<Cycle<I> as FallibleIterator>⟧.contract s I.contract (cycle_kept s) }
 {}

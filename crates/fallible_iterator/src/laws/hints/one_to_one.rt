@@ -7,7 +7,7 @@ ghost use Rattle.fallible_core.specs.OneToOne.Scan.{scan_source};
 ghost use Rattle.fallible_core.specs.OneToOne.Cloned.{cloned_source};
 ghost use Rattle.fallible_core.specs.OneToOne.MapErr.{map_err_source};
 ghost use Rattle.fallible_core.specs.OneToOne.Enumerate.{enumerate_source};
-ghost use Rattle.fallible_iterator.specs.SoundHints.{KeepsBrackets};
+ghost use Rattle.fallible_iterator.specs.SoundHints.{HintsAsSoundAs};
 
 use fallible_core::one_to_one::{Cloned, Enumerate, Inspect, Map, MapErr, MapWhile, Scan};
 use fallible_core::traits::FallibleIterator;
@@ -17,7 +17,7 @@ use std::alloc::AllocError;
 pub fn law_hints_map<I: FallibleIterator, B, F: FnMut(I::Item) -> Result<B, I::Error>>()
 where
     ensures { (s : Map I F)
-        → KeepsBrackets ⟦<Map<I, F> as FallibleIterator>⟧.contract s I.contract (map_source s) }
+        → HintsAsSoundAs ⟦<Map<I, F> as FallibleIterator>⟧.contract s I.contract (map_source s) }
 {}
 
 /// Each hint of `Inspect` is as sound as the hint of its source that it is made of.
@@ -25,7 +25,7 @@ pub fn law_hints_inspect<I: FallibleIterator, F: FnMut(&I::Item) -> Result<(), I
 where
     I::Item: Drop,
     ensures { (s : Inspect I F)
-        → KeepsBrackets ⟦<Inspect<I, F> as FallibleIterator>⟧.contract s I.contract
+        → HintsAsSoundAs ⟦<Inspect<I, F> as FallibleIterator>⟧.contract s I.contract
         (inspect_source s) }
 {}
 
@@ -33,7 +33,7 @@ where
 pub fn law_hints_map_err<I: FallibleIterator, B, F: FnMut(I::Error) -> B>()
 where
     ensures { (s : MapErr I F)
-        → KeepsBrackets ⟦<MapErr<I, F> as FallibleIterator>⟧.contract s I.contract
+        → HintsAsSoundAs ⟦<MapErr<I, F> as FallibleIterator>⟧.contract s I.contract
         (map_err_source s) }
 {}
 
@@ -42,7 +42,7 @@ pub fn law_hints_enumerate<I: FallibleIterator>()
 where
     I::Item: Drop,
     ensures { (s : Enumerate I)
-        → KeepsBrackets ⟦<Enumerate<I> as FallibleIterator>⟧.contract s I.contract
+        → HintsAsSoundAs ⟦<Enumerate<I> as FallibleIterator>⟧.contract s I.contract
         (enumerate_source s) }
 {}
 
@@ -54,7 +54,7 @@ pub fn law_hints_map_while<
 >()
 where
     ensures { (s : MapWhile I F)
-        → KeepsBrackets ⟦<MapWhile<I, F> as FallibleIterator>⟧.contract s I.contract
+        → HintsAsSoundAs ⟦<MapWhile<I, F> as FallibleIterator>⟧.contract s I.contract
         (map_while_source s) }
 {}
 
@@ -67,7 +67,7 @@ pub fn law_hints_scan<
 >()
 where
     ensures { (s : Scan I St F)
-        → KeepsBrackets ⟦<Scan<I, St, F> as FallibleIterator>⟧.contract s I.contract
+        → HintsAsSoundAs ⟦<Scan<I, St, F> as FallibleIterator>⟧.contract s I.contract
         (scan_source s) }
 {}
 
@@ -76,5 +76,5 @@ pub fn law_hints_cloned<'a, T: Clone + 'a, I: FallibleIterator<Item = &'a T>>()
 where
     I::Error: From<AllocError>,
     ensures { (s : Cloned I)
-        → KeepsBrackets ⟦<Cloned<I> as FallibleIterator>⟧.contract s I.contract (cloned_source s) }
+        → HintsAsSoundAs ⟦<Cloned<I> as FallibleIterator>⟧.contract s I.contract (cloned_source s) }
 {}

@@ -1,7 +1,7 @@
 // The hints of the adapter that looks ahead.
 ghost use Rattle.std.specs.Prelude.{◌≡◌, Some, None};
 ghost use Rattle.fallible_core.specs.Peeking.Peekable.{peekable_held, peekable_source};
-ghost use Rattle.fallible_iterator.specs.SoundHints.{KeepsBrackets, SoundHints};
+ghost use Rattle.fallible_iterator.specs.SoundHints.{HintsAsSoundAs, SoundHints};
 
 use fallible_core::peeking::Peekable;
 use fallible_core::traits::FallibleIterator;
@@ -11,11 +11,11 @@ pub fn law_hints_peekable<I: FallibleIterator>()
 where
     I::Item: Drop,
     ensures none_held { (s : Peekable I I.Item I.Error) → peekable_held s ≡ None
-        → KeepsBrackets ⟦<Peekable<I> as FallibleIterator>⟧.contract s I.contract
+        → HintsAsSoundAs ⟦<Peekable<I> as FallibleIterator>⟧.contract s I.contract
         (peekable_source s) }
     ensures item_held { (s : Peekable I I.Item I.Error) (x : I.Item)
         → peekable_held s ≡ Some (Some x)
-        → KeepsBrackets ⟦<Peekable<I> as FallibleIterator>⟧.contract s I.contract
+        → HintsAsSoundAs ⟦<Peekable<I> as FallibleIterator>⟧.contract s I.contract
         (peekable_source s) }
     ensures end_held { (s : Peekable I I.Item I.Error) → peekable_held s ≡ Some None
         → SoundHints ⟦<Peekable<I> as FallibleIterator>⟧.contract s }

@@ -6,4 +6,4 @@ use Rattle.fallible_iterator.specs.Sources.Once.{once_parts}
 use Rattle.fallible_iterator.proofs.laws.sources.law_once.Goals as goal
 
 pub returns : goal.returns
-returns g c = traces_are_of_parts once_parts (λ p. record { value = p; error = record {} }) (λ s. refl) (λ p. refl) _ _ (once_runs _)
+returns g c = traces_are_of_parts once_parts (λ p. record { value = p; error_type = record {} }) (λ s. refl) (λ p. refl) _ _ (once_runs _)

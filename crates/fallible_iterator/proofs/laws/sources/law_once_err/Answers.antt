@@ -6,4 +6,4 @@ use Rattle.fallible_iterator.specs.Sources.OnceErr.{once_err_parts}
 use Rattle.fallible_iterator.proofs.laws.sources.law_once_err.Goals as goal
 
 pub returns : goal.returns
-returns g c = traces_are_of_parts once_err_parts (λ p. record { item = record {}; error = p }) (λ s. refl) (λ p. refl) _ _ (once_runs _)
+returns g c = traces_are_of_parts once_err_parts (λ p. record { item_type = record {}; error = p }) (λ s. refl) (λ p. refl) _ _ (once_runs _)

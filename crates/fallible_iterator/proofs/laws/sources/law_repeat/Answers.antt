@@ -6,4 +6,4 @@ use Rattle.fallible_iterator.proofs.Lemmas.Sources.Repeat.{again_runs}
 use Rattle.fallible_iterator.proofs.laws.sources.law_repeat.Goals as goal
 
 pub returns : goal.returns
-returns g c = traces_are_of_parts repeat_parts (λ p. record { value = p; error = record {} }) (λ s. refl) (λ p. refl) _ _ (again_runs (RepeatAnswer g.T.Clone.is_clone g.T.Clone.is_infallible g.E.From.from_gives))
+returns g c = traces_are_of_parts repeat_parts (λ p. record { value = p; error_type = record {} }) (λ s. refl) (λ p. refl) _ _ (again_runs (RepeatAnswer g.T.Clone.is_clone g.T.Clone.is_infallible g.E.From.from_gives))

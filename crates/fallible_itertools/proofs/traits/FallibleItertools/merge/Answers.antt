@@ -1,4 +1,4 @@
--- What both sides list for good, merged.
+-- What both fused sides list, merged.
 use Rattle.std.specs.Prelude.{◌+◌}
 use Rattle.std.proofs.Common.{refl, inr, arith}
 use Rattle.fallible_itertools.proofs.Lemmas.Merge.{lists_merged_in_order, lists_merged_in_order_for_good}

@@ -1,4 +1,4 @@
--- What both sides list for good, position by position.
+-- What both fused sides list, position by position.
 use Rattle.std.specs.Prelude.{◌+◌}
 use Rattle.std.proofs.Common.{refl, inr, arith}
 use Rattle.fallible_itertools.proofs.Lemmas.ZipLongest.{lists_zipped_longest, lists_for_good_zipped_longest}

@@ -48,7 +48,7 @@ use Rattle.fallible_core.specs.contracts.peeking.peekable.Peekable.joined as f�
 use Rattle.fallible_core.proofs.peeking.peekable.Peekable.fill.Met as fill
 use Rattle.fallible_core.proofs.peeking.peekable.Peekable.lend.Met as lend
 use Rattle.fallible_core.proofs.peeking.peekable.Peekable.joined.Met as joined
-use Rattle.fallible_core.proofs.Loans.{Ends, begins, said_less}
+use Rattle.fallible_core.proofs.Loans.{LifetimeEnds, begins, said_less}
 use Rattle.fallible_core.proofs.peeking.peekable.Peekable.peek.Statement.{statement}
 use Rattle.fallible_core.proofs.peeking.peekable.Peekable.peek.Code as code
 
@@ -84,7 +84,7 @@ peek_spec 𝓤 𝓛 𝓜 𝓡 wired I X E L L' L'' g d d' d'' m m' m'' =
     -- [the reference; κ's token; the other tokens]
     sets ! (addr ! (through ! refl (stop !))) refl (tt, tt) $
     move ! (1 ∷ []) $ use1 𝓛 (‵ (flft κ (Share.left q)) ⊛ ‵ (flft κ (Share.right q))) (𝓛.lfts.lft_split κ q) $ split ! $ move ! (1 ∷ []) $
-    use1 𝓛 (later (some (λ (p : ℕ × Share). ‵ (flft (p.0 ∷ κ) p.1) ⊛ raw (Ends 𝓛 κ (Share.right q) p.0 p.1)))) (begins 𝓛 κ (Share.right q)) $ await ! tt $ pick ! (λ p. split ! $
+    use1 𝓛 (later (some (λ (p : ℕ × Share). ‵ (flft (p.0 ∷ κ) p.1) ⊛ raw (LifetimeEnds 𝓛 κ (Share.right q) p.0 p.1)))) (begins 𝓛 κ (Share.right q)) $ await ! tt $ pick ! (λ p. split ! $
     let κ₁ = p.0 ∷ κ in
     -- [κ₁'s token; the way to end it; half of κ's token; the reference; the other tokens]
     move ! (3 ∷ 2 ∷ []) $
