@@ -1,5 +1,5 @@
 -- Adapters whose closure is called on failures. They are those that call one on items, with items and failures exchanged.
-use Rattle.std.specs.Prelude.{◌≡◌, ℕ, ◌≤◌, Option, List, [], ◌∷◌, map, Result, Some, None, Ok, Err, ⊤}
+use Rattle.std.specs.Prelude.{◌≡◌, ◌≤◌, List, [], ◌∷◌, map, Result, None, Ok, Err, ⊤}
 use Rattle.std.specs.Iterator.{IsFinite, size}
 use Rattle.fallible_contract.specs.Traces.{Answered}
 use Rattle.fallible_contract.specs.Contract.{Contract}

@@ -53,7 +53,10 @@ impl<A: PartialEq> Comparison<A> for ByEq {
 }
 
 /// What one round decides, if neither side failed: `None` for two items that are equal by the rule, so that the comparison goes on.
-pub fn decide<A: Drop, K: Comparison<A>>(left: Option<A>, right: Option<A>) -> Option<Option<Ordering>>
+pub fn decide<A: Drop, K: Comparison<A>>(
+    left: Option<A>,
+    right: Option<A>,
+) -> Option<Option<Ordering>>
     ensures { result ≡ decided_round K.rule left right }
 {
     match (left, right) {

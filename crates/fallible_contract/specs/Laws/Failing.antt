@@ -1,5 +1,5 @@
 -- The contracts of the adapters whose closure is called on failures are lawful where the source's is.
-use Rattle.std.specs.Prelude.{◌≡◌, [], ◌∷◌, Some, None, Ok, Err, ℕ, Option, Result, ◌⊎◌}
+use Rattle.std.specs.Prelude.{◌≡◌, [], ◌∷◌, Some, None, Ok, Err}
 use Rattle.std.proofs.Common.{refl, sym, ap, subst, arith, inl, inr}
 use Rattle.std.specs.Iterator.{IsFinite, size}
 use Rattle.fallible_contract.specs.Traces.{Answered}
@@ -8,7 +8,6 @@ use Rattle.fallible_contract.specs.Closures.{Reaches, IsCallable}
 use Rattle.fallible_contract.specs.Ends.{Ends, from_back, ends_of, LawfulEnds}
 use Rattle.fallible_contract.specs.Exchange.{exchanged, steps_exchanged}
 use Rattle.fallible_contract.specs.Failing.{failing_outcome, FailingTrace, FailingAnswer, failing_contract, exchanged_contract, outcome_exchanged, recovering_contract}
-use Rattle.fallible_contract.specs.Passing.{leaving_out_contract}
 use Rattle.fallible_contract.specs.Laws.Closures.{reaches_here, reaches_from, is_callable_after, may_answer_here, may_answer_after}
 use Rattle.fallible_contract.specs.Laws.Exchange.{exchanged_twice}
 use Rattle.fallible_contract.specs.Laws.Passing.{Passes, done, end_passes, failure_passes, keeps, refuses, closes, leaves_out, passes_of_pass_trace, lawful_leaving_out}

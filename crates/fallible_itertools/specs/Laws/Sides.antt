@@ -83,16 +83,24 @@ module _ {A B C E F V : Type 0} (rule : Rule A B C E F V) where
   MadeBy P Q f n (Ok None) = ⊤
   MadeBy P Q f n (Err e) = rule.refuses P Q f e × (1 ≤ n)
 
+  -- The rule was applied to what both sides gave, which P and Q allow, and P' and Q' allow no more than these.
+  pub record IsDecided (P P' : A → Type 0) (Q Q' : B → Type 0) (f : F) (x : Option A) (y : Option B) (v : V) (g : F) : Type 0 where
+    pub left_less : (z : A) → P' z → P z
+    pub right_less : (z : B) → Q' z → Q z
+    pub left_allowed : OfItem P x
+    pub right_allowed : OfItem Q y
+    pub decided : rule.decides f x y v g
+
   -- What is held was yielded, and what the rule says stays so as the sides and the closure go on.
   pub record IsLawfulRule : Type 1 where
     pub left_kept : (x : Option A) (y : Option B) (v : V) → (rule.left_held x y v ≡ None) ⊎ (rule.left_held x y v ≡ x)
     pub right_kept : (x : Option A) (y : Option B) (v : V) → (rule.right_held x y v ≡ None) ⊎ (rule.right_held x y v ≡ y)
     pub made : (P : A → Type 0) (Q : B → Type 0) (f : F) (x : Option A) (y : Option B) (v : V) (g : F) → OfItem P x → OfItem Q y → rule.decides f x y v g → MadeBy P Q f ((held_count x - held_count (rule.left_held x y v)) + (held_count y - held_count (rule.right_held x y v))) (rule.answer x y v)
     pub askable_less : (P P' : A → Type 0) (Q Q' : B → Type 0) (f : F) → ((z : A) → P' z → P z) → ((z : B) → Q' z → Q z) → rule.askable P Q f → rule.askable P' Q' f
-    pub askable_after : (P P' : A → Type 0) (Q Q' : B → Type 0) (f : F) (x : Option A) (y : Option B) (v : V) (g : F) → ((z : A) → P' z → P z) → ((z : B) → Q' z → Q z) → OfItem P x → OfItem Q y → rule.decides f x y v g → rule.askable P Q f → rule.askable P' Q' g
+    pub askable_after : {P P' : A → Type 0} {Q Q' : B → Type 0} {f g : F} {x : Option A} {y : Option B} {v : V} → IsDecided P P' Q Q' f x y v g → rule.askable P Q f → rule.askable P' Q' g
     pub gives_more : (P P' : A → Type 0) (Q Q' : B → Type 0) (z : C) → ((z : A) → P' z → P z) → ((z : B) → Q' z → Q z) → rule.gives P' Q' z → rule.gives P Q z
     pub refuses_more : (P P' : A → Type 0) (Q Q' : B → Type 0) (f : F) (e : E) → ((z : A) → P' z → P z) → ((z : B) → Q' z → Q z) → rule.refuses P' Q' f e → rule.refuses P Q f e
-    pub refuses_before : (P P' : A → Type 0) (Q Q' : B → Type 0) (f : F) (x : Option A) (y : Option B) (v : V) (g : F) (e : E) → ((z : A) → P' z → P z) → ((z : B) → Q' z → Q z) → OfItem P x → OfItem Q y → rule.decides f x y v g → rule.refuses P' Q' g e → rule.refuses P Q f e
+    pub refuses_before : {P P' : A → Type 0} {Q Q' : B → Type 0} {f g : F} {x : Option A} {y : Option B} {v : V} → IsDecided P P' Q Q' f x y v g → (e : E) → rule.refuses P' Q' g e → rule.refuses P Q f e
 
 module _ {S U A B C E F V : Type 0} (left : Contract S A E) (right : Contract U B E) (rule : Rule A B C E F V) (hints : (S × Option A) × (U × Option B) × F → ℕ × Option ℕ → Type 0) where
   abbrev SidesState : Type 0
@@ -154,7 +162,8 @@ module _ {S U A B C E F V : Type 0} (left : Contract S A E) (right : Contract U 
         let o = held_count y - held_count i in
         let P = (side_kept_given left l p.0 t x c.0 a).1 in
         let Q = (side_kept_given right m p.1 u y c.1 b).1 in
-        kept_by_draw_of_both p ((t, h), (u, i), g) n n o o k j w (rule.answer x y v) (owed_by_rule p (n + o) (rule.answer x y v) (w.made (side_gives left p.0) (side_gives right p.1) p.2 x y v g P Q d)) (w.askable_after (side_gives left p.0) (side_gives left (t, h)) (side_gives right p.1) (side_gives right (u, i)) p.2 x y v g k.gives j.gives P Q d c.2) (λ e r. w.refuses_before (side_gives left p.0) (side_gives left (t, h)) (side_gives right p.1) (side_gives right (u, i)) p.2 x y v g e k.gives j.gives P Q d r)
+        let decided : IsDecided rule (side_gives left p.0) (side_gives left (t, h)) (side_gives right p.1) (side_gives right (u, i)) p.2 x y v g = record { left_less = k.gives; right_less = j.gives; left_allowed = P; right_allowed = Q; decided = d } in
+        kept_by_draw_of_both p ((t, h), (u, i), g) n n o o k j w (rule.answer x y v) (owed_by_rule p (n + o) (rule.answer x y v) (w.made (side_gives left p.0) (side_gives right p.1) p.2 x y v g P Q d)) (w.askable_after decided c.2) (w.refuses_before decided)
 
     kept_by_draw_sides : (p : SidesState) (r : Answered C E) (q : SidesState) → SidesHere.can_next p → SidesHere.steps p r q → KeptByDraw SidesHere p r q
     kept_by_draw_sides p r ((t, h), (u, k), g) c step = rw (step.2, step.4, step.6) (kept_by_draw_place p t u g step.0 c step.1 step.3 step.5)

@@ -26,10 +26,10 @@ module _ {A B E : Type 0} where
     right_kept = λ x y v. inl refl;
     made = λ P Q f x y v g p q d. made_by_longest E P Q x y p q;
     askable_less = λ P P' Q Q' f p q h. tt;
-    askable_after = λ P P' Q Q' f x y v g p q i j d h. tt;
+    askable_after = λ c h. tt;
     gives_more = of_each_more;
     refuses_more = λ P P' Q Q' f e p q h. h;
-    refuses_before = λ P P' Q Q' f x y v g e p q i j d h. h;
+    refuses_before = λ c e h. h;
   }
 
 pub lawful_zip_longest : {S U A B E : Type 0} {left : Contract S A E} {right : Contract U B E} → Lawful left → Lawful right → Lawful (zip_longest_contract left right)
