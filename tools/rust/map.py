@@ -4,11 +4,11 @@ from rules import ANY, apply, drop_files
 CONTRACT, CORE, EVERY = r"fallible_contract(?:/.*)?\.rs", r"fallible_core(?:/.*)?\.rs", r".*"
 ARM = r"Err\(refused\) => (?:[\w:]+\([\w:]+::from\(refused\)\),|\{[^{}]*::from\(refused\)\)\s*\})"
 NO_VALUE = r"Err(refused) => match refused {},"
-DRAWN = (r"let mut drawn = Progressing \{ it: &mut self\.it \};\n\s*"
-         r"match drawn\.(try_r?fold)\(\s*state,\s*\|state, (\w+)\| "
-         r"(turn_of_element\(turn, state, (?:element|Ok\(x\))\)),?\s*\) \{\n(?:.*\n)*?        \}\n")
-BORROWED = (r"match self.it.\1((), |(), \2| \3) {\n"
-            r"            Ok(()) => Ok(None),\n            Err(answer) => answer,\n        }\n")
+DRAWN = (r"let mut drawn = Progressing \{ it \};\n\s*"
+         r"match drawn\.(try_r?fold)\(\s*state,\s*\|state, element\| "
+         r"(turn_of_element\(turn, state, elements\.read\(element\)\)),?\s*\) \{\n(?:.*\n)*?    \}\n")
+BORROWED = (r"match it.\1((), |(), element| \2) {\n"
+            r"        Ok(()) => Ok(None),\n        Err(answer) => answer,\n    }\n")
 
 HEAD = """#![doc = include_str!("../README.md")]
 #![no_std]
@@ -54,9 +54,9 @@ ITERATOR = [
     (r".*/(?:cycle|cloned|repeat|repeat_err)\.rs", r"\A((?://.*\n)+\n)", r"\1use crate::memory::TryClone;\n", 4),
     # Folds of a std iterator: `Progressing`, which a proof wants, hides the iterator's own; and the
     # closure borrows the state, which a proof wants carried from turn to turn.
-    (r"sources/(?:convert|into_fallible)\.rs", DRAWN, BORROWED, 4),
-    (r"sources/(?:convert|into_fallible)\.rs", r"\{Progressing, turn_of_element\}", "turn_of_element", 2),
-    (r"sources/std_fold\.rs", r"^// A std iterator that a[^§]*(?=^// One turn of std's fold)", "", 1),
+    (r"sources/std_fold\.rs", DRAWN, BORROWED, 2),
+    (r"sources/std_fold\.rs", r"^// A std iterator that a[^§]*(?=^// The fold of a std iterator from the front)", "", 1),
+    (r"sources/std_fold\.rs", r"^//\n// `let _ = &\*state;`.*\n", "", 1),
     (r"sources/std_fold\.rs", r" The caller's state is what std's fold carries\.", "", 1),
     (r"sources/std_fold\.rs", r"<'a, C,", "<C,", 1),
     (r"sources/std_fold\.rs", r"Result<&'a mut C, \(&'a mut C, Result<Option<R>, E>\)>",
@@ -65,8 +65,8 @@ ITERATOR = [
     (r"sources/std_fold\.rs", r"Ok\(state\)", "Ok(())", 1),
     (r"sources/std_fold\.rs", r"\(state, (Ok\(Some\(stop\)\)|Err\(e\))\)", r"\1", 2),
     # A fold is inlined, else rustc makes of a short chain's a loop that takes one instruction more.
-    (r"(?!fallible_core/traits/b).*", r"^( *)(?:pub )?fn drive(?:_back)?(?:_passing)?<[^;{]*\{",
-     r"\1#[inline(always)]\n\g<0>", 35),
+    (r"(?!fallible_core/traits/b).*", r"^( *)(?:pub(?:\(crate\))? )?fn drive(?:_back)?(?:_passing|_std)?<[^;{]*\{",
+     r"\1#[inline(always)]\n\g<0>", 37),
     # What Rust writes otherwise.
     (r"fallible_core/one_to_one/map\.rs", r"fn fmt<W: fmt::Write>\(&self, f: &mut fmt::Formatter<W>\)",
      "fn fmt(&self, f: &mut fmt::Formatter<'_>)", 1),

@@ -8,7 +8,7 @@ use crate::joining::Zip;
 use crate::number::Number;
 use crate::traits::FallibleIterator;
 use crate::traits::conversion::IntoFallibleIterator;
-use fallible_contract::comparing::{Reading, Comparison, decide};
+use fallible_contract::comparing::{Comparison, Reading, decide};
 use std::cmp::Ordering;
 
 /// Draws the left and then the right in each round, until a failure, an `Ok(None)`, or two items that aren't equal by the rule.

@@ -1,6 +1,4 @@
 // The fallible iterator of a std iterator over results.
-//
-// `let _ = &*state;`: only of a reference that is read does the check learn what it points to at the return.
 ghost use Rattle.std.specs.Prelude.{◌≡◌, Some, Ok, Err, List, Result, Option};
 ghost use Rattle.fallible_contract.specs.Contract.{seen_as};
 ghost use Rattle.fallible_contract.specs.Ends.{ends_seen_as};
@@ -12,7 +10,7 @@ ghost use Rattle.fallible_iterator.specs.Sources.Convert.{convert_contract, conv
 ghost use Rattle.fallible_iterator.specs.Sources.Std.{element_by};
 ghost use Rattle.fallible_iterator.specs.Laws.Sources.Std.{lawful_std, lawful_ends_std};
 
-use crate::sources::std_fold::{Progressing, turn_of_element};
+use crate::sources::std_fold::{AsResult, drive_back_std, drive_std};
 use fallible_contract::folds::Turn;
 use fallible_core::{DoubleEndedFallibleIterator, FallibleIterator, Rev};
 
@@ -40,20 +38,7 @@ impl<T, E, I: std::iter::Iterator<Item = Result<T, E>>> FallibleIterator for Con
     }
 
     fn drive<C, R, K: Turn<C, T, R>>(&mut self, state: &mut C, turn: &K) -> Result<Option<R>, E> {
-        let mut drawn = Progressing { it: &mut self.it };
-        match drawn.try_fold(
-            state,
-            |state, element| turn_of_element(turn, state, element),
-        ) {
-            Ok(state) => {
-                let _ = &*state;
-                Ok(None)
-            }
-            Err((state, answer)) => {
-                let _ = &*state;
-                answer
-            }
-        }
+        drive_std(&mut self.it, &AsResult, state, turn)
     }
 
     ghost lawful = { lawful_seen convert_parts
@@ -75,20 +60,7 @@ impl<T, E, I: std::iter::DoubleEndedIterator<Item = Result<T, E>>> DoubleEndedFa
         state: &mut C,
         turn: &K,
     ) -> Result<Option<R>, E> {
-        let mut drawn = Progressing { it: &mut self.it };
-        match drawn.try_rfold(
-            state,
-            |state, element| turn_of_element(turn, state, element),
-        ) {
-            Ok(state) => {
-                let _ = &*state;
-                Ok(None)
-            }
-            Err((state, answer)) => {
-                let _ = &*state;
-                answer
-            }
-        }
+        drive_back_std(&mut self.it, &AsResult, state, turn)
     }
 
     ghost lawful_ends = { lawful_ends_seen convert_parts

@@ -1,6 +1,4 @@
 // The fallible iterator of a std iterator over any values.
-//
-// `let _ = &*state;`: only of a reference that is read does the check learn what it points to at the return.
 ghost use Rattle.std.specs.Prelude.{◌≡◌, Ok, List, Result, Option};
 ghost use Rattle.fallible_contract.specs.Contract.{seen_as};
 ghost use Rattle.fallible_contract.specs.Ends.{ends_seen_as};
@@ -11,7 +9,7 @@ ghost use Rattle.fallible_core.specs.Ends.Rev.{rev_parts};
 ghost use Rattle.fallible_iterator.specs.Sources.IntoFallible.{into_fallible_contract, into_fallible_ends, never, into_fallible_parts};
 ghost use Rattle.fallible_iterator.specs.Laws.Sources.Std.{lawful_std, lawful_ends_std};
 
-use crate::sources::std_fold::{Progressing, turn_of_element};
+use crate::sources::std_fold::{AsItem, drive_back_std, drive_std};
 use fallible_contract::folds::Turn;
 use fallible_core::{DoubleEndedFallibleIterator, FallibleIterator, Rev};
 use std::convert::Infallible;
@@ -44,17 +42,7 @@ impl<T, I: std::iter::Iterator<Item = T>> FallibleIterator for IntoFallible<I> {
         state: &mut C,
         turn: &K,
     ) -> Result<Option<R>, Infallible> {
-        let mut drawn = Progressing { it: &mut self.it };
-        match drawn.try_fold(state, |state, x| turn_of_element(turn, state, Ok(x))) {
-            Ok(state) => {
-                let _ = &*state;
-                Ok(None)
-            }
-            Err((state, answer)) => {
-                let _ = &*state;
-                answer
-            }
-        }
+        drive_std(&mut self.it, &AsItem, state, turn)
     }
 
     ghost lawful = { lawful_seen into_fallible_parts
@@ -77,17 +65,7 @@ impl<T, I: std::iter::DoubleEndedIterator<Item = T>> DoubleEndedFallibleIterator
         state: &mut C,
         turn: &K,
     ) -> Result<Option<R>, Infallible> {
-        let mut drawn = Progressing { it: &mut self.it };
-        match drawn.try_rfold(state, |state, x| turn_of_element(turn, state, Ok(x))) {
-            Ok(state) => {
-                let _ = &*state;
-                Ok(None)
-            }
-            Err((state, answer)) => {
-                let _ = &*state;
-                answer
-            }
-        }
+        drive_back_std(&mut self.it, &AsItem, state, turn)
     }
 
     ghost lawful_ends = { lawful_ends_seen into_fallible_parts

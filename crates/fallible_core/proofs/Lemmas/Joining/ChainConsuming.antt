@@ -1,5 +1,5 @@
 -- What came to a count, to the last item and to a search, of `Chain`: of the first, and after its end of the second.
-use Rattle.std.specs.Prelude.{◌≡◌, ℕ, ◌+◌, ◌-◌, ◌≤◌, length, Bool, true, false, List, [], ◌∷◌, ◌++◌, map, Option, Result, Some, None, Ok, Err}
+use Rattle.std.specs.Prelude.{◌≡◌, ℕ, ◌+◌, ◌-◌, ◌≤◌, length, Bool, true, false, List, [], ◌∷◌, ◌++◌, Option, Result, Some, None, Ok, Err}
 use Rattle.std.specs.List.{FoldsTo, last_or}
 use Rattle.std.proofs.Common.{refl, sym, ◌∙◌, ap, subst, arith, inr, length-append}
 use Rattle.fallible_contract.specs.Traces.{Answered, end, is_end}

@@ -1,5 +1,5 @@
 -- A fold of the source up to a failure, the turn on that, and the fold from there on, is a fold of the adapter.
-use Rattle.std.proofs.Common.{refl, arith}
+use Rattle.std.proofs.Common.{arith}
 use Rattle.fallible_contract.proofs.Lemmas.Recovering.{met_failure, drives_value, holds_each_turn_source, folding_takes_at, drives_to_stop, drives_on_after, holds_each_turn_on, takes_met_failure, can_recover_after, size_remaining_fewer}
 use Rattle.fallible_core.proofs.failing.drive_back_recovering.Goals as goal
 

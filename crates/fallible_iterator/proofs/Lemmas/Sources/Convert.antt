@@ -36,11 +36,6 @@ unfolding reversed
 items_reversed l = sym (map_is_items (reverse l)) ∙ map-reverse (λ x. Ok x) l ∙ ap reverse (map_is_items l)
 
 module _ {A E : Type 0} where
-  -- the answer that an element is comes from that element
-  pub element_by_reads_result : (z : Result A E) → element_by {A = A} {E = E} Ok Err (result_answer z) ≡ Some z
-  element_by_reads_result (Ok x) = refl
-  element_by_reads_result (Err e) = refl
-
   pub answer_of_first_result : (r : Answered A E) (y : Result A E) → element_by {A = A} {E = E} Ok Err r ≡ Some y → r ≡ result_answer y
   answer_of_first_result (Ok (Some x)) (Ok y) e = cc
   answer_of_first_result (Ok (Some x)) (Err y) e = absurd cc

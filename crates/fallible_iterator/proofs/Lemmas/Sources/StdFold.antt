@@ -124,3 +124,7 @@ module _ {S A E Z F C R : Type 0} (of_item : A → Z) (of_failure : E → Z) (re
 -- what the reference that came back points to, once it is known to be the one that was lent
 pub driven_lent : {S A E C R : Type 0} {steps : S → Answered A E → S → Type 0} {turns : C → A → ControlFlow R (Unit {0}) → C → Type 0} {s t : S} {b d : MutBor C} {r : Answered R E} (c : C) → Driven steps (lent turns) s b r t d → (d.ghost_name ≡ b.ghost_name → c ≡ d.now) → Driven steps turns s b.now r t c
 driven_lent {steps = steps} {turns = turns} {s = s} {t = t} {b = b} {d = d} {r = r} c w is = subst (λ z. Driven steps turns s b.now r t z) (sym (is (names_kept (λ (z : MutBor _). z.now) (λ (z : MutBor _). z.ghost_name) turns w))) (driven_through (λ (z : MutBor _). z.now) (λ (z : MutBor _). z.ghost_name) turns w)
+
+-- and what the other reference points to then
+pub driven_left_at : {S A E C R : Type 0} {steps : S → Answered A E → S → Type 0} {turns : C → A → ControlFlow R (Unit {0}) → C → Type 0} {s t u : S} {c d : C} {r : Answered R E} → t ≡ u → Driven steps turns s c r u d → Driven steps turns s c r t d
+driven_left_at {steps = steps} {turns = turns} {s = s} {c = c} {d = d} {r = r} same w = subst (λ z. Driven steps turns s c r z d) (sym same) w

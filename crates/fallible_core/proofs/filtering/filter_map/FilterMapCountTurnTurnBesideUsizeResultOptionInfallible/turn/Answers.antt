@@ -1,5 +1,5 @@
 -- The call on the item, and one more where it returns a value. No reference changes.
-use Rattle.std.proofs.Common.{refl, Ok, Err}
+use Rattle.std.proofs.Common.{refl, Err}
 use Rattle.fallible_contract.specs.Closures.{call_on}
 use Rattle.fallible_core.proofs.Lemmas.Filtering.Drawing.{folding_turn_counts_made, made_fits}
 use Rattle.fallible_core.proofs.filtering.filter_map.FilterMapCountTurnTurnBesideUsizeResultOptionInfallible.turn.Goals as goal

@@ -1,26 +1,13 @@
--- A fold through std's own from the back is a fold of it.
-use Rattle.std.specs.Prelude.{Ok}
-use Rattle.std.proofs.Common.{rules, refl, sym, []}
-use Rattle.std.specs.Borrow.{MutBor}
-use Rattle.fallible_contract.proofs.Lemmas.Folds.{callable_driving_through}
+-- The fold of the std iterator from the back.
+use Rattle.std.proofs.Common.{[], refl}
 use Rattle.fallible_contract.proofs.Lemmas.Folding.{holds_at_each_turn_into, drained_into}
-use Rattle.fallible_iterator.specs.Sources.IntoFallible.{never}
-use Rattle.fallible_iterator.specs.Sources.StdFold.{lent}
-use Rattle.fallible_iterator.proofs.Lemmas.Sources.StdFold.{callable_in_std_fold, driven_by_std, keeps_lent, driven_lent}
 use Rattle.fallible_iterator.proofs.sources.into_fallible.IntoFallibleDoubleEndedFallibleIterator.drive_back.Goals as goal
 
-pub try_rfold-requires-clause-can : goal.try_rfold-requires-clause-can
-try_rfold-requires-clause-can g c = c.requires.can_next.asked_back [] _ refl
+pub drive_back_std-requires-clause-can : goal.drive_back_std-requires-clause-can
+drive_back_std-requires-clause-can g c = c.requires.can_next.asked_back [] _ refl
 
-pub try_rfold-requires-clause-callable : goal.try_rfold-requires-clause-callable
-try_rfold-requires-clause-callable g c = callable_in_std_fold (λ x. x) never Ok (λ z. refl) g.I.DoubleEndedIterator.can_next_back g.I.DoubleEndedIterator.next_back_gives g.I.Iterator.remaining _ _ (lent (g.K.Turn.turns c.args.turn.now)) (λ d z r h p. search rules) (λ b x. g.K.Turn.can_turn c.args.turn.now b.now x) (λ d z p. search rules)
-    (callable_driving_through (λ (z : MutBor _). z.now) (λ (z : MutBor _). z.ghost_name) (g.K.Turn.turns c.args.turn.now) (holds_at_each_turn_into (λ p. record { it = p }) (λ p x q step. step) c.requires.callable))
+pub drive_back_std-requires-clause-callable : goal.drive_back_std-requires-clause-callable
+drive_back_std-requires-clause-callable g c = holds_at_each_turn_into (λ p. record { it = p }) (λ p x q step. step) c.requires.callable
 
-pub shape_of-self : goal.shape_of-self
-shape_of-self g c = sym (keeps_lent (λ x. x) never Ok (λ z. refl) g.I.DoubleEndedIterator.can_next_back g.I.DoubleEndedIterator.next_back_gives g.I.Iterator.remaining _ _ (lent (g.K.Turn.turns c.args.turn.now)) (λ d z r h p. search rules) c.try_rfold.new.self c.try_rfold.ensures.ran)
-
-pub returns-in-Ok : goal.returns-in-Ok
-returns-in-Ok g c = drained_into (λ p. record { it = p }) (λ p r q step. step) (driven_lent _ (driven_by_std (λ x. x) never Ok (λ z. refl) g.I.DoubleEndedIterator.can_next_back g.I.DoubleEndedIterator.next_back_gives g.I.Iterator.remaining _ _ (lent (g.K.Turn.turns c.args.turn.now)) (λ d z r h p. search rules) c.try_rfold.new.self c.in-Ok.ensures.ran) (λ same. search rules))
-
-pub returns-in-Err : goal.returns-in-Err
-returns-in-Err g c = drained_into (λ p. record { it = p }) (λ p r q step. step) (driven_lent _ (driven_by_std (λ x. x) never Ok (λ z. refl) g.I.DoubleEndedIterator.can_next_back g.I.DoubleEndedIterator.next_back_gives g.I.Iterator.remaining _ _ (lent (g.K.Turn.turns c.args.turn.now)) (λ d z r h p. search rules) c.try_rfold.new.self c.in-Err.ensures.ran) (λ same. search rules))
+pub returns : goal.returns
+returns g c = drained_into (λ p. record { it = p }) (λ p r q step. step) c.drive_back_std.ensures
