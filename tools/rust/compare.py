@@ -16,7 +16,7 @@ REASONS = [
     (r"fallible_core/joining/cycle\.rs|fallible_core/one_to_one/cloned\.rs|sources/repeat\w*\.rs"
      r"|intersperse\.rs|tuple_windows\.rs", r".*\.(next|pass)|placed|pair", "changed",
      "a clone is never refused: `clone` is `try_clone`, and the refusal's arm has no value"),
-    (r"sources/(convert|into_fallible)\.rs", r".*\.(drive|drive_back)", "changed",
+    (r"sources/std_fold\.rs", r"drive_std|drive_back_std", "changed",
      "by the std iterator's own fold, whose closure borrows the state; the proved body's is by `next`, and carries it"),
     (r"sources/std_fold\.rs", r"turn_of_element", "changed", "the state is borrowed, and not carried"),
     (r"sources/std_fold\.rs", r".*Progressing\.(next|next_back)", "left out", "no fold needs `Progressing`"),

@@ -87,7 +87,7 @@ RULES = [
     (COMPARE, r"impl<A: Ord> Comparison<A> for ByCmp \{(\s*)fn compare\(left: &A, right: &B\)",
      r"impl<A: Ord> Comparison<A, A> for ByCmp {\1fn compare(left: &A, right: &A)", 1),
     (COMPARE, r"impl<A: Partial(Ord|Eq)> Comparison<A>", r"impl<A: Partial\1<B>, B> Comparison<A, B>", 2),
-    (COMPARE, r"decide<A, K: Comparison<A>>\(left: Option<A>, right: Option<A>\)",
+    (COMPARE, r"decide<A, K: Comparison<A>>\(\s*left: Option<A>,\s*right: Option<A>,?\s*\)",
      "decide<A, B, K: Comparison<A, B>>(left: Option<A>, right: Option<B>)", 1),
     (ROUNDS, r"R: FallibleIterator<Item = L::Item, Error", "R: FallibleIterator<Error", 1),
     (ROUNDS, r"I: IntoFallibleIterator<Item = L::Item, Error", "I: IntoFallibleIterator<Error", 1),

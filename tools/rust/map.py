@@ -6,7 +6,7 @@ ARM = r"Err\(refused\) => (?:[\w:]+\([\w:]+::from\(refused\)\),|\{[^{}]*::from\(
 NO_VALUE = r"Err(refused) => match refused {},"
 DRAWN = (r"let mut drawn = Progressing \{ it \};\n\s*"
          r"match drawn\.(try_r?fold)\(\s*state,\s*\|state, element\| "
-         r"(turn_of_element\(turn, state, elements\.read\(element\)\)),?\s*\) \{\n(?:.*\n)*?    \}\n")
+         r"(turn_of_element\(turn, elements, state, element\)),?\s*\) \{\n(?:.*\n)*?    \}\n")
 BORROWED = (r"match it.\1((), |(), element| \2) {\n"
             r"        Ok(()) => Ok(None),\n        Err(answer) => answer,\n    }\n")
 
@@ -58,7 +58,7 @@ ITERATOR = [
     (r"sources/std_fold\.rs", r"^// A std iterator that a[^§]*(?=^// The fold of a std iterator from the front)", "", 1),
     (r"sources/std_fold\.rs", r"^//\n// `let _ = &\*state;`.*\n", "", 1),
     (r"sources/std_fold\.rs", r" The caller's state is what std's fold carries\.", "", 1),
-    (r"sources/std_fold\.rs", r"<'a, C,", "<C,", 1),
+    (r"sources/std_fold\.rs", r"<'a, Z,", "<Z,", 1),
     (r"sources/std_fold\.rs", r"Result<&'a mut C, \(&'a mut C, Result<Option<R>, E>\)>",
      "Result<(), Result<Option<R>, E>>", 1),
     (r"sources/std_fold\.rs", r"&'a mut C", "&mut C", 1),
