@@ -212,6 +212,9 @@ fn adapters_of_two_sides_and_peeking_take_while_draw_one_by_one(
     let right = Counted::new(scripted(alloc, [Ok(Some(5))])?, &other);
     let mut merged = one_one_two(alloc, &log)?.merge_by(right, in_order);
     expect_folded(&mut merged, &log, &FOUR_BY_FIVE_DRAWS)?;
+    let right = scripted(alloc, [Ok(Some(5))])?;
+    let mut merged = one_one_two(alloc, &log)?.merge(right);
+    expect_folded(&mut merged, &log, &FOUR_BY_FIVE_DRAWS)?;
     assert_eq!(rt; [beside.take(), other.take()], RIGHTS);
     // 2 is drawn, and stays next.
     let mut ahead = one_one_two(alloc, &log)?.peekable();
