@@ -65,6 +65,7 @@ where
 {}
 
 /// A failure parts a list: what stands before it is merged by itself, and so is what comes after it.
+#[tactic(auto, using(crate::proofs::Lemmas::Coalesce::coalesced_in_parts))]
 pub fn law_coalesced<T, E>()
     ensures { (h : T → T → OneOrBoth T E) (a : List (Result T E)) (e : E) (b : List (Result T E))
         → coalesced h (a ++ Err e ∷ b) ≡ coalesced h a ++ Err e ∷ coalesced h b }
@@ -96,6 +97,7 @@ where
 {}
 
 /// A failure parts a list: what stands before it is deduped by itself, and so is what comes after it.
+#[tactic(auto, using(crate::proofs::Lemmas::DedupBy::deduped_by_in_parts))]
 pub fn law_deduped_by<T, E>()
     ensures { (h : T → T → Result Bool E) (a : List (Result T E)) (e : E) (b : List (Result T E))
         → deduped_by h (a ++ Err e ∷ b) ≡ deduped_by h a ++ Err e ∷ deduped_by h b }

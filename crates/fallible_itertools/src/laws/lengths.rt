@@ -44,6 +44,7 @@ pub fn law_zipped_longest<T, U, E>()
 {}
 
 /// The text of n items has the bytes of each, and n - 1 times those of the separator.
+#[tactic(auto, using(crate::proofs::Lemmas::Lengths::length_joined))]
 pub fn law_joined<T>()
     ensures { (show : T → List ℕ) (separator : List ℕ) (xs : List T)
         → length (joined show separator xs)

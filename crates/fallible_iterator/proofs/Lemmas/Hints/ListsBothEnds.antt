@@ -8,7 +8,7 @@ use Rattle.fallible_contract.specs.Traces.{Answered, Yields, item, end}
 use Rattle.fallible_contract.specs.Lists.{AlwaysGives, Lists}
 use Rattle.fallible_contract.specs.BothEnds.{ListsBothEnds, item_listed, items_listed, failure_listed, failures_listed, source_list, outcome_listed, passed_list}
 use Rattle.fallible_contract.specs.Hints.{hint_sum}
-use Rattle.fallible_contract.proofs.Lemmas.Lists.Passing.{passed, by_outcome}
+use Rattle.fallible_contract.proofs.Lemmas.Lists.Passing.{passed}
 use Rattle.fallible_contract.proofs.Lemmas.BothEnds.{lists_first, lists_from_back}
 use Rattle.fallible_contract.proofs.Lemmas.BothEnds.Passing.{filter_map-reverse, with_answer, source_list_with_answer, passed_list_with_answer}
 use Rattle.fallible_core.specs.OneToOne.Map.{mapped}

@@ -1,11 +1,9 @@
 -- Hints of the adapters with one answer for each draw.
-use Rattle.std.specs.Prelude.{◌≡◌, ℕ, [], ◌∷◌, Option, Some, None, Result, Ok, Err, ⊤}
-use Rattle.std.proofs.Common.{ap, subst}
+use Rattle.std.specs.Prelude.{ℕ, [], ◌∷◌, ⊤}
 use Rattle.fallible_contract.specs.Traces.{Answered, item, end}
 use Rattle.fallible_core.specs.OneToOne.Enumerate.{EnumerateTrace}
 use Rattle.fallible_core.specs.Laws.OneToOne.Enumerate.{NumberedTrace, numbered_item, numbered_end, numbered_none, numbered_of_trace}
 use Rattle.fallible_iterator.proofs.Lemmas.Hints.Drawn.{OneOfOne}
-use Rattle.fallible_contract.specs.declared.passing.Outcome.TheVariants.{LeftOut}
 
 -- ---- `Enumerate`
 

@@ -7,7 +7,7 @@ use Rattle.fallible_contract.specs.Laws.Passing.{Passes, done, end_passes, keeps
 use Rattle.fallible_iterator.proofs.Lemmas.Hints.Drawn.{ItemsOfItems, OneOfOne}
 use Rattle.fallible_contract.proofs.Lemmas.Passing.{not_left_out}
 use Rattle.fallible_contract.specs.declared.passing.Outcome.{Outcome}
-use Rattle.fallible_contract.specs.declared.passing.Outcome.TheVariants.{LeftOut, End}
+use Rattle.fallible_contract.specs.declared.passing.Outcome.TheVariants.{End}
 
 module _ {S F X R B E : Type 0} (steps : S → Answered X E → S → Type 0) (call : F → X → R → F → Type 0) (outcome : X → R → Outcome B E) where
   -- one answer

@@ -1,11 +1,10 @@
 -- What `Convert` lists.
-use Rattle.std.specs.Prelude.{◌≡◌, ℕ, IfSome, Option, Some, None, Result, Ok, Err, List, [], ◌∷◌, ◌++◌, map, reverse, length, slice_index_or, zero, suc, ◌<◌}
+use Rattle.std.specs.Prelude.{◌≡◌, ℕ, IfSome, Option, Some, None, Result, Ok, Err, List, [], ◌∷◌, map, reverse, length, slice_index_or, zero, suc, ◌<◌}
 use Rattle.std.specs.List.{HoldsAt, slice_get}
 use Rattle.std.specs.Option.{option_map}
 use Rattle.std.proofs.Common.{refl, ap, sym, subst, ◌∙◌, arith}
 use Rattle.std.proofs.iter.runs.Lists.{none-some}
 use Rattle.std.proofs.iter.runs.Made.{at-is}
-use Rattle.std.proofs.lemmas.List.{map-append, reverse-append}
 use Rattle.std.specs.Iterator.{Count}
 use Rattle.fallible_contract.specs.Traces.{Answered}
 use Rattle.fallible_contract.specs.Contract.{seen_as}
