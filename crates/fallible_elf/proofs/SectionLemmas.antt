@@ -5,7 +5,7 @@ use Rattle.fallible_iterator.specs.Lists.{result_answer}
 use Rattle.fallible_iterator.specs.Showing.{TakesShown}
 use Rattle.fallible_iterator.specs.Traces.{Answered}
 use Rattle.fallible_elf.specs.Headers.{table_of}
-use Rattle.fallible_elf.specs.Sections.{header_at, headers_from, headers_in, headers_of}
+use Rattle.fallible_elf.specs.Sections.{header_at, headers_from, headers_of_table, headers_of}
 use Rattle.fallible_elf.specs.declared.fault.ElfFault.{ElfFault}
 use Rattle.fallible_elf.specs.declared.header.Table.{Table}
 use Rattle.fallible_elf.specs.declared.section.Section.{Section}
@@ -28,11 +28,11 @@ module _ (names names_size : ℕ) (bytes : List ℕ) (place : ℕ) where
 -- the headers of the table that the file has, or its fault
 pub headers_from_table : (bytes : List ℕ) (table : Table) → Ok table ≡ table_of bytes → headers_from table.names table.names_size None bytes table.place table.count ≡ headers_of bytes
 unfolding headers_of
-headers_from_table bytes table e = ap (headers_in bytes) e
+headers_from_table bytes table e = ap (headers_of_table bytes) e
 
 pub headers_from_fault : (bytes : List ℕ) (f : ElfFault) → Err f ≡ table_of bytes → headers_from 0 0 (Some f) bytes 0 0 ≡ headers_of bytes
 unfolding headers_of headers_from
-headers_from_fault bytes f e = ap (headers_in bytes) e
+headers_from_fault bytes f e = ap (headers_of_table bytes) e
 
 -- ---- by their numbers
 

@@ -31,10 +31,10 @@ headers_from names names_size f bytes place zero = fault_in f
 headers_from names names_size f bytes place (suc n) = header_at names names_size bytes place ∷ headers_from names names_size f bytes (place + 64) n
 
 -- the headers of a table, or the fault for which there is none
-abbrev pub headers_in : List ℕ → Result Table ElfFault → List (Result Section ElfFault)
-headers_in bytes (Ok table) = headers_from table.names table.names_size None bytes table.place table.count
-headers_in bytes (Err f) = Err f ∷ []
+abbrev pub headers_of_table : List ℕ → Result Table ElfFault → List (Result Section ElfFault)
+headers_of_table bytes (Ok table) = headers_from table.names table.names_size None bytes table.place table.count
+headers_of_table bytes (Err f) = Err f ∷ []
 
 -- the section headers of a file, each as a section or as the fault of its name; of a file whose header or table has a fault, that fault alone
 unfoldable pub headers_of : List ℕ → List (Result Section ElfFault)
-headers_of bytes = headers_in bytes (table_of bytes)
+headers_of bytes = headers_of_table bytes (table_of bytes)

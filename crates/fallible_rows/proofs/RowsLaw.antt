@@ -270,6 +270,6 @@ module _ {B : Type 0} (left : B → Option (List ℕ)) (stays : Bool → B → B
   pub run_of_reads_rows : (trace : RowAnswers) (r : B) (a : Ahead) (p : B × Option Ahead) → a.place ≤ 4294967295 → ReadsRows left stays r a trace p → Run step_of_rows (r, Some a) trace p
   run_of_reads_rows trace r a p placed h = run_from_closed_rows h.closed (closed_rows_of_bytes h.closed h.are_closed) r h.last a h.unclosed trace p placed h.given h.one h.stopped
 
-  pub rows_runs : (trace : RowAnswers) (p q : B × Option Ahead) → IsPlaced p → Run step_of_rows p trace q ↔ RowsTrace left stays p trace q
-  rows_runs trace (r, Some a) q placed = (reads_rows_of_run trace r a q placed, run_of_reads_rows trace r a q placed)
-  rows_runs trace (r, None) q placed = (ends_alone_after_rows trace r None q refl, (λ h. subst (λ (l : RowAnswers). Run step_of_rows (r, None) l q) (sym h.0.1) (subst (λ (u : B × Option Ahead). Run step_of_rows (r, None) (replicate h.0.0 end) u) (sym h.1) (run_of_ends h.0.0 r))))
+  pub rows_run_iff_trace : (trace : RowAnswers) (p q : B × Option Ahead) → IsPlaced p → Run step_of_rows p trace q ↔ RowsTrace left stays p trace q
+  rows_run_iff_trace trace (r, Some a) q placed = (reads_rows_of_run trace r a q placed, run_of_reads_rows trace r a q placed)
+  rows_run_iff_trace trace (r, None) q placed = (ends_alone_after_rows trace r None q refl, (λ h. subst (λ (l : RowAnswers). Run step_of_rows (r, None) l q) (sym h.0.1) (subst (λ (u : B × Option Ahead). Run step_of_rows (r, None) (replicate h.0.0 end) u) (sym h.1) (run_of_ends h.0.0 r))))

@@ -29,28 +29,28 @@ module _ {S A E : Type 0} {front back : S → Answered A E → S → Type 0} whe
   takes_first_back {s = s} {t = t} {r = r} {l = l} i step = takes_first_for_all front back r t (reverse l) reverse (λ n. (i.for (suc n)).1 r t step)
 
 -- A relation of values and lists says that the value lists the list, where each draw takes an element and leaves what the relation relates to the rest.
-module _ {S A E : Type 0} (front back : S → Answered A E → S → Type 0) (Says : S → List (Result A E) → Type 0)
-    (at_front : (s : S) (l : List (Result A E)) → Says s l → (r : Answered A E) (t : S) → front s r t → TakesFirst (λ k. Says t k) r l)
-    (at_back : (s : S) (l : List (Result A E)) → Says s l → (r : Answered A E) (t : S) → back s r t → TakesFirst (λ k. Says t (reverse k)) r (reverse l)) where
-  lists_both_ends_for_number : (n : ℕ) (s : S) (l : List (Result A E)) → Says s l → ListsBothEndsFor front back n s l
+module _ {S A E : Type 0} (front back : S → Answered A E → S → Type 0) (ListedByCalls : S → List (Result A E) → Type 0)
+    (at_front : (s : S) (l : List (Result A E)) → ListedByCalls s l → (r : Answered A E) (t : S) → front s r t → TakesFirst (λ k. ListedByCalls t k) r l)
+    (at_back : (s : S) (l : List (Result A E)) → ListedByCalls s l → (r : Answered A E) (t : S) → back s r t → TakesFirst (λ k. ListedByCalls t (reverse k)) r (reverse l)) where
+  lists_both_ends_for_number : (n : ℕ) (s : S) (l : List (Result A E)) → ListedByCalls s l → ListsBothEndsFor front back n s l
   lists_both_ends_for_number zero s l h = tt
   lists_both_ends_for_number (suc n) s l h = (
     (λ r t step. takes_first_weaker (λ k says. lists_both_ends_for_number n t k says) r l (at_front s l h r t step)),
     (λ r t step. takes_first_weaker (λ k says. lists_both_ends_for_number n t (reverse k) says) r (reverse l) (at_back s l h r t step)),
   )
 
-  pub lists_both_ends_by_draws : (s : S) (l : List (Result A E)) → Says s l → ListsBothEnds front back s l
+  pub lists_both_ends_by_draws : (s : S) (l : List (Result A E)) → ListedByCalls s l → ListsBothEnds front back s l
   lists_both_ends_by_draws s l h = record { for = λ n. lists_both_ends_for_number n s l h }
 
 -- It says so too where what it says of draws from the back is said of the list reversed.
-module _ {S A E : Type 0} (front back : S → Answered A E → S → Type 0) (Says Swapped : S → List (Result A E) → Type 0) (to : (s : S) (l : List (Result A E)) → Says s l → Swapped s (reverse l)) (from : (s : S) (l : List (Result A E)) → Swapped s l → Says s (reverse l))
-    (at_front : (s : S) (l : List (Result A E)) → Says s l → (r : Answered A E) (t : S) → front s r t → TakesFirst (λ k. Says t k) r l)
+module _ {S A E : Type 0} (front back : S → Answered A E → S → Type 0) (ListedByCalls Swapped : S → List (Result A E) → Type 0) (to : (s : S) (l : List (Result A E)) → ListedByCalls s l → Swapped s (reverse l)) (from : (s : S) (l : List (Result A E)) → Swapped s l → ListedByCalls s (reverse l))
+    (at_front : (s : S) (l : List (Result A E)) → ListedByCalls s l → (r : Answered A E) (t : S) → front s r t → TakesFirst (λ k. ListedByCalls t k) r l)
     (at_back : (s : S) (l : List (Result A E)) → Swapped s l → (r : Answered A E) (t : S) → back s r t → TakesFirst (λ k. Swapped t k) r l) where
-  takes_first_back_reversed : (s : S) (l : List (Result A E)) → Says s l → (r : Answered A E) (t : S) → back s r t → TakesFirst (λ k. Says t (reverse k)) r (reverse l)
+  takes_first_back_reversed : (s : S) (l : List (Result A E)) → ListedByCalls s l → (r : Answered A E) (t : S) → back s r t → TakesFirst (λ k. ListedByCalls t (reverse k)) r (reverse l)
   takes_first_back_reversed s l h r t step = takes_first_weaker (λ k says. from t k says) r (reverse l) (at_back s (reverse l) (to s l h) r t step)
 
-  pub lists_both_ends_by_swapping : (s : S) (l : List (Result A E)) → Says s l → ListsBothEnds front back s l
-  lists_both_ends_by_swapping s l h = lists_both_ends_by_draws front back Says at_front takes_first_back_reversed s l h
+  pub lists_both_ends_by_swapping : (s : S) (l : List (Result A E)) → ListedByCalls s l → ListsBothEnds front back s l
+  lists_both_ends_by_swapping s l h = lists_both_ends_by_draws front back ListedByCalls at_front takes_first_back_reversed s l h
 
 -- ---- the ends swapped
 

@@ -21,17 +21,17 @@ module _ {S A E : Type 0} (steps : S → Answered A E → S → Type 0) (between
     leaves_out : {j : ℕ} {s u t : S} {r : Answered A E} {trace : List (Answered A E)} {k : ℕ} (x : A) → steps s (item x) u → Leaves j u (r ∷ trace) t k → Leaves (suc j) s (r ∷ trace) t k
 
   -- no answers come of no draws
-  pub leaves_nothing : {j k : ℕ} {s t : S} → Leaves j s [] t k → (s ≡ t) × (j ≡ k)
-  leaves_nothing none = (refl, refl)
+  pub leaves_nil_same : {j k : ℕ} {s t : S} → Leaves j s [] t k → (s ≡ t) × (j ≡ k)
+  leaves_nil_same none = (refl, refl)
 
   pub leaves_from_equal : {i j k : ℕ} {s t u : S} {trace : List (Answered A E)} → s ≡ t → i ≡ j → Leaves j t trace u k → Leaves i s trace u k
   leaves_from_equal e f h = rw (e, f) h
 
   -- one answer and then others are one trace, and a trace is its first answer and then the others
   pub leaves_then : {j i k : ℕ} {s u t : S} {r : Answered A E} {trace : List (Answered A E)} → Leaves j s (r ∷ []) u i → Leaves i u trace t k → Leaves j s (r ∷ trace) t k
-  leaves_then (keeps_item x step last) more = let h = leaves_nothing last in keeps_item x step (leaves_from_equal h.0 h.1 more)
-  leaves_then (keeps_end step last) more = let h = leaves_nothing last in keeps_end step (leaves_from_equal h.0 h.1 more)
-  leaves_then (keeps_failure e step last) more = let h = leaves_nothing last in keeps_failure e step (leaves_from_equal h.0 h.1 more)
+  leaves_then (keeps_item x step last) more = let h = leaves_nil_same last in keeps_item x step (leaves_from_equal h.0 h.1 more)
+  leaves_then (keeps_end step last) more = let h = leaves_nil_same last in keeps_end step (leaves_from_equal h.0 h.1 more)
+  leaves_then (keeps_failure e step last) more = let h = leaves_nil_same last in keeps_failure e step (leaves_from_equal h.0 h.1 more)
   leaves_then (leaves_out x step rest) more = leaves_out x step (leaves_then rest more)
 
   pub leaves_split : {j k : ℕ} {s t : S} {r : Answered A E} {trace : List (Answered A E)} → Leaves j s (r ∷ trace) t k → (u : S) × (i : ℕ) × Leaves j s (r ∷ []) u i × Leaves i u trace t k

@@ -19,13 +19,13 @@ pub record FailsLast {X C D E : Type 0} (came : Result C D → List X → Answer
   pub at_failure : (made : Result C D) (items : List X) (d : D) → came made items (Err d) → (made ≡ Err d) × ((e : E) → becomes (Err e) items (Err e))
 
 module _ {X D E C R : Type 0} (turns : C → X → ControlFlow R (Unit {0}) → C → Type 0) (c d : C) where
-  drive_value : (made : Answered R D) (items : List X) (v : Option X) → DrivenBy turns c made d items (Ok v) → (w : Option R) × (made ≡ Ok w) × DrivenBy {E = E} turns c (Ok w) d items (Ok v)
-  drive_value made items None at = (None, at.exit.0, record { carried = at.carried; went = at.went; exit = (refl, at.exit.1) })
-  drive_value made items (Some x) at = (Some at.exit.0, at.exit.2, record { carried = at.carried; went = at.went; exit = (at.exit.0, at.exit.1, refl) })
+  driven_by_ok_of_value : (made : Answered R D) (items : List X) (v : Option X) → DrivenBy turns c made d items (Ok v) → (w : Option R) × (made ≡ Ok w) × DrivenBy {E = E} turns c (Ok w) d items (Ok v)
+  driven_by_ok_of_value made items None at = (None, at.exit.0, record { carried = at.carried; went = at.went; exit = (refl, at.exit.1) })
+  driven_by_ok_of_value made items (Some x) at = (Some at.exit.0, at.exit.2, record { carried = at.carried; went = at.went; exit = (at.exit.0, at.exit.1, refl) })
 
   -- a fold, from the state c to d
   pub fails_last_drive : FailsLast (λ made. DrivenBy {E = D} turns c made d) (λ made. DrivenBy {E = E} turns c made d)
-  fails_last_drive = record { at_value = drive_value; at_failure = λ made items e at. (at.exit.0, (λ f. record { carried = at.carried; went = at.went; exit = (refl, at.exit.1) })) }
+  fails_last_drive = record { at_value = driven_by_ok_of_value; at_failure = λ made items e at. (at.exit.0, (λ f. record { carried = at.carried; went = at.went; exit = (refl, at.exit.1) })) }
 
 module _ {X D E : Type 0} where
   count_value : (n k : ℕ) (made : Result (Unit {0}) D) (items : List X) (v : Option X) → CountedUp n made k items (Ok v) → (w : Unit {0}) × (made ≡ Ok w) × CountedUp {E = E} n (Ok w) k items (Ok v)

@@ -63,9 +63,9 @@ run_seen view steps (r ∷ rest) s t h = (view h.0, h.1, run_seen view steps res
 -- ---- a fold whose closure counts
 
 -- the number beside the closure goes up by one
-folds_to_counts_beside : {A F : Type 0} {Q : ℕ × F → A → ℕ × F → Type 0} → ((p : ℕ × F) (x : A) (q : ℕ × F) → Q p x q → q.0 ≡ p.0 + 1) → (items : List A) (p q : ℕ × F) → FoldsTo {P = ℕ × F} Q p items q → FoldsTo {P = ℕ} {A = A} (λ n x k. k ≡ n + 1) p.0 items q.0
-folds_to_counts_beside counts [] p q h = ap (λ u. u.0) h
-folds_to_counts_beside counts (x ∷ items) p q h = (h.0.0, counts p x h.0 h.1, folds_to_counts_beside counts items h.0 q h.2)
+folds_to_count_of_beside : {A F : Type 0} {Q : ℕ × F → A → ℕ × F → Type 0} → ((p : ℕ × F) (x : A) (q : ℕ × F) → Q p x q → q.0 ≡ p.0 + 1) → (items : List A) (p q : ℕ × F) → FoldsTo {P = ℕ × F} Q p items q → FoldsTo {P = ℕ} {A = A} (λ n x k. k ≡ n + 1) p.0 items q.0
+folds_to_count_of_beside counts [] p q h = ap (λ u. u.0) h
+folds_to_count_of_beside counts (x ∷ items) p q h = (h.0.0, counts p x h.0 h.1, folds_to_count_of_beside counts items h.0 q h.2)
 
 module _ {A E F : Type 0} {call : F → ℕ → A → Result ℕ E → F → Type 0} (counts : (f : F) (n : ℕ) (x : A) (r : Result ℕ E) (g : F) → call f n x r g → r ≡ Ok (n + 1)) where
   count_exit_of_fold_exit : (from : E → E → Type 0) → ((e d : E) → from e d → d ≡ e) → (n : ℕ) (g : F) (last : Answered A E) (r : Result ℕ E) → FoldExit call from n g last r → CountExit n last r
@@ -75,11 +75,11 @@ module _ {A E F : Type 0} {call : F → ℕ → A → Result ℕ E → F → Typ
 
   -- its result is the number of the items
   pub count_exit_of_folded : {S : Type 0} {steps : S → Answered A E → S → Type 0} {from : E → E → Type 0} {s t : S} {f : F} {r : Result ℕ E} → ((e d : E) → from e d → d ≡ e) → (h : FoldDrains steps call from s 0 f r t) → CountExit (length h.items) h.last r
-  count_exit_of_folded {from = from} {f = f} {r = r} same h = subst (λ n. CountExit n h.last r) (let e = number_counted_up h.items 0 h.at.value (folds_to_counts_beside (λ p x q w. let e = counts p.1 p.0 x (Ok q.0) q.1 w in cc) h.items (0, f) (h.at.value, h.at.closure) h.at.went) in omega (arith, e)) (count_exit_of_fold_exit from same h.at.value h.at.closure h.last r h.at.exit)
+  count_exit_of_folded {from = from} {f = f} {r = r} same h = subst (λ n. CountExit n h.last r) (let e = number_counted_up h.items 0 h.at.value (folds_to_count_of_beside (λ p x q w. let e = counts p.1 p.0 x (Ok q.0) q.1 w in cc) h.items (0, f) (h.at.value, h.at.closure) h.at.went) in omega (arith, e)) (count_exit_of_fold_exit from same h.at.value h.at.closure h.last r h.at.exit)
 
 -- where at most k items are to come, a fold that counts may take its turn where it may at each number below k
 pub holds_each_turn_counting : {S A E F : Type 0} {m : Contract S A E} {Q : ℕ × F → A → ℕ × F → Type 0} {P : ℕ × F → A → Type 0} {s : S} {f : F} (k : ℕ) → ((p : ℕ × F) (x : A) (q : ℕ × F) → Q p x q → q.0 ≡ p.0 + 1) → ((p : ℕ × F) (x : A) → p.0 < k → P p x) → Lawful m → m.can_next s → AtMost m s k → HoldsAtEachTurn {C = ℕ × F} m.steps Q P s (0, f)
-holds_each_turn_counting {f = f} k counts below l c b = record { at = λ items t u d x ran went step. below d x ((holds_each_turn_below k l c b).at items t u d.0 x ran (folds_to_counts_beside counts items (0, f) d went) step) }
+holds_each_turn_counting {f = f} k counts below l c b = record { at = λ items t u d x ran went step. below d x ((holds_each_turn_below k l c b).at items t u d.0 x ran (folds_to_count_of_beside counts items (0, f) d went) step) }
 
 -- ---- `Filter`
 

@@ -83,10 +83,10 @@ backs_within (suc n) [] = omega arith
 backs_within (suc n) (Front ∷ sides) = let h = backs_within n sides in omega (arith, h)
 backs_within (suc n) (Back ∷ sides) = let h = backs_within n sides in omega (arith, h)
 
-less_of_both : (b n : ℕ) → (suc n - b ≡ suc (n - b)) ⊎ ((suc n - b ≡ 0) × (n - b ≡ 0))
-less_of_both zero n = inl (omega arith)
-less_of_both (suc b) zero = inr (omega arith, omega arith)
-less_of_both (suc b) (suc n) = elim (less_of_both b n) [ inl e ↦ inl (omega (arith, e)) | inr e ↦ inr (omega (arith, e.0), omega (arith, e.1)) ]
+suc_sub_cases : (b n : ℕ) → (suc n - b ≡ suc (n - b)) ⊎ ((suc n - b ≡ 0) × (n - b ≡ 0))
+suc_sub_cases zero n = inl (omega arith)
+suc_sub_cases (suc b) zero = inr (omega arith, omega arith)
+suc_sub_cases (suc b) (suc n) = elim (suc_sub_cases b n) [ inl e ↦ inl (omega (arith, e)) | inr e ↦ inr (omega (arith, e.0), omega (arith, e.1)) ]
 
 -- ---- one draw more
 
@@ -122,7 +122,7 @@ module _ {A E : Type 0} where
   -- what one side more leaves
   rest_ends_front : (sides : List Side) (y : Result A E) (l : List (Result A E)) → rest_ends (Front ∷ sides) (y ∷ l) ≡ rest_ends sides l
   unfolding rest_ends
-  rest_ends_front sides y l = drop_take_cons (fronts sides) y l (suc (length l) - backs sides) (length l - backs sides) (less_of_both (backs sides) (length l))
+  rest_ends_front sides y l = drop_take_cons (fronts sides) y l (suc (length l) - backs sides) (length l - backs sides) (suc_sub_cases (backs sides) (length l))
 
   rest_ends_back : (sides : List Side) (k : List (Result A E)) (y : Result A E) → rest_ends (Back ∷ sides) (k ++ y ∷ []) ≡ rest_ends sides k
   unfolding rest_ends
@@ -150,22 +150,22 @@ module _ {A E : Type 0} where
   unfolding rest_ends
   rest_ends_nil l = let all : length l - 0 ≡ length l = omega arith in ap (λ n. take n l) all ∙ take-length l
 
-  abbrev OneMore : Side → List Side → List (Result A E) → Type 0
-  OneMore side sides l = (answers_at_ends (side ∷ sides) l ≡ answer_of_side side l ∷ answers_at_ends sides (rest_at side l)) × (rest_ends (side ∷ sides) l ≡ rest_ends sides (rest_at side l))
+  abbrev AnswersAfterOneSide : Side → List Side → List (Result A E) → Type 0
+  AnswersAfterOneSide side sides l = (answers_at_ends (side ∷ sides) l ≡ answer_of_side side l ∷ answers_at_ends sides (rest_at side l)) × (rest_ends (side ∷ sides) l ≡ rest_ends sides (rest_at side l))
 
-  one_more_of_none : (side : Side) (sides : List Side) → OneMore side sides []
+  one_more_of_none : (side : Side) (sides : List Side) → AnswersAfterOneSide side sides []
   unfolding answers_at_ends rest_ends nth_of rest_first by_sides told
   one_more_of_none Front sides = (refl, drop_take_nil (suc (fronts sides)) (0 - backs sides) ∙ sym (drop_take_nil (fronts sides) (0 - backs sides)))
   one_more_of_none Back sides = (refl, drop_take_nil (fronts sides) (0 - suc (backs sides)) ∙ sym (drop_take_nil (fronts sides) (0 - backs sides)))
 
   -- a side more is one draw and then the others, whatever the list
-  one_more : (side : Side) (sides : List Side) (l : List (Result A E)) → OneMore side sides l
+  one_more : (side : Side) (sides : List Side) (l : List (Result A E)) → AnswersAfterOneSide side sides l
   unfolding rest_first
   one_more Front sides [] = one_more_of_none Front sides
   one_more Front sides (y ∷ l) = (answers_at_ends_front sides y l ∙ ap (λ a. a ∷ answers_at_ends sides l) (sym (answer_of_nth_of_0 y l)), rest_ends_front sides y l)
   one_more Back sides l = elim (nil_or_last l) [
-    | inl none ↦ subst (OneMore Back sides) (sym none) (one_more_of_none Back sides)
-    | inr s ↦ let d = answer_and_rest_at_back s.0 s.1 in subst (OneMore Back sides) (sym s.2) (answers_at_ends_back sides s.0 s.1 ∙ ap (λ a. a ∷ answers_at_ends sides s.0) (sym d.0) ∙ ap (λ k. answer_of_side Back (s.0 ++ s.1 ∷ []) ∷ answers_at_ends sides k) (sym d.1), rest_ends_back sides s.0 s.1 ∙ ap (rest_ends sides) (sym d.1))
+    | inl none ↦ subst (AnswersAfterOneSide Back sides) (sym none) (one_more_of_none Back sides)
+    | inr s ↦ let d = answer_and_rest_at_back s.0 s.1 in subst (AnswersAfterOneSide Back sides) (sym s.2) (answers_at_ends_back sides s.0 s.1 ∙ ap (λ a. a ∷ answers_at_ends sides s.0) (sym d.0) ∙ ap (λ k. answer_of_side Back (s.0 ++ s.1 ∷ []) ∷ answers_at_ends sides k) (sym d.1), rest_ends_back sides s.0 s.1 ∙ ap (rest_ends sides) (sym d.1))
   ]
 
 module _ {S A E : Type 0} (front back : S → Answered A E → S → Type 0) where

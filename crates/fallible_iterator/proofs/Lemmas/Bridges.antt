@@ -18,10 +18,10 @@ use Rattle.fallible_contract.specs.declared.answers.Side.{Side}
 use Rattle.fallible_contract.specs.declared.answers.Side.TheVariants.{Front, Back}
 
 module _ {A E : Type 0} where
-  there_and_back : (r : Answered A E) → option_transpose (result_transpose r) ≡ r
-  there_and_back (Ok (Some x)) = refl
-  there_and_back (Ok None) = refl
-  there_and_back (Err e) = refl
+  option_transpose_result_transpose : (r : Answered A E) → option_transpose (result_transpose r) ≡ r
+  option_transpose_result_transpose (Ok (Some x)) = refl
+  option_transpose_result_transpose (Ok None) = refl
+  option_transpose_result_transpose (Err e) = refl
 
   -- what `convert` makes of an element is the answer that the element is
   converted_back : (r : Answered A E) → option_transpose (element_by {A = A} {E = E} Ok Err r) ≡ r
@@ -37,31 +37,31 @@ module _ {P A E : Type 0} (steps : P → Answered A E → P → Type 0) where
 
   transposed_run_to_source : (trace : List (Answered A E)) (p q : P) → Run StepTransposed p trace q → Run steps p trace q
   transposed_run_to_source [] p q e = e
-  transposed_run_to_source (r ∷ rest) p q h = (h.0, subst (λ (z : Answered A E). steps p z h.0) (there_and_back r) h.1, transposed_run_to_source rest h.0 q h.2)
+  transposed_run_to_source (r ∷ rest) p q h = (h.0, subst (λ (z : Answered A E). steps p z h.0) (option_transpose_result_transpose r) h.1, transposed_run_to_source rest h.0 q h.2)
 
   transposed_run_of_source : (trace : List (Answered A E)) (p q : P) → Run steps p trace q → Run StepTransposed p trace q
   transposed_run_of_source [] p q e = e
-  transposed_run_of_source (r ∷ rest) p q h = (h.0, subst (λ (z : Answered A E). steps p z h.0) (sym (there_and_back r)) h.1, transposed_run_of_source rest h.0 q h.2)
+  transposed_run_of_source (r ∷ rest) p q h = (h.0, subst (λ (z : Answered A E). steps p z h.0) (sym (option_transpose_result_transpose r)) h.1, transposed_run_of_source rest h.0 q h.2)
 
   pub run_transposed_iff : (p : P) (trace : List (Answered A E)) (q : P) → Run StepTransposed p trace q ↔ Run steps p trace q
   run_transposed_iff p trace q = (transposed_run_to_source trace p q, transposed_run_of_source trace p q)
 
 -- a list of items and ends, as answers
 module _ {V S A E : Type 0} (view : V → S) (make : S → V) (made : (s : V) → make (view s) ≡ s) (has : (p : S) → view (make p) ≡ p) (steps : S → Answered A E → S → Type 0) where
-  abbrev given_by : V → Option A → V → Type 0
-  given_by s o t = steps (view s) (Ok o) (view t)
+  abbrev ok_answer_step : V → Option A → V → Type 0
+  ok_answer_step s o t = steps (view s) (Ok o) (view t)
 
-  run_of_answers : (given : List (Option A)) (s t : V) → FoldsTo given_by s given t → Run steps (view s) (map (λ o. Ok o) given) (view t)
+  run_of_answers : (given : List (Option A)) (s t : V) → FoldsTo ok_answer_step s given t → Run steps (view s) (map (λ o. Ok o) given) (view t)
   run_of_answers [] s t e = ap view e
   run_of_answers (o ∷ rest) s t h = (view h.0, h.1, run_of_answers rest h.0 t h.2)
 
-  folds_to_from_answers : (given : List (Option A)) (s t : V) → Run steps (view s) (map (λ o. Ok o) given) (view t) → FoldsTo given_by s given t
+  folds_to_from_answers : (given : List (Option A)) (s t : V) → Run steps (view s) (map (λ o. Ok o) given) (view t) → FoldsTo ok_answer_step s given t
   folds_to_from_answers [] s t e = sym (made s) ∙ ap make e ∙ made t
   folds_to_from_answers (o ∷ rest) s t h =
       let at : h.0 ≡ view (make h.0) = sym (has h.0) in
       (make h.0, subst (λ (z : S). steps (view s) (Ok o) z) at h.1, folds_to_from_answers rest (make h.0) t (subst (λ (z : S). Run steps z (map (λ q. Ok q) rest) (view t)) at h.2))
 
-  pub folds_to_given_iff : (s : V) (given : List (Option A)) (t : V) → FoldsTo given_by s given t ↔ Run steps (view s) (map (λ o. Ok o) given) (view t)
+  pub folds_to_given_iff : (s : V) (given : List (Option A)) (t : V) → FoldsTo ok_answer_step s given t ↔ Run steps (view s) (map (λ o. Ok o) given) (view t)
   folds_to_given_iff s given t = (run_of_answers given s t, folds_to_from_answers given s t)
 
 -- ---- required by `convert`

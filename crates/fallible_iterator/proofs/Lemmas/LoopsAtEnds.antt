@@ -14,7 +14,7 @@ use Rattle.fallible_iterator.proofs.Lemmas.Loops.{CountsDown}
 
 module _ {S A E R : Type 0} where
   -- What `of_whole` makes of the whole that s0 lists from both ends is what `of_rest` makes of the rest that s lists.
-  pub record AnswersBetween (front back : S → Answered A E → S → Type 0) (of_whole : List (Result A E) → R) (s0 : S) (of_rest : List (Result A E) → R) (s : S) : Type 0 where
+  pub record AnswersFromBetweenEnds (front back : S → Answered A E → S → Type 0) (of_whole : List (Result A E) → R) (s0 : S) (of_rest : List (Result A E) → R) (s : S) : Type 0 where
     pub at : (whole : List (Result A E)) → ListsBothEnds front back s0 whole → (rest : List (Result A E)) × ListsBothEnds front back s rest × (of_whole whole ≡ of_rest rest)
 
 -- An item from the front and a draw from the back count the number down by one.
@@ -43,24 +43,24 @@ list_nil_at_back l e = sym (reverse-reverse l) ∙ ap reverse e
 
 module _ {S A E R : Type 0} {front back : S → Answered A E → S → Type 0} {of_whole of_rest : List (Result A E) → R} {s0 s t : S} {r : Answered A E} where
   -- after a draw from the front that took the result y, which the loop goes on with
-  pub answers_between_in_front : (y : Result A E) {of_left : List (Result A E) → R} → AnswersBetween front back of_whole s0 of_rest s → front s r t → r ≡ result_answer y → ((l : List (Result A E)) → of_rest (y ∷ l) ≡ of_left l) → AnswersBetween front back of_whole s0 of_left t
+  pub answers_between_in_front : (y : Result A E) {of_left : List (Result A E) → R} → AnswersFromBetweenEnds front back of_whole s0 of_rest s → front s r t → r ≡ result_answer y → ((l : List (Result A E)) → of_rest (y ∷ l) ≡ of_left l) → AnswersFromBetweenEnds front back of_whole s0 of_left t
   answers_between_in_front y here drawn is same = record { at = λ whole i. let k = here.at whole i in let d = takes_first_item (λ j. ListsBothEnds front back t j) r y k.0 is (takes_first_front k.1 drawn) in (d.0, d.2, k.2 ∙ ap of_rest d.1 ∙ same d.0) }
 
   -- the same from the back
-  pub answers_between_at_back : (y : Result A E) {of_left : List (Result A E) → R} → AnswersBetween front back of_whole s0 of_rest s → back s r t → r ≡ result_answer y → ((l : List (Result A E)) → of_rest (l ++ y ∷ []) ≡ of_left l) → AnswersBetween front back of_whole s0 of_left t
+  pub answers_between_at_back : (y : Result A E) {of_left : List (Result A E) → R} → AnswersFromBetweenEnds front back of_whole s0 of_rest s → back s r t → r ≡ result_answer y → ((l : List (Result A E)) → of_rest (l ++ y ∷ []) ≡ of_left l) → AnswersFromBetweenEnds front back of_whole s0 of_left t
   answers_between_at_back y here drawn is same = record { at = λ whole i. let k = here.at whole i in let d = takes_first_item (λ j. ListsBothEnds front back t (reverse j)) r y (reverse k.0) is (takes_first_back k.1 drawn) in (reverse d.0, d.2, k.2 ∙ ap of_rest (last_of_reverse y k.0 d.0 d.1) ∙ same (reverse d.0)) }
 
   -- at a result from the front with which the loop is left
-  pub answer_at_stop_in_front : (y : Result A E) {v : R} → AnswersBetween front back of_whole s0 of_rest s → front s r t → r ≡ result_answer y → ((l : List (Result A E)) → v ≡ of_rest (y ∷ l)) → (whole : List (Result A E)) → ListsBothEnds front back s0 whole → v ≡ of_whole whole
+  pub answer_at_stop_in_front : (y : Result A E) {v : R} → AnswersFromBetweenEnds front back of_whole s0 of_rest s → front s r t → r ≡ result_answer y → ((l : List (Result A E)) → v ≡ of_rest (y ∷ l)) → (whole : List (Result A E)) → ListsBothEnds front back s0 whole → v ≡ of_whole whole
   answer_at_stop_in_front y here drawn is same whole i = let k = here.at whole i in let d = takes_first_item (λ j. ListsBothEnds front back t j) r y k.0 is (takes_first_front k.1 drawn) in same d.0 ∙ sym (k.2 ∙ ap of_rest d.1)
 
   -- the same from the back
-  pub answer_at_stop_at_back : (y : Result A E) {v : R} → AnswersBetween front back of_whole s0 of_rest s → back s r t → r ≡ result_answer y → ((l : List (Result A E)) → v ≡ of_rest (l ++ y ∷ [])) → (whole : List (Result A E)) → ListsBothEnds front back s0 whole → v ≡ of_whole whole
+  pub answer_at_stop_at_back : (y : Result A E) {v : R} → AnswersFromBetweenEnds front back of_whole s0 of_rest s → back s r t → r ≡ result_answer y → ((l : List (Result A E)) → v ≡ of_rest (l ++ y ∷ [])) → (whole : List (Result A E)) → ListsBothEnds front back s0 whole → v ≡ of_whole whole
   answer_at_stop_at_back y here drawn is same whole i = let k = here.at whole i in let d = takes_first_item (λ j. ListsBothEnds front back t (reverse j)) r y (reverse k.0) is (takes_first_back k.1 drawn) in same (reverse d.0) ∙ sym (k.2 ∙ ap of_rest (last_of_reverse y k.0 d.0 d.1))
 
   -- at an end, from either side
-  pub answer_at_end_in_front : {v : R} → AnswersBetween front back of_whole s0 of_rest s → front s r t → r ≡ Ok None → v ≡ of_rest [] → (whole : List (Result A E)) → ListsBothEnds front back s0 whole → v ≡ of_whole whole
+  pub answer_at_end_in_front : {v : R} → AnswersFromBetweenEnds front back of_whole s0 of_rest s → front s r t → r ≡ Ok None → v ≡ of_rest [] → (whole : List (Result A E)) → ListsBothEnds front back s0 whole → v ≡ of_whole whole
   answer_at_end_in_front here drawn is same whole i = let k = here.at whole i in same ∙ sym (k.2 ∙ ap of_rest (takes_first_none (λ j. ListsBothEnds front back t j) r k.0 is (takes_first_front k.1 drawn)))
 
-  pub answer_at_end_at_back : {v : R} → AnswersBetween front back of_whole s0 of_rest s → back s r t → r ≡ Ok None → v ≡ of_rest [] → (whole : List (Result A E)) → ListsBothEnds front back s0 whole → v ≡ of_whole whole
+  pub answer_at_end_at_back : {v : R} → AnswersFromBetweenEnds front back of_whole s0 of_rest s → back s r t → r ≡ Ok None → v ≡ of_rest [] → (whole : List (Result A E)) → ListsBothEnds front back s0 whole → v ≡ of_whole whole
   answer_at_end_at_back here drawn is same whole i = let k = here.at whole i in same ∙ sym (k.2 ∙ ap of_rest (list_nil_at_back k.0 (takes_first_none (λ j. ListsBothEnds front back t (reverse j)) r (reverse k.0) is (takes_first_back k.1 drawn))))

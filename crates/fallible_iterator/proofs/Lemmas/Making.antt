@@ -158,13 +158,13 @@ module _ {S F X Y B C E : Type 0} (steps : S → Answered B E → S → Type 0) 
   abbrev MapSteps : S × F → Answered C E → S × F → Type 0
   MapSteps = passing_step steps call map_outcome
 
-  abbrev OneOf : S → Answered C E → S → F → Type 0
-  OneOf s r t g = Passes steps call map_outcome s f (r ∷ []) t g
+  abbrev MapDrawsOne : S → Answered C E → S → F → Type 0
+  MapDrawsOne s r t g = Passes steps call map_outcome s f (r ∷ []) t g
 
   no_item_refuses : {P : Type 0} (x : B) → AnswersRefusal from (Ok (Some x)) → P
   no_item_refuses x r = absurd (let e = r.1 in cc)
 
-  refused_one : (s : S) (r : Answered C E) (t : S) (g : F) → RefusesNext steps from s → OneOf s r t g → AnswersRefusal from r
+  refused_one : (s : S) (r : Answered C E) (t : S) (g : F) → RefusesNext steps from s → MapDrawsOne s r t g → AnswersRefusal from r
   refused_one s _ t g a (end_passes step d) = absurd (let e = (a (Ok None) _ step).1 in cc)
   refused_one s _ t g a (failure_passes e step d) = let k = a (Err e) _ step in (e, refl, subst (IsRefusal from) (let q = k.1 in cc) k.2)
   refused_one s _ t g a (keeps x v y step called is d) = no_item_refuses x (a (Ok (Some x)) _ step)
@@ -175,60 +175,60 @@ module _ {S F X Y B C E : Type 0} (steps : S → Answered B E → S → Type 0) 
   refuses_behind : (t : S) (g : F) → g ≡ f → RefusesNext steps from t → RefusesNext MapSteps from (t, g)
   refuses_behind t g same a = subst (λ (j : F). RefusesNext MapSteps from (t, j)) (sym same) (λ r q w. refused_one t r q.0 q.1 a (passes_of_pass_trace w))
 
-  ended_of : (s : S) (r : Answered C E) (t : S) (g : F) → GivesMade of steps from s [] → OneOf s r t g → r ≡ end
-  ended_of s _ t g a (end_passes step d) = refl
-  ended_of s _ t g a (failure_passes e step d) = absurd (let w = a (Err e) _ step in cc)
-  ended_of s _ t g a (keeps x v y step called is d) = absurd (let w = a (Ok (Some x)) _ step in cc)
-  ended_of s _ t g a (refuses x v e step called is d) = absurd (let w = a (Ok (Some x)) _ step in cc)
-  ended_of s _ t g a (closes x v step called is d) = absurd (let w = a (Ok (Some x)) _ step in cc)
-  ended_of s r t g a (leaves_out x v step called is d) = absurd (let w = a (Ok (Some x)) _ step in cc)
+  map_draw_of_nil : (s : S) (r : Answered C E) (t : S) (g : F) → GivesMade of steps from s [] → MapDrawsOne s r t g → r ≡ end
+  map_draw_of_nil s _ t g a (end_passes step d) = refl
+  map_draw_of_nil s _ t g a (failure_passes e step d) = absurd (let w = a (Err e) _ step in cc)
+  map_draw_of_nil s _ t g a (keeps x v y step called is d) = absurd (let w = a (Ok (Some x)) _ step in cc)
+  map_draw_of_nil s _ t g a (refuses x v e step called is d) = absurd (let w = a (Ok (Some x)) _ step in cc)
+  map_draw_of_nil s _ t g a (closes x v step called is d) = absurd (let w = a (Ok (Some x)) _ step in cc)
+  map_draw_of_nil s r t g a (leaves_out x v step called is d) = absurd (let w = a (Ok (Some x)) _ step in cc)
 
   -- what the map makes of one of the list
   abbrev told_of : Result X E → Result Y E
   told_of (Ok x) = Ok (h x)
   told_of (Err e) = Err e
 
-  abbrev AfterOf : Result X E → List (Result X E) → Answered C E → S → F → Type 0
-  AfterOf z l r t g = AtRefusal made MapSteps from r (t, g) ⊎ (IsMadeOf made (told_of z) r × (g ≡ f) × GivesMade of steps from t l)
+  abbrev MapRefusedOrMade : Result X E → List (Result X E) → Answered C E → S → F → Type 0
+  MapRefusedOrMade z l r t g = AtRefusal made MapSteps from r (t, g) ⊎ (IsMadeOf made (told_of z) r × (g ≡ f) × GivesMade of steps from t l)
 
-  failed_of : (z : Result X E) (l : List (Result X E)) (e : E) (t : S) → IsRefusal from e ⊎ ((z ≡ Err e) × GivesMade of steps from t l) → AfterOf z l (Err e) t f
-  failed_of z l e t (inl r) = inl (inl (e, refl, r))
-  failed_of z l e t (inr k) = inr (subst (λ (w : Result X E). IsMadeOf made (told_of w) (Err e)) (sym k.0) refl, refl, k.1)
+  map_draw_of_failure : (z : Result X E) (l : List (Result X E)) (e : E) (t : S) → IsRefusal from e ⊎ ((z ≡ Err e) × GivesMade of steps from t l) → MapRefusedOrMade z l (Err e) t f
+  map_draw_of_failure z l e t (inl r) = inl (inl (e, refl, r))
+  map_draw_of_failure z l e t (inr k) = inr (subst (λ (w : Result X E). IsMadeOf made (told_of w) (Err e)) (sym k.0) refl, refl, k.1)
 
-  kept_of : (z : Result X E) (l : List (Result X E)) (b : B) (v : Result C E) (y : C) (t : S) (g : F) → map_outcome b v ≡ Kept y → call f b v g → ItemTold of steps from z b t (GivesMade of steps from t l) → AfterOf z l (Ok (Some y)) t g
-  kept_of z l b v y t g is called (inl (x, m, next)) = let c = makes x b v g m called in inl (inr (h x, y, is_made_of_kept made from b (Ok (h x)) v y is c.1, refl, refuses_behind t g c.0 next))
-  kept_of z l b v y t g is called (inr (x, same, m, rest)) = let c = makes x b v g m called in inr (subst (λ (w : Result X E). IsMadeOf made (told_of w) (Ok (Some y))) (sym same) (is_made_of_kept made from b (Ok (h x)) v y is c.1), c.0, rest)
+  map_draw_of_kept : (z : Result X E) (l : List (Result X E)) (b : B) (v : Result C E) (y : C) (t : S) (g : F) → map_outcome b v ≡ Kept y → call f b v g → ItemTold of steps from z b t (GivesMade of steps from t l) → MapRefusedOrMade z l (Ok (Some y)) t g
+  map_draw_of_kept z l b v y t g is called (inl (x, m, next)) = let c = makes x b v g m called in inl (inr (h x, y, is_made_of_kept made from b (Ok (h x)) v y is c.1, refl, refuses_behind t g c.0 next))
+  map_draw_of_kept z l b v y t g is called (inr (x, same, m, rest)) = let c = makes x b v g m called in inr (subst (λ (w : Result X E). IsMadeOf made (told_of w) (Ok (Some y))) (sym same) (is_made_of_kept made from b (Ok (h x)) v y is c.1), c.0, rest)
 
   refused_by_call : (x : X) (b : B) (v : Result C E) (e : E) → map_outcome b v ≡ Failure e → IsToldOrRefused made from (Ok (h x)) v → AnswersRefusal {B = C} from (Err e)
   refused_by_call x b v e is m = elim (answers_refusal_failed_made made from b (Ok (h x)) v e is m) [ inl r ↦ r | inr k ↦ absurd k ]
 
-  lost_of : (z : Result X E) (l : List (Result X E)) (b : B) (v : Result C E) (e : E) (t : S) (g : F) → map_outcome b v ≡ Failure e → call f b v g → ItemTold of steps from z b t (GivesMade of steps from t l) → AfterOf z l (Err e) t g
-  lost_of z l b v e t g is called (inl (x, m, next)) = inl (inl (refused_by_call x b v e is (makes x b v g m called).1))
-  lost_of z l b v e t g is called (inr (x, same, m, rest)) = inl (inl (refused_by_call x b v e is (makes x b v g m called).1))
+  map_draw_of_failing_call : (z : Result X E) (l : List (Result X E)) (b : B) (v : Result C E) (e : E) (t : S) (g : F) → map_outcome b v ≡ Failure e → call f b v g → ItemTold of steps from z b t (GivesMade of steps from t l) → MapRefusedOrMade z l (Err e) t g
+  map_draw_of_failing_call z l b v e t g is called (inl (x, m, next)) = inl (inl (refused_by_call x b v e is (makes x b v g m called).1))
+  map_draw_of_failing_call z l b v e t g is called (inr (x, same, m, rest)) = inl (inl (refused_by_call x b v e is (makes x b v g m called).1))
 
-  one_of : (z : Result X E) (l : List (Result X E)) (s : S) (r : Answered C E) (t : S) (g : F) → GivesMade of steps from s (z ∷ l) → OneOf s r t g → AfterOf z l r t g
-  one_of z l s _ t g a (end_passes step d) = end_told of steps from z _ (a (Ok None) _ step)
-  one_of z l s _ t g a (failure_passes e step done) = failed_of z l e t (failure_told of steps from z e t (a (Err e) t step))
-  one_of z l s _ t g a (keeps b v y step called is done) = kept_of z l b v y t g is called (item_told of steps from z b t (a (Ok (Some b)) t step))
-  one_of z l s _ t g a (refuses b v e step called is done) = lost_of z l b v e t g is called (item_told of steps from z b t (a (Ok (Some b)) t step))
-  one_of z l s _ t g a (closes b v step called is d) = absurd (made_never_ends made from b v is)
-  one_of z l s r t g a (leaves_out b v step called is d) = absurd (none_left_out made from b v is)
+  map_draw_of_gives_made : (z : Result X E) (l : List (Result X E)) (s : S) (r : Answered C E) (t : S) (g : F) → GivesMade of steps from s (z ∷ l) → MapDrawsOne s r t g → MapRefusedOrMade z l r t g
+  map_draw_of_gives_made z l s _ t g a (end_passes step d) = end_told of steps from z _ (a (Ok None) _ step)
+  map_draw_of_gives_made z l s _ t g a (failure_passes e step done) = map_draw_of_failure z l e t (failure_told of steps from z e t (a (Err e) t step))
+  map_draw_of_gives_made z l s _ t g a (keeps b v y step called is done) = map_draw_of_kept z l b v y t g is called (item_told of steps from z b t (a (Ok (Some b)) t step))
+  map_draw_of_gives_made z l s _ t g a (refuses b v e step called is done) = map_draw_of_failing_call z l b v e t g is called (item_told of steps from z b t (a (Ok (Some b)) t step))
+  map_draw_of_gives_made z l s _ t g a (closes b v step called is d) = absurd (made_never_ends made from b v is)
+  map_draw_of_gives_made z l s r t g a (leaves_out b v step called is d) = absurd (none_left_out made from b v is)
 
-  abbrev GivesOf : S → F → List (Result Y E) → Type 0
-  GivesOf t g k = GivesMade made MapSteps from (t, g) k
+  abbrev MapGivesMade : S → F → List (Result Y E) → Type 0
+  MapGivesMade t g k = GivesMade made MapSteps from (t, g) k
 
-  then_of : (z : Result X E) (l : List (Result X E)) (k : List (Result Y E)) → ((t : S) → GivesMade of steps from t l → GivesOf t f k) → (r : Answered C E) (t : S) (g : F) → AfterOf z l r t g → AtRefusal made MapSteps from r (t, g) ⊎ (IsMadeOf made (told_of z) r × GivesOf t g k)
-  then_of z l k later r t g (inl q) = inl q
-  then_of z l k later r t g (inr w) = inr (w.0, subst (λ (j : F). GivesOf t j k) (sym w.1) (later t w.2))
+  map_gives_made_after : (z : Result X E) (l : List (Result X E)) (k : List (Result Y E)) → ((t : S) → GivesMade of steps from t l → MapGivesMade t f k) → (r : Answered C E) (t : S) (g : F) → MapRefusedOrMade z l r t g → AtRefusal made MapSteps from r (t, g) ⊎ (IsMadeOf made (told_of z) r × MapGivesMade t g k)
+  map_gives_made_after z l k later r t g (inl q) = inl q
+  map_gives_made_after z l k later r t g (inr w) = inr (w.0, subst (λ (j : F). MapGivesMade t j k) (sym w.1) (later t w.2))
 
   abbrev one_told : X → Result Y E
   one_told x = Ok (h x)
 
-  all_of_made : (l : List (Result X E)) (s : S) → GivesMade of steps from s l → GivesOf s f (mapped (λ x. Ok (h x)) l)
+  all_of_made : (l : List (Result X E)) (s : S) → GivesMade of steps from s l → MapGivesMade s f (mapped (λ x. Ok (h x)) l)
   unfolding mapped
-  all_of_made [] s a = λ r t w. ended_of s r t.0 t.1 a (passes_of_pass_trace w)
-  all_of_made (Err d ∷ l) s a = λ r t w. then_of (Err d) l (mapped (λ x. Ok (h x)) l) (λ u b. all_of_made l u b) r t.0 t.1 (one_of (Err d) l s r t.0 t.1 a (passes_of_pass_trace w))
-  all_of_made (Ok x ∷ l) s a = λ r t w. then_of (Ok x) l (mapped (λ x. Ok (h x)) l) (λ u b. all_of_made l u b) r t.0 t.1 (one_of (Ok x) l s r t.0 t.1 a (passes_of_pass_trace w))
+  all_of_made [] s a = λ r t w. map_draw_of_nil s r t.0 t.1 a (passes_of_pass_trace w)
+  all_of_made (Err d ∷ l) s a = λ r t w. map_gives_made_after (Err d) l (mapped (λ x. Ok (h x)) l) (λ u b. all_of_made l u b) r t.0 t.1 (map_draw_of_gives_made (Err d) l s r t.0 t.1 a (passes_of_pass_trace w))
+  all_of_made (Ok x ∷ l) s a = λ r t w. map_gives_made_after (Ok x) l (mapped (λ x. Ok (h x)) l) (λ u b. all_of_made l u b) r t.0 t.1 (map_draw_of_gives_made (Ok x) l s r t.0 t.1 a (passes_of_pass_trace w))
 
 -- `map` over what lists made values lists what h makes of them, up to an allocation failure
 pub made_by_map_of_made : {S F X Y B C E : Type 0} (steps : S → Answered B E → S → Type 0) (g : Mut F (B × Unit {0}) (Result C E)) (of : X → B → Type 0) (made : Y → C → Type 0) (from : AllocError → E → Type 0) (h : X → Y) {it : S} {f : F} (l : List (Result X E)) {s : Map S F} → map_parts s ≡ (it, f) → MakesOf of made from (call_on g) f h → ListsMade of steps from it l
@@ -265,13 +265,13 @@ module _ {S V B E : Type 0} (steps : S → Answered B E → S → Type 0) (made 
   abbrev DrawsTold : List (Result V E) → List B → Answered B E → Type 0
   DrawsTold l ys last = AnswersRefusal from last ⊎ DrawnMade made l ys last
 
-  after_held : (ys : List B) (last : Answered B E) (s t : S) → RefusesNext steps from s → Run steps s (map item ys ++ last ∷ []) t → AnswersRefusal from last
-  after_held [] last s t a ran = a last ran.0 ran.1
-  after_held (y ∷ ys) last s t a ran = absurd (let e = (a (item y) ran.0 ran.1).1 in cc)
+  last_refused_of_refuses_next : (ys : List B) (last : Answered B E) (s t : S) → RefusesNext steps from s → Run steps s (map item ys ++ last ∷ []) t → AnswersRefusal from last
+  last_refused_of_refuses_next [] last s t a ran = a last ran.0 ran.1
+  last_refused_of_refuses_next (y ∷ ys) last s t a ran = absurd (let e = (a (item y) ran.0 ran.1).1 in cc)
 
-  one_more : (v : V) (y : B) (l : List (Result V E)) (ys : List B) (last : Answered B E) → made v y → DrawsTold l ys last → DrawsTold (Ok v ∷ l) (y ∷ ys) last
-  one_more v y l ys last m (inl r) = inl r
-  one_more v y l ys last m (inr d) = inr (one_before made v y l ys last m d)
+  draws_told_cons : (v : V) (y : B) (l : List (Result V E)) (ys : List B) (last : Answered B E) → made v y → DrawsTold l ys last → DrawsTold (Ok v ∷ l) (y ∷ ys) last
+  draws_told_cons v y l ys last m (inl r) = inl r
+  draws_told_cons v y l ys last m (inr d) = inr (one_before made v y l ys last m d)
 
   last_failed : (z : Result V E) (e : E) (l : List (Result V E)) {G : Type 0} → IsRefusal from e ⊎ ((z ≡ Err e) × G) → DrawsTold (z ∷ l) [] (Err e)
   last_failed z e l (inl r) = inl (e, refl, r)
@@ -282,8 +282,8 @@ module _ {S V B E : Type 0} (steps : S → Answered B E → S → Type 0) (made 
   last_item z y l t (inr (x, same, m, rest)) = inr (none_before made (z ∷ l) (Ok (Some y)) (x, m))
 
   first_item : (z : Result V E) (y : B) (l : List (Result V E)) (ys : List B) (last : Answered B E) (u t : S) → ((k : GivesMade made steps from u l) → DrawsTold l ys last) → Run steps u (map item ys ++ last ∷ []) t → ItemTold made steps from z y u (GivesMade made steps from u l) → DrawsTold (z ∷ l) (y ∷ ys) last
-  first_item z y l ys last u t later ran (inl (x, m, next)) = inl (after_held ys last u t next ran)
-  first_item z y l ys last u t later ran (inr (x, same, m, rest)) = subst (λ (w : Result V E). DrawsTold (w ∷ l) (y ∷ ys) last) (sym same) (one_more x y l ys last m (later rest))
+  first_item z y l ys last u t later ran (inl (x, m, next)) = inl (last_refused_of_refuses_next ys last u t next ran)
+  first_item z y l ys last u t later ran (inr (x, same, m, rest)) = subst (λ (w : Result V E). DrawsTold (w ∷ l) (y ∷ ys) last) (sym same) (draws_told_cons x y l ys last m (later rest))
 
   last_told : (z : Result V E) (l : List (Result V E)) (last : Answered B E) (s t : S) → MadeOrRefused s (z ∷ l) → steps s last t → DrawsTold (z ∷ l) [] last
   last_told z l (Ok None) s t a step = end_told made steps from z t (a (Ok None) t step)
@@ -381,49 +381,49 @@ module _ {S V B E : Type 0} (steps : S → Answered B E → S → Type 0) (made 
 -- ---- what folds make of it
 
 module _ {X B D C E E' F : Type 0} (of : X → B → Type 0) (made : D → C → Type 0) (from' : AllocError → E' → Type 0) (call : F → C → B → Result C E' → F → Type 0) (f : F) (h : D → X → D) (makes : MakesWith of made from' call f h) (convert : E → E') where
-  abbrev Fold : D → List (Result X E) → Result D E'
-  Fold d l = folded convert (λ a x. Ok (h a x)) d l
+  abbrev folded_by_values : D → List (Result X E) → Result D E'
+  folded_by_values d l = folded convert (λ a x. Ok (h a x)) d l
 
   fold_went : (x : X) (y : B) (d : D) (c : C) (q : C × F) → made d c → of x y → went_on_with call (c, f) y q → made (h d x) q.0 × (q.1 ≡ f)
   fold_went x y d c q m n called = let k = makes d c x y (Ok q.0) q.1 m n called in (k.1, k.0)
 
   -- what the value is made of after calls that went on, of which the fold of the list goes on
-  record Went (vs : List X) (d : D) (q : C × F) : Type 0 where
+  record FoldWentMade (vs : List X) (d : D) (q : C × F) : Type 0 where
     value : D
     is_made : made value q.0
     stays : q.1 ≡ f
-    goes_on : (rest : List (Result X E)) → Fold d (map (λ v. Ok v) vs ++ rest) ≡ Fold value rest
+    goes_on : (rest : List (Result X E)) → folded_by_values d (map (λ v. Ok v) vs ++ rest) ≡ folded_by_values value rest
 
-  went_before : (v : X) (vs : List X) (d : D) (q : C × F) → Went vs (h d v) q → Went (v ∷ vs) d q
+  went_before : (v : X) (vs : List X) (d : D) (q : C × F) → FoldWentMade vs (h d v) q → FoldWentMade (v ∷ vs) d q
   unfolding folded
   went_before v vs d q w = record { value = w.value; is_made = w.is_made; stays = w.stays; goes_on = w.goes_on }
 
-  all_went : (vs : List X) (ys : List B) (d : D) (c : C) (q : C × F) → EachMade of vs ys → made d c → FoldsTo {P = C × F} (went_on_with call) (c, f) ys q → Went vs d q
-  all_went [] [] d c q each m went = subst (λ (p : C × F). Went [] d p) went (record { value = d; is_made = m; stays = refl; goes_on = λ rest. refl })
+  all_went : (vs : List X) (ys : List B) (d : D) (c : C) (q : C × F) → EachMade of vs ys → made d c → FoldsTo {P = C × F} (went_on_with call) (c, f) ys q → FoldWentMade vs d q
+  all_went [] [] d c q each m went = subst (λ (p : C × F). FoldWentMade [] d p) went (record { value = d; is_made = m; stays = refl; goes_on = λ rest. refl })
   all_went [] (y ∷ ys) d c q each m went = absurd each
   all_went (v ∷ vs) [] d c q each m went = absurd each
   all_went (v ∷ vs) (y ∷ ys) d c q each m went = let k = fold_went v y d c went.0 m each.0 went.1 in went_before v vs d q (all_went vs ys (h d v) (went.0).0 q each.1 k.0 (subst (λ (g : F). FoldsTo {P = C × F} (went_on_with call) ((went.0).0, g) ys q) k.1 went.2))
 
-  fold_nil : (d : D) → Fold d [] ≡ Ok d
+  fold_nil : (d : D) → folded_by_values d [] ≡ Ok d
   unfolding folded
   fold_nil d = refl
 
-  fold_failed : (d : D) (e : E) (l : List (Result X E)) → Fold d (Err e ∷ l) ≡ Err (convert e)
+  fold_failed : (d : D) (e : E) (l : List (Result X E)) → folded_by_values d (Err e ∷ l) ≡ Err (convert e)
   unfolding folded
   fold_failed d e l = refl
 
   module _ (from : AllocError → E → Type 0) (converts_by : E → E' → Type 0) (converts : Converts converts_by convert) (refusals : (e : E) (e' : E') → IsRefusal from e → converts_by e e' → IsRefusal from' e') where
-    by_exit : (l : List (Result X E)) (ys : List B) (last : Answered B E) (d : D) (c : C) (q : C × F) (r : Result C E') → made d c → FoldsTo {P = C × F} (went_on_with call) (c, f) ys q → FoldExit call converts_by q.0 q.1 last r → AnswersRefusal from last ⊎ DrawnMade of l ys last → IsToldOrRefused made from' (Fold d l) r
-    by_exit l ys (Ok None) d c q r m went exit (inl w) = absurd (let e = w.1 in cc)
-    by_exit l ys (Ok (Some y)) d c q r m went exit (inl w) = absurd (let e = w.1 in cc)
-    by_exit l ys (Err e) d c q r m went (e', by, is) (inl w) = rw is (refused_result made from' (Fold d l) e' (refusals e e' (subst (IsRefusal from) (let k = w.1 in cc) w.2) by))
-    by_exit l ys (Ok None) d c q r m went exit (inr k) = let w = all_went k.values ys d c q k.each m went in
-        rw (exit, ap (Fold d) k.list_is ∙ w.goes_on k.rest ∙ ap (Fold w.value) k.rest_is ∙ fold_nil w.value) w.is_made
-    by_exit l ys (Err e) d c q r m went (e', by, is) (inr k) = let w = all_went k.values ys d c q k.each m went in
-        rw is (failed_result made from' (Fold d l) e' (ap (Fold d) k.list_is ∙ w.goes_on k.rest ∙ ap (Fold w.value) k.rest_is.1 ∙ fold_failed w.value e k.rest_is.0 ∙ ap (λ z. Err z) (sym (converts e e' by))))
-    by_exit l ys (Ok (Some y)) d c q r m went (g, e', called, is) (inr k) = let w = all_went k.values ys d c q k.each m went in
-        rw is (refused_result made from' (Fold d l) e' (makes w.value q.0 k.rest_is.0 y (Err e') g w.is_made k.rest_is.1 (subst (λ (j : F). call j q.0 y (Err e') g) w.stays called)).1)
+    fold_made_of_exit : (l : List (Result X E)) (ys : List B) (last : Answered B E) (d : D) (c : C) (q : C × F) (r : Result C E') → made d c → FoldsTo {P = C × F} (went_on_with call) (c, f) ys q → FoldExit call converts_by q.0 q.1 last r → AnswersRefusal from last ⊎ DrawnMade of l ys last → IsToldOrRefused made from' (folded_by_values d l) r
+    fold_made_of_exit l ys (Ok None) d c q r m went exit (inl w) = absurd (let e = w.1 in cc)
+    fold_made_of_exit l ys (Ok (Some y)) d c q r m went exit (inl w) = absurd (let e = w.1 in cc)
+    fold_made_of_exit l ys (Err e) d c q r m went (e', by, is) (inl w) = rw is (refused_result made from' (folded_by_values d l) e' (refusals e e' (subst (IsRefusal from) (let k = w.1 in cc) w.2) by))
+    fold_made_of_exit l ys (Ok None) d c q r m went exit (inr k) = let w = all_went k.values ys d c q k.each m went in
+        rw (exit, ap (folded_by_values d) k.list_is ∙ w.goes_on k.rest ∙ ap (folded_by_values w.value) k.rest_is ∙ fold_nil w.value) w.is_made
+    fold_made_of_exit l ys (Err e) d c q r m went (e', by, is) (inr k) = let w = all_went k.values ys d c q k.each m went in
+        rw is (failed_result made from' (folded_by_values d l) e' (ap (folded_by_values d) k.list_is ∙ w.goes_on k.rest ∙ ap (folded_by_values w.value) k.rest_is.1 ∙ fold_failed w.value e k.rest_is.0 ∙ ap (λ z. Err z) (sym (converts e e' by))))
+    fold_made_of_exit l ys (Ok (Some y)) d c q r m went (g, e', called, is) (inr k) = let w = all_went k.values ys d c q k.each m went in
+        rw is (refused_result made from' (folded_by_values d l) e' (makes w.value q.0 k.rest_is.0 y (Err e') g w.is_made k.rest_is.1 (subst (λ (j : F). call j q.0 y (Err e') g) w.stays called)).1)
 
 -- What `try_fold` returns over what lists made values: a value made of the one that the list is folded to, its first failure, or an allocation failure. The failure made of an `AllocError` is one of the closure's error too.
 pub folded_made : {S X B D C E E' F : Type 0} (steps : S → Answered B E → S → Type 0) (g : Mut F (C × (B × Unit {0})) (Result C E')) (of : X → B → Type 0) (made : D → C → Type 0) (from : AllocError → E → Type 0) (from' : AllocError → E' → Type 0) (converts_by : E → E' → Type 0) (convert : E → E') (h : D → X → D) {s t : S} {f : F} {c : C} (d : D) (l : List (Result X E)) (r : Result C E') → FoldDrains steps (call_with g) converts_by s c f r t → made d c → MakesWith of made from' (call_with g) f h → Converts converts_by convert → ((e : E) (e' : E') → IsRefusal from e → converts_by e e' → IsRefusal from' e') → ListsMade of steps from s l → IsToldOrRefused made from' (folded convert (λ a x. Ok (h a x)) d l) r
-folded_made steps g of made from from' converts_by convert h {s} {t} {f} {c} d l r k m makes converts refusals i = by_exit of made from' (call_with g) f h makes convert from converts_by converts refusals l k.items k.last d c (k.at.value, k.at.closure) r m k.at.went k.at.exit (draws_told steps of from k.items k.last l s t i.runs k.ran)
+folded_made steps g of made from from' converts_by convert h {s} {t} {f} {c} d l r k m makes converts refusals i = fold_made_of_exit of made from' (call_with g) f h makes convert from converts_by converts refusals l k.items k.last d c (k.at.value, k.at.closure) r m k.at.went k.at.exit (draws_told steps of from k.items k.last l s t i.runs k.ran)

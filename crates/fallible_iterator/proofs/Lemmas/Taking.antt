@@ -117,26 +117,26 @@ answers_from_here_taking p x here took is same = record { at = λ whole i. let k
 
 module _ {A E B : Type 0} (p : A → Bool) (h : B → A → Result B E) where
   -- the value that it comes to from b on, and what it leaves
-  abbrev pub comes_to : B → List (Result A E) → Result B E × List (Result A E)
-  comes_to b l = (folded_if p h b l, rest_fold_if p h b l)
+  abbrev pub folded_if_and_rest : B → List (Result A E) → Result B E × List (Result A E)
+  folded_if_and_rest b l = (folded_if p h b l, rest_fold_if p h b l)
 
   -- the same at an item, by the answers of the test and of h
   abbrev at_item : Bool → Result B E → B → A → List (Result A E) → Result B E × List (Result A E)
   at_item w v b x l = (by_test w (on_value v (λ c. folded_if p h c l)) (Ok b), by_test w (rest_failed v l (λ c. rest_fold_if p h c l)) (Ok x ∷ l))
 
-  comes_to_item : (b c : B) (x : A) (l : List (Result A E)) → p x ≡ true → h b x ≡ Ok c → comes_to b (Ok x ∷ l) ≡ comes_to c l
+  comes_to_item : (b c : B) (x : A) (l : List (Result A E)) → p x ≡ true → h b x ≡ Ok c → folded_if_and_rest b (Ok x ∷ l) ≡ folded_if_and_rest c l
   unfolding folded_if rest_fold_if
   comes_to_item b c x l accepted is = ap (λ w. at_item w (h b x) b x l) accepted ∙ ap (λ v. at_item true v b x l) is
 
-  comes_to_item_failure : (b : B) (e : E) (x : A) (l : List (Result A E)) → p x ≡ true → h b x ≡ Err e → comes_to b (Ok x ∷ l) ≡ (Err e, l)
+  comes_to_item_failure : (b : B) (e : E) (x : A) (l : List (Result A E)) → p x ≡ true → h b x ≡ Err e → folded_if_and_rest b (Ok x ∷ l) ≡ (Err e, l)
   unfolding folded_if rest_fold_if
   comes_to_item_failure b e x l accepted is = ap (λ w. at_item w (h b x) b x l) accepted ∙ ap (λ v. at_item true v b x l) is
 
-  comes_to_failure : (b : B) (e : E) (l : List (Result A E)) → comes_to b (Err e ∷ l) ≡ (Err e, l)
+  comes_to_failure : (b : B) (e : E) (l : List (Result A E)) → folded_if_and_rest b (Err e ∷ l) ≡ (Err e, l)
   unfolding folded_if rest_fold_if
   comes_to_failure b e l = refl
 
-  comes_to_end : (b : B) (l : List (Result A E)) → RefusesFirst p l → comes_to b l ≡ (Ok b, l)
+  comes_to_end : (b : B) (l : List (Result A E)) → RefusesFirst p l → folded_if_and_rest b l ≡ (Ok b, l)
   unfolding folded_if rest_fold_if
   comes_to_end b [] refused = refl
   comes_to_end b (Ok x ∷ l) refused = ap (λ w. at_item w (h b x) b x l) refused
@@ -172,22 +172,22 @@ module _ {A E B : Type 0} (p : A → Bool) (h : B → A → Result B E) where
 
 -- ---- at each way out: the value, and what is left
 
-module _ {S A E B : Type 0} {steps : S → Answered A E → S → Type 0} (p : A → Bool) {s0 s t : S} {r : Answered A E} (took : TookIf steps p s r t) (h : B → A → Result B E) {b0 b : B} (here : AnswersFromHere steps (comes_to p h) s0 b0 s b) where
-  pub answers_from_here_folding : {c : B} (x : A) → r ≡ Ok (Some x) → (p x ≡ true → h b x ≡ Ok c) → AnswersFromHere steps (comes_to p h) s0 b0 t c
+module _ {S A E B : Type 0} {steps : S → Answered A E → S → Type 0} (p : A → Bool) {s0 s t : S} {r : Answered A E} (took : TookIf steps p s r t) (h : B → A → Result B E) {b0 b : B} (here : AnswersFromHere steps (folded_if_and_rest p h) s0 b0 s b) where
+  pub answers_from_here_folding : {c : B} (x : A) → r ≡ Ok (Some x) → (p x ≡ true → h b x ≡ Ok c) → AnswersFromHere steps (folded_if_and_rest p h) s0 b0 t c
   answers_from_here_folding {c = c} x is same = answers_from_here_taking p x here took is (λ l accepted. comes_to_item p h b c x l accepted (same accepted))
 
   -- what is returned, and what is left
-  abbrev ComesToWhole : Result B E → List (Result A E) → Type 0
-  ComesToWhole v whole = (v ≡ folded_if p h b0 whole) × Lists steps t (rest_fold_if p h b0 whole)
+  abbrev ReturnsFoldedIf : Result B E → List (Result A E) → Type 0
+  ReturnsFoldedIf v whole = (v ≡ folded_if p h b0 whole) × Lists steps t (rest_fold_if p h b0 whole)
 
-  comes_where : (v : Result B E) (whole l : List (Result A E)) → comes_to p h b0 whole ≡ (v, l) → Lists steps t l → ComesToWhole v whole
+  comes_where : (v : Result B E) (whole l : List (Result A E)) → folded_if_and_rest p h b0 whole ≡ (v, l) → Lists steps t l → ReturnsFoldedIf v whole
   comes_where v whole l is i = (sym (ap (λ z. z.0) is), subst (λ z. Lists steps t z) (sym (ap (λ z. z.1) is)) i)
 
-  pub comes_fold_ends : r ≡ Ok None → (whole : List (Result A E)) → Lists steps s0 whole → ComesToWhole (Ok b) whole
+  pub comes_fold_ends : r ≡ Ok None → (whole : List (Result A E)) → Lists steps s0 whole → ReturnsFoldedIf (Ok b) whole
   comes_fold_ends is whole i = let k = none_taken p here took whole i is in comes_where (Ok b) whole k.0 (k.3 ∙ comes_to_end p h b k.0 k.2) k.1
 
-  pub comes_fold_fails : (e : E) → r ≡ Err e → (whole : List (Result A E)) → Lists steps s0 whole → ComesToWhole (Err e) whole
+  pub comes_fold_fails : (e : E) → r ≡ Err e → (whole : List (Result A E)) → Lists steps s0 whole → ReturnsFoldedIf (Err e) whole
   comes_fold_fails e is whole i = let k = failure_met p here took whole i e is in comes_where (Err e) whole k.0 (k.2 ∙ comes_to_failure p h b e k.0) k.1
 
-  pub comes_fold_stops : (e : E) (x : A) → r ≡ Ok (Some x) → (p x ≡ true → h b x ≡ Err e) → (whole : List (Result A E)) → Lists steps s0 whole → ComesToWhole (Err e) whole
+  pub comes_fold_stops : (e : E) (x : A) → r ≡ Ok (Some x) → (p x ≡ true → h b x ≡ Err e) → (whole : List (Result A E)) → Lists steps s0 whole → ReturnsFoldedIf (Err e) whole
   comes_fold_stops e x is same whole i = let k = item_taken p here took whole i x is in comes_where (Err e) whole k.0 (k.3 ∙ comes_to_item_failure p h b e x k.0 k.2 (same k.2)) k.1

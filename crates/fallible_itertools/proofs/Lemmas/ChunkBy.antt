@@ -12,7 +12,7 @@ use Rattle.fallible_itertools.specs.Holding.{held_one}
 use Rattle.fallible_iterator.proofs.Lemmas.Making.{lists_made_seen}
 use Rattle.fallible_itertools.proofs.Lemmas.HoldingHints.{GivesHeld}
 use Rattle.fallible_itertools.proofs.Lemmas.HoldingLists.{by_outcome, before_stop, held_list, listed_parts}
-use Rattle.fallible_itertools.proofs.Lemmas.HoldingMade.{AnswersHeld, IfKept, OutcomeMade, IsRefused, gives_held_made}
+use Rattle.fallible_itertools.proofs.Lemmas.HoldingMade.{AnswersHeld, NoFailureAndIfKept, OutcomeMade, IsRefused, gives_held_made}
 use Rattle.std.specs.declared.alloc.AllocError.{AllocError}
 use Rattle.fallible_iterator.specs.Outcome.{Outcome}
 use Rattle.fallible_iterator.specs.Outcome.TheVariants.{Kept, LeftOut, Failure, End}
@@ -116,11 +116,11 @@ module _ {A K E : Type 0} (from : AllocError → E → Type 0) (eq : K → K →
     at_on_stop : (p : F × Option (Group K A)) (a : Option (K × List A)) (o : Outcome (Group K A) E) (q : F × Option (Group K A)) → HeldAndState p a → chunk_by_asks from eq c p None o q → HeldAndState q (next_group eq h a None) × OutcomeMade MadeGroup (group_outcome eq h a None) o
     at_on_stop p a o q at w = let k = held_as_stop_on p.1 a o q.1 at.1 w.1 in ((w.0 ∙ at.0, k.0), k.1)
 
-group_made : {A K E : Type 0} (g : Option (Group K A)) (o : Outcome (Group K A) E) (q : Option (Group K A)) → group_at_stop g o q → IfKept (λ y. (k : K × List A) × MadeGroup k y) o
+group_made : {A K E : Type 0} (g : Option (Group K A)) (o : Outcome (Group K A) E) (q : Option (Group K A)) → group_at_stop g o q → NoFailureAndIfKept (λ y. (k : K × List A) × MadeGroup k y) o
 group_made (Some g) o q w = rw w.0 ((g.0, vec_items g.1), (refl, refl))
 group_made None o q w = rw w.0 tt
 
-made_at_stop : {A K E F : Type 0} (from : AllocError → E → Type 0) (eq : K → K → Bool) (c : Mut F (Bor A × Unit {0}) (Result K E)) (p : F × Option (Group K A)) (o : Outcome (Group K A) E) (q : F × Option (Group K A)) → chunk_by_asks from eq c p None o q → IfKept (λ y. (k : K × List A) × MadeGroup k y) o
+made_at_stop : {A K E F : Type 0} (from : AllocError → E → Type 0) (eq : K → K → Bool) (c : Mut F (Bor A × Unit {0}) (Result K E)) (p : F × Option (Group K A)) (o : Outcome (Group K A) E) (q : F × Option (Group K A)) → chunk_by_asks from eq c p None o q → NoFailureAndIfKept (λ y. (k : K × List A) × MadeGroup k y) o
 made_at_stop from eq c p o q w = group_made p.1 o q.1 w.1
 
 module _ {A K E : Type 0} (eq : K → K → Bool) (h : A → Result K E) where
@@ -160,29 +160,29 @@ module _ {A K E : Type 0} (eq : K → K → Bool) (h : A → Result K E) where
     none_left = group_never_left_out;
   }
 
-  abbrev ListedFrom : Option (K × List A) → List (Result A E) → List (Result (K × List A) E)
-  ListedFrom a l = held_list (group_outcome eq h) (next_group eq h) a l
+  abbrev held_groups_listed : Option (K × List A) → List (Result A E) → List (Result (K × List A) E)
+  held_groups_listed a l = held_list (group_outcome eq h) (next_group eq h) a l
 
-  by_outcome_cons_at : (g : K × List A) (x : A) (j : K) (b : Bool) (l : List (Result A E)) (more other : List (Result (K × List A) E)) (failed : E → List (Result (K × List A) E)) → ListedFrom (Some (g.0, g.1 ++ x ∷ [])) l ≡ more → ListedFrom (Some (j, x ∷ [])) l ≡ other → by_outcome (group_outcome_at E g b) (ListedFrom (next_group_at g x j b) l) failed ≡ group_or eq h g b more other
+  by_outcome_cons_at : (g : K × List A) (x : A) (j : K) (b : Bool) (l : List (Result A E)) (more other : List (Result (K × List A) E)) (failed : E → List (Result (K × List A) E)) → held_groups_listed (Some (g.0, g.1 ++ x ∷ [])) l ≡ more → held_groups_listed (Some (j, x ∷ [])) l ≡ other → by_outcome (group_outcome_at E g b) (held_groups_listed (next_group_at g x j b) l) failed ≡ group_or eq h g b more other
   by_outcome_cons_at g x j true l more other failed is_more is_other = is_more
   by_outcome_cons_at g x j false l more other failed is_more is_other = ap (λ k. Ok g ∷ k) is_other
 
-  abbrev ChunkedFrom : Option (K × List A) → List (Result A E) → List (Result (K × List A) E)
-  ChunkedFrom a l = chunked_by_from eq h a l
+  abbrev groups_chunked_from : Option (K × List A) → List (Result A E) → List (Result (K × List A) E)
+  groups_chunked_from a l = chunked_by_from eq h a l
 
   -- what the closure's failure makes
   abbrev lost_at : Option (K × List A) → List (Result A E) → E → List (Result (K × List A) E)
-  lost_at a l e = before_stop (group_outcome eq h a None) (Err e ∷ ListedFrom None l)
+  lost_at a l e = before_stop (group_outcome eq h a None) (Err e ∷ held_groups_listed None l)
 
-  by_outcome_begun : (x : A) (v : Result K E) (l : List (Result A E)) → ((a : Option (K × List A)) → ListedFrom a l ≡ ChunkedFrom a l) → by_outcome (group_outcome_by eq None v) (ListedFrom (next_group_by eq None x v) l) (lost_at (next_group_by eq None x v) l) ≡ by_its_key eq h None v (λ k. ChunkedFrom (Some (k, x ∷ [])) l) (ChunkedFrom None l)
+  by_outcome_begun : (x : A) (v : Result K E) (l : List (Result A E)) → ((a : Option (K × List A)) → held_groups_listed a l ≡ groups_chunked_from a l) → by_outcome (group_outcome_by eq None v) (held_groups_listed (next_group_by eq None x v) l) (lost_at (next_group_by eq None x v) l) ≡ by_its_key eq h None v (λ k. groups_chunked_from (Some (k, x ∷ [])) l) (groups_chunked_from None l)
   by_outcome_begun x (Ok k) l later = later (Some (k, x ∷ []))
   by_outcome_begun x (Err e) l later = ap (λ z. Err e ∷ z) (later None)
 
-  by_outcome_cons : (g : K × List A) (x : A) (v : Result K E) (l : List (Result A E)) → ((a : Option (K × List A)) → ListedFrom a l ≡ ChunkedFrom a l) → by_outcome (group_outcome_by eq (Some g) v) (ListedFrom (next_group_by eq (Some g) x v) l) (lost_at (next_group_by eq (Some g) x v) l) ≡ by_its_key eq h (Some g) v (λ j. group_or eq h g (eq g.0 j) (ChunkedFrom (Some (g.0, g.1 ++ x ∷ [])) l) (ChunkedFrom (Some (j, x ∷ [])) l)) (ChunkedFrom None l)
+  by_outcome_cons : (g : K × List A) (x : A) (v : Result K E) (l : List (Result A E)) → ((a : Option (K × List A)) → held_groups_listed a l ≡ groups_chunked_from a l) → by_outcome (group_outcome_by eq (Some g) v) (held_groups_listed (next_group_by eq (Some g) x v) l) (lost_at (next_group_by eq (Some g) x v) l) ≡ by_its_key eq h (Some g) v (λ j. group_or eq h g (eq g.0 j) (groups_chunked_from (Some (g.0, g.1 ++ x ∷ [])) l) (groups_chunked_from (Some (j, x ∷ [])) l)) (groups_chunked_from None l)
   by_outcome_cons g x (Ok j) l later = by_outcome_cons_at g x j (eq g.0 j) l _ _ _ (later (Some (g.0, g.1 ++ x ∷ []))) (later (Some (j, x ∷ [])))
   by_outcome_cons g x (Err e) l later = ap (λ k. Ok g ∷ Err e ∷ k) (later None)
 
-  listed_is_chunked_from : (a : Option (K × List A)) (l : List (Result A E)) → ListedFrom a l ≡ ChunkedFrom a l
+  listed_is_chunked_from : (a : Option (K × List A)) (l : List (Result A E)) → held_groups_listed a l ≡ groups_chunked_from a l
   unfolding chunked_by_from
   listed_is_chunked_from None [] = refl
   listed_is_chunked_from (Some g) [] = refl
@@ -191,16 +191,16 @@ module _ {A K E : Type 0} (eq : K → K → Bool) (h : A → Result K E) where
   listed_is_chunked_from None (Err e ∷ l) = ap (λ z. Err e ∷ z) (listed_is_chunked_from None l)
   listed_is_chunked_from (Some g) (Err e ∷ l) = ap (λ z. Ok g ∷ Err e ∷ z) (listed_is_chunked_from None l)
 
-  pub listed_is_chunked_by : (l : List (Result A E)) → ListedFrom None l ≡ chunked_by eq h l
+  pub listed_is_chunked_by : (l : List (Result A E)) → held_groups_listed None l ≡ chunked_by eq h l
   unfolding chunked_by
   listed_is_chunked_by l = listed_is_chunked_from None l
 
-  next_at_stop : (a : Option (K × List A)) → next_group eq h a None ≡ None
-  next_at_stop a = refl
+  next_held_at_stop_none : (a : Option (K × List A)) → next_group eq h a None ≡ None
+  next_held_at_stop_none a = refl
 
   -- What stands before a failure is grouped by itself, and so is what comes after it.
   pub chunked_by_in_parts : (a : List (Result A E)) (e : E) (b : List (Result A E)) → chunked_by eq h (a ++ Err e ∷ b) ≡ chunked_by eq h a ++ Err e ∷ chunked_by eq h b
-  chunked_by_in_parts a e b = listed_parts (group_outcome eq h) (next_group eq h) None next_at_stop (λ a x is. no_end_by a (h x) is) (chunked_by eq h) listed_is_chunked_by a e b
+  chunked_by_in_parts a e b = listed_parts (group_outcome eq h) (next_group eq h) None next_held_at_stop_none (λ a x is. no_end_by a (h x) is) (chunked_by eq h) listed_is_chunked_by a e b
 
 pub lists_up_to_refusal_chunked : {S F A K E : Type 0} (m : Contract S A E) (from : AllocError → E → Type 0) (eq : K → K → Bool) (c : Mut F (Bor A × Unit {0}) (Result K E)) (f : F) (h : A → Result K E) → Acts (call_at c) f h → (s : ChunkBy S K F A E) (l : List (Result A E)) → chunk_by_parts s ≡ (s.it, ((f, None), None)) → Lists m.steps s.it l → ListsMade MadeGroup (seen_as chunk_by_parts (chunk_by_contract from eq c m)).steps from s (chunked_by eq h l)
 lists_up_to_refusal_chunked m from eq c f h acts s l parts i = lists_made_seen MadeGroup from chunk_by_parts (chunk_by_contract from eq c m).steps s _ _ _ parts (listed_is_chunked_by eq h l) (gives_held_made m.steps (chunk_by_asks from eq c) MadeGroup from (HeldAndState from eq c f h acts) (group_outcome eq h) (next_group eq h) (refuses_on_item from eq c f h acts) (at_on_stop from eq c f h acts) FullGroup (answers_of_chunk_by eq h) (made_at_stop from eq c) l s.it (f, None) None (refl, tt) i.runs)

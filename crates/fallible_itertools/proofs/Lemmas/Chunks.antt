@@ -9,7 +9,7 @@ use Rattle.fallible_itertools.specs.Chunks.{Grows, batch_or, chunked, chunked_fr
 use Rattle.fallible_itertools.specs.Batch.{held_items}
 use Rattle.fallible_iterator.proofs.Lemmas.Making.{lists_made_seen}
 use Rattle.fallible_itertools.proofs.Lemmas.HoldingLists.{by_outcome, before_stop, held_list, listed_parts}
-use Rattle.fallible_itertools.proofs.Lemmas.HoldingMade.{AnswersHeld, IfKept, OutcomeMade, IsRefused, gives_held_made}
+use Rattle.fallible_itertools.proofs.Lemmas.HoldingMade.{AnswersHeld, NoFailureAndIfKept, OutcomeMade, IsRefused, gives_held_made}
 use Rattle.std.specs.declared.vec.Vec.{Vec}
 use Rattle.std.specs.declared.alloc.Global.{Global}
 use Rattle.std.specs.declared.alloc.AllocError.{AllocError}
@@ -107,7 +107,7 @@ module _ {A E : Type 0} (from : AllocError → E → Type 0) (n : ℕ) where
   at_on_stop p a (Failure e) q at w = absurd w
   at_on_stop p a End q at (none, is) = (subst (λ k. HeldAndNumber k []) (sym is) (at.0, subst (λ k. HeldAs k []) (sym none) tt), outcome_made_none_at_end p.1 a at.1 none)
 
-  made_at_stop : (p : ℕ × Option (Vec A Global)) (o : Outcome (Vec A Global) E) (q : ℕ × Option (Vec A Global)) → chunks_asks from p None o q → IfKept (λ v. (xs : List A) × batch_made xs v) o
+  made_at_stop : (p : ℕ × Option (Vec A Global)) (o : Outcome (Vec A Global) E) (q : ℕ × Option (Vec A Global)) → chunks_asks from p None o q → NoFailureAndIfKept (λ v. (xs : List A) × batch_made xs v) o
   made_at_stop p (Kept w) q h = (vec_items w, refl)
   made_at_stop p LeftOut q h = tt
   made_at_stop p (Failure e) q h = h
@@ -155,12 +155,12 @@ module _ {A E : Type 0} (from : AllocError → E → Type 0) (n : ℕ) where
   unfolding chunked
   held_list_is_chunked l = held_list_is_chunked_from [] l
 
-  next_at_stop : (a : List A) → next_batch n a None ≡ []
-  next_at_stop a = refl
+  next_held_at_stop_none : (a : List A) → next_batch n a None ≡ []
+  next_held_at_stop_none a = refl
 
   -- What stands before a failure is batched by itself, and so is what comes after it.
   pub chunked_in_parts : (a : List (Result A E)) (e : E) (b : List (Result A E)) → chunked n (a ++ Err e ∷ b) ≡ chunked n a ++ Err e ∷ chunked n b
-  chunked_in_parts a e b = listed_parts (batch_outcome n) (next_batch n) [] next_at_stop (λ a x is. no_end_at (a ++ x ∷ []) (ltb (length (a ++ x ∷ [])) n) is) (chunked n) held_list_is_chunked a e b
+  chunked_in_parts a e b = listed_parts (batch_outcome n) (next_batch n) [] next_held_at_stop_none (λ a x is. no_end_at (a ++ x ∷ []) (ltb (length (a ++ x ∷ [])) n) is) (chunked n) held_list_is_chunked a e b
 
 pub lists_up_to_refusal_chunked : {S A E : Type 0} (m : Contract S A E) (from : AllocError → E → Type 0) (n : ℕ) (s : Chunks S A E) (l : List (Result A E)) → chunks_parts s ≡ (s.it, ((n, None), None)) → Lists m.steps s.it l → ListsMade (λ xs v. vec_items v ≡ xs) (seen_as chunks_parts (chunks_contract from m)).steps from s (chunked n l)
 lists_up_to_refusal_chunked m from n s l parts i = lists_made_seen (λ xs v. vec_items v ≡ xs) from chunks_parts (chunks_contract from m).steps s _ _ _ parts (held_list_is_chunked from n l) (gives_held_made m.steps (chunks_asks from) (λ xs v. vec_items v ≡ xs) from (HeldAndNumber from n) (batch_outcome n) (next_batch n) (refuses_on_item from n) (at_on_stop from n) FullBatch (answers_of_chunks from n) (made_at_stop from n) l s.it (n, None) [] (refl, tt) i.runs)

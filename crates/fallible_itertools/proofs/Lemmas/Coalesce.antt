@@ -43,9 +43,9 @@ module _ {A E : Type 0} (h : A → A → OneOrBoth A E) where
   held_outcome None None = End
   held_outcome (Some y) None = Kept y
 
-  next_at_stop : (a : Option A) → next_held a None ≡ None
-  next_at_stop None = refl
-  next_at_stop (Some y) = refl
+  next_held_at_stop_none : (a : Option A) → next_held a None ≡ None
+  next_held_at_stop_none None = refl
+  next_held_at_stop_none (Some y) = refl
 
   no_end_by : (v : OneOrBoth A E) → held_outcome_by v ≡ End → ⊥
   no_end_by (Ok (Ok z)) is = absurd cc
@@ -80,7 +80,7 @@ module _ {A E : Type 0} (h : A → A → OneOrBoth A E) where
 
   -- What stands before a failure is put together by itself, and so is what comes after it.
   pub coalesced_in_parts : (a : List (Result A E)) (e : E) (b : List (Result A E)) → coalesced h (a ++ Err e ∷ b) ≡ coalesced h a ++ Err e ∷ coalesced h b
-  coalesced_in_parts a e b = listed_parts held_outcome next_held None next_at_stop outcome_never_end (coalesced h) held_list_is_coalesced a e b
+  coalesced_in_parts a e b = listed_parts held_outcome next_held None next_held_at_stop_none outcome_never_end (coalesced h) held_list_is_coalesced a e b
 
   module _ {F : Type 0} (call : F → A → A → OneOrBoth A E → F → Type 0) (f : F) (acts_with : ActsWith call f h) where
     pair_of_parts : (q : Option A × F) {held : Option A} → q.0 ≡ held → q.1 ≡ f → q ≡ (held, f)

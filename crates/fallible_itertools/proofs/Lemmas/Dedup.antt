@@ -23,9 +23,9 @@ module _ {A : Type 0} (eq : A → A → Bool) where
   next_held None None = None
   next_held (Some y) None = None
 
-  next_at_stop : (a : Option A) → next_held a None ≡ None
-  next_at_stop None = refl
-  next_at_stop (Some y) = refl
+  next_held_at_stop_none : (a : Option A) → next_held a None ≡ None
+  next_held_at_stop_none None = refl
+  next_held_at_stop_none (Some y) = refl
 
 module _ {A E : Type 0} (eq : A → A → Bool) where
   abbrev held_outcome_at : A → Bool → Outcome A E
@@ -82,7 +82,7 @@ module _ {A E : Type 0} (eq : A → A → Bool) where
 
   -- What stands before a failure is deduped by itself, and so is what comes after it.
   pub deduped_in_parts : (a : List (Result A E)) (e : E) (b : List (Result A E)) → deduped eq (a ++ Err e ∷ b) ≡ deduped eq a ++ Err e ∷ deduped eq b
-  deduped_in_parts a e b = listed_parts held_outcome (next_held eq) None (next_at_stop eq) outcome_never_end (deduped eq) held_list_is_deduped a e b
+  deduped_in_parts a e b = listed_parts held_outcome (next_held eq) None (next_held_at_stop_none eq) outcome_never_end (deduped eq) held_list_is_deduped a e b
 
 pub lists_deduped : {S A E : Type 0} (m : Contract S A E) (eq : A → A → Bool) (s : Dedup S A E) (l : List (Result A E)) → dedup_parts s ≡ (s.it, (None, None)) → Lists m.steps s.it l → Lists (seen_as dedup_parts (dedup_contract eq m)).steps s (deduped eq l)
 lists_deduped m eq s l parts i = lists_seen dedup_parts (dedup_contract eq m).steps s parts (held_list_is_deduped eq l) (gives_held_list m.steps (dedup_asks eq) (λ p a. p ≡ a) (held_outcome eq) (next_held eq) (acts_by_next eq) (outcome_never_end eq) (outcome_at_stop_not_left_out eq) l s.it None None refl i.runs)

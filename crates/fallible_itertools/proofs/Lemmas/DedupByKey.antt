@@ -94,12 +94,12 @@ module _ {A K E : Type 0} (eq : K → K → Bool) where
     unfolding deduped_by_key
     held_list_is_deduped_by_key l = held_list_is_deduped_from None l
 
-    next_at_stop : (a : Option (K × A)) → next_held a None ≡ None
-    next_at_stop a = refl
+    next_held_at_stop_none : (a : Option (K × A)) → next_held a None ≡ None
+    next_held_at_stop_none a = refl
 
     -- What stands before a failure is deduped by itself, and so is what comes after it.
     pub deduped_by_key_in_parts : (a : List (Result A E)) (e : E) (b : List (Result A E)) → deduped_by_key eq h (a ++ Err e ∷ b) ≡ deduped_by_key eq h a ++ Err e ∷ deduped_by_key eq h b
-    deduped_by_key_in_parts a e b = listed_parts held_outcome next_held None next_at_stop outcome_never_end (deduped_by_key eq h) held_list_is_deduped_by_key a e b
+    deduped_by_key_in_parts a e b = listed_parts held_outcome next_held None next_held_at_stop_none outcome_never_end (deduped_by_key eq h) held_list_is_deduped_by_key a e b
 
     module _ {F : Type 0} (call : F → A → Result K E → F → Type 0) (f : F) (acts_as : Acts call f h) where
       pair_of_parts : (q : Option (K × A) × F) {held : Option (K × A)} → q.0 ≡ held → q.1 ≡ f → q ≡ (held, f)

@@ -15,9 +15,9 @@ acts_wanted : {A E : Type 0} (eq : A → A → Bool) (wanted : A) → Acts (Test
 acts_wanted eq wanted x r g c = (refl, c)
 
 module _ {S A E : Type 0} {steps : S → Answered A E → S → Type 0} (eq : A → A → Bool) (wanted : A) {s t : S} {r : Result Bool E} (l : List (Result A E)) (i : Lists steps s l) where
-  pub contained_is : SearchDrains (TestCall (λ x. eq x wanted)) any_pick steps false s tt r t tt → r ≡ contained eq wanted l
+  pub contained_of_search_drains : SearchDrains (TestCall (λ x. eq x wanted)) any_pick steps false s tt r t tt → r ≡ contained eq wanted l
   unfolding contained
-  contained_is w = any_of_lists l i {call = TestCall (λ x. eq x wanted)} (λ x. Ok (eq x wanted)) (acts_wanted eq wanted) w
+  contained_of_search_drains w = any_of_lists l i {call = TestCall (λ x. eq x wanted)} (λ x. Ok (eq x wanted)) (acts_wanted eq wanted) w
 
   pub rest_contained_is : SearchDrains (TestCall (λ x. eq x wanted)) any_pick steps false s tt r t tt → ¬ (r ≡ Ok false) → Lists steps t (rest_contained eq wanted l)
   unfolding rest_contained
@@ -57,14 +57,14 @@ module _ {S A E : Type 0} (steps : S → Answered A E → S → Type 0) (eq : A 
     drawn : steps s first mid
     after : AfterFirst first mid
 
-  of_one : (s : S) (last : Answered A E) → Run steps s (last ∷ []) t → SearchExit (FirstCall eq) all_pick true 0 None last r q → FromFirst s
-  of_one s (Ok None) ran exit = record { first = Ok None; mid = ran.0; drawn = ran.1; after = exit.0 }
-  of_one s (Err e) ran exit = record { first = Err e; mid = ran.0; drawn = ran.1; after = (exit.0, ran.2) }
-  of_one s (Ok (Some x)) ran exit = absurd (first_goes_on 0 x r exit)
+  from_first_of_last_answer : (s : S) (last : Answered A E) → Run steps s (last ∷ []) t → SearchExit (FirstCall eq) all_pick true 0 None last r q → FromFirst s
+  from_first_of_last_answer s (Ok None) ran exit = record { first = Ok None; mid = ran.0; drawn = ran.1; after = exit.0 }
+  from_first_of_last_answer s (Err e) ran exit = record { first = Err e; mid = ran.0; drawn = ran.1; after = (exit.0, ran.2) }
+  from_first_of_last_answer s (Ok (Some x)) ran exit = absurd (first_goes_on 0 x r exit)
 
-  of_items : (s : S) (items : List A) (last : Answered A E) → Run steps s (map item items ++ last ∷ []) t → SearchedBy (FirstCall eq) all_pick true None r q items last → FromFirst s
-  of_items s [] last ran at = of_one s last ran (subst (λ c. SearchExit (FirstCall eq) all_pick true 0 c last r q) (sym at.went) at.exit)
-  of_items s (x ∷ items) last ran at = let went = at.went in let kept : went.0 ≡ Some x = (went.1).1.1 in record {
+  from_first_of_run : (s : S) (items : List A) (last : Answered A E) → Run steps s (map item items ++ last ∷ []) t → SearchedBy (FirstCall eq) all_pick true None r q items last → FromFirst s
+  from_first_of_run s [] last ran at = from_first_of_last_answer s last ran (subst (λ c. SearchExit (FirstCall eq) all_pick true 0 c last r q) (sym at.went) at.exit)
+  from_first_of_run s (x ∷ items) last ran at = let went = at.went in let kept : went.0 ≡ Some x = (went.1).1.1 in record {
     first = Ok (Some x);
     mid = ran.0;
     drawn = ran.1;
@@ -81,7 +81,7 @@ module _ {S A E : Type 0} (steps : S → Answered A E → S → Type 0) (eq : A 
   }
 
   from_first : (s : S) → SearchDrains (FirstCall eq) all_pick steps true s None r t q → FromFirst s
-  from_first s w = of_items s w.items w.last w.ran w.at
+  from_first s w = from_first_of_run s w.items w.last w.ran w.at
 
 acts_first : {A E : Type 0} (eq : A → A → Bool) (x : A) → Acts (FirstCall {E = E} eq) (Some x) (λ y. Ok (eq x y))
 acts_first eq x y r q c = (c.1, c.0)

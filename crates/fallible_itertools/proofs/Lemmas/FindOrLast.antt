@@ -12,9 +12,9 @@ use Rattle.fallible_iterator.proofs.Lemmas.Lists.Searched.{found_of_lists}
 use Rattle.fallible_itertools.specs.FindOrLast.{found_or, IsFindLastTurn, FoundOrLast, found_or_last}
 
 -- a search that stops at an item finds one
-finds_one : {A : Type 0} (n : ℕ) (x : A) (v : Bool) → find_pick n x v ≡ Some None → ⊥
-finds_one n x true e = cc
-finds_one n x false e = cc
+find_pick_not_none : {A : Type 0} (n : ℕ) (x : A) (v : Bool) → find_pick n x v ≡ Some None → ⊥
+find_pick_not_none n x true e = cc
+find_pick_not_none n x false e = cc
 
 module _ {A E F : Type 0} (call : F → A → Result Bool E → F → Type 0) where
   -- the search went on over the items, and the last of them is kept
@@ -28,15 +28,15 @@ module _ {A E F : Type 0} (call : F → A → Result Bool E → F → Type 0) wh
   found_exit (Ok (Some x)) n c d answer h = subst (λ (z : Result (Option A) E). SearchDecides call find_pick n c.1 x z d.1) (sym (ap (answer_by None) h.2)) (h.1 n)
 
   -- where the predicate decided, it isn't called again
-  decided_or : (n : ℕ) (f : F) (x : A) (stop : Result (Option A) E) (g : F) (a b : Result (Option A) E) → SearchDecides call find_pick n f x stop g → found_or stop a ≡ found_or stop b
-  decided_or n f x (Ok (Some y)) g a b d = refl
-  decided_or n f x (Ok None) g a b d = absurd (finds_one n x d.0 d.2)
-  decided_or n f x (Err e) g a b d = refl
+  found_or_of_decided : (n : ℕ) (f : F) (x : A) (stop : Result (Option A) E) (g : F) (a b : Result (Option A) E) → SearchDecides call find_pick n f x stop g → found_or stop a ≡ found_or stop b
+  found_or_of_decided n f x (Ok (Some y)) g a b d = refl
+  found_or_of_decided n f x (Ok None) g a b d = absurd (find_pick_not_none n x d.0 d.2)
+  found_or_of_decided n f x (Err e) g a b d = refl
 
   kept_last : (last : Answered A E) (c d : Option A × F) (answer : Answered (Result (Option A) E) E) (items : List A) → c.0 ≡ last_or None items → DriveExit (IsFindLastTurn call) c last answer d → found_or (answer_by None answer) (Ok d.0) ≡ found_or (answer_by None answer) (Ok (last_or None items))
   kept_last (Ok None) c d answer items at h = ap (λ (o : Option A). found_or (answer_by None answer) (Ok o)) (ap (λ p. p.0) h.1 ∙ at)
   kept_last (Err e) c d answer items at h = ap (λ (o : Option A). found_or (answer_by None answer) (Ok o)) (ap (λ p. p.0) h.1 ∙ at)
-  kept_last (Ok (Some x)) c d answer items at h = subst (λ (z : Answered (Result (Option A) E) E). found_or (answer_by None z) (Ok d.0) ≡ found_or (answer_by None z) (Ok (last_or None items))) (sym h.2) (decided_or 0 c.1 x h.0 d.1 (Ok d.0) (Ok (last_or None items)) (h.1 0))
+  kept_last (Ok (Some x)) c d answer items at h = subst (λ (z : Answered (Result (Option A) E) E). found_or (answer_by None z) (Ok d.0) ≡ found_or (answer_by None z) (Ok (last_or None items))) (sym h.2) (found_or_of_decided 0 c.1 x h.0 d.1 (Ok d.0) (Ok (last_or None items)) (h.1 0))
 
   -- where the search may call the predicate, the fold may
   pub last_callable : {S : Type 0} {steps : S → Answered A E → S → Type 0} {takes : F → A → Type 0} {s : S} {f : F} → CallableInSearch call find_pick steps takes s f → CallableDriving steps (IsFindLastTurn call) (λ p x. takes p.1 x) s (None, f)
@@ -55,7 +55,7 @@ module _ {A E F : Type 0} (call : F → A → Result Bool E → F → Type 0) wh
   or_last_of s t f items last (Err e) g l i ran at = refl
   or_last_of s t f items (Ok None) (Ok None) g l i ran at = last_of_lists l (record { items = items; last = Ok None; ran = ran; at = record { exit = refl } }) i
   or_last_of s t f items (Err e) (Ok None) g l i ran at = absurd (let d = at.exit.0 in cc)
-  or_last_of s t f items (Ok (Some x)) (Ok None) g l i ran at = absurd (finds_one (length items) x at.exit.0 at.exit.2)
+  or_last_of s t f items (Ok (Some x)) (Ok None) g l i ran at = absurd (find_pick_not_none (length items) x at.exit.0 at.exit.2)
 
   pub found_or_last_is : {S : Type 0} {steps : S → Answered A E → S → Type 0} {s t : S} {f g : F} {r : Result (Option A) E} (h : A → Result Bool E) → Acts call f h → (l : List (Result A E)) → Lists steps s l → FoundOrLast call steps s f r t g → r ≡ found_or_last h l
   unfolding found_or_last

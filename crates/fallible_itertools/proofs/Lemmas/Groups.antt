@@ -12,12 +12,12 @@ use Rattle.fallible_itertools.proofs.Lemmas.Adjacent.{EachNext, HoldsOfNext, adj
 
 module _ {A K : Type 0} (E : Type 0) (eq : K → K → Bool) (h : A → Result K E) where
   -- what comes at an item, by its key v, where g is held
-  abbrev keyed : K × List A → A → Result K E → List (Result A E) → List (Result (K × List A) E)
-  keyed g x v l = by_its_key eq h (Some g) v (λ k. group_or eq h g (eq g.0 k) (chunked_by_from eq h (Some (g.0, g.1 ++ x ∷ [])) l) (chunked_by_from eq h (Some (k, x ∷ [])) l)) (chunked_by_from eq h None l)
+  abbrev chunked_at_next_item : K × List A → A → Result K E → List (Result A E) → List (Result (K × List A) E)
+  chunked_at_next_item g x v l = by_its_key eq h (Some g) v (λ k. group_or eq h g (eq g.0 k) (chunked_by_from eq h (Some (g.0, g.1 ++ x ∷ [])) l) (chunked_by_from eq h (Some (k, x ∷ [])) l)) (chunked_by_from eq h None l)
 
   -- what comes at an item, by its key v, where no group is held
-  abbrev begun : A → Result K E → List (Result A E) → List (Result (K × List A) E)
-  begun x v l = by_its_key eq h None v (λ k. chunked_by_from eq h (Some (k, x ∷ [])) l) (chunked_by_from eq h None l)
+  abbrev chunked_at_first_item : A → Result K E → List (Result A E) → List (Result (K × List A) E)
+  chunked_at_first_item x v l = by_its_key eq h None v (λ k. chunked_by_from eq h (Some (k, x ∷ [])) l) (chunked_by_from eq h None l)
 
   -- ---- neighbours
 
@@ -28,7 +28,7 @@ module _ {A K : Type 0} (E : Type 0) (eq : K → K → Bool) (h : A → Result K
   next_or z g true more other d at = at
   next_or z g false more other d at = d
 
-  next_keyed : (z g : K × List A) (x : A) (v : Result K E) (l : List (Result A E)) → Differ z g → ((xs : List A) → HoldsOfNext Differ z (chunked_by_from eq h (Some (g.0, xs)) l)) → HoldsOfNext Differ z (keyed g x v l)
+  next_keyed : (z g : K × List A) (x : A) (v : Result K E) (l : List (Result A E)) → Differ z g → ((xs : List A) → HoldsOfNext Differ z (chunked_by_from eq h (Some (g.0, xs)) l)) → HoldsOfNext Differ z (chunked_at_next_item g x v l)
   next_keyed z g x (Ok k) l d rest = next_or z g (eq g.0 k) (chunked_by_from eq h (Some (g.0, g.1 ++ x ∷ [])) l) (chunked_by_from eq h (Some (k, x ∷ [])) l) d (rest (g.1 ++ x ∷ []))
   next_keyed z g x (Err e) l d rest = d
 
@@ -47,11 +47,11 @@ module _ {A K : Type 0} (E : Type 0) (eq : K → K → Bool) (h : A → Result K
   each_or g true more other next at_more at_other = at_more
   each_or g false more other next at_more at_other = (next refl, at_other)
 
-  each_begun : (x : A) (v : Result K E) (l : List (Result A E)) → EachOf l → EachNext Differ (begun x v l)
+  each_begun : (x : A) (v : Result K E) (l : List (Result A E)) → EachOf l → EachNext Differ (chunked_at_first_item x v l)
   each_begun x (Ok k) l rest = rest (Some (k, x ∷ []))
   each_begun x (Err e) l rest = rest None
 
-  each_keyed : (g : K × List A) (x : A) (v : Result K E) (l : List (Result A E)) → EachOf l → EachNext Differ (keyed g x v l)
+  each_keyed : (g : K × List A) (x : A) (v : Result K E) (l : List (Result A E)) → EachOf l → EachNext Differ (chunked_at_next_item g x v l)
   each_keyed g x (Ok k) l rest = each_or g (eq g.0 k) (chunked_by_from eq h (Some (g.0, g.1 ++ x ∷ [])) l) (chunked_by_from eq h (Some (k, x ∷ [])) l) (λ d. next_held g k (x ∷ []) l d) (rest (Some (g.0, g.1 ++ x ∷ []))) (rest (Some (k, x ∷ [])))
   each_keyed g x (Err e) l rest = (tt, rest None)
 
@@ -92,11 +92,11 @@ module _ {A K : Type 0} (E : Type 0) (eq : K → K → Bool) (h : A → Result K
   groups_or g true more other is at_more at_other = at_more refl
   groups_or g false more other is at_more at_other = (is, at_other)
 
-  groups_begun : (x : A) (v : Result K E) (l : List (Result A E)) → h x ≡ v → GroupsOf l → Groups (begun x v l)
+  groups_begun : (x : A) (v : Result K E) (l : List (Result A E)) → h x ≡ v → GroupsOf l → Groups (chunked_at_first_item x v l)
   groups_begun x (Ok k) l is rest = rest (Some (k, x ∷ [])) (alone k x is)
   groups_begun x (Err e) l is rest = rest None tt
 
-  groups_keyed : (g : K × List A) (x : A) (v : Result K E) (l : List (Result A E)) → IsGroup eq h g → h x ≡ v → GroupsOf l → Groups (keyed g x v l)
+  groups_keyed : (g : K × List A) (x : A) (v : Result K E) (l : List (Result A E)) → IsGroup eq h g → h x ≡ v → GroupsOf l → Groups (chunked_at_next_item g x v l)
   groups_keyed g x (Ok k) l held is rest = groups_or g (eq g.0 k) (chunked_by_from eq h (Some (g.0, g.1 ++ x ∷ [])) l) (chunked_by_from eq h (Some (k, x ∷ [])) l) held (λ same. rest (Some (g.0, g.1 ++ x ∷ [])) (grown g.0 g.1 x held (k, is, same))) (rest (Some (k, x ∷ [])) (alone k x is))
   groups_keyed g x (Err e) l held is rest = (held, rest None tt)
 
@@ -116,10 +116,10 @@ module _ {A K : Type 0} (E : Type 0) (eq : K → K → Bool) (h : A → Result K
   -- ---- an item without a key
 
   -- what comes at the item whose key fails is what comes at the failure
-  lost_at : (a : Option (K × List A)) (x : A) (e : E) (l : List (Result A E)) → h x ≡ Err e → chunked_by_from eq h a (Ok x ∷ l) ≡ chunked_by_from eq h a (Err e ∷ l)
+  chunked_by_from_key_failed : (a : Option (K × List A)) (x : A) (e : E) (l : List (Result A E)) → h x ≡ Err e → chunked_by_from eq h a (Ok x ∷ l) ≡ chunked_by_from eq h a (Err e ∷ l)
   unfolding chunked_by_from
-  lost_at None x e l is = ap (λ v. begun x v l) is
-  lost_at (Some g) x e l is = ap (λ v. keyed g x v l) is
+  chunked_by_from_key_failed None x e l is = ap (λ v. chunked_at_first_item x v l) is
+  chunked_by_from_key_failed (Some g) x e l is = ap (λ v. chunked_at_next_item g x v l) is
 
   -- of two rests that are grouped alike
   abbrev Alike : List (Result A E) → List (Result A E) → Type 0
@@ -129,17 +129,17 @@ module _ {A K : Type 0} (E : Type 0) (eq : K → K → Bool) (h : A → Result K
   alike_or g true more more_too other other_too same also = same
   alike_or g false more more_too other other_too same also = ap {B = List (Result (K × List A) E)} (λ k. Ok g ∷ k) also
 
-  alike_begun : (y : A) (v : Result K E) (l k : List (Result A E)) → Alike l k → begun y v l ≡ begun y v k
+  alike_begun : (y : A) (v : Result K E) (l k : List (Result A E)) → Alike l k → chunked_at_first_item y v l ≡ chunked_at_first_item y v k
   alike_begun y (Ok j) l k same = same (Some (j, y ∷ []))
   alike_begun y (Err d) l k same = ap {B = List (Result (K × List A) E)} (λ r. Err d ∷ r) (same None)
 
-  alike_keyed : (g : K × List A) (y : A) (v : Result K E) (l k : List (Result A E)) → Alike l k → keyed g y v l ≡ keyed g y v k
+  alike_keyed : (g : K × List A) (y : A) (v : Result K E) (l k : List (Result A E)) → Alike l k → chunked_at_next_item g y v l ≡ chunked_at_next_item g y v k
   alike_keyed g y (Ok j) l k same = alike_or g (eq g.0 j) _ _ _ _ (same (Some (g.0, g.1 ++ y ∷ []))) (same (Some (j, y ∷ [])))
   alike_keyed g y (Err d) l k same = ap {B = List (Result (K × List A) E)} (λ r. Ok g ∷ Err d ∷ r) (same None)
 
   lost_from : (a : Option (K × List A)) (before : List (Result A E)) (x : A) (e : E) (l : List (Result A E)) → h x ≡ Err e → chunked_by_from eq h a (before ++ Ok x ∷ l) ≡ chunked_by_from eq h a (before ++ Err e ∷ l)
   unfolding chunked_by_from
-  lost_from a [] x e l is = lost_at a x e l is
+  lost_from a [] x e l is = chunked_by_from_key_failed a x e l is
   lost_from None (Ok y ∷ before) x e l is = alike_begun y (h y) _ _ (λ a. lost_from a before x e l is)
   lost_from (Some g) (Ok y ∷ before) x e l is = alike_keyed g y (h y) _ _ (λ a. lost_from a before x e l is)
   lost_from None (Err d ∷ before) x e l is = ap {B = List (Result (K × List A) E)} (λ r. Err d ∷ r) (lost_from None before x e l is)

@@ -73,16 +73,16 @@ module _ {S P Q X B E : Type 0} (steps : S → Answered X E → S → Type 0) (a
   -- ---- a stop
 
   -- the stop, and then what comes
-  abbrev StopThen : Option E → List (Result B E) → List (Result B E)
-  StopThen None rest = []
-  StopThen (Some e) rest = Err e ∷ rest
+  abbrev stop_before_rest : Option E → List (Result B E) → List (Result B E)
+  stop_before_rest None rest = []
+  stop_before_rest (Some e) rest = Err e ∷ rest
 
   -- after an end nothing is said
   abbrev ThenGives : Option E → S → P → List (Result B E) → Type 0
   ThenGives None s p rest = ⊤
   ThenGives (Some e) s p rest = AlwaysGivesHeld s p rest
 
-  always_gives_due : (stop : Option E) (s : S) (p : P) (rest : List (Result B E)) → ThenGives stop s p rest → AlwaysGives StepsOfHoldingLists (s, (p, Some stop)) (StopThen stop rest)
+  always_gives_due : (stop : Option E) (s : S) (p : P) (rest : List (Result B E)) → ThenGives stop s p rest → AlwaysGives StepsOfHoldingLists (s, (p, Some stop)) (stop_before_rest stop rest)
   always_gives_due None s p rest g = λ r t w. w.0
   always_gives_due (Some e) s p rest g = λ r t w. (w.0, subst (λ (u : S × (P × Option (Option E))). AlwaysGives StepsOfHoldingLists u rest) (sym (ap (λ (u : S). (u, t.1)) w.1 ∙ ap (λ (k : P × Option (Option E)). (s, k)) w.2)) g)
 
@@ -94,10 +94,10 @@ module _ {S P Q X B E : Type 0} (steps : S → Answered X E → S → Type 0) (a
   at_met_as : (stop : Option E) (o : Outcome B E) (T : S → Type 0) (b : Q) (r : Answered B E) (t : S) (q : P × Option (Option E)) → does b None ≡ o → MetStop stop T b r t q → At q.0 (next b None) × BeforeStop stop o r q.1
   at_met_as stop o T b r t q is k = let a = k.3 in let c = acts k.0 b None a.0 q.0 k.1 a.1 in (c.0, subst (λ z. BeforeStop stop z r q.1) (c.1 ∙ is) a.2)
 
-  always_gives_due_then : (stop : Option E) (t : S) (q : P × Option (Option E)) (rest : List (Result B E)) → q.1 ≡ Some stop → ThenGives stop t q.0 rest → AlwaysGives StepsOfHoldingLists (t, q) (StopThen stop rest)
-  always_gives_due_then stop t q rest is g = subst (λ (d : Option (Option E)). AlwaysGives StepsOfHoldingLists (t, (q.0, d)) (StopThen stop rest)) (sym is) (always_gives_due stop t q.0 rest g)
+  always_gives_due_then : (stop : Option E) (t : S) (q : P × Option (Option E)) (rest : List (Result B E)) → q.1 ≡ Some stop → ThenGives stop t q.0 rest → AlwaysGives StepsOfHoldingLists (t, q) (stop_before_rest stop rest)
+  always_gives_due_then stop t q rest is g = subst (λ (d : Option (Option E)). AlwaysGives StepsOfHoldingLists (t, (q.0, d)) (stop_before_rest stop rest)) (sym is) (always_gives_due stop t q.0 rest g)
 
-  gives_at_stop : (stop : Option E) (o : Outcome B E) (T : S → Type 0) (s : S) (p : P) (b : Q) (rest : List (Result B E)) → does b None ≡ o → ((r : Answered B E) (t : S) (q : P × Option (Option E)) → StepsOfHoldingLists (s, (p, None)) r (t, q) → MetStop stop T b r t q) → ((u : S) (h : P) → At h (next b None) → T u → ThenGives stop u h rest) → AlwaysGivesHeld s p (before_stop o (StopThen stop rest))
+  gives_at_stop : (stop : Option E) (o : Outcome B E) (T : S → Type 0) (s : S) (p : P) (b : Q) (rest : List (Result B E)) → does b None ≡ o → ((r : Answered B E) (t : S) (q : P × Option (Option E)) → StepsOfHoldingLists (s, (p, None)) r (t, q) → MetStop stop T b r t q) → ((u : S) (h : P) → At h (next b None) → T u → ThenGives stop u h rest) → AlwaysGivesHeld s p (before_stop o (stop_before_rest stop rest))
   gives_at_stop stop (Kept y) T s p b rest is meets then = λ r t w. let k = meets r t.0 t.1 w in let c = at_met_as stop (Kept y) T b r t.0 t.1 is k in
       (c.1.0, always_gives_due_then stop t.0 t.1 rest c.1.1 (then t.0 t.1.0 c.0 k.2))
   gives_at_stop stop (Failure e) T s p b rest is meets then = λ r t w. let k = meets r t.0 t.1 w in let c = at_met_as stop (Failure e) T b r t.0 t.1 is k in

@@ -20,11 +20,11 @@ OutcomeMade made End End = ⊤
 OutcomeMade made a b = ⊥
 
 -- what is returned at a stop is no failure, and P holds of an item
-abbrev pub IfKept : {B E : Type 0} → (B → Type 0) → Outcome B E → Type 0
-IfKept P (Kept y) = P y
-IfKept P LeftOut = ⊤
-IfKept P (Failure e) = ⊥
-IfKept P End = ⊤
+abbrev pub NoFailureAndIfKept : {B E : Type 0} → (B → Type 0) → Outcome B E → Type 0
+NoFailureAndIfKept P (Kept y) = P y
+NoFailureAndIfKept P LeftOut = ⊤
+NoFailureAndIfKept P (Failure e) = ⊥
+NoFailureAndIfKept P End = ⊤
 
 -- a failure that is converted from an `AllocError`
 abbrev pub IsRefused : {B E : Type 0} → (AllocError → E → Type 0) → Outcome B E → Type 0
@@ -62,7 +62,7 @@ module _ {S P Q X Y B E : Type 0} (steps : S → Answered X E → S → Type 0) 
     (on_item : (p : P) (a : Q) (x : X) (o : Outcome B E) (q : P) → At p a → asks p (Some x) o q → IsRefused from o ⊎ (At q (next a (Some x)) × OutcomeMade made (does a (Some x)) o))
     (on_stop : (p : P) (a : Q) (o : Outcome B E) (q : P) → At p a → asks p None o q → At q (next a None) × OutcomeMade made (does a None) o)
     (Full : Q → Type 0) (answers : AnswersHeld does next Full)
-    (made_at_stop : (p : P) (o : Outcome B E) (q : P) → asks p None o q → IfKept (λ y. (z : Y) × made z y) o) where
+    (made_at_stop : (p : P) (o : Outcome B E) (q : P) → asks p None o q → NoFailureAndIfKept (λ y. (z : Y) × made z y) o) where
   abbrev StateOfHoldingMade : Type 0
   StateOfHoldingMade = S × (P × Option (Option E))
 
@@ -90,7 +90,7 @@ module _ {S P Q X Y B E : Type 0} (steps : S → Answered X E → S → Type 0) 
   refuses_next_due e is t q due = subst (λ (d : Option (Option E)). RefusesNext StepsOfHoldingMade from (t, (q.0, d))) (sym due) (refuses_next_refusal_due e is t q.0)
 
   -- a stop that is an allocation failure: it is returned, or is due
-  refused_of_outcome : (e : E) → IsRefusal from e → (o : Outcome B E) (r : Answered B E) (t : S) (q : P × Option (Option E)) → IfKept (λ y. (z : Y) × made z y) o → BeforeStop (Some e) o r q.1 → RefusedHere r (t, q)
+  refused_of_outcome : (e : E) → IsRefusal from e → (o : Outcome B E) (r : Answered B E) (t : S) (q : P × Option (Option E)) → NoFailureAndIfKept (λ y. (z : Y) × made z y) o → BeforeStop (Some e) o r q.1 → RefusedHere r (t, q)
   refused_of_outcome e is (Kept y) r t q m w = inr (m.0, y, m.1, w.0, refuses_next_due e is t q w.1)
   refused_of_outcome e is (Failure d) r t q m w = absurd m
   refused_of_outcome e is End r t q m w = inl (e, w.0, is)
@@ -99,21 +99,21 @@ module _ {S P Q X Y B E : Type 0} (steps : S → Answered X E → S → Type 0) 
   -- ---- a stop
 
   -- the stop, and then what comes
-  abbrev StopThen : Option E → List (Result Y E) → List (Result Y E)
-  StopThen None rest = []
-  StopThen (Some e) rest = Err e ∷ rest
+  abbrev stop_before_rest : Option E → List (Result Y E) → List (Result Y E)
+  stop_before_rest None rest = []
+  stop_before_rest (Some e) rest = Err e ∷ rest
 
   -- after an end nothing is said
   abbrev ThenGives : Option E → S → P → List (Result Y E) → Type 0
   ThenGives None s p rest = ⊤
   ThenGives (Some e) s p rest = GivesAtState s p rest
 
-  made_gives_due : (stop : Option E) (s : S) (p : P) (rest : List (Result Y E)) → ThenGives stop s p rest → MadeUpToRefusal (s, (p, Some stop)) (StopThen stop rest)
+  made_gives_due : (stop : Option E) (s : S) (p : P) (rest : List (Result Y E)) → ThenGives stop s p rest → MadeUpToRefusal (s, (p, Some stop)) (stop_before_rest stop rest)
   made_gives_due None s p rest g = λ r t w. w.0
   made_gives_due (Some e) s p rest g = λ r t w. inr (w.0, subst (λ (u : StateOfHoldingMade). MadeUpToRefusal u rest) (sym (ap (λ (u : S). (u, t.1)) w.1 ∙ ap (λ (k : P × Option (Option E)). (s, k)) w.2)) g)
 
-  made_due_then : (stop : Option E) (t : S) (q : P × Option (Option E)) (rest : List (Result Y E)) → q.1 ≡ Some stop → ThenGives stop t q.0 rest → MadeUpToRefusal (t, q) (StopThen stop rest)
-  made_due_then stop t q rest is g = subst (λ (d : Option (Option E)). MadeUpToRefusal (t, (q.0, d)) (StopThen stop rest)) (sym is) (made_gives_due stop t q.0 rest g)
+  made_due_then : (stop : Option E) (t : S) (q : P × Option (Option E)) (rest : List (Result Y E)) → q.1 ≡ Some stop → ThenGives stop t q.0 rest → MadeUpToRefusal (t, q) (stop_before_rest stop rest)
+  made_due_then stop t q rest is g = subst (λ (d : Option (Option E)). MadeUpToRefusal (t, (q.0, d)) (stop_before_rest stop rest)) (sym is) (made_gives_due stop t q.0 rest g)
 
   -- what is known of a draw that met a stop, where what is held is then as b says
   abbrev MetStop : Option E → (S → Type 0) → Q → Answered B E → S → P × Option (Option E) → Type 0
@@ -125,13 +125,13 @@ module _ {S P Q X Y B E : Type 0} (steps : S → Answered X E → S → Type 0) 
   OrRefused (Some e) refused P = refused ⊎ P
 
   -- a value that is held comes, and the stop is due
-  is_made_of_before_kept : (z : Y) (stop : Option E) (o : Outcome B E) (r : Answered B E) (t : S) (q : P × Option (Option E)) (rest : List (Result Y E)) → OutcomeMade made (Kept z) o → BeforeStop stop o r q.1 → ThenGives stop t q.0 rest → IsMadeOf made (Ok z) r × MadeUpToRefusal (t, q) (StopThen stop rest)
+  is_made_of_before_kept : (z : Y) (stop : Option E) (o : Outcome B E) (r : Answered B E) (t : S) (q : P × Option (Option E)) (rest : List (Result Y E)) → OutcomeMade made (Kept z) o → BeforeStop stop o r q.1 → ThenGives stop t q.0 rest → IsMadeOf made (Ok z) r × MadeUpToRefusal (t, q) (stop_before_rest stop rest)
   is_made_of_before_kept z stop (Kept y) r t q rest m w g = (subst (λ (k : Answered B E). IsMadeOf made (Ok z) k) (sym w.0) m, made_due_then stop t q rest w.1 g)
   is_made_of_before_kept z stop LeftOut r t q rest m w g = absurd m
   is_made_of_before_kept z stop (Failure e) r t q rest m w g = absurd m
   is_made_of_before_kept z stop End r t q rest m w g = absurd m
 
-  before_failed : (d : E) (stop : Option E) (o : Outcome B E) (r : Answered B E) (t : S) (q : P × Option (Option E)) (rest : List (Result Y E)) → OutcomeMade {Y = Y} made (Failure d) o → BeforeStop stop o r q.1 → ThenGives stop t q.0 rest → (r ≡ Err d) × MadeUpToRefusal (t, q) (StopThen stop rest)
+  before_failed : (d : E) (stop : Option E) (o : Outcome B E) (r : Answered B E) (t : S) (q : P × Option (Option E)) (rest : List (Result Y E)) → OutcomeMade {Y = Y} made (Failure d) o → BeforeStop stop o r q.1 → ThenGives stop t q.0 rest → (r ≡ Err d) × MadeUpToRefusal (t, q) (stop_before_rest stop rest)
   before_failed d stop (Kept y) r t q rest m w g = absurd m
   before_failed d stop LeftOut r t q rest m w g = absurd m
   before_failed d stop (Failure e) r t q rest m w g = (w.0 ∙ (let k : e ≡ d = m in cc), made_due_then stop t q rest w.1 g)

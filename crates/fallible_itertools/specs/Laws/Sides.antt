@@ -62,12 +62,12 @@ module _ {S A E : Type 0} (m : Contract S A E) where
     side_kept_given (s, None) t None c g = (side_kept_end_drawn s t c g, tt)
 
     -- what was yielded is held again
-    side_kept_put_back : (p : S × Option A) (t : S) (x : Option A) → SideKept p (t, None) (held_count x) (held_count x) → OfItem (side_gives m p) x → SideKept p (t, x) 0 0
-    side_kept_put_back p t None k g = k
-    side_kept_put_back p t (Some x) k g = record { can_next = k.can_next; is_finite = k.is_finite; bound = λ n b. let j = k.bound n b in (j.0 + 1, (j.0, j.1, omega arith), omega (arith, j.2)); remaining = λ f. let j = k.remaining f in (j.0, omega (arith, j.1)); gives = λ y h. elim h [ inl e ↦ subst (λ (z : A). side_gives m p z) (sym e) g | inr h ↦ k.gives y h ]; fails = k.fails; lenders = k.lenders }
+    side_kept_held_again : (p : S × Option A) (t : S) (x : Option A) → SideKept p (t, None) (held_count x) (held_count x) → OfItem (side_gives m p) x → SideKept p (t, x) 0 0
+    side_kept_held_again p t None k g = k
+    side_kept_held_again p t (Some x) k g = record { can_next = k.can_next; is_finite = k.is_finite; bound = λ n b. let j = k.bound n b in (j.0 + 1, (j.0, j.1, omega arith), omega (arith, j.2)); remaining = λ f. let j = k.remaining f in (j.0, omega (arith, j.1)); gives = λ y h. elim h [ inl e ↦ subst (λ (z : A). side_gives m p z) (sym e) g | inr h ↦ k.gives y h ]; fails = k.fails; lenders = k.lenders }
 
     pub side_kept_puts_back : (p : S × Option A) (t : S) (x : Option A) → m.can_next p.0 → GivesHeldFirst m.steps p (Ok x) t → SideKept p (t, x) 0 0
-    side_kept_puts_back p t x c g = let k = side_kept_given p t x c g in side_kept_put_back p t x k.0 k.1
+    side_kept_puts_back p t x c g = let k = side_kept_given p t x c g in side_kept_held_again p t x k.0 k.1
 
     -- what was yielded is held again, or dropped
     pub side_kept_holds : (p : S × Option A) (t : S) (x h : Option A) → (h ≡ None) ⊎ (h ≡ x) → m.can_next p.0 → GivesHeldFirst m.steps p (Ok x) t → SideKept p (t, h) (held_count x - held_count h) (held_count x - held_count h)
@@ -84,7 +84,7 @@ module _ {A B C E F V : Type 0} (rule : Rule A B C E F V) where
   MadeBy P Q f n (Err e) = rule.refuses P Q f e × (1 ≤ n)
 
   -- The rule was applied to what both sides gave, which P and Q allow, and P' and Q' allow no more than these.
-  pub record IsDecided (P P' : A → Type 0) (Q Q' : B → Type 0) (f : F) (x : Option A) (y : Option B) (v : V) (g : F) : Type 0 where
+  pub record IsDecidedByRule (P P' : A → Type 0) (Q Q' : B → Type 0) (f : F) (x : Option A) (y : Option B) (v : V) (g : F) : Type 0 where
     pub left_less : (z : A) → P' z → P z
     pub right_less : (z : B) → Q' z → Q z
     pub left_allowed : OfItem P x
@@ -97,10 +97,10 @@ module _ {A B C E F V : Type 0} (rule : Rule A B C E F V) where
     pub right_kept : (x : Option A) (y : Option B) (v : V) → (rule.right_held x y v ≡ None) ⊎ (rule.right_held x y v ≡ y)
     pub made : (P : A → Type 0) (Q : B → Type 0) (f : F) (x : Option A) (y : Option B) (v : V) (g : F) → OfItem P x → OfItem Q y → rule.decides f x y v g → MadeBy P Q f ((held_count x - held_count (rule.left_held x y v)) + (held_count y - held_count (rule.right_held x y v))) (rule.answer x y v)
     pub askable_less : (P P' : A → Type 0) (Q Q' : B → Type 0) (f : F) → ((z : A) → P' z → P z) → ((z : B) → Q' z → Q z) → rule.askable P Q f → rule.askable P' Q' f
-    pub askable_after : {P P' : A → Type 0} {Q Q' : B → Type 0} {f g : F} {x : Option A} {y : Option B} {v : V} → IsDecided P P' Q Q' f x y v g → rule.askable P Q f → rule.askable P' Q' g
+    pub askable_after : {P P' : A → Type 0} {Q Q' : B → Type 0} {f g : F} {x : Option A} {y : Option B} {v : V} → IsDecidedByRule P P' Q Q' f x y v g → rule.askable P Q f → rule.askable P' Q' g
     pub gives_more : (P P' : A → Type 0) (Q Q' : B → Type 0) (z : C) → ((z : A) → P' z → P z) → ((z : B) → Q' z → Q z) → rule.gives P' Q' z → rule.gives P Q z
     pub refuses_more : (P P' : A → Type 0) (Q Q' : B → Type 0) (f : F) (e : E) → ((z : A) → P' z → P z) → ((z : B) → Q' z → Q z) → rule.refuses P' Q' f e → rule.refuses P Q f e
-    pub refuses_before : {P P' : A → Type 0} {Q Q' : B → Type 0} {f g : F} {x : Option A} {y : Option B} {v : V} → IsDecided P P' Q Q' f x y v g → (e : E) → rule.refuses P' Q' g e → rule.refuses P Q f e
+    pub refuses_before : {P P' : A → Type 0} {Q Q' : B → Type 0} {f g : F} {x : Option A} {y : Option B} {v : V} → IsDecidedByRule P P' Q Q' f x y v g → (e : E) → rule.refuses P' Q' g e → rule.refuses P Q f e
 
 module _ {S U A B C E F V : Type 0} (left : Contract S A E) (right : Contract U B E) (rule : Rule A B C E F V) (hints : (S × Option A) × (U × Option B) × F → ℕ × Option ℕ → Type 0) where
   abbrev SidesState : Type 0
@@ -162,7 +162,7 @@ module _ {S U A B C E F V : Type 0} (left : Contract S A E) (right : Contract U 
         let o = held_count y - held_count i in
         let P = (side_kept_given left l p.0 t x c.0 a).1 in
         let Q = (side_kept_given right m p.1 u y c.1 b).1 in
-        let decided : IsDecided rule (side_gives left p.0) (side_gives left (t, h)) (side_gives right p.1) (side_gives right (u, i)) p.2 x y v g = record { left_less = k.gives; right_less = j.gives; left_allowed = P; right_allowed = Q; decided = d } in
+        let decided : IsDecidedByRule rule (side_gives left p.0) (side_gives left (t, h)) (side_gives right p.1) (side_gives right (u, i)) p.2 x y v g = record { left_less = k.gives; right_less = j.gives; left_allowed = P; right_allowed = Q; decided = d } in
         kept_by_draw_of_both p ((t, h), (u, i), g) n n o o k j w (rule.answer x y v) (owed_by_rule p (n + o) (rule.answer x y v) (w.made (side_gives left p.0) (side_gives right p.1) p.2 x y v g P Q d)) (w.askable_after decided c.2) (w.refuses_before decided)
 
     kept_by_draw_sides : (p : SidesState) (r : Answered C E) (q : SidesState) → SidesHere.can_next p → SidesHere.steps p r q → KeptByDraw SidesHere p r q

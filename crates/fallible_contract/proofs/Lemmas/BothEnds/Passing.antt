@@ -60,7 +60,7 @@ module _ {F X R : Type 0} (call : F → X → R → F → Type 0) where
 
 module _ {S F X R B E : Type 0} (front back : S → Answered X E → S → Type 0) (call : F → X → R → F → Type 0) (outcome : X → R → Outcome B E) (never_ends : (x : X) (v : R) → outcome x v ≡ End → ⊥) where
   -- what is listed of the source and its closure
-  pub record Says (p : S × F) (l : List (Result B E)) : Type 0 where
+  pub record ListedByCalls (p : S × F) (l : List (Result B E)) : Type 0 where
     pub asked : List (Result (X × R) E)
     pub list_is : l ≡ passed_list outcome asked
     pub listed : ListsBothEnds front back p.0 (source_list asked)
@@ -87,24 +87,24 @@ module _ {S F X R B E : Type 0} (front back : S → Answered X E → S → Type 
         steady = steady_after call (items_listed asked) f g x v (steady_rest call c (items_listed asked) f k) called;
       }
 
-  says_of_passed_list : (asked : List (Result (X × R) E)) (s : S) (f : F) → ListsBothEnds front back s (source_list asked) → Steady call f (items_listed asked) → Says (s, f) (passed_list outcome asked)
+  says_of_passed_list : (asked : List (Result (X × R) E)) (s : S) (f : F) → ListsBothEnds front back s (source_list asked) → Steady call f (items_listed asked) → ListedByCalls (s, f) (passed_list outcome asked)
   says_of_passed_list asked s f i k = record { asked = asked; list_is = refl; listed = i; steady = k }
 
-  takes_first_end : (asked : List (Result (X × R) E)) (s u : S) (f : F) → ListsBothEnds front back s (source_list asked) → front s end u → TakesFirst (λ l. Says (u, f) l) end (passed_list outcome asked)
+  takes_first_end : (asked : List (Result (X × R) E)) (s u : S) (f : F) → ListsBothEnds front back s (source_list asked) → front s end u → TakesFirst (λ l. ListedByCalls (u, f) l) end (passed_list outcome asked)
   takes_first_end [] s u f i step = (refl, says_of_passed_list [] u f (takes_first_front i step).1 (steady_none call f))
   takes_first_end (Ok c ∷ asked) s u f i step = absurd (let e = (takes_first_front i step).0 in cc)
   takes_first_end (Err e ∷ asked) s u f i step = absurd (let e = (takes_first_front i step).0 in cc)
 
-  takes_first_failure : (asked : List (Result (X × R) E)) (s u : S) (f : F) (d : E) → ListsBothEnds front back s (source_list asked) → Steady call f (items_listed asked) → front s (Err d) u → TakesFirst (λ l. Says (u, f) l) (Err d) (passed_list outcome asked)
+  takes_first_failure : (asked : List (Result (X × R) E)) (s u : S) (f : F) (d : E) → ListsBothEnds front back s (source_list asked) → Steady call f (items_listed asked) → front s (Err d) u → TakesFirst (λ l. ListedByCalls (u, f) l) (Err d) (passed_list outcome asked)
   takes_first_failure [] s u f d i k step = absurd (let e = (takes_first_front i step).0 in cc)
   takes_first_failure (Ok c ∷ asked) s u f d i k step = absurd (let e = (takes_first_front i step).0 in cc)
   takes_first_failure (Err e ∷ asked) s u f d i k step = let h = takes_first_front i step in let same : d ≡ e = (let q = h.0 in cc) in (ap (λ (z : E). Err z) same, says_of_passed_list asked u f h.1 k)
 
   -- the answer that an outcome is takes the first of the list
-  takes_first_outcome : (asked : List (Result (X × R) E)) (u : S) (g : F) (x : X) (v : R) (y : Result B E) (r : Answered B E) → AskedFirst asked x v u g → outcome_listed (outcome x v) ≡ Some y → ((k : List (Result B E)) → Says (u, g) k → TakesFirst (λ l. Says (u, g) l) r (y ∷ k)) → TakesFirst (λ l. Says (u, g) l) r (passed_list outcome asked)
-  takes_first_outcome asked u g x v y r a is taken = subst (λ (l : List (Result B E)). TakesFirst (λ l. Says (u, g) l) r l) (sym (a.list_is ∙ ap (λ (o : Option (Result B E)). cons_option o (passed_list outcome a.others)) is)) (taken (passed_list outcome a.others) (says_of_passed_list a.others u g a.listed a.steady))
+  takes_first_outcome : (asked : List (Result (X × R) E)) (u : S) (g : F) (x : X) (v : R) (y : Result B E) (r : Answered B E) → AskedFirst asked x v u g → outcome_listed (outcome x v) ≡ Some y → ((k : List (Result B E)) → ListedByCalls (u, g) k → TakesFirst (λ l. ListedByCalls (u, g) l) r (y ∷ k)) → TakesFirst (λ l. ListedByCalls (u, g) l) r (passed_list outcome asked)
+  takes_first_outcome asked u g x v y r a is taken = subst (λ (l : List (Result B E)). TakesFirst (λ l. ListedByCalls (u, g) l) r l) (sym (a.list_is ∙ ap (λ (o : Option (Result B E)). cons_option o (passed_list outcome a.others)) is)) (taken (passed_list outcome a.others) (says_of_passed_list a.others u g a.listed a.steady))
 
-  pub takes_first_of_passed : (asked : List (Result (X × R) E)) (s t : S) (f g : F) (r : Answered B E) → ListsBothEnds front back s (source_list asked) → Steady call f (items_listed asked) → Passes front call outcome s f (r ∷ []) t g → TakesFirst (λ l. Says (t, g) l) r (passed_list outcome asked)
+  pub takes_first_of_passed : (asked : List (Result (X × R) E)) (s t : S) (f g : F) (r : Answered B E) → ListsBothEnds front back s (source_list asked) → Steady call f (items_listed asked) → Passes front call outcome s f (r ∷ []) t g → TakesFirst (λ l. ListedByCalls (t, g) l) r (passed_list outcome asked)
   takes_first_of_passed asked s t f g _ i k (end_passes step done) = takes_first_end asked s t f i step
   takes_first_of_passed asked s t f g _ i k (failure_passes e step done) = takes_first_failure asked s t f e i k step
   takes_first_of_passed asked s t f g _ i k (keeps x v y step called is done) = takes_first_outcome asked t g x v (Ok y) (item y) (asked_first asked s t f g x v i k step called) (ap outcome_listed is) (λ l h. (refl, h))
@@ -113,15 +113,15 @@ module _ {S F X R B E : Type 0} (front back : S → Answered X E → S → Type 
   takes_first_of_passed asked s t f g r i k (leaves_out {u = u} {h = h} x v step called is rest) =
       let a = asked_first asked s u f h x v i k step called in
       let same : passed_list outcome asked ≡ passed_list outcome a.others = a.list_is ∙ ap (λ (o : Outcome B E). cons_option (outcome_listed o) (passed_list outcome a.others)) is in
-      subst (λ (l : List (Result B E)). TakesFirst (λ l. Says (t, g) l) r l) (sym same) (takes_first_of_passed a.others u t h g r a.listed a.steady rest)
+      subst (λ (l : List (Result B E)). TakesFirst (λ l. ListedByCalls (t, g) l) r l) (sym same) (takes_first_of_passed a.others u t h g r a.listed a.steady rest)
 
 -- ---- draws from the back are draws from the front of the ends swapped
 
 module _ {S F X R B E : Type 0} (front back : S → Answered X E → S → Type 0) (call : F → X → R → F → Type 0) (outcome : X → R → Outcome B E) (never_ends : (x : X) (v : R) → outcome x v ≡ End → ⊥) where
   abbrev SaysBoth : S × F → List (Result B E) → Type 0
-  SaysBoth = Says front back call outcome never_ends
+  SaysBoth = ListedByCalls front back call outcome never_ends
 
-  says_both_swapped : (p : S × F) (l : List (Result B E)) → Says back front call outcome never_ends p l → SaysBoth p (reverse l)
+  says_both_swapped : (p : S × F) (l : List (Result B E)) → ListedByCalls back front call outcome never_ends p l → SaysBoth p (reverse l)
   says_both_swapped p l a = record {
     asked = reverse a.asked;
     list_is = ap reverse a.list_is ∙ sym (filter_map-reverse (passed_result outcome) a.asked);
@@ -135,7 +135,7 @@ module _ {S F X R B E : Type 0} (front back : S → Answered X E → S → Type 
 module _ {S F X R B E : Type 0} (front back : S → Answered X E → S → Type 0) (call : F → X → R → F → Type 0) (outcome : X → R → Outcome B E) (never_ends : (x : X) (v : R) → outcome x v ≡ End → ⊥) where
   -- The source lists what it was called on, and the closure returns the answers beside the items, in whatever state: the adapter lists what becomes of them.
   pub lists_both_ends_passed : (asked : List (Result (X × R) E)) (s : S) (f : F) → Steady call f (items_listed asked) → ListsBothEnds front back s (source_list asked) → ListsBothEnds (passing_step front call outcome) (passing_step back call outcome) (s, f) (passed_list outcome asked)
-  lists_both_ends_passed asked s f steady i = lists_both_ends_by_swapping (passing_step front call outcome) (passing_step back call outcome) (Says front back call outcome never_ends) (Says back front call outcome never_ends) (says_both_swapped back front call outcome never_ends) (says_both_swapped front back call outcome never_ends) (takes_first_passed_front front back call outcome never_ends) (takes_first_passed_front back front call outcome never_ends) (s, f) (passed_list outcome asked) (record { asked = asked; list_is = refl; listed = i; steady = steady })
+  lists_both_ends_passed asked s f steady i = lists_both_ends_by_swapping (passing_step front call outcome) (passing_step back call outcome) (ListedByCalls front back call outcome never_ends) (ListedByCalls back front call outcome never_ends) (says_both_swapped back front call outcome never_ends) (says_both_swapped front back call outcome never_ends) (takes_first_passed_front front back call outcome never_ends) (takes_first_passed_front back front call outcome never_ends) (s, f) (passed_list outcome asked) (record { asked = asked; list_is = refl; listed = i; steady = steady })
 
 -- ---- a closure that acts as a function
 

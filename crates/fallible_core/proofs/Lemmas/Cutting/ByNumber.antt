@@ -3,7 +3,7 @@ use Rattle.std.specs.Prelude.{◌≡◌, ℕ, zero, suc, List, [], ◌∷◌, Re
 use Rattle.std.proofs.Common.{refl, subst}
 use Rattle.fallible_contract.specs.Traces.{Answered, item, end}
 use Rattle.fallible_contract.specs.Lists.{AlwaysGives}
-use Rattle.fallible_contract.proofs.Lemmas.ByNumber.{Leaves, keeps_item, keeps_end, keeps_failure, leaves_out, leaves_nothing}
+use Rattle.fallible_contract.proofs.Lemmas.ByNumber.{Leaves, keeps_item, keeps_end, keeps_failure, leaves_out, leaves_nil_same}
 use Rattle.fallible_contract.proofs.Lemmas.Lists.Passing.{always_gives_if}
 use Rattle.fallible_core.specs.Cutting.StepBy.{stepped}
 
@@ -23,12 +23,12 @@ module _ {S A E : Type 0} (steps : S → Answered A E → S → Type 0) (between
   leaves_one_failure : (d : E) (l : List (Result A E)) (n : ℕ) (s : S) (r : Answered A E) (t : S) (k : ℕ) → AlwaysGives steps s (Err d ∷ l) → Leaves steps between n s (r ∷ []) t k → (r ≡ Err d) × AlwaysGives steps t l × (n ≡ k)
   leaves_one_failure d l n s _ t k g (keeps_item x step more) = absurd (let h = (g (item x) _ step).0 in cc)
   leaves_one_failure d l n s _ t k g (keeps_end step more) = absurd (let h = (g end _ step).0 in cc)
-  leaves_one_failure d l n s _ t k g (keeps_failure {u = u} e step more) = let h = g (Err e) u step in let z = leaves_nothing steps between more in ((let q = h.0 in cc), subst (λ (v : S). AlwaysGives steps v l) z.0 h.1, z.1)
+  leaves_one_failure d l n s _ t k g (keeps_failure {u = u} e step more) = let h = g (Err e) u step in let z = leaves_nil_same steps between more in ((let q = h.0 in cc), subst (λ (v : S). AlwaysGives steps v l) z.0 h.1, z.1)
   leaves_one_failure d l n s r t k g (leaves_out x step more) = absurd (let h = (g (item x) _ step).0 in cc)
 
   -- one draw at an item of the source's list that is kept
   leaves_one_item : (x : A) (l : List (Result A E)) (s : S) (r : Answered A E) (t : S) (k : ℕ) → AlwaysGives steps s (Ok x ∷ l) → Leaves steps between zero s (r ∷ []) t k → (r ≡ item x) × AlwaysGives steps t l × (between ≡ k)
-  leaves_one_item x l s _ t k g (keeps_item {u = u} y step more) = let h = g (item y) u step in let z = leaves_nothing steps between more in ((let q = h.0 in cc), subst (λ (v : S). AlwaysGives steps v l) z.0 h.1, z.1)
+  leaves_one_item x l s _ t k g (keeps_item {u = u} y step more) = let h = g (item y) u step in let z = leaves_nil_same steps between more in ((let q = h.0 in cc), subst (λ (v : S). AlwaysGives steps v l) z.0 h.1, z.1)
   leaves_one_item x l s _ t k g (keeps_end step more) = absurd (let h = (g end _ step).0 in cc)
   leaves_one_item x l s _ t k g (keeps_failure e step more) = absurd (let h = (g (Err e) _ step).0 in cc)
 

@@ -17,18 +17,18 @@ is_end_drive_exit turns c (Err e) r d at = ap is_end at.0
 is_end_drive_exit turns c (Ok (Some x)) r d at = ap is_end at.2
 
 -- a count and a last item are found where the last answer is an end
-abbrev pub is_found : {C E : Type 0} → Result C E → Bool
-is_found (Ok v) = true
-is_found (Err e) = false
+abbrev pub is_ok_result : {C E : Type 0} → Result C E → Bool
+is_ok_result (Ok v) = true
+is_ok_result (Err e) = false
 
-is_found_count : {A E : Type 0} (last : Answered A E) (r : Result (Unit {0}) E) → OverExit last r → is_found r ≡ is_end last
-is_found_count (Ok None) r h = ap is_found h
-is_found_count (Err e) r h = ap is_found h
+is_found_count : {A E : Type 0} (last : Answered A E) (r : Result (Unit {0}) E) → OverExit last r → is_ok_result r ≡ is_end last
+is_found_count (Ok None) r h = ap is_ok_result h
+is_found_count (Err e) r h = ap is_ok_result h
 is_found_count (Ok (Some x)) r h = absurd h
 
-is_found_last : {A E : Type 0} (items : List A) (last : Answered A E) (r : Result (Option A) E) → LastExit items last r → is_found r ≡ is_end last
-is_found_last items (Ok None) r h = ap is_found h
-is_found_last items (Err e) r h = ap is_found h
+is_found_last : {A E : Type 0} (items : List A) (last : Answered A E) (r : Result (Option A) E) → LastExit items last r → is_ok_result r ≡ is_end last
+is_found_last items (Ok None) r h = ap is_ok_result h
+is_found_last items (Err e) r h = ap is_ok_result h
 is_found_last items (Ok (Some x)) r h = absurd h
 
 module _ {S A E : Type 0} (steps_of_fuse_folds : S → Answered A E → S → Type 0) where
@@ -61,10 +61,10 @@ module _ {S A E : Type 0} (m : Contract S A E) (s : Fuse S) where
   pub nth_drains_open : {n : ℕ} {r : Answered A E} {t : S} (closed : Bool) → s.ended ≡ false → closed ≡ is_end r → NthDrains m.steps s.it n r t → NthDrains steps_of_fuse_folds s n r (record { it = t; ended = closed })
   nth_drains_open closed is met w = drained_open closed is w (met ∙ sym (ap is_end w.at.is))
 
-  pub count_drains_on_open : {n k : ℕ} {r : Result (Unit {0}) E} {t : S} (closed : Bool) → s.ended ≡ false → closed ≡ is_found r → CountDrainsOn m.steps s.it n r t k → CountDrainsOn steps_of_fuse_folds s n r (record { it = t; ended = closed }) k
+  pub count_drains_on_open : {n k : ℕ} {r : Result (Unit {0}) E} {t : S} (closed : Bool) → s.ended ≡ false → closed ≡ is_ok_result r → CountDrainsOn m.steps s.it n r t k → CountDrainsOn steps_of_fuse_folds s n r (record { it = t; ended = closed }) k
   count_drains_on_open {r = r} closed is met w = drained_open closed is w (met ∙ is_found_count w.last r w.at.exit)
 
-  pub last_drains_open : {r : Result (Option A) E} {t : S} (closed : Bool) → s.ended ≡ false → closed ≡ is_found r → LastDrains m.steps s.it r t → LastDrains steps_of_fuse_folds s r (record { it = t; ended = closed })
+  pub last_drains_open : {r : Result (Option A) E} {t : S} (closed : Bool) → s.ended ≡ false → closed ≡ is_ok_result r → LastDrains m.steps s.it r t → LastDrains steps_of_fuse_folds s r (record { it = t; ended = closed })
   last_drains_open {r = r} closed is met w = drained_open closed is w (met ∙ is_found_last w.items w.last r w.at.exit)
 
   -- where it is closed, a drain is an end without a draw

@@ -7,7 +7,7 @@ use Rattle.fallible_contract.specs.Contract.{Contract, seen_as}
 use Rattle.fallible_contract.specs.Lists.{AlwaysGives, Lists}
 use Rattle.fallible_contract.proofs.Lemmas.Lists.Passing.{lists_seen}
 use Rattle.fallible_contract.proofs.Lemmas.LawForm.{IsByAnswers, runs_by_answers}
-use Rattle.fallible_contract.proofs.Lemmas.ByNumber.{Fits, Leaves, none, keeps_item, keeps_end, keeps_failure, leaves_nothing, leaves_then, leaves_split, kept_by_number_of_leaves, leaves_of_kept_by_number}
+use Rattle.fallible_contract.proofs.Lemmas.ByNumber.{Fits, Leaves, none, keeps_item, keeps_end, keeps_failure, leaves_nil_same, leaves_then, leaves_split, kept_by_number_of_leaves, leaves_of_kept_by_number}
 use Rattle.fallible_core.specs.Cutting.Skip.{SkipTrace, skip_step, skip_parts, skip_contract, skipped}
 use Rattle.fallible_core.specs.Cutting.StepBy.{stepped}
 use Rattle.fallible_core.proofs.Lemmas.Cutting.ByNumber.{leaves_one, always_gives_stepped}
@@ -40,7 +40,7 @@ module _ {S A E : Type 0} (steps : S → Answered A E → S → Type 0) where
 
   skip_trace_nothing : (p q : S × ℕ) → SkipTrace steps p [] q ↔ (p ≡ q)
   skip_trace_nothing (s, n) (t, k) = (
-    (λ d. let h = leaves_nothing steps 0 (leaves_of_skip_trace {p = (s, n)} {q = (t, k)} d) in rw (h.0, h.1) refl),
+    (λ d. let h = leaves_nil_same steps 0 (leaves_of_skip_trace {p = (s, n)} {q = (t, k)} d) in rw (h.0, h.1) refl),
     (λ e. skip_trace_of_leaves {p = (s, n)} {q = (t, k)} (let h : s ≡ t = ap (λ z. z.0) e in let i : n ≡ k = ap (λ z. z.1) e in rw (h, i) none)),
   )
 

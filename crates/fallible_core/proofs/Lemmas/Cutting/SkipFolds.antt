@@ -5,7 +5,7 @@ use Rattle.std.proofs.Common.{refl, sym, subst, ◌∙◌, arith}
 use Rattle.fallible_contract.specs.Traces.{Answered, Run, item}
 use Rattle.fallible_contract.specs.Contract.{Contract, seen_as}
 use Rattle.fallible_contract.specs.Folds.{HoldsAtEachTurn, goes_on, DriveExit, Driven, IsNthTurn}
-use Rattle.fallible_contract.proofs.Lemmas.ByNumber.{Leaves, none, keeps_item, keeps_end, keeps_failure, leaves_out, leaves_left_out_first, leaves_from_equal, leaves_nothing}
+use Rattle.fallible_contract.proofs.Lemmas.ByNumber.{Leaves, none, keeps_item, keeps_end, keeps_failure, leaves_out, leaves_left_out_first, leaves_from_equal, leaves_nil_same}
 use Rattle.fallible_contract.proofs.Lemmas.Folding.{holds_at_each_turn_into, drained_into}
 use Rattle.fallible_contract.proofs.Lemmas.Folds.{holds_each_turn_after, driven_after}
 use Rattle.fallible_core.specs.Cutting.Skip.{skip_parts, skip_step, skip_contract}
@@ -15,7 +15,7 @@ use Rattle.fallible_core.specs.declared.cutting.skip.Skip.{Skip}
 
 module _ {S A E : Type 0} (steps : S → Answered A E → S → Type 0) where
   none_left_to_skip : {s t : S} {n k : ℕ} {x : A} → Leaves steps 0 n s (item x ∷ []) t k → k ≡ 0
-  none_left_to_skip (keeps_item x step more) = sym (leaves_nothing steps 0 more).1
+  none_left_to_skip (keeps_item x step more) = sym (leaves_nil_same steps 0 more).1
   none_left_to_skip (leaves_out x step rest) = none_left_to_skip rest
 
   -- a draw of the source, where nothing is left to leave out

@@ -9,7 +9,7 @@ use Rattle.fallible_contract.specs.Contract.{Contract, seen_as}
 use Rattle.fallible_contract.specs.Lists.{AlwaysGives, Lists}
 use Rattle.fallible_contract.proofs.Lemmas.Lists.Passing.{lists_seen}
 use Rattle.fallible_contract.proofs.Lemmas.LawForm.{IsByAnswers, runs_by_answers}
-use Rattle.fallible_contract.proofs.Lemmas.ByNumber.{Fits, Leaves, leaves_from_equal, none, keeps_item, keeps_end, keeps_failure, leaves_out, leaves_nothing, leaves_then, leaves_split, kept_by_number_of_leaves, leaves_of_kept_by_number}
+use Rattle.fallible_contract.proofs.Lemmas.ByNumber.{Fits, Leaves, leaves_from_equal, none, keeps_item, keeps_end, keeps_failure, leaves_out, leaves_nil_same, leaves_then, leaves_split, kept_by_number_of_leaves, leaves_of_kept_by_number}
 use Rattle.fallible_core.specs.Cutting.StepBy.{keeps_at_steps, to_skip_after, StepByTrace, step_by_step, step_by_parts, step_by_contract, stepped}
 use Rattle.fallible_core.specs.Cutting.Skip.{SkipTrace}
 use Rattle.fallible_core.proofs.Lemmas.Cutting.Skip.{leaves_of_skip_trace}
@@ -67,7 +67,7 @@ module _ {S A E : Type 0} (steps : S → Answered A E → S → Type 0) where
 
   steps_nothing : (p q : S × (ℕ × ℕ)) → StepByLeaves p [] q ↔ (p ≡ q)
   steps_nothing (s, (b, n)) (t, (c, k)) = (
-    (λ d. let h = leaves_nothing steps b d.0 in rw (h.0, h.1, d.1) refl),
+    (λ d. let h = leaves_nil_same steps b d.0 in rw (h.0, h.1, d.1) refl),
     (λ e. let h : s ≡ t = ap (λ z. z.0) e in let i : n ≡ k = ap (λ z. (z.1).1) e in let d : c ≡ b = sym (ap (λ z. (z.1).0) e) in (rw (h, i) none, d)),
   )
 
@@ -94,19 +94,19 @@ module _ {S A E : Type 0} (steps : S → Answered A E → S → Type 0) where
   -- ---- one draw: what `Skip` returns, and after an item the items between two are to be left out
 
   -- with a kept item as many are left out next as lie between two; a failure and an end leave what was left
-  abbrev LeftNext : ℕ → Answered A E → ℕ → ℕ
-  LeftNext between (Ok (Some x)) k = between
-  LeftNext between (Ok None) k = k
-  LeftNext between (Err e) k = k
+  abbrev to_leave_out_next : ℕ → Answered A E → ℕ → ℕ
+  to_leave_out_next between (Ok (Some x)) k = between
+  to_leave_out_next between (Ok None) k = k
+  to_leave_out_next between (Err e) k = k
 
-  leaves_one_step : {s t : S} {r : Answered A E} {n k : ℕ} (between : ℕ) → Leaves steps 0 n s (r ∷ []) t k → Leaves steps between n s (r ∷ []) t (LeftNext between r k)
-  leaves_one_step between (keeps_item x step last) = let h = leaves_nothing steps 0 last in keeps_item x step (leaves_from_equal steps between h.0 refl none)
-  leaves_one_step between (keeps_end step last) = let h = leaves_nothing steps 0 last in keeps_end step (leaves_from_equal steps between h.0 h.1 none)
-  leaves_one_step between (keeps_failure e step last) = let h = leaves_nothing steps 0 last in keeps_failure e step (leaves_from_equal steps between h.0 h.1 none)
+  leaves_one_step : {s t : S} {r : Answered A E} {n k : ℕ} (between : ℕ) → Leaves steps 0 n s (r ∷ []) t k → Leaves steps between n s (r ∷ []) t (to_leave_out_next between r k)
+  leaves_one_step between (keeps_item x step last) = let h = leaves_nil_same steps 0 last in keeps_item x step (leaves_from_equal steps between h.0 refl none)
+  leaves_one_step between (keeps_end step last) = let h = leaves_nil_same steps 0 last in keeps_end step (leaves_from_equal steps between h.0 h.1 none)
+  leaves_one_step between (keeps_failure e step last) = let h = leaves_nil_same steps 0 last in keeps_failure e step (leaves_from_equal steps between h.0 h.1 none)
   leaves_one_step between (leaves_out x step rest) = leaves_out x step (leaves_one_step between rest)
 
-  pub step_by_trace_one : {s t : S} (between n k : ℕ) (r : Answered A E) → SkipTrace steps (s, n) (r ∷ []) (t, k) → StepByTrace steps (s, (between, n)) (r ∷ []) (t, (between, LeftNext between r k))
-  step_by_trace_one {s} {t} between n k r d = step_by_trace_of_leaves {p = (s, (between, n))} {q = (t, (between, LeftNext between r k))} (leaves_one_step between (leaves_of_skip_trace steps {p = (s, n)} {q = (t, k)} d), refl)
+  pub step_by_trace_one : {s t : S} (between n k : ℕ) (r : Answered A E) → SkipTrace steps (s, n) (r ∷ []) (t, k) → StepByTrace steps (s, (between, n)) (r ∷ []) (t, (between, to_leave_out_next between r k))
+  step_by_trace_one {s} {t} between n k r d = step_by_trace_of_leaves {p = (s, (between, n))} {q = (t, (between, to_leave_out_next between r k))} (leaves_one_step between (leaves_of_skip_trace steps {p = (s, n)} {q = (t, k)} d), refl)
 
 -- ---- what it lists
 

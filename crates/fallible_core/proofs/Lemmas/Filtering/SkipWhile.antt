@@ -59,11 +59,11 @@ module _ {S F X E : Type 0} (steps : S → Answered X E → S → Type 0) (call 
 
   -- ---- after the first false all items pass, and the predicate isn't called
 
-  pub record Passed (s : S) (p : Bool × F) (trace : List (Answered X E)) (t : S) (q : Bool × F) : Type 0 where
+  pub record RunsWithoutCalls (s : S) (p : Bool × F) (trace : List (Answered X E)) (t : S) (q : Bool × F) : Type 0 where
     pub ran : Run steps s trace t
     pub same : q ≡ p
 
-  pub passed_after_false : (s t : S) (p q : Bool × F) (trace : List (Answered X E)) → p.0 ≡ true → SkipPasses s p trace t q → Passed s p trace t q
+  pub passed_after_false : (s t : S) (p q : Bool × F) (trace : List (Answered X E)) → p.0 ≡ true → SkipPasses s p trace t q → RunsWithoutCalls s p trace t q
   passed_after_false s _ p _ _ e done = record { ran = refl; same = refl }
   passed_after_false s t p q _ e (end_passes {u = u} {trace = rest} step h) = let k = passed_after_false u t p q rest e h in record { ran = (u, step, k.ran); same = k.same }
   passed_after_false s t p q _ e (failure_passes {u = u} {trace = rest} d step h) = let k = passed_after_false u t p q rest e h in record { ran = (u, step, k.ran); same = k.same }

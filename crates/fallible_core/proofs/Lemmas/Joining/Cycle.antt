@@ -27,9 +27,9 @@ module _ {S A E : Type 0} (is_clone : S → S → Type 0) (is_infallible : S →
     ]
   ]
 
-  to_trace : (trace : List (Answered A E)) (s k t k' : S) → Run StepsOfCycle (s, k) trace (t, k') → (k' ≡ k) × TraceOfCycle k s trace t
-  to_trace [] s k t k' e = (sym (ap (λ p. p.1) e), last_lap s t [] tt (ap (λ p. p.0) e))
-  to_trace (r ∷ rest) s k t k' h = let more = to_trace rest h.0.0 k t k' (rw h.1.0 at h.2) in (more.0, trace_one_more k s h.0.0 t r rest h.1.1 more.1)
+  cycle_trace_of_run : (trace : List (Answered A E)) (s k t k' : S) → Run StepsOfCycle (s, k) trace (t, k') → (k' ≡ k) × TraceOfCycle k s trace t
+  cycle_trace_of_run [] s k t k' e = (sym (ap (λ p. p.1) e), last_lap s t [] tt (ap (λ p. p.0) e))
+  cycle_trace_of_run (r ∷ rest) s k t k' h = let more = cycle_trace_of_run rest h.0.0 k t k' (rw h.1.0 at h.2) in (more.0, trace_one_more k s h.0.0 t r rest h.1.1 more.1)
 
   -- a lap, and then what comes after its answers
   run_lap : (lap : List (Answered A E)) (s k : S) (after more : List (Answered A E)) (ended : S) (q : S × S) → NoEnd lap → Run steps s (lap ++ after) ended → ((u : S) → Run steps u after ended → Run StepsOfCycle (u, k) more q) → Run StepsOfCycle (s, k) (lap ++ more) q
@@ -48,4 +48,4 @@ module _ {S A E : Type 0} (is_clone : S → S → Type 0) (is_infallible : S →
       run_lap lap s k (end ∷ []) (Err e ∷ rest) ended (t, k) none ran (λ u last. ((ended, k), (refl, inr (inr (e, subst (λ (v : S). steps u end v) last.2 last.1, refl, refused))), run_of_cycle_trace k ended t rest more))
 
   pub cycle_law : (p : S × S) (trace : List (Answered A E)) (q : S × S) → Run StepsOfCycle p trace q ↔ CycleTrace is_clone is_infallible from steps p trace q
-  cycle_law p trace q = (to_trace trace p.0 p.1 q.0 q.1, (λ h. rw h.0 (run_of_cycle_trace p.1 p.0 q.0 trace h.1)))
+  cycle_law p trace q = (cycle_trace_of_run trace p.0 p.1 q.0 q.1, (λ h. rw h.0 (run_of_cycle_trace p.1 p.0 q.0 trace h.1)))

@@ -33,8 +33,8 @@ module _ {S A E : Type 0} (steps : S → Answered A E → S → Type 0) where
   numbered_first_and_rest s t n k _ rest (numbered_end {u = u} step q) = record { then_at = (u, n); first = enumerate_trace_of_numbered s u n n _ (numbered_end step numbered_none); others = enumerate_trace_of_numbered u t n k rest q }
   numbered_first_and_rest s t n k _ rest (numbered_failure {u = u} e step q) = record { then_at = (u, n); first = enumerate_trace_of_numbered s u n n _ (numbered_failure e step numbered_none); others = enumerate_trace_of_numbered u t n k rest q }
 
-  pub enumerate_by_answers : IsByAnswers (EnumerateTrace steps)
-  enumerate_by_answers = record {
+  pub enumerate_trace_is_by_answers : IsByAnswers (EnumerateTrace steps)
+  enumerate_trace_is_by_answers = record {
     none = λ p. enumerate_trace_of_numbered p.0 p.0 p.1 p.1 [] numbered_none;
     same = λ p q d. numbered_same p.0 q.0 p.1 q.1 (numbered_of_trace steps p.0 q.0 p.1 q.1 [] d);
     joins = λ p u q r rest d e. enumerate_trace_of_numbered p.0 q.0 p.1 q.1 (r ∷ rest) (numbered_joins p.0 u.0 q.0 p.1 u.1 q.1 r rest (numbered_of_trace steps p.0 u.0 p.1 u.1 (r ∷ []) d) (numbered_of_trace steps u.0 q.0 u.1 q.1 rest e));

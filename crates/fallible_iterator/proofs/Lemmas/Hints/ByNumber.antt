@@ -5,7 +5,7 @@ use Rattle.std.proofs.lemmas.Bool.{cases_lt, le-leb, lt-leb}
 use Rattle.std.proofs.Math.Nat.{le-div_iff_mul-le, div-lt_iff_lt-mul, div-one}
 use Rattle.fallible_contract.specs.Traces.{Answered, Yields, item, end}
 use Rattle.fallible_contract.specs.Hints.{hint_less, hint_kept, kept_of}
-use Rattle.fallible_contract.proofs.Lemmas.ByNumber.{Leaves, leaves_nothing, keeps_item, keeps_end, leaves_out}
+use Rattle.fallible_contract.proofs.Lemmas.ByNumber.{Leaves, leaves_nil_same, keeps_item, keeps_end, leaves_out}
 use Rattle.fallible_core.proofs.Lemmas.Cutting.ByNumber.{leaves_one}
 use Rattle.fallible_core.specs.Cutting.Skip.{skip_step}
 use Rattle.fallible_core.specs.Cutting.StepBy.{step_by_step}
@@ -22,15 +22,15 @@ drawn_for between r zero = 0
 drawn_for between r (suc m) = r + 1 + m * (between + 1)
 
 -- how many are left out next after so many kept ones
-abbrev to_skip_after : ℕ → ℕ → ℕ → ℕ
-to_skip_after between r zero = r
-to_skip_after between r (suc m) = between
+abbrev to_skip_after_kept : ℕ → ℕ → ℕ → ℕ
+to_skip_after_kept between r zero = r
+to_skip_after_kept between r (suc m) = between
 
 drawn_for_steps : (between m : ℕ) → drawn_for between between m ≡ m * (between + 1)
 drawn_for_steps between zero = omega arith
 drawn_for_steps between (suc m) = omega arith
 
-to_skip_after_steps : (between m : ℕ) → to_skip_after between between m ≡ between
+to_skip_after_steps : (between m : ℕ) → to_skip_after_kept between between m ≡ between
 to_skip_after_steps between zero = refl
 to_skip_after_steps between (suc m) = refl
 
@@ -55,7 +55,7 @@ kept_of_some between r m b le = elim (cases_lt r b) [
 ]
 
 -- and no more, where no more than are left out next came after them
-kept_of_at_most : (between r m b j : ℕ) → b ≤ drawn_for between r m + j → j ≤ to_skip_after between r m → kept_of between r b ≤ m
+kept_of_at_most : (between r m b j : ℕ) → b ≤ drawn_for between r m + j → j ≤ to_skip_after_kept between r m → kept_of between r b ≤ m
 kept_of_at_most between r zero b j le few = rw (le-leb b r (omega (arith, le, few))) (omega arith)
 kept_of_at_most between r (suc m) b j le few = kept_of_some between r m b (omega (arith, le, few))
 
@@ -64,21 +64,21 @@ kept_of_at_most between r (suc m) b j le few = kept_of_some between r m b (omega
 module _ {S A E : Type 0} (steps : S → Answered A E → S → Type 0) (between : ℕ) where
   -- an item is the one after those that are left out
   item_left : (j k : ℕ) (s t : S) (y : A) → Leaves steps between j s (item y ∷ []) t k → (xs : List A) × Yields steps s xs t × (length xs ≡ j + 1) × (k ≡ between)
-  item_left zero k s t _ (keeps_item {u = u} x step last) = let z = leaves_nothing steps between last in (x ∷ [], (u, step, z.0), omega arith, sym z.1)
+  item_left zero k s t _ (keeps_item {u = u} x step last) = let z = leaves_nil_same steps between last in (x ∷ [], (u, step, z.0), omega arith, sym z.1)
   item_left (suc j) k s t y (leaves_out {u = u} x step rest) = let d = item_left j k u t y rest in (x ∷ d.0, (u, step, d.1), omega (arith, d.2), d.3)
 
   -- an end is one after no more than those
   end_left : (j k : ℕ) (s t : S) → Leaves steps between j s (end ∷ []) t k → (xs : List A) × (u : S) × Yields steps s xs u × steps u end t × (length xs ≤ j)
-  end_left j k s t (keeps_end step last) = let z = leaves_nothing steps between last in ([], s, refl, subst (λ (v : S). steps s end v) z.0 step, omega arith)
+  end_left j k s t (keeps_end step last) = let z = leaves_nil_same steps between last in ([], s, refl, subst (λ (v : S). steps s end v) z.0 step, omega arith)
   end_left (suc j) k s t (leaves_out {u = u} x step rest) = let d = end_left j k u t rest in (x ∷ d.0, d.1, (u, step, d.2), d.3, omega (arith, d.4))
 
-  source_yields : (ys : List A) (s : S) (j : ℕ) (q : S × ℕ) → Yields (leaves_one steps between) (s, j) ys q → (xs : List A) × Yields steps s xs q.0 × (length xs ≡ drawn_for between j (length ys)) × (q.1 ≡ to_skip_after between j (length ys))
+  source_yields : (ys : List A) (s : S) (j : ℕ) (q : S × ℕ) → Yields (leaves_one steps between) (s, j) ys q → (xs : List A) × Yields steps s xs q.0 × (length xs ≡ drawn_for between j (length ys)) × (q.1 ≡ to_skip_after_kept between j (length ys))
   source_yields [] s j q e = ([], ap (λ (p : S × ℕ). p.0) e, refl, sym (ap (λ (p : S × ℕ). p.1) e))
   source_yields (y ∷ ys) s j q ran =
       let d = item_left j ran.0.1 s ran.0.0 y ran.1 in
       let rest = source_yields ys ran.0.0 ran.0.1 q ran.2 in
       let next : length rest.0 ≡ drawn_for between between (length ys) = subst (λ (i : ℕ). length rest.0 ≡ drawn_for between i (length ys)) d.3 rest.2 in
-      let now : q.1 ≡ to_skip_after between between (length ys) = subst (λ (i : ℕ). q.1 ≡ to_skip_after between i (length ys)) d.3 rest.3 in
+      let now : q.1 ≡ to_skip_after_kept between between (length ys) = subst (λ (i : ℕ). q.1 ≡ to_skip_after_kept between i (length ys)) d.3 rest.3 in
       (d.0 ++ rest.0, yields_after steps d.0 rest.0 s ran.0.0 q.0 d.1 rest.1, omega (arith, length-append d.0 rest.0, d.2, next, drawn_for_steps between (length ys)), cc (to_skip_after_steps between (length ys)))
 
   -- runs and ends of such an adapter, as those of its source
@@ -93,7 +93,7 @@ module _ {S A E : Type 0} (steps : S → Answered A E → S → Type 0) (between
         let d = source_yields ys s r q ran in
         let e = end_left q.1 z.1 q.0 z.0 w in
         let le = b.below (d.0 ++ e.0) e.1 z.0 (yields_after steps d.0 e.0 s q.0 e.1 d.1 e.2) e.3 in
-        let few : length e.0 ≤ to_skip_after between r (length ys) = subst (λ (i : ℕ). length e.0 ≤ i) d.3 e.4 in
+        let few : length e.0 ≤ to_skip_after_kept between r (length ys) = subst (λ (i : ℕ). length e.0 ≤ i) d.3 e.4 in
         kept_of_at_most between r (length ys) k.0 (length e.0) (omega (arith, length-append d.0 e.0, d.2, le)) few;
   }
 

@@ -43,14 +43,14 @@ module _ {S A E Z F C R : Type 0} (of_item : A → Z) (of_failure : E → Z) (re
   abbrev StepOfStdFold : S → Answered A E → S → Type 0
   StepOfStdFold = std_step of_item of_failure can gives remaining
 
-  abbrev MadeByElement : Progressing S → Option Z → Progressing S → Type 0
-  MadeByElement = CallsOnce can gives remaining
+  abbrev ElementCall : Progressing S → Option Z → Progressing S → Type 0
+  ElementCall = CallsOnce can gives remaining
 
   abbrev TurnOnElement : F × C → Z → F × C → Type 0
   TurnOnElement = TryFoldTurn {B = C} g (λ r b. r ≡ result_from_control_flow b)
 
   -- a call that returned an element is a draw of what is read of it
-  step_of_result : (s t : Progressing S) (z : Z) (q : Result A E) → read z ≡ q → MadeByElement s (Some z) t → StepOfStdFold s.it.now (result_answer q) t.it.now
+  step_of_result : (s t : Progressing S) (z : Z) (q : Result A E) → read z ≡ q → ElementCall s (Some z) t → StepOfStdFold s.it.now (result_answer q) t.it.now
   step_of_result s t z q e w = let step : StepOfStdFold s.it.now (result_answer (read z)) t.it.now = subst (λ (o : Option Z). gives s.it.now o t.it.now × MakesProgress can remaining s.it.now o t.it.now) (sym (reads z)) (w.0, w.1) in
       subst (λ (y : Result A E). StepOfStdFold s.it.now (result_answer y) t.it.now) e step
 
@@ -64,7 +64,7 @@ module _ {S A E Z F C R : Type 0} (of_item : A → Z) (of_failure : E → Z) (re
   item_of_turn_on c d (Err e) w = absurd w
 
   -- the turn at which std's fold breaks off is where the fold stops, or meets a failure
-  driven_to_stop : (c : C) (s t : Progressing S) (z : Z) (q : Result A E) (stop : C × Answered R E) → read z ≡ q → MadeByElement s (Some z) t → ElementTurn turns c q (Err stop) → Driven StepOfStdFold turns s.it.now c stop.1 t.it.now stop.0
+  driven_to_stop : (c : C) (s t : Progressing S) (z : Z) (q : Result A E) (stop : C × Answered R E) → read z ≡ q → ElementCall s (Some z) t → ElementTurn turns c q (Err stop) → Driven StepOfStdFold turns s.it.now c stop.1 t.it.now stop.0
   driven_to_stop c s t z (Ok x) stop e w (why, turn, is) = subst (λ a. Driven StepOfStdFold turns s.it.now c a t.it.now stop.0) (sym is) (driven_stop x (step_of_result s t z (Ok x) e w) turn)
   driven_to_stop c s t z (Err why) stop e w is = subst (λ p. Driven StepOfStdFold turns s.it.now c p.1 t.it.now p.0) (sym is) (driven_failure (step_of_result s t z (Err why) e w))
 
@@ -73,17 +73,17 @@ module _ {S A E Z F C R : Type 0} (of_item : A → Z) (of_failure : E → Z) (re
   LastOfStd h a o r = MatchOption o (r ≡ Ok a) (λ z. (v : Result C (C × Answered R E)) × (h' : F) × (d : _) × Called g h (a, (z, tt)) v h' × (v ≡ result_from_control_flow (Break d)) × (IsErr r × IsErrAnd r (λ y. y ≡ d.0)))
 
   -- one call, at which std's fold ended or broke off
-  driven_to_end : (c : C) (s t : Progressing S) (o : Option Z) (r : Result C (C × Answered R E)) → MadeByElement s o t → LastOfStd f c o r → Driven StepOfStdFold turns s.it.now c (answer_of r) t.it.now (left_of r)
+  driven_to_end : (c : C) (s t : Progressing S) (o : Option Z) (r : Result C (C × Answered R E)) → ElementCall s o t → LastOfStd f c o r → Driven StepOfStdFold turns s.it.now c (answer_of r) t.it.now (left_of r)
   driven_to_end c s t None r w is = subst (λ (y : Result C (C × Answered R E)). Driven StepOfStdFold turns s.it.now c (answer_of y) t.it.now (left_of y)) (sym is) (driven_end (w.0, w.1))
   driven_to_end c s t (Some z) r w (v, h, d, called, broke, is) =
       let turn : ElementTurn turns c (read z) (Err d.0) = subst (λ (y : Result C (C × Answered R E)). ElementTurn turns c (read z) y) broke (turned c z v h called).1 in
       subst (λ (y : Result C (C × Answered R E)). Driven StepOfStdFold turns s.it.now c (answer_of y) t.it.now (left_of y)) (sym (result_of_err r d.0 is.1)) (driven_to_stop c s t z (read z) d.0 refl w turn)
 
   -- the calls before it returned items on which the turns went on
-  module _ (o : Option Z) (t u : Progressing S) (a : C) (h : F) (r : Result C (C × Answered R E)) (w : MadeByElement t o u) (is : LastOfStd h a o r) where
-    driven_of_std_fold : (xs : List Z) (s : Progressing S) (c : C) → Yields MadeByElement s xs t → FoldsTo TurnOnElement (f, c) xs (h, a) → Driven StepOfStdFold turns s.it.now c (answer_of r) u.it.now (left_of r)
+  module _ (o : Option Z) (t u : Progressing S) (a : C) (h : F) (r : Result C (C × Answered R E)) (w : ElementCall t o u) (is : LastOfStd h a o r) where
+    driven_of_std_fold : (xs : List Z) (s : Progressing S) (c : C) → Yields ElementCall s xs t → FoldsTo TurnOnElement (f, c) xs (h, a) → Driven StepOfStdFold turns s.it.now c (answer_of r) u.it.now (left_of r)
     driven_of_std_fold [] s c e went =
-        let now : MadeByElement s o u = subst (λ (z : Progressing S). MadeByElement z o u) (sym e) w in
+        let now : ElementCall s o u = subst (λ (z : Progressing S). ElementCall z o u) (sym e) w in
         let last : LastOfStd f c o r = subst (λ (p : F × C). LastOfStd p.0 p.1 o r) (sym went) is in
         driven_to_end c s u o r now last
     driven_of_std_fold (z ∷ xs) s c y went =
@@ -94,27 +94,27 @@ module _ {S A E Z F C R : Type 0} (of_item : A → Z) (of_failure : E → Z) (re
 
   -- what std says of its fold
   abbrev StdFolds : Progressing S → C → Result C (C × Answered R E) → Progressing S → Type 0
-  StdFolds s c r u = TryFoldsItems MadeByElement g (λ r b. r ≡ result_from_control_flow b) (λ d r. IsErr r × IsErrAnd r (λ y. y ≡ d.0)) s f c r u
+  StdFolds s c r u = TryFoldsItems ElementCall g (λ r b. r ≡ result_from_control_flow b) (λ d r. IsErr r × IsErrAnd r (λ y. y ≡ d.0)) s f c r u
 
   pub driven_by_std : {s : Progressing S} {c : C} {r : Result C (C × Answered R E)} (u : Progressing S) → StdFolds s c r u → Driven StepOfStdFold turns s.it.now c (answer_of r) u.it.now (left_of r)
   driven_by_std {s} {c} {r} u (xs, o, h, a, (t, y, w), went, is) = driven_of_std_fold o t u a h r w is xs s c y went
 
   -- the closure may be called where the caller's turn may be taken on an item
   module _ (can_turn : C → A → Type 0) (takes : (c : C) (z : Z) → IfOk (read z) (can_turn c) → Takes g f (c, (z, tt))) where
-    can_turn_at_first : (c : C) (s t : Progressing S) (z : Z) (q : Result A E) → read z ≡ q → MadeByElement s (Some z) t → HoldsAtEachTurn StepOfStdFold (goes_on turns) can_turn s.it.now c → IfOk q (can_turn c)
+    can_turn_at_first : (c : C) (s t : Progressing S) (z : Z) (q : Result A E) → read z ≡ q → ElementCall s (Some z) t → HoldsAtEachTurn StepOfStdFold (goes_on turns) can_turn s.it.now c → IfOk q (can_turn c)
     can_turn_at_first c s t z (Ok x) e w h = holds_at_first_turn h (step_of_result s t z (Ok x) e w)
     can_turn_at_first c s t z (Err why) e w h = tt
 
-    takes_at_element : (xs : List Z) (s t u : Progressing S) (c : C) (q : F × C) (z : Z) → HoldsAtEachTurn StepOfStdFold (goes_on turns) can_turn s.it.now c → Yields MadeByElement s xs t → FoldsTo TurnOnElement (f, c) xs q → MadeByElement t (Some z) u → Takes g q.0 (q.1, (z, tt))
+    takes_at_element : (xs : List Z) (s t u : Progressing S) (c : C) (q : F × C) (z : Z) → HoldsAtEachTurn StepOfStdFold (goes_on turns) can_turn s.it.now c → Yields ElementCall s xs t → FoldsTo TurnOnElement (f, c) xs q → ElementCall t (Some z) u → Takes g q.0 (q.1, (z, tt))
     takes_at_element [] s t u c q z h e went w =
-        let now : MadeByElement s (Some z) u = subst (λ (y : Progressing S). MadeByElement y (Some z) u) (sym e) w in
+        let now : ElementCall s (Some z) u = subst (λ (y : Progressing S). ElementCall y (Some z) u) (sym e) w in
         subst (λ (p : F × C). Takes g p.0 (p.1, (z, tt))) went (takes c z (can_turn_at_first c s u z (read z) refl now h))
     takes_at_element (y ∷ xs) s t u c q z h ran went w =
         let on = element_turn_went_on c went.0.1 y went.0.0 went.1 in
         let item_on = item_of_turn_on c went.0.1 (read y) on.1 in
         takes_at_element xs ran.0 t u went.0.1 q z (holds_each_turn_after h (step_of_result s ran.0 y (Ok item_on.0) item_on.1 ran.1) item_on.2) ran.2 (subst (λ (k : F). FoldsTo TurnOnElement (k, went.0.1) xs q) on.0 went.2) w
 
-    pub callable_in_std_fold : {s : Progressing S} {c : C} → HoldsAtEachTurn StepOfStdFold (goes_on turns) can_turn s.it.now c → CallableInTryFold MadeByElement g (λ r b. r ≡ result_from_control_flow b) s f c
+    pub callable_in_std_fold : {s : Progressing S} {c : C} → HoldsAtEachTurn StepOfStdFold (goes_on turns) can_turn s.it.now c → CallableInTryFold ElementCall g (λ r b. r ≡ result_from_control_flow b) s f c
     callable_in_std_fold {s} {c} h = record { at = λ xs t q z u ran went w. takes_at_element xs s t u c q z h ran went w }
 
   -- a fold through std's keeps the reference

@@ -83,14 +83,14 @@ module _ {S A E Z : Type 0} (of_item : A → Z) (of_failure : E → Z) (can can_
   abbrev back_step : S → Answered A E → S → Type 0
   back_step = std_step of_item of_failure can_back gives_back remaining
 
-  abbrev AtEnds : S → Type 0
-  AtEnds = IsAskableAtEnds of_item of_failure can can_back gives gives_back remaining
+  abbrev AskableAtBothEnds : S → Type 0
+  AskableAtBothEnds = IsAskableAtEnds of_item of_failure can can_back gives gives_back remaining
 
   abbrev ArrivesAtEnds : S → Answered A E → Type 0
   ArrivesAtEnds = ComesAtEnds of_item of_failure can can_back gives gives_back remaining
 
   -- a draw from one end, before all others
-  at_ends_after : (side : Side) (s t : S) (r : Answered A E) → AtEnds s → step_at front_step back_step side s r t → AtEnds t
+  at_ends_after : (side : Side) (s t : S) (r : Answered A E) → AskableAtBothEnds s → step_at front_step back_step side s r t → AskableAtBothEnds t
   at_ends_after side s t r c w = record {
     asked = λ drawn u ran. c.asked ((side, r) ∷ drawn) u (t, w, ran);
     asked_back = λ drawn u ran. c.asked_back ((side, r) ∷ drawn) u (t, w, ran);
@@ -109,7 +109,7 @@ module _ {S A E Z : Type 0} (of_item : A → Z) (of_failure : E → Z) (can can_
   run_at_ends_of_front [] s t ran = ran
   run_at_ends_of_front (r ∷ trace) s t ran = (ran.0, ran.1, run_at_ends_of_front trace ran.0 t ran.2)
 
-  is_askable_of_at_ends : (s : S) → AtEnds s → IsAskable of_item of_failure can gives remaining s
+  is_askable_of_at_ends : (s : S) → AskableAtBothEnds s → IsAskable of_item of_failure can gives remaining s
   is_askable_of_at_ends s c = record {
     asked = λ trace t ran. c.asked (map (λ r. (Front, r)) trace) t (run_at_ends_of_front trace s t ran);
     never_rises = λ trace t u ran. c.never_rises (map (λ r. (Front, r)) trace) t u (run_at_ends_of_front trace s t ran);
@@ -118,10 +118,10 @@ module _ {S A E Z : Type 0} (of_item : A → Z) (of_failure : E → Z) (can can_
   arrives_at_ends_of_comes : (s : S) (r : Answered A E) → Comes of_item of_failure can gives remaining s r → ArrivesAtEnds s r
   arrives_at_ends_of_comes s r c = record { before = map (λ q. (Front, q)) c.before; from = c.from; side = Front; after = c.after; ran = run_at_ends_of_front c.before s c.from c.ran; drawn = c.drawn }
 
-  follows_front : FollowsDraw of_item of_failure can gives remaining AtEnds ArrivesAtEnds
+  follows_front : FollowsDraw of_item of_failure can gives remaining AskableAtBothEnds ArrivesAtEnds
   follows_front = record { again = at_ends_after Front; never_rises = λ s t c w. c.never_rises [] s t refl w; here = arrives_at_ends_here Front; later = arrives_at_ends_later Front }
 
-  follows_back : FollowsDraw of_item of_failure can_back gives_back remaining AtEnds ArrivesAtEnds
+  follows_back : FollowsDraw of_item of_failure can_back gives_back remaining AskableAtBothEnds ArrivesAtEnds
   follows_back = record { again = at_ends_after Back; never_rises = λ s t c w. c.never_rises_back [] s t refl w; here = arrives_at_ends_here Back; later = arrives_at_ends_later Back }
 
   pub lawful_ends_std : LawfulEnds (std_contract {A = A} {E = E} of_item of_failure can gives remaining) (std_ends of_item of_failure can can_back gives gives_back remaining)
@@ -129,6 +129,6 @@ module _ {S A E Z : Type 0} (of_item : A → Z) (of_failure : E → Z) (can can_
     front_can = is_askable_of_at_ends;
     may_give = λ s x. arrives_at_ends_of_comes s (item x);
     may_fail = λ s e. arrives_at_ends_of_comes s (failure e);
-    front = lawful_over of_item of_failure can gives remaining AtEnds ArrivesAtEnds follows_front;
-    back = lawful_over of_item of_failure can_back gives_back remaining AtEnds ArrivesAtEnds follows_back;
+    front = lawful_over of_item of_failure can gives remaining AskableAtBothEnds ArrivesAtEnds follows_front;
+    back = lawful_over of_item of_failure can_back gives_back remaining AskableAtBothEnds ArrivesAtEnds follows_back;
   }

@@ -4,14 +4,14 @@ use Rattle.fallible_iterator.specs.Searching.{any_pick}
 use Rattle.fallible_iterator.specs.Laws.Contract.{stays_run}
 use Rattle.fallible_iterator.proofs.Lemmas.Searching.{search_drains_of_drive}
 use Rattle.fallible_itertools.specs.Equal.{TestCall}
-use Rattle.fallible_itertools.proofs.Lemmas.Equal.{contained_is, rest_contained_is}
+use Rattle.fallible_itertools.proofs.Lemmas.Equal.{contained_of_search_drains, rest_contained_is}
 use Rattle.fallible_itertools.proofs.traits.FallibleItertools.contains.Goals as goal
 
 pub returns-clause-searched : goal.returns-clause-searched
 returns-clause-searched g c = search_drains_of_drive {call = TestCall (λ x. g.Self.Item.PartialEq.eq x c.args.wanted.now)} {pick = any_pick} false (λ f x r g w. w) c.drive.ensures c.answer_or.ensures
 
 pub returns-clause-value : goal.returns-clause-value
-returns-clause-value g c l i = contained_is g.Self.Item.PartialEq.eq _ l i (returns-clause-searched g c)
+returns-clause-value g c l i = contained_of_search_drains g.Self.Item.PartialEq.eq _ l i (returns-clause-searched g c)
 
 pub returns-clause-rest : goal.returns-clause-rest
 returns-clause-rest g c l i no_end = rest_contained_is g.Self.Item.PartialEq.eq _ l i (returns-clause-searched g c) no_end
