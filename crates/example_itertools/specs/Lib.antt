@@ -1,2 +1,3 @@
 -- What the clauses of `src/` cite.
+pub mod Places
 pub mod Rows

@@ -6,9 +6,11 @@ ghost use Rattle.fallible_itertools.specs.Dedup.{deduped};
 ghost use Rattle.fallible_itertools.specs.DedupBy.{deduped_by};
 ghost use Rattle.fallible_itertools.specs.DedupByKey.{deduped_by_key};
 ghost use Rattle.fallible_itertools.specs.TupleWindows.{windowed};
+ghost use Rattle.fallible_itertools.specs.WithPosition.{positioned};
+ghost use Rattle.example_itertools.specs.Places.{comes_before_another};
 
 use fallible_iterator::{FallibleIterator, convert};
-use fallible_itertools::FallibleItertools;
+use fallible_itertools::{FallibleItertools, Position};
 
 /// How many readings differ from the one before them, the first one counted, or the first failure.
 pub fn changes(readings: Vec<Result<u32, u8>>) -> Result<usize, u8>
@@ -94,4 +96,22 @@ pub fn peaks(readings: Vec<Result<u32, u8>>) -> Result<usize, u8>
             })
         })
         .count()
+}
+
+/// How many readings another one comes after, so how many commas stand between them, or the first failure.
+pub fn commas(readings: Vec<Result<u32, u8>>) -> Result<usize, u8>
+    ensures { result ≡ counted (filtered (λ placed. Ok (comes_before_another placed.0))
+        (positioned (results readings.items))) }
+{
+    convert(readings.into_iter())
+        .with_position()
+        .filter(|placed| Ok(has_comma(placed.0)))
+        .count()
+}
+
+// Whether a comma comes after the item.
+fn has_comma(position: Position) -> bool
+    ensures { result ≡ comes_before_another position }
+{
+    matches!(position, Position::First | Position::Middle)
 }

@@ -41,4 +41,5 @@ pub mod TakeWhileInclusive
 pub mod TakeWhileInclusiveFolds
 pub mod TupleWindows
 pub mod WindowHints
+pub mod WithPosition
 pub mod ZipLongest

@@ -16,4 +16,5 @@ pub mod PeekingTakeWhile
 pub mod Sides
 pub mod TakeWhileInclusive
 pub mod TupleWindows
+pub mod WithPosition
 pub mod ZipLongest

@@ -32,4 +32,5 @@ pub mod Sides
 pub mod Sorted
 pub mod TakeWhileInclusive
 pub mod TupleWindows
+pub mod WithPosition
 pub mod ZipLongest

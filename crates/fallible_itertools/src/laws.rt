@@ -27,7 +27,8 @@ pub use grouping::{
 pub use holding::{
     law_coalesce, law_coalesced, law_dedup, law_dedup_by, law_dedup_by_key, law_deduped,
     law_deduped_by, law_deduped_by_key, law_hints_coalesce, law_hints_dedup, law_hints_dedup_by,
-    law_hints_dedup_by_key, law_hints_tuple_windows, law_tuple_windows,
+    law_hints_dedup_by_key, law_hints_tuple_windows, law_hints_with_position, law_positioned,
+    law_tuple_windows, law_with_position,
 };
 pub use intersperse::{law_hints_intersperse, law_intersperse};
 pub use lengths::{law_interspersed, law_joined, law_windowed, law_zipped_longest};

@@ -36,6 +36,7 @@ mod sorted;
 pub mod take_while_inclusive;
 pub mod traits;
 pub mod tuple_windows;
+pub mod with_position;
 pub mod zip_longest;
 
 pub use checked_sum::CheckedTotal;
@@ -59,4 +60,5 @@ pub use peeking_take_while::{PeekingNext, PeekingTakeWhile};
 pub use take_while_inclusive::TakeWhileInclusive;
 pub use traits::FallibleItertools;
 pub use tuple_windows::TupleWindows;
+pub use with_position::{Position, WithPosition};
 pub use zip_longest::{EitherOrBoth, ZipLongest};

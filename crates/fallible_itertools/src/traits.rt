@@ -42,6 +42,7 @@ ghost use Rattle.fallible_itertools.specs.Sorted.{CollectsSorted, IsSortedByCall
 ghost use Rattle.fallible_itertools.specs.TakeWhileInclusive as inclusive;
 ghost use Rattle.fallible_itertools.specs.CheckedSum.{TotalDrains, totalled};
 ghost use Rattle.fallible_itertools.specs.TupleWindows.{tuple_windows_contract, tuple_windows_parts, windowed};
+ghost use Rattle.fallible_itertools.specs.WithPosition.{positioned, with_position_contract, with_position_parts};
 ghost use Rattle.fallible_itertools.specs.ZipLongest as zip_longest;
 ghost use Rattle.fallible_itertools.specs.declared.exactly_one.NotOne.TheVariants.{More};
 ghost use Rattle.fallible_itertools.specs.declared.fold_while.FoldWhile.TheVariants.{Done};
@@ -73,6 +74,7 @@ use crate::sides::Holding;
 use crate::sorted::{sorted_items, sorted_items_by_key};
 use crate::take_while_inclusive::TakeWhileInclusive;
 use crate::tuple_windows::TupleWindows;
+use crate::with_position::WithPosition;
 use crate::zip_longest::ZipLongest;
 use fallible_iterator::extending::{
     FindTest, FindTurn, ForEachTurn, PositionTurn, ReadEq, Reading, answer_or, answer_or_none,
@@ -220,6 +222,32 @@ pub trait FallibleItertools: FallibleIterator {
             result (deduped Self.Item.eq l) }
     {
         Dedup {
+            it: self,
+            held: None,
+            due: None,
+        }
+    }
+
+    /// Yields each item with its [`Position`](crate::Position): `First`, `Middle`, `Last` or `Only`.
+    ///
+    /// Creating it draws nothing. An item is buffered until another item comes, or a stop: `Ok(None)` or a failure. `next` draws up to that. The buffered item is yielded first, and is the `Last` one before a stop. The stop is what the next call returns, without a draw. After a stop nothing is buffered, and the next item is `First` or `Only`.
+    ///
+    /// Requires nothing. `next` requires what that of `dedup` requires.
+    ///
+    /// ```
+    /// convert(readings.into_iter()).with_position()
+    /// ```
+    final fn with_position(self) -> WithPosition<Self>
+    where
+        Self::Item: Drop,
+        Self::Error: Drop,
+        ensures parts { with_position_parts result ≡ (self, (None, None)) }
+        ensures lists { (l : List (Result Self.Item Self.Error))
+            → list.Lists Self.contract.steps self l
+            → list.Lists (seen_as with_position_parts (with_position_contract Self.contract)).steps
+            result (positioned l) }
+    {
+        WithPosition {
             it: self,
             held: None,
             due: None,

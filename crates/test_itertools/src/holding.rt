@@ -2,7 +2,7 @@
 use crate::rows::{Drawn, END, Folded, expect_same, folded_after, script};
 use fallible_iterator::Answer::{End, Failure, Item};
 use fallible_iterator::{Answer, FallibleIterator};
-use fallible_itertools::FallibleItertools;
+use fallible_itertools::{FallibleItertools, Position};
 use std::test::Fail;
 use test_support::course::Hint;
 use test_support::expected_numbers::expect_hinted_numbers;
@@ -175,6 +175,75 @@ fn coalesce_goes_on_with_what_was_made_of_two(rt: HostRuntime) -> Result<(), Fai
                 Ok(Err((first, second)))
             }
         });
+        let folded = folded_after(&rt, &mut it, drawn)?;
+        expect_same(&(folded, source.next()), expected)?;
+    }
+    Ok(())
+}
+
+const PLACED: [Drawn; 8] = [
+    Ok(Some(4)),
+    END,
+    Ok(Some(1)),
+    Ok(Some(2)),
+    Ok(Some(3)),
+    Err(9),
+    Ok(Some(5)),
+    Ok(Some(6)),
+];
+
+// Each item with its position in the tens. The last fold reads 15 and 36 as digits, 150 + 36.
+const POSITIONED: [Folded; 4] = [
+    (
+        &PLACED,
+        &[
+            Item(44),
+            End,
+            Item(11),
+            Item(22),
+            Item(33),
+            Failure(9),
+            Item(15),
+            Item(36),
+            End,
+        ],
+        (Ok(0), END),
+    ),
+    (&PLACED, &[], (Ok(44), Ok(Some(1)))),
+    (&PLACED, &[Item(44), End, Item(11)], (Err(9), Ok(Some(5)))),
+    (
+        &PLACED,
+        &[
+            Item(44),
+            End,
+            Item(11),
+            Item(22),
+            Item(33),
+            Failure(9),
+        ],
+        (Ok(186), END),
+    ),
+];
+
+// The position as a digit.
+fn digit(position: Position) -> u32 {
+    match position {
+        Position::First => 1,
+        Position::Middle => 2,
+        Position::Last => 3,
+        Position::Only => 4,
+    }
+}
+
+#[test]
+fn with_position_starts_anew_after_a_stop(rt: HostRuntime) -> Result<(), Fail> {
+    for (answers, drawn, expected) in &POSITIONED {
+        let mut source = script(&rt, answers)?;
+        let mut it = (&mut source)
+            .with_position()
+            .map(|(position, x): (Position, u32)| -> Result<u32, u32> {
+                Ok(digit(position).wrapping_mul(10).wrapping_add(x))
+            });
         let folded = folded_after(&rt, &mut it, drawn)?;
         expect_same(&(folded, source.next()), expected)?;
     }

@@ -1,5 +1,5 @@
 // The laws of the adapters that buffer.
-ghost use Rattle.std.specs.Prelude.{◌≡◌, ◌++◌, ◌∷◌, Bool, false, List, Option, Result, Some, None, Ok, Err};
+ghost use Rattle.std.specs.Prelude.{◌≡◌, ◌++◌, ◌∷◌, Bool, false, List, Option, Result, Some, None, Ok, Err, [], map};
 ghost use Rattle.fallible_iterator.specs.LawForm.{TracesAre};
 ghost use Rattle.fallible_iterator.specs.SoundHints.{HintsAsSoundAs, SoundHints};
 ghost use Rattle.fallible_iterator.specs.Closures.{call_at};
@@ -13,12 +13,15 @@ ghost use Rattle.fallible_itertools.specs.DedupBy.{DedupByTrace, dedup_by_due, d
 ghost use Rattle.fallible_itertools.specs.DedupByKey.{DedupByKeyTrace, dedup_by_key_due, dedup_by_key_parts, dedup_by_key_source, deduped_by_key};
 ghost use Rattle.fallible_itertools.specs.Dedup.{DedupTrace, dedup_due, dedup_parts, dedup_source, deduped};
 ghost use Rattle.fallible_itertools.specs.TupleWindows.{TupleWindowsTrace, tuple_windows_parts, tuple_windows_source};
+ghost use Rattle.fallible_itertools.specs.WithPosition.{WithPositionTrace, positioned, with_position_due, with_position_parts, with_position_source};
+ghost use Rattle.fallible_itertools.specs.declared.with_position.Position.TheVariants.{First, Last, Middle, Only};
 
 use crate::coalesce::Coalesce;
 use crate::dedup::Dedup;
 use crate::dedup_by::DedupBy;
 use crate::dedup_by_key::DedupByKey;
 use crate::tuple_windows::TupleWindows;
+use crate::with_position::WithPosition;
 use fallible_iterator::FallibleIterator;
 use std::alloc::AllocError;
 
@@ -181,4 +184,36 @@ where
     ensures { (s : TupleWindows I I.Item I.Error)
         → HintsAsSoundAs ⟦<TupleWindows<I> as FallibleIterator>⟧.contract s I.contract
         (tuple_windows_source s) }
+{}
+
+/// The answers of `WithPosition` are the stop that is due, and then the items, each with its position: each stands where the next one or a stop came, and each stop after what was buffered before it.
+pub fn law_with_position<I: FallibleIterator>()
+where
+    I::Item: Drop,
+    I::Error: Drop,
+    ensures { TracesAre with_position_parts
+        ⟦<WithPosition<I> as FallibleIterator>⟧.contract.steps (WithPositionTrace I.contract.steps) }
+{}
+
+/// An item alone is `Only`. Of several items the first is `First`, the last is `Last`, and the others are `Middle`. A failure parts a list: the items before it have their positions by themselves, and so do those after it.
+pub fn law_positioned<T, E>()
+    ensures parts { (a : List (Result T E)) (e : E) (b : List (Result T E))
+        → positioned (a ++ Err e ∷ b) ≡ positioned a ++ Err e ∷ positioned b }
+    ensures several { (x : T) (a : List T) (y : T)
+        → positioned {E = E} (Ok x ∷ map (λ z. Ok z) a ++ Ok y ∷ [])
+        ≡ Ok (First, x) ∷ map (λ z. Ok (Middle, z)) a ++ Ok (Last, y) ∷ [] }
+    ensures one { (x : T) → positioned {E = E} (Ok x ∷ []) ≡ Ok (Only, x) ∷ [] }
+{}
+
+/// Each hint of `WithPosition` is as sound as the hint of its source that it is made of; if a stop is due it is sound by itself.
+pub fn law_hints_with_position<I: FallibleIterator>()
+where
+    I::Item: Drop,
+    I::Error: Drop,
+    ensures none_due { (s : WithPosition I I.Item I.Error) → with_position_due s ≡ None
+        → KeepsBrackets ⟦<WithPosition<I> as FallibleIterator>⟧.contract s I.contract
+        (with_position_source s) }
+    ensures due { (s : WithPosition I I.Item I.Error) (stop : Option I.Error)
+        → with_position_due s ≡ Some stop
+        → SoundHints ⟦<WithPosition<I> as FallibleIterator>⟧.contract s }
 {}

@@ -1,0 +1,107 @@
+-- What `WithPosition` lists.
+use Rattle.std.specs.Prelude.{◌≡◌, ◌≤◌, Bool, true, false, Option, Some, None, Result, Ok, Err, List, [], ◌∷◌, ◌++◌, map}
+use Rattle.std.proofs.Common.{refl, ap, subst, arith}
+use Rattle.fallible_iterator.specs.Contract.{Contract, seen_as}
+use Rattle.fallible_iterator.specs.Lists.{Lists}
+use Rattle.fallible_iterator.proofs.Lemmas.Lists.Passing.{lists_seen}
+use Rattle.fallible_itertools.specs.Holding.{held_one}
+use Rattle.fallible_itertools.specs.WithPosition.{position_asks, position_before_item, position_before_stop, positioned, positioned_at, with_position_contract, with_position_parts}
+use Rattle.fallible_itertools.proofs.Lemmas.HoldingHints.{GivesHeld}
+use Rattle.fallible_itertools.proofs.Lemmas.HoldingLists.{held_list, listed_parts, gives_held_list}
+use Rattle.fallible_iterator.specs.Outcome.{Outcome}
+use Rattle.fallible_iterator.specs.Outcome.TheVariants.{Kept, LeftOut, End}
+use Rattle.fallible_itertools.specs.declared.with_position.Position.{Position}
+use Rattle.fallible_itertools.specs.declared.with_position.Position.TheVariants.{First, Middle, Last, Only}
+use Rattle.fallible_itertools.specs.declared.with_position.WithPosition.{WithPosition}
+
+module _ {A : Type 0} where
+  abbrev next_held : Option (Bool × A) → Option A → Option (Bool × A)
+  next_held None (Some x) = Some (false, x)
+  next_held (Some p) (Some x) = Some (true, x)
+  next_held None None = None
+  next_held (Some p) None = None
+
+  next_at_stop : (a : Option (Bool × A)) → next_held a None ≡ None
+  next_at_stop None = refl
+  next_at_stop (Some p) = refl
+
+module _ {A E : Type 0} where
+  abbrev held_outcome : Option (Bool × A) → Option A → Outcome (Position × A) E
+  held_outcome None (Some x) = LeftOut
+  held_outcome (Some p) (Some x) = Kept (position_before_item p.0, p.1)
+  held_outcome None None = End
+  held_outcome (Some p) None = Kept (position_before_stop p.0, p.1)
+
+  acts_on_asked : (a : Option (Bool × A)) (x : Option A) (o : Outcome (Position × A) E) (q : Option (Bool × A)) → position_asks a x o q → (q ≡ next_held a x) × (o ≡ held_outcome a x)
+  acts_on_asked None (Some x) o q w = (w.1, w.0)
+  acts_on_asked (Some p) (Some x) o q w = (w.1, w.0)
+  acts_on_asked None None o q w = (w.1, w.0)
+  acts_on_asked (Some p) None o q w = (w.1, w.0)
+
+  acts_by_next : (p a : Option (Bool × A)) (x : Option A) (o : Outcome (Position × A) E) (q : Option (Bool × A)) → p ≡ a → position_asks p x o q → (q ≡ next_held a x) × (o ≡ held_outcome a x)
+  acts_by_next p a x o q at w = acts_on_asked a x o q (subst (λ k. position_asks k x o q) at w)
+
+  outcome_never_left_out : (a : Option (Bool × A)) → held_outcome a None ≡ LeftOut → ⊥
+  outcome_never_left_out None is = absurd cc
+  outcome_never_left_out (Some p) is = absurd cc
+
+  outcome_never_end : (a : Option (Bool × A)) (x : A) → held_outcome a (Some x) ≡ End → ⊥
+  outcome_never_end None x is = absurd cc
+  outcome_never_end (Some p) x is = absurd cc
+
+  held_list_is_positioned_at : (a : Option (Bool × A)) (l : List (Result A E)) → held_list held_outcome next_held a l ≡ positioned_at a l
+  unfolding positioned_at
+  held_list_is_positioned_at None [] = refl
+  held_list_is_positioned_at (Some p) [] = refl
+  held_list_is_positioned_at None (Ok x ∷ l) = held_list_is_positioned_at (Some (false, x)) l
+  held_list_is_positioned_at (Some p) (Ok x ∷ l) = ap (λ k. Ok (position_before_item p.0, p.1) ∷ k) (held_list_is_positioned_at (Some (true, x)) l)
+  held_list_is_positioned_at None (Err e ∷ l) = ap (λ k. Err e ∷ k) (held_list_is_positioned_at None l)
+  held_list_is_positioned_at (Some p) (Err e ∷ l) = ap (λ k. Ok (position_before_stop p.0, p.1) ∷ Err e ∷ k) (held_list_is_positioned_at None l)
+
+  held_list_is_positioned : (l : List (Result A E)) → held_list held_outcome next_held None l ≡ positioned l
+  unfolding positioned
+  held_list_is_positioned l = held_list_is_positioned_at None l
+
+  -- What stands before a failure is positioned by itself, and so is what comes after it.
+  pub positioned_in_parts : (a : List (Result A E)) (e : E) (b : List (Result A E)) → positioned (a ++ Err e ∷ b) ≡ positioned a ++ Err e ∷ positioned b
+  positioned_in_parts a e b = listed_parts held_outcome next_held None next_at_stop outcome_never_end positioned held_list_is_positioned a e b
+
+pub lists_positioned : {S A E : Type 0} (m : Contract S A E) (s : WithPosition S A E) (l : List (Result A E)) → with_position_parts s ≡ (s.it, (None, None)) → Lists m.steps s.it l → Lists (seen_as with_position_parts (with_position_contract m)).steps s (positioned l)
+lists_positioned m s l parts i = lists_seen with_position_parts (with_position_contract m).steps s parts (held_list_is_positioned l) (gives_held_list m.steps position_asks (λ p a. p ≡ a) held_outcome next_held acts_by_next outcome_never_end outcome_never_left_out l s.it None None refl i.runs)
+
+-- ---- what the list is
+
+module _ {A E : Type 0} where
+  later_positioned : (z : A) (a : List A) (y : A) → positioned_at {E = E} (Some (true, z)) (map (λ x. Ok x) a ++ Ok y ∷ []) ≡ map (λ x. Ok (Middle, x)) (z ∷ a) ++ Ok (Last, y) ∷ []
+  unfolding positioned_at
+  later_positioned z [] y = refl
+  later_positioned z (x ∷ a) y = ap (λ k. Ok (Middle, z) ∷ k) (later_positioned x a y)
+
+  first_positioned : (z : A) (a : List A) (y : A) → positioned_at {E = E} (Some (false, z)) (map (λ x. Ok x) a ++ Ok y ∷ []) ≡ Ok (First, z) ∷ map (λ x. Ok (Middle, x)) a ++ Ok (Last, y) ∷ []
+  unfolding positioned_at
+  first_positioned z [] y = refl
+  first_positioned z (x ∷ a) y = ap (λ k. Ok (First, z) ∷ k) (later_positioned x a y)
+
+  -- of two items or more the first is `First`, the last `Last`, and each between them `Middle`
+  pub several_positioned : (x : A) (a : List A) (y : A) → positioned {E = E} (Ok x ∷ map (λ z. Ok z) a ++ Ok y ∷ []) ≡ Ok (First, x) ∷ map (λ z. Ok (Middle, z)) a ++ Ok (Last, y) ∷ []
+  unfolding positioned positioned_at
+  several_positioned x a y = first_positioned x a y
+
+  -- one item alone is `Only`
+  pub one_positioned : (x : A) → positioned {E = E} (Ok x ∷ []) ≡ Ok (Only, x) ∷ []
+  unfolding positioned positioned_at
+  one_positioned x = refl
+
+-- ---- its hint
+
+module _ {A : Type 0} (E : Type 0) where
+  held_one_where_left_out : (p : Option (Bool × A)) (x : A) (q : Option (Bool × A)) → position_asks {E = E} p (Some x) LeftOut q → 1 ≤ held_one q
+  held_one_where_left_out None x q w = rw w.1 (omega arith)
+  held_one_where_left_out (Some p) x q w = absurd (let is = w.0 in cc)
+
+  held_one_at_stop : (p q : Option (Bool × A)) → position_asks {E = E} p None End q → held_one p ≡ 0
+  held_one_at_stop None q w = refl
+  held_one_at_stop (Some p) q w = absurd (let is = w.0 in cc)
+
+  pub gives_held : GivesHeld {E = E} (position_asks {A = A}) held_one
+  gives_held = record { left_out = held_one_where_left_out; at_stop = held_one_at_stop }
