@@ -40,6 +40,8 @@ pub mod Sorted
 pub mod TakeWhileInclusive
 pub mod TakeWhileInclusiveFolds
 pub mod TupleWindows
+pub mod Unique
+pub mod UniqueOf
 pub mod WindowHints
 pub mod WithPosition
 pub mod ZipLongest

@@ -16,5 +16,6 @@ pub mod PeekingTakeWhile
 pub mod Sides
 pub mod TakeWhileInclusive
 pub mod TupleWindows
+pub mod Unique
 pub mod WithPosition
 pub mod ZipLongest

@@ -32,5 +32,6 @@ pub mod Sides
 pub mod Sorted
 pub mod TakeWhileInclusive
 pub mod TupleWindows
+pub mod Unique
 pub mod WithPosition
 pub mod ZipLongest

@@ -10,6 +10,7 @@ mod merge;
 mod merge_by;
 mod peeking_take_while;
 mod take_while_inclusive;
+mod unique;
 mod zip_longest;
 
 pub use copied::{
@@ -38,4 +39,5 @@ pub use peeking_take_while::{
     law_hints_peeking_take_while, law_peeking_take_while, law_rest_peeking_take_while,
 };
 pub use take_while_inclusive::{law_hints_take_while_inclusive, law_take_while_inclusive};
+pub use unique::{law_hints_unique, law_unique, law_unique_of};
 pub use zip_longest::{law_hints_zip_longest, law_zip_longest};

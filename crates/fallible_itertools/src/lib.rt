@@ -36,6 +36,7 @@ mod sorted;
 pub mod take_while_inclusive;
 pub mod traits;
 pub mod tuple_windows;
+pub mod unique;
 pub mod with_position;
 pub mod zip_longest;
 
@@ -60,5 +61,6 @@ pub use peeking_take_while::{PeekingNext, PeekingTakeWhile};
 pub use take_while_inclusive::TakeWhileInclusive;
 pub use traits::FallibleItertools;
 pub use tuple_windows::TupleWindows;
+pub use unique::Unique;
 pub use with_position::{Position, WithPosition};
 pub use zip_longest::{EitherOrBoth, ZipLongest};

@@ -1,5 +1,7 @@
 //! The extension trait of every fallible iterator.
 ghost use Rattle.std.specs.HashMap.{get, spare};
+ghost use Rattle.std.specs.HashSet.{IsEmpty};
+ghost use Rattle.std.specs.Set.{ClonesAreEqual};
 ghost use Rattle.std.specs.Prelude.{◌≡◌, ℕ, ◌+◌, ◌≤◌, List, None, Result, ◌-◌, ◌^◌, true, Option, Ok, Err, false, Bool, Some, IfOk, ⊤, ◌<◌, vec_items};
 ghost use Rattle.std.specs.Fn.{ComputesKey};
 ghost use Rattle.std.specs.declared.cmp.Ordering.{Ordering};
@@ -42,6 +44,7 @@ ghost use Rattle.fallible_itertools.specs.Sorted.{CollectsSorted, IsSortedByCall
 ghost use Rattle.fallible_itertools.specs.TakeWhileInclusive as inclusive;
 ghost use Rattle.fallible_itertools.specs.CheckedSum.{TotalDrains, totalled};
 ghost use Rattle.fallible_itertools.specs.TupleWindows.{tuple_windows_contract, tuple_windows_parts, windowed};
+ghost use Rattle.fallible_itertools.specs.Unique.{unique_contract, unique_of, unique_parts, unique_seen, unique_source};
 ghost use Rattle.fallible_itertools.specs.WithPosition.{positioned, with_position_contract, with_position_parts};
 ghost use Rattle.fallible_itertools.specs.ZipLongest as zip_longest;
 ghost use Rattle.fallible_itertools.specs.declared.exactly_one.NotOne.TheVariants.{More};
@@ -74,6 +77,7 @@ use crate::sides::Holding;
 use crate::sorted::{sorted_items, sorted_items_by_key};
 use crate::take_while_inclusive::TakeWhileInclusive;
 use crate::tuple_windows::TupleWindows;
+use crate::unique::Unique;
 use crate::with_position::WithPosition;
 use crate::zip_longest::ZipLongest;
 use fallible_iterator::extending::{
@@ -83,7 +87,7 @@ use fallible_iterator::extending::{
 use fallible_iterator::{FallibleIterator, Fault, IntoFallibleIterator};
 use std::alloc::{AllocError, Global};
 use std::cmp::Ordering;
-use std::collections::HashMap;
+use std::collections::{HashMap, HashSet};
 use std::fmt::Display;
 use std::hash::Hash;
 
@@ -1265,6 +1269,35 @@ pub trait FallibleItertools: FallibleIterator {
             it: self,
             separator,
             placing: (false, None),
+        }
+    }
+
+    /// Yields each item that equals none before it: of equal items the first.
+    ///
+    /// Creating it draws nothing and allocates nothing. `next` draws up to an item that equals none that was yielded, a failure or an `Ok(None)`. A set has a clone of each item that was yielded. It fails as the source does, and a failure parts nothing. If the clone or the room for it can't be allocated, the failure converted from `AllocError` is yielded. Then the item is lost, and no other: a later one that equals it is yielded. After a failure or an `Ok(None)` the set stays.
+    ///
+    /// Requires nothing. `next` requires that it may be called on the source, and that the source is finite, since one call may leave many items out.
+    ///
+    /// ```
+    /// convert(readings.into_iter()).unique(alloc).collect(alloc)
+    /// ```
+    final fn unique(self, alloc: Global) -> Unique<Self>
+    where
+        Self::Item: Clone + Drop + Eq + Hash,
+        Self::Error: From<AllocError>,
+        ensures parts { unique_source result ≡ self }
+        ensures empty { IsEmpty (unique_seen result) }
+        ensures lists { (l : List (Result Self.Item Self.Error))
+            → list.Lists Self.contract.steps self l
+            → ClonesAreEqual Self.Item.eq Self.Item.is_clone
+            → ListsMade (λ x y. y ≡ x) (seen_as unique_parts
+            (unique_contract Self.Item.eq Self.Item.is_clone Self.Item.is_infallible
+            Self.Error.from_gives Self.contract)).steps Self.Error.from_gives result
+            (unique_of Self.Item.eq l) }
+    {
+        Unique {
+            it: self,
+            seen: HashSet::new(alloc),
         }
     }
 }

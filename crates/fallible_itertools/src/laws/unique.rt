@@ -1,0 +1,41 @@
+// The laws of the adapter that yields each item that equals none before it.
+ghost use Rattle.std.specs.Prelude.{◌≡◌, List, Result};
+ghost use Rattle.std.specs.List.{IsDistinct, find};
+ghost use Rattle.fallible_iterator.specs.BothEnds.{failures_listed, items_listed};
+ghost use Rattle.fallible_iterator.specs.LawForm.{TracesAre};
+ghost use Rattle.fallible_iterator.specs.SoundHints.{KeepsBrackets};
+ghost use Rattle.fallible_itertools.specs.Unique.{UniqueTrace, unique_of, unique_parts, unique_source};
+
+use crate::unique::Unique;
+use fallible_iterator::FallibleIterator;
+use std::alloc::AllocError;
+use std::hash::Hash;
+
+/// The answers of `Unique` are the source's, without the items that equal one that was yielded before. Where the clone of an item or the room for it can't be allocated, the failure converted from the `AllocError` is in its place.
+pub fn law_unique<I: FallibleIterator>()
+where
+    I::Item: Clone + Drop + Eq + Hash,
+    I::Error: From<AllocError>,
+    ensures { TracesAre unique_parts ⟦<Unique<I> as FallibleIterator>⟧.contract.steps
+        (UniqueTrace I.Item.eq I.Item.is_clone I.Item.is_infallible I.Error.from_gives
+        I.contract.steps) }
+{}
+
+/// No item equals another. The first item of the list that equals any given one is still the first. The failures are the list's.
+pub fn law_unique_of<T: Eq, E>()
+    ensures distinct { (l : List (Result T E)) → IsDistinct T.eq (items_listed (unique_of T.eq l)) }
+    ensures first { (l : List (Result T E)) (x : T)
+        → find (T.eq x) (items_listed (unique_of T.eq l)) ≡ find (T.eq x) (items_listed l) }
+    ensures failures { (l : List (Result T E))
+        → failures_listed (unique_of T.eq l) ≡ failures_listed l }
+{}
+
+/// Each hint of `Unique` is as sound as the hint of its source that it is made of.
+pub fn law_hints_unique<I: FallibleIterator>()
+where
+    I::Item: Clone + Drop + Eq + Hash,
+    I::Error: From<AllocError>,
+    ensures { (s : Unique I I.Item I.Error)
+        → KeepsBrackets ⟦<Unique<I> as FallibleIterator>⟧.contract s I.contract
+        (unique_source s) }
+{}
