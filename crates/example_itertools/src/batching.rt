@@ -4,6 +4,7 @@ ghost use Rattle.fallible_iterator.specs.Lists.{counted, folded, mapped, results
 ghost use Rattle.fallible_iterator.specs.Making.{CollectedMade, ListsMade, SameOrRefused};
 ghost use Rattle.fallible_itertools.specs.ChunkBy.{chunked_by};
 ghost use Rattle.fallible_itertools.specs.Chunks.{chunked};
+ghost use Rattle.fallible_itertools.specs.Unique.{unique_of};
 ghost use Rattle.example_itertools.specs.declared.batching.NoBatch.{NoBatch};
 ghost use Rattle.std.specs.declared.alloc.AllocError.{AllocError};
 
@@ -105,4 +106,26 @@ where
         most = most.max(batch.len());
     }
     Ok(most)
+}
+
+/// The readings without those that equal one before them, or the first failure, up to an allocation failure.
+pub fn unique_readings(
+    alloc: Global,
+    readings: Vec<Result<u32, NoBatch>>,
+) -> Result<Vec<u32>, Fault<NoBatch>>
+    ensures { CollectedMade (λ x y. y ≡ x) (λ refused why. why ≡ NoBatch.Memory)
+        (λ xs v. v.items ≡ xs) (unique_of nat_eq (results readings.items)) result }
+{
+    convert(readings.into_iter()).unique(alloc).collect(alloc)
+}
+
+/// How many different readings there are, or the first failure, or an allocation failure.
+pub fn different_readings(
+    alloc: Global,
+    readings: Vec<Result<u32, NoBatch>>,
+) -> Result<usize, NoBatch>
+    ensures { SameOrRefused (λ refused why. why ≡ NoBatch.Memory)
+        (counted (unique_of nat_eq (results readings.items))) result }
+{
+    convert(readings.into_iter()).unique(alloc).count()
 }

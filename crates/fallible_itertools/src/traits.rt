@@ -239,7 +239,10 @@ pub trait FallibleItertools: FallibleIterator {
     /// Requires nothing. `next` requires what that of `dedup` requires.
     ///
     /// ```
-    /// convert(readings.into_iter()).with_position()
+    /// convert(readings.into_iter())
+    ///     .with_position()
+    ///     .filter(|placed| Ok(has_comma(placed.0)))
+    ///     .count()
     /// ```
     final fn with_position(self) -> WithPosition<Self>
     where

@@ -96,6 +96,8 @@ fn adapters_that_hold_fold_up_to_an_end(rt: HostRuntime) -> Result<(), Fail> {
     expect_folded(&mut it, &log, &TWO_BY_ONE_FOLD)?;
     let mut it = one_one_two(alloc, &log)?.coalesce(one_of_equal);
     expect_folded(&mut it, &log, &TWO_BY_ONE_FOLD)?;
+    let mut it = one_one_two(alloc, &log)?.with_position();
+    expect_folded(&mut it, &log, &THREE_BY_ONE_FOLD)?;
     let mut it = one_one_two(alloc, &log)?.chunk_by(alloc, itself);
     expect_folded(&mut it, &log, &TWO_BY_ONE_FOLD)?;
     let mut twos = one_one_two(alloc, &log)?.chunks(alloc, 2);
@@ -136,6 +138,8 @@ fn adapters_that_answer_at_no_end_fold_by_one_fold(rt: HostRuntime) -> Result<()
     let mut up_to_two = one_one_two(alloc, &log)?.take_while_inclusive(below_two);
     expect_folded(&mut up_to_two, &log, &THREE_BY_ONE_FOLD)?;
     expect_folded(&mut up_to_two, &log, &NONE_BY_NO_FOLD)?;
+    let mut different = one_one_two(alloc, &log)?.unique(alloc);
+    expect_folded(&mut different, &log, &TWO_BY_ONE_FOLD)?;
     let mut parted = one_one_two(alloc, &log)?.intersperse(0);
     expect_folded(&mut parted, &log, &FIVE_BY_ONE_FOLD)
 }

@@ -1,4 +1,4 @@
-// Batches, and groups of one key.
+// Batches, groups of one key, and the first of equal items.
 ghost use Rattle.std.specs.Prelude.{◌<◌};
 
 use fallible_iterator::Answer::{End, Failure, Item};
@@ -227,4 +227,44 @@ fn chunk_by_groups_adjacent_items_of_one_key(rt: HostRuntime) -> Result<(), Fail
     let last = last_batch_of_groups(rt.alloc(), convert(readings.into_iter()), 2);
     assert_eq!(rt; last, Ok(Some(1)));
     Ok(())
+}
+
+const REPEATED: [Drawn; 9] = [
+    Ok(Some(1)),
+    Ok(Some(2)),
+    Ok(Some(1)),
+    Err(Number(9)),
+    Ok(Some(2)),
+    Ok(Some(3)),
+    Ok(None),
+    Ok(Some(3)),
+    Ok(Some(4)),
+];
+
+// The failure and the end part nothing: 2 and 3 are left out after them.
+const UNIQUE: [Answer<u32, TestError>; 7] = [
+    Item(1),
+    Item(2),
+    Failure(Number(9)),
+    Item(3),
+    End,
+    Item(4),
+    End,
+];
+
+// The hint has the source's upper bound.
+const UNIQUE_HINTS: [(Hint, &[Answer<u32, TestError>]); 2] = [
+    ((0, Some(6)), &[Item(1), Item(2), Item(3)]),
+    ((0, Some(3)), &[Failure(Number(9)), Item(4), Item(5), End]),
+];
+
+#[test]
+fn unique_leaves_out_what_came_before(rt: HostRuntime) -> Result<(), Fail> {
+    let source = Script {
+        answers: REPEATED.to_vec(rt.alloc())?.into_iter(),
+    };
+    let mut it = source.unique(rt.alloc());
+    expect_answers(&rt, &mut it, &UNIQUE)?;
+    let source = convert(Vec::from_array(rt.alloc(), HINTED)?.into_iter());
+    expect_course(&rt, &mut source.unique(rt.alloc()), &UNIQUE_HINTS)
 }

@@ -213,14 +213,7 @@ const POSITIONED: [Folded; 4] = [
     (&PLACED, &[Item(44), End, Item(11)], (Err(9), Ok(Some(5)))),
     (
         &PLACED,
-        &[
-            Item(44),
-            End,
-            Item(11),
-            Item(22),
-            Item(33),
-            Failure(9),
-        ],
+        &[Item(44), End, Item(11), Item(22), Item(33), Failure(9)],
         (Ok(186), END),
     ),
 ];
@@ -239,11 +232,10 @@ fn digit(position: Position) -> u32 {
 fn with_position_starts_anew_after_a_stop(rt: HostRuntime) -> Result<(), Fail> {
     for (answers, drawn, expected) in &POSITIONED {
         let mut source = script(&rt, answers)?;
-        let mut it = (&mut source)
-            .with_position()
-            .map(|(position, x): (Position, u32)| -> Result<u32, u32> {
-                Ok(digit(position).wrapping_mul(10).wrapping_add(x))
-            });
+        let mut it = (&mut source).with_position().map(|(position, x): (Position, u32)| -> Result<
+            u32,
+            u32,
+        > { Ok(digit(position).wrapping_mul(10).wrapping_add(x)) });
         let folded = folded_after(&rt, &mut it, drawn)?;
         expect_same(&(folded, source.next()), expected)?;
     }
