@@ -2,9 +2,10 @@
 ghost use Rattle.std.specs.Prelude.{◌≡◌, ◌%◌, Ok, nat_eq, nat_lt};
 ghost use Rattle.std.specs.Ordering.{nat_cmp};
 ghost use Rattle.fallible_iterator.specs.Clauses.{OverList};
-ghost use Rattle.fallible_iterator.specs.Lists.{CollectedAs, filtered, found, nth_of, results, reversed, taken};
+ghost use Rattle.fallible_iterator.specs.Lists.{CollectedAs, filtered, found, mapped, nth_of, results, reversed, taken};
 ghost use Rattle.fallible_itertools.specs.Counts.{IsCountsOf};
 ghost use Rattle.fallible_itertools.specs.ExactlyOne.{at_most_one_of, wanting_one};
+ghost use Rattle.fallible_itertools.specs.GroupMap.{IsGroupMapOf};
 ghost use Rattle.fallible_itertools.specs.MinMax.{minmaxed};
 ghost use Rattle.fallible_itertools.specs.Sorted.{IsSortedByKeyOf, IsSortedOf};
 
@@ -53,6 +54,19 @@ pub fn tally(
     ensures { CollectedAs (IsCountsOf nat_eq) (results readings.items) result }
 {
     convert(readings.into_iter()).counts(alloc)
+}
+
+/// The readings by their last digits: each digit beside its readings, in order.
+pub fn by_last_digit(
+    alloc: Global,
+    readings: Vec<Result<u32, u8>>,
+) -> Result<HashMap<u32, Vec<u32>>, Fault<u8>>
+    ensures { CollectedAs (IsGroupMapOf nat_eq) (mapped (λ x. Ok (x % 10, x))
+        (results readings.items)) result }
+{
+    convert(readings.into_iter())
+        .map(|reading| Ok((reading % 10, reading)))
+        .into_group_map(alloc)
 }
 
 /// The readings in order, or the first failure.

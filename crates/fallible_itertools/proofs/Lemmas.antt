@@ -15,6 +15,7 @@ pub mod Deduped
 pub mod Equal
 pub mod FindOrLast
 pub mod FoldWhile
+pub mod GroupMap
 pub mod Groups
 pub mod Holding
 pub mod HoldingHints

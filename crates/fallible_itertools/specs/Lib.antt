@@ -17,6 +17,7 @@ pub mod ExactlyOne
 pub mod FindOrLast
 pub mod FoldWhile
 pub mod FromBack
+pub mod GroupMap
 pub mod Holding
 pub mod InspectErr
 pub mod Intersperse

@@ -20,6 +20,7 @@ mod equal;
 pub mod exactly_one;
 mod find_or_last;
 pub mod fold_while;
+pub mod group_map;
 pub mod holding;
 pub mod inspect_err;
 pub mod intersperse;

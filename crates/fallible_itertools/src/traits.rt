@@ -29,6 +29,7 @@ ghost use Rattle.fallible_itertools.specs.DedupByKey as dedup_by_key;
 ghost use Rattle.fallible_itertools.specs.Equal.{FirstCall, TestCall, contained, equal_to_first, rest_contained, rest_unequal};
 ghost use Rattle.fallible_itertools.specs.ExactlyOne.{AtMostOneDrains, at_most_one_of, wanting_one};
 ghost use Rattle.fallible_itertools.specs.Holding.{MayBeAsked};
+ghost use Rattle.fallible_itertools.specs.GroupMap.{GroupRefuses, IsGroupMapOf};
 ghost use Rattle.fallible_itertools.specs.InspectErr.{inspect_err_contract, inspect_err_parts, seen_call};
 ghost use Rattle.fallible_itertools.specs.OrElse.{or_else_contract, or_else_parts, recovered};
 ghost use Rattle.fallible_itertools.specs.Intersperse.{intersperse_contract, intersperse_parts, interspersed};
@@ -65,6 +66,7 @@ use crate::equal::{AllEqualTurn, ContainsTurn};
 use crate::exactly_one::NotOne;
 use crate::find_or_last::{FindLastTurn, or_last};
 use crate::fold_while::{FoldWhile, FoldWhileTurn, while_or_stop};
+use crate::group_map::GroupMap;
 use crate::inspect_err::InspectErr;
 use crate::intersperse::Intersperse;
 use crate::is_sorted::{InOrderTurn, SortedTurn};
@@ -1008,6 +1010,42 @@ pub trait FallibleItertools: FallibleIterator {
     {
         match self.collect::<Tally<Self::Item>>(alloc) {
             Ok(made) => Ok(made.counts),
+            Err(fault) => Err(fault),
+        }
+    }
+
+    /// Returns the pairs' values by their keys, as a map. A key is the first of equal keys, its value a `Vec` of the values of the pairs with an equal key, in order.
+    ///
+    /// It draws up to `Ok(None)`, the first failure or a pair that the map rejects. It fails with `Fault::Source` of the first failure. It fails with `Fault::Memory` if the map rejected the last pair drawn: an allocation failed, for a new key or for the full `Vec` of an equal one. It consumes the iterator, and no clause says what is left.
+    ///
+    /// Requires that `next` may be called and that the iterator is finite.
+    ///
+    /// ```
+    /// convert(readings.into_iter())
+    ///     .map(|reading| Ok((reading % 10, reading)))
+    ///     .into_group_map(alloc)
+    /// ```
+    final fn into_group_map<K, V>(
+        self,
+        alloc: Global,
+    ) -> Result<HashMap<K, Vec<V>>, Fault<Self::Error>>
+    where
+        Self: FallibleIterator<Item = (K, V)>,
+        K: Eq + Hash + Drop,
+        V: Drop,
+        requires can_next { Self.contract.can_next self }
+        requires finite { Self.contract.is_finite self }
+        ensures collects { Collects Self.contract.steps (IsGroupMapOf K.eq) ⊥
+            (GroupRefuses K.eq) self result }
+        ensures value { OverList Self.contract.steps self
+            (λ l. list.CollectedAs (IsGroupMapOf K.eq) l result) }
+        ensures contents { OverList Self.contract.steps self
+            (λ l. IfOk result (list.MadeOf (IsGroupMapOf K.eq) (list.collected l))) }
+        ensures failure { OverList Self.contract.steps self
+            (λ l. (e : Self.Error) → result ≡ Err (Source e) → list.collected l ≡ Err e) }
+    {
+        match self.collect::<GroupMap<K, V>>(alloc) {
+            Ok(made) => Ok(made.groups),
             Err(fault) => Err(fault),
         }
     }

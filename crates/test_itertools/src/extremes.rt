@@ -111,6 +111,41 @@ fn counted_and_joined(rt: HostRuntime) -> Result<(), Fail> {
     }
 }
 
+// The numbers that end in 5 and in 2, and how many last digits there are; or the failure.
+type Grouped = (
+    Numbers,
+    Result<(Option<&'static [u32]>, Option<&'static [u32]>, usize), u32>,
+);
+
+const GROUPED: [Grouped; 3] = [
+    (&[], Ok((None, None, 0))),
+    (
+        &[Ok(15), Ok(2), Ok(5), Ok(15), Ok(12), Ok(31)],
+        Ok((Some(&[15, 5, 15]), Some(&[2, 12]), 3)),
+    ),
+    (&[Ok(5), Err(9), Ok(2)], Err(9)),
+];
+
+#[test]
+fn grouped_by_last_digit(rt: HostRuntime) -> Result<(), Fail> {
+    for (answers, expected) in &GROUPED {
+        let groups = numbers(answers)
+            .map(|x| Ok((x % 10, x)))
+            .into_group_map(rt.alloc());
+        let made = match &groups {
+            Ok(groups) => Ok((
+                groups.get(&5).map(|values| values.as_slice()),
+                groups.get(&2).map(|values| values.as_slice()),
+                groups.len(),
+            )),
+            Err(Fault::Source(e)) => Err(*e),
+            Err(Fault::Memory(_)) => return Err(Fail::new("nothing was grouped")),
+        };
+        expect_same(&made, expected)?;
+    }
+    Ok(())
+}
+
 // So many that their text has 1,003 bytes.
 const MANY: [Result<u32, u32>; 201] = [Ok(100); 201];
 
