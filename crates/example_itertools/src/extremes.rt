@@ -1,5 +1,5 @@
 //! Callers of what is in `fallible_itertools` about extremes, counts, comparisons and the second end, with what they compute.
-ghost use Rattle.std.specs.Prelude.{◌≡◌, ◌%◌, Ok, nat_eq, nat_lt};
+ghost use Rattle.std.specs.Prelude.{◌≡◌, ◌-◌, ◌%◌, if◌then◌else◌, Ok, nat_eq, nat_lt, vec_items};
 ghost use Rattle.std.specs.Ordering.{nat_cmp};
 ghost use Rattle.fallible_iterator.specs.Clauses.{OverList};
 ghost use Rattle.fallible_iterator.specs.Lists.{CollectedAs, filtered, found, mapped, nth_of, results, reversed, taken};
@@ -7,11 +7,15 @@ ghost use Rattle.fallible_itertools.specs.Counts.{IsCountsOf};
 ghost use Rattle.fallible_itertools.specs.ExactlyOne.{at_most_one_of, wanting_one};
 ghost use Rattle.fallible_itertools.specs.GroupMap.{IsGroupMapOf};
 ghost use Rattle.fallible_itertools.specs.MinMax.{minmaxed};
+ghost use Rattle.fallible_itertools.specs.PartitionMap.{MadeOfEithers};
 ghost use Rattle.fallible_itertools.specs.Sorted.{IsSortedByKeyOf, IsSortedOf};
+ghost use Rattle.fallible_itertools.specs.declared.partition_map.Either.TheVariants.{Left, Right};
 
 use fallible_iterator::laws::law_back_convert;
 use fallible_iterator::{FallibleIterator, Fault, convert};
-use fallible_itertools::{DoubleEndedFallibleItertools, FallibleItertools, MinMaxResult, NotOne};
+use fallible_itertools::{
+    DoubleEndedFallibleItertools, Either, FallibleItertools, MinMaxResult, NotOne,
+};
 use std::alloc::Global;
 use std::collections::HashMap;
 
@@ -67,6 +71,24 @@ pub fn by_last_digit(
     convert(readings.into_iter())
         .map(|reading| Ok((reading % 10, reading)))
         .into_group_map(alloc)
+}
+
+/// The readings up to 100, and how much the others are above 100.
+pub fn up_to_100_and_above(
+    alloc: Global,
+    readings: Vec<Result<u32, u8>>,
+) -> Result<(Vec<u32>, Vec<u32>), Fault<u8>>
+    ensures { CollectedAs (MadeOfEithers (λ xs v. vec_items v ≡ xs) (λ xs v. vec_items v ≡ xs))
+        (mapped (λ x. Ok (if nat_lt 100 x then Right (x - 100) else Left x))
+        (results readings.items)) result }
+{
+    convert(readings.into_iter()).partition_map(alloc, |reading: u32| {
+        Ok(if reading > 100 {
+            Either::Right(reading - 100)
+        } else {
+            Either::Left(reading)
+        })
+    })
 }
 
 /// The readings in order, or the first failure.

@@ -35,6 +35,7 @@ pub mod MergeBy
 pub mod Merged
 pub mod MinMax
 pub mod OrElse
+pub mod PartitionMap
 pub mod PeekingTakeWhile
 pub mod Sides
 pub mod Sorted

@@ -28,6 +28,7 @@ pub mod Merge
 pub mod MergeBy
 pub mod MinMax
 pub mod OrElse
+pub mod PartitionMap
 pub mod PeekingTakeWhile
 pub mod Sides
 pub mod Sorted

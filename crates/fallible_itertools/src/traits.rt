@@ -2,7 +2,7 @@
 ghost use Rattle.std.specs.HashMap.{get, spare};
 ghost use Rattle.std.specs.HashSet.{IsEmpty};
 ghost use Rattle.std.specs.Set.{ClonesAreEqual};
-ghost use Rattle.std.specs.Prelude.{◌≡◌, ℕ, ◌+◌, ◌≤◌, List, None, Result, ◌-◌, ◌^◌, true, Option, Ok, Err, false, Bool, Some, IfOk, ⊤, ◌<◌, vec_items};
+ghost use Rattle.std.specs.Prelude.{◌≡◌, ℕ, ◌+◌, ◌≤◌, List, None, Result, ◌-◌, ◌^◌, ◌⊎◌, true, Option, Ok, Err, false, Bool, Some, IfOk, ⊤, ◌<◌, vec_items};
 ghost use Rattle.std.specs.Fn.{ComputesKey};
 ghost use Rattle.std.specs.declared.cmp.Ordering.{Ordering};
 ghost use Rattle.fallible_iterator.specs.Clauses.{OverList, OverListWith, OverBoth};
@@ -14,6 +14,7 @@ ghost use Rattle.fallible_iterator.specs.Fault.TheVariants.{Source};
 ghost use Rattle.fallible_iterator.specs.Folds as fold;
 ghost use Rattle.fallible_iterator.specs.Lists as list;
 ghost use Rattle.fallible_iterator.specs.Making.{ListsMade};
+ghost use Rattle.fallible_iterator.specs.OneToOne.Map.{map_contract};
 ghost use Rattle.fallible_iterator.specs.Picking.{call_at_two, takes_at_two};
 ghost use Rattle.fallible_iterator.specs.Searching as search;
 ghost use Rattle.fallible_itertools.specs.ChunkBy.{MadeGroup, chunk_by_contract, chunk_by_parts, chunked_by};
@@ -37,6 +38,7 @@ ghost use Rattle.fallible_itertools.specs.Join.{JoinedAs};
 ghost use Rattle.fallible_itertools.specs.Merge.{merge_contract, merge_left, merge_left_held, merge_parts, merge_right, merge_right_held, merged_in_order};
 ghost use Rattle.fallible_itertools.specs.MergeBy as merge_by;
 ghost use Rattle.fallible_itertools.specs.MinMax.{MinMaxDrains, minmaxed};
+ghost use Rattle.fallible_itertools.specs.PartitionMap.{EitherRefused, MadeOfEithers};
 ghost use Rattle.fallible_itertools.specs.Sides.{OverBothForGood};
 ghost use Rattle.fallible_itertools.specs.FindOrLast.{FoundOrLast, found_or_last};
 ghost use Rattle.fallible_itertools.specs.IsSorted.{ItselfCall, OrderCall, in_order, in_order_by_key};
@@ -75,6 +77,7 @@ use crate::merge::Merge;
 use crate::merge_by::MergeBy;
 use crate::minmax::{MinMaxResult, MinMaxTurn};
 use crate::or_else::OrElse;
+use crate::partition_map::Either;
 use crate::sides::Holding;
 use crate::sorted::{sorted_items, sorted_items_by_key};
 use crate::take_while_inclusive::TakeWhileInclusive;
@@ -86,7 +89,7 @@ use fallible_iterator::extending::{
     FindTest, FindTurn, ForEachTurn, PositionTurn, ReadEq, Reading, answer_or, answer_or_none,
     found, ordered,
 };
-use fallible_iterator::{FallibleIterator, Fault, IntoFallibleIterator};
+use fallible_iterator::{Collect, FallibleIterator, Fault, IntoFallibleIterator};
 use std::alloc::{AllocError, Global};
 use std::cmp::Ordering;
 use std::collections::{HashMap, HashSet};
@@ -1048,6 +1051,51 @@ pub trait FallibleItertools: FallibleIterator {
             Ok(made) => Ok(made.groups),
             Err(fault) => Err(fault),
         }
+    }
+
+    /// Returns two collections of what the closure returns for the items: of the values of each `Either::Left`, and of those of each `Either::Right`, in order. Of equal values they keep what `collect` keeps.
+    ///
+    /// Draws and errors: as `collect` of `map`. The closure is called once on each item. If it fails, this stops and fails with `Fault::Source` of that failure. It consumes the iterator, and no clause says what is left.
+    ///
+    /// Requires that `next` may be called and that the iterator is finite, and of the closure what `map` requires.
+    ///
+    /// ```
+    /// convert(readings.into_iter()).partition_map(alloc, |reading: u32| {
+    ///     Ok(if reading > 100 {
+    ///         Either::Right(reading - 100)
+    ///     } else {
+    ///         Either::Left(reading)
+    ///     })
+    /// })
+    /// ```
+    final fn partition_map<L, R, F, A, B>(
+        self,
+        alloc: Global,
+        f: F,
+    ) -> Result<(L, R), Fault<Self::Error>>
+    where
+        L: Collect<A>,
+        R: Collect<B>,
+        F: FnMut(Self::Item) -> Result<Either<A, B>, Self::Error>,
+        A: Drop,
+        B: Drop,
+        requires can_next { Self.contract.can_next self }
+        requires finite { Self.contract.is_finite self }
+        requires callable { IsCallable (call_on F.FnMut) (takes_on F.FnMut)
+            (Self.contract.may_give self) f }
+        ensures collects { Collects (map_contract Self.contract F.FnMut).steps
+            (MadeOfEithers L.made R.made) (L.empty_refuses ⊎ R.empty_refuses)
+            (EitherRefused L.push_refuses R.push_refuses) (self, f) result }
+        ensures value { OverListWith (list.Acts (call_on F.FnMut) f) Self.contract.steps self
+            (λ h l. list.CollectedAs (MadeOfEithers L.made R.made) (list.mapped h l) result) }
+        ensures contents { OverListWith (list.Acts (call_on F.FnMut) f) Self.contract.steps self
+            (λ h l. IfOk result (list.MadeOf (MadeOfEithers L.made R.made)
+            (list.collected (list.mapped h l)))) }
+        ensures failure { OverListWith (list.Acts (call_on F.FnMut) f) Self.contract.steps self
+            (λ h l. (e : Self.Error) → result ≡ Err (Source e)
+            → list.collected (list.mapped h l) ≡ Err e) }
+    {
+        self.map(f).collect(alloc)
     }
 
     /// Returns the items in a `Vec`, in order. Equal items keep their order.

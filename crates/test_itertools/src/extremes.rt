@@ -2,7 +2,7 @@
 use crate::rows::{Drawn, expect_same};
 use fallible_iterator::{FallibleIterator, Fault};
 use fallible_itertools::MinMaxResult::{MinMax, NoElements, OneElement};
-use fallible_itertools::{FallibleItertools, MinMaxResult, NotOne};
+use fallible_itertools::{Either, FallibleItertools, MinMaxResult, NotOne};
 use std::cmp::Ordering;
 use std::test::Fail;
 use test_support::numbers::numbers;
@@ -140,6 +140,44 @@ fn grouped_by_last_digit(rt: HostRuntime) -> Result<(), Fail> {
             )),
             Err(Fault::Source(e)) => Err(*e),
             Err(Fault::Memory(_)) => return Err(Fail::new("nothing was grouped")),
+        };
+        expect_same(&made, expected)?;
+    }
+    Ok(())
+}
+
+// The numbers up to 100, and how much the others are above 100; or the failure. The closure fails on 200.
+type TwoSides = (Numbers, Result<(&'static [u32], &'static [u32]), u32>);
+
+const TWO_SIDES: [TwoSides; 4] = [
+    (&[], Ok((&[], &[]))),
+    (
+        &[Ok(7), Ok(105), Ok(100), Ok(7), Ok(101)],
+        Ok((&[7, 100, 7], &[5, 1])),
+    ),
+    (&[Ok(7), Err(9), Ok(200)], Err(9)),
+    (&[Ok(105), Ok(200), Err(9)], Err(20)),
+];
+
+#[test]
+fn sides_of_100(rt: HostRuntime) -> Result<(), Fail> {
+    for (answers, expected) in &TWO_SIDES {
+        let sides: Result<(Vec<u32>, Vec<u32>), Fault<u32>> = numbers(answers).partition_map(
+            rt.alloc(),
+            |x: u32| {
+                if x == 200 {
+                    Err(20)
+                } else if x > 100 {
+                    Ok(Either::Right(x - 100))
+                } else {
+                    Ok(Either::Left(x))
+                }
+            },
+        );
+        let made = match &sides {
+            Ok((low, high)) => Ok((low.as_slice(), high.as_slice())),
+            Err(Fault::Source(e)) => Err(*e),
+            Err(Fault::Memory(_)) => return Err(Fail::new("no sides were made")),
         };
         expect_same(&made, expected)?;
     }
