@@ -74,7 +74,7 @@ NO_TEST = {"number": "only proofs read it"}
 PROOFS = re.compile(r"\bRequires (?:that|what|nothing)\b|\brequires (?:that|what|no)\b|\bclauses?\b|\bproofs?\b|"
                     r"search finds|`Fault|\bAllocError\b|allocation fail|failed allocation|can't be allocated")
 # Calls whose signature is another in Rust.
-OTHER = {"collect", "partition", "unzip", "cycle", "chain", "counts", "join", "sorted", "sorted_by_key"}
+OTHER = {"collect", "partition", "unzip", "cycle", "chain", "counts", "into_group_map", "partition_map", "join", "sorted", "sorted_by_key"}
 
 
 class Docs:

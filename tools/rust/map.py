@@ -108,6 +108,14 @@ ITERTOOLS = [
     (r"counts\.rs", r"^    fn empty\((?:.*\n)*?    \}\n\n", "", 1),
     (r"counts\.rs", r"match self\.counts\.insert\(([^\n]*)\) \{[^{}]*\}",
      r"self.counts.insert(\1);\n        Ok(())", 1),
+    # `into_group_map`: the same.
+    (r"group_map\.rs", r"^    fn empty\((?:.*\n)*?    \}\n\n", "", 1),
+    (r"group_map\.rs", r"^    // where .*\n    alloc: Global,\n", "", 1),
+    (r"group_map\.rs", r"Vec::new\(self\.alloc\)", "Vec::new()", 1),
+    (r"group_map\.rs", r"match self\.groups\.insert\(([^\n]*)\) \{[^{}]*\}",
+     r"self.groups.insert(\1);\n        Ok(())", 1),
+    # `partition_map`: the same fold, into whatever extends.
+    (r"partition_map\.rs", r"^    fn empty\((?:.*\n)*?    \}\n\n", "", 1),
     # `sorted`: Rust's `collect`, and std's sort, which is never refused.
     (r"sorted\.rs", r"Fault<E>", "E", 4),
     (r"sorted\.rs", r"^use fallible_iterator::Fault;", "use alloc::vec::Vec;", 1),
@@ -124,13 +132,26 @@ ITERTOOLS = [
      "let mut made = Tally {\n            counts: HashMap::new(),\n        };\n"
      "        match self.drive(&mut made, &CollectTurn) {\n            Ok(None) => Ok(made.counts),\n"
      "            Ok(Some(refused)) => match refused {},\n            Err(e) => Err(e),\n        }", 1),
+    (r"traits\.rs", r"fn into_group_map<K, V>\(\s*self,\s*alloc: Global,?\s*\) -> Result<(.*), Fault<Self::Error>>",
+     r"fn into_group_map<K, V>(mut self) -> Result<\1, Self::Error>", 1),
+    (r"traits\.rs", r"match self\.collect::<GroupMap<K, V>>\(alloc\) \{[^{}]*\}",
+     "let mut made = GroupMap {\n            groups: HashMap::new(),\n        };\n"
+     "        match self.drive(&mut made, &CollectTurn) {\n            Ok(None) => Ok(made.groups),\n"
+     "            Ok(Some(refused)) => match refused {},\n            Err(e) => Err(e),\n        }", 1),
+    (r"traits\.rs", r"fn partition_map<L, R, F, A, B>\(\s*self,\s*alloc: Global,\s*f: F,?\s*\) -> Result<(.*), Fault<Self::Error>>",
+     r"fn partition_map<L, R, F, A, B>(self, f: F) -> Result<\1, Self::Error>", 1),
+    (r"traits\.rs", r"L: Collect<A>,\n        R: Collect<B>,", "L: Default + Extend<A>,\n        R: Default + Extend<B>,", 1),
+    (r"traits\.rs", r"self\.map\(f\)\.collect\(alloc\)",
+     "let mut sides = (Extended(L::default()), Extended(R::default()));\n"
+     "        match self.map(f).drive(&mut sides, &CollectTurn) {\n            Ok(None) => Ok((sides.0.0, sides.1.0)),\n"
+     "            Ok(Some(refused)) => match refused {},\n            Err(e) => Err(e),\n        }", 1),
     (r"traits\.rs", r"Result<String, Fault<Self::Error>>", "Result<String, Self::Error>", 1),
     (r"traits\.rs", r"String::new\(alloc\)", "String::new()", 1),
     (r"traits\.rs", r"Ok\(Some\(refused\)\) => Err\(Fault::Memory\(refused\)\),\n"
      r"(.*)Err\(e\) => Err\(Fault::Source\(e\)\),",
      r"Ok(Some(refused)) => match refused {},\n\1Err(e) => Err(e),", 1),
-    (r"traits\.rs", r"^use fallible_iterator::\{FallibleIterator, Fault, Into", "use fallible_iterator::"
-     "fallible_contract::collecting::CollectTurn;\nuse fallible_iterator::{FallibleIterator, Into", 1),
+    (r"traits\.rs", r"^use fallible_iterator::\{Collect, FallibleIterator, Fault, Into", "use fallible_iterator::"
+     "fallible_contract::collecting::{CollectTurn, Extended};\nuse fallible_iterator::{FallibleIterator, Into", 1),
     (r"join\.rs", r"^use core::fmt::Display;", "use alloc::string::String;\nuse core::fmt::{Display, Write};", 1),
     # The trait of the Rust crate is for types without a size too.
     (r"(?:traits|double_ended|peeking_take_while)\.rs", r"^(pub trait \w+: \w+) \{", r"\1 + Sized {", 3),
@@ -138,18 +159,18 @@ ITERTOOLS = [
     (r"lib\.rs", r"^pub mod (?:batch|chunk_by|chunks|join);", r'#[cfg(feature = "alloc")]\n\g<0>', 4),
     (r"lib\.rs", r"^mod sorted;", r'#[cfg(feature = "alloc")]\n\g<0>', 1),
     (r"lib\.rs", r"^pub use (?:chunk_by|chunks)::", r'#[cfg(feature = "alloc")]\n\g<0>', 2),
-    (r"lib\.rs", r"^pub mod counts;", r'#[cfg(feature = "std")]\n\g<0>', 1),
-    (r"(?:batch|chunk_by|chunks)\.rs", r"\A(//.*\n\n)", r"\1use alloc::vec::Vec;\n", 3),
+    (r"lib\.rs", r"^pub mod (?:counts|group_map);", r'#[cfg(feature = "std")]\n\g<0>', 2),
+    (r"(?:batch|chunk_by|chunks|group_map)\.rs", r"\A(//.*\n\n)", r"\1use alloc::vec::Vec;\n", 4),
     (r"traits\.rs", r"^use crate::(?:chunk_by|chunks|join|sorted)::", r'#[cfg(feature = "alloc")]\n\g<0>', 4),
     (r"traits\.rs", r"^use core::fmt::Display;",
      r'#[cfg(feature = "alloc")]\nuse alloc::string::String;\n#[cfg(feature = "alloc")]\nuse alloc::vec::Vec;\n#[cfg(feature = "alloc")]\n\g<0>', 1),
-    (r"traits\.rs", r"^use (?:crate::counts::|core::hash::|std::coll|fallible_iterator::fallible_contract)",
+    (r"traits\.rs", r"^use (?:crate::(?:counts|group_map)::|core::hash::|std::coll)",
      r'#[cfg(feature = "std")]\n\g<0>', 4),
     (r"traits\.rs", r"^    fn (?:chunks|chunk_by|join|sorted|sorted_by_key)\b", r'    #[cfg(feature = "alloc")]\n\g<0>', 5),
-    (r"traits\.rs", r"^    fn counts\b", r'    #[cfg(feature = "std")]\n\g<0>', 1),
+    (r"traits\.rs", r"^    fn (?:counts|into_group_map)\b", r'    #[cfg(feature = "std")]\n\g<0>', 2),
     (r"lib\.rs", r"\A(?://!.*\n)+\n", HEAD, 1),
-    (r"lib\.rs", r"^pub mod \w+;", r"#[doc(hidden)]\n\g<0>", 27),
-    (r"(?:batch|chunks|counts|join)\.rs", r"\A(//.*\n\n)", r"\1use fallible_iterator::memory::AllocError;\n", 4),
+    (r"lib\.rs", r"^pub mod \w+;", r"#[doc(hidden)]\n\g<0>", 29),
+    (r"(?:batch|chunks|counts|group_map|join|partition_map)\.rs", r"\A(//.*\n\n)", r"\1use fallible_iterator::memory::AllocError;\n", 6),
 ]
 
 # Collections of std that are made by Rust's own `collect`.
