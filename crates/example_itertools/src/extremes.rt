@@ -1,5 +1,5 @@
 //! Callers of what is in `fallible_itertools` about extremes, counts, comparisons and the second end, with what they compute.
-ghost use Rattle.std.specs.Prelude.{◌≡◌, ◌-◌, ◌%◌, if◌then◌else◌, Ok, nat_eq, nat_lt, vec_items};
+ghost use Rattle.std.specs.Prelude.{◌≡◌, ◌-◌, ◌%◌, if◌then◌else◌, Ok, nat_eq, nat_lt};
 ghost use Rattle.std.specs.Ordering.{nat_cmp};
 ghost use Rattle.fallible_iterator.specs.Clauses.{OverList};
 ghost use Rattle.fallible_iterator.specs.Lists.{CollectedAs, filtered, found, mapped, nth_of, results, reversed, taken};
@@ -78,7 +78,7 @@ pub fn up_to_100_and_above(
     alloc: Global,
     readings: Vec<Result<u32, u8>>,
 ) -> Result<(Vec<u32>, Vec<u32>), Fault<u8>>
-    ensures { CollectedAs (MadeOfEithers (λ xs v. vec_items v ≡ xs) (λ xs v. vec_items v ≡ xs))
+    ensures { CollectedAs (MadeOfEithers (λ xs v. v.items ≡ xs) (λ xs v. v.items ≡ xs))
         (mapped (λ x. Ok (if nat_lt 100 x then Right (x - 100) else Left x))
         (results readings.items)) result }
 {
