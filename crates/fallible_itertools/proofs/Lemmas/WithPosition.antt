@@ -21,9 +21,9 @@ module _ {A : Type 0} where
   next_held None None = None
   next_held (Some p) None = None
 
-  next_at_stop : (a : Option (Bool × A)) → next_held a None ≡ None
-  next_at_stop None = refl
-  next_at_stop (Some p) = refl
+  next_held_at_stop_none : (a : Option (Bool × A)) → next_held a None ≡ None
+  next_held_at_stop_none None = refl
+  next_held_at_stop_none (Some p) = refl
 
 module _ {A E : Type 0} where
   abbrev held_outcome : Option (Bool × A) → Option A → Outcome (Position × A) E
@@ -32,18 +32,18 @@ module _ {A E : Type 0} where
   held_outcome None None = End
   held_outcome (Some p) None = Kept (position_before_stop p.0, p.1)
 
-  acts_on_asked : (a : Option (Bool × A)) (x : Option A) (o : Outcome (Position × A) E) (q : Option (Bool × A)) → position_asks a x o q → (q ≡ next_held a x) × (o ≡ held_outcome a x)
-  acts_on_asked None (Some x) o q w = (w.1, w.0)
-  acts_on_asked (Some p) (Some x) o q w = (w.1, w.0)
-  acts_on_asked None None o q w = (w.1, w.0)
-  acts_on_asked (Some p) None o q w = (w.1, w.0)
+  asks_is_function : (a : Option (Bool × A)) (x : Option A) (o : Outcome (Position × A) E) (q : Option (Bool × A)) → position_asks a x o q → (q ≡ next_held a x) × (o ≡ held_outcome a x)
+  asks_is_function None (Some x) o q w = (w.1, w.0)
+  asks_is_function (Some p) (Some x) o q w = (w.1, w.0)
+  asks_is_function None None o q w = (w.1, w.0)
+  asks_is_function (Some p) None o q w = (w.1, w.0)
 
   acts_by_next : (p a : Option (Bool × A)) (x : Option A) (o : Outcome (Position × A) E) (q : Option (Bool × A)) → p ≡ a → position_asks p x o q → (q ≡ next_held a x) × (o ≡ held_outcome a x)
-  acts_by_next p a x o q at w = acts_on_asked a x o q (subst (λ k. position_asks k x o q) at w)
+  acts_by_next p a x o q at w = asks_is_function a x o q (subst (λ k. position_asks k x o q) at w)
 
-  outcome_never_left_out : (a : Option (Bool × A)) → held_outcome a None ≡ LeftOut → ⊥
-  outcome_never_left_out None is = absurd cc
-  outcome_never_left_out (Some p) is = absurd cc
+  outcome_at_stop_not_left_out : (a : Option (Bool × A)) → held_outcome a None ≡ LeftOut → ⊥
+  outcome_at_stop_not_left_out None is = absurd cc
+  outcome_at_stop_not_left_out (Some p) is = absurd cc
 
   outcome_never_end : (a : Option (Bool × A)) (x : A) → held_outcome a (Some x) ≡ End → ⊥
   outcome_never_end None x is = absurd cc
@@ -64,10 +64,10 @@ module _ {A E : Type 0} where
 
   -- What stands before a failure is positioned by itself, and so is what comes after it.
   pub positioned_in_parts : (a : List (Result A E)) (e : E) (b : List (Result A E)) → positioned (a ++ Err e ∷ b) ≡ positioned a ++ Err e ∷ positioned b
-  positioned_in_parts a e b = listed_parts held_outcome next_held None next_at_stop outcome_never_end positioned held_list_is_positioned a e b
+  positioned_in_parts a e b = listed_parts held_outcome next_held None next_held_at_stop_none outcome_never_end positioned held_list_is_positioned a e b
 
 pub lists_positioned : {S A E : Type 0} (m : Contract S A E) (s : WithPosition S A E) (l : List (Result A E)) → with_position_parts s ≡ (s.it, (None, None)) → Lists m.steps s.it l → Lists (seen_as with_position_parts (with_position_contract m)).steps s (positioned l)
-lists_positioned m s l parts i = lists_seen with_position_parts (with_position_contract m).steps s parts (held_list_is_positioned l) (gives_held_list m.steps position_asks (λ p a. p ≡ a) held_outcome next_held acts_by_next outcome_never_end outcome_never_left_out l s.it None None refl i.runs)
+lists_positioned m s l parts i = lists_seen with_position_parts (with_position_contract m).steps s parts (held_list_is_positioned l) (gives_held_list m.steps position_asks (λ p a. p ≡ a) held_outcome next_held acts_by_next outcome_never_end outcome_at_stop_not_left_out l s.it None None refl i.runs)
 
 -- ---- what the list is
 

@@ -211,7 +211,7 @@ where
     I::Item: Drop,
     I::Error: Drop,
     ensures none_due { (s : WithPosition I I.Item I.Error) → with_position_due s ≡ None
-        → KeepsBrackets ⟦<WithPosition<I> as FallibleIterator>⟧.contract s I.contract
+        → HintsAsSoundAs ⟦<WithPosition<I> as FallibleIterator>⟧.contract s I.contract
         (with_position_source s) }
     ensures due { (s : WithPosition I I.Item I.Error) (stop : Option I.Error)
         → with_position_due s ≡ Some stop

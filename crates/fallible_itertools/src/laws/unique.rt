@@ -3,7 +3,7 @@ ghost use Rattle.std.specs.Prelude.{◌≡◌, List, Result};
 ghost use Rattle.std.specs.List.{IsDistinct, find};
 ghost use Rattle.fallible_iterator.specs.BothEnds.{failures_listed, items_listed};
 ghost use Rattle.fallible_iterator.specs.LawForm.{TracesAre};
-ghost use Rattle.fallible_iterator.specs.SoundHints.{KeepsBrackets};
+ghost use Rattle.fallible_iterator.specs.SoundHints.{HintsAsSoundAs};
 ghost use Rattle.fallible_itertools.specs.Unique.{UniqueTrace, unique_of, unique_parts, unique_source};
 
 use crate::unique::Unique;
@@ -36,6 +36,6 @@ where
     I::Item: Clone + Drop + Eq + Hash,
     I::Error: From<AllocError>,
     ensures { (s : Unique I I.Item I.Error)
-        → KeepsBrackets ⟦<Unique<I> as FallibleIterator>⟧.contract s I.contract
+        → HintsAsSoundAs ⟦<Unique<I> as FallibleIterator>⟧.contract s I.contract
         (unique_source s) }
 {}
