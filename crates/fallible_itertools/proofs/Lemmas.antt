@@ -24,9 +24,6 @@ pub mod HoldingMade
 pub mod HoldingTraces
 pub mod InspectErr
 pub mod Intersperse
-pub mod IntersperseFolds
-pub mod IntersperseHints
-pub mod IntersperseTraces
 pub mod Join
 pub mod Lengths
 pub mod LoopsMade
@@ -36,6 +33,10 @@ pub mod Merged
 pub mod MinMax
 pub mod OrElse
 pub mod PartitionMap
+pub mod Parting
+pub mod PartingFolds
+pub mod PartingHints
+pub mod PartingTraces
 pub mod PeekingTakeWhile
 pub mod Sides
 pub mod Sorted

@@ -12,6 +12,7 @@ pub mod Intersperse
 pub mod Merge
 pub mod MergeBy
 pub mod OrElse
+pub mod Parting
 pub mod PeekingTakeWhile
 pub mod Sides
 pub mod TakeWhileInclusive

@@ -29,6 +29,7 @@ pub mod MergeBy
 pub mod MinMax
 pub mod OrElse
 pub mod PartitionMap
+pub mod Parting
 pub mod PeekingTakeWhile
 pub mod Sides
 pub mod Sorted

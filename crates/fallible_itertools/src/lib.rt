@@ -32,6 +32,7 @@ pub mod merge_by;
 pub mod minmax;
 pub mod or_else;
 pub mod partition_map;
+mod parting;
 pub mod peeking_take_while;
 mod sides;
 mod sorted;

@@ -1356,8 +1356,7 @@ pub trait FallibleItertools: FallibleIterator {
     {
         Intersperse {
             it: self,
-            separator,
-            placing: (false, None),
+            parting: (separator, (false, None)),
         }
     }
 

@@ -1,79 +1,47 @@
 -- What `Intersperse` lists, where a clone of the separator equals it and never fails.
-use Rattle.std.specs.Prelude.{◌≡◌, Bool, true, false, Option, Some, None, Result, Ok, Err, List, [], ◌∷◌}
+use Rattle.std.specs.Prelude.{◌≡◌, ℕ, suc, Bool, true, false, Option, Some, None, Result, Ok, Err, List, [], ◌∷◌, ◌↔◌}
 use Rattle.std.proofs.Common.{refl, sym, ap, subst, ◌∙◌}
-use Rattle.fallible_iterator.specs.Traces.{Answered, item, end}
+use Rattle.fallible_iterator.specs.Traces.{Answered, Run}
 use Rattle.fallible_iterator.specs.Contract.{Contract, seen_as}
-use Rattle.fallible_iterator.specs.Lists.{AlwaysGives, Lists}
+use Rattle.fallible_iterator.specs.Lists.{Lists}
 use Rattle.fallible_iterator.proofs.Lemmas.Lists.Passing.{lists_seen}
-use Rattle.fallible_itertools.specs.Intersperse.{Separates, PlacedAs, intersperse_step, intersperse_contract, intersperse_parts, each_after, interspersed}
+use Rattle.fallible_itertools.specs.Parting.{each_after_made, interspersed_by}
+use Rattle.fallible_itertools.specs.Intersperse.{CloneSeparates, IntersperseTrace, intersperse_step, intersperse_contract, intersperse_parts, each_after, interspersed}
+use Rattle.fallible_itertools.specs.Laws.Intersperse.{separator_stays}
+use Rattle.fallible_itertools.proofs.Lemmas.Parting.{always_gives_first}
+use Rattle.fallible_itertools.proofs.Lemmas.PartingTraces.{parting_law, stays_run}
 use Rattle.std.specs.declared.alloc.AllocError.{AllocError}
 use Rattle.fallible_itertools.specs.declared.intersperse.Intersperse.{Intersperse}
 
-module _ {A E : Type 0} (is_clone : A → A → Type 0) (is_infallible : A → Type 0) (from : AllocError → E → Type 0) (z : A) (equal : (copy : A) → is_clone z copy → copy ≡ z) (infallible : is_infallible z) where
-  separator_answer_is_item : (r : Answered A E) → Separates is_clone is_infallible from z r → r ≡ item z
-  separator_answer_is_item (Ok (Some copy)) w = ap (λ y. item y) (equal copy w)
-  separator_answer_is_item (Ok None) w = absurd w
-  separator_answer_is_item (Err e) w = absurd (w.0 infallible)
+-- where each separator is the same, the list is that of one
+each_after_same : {A E : Type 0} (s : A) (l : List (Result A E)) → each_after_made (λ n. Ok s) l ≡ each_after s l
+unfolding each_after_made each_after
+each_after_same s [] = refl
+each_after_same s (Ok x ∷ l) = ap (λ k. Ok s ∷ Ok x ∷ k) (each_after_same s l)
+each_after_same s (Err e ∷ l) = ap (λ k. Err e ∷ k) (each_after_same s l)
 
-  module _ {S : Type 0} (steps : S → Answered A E → S → Type 0) where
-    abbrev StepOfIntersperse : S × (A × (Bool × Option A)) → Answered A E → S × (A × (Bool × Option A)) → Type 0
-    StepOfIntersperse = intersperse_step is_clone is_infallible from steps
+pub interspersed_by_same : {A E : Type 0} (s : A) (l : List (Result A E)) → interspersed_by (λ n. Ok s) l ≡ interspersed s l
+unfolding interspersed_by interspersed
+interspersed_by_same s [] = refl
+interspersed_by_same s (Ok x ∷ l) = ap (λ k. Ok x ∷ k) (each_after_same s l)
+interspersed_by_same s (Err e ∷ l) = ap (λ k. Err e ∷ k) (interspersed_by_same s l)
 
-    -- a value is its parts
-    state_of_parts : (q : S × (A × (Bool × Option A))) {s : S} {k : Bool × Option A} → q.0 ≡ s → q.1.0 ≡ z → q.1.1 ≡ k → ◌≡◌ {A = S × (A × (Bool × Option A))} q (s, (z, k))
-    state_of_parts (t, (y, k)) e f h = rw (e, f, h) refl
+module _ {A E : Type 0} (is_clone : A → A → Type 0) (is_infallible : A → Type 0) (from : AllocError → E → Type 0) where
+  module _ (z : A) (equal : (copy : A) → is_clone z copy → copy ≡ z) (infallible : is_infallible z) where
+    -- each separator made from z is z
+    abbrev AtSeparator : A → (ℕ → Result A E) → Type 0
+    AtSeparator y h = (y ≡ z) × (h ≡ (λ n. Ok z))
 
-    -- what is left lists so where it has these parts
-    always_gives_left : (q : S × (A × (Bool × Option A))) (k : Bool × Option A) (l : List (Result A E)) → q.1.0 ≡ z → q.1.1 ≡ k → AlwaysGives StepOfIntersperse (q.0, (z, k)) l → AlwaysGives StepOfIntersperse q l
-    always_gives_left q k l f h g = subst (λ (p : S × (A × (Bool × Option A))). AlwaysGives StepOfIntersperse p l) (sym (state_of_parts q refl f h)) g
+    separator_of_clone : (v : Result A E) (y : A) → CloneSeparates is_clone is_infallible from z v y → (v ≡ Ok z) × (y ≡ z)
+    separator_of_clone (Ok copy) y w = (ap (λ a. Ok a) (equal copy w.0), w.1)
+    separator_of_clone (Err e) y w = absurd (w.0.0 infallible)
 
-    -- the held item comes first
-    always_gives_held : (x : A) (l : List (Result A E)) (s : S) → AlwaysGives StepOfIntersperse (s, (z, (true, None))) l → AlwaysGives StepOfIntersperse (s, (z, (true, Some x))) (Ok x ∷ l)
-    always_gives_held x l s g = λ r q w. (w.0, subst (λ (p : S × (A × (Bool × Option A))). AlwaysGives StepOfIntersperse p l) (sym (state_of_parts q w.1 w.2 w.3)) g)
+    separators_of_clones : (x : A) (h : ℕ → Result A E) (v : Result A E) (y : A) → AtSeparator x h → CloneSeparates is_clone is_infallible from x v y → (v ≡ h 0) × AtSeparator y (λ n. h (suc n))
+    separators_of_clones x h v y is w = let d = separator_of_clone v y (subst (λ (a : A). CloneSeparates is_clone is_infallible from a v y) is.0 w) in (d.0 ∙ sym (ap (λ k. k 0) is.1), (d.1, ap (λ k. λ n. k (suc n)) is.1))
 
-    -- where an item came, each further one stands after the separator
-    always_gives_later : (l : List (Result A E)) (s : S) → AlwaysGives steps s l → AlwaysGives StepOfIntersperse (s, (z, (true, None))) (each_after z l)
-    unfolding each_after
-    always_gives_later [] s g = λ r q w. end_after_items (w.1).0 r q (g (w.1).0 q.0 (w.1).1) (w.1).2
-      where
-        end_after_items : (drawn r : Answered A E) (q : S × (A × (Bool × Option A))) → drawn ≡ end → PlacedAs is_clone is_infallible from z true drawn r q.1.1 → r ≡ end
-        end_after_items (Ok None) r q is w = w.0
-        end_after_items (Err e) r q is w = absurd cc
-        end_after_items (Ok (Some x)) r q is w = absurd cc
-    always_gives_later (Ok x ∷ l) s g = λ r q w. let d = g (w.1).0 q.0 (w.1).1 in separator_first (w.1).0 r q w.0 d.0 (w.1).2 (always_gives_later l q.0 d.1)
-      where
-        separator_first : (drawn r : Answered A E) (q : S × (A × (Bool × Option A))) → q.1.0 ≡ z → drawn ≡ item x → PlacedAs is_clone is_infallible from z true drawn r q.1.1 → AlwaysGives StepOfIntersperse (q.0, (z, (true, None))) (each_after z l) → (r ≡ item z) × AlwaysGives StepOfIntersperse q (Ok x ∷ each_after z l)
-        separator_first (Ok None) r q same is w rest = absurd cc
-        separator_first (Err e) r q same is w rest = absurd cc
-        separator_first (Ok (Some y)) r (t, (u, k)) same is w rest = let e : y ≡ x = cc in (separator_answer_is_item r w.0, always_gives_left (t, (u, k)) (true, Some x) (Ok x ∷ each_after z l) same (w.1 ∙ ap (λ a. (true, Some a)) e) (always_gives_held x (each_after z l) t rest))
-    always_gives_later (Err e ∷ l) s g = λ r q w. let d = g (w.1).0 q.0 (w.1).1 in failure_after_items (w.1).0 r q w.0 d.0 (w.1).2 (always_gives_later l q.0 d.1)
-      where
-        failure_after_items : (drawn r : Answered A E) (q : S × (A × (Bool × Option A))) → q.1.0 ≡ z → drawn ≡ Err e → PlacedAs is_clone is_infallible from z true drawn r q.1.1 → AlwaysGives StepOfIntersperse (q.0, (z, (true, None))) (each_after z l) → (r ≡ Err e) × AlwaysGives StepOfIntersperse q (each_after z l)
-        failure_after_items (Ok None) r q same is w rest = absurd cc
-        failure_after_items (Ok (Some y)) r q same is w rest = absurd cc
-        failure_after_items (Err d) r q same is w rest = (w.0 ∙ is, always_gives_left q (true, None) (each_after z l) same w.1 rest)
+  pub lists_interspersed : {S : Type 0} (z : A) → ((copy : A) → is_clone z copy → copy ≡ z) → is_infallible z → (m : Contract S A E) (s : Intersperse S A E) (l : List (Result A E)) → intersperse_parts s ≡ (s.it, (z, (false, None))) → Lists m.steps s.it l → Lists (seen_as intersperse_parts (intersperse_contract is_clone is_infallible from m)).steps s (interspersed z l)
+  lists_interspersed z equal infallible m s l parts i = lists_seen intersperse_parts (intersperse_contract is_clone is_infallible from m).steps s parts (interspersed_by_same z l) (always_gives_first (CloneSeparates is_clone is_infallible from) (AtSeparator z equal infallible) (separators_of_clones z equal infallible) m.steps l s.it z (λ n. Ok z) (refl, refl) i.runs)
 
-    -- while none came, the first one stands by itself
-    always_gives_first : (l : List (Result A E)) (s : S) → AlwaysGives steps s l → AlwaysGives StepOfIntersperse (s, (z, (false, None))) (interspersed z l)
-    unfolding interspersed
-    always_gives_first [] s g = λ r q w. end_at_first (w.1).0 r q (g (w.1).0 q.0 (w.1).1) (w.1).2
-      where
-        end_at_first : (drawn r : Answered A E) (q : S × (A × (Bool × Option A))) → drawn ≡ end → PlacedAs is_clone is_infallible from z false drawn r q.1.1 → r ≡ end
-        end_at_first (Ok None) r q is w = w.0
-        end_at_first (Err e) r q is w = absurd cc
-        end_at_first (Ok (Some x)) r q is w = absurd cc
-    always_gives_first (Ok x ∷ l) s g = λ r q w. let d = g (w.1).0 q.0 (w.1).1 in first_item_first (w.1).0 r q w.0 d.0 (w.1).2 (always_gives_later l q.0 d.1)
-      where
-        first_item_first : (drawn r : Answered A E) (q : S × (A × (Bool × Option A))) → q.1.0 ≡ z → drawn ≡ item x → PlacedAs is_clone is_infallible from z false drawn r q.1.1 → AlwaysGives StepOfIntersperse (q.0, (z, (true, None))) (each_after z l) → (r ≡ item x) × AlwaysGives StepOfIntersperse q (each_after z l)
-        first_item_first (Ok None) r q same is w rest = absurd cc
-        first_item_first (Err e) r q same is w rest = absurd cc
-        first_item_first (Ok (Some y)) r q same is w rest = (w.0 ∙ is, always_gives_left q (true, None) (each_after z l) same w.1 rest)
-    always_gives_first (Err e ∷ l) s g = λ r q w. let d = g (w.1).0 q.0 (w.1).1 in failure_at_first (w.1).0 r q w.0 d.0 (w.1).2 (always_gives_first l q.0 d.1)
-      where
-        failure_at_first : (drawn r : Answered A E) (q : S × (A × (Bool × Option A))) → q.1.0 ≡ z → drawn ≡ Err e → PlacedAs is_clone is_infallible from z false drawn r q.1.1 → AlwaysGives StepOfIntersperse (q.0, (z, (false, None))) (interspersed z l) → (r ≡ Err e) × AlwaysGives StepOfIntersperse q (interspersed z l)
-        failure_at_first (Ok None) r q same is w rest = absurd cc
-        failure_at_first (Ok (Some y)) r q same is w rest = absurd cc
-        failure_at_first (Err d) r q same is w rest = (w.0 ∙ is, always_gives_left q (false, None) (interspersed z l) same w.1 rest)
-
-  pub lists_interspersed : {S : Type 0} (m : Contract S A E) (s : Intersperse S A E) (l : List (Result A E)) → intersperse_parts s ≡ (s.it, (z, (false, None))) → Lists m.steps s.it l → Lists (seen_as intersperse_parts (intersperse_contract is_clone is_infallible from m)).steps s (interspersed z l)
-  lists_interspersed m s l parts i = lists_seen intersperse_parts (intersperse_contract is_clone is_infallible from m).steps s parts refl (always_gives_first m.steps l s.it i.runs)
+  -- a run is a trace, and the separator stays
+  pub intersperse_law : {S : Type 0} (steps : S → Answered A E → S → Type 0) (p : S × (A × (Bool × Option A))) (trace : List (Answered A E)) (q : S × (A × (Bool × Option A))) → Run (intersperse_step is_clone is_infallible from steps) p trace q ↔ IntersperseTrace is_clone is_infallible from steps p trace q
+  intersperse_law steps p trace q = ((λ ran. (stays_run (CloneSeparates is_clone is_infallible from) steps (separator_stays is_clone is_infallible from) trace p q ran, (parting_law (CloneSeparates is_clone is_infallible from) steps p trace q).0 ran)), (λ w. (parting_law (CloneSeparates is_clone is_infallible from) steps p trace q).1 w.1))

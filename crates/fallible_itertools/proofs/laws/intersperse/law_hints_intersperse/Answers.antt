@@ -1,7 +1,9 @@
 -- As many items come as the hint says of as many of the source.
-use Rattle.fallible_itertools.specs.Intersperse.{intersperse_parts}
-use Rattle.fallible_itertools.proofs.Lemmas.IntersperseHints.{keeps_brackets_interspersed}
+use Rattle.std.specs.Prelude.{⊤}
+use Rattle.fallible_iterator.specs.Refusals.{RefusedAs}
+use Rattle.fallible_itertools.specs.Intersperse.{CloneSeparates, intersperse_parts}
+use Rattle.fallible_itertools.proofs.Lemmas.PartingHints.{keeps_brackets_parting}
 use Rattle.fallible_itertools.proofs.laws.intersperse.law_hints_intersperse.Goals as goal
 
 pub returns : goal.returns
-returns g c s = keeps_brackets_interspersed g.I.Item.Clone.is_clone g.I.Item.Clone.is_infallible g.I.Error.From.from_gives intersperse_parts g.I.FallibleIterator.contract s
+returns g c s = keeps_brackets_parting (CloneSeparates g.I.Item.Clone.is_clone g.I.Item.Clone.is_infallible g.I.Error.From.from_gives) intersperse_parts (λ _. ⊤) g.I.Item.Clone.is_clone (RefusedAs g.I.Item.Clone.is_infallible g.I.Error.From.from_gives) g.I.FallibleIterator.contract s

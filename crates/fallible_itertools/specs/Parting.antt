@@ -1,0 +1,145 @@
+-- Adapters that put a separator before each item but the first.
+use Rattle.std.specs.Prelude.{◌≡◌, ℕ, suc, ◌+◌, ◌-◌, ◌*◌, ◌^◌, ◌≤◌, ◌⊎◌, min, cond, ltb, Bool, true, false, Option, Some, None, Result, Ok, Err, List, [], ◌∷◌, ⊤}
+use Rattle.std.specs.Iterator.{count_map}
+use Rattle.fallible_iterator.specs.Traces.{Answered, item, failure, end}
+use Rattle.fallible_iterator.specs.Contract.{Contract}
+use Rattle.fallible_itertools.specs.Holding.{held_one}
+use Rattle.std.specs.declared.ops.ControlFlow.{ControlFlow}
+use Rattle.std.specs.declared.ops.ControlFlow.TheVariants.{Continue, Break}
+use Rattle.fallible_iterator.specs.Beside.{Beside}
+
+-- `separates z v y` says that the separator made from the state z may be v, an item or a failure, and that y is the state then.
+module _ {Z A E : Type 0} (separates : Z → Result A E → Z → Type 0) where
+  -- what is returned before a later item: the separator, or what making it failed with
+  abbrev pub Separated : Z → Answered A E → Z → Type 0
+  Separated z (Ok (Some s)) y = separates z (Ok s) y
+  Separated z (Ok None) y = ⊥
+  Separated z (Err e) y = separates z (Err e) y
+
+  module _ {S : Type 0} (steps : S → Answered A E → S → Type 0) where
+    -- What is returned if nothing is held, by what is drawn: for a failure and an end itself; for the first item itself; for each later item the separator, or what making it failed with, and then the item itself. The last of the draws may have yielded a later item that isn't returned yet: it is held. Beside the source stand the state from which separators are made, whether an item came, and what is held.
+    pub data PartedAnswers : S → Z → Bool → List (Answered A E) → S → Z × (Bool × Option A) → Type 0 where
+      nothing_drawn : {s : S} {z : Z} {started : Bool} → PartedAnswers s z started [] s (z, (started, None))
+      then_end : {s u t : S} {z : Z} {started : Bool} {rest : List (Answered A E)} {k : Z × (Bool × Option A)} → steps s end u → PartedAnswers u z started rest t k → PartedAnswers s z started (end ∷ rest) t k
+      then_failure : {s u t : S} {z : Z} {started : Bool} {rest : List (Answered A E)} {k : Z × (Bool × Option A)} (e : E) → steps s (failure e) u → PartedAnswers u z started rest t k → PartedAnswers s z started (failure e ∷ rest) t k
+      then_first_item : {s u t : S} {z : Z} {rest : List (Answered A E)} {k : Z × (Bool × Option A)} (x : A) → steps s (item x) u → PartedAnswers u z true rest t k → PartedAnswers s z false (item x ∷ rest) t k
+      then_later_item : {s u t : S} {z y : Z} {rest : List (Answered A E)} {k : Z × (Bool × Option A)} (x : A) (r : Answered A E) → steps s (item x) u → Separated z r y → PartedAnswers u y true rest t k → PartedAnswers s z true (r ∷ item x ∷ rest) t k
+      later_item_held : {s t : S} {z y : Z} (x : A) (r : Answered A E) → steps s (item x) t → Separated z r y → PartedAnswers s z true (r ∷ []) t (y, (true, Some x))
+
+    -- the held item first, if one is held; nothing is drawn before it was yielded
+    abbrev pub HeldFirst : S → Z × (Bool × Option A) → List (Answered A E) → S → Z × (Bool × Option A) → Type 0
+    HeldFirst s (z, (started, None)) trace t k = PartedAnswers s z started trace t k
+    HeldFirst s (z, (started, Some x)) trace t k = ((trace ≡ []) × (t ≡ s) × (k ≡ (z, (started, Some x)))) ⊎ ((rest : List (Answered A E)) × (trace ≡ item x ∷ rest) × PartedAnswers s z started rest t k)
+
+    -- The held item, and then the source's trace where a separator stands before each item but the first; failures and ends between two items part nothing.
+    abbrev pub PartingTrace : S × (Z × (Bool × Option A)) → List (Answered A E) → S × (Z × (Bool × Option A)) → Type 0
+    PartingTrace p trace q = HeldFirst p.0 p.1 trace q.0 q.1
+
+  -- what becomes of an answer that was drawn if nothing is held: what is returned, and what stands beside the source then
+  abbrev pub PlacedAs : Z → Bool → Answered A E → Answered A E → Z × (Bool × Option A) → Type 0
+  PlacedAs z started (Ok None) r k = (r ≡ end) × (k ≡ (z, (started, None)))
+  PlacedAs z started (Err e) r k = (r ≡ failure e) × (k ≡ (z, (started, None)))
+  PlacedAs z false (Ok (Some x)) r k = (r ≡ item x) × (k ≡ (z, (true, None)))
+  PlacedAs z true (Ok (Some x)) r k = Separated z r k.0 × (k.1 ≡ (true, Some x))
+
+  -- One answer: the held item without a draw, and otherwise what becomes of one answer of the source.
+  abbrev pub parting_step : {S : Type 0} → (S → Answered A E → S → Type 0) → S × (Z × (Bool × Option A)) → Answered A E → S × (Z × (Bool × Option A)) → Type 0
+  parting_step steps (s, (z, (started, Some x))) r q = (r ≡ item x) × (q.0 ≡ s) × (q.1 ≡ (z, (started, None)))
+  parting_step steps (s, (z, (started, None))) r q = (drawn : Answered A E) × steps s drawn q.0 × PlacedAs z started drawn r q.1
+
+-- ---- its fold
+
+module _ {A C R : Type 0} (turns : C → A → ControlFlow R (Unit {0}) → C → Type 0) where
+  -- the caller's turn on an item, as the source's fold takes it: it goes on, or stops that fold with its answer
+  abbrev pub IsCallersTurn : {E : Type 0} → C → A → ControlFlow (Answered R E) (Unit {0}) → C → Type 0
+  IsCallersTurn c x r d = (turns c x (Continue tt) d × (r ≡ Continue tt)) ⊎ ((stop : R) × turns c x (Break stop) d × (r ≡ Break (Ok (Some stop))))
+
+module _ {Z A C R : Type 0} (turns : C → A → ControlFlow R (Unit {0}) → C → Type 0) where
+  -- the caller's turn on the held item, if one is held
+  abbrev pub IsHeldTurn : {E : Type 0} → C → Z × (Bool × Option A) → ControlFlow (Answered R E) (Unit {0}) → C × (Z × (Bool × Option A)) → Type 0
+  IsHeldTurn c (z, (started, None)) r q = (r ≡ Continue tt) × (q.0 ≡ c) × (q.1 ≡ (z, (started, None)))
+  IsHeldTurn c (z, (started, Some x)) r q = IsCallersTurn turns c x r q.0 × (q.1 ≡ (z, (started, None)))
+
+  -- the caller's turn on what is yielded when an item was drawn, and if it goes on, on the item that is held then
+  abbrev pub IsAnswersTurn : {E : Type 0} → C → Answered A E → Z × (Bool × Option A) → ControlFlow (Answered R E) (Unit {0}) → C × (Z × (Bool × Option A)) → Type 0
+  IsAnswersTurn c (Ok (Some y)) k r q = ((d : C) × turns c y (Continue tt) d × IsHeldTurn d k r q) ⊎ ((stop : R) × turns c y (Break stop) q.0 × (r ≡ Break (Ok (Some stop))) × (q.1 ≡ k))
+  IsAnswersTurn c (Ok None) k r q = ⊥
+  IsAnswersTurn c (Err e) k r q = (r ≡ Break (Err e)) × (q.0 ≡ c) × (q.1 ≡ k)
+
+  -- a turn may be taken on the held item
+  abbrev pub HeldTakes : (C → A → Type 0) → C → Z × (Bool × Option A) → Type 0
+  HeldTakes can c (z, (started, None)) = ⊤
+  HeldTakes can c (z, (started, Some x)) = can c x
+
+module _ {Z A E C R : Type 0} (separates : Z → Result A E → Z → Type 0) (turns : C → A → ControlFlow R (Unit {0}) → C → Type 0) where
+  -- The turn of the source's fold: the item is placed, and the caller's turn is taken on what is yielded, and then on the item if it is held.
+  abbrev pub IsPartingTurn : C × (Z × (Bool × Option A)) → A → ControlFlow (Answered R E) (Unit {0}) → C × (Z × (Bool × Option A)) → Type 0
+  IsPartingTurn p x r q = (a : Answered A E) × (k : Z × (Bool × Option A)) × PlacedAs separates p.1.0 p.1.1.0 (Ok (Some x)) a k × IsAnswersTurn turns p.0 a k r q
+
+  -- The turn may be taken if nothing is held, a separator can be made, and the caller's may be taken on what is yielded, and then on what is held.
+  abbrev pub PartingTakes : (Z → Type 0) → (C → A → Type 0) → C × (Z × (Bool × Option A)) → A → Type 0
+  PartingTakes can_separate can p x = (p.1.1.1 ≡ None) × can_separate p.1.0 × ((y : A) (k : Z × (Bool × Option A)) → PlacedAs separates p.1.0 p.1.1.0 (Ok (Some x)) (Ok (Some y)) k → can p.0 y × ((d : C) → turns p.0 y (Continue tt) d → HeldTakes turns can d k))
+
+-- the caller's state, beside what the adapter's is seen as
+abbrev pub beside_seen : {C P Q : Type 0} → (P → Q) → Beside C P → C × Q
+beside_seen seen b = (b.c.now, seen b.p.now)
+
+-- ---- its hint, and its contract
+
+-- how many items have nothing before them: the first one, while none came
+abbrev pub unparted : Bool → ℕ
+unparted false = 1
+unparted true = 0
+
+-- how many items come of n items of the source: these, a separator before each but the first, and the held one
+abbrev pub interspersed_items : {A : Type 0} → Bool × Option A → ℕ → ℕ
+interspersed_items k n = n + (n - unparted k.0) + held_one k.1
+
+-- a number, where it fits a `usize`
+abbrev pub fitting : ℕ → Option ℕ
+fitting n = cond (ltb n (2 ^ 64)) (Some n) None
+
+-- the upper bound, where it fits a `usize`
+abbrev pub interspersed_high : {A : Type 0} → Bool × Option A → Option ℕ → Option ℕ
+interspersed_high k (Some high) = fitting (interspersed_items k high)
+interspersed_high k None = None
+
+-- How many items come of as many of the source as each bound says. The lower bound is at most `usize::MAX`; there is no upper one where it doesn't fit.
+abbrev pub intersperse_hint : {A : Type 0} → Bool × Option A → ℕ × Option ℕ → ℕ × Option ℕ
+intersperse_hint k h = (min (interspersed_items k h.0) (2 ^ 64 - 1), interspersed_high k h.1)
+
+-- Separators can be made on and on: `can` holds of each state from which they are. `gives` is what may still be made, and `fails` what that may still fail with.
+pub record IsLawfulSeparator {Z A E : Type 0} (separates : Z → Result A E → Z → Type 0) (can : Z → Type 0) (gives : Z → A → Type 0) (fails : Z → E → Type 0) : Type 0 where
+  pub can_stays : (z : Z) (v : Result A E) (y : Z) → can z → separates z v y → can y
+  pub gives_here : (z : Z) (s : A) (y : Z) → separates z (Ok s) y → gives z s
+  pub fails_here : (z : Z) (e : E) (y : Z) → separates z (Err e) y → fails z e
+  pub gives_before : (z : Z) (v : Result A E) (y : Z) → separates z v y → (s : A) → gives y s → gives z s
+  pub fails_before : (z : Z) (v : Result A E) (y : Z) → separates z v y → (e : E) → fails y e → fails z e
+
+-- The contract: an item of the source is two to come, and a held one is one. Separators can be made where `can` holds; `gives` and `fails` are what they may be.
+abbrev pub parting_contract : {S Z A E : Type 0} → (Z → Result A E → Z → Type 0) → (Z → Type 0) → (Z → A → Type 0) → (Z → E → Type 0) → Contract S A E → Contract (S × (Z × (Bool × Option A))) A E
+parting_contract separates can gives fails m = record {
+  can_next = λ p. m.can_next p.0 × can p.1.0;
+  steps = parting_step separates m.steps;
+  bound = λ p n. (k : ℕ) × m.bound p.0 k × (2 * k + held_one p.1.1.1 ≤ n);
+  is_finite = λ p. m.is_finite p.0;
+  remaining = λ p. count_map (λ n. 2 * n + held_one p.1.1.1) (m.remaining p.0);
+  may_give = λ p x. (p.1.1.1 ≡ Some x) ⊎ (m.may_give p.0 x ⊎ gives p.1.0 x);
+  may_fail = λ p e. m.may_fail p.0 e ⊎ fails p.1.0 e;
+  hints = λ p h. (k : ℕ × Option ℕ) × m.hints p.0 k × (h ≡ intersperse_hint p.1.1 k);
+  lenders = λ p. m.lenders p.0;
+}
+
+-- ---- what it lists
+
+-- a list with a separator before each item of it: h 0, h 1 and so on
+unfoldable pub each_after_made : {A E : Type 0} → (ℕ → Result A E) → List (Result A E) → List (Result A E)
+each_after_made h [] = []
+each_after_made h (Ok x ∷ l) = h 0 ∷ Ok x ∷ each_after_made (λ n. h (suc n)) l
+each_after_made h (Err e ∷ l) = Err e ∷ each_after_made h l
+
+-- A list with a separator between each two adjacent items of it: h 0, h 1 and so on, each an item or a failure. A failure of the list stands in its place, and parts nothing.
+unfoldable pub interspersed_by : {A E : Type 0} → (ℕ → Result A E) → List (Result A E) → List (Result A E)
+interspersed_by h [] = []
+interspersed_by h (Ok x ∷ l) = Ok x ∷ each_after_made h l
+interspersed_by h (Err e ∷ l) = Err e ∷ interspersed_by h l
