@@ -24,6 +24,7 @@ pub mod HoldingMade
 pub mod HoldingTraces
 pub mod InspectErr
 pub mod Intersperse
+pub mod IntersperseWith
 pub mod Join
 pub mod Lengths
 pub mod LoopsMade

@@ -9,6 +9,7 @@ pub mod DedupByKey
 pub mod Holding
 pub mod InspectErr
 pub mod Intersperse
+pub mod IntersperseWith
 pub mod Merge
 pub mod MergeBy
 pub mod OrElse

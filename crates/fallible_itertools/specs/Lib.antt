@@ -21,6 +21,7 @@ pub mod GroupMap
 pub mod Holding
 pub mod InspectErr
 pub mod Intersperse
+pub mod IntersperseWith
 pub mod IsSorted
 pub mod Join
 pub mod Laws

@@ -1,5 +1,5 @@
 // The adapter that puts a separator between items.
-ghost use Rattle.std.specs.Prelude.{◌≡◌, Option, Result, ⊤};
+ghost use Rattle.std.specs.Prelude.{Option, Result, ⊤};
 ghost use Rattle.fallible_iterator.specs.Contract.{seen_as};
 ghost use Rattle.fallible_iterator.specs.Laws.Contract.{lawful_seen};
 ghost use Rattle.fallible_itertools.specs.Intersperse.{CloneSeparates, intersperse_contract, intersperse_parts};

@@ -31,7 +31,9 @@ pub use holding::{
     law_hints_dedup_by_key, law_hints_tuple_windows, law_hints_with_position, law_positioned,
     law_tuple_windows, law_with_position,
 };
-pub use intersperse::{law_hints_intersperse, law_intersperse};
+pub use intersperse::{
+    law_hints_intersperse, law_hints_intersperse_with, law_intersperse, law_intersperse_with,
+};
 pub use lengths::{law_interspersed, law_joined, law_windowed, law_zipped_longest};
 pub use merge::{law_hints_merge, law_merge};
 pub use merge_by::{law_hints_merge_by, law_merge_by, law_merged};

@@ -34,6 +34,9 @@ ghost use Rattle.fallible_itertools.specs.GroupMap.{GroupRefuses, IsGroupMapOf};
 ghost use Rattle.fallible_itertools.specs.InspectErr.{inspect_err_contract, inspect_err_parts, seen_call};
 ghost use Rattle.fallible_itertools.specs.OrElse.{or_else_contract, or_else_parts, recovered};
 ghost use Rattle.fallible_itertools.specs.Intersperse.{intersperse_contract, intersperse_parts, interspersed};
+ghost use Rattle.fallible_itertools.specs.IntersperseWith as intersperse_with;
+ghost use Rattle.fallible_itertools.specs.Parting.{interspersed_by};
+ghost use Rattle.fallible_iterator.specs.Sources.FromFn.{call_of_none};
 ghost use Rattle.fallible_itertools.specs.Join.{JoinedAs};
 ghost use Rattle.fallible_itertools.specs.Merge.{merge_contract, merge_left, merge_left_held, merge_parts, merge_right, merge_right_held, merged_in_order};
 ghost use Rattle.fallible_itertools.specs.MergeBy as merge_by;
@@ -71,6 +74,7 @@ use crate::fold_while::{FoldWhile, FoldWhileTurn, while_or_stop};
 use crate::group_map::GroupMap;
 use crate::inspect_err::InspectErr;
 use crate::intersperse::Intersperse;
+use crate::intersperse_with::IntersperseWith;
 use crate::is_sorted::{InOrderTurn, SortedTurn};
 use crate::join::JoinTurn;
 use crate::merge::Merge;
@@ -1357,6 +1361,42 @@ pub trait FallibleItertools: FallibleIterator {
         Intersperse {
             it: self,
             parting: (separator, (false, None)),
+        }
+    }
+
+    /// Yields the items, with what the closure returns between each two adjacent ones.
+    ///
+    /// Creating it draws nothing and calls nothing. If an item is buffered, `next` yields it and draws nothing; otherwise it draws once. An item after the first is buffered, the closure is called once, and what it returns is yielded before the item. It fails as the source does. If the closure fails, that failure is returned in the separator's place. The item is buffered then too, so none is lost. After a failure or an `Ok(None)` the next item still has a separator before it.
+    ///
+    /// Requires that the closure may be called in each state that such calls bring it to. `next` requires that, and that it may be called on the source. If the closure's state shows what its calls return, that is listed between the items.
+    ///
+    /// ```
+    /// convert(readings.into_iter()).intersperse_with(|| Ok(0)).count()
+    /// ```
+    final fn intersperse_with<F>(self, f: F) -> IntersperseWith<Self, F>
+    where
+        Self::Item: Drop,
+        F: FnMut() -> Result<Self::Item, Self::Error>,
+        requires callable { IsCallable (call_of_none F.FnMut) (λ g _. F.pre g) (λ _. ⊤) f }
+        ensures parts { intersperse_with.intersperse_with_parts result
+            ≡ (self, (f, (false, None))) }
+        ensures lists { (separator : Self.Item) → (l : List (Result Self.Item Self.Error))
+            → list.Lists Self.contract.steps self l
+            → list.Acts (call_of_none F.FnMut) f (λ _. Ok separator)
+            → list.Lists (seen_as intersperse_with.intersperse_with_parts
+            (intersperse_with.intersperse_with_contract Self.contract F.FnMut)).steps result
+            (interspersed separator l) }
+        ensures shown { (shows : F → ℕ → Result Self.Item Self.Error)
+            → (l : List (Result Self.Item Self.Error))
+            → list.Lists Self.contract.steps self l
+            → intersperse_with.CallsMakeShown (call_of_none F.FnMut) shows
+            → list.Lists (seen_as intersperse_with.intersperse_with_parts
+            (intersperse_with.intersperse_with_contract Self.contract F.FnMut)).steps result
+            (interspersed_by (shows f) l) }
+    {
+        IntersperseWith {
+            it: self,
+            parting: (f, (false, None)),
         }
     }
 

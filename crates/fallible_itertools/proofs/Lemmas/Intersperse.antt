@@ -1,5 +1,5 @@
 -- What `Intersperse` lists, where a clone of the separator equals it and never fails.
-use Rattle.std.specs.Prelude.{◌≡◌, ℕ, suc, Bool, true, false, Option, Some, None, Result, Ok, Err, List, [], ◌∷◌, ◌↔◌}
+use Rattle.std.specs.Prelude.{◌≡◌, ℕ, suc, Bool, false, Option, None, Result, Ok, Err, List, [], ◌∷◌, ◌↔◌}
 use Rattle.std.proofs.Common.{refl, sym, ap, subst, ◌∙◌}
 use Rattle.fallible_iterator.specs.Traces.{Answered, Run}
 use Rattle.fallible_iterator.specs.Contract.{Contract, seen_as}

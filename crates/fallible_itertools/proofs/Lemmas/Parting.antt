@@ -1,6 +1,6 @@
 -- What an adapter lists that puts separators between items, where these are known one after another.
 use Rattle.std.specs.Prelude.{◌≡◌, ℕ, suc, Bool, true, false, Option, Some, None, Result, Ok, Err, List, [], ◌∷◌}
-use Rattle.std.proofs.Common.{refl, sym, ap, subst, ◌∙◌}
+use Rattle.std.proofs.Common.{sym, ap, subst, ◌∙◌}
 use Rattle.fallible_iterator.specs.Traces.{Answered, item, end}
 use Rattle.fallible_iterator.specs.Lists.{AlwaysGives, result_answer}
 use Rattle.fallible_itertools.specs.Parting.{Separated, PlacedAs, parting_step, each_after_made, interspersed_by}

@@ -1,10 +1,12 @@
-// The laws of `Intersperse`.
+// The laws of `Intersperse` and `IntersperseWith`.
 ghost use Rattle.std.specs.Prelude.{Option, Result};
 ghost use Rattle.fallible_iterator.specs.LawForm.{TracesAre};
 ghost use Rattle.fallible_iterator.specs.SoundHints.{HintsAsSoundAs};
 ghost use Rattle.fallible_itertools.specs.Intersperse.{IntersperseTrace, intersperse_parts, intersperse_source};
+ghost use Rattle.fallible_itertools.specs.IntersperseWith.{IntersperseWithTrace, intersperse_with_parts, intersperse_with_source};
 
 use crate::intersperse::Intersperse;
+use crate::intersperse_with::IntersperseWith;
 use fallible_iterator::FallibleIterator;
 use std::alloc::AllocError;
 
@@ -27,4 +29,22 @@ where
     ensures { (s : Intersperse I I.Item I.Error)
         → HintsAsSoundAs ⟦<Intersperse<I> as FallibleIterator>⟧.contract s I.contract
         (intersperse_source s) }
+{}
+
+/// The answers of `IntersperseWith` are the source's with what the closure returns before each item but the first.
+pub fn law_intersperse_with<I: FallibleIterator, F: FnMut() -> Result<I::Item, I::Error>>()
+where
+    I::Item: Drop,
+    ensures { TracesAre intersperse_with_parts
+        ⟦<IntersperseWith<I, F> as FallibleIterator>⟧.contract.steps
+        (IntersperseWithTrace F.FnMut I.contract.steps) }
+{}
+
+/// Each hint of `IntersperseWith` is as sound as the hint of its source that it is made of.
+pub fn law_hints_intersperse_with<I: FallibleIterator, F: FnMut() -> Result<I::Item, I::Error>>()
+where
+    I::Item: Drop,
+    ensures { (s : IntersperseWith I F I.Item I.Error)
+        → KeepsBrackets ⟦<IntersperseWith<I, F> as FallibleIterator>⟧.contract s I.contract
+        (intersperse_with_source s) }
 {}
