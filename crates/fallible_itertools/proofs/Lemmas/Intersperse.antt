@@ -32,12 +32,12 @@ module _ {A E : Type 0} (is_clone : A → A → Type 0) (is_infallible : A → T
     abbrev AtSeparator : A → (ℕ → Result A E) → Type 0
     AtSeparator y h = (y ≡ z) × (h ≡ (λ n. Ok z))
 
-    separator_of_clone : (v : Result A E) (y : A) → CloneSeparates is_clone is_infallible from z v y → (v ≡ Ok z) × (y ≡ z)
-    separator_of_clone (Ok copy) y w = (ap (λ a. Ok a) (equal copy w.0), w.1)
-    separator_of_clone (Err e) y w = absurd (w.0.0 infallible)
+    separator_answer_is_item : (v : Result A E) (y : A) → CloneSeparates is_clone is_infallible from z v y → (v ≡ Ok z) × (y ≡ z)
+    separator_answer_is_item (Ok copy) y w = (ap (λ a. Ok a) (equal copy w.0), w.1)
+    separator_answer_is_item (Err e) y w = absurd (w.0.0 infallible)
 
     separators_of_clones : (x : A) (h : ℕ → Result A E) (v : Result A E) (y : A) → AtSeparator x h → CloneSeparates is_clone is_infallible from x v y → (v ≡ h 0) × AtSeparator y (λ n. h (suc n))
-    separators_of_clones x h v y is w = let d = separator_of_clone v y (subst (λ (a : A). CloneSeparates is_clone is_infallible from a v y) is.0 w) in (d.0 ∙ sym (ap (λ k. k 0) is.1), (d.1, ap (λ k. λ n. k (suc n)) is.1))
+    separators_of_clones x h v y is w = let d = separator_answer_is_item v y (subst (λ (a : A). CloneSeparates is_clone is_infallible from a v y) is.0 w) in (d.0 ∙ sym (ap (λ k. k 0) is.1), (d.1, ap (λ k. λ n. k (suc n)) is.1))
 
   pub lists_interspersed : {S : Type 0} (z : A) → ((copy : A) → is_clone z copy → copy ≡ z) → is_infallible z → (m : Contract S A E) (s : Intersperse S A E) (l : List (Result A E)) → intersperse_parts s ≡ (s.it, (z, (false, None))) → Lists m.steps s.it l → Lists (seen_as intersperse_parts (intersperse_contract is_clone is_infallible from m)).steps s (interspersed z l)
   lists_interspersed z equal infallible m s l parts i = lists_seen intersperse_parts (intersperse_contract is_clone is_infallible from m).steps s parts (interspersed_by_same z l) (always_gives_first (CloneSeparates is_clone is_infallible from) (AtSeparator z equal infallible) (separators_of_clones z equal infallible) m.steps l s.it z (λ n. Ok z) (refl, refl) i.runs)

@@ -57,15 +57,15 @@ module _ {S Z A E : Type 0} (separates : Z → Result A E → Z → Type 0) (ste
   run_whole s t z _ _ k (then_later_item {u = u} {y = y} {rest = rest} x r step made w) = ((u, (y, (true, Some x))), (item x, step, (made, refl)), ((u, (y, (true, None))), (refl, refl, refl), run_whole u t y true rest k w))
   run_whole s t z _ _ _ (later_item_held {y = y} x r step made) = ((t, (y, (true, Some x))), (item x, step, (made, refl)), refl)
 
-  run_from_trace : (p q : StateOfPartingTraces) (trace : List (Answered A E)) → TraceOfPartingTraces p trace q → Run StepOfPartingTraces p trace q
-  run_from_trace (s, (z, (started, None))) (t, k) trace w = run_whole s t z started trace k w
-  run_from_trace (s, (z, (started, Some x))) (t, k) trace w = elim w [
+  run_of_parting_trace : (p q : StateOfPartingTraces) (trace : List (Answered A E)) → TraceOfPartingTraces p trace q → Run StepOfPartingTraces p trace q
+  run_of_parting_trace (s, (z, (started, None))) (t, k) trace w = run_whole s t z started trace k w
+  run_of_parting_trace (s, (z, (started, Some x))) (t, k) trace w = elim w [
     | inl h ↦ rw (h.0, h.1, h.2) refl
     | inr h ↦ rw h.1 ((s, (z, (started, None))), (refl, refl, refl), run_whole s t z started h.0 k h.2)
   ]
 
   pub parting_law : (p : StateOfPartingTraces) (trace : List (Answered A E)) (q : StateOfPartingTraces) → Run StepOfPartingTraces p trace q ↔ TraceOfPartingTraces p trace q
-  parting_law p trace q = (trace_of_parting_traces trace p q, run_from_trace p q trace)
+  parting_law p trace q = (trace_of_parting_traces trace p q, run_of_parting_trace p q trace)
 
   -- ---- what separators are made from, where that stays the same
 

@@ -45,6 +45,6 @@ pub fn law_hints_intersperse_with<I: FallibleIterator, F: FnMut() -> Result<I::I
 where
     I::Item: Drop,
     ensures { (s : IntersperseWith I F I.Item I.Error)
-        → KeepsBrackets ⟦<IntersperseWith<I, F> as FallibleIterator>⟧.contract s I.contract
+        → HintsAsSoundAs ⟦<IntersperseWith<I, F> as FallibleIterator>⟧.contract s I.contract
         (intersperse_with_source s) }
 {}
