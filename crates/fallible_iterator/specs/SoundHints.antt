@@ -44,8 +44,8 @@ module _ {S A E : Type 0} (m : Contract S A E) (s : S) where
   HintsAsSoundAs source it = (h : ℕ × Option ℕ) → m.hints s h → (k : ℕ × Option ℕ) × source.hints it k × AsSound m.steps s h source.steps it k
 
   -- Each hint that s may return is made of one of each of two sources, and is as sound as these both.
-  abbrev pub KeepsBracketsOfBoth : {T U B C D F : Type 0} → Contract T B D → T → Contract U C F → U → Type 0
-  KeepsBracketsOfBoth left it right other = (h : ℕ × Option ℕ) → m.hints s h → (j : ℕ × Option ℕ) × (k : ℕ × Option ℕ) × left.hints it j × right.hints other k × AsSoundAsBoth m.steps s h left.steps it j right.steps other k
+  abbrev pub HintsAsSoundAsBoth : {T U B C D F : Type 0} → Contract T B D → T → Contract U C F → U → Type 0
+  HintsAsSoundAsBoth left it right other = (h : ℕ × Option ℕ) → m.hints s h → (j : ℕ × Option ℕ) × (k : ℕ × Option ℕ) × left.hints it j × right.hints other k × AsSoundAsBoth m.steps s h left.steps it j right.steps other k
 
 -- The hint brackets what calls of a std iterator's `next` return, counting runs of elements that `of_item` makes of items: each run of such elements alone has at most its upper bound of them, and each such run and then `None` has at least its lower bound.
 pub record BracketsCalls {S A Z : Type 0} (gives : S → Option Z → S → Type 0) (of_item : A → Z) (s : S) (hint : ℕ × Option ℕ) : Type 0 where

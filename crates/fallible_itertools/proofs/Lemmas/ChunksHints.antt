@@ -166,8 +166,8 @@ module _ {S A E : Type 0} (m : Contract S A E) (from : AllocError → E → Type
   GivenOfChunksHints = S × ((ℕ × Option (Vec A Global)) × Option (Option E))
 
   -- Each hint of `Chunks` is as sound as that of its source.
-  pub keeps_brackets_chunks : chunks_due s ≡ None → HintsAsSoundAs (seen_as chunks_parts (chunks_contract from m)) s m s.it
-  keeps_brackets_chunks undue h is = let at : chunks_parts s ≡ (s.it, (s.batch, None)) = ap (λ (d : Option (Option E)). (s.it, (s.batch, d))) undue in
+  pub hints_as_sound_chunks : chunks_due s ≡ None → HintsAsSoundAs (seen_as chunks_parts (chunks_contract from m)) s m s.it
+  hints_as_sound_chunks undue h is = let at : chunks_parts s ≡ (s.it, (s.batch, None)) = ap (λ (d : Option (Option E)). (s.it, (s.batch, d))) undue in
       let k : chunks_hints m (s.it, (s.batch, None)) h = subst (λ (p : GivenOfChunksHints). chunks_hints m p h) at is in
       (k.0, k.1, as_sound_seen chunks_parts _ s h (subst (λ (p : GivenOfChunksHints). AsSound (holding_step (chunks_asks from) m.steps) p h m.steps s.it k.0) (sym at) (as_sound_chunks from m.steps s.it s.batch h k.0 (k.2, k.3))))
 

@@ -138,8 +138,8 @@ module _ {V S P X B E : Type 0} (view : V → S × (P × Option (Option E))) (m 
   SeenOfHoldingHints = seen_as view (holding_contract m asks pre held (one_at_least m held))
 
   -- Each hint of such an adapter is as sound as that of its source.
-  pub keeps_brackets_held : (s : V) (it : S) (f : P) → view s ≡ (it, (f, None)) → HintsAsSoundAs SeenOfHoldingHints s m it
-  keeps_brackets_held s it f at h is = let k : one_at_least m held (it, (f, None)) h = subst (λ (p : S × (P × Option (Option E))). one_at_least m held p h) at is in
+  pub hints_as_sound_held : (s : V) (it : S) (f : P) → view s ≡ (it, (f, None)) → HintsAsSoundAs SeenOfHoldingHints s m it
+  hints_as_sound_held s it f at h is = let k : one_at_least m held (it, (f, None)) h = subst (λ (p : S × (P × Option (Option E))). one_at_least m held p h) at is in
       (k.0, k.1, as_sound_seen view _ s h (subst (λ (p : S × (P × Option (Option E))). AsSound (holding_step asks m.steps) p h m.steps it k.0) (sym at) (as_sound_held m.steps asks held holds gives it f k.0 h k.2)))
 
   -- Where a stop is due, nothing comes before it.

@@ -1,6 +1,6 @@
 // The laws of `Merge`.
 ghost use Rattle.fallible_iterator.specs.LawForm.{TracesAre};
-ghost use Rattle.fallible_iterator.specs.SoundHints.{KeepsBracketsOfBoth};
+ghost use Rattle.fallible_iterator.specs.SoundHints.{HintsAsSoundAsBoth};
 ghost use Rattle.fallible_itertools.specs.Merge.{MergeTrace, merge_left, merge_parts, merge_right};
 
 use crate::merge::Merge;
@@ -19,6 +19,6 @@ pub fn law_hints_merge<T: FallibleIterator, U: FallibleIterator<Item = T::Item, 
 where
     T::Item: PartialOrd + Drop,
     ensures { (s : Merge T U T.Item T.Error)
-        → KeepsBracketsOfBoth ⟦<Merge<T, U> as FallibleIterator>⟧.contract s T.contract
+        → HintsAsSoundAsBoth ⟦<Merge<T, U> as FallibleIterator>⟧.contract s T.contract
         (merge_left s) U.contract (merge_right s) }
 {}

@@ -2,7 +2,7 @@
 ghost use Rattle.std.specs.Prelude.{◌≡◌, ◌++◌, Bool, false, List, Ok, Result, IsPermutation, IsSortedBy};
 ghost use Rattle.fallible_iterator.specs.BothEnds.{items_listed};
 ghost use Rattle.fallible_iterator.specs.LawForm.{TracesAre};
-ghost use Rattle.fallible_iterator.specs.SoundHints.{KeepsBracketsOfBoth};
+ghost use Rattle.fallible_iterator.specs.SoundHints.{HintsAsSoundAsBoth};
 ghost use Rattle.fallible_iterator.specs.Lists.{items};
 ghost use Rattle.fallible_itertools.specs.Adjacent.{AdjacentItems, Interleaved, LetsLessFirst};
 ghost use Rattle.fallible_itertools.specs.MergeBy.{MergeByTrace, merged, merge_by_left, merge_by_parts, merge_by_right};
@@ -49,6 +49,6 @@ pub fn law_hints_merge_by<
 where
     T::Item: Drop,
     ensures { (s : MergeBy T U F T.Item T.Error)
-        → KeepsBracketsOfBoth ⟦<MergeBy<T, U, F> as FallibleIterator>⟧.contract s T.contract
+        → HintsAsSoundAsBoth ⟦<MergeBy<T, U, F> as FallibleIterator>⟧.contract s T.contract
         (merge_by_left s) U.contract (merge_by_right s) }
 {}

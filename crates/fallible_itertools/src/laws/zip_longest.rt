@@ -1,6 +1,6 @@
 // The laws of `ZipLongest`.
 ghost use Rattle.fallible_iterator.specs.LawForm.{TracesAre};
-ghost use Rattle.fallible_iterator.specs.SoundHints.{KeepsBracketsOfBoth};
+ghost use Rattle.fallible_iterator.specs.SoundHints.{HintsAsSoundAsBoth};
 ghost use Rattle.fallible_itertools.specs.ZipLongest.{ZipLongestTrace, zip_longest_left, zip_longest_parts, zip_longest_right};
 
 use crate::zip_longest::ZipLongest;
@@ -21,6 +21,6 @@ where
     T::Item: Drop,
     U::Item: Drop,
     ensures { (s : ZipLongest T U T.Item T.Error)
-        → KeepsBracketsOfBoth ⟦<ZipLongest<T, U> as FallibleIterator>⟧.contract s T.contract
+        → HintsAsSoundAsBoth ⟦<ZipLongest<T, U> as FallibleIterator>⟧.contract s T.contract
         (zip_longest_left s) U.contract (zip_longest_right s) }
 {}

@@ -10,7 +10,7 @@ ghost use Rattle.fallible_core.specs.Filtering.Filter.{filter_source};
 ghost use Rattle.fallible_core.specs.Filtering.FilterMap.{filter_map_source};
 ghost use Rattle.fallible_core.specs.Joining.Chain.{chain_first, chain_second, chain_still_drawn};
 ghost use Rattle.fallible_core.specs.Ends.Rev.{rev_parts};
-ghost use Rattle.fallible_iterator.specs.SoundHints.{HintsAsSoundAs, KeepsBracketsOfBoth};
+ghost use Rattle.fallible_iterator.specs.SoundHints.{HintsAsSoundAs, HintsAsSoundAsBoth};
 ghost use Rattle.std.specs.declared.boxed.Box.{Box};
 ghost use Rattle.std.specs.declared.alloc.Global.{Global};
 ghost use Rattle.fallible_core.specs.declared.joining.chain.StillDrawn.TheVariants.{Both, FirstAlone, SecondAlone};
@@ -127,7 +127,7 @@ pub fn law_hints_back_chain<
     U: DoubleEndedFallibleIterator<Item = T::Item, Error = T::Error>,
 >()
     ensures both { (s : Chain T U) → chain_still_drawn s ≡ Both
-        → KeepsBracketsOfBoth (from_back ⟦<Chain<T, U> as FallibleIterator>⟧.contract
+        → HintsAsSoundAsBoth (from_back ⟦<Chain<T, U> as FallibleIterator>⟧.contract
         ⟦<Chain<T, U> as DoubleEndedFallibleIterator>⟧.ends) s
         (from_back T.contract T.ends) (chain_first s) (from_back U.contract U.ends)
         (chain_second s) }

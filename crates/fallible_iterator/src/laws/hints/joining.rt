@@ -3,7 +3,7 @@ ghost use Rattle.std.specs.Prelude.{◌≡◌, ℕ, Option, Result};
 ghost use Rattle.fallible_core.specs.Joining.Chain.{chain_first, chain_second, chain_still_drawn};
 ghost use Rattle.fallible_core.specs.Joining.Cycle.{cycle_kept};
 ghost use Rattle.fallible_core.specs.Joining.Zip.{zip_left, zip_right};
-ghost use Rattle.fallible_iterator.specs.SoundHints.{BoundsBelow, Brackets, HintsAsSoundAs, KeepsBracketsOfBoth, SoundHints};
+ghost use Rattle.fallible_iterator.specs.SoundHints.{BoundsBelow, Brackets, HintsAsSoundAs, HintsAsSoundAsBoth, SoundHints};
 ghost use Rattle.fallible_core.specs.declared.joining.chain.StillDrawn.TheVariants.{Both, FirstAlone, SecondAlone};
 
 use fallible_core::joining::{Chain, Cycle, FlatMap, Flatten, Zip};
@@ -14,7 +14,7 @@ use std::alloc::AllocError;
 /// Each hint of `Chain` is as sound as the hints of the sides that are still drawn.
 pub fn law_hints_chain<T: FallibleIterator, U: FallibleIterator<Item = T::Item, Error = T::Error>>()
     ensures both { (s : Chain T U) → chain_still_drawn s ≡ Both
-        → KeepsBracketsOfBoth ⟦<Chain<T, U> as FallibleIterator>⟧.contract s T.contract
+        → HintsAsSoundAsBoth ⟦<Chain<T, U> as FallibleIterator>⟧.contract s T.contract
         (chain_first s) U.contract (chain_second s) }
     ensures first_alone { (s : Chain T U) → chain_still_drawn s ≡ FirstAlone
         → HintsAsSoundAs ⟦<Chain<T, U> as FallibleIterator>⟧.contract s T.contract
@@ -30,7 +30,7 @@ where
     T::Item: Drop,
     U::Item: Drop,
     ensures { (s : Zip T U)
-        → KeepsBracketsOfBoth ⟦<Zip<T, U> as FallibleIterator>⟧.contract s T.contract
+        → HintsAsSoundAsBoth ⟦<Zip<T, U> as FallibleIterator>⟧.contract s T.contract
         (zip_left s) U.contract (zip_right s) }
 {}
 

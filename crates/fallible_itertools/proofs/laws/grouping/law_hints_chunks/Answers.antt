@@ -1,9 +1,9 @@
 -- The items of the source up to its first end fill the batches up to the first end.
-use Rattle.fallible_itertools.proofs.Lemmas.ChunksHints.{keeps_brackets_chunks, sound_hints_chunks}
+use Rattle.fallible_itertools.proofs.Lemmas.ChunksHints.{hints_as_sound_chunks, sound_hints_chunks}
 use Rattle.fallible_itertools.proofs.laws.grouping.law_hints_chunks.Goals as goal
 
 pub returns-clause-none_due : goal.returns-clause-none_due
-returns-clause-none_due g c s is = keeps_brackets_chunks g.I.FallibleIterator.contract g.I.Error.From.from_gives s is
+returns-clause-none_due g c s is = hints_as_sound_chunks g.I.FallibleIterator.contract g.I.Error.From.from_gives s is
 
 pub returns-clause-due : goal.returns-clause-due
 returns-clause-due g c s stop is = sound_hints_chunks g.I.FallibleIterator.contract g.I.Error.From.from_gives s stop is

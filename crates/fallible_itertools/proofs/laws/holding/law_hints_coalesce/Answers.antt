@@ -5,11 +5,11 @@ use Rattle.fallible_itertools.specs.Coalesce.{coalesce_parts, coalesce_asks, coa
 use Rattle.fallible_itertools.specs.Holding.{held_beside}
 use Rattle.fallible_itertools.specs.Laws.Coalesce.{holds_coalesce}
 use Rattle.fallible_itertools.proofs.Lemmas.Coalesce.{gives_held}
-use Rattle.fallible_itertools.proofs.Lemmas.HoldingHints.{keeps_brackets_held, sound_hints_due}
+use Rattle.fallible_itertools.proofs.Lemmas.HoldingHints.{hints_as_sound_held, sound_hints_due}
 use Rattle.fallible_itertools.proofs.laws.holding.law_hints_coalesce.Goals as goal
 
 pub returns-clause-none_due : goal.returns-clause-none_due
-returns-clause-none_due g c s is = keeps_brackets_held coalesce_parts g.I.FallibleIterator.contract (coalesce_asks (call_with g.F.FnMut)) (coalesce_takes (takes_with g.F.FnMut)) held_beside (holds_coalesce (call_with g.F.FnMut)) (gives_held (call_with g.F.FnMut)) s s.it s.coalescing (ap (λ d. (s.it, (s.coalescing, d))) is)
+returns-clause-none_due g c s is = hints_as_sound_held coalesce_parts g.I.FallibleIterator.contract (coalesce_asks (call_with g.F.FnMut)) (coalesce_takes (takes_with g.F.FnMut)) held_beside (holds_coalesce (call_with g.F.FnMut)) (gives_held (call_with g.F.FnMut)) s s.it s.coalescing (ap (λ d. (s.it, (s.coalescing, d))) is)
 
 pub returns-clause-due : goal.returns-clause-due
 returns-clause-due g c s stop is = sound_hints_due coalesce_parts g.I.FallibleIterator.contract (coalesce_asks (call_with g.F.FnMut)) (coalesce_takes (takes_with g.F.FnMut)) held_beside (holds_coalesce (call_with g.F.FnMut)) (gives_held (call_with g.F.FnMut)) s s.it s.coalescing stop (ap (λ d. (s.it, (s.coalescing, d))) is)

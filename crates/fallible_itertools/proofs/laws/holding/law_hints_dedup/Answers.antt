@@ -5,11 +5,11 @@ use Rattle.fallible_itertools.specs.Dedup.{dedup_parts, dedup_asks}
 use Rattle.fallible_itertools.specs.Holding.{held_one}
 use Rattle.fallible_itertools.specs.Laws.Dedup.{holds_dedup}
 use Rattle.fallible_itertools.proofs.Lemmas.Dedup.{gives_held}
-use Rattle.fallible_itertools.proofs.Lemmas.HoldingHints.{keeps_brackets_held, sound_hints_due}
+use Rattle.fallible_itertools.proofs.Lemmas.HoldingHints.{hints_as_sound_held, sound_hints_due}
 use Rattle.fallible_itertools.proofs.laws.holding.law_hints_dedup.Goals as goal
 
 pub returns-clause-none_due : goal.returns-clause-none_due
-returns-clause-none_due g c s is = keeps_brackets_held dedup_parts g.I.FallibleIterator.contract (dedup_asks g.I.Item.PartialEq.eq) (λ p x. ⊤) held_one (holds_dedup g.I.Item.PartialEq.eq) (gives_held _ g.I.Item.PartialEq.eq) s s.it s.held (ap (λ d. (s.it, (s.held, d))) is)
+returns-clause-none_due g c s is = hints_as_sound_held dedup_parts g.I.FallibleIterator.contract (dedup_asks g.I.Item.PartialEq.eq) (λ p x. ⊤) held_one (holds_dedup g.I.Item.PartialEq.eq) (gives_held _ g.I.Item.PartialEq.eq) s s.it s.held (ap (λ d. (s.it, (s.held, d))) is)
 
 pub returns-clause-due : goal.returns-clause-due
 returns-clause-due g c s stop is = sound_hints_due dedup_parts g.I.FallibleIterator.contract (dedup_asks g.I.Item.PartialEq.eq) (λ p x. ⊤) held_one (holds_dedup g.I.Item.PartialEq.eq) (gives_held _ g.I.Item.PartialEq.eq) s s.it s.held stop (ap (λ d. (s.it, (s.held, d))) is)

@@ -5,11 +5,11 @@ use Rattle.fallible_itertools.specs.DedupBy.{dedup_by_parts, dedup_by_asks, dedu
 use Rattle.fallible_itertools.specs.Holding.{held_beside}
 use Rattle.fallible_itertools.specs.Laws.DedupBy.{holds_dedup_by}
 use Rattle.fallible_itertools.proofs.Lemmas.DedupBy.{gives_held}
-use Rattle.fallible_itertools.proofs.Lemmas.HoldingHints.{keeps_brackets_held, sound_hints_due}
+use Rattle.fallible_itertools.proofs.Lemmas.HoldingHints.{hints_as_sound_held, sound_hints_due}
 use Rattle.fallible_itertools.proofs.laws.holding.law_hints_dedup_by.Goals as goal
 
 pub returns-clause-none_due : goal.returns-clause-none_due
-returns-clause-none_due g c s is = keeps_brackets_held dedup_by_parts g.I.FallibleIterator.contract (dedup_by_asks (call_at_two g.F.FnMut)) (dedup_by_takes (takes_at_two g.F.FnMut)) held_beside (holds_dedup_by (call_at_two g.F.FnMut)) (gives_held (call_at_two g.F.FnMut)) s s.it s.comparing (ap (λ d. (s.it, (s.comparing, d))) is)
+returns-clause-none_due g c s is = hints_as_sound_held dedup_by_parts g.I.FallibleIterator.contract (dedup_by_asks (call_at_two g.F.FnMut)) (dedup_by_takes (takes_at_two g.F.FnMut)) held_beside (holds_dedup_by (call_at_two g.F.FnMut)) (gives_held (call_at_two g.F.FnMut)) s s.it s.comparing (ap (λ d. (s.it, (s.comparing, d))) is)
 
 pub returns-clause-due : goal.returns-clause-due
 returns-clause-due g c s stop is = sound_hints_due dedup_by_parts g.I.FallibleIterator.contract (dedup_by_asks (call_at_two g.F.FnMut)) (dedup_by_takes (takes_at_two g.F.FnMut)) held_beside (holds_dedup_by (call_at_two g.F.FnMut)) (gives_held (call_at_two g.F.FnMut)) s s.it s.comparing stop (ap (λ d. (s.it, (s.comparing, d))) is)
