@@ -14,7 +14,7 @@ REASONS = [
     (r"fallible_core/joining/flat_map\.rs", r"\w+ for FlatMap\.(clone|fmt)", "new",
      "what `derive_where` writes"),
     (r"fallible_core/joining/cycle\.rs|fallible_core/one_to_one/cloned\.rs|sources/repeat\w*\.rs"
-     r"|intersperse\.rs|tuple_windows\.rs", r".*\.(next|pass)|placed|pair", "changed",
+     r"|intersperse\.rs|tuple_windows\.rs", r".*\.(next|pass|separate)|pair", "changed",
      "a clone is never refused: `clone` is `try_clone`, and the refusal's arm has no value"),
     (r"sources/std_fold\.rs", r"drive_std|drive_back_std", "changed",
      "by the std iterator's own fold, whose closure borrows the state; the proved body's is by `next`, and carries it"),
@@ -40,13 +40,14 @@ REASONS = [
     (r"group_map\.rs", r"Collect for GroupMap\.empty", "left out", "`into_group_map` makes the empty map"),
     (r"group_map\.rs", r"Collect for GroupMap\.push_one", "changed", "no allocator is passed, and `insert` is never refused"),
     (r"partition_map\.rs", r".*\.empty", "left out", "`partition_map` fills whatever extends"),
+    (r"unique\.rs", r"kept", "changed", "`clone` is `try_clone`, and `insert` is never refused"),
     (r"join\.rs", r"append", "changed", "`push_str` is never refused; a failing `Display` panics, as in `to_string`"),
     (r"traits\.rs", r"FallibleItertools\.counts", "changed", "the fold of the proved `collect`, into an empty map"),
     (r"traits\.rs", r"FallibleItertools\.into_group_map", "changed", "the fold of the proved `collect`, into an empty map"),
     (r"traits\.rs", r"FallibleItertools\.partition_map", "changed",
      "the fold of the proved `collect`, into any `Default + Extend`"),
     (r"sorted\.rs", r"sorted_items(_by_key)?", "changed", "std's sort is never refused"),
-    (r"traits\.rs", r"FallibleItertools\.(join|chunks|chunk_by|sorted|sorted_by_key)", "changed",
+    (r"traits\.rs", r"FallibleItertools\.(join|chunks|chunk_by|sorted|sorted_by_key|unique)", "changed",
      "no allocator is passed, and the refusal's arm has no value"),
 ]
 

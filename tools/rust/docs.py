@@ -52,6 +52,7 @@ SAYS = [
     # Memory.
     (r" ?If (?:a|the)(?: later)? clone(?: for the first run)? can't be allocated,[^.]*\."
      r"(?: The item is buffered then too[^.]*\.)?", ""),
+    (r" If the clone or the room for it can't be allocated,[^.]*\.(?: Then the item is lost[^.]*\.)?", ""),
     (r" The run goes on after either\.", ""),
     (r" If (?:the|an) allocation(?: for an item)? fails,[^.]*\.(?: Then that item[^.]*\.)?", ""),
     (r", and so is (?:the failure converted from `AllocError` if an allocation fails|a failed allocation)", ""),
@@ -74,7 +75,8 @@ NO_TEST = {"number": "only proofs read it"}
 PROOFS = re.compile(r"\bRequires (?:that|what|nothing)\b|\brequires (?:that|what|no)\b|\bclauses?\b|\bproofs?\b|"
                     r"search finds|`Fault|\bAllocError\b|allocation fail|failed allocation|can't be allocated")
 # Calls whose signature is another in Rust.
-OTHER = {"collect", "partition", "unzip", "cycle", "chain", "counts", "into_group_map", "partition_map", "join", "sorted", "sorted_by_key"}
+OTHER = {"collect", "partition", "unzip", "cycle", "chain", "counts", "into_group_map", "partition_map", "join", "sorted", "sorted_by_key",
+         "unique"}
 
 
 class Docs:

@@ -89,9 +89,10 @@ ITERATOR = [
 
 GROUPS = r"(?:chunks|chunk_by)\.rs"
 ITERTOOLS = [
-    (r"(?:intersperse|tuple_windows)\.rs", r"\b(separator|x)\.clone\(\)", r"\1.try_clone()", 2),
-    (r"(?:intersperse|tuple_windows)\.rs", r"^use fallible_iterator::extending",
+    (r"(?:intersperse|tuple_windows|unique)\.rs", r"\b(state|x|item)\.clone\(\)", r"\1.try_clone()", 3),
+    (r"(?:tuple_windows|unique)\.rs", r"^use fallible_iterator::extending",
      r"use fallible_iterator::memory::TryClone;\n\g<0>", 2),
+    (r"intersperse\.rs", r"^use fallible_iterator::\{", r"use fallible_iterator::memory::TryClone;\n\g<0>", 1),
     # No allocator is passed.
     (GROUPS, r"^    pub\(crate\) alloc: Global,\n", "", 2),
     (GROUPS, r"^struct (Chunk\w+) \{\n    alloc: Global,\n\}", r"struct \1;", 2),
@@ -103,7 +104,11 @@ ITERTOOLS = [
     (r"batch\.rs", r"\(alloc: Global, ", "(", 1),
     (r"batch\.rs", r"Vec::with_capacity\(alloc, (.*)\)\?", r"Vec::with_capacity(\1)", 1),
     (r"batch\.rs", r"match items\.push\(item\) \{[^{}]*\}", "items.push(item);\n    Ok(())", 1),
-    (r"(?:chunks|chunk_by|intersperse|tuple_windows)\.rs", ARM, NO_VALUE, 5),
+    (r"unique\.rs", r"Ok\(copy\) => match seen\.insert\(copy\) \{[^{}]*\},",
+     "Ok(copy) => {\n            seen.insert(copy);\n            Outcome::Kept(item)\n        }", 1),
+    (r"(?:chunks|chunk_by|intersperse|tuple_windows|unique)\.rs", ARM, NO_VALUE, 6),
+    (r"traits\.rs", r"fn unique\(self, alloc: Global\)", "fn unique(self)", 1),
+    (r"traits\.rs", r"HashSet::new\(alloc\)", "HashSet::new()", 1),
     # `counts` and `join`: the same folds, into what `new` makes.
     (r"counts\.rs", r"^    fn empty\((?:.*\n)*?    \}\n\n", "", 1),
     (r"counts\.rs", r"match self\.counts\.insert\(([^\n]*)\) \{[^{}]*\}",
@@ -159,17 +164,17 @@ ITERTOOLS = [
     (r"lib\.rs", r"^pub mod (?:batch|chunk_by|chunks|join);", r'#[cfg(feature = "alloc")]\n\g<0>', 4),
     (r"lib\.rs", r"^mod sorted;", r'#[cfg(feature = "alloc")]\n\g<0>', 1),
     (r"lib\.rs", r"^pub use (?:chunk_by|chunks)::", r'#[cfg(feature = "alloc")]\n\g<0>', 2),
-    (r"lib\.rs", r"^pub mod (?:counts|group_map);", r'#[cfg(feature = "std")]\n\g<0>', 2),
+    (r"lib\.rs", r"^pub (?:mod (?:counts|group_map|unique);|use unique::)", r'#[cfg(feature = "std")]\n\g<0>', 4),
     (r"(?:batch|chunk_by|chunks|group_map)\.rs", r"\A(//.*\n\n)", r"\1use alloc::vec::Vec;\n", 4),
     (r"traits\.rs", r"^use crate::(?:chunk_by|chunks|join|sorted)::", r'#[cfg(feature = "alloc")]\n\g<0>', 4),
     (r"traits\.rs", r"^use core::fmt::Display;",
      r'#[cfg(feature = "alloc")]\nuse alloc::string::String;\n#[cfg(feature = "alloc")]\nuse alloc::vec::Vec;\n#[cfg(feature = "alloc")]\n\g<0>', 1),
-    (r"traits\.rs", r"^use (?:crate::(?:counts|group_map)::|core::hash::|std::coll)",
-     r'#[cfg(feature = "std")]\n\g<0>', 4),
+    (r"traits\.rs", r"^use (?:crate::(?:counts|group_map|unique)::|core::hash::|std::coll)",
+     r'#[cfg(feature = "std")]\n\g<0>', 5),
     (r"traits\.rs", r"^    fn (?:chunks|chunk_by|join|sorted|sorted_by_key)\b", r'    #[cfg(feature = "alloc")]\n\g<0>', 5),
-    (r"traits\.rs", r"^    fn (?:counts|into_group_map)\b", r'    #[cfg(feature = "std")]\n\g<0>', 2),
+    (r"traits\.rs", r"^    fn (?:counts|into_group_map|unique)\b", r'    #[cfg(feature = "std")]\n\g<0>', 3),
     (r"lib\.rs", r"\A(?://!.*\n)+\n", HEAD, 1),
-    (r"lib\.rs", r"^pub mod \w+;", r"#[doc(hidden)]\n\g<0>", 29),
+    (r"lib\.rs", r"^pub mod \w+;", r"#[doc(hidden)]\n\g<0>", 32),
     (r"(?:batch|chunks|counts|group_map|join|partition_map)\.rs", r"\A(//.*\n\n)", r"\1use fallible_iterator::memory::AllocError;\n", 6),
 ]
 
