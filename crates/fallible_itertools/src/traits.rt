@@ -1387,12 +1387,13 @@ pub trait FallibleItertools: FallibleIterator {
             (intersperse_with.intersperse_with_contract Self.contract F.FnMut)).steps result
             (interspersed separator l) }
         ensures shown { (shows : F → ℕ → Result Self.Item Self.Error)
-            → (l : List (Result Self.Item Self.Error))
+            → (h : ℕ → Result Self.Item Self.Error) → (l : List (Result Self.Item Self.Error))
             → list.Lists Self.contract.steps self l
             → intersperse_with.CallsMakeShown (call_of_none F.FnMut) shows
+            → ((n : ℕ) → shows f n ≡ h n)
             → list.Lists (seen_as intersperse_with.intersperse_with_parts
             (intersperse_with.intersperse_with_contract Self.contract F.FnMut)).steps result
-            (interspersed_by (shows f) l) }
+            (interspersed_by h l) }
     {
         IntersperseWith {
             it: self,

@@ -22,8 +22,8 @@ module _ {S F A E : Type 0} (m : Contract S A E) (g : Mut F (Unit {0}) (Result A
     separators_shown : (p : F) (h : ℕ → Result A E) (v : Result A E) (q : F) → AtShown p h → CallSeparates g p v q → (v ≡ h 0) × AtShown q (λ n. h (suc n))
     separators_shown p h v q at called = let d = shown p v q called in (d.0 ∙ at 0, λ n. d.1 n ∙ at (suc n))
 
-    pub lists_interspersed_shown : Lists (seen_as intersperse_with_parts (intersperse_with_contract m g)).steps s (interspersed_by (shows f) l)
-    lists_interspersed_shown = lists_seen intersperse_with_parts (intersperse_with_contract m g).steps s parts refl (always_gives_first (CallSeparates g) AtShown separators_shown m.steps l s.it f (shows f) (λ n. refl) i.runs)
+    pub lists_interspersed_shown : (h : ℕ → Result A E) → AtShown f h → Lists (seen_as intersperse_with_parts (intersperse_with_contract m g)).steps s (interspersed_by h l)
+    lists_interspersed_shown h at = lists_seen intersperse_with_parts (intersperse_with_contract m g).steps s parts refl (always_gives_first (CallSeparates g) AtShown separators_shown m.steps l s.it f h at i.runs)
 
   module _ (z : A) (acts : Acts (call_of_none g) f (λ _. Ok z)) where
     -- the closure is as it was, and each separator is z

@@ -7,4 +7,4 @@ pub returns-clause-lists : goal.returns-clause-lists
 returns-clause-lists g c separator l i acts = lists_interspersed_same g.Self.FallibleIterator.contract g.F.FnMut _ _ l refl i separator acts
 
 pub returns-clause-shown : goal.returns-clause-shown
-returns-clause-shown g c shows l i shown = lists_interspersed_shown g.Self.FallibleIterator.contract g.F.FnMut _ _ l refl i shows shown
+returns-clause-shown g c shows h l i shown at = lists_interspersed_shown g.Self.FallibleIterator.contract g.F.FnMut _ _ l refl i shows shown h at
