@@ -1,4 +1,4 @@
-// `intersperse`. The source goes on after an end.
+// `intersperse` and `intersperse_with`. The source goes on after an end.
 use crate::rows::expect_same;
 use fallible_iterator::Answer::{End, Failure, Item};
 use fallible_iterator::{Answer, FallibleIterator, convert};
@@ -115,4 +115,51 @@ fn intersperse_holds_an_item_where_a_fold_stops_before_it(rt: HostRuntime) -> Re
         expect_same(&(folded, it.next()), expected)?;
     }
     Ok(())
+}
+
+// The closure counts its calls, returns ten times the count, and fails on the second call.
+fn ten_times(calls: &mut u32) -> Result<u32, TestError> {
+    *calls = calls.wrapping_add(1);
+    if *calls == 2 {
+        Err(TestError::Number(7))
+    } else {
+        Ok(calls.wrapping_mul(10))
+    }
+}
+
+const PARTED_BY_CALLS: [Answer<u32, TestError>; 10] = [
+    Failure(NINE),
+    End,
+    Item(1),
+    Item(10),
+    Item(2),
+    Failure(NINE),
+    End,
+    Failure(TestError::Number(7)),
+    Item(3),
+    End,
+];
+
+#[test]
+fn intersperse_with_calls_before_each_later_item(rt: HostRuntime) -> Result<(), Fail> {
+    let mut calls = 0u32;
+    let mut it = scripted(rt.alloc(), SCRIPT)?.intersperse_with(|| ten_times(&mut calls));
+    expect_answers(&rt, &mut it, &PARTED_BY_CALLS)
+}
+
+#[test]
+fn intersperse_with_counts_what_comes(rt: HostRuntime) -> Result<(), Fail> {
+    let mut it = listed(rt.alloc(), THREE)?.intersperse_with(|| Ok(0));
+    expect_course(&rt, &mut it, &COUNTED)
+}
+
+// What the fold returns that the closure's failure stops, and what is drawn next.
+const STOPPED_BY_CALLS: (Result<u32, TestError>, Drawn) = (Err(TestError::Number(7)), Ok(Some(7)));
+
+#[test]
+fn intersperse_with_holds_an_item_where_its_closure_fails(rt: HostRuntime) -> Result<(), Fail> {
+    let mut calls = 0u32;
+    let mut it = listed(rt.alloc(), FOUR)?.intersperse_with(|| ten_times(&mut calls));
+    let folded = it.try_fold(0, |sum: u32, x: u32| Ok(sum.wrapping_add(x)));
+    expect_same(&(folded, it.next()), &STOPPED_BY_CALLS)
 }
