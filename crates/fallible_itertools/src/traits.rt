@@ -1371,7 +1371,9 @@ pub trait FallibleItertools: FallibleIterator {
     /// Requires that the closure may be called in each state that such calls bring it to. `next` requires that, and that it may be called on the source. If the closure's state shows what its calls return, that is listed between the items.
     ///
     /// ```
-    /// convert(readings.into_iter()).intersperse_with(|| Ok(0)).count()
+    /// convert(readings.into_iter())
+    ///     .intersperse_with(|| Ok(0))
+    ///     .count()
     /// ```
     final fn intersperse_with<F>(self, f: F) -> IntersperseWith<Self, F>
     where
