@@ -198,6 +198,14 @@ fn many_are_counted_and_joined(rt: HostRuntime) -> Result<(), Fail> {
         Ok(counts) => expect_same(&counts.len(), &201)?,
         Err(_) => return Err(Fail::new("nothing was counted")),
     }
+    let groups = numbers(&MANY)
+        .enumerate()
+        .map(|(n, x)| Ok((n, x)))
+        .into_group_map(rt.alloc());
+    match groups {
+        Ok(groups) => expect_same(&groups.len(), &201)?,
+        Err(_) => return Err(Fail::new("nothing was grouped")),
+    }
     match numbers(&MANY).join(rt.alloc(), ", ") {
         Ok(text) => expect_same(&text.len(), &1003),
         Err(_) => Err(Fail::new("nothing was joined")),

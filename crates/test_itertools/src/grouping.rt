@@ -266,5 +266,12 @@ fn unique_leaves_out_what_came_before(rt: HostRuntime) -> Result<(), Fail> {
     let mut it = source.unique(rt.alloc());
     expect_answers(&rt, &mut it, &UNIQUE)?;
     let source = convert(Vec::from_array(rt.alloc(), HINTED)?.into_iter());
-    expect_course(&rt, &mut source.unique(rt.alloc()), &UNIQUE_HINTS)
+    expect_course(&rt, &mut source.unique(rt.alloc()), &UNIQUE_HINTS)?;
+    let many = convert((0..201u32).map(|x| Ok::<u32, TestError>(x)));
+    assert_eq!(rt;
+        many.unique(rt.alloc()).count(),
+        Ok(201),
+        "unique of 201 items"
+    );
+    Ok(())
 }
