@@ -2,7 +2,8 @@
 use fallible_iterator::Answer::{End, Failure, Item};
 use fallible_iterator::{Answer, Convert, FallibleIterator};
 use fallible_itertools::EitherOrBoth::{Both, Left};
-use fallible_itertools::FallibleItertools;
+use fallible_itertools::Position::{First, Last, Middle};
+use fallible_itertools::{FallibleItertools, Position};
 use std::alloc::{AllocError, Global};
 use std::test::Fail;
 use std::vec::IntoIter;
@@ -90,6 +91,8 @@ const OF_COALESCE: NumbersCase = Case {
     expected: &[Item(2), Item(3), End],
 };
 
+const OF_WITH_POSITION: Asks<'static> = ("WithPosition", 2, [UP_TO_THREE, NONE]);
+
 // The key is a request too. It is 1 of 2 and of 3.
 const OF_DEDUP_BY_KEY: NumbersCase = Case {
     name: "DedupByKey",
@@ -106,6 +109,17 @@ fn refused_clones_of_adapters_that_hold_an_item(rt: HostRuntime) -> Result<(), F
     expect_refused_clones_of_asking(&rt, &r, &mut it, &OF_DEDUP)?;
     let mut it = up_to_three(rt.alloc(), &r)?.coalesce(apart);
     expect_refused_clones_of_asking(&rt, &r, &mut it, &OF_COALESCE)?;
+    let mut it = up_to_three(rt.alloc(), &r)?.with_position();
+    let placed = |position: Position, x: u32| Item((position, Number::new(x, &r)));
+    let expected = [placed(Middle, 2), placed(Last, 3), End];
+    expect_refused_clones_that(
+        &rt,
+        &r,
+        &mut it,
+        OF_WITH_POSITION,
+        &[placed(First, 1)],
+        &expected,
+    )?;
     let mut it = up_to_three(rt.alloc(), &r)?.dedup_by_key(half);
     expect_refused_clones_of_asking(&rt, &r, &mut it, &OF_DEDUP_BY_KEY)
 }
