@@ -7,15 +7,15 @@ use Rattle.fallible_iterator.specs.Lists.{Lists, rest_nth}
 use Rattle.fallible_iterator.proofs.Lemmas.Folds.{drained_by_last}
 use Rattle.fallible_iterator.proofs.Lemmas.Lists.Rest.{lists_rest_nth}
 use Rattle.fallible_iterator.proofs.Lemmas.Lists.Drawn.{RestAt, drawn_of_lists}
-use Rattle.fallible_itertools.specs.ExactlyOne.{AtMostOneExit, AtMostOne, at_most_one_of}
+use Rattle.fallible_itertools.specs.ExactlyOne.{AtMostOneExit, AtMostOneDrains, at_most_one_of}
 
 module _ {S A E : Type 0} {steps : S → Answered A E → S → Type 0} {s t : S} where
   -- the first draw decides
-  pub at_most_one_draw : {r : Result (Result (Option A) (A × A)) E} (last : Answered A E) → steps s last t → AtMostOneExit [] last r → AtMostOne steps s r t
+  pub at_most_one_draw : {r : Result (Result (Option A) (A × A)) E} (last : Answered A E) → steps s last t → AtMostOneExit [] last r → AtMostOneDrains steps s r t
   at_most_one_draw last step exit = drained_by_last last step (record { exit = exit })
 
   -- the second does
-  pub at_most_one_two_draws : (u : S) {r : Result (Result (Option A) (A × A)) E} (x : A) (last : Answered A E) → steps s (item x) u → steps u last t → AtMostOneExit (x ∷ []) last r → AtMostOne steps s r t
+  pub at_most_one_two_draws : (u : S) {r : Result (Result (Option A) (A × A)) E} (x : A) (last : Answered A E) → steps s (item x) u → steps u last t → AtMostOneExit (x ∷ []) last r → AtMostOneDrains steps s r t
   at_most_one_two_draws u x last first second exit = record { items = x ∷ []; last = last; ran = (u, first, (t, second, refl)); at = record { exit = exit } }
 
 -- ---- over a list
@@ -51,11 +51,11 @@ module _ {A E : Type 0} where
   no_end_drawn (x ∷ y ∷ items) last r other exit is = exit
 
 module _ {S A E : Type 0} {steps : S → Answered A E → S → Type 0} {s t : S} where
-  pub at_most_one_of_lists : {r : Result (Result (Option A) (A × A)) E} (l : List (Result A E)) → AtMostOne steps s r t → Lists steps s l → r ≡ at_most_one_of l
+  pub at_most_one_of_lists : {r : Result (Result (Option A) (A × A)) E} (l : List (Result A E)) → AtMostOneDrains steps s r t → Lists steps s l → r ≡ at_most_one_of l
   at_most_one_of_lists {r = r} l c i = let d = drawn_of_lists steps c.items c.last l s t i.runs c.ran in at_most_one_of_after_items c.items c.last r d.rest d.rest_is c.at.exit ∙ sym (ap at_most_one_of d.list_is)
 
   -- and so is what it leaves
-  pub lists_rest_nth_1 : {r : Result (Result (Option A) (A × A)) E} (l : List (Result A E)) → AtMostOne steps s r t → Lists steps s l → ((o : Option A) → ¬ (r ≡ Ok (Ok o))) → Lists steps t (rest_nth 1 l)
+  pub lists_rest_nth_1 : {r : Result (Result (Option A) (A × A)) E} (l : List (Result A E)) → AtMostOneDrains steps s r t → Lists steps s l → ((o : Option A) → ¬ (r ≡ Ok (Ok o))) → Lists steps t (rest_nth 1 l)
   lists_rest_nth_1 {r = r} l c i other =
       let no_end = no_end_drawn c.items c.last r other c.at.exit in
       let c' : NthDrains steps s 1 c.last t = record { items = c.items; last = c.last; ran = c.ran; at = record { is = refl; exit = nth_exit_second_or_failure c.items c.last r no_end c.at.exit } } in
