@@ -3,7 +3,6 @@ pub use Rattle.fallible_iterator.specs.Making.{IsRefusal}
 use Rattle.std.specs.Prelude.{◌≡◌, ◌≤◌, Option, Some, None, List, [], ◌∷◌, ◌++◌, ⊤, vec_items, vec_len, vec_capacity}
 use Rattle.std.specs.declared.vec.Vec.{Vec}
 use Rattle.std.specs.declared.alloc.Global.{Global}
-use Rattle.std.specs.declared.alloc.AllocError.{AllocError}
 
 module _ {A : Type 0} where
   -- the items that are held, none where no `Vec` is

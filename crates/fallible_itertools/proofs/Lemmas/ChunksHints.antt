@@ -1,5 +1,5 @@
 -- The hint of `Chunks`: how many batches come at least, and at most.
-use Rattle.std.specs.Prelude.{◌≡◌, ℕ, ◌+◌, ◌-◌, ◌*◌, ◌/◌, ◌≤◌, ◌<◌, suc, max, cond, leb, Bool, true, false, Option, Some, None, Ok, Err, List, [], ◌∷◌, length, vec_items}
+use Rattle.std.specs.Prelude.{◌≡◌, ℕ, ◌+◌, ◌-◌, ◌*◌, ◌/◌, ◌≤◌, ◌<◌, suc, max, cond, leb, Bool, true, false, Option, Some, None, Ok, List, [], ◌∷◌, length, vec_items}
 use Rattle.std.proofs.Common.{refl, sym, ap, subst, arith, length-append, ◌∙◌}
 use Rattle.std.proofs.lemmas.Bool.{leb-false}
 use Rattle.std.proofs.Math.Nat.{div-lt_iff_lt-mul, div-le_self, suc-mul}

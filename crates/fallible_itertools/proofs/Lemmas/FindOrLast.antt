@@ -4,7 +4,7 @@ use Rattle.std.specs.List.{FoldsTo, last_or}
 use Rattle.std.proofs.Common.{refl, sym, ap, subst, ◌∙◌}
 use Rattle.fallible_iterator.specs.Traces.{Answered, Run, item}
 use Rattle.fallible_iterator.specs.Folds.{goes_on, CallableDriving, DriveExit, Driven}
-use Rattle.fallible_iterator.specs.Lists.{Lists, Acts, found, last_of}
+use Rattle.fallible_iterator.specs.Lists.{Lists, Acts, last_of}
 use Rattle.fallible_iterator.specs.Searching.{WentOn, SearchDecides, SearchExit, SearchedBy, CallableInSearch, answer_by, find_pick}
 use Rattle.fallible_iterator.proofs.Lemmas.Folds.{drained_map}
 use Rattle.fallible_iterator.proofs.Lemmas.Lists.Drawn.{last_of_lists}

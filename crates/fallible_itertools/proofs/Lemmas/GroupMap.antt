@@ -1,5 +1,5 @@
 -- What a map of groups becomes when one more pair is pushed.
-use Rattle.std.specs.Prelude.{◌≡◌, Bool, true, false, cond, List, [], ◌∷◌, ◌++◌, map, unwrap_or, IsSome, Option, Some, None, Err, vec_items}
+use Rattle.std.specs.Prelude.{◌≡◌, Bool, true, false, cond, List, [], ◌∷◌, ◌++◌, unwrap_or, IsSome, Option, Some, Err, vec_items}
 use Rattle.std.specs.Option.{option_map}
 use Rattle.std.specs.Cmp.{IsEquivalence}
 use Rattle.std.specs.HashMap as hash

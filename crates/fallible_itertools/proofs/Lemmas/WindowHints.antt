@@ -1,5 +1,5 @@
 -- The hint of `TupleWindows`.
-use Rattle.std.specs.Prelude.{◌≡◌, ℕ, ◌+◌, ◌-◌, ◌≤◌, option_map, Option, Some, None, Ok, List, [], ◌∷◌, ◌++◌, length, IfSome}
+use Rattle.std.specs.Prelude.{◌≡◌, ℕ, ◌+◌, ◌-◌, ◌≤◌, option_map, Option, Some, None, List, [], ◌∷◌, ◌++◌, length, IfSome}
 use Rattle.std.proofs.Common.{refl, subst, arith, length-append}
 use Rattle.fallible_iterator.specs.Traces.{Answered, Yields, item, end}
 use Rattle.fallible_iterator.specs.Contract.{Contract, seen_as}

@@ -1,6 +1,4 @@
 -- One draw at each turn, and an answer by it.
-use Rattle.std.specs.Prelude.{◌-◌, length}
-use Rattle.std.proofs.Common.{ap, arith, length-append, rules, ◌∙◌}
 use Rattle.fallible_itertools.specs.Chunks.{chunks_asks}
 use Rattle.fallible_itertools.proofs.Lemmas.HoldingTraces.{step_item, step_refused, step_end, step_failure, step_left_before}
 use Rattle.fallible_itertools.proofs.chunks.filled.Goals as goal
