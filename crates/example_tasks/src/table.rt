@@ -93,10 +93,12 @@ pub fn high_of_good(bytes: &[u8]) -> Result<u64, CutShort>
     ensures { result ≡ folded (λ e. e) (λ s r. Ok ((s + r.high) % 2 ^ 64)) 0
         (filtered (λ r. Ok (is_low_to_high r)) (records bytes.now)) }
 {
-    read(bytes).filter(|record| Ok(record.is_low_to_high())).fold(
-        0,
-        |sum: u64, record: Record| Ok(sum.wrapping_add(u64::from(record.high))),
-    )
+    read(bytes)
+        .filter(|record| Ok(record.is_low_to_high()))
+        .fold(
+            0,
+            |sum: u64, record: Record| Ok(sum.wrapping_add(u64::from(record.high))),
+        )
 }
 
 /// Why a table has no totals.

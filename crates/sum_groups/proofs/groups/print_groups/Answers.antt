@@ -1,6 +1,6 @@
 -- What is folded are the lines of the groups of the rows' list.
 use Rattle.std.specs.Prelude.{Ok, ◌++◌, vec_items}
-use Rattle.std.proofs.Common.{rules, refl, sym, ap, ◌∙◌}
+use Rattle.std.proofs.Common.{rules, refl, ap, ◌∙◌}
 use Rattle.fallible_iterator.proofs.Lemmas.Making.{folded_made}
 use Rattle.fallible_itertools.specs.ChunkBy.{MadeGroup}
 use Rattle.sum_groups.specs.Groups.{group_line, line_of}
