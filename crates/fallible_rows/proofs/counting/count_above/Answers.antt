@@ -22,7 +22,7 @@ pub returns : goal.returns
 returns g c =
     let counted = c.try_fold.ensures.folded in
     let exit = count_exit_of_folded (λ f n x r h k. search rules) (λ e d h. search rules) counted in
-    let read = chain_reads _ _ _ _ c.new.result c.new.ensures.parts (lit≤ tt) {s = c.filter-above.result} {t = c.try_fold.new.self} {first = c.take.result} {xs = counted.items} {last = counted.last} (λ x r h k. search (rules, tests)) c.filter-above.ensures.parts c.take.ensures.parts counted.ran in
+    let read = chain_reads _ _ _ _ c.new.result c.new.ensures.parts (lit≤ tt) {s = c.filter-above.result} {first = c.take.result} {last = counted.last} c.try_fold.new.self counted.items (λ x r h k. search (rules, tests)) c.filter-above.ensures.parts c.take.ensures.parts counted.ran in
     let names = sym (name_kept_by_reads _ _ (λ (s : Lent g.row.R.Denot). s.reader.ghost_name) (λ failed r q k. k) _ _ _ _ _ _ read.reads) in
     let holds = counts_prefix_of_result _ _ _ _ _ refl refl read.items _ read.count_is _ row_limit-is counted.last c.try_fold.result read.reads exit in
     let finally = λ (x : g.row.R.Denot) (same : x ≡ c.try_fold.new.self.it.it.reader.reader.now). subst (λ y. CountsPrefix (g.R.ReadByte.left c.args.reader.now) (g.R.ReadByte.left y) c.try_fold.result) (sym same) holds in
