@@ -28,7 +28,7 @@ allowed() {
     case $1 in
     # The makings of these ask for no memory. A refused item is lost.
     collect_vec | collect_deque | collect_btree_set | collect_hash_set | collect_btree_map | collect_hash_map | \
-        partition_vec | partition_btree_set | unzip_vec_deque | unzip_hash_set_btree_set | sorted)
+        partition_vec | partition_btree_set | unzip_vec_deque | unzip_hash_set_btree_set)
         echo "memory was refused; then $behind"
         ;;
     # The makings alone ask. Where one is refused, the next one would be met: it is not tried, and nothing is drawn.
