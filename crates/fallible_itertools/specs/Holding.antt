@@ -26,6 +26,7 @@ due_answer (Some stop) = stop_answer stop ∷ []
 abbrev pub asks_item : {P X B E : Type 0} → (P → Option X → Outcome B E → P → Type 0) → P → X → Outcome B E → P → Type 0
 asks_item asks p x o q = asks p (Some x) o q
 
+-- for an item the adapter returns the outcome as it is
 abbrev pub as_answered_item : {X B E : Type 0} → X → Outcome B E → Outcome B E
 as_answered_item x o = o
 
@@ -156,6 +157,7 @@ module _ {P X B E C R : Type 0} (asks : P → Option X → Outcome B E → P →
   TurnBefore stop c End r due d = (r ≡ stop_answer stop) × (due ≡ None) × (d ≡ c)
   TurnBefore stop c LeftOut r due d = ⊥
 
+  -- The adapter is called on the stop. The caller's turn is taken on what it returns, and then the stop comes.
   abbrev pub StoppedBehind : Option E → P × C → Answered R E → P × Option (Option E) → C → Type 0
   StoppedBehind stop (p, c) r (q, due) d = (o : Outcome B E) × asks p None o q × TurnBefore stop c o r due d
 
