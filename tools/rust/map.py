@@ -74,13 +74,15 @@ ITERATOR = [
     (r"fallible_core/bridges/unwrap\.rs", r"(core::iter::Iterator for Unwrap<I>) \{",
      r"\1\nwhere\n    I::Error: core::fmt::Debug,\n{", 1),
     (r"fallible_core/joining/flat_map\.rs", r"^ *#\[derive_where\(.*\)\]\n", "", 3),
+    # A marker that asks nothing of `U` for `Send` and `Sync`.
+    (r"fallible_core/joining/flat_map\.rs", r"PhantomData<U>", "PhantomData<fn() -> U>", 1),
     # Features.
     (r"fallible_core/traits\.rs", r"^mod boxed;", '#[cfg(feature = "alloc")]\nmod boxed;', 1),
     (r"fallible_core/traits/boxed\.rs", r"^use crate::fallible_core::traits::Fall",
      "use alloc::boxed::Box;\nuse crate::fallible_core::traits::Fall", 1),
     (r"sources/making\.rs", r"^use crate::fallible_core::FallibleIterator;\n", "", 1),
     (r"lib\.rs", r"\A(?://!.*\n)+\n",
-     HEAD + "pub mod fallible_contract;\npub mod fallible_core;\npub mod memory;\n", 1),
+     HEAD + "mod by_drive;\npub mod fallible_contract;\npub mod fallible_core;\npub mod memory;\n", 1),
     # What users need not see.
     (r"lib\.rs", r"^pub mod (?!prelude)\w+;", r"#[doc(hidden)]\n\g<0>", 7),
     (r"lib\.rs", r"^pub use .*(?:answers::|searching::Test;|\{Collect, Fault|Number;)", r"#[doc(hidden)]\n\g<0>", 4),

@@ -19,6 +19,7 @@ extern crate alloc;
 #[cfg(feature = "std")]
 extern crate std;
 
+mod by_drive;
 #[doc(hidden)]
 pub mod conversion;
 #[doc(hidden)]

@@ -51,6 +51,8 @@ impl<I: FallibleIterator, K: PartialEq, F: FnMut(&I::Item) -> Result<K, I::Error
             turn,
         )
     }
+
+    fallible_iterator::by_drive!(drive);
 }
 
 // What becomes of an item after the buffered group.

@@ -59,6 +59,8 @@ impl<I: FallibleIterator> FallibleIterator for Chunks<I> {
             turn,
         )
     }
+
+    fallible_iterator::by_drive!(drive);
 }
 
 // Draws until a batch is full or a stop comes: at most as often as a batch has items. No stop is due.

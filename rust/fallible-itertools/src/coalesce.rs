@@ -50,6 +50,8 @@ impl<
             turn,
         )
     }
+
+    fallible_iterator::by_drive!(drive);
 }
 
 // What the closure makes of the buffered item and the next one.

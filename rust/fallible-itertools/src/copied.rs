@@ -30,6 +30,8 @@ impl<'a, T: Copy + 'a, I: FallibleIterator<Item = &'a T>> FallibleIterator for C
     ) -> Result<Option<R>, I::Error> {
         drive_passing(&mut self.it, &mut (), &CopyPass, state, turn)
     }
+
+    fallible_iterator::by_drive!(drive);
 }
 
 impl<'a, T: Copy + 'a, I: DoubleEndedFallibleIterator<Item = &'a T>> DoubleEndedFallibleIterator
@@ -47,6 +49,8 @@ impl<'a, T: Copy + 'a, I: DoubleEndedFallibleIterator<Item = &'a T>> DoubleEnded
     ) -> Result<Option<R>, I::Error> {
         drive_back_passing(&mut self.it, &mut (), &CopyPass, state, turn)
     }
+
+    fallible_iterator::by_drive!(drive_back);
 }
 
 // A copy of what an item points to. It keeps no state.

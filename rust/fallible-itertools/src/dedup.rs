@@ -49,6 +49,8 @@ where
             turn,
         )
     }
+
+    fallible_iterator::by_drive!(drive);
 }
 
 // What becomes of an item after the buffered one.

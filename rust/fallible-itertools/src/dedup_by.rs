@@ -48,6 +48,8 @@ impl<I: FallibleIterator, F: FnMut(&I::Item, &I::Item) -> Result<bool, I::Error>
             turn,
         )
     }
+
+    fallible_iterator::by_drive!(drive);
 }
 
 // What becomes of an item after the buffered one, by what the closure returns on the two.

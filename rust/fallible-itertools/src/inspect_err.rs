@@ -41,8 +41,20 @@ impl<I: FallibleIterator, F: FnMut(&I::Error)> FallibleIterator for InspectErr<I
         failed(self.it.drive_last(), &mut self.f, &InspectErrFail)
     }
 
-    fn drive_nth(&mut self, n: usize) -> Result<Option<I::Item>, I::Error> {
-        failed(self.it.drive_nth(n), &mut self.f, &InspectErrFail)
+    fn nth(&mut self, n: usize) -> Result<Option<I::Item>, I::Error> {
+        failed(self.it.nth(n), &mut self.f, &InspectErrFail)
+    }
+
+    fallible_iterator::by_drive!(drive);
+
+    fn count(self) -> Result<usize, Self::Error> {
+        let mut f = self.f;
+        failed(self.it.count(), &mut f, &InspectErrFail)
+    }
+
+    fn last(self) -> Result<Option<Self::Item>, Self::Error> {
+        let mut f = self.f;
+        failed(self.it.last(), &mut f, &InspectErrFail)
     }
 }
 
@@ -61,6 +73,8 @@ impl<I: DoubleEndedFallibleIterator, F: FnMut(&I::Error)> DoubleEndedFallibleIte
     ) -> Result<Option<R>, I::Error> {
         drive_back_failing(&mut self.it, &mut self.f, &InspectErrFail, state, turn)
     }
+
+    fallible_iterator::by_drive!(drive_back);
 }
 
 // The failure itself, after the closure's call.

@@ -43,6 +43,8 @@ where
     fn size_hint(&self) -> (usize, Option<usize>) {
         hint_parting(self.it.size_hint(), &self.parting.1)
     }
+
+    fallible_iterator::by_drive!(drive);
 }
 
 // Each separator is a clone of the first.

@@ -35,6 +35,8 @@ impl<I: FallibleIterator, F: FnMut() -> Result<I::Item, I::Error>> FallibleItera
     fn size_hint(&self) -> (usize, Option<usize>) {
         hint_parting(self.it.size_hint(), &self.parting.1)
     }
+
+    fallible_iterator::by_drive!(drive);
 }
 
 // Each separator is what one call of the closure returns.

@@ -36,6 +36,8 @@ impl<I: FallibleIterator, E, F: FnMut(I::Error) -> Result<Option<I::Item>, E>> F
         let left = (*self).number();
         drive_recovering(&mut self.it, &mut self.f, &OrElsePass, left, state, turn)
     }
+
+    fallible_iterator::by_drive!(drive);
 }
 
 impl<I: DoubleEndedFallibleIterator, E, F: FnMut(I::Error) -> Result<Option<I::Item>, E>>
@@ -54,6 +56,8 @@ impl<I: DoubleEndedFallibleIterator, E, F: FnMut(I::Error) -> Result<Option<I::I
         let left = (*self).number();
         drive_back_recovering(&mut self.it, &mut self.f, &OrElsePass, left, state, turn)
     }
+
+    fallible_iterator::by_drive!(drive_back);
 }
 
 // What becomes of a failure by the closure's result.

@@ -47,6 +47,8 @@ impl<I: FallibleIterator, P: FnMut(&I::Item) -> Result<bool, I::Error>> Fallible
         }
         drive_taking(&mut self.it, &mut self.taking, state, turn)
     }
+
+    fallible_iterator::by_drive!(drive);
 }
 
 // An item is kept unless the predicate fails on it. The flag beside the predicate says whether it rejected one.

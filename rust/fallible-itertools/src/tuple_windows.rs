@@ -51,6 +51,8 @@ where
     ) -> Result<Option<R>, I::Error> {
         drive_passing(&mut self.it, &mut self.held, &WindowPass, state, turn)
     }
+
+    fallible_iterator::by_drive!(drive);
 }
 
 // An item after the one before it.

@@ -41,6 +41,8 @@ where
     ) -> Result<Option<R>, I::Error> {
         drive_passing(&mut self.it, &mut self.seen, &UniquePass, state, turn)
     }
+
+    fallible_iterator::by_drive!(drive);
 }
 
 // An item after those before it.

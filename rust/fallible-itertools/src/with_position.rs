@@ -60,6 +60,8 @@ impl<I: FallibleIterator> FallibleIterator for WithPosition<I> {
             turn,
         )
     }
+
+    fallible_iterator::by_drive!(drive);
 }
 
 // What becomes of an item after the buffered one.

@@ -153,17 +153,35 @@ pub trait FallibleIterator {
     where
         Self: Sized,
     {
-        let mut left = (*self).number();
-        loop {
-            match self.next() {
-                Ok(Some(x)) => match turn.turn(state, x) {
-                    ControlFlow::Continue(()) => {}
-                    ControlFlow::Break(stop) => return Ok(Some(stop)),
-                },
-                Ok(None) => return Ok(None),
-                Err(e) => return Err(e),
-            }
-            left = left.one_less();
+        let folded = self.try_fold((), |(), x| match turn.turn(state, x) {
+            ControlFlow::Continue(()) => Ok(()),
+            ControlFlow::Break(stop) => Err(Stop::Turn(stop)),
+        });
+        match folded {
+            Ok(()) => Ok(None),
+            Err(Stop::Turn(stop)) => Ok(Some(stop)),
+            Err(Stop::Failure(e)) => Err(e),
+        }
+    }
+
+    #[doc(hidden)]
+    #[inline(always)]
+    fn drive_try_fold<B, E, F>(&mut self, init: B, f: F) -> Result<B, E>
+    where
+        Self: Sized,
+        E: From<Self::Error>,
+        F: FnMut(B, Self::Item) -> Result<B, E>,
+    {
+        let mut state = (Some(init), f);
+        let answer = self.drive(&mut state, &TryFoldTurn);
+        let (value, _) = state;
+        match answer {
+            Ok(None) => match value {
+                Some(value) => Ok(value),
+                None => unreachable!(),
+            },
+            Ok(Some(e)) => Err(e),
+            Err(e) => Err(E::from(e)),
         }
     }
 
@@ -290,30 +308,6 @@ pub trait FallibleIterator {
         self.drive_last()
     }
 
-    /// For types that override it: `nth`, without what it says of a list and of what is left.
-    ///
-    /// # Contract
-    ///
-    /// As it is proved, in [these words](crate::words):
-    ///
-    /// ```text
-    /// requires { contract.can_next self.old }
-    /// ensures { fold.NthDrains contract.steps self.old n result self.new }
-    /// ```
-    #[doc(hidden)]
-    fn drive_nth(&mut self, n: usize) -> Result<Option<Self::Item>, Self::Error> {
-        let mut left = n;
-        while 0 < left {
-            match self.next() {
-                Ok(Some(_)) => {}
-                Ok(None) => return Ok(None),
-                Err(e) => return Err(e),
-            }
-            left -= 1;
-        }
-        self.next()
-    }
-
     /// Returns the item with n items before it; `Ok(None)` if the iterator ends first.
     ///
     /// It draws at most n + 1 times: up to that item, or a failure or `Ok(None)` before it. It fails with that failure. Nothing is drawn after that, and the iterator may be used again.
@@ -352,7 +346,16 @@ pub trait FallibleIterator {
     /// ensures stays { Stays contract self.old self.new }
     /// ```
     fn nth(&mut self, n: usize) -> Result<Option<Self::Item>, Self::Error> {
-        self.drive_nth(n)
+        let mut left = n;
+        while 0 < left {
+            match self.next() {
+                Ok(Some(_)) => {}
+                Ok(None) => return Ok(None),
+                Err(e) => return Err(e),
+            }
+            left -= 1;
+        }
+        self.next()
     }
 
     /// Calls the closure on the value so far and each item in order, and returns the last value at `Ok(None)`.
@@ -396,23 +399,19 @@ pub trait FallibleIterator {
     ///     → list.Lists contract.steps self.new (list.rest_fold h init l)) }
     /// ensures stays { Stays contract self.old self.new }
     /// ```
+    #[inline(always)]
     fn try_fold<B, E, F>(&mut self, init: B, f: F) -> Result<B, E>
     where
         Self: Sized,
         E: From<Self::Error>,
         F: FnMut(B, Self::Item) -> Result<B, E>,
     {
-        let mut state = (Some(init), f);
-        let answer = self.drive(&mut state, &TryFoldTurn);
-        let (value, _) = state;
-        match answer {
-            Ok(None) => match value {
-                Some(value) => Ok(value),
-                None => unreachable!(),
-            },
-            Ok(Some(e)) => Err(e),
-            Err(e) => Err(E::from(e)),
+        let mut f = f;
+        let mut value = init;
+        while let Some(x) = self.next()? {
+            value = f(value, x)?;
         }
+        Ok(value)
     }
 
     /// As `try_fold`, but the closure fails with the iterator's own error, and the iterator is consumed.
@@ -521,7 +520,7 @@ pub trait FallibleIterator {
     where
         Self: Sized,
     {
-        found(self.drive(state, &FindTurn { test }))
+        self.find(|x| test.test(state, x))
     }
 
     /// Yields what the closure returns for each item.
@@ -1134,9 +1133,9 @@ pub trait FallibleIterator {
     /// #         add(&self.log.lasts);
     /// #         self.it.drive_last()
     /// #     }
-    /// #     fn drive_nth(&mut self, n: usize) -> Result<Option<I::Item>, I::Error> {
+    /// #     fn nth(&mut self, n: usize) -> Result<Option<I::Item>, I::Error> {
     /// #         add(&self.log.nths);
-    /// #         self.it.drive_nth(n)
+    /// #         self.it.nth(n)
     /// #     }
     /// #     fn drive_find<C, K: Test<C, I::Item, I::Error>>(
     /// #         &mut self,
@@ -1146,6 +1145,8 @@ pub trait FallibleIterator {
     /// #         add(&self.log.finds);
     /// #         self.it.drive_find(state, test)
     /// #     }
+    /// #     fallible_iterator::by_drive!(drive);
+    /// #     fallible_iterator::by_drive!(drive_find);
     /// # }
     /// # impl<'a, I: DoubleEndedFallibleIterator> DoubleEndedFallibleIterator for Counted<'a, I> {
     /// #     fn next_back(&mut self) -> Result<Option<I::Item>, I::Error> {
@@ -1160,6 +1161,7 @@ pub trait FallibleIterator {
     /// #         add(&self.log.rfolds);
     /// #         self.it.drive_back(state, turn)
     /// #     }
+    /// #     fallible_iterator::by_drive!(drive_back);
     /// # }
     /// # fn add(number: &Cell<u32>) {
     /// #     number.set(number.get().wrapping_add(1));
@@ -2191,7 +2193,7 @@ pub trait FallibleIterator {
         F: FnMut(&Self::Item) -> Result<bool, Self::Error>,
     {
         let mut f = f;
-        self.drive_find(&mut f, &FindTest)
+        found(self.drive(&mut f, &FindTurn { test: &FindTest }))
     }
 
     /// Returns the first value that the closure returns for the items in order; `Ok(None)` if there is none. The closure is called once on each item drawn.
@@ -3192,5 +3194,19 @@ pub trait FallibleIterator {
         Self::Error: Debug,
     {
         Unwrap { it: self }
+    }
+}
+
+/// Why a fold stopped that a caller's own type may have written: a turn stopped it, or it failed.
+#[doc(hidden)]
+pub enum Stop<R, E> {
+    Turn(R),
+    Failure(E),
+}
+
+impl<R, E> From<E> for Stop<R, E> {
+    #[inline(always)]
+    fn from(e: E) -> Stop<R, E> {
+        Stop::Failure(e)
     }
 }

@@ -28,6 +28,8 @@ impl<T, E, I: core::iter::Iterator<Item = Result<T, E>>> FallibleIterator for Co
     fn drive<C, R, K: Turn<C, T, R>>(&mut self, state: &mut C, turn: &K) -> Result<Option<R>, E> {
         drive_std(&mut self.it, &AsResult, state, turn)
     }
+
+    crate::by_drive!(drive);
 }
 
 impl<T, E, I: core::iter::DoubleEndedIterator<Item = Result<T, E>>> DoubleEndedFallibleIterator
@@ -46,6 +48,8 @@ impl<T, E, I: core::iter::DoubleEndedIterator<Item = Result<T, E>>> DoubleEndedF
     ) -> Result<Option<R>, E> {
         drive_back_std(&mut self.it, &AsResult, state, turn)
     }
+
+    crate::by_drive!(drive_back);
 }
 
 // `rev` of the trait, which also says what a double-ended std iterator lists from the back.

@@ -33,6 +33,8 @@ impl<T, I: core::iter::Iterator<Item = T>> FallibleIterator for IntoFallible<I> 
     ) -> Result<Option<R>, Infallible> {
         drive_std(&mut self.it, &AsItem, state, turn)
     }
+
+    crate::by_drive!(drive);
 }
 
 impl<T, I: core::iter::DoubleEndedIterator<Item = T>> DoubleEndedFallibleIterator
@@ -51,6 +53,8 @@ impl<T, I: core::iter::DoubleEndedIterator<Item = T>> DoubleEndedFallibleIterato
     ) -> Result<Option<R>, Infallible> {
         drive_back_std(&mut self.it, &AsItem, state, turn)
     }
+
+    crate::by_drive!(drive_back);
 }
 
 // `rev` of the trait, which also says what a double-ended std iterator lists from the back.

@@ -88,12 +88,12 @@ impl<I: FallibleIterator> FallibleIterator for Fuse<I> {
     }
 
     /// The source's `nth`. Its `Ok(None)` exhausts the adapter; a failure doesn't.
-    fn drive_nth(&mut self, n: usize) -> Result<Option<I::Item>, I::Error> {
+    fn nth(&mut self, n: usize) -> Result<Option<I::Item>, I::Error> {
         let Fuse { it, ended } = self;
         if *ended {
             return Ok(None);
         }
-        match it.drive_nth(n) {
+        match it.nth(n) {
             Ok(Some(x)) => Ok(Some(x)),
             Ok(None) => {
                 *ended = true;
@@ -101,5 +101,21 @@ impl<I: FallibleIterator> FallibleIterator for Fuse<I> {
             }
             Err(e) => Err(e),
         }
+    }
+
+    crate::by_drive!(drive);
+
+    fn count(self) -> Result<usize, Self::Error> {
+        if self.ended {
+            return Ok(0);
+        }
+        self.it.count()
+    }
+
+    fn last(self) -> Result<Option<Self::Item>, Self::Error> {
+        if self.ended {
+            return Ok(None);
+        }
+        self.it.last()
     }
 }

@@ -44,4 +44,6 @@ impl<I: FallibleIterator> FallibleIterator for Skip<I> {
             Err(e) => Err(e),
         }
     }
+
+    crate::by_drive!(drive);
 }

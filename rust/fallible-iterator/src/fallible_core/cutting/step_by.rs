@@ -50,6 +50,8 @@ impl<I: FallibleIterator> FallibleIterator for StepBy<I> {
         };
         drive_passing(&mut self.it, &mut self.to_skip, &adapter, state, turn)
     }
+
+    crate::by_drive!(drive);
 }
 
 // An item that is left out lowers what is left, and the one after them is kept. The state is how many are left out next.

@@ -47,6 +47,8 @@ impl<I: FallibleIterator, P: FnMut(&I::Item) -> Result<bool, I::Error>> Fallible
         }
         drive_passing(&mut self.it, &mut self.taking, &TakeWhilePass, state, turn)
     }
+
+    crate::by_drive!(drive);
 }
 
 // An item that the predicate accepts; at one that it rejects the call returns `Ok(None)`. The flag beside the predicate says whether it rejected one.

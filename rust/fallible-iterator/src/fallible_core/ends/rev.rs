@@ -32,6 +32,8 @@ impl<I: DoubleEndedFallibleIterator> FallibleIterator for Rev<I> {
     ) -> Result<Option<R>, I::Error> {
         self.it.drive_back(state, turn)
     }
+
+    crate::by_drive!(drive);
 }
 
 impl<I: DoubleEndedFallibleIterator> DoubleEndedFallibleIterator for Rev<I> {
@@ -48,4 +50,6 @@ impl<I: DoubleEndedFallibleIterator> DoubleEndedFallibleIterator for Rev<I> {
     ) -> Result<Option<R>, I::Error> {
         self.it.drive(state, turn)
     }
+
+    crate::by_drive!(drive_back);
 }

@@ -50,6 +50,8 @@ impl<I: FallibleIterator, F: FnMut(&I::Item) -> Result<bool, I::Error>> Fallible
             Err(e) => Err(e),
         }
     }
+
+    crate::by_drive!(drive);
 }
 
 impl<I: DoubleEndedFallibleIterator, F: FnMut(&I::Item) -> Result<bool, I::Error>>
@@ -69,6 +71,8 @@ impl<I: DoubleEndedFallibleIterator, F: FnMut(&I::Item) -> Result<bool, I::Error
     ) -> Result<Option<R>, I::Error> {
         drive_back_passing(&mut self.it, &mut self.f, &FilterPass, state, turn)
     }
+
+    crate::by_drive!(drive_back);
 }
 
 // What becomes of an item by the predicate's result.

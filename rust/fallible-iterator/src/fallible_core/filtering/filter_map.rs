@@ -50,6 +50,8 @@ impl<I: FallibleIterator, B, F: FnMut(I::Item) -> Result<Option<B>, I::Error>> F
             Err(e) => Err(e),
         }
     }
+
+    crate::by_drive!(drive);
 }
 
 impl<I: DoubleEndedFallibleIterator, B, F: FnMut(I::Item) -> Result<Option<B>, I::Error>>
@@ -68,6 +70,8 @@ impl<I: DoubleEndedFallibleIterator, B, F: FnMut(I::Item) -> Result<Option<B>, I
     ) -> Result<Option<R>, I::Error> {
         drive_back_passing(&mut self.it, &mut self.f, &FilterMapPass, state, turn)
     }
+
+    crate::by_drive!(drive_back);
 }
 
 // What becomes of an item by the closure's result.

@@ -53,6 +53,8 @@ impl<I: FallibleIterator, P: FnMut(&I::Item) -> Result<bool, I::Error>> Fallible
             Err(e) => Err(e),
         }
     }
+
+    crate::by_drive!(drive);
 }
 
 // The test of the search in `next`, whose state is the flag beside the predicate: it accepts an item once the predicate returned false, or if it does so for this one.

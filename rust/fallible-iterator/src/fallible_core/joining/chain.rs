@@ -151,6 +151,29 @@ impl<T: FallibleIterator, U: FallibleIterator<Item = T::Item, Error = T::Error>>
             },
         }
     }
+
+    crate::by_drive!(drive);
+
+    crate::by_drive!(drive_find);
+
+    fn count(self) -> Result<usize, Self::Error> {
+        match self.still_drawn {
+            StillDrawn::Both => Ok(self.first.count()? + self.second.count()?),
+            StillDrawn::FirstAlone => self.first.count(),
+            StillDrawn::SecondAlone => self.second.count(),
+        }
+    }
+
+    fn last(self) -> Result<Option<Self::Item>, Self::Error> {
+        match self.still_drawn {
+            StillDrawn::Both => match (self.first.last()?, self.second.last()?) {
+                (_, Some(x)) => Ok(Some(x)),
+                (before, None) => Ok(before),
+            },
+            StillDrawn::FirstAlone => self.first.last(),
+            StillDrawn::SecondAlone => self.second.last(),
+        }
+    }
 }
 
 impl<
@@ -201,4 +224,6 @@ impl<
             },
         }
     }
+
+    crate::by_drive!(drive_back);
 }

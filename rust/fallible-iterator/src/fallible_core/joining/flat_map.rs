@@ -11,7 +11,7 @@ use core::marker::PhantomData;
 pub struct FlatMap<I, U, F, J = <U as IntoFallibleIterator>::IntoFallibleIter> {
     pub(crate) it: Map<I, F>,
     pub(crate) in_hand: Option<J>,
-    pub(crate) made: PhantomData<U>,
+    pub(crate) made: PhantomData<fn() -> U>,
 }
 
 impl<
@@ -42,6 +42,8 @@ impl<
     ) -> Result<Option<R>, U::Error> {
         drive_joined(&mut self.it, &mut self.in_hand, state, turn)
     }
+
+    crate::by_drive!(drive);
 }
 
 impl<I: Clone, U, F: Clone, J: Clone> Clone for FlatMap<I, U, F, J> {

@@ -38,6 +38,8 @@ impl<U: IntoFallibleIterator, I: FallibleIterator<Item = U, Error = U::Error>> F
     ) -> Result<Option<R>, U::Error> {
         drive_joined(&mut self.it, &mut self.in_hand, state, turn)
     }
+
+    crate::by_drive!(drive);
 }
 
 // One call of `next` of the joined inner iterators. The current one is dropped at its `Ok(None)`, and then the next item is drawn.

@@ -35,6 +35,8 @@ impl<'a, T: Clone + 'a, I: FallibleIterator<Item = &'a T>> FallibleIterator for 
     ) -> Result<Option<R>, I::Error> {
         drive_passing(&mut self.it, &mut (), &ClonePass, state, turn)
     }
+
+    crate::by_drive!(drive);
 }
 
 impl<'a, T: Clone + 'a, I: DoubleEndedFallibleIterator<Item = &'a T>> DoubleEndedFallibleIterator
@@ -53,6 +55,8 @@ impl<'a, T: Clone + 'a, I: DoubleEndedFallibleIterator<Item = &'a T>> DoubleEnde
     ) -> Result<Option<R>, I::Error> {
         drive_back_passing(&mut self.it, &mut (), &ClonePass, state, turn)
     }
+
+    crate::by_drive!(drive_back);
 }
 
 // A clone of what an item points to. It keeps no state.

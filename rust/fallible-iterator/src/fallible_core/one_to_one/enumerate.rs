@@ -45,9 +45,15 @@ impl<I: FallibleIterator> FallibleIterator for Enumerate<I> {
     }
 
     /// One fold of the source, which counts each item.
-    fn drive_nth(&mut self, n: usize) -> Result<Option<(usize, I::Item)>, I::Error> {
+    fn nth(&mut self, n: usize) -> Result<Option<(usize, I::Item)>, I::Error> {
         let mut left = n;
         self.drive(&mut left, &NthTurn)
+    }
+
+    crate::by_drive!(drive);
+
+    fn count(self) -> Result<usize, Self::Error> {
+        self.it.count()
     }
 }
 

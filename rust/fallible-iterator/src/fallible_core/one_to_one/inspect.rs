@@ -37,6 +37,8 @@ impl<I: FallibleIterator, F: FnMut(&I::Item) -> Result<(), I::Error>> FallibleIt
     ) -> Result<Option<R>, I::Error> {
         drive_passing(&mut self.it, &mut self.f, &InspectPass, state, turn)
     }
+
+    crate::by_drive!(drive);
 }
 
 impl<I: DoubleEndedFallibleIterator, F: FnMut(&I::Item) -> Result<(), I::Error>>
@@ -55,6 +57,8 @@ impl<I: DoubleEndedFallibleIterator, F: FnMut(&I::Item) -> Result<(), I::Error>>
     ) -> Result<Option<R>, I::Error> {
         drive_back_passing(&mut self.it, &mut self.f, &InspectPass, state, turn)
     }
+
+    crate::by_drive!(drive_back);
 }
 
 // What becomes of an item after the closure's call.

@@ -46,6 +46,8 @@ impl<I: FallibleIterator, B, F: FnMut(I::Item) -> Result<B, I::Error>> FallibleI
     ) -> Result<Option<R>, I::Error> {
         drive_passing(&mut self.it, &mut self.f, &MapPass, state, turn)
     }
+
+    crate::by_drive!(drive);
 }
 
 impl<I: DoubleEndedFallibleIterator, B, F: FnMut(I::Item) -> Result<B, I::Error>>
@@ -64,6 +66,8 @@ impl<I: DoubleEndedFallibleIterator, B, F: FnMut(I::Item) -> Result<B, I::Error>
     ) -> Result<Option<R>, I::Error> {
         drive_back_passing(&mut self.it, &mut self.f, &MapPass, state, turn)
     }
+
+    crate::by_drive!(drive_back);
 }
 
 // What the closure makes of an item.

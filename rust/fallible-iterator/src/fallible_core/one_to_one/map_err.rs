@@ -45,8 +45,20 @@ impl<I: FallibleIterator, B, F: FnMut(I::Error) -> B> FallibleIterator for MapEr
         failed(self.it.drive_last(), &mut self.f, &MapErrFail)
     }
 
-    fn drive_nth(&mut self, n: usize) -> Result<Option<I::Item>, B> {
-        failed(self.it.drive_nth(n), &mut self.f, &MapErrFail)
+    fn nth(&mut self, n: usize) -> Result<Option<I::Item>, B> {
+        failed(self.it.nth(n), &mut self.f, &MapErrFail)
+    }
+
+    crate::by_drive!(drive);
+
+    fn count(self) -> Result<usize, Self::Error> {
+        let mut f = self.f;
+        failed(self.it.count(), &mut f, &MapErrFail)
+    }
+
+    fn last(self) -> Result<Option<Self::Item>, Self::Error> {
+        let mut f = self.f;
+        failed(self.it.last(), &mut f, &MapErrFail)
     }
 }
 
@@ -66,6 +78,8 @@ impl<I: DoubleEndedFallibleIterator, B, F: FnMut(I::Error) -> B> DoubleEndedFall
     ) -> Result<Option<R>, B> {
         drive_back_failing(&mut self.it, &mut self.f, &MapErrFail, state, turn)
     }
+
+    crate::by_drive!(drive_back);
 }
 
 // What the closure returns for a failure.

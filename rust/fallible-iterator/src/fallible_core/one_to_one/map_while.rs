@@ -36,6 +36,8 @@ impl<I: FallibleIterator, B, F: FnMut(I::Item) -> Result<Option<B>, I::Error>> F
     ) -> Result<Option<R>, I::Error> {
         drive_passing(&mut self.it, &mut self.f, &MapWhilePass, state, turn)
     }
+
+    crate::by_drive!(drive);
 }
 
 // What the closure makes of an item.

@@ -37,6 +37,8 @@ impl<I: FallibleIterator, St, B, F: FnMut(&mut St, I::Item) -> Result<Option<B>,
     ) -> Result<Option<R>, I::Error> {
         drive_passing(&mut self.it, &mut self.scanning, &ScanPass, state, turn)
     }
+
+    crate::by_drive!(drive);
 }
 
 // What the closure makes of the state and an item.

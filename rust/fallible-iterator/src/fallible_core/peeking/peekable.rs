@@ -50,6 +50,8 @@ impl<I: FallibleIterator> FallibleIterator for Peekable<I> {
             None => self.it.drive(state, turn),
         }
     }
+
+    crate::by_drive!(drive);
 }
 
 impl<I: FallibleIterator> Peekable<I> {

@@ -17,8 +17,8 @@ impl<I: FallibleIterator + ?Sized> FallibleIterator for Box<I> {
         (**self).size_hint()
     }
 
-    fn drive_nth(&mut self, n: usize) -> Result<Option<I::Item>, I::Error> {
-        (**self).drive_nth(n)
+    fn nth(&mut self, n: usize) -> Result<Option<I::Item>, I::Error> {
+        (**self).nth(n)
     }
 }
 

@@ -1,7 +1,7 @@
 //! The second end.
 
 use crate::fallible_contract::folds::{TryFoldTurn, Turn};
-use crate::fallible_core::traits::FallibleIterator;
+use crate::fallible_core::traits::{FallibleIterator, Stop};
 use core::ops::ControlFlow;
 
 /// A fallible iterator that is double-ended: it may be drawn from the back as well. Draws from both ends may follow one another in any order.
@@ -56,17 +56,35 @@ pub trait DoubleEndedFallibleIterator: FallibleIterator {
     where
         Self: Sized,
     {
-        let mut left = (*self).number();
-        loop {
-            match self.next_back() {
-                Ok(Some(x)) => match turn.turn(state, x) {
-                    ControlFlow::Continue(()) => {}
-                    ControlFlow::Break(stop) => return Ok(Some(stop)),
-                },
-                Ok(None) => return Ok(None),
-                Err(e) => return Err(e),
-            }
-            left = left.one_less();
+        let folded = self.try_rfold((), |(), x| match turn.turn(state, x) {
+            ControlFlow::Continue(()) => Ok(()),
+            ControlFlow::Break(stop) => Err(Stop::Turn(stop)),
+        });
+        match folded {
+            Ok(()) => Ok(None),
+            Err(Stop::Turn(stop)) => Ok(Some(stop)),
+            Err(Stop::Failure(e)) => Err(e),
+        }
+    }
+
+    #[doc(hidden)]
+    #[inline(always)]
+    fn drive_try_rfold<B, E, F>(&mut self, init: B, f: F) -> Result<B, E>
+    where
+        Self: Sized,
+        E: From<Self::Error>,
+        F: FnMut(B, Self::Item) -> Result<B, E>,
+    {
+        let mut state = (Some(init), f);
+        let answer = self.drive_back(&mut state, &TryFoldTurn);
+        let (value, _) = state;
+        match answer {
+            Ok(None) => match value {
+                Some(value) => Ok(value),
+                None => unreachable!(),
+            },
+            Ok(Some(e)) => Err(e),
+            Err(e) => Err(E::from(e)),
         }
     }
 
@@ -121,23 +139,19 @@ pub trait DoubleEndedFallibleIterator: FallibleIterator {
     ///     (reverse (rest_fold h init (reverse l))) }
     /// ensures stays { Stays (from_back Self.contract ends) self.old self.new }
     /// ```
+    #[inline(always)]
     fn try_rfold<B, E, F>(&mut self, init: B, f: F) -> Result<B, E>
     where
         Self: Sized,
         E: From<Self::Error>,
         F: FnMut(B, Self::Item) -> Result<B, E>,
     {
-        let mut state = (Some(init), f);
-        let answer = self.drive_back(&mut state, &TryFoldTurn);
-        let (value, _) = state;
-        match answer {
-            Ok(None) => match value {
-                Some(value) => Ok(value),
-                None => unreachable!(),
-            },
-            Ok(Some(e)) => Err(e),
-            Err(e) => Err(E::from(e)),
+        let mut f = f;
+        let mut value = init;
+        while let Some(x) = self.next_back()? {
+            value = f(value, x)?;
         }
+        Ok(value)
     }
 
     /// As `try_rfold`, but the closure fails with the iterator's own error, and the iterator is consumed.

@@ -33,6 +33,8 @@ impl<'a, I: FallibleIterator<Item = u32, Error = u32>> FallibleIterator for Watc
         self.folds.set(self.folds.get().wrapping_add(1));
         self.it.drive(state, turn)
     }
+
+    fallible_iterator::by_drive!(drive);
 }
 
 // The sum, which stops with a power of two after a sum of 1.

@@ -19,7 +19,7 @@ pub struct Log {
     pub counts: Cell<u32>,
     /// of `drive_last`, through which `last` goes
     pub lasts: Cell<u32>,
-    /// of `drive_nth`, through which `nth` goes
+    /// of `nth`, through which `nth` goes
     pub nths: Cell<u32>,
     /// of `drive_find`, through which `find` goes
     pub finds: Cell<u32>,
@@ -120,9 +120,9 @@ impl<'a, I: FallibleIterator> FallibleIterator for Counted<'a, I> {
         self.it.drive_last()
     }
 
-    fn drive_nth(&mut self, n: usize) -> Result<Option<I::Item>, I::Error> {
+    fn nth(&mut self, n: usize) -> Result<Option<I::Item>, I::Error> {
         add(&self.log.nths);
-        self.it.drive_nth(n)
+        self.it.nth(n)
     }
 
     fn drive_find<C, K: Test<C, I::Item, I::Error>>(
@@ -133,6 +133,10 @@ impl<'a, I: FallibleIterator> FallibleIterator for Counted<'a, I> {
         add(&self.log.finds);
         self.it.drive_find(state, test)
     }
+
+    fallible_iterator::by_drive!(drive);
+
+    fallible_iterator::by_drive!(drive_find);
 }
 
 impl<'a, I: DoubleEndedFallibleIterator> DoubleEndedFallibleIterator for Counted<'a, I> {
@@ -149,4 +153,6 @@ impl<'a, I: DoubleEndedFallibleIterator> DoubleEndedFallibleIterator for Counted
         add(&self.log.rfolds);
         self.it.drive_back(state, turn)
     }
+
+    fallible_iterator::by_drive!(drive_back);
 }

@@ -16,7 +16,7 @@ pub struct Calls {
     pub counts: u32,
     /// of `drive_last`
     pub lasts: u32,
-    /// of `drive_nth`
+    /// of `nth`
     pub nths: u32,
     /// of `drive_find`
     pub finds: u32,
