@@ -85,8 +85,7 @@ ITERATOR = [
      HEAD + "mod by_drive;\npub mod fallible_contract;\npub mod fallible_core;\npub mod memory;\n", 1),
     # What users need not see.
     (r"lib\.rs", r"^pub mod (?!prelude)\w+;", r"#[doc(hidden)]\n\g<0>", 7),
-    (r"lib\.rs", r"^pub use .*(?:answers::|searching::Test;|\{Collect, Fault|Number;)", r"#[doc(hidden)]\n\g<0>", 4),
-    (r"fallible_core/traits\.rs", r"^    fn (?:number|drive_\w+)\b", r"    #[doc(hidden)]\n\g<0>", 5),
+    (r"lib\.rs", r"^pub use .*(?:answers::|folds::Turn;|searching::Test;|\{Collect, Fault|Number;)", r"#[doc(hidden)]\n\g<0>", 5),
 ]
 
 GROUPS = r"(?:chunks|chunk_by)\.rs"
@@ -175,7 +174,7 @@ ITERTOOLS = [
      r'#[cfg(feature = "std")]\n\g<0>', 5),
     (r"traits\.rs", r"^    fn (?:chunks|chunk_by|join|sorted|sorted_by_key)\b", r'    #[cfg(feature = "alloc")]\n\g<0>', 5),
     (r"traits\.rs", r"^    fn (?:counts|into_group_map|unique)\b", r'    #[cfg(feature = "std")]\n\g<0>', 3),
-    (r"lib\.rs", r"\A(?://!.*\n)+\n", HEAD, 1),
+    (r"lib\.rs", r"\A(?://!.*\n)+\n", HEAD + "mod errors;\n", 1),
     (r"lib\.rs", r"^pub mod \w+;", r"#[doc(hidden)]\n\g<0>", 32),
     (r"(?:batch|chunks|counts|group_map|join|partition_map)\.rs", r"\A(//.*\n\n)", r"\1use fallible_iterator::memory::AllocError;\n", 6),
 ]

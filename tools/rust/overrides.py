@@ -44,7 +44,6 @@ FOLD = '''{
         Ok(value)
     }'''
 DRIVEN_FOLD = '''
-    #[doc(hidden)]
     #[inline(always)]
     fn drive_try_%sfold<B, E, F>(&mut self, init: B, f: F) -> Result<B, E>
     where

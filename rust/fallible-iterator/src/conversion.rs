@@ -32,7 +32,7 @@ pub trait IteratorExt: core::iter::Iterator {
     /// # fn main() { let _ = from_fn_convert_fused_and_transposed_give_each_answer(); }
     /// ```
     ///
-    /// # Contract
+    /// <details><summary>Contract</summary>
     ///
     /// As it is proved, in [these words](crate::words):
     ///
@@ -43,6 +43,7 @@ pub trait IteratorExt: core::iter::Iterator {
     ///     (convert_contract Self.can_next Self.next_gives Self.remaining)).steps result
     ///     (results l) }
     /// ```
+    /// </details>
     fn transpose_into_fallible<T, E>(self) -> Convert<Self>
     where
         Self: Sized + core::iter::Iterator<Item = Result<T, E>>,
@@ -68,7 +69,7 @@ pub trait IteratorExt: core::iter::Iterator {
     /// # fn main() { let _ = sum_below(5); }
     /// ```
     ///
-    /// # Contract
+    /// <details><summary>Contract</summary>
     ///
     /// As it is proved, in [these words](crate::words):
     ///
@@ -79,6 +80,7 @@ pub trait IteratorExt: core::iter::Iterator {
     ///     (into_fallible_contract Self.can_next Self.next_gives Self.remaining)).steps result
     ///     (items l) }
     /// ```
+    /// </details>
     fn into_fallible<T>(self) -> IntoFallible<Self>
     where
         Self: Sized + core::iter::Iterator<Item = T>,

@@ -40,6 +40,7 @@ pub mod words;
 
 #[doc(hidden)]
 pub use crate::fallible_contract::answers::{Answer, Side};
+#[doc(hidden)]
 pub use crate::fallible_contract::folds::Turn;
 #[doc(hidden)]
 pub use crate::fallible_contract::searching::Test;

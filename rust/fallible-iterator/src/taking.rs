@@ -30,7 +30,7 @@ use crate::fallible_core::{FallibleIterator, Peekable};
 /// # fn main() { let _ = number_ahead(&mut fallible_iterator::convert::<u8, u8, _>([Ok(b'1'), Ok(b'2'), Ok(b';')].into_iter()).peekable()); }
 /// ```
 ///
-/// # Contract
+/// <details><summary>Contract</summary>
 ///
 /// As it is proved, in [these words](crate::words):
 ///
@@ -53,6 +53,7 @@ use crate::fallible_core::{FallibleIterator, Peekable};
 /// ensures stays { Stays (seen_as peekable_parts (peekable_contract I.contract))
 ///     ahead.old ahead.new }
 /// ```
+/// </details>
 pub fn fold_if<I, B, P, F>(ahead: &mut Peekable<I>, init: B, test: P, f: F) -> Result<B, I::Error>
 where
     I: FallibleIterator,

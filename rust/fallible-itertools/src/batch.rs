@@ -5,13 +5,14 @@ use fallible_iterator::memory::AllocError;
 
 /// The item alone, with room for at least so many items, or for 1024 if that is less.
 ///
-/// # Contract
+/// <details><summary>Contract</summary>
 ///
 /// As it is proved, in [these words](crate::words):
 ///
 /// ```text
 /// ensures { IfOk result (λ v. (v.items ≡ item ∷ []) × (min room 1024 ≤ vec_capacity v)) }
 /// ```
+/// </details>
 pub fn alone<X>(room: usize, item: X) -> Result<Vec<X>, AllocError> {
     let mut items = Vec::with_capacity(room.min(1024));
     pushed(&mut items, item)?;
@@ -20,7 +21,7 @@ pub fn alone<X>(room: usize, item: X) -> Result<Vec<X>, AllocError> {
 
 /// Appends the item.
 ///
-/// # Contract
+/// <details><summary>Contract</summary>
 ///
 /// As it is proved, in [these words](crate::words):
 ///
@@ -31,6 +32,7 @@ pub fn alone<X>(room: usize, item: X) -> Result<Vec<X>, AllocError> {
 ///     (λ _. (vec_capacity items.old ≤ vec_len items.old)
 ///     × (items.new.items ≡ items.old.items)) }
 /// ```
+/// </details>
 #[inline(always)]
 pub fn pushed<X>(items: &mut Vec<X>, item: X) -> Result<(), AllocError> {
     items.push(item);

@@ -7,46 +7,50 @@ use fallible_iterator::Turn;
 pub trait CheckedTotal: Sized {
     /// Returns what sums begin with: 0.
     ///
-    /// # Contract
+    /// <details><summary>Contract</summary>
     ///
     /// As it is proved, in [these words](crate::words):
     ///
     /// ```text
     /// ensures { result ≡ zero }
     /// ```
+    /// </details>
     fn zero() -> Self;
 
     /// Returns what products begin with: 1.
     ///
-    /// # Contract
+    /// <details><summary>Contract</summary>
     ///
     /// As it is proved, in [these words](crate::words):
     ///
     /// ```text
     /// ensures { result ≡ one }
     /// ```
+    /// </details>
     fn one() -> Self;
 
     /// Returns the sum of the two; `None` if it overflows.
     ///
-    /// # Contract
+    /// <details><summary>Contract</summary>
     ///
     /// As it is proved, in [these words](crate::words):
     ///
     /// ```text
     /// ensures { result ≡ plus self.now other }
     /// ```
+    /// </details>
     fn plus(&self, other: Self) -> Option<Self>;
 
     /// Returns the product of the two; `None` if it overflows.
     ///
-    /// # Contract
+    /// <details><summary>Contract</summary>
     ///
     /// As it is proved, in [these words](crate::words):
     ///
     /// ```text
     /// ensures { result ≡ times self.now other }
     /// ```
+    /// </details>
     fn times(&self, other: Self) -> Option<Self>;
 }
 
@@ -302,13 +306,14 @@ impl<N: CheckedTotal> Turn<N, N, ()> for ProductTurn {
 
 /// What a checked total returns, from what its fold returned and the total that it left: the total at `Ok(None)`, `Ok(None)` if the fold stopped, or the source's failure.
 ///
-/// # Contract
+/// <details><summary>Contract</summary>
 ///
 /// As it is proved, in [these words](crate::words):
 ///
 /// ```text
 /// ensures { result ≡ total_by total answer }
 /// ```
+/// </details>
 pub fn total_or_none<N, E>(answer: Result<Option<()>, E>, total: N) -> Result<Option<N>, E> {
     match answer {
         Ok(None) => Ok(Some(total)),

@@ -8,6 +8,7 @@ use fallible_iterator::{FallibleIterator, Turn};
 
 /// Groups of adjacent items with equal keys, each with its key. A group is buffered until an item with another key comes, or a stop: `Ok(None)` or a failure, which the next call returns. The closure's failure is a stop. Then the item is lost, and no other.
 #[derive(Clone, Debug)]
+#[must_use = "an iterator draws nothing until it is asked"]
 pub struct ChunkBy<I: FallibleIterator, K, F> {
     pub(crate) it: I,
     // the closure, and the buffered group, if there is one

@@ -9,6 +9,7 @@ use fallible_iterator::{FallibleIterator, Turn};
 
 /// Batches of n items. A batch before a stop may have fewer. A batch is buffered until it has n items, or a stop comes: `Ok(None)` or a failure, which the next call returns.
 #[derive(Clone, Debug)]
+#[must_use = "an iterator draws nothing until it is asked"]
 pub struct Chunks<I: FallibleIterator> {
     pub(crate) it: I,
     // how many items a batch has, and the buffered batch, if it has any

@@ -7,7 +7,7 @@ use fallible_iterator::{FallibleIterator, Turn};
 
 /// Draws the left and then the right in each round, until a failure, an `Ok(None)`, or a turn on the two items that stops.
 ///
-/// # Contract
+/// <details><summary>Contract</summary>
 ///
 /// As it is proved, in [these words](crate::words):
 ///
@@ -20,6 +20,7 @@ use fallible_iterator::{FallibleIterator, Turn};
 /// ensures { CompareByDraws (K.turns turn.now) L.contract.steps R.contract.steps left right state
 ///     result }
 /// ```
+/// </details>
 pub fn compare_by<L, R, C, K>(
     left: L,
     right: R,

@@ -6,6 +6,7 @@ use fallible_iterator::{FallibleIterator, Turn};
 
 /// Adjacent items, merged where the closure makes one of two. The item merged so far is buffered until the closure keeps two apart, or a stop comes: `Ok(None)` or a failure, which the next call returns.
 #[derive(Clone, Debug)]
+#[must_use = "an iterator draws nothing until it is asked"]
 pub struct Coalesce<I: FallibleIterator, F> {
     pub(crate) it: I,
     // the buffered item, and the closure

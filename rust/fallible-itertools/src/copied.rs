@@ -5,6 +5,7 @@ use fallible_iterator::{DoubleEndedFallibleIterator, FallibleIterator, Turn};
 
 /// A copy of what each item points to. Failures and `Ok(None)` pass.
 #[derive(Clone, Debug)]
+#[must_use = "an iterator draws nothing until it is asked"]
 pub struct Copied<I> {
     pub(crate) it: I,
 }

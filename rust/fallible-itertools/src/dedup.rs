@@ -6,6 +6,7 @@ use fallible_iterator::{FallibleIterator, Turn};
 
 /// The first of adjacent equal items. It is buffered until an item that differs comes, or a stop: `Ok(None)` or a failure, which the next call returns.
 #[derive(Clone, Debug)]
+#[must_use = "an iterator draws nothing until it is asked"]
 pub struct Dedup<I: FallibleIterator> {
     pub(crate) it: I,
     // the first of equal items, which wasn't yielded yet

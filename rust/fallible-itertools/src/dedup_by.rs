@@ -6,6 +6,7 @@ use fallible_iterator::{FallibleIterator, Turn};
 
 /// The first of adjacent items that the closure finds the same. It is buffered until an item that differs comes, or a stop: `Ok(None)` or a failure, which the next call returns. The closure's failure is a stop.
 #[derive(Clone, Debug)]
+#[must_use = "an iterator draws nothing until it is asked"]
 pub struct DedupBy<I: FallibleIterator, F> {
     pub(crate) it: I,
     // the first of items that are the same, which wasn't yielded yet, and the closure

@@ -6,6 +6,7 @@ use fallible_iterator::{FallibleIterator, Turn};
 
 /// The first of adjacent items with equal keys. It is buffered, with its key, until an item with another key comes, or a stop, which the next call returns.
 #[derive(Clone, Debug)]
+#[must_use = "an iterator draws nothing until it is asked"]
 pub struct DedupByKey<I: FallibleIterator, K, F> {
     pub(crate) it: I,
     // the buffered item with its key, and the closure

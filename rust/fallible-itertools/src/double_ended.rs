@@ -74,7 +74,7 @@ pub trait DoubleEndedFallibleItertools: DoubleEndedFallibleIterator + Sized {
     /// # fn main() { let _ = from_the_back(); }
     /// ```
     ///
-    /// # Contract
+    /// <details><summary>Contract</summary>
     ///
     /// As it is proved, in [these words](crate::words):
     ///
@@ -89,6 +89,7 @@ pub trait DoubleEndedFallibleItertools: DoubleEndedFallibleIterator + Sized {
     ///     (reverse (rest_nth n (reverse l))) }
     /// ensures stays { Stays (from_back Self.contract Self.ends) self.old self.new }
     /// ```
+    /// </details>
     fn nth_back(&mut self, n: usize) -> Result<Option<Self::Item>, Self::Error> {
         nth_from_back(self, n)
     }
@@ -156,7 +157,7 @@ pub trait DoubleEndedFallibleItertools: DoubleEndedFallibleIterator + Sized {
     /// # fn main() { let _ = from_the_back(); }
     /// ```
     ///
-    /// # Contract
+    /// <details><summary>Contract</summary>
     ///
     /// As it is proved, in [these words](crate::words):
     ///
@@ -177,6 +178,7 @@ pub trait DoubleEndedFallibleItertools: DoubleEndedFallibleIterator + Sized {
     ///     (reverse (rest_true h (reverse l))) }
     /// ensures stays { Stays (from_back Self.contract Self.ends) self.old self.new }
     /// ```
+    /// </details>
     fn rfind<F>(&mut self, f: F) -> Result<Option<Self::Item>, Self::Error>
     where
         F: FnMut(&Self::Item) -> Result<bool, Self::Error>,
@@ -248,7 +250,7 @@ pub trait DoubleEndedFallibleItertools: DoubleEndedFallibleIterator + Sized {
     /// # fn main() { let _ = places_from_back(); }
     /// ```
     ///
-    /// # Contract
+    /// <details><summary>Contract</summary>
     ///
     /// As it is proved, in [these words](crate::words):
     ///
@@ -266,6 +268,7 @@ pub trait DoubleEndedFallibleItertools: DoubleEndedFallibleIterator + Sized {
     ///     × ListsBothEnds Self.contract.steps Self.ends.steps self.new (rest_position h l) }
     /// ensures kept { KeptByDraws (from_front Self.contract Self.ends) self.old self.new }
     /// ```
+    /// </details>
     fn rposition<F>(&mut self, f: F) -> Result<Option<usize>, Self::Error>
     where
         F: FnMut(Self::Item) -> Result<bool, Self::Error>,

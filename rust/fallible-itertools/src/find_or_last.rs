@@ -25,13 +25,14 @@ impl<A, E, F: FnMut(&A) -> Result<bool, E>> Turn<(Option<A>, F), A, Result<Optio
 
 /// Returns what a search found, or the last item if it found nothing.
 ///
-/// # Contract
+/// <details><summary>Contract</summary>
 ///
 /// As it is proved, in [these words](crate::words):
 ///
 /// ```text
 /// ensures { result ≡ found_or found (Ok last) }
 /// ```
+/// </details>
 pub fn or_last<A, E>(found: Result<Option<A>, E>, last: Option<A>) -> Result<Option<A>, E> {
     match found {
         Ok(Some(item)) => Ok(Some(item)),

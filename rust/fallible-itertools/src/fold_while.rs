@@ -15,13 +15,14 @@ pub enum FoldWhile<B> {
 impl<B> FoldWhile<B> {
     /// Returns the value, of either variant.
     ///
-    /// # Contract
+    /// <details><summary>Contract</summary>
     ///
     /// As it is proved, in [these words](crate::words):
     ///
     /// ```text
     /// ensures { result ≡ value_of self }
     /// ```
+    /// </details>
     pub fn into_inner(self) -> B {
         match self {
             FoldWhile::Continue(value) => value,
@@ -31,13 +32,14 @@ impl<B> FoldWhile<B> {
 
     /// Returns whether it is `Done`.
     ///
-    /// # Contract
+    /// <details><summary>Contract</summary>
     ///
     /// As it is proved, in [these words](crate::words):
     ///
     /// ```text
     /// ensures { result ≡ is_done_at self.now }
     /// ```
+    /// </details>
     pub fn is_done(&self) -> bool {
         matches!(self, FoldWhile::Done(_))
     }
@@ -68,7 +70,7 @@ impl<A, B, E, F: FnMut(B, A) -> Result<FoldWhile<B>, E>> Turn<(Option<B>, F), A,
 
 /// What `fold_while` returns, from what its fold returned and the value that it left: that value at `Ok(None)`, what the fold stopped with, or the source's failure.
 ///
-/// # Contract
+/// <details><summary>Contract</summary>
 ///
 /// As it is proved, in [these words](crate::words):
 ///
@@ -77,6 +79,7 @@ impl<A, B, E, F: FnMut(B, A) -> Result<FoldWhile<B>, E>> Turn<(Option<B>, F), A,
 /// ensures { (stop : Result B (Result B E)) × IsStop answer value stop
 ///     × (result ≡ while_answer stop) }
 /// ```
+/// </details>
 pub fn while_or_stop<B, E>(
     answer: Result<Option<Result<B, E>>, E>,
     value: Option<B>,

@@ -11,7 +11,7 @@ pub trait Hold<P, X, E> {
 
     /// What becomes of an item or a stop.
     ///
-    /// # Contract
+    /// <details><summary>Contract</summary>
     ///
     /// As it is proved, in [these words](crate::words):
     ///
@@ -19,6 +19,7 @@ pub trait Hold<P, X, E> {
     /// requires { can_ask self.now holds.old asked }
     /// ensures { asks self.now holds.old asked result holds.new }
     /// ```
+    /// </details>
     fn ask(&self, holds: &mut P, asked: Option<X>) -> Outcome<Self::Kept, E>;
 }
 
@@ -40,7 +41,7 @@ impl<'a, P, X, E, A: Hold<P, X, E>> Pass<P, X, E> for OfItems<'a, A> {
 
 /// The fold of such an adapter: the stop that is due, without a draw; otherwise the source's fold, and at its stop the turn on what is buffered. If that turn stops the fold, the stop is due.
 ///
-/// # Contract
+/// <details><summary>Contract</summary>
 ///
 /// As it is proved, in [these words](crate::words):
 ///
@@ -53,6 +54,7 @@ impl<'a, P, X, E, A: Hold<P, X, E>> Pass<P, X, E> for OfItems<'a, A> {
 ///     (K.turns turn.now) (it.old, (holds.old, due.old)) state.old result
 ///     (it.new, (holds.new, due.new)) state.new }
 /// ```
+/// </details>
 pub fn drive_holding<
     I: FallibleIterator,
     P,
@@ -81,7 +83,7 @@ pub fn drive_holding<
 
 /// What one call returns at a stop: what is buffered, and then the stop is due; or the stop itself if nothing is yielded.
 ///
-/// # Contract
+/// <details><summary>Contract</summary>
 ///
 /// As it is proved, in [these words](crate::words):
 ///
@@ -90,6 +92,7 @@ pub fn drive_holding<
 /// requires can_ask { A.can_ask adapter.now holds.old None }
 /// ensures { AtStop (A.asks adapter.now) holds.old stop result (holds.new, due.new) }
 /// ```
+/// </details>
 pub fn at_stop<P, X, E, A: Hold<P, X, E>>(
     stop: Option<E>,
     holds: &mut P,
@@ -135,13 +138,14 @@ fn answered<R, E>(stop: Option<E>) -> Result<Option<R>, E> {
 
 /// The hint of such an adapter if no stop is due: at least one item if the source has at least one or one is buffered, and at most the source's and what is buffered.
 ///
-/// # Contract
+/// <details><summary>Contract</summary>
 ///
 /// As it is proved, in [these words](crate::words):
 ///
 /// ```text
 /// ensures { HintHeld (if is_held then 1 else 0) hint result }
 /// ```
+/// </details>
 pub fn with_held(hint: (usize, Option<usize>), is_held: bool) -> (usize, Option<usize>) {
     let low = if hint.0 > 0 || is_held { 1 } else { 0 };
     let high = match hint.1 {

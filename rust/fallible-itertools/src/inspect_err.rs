@@ -5,6 +5,7 @@ use fallible_iterator::{DoubleEndedFallibleIterator, FallibleIterator, Turn};
 
 /// What the source returns. The closure is called on a reference to each failure first.
 #[derive(Clone, Debug)]
+#[must_use = "an iterator draws nothing until it is asked"]
 pub struct InspectErr<I, F> {
     pub(crate) it: I,
     pub(crate) f: F,

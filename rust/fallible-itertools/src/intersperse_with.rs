@@ -5,6 +5,7 @@ use fallible_iterator::{FallibleIterator, Turn};
 
 /// The items of the source with what the closure returns between each two adjacent ones. An item that was drawn is buffered while the separator before it is yielded.
 #[derive(Clone, Debug)]
+#[must_use = "an iterator draws nothing until it is asked"]
 pub struct IntersperseWith<I: FallibleIterator, F> {
     pub(crate) it: I,
     // the closure, whether an item came, and the buffered item

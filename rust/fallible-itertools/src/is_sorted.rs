@@ -5,13 +5,14 @@ use fallible_iterator::Turn;
 
 /// Whether a key may come after the last one: if there is none, or if it isn't below it. Keys that can't be compared are out of order.
 ///
-/// # Contract
+/// <details><summary>Contract</summary>
 ///
 /// As it is proved, in [these words](crate::words):
 ///
 /// ```text
 /// ensures { result ≡ comes_after K.partial_cmp last.now key.now }
 /// ```
+/// </details>
 pub fn may_come_after<K: PartialOrd>(last: &Option<K>, key: &K) -> bool {
     match last {
         Some(last) => last <= key,

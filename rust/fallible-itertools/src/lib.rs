@@ -49,6 +49,7 @@ pub mod dedup_by_key;
 #[doc(hidden)]
 pub mod double_ended;
 mod equal;
+mod errors;
 #[doc(hidden)]
 pub mod exactly_one;
 mod find_or_last;

@@ -19,13 +19,14 @@ pub enum MinMaxResult<T> {
 impl<T: Copy> MinMaxResult<T> {
     /// Returns the least item and the greatest, which are one and the same if one item came; `None` if no item came.
     ///
-    /// # Contract
+    /// <details><summary>Contract</summary>
     ///
     /// As it is proved, in [these words](crate::words):
     ///
     /// ```text
     /// ensures { result ≡ least_and_greatest self }
     /// ```
+    /// </details>
     pub fn into_option(self) -> Option<(T, T)> {
         match self {
             MinMaxResult::NoElements => None,
@@ -37,13 +38,14 @@ impl<T: Copy> MinMaxResult<T> {
 
 /// Returns the least and the greatest after one more item: the first of equal least ones, and the last of equal greatest ones.
 ///
-/// # Contract
+/// <details><summary>Contract</summary>
 ///
 /// As it is proved, in [these words](crate::words):
 ///
 /// ```text
 /// ensures { result ≡ with_item A.cmp so_far item }
 /// ```
+/// </details>
 pub fn widened<A: Ord>(so_far: MinMaxResult<A>, item: A) -> MinMaxResult<A> {
     match so_far {
         MinMaxResult::NoElements => MinMaxResult::OneElement(item),

@@ -7,6 +7,7 @@ use fallible_iterator::{DoubleEndedFallibleIterator, FallibleIterator, Turn};
 
 /// What the source returns, with each failure replaced by what the closure returns for it: an item, nothing or another failure. Items and `Ok(None)` pass.
 #[derive(Clone, Debug)]
+#[must_use = "an iterator draws nothing until it is asked"]
 pub struct OrElse<I, F> {
     pub(crate) it: I,
     pub(crate) f: F,

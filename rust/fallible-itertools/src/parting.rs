@@ -8,7 +8,7 @@ use fallible_iterator::{FallibleIterator, Turn};
 pub trait Separate<Z, X, E> {
     /// Makes a separator.
     ///
-    /// # Contract
+    /// <details><summary>Contract</summary>
     ///
     /// As it is proved, in [these words](crate::words):
     ///
@@ -16,12 +16,13 @@ pub trait Separate<Z, X, E> {
     /// requires { can_separate self.now state.old }
     /// ensures { separates self.now state.old result state.new }
     /// ```
+    /// </details>
     fn separate(&self, state: &mut Z) -> Result<X, E>;
 }
 
 /// One answer: the buffered item without a draw, or what becomes of one that is drawn.
 ///
-/// # Contract
+/// <details><summary>Contract</summary>
 ///
 /// As it is proved, in [these words](crate::words):
 ///
@@ -31,6 +32,7 @@ pub trait Separate<Z, X, E> {
 /// ensures { parting_step (S.separates maker.now) I.contract.steps (it.old, parting.old) result
 ///     (it.new, parting.new) }
 /// ```
+/// </details>
 pub fn next_parting<I: FallibleIterator, Z, S: Separate<Z, I::Item, I::Error>>(
     it: &mut I,
     parting: &mut (Z, (bool, Option<I::Item>)),
@@ -69,7 +71,7 @@ fn placed<Z, X, E, S: Separate<Z, X, E>>(
 
 /// The turn on the buffered item, and then the source's fold, whose turn is one on what stands before the item and one on the item.
 ///
-/// # Contract
+/// <details><summary>Contract</summary>
 ///
 /// As it is proved, in [these words](crate::words):
 ///
@@ -82,6 +84,7 @@ fn placed<Z, X, E, S: Separate<Z, X, E>>(
 /// ensures { Driven (parting_step (S.separates maker.now) I.contract.steps) (K.turns turn.now)
 ///     (it.old, parting.old) state.old result (it.new, parting.new) state.new }
 /// ```
+/// </details>
 pub fn drive_parting<
     I: FallibleIterator,
     Z,
@@ -197,13 +200,14 @@ fn held_turn<P, X, E, L: Place<P, X, E>, C, R, K: Turn<C, X, R>>(
 
 /// How many items come of as many of the source as the hint says.
 ///
-/// # Contract
+/// <details><summary>Contract</summary>
 ///
 /// As it is proved, in [these words](crate::words):
 ///
 /// ```text
 /// ensures { result ≡ intersperse_hint placing.now hint }
 /// ```
+/// </details>
 pub fn hint_parting<X>(
     hint: (usize, Option<usize>),
     placing: &(bool, Option<X>),

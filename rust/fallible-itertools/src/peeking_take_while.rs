@@ -8,7 +8,7 @@ pub trait PeekingNext: FallibleIterator + Sized {
     ///
     /// It draws once, or looks ahead if the item is rejected. It fails as `next` does. If the closure fails, its failure is returned, and the item is lost. The iterator may be used again.
     ///
-    /// # Contract
+    /// <details><summary>Contract</summary>
     ///
     /// As it is proved, in [these words](crate::words):
     ///
@@ -19,6 +19,7 @@ pub trait PeekingNext: FallibleIterator + Sized {
     /// ensures { peeking_step Self.contract.steps looks (call_at F.FnMut)
     ///     (self.old, accept.old) result (self.new, accept.new) }
     /// ```
+    /// </details>
     fn next_accepted<F>(&mut self, accept: &mut F) -> Result<Option<Self::Item>, Self::Error>
     where
         F: FnMut(&Self::Item) -> Result<bool, Self::Error>;
@@ -45,7 +46,7 @@ pub trait PeekingNext: FallibleIterator + Sized {
     /// # fn main() { let _ = before_a_low_one(&mut fallible_iterator::convert::<u32, u8, _>([Ok(150), Ok(7), Ok(700), Ok(0), Ok(600)].into_iter()).peekable()); }
     /// ```
     ///
-    /// # Contract
+    /// <details><summary>Contract</summary>
     ///
     /// As it is proved, in [these words](crate::words):
     ///
@@ -59,6 +60,7 @@ pub trait PeekingNext: FallibleIterator + Sized {
     ///     (λ h l. Lists (seen_as peeking_parts (peeking_contract (borrowed Self.contract)
     ///     (borrowed_looks looks) F.FnMut)).steps result (taken_while h l)) }
     /// ```
+    /// </details>
     fn peeking_take_while<F>(&mut self, accept: F) -> PeekingTakeWhile<&mut Self, F>
     where
         F: FnMut(&Self::Item) -> Result<bool, Self::Error>,
@@ -109,6 +111,7 @@ impl<P: PeekingNext> PeekingNext for &mut P {
 
 /// The items of what looks ahead up to the first one that the closure rejects, which stays next. A call there returns `Ok(None)`, and the next call calls the closure on the same item again. An item on which the closure fails is lost, and its failure is yielded.
 #[derive(Clone, Debug)]
+#[must_use = "an iterator draws nothing until it is asked"]
 pub struct PeekingTakeWhile<P, F> {
     pub(crate) it: P,
     pub(crate) accept: F,

@@ -85,7 +85,7 @@ pub trait FallibleItertools: FallibleIterator + Sized {
     /// # fn main() { let _ = peaks(vec![Ok(150), Ok(7), Ok(700), Ok(0), Ok(600)]); }
     /// ```
     ///
-    /// # Contract
+    /// <details><summary>Contract</summary>
     ///
     /// As it is proved, in [these words](crate::words):
     ///
@@ -101,6 +101,7 @@ pub trait FallibleItertools: FallibleIterator + Sized {
     ///     (coalesce.coalesce_contract Self.contract F.FnMut)).steps result
     ///     (coalesce.coalesced h l) }
     /// ```
+    /// </details>
     fn coalesce<F>(self, f: F) -> Coalesce<Self, F>
     where
         F: FnMut(
@@ -135,7 +136,7 @@ pub trait FallibleItertools: FallibleIterator + Sized {
     /// # fn main() { let _ = first_of_each_ten(vec![Ok(150), Ok(7), Ok(700), Ok(0), Ok(600)]); }
     /// ```
     ///
-    /// # Contract
+    /// <details><summary>Contract</summary>
     ///
     /// As it is proved, in [these words](crate::words):
     ///
@@ -153,6 +154,7 @@ pub trait FallibleItertools: FallibleIterator + Sized {
     ///     (dedup_by_key.dedup_by_key_contract K.eq Self.contract F.FnMut)).steps result
     ///     (dedup_by_key.deduped_by_key K.eq h l) }
     /// ```
+    /// </details>
     fn dedup_by_key<K, F>(self, f: F) -> DedupByKey<Self, K, F>
     where
         K: PartialEq,
@@ -182,7 +184,7 @@ pub trait FallibleItertools: FallibleIterator + Sized {
     /// # fn main() { let _ = changes_of_tens(vec![Ok(150), Ok(7), Ok(700), Ok(0), Ok(600)]); }
     /// ```
     ///
-    /// # Contract
+    /// <details><summary>Contract</summary>
     ///
     /// As it is proved, in [these words](crate::words):
     ///
@@ -196,6 +198,7 @@ pub trait FallibleItertools: FallibleIterator + Sized {
     ///     → list.Lists (seen_as dedup_by_parts (dedup_by_contract Self.contract F.FnMut)).steps
     ///     result (deduped_by h l) }
     /// ```
+    /// </details>
     fn dedup_by<F>(self, same: F) -> DedupBy<Self, F>
     where
         F: FnMut(&Self::Item, &Self::Item) -> Result<bool, Self::Error>,
@@ -222,7 +225,7 @@ pub trait FallibleItertools: FallibleIterator + Sized {
     /// # fn main() { let _ = changes(vec![Ok(150), Ok(7), Ok(700), Ok(0), Ok(600)]); }
     /// ```
     ///
-    /// # Contract
+    /// <details><summary>Contract</summary>
     ///
     /// As it is proved, in [these words](crate::words):
     ///
@@ -233,6 +236,7 @@ pub trait FallibleItertools: FallibleIterator + Sized {
     ///     → list.Lists (seen_as dedup_parts (dedup_contract Self.Item.eq Self.contract)).steps
     ///     result (deduped Self.Item.eq l) }
     /// ```
+    /// </details>
     fn dedup(self) -> Dedup<Self>
     where
         Self::Item: PartialEq,
@@ -267,7 +271,7 @@ pub trait FallibleItertools: FallibleIterator + Sized {
     /// # fn main() { let _ = commas(vec![Ok(150), Ok(7), Ok(700), Ok(0), Ok(600)]); }
     /// ```
     ///
-    /// # Contract
+    /// <details><summary>Contract</summary>
     ///
     /// As it is proved, in [these words](crate::words):
     ///
@@ -278,6 +282,7 @@ pub trait FallibleItertools: FallibleIterator + Sized {
     ///     → list.Lists (seen_as with_position_parts (with_position_contract Self.contract)).steps
     ///     result (positioned l) }
     /// ```
+    /// </details>
     fn with_position(self) -> WithPosition<Self> {
         WithPosition {
             it: self,
@@ -363,7 +368,7 @@ pub trait FallibleItertools: FallibleIterator + Sized {
     /// # fn main() { let _ = tuple_windows_pairs_over_failures_and_ends(); }
     /// ```
     ///
-    /// # Contract
+    /// <details><summary>Contract</summary>
     ///
     /// As it is proved, in [these words](crate::words):
     ///
@@ -377,6 +382,7 @@ pub trait FallibleItertools: FallibleIterator + Sized {
     ///     Self.Item.is_infallible Self.Error.from_gives Self.contract)).steps result
     ///     (windowed l) }
     /// ```
+    /// </details>
     fn tuple_windows(self) -> TupleWindows<Self>
     where
         Self::Item: Clone,
@@ -422,7 +428,7 @@ pub trait FallibleItertools: FallibleIterator + Sized {
     /// # fn main() { let _ = check_each(vec![Ok(150), Ok(7), Ok(700), Ok(0), Ok(600)]); }
     /// ```
     ///
-    /// # Contract
+    /// <details><summary>Contract</summary>
     ///
     /// As it is proved, in [these words](crate::words):
     ///
@@ -441,6 +447,7 @@ pub trait FallibleItertools: FallibleIterator + Sized {
     ///     → list.Lists Self.contract.steps self.new (trying.rest_try_each h l)) }
     /// ensures stays { Stays Self.contract self.old self.new }
     /// ```
+    /// </details>
     fn try_for_each<E, F>(&mut self, f: F) -> Result<(), E>
     where
         E: From<Self::Error>,
@@ -481,7 +488,7 @@ pub trait FallibleItertools: FallibleIterator + Sized {
     /// # fn main() { let _ = find_seven(vec![Ok(150), Ok(7), Ok(700), Ok(0), Ok(600)]); }
     /// ```
     ///
-    /// # Contract
+    /// <details><summary>Contract</summary>
     ///
     /// As it is proved, in [these words](crate::words):
     ///
@@ -500,6 +507,7 @@ pub trait FallibleItertools: FallibleIterator + Sized {
     ///     → list.Lists Self.contract.steps self.new (trying.rest_try_true h l)) }
     /// ensures stays { Stays Self.contract self.old self.new }
     /// ```
+    /// </details>
     fn try_find<E, F>(&mut self, f: F) -> Result<Option<Self::Item>, E>
     where
         E: From<Self::Error>,
@@ -539,7 +547,7 @@ pub trait FallibleItertools: FallibleIterator + Sized {
     /// # fn main() { let _ = place_of_seven(fallible_iterator::convert::<u32, u8, _>([Ok(150), Ok(7), Ok(700), Ok(0), Ok(600)].into_iter())); }
     /// ```
     ///
-    /// # Contract
+    /// <details><summary>Contract</summary>
     ///
     /// As it is proved, in [these words](crate::words):
     ///
@@ -558,6 +566,7 @@ pub trait FallibleItertools: FallibleIterator + Sized {
     ///     → list.Lists Self.contract.steps self.new (trying.rest_try_true h l)) }
     /// ensures stays { Stays Self.contract self.old self.new }
     /// ```
+    /// </details>
     fn try_position<E, F>(&mut self, f: F) -> Result<Option<usize>, E>
     where
         E: From<Self::Error>,
@@ -588,7 +597,7 @@ pub trait FallibleItertools: FallibleIterator + Sized {
     /// # fn main() { let _ = after_zero(vec![Ok(150), Ok(7), Ok(700), Ok(0), Ok(600)]); }
     /// ```
     ///
-    /// # Contract
+    /// <details><summary>Contract</summary>
     ///
     /// As it is proved, in [these words](crate::words):
     ///
@@ -604,6 +613,7 @@ pub trait FallibleItertools: FallibleIterator + Sized {
     ///     → list.Lists Self.contract.steps self.new (rest_contained Self.Item.eq wanted.now l)) }
     /// ensures stays { Stays Self.contract self.old self.new }
     /// ```
+    /// </details>
     fn contains(&mut self, wanted: &Self::Item) -> Result<bool, Self::Error>
     where
         Self::Item: PartialEq,
@@ -630,7 +640,7 @@ pub trait FallibleItertools: FallibleIterator + Sized {
     /// # fn main() { let _ = above_100_equal(vec![Ok(150), Ok(7), Ok(700), Ok(0), Ok(600)]); }
     /// ```
     ///
-    /// # Contract
+    /// <details><summary>Contract</summary>
     ///
     /// As it is proved, in [these words](crate::words):
     ///
@@ -646,6 +656,7 @@ pub trait FallibleItertools: FallibleIterator + Sized {
     ///     → list.Lists Self.contract.steps self.new (rest_unequal Self.Item.eq l)) }
     /// ensures stays { Stays Self.contract self.old self.new }
     /// ```
+    /// </details>
     fn all_equal(&mut self) -> Result<bool, Self::Error>
     where
         Self::Item: PartialEq,
@@ -670,7 +681,7 @@ pub trait FallibleItertools: FallibleIterator + Sized {
     /// # fn main() { let _ = above_100_or_last(vec![Ok(150), Ok(7), Ok(700), Ok(0), Ok(600)]); }
     /// ```
     ///
-    /// # Contract
+    /// <details><summary>Contract</summary>
     ///
     /// As it is proved, in [these words](crate::words):
     ///
@@ -684,6 +695,7 @@ pub trait FallibleItertools: FallibleIterator + Sized {
     /// ensures value { OverListWith (list.Acts (call_at F.FnMut) f) Self.contract.steps self
     ///     (λ h l. result ≡ found_or_last h l) }
     /// ```
+    /// </details>
     fn find_or_last<F>(mut self, f: F) -> Result<Option<Self::Item>, Self::Error>
     where
         F: FnMut(&Self::Item) -> Result<bool, Self::Error>,
@@ -713,7 +725,7 @@ pub trait FallibleItertools: FallibleIterator + Sized {
     /// # fn main() { let _ = sum_above_100(vec![Ok(150), Ok(7), Ok(700), Ok(0), Ok(600)]); }
     /// ```
     ///
-    /// # Contract
+    /// <details><summary>Contract</summary>
     ///
     /// As it is proved, in [these words](crate::words):
     ///
@@ -724,6 +736,7 @@ pub trait FallibleItertools: FallibleIterator + Sized {
     /// ensures value { OverList Self.contract.steps self
     ///     (λ l. result ≡ totalled Self.Item.plus Self.Item.zero l) }
     /// ```
+    /// </details>
     fn checked_sum(mut self) -> Result<Option<Self::Item>, Self::Error>
     where
         Self::Item: CheckedTotal,
@@ -747,7 +760,7 @@ pub trait FallibleItertools: FallibleIterator + Sized {
     /// # fn main() { let _ = product_of_three(fallible_iterator::convert::<i64, u8, _>([Ok(150), Ok(7), Ok(700), Ok(0), Ok(600)].into_iter())); }
     /// ```
     ///
-    /// # Contract
+    /// <details><summary>Contract</summary>
     ///
     /// As it is proved, in [these words](crate::words):
     ///
@@ -759,6 +772,7 @@ pub trait FallibleItertools: FallibleIterator + Sized {
     /// ensures value { OverList Self.contract.steps self
     ///     (λ l. result ≡ totalled Self.Item.times Self.Item.one l) }
     /// ```
+    /// </details>
     fn checked_product(mut self) -> Result<Option<Self::Item>, Self::Error>
     where
         Self::Item: CheckedTotal,
@@ -794,7 +808,7 @@ pub trait FallibleItertools: FallibleIterator + Sized {
     /// # fn main() { let _ = sum_up_to_zero(vec![Ok(150), Ok(7), Ok(700), Ok(0), Ok(600)]); }
     /// ```
     ///
-    /// # Contract
+    /// <details><summary>Contract</summary>
     ///
     /// As it is proved, in [these words](crate::words):
     ///
@@ -815,6 +829,7 @@ pub trait FallibleItertools: FallibleIterator + Sized {
     ///     → list.Lists Self.contract.steps self.new (rest_while h init l)) }
     /// ensures stays { Stays Self.contract self.old self.new }
     /// ```
+    /// </details>
     fn fold_while<B, F>(&mut self, init: B, f: F) -> Result<FoldWhile<B>, Self::Error>
     where
         F: FnMut(B, Self::Item) -> Result<FoldWhile<B>, Self::Error>,
@@ -844,7 +859,7 @@ pub trait FallibleItertools: FallibleIterator + Sized {
     /// # fn main() { let _ = last_digits_sorted(vec![Ok(150), Ok(7), Ok(700), Ok(0), Ok(600)]); }
     /// ```
     ///
-    /// # Contract
+    /// <details><summary>Contract</summary>
     ///
     /// As it is proved, in [these words](crate::words):
     ///
@@ -860,6 +875,7 @@ pub trait FallibleItertools: FallibleIterator + Sized {
     ///     → OverListWith (list.Acts (call_on F.FnMut) f) Self.contract.steps self
     ///     (λ h l. result ≡ in_order_by_key order h l) }
     /// ```
+    /// </details>
     fn is_sorted_by_key<K, F>(mut self, f: F) -> Result<bool, Self::Error>
     where
         K: PartialOrd,
@@ -888,7 +904,7 @@ pub trait FallibleItertools: FallibleIterator + Sized {
     /// # fn main() { let _ = above_100_sorted(vec![Ok(150), Ok(7), Ok(700), Ok(0), Ok(600)]); }
     /// ```
     ///
-    /// # Contract
+    /// <details><summary>Contract</summary>
     ///
     /// As it is proved, in [these words](crate::words):
     ///
@@ -902,6 +918,7 @@ pub trait FallibleItertools: FallibleIterator + Sized {
     ///     → order ≡ Self.Item.partial_cmp
     ///     → OverList Self.contract.steps self (λ l. result ≡ in_order order l) }
     /// ```
+    /// </details>
     fn is_sorted(mut self) -> Result<bool, Self::Error>
     where
         Self::Item: PartialOrd,
@@ -930,7 +947,7 @@ pub trait FallibleItertools: FallibleIterator + Sized {
     /// # fn main() { let _ = sum_of_copies(vec![Ok(&1), Ok(&2)]); }
     /// ```
     ///
-    /// # Contract
+    /// <details><summary>Contract</summary>
     ///
     /// As it is proved, in [these words](crate::words):
     ///
@@ -940,6 +957,7 @@ pub trait FallibleItertools: FallibleIterator + Sized {
     ///     (λ l. list.Lists (seen_as copied_parts (copied_contract Self.contract)).steps
     ///     result (list.pointed_to l)) }
     /// ```
+    /// </details>
     fn copied<'a, T: 'a>(self) -> Copied<Self>
     where
         Self: FallibleIterator<Item = &'a T>,
@@ -966,7 +984,7 @@ pub trait FallibleItertools: FallibleIterator + Sized {
     /// # fn main() { let _ = up_to_a_low_one(vec![Ok(150), Ok(7), Ok(700), Ok(0), Ok(600)]); }
     /// ```
     ///
-    /// # Contract
+    /// <details><summary>Contract</summary>
     ///
     /// As it is proved, in [these words](crate::words):
     ///
@@ -981,6 +999,7 @@ pub trait FallibleItertools: FallibleIterator + Sized {
     ///     (inclusive.inclusive_contract Self.contract P.FnMut)).steps
     ///     result (inclusive.taken_while_inclusive h l)) }
     /// ```
+    /// </details>
     fn take_while_inclusive<P>(self, predicate: P) -> TakeWhileInclusive<Self, P>
     where
         P: FnMut(&Self::Item) -> Result<bool, Self::Error>,
@@ -1010,7 +1029,7 @@ pub trait FallibleItertools: FallibleIterator + Sized {
     /// # fn main() {  }
     /// ```
     ///
-    /// # Contract
+    /// <details><summary>Contract</summary>
     ///
     /// As it is proved, in [these words](crate::words):
     ///
@@ -1024,6 +1043,7 @@ pub trait FallibleItertools: FallibleIterator + Sized {
     ///     (λ l. list.Lists (seen_as inspect_err_parts
     ///     (inspect_err_contract Self.contract F.FnMut)).steps result l) }
     /// ```
+    /// </details>
     fn inspect_err<F>(self, f: F) -> InspectErr<Self, F>
     where
         F: FnMut(&Self::Error),
@@ -1046,7 +1066,7 @@ pub trait FallibleItertools: FallibleIterator + Sized {
     /// # fn main() { let _ = count_good(vec![Ok(150), Ok(7), Ok(700), Ok(0), Ok(600)]); }
     /// ```
     ///
-    /// # Contract
+    /// <details><summary>Contract</summary>
     ///
     /// As it is proved, in [these words](crate::words):
     ///
@@ -1058,6 +1078,7 @@ pub trait FallibleItertools: FallibleIterator + Sized {
     ///     (λ h l. list.Lists (seen_as or_else_parts
     ///     (or_else_contract Self.contract F.FnMut)).steps result (recovered h l)) }
     /// ```
+    /// </details>
     fn or_else<E, F>(self, f: F) -> OrElse<Self, F>
     where
         F: FnMut(Self::Error) -> Result<Option<Self::Item>, E>,
@@ -1087,7 +1108,7 @@ pub trait FallibleItertools: FallibleIterator + Sized {
     /// # fn main() { let _ = last_of_both(vec![Ok(150), Ok(7), Ok(700), Ok(0), Ok(600)], vec![Ok(150), Ok(7), Ok(700), Ok(0), Ok(600)]); }
     /// ```
     ///
-    /// # Contract
+    /// <details><summary>Contract</summary>
     ///
     /// As it is proved, in [these words](crate::words):
     ///
@@ -1111,6 +1132,7 @@ pub trait FallibleItertools: FallibleIterator + Sized {
     ///     Self.contract I.IntoFallibleIter.contract)).steps result
     ///     (merged_in_order Self.Item.partial_cmp a b)) }
     /// ```
+    /// </details>
     fn merge<I>(self, other: I) -> Merge<Self, I::IntoFallibleIter>
     where
         I: IntoFallibleIterator<Item = Self::Item, Error = Self::Error>,
@@ -1145,7 +1167,7 @@ pub trait FallibleItertools: FallibleIterator + Sized {
     /// # fn main() { let _ = readings_merged(vec![Ok(150), Ok(7), Ok(700), Ok(0), Ok(600)], vec![Ok(150), Ok(7), Ok(700), Ok(0), Ok(600)]); }
     /// ```
     ///
-    /// # Contract
+    /// <details><summary>Contract</summary>
     ///
     /// As it is proved, in [these words](crate::words):
     ///
@@ -1178,6 +1200,7 @@ pub trait FallibleItertools: FallibleIterator + Sized {
     ///     (merge_by.merge_by_contract Self.contract
     ///     I.IntoFallibleIter.contract F.FnMut)).steps result (merge_by.merged h a b)) }
     /// ```
+    /// </details>
     fn merge_by<I, F>(self, other: I, f: F) -> MergeBy<Self, I::IntoFallibleIter, F>
     where
         I: IntoFallibleIterator<Item = Self::Item, Error = Self::Error>,
@@ -1213,7 +1236,7 @@ pub trait FallibleItertools: FallibleIterator + Sized {
     /// # fn main() { let _ = places_of_both(vec![Ok(150), Ok(7), Ok(700), Ok(0), Ok(600)], vec![Ok(150), Ok(7), Ok(700), Ok(0), Ok(600)]); }
     /// ```
     ///
-    /// # Contract
+    /// <details><summary>Contract</summary>
     ///
     /// As it is proved, in [these words](crate::words):
     ///
@@ -1236,6 +1259,7 @@ pub trait FallibleItertools: FallibleIterator + Sized {
     ///     (zip_longest.zip_longest_contract Self.contract
     ///     I.IntoFallibleIter.contract)).steps result (zip_longest.zipped_longest a b)) }
     /// ```
+    /// </details>
     fn zip_longest<I>(self, other: I) -> ZipLongest<Self, I::IntoFallibleIter>
     where
         I: IntoFallibleIterator<Error = Self::Error>,
@@ -1269,7 +1293,7 @@ pub trait FallibleItertools: FallibleIterator + Sized {
     /// # fn main() { let _ = only_above_100(vec![Ok(150), Ok(7), Ok(700), Ok(0), Ok(600)]); }
     /// ```
     ///
-    /// # Contract
+    /// <details><summary>Contract</summary>
     ///
     /// As it is proved, in [these words](crate::words):
     ///
@@ -1285,6 +1309,7 @@ pub trait FallibleItertools: FallibleIterator + Sized {
     ///     → list.Lists Self.contract.steps self.new (list.rest_nth 1 l)) }
     /// ensures stays { Stays Self.contract self.old self.new }
     /// ```
+    /// </details>
     fn at_most_one(
         &mut self,
     ) -> Result<Result<Option<Self::Item>, (Self::Item, Self::Item)>, Self::Error> {
@@ -1316,7 +1341,7 @@ pub trait FallibleItertools: FallibleIterator + Sized {
     /// # fn main() { let _ = only_of_ten(fallible_iterator::convert::<u32, u8, _>([Ok(150), Ok(7), Ok(700), Ok(0), Ok(600)].into_iter())); }
     /// ```
     ///
-    /// # Contract
+    /// <details><summary>Contract</summary>
     ///
     /// As it is proved, in [these words](crate::words):
     ///
@@ -1334,6 +1359,7 @@ pub trait FallibleItertools: FallibleIterator + Sized {
     ///     → list.Lists Self.contract.steps self.new (list.rest_nth 1 l)) }
     /// ensures stays { Stays Self.contract self.old self.new }
     /// ```
+    /// </details>
     fn exactly_one(&mut self) -> Result<Result<Self::Item, NotOne<Self::Item>>, Self::Error> {
         match self.at_most_one() {
             Ok(Ok(Some(only))) => Ok(Ok(only)),
@@ -1364,7 +1390,7 @@ pub trait FallibleItertools: FallibleIterator + Sized {
     /// # fn main() { let _ = span_above_100(vec![Ok(150), Ok(7), Ok(700), Ok(0), Ok(600)]); }
     /// ```
     ///
-    /// # Contract
+    /// <details><summary>Contract</summary>
     ///
     /// As it is proved, in [these words](crate::words):
     ///
@@ -1375,6 +1401,7 @@ pub trait FallibleItertools: FallibleIterator + Sized {
     /// ensures value { OverList Self.contract.steps self
     ///     (λ l. result ≡ minmaxed Self.Item.cmp l) }
     /// ```
+    /// </details>
     fn minmax(mut self) -> Result<MinMaxResult<Self::Item>, Self::Error>
     where
         Self::Item: Ord,
@@ -1423,7 +1450,7 @@ pub trait FallibleItertools: FallibleIterator + Sized {
     /// # fn main() { let _ = counted_and_joined(); }
     /// ```
     ///
-    /// # Contract
+    /// <details><summary>Contract</summary>
     ///
     /// As it is proved, where its signature is another, in [these words](crate::words):
     ///
@@ -1439,6 +1466,7 @@ pub trait FallibleItertools: FallibleIterator + Sized {
     /// ensures failure { OverList Self.contract.steps self
     ///     (λ l. (e : Self.Error) → result ≡ Err (Source e) → list.collected l ≡ Err e) }
     /// ```
+    /// </details>
     #[cfg(feature = "std")]
     fn counts(mut self) -> Result<HashMap<Self::Item, usize>, Self::Error>
     where
@@ -1477,7 +1505,7 @@ pub trait FallibleItertools: FallibleIterator + Sized {
     /// # fn main() { let _ = by_last_digit(vec![Ok(150), Ok(7), Ok(700), Ok(0), Ok(600)]); }
     /// ```
     ///
-    /// # Contract
+    /// <details><summary>Contract</summary>
     ///
     /// As it is proved, where its signature is another, in [these words](crate::words):
     ///
@@ -1493,6 +1521,7 @@ pub trait FallibleItertools: FallibleIterator + Sized {
     /// ensures failure { OverList Self.contract.steps self
     ///     (λ l. (e : Self.Error) → result ≡ Err (Source e) → list.collected l ≡ Err e) }
     /// ```
+    /// </details>
     #[cfg(feature = "std")]
     fn into_group_map<K, V>(mut self) -> Result<HashMap<K, Vec<V>>, Self::Error>
     where
@@ -1536,7 +1565,7 @@ pub trait FallibleItertools: FallibleIterator + Sized {
     /// # fn main() { let _ = up_to_100_and_above(vec![Ok(150), Ok(7), Ok(700), Ok(0), Ok(600)]); }
     /// ```
     ///
-    /// # Contract
+    /// <details><summary>Contract</summary>
     ///
     /// As it is proved, where its signature is another, in [these words](crate::words):
     ///
@@ -1557,6 +1586,7 @@ pub trait FallibleItertools: FallibleIterator + Sized {
     ///     (λ h l. (e : Self.Error) → result ≡ Err (Source e)
     ///     → list.collected (list.mapped h l) ≡ Err e) }
     /// ```
+    /// </details>
     fn partition_map<L, R, F, A, B>(self, f: F) -> Result<(L, R), Self::Error>
     where
         L: Default + Extend<A>,
@@ -1589,7 +1619,7 @@ pub trait FallibleItertools: FallibleIterator + Sized {
     /// # fn main() { let _ = readings_sorted(vec![Ok(150), Ok(7), Ok(700), Ok(0), Ok(600)]); }
     /// ```
     ///
-    /// # Contract
+    /// <details><summary>Contract</summary>
     ///
     /// As it is proved, where its signature is another, in [these words](crate::words):
     ///
@@ -1605,6 +1635,7 @@ pub trait FallibleItertools: FallibleIterator + Sized {
     /// ensures failure { OverList Self.contract.steps self
     ///     (λ l. (e : Self.Error) → result ≡ Err (Source e) → list.collected l ≡ Err e) }
     /// ```
+    /// </details>
     #[cfg(feature = "alloc")]
     fn sorted(self) -> Result<Vec<Self::Item>, Self::Error>
     where
@@ -1633,7 +1664,7 @@ pub trait FallibleItertools: FallibleIterator + Sized {
     /// # fn main() { let _ = sorted_by_last_digit(vec![Ok(150), Ok(7), Ok(700), Ok(0), Ok(600)]); }
     /// ```
     ///
-    /// # Contract
+    /// <details><summary>Contract</summary>
     ///
     /// As it is proved, where its signature is another, in [these words](crate::words):
     ///
@@ -1652,6 +1683,7 @@ pub trait FallibleItertools: FallibleIterator + Sized {
     /// ensures failure { OverList Self.contract.steps self
     ///     (λ l. (e : Self.Error) → result ≡ Err (Source e) → list.collected l ≡ Err e) }
     /// ```
+    /// </details>
     #[cfg(feature = "alloc")]
     fn sorted_by_key<K, F>(self, f: F) -> Result<Vec<Self::Item>, Self::Error>
     where
@@ -1697,7 +1729,7 @@ pub trait FallibleItertools: FallibleIterator + Sized {
     /// # fn main() { let _ = counted_and_joined(); }
     /// ```
     ///
-    /// # Contract
+    /// <details><summary>Contract</summary>
     ///
     /// As it is proved, where its signature is another, in [these words](crate::words):
     ///
@@ -1713,6 +1745,7 @@ pub trait FallibleItertools: FallibleIterator + Sized {
     /// ensures failure { OverList Self.contract.steps self
     ///     (λ l. (e : Self.Error) → result ≡ Err (Source e) → list.collected l ≡ Err e) }
     /// ```
+    /// </details>
     #[cfg(feature = "alloc")]
     fn join(mut self, separator: &str) -> Result<String, Self::Error>
     where
@@ -1806,7 +1839,7 @@ pub trait FallibleItertools: FallibleIterator + Sized {
     /// # fn main() { let _ = compared_by_closures(); }
     /// ```
     ///
-    /// # Contract
+    /// <details><summary>Contract</summary>
     ///
     /// As it is proved, in [these words](crate::words):
     ///
@@ -1829,6 +1862,7 @@ pub trait FallibleItertools: FallibleIterator + Sized {
     ///     I.IntoFallibleIter.contract.steps
     ///     (λ a b. read_as (λ o. Some o) result ≡ comparing.ordered_by h a b) }
     /// ```
+    /// </details>
     fn cmp_by<I, F>(self, other: I, f: F) -> Result<Ordering, Self::Error>
     where
         I: IntoFallibleIterator<Error = Self::Error>,
@@ -1916,7 +1950,7 @@ pub trait FallibleItertools: FallibleIterator + Sized {
     /// # fn main() { let _ = compared_by_closures(); }
     /// ```
     ///
-    /// # Contract
+    /// <details><summary>Contract</summary>
     ///
     /// As it is proved, in [these words](crate::words):
     ///
@@ -1939,6 +1973,7 @@ pub trait FallibleItertools: FallibleIterator + Sized {
     ///     → OverBoth Self.contract.steps self I.into_gives other
     ///     I.IntoFallibleIter.contract.steps (λ a b. result ≡ comparing.equal_by h a b) }
     /// ```
+    /// </details>
     fn eq_by<I, F>(self, other: I, f: F) -> Result<bool, Self::Error>
     where
         I: IntoFallibleIterator<Error = Self::Error>,
@@ -1977,7 +2012,7 @@ pub trait FallibleItertools: FallibleIterator + Sized {
     /// # fn main() { let _ = pairs(vec![Ok(150), Ok(7), Ok(700), Ok(0), Ok(600)]); }
     /// ```
     ///
-    /// # Contract
+    /// <details><summary>Contract</summary>
     ///
     /// As it is proved, in [these words](crate::words):
     ///
@@ -1990,6 +2025,7 @@ pub trait FallibleItertools: FallibleIterator + Sized {
     ///     (seen_as chunks_parts (chunks_contract Self.Error.from_gives Self.contract)).steps
     ///     Self.Error.from_gives result (chunked n l) }
     /// ```
+    /// </details>
     #[cfg(feature = "alloc")]
     fn chunks(self, n: usize) -> Chunks<Self> {
         Chunks {
@@ -2031,7 +2067,7 @@ pub trait FallibleItertools: FallibleIterator + Sized {
     /// # fn main() { let _ = last_hundreds(vec![Ok(150), Ok(7), Ok(700), Ok(0), Ok(600)]); }
     /// ```
     ///
-    /// # Contract
+    /// <details><summary>Contract</summary>
     ///
     /// As it is proved, in [these words](crate::words):
     ///
@@ -2047,6 +2083,7 @@ pub trait FallibleItertools: FallibleIterator + Sized {
     ///     (chunk_by_contract Self.Error.from_gives K.eq F.FnMut Self.contract)).steps
     ///     Self.Error.from_gives result (chunked_by K.eq h l) }
     /// ```
+    /// </details>
     #[cfg(feature = "alloc")]
     fn chunk_by<K, F>(self, key: F) -> ChunkBy<Self, K, F>
     where
@@ -2076,7 +2113,7 @@ pub trait FallibleItertools: FallibleIterator + Sized {
     /// # fn main() { let _ = separated_by_zeros(vec![Ok(150), Ok(7), Ok(700), Ok(0), Ok(600)]); }
     /// ```
     ///
-    /// # Contract
+    /// <details><summary>Contract</summary>
     ///
     /// As it is proved, in [these words](crate::words):
     ///
@@ -2090,6 +2127,7 @@ pub trait FallibleItertools: FallibleIterator + Sized {
     ///     Self.Item.is_infallible Self.Error.from_gives Self.contract)).steps result
     ///     (interspersed separator l) }
     /// ```
+    /// </details>
     fn intersperse(self, separator: Self::Item) -> Intersperse<Self>
     where
         Self::Item: Clone,
@@ -2122,7 +2160,7 @@ pub trait FallibleItertools: FallibleIterator + Sized {
     /// # fn main() { let _ = separated_by_returned_zeros(vec![Ok(150), Ok(7), Ok(700), Ok(0), Ok(600)]); }
     /// ```
     ///
-    /// # Contract
+    /// <details><summary>Contract</summary>
     ///
     /// As it is proved, in [these words](crate::words):
     ///
@@ -2145,6 +2183,7 @@ pub trait FallibleItertools: FallibleIterator + Sized {
     ///     (intersperse_with.intersperse_with_contract Self.contract F.FnMut)).steps result
     ///     (interspersed_by h l) }
     /// ```
+    /// </details>
     fn intersperse_with<F>(self, f: F) -> IntersperseWith<Self, F>
     where
         F: FnMut() -> Result<Self::Item, Self::Error>,
@@ -2183,7 +2222,7 @@ pub trait FallibleItertools: FallibleIterator + Sized {
     /// # fn main() { let _ = unique_readings(vec![Ok(150), Ok(7), Ok(700), Ok(0), Ok(600)]); }
     /// ```
     ///
-    /// # Contract
+    /// <details><summary>Contract</summary>
     ///
     /// As it is proved, where its signature is another, in [these words](crate::words):
     ///
@@ -2198,6 +2237,7 @@ pub trait FallibleItertools: FallibleIterator + Sized {
     ///     Self.Error.from_gives Self.contract)).steps Self.Error.from_gives result
     ///     (unique_of Self.Item.eq l) }
     /// ```
+    /// </details>
     #[cfg(feature = "std")]
     fn unique(self) -> Unique<Self>
     where

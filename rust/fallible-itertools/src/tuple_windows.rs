@@ -6,6 +6,7 @@ use fallible_iterator::{FallibleIterator, Turn};
 
 /// Each two adjacent items, as pairs. The last item is buffered, and the pair has a clone of it.
 #[derive(Clone, Debug)]
+#[must_use = "an iterator draws nothing until it is asked"]
 pub struct TupleWindows<I: FallibleIterator> {
     pub(crate) it: I,
     // the last item

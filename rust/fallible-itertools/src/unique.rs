@@ -8,6 +8,7 @@ use std::collections::HashSet;
 
 /// Of equal items the first. A set has a clone of each item that was yielded.
 #[derive(Clone, Debug)]
+#[must_use = "an iterator draws nothing until it is asked"]
 pub struct Unique<I: FallibleIterator>
 where
     I::Item: Eq + Hash,

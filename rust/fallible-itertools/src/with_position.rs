@@ -20,6 +20,7 @@ pub enum Position {
 
 /// The items, each with its [`Position`]. An item is buffered until another one comes, or a stop: `Ok(None)` or a failure, which the next call returns.
 #[derive(Clone, Debug)]
+#[must_use = "an iterator draws nothing until it is asked"]
 pub struct WithPosition<I: FallibleIterator> {
     pub(crate) it: I,
     // the item that wasn't yielded yet, and whether an item since the last stop came before it

@@ -17,78 +17,84 @@ pub enum EitherOrBoth<A, B> {
 impl<A, B> EitherOrBoth<A, B> {
     /// Returns whether there is an item of the left.
     ///
-    /// # Contract
+    /// <details><summary>Contract</summary>
     ///
     /// As it is proved, in [these words](crate::words):
     ///
     /// ```text
     /// ensures { result ≡ is_some (left_of self.now) }
     /// ```
+    /// </details>
     pub fn has_left(&self) -> bool {
         matches!(self, EitherOrBoth::Both(_, _) | EitherOrBoth::Left(_))
     }
 
     /// Returns whether there is an item of the right.
     ///
-    /// # Contract
+    /// <details><summary>Contract</summary>
     ///
     /// As it is proved, in [these words](crate::words):
     ///
     /// ```text
     /// ensures { result ≡ is_some (right_of self.now) }
     /// ```
+    /// </details>
     pub fn has_right(&self) -> bool {
         matches!(self, EitherOrBoth::Both(_, _) | EitherOrBoth::Right(_))
     }
 
     /// Returns whether there is an item of the left alone.
     ///
-    /// # Contract
+    /// <details><summary>Contract</summary>
     ///
     /// As it is proved, in [these words](crate::words):
     ///
     /// ```text
     /// ensures { result ≡ is_some (only_left self.now) }
     /// ```
+    /// </details>
     pub fn is_left(&self) -> bool {
         matches!(self, EitherOrBoth::Left(_))
     }
 
     /// Returns whether there is an item of the right alone.
     ///
-    /// # Contract
+    /// <details><summary>Contract</summary>
     ///
     /// As it is proved, in [these words](crate::words):
     ///
     /// ```text
     /// ensures { result ≡ is_some (only_right self.now) }
     /// ```
+    /// </details>
     pub fn is_right(&self) -> bool {
         matches!(self, EitherOrBoth::Right(_))
     }
 
     /// Returns whether there is an item of each.
     ///
-    /// # Contract
+    /// <details><summary>Contract</summary>
     ///
     /// As it is proved, in [these words](crate::words):
     ///
     /// ```text
     /// ensures { result ≡ is_some (both_of self.now) }
     /// ```
+    /// </details>
     pub fn is_both(&self) -> bool {
         matches!(self, EitherOrBoth::Both(_, _))
     }
 
     /// Returns the item of the left, if there is one.
     ///
-    /// # Contract
+    /// <details><summary>Contract</summary>
     ///
     /// As it is proved, in [these words](crate::words):
     ///
     /// ```text
     /// ensures { result ≡ left_of self }
     /// ```
+    /// </details>
     pub fn left(self) -> Option<A> {
         match self {
             EitherOrBoth::Both(left, _right) => Some(left),
@@ -99,13 +105,14 @@ impl<A, B> EitherOrBoth<A, B> {
 
     /// Returns the item of the right, if there is one.
     ///
-    /// # Contract
+    /// <details><summary>Contract</summary>
     ///
     /// As it is proved, in [these words](crate::words):
     ///
     /// ```text
     /// ensures { result ≡ right_of self }
     /// ```
+    /// </details>
     pub fn right(self) -> Option<B> {
         match self {
             EitherOrBoth::Both(_left, right) => Some(right),
@@ -116,13 +123,14 @@ impl<A, B> EitherOrBoth<A, B> {
 
     /// Returns both items, if there is one of each.
     ///
-    /// # Contract
+    /// <details><summary>Contract</summary>
     ///
     /// As it is proved, in [these words](crate::words):
     ///
     /// ```text
     /// ensures { result ≡ both_of self }
     /// ```
+    /// </details>
     pub fn both(self) -> Option<(A, B)> {
         match self {
             EitherOrBoth::Both(left, right) => Some((left, right)),
@@ -133,13 +141,14 @@ impl<A, B> EitherOrBoth<A, B> {
 
     /// Returns the item of the left, if there is none of the right.
     ///
-    /// # Contract
+    /// <details><summary>Contract</summary>
     ///
     /// As it is proved, in [these words](crate::words):
     ///
     /// ```text
     /// ensures { result ≡ only_left self }
     /// ```
+    /// </details>
     pub fn just_left(self) -> Option<A> {
         match self {
             EitherOrBoth::Left(left) => Some(left),
@@ -150,13 +159,14 @@ impl<A, B> EitherOrBoth<A, B> {
 
     /// Returns the item of the right, if there is none of the left.
     ///
-    /// # Contract
+    /// <details><summary>Contract</summary>
     ///
     /// As it is proved, in [these words](crate::words):
     ///
     /// ```text
     /// ensures { result ≡ only_right self }
     /// ```
+    /// </details>
     pub fn just_right(self) -> Option<B> {
         match self {
             EitherOrBoth::Right(right) => Some(right),
@@ -167,13 +177,14 @@ impl<A, B> EitherOrBoth<A, B> {
 
     /// Returns the items with left and right exchanged.
     ///
-    /// # Contract
+    /// <details><summary>Contract</summary>
     ///
     /// As it is proved, in [these words](crate::words):
     ///
     /// ```text
     /// ensures { (left_of result ≡ right_of self) × (right_of result ≡ left_of self) }
     /// ```
+    /// </details>
     pub fn flip(self) -> EitherOrBoth<B, A> {
         match self {
             EitherOrBoth::Both(left, right) => EitherOrBoth::Both(right, left),
@@ -184,13 +195,14 @@ impl<A, B> EitherOrBoth<A, B> {
 
     /// Returns an item of each. `l` stands for a missing item of the left, and `r` for one of the right.
     ///
-    /// # Contract
+    /// <details><summary>Contract</summary>
     ///
     /// As it is proved, in [these words](crate::words):
     ///
     /// ```text
     /// ensures { result ≡ (unwrap_or (left_of self) l, unwrap_or (right_of self) r) }
     /// ```
+    /// </details>
     pub fn or(self, l: A, r: B) -> (A, B) {
         match self {
             EitherOrBoth::Both(left, right) => (left, right),
@@ -202,6 +214,7 @@ impl<A, B> EitherOrBoth<A, B> {
 
 /// The items of two sources by their positions, up to `Ok(None)` of both. If the left fails, the right isn't drawn. If the right fails, the left's item is buffered for the next call.
 #[derive(Clone, Debug)]
+#[must_use = "an iterator draws nothing until it is asked"]
 pub struct ZipLongest<T: FallibleIterator, U> {
     pub(crate) left: Holding<T, T::Item>,
     pub(crate) right: U,

@@ -8,7 +8,7 @@ use core::ops::ControlFlow;
 pub trait Collect<T>: Sized {
     /// Appends one item to the others.
     ///
-    /// # Contract
+    /// <details><summary>Contract</summary>
     ///
     /// As it is proved, in [these words](crate::words):
     ///
@@ -17,6 +17,7 @@ pub trait Collect<T>: Sized {
     ///     (λ _. (items : List T) → made items self.old → made (items ++ item ∷ []) self.new)
     ///     (λ _. push_refuses self.old item) }
     /// ```
+    /// </details>
     fn push_one(&mut self, item: T) -> Result<(), AllocError>;
 }
 

@@ -6,13 +6,14 @@ use core::cmp::Ordering;
 pub trait Comparison<A, B> {
     /// Compares the items.
     ///
-    /// # Contract
+    /// <details><summary>Contract</summary>
     ///
     /// As it is proved, in [these words](crate::words):
     ///
     /// ```text
     /// ensures { result ≡ rule left.now right.now }
     /// ```
+    /// </details>
     fn compare(left: &A, right: &B) -> Option<Ordering>;
 }
 
@@ -49,13 +50,14 @@ impl<A: PartialEq<B>, B> Comparison<A, B> for ByEq {
 
 /// What one round decides, if neither side failed: `None` for two items that are equal by the rule, so that the comparison goes on.
 ///
-/// # Contract
+/// <details><summary>Contract</summary>
 ///
 /// As it is proved, in [these words](crate::words):
 ///
 /// ```text
 /// ensures { result ≡ decided_round K.rule left right }
 /// ```
+/// </details>
 pub fn decide<A, B, K: Comparison<A, B>>(
     left: Option<A>,
     right: Option<B>,
@@ -75,13 +77,14 @@ pub fn decide<A, B, K: Comparison<A, B>>(
 pub trait Reading {
     /// Reads the result, unless it is a failure.
     ///
-    /// # Contract
+    /// <details><summary>Contract</summary>
     ///
     /// As it is proved, in [these words](crate::words):
     ///
     /// ```text
     /// ensures { result ≡ read_as reads answer }
     /// ```
+    /// </details>
     fn read<E>(answer: Result<Option<Ordering>, E>) -> Result<bool, E>;
 }
 
@@ -141,7 +144,7 @@ impl Reading for ReadGe {
 
 /// The order, if a comparison found one.
 ///
-/// # Contract
+/// <details><summary>Contract</summary>
 ///
 /// As it is proved, in [these words](crate::words):
 ///
@@ -149,6 +152,7 @@ impl Reading for ReadGe {
 /// requires { ¬ (answer ≡ Ok None) }
 /// ensures { read_as (λ o. Some o) result ≡ answer }
 /// ```
+/// </details>
 pub fn ordered<E>(answer: Result<Option<Ordering>, E>) -> Result<Ordering, E> {
     match answer? {
         Some(order) => Ok(order),

@@ -11,7 +11,7 @@ pub trait Fail<P, D> {
 
     /// Calls the closure once on the failure.
     ///
-    /// # Contract
+    /// <details><summary>Contract</summary>
     ///
     /// As it is proved, in [these words](crate::words):
     ///
@@ -19,12 +19,13 @@ pub trait Fail<P, D> {
     /// requires { can_fail self.now state.old failure }
     /// ensures { call self.now state.old failure result state.new }
     /// ```
+    /// </details>
     fn fail(&self, state: &mut P, failure: D) -> Self::Failure;
 }
 
 /// What such an adapter makes of one answer of its source, or of the result of a call on its source: the closure is called if that is a failure.
 ///
-/// # Contract
+/// <details><summary>Contract</summary>
 ///
 /// As it is proved, in [these words](crate::words):
 ///
@@ -32,6 +33,7 @@ pub trait Fail<P, D> {
 /// requires { TakesFailure (A.can_fail adapter.now) state.old made }
 /// ensures { FailingAnswer (A.call adapter.now) state.old made result state.new }
 /// ```
+/// </details>
 #[inline(always)]
 pub fn failed<C, P, D, A: Fail<P, D>>(
     made: Result<C, D>,
@@ -46,7 +48,7 @@ pub fn failed<C, P, D, A: Fail<P, D>>(
 
 /// What becomes of a failure that a fold of the source met, and the caller's turn on the item that it becomes: whether the fold goes on, or what it returns.
 ///
-/// # Contract
+/// <details><summary>Contract</summary>
 ///
 /// As it is proved, in [these words](crate::words):
 ///
@@ -56,6 +58,7 @@ pub fn failed<C, P, D, A: Fail<P, D>>(
 /// ensures { FoldingTurn (A.call adapter.now) (A.outcome adapter.now) (K.turns turn.now)
 ///     (state.old, p.old) failure result (state.new, p.new) }
 /// ```
+/// </details>
 #[inline(always)]
 pub fn turn_on_failure<P, D, E, A: Pass<P, D, E>, C, R, K: Turn<C, A::Kept, R>>(
     failure: D,

@@ -7,7 +7,7 @@ use core::ops::ControlFlow;
 pub trait Turn<C, A, R> {
     /// Takes the turn: `Continue` if the fold goes on, or `Break` with what it stops with.
     ///
-    /// # Contract
+    /// <details><summary>Contract</summary>
     ///
     /// As it is proved, in [these words](crate::words):
     ///
@@ -15,6 +15,7 @@ pub trait Turn<C, A, R> {
     /// requires { can_turn self.now state.old item }
     /// ensures { turns self.now state.old item result state.new }
     /// ```
+    /// </details>
     fn turn(&self, state: &mut C, item: A) -> ControlFlow<R, ()>;
 }
 
@@ -35,13 +36,14 @@ pub struct Beside<'a, C, P> {
 
 /// What a fold of the source returns whose turn stops with a result: that result, or the source's `Ok(None)` or failure.
 ///
-/// # Contract
+/// <details><summary>Contract</summary>
 ///
 /// As it is proved, in [these words](crate::words):
 ///
 /// ```text
 /// ensures { result ≡ within answer }
 /// ```
+/// </details>
 #[inline(always)]
 pub fn answer_within<R, E>(
     answer: Result<Option<Result<Option<R>, E>>, E>,

@@ -2,13 +2,14 @@
 
 /// The smaller of each bound and n.
 ///
-/// # Contract
+/// <details><summary>Contract</summary>
 ///
 /// As it is proved, in [these words](crate::words):
 ///
 /// ```text
 /// ensures { result ≡ hint_up_to n hint }
 /// ```
+/// </details>
 pub fn up_to(hint: (usize, Option<usize>), n: usize) -> (usize, Option<usize>) {
     let high = match hint.1 {
         Some(bound) => Some(bound.min(n)),
@@ -19,13 +20,14 @@ pub fn up_to(hint: (usize, Option<usize>), n: usize) -> (usize, Option<usize>) {
 
 /// Each bound less n, and not below 0.
 ///
-/// # Contract
+/// <details><summary>Contract</summary>
 ///
 /// As it is proved, in [these words](crate::words):
 ///
 /// ```text
 /// ensures { result ≡ hint_less n hint }
 /// ```
+/// </details>
 pub fn less(hint: (usize, Option<usize>), n: usize) -> (usize, Option<usize>) {
     let high = match hint.1 {
         Some(bound) => Some(bound.saturating_sub(n)),
@@ -36,13 +38,14 @@ pub fn less(hint: (usize, Option<usize>), n: usize) -> (usize, Option<usize>) {
 
 /// Each bound, of which the items are kept that come after the first `left` ones, at each step.
 ///
-/// # Contract
+/// <details><summary>Contract</summary>
 ///
 /// As it is proved, in [these words](crate::words):
 ///
 /// ```text
 /// ensures { result ≡ hint_kept between to_skip hint }
 /// ```
+/// </details>
 pub fn kept(
     hint: (usize, Option<usize>),
     between: usize,
@@ -71,13 +74,14 @@ fn whole_steps(n: usize, between: usize) -> usize {
 
 /// One more on each bound: the lower at most `usize::MAX`, and `None` for an upper one that would be past that.
 ///
-/// # Contract
+/// <details><summary>Contract</summary>
 ///
 /// As it is proved, in [these words](crate::words):
 ///
 /// ```text
 /// ensures { HintWithItem hint result }
 /// ```
+/// </details>
 pub fn one_more(hint: (usize, Option<usize>)) -> (usize, Option<usize>) {
     let high = match hint.1 {
         Some(bound) => bound.checked_add(1),
@@ -88,13 +92,14 @@ pub fn one_more(hint: (usize, Option<usize>)) -> (usize, Option<usize>) {
 
 /// The sums of two hints' bounds.
 ///
-/// # Contract
+/// <details><summary>Contract</summary>
 ///
 /// As it is proved, in [these words](crate::words):
 ///
 /// ```text
 /// ensures { result ≡ hint_sum a b }
 /// ```
+/// </details>
 pub fn sum(a: (usize, Option<usize>), b: (usize, Option<usize>)) -> (usize, Option<usize>) {
     let high = match (a.1, b.1) {
         (Some(x), Some(y)) => x.checked_add(y),
@@ -106,13 +111,14 @@ pub fn sum(a: (usize, Option<usize>), b: (usize, Option<usize>)) -> (usize, Opti
 
 /// The smaller of two hints' bounds.
 ///
-/// # Contract
+/// <details><summary>Contract</summary>
 ///
 /// As it is proved, in [these words](crate::words):
 ///
 /// ```text
 /// ensures { result ≡ hint_smaller a b }
 /// ```
+/// </details>
 pub fn smaller(a: (usize, Option<usize>), b: (usize, Option<usize>)) -> (usize, Option<usize>) {
     let high = match (a.1, b.1) {
         (Some(x), Some(y)) => Some(x.min(y)),

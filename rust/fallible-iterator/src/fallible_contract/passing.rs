@@ -25,7 +25,7 @@ pub trait Pass<P, X, E> {
 
     /// Calls the closure once on the item.
     ///
-    /// # Contract
+    /// <details><summary>Contract</summary>
     ///
     /// As it is proved, in [these words](crate::words):
     ///
@@ -33,6 +33,7 @@ pub trait Pass<P, X, E> {
     /// requires { can_pass self.now state.old item }
     /// ensures { ItemPassed (call self.now) (outcome self.now) state.old item result state.new }
     /// ```
+    /// </details>
     fn pass(&self, state: &mut P, item: X) -> Outcome<Self::Kept, E>;
 }
 
@@ -64,7 +65,7 @@ impl<'a, 'b, P, X, E, C, R, A: Pass<P, X, E>, K: Turn<C, A::Kept, R>>
 
 /// What an adapter that leaves nothing out makes of one answer of its source: the closure is called if that is an item.
 ///
-/// # Contract
+/// <details><summary>Contract</summary>
 ///
 /// As it is proved, in [these words](crate::words):
 ///
@@ -74,6 +75,7 @@ impl<'a, 'b, P, X, E, C, R, A: Pass<P, X, E>, K: Turn<C, A::Kept, R>>
 /// ensures { PassAnswer (A.call adapter.now) (A.outcome adapter.now) state.old drawn result
 ///     state.new }
 /// ```
+/// </details>
 pub fn passed<P, X, E, A: Pass<P, X, E>>(
     drawn: Result<Option<X>, E>,
     state: &mut P,

@@ -72,13 +72,14 @@ impl<A, E, K: Ord, F: FnMut(&A) -> Result<K, E>> Turn<(Option<(K, A)>, F), A, E>
 
 /// The item of the pair, if there is one.
 ///
-/// # Contract
+/// <details><summary>Contract</summary>
 ///
 /// As it is proved, in [these words](crate::words):
 ///
 /// ```text
 /// ensures { result ≡ item_of best }
 /// ```
+/// </details>
 pub fn without_key<A, E, K>(best: Result<Option<(K, A)>, E>) -> Result<Option<A>, E> {
     match best? {
         Some((_, x)) => Ok(Some(x)),

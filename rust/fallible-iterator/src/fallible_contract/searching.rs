@@ -5,13 +5,14 @@ use core::ops::ControlFlow;
 
 /// What a search returns, from what its fold returned: `none` at `Ok(None)`, the source's failure, or what the fold stopped with.
 ///
-/// # Contract
+/// <details><summary>Contract</summary>
 ///
 /// As it is proved, in [these words](crate::words):
 ///
 /// ```text
 /// ensures { result ≡ answer_by none answer }
 /// ```
+/// </details>
 pub fn answer_or<R, E>(answer: Result<Option<Result<R, E>>, E>, none: R) -> Result<R, E> {
     match answer {
         Ok(None) => Ok(none),
@@ -22,13 +23,14 @@ pub fn answer_or<R, E>(answer: Result<Option<Result<R, E>>, E>, none: R) -> Resu
 
 /// What a search for a value returns, from what its fold returned: `Ok(None)` at the end, the source's failure, or what the fold stopped with.
 ///
-/// # Contract
+/// <details><summary>Contract</summary>
 ///
 /// As it is proved, in [these words](crate::words):
 ///
 /// ```text
 /// ensures { result ≡ answer_by None answer }
 /// ```
+/// </details>
 pub fn answer_or_none<R, E>(
     answer: Result<Option<Result<Option<R>, E>>, E>,
 ) -> Result<Option<R>, E> {
@@ -41,13 +43,14 @@ pub fn answer_or_none<R, E>(
 
 /// What `find` returns, from what its fold returned: `Ok(None)` at the end, the source's failure, or the item or the failure that the fold stopped with.
 ///
-/// # Contract
+/// <details><summary>Contract</summary>
 ///
 /// As it is proved, in [these words](crate::words):
 ///
 /// ```text
 /// ensures { result ≡ found_by answer }
 /// ```
+/// </details>
 pub fn found<A, E>(answer: Result<Option<Result<A, E>>, E>) -> Result<Option<A>, E> {
     match answer {
         Ok(None) => Ok(None),
@@ -61,7 +64,7 @@ pub fn found<A, E>(answer: Result<Option<Result<A, E>>, E>) -> Result<Option<A>,
 pub trait Test<C, A, E> {
     /// Makes the test: `Ok(true)` ends the search with the item, `Ok(false)` goes on, and a failure ends it.
     ///
-    /// # Contract
+    /// <details><summary>Contract</summary>
     ///
     /// As it is proved, in [these words](crate::words):
     ///
@@ -69,6 +72,7 @@ pub trait Test<C, A, E> {
     /// requires { can_test self.now state.old item.now }
     /// ensures { tests self.now state.old item.now result state.new }
     /// ```
+    /// </details>
     fn test(&self, state: &mut C, item: &A) -> Result<bool, E>;
 }
 

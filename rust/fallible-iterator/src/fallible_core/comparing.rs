@@ -9,7 +9,7 @@ use core::cmp::Ordering;
 
 /// Draws the left and then the right in each round, until a failure, an `Ok(None)`, or two items that aren't equal by the rule.
 ///
-/// # Contract
+/// <details><summary>Contract</summary>
 ///
 /// As it is proved, in [these words](crate::words):
 ///
@@ -19,6 +19,7 @@ use core::cmp::Ordering;
 /// requires finite { L.contract.is_finite left ⊎ R.contract.is_finite right }
 /// ensures { CompareDraws K.rule L.contract.steps R.contract.steps left right result }
 /// ```
+/// </details>
 pub fn compare<L, R, K>(left: L, right: R) -> Result<Option<Ordering>, L::Error>
 where
     L: FallibleIterator,
@@ -45,7 +46,7 @@ where
 
 /// Returns the two, and a bound of one of them, for a loop of rounds of one's own to count down by.
 ///
-/// # Contract
+/// <details><summary>Contract</summary>
 ///
 /// As it is proved, in [these words](crate::words):
 ///
@@ -55,6 +56,7 @@ where
 /// ensures right { result.1 ≡ right }
 /// ensures number { L.contract.bound left result.2.value ⊎ R.contract.bound right result.2.value }
 /// ```
+/// </details>
 pub fn number_of_either<L, R>(left: L, right: R) -> (L, R, Number)
 where
     L: FallibleIterator,
@@ -68,7 +70,7 @@ where
 
 /// Compares the iterator with what the other value becomes, by the rule, and reads the result.
 ///
-/// # Contract
+/// <details><summary>Contract</summary>
 ///
 /// As it is proved, in [these words](crate::words):
 ///
@@ -83,6 +85,7 @@ where
 ///     I.IntoFallibleIter.contract.steps
 ///     (λ a b. result ≡ read_as R.reads (compared K.rule a b)) }
 /// ```
+/// </details>
 pub fn compare_read<L, I, K, R>(left: L, other: I) -> Result<bool, L::Error>
 where
     L: FallibleIterator,

@@ -10,7 +10,7 @@ use core::ops::ControlFlow;
 
 /// The fold from the front of such an adapter: the source's, and what becomes of the failure that it met.
 ///
-/// # Contract
+/// <details><summary>Contract</summary>
 ///
 /// As it is proved, in [these words](crate::words):
 ///
@@ -24,6 +24,7 @@ use core::ops::ControlFlow;
 /// ensures { Driven (failing_step I.contract.steps (A.call adapter.now))
 ///     (K.turns turn.now) (it.old, p.old) state.old result (it.new, p.new) state.new }
 /// ```
+/// </details>
 pub fn drive_failing<I: FallibleIterator, P, A: Fail<P, I::Error>, C, R, K: Turn<C, I::Item, R>>(
     it: &mut I,
     p: &mut P,
@@ -36,7 +37,7 @@ pub fn drive_failing<I: FallibleIterator, P, A: Fail<P, I::Error>, C, R, K: Turn
 
 /// The fold from the back of such an adapter: the source's from the back, and what becomes of the failure that it met.
 ///
-/// # Contract
+/// <details><summary>Contract</summary>
 ///
 /// As it is proved, in [these words](crate::words):
 ///
@@ -50,6 +51,7 @@ pub fn drive_failing<I: FallibleIterator, P, A: Fail<P, I::Error>, C, R, K: Turn
 /// ensures { Driven (failing_step I.ends.steps (A.call adapter.now))
 ///     (K.turns turn.now) (it.old, p.old) state.old result (it.new, p.new) state.new }
 /// ```
+/// </details>
 pub fn drive_back_failing<
     I: DoubleEndedFallibleIterator,
     P,
@@ -69,7 +71,7 @@ pub fn drive_back_failing<
 
 /// The fold from the front of an adapter by which a failure may become an item, nothing or another failure: the source's fold up to a failure, and the turn on that; and again, if that turn goes on. Each further fold of the source has fewer draws to make, by the bound `left`.
 ///
-/// # Contract
+/// <details><summary>Contract</summary>
 ///
 /// As it is proved, in [these words](crate::words):
 ///
@@ -85,6 +87,7 @@ pub fn drive_back_failing<
 ///     (recovering_step I.contract.steps (A.call adapter.now) (A.outcome adapter.now))
 ///     (K.turns turn.now) (it.old, p.old) state.old result (it.new, p.new) state.new }
 /// ```
+/// </details>
 pub fn drive_recovering<
     I: FallibleIterator,
     P,
@@ -116,7 +119,7 @@ pub fn drive_recovering<
 
 /// The fold from the back of an adapter by which a failure may become an item, nothing or another failure.
 ///
-/// # Contract
+/// <details><summary>Contract</summary>
 ///
 /// As it is proved, in [these words](crate::words):
 ///
@@ -132,6 +135,7 @@ pub fn drive_recovering<
 ///     (recovering_step I.ends.steps (A.call adapter.now) (A.outcome adapter.now))
 ///     (K.turns turn.now) (it.old, p.old) state.old result (it.new, p.new) state.new }
 /// ```
+/// </details>
 pub fn drive_back_recovering<
     I: DoubleEndedFallibleIterator,
     P,

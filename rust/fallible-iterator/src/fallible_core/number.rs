@@ -10,7 +10,7 @@ pub struct Number {
 impl Number {
     /// Returns the number that is one less.
     ///
-    /// # Contract
+    /// <details><summary>Contract</summary>
     ///
     /// As it is proved, in [these words](crate::words):
     ///
@@ -18,6 +18,7 @@ impl Number {
     /// requires { 0 < self.now.value }
     /// ensures { result.value + 1 ≡ self.now.value }
     /// ```
+    /// </details>
     pub fn one_less(&self) -> Number {
         Number {
             marker: PhantomData,

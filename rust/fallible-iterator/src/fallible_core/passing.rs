@@ -7,7 +7,7 @@ use crate::fallible_core::traits::double_ended::DoubleEndedFallibleIterator;
 
 /// The fold from the front of an adapter: what becomes of each item of the source, and the caller's turn on what is kept.
 ///
-/// # Contract
+/// <details><summary>Contract</summary>
 ///
 /// As it is proved, in [these words](crate::words):
 ///
@@ -22,6 +22,7 @@ use crate::fallible_core::traits::double_ended::DoubleEndedFallibleIterator;
 /// ensures { Driven (passing_step I.contract.steps (A.call adapter.now) (A.outcome adapter.now))
 ///     (K.turns turn.now) (it.old, p.old) state.old result (it.new, p.new) state.new }
 /// ```
+/// </details>
 #[inline(always)]
 pub fn drive_passing<
     I: FallibleIterator,
@@ -44,7 +45,7 @@ pub fn drive_passing<
 
 /// The fold from the back of an adapter: what becomes of each item of the source, and the caller's turn on what is kept.
 ///
-/// # Contract
+/// <details><summary>Contract</summary>
 ///
 /// As it is proved, in [these words](crate::words):
 ///
@@ -59,6 +60,7 @@ pub fn drive_passing<
 /// ensures { Driven (passing_step I.ends.steps (A.call adapter.now) (A.outcome adapter.now))
 ///     (K.turns turn.now) (it.old, p.old) state.old result (it.new, p.new) state.new }
 /// ```
+/// </details>
 #[inline(always)]
 pub fn drive_back_passing<
     I: DoubleEndedFallibleIterator,

@@ -6,7 +6,7 @@ use core::cmp::Ordering;
 
 /// The best item by a closure that compares the best so far and the next item.
 ///
-/// # Contract
+/// <details><summary>Contract</summary>
 ///
 /// As it is proved, in [these words](crate::words):
 ///
@@ -17,6 +17,7 @@ use core::cmp::Ordering;
 ///     (takes_in_pick (takes_at_two F.FnMut)) it f None }
 /// ensures { PickedByFold keeps (call_at_two F.FnMut) I.contract.steps it f result }
 /// ```
+/// </details>
 pub fn best_by<I, F>(it: I, keeps: Ordering, f: F) -> Result<Option<I::Item>, I::Error>
 where
     I: FallibleIterator,
@@ -35,7 +36,7 @@ where
 
 /// The item with the best key, and its key.
 ///
-/// # Contract
+/// <details><summary>Contract</summary>
 ///
 /// As it is proved, in [these words](crate::words):
 ///
@@ -48,6 +49,7 @@ where
 ///     × FoldDrains I.contract.steps (KeyCall keeps K.cmp (call_at F.FnMut)) (λ e d. d ≡ e)
 ///     it None f result left }
 /// ```
+/// </details>
 pub fn best_by_key<I, K, F>(it: I, keeps: Ordering, f: F) -> Result<Option<(K, I::Item)>, I::Error>
 where
     I: FallibleIterator,

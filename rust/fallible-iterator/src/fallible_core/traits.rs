@@ -71,7 +71,7 @@ pub trait FallibleIterator {
     /// # fn main() { let _ = from_fn_convert_fused_and_transposed_give_each_answer(); }
     /// ```
     ///
-    /// # Contract
+    /// <details><summary>Contract</summary>
     ///
     /// As it is proved, in [these words](crate::words):
     ///
@@ -79,6 +79,7 @@ pub trait FallibleIterator {
     /// requires { contract.can_next self.old }
     /// ensures { contract.steps self.old result self.new }
     /// ```
+    /// </details>
     fn next(&mut self) -> Result<Option<Self::Item>, Self::Error>;
 
     /// Returns bounds on the number of items up to the first `Ok(None)`, if no failure comes before it. A type that knows no bounds returns `(0, None)`.
@@ -96,13 +97,14 @@ pub trait FallibleIterator {
     /// # fn main() { let _ = peekable_hint_counts_the_held_item_up_to_the_greatest_number(); }
     /// ```
     ///
-    /// # Contract
+    /// <details><summary>Contract</summary>
     ///
     /// As it is proved, in [these words](crate::words):
     ///
     /// ```text
     /// ensures { contract.hints self.now result }
     /// ```
+    /// </details>
     fn size_hint(&self) -> (usize, Option<usize>) {
         (0, None)
     }
@@ -115,7 +117,7 @@ pub trait FallibleIterator {
     ///
     /// Precondition, which is not checked: the iterator is finite.
     ///
-    /// # Contract
+    /// <details><summary>Contract</summary>
     ///
     /// As it is proved, in [these words](crate::words):
     ///
@@ -123,6 +125,7 @@ pub trait FallibleIterator {
     /// requires { contract.is_finite self.now }
     /// ensures { contract.bound self.now result.value }
     /// ```
+    /// </details>
     #[doc(hidden)]
     fn number(&self) -> Number {
         Number {
@@ -132,7 +135,7 @@ pub trait FallibleIterator {
 
     /// For types that override folds: draws until `Ok(None)`, a failure or a turn that stops the fold. It returns what `next` could: `Ok(None)`, the failure, or what the turn stopped with. `state` points to all that changes from turn to turn. Every fold goes through it. A caller uses `try_fold`.
     ///
-    /// # Contract
+    /// <details><summary>Contract</summary>
     ///
     /// As it is proved, in [these words](crate::words):
     ///
@@ -144,7 +147,9 @@ pub trait FallibleIterator {
     /// ensures { fold.Driven contract.steps (K.turns turn.now) self.old state.old result
     ///     self.new state.new }
     /// ```
+    /// </details>
     #[inline(always)]
+    #[doc(hidden)]
     fn drive<C, R, K: Turn<C, Self::Item, R>>(
         &mut self,
         state: &mut C,
@@ -164,8 +169,8 @@ pub trait FallibleIterator {
         }
     }
 
-    #[doc(hidden)]
     #[inline(always)]
+    #[doc(hidden)]
     fn drive_try_fold<B, E, F>(&mut self, init: B, f: F) -> Result<B, E>
     where
         Self: Sized,
@@ -187,7 +192,7 @@ pub trait FallibleIterator {
 
     /// For types that override it: draws up to `Ok(None)` or the first failure, and adds one to `number` for each item, also for those before a failure. `count` goes through it. A caller uses `count`.
     ///
-    /// # Contract
+    /// <details><summary>Contract</summary>
     ///
     /// As it is proved, in [these words](crate::words):
     ///
@@ -196,6 +201,7 @@ pub trait FallibleIterator {
     /// requires fits { AtMost contract self.old (2 ^ 64 - 1 - number.old) }
     /// ensures { fold.CountDrainsOn contract.steps self.old number.old result self.new number.new }
     /// ```
+    /// </details>
     #[doc(hidden)]
     fn drive_count(&mut self, number: &mut usize) -> Result<(), Self::Error>
     where
@@ -227,7 +233,7 @@ pub trait FallibleIterator {
     /// # fn main() { let _ = above_100_of_ten(vec![Ok(150), Ok(7), Ok(700), Ok(0), Ok(600)]); }
     /// ```
     ///
-    /// # Contract
+    /// <details><summary>Contract</summary>
     ///
     /// As it is proved, in [these words](crate::words):
     ///
@@ -237,6 +243,7 @@ pub trait FallibleIterator {
     /// ensures counted { (after : Self) × fold.CountDrains contract.steps self result after }
     /// ensures value { OverList contract.steps self (λ l. result ≡ list.counted l) }
     /// ```
+    /// </details>
     fn count(mut self) -> Result<usize, Self::Error>
     where
         Self: Sized,
@@ -250,7 +257,7 @@ pub trait FallibleIterator {
 
     /// For types that override it: `last`, without what it says of a list. A caller uses `last`.
     ///
-    /// # Contract
+    /// <details><summary>Contract</summary>
     ///
     /// As it is proved, in [these words](crate::words):
     ///
@@ -259,6 +266,7 @@ pub trait FallibleIterator {
     /// requires finite { contract.is_finite self.old }
     /// ensures { fold.LastDrains contract.steps self.old result self.new }
     /// ```
+    /// </details>
     #[doc(hidden)]
     fn drive_last(&mut self) -> Result<Option<Self::Item>, Self::Error>
     where
@@ -291,7 +299,7 @@ pub trait FallibleIterator {
     /// # fn main() { let _ = last_above_100(vec![Ok(150), Ok(7), Ok(700), Ok(0), Ok(600)]); }
     /// ```
     ///
-    /// # Contract
+    /// <details><summary>Contract</summary>
     ///
     /// As it is proved, in [these words](crate::words):
     ///
@@ -301,6 +309,7 @@ pub trait FallibleIterator {
     /// ensures last { (after : Self) × fold.LastDrains contract.steps self result after }
     /// ensures value { OverList contract.steps self (λ l. result ≡ list.last_of l) }
     /// ```
+    /// </details>
     fn last(mut self) -> Result<Option<Self::Item>, Self::Error>
     where
         Self: Sized,
@@ -333,7 +342,7 @@ pub trait FallibleIterator {
     /// # fn main() { let _ = last_reduce_and_nth_answer_an_item_or_none(); }
     /// ```
     ///
-    /// # Contract
+    /// <details><summary>Contract</summary>
     ///
     /// As it is proved, in [these words](crate::words):
     ///
@@ -345,6 +354,7 @@ pub trait FallibleIterator {
     ///     (λ l. ¬ (result ≡ Ok None) → list.Lists contract.steps self.new (list.rest_nth n l)) }
     /// ensures stays { Stays contract self.old self.new }
     /// ```
+    /// </details>
     fn nth(&mut self, n: usize) -> Result<Option<Self::Item>, Self::Error> {
         let mut left = n;
         while 0 < left {
@@ -380,7 +390,7 @@ pub trait FallibleIterator {
     /// # fn main() { let _ = two_written_out(vec![Ok(150), Ok(7), Ok(700), Ok(0), Ok(600)]); }
     /// ```
     ///
-    /// # Contract
+    /// <details><summary>Contract</summary>
     ///
     /// As it is proved, in [these words](crate::words):
     ///
@@ -399,6 +409,7 @@ pub trait FallibleIterator {
     ///     → list.Lists contract.steps self.new (list.rest_fold h init l)) }
     /// ensures stays { Stays contract self.old self.new }
     /// ```
+    /// </details>
     #[inline(always)]
     fn try_fold<B, E, F>(&mut self, init: B, f: F) -> Result<B, E>
     where
@@ -431,7 +442,7 @@ pub trait FallibleIterator {
     /// # fn main() { let _ = sum(vec![Ok(150), Ok(7), Ok(700), Ok(0), Ok(600)]); }
     /// ```
     ///
-    /// # Contract
+    /// <details><summary>Contract</summary>
     ///
     /// As it is proved, in [these words](crate::words):
     ///
@@ -445,6 +456,7 @@ pub trait FallibleIterator {
     /// ensures value { OverListWith (list.ActsWith (fold.call_with F.FnMut) f) contract.steps self
     ///     (λ h l. result ≡ list.folded (λ e. e) h init l) }
     /// ```
+    /// </details>
     fn fold<B, F>(mut self, init: B, f: F) -> Result<B, Self::Error>
     where
         Self: Sized,
@@ -467,7 +479,7 @@ pub trait FallibleIterator {
     /// # fn main() { let _ = sum_of_some(vec![Ok(150), Ok(7), Ok(700), Ok(0), Ok(600)]); }
     /// ```
     ///
-    /// # Contract
+    /// <details><summary>Contract</summary>
     ///
     /// As it is proved, in [these words](crate::words):
     ///
@@ -482,6 +494,7 @@ pub trait FallibleIterator {
     /// ensures value { OverListWith (list.ActsWith (fold.call_with F.FnMut) f) contract.steps self
     ///     (λ h l. result ≡ list.reduced h l) }
     /// ```
+    /// </details>
     fn reduce<F>(mut self, f: F) -> Result<Option<Self::Item>, Self::Error>
     where
         Self: Sized,
@@ -499,7 +512,7 @@ pub trait FallibleIterator {
 
     /// For types that override searches: draws until the test accepts an item or fails on it, or a failure or `Ok(None)` comes. `find` goes through it, which a caller uses.
     ///
-    /// # Contract
+    /// <details><summary>Contract</summary>
     ///
     /// As it is proved, in [these words](crate::words):
     ///
@@ -511,6 +524,7 @@ pub trait FallibleIterator {
     /// ensures { search.SearchDrains (K.tests test.now) search.find_pick contract.steps None
     ///     self.old state.old result self.new state.new }
     /// ```
+    /// </details>
     #[doc(hidden)]
     fn drive_find<C, K: Test<C, Self::Item, Self::Error>>(
         &mut self,
@@ -539,7 +553,7 @@ pub trait FallibleIterator {
     /// # fn main() { let _ = all_up_to_100(vec![Ok(150), Ok(7), Ok(700), Ok(0), Ok(600)]); }
     /// ```
     ///
-    /// # Contract
+    /// <details><summary>Contract</summary>
     ///
     /// As it is proved, in [these words](crate::words):
     ///
@@ -550,6 +564,7 @@ pub trait FallibleIterator {
     ///     (λ h l. list.Lists (seen_as map_parts (map_contract contract F.FnMut)).steps
     ///     result (mapped h l)) }
     /// ```
+    /// </details>
     fn map<F, B>(self, f: F) -> Map<Self, F>
     where
         Self: Sized,
@@ -576,7 +591,7 @@ pub trait FallibleIterator {
     /// # fn main() { let _ = above_100(&[150, 7, 700]); }
     /// ```
     ///
-    /// # Contract
+    /// <details><summary>Contract</summary>
     ///
     /// As it is proved, in [these words](crate::words):
     ///
@@ -589,6 +604,7 @@ pub trait FallibleIterator {
     ///     (λ h l. list.Lists (seen_as filter_parts (filter_contract contract F.FnMut)).steps
     ///     result (filtered h l)) }
     /// ```
+    /// </details>
     fn filter<F>(self, f: F) -> Filter<Self, F>
     where
         Self: Sized,
@@ -634,7 +650,7 @@ pub trait FallibleIterator {
     /// # fn main() { let _ = newlines_of_three(b"20\n22\n".as_slice()); }
     /// ```
     ///
-    /// # Contract
+    /// <details><summary>Contract</summary>
     ///
     /// As it is proved, in [these words](crate::words):
     ///
@@ -647,6 +663,7 @@ pub trait FallibleIterator {
     ///     → list.Lists (seen_as take_parts (take_contract contract)).steps result
     ///     (list.repeated n x) }
     /// ```
+    /// </details>
     fn take(self, n: usize) -> Take<Self>
     where
         Self: Sized,
@@ -672,7 +689,7 @@ pub trait FallibleIterator {
     /// # fn main() { let _ = front_above_100(vec![Ok(150), Ok(7), Ok(700), Ok(0), Ok(600)]); }
     /// ```
     ///
-    /// # Contract
+    /// <details><summary>Contract</summary>
     ///
     /// As it is proved, in [these words](crate::words):
     ///
@@ -687,6 +704,7 @@ pub trait FallibleIterator {
     ///     (take_while.take_while_contract contract P.FnMut)).steps
     ///     result (take_while.taken_while h l)) }
     /// ```
+    /// </details>
     fn take_while<P>(self, predicate: P) -> TakeWhile<Self, P>
     where
         Self: Sized,
@@ -809,7 +827,7 @@ pub trait FallibleIterator {
     /// # fn main() { let _ = filters_over_fuse_only_end_after_its_end(); }
     /// ```
     ///
-    /// # Contract
+    /// <details><summary>Contract</summary>
     ///
     /// As it is proved, in [these words](crate::words):
     ///
@@ -820,6 +838,7 @@ pub trait FallibleIterator {
     /// ensures for_good { OverList contract.steps self
     ///     (λ l. list.ListsForGood (seen_as fuse_parts (fuse_contract contract)).steps result l) }
     /// ```
+    /// </details>
     fn fuse(self) -> Fuse<Self>
     where
         Self: Sized,
@@ -846,7 +865,7 @@ pub trait FallibleIterator {
     /// # fn main() { let _ = any_above_100(vec![Ok(150), Ok(7), Ok(700), Ok(0), Ok(600)]); }
     /// ```
     ///
-    /// # Contract
+    /// <details><summary>Contract</summary>
     ///
     /// As it is proved, in [these words](crate::words):
     ///
@@ -856,6 +875,7 @@ pub trait FallibleIterator {
     ///     (λ l. list.Lists (seen_as skip_parts (skip_contract contract)).steps result
     ///     (skipped n l)) }
     /// ```
+    /// </details>
     fn skip(self, n: usize) -> Skip<Self>
     where
         Self: Sized,
@@ -892,7 +912,7 @@ pub trait FallibleIterator {
     /// # fn main() { let _ = a_nest_is_counted(); }
     /// ```
     ///
-    /// # Contract
+    /// <details><summary>Contract</summary>
     ///
     /// As it is proved, in [these words](crate::words):
     ///
@@ -905,6 +925,7 @@ pub trait FallibleIterator {
     ///     (λ l. list.Lists (seen_as step_by.step_by_parts
     ///     (step_by.step_by_contract contract)).steps result (step_by.stepped (step - 1) 0 l)) }
     /// ```
+    /// </details>
     fn step_by(self, step: usize) -> StepBy<Self>
     where
         Self: Sized,
@@ -1223,7 +1244,7 @@ pub trait FallibleIterator {
     /// # fn main() { let _ = filter_and_filter_map_draw_and_fold_by_folds(); }
     /// ```
     ///
-    /// # Contract
+    /// <details><summary>Contract</summary>
     ///
     /// As it is proved, in [these words](crate::words):
     ///
@@ -1236,6 +1257,7 @@ pub trait FallibleIterator {
     ///     (λ h l. list.Lists (seen_as filter_map_parts
     ///     (filter_map_contract contract F.FnMut)).steps result (filter_mapped h l)) }
     /// ```
+    /// </details>
     fn filter_map<B, F>(self, f: F) -> FilterMap<Self, F>
     where
         Self: Sized,
@@ -1323,7 +1345,7 @@ pub trait FallibleIterator {
     /// # fn main() { let _ = inspect_shows_each_item_and_fails_on_one(); }
     /// ```
     ///
-    /// # Contract
+    /// <details><summary>Contract</summary>
     ///
     /// As it is proved, in [these words](crate::words):
     ///
@@ -1334,6 +1356,7 @@ pub trait FallibleIterator {
     ///     (λ h l. list.Lists (seen_as inspect_parts (inspect_contract contract F.FnMut)).steps
     ///     result (inspected h l)) }
     /// ```
+    /// </details>
     fn inspect<F>(self, f: F) -> Inspect<Self, F>
     where
         Self: Sized,
@@ -1378,7 +1401,7 @@ pub trait FallibleIterator {
     /// # fn main() { let _ = map_fails_on_an_item_and_map_err_replaces_failures(); }
     /// ```
     ///
-    /// # Contract
+    /// <details><summary>Contract</summary>
     ///
     /// As it is proved, in [these words](crate::words):
     ///
@@ -1389,6 +1412,7 @@ pub trait FallibleIterator {
     ///     (λ h l. list.Lists (seen_as map_err_parts (map_err_contract contract F.FnMut)).steps
     ///     result (failures_mapped h l)) }
     /// ```
+    /// </details>
     fn map_err<B, F>(self, f: F) -> MapErr<Self, F>
     where
         Self: Sized,
@@ -1415,7 +1439,7 @@ pub trait FallibleIterator {
     /// # fn main() { let _ = two_columns(vec![Ok(150), Ok(7), Ok(700), Ok(0), Ok(600)]); }
     /// ```
     ///
-    /// # Contract
+    /// <details><summary>Contract</summary>
     ///
     /// As it is proved, in [these words](crate::words):
     ///
@@ -1427,6 +1451,7 @@ pub trait FallibleIterator {
     ///     (λ l. list.Lists (seen_as enumerate_parts (enumerate_contract contract)).steps
     ///     result (numbered 0 l)) }
     /// ```
+    /// </details>
     fn enumerate(self) -> Enumerate<Self>
     where
         Self: Sized,
@@ -1454,7 +1479,7 @@ pub trait FallibleIterator {
     /// # fn main() { let _ = places(vec![Ok(150), Ok(7), Ok(700), Ok(0), Ok(600)]); }
     /// ```
     ///
-    /// # Contract
+    /// <details><summary>Contract</summary>
     ///
     /// As it is proved, in [these words](crate::words):
     ///
@@ -1470,6 +1495,7 @@ pub trait FallibleIterator {
     ///     (skip_while.skip_while_contract contract P.FnMut)).steps
     ///     result (skip_while.skipped_while h l)) }
     /// ```
+    /// </details>
     fn skip_while<P>(self, predicate: P) -> SkipWhile<Self, P>
     where
         Self: Sized,
@@ -1497,7 +1523,7 @@ pub trait FallibleIterator {
     /// # fn main() { let _ = halves(vec![Ok(150), Ok(7), Ok(700), Ok(0), Ok(600)]); }
     /// ```
     ///
-    /// # Contract
+    /// <details><summary>Contract</summary>
     ///
     /// As it is proved, in [these words](crate::words):
     ///
@@ -1508,6 +1534,7 @@ pub trait FallibleIterator {
     ///     (λ h l. list.Lists (seen_as map_while_parts (map_while_contract contract F.FnMut)).steps
     ///     result (mapped_while h l)) }
     /// ```
+    /// </details>
     fn map_while<F, B>(self, f: F) -> MapWhile<Self, F>
     where
         Self: Sized,
@@ -1542,7 +1569,7 @@ pub trait FallibleIterator {
     /// # fn main() { let _ = running_sums(vec![Ok(150), Ok(7), Ok(700), Ok(0), Ok(600)]); }
     /// ```
     ///
-    /// # Contract
+    /// <details><summary>Contract</summary>
     ///
     /// As it is proved, in [these words](crate::words):
     ///
@@ -1558,6 +1585,7 @@ pub trait FallibleIterator {
     ///     (seen_as scan.scan_parts (scan.scan_contract contract F.FnMut)).steps
     ///     result (scan.scanned next initial_state l)) }
     /// ```
+    /// </details>
     fn scan<St, B, F>(self, initial_state: St, f: F) -> Scan<Self, St, F>
     where
         Self: Sized,
@@ -1587,7 +1615,7 @@ pub trait FallibleIterator {
     /// # fn main() { let _ = cloned_from_back(); }
     /// ```
     ///
-    /// # Contract
+    /// <details><summary>Contract</summary>
     ///
     /// As it is proved, in [these words](crate::words):
     ///
@@ -1598,6 +1626,7 @@ pub trait FallibleIterator {
     ///     → list.Lists (seen_as cloned_parts (cloned_contract T.is_clone T.is_infallible
     ///     Self.Error.from_gives contract)).steps result (pointed_to l)) }
     /// ```
+    /// </details>
     fn cloned<'a, T: 'a>(self) -> Cloned<Self>
     where
         Self: Sized,
@@ -1622,7 +1651,7 @@ pub trait FallibleIterator {
     /// # fn main() { let _ = last_first(vec![Ok(150), Ok(7), Ok(700), Ok(0), Ok(600)]); }
     /// ```
     ///
-    /// # Contract
+    /// <details><summary>Contract</summary>
     ///
     /// As it is proved, in [these words](crate::words):
     ///
@@ -1632,6 +1661,7 @@ pub trait FallibleIterator {
     ///     (λ l. list.Lists (seen_as rev_parts
     ///     (rev_contract contract Self.DoubleEndedFallibleIterator.ends)).steps result l) }
     /// ```
+    /// </details>
     fn rev(self) -> Rev<Self>
     where
         Self: Sized,
@@ -1656,7 +1686,7 @@ pub trait FallibleIterator {
     /// # fn main() { let _ = both_columns(&[150, 7, 700], &[150, 7, 700]); }
     /// ```
     ///
-    /// # Contract
+    /// <details><summary>Contract</summary>
     ///
     /// As it is proved, where its signature is another, in [these words](crate::words):
     ///
@@ -1669,6 +1699,7 @@ pub trait FallibleIterator {
     ///     (λ a b. list.Lists (seen_as chain.chain_parts (chain.chain_contract contract
     ///     I.IntoFallibleIter.contract)).steps result (chain.chained a b)) }
     /// ```
+    /// </details>
     fn chain<I>(self, it: I) -> Chain<Self, I>
     where
         Self: Sized,
@@ -1701,7 +1732,7 @@ pub trait FallibleIterator {
     /// # fn main() { let _ = behind_a_pair(fallible_iterator::convert::<u32, u8, _>([Ok(150), Ok(7), Ok(700), Ok(0), Ok(600)].into_iter()), fallible_iterator::convert::<u32, u8, _>([Ok(150), Ok(7), Ok(700), Ok(0), Ok(600)].into_iter())); }
     /// ```
     ///
-    /// # Contract
+    /// <details><summary>Contract</summary>
     ///
     /// As it is proved, in [these words](crate::words):
     ///
@@ -1720,6 +1751,7 @@ pub trait FallibleIterator {
     ///     → list.Lists (seen_as zip.zip_parts (zip.zip_contract contract
     ///     I.IntoFallibleIter.contract)).steps result (zip.zipped a (list.items b))) }
     /// ```
+    /// </details>
     fn zip<I>(self, o: I) -> Zip<Self, I::IntoFallibleIter>
     where
         Self: Sized,
@@ -1764,7 +1796,7 @@ pub trait FallibleIterator {
     /// # fn main() { let _ = clones_of_adapters_over_ranges(); }
     /// ```
     ///
-    /// # Contract
+    /// <details><summary>Contract</summary>
     ///
     /// As it is proved, in [these words](crate::words):
     ///
@@ -1779,6 +1811,7 @@ pub trait FallibleIterator {
     ///     Self.Item.into_gives Self.Item.IntoFallibleIter.contract)).steps
     ///     result (flatten.flattened inner l)) }
     /// ```
+    /// </details>
     fn flatten(self) -> Flatten<Self>
     where
         Self: Sized,
@@ -1811,7 +1844,7 @@ pub trait FallibleIterator {
     /// # fn main() { let _ = runs(vec![Ok(150), Ok(7), Ok(700), Ok(0), Ok(600)]); }
     /// ```
     ///
-    /// # Contract
+    /// <details><summary>Contract</summary>
     ///
     /// As it is proved, in [these words](crate::words):
     ///
@@ -1830,6 +1863,7 @@ pub trait FallibleIterator {
     ///     U.into_gives U.IntoFallibleIter.contract)).steps
     ///     result (flatten.flattened inner (mapped h l))) }
     /// ```
+    /// </details>
     fn flat_map<U, F>(self, f: F) -> FlatMap<Self, U, F>
     where
         Self: Sized,
@@ -1865,7 +1899,7 @@ pub trait FallibleIterator {
     /// # fn main() { let _ = collected_above_100(vec![Ok(150), Ok(7), Ok(700), Ok(0), Ok(600)]); }
     /// ```
     ///
-    /// # Contract
+    /// <details><summary>Contract</summary>
     ///
     /// As it is proved, where its signature is another, in [these words](crate::words):
     ///
@@ -1880,6 +1914,7 @@ pub trait FallibleIterator {
     /// ensures failure { OverList contract.steps self
     ///     (λ l. (e : Self.Error) → result ≡ Err (Source e) → list.collected l ≡ Err e) }
     /// ```
+    /// </details>
     fn collect<T>(self) -> Result<T, Self::Error>
     where
         Self: Sized,
@@ -1908,7 +1943,7 @@ pub trait FallibleIterator {
     /// # fn main() { let _ = partitioned_at_100(vec![Ok(150), Ok(7), Ok(700), Ok(0), Ok(600)]); }
     /// ```
     ///
-    /// # Contract
+    /// <details><summary>Contract</summary>
     ///
     /// As it is proved, where its signature is another, in [these words](crate::words):
     ///
@@ -1926,6 +1961,7 @@ pub trait FallibleIterator {
     /// ensures failure { OverListWith (list.Acts (call_at F.FnMut) f) contract.steps self
     ///     (λ h l. (e : Self.Error) → result ≡ Err (Source e) → list.partitioned h l ≡ Err e) }
     /// ```
+    /// </details>
     fn partition<B, F>(mut self, f: F) -> Result<(B, B), Self::Error>
     where
         Self: Sized,
@@ -1959,7 +1995,7 @@ pub trait FallibleIterator {
     /// # fn main() { let _ = two_columns(vec![Ok(150), Ok(7), Ok(700), Ok(0), Ok(600)]); }
     /// ```
     ///
-    /// # Contract
+    /// <details><summary>Contract</summary>
     ///
     /// As it is proved, where its signature is another, in [these words](crate::words):
     ///
@@ -1979,6 +2015,7 @@ pub trait FallibleIterator {
     /// ensures failure { OverList contract.steps self
     ///     (λ l. (e : Self.Error) → result ≡ Err (Source e) → list.collected l ≡ Err e) }
     /// ```
+    /// </details>
     fn unzip<A, B, FromA, FromB>(mut self) -> Result<(FromA, FromB), Self::Error>
     where
         Self: Sized,
@@ -2039,7 +2076,7 @@ pub trait FallibleIterator {
     /// # fn main() { let _ = each_of(Script { answers: vec![Ok(Some(1)), Err(2)].into_iter() }); }
     /// ```
     ///
-    /// # Contract
+    /// <details><summary>Contract</summary>
     ///
     /// As it is proved, in [these words](crate::words):
     ///
@@ -2054,6 +2091,7 @@ pub trait FallibleIterator {
     /// ensures value { OverListWith (list.Acts (call_on F.FnMut) f) contract.steps self
     ///     (λ h l. result ≡ list.each_done h l) }
     /// ```
+    /// </details>
     fn for_each<F>(mut self, f: F) -> Result<(), Self::Error>
     where
         Self: Sized,
@@ -2081,7 +2119,7 @@ pub trait FallibleIterator {
     /// # fn main() { let _ = all_above_100(vec![Ok(150), Ok(7), Ok(700), Ok(0), Ok(600)]); }
     /// ```
     ///
-    /// # Contract
+    /// <details><summary>Contract</summary>
     ///
     /// As it is proved, in [these words](crate::words):
     ///
@@ -2099,6 +2137,7 @@ pub trait FallibleIterator {
     ///     → list.Lists contract.steps self.new (list.rest_false h l)) }
     /// ensures stays { Stays contract self.old self.new }
     /// ```
+    /// </details>
     fn all<F>(&mut self, f: F) -> Result<bool, Self::Error>
     where
         Self: Sized,
@@ -2124,7 +2163,7 @@ pub trait FallibleIterator {
     /// # fn main() { let _ = any_above_100(vec![Ok(150), Ok(7), Ok(700), Ok(0), Ok(600)]); }
     /// ```
     ///
-    /// # Contract
+    /// <details><summary>Contract</summary>
     ///
     /// As it is proved, in [these words](crate::words):
     ///
@@ -2142,6 +2181,7 @@ pub trait FallibleIterator {
     ///     → list.Lists contract.steps self.new (list.rest_true h l)) }
     /// ensures stays { Stays contract self.old self.new }
     /// ```
+    /// </details>
     fn any<F>(&mut self, f: F) -> Result<bool, Self::Error>
     where
         Self: Sized,
@@ -2169,7 +2209,7 @@ pub trait FallibleIterator {
     /// # fn main() { let _ = behind_zero(vec![Ok(150), Ok(7), Ok(700), Ok(0), Ok(600)]); }
     /// ```
     ///
-    /// # Contract
+    /// <details><summary>Contract</summary>
     ///
     /// As it is proved, in [these words](crate::words):
     ///
@@ -2187,6 +2227,7 @@ pub trait FallibleIterator {
     ///     → list.Lists contract.steps self.new (list.rest_true h l)) }
     /// ensures stays { Stays contract self.old self.new }
     /// ```
+    /// </details>
     fn find<F>(&mut self, f: F) -> Result<Option<Self::Item>, Self::Error>
     where
         Self: Sized,
@@ -2225,7 +2266,7 @@ pub trait FallibleIterator {
     /// # fn main() { let _ = find_map_answers_the_first_value_by_one_call_an_item(); }
     /// ```
     ///
-    /// # Contract
+    /// <details><summary>Contract</summary>
     ///
     /// As it is proved, in [these words](crate::words):
     ///
@@ -2243,6 +2284,7 @@ pub trait FallibleIterator {
     ///     → list.Lists contract.steps self.new (list.rest_value h l)) }
     /// ensures stays { Stays contract self.old self.new }
     /// ```
+    /// </details>
     fn find_map<B, F>(&mut self, f: F) -> Result<Option<B>, Self::Error>
     where
         Self: Sized,
@@ -2268,7 +2310,7 @@ pub trait FallibleIterator {
     /// # fn main() { let _ = count_behind(fallible_iterator::convert::<u32, u8, _>([Ok(150), Ok(7), Ok(700), Ok(0), Ok(600)].into_iter())); }
     /// ```
     ///
-    /// # Contract
+    /// <details><summary>Contract</summary>
     ///
     /// As it is proved, in [these words](crate::words):
     ///
@@ -2286,6 +2328,7 @@ pub trait FallibleIterator {
     ///     → list.Lists contract.steps self.new (list.rest_true h l)) }
     /// ensures stays { Stays contract self.old self.new }
     /// ```
+    /// </details>
     fn position<F>(&mut self, f: F) -> Result<Option<usize>, Self::Error>
     where
         Self: Sized,
@@ -2312,7 +2355,7 @@ pub trait FallibleIterator {
     /// # fn main() { let _ = greatest_above_100(vec![Ok(150), Ok(7), Ok(700), Ok(0), Ok(600)]); }
     /// ```
     ///
-    /// # Contract
+    /// <details><summary>Contract</summary>
     ///
     /// As it is proved, in [these words](crate::words):
     ///
@@ -2322,6 +2365,7 @@ pub trait FallibleIterator {
     /// ensures best { pick.BestDrains Greater Self.Item.cmp contract.steps self result }
     /// ensures value { OverList contract.steps self (λ l. result ≡ list.greatest Self.Item.cmp l) }
     /// ```
+    /// </details>
     fn max(self) -> Result<Option<Self::Item>, Self::Error>
     where
         Self: Sized,
@@ -2349,7 +2393,7 @@ pub trait FallibleIterator {
     /// # fn main() { let _ = least_double_above_1000(vec![Ok(150), Ok(7), Ok(700), Ok(0), Ok(600)]); }
     /// ```
     ///
-    /// # Contract
+    /// <details><summary>Contract</summary>
     ///
     /// As it is proved, in [these words](crate::words):
     ///
@@ -2359,6 +2403,7 @@ pub trait FallibleIterator {
     /// ensures best { pick.BestDrains Less Self.Item.cmp contract.steps self result }
     /// ensures value { OverList contract.steps self (λ l. result ≡ list.least Self.Item.cmp l) }
     /// ```
+    /// </details>
     fn min(self) -> Result<Option<Self::Item>, Self::Error>
     where
         Self: Sized,
@@ -2402,7 +2447,7 @@ pub trait FallibleIterator {
     /// # fn main() { let _ = max_by_key_of(&[], 5, 5); }
     /// ```
     ///
-    /// # Contract
+    /// <details><summary>Contract</summary>
     ///
     /// As it is proved, in [these words](crate::words):
     ///
@@ -2417,6 +2462,7 @@ pub trait FallibleIterator {
     /// ensures value { OverListWith (list.Acts (call_at F.FnMut) f) contract.steps self
     ///     (λ h l. result ≡ list.best_by_key Greater B.cmp h l) }
     /// ```
+    /// </details>
     fn max_by_key<B, F>(self, f: F) -> Result<Option<Self::Item>, Self::Error>
     where
         Self: Sized,
@@ -2449,7 +2495,7 @@ pub trait FallibleIterator {
     /// # fn main() { let _ = min_by_key_of(&[], 5, 5); }
     /// ```
     ///
-    /// # Contract
+    /// <details><summary>Contract</summary>
     ///
     /// As it is proved, in [these words](crate::words):
     ///
@@ -2464,6 +2510,7 @@ pub trait FallibleIterator {
     /// ensures value { OverListWith (list.Acts (call_at F.FnMut) f) contract.steps self
     ///     (λ h l. result ≡ list.best_by_key Less B.cmp h l) }
     /// ```
+    /// </details>
     fn min_by_key<B, F>(self, f: F) -> Result<Option<Self::Item>, Self::Error>
     where
         Self: Sized,
@@ -2500,7 +2547,7 @@ pub trait FallibleIterator {
     /// # fn main() { let _ = max_by_product(&[], 5, 5); }
     /// ```
     ///
-    /// # Contract
+    /// <details><summary>Contract</summary>
     ///
     /// As it is proved, in [these words](crate::words):
     ///
@@ -2515,6 +2562,7 @@ pub trait FallibleIterator {
     /// ensures value { OverListWith (list.ActsWith (pick.call_at_two F.FnMut) f) contract.steps
     ///     self (λ h l. result ≡ list.best_by Greater h l) }
     /// ```
+    /// </details>
     fn max_by<F>(self, f: F) -> Result<Option<Self::Item>, Self::Error>
     where
         Self: Sized,
@@ -2552,7 +2600,7 @@ pub trait FallibleIterator {
     /// # fn main() { let _ = min_by_product(&[], 5, 5); }
     /// ```
     ///
-    /// # Contract
+    /// <details><summary>Contract</summary>
     ///
     /// As it is proved, in [these words](crate::words):
     ///
@@ -2567,6 +2615,7 @@ pub trait FallibleIterator {
     /// ensures value { OverListWith (list.ActsWith (pick.call_at_two F.FnMut) f) contract.steps
     ///     self (λ h l. result ≡ list.best_by Less h l) }
     /// ```
+    /// </details>
     fn min_by<F>(self, f: F) -> Result<Option<Self::Item>, Self::Error>
     where
         Self: Sized,
@@ -2597,7 +2646,7 @@ pub trait FallibleIterator {
     /// # fn main() { let _ = order_of_doubled(vec![Ok(150), Ok(7), Ok(700), Ok(0), Ok(600)], vec![Ok(150), Ok(7), Ok(700), Ok(0), Ok(600)]); }
     /// ```
     ///
-    /// # Contract
+    /// <details><summary>Contract</summary>
     ///
     /// As it is proved, in [these words](crate::words):
     ///
@@ -2615,6 +2664,7 @@ pub trait FallibleIterator {
     ///     (λ a b. comparing.read_as (λ o. Some o) result ≡ list.compared
     ///     (comparing.by_cmp Self.Item.cmp) a b) }
     /// ```
+    /// </details>
     fn cmp<I>(self, other: I) -> Result<Ordering, Self::Error>
     where
         Self: Sized,
@@ -2645,7 +2695,7 @@ pub trait FallibleIterator {
     /// # fn main() { let _ = order_of_ten(vec![Ok(150), Ok(7), Ok(700), Ok(0), Ok(600)], vec![Ok(150), Ok(7), Ok(700), Ok(0), Ok(600)]); }
     /// ```
     ///
-    /// # Contract
+    /// <details><summary>Contract</summary>
     ///
     /// As it is proved, in [these words](crate::words):
     ///
@@ -2661,6 +2711,7 @@ pub trait FallibleIterator {
     ///     I.IntoFallibleIter.contract.steps
     ///     (λ a b. result ≡ list.compared Self.Item.partial_cmp a b) }
     /// ```
+    /// </details>
     fn partial_cmp<I>(self, other: I) -> Result<Option<Ordering>, Self::Error>
     where
         Self: Sized,
@@ -2684,7 +2735,7 @@ pub trait FallibleIterator {
     /// # fn main() { let _ = same_readings(vec![Ok(150), Ok(7), Ok(700), Ok(0), Ok(600)], vec![Ok(150), Ok(7), Ok(700), Ok(0), Ok(600)]); }
     /// ```
     ///
-    /// # Contract
+    /// <details><summary>Contract</summary>
     ///
     /// As it is proved, in [these words](crate::words):
     ///
@@ -2701,6 +2752,7 @@ pub trait FallibleIterator {
     ///     (λ a b. result ≡ comparing.read_as comparing.reads_eq
     ///     (list.compared (comparing.by_eq Self.Item.eq) a b)) }
     /// ```
+    /// </details>
     fn eq<I>(self, other: I) -> Result<bool, Self::Error>
     where
         Self: Sized,
@@ -2726,7 +2778,7 @@ pub trait FallibleIterator {
     /// # fn main() { let _ = doubled_differ(vec![Ok(150), Ok(7), Ok(700), Ok(0), Ok(600)], vec![Ok(150), Ok(7), Ok(700), Ok(0), Ok(600)]); }
     /// ```
     ///
-    /// # Contract
+    /// <details><summary>Contract</summary>
     ///
     /// As it is proved, in [these words](crate::words):
     ///
@@ -2743,6 +2795,7 @@ pub trait FallibleIterator {
     ///     (λ a b. result ≡ comparing.read_as comparing.reads_ne
     ///     (list.compared (comparing.by_eq Self.Item.eq) a b)) }
     /// ```
+    /// </details>
     fn ne<I>(self, other: I) -> Result<bool, Self::Error>
     where
         Self: Sized,
@@ -2768,7 +2821,7 @@ pub trait FallibleIterator {
     /// # fn main() { let _ = lt_of(&[], &[]); }
     /// ```
     ///
-    /// # Contract
+    /// <details><summary>Contract</summary>
     ///
     /// As it is proved, in [these words](crate::words):
     ///
@@ -2785,6 +2838,7 @@ pub trait FallibleIterator {
     ///     (λ a b. result ≡ comparing.read_as comparing.reads_lt
     ///     (list.compared Self.Item.partial_cmp a b)) }
     /// ```
+    /// </details>
     fn lt<I>(self, other: I) -> Result<bool, Self::Error>
     where
         Self: Sized,
@@ -2810,7 +2864,7 @@ pub trait FallibleIterator {
     /// # fn main() { let _ = up_to_doubled(vec![Ok(150), Ok(7), Ok(700), Ok(0), Ok(600)], vec![Ok(150), Ok(7), Ok(700), Ok(0), Ok(600)]); }
     /// ```
     ///
-    /// # Contract
+    /// <details><summary>Contract</summary>
     ///
     /// As it is proved, in [these words](crate::words):
     ///
@@ -2827,6 +2881,7 @@ pub trait FallibleIterator {
     ///     (λ a b. result ≡ comparing.read_as comparing.reads_le
     ///     (list.compared Self.Item.partial_cmp a b)) }
     /// ```
+    /// </details>
     fn le<I>(self, other: I) -> Result<bool, Self::Error>
     where
         Self: Sized,
@@ -2853,7 +2908,7 @@ pub trait FallibleIterator {
     /// # fn main() { let _ = greater_than_above_100(vec![Ok(150), Ok(7), Ok(700), Ok(0), Ok(600)], vec![Ok(150), Ok(7), Ok(700), Ok(0), Ok(600)]); }
     /// ```
     ///
-    /// # Contract
+    /// <details><summary>Contract</summary>
     ///
     /// As it is proved, in [these words](crate::words):
     ///
@@ -2870,6 +2925,7 @@ pub trait FallibleIterator {
     ///     (λ a b. result ≡ comparing.read_as comparing.reads_gt
     ///     (list.compared Self.Item.partial_cmp a b)) }
     /// ```
+    /// </details>
     fn gt<I>(self, other: I) -> Result<bool, Self::Error>
     where
         Self: Sized,
@@ -2895,7 +2951,7 @@ pub trait FallibleIterator {
     /// # fn main() { let _ = at_least_ten(vec![Ok(150), Ok(7), Ok(700), Ok(0), Ok(600)], vec![Ok(150), Ok(7), Ok(700), Ok(0), Ok(600)]); }
     /// ```
     ///
-    /// # Contract
+    /// <details><summary>Contract</summary>
     ///
     /// As it is proved, in [these words](crate::words):
     ///
@@ -2912,6 +2968,7 @@ pub trait FallibleIterator {
     ///     (λ a b. result ≡ comparing.read_as comparing.reads_ge
     ///     (list.compared Self.Item.partial_cmp a b)) }
     /// ```
+    /// </details>
     fn ge<I>(self, other: I) -> Result<bool, Self::Error>
     where
         Self: Sized,
@@ -2938,7 +2995,7 @@ pub trait FallibleIterator {
     /// # fn main() { let _ = first_and_count(fallible_iterator::convert::<u32, u8, _>([Ok(150), Ok(7), Ok(700), Ok(0), Ok(600)].into_iter())); }
     /// ```
     ///
-    /// # Contract
+    /// <details><summary>Contract</summary>
     ///
     /// As it is proved, in [these words](crate::words):
     ///
@@ -2947,6 +3004,7 @@ pub trait FallibleIterator {
     /// ensures lists { OverList contract.steps self
     ///     (λ l. list.Lists (seen_as peekable_parts (peekable_contract contract)).steps result l) }
     /// ```
+    /// </details>
     fn peekable(self) -> Peekable<Self>
     where
         Self: Sized,
@@ -3011,7 +3069,7 @@ pub trait FallibleIterator {
     /// # fn main() { let _ = expect_cycle(&[150, 7, 700], &[150, 7, 700]); }
     /// ```
     ///
-    /// # Contract
+    /// <details><summary>Contract</summary>
     ///
     /// As it is proved, where its signature is another, in [these words](crate::words):
     ///
@@ -3021,6 +3079,7 @@ pub trait FallibleIterator {
     ///     (λ made. Self.is_clone self (cycle_source made) × (cycle_kept made ≡ self))
     ///     (λ _. ¬ (Self.is_infallible self)) }
     /// ```
+    /// </details>
     fn cycle(self) -> Cycle<Self>
     where
         Self: Sized,
@@ -3049,7 +3108,7 @@ pub trait FallibleIterator {
     /// # fn main() { let _ = count_behind_two(vec![Ok(150), Ok(7), Ok(700), Ok(0), Ok(600)]); }
     /// ```
     ///
-    /// # Contract
+    /// <details><summary>Contract</summary>
     ///
     /// As it is proved, in [these words](crate::words):
     ///
@@ -3061,6 +3120,8 @@ pub trait FallibleIterator {
     ///     (λ l. ¬ (result ≡ Ok None) → list.Lists contract.steps self.new (list.rest_first l)) }
     /// ensures stays { Stays contract self.old self.new }
     /// ```
+    /// </details>
+    #[doc(hidden)]
     fn draw(&mut self) -> Result<Option<Self::Item>, Self::Error>
     where
         Self: Sized,
@@ -3106,7 +3167,7 @@ pub trait FallibleIterator {
     /// # fn main() { let _ = a_borrow_and_a_box_answer_as_what_they_hold(); }
     /// ```
     ///
-    /// # Contract
+    /// <details><summary>Contract</summary>
     ///
     /// As it is proved, in [these words](crate::words):
     ///
@@ -3116,6 +3177,7 @@ pub trait FallibleIterator {
     /// ensures lists { OverList contract.steps self.old
     ///     (λ l. list.Lists (borrowed contract).steps result l) }
     /// ```
+    /// </details>
     fn by_ref(&mut self) -> &mut Self
     where
         Self: Sized,
@@ -3144,7 +3206,7 @@ pub trait FallibleIterator {
     /// # fn main() { let _ = failures(vec![Ok(150), Ok(7), Ok(700), Ok(0), Ok(600)]); }
     /// ```
     ///
-    /// # Contract
+    /// <details><summary>Contract</summary>
     ///
     /// As it is proved, in [these words](crate::words):
     ///
@@ -3153,6 +3215,7 @@ pub trait FallibleIterator {
     /// ensures reads { OverList contract.steps self
     ///     (λ l. EachRunFrom (iterator_steps contract.steps) result (λ p. ItemsAre p l)) }
     /// ```
+    /// </details>
     fn iterator(self) -> Iterator<Self>
     where
         Self: Sized,
@@ -3176,7 +3239,7 @@ pub trait FallibleIterator {
     /// # fn main() { let _ = number_of(vec![1, 2, 3]); }
     /// ```
     ///
-    /// # Contract
+    /// <details><summary>Contract</summary>
     ///
     /// As it is proved, in [these words](crate::words):
     ///
@@ -3187,6 +3250,7 @@ pub trait FallibleIterator {
     ///     (λ l. EachRunFrom (unwrap_steps contract.steps) result
     ///     (λ p. ItemsAre p (unwrapped l))) }
     /// ```
+    /// </details>
     fn unwrap<T>(self) -> Unwrap<Self>
     where
         Self: Sized,

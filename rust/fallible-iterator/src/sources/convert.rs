@@ -6,6 +6,7 @@ use crate::sources::std_fold::{AsResult, drive_back_std, drive_std};
 
 /// The fallible iterator of a std iterator over results: each `Ok` is an item, each `Err` a failure, and `None` is `Ok(None)`.
 #[derive(Clone, Debug)]
+#[must_use = "an iterator draws nothing until it is asked"]
 pub struct Convert<I> {
     pub(crate) it: I,
 }
@@ -69,7 +70,7 @@ impl<T, E, I: core::iter::DoubleEndedIterator<Item = Result<T, E>>> Convert<I> {
     /// # fn main() { let _ = last_first(vec![Ok(150), Ok(7), Ok(700), Ok(0), Ok(600)]); }
     /// ```
     ///
-    /// # Contract
+    /// <details><summary>Contract</summary>
     ///
     /// As it is proved, in [these words](crate::words):
     ///
@@ -87,6 +88,7 @@ impl<T, E, I: core::iter::DoubleEndedIterator<Item = Result<T, E>>> Convert<I> {
     ///     → Lists ⟦<Rev<Convert<I>> as FallibleIterator>⟧.contract.steps result
     ///     (reversed (items l)) }
     /// ```
+    /// </details>
     pub fn rev(self) -> Rev<Convert<I>> {
         FallibleIterator::rev(self)
     }

@@ -5,6 +5,7 @@ use core::marker::PhantomData;
 
 /// Yields nothing: each call returns `Ok(None)`.
 #[derive(Clone, Debug)]
+#[must_use = "an iterator draws nothing until it is asked"]
 pub struct Empty<T, E> {
     pub(crate) item_type: PhantomData<T>,
     pub(crate) error_type: PhantomData<E>,

@@ -4,6 +4,7 @@ use crate::fallible_core::FallibleIterator;
 
 /// The fallible iterator of a closure: each `next` is one call, and returns what the closure returns.
 #[derive(Clone, Debug)]
+#[must_use = "an iterator draws nothing until it is asked"]
 pub struct FromFn<F> {
     pub(crate) fun: F,
 }

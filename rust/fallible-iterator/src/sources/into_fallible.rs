@@ -7,6 +7,7 @@ use core::convert::Infallible;
 
 /// The fallible iterator of a std iterator over any values: each is an item, and `None` is `Ok(None)`. It never fails.
 #[derive(Clone, Debug)]
+#[must_use = "an iterator draws nothing until it is asked"]
 pub struct IntoFallible<I> {
     pub(crate) it: I,
 }
@@ -86,7 +87,7 @@ impl<T, I: core::iter::DoubleEndedIterator<Item = T>> IntoFallible<I> {
     /// # fn main() { let _ = clones_of_adapters_over_ranges(); }
     /// ```
     ///
-    /// # Contract
+    /// <details><summary>Contract</summary>
     ///
     /// As it is proved, in [these words](crate::words):
     ///
@@ -100,6 +101,7 @@ impl<T, I: core::iter::DoubleEndedIterator<Item = T>> IntoFallible<I> {
     ///     → Lists ⟦<Rev<IntoFallible<I>> as FallibleIterator>⟧.contract.steps result
     ///     (reversed (items l)) }
     /// ```
+    /// </details>
     pub fn rev(self) -> Rev<IntoFallible<I>> {
         FallibleIterator::rev(self)
     }

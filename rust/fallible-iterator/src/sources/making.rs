@@ -23,7 +23,7 @@ use core::marker::PhantomData;
 /// # fn main() { let _ = above_100_of_ten(vec![Ok(150), Ok(7), Ok(700), Ok(0), Ok(600)]); }
 /// ```
 ///
-/// # Contract
+/// <details><summary>Contract</summary>
 ///
 /// As it is proved, in [these words](crate::words):
 ///
@@ -37,6 +37,7 @@ use core::marker::PhantomData;
 ///     (convert_contract {A = T} {E = E} I.can_next I.next_gives I.remaining)).steps result
 ///     (items l) }
 /// ```
+/// </details>
 pub fn convert<T, E, I: Iterator<Item = Result<T, E>>>(it: I) -> Convert<I> {
     Convert { it }
 }
@@ -64,7 +65,7 @@ pub fn convert<T, E, I: Iterator<Item = Result<T, E>>>(it: I) -> Convert<I> {
 /// # fn main() { let _ = lines_written_out(b"20\n22\n".as_slice()); }
 /// ```
 ///
-/// # Contract
+/// <details><summary>Contract</summary>
 ///
 /// As it is proved, in [these words](crate::words):
 ///
@@ -80,6 +81,7 @@ pub fn convert<T, E, I: Iterator<Item = Result<T, E>>>(it: I) -> Convert<I> {
 /// ensures items_for_good { (l : List T) → RunsRead I.next_gives Ok it l
 ///     → ListsForGood ⟦<Convert<Fuse<I>> as FallibleIterator>⟧.contract.steps result (items l) }
 /// ```
+/// </details>
 pub fn convert_fused<T, E, I: Iterator<Item = Result<T, E>>>(it: I) -> Convert<Fuse<I>> {
     convert(it.fuse())
 }
@@ -111,7 +113,7 @@ pub fn convert_fused<T, E, I: Iterator<Item = Result<T, E>>>(it: I) -> Convert<F
 /// # fn main() { let _ = empty_once_and_once_err_end(); }
 /// ```
 ///
-/// # Contract
+/// <details><summary>Contract</summary>
 ///
 /// As it is proved, in [these words](crate::words):
 ///
@@ -120,6 +122,7 @@ pub fn convert_fused<T, E, I: Iterator<Item = Result<T, E>>>(it: I) -> Convert<F
 /// ensures lists { Lists (seen_as once_parts (once_contract {A = T} {E = E})).steps result
 ///     (Ok value ∷ []) }
 /// ```
+/// </details>
 pub fn once<T, E>(value: T) -> Once<T, E> {
     Once {
         value: Some(value),
@@ -156,7 +159,7 @@ pub fn once<T, E>(value: T) -> Once<T, E> {
 /// # fn main() { let _ = empty_once_and_once_err_end(); }
 /// ```
 ///
-/// # Contract
+/// <details><summary>Contract</summary>
 ///
 /// As it is proved, in [these words](crate::words):
 ///
@@ -165,6 +168,7 @@ pub fn once<T, E>(value: T) -> Once<T, E> {
 /// ensures lists { Lists (seen_as once_err_parts (once_err_contract {A = T} {E = E})).steps result
 ///     (Err error ∷ []) }
 /// ```
+/// </details>
 pub fn once_err<T, E>(error: E) -> OnceErr<T, E> {
     OnceErr {
         item_type: PhantomData,
@@ -202,7 +206,7 @@ pub fn once_err<T, E>(error: E) -> OnceErr<T, E> {
 /// # fn main() { let _ = clones_of_from_fn_keep_its_count(); }
 /// ```
 ///
-/// # Contract
+/// <details><summary>Contract</summary>
 ///
 /// As it is proved, in [these words](crate::words):
 ///
@@ -214,6 +218,7 @@ pub fn once_err<T, E>(error: E) -> OnceErr<T, E> {
 /// ensures shown { (shows : F → List (Result I E)) → CallsTakeShown (call_of_none F.FnMut) shows
 ///     → Lists (seen_as from_fn_parts (from_fn_contract F.FnMut)).steps result (shows fun) }
 /// ```
+/// </details>
 pub fn from_fn<I, E, F: FnMut() -> Result<Option<I>, E>>(fun: F) -> FromFn<F> {
     FromFn { fun }
 }
@@ -245,13 +250,14 @@ pub fn from_fn<I, E, F: FnMut() -> Result<Option<I>, E>>(fun: F) -> FromFn<F> {
 /// # fn main() { let _ = empty_once_and_once_err_end(); }
 /// ```
 ///
-/// # Contract
+/// <details><summary>Contract</summary>
 ///
 /// As it is proved, in [these words](crate::words):
 ///
 /// ```text
 /// ensures lists { Lists (empty_contract {S = Empty T E} {A = T} {E = E}).steps result [] }
 /// ```
+/// </details>
 pub fn empty<T, E>() -> Empty<T, E> {
     Empty {
         item_type: PhantomData,
@@ -309,7 +315,7 @@ pub fn empty<T, E>() -> Empty<T, E> {
 /// # fn main() { let _ = repeat_and_repeat_err_go_on(); }
 /// ```
 ///
-/// # Contract
+/// <details><summary>Contract</summary>
 ///
 /// As it is proved, in [these words](crate::words):
 ///
@@ -320,6 +326,7 @@ pub fn empty<T, E>() -> Empty<T, E> {
 ///     (seen_as repeat_parts (repeat_contract T.is_clone T.is_infallible E.from_gives)).steps
 ///     result (Ok value) }
 /// ```
+/// </details>
 pub fn repeat<T: Clone, E>(value: T) -> Repeat<T, E> {
     Repeat {
         value,
@@ -368,13 +375,14 @@ pub fn repeat<T: Clone, E>(value: T) -> Repeat<T, E> {
 /// # fn main() { let _ = repeat_and_repeat_err_go_on(); }
 /// ```
 ///
-/// # Contract
+/// <details><summary>Contract</summary>
 ///
 /// As it is proved, in [these words](crate::words):
 ///
 /// ```text
 /// ensures parts { repeat_err_parts result ≡ error }
 /// ```
+/// </details>
 pub fn repeat_err<T, E: Clone>(error: E) -> RepeatErr<T, E> {
     RepeatErr {
         item_type: PhantomData,

@@ -5,6 +5,7 @@ use core::marker::PhantomData;
 
 /// One item. Then each call returns `Ok(None)`.
 #[derive(Clone, Debug)]
+#[must_use = "an iterator draws nothing until it is asked"]
 pub struct Once<T, E> {
     pub(crate) value: Option<T>,
     pub(crate) error_type: PhantomData<E>,

@@ -5,6 +5,7 @@ use core::marker::PhantomData;
 
 /// One failure. Then each call returns `Ok(None)`.
 #[derive(Clone, Debug)]
+#[must_use = "an iterator draws nothing until it is asked"]
 pub struct OnceErr<T, E> {
     pub(crate) item_type: PhantomData<T>,
     pub(crate) error: Option<E>,

@@ -6,6 +6,7 @@ use core::marker::PhantomData;
 
 /// A clone of one value as each item.
 #[derive(Clone, Debug)]
+#[must_use = "an iterator draws nothing until it is asked"]
 pub struct Repeat<T, E> {
     pub(crate) value: T,
     pub(crate) error_type: PhantomData<E>,

@@ -6,6 +6,7 @@ use core::marker::PhantomData;
 
 /// A clone of one error as each failure.
 #[derive(Clone, Debug)]
+#[must_use = "an iterator draws nothing until it is asked"]
 pub struct RepeatErr<T, E> {
     pub(crate) item_type: PhantomData<T>,
     pub(crate) error: E,

@@ -7,6 +7,7 @@ use crate::fallible_core::traits::double_ended::DoubleEndedFallibleIterator;
 ///
 /// It is double-ended if its source is.
 #[derive(Clone, Debug)]
+#[must_use = "an iterator draws nothing until it is asked"]
 pub struct Iterator<I> {
     pub(crate) it: I,
 }

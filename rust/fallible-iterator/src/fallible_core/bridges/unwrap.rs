@@ -4,6 +4,7 @@ use crate::fallible_core::traits::FallibleIterator;
 
 /// A std iterator over the items of a source that can never fail again; `Ok(None)` is `None`. After a `None` the next call draws again.
 #[derive(Clone, Debug)]
+#[must_use = "an iterator draws nothing until it is asked"]
 pub struct Unwrap<I> {
     pub(crate) it: I,
 }

@@ -5,6 +5,7 @@ use crate::fallible_core::traits::FallibleIterator;
 
 /// What the source yields up to its first `Ok(None)`. From there on each call returns `Ok(None)`. A failure exhausts nothing.
 #[derive(Clone, Debug)]
+#[must_use = "an iterator draws nothing until it is asked"]
 pub struct Fuse<I> {
     pub(crate) it: I,
     // whether the source returned `Ok(None)`

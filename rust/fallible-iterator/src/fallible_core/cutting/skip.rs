@@ -8,6 +8,7 @@ use core::ops::ControlFlow;
 
 /// What the source yields without its first n items. Failures and `Ok(None)` stay, and don't count.
 #[derive(Clone, Debug)]
+#[must_use = "an iterator draws nothing until it is asked"]
 pub struct Skip<I> {
     pub(crate) it: I,
     // how many items are still to be skipped

@@ -9,6 +9,7 @@ use crate::fallible_core::traits::FallibleIterator;
 
 /// The source's first item, and then every k-th one. Failures and `Ok(None)` stay, and don't count.
 #[derive(Clone, Debug)]
+#[must_use = "an iterator draws nothing until it is asked"]
 pub struct StepBy<I> {
     pub(crate) it: I,
     // how many items are left out between two, which is one less than the step

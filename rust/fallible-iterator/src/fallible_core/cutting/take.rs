@@ -5,6 +5,7 @@ use crate::fallible_core::traits::FallibleIterator;
 
 /// What the source yields up to its n-th item. Then each call returns `Ok(None)`. Failures and `Ok(None)` of the source pass, and don't count.
 #[derive(Clone, Debug)]
+#[must_use = "an iterator draws nothing until it is asked"]
 pub struct Take<I> {
     pub(crate) it: I,
     // how many items are still to be taken

@@ -7,6 +7,7 @@ use crate::fallible_core::traits::FallibleIterator;
 
 /// What the source yields up to the first item that the predicate rejects. That one is lost, and from there on each call returns `Ok(None)`. An item on which the predicate fails is lost, and its failure is yielded; neither it nor an `Ok(None)` of the source exhausts anything.
 #[derive(Clone, Debug)]
+#[must_use = "an iterator draws nothing until it is asked"]
 pub struct TakeWhile<I, P> {
     pub(crate) it: I,
     // whether an item was rejected, and the predicate

@@ -6,6 +6,7 @@ use crate::fallible_core::traits::double_ended::DoubleEndedFallibleIterator;
 
 /// The source with its ends swapped: a draw from the front is a draw of the source from the back, and the other way round.
 #[derive(Clone, Debug)]
+#[must_use = "an iterator draws nothing until it is asked"]
 pub struct Rev<I> {
     pub(crate) it: I,
 }

@@ -11,6 +11,7 @@ use core::ops::ControlFlow;
 
 /// The items for which the predicate returns true. An item on which it fails is lost, and its failure is yielded.
 #[derive(Clone, Debug)]
+#[must_use = "an iterator draws nothing until it is asked"]
 pub struct Filter<I, F> {
     pub(crate) it: I,
     pub(crate) f: F,

@@ -12,6 +12,7 @@ use core::ops::ControlFlow;
 
 /// The values that the closure returns. An item for which it returns `None` is left out; an item on which it fails is lost, and its failure is yielded.
 #[derive(Clone, Debug)]
+#[must_use = "an iterator draws nothing until it is asked"]
 pub struct FilterMap<I, F> {
     pub(crate) it: I,
     pub(crate) f: F,

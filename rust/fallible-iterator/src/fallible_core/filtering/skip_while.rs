@@ -7,6 +7,7 @@ use core::ops::ControlFlow;
 
 /// The items from the first one on for which the predicate returns false. The predicate is called up to that item and never after it; an item on which it fails is lost, and its failure is yielded.
 #[derive(Clone, Debug)]
+#[must_use = "an iterator draws nothing until it is asked"]
 pub struct SkipWhile<I, P> {
     pub(crate) it: I,
     // whether the predicate returned false, and the predicate

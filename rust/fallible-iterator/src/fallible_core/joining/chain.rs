@@ -16,6 +16,7 @@ pub(crate) enum StillDrawn {
 
 /// What the first source yields up to its first `Ok(None)`, and then what the second yields. A failure changes no side.
 #[derive(Clone, Debug)]
+#[must_use = "an iterator draws nothing until it is asked"]
 pub struct Chain<T, U> {
     pub(crate) first: T,
     pub(crate) second: U,

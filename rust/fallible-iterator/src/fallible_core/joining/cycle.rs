@@ -5,6 +5,7 @@ use crate::memory::TryClone;
 
 /// What a run yields, and at its `Ok(None)` what a fresh clone of the kept source yields, and so on. The `Ok(None)` that closes a run isn't returned; an `Ok(None)` or a failure that a clone begins with is.
 #[derive(Clone, Debug)]
+#[must_use = "an iterator draws nothing until it is asked"]
 pub struct Cycle<I> {
     // the current run
     pub(crate) it: I,

@@ -8,6 +8,7 @@ use crate::fallible_core::traits::conversion::IntoFallibleIterator;
 use core::marker::PhantomData;
 
 /// What the inner iterators yield that the closure makes of the items, as `Flatten`. `J` is what a result of the closure becomes, and no caller writes it. If the closure fails, its failure is yielded, and that item is lost.
+#[must_use = "an iterator draws nothing until it is asked"]
 pub struct FlatMap<I, U, F, J = <U as IntoFallibleIterator>::IntoFallibleIter> {
     pub(crate) it: Map<I, F>,
     pub(crate) in_hand: Option<J>,

@@ -7,6 +7,7 @@ use core::ops::ControlFlow;
 
 /// What the inner iterators yield that the items become, one inner iterator after the other. `J` is what an item becomes, and no caller writes it. The current one is drawn until its `Ok(None)`, and is dropped then. Then the next item is drawn. After a failure of the inner iterator it stays the current one. After a failure or an `Ok(None)` of the outer source the next call draws that source again.
 #[derive(Clone, Debug)]
+#[must_use = "an iterator draws nothing until it is asked"]
 pub struct Flatten<I, J = <<I as FallibleIterator>::Item as IntoFallibleIterator>::IntoFallibleIter>
 {
     pub(crate) it: I,

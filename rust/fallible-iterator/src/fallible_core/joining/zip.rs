@@ -5,6 +5,7 @@ use crate::fallible_core::traits::FallibleIterator;
 
 /// The pairs of the left's items and the right's, position by position. A failure of either side is yielded. Otherwise an `Ok(None)` of either side is returned. An item beside a failure or an `Ok(None)` is lost.
 #[derive(Clone, Debug)]
+#[must_use = "an iterator draws nothing until it is asked"]
 pub struct Zip<T, U> {
     pub(crate) left: T,
     pub(crate) right: U,

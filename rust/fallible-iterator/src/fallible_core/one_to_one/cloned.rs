@@ -9,6 +9,7 @@ use crate::memory::TryClone;
 
 /// A clone of what each item points to.
 #[derive(Clone, Debug)]
+#[must_use = "an iterator draws nothing until it is asked"]
 pub struct Cloned<I> {
     pub(crate) it: I,
 }

@@ -7,6 +7,7 @@ use crate::fallible_core::traits::FallibleIterator;
 
 /// Each item with the number of items before it. Failures and `Ok(None)` pass, and don't count.
 #[derive(Clone, Debug)]
+#[must_use = "an iterator draws nothing until it is asked"]
 pub struct Enumerate<I> {
     pub(crate) it: I,
     pub(crate) count: usize,

@@ -8,6 +8,7 @@ use crate::fallible_core::traits::double_ended::DoubleEndedFallibleIterator;
 
 /// The items of the source. The closure is called on a reference to each first. An item on which it fails is lost, and its failure is yielded.
 #[derive(Clone, Debug)]
+#[must_use = "an iterator draws nothing until it is asked"]
 pub struct Inspect<I, F> {
     pub(crate) it: I,
     pub(crate) f: F,

@@ -9,6 +9,7 @@ use core::fmt;
 
 /// What the closure returns for each item. If it fails, its failure is yielded, and the item is lost.
 #[derive(Clone)]
+#[must_use = "an iterator draws nothing until it is asked"]
 pub struct Map<T, F> {
     pub(crate) it: T,
     pub(crate) f: F,

@@ -8,6 +8,7 @@ use crate::fallible_core::traits::double_ended::DoubleEndedFallibleIterator;
 
 /// The source with each failure replaced by what the closure returns for it. Items and `Ok(None)` pass.
 #[derive(Clone, Debug)]
+#[must_use = "an iterator draws nothing until it is asked"]
 pub struct MapErr<I, F> {
     pub(crate) it: I,
     pub(crate) f: F,

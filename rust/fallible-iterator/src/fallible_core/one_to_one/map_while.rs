@@ -7,6 +7,7 @@ use crate::fallible_core::traits::FallibleIterator;
 
 /// What the closure returns for each item. Where that is `None`, the adapter returns `Ok(None)`, and the next call draws again. If the closure fails, its failure is yielded, and the item is lost.
 #[derive(Clone, Debug)]
+#[must_use = "an iterator draws nothing until it is asked"]
 pub struct MapWhile<I, F> {
     pub(crate) it: I,
     pub(crate) f: F,

@@ -33,7 +33,7 @@ impl<I: FallibleIterator> Peekable<I> {
     /// # fn main() { let _ = peek_draws_once(); }
     /// ```
     ///
-    /// # Contract
+    /// <details><summary>Contract</summary>
     ///
     /// As it is proved, in [these words](crate::words):
     ///
@@ -47,6 +47,7 @@ impl<I: FallibleIterator> Peekable<I> {
     ///     × Stays (peekable_contract I.contract) (peekable_parts self.old)
     ///     (peekable_parts v))) }
     /// ```
+    /// </details>
     pub fn peek(&mut self) -> Result<Option<&I::Item>, I::Error> {
         let filled = self.fill();
         let held = self.lend();
@@ -71,7 +72,7 @@ impl<I: FallibleIterator> Peekable<I> {
     /// # fn main() { let _ = first_two(vec![Ok(150), Ok(7), Ok(700), Ok(0), Ok(600)]); }
     /// ```
     ///
-    /// # Contract
+    /// <details><summary>Contract</summary>
     ///
     /// As it is proved, in [these words](crate::words):
     ///
@@ -89,6 +90,8 @@ impl<I: FallibleIterator> Peekable<I> {
     /// ensures stays { Stays (peekable_contract I.contract)
     ///     (peekable_parts self.old) (peekable_parts self.new) }
     /// ```
+    /// </details>
+    #[doc(hidden)]
     pub fn look<R, F: Fn(&I::Item) -> R>(&mut self, f: F) -> Result<Option<R>, I::Error> {
         self.fill()?;
         match self.held() {
@@ -114,7 +117,7 @@ impl<I: FallibleIterator> Peekable<I> {
     /// # fn main() { let _ = first_and_count(fallible_iterator::convert::<u32, u8, _>([Ok(150), Ok(7), Ok(700), Ok(0), Ok(600)].into_iter())); }
     /// ```
     ///
-    /// # Contract
+    /// <details><summary>Contract</summary>
     ///
     /// As it is proved, in [these words](crate::words):
     ///
@@ -130,6 +133,7 @@ impl<I: FallibleIterator> Peekable<I> {
     /// ensures stays { Stays (peekable_contract I.contract)
     ///     (peekable_parts self.old) (peekable_parts self.new) }
     /// ```
+    /// </details>
     pub fn peek_copied(&mut self) -> Result<Option<I::Item>, I::Error>
     where
         I::Item: Copy,
@@ -169,7 +173,7 @@ impl<I: FallibleIterator> Peekable<I> {
     /// # fn main() { let _ = take_looked_at(&mut fallible_iterator::convert::<u32, u8, _>([Ok(150), Ok(7), Ok(700), Ok(0), Ok(600)].into_iter()).peekable()); }
     /// ```
     ///
-    /// # Contract
+    /// <details><summary>Contract</summary>
     ///
     /// As it is proved, in [these words](crate::words):
     ///
@@ -180,6 +184,8 @@ impl<I: FallibleIterator> Peekable<I> {
     /// ensures stays { Stays (peekable_contract I.contract)
     ///     (peekable_parts self.old) (peekable_parts self.new) }
     /// ```
+    /// </details>
+    #[doc(hidden)]
     pub fn fill(&mut self) -> Result<(), I::Error> {
         match self.held {
             Some(_) => Ok(()),
@@ -229,13 +235,15 @@ impl<I: FallibleIterator> Peekable<I> {
     /// # fn main() { let _ = take_looked_at(&mut fallible_iterator::convert::<u32, u8, _>([Ok(150), Ok(7), Ok(700), Ok(0), Ok(600)].into_iter()).peekable()); }
     /// ```
     ///
-    /// # Contract
+    /// <details><summary>Contract</summary>
     ///
     /// As it is proved, in [these words](crate::words):
     ///
     /// ```text
     /// ensures { option_copied result ≡ held_item (peekable_held self.now) }
     /// ```
+    /// </details>
+    #[doc(hidden)]
     pub fn held(&self) -> Option<&I::Item> {
         match &self.held {
             Some(Some(x)) => Some(x),

@@ -7,6 +7,7 @@ use core::ops::ControlFlow;
 
 /// What the source yields; the next item can be looked at ahead. An item or an `Ok(None)` that was looked at is buffered, and comes first; a failure isn't buffered.
 #[derive(Clone, Debug)]
+#[must_use = "an iterator draws nothing until it is asked"]
 pub struct Peekable<I: FallibleIterator> {
     pub(crate) it: I,
     // what was looked at, an item or an `Ok(None)`, and wasn't returned yet
@@ -81,7 +82,7 @@ impl<I: FallibleIterator> Peekable<I> {
     /// # fn main() { let _ = next_merged(&mut fallible_iterator::convert::<u32, u8, _>([Ok(150), Ok(7), Ok(700), Ok(0), Ok(600)].into_iter()).peekable(), &mut fallible_iterator::convert::<u32, u8, _>([Ok(150), Ok(7), Ok(700), Ok(0), Ok(600)].into_iter()).peekable()); }
     /// ```
     ///
-    /// # Contract
+    /// <details><summary>Contract</summary>
     ///
     /// As it is proved, in [these words](crate::words):
     ///
@@ -102,6 +103,7 @@ impl<I: FallibleIterator> Peekable<I> {
     ///     → Fewer (peekable_contract I.contract)
     ///     (peekable_parts self.old) (peekable_parts self.new) }
     /// ```
+    /// </details>
     pub fn next_if(&mut self, f: impl Fn(&I::Item) -> bool) -> Result<Option<I::Item>, I::Error> {
         match self.next() {
             Ok(Some(x)) => {
@@ -260,7 +262,7 @@ impl<I: FallibleIterator> Peekable<I> {
     /// # fn main() { let _ = peek_and_next_if_hold_the_end_that_they_draw(); }
     /// ```
     ///
-    /// # Contract
+    /// <details><summary>Contract</summary>
     ///
     /// As it is proved, in [these words](crate::words):
     ///
@@ -279,6 +281,7 @@ impl<I: FallibleIterator> Peekable<I> {
     ///     → Fewer (peekable_contract I.contract)
     ///     (peekable_parts self.old) (peekable_parts self.new) }
     /// ```
+    /// </details>
     pub fn next_if_eq<T: ?Sized>(&mut self, expected: &T) -> Result<Option<I::Item>, I::Error>
     where
         I::Item: PartialEq<T>,

@@ -15,13 +15,14 @@ pub trait IntoFallibleIterator {
 
     /// Returns the fallible iterator that the value becomes. A fallible iterator returns itself, and draws nothing.
     ///
-    /// # Contract
+    /// <details><summary>Contract</summary>
     ///
     /// As it is proved, in [these words](crate::words):
     ///
     /// ```text
     /// ensures { into_gives self result }
     /// ```
+    /// </details>
     fn into_fallible_iter(self) -> Self::IntoFallibleIter;
 }
 

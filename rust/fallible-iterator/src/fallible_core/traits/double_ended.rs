@@ -23,7 +23,7 @@ pub trait DoubleEndedFallibleIterator: FallibleIterator {
     /// # fn main() { let _ = last_drawn(vec![Ok(150), Ok(7), Ok(700), Ok(0), Ok(600)]); }
     /// ```
     ///
-    /// # Contract
+    /// <details><summary>Contract</summary>
     ///
     /// As it is proved, in [these words](crate::words):
     ///
@@ -31,11 +31,12 @@ pub trait DoubleEndedFallibleIterator: FallibleIterator {
     /// requires { ends.can_next self.old }
     /// ensures { ends.steps self.old result self.new }
     /// ```
+    /// </details>
     fn next_back(&mut self) -> Result<Option<Self::Item>, Self::Error>;
 
     /// `drive` from the back. Every fold from the back goes through it. A caller uses `try_rfold`.
     ///
-    /// # Contract
+    /// <details><summary>Contract</summary>
     ///
     /// As it is proved, in [these words](crate::words):
     ///
@@ -47,7 +48,9 @@ pub trait DoubleEndedFallibleIterator: FallibleIterator {
     /// ensures { Driven ends.steps (K.turns turn.now) self.old state.old result
     ///     self.new state.new }
     /// ```
+    /// </details>
     #[inline(always)]
+    #[doc(hidden)]
     fn drive_back<C, R, K: Turn<C, Self::Item, R>>(
         &mut self,
         state: &mut C,
@@ -67,8 +70,8 @@ pub trait DoubleEndedFallibleIterator: FallibleIterator {
         }
     }
 
-    #[doc(hidden)]
     #[inline(always)]
+    #[doc(hidden)]
     fn drive_try_rfold<B, E, F>(&mut self, init: B, f: F) -> Result<B, E>
     where
         Self: Sized,
@@ -118,7 +121,7 @@ pub trait DoubleEndedFallibleIterator: FallibleIterator {
     /// # fn main() { let _ = try_rfold_fails_with_the_last_failure(); }
     /// ```
     ///
-    /// # Contract
+    /// <details><summary>Contract</summary>
     ///
     /// As it is proved, in [these words](crate::words):
     ///
@@ -139,6 +142,7 @@ pub trait DoubleEndedFallibleIterator: FallibleIterator {
     ///     (reverse (rest_fold h init (reverse l))) }
     /// ensures stays { Stays (from_back Self.contract ends) self.old self.new }
     /// ```
+    /// </details>
     #[inline(always)]
     fn try_rfold<B, E, F>(&mut self, init: B, f: F) -> Result<B, E>
     where
@@ -180,7 +184,7 @@ pub trait DoubleEndedFallibleIterator: FallibleIterator {
     /// # fn main() { let _ = rfold_meets_the_last_item_first(); }
     /// ```
     ///
-    /// # Contract
+    /// <details><summary>Contract</summary>
     ///
     /// As it is proved, in [these words](crate::words):
     ///
@@ -194,6 +198,7 @@ pub trait DoubleEndedFallibleIterator: FallibleIterator {
     /// ensures value { OverListWith (ActsWith (call_with F.FnMut) f) ends.steps self
     ///     (λ h l. result ≡ folded (λ e. e) h init l) }
     /// ```
+    /// </details>
     fn rfold<B, F>(mut self, init: B, f: F) -> Result<B, Self::Error>
     where
         Self: Sized,
@@ -220,7 +225,7 @@ pub trait DoubleEndedFallibleIterator: FallibleIterator {
     /// # fn main() { let _ = last_but_one_of(&mut fallible_iterator::convert::<u32, u8, _>([Ok(150), Ok(7), Ok(700), Ok(0), Ok(600)].into_iter())); }
     /// ```
     ///
-    /// # Contract
+    /// <details><summary>Contract</summary>
     ///
     /// As it is proved, in [these words](crate::words):
     ///
@@ -233,6 +238,8 @@ pub trait DoubleEndedFallibleIterator: FallibleIterator {
     ///     × ListsBothEnds Self.contract.steps ends.steps self.new (rest_first l) }
     /// ensures stays { Stays (from_front Self.contract ends) self.old self.new }
     /// ```
+    /// </details>
+    #[doc(hidden)]
     fn draw_front(&mut self) -> Result<Option<Self::Item>, Self::Error>
     where
         Self: Sized,
@@ -260,7 +267,7 @@ pub trait DoubleEndedFallibleIterator: FallibleIterator {
     /// # fn main() { let _ = last_but_one_written_out(vec![Ok(150), Ok(7), Ok(700), Ok(0), Ok(600)]); }
     /// ```
     ///
-    /// # Contract
+    /// <details><summary>Contract</summary>
     ///
     /// As it is proved, in [these words](crate::words):
     ///
@@ -274,6 +281,8 @@ pub trait DoubleEndedFallibleIterator: FallibleIterator {
     ///     (reverse (rest_first (reverse l))) }
     /// ensures stays { Stays (from_back Self.contract ends) self.old self.new }
     /// ```
+    /// </details>
+    #[doc(hidden)]
     fn draw_back(&mut self) -> Result<Option<Self::Item>, Self::Error>
     where
         Self: Sized,
