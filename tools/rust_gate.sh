@@ -1,6 +1,6 @@
 #!/usr/bin/env bash
-# Makes both Rust crates, compares them with those in rust/, builds them in each set of features with no warning, and runs
-# their tests and doc tests.
+# Makes both Rust crates, compares them with those in rust/, builds them in each set of features with no warning, lints and
+# documents them with none, and runs their tests and doc tests.
 set -eu
 cd "$(dirname "$0")/.."
 if ! command -v cargo > /dev/null || ! command -v rustfmt > /dev/null; then
@@ -38,6 +38,8 @@ for crate in "${crates[@]}"; do
 done
 both=(--offline --manifest-path "$folder/out/Cargo.toml" --all-features)
 quietly cargo fmt --all --check --manifest-path "$folder/out/Cargo.toml"
+quietly cargo clippy "${both[@]}" --all-targets
+quietly cargo doc "${both[@]}" --no-deps
 quietly cargo test "${both[@]}"
 awk '/^test result/ { n += $4 } END { print "rust: " n " tests and doc tests pass" }' "$folder/log"
 tail -n 3 "$folder/said" | head -n 2

@@ -9,27 +9,12 @@ pub trait IteratorExt: core::iter::Iterator {
     /// Creating it draws nothing. `next` draws the std iterator once. It fails with the value of an `Err`. After a failure and after `Ok(None)` the next call draws the std iterator again.
     ///
     /// ```
-    /// # use fallible_iterator::FallibleIterator;
-    /// # use fallible_iterator::IteratorExt;
-    /// # pub struct Fail;
-    /// # impl Fail {
-    /// #     pub fn new(what: impl std::fmt::Display) -> Fail {
-    /// #         panic!("{what}")
-    /// #     }
-    /// # }
-    /// # impl<E: std::fmt::Debug> From<E> for Fail {
-    /// #     fn from(e: E) -> Fail {
-    /// #         panic!("{e:?}")
-    /// #     }
-    /// # }
-    /// # fn from_fn_convert_fused_and_transposed_give_each_answer() -> Result<(), Fail> {
-    /// let answers: [Result<u32, u32>; 2] = [Ok(1), Err(2)];
-    /// let mut it = answers.iter().copied().transpose_into_fallible();
-    /// let drawn = [it.next(), it.next(), it.next()];
-    /// assert_eq!(drawn, [Ok(Some(1)), Err(2), Ok(None)]);
-    /// #     Ok(())
-    /// # }
-    /// # fn main() { let _ = from_fn_convert_fused_and_transposed_give_each_answer(); }
+    /// # use fallible_iterator::{FallibleIterator, IteratorExt};
+    /// let readings = [Ok::<u32, u8>(150), Err(9)];
+    /// let mut it = readings.into_iter().transpose_into_fallible();
+    /// assert_eq!([it.next(), it.next(), it.next()],
+    ///     [Ok(Some(150)), Err(9), Ok(None)]
+    /// );
     /// ```
     ///
     /// <details><summary>Contract</summary>
@@ -56,17 +41,11 @@ pub trait IteratorExt: core::iter::Iterator {
     /// Creating it draws nothing. `next` draws the std iterator once. It never fails. After `Ok(None)` the next call draws the std iterator again.
     ///
     /// ```
-    /// # use fallible_iterator::FallibleIterator;
-    /// # use fallible_iterator::IteratorExt;
-    /// # use std::convert::Infallible;
-    /// # pub fn sum_below(end: u32) -> Result<u64, Infallible>
-    /// # {
-    /// (0..end).into_fallible().fold(
-    ///     0,
-    ///     |sum: u64, number: u32| Ok(sum.wrapping_add(u64::from(number))),
-    /// )
-    /// # }
-    /// # fn main() { let _ = sum_below(5); }
+    /// # use fallible_iterator::{FallibleIterator, IteratorExt};
+    /// let mut it = (0..2u32).into_fallible();
+    /// assert_eq!([it.next(), it.next(), it.next()],
+    ///     [Ok(Some(0)), Ok(Some(1)), Ok(None)]
+    /// );
     /// ```
     ///
     /// <details><summary>Contract</summary>

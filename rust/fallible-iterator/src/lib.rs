@@ -5,14 +5,11 @@
 // The bodies stay as they are proved.
 #![allow(
     clippy::manual_map,
-    clippy::multiple_bound_locations,
-    clippy::question_mark
+    clippy::mem_replace_option_with_some,
+    clippy::multiple_bound_locations
 )]
-#![allow(
-    clippy::single_match,
-    clippy::type_complexity,
-    clippy::wrong_self_convention
-)]
+#![allow(clippy::needless_match, clippy::question_mark, clippy::single_match)]
+#![allow(clippy::type_complexity, clippy::wrong_self_convention)]
 
 #[cfg(feature = "alloc")]
 extern crate alloc;

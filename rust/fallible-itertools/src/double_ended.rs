@@ -43,35 +43,12 @@ pub trait DoubleEndedFallibleItertools: DoubleEndedFallibleIterator + Sized {
     /// It draws at most n + 1 times from the back: up to that item, or a failure or `Ok(None)` before it. It fails with that failure. Nothing is drawn after that, and the iterator may be used again, from either end.
     ///
     /// ```
-    /// # use fallible_iterator::Convert;
-    /// # use fallible_iterator::DoubleEndedFallibleIterator;
-    /// # use fallible_iterator::FallibleIterator;
-    /// # use fallible_iterator::convert;
+    /// # use fallible_iterator::{DoubleEndedFallibleIterator, FallibleIterator, convert};
     /// # use fallible_itertools::DoubleEndedFallibleItertools;
-    /// # use std::iter::Copied;
-    /// # use std::slice::Iter;
-    /// # pub struct Fail;
-    /// # impl Fail {
-    /// #     pub fn new(what: impl std::fmt::Display) -> Fail {
-    /// #         panic!("{what}")
-    /// #     }
-    /// # }
-    /// # impl<E: std::fmt::Debug> From<E> for Fail {
-    /// #     fn from(e: E) -> Fail {
-    /// #         panic!("{e:?}")
-    /// #     }
-    /// # }
-    /// # pub fn numbers<'a>(answers: &'a [Result<u32, u32>]) -> Convert<Copied<Iter<'a, Result<u32, u32>>>>
-    /// # {
-    /// #     convert(answers.iter().copied())
-    /// # }
-    /// # const SIX: [Result<u32, u32>; 6] = [Ok(1), Ok(2), Err(9), Ok(3), Ok(4), Ok(5)];
-    /// # fn from_the_back() -> Result<(), Fail> {
-    /// #     let mut it = numbers(&SIX);
-    /// assert_eq!(it.nth_back(1), Ok(Some(4)));
-    /// #     Ok(())
-    /// # }
-    /// # fn main() { let _ = from_the_back(); }
+    /// # use fallible_itertools::FallibleItertools;
+    /// let mut it = convert([Ok::<u32, u8>(1), Ok(2), Ok(3)].into_iter());
+    /// assert_eq!(it.nth_back(1), Ok(Some(2)));
+    /// assert_eq!(it.next_back(), Ok(Some(1)));
     /// ```
     ///
     /// <details><summary>Contract</summary>
@@ -101,60 +78,12 @@ pub trait DoubleEndedFallibleItertools: DoubleEndedFallibleIterator + Sized {
     /// Precondition, which is not checked: the iterator is finite.
     ///
     /// ```
-    /// # use fallible_iterator::Convert;
-    /// # use fallible_iterator::DoubleEndedFallibleIterator;
-    /// # use fallible_iterator::FallibleIterator;
-    /// # use fallible_iterator::convert;
+    /// # use fallible_iterator::{DoubleEndedFallibleIterator, FallibleIterator, convert};
     /// # use fallible_itertools::DoubleEndedFallibleItertools;
-    /// # use std::fmt::Debug;
-    /// # use std::iter::Copied;
-    /// # use std::slice::Iter;
-    /// # pub struct Fail;
-    /// # impl Fail {
-    /// #     pub fn new(what: impl std::fmt::Display) -> Fail {
-    /// #         panic!("{what}")
-    /// #     }
-    /// # }
-    /// # impl<E: std::fmt::Debug> From<E> for Fail {
-    /// #     fn from(e: E) -> Fail {
-    /// #         panic!("{e:?}")
-    /// #     }
-    /// # }
-    /// # pub fn numbers<'a>(answers: &'a [Result<u32, u32>]) -> Convert<Copied<Iter<'a, Result<u32, u32>>>>
-    /// # {
-    /// #     convert(answers.iter().copied())
-    /// # }
-    /// # pub fn expect_same<T: Debug + PartialEq>(answered: &T, expected: &T) -> Result<(), Fail> {
-    /// #     if answered == expected {
-    /// #         Ok(())
-    /// #     } else {
-    /// #         Err(Fail::new(format_args!("answered {answered:?}, and not {expected:?}")))
-    /// #     }
-    /// # }
-    /// # fn at_below_three(x: &u32) -> Result<bool, u32> {
-    /// #     below_three(*x)
-    /// # }
-    /// # fn below_three(x: u32) -> Result<bool, u32> {
-    /// #     if x == 4 { Err(40) } else { Ok(x < 3) }
-    /// # }
-    /// # const SIX: [Result<u32, u32>; 6] = [Ok(1), Ok(2), Err(9), Ok(3), Ok(4), Ok(5)];
-    /// # const FAILED: [Drawn; 2] = [Err(40), Err(9)];
-    /// # pub type Drawn = Result<Option<u32>, u32>;
-    /// # const BEHIND_FOUR: [Drawn; 3] = [Err(9), Ok(None), Ok(None)];
-    /// # fn from_the_back() -> Result<(), Fail> {
-    /// #     let mut it = numbers(&SIX);
-    /// #     assert_eq!(it.nth_back(1), Ok(Some(4)));
-    /// #     expect_same(
-    /// #         &[it.nth_back(5), it.nth_back(2), it.next_back()],
-    /// #         &BEHIND_FOUR,
-    /// #     )?;
-    /// #     let mut it = numbers(&SIX);
-    /// #     let failed = [it.rfind(at_below_three), it.rfind(at_below_three)];
-    /// #     expect_same(&failed, &FAILED)?;
-    /// assert_eq!(it.rfind(at_below_three), Ok(Some(2)));
-    /// #     Ok(())
-    /// # }
-    /// # fn main() { let _ = from_the_back(); }
+    /// # use fallible_itertools::FallibleItertools;
+    /// let mut it = convert([Ok::<u32, u8>(150), Ok(700), Ok(7)].into_iter());
+    /// assert_eq!(it.rfind(|reading| Ok(*reading > 100)), Ok(Some(700)));
+    /// assert_eq!(it.next_back(), Ok(Some(150)));
     /// ```
     ///
     /// <details><summary>Contract</summary>
@@ -196,58 +125,11 @@ pub trait DoubleEndedFallibleItertools: DoubleEndedFallibleIterator + Sized {
     /// Precondition, which is not checked: at most `usize::MAX` items are left.
     ///
     /// ```
-    /// # use fallible_iterator::Convert;
-    /// # use fallible_iterator::DoubleEndedFallibleIterator;
-    /// # use fallible_iterator::FallibleIterator;
-    /// # use fallible_iterator::convert;
+    /// # use fallible_iterator::{FallibleIterator, convert};
     /// # use fallible_itertools::DoubleEndedFallibleItertools;
-    /// # use std::fmt::Debug;
-    /// # use std::iter::Copied;
-    /// # use std::slice::Iter;
-    /// # pub struct Fail;
-    /// # impl Fail {
-    /// #     pub fn new(what: impl std::fmt::Display) -> Fail {
-    /// #         panic!("{what}")
-    /// #     }
-    /// # }
-    /// # impl<E: std::fmt::Debug> From<E> for Fail {
-    /// #     fn from(e: E) -> Fail {
-    /// #         panic!("{e:?}")
-    /// #     }
-    /// # }
-    /// # pub fn numbers<'a>(answers: &'a [Result<u32, u32>]) -> Convert<Copied<Iter<'a, Result<u32, u32>>>>
-    /// # {
-    /// #     convert(answers.iter().copied())
-    /// # }
-    /// # pub fn expect_same<T: Debug + PartialEq>(answered: &T, expected: &T) -> Result<(), Fail> {
-    /// #     if answered == expected {
-    /// #         Ok(())
-    /// #     } else {
-    /// #         Err(Fail::new(format_args!("answered {answered:?}, and not {expected:?}")))
-    /// #     }
-    /// # }
-    /// # fn below_three(x: u32) -> Result<bool, u32> {
-    /// #     if x == 4 { Err(40) } else { Ok(x < 3) }
-    /// # }
-    /// # const PLACES: [(&[Result<u32, u32>], (Result<Option<usize>, u32>, Drawn)); 4] = [
-    /// #     (
-    /// #         &[Ok(1), Ok(5), Ok(2), Ok(3), Ok(5)],
-    /// #         (Ok(Some(2)), Ok(None)),
-    /// #     ),
-    /// #     (&[Ok(3), Ok(5)], (Ok(None), Ok(None))),
-    /// #     (&[Ok(1), Ok(4), Ok(3)], (Err(40), Ok(Some(1)))),
-    /// #     (&[Ok(3), Err(7), Ok(5), Ok(2), Ok(6)], (Err(7), Ok(Some(5)))),
-    /// # ];
-    /// # pub type Drawn = Result<Option<u32>, u32>;
-    /// # fn places_from_back() -> Result<(), Fail> {
-    /// #     for (answers, expected) in &PLACES {
-    /// #         let mut it = numbers(answers);
-    /// let place = it.rposition(below_three);
-    /// #         expect_same(&(place, it.next()), expected)?;
-    /// #     }
-    /// #     Ok(())
-    /// # }
-    /// # fn main() { let _ = places_from_back(); }
+    /// # use fallible_itertools::FallibleItertools;
+    /// let mut it = convert([Ok::<u32, u8>(150), Ok(700), Ok(7)].into_iter());
+    /// assert_eq!(it.rposition(|reading| Ok(reading > 100)), Ok(Some(1)));
     /// ```
     ///
     /// <details><summary>Contract</summary>

@@ -31,19 +31,13 @@ pub trait PeekingNext: FallibleIterator + Sized {
     /// This iterator goes on with what is left: the rejected item comes next, also for `peek`.
     ///
     /// ```
-    /// # use fallible_iterator::FallibleIterator;
-    /// # use fallible_iterator::Peekable;
+    /// # use fallible_iterator::{FallibleIterator, convert};
     /// # use fallible_itertools::FallibleItertools;
     /// # use fallible_itertools::PeekingNext;
-    /// # pub fn before_a_low_one<I: FallibleIterator<Item = u32>>(
-    /// #     ahead: &mut Peekable<I>,
-    /// # ) -> Result<usize, I::Error>
-    /// # {
-    /// ahead
-    ///     .peeking_take_while(|reading| Ok(*reading > 100))
-    ///     .count()
-    /// # }
-    /// # fn main() { let _ = before_a_low_one(&mut fallible_iterator::convert::<u32, u8, _>([Ok(150), Ok(7), Ok(700), Ok(0), Ok(600)].into_iter()).peekable()); }
+    /// let mut it = convert([Ok::<u32, u8>(150), Ok(7), Ok(700)].into_iter()).peekable();
+    /// let above = it.peeking_take_while(|reading| Ok(*reading > 100)).count();
+    /// assert_eq!(above, Ok(1));
+    /// assert_eq!(it.next(), Ok(Some(7)));
     /// ```
     ///
     /// <details><summary>Contract</summary>

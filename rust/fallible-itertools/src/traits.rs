@@ -67,22 +67,19 @@ pub trait FallibleItertools: FallibleIterator + Sized {
     /// Creating it draws nothing. The item merged so far is buffered until the closure keeps two apart, or a stop comes: `Ok(None)` or a failure. `next` draws up to that, and calls the closure on the buffered item and each further one. The buffered item is yielded first. The stop is what the next call returns, without a draw. If the closure fails, its failure is yielded, and the two items that it was called on are lost. After a stop nothing is buffered, so items before and after it stay apart.
     ///
     /// ```
-    /// # use fallible_iterator::FallibleIterator;
-    /// # use fallible_iterator::convert;
+    /// # use fallible_iterator::{FallibleIterator, convert};
     /// # use fallible_itertools::FallibleItertools;
-    /// # pub fn peaks(readings: Vec<Result<u32, u8>>) -> Result<usize, u8>
-    /// # {
-    /// convert(readings.into_iter())
-    ///     .coalesce(|first: u32, second: u32| {
-    ///         Ok(if second < first {
-    ///             Ok(first)
-    ///         } else {
-    ///             Err((first, second))
-    ///         })
+    /// # use fallible_itertools::PeekingNext;
+    /// let readings = [Ok::<u32, u8>(100), Ok(50), Ok(7), Ok(8)];
+    /// let mut it = convert(readings.into_iter()).coalesce(|first, second| {
+    ///     Ok(if second < first {
+    ///         Ok(first)
+    ///     } else {
+    ///         Err((first, second))
     ///     })
-    ///     .count()
-    /// # }
-    /// # fn main() { let _ = peaks(vec![Ok(150), Ok(7), Ok(700), Ok(0), Ok(600)]); }
+    /// });
+    /// let drawn = [it.next(), it.next(), it.next()];
+    /// assert_eq!(drawn, [Ok(Some(100)), Ok(None), Ok(None)]);
     /// ```
     ///
     /// <details><summary>Contract</summary>
@@ -121,19 +118,13 @@ pub trait FallibleItertools: FallibleIterator + Sized {
     /// Laziness, draws and behaviour at a stop: as `dedup`. If the closure fails, its failure is a stop too: the buffered item is yielded first. The item that it was called on is lost, and no other.
     ///
     /// ```
-    /// # use fallible_iterator::FallibleIterator;
-    /// # use fallible_iterator::convert;
+    /// # use fallible_iterator::{FallibleIterator, convert};
     /// # use fallible_itertools::FallibleItertools;
-    /// # pub fn first_of_each_ten(readings: Vec<Result<u32, u8>>) -> Result<u64, u8>
-    /// # {
-    /// convert(readings.into_iter())
-    ///     .dedup_by_key(|reading| Ok(*reading / 10))
-    /// #         .fold(
-    /// #             0,
-    /// #             |sum: u64, reading: u32| Ok(sum.wrapping_add(u64::from(reading))),
-    /// #         )
-    /// # }
-    /// # fn main() { let _ = first_of_each_ten(vec![Ok(150), Ok(7), Ok(700), Ok(0), Ok(600)]); }
+    /// # use fallible_itertools::PeekingNext;
+    /// let readings = [Ok::<u32, u8>(150), Ok(157), Err(9), Ok(158), Ok(7)];
+    /// let mut it = convert(readings.into_iter()).dedup_by_key(|reading| Ok(*reading / 10));
+    /// let drawn = [it.next(), it.next(), it.next(), it.next()];
+    /// assert_eq!(drawn, [Ok(Some(150)), Err(9), Ok(Some(158)), Ok(Some(7))]);
     /// ```
     ///
     /// <details><summary>Contract</summary>
@@ -172,16 +163,15 @@ pub trait FallibleItertools: FallibleIterator + Sized {
     /// Laziness, draws and behaviour at a stop: as `dedup`. If the closure fails, its failure is a stop too: the buffered item is yielded first. The item that was drawn last is lost, and no other.
     ///
     /// ```
-    /// # use fallible_iterator::FallibleIterator;
-    /// # use fallible_iterator::convert;
+    /// # use fallible_iterator::{FallibleIterator, convert};
     /// # use fallible_itertools::FallibleItertools;
-    /// # pub fn changes_of_tens(readings: Vec<Result<u32, u8>>) -> Result<usize, u8>
-    /// # {
-    /// convert(readings.into_iter())
-    ///     .dedup_by(|first, second| Ok(*first / 10 == *second / 10))
-    ///     .count()
-    /// # }
-    /// # fn main() { let _ = changes_of_tens(vec![Ok(150), Ok(7), Ok(700), Ok(0), Ok(600)]); }
+    /// # use fallible_itertools::PeekingNext;
+    /// let readings = [Ok::<u32, u8>(150), Ok(157), Ok(7)];
+    /// let mut it = convert(readings.into_iter()).dedup_by(|first, second| Ok(
+    ///     *first / 10 == *second / 10,
+    /// ));
+    /// let drawn = [it.next(), it.next(), it.next()];
+    /// assert_eq!(drawn, [Ok(Some(150)), Ok(Some(7)), Ok(None)]);
     /// ```
     ///
     /// <details><summary>Contract</summary>
@@ -215,14 +205,13 @@ pub trait FallibleItertools: FallibleIterator + Sized {
     /// Creating it draws nothing. The first of equal items is buffered until an item that differs comes, or a stop: `Ok(None)` or a failure. `next` draws up to that. The buffered item is yielded first. The stop is what the next call returns, without a draw. After a stop nothing is buffered, so equal items before and after it are both yielded.
     ///
     /// ```
-    /// # use fallible_iterator::FallibleIterator;
-    /// # use fallible_iterator::convert;
+    /// # use fallible_iterator::{FallibleIterator, convert};
     /// # use fallible_itertools::FallibleItertools;
-    /// # pub fn changes(readings: Vec<Result<u32, u8>>) -> Result<usize, u8>
-    /// # {
-    /// convert(readings.into_iter()).dedup().count()
-    /// # }
-    /// # fn main() { let _ = changes(vec![Ok(150), Ok(7), Ok(700), Ok(0), Ok(600)]); }
+    /// # use fallible_itertools::PeekingNext;
+    /// let readings = [Ok::<u32, u8>(7), Ok(7), Ok(150), Ok(7)];
+    /// let mut it = convert(readings.into_iter()).dedup();
+    /// let drawn = [it.next(), it.next(), it.next(), it.next()];
+    /// assert_eq!(drawn, [Ok(Some(7)), Ok(Some(150)), Ok(Some(7)), Ok(None)]);
     /// ```
     ///
     /// <details><summary>Contract</summary>
@@ -253,22 +242,16 @@ pub trait FallibleItertools: FallibleIterator + Sized {
     /// Creating it draws nothing. An item is buffered until another item comes, or a stop: `Ok(None)` or a failure. `next` draws up to that. The buffered item is yielded first, and is the `Last` one before a stop. The stop is what the next call returns, without a draw. After a stop nothing is buffered, and the next item is `First` or `Only`.
     ///
     /// ```
-    /// # use fallible_iterator::FallibleIterator;
-    /// # use fallible_iterator::convert;
+    /// # use fallible_iterator::{FallibleIterator, convert};
     /// # use fallible_itertools::FallibleItertools;
+    /// # use fallible_itertools::PeekingNext;
     /// # use fallible_itertools::Position;
-    /// # fn has_comma(position: Position) -> bool
-    /// # {
-    /// #     matches!(position, Position::First | Position::Middle)
-    /// # }
-    /// # pub fn commas(readings: Vec<Result<u32, u8>>) -> Result<usize, u8>
-    /// # {
-    /// convert(readings.into_iter())
-    ///     .with_position()
-    ///     .filter(|placed| Ok(has_comma(placed.0)))
-    ///     .count()
-    /// # }
-    /// # fn main() { let _ = commas(vec![Ok(150), Ok(7), Ok(700), Ok(0), Ok(600)]); }
+    /// let letters = [Ok::<char, u8>('a'), Ok('b'), Ok('c')];
+    /// let mut it = convert(letters.into_iter()).with_position();
+    /// assert_eq!(it.next(), Ok(Some((Position::First, 'a'))));
+    /// assert_eq!(it.next(), Ok(Some((Position::Middle, 'b'))));
+    /// assert_eq!(it.next(), Ok(Some((Position::Last, 'c'))));
+    /// assert_eq!(it.next(), Ok(None));
     /// ```
     ///
     /// <details><summary>Contract</summary>
@@ -296,76 +279,13 @@ pub trait FallibleItertools: FallibleIterator + Sized {
     /// Creating it draws nothing. `next` draws once, and twice for the first pair. It fails as the source does. The last item stays buffered at a failure and at an `Ok(None)`, so the next pair begins with it.
     ///
     /// ```
-    /// # use TestError::Number;
-    /// # use fallible_iterator::DoubleEndedFallibleIterator;
-    /// # use fallible_iterator::FallibleIterator;
+    /// # use fallible_iterator::{FallibleIterator, convert};
     /// # use fallible_itertools::FallibleItertools;
-    /// # use std::vec::IntoIter;
-    /// # use fallible_iterator::memory::AllocError;
-    /// # pub struct Fail;
-    /// # impl Fail {
-    /// #     pub fn new(what: impl std::fmt::Display) -> Fail {
-    /// #         panic!("{what}")
-    /// #     }
-    /// # }
-    /// # impl<E: std::fmt::Debug> From<E> for Fail {
-    /// #     fn from(e: E) -> Fail {
-    /// #         panic!("{e:?}")
-    /// #     }
-    /// # }
-    /// # #[derive(Clone)]
-    /// # pub struct Script<T, E> {
-    /// #     pub answers: IntoIter<Result<Option<T>, E>>,
-    /// # }
-    /// # impl<T, E> FallibleIterator for Script<T, E> {
-    /// #     type Item = T;
-    /// #     type Error = E;
-    /// #     fn next(&mut self) -> Result<Option<T>, E> {
-    /// #         match self.answers.next() {
-    /// #             Some(answer) => answer,
-    /// #             None => Ok(None),
-    /// #         }
-    /// #     }
-    /// #     fn size_hint(&self) -> (usize, Option<usize>) {
-    /// #         (0, None)
-    /// #     }
-    /// # }
-    /// # impl<T, E> DoubleEndedFallibleIterator for Script<T, E> {
-    /// #     fn next_back(&mut self) -> Result<Option<T>, E> {
-    /// #         match self.answers.next_back() {
-    /// #             Some(answer) => answer,
-    /// #             None => Ok(None),
-    /// #         }
-    /// #     }
-    /// # }
-    /// # const PAIRED: [Result<Option<u32>, TestError>; 6] = [
-    /// #     Ok(Some(1)),
-    /// #     Ok(Some(2)),
-    /// #     Err(Number(9)),
-    /// #     Ok(Some(3)),
-    /// #     Ok(None),
-    /// #     Ok(Some(4)),
-    /// # ];
-    /// # #[derive(Clone, Debug, PartialEq, Eq)]
-    /// # pub enum TestError {
-    /// #     Number(u32),
-    /// #     Memory,
-    /// # }
-    /// # impl From<AllocError> for TestError {
-    /// #     fn from(_refused: AllocError) -> TestError {
-    /// #         TestError::Memory
-    /// #     }
-    /// # }
-    /// # fn tuple_windows_pairs_over_failures_and_ends() -> Result<(), Fail> {
-    /// #     let mut source = Script {
-    /// #         answers: PAIRED.to_vec().into_iter(),
-    /// #     };
-    /// let mut it = (&mut source).tuple_windows();
-    /// let hint = it.size_hint();
-    /// let drawn = [it.next(), it.next(), it.next(), it.next(), it.next()];
-    /// #     Ok(())
-    /// # }
-    /// # fn main() { let _ = tuple_windows_pairs_over_failures_and_ends(); }
+    /// # use fallible_itertools::PeekingNext;
+    /// let readings = [Ok::<u32, u8>(150), Ok(7), Ok(700)];
+    /// let mut it = convert(readings.into_iter()).tuple_windows();
+    /// let drawn = [it.next(), it.next(), it.next()];
+    /// assert_eq!(drawn, [Ok(Some((150, 7))), Ok(Some((7, 700))), Ok(None)]);
     /// ```
     ///
     /// <details><summary>Contract</summary>
@@ -402,30 +322,19 @@ pub trait FallibleItertools: FallibleIterator + Sized {
     /// Precondition, which is not checked: the iterator is finite.
     ///
     /// ```
-    /// # use fallible_iterator::FallibleIterator;
-    /// # use fallible_iterator::convert;
+    /// # use fallible_iterator::{FallibleIterator, convert};
+    /// # use fallible_itertools::DoubleEndedFallibleItertools;
     /// # use fallible_itertools::FallibleItertools;
-    /// # #[derive(Clone, Copy, Debug, PartialEq)]
-    /// # pub enum Trouble {
-    /// #     TooLarge(u32),
-    /// #     Failed(u8),
-    /// # }
-    /// # impl From<u8> for Trouble {
-    /// #     fn from(code: u8) -> Trouble {
-    /// #         Trouble::Failed(code)
-    /// #     }
-    /// # }
-    /// # pub fn check_each(readings: Vec<Result<u32, u8>>) -> Result<(), Trouble>
-    /// # {
-    /// convert(readings.into_iter())
-    ///     .filter(|reading| Ok(*reading > 0))
-    ///     .try_for_each(|reading: u32| if reading > 100 {
-    ///         Err(Trouble::TooLarge(reading))
+    /// let mut it = convert([Ok::<u32, &str>(7), Ok(150), Ok(8)].into_iter());
+    /// let tried: Result<(), &str> = it.try_for_each(|reading: u32| {
+    ///     if reading > 100 {
+    ///         Err("too large")
     ///     } else {
     ///         Ok(())
-    ///     })
-    /// # }
-    /// # fn main() { let _ = check_each(vec![Ok(150), Ok(7), Ok(700), Ok(0), Ok(600)]); }
+    ///     }
+    /// });
+    /// assert_eq!(tried, Err("too large"));
+    /// assert_eq!(it.next(), Ok(Some(8)));
     /// ```
     ///
     /// <details><summary>Contract</summary>
@@ -464,28 +373,22 @@ pub trait FallibleItertools: FallibleIterator + Sized {
     /// Precondition, which is not checked: the iterator is finite.
     ///
     /// ```
-    /// # use fallible_iterator::FallibleIterator;
-    /// # use fallible_iterator::convert;
+    /// # use fallible_iterator::{FallibleIterator, convert};
+    /// # use fallible_itertools::DoubleEndedFallibleItertools;
     /// # use fallible_itertools::FallibleItertools;
-    /// # #[derive(Clone, Copy, Debug, PartialEq)]
-    /// # pub enum Trouble {
-    /// #     TooLarge(u32),
-    /// #     Failed(u8),
-    /// # }
-    /// # impl From<u8> for Trouble {
-    /// #     fn from(code: u8) -> Trouble {
-    /// #         Trouble::Failed(code)
-    /// #     }
-    /// # }
-    /// # pub fn find_seven(readings: Vec<Result<u32, u8>>) -> Result<Option<u32>, Trouble>
-    /// # {
-    /// convert(readings.into_iter()).try_find(|reading: &u32| if *reading > 100 {
-    ///     Err(Trouble::TooLarge(*reading))
-    /// } else {
-    ///     Ok(*reading == 7)
-    /// })
-    /// # }
-    /// # fn main() { let _ = find_seven(vec![Ok(150), Ok(7), Ok(700), Ok(0), Ok(600)]); }
+    /// let mut it = convert([Ok::<u32, &str>(0), Ok(7), Ok(150)].into_iter());
+    /// let mut find = || -> Result<Option<u32>, &str> {
+    ///     it.try_find(|reading: &u32| {
+    ///         if *reading > 100 {
+    ///             Err("too large")
+    ///         } else {
+    ///             Ok(*reading == 7)
+    ///         }
+    ///     })
+    /// };
+    /// assert_eq!([find(), find(), find()],
+    ///     [Ok(Some(7)), Err("too large"), Ok(None)]
+    /// );
     /// ```
     ///
     /// <details><summary>Contract</summary>
@@ -522,29 +425,22 @@ pub trait FallibleItertools: FallibleIterator + Sized {
     /// Draws, errors and what is left: as `try_find`.
     ///
     /// ```
-    /// # use fallible_iterator::FallibleIterator;
+    /// # use fallible_iterator::{FallibleIterator, convert};
+    /// # use fallible_itertools::DoubleEndedFallibleItertools;
     /// # use fallible_itertools::FallibleItertools;
-    /// # #[derive(Clone, Copy, Debug, PartialEq)]
-    /// # pub enum Trouble {
-    /// #     TooLarge(u32),
-    /// #     Failed(u8),
-    /// # }
-    /// # impl From<u8> for Trouble {
-    /// #     fn from(code: u8) -> Trouble {
-    /// #         Trouble::Failed(code)
-    /// #     }
-    /// # }
-    /// # pub fn place_of_seven<I: FallibleIterator<Item = u32, Error = u8>>(
-    /// #     mut it: I,
-    /// # ) -> Result<Option<usize>, Trouble>
-    /// # {
-    /// it.try_position(|reading: u32| if reading > 100 {
-    ///     Err(Trouble::TooLarge(reading))
-    /// } else {
-    ///     Ok(reading == 7)
-    /// })
-    /// # }
-    /// # fn main() { let _ = place_of_seven(fallible_iterator::convert::<u32, u8, _>([Ok(150), Ok(7), Ok(700), Ok(0), Ok(600)].into_iter())); }
+    /// let mut it = convert([Ok::<u32, &str>(0), Ok(7), Ok(150)].into_iter());
+    /// let mut place = || -> Result<Option<usize>, &str> {
+    ///     it.try_position(|reading: u32| {
+    ///         if reading > 100 {
+    ///             Err("too large")
+    ///         } else {
+    ///             Ok(reading == 7)
+    ///         }
+    ///     })
+    /// };
+    /// assert_eq!([place(), place(), place()],
+    ///     [Ok(Some(1)), Err("too large"), Ok(None)]
+    /// );
     /// ```
     ///
     /// <details><summary>Contract</summary>
@@ -582,19 +478,13 @@ pub trait FallibleItertools: FallibleIterator + Sized {
     /// Precondition, which is not checked: the iterator is finite.
     ///
     /// ```
-    /// # use fallible_iterator::FallibleIterator;
-    /// # use fallible_iterator::convert;
+    /// # use fallible_iterator::{FallibleIterator, convert};
+    /// # use fallible_itertools::DoubleEndedFallibleItertools;
     /// # use fallible_itertools::FallibleItertools;
-    /// # pub fn after_zero(readings: Vec<Result<u32, u8>>) -> Result<Option<u32>, u8>
-    /// # {
-    /// let mut it = convert(readings.into_iter());
-    /// if it.contains(&0)? {
-    ///     it.draw()
-    /// } else {
-    ///     Ok(None)
-    /// }
-    /// # }
-    /// # fn main() { let _ = after_zero(vec![Ok(150), Ok(7), Ok(700), Ok(0), Ok(600)]); }
+    /// let mut it = convert([Ok::<u32, u8>(150), Ok(7), Ok(700), Err(9)].into_iter());
+    /// assert_eq!(it.contains(&7), Ok(true));
+    /// assert_eq!(it.contains(&7), Err(9));
+    /// assert_eq!(it.contains(&7), Ok(false));
     /// ```
     ///
     /// <details><summary>Contract</summary>
@@ -628,16 +518,12 @@ pub trait FallibleItertools: FallibleIterator + Sized {
     /// Precondition, which is not checked: the iterator is finite.
     ///
     /// ```
-    /// # use fallible_iterator::FallibleIterator;
-    /// # use fallible_iterator::convert;
+    /// # use fallible_iterator::{FallibleIterator, convert};
+    /// # use fallible_itertools::DoubleEndedFallibleItertools;
     /// # use fallible_itertools::FallibleItertools;
-    /// # pub fn above_100_equal(readings: Vec<Result<u32, u8>>) -> Result<bool, u8>
-    /// # {
-    /// convert(readings.into_iter())
-    ///     .filter(|reading| Ok(*reading > 100))
-    ///     .all_equal()
-    /// # }
-    /// # fn main() { let _ = above_100_equal(vec![Ok(150), Ok(7), Ok(700), Ok(0), Ok(600)]); }
+    /// let mut it = convert([Ok::<u32, u8>(7), Ok(7), Ok(150), Ok(8)].into_iter());
+    /// assert_eq!(it.all_equal(), Ok(false));
+    /// assert_eq!(it.all_equal(), Ok(true));
     /// ```
     ///
     /// <details><summary>Contract</summary>
@@ -671,14 +557,18 @@ pub trait FallibleItertools: FallibleIterator + Sized {
     /// Precondition, which is not checked: the iterator is finite.
     ///
     /// ```
-    /// # use fallible_iterator::FallibleIterator;
-    /// # use fallible_iterator::convert;
+    /// # use fallible_iterator::{FallibleIterator, convert};
+    /// # use fallible_itertools::DoubleEndedFallibleItertools;
     /// # use fallible_itertools::FallibleItertools;
-    /// # pub fn above_100_or_last(readings: Vec<Result<u32, u8>>) -> Result<Option<u32>, u8>
-    /// # {
-    /// convert(readings.into_iter()).find_or_last(|reading| Ok(*reading > 100))
-    /// # }
-    /// # fn main() { let _ = above_100_or_last(vec![Ok(150), Ok(7), Ok(700), Ok(0), Ok(600)]); }
+    /// let readings = [Ok::<u32, u8>(7), Ok(150), Ok(8)];
+    /// let it = convert(readings.into_iter());
+    /// assert_eq!(it.find_or_last(|reading| Ok(*reading > 100)),
+    ///     Ok(Some(150))
+    /// );
+    ///
+    /// let low = [Ok::<u32, u8>(7), Ok(8)];
+    /// let it = convert(low.into_iter());
+    /// assert_eq!(it.find_or_last(|reading| Ok(*reading > 100)), Ok(Some(8)));
     /// ```
     ///
     /// <details><summary>Contract</summary>
@@ -713,16 +603,14 @@ pub trait FallibleItertools: FallibleIterator + Sized {
     /// Precondition, which is not checked: the iterator is finite.
     ///
     /// ```
-    /// # use fallible_iterator::FallibleIterator;
-    /// # use fallible_iterator::convert;
+    /// # use fallible_iterator::{FallibleIterator, convert};
+    /// # use fallible_itertools::DoubleEndedFallibleItertools;
     /// # use fallible_itertools::FallibleItertools;
-    /// # pub fn sum_above_100(readings: Vec<Result<u32, u8>>) -> Result<Option<u32>, u8>
-    /// # {
-    /// convert(readings.into_iter())
-    ///     .filter(|reading| Ok(*reading > 100))
-    ///     .checked_sum()
-    /// # }
-    /// # fn main() { let _ = sum_above_100(vec![Ok(150), Ok(7), Ok(700), Ok(0), Ok(600)]); }
+    /// let readings = [Ok::<u8, u8>(150), Ok(7)];
+    /// assert_eq!(convert(readings.into_iter()).checked_sum(), Ok(Some(157)));
+    ///
+    /// let large = [Ok::<u8, u8>(150), Ok(150)];
+    /// assert_eq!(convert(large.into_iter()).checked_sum(), Ok(None));
     /// ```
     ///
     /// <details><summary>Contract</summary>
@@ -751,13 +639,14 @@ pub trait FallibleItertools: FallibleIterator + Sized {
     /// Draws, errors and precondition: as `checked_sum`. It consumes the iterator too.
     ///
     /// ```
-    /// # use fallible_iterator::FallibleIterator;
+    /// # use fallible_iterator::{FallibleIterator, convert};
+    /// # use fallible_itertools::DoubleEndedFallibleItertools;
     /// # use fallible_itertools::FallibleItertools;
-    /// # pub fn product_of_three<I: FallibleIterator<Item = i64>>(it: I) -> Result<Option<i64>, I::Error>
-    /// # {
-    /// it.take(3).checked_product()
-    /// # }
-    /// # fn main() { let _ = product_of_three(fallible_iterator::convert::<i64, u8, _>([Ok(150), Ok(7), Ok(700), Ok(0), Ok(600)].into_iter())); }
+    /// let sides = [Ok::<u8, u8>(3), Ok(7)];
+    /// assert_eq!(convert(sides.into_iter()).checked_product(), Ok(Some(21)));
+    ///
+    /// let large = [Ok::<u8, u8>(150), Ok(2), Ok(0)];
+    /// assert_eq!(convert(large.into_iter()).checked_product(), Ok(None));
     /// ```
     ///
     /// <details><summary>Contract</summary>
@@ -789,23 +678,20 @@ pub trait FallibleItertools: FallibleIterator + Sized {
     /// Precondition, which is not checked: the iterator is finite.
     ///
     /// ```
-    /// # use fallible_iterator::FallibleIterator;
-    /// # use fallible_iterator::convert;
+    /// # use fallible_iterator::{FallibleIterator, convert};
+    /// # use fallible_itertools::DoubleEndedFallibleItertools;
     /// # use fallible_itertools::FallibleItertools;
     /// # use fallible_itertools::FoldWhile;
-    /// # pub fn sum_up_to_zero(readings: Vec<Result<u32, u8>>) -> Result<FoldWhile<u32>, u8>
-    /// # {
-    /// #     let mut it = convert(readings.into_iter());
-    /// it.fold_while(
-    ///     0,
-    ///     |sum: u32, reading: u32| if reading == 0 {
-    ///         Ok(FoldWhile::Done(sum))
+    /// let mut it = convert([Ok::<u32, u8>(150), Ok(7), Ok(0), Ok(8)].into_iter());
+    /// let sum = it.fold_while(0, |sum: u32, reading: u32| {
+    ///     Ok(if reading == 0 {
+    ///         FoldWhile::Done(sum)
     ///     } else {
-    ///         Ok(FoldWhile::Continue(sum.wrapping_add(reading)))
-    ///     },
-    /// )
-    /// # }
-    /// # fn main() { let _ = sum_up_to_zero(vec![Ok(150), Ok(7), Ok(700), Ok(0), Ok(600)]); }
+    ///         FoldWhile::Continue(sum.wrapping_add(reading))
+    ///     })
+    /// });
+    /// assert_eq!(sum, Ok(FoldWhile::Done(157)));
+    /// assert_eq!(it.next(), Ok(Some(8)));
     /// ```
     ///
     /// <details><summary>Contract</summary>
@@ -847,16 +733,14 @@ pub trait FallibleItertools: FallibleIterator + Sized {
     /// Precondition, which is not checked: the iterator is finite.
     ///
     /// ```
-    /// # use fallible_iterator::FallibleIterator;
-    /// # use fallible_iterator::convert;
+    /// # use fallible_iterator::{FallibleIterator, convert};
+    /// # use fallible_itertools::DoubleEndedFallibleItertools;
     /// # use fallible_itertools::FallibleItertools;
-    /// # pub fn last_digits_sorted(readings: Vec<Result<u32, u8>>) -> Result<bool, u8>
-    /// # {
-    /// convert(readings.into_iter())
-    ///     .filter(|reading| Ok(*reading > 100))
-    ///     .is_sorted_by_key(|reading: u32| Ok(reading % 10))
-    /// # }
-    /// # fn main() { let _ = last_digits_sorted(vec![Ok(150), Ok(7), Ok(700), Ok(0), Ok(600)]); }
+    /// let readings = [Ok::<u32, u8>(150), Ok(7), Ok(8)];
+    /// let it = convert(readings.into_iter());
+    /// assert_eq!(it.is_sorted_by_key(|reading: u32| Ok(reading % 10)),
+    ///     Ok(true)
+    /// );
     /// ```
     ///
     /// <details><summary>Contract</summary>
@@ -892,16 +776,14 @@ pub trait FallibleItertools: FallibleIterator + Sized {
     /// Precondition, which is not checked: the iterator is finite.
     ///
     /// ```
-    /// # use fallible_iterator::FallibleIterator;
-    /// # use fallible_iterator::convert;
+    /// # use fallible_iterator::{FallibleIterator, convert};
+    /// # use fallible_itertools::DoubleEndedFallibleItertools;
     /// # use fallible_itertools::FallibleItertools;
-    /// # pub fn above_100_sorted(readings: Vec<Result<u32, u8>>) -> Result<bool, u8>
-    /// # {
-    /// convert(readings.into_iter())
-    ///     .filter(|reading| Ok(*reading > 100))
-    ///     .is_sorted()
-    /// # }
-    /// # fn main() { let _ = above_100_sorted(vec![Ok(150), Ok(7), Ok(700), Ok(0), Ok(600)]); }
+    /// let readings = [Ok::<u32, u8>(7), Ok(7), Ok(150)];
+    /// assert_eq!(convert(readings.into_iter()).is_sorted(), Ok(true));
+    ///
+    /// let falling = [Ok::<u32, u8>(150), Ok(7)];
+    /// assert_eq!(convert(falling.into_iter()).is_sorted(), Ok(false));
     /// ```
     ///
     /// <details><summary>Contract</summary>
@@ -933,18 +815,13 @@ pub trait FallibleItertools: FallibleIterator + Sized {
     /// Creating it draws nothing. `next` draws once. It fails as the source does. After a failure and after `Ok(None)` the next call draws again. It is double-ended if the source is.
     ///
     /// ```
-    /// # use fallible_iterator::FallibleIterator;
-    /// # use fallible_iterator::convert;
+    /// # use fallible_iterator::{FallibleIterator, convert};
     /// # use fallible_itertools::FallibleItertools;
     /// # use fallible_itertools::PeekingNext;
-    /// # pub fn sum_of_copies(readings: Vec<Result<&u32, u8>>) -> Result<u64, u8>
-    /// # {
-    /// convert(readings.into_iter()).copied().fold(
-    ///     0,
-    ///     |sum: u64, reading: u32| Ok(sum.wrapping_add(u64::from(reading))),
-    /// )
-    /// # }
-    /// # fn main() { let _ = sum_of_copies(vec![Ok(&1), Ok(&2)]); }
+    /// let readings = [150, 7];
+    /// let mut it = convert(readings.iter().map(Ok::<&u32, u8>)).copied();
+    /// let drawn = [it.next(), it.next(), it.next()];
+    /// assert_eq!(drawn, [Ok(Some(150)), Ok(Some(7)), Ok(None)]);
     /// ```
     ///
     /// <details><summary>Contract</summary>
@@ -971,17 +848,13 @@ pub trait FallibleItertools: FallibleIterator + Sized {
     /// Creating it draws nothing and calls nothing. Up to the rejected item `next` draws once. It fails as the source does. If the predicate fails, its failure is yielded, and the item is lost. Neither that nor an `Ok(None)` of the source exhausts it. After the rejected item it draws nothing, and each call returns `Ok(None)`.
     ///
     /// ```
-    /// # use fallible_iterator::FallibleIterator;
-    /// # use fallible_iterator::convert;
+    /// # use fallible_iterator::{FallibleIterator, convert};
     /// # use fallible_itertools::FallibleItertools;
     /// # use fallible_itertools::PeekingNext;
-    /// # pub fn up_to_a_low_one(readings: Vec<Result<u32, u8>>) -> Result<usize, u8>
-    /// # {
-    /// convert(readings.into_iter())
-    ///     .take_while_inclusive(|reading| Ok(*reading > 100))
-    ///     .count()
-    /// # }
-    /// # fn main() { let _ = up_to_a_low_one(vec![Ok(150), Ok(7), Ok(700), Ok(0), Ok(600)]); }
+    /// let readings = [Ok::<u32, u8>(150), Ok(7), Ok(700)];
+    /// let mut it = convert(readings.into_iter()).take_while_inclusive(|reading| Ok(*reading > 100));
+    /// let drawn = [it.next(), it.next(), it.next()];
+    /// assert_eq!(drawn, [Ok(Some(150)), Ok(Some(7)), Ok(None)]);
     /// ```
     ///
     /// <details><summary>Contract</summary>
@@ -1017,16 +890,15 @@ pub trait FallibleItertools: FallibleIterator + Sized {
     /// Creating it draws nothing. `next` draws once, and calls the closure once if a failure came. It fails as the source does. After a failure and after `Ok(None)` the next call draws again. It is double-ended if the source is.
     ///
     /// ```
-    /// # use fallible_iterator::FallibleIterator;
-    /// # use fallible_iterator::convert;
+    /// # use fallible_iterator::{FallibleIterator, convert};
     /// # use fallible_itertools::FallibleItertools;
-    /// # pub fn count_noting(rows: Vec<Result<u32, u8>>, noted: &mut Option<u8>) -> Result<usize, u8>
-    /// # {
-    /// convert(rows.into_iter())
-    ///     .inspect_err(|code| *noted = Some(*code))
-    ///     .count()
-    /// # }
-    /// # fn main() {  }
+    /// # use fallible_itertools::PeekingNext;
+    /// let readings = [Ok::<u32, u8>(150), Err(9), Ok(7)];
+    /// let mut noted = None;
+    /// let mut it = convert(readings.into_iter()).inspect_err(|code| noted = Some(*code));
+    /// let drawn = [it.next(), it.next(), it.next()];
+    /// assert_eq!(drawn, [Ok(Some(150)), Err(9), Ok(Some(7))]);
+    /// assert_eq!(noted, Some(9));
     /// ```
     ///
     /// <details><summary>Contract</summary>
@@ -1056,14 +928,19 @@ pub trait FallibleItertools: FallibleIterator + Sized {
     /// Creating it draws nothing. `next` draws up to an item, an `Ok(None)`, or a failure for which the closure returns an item or fails. It calls the closure once on each failure. It fails with the closure's failures alone. After a failure and after `Ok(None)` the next call draws again. It is double-ended if the source is.
     ///
     /// ```
-    /// # use fallible_iterator::FallibleIterator;
-    /// # use fallible_iterator::convert;
+    /// # use fallible_iterator::{FallibleIterator, convert};
     /// # use fallible_itertools::FallibleItertools;
-    /// # pub fn count_good(rows: Vec<Result<u32, u8>>) -> Result<usize, u8>
-    /// # {
-    /// convert(rows.into_iter()).or_else(|_| Ok(None)).count()
-    /// # }
-    /// # fn main() { let _ = count_good(vec![Ok(150), Ok(7), Ok(700), Ok(0), Ok(600)]); }
+    /// # use fallible_itertools::PeekingNext;
+    /// let readings = [Ok::<u32, u8>(150), Err(1), Err(2), Err(9)];
+    /// let mut it = convert(readings.into_iter()).or_else(|code| match code {
+    ///     1 => Ok(Some(0)),
+    ///     2 => Ok(None),
+    ///     _ => Err("broken"),
+    /// });
+    /// let drawn = [it.next(), it.next(), it.next(), it.next()];
+    /// assert_eq!(drawn,
+    ///     [Ok(Some(150)), Ok(Some(0)), Err("broken"), Ok(None)]
+    /// );
     /// ```
     ///
     /// <details><summary>Contract</summary>
@@ -1093,19 +970,15 @@ pub trait FallibleItertools: FallibleIterator + Sized {
     /// Laziness, draws, buffered items, errors and folds: as `merge_by`, with no closure that may fail. Bounds of both sides, added up, bound it.
     ///
     /// ```
-    /// # use fallible_iterator::FallibleIterator;
-    /// # use fallible_iterator::convert_fused;
+    /// # use fallible_iterator::{FallibleIterator, convert};
     /// # use fallible_itertools::FallibleItertools;
-    /// # pub fn last_of_both(
-    /// #     left: Vec<Result<u32, u8>>,
-    /// #     right: Vec<Result<u32, u8>>,
-    /// # ) -> Result<Option<u32>, u8>
-    /// # {
-    /// convert_fused(left.into_iter())
-    ///     .merge(convert_fused(right.into_iter()))
-    ///     .last()
-    /// # }
-    /// # fn main() { let _ = last_of_both(vec![Ok(150), Ok(7), Ok(700), Ok(0), Ok(600)], vec![Ok(150), Ok(7), Ok(700), Ok(0), Ok(600)]); }
+    /// let left = convert([Ok::<u32, u8>(1), Ok(4)].into_iter());
+    /// let right = convert([Ok(2), Ok(3)].into_iter());
+    /// let mut it = left.merge(right);
+    /// let drawn = [it.next(), it.next(), it.next(), it.next(), it.next()];
+    /// assert_eq!(drawn,
+    ///     [Ok(Some(1)), Ok(Some(2)), Ok(Some(3)), Ok(Some(4)), Ok(None)]
+    /// );
     /// ```
     ///
     /// <details><summary>Contract</summary>
@@ -1155,16 +1028,13 @@ pub trait FallibleItertools: FallibleIterator + Sized {
     /// Creating it draws nothing. It buffers at most one item of each side. `next` draws this side once if nothing of it is buffered. Then, unless that failed, it draws `other` once if nothing of `other` is buffered. An `Ok(None)` of a side isn't remembered. It fails as either side does, and loses nothing that is buffered. If the closure fails, its failure is yielded, and the two items that it was called on are lost. Its folds draw as `next` does. Bounds of both sides, added up, bound it.
     ///
     /// ```
-    /// # use fallible_iterator::FallibleIterator;
-    /// # use fallible_iterator::convert_fused;
+    /// # use fallible_iterator::{FallibleIterator, convert};
     /// # use fallible_itertools::FallibleItertools;
-    /// # pub fn readings_merged(left: Vec<Result<u32, u8>>, right: Vec<Result<u32, u8>>) -> Result<usize, u8>
-    /// # {
-    /// convert_fused(left.into_iter())
-    ///     .merge_by(convert_fused(right.into_iter()), |x, y| Ok(*x <= *y))
-    ///     .count()
-    /// # }
-    /// # fn main() { let _ = readings_merged(vec![Ok(150), Ok(7), Ok(700), Ok(0), Ok(600)], vec![Ok(150), Ok(7), Ok(700), Ok(0), Ok(600)]); }
+    /// let left = convert([Ok::<u32, u8>(4), Ok(1)].into_iter());
+    /// let right = convert([Ok(3)].into_iter());
+    /// let mut it = left.merge_by(right, |x, y| Ok(*x >= *y));
+    /// let drawn = [it.next(), it.next(), it.next(), it.next()];
+    /// assert_eq!(drawn, [Ok(Some(4)), Ok(Some(3)), Ok(Some(1)), Ok(None)]);
     /// ```
     ///
     /// <details><summary>Contract</summary>
@@ -1224,16 +1094,15 @@ pub trait FallibleItertools: FallibleIterator + Sized {
     /// Creating it draws nothing. `next` draws this side once if no item of it is buffered. Then, unless that failed, it draws `other` once, also after an `Ok(None)`. An `Ok(None)` of a side isn't remembered. It fails as this iterator does, or else as `other` does. A failure of `other` loses nothing: the item of this side is buffered, and the next call draws `other` alone. Its folds draw as `next` does. Bounds of both sides, added up, bound it.
     ///
     /// ```
-    /// # use fallible_iterator::FallibleIterator;
-    /// # use fallible_iterator::convert_fused;
+    /// # use fallible_iterator::{FallibleIterator, convert};
+    /// # use fallible_itertools::EitherOrBoth;
     /// # use fallible_itertools::FallibleItertools;
-    /// # pub fn places_of_both(left: Vec<Result<u32, u8>>, right: Vec<Result<u32, u8>>) -> Result<usize, u8>
-    /// # {
-    /// convert_fused(left.into_iter())
-    ///     .zip_longest(convert_fused(right.into_iter()))
-    ///     .count()
-    /// # }
-    /// # fn main() { let _ = places_of_both(vec![Ok(150), Ok(7), Ok(700), Ok(0), Ok(600)], vec![Ok(150), Ok(7), Ok(700), Ok(0), Ok(600)]); }
+    /// let letters = convert([Ok::<char, u8>('a'), Ok('b')].into_iter());
+    /// let numbers = convert([Ok(1)].into_iter());
+    /// let mut it = letters.zip_longest(numbers);
+    /// assert_eq!(it.next(), Ok(Some(EitherOrBoth::Both('a', 1))));
+    /// assert_eq!(it.next(), Ok(Some(EitherOrBoth::Left('b'))));
+    /// assert_eq!(it.next(), Ok(None));
     /// ```
     ///
     /// <details><summary>Contract</summary>
@@ -1280,17 +1149,14 @@ pub trait FallibleItertools: FallibleIterator + Sized {
     /// It draws at most twice: up to `Ok(None)`, a failure or the second item. It fails with that failure, and drops an item that came before it. Nothing is drawn after that, and the iterator may be used again.
     ///
     /// ```
-    /// # use fallible_iterator::FallibleIterator;
-    /// # use fallible_iterator::convert;
+    /// # use fallible_iterator::{FallibleIterator, convert};
     /// # use fallible_itertools::DoubleEndedFallibleItertools;
     /// # use fallible_itertools::FallibleItertools;
-    /// # pub fn only_above_100(readings: Vec<Result<u32, u8>>) -> Result<Result<Option<u32>, (u32, u32)>, u8>
-    /// # {
-    /// convert(readings.into_iter())
-    ///     .filter(|reading| Ok(*reading > 100))
-    ///     .at_most_one()
-    /// # }
-    /// # fn main() { let _ = only_above_100(vec![Ok(150), Ok(7), Ok(700), Ok(0), Ok(600)]); }
+    /// let one = [Ok::<u32, u8>(150)];
+    /// assert_eq!(convert(one.into_iter()).at_most_one(), Ok(Ok(Some(150))));
+    ///
+    /// let more = [Ok::<u32, u8>(150), Ok(7), Err(9)];
+    /// assert_eq!(convert(more.into_iter()).at_most_one(), Ok(Err((150, 7))));
     /// ```
     ///
     /// <details><summary>Contract</summary>
@@ -1330,15 +1196,17 @@ pub trait FallibleItertools: FallibleIterator + Sized {
     /// Draws, errors, precondition and what is left: as `at_most_one`.
     ///
     /// ```
-    /// # use fallible_iterator::FallibleIterator;
+    /// # use fallible_iterator::{FallibleIterator, convert};
     /// # use fallible_itertools::DoubleEndedFallibleItertools;
     /// # use fallible_itertools::FallibleItertools;
     /// # use fallible_itertools::NotOne;
-    /// # pub fn only_of_ten<I: FallibleIterator>(it: I) -> Result<Result<I::Item, NotOne<I::Item>>, I::Error>
-    /// # {
-    /// it.take(10).exactly_one()
-    /// # }
-    /// # fn main() { let _ = only_of_ten(fallible_iterator::convert::<u32, u8, _>([Ok(150), Ok(7), Ok(700), Ok(0), Ok(600)].into_iter())); }
+    /// let one = [Ok::<u32, u8>(150)];
+    /// assert_eq!(convert(one.into_iter()).exactly_one(), Ok(Ok(150)));
+    ///
+    /// let more = [Ok::<u32, u8>(150), Ok(7), Err(9)];
+    /// assert_eq!(convert(more.into_iter()).exactly_one(),
+    ///     Ok(Err(NotOne::More(150, 7)))
+    /// );
     /// ```
     ///
     /// <details><summary>Contract</summary>
@@ -1376,18 +1244,14 @@ pub trait FallibleItertools: FallibleIterator + Sized {
     /// Precondition, which is not checked: the iterator is finite.
     ///
     /// ```
-    /// # use fallible_iterator::FallibleIterator;
-    /// # use fallible_iterator::convert;
+    /// # use fallible_iterator::{FallibleIterator, convert};
     /// # use fallible_itertools::DoubleEndedFallibleItertools;
     /// # use fallible_itertools::FallibleItertools;
     /// # use fallible_itertools::MinMaxResult;
-    /// # pub fn span_above_100(readings: Vec<Result<u32, u8>>) -> Result<MinMaxResult<u32>, u8>
-    /// # {
-    /// convert(readings.into_iter())
-    ///     .filter(|reading| Ok(*reading > 100))
-    ///     .minmax()
-    /// # }
-    /// # fn main() { let _ = span_above_100(vec![Ok(150), Ok(7), Ok(700), Ok(0), Ok(600)]); }
+    /// let readings = [Ok::<u32, u8>(150), Ok(7), Ok(700)];
+    /// assert_eq!(convert(readings.into_iter()).minmax(),
+    ///     Ok(MinMaxResult::MinMax(7, 700))
+    /// );
     /// ```
     ///
     /// <details><summary>Contract</summary>
@@ -1421,33 +1285,15 @@ pub trait FallibleItertools: FallibleIterator + Sized {
     /// Precondition, which is not checked: at most `usize::MAX` items are left, so that each number fits.
     ///
     /// ```
-    /// # use fallible_iterator::Convert;
-    /// # use fallible_iterator::DoubleEndedFallibleIterator;
-    /// # use fallible_iterator::FallibleIterator;
-    /// # use fallible_iterator::convert;
+    /// # use fallible_iterator::{FallibleIterator, convert};
+    /// # use fallible_itertools::DoubleEndedFallibleItertools;
     /// # use fallible_itertools::FallibleItertools;
-    /// # use std::iter::Copied;
-    /// # use std::slice::Iter;
-    /// # pub struct Fail;
-    /// # impl Fail {
-    /// #     pub fn new(what: impl std::fmt::Display) -> Fail {
-    /// #         panic!("{what}")
-    /// #     }
-    /// # }
-    /// # impl<E: std::fmt::Debug> From<E> for Fail {
-    /// #     fn from(e: E) -> Fail {
-    /// #         panic!("{e:?}")
-    /// #     }
-    /// # }
-    /// # pub fn numbers<'a>(answers: &'a [Result<u32, u32>]) -> Convert<Copied<Iter<'a, Result<u32, u32>>>>
-    /// # {
-    /// #     convert(answers.iter().copied())
-    /// # }
-    /// # fn counted_and_joined() -> Result<(), Fail> {
-    /// let counts = numbers(&[Ok(5), Ok(7), Ok(5)]).counts();
-    /// #     Ok(())
-    /// # }
-    /// # fn main() { let _ = counted_and_joined(); }
+    /// let readings = [Ok::<u32, u8>(7), Ok(150), Ok(7)];
+    /// let counts = convert(readings.into_iter()).counts()?;
+    /// assert_eq!((counts.get(&7), counts.get(&150), counts.get(&8)),
+    ///     (Some(&2), Some(&1), None)
+    /// );
+    /// # Ok::<(), u8>(())
     /// ```
     ///
     /// <details><summary>Contract</summary>
@@ -1489,20 +1335,14 @@ pub trait FallibleItertools: FallibleIterator + Sized {
     /// Precondition, which is not checked: the iterator is finite.
     ///
     /// ```
-    /// # use fallible_iterator::FallibleIterator;
-    /// # use fallible_iterator::convert;
+    /// # use fallible_iterator::{FallibleIterator, convert};
     /// # use fallible_itertools::DoubleEndedFallibleItertools;
     /// # use fallible_itertools::FallibleItertools;
-    /// # use std::collections::HashMap;
-    /// # pub fn by_last_digit(
-    /// #     readings: Vec<Result<u32, u8>>,
-    /// # ) -> Result<HashMap<u32, Vec<u32>>, u8>
-    /// # {
-    /// convert(readings.into_iter())
-    ///     .map(|reading| Ok((reading % 10, reading)))
-    ///     .into_group_map()
-    /// # }
-    /// # fn main() { let _ = by_last_digit(vec![Ok(150), Ok(7), Ok(700), Ok(0), Ok(600)]); }
+    /// let pairs = [Ok::<(char, u32), u8>(('a', 1)), Ok(('b', 2)), Ok(('a', 3))];
+    /// let groups = convert(pairs.into_iter()).into_group_map()?;
+    /// assert_eq!(groups.get(&'a'), Some(&vec![1, 3]));
+    /// assert_eq!(groups.get(&'b'), Some(&vec![2]));
+    /// # Ok::<(), u8>(())
     /// ```
     ///
     /// <details><summary>Contract</summary>
@@ -1545,24 +1385,21 @@ pub trait FallibleItertools: FallibleIterator + Sized {
     /// Precondition, which is not checked: the iterator is finite.
     ///
     /// ```
-    /// # use fallible_iterator::FallibleIterator;
-    /// # use fallible_iterator::convert;
+    /// # use fallible_iterator::{FallibleIterator, convert};
     /// # use fallible_itertools::DoubleEndedFallibleItertools;
     /// # use fallible_itertools::Either;
     /// # use fallible_itertools::FallibleItertools;
-    /// # pub fn up_to_100_and_above(
-    /// #     readings: Vec<Result<u32, u8>>,
-    /// # ) -> Result<(Vec<u32>, Vec<u32>), u8>
-    /// # {
-    /// convert(readings.into_iter()).partition_map(|reading: u32| {
-    ///     Ok(if reading > 100 {
-    ///         Either::Right(reading - 100)
-    ///     } else {
-    ///         Either::Left(reading)
-    ///     })
-    /// })
-    /// # }
-    /// # fn main() { let _ = up_to_100_and_above(vec![Ok(150), Ok(7), Ok(700), Ok(0), Ok(600)]); }
+    /// let readings = [Ok::<u32, u8>(150), Ok(7), Ok(700)];
+    /// let (low, above): (Vec<u32>, Vec<u32>) = convert(readings.into_iter()).partition_map(|reading: u32| {
+    ///         Ok(match reading.checked_sub(100) {
+    ///             Some(above) => Either::Right(above),
+    ///             None => Either::Left(reading),
+    ///         })
+    ///     },
+    /// )?;
+    /// assert_eq!(low, vec![7]);
+    /// assert_eq!(above, vec![50, 600]);
+    /// # Ok::<(), u8>(())
     /// ```
     ///
     /// <details><summary>Contract</summary>
@@ -1608,15 +1445,13 @@ pub trait FallibleItertools: FallibleIterator + Sized {
     /// Precondition, which is not checked: the iterator is finite.
     ///
     /// ```
-    /// # use fallible_iterator::FallibleIterator;
-    /// # use fallible_iterator::convert;
+    /// # use fallible_iterator::{FallibleIterator, convert};
     /// # use fallible_itertools::DoubleEndedFallibleItertools;
     /// # use fallible_itertools::FallibleItertools;
-    /// # pub fn readings_sorted(readings: Vec<Result<u32, u8>>) -> Result<Vec<u32>, u8>
-    /// # {
-    /// convert(readings.into_iter()).sorted()
-    /// # }
-    /// # fn main() { let _ = readings_sorted(vec![Ok(150), Ok(7), Ok(700), Ok(0), Ok(600)]); }
+    /// let readings = [Ok::<u32, u8>(150), Ok(7), Ok(700)];
+    /// let sorted = convert(readings.into_iter()).sorted()?;
+    /// assert_eq!(sorted, vec![7, 150, 700]);
+    /// # Ok::<(), u8>(())
     /// ```
     ///
     /// <details><summary>Contract</summary>
@@ -1651,17 +1486,13 @@ pub trait FallibleItertools: FallibleIterator + Sized {
     /// Precondition, which is not checked: the iterator is finite.
     ///
     /// ```
-    /// # use fallible_iterator::FallibleIterator;
-    /// # use fallible_iterator::convert;
+    /// # use fallible_iterator::{FallibleIterator, convert};
     /// # use fallible_itertools::DoubleEndedFallibleItertools;
     /// # use fallible_itertools::FallibleItertools;
-    /// # pub fn sorted_by_last_digit(
-    /// #     readings: Vec<Result<u32, u8>>,
-    /// # ) -> Result<Vec<u32>, u8>
-    /// # {
-    /// convert(readings.into_iter()).sorted_by_key(|reading: &u32| *reading % 10)
-    /// # }
-    /// # fn main() { let _ = sorted_by_last_digit(vec![Ok(150), Ok(7), Ok(700), Ok(0), Ok(600)]); }
+    /// let words = [Ok::<&str, u8>("the"), Ok("sea"), Ok("is")];
+    /// let sorted = convert(words.into_iter()).sorted_by_key(|word: &&str| word.len())?;
+    /// assert_eq!(sorted, vec!["is", "the", "sea"]);
+    /// # Ok::<(), u8>(())
     /// ```
     ///
     /// <details><summary>Contract</summary>
@@ -1700,33 +1531,13 @@ pub trait FallibleItertools: FallibleIterator + Sized {
     /// Precondition, which is not checked: the iterator is finite.
     ///
     /// ```
-    /// # use fallible_iterator::Convert;
-    /// # use fallible_iterator::DoubleEndedFallibleIterator;
-    /// # use fallible_iterator::FallibleIterator;
-    /// # use fallible_iterator::convert;
+    /// # use fallible_iterator::{FallibleIterator, convert};
+    /// # use fallible_itertools::DoubleEndedFallibleItertools;
     /// # use fallible_itertools::FallibleItertools;
-    /// # use std::iter::Copied;
-    /// # use std::slice::Iter;
-    /// # pub struct Fail;
-    /// # impl Fail {
-    /// #     pub fn new(what: impl std::fmt::Display) -> Fail {
-    /// #         panic!("{what}")
-    /// #     }
-    /// # }
-    /// # impl<E: std::fmt::Debug> From<E> for Fail {
-    /// #     fn from(e: E) -> Fail {
-    /// #         panic!("{e:?}")
-    /// #     }
-    /// # }
-    /// # pub fn numbers<'a>(answers: &'a [Result<u32, u32>]) -> Convert<Copied<Iter<'a, Result<u32, u32>>>>
-    /// # {
-    /// #     convert(answers.iter().copied())
-    /// # }
-    /// # fn counted_and_joined() -> Result<(), Fail> {
-    /// let text = numbers(&[Ok(1), Ok(20), Ok(3)]).join(", ");
-    /// #     Ok(())
-    /// # }
-    /// # fn main() { let _ = counted_and_joined(); }
+    /// let readings = [Ok::<u32, u8>(150), Ok(7), Ok(700)];
+    /// let text = convert(readings.into_iter()).join(", ")?;
+    /// assert_eq!(text.as_str(), "150, 7, 700");
+    /// # Ok::<(), u8>(())
     /// ```
     ///
     /// <details><summary>Contract</summary>
@@ -1766,77 +1577,13 @@ pub trait FallibleItertools: FallibleIterator + Sized {
     /// Precondition, which is not checked: one of the two is finite.
     ///
     /// ```
-    /// # use fallible_iterator::Convert;
-    /// # use fallible_iterator::DoubleEndedFallibleIterator;
-    /// # use fallible_iterator::FallibleIterator;
-    /// # use fallible_iterator::convert;
+    /// # use fallible_iterator::{FallibleIterator, convert};
     /// # use fallible_itertools::FallibleItertools;
     /// # use std::cmp::Ordering;
-    /// # use std::fmt::Debug;
-    /// # use std::iter::Copied;
-    /// # use std::slice::Iter;
-    /// # pub struct Fail;
-    /// # impl Fail {
-    /// #     pub fn new(what: impl std::fmt::Display) -> Fail {
-    /// #         panic!("{what}")
-    /// #     }
-    /// # }
-    /// # impl<E: std::fmt::Debug> From<E> for Fail {
-    /// #     fn from(e: E) -> Fail {
-    /// #         panic!("{e:?}")
-    /// #     }
-    /// # }
-    /// # pub fn numbers<'a>(answers: &'a [Result<u32, u32>]) -> Convert<Copied<Iter<'a, Result<u32, u32>>>>
-    /// # {
-    /// #     convert(answers.iter().copied())
-    /// # }
-    /// # pub fn expect_same<T: Debug + PartialEq>(answered: &T, expected: &T) -> Result<(), Fail> {
-    /// #     if answered == expected {
-    /// #         Ok(())
-    /// #     } else {
-    /// #         Err(Fail::new(format_args!("answered {answered:?}, and not {expected:?}")))
-    /// #     }
-    /// # }
-    /// # fn same_last_digit(x: u32, y: u32) -> Result<bool, u32> {
-    /// #     if x == 5 {
-    /// #         Err(50)
-    /// #     } else {
-    /// #         Ok(x % 10 == y % 10)
-    /// #     }
-    /// # }
-    /// # fn last_digits(x: u32, y: u32) -> Result<Ordering, u32> {
-    /// #     if x == 5 {
-    /// #         Err(50)
-    /// #     } else {
-    /// #         Ok((x % 10).cmp(&(y % 10)))
-    /// #     }
-    /// # }
-    /// # const COMPARED: [(Numbers, Numbers, (Result<Ordering, u32>, Result<bool, u32>)); 6] = [
-    /// #     (
-    /// #         &[Ok(1), Ok(12)],
-    /// #         &[Ok(21), Ok(2)],
-    /// #         (Ok(Ordering::Equal), Ok(true)),
-    /// #     ),
-    /// #     (&[Ok(1)], &[Ok(21), Ok(2)], (Ok(Ordering::Less), Ok(false))),
-    /// #     (
-    /// #         &[Ok(19), Ok(5)],
-    /// #         &[Ok(21), Err(2)],
-    /// #         (Ok(Ordering::Greater), Ok(false)),
-    /// #     ),
-    /// #     (&[Ok(1), Err(3)], &[Ok(1), Err(2)], (Err(3), Err(3))),
-    /// #     (&[Ok(1), Ok(5)], &[Ok(1), Ok(5)], (Err(50), Err(50))),
-    /// #     (&[Ok(1)], &[Ok(1), Err(2)], (Err(2), Err(2))),
-    /// # ];
-    /// # type Numbers = &'static [Result<u32, u32>];
-    /// # fn compared_by_closures() -> Result<(), Fail> {
-    /// #     for (left, right, expected) in &COMPARED {
-    /// let order = numbers(left).cmp_by(numbers(right), last_digits);
-    /// #         let equal = numbers(left).eq_by(numbers(right), same_last_digit);
-    /// #         expect_same(&(order, equal), expected)?;
-    /// #     }
-    /// #     Ok(())
-    /// # }
-    /// # fn main() { let _ = compared_by_closures(); }
+    /// let left = convert([Ok::<u32, u8>(11), Ok(12)].into_iter());
+    /// let right = convert([Ok(21), Ok(13)].into_iter());
+    /// let order = left.cmp_by(right, |x, y| Ok((x % 10).cmp(&(y % 10))));
+    /// assert_eq!(order, Ok(Ordering::Less));
     /// ```
     ///
     /// <details><summary>Contract</summary>
@@ -1877,77 +1624,11 @@ pub trait FallibleItertools: FallibleIterator + Sized {
     /// Draws, errors and precondition: as `cmp_by`.
     ///
     /// ```
-    /// # use fallible_iterator::Convert;
-    /// # use fallible_iterator::DoubleEndedFallibleIterator;
-    /// # use fallible_iterator::FallibleIterator;
-    /// # use fallible_iterator::convert;
+    /// # use fallible_iterator::{FallibleIterator, convert};
     /// # use fallible_itertools::FallibleItertools;
-    /// # use std::cmp::Ordering;
-    /// # use std::fmt::Debug;
-    /// # use std::iter::Copied;
-    /// # use std::slice::Iter;
-    /// # pub struct Fail;
-    /// # impl Fail {
-    /// #     pub fn new(what: impl std::fmt::Display) -> Fail {
-    /// #         panic!("{what}")
-    /// #     }
-    /// # }
-    /// # impl<E: std::fmt::Debug> From<E> for Fail {
-    /// #     fn from(e: E) -> Fail {
-    /// #         panic!("{e:?}")
-    /// #     }
-    /// # }
-    /// # pub fn numbers<'a>(answers: &'a [Result<u32, u32>]) -> Convert<Copied<Iter<'a, Result<u32, u32>>>>
-    /// # {
-    /// #     convert(answers.iter().copied())
-    /// # }
-    /// # pub fn expect_same<T: Debug + PartialEq>(answered: &T, expected: &T) -> Result<(), Fail> {
-    /// #     if answered == expected {
-    /// #         Ok(())
-    /// #     } else {
-    /// #         Err(Fail::new(format_args!("answered {answered:?}, and not {expected:?}")))
-    /// #     }
-    /// # }
-    /// # fn same_last_digit(x: u32, y: u32) -> Result<bool, u32> {
-    /// #     if x == 5 {
-    /// #         Err(50)
-    /// #     } else {
-    /// #         Ok(x % 10 == y % 10)
-    /// #     }
-    /// # }
-    /// # fn last_digits(x: u32, y: u32) -> Result<Ordering, u32> {
-    /// #     if x == 5 {
-    /// #         Err(50)
-    /// #     } else {
-    /// #         Ok((x % 10).cmp(&(y % 10)))
-    /// #     }
-    /// # }
-    /// # const COMPARED: [(Numbers, Numbers, (Result<Ordering, u32>, Result<bool, u32>)); 6] = [
-    /// #     (
-    /// #         &[Ok(1), Ok(12)],
-    /// #         &[Ok(21), Ok(2)],
-    /// #         (Ok(Ordering::Equal), Ok(true)),
-    /// #     ),
-    /// #     (&[Ok(1)], &[Ok(21), Ok(2)], (Ok(Ordering::Less), Ok(false))),
-    /// #     (
-    /// #         &[Ok(19), Ok(5)],
-    /// #         &[Ok(21), Err(2)],
-    /// #         (Ok(Ordering::Greater), Ok(false)),
-    /// #     ),
-    /// #     (&[Ok(1), Err(3)], &[Ok(1), Err(2)], (Err(3), Err(3))),
-    /// #     (&[Ok(1), Ok(5)], &[Ok(1), Ok(5)], (Err(50), Err(50))),
-    /// #     (&[Ok(1)], &[Ok(1), Err(2)], (Err(2), Err(2))),
-    /// # ];
-    /// # type Numbers = &'static [Result<u32, u32>];
-    /// # fn compared_by_closures() -> Result<(), Fail> {
-    /// #     for (left, right, expected) in &COMPARED {
-    /// #         let order = numbers(left).cmp_by(numbers(right), last_digits);
-    /// let equal = numbers(left).eq_by(numbers(right), same_last_digit);
-    /// #         expect_same(&(order, equal), expected)?;
-    /// #     }
-    /// #     Ok(())
-    /// # }
-    /// # fn main() { let _ = compared_by_closures(); }
+    /// let left = convert([Ok::<u32, u8>(11), Ok(12)].into_iter());
+    /// let right = convert([Ok(21), Ok(2)].into_iter());
+    /// assert_eq!(left.eq_by(right, |x, y| Ok(x % 10 == y % 10)), Ok(true));
     /// ```
     ///
     /// <details><summary>Contract</summary>
@@ -1992,24 +1673,14 @@ pub trait FallibleItertools: FallibleIterator + Sized {
     /// Precondition, which is not checked: n is not 0.
     ///
     /// ```
-    /// # use fallible_iterator::FallibleIterator;
-    /// # use fallible_iterator::convert;
+    /// # use fallible_iterator::{FallibleIterator, convert};
     /// # use fallible_itertools::FallibleItertools;
-    /// # use fallible_iterator::memory::AllocError;
-    /// # #[derive(Clone, Debug, PartialEq, Eq)]
-    /// # pub enum TestError {
-    /// #     Number(u32),
-    /// #     Memory,
-    /// # }
-    /// # impl From<AllocError> for TestError {
-    /// #     fn from(_refused: AllocError) -> TestError {
-    /// #         TestError::Memory
-    /// #     }
-    /// # }
-    /// # fn pairs(readings: Vec<Result<u32, TestError>>) -> Result<usize, TestError> {
-    /// convert(readings.into_iter()).chunks(2).count()
-    /// # }
-    /// # fn main() { let _ = pairs(vec![Ok(150), Ok(7), Ok(700), Ok(0), Ok(600)]); }
+    /// # use fallible_itertools::PeekingNext;
+    /// let readings = [Ok::<u32, u8>(150), Ok(7), Ok(700)];
+    /// let mut it = convert(readings.into_iter()).chunks(2);
+    /// assert_eq!(it.next(), Ok(Some(vec![150, 7])));
+    /// assert_eq!(it.next(), Ok(Some(vec![700])));
+    /// assert_eq!(it.next(), Ok(None));
     /// ```
     ///
     /// <details><summary>Contract</summary>
@@ -2042,29 +1713,14 @@ pub trait FallibleItertools: FallibleIterator + Sized {
     /// It fails as the source does. The closure's failure is a stop too. Then the item is lost, and no other. After a failure and after `Ok(None)` the next call draws again.
     ///
     /// ```
-    /// # use fallible_iterator::FallibleIterator;
-    /// # use fallible_iterator::convert;
+    /// # use fallible_iterator::{FallibleIterator, convert};
     /// # use fallible_itertools::FallibleItertools;
-    /// # use fallible_iterator::memory::AllocError;
-    /// # #[derive(Clone, Debug, PartialEq, Eq)]
-    /// # pub enum TestError {
-    /// #     Number(u32),
-    /// #     Memory,
-    /// # }
-    /// # impl From<AllocError> for TestError {
-    /// #     fn from(_refused: AllocError) -> TestError {
-    /// #         TestError::Memory
-    /// #     }
-    /// # }
-    /// # fn last_hundreds(
-    /// #     readings: Vec<Result<u32, TestError>>,
-    /// # ) -> Result<Option<(u32, usize)>, TestError> {
-    /// convert(readings.into_iter())
-    ///     .chunk_by(|reading| Ok(*reading / 100))
-    ///     .map(|(hundreds, group)| Ok((hundreds, group.len())))
-    ///     .last()
-    /// # }
-    /// # fn main() { let _ = last_hundreds(vec![Ok(150), Ok(7), Ok(700), Ok(0), Ok(600)]); }
+    /// # use fallible_itertools::PeekingNext;
+    /// let readings = [Ok::<u32, u8>(150), Ok(157), Ok(7)];
+    /// let mut it = convert(readings.into_iter()).chunk_by(|reading| Ok(*reading / 10));
+    /// assert_eq!(it.next(), Ok(Some((15, vec![150, 157]))));
+    /// assert_eq!(it.next(), Ok(Some((0, vec![7]))));
+    /// assert_eq!(it.next(), Ok(None));
     /// ```
     ///
     /// <details><summary>Contract</summary>
@@ -2102,15 +1758,13 @@ pub trait FallibleItertools: FallibleIterator + Sized {
     /// Creating it draws nothing. If an item is buffered, `next` yields it and draws nothing; otherwise it draws once. An item after the first is buffered, and a clone of the separator is yielded before it. It fails as the source does. After a failure or an `Ok(None)` the next item still has a separator before it.
     ///
     /// ```
-    /// # use fallible_iterator::FallibleIterator;
-    /// # use fallible_iterator::convert;
+    /// # use fallible_iterator::{FallibleIterator, convert};
     /// # use fallible_itertools::FallibleItertools;
-    /// # use fallible_iterator::memory::AllocError;
-    /// # pub fn separated_by_zeros(readings: Vec<Result<u32, AllocError>>) -> Result<usize, AllocError>
-    /// # {
-    /// convert(readings.into_iter()).intersperse(0).count()
-    /// # }
-    /// # fn main() { let _ = separated_by_zeros(vec![Ok(150), Ok(7), Ok(700), Ok(0), Ok(600)]); }
+    /// # use fallible_itertools::PeekingNext;
+    /// let readings = [Ok::<u32, u8>(150), Ok(7)];
+    /// let mut it = convert(readings.into_iter()).intersperse(0);
+    /// let drawn = [it.next(), it.next(), it.next(), it.next()];
+    /// assert_eq!(drawn, [Ok(Some(150)), Ok(Some(0)), Ok(Some(7)), Ok(None)]);
     /// ```
     ///
     /// <details><summary>Contract</summary>
@@ -2145,19 +1799,25 @@ pub trait FallibleItertools: FallibleIterator + Sized {
     /// If the closure's state shows what its calls return, that is listed between the items.
     ///
     /// ```
-    /// # use fallible_iterator::FallibleIterator;
-    /// # use fallible_iterator::convert;
+    /// # use fallible_iterator::{FallibleIterator, convert};
     /// # use fallible_itertools::FallibleItertools;
-    /// # use fallible_iterator::memory::AllocError;
-    /// # pub fn separated_by_returned_zeros(
-    /// #     readings: Vec<Result<u32, AllocError>>,
-    /// # ) -> Result<usize, AllocError>
-    /// # {
-    /// convert(readings.into_iter())
-    ///     .intersperse_with(|| Ok(0))
-    ///     .count()
-    /// # }
-    /// # fn main() { let _ = separated_by_returned_zeros(vec![Ok(150), Ok(7), Ok(700), Ok(0), Ok(600)]); }
+    /// # use fallible_itertools::PeekingNext;
+    /// let readings = [Ok::<u32, u8>(150), Ok(7), Ok(700)];
+    /// let mut number = 0u32;
+    /// let mut it = convert(readings.into_iter()).intersperse_with(|| {
+    ///     number = number.wrapping_add(1);
+    ///     Ok(number)
+    /// });
+    /// let drawn = [it.next(), it.next(), it.next(), it.next(), it.next()];
+    /// assert_eq!(drawn,
+    ///     [
+    ///         Ok(Some(150)),
+    ///         Ok(Some(1)),
+    ///         Ok(Some(7)),
+    ///         Ok(Some(2)),
+    ///         Ok(Some(700))
+    ///     ]
+    /// );
     /// ```
     ///
     /// <details><summary>Contract</summary>
@@ -2199,27 +1859,13 @@ pub trait FallibleItertools: FallibleIterator + Sized {
     /// Creating it draws nothing. `next` draws up to an item that equals none that was yielded, a failure or an `Ok(None)`. A set has a clone of each item that was yielded. It fails as the source does, and a failure parts nothing. After a failure or an `Ok(None)` the set stays.
     ///
     /// ```
-    /// # use fallible_iterator::FallibleIterator;
-    /// # use fallible_iterator::convert;
+    /// # use fallible_iterator::{FallibleIterator, convert};
     /// # use fallible_itertools::FallibleItertools;
-    /// # use fallible_iterator::memory::AllocError;
-    /// # #[derive(Debug, PartialEq)]
-    /// # pub enum NoBatch {
-    /// #     Failed(u8),
-    /// #     Memory,
-    /// # }
-    /// # impl From<AllocError> for NoBatch {
-    /// #     fn from(_: AllocError) -> NoBatch {
-    /// #         NoBatch::Memory
-    /// #     }
-    /// # }
-    /// # pub fn unique_readings(
-    /// #     readings: Vec<Result<u32, NoBatch>>,
-    /// # ) -> Result<Vec<u32>, NoBatch>
-    /// # {
-    /// convert(readings.into_iter()).unique().collect()
-    /// # }
-    /// # fn main() { let _ = unique_readings(vec![Ok(150), Ok(7), Ok(700), Ok(0), Ok(600)]); }
+    /// # use fallible_itertools::PeekingNext;
+    /// let readings = [Ok::<u32, u8>(7), Ok(150), Ok(7)];
+    /// let mut it = convert(readings.into_iter()).unique();
+    /// let drawn = [it.next(), it.next(), it.next()];
+    /// assert_eq!(drawn, [Ok(Some(7)), Ok(Some(150)), Ok(None)]);
     /// ```
     ///
     /// <details><summary>Contract</summary>

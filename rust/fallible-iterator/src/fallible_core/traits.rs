@@ -48,27 +48,10 @@ pub trait FallibleIterator {
     /// It is one draw. After that `next` may be called again.
     ///
     /// ```
-    /// # use fallible_iterator::FallibleIterator;
-    /// # use fallible_iterator::IteratorExt;
-    /// # pub struct Fail;
-    /// # impl Fail {
-    /// #     pub fn new(what: impl std::fmt::Display) -> Fail {
-    /// #         panic!("{what}")
-    /// #     }
-    /// # }
-    /// # impl<E: std::fmt::Debug> From<E> for Fail {
-    /// #     fn from(e: E) -> Fail {
-    /// #         panic!("{e:?}")
-    /// #     }
-    /// # }
-    /// # fn from_fn_convert_fused_and_transposed_give_each_answer() -> Result<(), Fail> {
-    /// let answers: [Result<u32, u32>; 2] = [Ok(1), Err(2)];
-    /// let mut it = answers.iter().copied().transpose_into_fallible();
+    /// # use fallible_iterator::{FallibleIterator, convert};
+    /// let mut it = convert([Ok::<u32, u8>(150), Err(9)].into_iter());
     /// let drawn = [it.next(), it.next(), it.next()];
-    /// assert_eq!(drawn, [Ok(Some(1)), Err(2), Ok(None)]);
-    /// #     Ok(())
-    /// # }
-    /// # fn main() { let _ = from_fn_convert_fused_and_transposed_give_each_answer(); }
+    /// assert_eq!(drawn, [Ok(Some(150)), Err(9), Ok(None)]);
     /// ```
     ///
     /// <details><summary>Contract</summary>
@@ -87,14 +70,11 @@ pub trait FallibleIterator {
     /// It draws nothing and never fails. The iterator is as before.
     ///
     /// ```
-    /// # use fallible_iterator::FallibleIterator;
-    /// # use fallible_iterator::IteratorExt;
-    /// # use fallible_iterator::once;
-    /// # fn peekable_hint_counts_the_held_item_up_to_the_greatest_number() {
-    /// let mut it = once::<u32, u32>(1).peekable();
+    /// # use fallible_iterator::{FallibleIterator, convert, once};
+    /// let mut it = once::<u32, u8>(150);
     /// assert_eq!(it.size_hint(), (1, Some(1)));
-    /// # }
-    /// # fn main() { let _ = peekable_hint_counts_the_held_item_up_to_the_greatest_number(); }
+    /// assert_eq!(it.next(), Ok(Some(150)));
+    /// assert_eq!(it.size_hint(), (0, Some(0)));
     /// ```
     ///
     /// <details><summary>Contract</summary>
@@ -221,16 +201,12 @@ pub trait FallibleIterator {
     /// Precondition, which is not checked: at most `usize::MAX` items are left.
     ///
     /// ```
-    /// # use fallible_iterator::FallibleIterator;
-    /// # use fallible_iterator::convert;
-    /// # pub fn above_100_of_ten(readings: Vec<Result<u32, u8>>) -> Result<usize, u8>
-    /// # {
-    /// convert(readings.into_iter())
-    ///     .take(10)
-    ///     .filter(|reading| Ok(*reading > 100))
-    ///     .count()
-    /// # }
-    /// # fn main() { let _ = above_100_of_ten(vec![Ok(150), Ok(7), Ok(700), Ok(0), Ok(600)]); }
+    /// # use fallible_iterator::{FallibleIterator, convert};
+    /// let readings = [Ok::<u32, u8>(150), Ok(7), Ok(700)];
+    /// assert_eq!(convert(readings.into_iter()).count(), Ok(3));
+    ///
+    /// let cut = [Ok::<u32, u8>(150), Err(9), Ok(700)];
+    /// assert_eq!(convert(cut.into_iter()).count(), Err(9));
     /// ```
     ///
     /// <details><summary>Contract</summary>
@@ -287,16 +263,12 @@ pub trait FallibleIterator {
     /// Precondition, which is not checked: the iterator is finite.
     ///
     /// ```
-    /// # use fallible_iterator::FallibleIterator;
-    /// # use fallible_iterator::convert;
-    /// # pub fn last_above_100(readings: Vec<Result<u32, u8>>) -> Result<Option<u32>, u8>
-    /// # {
-    /// convert(readings.into_iter())
-    ///     .take(10)
-    ///     .filter(|reading| Ok(*reading > 100))
-    ///     .last()
-    /// # }
-    /// # fn main() { let _ = last_above_100(vec![Ok(150), Ok(7), Ok(700), Ok(0), Ok(600)]); }
+    /// # use fallible_iterator::{FallibleIterator, convert};
+    /// let readings = [Ok::<u32, u8>(150), Ok(7), Ok(700)];
+    /// assert_eq!(convert(readings.into_iter()).last(), Ok(Some(700)));
+    ///
+    /// let cut = [Ok::<u32, u8>(150), Err(9), Ok(700)];
+    /// assert_eq!(convert(cut.into_iter()).last(), Err(9));
     /// ```
     ///
     /// <details><summary>Contract</summary>
@@ -322,24 +294,10 @@ pub trait FallibleIterator {
     /// It draws at most n + 1 times: up to that item, or a failure or `Ok(None)` before it. It fails with that failure. Nothing is drawn after that, and the iterator may be used again.
     ///
     /// ```
-    /// # use fallible_iterator::Convert;
-    /// # use fallible_iterator::DoubleEndedFallibleIterator;
-    /// # use fallible_iterator::FallibleIterator;
-    /// # use fallible_iterator::convert;
-    /// # use std::iter::Copied;
-    /// # use std::slice::Iter;
-    /// # pub fn numbers<'a>(answers: &'a [Result<u32, u32>]) -> Convert<Copied<Iter<'a, Result<u32, u32>>>>
-    /// # {
-    /// #     convert(answers.iter().copied())
-    /// # }
-    /// # fn last_reduce_and_nth_answer_an_item_or_none() {
-    /// let answers = [Ok(0), Ok(1), Ok(2), Ok(3)];
-    /// let mut it = numbers(&answers);
-    /// assert_eq!([it.nth(1), it.nth(0), it.nth(2)],
-    ///     [Ok(Some(1)), Ok(Some(2)), Ok(None)]
-    /// );
-    /// # }
-    /// # fn main() { let _ = last_reduce_and_nth_answer_an_item_or_none(); }
+    /// # use fallible_iterator::{FallibleIterator, convert};
+    /// let mut it = convert([Ok::<u32, u8>(0), Ok(1), Ok(2), Err(9), Ok(4)].into_iter());
+    /// let drawn = [it.nth(1), it.nth(5), it.nth(0), it.nth(0)];
+    /// assert_eq!(drawn, [Ok(Some(1)), Err(9), Ok(Some(4)), Ok(None)]);
     /// ```
     ///
     /// <details><summary>Contract</summary>
@@ -375,19 +333,14 @@ pub trait FallibleIterator {
     /// Precondition, which is not checked: the iterator is finite.
     ///
     /// ```
-    /// # use fallible_iterator::DoubleEndedFallibleIterator;
-    /// # use fallible_iterator::FallibleIterator;
-    /// # use fallible_iterator::convert;
-    /// # use std::io::BufRead;
-    /// # fn two_written_out(readings: Vec<Result<u32, u8>>) -> Result<(u32, Option<u32>), u8> {
-    /// let mut above = convert(readings.into_iter()).filter(|reading| Ok(*reading > 100));
-    /// let sum: Result<u32, u8> = (&mut above)
-    ///     .take(2)
-    ///     .try_fold(0, |sum: u32, reading: u32| Ok(sum.wrapping_add(reading)));
-    /// let sum = sum?;
-    /// Ok((sum, above.draw()?))
-    /// # }
-    /// # fn main() { let _ = two_written_out(vec![Ok(150), Ok(7), Ok(700), Ok(0), Ok(600)]); }
+    /// # use fallible_iterator::{FallibleIterator, convert};
+    /// let mut it = convert([Ok::<u8, &str>(100), Ok(100), Ok(100), Ok(7)].into_iter());
+    /// let sum: Result<u8, &str> = it.try_fold(
+    ///     0,
+    ///     |sum: u8, x: u8| sum.checked_add(x).ok_or("too large"),
+    /// );
+    /// assert_eq!(sum, Err("too large"));
+    /// assert_eq!(it.next(), Ok(Some(7)));
     /// ```
     ///
     /// <details><summary>Contract</summary>
@@ -430,16 +383,12 @@ pub trait FallibleIterator {
     /// It draws up to `Ok(None)`, the first failure or an item on which the closure fails. It fails with the first failure, of this iterator or of the closure.
     ///
     /// ```
-    /// # use fallible_iterator::FallibleIterator;
-    /// # use fallible_iterator::convert;
-    /// # pub fn sum(readings: Vec<Result<u32, u8>>) -> Result<u64, u8>
-    /// # {
-    /// convert(readings.into_iter()).fold(
-    ///     0,
-    ///     |sum: u64, reading: u32| Ok(sum.wrapping_add(u64::from(reading))),
-    /// )
-    /// # }
-    /// # fn main() { let _ = sum(vec![Ok(150), Ok(7), Ok(700), Ok(0), Ok(600)]); }
+    /// # use fallible_iterator::{FallibleIterator, convert};
+    /// let readings = [Ok::<u32, u8>(150), Ok(7), Ok(700)];
+    /// let sum = convert(readings.into_iter()).fold(0, |sum: u32, reading: u32| {
+    ///     Ok(sum.wrapping_add(reading))
+    /// });
+    /// assert_eq!(sum, Ok(857));
     /// ```
     ///
     /// <details><summary>Contract</summary>
@@ -470,13 +419,10 @@ pub trait FallibleIterator {
     /// Draws, errors and precondition: as `fold`. It consumes the iterator too.
     ///
     /// ```
-    /// # use fallible_iterator::FallibleIterator;
-    /// # use fallible_iterator::convert;
-    /// # pub fn sum_of_some(readings: Vec<Result<u32, u8>>) -> Result<Option<u32>, u8>
-    /// # {
-    /// convert(readings.into_iter()).reduce(|sum, reading| Ok(sum.wrapping_add(reading)))
-    /// # }
-    /// # fn main() { let _ = sum_of_some(vec![Ok(150), Ok(7), Ok(700), Ok(0), Ok(600)]); }
+    /// # use fallible_iterator::{FallibleIterator, convert};
+    /// let readings = [Ok::<u32, u8>(150), Ok(7), Ok(700)];
+    /// let sum = convert(readings.into_iter()).reduce(|sum, reading| Ok(sum.wrapping_add(reading)));
+    /// assert_eq!(sum, Ok(Some(857)));
     /// ```
     ///
     /// <details><summary>Contract</summary>
@@ -542,15 +488,15 @@ pub trait FallibleIterator {
     /// Creating it draws nothing and calls nothing. `next` draws once. It fails as the source does. If the closure fails, its failure is yielded, and the item is lost. After a failure and after `Ok(None)` the next call draws again.
     ///
     /// ```
-    /// # use fallible_iterator::FallibleIterator;
-    /// # use fallible_iterator::convert;
-    /// # pub fn all_up_to_100(readings: Vec<Result<u32, u8>>) -> Result<usize, u8>
-    /// # {
-    /// convert(readings.into_iter())
-    ///     .map(|reading| if reading > 100 { Err(7) } else { Ok(reading) })
-    ///     .count()
-    /// # }
-    /// # fn main() { let _ = all_up_to_100(vec![Ok(150), Ok(7), Ok(700), Ok(0), Ok(600)]); }
+    /// # use fallible_iterator::{FallibleIterator, convert};
+    /// let readings = [Ok::<u32, u8>(150), Ok(7), Ok(700)];
+    /// let mut it = convert(readings.into_iter()).map(|reading| if reading < 10 {
+    ///     Err(9)
+    /// } else {
+    ///     Ok(reading / 10)
+    /// });
+    /// let drawn = [it.next(), it.next(), it.next(), it.next()];
+    /// assert_eq!(drawn, [Ok(Some(15)), Err(9), Ok(Some(70)), Ok(None)]);
     /// ```
     ///
     /// <details><summary>Contract</summary>
@@ -580,15 +526,11 @@ pub trait FallibleIterator {
     /// Precondition, which is not checked: the iterator is finite, since one call may leave many items out.
     ///
     /// ```
-    /// # use fallible_iterator::FallibleIterator;
-    /// # use fallible_iterator::convert;
-    /// # pub fn above_100(numbers: &[u32]) -> Result<usize, u8>
-    /// # {
-    /// convert(numbers.iter().copied().map(Ok))
-    ///     .filter(|number| Ok(*number > 100))
-    ///     .count()
-    /// # }
-    /// # fn main() { let _ = above_100(&[150, 7, 700]); }
+    /// # use fallible_iterator::{FallibleIterator, convert};
+    /// let readings = [Ok::<u32, u8>(150), Ok(7), Err(9), Ok(700)];
+    /// let mut it = convert(readings.into_iter()).filter(|reading| Ok(*reading > 100));
+    /// let drawn = [it.next(), it.next(), it.next(), it.next()];
+    /// assert_eq!(drawn, [Ok(Some(150)), Err(9), Ok(Some(700)), Ok(None)]);
     /// ```
     ///
     /// <details><summary>Contract</summary>
@@ -618,36 +560,11 @@ pub trait FallibleIterator {
     /// Creating it draws nothing. `next` draws once, and nothing after the n-th item. It fails as the source does. Behaviour after a failure and after `Ok(None)`, up to the n-th item: as `map`. After that item each call returns `Ok(None)`.
     ///
     /// ```
-    /// # use fallible_iterator::FallibleIterator;
-    /// # use std::io::Read;
-    /// # #[derive(Debug, PartialEq)]
-    /// # pub struct ReadFailed;
-    /// # pub struct Bytes<R> {
-    /// #     pub reader: R,
-    /// # }
-    /// # impl<R: Read> FallibleIterator for Bytes<R> {
-    /// #     type Item = u8;
-    /// #     type Error = ReadFailed;
-    /// #     fn next(&mut self) -> Result<Option<u8>, ReadFailed> {
-    /// #         let mut byte = [0u8; 1];
-    /// #         match self.reader.read(&mut byte) {
-    /// #             Ok(0) => Ok(None),
-    /// #             Ok(_) => Ok(Some(byte[0])),
-    /// #             Err(_) => Err(ReadFailed),
-    /// #         }
-    /// #     }
-    /// #     fn size_hint(&self) -> (usize, Option<usize>) {
-    /// #         (0, None)
-    /// #     }
-    /// # }
-    /// # pub fn newlines_of_three<R: Read>(reader: R) -> Result<usize, ReadFailed>
-    /// # {
-    /// Bytes { reader }
-    ///     .take(3)
-    ///     .filter(|byte| Ok(*byte == b'\n'))
-    ///     .count()
-    /// # }
-    /// # fn main() { let _ = newlines_of_three(b"20\n22\n".as_slice()); }
+    /// # use fallible_iterator::{FallibleIterator, convert};
+    /// let readings = [Ok::<u32, u8>(150), Err(9), Ok(7), Ok(700)];
+    /// let mut it = convert(readings.into_iter()).take(2);
+    /// let drawn = [it.next(), it.next(), it.next(), it.next()];
+    /// assert_eq!(drawn, [Ok(Some(150)), Err(9), Ok(Some(7)), Ok(None)]);
     /// ```
     ///
     /// <details><summary>Contract</summary>
@@ -679,14 +596,11 @@ pub trait FallibleIterator {
     /// Up to the rejected item: laziness, draws, errors and behaviour after `Ok(None)` as `map`. After that item it draws nothing, and each call returns `Ok(None)`.
     ///
     /// ```
-    /// # use fallible_iterator::prelude::*;
-    /// # pub fn front_above_100(readings: Vec<Result<u32, u8>>) -> Result<usize, u8>
-    /// # {
-    /// convert(readings.into_iter())
-    ///     .take_while(|reading| Ok(*reading > 100))
-    ///     .count()
-    /// # }
-    /// # fn main() { let _ = front_above_100(vec![Ok(150), Ok(7), Ok(700), Ok(0), Ok(600)]); }
+    /// # use fallible_iterator::{FallibleIterator, convert};
+    /// let readings = [Ok::<u32, u8>(150), Ok(7), Ok(700)];
+    /// let mut it = convert(readings.into_iter()).take_while(|reading| Ok(*reading > 100));
+    /// let drawn = [it.next(), it.next(), it.next()];
+    /// assert_eq!(drawn, [Ok(Some(150)), Ok(None), Ok(None)]);
     /// ```
     ///
     /// <details><summary>Contract</summary>
@@ -721,110 +635,15 @@ pub trait FallibleIterator {
     /// Creating it draws nothing. `next` draws once, and nothing after that `Ok(None)`. It fails as the source does. A failure doesn't exhaust it: the next call draws again.
     ///
     /// ```
-    /// # use fallible_iterator::Answer;
-    /// # use fallible_iterator::Answer::End;
-    /// # use fallible_iterator::Answer::Item;
-    /// # use fallible_iterator::DoubleEndedFallibleIterator;
-    /// # use fallible_iterator::FallibleIterator;
-    /// # use std::fmt::Debug;
-    /// # use std::vec::IntoIter;
-    /// # use fallible_iterator::memory::AllocError;
-    /// # pub struct Fail;
-    /// # impl Fail {
-    /// #     pub fn new(what: impl std::fmt::Display) -> Fail {
-    /// #         panic!("{what}")
-    /// #     }
-    /// # }
-    /// # impl<E: std::fmt::Debug> From<E> for Fail {
-    /// #     fn from(e: E) -> Fail {
-    /// #         panic!("{e:?}")
-    /// #     }
-    /// # }
-    /// # pub fn expect_answers<I: FallibleIterator>(
-    /// #     it: &mut I,
-    /// #     expected: &[Answer<I::Item, I::Error>],
-    /// # ) -> Result<(), Fail>
-    /// # where
-    /// #     I::Item: Debug + PartialEq,
-    /// #     I::Error: Debug + PartialEq,
-    /// # {
-    /// #     let drawn = answers(it, expected.len())?;
-    /// #     if drawn.as_slice() == expected {
-    /// #         Ok(())
-    /// #     } else {
-    /// #         Err(Fail::new(format_args!("answered {drawn:?}, and not {expected:?}")))
-    /// #     }
-    /// # }
-    /// # pub fn answers<I: FallibleIterator>(
-    /// #     it: &mut I,
-    /// #     n: usize,
-    /// # ) -> Result<Vec<Answer<I::Item, I::Error>>, AllocError>
-    /// # {
-    /// #     let mut made = Vec::with_capacity(n);
-    /// #     while made.len() < n {
-    /// #         let answer = draw(it);
-    /// #         made.push(answer);
-    /// #     }
-    /// #     Ok(made)
-    /// # }
-    /// # fn draw<I: FallibleIterator>(it: &mut I) -> Answer<I::Item, I::Error>
-    /// # {
-    /// #     told(it.next())
-    /// # }
-    /// # fn told<T, E>(answer: Result<Option<T>, E>) -> Answer<T, E>
-    /// # {
-    /// #     match answer {
-    /// #         Ok(Some(x)) => Answer::Item(x),
-    /// #         Ok(None) => Answer::End,
-    /// #         Err(e) => Answer::Failure(e),
-    /// #     }
-    /// # }
-    /// # fn ended_after_two() -> Result<Script<u32, u32>, AllocError> {
-    /// #     script_of(&ENDED_AFTER_TWO)
-    /// # }
-    /// # #[derive(Clone)]
-    /// # pub struct Script<T, E> {
-    /// #     pub answers: IntoIter<Result<Option<T>, E>>,
-    /// # }
-    /// # impl<T, E> FallibleIterator for Script<T, E> {
-    /// #     type Item = T;
-    /// #     type Error = E;
-    /// #     fn next(&mut self) -> Result<Option<T>, E> {
-    /// #         match self.answers.next() {
-    /// #             Some(answer) => answer,
-    /// #             None => Ok(None),
-    /// #         }
-    /// #     }
-    /// #     fn size_hint(&self) -> (usize, Option<usize>) {
-    /// #         (0, None)
-    /// #     }
-    /// # }
-    /// # impl<T, E> DoubleEndedFallibleIterator for Script<T, E> {
-    /// #     fn next_back(&mut self) -> Result<Option<T>, E> {
-    /// #         match self.answers.next_back() {
-    /// #             Some(answer) => answer,
-    /// #             None => Ok(None),
-    /// #         }
-    /// #     }
-    /// # }
-    /// # pub fn script_of(answers: &[Drawn]) -> Result<Script<u32, u32>, AllocError> {
-    /// #     Ok(Script {
-    /// #         answers: answers.to_vec().into_iter(),
-    /// #     })
-    /// # }
-    /// # pub type Drawn = Result<Option<u32>, u32>;
-    /// # const ENDED_AFTER_TWO: [Drawn; 5] = [Ok(Some(2)), END, Err(9), Err(9), Ok(Some(2))];
-    /// # const END: Drawn = Ok(None);
-    /// # fn filters_over_fuse_only_end_after_its_end() -> Result<(), Fail> {
-    /// let mut source = ended_after_two()?;
-    /// let mut it = (&mut source)
-    ///     .fuse()
-    ///     .filter(|x: &u32| -> Result<bool, u32> { Ok(*x == 2) });
-    /// expect_answers(&mut it, &[Item(2), End, End, End, End])?;
-    /// assert_eq!(source.next(), Err(9));
-    /// #     Ok(())
-    /// # }
-    /// # fn main() { let _ = filters_over_fuse_only_end_after_its_end(); }
+    /// # use fallible_iterator::{FallibleIterator, from_fn};
+    /// let mut calls = 0u32;
+    /// let mut it = from_fn(|| -> Result<Option<u32>, u8> {
+    ///     calls = calls.wrapping_add(1);
+    ///     Ok(if calls == 2 { None } else { Some(calls) })
+    /// })
+    /// .fuse();
+    /// let drawn = [it.next(), it.next(), it.next()];
+    /// assert_eq!(drawn, [Ok(Some(1)), Ok(None), Ok(None)]);
     /// ```
     ///
     /// <details><summary>Contract</summary>
@@ -854,15 +673,11 @@ pub trait FallibleIterator {
     /// Creating it draws nothing. `next` draws at most n + 1 times. It fails as the source does. A failure or an `Ok(None)` among the first n items is returned, and the rest of them is skipped after it.
     ///
     /// ```
-    /// # use fallible_iterator::FallibleIterator;
-    /// # use fallible_iterator::convert;
-    /// # pub fn any_above_100(readings: Vec<Result<u32, u8>>) -> Result<bool, u8>
-    /// # {
-    /// convert(readings.into_iter())
-    ///     .skip(1)
-    ///     .any(|reading| Ok(reading > 100))
-    /// # }
-    /// # fn main() { let _ = any_above_100(vec![Ok(150), Ok(7), Ok(700), Ok(0), Ok(600)]); }
+    /// # use fallible_iterator::{FallibleIterator, convert};
+    /// let readings = [Ok::<u32, u8>(150), Err(9), Ok(7), Ok(700)];
+    /// let mut it = convert(readings.into_iter()).skip(2);
+    /// let drawn = [it.next(), it.next(), it.next()];
+    /// assert_eq!(drawn, [Err(9), Ok(Some(700)), Ok(None)]);
     /// ```
     ///
     /// <details><summary>Contract</summary>
@@ -893,23 +708,11 @@ pub trait FallibleIterator {
     /// It panics if the step is 0.
     ///
     /// ```
-    /// # use fallible_iterator::Convert;
-    /// # use fallible_iterator::DoubleEndedFallibleIterator;
-    /// # use fallible_iterator::FallibleIterator;
-    /// # use fallible_iterator::IteratorExt;
-    /// # use fallible_iterator::convert;
-    /// # use std::iter::Copied;
-    /// # use std::slice::Iter;
-    /// # pub fn numbers<'a>(answers: &'a [Result<u32, u32>]) -> Convert<Copied<Iter<'a, Result<u32, u32>>>>
-    /// # {
-    /// #     convert(answers.iter().copied())
-    /// # }
-    /// # fn a_nest_is_counted() {
-    /// let answers = [Ok(0), Ok(1), Ok(2), Ok(3), Ok(4)];
-    /// let it = numbers(&answers);
-    /// assert_eq!(it.skip(1).step_by(2).fuse().take(2).count(), Ok(2));
-    /// # }
-    /// # fn main() { let _ = a_nest_is_counted(); }
+    /// # use fallible_iterator::{FallibleIterator, convert};
+    /// let numbers = [Ok::<u32, u8>(0), Ok(1), Ok(2), Ok(3), Ok(4)];
+    /// let mut it = convert(numbers.into_iter()).step_by(2);
+    /// let drawn = [it.next(), it.next(), it.next(), it.next()];
+    /// assert_eq!(drawn, [Ok(Some(0)), Ok(Some(2)), Ok(Some(4)), Ok(None)]);
     /// ```
     ///
     /// <details><summary>Contract</summary>
@@ -945,303 +748,11 @@ pub trait FallibleIterator {
     /// Precondition, which is not checked: the iterator is finite, as `filter` does.
     ///
     /// ```
-    /// # use Do::Next;
-    /// # use Do::Sum;
-    /// # use fallible_iterator::Convert;
-    /// # use fallible_iterator::DoubleEndedFallibleIterator;
-    /// # use fallible_iterator::FallibleIterator;
-    /// # use fallible_iterator::Test;
-    /// # use fallible_iterator::Turn;
-    /// # use fallible_iterator::convert;
-    /// # use std::cell::Cell;
-    /// # use std::fmt::Debug;
-    /// # use std::iter::Copied;
-    /// # use std::slice::Iter;
-    /// # pub struct Fail;
-    /// # impl Fail {
-    /// #     pub fn new(what: impl std::fmt::Display) -> Fail {
-    /// #         panic!("{what}")
-    /// #     }
-    /// # }
-    /// # impl<E: std::fmt::Debug> From<E> for Fail {
-    /// #     fn from(e: E) -> Fail {
-    /// #         panic!("{e:?}")
-    /// #     }
-    /// # }
-    /// # pub fn expect_steps<I: FallibleIterator<Item = u32, Error = u32>>(
-    /// #     it: &mut I,
-    /// #     logs: &[&Log],
-    /// #     steps: &[Step<'_>],
-    /// # ) -> Result<(), Fail>
-    /// # {
-    /// #     for (call, expected, calls) in steps {
-    /// #         let answered = done(it, *call);
-    /// #         expect_calls(call, &answered, expected, logs, calls)?;
-    /// #     }
-    /// #     Ok(())
-    /// # }
-    /// # pub struct Log {
-    /// #     pub nexts: Cell<u32>,
-    /// #     pub next_backs: Cell<u32>,
-    /// #     pub folds: Cell<u32>,
-    /// #     pub rfolds: Cell<u32>,
-    /// #     pub counts: Cell<u32>,
-    /// #     pub lasts: Cell<u32>,
-    /// #     pub nths: Cell<u32>,
-    /// #     pub finds: Cell<u32>,
-    /// # }
-    /// # impl Log {
-    /// #     pub fn new() -> Log {
-    /// #         Log {
-    /// #             nexts: Cell::new(0),
-    /// #             next_backs: Cell::new(0),
-    /// #             folds: Cell::new(0),
-    /// #             rfolds: Cell::new(0),
-    /// #             counts: Cell::new(0),
-    /// #             lasts: Cell::new(0),
-    /// #             nths: Cell::new(0),
-    /// #             finds: Cell::new(0),
-    /// #         }
-    /// #     }
-    /// #     pub fn calls(&self) -> Calls {
-    /// #         Calls {
-    /// #             nexts: self.nexts.get(),
-    /// #             next_backs: self.next_backs.get(),
-    /// #             folds: self.folds.get(),
-    /// #             rfolds: self.rfolds.get(),
-    /// #             counts: self.counts.get(),
-    /// #             lasts: self.lasts.get(),
-    /// #             nths: self.nths.get(),
-    /// #             finds: self.finds.get(),
-    /// #         }
-    /// #     }
-    /// #     pub fn take(&self) -> Calls {
-    /// #         Calls {
-    /// #             nexts: self.nexts.replace(0),
-    /// #             next_backs: self.next_backs.replace(0),
-    /// #             folds: self.folds.replace(0),
-    /// #             rfolds: self.rfolds.replace(0),
-    /// #             counts: self.counts.replace(0),
-    /// #             lasts: self.lasts.replace(0),
-    /// #             nths: self.nths.replace(0),
-    /// #             finds: self.finds.replace(0),
-    /// #         }
-    /// #     }
-    /// # }
-    /// # #[derive(Debug, PartialEq)]
-    /// # pub struct Calls {
-    /// #     pub nexts: u32,
-    /// #     pub next_backs: u32,
-    /// #     pub folds: u32,
-    /// #     pub rfolds: u32,
-    /// #     pub counts: u32,
-    /// #     pub lasts: u32,
-    /// #     pub nths: u32,
-    /// #     pub finds: u32,
-    /// # }
-    /// # pub fn expect_calls<T: Debug + PartialEq>(
-    /// #     call: &impl Debug,
-    /// #     answered: &T,
-    /// #     expected: &T,
-    /// #     logs: &[&Log],
-    /// #     calls: &[Calls],
-    /// # ) -> Result<(), Fail> {
-    /// #     if answered != expected {
-    /// #         return Err(Fail::new(format_args!("{call:?} answered {answered:?}, and not {expected:?}")));
-    /// #     }
-    /// #     for (log, expected) in logs.iter().zip(calls.iter()) {
-    /// #         let came = log.calls();
-    /// #         if came != *expected {
-    /// #             return Err(Fail::new(format_args!("{call:?} brought {came:?}, and not {expected:?}")));
-    /// #         }
-    /// #     }
-    /// #     if logs.len() == calls.len() {
-    /// #         Ok(())
-    /// #     } else {
-    /// #         Err(Fail::new(format_args!("{call:?} has calls of other sources")))
-    /// #     }
-    /// # }
-    /// # fn done<I: FallibleIterator<Item = u32, Error = u32>>(it: &mut I, call: Do) -> Answered
-    /// # {
-    /// #     match call {
-    /// #         Do::Next => it.draw(),
-    /// #         Do::Nth(n) => it.nth(n),
-    /// #         Do::Find(item) => it.find(|x: &u32| Ok(*x == item)),
-    /// #         Do::Sum => Ok(Some(it.try_fold(0, add_up)?)),
-    /// #         Do::SumToThree => Ok(Some(it.try_fold(0, add_up_to_three)?)),
-    /// #         Do::Digits => Ok(Some(it.try_fold(0, put_behind)?)),
-    /// #         Do::Stop => Ok(Some(it.try_fold(0, stop)?)),
-    /// #         Do::StopWithItem => Ok(Some(it.try_fold(0, stop_with_item)?)),
-    /// #         Do::StopAt(item) => Ok(Some(it.try_fold(0, |_: u32, x: u32| stopped_at(x == item))?)),
-    /// #     }
-    /// # }
-    /// # pub fn stop_with_item(_: u32, x: u32) -> Result<u32, u32> {
-    /// #     Err(x)
-    /// # }
-    /// # pub fn stop(_: u32, _: u32) -> Result<u32, u32> {
-    /// #     Err(3)
-    /// # }
-    /// # pub fn put_behind(digits: u32, x: u32) -> Result<u32, u32> {
-    /// #     Ok(digits.wrapping_mul(10).wrapping_add(x))
-    /// # }
-    /// # pub fn add_up_to_three(sum: u32, x: u32) -> Result<u32, u32> {
-    /// #     if x == 3 {
-    /// #         Err(sum)
-    /// #     } else {
-    /// #         Ok(sum.wrapping_add(x))
-    /// #     }
-    /// # }
-    /// # pub fn add_up(sum: u32, x: u32) -> Result<u32, u32> {
-    /// #     Ok(sum.wrapping_add(x))
-    /// # }
-    /// # pub fn stopped_at(is_expected: bool) -> Result<u32, u32> {
-    /// #     Err(if is_expected { 7 } else { 8 })
-    /// # }
-    /// # #[derive(Clone, Copy, Debug)]
-    /// # pub enum Do {
-    /// #     Next,
-    /// #     Nth(usize),
-    /// #     Find(u32),
-    /// #     Sum,
-    /// #     SumToThree,
-    /// #     Digits,
-    /// #     Stop,
-    /// #     StopWithItem,
-    /// #     StopAt(u32),
-    /// # }
-    /// # pub type Answered = Result<Option<u32>, u32>;
-    /// # pub type Step<'a> = (Do, Answered, &'a [Calls]);
-    /// # pub fn counted<'a>(answers: &'a [Result<u32, u32>], log: &'a Log) -> Numbers<'a>
-    /// # {
-    /// #     Counted::new(numbers(answers), log)
-    /// # }
-    /// # pub fn numbers<'a>(answers: &'a [Result<u32, u32>]) -> Convert<Copied<Iter<'a, Result<u32, u32>>>>
-    /// # {
-    /// #     convert(answers.iter().copied())
-    /// # }
-    /// # pub struct Counted<'a, I> {
-    /// #     it: I,
-    /// #     log: &'a Log,
-    /// # }
-    /// # impl<'a, I> Counted<'a, I> {
-    /// #     pub fn new(it: I, log: &'a Log) -> Counted<'a, I> {
-    /// #         Counted { it, log }
-    /// #     }
-    /// # }
-    /// # impl<'a, I: FallibleIterator> FallibleIterator for Counted<'a, I> {
-    /// #     type Item = I::Item;
-    /// #     type Error = I::Error;
-    /// #     fn next(&mut self) -> Result<Option<I::Item>, I::Error> {
-    /// #         add(&self.log.nexts);
-    /// #         self.it.next()
-    /// #     }
-    /// #     fn size_hint(&self) -> (usize, Option<usize>) {
-    /// #         self.it.size_hint()
-    /// #     }
-    /// #     fn drive<C, R, K: Turn<C, I::Item, R>>(
-    /// #         &mut self,
-    /// #         state: &mut C,
-    /// #         turn: &K,
-    /// #     ) -> Result<Option<R>, I::Error> {
-    /// #         add(&self.log.folds);
-    /// #         self.it.drive(state, turn)
-    /// #     }
-    /// #     fn drive_count(&mut self, number: &mut usize) -> Result<(), I::Error> {
-    /// #         add(&self.log.counts);
-    /// #         self.it.drive_count(number)
-    /// #     }
-    /// #     fn drive_last(&mut self) -> Result<Option<I::Item>, I::Error> {
-    /// #         add(&self.log.lasts);
-    /// #         self.it.drive_last()
-    /// #     }
-    /// #     fn nth(&mut self, n: usize) -> Result<Option<I::Item>, I::Error> {
-    /// #         add(&self.log.nths);
-    /// #         self.it.nth(n)
-    /// #     }
-    /// #     fn drive_find<C, K: Test<C, I::Item, I::Error>>(
-    /// #         &mut self,
-    /// #         state: &mut C,
-    /// #         test: &K,
-    /// #     ) -> Result<Option<I::Item>, I::Error> {
-    /// #         add(&self.log.finds);
-    /// #         self.it.drive_find(state, test)
-    /// #     }
-    /// #     fallible_iterator::by_drive!(drive);
-    /// #     fallible_iterator::by_drive!(drive_find);
-    /// # }
-    /// # impl<'a, I: DoubleEndedFallibleIterator> DoubleEndedFallibleIterator for Counted<'a, I> {
-    /// #     fn next_back(&mut self) -> Result<Option<I::Item>, I::Error> {
-    /// #         add(&self.log.next_backs);
-    /// #         self.it.next_back()
-    /// #     }
-    /// #     fn drive_back<C, R, K: Turn<C, I::Item, R>>(
-    /// #         &mut self,
-    /// #         state: &mut C,
-    /// #         turn: &K,
-    /// #     ) -> Result<Option<R>, I::Error> {
-    /// #         add(&self.log.rfolds);
-    /// #         self.it.drive_back(state, turn)
-    /// #     }
-    /// #     fallible_iterator::by_drive!(drive_back);
-    /// # }
-    /// # fn add(number: &Cell<u32>) {
-    /// #     number.set(number.get().wrapping_add(1));
-    /// # }
-    /// # pub type Numbers<'a> = Counted<'a, Convert<Copied<Iter<'a, Result<u32, u32>>>>>;
-    /// # pub fn tens_of_even(x: u32) -> Result<Option<u32>, u32> {
-    /// #     if x % 2 == 0 {
-    /// #         Ok(Some(x.wrapping_mul(10)))
-    /// #     } else {
-    /// #         Ok(None)
-    /// #     }
-    /// # }
-    /// # pub fn is_even(x: &u32) -> Result<bool, u32> {
-    /// #     Ok(*x % 2 == 0)
-    /// # }
-    /// # const FILTER_FOLDED: [Step<'static>; 1] = [(Sum, Ok(Some(6)), &[ONE_FOLD])];
-    /// # pub const ONE_FOLD: Calls = Calls {
-    /// #     folds: 1,
-    /// #     ..NO_CALL
-    /// # };
-    /// # pub const NO_CALL: Calls = Calls {
-    /// #     nexts: 0,
-    /// #     next_backs: 0,
-    /// #     folds: 0,
-    /// #     rfolds: 0,
-    /// #     counts: 0,
-    /// #     lasts: 0,
-    /// #     nths: 0,
-    /// #     finds: 0,
-    /// # };
-    /// # const FILTER_DRAWN: [Step<'static>; 3] = [
-    /// #     (Next, Ok(Some(2)), &[ONE_FOLD]),
-    /// #     (Next, Ok(Some(4)), &[TWO_FOLDS]),
-    /// #     (Next, Ok(None), &[THREE_FOLDS]),
-    /// # ];
-    /// # pub const TWO_FOLDS: Calls = Calls {
-    /// #     folds: 2,
-    /// #     ..NO_CALL
-    /// # };
-    /// # pub const THREE_FOLDS: Calls = Calls {
-    /// #     folds: 3,
-    /// #     ..NO_CALL
-    /// # };
-    /// # fn filter_and_filter_map_draw_and_fold_by_folds() -> Result<(), Fail> {
-    /// #     let log = Log::new();
-    /// #     let answers = [Ok(1), Ok(2), Ok(3), Ok(4)];
-    /// #     let mut it = counted(&answers, &log).filter(is_even);
-    /// #     expect_steps(&mut it, &[&log], &FILTER_DRAWN)?;
-    /// #     let log = Log::new();
-    /// #     let mut it = counted(&answers, &log).filter(is_even);
-    /// #     expect_steps(&mut it, &[&log], &FILTER_FOLDED)?;
-    /// #     let log = Log::new();
-    /// let answers = [Ok(1), Ok(2), Ok(3), Ok(4)];
-    /// let mut it = counted(&answers, &log).filter_map(tens_of_even);
-    /// assert_eq!(it.draw(), Ok(Some(20)));
-    /// assert_eq!(it.try_fold(0, add_up), Ok(40));
-    /// #     Ok(())
-    /// # }
-    /// # fn main() { let _ = filter_and_filter_map_draw_and_fold_by_folds(); }
+    /// # use fallible_iterator::{FallibleIterator, convert};
+    /// let words = [Ok::<&str, u8>("150"), Ok("none"), Err(9), Ok("700")];
+    /// let mut it = convert(words.into_iter()).filter_map(|word| Ok(word.parse::<u32>().ok()));
+    /// let drawn = [it.next(), it.next(), it.next(), it.next()];
+    /// assert_eq!(drawn, [Ok(Some(150)), Err(9), Ok(Some(700)), Ok(None)]);
     /// ```
     ///
     /// <details><summary>Contract</summary>
@@ -1271,78 +782,16 @@ pub trait FallibleIterator {
     /// Laziness, draws, errors and behaviour after `Ok(None)`: as `map`.
     ///
     /// ```
-    /// # use fallible_iterator::Answer;
-    /// # use fallible_iterator::Answer::End;
-    /// # use fallible_iterator::Answer::Failure;
-    /// # use fallible_iterator::Answer::Item;
-    /// # use fallible_iterator::Convert;
-    /// # use fallible_iterator::DoubleEndedFallibleIterator;
-    /// # use fallible_iterator::FallibleIterator;
-    /// # use fallible_iterator::convert;
-    /// # use std::fmt::Debug;
-    /// # use std::iter::Copied;
-    /// # use std::slice::Iter;
-    /// # use fallible_iterator::memory::AllocError;
-    /// # pub struct Fail;
-    /// # impl Fail {
-    /// #     pub fn new(what: impl std::fmt::Display) -> Fail {
-    /// #         panic!("{what}")
-    /// #     }
-    /// # }
-    /// # impl<E: std::fmt::Debug> From<E> for Fail {
-    /// #     fn from(e: E) -> Fail {
-    /// #         panic!("{e:?}")
-    /// #     }
-    /// # }
-    /// # pub fn numbers<'a>(answers: &'a [Result<u32, u32>]) -> Convert<Copied<Iter<'a, Result<u32, u32>>>>
-    /// # {
-    /// #     convert(answers.iter().copied())
-    /// # }
-    /// # pub fn expect_answers<I: FallibleIterator>(
-    /// #     it: &mut I,
-    /// #     expected: &[Answer<I::Item, I::Error>],
-    /// # ) -> Result<(), Fail>
-    /// # where
-    /// #     I::Item: Debug + PartialEq,
-    /// #     I::Error: Debug + PartialEq,
-    /// # {
-    /// #     let drawn = answers(it, expected.len())?;
-    /// #     if drawn.as_slice() == expected {
-    /// #         Ok(())
-    /// #     } else {
-    /// #         Err(Fail::new(format_args!("answered {drawn:?}, and not {expected:?}")))
-    /// #     }
-    /// # }
-    /// # pub fn answers<I: FallibleIterator>(
-    /// #     it: &mut I,
-    /// #     n: usize,
-    /// # ) -> Result<Vec<Answer<I::Item, I::Error>>, AllocError>
-    /// # {
-    /// #     let mut made = Vec::with_capacity(n);
-    /// #     while made.len() < n {
-    /// #         let answer = draw(it);
-    /// #         made.push(answer);
-    /// #     }
-    /// #     Ok(made)
-    /// # }
-    /// # fn draw<I: FallibleIterator>(it: &mut I) -> Answer<I::Item, I::Error>
-    /// # {
-    /// #     told(it.next())
-    /// # }
-    /// # fn told<T, E>(answer: Result<Option<T>, E>) -> Answer<T, E>
-    /// # {
-    /// #     match answer {
-    /// #         Ok(Some(x)) => Answer::Item(x),
-    /// #         Ok(None) => Answer::End,
-    /// #         Err(e) => Answer::Failure(e),
-    /// #     }
-    /// # }
-    /// # fn inspect_shows_each_item_and_fails_on_one() -> Result<(), Fail> {
-    /// let answers = [Ok(1), Ok(2), Ok(3)];
-    /// let mut it = numbers(&answers).inspect(|x: &u32| if *x == 2 { Err(20) } else { Ok(()) });
-    /// expect_answers(&mut it, &[Item(1), Failure(20), Item(3), End])
-    /// # }
-    /// # fn main() { let _ = inspect_shows_each_item_and_fails_on_one(); }
+    /// # use fallible_iterator::{FallibleIterator, convert};
+    /// let readings = [Ok::<u32, u8>(150), Err(9), Ok(700)];
+    /// let mut sum = 0u32;
+    /// let drained = convert(readings.into_iter())
+    ///     .inspect(|reading| {
+    ///         sum = sum.wrapping_add(*reading);
+    ///         Ok(())
+    ///     })
+    ///     .count();
+    /// assert_eq!((drained, sum), (Err(9), 150));
     /// ```
     ///
     /// <details><summary>Contract</summary>
@@ -1370,35 +819,11 @@ pub trait FallibleIterator {
     /// Laziness, draws and behaviour after `Ok(None)`: as `map`. It fails where the source does, with what the closure returns.
     ///
     /// ```
-    /// # use fallible_iterator::Convert;
-    /// # use fallible_iterator::DoubleEndedFallibleIterator;
-    /// # use fallible_iterator::FallibleIterator;
-    /// # use fallible_iterator::convert;
-    /// # use std::iter::Copied;
-    /// # use std::slice::Iter;
-    /// # pub struct Fail;
-    /// # impl Fail {
-    /// #     pub fn new(what: impl std::fmt::Display) -> Fail {
-    /// #         panic!("{what}")
-    /// #     }
-    /// # }
-    /// # impl<E: std::fmt::Debug> From<E> for Fail {
-    /// #     fn from(e: E) -> Fail {
-    /// #         panic!("{e:?}")
-    /// #     }
-    /// # }
-    /// # pub fn numbers<'a>(answers: &'a [Result<u32, u32>]) -> Convert<Copied<Iter<'a, Result<u32, u32>>>>
-    /// # {
-    /// #     convert(answers.iter().copied())
-    /// # }
-    /// # fn map_fails_on_an_item_and_map_err_replaces_failures() -> Result<(), Fail> {
-    /// let answers = [Ok(1), Err(5)];
-    /// let mut it = numbers(&answers).map_err(|e: u32| e.wrapping_add(100));
+    /// # use fallible_iterator::{FallibleIterator, convert};
+    /// let readings = [Ok::<u32, u8>(150), Err(9)];
+    /// let mut it = convert(readings.into_iter()).map_err(|code| (code, "no reading"));
     /// let drawn = [it.next(), it.next(), it.next()];
-    /// assert_eq!(drawn, [Ok(Some(1)), Err(105), Ok(None)]);
-    /// #     Ok(())
-    /// # }
-    /// # fn main() { let _ = map_fails_on_an_item_and_map_err_replaces_failures(); }
+    /// assert_eq!(drawn, [Ok(Some(150)), Err((9, "no reading")), Ok(None)]);
     /// ```
     ///
     /// <details><summary>Contract</summary>
@@ -1428,15 +853,13 @@ pub trait FallibleIterator {
     /// Precondition, which is not checked: at most `usize::MAX` items are still to come, so that each number fits.
     ///
     /// ```
-    /// # use fallible_iterator::FallibleIterator;
-    /// # use fallible_iterator::convert;
-    /// # pub fn two_columns(
-    /// #     readings: Vec<Result<u32, u8>>,
-    /// # ) -> Result<(Vec<usize>, Vec<u32>), u8>
-    /// # {
-    /// convert(readings.into_iter()).enumerate().unzip()
-    /// # }
-    /// # fn main() { let _ = two_columns(vec![Ok(150), Ok(7), Ok(700), Ok(0), Ok(600)]); }
+    /// # use fallible_iterator::{FallibleIterator, convert};
+    /// let letters = [Ok::<char, u8>('a'), Err(9), Ok('b')];
+    /// let mut it = convert(letters.into_iter()).enumerate();
+    /// let drawn = [it.next(), it.next(), it.next(), it.next()];
+    /// assert_eq!(drawn,
+    ///     [Ok(Some((0, 'a'))), Err(9), Ok(Some((1, 'b'))), Ok(None)]
+    /// );
     /// ```
     ///
     /// <details><summary>Contract</summary>
@@ -1466,17 +889,11 @@ pub trait FallibleIterator {
     /// Precondition, which is not checked: the iterator is finite, as `filter` does.
     ///
     /// ```
-    /// # use fallible_iterator::FallibleIterator;
-    /// # use fallible_iterator::convert;
-    /// # pub fn places(readings: Vec<Result<u32, u8>>) -> Result<Vec<(usize, u32)>, u8>
-    /// # {
-    /// convert(readings.into_iter())
-    ///     .enumerate()
-    ///     .skip_while(|place| Ok(place.1 < 11))
-    ///     .take_while(|place| Ok(0 < place.1))
-    ///     .collect()
-    /// # }
-    /// # fn main() { let _ = places(vec![Ok(150), Ok(7), Ok(700), Ok(0), Ok(600)]); }
+    /// # use fallible_iterator::{FallibleIterator, convert};
+    /// let readings = [Ok::<u32, u8>(7), Ok(150), Ok(8)];
+    /// let mut it = convert(readings.into_iter()).skip_while(|reading| Ok(*reading < 100));
+    /// let drawn = [it.next(), it.next(), it.next()];
+    /// assert_eq!(drawn, [Ok(Some(150)), Ok(Some(8)), Ok(None)]);
     /// ```
     ///
     /// <details><summary>Contract</summary>
@@ -1512,15 +929,11 @@ pub trait FallibleIterator {
     /// Laziness, draws, errors, precondition and behaviour after `Ok(None)`: as `map`, also after a `None` of the closure.
     ///
     /// ```
-    /// # use fallible_iterator::FallibleIterator;
-    /// # use fallible_iterator::convert;
-    /// # pub fn halves(readings: Vec<Result<u32, u8>>) -> Result<Vec<u32>, u8>
-    /// # {
-    /// convert(readings.into_iter())
-    ///     .map_while(|reading: u32| Ok(if reading > 0 { Some(reading / 2) } else { None }))
-    ///     .collect()
-    /// # }
-    /// # fn main() { let _ = halves(vec![Ok(150), Ok(7), Ok(700), Ok(0), Ok(600)]); }
+    /// # use fallible_iterator::{FallibleIterator, convert};
+    /// let words = [Ok::<&str, u8>("150"), Ok("none"), Ok("700")];
+    /// let mut it = convert(words.into_iter()).map_while(|word| Ok(word.parse::<u32>().ok()));
+    /// let drawn = [it.next(), it.next(), it.next(), it.next()];
+    /// assert_eq!(drawn, [Ok(Some(150)), Ok(None), Ok(Some(700)), Ok(None)]);
     /// ```
     ///
     /// <details><summary>Contract</summary>
@@ -1548,25 +961,16 @@ pub trait FallibleIterator {
     /// Laziness, draws, errors and behaviour after `Ok(None)`: as `map`, also after a `None` of the closure. The state stays as the closure left it.
     ///
     /// ```
-    /// # use fallible_iterator::FallibleIterator;
-    /// # use fallible_iterator::convert;
-    /// # pub fn sum(readings: Vec<Result<u32, u8>>) -> Result<u64, u8>
-    /// # {
-    /// #     convert(readings.into_iter()).fold(
-    /// #         0,
-    /// #         |sum: u64, reading: u32| Ok(sum.wrapping_add(u64::from(reading))),
-    /// #     )
-    /// # }
-    /// # pub fn running_sums(readings: Vec<Result<u32, u8>>) -> Result<Vec<u64>, u8>
-    /// # {
-    /// convert(readings.into_iter())
-    ///     .scan(0, |sum: &mut u64, reading: u32| {
-    ///         *sum = sum.wrapping_add(u64::from(reading));
-    ///         Ok(Some(*sum))
-    ///     })
-    ///     .collect()
-    /// # }
-    /// # fn main() { let _ = running_sums(vec![Ok(150), Ok(7), Ok(700), Ok(0), Ok(600)]); }
+    /// # use fallible_iterator::{FallibleIterator, convert};
+    /// let readings = [Ok::<u32, u8>(150), Ok(7), Ok(700)];
+    /// let mut sums = convert(readings.into_iter()).scan(0, |sum: &mut u32, reading: u32| {
+    ///     *sum = sum.wrapping_add(reading);
+    ///     Ok(Some(*sum))
+    /// });
+    /// let drawn = [sums.next(), sums.next(), sums.next(), sums.next()];
+    /// assert_eq!(drawn,
+    ///     [Ok(Some(150)), Ok(Some(157)), Ok(Some(857)), Ok(None)]
+    /// );
     /// ```
     ///
     /// <details><summary>Contract</summary>
@@ -1602,17 +1006,11 @@ pub trait FallibleIterator {
     /// Laziness, draws and behaviour after `Ok(None)`: as `map`. It fails as the source does.
     ///
     /// ```
-    /// # use fallible_iterator::DoubleEndedFallibleIterator;
-    /// # use fallible_iterator::FallibleIterator;
-    /// # use fallible_iterator::IntoFallible;
-    /// # fn cloned_from_back() {
-    /// let items = [1, 2, 3];
-    /// let made = IntoFallible::from(items.iter());
-    /// let mut it = made.cloned().rev();
-    /// let drawn = [it.next(), it.next(), it.next(), it.next()];
-    /// assert_eq!(drawn, [Ok(Some(3)), Ok(Some(2)), Ok(Some(1)), Ok(None)]);
-    /// # }
-    /// # fn main() { let _ = cloned_from_back(); }
+    /// # use fallible_iterator::{FallibleIterator, convert};
+    /// let readings = [150, 7];
+    /// let mut it = convert(readings.iter().map(Ok::<&u32, u8>)).cloned();
+    /// let drawn = [it.next(), it.next(), it.next()];
+    /// assert_eq!(drawn, [Ok(Some(150)), Ok(Some(7)), Ok(None)]);
     /// ```
     ///
     /// <details><summary>Contract</summary>
@@ -1641,14 +1039,11 @@ pub trait FallibleIterator {
     /// Each call draws once, from the other end. It fails as that draw does. Laziness and behaviour after `Ok(None)`: as `map`.
     ///
     /// ```
-    /// # use fallible_iterator::DoubleEndedFallibleIterator;
-    /// # use fallible_iterator::FallibleIterator;
-    /// # use fallible_iterator::convert;
-    /// # pub fn last_first(readings: Vec<Result<u32, u8>>) -> Result<Vec<u32>, u8>
-    /// # {
-    /// convert(readings.into_iter()).rev().collect()
-    /// # }
-    /// # fn main() { let _ = last_first(vec![Ok(150), Ok(7), Ok(700), Ok(0), Ok(600)]); }
+    /// # use fallible_iterator::{DoubleEndedFallibleIterator, FallibleIterator, convert};
+    /// let readings = [Ok::<u32, u8>(150), Ok(7), Err(9)];
+    /// let mut it = convert(readings.into_iter()).rev();
+    /// let drawn = [it.next(), it.next(), it.next(), it.next()];
+    /// assert_eq!(drawn, [Err(9), Ok(Some(7)), Ok(Some(150)), Ok(None)]);
     /// ```
     ///
     /// <details><summary>Contract</summary>
@@ -1675,15 +1070,12 @@ pub trait FallibleIterator {
     /// Creating it draws nothing. `next` draws once; if that draw is the first `Ok(None)`, it draws `it` in the same call. It fails as the side does that is drawn. A failure passes, and changes no side. From the first `Ok(None)` on only `it` is drawn.
     ///
     /// ```
-    /// # use fallible_iterator::FallibleIterator;
-    /// # use fallible_iterator::convert;
-    /// # pub fn both_columns(left: &[u32], right: &[u32]) -> Result<usize, u8>
-    /// # {
-    /// convert(left.iter().copied().map(Ok))
-    ///     .chain(convert(right.iter().copied().map(Ok)))
-    ///     .count()
-    /// # }
-    /// # fn main() { let _ = both_columns(&[150, 7, 700], &[150, 7, 700]); }
+    /// # use fallible_iterator::{FallibleIterator, convert};
+    /// let first = convert([Ok::<u32, u8>(150), Err(9)].into_iter());
+    /// let second = convert([Ok(700)].into_iter());
+    /// let mut it = first.chain(second);
+    /// let drawn = [it.next(), it.next(), it.next(), it.next()];
+    /// assert_eq!(drawn, [Ok(Some(150)), Err(9), Ok(Some(700)), Ok(None)]);
     /// ```
     ///
     /// <details><summary>Contract</summary>
@@ -1717,19 +1109,14 @@ pub trait FallibleIterator {
     /// Laziness: as `chain`. `next` draws once. Then, unless that failed, it draws `o` once, also after an `Ok(None)`. It fails as this iterator does, or else as `o` does. An item beside a failure or an `Ok(None)` is lost, and the next call draws both again.
     ///
     /// ```
-    /// # use fallible_iterator::DoubleEndedFallibleIterator;
-    /// # use fallible_iterator::FallibleIterator;
-    /// # use std::io::BufRead;
-    /// # fn behind_a_pair<I, J>(mut left: I, mut right: J) -> Result<Option<J::Item>, I::Error>
-    /// # where
-    /// #     I: FallibleIterator,
-    /// #     J: FallibleIterator<Error = I::Error>,
-    /// # {
-    /// (&mut left).zip(&mut right).draw()?;
-    /// left.draw()?;
-    /// right.draw()
-    /// # }
-    /// # fn main() { let _ = behind_a_pair(fallible_iterator::convert::<u32, u8, _>([Ok(150), Ok(7), Ok(700), Ok(0), Ok(600)].into_iter()), fallible_iterator::convert::<u32, u8, _>([Ok(150), Ok(7), Ok(700), Ok(0), Ok(600)].into_iter())); }
+    /// # use fallible_iterator::{FallibleIterator, convert};
+    /// let letters = convert([Ok::<char, u8>('a'), Ok('b'), Ok('c')].into_iter());
+    /// let numbers = convert([Ok(1), Err(9), Ok(2)].into_iter());
+    /// let mut it = letters.zip(numbers);
+    /// let drawn = [it.next(), it.next(), it.next(), it.next()];
+    /// assert_eq!(drawn,
+    ///     [Ok(Some(('a', 1))), Err(9), Ok(Some(('c', 2))), Ok(None)]
+    /// );
     /// ```
     ///
     /// <details><summary>Contract</summary>
@@ -1770,30 +1157,16 @@ pub trait FallibleIterator {
     /// Precondition, which is not checked: the iterator is finite, since many inner iterators may end in one call.
     ///
     /// ```
-    /// # use fallible_iterator::FallibleIterator;
-    /// # use fallible_iterator::IntoFallible;
-    /// # use fallible_iterator::once;
-    /// # use std::convert::Infallible;
-    /// # use std::ops::Range;
-    /// # pub struct Fail;
-    /// # impl Fail {
-    /// #     pub fn new(what: impl std::fmt::Display) -> Fail {
-    /// #         panic!("{what}")
-    /// #     }
-    /// # }
-    /// # impl<E: std::fmt::Debug> From<E> for Fail {
-    /// #     fn from(e: E) -> Fail {
-    /// #         panic!("{e:?}")
-    /// #     }
-    /// # }
-    /// # fn clones_of_adapters_over_ranges() -> Result<(), Fail> {
-    /// let inner = IntoFallible::from(1..3u32);
-    /// let mut it = once::<IntoFallible<Range<u32>>, Infallible>(inner).flatten();
-    /// assert_eq!(it.size_hint(), (0, None));
-    /// assert_eq!(it.next(), Ok(Some(1)));
-    /// #     Ok(())
-    /// # }
-    /// # fn main() { let _ = clones_of_adapters_over_ranges(); }
+    /// # use fallible_iterator::{FallibleIterator, convert};
+    /// let inner = [
+    ///     convert([Ok::<u32, u8>(1), Err(9)].into_iter()),
+    ///     convert([Ok(2), Ok(3)].into_iter()),
+    /// ];
+    /// let mut it = convert(inner.into_iter().map(Ok)).flatten();
+    /// let drawn = [it.next(), it.next(), it.next(), it.next(), it.next()];
+    /// assert_eq!(drawn,
+    ///     [Ok(Some(1)), Err(9), Ok(Some(2)), Ok(Some(3)), Ok(None)]
+    /// );
     /// ```
     ///
     /// <details><summary>Contract</summary>
@@ -1828,20 +1201,11 @@ pub trait FallibleIterator {
     /// Laziness, draws, errors and behaviour after `Ok(None)`: as `flatten` of `map`.
     ///
     /// ```
-    /// # use fallible_iterator::FallibleIterator;
-    /// # use fallible_iterator::IteratorExt;
-    /// # use fallible_iterator::convert;
-    /// # use std::convert::Infallible;
-    /// # pub fn runs(
-    /// #     bounds: Vec<Result<u32, Infallible>>,
-    /// # ) -> Result<Vec<u32>, Infallible>
-    /// # {
-    /// convert(bounds.into_iter())
-    ///     .flat_map(|bound: u32| Ok((0..bound).into_fallible()))
-    ///     .take(1000)
-    ///     .collect()
-    /// # }
-    /// # fn main() { let _ = runs(vec![Ok(150), Ok(7), Ok(700), Ok(0), Ok(600)]); }
+    /// # use fallible_iterator::{FallibleIterator, IteratorExt, convert};
+    /// let bounds = [Ok(2), Ok(0), Ok(1)];
+    /// let mut it = convert(bounds.into_iter()).flat_map(|bound: u32| Ok((0..bound).into_fallible()));
+    /// let drawn = [it.next(), it.next(), it.next(), it.next()];
+    /// assert_eq!(drawn, [Ok(Some(0)), Ok(Some(1)), Ok(Some(0)), Ok(None)]);
     /// ```
     ///
     /// <details><summary>Contract</summary>
@@ -1886,17 +1250,15 @@ pub trait FallibleIterator {
     /// Precondition, which is not checked: the iterator is finite.
     ///
     /// ```
-    /// # use fallible_iterator::FallibleIterator;
-    /// # use fallible_iterator::convert;
-    /// # pub fn collected_above_100(
-    /// #     readings: Vec<Result<u32, u8>>,
-    /// # ) -> Result<Vec<u32>, u8>
-    /// # {
-    /// convert(readings.into_iter())
-    ///     .filter(|reading| Ok(*reading > 100))
-    ///     .collect()
-    /// # }
-    /// # fn main() { let _ = collected_above_100(vec![Ok(150), Ok(7), Ok(700), Ok(0), Ok(600)]); }
+    /// # use fallible_iterator::{FallibleIterator, convert};
+    /// let readings = [Ok::<u32, u8>(150), Ok(7), Ok(700)];
+    /// let all: Vec<u32> = convert(readings.into_iter()).collect()?;
+    /// assert_eq!(all, vec![150, 7, 700]);
+    ///
+    /// let cut = [Ok::<u32, u8>(150), Err(9), Ok(700)];
+    /// let all: Result<Vec<u32>, u8> = convert(cut.into_iter()).collect();
+    /// assert!(matches!(all, Err(9)));
+    /// # Ok::<(), u8>(())
     /// ```
     ///
     /// <details><summary>Contract</summary>
@@ -1930,17 +1292,13 @@ pub trait FallibleIterator {
     /// Precondition, which is not checked: the iterator is finite.
     ///
     /// ```
-    /// # use fallible_iterator::FallibleIterator;
-    /// # use fallible_iterator::convert;
-    /// # pub fn partitioned_at_100(
-    /// #     readings: Vec<Result<u32, u8>>,
-    /// # ) -> Result<(Vec<u32>, Vec<u32>), u8>
-    /// # {
-    /// convert(readings.into_iter())
-    ///     .take(10)
-    ///     .partition(|reading| Ok(*reading > 100))
-    /// # }
-    /// # fn main() { let _ = partitioned_at_100(vec![Ok(150), Ok(7), Ok(700), Ok(0), Ok(600)]); }
+    /// # use fallible_iterator::{FallibleIterator, convert};
+    /// let readings = [Ok::<u32, u8>(150), Ok(7), Ok(700)];
+    /// let (above, below): (Vec<u32>, Vec<u32>) = convert(readings.into_iter()).partition(|reading| Ok(*reading > 100),
+    /// )?;
+    /// assert_eq!(above, vec![150, 700]);
+    /// assert_eq!(below, vec![7]);
+    /// # Ok::<(), u8>(())
     /// ```
     ///
     /// <details><summary>Contract</summary>
@@ -1984,15 +1342,12 @@ pub trait FallibleIterator {
     /// Draws, errors and precondition: as `collect`. It consumes the iterator too.
     ///
     /// ```
-    /// # use fallible_iterator::FallibleIterator;
-    /// # use fallible_iterator::convert;
-    /// # pub fn two_columns(
-    /// #     readings: Vec<Result<u32, u8>>,
-    /// # ) -> Result<(Vec<usize>, Vec<u32>), u8>
-    /// # {
-    /// convert(readings.into_iter()).enumerate().unzip()
-    /// # }
-    /// # fn main() { let _ = two_columns(vec![Ok(150), Ok(7), Ok(700), Ok(0), Ok(600)]); }
+    /// # use fallible_iterator::{FallibleIterator, convert};
+    /// let pairs = [Ok::<(u32, char), u8>((1, 'a')), Ok((2, 'b'))];
+    /// let (numbers, letters): (Vec<u32>, Vec<char>) = convert(pairs.into_iter()).unzip()?;
+    /// assert_eq!(numbers, vec![1, 2]);
+    /// assert_eq!(letters, vec!['a', 'b']);
+    /// # Ok::<(), u8>(())
     /// ```
     ///
     /// <details><summary>Contract</summary>
@@ -2038,42 +1393,14 @@ pub trait FallibleIterator {
     /// Precondition, which is not checked: the iterator is finite.
     ///
     /// ```
-    /// # use fallible_iterator::DoubleEndedFallibleIterator;
-    /// # use fallible_iterator::FallibleIterator;
-    /// # use std::vec::IntoIter;
-    /// # #[derive(Clone)]
-    /// # pub struct Script<T, E> {
-    /// #     pub answers: IntoIter<Result<Option<T>, E>>,
-    /// # }
-    /// # impl<T, E> FallibleIterator for Script<T, E> {
-    /// #     type Item = T;
-    /// #     type Error = E;
-    /// #     fn next(&mut self) -> Result<Option<T>, E> {
-    /// #         match self.answers.next() {
-    /// #             Some(answer) => answer,
-    /// #             None => Ok(None),
-    /// #         }
-    /// #     }
-    /// #     fn size_hint(&self) -> (usize, Option<usize>) {
-    /// #         (0, None)
-    /// #     }
-    /// # }
-    /// # impl<T, E> DoubleEndedFallibleIterator for Script<T, E> {
-    /// #     fn next_back(&mut self) -> Result<Option<T>, E> {
-    /// #         match self.answers.next_back() {
-    /// #             Some(answer) => answer,
-    /// #             None => Ok(None),
-    /// #         }
-    /// #     }
-    /// # }
-    /// # fn accept(_x: u32) -> Result<(), u32> {
-    /// #     Ok(())
-    /// # }
-    /// # type Drawn = Result<Option<u32>, u32>;
-    /// # fn each_of(mut s: Script<u32, u32>) -> (Result<(), u32>, Drawn) {
-    /// (s.by_ref().for_each(accept), s.next())
-    /// # }
-    /// # fn main() { let _ = each_of(Script { answers: vec![Ok(Some(1)), Err(2)].into_iter() }); }
+    /// # use fallible_iterator::{FallibleIterator, convert};
+    /// let readings = [Ok::<u32, u8>(150), Err(9), Ok(700)];
+    /// let mut sum = 0u32;
+    /// let drained = convert(readings.into_iter()).for_each(|reading| {
+    ///     sum = sum.wrapping_add(reading);
+    ///     Ok(())
+    /// });
+    /// assert_eq!((drained, sum), (Err(9), 150));
     /// ```
     ///
     /// <details><summary>Contract</summary>
@@ -2108,15 +1435,11 @@ pub trait FallibleIterator {
     /// Precondition, which is not checked: the iterator is finite.
     ///
     /// ```
-    /// # use fallible_iterator::FallibleIterator;
-    /// # use fallible_iterator::convert;
-    /// # pub fn all_above_100(readings: Vec<Result<u32, u8>>) -> Result<bool, u8>
-    /// # {
-    /// convert(readings.into_iter())
-    ///     .filter(|reading| Ok(*reading > 0))
-    ///     .all(|reading| Ok(reading > 100))
-    /// # }
-    /// # fn main() { let _ = all_above_100(vec![Ok(150), Ok(7), Ok(700), Ok(0), Ok(600)]); }
+    /// # use fallible_iterator::{FallibleIterator, convert};
+    /// let mut it = convert([Ok::<u32, u8>(150), Ok(7), Err(9)].into_iter());
+    /// assert_eq!(it.all(|reading| Ok(reading > 100)), Ok(false));
+    /// assert_eq!(it.all(|reading| Ok(reading > 100)), Err(9));
+    /// assert_eq!(it.all(|reading| Ok(reading > 100)), Ok(true));
     /// ```
     ///
     /// <details><summary>Contract</summary>
@@ -2152,15 +1475,11 @@ pub trait FallibleIterator {
     /// It draws up to the first item on which the predicate returns true or fails, the first failure or `Ok(None)`. Errors, precondition and what is left: as `all`.
     ///
     /// ```
-    /// # use fallible_iterator::FallibleIterator;
-    /// # use fallible_iterator::convert;
-    /// # pub fn any_above_100(readings: Vec<Result<u32, u8>>) -> Result<bool, u8>
-    /// # {
-    /// convert(readings.into_iter())
-    ///     .skip(1)
-    ///     .any(|reading| Ok(reading > 100))
-    /// # }
-    /// # fn main() { let _ = any_above_100(vec![Ok(150), Ok(7), Ok(700), Ok(0), Ok(600)]); }
+    /// # use fallible_iterator::{FallibleIterator, convert};
+    /// let mut it = convert([Ok::<u32, u8>(7), Ok(150), Err(9)].into_iter());
+    /// assert_eq!(it.any(|reading| Ok(reading > 100)), Ok(true));
+    /// assert_eq!(it.any(|reading| Ok(reading > 100)), Err(9));
+    /// assert_eq!(it.any(|reading| Ok(reading > 100)), Ok(false));
     /// ```
     ///
     /// <details><summary>Contract</summary>
@@ -2196,17 +1515,11 @@ pub trait FallibleIterator {
     /// It draws up to the first item on which the predicate returns true or fails, the first failure or `Ok(None)`. It calls the predicate on a reference to each item drawn, in order. Errors, precondition and what is left: as `all`.
     ///
     /// ```
-    /// # use fallible_iterator::FallibleIterator;
-    /// # use fallible_iterator::convert;
-    /// # pub fn behind_zero(readings: Vec<Result<u32, u8>>) -> Result<Option<u32>, u8>
-    /// # {
-    /// let mut left = convert(readings.into_iter());
-    /// match left.find(|reading| Ok(*reading == 0))? {
-    ///     Some(_) => left.nth(0),
-    ///     None => Ok(None),
-    /// }
-    /// # }
-    /// # fn main() { let _ = behind_zero(vec![Ok(150), Ok(7), Ok(700), Ok(0), Ok(600)]); }
+    /// # use fallible_iterator::{FallibleIterator, convert};
+    /// let mut it = convert([Ok::<u32, u8>(7), Ok(150), Ok(8), Err(9)].into_iter());
+    /// assert_eq!(it.find(|reading| Ok(*reading > 100)), Ok(Some(150)));
+    /// assert_eq!(it.find(|reading| Ok(*reading > 100)), Err(9));
+    /// assert_eq!(it.find(|reading| Ok(*reading > 100)), Ok(None));
     /// ```
     ///
     /// <details><summary>Contract</summary>
@@ -2242,28 +1555,11 @@ pub trait FallibleIterator {
     /// It draws up to the first item on which the closure returns a value or fails, the first failure or `Ok(None)`. Errors, precondition and what is left: as `all`.
     ///
     /// ```
-    /// # use fallible_iterator::Convert;
-    /// # use fallible_iterator::DoubleEndedFallibleIterator;
-    /// # use fallible_iterator::FallibleIterator;
-    /// # use fallible_iterator::convert;
-    /// # use std::iter::Copied;
-    /// # use std::slice::Iter;
-    /// # pub fn numbers<'a>(answers: &'a [Result<u32, u32>]) -> Convert<Copied<Iter<'a, Result<u32, u32>>>>
-    /// # {
-    /// #     convert(answers.iter().copied())
-    /// # }
-    /// # fn find_map_answers_the_first_value_by_one_call_an_item() {
-    /// #     let four = [Ok(0), Ok(1), Ok(2), Ok(3)];
-    /// #     let mut it = numbers(&four);
-    /// #     let mut calls = 0u32;
-    /// let found = it.find_map(|x: u32| {
-    ///     calls = calls.wrapping_add(1);
-    ///     Ok(if x == 2 { Some(("hi", calls)) } else { None })
-    /// });
-    /// assert_eq!((found, calls), (Ok(Some(("hi", 3))), 3));
-    /// assert_eq!(it.next(), Ok(Some(3)));
-    /// # }
-    /// # fn main() { let _ = find_map_answers_the_first_value_by_one_call_an_item(); }
+    /// # use fallible_iterator::{FallibleIterator, convert};
+    /// let mut it = convert([Ok::<&str, u8>("none"), Ok("150"), Ok("700")].into_iter());
+    /// let first = it.find_map(|word| Ok(word.parse::<u32>().ok()));
+    /// assert_eq!(first, Ok(Some(150)));
+    /// assert_eq!(it.next(), Ok(Some("700")));
     /// ```
     ///
     /// <details><summary>Contract</summary>
@@ -2299,15 +1595,11 @@ pub trait FallibleIterator {
     /// It draws up to the first item on which the predicate returns true or fails, the first failure or `Ok(None)`. Precondition, which is not checked: at most `usize::MAX` items are left. Errors, what is left and the rest of the precondition: as `all`.
     ///
     /// ```
-    /// # use fallible_iterator::FallibleIterator;
-    /// # pub fn count_behind<I: FallibleIterator<Item = u32>>(mut it: I) -> Result<usize, I::Error>
-    /// # {
-    /// match it.position(|x| Ok(x == 0))? {
-    ///     Some(_) => it.count(),
-    ///     None => Ok(0),
-    /// }
-    /// # }
-    /// # fn main() { let _ = count_behind(fallible_iterator::convert::<u32, u8, _>([Ok(150), Ok(7), Ok(700), Ok(0), Ok(600)].into_iter())); }
+    /// # use fallible_iterator::{FallibleIterator, convert};
+    /// let mut it = convert([Ok::<u32, u8>(7), Ok(150), Ok(700)].into_iter());
+    /// assert_eq!(it.position(|reading| Ok(reading > 100)), Ok(Some(1)));
+    /// assert_eq!(it.position(|reading| Ok(reading > 100)), Ok(Some(0)));
+    /// assert_eq!(it.position(|reading| Ok(reading > 100)), Ok(None));
     /// ```
     ///
     /// <details><summary>Contract</summary>
@@ -2344,15 +1636,9 @@ pub trait FallibleIterator {
     /// Precondition, which is not checked: the iterator is finite.
     ///
     /// ```
-    /// # use fallible_iterator::FallibleIterator;
-    /// # use fallible_iterator::convert;
-    /// # pub fn greatest_above_100(readings: Vec<Result<u32, u8>>) -> Result<Option<u32>, u8>
-    /// # {
-    /// convert(readings.into_iter())
-    ///     .filter(|reading| Ok(*reading > 100))
-    ///     .max()
-    /// # }
-    /// # fn main() { let _ = greatest_above_100(vec![Ok(150), Ok(7), Ok(700), Ok(0), Ok(600)]); }
+    /// # use fallible_iterator::{FallibleIterator, convert};
+    /// let readings = [Ok::<u32, u8>(150), Ok(700), Ok(7)];
+    /// assert_eq!(convert(readings.into_iter()).max(), Ok(Some(700)));
     /// ```
     ///
     /// <details><summary>Contract</summary>
@@ -2380,17 +1666,9 @@ pub trait FallibleIterator {
     /// Returns the least item, of equal ones the last; `Ok(None)` if no item comes. Draws, errors and precondition: as `max`.
     ///
     /// ```
-    /// # use fallible_iterator::FallibleIterator;
-    /// # use fallible_iterator::convert;
-    /// # pub fn least_double_above_1000(readings: Vec<Result<u32, u8>>) -> Result<Option<u64>, u8>
-    /// # {
-    /// convert(readings.into_iter())
-    ///     .skip(1)
-    ///     .map(|reading| Ok(u64::from(reading) * 2))
-    ///     .filter(|double| Ok(*double > 1000))
-    ///     .min()
-    /// # }
-    /// # fn main() { let _ = least_double_above_1000(vec![Ok(150), Ok(7), Ok(700), Ok(0), Ok(600)]); }
+    /// # use fallible_iterator::{FallibleIterator, convert};
+    /// let readings = [Ok::<u32, u8>(150), Ok(7), Ok(700)];
+    /// assert_eq!(convert(readings.into_iter()).min(), Ok(Some(7)));
     /// ```
     ///
     /// <details><summary>Contract</summary>
@@ -2422,29 +1700,11 @@ pub trait FallibleIterator {
     /// Precondition, which is not checked: the iterator is finite.
     ///
     /// ```
-    /// # use fallible_iterator::FallibleIterator;
-    /// # use fallible_iterator::convert;
-    /// # fn product(sign: i32, bound: i32, x: i32) -> Result<i32, i32> {
-    /// #     if x > bound {
-    /// #         Err(x)
-    /// #     } else {
-    /// #         Ok(x.wrapping_mul(sign))
-    /// #     }
-    /// # }
-    /// # fn max_by_key_of(
-    /// #     answers: &[Result<i32, i32>],
-    /// #     sign: i32,
-    /// #     bound: i32,
-    /// # ) -> (Result<Option<i32>, i32>, u32) {
-    /// let it = convert(answers.iter().copied());
-    /// let mut calls = 0u32;
-    /// let greatest = it.max_by_key(|x: &i32| {
-    ///     calls = calls.wrapping_add(1);
-    ///     product(sign, bound, *x)
-    /// });
-    /// #     (greatest, calls)
-    /// # }
-    /// # fn main() { let _ = max_by_key_of(&[], 5, 5); }
+    /// # use fallible_iterator::{FallibleIterator, convert};
+    /// let words = [Ok::<&str, u8>("to"), Ok("the"), Ok("sea")];
+    /// assert_eq!(convert(words.into_iter()).max_by_key(|word| Ok(word.len())),
+    ///     Ok(Some("sea"))
+    /// );
     /// ```
     ///
     /// <details><summary>Contract</summary>
@@ -2475,24 +1735,11 @@ pub trait FallibleIterator {
     /// Returns the item with the least key, of equal ones the last; `Ok(None)` if no item comes. Draws, errors and precondition: as `max_by_key`.
     ///
     /// ```
-    /// # use fallible_iterator::FallibleIterator;
-    /// # use fallible_iterator::convert;
-    /// # fn product(sign: i32, bound: i32, x: i32) -> Result<i32, i32> {
-    /// #     if x > bound {
-    /// #         Err(x)
-    /// #     } else {
-    /// #         Ok(x.wrapping_mul(sign))
-    /// #     }
-    /// # }
-    /// # fn min_by_key_of(
-    /// #     answers: &[Result<(i32, char), i32>],
-    /// #     sign: i32,
-    /// #     bound: i32,
-    /// # ) -> Result<Option<(i32, char)>, i32> {
-    /// let it = convert(answers.iter().copied());
-    /// it.min_by_key(|x: &(i32, char)| product(sign, bound, x.0))
-    /// # }
-    /// # fn main() { let _ = min_by_key_of(&[], 5, 5); }
+    /// # use fallible_iterator::{FallibleIterator, convert};
+    /// let words = [Ok::<&str, u8>("the"), Ok("to"), Ok("at")];
+    /// assert_eq!(convert(words.into_iter()).min_by_key(|word| Ok(word.len())),
+    ///     Ok(Some("at"))
+    /// );
     /// ```
     ///
     /// <details><summary>Contract</summary>
@@ -2527,24 +1774,10 @@ pub trait FallibleIterator {
     /// Precondition, which is not checked: the iterator is finite.
     ///
     /// ```
-    /// # use fallible_iterator::FallibleIterator;
-    /// # use fallible_iterator::convert;
-    /// # use std::cmp::Ordering;
-    /// # fn compare(sign: i32, failing: i32, best: i32, x: i32) -> Result<Ordering, (i32, i32)> {
-    /// #     if x == failing {
-    /// #         return Err((best, x));
-    /// #     }
-    /// #     Ok(best.wrapping_mul(sign).cmp(&x.wrapping_mul(sign)))
-    /// # }
-    /// # fn max_by_product(
-    /// #     answers: &[Result<i32, (i32, i32)>],
-    /// #     sign: i32,
-    /// #     failing: i32,
-    /// # ) -> Result<Option<i32>, (i32, i32)> {
-    /// let it = convert(answers.iter().copied());
-    /// it.max_by(|best: &i32, x: &i32| compare(sign, failing, *best, *x))
-    /// # }
-    /// # fn main() { let _ = max_by_product(&[], 5, 5); }
+    /// # use fallible_iterator::{FallibleIterator, convert};
+    /// let pairs = [Ok::<(u32, char), u8>((1, 'a')), Ok((3, 'b')), Ok((3, 'c'))];
+    /// let greatest = convert(pairs.into_iter()).max_by(|best, pair| Ok(best.0.cmp(&pair.0)));
+    /// assert_eq!(greatest, Ok(Some((3, 'c'))));
     /// ```
     ///
     /// <details><summary>Contract</summary>
@@ -2574,30 +1807,10 @@ pub trait FallibleIterator {
     /// Returns the least item by the closure, of equal ones the last; `Ok(None)` if no item comes. Draws, errors and precondition: as `max_by`.
     ///
     /// ```
-    /// # use fallible_iterator::FallibleIterator;
-    /// # use fallible_iterator::convert;
-    /// # use std::cmp::Ordering;
-    /// # fn compare(sign: i32, failing: i32, best: i32, x: i32) -> Result<Ordering, (i32, i32)> {
-    /// #     if x == failing {
-    /// #         return Err((best, x));
-    /// #     }
-    /// #     Ok(best.wrapping_mul(sign).cmp(&x.wrapping_mul(sign)))
-    /// # }
-    /// # fn min_by_product(
-    /// #     answers: &[Result<i32, (i32, i32)>],
-    /// #     sign: i32,
-    /// #     failing: i32,
-    /// # ) -> (
-    /// #     Result<Option<i32>, (i32, i32)>,
-    /// #     Result<Option<i32>, (i32, i32)>,
-    /// # ) {
-    /// let mut it = convert(answers.iter().copied());
-    /// let least = it
-    ///     .by_ref()
-    ///     .min_by(|best: &i32, x: &i32| compare(sign, failing, *best, *x));
-    /// (least, it.next())
-    /// # }
-    /// # fn main() { let _ = min_by_product(&[], 5, 5); }
+    /// # use fallible_iterator::{FallibleIterator, convert};
+    /// let pairs = [Ok::<(u32, char), u8>((3, 'a')), Ok((1, 'b')), Ok((1, 'c'))];
+    /// let least = convert(pairs.into_iter()).min_by(|best, pair| Ok(best.0.cmp(&pair.0)));
+    /// assert_eq!(least, Ok(Some((1, 'c'))));
     /// ```
     ///
     /// <details><summary>Contract</summary>
@@ -2631,19 +1844,11 @@ pub trait FallibleIterator {
     /// Precondition, which is not checked: one of the two is finite.
     ///
     /// ```
-    /// # use fallible_iterator::FallibleIterator;
-    /// # use fallible_iterator::convert;
+    /// # use fallible_iterator::{FallibleIterator, convert};
     /// # use std::cmp::Ordering;
-    /// # pub fn order_of_doubled(
-    /// #     left: Vec<Result<u32, u8>>,
-    /// #     right: Vec<Result<u32, u8>>,
-    /// # ) -> Result<Ordering, u8>
-    /// # {
-    /// convert(left.into_iter())
-    ///     .map(|reading: u32| Ok(reading.wrapping_mul(2)))
-    ///     .cmp(convert(right.into_iter()).filter(|reading| Ok(*reading > 100)))
-    /// # }
-    /// # fn main() { let _ = order_of_doubled(vec![Ok(150), Ok(7), Ok(700), Ok(0), Ok(600)], vec![Ok(150), Ok(7), Ok(700), Ok(0), Ok(600)]); }
+    /// let left = convert([Ok::<u32, u8>(1), Ok(2), Err(9)].into_iter());
+    /// let right = convert([Ok(1), Ok(3)].into_iter());
+    /// assert_eq!(left.cmp(right), Ok(Ordering::Less));
     /// ```
     ///
     /// <details><summary>Contract</summary>
@@ -2680,19 +1885,10 @@ pub trait FallibleIterator {
     /// Draws, errors and precondition: as `cmp`.
     ///
     /// ```
-    /// # use fallible_iterator::FallibleIterator;
-    /// # use fallible_iterator::convert;
-    /// # use std::cmp::Ordering;
-    /// # pub fn order_of_ten(
-    /// #     left: Vec<Result<u32, u8>>,
-    /// #     right: Vec<Result<u32, u8>>,
-    /// # ) -> Result<Option<Ordering>, u8>
-    /// # {
-    /// convert(left.into_iter())
-    ///     .take(10)
-    ///     .partial_cmp(convert(right.into_iter()).skip(1))
-    /// # }
-    /// # fn main() { let _ = order_of_ten(vec![Ok(150), Ok(7), Ok(700), Ok(0), Ok(600)], vec![Ok(150), Ok(7), Ok(700), Ok(0), Ok(600)]); }
+    /// # use fallible_iterator::{FallibleIterator, convert};
+    /// let left = convert([Ok::<f64, u8>(1.0), Ok(f64::NAN)].into_iter());
+    /// let right = convert([Ok(1.0), Ok(2.0)].into_iter());
+    /// assert_eq!(left.partial_cmp(right), Ok(None));
     /// ```
     ///
     /// <details><summary>Contract</summary>
@@ -2726,13 +1922,10 @@ pub trait FallibleIterator {
     /// Draws, errors and precondition: as `cmp`.
     ///
     /// ```
-    /// # use fallible_iterator::FallibleIterator;
-    /// # use fallible_iterator::convert;
-    /// # pub fn same_readings(left: Vec<Result<u32, u8>>, right: Vec<Result<u32, u8>>) -> Result<bool, u8>
-    /// # {
-    /// convert(left.into_iter()).eq(convert(right.into_iter()))
-    /// # }
-    /// # fn main() { let _ = same_readings(vec![Ok(150), Ok(7), Ok(700), Ok(0), Ok(600)], vec![Ok(150), Ok(7), Ok(700), Ok(0), Ok(600)]); }
+    /// # use fallible_iterator::{FallibleIterator, convert};
+    /// let left = convert([Ok::<u32, u8>(1), Ok(2)].into_iter());
+    /// let right = convert([Ok(1), Err(9)].into_iter());
+    /// assert_eq!(left.eq(right), Err(9));
     /// ```
     ///
     /// <details><summary>Contract</summary>
@@ -2767,15 +1960,10 @@ pub trait FallibleIterator {
     /// Draws, errors and precondition: as `cmp`.
     ///
     /// ```
-    /// # use fallible_iterator::FallibleIterator;
-    /// # use fallible_iterator::convert;
-    /// # pub fn doubled_differ(left: Vec<Result<u32, u8>>, right: Vec<Result<u32, u8>>) -> Result<bool, u8>
-    /// # {
-    /// convert(left.into_iter())
-    ///     .map(|reading: u32| Ok(reading.wrapping_mul(2)))
-    ///     .ne(convert(right.into_iter()))
-    /// # }
-    /// # fn main() { let _ = doubled_differ(vec![Ok(150), Ok(7), Ok(700), Ok(0), Ok(600)], vec![Ok(150), Ok(7), Ok(700), Ok(0), Ok(600)]); }
+    /// # use fallible_iterator::{FallibleIterator, convert};
+    /// let left = convert([Ok::<u32, u8>(1), Ok(2)].into_iter());
+    /// let right = convert([Ok(1)].into_iter());
+    /// assert_eq!(left.ne(right), Ok(true));
     /// ```
     ///
     /// <details><summary>Contract</summary>
@@ -2810,15 +1998,10 @@ pub trait FallibleIterator {
     /// Draws, errors and precondition: as `cmp`.
     ///
     /// ```
-    /// # use fallible_iterator::FallibleIterator;
-    /// # use fallible_iterator::convert;
-    /// # type Drawn = Result<Option<f64>, u32>;
-    /// # fn lt_of(left: &[Result<f64, u32>], right: &[Result<f64, u32>]) -> (Result<bool, u32>, Drawn) {
-    /// let mut right = convert(right.iter().copied());
-    /// let answer = convert(left.iter().copied()).lt(&mut right);
-    /// (answer, right.next())
-    /// # }
-    /// # fn main() { let _ = lt_of(&[], &[]); }
+    /// # use fallible_iterator::{FallibleIterator, convert};
+    /// let left = convert([Ok::<u32, u8>(1)].into_iter());
+    /// let right = convert([Ok(1), Ok(0)].into_iter());
+    /// assert_eq!(left.lt(right), Ok(true));
     /// ```
     ///
     /// <details><summary>Contract</summary>
@@ -2853,15 +2036,10 @@ pub trait FallibleIterator {
     /// Draws, errors and precondition: as `cmp`.
     ///
     /// ```
-    /// # use fallible_iterator::FallibleIterator;
-    /// # use fallible_iterator::convert;
-    /// # pub fn up_to_doubled(left: Vec<Result<u32, u8>>, right: Vec<Result<u32, u8>>) -> Result<bool, u8>
-    /// # {
-    /// convert(left.into_iter()).le(convert(right.into_iter()).map(|reading: u32| Ok(
-    ///     reading.wrapping_mul(2),
-    /// )))
-    /// # }
-    /// # fn main() { let _ = up_to_doubled(vec![Ok(150), Ok(7), Ok(700), Ok(0), Ok(600)], vec![Ok(150), Ok(7), Ok(700), Ok(0), Ok(600)]); }
+    /// # use fallible_iterator::{FallibleIterator, convert};
+    /// let left = convert([Ok::<u32, u8>(1), Ok(2)].into_iter());
+    /// let right = convert([Ok(1), Ok(2)].into_iter());
+    /// assert_eq!(left.le(right), Ok(true));
     /// ```
     ///
     /// <details><summary>Contract</summary>
@@ -2896,16 +2074,10 @@ pub trait FallibleIterator {
     /// Draws, errors and precondition: as `cmp`.
     ///
     /// ```
-    /// # use fallible_iterator::FallibleIterator;
-    /// # use fallible_iterator::convert;
-    /// # pub fn greater_than_above_100(
-    /// #     left: Vec<Result<u32, u8>>,
-    /// #     right: Vec<Result<u32, u8>>,
-    /// # ) -> Result<bool, u8>
-    /// # {
-    /// convert(left.into_iter()).gt(convert(right.into_iter()).filter(|reading| Ok(*reading > 100)))
-    /// # }
-    /// # fn main() { let _ = greater_than_above_100(vec![Ok(150), Ok(7), Ok(700), Ok(0), Ok(600)], vec![Ok(150), Ok(7), Ok(700), Ok(0), Ok(600)]); }
+    /// # use fallible_iterator::{FallibleIterator, convert};
+    /// let left = convert([Ok::<u32, u8>(2), Err(9)].into_iter());
+    /// let right = convert([Ok(1)].into_iter());
+    /// assert_eq!(left.gt(right), Ok(true));
     /// ```
     ///
     /// <details><summary>Contract</summary>
@@ -2940,15 +2112,10 @@ pub trait FallibleIterator {
     /// Draws, errors and precondition: as `cmp`.
     ///
     /// ```
-    /// # use fallible_iterator::FallibleIterator;
-    /// # use fallible_iterator::convert;
-    /// # pub fn at_least_ten(left: Vec<Result<u32, u8>>, right: Vec<Result<u32, u8>>) -> Result<bool, u8>
-    /// # {
-    /// convert(left.into_iter())
-    ///     .skip(1)
-    ///     .ge(convert(right.into_iter()).take(10))
-    /// # }
-    /// # fn main() { let _ = at_least_ten(vec![Ok(150), Ok(7), Ok(700), Ok(0), Ok(600)], vec![Ok(150), Ok(7), Ok(700), Ok(0), Ok(600)]); }
+    /// # use fallible_iterator::{FallibleIterator, convert};
+    /// let left = convert([Ok::<u32, u8>(1)].into_iter());
+    /// let right = convert([Ok(1), Ok(0)].into_iter());
+    /// assert_eq!(left.ge(right), Ok(false));
     /// ```
     ///
     /// <details><summary>Contract</summary>
@@ -2983,16 +2150,11 @@ pub trait FallibleIterator {
     /// Creating it draws nothing, and buffers nothing. `next` draws once, and nothing if something is buffered. It fails as the source does. Behaviour after a failure and after `Ok(None)`: as `map`.
     ///
     /// ```
-    /// # use fallible_iterator::FallibleIterator;
-    /// # pub fn first_and_count<I: FallibleIterator<Item = u32>>(
-    /// #     it: I,
-    /// # ) -> Result<(Option<u32>, usize), I::Error>
-    /// # {
-    /// let mut ahead = it.peekable();
-    /// let first = ahead.peek_copied()?;
-    /// Ok((first, ahead.count()?))
-    /// # }
-    /// # fn main() { let _ = first_and_count(fallible_iterator::convert::<u32, u8, _>([Ok(150), Ok(7), Ok(700), Ok(0), Ok(600)].into_iter())); }
+    /// # use fallible_iterator::{FallibleIterator, convert};
+    /// let mut it = convert([Ok::<u32, u8>(150), Ok(7)].into_iter()).peekable();
+    /// assert_eq!(it.peek(), Ok(Some(&150)));
+    /// assert_eq!(it.next(), Ok(Some(150)));
+    /// assert_eq!(it.next(), Ok(Some(7)));
     /// ```
     ///
     /// <details><summary>Contract</summary>
@@ -3022,51 +2184,11 @@ pub trait FallibleIterator {
     /// `next` fails as the run does. It may have no end, and is drained through `take`.
     ///
     /// ```
-    /// # use fallible_iterator::FallibleIterator;
-    /// # use fallible_iterator::convert;
-    /// # use std::fmt::Debug;
-    /// # use fallible_iterator::memory::AllocError;
-    /// # pub struct Fail;
-    /// # impl Fail {
-    /// #     pub fn new(what: impl std::fmt::Display) -> Fail {
-    /// #         panic!("{what}")
-    /// #     }
-    /// # }
-    /// # impl<E: std::fmt::Debug> From<E> for Fail {
-    /// #     fn from(e: E) -> Fail {
-    /// #         panic!("{e:?}")
-    /// #     }
-    /// # }
-    /// # #[derive(Clone, Debug, PartialEq, Eq)]
-    /// # pub enum TestError {
-    /// #     Number(u32),
-    /// #     Memory,
-    /// # }
-    /// # impl From<AllocError> for TestError {
-    /// #     fn from(_refused: AllocError) -> TestError {
-    /// #         TestError::Memory
-    /// #     }
-    /// # }
-    /// # pub type Hint = (usize, Option<usize>);
-    /// # pub fn expect_collected<T, E>(made: Result<Vec<T>, E>, expected: &[T]) -> Result<(), Fail>
-    /// # where
-    /// #     T: Debug + PartialEq,
-    /// #     E: Debug,
-    /// # {
-    /// #     let items = made?;
-    /// #     if items.as_slice() == expected {
-    /// #         Ok(())
-    /// #     } else {
-    /// #         Err(Fail::new(format_args!("collected {items:?}, and not {expected:?}")))
-    /// #     }
-    /// # }
-    /// # fn expect_cycle(numbers: &[u32], expected: &[u32]) -> Result<Hint, Fail> {
-    /// let it = convert(numbers.iter().map(|x| Ok::<u32, TestError>(*x))).cycle();
-    /// let hint = it.size_hint();
-    /// expect_collected(it.take(expected.len()).collect(), expected)?;
-    /// #     Ok(hint)
-    /// # }
-    /// # fn main() { let _ = expect_cycle(&[150, 7, 700], &[150, 7, 700]); }
+    /// # use fallible_iterator::{FallibleIterator, convert};
+    /// let readings = convert([Ok::<u32, u8>(150), Ok(7)].into_iter());
+    /// let mut it = readings.cycle();
+    /// let drawn = [it.next(), it.next(), it.next()];
+    /// assert_eq!(drawn, [Ok(Some(150)), Ok(Some(7)), Ok(Some(150))]);
     /// ```
     ///
     /// <details><summary>Contract</summary>
@@ -3096,16 +2218,10 @@ pub trait FallibleIterator {
     /// It is one draw, and fails as `next` does. `next` may be called again. Over a list it leaves the rest.
     ///
     /// ```
-    /// # use fallible_iterator::FallibleIterator;
-    /// # use fallible_iterator::convert;
-    /// # pub fn count_behind_two(readings: Vec<Result<u32, u8>>) -> Result<usize, u8>
-    /// # {
-    /// let mut left = convert(readings.into_iter());
-    /// left.draw()?;
-    /// left.draw()?;
-    /// left.count()
-    /// # }
-    /// # fn main() { let _ = count_behind_two(vec![Ok(150), Ok(7), Ok(700), Ok(0), Ok(600)]); }
+    /// # use fallible_iterator::{FallibleIterator, convert};
+    /// let mut it = convert([Ok::<u32, u8>(150), Err(9)].into_iter());
+    /// let drawn = [it.draw(), it.draw(), it.draw()];
+    /// assert_eq!(drawn, [Ok(Some(150)), Err(9), Ok(None)]);
     /// ```
     ///
     /// <details><summary>Contract</summary>
@@ -3134,37 +2250,10 @@ pub trait FallibleIterator {
     /// Creating it draws nothing and never fails. `next` of the borrow returns and fails as that of the iterator does.
     ///
     /// ```
-    /// # use fallible_iterator::Convert;
-    /// # use fallible_iterator::DoubleEndedFallibleIterator;
-    /// # use fallible_iterator::FallibleIterator;
-    /// # use fallible_iterator::convert;
-    /// # use std::iter::Copied;
-    /// # use std::slice::Iter;
-    /// # pub struct Fail;
-    /// # impl Fail {
-    /// #     pub fn new(what: impl std::fmt::Display) -> Fail {
-    /// #         panic!("{what}")
-    /// #     }
-    /// # }
-    /// # impl<E: std::fmt::Debug> From<E> for Fail {
-    /// #     fn from(e: E) -> Fail {
-    /// #         panic!("{e:?}")
-    /// #     }
-    /// # }
-    /// # pub fn numbers<'a>(answers: &'a [Result<u32, u32>]) -> Convert<Copied<Iter<'a, Result<u32, u32>>>>
-    /// # {
-    /// #     convert(answers.iter().copied())
-    /// # }
-    /// # fn a_borrow_and_a_box_answer_as_what_they_hold() -> Result<(), Fail> {
-    /// let answers = [Ok(1), Err(2), Ok(3)];
-    /// let mut it = numbers(&answers);
-    /// assert_eq!(it.by_ref().next(), Ok(Some(1)));
-    /// assert_eq!(it.next(), Err(2));
-    /// assert_eq!(it.by_ref().count(), Ok(1));
-    /// assert_eq!(it.next(), Ok(None));
-    /// #     Ok(())
-    /// # }
-    /// # fn main() { let _ = a_borrow_and_a_box_answer_as_what_they_hold(); }
+    /// # use fallible_iterator::{FallibleIterator, convert};
+    /// let mut it = convert([Ok::<u32, u8>(150), Ok(7), Ok(700)].into_iter());
+    /// assert_eq!(it.by_ref().take(2).count(), Ok(2));
+    /// assert_eq!(it.next(), Ok(Some(700)));
     /// ```
     ///
     /// <details><summary>Contract</summary>
@@ -3190,20 +2279,15 @@ pub trait FallibleIterator {
     /// Creating it draws nothing. Its `next` draws once, and never fails. After a `None` it draws again.
     ///
     /// ```
-    /// # use fallible_iterator::FallibleIterator;
-    /// # use fallible_iterator::IteratorExt;
-    /// # use fallible_iterator::convert;
-    /// # pub fn failures(readings: Vec<Result<u32, u8>>) -> u32
-    /// # {
-    /// #     let mut failures: u32 = 0;
+    /// # use fallible_iterator::{FallibleIterator, convert};
+    /// let readings = [Ok::<u32, u8>(150), Err(9), Ok(700)];
+    /// let mut failures = 0u32;
     /// for reading in convert(readings.into_iter()).iterator() {
     ///     if reading.is_err() {
     ///         failures = failures.wrapping_add(1);
     ///     }
     /// }
-    /// #     failures
-    /// # }
-    /// # fn main() { let _ = failures(vec![Ok(150), Ok(7), Ok(700), Ok(0), Ok(600)]); }
+    /// assert_eq!(failures, 1);
     /// ```
     ///
     /// <details><summary>Contract</summary>
@@ -3230,13 +2314,13 @@ pub trait FallibleIterator {
     /// It panics at a failure.
     ///
     /// ```
-    /// # use fallible_iterator::FallibleIterator;
-    /// # use fallible_iterator::IteratorExt;
-    /// # pub fn number_of(numbers: Vec<u32>) -> usize
-    /// # {
-    /// numbers.into_iter().into_fallible().unwrap().count()
-    /// # }
-    /// # fn main() { let _ = number_of(vec![1, 2, 3]); }
+    /// # use fallible_iterator::{FallibleIterator, IteratorExt};
+    /// let readings = [150u32, 7].into_iter().into_fallible();
+    /// let mut sum = 0u32;
+    /// for reading in readings.unwrap() {
+    ///     sum = sum.wrapping_add(reading);
+    /// }
+    /// assert_eq!(sum, 157);
     /// ```
     ///
     /// <details><summary>Contract</summary>

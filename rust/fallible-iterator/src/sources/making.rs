@@ -11,16 +11,10 @@ use core::marker::PhantomData;
 /// For a std iterator that may go on after `None`, as `lines` of a reader, use `convert_fused`.
 ///
 /// ```
-/// # use fallible_iterator::FallibleIterator;
-/// # use fallible_iterator::convert;
-/// # pub fn above_100_of_ten(readings: Vec<Result<u32, u8>>) -> Result<usize, u8>
-/// # {
-/// convert(readings.into_iter())
-///     .take(10)
-///     .filter(|reading| Ok(*reading > 100))
-///     .count()
-/// # }
-/// # fn main() { let _ = above_100_of_ten(vec![Ok(150), Ok(7), Ok(700), Ok(0), Ok(600)]); }
+/// # use fallible_iterator::{FallibleIterator, convert};
+/// let mut it = convert([Ok::<u32, u8>(150), Err(9), Ok(700)].into_iter());
+/// let drawn = [it.next(), it.next(), it.next(), it.next()];
+/// assert_eq!(drawn, [Ok(Some(150)), Err(9), Ok(Some(700)), Ok(None)]);
 /// ```
 ///
 /// <details><summary>Contract</summary>
@@ -47,22 +41,21 @@ pub fn convert<T, E, I: Iterator<Item = Result<T, E>>>(it: I) -> Convert<I> {
 /// Creating it draws nothing. `next` draws the std iterator once. It fails with the value of an `Err`. It is fused: after the first `Ok(None)` the std iterator isn't drawn again.
 ///
 /// ```
-/// # use fallible_iterator::DoubleEndedFallibleIterator;
-/// # use fallible_iterator::FallibleIterator;
-/// # use fallible_iterator::convert_fused;
-/// # use std::io::BufRead;
-/// # #[derive(Debug, PartialEq)]
-/// # enum LineFault {
-/// #     Read,
-/// #     Number,
-/// # }
-/// # fn lines_written_out<R: BufRead>(reader: R) -> Result<u64, LineFault> {
-/// convert_fused(reader.lines())
-///     .map_err(|_| LineFault::Read)
-///     .map(|line| line.parse::<u64>().map_err(|_| LineFault::Number))
-///     .fold(0, |sum: u64, number: u64| Ok(sum.wrapping_add(number)))
-/// # }
-/// # fn main() { let _ = lines_written_out(b"20\n22\n".as_slice()); }
+/// # use fallible_iterator::{FallibleIterator, convert_fused, from_fn};
+/// # use std::iter;
+/// let mut polls = 0u32;
+/// let source = iter::from_fn(|| {
+///     polls = polls.wrapping_add(1);
+///     if polls == 2 {
+///         None
+///     } else {
+///         Some(Ok::<u32, u8>(polls))
+///     }
+/// });
+/// let mut it = convert_fused(source);
+/// assert_eq!([it.next(), it.next(), it.next()],
+///     [Ok(Some(1)), Ok(None), Ok(None)]
+/// );
 /// ```
 ///
 /// <details><summary>Contract</summary>
@@ -91,26 +84,9 @@ pub fn convert_fused<T, E, I: Iterator<Item = Result<T, E>>>(it: I) -> Convert<F
 /// Creating it draws nothing. It never fails. After the item each call returns `Ok(None)`.
 ///
 /// ```
-/// # use fallible_iterator::FallibleIterator;
-/// # use fallible_iterator::IteratorExt;
-/// # use fallible_iterator::once;
-/// # pub struct Fail;
-/// # impl Fail {
-/// #     pub fn new(what: impl std::fmt::Display) -> Fail {
-/// #         panic!("{what}")
-/// #     }
-/// # }
-/// # impl<E: std::fmt::Debug> From<E> for Fail {
-/// #     fn from(e: E) -> Fail {
-/// #         panic!("{e:?}")
-/// #     }
-/// # }
-/// # fn empty_once_and_once_err_end() -> Result<(), Fail> {
-/// let mut it = once::<u32, u32>(5);
+/// # use fallible_iterator::{FallibleIterator, once};
+/// let mut it = once::<u32, u8>(5);
 /// assert_eq!([it.next(), it.next()], [Ok(Some(5)), Ok(None)]);
-/// #     Ok(())
-/// # }
-/// # fn main() { let _ = empty_once_and_once_err_end(); }
 /// ```
 ///
 /// <details><summary>Contract</summary>
@@ -135,28 +111,9 @@ pub fn once<T, E>(value: T) -> Once<T, E> {
 /// Creating it draws nothing. It fails once. After the failure each call returns `Ok(None)`.
 ///
 /// ```
-/// # use fallible_iterator::FallibleIterator;
-/// # use fallible_iterator::IteratorExt;
-/// # use fallible_iterator::once_err;
-/// # pub struct Fail;
-/// # impl Fail {
-/// #     pub fn new(what: impl std::fmt::Display) -> Fail {
-/// #         panic!("{what}")
-/// #     }
-/// # }
-/// # impl<E: std::fmt::Debug> From<E> for Fail {
-/// #     fn from(e: E) -> Fail {
-/// #         panic!("{e:?}")
-/// #     }
-/// # }
-/// # fn empty_once_and_once_err_end() -> Result<(), Fail> {
-/// let mut it = once_err::<u32, u32>(4);
-/// assert_eq!([it.next(), it.next(), it.next()],
-///     [Err(4), Ok(None), Ok(None)]
-/// );
-/// #     Ok(())
-/// # }
-/// # fn main() { let _ = empty_once_and_once_err_end(); }
+/// # use fallible_iterator::{FallibleIterator, once_err};
+/// let mut it = once_err::<u32, u8>(9);
+/// assert_eq!([it.next(), it.next()], [Err(9), Ok(None)]);
 /// ```
 ///
 /// <details><summary>Contract</summary>
@@ -181,29 +138,15 @@ pub fn once_err<T, E>(error: E) -> OnceErr<T, E> {
 /// Creating it draws nothing and calls nothing. `next` calls the closure once, also after an `Ok(None)` or a failure. It fails as the closure does. It may have no end, and is drained through `take`.
 ///
 /// ```
-/// # use fallible_iterator::FallibleIterator;
-/// # use fallible_iterator::from_fn;
-/// # pub struct Fail;
-/// # impl Fail {
-/// #     pub fn new(what: impl std::fmt::Display) -> Fail {
-/// #         panic!("{what}")
-/// #     }
-/// # }
-/// # impl<E: std::fmt::Debug> From<E> for Fail {
-/// #     fn from(e: E) -> Fail {
-/// #         panic!("{e:?}")
-/// #     }
-/// # }
-/// # fn clones_of_from_fn_keep_its_count() -> Result<(), Fail> {
+/// # use fallible_iterator::{FallibleIterator, from_fn};
 /// let mut calls = 0u32;
-/// let mut it = from_fn(move || {
+/// let mut it = from_fn(|| -> Result<Option<u32>, u8> {
 ///     calls = calls.wrapping_add(1);
-///     Ok::<Option<u32>, u32>(Some(calls))
+///     if calls == 2 { Err(9) } else { Ok(Some(calls)) }
 /// });
-/// assert_eq!(it.next(), Ok(Some(1)));
-/// #     Ok(())
-/// # }
-/// # fn main() { let _ = clones_of_from_fn_keep_its_count(); }
+/// assert_eq!([it.next(), it.next(), it.next()],
+///     [Ok(Some(1)), Err(9), Ok(Some(3))]
+/// );
 /// ```
 ///
 /// <details><summary>Contract</summary>
@@ -228,26 +171,9 @@ pub fn from_fn<I, E, F: FnMut() -> Result<Option<I>, E>>(fun: F) -> FromFn<F> {
 /// Creating it draws nothing. It never fails.
 ///
 /// ```
-/// # use fallible_iterator::FallibleIterator;
-/// # use fallible_iterator::IteratorExt;
-/// # use fallible_iterator::empty;
-/// # pub struct Fail;
-/// # impl Fail {
-/// #     pub fn new(what: impl std::fmt::Display) -> Fail {
-/// #         panic!("{what}")
-/// #     }
-/// # }
-/// # impl<E: std::fmt::Debug> From<E> for Fail {
-/// #     fn from(e: E) -> Fail {
-/// #         panic!("{e:?}")
-/// #     }
-/// # }
-/// # fn empty_once_and_once_err_end() -> Result<(), Fail> {
-/// let mut it = empty::<u32, u32>();
+/// # use fallible_iterator::{FallibleIterator, empty};
+/// let mut it = empty::<u32, u8>();
 /// assert_eq!([it.next(), it.next()], [Ok(None), Ok(None)]);
-/// #     Ok(())
-/// # }
-/// # fn main() { let _ = empty_once_and_once_err_end(); }
 /// ```
 ///
 /// <details><summary>Contract</summary>
@@ -270,49 +196,9 @@ pub fn empty<T, E>() -> Empty<T, E> {
 /// Creating it draws nothing. The value stays, and the next call clones it again. It may have no end, and is drained through `take`.
 ///
 /// ```
-/// # use fallible_iterator::FallibleIterator;
-/// # use fallible_iterator::IteratorExt;
-/// # use fallible_iterator::repeat;
-/// # use std::fmt::Debug;
-/// # use fallible_iterator::memory::AllocError;
-/// # pub struct Fail;
-/// # impl Fail {
-/// #     pub fn new(what: impl std::fmt::Display) -> Fail {
-/// #         panic!("{what}")
-/// #     }
-/// # }
-/// # impl<E: std::fmt::Debug> From<E> for Fail {
-/// #     fn from(e: E) -> Fail {
-/// #         panic!("{e:?}")
-/// #     }
-/// # }
-/// # #[derive(Clone, Debug, PartialEq, Eq)]
-/// # pub enum TestError {
-/// #     Number(u32),
-/// #     Memory,
-/// # }
-/// # impl From<AllocError> for TestError {
-/// #     fn from(_refused: AllocError) -> TestError {
-/// #         TestError::Memory
-/// #     }
-/// # }
-/// # pub fn expect_collected<T, E>(made: Result<Vec<T>, E>, expected: &[T]) -> Result<(), Fail>
-/// # where
-/// #     T: Debug + PartialEq,
-/// #     E: Debug,
-/// # {
-/// #     let items = made?;
-/// #     if items.as_slice() == expected {
-/// #         Ok(())
-/// #     } else {
-/// #         Err(Fail::new(format_args!("collected {items:?}, and not {expected:?}")))
-/// #     }
-/// # }
-/// # fn repeat_and_repeat_err_go_on() -> Result<(), Fail> {
-/// let it = repeat::<u32, TestError>(5).take(2);
-/// expect_collected(it.collect(), &[5, 5])
-/// # }
-/// # fn main() { let _ = repeat_and_repeat_err_go_on(); }
+/// # use fallible_iterator::{FallibleIterator, repeat};
+/// let mut it = repeat::<u32, u8>(5);
+/// assert_eq!([it.next(), it.next()], [Ok(Some(5)), Ok(Some(5))]);
 /// ```
 ///
 /// <details><summary>Contract</summary>

@@ -11,8 +11,10 @@ use fallible_iterator::fallible_core::{DoubleEndedFallibleIterator, FallibleIter
 /// Requires that `next` may be called.
 ///
 /// ```
-/// let mut rows = Rows::new(b"1\nx\n3\n".as_slice());
-/// let drawn = answers(&mut rows, 5)?;
+/// let mut it = convert([Ok::<u32, u8>(150), Err(9)].into_iter());
+/// let drawn = answers(&mut it, 3)?;
+/// let expected = [Answer::Item(150), Answer::Failure(9), Answer::End];
+/// assert_eq!(drawn.as_slice(), expected.as_slice());
 /// ```
 pub fn answers<I: FallibleIterator>(
     it: &mut I,
@@ -33,8 +35,10 @@ pub fn answers<I: FallibleIterator>(
 /// Requires that `next` and `next_back` may be called.
 ///
 /// ```
-/// let mut it = convert(readings.into_iter());
-/// answers_at(&mut it, &[Side::Front, Side::Back, Side::Back])
+/// let mut it = convert([Ok::<u32, u8>(1), Ok(2), Err(9)].into_iter());
+/// let drawn = answers_at(&mut it, &[Side::Back, Side::Front, Side::Back])?;
+/// let expected = [Answer::Failure(9), Answer::Item(1), Answer::Item(2)];
+/// assert_eq!(drawn.as_slice(), expected.as_slice());
 /// ```
 pub fn answers_at<I: DoubleEndedFallibleIterator>(
     it: &mut I,

@@ -11,26 +11,13 @@ impl<I: FallibleIterator> Peekable<I> {
     /// The reference borrows the whole iterator while it is used.
     ///
     /// ```
-    /// # use fallible_iterator::Convert;
-    /// # use fallible_iterator::DoubleEndedFallibleIterator;
-    /// # use fallible_iterator::FallibleIterator;
-    /// # use fallible_iterator::IteratorExt;
-    /// # use fallible_iterator::convert;
-    /// # use std::iter::Copied;
-    /// # use std::slice::Iter;
-    /// # pub fn numbers<'a>(answers: &'a [Result<u32, u32>]) -> Convert<Copied<Iter<'a, Result<u32, u32>>>>
-    /// # {
-    /// #     convert(answers.iter().copied())
-    /// # }
-    /// # fn peek_draws_once() {
-    /// let answers = [Ok(1), Ok(2), Ok(3)];
-    /// let mut it = numbers(&answers);
-    /// let mut ahead = (&mut it).peekable();
-    /// assert_eq!(ahead.peek(), Ok(Some(&1)));
-    /// assert_eq!(ahead.peek(), Ok(Some(&1)));
-    /// assert_eq!(it.next(), Ok(Some(2)));
-    /// # }
-    /// # fn main() { let _ = peek_draws_once(); }
+    /// # use fallible_iterator::{FallibleIterator, convert};
+    /// let mut it = convert([Ok::<u32, u8>(150), Err(9)].into_iter()).peekable();
+    /// assert_eq!(it.peek(), Ok(Some(&150)));
+    /// assert_eq!(it.peek(), Ok(Some(&150)));
+    /// assert_eq!(it.next(), Ok(Some(150)));
+    /// assert_eq!(it.peek(), Err(9));
+    /// assert_eq!(it.peek(), Ok(None));
     /// ```
     ///
     /// <details><summary>Contract</summary>
@@ -59,17 +46,10 @@ impl<I: FallibleIterator> Peekable<I> {
     /// Draws, errors and what is buffered: as `peek`. The iterator may be used again.
     ///
     /// ```
-    /// # use fallible_iterator::FallibleIterator;
-    /// # use fallible_iterator::convert;
-    /// # pub fn first_two(readings: Vec<Result<u32, u8>>) -> Result<(Option<u32>, Option<u32>), u8>
-    /// # {
-    /// let mut ahead = convert(readings.into_iter()).peekable();
-    /// let first = ahead.peek_copied()?;
-    /// ahead.draw()?;
-    /// let second = ahead.look(|reading| *reading)?;
-    /// #     Ok((first, second))
-    /// # }
-    /// # fn main() { let _ = first_two(vec![Ok(150), Ok(7), Ok(700), Ok(0), Ok(600)]); }
+    /// # use fallible_iterator::{FallibleIterator, convert};
+    /// let mut it = convert([Ok::<u32, u8>(150), Ok(7)].into_iter()).peekable();
+    /// assert_eq!(it.look(|reading| *reading > 100), Ok(Some(true)));
+    /// assert_eq!(it.next(), Ok(Some(150)));
     /// ```
     ///
     /// <details><summary>Contract</summary>
@@ -105,16 +85,10 @@ impl<I: FallibleIterator> Peekable<I> {
     /// Draws, errors and what is buffered: as `peek`. The iterator may be used again.
     ///
     /// ```
-    /// # use fallible_iterator::FallibleIterator;
-    /// # pub fn first_and_count<I: FallibleIterator<Item = u32>>(
-    /// #     it: I,
-    /// # ) -> Result<(Option<u32>, usize), I::Error>
-    /// # {
-    /// let mut ahead = it.peekable();
-    /// let first = ahead.peek_copied()?;
-    /// Ok((first, ahead.count()?))
-    /// # }
-    /// # fn main() { let _ = first_and_count(fallible_iterator::convert::<u32, u8, _>([Ok(150), Ok(7), Ok(700), Ok(0), Ok(600)].into_iter())); }
+    /// # use fallible_iterator::{FallibleIterator, convert};
+    /// let mut it = convert([Ok::<u32, u8>(150), Ok(7)].into_iter()).peekable();
+    /// assert_eq!(it.peek_copied(), Ok(Some(150)));
+    /// assert_eq!(it.next(), Ok(Some(150)));
     /// ```
     ///
     /// <details><summary>Contract</summary>
@@ -147,30 +121,10 @@ impl<I: FallibleIterator> Peekable<I> {
     /// Draws, errors and what is buffered: as `peek`. The iterator may be used again.
     ///
     /// ```
-    /// # use fallible_iterator::Answer::Item;
-    /// # use fallible_iterator::FallibleIterator;
-    /// # use fallible_iterator::IteratorExt;
-    /// # use fallible_iterator::Peekable;
-    /// # fn take_looked_at<I: FallibleIterator>(it: &mut Peekable<I>) -> Result<Option<I::Item>, I::Error>
-    /// # {
-    /// match it.fill() {
-    ///     Ok(()) => {}
-    ///     Err(e) => return Err(e),
-    /// }
-    /// let is_item = (*it).held().is_some();
-    /// #     match it.next() {
-    /// #         Ok(Some(x)) => {
-    /// #             assert!(is_item);
-    /// #             Ok(Some(x))
-    /// #         }
-    /// #         Ok(None) => {
-    /// #             assert!(!is_item);
-    /// #             Ok(None)
-    /// #         }
-    /// #         Err(_) => unreachable!(),
-    /// #     }
-    /// # }
-    /// # fn main() { let _ = take_looked_at(&mut fallible_iterator::convert::<u32, u8, _>([Ok(150), Ok(7), Ok(700), Ok(0), Ok(600)].into_iter()).peekable()); }
+    /// # use fallible_iterator::{FallibleIterator, convert};
+    /// let mut it = convert([Ok::<u32, u8>(150), Err(9)].into_iter()).peekable();
+    /// assert_eq!(it.fill(), Ok(()));
+    /// assert_eq!(it.held(), Some(&150));
     /// ```
     ///
     /// <details><summary>Contract</summary>
@@ -209,30 +163,10 @@ impl<I: FallibleIterator> Peekable<I> {
     /// It draws nothing and never fails. What is buffered stays so.
     ///
     /// ```
-    /// # use fallible_iterator::Answer::Item;
-    /// # use fallible_iterator::FallibleIterator;
-    /// # use fallible_iterator::IteratorExt;
-    /// # use fallible_iterator::Peekable;
-    /// # fn take_looked_at<I: FallibleIterator>(it: &mut Peekable<I>) -> Result<Option<I::Item>, I::Error>
-    /// # {
-    /// #     match it.fill() {
-    /// #         Ok(()) => {}
-    /// #         Err(e) => return Err(e),
-    /// #     }
-    /// let is_item = (*it).held().is_some();
-    /// #     match it.next() {
-    /// #         Ok(Some(x)) => {
-    /// #             assert!(is_item);
-    /// #             Ok(Some(x))
-    /// #         }
-    /// #         Ok(None) => {
-    /// #             assert!(!is_item);
-    /// #             Ok(None)
-    /// #         }
-    /// #         Err(_) => unreachable!(),
-    /// #     }
-    /// # }
-    /// # fn main() { let _ = take_looked_at(&mut fallible_iterator::convert::<u32, u8, _>([Ok(150), Ok(7), Ok(700), Ok(0), Ok(600)].into_iter()).peekable()); }
+    /// # use fallible_iterator::{FallibleIterator, convert};
+    /// let mut it = convert([Ok::<u32, u8>(150), Err(9)].into_iter()).peekable();
+    /// assert_eq!(it.fill(), Ok(()));
+    /// assert_eq!(it.held(), Some(&150));
     /// ```
     ///
     /// <details><summary>Contract</summary>

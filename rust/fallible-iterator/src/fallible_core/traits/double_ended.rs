@@ -13,14 +13,10 @@ pub trait DoubleEndedFallibleIterator: FallibleIterator {
     /// It is one draw, from the back. After that the iterator may be used again, from either end.
     ///
     /// ```
-    /// # use fallible_iterator::DoubleEndedFallibleIterator;
-    /// # use fallible_iterator::FallibleIterator;
-    /// # use fallible_iterator::convert;
-    /// # pub fn last_drawn(readings: Vec<Result<u32, u8>>) -> Result<Option<u32>, u8>
-    /// # {
-    /// convert(readings.into_iter()).next_back()
-    /// # }
-    /// # fn main() { let _ = last_drawn(vec![Ok(150), Ok(7), Ok(700), Ok(0), Ok(600)]); }
+    /// # use fallible_iterator::{DoubleEndedFallibleIterator, FallibleIterator, convert};
+    /// let mut it = convert([Ok::<u32, u8>(1), Ok(2), Err(9)].into_iter());
+    /// let drawn = [it.next_back(), it.next(), it.next_back(), it.next_back()];
+    /// assert_eq!(drawn, [Err(9), Ok(Some(1)), Ok(Some(2)), Ok(None)]);
     /// ```
     ///
     /// <details><summary>Contract</summary>
@@ -98,27 +94,14 @@ pub trait DoubleEndedFallibleIterator: FallibleIterator {
     /// Precondition, which is not checked: the iterator is finite.
     ///
     /// ```
-    /// # use fallible_iterator::Convert;
-    /// # use fallible_iterator::DoubleEndedFallibleIterator;
-    /// # use fallible_iterator::FallibleIterator;
-    /// # use fallible_iterator::convert;
-    /// # use std::iter::Copied;
-    /// # use std::slice::Iter;
-    /// # pub fn numbers<'a>(answers: &'a [Result<u32, u32>]) -> Convert<Copied<Iter<'a, Result<u32, u32>>>>
-    /// # {
-    /// #     convert(answers.iter().copied())
-    /// # }
-    /// # pub fn add_up(sum: u32, x: u32) -> Result<u32, u32> {
-    /// #     Ok(sum.wrapping_add(x))
-    /// # }
-    /// # fn try_rfold_fails_with_the_last_failure() {
-    /// let answers = [Ok(1), Err(2), Ok(3), Ok(4)];
-    /// let mut it = numbers(&answers);
-    /// let failed: Result<u32, u32> = it.try_rfold(0, add_up);
-    /// assert_eq!(failed, Err(2));
-    /// assert_eq!(it.next_back(), Ok(Some(1)));
-    /// # }
-    /// # fn main() { let _ = try_rfold_fails_with_the_last_failure(); }
+    /// # use fallible_iterator::{DoubleEndedFallibleIterator, FallibleIterator, convert};
+    /// let mut it = convert([Ok::<u8, &str>(7), Ok(100), Ok(100), Ok(100)].into_iter());
+    /// let sum: Result<u8, &str> = it.try_rfold(
+    ///     0,
+    ///     |sum: u8, x: u8| sum.checked_add(x).ok_or("too large"),
+    /// );
+    /// assert_eq!(sum, Err("too large"));
+    /// assert_eq!(it.next_back(), Ok(Some(7)));
     /// ```
     ///
     /// <details><summary>Contract</summary>
@@ -163,25 +146,12 @@ pub trait DoubleEndedFallibleIterator: FallibleIterator {
     /// Draws and errors: as `try_rfold`, but no failure is converted.
     ///
     /// ```
-    /// # use fallible_iterator::Convert;
-    /// # use fallible_iterator::DoubleEndedFallibleIterator;
-    /// # use fallible_iterator::FallibleIterator;
-    /// # use fallible_iterator::convert;
-    /// # use std::iter::Copied;
-    /// # use std::slice::Iter;
-    /// # pub fn numbers<'a>(answers: &'a [Result<u32, u32>]) -> Convert<Copied<Iter<'a, Result<u32, u32>>>>
-    /// # {
-    /// #     convert(answers.iter().copied())
-    /// # }
-    /// # pub fn put_behind(digits: u32, x: u32) -> Result<u32, u32> {
-    /// #     Ok(digits.wrapping_mul(10).wrapping_add(x))
-    /// # }
-    /// # fn rfold_meets_the_last_item_first() {
-    /// let answers = [Ok(1), Ok(2), Ok(3)];
-    /// let it = numbers(&answers);
-    /// assert_eq!(it.rfold(0, put_behind), Ok(321));
-    /// # }
-    /// # fn main() { let _ = rfold_meets_the_last_item_first(); }
+    /// # use fallible_iterator::{DoubleEndedFallibleIterator, FallibleIterator, convert};
+    /// let digits = [Ok::<u32, u8>(1), Ok(2), Ok(3)];
+    /// let read = convert(digits.into_iter()).rfold(0, |number: u32, digit: u32| {
+    ///     Ok(number.wrapping_mul(10).wrapping_add(digit))
+    /// });
+    /// assert_eq!(read, Ok(321));
     /// ```
     ///
     /// <details><summary>Contract</summary>
@@ -212,17 +182,15 @@ pub trait DoubleEndedFallibleIterator: FallibleIterator {
     /// It is one draw, and fails as `next` does. The iterator may be used again, from either end, where `draw` says it of the front alone. Of what is listed from both ends it leaves the rest.
     ///
     /// ```
-    /// # use fallible_iterator::DoubleEndedFallibleIterator;
-    /// # use fallible_iterator::FallibleIterator;
-    /// # pub fn last_but_one_of<I: DoubleEndedFallibleIterator>(
-    /// #     it: &mut I,
-    /// # ) -> Result<Option<I::Item>, I::Error>
-    /// # {
-    /// it.draw_back()?;
-    /// it.draw_front()?;
-    /// it.draw_back()
-    /// # }
-    /// # fn main() { let _ = last_but_one_of(&mut fallible_iterator::convert::<u32, u8, _>([Ok(150), Ok(7), Ok(700), Ok(0), Ok(600)].into_iter())); }
+    /// # use fallible_iterator::{DoubleEndedFallibleIterator, FallibleIterator, convert};
+    /// let mut it = convert([Ok::<u32, u8>(1), Ok(2), Err(9)].into_iter());
+    /// let drawn = [
+    ///     it.draw_back(),
+    ///     it.draw_front(),
+    ///     it.draw_back(),
+    ///     it.draw_back(),
+    /// ];
+    /// assert_eq!(drawn, [Err(9), Ok(Some(1)), Ok(Some(2)), Ok(None)]);
     /// ```
     ///
     /// <details><summary>Contract</summary>
@@ -252,19 +220,15 @@ pub trait DoubleEndedFallibleIterator: FallibleIterator {
     /// It is one draw, from the back, and fails as `next_back` does. The iterator may be used again, from either end. Of what is listed from both ends it leaves what stands before it.
     ///
     /// ```
-    /// # use fallible_iterator::DoubleEndedFallibleIterator;
-    /// # use fallible_iterator::FallibleIterator;
-    /// # use fallible_iterator::convert;
-    /// # use std::io::BufRead;
-    /// # fn last_but_one_written_out(readings: Vec<Result<u32, u8>>) -> Result<Option<u64>, u8> {
-    /// let mut it = convert(readings.into_iter())
-    ///     .map(|reading| Ok(u64::from(reading) * 2))
-    ///     .filter(|double| Ok(*double > 1000));
-    /// it.draw_back()?;
-    /// it.draw_front()?;
-    /// it.draw_back()
-    /// # }
-    /// # fn main() { let _ = last_but_one_written_out(vec![Ok(150), Ok(7), Ok(700), Ok(0), Ok(600)]); }
+    /// # use fallible_iterator::{DoubleEndedFallibleIterator, FallibleIterator, convert};
+    /// let mut it = convert([Ok::<u32, u8>(1), Ok(2), Err(9)].into_iter());
+    /// let drawn = [
+    ///     it.draw_back(),
+    ///     it.draw_front(),
+    ///     it.draw_back(),
+    ///     it.draw_back(),
+    /// ];
+    /// assert_eq!(drawn, [Err(9), Ok(Some(1)), Ok(Some(2)), Ok(None)]);
     /// ```
     ///
     /// <details><summary>Contract</summary>
