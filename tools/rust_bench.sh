@@ -4,7 +4,7 @@
 #
 #     tools/rust_bench.sh [CRATE_FOLDER [ORIGINAL_FOLDER]]
 #
-# CRATE_FOLDER is the folder of our crate; without it tools/to_rust makes one. ORIGINAL_FOLDER is that of the original;
+# CRATE_FOLDER is the folder of our crate, else rust/fallible-iterator. ORIGINAL_FOLDER is that of the original;
 # without it Debian's package is taken, from /usr/share/cargo/registry, or fetched by apt and not installed.
 # It prints for each chain the instructions for each number, by the loop, by a fold and by `next`: those of 200,000
 # numbers less those of none, by valgrind's callgrind. The status is 1 where an answer differs from the loop's.
@@ -12,12 +12,8 @@ set -eu
 repository=$(cd "$(dirname "$0")/.." && pwd)
 work=$(mktemp -d)
 trap 'rm -rf "$work"' EXIT
-crate=${1:-}
+crate=${1:-$repository/rust/fallible-iterator}
 original=${2:-}
-if [ -z "$crate" ]; then
-    "$repository/tools/to_rust" "$work/made" >/dev/null
-    crate=$work/made/fallible-iterator
-fi
 if [ -z "$original" ] && ! ls -d /usr/share/cargo/registry/fallible-iterator-[0-9]* >/dev/null 2>&1; then
     (cd "$work" && apt-get download librust-fallible-iterator-dev >/dev/null 2>&1 && dpkg-deb -x librust-*.deb debian) ||
         { echo "apt-get download finds no librust-fallible-iterator-dev: run apt-get update" >&2; exit 2; }

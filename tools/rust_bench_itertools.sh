@@ -4,7 +4,7 @@
 #
 #     tools/rust_bench_itertools.sh [MADE_FOLDER]
 #
-# MADE_FOLDER is what tools/to_rust wrote; without it that is done. `itertools` and `either` are Debian's packages, from
+# MADE_FOLDER is what tools/to_rust wrote, else rust/. `itertools` and `either` are Debian's packages, from
 # /usr/share/cargo/registry, or fetched by apt and not installed. It prints for each call the instructions for each number, by
 # a fold and by `next`: those of 200,000 numbers less those of none, by valgrind's callgrind. The status is 1 where an
 # answer differs.
@@ -12,11 +12,7 @@ set -eu
 repository=$(cd "$(dirname "$0")/.." && pwd)
 work=$(mktemp -d)
 trap 'rm -rf "$work"' EXIT
-made=${1:-}
-if [ -z "$made" ]; then
-    "$repository/tools/to_rust" "$work/made" >/dev/null
-    made=$work/made
-fi
+made=${1:-$repository/rust}
 registry=/usr/share/cargo/registry
 if ! ls -d $registry/itertools-[0-9]* >/dev/null 2>&1; then
     (cd "$work" && apt-get download librust-itertools-dev librust-either-dev >/dev/null 2>&1 &&

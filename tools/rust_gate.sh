@@ -1,9 +1,10 @@
 #!/usr/bin/env bash
-# Makes both Rust crates, builds them in each set of features with no warning, and runs their tests and doc tests.
+# Makes both Rust crates, compares them with those in rust/, builds them in each set of features with no warning, lints and
+# documents them with none, and runs their tests and doc tests.
 set -eu
 cd "$(dirname "$0")/.."
-if ! command -v cargo > /dev/null; then
-    echo "rust: no cargo is here, so the Rust crates are not built"
+if ! command -v cargo > /dev/null || ! command -v rustfmt > /dev/null; then
+    echo "rust: no cargo or no rustfmt is here, so the Rust crates are not built"
     exit 0
 fi
 folder=$(mktemp -d)
@@ -24,6 +25,10 @@ if ! sed -n '/<!-- to_rust --table -->/,/<!-- end -->/p' docs/RUST.md | sed '1d;
     echo "rust: the table of docs/RUST.md is not what tools/to_rust --table prints" >&2
     exit 1
 fi
+if ! diff -rq -x target -x Cargo.lock rust "$folder/out" >&2; then
+    echo "rust: rust/ is not what tools/to_rust writes; this mends it: tools/to_rust rust" >&2
+    exit 1
+fi
 export CARGO_TARGET_DIR=$folder/target CARGO_INCREMENTAL=0 RUSTFLAGS="-D warnings" RUSTDOCFLAGS="-D warnings"
 crates=("$folder/out/fallible-iterator/Cargo.toml" "$folder/out/fallible-itertools/Cargo.toml")
 for crate in "${crates[@]}"; do
@@ -31,12 +36,11 @@ for crate in "${crates[@]}"; do
         quietly cargo build --offline --manifest-path "$crate" --no-default-features --features "$features"
     done
 done
-quietly cargo test --offline --manifest-path "$folder/out/Cargo.toml" --all-features --tests
-# In edition 2024 the doc tests are compiled as one.
-if rustc --edition 2024 --print sysroot > /dev/null 2>&1; then
-    sed -i 's/^edition = .*/edition = "2024"/; /^rust-version/d' "${crates[@]}"
-fi
-quietly cargo test --offline --manifest-path "$folder/out/Cargo.toml" --all-features --doc
+both=(--offline --manifest-path "$folder/out/Cargo.toml" --all-features)
+quietly cargo fmt --all --check --manifest-path "$folder/out/Cargo.toml"
+quietly cargo clippy "${both[@]}" --all-targets
+quietly cargo doc "${both[@]}" --no-deps
+quietly cargo test "${both[@]}"
 awk '/^test result/ { n += $4 } END { print "rust: " n " tests and doc tests pass" }' "$folder/log"
 tail -n 3 "$folder/said" | head -n 2
 rustc --version

@@ -49,6 +49,16 @@ REASONS = [
     (r"sorted\.rs", r"sorted_items(_by_key)?", "changed", "std's sort is never refused"),
     (r"traits\.rs", r"FallibleItertools\.(join|chunks|chunk_by|sorted|sorted_by_key|unique)", "changed",
      "no allocator is passed, and the refusal's arm has no value"),
+    (r"errors\.rs", r"Display for NotOne\.fmt", "new", "what the error says"),
+    (r"by_drive\.rs", r"try_fold|try_rfold|find", "new", "in each impl that writes a hidden fold, by a macro: they call it"),
+    (r".*\.rs", r".* for \w+\.(count|last)", "new", "by the source's own, as the original's"),
+    (r"fallible_core/traits(/double_ended)?\.rs", r"\w+\.(drive|drive_back|drive_find)", "changed",
+     "by the type's own `try_fold`, `try_rfold` and `find`"),
+    (r"fallible_core/traits(/double_ended)?\.rs", r"\w+\.(try_fold|try_rfold)", "new",
+     "the loop over `next`, which a caller's type may replace"),
+    (r"fallible_core/traits\.rs", r"Stop\.from|From for Stop\.from", "new", "why such a fold stopped"),
+    (r"fallible_core/traits\.rs", r"FallibleIterator\.find", "changed", "the proved default of `drive_find`"),
+    (r"fallible_core/traits\.rs", r"FallibleIterator\.nth", "left out", "it only calls what is now `nth`"),
 ]
 
 

@@ -120,8 +120,8 @@ class Docs:
             k += 1
         if clauses:
             proved = "As it is proved, " + "where its signature is another, " * (name in OTHER)
-            blocks.append(["# Contract", "", proved + "in [these words](crate::words):",
-                           "", "```text"] + [x for c in clauses for x in clause(c)] + ["```"])
+            blocks.append(["<details><summary>Contract</summary>", "", proved + "in [these words](crate::words):",
+                           "", "```text"] + [x for c in clauses for x in clause(c)] + ["```", "</details>"])
         blocks = [b for b in blocks if any(b)]
         return [x for k, b in enumerate(blocks) for x in ([""] * (k > 0) + b)]
 

@@ -23,6 +23,13 @@ ARGUMENTS = [
     (r"R", 'b"20\\n22\\n".as_slice()'),
     (r"[ui]\d+", "5"),
 ]
+# The tests whose bodies are examples as they stand.
+SHOWN = "release/examples/src/"
+# What only some examples import, by the calls that need it.
+NEEDS = {
+    "IteratorExt": r"\binto_fallible\b|\btranspose_into_fallible\b",
+    "DoubleEndedFallibleIterator": r"\bnext_back\b|\brev\b|\bt?r?y?_?rfold\b|\bdraw_(back|front)\b",
+}
 TRAITS = re.compile(r"^(Write|Read|BufRead|PeekingNext|Hash|(DoubleEnded)?Fallible\w+|\w+Ext)$")
 
 
@@ -63,6 +70,8 @@ class Pool:
             place = str(path.relative_to(top))
             if POOL.match(place):
                 self.raw[place] = path.read_text(encoding="utf-8")
+        for path in sorted((top / SHOWN).glob("*.rt.txt")):
+            self.raw[SHOWN + path.name] = path.read_text(encoding="utf-8")
 
     def load(self, place):
         """A file's items, by name, and its `impl` blocks, by type."""
@@ -190,6 +199,8 @@ def doc_test(pool, lines):
         return None
     main = "\n".join(parts[0] + want + parts[1])
     items, imports = pool.closure(place, name, main)
+    if place.startswith(SHOWN):
+        return shown_alone(want, imports), True
     run, every = call(main, name), repr(items)
     before = ["use %s;" % p for p in sorted(imports)]
     if re.search(r"\bAllocError\b", every):
@@ -199,6 +210,19 @@ def doc_test(pool, lines):
     before += [x for t in sum(items[1:], []) for x in t.split("\n")] + parts[0]
     after = parts[1] + ["fn main() { %s }" % (run or "")]
     return hidden(before) + want + hidden(after), run is not None
+
+
+def shown_alone(want, imports):
+    """A test of `release/examples`: its lines, below what they import."""
+    # No call of Rust asks its failures to tell of memory.
+    want = [re.sub(r"\bAllocError\b", "u8", x) for x in want]
+    text = "\n".join(want)
+    paths = sorted(p for p in imports if re.search(NEEDS.get(p.split("::")[-1], ""), text) and not p.endswith("::AllocError"))
+    hub = sorted(p.split("::")[1] for p in paths if re.fullmatch(r"fallible_iterator::\w+", p))
+    before = ["use fallible_iterator::{%s};" % ", ".join(hub)] if hub else []
+    before += ["use %s;" % p for p in paths if not re.fullmatch(r"fallible_iterator::\w+", p)]
+    after = ["Ok::<(), u8>(())"] if "?" in text else []
+    return hidden(before) + want + hidden(after)
 
 
 def hidden(lines):

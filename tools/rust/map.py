@@ -15,8 +15,9 @@ HEAD = """#![doc = include_str!("../README.md")]
 #![forbid(unsafe_code)]
 #![warn(missing_docs)]
 // The bodies stay as they are proved.
-#![allow(clippy::manual_map, clippy::multiple_bound_locations, clippy::question_mark)]
-#![allow(clippy::single_match, clippy::type_complexity, clippy::wrong_self_convention)]
+#![allow(clippy::manual_map, clippy::mem_replace_option_with_some, clippy::multiple_bound_locations)]
+#![allow(clippy::needless_match, clippy::question_mark, clippy::single_match)]
+#![allow(clippy::type_complexity, clippy::wrong_self_convention)]
 
 #[cfg(feature = "alloc")]
 extern crate alloc;
@@ -74,17 +75,18 @@ ITERATOR = [
     (r"fallible_core/bridges/unwrap\.rs", r"(core::iter::Iterator for Unwrap<I>) \{",
      r"\1\nwhere\n    I::Error: core::fmt::Debug,\n{", 1),
     (r"fallible_core/joining/flat_map\.rs", r"^ *#\[derive_where\(.*\)\]\n", "", 3),
+    # A marker that asks nothing of `U` for `Send` and `Sync`.
+    (r"fallible_core/joining/flat_map\.rs", r"PhantomData<U>", "PhantomData<fn() -> U>", 1),
     # Features.
     (r"fallible_core/traits\.rs", r"^mod boxed;", '#[cfg(feature = "alloc")]\nmod boxed;', 1),
     (r"fallible_core/traits/boxed\.rs", r"^use crate::fallible_core::traits::Fall",
      "use alloc::boxed::Box;\nuse crate::fallible_core::traits::Fall", 1),
     (r"sources/making\.rs", r"^use crate::fallible_core::FallibleIterator;\n", "", 1),
     (r"lib\.rs", r"\A(?://!.*\n)+\n",
-     HEAD + "pub mod fallible_contract;\npub mod fallible_core;\npub mod memory;\n", 1),
+     HEAD + "mod by_drive;\npub mod fallible_contract;\npub mod fallible_core;\npub mod memory;\n", 1),
     # What users need not see.
     (r"lib\.rs", r"^pub mod (?!prelude)\w+;", r"#[doc(hidden)]\n\g<0>", 7),
-    (r"lib\.rs", r"^pub use .*(?:answers::|searching::Test;|\{Collect, Fault|Number;)", r"#[doc(hidden)]\n\g<0>", 4),
-    (r"fallible_core/traits\.rs", r"^    fn (?:number|drive_\w+)\b", r"    #[doc(hidden)]\n\g<0>", 5),
+    (r"lib\.rs", r"^pub use .*(?:answers::|folds::Turn;|searching::Test;|\{Collect, Fault|Number;)", r"#[doc(hidden)]\n\g<0>", 5),
 ]
 
 GROUPS = r"(?:chunks|chunk_by)\.rs"
@@ -173,7 +175,7 @@ ITERTOOLS = [
      r'#[cfg(feature = "std")]\n\g<0>', 5),
     (r"traits\.rs", r"^    fn (?:chunks|chunk_by|join|sorted|sorted_by_key)\b", r'    #[cfg(feature = "alloc")]\n\g<0>', 5),
     (r"traits\.rs", r"^    fn (?:counts|into_group_map|unique)\b", r'    #[cfg(feature = "std")]\n\g<0>', 3),
-    (r"lib\.rs", r"\A(?://!.*\n)+\n", HEAD, 1),
+    (r"lib\.rs", r"\A(?://!.*\n)+\n", HEAD + "mod errors;\n", 1),
     (r"lib\.rs", r"^pub mod \w+;", r"#[doc(hidden)]\n\g<0>", 32),
     (r"(?:batch|chunks|counts|group_map|join|partition_map)\.rs", r"\A(//.*\n\n)", r"\1use fallible_iterator::memory::AllocError;\n", 6),
 ]

@@ -141,7 +141,7 @@ def functions(s):
             end = head_end(ts, k)
             labels.append(label_of(ts[k:end]))
             k = end + 1
-        elif word == "fn" and ts[k].kind == "word":
+        elif word == "fn" and ts[k].kind == "word" and ts[k + 1].kind == "word":
             end = head_end(ts, k)
             clauses = [t.text for t in ts[k:end] if t.kind == "clause"]
             last = close(ts, end) if ts[end].text == "{" else end + 1

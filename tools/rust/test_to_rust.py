@@ -15,7 +15,7 @@ class Refusals(unittest.TestCase):
     def setUp(self):
         self.folder = Path(tempfile.mkdtemp())
         self.tree, self.out = self.folder / "tree", self.folder / "out"
-        for path in TOP.glob("crates/*/src"):
+        for path in (*TOP.glob("crates/*/src"), TOP / "release/examples/src"):
             shutil.copytree(path, self.tree / path.relative_to(TOP))
         shutil.copy(TOP / "LICENSE", self.tree)
         (self.tree / "docs").mkdir()
@@ -74,13 +74,17 @@ class Refusals(unittest.TestCase):
         self.refused("holds letter")
         self.assertEqual([p.name for p in self.out.iterdir()], ["letter"])
 
-    def test_the_folder_was_changed(self):
+    def test_the_folder_is_written_anew(self):
         self.assertEqual(self.run_it()[0], 0)
         (self.out / "fallible-iterator/Cargo.lock").write_text("of cargo")
+        readme = self.out / "fallible-iterator/README.md"
+        written = readme.read_text()
+        readme.write_text("changed")
         self.assertEqual(self.run_it()[0], 0)
-        (self.out / "fallible-iterator/README.md").write_text("mine")
-        self.refused("holds fallible-iterator/README.md")
-        self.assertEqual((self.out / "fallible-iterator/README.md").read_text(), "mine")
+        self.assertEqual(readme.read_text(), written)
+        (self.out / "fallible-iterator/letter").write_text("mine")
+        self.refused("holds fallible-iterator/letter")
+        self.assertEqual((self.out / "fallible-iterator/letter").read_text(), "mine")
 
     def test_a_link_leads_out(self):
         self.out.mkdir()

@@ -4,6 +4,7 @@ from collections import namedtuple
 from pathlib import Path
 
 import erase
+import overrides
 from source import functions, label_of, tokens
 
 FAIL = (Path(__file__).parent / "static/pieces/fail.rs").read_text(encoding="utf-8")
@@ -103,6 +104,7 @@ def as_rust(text):
             end += 1
         text.replace(end - 1, end, "")
         text.replace(m.start(), m.end(), "")
+    overrides.of_tests(text)
 
 
 def items(text):

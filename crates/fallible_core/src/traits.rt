@@ -94,10 +94,9 @@ pub trait FallibleIterator: Drop + Sized {
     /// Requires that the type's own condition, `can_next`, holds: a search finds it for what sources and adapters make, and each draw keeps it.
     ///
     /// ```
-    /// let answers: [Result<u32, u32>; 2] = [Ok(1), Err(2)];
-    /// let mut it = answers.iter().copied().transpose_into_fallible();
+    /// let mut it = convert([Ok::<u32, u8>(150), Err(9)].into_iter());
     /// let drawn = [it.next(), it.next(), it.next()];
-    /// assert_eq!(rt; drawn, [Ok(Some(1)), Err(2), Ok(None)]);
+    /// assert_eq!(rt; drawn, [Ok(Some(150)), Err(9), Ok(None)]);
     /// ```
     fn next(&mut self) -> Result<Option<Self::Item>, Self::Error>
         requires { contract.can_next self.old }
@@ -108,8 +107,10 @@ pub trait FallibleIterator: Drop + Sized {
     /// It draws nothing and never fails. The iterator is as before.
     ///
     /// ```
-    /// let mut it = once::<u32, u32>(1).peekable();
+    /// let mut it = once::<u32, u8>(150);
     /// assert_eq!(rt; it.size_hint(), (1, Some(1)));
+    /// assert_eq!(rt; it.next(), Ok(Some(150)));
+    /// assert_eq!(rt; it.size_hint(), (0, Some(0)));
     /// ```
     fn size_hint(&self) -> (usize, Option<usize>)
         ensures { contract.hints self.now result };
@@ -187,10 +188,11 @@ pub trait FallibleIterator: Drop + Sized {
     /// Requires that `next` may be called, and that at most `usize::MAX` items are left.
     ///
     /// ```
-    /// convert(readings.into_iter())
-    ///     .take(10)
-    ///     .filter(|reading| Ok(*reading > 100))
-    ///     .count()
+    /// let readings = [Ok::<u32, u8>(150), Ok(7), Ok(700)];
+    /// assert_eq!(rt; convert(readings.into_iter()).count(), Ok(3));
+    ///
+    /// let cut = [Ok::<u32, u8>(150), Err(9), Ok(700)];
+    /// assert_eq!(rt; convert(cut.into_iter()).count(), Err(9));
     /// ```
     final fn count(mut self) -> Result<usize, Self::Error>
     where
@@ -230,10 +232,11 @@ pub trait FallibleIterator: Drop + Sized {
     /// Requires that `next` may be called and that the iterator is finite.
     ///
     /// ```
-    /// convert(readings.into_iter())
-    ///     .take(10)
-    ///     .filter(|reading| Ok(*reading > 100))
-    ///     .last()
+    /// let readings = [Ok::<u32, u8>(150), Ok(7), Ok(700)];
+    /// assert_eq!(rt; convert(readings.into_iter()).last(), Ok(Some(700)));
+    ///
+    /// let cut = [Ok::<u32, u8>(150), Err(9), Ok(700)];
+    /// assert_eq!(rt; convert(cut.into_iter()).last(), Err(9));
     /// ```
     final fn last(mut self) -> Result<Option<Self::Item>, Self::Error>
     where
@@ -272,12 +275,9 @@ pub trait FallibleIterator: Drop + Sized {
     /// Requires that `next` may be called.
     ///
     /// ```
-    /// let answers = [Ok(0), Ok(1), Ok(2), Ok(3)];
-    /// let mut it = numbers(&answers);
-    /// assert_eq!(rt;
-    ///     [it.nth(1), it.nth(0), it.nth(2)],
-    ///     [Ok(Some(1)), Ok(Some(2)), Ok(None)]
-    /// );
+    /// let mut it = convert([Ok::<u32, u8>(0), Ok(1), Ok(2), Err(9), Ok(4)].into_iter());
+    /// let drawn = [it.nth(1), it.nth(5), it.nth(0), it.nth(0)];
+    /// assert_eq!(rt; drawn, [Ok(Some(1)), Err(9), Ok(Some(4)), Ok(None)]);
     /// ```
     final fn nth(&mut self, n: usize) -> Result<Option<Self::Item>, Self::Error>
     where
@@ -299,12 +299,13 @@ pub trait FallibleIterator: Drop + Sized {
     /// Requires that `next` may be called and that the iterator is finite, and that the closure may be called on the value so far and each item that may come.
     ///
     /// ```
-    /// let mut above = convert(readings.into_iter()).filter(|reading| Ok(*reading > 100));
-    /// let sum: Result<u32, u8> = (&mut above)
-    ///     .take(2)
-    ///     .try_fold(0, |sum: u32, reading: u32| Ok(sum.wrapping_add(reading)));
-    /// let sum = sum?;
-    /// Ok((sum, above.draw()?))
+    /// let mut it = convert([Ok::<u8, &str>(100), Ok(100), Ok(100), Ok(7)].into_iter());
+    /// let sum: Result<u8, &str> = it.try_fold(
+    ///     0,
+    ///     |sum: u8, x: u8| sum.checked_add(x).ok_or("too large"),
+    /// );
+    /// assert_eq!(rt; sum, Err("too large"));
+    /// assert_eq!(rt; it.next(), Ok(Some(7)));
     /// ```
     final fn try_fold<B, E, F>(&mut self, init: B, f: F) -> Result<B, E>
     where
@@ -345,10 +346,11 @@ pub trait FallibleIterator: Drop + Sized {
     /// Requires what `try_fold` requires.
     ///
     /// ```
-    /// convert(readings.into_iter()).fold(
-    ///     0,
-    ///     |sum: u64, reading: u32| Ok(sum.wrapping_add(u64::from(reading))),
-    /// )
+    /// let readings = [Ok::<u32, u8>(150), Ok(7), Ok(700)];
+    /// let sum = convert(readings.into_iter()).fold(0, |sum: u32, reading: u32| {
+    ///     Ok(sum.wrapping_add(reading))
+    /// });
+    /// assert_eq!(rt; sum, Ok(857));
     /// ```
     final fn fold<B, F>(mut self, init: B, f: F) -> Result<B, Self::Error>
     where
@@ -371,7 +373,9 @@ pub trait FallibleIterator: Drop + Sized {
     /// Draws, errors and precondition: as `fold`. It consumes the iterator too.
     ///
     /// ```
-    /// convert(readings.into_iter()).reduce(|sum, reading| Ok(sum.wrapping_add(reading)))
+    /// let readings = [Ok::<u32, u8>(150), Ok(7), Ok(700)];
+    /// let sum = convert(readings.into_iter()).reduce(|sum, reading| Ok(sum.wrapping_add(reading)));
+    /// assert_eq!(rt; sum, Ok(Some(857)));
     /// ```
     final fn reduce<F>(mut self, f: F) -> Result<Option<Self::Item>, Self::Error>
     where
@@ -425,9 +429,14 @@ pub trait FallibleIterator: Drop + Sized {
     /// Requires that the closure may be called on each item that may come, in each state that such calls bring it to.
     ///
     /// ```
-    /// convert(readings.into_iter())
-    ///     .map(|reading| if reading > 100 { Err(7) } else { Ok(reading) })
-    ///     .count()
+    /// let readings = [Ok::<u32, u8>(150), Ok(7), Ok(700)];
+    /// let mut it = convert(readings.into_iter()).map(|reading| if reading < 10 {
+    ///     Err(9)
+    /// } else {
+    ///     Ok(reading / 10)
+    /// });
+    /// let drawn = [it.next(), it.next(), it.next(), it.next()];
+    /// assert_eq!(rt; drawn, [Ok(Some(15)), Err(9), Ok(Some(70)), Ok(None)]);
     /// ```
     final fn map<F, B>(self, f: F) -> Map<Self, F>
     where
@@ -448,9 +457,10 @@ pub trait FallibleIterator: Drop + Sized {
     /// Requires that the iterator is finite, since one call may leave many items out, and of the predicate what `map` requires of its closure. `next` requires `Item: Drop`.
     ///
     /// ```
-    /// convert(numbers.iter().copied().map(Ok))
-    ///     .filter(|number| Ok(*number > 100))
-    ///     .count()
+    /// let readings = [Ok::<u32, u8>(150), Ok(7), Err(9), Ok(700)];
+    /// let mut it = convert(readings.into_iter()).filter(|reading| Ok(*reading > 100));
+    /// let drawn = [it.next(), it.next(), it.next(), it.next()];
+    /// assert_eq!(rt; drawn, [Ok(Some(150)), Err(9), Ok(Some(700)), Ok(None)]);
     /// ```
     final fn filter<F>(self, f: F) -> Filter<Self, F>
     where
@@ -471,10 +481,10 @@ pub trait FallibleIterator: Drop + Sized {
     /// Creating it draws nothing. `next` draws once, and nothing after the n-th item. It fails as the source does. Behaviour after a failure and after `Ok(None)`, up to the n-th item: as `map`. After that item each call returns `Ok(None)`.
     ///
     /// ```
-    /// Bytes { reader }
-    ///     .take(3)
-    ///     .filter(|byte| Ok(*byte == b'\n'))
-    ///     .count()
+    /// let readings = [Ok::<u32, u8>(150), Err(9), Ok(7), Ok(700)];
+    /// let mut it = convert(readings.into_iter()).take(2);
+    /// let drawn = [it.next(), it.next(), it.next(), it.next()];
+    /// assert_eq!(rt; drawn, [Ok(Some(150)), Err(9), Ok(Some(7)), Ok(None)]);
     /// ```
     final fn take(self, n: usize) -> Take<Self>
         ensures parts { take_parts result ≡ (self, n) }
@@ -498,9 +508,10 @@ pub trait FallibleIterator: Drop + Sized {
     /// Requires of the predicate what `map` requires of its closure. `next` requires `Item: Drop`.
     ///
     /// ```
-    /// convert(readings.into_iter())
-    ///     .take_while(|reading| Ok(*reading > 100))
-    ///     .count()
+    /// let readings = [Ok::<u32, u8>(150), Ok(7), Ok(700)];
+    /// let mut it = convert(readings.into_iter()).take_while(|reading| Ok(*reading > 100));
+    /// let drawn = [it.next(), it.next(), it.next()];
+    /// assert_eq!(rt; drawn, [Ok(Some(150)), Ok(None), Ok(None)]);
     /// ```
     final fn take_while<P>(self, predicate: P) -> TakeWhile<Self, P>
     where
@@ -526,12 +537,14 @@ pub trait FallibleIterator: Drop + Sized {
     /// Creating it draws nothing. `next` draws once, and nothing after that `Ok(None)`. It fails as the source does. A failure doesn't exhaust it: the next call draws again.
     ///
     /// ```
-    /// let mut source = ended_after_two(rt.alloc())?;
-    /// let mut it = (&mut source)
-    ///     .fuse()
-    ///     .filter(|x: &u32| -> Result<bool, u32> { Ok(*x == 2) });
-    /// expect_answers(&rt, &mut it, &[Item(2), End, End, End, End])?;
-    /// assert_eq!(rt; source.next(), Err(9));
+    /// let mut calls = 0u32;
+    /// let mut it = from_fn(|| -> Result<Option<u32>, u8> {
+    ///     calls = calls.wrapping_add(1);
+    ///     Ok(if calls == 2 { None } else { Some(calls) })
+    /// })
+    /// .fuse();
+    /// let drawn = [it.next(), it.next(), it.next()];
+    /// assert_eq!(rt; drawn, [Ok(Some(1)), Ok(None), Ok(None)]);
     /// ```
     final fn fuse(self) -> Fuse<Self>
         ensures parts { fuse_parts result ≡ (self, false) }
@@ -553,9 +566,10 @@ pub trait FallibleIterator: Drop + Sized {
     /// Requires nothing. `next` requires `Item: Drop`.
     ///
     /// ```
-    /// convert(readings.into_iter())
-    ///     .skip(1)
-    ///     .any(|reading| Ok(reading > 100))
+    /// let readings = [Ok::<u32, u8>(150), Err(9), Ok(7), Ok(700)];
+    /// let mut it = convert(readings.into_iter()).skip(2);
+    /// let drawn = [it.next(), it.next(), it.next()];
+    /// assert_eq!(rt; drawn, [Err(9), Ok(Some(700)), Ok(None)]);
     /// ```
     final fn skip(self, n: usize) -> Skip<Self>
         ensures parts { skip_parts result ≡ (self, n) }
@@ -576,9 +590,10 @@ pub trait FallibleIterator: Drop + Sized {
     /// Requires that the step is at least 1. `next` requires `Item: Drop`.
     ///
     /// ```
-    /// let answers = [Ok(0), Ok(1), Ok(2), Ok(3), Ok(4)];
-    /// let it = numbers(&answers);
-    /// assert_eq!(rt; it.skip(1).step_by(2).fuse().take(2).count(), Ok(2));
+    /// let numbers = [Ok::<u32, u8>(0), Ok(1), Ok(2), Ok(3), Ok(4)];
+    /// let mut it = convert(numbers.into_iter()).step_by(2);
+    /// let drawn = [it.next(), it.next(), it.next(), it.next()];
+    /// assert_eq!(rt; drawn, [Ok(Some(0)), Ok(Some(2)), Ok(Some(4)), Ok(None)]);
     /// ```
     final fn step_by(self, step: usize) -> StepBy<Self>
         requires { 1 ≤ step }
@@ -603,10 +618,10 @@ pub trait FallibleIterator: Drop + Sized {
     /// Requires that the iterator is finite, as `filter` does, and of the closure what `map` requires.
     ///
     /// ```
-    /// let answers = [Ok(1), Ok(2), Ok(3), Ok(4)];
-    /// let mut it = counted(&answers, &log).filter_map(tens_of_even);
-    /// assert_eq!(rt; it.draw(), Ok(Some(20)));
-    /// assert_eq!(rt; it.try_fold(0, add_up), Ok(40));
+    /// let words = [Ok::<&str, u8>("150"), Ok("none"), Err(9), Ok("700")];
+    /// let mut it = convert(words.into_iter()).filter_map(|word| Ok(word.parse::<u32>().ok()));
+    /// let drawn = [it.next(), it.next(), it.next(), it.next()];
+    /// assert_eq!(rt; drawn, [Ok(Some(150)), Err(9), Ok(Some(700)), Ok(None)]);
     /// ```
     final fn filter_map<B, F>(self, f: F) -> FilterMap<Self, F>
     where
@@ -629,9 +644,15 @@ pub trait FallibleIterator: Drop + Sized {
     /// Requires what `map` requires, of calls on a reference to each item. `next` requires `Item: Drop`.
     ///
     /// ```
-    /// let answers = [Ok(1), Ok(2), Ok(3)];
-    /// let mut it = numbers(&answers).inspect(|x: &u32| if *x == 2 { Err(20) } else { Ok(()) });
-    /// expect_answers(&rt, &mut it, &[Item(1), Failure(20), Item(3), End])
+    /// let readings = [Ok::<u32, u8>(150), Err(9), Ok(700)];
+    /// let mut sum = 0u32;
+    /// let drained = convert(readings.into_iter())
+    ///     .inspect(|reading| {
+    ///         sum = sum.wrapping_add(*reading);
+    ///         Ok(())
+    ///     })
+    ///     .count();
+    /// assert_eq!(rt; (drained, sum), (Err(9), 150));
     /// ```
     final fn inspect<F>(self, f: F) -> Inspect<Self, F>
     where
@@ -652,10 +673,10 @@ pub trait FallibleIterator: Drop + Sized {
     /// Requires that the closure may be called on each failure that may come.
     ///
     /// ```
-    /// let answers = [Ok(1), Err(5)];
-    /// let mut it = numbers(&answers).map_err(|e: u32| e.wrapping_add(100));
+    /// let readings = [Ok::<u32, u8>(150), Err(9)];
+    /// let mut it = convert(readings.into_iter()).map_err(|code| (code, "no reading"));
     /// let drawn = [it.next(), it.next(), it.next()];
-    /// assert_eq!(rt; drawn, [Ok(Some(1)), Err(105), Ok(None)]);
+    /// assert_eq!(rt; drawn, [Ok(Some(150)), Err((9, "no reading")), Ok(None)]);
     /// ```
     final fn map_err<B, F>(self, f: F) -> MapErr<Self, F>
     where
@@ -676,7 +697,13 @@ pub trait FallibleIterator: Drop + Sized {
     /// Requires that at most `usize::MAX` items are still to come, so that each number fits. `next` requires `Item: Drop`, and so do its `count` and `nth`.
     ///
     /// ```
-    /// convert(readings.into_iter()).enumerate().unzip(alloc)
+    /// let letters = [Ok::<char, u8>('a'), Err(9), Ok('b')];
+    /// let mut it = convert(letters.into_iter()).enumerate();
+    /// let drawn = [it.next(), it.next(), it.next(), it.next()];
+    /// assert_eq!(rt;
+    ///     drawn,
+    ///     [Ok(Some((0, 'a'))), Err(9), Ok(Some((1, 'b'))), Ok(None)]
+    /// );
     /// ```
     final fn enumerate(self) -> Enumerate<Self>
         requires { AtMost contract self (2 ^ 64 - 1) }
@@ -696,11 +723,10 @@ pub trait FallibleIterator: Drop + Sized {
     /// Requires that the iterator is finite, as `filter` does, and that the predicate may be called on a reference to each item that may come until it first returns false. `next` requires `Item: Drop`.
     ///
     /// ```
-    /// convert(readings.into_iter())
-    ///     .enumerate()
-    ///     .skip_while(|place| Ok(place.1 < 11))
-    ///     .take_while(|place| Ok(0 < place.1))
-    ///     .collect(alloc)
+    /// let readings = [Ok::<u32, u8>(7), Ok(150), Ok(8)];
+    /// let mut it = convert(readings.into_iter()).skip_while(|reading| Ok(*reading < 100));
+    /// let drawn = [it.next(), it.next(), it.next()];
+    /// assert_eq!(rt; drawn, [Ok(Some(150)), Ok(Some(8)), Ok(None)]);
     /// ```
     final fn skip_while<P>(self, predicate: P) -> SkipWhile<Self, P>
     where
@@ -727,9 +753,10 @@ pub trait FallibleIterator: Drop + Sized {
     /// Laziness, draws, errors, precondition and behaviour after `Ok(None)`: as `map`, also after a `None` of the closure.
     ///
     /// ```
-    /// convert(readings.into_iter())
-    ///     .map_while(|reading: u32| Ok(if reading > 0 { Some(reading / 2) } else { None }))
-    ///     .collect(alloc)
+    /// let words = [Ok::<&str, u8>("150"), Ok("none"), Ok("700")];
+    /// let mut it = convert(words.into_iter()).map_while(|word| Ok(word.parse::<u32>().ok()));
+    /// let drawn = [it.next(), it.next(), it.next(), it.next()];
+    /// assert_eq!(rt; drawn, [Ok(Some(150)), Ok(None), Ok(Some(700)), Ok(None)]);
     /// ```
     final fn map_while<F, B>(self, f: F) -> MapWhile<Self, F>
     where
@@ -750,12 +777,16 @@ pub trait FallibleIterator: Drop + Sized {
     /// Requires that the closure may be called on each item that may come, with each state that such calls lead to.
     ///
     /// ```
-    /// convert(readings.into_iter())
-    ///     .scan(0, |sum: &mut u64, reading: u32| {
-    ///         *sum = sum.wrapping_add(u64::from(reading));
-    ///         Ok(Some(*sum))
-    ///     })
-    ///     .collect(alloc)
+    /// let readings = [Ok::<u32, u8>(150), Ok(7), Ok(700)];
+    /// let mut sums = convert(readings.into_iter()).scan(0, |sum: &mut u32, reading: u32| {
+    ///     *sum = sum.wrapping_add(reading);
+    ///     Ok(Some(*sum))
+    /// });
+    /// let drawn = [sums.next(), sums.next(), sums.next(), sums.next()];
+    /// assert_eq!(rt;
+    ///     drawn,
+    ///     [Ok(Some(150)), Ok(Some(157)), Ok(Some(857)), Ok(None)]
+    /// );
     /// ```
     final fn scan<St, B, F>(self, initial_state: St, f: F) -> Scan<Self, St, F>
     where
@@ -782,11 +813,10 @@ pub trait FallibleIterator: Drop + Sized {
     /// Laziness, draws and behaviour after `Ok(None)`: as `map`. It fails as the source does. If a clone can't be allocated, the failure converted from `AllocError` is yielded, and the item is lost.
     ///
     /// ```
-    /// let items = [1, 2, 3];
-    /// let made = IntoFallible::from(items.iter());
-    /// let mut it = made.map_err(|_| AllocError).cloned().rev();
-    /// let drawn = [it.next(), it.next(), it.next(), it.next()];
-    /// assert_eq!(rt; drawn, [Ok(Some(3)), Ok(Some(2)), Ok(Some(1)), Ok(None)]);
+    /// let readings = [150, 7];
+    /// let mut it = convert(readings.iter().map(Ok::<&u32, AllocError>)).cloned();
+    /// let drawn = [it.next(), it.next(), it.next()];
+    /// assert_eq!(rt; drawn, [Ok(Some(150)), Ok(Some(7)), Ok(None)]);
     /// ```
     final fn cloned<'a, T: 'a>(self) -> Cloned<Self>
     where
@@ -809,7 +839,10 @@ pub trait FallibleIterator: Drop + Sized {
     /// Requires nothing. `next` requires that `next` and `next_back` may be called on the source.
     ///
     /// ```
-    /// convert(readings.into_iter()).rev().collect(alloc)
+    /// let readings = [Ok::<u32, u8>(150), Ok(7), Err(9)];
+    /// let mut it = convert(readings.into_iter()).rev();
+    /// let drawn = [it.next(), it.next(), it.next(), it.next()];
+    /// assert_eq!(rt; drawn, [Err(9), Ok(Some(7)), Ok(Some(150)), Ok(None)]);
     /// ```
     final fn rev(self) -> Rev<Self>
     where
@@ -829,9 +862,11 @@ pub trait FallibleIterator: Drop + Sized {
     /// Requires nothing. `next` requires that it may be called on both sides.
     ///
     /// ```
-    /// convert(left.iter().copied().map(Ok))
-    ///     .chain(convert(right.iter().copied().map(Ok)))
-    ///     .count()
+    /// let first = convert([Ok::<u32, u8>(150), Err(9)].into_iter());
+    /// let second = convert([Ok(700)].into_iter());
+    /// let mut it = first.chain(second);
+    /// let drawn = [it.next(), it.next(), it.next(), it.next()];
+    /// assert_eq!(rt; drawn, [Ok(Some(150)), Err(9), Ok(Some(700)), Ok(None)]);
     /// ```
     final fn chain<I>(self, it: I) -> Chain<Self, I::IntoFallibleIter>
     where
@@ -858,9 +893,14 @@ pub trait FallibleIterator: Drop + Sized {
     /// Requires nothing. `next` requires that it may be called on both sides, and `Item: Drop`.
     ///
     /// ```
-    /// (&mut left).zip(&mut right).draw()?;
-    /// left.draw()?;
-    /// right.draw()
+    /// let letters = convert([Ok::<char, u8>('a'), Ok('b'), Ok('c')].into_iter());
+    /// let numbers = convert([Ok(1), Err(9), Ok(2)].into_iter());
+    /// let mut it = letters.zip(numbers);
+    /// let drawn = [it.next(), it.next(), it.next(), it.next()];
+    /// assert_eq!(rt;
+    ///     drawn,
+    ///     [Ok(Some(('a', 1))), Err(9), Ok(Some(('c', 2))), Ok(None)]
+    /// );
     /// ```
     final fn zip<I>(self, o: I) -> Zip<Self, I::IntoFallibleIter>
     where
@@ -892,10 +932,16 @@ pub trait FallibleIterator: Drop + Sized {
     /// Requires that the iterator is finite, since many inner iterators may end in one call. `next` requires that it may be called on the current inner iterator and on each that may come. A drain also requires that the current one is finite, and one bound that serves for each that may come.
     ///
     /// ```
-    /// let inner = IntoFallible::from(1..3u32);
-    /// let mut it = once::<IntoFallible<Range<u32>>, Infallible>(inner).flatten();
-    /// assert_eq!(rt; it.size_hint(), (0, None));
-    /// assert_eq!(rt; it.next(), Ok(Some(1)));
+    /// let inner = [
+    ///     convert([Ok::<u32, u8>(1), Err(9)].into_iter()),
+    ///     convert([Ok(2), Ok(3)].into_iter()),
+    /// ];
+    /// let mut it = convert(inner.into_iter().map(Ok)).flatten();
+    /// let drawn = [it.next(), it.next(), it.next(), it.next(), it.next()];
+    /// assert_eq!(rt;
+    ///     drawn,
+    ///     [Ok(Some(1)), Err(9), Ok(Some(2)), Ok(Some(3)), Ok(None)]
+    /// );
     /// ```
     final fn flatten(self) -> Flatten<Self>
     where
@@ -923,10 +969,10 @@ pub trait FallibleIterator: Drop + Sized {
     /// Requires what `flatten` requires, at its creation, at `next` and at a drain, and of the closure what `map` requires.
     ///
     /// ```
-    /// convert(bounds.into_iter())
-    ///     .flat_map(|bound: u32| Ok((0..bound).into_fallible()))
-    ///     .take(1000)
-    ///     .collect(alloc)
+    /// let bounds = [Ok(2), Ok(0), Ok(1)];
+    /// let mut it = convert(bounds.into_iter()).flat_map(|bound: u32| Ok((0..bound).into_fallible()));
+    /// let drawn = [it.next(), it.next(), it.next(), it.next()];
+    /// assert_eq!(rt; drawn, [Ok(Some(0)), Ok(Some(1)), Ok(Some(0)), Ok(None)]);
     /// ```
     final fn flat_map<U, F>(self, f: F) -> FlatMap<Self, U, F>
     where
@@ -962,9 +1008,13 @@ pub trait FallibleIterator: Drop + Sized {
     /// Requires that `next` may be called and that the iterator is finite.
     ///
     /// ```
-    /// convert(readings.into_iter())
-    ///     .filter(|reading| Ok(*reading > 100))
-    ///     .collect(alloc)
+    /// let readings = [Ok::<u32, u8>(150), Ok(7), Ok(700)];
+    /// let all: Vec<u32> = convert(readings.into_iter()).collect(rt.alloc())?;
+    /// assert_eq!(rt; all, vec![in rt.alloc(); 150, 7, 700]?);
+    ///
+    /// let cut = [Ok::<u32, u8>(150), Err(9), Ok(700)];
+    /// let all: Result<Vec<u32>, Fault<u8>> = convert(cut.into_iter()).collect(rt.alloc());
+    /// assert!(rt; matches!(all, Err(Fault::Source(9))));
     /// ```
     final fn collect<C: Collect<Self::Item>>(
         mut self,
@@ -999,9 +1049,13 @@ pub trait FallibleIterator: Drop + Sized {
     /// Requires that `next` may be called and that the iterator is finite, and that the predicate may be called on each item that may come.
     ///
     /// ```
-    /// convert(readings.into_iter())
-    ///     .take(10)
-    ///     .partition(alloc, |reading| Ok(*reading > 100))
+    /// let readings = [Ok::<u32, u8>(150), Ok(7), Ok(700)];
+    /// let (above, below): (Vec<u32>, Vec<u32>) = convert(readings.into_iter()).partition(
+    ///     rt.alloc(),
+    ///     |reading| Ok(*reading > 100),
+    /// )?;
+    /// assert_eq!(rt; above, vec![in rt.alloc(); 150, 700]?);
+    /// assert_eq!(rt; below, vec![in rt.alloc(); 7]?);
     /// ```
     final fn partition<B: Collect<Self::Item>, F>(
         mut self,
@@ -1047,7 +1101,10 @@ pub trait FallibleIterator: Drop + Sized {
     /// Draws, errors and precondition: as `collect`. It consumes the iterator too. Before a failure of the source all pairs were accepted. A pair that is rejected is lost.
     ///
     /// ```
-    /// convert(readings.into_iter()).enumerate().unzip(alloc)
+    /// let pairs = [Ok::<(u32, char), u8>((1, 'a')), Ok((2, 'b'))];
+    /// let (numbers, letters): (Vec<u32>, Vec<char>) = convert(pairs.into_iter()).unzip(rt.alloc())?;
+    /// assert_eq!(rt; numbers, vec![in rt.alloc(); 1, 2]?);
+    /// assert_eq!(rt; letters, vec![in rt.alloc(); 'a', 'b']?);
     /// ```
     final fn unzip<A, B, FromA: Collect<A>, FromB: Collect<B>>(
         mut self,
@@ -1094,7 +1151,13 @@ pub trait FallibleIterator: Drop + Sized {
     /// Requires that `next` may be called and that the iterator is finite, and that the closure may be called on each item that may come.
     ///
     /// ```
-    /// (s.by_ref().for_each(accept), s.next())
+    /// let readings = [Ok::<u32, u8>(150), Err(9), Ok(700)];
+    /// let mut sum = 0u32;
+    /// let drained = convert(readings.into_iter()).for_each(|reading| {
+    ///     sum = sum.wrapping_add(reading);
+    ///     Ok(())
+    /// });
+    /// assert_eq!(rt; (drained, sum), (Err(9), 150));
     /// ```
     final fn for_each<F>(mut self, f: F) -> Result<(), Self::Error>
     where
@@ -1120,9 +1183,10 @@ pub trait FallibleIterator: Drop + Sized {
     /// Requires that `next` may be called and that the iterator is finite, and that the predicate may be called on each item that may come until it decides.
     ///
     /// ```
-    /// convert(readings.into_iter())
-    ///     .filter(|reading| Ok(*reading > 0))
-    ///     .all(|reading| Ok(reading > 100))
+    /// let mut it = convert([Ok::<u32, u8>(150), Ok(7), Err(9)].into_iter());
+    /// assert_eq!(rt; it.all(|reading| Ok(reading > 100)), Ok(false));
+    /// assert_eq!(rt; it.all(|reading| Ok(reading > 100)), Err(9));
+    /// assert_eq!(rt; it.all(|reading| Ok(reading > 100)), Ok(true));
     /// ```
     final fn all<F>(&mut self, f: F) -> Result<bool, Self::Error>
     where
@@ -1149,9 +1213,10 @@ pub trait FallibleIterator: Drop + Sized {
     /// It draws up to the first item on which the predicate returns true or fails, the first failure or `Ok(None)`. Errors, precondition and what is left: as `all`.
     ///
     /// ```
-    /// convert(readings.into_iter())
-    ///     .skip(1)
-    ///     .any(|reading| Ok(reading > 100))
+    /// let mut it = convert([Ok::<u32, u8>(7), Ok(150), Err(9)].into_iter());
+    /// assert_eq!(rt; it.any(|reading| Ok(reading > 100)), Ok(true));
+    /// assert_eq!(rt; it.any(|reading| Ok(reading > 100)), Err(9));
+    /// assert_eq!(rt; it.any(|reading| Ok(reading > 100)), Ok(false));
     /// ```
     final fn any<F>(&mut self, f: F) -> Result<bool, Self::Error>
     where
@@ -1178,11 +1243,10 @@ pub trait FallibleIterator: Drop + Sized {
     /// It draws up to the first item on which the predicate returns true or fails, the first failure or `Ok(None)`. It calls the predicate on a reference to each item drawn, in order. Errors, precondition and what is left: as `all`.
     ///
     /// ```
-    /// let mut left = convert(readings.into_iter());
-    /// match left.find(|reading| Ok(*reading == 0))? {
-    ///     Some(_) => left.nth(0),
-    ///     None => Ok(None),
-    /// }
+    /// let mut it = convert([Ok::<u32, u8>(7), Ok(150), Ok(8), Err(9)].into_iter());
+    /// assert_eq!(rt; it.find(|reading| Ok(*reading > 100)), Ok(Some(150)));
+    /// assert_eq!(rt; it.find(|reading| Ok(*reading > 100)), Err(9));
+    /// assert_eq!(rt; it.find(|reading| Ok(*reading > 100)), Ok(None));
     /// ```
     final fn find<F>(&mut self, f: F) -> Result<Option<Self::Item>, Self::Error>
     where
@@ -1210,12 +1274,10 @@ pub trait FallibleIterator: Drop + Sized {
     /// It draws up to the first item on which the closure returns a value or fails, the first failure or `Ok(None)`. Errors, precondition and what is left: as `all`.
     ///
     /// ```
-    /// let found = it.find_map(|x: u32| {
-    ///     calls = calls.wrapping_add(1);
-    ///     Ok(if x == 2 { Some(("hi", calls)) } else { None })
-    /// });
-    /// assert_eq!(rt; (found, calls), (Ok(Some(("hi", 3))), 3));
-    /// assert_eq!(rt; it.next(), Ok(Some(3)));
+    /// let mut it = convert([Ok::<&str, u8>("none"), Ok("150"), Ok("700")].into_iter());
+    /// let first = it.find_map(|word| Ok(word.parse::<u32>().ok()));
+    /// assert_eq!(rt; first, Ok(Some(150)));
+    /// assert_eq!(rt; it.next(), Ok(Some("700")));
     /// ```
     final fn find_map<B, F>(&mut self, f: F) -> Result<Option<B>, Self::Error>
     where
@@ -1242,10 +1304,10 @@ pub trait FallibleIterator: Drop + Sized {
     /// It draws up to the first item on which the predicate returns true or fails, the first failure or `Ok(None)`. Instead of a bound it requires that at most `usize::MAX` items are left. Errors, what is left and the rest of the precondition: as `all`.
     ///
     /// ```
-    /// match it.position(|x| Ok(x == 0))? {
-    ///     Some(_) => it.count(),
-    ///     None => Ok(0),
-    /// }
+    /// let mut it = convert([Ok::<u32, u8>(7), Ok(150), Ok(700)].into_iter());
+    /// assert_eq!(rt; it.position(|reading| Ok(reading > 100)), Ok(Some(1)));
+    /// assert_eq!(rt; it.position(|reading| Ok(reading > 100)), Ok(Some(0)));
+    /// assert_eq!(rt; it.position(|reading| Ok(reading > 100)), Ok(None));
     /// ```
     final fn position<F>(&mut self, f: F) -> Result<Option<usize>, Self::Error>
     where
@@ -1273,9 +1335,8 @@ pub trait FallibleIterator: Drop + Sized {
     /// Requires that `next` may be called and that the iterator is finite.
     ///
     /// ```
-    /// convert(readings.into_iter())
-    ///     .filter(|reading| Ok(*reading > 100))
-    ///     .max()
+    /// let readings = [Ok::<u32, u8>(150), Ok(700), Ok(7)];
+    /// assert_eq!(rt; convert(readings.into_iter()).max(), Ok(Some(700)));
     /// ```
     final fn max(self) -> Result<Option<Self::Item>, Self::Error>
     where
@@ -1294,11 +1355,8 @@ pub trait FallibleIterator: Drop + Sized {
     /// Returns the least item, of equal ones the last; `Ok(None)` if no item comes. Draws, errors and precondition: as `max`.
     ///
     /// ```
-    /// convert(readings.into_iter())
-    ///     .skip(1)
-    ///     .map(|reading| Ok(u64::from(reading) * 2))
-    ///     .filter(|double| Ok(*double > 1000))
-    ///     .min()
+    /// let readings = [Ok::<u32, u8>(150), Ok(7), Ok(700)];
+    /// assert_eq!(rt; convert(readings.into_iter()).min(), Ok(Some(7)));
     /// ```
     final fn min(self) -> Result<Option<Self::Item>, Self::Error>
     where
@@ -1321,12 +1379,11 @@ pub trait FallibleIterator: Drop + Sized {
     /// Requires that `next` may be called and that the iterator is finite, and that the closure may be called on each item that may come.
     ///
     /// ```
-    /// let it = convert(answers.iter().copied());
-    /// let mut calls = 0u32;
-    /// let greatest = it.max_by_key(|x: &i32| {
-    ///     calls = calls.wrapping_add(1);
-    ///     product(sign, bound, *x)
-    /// });
+    /// let words = [Ok::<&str, u8>("to"), Ok("the"), Ok("sea")];
+    /// assert_eq!(rt;
+    ///     convert(words.into_iter()).max_by_key(|word| Ok(word.len())),
+    ///     Ok(Some("sea"))
+    /// );
     /// ```
     final fn max_by_key<B, F>(self, f: F) -> Result<Option<Self::Item>, Self::Error>
     where
@@ -1349,8 +1406,11 @@ pub trait FallibleIterator: Drop + Sized {
     /// Returns the item with the least key, of equal ones the last; `Ok(None)` if no item comes. Draws, errors and precondition: as `max_by_key`.
     ///
     /// ```
-    /// let it = convert(answers.iter().copied());
-    /// it.min_by_key(|x: &(i32, char)| product(sign, bound, x.0))
+    /// let words = [Ok::<&str, u8>("the"), Ok("to"), Ok("at")];
+    /// assert_eq!(rt;
+    ///     convert(words.into_iter()).min_by_key(|word| Ok(word.len())),
+    ///     Ok(Some("at"))
+    /// );
     /// ```
     final fn min_by_key<B, F>(self, f: F) -> Result<Option<Self::Item>, Self::Error>
     where
@@ -1377,8 +1437,9 @@ pub trait FallibleIterator: Drop + Sized {
     /// Requires that `next` may be called and that the iterator is finite, and that the closure may be called on the best item so far and each item that may come.
     ///
     /// ```
-    /// let it = convert(answers.iter().copied());
-    /// it.max_by(|best: &i32, x: &i32| compare(sign, failing, *best, *x))
+    /// let pairs = [Ok::<(u32, char), u8>((1, 'a')), Ok((3, 'b')), Ok((3, 'c'))];
+    /// let greatest = convert(pairs.into_iter()).max_by(|best, pair| Ok(best.0.cmp(&pair.0)));
+    /// assert_eq!(rt; greatest, Ok(Some((3, 'c'))));
     /// ```
     final fn max_by<F>(self, f: F) -> Result<Option<Self::Item>, Self::Error>
     where
@@ -1400,11 +1461,9 @@ pub trait FallibleIterator: Drop + Sized {
     /// Returns the least item by the closure, of equal ones the last; `Ok(None)` if no item comes. Draws, errors and precondition: as `max_by`.
     ///
     /// ```
-    /// let mut it = convert(answers.iter().copied());
-    /// let least = it
-    ///     .by_ref()
-    ///     .min_by(|best: &i32, x: &i32| compare(sign, failing, *best, *x));
-    /// (least, it.next())
+    /// let pairs = [Ok::<(u32, char), u8>((3, 'a')), Ok((1, 'b')), Ok((1, 'c'))];
+    /// let least = convert(pairs.into_iter()).min_by(|best, pair| Ok(best.0.cmp(&pair.0)));
+    /// assert_eq!(rt; least, Ok(Some((1, 'c'))));
     /// ```
     final fn min_by<F>(self, f: F) -> Result<Option<Self::Item>, Self::Error>
     where
@@ -1430,9 +1489,9 @@ pub trait FallibleIterator: Drop + Sized {
     /// Requires that `next` may be called on both sides and that one of the two is finite.
     ///
     /// ```
-    /// convert(left.into_iter())
-    ///     .map(|reading: u32| Ok(reading.wrapping_mul(2)))
-    ///     .cmp(convert(right.into_iter()).filter(|reading| Ok(*reading > 100)))
+    /// let left = convert([Ok::<u32, u8>(1), Ok(2), Err(9)].into_iter());
+    /// let right = convert([Ok(1), Ok(3)].into_iter());
+    /// assert_eq!(rt; left.cmp(right), Ok(Ordering::Less));
     /// ```
     final fn cmp<I>(self, other: I) -> Result<Ordering, Self::Error>
     where
@@ -1460,9 +1519,9 @@ pub trait FallibleIterator: Drop + Sized {
     /// Draws, errors and precondition: as `cmp`.
     ///
     /// ```
-    /// convert(left.into_iter())
-    ///     .take(10)
-    ///     .partial_cmp(convert(right.into_iter()).skip(1))
+    /// let left = convert([Ok::<f64, u8>(1.0), Ok(f64::NAN)].into_iter());
+    /// let right = convert([Ok(1.0), Ok(2.0)].into_iter());
+    /// assert_eq!(rt; left.partial_cmp(right), Ok(None));
     /// ```
     final fn partial_cmp<I>(self, other: I) -> Result<Option<Ordering>, Self::Error>
     where
@@ -1487,7 +1546,9 @@ pub trait FallibleIterator: Drop + Sized {
     /// Draws, errors and precondition: as `cmp`.
     ///
     /// ```
-    /// convert(left.into_iter()).eq(convert(right.into_iter()))
+    /// let left = convert([Ok::<u32, u8>(1), Ok(2)].into_iter());
+    /// let right = convert([Ok(1), Err(9)].into_iter());
+    /// assert_eq!(rt; left.eq(right), Err(9));
     /// ```
     final fn eq<I>(self, other: I) -> Result<bool, Self::Error>
     where
@@ -1513,9 +1574,9 @@ pub trait FallibleIterator: Drop + Sized {
     /// Draws, errors and precondition: as `cmp`.
     ///
     /// ```
-    /// convert(left.into_iter())
-    ///     .map(|reading: u32| Ok(reading.wrapping_mul(2)))
-    ///     .ne(convert(right.into_iter()))
+    /// let left = convert([Ok::<u32, u8>(1), Ok(2)].into_iter());
+    /// let right = convert([Ok(1)].into_iter());
+    /// assert_eq!(rt; left.ne(right), Ok(true));
     /// ```
     final fn ne<I>(self, other: I) -> Result<bool, Self::Error>
     where
@@ -1541,9 +1602,9 @@ pub trait FallibleIterator: Drop + Sized {
     /// Draws, errors and precondition: as `cmp`.
     ///
     /// ```
-    /// let mut right = convert(right.iter().copied());
-    /// let answer = convert(left.iter().copied()).lt(&mut right);
-    /// (answer, right.next())
+    /// let left = convert([Ok::<u32, u8>(1)].into_iter());
+    /// let right = convert([Ok(1), Ok(0)].into_iter());
+    /// assert_eq!(rt; left.lt(right), Ok(true));
     /// ```
     final fn lt<I>(self, other: I) -> Result<bool, Self::Error>
     where
@@ -1569,9 +1630,9 @@ pub trait FallibleIterator: Drop + Sized {
     /// Draws, errors and precondition: as `cmp`.
     ///
     /// ```
-    /// convert(left.into_iter()).le(convert(right.into_iter()).map(|reading: u32| Ok(
-    ///     reading.wrapping_mul(2),
-    /// )))
+    /// let left = convert([Ok::<u32, u8>(1), Ok(2)].into_iter());
+    /// let right = convert([Ok(1), Ok(2)].into_iter());
+    /// assert_eq!(rt; left.le(right), Ok(true));
     /// ```
     final fn le<I>(self, other: I) -> Result<bool, Self::Error>
     where
@@ -1597,7 +1658,9 @@ pub trait FallibleIterator: Drop + Sized {
     /// Draws, errors and precondition: as `cmp`.
     ///
     /// ```
-    /// convert(left.into_iter()).gt(convert(right.into_iter()).filter(|reading| Ok(*reading > 100)))
+    /// let left = convert([Ok::<u32, u8>(2), Err(9)].into_iter());
+    /// let right = convert([Ok(1)].into_iter());
+    /// assert_eq!(rt; left.gt(right), Ok(true));
     /// ```
     final fn gt<I>(self, other: I) -> Result<bool, Self::Error>
     where
@@ -1623,9 +1686,9 @@ pub trait FallibleIterator: Drop + Sized {
     /// Draws, errors and precondition: as `cmp`.
     ///
     /// ```
-    /// convert(left.into_iter())
-    ///     .skip(1)
-    ///     .ge(convert(right.into_iter()).take(10))
+    /// let left = convert([Ok::<u32, u8>(1)].into_iter());
+    /// let right = convert([Ok(1), Ok(0)].into_iter());
+    /// assert_eq!(rt; left.ge(right), Ok(false));
     /// ```
     final fn ge<I>(self, other: I) -> Result<bool, Self::Error>
     where
@@ -1651,9 +1714,10 @@ pub trait FallibleIterator: Drop + Sized {
     /// Creating it draws nothing, and buffers nothing. `next` draws once, and nothing if something is buffered. It fails as the source does. Behaviour after a failure and after `Ok(None)`: as `map`.
     ///
     /// ```
-    /// let mut ahead = it.peekable();
-    /// let first = ahead.peek_copied()?;
-    /// Ok((first, ahead.count()?))
+    /// let mut it = convert([Ok::<u32, u8>(150), Ok(7)].into_iter()).peekable();
+    /// assert_eq!(rt; it.peek(), Ok(Some(&150)));
+    /// assert_eq!(rt; it.next(), Ok(Some(150)));
+    /// assert_eq!(rt; it.next(), Ok(Some(7)));
     /// ```
     final fn peekable(self) -> Peekable<Self>
         ensures parts { peekable_parts result ≡ (self, None) }
@@ -1675,9 +1739,10 @@ pub trait FallibleIterator: Drop + Sized {
     /// Requires that `next` may be called on each of its clones, as is so if clones equal their originals.
     ///
     /// ```
-    /// let it = convert(numbers.iter().map(|x| Ok::<u32, TestError>(*x))).cycle()?;
-    /// let hint = it.size_hint();
-    /// expect_collected(it.take(expected.len()).collect(rt.alloc()), expected)?;
+    /// let readings = convert([Ok::<u32, AllocError>(150), Ok(7)].into_iter());
+    /// let mut it = readings.cycle()?;
+    /// let drawn = [it.next(), it.next(), it.next()];
+    /// assert_eq!(rt; drawn, [Ok(Some(150)), Ok(Some(7)), Ok(Some(150))]);
     /// ```
     final fn cycle(self) -> Result<Cycle<Self>, AllocError>
     where
@@ -1702,10 +1767,9 @@ pub trait FallibleIterator: Drop + Sized {
     /// Requires that `next` may be called.
     ///
     /// ```
-    /// let mut left = convert(readings.into_iter());
-    /// left.draw()?;
-    /// left.draw()?;
-    /// left.count()
+    /// let mut it = convert([Ok::<u32, u8>(150), Err(9)].into_iter());
+    /// let drawn = [it.draw(), it.draw(), it.draw()];
+    /// assert_eq!(rt; drawn, [Ok(Some(150)), Err(9), Ok(None)]);
     /// ```
     final fn draw(&mut self) -> Result<Option<Self::Item>, Self::Error>
         requires { contract.can_next self.old }
@@ -1723,12 +1787,9 @@ pub trait FallibleIterator: Drop + Sized {
     /// Creating it draws nothing and never fails. `next` of the borrow returns and fails as that of the iterator does.
     ///
     /// ```
-    /// let answers = [Ok(1), Err(2), Ok(3)];
-    /// let mut it = numbers(&answers);
-    /// assert_eq!(rt; it.by_ref().next(), Ok(Some(1)));
-    /// assert_eq!(rt; it.next(), Err(2));
-    /// assert_eq!(rt; it.by_ref().count(), Ok(1));
-    /// assert_eq!(rt; it.next(), Ok(None));
+    /// let mut it = convert([Ok::<u32, u8>(150), Ok(7), Ok(700)].into_iter());
+    /// assert_eq!(rt; it.by_ref().take(2).count(), Ok(2));
+    /// assert_eq!(rt; it.next(), Ok(Some(700)));
     /// ```
     final fn by_ref(&mut self) -> &mut Self
         ensures value { result.now ≡ self.old }
@@ -1746,11 +1807,14 @@ pub trait FallibleIterator: Drop + Sized {
     /// Requires nothing. A std loop over it requires a bound on the items and failures together. `convert` and `into_fallible` have one if their std iterator does, and so have the adapters over them but `flatten`, `flat_map` and `cycle`; `chain` and `zip` if both sides have. If there is none, std's `take` makes one.
     ///
     /// ```
+    /// let readings = [Ok::<u32, u8>(150), Err(9), Ok(700)];
+    /// let mut failures = 0u32;
     /// for reading in convert(readings.into_iter()).iterator() {
     ///     if reading.is_err() {
     ///         failures = failures.wrapping_add(1);
     ///     }
     /// }
+    /// assert_eq!(rt; failures, 1);
     /// ```
     final fn iterator(self) -> Iterator<Self>
         ensures parts { iterator_parts result ≡ self }
@@ -1767,7 +1831,12 @@ pub trait FallibleIterator: Drop + Sized {
     /// Requires that no failure can ever come, and so it never panics.
     ///
     /// ```
-    /// numbers.into_iter().into_fallible().unwrap().count()
+    /// let readings = [150u32, 7].into_iter().into_fallible();
+    /// let mut sum = 0u32;
+    /// for reading in readings.unwrap() {
+    ///     sum = sum.wrapping_add(reading);
+    /// }
+    /// assert_eq!(rt; sum, 157);
     /// ```
     final fn unwrap<T>(self) -> Unwrap<Self>
     where

@@ -16,10 +16,12 @@ pub trait IteratorExt: std::iter::Iterator {
     /// Requires nothing. `next` requires what that of `convert` requires.
     ///
     /// ```
-    /// let answers: [Result<u32, u32>; 2] = [Ok(1), Err(2)];
-    /// let mut it = answers.iter().copied().transpose_into_fallible();
-    /// let drawn = [it.next(), it.next(), it.next()];
-    /// assert_eq!(rt; drawn, [Ok(Some(1)), Err(2), Ok(None)]);
+    /// let readings = [Ok::<u32, u8>(150), Err(9)];
+    /// let mut it = readings.into_iter().transpose_into_fallible();
+    /// assert_eq!(rt;
+    ///     [it.next(), it.next(), it.next()],
+    ///     [Ok(Some(150)), Err(9), Ok(None)]
+    /// );
     /// ```
     final fn transpose_into_fallible<T, E>(self) -> Convert<Self>
     where
@@ -40,10 +42,11 @@ pub trait IteratorExt: std::iter::Iterator {
     /// Requires nothing. `next` requires what that of `convert` requires.
     ///
     /// ```
-    /// (0..end).into_fallible().fold(
-    ///     0,
-    ///     |sum: u64, number: u32| Ok(sum.wrapping_add(u64::from(number))),
-    /// )
+    /// let mut it = (0..2u32).into_fallible();
+    /// assert_eq!(rt;
+    ///     [it.next(), it.next(), it.next()],
+    ///     [Ok(Some(0)), Ok(Some(1)), Ok(None)]
+    /// );
     /// ```
     final fn into_fallible<T>(self) -> IntoFallible<Self>
     where

@@ -62,7 +62,9 @@ pub trait DoubleEndedFallibleItertools: DoubleEndedFallibleIterator {
     /// Requires that `next` and `next_back` may be called.
     ///
     /// ```
-    /// assert_eq!(rt; it.nth_back(1), Ok(Some(4)));
+    /// let mut it = convert([Ok::<u32, u8>(1), Ok(2), Ok(3)].into_iter());
+    /// assert_eq!(rt; it.nth_back(1), Ok(Some(2)));
+    /// assert_eq!(rt; it.next_back(), Ok(Some(1)));
     /// ```
     final fn nth_back(&mut self, n: usize) -> Result<Option<Self::Item>, Self::Error>
     where
@@ -87,7 +89,9 @@ pub trait DoubleEndedFallibleItertools: DoubleEndedFallibleIterator {
     /// Requires that `next` and `next_back` may be called and that the iterator is finite, and that the predicate may be called on a reference to each item that may come from the back until it decides.
     ///
     /// ```
-    /// assert_eq!(rt; it.rfind(at_below_three), Ok(Some(2)));
+    /// let mut it = convert([Ok::<u32, u8>(150), Ok(700), Ok(7)].into_iter());
+    /// assert_eq!(rt; it.rfind(|reading| Ok(*reading > 100)), Ok(Some(700)));
+    /// assert_eq!(rt; it.next_back(), Ok(Some(150)));
     /// ```
     final fn rfind<F>(&mut self, f: F) -> Result<Option<Self::Item>, Self::Error>
     where
@@ -122,7 +126,8 @@ pub trait DoubleEndedFallibleItertools: DoubleEndedFallibleIterator {
     /// Requires that `next` and `next_back` may be called and that at most `usize::MAX` items are left, and that the predicate may be called on each item that may come from the back until it decides.
     ///
     /// ```
-    /// let place = it.rposition(below_three);
+    /// let mut it = convert([Ok::<u32, u8>(150), Ok(700), Ok(7)].into_iter());
+    /// assert_eq!(rt; it.rposition(|reading| Ok(reading > 100)), Ok(Some(1)));
     /// ```
     final fn rposition<F>(&mut self, f: F) -> Result<Option<usize>, Self::Error>
     where

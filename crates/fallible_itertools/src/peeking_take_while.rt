@@ -43,9 +43,10 @@ pub trait PeekingNext: FallibleIterator {
     /// Requires that the closure may be called on each item that may come, in each state that such calls bring it to.
     ///
     /// ```
-    /// ahead
-    ///     .peeking_take_while(|reading| Ok(*reading > 100))
-    ///     .count()
+    /// let mut it = convert([Ok::<u32, u8>(150), Ok(7), Ok(700)].into_iter()).peekable();
+    /// let above = it.peeking_take_while(|reading| Ok(*reading > 100)).count();
+    /// assert_eq!(rt; above, Ok(1));
+    /// assert_eq!(rt; it.next(), Ok(Some(7)));
     /// ```
     final fn peeking_take_while<F>(&mut self, accept: F) -> PeekingTakeWhile<&mut Self, F>
     where

@@ -111,15 +111,16 @@ pub trait FallibleItertools: FallibleIterator {
     /// Requires that the closure may be called on what is buffered and each item that may come. `next` requires what that of `dedup` requires.
     ///
     /// ```
-    /// convert(readings.into_iter())
-    ///     .coalesce(|first: u32, second: u32| {
-    ///         Ok(if second < first {
-    ///             Ok(first)
-    ///         } else {
-    ///             Err((first, second))
-    ///         })
+    /// let readings = [Ok::<u32, u8>(100), Ok(50), Ok(7), Ok(8)];
+    /// let mut it = convert(readings.into_iter()).coalesce(|first, second| {
+    ///     Ok(if second < first {
+    ///         Ok(first)
+    ///     } else {
+    ///         Err((first, second))
     ///     })
-    ///     .count()
+    /// });
+    /// let drawn = [it.next(), it.next(), it.next()];
+    /// assert_eq!(rt; drawn, [Ok(Some(100)), Ok(None), Ok(None)]);
     /// ```
     final fn coalesce<F>(self, f: F) -> Coalesce<Self, F>
     where
@@ -154,8 +155,10 @@ pub trait FallibleItertools: FallibleIterator {
     /// Requires that the closure may be called on a reference to each item that may come. `next` requires what that of `dedup` requires.
     ///
     /// ```
-    /// convert(readings.into_iter())
-    ///     .dedup_by_key(|reading| Ok(*reading / 10))
+    /// let readings = [Ok::<u32, u8>(150), Ok(157), Err(9), Ok(158), Ok(7)];
+    /// let mut it = convert(readings.into_iter()).dedup_by_key(|reading| Ok(*reading / 10));
+    /// let drawn = [it.next(), it.next(), it.next(), it.next()];
+    /// assert_eq!(rt; drawn, [Ok(Some(150)), Err(9), Ok(Some(158)), Ok(Some(7))]);
     /// ```
     final fn dedup_by_key<K, F>(self, f: F) -> DedupByKey<Self, K, F>
     where
@@ -190,9 +193,12 @@ pub trait FallibleItertools: FallibleIterator {
     /// Requires that the closure may be called on references to what is buffered and each item that may come. `next` requires what that of `dedup` requires.
     ///
     /// ```
-    /// convert(readings.into_iter())
-    ///     .dedup_by(|first, second| Ok(*first / 10 == *second / 10))
-    ///     .count()
+    /// let readings = [Ok::<u32, u8>(150), Ok(157), Ok(7)];
+    /// let mut it = convert(readings.into_iter()).dedup_by(|first, second| Ok(
+    ///     *first / 10 == *second / 10,
+    /// ));
+    /// let drawn = [it.next(), it.next(), it.next()];
+    /// assert_eq!(rt; drawn, [Ok(Some(150)), Ok(Some(7)), Ok(None)]);
     /// ```
     final fn dedup_by<F>(self, same: F) -> DedupBy<Self, F>
     where
@@ -222,7 +228,10 @@ pub trait FallibleItertools: FallibleIterator {
     /// Requires nothing. `next` requires that it may be called on the source, and that the source is finite, since one call may leave many items out.
     ///
     /// ```
-    /// convert(readings.into_iter()).dedup().count()
+    /// let readings = [Ok::<u32, u8>(7), Ok(7), Ok(150), Ok(7)];
+    /// let mut it = convert(readings.into_iter()).dedup();
+    /// let drawn = [it.next(), it.next(), it.next(), it.next()];
+    /// assert_eq!(rt; drawn, [Ok(Some(7)), Ok(Some(150)), Ok(Some(7)), Ok(None)]);
     /// ```
     final fn dedup(self) -> Dedup<Self>
     where
@@ -248,10 +257,12 @@ pub trait FallibleItertools: FallibleIterator {
     /// Requires nothing. `next` requires what that of `dedup` requires.
     ///
     /// ```
-    /// convert(readings.into_iter())
-    ///     .with_position()
-    ///     .filter(|placed| Ok(has_comma(placed.0)))
-    ///     .count()
+    /// let letters = [Ok::<char, u8>('a'), Ok('b'), Ok('c')];
+    /// let mut it = convert(letters.into_iter()).with_position();
+    /// assert_eq!(rt; it.next(), Ok(Some((Position::First, 'a'))));
+    /// assert_eq!(rt; it.next(), Ok(Some((Position::Middle, 'b'))));
+    /// assert_eq!(rt; it.next(), Ok(Some((Position::Last, 'c'))));
+    /// assert_eq!(rt; it.next(), Ok(None));
     /// ```
     final fn with_position(self) -> WithPosition<Self>
     where
@@ -277,9 +288,10 @@ pub trait FallibleItertools: FallibleIterator {
     /// Requires nothing. `next` requires that it may be called on the source.
     ///
     /// ```
-    /// let mut it = (&mut source).tuple_windows();
-    /// let hint = it.size_hint();
-    /// let drawn = [it.next(), it.next(), it.next(), it.next(), it.next()];
+    /// let readings = [Ok::<u32, AllocError>(150), Ok(7), Ok(700)];
+    /// let mut it = convert(readings.into_iter()).tuple_windows();
+    /// let drawn = [it.next(), it.next(), it.next()];
+    /// assert_eq!(rt; drawn, [Ok(Some((150, 7))), Ok(Some((7, 700))), Ok(None)]);
     /// ```
     final fn tuple_windows(self) -> TupleWindows<Self>
     where
@@ -309,13 +321,16 @@ pub trait FallibleItertools: FallibleIterator {
     /// Requires that `next` may be called and that the iterator is finite, and that the closure may be called on each item that may come.
     ///
     /// ```
-    /// convert(readings.into_iter())
-    ///     .filter(|reading| Ok(*reading > 0))
-    ///     .try_for_each(|reading: u32| if reading > 100 {
-    ///         Err(Trouble::TooLarge(reading))
+    /// let mut it = convert([Ok::<u32, &str>(7), Ok(150), Ok(8)].into_iter());
+    /// let tried: Result<(), &str> = it.try_for_each(|reading: u32| {
+    ///     if reading > 100 {
+    ///         Err("too large")
     ///     } else {
     ///         Ok(())
-    ///     })
+    ///     }
+    /// });
+    /// assert_eq!(rt; tried, Err("too large"));
+    /// assert_eq!(rt; it.next(), Ok(Some(8)));
     /// ```
     final fn try_for_each<E, F>(&mut self, f: F) -> Result<(), E>
     where
@@ -346,11 +361,20 @@ pub trait FallibleItertools: FallibleIterator {
     /// Requires that `next` may be called and that the iterator is finite, and that the predicate may be called on each item that may come until it decides.
     ///
     /// ```
-    /// convert(readings.into_iter()).try_find(|reading: &u32| if *reading > 100 {
-    ///     Err(Trouble::TooLarge(*reading))
-    /// } else {
-    ///     Ok(*reading == 7)
-    /// })
+    /// let mut it = convert([Ok::<u32, &str>(0), Ok(7), Ok(150)].into_iter());
+    /// let mut find = || -> Result<Option<u32>, &str> {
+    ///     it.try_find(|reading: &u32| {
+    ///         if *reading > 100 {
+    ///             Err("too large")
+    ///         } else {
+    ///             Ok(*reading == 7)
+    ///         }
+    ///     })
+    /// };
+    /// assert_eq!(rt;
+    ///     [find(), find(), find()],
+    ///     [Ok(Some(7)), Err("too large"), Ok(None)]
+    /// );
     /// ```
     final fn try_find<E, F>(&mut self, f: F) -> Result<Option<Self::Item>, E>
     where
@@ -382,11 +406,20 @@ pub trait FallibleItertools: FallibleIterator {
     /// Requires what `try_find` requires, and that at most `usize::MAX` items are left, so that each position fits.
     ///
     /// ```
-    /// it.try_position(|reading: u32| if reading > 100 {
-    ///     Err(Trouble::TooLarge(reading))
-    /// } else {
-    ///     Ok(reading == 7)
-    /// })
+    /// let mut it = convert([Ok::<u32, &str>(0), Ok(7), Ok(150)].into_iter());
+    /// let mut place = || -> Result<Option<usize>, &str> {
+    ///     it.try_position(|reading: u32| {
+    ///         if reading > 100 {
+    ///             Err("too large")
+    ///         } else {
+    ///             Ok(reading == 7)
+    ///         }
+    ///     })
+    /// };
+    /// assert_eq!(rt;
+    ///     [place(), place(), place()],
+    ///     [Ok(Some(1)), Err("too large"), Ok(None)]
+    /// );
     /// ```
     final fn try_position<E, F>(&mut self, f: F) -> Result<Option<usize>, E>
     where
@@ -416,12 +449,10 @@ pub trait FallibleItertools: FallibleIterator {
     /// Requires that `next` may be called and that the iterator is finite.
     ///
     /// ```
-    /// let mut it = convert(readings.into_iter());
-    /// if it.contains(&0)? {
-    ///     it.draw()
-    /// } else {
-    ///     Ok(None)
-    /// }
+    /// let mut it = convert([Ok::<u32, u8>(150), Ok(7), Ok(700), Err(9)].into_iter());
+    /// assert_eq!(rt; it.contains(&7), Ok(true));
+    /// assert_eq!(rt; it.contains(&7), Err(9));
+    /// assert_eq!(rt; it.contains(&7), Ok(false));
     /// ```
     final fn contains(&mut self, wanted: &Self::Item) -> Result<bool, Self::Error>
     where
@@ -447,9 +478,9 @@ pub trait FallibleItertools: FallibleIterator {
     /// Requires that `next` may be called and that the iterator is finite.
     ///
     /// ```
-    /// convert(readings.into_iter())
-    ///     .filter(|reading| Ok(*reading > 100))
-    ///     .all_equal()
+    /// let mut it = convert([Ok::<u32, u8>(7), Ok(7), Ok(150), Ok(8)].into_iter());
+    /// assert_eq!(rt; it.all_equal(), Ok(false));
+    /// assert_eq!(rt; it.all_equal(), Ok(true));
     /// ```
     final fn all_equal(&mut self) -> Result<bool, Self::Error>
     where
@@ -475,7 +506,16 @@ pub trait FallibleItertools: FallibleIterator {
     /// Requires that `next` may be called and that the iterator is finite, and that the predicate may be called on each item that may come until it decides.
     ///
     /// ```
-    /// convert(readings.into_iter()).find_or_last(|reading| Ok(*reading > 100))
+    /// let readings = [Ok::<u32, u8>(7), Ok(150), Ok(8)];
+    /// let it = convert(readings.into_iter());
+    /// assert_eq!(rt;
+    ///     it.find_or_last(|reading| Ok(*reading > 100)),
+    ///     Ok(Some(150))
+    /// );
+    ///
+    /// let low = [Ok::<u32, u8>(7), Ok(8)];
+    /// let it = convert(low.into_iter());
+    /// assert_eq!(rt; it.find_or_last(|reading| Ok(*reading > 100)), Ok(Some(8)));
     /// ```
     final fn find_or_last<F>(mut self, f: F) -> Result<Option<Self::Item>, Self::Error>
     where
@@ -503,9 +543,11 @@ pub trait FallibleItertools: FallibleIterator {
     /// Requires that `next` may be called and that the iterator is finite.
     ///
     /// ```
-    /// convert(readings.into_iter())
-    ///     .filter(|reading| Ok(*reading > 100))
-    ///     .checked_sum()
+    /// let readings = [Ok::<u8, u8>(150), Ok(7)];
+    /// assert_eq!(rt; convert(readings.into_iter()).checked_sum(), Ok(Some(157)));
+    ///
+    /// let large = [Ok::<u8, u8>(150), Ok(150)];
+    /// assert_eq!(rt; convert(large.into_iter()).checked_sum(), Ok(None));
     /// ```
     final fn checked_sum(mut self) -> Result<Option<Self::Item>, Self::Error>
     where
@@ -526,7 +568,11 @@ pub trait FallibleItertools: FallibleIterator {
     /// Draws, errors and precondition: as `checked_sum`. It consumes the iterator too.
     ///
     /// ```
-    /// it.take(3).checked_product()
+    /// let sides = [Ok::<u8, u8>(3), Ok(7)];
+    /// assert_eq!(rt; convert(sides.into_iter()).checked_product(), Ok(Some(21)));
+    ///
+    /// let large = [Ok::<u8, u8>(150), Ok(2), Ok(0)];
+    /// assert_eq!(rt; convert(large.into_iter()).checked_product(), Ok(None));
     /// ```
     final fn checked_product(mut self) -> Result<Option<Self::Item>, Self::Error>
     where
@@ -550,14 +596,16 @@ pub trait FallibleItertools: FallibleIterator {
     /// Requires that `next` may be called and that the iterator is finite, and that the closure may be called on the value so far and each item that may come.
     ///
     /// ```
-    /// it.fold_while(
-    ///     0,
-    ///     |sum: u32, reading: u32| if reading == 0 {
-    ///         Ok(FoldWhile::Done(sum))
+    /// let mut it = convert([Ok::<u32, u8>(150), Ok(7), Ok(0), Ok(8)].into_iter());
+    /// let sum = it.fold_while(0, |sum: u32, reading: u32| {
+    ///     Ok(if reading == 0 {
+    ///         FoldWhile::Done(sum)
     ///     } else {
-    ///         Ok(FoldWhile::Continue(sum.wrapping_add(reading)))
-    ///     },
-    /// )
+    ///         FoldWhile::Continue(sum.wrapping_add(reading))
+    ///     })
+    /// });
+    /// assert_eq!(rt; sum, Ok(FoldWhile::Done(157)));
+    /// assert_eq!(rt; it.next(), Ok(Some(8)));
     /// ```
     final fn fold_while<B, F>(&mut self, init: B, f: F) -> Result<FoldWhile<B>, Self::Error>
     where
@@ -592,9 +640,12 @@ pub trait FallibleItertools: FallibleIterator {
     /// Requires that `next` may be called and that the iterator is finite, and that the closure may be called on each item that may come.
     ///
     /// ```
-    /// convert(readings.into_iter())
-    ///     .filter(|reading| Ok(*reading > 100))
-    ///     .is_sorted_by_key(|reading: u32| Ok(reading % 10))
+    /// let readings = [Ok::<u32, u8>(150), Ok(7), Ok(8)];
+    /// let it = convert(readings.into_iter());
+    /// assert_eq!(rt;
+    ///     it.is_sorted_by_key(|reading: u32| Ok(reading % 10)),
+    ///     Ok(true)
+    /// );
     /// ```
     final fn is_sorted_by_key<K, F>(mut self, f: F) -> Result<bool, Self::Error>
     where
@@ -622,9 +673,11 @@ pub trait FallibleItertools: FallibleIterator {
     /// Requires that `next` may be called and that the iterator is finite.
     ///
     /// ```
-    /// convert(readings.into_iter())
-    ///     .filter(|reading| Ok(*reading > 100))
-    ///     .is_sorted()
+    /// let readings = [Ok::<u32, u8>(7), Ok(7), Ok(150)];
+    /// assert_eq!(rt; convert(readings.into_iter()).is_sorted(), Ok(true));
+    ///
+    /// let falling = [Ok::<u32, u8>(150), Ok(7)];
+    /// assert_eq!(rt; convert(falling.into_iter()).is_sorted(), Ok(false));
     /// ```
     final fn is_sorted(mut self) -> Result<bool, Self::Error>
     where
@@ -650,10 +703,10 @@ pub trait FallibleItertools: FallibleIterator {
     /// Requires nothing.
     ///
     /// ```
-    /// convert(readings.into_iter()).copied().fold(
-    ///     0,
-    ///     |sum: u64, reading: u32| Ok(sum.wrapping_add(u64::from(reading))),
-    /// )
+    /// let readings = [150, 7];
+    /// let mut it = convert(readings.iter().map(Ok::<&u32, u8>)).copied();
+    /// let drawn = [it.next(), it.next(), it.next()];
+    /// assert_eq!(rt; drawn, [Ok(Some(150)), Ok(Some(7)), Ok(None)]);
     /// ```
     final fn copied<'a, T: 'a>(self) -> Copied<Self>
     where
@@ -674,9 +727,10 @@ pub trait FallibleItertools: FallibleIterator {
     /// Requires that the predicate may be called on each item that may come, in each state that such calls bring it to. `next` requires that it may be called on the source, and `Item: Drop`.
     ///
     /// ```
-    /// convert(readings.into_iter())
-    ///     .take_while_inclusive(|reading| Ok(*reading > 100))
-    ///     .count()
+    /// let readings = [Ok::<u32, u8>(150), Ok(7), Ok(700)];
+    /// let mut it = convert(readings.into_iter()).take_while_inclusive(|reading| Ok(*reading > 100));
+    /// let drawn = [it.next(), it.next(), it.next()];
+    /// assert_eq!(rt; drawn, [Ok(Some(150)), Ok(Some(7)), Ok(None)]);
     /// ```
     final fn take_while_inclusive<P>(self, predicate: P) -> TakeWhileInclusive<Self, P>
     where
@@ -706,9 +760,12 @@ pub trait FallibleItertools: FallibleIterator {
     /// Requires that the closure may be called on a reference to each failure that may come.
     ///
     /// ```
-    /// convert(rows.into_iter())
-    ///     .inspect_err(|code| *noted = Some(*code))
-    ///     .count()
+    /// let readings = [Ok::<u32, u8>(150), Err(9), Ok(7)];
+    /// let mut noted = None;
+    /// let mut it = convert(readings.into_iter()).inspect_err(|code| noted = Some(*code));
+    /// let drawn = [it.next(), it.next(), it.next()];
+    /// assert_eq!(rt; drawn, [Ok(Some(150)), Err(9), Ok(Some(7))]);
+    /// assert_eq!(rt; noted, Some(9));
     /// ```
     final fn inspect_err<F>(self, f: F) -> InspectErr<Self, F>
     where
@@ -732,7 +789,17 @@ pub trait FallibleItertools: FallibleIterator {
     /// Requires that the closure may be called on each failure that may come. `next` requires that it may be called on the source, that the source is finite, and that its items and failures together have a bound, since one call may leave many failures out.
     ///
     /// ```
-    /// convert(rows.into_iter()).or_else(|_| Ok(None)).count()
+    /// let readings = [Ok::<u32, u8>(150), Err(1), Err(2), Err(9)];
+    /// let mut it = convert(readings.into_iter()).or_else(|code| match code {
+    ///     1 => Ok(Some(0)),
+    ///     2 => Ok(None),
+    ///     _ => Err("broken"),
+    /// });
+    /// let drawn = [it.next(), it.next(), it.next(), it.next()];
+    /// assert_eq!(rt;
+    ///     drawn,
+    ///     [Ok(Some(150)), Ok(Some(0)), Err("broken"), Ok(None)]
+    /// );
     /// ```
     final fn or_else<E, F>(self, f: F) -> OrElse<Self, F>
     where
@@ -756,9 +823,14 @@ pub trait FallibleItertools: FallibleIterator {
     /// Requires nothing. `next` requires that it may be called on both sides, and `Item: Drop`. What it lists is known if both sides are fused, as after `convert_fused` or `fuse`.
     ///
     /// ```
-    /// convert_fused(left.into_iter())
-    ///     .merge(convert_fused(right.into_iter()))
-    ///     .last()
+    /// let left = convert([Ok::<u32, u8>(1), Ok(4)].into_iter());
+    /// let right = convert([Ok(2), Ok(3)].into_iter());
+    /// let mut it = left.merge(right);
+    /// let drawn = [it.next(), it.next(), it.next(), it.next(), it.next()];
+    /// assert_eq!(rt;
+    ///     drawn,
+    ///     [Ok(Some(1)), Ok(Some(2)), Ok(Some(3)), Ok(Some(4)), Ok(None)]
+    /// );
     /// ```
     final fn merge<I>(self, other: I) -> Merge<Self, I::IntoFallibleIter>
     where
@@ -802,9 +874,11 @@ pub trait FallibleItertools: FallibleIterator {
     /// Requires that the closure may be called on references to two items, one that may come of each side. `next` requires that it may be called on both sides, and `Item: Drop`. What it lists is known if both sides are fused, as after `convert_fused` or `fuse`.
     ///
     /// ```
-    /// convert_fused(left.into_iter())
-    ///     .merge_by(convert_fused(right.into_iter()), |x, y| Ok(*x <= *y))
-    ///     .count()
+    /// let left = convert([Ok::<u32, u8>(4), Ok(1)].into_iter());
+    /// let right = convert([Ok(3)].into_iter());
+    /// let mut it = left.merge_by(right, |x, y| Ok(*x >= *y));
+    /// let drawn = [it.next(), it.next(), it.next(), it.next()];
+    /// assert_eq!(rt; drawn, [Ok(Some(4)), Ok(Some(3)), Ok(Some(1)), Ok(None)]);
     /// ```
     final fn merge_by<I, F>(self, other: I, f: F) -> MergeBy<Self, I::IntoFallibleIter, F>
     where
@@ -858,9 +932,12 @@ pub trait FallibleItertools: FallibleIterator {
     /// Requires nothing. `next` requires that it may be called on both sides, and `Item: Drop`. What it lists is known if both sides are fused, as after `convert_fused` or `fuse`.
     ///
     /// ```
-    /// convert_fused(left.into_iter())
-    ///     .zip_longest(convert_fused(right.into_iter()))
-    ///     .count()
+    /// let letters = convert([Ok::<char, u8>('a'), Ok('b')].into_iter());
+    /// let numbers = convert([Ok(1)].into_iter());
+    /// let mut it = letters.zip_longest(numbers);
+    /// assert_eq!(rt; it.next(), Ok(Some(EitherOrBoth::Both('a', 1))));
+    /// assert_eq!(rt; it.next(), Ok(Some(EitherOrBoth::Left('b'))));
+    /// assert_eq!(rt; it.next(), Ok(None));
     /// ```
     final fn zip_longest<I>(self, other: I) -> ZipLongest<Self, I::IntoFallibleIter>
     where
@@ -901,9 +978,11 @@ pub trait FallibleItertools: FallibleIterator {
     /// Requires that `next` may be called.
     ///
     /// ```
-    /// convert(readings.into_iter())
-    ///     .filter(|reading| Ok(*reading > 100))
-    ///     .at_most_one()
+    /// let one = [Ok::<u32, u8>(150)];
+    /// assert_eq!(rt; convert(one.into_iter()).at_most_one(), Ok(Ok(Some(150))));
+    ///
+    /// let more = [Ok::<u32, u8>(150), Ok(7), Err(9)];
+    /// assert_eq!(rt; convert(more.into_iter()).at_most_one(), Ok(Err((150, 7))));
     /// ```
     final fn at_most_one(
         &mut self,
@@ -938,7 +1017,14 @@ pub trait FallibleItertools: FallibleIterator {
     /// Draws, errors, precondition and what is left: as `at_most_one`.
     ///
     /// ```
-    /// it.take(10).exactly_one()
+    /// let one = [Ok::<u32, u8>(150)];
+    /// assert_eq!(rt; convert(one.into_iter()).exactly_one(), Ok(Ok(150)));
+    ///
+    /// let more = [Ok::<u32, u8>(150), Ok(7), Err(9)];
+    /// assert_eq!(rt;
+    ///     convert(more.into_iter()).exactly_one(),
+    ///     Ok(Err(NotOne::More(150, 7)))
+    /// );
     /// ```
     final fn exactly_one(&mut self) -> Result<Result<Self::Item, NotOne<Self::Item>>, Self::Error>
     where
@@ -971,9 +1057,11 @@ pub trait FallibleItertools: FallibleIterator {
     /// Requires that `next` may be called and that the iterator is finite.
     ///
     /// ```
-    /// convert(readings.into_iter())
-    ///     .filter(|reading| Ok(*reading > 100))
-    ///     .minmax()
+    /// let readings = [Ok::<u32, u8>(150), Ok(7), Ok(700)];
+    /// assert_eq!(rt;
+    ///     convert(readings.into_iter()).minmax(),
+    ///     Ok(MinMaxResult::MinMax(7, 700))
+    /// );
     /// ```
     final fn minmax(mut self) -> Result<MinMaxResult<Self::Item>, Self::Error>
     where
@@ -999,7 +1087,12 @@ pub trait FallibleItertools: FallibleIterator {
     /// Requires that `next` may be called, and that at most `usize::MAX` items are left, so that each number fits.
     ///
     /// ```
-    /// let counts = numbers(&[Ok(5), Ok(7), Ok(5)]).counts(rt.alloc());
+    /// let readings = [Ok::<u32, u8>(7), Ok(150), Ok(7)];
+    /// let counts = convert(readings.into_iter()).counts(rt.alloc())?;
+    /// assert_eq!(rt;
+    ///     (counts.get(&7), counts.get(&150), counts.get(&8)),
+    ///     (Some(&2), Some(&1), None)
+    /// );
     /// ```
     final fn counts(self, alloc: Global) -> Result<HashMap<Self::Item, usize>, Fault<Self::Error>>
     where
@@ -1028,9 +1121,10 @@ pub trait FallibleItertools: FallibleIterator {
     /// Requires that `next` may be called and that the iterator is finite.
     ///
     /// ```
-    /// convert(readings.into_iter())
-    ///     .map(|reading| Ok((reading % 10, reading)))
-    ///     .into_group_map(alloc)
+    /// let pairs = [Ok::<(char, u32), u8>(('a', 1)), Ok(('b', 2)), Ok(('a', 3))];
+    /// let groups = convert(pairs.into_iter()).into_group_map(rt.alloc())?;
+    /// assert_eq!(rt; groups.get(&'a'), Some(&vec![in rt.alloc(); 1, 3]?));
+    /// assert_eq!(rt; groups.get(&'b'), Some(&vec![in rt.alloc(); 2]?));
     /// ```
     final fn into_group_map<K, V>(
         self,
@@ -1064,13 +1158,18 @@ pub trait FallibleItertools: FallibleIterator {
     /// Requires that `next` may be called and that the iterator is finite, and of the closure what `map` requires.
     ///
     /// ```
-    /// convert(readings.into_iter()).partition_map(alloc, |reading: u32| {
-    ///     Ok(if reading > 100 {
-    ///         Either::Right(reading - 100)
-    ///     } else {
-    ///         Either::Left(reading)
-    ///     })
-    /// })
+    /// let readings = [Ok::<u32, u8>(150), Ok(7), Ok(700)];
+    /// let (low, above): (Vec<u32>, Vec<u32>) = convert(readings.into_iter()).partition_map(
+    ///     rt.alloc(),
+    ///     |reading: u32| {
+    ///         Ok(match reading.checked_sub(100) {
+    ///             Some(above) => Either::Right(above),
+    ///             None => Either::Left(reading),
+    ///         })
+    ///     },
+    /// )?;
+    /// assert_eq!(rt; low, vec![in rt.alloc(); 7]?);
+    /// assert_eq!(rt; above, vec![in rt.alloc(); 50, 600]?);
     /// ```
     final fn partition_map<L, R, F, A, B>(
         self,
@@ -1109,7 +1208,9 @@ pub trait FallibleItertools: FallibleIterator {
     /// Requires that `next` may be called and that the iterator is finite.
     ///
     /// ```
-    /// convert(readings.into_iter()).sorted(alloc)
+    /// let readings = [Ok::<u32, u8>(150), Ok(7), Ok(700)];
+    /// let sorted = convert(readings.into_iter()).sorted(rt.alloc())?;
+    /// assert_eq!(rt; sorted, vec![in rt.alloc(); 7, 150, 700]?);
     /// ```
     final fn sorted(self, alloc: Global) -> Result<Vec<Self::Item>, Fault<Self::Error>>
     where
@@ -1135,7 +1236,9 @@ pub trait FallibleItertools: FallibleIterator {
     /// Requires that `next` may be called and that the iterator is finite, and that the closure may be called on a reference to any item at any time.
     ///
     /// ```
-    /// convert(readings.into_iter()).sorted_by_key(alloc, |reading: &u32| *reading % 10)
+    /// let words = [Ok::<&str, u8>("the"), Ok("sea"), Ok("is")];
+    /// let sorted = convert(words.into_iter()).sorted_by_key(rt.alloc(), |word: &&str| word.len())?;
+    /// assert_eq!(rt; sorted, vec![in rt.alloc(); "is", "the", "sea"]?);
     /// ```
     final fn sorted_by_key<K, F>(
         self,
@@ -1170,7 +1273,9 @@ pub trait FallibleItertools: FallibleIterator {
     /// Requires that `next` may be called and that the iterator is finite. The text is known of items whose type says how they are shown.
     ///
     /// ```
-    /// let text = numbers(&[Ok(1), Ok(20), Ok(3)]).join(rt.alloc(), ", ");
+    /// let readings = [Ok::<u32, u8>(150), Ok(7), Ok(700)];
+    /// let text = convert(readings.into_iter()).join(rt.alloc(), ", ")?;
+    /// assert_eq!(rt; text.as_str(), "150, 7, 700");
     /// ```
     final fn join(mut self, alloc: Global, separator: &str) -> Result<String, Fault<Self::Error>>
     where
@@ -1201,7 +1306,10 @@ pub trait FallibleItertools: FallibleIterator {
     /// Requires that `next` may be called on both sides and that one of the two is finite, and that the closure may be called on each two items that may come in one round.
     ///
     /// ```
-    /// let order = numbers(left).cmp_by(numbers(right), last_digits);
+    /// let left = convert([Ok::<u32, u8>(11), Ok(12)].into_iter());
+    /// let right = convert([Ok(21), Ok(13)].into_iter());
+    /// let order = left.cmp_by(right, |x, y| Ok((x % 10).cmp(&(y % 10))));
+    /// assert_eq!(rt; order, Ok(Ordering::Less));
     /// ```
     final fn cmp_by<I, F>(self, other: I, f: F) -> Result<Ordering, Self::Error>
     where
@@ -1236,7 +1344,9 @@ pub trait FallibleItertools: FallibleIterator {
     /// Draws, errors and precondition: as `cmp_by`.
     ///
     /// ```
-    /// let equal = numbers(left).eq_by(numbers(right), same_last_digit);
+    /// let left = convert([Ok::<u32, u8>(11), Ok(12)].into_iter());
+    /// let right = convert([Ok(21), Ok(2)].into_iter());
+    /// assert_eq!(rt; left.eq_by(right, |x, y| Ok(x % 10 == y % 10)), Ok(true));
     /// ```
     final fn eq_by<I, F>(self, other: I, f: F) -> Result<bool, Self::Error>
     where
@@ -1275,7 +1385,11 @@ pub trait FallibleItertools: FallibleIterator {
     /// Requires that n is not 0. `next` requires that it may be called on the source, and `Item: Drop`. It requires no bound: one call draws at most n times.
     ///
     /// ```
-    /// convert(readings.into_iter()).chunks(alloc, 2).count()
+    /// let readings = [Ok::<u32, AllocError>(150), Ok(7), Ok(700)];
+    /// let mut it = convert(readings.into_iter()).chunks(rt.alloc(), 2);
+    /// assert_eq!(rt; it.next(), Ok(Some(vec![in rt.alloc(); 150, 7]?)));
+    /// assert_eq!(rt; it.next(), Ok(Some(vec![in rt.alloc(); 700]?)));
+    /// assert_eq!(rt; it.next(), Ok(None));
     /// ```
     final fn chunks(self, alloc: Global, n: usize) -> Chunks<Self>
     where
@@ -1306,10 +1420,11 @@ pub trait FallibleItertools: FallibleIterator {
     /// Requires that the closure may be called on a reference to each item that may come, in each state that such calls bring it to. `next` requires that it may be called on the source, that the source is finite, and `Item: Drop`.
     ///
     /// ```
-    /// convert(readings.into_iter())
-    ///     .chunk_by(alloc, |reading| Ok(*reading / 100))
-    ///     .map(|(hundreds, group)| Ok((hundreds, group.len())))
-    ///     .last()
+    /// let readings = [Ok::<u32, AllocError>(150), Ok(157), Ok(7)];
+    /// let mut it = convert(readings.into_iter()).chunk_by(rt.alloc(), |reading| Ok(*reading / 10));
+    /// assert_eq!(rt; it.next(), Ok(Some((15, vec![in rt.alloc(); 150, 157]?))));
+    /// assert_eq!(rt; it.next(), Ok(Some((0, vec![in rt.alloc(); 7]?))));
+    /// assert_eq!(rt; it.next(), Ok(None));
     /// ```
     final fn chunk_by<K, F>(self, alloc: Global, key: F) -> ChunkBy<Self, K, F>
     where
@@ -1343,7 +1458,10 @@ pub trait FallibleItertools: FallibleIterator {
     /// Requires nothing. `next` requires that it may be called on the source.
     ///
     /// ```
-    /// convert(readings.into_iter()).intersperse(0).count()
+    /// let readings = [Ok::<u32, AllocError>(150), Ok(7)];
+    /// let mut it = convert(readings.into_iter()).intersperse(0);
+    /// let drawn = [it.next(), it.next(), it.next(), it.next()];
+    /// assert_eq!(rt; drawn, [Ok(Some(150)), Ok(Some(0)), Ok(Some(7)), Ok(None)]);
     /// ```
     final fn intersperse(self, separator: Self::Item) -> Intersperse<Self>
     where
@@ -1371,9 +1489,23 @@ pub trait FallibleItertools: FallibleIterator {
     /// Requires that the closure may be called in each state that such calls bring it to. `next` requires that, and that it may be called on the source. If the closure's state shows what its calls return, that is listed between the items.
     ///
     /// ```
-    /// convert(readings.into_iter())
-    ///     .intersperse_with(|| Ok(0))
-    ///     .count()
+    /// let readings = [Ok::<u32, u8>(150), Ok(7), Ok(700)];
+    /// let mut number = 0u32;
+    /// let mut it = convert(readings.into_iter()).intersperse_with(|| {
+    ///     number = number.wrapping_add(1);
+    ///     Ok(number)
+    /// });
+    /// let drawn = [it.next(), it.next(), it.next(), it.next(), it.next()];
+    /// assert_eq!(rt;
+    ///     drawn,
+    ///     [
+    ///         Ok(Some(150)),
+    ///         Ok(Some(1)),
+    ///         Ok(Some(7)),
+    ///         Ok(Some(2)),
+    ///         Ok(Some(700))
+    ///     ]
+    /// );
     /// ```
     final fn intersperse_with<F>(self, f: F) -> IntersperseWith<Self, F>
     where
@@ -1410,7 +1542,10 @@ pub trait FallibleItertools: FallibleIterator {
     /// Requires nothing. `next` requires that it may be called on the source, and that the source is finite, since one call may leave many items out.
     ///
     /// ```
-    /// convert(readings.into_iter()).unique(alloc).collect(alloc)
+    /// let readings = [Ok::<u32, AllocError>(7), Ok(150), Ok(7)];
+    /// let mut it = convert(readings.into_iter()).unique(rt.alloc());
+    /// let drawn = [it.next(), it.next(), it.next()];
+    /// assert_eq!(rt; drawn, [Ok(Some(7)), Ok(Some(150)), Ok(None)]);
     /// ```
     final fn unique(self, alloc: Global) -> Unique<Self>
     where

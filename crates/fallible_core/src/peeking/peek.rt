@@ -24,12 +24,12 @@ where
     /// Requires that `next` may be called.
     ///
     /// ```
-    /// let answers = [Ok(1), Ok(2), Ok(3)];
-    /// let mut it = numbers(&answers);
-    /// let mut ahead = (&mut it).peekable();
-    /// assert_eq!(rt; ahead.peek(), Ok(Some(&1)));
-    /// assert_eq!(rt; ahead.peek(), Ok(Some(&1)));
-    /// assert_eq!(rt; it.next(), Ok(Some(2)));
+    /// let mut it = convert([Ok::<u32, u8>(150), Err(9)].into_iter()).peekable();
+    /// assert_eq!(rt; it.peek(), Ok(Some(&150)));
+    /// assert_eq!(rt; it.peek(), Ok(Some(&150)));
+    /// assert_eq!(rt; it.next(), Ok(Some(150)));
+    /// assert_eq!(rt; it.peek(), Err(9));
+    /// assert_eq!(rt; it.peek(), Ok(None));
     /// ```
     pub fn peek(&mut self) -> Result<Option<&I::Item>, I::Error>
     where
@@ -54,10 +54,9 @@ where
     /// Requires that `next` may be called, and that the closure may be called on a reference to each item that may come.
     ///
     /// ```
-    /// let mut ahead = convert(readings.into_iter()).peekable();
-    /// let first = ahead.peek_copied()?;
-    /// ahead.draw()?;
-    /// let second = ahead.look(|reading| *reading)?;
+    /// let mut it = convert([Ok::<u32, u8>(150), Ok(7)].into_iter()).peekable();
+    /// assert_eq!(rt; it.look(|reading| *reading > 100), Ok(Some(true)));
+    /// assert_eq!(rt; it.next(), Ok(Some(150)));
     /// ```
     pub fn look<R, F: Fn(&I::Item) -> R>(&mut self, f: F) -> Result<Option<R>, I::Error>
     where
@@ -88,9 +87,9 @@ where
     /// Requires that `next` may be called.
     ///
     /// ```
-    /// let mut ahead = it.peekable();
-    /// let first = ahead.peek_copied()?;
-    /// Ok((first, ahead.count()?))
+    /// let mut it = convert([Ok::<u32, u8>(150), Ok(7)].into_iter()).peekable();
+    /// assert_eq!(rt; it.peek_copied(), Ok(Some(150)));
+    /// assert_eq!(rt; it.next(), Ok(Some(150)));
     /// ```
     pub fn peek_copied(&mut self) -> Result<Option<I::Item>, I::Error>
     where
@@ -117,11 +116,9 @@ where
     /// Requires that `next` may be called.
     ///
     /// ```
-    /// match it.fill() {
-    ///     Ok(()) => {}
-    ///     Err(e) => return Err(e),
-    /// }
-    /// let is_item = (*it).held().is_some();
+    /// let mut it = convert([Ok::<u32, u8>(150), Err(9)].into_iter()).peekable();
+    /// assert_eq!(rt; it.fill(), Ok(()));
+    /// assert_eq!(rt; it.held(), Some(&150));
     /// ```
     pub fn fill(&mut self) -> Result<(), I::Error>
     where
@@ -159,7 +156,9 @@ where
     /// It draws nothing and never fails. What is buffered stays so.
     ///
     /// ```
-    /// let is_item = (*it).held().is_some();
+    /// let mut it = convert([Ok::<u32, u8>(150), Err(9)].into_iter()).peekable();
+    /// assert_eq!(rt; it.fill(), Ok(()));
+    /// assert_eq!(rt; it.held(), Some(&150));
     /// ```
     pub fn held(&self) -> Option<&I::Item>
     where

@@ -76,10 +76,10 @@ where
     /// Requires that `next` may be called, and that the closure may be called on a reference to each item that may come.
     ///
     /// ```
-    /// match right.next_if(|second| *second < first)? {
-    ///     Some(second) => Ok(Some(second)),
-    ///     None => left.draw(),
-    /// }
+    /// let mut it = convert([Ok::<u32, u8>(150), Ok(7)].into_iter()).peekable();
+    /// assert_eq!(rt; it.next_if(|reading| *reading > 100), Ok(Some(150)));
+    /// assert_eq!(rt; it.next_if(|reading| *reading > 100), Ok(None));
+    /// assert_eq!(rt; it.next(), Ok(Some(7)));
     /// ```
     pub fn next_if<F: Fn(&I::Item) -> bool>(&mut self, f: F) -> Result<Option<I::Item>, I::Error>
     where
@@ -123,10 +123,10 @@ where
     /// Requires that `next` may be called.
     ///
     /// ```
-    /// assert_eq!(rt; it.next_if_eq(&7), Ok(None));
-    /// assert_eq!(rt; it.peek(), Ok(None));
-    /// assert_eq!(rt; it.next(), Ok(None));
-    /// assert_eq!(rt; it.next_if_eq(&7), Ok(Some(7)));
+    /// let mut it = convert([Ok::<u32, u8>(150), Ok(7)].into_iter()).peekable();
+    /// assert_eq!(rt; it.next_if_eq(&150), Ok(Some(150)));
+    /// assert_eq!(rt; it.next_if_eq(&150), Ok(None));
+    /// assert_eq!(rt; it.next(), Ok(Some(7)));
     /// ```
     pub fn next_if_eq(&mut self, expected: &I::Item) -> Result<Option<I::Item>, I::Error>
     where

@@ -25,7 +25,9 @@ pub trait DoubleEndedFallibleIterator: FallibleIterator {
     /// Requires that `next` and `next_back` may be called.
     ///
     /// ```
-    /// convert(readings.into_iter()).next_back()
+    /// let mut it = convert([Ok::<u32, u8>(1), Ok(2), Err(9)].into_iter());
+    /// let drawn = [it.next_back(), it.next(), it.next_back(), it.next_back()];
+    /// assert_eq!(rt; drawn, [Err(9), Ok(Some(1)), Ok(Some(2)), Ok(None)]);
     /// ```
     fn next_back(&mut self) -> Result<Option<Self::Item>, Self::Error>
         requires { ends.can_next self.old }
@@ -66,11 +68,13 @@ pub trait DoubleEndedFallibleIterator: FallibleIterator {
     /// Requires that `next` and `next_back` may be called and that the iterator is finite, and that the closure may be called on the value so far and each item that may come from the back.
     ///
     /// ```
-    /// let answers = [Ok(1), Err(2), Ok(3), Ok(4)];
-    /// let mut it = numbers(&answers);
-    /// let failed: Result<u32, u32> = it.try_rfold(0, add_up);
-    /// assert_eq!(rt; failed, Err(2));
-    /// assert_eq!(rt; it.next_back(), Ok(Some(1)));
+    /// let mut it = convert([Ok::<u8, &str>(7), Ok(100), Ok(100), Ok(100)].into_iter());
+    /// let sum: Result<u8, &str> = it.try_rfold(
+    ///     0,
+    ///     |sum: u8, x: u8| sum.checked_add(x).ok_or("too large"),
+    /// );
+    /// assert_eq!(rt; sum, Err("too large"));
+    /// assert_eq!(rt; it.next_back(), Ok(Some(7)));
     /// ```
     final fn try_rfold<B, E, F>(&mut self, init: B, f: F) -> Result<B, E>
     where
@@ -113,9 +117,11 @@ pub trait DoubleEndedFallibleIterator: FallibleIterator {
     /// Requires what `try_rfold` requires.
     ///
     /// ```
-    /// let answers = [Ok(1), Ok(2), Ok(3)];
-    /// let it = numbers(&answers);
-    /// assert_eq!(rt; it.rfold(0, put_behind), Ok(321));
+    /// let digits = [Ok::<u32, u8>(1), Ok(2), Ok(3)];
+    /// let read = convert(digits.into_iter()).rfold(0, |number: u32, digit: u32| {
+    ///     Ok(number.wrapping_mul(10).wrapping_add(digit))
+    /// });
+    /// assert_eq!(rt; read, Ok(321));
     /// ```
     final fn rfold<B, F>(mut self, init: B, f: F) -> Result<B, Self::Error>
     where
@@ -143,9 +149,14 @@ pub trait DoubleEndedFallibleIterator: FallibleIterator {
     /// Requires that `next` and `next_back` may be called.
     ///
     /// ```
-    /// it.draw_back()?;
-    /// it.draw_front()?;
-    /// it.draw_back()
+    /// let mut it = convert([Ok::<u32, u8>(1), Ok(2), Err(9)].into_iter());
+    /// let drawn = [
+    ///     it.draw_back(),
+    ///     it.draw_front(),
+    ///     it.draw_back(),
+    ///     it.draw_back(),
+    /// ];
+    /// assert_eq!(rt; drawn, [Err(9), Ok(Some(1)), Ok(Some(2)), Ok(None)]);
     /// ```
     final fn draw_front(&mut self) -> Result<Option<Self::Item>, Self::Error>
     where
@@ -167,12 +178,14 @@ pub trait DoubleEndedFallibleIterator: FallibleIterator {
     /// Requires that `next` and `next_back` may be called.
     ///
     /// ```
-    /// let mut it = convert(readings.into_iter())
-    ///     .map(|reading| Ok(u64::from(reading) * 2))
-    ///     .filter(|double| Ok(*double > 1000));
-    /// it.draw_back()?;
-    /// it.draw_front()?;
-    /// it.draw_back()
+    /// let mut it = convert([Ok::<u32, u8>(1), Ok(2), Err(9)].into_iter());
+    /// let drawn = [
+    ///     it.draw_back(),
+    ///     it.draw_front(),
+    ///     it.draw_back(),
+    ///     it.draw_back(),
+    /// ];
+    /// assert_eq!(rt; drawn, [Err(9), Ok(Some(1)), Ok(Some(2)), Ok(None)]);
     /// ```
     final fn draw_back(&mut self) -> Result<Option<Self::Item>, Self::Error>
     where

@@ -18,8 +18,10 @@ use std::alloc::{AllocError, Global};
 /// Requires that `next` may be called.
 ///
 /// ```
-/// let mut rows = Rows::new(b"1\nx\n3\n".as_slice());
-/// let drawn = answers(rt.alloc(), &mut rows, 5)?;
+/// let mut it = convert([Ok::<u32, u8>(150), Err(9)].into_iter());
+/// let drawn = answers(rt.alloc(), &mut it, 3)?;
+/// let expected = [Answer::Item(150), Answer::Failure(9), Answer::End];
+/// assert_eq!(rt; drawn.as_slice(), expected.as_slice());
 /// ```
 pub fn answers<I: FallibleIterator>(
     alloc: Global,
@@ -51,8 +53,10 @@ where
 /// Requires that `next` and `next_back` may be called.
 ///
 /// ```
-/// let mut it = convert(readings.into_iter());
-/// answers_at(alloc, &mut it, &[Side::Front, Side::Back, Side::Back])
+/// let mut it = convert([Ok::<u32, u8>(1), Ok(2), Err(9)].into_iter());
+/// let drawn = answers_at(rt.alloc(), &mut it, &[Side::Back, Side::Front, Side::Back])?;
+/// let expected = [Answer::Failure(9), Answer::Item(1), Answer::Item(2)];
+/// assert_eq!(rt; drawn.as_slice(), expected.as_slice());
 /// ```
 pub fn answers_at<I: DoubleEndedFallibleIterator>(
     alloc: Global,

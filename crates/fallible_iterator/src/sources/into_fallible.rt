@@ -83,8 +83,10 @@ impl<T, I: std::iter::DoubleEndedIterator<Item = T>> IntoFallible<I> {
     ///
     /// ```
     /// let mut it = IntoFallible::from(1..4u32).rev();
-    /// assert_eq!(rt; it.size_hint(), (3, Some(3)));
-    /// assert_eq!(rt; it.next(), Ok(Some(3)));
+    /// assert_eq!(rt;
+    ///     [it.next(), it.next(), it.next()],
+    ///     [Ok(Some(3)), Ok(Some(2)), Ok(Some(1))]
+    /// );
     /// ```
     pub fn rev(self) -> Rev<IntoFallible<I>>
         ensures parts { rev_parts result ≡ self }
@@ -108,8 +110,11 @@ impl<T, I: std::iter::Iterator<Item = T>> From<I> for IntoFallible<I> {
     /// Creating it draws nothing. `next` draws the std iterator once. It never fails. After `Ok(None)` the next call draws the std iterator again.
     ///
     /// ```
-    /// let it = IntoFallible::from(0..4u32).chain(IntoFallible::from(4..8u32));
-    /// expect_collected(it.collect(rt.alloc()), &[0, 1, 2, 3, 4, 5, 6, 7])
+    /// let mut it = IntoFallible::from(0..2u32);
+    /// assert_eq!(rt;
+    ///     [it.next(), it.next(), it.next()],
+    ///     [Ok(Some(0)), Ok(Some(1)), Ok(None)]
+    /// );
     /// ```
     fn from(it: I) -> IntoFallible<I>
         ensures parts { into_fallible_parts result ≡ it }

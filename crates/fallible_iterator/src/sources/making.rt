@@ -25,10 +25,9 @@ use std::marker::PhantomData;
 /// Requires nothing. `next` requires that the std iterator may be drawn again after each element and after `None`, and that a bound that it states doesn't rise there; from both ends, if that holds after every draw from either end. For a std iterator that doesn't say so, as `lines` of a reader, use `convert_fused`. What it lists from the back is said by `rev` and by `law_back_convert`, which require a double-ended std iterator.
 ///
 /// ```
-/// convert(readings.into_iter())
-///     .take(10)
-///     .filter(|reading| Ok(*reading > 100))
-///     .count()
+/// let mut it = convert([Ok::<u32, u8>(150), Err(9), Ok(700)].into_iter());
+/// let drawn = [it.next(), it.next(), it.next(), it.next()];
+/// assert_eq!(rt; drawn, [Ok(Some(150)), Err(9), Ok(Some(700)), Ok(None)]);
 /// ```
 pub fn convert<T, E, I: Iterator<Item = Result<T, E>>>(it: I) -> Convert<I>
     ensures parts { convert_parts result ≡ it }
@@ -50,10 +49,20 @@ pub fn convert<T, E, I: Iterator<Item = Result<T, E>>>(it: I) -> Convert<I>
 /// Requires nothing. `next` requires that the std iterator may be drawn again after each `Some`.
 ///
 /// ```
-/// convert_fused(reader.lines(alloc))
-///     .map_err(|_| LineFault::Read)
-///     .map(|line| line.parse::<u64>().map_err(|_| LineFault::Number))
-///     .fold(0, |sum: u64, number: u64| Ok(sum.wrapping_add(number)))
+/// let mut polls = 0u32;
+/// let source = iter::from_fn(|| {
+///     polls = polls.wrapping_add(1);
+///     if polls == 2 {
+///         None
+///     } else {
+///         Some(Ok::<u32, u8>(polls))
+///     }
+/// });
+/// let mut it = convert_fused(source);
+/// assert_eq!(rt;
+///     [it.next(), it.next(), it.next()],
+///     [Ok(Some(1)), Ok(None), Ok(None)]
+/// );
 /// ```
 pub fn convert_fused<T, E, I: Iterator<Item = Result<T, E>>>(it: I) -> Convert<Fuse<I>>
     ensures source { fuse_source (convert_parts result) ≡ it }
@@ -75,7 +84,7 @@ pub fn convert_fused<T, E, I: Iterator<Item = Result<T, E>>>(it: I) -> Convert<F
 /// Creating it draws nothing. It never fails. After the item each call returns `Ok(None)`.
 ///
 /// ```
-/// let mut it = once::<u32, u32>(5);
+/// let mut it = once::<u32, u8>(5);
 /// assert_eq!(rt; [it.next(), it.next()], [Ok(Some(5)), Ok(None)]);
 /// ```
 pub fn once<T, E>(value: T) -> Once<T, E>
@@ -94,11 +103,8 @@ pub fn once<T, E>(value: T) -> Once<T, E>
 /// Creating it draws nothing. It fails once. After the failure each call returns `Ok(None)`.
 ///
 /// ```
-/// let mut it = once_err::<u32, u32>(4);
-/// assert_eq!(rt;
-///     [it.next(), it.next(), it.next()],
-///     [Err(4), Ok(None), Ok(None)]
-/// );
+/// let mut it = once_err::<u32, u8>(9);
+/// assert_eq!(rt; [it.next(), it.next()], [Err(9), Ok(None)]);
 /// ```
 pub fn once_err<T, E>(error: E) -> OnceErr<T, E>
     ensures parts { once_err_parts result ≡ Some error }
@@ -119,11 +125,14 @@ pub fn once_err<T, E>(error: E) -> OnceErr<T, E>
 ///
 /// ```
 /// let mut calls = 0u32;
-/// let mut it = from_fn(move || {
+/// let mut it = from_fn(|| -> Result<Option<u32>, u8> {
 ///     calls = calls.wrapping_add(1);
-///     Ok::<Option<u32>, u32>(Some(calls))
+///     if calls == 2 { Err(9) } else { Ok(Some(calls)) }
 /// });
-/// assert_eq!(rt; it.next(), Ok(Some(1)));
+/// assert_eq!(rt;
+///     [it.next(), it.next(), it.next()],
+///     [Ok(Some(1)), Err(9), Ok(Some(3))]
+/// );
 /// ```
 pub fn from_fn<I, E, F: FnMut() -> Result<Option<I>, E>>(fun: F) -> FromFn<F>
     requires { IsCallable (call_of_none F.FnMut) (λ f _. F.pre f) (λ _. ⊤) fun }
@@ -141,7 +150,7 @@ pub fn from_fn<I, E, F: FnMut() -> Result<Option<I>, E>>(fun: F) -> FromFn<F>
 /// Creating it draws nothing. It never fails.
 ///
 /// ```
-/// let mut it = empty::<u32, u32>();
+/// let mut it = empty::<u32, u8>();
 /// assert_eq!(rt; [it.next(), it.next()], [Ok(None), Ok(None)]);
 /// ```
 pub fn empty<T, E>() -> Empty<T, E>
@@ -158,8 +167,8 @@ pub fn empty<T, E>() -> Empty<T, E>
 /// Creating it draws nothing. If a clone can't be allocated, it fails with the failure converted from `AllocError`. The value stays, and the next call clones it again. It states no bound, so it is drained through `take`.
 ///
 /// ```
-/// let it = repeat::<u32, TestError>(5).take(2);
-/// expect_collected(it.collect(rt.alloc()), &[5, 5])
+/// let mut it = repeat::<u32, AllocError>(5);
+/// assert_eq!(rt; [it.next(), it.next()], [Ok(Some(5)), Ok(Some(5))]);
 /// ```
 pub fn repeat<T: Clone, E: From<AllocError>>(value: T) -> Repeat<T, E>
     ensures parts { repeat_parts result ≡ value }

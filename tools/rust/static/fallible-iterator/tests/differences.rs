@@ -99,6 +99,8 @@ fn hints_hold() {
     assert_eq!(empty::<u32, u32>().cycle().size_hint(), (0, None));
     assert_eq!(once_err::<u32, u32>(4).iterator().size_hint(), (0, None));
     assert_eq!(once_err::<u32, u32>(4).iterator().collect::<Vec<_>>(), [Err(4)]);
+    let failing = || convert([Err(1), Err(2), Ok(3), Err(4), Ok(5)].into_iter()).iterator();
+    assert_eq!((failing().size_hint(), failing().count()), ((0, None), 5));
 }
 
 #[test]

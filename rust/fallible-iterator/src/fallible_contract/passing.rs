@@ -1,0 +1,94 @@
+//! What adapters make of the items that they let pass, and the turn of their folds.
+
+use crate::fallible_contract::folds::{Beside, Turn};
+use core::ops::ControlFlow;
+
+/// What becomes of one item.
+pub enum Outcome<B, E> {
+    /// an item in its place
+    Kept(B),
+    /// nothing
+    LeftOut,
+    /// a failure in its place
+    Failure(E),
+    /// an `Ok(None)` in its place
+    End,
+}
+
+/// What an adapter makes of one item of its source, with the state that it keeps from item to item: its closure, or a count.
+pub trait Pass<P, X, E> {
+    /// What the adapter yields.
+    type Kept;
+
+    /// What the closure returns for an item.
+    type Answer;
+
+    /// Calls the closure once on the item.
+    ///
+    /// <details><summary>Contract</summary>
+    ///
+    /// As it is proved, in [these words](crate::words):
+    ///
+    /// ```text
+    /// requires { can_pass self.now state.old item }
+    /// ensures { ItemPassed (call self.now) (outcome self.now) state.old item result state.new }
+    /// ```
+    /// </details>
+    fn pass(&self, state: &mut P, item: X) -> Outcome<Self::Kept, E>;
+}
+
+/// The turn of an adapter's fold through its source's own: what becomes of the item, and the caller's turn on what is kept.
+pub struct PassTurn<'a, A, K> {
+    /// the adapter
+    pub adapter: &'a A,
+    /// the caller's turn
+    pub turn: &'a K,
+}
+
+impl<'a, 'b, P, X, E, C, R, A: Pass<P, X, E>, K: Turn<C, A::Kept, R>>
+    Turn<Beside<'b, C, P>, X, Result<Option<R>, E>> for PassTurn<'a, A, K>
+{
+    /// Calls the closure once, and takes the caller's turn if the item is kept.
+    #[inline(always)]
+    fn turn(&self, state: &mut Beside<'b, C, P>, item: X) -> ControlFlow<Result<Option<R>, E>, ()> {
+        match self.adapter.pass(state.p, item) {
+            Outcome::Kept(y) => match self.turn.turn(state.c, y) {
+                ControlFlow::Continue(()) => ControlFlow::Continue(()),
+                ControlFlow::Break(stop) => ControlFlow::Break(Ok(Some(stop))),
+            },
+            Outcome::LeftOut => ControlFlow::Continue(()),
+            Outcome::Failure(e) => ControlFlow::Break(Err(e)),
+            Outcome::End => ControlFlow::Break(Ok(None)),
+        }
+    }
+}
+
+/// What an adapter that leaves nothing out makes of one answer of its source: the closure is called if that is an item.
+///
+/// <details><summary>Contract</summary>
+///
+/// As it is proved, in [these words](crate::words):
+///
+/// ```text
+/// requires takes { IfItem (A.can_pass adapter.now state.old) drawn }
+/// requires answers { LeavesNoneOut (A.outcome adapter.now) }
+/// ensures { PassAnswer (A.call adapter.now) (A.outcome adapter.now) state.old drawn result
+///     state.new }
+/// ```
+/// </details>
+pub fn passed<P, X, E, A: Pass<P, X, E>>(
+    drawn: Result<Option<X>, E>,
+    state: &mut P,
+    adapter: &A,
+) -> Result<Option<A::Kept>, E> {
+    match drawn {
+        Ok(Some(x)) => match adapter.pass(state, x) {
+            Outcome::Kept(y) => Ok(Some(y)),
+            Outcome::LeftOut => unreachable!(),
+            Outcome::Failure(e) => Err(e),
+            Outcome::End => Ok(None),
+        },
+        Ok(None) => Ok(None),
+        Err(e) => Err(e),
+    }
+}

@@ -1,0 +1,88 @@
+//! The best of the items: the turns of the folds that keep the better of two.
+
+use crate::fallible_contract::folds::Turn;
+use core::cmp::Ordering;
+use core::ops::ControlFlow;
+
+// Whether the best so far stays the best, if it compares so with the next item.
+fn stays_best(keeps: Ordering, order: Ordering) -> bool {
+    match keeps {
+        Ordering::Less => matches!(order, Ordering::Less),
+        Ordering::Equal => matches!(order, Ordering::Equal),
+        Ordering::Greater => matches!(order, Ordering::Greater),
+    }
+}
+
+/// The turn of a fold that keeps the best item by a closure that compares two. Its state is the best so far, if there is one, and the closure.
+pub struct BestTurn {
+    /// how the best so far compares with an item that it stays before
+    pub keeps: Ordering,
+}
+
+impl<A, E, F: FnMut(&A, &A) -> Result<Ordering, E>> Turn<(Option<A>, F), A, E> for BestTurn {
+    /// Takes the first item without a call; then it calls the closure once.
+    #[inline(always)]
+    fn turn(&self, state: &mut (Option<A>, F), item: A) -> ControlFlow<E, ()> {
+        let best = match state.0.take() {
+            Some(best) => match (state.1)(&best, &item) {
+                Ok(order) => {
+                    if stays_best(self.keeps, order) {
+                        best
+                    } else {
+                        item
+                    }
+                }
+                Err(e) => return ControlFlow::Break(e),
+            },
+            None => item,
+        };
+        state.0 = Some(best);
+        ControlFlow::Continue(())
+    }
+}
+
+/// The turn of a fold that keeps the item with the best key. Its state is that item with its key, if there is one, and the closure.
+pub struct BestKeyTurn {
+    /// how the best key so far compares with a key that it stays before
+    pub keeps: Ordering,
+}
+
+impl<A, E, K: Ord, F: FnMut(&A) -> Result<K, E>> Turn<(Option<(K, A)>, F), A, E> for BestKeyTurn {
+    /// Calls the closure once for the key, and compares it with the best so far.
+    #[inline(always)]
+    fn turn(&self, state: &mut (Option<(K, A)>, F), item: A) -> ControlFlow<E, ()> {
+        let key = match (state.1)(&item) {
+            Ok(key) => key,
+            Err(e) => return ControlFlow::Break(e),
+        };
+        let best = match state.0.take() {
+            Some(best) => {
+                if stays_best(self.keeps, best.0.cmp(&key)) {
+                    best
+                } else {
+                    (key, item)
+                }
+            }
+            None => (key, item),
+        };
+        state.0 = Some(best);
+        ControlFlow::Continue(())
+    }
+}
+
+/// The item of the pair, if there is one.
+///
+/// <details><summary>Contract</summary>
+///
+/// As it is proved, in [these words](crate::words):
+///
+/// ```text
+/// ensures { result ≡ item_of best }
+/// ```
+/// </details>
+pub fn without_key<A, E, K>(best: Result<Option<(K, A)>, E>) -> Result<Option<A>, E> {
+    match best? {
+        Some((_, x)) => Ok(Some(x)),
+        None => Ok(None),
+    }
+}

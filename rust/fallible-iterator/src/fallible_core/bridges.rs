@@ -1,0 +1,6 @@
+//! From fallible iterators to std's.
+mod iterator;
+mod unwrap;
+
+pub use iterator::Iterator;
+pub use unwrap::Unwrap;

@@ -1,0 +1,134 @@
+// The adapter that leaves out the items that a predicate rejects.
+
+use crate::fallible_contract::folds::{Beside, Turn, answer_within};
+use crate::fallible_contract::passing::{Outcome, Pass};
+use crate::fallible_contract::searching::{FindTest, FindTurn, found};
+use crate::fallible_core::passing::{drive_back_passing, drive_passing};
+use crate::fallible_core::traits::FallibleIterator;
+use crate::fallible_core::traits::double_ended::DoubleEndedFallibleIterator;
+use core::convert::Infallible;
+use core::ops::ControlFlow;
+
+/// The items for which the predicate returns true. An item on which it fails is lost, and its failure is yielded.
+#[derive(Clone, Debug)]
+#[must_use = "an iterator draws nothing until it is asked"]
+pub struct Filter<I, F> {
+    pub(crate) it: I,
+    pub(crate) f: F,
+}
+
+impl<I: FallibleIterator, F: FnMut(&I::Item) -> Result<bool, I::Error>> FallibleIterator
+    for Filter<I, F>
+{
+    type Item = I::Item;
+
+    type Error = I::Error;
+
+    /// Draws until an item is kept, or a failure or `Ok(None)` comes. It calls the predicate on each item.
+    fn next(&mut self) -> Result<Option<I::Item>, I::Error> {
+        let turn = FindTurn { test: &FindTest };
+        found(self.it.drive(&mut self.f, &turn))
+    }
+
+    fn size_hint(&self) -> (usize, Option<usize>) {
+        (0, self.it.size_hint().1)
+    }
+
+    #[inline(always)]
+    fn drive<C, R, K: Turn<C, I::Item, R>>(
+        &mut self,
+        state: &mut C,
+        turn: &K,
+    ) -> Result<Option<R>, I::Error> {
+        drive_passing(&mut self.it, &mut self.f, &FilterPass, state, turn)
+    }
+
+    /// One fold of the source, which adds one for each item that is kept.
+    fn drive_count(&mut self, number: &mut usize) -> Result<(), I::Error> {
+        match drive_kept(&mut self.it, &mut self.f, number) {
+            Ok(None) => Ok(()),
+            Ok(Some(never)) => match never {},
+            Err(e) => Err(e),
+        }
+    }
+
+    crate::by_drive!(drive);
+}
+
+impl<I: DoubleEndedFallibleIterator, F: FnMut(&I::Item) -> Result<bool, I::Error>>
+    DoubleEndedFallibleIterator for Filter<I, F>
+{
+    /// Draws from the back until an item is kept, or a failure or `Ok(None)` comes. It calls the predicate on each item.
+    fn next_back(&mut self) -> Result<Option<I::Item>, I::Error> {
+        let turn = FindTurn { test: &FindTest };
+        found(self.it.drive_back(&mut self.f, &turn))
+    }
+
+    #[inline(always)]
+    fn drive_back<C, R, K: Turn<C, I::Item, R>>(
+        &mut self,
+        state: &mut C,
+        turn: &K,
+    ) -> Result<Option<R>, I::Error> {
+        drive_back_passing(&mut self.it, &mut self.f, &FilterPass, state, turn)
+    }
+
+    crate::by_drive!(drive_back);
+}
+
+// What becomes of an item by the predicate's result.
+struct FilterPass;
+
+impl<X, E, F: FnMut(&X) -> Result<bool, E>> Pass<F, X, E> for FilterPass {
+    type Kept = X;
+
+    type Answer = Result<bool, E>;
+
+    #[inline(always)]
+    fn pass(&self, state: &mut F, item: X) -> Outcome<X, E> {
+        match state(&item) {
+            Ok(true) => Outcome::Kept(item),
+            Ok(false) => Outcome::LeftOut,
+            Err(e) => Outcome::Failure(e),
+        }
+    }
+}
+
+// The fold that counts the items for which the predicate returns true.
+fn drive_kept<I: FallibleIterator, F: FnMut(&I::Item) -> Result<bool, I::Error>>(
+    it: &mut I,
+    f: &mut F,
+    number: &mut usize,
+) -> Result<Option<Infallible>, I::Error> {
+    let mut both = Beside { c: number, p: f };
+    let answer = it.drive(&mut both, &FilterCountTurn);
+    answer_within(answer)
+}
+
+// The turn of that fold: it adds one if the item is kept.
+struct FilterCountTurn;
+
+impl<'b, X, E, F: FnMut(&X) -> Result<bool, E>>
+    Turn<Beside<'b, usize, F>, X, Result<Option<Infallible>, E>> for FilterCountTurn
+{
+    #[inline(always)]
+    fn turn(
+        &self,
+        state: &mut Beside<'b, usize, F>,
+        item: X,
+    ) -> ControlFlow<Result<Option<Infallible>, E>, ()> {
+        match (state.p)(&item) {
+            Ok(kept) => {
+                count_if(state.c, kept);
+                ControlFlow::Continue(())
+            }
+            Err(e) => ControlFlow::Break(Err(e)),
+        }
+    }
+}
+
+// Adds one if the item is kept. The sum has no branch.
+#[inline(always)]
+pub(crate) fn count_if(number: &mut usize, kept: bool) {
+    *number += usize::from(kept);
+}

@@ -1,0 +1,230 @@
+// The adapter that draws one source up to its first `Ok(None)`, and then another.
+
+use crate::fallible_contract::folds::Turn;
+use crate::fallible_contract::hints::sum;
+use crate::fallible_contract::searching::Test;
+use crate::fallible_core::traits::FallibleIterator;
+use crate::fallible_core::traits::double_ended::DoubleEndedFallibleIterator;
+
+// Which sides of a `Chain` are still drawn: `SecondAlone` once a draw from the front of the first returned `Ok(None)`, and `FirstAlone` once a draw from the back of the second did.
+#[derive(Clone, Debug)]
+pub(crate) enum StillDrawn {
+    Both,
+    FirstAlone,
+    SecondAlone,
+}
+
+/// What the first source yields up to its first `Ok(None)`, and then what the second yields. A failure changes no side.
+#[derive(Clone, Debug)]
+#[must_use = "an iterator draws nothing until it is asked"]
+pub struct Chain<T, U> {
+    pub(crate) first: T,
+    pub(crate) second: U,
+    pub(crate) still_drawn: StillDrawn,
+}
+
+impl<T: FallibleIterator, U: FallibleIterator<Item = T::Item, Error = T::Error>> FallibleIterator
+    for Chain<T, U>
+{
+    type Item = T::Item;
+
+    type Error = T::Error;
+
+    /// While both sides are drawn it draws the first once. If that is its first `Ok(None)`, it draws the second once in the same call, which alone is drawn from then on. A failure changes no side. If one side alone is drawn, it draws that side once.
+    fn next(&mut self) -> Result<Option<T::Item>, T::Error> {
+        if !matches!(self.still_drawn, StillDrawn::SecondAlone) {
+            match self.first.next() {
+                Ok(Some(x)) => return Ok(Some(x)),
+                Ok(None) => {}
+                Err(e) => return Err(e),
+            }
+            match self.still_drawn {
+                StillDrawn::FirstAlone => return Ok(None),
+                _ => self.still_drawn = StillDrawn::SecondAlone,
+            }
+        }
+        self.second.next()
+    }
+
+    fn size_hint(&self) -> (usize, Option<usize>) {
+        match self.still_drawn {
+            StillDrawn::Both => sum(self.first.size_hint(), self.second.size_hint()),
+            StillDrawn::FirstAlone => self.first.size_hint(),
+            StillDrawn::SecondAlone => self.second.size_hint(),
+        }
+    }
+
+    /// The first's fold, and after its `Ok(None)`, in the same call, the second's; if one side alone is drawn, that side's.
+    #[inline(always)]
+    fn drive<C, R, K: Turn<C, T::Item, R>>(
+        &mut self,
+        state: &mut C,
+        turn: &K,
+    ) -> Result<Option<R>, T::Error> {
+        let Chain {
+            first,
+            second,
+            still_drawn,
+        } = self;
+        match still_drawn {
+            StillDrawn::SecondAlone => second.drive(state, turn),
+            _ => match first.drive(state, turn) {
+                Ok(Some(stop)) => Ok(Some(stop)),
+                Ok(None) => match still_drawn {
+                    StillDrawn::FirstAlone => Ok(None),
+                    _ => {
+                        *still_drawn = StillDrawn::SecondAlone;
+                        second.drive(state, turn)
+                    }
+                },
+                Err(e) => Err(e),
+            },
+        }
+    }
+
+    /// The first's count, and after its `Ok(None)`, in the same call, the second's, into one number.
+    fn drive_count(&mut self, number: &mut usize) -> Result<(), T::Error> {
+        let Chain {
+            first,
+            second,
+            still_drawn,
+        } = self;
+        match still_drawn {
+            StillDrawn::Both => match first.drive_count(number) {
+                Ok(()) => {
+                    *still_drawn = StillDrawn::SecondAlone;
+                    second.drive_count(number)
+                }
+                Err(e) => Err(e),
+            },
+            StillDrawn::FirstAlone => first.drive_count(number),
+            StillDrawn::SecondAlone => second.drive_count(number),
+        }
+    }
+
+    /// The second's last item, or the first's if it has none. If the first fails, the second isn't drawn.
+    fn drive_last(&mut self) -> Result<Option<T::Item>, T::Error> {
+        let Chain {
+            first,
+            second,
+            still_drawn,
+        } = self;
+        match still_drawn {
+            StillDrawn::Both => match first.drive_last() {
+                Ok(before) => {
+                    *still_drawn = StillDrawn::SecondAlone;
+                    match second.drive_last() {
+                        Ok(Some(x)) => Ok(Some(x)),
+                        Ok(None) => Ok(before),
+                        Err(e) => Err(e),
+                    }
+                }
+                Err(e) => Err(e),
+            },
+            StillDrawn::FirstAlone => first.drive_last(),
+            StillDrawn::SecondAlone => second.drive_last(),
+        }
+    }
+
+    /// The first's search, and if it found none, in the same call, the second's; if one side alone is drawn, that side's.
+    fn drive_find<C, K: Test<C, T::Item, T::Error>>(
+        &mut self,
+        state: &mut C,
+        test: &K,
+    ) -> Result<Option<T::Item>, T::Error> {
+        let Chain {
+            first,
+            second,
+            still_drawn,
+        } = self;
+        match still_drawn {
+            StillDrawn::SecondAlone => second.drive_find(state, test),
+            _ => match first.drive_find(state, test) {
+                Ok(Some(x)) => Ok(Some(x)),
+                Ok(None) => match still_drawn {
+                    StillDrawn::FirstAlone => Ok(None),
+                    _ => {
+                        *still_drawn = StillDrawn::SecondAlone;
+                        second.drive_find(state, test)
+                    }
+                },
+                Err(e) => Err(e),
+            },
+        }
+    }
+
+    crate::by_drive!(drive);
+
+    crate::by_drive!(drive_find);
+
+    fn count(self) -> Result<usize, Self::Error> {
+        match self.still_drawn {
+            StillDrawn::Both => Ok(self.first.count()? + self.second.count()?),
+            StillDrawn::FirstAlone => self.first.count(),
+            StillDrawn::SecondAlone => self.second.count(),
+        }
+    }
+
+    fn last(self) -> Result<Option<Self::Item>, Self::Error> {
+        match self.still_drawn {
+            StillDrawn::Both => match (self.first.last()?, self.second.last()?) {
+                (_, Some(x)) => Ok(Some(x)),
+                (before, None) => Ok(before),
+            },
+            StillDrawn::FirstAlone => self.first.last(),
+            StillDrawn::SecondAlone => self.second.last(),
+        }
+    }
+}
+
+impl<
+    T: DoubleEndedFallibleIterator,
+    U: DoubleEndedFallibleIterator<Item = T::Item, Error = T::Error>,
+> DoubleEndedFallibleIterator for Chain<T, U>
+{
+    /// While both sides are drawn it draws the second once from the back. If that is its first `Ok(None)`, it draws the first once from the back in the same call, which alone is drawn from then on, from either end. A failure changes no side. If one side alone is drawn, it draws that side once from the back.
+    fn next_back(&mut self) -> Result<Option<T::Item>, T::Error> {
+        if !matches!(self.still_drawn, StillDrawn::FirstAlone) {
+            match self.second.next_back() {
+                Ok(Some(x)) => return Ok(Some(x)),
+                Ok(None) => {}
+                Err(e) => return Err(e),
+            }
+            match self.still_drawn {
+                StillDrawn::SecondAlone => return Ok(None),
+                _ => self.still_drawn = StillDrawn::FirstAlone,
+            }
+        }
+        self.first.next_back()
+    }
+
+    /// The second's fold from the back, and at its end, in the same call, the first's; where one side alone is drawn, that side's.
+    #[inline(always)]
+    fn drive_back<C, R, K: Turn<C, T::Item, R>>(
+        &mut self,
+        state: &mut C,
+        turn: &K,
+    ) -> Result<Option<R>, T::Error> {
+        let Chain {
+            first,
+            second,
+            still_drawn,
+        } = self;
+        match still_drawn {
+            StillDrawn::FirstAlone => first.drive_back(state, turn),
+            _ => match second.drive_back(state, turn) {
+                Ok(Some(stop)) => Ok(Some(stop)),
+                Ok(None) => match still_drawn {
+                    StillDrawn::SecondAlone => Ok(None),
+                    _ => {
+                        *still_drawn = StillDrawn::FirstAlone;
+                        first.drive_back(state, turn)
+                    }
+                },
+                Err(e) => Err(e),
+            },
+        }
+    }
+
+    crate::by_drive!(drive_back);
+}

@@ -1,0 +1,82 @@
+//! The folds of the adapters that let items pass, through their sources' own. The adapter's state stands beside the caller's, and a reference points to each.
+
+use crate::fallible_contract::folds::{Beside, Turn, answer_within};
+use crate::fallible_contract::passing::{Pass, PassTurn};
+use crate::fallible_core::traits::FallibleIterator;
+use crate::fallible_core::traits::double_ended::DoubleEndedFallibleIterator;
+
+/// The fold from the front of an adapter: what becomes of each item of the source, and the caller's turn on what is kept.
+///
+/// <details><summary>Contract</summary>
+///
+/// As it is proved, in [these words](crate::words):
+///
+/// ```text
+/// requires can_next { I.contract.can_next it.old }
+/// requires finite { I.contract.is_finite it.old }
+/// requires callable { CallableDriving I.contract.steps
+///     (FoldingTurn (A.call adapter.now) (A.outcome adapter.now) (K.turns turn.now))
+///     (FoldingTakes (A.call adapter.now) (A.outcome adapter.now)
+///     (A.can_pass adapter.now) (K.can_turn turn.now))
+///     it.old (state.old, p.old) }
+/// ensures { Driven (passing_step I.contract.steps (A.call adapter.now) (A.outcome adapter.now))
+///     (K.turns turn.now) (it.old, p.old) state.old result (it.new, p.new) state.new }
+/// ```
+/// </details>
+#[inline(always)]
+pub fn drive_passing<
+    I: FallibleIterator,
+    P,
+    A: Pass<P, I::Item, I::Error>,
+    C,
+    R,
+    K: Turn<C, A::Kept, R>,
+>(
+    it: &mut I,
+    p: &mut P,
+    adapter: &A,
+    state: &mut C,
+    turn: &K,
+) -> Result<Option<R>, I::Error> {
+    let mut both = Beside { c: state, p };
+    let answer = it.drive(&mut both, &PassTurn { adapter, turn });
+    answer_within(answer)
+}
+
+/// The fold from the back of an adapter: what becomes of each item of the source, and the caller's turn on what is kept.
+///
+/// <details><summary>Contract</summary>
+///
+/// As it is proved, in [these words](crate::words):
+///
+/// ```text
+/// requires can_next { I.ends.can_next it.old }
+/// requires finite { I.contract.is_finite it.old }
+/// requires callable { CallableDriving I.ends.steps
+///     (FoldingTurn (A.call adapter.now) (A.outcome adapter.now) (K.turns turn.now))
+///     (FoldingTakes (A.call adapter.now) (A.outcome adapter.now)
+///     (A.can_pass adapter.now) (K.can_turn turn.now))
+///     it.old (state.old, p.old) }
+/// ensures { Driven (passing_step I.ends.steps (A.call adapter.now) (A.outcome adapter.now))
+///     (K.turns turn.now) (it.old, p.old) state.old result (it.new, p.new) state.new }
+/// ```
+/// </details>
+#[inline(always)]
+pub fn drive_back_passing<
+    I: DoubleEndedFallibleIterator,
+    P,
+    A: Pass<P, I::Item, I::Error>,
+    C,
+    R,
+    K: Turn<C, A::Kept, R>,
+>(
+    it: &mut I,
+    p: &mut P,
+    adapter: &A,
+    state: &mut C,
+    turn: &K,
+) -> Result<Option<R>, I::Error> {
+    let mut both = Beside { c: state, p };
+    let answer = it.drive_back(&mut both, &PassTurn { adapter, turn });
+    answer_within(answer)
+}

@@ -1,0 +1,58 @@
+#![doc = include_str!("../README.md")]
+#![no_std]
+#![forbid(unsafe_code)]
+#![warn(missing_docs)]
+// The bodies stay as they are proved.
+#![allow(
+    clippy::manual_map,
+    clippy::mem_replace_option_with_some,
+    clippy::multiple_bound_locations
+)]
+#![allow(clippy::needless_match, clippy::question_mark, clippy::single_match)]
+#![allow(clippy::type_complexity, clippy::wrong_self_convention)]
+
+#[cfg(feature = "alloc")]
+extern crate alloc;
+#[cfg(feature = "std")]
+extern crate std;
+
+mod by_drive;
+#[doc(hidden)]
+pub mod conversion;
+#[doc(hidden)]
+pub mod extending;
+#[doc(hidden)]
+pub mod fallible_contract;
+#[doc(hidden)]
+pub mod fallible_core;
+#[doc(hidden)]
+pub mod memory;
+pub mod prelude;
+#[doc(hidden)]
+pub mod sources;
+#[doc(hidden)]
+pub mod taking;
+#[cfg(doc)]
+pub mod words;
+
+#[doc(hidden)]
+pub use crate::fallible_contract::answers::{Answer, Side};
+#[doc(hidden)]
+pub use crate::fallible_contract::folds::Turn;
+#[doc(hidden)]
+pub use crate::fallible_contract::searching::Test;
+#[doc(hidden)]
+pub use crate::fallible_contract::{Collect, Fault};
+#[doc(hidden)]
+pub use crate::fallible_core::number::Number;
+pub use crate::fallible_core::{
+    Chain, Cloned, Cycle, DoubleEndedFallibleIterator, Enumerate, FallibleIterator, Filter,
+    FilterMap, FlatMap, Flatten, Fuse, Inspect, IntoFallibleIterator, Iterator, Map, MapErr,
+    MapWhile, Peekable, Rev, Scan, Skip, SkipWhile, StepBy, Take, TakeWhile, Unwrap, Zip,
+};
+pub use conversion::IteratorExt;
+pub use sources::making::{
+    convert, convert_fused, empty, from_fn, once, once_err, repeat, repeat_err,
+};
+pub use sources::{Convert, Empty, FromFn, IntoFallible, Once, OnceErr, Repeat, RepeatErr};
+pub use taking::fold_if;

@@ -1,0 +1,4 @@
+use crate::Fail;
+use fallible_iterator::memory::AllocError;
+
+use fallible_iterator::{FallibleIterator, convert};

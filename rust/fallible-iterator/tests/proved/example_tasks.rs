@@ -1,0 +1,15 @@
+use crate::Fail;
+use fallible_iterator::memory::AllocError;
+
+pub mod client;
+pub mod edges;
+pub mod generic;
+pub mod lines;
+pub mod merging;
+pub mod numbers;
+pub mod pages;
+pub mod reading;
+pub mod report;
+pub mod table;
+pub mod tokens;
+pub mod writing;

@@ -1,0 +1,15 @@
+use crate::Fail;
+use fallible_iterator::memory::AllocError;
+
+pub mod fault;
+pub mod header;
+pub mod lines;
+pub mod names;
+pub mod numbers;
+pub mod ranges;
+pub mod report;
+pub mod section;
+pub mod sections;
+pub mod set;
+pub mod sets;
+pub mod tables;

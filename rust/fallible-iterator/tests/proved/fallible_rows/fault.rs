@@ -1,0 +1,52 @@
+use crate::Fail;
+use fallible_iterator::memory::AllocError;
+
+use std::io;
+use std::io::Write;
+
+/// Why a run made no report.
+#[derive(Debug, PartialEq, Eq)]
+pub enum RowFault {
+    /// The row at this place, from 1, is not a number.
+    Row(u32),
+    /// A read failed.
+    Read,
+    /// An allocation failed. `run` never returns it; the program does, if that of its buffer failed.
+    Memory,
+    /// The report could not be written.
+    Write,
+}
+
+impl RowFault {
+    // The status that a program ends with.
+    fn status(&self) -> u8 {
+        match self {
+            RowFault::Row(_) => 1,
+            RowFault::Read => 2,
+            RowFault::Memory => 3,
+            RowFault::Write => 4,
+        }
+    }
+}
+
+fn write_line<W: Write>(fault: &RowFault, err: &mut W) -> io::Result<()> {
+    match fault {
+        RowFault::Row(place) => writeln!(err, "row {place}: not a number"),
+        RowFault::Read => writeln!(err, "read failed"),
+        RowFault::Memory => writeln!(err, "no memory"),
+        RowFault::Write => writeln!(err, "write failed"),
+    }
+}
+
+/// Writes the one line that tells of `fault` to `err`, and returns the status that a program ends
+/// with after it: 1 for `Row`, 2 for `Read`, 3 for `Memory`, 4 for `Write`.
+///
+/// `Ok` of the status where that line and nothing else was written, and `Err` of the same status
+/// where it could not be, and part of it may have been. It allocates nothing.
+pub fn fault_line<W: Write>(fault: &RowFault, err: &mut W) -> Result<u8, u8> {
+    let status = fault.status();
+    match write_line(fault, err) {
+        Ok(()) => Ok(status),
+        Err(_) => Err(status),
+    }
+}

@@ -1,0 +1,21 @@
+use crate::Fail;
+use fallible_iterator::memory::AllocError;
+
+#[cfg(test)]
+mod borrowed;
+#[cfg(test)]
+mod borrowed_items;
+#[cfg(test)]
+mod bridges;
+#[cfg(test)]
+mod collecting;
+#[cfg(test)]
+mod draining;
+#[cfg(test)]
+mod exact_count;
+#[cfg(test)]
+mod overriding;
+#[cfg(test)]
+mod sources;
+#[cfg(test)]
+mod traits;

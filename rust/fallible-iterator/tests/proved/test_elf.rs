@@ -1,0 +1,7 @@
+use crate::Fail;
+use fallible_iterator::memory::AllocError;
+
+#[cfg(test)]
+mod object;
+#[cfg(test)]
+mod tests;

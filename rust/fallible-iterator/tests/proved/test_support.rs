@@ -1,0 +1,23 @@
+use crate::Fail;
+use fallible_iterator::memory::AllocError;
+
+pub mod answered;
+pub mod asking;
+pub mod calls;
+pub mod closures;
+pub mod collected;
+pub mod counted;
+pub mod counted_numbers;
+pub mod counting;
+pub mod course;
+pub mod expected_numbers;
+pub mod listed;
+pub mod numbers;
+pub mod refused_clones;
+pub mod requests;
+pub mod rows;
+pub mod scripted;
+pub mod steps;
+pub mod steps_back;
+pub mod test_error;
+pub mod text;

@@ -1,0 +1,5 @@
+use crate::Fail;
+use fallible_iterator::memory::AllocError;
+
+#[cfg(test)]
+mod tests;

@@ -1,0 +1,160 @@
+use crate::Fail;
+use fallible_iterator::memory::AllocError;
+// What the uses answer of which no clause says it: which reads, writes and requests fail, and what the lines of a reader come to.
+use crate::example_tasks::lines::{LineFault, sum_of_lines};
+use crate::example_tasks::report::{RunFault, fault_line, run};
+use crate::example_tasks::table::TableFault;
+
+use std::io;
+use std::io::{ErrorKind, Read, Write};
+
+// Three records: 1 to 258, 513 to 512, and 7 to 65536.
+const TABLE: [u8; 24] = [
+    1, 0, 0, 0, 2, 1, 0, 0, //
+    1, 2, 0, 0, 0, 2, 0, 0, //
+    7, 0, 0, 0, 0, 0, 1, 0,
+];
+
+// Yields its bytes, and then fails at each read.
+struct BrokenReader<'a> {
+    bytes: &'a [u8],
+    kind: ErrorKind,
+}
+
+impl Read for BrokenReader<'_> {
+    fn read(&mut self, buf: &mut [u8]) -> io::Result<usize> {
+        if self.bytes.is_empty() {
+            return Err(io::Error::from(self.kind));
+        }
+        Read::read(&mut self.bytes, buf)
+    }
+}
+
+// Takes so many bytes, one at a time, and then fails.
+struct BrokenWriter {
+    room: usize,
+}
+
+impl Write for BrokenWriter {
+    fn write(&mut self, buf: &[u8]) -> io::Result<usize> {
+        if self.room == 0 {
+            return Err(io::Error::from(ErrorKind::BrokenPipe));
+        }
+        let count = buf.len().min(1);
+        self.room -= count;
+        Ok(count)
+    }
+
+    fn flush(&mut self) -> io::Result<()> {
+        Ok(())
+    }
+}
+
+// What `run` returns over these bytes, where a read fails after them.
+fn run_on_broken(bytes: &[u8], kind: ErrorKind) -> Result<(), RunFault> {
+    let mut reader = BrokenReader { bytes, kind };
+    run(&mut reader, &mut Vec::new())
+}
+
+fn expect_report(mut table: &[u8], report: &[u8]) {
+    let mut written = Vec::new();
+    assert_eq!(run(&mut table, &mut written), Ok(()));
+    assert_eq!(written.as_slice(), report);
+}
+
+fn expect_fault(mut table: &[u8], fault: TableFault) {
+    let mut written = Vec::new();
+    assert_eq!(run(&mut table, &mut written), Err(RunFault::Table(fault)));
+    assert!(written.is_empty());
+}
+
+// A table of 600 records has more bytes than one read yields.
+#[test]
+fn reports() {
+    fn tested() -> Result<(), Fail> {
+        expect_report(&TABLE[..8], b"records 1\nlow 1\nhigh 258\n");
+        let mut table = Vec::new();
+        for _ in 0..600 {
+            table.extend_from_slice(&TABLE[..8]);
+        }
+        expect_report(table.as_slice(), b"records 600\nlow 600\nhigh 154800\n");
+        expect_fault(&TABLE, TableFault::Bad(2));
+        expect_fault(&TABLE[..15], TableFault::Cut(2));
+        Ok(())
+    }
+    let _ = tested();
+}
+
+// The table has a bad record, and is cut short.
+#[test]
+fn run_answers_a_read_that_fails() {
+    for (kind, fault) in [
+        (ErrorKind::Other, RunFault::Read),
+        (ErrorKind::UnexpectedEof, RunFault::Read),
+        (ErrorKind::OutOfMemory, RunFault::Memory),
+    ] {
+        for count in [0, 7, 8, 16, 24] {
+            assert_eq!(
+                run_on_broken(&TABLE[..count], kind),
+                Err(fault),
+                "{kind:?} after {count}"
+            );
+        }
+    }
+}
+
+// The report has 25 bytes.
+#[test]
+fn run_answers_each_write_that_fails() {
+    for room in 0..=25 {
+        let mut table = &TABLE[..8];
+        let mut writer = BrokenWriter { room };
+        let wanted = if room < 25 {
+            Err(RunFault::Write)
+        } else {
+            Ok(())
+        };
+        assert_eq!(run(&mut table, &mut writer), wanted, "{room}");
+    }
+}
+
+#[test]
+fn fault_line_tells_each_fault() {
+    for (fault, line, status) in [
+        (
+            RunFault::Table(TableFault::Bad(2)),
+            b"record 2: the first number is above the second\n".as_slice(),
+            1,
+        ),
+        (
+            RunFault::Table(TableFault::Cut(10)),
+            b"record 10: cut short\n".as_slice(),
+            5,
+        ),
+        (RunFault::Read, b"read failed\n".as_slice(), 2),
+        (RunFault::Memory, b"no memory\n".as_slice(), 3),
+        (RunFault::Write, b"write failed\n".as_slice(), 4),
+    ] {
+        let mut written = Vec::new();
+        assert_eq!(fault_line(&fault, &mut written), Ok(status));
+        assert_eq!(written.as_slice(), line);
+        for room in 0..line.len() {
+            let mut writer = BrokenWriter { room };
+            assert_eq!(fault_line(&fault, &mut writer), Err(status));
+        }
+    }
+}
+
+// What the sum of the lines of a text is. No clause says it.
+const LINES: [(&[u8], Result<u64, LineFault>); 3] = [
+    (b"40\n2\r\n", Ok(42)),
+    (b"40\nfern\n2\nmoss", Err(LineFault::Line(2))),
+    (b"40\n\xFF\n", Err(LineFault::Read)),
+];
+
+#[test]
+fn lines_are_summed() {
+    for (text, sum) in LINES {
+        assert_eq!(sum_of_lines(text), sum);
+    }
+}

@@ -1,0 +1,83 @@
+// The adapter that yields the first of adjacent equal items.
+
+use crate::holding::{Hold, drive_holding, with_held};
+use fallible_iterator::extending::{FirstTurn, Outcome};
+use fallible_iterator::{FallibleIterator, Turn};
+
+/// The first of adjacent equal items. It is buffered until an item that differs comes, or a stop: `Ok(None)` or a failure, which the next call returns.
+#[derive(Clone, Debug)]
+#[must_use = "an iterator draws nothing until it is asked"]
+pub struct Dedup<I: FallibleIterator> {
+    pub(crate) it: I,
+    // the first of equal items, which wasn't yielded yet
+    pub(crate) held: Option<I::Item>,
+    // the stop that is due: `Ok(None)`, or a failure
+    pub(crate) due: Option<Option<I::Error>>,
+}
+
+impl<I: FallibleIterator> FallibleIterator for Dedup<I>
+where
+    I::Item: PartialEq,
+{
+    type Item = I::Item;
+
+    type Error = I::Error;
+
+    /// Returns the stop that is due, without a draw. Otherwise it draws until an item differs from the buffered one, or a stop comes.
+    fn next(&mut self) -> Result<Option<I::Item>, I::Error> {
+        self.drive(&mut (), &FirstTurn)
+    }
+
+    fn size_hint(&self) -> (usize, Option<usize>) {
+        if self.due.is_some() {
+            (0, Some(0))
+        } else {
+            with_held(self.it.size_hint(), self.held.is_some())
+        }
+    }
+
+    fn drive<C, R, K: Turn<C, I::Item, R>>(
+        &mut self,
+        state: &mut C,
+        turn: &K,
+    ) -> Result<Option<R>, I::Error> {
+        drive_holding(
+            &mut self.it,
+            &mut self.held,
+            &mut self.due,
+            &DedupHold,
+            state,
+            turn,
+        )
+    }
+
+    fallible_iterator::by_drive!(drive);
+}
+
+// What becomes of an item after the buffered one.
+struct DedupHold;
+
+impl<X: PartialEq, E> Hold<Option<X>, X, E> for DedupHold {
+    type Kept = X;
+
+    #[inline(always)]
+    fn ask(&self, holds: &mut Option<X>, asked: Option<X>) -> Outcome<X, E> {
+        match (holds.take(), asked) {
+            (None, Some(x)) => {
+                *holds = Some(x);
+                Outcome::LeftOut
+            }
+            (Some(first), Some(x)) => {
+                if first == x {
+                    *holds = Some(first);
+                    Outcome::LeftOut
+                } else {
+                    *holds = Some(x);
+                    Outcome::Kept(first)
+                }
+            }
+            (Some(first), None) => Outcome::Kept(first),
+            (None, None) => Outcome::End,
+        }
+    }
+}

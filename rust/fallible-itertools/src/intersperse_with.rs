@@ -1,0 +1,51 @@
+// The adapter that puts what a closure returns between items.
+
+use crate::parting::{Separate, drive_parting, hint_parting, next_parting};
+use fallible_iterator::{FallibleIterator, Turn};
+
+/// The items of the source with what the closure returns between each two adjacent ones. An item that was drawn is buffered while the separator before it is yielded.
+#[derive(Clone, Debug)]
+#[must_use = "an iterator draws nothing until it is asked"]
+pub struct IntersperseWith<I: FallibleIterator, F> {
+    pub(crate) it: I,
+    // the closure, whether an item came, and the buffered item
+    pub(crate) parting: (F, (bool, Option<I::Item>)),
+}
+
+impl<I: FallibleIterator, F: FnMut() -> Result<I::Item, I::Error>> FallibleIterator
+    for IntersperseWith<I, F>
+{
+    type Item = I::Item;
+
+    type Error = I::Error;
+
+    /// Yields the buffered item without a draw, and draws once if none is buffered. If what it draws is an item after the first, it calls the closure once.
+    fn next(&mut self) -> Result<Option<I::Item>, I::Error> {
+        next_parting(&mut self.it, &mut self.parting, &SeparatorCall)
+    }
+
+    /// The turn on the buffered item, and then the source's fold, whose turn is one on what stands before the item and one on the item.
+    fn drive<C, R, K: Turn<C, I::Item, R>>(
+        &mut self,
+        state: &mut C,
+        turn: &K,
+    ) -> Result<Option<R>, I::Error> {
+        drive_parting(&mut self.it, &mut self.parting, &SeparatorCall, state, turn)
+    }
+
+    fn size_hint(&self) -> (usize, Option<usize>) {
+        hint_parting(self.it.size_hint(), &self.parting.1)
+    }
+
+    fallible_iterator::by_drive!(drive);
+}
+
+// Each separator is what one call of the closure returns.
+struct SeparatorCall;
+
+impl<X, E, F: FnMut() -> Result<X, E>> Separate<F, X, E> for SeparatorCall {
+    #[inline(always)]
+    fn separate(&self, state: &mut F) -> Result<X, E> {
+        state()
+    }
+}

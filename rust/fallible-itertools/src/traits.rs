@@ -1,0 +1,1899 @@
+//! The extension trait of every fallible iterator.
+
+use crate::checked_sum::{CheckedTotal, ProductTurn, SumTurn, total_or_none};
+#[cfg(feature = "alloc")]
+use crate::chunk_by::ChunkBy;
+#[cfg(feature = "alloc")]
+use crate::chunks::Chunks;
+use crate::cmp_by::{CmpTurn, EqTurn, compare_by};
+use crate::coalesce::Coalesce;
+use crate::converting::converted;
+use crate::copied::Copied;
+#[cfg(feature = "std")]
+use crate::counts::Tally;
+use crate::dedup::Dedup;
+use crate::dedup_by::DedupBy;
+use crate::dedup_by_key::DedupByKey;
+use crate::equal::{AllEqualTurn, ContainsTurn};
+use crate::exactly_one::NotOne;
+use crate::find_or_last::{FindLastTurn, or_last};
+use crate::fold_while::{FoldWhile, FoldWhileTurn, while_or_stop};
+#[cfg(feature = "std")]
+use crate::group_map::GroupMap;
+use crate::inspect_err::InspectErr;
+use crate::intersperse::Intersperse;
+use crate::intersperse_with::IntersperseWith;
+use crate::is_sorted::{InOrderTurn, SortedTurn};
+#[cfg(feature = "alloc")]
+use crate::join::JoinTurn;
+use crate::merge::Merge;
+use crate::merge_by::MergeBy;
+use crate::minmax::{MinMaxResult, MinMaxTurn};
+use crate::or_else::OrElse;
+use crate::partition_map::Either;
+use crate::sides::Holding;
+#[cfg(feature = "alloc")]
+use crate::sorted::{sorted_items, sorted_items_by_key};
+use crate::take_while_inclusive::TakeWhileInclusive;
+use crate::tuple_windows::TupleWindows;
+#[cfg(feature = "std")]
+use crate::unique::Unique;
+use crate::with_position::WithPosition;
+use crate::zip_longest::ZipLongest;
+#[cfg(feature = "alloc")]
+use alloc::string::String;
+#[cfg(feature = "alloc")]
+use alloc::vec::Vec;
+use core::cmp::Ordering;
+#[cfg(feature = "alloc")]
+use core::fmt::Display;
+#[cfg(feature = "std")]
+use core::hash::Hash;
+use fallible_iterator::extending::{
+    FindTest, FindTurn, ForEachTurn, PositionTurn, ReadEq, Reading, answer_or, answer_or_none,
+    found, ordered,
+};
+use fallible_iterator::fallible_contract::collecting::{CollectTurn, Extended};
+use fallible_iterator::{FallibleIterator, IntoFallibleIterator};
+#[cfg(feature = "std")]
+use std::collections::{HashMap, HashSet};
+
+/// More calls on every fallible iterator.
+pub trait FallibleItertools: FallibleIterator + Sized {
+    // ---- adapters that buffer
+
+    /// Merges adjacent items for which the closure returns `Ok(one)`. For two that stay apart it hands both back, as `Err((first, second))`.
+    ///
+    /// Creating it draws nothing. The item merged so far is buffered until the closure keeps two apart, or a stop comes: `Ok(None)` or a failure. `next` draws up to that, and calls the closure on the buffered item and each further one. The buffered item is yielded first. The stop is what the next call returns, without a draw. If the closure fails, its failure is yielded, and the two items that it was called on are lost. After a stop nothing is buffered, so items before and after it stay apart.
+    ///
+    /// ```
+    /// # use fallible_iterator::{FallibleIterator, convert};
+    /// # use fallible_itertools::FallibleItertools;
+    /// # use fallible_itertools::PeekingNext;
+    /// let readings = [Ok::<u32, u8>(100), Ok(50), Ok(7), Ok(8)];
+    /// let mut it = convert(readings.into_iter()).coalesce(|first, second| {
+    ///     Ok(if second < first {
+    ///         Ok(first)
+    ///     } else {
+    ///         Err((first, second))
+    ///     })
+    /// });
+    /// let drawn = [it.next(), it.next(), it.next()];
+    /// assert_eq!(drawn, [Ok(Some(100)), Ok(None), Ok(None)]);
+    /// ```
+    ///
+    /// <details><summary>Contract</summary>
+    ///
+    /// As it is proved, in [these words](crate::words):
+    ///
+    /// ```text
+    /// requires callable { IsCallable (coalesce.coalesce_asks (fold.call_with F.FnMut))
+    ///     (coalesce.coalesce_takes (fold.takes_with F.FnMut)) (MayBeAsked Self.contract self)
+    ///     (None, f) }
+    /// ensures parts { coalesce.coalesce_parts result ≡ (self, ((None, f), None)) }
+    /// ensures lists { (h : Self.Item → Self.Item → coalesce.OneOrBoth Self.Item Self.Error)
+    ///     (l : List (Result Self.Item Self.Error))
+    ///     → list.ActsWith (fold.call_with F.FnMut) f h → list.Lists Self.contract.steps self l
+    ///     → list.Lists (seen_as coalesce.coalesce_parts
+    ///     (coalesce.coalesce_contract Self.contract F.FnMut)).steps result
+    ///     (coalesce.coalesced h l) }
+    /// ```
+    /// </details>
+    fn coalesce<F>(self, f: F) -> Coalesce<Self, F>
+    where
+        F: FnMut(
+            Self::Item,
+            Self::Item,
+        ) -> Result<Result<Self::Item, (Self::Item, Self::Item)>, Self::Error>,
+    {
+        Coalesce {
+            it: self,
+            coalescing: (None, f),
+            due: None,
+        }
+    }
+
+    /// Yields the first of adjacent items with equal keys. The closure returns the key, and is called once on each item.
+    ///
+    /// Laziness, draws and behaviour at a stop: as `dedup`. If the closure fails, its failure is a stop too: the buffered item is yielded first. The item that it was called on is lost, and no other.
+    ///
+    /// ```
+    /// # use fallible_iterator::{FallibleIterator, convert};
+    /// # use fallible_itertools::FallibleItertools;
+    /// # use fallible_itertools::PeekingNext;
+    /// let readings = [Ok::<u32, u8>(150), Ok(157), Err(9), Ok(158), Ok(7)];
+    /// let mut it = convert(readings.into_iter()).dedup_by_key(|reading| Ok(*reading / 10));
+    /// let drawn = [it.next(), it.next(), it.next(), it.next()];
+    /// assert_eq!(drawn, [Ok(Some(150)), Err(9), Ok(Some(158)), Ok(Some(7))]);
+    /// ```
+    ///
+    /// <details><summary>Contract</summary>
+    ///
+    /// As it is proved, in [these words](crate::words):
+    ///
+    /// ```text
+    /// requires callable { IsCallable (call_at F.FnMut) (takes_at F.FnMut)
+    ///     (Self.contract.may_give self) f }
+    /// ensures parts { dedup_by_key.dedup_by_key_parts result ≡ (self, ((None, f), None)) }
+    /// ensures callable { IsCallable (dedup_by_key.dedup_key_asks K.eq (call_at F.FnMut))
+    ///     (dedup_by_key.dedup_key_takes (takes_at F.FnMut)) (MayBeAsked Self.contract self)
+    ///     (None, f) }
+    /// ensures lists { (h : Self.Item → Result K Self.Error)
+    ///     (l : List (Result Self.Item Self.Error)) → list.Acts (call_at F.FnMut) f h
+    ///     → list.Lists Self.contract.steps self l
+    ///     → list.Lists (seen_as dedup_by_key.dedup_by_key_parts
+    ///     (dedup_by_key.dedup_by_key_contract K.eq Self.contract F.FnMut)).steps result
+    ///     (dedup_by_key.deduped_by_key K.eq h l) }
+    /// ```
+    /// </details>
+    fn dedup_by_key<K, F>(self, f: F) -> DedupByKey<Self, K, F>
+    where
+        K: PartialEq,
+        F: FnMut(&Self::Item) -> Result<K, Self::Error>,
+    {
+        DedupByKey {
+            it: self,
+            keying: (None, f),
+            due: None,
+        }
+    }
+
+    /// Yields the first of adjacent items that the closure finds the same. The closure is called on references to the buffered item and the next one.
+    ///
+    /// Laziness, draws and behaviour at a stop: as `dedup`. If the closure fails, its failure is a stop too: the buffered item is yielded first. The item that was drawn last is lost, and no other.
+    ///
+    /// ```
+    /// # use fallible_iterator::{FallibleIterator, convert};
+    /// # use fallible_itertools::FallibleItertools;
+    /// # use fallible_itertools::PeekingNext;
+    /// let readings = [Ok::<u32, u8>(150), Ok(157), Ok(7)];
+    /// let mut it = convert(readings.into_iter()).dedup_by(|first, second| Ok(
+    ///     *first / 10 == *second / 10,
+    /// ));
+    /// let drawn = [it.next(), it.next(), it.next()];
+    /// assert_eq!(drawn, [Ok(Some(150)), Ok(Some(7)), Ok(None)]);
+    /// ```
+    ///
+    /// <details><summary>Contract</summary>
+    ///
+    /// As it is proved, in [these words](crate::words):
+    ///
+    /// ```text
+    /// requires callable { IsCallable (dedup_by_asks (call_at_two F.FnMut))
+    ///     (dedup_by_takes (takes_at_two F.FnMut)) (MayBeAsked Self.contract self) (None, same) }
+    /// ensures parts { dedup_by_parts result ≡ (self, ((None, same), None)) }
+    /// ensures lists { (h : Self.Item → Self.Item → Result Bool Self.Error)
+    ///     (l : List (Result Self.Item Self.Error))
+    ///     → list.ActsWith (call_at_two F.FnMut) same h → list.Lists Self.contract.steps self l
+    ///     → list.Lists (seen_as dedup_by_parts (dedup_by_contract Self.contract F.FnMut)).steps
+    ///     result (deduped_by h l) }
+    /// ```
+    /// </details>
+    fn dedup_by<F>(self, same: F) -> DedupBy<Self, F>
+    where
+        F: FnMut(&Self::Item, &Self::Item) -> Result<bool, Self::Error>,
+    {
+        DedupBy {
+            it: self,
+            comparing: (None, same),
+            due: None,
+        }
+    }
+
+    /// Yields the first of adjacent equal items.
+    ///
+    /// Creating it draws nothing. The first of equal items is buffered until an item that differs comes, or a stop: `Ok(None)` or a failure. `next` draws up to that. The buffered item is yielded first. The stop is what the next call returns, without a draw. After a stop nothing is buffered, so equal items before and after it are both yielded.
+    ///
+    /// ```
+    /// # use fallible_iterator::{FallibleIterator, convert};
+    /// # use fallible_itertools::FallibleItertools;
+    /// # use fallible_itertools::PeekingNext;
+    /// let readings = [Ok::<u32, u8>(7), Ok(7), Ok(150), Ok(7)];
+    /// let mut it = convert(readings.into_iter()).dedup();
+    /// let drawn = [it.next(), it.next(), it.next(), it.next()];
+    /// assert_eq!(drawn, [Ok(Some(7)), Ok(Some(150)), Ok(Some(7)), Ok(None)]);
+    /// ```
+    ///
+    /// <details><summary>Contract</summary>
+    ///
+    /// As it is proved, in [these words](crate::words):
+    ///
+    /// ```text
+    /// ensures parts { dedup_parts result ≡ (self, (None, None)) }
+    /// ensures lists { (l : List (Result Self.Item Self.Error))
+    ///     → list.Lists Self.contract.steps self l
+    ///     → list.Lists (seen_as dedup_parts (dedup_contract Self.Item.eq Self.contract)).steps
+    ///     result (deduped Self.Item.eq l) }
+    /// ```
+    /// </details>
+    fn dedup(self) -> Dedup<Self>
+    where
+        Self::Item: PartialEq,
+    {
+        Dedup {
+            it: self,
+            held: None,
+            due: None,
+        }
+    }
+
+    /// Yields each item with its [`Position`](crate::Position): `First`, `Middle`, `Last` or `Only`.
+    ///
+    /// Creating it draws nothing. An item is buffered until another item comes, or a stop: `Ok(None)` or a failure. `next` draws up to that. The buffered item is yielded first, and is the `Last` one before a stop. The stop is what the next call returns, without a draw. After a stop nothing is buffered, and the next item is `First` or `Only`.
+    ///
+    /// ```
+    /// # use fallible_iterator::{FallibleIterator, convert};
+    /// # use fallible_itertools::FallibleItertools;
+    /// # use fallible_itertools::PeekingNext;
+    /// # use fallible_itertools::Position;
+    /// let letters = [Ok::<char, u8>('a'), Ok('b'), Ok('c')];
+    /// let mut it = convert(letters.into_iter()).with_position();
+    /// assert_eq!(it.next(), Ok(Some((Position::First, 'a'))));
+    /// assert_eq!(it.next(), Ok(Some((Position::Middle, 'b'))));
+    /// assert_eq!(it.next(), Ok(Some((Position::Last, 'c'))));
+    /// assert_eq!(it.next(), Ok(None));
+    /// ```
+    ///
+    /// <details><summary>Contract</summary>
+    ///
+    /// As it is proved, in [these words](crate::words):
+    ///
+    /// ```text
+    /// ensures parts { with_position_parts result ≡ (self, (None, None)) }
+    /// ensures lists { (l : List (Result Self.Item Self.Error))
+    ///     → list.Lists Self.contract.steps self l
+    ///     → list.Lists (seen_as with_position_parts (with_position_contract Self.contract)).steps
+    ///     result (positioned l) }
+    /// ```
+    /// </details>
+    fn with_position(self) -> WithPosition<Self> {
+        WithPosition {
+            it: self,
+            held: None,
+            due: None,
+        }
+    }
+
+    /// Yields each two adjacent items as a pair. The later one of a pair is a clone.
+    ///
+    /// Creating it draws nothing. `next` draws once, and twice for the first pair. It fails as the source does. The last item stays buffered at a failure and at an `Ok(None)`, so the next pair begins with it.
+    ///
+    /// ```
+    /// # use fallible_iterator::{FallibleIterator, convert};
+    /// # use fallible_itertools::FallibleItertools;
+    /// # use fallible_itertools::PeekingNext;
+    /// let readings = [Ok::<u32, u8>(150), Ok(7), Ok(700)];
+    /// let mut it = convert(readings.into_iter()).tuple_windows();
+    /// let drawn = [it.next(), it.next(), it.next()];
+    /// assert_eq!(drawn, [Ok(Some((150, 7))), Ok(Some((7, 700))), Ok(None)]);
+    /// ```
+    ///
+    /// <details><summary>Contract</summary>
+    ///
+    /// As it is proved, in [these words](crate::words):
+    ///
+    /// ```text
+    /// ensures parts { tuple_windows_parts result ≡ (self, None) }
+    /// ensures lists { (l : List (Result Self.Item Self.Error))
+    ///     → list.Lists Self.contract.steps self l
+    ///     → ((x y : Self.Item) → Self.Item.is_clone x y → y ≡ x)
+    ///     → ((x : Self.Item) → Self.Item.is_infallible x)
+    ///     → list.Lists (seen_as tuple_windows_parts (tuple_windows_contract Self.Item.is_clone
+    ///     Self.Item.is_infallible Self.Error.from_gives Self.contract)).steps result
+    ///     (windowed l) }
+    /// ```
+    /// </details>
+    fn tuple_windows(self) -> TupleWindows<Self>
+    where
+        Self::Item: Clone,
+    {
+        TupleWindows {
+            it: self,
+            held: None,
+        }
+    }
+
+    // ---- searches, sums and folds
+
+    /// Calls the closure on each item, through a borrow. The closure fails with an error of its own.
+    ///
+    /// It draws up to `Ok(None)`, the first failure or an item on which the closure fails. It fails with the iterator's failure, converted, or with the closure's error. Nothing is drawn after that, and the iterator may be used again.
+    ///
+    /// Precondition, which is not checked: the iterator is finite.
+    ///
+    /// ```
+    /// # use fallible_iterator::{FallibleIterator, convert};
+    /// # use fallible_itertools::DoubleEndedFallibleItertools;
+    /// # use fallible_itertools::FallibleItertools;
+    /// let mut it = convert([Ok::<u32, &str>(7), Ok(150), Ok(8)].into_iter());
+    /// let tried: Result<(), &str> = it.try_for_each(|reading: u32| {
+    ///     if reading > 100 {
+    ///         Err("too large")
+    ///     } else {
+    ///         Ok(())
+    ///     }
+    /// });
+    /// assert_eq!(tried, Err("too large"));
+    /// assert_eq!(it.next(), Ok(Some(8)));
+    /// ```
+    ///
+    /// <details><summary>Contract</summary>
+    ///
+    /// As it is proved, in [these words](crate::words):
+    ///
+    /// ```text
+    /// requires can_next { Self.contract.can_next self.old }
+    /// requires finite { Self.contract.is_finite self.old }
+    /// requires callable { fold.HoldsAtEachTurn Self.contract.steps
+    ///     (search.WentOn (call_on F.FnMut) search.each_pick) (takes_on F.FnMut) self.old f }
+    /// ensures searched { (g : F) × search.SearchDrains (call_on F.FnMut) search.each_pick
+    ///     (trying.Converted E.from_gives Self.contract.steps) tt self.old f result self.new g }
+    /// ensures value { (convert : Self.Error → E) → list.Converts E.from_gives convert
+    ///     → OverListWith (list.Acts (call_on F.FnMut) f) Self.contract.steps self.old
+    ///     (λ h l. result ≡ trying.try_each_done convert h l) }
+    /// ensures rest { OverListWith (list.Acts (call_on F.FnMut) f) Self.contract.steps self.old
+    ///     (λ h l. (e : E) → result ≡ Err e
+    ///     → list.Lists Self.contract.steps self.new (trying.rest_try_each h l)) }
+    /// ensures stays { Stays Self.contract self.old self.new }
+    /// ```
+    /// </details>
+    fn try_for_each<E, F>(&mut self, f: F) -> Result<(), E>
+    where
+        E: From<Self::Error>,
+        F: FnMut(Self::Item) -> Result<(), E>,
+    {
+        let mut f = f;
+        answer_or(converted(self.drive(&mut f, &ForEachTurn)), ())
+    }
+
+    /// Returns the first item on which the predicate returns true. The predicate fails with an error of its own.
+    ///
+    /// It draws up to the first item on which the predicate returns true or fails, the first failure or `Ok(None)`. It fails with the iterator's failure, converted, or with the predicate's error. Nothing is drawn after that, and the iterator may be used again.
+    ///
+    /// Precondition, which is not checked: the iterator is finite.
+    ///
+    /// ```
+    /// # use fallible_iterator::{FallibleIterator, convert};
+    /// # use fallible_itertools::DoubleEndedFallibleItertools;
+    /// # use fallible_itertools::FallibleItertools;
+    /// let mut it = convert([Ok::<u32, &str>(0), Ok(7), Ok(150)].into_iter());
+    /// let mut find = || -> Result<Option<u32>, &str> {
+    ///     it.try_find(|reading: &u32| {
+    ///         if *reading > 100 {
+    ///             Err("too large")
+    ///         } else {
+    ///             Ok(*reading == 7)
+    ///         }
+    ///     })
+    /// };
+    /// assert_eq!([find(), find(), find()],
+    ///     [Ok(Some(7)), Err("too large"), Ok(None)]
+    /// );
+    /// ```
+    ///
+    /// <details><summary>Contract</summary>
+    ///
+    /// As it is proved, in [these words](crate::words):
+    ///
+    /// ```text
+    /// requires can_next { Self.contract.can_next self.old }
+    /// requires finite { Self.contract.is_finite self.old }
+    /// requires callable { fold.HoldsAtEachTurn Self.contract.steps
+    ///     (search.WentOn (call_at F.FnMut) search.find_pick) (takes_at F.FnMut) self.old f }
+    /// ensures searched { (g : F) × search.SearchDrains (call_at F.FnMut) search.find_pick
+    ///     (trying.Converted E.from_gives Self.contract.steps) None self.old f result self.new g }
+    /// ensures value { (convert : Self.Error → E) → list.Converts E.from_gives convert
+    ///     → OverListWith (list.Acts (call_at F.FnMut) f) Self.contract.steps self.old
+    ///     (λ h l. result ≡ trying.try_found convert h l) }
+    /// ensures rest { OverListWith (list.Acts (call_at F.FnMut) f) Self.contract.steps self.old
+    ///     (λ h l. ¬ (result ≡ Ok None)
+    ///     → list.Lists Self.contract.steps self.new (trying.rest_try_true h l)) }
+    /// ensures stays { Stays Self.contract self.old self.new }
+    /// ```
+    /// </details>
+    fn try_find<E, F>(&mut self, f: F) -> Result<Option<Self::Item>, E>
+    where
+        E: From<Self::Error>,
+        F: FnMut(&Self::Item) -> Result<bool, E>,
+    {
+        let mut f = f;
+        found(converted(self.drive(&mut f, &FindTurn { test: &FindTest })))
+    }
+
+    /// Returns the position of the first item on which the predicate returns true. The predicate fails with an error of its own.
+    ///
+    /// Draws, errors and what is left: as `try_find`.
+    ///
+    /// ```
+    /// # use fallible_iterator::{FallibleIterator, convert};
+    /// # use fallible_itertools::DoubleEndedFallibleItertools;
+    /// # use fallible_itertools::FallibleItertools;
+    /// let mut it = convert([Ok::<u32, &str>(0), Ok(7), Ok(150)].into_iter());
+    /// let mut place = || -> Result<Option<usize>, &str> {
+    ///     it.try_position(|reading: u32| {
+    ///         if reading > 100 {
+    ///             Err("too large")
+    ///         } else {
+    ///             Ok(reading == 7)
+    ///         }
+    ///     })
+    /// };
+    /// assert_eq!([place(), place(), place()],
+    ///     [Ok(Some(1)), Err("too large"), Ok(None)]
+    /// );
+    /// ```
+    ///
+    /// <details><summary>Contract</summary>
+    ///
+    /// As it is proved, in [these words](crate::words):
+    ///
+    /// ```text
+    /// requires can_next { Self.contract.can_next self.old }
+    /// requires fits { AtMost Self.contract self.old (2 ^ 64 - 1) }
+    /// requires callable { fold.HoldsAtEachTurn Self.contract.steps
+    ///     (search.WentOn (call_on F.FnMut) search.position_pick) (takes_on F.FnMut) self.old f }
+    /// ensures searched { (g : F) × search.SearchDrains (call_on F.FnMut) search.position_pick
+    ///     (trying.Converted E.from_gives Self.contract.steps) None self.old f result self.new g }
+    /// ensures value { (convert : Self.Error → E) → list.Converts E.from_gives convert
+    ///     → OverListWith (list.Acts (call_on F.FnMut) f) Self.contract.steps self.old
+    ///     (λ h l. result ≡ trying.try_position_in convert h l) }
+    /// ensures rest { OverListWith (list.Acts (call_on F.FnMut) f) Self.contract.steps self.old
+    ///     (λ h l. ¬ (result ≡ Ok None)
+    ///     → list.Lists Self.contract.steps self.new (trying.rest_try_true h l)) }
+    /// ensures stays { Stays Self.contract self.old self.new }
+    /// ```
+    /// </details>
+    fn try_position<E, F>(&mut self, f: F) -> Result<Option<usize>, E>
+    where
+        E: From<Self::Error>,
+        F: FnMut(Self::Item) -> Result<bool, E>,
+    {
+        answer_or_none(converted(self.drive(&mut (0, f), &PositionTurn)))
+    }
+
+    /// Returns whether an item equals the wanted one.
+    ///
+    /// It draws up to the first item that equals it, the first failure or `Ok(None)`. It fails with that failure. Nothing is drawn after that, and the iterator may be used again.
+    ///
+    /// Precondition, which is not checked: the iterator is finite.
+    ///
+    /// ```
+    /// # use fallible_iterator::{FallibleIterator, convert};
+    /// # use fallible_itertools::DoubleEndedFallibleItertools;
+    /// # use fallible_itertools::FallibleItertools;
+    /// let mut it = convert([Ok::<u32, u8>(150), Ok(7), Ok(700), Err(9)].into_iter());
+    /// assert_eq!(it.contains(&7), Ok(true));
+    /// assert_eq!(it.contains(&7), Err(9));
+    /// assert_eq!(it.contains(&7), Ok(false));
+    /// ```
+    ///
+    /// <details><summary>Contract</summary>
+    ///
+    /// As it is proved, in [these words](crate::words):
+    ///
+    /// ```text
+    /// requires can_next { Self.contract.can_next self.old }
+    /// requires finite { Self.contract.is_finite self.old }
+    /// ensures searched { search.SearchDrains (TestCall (λ x. Self.Item.eq x wanted.now))
+    ///     search.any_pick Self.contract.steps false self.old tt result self.new tt }
+    /// ensures value { OverList Self.contract.steps self.old
+    ///     (λ l. result ≡ contained Self.Item.eq wanted.now l) }
+    /// ensures rest { OverList Self.contract.steps self.old
+    ///     (λ l. ¬ (result ≡ Ok false)
+    ///     → list.Lists Self.contract.steps self.new (rest_contained Self.Item.eq wanted.now l)) }
+    /// ensures stays { Stays Self.contract self.old self.new }
+    /// ```
+    /// </details>
+    fn contains(&mut self, wanted: &Self::Item) -> Result<bool, Self::Error>
+    where
+        Self::Item: PartialEq,
+    {
+        answer_or(self.drive(&mut (), &ContainsTurn { wanted }), false)
+    }
+
+    /// Returns whether the first item equals each later one; true if there is no item.
+    ///
+    /// It draws up to an item that the first one doesn't equal, the first failure or `Ok(None)`. It fails with that failure. Nothing is drawn after that, and the iterator may be used again.
+    ///
+    /// Precondition, which is not checked: the iterator is finite.
+    ///
+    /// ```
+    /// # use fallible_iterator::{FallibleIterator, convert};
+    /// # use fallible_itertools::DoubleEndedFallibleItertools;
+    /// # use fallible_itertools::FallibleItertools;
+    /// let mut it = convert([Ok::<u32, u8>(7), Ok(7), Ok(150), Ok(8)].into_iter());
+    /// assert_eq!(it.all_equal(), Ok(false));
+    /// assert_eq!(it.all_equal(), Ok(true));
+    /// ```
+    ///
+    /// <details><summary>Contract</summary>
+    ///
+    /// As it is proved, in [these words](crate::words):
+    ///
+    /// ```text
+    /// requires can_next { Self.contract.can_next self.old }
+    /// requires finite { Self.contract.is_finite self.old }
+    /// ensures searched { (first : Option Self.Item) × search.SearchDrains (FirstCall Self.Item.eq)
+    ///     search.all_pick Self.contract.steps true self.old None result self.new first }
+    /// ensures value { OverList Self.contract.steps self.old
+    ///     (λ l. result ≡ equal_to_first Self.Item.eq l) }
+    /// ensures rest { OverList Self.contract.steps self.old
+    ///     (λ l. ¬ (result ≡ Ok true)
+    ///     → list.Lists Self.contract.steps self.new (rest_unequal Self.Item.eq l)) }
+    /// ensures stays { Stays Self.contract self.old self.new }
+    /// ```
+    /// </details>
+    fn all_equal(&mut self) -> Result<bool, Self::Error>
+    where
+        Self::Item: PartialEq,
+    {
+        answer_or(self.drive(&mut None, &AllEqualTurn), true)
+    }
+
+    /// Returns the first item on which the predicate returns true, or the last item if there is none; `Ok(None)` if there is no item.
+    ///
+    /// It draws up to the first item on which the predicate returns true or fails, the first failure or `Ok(None)`. It calls the predicate on each item drawn, in order. Nothing is drawn after that. It fails with the first failure, of this iterator or of the predicate. It consumes the iterator.
+    ///
+    /// Precondition, which is not checked: the iterator is finite.
+    ///
+    /// ```
+    /// # use fallible_iterator::{FallibleIterator, convert};
+    /// # use fallible_itertools::DoubleEndedFallibleItertools;
+    /// # use fallible_itertools::FallibleItertools;
+    /// let readings = [Ok::<u32, u8>(7), Ok(150), Ok(8)];
+    /// let it = convert(readings.into_iter());
+    /// assert_eq!(it.find_or_last(|reading| Ok(*reading > 100)),
+    ///     Ok(Some(150))
+    /// );
+    ///
+    /// let low = [Ok::<u32, u8>(7), Ok(8)];
+    /// let it = convert(low.into_iter());
+    /// assert_eq!(it.find_or_last(|reading| Ok(*reading > 100)), Ok(Some(8)));
+    /// ```
+    ///
+    /// <details><summary>Contract</summary>
+    ///
+    /// As it is proved, in [these words](crate::words):
+    ///
+    /// ```text
+    /// requires can_next { Self.contract.can_next self }
+    /// requires finite { Self.contract.is_finite self }
+    /// requires callable { search.CallableInSearch (call_at F.FnMut) search.find_pick
+    ///     Self.contract.steps (takes_at F.FnMut) self f }
+    /// ensures found { (left : Self) × (g : F)
+    ///     × FoundOrLast (call_at F.FnMut) Self.contract.steps self f result left g }
+    /// ensures value { OverListWith (list.Acts (call_at F.FnMut) f) Self.contract.steps self
+    ///     (λ h l. result ≡ found_or_last h l) }
+    /// ```
+    /// </details>
+    fn find_or_last<F>(mut self, f: F) -> Result<Option<Self::Item>, Self::Error>
+    where
+        F: FnMut(&Self::Item) -> Result<bool, Self::Error>,
+    {
+        let mut state = (None, f);
+        let answer = self.drive(&mut state, &FindLastTurn);
+        let (last, _) = state;
+        or_last(answer_or_none(answer), last)
+    }
+
+    /// Returns the sum of the items, 0 for none. If it overflows at one of them, it returns `Ok(None)`.
+    ///
+    /// It draws up to the first item at which the sum overflows, the first failure or `Ok(None)`. Nothing is drawn after that, so an overflow is returned also where a failure would come later. It fails with the first failure. It consumes the iterator.
+    ///
+    /// Precondition, which is not checked: the iterator is finite.
+    ///
+    /// ```
+    /// # use fallible_iterator::{FallibleIterator, convert};
+    /// # use fallible_itertools::DoubleEndedFallibleItertools;
+    /// # use fallible_itertools::FallibleItertools;
+    /// let readings = [Ok::<u8, u8>(150), Ok(7)];
+    /// assert_eq!(convert(readings.into_iter()).checked_sum(), Ok(Some(157)));
+    ///
+    /// let large = [Ok::<u8, u8>(150), Ok(150)];
+    /// assert_eq!(convert(large.into_iter()).checked_sum(), Ok(None));
+    /// ```
+    ///
+    /// <details><summary>Contract</summary>
+    ///
+    /// As it is proved, in [these words](crate::words):
+    ///
+    /// ```text
+    /// requires can_next { Self.contract.can_next self }
+    /// requires finite { Self.contract.is_finite self }
+    /// ensures sum { TotalDrains Self.Item.plus Self.contract.steps Self.Item.zero self result }
+    /// ensures value { OverList Self.contract.steps self
+    ///     (λ l. result ≡ totalled Self.Item.plus Self.Item.zero l) }
+    /// ```
+    /// </details>
+    fn checked_sum(mut self) -> Result<Option<Self::Item>, Self::Error>
+    where
+        Self::Item: CheckedTotal,
+    {
+        let mut sum = Self::Item::zero();
+        let answer = self.drive(&mut sum, &SumTurn);
+        total_or_none(answer, sum)
+    }
+
+    /// Returns the product of the items, 1 for none. If it overflows at one of them, it returns `Ok(None)`, also where a 0 would come later.
+    ///
+    /// Draws, errors and precondition: as `checked_sum`. It consumes the iterator too.
+    ///
+    /// ```
+    /// # use fallible_iterator::{FallibleIterator, convert};
+    /// # use fallible_itertools::DoubleEndedFallibleItertools;
+    /// # use fallible_itertools::FallibleItertools;
+    /// let sides = [Ok::<u8, u8>(3), Ok(7)];
+    /// assert_eq!(convert(sides.into_iter()).checked_product(), Ok(Some(21)));
+    ///
+    /// let large = [Ok::<u8, u8>(150), Ok(2), Ok(0)];
+    /// assert_eq!(convert(large.into_iter()).checked_product(), Ok(None));
+    /// ```
+    ///
+    /// <details><summary>Contract</summary>
+    ///
+    /// As it is proved, in [these words](crate::words):
+    ///
+    /// ```text
+    /// requires can_next { Self.contract.can_next self }
+    /// requires finite { Self.contract.is_finite self }
+    /// ensures product { TotalDrains Self.Item.times Self.contract.steps Self.Item.one self
+    ///     result }
+    /// ensures value { OverList Self.contract.steps self
+    ///     (λ l. result ≡ totalled Self.Item.times Self.Item.one l) }
+    /// ```
+    /// </details>
+    fn checked_product(mut self) -> Result<Option<Self::Item>, Self::Error>
+    where
+        Self::Item: CheckedTotal,
+    {
+        let mut product = Self::Item::one();
+        let answer = self.drive(&mut product, &ProductTurn);
+        total_or_none(answer, product)
+    }
+
+    /// Folds the items, until the closure returns `Done`. It returns that `Done`, or `Continue` of the last value at `Ok(None)`.
+    ///
+    /// It draws up to the item on which the closure returns `Done` or fails, the first failure or `Ok(None)`. It fails with the first failure, of this iterator or of the closure. Nothing is drawn after that, and the iterator may be used again.
+    ///
+    /// Precondition, which is not checked: the iterator is finite.
+    ///
+    /// ```
+    /// # use fallible_iterator::{FallibleIterator, convert};
+    /// # use fallible_itertools::DoubleEndedFallibleItertools;
+    /// # use fallible_itertools::FallibleItertools;
+    /// # use fallible_itertools::FoldWhile;
+    /// let mut it = convert([Ok::<u32, u8>(150), Ok(7), Ok(0), Ok(8)].into_iter());
+    /// let sum = it.fold_while(0, |sum: u32, reading: u32| {
+    ///     Ok(if reading == 0 {
+    ///         FoldWhile::Done(sum)
+    ///     } else {
+    ///         FoldWhile::Continue(sum.wrapping_add(reading))
+    ///     })
+    /// });
+    /// assert_eq!(sum, Ok(FoldWhile::Done(157)));
+    /// assert_eq!(it.next(), Ok(Some(8)));
+    /// ```
+    ///
+    /// <details><summary>Contract</summary>
+    ///
+    /// As it is proved, in [these words](crate::words):
+    ///
+    /// ```text
+    /// requires can_next { Self.contract.can_next self.old }
+    /// requires finite { Self.contract.is_finite self.old }
+    /// requires callable { fold.CallableInFold Self.contract.steps
+    ///     (WhileCall (fold.call_with F.FnMut)) (fold.takes_with F.FnMut) self.old f init }
+    /// ensures folded { FoldWhileDrains (fold.call_with F.FnMut) Self.contract.steps self.old init
+    ///     f result self.new }
+    /// ensures value { OverListWith (list.ActsWith (fold.call_with F.FnMut) f) Self.contract.steps
+    ///     self.old (λ h l. result ≡ folded_while h init l) }
+    /// ensures rest_done { OverListWith (list.ActsWith (fold.call_with F.FnMut) f)
+    ///     Self.contract.steps self.old (λ h l. (b : B) → result ≡ Ok (Done b)
+    ///     → list.Lists Self.contract.steps self.new (rest_while h init l)) }
+    /// ensures rest_failed { OverListWith (list.ActsWith (fold.call_with F.FnMut) f)
+    ///     Self.contract.steps self.old (λ h l. (e : Self.Error) → result ≡ Err e
+    ///     → list.Lists Self.contract.steps self.new (rest_while h init l)) }
+    /// ensures stays { Stays Self.contract self.old self.new }
+    /// ```
+    /// </details>
+    fn fold_while<B, F>(&mut self, init: B, f: F) -> Result<FoldWhile<B>, Self::Error>
+    where
+        F: FnMut(B, Self::Item) -> Result<FoldWhile<B>, Self::Error>,
+    {
+        let mut state = (Some(init), f);
+        let answer = self.drive(&mut state, &FoldWhileTurn);
+        let (value, _) = state;
+        while_or_stop(answer, value)
+    }
+
+    /// Returns whether the keys that the closure makes of the items never go down. A key that can't be compared with the one before it goes down.
+    ///
+    /// It draws up to the first item whose key goes down or on which the closure fails, the first failure or `Ok(None)`. Nothing is drawn after that. It fails with the first failure, of this iterator or of the closure. It consumes the iterator.
+    ///
+    /// Precondition, which is not checked: the iterator is finite.
+    ///
+    /// ```
+    /// # use fallible_iterator::{FallibleIterator, convert};
+    /// # use fallible_itertools::DoubleEndedFallibleItertools;
+    /// # use fallible_itertools::FallibleItertools;
+    /// let readings = [Ok::<u32, u8>(150), Ok(7), Ok(8)];
+    /// let it = convert(readings.into_iter());
+    /// assert_eq!(it.is_sorted_by_key(|reading: u32| Ok(reading % 10)),
+    ///     Ok(true)
+    /// );
+    /// ```
+    ///
+    /// <details><summary>Contract</summary>
+    ///
+    /// As it is proved, in [these words](crate::words):
+    ///
+    /// ```text
+    /// requires can_next { Self.contract.can_next self }
+    /// requires finite { Self.contract.is_finite self }
+    /// requires callable { search.CallableInSearch (OrderCall K.partial_cmp (call_on F.FnMut))
+    ///     search.all_pick Self.contract.steps (λ p x. takes_on F.FnMut p.1 x) self (None, f) }
+    /// ensures sorted { (left : Self) × (q : Option K × F)
+    ///     × search.SearchDrains (OrderCall K.partial_cmp (call_on F.FnMut)) search.all_pick
+    ///     Self.contract.steps true self (None, f) result left q }
+    /// ensures value { (order : K → K → Option Ordering) → order ≡ K.partial_cmp
+    ///     → OverListWith (list.Acts (call_on F.FnMut) f) Self.contract.steps self
+    ///     (λ h l. result ≡ in_order_by_key order h l) }
+    /// ```
+    /// </details>
+    fn is_sorted_by_key<K, F>(mut self, f: F) -> Result<bool, Self::Error>
+    where
+        K: PartialOrd,
+        F: FnMut(Self::Item) -> Result<K, Self::Error>,
+    {
+        let mut state = (None, f);
+        answer_or(self.drive(&mut state, &SortedTurn), true)
+    }
+
+    /// Returns whether no item is less than the one before it. An item that can't be compared with the one before it counts as less.
+    ///
+    /// It draws up to the first item that is less, the first failure or `Ok(None)`. Nothing is drawn after that. It fails with that failure. It consumes the iterator.
+    ///
+    /// Precondition, which is not checked: the iterator is finite.
+    ///
+    /// ```
+    /// # use fallible_iterator::{FallibleIterator, convert};
+    /// # use fallible_itertools::DoubleEndedFallibleItertools;
+    /// # use fallible_itertools::FallibleItertools;
+    /// let readings = [Ok::<u32, u8>(7), Ok(7), Ok(150)];
+    /// assert_eq!(convert(readings.into_iter()).is_sorted(), Ok(true));
+    ///
+    /// let falling = [Ok::<u32, u8>(150), Ok(7)];
+    /// assert_eq!(convert(falling.into_iter()).is_sorted(), Ok(false));
+    /// ```
+    ///
+    /// <details><summary>Contract</summary>
+    ///
+    /// As it is proved, in [these words](crate::words):
+    ///
+    /// ```text
+    /// requires can_next { Self.contract.can_next self }
+    /// requires finite { Self.contract.is_finite self }
+    /// ensures sorted { (left : Self) × (q : Option Self.Item × Unit {0})
+    ///     × search.SearchDrains (OrderCall Self.Item.partial_cmp ItselfCall) search.all_pick
+    ///     Self.contract.steps true self (None, tt) result left q }
+    /// ensures value { (order : Self.Item → Self.Item → Option Ordering)
+    ///     → order ≡ Self.Item.partial_cmp
+    ///     → OverList Self.contract.steps self (λ l. result ≡ in_order order l) }
+    /// ```
+    /// </details>
+    fn is_sorted(mut self) -> Result<bool, Self::Error>
+    where
+        Self::Item: PartialOrd,
+    {
+        answer_or(self.drive(&mut (None, ()), &InOrderTurn), true)
+    }
+
+    // ---- adapters that let results pass
+
+    /// Yields a copy of what each item points to.
+    ///
+    /// Creating it draws nothing. `next` draws once. It fails as the source does. After a failure and after `Ok(None)` the next call draws again. It is double-ended if the source is.
+    ///
+    /// ```
+    /// # use fallible_iterator::{FallibleIterator, convert};
+    /// # use fallible_itertools::FallibleItertools;
+    /// # use fallible_itertools::PeekingNext;
+    /// let readings = [150, 7];
+    /// let mut it = convert(readings.iter().map(Ok::<&u32, u8>)).copied();
+    /// let drawn = [it.next(), it.next(), it.next()];
+    /// assert_eq!(drawn, [Ok(Some(150)), Ok(Some(7)), Ok(None)]);
+    /// ```
+    ///
+    /// <details><summary>Contract</summary>
+    ///
+    /// As it is proved, in [these words](crate::words):
+    ///
+    /// ```text
+    /// ensures parts { copied_parts result ≡ (self, tt) }
+    /// ensures lists { OverList Self.contract.steps self
+    ///     (λ l. list.Lists (seen_as copied_parts (copied_contract Self.contract)).steps
+    ///     result (list.pointed_to l)) }
+    /// ```
+    /// </details>
+    fn copied<'a, T: 'a>(self) -> Copied<Self>
+    where
+        Self: FallibleIterator<Item = &'a T>,
+        T: Copy,
+    {
+        Copied { it: self }
+    }
+
+    /// Yields the items up to the first one that the predicate rejects, and that one too. Then it is exhausted.
+    ///
+    /// Creating it draws nothing and calls nothing. Up to the rejected item `next` draws once. It fails as the source does. If the predicate fails, its failure is yielded, and the item is lost. Neither that nor an `Ok(None)` of the source exhausts it. After the rejected item it draws nothing, and each call returns `Ok(None)`.
+    ///
+    /// ```
+    /// # use fallible_iterator::{FallibleIterator, convert};
+    /// # use fallible_itertools::FallibleItertools;
+    /// # use fallible_itertools::PeekingNext;
+    /// let readings = [Ok::<u32, u8>(150), Ok(7), Ok(700)];
+    /// let mut it = convert(readings.into_iter()).take_while_inclusive(|reading| Ok(*reading > 100));
+    /// let drawn = [it.next(), it.next(), it.next()];
+    /// assert_eq!(drawn, [Ok(Some(150)), Ok(Some(7)), Ok(None)]);
+    /// ```
+    ///
+    /// <details><summary>Contract</summary>
+    ///
+    /// As it is proved, in [these words](crate::words):
+    ///
+    /// ```text
+    /// requires { IsCallable (call_at P.FnMut) (takes_at P.FnMut)
+    ///     (Self.contract.may_give self) predicate }
+    /// ensures source { inclusive.inclusive_source result ≡ self }
+    /// ensures predicate { inclusive.inclusive_predicate result ≡ predicate }
+    /// ensures refused { inclusive.inclusive_refused result ≡ false }
+    /// ensures lists { OverListWith (list.Acts (call_at P.FnMut) predicate) Self.contract.steps
+    ///     self (λ h l. list.Lists (seen_as inclusive.inclusive_parts
+    ///     (inclusive.inclusive_contract Self.contract P.FnMut)).steps
+    ///     result (inclusive.taken_while_inclusive h l)) }
+    /// ```
+    /// </details>
+    fn take_while_inclusive<P>(self, predicate: P) -> TakeWhileInclusive<Self, P>
+    where
+        P: FnMut(&Self::Item) -> Result<bool, Self::Error>,
+    {
+        TakeWhileInclusive {
+            it: self,
+            taking: (false, predicate),
+        }
+    }
+
+    // ---- adapters that act on failures
+
+    /// Calls the closure on a reference to each failure, and then yields the failure.
+    ///
+    /// Creating it draws nothing. `next` draws once, and calls the closure once if a failure came. It fails as the source does. After a failure and after `Ok(None)` the next call draws again. It is double-ended if the source is.
+    ///
+    /// ```
+    /// # use fallible_iterator::{FallibleIterator, convert};
+    /// # use fallible_itertools::FallibleItertools;
+    /// # use fallible_itertools::PeekingNext;
+    /// let readings = [Ok::<u32, u8>(150), Err(9), Ok(7)];
+    /// let mut noted = None;
+    /// let mut it = convert(readings.into_iter()).inspect_err(|code| noted = Some(*code));
+    /// let drawn = [it.next(), it.next(), it.next()];
+    /// assert_eq!(drawn, [Ok(Some(150)), Err(9), Ok(Some(7))]);
+    /// assert_eq!(noted, Some(9));
+    /// ```
+    ///
+    /// <details><summary>Contract</summary>
+    ///
+    /// As it is proved, in [these words](crate::words):
+    ///
+    /// ```text
+    /// requires { IsCallable (call_at F.FnMut) (takes_at F.FnMut)
+    ///     (Self.contract.may_fail self) f }
+    /// ensures parts { inspect_err_parts result ≡ (self, f) }
+    /// ensures callable { IsCallable (seen_call F.FnMut) (takes_at F.FnMut)
+    ///     (Self.contract.may_fail self) f }
+    /// ensures lists { OverList Self.contract.steps self
+    ///     (λ l. list.Lists (seen_as inspect_err_parts
+    ///     (inspect_err_contract Self.contract F.FnMut)).steps result l) }
+    /// ```
+    /// </details>
+    fn inspect_err<F>(self, f: F) -> InspectErr<Self, F>
+    where
+        F: FnMut(&Self::Error),
+    {
+        InspectErr { it: self, f }
+    }
+
+    /// Replaces each failure by what the closure returns for it: an item, nothing or another failure.
+    ///
+    /// Creating it draws nothing. `next` draws up to an item, an `Ok(None)`, or a failure for which the closure returns an item or fails. It calls the closure once on each failure. It fails with the closure's failures alone. After a failure and after `Ok(None)` the next call draws again. It is double-ended if the source is.
+    ///
+    /// ```
+    /// # use fallible_iterator::{FallibleIterator, convert};
+    /// # use fallible_itertools::FallibleItertools;
+    /// # use fallible_itertools::PeekingNext;
+    /// let readings = [Ok::<u32, u8>(150), Err(1), Err(2), Err(9)];
+    /// let mut it = convert(readings.into_iter()).or_else(|code| match code {
+    ///     1 => Ok(Some(0)),
+    ///     2 => Ok(None),
+    ///     _ => Err("broken"),
+    /// });
+    /// let drawn = [it.next(), it.next(), it.next(), it.next()];
+    /// assert_eq!(drawn,
+    ///     [Ok(Some(150)), Ok(Some(0)), Err("broken"), Ok(None)]
+    /// );
+    /// ```
+    ///
+    /// <details><summary>Contract</summary>
+    ///
+    /// As it is proved, in [these words](crate::words):
+    ///
+    /// ```text
+    /// requires { IsCallable (call_on F.FnMut) (takes_on F.FnMut)
+    ///     (Self.contract.may_fail self) f }
+    /// ensures parts { or_else_parts result ≡ (self, f) }
+    /// ensures lists { OverListWith (list.Acts (call_on F.FnMut) f) Self.contract.steps self
+    ///     (λ h l. list.Lists (seen_as or_else_parts
+    ///     (or_else_contract Self.contract F.FnMut)).steps result (recovered h l)) }
+    /// ```
+    /// </details>
+    fn or_else<E, F>(self, f: F) -> OrElse<Self, F>
+    where
+        F: FnMut(Self::Error) -> Result<Option<Self::Item>, E>,
+    {
+        OrElse { it: self, f }
+    }
+
+    // ---- adapters that join
+
+    /// Merges the items of two sources by their order. Of an item of this iterator and the next one of `other`, the lesser goes first, and of equal ones this side's. If the two can't be compared, `other`'s goes first. If one side returns `Ok(None)`, the other's item is yielded. Two sorted sources make a sorted one.
+    ///
+    /// Laziness, draws, buffered items, errors and folds: as `merge_by`, with no closure that may fail. Bounds of both sides, added up, bound it.
+    ///
+    /// ```
+    /// # use fallible_iterator::{FallibleIterator, convert};
+    /// # use fallible_itertools::FallibleItertools;
+    /// let left = convert([Ok::<u32, u8>(1), Ok(4)].into_iter());
+    /// let right = convert([Ok(2), Ok(3)].into_iter());
+    /// let mut it = left.merge(right);
+    /// let drawn = [it.next(), it.next(), it.next(), it.next(), it.next()];
+    /// assert_eq!(drawn,
+    ///     [Ok(Some(1)), Ok(Some(2)), Ok(Some(3)), Ok(Some(4)), Ok(None)]
+    /// );
+    /// ```
+    ///
+    /// <details><summary>Contract</summary>
+    ///
+    /// As it is proved, in [these words](crate::words):
+    ///
+    /// ```text
+    /// ensures left { merge_left result ≡ self }
+    /// ensures left_held { merge_left_held result ≡ None }
+    /// ensures right { I.into_gives other (merge_right result) }
+    /// ensures right_held { merge_right_held result ≡ None }
+    /// ensures bounded { (a b k : ℕ) → Self.contract.bound self a
+    ///     → I.IntoFallibleIter.contract.bound (merge_right result) b → a + b ≤ k
+    ///     → AtMost (seen_as merge_parts (merge_contract Self.Item.partial_cmp Self.contract
+    ///     I.IntoFallibleIter.contract)) result k }
+    /// ensures for_good { OverBothForGood Self.contract.steps self I.into_gives other
+    ///     I.IntoFallibleIter.contract.steps
+    ///     (λ a b. list.ListsForGood (seen_as merge_parts (merge_contract Self.Item.partial_cmp
+    ///     Self.contract I.IntoFallibleIter.contract)).steps result
+    ///     (merged_in_order Self.Item.partial_cmp a b)) }
+    /// ensures lists { OverBothForGood Self.contract.steps self I.into_gives other
+    ///     I.IntoFallibleIter.contract.steps
+    ///     (λ a b. list.Lists (seen_as merge_parts (merge_contract Self.Item.partial_cmp
+    ///     Self.contract I.IntoFallibleIter.contract)).steps result
+    ///     (merged_in_order Self.Item.partial_cmp a b)) }
+    /// ```
+    /// </details>
+    fn merge<I>(self, other: I) -> Merge<Self, I::IntoFallibleIter>
+    where
+        I: IntoFallibleIterator<Item = Self::Item, Error = Self::Error>,
+        Self::Item: PartialOrd,
+    {
+        Merge {
+            left: Holding {
+                it: self,
+                held: None,
+            },
+            right: Holding {
+                it: other.into_fallible_iter(),
+                held: None,
+            },
+        }
+    }
+
+    /// Merges the items of two sources. Of an item of this iterator and the next one of `other`, the closure returns whether the former goes first. If one side returns `Ok(None)`, the other's item is yielded without a call of the closure.
+    ///
+    /// Creating it draws nothing. It buffers at most one item of each side. `next` draws this side once if nothing of it is buffered. Then, unless that failed, it draws `other` once if nothing of `other` is buffered. An `Ok(None)` of a side isn't remembered. It fails as either side does, and loses nothing that is buffered. If the closure fails, its failure is yielded, and the two items that it was called on are lost. Its folds draw as `next` does. Bounds of both sides, added up, bound it.
+    ///
+    /// ```
+    /// # use fallible_iterator::{FallibleIterator, convert};
+    /// # use fallible_itertools::FallibleItertools;
+    /// let left = convert([Ok::<u32, u8>(4), Ok(1)].into_iter());
+    /// let right = convert([Ok(3)].into_iter());
+    /// let mut it = left.merge_by(right, |x, y| Ok(*x >= *y));
+    /// let drawn = [it.next(), it.next(), it.next(), it.next()];
+    /// assert_eq!(drawn, [Ok(Some(4)), Ok(Some(3)), Ok(Some(1)), Ok(None)]);
+    /// ```
+    ///
+    /// <details><summary>Contract</summary>
+    ///
+    /// As it is proved, in [these words](crate::words):
+    ///
+    /// ```text
+    /// requires { (right : I.IntoFallibleIter) → I.into_gives other right
+    ///     → IsCallable (merge_by.call_on_two (call_at_two F.FnMut))
+    ///     (λ g z. takes_at_two F.FnMut g z.0 z.1) (λ z. Self.contract.may_give self z.0
+    ///     × I.IntoFallibleIter.contract.may_give right z.1) f }
+    /// ensures left { merge_by.merge_by_left result ≡ self }
+    /// ensures left_held { merge_by.merge_by_left_held result ≡ None }
+    /// ensures right { I.into_gives other (merge_by.merge_by_right result) }
+    /// ensures right_held { merge_by.merge_by_right_held result ≡ None }
+    /// ensures closure { merge_by.merge_by_closure result ≡ f }
+    /// ensures bounded { (a b k : ℕ) → Self.contract.bound self a
+    ///     → I.IntoFallibleIter.contract.bound (merge_by.merge_by_right result) b → a + b ≤ k
+    ///     → AtMost (seen_as merge_by.merge_by_parts (merge_by.merge_by_contract Self.contract
+    ///     I.IntoFallibleIter.contract F.FnMut)) result k }
+    /// ensures for_good { (h : Self.Item → Self.Item → Result Bool Self.Error)
+    ///     → list.ActsWith (call_at_two F.FnMut) f h
+    ///     → OverBothForGood Self.contract.steps self I.into_gives other
+    ///     I.IntoFallibleIter.contract.steps
+    ///     (λ a b. list.ListsForGood
+    ///     (seen_as merge_by.merge_by_parts (merge_by.merge_by_contract Self.contract
+    ///     I.IntoFallibleIter.contract F.FnMut)).steps result (merge_by.merged h a b)) }
+    /// ensures lists { (h : Self.Item → Self.Item → Result Bool Self.Error)
+    ///     → list.ActsWith (call_at_two F.FnMut) f h
+    ///     → OverBothForGood Self.contract.steps self I.into_gives other
+    ///     I.IntoFallibleIter.contract.steps
+    ///     (λ a b. list.Lists (seen_as merge_by.merge_by_parts
+    ///     (merge_by.merge_by_contract Self.contract
+    ///     I.IntoFallibleIter.contract F.FnMut)).steps result (merge_by.merged h a b)) }
+    /// ```
+    /// </details>
+    fn merge_by<I, F>(self, other: I, f: F) -> MergeBy<Self, I::IntoFallibleIter, F>
+    where
+        I: IntoFallibleIterator<Item = Self::Item, Error = Self::Error>,
+        F: FnMut(&Self::Item, &Self::Item) -> Result<bool, Self::Error>,
+    {
+        MergeBy {
+            left: Holding {
+                it: self,
+                held: None,
+            },
+            right: Holding {
+                it: other.into_fallible_iter(),
+                held: None,
+            },
+            f,
+        }
+    }
+
+    /// Pairs the items of both sides by their positions, up to `Ok(None)` of both. If one side returns `Ok(None)` where the other has an item, that item stands alone.
+    ///
+    /// Creating it draws nothing. `next` draws this side once if no item of it is buffered. Then, unless that failed, it draws `other` once, also after an `Ok(None)`. An `Ok(None)` of a side isn't remembered. It fails as this iterator does, or else as `other` does. A failure of `other` loses nothing: the item of this side is buffered, and the next call draws `other` alone. Its folds draw as `next` does. Bounds of both sides, added up, bound it.
+    ///
+    /// ```
+    /// # use fallible_iterator::{FallibleIterator, convert};
+    /// # use fallible_itertools::EitherOrBoth;
+    /// # use fallible_itertools::FallibleItertools;
+    /// let letters = convert([Ok::<char, u8>('a'), Ok('b')].into_iter());
+    /// let numbers = convert([Ok(1)].into_iter());
+    /// let mut it = letters.zip_longest(numbers);
+    /// assert_eq!(it.next(), Ok(Some(EitherOrBoth::Both('a', 1))));
+    /// assert_eq!(it.next(), Ok(Some(EitherOrBoth::Left('b'))));
+    /// assert_eq!(it.next(), Ok(None));
+    /// ```
+    ///
+    /// <details><summary>Contract</summary>
+    ///
+    /// As it is proved, in [these words](crate::words):
+    ///
+    /// ```text
+    /// ensures left { zip_longest.zip_longest_left result ≡ self }
+    /// ensures held { zip_longest.zip_longest_held result ≡ None }
+    /// ensures right { I.into_gives other (zip_longest.zip_longest_right result) }
+    /// ensures bounded { (a b k : ℕ) → Self.contract.bound self a
+    ///     → I.IntoFallibleIter.contract.bound (zip_longest.zip_longest_right result) b → a + b ≤ k
+    ///     → AtMost (seen_as zip_longest.zip_longest_parts
+    ///     (zip_longest.zip_longest_contract Self.contract I.IntoFallibleIter.contract)) result k }
+    /// ensures for_good { OverBothForGood Self.contract.steps self I.into_gives other
+    ///     I.IntoFallibleIter.contract.steps
+    ///     (λ a b. list.ListsForGood
+    ///     (seen_as zip_longest.zip_longest_parts (zip_longest.zip_longest_contract Self.contract
+    ///     I.IntoFallibleIter.contract)).steps result (zip_longest.zipped_longest a b)) }
+    /// ensures lists { OverBothForGood Self.contract.steps self I.into_gives other
+    ///     I.IntoFallibleIter.contract.steps
+    ///     (λ a b. list.Lists (seen_as zip_longest.zip_longest_parts
+    ///     (zip_longest.zip_longest_contract Self.contract
+    ///     I.IntoFallibleIter.contract)).steps result (zip_longest.zipped_longest a b)) }
+    /// ```
+    /// </details>
+    fn zip_longest<I>(self, other: I) -> ZipLongest<Self, I::IntoFallibleIter>
+    where
+        I: IntoFallibleIterator<Error = Self::Error>,
+    {
+        ZipLongest {
+            left: Holding {
+                it: self,
+                held: None,
+            },
+            right: other.into_fallible_iter(),
+        }
+    }
+
+    // ---- extremes, counts, comparisons
+
+    /// Returns the only item: `Ok(Ok(None))` if none comes, and `Ok(Err(two))` with the first two if more than one comes.
+    ///
+    /// It draws at most twice: up to `Ok(None)`, a failure or the second item. It fails with that failure, and drops an item that came before it. Nothing is drawn after that, and the iterator may be used again.
+    ///
+    /// ```
+    /// # use fallible_iterator::{FallibleIterator, convert};
+    /// # use fallible_itertools::DoubleEndedFallibleItertools;
+    /// # use fallible_itertools::FallibleItertools;
+    /// let one = [Ok::<u32, u8>(150)];
+    /// assert_eq!(convert(one.into_iter()).at_most_one(), Ok(Ok(Some(150))));
+    ///
+    /// let more = [Ok::<u32, u8>(150), Ok(7), Err(9)];
+    /// assert_eq!(convert(more.into_iter()).at_most_one(), Ok(Err((150, 7))));
+    /// ```
+    ///
+    /// <details><summary>Contract</summary>
+    ///
+    /// As it is proved, in [these words](crate::words):
+    ///
+    /// ```text
+    /// requires { Self.contract.can_next self.old }
+    /// ensures drawn { AtMostOneDrains Self.contract.steps self.old result self.new }
+    /// ensures value { OverList Self.contract.steps self.old (λ l. result ≡ at_most_one_of l) }
+    /// ensures rest_two { OverList Self.contract.steps self.old
+    ///     (λ l. (p : Self.Item × Self.Item) → result ≡ Ok (Err p)
+    ///     → list.Lists Self.contract.steps self.new (list.rest_nth 1 l)) }
+    /// ensures rest_failure { OverList Self.contract.steps self.old
+    ///     (λ l. (e : Self.Error) → result ≡ Err e
+    ///     → list.Lists Self.contract.steps self.new (list.rest_nth 1 l)) }
+    /// ensures stays { Stays Self.contract self.old self.new }
+    /// ```
+    /// </details>
+    fn at_most_one(
+        &mut self,
+    ) -> Result<Result<Option<Self::Item>, (Self::Item, Self::Item)>, Self::Error> {
+        let first = match self.draw() {
+            Ok(Some(first)) => first,
+            Ok(None) => return Ok(Ok(None)),
+            Err(e) => return Err(e),
+        };
+        match self.draw() {
+            Ok(Some(second)) => Ok(Err((first, second))),
+            Ok(None) => Ok(Ok(Some(first))),
+            Err(e) => Err(e),
+        }
+    }
+
+    /// Returns the only item, if exactly one comes. Otherwise it returns an `Ok(Err(_))`: a `NotOne` that says that none came, or hands back the first two.
+    ///
+    /// Draws, errors, precondition and what is left: as `at_most_one`.
+    ///
+    /// ```
+    /// # use fallible_iterator::{FallibleIterator, convert};
+    /// # use fallible_itertools::DoubleEndedFallibleItertools;
+    /// # use fallible_itertools::FallibleItertools;
+    /// # use fallible_itertools::NotOne;
+    /// let one = [Ok::<u32, u8>(150)];
+    /// assert_eq!(convert(one.into_iter()).exactly_one(), Ok(Ok(150)));
+    ///
+    /// let more = [Ok::<u32, u8>(150), Ok(7), Err(9)];
+    /// assert_eq!(convert(more.into_iter()).exactly_one(),
+    ///     Ok(Err(NotOne::More(150, 7)))
+    /// );
+    /// ```
+    ///
+    /// <details><summary>Contract</summary>
+    ///
+    /// As it is proved, in [these words](crate::words):
+    ///
+    /// ```text
+    /// requires { Self.contract.can_next self.old }
+    /// ensures drawn { (r : Result (Result (Option Self.Item) (Self.Item × Self.Item)) Self.Error)
+    ///     × AtMostOneDrains Self.contract.steps self.old r self.new × (result ≡ wanting_one r) }
+    /// ensures value { OverList Self.contract.steps self.old
+    ///     (λ l. result ≡ wanting_one (at_most_one_of l)) }
+    /// ensures rest_two { OverList Self.contract.steps self.old
+    ///     (λ l. (x y : Self.Item) → result ≡ Ok (Err (More x y))
+    ///     → list.Lists Self.contract.steps self.new (list.rest_nth 1 l)) }
+    /// ensures rest_failure { OverList Self.contract.steps self.old
+    ///     (λ l. (e : Self.Error) → result ≡ Err e
+    ///     → list.Lists Self.contract.steps self.new (list.rest_nth 1 l)) }
+    /// ensures stays { Stays Self.contract self.old self.new }
+    /// ```
+    /// </details>
+    fn exactly_one(&mut self) -> Result<Result<Self::Item, NotOne<Self::Item>>, Self::Error> {
+        match self.at_most_one() {
+            Ok(Ok(Some(only))) => Ok(Ok(only)),
+            Ok(Ok(None)) => Ok(Err(NotOne::NoItem)),
+            Ok(Err((first, second))) => Ok(Err(NotOne::More(first, second))),
+            Err(e) => Err(e),
+        }
+    }
+
+    /// Returns the first of the least items and the last of the greatest, in one pass. For one item it returns `OneElement`, for none `NoElements`.
+    ///
+    /// It draws up to `Ok(None)` or the first failure. It fails with that failure. It consumes the iterator.
+    ///
+    /// Precondition, which is not checked: the iterator is finite.
+    ///
+    /// ```
+    /// # use fallible_iterator::{FallibleIterator, convert};
+    /// # use fallible_itertools::DoubleEndedFallibleItertools;
+    /// # use fallible_itertools::FallibleItertools;
+    /// # use fallible_itertools::MinMaxResult;
+    /// let readings = [Ok::<u32, u8>(150), Ok(7), Ok(700)];
+    /// assert_eq!(convert(readings.into_iter()).minmax(),
+    ///     Ok(MinMaxResult::MinMax(7, 700))
+    /// );
+    /// ```
+    ///
+    /// <details><summary>Contract</summary>
+    ///
+    /// As it is proved, in [these words](crate::words):
+    ///
+    /// ```text
+    /// requires can_next { Self.contract.can_next self }
+    /// requires finite { Self.contract.is_finite self }
+    /// ensures minmaxed { MinMaxDrains Self.Item.cmp Self.contract.steps self result }
+    /// ensures value { OverList Self.contract.steps self
+    ///     (λ l. result ≡ minmaxed Self.Item.cmp l) }
+    /// ```
+    /// </details>
+    fn minmax(mut self) -> Result<MinMaxResult<Self::Item>, Self::Error>
+    where
+        Self::Item: Ord,
+    {
+        let mut found = MinMaxResult::NoElements;
+        match self.drive(&mut found, &MinMaxTurn) {
+            Ok(None) => Ok(found),
+            Ok(Some(never)) => match never {},
+            Err(e) => Err(e),
+        }
+    }
+
+    /// Returns how often each item comes, as a map. A key is the first of equal items, its value the number of items equal to it.
+    ///
+    /// It draws up to `Ok(None)` or the first failure. It fails with that failure. It consumes the iterator.
+    ///
+    /// Precondition, which is not checked: at most `usize::MAX` items are left, so that each number fits.
+    ///
+    /// ```
+    /// # use fallible_iterator::{FallibleIterator, convert};
+    /// # use fallible_itertools::DoubleEndedFallibleItertools;
+    /// # use fallible_itertools::FallibleItertools;
+    /// let readings = [Ok::<u32, u8>(7), Ok(150), Ok(7)];
+    /// let counts = convert(readings.into_iter()).counts()?;
+    /// assert_eq!((counts.get(&7), counts.get(&150), counts.get(&8)),
+    ///     (Some(&2), Some(&1), None)
+    /// );
+    /// # Ok::<(), u8>(())
+    /// ```
+    ///
+    /// <details><summary>Contract</summary>
+    ///
+    /// As it is proved, where its signature is another, in [these words](crate::words):
+    ///
+    /// ```text
+    /// requires can_next { Self.contract.can_next self }
+    /// requires fits { AtMost Self.contract self (2 ^ 64 - 1) }
+    /// ensures collects { Collects Self.contract.steps (IsCountsOf Self.Item.eq) ⊥
+    ///     (λ m x. (get Self.Item.eq m x ≡ None) × (spare m ≡ 0)) self result }
+    /// ensures value { OverList Self.contract.steps self
+    ///     (λ l. list.CollectedAs (IsCountsOf Self.Item.eq) l result) }
+    /// ensures contents { OverList Self.contract.steps self
+    ///     (λ l. IfOk result (list.MadeOf (IsCountsOf Self.Item.eq) (list.collected l))) }
+    /// ensures failure { OverList Self.contract.steps self
+    ///     (λ l. (e : Self.Error) → result ≡ Err (Source e) → list.collected l ≡ Err e) }
+    /// ```
+    /// </details>
+    #[cfg(feature = "std")]
+    fn counts(mut self) -> Result<HashMap<Self::Item, usize>, Self::Error>
+    where
+        Self::Item: Eq + Hash,
+    {
+        let mut made = Tally {
+            counts: HashMap::new(),
+        };
+        match self.drive(&mut made, &CollectTurn) {
+            Ok(None) => Ok(made.counts),
+            Ok(Some(refused)) => match refused {},
+            Err(e) => Err(e),
+        }
+    }
+
+    /// Returns the pairs' values by their keys, as a map. A key is the first of equal keys, its value a `Vec` of the values of the pairs with an equal key, in order.
+    ///
+    /// It draws up to `Ok(None)`, the first failure or a pair that the map rejects. It fails with that failure. It consumes the iterator.
+    ///
+    /// Precondition, which is not checked: the iterator is finite.
+    ///
+    /// ```
+    /// # use fallible_iterator::{FallibleIterator, convert};
+    /// # use fallible_itertools::DoubleEndedFallibleItertools;
+    /// # use fallible_itertools::FallibleItertools;
+    /// let pairs = [Ok::<(char, u32), u8>(('a', 1)), Ok(('b', 2)), Ok(('a', 3))];
+    /// let groups = convert(pairs.into_iter()).into_group_map()?;
+    /// assert_eq!(groups.get(&'a'), Some(&vec![1, 3]));
+    /// assert_eq!(groups.get(&'b'), Some(&vec![2]));
+    /// # Ok::<(), u8>(())
+    /// ```
+    ///
+    /// <details><summary>Contract</summary>
+    ///
+    /// As it is proved, where its signature is another, in [these words](crate::words):
+    ///
+    /// ```text
+    /// requires can_next { Self.contract.can_next self }
+    /// requires finite { Self.contract.is_finite self }
+    /// ensures collects { Collects Self.contract.steps (IsGroupMapOf K.eq) ⊥
+    ///     (GroupRefuses K.eq) self result }
+    /// ensures value { OverList Self.contract.steps self
+    ///     (λ l. list.CollectedAs (IsGroupMapOf K.eq) l result) }
+    /// ensures contents { OverList Self.contract.steps self
+    ///     (λ l. IfOk result (list.MadeOf (IsGroupMapOf K.eq) (list.collected l))) }
+    /// ensures failure { OverList Self.contract.steps self
+    ///     (λ l. (e : Self.Error) → result ≡ Err (Source e) → list.collected l ≡ Err e) }
+    /// ```
+    /// </details>
+    #[cfg(feature = "std")]
+    fn into_group_map<K, V>(mut self) -> Result<HashMap<K, Vec<V>>, Self::Error>
+    where
+        Self: FallibleIterator<Item = (K, V)>,
+        K: Eq + Hash,
+    {
+        let mut made = GroupMap {
+            groups: HashMap::new(),
+        };
+        match self.drive(&mut made, &CollectTurn) {
+            Ok(None) => Ok(made.groups),
+            Ok(Some(refused)) => match refused {},
+            Err(e) => Err(e),
+        }
+    }
+
+    /// Returns two collections of what the closure returns for the items: of the values of each `Either::Left`, and of those of each `Either::Right`, in order. Of equal values they keep what `collect` keeps.
+    ///
+    /// Draws and errors: as `collect` of `map`. The closure is called once on each item. If it fails, this stops and fails with that failure. It consumes the iterator.
+    ///
+    /// Precondition, which is not checked: the iterator is finite.
+    ///
+    /// ```
+    /// # use fallible_iterator::{FallibleIterator, convert};
+    /// # use fallible_itertools::DoubleEndedFallibleItertools;
+    /// # use fallible_itertools::Either;
+    /// # use fallible_itertools::FallibleItertools;
+    /// let readings = [Ok::<u32, u8>(150), Ok(7), Ok(700)];
+    /// let (low, above): (Vec<u32>, Vec<u32>) = convert(readings.into_iter()).partition_map(|reading: u32| {
+    ///         Ok(match reading.checked_sub(100) {
+    ///             Some(above) => Either::Right(above),
+    ///             None => Either::Left(reading),
+    ///         })
+    ///     },
+    /// )?;
+    /// assert_eq!(low, vec![7]);
+    /// assert_eq!(above, vec![50, 600]);
+    /// # Ok::<(), u8>(())
+    /// ```
+    ///
+    /// <details><summary>Contract</summary>
+    ///
+    /// As it is proved, where its signature is another, in [these words](crate::words):
+    ///
+    /// ```text
+    /// requires can_next { Self.contract.can_next self }
+    /// requires finite { Self.contract.is_finite self }
+    /// requires callable { IsCallable (call_on F.FnMut) (takes_on F.FnMut)
+    ///     (Self.contract.may_give self) f }
+    /// ensures collects { Collects (map_contract Self.contract F.FnMut).steps
+    ///     (MadeOfEithers L.made R.made) (L.empty_refuses ⊎ R.empty_refuses)
+    ///     (EitherRefused L.push_refuses R.push_refuses) (self, f) result }
+    /// ensures value { OverListWith (list.Acts (call_on F.FnMut) f) Self.contract.steps self
+    ///     (λ h l. list.CollectedAs (MadeOfEithers L.made R.made) (list.mapped h l) result) }
+    /// ensures contents { OverListWith (list.Acts (call_on F.FnMut) f) Self.contract.steps self
+    ///     (λ h l. IfOk result (list.MadeOf (MadeOfEithers L.made R.made)
+    ///     (list.collected (list.mapped h l)))) }
+    /// ensures failure { OverListWith (list.Acts (call_on F.FnMut) f) Self.contract.steps self
+    ///     (λ h l. (e : Self.Error) → result ≡ Err (Source e)
+    ///     → list.collected (list.mapped h l) ≡ Err e) }
+    /// ```
+    /// </details>
+    fn partition_map<L, R, F, A, B>(self, f: F) -> Result<(L, R), Self::Error>
+    where
+        L: Default + Extend<A>,
+        R: Default + Extend<B>,
+        F: FnMut(Self::Item) -> Result<Either<A, B>, Self::Error>,
+    {
+        let mut sides = (Extended(L::default()), Extended(R::default()));
+        match self.map(f).drive(&mut sides, &CollectTurn) {
+            Ok(None) => Ok((sides.0.0, sides.1.0)),
+            Ok(Some(refused)) => match refused {},
+            Err(e) => Err(e),
+        }
+    }
+
+    /// Returns the items in a `Vec`, in order. Equal items keep their order.
+    ///
+    /// It draws up to `Ok(None)` or the first failure. After `Ok(None)` it sorts. It fails with that failure. It consumes the iterator.
+    ///
+    /// Precondition, which is not checked: the iterator is finite.
+    ///
+    /// ```
+    /// # use fallible_iterator::{FallibleIterator, convert};
+    /// # use fallible_itertools::DoubleEndedFallibleItertools;
+    /// # use fallible_itertools::FallibleItertools;
+    /// let readings = [Ok::<u32, u8>(150), Ok(7), Ok(700)];
+    /// let sorted = convert(readings.into_iter()).sorted()?;
+    /// assert_eq!(sorted, vec![7, 150, 700]);
+    /// # Ok::<(), u8>(())
+    /// ```
+    ///
+    /// <details><summary>Contract</summary>
+    ///
+    /// As it is proved, where its signature is another, in [these words](crate::words):
+    ///
+    /// ```text
+    /// requires can_next { Self.contract.can_next self }
+    /// requires finite { Self.contract.is_finite self }
+    /// ensures collects { CollectsSorted Self.contract.steps (IsSortedOf Self.Item.cmp) self
+    ///     result }
+    /// ensures value { OverList Self.contract.steps self
+    ///     (λ l. list.CollectedAs (IsSortedOf Self.Item.cmp) l result) }
+    /// ensures contents { OverList Self.contract.steps self
+    ///     (λ l. IfOk result (list.MadeOf (IsSortedOf Self.Item.cmp) (list.collected l))) }
+    /// ensures failure { OverList Self.contract.steps self
+    ///     (λ l. (e : Self.Error) → result ≡ Err (Source e) → list.collected l ≡ Err e) }
+    /// ```
+    /// </details>
+    #[cfg(feature = "alloc")]
+    fn sorted(self) -> Result<Vec<Self::Item>, Self::Error>
+    where
+        Self::Item: Ord,
+    {
+        sorted_items(self.collect())
+    }
+
+    /// Returns the items in a `Vec`, in the order of the keys that the closure returns for them. Items with equal keys keep their order.
+    ///
+    /// Draws and errors: as `sorted`. The closure doesn't fail; a key that may fail is made by `map` before. The closure is called after the last draw, on an item as often as its key is compared. It consumes the iterator.
+    ///
+    /// Precondition, which is not checked: the iterator is finite.
+    ///
+    /// ```
+    /// # use fallible_iterator::{FallibleIterator, convert};
+    /// # use fallible_itertools::DoubleEndedFallibleItertools;
+    /// # use fallible_itertools::FallibleItertools;
+    /// let words = [Ok::<&str, u8>("the"), Ok("sea"), Ok("is")];
+    /// let sorted = convert(words.into_iter()).sorted_by_key(|word: &&str| word.len())?;
+    /// assert_eq!(sorted, vec!["is", "the", "sea"]);
+    /// # Ok::<(), u8>(())
+    /// ```
+    ///
+    /// <details><summary>Contract</summary>
+    ///
+    /// As it is proved, where its signature is another, in [these words](crate::words):
+    ///
+    /// ```text
+    /// requires can_next { Self.contract.can_next self }
+    /// requires finite { Self.contract.is_finite self }
+    /// requires callable { F.IsAlwaysCallable f }
+    /// ensures collects { CollectsSorted Self.contract.steps (IsSortedByCalls F.FnMut K.cmp f)
+    ///     self result }
+    /// ensures value { (key : Self.Item → K) → ComputesKey F.FnMut key f
+    ///     → OverList Self.contract.steps self
+    ///     (λ l. list.CollectedAs (IsSortedByKeyOf key K.cmp) l result) }
+    /// ensures contents { (key : Self.Item → K) → ComputesKey F.FnMut key f
+    ///     → OverList Self.contract.steps self
+    ///     (λ l. IfOk result (list.MadeOf (IsSortedByKeyOf key K.cmp) (list.collected l))) }
+    /// ensures failure { OverList Self.contract.steps self
+    ///     (λ l. (e : Self.Error) → result ≡ Err (Source e) → list.collected l ≡ Err e) }
+    /// ```
+    /// </details>
+    #[cfg(feature = "alloc")]
+    fn sorted_by_key<K, F>(self, f: F) -> Result<Vec<Self::Item>, Self::Error>
+    where
+        K: Ord,
+        F: FnMut(&Self::Item) -> K,
+    {
+        sorted_items_by_key(self.collect(), f)
+    }
+
+    /// Returns the items as `Display` shows them, with the separator between each two.
+    ///
+    /// It draws up to `Ok(None)` or the first failure. It fails with that failure. It consumes the iterator.
+    ///
+    /// Precondition, which is not checked: the iterator is finite.
+    ///
+    /// ```
+    /// # use fallible_iterator::{FallibleIterator, convert};
+    /// # use fallible_itertools::DoubleEndedFallibleItertools;
+    /// # use fallible_itertools::FallibleItertools;
+    /// let readings = [Ok::<u32, u8>(150), Ok(7), Ok(700)];
+    /// let text = convert(readings.into_iter()).join(", ")?;
+    /// assert_eq!(text.as_str(), "150, 7, 700");
+    /// # Ok::<(), u8>(())
+    /// ```
+    ///
+    /// <details><summary>Contract</summary>
+    ///
+    /// As it is proved, where its signature is another, in [these words](crate::words):
+    ///
+    /// ```text
+    /// requires can_next { Self.contract.can_next self }
+    /// requires finite { Self.contract.is_finite self }
+    /// ensures collects { Collects Self.contract.steps
+    ///     (JoinedAs Self.Item.output separator.now) ⊥ (λ _ _. ⊤) self result }
+    /// ensures value { OverList Self.contract.steps self
+    ///     (λ l. list.CollectedAs (JoinedAs Self.Item.output separator.now) l result) }
+    /// ensures contents { OverList Self.contract.steps self (λ l. IfOk result
+    ///     (list.MadeOf (JoinedAs Self.Item.output separator.now) (list.collected l))) }
+    /// ensures failure { OverList Self.contract.steps self
+    ///     (λ l. (e : Self.Error) → result ≡ Err (Source e) → list.collected l ≡ Err e) }
+    /// ```
+    /// </details>
+    #[cfg(feature = "alloc")]
+    fn join(mut self, separator: &str) -> Result<String, Self::Error>
+    where
+        Self::Item: Display,
+    {
+        let mut state = (false, String::new());
+        match self.drive(&mut state, &JoinTurn { separator }) {
+            Ok(None) => Ok(state.1),
+            Ok(Some(refused)) => match refused {},
+            Err(e) => Err(e),
+        }
+    }
+
+    /// Compares two iterators by the closure, which is called on the two items of each round. The first two that aren't equal decide. If there are none, the side that ends alone is less.
+    ///
+    /// It draws in rounds, this iterator and then the other, until a failure, an `Ok(None)` or two items that decide. If this one returned `Ok(None)`, the other is still drawn in that round; if this one failed, it is not. It fails with the first failure: in each round one of this iterator comes before one of the other, and that before one of the closure. It consumes both.
+    ///
+    /// Precondition, which is not checked: one of the two is finite.
+    ///
+    /// ```
+    /// # use fallible_iterator::{FallibleIterator, convert};
+    /// # use fallible_itertools::FallibleItertools;
+    /// # use std::cmp::Ordering;
+    /// let left = convert([Ok::<u32, u8>(11), Ok(12)].into_iter());
+    /// let right = convert([Ok(21), Ok(13)].into_iter());
+    /// let order = left.cmp_by(right, |x, y| Ok((x % 10).cmp(&(y % 10))));
+    /// assert_eq!(order, Ok(Ordering::Less));
+    /// ```
+    ///
+    /// <details><summary>Contract</summary>
+    ///
+    /// As it is proved, in [these words](crate::words):
+    ///
+    /// ```text
+    /// requires can_next { Self.contract.can_next self }
+    /// requires right { (right : I.IntoFallibleIter) → I.into_gives other right
+    ///     → I.IntoFallibleIter.contract.can_next right }
+    /// requires finite { OneIsFinite Self.contract I.into_gives I.IntoFallibleIter.contract
+    ///     self other }
+    /// requires callable { (right : I.IntoFallibleIter) → I.into_gives other right
+    ///     → comparing.CallableInRounds Self.contract.steps I.IntoFallibleIter.contract.steps
+    ///     (fold.goes_on (comparing.IsCmpTurn (fold.call_with F.FnMut)))
+    ///     (λ g p. fold.takes_with F.FnMut g p.0 p.1) self right f }
+    /// ensures compared { comparing.ComparedByWith (comparing.IsCmpTurn (fold.call_with F.FnMut))
+    ///     I.into_gives Self.contract.steps I.IntoFallibleIter.contract.steps self other f
+    ///     (read_as (λ o. Some o) result) }
+    /// ensures value { (h : Self.Item → I.Item → Result Ordering Self.Error)
+    ///     → list.ActsWith (fold.call_with F.FnMut) f h
+    ///     → OverBoth Self.contract.steps self I.into_gives other
+    ///     I.IntoFallibleIter.contract.steps
+    ///     (λ a b. read_as (λ o. Some o) result ≡ comparing.ordered_by h a b) }
+    /// ```
+    /// </details>
+    fn cmp_by<I, F>(self, other: I, f: F) -> Result<Ordering, Self::Error>
+    where
+        I: IntoFallibleIterator<Error = Self::Error>,
+        F: FnMut(Self::Item, I::Item) -> Result<Ordering, Self::Error>,
+    {
+        let answer = compare_by(self, other.into_fallible_iter(), f, &CmpTurn);
+        ordered(answer)
+    }
+
+    /// Returns whether the closure finds the two items of each round equal, and both end together.
+    ///
+    /// Draws, errors and precondition: as `cmp_by`.
+    ///
+    /// ```
+    /// # use fallible_iterator::{FallibleIterator, convert};
+    /// # use fallible_itertools::FallibleItertools;
+    /// let left = convert([Ok::<u32, u8>(11), Ok(12)].into_iter());
+    /// let right = convert([Ok(21), Ok(2)].into_iter());
+    /// assert_eq!(left.eq_by(right, |x, y| Ok(x % 10 == y % 10)), Ok(true));
+    /// ```
+    ///
+    /// <details><summary>Contract</summary>
+    ///
+    /// As it is proved, in [these words](crate::words):
+    ///
+    /// ```text
+    /// requires can_next { Self.contract.can_next self }
+    /// requires right { (right : I.IntoFallibleIter) → I.into_gives other right
+    ///     → I.IntoFallibleIter.contract.can_next right }
+    /// requires finite { OneIsFinite Self.contract I.into_gives I.IntoFallibleIter.contract
+    ///     self other }
+    /// requires callable { (right : I.IntoFallibleIter) → I.into_gives other right
+    ///     → comparing.CallableInRounds Self.contract.steps I.IntoFallibleIter.contract.steps
+    ///     (fold.goes_on (comparing.IsEqTurn (fold.call_with F.FnMut)))
+    ///     (λ g p. fold.takes_with F.FnMut g p.0 p.1) self right f }
+    /// ensures compared { (answer : Result (Option Ordering) Self.Error)
+    ///     × comparing.ComparedByWith (comparing.IsEqTurn (fold.call_with F.FnMut)) I.into_gives
+    ///     Self.contract.steps I.IntoFallibleIter.contract.steps self other f answer
+    ///     × (result ≡ read_as reads_eq answer) }
+    /// ensures value { (h : Self.Item → I.Item → Result Bool Self.Error)
+    ///     → list.ActsWith (fold.call_with F.FnMut) f h
+    ///     → OverBoth Self.contract.steps self I.into_gives other
+    ///     I.IntoFallibleIter.contract.steps (λ a b. result ≡ comparing.equal_by h a b) }
+    /// ```
+    /// </details>
+    fn eq_by<I, F>(self, other: I, f: F) -> Result<bool, Self::Error>
+    where
+        I: IntoFallibleIterator<Error = Self::Error>,
+        F: FnMut(Self::Item, I::Item) -> Result<bool, Self::Error>,
+    {
+        let answer = compare_by(self, other.into_fallible_iter(), f, &EqTurn);
+        ReadEq::read(answer)
+    }
+
+    /// Yields the items in batches of n. A batch before an `Ok(None)` or a failure may have fewer.
+    ///
+    /// Creating it draws nothing. `next` draws until the batch has n items, or a stop comes: `Ok(None)` or a failure. A buffered batch is yielded first. The stop is what the next call returns, without a draw. A new batch has room for n items at once, or for 1024 if n is more.
+    ///
+    /// It fails as the source does. After a failure and after `Ok(None)` the next call draws again.
+    ///
+    /// Precondition, which is not checked: n is not 0.
+    ///
+    /// ```
+    /// # use fallible_iterator::{FallibleIterator, convert};
+    /// # use fallible_itertools::FallibleItertools;
+    /// # use fallible_itertools::PeekingNext;
+    /// let readings = [Ok::<u32, u8>(150), Ok(7), Ok(700)];
+    /// let mut it = convert(readings.into_iter()).chunks(2);
+    /// assert_eq!(it.next(), Ok(Some(vec![150, 7])));
+    /// assert_eq!(it.next(), Ok(Some(vec![700])));
+    /// assert_eq!(it.next(), Ok(None));
+    /// ```
+    ///
+    /// <details><summary>Contract</summary>
+    ///
+    /// As it is proved, in [these words](crate::words):
+    ///
+    /// ```text
+    /// requires { 0 < n }
+    /// ensures parts { chunks_parts result ≡ (self, ((n, None), None)) }
+    /// ensures lists { (l : List (Result Self.Item Self.Error))
+    ///     → list.Lists Self.contract.steps self l
+    ///     → ListsMade (λ xs v. vec_items v ≡ xs)
+    ///     (seen_as chunks_parts (chunks_contract Self.Error.from_gives Self.contract)).steps
+    ///     Self.Error.from_gives result (chunked n l) }
+    /// ```
+    /// </details>
+    #[cfg(feature = "alloc")]
+    fn chunks(self, n: usize) -> Chunks<Self> {
+        Chunks {
+            it: self,
+            batch: (n, None),
+            due: None,
+        }
+    }
+
+    /// Yields groups of adjacent items with equal keys, each with its key.
+    ///
+    /// Creating it draws nothing and calls nothing. `next` draws until an item has another key than the buffered group, or a stop comes: `Ok(None)` or a failure. It calls the closure once on each item. A buffered group is yielded first. The stop is what the next call returns, without a draw. After a stop a new group begins. A new group has room at once for as many items as the one that it follows has, or for 1024 if that has more.
+    ///
+    /// It fails as the source does. The closure's failure is a stop too. Then the item is lost, and no other. After a failure and after `Ok(None)` the next call draws again.
+    ///
+    /// ```
+    /// # use fallible_iterator::{FallibleIterator, convert};
+    /// # use fallible_itertools::FallibleItertools;
+    /// # use fallible_itertools::PeekingNext;
+    /// let readings = [Ok::<u32, u8>(150), Ok(157), Ok(7)];
+    /// let mut it = convert(readings.into_iter()).chunk_by(|reading| Ok(*reading / 10));
+    /// assert_eq!(it.next(), Ok(Some((15, vec![150, 157]))));
+    /// assert_eq!(it.next(), Ok(Some((0, vec![7]))));
+    /// assert_eq!(it.next(), Ok(None));
+    /// ```
+    ///
+    /// <details><summary>Contract</summary>
+    ///
+    /// As it is proved, in [these words](crate::words):
+    ///
+    /// ```text
+    /// requires callable { IsCallable (call_at F.FnMut) (takes_at F.FnMut)
+    ///     (Self.contract.may_give self) key }
+    /// ensures parts { chunk_by_parts result ≡ (self, ((key, None), None)) }
+    /// ensures lists { (h : Self.Item → Result K Self.Error)
+    ///     → (l : List (Result Self.Item Self.Error))
+    ///     → list.Acts (call_at F.FnMut) key h
+    ///     → list.Lists Self.contract.steps self l
+    ///     → ListsMade MadeGroup (seen_as chunk_by_parts
+    ///     (chunk_by_contract Self.Error.from_gives K.eq F.FnMut Self.contract)).steps
+    ///     Self.Error.from_gives result (chunked_by K.eq h l) }
+    /// ```
+    /// </details>
+    #[cfg(feature = "alloc")]
+    fn chunk_by<K, F>(self, key: F) -> ChunkBy<Self, K, F>
+    where
+        K: PartialEq,
+        F: FnMut(&Self::Item) -> Result<K, Self::Error>,
+    {
+        ChunkBy {
+            it: self,
+            group: (key, None),
+            due: None,
+        }
+    }
+
+    /// Yields the items, with a clone of the separator between each two adjacent ones.
+    ///
+    /// Creating it draws nothing. If an item is buffered, `next` yields it and draws nothing; otherwise it draws once. An item after the first is buffered, and a clone of the separator is yielded before it. It fails as the source does. After a failure or an `Ok(None)` the next item still has a separator before it.
+    ///
+    /// ```
+    /// # use fallible_iterator::{FallibleIterator, convert};
+    /// # use fallible_itertools::FallibleItertools;
+    /// # use fallible_itertools::PeekingNext;
+    /// let readings = [Ok::<u32, u8>(150), Ok(7)];
+    /// let mut it = convert(readings.into_iter()).intersperse(0);
+    /// let drawn = [it.next(), it.next(), it.next(), it.next()];
+    /// assert_eq!(drawn, [Ok(Some(150)), Ok(Some(0)), Ok(Some(7)), Ok(None)]);
+    /// ```
+    ///
+    /// <details><summary>Contract</summary>
+    ///
+    /// As it is proved, in [these words](crate::words):
+    ///
+    /// ```text
+    /// ensures parts { intersperse_parts result ≡ (self, (separator, (false, None))) }
+    /// ensures lists { (l : List (Result Self.Item Self.Error))
+    ///     → list.Lists Self.contract.steps self l
+    ///     → ((copy : Self.Item) → Self.Item.is_clone separator copy → copy ≡ separator)
+    ///     → Self.Item.is_infallible separator
+    ///     → list.Lists (seen_as intersperse_parts (intersperse_contract Self.Item.is_clone
+    ///     Self.Item.is_infallible Self.Error.from_gives Self.contract)).steps result
+    ///     (interspersed separator l) }
+    /// ```
+    /// </details>
+    fn intersperse(self, separator: Self::Item) -> Intersperse<Self>
+    where
+        Self::Item: Clone,
+    {
+        Intersperse {
+            it: self,
+            parting: (separator, (false, None)),
+        }
+    }
+
+    /// Yields the items, with what the closure returns between each two adjacent ones.
+    ///
+    /// Creating it draws nothing and calls nothing. If an item is buffered, `next` yields it and draws nothing; otherwise it draws once. An item after the first is buffered, the closure is called once, and what it returns is yielded before the item. It fails as the source does. If the closure fails, that failure is returned in the separator's place. The item is buffered then too, so none is lost. After a failure or an `Ok(None)` the next item still has a separator before it.
+    ///
+    /// If the closure's state shows what its calls return, that is listed between the items.
+    ///
+    /// ```
+    /// # use fallible_iterator::{FallibleIterator, convert};
+    /// # use fallible_itertools::FallibleItertools;
+    /// # use fallible_itertools::PeekingNext;
+    /// let readings = [Ok::<u32, u8>(150), Ok(7), Ok(700)];
+    /// let mut number = 0u32;
+    /// let mut it = convert(readings.into_iter()).intersperse_with(|| {
+    ///     number = number.wrapping_add(1);
+    ///     Ok(number)
+    /// });
+    /// let drawn = [it.next(), it.next(), it.next(), it.next(), it.next()];
+    /// assert_eq!(drawn,
+    ///     [
+    ///         Ok(Some(150)),
+    ///         Ok(Some(1)),
+    ///         Ok(Some(7)),
+    ///         Ok(Some(2)),
+    ///         Ok(Some(700))
+    ///     ]
+    /// );
+    /// ```
+    ///
+    /// <details><summary>Contract</summary>
+    ///
+    /// As it is proved, in [these words](crate::words):
+    ///
+    /// ```text
+    /// requires callable { IsCallable (call_of_none F.FnMut) (λ g _. F.pre g) (λ _. ⊤) f }
+    /// ensures parts { intersperse_with.intersperse_with_parts result
+    ///     ≡ (self, (f, (false, None))) }
+    /// ensures lists { (separator : Self.Item) → (l : List (Result Self.Item Self.Error))
+    ///     → list.Lists Self.contract.steps self l
+    ///     → list.Acts (call_of_none F.FnMut) f (λ _. Ok separator)
+    ///     → list.Lists (seen_as intersperse_with.intersperse_with_parts
+    ///     (intersperse_with.intersperse_with_contract Self.contract F.FnMut)).steps result
+    ///     (interspersed separator l) }
+    /// ensures shown { (shows : F → ℕ → Result Self.Item Self.Error)
+    ///     → (h : ℕ → Result Self.Item Self.Error) → (l : List (Result Self.Item Self.Error))
+    ///     → list.Lists Self.contract.steps self l
+    ///     → intersperse_with.CallsMakeShown (call_of_none F.FnMut) shows
+    ///     → ((n : ℕ) → shows f n ≡ h n)
+    ///     → list.Lists (seen_as intersperse_with.intersperse_with_parts
+    ///     (intersperse_with.intersperse_with_contract Self.contract F.FnMut)).steps result
+    ///     (interspersed_by h l) }
+    /// ```
+    /// </details>
+    fn intersperse_with<F>(self, f: F) -> IntersperseWith<Self, F>
+    where
+        F: FnMut() -> Result<Self::Item, Self::Error>,
+    {
+        IntersperseWith {
+            it: self,
+            parting: (f, (false, None)),
+        }
+    }
+
+    /// Yields each item that equals none before it: of equal items the first.
+    ///
+    /// Creating it draws nothing. `next` draws up to an item that equals none that was yielded, a failure or an `Ok(None)`. A set has a clone of each item that was yielded. It fails as the source does, and a failure parts nothing. After a failure or an `Ok(None)` the set stays.
+    ///
+    /// ```
+    /// # use fallible_iterator::{FallibleIterator, convert};
+    /// # use fallible_itertools::FallibleItertools;
+    /// # use fallible_itertools::PeekingNext;
+    /// let readings = [Ok::<u32, u8>(7), Ok(150), Ok(7)];
+    /// let mut it = convert(readings.into_iter()).unique();
+    /// let drawn = [it.next(), it.next(), it.next()];
+    /// assert_eq!(drawn, [Ok(Some(7)), Ok(Some(150)), Ok(None)]);
+    /// ```
+    ///
+    /// <details><summary>Contract</summary>
+    ///
+    /// As it is proved, where its signature is another, in [these words](crate::words):
+    ///
+    /// ```text
+    /// ensures parts { unique_source result ≡ self }
+    /// ensures empty { IsEmpty (unique_seen result) }
+    /// ensures lists { (l : List (Result Self.Item Self.Error))
+    ///     → list.Lists Self.contract.steps self l
+    ///     → ClonesAreEqual Self.Item.eq Self.Item.is_clone
+    ///     → ListsMade (λ x y. y ≡ x) (seen_as unique_parts
+    ///     (unique_contract Self.Item.eq Self.Item.is_clone Self.Item.is_infallible
+    ///     Self.Error.from_gives Self.contract)).steps Self.Error.from_gives result
+    ///     (unique_of Self.Item.eq l) }
+    /// ```
+    /// </details>
+    #[cfg(feature = "std")]
+    fn unique(self) -> Unique<Self>
+    where
+        Self::Item: Clone + Eq + Hash,
+    {
+        Unique {
+            it: self,
+            seen: HashSet::new(),
+        }
+    }
+}
+
+impl<I: FallibleIterator> FallibleItertools for I {}

@@ -1,0 +1,110 @@
+// The adapter that yields each item with its position.
+
+use crate::holding::{Hold, drive_holding, with_held};
+use core::mem;
+use fallible_iterator::extending::{FirstTurn, Outcome};
+use fallible_iterator::{FallibleIterator, Turn};
+
+/// Where an item stands among the items between two stops. A stop is `Ok(None)` or a failure.
+#[derive(Clone, Copy, Debug, PartialEq, Eq)]
+pub enum Position {
+    /// the first of several items
+    First,
+    /// neither the first nor the last
+    Middle,
+    /// the last of several items
+    Last,
+    /// the only item
+    Only,
+}
+
+/// The items, each with its [`Position`]. An item is buffered until another one comes, or a stop: `Ok(None)` or a failure, which the next call returns.
+#[derive(Clone, Debug)]
+#[must_use = "an iterator draws nothing until it is asked"]
+pub struct WithPosition<I: FallibleIterator> {
+    pub(crate) it: I,
+    // the item that wasn't yielded yet, and whether an item since the last stop came before it
+    pub(crate) held: Option<(bool, I::Item)>,
+    // the stop that is due: `Ok(None)`, or a failure
+    pub(crate) due: Option<Option<I::Error>>,
+}
+
+impl<I: FallibleIterator> FallibleIterator for WithPosition<I> {
+    type Item = (Position, I::Item);
+
+    type Error = I::Error;
+
+    /// Returns the stop that is due, without a draw. Otherwise it draws one item after the buffered one, or a stop; two items if none is buffered.
+    fn next(&mut self) -> Result<Option<(Position, I::Item)>, I::Error> {
+        self.drive(&mut (), &FirstTurn)
+    }
+
+    fn size_hint(&self) -> (usize, Option<usize>) {
+        if self.due.is_some() {
+            (0, Some(0))
+        } else {
+            with_held(self.it.size_hint(), self.held.is_some())
+        }
+    }
+
+    fn drive<C, R, K: Turn<C, (Position, I::Item), R>>(
+        &mut self,
+        state: &mut C,
+        turn: &K,
+    ) -> Result<Option<R>, I::Error> {
+        drive_holding(
+            &mut self.it,
+            &mut self.held,
+            &mut self.due,
+            &PositionHold,
+            state,
+            turn,
+        )
+    }
+
+    fallible_iterator::by_drive!(drive);
+}
+
+// What becomes of an item after the buffered one.
+struct PositionHold;
+
+impl<X, E> Hold<Option<(bool, X)>, X, E> for PositionHold {
+    type Kept = (Position, X);
+
+    #[inline(always)]
+    fn ask(&self, holds: &mut Option<(bool, X)>, asked: Option<X>) -> Outcome<(Position, X), E> {
+        match asked {
+            Some(x) => {
+                let is_later = holds.is_some();
+                match mem::replace(holds, Some((is_later, x))) {
+                    Some((was_later, first)) => Outcome::Kept((before_item(was_later), first)),
+                    None => Outcome::LeftOut,
+                }
+            }
+            None => match holds.take() {
+                Some((was_later, last)) => Outcome::Kept((before_stop(was_later), last)),
+                None => Outcome::End,
+            },
+        }
+    }
+}
+
+// The position of an item that another item comes after.
+#[inline(always)]
+fn before_item(is_later: bool) -> Position {
+    if is_later {
+        Position::Middle
+    } else {
+        Position::First
+    }
+}
+
+// The position of an item that a stop comes after.
+#[inline(always)]
+fn before_stop(is_later: bool) -> Position {
+    if is_later {
+        Position::Last
+    } else {
+        Position::Only
+    }
+}

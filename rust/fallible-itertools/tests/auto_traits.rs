@@ -1,0 +1,38 @@
+//! What each iterator has of the traits that rustc gives by itself: what it keeps has it.
+#[macro_use]
+mod lacking;
+
+use fallible_itertools::*;
+use lacking::*;
+use std::collections::HashSet;
+
+type Of<M> = Source<M>;
+
+#[test]
+fn each_iterator_has_what_it_keeps() {
+    // The source.
+    rows! { M;
+        M => ChunkBy<Of<M>, (), ()>, Chunks<Of<M>>, Coalesce<Of<M>, ()>, Copied<M>, Dedup<Of<M>>, DedupBy<Of<M>, ()>,
+            DedupByKey<Of<M>, (), ()>, InspectErr<M, ()>, Intersperse<Of<M>>, IntersperseWith<Of<M>, ()>,
+            Merge<Of<M>, ()>, Merge<Of<()>, M>, MergeBy<Of<M>, (), ()>, MergeBy<Of<()>, M, ()>, OrElse<M, ()>,
+            PeekingTakeWhile<M, ()>, TakeWhileInclusive<M, ()>, TupleWindows<Of<M>>, Unique<Of<M>>,
+            WithPosition<Of<M>>, ZipLongest<Of<M>, ()>, ZipLongest<Of<()>, M>;
+    }
+    // The closure, and a key.
+    rows! { M;
+        M => ChunkBy<Of<()>, (), M>, ChunkBy<Of<()>, M, ()>, Coalesce<Of<()>, M>, DedupBy<Of<()>, M>,
+            DedupByKey<Of<()>, (), M>, DedupByKey<Of<()>, M, ()>, InspectErr<(), M>, IntersperseWith<Of<()>, M>,
+            MergeBy<Of<()>, (), M>, OrElse<(), M>, PeekingTakeWhile<(), M>, TakeWhileInclusive<(), M>;
+    }
+    // An item in hand, and a failure that is due.
+    rows! { M;
+        M => Coalesce<Source<(), M>, ()>, Dedup<Source<(), M>>, DedupBy<Source<(), M>, ()>, Intersperse<Source<(), M>>,
+            IntersperseWith<Source<(), M>, ()>, Merge<Source<(), M>, ()>, MergeBy<Source<(), M>, (), ()>,
+            TupleWindows<Source<(), M>>, WithPosition<Source<(), M>>, ZipLongest<Source<(), M>, ()>;
+        M => ChunkBy<Source<(), u8, M>, (), ()>, Chunks<Source<(), u8, M>>, Coalesce<Source<(), u8, M>, ()>,
+            Dedup<Source<(), u8, M>>, DedupBy<Source<(), u8, M>, ()>, DedupByKey<Source<(), u8, M>, (), ()>,
+            WithPosition<Source<(), u8, M>>;
+        Vec<M> => ChunkBy<Source<(), M>, (), ()>, Chunks<Source<(), M>>;
+        HashSet<M> => Unique<Source<(), M>>;
+    }
+}

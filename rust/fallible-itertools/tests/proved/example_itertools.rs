@@ -1,0 +1,14 @@
+use crate::Fail;
+use fallible_iterator::memory::AllocError;
+
+pub mod batching;
+pub mod extremes;
+pub mod failing;
+pub mod holding;
+pub mod interspersing;
+pub mod joining;
+pub mod ordering;
+pub mod passing;
+pub mod stopping;
+pub mod totals;
+pub mod trying;

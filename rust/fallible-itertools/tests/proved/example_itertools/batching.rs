@@ -1,0 +1,67 @@
+use crate::Fail;
+use fallible_iterator::memory::AllocError;
+
+use fallible_iterator::{FallibleIterator, convert};
+use fallible_itertools::FallibleItertools;
+
+/// Why there is no batch.
+#[derive(Debug, PartialEq)]
+pub enum NoBatch {
+    /// A reading failed, with this code.
+    Failed(u8),
+    /// An allocation failed.
+    Memory,
+}
+
+/// The readings in batches of ten, or the first failure, up to an allocation failure.
+pub fn batches_of_ten(readings: Vec<Result<u32, NoBatch>>) -> Result<Vec<Vec<u32>>, NoBatch> {
+    convert(readings.into_iter()).chunks(10).collect()
+}
+
+/// How many readings each batch of ten has, or the first failure, up to an allocation failure.
+pub fn lengths_of_batches(readings: Vec<Result<u32, NoBatch>>) -> Result<Vec<usize>, NoBatch> {
+    convert(readings.into_iter())
+        .chunks(10)
+        .map(|batch: Vec<u32>| Ok(batch.len()))
+        .collect()
+}
+
+/// How many groups of readings of the same hundreds there are, or the first failure, or an allocation failure.
+pub fn groups_of_hundreds(readings: Vec<Result<u32, NoBatch>>) -> Result<usize, NoBatch> {
+    convert(readings.into_iter())
+        .chunk_by(|reading| Ok(*reading / 100))
+        .count()
+}
+
+/// How many readings the largest of these groups has, or the first failure, or an allocation failure.
+pub fn largest_group(readings: Vec<Result<u32, NoBatch>>) -> Result<usize, NoBatch> {
+    convert(readings.into_iter())
+        .chunk_by(|reading| Ok(*reading / 100))
+        .fold(0, |most: usize, group: (u32, Vec<u32>)| {
+            Ok(most.max(group.1.len()))
+        })
+}
+
+/// How many items the largest batch has, or the first failure, or an allocation failure; by a loop.
+pub fn largest_batch<I>(mut batches: I) -> Result<usize, NoBatch>
+where
+    I: FallibleIterator<Item = Vec<u32>, Error = NoBatch>,
+{
+    let mut left = batches.number();
+    let mut most: usize = 0;
+    while let Some(batch) = batches.draw()? {
+        left = left.one_less();
+        most = most.max(batch.len());
+    }
+    Ok(most)
+}
+
+/// The readings without those that equal one before them, or the first failure, up to an allocation failure.
+pub fn unique_readings(readings: Vec<Result<u32, NoBatch>>) -> Result<Vec<u32>, NoBatch> {
+    convert(readings.into_iter()).unique().collect()
+}
+
+/// How many different readings there are, or the first failure, or an allocation failure.
+pub fn different_readings(readings: Vec<Result<u32, NoBatch>>) -> Result<usize, NoBatch> {
+    convert(readings.into_iter()).unique().count()
+}

@@ -1,0 +1,74 @@
+use crate::Fail;
+use fallible_iterator::memory::AllocError;
+
+use fallible_iterator::{FallibleIterator, convert};
+use fallible_itertools::{
+    DoubleEndedFallibleItertools, Either, FallibleItertools, MinMaxResult, NotOne,
+};
+use std::collections::HashMap;
+
+/// The least and the greatest reading above 100, or the first failure.
+pub fn span_above_100(readings: Vec<Result<u32, u8>>) -> Result<MinMaxResult<u32>, u8> {
+    convert(readings.into_iter())
+        .filter(|reading| Ok(*reading > 100))
+        .minmax()
+}
+
+/// The only reading above 100, if there is one, and otherwise the first two.
+pub fn only_above_100(
+    readings: Vec<Result<u32, u8>>,
+) -> Result<Result<Option<u32>, (u32, u32)>, u8> {
+    convert(readings.into_iter())
+        .filter(|reading| Ok(*reading > 100))
+        .at_most_one()
+}
+
+/// The only one of the first ten items of any fallible iterator.
+pub fn only_of_ten<I: FallibleIterator>(
+    it: I,
+) -> Result<Result<I::Item, NotOne<I::Item>>, I::Error> {
+    it.take(10).exactly_one()
+}
+
+/// How often each of the readings comes.
+pub fn tally(readings: Vec<Result<u32, u8>>) -> Result<HashMap<u32, usize>, u8> {
+    convert(readings.into_iter()).counts()
+}
+
+/// The readings by their last digits: each digit beside its readings, in order.
+pub fn by_last_digit(readings: Vec<Result<u32, u8>>) -> Result<HashMap<u32, Vec<u32>>, u8> {
+    convert(readings.into_iter())
+        .map(|reading| Ok((reading % 10, reading)))
+        .into_group_map()
+}
+
+/// The readings up to 100, and how much the others are above 100.
+pub fn up_to_100_and_above(readings: Vec<Result<u32, u8>>) -> Result<(Vec<u32>, Vec<u32>), u8> {
+    convert(readings.into_iter()).partition_map(|reading: u32| {
+        Ok(if reading > 100 {
+            Either::Right(reading - 100)
+        } else {
+            Either::Left(reading)
+        })
+    })
+}
+
+/// The readings in order, or the first failure.
+pub fn readings_sorted(readings: Vec<Result<u32, u8>>) -> Result<Vec<u32>, u8> {
+    convert(readings.into_iter()).sorted()
+}
+
+/// The readings in the order of their last digits, or the first failure.
+pub fn sorted_by_last_digit(readings: Vec<Result<u32, u8>>) -> Result<Vec<u32>, u8> {
+    convert(readings.into_iter()).sorted_by_key(|reading: &u32| *reading % 10)
+}
+
+/// The reading with n readings after it.
+pub fn nth_last(readings: Vec<Result<u32, u8>>, n: usize) -> Result<Option<u32>, u8> {
+    convert(readings.into_iter()).nth_back(n)
+}
+
+/// The last reading above 100.
+pub fn last_above_100(readings: Vec<Result<u32, u8>>) -> Result<Option<u32>, u8> {
+    convert(readings.into_iter()).rfind(|reading| Ok(*reading > 100))
+}

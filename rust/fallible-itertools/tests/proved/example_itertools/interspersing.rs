@@ -1,0 +1,41 @@
+use crate::Fail;
+use fallible_iterator::memory::AllocError;
+
+use fallible_iterator::{FallibleIterator, convert};
+use fallible_itertools::FallibleItertools;
+
+/// How many readings there are with a zero between each two adjacent ones, or the first failure.
+pub fn separated_by_zeros(readings: Vec<Result<u32, AllocError>>) -> Result<usize, AllocError> {
+    convert(readings.into_iter()).intersperse(0).count()
+}
+
+/// The number whose digits are these with a nine between each two adjacent ones, modulo 2 ^ 64, or the first failure.
+pub fn separated_by_nines(digits: Vec<Result<u32, AllocError>>) -> Result<u64, AllocError> {
+    convert(digits.into_iter())
+        .intersperse(9)
+        .fold(0, |number: u64, digit: u32| {
+            Ok(number.wrapping_mul(10).wrapping_add(u64::from(digit)))
+        })
+}
+
+/// How many readings there are with a zero between each two adjacent ones, which a closure returns, or the first failure.
+pub fn separated_by_returned_zeros(
+    readings: Vec<Result<u32, AllocError>>,
+) -> Result<usize, AllocError> {
+    convert(readings.into_iter())
+        .intersperse_with(|| Ok(0))
+        .count()
+}
+
+/// The number whose digits are these with 1, 2 and so on between each two adjacent ones, modulo 2 ^ 64, or the first failure.
+pub fn separated_by_numbers(digits: Vec<Result<u32, AllocError>>) -> Result<u64, AllocError> {
+    let mut last: u32 = 0;
+    convert(digits.into_iter())
+        .intersperse_with(move || {
+            last = last.wrapping_add(1);
+            Ok(last)
+        })
+        .fold(0, |number: u64, digit: u32| {
+            Ok(number.wrapping_mul(10).wrapping_add(u64::from(digit)))
+        })
+}

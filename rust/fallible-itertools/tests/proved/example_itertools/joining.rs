@@ -1,0 +1,43 @@
+use crate::Fail;
+use fallible_iterator::memory::AllocError;
+
+use fallible_iterator::{FallibleIterator, convert, convert_fused};
+use fallible_itertools::FallibleItertools;
+
+/// How many positions two columns have, each filled by one of them at least, or the first failure.
+pub fn places_of_both(
+    left: Vec<Result<u32, u8>>,
+    right: Vec<Result<u32, u8>>,
+) -> Result<usize, u8> {
+    convert_fused(left.into_iter())
+        .zip_longest(convert_fused(right.into_iter()))
+        .count()
+}
+
+/// How many readings two sorted columns have together, or the first failure.
+pub fn readings_merged(
+    left: Vec<Result<u32, u8>>,
+    right: Vec<Result<u32, u8>>,
+) -> Result<usize, u8> {
+    convert_fused(left.into_iter())
+        .merge_by(convert_fused(right.into_iter()), |x, y| Ok(*x <= *y))
+        .count()
+}
+
+/// The last reading of two sorted columns together, or the first failure.
+pub fn last_of_both(
+    left: Vec<Result<u32, u8>>,
+    right: Vec<Result<u32, u8>>,
+) -> Result<Option<u32>, u8> {
+    convert_fused(left.into_iter())
+        .merge(convert_fused(right.into_iter()))
+        .last()
+}
+
+/// Whether two columns have the same last digits, position by position, or the first failure.
+pub fn same_last_digits(
+    left: Vec<Result<u32, u8>>,
+    right: Vec<Result<u32, u8>>,
+) -> Result<bool, u8> {
+    convert(left.into_iter()).eq_by(convert(right.into_iter()), |x, y| Ok(x % 10 == y % 10))
+}

@@ -1,0 +1,76 @@
+use crate::Fail;
+use fallible_iterator::memory::AllocError;
+
+use fallible_iterator::{FallibleIterator, convert};
+use fallible_itertools::{FallibleItertools, FoldWhile};
+
+/// The sum of the readings up to the first 0, modulo 2 ^ 32, or the first failure before.
+pub fn sum_up_to_zero(readings: Vec<Result<u32, u8>>) -> Result<FoldWhile<u32>, u8> {
+    let mut it = convert(readings.into_iter());
+    it.fold_while(0, |sum: u32, reading: u32| {
+        if reading == 0 {
+            Ok(FoldWhile::Done(sum))
+        } else {
+            Ok(FoldWhile::Continue(sum.wrapping_add(reading)))
+        }
+    })
+}
+
+/// The item after the first 0, or the first failure; `None` if there is no 0.
+pub fn item_behind_zero<I: FallibleIterator<Item = u32>>(
+    mut it: I,
+) -> Result<Option<u32>, I::Error> {
+    let sum = it.fold_while(0, |sum: u32, reading: u32| {
+        if reading == 0 {
+            Ok(FoldWhile::Done(sum))
+        } else {
+            Ok(FoldWhile::Continue(sum.wrapping_add(reading)))
+        }
+    })?;
+    match sum {
+        FoldWhile::Done(_) => it.draw(),
+        FoldWhile::Continue(_) => Ok(None),
+    }
+}
+
+/// Whether the last digits of the readings above 100 never go down, or the first failure.
+pub fn last_digits_sorted(readings: Vec<Result<u32, u8>>) -> Result<bool, u8> {
+    convert(readings.into_iter())
+        .filter(|reading| Ok(*reading > 100))
+        .is_sorted_by_key(|reading: u32| Ok(reading % 10))
+}
+
+/// Whether the readings above 100 never go down, or the first failure.
+pub fn above_100_sorted(readings: Vec<Result<u32, u8>>) -> Result<bool, u8> {
+    convert(readings.into_iter())
+        .filter(|reading| Ok(*reading > 100))
+        .is_sorted()
+}
+
+/// Whether the readings above 100 are all equal, or the first failure.
+pub fn above_100_equal(readings: Vec<Result<u32, u8>>) -> Result<bool, u8> {
+    convert(readings.into_iter())
+        .filter(|reading| Ok(*reading > 100))
+        .all_equal()
+}
+
+/// Whether a reading is 0, or the failure that comes before it.
+pub fn has_zero(readings: Vec<Result<u32, u8>>) -> Result<bool, u8> {
+    let mut it = convert(readings.into_iter());
+    it.contains(&0)
+}
+
+/// The item after the first 0, or the first failure; `None` if there is no 0.
+pub fn after_zero(readings: Vec<Result<u32, u8>>) -> Result<Option<u32>, u8> {
+    let mut it = convert(readings.into_iter());
+    if it.contains(&0)? {
+        it.draw()
+    } else {
+        Ok(None)
+    }
+}
+
+/// The first reading above 100, or else the last one, or the failure that comes before.
+pub fn above_100_or_last(readings: Vec<Result<u32, u8>>) -> Result<Option<u32>, u8> {
+    convert(readings.into_iter()).find_or_last(|reading| Ok(*reading > 100))
+}

@@ -1,0 +1,17 @@
+use crate::Fail;
+use fallible_iterator::memory::AllocError;
+
+use fallible_iterator::{FallibleIterator, convert};
+use fallible_itertools::FallibleItertools;
+
+/// The sum of the readings above 100, or the first failure; `None` if it is 2 ^ 32 or more.
+pub fn sum_above_100(readings: Vec<Result<u32, u8>>) -> Result<Option<u32>, u8> {
+    convert(readings.into_iter())
+        .filter(|reading| Ok(*reading > 100))
+        .checked_sum()
+}
+
+/// The product of the first three items, or the first failure among them; `None` if it overflows.
+pub fn product_of_three<I: FallibleIterator<Item = i64>>(it: I) -> Result<Option<i64>, I::Error> {
+    it.take(3).checked_product()
+}

@@ -1,0 +1,27 @@
+use crate::Fail;
+use fallible_iterator::memory::AllocError;
+
+#[cfg(test)]
+mod ends;
+#[cfg(test)]
+mod extremes;
+#[cfg(test)]
+mod failing;
+#[cfg(test)]
+mod grouping;
+#[cfg(test)]
+mod holding;
+#[cfg(test)]
+mod interspersing;
+#[cfg(test)]
+mod joining;
+#[cfg(test)]
+mod passing;
+#[cfg(test)]
+mod rows;
+#[cfg(test)]
+mod stopping;
+#[cfg(test)]
+mod totals;
+#[cfg(test)]
+mod trying;

@@ -1,0 +1,274 @@
+use crate::Fail;
+use fallible_iterator::memory::AllocError;
+// Extremes, counts, comparisons.
+use crate::test_itertools::rows::{Drawn, expect_same};
+use crate::test_support::numbers::numbers;
+use fallible_iterator::FallibleIterator;
+use fallible_itertools::MinMaxResult::{MinMax, NoElements, OneElement};
+use fallible_itertools::{Either, FallibleItertools, MinMaxResult, NotOne};
+use std::cmp::Ordering;
+
+type Numbers = &'static [Result<u32, u32>];
+
+// What `at_most_one` and `exactly_one` answer, one after the other, and what comes then.
+type Few = (
+    Result<Result<Option<u32>, (u32, u32)>, u32>,
+    Result<Result<u32, NotOne<u32>>, u32>,
+    Drawn,
+);
+
+const FEW: [(Numbers, Few); 5] = [
+    (&[], (Ok(Ok(None)), Ok(Err(NotOne::NoItem)), Ok(None))),
+    (
+        &[Ok(1)],
+        (Ok(Ok(Some(1))), Ok(Err(NotOne::NoItem)), Ok(None)),
+    ),
+    (
+        &[Ok(1), Ok(2), Ok(3)],
+        (Ok(Err((1, 2))), Ok(Ok(3)), Ok(None)),
+    ),
+    (
+        &[Ok(1), Err(8), Ok(3), Ok(4), Ok(5)],
+        (Err(8), Ok(Err(NotOne::More(3, 4))), Ok(Some(5))),
+    ),
+    (
+        &[Err(7), Ok(1), Err(8), Ok(2)],
+        (Err(7), Err(8), Ok(Some(2))),
+    ),
+];
+
+#[test]
+fn few_items() {
+    fn tested() -> Result<(), Fail> {
+        for (answers, expected) in &FEW {
+            let mut it = numbers(answers);
+            expect_same(&(it.at_most_one(), it.exactly_one(), it.next()), expected)?;
+        }
+        Ok(())
+    }
+    let _ = tested();
+}
+
+const EXTREMES: [(Numbers, Result<MinMaxResult<u32>, u32>); 4] = [
+    (&[], Ok(NoElements)),
+    (&[Ok(3)], Ok(OneElement(3))),
+    (&[Ok(3), Ok(1), Ok(4), Ok(2)], Ok(MinMax(1, 4))),
+    (&[Ok(3), Err(9), Ok(4)], Err(9)),
+];
+
+#[test]
+fn both_extremes() {
+    fn tested() -> Result<(), Fail> {
+        for (answers, expected) in &EXTREMES {
+            expect_same(&numbers(answers).minmax(), expected)?;
+        }
+        Ok(())
+    }
+    let _ = tested();
+}
+
+// The readings, in order, and in the order of their last digits; or the failure.
+type InOrder = (Numbers, Result<(&'static [u32], &'static [u32]), u32>);
+
+const IN_ORDER: [InOrder; 3] = [
+    (&[], Ok((&[], &[]))),
+    (
+        &[Ok(55), Ok(12), Ok(5), Ok(31), Ok(2)],
+        Ok((&[2, 5, 12, 31, 55], &[31, 12, 2, 55, 5])),
+    ),
+    (&[Ok(3), Err(9), Ok(1)], Err(9)),
+];
+
+#[test]
+fn sorted_vectors() {
+    fn tested() -> Result<(), Fail> {
+        for (answers, expected) in &IN_ORDER {
+            let sorted = numbers(answers).sorted();
+            let by_digit = numbers(answers).sorted_by_key(|x: &u32| *x % 10);
+            let made = match (&sorted, &by_digit) {
+                (Ok(sorted), Ok(by_digit)) => Ok((sorted.as_slice(), by_digit.as_slice())),
+                (Err(e), Err(_)) => Err(*e),
+                _ => return Err(Fail::new("nothing was sorted")),
+            };
+            expect_same(&made, expected)?;
+        }
+        Ok(())
+    }
+    let _ = tested();
+}
+
+// How often 5 and 7 come, and how many keys there are.
+const COUNTS: (Option<usize>, Option<usize>, usize) = (Some(2), Some(1), 2);
+
+#[test]
+fn counted_and_joined() {
+    fn tested() -> Result<(), Fail> {
+        let counts = numbers(&[Ok(5), Ok(7), Ok(5)]).counts();
+        match counts {
+            Ok(counts) => {
+                let found = (
+                    counts.get(&5).copied(),
+                    counts.get(&7).copied(),
+                    counts.len(),
+                );
+                expect_same(&found, &COUNTS)?;
+            }
+            Err(_) => return Err(Fail::new("nothing was counted")),
+        }
+        let text = numbers(&[Ok(1), Ok(20), Ok(3)]).join(", ");
+        match text {
+            Ok(text) => expect_same(&text.as_str(), &"1, 20, 3"),
+            Err(_) => Err(Fail::new("nothing was joined")),
+        }
+    }
+    let _ = tested();
+}
+
+// The numbers that end in 5 and in 2, and how many last digits there are; or the failure.
+type Grouped = (
+    Numbers,
+    Result<(Option<&'static [u32]>, Option<&'static [u32]>, usize), u32>,
+);
+
+const GROUPED: [Grouped; 3] = [
+    (&[], Ok((None, None, 0))),
+    (
+        &[Ok(15), Ok(2), Ok(5), Ok(15), Ok(12), Ok(31)],
+        Ok((Some(&[15, 5, 15]), Some(&[2, 12]), 3)),
+    ),
+    (&[Ok(5), Err(9), Ok(2)], Err(9)),
+];
+
+#[test]
+fn grouped_by_last_digit() {
+    fn tested() -> Result<(), Fail> {
+        for (answers, expected) in &GROUPED {
+            let groups = numbers(answers).map(|x| Ok((x % 10, x))).into_group_map();
+            let made = match &groups {
+                Ok(groups) => Ok((
+                    groups.get(&5).map(|values| values.as_slice()),
+                    groups.get(&2).map(|values| values.as_slice()),
+                    groups.len(),
+                )),
+                Err(e) => Err(*e),
+            };
+            expect_same(&made, expected)?;
+        }
+        Ok(())
+    }
+    let _ = tested();
+}
+
+// The numbers up to 100, and how much the others are above 100; or the failure. The closure fails on 200.
+type TwoSides = (Numbers, Result<(&'static [u32], &'static [u32]), u32>);
+
+const TWO_SIDES: [TwoSides; 4] = [
+    (&[], Ok((&[], &[]))),
+    (
+        &[Ok(7), Ok(105), Ok(100), Ok(7), Ok(101)],
+        Ok((&[7, 100, 7], &[5, 1])),
+    ),
+    (&[Ok(7), Err(9), Ok(200)], Err(9)),
+    (&[Ok(105), Ok(200), Err(9)], Err(20)),
+];
+
+#[test]
+fn sides_of_100() {
+    fn tested() -> Result<(), Fail> {
+        for (answers, expected) in &TWO_SIDES {
+            let sides: Result<(Vec<u32>, Vec<u32>), u32> =
+                numbers(answers).partition_map(|x: u32| {
+                    if x == 200 {
+                        Err(20)
+                    } else if x > 100 {
+                        Ok(Either::Right(x - 100))
+                    } else {
+                        Ok(Either::Left(x))
+                    }
+                });
+            let made = match &sides {
+                Ok((low, high)) => Ok((low.as_slice(), high.as_slice())),
+                Err(e) => Err(*e),
+            };
+            expect_same(&made, expected)?;
+        }
+        Ok(())
+    }
+    let _ = tested();
+}
+
+// So many that their text has 1,003 bytes.
+const MANY: [Result<u32, u32>; 201] = [Ok(100); 201];
+
+// No allocation fails after some keys, or some bytes.
+#[test]
+fn many_are_counted_and_joined() {
+    fn tested() -> Result<(), Fail> {
+        let counts = numbers(&MANY).enumerate().map(|(n, _)| Ok(n)).counts();
+        match counts {
+            Ok(counts) => expect_same(&counts.len(), &201)?,
+            Err(_) => return Err(Fail::new("nothing was counted")),
+        }
+        let groups = numbers(&MANY)
+            .enumerate()
+            .map(|(n, x)| Ok((n, x)))
+            .into_group_map();
+        match groups {
+            Ok(groups) => expect_same(&groups.len(), &201)?,
+            Err(_) => return Err(Fail::new("nothing was grouped")),
+        }
+        match numbers(&MANY).join(", ") {
+            Ok(text) => expect_same(&text.len(), &1003),
+            Err(_) => Err(Fail::new("nothing was joined")),
+        }
+    }
+    let _ = tested();
+}
+
+// Orders the last digits; a failure of 50 at 5.
+fn last_digits(x: u32, y: u32) -> Result<Ordering, u32> {
+    if x == 5 {
+        Err(50)
+    } else {
+        Ok((x % 10).cmp(&(y % 10)))
+    }
+}
+
+fn same_last_digit(x: u32, y: u32) -> Result<bool, u32> {
+    if x == 5 {
+        Err(50)
+    } else {
+        Ok(x % 10 == y % 10)
+    }
+}
+
+// Both sides, and what `cmp_by` and `eq_by` answer.
+const COMPARED: [(Numbers, Numbers, (Result<Ordering, u32>, Result<bool, u32>)); 6] = [
+    (
+        &[Ok(1), Ok(12)],
+        &[Ok(21), Ok(2)],
+        (Ok(Ordering::Equal), Ok(true)),
+    ),
+    (&[Ok(1)], &[Ok(21), Ok(2)], (Ok(Ordering::Less), Ok(false))),
+    (
+        &[Ok(19), Ok(5)],
+        &[Ok(21), Err(2)],
+        (Ok(Ordering::Greater), Ok(false)),
+    ),
+    (&[Ok(1), Err(3)], &[Ok(1), Err(2)], (Err(3), Err(3))),
+    (&[Ok(1), Ok(5)], &[Ok(1), Ok(5)], (Err(50), Err(50))),
+    (&[Ok(1)], &[Ok(1), Err(2)], (Err(2), Err(2))),
+];
+
+#[test]
+fn compared_by_closures() {
+    fn tested() -> Result<(), Fail> {
+        for (left, right, expected) in &COMPARED {
+            let order = numbers(left).cmp_by(numbers(right), last_digits);
+            let equal = numbers(left).eq_by(numbers(right), same_last_digit);
+            expect_same(&(order, equal), expected)?;
+        }
+        Ok(())
+    }
+    let _ = tested();
+}

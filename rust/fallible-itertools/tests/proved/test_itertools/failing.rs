@@ -1,0 +1,154 @@
+use crate::Fail;
+use fallible_iterator::memory::AllocError;
+// The adapters that act on failures. The source goes on after a failure and after an end.
+use crate::test_itertools::rows::{Drawn, END, expect_same, folded_after};
+use crate::test_support::course::Hint;
+use crate::test_support::expected_numbers::{expect_hinted_numbers, expect_numbers_at};
+use crate::test_support::numbers::numbers;
+use fallible_iterator::Answer::{End, Failure, Item};
+use fallible_iterator::Side::{Back, Front};
+use fallible_iterator::{Answer, FallibleIterator, Side};
+use fallible_itertools::FallibleItertools;
+
+// An item in the place of a failure, nothing in that of 8, and a failure of 70 in that of 7.
+fn recover(e: u32) -> Result<Option<u32>, u32> {
+    match e {
+        7 => Err(70),
+        8 => Ok(None),
+        _ => Ok(Some(e)),
+    }
+}
+
+// An end in the place of 0.
+fn end_at_zero(x: u32) -> Result<Option<u32>, u32> {
+    Ok(if x == 0 { None } else { Some(x) })
+}
+
+const FAULTY: [Result<u32, u32>; 10] = [
+    Err(8),
+    Err(3),
+    Ok(1),
+    Err(8),
+    Err(8),
+    Ok(0),
+    Err(7),
+    Ok(2),
+    Err(8),
+    Ok(4),
+];
+
+// What is drawn first, and then the fold of what is left, as digits, and what the source yields next.
+type Folded = (&'static [Answer<u32, u32>], (Result<u32, u32>, Drawn));
+
+// A fold goes on after a failure that became an item or nothing, and stops at an end and at a failure.
+const RECOVERED: [Folded; 4] = [
+    (
+        &[Item(3), Item(1), End, Failure(70), Item(2), Item(4), End],
+        (Ok(0), END),
+    ),
+    (&[], (Ok(31), Err(7))),
+    (&[Item(3), Item(1), End], (Err(70), Ok(Some(2)))),
+    (&[Item(3), Item(1), End, Failure(70)], (Ok(24), END)),
+];
+
+const BOTH_ENDS: [Result<u32, u32>; 6] = [Err(8), Ok(1), Err(3), Ok(2), Err(7), Err(8)];
+
+const SIDES: [Side; 5] = [Front, Back, Front, Back, Front];
+
+const RECOVERED_AT: [Answer<u32, u32>; 5] = [Item(1), Failure(70), Item(3), Item(2), End];
+
+const HINTED: [(Hint, &[Answer<u32, u32>]); 2] = [((0, None), &[Item(1)]), ((0, None), &[])];
+
+#[test]
+fn or_else_puts_items_failures_and_nothing_in_the_place_of_failures() {
+    fn tested() -> Result<(), Fail> {
+        for (drawn, expected) in &RECOVERED {
+            let mut source = numbers(&FAULTY).map_while(end_at_zero);
+            let mut it = (&mut source).or_else(recover);
+            let folded = folded_after(&mut it, drawn)?;
+            expect_same(&(folded, source.next()), expected)?;
+        }
+        let mut it = numbers(&BOTH_ENDS).or_else(recover);
+        expect_numbers_at(&mut it, &SIDES, &RECOVERED_AT)?;
+        expect_hinted_numbers(&mut numbers(&BOTH_ENDS).or_else(recover), &HINTED)
+    }
+    let _ = tested();
+}
+
+// One more failure that was shown, after the digits of those before.
+fn show(shown: &mut u32, e: u32) {
+    *shown = shown.wrapping_mul(10).wrapping_add(e);
+}
+
+// With what was shown, as digits.
+const SHOWN: [(Folded, u32); 4] = [
+    (
+        (
+            &[
+                Failure(8),
+                Failure(3),
+                Item(1),
+                Failure(8),
+                Failure(8),
+                End,
+                Failure(7),
+                Item(2),
+                Failure(8),
+                Item(4),
+                End,
+            ],
+            (Ok(0), END),
+        ),
+        838878,
+    ),
+    ((&[], (Err(8), Err(3))), 8),
+    ((&[Failure(8), Failure(3)], (Err(8), Err(8))), 838),
+    (
+        (
+            &[Failure(8), Failure(3), Item(1), Failure(8), Failure(8)],
+            (Ok(0), Err(7)),
+        ),
+        8388,
+    ),
+];
+
+const LATE: [Result<u32, u32>; 4] = [Ok(1), Ok(2), Err(5), Ok(3)];
+
+// What `count`, `last`, `nth(1)` and `nth(3)` answer, and what was shown, as digits.
+const CALLS: ((Result<usize, u32>, Drawn, Drawn, Drawn), u32) =
+    ((Err(5), Err(5), Ok(Some(2)), Err(5)), 555);
+
+const LATE_SIDES: [Side; 5] = [Front, Back, Back, Front, Front];
+
+const LATE_AT: [Answer<u32, u32>; 5] = [Item(1), Item(3), Failure(5), Item(2), End];
+
+#[test]
+fn inspect_err_shows_each_failure_once() {
+    fn tested() -> Result<(), Fail> {
+        for ((drawn, expected), digits) in &SHOWN {
+            let mut shown: u32 = 0;
+            let mut source = numbers(&FAULTY).map_while(end_at_zero);
+            let mut it = (&mut source).inspect_err(|e: &u32| show(&mut shown, *e));
+            let folded = folded_after(&mut it, drawn)?;
+            expect_same(&(folded, source.next()), expected)?;
+            expect_same(&shown, digits)?;
+        }
+        let mut shown: u32 = 0;
+        let counted = numbers(&LATE)
+            .inspect_err(|e: &u32| show(&mut shown, *e))
+            .count();
+        let last = numbers(&LATE)
+            .inspect_err(|e: &u32| show(&mut shown, *e))
+            .last();
+        let second = numbers(&LATE)
+            .inspect_err(|e: &u32| show(&mut shown, *e))
+            .nth(1);
+        let fourth = numbers(&LATE)
+            .inspect_err(|e: &u32| show(&mut shown, *e))
+            .nth(3);
+        expect_same(&((counted, last, second, fourth), shown), &CALLS)?;
+        let mut it = numbers(&LATE).inspect_err(|_: &u32| {});
+        expect_numbers_at(&mut it, &LATE_SIDES, &LATE_AT)
+    }
+    let _ = tested();
+}

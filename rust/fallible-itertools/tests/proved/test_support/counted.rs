@@ -1,0 +1,158 @@
+use crate::Fail;
+use fallible_iterator::memory::AllocError;
+
+use crate::test_support::calls::Calls;
+use fallible_iterator::{DoubleEndedFallibleIterator, FallibleIterator, Test, Turn};
+use std::cell::Cell;
+
+/// How often each call came from outside. A call that types override counts as the one that callers make of it.
+pub struct Log {
+    /// of `next`
+    pub nexts: Cell<u32>,
+    /// of `next_back`
+    pub next_backs: Cell<u32>,
+    /// of `drive`, through which `try_fold` and `fold` go
+    pub folds: Cell<u32>,
+    /// of `drive_back`, through which `try_rfold` and `rfold` go
+    pub rfolds: Cell<u32>,
+    /// of `drive_count`, through which `count` goes
+    pub counts: Cell<u32>,
+    /// of `drive_last`, through which `last` goes
+    pub lasts: Cell<u32>,
+    /// of `nth`, through which `nth` goes
+    pub nths: Cell<u32>,
+    /// of `drive_find`, through which `find` goes
+    pub finds: Cell<u32>,
+}
+
+impl Log {
+    /// No call yet.
+    pub fn new() -> Log {
+        Log {
+            nexts: Cell::new(0),
+            next_backs: Cell::new(0),
+            folds: Cell::new(0),
+            rfolds: Cell::new(0),
+            counts: Cell::new(0),
+            lasts: Cell::new(0),
+            nths: Cell::new(0),
+            finds: Cell::new(0),
+        }
+    }
+
+    /// The numbers so far.
+    pub fn calls(&self) -> Calls {
+        Calls {
+            nexts: self.nexts.get(),
+            next_backs: self.next_backs.get(),
+            folds: self.folds.get(),
+            rfolds: self.rfolds.get(),
+            counts: self.counts.get(),
+            lasts: self.lasts.get(),
+            nths: self.nths.get(),
+            finds: self.finds.get(),
+        }
+    }
+
+    /// The numbers so far, and no call from here on.
+    pub fn take(&self) -> Calls {
+        Calls {
+            nexts: self.nexts.replace(0),
+            next_backs: self.next_backs.replace(0),
+            folds: self.folds.replace(0),
+            rfolds: self.rfolds.replace(0),
+            counts: self.counts.replace(0),
+            lasts: self.lasts.replace(0),
+            nths: self.nths.replace(0),
+            finds: self.finds.replace(0),
+        }
+    }
+}
+
+/// A fallible iterator that adds one to its log for each call from outside, and returns what the one returns that it holds. Each of its calls is that one's call of the same name, which is not counted.
+pub struct Counted<'a, I> {
+    it: I,
+    log: &'a Log,
+}
+
+impl<'a, I> Counted<'a, I> {
+    /// Counts the calls of `it` in `log`.
+    pub fn new(it: I, log: &'a Log) -> Counted<'a, I> {
+        Counted { it, log }
+    }
+}
+
+// One more.
+fn add(number: &Cell<u32>) {
+    number.set(number.get().wrapping_add(1));
+}
+
+impl<'a, I: FallibleIterator> FallibleIterator for Counted<'a, I> {
+    type Item = I::Item;
+
+    type Error = I::Error;
+
+    fn next(&mut self) -> Result<Option<I::Item>, I::Error> {
+        add(&self.log.nexts);
+        self.it.next()
+    }
+
+    fn size_hint(&self) -> (usize, Option<usize>) {
+        self.it.size_hint()
+    }
+
+    fn drive<C, R, K: Turn<C, I::Item, R>>(
+        &mut self,
+        state: &mut C,
+        turn: &K,
+    ) -> Result<Option<R>, I::Error> {
+        add(&self.log.folds);
+        self.it.drive(state, turn)
+    }
+
+    fn drive_count(&mut self, number: &mut usize) -> Result<(), I::Error> {
+        add(&self.log.counts);
+        self.it.drive_count(number)
+    }
+
+    fn drive_last(&mut self) -> Result<Option<I::Item>, I::Error> {
+        add(&self.log.lasts);
+        self.it.drive_last()
+    }
+
+    fn nth(&mut self, n: usize) -> Result<Option<I::Item>, I::Error> {
+        add(&self.log.nths);
+        self.it.nth(n)
+    }
+
+    fn drive_find<C, K: Test<C, I::Item, I::Error>>(
+        &mut self,
+        state: &mut C,
+        test: &K,
+    ) -> Result<Option<I::Item>, I::Error> {
+        add(&self.log.finds);
+        self.it.drive_find(state, test)
+    }
+
+    fallible_iterator::by_drive!(drive);
+
+    fallible_iterator::by_drive!(drive_find);
+}
+
+impl<'a, I: DoubleEndedFallibleIterator> DoubleEndedFallibleIterator for Counted<'a, I> {
+    fn next_back(&mut self) -> Result<Option<I::Item>, I::Error> {
+        add(&self.log.next_backs);
+        self.it.next_back()
+    }
+
+    fn drive_back<C, R, K: Turn<C, I::Item, R>>(
+        &mut self,
+        state: &mut C,
+        turn: &K,
+    ) -> Result<Option<R>, I::Error> {
+        add(&self.log.rfolds);
+        self.it.drive_back(state, turn)
+    }
+
+    fallible_iterator::by_drive!(drive_back);
+}
