@@ -1,4 +1,4 @@
-// changed: one more parameter of a call: items of two types
+// changed: one more parameter of a call, for items of two types; no number counts down
 // proved: 8cefd6e1
 pub fn compare<L, R, K>(left: L, right: R) -> Result<Option<Ordering>, L::Error>
 where
@@ -7,7 +7,6 @@ where
     K: Comparison<L::Item, R::Item>,
 {
     let mut both = Zip { left, right };
-    let mut count = both.number();
     loop {
         let x = match both.left.next() {
             Ok(x) => x,
@@ -19,7 +18,7 @@ where
         };
         match decide::<L::Item, R::Item, K>(x, y) {
             Some(order) => return Ok(order),
-            None => count = count.one_less(),
+            None => {}
         }
     }
 }
