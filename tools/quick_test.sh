@@ -1,14 +1,15 @@
 #!/usr/bin/env bash
-# Runs every test and every program of the repository without a proof, by `rt try`, and says a line for each crate. It is
-# no gate: what it passes is tested, and not proved. With names it runs these crates alone. The last line is
-# 'N passed, M failed'; the status is 0 where none failed.
+# Runs every test and every program of the repository without a proof, by `rt try`, and says a line for each crate, as
+# '7 of 26: test_ends: 9 passed, 0 failed'. It is no gate: what it passes is tested, and not proved. With names it runs
+# these crates alone. The last line is 'N passed, M failed'; the status is 0 where none failed. A test and a program have
+# ten minutes each, so that a busy machine fails none.
 #
 # A program passes where it prints what its file `stdout` says of what its file `stdin` has.
 set -u
 cd "$(dirname "$0")/.."
 work=$(mktemp -d)
 trap 'rm -rf "$work"' EXIT
-mkdir "$work/copy" "$work/said"
+mkdir "$work/copy" "$work/said" "$work/done"
 tools/lay.sh "$work/copy" examples scripts drive_refused_memory fallible_speed || exit 1
 
 # Runs the tests of the crate $1, or its program, and says a line.
@@ -16,7 +17,7 @@ run_crate() {
     local crate="$work/copy/crates/$1" said="$work/said/$1" status=0
     cd "$crate" || return
     if grep -rqs '#\[test\]' src; then
-        rt try --test >"$said" 2>&1 || status=$?
+        rt try --test --seconds 600 >"$said" 2>&1 || status=$?
         sed -nE 's/^test result: \w+\. ([0-9]+) passed; ([0-9]+) failed.*/'"$1"': \1 passed, \2 failed/p' "$said" >"$said.line"
         [ -s "$said.line" ] || echo "$1: 0 passed, 1 failed" >"$said.line"
     else
@@ -27,7 +28,9 @@ run_crate() {
             echo "$1: 0 passed, 1 failed" >"$said.line"
         fi
     fi
-    cat "$said.line"
+    local place=1
+    until mkdir "$work/done/$place" 2>/dev/null; do place=$((place + 1)); done
+    echo "$place of $crates: $(cat "$said.line")"
     grep -q ' 0 failed' "$said.line" || tail -n 30 "$said" "$said.told" 2>/dev/null
 }
 export -f run_crate
@@ -38,5 +41,6 @@ if [ $# -eq 0 ]; then
     # The programs first, since some run for long.
     mapfile -t names < <(cd "$work/copy/crates" && ls -S */src/main.rt | cut -d/ -f1; cd "$work/copy/crates" && grep -rl '#\[test\]' */src | cut -d/ -f1 | sort -u)
 fi
+export crates=${#names[@]}
 printf '%s\n' "${names[@]}" | xargs -P "$(nproc)" -I{} bash -c 'run_crate {}'
 cat "$work"/said/*.line | awk '{ passed += $(NF - 3); failed += $(NF - 1) } END { print passed + 0 " passed, " failed + 0 " failed"; exit failed > 0 || passed == 0 }'

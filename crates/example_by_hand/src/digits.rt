@@ -15,17 +15,19 @@ where
     requires finite { ⟦<Peekable<I> as FallibleIterator>⟧.contract.is_finite ahead.old }
     ensures value { (l : List (Result ℕ I.Error))
         → Lists ⟦<Peekable<I> as FallibleIterator>⟧.contract.steps ahead.old l
-        → result ≡ folded_if is_ascii_digit (λ n x. Ok ((n * 10 + (x - 48)) % 2 ^ 32)) 0 l }
+        → result ≡ folded_if (λ x. Ok (is_ascii_digit x))
+        (λ n x. Ok ((n * 10 + (x - 48)) % 2 ^ 32)) 0 l }
     ensures rest { (l : List (Result ℕ I.Error))
         → Lists ⟦<Peekable<I> as FallibleIterator>⟧.contract.steps ahead.old l
         → Lists ⟦<Peekable<I> as FallibleIterator>⟧.contract.steps ahead.new
-        (rest_fold_if is_ascii_digit (λ n x. Ok ((n * 10 + (x - 48)) % 2 ^ 32)) 0 l) }
+        (rest_fold_if (λ x. Ok (is_ascii_digit x)) (λ n x. Ok ((n * 10 + (x - 48)) % 2 ^ 32))
+        0 l) }
     ensures stays { Stays ⟦<Peekable<I> as FallibleIterator>⟧.contract ahead.old ahead.new }
 {
     fold_if(
         ahead,
         0,
-        |c: &u8| c.is_ascii_digit(),
+        |c: &u8| Ok(c.is_ascii_digit()),
         |number: u32, digit: u8| Ok(
             number
                 .wrapping_mul(10)

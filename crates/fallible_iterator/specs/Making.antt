@@ -29,7 +29,7 @@ module _ {X B E : Type 0} (made : X → B → Type 0) where
   IsMadeOf (Err d) r = r ≡ Err d
 
   module _ {S : Type 0} (steps : S → Answered B E → S → Type 0) (from : AllocError → E → Type 0) where
-    -- The answer is an allocation failure. Or it is a buffered value, made of some x that is none of the list's, and the next answer is an allocation failure.
+    -- The answer is an allocation failure. Or it is a buffered value, made of some x of which nothing else is said, and the next answer is an allocation failure.
     abbrev pub AtRefusal : Answered B E → S → Type 0
     AtRefusal r t = AnswersRefusal from r ⊎ ((x : X) × (y : B) × made x y × (r ≡ Ok (Some y)) × RefusesNext steps from t)
 

@@ -1,40 +1,56 @@
--- What an item, a failure of either and an item that is rejected make of the value and of what is left.
-use Rattle.std.specs.Prelude.{◌≡◌, Err}
-use Rattle.std.proofs.Common.{rules, sym, ◌∙◌}
-use Rattle.fallible_iterator.proofs.Lemmas.Looking.{counts_down_taken}
-use Rattle.fallible_iterator.proofs.Lemmas.Taking.{comes_fold_ends, comes_fold_fails, answers_from_here_folding, comes_fold_stops, looks_as_through, stays_ahead, stays_then}
+-- A failure of the source or of the test, one of the closure, an item on which both returned, and an item that is rejected or an end: what each makes of the run, and what the run says of a list and of what stays.
+use Rattle.std.proofs.Common.{rules}
+use Rattle.fallible_contract.specs.Closures.{call_at, takes_at}
+use Rattle.fallible_contract.specs.Folds.{call_with, takes_with}
+use Rattle.fallible_core.specs.Peeking.Peekable.{peekable_parts}
+use Rattle.fallible_iterator.proofs.Lemmas.Taking.{callable_after_accepted, counts_down_accepted, fold_if_after, fold_if_ends, fold_if_fails, fold_if_stops, folded_if_of_lists, lists_rest_fold_if, stays_fold_if, takes_accepted, testable_on_next}
 use Rattle.fallible_iterator.proofs.taking.fold_if.Goals as goal
 
-pub returns-in_err-x-clause-value : goal.returns-in_err-x-clause-value
-returns-in_err-x-clause-value g c p l acts i h folds = let made : c.from_residual.result ≡ Err c.in_err-x.field-0.0 = search rules in made ∙ (comes_fold_fails p (λ l i. c.next_if.ensures.lists p l (looks_as_through p (λ x v w. search rules) acts) i) h (c.loop-left.invariant.2 p acts h folds) c.in_err-x.field-0.0 (search rules) l i).0
+pub next_accepted-requires-clause-callable : goal.next_accepted-requires-clause-callable
+next_accepted-requires-clause-callable g c x left step y shows = testable_on_next g.I.FallibleIterator.contract.steps (call_at g.P.FnMut) (call_with g.F.FnMut) (takes_at g.P.FnMut) (takes_with g.F.FnMut) (peekable_parts c.loop-left.ahead) left _ _ x c.loop-left.invariant.callable step y shows
 
-pub returns-in_err-x-clause-rest : goal.returns-in_err-x-clause-rest
-returns-in_err-x-clause-rest g c p l acts i h folds = (comes_fold_fails p (λ l i. c.next_if.ensures.lists p l (looks_as_through p (λ x v w. search rules) acts) i) h (c.loop-left.invariant.2 p acts h folds) c.in_err-x.field-0.0 (search rules) l i).1
+pub returns-in_err-x-clause-folded : goal.returns-in_err-x-clause-folded
+returns-in_err-x-clause-folded g c = c.loop-left.invariant.whole _ _ (fold_if_fails g.I.FallibleIterator.contract.steps (call_at g.P.FnMut) (call_with g.F.FnMut) c.loop-left.value c.loop-left.f c.in_err-x.field-0.0 (search rules) (search rules) c.next_accepted.ensures)
 
-pub returns-in_err-x-clause-stays : goal.returns-in_err-x-clause-stays
-returns-in_err-x-clause-stays g c = stays_then c.loop-left.invariant.1 (stays_ahead g.I.FallibleIterator.contract _ _ c.next_if.ensures.stays)
+pub f-requires : goal.f-requires
+f-requires g c = takes_accepted g.I.FallibleIterator.contract.steps (call_at g.P.FnMut) (call_with g.F.FnMut) (takes_at g.P.FnMut) (takes_with g.F.FnMut) c.in-Some.x c.loop-left.invariant.callable (search rules) c.next_accepted.ensures
 
-pub returns-in_err-value-clause-value : goal.returns-in_err-value-clause-value
-returns-in_err-value-clause-value g c p l acts i h folds = let made : c.from_residual-in_err-value.result ≡ Err c.in_err-value.field-0.0 = search rules in made ∙ (comes_fold_stops p (λ l i. c.next_if.ensures.lists p l (looks_as_through p (λ x v w. search rules) acts) i) h (c.loop-left.invariant.2 p acts h folds) c.in_err-value.field-0.0 c.in-Some.x (search rules) (λ accepted. sym (folds _ _ _ accepted record { met = c.in_err-value.ensures })) l i).0
-
-pub returns-in_err-value-clause-rest : goal.returns-in_err-value-clause-rest
-returns-in_err-value-clause-rest g c p l acts i h folds = (comes_fold_stops p (λ l i. c.next_if.ensures.lists p l (looks_as_through p (λ x v w. search rules) acts) i) h (c.loop-left.invariant.2 p acts h folds) c.in_err-value.field-0.0 c.in-Some.x (search rules) (λ accepted. sym (folds _ _ _ accepted record { met = c.in_err-value.ensures })) l i).1
-
-pub returns-in_err-value-clause-stays : goal.returns-in_err-value-clause-stays
-returns-in_err-value-clause-stays g c = stays_then c.loop-left.invariant.1 (stays_ahead g.I.FallibleIterator.contract _ _ c.next_if.ensures.stays)
+pub returns-in_err-value-clause-folded : goal.returns-in_err-value-clause-folded
+returns-in_err-value-clause-folded g c = c.loop-left.invariant.whole _ _ (fold_if_stops g.I.FallibleIterator.contract.steps (call_at g.P.FnMut) (call_with g.F.FnMut) c.in-Some.x c.in_err-value.field-0.0 (search rules) (search rules) c.next_accepted.ensures c.in_err-value.ensures)
 
 pub loop-left-preserved : goal.loop-left-preserved
-loop-left-preserved g c = (
-  counts_down_taken g.I.FallibleIterator.contract c.loop-left.invariant.0 (c.next_if.ensures.fewer c.in-Some.x (search rules)) c.next_if.ensures.stays c.one_less-left.ensures,
-  stays_then c.loop-left.invariant.1 (stays_ahead g.I.FallibleIterator.contract _ _ c.next_if.ensures.stays),
-  λ p acts h folds. answers_from_here_folding p (λ l i. c.next_if.ensures.lists p l (looks_as_through p (λ x v w. search rules) acts) i) h (c.loop-left.invariant.2 p acts h folds) c.in-Some.x (search rules) (λ accepted. sym (folds _ _ _ accepted record { met = c.in_ok-value.ensures })),
-)
+loop-left-preserved g c = record {
+  counts = counts_down_accepted g.met.I.FallibleIterator.lawful _ _ c.in-Some.x c.loop-left.invariant.counts (search rules) c.next_accepted.ensures c.one_less-left.ensures;
+  callable = callable_after_accepted g.I.FallibleIterator.contract.steps (call_at g.P.FnMut) (call_with g.F.FnMut) (takes_at g.P.FnMut) (takes_with g.F.FnMut) c.in-Some.x c.loop-left.invariant.callable (search rules) c.next_accepted.ensures c.in_ok-value.ensures;
+  whole = λ r t rest. c.loop-left.invariant.whole r t (fold_if_after g.I.FallibleIterator.contract.steps (call_at g.P.FnMut) (call_with g.F.FnMut) c.in-Some.x (search rules) c.next_accepted.ensures c.in_ok-value.ensures rest);
+}
+
+pub returns-clause-folded : goal.returns-clause-folded
+returns-clause-folded g c = c.loop-left.invariant.whole _ _ (fold_if_ends g.I.FallibleIterator.contract.steps (call_at g.P.FnMut) (call_with g.F.FnMut) c.loop-left.value c.loop-left.f (search rules) c.next_accepted.ensures)
+
+pub returns-in_err-x-clause-value : goal.returns-in_err-x-clause-value
+returns-in_err-x-clause-value g c p l acts i h folds = folded_if_of_lists _ _ _ _ _ p h acts folds l (returns-in_err-x-clause-folded g c) i
+
+pub returns-in_err-x-clause-rest : goal.returns-in_err-x-clause-rest
+returns-in_err-x-clause-rest g c p l acts i h folds = lists_rest_fold_if _ _ _ _ _ p h acts folds l (returns-in_err-x-clause-folded g c) i
+
+pub returns-in_err-x-clause-stays : goal.returns-in_err-x-clause-stays
+returns-in_err-x-clause-stays g c = stays_fold_if g.met.I.FallibleIterator.lawful _ _ _ c.requires.can_next (returns-in_err-x-clause-folded g c)
+
+pub returns-in_err-value-clause-value : goal.returns-in_err-value-clause-value
+returns-in_err-value-clause-value g c p l acts i h folds = folded_if_of_lists _ _ _ _ _ p h acts folds l (returns-in_err-value-clause-folded g c) i
+
+pub returns-in_err-value-clause-rest : goal.returns-in_err-value-clause-rest
+returns-in_err-value-clause-rest g c p l acts i h folds = lists_rest_fold_if _ _ _ _ _ p h acts folds l (returns-in_err-value-clause-folded g c) i
+
+pub returns-in_err-value-clause-stays : goal.returns-in_err-value-clause-stays
+returns-in_err-value-clause-stays g c = stays_fold_if g.met.I.FallibleIterator.lawful _ _ _ c.requires.can_next (returns-in_err-value-clause-folded g c)
 
 pub returns-clause-value : goal.returns-clause-value
-returns-clause-value g c p l acts i h folds = (comes_fold_ends p (λ l i. c.next_if.ensures.lists p l (looks_as_through p (λ x v w. search rules) acts) i) h (c.loop-left.invariant.2 p acts h folds) (search rules) l i).0
+returns-clause-value g c p l acts i h folds = folded_if_of_lists _ _ _ _ _ p h acts folds l (returns-clause-folded g c) i
 
 pub returns-clause-rest : goal.returns-clause-rest
-returns-clause-rest g c p l acts i h folds = (comes_fold_ends p (λ l i. c.next_if.ensures.lists p l (looks_as_through p (λ x v w. search rules) acts) i) h (c.loop-left.invariant.2 p acts h folds) (search rules) l i).1
+returns-clause-rest g c p l acts i h folds = lists_rest_fold_if _ _ _ _ _ p h acts folds l (returns-clause-folded g c) i
 
 pub returns-clause-stays : goal.returns-clause-stays
-returns-clause-stays g c = stays_then c.loop-left.invariant.1 (stays_ahead g.I.FallibleIterator.contract _ _ c.next_if.ensures.stays)
+returns-clause-stays g c = stays_fold_if g.met.I.FallibleIterator.lawful _ _ _ c.requires.can_next (returns-clause-folded g c)

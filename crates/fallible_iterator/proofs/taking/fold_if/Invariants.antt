@@ -1,15 +1,22 @@
--- A bound is counted down; all stays; and what the whole comes to and leaves is what the rest does from here.
-use Rattle.fallible_contract.specs.Contract.{Stays, seen_as}
-use Rattle.fallible_core.specs.Peeking.Peekable.{LooksAs, peekable_contract, peekable_parts}
-use Rattle.fallible_iterator.specs.Taking.{FoldsAs}
-use Rattle.fallible_iterator.proofs.Lemmas.Loops.{AnswersFromHere, CountsDown}
-use Rattle.fallible_iterator.proofs.Lemmas.Taking.{folded_if_and_rest}
+-- A bound is counted down; the closures may be called on what may come; and what a fold from here does, the whole fold does.
+use Rattle.fallible_contract.specs.Closures.{call_at, takes_at}
+use Rattle.fallible_contract.specs.Contract.{seen_as}
+use Rattle.fallible_contract.specs.Folds.{CallableInFold, call_with, takes_with}
+use Rattle.fallible_core.specs.Peeking.Peekable.{peekable_contract, peekable_parts}
+use Rattle.fallible_iterator.specs.Taking.{AcceptedCall, FoldIfDrains, accepted_takes}
+use Rattle.fallible_iterator.proofs.Lemmas.Loops.{CountsDown}
 use Rattle.fallible_iterator.proofs.taking.fold_if.Given as goal
 
 abbrev pub invariant-loop-left : goal.invariant-loop-left
-invariant-loop-left g l = let m = seen_as peekable_parts (peekable_contract g.I.FallibleIterator.contract) in CountsDown m l.ahead l.left.value
-    × Stays m l.fn.ahead l.ahead
-    × ((p : _) → LooksAs g.P.Fn l.fn.test p → (h : _) → FoldsAs g.F.Fn l.fn.f p h → AnswersFromHere m.steps (folded_if_and_rest p h) l.fn.ahead l.fn.init l.ahead l.value)
+invariant-loop-left g l =
+    let m = peekable_contract g.I.FallibleIterator.contract in
+    let tests = call_at g.P.FnMut in
+    let call = call_with g.F.FnMut in
+    let drains = FoldIfDrains g.I.FallibleIterator.contract.steps tests call in record {
+      counts : CountsDown (seen_as peekable_parts m) l.ahead l.left.value;
+      callable : CallableInFold m.steps (AcceptedCall tests call) (accepted_takes tests call (takes_at g.P.FnMut) (takes_with g.F.FnMut)) (peekable_parts l.ahead) (l.test, l.f) l.value;
+      whole : (r : _) (t : _) → drains (peekable_parts l.ahead) l.value l.test l.f r t → drains (peekable_parts l.fn.ahead) l.fn.init l.fn.test l.fn.f r t;
+    }
 
 abbrev pub decreases-loop-left : goal.decreases-loop-left
 decreases-loop-left g l = l.left.value
