@@ -36,7 +36,7 @@ def check(text, ts):
 def ghosts(text):
     """Ghost items, fields and imports, clauses, and `final`."""
     spans, s = [], text.s
-    ts = list(tokens(s))
+    ts = tokens(s)
     check(text, ts)
     for t in ts:
         if t.kind == "ghost":

@@ -2,7 +2,7 @@
 import re
 from collections import defaultdict
 
-from source import Text, functions, tokens
+from source import Text, functions, read, tokens
 import tests
 
 # The crates whose functions and types examples are from, and the laws' functions that show answers.
@@ -69,9 +69,9 @@ class Pool:
         for path in sorted((top / "crates").glob("*/src/**/*.rt")):
             place = str(path.relative_to(top))
             if POOL.match(place):
-                self.raw[place] = path.read_text(encoding="utf-8")
+                self.raw[place] = read(path, place).s
         for path in sorted((top / SHOWN).glob("*.rt.txt")):
-            self.raw[SHOWN + path.name] = path.read_text(encoding="utf-8")
+            self.raw[SHOWN + path.name] = read(path, SHOWN + path.name).s
 
     def load(self, place):
         """A file's items, by name, and its `impl` blocks, by type."""

@@ -12,70 +12,8 @@ PEEKABLE = r"fallible_core/peeking/peekable\.rs"
 FLAT_MAP = r"fallible_core/joining/flat_map\.rs"
 
 
-def body(name):
-    """The pattern of a whole method of the trait."""
-    return r"^    fn %s\b(?:.*\n)*?    \}\n" % name
-
-
-COLLECT = """    fn collect<T>(self) -> Result<T, Self::Error>
-    where
-        T: core::iter::FromIterator<Self::Item>,
-    {
-        self.iterator().collect()
-    }
-"""
-PARTITION = """    fn partition<B, F>(mut self, f: F) -> Result<(B, B), Self::Error>
-    where
-        B: Default + Extend<Self::Item>,
-        F: FnMut(&Self::Item) -> Result<bool, Self::Error>,
-    {
-        let mut state = (f, (Extended(B::default()), Extended(B::default())));
-        let answer = self.drive(&mut state, &PartitionTurn);
-        let (_, sides) = state;
-        match answer {
-            Ok(None) => Ok((sides.0.0, sides.1.0)),
-            Ok(Some(Fault::Source(e))) => Err(e),
-            Ok(Some(Fault::Memory(refused))) => match refused {},
-            Err(e) => Err(e),
-        }
-    }
-"""
-UNZIP = """    fn unzip<A, B, FromA, FromB>(mut self) -> Result<(FromA, FromB), Self::Error>
-    where
-        Self: FallibleIterator<Item = (A, B)>,
-        FromA: Default + Extend<A>,
-        FromB: Default + Extend<B>,
-    {
-        let mut both = (Extended(FromA::default()), Extended(FromB::default()));
-        match self.drive(&mut both, &UnzipTurn) {
-            Ok(None) => Ok((both.0.0, both.1.0)),
-            Ok(Some(refusal)) => match refusal {},
-            Err(e) => Err(e),
-        }
-    }
-"""
-CYCLE = """    fn cycle(self) -> Cycle<Self>
-    where
-        Self: Clone,
-    {
-        Cycle {
-            it: self.clone(),
-            kept: self,
-        }
-    }
-"""
-
 RULES = [
-    (TRAIT, body("collect"), COLLECT, 1),
-    (TRAIT, body("partition"), PARTITION, 1),
-    (TRAIT, body("unzip"), UNZIP, 1),
-    (TRAIT, body("cycle"), CYCLE, 1),
     (TRAIT, r"\{Collect, CollectTurn, Fault, Part", "{Extended, Fault, Part", 1),
-    # What a Rust caller can break: `requires { 1 ≤ step }`.
-    (TRAIT, r"(fn step_by\(self, step: usize\) -> StepBy<Self> \{\n)", r"\1        assert!(step != 0);\n", 1),
-    (TRAIT, r"(fn size_hint\(&self\) -> \(usize, Option<usize>\));", r"\1 {\n        (0, None)\n    }", 1),
-    (TRAIT, r"-> Chain<Self, I::IntoFallibleIter>", "-> Chain<Self, I>", 1),
-    (TRAIT, r"second: it\.into_fallible_iter\(\)", "second: it", 1),
     # Iterators without a size: no folds through a reference or a box, and `Self: Sized` below.
     (TRAIT, r"pub trait FallibleIterator: Sized \{", "pub trait FallibleIterator {", 1),
     (POINTED, r"impl<I: (\w+)> \1 for", r"impl<I: \1 + ?Sized> \1 for", 4),
@@ -89,11 +27,8 @@ RULES = [
     (COMPARE, r"impl<A: Partial(Ord|Eq)> Comparison<A>", r"impl<A: Partial\1<B>, B> Comparison<A, B>", 2),
     (COMPARE, r"decide<A, K: Comparison<A>>\(\s*left: Option<A>,\s*right: Option<A>,?\s*\)",
      "decide<A, B, K: Comparison<A, B>>(left: Option<A>, right: Option<B>)", 1),
-    (ROUNDS, r"R: FallibleIterator<Item = L::Item, Error", "R: FallibleIterator<Error", 1),
     (ROUNDS, r"I: IntoFallibleIterator<Item = L::Item, Error", "I: IntoFallibleIterator<Error", 1),
-    (ROUNDS, r"(fn compare<[^{]*)K: Comparison<L::Item>", r"\1K: Comparison<L::Item, R::Item>", 1),
     (ROUNDS, r"(fn compare_read<[^{]*)K: Comparison<L::Item>", r"\1K: Comparison<L::Item, I::Item>", 1),
-    (ROUNDS, r"decide::<L::Item, K>", "decide::<L::Item, R::Item, K>", 1),
     (TRAIT, r"I: IntoFallibleIterator<Item = Self::Item, Error = Self::Error>,\n(\s*)Self::Item: (Partial\w+),",
      r"I: IntoFallibleIterator<Error = Self::Error>,\n\1Self::Item: \2<I::Item>,", 7),
     # `next_if` and `next_if_eq`.

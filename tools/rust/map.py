@@ -2,14 +2,6 @@
 from rules import ANY, apply, drop_files
 
 CONTRACT, CORE, EVERY = r"fallible_contract(?:/.*)?\.rs", r"fallible_core(?:/.*)?\.rs", r".*"
-ARM = r"Err\(refused\) => (?:[\w:]+\([\w:]+::from\(refused\)\),|\{[^{}]*::from\(refused\)\)\s*\})"
-NO_VALUE = r"Err(refused) => match refused {},"
-DRAWN = (r"let mut drawn = Progressing \{ it \};\n\s*"
-         r"match drawn\.(try_r?fold)\(\s*state,\s*\|state, element\| "
-         r"(turn_of_element\(turn, elements, state, element\)),?\s*\) \{\n(?:.*\n)*?    \}\n")
-BORROWED = (r"match it.\1((), |(), element| \2) {\n"
-            r"        Ok(()) => Ok(None),\n        Err(answer) => answer,\n    }\n")
-
 HEAD = """#![doc = include_str!("../README.md")]
 #![no_std]
 #![forbid(unsafe_code)]
@@ -46,25 +38,10 @@ ITERATOR = [
     (r"fallible_contract/collecting\.rs", r"^impl<T> Collect<T> for Vec<T> \{(?:\n|    .*\n)*\}\n\n", "", 1),
     (r"fallible_contract/collecting\.rs", r"^    /// Creates the collection.*\n    fn empty\(.*;\n\n", "", 1),
     (r"fallible_contract/collecting\.rs", r"^use core::ops", "use crate::memory::AllocError;\nuse core::ops", 1),
-    # Clones, and the arm of a refused one.
-    (r"fallible_core/joining/cycle\.rs", r"self\.kept\.clone\(\)", "self.kept.try_clone()", 1),
-    (r"fallible_core/one_to_one/cloned\.rs", r"T::clone\(", "T::try_clone(", 1),
-    (r"sources/repeat\.rs", r"self\.value\.clone\(\)", "self.value.try_clone()", 1),
-    (r"sources/repeat_err\.rs", r"self\.error\.clone\(\)", "self.error.try_clone()", 1),
-    (r".*/(?:cycle|cloned|repeat|repeat_err)\.rs", ARM, NO_VALUE, 4),
-    (r".*/(?:cycle|cloned|repeat|repeat_err)\.rs", r"\A((?://.*\n)+\n)", r"\1use crate::memory::TryClone;\n", 4),
-    # Folds of a std iterator: `Progressing`, which a proof wants, hides the iterator's own; and the
-    # closure borrows the state, which a proof wants carried from turn to turn.
-    (r"sources/std_fold\.rs", DRAWN, BORROWED, 2),
+    # Folds of a std iterator: `Progressing`, which a proof wants, hides the iterator's own.
     (r"sources/std_fold\.rs", r"^// A std iterator that a[^§]*(?=^// The fold of a std iterator from the front)", "", 1),
     (r"sources/std_fold\.rs", r"^//\n// `let _ = &\*state;`.*\n", "", 1),
     (r"sources/std_fold\.rs", r" The caller's state is what std's fold carries\.", "", 1),
-    (r"sources/std_fold\.rs", r"<'a, Z,", "<Z,", 1),
-    (r"sources/std_fold\.rs", r"Result<&'a mut C, \(&'a mut C, Result<Option<R>, E>\)>",
-     "Result<(), Result<Option<R>, E>>", 1),
-    (r"sources/std_fold\.rs", r"&'a mut C", "&mut C", 1),
-    (r"sources/std_fold\.rs", r"Ok\(state\)", "Ok(())", 1),
-    (r"sources/std_fold\.rs", r"\(state, (Ok\(Some\(stop\)\)|Err\(e\))\)", r"\1", 2),
     # A fold is inlined, else rustc makes of a short chain's a loop that takes one instruction more.
     (r"(?!fallible_core/traits/b).*", r"^( *)(?:pub(?:\(crate\))? )?fn drive(?:_back)?(?:_passing|_std)?<[^;{]*\{",
      r"\1#[inline(always)]\n\g<0>", 37),
@@ -91,72 +68,16 @@ ITERATOR = [
 
 GROUPS = r"(?:chunks|chunk_by)\.rs"
 ITERTOOLS = [
-    (r"(?:intersperse|tuple_windows|unique)\.rs", r"\b(state|x|item)\.clone\(\)", r"\1.try_clone()", 3),
-    (r"(?:tuple_windows|unique)\.rs", r"^use fallible_iterator::extending",
-     r"use fallible_iterator::memory::TryClone;\n\g<0>", 2),
-    (r"intersperse\.rs", r"^use fallible_iterator::\{", r"use fallible_iterator::memory::TryClone;\n\g<0>", 1),
-    # No allocator is passed.
+    # No allocator is kept.
     (GROUPS, r"^    pub\(crate\) alloc: Global,\n", "", 2),
     (GROUPS, r"^struct (Chunk\w+) \{\n    alloc: Global,\n\}", r"struct \1;", 2),
-    (GROUPS, r"let adapter = (\w+) \{ alloc: self\.alloc \};", r"let adapter = \1;", 3),
-    (GROUPS, r"\b(alone|grouped|grown)\((?:self\.)?alloc, ", r"\1(", 4),
-    (GROUPS, r"^    alloc: Global,\n", "", 2),
-    (r"traits\.rs", r"^            alloc,\n", "", 2),
-    (r"traits\.rs", r"\bself, alloc: Global, ", "self, ", 3),
-    (r"batch\.rs", r"\(alloc: Global, ", "(", 1),
-    (r"batch\.rs", r"Vec::with_capacity\(alloc, (.*)\)\?", r"Vec::with_capacity(\1)", 1),
-    (r"batch\.rs", r"match items\.push\(item\) \{[^{}]*\}", "items.push(item);\n    Ok(())", 1),
-    (r"unique\.rs", r"Ok\(copy\) => match seen\.insert\(copy\) \{[^{}]*\},",
-     "Ok(copy) => {\n            seen.insert(copy);\n            Outcome::Kept(item)\n        }", 1),
-    (r"(?:chunks|chunk_by|intersperse|tuple_windows|unique)\.rs", ARM, NO_VALUE, 6),
-    (r"traits\.rs", r"fn unique\(self, alloc: Global\)", "fn unique(self)", 1),
-    (r"traits\.rs", r"HashSet::new\(alloc\)", "HashSet::new()", 1),
-    # `counts` and `join`: the same folds, into what `new` makes.
-    (r"counts\.rs", r"^    fn empty\((?:.*\n)*?    \}\n\n", "", 1),
-    (r"counts\.rs", r"match self\.counts\.insert\(([^\n]*)\) \{[^{}]*\}",
-     r"self.counts.insert(\1);\n        Ok(())", 1),
-    # `into_group_map`: the same.
-    (r"group_map\.rs", r"^    fn empty\((?:.*\n)*?    \}\n\n", "", 1),
     (r"group_map\.rs", r"^    // where .*\n    alloc: Global,\n", "", 1),
-    (r"group_map\.rs", r"Vec::new\(self\.alloc\)", "Vec::new()", 1),
-    (r"group_map\.rs", r"match self\.groups\.insert\(([^\n]*)\) \{[^{}]*\}",
-     r"self.groups.insert(\1);\n        Ok(())", 1),
-    # `partition_map`: the same fold, into whatever extends.
+    # Collections are filled from what `new` makes, or whatever extends.
+    (r"counts\.rs", r"^    fn empty\((?:.*\n)*?    \}\n\n", "", 1),
+    (r"group_map\.rs", r"^    fn empty\((?:.*\n)*?    \}\n\n", "", 1),
     (r"partition_map\.rs", r"^    fn empty\((?:.*\n)*?    \}\n\n", "", 1),
-    # `sorted`: Rust's `collect`, and std's sort, which is never refused.
-    (r"sorted\.rs", r"Fault<E>", "E", 4),
+    # Imports.
     (r"sorted\.rs", r"^use fallible_iterator::Fault;", "use alloc::vec::Vec;", 1),
-    (r"sorted\.rs", r"match (items\.sort\w*\([^()]*\)) \{[^{}]*\}", r"\1;\n    Ok(items)", 2),
-    (r"traits\.rs", r"(fn sorted\w*(?:<K, F>)?\(\s*self),\s*alloc: Global", r"\1", 2),
-    (r"traits\.rs", r"Result<Vec<Self::Item>, Fault<Self::Error>>", "Result<Vec<Self::Item>, Self::Error>", 2),
-    (r"traits\.rs", r"self\.collect\(alloc\)", "self.collect()", 2),
-    (r"join\.rs", r"text\.push_str\(separator\)\?;", "text.push_str(separator);", 1),
-    (r"join\.rs", r"text\.write\(item\)", 'let written = write!(text, "{item}");\n'
-     '    written.expect("a Display implementation returned an error");\n    Ok(())', 1),
-    (r"traits\.rs", r"fn counts\(self, alloc: Global\) -> Result<(.*), Fault<Self::Error>>",
-     r"fn counts(mut self) -> Result<\1, Self::Error>", 1),
-    (r"traits\.rs", r"match self\.collect::<Tally<Self::Item>>\(alloc\) \{[^{}]*\}",
-     "let mut made = Tally {\n            counts: HashMap::new(),\n        };\n"
-     "        match self.drive(&mut made, &CollectTurn) {\n            Ok(None) => Ok(made.counts),\n"
-     "            Ok(Some(refused)) => match refused {},\n            Err(e) => Err(e),\n        }", 1),
-    (r"traits\.rs", r"fn into_group_map<K, V>\(\s*self,\s*alloc: Global,?\s*\) -> Result<(.*), Fault<Self::Error>>",
-     r"fn into_group_map<K, V>(mut self) -> Result<\1, Self::Error>", 1),
-    (r"traits\.rs", r"match self\.collect::<GroupMap<K, V>>\(alloc\) \{[^{}]*\}",
-     "let mut made = GroupMap {\n            groups: HashMap::new(),\n        };\n"
-     "        match self.drive(&mut made, &CollectTurn) {\n            Ok(None) => Ok(made.groups),\n"
-     "            Ok(Some(refused)) => match refused {},\n            Err(e) => Err(e),\n        }", 1),
-    (r"traits\.rs", r"fn partition_map<L, R, F, A, B>\(\s*self,\s*alloc: Global,\s*f: F,?\s*\) -> Result<(.*), Fault<Self::Error>>",
-     r"fn partition_map<L, R, F, A, B>(self, f: F) -> Result<\1, Self::Error>", 1),
-    (r"traits\.rs", r"L: Collect<A>,\n        R: Collect<B>,", "L: Default + Extend<A>,\n        R: Default + Extend<B>,", 1),
-    (r"traits\.rs", r"self\.map\(f\)\.collect\(alloc\)",
-     "let mut sides = (Extended(L::default()), Extended(R::default()));\n"
-     "        match self.map(f).drive(&mut sides, &CollectTurn) {\n            Ok(None) => Ok((sides.0.0, sides.1.0)),\n"
-     "            Ok(Some(refused)) => match refused {},\n            Err(e) => Err(e),\n        }", 1),
-    (r"traits\.rs", r"Result<String, Fault<Self::Error>>", "Result<String, Self::Error>", 1),
-    (r"traits\.rs", r"String::new\(alloc\)", "String::new()", 1),
-    (r"traits\.rs", r"Ok\(Some\(refused\)\) => Err\(Fault::Memory\(refused\)\),\n"
-     r"(.*)Err\(e\) => Err\(Fault::Source\(e\)\),",
-     r"Ok(Some(refused)) => match refused {},\n\1Err(e) => Err(e),", 1),
     (r"traits\.rs", r"^use fallible_iterator::\{Collect, FallibleIterator, Fault, Into", "use fallible_iterator::"
      "fallible_contract::collecting::{CollectTurn, Extended};\nuse fallible_iterator::{FallibleIterator, Into", 1),
     (r"join\.rs", r"^use core::fmt::Display;", "use alloc::string::String;\nuse core::fmt::{Display, Write};", 1),
@@ -177,7 +98,7 @@ ITERTOOLS = [
     (r"traits\.rs", r"^    fn (?:counts|into_group_map|unique)\b", r'    #[cfg(feature = "std")]\n\g<0>', 3),
     (r"lib\.rs", r"\A(?://!.*\n)+\n", HEAD + "mod errors;\n", 1),
     (r"lib\.rs", r"^pub mod \w+;", r"#[doc(hidden)]\n\g<0>", 32),
-    (r"(?:batch|chunks|counts|group_map|join|partition_map)\.rs", r"\A(//.*\n\n)", r"\1use fallible_iterator::memory::AllocError;\n", 6),
+    (r"(?:counts|group_map|join|partition_map)\.rs", r"\A(//.*\n\n)", r"\1use fallible_iterator::memory::AllocError;\n", 4),
 ]
 
 # Collections of std that are made by Rust's own `collect`.

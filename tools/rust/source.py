@@ -1,6 +1,7 @@
 """Texts of Rattle and Rust: their tokens, their functions, and the source lines that they came from."""
 import re
 from collections import namedtuple
+from functools import lru_cache
 
 
 class Refused(Exception):
@@ -8,7 +9,7 @@ class Refused(Exception):
 
 
 Token = namedtuple("Token", "kind text start end")
-Function = namedtuple("Function", "name label docs start open end clauses")
+Function = namedtuple("Function", "name label docs start open end clauses block")
 
 TOKEN = re.compile(r"""
     (?P<space>\s+)
@@ -20,6 +21,7 @@ TOKEN = re.compile(r"""
   | (?P<sign>->|=>|::|.)
 """, re.S | re.X)
 CLAUSE = re.compile(r"(requires|ensures)\b\*?\s*\w*\s*\{")
+GHOST = re.compile(r"ghost\s+\w")
 GHOST_USE = re.compile(r"ghost\s+use\s[^;]*;")
 GHOST_VALUE = re.compile(r"\s*=\s*\{")
 
@@ -56,15 +58,47 @@ class Text:
         return len(spans)
 
 
+class Unclosed(Exception):
+    """A bracket that nothing closes, or that closes nothing: where."""
+
+
+def read(path, place):
+    """A source file's text. Refuses what is not UTF-8, and brackets that don't fit."""
+    data = path.read_bytes()
+    try:
+        text = Text(place, data.decode("utf-8"))
+    except UnicodeDecodeError as why:
+        raise Refused("%s:%d: this is not UTF-8" % (place, data.count(b"\n", 0, why.start) + 1)) from None
+    try:
+        fitting(text.s)
+    except Unclosed as where:
+        raise Refused("%s: the bracket `%s` fits none" % (text.at(where.args[0]), text.s[where.args[0]])) from None
+    return text
+
+
+def fitting(s):
+    """Goes through the brackets of a text."""
+    opened = []
+    for t in tokens(s):
+        if t.kind == "sign" and t.text in "([{":
+            opened.append(t)
+        elif t.kind == "sign" and t.text in ")]}":
+            if not opened or opened.pop().text + t.text not in ("()", "[]", "{}"):
+                raise Unclosed(t.start)
+    if opened:
+        raise Unclosed(opened[-1].start)
+
+
 def after_braces(s, i):
     """Behind the block that begins at the first `{` from i on. Clauses are antt: only braces count."""
-    i = s.index("{", i)
-    depth = 0
-    while True:
+    begin = s.find("{", i)
+    i, depth = begin, 0
+    while 0 <= i < len(s):
         depth += (s[i] == "{") - (s[i] == "}")
         i += 1
         if depth == 0:
             return i
+    raise Unclosed(max(begin, 0))
 
 
 def ghost_end(s, i):
@@ -79,18 +113,20 @@ def ghost_end(s, i):
     return i + 1 if s[i:i + 1] in (";", ",") else i
 
 
+@lru_cache(maxsize=None)
 def tokens(s):
     """The tokens, where a clause and a ghost item are one each."""
-    i = 0
+    i, found = 0, []
     while i < len(s):
         m = TOKEN.match(s, i)
         kind, end = m.lastgroup, m.end()
         if kind == "word" and CLAUSE.match(s, i):
             kind, end = "clause", after_braces(s, i)
-        elif kind == "word" and m.group() == "ghost" and re.match(r"ghost\s+\w", s[i:i + 20]):
+        elif kind == "word" and m.group() == "ghost" and GHOST.match(s, i):
             kind, end = "ghost", ghost_end(s, i)
-        yield Token(kind, s[i:end], i, end)
+        found.append(Token(kind, s[i:end], i, end))
         i = end
+    return found
 
 
 def code(s):
@@ -130,16 +166,17 @@ def label_of(head):
     return text.replace("& ", "&")
 
 
+@lru_cache(maxsize=None)
 def functions(s):
     """Each function of a file, with what it stands in, its docs and its clauses."""
-    every = list(tokens(s))
-    ts = [t for t in every if t.kind not in ("space", "comment")]
-    labels, k, found = [], 0, []
+    ts = [t for t in tokens(s) if t.kind not in ("space", "comment")]
+    labels, blocks, k, found = [], [], 0, []
     while k < len(ts):
         word = ts[k].text
         if word in ("impl", "trait") and ts[k].kind == "word":
             end = head_end(ts, k)
             labels.append(label_of(ts[k:end]))
+            blocks.append(k)
             k = end + 1
         elif word == "fn" and ts[k].kind == "word" and ts[k + 1].kind == "word":
             end = head_end(ts, k)
@@ -149,12 +186,14 @@ def functions(s):
             found.append(Function(
                 ts[k + 1].text, next((x for x in reversed(labels) if x), ""),
                 docs_before(s, begin), begin, ts[end].start if ts[end].text == "{" else None,
-                ts[last - 1].end, clauses))
+                ts[last - 1].end, clauses, blocks[-1] if blocks else None))
             k = last
         else:
             labels += [""] * (word == "{")
+            blocks += [k] * (word == "{")
             if word == "}" and labels:
                 labels.pop()
+                blocks.pop()
             k += 1
     return found
 

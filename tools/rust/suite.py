@@ -4,7 +4,7 @@ from pathlib import Path
 
 import tests
 from examples import use_names
-from source import Text, functions
+from source import functions, read
 
 # The crates of callers and tests that each Rust crate's tests are made of.
 SUITES = {
@@ -41,9 +41,9 @@ def modules(top, crate, count):
         for path in sorted(src.rglob("*.rt")):
             rel = path.relative_to(src).with_suffix(".rs")
             rel = source + ".rs" if str(rel) == "lib.rs" else "%s/%s" % (source, rel)
-            files[rel] = list(tests.items(Text(str(path.relative_to(top)), path.read_text(encoding="utf-8"))))
+            files[rel] = list(tests.items(read(path, str(path.relative_to(top)))))
     traces = top / "crates/fallible_iterator/src/laws/traces.rt"
-    files["laws.rs"] = list(tests.items(Text(str(traces), traces.read_text(encoding="utf-8"))))
+    files["laws.rs"] = list(tests.items(read(traces, str(traces.relative_to(top)))))
     leave_out(files, count)
     out = {"tests/proved/" + path: module(path, blocks, count) for path, blocks in files.items()}
     out["tests/proved/main.rs"] = MAIN + "".join("mod %s;\n" % m for m in ["laws", *crates])

@@ -42,9 +42,29 @@ class Refusals(unittest.TestCase):
             self.assertIn(word, said)
         self.assertNotIn("Traceback", said)
 
-    def test_an_item_is_missing(self):
+    def test_a_proved_body_is_another(self):
         self.edit(CORE + "joining/cycle.rt", "self.kept.clone()", "self.kept.copy()")
-        self.refused(CORE + "joining/cycle.rt:1:", "fits 0 times, not 1")
+        self.refused(CORE + "joining/cycle.rt:", "is another than that for which", "Cycle.next.rs")
+        self.assertFalse(self.out.exists())
+
+    def test_a_method_stands_twice(self):
+        self.edit(CORE + "ends/rev.rt", "fn size_hint(&self)", "fn next(&self)")
+        self.refused(CORE + "ends/rev.rt:", "`next` is written twice")
+        self.assertFalse(self.out.exists())
+
+    def test_a_brace_is_not_closed(self):
+        self.edit(CORE + "ends/rev.rt", "self.it.next_back()", "{ self.it.next_back()")
+        self.refused(CORE + "ends/rev.rt:", "fits none")
+        self.edit(CORE + "ends/rev.rt", "{ self.it.next_back()", "self.it.next_back()")
+        self.edit(CORE + "ends/rev.rt", "ghost ends = {", "ghost ends = { {")
+        self.refused(CORE + "ends/rev.rt:", "the bracket `{` fits none")
+        self.assertFalse(self.out.exists())
+
+    def test_a_file_is_not_utf_8(self):
+        file = self.tree / CORE / "ends/rev.rt"
+        file.write_bytes(file.read_bytes() + b"// a line\n// \xff\n")
+        line = file.read_bytes().count(b"\n")
+        self.refused(CORE + "ends/rev.rt:%d: this is not UTF-8" % line)
         self.assertFalse(self.out.exists())
 
     def test_an_item_stands_twice(self):
@@ -65,7 +85,7 @@ class Refusals(unittest.TestCase):
 
     def test_a_body_is_changed_for_no_reason(self):
         self.edit(CORE + "ends/rev.rt", "self.it.next_back()", "std::convert::identity(self.it.next_back())")
-        self.refused("fallible_core/ends/rev.rs", "is changed, and no row says why")
+        self.refused("fallible_core/ends/rev.rs", "is changed, and no file of")
         self.assertFalse(self.out.exists())
 
     def test_the_folder_holds_something_else(self):

@@ -1,10 +1,10 @@
-//! A fold over what `next_if` takes.
+//! A fold over the items that a test accepts.
 
 use crate::fallible_core::{FallibleIterator, Peekable};
 
-/// The loop `while let Some(x) = ahead.next_if(test)? { value = f(value, x)?; }`: calls `f` on the value so far and each item in order, as long as the test returns true for the next one, and returns the last value.
+/// Calls `f` on the value so far and each item in order, as long as the test returns true for the next item, and returns the last value. The test is called once on each item that comes next, and then `f` once on an accepted one.
 ///
-/// It draws up to the first item that the test rejects, `Ok(None)`, the first failure or an item on which `f` fails. A rejected item stays next, and an `Ok(None)` is buffered. It fails with the first failure, of the source or of `f`. The iterator may be used again.
+/// It draws up to the first item that the test rejects, `Ok(None)`, the first failure or an item on which the test or `f` fails. A rejected item stays next, and an `Ok(None)` is buffered. It fails with the first failure, of the source, of the test or of `f`; an item on which either fails is lost. The iterator may be used again.
 ///
 /// Precondition, which is not checked: the iterator is finite.
 ///
@@ -19,7 +19,7 @@ use crate::fallible_core::{FallibleIterator, Peekable};
 /// fold_if(
 ///     ahead,
 ///     0,
-///     |c: &u8| c.is_ascii_digit(),
+///     |c: &u8| Ok(c.is_ascii_digit()),
 ///     |number: u32, digit: u8| Ok(
 ///         number
 ///             .wrapping_mul(10)
@@ -37,17 +37,19 @@ use crate::fallible_core::{FallibleIterator, Peekable};
 /// ```text
 /// requires can_next { (peekable_contract I.contract).can_next (peekable_parts ahead.old) }
 /// requires finite { (peekable_contract I.contract).is_finite (peekable_parts ahead.old) }
-/// requires testable { IsTestable P.Fn test
-///     ((peekable_contract I.contract).may_give (peekable_parts ahead.old)) }
-/// requires callable { IsFolding F.Fn f (MayTake P.Fn test
-///     ((peekable_contract I.contract).may_give (peekable_parts ahead.old))) }
-/// ensures value { OverListWith (LooksAs P.Fn test)
+/// requires callable { CallableInFold (peekable_contract I.contract).steps
+///     (AcceptedCall (call_at P.FnMut) (call_with F.FnMut))
+///     (accepted_takes (call_at P.FnMut) (call_with F.FnMut)
+///     (takes_at P.FnMut) (takes_with F.FnMut)) (peekable_parts ahead.old) (test, f) init }
+/// ensures folded { FoldIfDrains I.contract.steps (call_at P.FnMut) (call_with F.FnMut)
+///     (peekable_parts ahead.old) init test f result (peekable_parts ahead.new) }
+/// ensures value { OverListWith (Acts (call_at P.FnMut) test)
 ///     (seen_as peekable_parts (peekable_contract I.contract)).steps ahead.old
-///     (λ p l. (h : B → I.Item → Result B I.Error) → FoldsAs F.Fn f p h
+///     (λ p l. (h : B → I.Item → Result B I.Error) → FoldsAs (call_with F.FnMut) f p h
 ///     → result ≡ folded_if p h init l) }
-/// ensures rest { OverListWith (LooksAs P.Fn test)
+/// ensures rest { OverListWith (Acts (call_at P.FnMut) test)
 ///     (seen_as peekable_parts (peekable_contract I.contract)).steps ahead.old
-///     (λ p l. (h : B → I.Item → Result B I.Error) → FoldsAs F.Fn f p h
+///     (λ p l. (h : B → I.Item → Result B I.Error) → FoldsAs (call_with F.FnMut) f p h
 ///     → Lists (seen_as peekable_parts (peekable_contract I.contract)).steps ahead.new
 ///     (rest_fold_if p h init l)) }
 /// ensures stays { Stays (seen_as peekable_parts (peekable_contract I.contract))
@@ -57,14 +59,48 @@ use crate::fallible_core::{FallibleIterator, Peekable};
 pub fn fold_if<I, B, P, F>(ahead: &mut Peekable<I>, init: B, test: P, f: F) -> Result<B, I::Error>
 where
     I: FallibleIterator,
-    P: Fn(&I::Item) -> bool,
-    F: Fn(B, I::Item) -> Result<B, I::Error>,
+    P: FnMut(&I::Item) -> Result<bool, I::Error>,
+    F: FnMut(B, I::Item) -> Result<B, I::Error>,
 {
+    let mut test = test;
+    let mut f = f;
     let mut left = (*ahead).number();
     let mut value = init;
-    while let Some(x) = ahead.next_if(|x: &I::Item| test(x))? {
+    while let Some(x) = next_accepted(ahead, &mut test)? {
         left = left.one_less();
         value = f(value, x)?;
     }
     Ok(value)
+}
+
+// The next item, if the test accepts it, and otherwise `Ok(None)`.
+fn next_accepted<I, P>(ahead: &mut Peekable<I>, test: &mut P) -> Result<Option<I::Item>, I::Error>
+where
+    I: FallibleIterator,
+    P: FnMut(&I::Item) -> Result<bool, I::Error>,
+{
+    match ahead.fill() {
+        Ok(()) => {}
+        Err(e) => return Err(e),
+    }
+    match accepts_held(&*ahead, test) {
+        Ok(true) => ahead.next(),
+        Ok(false) => Ok(None),
+        Err(e) => match ahead.next() {
+            Ok(_) => Err(e),
+            Err(_) => unreachable!(),
+        },
+    }
+}
+
+// What the test returns on the buffered item, and false if none is buffered.
+fn accepts_held<I, P>(ahead: &Peekable<I>, test: &mut P) -> Result<bool, I::Error>
+where
+    I: FallibleIterator,
+    P: FnMut(&I::Item) -> Result<bool, I::Error>,
+{
+    match ahead.held() {
+        Some(item) => test(item),
+        None => Ok(false),
+    }
 }

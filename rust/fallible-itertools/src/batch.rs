@@ -1,7 +1,6 @@
 //! Items put one after another into a `Vec`, where an allocation may fail.
 
 use alloc::vec::Vec;
-use fallible_iterator::memory::AllocError;
 
 /// The item alone, with room for at least so many items, or for 1024 if that is less.
 ///
@@ -13,10 +12,10 @@ use fallible_iterator::memory::AllocError;
 /// ensures { IfOk result (λ v. (v.items ≡ item ∷ []) × (min room 1024 ≤ vec_capacity v)) }
 /// ```
 /// </details>
-pub fn alone<X>(room: usize, item: X) -> Result<Vec<X>, AllocError> {
+pub fn alone<X>(room: usize, item: X) -> Vec<X> {
     let mut items = Vec::with_capacity(room.min(1024));
-    pushed(&mut items, item)?;
-    Ok(items)
+    pushed(&mut items, item);
+    items
 }
 
 /// Appends the item.
@@ -34,7 +33,6 @@ pub fn alone<X>(room: usize, item: X) -> Result<Vec<X>, AllocError> {
 /// ```
 /// </details>
 #[inline(always)]
-pub fn pushed<X>(items: &mut Vec<X>, item: X) -> Result<(), AllocError> {
+pub fn pushed<X>(items: &mut Vec<X>, item: X) {
     items.push(item);
-    Ok(())
 }

@@ -93,21 +93,16 @@ fn grouped<X, K: PartialEq, E>(
     let room = match group {
         Some((of, items)) => {
             if *of == key {
-                return match pushed(items, item) {
-                    Ok(()) => Outcome::LeftOut,
-                    Err(refused) => match refused {},
-                };
+                pushed(items, item);
+                return Outcome::LeftOut;
             }
             items.len()
         }
         None => 0,
     };
-    match alone(room, item) {
-        Ok(first) => match group.replace((key, first)) {
-            Some(whole) => Outcome::Kept(whole),
-            None => Outcome::LeftOut,
-        },
-        Err(refused) => match refused {},
+    match group.replace((key, alone(room, item))) {
+        Some(whole) => Outcome::Kept(whole),
+        None => Outcome::LeftOut,
     }
 }
 

@@ -4,7 +4,6 @@ use crate::batch::{alone, pushed};
 use crate::holding::{Hold, at_stop, drive_holding, with_held};
 use alloc::vec::Vec;
 use fallible_iterator::extending::Outcome;
-use fallible_iterator::memory::AllocError;
 use fallible_iterator::{FallibleIterator, Turn};
 
 /// Batches of n items. A batch before a stop may have fewer. A batch is buffered until it has n items, or a stop comes: `Ok(None)` or a failure, which the next call returns.
@@ -94,16 +93,13 @@ impl<X, E> Hold<(usize, Option<Vec<X>>), X, E> for ChunksHold {
     #[inline(always)]
     fn ask(&self, holds: &mut (usize, Option<Vec<X>>), asked: Option<X>) -> Outcome<Vec<X>, E> {
         match asked {
-            Some(x) => match grown(holds.0, &mut holds.1, x) {
-                Ok(count) => {
-                    if count < holds.0 {
-                        Outcome::LeftOut
-                    } else {
-                        let_go(&mut holds.1)
-                    }
+            Some(x) => {
+                if grown(holds.0, &mut holds.1, x) < holds.0 {
+                    Outcome::LeftOut
+                } else {
+                    let_go(&mut holds.1)
                 }
-                Err(refused) => match refused {},
-            },
+            }
             None => let_go(&mut holds.1),
         }
     }
@@ -111,17 +107,17 @@ impl<X, E> Hold<(usize, Option<Vec<X>>), X, E> for ChunksHold {
 
 // Appends the item to the buffered batch, or to a new one with room for n, and returns how many items the batch has then.
 #[inline(always)]
-fn grown<X>(n: usize, held: &mut Option<Vec<X>>, item: X) -> Result<usize, AllocError> {
+fn grown<X>(n: usize, held: &mut Option<Vec<X>>, item: X) -> usize {
     match held {
         Some(batch) => {
-            pushed(batch, item)?;
-            Ok(batch.len())
+            pushed(batch, item);
+            batch.len()
         }
         None => {
-            let batch = alone(n, item)?;
+            let batch = alone(n, item);
             let count = batch.len();
             *held = Some(batch);
-            Ok(count)
+            count
         }
     }
 }

@@ -18,11 +18,11 @@ impl<K: Eq + Hash, V> Collect<(K, V)> for GroupMap<K, V> {
     fn push_one(&mut self, item: (K, V)) -> Result<(), AllocError> {
         let (key, value) = item;
         if let Some(values) = self.groups.get_mut(&key) {
-            pushed(values, value)?;
+            pushed(values, value);
             return Ok(());
         }
         let mut values = Vec::new();
-        pushed(&mut values, value)?;
+        pushed(&mut values, value);
         self.groups.insert(key, values);
         Ok(())
     }

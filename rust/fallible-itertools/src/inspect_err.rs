@@ -46,8 +46,6 @@ impl<I: FallibleIterator, F: FnMut(&I::Error)> FallibleIterator for InspectErr<I
         failed(self.it.nth(n), &mut self.f, &InspectErrFail)
     }
 
-    fallible_iterator::by_drive!(drive);
-
     fn count(self) -> Result<usize, Self::Error> {
         let mut f = self.f;
         failed(self.it.count(), &mut f, &InspectErrFail)
@@ -57,6 +55,8 @@ impl<I: FallibleIterator, F: FnMut(&I::Error)> FallibleIterator for InspectErr<I
         let mut f = self.f;
         failed(self.it.last(), &mut f, &InspectErrFail)
     }
+
+    fallible_iterator::by_drive!(drive);
 }
 
 impl<I: DoubleEndedFallibleIterator, F: FnMut(&I::Error)> DoubleEndedFallibleIterator

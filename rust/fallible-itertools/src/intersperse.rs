@@ -1,7 +1,6 @@
 // The adapter that puts a separator between items.
 
 use crate::parting::{Separate, drive_parting, hint_parting, next_parting};
-use fallible_iterator::memory::TryClone;
 use fallible_iterator::{FallibleIterator, Turn};
 
 /// The items of the source with a clone of the separator between each two adjacent ones. An item that was drawn is buffered while the separator before it is yielded.
@@ -54,9 +53,6 @@ struct SeparatorClone;
 impl<X: Clone, E> Separate<X, X, E> for SeparatorClone {
     #[inline(always)]
     fn separate(&self, state: &mut X) -> Result<X, E> {
-        match state.try_clone() {
-            Ok(copy) => Ok(copy),
-            Err(refused) => match refused {},
-        }
+        Ok(state.clone())
     }
 }

@@ -1,7 +1,6 @@
 // The adapter that yields each two adjacent items.
 
 use fallible_iterator::extending::{Outcome, Pass, drive_passing};
-use fallible_iterator::memory::TryClone;
 use fallible_iterator::{FallibleIterator, Turn};
 
 /// Each two adjacent items, as pairs. The last item is buffered, and the pair has a clone of it.
@@ -105,11 +104,7 @@ where
 
 // Both items. The later one is a clone of what is buffered then.
 fn pair<X: Clone, E>(holds: &mut Option<X>, y: X, x: X) -> Outcome<(X, X), E> {
-    match x.try_clone() {
-        Ok(copy) => {
-            *holds = Some(x);
-            Outcome::Kept((y, copy))
-        }
-        Err(refused) => match refused {},
-    }
+    let copy = x.clone();
+    *holds = Some(x);
+    Outcome::Kept((y, copy))
 }

@@ -2,7 +2,6 @@
 
 use core::hash::Hash;
 use fallible_iterator::extending::{FirstTurn, Outcome, Pass, drive_passing};
-use fallible_iterator::memory::TryClone;
 use fallible_iterator::{FallibleIterator, Turn};
 use std::collections::HashSet;
 
@@ -66,11 +65,6 @@ impl<X: Clone + Eq + Hash, E> Pass<HashSet<X>, X, E> for UniquePass {
 
 // An item that equals none of the set's.
 fn kept<X: Clone + Eq + Hash, E>(seen: &mut HashSet<X>, item: X) -> Outcome<X, E> {
-    match item.try_clone() {
-        Ok(copy) => {
-            seen.insert(copy);
-            Outcome::Kept(item)
-        }
-        Err(refused) => match refused {},
-    }
+    seen.insert(item.clone());
+    Outcome::Kept(item)
 }

@@ -27,7 +27,6 @@ where
     K: Comparison<L::Item, R::Item>,
 {
     let mut both = Zip { left, right };
-    let mut count = both.number();
     loop {
         let x = match both.left.next() {
             Ok(x) => x,
@@ -39,7 +38,7 @@ where
         };
         match decide::<L::Item, R::Item, K>(x, y) {
             Some(order) => return Ok(order),
-            None => count = count.one_less(),
+            None => {}
         }
     }
 }

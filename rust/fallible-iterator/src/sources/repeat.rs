@@ -1,7 +1,6 @@
 // The source of clones as items.
 
 use crate::fallible_core::FallibleIterator;
-use crate::memory::TryClone;
 use core::marker::PhantomData;
 
 /// A clone of one value as each item.
@@ -19,10 +18,7 @@ impl<T: Clone, E> FallibleIterator for Repeat<T, E> {
 
     /// Clones the value once.
     fn next(&mut self) -> Result<Option<T>, E> {
-        match self.value.try_clone() {
-            Ok(x) => Ok(Some(x)),
-            Err(refused) => match refused {},
-        }
+        Ok(Some(self.value.clone()))
     }
 
     fn size_hint(&self) -> (usize, Option<usize>) {

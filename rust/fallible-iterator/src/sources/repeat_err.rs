@@ -1,7 +1,6 @@
 // The source of clones as failures.
 
 use crate::fallible_core::FallibleIterator;
-use crate::memory::TryClone;
 use core::marker::PhantomData;
 
 /// A clone of one error as each failure.
@@ -19,10 +18,7 @@ impl<T, E: Clone> FallibleIterator for RepeatErr<T, E> {
 
     /// Clones the error once.
     fn next(&mut self) -> Result<Option<T>, E> {
-        match self.error.try_clone() {
-            Ok(e) => Err(e),
-            Err(refused) => match refused {},
-        }
+        Err(self.error.clone())
     }
 
     fn size_hint(&self) -> (usize, Option<usize>) {

@@ -104,8 +104,6 @@ impl<I: FallibleIterator> FallibleIterator for Fuse<I> {
         }
     }
 
-    crate::by_drive!(drive);
-
     fn count(self) -> Result<usize, Self::Error> {
         if self.ended {
             return Ok(0);
@@ -119,4 +117,6 @@ impl<I: FallibleIterator> FallibleIterator for Fuse<I> {
         }
         self.it.last()
     }
+
+    crate::by_drive!(drive);
 }

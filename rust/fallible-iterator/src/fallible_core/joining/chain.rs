@@ -153,10 +153,6 @@ impl<T: FallibleIterator, U: FallibleIterator<Item = T::Item, Error = T::Error>>
         }
     }
 
-    crate::by_drive!(drive);
-
-    crate::by_drive!(drive_find);
-
     fn count(self) -> Result<usize, Self::Error> {
         match self.still_drawn {
             StillDrawn::Both => Ok(self.first.count()? + self.second.count()?),
@@ -175,6 +171,10 @@ impl<T: FallibleIterator, U: FallibleIterator<Item = T::Item, Error = T::Error>>
             StillDrawn::SecondAlone => self.second.last(),
         }
     }
+
+    crate::by_drive!(drive);
+
+    crate::by_drive!(drive_find);
 }
 
 impl<

@@ -1,7 +1,6 @@
 // The adapter that starts anew at each `Ok(None)`.
 
 use crate::fallible_core::traits::FallibleIterator;
-use crate::memory::TryClone;
 
 /// What a run yields, and at its `Ok(None)` what a fresh clone of the kept source yields, and so on. The `Ok(None)` that closes a run isn't returned; an `Ok(None)` or a failure that a clone begins with is.
 #[derive(Clone, Debug)]
@@ -22,13 +21,10 @@ impl<I: FallibleIterator + Clone> FallibleIterator for Cycle<I> {
     fn next(&mut self) -> Result<Option<I::Item>, I::Error> {
         match self.it.next() {
             Ok(Some(x)) => Ok(Some(x)),
-            Ok(None) => match self.kept.try_clone() {
-                Ok(run) => {
-                    self.it = run;
-                    self.it.next()
-                }
-                Err(refused) => match refused {},
-            },
+            Ok(None) => {
+                self.it = self.kept.clone();
+                self.it.next()
+            }
             Err(e) => Err(e),
         }
     }

@@ -5,7 +5,6 @@ use crate::fallible_contract::passing::{Outcome, Pass, passed};
 use crate::fallible_core::passing::{drive_back_passing, drive_passing};
 use crate::fallible_core::traits::FallibleIterator;
 use crate::fallible_core::traits::double_ended::DoubleEndedFallibleIterator;
-use crate::memory::TryClone;
 
 /// A clone of what each item points to.
 #[derive(Clone, Debug)]
@@ -70,9 +69,6 @@ impl<'b, T: Clone + 'b, E> Pass<(), &'b T, E> for ClonePass {
 
     #[inline(always)]
     fn pass(&self, _state: &mut (), item: &'b T) -> Outcome<T, E> {
-        match T::try_clone(item) {
-            Ok(y) => Outcome::Kept(y),
-            Err(refused) => match refused {},
-        }
+        Outcome::Kept(T::clone(item))
     }
 }

@@ -51,11 +51,11 @@ impl<I: FallibleIterator> FallibleIterator for Enumerate<I> {
         self.drive(&mut left, &NthTurn)
     }
 
-    crate::by_drive!(drive);
-
     fn count(self) -> Result<usize, Self::Error> {
         self.it.count()
     }
+
+    crate::by_drive!(drive);
 }
 
 // An item with its number. Its state is the number of the next item.

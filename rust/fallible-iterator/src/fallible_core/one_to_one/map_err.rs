@@ -50,8 +50,6 @@ impl<I: FallibleIterator, B, F: FnMut(I::Error) -> B> FallibleIterator for MapEr
         failed(self.it.nth(n), &mut self.f, &MapErrFail)
     }
 
-    crate::by_drive!(drive);
-
     fn count(self) -> Result<usize, Self::Error> {
         let mut f = self.f;
         failed(self.it.count(), &mut f, &MapErrFail)
@@ -61,6 +59,8 @@ impl<I: FallibleIterator, B, F: FnMut(I::Error) -> B> FallibleIterator for MapEr
         let mut f = self.f;
         failed(self.it.last(), &mut f, &MapErrFail)
     }
+
+    crate::by_drive!(drive);
 }
 
 impl<I: DoubleEndedFallibleIterator, B, F: FnMut(I::Error) -> B> DoubleEndedFallibleIterator

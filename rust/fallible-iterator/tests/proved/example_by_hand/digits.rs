@@ -10,7 +10,7 @@ pub fn number_ahead<I: FallibleIterator<Item = u8>>(
     fold_if(
         ahead,
         0,
-        |c: &u8| c.is_ascii_digit(),
+        |c: &u8| Ok(c.is_ascii_digit()),
         |number: u32, digit: u8| {
             Ok(number
                 .wrapping_mul(10)

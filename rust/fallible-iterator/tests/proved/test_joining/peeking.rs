@@ -9,7 +9,9 @@ use crate::test_support::numbers::numbers;
 use crate::test_support::scripted::{Script, scripted};
 use crate::test_support::test_error::TestError;
 use fallible_iterator::Answer::{End, Failure, Item};
-use fallible_iterator::{Answer, FallibleIterator, IteratorExt, Peekable, convert, once, repeat};
+use fallible_iterator::{
+    Answer, FallibleIterator, IteratorExt, Peekable, convert, fold_if, once, repeat,
+};
 use std::cell::Cell;
 
 type Drawn = Result<Option<u32>, u32>;
@@ -29,9 +31,11 @@ enum Look {
     Hints(Hint),
     // a fold that adds up, and fails with 7 at 2
     Folds(Result<u32, u32>),
+    // `fold_if` of the items below 5, and what its closures were called on
+    FoldsIf(Result<u32, u32>, u64),
 }
 
-use Look::{Draws, Folds, Hints, Peeks, Takes, TakesAbove};
+use Look::{Draws, Folds, FoldsIf, Hints, Peeks, Takes, TakesAbove};
 
 fn told(answer: Drawn) -> Answer<u32, u32> {
     match answer {
@@ -54,6 +58,41 @@ fn sum_up_to_two(total: u32, x: u32) -> Result<u32, u32> {
     }
 }
 
+// Puts two digits behind the number.
+fn put_behind(calls: &Cell<u64>, digits: u32) {
+    calls.set(
+        calls
+            .get()
+            .wrapping_mul(100)
+            .wrapping_add(u64::from(digits)),
+    );
+}
+
+// Puts the items below 5 behind one another. Beside it stand the calls in order: the test on an item x is 1x, the closure on it 2x. The test fails with 70 at 7, the closure with 40 at 4.
+fn fold_below_five<I>(it: &mut Peekable<I>) -> (Result<u32, u32>, u64)
+where
+    I: FallibleIterator<Item = u32, Error = u32>,
+{
+    let calls = Cell::new(0u64);
+    let value = fold_if(
+        it,
+        0u32,
+        |x: &u32| {
+            put_behind(&calls, x.wrapping_add(10));
+            if *x == 7 { Err(70) } else { Ok(*x < 5) }
+        },
+        |value: u32, x: u32| {
+            put_behind(&calls, x.wrapping_add(20));
+            if x == 4 {
+                Err(40)
+            } else {
+                Ok(value.wrapping_mul(10).wrapping_add(x))
+            }
+        },
+    );
+    (value, calls.get())
+}
+
 // Makes the calls of what looks ahead in a script, one after another. Fails the test where one returns otherwise.
 fn expect_looks(script: &[Drawn], expected: &[Look]) -> Result<(), Fail> {
     let answers = script.to_vec().into_iter();
@@ -66,6 +105,10 @@ fn expect_looks(script: &[Drawn], expected: &[Look]) -> Result<(), Fail> {
             Takes(wanted, _) => Takes(*wanted, told(it.next_if_eq(wanted))),
             Hints(_) => Hints(it.size_hint()),
             Folds(_) => Folds(it.try_fold(0, sum_up_to_two)),
+            FoldsIf(_, _) => {
+                let (value, calls) = fold_below_five(&mut it);
+                FoldsIf(value, calls)
+            }
         };
         if made != *call {
             return Err(Fail::new(format_args!("{made:?}, and not {call:?}")));
@@ -239,6 +282,113 @@ fn a_held_answer_belongs_to_one_fold() {
         expect_each(&FOLDS)
     }
     let _ = tested();
+}
+
+const FOLDS_IF: [Row; 6] = [
+    // a rejected item stays next, and the test is called on it again
+    (
+        &[Ok(Some(1)), Ok(Some(2)), Ok(Some(9)), Ok(Some(3))],
+        &[
+            FoldsIf(Ok(12), 11_21_12_22_19),
+            FoldsIf(Ok(0), 19),
+            Peeks(Item(9)),
+            Draws(Item(9)),
+            FoldsIf(Ok(3), 13_23),
+            Draws(End),
+        ],
+    ),
+    // an end is buffered, and nothing is drawn behind it
+    (
+        &[Ok(Some(1)), Ok(None), Ok(Some(2)), Ok(None), Ok(Some(3))],
+        &[
+            FoldsIf(Ok(1), 11_21),
+            Peeks(End),
+            Draws(End),
+            FoldsIf(Ok(2), 12_22),
+            FoldsIf(Ok(0), 0),
+            Draws(End),
+            Draws(Item(3)),
+        ],
+    ),
+    // a failure of the source isn't buffered
+    (
+        &[Ok(Some(1)), Err(8), Ok(Some(2)), Ok(Some(6))],
+        &[
+            FoldsIf(Err(8), 11_21),
+            FoldsIf(Ok(2), 12_22_16),
+            Draws(Item(6)),
+            Draws(End),
+        ],
+    ),
+    // an item on which the test fails is lost
+    (
+        &[Ok(Some(3)), Ok(Some(7)), Ok(Some(6)), Ok(Some(1))],
+        &[FoldsIf(Err(70), 13_23_17), Draws(Item(6)), Draws(Item(1))],
+    ),
+    // an item on which the closure fails is lost
+    (
+        &[Ok(Some(3)), Ok(Some(4)), Ok(Some(6)), Ok(Some(1))],
+        &[
+            FoldsIf(Err(40), 13_23_14_24),
+            Draws(Item(6)),
+            Draws(Item(1)),
+        ],
+    ),
+    // what is buffered comes first
+    (
+        &[Ok(Some(2)), Ok(Some(5)), Ok(None), Ok(Some(1))],
+        &[
+            Peeks(Item(2)),
+            FoldsIf(Ok(2), 12_22_15),
+            Draws(Item(5)),
+            Peeks(End),
+            FoldsIf(Ok(0), 0),
+            Draws(End),
+            Draws(Item(1)),
+        ],
+    ),
+];
+
+#[test]
+fn fold_if_calls_each_closure_once_an_item() {
+    fn tested() -> Result<(), Fail> {
+        expect_each(&FOLDS_IF)
+    }
+    let _ = tested();
+}
+
+#[test]
+fn fold_if_keeps_what_its_closures_changed() {
+    let answers = [Ok(1), Ok(2), Ok(3), Err(4)];
+    let mut it = numbers(&answers).peekable();
+    let mut tested = 0u32;
+    let mut folded = 0u32;
+    let value = fold_if(
+        &mut it,
+        0u32,
+        |_x: &u32| {
+            tested = tested.wrapping_add(1);
+            Ok(tested < 3)
+        },
+        |value: u32, x: u32| {
+            folded = folded.wrapping_add(1);
+            Ok(value.wrapping_add(x))
+        },
+    );
+    assert_eq!((value, it.next()), (Ok(3), Ok(Some(3))));
+    assert_eq!((tested, folded), (3, 2));
+}
+
+#[test]
+fn look_calls_its_closure_once() {
+    let calls = Cell::new(0u32);
+    let answers = [Ok(1), Err(2)];
+    let mut it = numbers(&answers).peekable();
+    let looked = it.look(|x: &u32| {
+        calls.set(calls.get().wrapping_add(1));
+        *x
+    });
+    assert_eq!((looked, calls.get()), (Ok(Some(1)), 1));
 }
 
 #[test]

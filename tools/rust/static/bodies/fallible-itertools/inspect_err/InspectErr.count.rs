@@ -1,0 +1,6 @@
+// new: by the source's own, as the original's
+// in: FallibleIterator for InspectErr
+fn count(self) -> Result<usize, Self::Error> {
+    let mut f = self.f;
+    failed(self.it.count(), &mut f, &InspectErrFail)
+}

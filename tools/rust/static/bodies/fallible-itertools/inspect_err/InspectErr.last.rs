@@ -1,0 +1,6 @@
+// new: by the source's own, as the original's
+// in: FallibleIterator for InspectErr
+fn last(self) -> Result<Option<Self::Item>, Self::Error> {
+    let mut f = self.f;
+    failed(self.it.last(), &mut f, &InspectErrFail)
+}

@@ -1,0 +1,16 @@
+// changed: the fold of the proved `collect`, into an empty map
+// proved: f4e7ac16
+fn into_group_map<K, V>(mut self) -> Result<HashMap<K, Vec<V>>, Self::Error>
+where
+    Self: FallibleIterator<Item = (K, V)>,
+    K: Eq + Hash,
+{
+    let mut made = GroupMap {
+        groups: HashMap::new(),
+    };
+    match self.drive(&mut made, &CollectTurn) {
+        Ok(None) => Ok(made.groups),
+        Ok(Some(refused)) => match refused {},
+        Err(e) => Err(e),
+    }
+}

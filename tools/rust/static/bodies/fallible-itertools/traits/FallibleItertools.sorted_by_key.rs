@@ -1,0 +1,12 @@
+// changed: no allocator is passed
+// proved: 880238bf
+fn sorted_by_key<K, F>(
+    self,
+    f: F,
+) -> Result<Vec<Self::Item>, Self::Error>
+where
+    K: Ord,
+    F: FnMut(&Self::Item) -> K,
+{
+    sorted_items_by_key(self.collect(), f)
+}
