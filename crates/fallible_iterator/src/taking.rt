@@ -18,16 +18,15 @@ use fallible_core::{FallibleIterator, Peekable};
 /// Requires that `next` may be called and that the iterator is finite, that the test may be called on a reference to each item that may come after accepted ones, and `f` on the value so far and each such item for which the test may return true.
 ///
 /// ```
-/// fold_if(
-///     ahead,
+/// let mut it = convert([Ok::<u32, u8>(1), Ok(2), Ok(30), Ok(4)].into_iter()).peekable();
+/// let read = fold_if(
+///     &mut it,
 ///     0,
-///     |c: &u8| Ok(c.is_ascii_digit()),
-///     |number: u32, digit: u8| Ok(
-///         number
-///             .wrapping_mul(10)
-///             .wrapping_add(u32::from(digit.saturating_sub(b'0'))),
-///     ),
-/// )
+///     |digit| Ok(*digit < 10),
+///     |number: u32, digit: u32| Ok(number.wrapping_mul(10).wrapping_add(digit)),
+/// );
+/// assert_eq!(rt; read, Ok(12));
+/// assert_eq!(rt; it.next(), Ok(Some(30)));
 /// ```
 pub fn fold_if<I, B, P, F>(ahead: &mut Peekable<I>, init: B, test: P, f: F) -> Result<B, I::Error>
 where

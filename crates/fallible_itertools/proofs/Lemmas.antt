@@ -48,4 +48,5 @@ pub mod Unique
 pub mod UniqueOf
 pub mod WindowHints
 pub mod WithPosition
+pub mod WithPositionHints
 pub mod ZipLongest

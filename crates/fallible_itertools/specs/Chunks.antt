@@ -4,7 +4,7 @@ use Rattle.fallible_iterator.specs.Traces.{Answered}
 use Rattle.fallible_iterator.specs.Contract.{Contract}
 use Rattle.fallible_itertools.specs.Batch.{Grown, NoRoom, SameHeld, IsRefusal}
 use Rattle.fallible_iterator.specs.Hints.{fitting_sum}
-use Rattle.fallible_itertools.specs.Holding.{HoldingTrace, filling_contract, held_one}
+use Rattle.fallible_itertools.specs.Holding.{HintUnlessEnd, HoldingTrace, filling_contract, held_one}
 use Rattle.fallible_iterator.specs.Outcome.{Outcome}
 use Rattle.fallible_iterator.specs.Outcome.TheVariants.{Kept, LeftOut, Failure, End}
 use Rattle.std.specs.declared.vec.Vec.{Vec}
@@ -51,10 +51,9 @@ room_left n (Some v) = max 1 (n - length (vec_items v))
 abbrev pub begun : ℕ → ℕ → ℕ → ℕ
 begun n room k = cond (leb k room) 0 (1 + (k - 1 - room) / max n 1)
 
--- At least the batch that is held and those that the source's items begin, and at most the one that is held and as many as the source has items, if that fits. None if a stop is due.
+-- At least the batch that is held and those that the source's items begin, and at most the one that is held and as many as the source has items, if that fits. None if an end is due.
 abbrev pub chunks_hints : {S A E : Type 0} → Contract S A E → S × ((ℕ × Option (Vec A Global)) × Option (Option E)) → ℕ × Option ℕ → Type 0
-chunks_hints m (s, (p, Some stop)) h = h ≡ (0, Some 0)
-chunks_hints m (s, (p, None)) h = (k : ℕ × Option ℕ) × m.hints s k × (h.0 ≡ held_one p.1 + begun p.0 (room_left p.0 p.1) k.0) × (h.1 ≡ fitting_sum k.1 (Some (held_one p.1)))
+chunks_hints m (s, (p, due)) h = HintUnlessEnd due (λ j. (k : ℕ × Option ℕ) × m.hints s k × (j.0 ≡ held_one p.1 + begun p.0 (room_left p.0 p.1) k.0) × (j.1 ≡ fitting_sum k.1 (Some (held_one p.1)))) h
 
 -- `Chunks`' contract. It requires no bound of the source: one draw leaves out fewer items than a batch has.
 abbrev pub chunks_contract : {S A E : Type 0} → (AllocError → E → Type 0) → Contract S A E → Contract (S × ((ℕ × Option (Vec A Global)) × Option (Option E))) (Vec A Global) E

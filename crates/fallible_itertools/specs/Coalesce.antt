@@ -41,6 +41,11 @@ coalesce_takes takes (Some y, f) (Some x) = takes f y x
 abbrev pub coalesce_contract : {S A F E : Type 0} → Contract S A E → Mut F (A × (A × Unit {0})) (OneOrBoth A E) → Contract (S × ((Option A × F) × Option (Option E))) A E
 coalesce_contract m g = holding_contract m (coalesce_asks (call_with g)) (coalesce_takes (takes_with g)) held_beside (one_at_least m held_beside)
 
+-- The closure returns two items that it keeps apart as they are, and what it makes of the second one and the next is still apart from the first.
+pub record KeepsApart {A E : Type 0} (h : A → A → OneOrBoth A E) : Type 0 where
+  pub as_they_are : (x y : A) (both : A × A) → h x y ≡ Ok (Err both) → both ≡ (x, y)
+  pub stays : (x y z w : A) → h x y ≡ Ok (Err (x, y)) → h y z ≡ Ok (Ok w) → h x w ≡ Ok (Err (x, w))
+
 -- the source
 abbrev pub coalesce_source : {I A E F : Type 0} → Coalesce I F A E → I
 coalesce_source s = s.it

@@ -26,6 +26,7 @@ due_answer (Some stop) = stop_answer stop ∷ []
 abbrev pub asks_item : {P X B E : Type 0} → (P → Option X → Outcome B E → P → Type 0) → P → X → Outcome B E → P → Type 0
 asks_item asks p x o q = asks p (Some x) o q
 
+-- for an item the adapter returns the outcome as it is
 abbrev pub as_answered_item : {X B E : Type 0} → X → Outcome B E → Outcome B E
 as_answered_item x o = o
 
@@ -156,6 +157,7 @@ module _ {P X B E C R : Type 0} (asks : P → Option X → Outcome B E → P →
   TurnBefore stop c End r due d = (r ≡ stop_answer stop) × (due ≡ None) × (d ≡ c)
   TurnBefore stop c LeftOut r due d = ⊥
 
+  -- The adapter is called on the stop. The caller's turn is taken on what it returns, and then the stop comes.
   abbrev pub StoppedBehind : Option E → P × C → Answered R E → P × Option (Option E) → C → Type 0
   StoppedBehind stop (p, c) r (q, due) d = (o : Outcome B E) × asks p None o q × TurnBefore stop c o r due d
 
@@ -170,11 +172,20 @@ held_one None = 0
 abbrev pub held_beside : {A F : Type 0} → Option A × F → ℕ
 held_beside p = held_one p.0
 
--- the hint where no stop is due: at least one where the source has at least one or one is held, and at most what the source has and what is held, where that fits
+-- the hint where no end is due: at least one where the source has at least one or one is held, and at most what the source has and what is held, where that fits
 abbrev pub HintHeld : ℕ → ℕ × Option ℕ → ℕ × Option ℕ → Type 0
 HintHeld held k h = (h.0 ≡ min (k.0 + held) 1) × (h.1 ≡ fitting_sum k.1 (Some held))
 
--- The hint of an adapter that holds: none if a stop is due, and otherwise `HintHeld` of the source's.
+-- a hint where an end is due: no item comes before it; otherwise Q says which, also where a failure is due, after which more may come
+abbrev pub HintUnlessEnd : {E : Type 0} → Option (Option E) → (ℕ × Option ℕ → Type 0) → ℕ × Option ℕ → Type 0
+HintUnlessEnd (Some None) Q h = h ≡ (0, Some 0)
+HintUnlessEnd (Some (Some e)) Q h = Q h
+HintUnlessEnd None Q h = Q h
+
+-- The hint of an adapter that holds: none if an end is due, and otherwise `HintHeld` of the source's.
 abbrev pub one_at_least : {S P X E : Type 0} → Contract S X E → (P → ℕ) → S × (P × Option (Option E)) → ℕ × Option ℕ → Type 0
-one_at_least m held (s, (p, Some stop)) h = h ≡ (0, Some 0)
-one_at_least m held (s, (p, None)) h = (k : ℕ × Option ℕ) × m.hints s k × HintHeld (held p) k h
+one_at_least m held (s, (p, due)) h = HintUnlessEnd due (λ j. (k : ℕ × Option ℕ) × m.hints s k × HintHeld (held p) k j) h
+
+-- If s returns the failure e, each hint that s may return is one that the value after it may return.
+abbrev pub HintsPastFailure : {S B E : Type 0} → Contract S B E → S → E → Type 0
+HintsPastFailure {S = S} m s e = (t : S) (h : ℕ × Option ℕ) → m.steps s (Err e) t → m.hints s h → m.hints t h

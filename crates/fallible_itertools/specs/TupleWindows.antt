@@ -12,11 +12,11 @@ use Rattle.fallible_iterator.specs.Outcome.TheVariants.{Kept, LeftOut, Failure, 
 use Rattle.fallible_itertools.specs.declared.tuple_windows.TupleWindows.{TupleWindows}
 
 module _ {A E : Type 0} (is_clone : A → A → Type 0) (is_infallible : A → Type 0) (from : AllocError → E → Type 0) where
-  -- an item beside the one before it: both are yielded, the later one as a clone; if that fails to allocate, the failure converted from its `AllocError` is, and the later one is lost
+  -- an item beside the one before it: both are yielded, the later one as a clone; if that fails to allocate, the failure converted from its `AllocError` is, and the earlier one is lost. The later one is held then.
   abbrev pub window_at : A → A → Outcome (A × A) E → Option A → Type 0
   window_at y x (Kept both) q = (both.0 ≡ y) × is_clone x both.1 × (q ≡ Some x)
   window_at y x LeftOut q = ⊥
-  window_at y x (Failure e) q = RefusedAs is_infallible from x e × (q ≡ Some y)
+  window_at y x (Failure e) q = RefusedAs is_infallible from x e × (q ≡ Some x)
   window_at y x End q = ⊥
 
   -- The last item is held. The first one is left out.

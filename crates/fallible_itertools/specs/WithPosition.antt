@@ -1,8 +1,9 @@
 -- `WithPosition`, which yields each item with its position among the items between two stops.
-use Rattle.std.specs.Prelude.{◌≡◌, Bool, true, false, Option, Some, None, Result, Ok, Err, List, [], ◌∷◌, ⊤}
+use Rattle.std.specs.Prelude.{◌≡◌, ℕ, Bool, true, false, Option, Some, None, Result, Ok, Err, List, [], ◌∷◌, ⊤}
 use Rattle.fallible_iterator.specs.Traces.{Answered}
 use Rattle.fallible_iterator.specs.Contract.{Contract}
-use Rattle.fallible_itertools.specs.Holding.{HoldingTrace, holding_contract, held_one, one_at_least}
+use Rattle.fallible_iterator.specs.Hints.{hint_sum}
+use Rattle.fallible_itertools.specs.Holding.{HintUnlessEnd, HoldingTrace, filling_contract, held_one}
 use Rattle.fallible_iterator.specs.Outcome.{Outcome}
 use Rattle.fallible_iterator.specs.Outcome.TheVariants.{Kept, LeftOut, End}
 use Rattle.fallible_itertools.specs.declared.with_position.Position.{Position}
@@ -30,9 +31,13 @@ position_asks (Some p) None o q = (o ≡ Kept (position_before_stop p.0, p.1)) �
 abbrev pub WithPositionTrace : {S A E : Type 0} → (S → Answered A E → S → Type 0) → S × (Option (Bool × A) × Option (Option E)) → List (Answered (Position × A) E) → S × (Option (Bool × A) × Option (Option E)) → Type 0
 WithPositionTrace steps p trace q = HoldingTrace steps position_asks p trace q
 
--- `WithPosition`'s contract
+-- None if an end is due, and otherwise the source's hint and the item that is held, since every item is yielded.
+abbrev pub with_position_hints : {S A E : Type 0} → Contract S A E → S × (Option (Bool × A) × Option (Option E)) → ℕ × Option ℕ → Type 0
+with_position_hints m (s, (p, due)) h = HintUnlessEnd due (λ j. (k : ℕ × Option ℕ) × m.hints s k × (j ≡ hint_sum k (held_one p, Some (held_one p)))) h
+
+-- `WithPosition`'s contract. It requires no bound of the source: one draw leaves out one item at most.
 abbrev pub with_position_contract : {S A E : Type 0} → Contract S A E → Contract (S × (Option (Bool × A) × Option (Option E))) (Position × A) E
-with_position_contract m = holding_contract m position_asks (λ p x. ⊤) held_one (one_at_least m held_one)
+with_position_contract m = filling_contract m position_asks (λ p x. ⊤) held_one (with_position_hints m)
 
 -- ---- what it lists
 

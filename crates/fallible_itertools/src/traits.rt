@@ -46,7 +46,7 @@ ghost use Rattle.fallible_itertools.specs.Sides.{OverBothForGood};
 ghost use Rattle.fallible_itertools.specs.FindOrLast.{FoundOrLast, found_or_last};
 ghost use Rattle.fallible_itertools.specs.IsSorted.{ItselfCall, OrderCall, in_order, in_order_by_key};
 ghost use Rattle.fallible_itertools.specs.FoldWhile.{WhileCall, FoldWhileDrains, folded_while, rest_while};
-ghost use Rattle.fallible_itertools.specs.Sorted.{CollectsSorted, IsSortedByCalls, IsSortedByKeyOf, IsSortedOf};
+ghost use Rattle.fallible_itertools.specs.Sorted.{CollectsSorted, HasItems, IsSortedByCalls, IsSortedByKeyOf, IsSortedOf};
 ghost use Rattle.fallible_itertools.specs.TakeWhileInclusive as inclusive;
 ghost use Rattle.fallible_itertools.specs.CheckedSum.{TotalDrains, totalled};
 ghost use Rattle.fallible_itertools.specs.TupleWindows.{tuple_windows_contract, tuple_windows_parts, windowed};
@@ -252,9 +252,9 @@ pub trait FallibleItertools: FallibleIterator {
 
     /// Yields each item with its [`Position`](crate::Position): `First`, `Middle`, `Last` or `Only`.
     ///
-    /// Creating it draws nothing. An item is buffered until another item comes, or a stop: `Ok(None)` or a failure. `next` draws up to that. The buffered item is yielded first, and is the `Last` one before a stop. The stop is what the next call returns, without a draw. After a stop nothing is buffered, and the next item is `First` or `Only`.
+    /// Creating it draws nothing. An item is buffered until another item comes, or a stop: `Ok(None)` or a failure. `next` draws once if an item is buffered, and otherwise twice, or up to a stop. The buffered item is yielded first, and is the `Last` one before a stop. The stop is what the next call returns, without a draw. After a stop nothing is buffered, and the next item is `First` or `Only`.
     ///
-    /// Requires nothing. `next` requires what that of `dedup` requires.
+    /// Requires nothing. `next` requires that it may be called on the source.
     ///
     /// ```
     /// let letters = [Ok::<char, u8>('a'), Ok('b'), Ok('c')];
@@ -283,7 +283,7 @@ pub trait FallibleItertools: FallibleIterator {
 
     /// Yields each two adjacent items as a pair. The later one of a pair is a clone.
     ///
-    /// Creating it draws nothing. `next` draws once, and twice for the first pair. It fails as the source does. If a clone can't be allocated, the failure converted from `AllocError` is yielded, and the later item is lost. The last item stays buffered at a failure and at an `Ok(None)`, so the next pair begins with it.
+    /// Creating it draws nothing. `next` draws once, and twice for the first pair. It fails as the source does. If a clone can't be allocated, the failure converted from `AllocError` is yielded in place of that pair, and the next pair begins with the later item. So each pair is of two adjacent items. The last item stays buffered at a failure and at an `Ok(None)`, so the next pair begins with it.
     ///
     /// Requires nothing. `next` requires that it may be called on the source.
     ///
@@ -784,9 +784,9 @@ pub trait FallibleItertools: FallibleIterator {
 
     /// Replaces each failure by what the closure returns for it: an item, nothing or another failure.
     ///
-    /// Creating it draws nothing. `next` draws up to an item, an `Ok(None)`, or a failure for which the closure returns an item or fails. It calls the closure once on each failure. It fails with the closure's failures alone. After a failure and after `Ok(None)` the next call draws again. It is double-ended if the source is.
+    /// Creating it draws nothing. `next` draws up to an item, an `Ok(None)`, or a failure for which the closure returns an item or fails. It calls the closure once on each failure. It fails with the closure's failures alone. After a failure and after `Ok(None)` the next call draws again. It is double-ended if the source is. In Rust `or_else(|_| Ok(None))` over a source that fails for ever never returns from `next`.
     ///
-    /// Requires that the closure may be called on each failure that may come. `next` requires that it may be called on the source, that the source is finite, and that its items and failures together have a bound, since one call may leave many failures out.
+    /// Requires that the closure may be called on each failure that may come. `next` requires that it may be called on the source, that the source is finite, and that its items and failures together have a bound, since one call may leave many failures out. `take(n)` before it bounds the items alone. `convert(rows.iterator().take(n))` takes n answers of `rows`, items and failures together.
     ///
     /// ```
     /// let readings = [Ok::<u32, u8>(150), Err(1), Err(2), Err(9)];
@@ -1229,7 +1229,7 @@ pub trait FallibleItertools: FallibleIterator {
         sorted_items(self.collect(alloc))
     }
 
-    /// Returns the items in a `Vec`, in the order of the keys that the closure returns for them. Items with equal keys keep their order.
+    /// Returns the items in a `Vec`, in the order of the keys that the closure returns for them. Items with equal keys keep their order. If the closure returns other keys for an item from call to call, it returns the items in any order, each of them once.
     ///
     /// Draws and errors: as `sorted`. The closure doesn't fail; a key that may fail is made by `map` before. The closure is called after the last draw, on an item as often as its key is compared. It consumes the iterator, and no clause says what is left.
     ///
@@ -1260,6 +1260,8 @@ pub trait FallibleItertools: FallibleIterator {
         ensures contents { (key : Self.Item → K) → ComputesKey F.FnMut key f
             → OverList Self.contract.steps self
             (λ l. IfOk result (list.MadeOf (IsSortedByKeyOf key K.cmp) (list.collected l))) }
+        ensures items { OverList Self.contract.steps self
+            (λ l. list.CollectedAs HasItems l result) }
         ensures failure { OverList Self.contract.steps self
             (λ l. (e : Self.Error) → result ≡ Err (Source e) → list.collected l ≡ Err e) }
     {

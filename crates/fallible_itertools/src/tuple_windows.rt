@@ -127,7 +127,7 @@ where
     }
 }
 
-// Both items. The later one is a clone of what is buffered then.
+// Both items, the later one as a clone. The later one is buffered then, also if its clone fails.
 fn pair<X: Clone + Drop, E: From<AllocError>>(
     holds: &mut Option<X>,
     y: X,
@@ -141,7 +141,7 @@ fn pair<X: Clone + Drop, E: From<AllocError>>(
             Outcome::Kept((y, copy))
         }
         Err(refused) => {
-            *holds = Some(y);
+            *holds = Some(x);
             Outcome::Failure(E::from(refused))
         }
     }

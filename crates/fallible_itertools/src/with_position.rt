@@ -1,13 +1,13 @@
 // The adapter that yields each item with its position.
-ghost use Rattle.std.specs.Prelude.{◌≡◌, ⊤, Bool, Option, Result};
+ghost use Rattle.std.specs.Prelude.{◌≡◌, ⊤, Bool, None, Option, Result, Some};
 ghost use Rattle.fallible_iterator.specs.Contract.{seen_as};
 ghost use Rattle.fallible_iterator.specs.Laws.Contract.{lawful_seen};
-ghost use Rattle.fallible_itertools.specs.Holding.{held_one};
+ghost use Rattle.fallible_itertools.specs.Holding.{held_one, holding_step};
 ghost use Rattle.fallible_itertools.specs.WithPosition.{position_asks, position_before_item, position_before_stop, with_position_contract, with_position_parts};
 ghost use Rattle.fallible_itertools.specs.Laws.WithPosition.{holds_with_position, lawful_with_position};
 
-use crate::holding::{Hold, drive_holding, with_held};
-use fallible_iterator::extending::{FirstTurn, Outcome};
+use crate::holding::{Hold, drive_holding};
+use fallible_iterator::extending::{Outcome, sum};
 use fallible_iterator::{FallibleIterator, Turn};
 use std::mem;
 
@@ -45,16 +45,31 @@ where
 
     ghost contract = { seen_as with_position_parts (with_position_contract I.contract) };
 
-    /// Returns the stop that is due, without a draw. Otherwise it draws one item after the buffered one, or a stop; two items if none is buffered.
+    /// Returns the stop that is due, without a draw. Otherwise it draws once if an item is buffered, and otherwise twice, or up to a stop.
     fn next(&mut self) -> Result<Option<(Position, I::Item)>, I::Error> {
-        self.drive(&mut (), &FirstTurn)
+        match self.due.take() {
+            Some(Some(e)) => Err(e),
+            Some(None) => Ok(None),
+            None => match self.held.take() {
+                Some(before) => behind(&mut self.it, &mut self.held, &mut self.due, before),
+                None => match self.it.draw() {
+                    Ok(Some(first)) => {
+                        behind(&mut self.it, &mut self.held, &mut self.due, (false, first))
+                    }
+                    Ok(None) => Ok(None),
+                    Err(e) => Err(e),
+                },
+            },
+        }
     }
 
     fn size_hint(&self) -> (usize, Option<usize>) {
-        if self.due.is_some() {
-            (0, Some(0))
-        } else {
-            with_held(self.it.size_hint(), self.held.is_some())
+        match self.due {
+            Some(None) => (0, Some(0)),
+            _ => {
+                let held = if self.held.is_some() { 1 } else { 0 };
+                sum(self.it.size_hint(), (held, Some(held)))
+            }
         }
     }
 
@@ -74,6 +89,39 @@ where
     }
 
     ghost lawful = { lawful_seen with_position_parts (lawful_with_position I.lawful) };
+}
+
+// One draw after that item, which is yielded in any case. It is buffered no more, and no stop is due.
+fn behind<I: FallibleIterator>(
+    it: &mut I,
+    held: &mut Option<(bool, I::Item)>,
+    due: &mut Option<Option<I::Error>>,
+    before: (bool, I::Item),
+) -> Result<Option<(Position, I::Item)>, I::Error>
+where
+    I::Item: Drop,
+    I::Error: Drop,
+    requires none_held { held.old ≡ None }
+    requires none_due { due.old ≡ None }
+    requires can_next { I.contract.can_next it.old }
+    ensures { holding_step position_asks I.contract.steps (it.old, (Some before, None)) result
+        (it.new, (held.new, due.new)) }
+{
+    let (is_later, item) = before;
+    match it.next() {
+        Ok(Some(x)) => {
+            *held = Some((true, x));
+            Ok(Some((before_item(is_later), item)))
+        }
+        Ok(None) => {
+            *due = Some(None);
+            Ok(Some((before_stop(is_later), item)))
+        }
+        Err(e) => {
+            *due = Some(Some(e));
+            Ok(Some((before_stop(is_later), item)))
+        }
+    }
 }
 
 // What becomes of an item after the buffered one.

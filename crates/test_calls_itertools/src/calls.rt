@@ -5,6 +5,7 @@ use fallible_iterator::{FallibleIterator, convert};
 use fallible_itertools::MinMaxResult::MinMax;
 use fallible_itertools::{
     DoubleEndedFallibleItertools, FallibleItertools, FoldWhile, MinMaxResult, NotOne, PeekingNext,
+    Position,
 };
 use std::alloc::{AllocError, Global};
 use std::test::Fail;
@@ -114,6 +115,12 @@ fn adapters_that_hold_fold_up_to_an_end(rt: HostRuntime) -> Result<(), Fail> {
         .chunks(alloc, 2)
         .map(|batch| Ok(batch.len()));
     assert_eq!(rt; (twos.next(), log.take()), (Ok(Some(2)), TWO_NEXTS));
+    // One of `with_position` is a draw, and two where nothing is held.
+    let mut placed = one_one_two(alloc, &log)?
+        .with_position()
+        .map(|placed: (Position, u32)| Ok(placed.1));
+    assert_eq!(rt; (placed.next(), log.take()), (Ok(Some(1)), TWO_NEXTS));
+    assert_eq!(rt; (placed.next(), log.take()), (Ok(Some(1)), ONE_NEXT));
     Ok(())
 }
 

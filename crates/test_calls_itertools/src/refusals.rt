@@ -91,7 +91,7 @@ const OF_COALESCE: NumbersCase = Case {
     expected: &[Item(2), Item(3), End],
 };
 
-const OF_WITH_POSITION: Asks<'static> = ("WithPosition", 2, [UP_TO_THREE, NONE]);
+const OF_WITH_POSITION: Asks<'static> = ("WithPosition", 2, [(3, Some(3)), NONE]);
 
 // The key is a request too. It is 1 of 2 and of 3.
 const OF_DEDUP_BY_KEY: NumbersCase = Case {
@@ -262,15 +262,15 @@ fn refused_clones_of_adapters_that_hold_nothing_or_join(rt: HostRuntime) -> Resu
     expect_refused_clones_of_asking(&rt, &r, &mut it, &OF_MERGE_BY)
 }
 
-// The later item of the pair is lost, and the earlier one stays held. In the last row no allocation fails.
+// The pair is lost, and the next one begins with its later item. In the last row no allocation fails.
 #[test]
-fn tuple_windows_loses_the_item_whose_clone_is_refused(rt: HostRuntime) -> Result<(), Fail> {
+fn tuple_windows_keeps_the_item_whose_clone_is_refused(rt: HostRuntime) -> Result<(), Fail> {
     let r = Requests::refusing(u32::MAX);
     let pair = |x: u32, y: u32| Item((Number::new(x, &r), Number::new(y, &r)));
     let refused = || Failure(TestError::Memory);
     let rows = [
-        [refused(), pair(1, 3), pair(3, 4), End],
-        [pair(1, 2), refused(), pair(2, 4), End],
+        [refused(), pair(2, 3), pair(3, 4), End],
+        [pair(1, 2), refused(), pair(3, 4), End],
         [pair(1, 2), pair(2, 3), refused(), End],
         [pair(1, 2), pair(2, 3), pair(3, 4), End],
     ];

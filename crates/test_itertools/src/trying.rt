@@ -1,7 +1,7 @@
 // Searches whose closure fails with an error of its own end with the item that decides, and the next draw goes on after it.
 ghost use Rattle.std.specs.Prelude.{◌^◌, ◌-◌};
 
-use crate::rows::{Drawn, expect_same};
+use crate::rows::{Drawn, expect_same, script};
 use fallible_iterator::FallibleIterator;
 use fallible_itertools::FallibleItertools;
 use std::test::Fail;
@@ -91,4 +91,12 @@ fn searches_end_with_the_item_that_decides_or_with_either_failure() -> Result<()
         expect_same(&(place, it.next()), expected)?;
     }
     Ok(())
+}
+
+// What stands behind an end is not looked at.
+#[test]
+fn try_find_ends_with_its_iterator(rt: HostRuntime) -> Result<(), Fail> {
+    let mut it = script(&rt, &[Ok(Some(5)), Ok(None), Ok(Some(6))])?;
+    let found = it.try_find(|x: &u32| -> Result<bool, Failed> { Ok(*x == 6) });
+    expect_same(&(found, it.next()), &(Ok(None), Ok(Some(6))))
 }

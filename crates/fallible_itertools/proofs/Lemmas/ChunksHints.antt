@@ -11,7 +11,7 @@ use Rattle.fallible_iterator.proofs.Lemmas.Hints.Drawn.{brackets_seen, as_sound_
 use Rattle.fallible_itertools.specs.Chunks.{batch_held, begun, chunks_asks, chunks_contract, chunks_due, chunks_hints, chunks_parts, room_left}
 use Rattle.fallible_itertools.specs.Batch.{Grown}
 use Rattle.fallible_iterator.specs.Hints.{fitting_sum}
-use Rattle.fallible_itertools.specs.Holding.{asks_item, as_answered_item, BeforeStop, AnswersAfter, held_one, holding_step}
+use Rattle.fallible_itertools.specs.Holding.{asks_item, as_answered_item, BeforeStop, AnswersAfter, HintUnlessEnd, held_one, holding_step}
 use Rattle.fallible_itertools.specs.Laws.Chunks.{holds_chunks}
 use Rattle.fallible_itertools.proofs.Lemmas.HoldingHints.{GivesHeld, bounds_above_held, brackets_due_sound}
 use Rattle.fallible_iterator.specs.Outcome.{Outcome}
@@ -158,8 +158,8 @@ module _ {S A E : Type 0} (from : AllocError → E → Type 0) (steps : S → An
     below = λ b. subst (λ (n : ℕ). BoundsBelow StepsOfChunksHints (s, (p, None)) n) (sym is.0) (λ xs t u ran last. held_one_bound_of p.0 k.0 (length xs) p.1 (enough_all xs s p t u ran last k.0 b));
   }
 
-  brackets_stop_sound : (stop : Option E) (s : S) (p : HeldOfChunksHints) → Brackets StepsOfChunksHints (s, (p, Some stop)) (0, Some 0)
-  brackets_stop_sound stop s p = brackets_due_sound steps (chunks_asks from) batch_held (holds_chunks from) gives_held stop s p
+  brackets_stop_sound : (stop : Option E) (Q : ℕ × Option ℕ → Type 0) (s : S) (p : HeldOfChunksHints) (h : ℕ × Option ℕ) → HintUnlessEnd (Some stop) Q h → Brackets StepsOfChunksHints (s, (p, Some stop)) h
+  brackets_stop_sound stop Q s p h is = brackets_due_sound steps (chunks_asks from) batch_held (holds_chunks from) gives_held stop Q s p h is
 
 module _ {S A E : Type 0} (m : Contract S A E) (from : AllocError → E → Type 0) (s : Chunks S A E) where
   abbrev GivenOfChunksHints : Type 0
@@ -174,5 +174,5 @@ module _ {S A E : Type 0} (m : Contract S A E) (from : AllocError → E → Type
   -- Where a stop is due, nothing comes before it.
   pub sound_hints_chunks : (stop : Option E) → chunks_due s ≡ Some stop → SoundHints (seen_as chunks_parts (chunks_contract from m)) s
   sound_hints_chunks stop due h is = let at : chunks_parts s ≡ (s.it, (s.batch, Some stop)) = ap (λ (d : Option (Option E)). (s.it, (s.batch, d))) due in
-      let k : h ≡ (0, Some 0) = subst (λ (p : GivenOfChunksHints). chunks_hints m p h) at is in
-      brackets_seen chunks_parts _ s h (subst (λ (j : ℕ × Option ℕ). Brackets (holding_step (chunks_asks from) m.steps) (chunks_parts s) j) (sym k) (subst (λ (p : GivenOfChunksHints). Brackets (holding_step (chunks_asks from) m.steps) p (0, Some 0)) (sym at) (brackets_stop_sound from m.steps stop s.it s.batch)))
+      let k : chunks_hints m (s.it, (s.batch, Some stop)) h = subst (λ (p : GivenOfChunksHints). chunks_hints m p h) at is in
+      brackets_seen chunks_parts _ s h (subst (λ (p : GivenOfChunksHints). Brackets (holding_step (chunks_asks from) m.steps) p h) (sym at) (brackets_stop_sound from m.steps stop _ s.it s.batch h k))

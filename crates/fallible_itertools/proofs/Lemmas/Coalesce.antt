@@ -1,13 +1,15 @@
--- What `Coalesce` lists, and its hint.
+-- What `Coalesce` lists, that adjacent ones of these are kept apart, and its hint.
 use Rattle.std.specs.Prelude.{◌≡◌, ◌≤◌, Option, Some, None, Result, Ok, Err, List, [], ◌∷◌, ◌++◌}
 use Rattle.std.specs.Fn.{Mut}
-use Rattle.std.proofs.Common.{refl, ap, subst, arith, ◌∙◌}
+use Rattle.std.proofs.Common.{refl, sym, ap, subst, arith, ◌∙◌}
 use Rattle.fallible_iterator.specs.Contract.{Contract, seen_as}
 use Rattle.fallible_iterator.specs.Folds.{call_with}
 use Rattle.fallible_iterator.specs.Lists.{ActsWith, Lists}
 use Rattle.fallible_iterator.proofs.Lemmas.Lists.Passing.{lists_seen}
-use Rattle.fallible_itertools.specs.Coalesce.{OneOrBoth, coalesced_by, coalesce_asks, coalesced_at, coalesce_contract, coalesce_parts, coalesced, coalesced_from}
+use Rattle.fallible_itertools.specs.Adjacent.{AdjacentItems}
+use Rattle.fallible_itertools.specs.Coalesce.{KeepsApart, OneOrBoth, coalesced_by, coalesce_asks, coalesced_at, coalesce_contract, coalesce_parts, coalesced, coalesced_from}
 use Rattle.fallible_itertools.specs.Holding.{held_beside, held_one}
+use Rattle.fallible_itertools.proofs.Lemmas.Adjacent.{EachNext, HoldsOfNext, adjacent_of_next}
 use Rattle.fallible_itertools.proofs.Lemmas.HoldingHints.{GivesHeld}
 use Rattle.fallible_itertools.proofs.Lemmas.HoldingLists.{by_outcome, before_stop, held_list, listed_parts, gives_held_list}
 use Rattle.fallible_iterator.specs.Outcome.{Outcome}
@@ -102,6 +104,46 @@ module _ {A E : Type 0} (h : A → A → OneOrBoth A E) where
 pub lists_coalesced : {S A F E : Type 0} (m : Contract S A E) (g : Mut F (A × (A × Unit {0})) (OneOrBoth A E)) (s : Coalesce S F A E) (f : F) (h : A → A → OneOrBoth A E) (l : List (Result A E)) → coalesce_parts s ≡ (s.it, ((None, f), None)) → ActsWith (call_with g) f h → Lists m.steps s.it l
     → Lists (seen_as coalesce_parts (coalesce_contract m g)).steps s (coalesced h l)
 lists_coalesced m g s f h l parts a i = lists_seen coalesce_parts (coalesce_contract m g).steps s parts (held_list_is_coalesced h l) (gives_held_list m.steps (coalesce_asks (call_with g)) (HeldAndClosure h (call_with g) f a) (held_outcome h) (next_held h) (acts_by_next h (call_with g) f a) (outcome_never_end h) (outcome_at_stop_not_left_out h) l s.it (None, f) None refl i.runs)
+
+-- ---- adjacent ones are apart
+
+module _ {A E : Type 0} (h : A → A → OneOrBoth A E) (keeps : KeepsApart h) where
+  abbrev Apart : A → A → Type 0
+  Apart x y = h x y ≡ Ok (Err (x, y))
+
+  next_by_result : (x y z : A) (v : OneOrBoth A E) (l : List (Result A E)) → h y z ≡ v → Apart x y → ((w : A) → Apart x w → HoldsOfNext Apart x (coalesced_from h (Some w) l)) → HoldsOfNext Apart x (coalesced_at v (λ held. coalesced_from h held l))
+  next_by_result x y z (Ok (Ok w)) l is apart rest = rest w (keeps.stays x y z w apart is)
+  next_by_result x y z (Ok (Err both)) l is apart rest = let same : both ≡ (y, z) = keeps.as_they_are y z both is in subst (λ (k : A). Apart x k) (sym (ap (λ (p : A × A). p.0) same)) apart
+  next_by_result x y z (Err e) l is apart rest = tt
+
+  -- what is held, or what is made of it, comes first
+  next_apart : (x y : A) (l : List (Result A E)) → Apart x y → HoldsOfNext Apart x (coalesced_from h (Some y) l)
+  unfolding coalesced_from
+  next_apart x y [] apart = apart
+  next_apart x y (Ok z ∷ l) apart = next_by_result x y z (h y z) l refl apart (λ w is. next_apart x w l is)
+  next_apart x y (Err e ∷ l) apart = apart
+
+  both_apart : (y x : A) (both : A × A) → h y x ≡ Ok (Err both) → Apart both.0 both.1
+  both_apart y x both is = let same : both ≡ (y, x) = keeps.as_they_are y x both is in subst (λ (p : A × A). h p.0 p.1 ≡ Ok (Err (p.0, p.1))) (sym same) (subst (λ (p : A × A). h y x ≡ Ok (Err p)) same is)
+
+  each_by_result : (y x : A) (v : OneOrBoth A E) (l : List (Result A E)) → h y x ≡ v → ((o : Option A) → EachNext Apart (coalesced_from h o l)) → EachNext Apart (coalesced_at v (λ held. coalesced_from h held l))
+  each_by_result y x (Ok (Ok z)) l is rest = rest (Some z)
+  each_by_result y x (Ok (Err both)) l is rest = (next_apart both.0 both.1 l (both_apart y x both is), rest (Some both.1))
+  each_by_result y x (Err e) l is rest = rest None
+
+  each_next_apart : (o : Option A) (l : List (Result A E)) → EachNext Apart (coalesced_from h o l)
+  unfolding coalesced_from
+  each_next_apart None [] = tt
+  each_next_apart (Some y) [] = (tt, tt)
+  each_next_apart None (Ok x ∷ l) = each_next_apart (Some x) l
+  each_next_apart (Some y) (Ok x ∷ l) = each_by_result y x (h y x) l refl (λ o. each_next_apart o l)
+  each_next_apart None (Err e ∷ l) = each_next_apart None l
+  each_next_apart (Some y) (Err e ∷ l) = (tt, each_next_apart None l)
+
+  -- The closure keeps each two adjacent ones apart.
+  pub coalesced_apart : (l : List (Result A E)) → AdjacentItems (λ x y. h x y ≡ Ok (Err (x, y))) (coalesced h l)
+  unfolding coalesced
+  coalesced_apart l = adjacent_of_next Apart (coalesced_from h None l) (each_next_apart None l)
 
 -- ---- its hint
 

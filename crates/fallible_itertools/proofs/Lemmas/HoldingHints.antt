@@ -1,5 +1,5 @@
 -- The hint of an adapter that holds and yields what is held before a stop.
-use Rattle.std.specs.Prelude.{◌≡◌, ℕ, ◌+◌, ◌≤◌, ◌⊎◌, min, Option, Some, None, Ok, Err, List, [], ◌∷◌, ◌++◌, length}
+use Rattle.std.specs.Prelude.{◌≡◌, ℕ, ◌+◌, ◌≤◌, ◌⊎◌, min, IfSome, Option, Some, None, Ok, Err, List, [], ◌∷◌, ◌++◌, length}
 use Rattle.std.proofs.Common.{refl, sym, subst, arith, inl, inr, length-append}
 use Rattle.fallible_iterator.specs.Traces.{Answered, Yields, item, end}
 use Rattle.fallible_iterator.specs.Contract.{Contract, seen_as}
@@ -8,7 +8,7 @@ use Rattle.fallible_iterator.proofs.Lemmas.Hints.Drawn.{if_some_no_greater, as_s
 use Rattle.fallible_iterator.proofs.Lemmas.Hints.Joining.{if_some_fitting_sum_above}
 use Rattle.fallible_iterator.specs.Hints.{fitting_sum}
 use Rattle.fallible_iterator.specs.Laws.Passing.{Passes, done, end_passes, failure_passes, keeps, refuses, closes, leaves_out, passes_of_pass_trace}
-use Rattle.fallible_itertools.specs.Holding.{asks_item, as_answered_item, BeforeStop, AnswersAfter, holding_step, HeldAfter, Holds, holding_contract, HintHeld, one_at_least}
+use Rattle.fallible_itertools.specs.Holding.{asks_item, as_answered_item, BeforeStop, AnswersAfter, holding_step, HeldAfter, Holds, HintHeld, HintUnlessEnd, holding_contract, one_at_least}
 use Rattle.fallible_iterator.specs.Outcome.{Outcome}
 use Rattle.fallible_iterator.specs.Outcome.TheVariants.{Kept, LeftOut, Failure, End}
 
@@ -102,7 +102,7 @@ module _ {S P X B E : Type 0} (steps : S → Answered X E → S → Type 0) (ask
   held_where_end_drawn s t f h z (leaves_out {u = u} {h = g} x o step called left rest) is = let some = gives.left_out f x g (subst (λ w. asks f (Some x) w g) left called) in elim (held_where_end_drawn u t g h z rest is) [ inl k ↦ inr (subst (λ (p : P). 1 ≤ held p) k.0 some) | inr k ↦ inr k ]
 
   -- where an end comes first, nothing is held, and the source returns an end first
-  none_held_at_first_end : (s u : S) (f h g : P) (due : Option (Option E)) (z : Answered B E) → UpTo s f (z ∷ []) u h → AnswersAfter asks h z end (g, due) → (held f ≡ 0) × steps s end u
+  pub none_held_at_first_end : (s u : S) (f h g : P) (due : Option (Option E)) (z : Answered B E) → UpTo s f (z ∷ []) u h → AnswersAfter asks h z end (g, due) → (held f ≡ 0) × steps s end u
   none_held_at_first_end s u f h g due (Ok (Some y)) p b = absurd (let k = b.0 in cc)
   none_held_at_first_end s u f h g due (Err e) p b = absurd (failure_no_end e b.0 b.2)
     where
@@ -130,8 +130,21 @@ module _ {S P X B E : Type 0} (steps : S → Answered X E → S → Type 0) (ask
     below = λ b. subst (λ (n : ℕ). BoundsBelow StepsOfHoldingHints (s, (f, None)) n) (sym is.0) (bounds_below_held k.0 s f b);
   }
 
-  pub brackets_due_sound : (stop : Option E) (s : S) (f : P) → Brackets StepsOfHoldingHints (s, (f, Some stop)) (0, Some 0)
-  brackets_due_sound stop s f = record { above = λ xs t ran. length_none_due stop xs s f t ran; below = λ xs t u ran step. omega arith }
+  -- ---- where a stop is due
+
+  none_above : (o : Option ℕ) (n : ℕ) → n ≤ 0 → IfSome o (λ u. n ≤ u)
+  none_above (Some u) n few = omega (arith, few)
+  none_above None n few = tt
+
+  -- after a failure that is due comes no end
+  pub no_end_past_failure : (e : E) (xs : List B) (s : S) (f : P) (t u : StateOfHoldingHints) → Yields StepsOfHoldingHints (s, (f, Some (Some e))) xs t → StepsOfHoldingHints t end u → ⊥
+  no_end_past_failure e [] s f t u ran step = let w : StepsOfHoldingHints (s, (f, Some (Some e))) end u = subst (λ (v : StateOfHoldingHints). StepsOfHoldingHints v end u) (sym ran) step in let k = w.0 in cc
+  no_end_past_failure e (y ∷ xs) s f t u ran step = let k = ran.1.0 in cc
+
+  -- Each hint is sound there: none of an item at an end, and any at a failure, before which no item comes and no end.
+  pub brackets_due_sound : (stop : Option E) (Q : ℕ × Option ℕ → Type 0) (s : S) (f : P) (h : ℕ × Option ℕ) → HintUnlessEnd (Some stop) Q h → Brackets StepsOfHoldingHints (s, (f, Some stop)) h
+  brackets_due_sound None Q s f h is = subst (λ (j : ℕ × Option ℕ). Brackets StepsOfHoldingHints (s, (f, Some None)) j) (sym is) (record { above = λ xs t ran. length_none_due None xs s f t ran; below = λ xs t u ran step. omega arith })
+  brackets_due_sound (Some e) Q s f h is = record { above = λ xs t ran. none_above h.1 (length xs) (length_none_due (Some e) xs s f t ran); below = λ xs t u ran step. absurd (no_end_past_failure e xs s f t u ran step) }
 
 module _ {V S P X B E : Type 0} (view : V → S × (P × Option (Option E))) (m : Contract S X E) (asks : P → Option X → Outcome B E → P → Type 0) (pre : P → Option X → Type 0) (held : P → ℕ) (holds : Holds asks held) (gives : GivesHeld asks held) where
   abbrev SeenOfHoldingHints : Contract V B E
@@ -144,5 +157,17 @@ module _ {V S P X B E : Type 0} (view : V → S × (P × Option (Option E))) (m 
 
   -- Where a stop is due, nothing comes before it.
   pub sound_hints_due : (s : V) (it : S) (f : P) (stop : Option E) → view s ≡ (it, (f, Some stop)) → SoundHints SeenOfHoldingHints s
-  sound_hints_due s it f stop at h is = let k : h ≡ (0, Some 0) = subst (λ (p : S × (P × Option (Option E))). one_at_least m held p h) at is in
-      brackets_seen view _ s h (subst (λ (j : ℕ × Option ℕ). Brackets (holding_step asks m.steps) (view s) j) (sym k) (subst (λ (p : S × (P × Option (Option E))). Brackets (holding_step asks m.steps) p (0, Some 0)) (sym at) (brackets_due_sound m.steps asks held holds gives stop it f)))
+  sound_hints_due s it f stop at h is = let k : one_at_least m held (it, (f, Some stop)) h = subst (λ (p : S × (P × Option (Option E))). one_at_least m held p h) at is in
+      brackets_seen view _ s h (subst (λ (p : S × (P × Option (Option E))). Brackets (holding_step asks m.steps) p h) (sym at) (brackets_due_sound m.steps asks held holds gives stop _ it f h k))
+
+-- ---- past a failure that is due
+
+module _ {V S P X B E : Type 0} (view : V → S × (P × Option (Option E))) (steps : S → Answered X E → S → Type 0) (asks : P → Option X → Outcome B E → P → Type 0) (hints : S × (P × Option (Option E)) → ℕ × Option ℕ → Type 0) (past : (it : S) (f : P) (e : E) (h : ℕ × Option ℕ) → hints (it, (f, Some (Some e))) h → hints (it, (f, None)) h) where
+  parts_are : (p : S × (P × Option (Option E))) {it : S} {q : P × Option (Option E)} → p.0 ≡ it → p.1 ≡ q → p ≡ (it, q)
+  parts_are (s, d) is same = rw (is, same) refl
+
+  -- Where the hint at a failure that is due is the one without it, it is that of what comes after the failure.
+  pub hints_past_due : (s : V) (it : S) (f : P) (e : E) → view s ≡ (it, (f, Some (Some e))) → (t : V) (h : ℕ × Option ℕ) → holding_step asks steps (view s) (Err e) (view t) → hints (view s) h → hints (view t) h
+  hints_past_due s it f e at t h step is = let w : holding_step asks steps (it, (f, Some (Some e))) (Err e) (view t) = subst (λ (p : S × (P × Option (Option E))). holding_step asks steps p (Err e) (view t)) at step in
+      let k : hints (it, (f, Some (Some e))) h = subst (λ (p : S × (P × Option (Option E))). hints p h) at is in
+      subst (λ (p : S × (P × Option (Option E))). hints p h) (sym (parts_are (view t) w.1 w.2)) (past it f e h k)

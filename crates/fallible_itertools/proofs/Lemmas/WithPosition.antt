@@ -1,13 +1,15 @@
--- What `WithPosition` lists.
+-- What `WithPosition` lists, its draws, and that what it leaves out is held.
 use Rattle.std.specs.Prelude.{◌≡◌, ◌≤◌, Bool, true, false, Option, Some, None, Result, Ok, Err, List, [], ◌∷◌, ◌++◌, map}
 use Rattle.std.proofs.Common.{refl, ap, subst, arith}
+use Rattle.fallible_iterator.specs.Traces.{Answered, item}
 use Rattle.fallible_iterator.specs.Contract.{Contract, seen_as}
 use Rattle.fallible_iterator.specs.Lists.{Lists}
 use Rattle.fallible_iterator.proofs.Lemmas.Lists.Passing.{lists_seen}
-use Rattle.fallible_itertools.specs.Holding.{held_one}
+use Rattle.fallible_itertools.specs.Holding.{held_one, holding_step}
 use Rattle.fallible_itertools.specs.WithPosition.{position_asks, position_before_item, position_before_stop, positioned, positioned_at, with_position_contract, with_position_parts}
 use Rattle.fallible_itertools.proofs.Lemmas.HoldingHints.{GivesHeld}
 use Rattle.fallible_itertools.proofs.Lemmas.HoldingLists.{held_list, listed_parts, gives_held_list}
+use Rattle.fallible_itertools.proofs.Lemmas.HoldingTraces.{step_item, step_end, step_failure, step_left_before}
 use Rattle.fallible_iterator.specs.Outcome.{Outcome}
 use Rattle.fallible_iterator.specs.Outcome.TheVariants.{Kept, LeftOut, End}
 use Rattle.fallible_itertools.specs.declared.with_position.Position.{Position}
@@ -69,6 +71,42 @@ module _ {A E : Type 0} where
 pub lists_positioned : {S A E : Type 0} (m : Contract S A E) (s : WithPosition S A E) (l : List (Result A E)) → with_position_parts s ≡ (s.it, (None, None)) → Lists m.steps s.it l → Lists (seen_as with_position_parts (with_position_contract m)).steps s (positioned l)
 lists_positioned m s l parts i = lists_seen with_position_parts (with_position_contract m).steps s parts (held_list_is_positioned l) (gives_held_list m.steps position_asks (λ p a. p ≡ a) held_outcome next_held acts_by_next outcome_never_end outcome_at_stop_not_left_out l s.it None None refl i.runs)
 
+-- ---- one draw
+
+module _ {S A E : Type 0} (steps : S → Answered A E → S → Type 0) where
+  abbrev StateOfWithPosition : Type 0
+  StateOfWithPosition = S × (Option (Bool × A) × Option (Option E))
+
+  abbrev StepsOfWithPosition : StateOfWithPosition → Answered (Position × A) E → StateOfWithPosition → Type 0
+  StepsOfWithPosition = holding_step position_asks steps
+
+  kept_at : (x : A) {r q : Position} → r ≡ q → ◌≡◌ {A = Outcome (Position × A) E} (Kept (r, x)) (Kept (q, x))
+  kept_at x is = rw is refl
+
+  -- after an item that is held
+  pub step_before_item : {s u : S} {due : Option (Option E)} (p : Bool × A) (x : A) {r : Position} → steps s (item x) u → r ≡ position_before_item p.0 → due ≡ None → StepsOfWithPosition (s, (Some p, None)) (item (r, p.1)) (u, (Some (true, x), due))
+  step_before_item p x {r = r} step is none = step_item steps position_asks x (r, p.1) step (kept_at p.1 is, refl) none
+
+  pub step_before_end : {s u : S} {held : Option (Bool × A)} (p : Bool × A) {r : Position} → steps s (Ok None) u → r ≡ position_before_stop p.0 → held ≡ None → StepsOfWithPosition (s, (Some p, None)) (item (r, p.1)) (u, (held, Some None))
+  step_before_end p {r = r} step is none = step_end steps position_asks step (Kept (r, p.1), (kept_at p.1 is, none), (refl, refl))
+
+  pub step_before_failure : {s u : S} {held : Option (Bool × A)} (p : Bool × A) (e : E) {r : Position} → steps s (Err e) u → r ≡ position_before_stop p.0 → held ≡ None → StepsOfWithPosition (s, (Some p, None)) (item (r, p.1)) (u, (held, Some (Some e)))
+  step_before_failure p e {r = r} step is none = step_failure steps position_asks e step (Kept (r, p.1), (kept_at p.1 is, none), (refl, refl))
+
+  -- where none is held
+  pub step_of_first : {s u : S} {r : Answered (Position × A) E} {v : StateOfWithPosition} (x : A) → steps s (item x) u → StepsOfWithPosition (u, (Some (false, x), None)) r v → StepsOfWithPosition (s, (None, None)) r v
+  step_of_first {s = s} {u = u} {r = r} {v = v} x step w = step_left_before steps position_asks s u None (Some (false, x)) x r v step (refl, refl) w
+
+  pub step_of_end : {s t : S} {held : Option (Bool × A)} {due : Option (Option E)} → held ≡ None → due ≡ None → steps s (Ok None) t → StepsOfWithPosition (s, (None, None)) (Ok None) (t, (held, due))
+  step_of_end none undue step = step_end steps position_asks step (End, (refl, none), (refl, undue))
+
+  pub step_of_failure : {s t : S} {held : Option (Bool × A)} {due : Option (Option E)} (e : E) → held ≡ None → due ≡ None → steps s (Err e) t → StepsOfWithPosition (s, (None, None)) (Err e) (t, (held, due))
+  step_of_failure e none undue step = step_failure steps position_asks e step (End, (refl, none), (refl, undue))
+
+  -- what is held, if it is known
+  pub step_where_held : {s : S} {p held : Option (Bool × A)} {due : Option (Option E)} {r : Answered (Position × A) E} {v : StateOfWithPosition} → p ≡ held → None ≡ due → StepsOfWithPosition (s, (p, None)) r v → StepsOfWithPosition (s, (held, due)) r v
+  step_where_held {s = s} {p = p} {due = due} {r = r} {v = v} is none w = subst (λ (h : Option (Bool × A)). StepsOfWithPosition (s, (h, due)) r v) is (subst (λ (d : Option (Option E)). StepsOfWithPosition (s, (p, d)) r v) none w)
+
 -- ---- what the list is
 
 module _ {A E : Type 0} where
@@ -86,6 +124,11 @@ module _ {A E : Type 0} where
   pub several_positioned : (x : A) (a : List A) (y : A) → positioned {E = E} (Ok x ∷ map (λ z. Ok z) a ++ Ok y ∷ []) ≡ Ok (First, x) ∷ map (λ z. Ok (Middle, z)) a ++ Ok (Last, y) ∷ []
   unfolding positioned positioned_at
   several_positioned x a y = first_positioned x a y
+
+  -- nothing is made of nothing
+  pub none_positioned : positioned {A = A} {E = E} [] ≡ []
+  unfolding positioned positioned_at
+  none_positioned = refl
 
   -- one item alone is `Only`
   pub one_positioned : (x : A) → positioned {E = E} (Ok x ∷ []) ≡ Ok (Only, x) ∷ []

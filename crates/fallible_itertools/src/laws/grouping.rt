@@ -7,6 +7,7 @@ ghost use Rattle.fallible_iterator.specs.SoundHints.{HintsAsSoundAs, SoundHints}
 ghost use Rattle.fallible_itertools.specs.Adjacent.{AdjacentItems, IsGroup};
 ghost use Rattle.fallible_itertools.specs.ChunkBy.{ChunkByTrace, chunk_by_due, chunk_by_parts, chunk_by_source, chunked_by};
 ghost use Rattle.fallible_itertools.specs.Chunks.{BatchesOf, BatchesUpTo, ChunksTrace, chunked, chunks_due, chunks_parts, chunks_source, batches_joined};
+ghost use Rattle.fallible_itertools.specs.Holding.{HintsPastFailure};
 
 use crate::chunk_by::ChunkBy;
 use crate::chunks::Chunks;
@@ -38,7 +39,7 @@ pub fn law_chunked<T, E>()
         → chunked n (a ++ Err e ∷ b) ≡ chunked n a ++ Err e ∷ chunked n b }
 {}
 
-/// Each hint of `Chunks` is as sound as the hint of its source that it is made of; if a stop is due it is sound by itself.
+/// Each hint of `Chunks` is as sound as the hint of its source that it is made of; if a stop is due it is sound by itself, and if that is a failure it is that of what comes after it.
 pub fn law_hints_chunks<I: FallibleIterator>()
 where
     I::Item: Drop,
@@ -47,6 +48,8 @@ where
         → HintsAsSoundAs ⟦<Chunks<I> as FallibleIterator>⟧.contract s I.contract (chunks_source s) }
     ensures due { (s : Chunks I I.Item I.Error) (stop : Option I.Error) → chunks_due s ≡ Some stop
         → SoundHints ⟦<Chunks<I> as FallibleIterator>⟧.contract s }
+    ensures failure_due { (s : Chunks I I.Item I.Error) (e : I.Error) → chunks_due s ≡ Some (Some e)
+        → HintsPastFailure ⟦<Chunks<I> as FallibleIterator>⟧.contract s e }
 {}
 
 /// The answers of `ChunkBy` are the stop that is due, and then the source's in groups of equal keys: each group stands where the next key differs or a stop came, and each stop after the group that was buffered before it. The closure's failure and a failed allocation are stops.
@@ -77,7 +80,7 @@ pub fn law_chunked_by<T, K: PartialEq, E>()
         ≡ chunked_by K.eq h a ++ Err e ∷ chunked_by K.eq h b }
 {}
 
-/// Each hint of `ChunkBy` is as sound as the hint of its source that it is made of; if a stop is due it is sound by itself.
+/// Each hint of `ChunkBy` is as sound as the hint of its source that it is made of; if a stop is due it is sound by itself, and if that is a failure it is that of what comes after it.
 pub fn law_hints_chunk_by<I: FallibleIterator, K, F>()
 where
     K: PartialEq + Drop,
@@ -90,4 +93,6 @@ where
     ensures due { (s : ChunkBy I K F I.Item I.Error) (stop : Option I.Error)
         → chunk_by_due s ≡ Some stop
         → SoundHints ⟦<ChunkBy<I, K, F> as FallibleIterator>⟧.contract s }
+    ensures failure_due { (s : ChunkBy I K F I.Item I.Error) (e : I.Error) → chunk_by_due s ≡ Some (Some e)
+        → HintsPastFailure ⟦<ChunkBy<I, K, F> as FallibleIterator>⟧.contract s e }
 {}

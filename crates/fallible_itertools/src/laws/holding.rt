@@ -8,10 +8,11 @@ ghost use Rattle.fallible_iterator.specs.Lists.{filter_mapped, items, nth_of};
 ghost use Rattle.fallible_iterator.specs.Picking.{call_at_two};
 ghost use Rattle.fallible_itertools.specs.Adjacent.{AdjacentItems, HaveKeys};
 ghost use Rattle.fallible_itertools.specs.ChunkBy.{chunked_by};
-ghost use Rattle.fallible_itertools.specs.Coalesce.{CoalesceTrace, OneOrBoth, coalesce_due, coalesce_parts, coalesce_source, coalesced};
+ghost use Rattle.fallible_itertools.specs.Coalesce.{CoalesceTrace, KeepsApart, OneOrBoth, coalesce_due, coalesce_parts, coalesce_source, coalesced};
 ghost use Rattle.fallible_itertools.specs.DedupBy.{DedupByTrace, dedup_by_due, dedup_by_parts, dedup_by_source, deduped_by};
 ghost use Rattle.fallible_itertools.specs.DedupByKey.{DedupByKeyTrace, dedup_by_key_due, dedup_by_key_parts, dedup_by_key_source, deduped_by_key};
 ghost use Rattle.fallible_itertools.specs.Dedup.{DedupTrace, dedup_due, dedup_parts, dedup_source, deduped};
+ghost use Rattle.fallible_itertools.specs.Holding.{HintsPastFailure};
 ghost use Rattle.fallible_itertools.specs.TupleWindows.{TupleWindowsTrace, tuple_windows_parts, tuple_windows_source};
 ghost use Rattle.fallible_itertools.specs.WithPosition.{WithPositionTrace, positioned, with_position_due, with_position_parts, with_position_source};
 ghost use Rattle.fallible_itertools.specs.declared.with_position.Position.TheVariants.{First, Last, Middle, Only};
@@ -44,7 +45,7 @@ pub fn law_deduped<T: PartialEq, E>()
         → deduped T.eq l ≡ deduped_by_key T.eq (λ x. Ok x) l }
 {}
 
-/// Each hint of `Dedup` is as sound as the hint of its source that it is made of; if a stop is due it is sound by itself.
+/// Each hint of `Dedup` is as sound as the hint of its source that it is made of; if a stop is due it is sound by itself, and if that is a failure it is that of what comes after it.
 pub fn law_hints_dedup<I: FallibleIterator>()
 where
     I::Item: PartialEq + Drop,
@@ -53,6 +54,8 @@ where
         → HintsAsSoundAs ⟦<Dedup<I> as FallibleIterator>⟧.contract s I.contract (dedup_source s) }
     ensures due { (s : Dedup I I.Item I.Error) (stop : Option I.Error) → dedup_due s ≡ Some stop
         → SoundHints ⟦<Dedup<I> as FallibleIterator>⟧.contract s }
+    ensures failure_due { (s : Dedup I I.Item I.Error) (e : I.Error) → dedup_due s ≡ Some (Some e)
+        → HintsPastFailure ⟦<Dedup<I> as FallibleIterator>⟧.contract s e }
 {}
 
 /// The answers of `Coalesce` are the stop that is due, and then adjacent items merged: each stands where the next one that isn't merged with it or a stop came, and each stop after what was buffered before it. The closure's failure is a stop.
@@ -67,14 +70,15 @@ where
         (CoalesceTrace (call_with F.FnMut) I.contract.steps) }
 {}
 
-/// A failure parts a list: what stands before it is merged by itself, and so is what comes after it.
-#[tactic(auto, using(crate::proofs::Lemmas::Coalesce::coalesced_in_parts))]
+/// A failure parts a list: what stands before it is merged by itself, and so is what comes after it. The closure keeps each two adjacent results apart, if it hands what it keeps apart back as it is, and what it makes of the second of two and a later item is still apart from the first; unless a failure stands between.
 pub fn law_coalesced<T, E>()
-    ensures { (h : T → T → OneOrBoth T E) (a : List (Result T E)) (e : E) (b : List (Result T E))
+    ensures parts { (h : T → T → OneOrBoth T E) (a : List (Result T E)) (e : E) (b : List (Result T E))
         → coalesced h (a ++ Err e ∷ b) ≡ coalesced h a ++ Err e ∷ coalesced h b }
+    ensures adjacent { (h : T → T → OneOrBoth T E) (l : List (Result T E)) → KeepsApart h
+        → AdjacentItems (λ x y. h x y ≡ Ok (Err (x, y))) (coalesced h l) }
 {}
 
-/// Each hint of `Coalesce` is as sound as the hint of its source that it is made of; if a stop is due it is sound by itself.
+/// Each hint of `Coalesce` is as sound as the hint of its source that it is made of; if a stop is due it is sound by itself, and if that is a failure it is that of what comes after it.
 pub fn law_hints_coalesce<
     I: FallibleIterator,
     F: FnMut(I::Item, I::Item) -> Result<Result<I::Item, (I::Item, I::Item)>, I::Error>,
@@ -88,6 +92,8 @@ where
     ensures due { (s : Coalesce I F I.Item I.Error) (stop : Option I.Error)
         → coalesce_due s ≡ Some stop
         → SoundHints ⟦<Coalesce<I, F> as FallibleIterator>⟧.contract s }
+    ensures failure_due { (s : Coalesce I F I.Item I.Error) (e : I.Error) → coalesce_due s ≡ Some (Some e)
+        → HintsPastFailure ⟦<Coalesce<I, F> as FallibleIterator>⟧.contract s e }
 {}
 
 /// The answers of `DedupBy` are the stop that is due, and then the first of adjacent items that the closure finds the same: each stands where the next one that differs or a stop came, and each stop after what was buffered before it. The closure's failure is a stop.
@@ -99,14 +105,15 @@ where
         (DedupByTrace (call_at_two F.FnMut) I.contract.steps) }
 {}
 
-/// A failure parts a list: what stands before it is deduped by itself, and so is what comes after it.
-#[tactic(auto, using(crate::proofs::Lemmas::DedupBy::deduped_by_in_parts))]
+/// A failure parts a list: what stands before it is deduped by itself, and so is what comes after it. The closure finds that each item differs from the next one, unless a failure stands between.
 pub fn law_deduped_by<T, E>()
-    ensures { (h : T → T → Result Bool E) (a : List (Result T E)) (e : E) (b : List (Result T E))
+    ensures parts { (h : T → T → Result Bool E) (a : List (Result T E)) (e : E) (b : List (Result T E))
         → deduped_by h (a ++ Err e ∷ b) ≡ deduped_by h a ++ Err e ∷ deduped_by h b }
+    ensures adjacent { (h : T → T → Result Bool E) (l : List (Result T E))
+        → AdjacentItems (λ x y. h x y ≡ Ok false) (deduped_by h l) }
 {}
 
-/// Each hint of `DedupBy` is as sound as the hint of its source that it is made of; if a stop is due it is sound by itself.
+/// Each hint of `DedupBy` is as sound as the hint of its source that it is made of; if a stop is due it is sound by itself, and if that is a failure it is that of what comes after it.
 pub fn law_hints_dedup_by<
     I: FallibleIterator,
     F: FnMut(&I::Item, &I::Item) -> Result<bool, I::Error>,
@@ -120,6 +127,8 @@ where
     ensures due { (s : DedupBy I F I.Item I.Error) (stop : Option I.Error)
         → dedup_by_due s ≡ Some stop
         → SoundHints ⟦<DedupBy<I, F> as FallibleIterator>⟧.contract s }
+    ensures failure_due { (s : DedupBy I F I.Item I.Error) (e : I.Error) → dedup_by_due s ≡ Some (Some e)
+        → HintsPastFailure ⟦<DedupBy<I, F> as FallibleIterator>⟧.contract s e }
 {}
 
 /// The answers of `DedupByKey` are the stop that is due, and then the first of adjacent items with equal keys: each stands where the next one that differs or a stop came, and each stop after what was buffered before it. The closure's failure is a stop.
@@ -148,7 +157,7 @@ pub fn law_deduped_by_key<T, K: PartialEq, E>()
         ≡ filter_mapped (λ g. nth_of 0 (items g.1)) (chunked_by K.eq h l) }
 {}
 
-/// Each hint of `DedupByKey` is as sound as the hint of its source that it is made of; if a stop is due it is sound by itself.
+/// Each hint of `DedupByKey` is as sound as the hint of its source that it is made of; if a stop is due it is sound by itself, and if that is a failure it is that of what comes after it.
 pub fn law_hints_dedup_by_key<
     I: FallibleIterator,
     K: PartialEq + Drop,
@@ -163,9 +172,11 @@ where
     ensures due { (s : DedupByKey I K F I.Item I.Error) (stop : Option I.Error)
         → dedup_by_key_due s ≡ Some stop
         → SoundHints ⟦<DedupByKey<I, K, F> as FallibleIterator>⟧.contract s }
+    ensures failure_due { (s : DedupByKey I K F I.Item I.Error) (e : I.Error) → dedup_by_key_due s ≡ Some (Some e)
+        → HintsPastFailure ⟦<DedupByKey<I, K, F> as FallibleIterator>⟧.contract s e }
 {}
 
-/// The answers of `TupleWindows` are the source's, where each item but the first is replaced by the pair of the one before it and itself, or by the failure converted from the `AllocError` of its clone.
+/// The answers of `TupleWindows` are the source's, where each item but the first is replaced by the pair of the one before it and itself, or by the failure converted from the `AllocError` of its clone. The one before it is the last item that the source yielded, also after such a failure.
 pub fn law_tuple_windows<I: FallibleIterator>()
 where
     I::Item: Clone + Drop,
@@ -195,7 +206,7 @@ where
         ⟦<WithPosition<I> as FallibleIterator>⟧.contract.steps (WithPositionTrace I.contract.steps) }
 {}
 
-/// An item alone is `Only`. Of several items the first is `First`, the last is `Last`, and the others are `Middle`. A failure parts a list: the items before it have their positions by themselves, and so do those after it.
+/// Nothing is made of an empty list. An item alone is `Only`. Of several items the first is `First`, the last is `Last`, and the others are `Middle`. A failure parts a list: the items before it have their positions by themselves, and so do those after it.
 pub fn law_positioned<T, E>()
     ensures parts { (a : List (Result T E)) (e : E) (b : List (Result T E))
         → positioned (a ++ Err e ∷ b) ≡ positioned a ++ Err e ∷ positioned b }
@@ -203,9 +214,10 @@ pub fn law_positioned<T, E>()
         → positioned {E = E} (Ok x ∷ map (λ z. Ok z) a ++ Ok y ∷ [])
         ≡ Ok (First, x) ∷ map (λ z. Ok (Middle, z)) a ++ Ok (Last, y) ∷ [] }
     ensures one { (x : T) → positioned {E = E} (Ok x ∷ []) ≡ Ok (Only, x) ∷ [] }
+    ensures none { positioned {A = T} {E = E} [] ≡ [] }
 {}
 
-/// Each hint of `WithPosition` is as sound as the hint of its source that it is made of; if a stop is due it is sound by itself.
+/// Each hint of `WithPosition` is as sound as the hint of its source that it is made of; if a stop is due it is sound by itself, and if that is a failure it is that of what comes after it.
 pub fn law_hints_with_position<I: FallibleIterator>()
 where
     I::Item: Drop,
@@ -216,4 +228,6 @@ where
     ensures due { (s : WithPosition I I.Item I.Error) (stop : Option I.Error)
         → with_position_due s ≡ Some stop
         → SoundHints ⟦<WithPosition<I> as FallibleIterator>⟧.contract s }
+    ensures failure_due { (s : WithPosition I I.Item I.Error) (e : I.Error) → with_position_due s ≡ Some (Some e)
+        → HintsPastFailure ⟦<WithPosition<I> as FallibleIterator>⟧.contract s e }
 {}

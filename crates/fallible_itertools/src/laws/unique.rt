@@ -1,6 +1,7 @@
 // The laws of the adapter that yields each item that equals none before it.
-ghost use Rattle.std.specs.Prelude.{◌≡◌, List, Result};
+ghost use Rattle.std.specs.Prelude.{◌≡◌, ◌++◌, ◌∷◌, Err, List, Ok, Result, [], cond};
 ghost use Rattle.std.specs.List.{IsDistinct, find};
+ghost use Rattle.std.specs.Set.{is_member};
 ghost use Rattle.fallible_iterator.specs.BothEnds.{failures_listed, items_listed};
 ghost use Rattle.fallible_iterator.specs.LawForm.{TracesAre};
 ghost use Rattle.fallible_iterator.specs.SoundHints.{HintsAsSoundAs};
@@ -21,13 +22,20 @@ where
         I.contract.steps) }
 {}
 
-/// No item equals another. The first item of the list that equals any given one is still the first. The failures are the list's.
+/// An item is yielded if no item before it equals it, and each failure is, in their order: of a list with one more item or failure at its end it is that of the list, and that item or failure. So no item equals another. The first item of the list that equals any given one is still the first. The failures are the list's.
 pub fn law_unique_of<T: Eq, E>()
     ensures distinct { (l : List (Result T E)) → IsDistinct T.eq (items_listed (unique_of T.eq l)) }
     ensures first { (l : List (Result T E)) (x : T)
         → find (T.eq x) (items_listed (unique_of T.eq l)) ≡ find (T.eq x) (items_listed l) }
     ensures failures { (l : List (Result T E))
         → failures_listed (unique_of T.eq l) ≡ failures_listed l }
+    ensures none { unique_of {E = E} T.eq [] ≡ [] }
+    ensures item_last { (l : List (Result T E)) (x : T)
+        → unique_of T.eq (l ++ Ok x ∷ [])
+        ≡ cond (is_member T.eq (items_listed l) x) (unique_of T.eq l)
+        (unique_of T.eq l ++ Ok x ∷ []) }
+    ensures failure_last { (l : List (Result T E)) (e : E)
+        → unique_of T.eq (l ++ Err e ∷ []) ≡ unique_of T.eq l ++ Err e ∷ [] }
 {}
 
 /// Each hint of `Unique` is as sound as the hint of its source that it is made of.

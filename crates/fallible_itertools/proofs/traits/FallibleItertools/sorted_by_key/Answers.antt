@@ -1,7 +1,7 @@
 -- What `collect` returned, sorted by the keys.
 use Rattle.fallible_iterator.proofs.Lemmas.Lists.Drawn.{collected_is_failure}
-use Rattle.fallible_itertools.specs.Sorted.{IsSortedByCalls, IsSortedByKeyOf}
-use Rattle.fallible_itertools.proofs.Lemmas.Sorted.{contents_where_made, sorted_as, sorted_where}
+use Rattle.fallible_itertools.specs.Sorted.{HasItems, IsSortedByCalls, IsSortedByKeyOf}
+use Rattle.fallible_itertools.proofs.Lemmas.Sorted.{contents_where_made, items_where_sorted, sorted_as, sorted_where}
 use Rattle.fallible_itertools.proofs.traits.FallibleItertools.sorted_by_key.Goals as goal
 
 pub returns-clause-collects : goal.returns-clause-collects
@@ -15,3 +15,6 @@ returns-clause-contents g c key computes l i = contents_where_made (IsSortedByKe
 
 pub returns-clause-failure : goal.returns-clause-failure
 returns-clause-failure g c l i e is = collected_is_failure (IsSortedByCalls g.F.FnMut g.K.Ord.cmp c.args.f) l (sorted_as (IsSortedByCalls g.F.FnMut g.K.Ord.cmp c.args.f) l _ _ c.sorted_items_by_key.ensures (c.collect.ensures.value l i)) is
+
+pub returns-clause-items : goal.returns-clause-items
+returns-clause-items g c l i = sorted_as HasItems l _ _ (items_where_sorted g.F.FnMut g.K.Ord.cmp c.args.f _ _ c.sorted_items_by_key.ensures) (c.collect.ensures.value l i)
