@@ -1,13 +1,20 @@
 #!/usr/bin/env python3
 """What to_rust refuses: each time it says where and why, and writes nothing."""
+import contextlib
+import io
 import shutil
-import subprocess
 import sys
 import tempfile
 import unittest
+from importlib.machinery import SourceFileLoader
+from importlib.util import module_from_spec, spec_from_loader
 from pathlib import Path
 
 TOP = Path(__file__).resolve().parent.parent.parent
+# In one process, since each run reads nearly the same files.
+LOADER = SourceFileLoader("to_rust", str(TOP / "tools/to_rust"))
+TO_RUST = module_from_spec(spec_from_loader("to_rust", LOADER))
+LOADER.exec_module(TO_RUST)
 CORE = "crates/fallible_core/src/"
 
 
@@ -25,9 +32,13 @@ class Refusals(unittest.TestCase):
         shutil.rmtree(self.folder)
 
     def run_it(self):
-        run = [sys.executable, str(TOP / "tools/to_rust"), str(self.out), "--tree", str(self.tree)]
-        done = subprocess.run(run, capture_output=True, text=True)
-        return done.returncode, done.stderr
+        """The status, and what is said where it is 1."""
+        with contextlib.redirect_stdout(io.StringIO()):
+            try:
+                TO_RUST.main([str(self.out), "--tree", str(self.tree)])
+            except (TO_RUST.Refused, OSError) as why:
+                return 1, str(why)
+        return 0, ""
 
     def edit(self, path, old, new):
         file = self.tree / path
@@ -40,7 +51,6 @@ class Refusals(unittest.TestCase):
         self.assertEqual(status, 1, said)
         for word in words:
             self.assertIn(word, said)
-        self.assertNotIn("Traceback", said)
 
     def test_a_proved_body_is_another(self):
         self.edit(CORE + "joining/cycle.rt", "self.kept.clone()", "self.kept.copy()")

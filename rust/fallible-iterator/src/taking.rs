@@ -9,25 +9,16 @@ use crate::fallible_core::{FallibleIterator, Peekable};
 /// Precondition, which is not checked: the iterator is finite.
 ///
 /// ```
-/// # use fallible_iterator::FallibleIterator;
-/// # use fallible_iterator::Peekable;
-/// # use fallible_iterator::fold_if;
-/// # pub fn number_ahead<I: FallibleIterator<Item = u8>>(
-/// #     ahead: &mut Peekable<I>,
-/// # ) -> Result<u32, I::Error>
-/// # {
-/// fold_if(
-///     ahead,
+/// # use fallible_iterator::{FallibleIterator, convert, fold_if};
+/// let mut it = convert([Ok::<u32, u8>(1), Ok(2), Ok(30), Ok(4)].into_iter()).peekable();
+/// let read = fold_if(
+///     &mut it,
 ///     0,
-///     |c: &u8| Ok(c.is_ascii_digit()),
-///     |number: u32, digit: u8| Ok(
-///         number
-///             .wrapping_mul(10)
-///             .wrapping_add(u32::from(digit.saturating_sub(b'0'))),
-///     ),
-/// )
-/// # }
-/// # fn main() { let _ = number_ahead(&mut fallible_iterator::convert::<u8, u8, _>([Ok(b'1'), Ok(b'2'), Ok(b';')].into_iter()).peekable()); }
+///     |digit| Ok(*digit < 10),
+///     |number: u32, digit: u32| Ok(number.wrapping_mul(10).wrapping_add(digit)),
+/// );
+/// assert_eq!(read, Ok(12));
+/// assert_eq!(it.next(), Ok(Some(30)));
 /// ```
 ///
 /// <details><summary>Contract</summary>

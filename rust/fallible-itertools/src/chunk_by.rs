@@ -30,10 +30,9 @@ impl<I: FallibleIterator, K: PartialEq, F: FnMut(&I::Item) -> Result<K, I::Error
     }
 
     fn size_hint(&self) -> (usize, Option<usize>) {
-        if self.due.is_some() {
-            (0, Some(0))
-        } else {
-            with_held(self.it.size_hint(), self.group.1.is_some())
+        match self.due {
+            Some(None) => (0, Some(0)),
+            _ => with_held(self.it.size_hint(), self.group.1.is_some()),
         }
     }
 

@@ -35,12 +35,13 @@ impl<I: FallibleIterator> FallibleIterator for Chunks<I> {
     }
 
     fn size_hint(&self) -> (usize, Option<usize>) {
-        if self.due.is_some() {
-            (0, Some(0))
-        } else {
-            let hint = self.it.size_hint();
-            let low = batches(hint.0, self.batch.0, &self.batch.1);
-            (low, with_held(hint, self.batch.1.is_some()).1)
+        match self.due {
+            Some(None) => (0, Some(0)),
+            _ => {
+                let hint = self.it.size_hint();
+                let low = batches(hint.0, self.batch.0, &self.batch.1);
+                (low, with_held(hint, self.batch.1.is_some()).1)
+            }
         }
     }
 

@@ -30,10 +30,9 @@ impl<
     }
 
     fn size_hint(&self) -> (usize, Option<usize>) {
-        if self.due.is_some() {
-            (0, Some(0))
-        } else {
-            with_held(self.it.size_hint(), self.coalescing.0.is_some())
+        match self.due {
+            Some(None) => (0, Some(0)),
+            _ => with_held(self.it.size_hint(), self.coalescing.0.is_some()),
         }
     }
 

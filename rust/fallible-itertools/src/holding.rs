@@ -136,7 +136,7 @@ fn answered<R, E>(stop: Option<E>) -> Result<Option<R>, E> {
     }
 }
 
-/// The hint of such an adapter if no stop is due: at least one item if the source has at least one or one is buffered, and at most the source's and what is buffered.
+/// The hint of such an adapter if no end is due: at least one item if the source has at least one or one is buffered, and at most the source's and what is buffered.
 ///
 /// <details><summary>Contract</summary>
 ///

@@ -239,7 +239,7 @@ pub trait FallibleItertools: FallibleIterator + Sized {
 
     /// Yields each item with its [`Position`](crate::Position): `First`, `Middle`, `Last` or `Only`.
     ///
-    /// Creating it draws nothing. An item is buffered until another item comes, or a stop: `Ok(None)` or a failure. `next` draws up to that. The buffered item is yielded first, and is the `Last` one before a stop. The stop is what the next call returns, without a draw. After a stop nothing is buffered, and the next item is `First` or `Only`.
+    /// Creating it draws nothing. An item is buffered until another item comes, or a stop: `Ok(None)` or a failure. `next` draws once if an item is buffered, and otherwise twice, or up to a stop. The buffered item is yielded first, and is the `Last` one before a stop. The stop is what the next call returns, without a draw. After a stop nothing is buffered, and the next item is `First` or `Only`.
     ///
     /// ```
     /// # use fallible_iterator::{FallibleIterator, convert};
@@ -276,7 +276,7 @@ pub trait FallibleItertools: FallibleIterator + Sized {
 
     /// Yields each two adjacent items as a pair. The later one of a pair is a clone.
     ///
-    /// Creating it draws nothing. `next` draws once, and twice for the first pair. It fails as the source does. The last item stays buffered at a failure and at an `Ok(None)`, so the next pair begins with it.
+    /// Creating it draws nothing. `next` draws once, and twice for the first pair. It fails as the source does. So each pair is of two adjacent items. The last item stays buffered at a failure and at an `Ok(None)`, so the next pair begins with it.
     ///
     /// ```
     /// # use fallible_iterator::{FallibleIterator, convert};
@@ -925,7 +925,9 @@ pub trait FallibleItertools: FallibleIterator + Sized {
 
     /// Replaces each failure by what the closure returns for it: an item, nothing or another failure.
     ///
-    /// Creating it draws nothing. `next` draws up to an item, an `Ok(None)`, or a failure for which the closure returns an item or fails. It calls the closure once on each failure. It fails with the closure's failures alone. After a failure and after `Ok(None)` the next call draws again. It is double-ended if the source is.
+    /// Creating it draws nothing. `next` draws up to an item, an `Ok(None)`, or a failure for which the closure returns an item or fails. It calls the closure once on each failure. It fails with the closure's failures alone. After a failure and after `Ok(None)` the next call draws again. It is double-ended if the source is. In Rust `or_else(|_| Ok(None))` over a source that fails for ever never returns from `next`.
+    ///
+    /// `take(n)` before it bounds the items alone. `convert(rows.iterator().take(n))` takes n answers of `rows`, items and failures together.
     ///
     /// ```
     /// # use fallible_iterator::{FallibleIterator, convert};
@@ -1479,7 +1481,7 @@ pub trait FallibleItertools: FallibleIterator + Sized {
         sorted_items(self.collect())
     }
 
-    /// Returns the items in a `Vec`, in the order of the keys that the closure returns for them. Items with equal keys keep their order.
+    /// Returns the items in a `Vec`, in the order of the keys that the closure returns for them. Items with equal keys keep their order. If the closure returns other keys for an item from call to call, it returns the items in any order, each of them once.
     ///
     /// Draws and errors: as `sorted`. The closure doesn't fail; a key that may fail is made by `map` before. The closure is called after the last draw, on an item as often as its key is compared. It consumes the iterator.
     ///
@@ -1511,6 +1513,8 @@ pub trait FallibleItertools: FallibleIterator + Sized {
     /// ensures contents { (key : Self.Item → K) → ComputesKey F.FnMut key f
     ///     → OverList Self.contract.steps self
     ///     (λ l. IfOk result (list.MadeOf (IsSortedByKeyOf key K.cmp) (list.collected l))) }
+    /// ensures items { OverList Self.contract.steps self
+    ///     (λ l. list.CollectedAs HasItems l result) }
     /// ensures failure { OverList Self.contract.steps self
     ///     (λ l. (e : Self.Error) → result ≡ Err (Source e) → list.collected l ≡ Err e) }
     /// ```

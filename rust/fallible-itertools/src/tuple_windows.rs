@@ -102,7 +102,7 @@ where
     }
 }
 
-// Both items. The later one is a clone of what is buffered then.
+// Both items, the later one as a clone. The later one is buffered then, also if its clone fails.
 fn pair<X: Clone, E>(holds: &mut Option<X>, y: X, x: X) -> Outcome<(X, X), E> {
     let copy = x.clone();
     *holds = Some(x);

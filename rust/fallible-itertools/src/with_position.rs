@@ -1,8 +1,8 @@
 // The adapter that yields each item with its position.
 
-use crate::holding::{Hold, drive_holding, with_held};
+use crate::holding::{Hold, drive_holding};
 use core::mem;
-use fallible_iterator::extending::{FirstTurn, Outcome};
+use fallible_iterator::extending::{Outcome, sum};
 use fallible_iterator::{FallibleIterator, Turn};
 
 /// Where an item stands among the items between two stops. A stop is `Ok(None)` or a failure.
@@ -34,16 +34,31 @@ impl<I: FallibleIterator> FallibleIterator for WithPosition<I> {
 
     type Error = I::Error;
 
-    /// Returns the stop that is due, without a draw. Otherwise it draws one item after the buffered one, or a stop; two items if none is buffered.
+    /// Returns the stop that is due, without a draw. Otherwise it draws once if an item is buffered, and otherwise twice, or up to a stop.
     fn next(&mut self) -> Result<Option<(Position, I::Item)>, I::Error> {
-        self.drive(&mut (), &FirstTurn)
+        match self.due.take() {
+            Some(Some(e)) => Err(e),
+            Some(None) => Ok(None),
+            None => match self.held.take() {
+                Some(before) => behind(&mut self.it, &mut self.held, &mut self.due, before),
+                None => match self.it.draw() {
+                    Ok(Some(first)) => {
+                        behind(&mut self.it, &mut self.held, &mut self.due, (false, first))
+                    }
+                    Ok(None) => Ok(None),
+                    Err(e) => Err(e),
+                },
+            },
+        }
     }
 
     fn size_hint(&self) -> (usize, Option<usize>) {
-        if self.due.is_some() {
-            (0, Some(0))
-        } else {
-            with_held(self.it.size_hint(), self.held.is_some())
+        match self.due {
+            Some(None) => (0, Some(0)),
+            _ => {
+                let held = if self.held.is_some() { 1 } else { 0 };
+                sum(self.it.size_hint(), (held, Some(held)))
+            }
         }
     }
 
@@ -63,6 +78,30 @@ impl<I: FallibleIterator> FallibleIterator for WithPosition<I> {
     }
 
     fallible_iterator::by_drive!(drive);
+}
+
+// One draw after that item, which is yielded in any case. It is buffered no more, and no stop is due.
+fn behind<I: FallibleIterator>(
+    it: &mut I,
+    held: &mut Option<(bool, I::Item)>,
+    due: &mut Option<Option<I::Error>>,
+    before: (bool, I::Item),
+) -> Result<Option<(Position, I::Item)>, I::Error> {
+    let (is_later, item) = before;
+    match it.next() {
+        Ok(Some(x)) => {
+            *held = Some((true, x));
+            Ok(Some((before_item(is_later), item)))
+        }
+        Ok(None) => {
+            *due = Some(None);
+            Ok(Some((before_stop(is_later), item)))
+        }
+        Err(e) => {
+            *due = Some(Some(e));
+            Ok(Some((before_stop(is_later), item)))
+        }
+    }
 }
 
 // What becomes of an item after the buffered one.

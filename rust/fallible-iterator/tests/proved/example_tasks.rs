@@ -1,7 +1,6 @@
 use crate::Fail;
 use fallible_iterator::memory::AllocError;
 
-pub mod arguments;
 pub mod client;
 pub mod edges;
 pub mod generic;

@@ -16,6 +16,8 @@ mod interspersing;
 #[cfg(test)]
 mod joining;
 #[cfg(test)]
+mod many;
+#[cfg(test)]
 mod passing;
 #[cfg(test)]
 mod rows;

@@ -71,6 +71,12 @@ pub fn commas(readings: Vec<Result<u32, u8>>) -> Result<usize, u8> {
         .count()
 }
 
+/// The first item with its position, over any iterator, also over one that never ends, such as the rows of a reader: `next` draws twice at most.
+pub fn first_placed<I: FallibleIterator>(it: I) -> Result<Option<(Position, I::Item)>, I::Error> {
+    let mut it = it.with_position();
+    it.draw()
+}
+
 // Whether a comma comes after the item.
 fn has_comma(position: Position) -> bool {
     matches!(position, Position::First | Position::Middle)

@@ -14,6 +14,7 @@ use fallible_iterator::{FallibleIterator, convert};
 use fallible_itertools::MinMaxResult::MinMax;
 use fallible_itertools::{
     DoubleEndedFallibleItertools, FallibleItertools, FoldWhile, MinMaxResult, NotOne, PeekingNext,
+    Position,
 };
 
 // Yields 1, 1 and 2, and adds its calls to `log`.
@@ -107,6 +108,12 @@ fn adapters_that_hold_fold_up_to_an_end() {
         // One of `chunks` is draws, as many as a batch has items.
         let mut twos = one_one_two(&log)?.chunks(2).map(|batch| Ok(batch.len()));
         assert_eq!((twos.next(), log.take()), (Ok(Some(2)), TWO_NEXTS));
+        // One of `with_position` is a draw, and two where nothing is held.
+        let mut placed = one_one_two(&log)?
+            .with_position()
+            .map(|placed: (Position, u32)| Ok(placed.1));
+        assert_eq!((placed.next(), log.take()), (Ok(Some(1)), TWO_NEXTS));
+        assert_eq!((placed.next(), log.take()), (Ok(Some(1)), ONE_NEXT));
         Ok(())
     }
     let _ = tested();

@@ -44,7 +44,7 @@ const OF_COALESCE: NumbersCase = Case {
     expected: &[Item(2), Item(3), End],
 };
 
-const OF_WITH_POSITION: Asks<'static> = ("WithPosition", 2, [UP_TO_THREE, NONE]);
+const OF_WITH_POSITION: Asks<'static> = ("WithPosition", 2, [(3, Some(3)), NONE]);
 
 // The key is a request too. It is 1 of 2 and of 3.
 const OF_DEDUP_BY_KEY: NumbersCase = Case {

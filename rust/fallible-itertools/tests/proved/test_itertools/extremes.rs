@@ -197,30 +197,18 @@ fn sides_of_100() {
     let _ = tested();
 }
 
-// So many that their text has 1,003 bytes.
-const MANY: [Result<u32, u32>; 201] = [Ok(100); 201];
-
-// No allocation fails after some keys, or some bytes.
+// What two calls found, as options.
 #[test]
-fn many_are_counted_and_joined() {
+fn found_extremes_and_first_items_are_options() {
     fn tested() -> Result<(), Fail> {
-        let counts = numbers(&MANY).enumerate().map(|(n, _)| Ok(n)).counts();
-        match counts {
-            Ok(counts) => expect_same(&counts.len(), &201)?,
-            Err(_) => return Err(Fail::new("nothing was counted")),
+        expect_same(&NotOne::<u32>::NoItem.into_items(), &None)?;
+        expect_same(&NotOne::More(2u32, 1).into_items(), &Some((2, 1)))?;
+        let found: [MinMaxResult<u32>; 3] = [NoElements, OneElement(3), MinMax(1, 2)];
+        let expected = [None, Some((3, 3)), Some((1, 2))];
+        for (result, option) in found.iter().zip(expected.iter()) {
+            expect_same(&result.into_option(), option)?;
         }
-        let groups = numbers(&MANY)
-            .enumerate()
-            .map(|(n, x)| Ok((n, x)))
-            .into_group_map();
-        match groups {
-            Ok(groups) => expect_same(&groups.len(), &201)?,
-            Err(_) => return Err(Fail::new("nothing was grouped")),
-        }
-        match numbers(&MANY).join(", ") {
-            Ok(text) => expect_same(&text.len(), &1003),
-            Err(_) => Err(Fail::new("nothing was joined")),
-        }
+        Ok(())
     }
     let _ = tested();
 }

@@ -80,11 +80,11 @@ fn expect_batches(
 
 const HINTED: [Result<u32, TestError>; 6] = [Ok(1), Ok(2), Ok(3), Err(Number(9)), Ok(4), Ok(5)];
 
-// The hints of batches of two. Where the failure is due, nothing comes before it.
+// The hints of batches of two. Where the failure is due, it is that of what comes after it.
 const HINTS: [(Hint, &[Answer<u32, TestError>]); 4] = [
     ((3, Some(6)), &[Item(12)]),
     ((2, Some(4)), &[Item(3)]),
-    ((0, Some(0)), &[Failure(Number(9))]),
+    ((1, Some(2)), &[Failure(Number(9))]),
     ((1, Some(2)), &[Item(45), End]),
 ];
 

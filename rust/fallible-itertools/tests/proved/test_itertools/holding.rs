@@ -240,16 +240,17 @@ fn digit(position: Position) -> u32 {
     }
 }
 
+// The position and the item, a digit each.
+fn as_digits(placed: (Position, u32)) -> Result<u32, u32> {
+    Ok(digit(placed.0).wrapping_mul(10).wrapping_add(placed.1))
+}
+
 #[test]
 fn with_position_starts_anew_after_a_stop() {
     fn tested() -> Result<(), Fail> {
         for (answers, drawn, expected) in &POSITIONED {
             let mut source = script(answers)?;
-            let mut it = (&mut source).with_position().map(
-                |(position, x): (Position, u32)| -> Result<u32, u32> {
-                    Ok(digit(position).wrapping_mul(10).wrapping_add(x))
-                },
-            );
+            let mut it = (&mut source).with_position().map(as_digits);
             let folded = folded_after(&mut it, drawn)?;
             expect_same(&(folded, source.next()), expected)?;
         }
@@ -272,6 +273,37 @@ fn holding_adapters_hint_at_one_item_where_one_is_held() {
     fn tested() -> Result<(), Fail> {
         let mut it = numbers(&TWO_EQUAL).dedup();
         expect_hinted_numbers(&mut it, &HINTED)
+    }
+    let _ = tested();
+}
+
+const WITH_FAILURE: [Result<u32, u32>; 4] = [Ok(4), Ok(5), Err(9), Ok(6)];
+
+// Where the failure is due, the hint is that of what comes after it.
+const HINTED_PAST_FAILURE: [(Hint, &[Answer<u32, u32>]); 5] = [
+    ((1, Some(4)), &[Item(4)]),
+    ((1, Some(3)), &[Item(5)]),
+    ((1, Some(1)), &[Failure(9)]),
+    ((1, Some(1)), &[Item(6)]),
+    ((0, Some(0)), &[End]),
+];
+
+// Every item is yielded, with its position as a digit.
+const HINTED_POSITIONS: [(Hint, &[Answer<u32, u32>]); 5] = [
+    ((4, Some(4)), &[Item(14)]),
+    ((3, Some(3)), &[Item(35)]),
+    ((1, Some(1)), &[Failure(9)]),
+    ((1, Some(1)), &[Item(46)]),
+    ((0, Some(0)), &[End]),
+];
+
+#[test]
+fn holding_adapters_hint_past_a_failure_that_is_due() {
+    fn tested() -> Result<(), Fail> {
+        let mut it = numbers(&WITH_FAILURE).dedup();
+        expect_hinted_numbers(&mut it, &HINTED_PAST_FAILURE)?;
+        let mut it = numbers(&WITH_FAILURE).with_position().map(as_digits);
+        expect_hinted_numbers(&mut it, &HINTED_POSITIONS)
     }
     let _ = tested();
 }

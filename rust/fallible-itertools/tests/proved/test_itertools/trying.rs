@@ -2,7 +2,7 @@ use crate::Fail;
 use fallible_iterator::memory::AllocError;
 // Searches whose closure fails with an error of its own end with the item that decides, and the next draw goes on after it.
 
-use crate::test_itertools::rows::{Drawn, expect_same};
+use crate::test_itertools::rows::{Drawn, expect_same, script};
 use crate::test_support::numbers::numbers;
 use fallible_iterator::FallibleIterator;
 use fallible_itertools::FallibleItertools;
@@ -98,6 +98,17 @@ fn searches_end_with_the_item_that_decides_or_with_either_failure() {
             expect_same(&(place, it.next()), expected)?;
         }
         Ok(())
+    }
+    let _ = tested();
+}
+
+// What stands behind an end is not looked at.
+#[test]
+fn try_find_ends_with_its_iterator() {
+    fn tested() -> Result<(), Fail> {
+        let mut it = script(&[Ok(Some(5)), Ok(None), Ok(Some(6))])?;
+        let found = it.try_find(|x: &u32| -> Result<bool, Failed> { Ok(*x == 6) });
+        expect_same(&(found, it.next()), &(Ok(None), Ok(Some(6))))
     }
     let _ = tested();
 }

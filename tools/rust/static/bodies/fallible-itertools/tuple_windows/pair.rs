@@ -1,5 +1,5 @@
 // changed: a clone is never refused
-// proved: d1629608
+// proved: 6efa44b3
 fn pair<X: Clone, E>(
     holds: &mut Option<X>,
     y: X,
