@@ -3,23 +3,25 @@ ghost use Rattle.std.specs.Prelude.{◌≢◌, [], MatchResult};
 ghost use Rattle.std.specs.Io.KnownBytes.{Appends};
 ghost use Rattle.sum_table.specs.Program.{EndsWith};
 
-use example_tasks::reading::ReadWhole;
+use example_tasks::reading::ReadTable;
 use example_tasks::report::{fault_line, run};
+use example_tasks::writing::WriteText;
 use std::alloc::Global;
-use std::io::Write;
 
 // Runs over `input`, and tells `errors` of a fault. The status that the program ends with; an `Err` where there was a line to tell and it could not be written.
-pub(crate) fn program<R: ReadWhole, W: Write, E: Write>(
+pub(crate) fn program<R: ReadTable, W: WriteText, E: WriteText>(
     alloc: Global,
     input: &mut R,
     output: &mut W,
     errors: &mut E,
 ) -> Result<u8, u8>
     ensures { MatchResult result
-        (EndsWith R.left R.fails input.old input.new (W.contents output.old) (W.contents output.new)
-        (Appends (E.contents errors.old) (E.contents errors.new)))
-        (EndsWith R.left R.fails input.old input.new (W.contents output.old) (W.contents output.new)
-        (λ line. line ≢ [])) }
+        (EndsWith R.left R.fails input.old input.new W.failed
+        (W.written output.old) (W.written output.new) output.new
+        (Appends (E.written errors.old) (E.written errors.new)))
+        (EndsWith R.left R.fails input.old input.new W.failed
+        (W.written output.old) (W.written output.new) output.new
+        (λ line. (line ≢ []) × E.failed errors.new)) }
 {
     match run(alloc, input, output) {
         Ok(()) => Ok(0),
