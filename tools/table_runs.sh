@@ -99,6 +99,57 @@ begin
 "$program" <&- >&- 2>&- || status=$?
 compare 'all closed' 2 '' ''
 
+# The words that it is given.
+usage='usage: sum_table [FILE]
+       sum_table --help
+Reads a table, records of two numbers of four bytes each, the least byte first,
+and prints the number of records and the sum of each column.
+It reads one FILE at most, and standard input where FILE is - or none is given.
+A FILE whose name begins with - is given as ./-NAME.'
+
+begin
+"$program" "$work/good" </dev/null >"$work/out" 2>"$work/err" || status=$?
+compare 'a file' 0 "$report" ''
+
+begin
+"$program" - <"$work/good" >"$work/out" 2>"$work/err" || status=$?
+compare 'standard input by -' 0 "$report" ''
+
+begin
+"$program" "$work/missing" <"$work/good" >"$work/out" 2>"$work/err" || status=$?
+compare 'a file that is not there' 2 '' "cannot open $work/missing"
+
+begin
+"$program" / <"$work/good" >"$work/out" 2>"$work/err" || status=$?
+compare 'a folder' 2 '' 'read failed'
+
+begin
+"$program" --help <"$work/good" >"$work/out" 2>"$work/err" || status=$?
+compare 'help' 0 "$usage" ''
+
+begin
+"$program" --help >/dev/full 2>"$work/err" || status=$?
+compare 'help, output full' 4 '' 'write failed'
+
+begin
+"$program" --version <"$work/good" >"$work/out" 2>"$work/err" || status=$?
+compare 'an unknown option' 2 '' "--version: unexpected
+$usage"
+
+begin
+"$program" "$work/good" --help >"$work/out" 2>"$work/err" || status=$?
+compare 'a word after the file' 2 '' "--help: unexpected
+$usage"
+
+begin
+"$program" $'\377' <"$work/good" >"$work/out" 2>"$work/err" || status=$?
+compare 'a word that is not UTF-8' 2 '' 'not UTF-8'
+
+# A first record that is bad, 3 and 2, and an input that never ends.
+begin
+{ printf '\3\0\0\0\2\0\0\0'; yes; } | timeout 10 "$program" >"$work/out" 2>"$work/err" || status=$?
+compare 'a bad first record of an input with no end' 1 '' 'record 1: the first number is above the second'
+
 echo "table runs of sum_table: $compared runs compared"
 
 build sum_groups

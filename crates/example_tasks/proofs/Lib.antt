@@ -2,6 +2,7 @@ mod GrammarLemmas
 mod MergingLemmas
 mod NumberLemmas
 mod PageLemmas
+mod ReadingLemmas
 mod RoomLemmas
 mod TableLemmas
 mod TokenLemmas

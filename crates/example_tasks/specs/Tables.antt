@@ -1,5 +1,5 @@
 -- Records of bytes, and what is made of them.
-use Rattle.std.specs.Prelude.{◌≡◌, ℕ, zero, suc, ◌+◌, ◌/◌, ◌%◌, ◌^◌, ◌<◌, ◌≤◌, List, [], ◌∷◌, length, take, drop, Bool, nat_le, Some, None, Result, Ok, Err, if◌then◌else◌}
+use Rattle.std.specs.Prelude.{◌≡◌, ℕ, zero, suc, ◌+◌, ◌/◌, ◌%◌, ◌^◌, ◌<◌, ◌≤◌, List, [], ◌∷◌, length, take, drop, Bool, ◌&&◌, not, nat_le, Some, None, Result, Ok, Err, if◌then◌else◌}
 use Rattle.std.specs.Int.{w32, from_le_bytes}
 use Rattle.fallible_iterator.specs.Traces.{Answered}
 use Rattle.fallible_iterator.specs.Lists.{folded, mapped, numbered, failures_mapped}
@@ -36,6 +36,10 @@ DrawsRecord bytes (Err e) rest = (0 < length bytes) × (length bytes < 8) × (re
 -- whether the first number is not above the second
 abbrev pub is_low_to_high : Record → Bool
 is_low_to_high r = nat_le r.low r.high
+
+-- whether bytes begin with a whole record that isn't good
+abbrev pub begins_bad : List ℕ → Bool
+begins_bad bytes = nat_le 8 (length bytes) && not (is_low_to_high (record_of bytes))
 
 -- a record, where it is good; otherwise the fault that tells its place
 abbrev pub checked : ℕ → Record → Result Record TableFault

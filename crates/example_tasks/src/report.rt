@@ -2,15 +2,16 @@
 ghost use Rattle.std.specs.Prelude.{◌≡◌, ◌≢◌, Err, OnOk, OnErr, MatchResult};
 ghost use Rattle.std.specs.IoError.{error_kind};
 ghost use Rattle.std.specs.Io.KnownBytes.{Appends, Keeps};
-ghost use Rattle.example_tasks.specs.Report.{report_of, ReadsTable, WritesReport, HasTotals, status_of, line_of};
+ghost use Rattle.example_tasks.specs.Report.{report_of, HasFault, WritesReport, HasTotals, status_of, line_of};
 ghost use Rattle.std.specs.declared.io.ErrorKind.{ErrorKind};
 ghost use Rattle.example_tasks.specs.declared.table.TableFault.{TableFault};
 
-use crate::reading::ReadWhole;
+use crate::reading::ReadTable;
 use crate::table::{TableFault, Totals, sum_up};
+use crate::writing::WriteText;
 use std::alloc::Global;
 use std::io;
-use std::io::{ErrorKind, Write};
+use std::io::ErrorKind;
 
 /// Why a run made no report.
 #[derive(Clone, Copy, Debug, PartialEq, Eq)]
@@ -39,29 +40,29 @@ fn fault_of_read(error: &io::Error) -> RunFault
 }
 
 // Writes the totals.
-fn write_report<W: Write>(totals: Totals, writer: &mut W) -> io::Result<()>
-    ensures { OnOk result
-        (Appends (W.contents writer.old) (W.contents writer.new) (report_of totals)) }
+fn write_report<W: WriteText>(totals: Totals, writer: &mut W) -> io::Result<()>
+    ensures text { OnOk result
+        (Appends (W.written writer.old) (W.written writer.new) (report_of totals)) }
+    ensures failed { OnErr result (W.failed writer.new) }
 {
-    writeln!(
-        writer,
-        "records {}\nlow {}\nhigh {}",
+    writer.write_text(format_args!(
+        "records {}\nlow {}\nhigh {}\n",
         totals.records, totals.low, totals.high
-    )
+    ))
 }
 
-/// Reads a table up to the end of `reader`, which may be any reader of std, and writes its totals to `writer`. It fails with `Table` and the table's first fault, with `Read` where a read fails, with `Memory` if the allocation of the table fails, and with `Write` where the writer fails. An interrupted read is tried again. After `Ok` and `Table` the reader is at its end. Only at `Ok` and `Write` may something have been written.
-pub fn run<R: ReadWhole, W: Write>(
+/// Reads a table up to the end of `reader`, which may be any reader of std, and writes its totals to `writer`. It looks at the first record first: if that is not good, no more is read. It fails with `Table` and the table's first fault, with `Read` where a read fails, with `Memory` if the allocation of the table fails, and with `Write` where the writer fails. An interrupted read is tried again. After `Ok` and `Write`, and after `Table` if the first record is good or cut short, the reader is at its end. Only at `Ok` and `Write` may something have been written.
+pub fn run<R: ReadTable, W: WriteText>(
     alloc: Global,
     reader: &mut R,
     writer: &mut W,
 ) -> Result<(), RunFault>
     ensures ok { OnOk result (WritesReport (R.left reader.old) (R.left reader.new)
-        (W.contents writer.old) (W.contents writer.new)) }
+        (W.written writer.old) (W.written writer.new)) }
     ensures table { (fault : TableFault) → result ≡ Err (RunFault.Table fault)
-        → ReadsTable (R.left reader.old) (R.left reader.new) (Err fault) }
+        → HasFault (R.left reader.old) (R.left reader.new) fault }
     ensures write { result ≡ Err RunFault.Write
-        → HasTotals (R.left reader.old) (R.left reader.new) }
+        → HasTotals (R.left reader.old) (R.left reader.new) × W.failed writer.new }
 
     // Reading failed, and of which kind.
     ensures read { result ≡ Err RunFault.Read → (kind : ErrorKind)
@@ -70,10 +71,11 @@ pub fn run<R: ReadWhole, W: Write>(
         → R.fails ErrorKind.OutOfMemory reader.old reader.new }
 
     ensures unwritten { result ≢ Err RunFault.Write
-        → OnErr result (Keeps (W.contents writer.old) (W.contents writer.new)) }
+        → OnErr result (Keeps (W.written writer.old) (W.written writer.new)) }
 {
-    let bytes = match reader.read_whole(alloc) {
-        Ok(bytes) => bytes,
+    let bytes = match reader.read_table(alloc) {
+        Ok(Ok(bytes)) => bytes,
+        Ok(Err(fault)) => return Err(RunFault::Table(fault)),
         Err(e) => return Err(fault_of_read(&e)),
     };
     match sum_up(bytes.as_slice()) {
@@ -100,27 +102,31 @@ impl RunFault {
     }
 }
 
-fn write_line<W: Write>(fault: &RunFault, err: &mut W) -> io::Result<()>
-    ensures { OnOk result
-        (Appends (W.contents err.old) (W.contents err.new) (line_of fault.now)) }
+fn write_line<W: WriteText>(fault: &RunFault, err: &mut W) -> io::Result<()>
+    ensures line { OnOk result
+        (Appends (W.written err.old) (W.written err.new) (line_of fault.now)) }
+    ensures failed { OnErr result (W.failed err.new) }
 {
     match fault {
         RunFault::Table(TableFault::Bad(place)) => {
-            writeln!(err, "record {place}: the first number is above the second")
+            err.write_text(format_args!("record {place}: the first number is above the second\n"))
         }
-        RunFault::Table(TableFault::Cut(place)) => writeln!(err, "record {place}: cut short"),
-        RunFault::Read => writeln!(err, "read failed"),
-        RunFault::Memory => writeln!(err, "no memory"),
-        RunFault::Write => writeln!(err, "write failed"),
+        RunFault::Table(TableFault::Cut(place)) => err.write_text(format_args!(
+            "record {place}: cut short\n"
+        )),
+        RunFault::Read => err.write_text("read failed\n"),
+        RunFault::Memory => err.write_text("no memory\n"),
+        RunFault::Write => err.write_text("write failed\n"),
     }
 }
 
 /// Writes the one line that tells of `fault` to `err`, and returns the status that a program ends with after it: 1 and 5 for a bad record and one cut short, 2 for `Read`, 3 for `Memory`, 4 for `Write`. If the line could not be written, the status is an `Err`.
-pub fn fault_line<W: Write>(fault: &RunFault, err: &mut W) -> Result<u8, u8>
+pub fn fault_line<W: WriteText>(fault: &RunFault, err: &mut W) -> Result<u8, u8>
     ensures status { MatchResult result (λ status. status ≡ status_of fault.now)
         (λ status. status ≡ status_of fault.now) }
     ensures line { OnOk result
-        (Appends (W.contents err.old) (W.contents err.new) (line_of fault.now)) }
+        (Appends (W.written err.old) (W.written err.new) (line_of fault.now)) }
+    ensures failed { OnErr result (W.failed err.new) }
 {
     let status = fault.status();
     match write_line(fault, err) {

@@ -3,7 +3,7 @@ ghost use Rattle.std.specs.Prelude.{◌≡◌, ◌+◌, ◌*◌, ◌%◌, ◌^�
 ghost use Rattle.std.proofs.Common.{rules};
 ghost use Rattle.fallible_iterator.specs.Contract.{counted_contract};
 ghost use Rattle.fallible_iterator.specs.Lists.{Lists, folded, position_in, filtered};
-ghost use Rattle.example_tasks.specs.Tables.{DrawsRecord, record_of, records, is_low_to_high, checked, with_record, totals_of};
+ghost use Rattle.example_tasks.specs.Tables.{DrawsRecord, record_of, records, is_low_to_high, begins_bad, checked, with_record, totals_of};
 
 use fallible_iterator::FallibleIterator;
 
@@ -79,6 +79,16 @@ pub fn read<'a>(bytes: &'a [u8]) -> Records<'a>
         result (records bytes.now) }
 {
     Records { bytes }
+}
+
+/// Whether the bytes begin with a whole record that isn't good.
+pub fn begins_bad(bytes: &[u8]) -> bool
+    ensures { result ≡ begins_bad bytes.now }
+{
+    match bytes.split_first_chunk::<8>() {
+        Some((record, _)) => !Record::from_bytes(record).is_low_to_high(),
+        None => false,
+    }
 }
 
 /// How many records come before the first one that isn't good; `None` if all are good. It draws up to that record. It fails where the table ends within a record and none before it is bad.

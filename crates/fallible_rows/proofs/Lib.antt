@@ -1,6 +1,7 @@
 pub mod BytesLaw
 pub mod ChainLemmas
-pub mod ListsLaw
+pub mod FailingLemmas
+mod ListsLaw
 pub mod PrefixLemmas
 pub mod ReadingLemmas
 pub mod ReportLemmas

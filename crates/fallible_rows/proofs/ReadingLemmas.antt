@@ -42,9 +42,9 @@ abbrev pub lent_as : {R : Type 0} → Lent R → R → Lent R
 lent_as s q = record { reader = record s.reader { now = q } }
 
 module _ {R : Type 0} (left : R → Option (List ℕ)) (stays : Bool → R → R → Type 0) where
-  pub gives_bytes_lent : (s : Lent R) (bytes : List ℕ) (q : R) → GivesBytes left stays s.reader.now bytes q → GivesBytes {R = Lent R} (λ t. left t.reader.now) (λ _ t u. u.reader.ghost_name ≡ t.reader.ghost_name) s bytes (lent_as s q)
+  pub gives_bytes_lent : (s : Lent R) (bytes : List ℕ) (q : R) → GivesBytes left stays s.reader.now bytes q → GivesBytes {R = Lent R} (λ t. left t.reader.now) (λ failed t u. (u.reader.ghost_name ≡ t.reader.ghost_name) × stays failed t.reader.now u.reader.now) s bytes (lent_as s q)
   gives_bytes_lent s [] q h = ap (lent_as s) h
-  gives_bytes_lent s (byte ∷ bytes) q h = (lent_as s h.0, (h.1.0, refl), gives_bytes_lent (lent_as s h.0) bytes q h.2)
+  gives_bytes_lent s (byte ∷ bytes) q h = (lent_as s h.0, (h.1.0, (refl, h.1.1)), gives_bytes_lent (lent_as s h.0) bytes q h.2)
 
 -- ---- bytes in memory
 

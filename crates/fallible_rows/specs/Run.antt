@@ -1,5 +1,5 @@
 -- What a run does to its reader and its writer.
-use Rattle.std.specs.Prelude.{◌≡◌, ℕ, ◌-◌, ◌^◌, ◌≤◌, ◌<◌, ◌⊎◌, false, List, [], ◌∷◌, ◌++◌, length, take, All, IfSome, Option, Ok, Err}
+use Rattle.std.specs.Prelude.{◌≡◌, ℕ, ◌-◌, ◌^◌, ◌≤◌, ◌<◌, ◌⊎◌, Bool, true, false, List, [], ◌∷◌, ◌++◌, length, take, All, IfSome, Option, Ok, Err}
 use Rattle.std.specs.Io.KnownBytes.{Appends, Consumes, IsAtEnd}
 use Rattle.fallible_rows.specs.Rows.{rows}
 use Rattle.fallible_rows.specs.RowTraces.{IsOneRow, IsClosed}
@@ -59,3 +59,7 @@ pub record NoneRefusedYet (old new : Option (List ℕ)) : Type 0 where
   pub one : IsOneRow unclosed
   pub numbers : AreNumbers (rows closed)
   pub few : length (rows closed) < row_limit
+
+-- A read failed behind some first bytes, and left the reader so; or as many bytes as may be read were.
+abbrev pub FailsReading : {R : Type 0} → (R → Option (List ℕ)) → (Bool → R → R → Type 0) → R → R → Type 0
+FailsReading {R} left stays r q = (bytes : List ℕ) × (last : R) × Consumes (left r) (left last) bytes × ((length bytes ≡ byte_limit) ⊎ stays true last q)

@@ -1,6 +1,7 @@
 //! How many rows are above 100.
-ghost use Rattle.std.specs.Prelude.{◌≡◌, ◌+◌, ◌-◌, ◌^◌, ◌<◌, Ok};
+ghost use Rattle.std.specs.Prelude.{◌≡◌, ◌+◌, ◌-◌, ◌^◌, ◌<◌, Ok, Err};
 ghost use Rattle.fallible_rows.specs.Counting.{CountsPrefix};
+ghost use Rattle.fallible_rows.specs.Run.{FailsReading};
 
 use crate::fault::RowFault;
 use crate::reading::{Lent, ReadByte};
@@ -16,7 +17,9 @@ const LIMIT: u64 = 100;
 // How many of the first `MAX_ROWS` rows are above `LIMIT`. `Row` of the place, from 1, of the first of
 // them that is not a number; `Read` where a read fails before.
 pub(crate) fn count_above<R: ReadByte>(reader: &mut R) -> Result<usize, RowFault>
-    ensures { CountsPrefix (R.left reader.old) (R.left reader.new) result }
+    ensures counts { CountsPrefix (R.left reader.old) (R.left reader.new) result }
+    ensures failed { result ≡ Err RowFault.Read
+        → FailsReading R.left R.stays reader.old reader.new }
 {
     let mut above = Rows::new(Lent { reader })
         .take(MAX_ROWS)

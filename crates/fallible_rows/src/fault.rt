@@ -1,10 +1,10 @@
 //! Why a run failed, and how that is told.
-ghost use Rattle.std.specs.Prelude.{◌≡◌, MatchResult, OnOk};
+ghost use Rattle.std.specs.Prelude.{◌≡◌, MatchResult, OnOk, OnErr};
 ghost use Rattle.std.specs.Io.KnownBytes.{Appends};
 ghost use Rattle.fallible_rows.specs.Fault.{status_of, line_of};
 
+use example_tasks::writing::WriteText;
 use std::io;
-use std::io::Write;
 
 /// Why a run made no report.
 #[derive(Debug, PartialEq, Eq, Drop)]
@@ -33,15 +33,16 @@ impl RowFault {
     }
 }
 
-fn write_line<W: Write>(fault: &RowFault, err: &mut W) -> io::Result<()>
-    ensures { OnOk result
-        (Appends (W.contents err.old) (W.contents err.new) (line_of fault.now)) }
+fn write_line<W: WriteText>(fault: &RowFault, err: &mut W) -> io::Result<()>
+    ensures line { OnOk result
+        (Appends (W.written err.old) (W.written err.new) (line_of fault.now)) }
+    ensures failed { OnErr result (W.failed err.new) }
 {
     match fault {
-        RowFault::Row(place) => writeln!(err, "row {place}: not a number"),
-        RowFault::Read => writeln!(err, "read failed"),
-        RowFault::Memory => writeln!(err, "no memory"),
-        RowFault::Write => writeln!(err, "write failed"),
+        RowFault::Row(place) => err.write_text(format_args!("row {place}: not a number\n")),
+        RowFault::Read => err.write_text("read failed\n"),
+        RowFault::Memory => err.write_text("no memory\n"),
+        RowFault::Write => err.write_text("write failed\n"),
     }
 }
 
@@ -50,11 +51,12 @@ fn write_line<W: Write>(fault: &RowFault, err: &mut W) -> io::Result<()>
 ///
 /// `Ok` of the status where that line and nothing else was written, and `Err` of the same status
 /// where it could not be, and part of it may have been. It allocates nothing.
-pub fn fault_line<W: Write>(fault: &RowFault, err: &mut W) -> Result<u8, u8>
+pub fn fault_line<W: WriteText>(fault: &RowFault, err: &mut W) -> Result<u8, u8>
     ensures status { MatchResult result (λ status. status ≡ status_of fault.now)
         (λ status. status ≡ status_of fault.now) }
     ensures line { OnOk result
-        (Appends (W.contents err.old) (W.contents err.new) (line_of fault.now)) }
+        (Appends (W.written err.old) (W.written err.new) (line_of fault.now)) }
+    ensures failed { OnErr result (W.failed err.new) }
 {
     let status = fault.status();
     match write_line(fault, err) {

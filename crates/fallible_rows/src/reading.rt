@@ -1,5 +1,7 @@
 //! Readers that are read one byte at a time, and tell what they hold in a buffer.
-ghost use Rattle.std.specs.Prelude.{◌≡◌, ◌≤◌, ℕ, Bool, false, List, [], length, take, Option, Some, ⊤};
+ghost use Rattle.std.specs.Prelude.{◌≡◌, ◌≤◌, ℕ, Bool, false, List, [], length, take, Option, OnErr, Some, ⊤};
+ghost use Rattle.std.specs.Io.{ReadsAtMost};
+ghost use Rattle.std.specs.Io.KnownBytes.{ReadConsumes};
 ghost use Rattle.std.specs.Io.Buffered.{reader_buffer, reader_remaining};
 ghost use Rattle.fallible_rows.specs.Reading.{ReadsOne, GivesBytes, bytes_left, held_bytes, buffered_left};
 
@@ -34,12 +36,38 @@ pub trait ReadByte: Drop + Sized {
         ensures { GivesBytes left stays self.old (take count (in_buffer self.old)) self.new };
 }
 
+// Something that yields some bytes at each read or fails, as every reader does.
+trait ReadSome {
+    // The bytes that are left, where they are known.
+    ghost left: { Self → Option (List ℕ) };
+
+    // What a failed read leaves.
+    ghost failed: { Self → Self → Type 0 };
+
+    // One read.
+    fn read_some(&mut self, buf: &mut [u8]) -> Result<usize, ReadFailed>
+        ensures bound { ReadsAtMost result buf.new }
+        ensures bytes { ReadConsumes (left self.old) (left self.new) result buf.new }
+        ensures failed { OnErr result (failed self.old self.new) };
+}
+
+impl<R: Read> ReadSome for R {
+    ghost left = { R.remaining };
+
+    ghost failed = { λ _ _. ⊤ };
+
+    fn read_some(&mut self, buf: &mut [u8]) -> Result<usize, ReadFailed> {
+        self.read(buf).or(Err(ReadFailed))
+    }
+}
+
 // One read, for one byte. An interrupted read fails too.
-fn byte_of<R: Read>(reader: &mut R) -> Result<Option<u8>, ReadFailed>
-    ensures { ReadsOne R.remaining (λ _ _ _. ⊤) reader.old result reader.new }
+fn byte_of<R: ReadSome>(reader: &mut R) -> Result<Option<u8>, ReadFailed>
+    ensures one { ReadsOne R.left (λ _ _ _. ⊤) reader.old result reader.new }
+    ensures failed { OnErr result (R.failed reader.old reader.new) }
 {
     let mut byte = [0u8; 1];
-    match reader.read(&mut byte) {
+    match reader.read_some(&mut byte) {
         Ok(0) => Ok(None),
         Ok(_) => Ok(Some(byte[0])),
         Err(_) => Err(ReadFailed),
@@ -76,7 +104,8 @@ pub(crate) struct Lent<'a, R> {
 impl<R: ReadByte> ReadByte for Lent<'_, R> {
     ghost left = { λ s. R.left s.reader.now };
 
-    ghost stays = { λ _ s t. t.reader.ghost_name ≡ s.reader.ghost_name };
+    ghost stays = { λ failed s t. (t.reader.ghost_name ≡ s.reader.ghost_name)
+        × R.stays failed s.reader.now t.reader.now };
 
     ghost in_buffer = { λ s. R.in_buffer s.reader.now };
 

@@ -1,8 +1,8 @@
-use Rattle.std.proofs.Common.{[], ◌∷◌, ◌++◌, ap, decimal}
+use Rattle.std.proofs.Common.{rules, [], ◌∷◌, ◌++◌, ap, decimal}
 use Rattle.fallible_rows.specs.Report.{line_of_count}
 use Rattle.fallible_rows.proofs.run.Goals as goal
 
 pub returns-in-Err-clause-write : goal.returns-in-Err-clause-write
 returns-in-Err-clause-write g c =
-    let counted = c.in_ok-count.ensures in
-    λ _. (counted.0, decimal c.in_ok-count.count ++ 10 ∷ [], counted.1, ap line_of_count counted.2)
+    let counted = c.in_ok-count.ensures.counts in
+    λ _. ((counted.0, decimal c.in_ok-count.count ++ 10 ∷ [], counted.1, ap line_of_count counted.2), search rules)
