@@ -4,9 +4,13 @@ use Rattle.std.proofs.Common.{refl, sym, ap, subst, ◌∙◌}
 use Rattle.fallible_iterator.specs.Fault.{Fault}
 use Rattle.fallible_iterator.specs.Fault.TheVariants.{Source}
 use Rattle.fallible_iterator.specs.Lists.{collected, CollectedAs}
-use Rattle.fallible_elf.specs.Report.{found_of}
-use Rattle.fallible_elf.specs.Sets.{sets_of, ranges_of}
+use Rattle.fallible_elf.specs.Names.{names_check}
+use Rattle.fallible_elf.specs.Overlaps.{apart_check}
+use Rattle.fallible_elf.specs.Report.{named_sections, ranges_apart, found_of}
+use Rattle.fallible_elf.specs.Sections.{headers_of}
+use Rattle.fallible_elf.specs.Sets.{range_sections, sets_of, ranges_of}
 use Rattle.fallible_elf.specs.declared.fault.ElfFault.{ElfFault}
+use Rattle.fallible_elf.specs.declared.section.Section.{Section}
 use Rattle.fallible_elf.specs.declared.set.Range.{Range}
 use Rattle.fallible_elf.specs.declared.set.Set.{Set}
 use Rattle.std.specs.declared.alloc.Global.{Global}
@@ -28,11 +32,29 @@ module _ {A : Type 0} (l : List (Result A ElfFault)) where
       collected_is_failure r f i (e ∙ ap Err (sym same))
 
 module _ (bytes : List ℕ) where
-  pub found_of_sets_and_ranges : (sets : List Set) (ranges : List Range) → collected (sets_of bytes) ≡ Ok sets → collected (ranges_of bytes) ≡ Ok ranges → found_of bytes ≡ Ok (sets, ranges)
-  found_of_sets_and_ranges sets ranges s r = rw (s, r) refl
+  pub named_sections_of_names : (sections : List Section) → collected (headers_of bytes) ≡ Ok sections → Ok tt ≡ names_check bytes sections → named_sections bytes ≡ Ok sections
+  named_sections_of_names sections s n = rw (s, ← n) refl
 
-  pub found_of_faulty_sets : (f : ElfFault) → collected (sets_of bytes) ≡ Err f → found_of bytes ≡ Err f
-  found_of_faulty_sets f s = rw s refl
+  pub named_sections_faulty : (sections : List Section) (f : ElfFault) → collected (headers_of bytes) ≡ Ok sections → Err f ≡ names_check bytes sections → named_sections bytes ≡ Err f
+  named_sections_faulty sections f s n = rw (s, ← n) refl
 
-  pub found_of_faulty_ranges : (sets : List Set) (f : ElfFault) → collected (sets_of bytes) ≡ Ok sets → collected (ranges_of bytes) ≡ Err f → found_of bytes ≡ Err f
-  found_of_faulty_ranges sets f s r = rw (s, r) refl
+  pub named_sections_of_faulty_headers : (f : ElfFault) → collected (headers_of bytes) ≡ Err f → named_sections bytes ≡ Err f
+  named_sections_of_faulty_headers f s = rw s refl
+
+  pub ranges_apart_is : (sections : List Section) (r : Result (Unit {0}) ElfFault) → collected (range_sections bytes) ≡ Ok sections → apart_check bytes sections ≡ r → ranges_apart bytes ≡ r
+  ranges_apart_is sections r s a = rw s a
+
+  pub ranges_apart_of_faulty_headers : (f : ElfFault) → collected (range_sections bytes) ≡ Err f → ranges_apart bytes ≡ Err f
+  ranges_apart_of_faulty_headers f s = rw s refl
+
+  pub found_of_overlap : (f : ElfFault) → ranges_apart bytes ≡ Err f → found_of bytes ≡ Err f
+  found_of_overlap f a = rw a refl
+
+  pub found_of_sets_and_ranges : (sets : List Set) (ranges : List Range) → ranges_apart bytes ≡ Ok tt → collected (sets_of bytes) ≡ Ok sets → collected (ranges_of bytes) ≡ Ok ranges → found_of bytes ≡ Ok (sets, ranges)
+  found_of_sets_and_ranges sets ranges a s r = rw (a, s, r) refl
+
+  pub found_of_faulty_sets : (f : ElfFault) → ranges_apart bytes ≡ Ok tt → collected (sets_of bytes) ≡ Err f → found_of bytes ≡ Err f
+  found_of_faulty_sets f a s = rw (a, s) refl
+
+  pub found_of_faulty_ranges : (sets : List Set) (f : ElfFault) → ranges_apart bytes ≡ Ok tt → collected (sets_of bytes) ≡ Ok sets → collected (ranges_of bytes) ≡ Err f → found_of bytes ≡ Err f
+  found_of_faulty_ranges sets f a s r = rw (a, s, r) refl
