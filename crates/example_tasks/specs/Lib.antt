@@ -1,4 +1,5 @@
 -- What the clauses of `src/` cite.
+pub mod Arguments
 pub mod Expressions
 pub mod Grammar
 pub mod Lines

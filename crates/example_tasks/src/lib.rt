@@ -1,6 +1,7 @@
 //! Uses of `fallible_iterator` that a reader recognises: a binary table, sorted sources, rows of a client, pages, lines, tokens. Each states what it computes as far as the contracts of the calls allow.
 #![tactic(auto)]
 
+pub mod arguments;
 pub mod client;
 pub mod edges;
 pub mod generic;

@@ -1,23 +1,29 @@
-//! Reads a table from standard input, records of two numbers of four bytes each, the least byte
-//! first, and prints how many records there are and the sums of their first and second numbers.
+//! Reads a table, records of two numbers of four bytes each, the least byte first, from the file that its word names or from standard input, and prints how many records there are and the sums of their first and second numbers.
 //!
-//! Where that cannot be told, it says why on standard error, and ends with status 1 at a record whose
-//! first number is above its second, 2 where a read fails, 3 where memory runs out, 4 where the
-//! totals cannot be printed, and 5 where the table ends within a record.
+//! Where that cannot be told, it says why on standard error, and ends with status 1 at a record whose first number is above its second, 2 where a read fails, the file can't be opened, or a word is none that it takes, 3 where memory runs out, 4 where the totals cannot be printed, and 5 where the table ends within a record.
 #![tactic(auto)]
 
 mod program;
 
+use example_tasks::arguments::input_of;
 use program::program;
 use std::process::ExitCode;
 
+const USAGE: &str = "usage: sum_table [FILE]
+       sum_table --help
+Reads a table, records of two numbers of four bytes each, the least byte first,
+and prints the number of records and the sum of each column.
+It reads one FILE at most, and standard input where FILE is - or none is given.
+A FILE whose name begins with - is given as ./-NAME.";
+
 fn main(rt: HostRuntime) -> ExitCode {
-    match program(
-        rt.alloc(),
-        &mut rt.stdin(),
-        &mut rt.stdout(),
-        &mut rt.stderr(),
-    ) {
+    let mut output = rt.stdout();
+    let mut errors = rt.stderr();
+    let mut input = match input_of(&rt, rt.stdin(), USAGE, &mut output, &mut errors) {
+        Ok(input) => input,
+        Err(status) => return ExitCode::from(status),
+    };
+    match program(rt.alloc(), &mut input, &mut output, &mut errors) {
         Ok(status) | Err(status) => ExitCode::from(status),
     }
 }

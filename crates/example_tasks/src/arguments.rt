@@ -1,0 +1,191 @@
+//! The input that a program's words ask for: standard input, or the one file that they name.
+ghost use Rattle.std.specs.Prelude.{◌≡◌, ◌≢◌, Ok, Err, [], ◌∷◌, ◌++◌, MatchResult, OnOk, OnErr, codes};
+ghost use Rattle.std.specs.Vec.Iter.{into_iter_items};
+ghost use Rattle.std.specs.Io.KnownBytes.{Appends, Keeps};
+ghost use Rattle.example_tasks.specs.Arguments.{asked_by, asked_first, lines_of, status_of};
+
+use crate::writing::WriteText;
+use std::env::{Args, Env};
+use std::fs::File;
+use std::io::{ErrorKind, Read};
+use std::rt::Files;
+use std::{env, io};
+
+/// What a program's words ask for.
+#[derive(Debug, PartialEq, Eq, Drop)]
+pub enum Asked {
+    /// The usage text.
+    Help,
+    /// Nothing that there is: this word is an option other than `--help`, or comes after the first.
+    Unexpected(String),
+    /// That it reads standard input.
+    Standard,
+    /// That it reads the file at this path.
+    File(String),
+}
+
+// What the first word asks for.
+fn asked_first(word: String) -> Asked
+    ensures { result ≡ asked_first word }
+{
+    match word.as_str() {
+        "--help" => Asked::Help,
+        "-" => Asked::Standard,
+        text => {
+            if text.as_bytes().first() == Some(&b'-') {
+                Asked::Unexpected(word)
+            } else {
+                Asked::File(word)
+            }
+        }
+    }
+}
+
+/// What a program's words ask for, of which the first is its name. No other word asks for standard input, and so does `-`; `--help` asks for the usage text, and a word that doesn't begin with `-` for the file at that path. `Unexpected` tells the first word that is none of these, or that comes after one for an input.
+pub fn asked_by(mut words: Args) -> Asked
+    ensures { result ≡ asked_by (into_iter_items words) }
+{
+    let _ = words.next();
+    let Some(word) = words.next() else {
+        return Asked::Standard;
+    };
+    match (asked_first(word), words.next()) {
+        (Asked::Standard | Asked::File(_), Some(further)) => Asked::Unexpected(further),
+        (asked, _) => asked,
+    }
+}
+
+// Why there is no input.
+#[derive(Drop)]
+enum Refusal {
+    // This word asks for nothing that there is.
+    Word(String),
+    // The file at this path can't be opened.
+    Unopened(String),
+    // A word is not UTF-8.
+    NoText,
+    // An allocation failed.
+    Memory,
+}
+
+// Writes that a word is none that is taken, and the usage text.
+fn write_unexpected<W: WriteText>(word: &str, usage: &str, errors: &mut W) -> io::Result<()>
+    ensures text { OnOk result (Appends (W.written errors.old) (W.written errors.new)
+        (word.now ++ codes ": unexpected\n" ++ usage.now ++ 10 ∷ [])) }
+    ensures failed { OnErr result (W.failed errors.new) }
+{
+    errors.write_text(format_args!("{word}: unexpected\n{usage}\n"))
+}
+
+impl Refusal {
+    // The status that a program ends with.
+    fn status(&self) -> u8
+        ensures { result ≡ status_of self.now }
+    {
+        match self {
+            Refusal::Memory => 3,
+            _ => 2,
+        }
+    }
+
+    fn write<W: WriteText>(&self, usage: &str, errors: &mut W) -> io::Result<()>
+        ensures text { OnOk result
+            (Appends (W.written errors.old) (W.written errors.new) (lines_of self.now usage.now)) }
+        ensures failed { OnErr result (W.failed errors.new) }
+    {
+        match self {
+            Refusal::Word(word) => write_unexpected(word.as_str(), usage, errors),
+            Refusal::Unopened(path) => errors.write_text(format_args!("cannot open {path}\n")),
+            Refusal::NoText => errors.write_text("not UTF-8\n"),
+            Refusal::Memory => errors.write_text("no memory\n"),
+        }
+    }
+
+    // Tells `errors` of it. The status that the program ends with, as an `Err` if it could not be told.
+    fn tell<W: WriteText>(&self, usage: &str, errors: &mut W) -> Result<u8, u8>
+        ensures { MatchResult result
+            (λ status. (status ≡ status_of self.now)
+            × Appends (W.written errors.old) (W.written errors.new) (lines_of self.now usage.now))
+            (λ status. (status ≡ status_of self.now) × W.failed errors.new) }
+    {
+        match self.write(usage, errors) {
+            Ok(()) => Ok(self.status()),
+            Err(_) => Err(self.status()),
+        }
+    }
+}
+
+/// What a program reads.
+#[derive(Drop)]
+pub enum Input<S, F> {
+    /// Its standard input.
+    Standard(S),
+    /// A file.
+    File(F),
+}
+
+impl<S: Read, F: Read> Read for Input<S, F> {
+    fn read(&mut self, buf: &mut [u8]) -> io::Result<usize> {
+        match self {
+            Input::Standard(reader) => reader.read(buf),
+            Input::File(reader) => reader.read(buf),
+        }
+    }
+}
+
+// Prints the usage text. The status that the program ends with: 0, or 4 where the text can't be printed, which `errors` is told.
+fn help<W: WriteText, E: WriteText>(usage: &str, output: &mut W, errors: &mut E) -> u8
+    ensures printed { result ≡ 0
+        → Appends (W.written output.old) (W.written output.new) (usage.now ++ 10 ∷ [])
+        × Keeps (E.written errors.old) (E.written errors.new) }
+    ensures failed { result ≢ 0 → (result ≡ 4) × W.failed output.new }
+{
+    if output.write_text(format_args!("{usage}\n")).is_ok() {
+        return 0;
+    }
+    let _ = errors.write_text("write failed\n");
+    4
+}
+
+// What the system's words ask for, or why that is not known.
+fn asked_of<R: Env + AllocGlobal>(rt: &R) -> Result<Asked, Refusal> {
+    match env::args(rt) {
+        Ok(words) => Ok(asked_by(words)),
+        Err(error) => Err(match error.kind() {
+            ErrorKind::OutOfMemory => Refusal::Memory,
+            _ => Refusal::NoText,
+        }),
+    }
+}
+
+/// What the program reads, by its words (`asked_by`). Where that is nothing, the status that it ends with: 0 after `--help`, for which the usage text is printed; 4 where that fails; 2 at a word that it doesn't take or that is not UTF-8, and where the file can't be opened; 3 where memory runs out. `errors` is told of all but the first, of a word with the usage text. `output` is written to at `--help` alone.
+pub fn input_of<R: Env + Files + AllocGlobal, S: Read + Drop, W: WriteText, E: WriteText>(
+    rt: &R,
+    standard: S,
+    usage: &str,
+    output: &mut W,
+    errors: &mut E,
+) -> Result<Input<S, R::File>, u8>
+    ensures input { OnOk result (Keeps (W.written output.old) (W.written output.new)
+        × Keeps (E.written errors.old) (E.written errors.new)) }
+    ensures help { result ≡ Err 0
+        → Appends (W.written output.old) (W.written output.new) (usage.now ++ 10 ∷ [])
+        × Keeps (E.written errors.old) (E.written errors.new) }
+    ensures print { result ≡ Err 4 → W.failed output.new }
+    ensures refused { OnErr result (result ≢ Err 0 → result ≢ Err 4
+        → Keeps (W.written output.old) (W.written output.new)) }
+{
+    let refusal = match asked_of(rt) {
+        Ok(Asked::Standard) => return Ok(Input::Standard(standard)),
+        Ok(Asked::File(path)) => match File::open(rt, path.as_str()) {
+            Ok(file) => return Ok(Input::File(file)),
+            Err(_) => Refusal::Unopened(path),
+        },
+        Ok(Asked::Help) => return Err(help(usage, output, errors)),
+        Ok(Asked::Unexpected(word)) => Refusal::Word(word),
+        Err(refusal) => refusal,
+    };
+    match refusal.tell(usage, errors) {
+        Ok(status) | Err(status) => Err(status),
+    }
+}
