@@ -38,7 +38,7 @@ KINDS = {
 COMPRESSED = "the address ranges are compressed"
 RELOCATED = "the lengths of the address ranges are relocated"
 OVERLAP = "sections of address ranges overlap"
-TOO_LONG = "the sections' names are longer than the file"
+TOO_LONG = "the sections' names are too long for the file"
 NAMES_OF_RANGES = (b".debug_aranges", b".zdebug_aranges")
 SECTION = re.compile(r"  \[ *(\d+)\] (.*?) +(\S+|SYMTAB SECTION INDIC\S+|\S+: <unknown>) +([0-9a-f]{16}) ([0-9a-f]{6,}) ([0-9a-f]{6,}) [0-9a-f]{2,} ")
 OURS = re.compile(r"(\d+) type (\d+) address 0x([0-9a-f]+) offset 0x([0-9a-f]+) size 0x([0-9a-f]+) name (.*)")
@@ -143,7 +143,7 @@ def sections_in(file):
         name = header(n)[0]
         check(name < length, table + 64 * n, "a section's name lies outside the names")
         places.append((at + name, file.index(b"\0", at + name), n))
-    room = size
+    room = 4 * size
     for start, end, n in places:
         check(end - start <= room, start, TOO_LONG)
         room -= end - start
@@ -444,9 +444,9 @@ def range_sections(*places, sets=8):
 
 def bounded():
     """Files at and above the bounds that keep time and memory linear, each with its status."""
-    # Three names of n bytes are 3 * n, and the file has n + 386: a header, five section headers, and two bytes about the name.
-    yield "names as long as the file", long_names(3, 193), 0
-    yield "names longer than the file", long_names(3, 194), 1
+    # Seven names of n bytes are 7 * n, and the file has n + 642: a header, nine section headers, and two bytes about the name.
+    yield "names of four times the file", long_names(7, 856), 0
+    yield "names of more", long_names(7, 857), 1
     yield "one long name of 4,096 headers", long_names(4096, 262_000), 1
     yield "one long name of 16,384 headers", long_names(16_384, 1_000_000), 1
     size = len(ONE_SET)

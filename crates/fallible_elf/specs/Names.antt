@@ -1,5 +1,5 @@
 -- Names, which end with a 0.
-use Rattle.std.specs.Prelude.{ℕ, ◌-◌, List, [], ◌∷◌, Option, Some, None, Result, Ok, Err, length, drop, eqb, nat_le, if◌then◌else◌}
+use Rattle.std.specs.Prelude.{ℕ, ◌-◌, ◌*◌, List, [], ◌∷◌, Option, Some, None, Result, Ok, Err, length, drop, eqb, nat_le, if◌then◌else◌}
 use Rattle.std.specs.List.{position_or_len, before_first}
 use Rattle.fallible_elf.specs.Faults.{fault_at}
 use Rattle.fallible_elf.specs.declared.fault.ElfFault.{ElfFault}
@@ -33,6 +33,6 @@ unfoldable pub names_within : List ℕ → ℕ → List Section → Result (Unit
 names_within bytes room [] = Ok tt
 names_within bytes room (section ∷ rest) = if nat_le (length_of_name bytes section) room then names_within bytes (room - length_of_name bytes section) rest else Err (fault_at (place_or_0 section.name) NamesTooLong)
 
--- The names of a file's sections have no more bytes together than the file.
+-- The names of a file's sections have together at most four times as many bytes as the file.
 abbrev pub names_check : List ℕ → List Section → Result (Unit {0}) ElfFault
-names_check bytes sections = names_within bytes (length bytes) sections
+names_check bytes sections = names_within bytes (4 * length bytes) sections

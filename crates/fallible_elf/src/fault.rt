@@ -25,7 +25,7 @@ pub enum Damage {
     NamesNotEnded,
     /// A section's name would lie outside the names.
     NameOutOfRange,
-    /// The names of the sections have more bytes together than the file.
+    /// The names of the sections have together more than four times as many bytes as the file.
     NamesTooLong,
     /// The address ranges would lie outside the file.
     SetsOutOfRange,

@@ -47,13 +47,13 @@ fn place_or_0(place: Option<usize>) -> usize
     }
 }
 
-/// Whether the names of a file's sections have no more bytes together than the file. The fault is at the first byte of the first name with which they have more.
+/// Whether the names of a file's sections have together at most four times as many bytes as the file. The fault is at the first byte of the first name with which they have more.
 pub fn check_names(file: &[u8], sections: &[Section]) -> Result<(), ElfFault>
     ensures { result ≡ names_check file.now sections.now }
 {
-    let mut room = file.len();
+    let mut room = 4 * file.len() as u128;
     for section in sections {
-        let length = name_or_none(file, section.name).len();
+        let length = name_or_none(file, section.name).len() as u128;
         if room < length {
             return Err(ElfFault::at(place_or_0(section.name), Damage::NamesTooLong));
         }

@@ -75,12 +75,12 @@ impl<R: Read> ReadFile for R {
     fn read_file(&mut self, alloc: Global) -> io::Result<Result<Vec<u8>, ElfFault>> {
         let mut file = Vec::new(alloc);
         read_begin(self, &mut file)?;
-        if let Err(fault) = check_header(file.as_slice()) {
-            return Ok(Err(fault));
-        }
-        match self.read_to_end(&mut file) {
-            Ok(_) => Ok(Ok(file)),
-            Err(e) => Err(e),
+        match check_header(file.as_slice()) {
+            Ok(()) => match self.read_to_end(&mut file) {
+                Ok(_) => Ok(Ok(file)),
+                Err(e) => Err(e),
+            },
+            Err(fault) => Ok(Err(fault)),
         }
     }
 }

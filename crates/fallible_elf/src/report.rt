@@ -139,7 +139,7 @@ fn text_of(damage: Damage) -> &'static str
         Damage::NamesOutOfRange => "the names lie outside the file",
         Damage::NamesNotEnded => "the last name has no end",
         Damage::NameOutOfRange => "a section's name lies outside the names",
-        Damage::NamesTooLong => "the sections' names are longer than the file",
+        Damage::NamesTooLong => "the sections' names are too long for the file",
         Damage::SetsOutOfRange => "the address ranges lie outside the file",
         Damage::SetsOverlap => "sections of address ranges overlap",
         Damage::SetsCompressed => "the address ranges are compressed",

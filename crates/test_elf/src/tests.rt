@@ -529,10 +529,10 @@ fn run_looks_at_header_first(rt: HostRuntime) -> Result<(), Fail> {
     Ok(())
 }
 
-// Three bytes of a name for each section, in a file of seven.
+// Three bytes of a name for each section, in a file of four: sixteen at most.
 #[test]
 fn names_together(rt: HostRuntime) {
-    let file = b"abc\0...";
+    let file = b"abc\0";
     let section = |name| Section {
         name,
         kind: 1,
@@ -541,9 +541,10 @@ fn names_together(rt: HostRuntime) {
         offset: 0,
         size: 0,
     };
-    let sections = [section(Some(0)), section(None), section(Some(0)), section(Some(1))];
-    assert_eq!(rt; check_names(file, &sections[..3]), Ok(()));
-    let place = 1;
+    let [long, short, none] = [Some(0), Some(2), None].map(section);
+    let sections = [long, long, none, long, long, long, short, short];
+    assert_eq!(rt; check_names(file, &sections[..7]), Ok(()));
+    let place = 2;
     let damage = Damage::NamesTooLong;
     assert_eq!(rt; check_names(file, &sections), Err(ElfFault { damage, place }));
 }
