@@ -1,5 +1,5 @@
 -- What marks say of sections that overlap.
-use Rattle.std.specs.Prelude.{◌≡◌, ℕ, suc, ◌+◌, ◌<◌, ◌≤◌, ◌⊎◌, List, [], ◌∷◌, ◌++◌, Bool, true, false, Result, Ok, Err, length, take, drop, min, max, nat_le, nat_lt, ◌&&◌, ◌||◌}
+use Rattle.std.specs.Prelude.{◌≡◌, ℕ, suc, ◌+◌, ◌<◌, ◌≤◌, List, [], ◌∷◌, ◌++◌, Bool, true, false, Ok, Err, length, take, drop, min, max, nat_le, nat_lt, ◌&&◌, ◌||◌}
 use Rattle.std.proofs.Common.{refl, sym, ap, ◌∙◌, inl, inr, get_or, drop-cons, arith}
 use Rattle.std.proofs.lemmas.Bool.{le-leb, lt-ltb, leb-true, ltb-true, and_from, and_left, and_parts, or_cases, or_parts, or_from, or_left, or_right, false_from_ne_true, both_ways}
 use Rattle.std.proofs.lemmas.List.{drop_all, take_more}
@@ -24,8 +24,9 @@ module _ (bytes : List ℕ) (s : Section) where
   pub any_shares_of_byte : (at : ℕ) (before : List Section) → lies_in bytes s ≡ true → s.offset ≤ at → at < end_of s → list_any (has_byte bytes at) before ≡ true → list_any (share_a_byte bytes s) before ≡ true
   any_shares_of_byte at [] lies from to has = has
   any_shares_of_byte at (x ∷ xs) lies from to has = elim (or_cases (has_byte bytes at x) (list_any (has_byte bytes at) xs) has) [
-    inl here ↦ or_left _ _ (shares_of_byte at x lies from to here)
-    | inr later ↦ or_right _ _ (any_shares_of_byte at xs lies from to later) ]
+    | inl here ↦ or_left _ _ (shares_of_byte at x lies from to here)
+    | inr later ↦ or_right _ _ (any_shares_of_byte at xs lies from to later)
+  ]
 
   -- where no byte of it is had, it shares none
   shares_no_byte : (x : Section) → ((at : ℕ) → s.offset ≤ at → at < end_of s → has_byte bytes at x ≡ false) → share_a_byte bytes s x ≡ false

@@ -1,11 +1,11 @@
 -- What the first bytes of a file say of its header.
-use Rattle.std.specs.Prelude.{◌≡◌, ◌⊎◌, ℕ, ◌+◌, ◌≤◌, List, [], ◌∷◌, ◌++◌, length, drop, slice_index, Bool, true, false, Option, Result, Ok, Err, not, nat_le, nat_eq, eqb}
+use Rattle.std.specs.Prelude.{◌≡◌, ℕ, ◌≤◌, List, [], ◌∷◌, ◌++◌, length, drop, slice_index, Bool, true, false, Option, Result, Ok, Err, not, nat_le, nat_eq, eqb}
 use Rattle.std.proofs.Common.{refl, sym, ap, subst, ◌∙◌, inl, inr, length-append, arith}
 use Rattle.std.proofs.KnownBytes.{Consumes-trans, starts_with_rest}
 use Rattle.std.proofs.lemmas.Bool.{le-leb, leb-true, and_parts, or_cases, false≢true}
 use Rattle.std.proofs.lemmas.List.{take-append-le}
 use Rattle.std.specs.Io.{StartsWith}
-use Rattle.std.specs.Io.KnownBytes.{Consumes, IsAtEnd}
+use Rattle.std.specs.Io.KnownBytes.{Consumes}
 use Rattle.std.specs.List.{starts_with}
 use lib.ListN.{get_or-append}
 use Rattle.fallible_elf.specs.Faults.{fault_at, first_fault}
@@ -57,16 +57,22 @@ not_true false e = refl
 -- where first bytes decide, the fault is that of each file that begins with them
 pub fault_alike : (bytes rest : List ℕ) (f : ElfFault) → is_decided bytes ≡ true → first_fault (header_checks bytes) ≡ Err f → first_fault (header_checks (bytes ++ rest)) ≡ Err f
 fault_alike bytes rest f decided is = elim (or_cases _ _ decided) [
-    inl long ↦ header_alike bytes rest (leb-true 64 _ long) ∙ is
-    | inr other ↦ let parts = and_parts (nat_le 4 (length bytes)) _ other in fault_alike_otherwise bytes rest f (leb-true 4 _ parts.0) (not_true _ parts.1) is ]
+  | inl long ↦ header_alike bytes rest (leb-true 64 _ long) ∙ is
+  | inr other ↦ let parts = and_parts (nat_le 4 (length bytes)) _ other in fault_alike_otherwise bytes rest f (leb-true 4 _ parts.0) (not_true _ parts.1) is
+]
 
 -- what was read of a header that has a fault
 pub reads_head : (unread unread' : Option (List ℕ)) (bytes slice : List ℕ) (f : ElfFault) → ReadsBegin unread unread' bytes → slice ≡ bytes → Err f ≡ first_fault (header_checks slice) → ReadsHead unread unread' (HasHeaderFault f)
 reads_head unread unread' bytes slice f read same told =
-    let is : first_fault (header_checks bytes) ≡ Err f = sym (subst (λ s. Err f ≡ first_fault (header_checks s)) same told) in
-    (bytes, read.0, read.1, elim read.2 [
-    inl ended ↦ inl (ended, is)
-    | inr decided ↦ inr (λ rest. fault_alike bytes rest f decided is) ])
+    let is : first_fault (header_checks bytes) ≡ Err f = sym (subst (λ s. Err f ≡ first_fault (header_checks s)) same told) in (
+      bytes,
+      read.0,
+      read.1,
+      elim read.2 [
+        | inl ended ↦ inl (ended, is)
+        | inr decided ↦ inr (λ rest. fault_alike bytes rest f decided is)
+      ],
+    )
 
 -- a file that was read after a header that has none
 pub has_header : (begin slice file : List ℕ) → slice ≡ begin → 64 ≤ length slice → Ok tt ≡ first_fault (header_checks slice) → StartsWith file begin → HasHeader file

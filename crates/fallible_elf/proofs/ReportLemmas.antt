@@ -98,9 +98,15 @@ module _ (bytes : List ℕ) (f : ElfFault) (has : HasHeaderFault f bytes) where
 
 -- what a header's fault says of the file
 pub reads_faulty : (unread unread' written : Option (List ℕ)) (f : ElfFault) → ReadsHead unread unread' (HasHeaderFault f) → ReadsHead unread unread' (λ bytes. HasHeaderFault f bytes × Reports bytes (Some f) written written)
-reads_faulty unread unread' written f read = (read.0, read.1, read.2, elim read.3 [
-    inl whole ↦ inl (whole.0, reports_header_fault read.0 f whole.1 written)
-    | inr begun ↦ inr (λ rest. reports_header_fault (read.0 ++ rest) f (begun rest) written) ])
+reads_faulty unread unread' written f read = (
+  read.0,
+  read.1,
+  read.2,
+  elim read.3 [
+    | inl whole ↦ inl (whole.0, reports_header_fault read.0 f whole.1 written)
+    | inr begun ↦ inr (λ rest. reports_header_fault (read.0 ++ rest) f (begun rest) written)
+  ],
+)
 
 pub reads_faulty_told : (unread unread' written : Option (List ℕ)) (given f : ElfFault) → ◌≡◌ {A = Result (Unit {0}) RunFault} (Err (Elf given)) (Err (Elf f)) → ReadsHead unread unread' (HasHeaderFault given) → ReadsFaulty unread unread' f written written
 reads_faulty_told unread unread' written given f told read = let same : given ≡ f = cc in inr (subst (λ g. ReadsHead unread unread' (λ bytes. HasHeaderFault g bytes × Reports bytes (Some g) written written)) same (reads_faulty unread unread' written given read))

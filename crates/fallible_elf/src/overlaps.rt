@@ -53,11 +53,7 @@ fn claim_each(marks: &mut [bool], file: &[u8], sections: &[Section]) -> Result<(
 }
 
 /// Whether no two of these sections have a byte of the file in common, among those that lie in it. The fault is at the first byte of the first section that shares one with a section before it. It fails with `Memory` if its allocation fails: of two sections or more it marks the bytes, one byte for each of the file.
-pub fn check_apart(
-    alloc: Global,
-    file: &[u8],
-    sections: &[Section],
-) -> Result<(), Fault<ElfFault>>
+pub fn check_apart(alloc: Global, file: &[u8], sections: &[Section]) -> Result<(), Fault<ElfFault>>
     ensures ok { IfOk result (λ _. apart_check file.now sections.now ≡ Ok tt) }
     ensures fault { (fault : ElfFault) → result ≡ Err (Fault.Source fault)
         → apart_check file.now sections.now ≡ Err fault }

@@ -546,7 +546,10 @@ fn names_together(rt: HostRuntime) {
     assert_eq!(rt; check_names(file, &sections[..7]), Ok(()));
     let place = 2;
     let damage = Damage::NamesTooLong;
-    assert_eq!(rt; check_names(file, &sections), Err(ElfFault { damage, place }));
+    assert_eq!(rt;
+        check_names(file, &sections),
+        Err(ElfFault { damage, place })
+    );
 }
 
 fn expect_line(rt: &impl Abort, alloc: Global, fault: RunFault, line: &[u8], status: u8) {

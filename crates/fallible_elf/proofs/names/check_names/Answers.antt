@@ -1,8 +1,7 @@
 -- The names so far had room, or the next one has none.
-use Rattle.std.proofs.Common.{rules, ap, sym, ◌∙◌, arith}
+use Rattle.std.proofs.Common.{ap, sym, ◌∙◌}
 use Rattle.fallible_elf.specs.Faults.{fault_at}
 use Rattle.fallible_elf.specs.declared.fault.Damage.TheVariants.{NamesTooLong}
-use Rattle.fallible_elf.specs.declared.fault.ElfFault.{ElfFault}
 use Rattle.std.specs.Prelude.{Err}
 use Rattle.fallible_elf.proofs.NameLemmas.{names_within_next, names_within_fault, names_within_all}
 use Rattle.fallible_elf.proofs.names.check_names.Goals as goal

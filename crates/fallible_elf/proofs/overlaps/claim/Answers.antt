@@ -1,6 +1,6 @@
 -- All bytes were marked.
 use Rattle.std.specs.Prelude.{◌≡◌, ℕ, ◌<◌, ◌≤◌, false}
-use Rattle.std.proofs.Common.{rules, subst, get_or, arith}
+use Rattle.std.proofs.Common.{subst, get_or, arith}
 use Rattle.fallible_elf.specs.Overlaps.{MarksMore}
 use Rattle.fallible_elf.proofs.overlaps.claim.Goals as goal
 

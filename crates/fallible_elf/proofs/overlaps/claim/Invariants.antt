@@ -1,6 +1,6 @@
 -- The bytes so far were marked, and none of them was before.
 use Rattle.std.proofs.Common.{◌≡◌, ℕ, ◌<◌, ◌≤◌, get_or}
-use Rattle.std.specs.Prelude.{false, length}
+use Rattle.std.specs.Prelude.{false}
 use Rattle.fallible_elf.specs.Overlaps.{MarksMore}
 use Rattle.fallible_elf.proofs.overlaps.claim.Given as goal
 

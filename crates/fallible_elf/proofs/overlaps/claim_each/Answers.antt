@@ -1,5 +1,5 @@
 -- The next section shares no byte with those so far, or it shares one.
-use Rattle.std.proofs.Common.{rules, ap, sym, subst, ◌∙◌}
+use Rattle.std.proofs.Common.{ap, sym, subst, ◌∙◌}
 use Rattle.std.proofs.lemmas.List.{take_more}
 use Rattle.std.specs.Prelude.{List, Err}
 use Rattle.fallible_elf.specs.Overlaps.{MarksAre}
