@@ -6,40 +6,50 @@ it over each ELF file of 64 bits below /usr/bin and /usr/lib (or the folders tha
 gcc and objcopy write, as sets of the long form, compressed ones, and files without names, and over damaged copies of four
 files: each byte of the headers and of the address ranges turned over, and cut at many lengths. It compares the status and
 both outputs with what this script reads by itself, and the rows with those of `readelf -SW` and of `readelf
---debug-dump=aranges`. It also runs it over inputs and outputs that refuse.
+--debug-dump=aranges`. It also runs it over inputs and outputs that refuse, over inputs that go on after a header that decides, over files at and
+above the bounds of names and of sections that overlap, within a memory that grows with the file, and with words.
 
 It proves and builds the program first, where that is not done yet. It says each difference, and how many rows were the
 same. The status is 0 where nothing differs but what is named as readelf's own way.
 """
 import os
 import re
+import resource
+import shutil
 import struct
 import subprocess
 import sys
 import tempfile
+import time
 from collections import Counter
 from concurrent.futures import ThreadPoolExecutor
 
 TOP = os.path.dirname(os.path.dirname(os.path.realpath(__file__)))
 CRATE = f"{TOP}/crates/elf_tables"
 PROGRAM = f"{CRATE}/out/elf_tables"
+STORED = ("ends", "ends64", "nameless", "two_sections", "compressed", "riscv.o")
 KINDS = {
     "NULL": 0, "PROGBITS": 1, "SYMTAB": 2, "STRTAB": 3, "RELA": 4, "HASH": 5, "DYNAMIC": 6, "NOTE": 7, "NOBITS": 8,
     "REL": 9, "SHLIB": 10, "DYNSYM": 11, "INIT_ARRAY": 14, "FINI_ARRAY": 15, "PREINIT_ARRAY": 16, "GROUP": 17,
     "SYMTAB SECTION INDICES": 18, "SYMTAB SECTION INDICIES": 18, "RELR": 19, "GNU_HASH": 0x6FFFFFF6,
     "VERDEF": 0x6FFFFFFD, "VERNEED": 0x6FFFFFFE, "VERSYM": 0x6FFFFFFF, "X86_64_UNWIND": 0x70000001,
-    "GNU_ATTRIBUTES": 0x6FFFFFF5, "GNU_LIBLIST": 0x6FFFFFF7, "LLVM_ADDRSIG": 0x6FFF4C03,
+    "RISCV_ATTRIBUTES": 0x70000003, "GNU_ATTRIBUTES": 0x6FFFFFF5, "GNU_LIBLIST": 0x6FFFFFF7, "LLVM_ADDRSIG": 0x6FFF4C03,
 }
 COMPRESSED = "the address ranges are compressed"
+RELOCATED = "the lengths of the address ranges are relocated"
+OVERLAP = "sections of address ranges overlap"
+TOO_LONG = "the sections' names are too long for the file"
+NAMES_OF_RANGES = (b".debug_aranges", b".zdebug_aranges")
 SECTION = re.compile(r"  \[ *(\d+)\] (.*?) +(\S+|SYMTAB SECTION INDIC\S+|\S+: <unknown>) +([0-9a-f]{16}) ([0-9a-f]{6,}) ([0-9a-f]{6,}) [0-9a-f]{2,} ")
 OURS = re.compile(r"(\d+) type (\d+) address 0x([0-9a-f]+) offset 0x([0-9a-f]+) size 0x([0-9a-f]+) name (.*)")
 RANGE = re.compile(r"unit 0x([0-9a-f]+) address 0x([0-9a-f]+) length 0x([0-9a-f]+)")
 
 
-def run(path):
-    """The program's status, what it prints, and the line on standard error."""
+def run(path, limit=None):
+    """The program's status, what it prints, and the line on standard error, with so many bytes of memory at most."""
+    lower = limit and (lambda: resource.setrlimit(resource.RLIMIT_AS, (limit, limit)))
     with open(path, "rb") as it:
-        done = subprocess.run([PROGRAM], stdin=it, capture_output=True, timeout=60)
+        done = subprocess.run([PROGRAM], stdin=it, capture_output=True, timeout=60, preexec_fn=lower)
     return done.returncode, done.stdout.decode("latin-1"), done.stderr.decode("latin-1")
 
 
@@ -128,11 +138,16 @@ def sections_in(file):
     at, length = header(names)[4:6]
     check(at + length <= size, table + 64 * names + 24, "the names lie outside the file")
     check(length > 0 and file[at + length - 1] == 0, table + 64 * names + 32, "the last name has no end")
-    found = []
+    found, places = [], []
     for n in range(count):
         name = header(n)[0]
         check(name < length, table + 64 * n, "a section's name lies outside the names")
-        found.append((file[at + name:file.index(b"\0", at + name)], *header(n)[1:6]))
+        places.append((at + name, file.index(b"\0", at + name), n))
+    room = 4 * size
+    for start, end, n in places:
+        check(end - start <= room, start, TOO_LONG)
+        room -= end - start
+        found.append((file[start:end], *header(n)[1:6]))
     return found
 
 
@@ -158,12 +173,17 @@ def set_at(file, place, end):
 
 def ranges_in(file, sections):
     """The sets of all sections of address ranges, and their ranges, or a Fault."""
-    sets, ranges = [], []
-    for name, kind, flags, _, place, size in sections:
-        if kind != 1 or name != b".debug_aranges":
-            continue
+    sets, ranges, seen = [], [], bytearray(len(file))
+    sections = [section for section in sections if section[1] == 1 and section[0] in NAMES_OF_RANGES]
+    for _, _, _, _, place, size in sections:
+        if place + size <= len(file):
+            check(1 not in seen[place:place + size], place, OVERLAP)
+            seen[place:place + size] = b"\1" * size
+    kind_of_file, machine = struct.unpack_from("<HH", file, 16)
+    for name, _, flags, _, place, size in sections:
         check(place + size <= len(file), place, "the address ranges lie outside the file")
-        check(flags >> 11 & 1 == 0, place, COMPRESSED)
+        check(flags >> 11 & 1 == 0 and name == b".debug_aranges", place, COMPRESSED)
+        check(kind_of_file != 1 or machine not in (243, 258), place, RELOCATED)
         end = place + size
         while place < end:
             sets.append(set_at(file, place, end))
@@ -207,7 +227,7 @@ def wanted_of(file):
 def status_of(line):
     if re.search(r"no ELF file|64 bits|least byte", line):
         return 5
-    return 6 if re.search(r"compressed|unknown form|unknown version|another size than 8|segments", line) else 1
+    return 6 if re.search(r"compressed|relocated|unknown form|unknown version|another size than 8|segments", line) else 1
 
 
 class Tally:
@@ -236,10 +256,13 @@ def compare_rows(tally, name, text, theirs, status):
 
 
 def stored(tally):
-    data = [f"data/{name}" for name in ("ends", "ends64", "nameless", "two_sections", "compressed")]
+    data = [f"data/{name}" for name in STORED]
     for file, output in [("stdin", "stdout"), ("data/triangle.o", "stdout")] + [(it, f"{it}.txt") for it in data]:
         status, text, told = run(f"{CRATE}/{file}")
-        wanted = (6, "byte 240: the address ranges are compressed\n") if file == "data/compressed" else (0, "")
+        wanted = {
+            "data/compressed": (6, f"byte 240: {COMPRESSED}\n"),
+            "data/riscv.o": (6, f"byte 525: {RELOCATED}\n"),
+        }.get(file, (0, ""))
         with open(f"{CRATE}/{output}", encoding="latin-1") as it:
             if (text, status, told) != (it.read(), *wanted):
                 tally.differs(f"{file}: not what is stored in {output}: {status}, {told!r}")
@@ -265,6 +288,62 @@ def devices(tally):
         tally.count["runs over devices"] += 1
         if (done.returncode, done.stderr.decode()) != wanted:
             tally.differs(f"{what}: status {done.returncode}, {done.stderr.decode()!r}, wanted {wanted}")
+
+
+def usage():
+    """The usage text, which stands in the program's source."""
+    with open(f"{CRATE}/src/main.rt", encoding="utf-8") as it:
+        return re.search(r'USAGE: &str = "([^"]*)"', it.read())[1] + "\n"
+
+
+def arguments(tally):
+    """Runs with words, and without."""
+    file = f"{CRATE}/data/ends"
+    with open(f"{file}.txt", encoding="latin-1") as it:
+        report = it.read()
+    for words, stdin, wanted in (
+        ([file], os.devnull, (0, report, "")),
+        (["-"], file, (0, report, "")),
+        ([], file, (0, report, "")),
+        (["--help"], file, (0, usage(), "")),
+        (["--sections"], file, (2, "", "--sections: unexpected\n" + usage())),
+        ([file, file], file, (2, "", f"{file}: unexpected\n" + usage())),
+        (["-", file], file, (2, "", f"{file}: unexpected\n" + usage())),
+        ([f"{file}.none"], file, (2, "", f"cannot open {file}.none\n")),
+        (["/"], file, (2, "", "read failed\n")),
+        ([os.devnull], file, (5, "", "byte 0: no ELF file\n")),
+        ([f"{CRATE}/data/compressed"], os.devnull, (6, None, f"byte 240: {COMPRESSED}\n")),
+    ):
+        with open(stdin, "rb") as it:
+            done = subprocess.run([PROGRAM, *words], stdin=it, capture_output=True, timeout=60)
+        tally.count["runs with words"] += 1
+        found = (done.returncode, done.stdout.decode("latin-1"), done.stderr.decode("latin-1"))
+        if found != wanted and (found[0], found[2]) != (wanted[0], wanted[1] or wanted[2]):
+            tally.differs(f"words {words}: {found}, wanted {wanted}")
+
+
+def endless(tally):
+    """Runs over inputs that go on, whose first bytes decide."""
+    file = f"{CRATE}/data/ends"
+    with open(file, "rb") as it:
+        begin = it.read(64)
+    for what, head, wanted in (
+        ("no ELF file", b"y\ny\n", "byte 0: no ELF file\n"),
+        ("32 bits", begin[:4] + b"\1" + begin[5:], "byte 4: no file of 64 bits\n"),
+        ("greatest byte first", begin[:5] + b"\2" + begin[6:], "byte 5: numbers don't begin with their least byte\n"),
+    ):
+        for more in (f"yes | head -c {1 << 40}", "sleep 20"):
+            started = time.monotonic()
+            put = subprocess.Popen(["bash", "-c", f"cat; {more}"], stdin=subprocess.PIPE, stdout=subprocess.PIPE)
+            put.stdin.write(head)
+            put.stdin.close()
+            done = subprocess.run([PROGRAM], stdin=put.stdout, capture_output=True, timeout=60)
+            put.stdout.close()
+            took = time.monotonic() - started
+            put.kill()
+            tally.count["runs over inputs that go on"] += 1
+            if (done.returncode, done.stdout, done.stderr.decode()) != (5, b"", wanted) or took > 10:
+                tally.differs(f"{what}, then {more}: {done.returncode}, {done.stderr!r} after {took:.1f} s")
 
 
 def elf_files(folders):
@@ -298,7 +377,7 @@ def compare_file(tally, path):
 def forms(room):
     """Files of each form that compilers write, made in a folder."""
     data = f"{CRATE}/data"
-    for name in ("ends", "ends64", "nameless", "two_sections", "compressed"):
+    for name in STORED:
         yield f"{data}/{name}"
     for flags in ("-gdwarf-4", "-gdwarf-5", "-gdwarf64 -gdwarf-4", "-gdwarf64 -gdwarf-5"):
         path = f"{room}/{flags.replace(' ', '')}"
@@ -319,6 +398,15 @@ def forms(room):
             with open(f"{path}-version-{version}", "wb") as it:
                 it.write(file[:at] + struct.pack("<H", version) + file[at + 2:])
             yield f"{path}-version-{version}"
+    # Objects whose sections of ranges are compressed by their name, or have lengths that the linker writes.
+    packed = f"{room}/packed.o"
+    subprocess.run(f"gcc -g -gz=zlib-gnu -c -o {packed} triangle.c", shell=True, check=True, cwd=data)
+    yield packed
+    for what in ("riscv64", "loongarch64"):
+        compiler = f"{what}-linux-gnu-gcc"
+        if shutil.which(compiler):
+            subprocess.run([compiler, "-g", "-c", "-o", f"{room}/{what}.o", "triangle.c"], check=True, cwd=data)
+            yield f"{room}/{what}.o"
     # As the kernel writes a core of 65,536 segments: one section header without names, whose info is the count.
     with open(f"{data}/ends", "rb") as it:
         file = bytearray(it.read())
@@ -327,6 +415,65 @@ def forms(room):
     with open(f"{room}/core", "wb") as it:
         it.write(file + struct.pack("<IIQQQQIIQQ", 0, 0, 0, 0, 0, 1, 0, 65536, 0, 0))
     yield f"{room}/core"
+
+
+def elf_of(headers, names, body):
+    """A file of these section headers, of which the last is that of the names; the body comes before them."""
+    place = 64 + len(body)
+    table = place + len(names)
+    rows = [*headers, (0, 3, 0, 0, place, len(names))]
+    head = b"\x7fELF\2\1\1" + bytes(9) + struct.pack("<HHIQQQIHHHHHH", 1, 62, 1, 0, 0, table, 0, 64, 0, 0, 64, 0, 0xFFFF)
+    zero = struct.pack("<IIQQQQIIQQ", 0, 0, 0, 0, 0, len(rows) + 1, len(rows), 0, 0, 0)
+    return head + body + names + zero + b"".join(struct.pack("<IIQQQQIIQQ", *row, 0, 0, 1, 0) for row in rows)
+
+
+def long_names(headers, length):
+    """A file whose headers share one name of that length."""
+    return elf_of([(1, 8, 0, 0, 0, 0)] * headers, b"\0" + b"n" * length + b"\0", b"")
+
+
+# a set of one range of the short form
+ONE_SET = struct.pack("<IHIBBIQQQQ", 44, 2, 0, 8, 0, 0, 0x1000, 16, 0, 0)
+
+
+def range_sections(*places, sets=8):
+    """A file of so many sets, and a section of address ranges from each place to each end."""
+    headers = [(1, 1, 0, 0, 64 + place, end - place) for place, end in places]
+    return elf_of(headers, b"\0.debug_aranges\0", ONE_SET * sets)
+
+
+def bounded():
+    """Files at and above the bounds that keep time and memory linear, each with its status."""
+    # Seven names of n bytes are 7 * n, and the file has n + 642: a header, nine section headers, and two bytes about the name.
+    yield "names of four times the file", long_names(7, 856), 0
+    yield "names of more", long_names(7, 857), 1
+    yield "one long name of 4,096 headers", long_names(4096, 262_000), 1
+    yield "one long name of 16,384 headers", long_names(16_384, 1_000_000), 1
+    size = len(ONE_SET)
+    yield "sections side by side", range_sections((0, size), (2 * size, 3 * size), (size, 2 * size)), 0
+    yield "sections within sections", range_sections((0, 4 * size), (size, 2 * size)), 1
+    yield "sections around sections", range_sections((size, 2 * size), (0, 4 * size)), 1
+    yield "one section twice", range_sections((0, size), (0, size)), 1
+    yield "sections that overlap by a byte", range_sections((2 * size, 3 * size), (0, 2 * size + 1)), 1
+    yield "empty sections in a section", range_sections((0, size), (10, 10), (10, 10)), 0
+    yield "a section outside the file", range_sections((0, size), (0, 1 << 40)), 1
+    yield "4,096 sections of one place", range_sections(*[(0, 5461 * size)] * 4096, sets=5461), 1
+    yield "32,768 sections of one place", range_sections(*[(0, 20_000 * size)] * 32_768, sets=20_000), 1
+
+
+def compare_bounded(tally, room):
+    """Compares files at and above the bounds with their status, over little memory."""
+    for n, (name, file, status) in enumerate(bounded()):
+        path = f"{room}/bounded-{n}"
+        with open(path, "wb") as it:
+            it.write(file)
+        started = time.monotonic()
+        found = run(path, 40 * len(file) + (64 << 20))
+        took = time.monotonic() - started
+        wanted = wanted_of(file)
+        tally.count["files at the bounds"] += 1
+        if found != wanted or wanted[0] != status or took > 5:
+            tally.differs(f"{name}: {found[0]}, {found[2]!r} after {took:.1f} s, wanted {status}, {wanted[2]!r}")
 
 
 def damaged(path):
@@ -390,10 +537,13 @@ def main(folders):
     tally = Tally()
     stored(tally)
     devices(tally)
+    arguments(tally)
+    endless(tally)
     with ThreadPoolExecutor(2) as pool:
         list(pool.map(lambda path: compare_file(tally, path), elf_files(folders)))
         with tempfile.TemporaryDirectory() as room:
             list(pool.map(lambda path: compare_file(tally, path), forms(room)))
+            compare_bounded(tally, room)
             for path in (f"{CRATE}/data/triangle.o", f"{CRATE}/data/ends", f"{CRATE}/data/ends64", "/usr/bin/true"):
                 list(pool.map(lambda it: compare_damaged(tally, room, it[0], *it[1]), enumerate(damaged(path))))
     for what, count in tally.count.items():

@@ -3,13 +3,13 @@ ghost use Rattle.std.specs.Prelude.{◌≢◌, [], MatchResult};
 ghost use Rattle.std.specs.Io.KnownBytes.{Appends};
 ghost use Rattle.elf_tables.specs.Program.{ComesTo, EndsWith};
 
-use example_tasks::reading::ReadWhole;
 use example_tasks::writing::WriteText;
+use fallible_elf::reading::ReadFile;
 use fallible_elf::report::{RunFault, fault_line, run};
 use std::alloc::Global;
 
 // `run` over `input`. The report is made in memory, so it is written whole, and nothing if its allocation fails.
-fn run_whole<R: ReadWhole, W: WriteText>(
+fn run_whole<R: ReadFile, W: WriteText>(
     alloc: Global,
     input: &mut R,
     output: &mut W,
@@ -38,7 +38,7 @@ fn run_whole<R: ReadWhole, W: WriteText>(
 }
 
 // Runs over `input`, and tells `errors` of a fault. The status that the program ends with; an `Err` where there was a line to tell and it could not be written.
-pub(crate) fn program<R: ReadWhole, W: WriteText, E: WriteText>(
+pub(crate) fn program<R: ReadFile, W: WriteText, E: WriteText>(
     alloc: Global,
     input: &mut R,
     output: &mut W,

@@ -1,5 +1,7 @@
 mod NameLemmas
+mod OverlapLemmas
 mod RangeLemmas
+mod ReadingLemmas
 mod ReportLemmas
 mod SectionLemmas
 mod SetLemmas

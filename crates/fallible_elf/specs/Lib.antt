@@ -3,6 +3,8 @@ pub mod Faults
 pub mod Headers
 pub mod Names
 pub mod Numbers
+pub mod Overlaps
+pub mod Reading
 pub mod Report
 pub mod Sections
 pub mod Sets

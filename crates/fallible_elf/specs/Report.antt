@@ -1,14 +1,18 @@
 -- What a run over a file reads and writes, and what it tells of a fault.
-use Rattle.std.specs.Prelude.{◌≡◌, ℕ, List, [], ◌∷◌, ◌++◌, Option, Some, None, Result, Ok, Err, codes, decimal}
+use Rattle.std.specs.Prelude.{◌≡◌, ◌⊎◌, ℕ, List, [], ◌∷◌, ◌++◌, Option, Some, None, Result, Ok, Err, codes, decimal}
 use Rattle.std.specs.Io.KnownBytes.{Appends}
+use Rattle.example_tasks.specs.Reading.{ReadsAll}
 use Rattle.fallible_iterator.specs.Lists.{collected, on_value}
 use Rattle.fallible_elf.specs.Sections.{headers_of}
 use Rattle.fallible_elf.specs.Text.{text_where, sections_text, sets_text, ranges_text}
-use Rattle.fallible_elf.specs.Sets.{sets_of, ranges_of}
+use Rattle.fallible_elf.specs.Names.{names_check}
+use Rattle.fallible_elf.specs.Overlaps.{apart_check}
+use Rattle.fallible_elf.specs.Reading.{HasHeader, HasHeaderFault, ReadsHead}
+use Rattle.fallible_elf.specs.Sets.{range_sections, sets_of, ranges_of}
 use Rattle.fallible_iterator.specs.Fault.{Fault}
 use Rattle.fallible_iterator.specs.Fault.TheVariants.{Source}
 use Rattle.fallible_elf.specs.declared.fault.Damage.{Damage}
-use Rattle.fallible_elf.specs.declared.fault.Damage.TheVariants.{NotElf, HeaderCut, NotWide, NotLittleEndian, EntrySize, TableOutOfRange, NamesNumber, NamesOutOfRange, NamesNotEnded, NameOutOfRange, SetsOutOfRange, SetsCompressed, SetCut, SetForm, SetVersion, AddressSize, SegmentSize, RangesNotEnded}
+use Rattle.fallible_elf.specs.declared.fault.Damage.TheVariants.{NotElf, HeaderCut, NotWide, NotLittleEndian, EntrySize, TableOutOfRange, NamesNumber, NamesOutOfRange, NamesNotEnded, NameOutOfRange, NamesTooLong, SetsOutOfRange, SetsOverlap, SetsCompressed, SetsRelocated, SetCut, SetForm, SetVersion, AddressSize, SegmentSize, RangesNotEnded}
 use Rattle.fallible_elf.specs.declared.fault.ElfFault.{ElfFault}
 use Rattle.fallible_elf.specs.declared.report.RunFault.{RunFault}
 use Rattle.fallible_elf.specs.declared.report.RunFault.TheVariants.{Elf, Read, Memory, Write}
@@ -20,9 +24,17 @@ use Rattle.fallible_elf.specs.declared.tables.Tables.{Tables}
 
 -- ---- what a file has
 
--- the sets of a file and their ranges, or the first fault: of the sets, then of their ranges
+-- the sections of a file, or the first fault: of the headers, then of the names together
+abbrev pub named_sections : List ℕ → Result (List Section) ElfFault
+named_sections bytes = on_value (collected (headers_of bytes)) (λ sections. on_value (names_check bytes sections) (λ _. Ok sections))
+
+-- whether the sections of address ranges of a file lie apart, or the first fault
+abbrev pub ranges_apart : List ℕ → Result (Unit {0}) ElfFault
+ranges_apart bytes = on_value (collected (range_sections bytes)) (λ sections. apart_check bytes sections)
+
+-- the sets of a file and their ranges, or the first fault: of sections of these that overlap, then of the sets, then of their ranges
 abbrev pub found_of : List ℕ → Result (List Set × List Range) ElfFault
-found_of bytes = on_value (collected (sets_of bytes)) (λ sets. on_value (collected (ranges_of bytes)) (λ ranges. Ok (sets, ranges)))
+found_of bytes = on_value (ranges_apart bytes) (λ _. on_value (collected (sets_of bytes)) (λ sets. on_value (collected (ranges_of bytes)) (λ ranges. Ok (sets, ranges))))
 
 -- These are the sets and the ranges, or the first fault of these.
 abbrev pub IsFound : List ℕ → Result Found ElfFault → Type 0
@@ -31,20 +43,20 @@ IsFound bytes (Err f) = found_of bytes ≡ Err f
 
 -- These are all the sections of a file, and its sets and ranges or the first fault of these.
 abbrev pub HasTables : List ℕ → Tables → Type 0
-HasTables bytes tables = (collected (headers_of bytes) ≡ Ok tables.sections.items) × IsFound bytes tables.found
+HasTables bytes tables = (named_sections bytes ≡ Ok tables.sections.items) × IsFound bytes tables.found
 
 -- No section of a file has a fault.
 abbrev pub HasSections : List ℕ → Type 0
-HasSections bytes = (sections : List Section) × (collected (headers_of bytes) ≡ Ok sections)
+HasSections bytes = (sections : List Section) × (named_sections bytes ≡ Ok sections)
 
 -- a fault, or otherwise what comes after
 abbrev pub fault_or : {A : Type 0} → Result A ElfFault → Option ElfFault → Option ElfFault
 fault_or (Ok x) rest = rest
 fault_or (Err f) rest = Some f
 
--- the first fault of a file, where it has one: of its headers, then of its sets, then of their ranges
+-- the first fault of a file, where it has one: of its headers, then of their names, then of sections of address ranges that overlap, then of its sets, then of their ranges
 abbrev pub first_damage : List ℕ → Option ElfFault
-first_damage bytes = fault_or (collected (headers_of bytes)) (fault_or (found_of bytes) None)
+first_damage bytes = fault_or (named_sections bytes) (fault_or (found_of bytes) None)
 
 -- ---- what is written
 
@@ -54,11 +66,17 @@ report_with bytes sections = sections_text bytes sections ++ text_where (λ (set
 
 -- what is written of a file: nothing, where a section has a fault
 abbrev pub report_of : List ℕ → List ℕ
-report_of bytes = text_where (report_with bytes) (collected (headers_of bytes))
+report_of bytes = text_where (report_with bytes) (named_sections bytes)
 
 -- This is the first fault of a file, where it has one, and its report was written, and nothing else.
 abbrev pub Reports : List ℕ → Option ElfFault → Option (List ℕ) → Option (List ℕ) → Type 0
 Reports bytes fault written written' = (first_damage bytes ≡ fault) × Appends written written' (report_of bytes)
+
+-- A file was read that has this first fault, and its report was written, and nothing else: all of a file whose header has no fault; or no more than its header, and nothing was written.
+abbrev pub ReadsFaulty : Option (List ℕ) → Option (List ℕ) → ElfFault → Option (List ℕ) → Option (List ℕ) → Type 0
+ReadsFaulty unread unread' fault written written' =
+    ReadsAll unread unread' (λ bytes. HasHeader bytes × Reports bytes (Some fault) written written')
+    ⊎ ReadsHead unread unread' (λ bytes. HasHeaderFault fault bytes × Reports bytes (Some fault) written written')
 
 -- ---- faults
 
@@ -79,8 +97,11 @@ damage_text NamesNumber = codes "no section has the names"
 damage_text NamesOutOfRange = codes "the names lie outside the file"
 damage_text NamesNotEnded = codes "the last name has no end"
 damage_text NameOutOfRange = codes "a section's name lies outside the names"
+damage_text NamesTooLong = codes "the sections' names are too long for the file"
 damage_text SetsOutOfRange = codes "the address ranges lie outside the file"
+damage_text SetsOverlap = codes "sections of address ranges overlap"
 damage_text SetsCompressed = codes "the address ranges are compressed"
+damage_text SetsRelocated = codes "the lengths of the address ranges are relocated"
 damage_text SetCut = codes "a set of ranges is cut short"
 damage_text SetForm = codes "a set's length has an unknown form"
 damage_text SetVersion = codes "a set has an unknown version"
@@ -105,6 +126,7 @@ damage_status NotElf = 5
 damage_status NotWide = 5
 damage_status NotLittleEndian = 5
 damage_status SetsCompressed = 6
+damage_status SetsRelocated = 6
 damage_status SetForm = 6
 damage_status SetVersion = 6
 damage_status AddressSize = 6

@@ -6,7 +6,7 @@ use Rattle.fallible_elf.specs.Faults.{fault_at, fault_in, first_fault}
 use Rattle.fallible_elf.specs.Numbers.{u16_at, u32_at, u64_at}
 use Rattle.fallible_elf.specs.Sections.{headers_of}
 use Rattle.fallible_elf.specs.declared.fault.ElfFault.{ElfFault}
-use Rattle.fallible_elf.specs.declared.fault.Damage.TheVariants.{SetsOutOfRange, SetsCompressed, SetCut, SetForm, SetVersion, AddressSize, SegmentSize, RangesNotEnded}
+use Rattle.fallible_elf.specs.declared.fault.Damage.TheVariants.{SetsOutOfRange, SetsCompressed, SetsRelocated, SetCut, SetForm, SetVersion, AddressSize, SegmentSize, RangesNotEnded}
 use Rattle.fallible_elf.specs.declared.section.Section.{Section}
 use Rattle.fallible_elf.specs.declared.set.Region.{Region}
 use Rattle.fallible_elf.specs.declared.set.Set.{Set}
@@ -89,15 +89,29 @@ abbrev pub names_ranges : List ℕ → Option ℕ → Bool
 names_ranges bytes None = false
 names_ranges bytes (Some place) = starts_with nat_eq (drop place bytes) (codes ".debug_aranges" ++ 0 ∷ [])
 
--- whether a section has address ranges: its type is 1, and its name is `.debug_aranges`
-unfoldable pub has_ranges : List ℕ → Section → Bool
-has_ranges bytes section = eqb section.kind 1 && names_ranges bytes section.name
+-- whether this is the place of the name `.zdebug_aranges`, by which older tools say that the section is compressed
+abbrev pub names_packed_ranges : List ℕ → Option ℕ → Bool
+names_packed_ranges bytes None = false
+names_packed_ranges bytes (Some place) = starts_with nat_eq (drop place bytes) (codes ".zdebug_aranges" ++ 0 ∷ [])
 
--- The bytes of a section lie in the file, and are not compressed, which bit 11 of the flags would say.
+-- whether a section has address ranges: its type is 1, and its name is `.debug_aranges` or `.zdebug_aranges`
+unfoldable pub has_ranges : List ℕ → Section → Bool
+has_ranges bytes section = eqb section.kind 1 && (names_ranges bytes section.name || names_packed_ranges bytes section.name)
+
+-- whether a section is compressed: bit 11 of its flags says so, or its name
+unfoldable pub is_compressed : List ℕ → Section → Bool
+is_compressed bytes section = eqb (section.flags / 2048 % 2) 1 || names_packed_ranges bytes section.name
+
+-- whether a file's linker still has to write the lengths of ranges: it is a relocatable object, by the two bytes at 16, and its machine, by the two at 18, is RISC-V or LoongArch, where linking may shorten code
+unfoldable pub relocates_lengths : List ℕ → Bool
+relocates_lengths bytes = nat_le 20 (length bytes) && eqb (u16_at bytes 16) 1 && (eqb (u16_at bytes 18) 243 || eqb (u16_at bytes 18) 258)
+
+-- The bytes of a section lie in the file, and are not compressed, and no length in them is relocated.
 abbrev pub region_checks : List ℕ → Section → List (Bool × ElfFault)
 region_checks bytes section =
     (nat_le (section.offset + section.size) (length bytes), fault_at section.offset SetsOutOfRange)
-    ∷ (not (eqb (section.flags / 2048 % 2) 1), fault_at section.offset SetsCompressed)
+    ∷ (not (is_compressed bytes section), fault_at section.offset SetsCompressed)
+    ∷ (not (relocates_lengths bytes), fault_at section.offset SetsRelocated)
     ∷ []
 
 -- the bytes of a section: from its offset on, so many as its size says

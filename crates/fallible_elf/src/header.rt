@@ -27,7 +27,7 @@ const NO_TABLE: Table = Table {
 };
 
 // Looks at the header of the file.
-fn check_header(file: &[u8]) -> Result<(), ElfFault>
+pub(crate) fn check_header(file: &[u8]) -> Result<(), ElfFault>
     ensures checked { result ≡ first_fault (header_checks file.now) }
     ensures long { OnOk result (64 ≤ length file.now) }
 {

@@ -1,6 +1,9 @@
 //! The names of sections.
 ghost use Rattle.std.specs.Prelude.{◌≡◌};
-ghost use Rattle.fallible_elf.specs.Names.{name_length, name_at, name_or_none};
+ghost use Rattle.fallible_elf.specs.Names.{name_length, name_at, name_or_none, place_or_0, names_check};
+
+use crate::fault::{Damage, ElfFault};
+use crate::section::Section;
 
 // How many bytes stand before the first 0.
 fn length_of(bytes: &[u8]) -> usize
@@ -32,4 +35,29 @@ pub fn name_or_none(file: &[u8], place: Option<usize>) -> &[u8]
         Some(place) => name_of(file, place),
         None => &[],
     }
+}
+
+// Where a name begins, or 0 where there is none.
+fn place_or_0(place: Option<usize>) -> usize
+    ensures { result ≡ place_or_0 place }
+{
+    match place {
+        Some(place) => place,
+        None => 0,
+    }
+}
+
+/// Whether the names of a file's sections have together at most four times as many bytes as the file. The fault is at the first byte of the first name with which they have more.
+pub fn check_names(file: &[u8], sections: &[Section]) -> Result<(), ElfFault>
+    ensures { result ≡ names_check file.now sections.now }
+{
+    let mut room = 4 * file.len() as u128;
+    for section in sections {
+        let length = name_or_none(file, section.name).len() as u128;
+        if room < length {
+            return Err(ElfFault::at(place_or_0(section.name), Damage::NamesTooLong));
+        }
+        room -= length;
+    }
+    Ok(())
 }

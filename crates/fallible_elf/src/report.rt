@@ -3,14 +3,14 @@ ghost use Rattle.std.specs.Prelude.{◌≡◌, ◌≢◌, ◌⊎◌, ⊤, Err, S
 ghost use Rattle.std.specs.IoError.{error_kind};
 ghost use Rattle.std.specs.Io.KnownBytes.{Appends, Keeps};
 ghost use Rattle.example_tasks.specs.Reading.{ReadsAll};
-ghost use Rattle.fallible_elf.specs.Report.{HasTables, HasSections, Reports, report_of, damage_text, line_of, status_of, as_run_fault};
+ghost use Rattle.fallible_elf.specs.Report.{HasTables, HasSections, Reports, ReadsFaulty, report_of, damage_text, line_of, status_of, as_run_fault};
 ghost use Rattle.fallible_elf.specs.declared.fault.ElfFault.{ElfFault};
 ghost use Rattle.std.specs.declared.io.ErrorKind.{ErrorKind};
 
 use crate::fault::{Damage, ElfFault};
 use crate::lines::{write_ranges, write_sections, write_sets};
+use crate::reading::ReadFile;
 use crate::tables::{Tables, tables_of};
-use example_tasks::reading::ReadWhole;
 use example_tasks::writing::WriteText;
 use fallible_iterator::Fault;
 use std::alloc::Global;
@@ -91,8 +91,8 @@ pub fn report<W: WriteText>(alloc: Global, file: &[u8], writer: &mut W) -> Resul
     }
 }
 
-/// Reads a file up to the end of `reader`, which may be any reader of std, and writes its report to `writer`, as `report` does. It also fails with `Read` where a read fails, and with `Memory` if the allocation for the file fails. An interrupted read is tried again. At `Read` and `Memory` nothing is written.
-pub fn run<R: ReadWhole, W: WriteText>(
+/// Reads a file up to the end of `reader`, which may be any reader of std, and writes its report to `writer`, as `report` does. It looks at the header first: at a fault of it at most 64 bytes are read. It also fails with `Read` where a read fails, and with `Memory` if the allocation for the file fails. An interrupted read is tried again. At `Read` and `Memory` nothing is written.
+pub fn run<R: ReadFile, W: WriteText>(
     alloc: Global,
     reader: &mut R,
     writer: &mut W,
@@ -100,8 +100,8 @@ pub fn run<R: ReadWhole, W: WriteText>(
     ensures ok { OnOk result (ReadsAll (R.left reader.old) (R.left reader.new)
         (λ bytes. Reports bytes None (W.written writer.old) (W.written writer.new))) }
     ensures fault { (fault : ElfFault) → result ≡ Err (RunFault.Elf fault)
-        → ReadsAll (R.left reader.old) (R.left reader.new)
-        (λ bytes. Reports bytes (Some fault) (W.written writer.old) (W.written writer.new)) }
+        → ReadsFaulty (R.left reader.old) (R.left reader.new) fault
+        (W.written writer.old) (W.written writer.new) }
     ensures write { result ≡ Err RunFault.Write
         → ReadsAll (R.left reader.old) (R.left reader.new) HasSections × W.failed writer.new }
 
@@ -117,8 +117,9 @@ pub fn run<R: ReadWhole, W: WriteText>(
         ⊎ ReadsAll (R.left reader.old) (R.left reader.new) (λ _. ⊤))
         × Keeps (W.written writer.old) (W.written writer.new) }
 {
-    match reader.read_whole(alloc) {
-        Ok(file) => report(alloc, file.as_slice(), writer),
+    match reader.read_file(alloc) {
+        Ok(Ok(file)) => report(alloc, file.as_slice(), writer),
+        Ok(Err(fault)) => Err(RunFault::Elf(fault)),
         Err(e) => Err(fault_of_read(&e)),
     }
 }
@@ -138,8 +139,11 @@ fn text_of(damage: Damage) -> &'static str
         Damage::NamesOutOfRange => "the names lie outside the file",
         Damage::NamesNotEnded => "the last name has no end",
         Damage::NameOutOfRange => "a section's name lies outside the names",
+        Damage::NamesTooLong => "the sections' names are too long for the file",
         Damage::SetsOutOfRange => "the address ranges lie outside the file",
+        Damage::SetsOverlap => "sections of address ranges overlap",
         Damage::SetsCompressed => "the address ranges are compressed",
+        Damage::SetsRelocated => "the lengths of the address ranges are relocated",
         Damage::SetCut => "a set of ranges is cut short",
         Damage::SetForm => "a set's length has an unknown form",
         Damage::SetVersion => "a set has an unknown version",
@@ -158,6 +162,7 @@ impl RunFault {
             RunFault::Elf(fault) => match fault.damage {
                 Damage::NotElf | Damage::NotWide | Damage::NotLittleEndian => 5,
                 Damage::SetsCompressed
+                | Damage::SetsRelocated
                 | Damage::SetForm
                 | Damage::SetVersion
                 | Damage::AddressSize

@@ -5,9 +5,10 @@ ghost use Rattle.fallible_iterator.specs.Laws.Showing.{lawful_listing};
 ghost use Rattle.fallible_iterator.specs.Lists.{CollectedAs};
 ghost use Rattle.fallible_iterator.specs.Own.{bounded_by};
 ghost use Rattle.fallible_iterator.specs.Showing.{listing};
-ghost use Rattle.fallible_elf.specs.Sets.{names_ranges, has_ranges, region_of, sets_between, sets_in, sets_of};
+ghost use Rattle.fallible_elf.specs.Sets.{names_ranges, names_packed_ranges, has_ranges, is_compressed, relocates_lengths, region_of, range_sections, sets_between, sets_in, sets_of};
 
 use crate::fault::{Damage, ElfFault};
+use crate::numbers::u16_at;
 use crate::section::Section;
 use crate::sections::sections_of;
 use crate::set::{Region, Set};
@@ -25,12 +26,41 @@ fn names_ranges(file: &[u8], name: Option<usize>) -> bool
     }
 }
 
+// Whether this is the place of the name `.zdebug_aranges`.
+fn names_packed_ranges(file: &[u8], name: Option<usize>) -> bool
+    ensures { result ≡ names_packed_ranges file.now name }
+{
+    match name {
+        Some(place) => place <= file.len() && file[place..].starts_with(b".zdebug_aranges\0"),
+        None => false,
+    }
+}
+
 // Whether a section has address ranges.
 #[tactic(auto, unfolding(crate::specs::Sets::has_ranges))]
 pub(crate) fn has_ranges(file: &[u8], section: &Section) -> bool
     ensures { result ≡ has_ranges file.now section.now }
 {
-    section.kind == 1 && names_ranges(file, section.name)
+    section.kind == 1
+        && (names_ranges(file, section.name) || names_packed_ranges(file, section.name))
+}
+
+// Whether a section is compressed.
+#[tactic(auto, unfolding(crate::specs::Sets::is_compressed))]
+fn is_compressed(file: &[u8], section: &Section) -> bool
+    ensures { result ≡ is_compressed file.now section.now }
+{
+    section.flags / 2048 % 2 == 1 || names_packed_ranges(file, section.name)
+}
+
+// Whether the file's linker still has to write the lengths of ranges.
+#[tactic(auto, unfolding(crate::specs::Sets::relocates_lengths))]
+fn relocates_lengths(file: &[u8]) -> bool
+    ensures { result ≡ relocates_lengths file.now }
+{
+    file.len() >= 20
+        && u16_at(file, 16) == 1
+        && (u16_at(file, 18) == 243 || u16_at(file, 18) == 258)
 }
 
 // The bytes of a section.
@@ -43,8 +73,11 @@ fn region_of(file: &[u8], section: &Section) -> Result<Region, ElfFault>
     if file.len() < place || file.len() - place < size {
         return Err(ElfFault::at(place, Damage::SetsOutOfRange));
     }
-    if section.flags / 2048 % 2 == 1 {
+    if is_compressed(file, section) {
         return Err(ElfFault::at(place, Damage::SetsCompressed));
+    }
+    if relocates_lengths(file) {
+        return Err(ElfFault::at(place, Damage::SetsRelocated));
     }
     Ok(Region {
         place,
@@ -140,6 +173,15 @@ impl<'a> IntoFallibleIterator for SectionIn<'a> {
             fault: None,
         }
     }
+}
+
+/// The sections of a file that have address ranges, or its first fault.
+pub fn range_sections(alloc: Global, file: &[u8]) -> Result<Vec<Section>, Fault<ElfFault>>
+    ensures { CollectedAs (λ all v. v.items ≡ all) (range_sections file.now) result }
+{
+    sections_of(file)
+        .filter(|section| Ok(has_ranges(file, section)))
+        .collect(alloc)
 }
 
 /// The sets of all sections of a file that have address ranges, or its first fault.

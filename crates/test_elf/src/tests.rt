@@ -2,7 +2,7 @@
 use crate::object::OBJECT;
 use fallible_elf::fault::{Damage, ElfFault};
 use fallible_elf::lines::write_sections;
-use fallible_elf::names::name_of;
+use fallible_elf::names::{check_names, name_of};
 use fallible_elf::report::{RunFault, fault_line, run};
 use fallible_elf::section::Section;
 use fallible_elf::set::{Range, Set};
@@ -175,6 +175,18 @@ fn cut_at_each_length(rt: HostRuntime) {
 fn bytes_exchanged(rt: HostRuntime) -> Result<(), Fail> {
     let good = Ok(());
     for (place, bytes, wanted) in [
+        // A relocatable object of x86-64, of RISC-V and of LoongArch.
+        (16, [1, 0, 62, 0].as_slice(), good),
+        (
+            16,
+            [1, 0, 243, 0].as_slice(),
+            fault(Damage::SetsRelocated, 199),
+        ),
+        (
+            16,
+            [1, 0, 2, 1].as_slice(),
+            fault(Damage::SetsRelocated, 199),
+        ),
         // No section headers.
         (40, [0; 8].as_slice(), good),
         // The count, and the number of the names, are those in section 0: none, and 0.
@@ -329,6 +341,19 @@ fn two_sections_of_sets(rt: HostRuntime) -> Result<(), Fail> {
     assert_eq!(rt;
         judged(alloc, file.as_slice()),
         fault(Damage::SetsCompressed, 247)
+    );
+    // The second one begins within the first.
+    put(&mut file, 736, &[246]);
+    assert_eq!(rt;
+        judged(alloc, file.as_slice()),
+        fault(Damage::SetsOverlap, 246)
+    );
+    // The first one is called `.zdebug_aranges`, and the second one `zdebug_aranges`.
+    put(&mut file, 504, b".z");
+    put(&mut file, 648, &[32]);
+    assert_eq!(rt;
+        judged(alloc, file.as_slice()),
+        fault(Damage::SetsCompressed, 199)
     );
     Ok(())
 }
@@ -485,6 +510,46 @@ fn run_answers_reads_and_writes_that_fail(rt: HostRuntime) {
             "{room}"
         );
     }
+}
+
+// Of a header with a fault no more is read than what decides.
+#[test]
+fn run_looks_at_header_first(rt: HostRuntime) -> Result<(), Fail> {
+    let wide = with(rt.alloc(), 4, &[1])?;
+    for (bytes, wanted) in [
+        (b"yes\n".as_slice(), fault(Damage::NotElf, 0)),
+        (&wide.as_slice()[..64], fault(Damage::NotWide, 4)),
+    ] {
+        let kind = ErrorKind::Other;
+        let mut reader = BrokenReader { bytes, kind };
+        let mut written = Vec::new(rt.alloc());
+        assert_eq!(rt; run(rt.alloc(), &mut reader, &mut written), wanted);
+        assert!(rt; written.is_empty());
+    }
+    Ok(())
+}
+
+// Three bytes of a name for each section, in a file of four: sixteen at most.
+#[test]
+fn names_together(rt: HostRuntime) {
+    let file = b"abc\0";
+    let section = |name| Section {
+        name,
+        kind: 1,
+        flags: 0,
+        address: 0,
+        offset: 0,
+        size: 0,
+    };
+    let [long, short, none] = [Some(0), Some(2), None].map(section);
+    let sections = [long, long, none, long, long, long, short, short];
+    assert_eq!(rt; check_names(file, &sections[..7]), Ok(()));
+    let place = 2;
+    let damage = Damage::NamesTooLong;
+    assert_eq!(rt;
+        check_names(file, &sections),
+        Err(ElfFault { damage, place })
+    );
 }
 
 fn expect_line(rt: &impl Abort, alloc: Global, fault: RunFault, line: &[u8], status: u8) {
