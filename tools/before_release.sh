@@ -7,5 +7,6 @@ cd "$(dirname "$0")"
 ./release_pairs.sh
 ./closed_devices.sh
 ./table_runs.sh
+./groups_runs.py
 ./elf_runs.py
 ./refused_memory.sh

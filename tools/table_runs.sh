@@ -194,7 +194,7 @@ compare 'a byte 0xff' 1 '' 'byte 17: not UTF-8'
 
 begin
 "$program" <"$work/cut_character" >"$work/out" 2>"$work/err" || status=$?
-compare 'a character cut short, behind a bad row' 1 '' 'byte 7: not UTF-8'
+compare 'a character cut short, behind a bad row' 1 '' 'row 1: not a key and an amount'
 
 begin
 "$program" <&- >"$work/out" 2>"$work/err" || status=$?

@@ -1,9 +1,9 @@
 -- What lines of rows say, and what is printed of rows.
-use Rattle.std.specs.Prelude.{◌≡◌, ⊤, ℕ, ◌+◌, ◌%◌, ◌^◌, Bool, ◌==◌, nat_eq, nat_lt, if◌then◌else◌, List, [], ◌∷◌, ◌++◌, length, map, Option, Some, None, Result, Ok, Err, codes, decimal}
+use Rattle.std.specs.Prelude.{◌≡◌, ℕ, ◌+◌, ◌%◌, ◌^◌, Bool, ◌==◌, nat_eq, nat_lt, if◌then◌else◌, List, [], ◌∷◌, ◌++◌, length, map, Option, Some, None, Result, Ok, Err, codes, decimal}
 use Rattle.std.specs.Option.{ok_or}
 use Rattle.std.specs.List.{before_first, after_first, position_or_len}
 use Rattle.std.specs.Str.Lines.{lines}
-use Rattle.fallible_iterator.specs.Lists.{collected, items, mapped, on_value, scanned, taken}
+use Rattle.fallible_iterator.specs.Lists.{collected, items, mapped, on_value, scanned}
 use Rattle.fallible_itertools.specs.ChunkBy.{chunked_by}
 use Rattle.fallible_itertools.specs.Chunks.{chunked}
 use Rattle.fallible_itertools.specs.CheckedSum.{sum_below, totalled}
@@ -32,17 +32,17 @@ row_of text = if nat_lt (position_or_len is_comma text) (length text)
     then row_with (number_of (before_first is_comma text)) (number_of (after_first is_comma text))
     else None
 
--- the row, or the fault that tells the place of a line that is none
-abbrev pub row_at : ℕ → Option Row → Result Row Fault
-row_at place found = ok_or found (NoRow place)
+-- the row, or the place of a line that is none
+abbrev pub row_at : ℕ → Option Row → Result Row ℕ
+row_at place found = ok_or found place
 
--- the rows that were found, up to the first line that is none; places count from 1 on
-abbrev pub rows_in : List (Result (Option Row) Fault) → List (Result Row Fault)
+-- the rows that were found, and for each line that is none its place; places count from 1 on
+abbrev pub rows_in : List (Result (Option Row) ℕ) → List (Result Row ℕ)
 rows_in found = scanned (λ before row. let place = (before + 1) % 2 ^ 64 in (on_value (row_at place row) (λ r. Ok (Some r)), place)) 0 found
 
--- the rows that the lines of a text are, the first 1,000,000 of them, or the fault of the first line that is none
-abbrev pub rows_of : List ℕ → Result (List Row) Fault
-rows_of text = collected (taken 1000000 (rows_in (items (map row_of (lines text)))))
+-- the rows that the lines of a text are, or the place of the first line that is none
+abbrev pub rows_of : List ℕ → Result (List Row) ℕ
+rows_of text = collected (rows_in (items (map row_of (lines text))))
 
 -- ---- lines
 
@@ -91,10 +91,10 @@ batches_text rows = text_of batch_line (chunked {E = AllocError} 3 (items rows))
 abbrev pub report_of : List Row → List ℕ
 report_of rows = groups_text rows ++ batches_text rows
 
--- What a fault says of a text whose report could not be made: that the line at this place is the first that is no row, or that there was no memory.
-abbrev pub IsFaultOf : List ℕ → Fault → Type 0
-IsFaultOf text (NotText place) = ⊥
-IsFaultOf text (NoRow place) = rows_of text ≡ Err (NoRow place)
-IsFaultOf text Read = ⊥
-IsFaultOf text Memory = ⊤
-IsFaultOf text Print = ⊥
+-- What a fault says of a text whose report could not be made: that the line at this place is the first that is no row, or that its lines are rows, and the memory for them or their report was refused.
+abbrev pub IsFaultOf : (List ℕ → Type 0) → List ℕ → Fault → Type 0
+IsFaultOf refused text (NotText place) = ⊥
+IsFaultOf refused text (NoRow place) = rows_of text ≡ Err place
+IsFaultOf refused text Read = ⊥
+IsFaultOf refused text Memory = ((rows : List Row) × (rows_of text ≡ Ok rows)) × refused text
+IsFaultOf refused text Print = ⊥

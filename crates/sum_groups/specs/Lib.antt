@@ -2,3 +2,4 @@
 pub mod Faults
 pub mod Groups
 pub mod Program
+pub mod Reading

@@ -1,6 +1,8 @@
 // The rows of lines, and their groups and batches, each printed as a line.
-ghost use Rattle.std.specs.Prelude.{◌≡◌, ◌++◌, ℕ, List, Option, Result, Ok, Err, IfOk, MatchResult, vec_items};
-ghost use Rattle.fallible_iterator.specs.Lists.{Lists, collected, taken};
+ghost use Rattle.std.specs.Prelude.{◌≡◌, ◌++◌, ◌+◌, ◌%◌, ◌^◌, ℕ, List, Option, Result, Some, Ok, Err, IfOk, MatchOption, MatchResult, OnErr, OnOk, map, vec_items, ⊤};
+ghost use Rattle.std.specs.Io.KnownBytes.{Appends};
+ghost use Rattle.std.specs.Str.Lines.{lines};
+ghost use Rattle.fallible_iterator.specs.Lists.{Lists, collected, items, last_of, on_value};
 ghost use Rattle.sum_groups.specs.Groups.{IsFaultOf, batches_text, first_key, groups_text, line_of, report_of, row_at, row_of, rows_in, rows_of, sum_of};
 ghost use Rattle.std.specs.declared.vec.Vec.{Vec};
 ghost use Rattle.std.specs.declared.alloc.Global.{Global};
@@ -10,14 +12,12 @@ ghost use Rattle.sum_groups.specs.declared.groups.Row.{Row};
 
 use crate::fault::Fault;
 use example_tasks::numbers::number_of;
+use example_tasks::writing::WriteText;
 use fallible_iterator::{FallibleIterator, Fault as Collecting, convert, convert_fused};
 use fallible_itertools::FallibleItertools;
 use std::alloc::{AllocError, Global};
 use std::convert::Infallible;
-use std::io::Write;
-
-/// How many rows are read at most.
-const MAX_ROWS: usize = 1_000_000;
+use std::io;
 
 /// How many rows a batch has.
 const BATCH: usize = 3;
@@ -40,46 +40,71 @@ fn row_of(line: &str) -> Option<Row>
     }
 }
 
-// The row that the line at this place is, if one was found there.
-fn row_at(place: u64, found: Option<Row>) -> Result<Row, Fault>
-    ensures { result ≡ row_at place found }
+// Counts a line, and returns the row that it is; or its place, if none was found there.
+fn row_at(place: &mut u64, found: Option<Row>) -> Result<Option<Row>, u64>
+    ensures place { place.new ≡ (place.old + 1) % 2 ^ 64 }
+    ensures row { result ≡ on_value (row_at place.new found) (λ row. Ok (Some row)) }
 {
-    found.ok_or(Fault::NoRow(place))
+    *place = place.wrapping_add(1);
+    Ok(Some(found.ok_or(*place)?))
 }
 
-// The rows that were found, at most `MAX_ROWS`, or the first fault.
-fn rows_found<I: FallibleIterator<Item = Option<Row>, Error = Fault>>(
+// The rows that were found, or the place of the first line that is none.
+fn rows_found<I: FallibleIterator<Item = Option<Row>, Error = u64>>(
     alloc: Global,
     found: I,
-) -> Result<Vec<Row>, Collecting<Fault>>
+) -> Result<Vec<Row>, Collecting<u64>>
 where
     requires can_next { I.contract.can_next found }
     requires finite { I.contract.is_finite found }
-    ensures ok { (l : List (Result (Option Row) Fault)) → Lists I.contract.steps found l
-        → (rows : Vec Row Global) → result ≡ Ok rows
-        → collected (taken 1000000 (rows_in l)) ≡ Ok rows.items }
-    ensures fault { (l : List (Result (Option Row) Fault)) → Lists I.contract.steps found l
-        → (fault : Fault) → result ≡ Err (Source fault)
-        → collected (taken 1000000 (rows_in l)) ≡ Err fault }
+    ensures ok { (l : List (Result (Option Row) ℕ)) → Lists I.contract.steps found l
+        → (rows : Vec Row Global) → result ≡ Ok rows → collected (rows_in l) ≡ Ok rows.items }
+    ensures fault { (l : List (Result (Option Row) ℕ)) → Lists I.contract.steps found l
+        → (place : ℕ) → result ≡ Err (Source place) → collected (rows_in l) ≡ Err place }
 {
-    found
-        .scan(0, |place: &mut u64, row: Option<Row>| {
-            *place = place.wrapping_add(1);
-            Ok(Some(row_at(*place, row)?))
-        })
-        .take(MAX_ROWS)
-        .collect(alloc)
+    found.scan(0, row_at).collect(alloc)
 }
 
-// The rows that the lines of a text are, at most `MAX_ROWS`, or the fault of the first that is none.
-fn rows_of(alloc: Global, text: &str) -> Result<Vec<Row>, Collecting<Fault>>
+// The last of the rows that were found, or the place of the first line that is none.
+fn last_found<I: FallibleIterator<Item = Option<Row>, Error = u64>>(
+    found: I,
+) -> Result<Option<Row>, u64>
+where
+    requires can_next { I.contract.can_next found }
+    requires finite { I.contract.is_finite found }
+    ensures { (l : List (Result (Option Row) ℕ)) → Lists I.contract.steps found l
+        → result ≡ last_of (rows_in l) }
+{
+    found.scan(0, row_at).last()
+}
+
+// The rows that the lines of a text are, or the place of the first that is none.
+fn rows_of(alloc: Global, text: &str) -> Result<Vec<Row>, Collecting<u64>>
     ensures ok { (rows : Vec Row Global) → result ≡ Ok rows → rows_of text.now ≡ Ok rows.items }
-    ensures fault { (fault : Fault) → result ≡ Err (Source fault) → rows_of text.now ≡ Err fault }
+    ensures fault { (place : ℕ) → result ≡ Err (Source place) → rows_of text.now ≡ Err place }
 {
     rows_found(
         alloc,
         convert_fused(text.lines().map(|line: &str| Ok(row_of(line)))),
     )
+}
+
+// The last of the rows that the lines of a text are, or the place of the first that is none. It allocates nothing.
+fn last_row(text: &str) -> Result<Option<Row>, u64>
+    ensures { result ≡ last_of (rows_in (items (map row_of (lines text.now)))) }
+{
+    last_found(convert_fused(text.lines().map(|line: &str| Ok(row_of(line)))))
+}
+
+// The place of the first line of a text that is no row, if there is one. It allocates nothing.
+pub(crate) fn no_row_at(text: &str) -> Option<u64>
+    ensures { MatchOption result ((rows : List Row) × (rows_of text.now ≡ Ok rows))
+        (λ place. rows_of text.now ≡ Err place) }
+{
+    match last_row(text) {
+        Ok(_) => None,
+        Err(place) => Some(place),
+    }
 }
 
 // The sum of the amounts, where it fits.
@@ -91,19 +116,27 @@ fn sum_of(rows: &[Row]) -> Result<Option<u64>, Infallible>
         .checked_sum()
 }
 
+// Writes the line of some rows under a name.
+fn write_line<W: WriteText>(report: &mut W, name: u64, rows: &[Row]) -> io::Result<()>
+    ensures line { OnOk result
+        (Appends (W.written report.old) (W.written report.new) (line_of name rows.now)) }
+    ensures failed { OnErr result (W.failed report.new) }
+{
+    let many = rows.len();
+    match sum_of(rows) {
+        Ok(Some(sum)) => report.write_text(format_args!("{name}: {many} rows, {sum}\n")),
+        Ok(None) => report.write_text(format_args!("{name}: {many} rows, too large\n")),
+        Err(never) => match never {},
+    }
+}
+
 // The report with the line of some rows after it, under a name.
 fn print_line(mut report: Vec<u8>, name: u64, rows: &[Row]) -> Result<Vec<u8>, Fault>
     ensures { MatchResult result
         (λ printed. vec_items printed ≡ vec_items report ++ line_of name rows.now)
         (λ fault. fault ≡ Memory) }
 {
-    let many = rows.len();
-    let printed = match sum_of(rows) {
-        Ok(Some(sum)) => writeln!(report, "{name}: {many} rows, {sum}"),
-        Ok(None) => writeln!(report, "{name}: {many} rows, too large"),
-        Err(never) => match never {},
-    };
-    match printed {
+    match write_line(&mut report, name, rows) {
         Ok(()) => Ok(report),
         Err(_) => Err(Fault::Memory),
     }
@@ -151,18 +184,40 @@ fn print_both(alloc: Global, rows: &[Row]) -> Result<Vec<u8>, Fault>
     print_batches(alloc, groups, rows)
 }
 
-// The report of the rows that the lines of a text are, made in memory, or the fault of the first line that is none.
-pub(crate) fn report_of(alloc: Global, text: &str) -> Result<Vec<u8>, Fault>
-    ensures { MatchResult result (λ report. (rows : List Row) × (rows_of text.now ≡ Ok rows)
-        × (vec_items report ≡ report_of rows)) (IsFaultOf text.now) }
+// Why a text has no report, where memory was refused: the first line that is no row, or otherwise that.
+fn fault_of(text: &str) -> Fault
+    ensures { IsFaultOf (λ _. ⊤) text.now result }
 {
-    let rows = match rows_of(alloc, text) {
-        Ok(rows) => rows,
-        Err(Collecting::Source(Fault::NoRow(place))) => return Err(Fault::NoRow(place)),
-        Err(_) => return Err(Fault::Memory),
-    };
-    match print_both(alloc, rows.as_slice()) {
-        Ok(report) => Ok(report),
-        Err(_) => Err(Fault::Memory),
+    match no_row_at(text) {
+        Some(place) => Fault::NoRow(place),
+        None => Fault::Memory,
+    }
+}
+
+// Something that makes reports in memory.
+pub(crate) trait MakeReport {
+    // It was refused the memory for the rows of a text, or for their report.
+    ghost refused: { Self → List ℕ → Type 0 };
+
+    // The report of the rows that the lines of a text are, or the fault of the first line that is none.
+    fn report_of(&self, text: &str) -> Result<Vec<u8>, Fault>
+        ensures { MatchResult result (λ report. (rows : List Row) × (rows_of text.now ≡ Ok rows)
+            × (vec_items report ≡ report_of rows)) (IsFaultOf (refused self.now) text.now) };
+}
+
+impl MakeReport for Global {
+    // Std says of no request that it is granted.
+    ghost refused = { λ _ _. ⊤ };
+
+    fn report_of(&self, text: &str) -> Result<Vec<u8>, Fault> {
+        let rows = match rows_of(*self, text) {
+            Ok(rows) => rows,
+            Err(Collecting::Source(place)) => return Err(Fault::NoRow(place)),
+            Err(Collecting::Memory(_)) => return Err(fault_of(text)),
+        };
+        match print_both(*self, rows.as_slice()) {
+            Ok(report) => Ok(report),
+            Err(_) => Err(Fault::Memory),
+        }
     }
 }

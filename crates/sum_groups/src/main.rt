@@ -1,22 +1,39 @@
-//! Reads rows `key,amount` from standard input, which are sorted by key, at most 1,000,000 of them. It prints one line a group of rows with one key: the key, how many rows it has, and the sum of their amounts, or `too large` where that doesn't fit. Then come the same rows in batches of three, each with the key of its first row.
+//! Reads rows `key,amount`, which are sorted by key, from the file that its word names or from standard input. It prints one line a group of rows with one key: the key, how many rows it has, and the sum of their amounts, or `too large` where that doesn't fit. Then come the same rows in batches of three, each with the key of its first row.
 //!
-//! Where that cannot be told, it says why on standard error, and prints nothing. It ends with status 1 at a row that is none, of which it tells the place, and at a byte that is no UTF-8; with 2 where a read fails, 3 where memory runs out, and 4 where the report can't be printed.
+//! Where that cannot be told, it says why on standard error, and prints nothing. It ends with status 1 at a row that is none, of which it tells the place, and at a byte that is no UTF-8; with 2 where a read fails, the file can't be opened, or a word is none that it takes, 3 where memory runs out, and 4 where the report can't be printed. It reads the rest only if the first line is a row.
 #![tactic(auto)]
 
 mod fault;
 mod groups;
 mod program;
+mod reading;
 
+use example_tasks::arguments::input_of;
+use fault::{Fault, tell};
 use program::program;
+use std::io::BufReader;
 use std::process::ExitCode;
 
+const USAGE: &str = "usage: sum_groups [FILE]
+       sum_groups --help
+Reads rows `key,amount`, sorted by key, and prints a line for each group of rows
+with one key, and then for each three rows: the key, the number of rows, and the
+sum of their amounts.
+It reads one FILE at most, and standard input where FILE is - or none is given.
+A FILE whose name begins with - is given as ./-NAME.";
+
 fn main(rt: HostRuntime) -> ExitCode {
-    match program(
-        rt.alloc(),
-        &mut rt.stdin(),
-        &mut rt.stdout(),
-        &mut rt.stderr(),
-    ) {
+    let mut output = rt.stdout();
+    let mut errors = rt.stderr();
+    let input = match input_of(&rt, rt.stdin(), USAGE, &mut output, &mut errors) {
+        Ok(input) => input,
+        Err(status) => return ExitCode::from(status),
+    };
+    let ended = match BufReader::new(rt.alloc(), input) {
+        Ok(mut rows) => program(rt.alloc(), &rt.alloc(), &mut rows, &mut output, &mut errors),
+        Err(_) => tell(&Fault::Memory, &mut errors),
+    };
+    match ended {
         Ok(status) | Err(status) => ExitCode::from(status),
     }
 }

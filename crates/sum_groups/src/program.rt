@@ -1,40 +1,71 @@
 // The program, over any input and any two outputs.
-ghost use Rattle.std.specs.Prelude.{◌≢◌, [], MatchResult, vec_items};
+ghost use Rattle.std.specs.Prelude.{◌≢◌, [], MatchOption, MatchResult, vec_items};
 ghost use Rattle.std.specs.Io.KnownBytes.{Appends};
-ghost use Rattle.sum_groups.specs.Program.{ComesTo, EndsWith, HasFault, IsReportOf};
+ghost use Rattle.sum_groups.specs.Program.{AreRows, ComesTo, EndsWith, HasFault, IsNoRows, IsReportOf, ReadsRows};
 
 use crate::fault::{Fault, fault_of_read, tell};
-use crate::groups::report_of;
-use example_tasks::reading::ReadWhole;
+use crate::groups::{MakeReport, no_row_at};
+use crate::reading::ReadLines;
 use example_tasks::writing::WriteText;
 use std::alloc::Global;
 use std::str::from_utf8;
 
 // The report of the rows that bytes are, or their fault.
-fn report_of_bytes(alloc: Global, bytes: &[u8]) -> Result<Vec<u8>, Fault>
+fn report_of_bytes<M: MakeReport>(maker: &M, bytes: &[u8]) -> Result<Vec<u8>, Fault>
     ensures { MatchResult result (λ report. IsReportOf bytes.now (vec_items report))
-        (HasFault bytes.now) }
+        (HasFault (M.refused maker.now) bytes.now) }
 {
     match from_utf8(bytes) {
-        Ok(text) => report_of(alloc, text),
+        Ok(text) => maker.report_of(text),
         Err(e) => Err(Fault::NotText(e.valid_up_to())),
     }
 }
 
+// Why bytes are no rows, if they are none. It allocates nothing.
+fn fault_of_bytes(bytes: &[u8]) -> Option<Fault>
+    ensures { MatchOption result (AreRows bytes.now) (IsNoRows bytes.now) }
+{
+    match from_utf8(bytes) {
+        Ok(text) => match no_row_at(text) {
+            Some(place) => Some(Fault::NoRow(place)),
+            None => None,
+        },
+        Err(e) => Some(Fault::NotText(e.valid_up_to())),
+    }
+}
+
+// The bytes of `input`, which is read up to its end only if its first line is a row.
+fn read_rows<R: ReadLines>(alloc: Global, input: &mut R) -> Result<Vec<u8>, Fault>
+    ensures { ReadsRows R.left R.fails input.old input.new result }
+{
+    let mut bytes = match input.read_first_line(alloc) {
+        Ok(line) => line,
+        Err(e) => return Err(fault_of_read(&e)),
+    };
+    match fault_of_bytes(bytes.as_slice()) {
+        Some(fault) => Err(fault),
+        None => match input.read_rest(&mut bytes) {
+            Ok(()) => Ok(bytes),
+            Err(e) => Err(fault_of_read(&e)),
+        },
+    }
+}
+
 // Prints the report of `input`. It is made in memory, so it is written whole, and nothing if there is a fault or its allocation fails.
-fn run<R: ReadWhole, W: WriteText>(
+fn run<M: MakeReport, R: ReadLines, W: WriteText>(
     alloc: Global,
+    maker: &M,
     input: &mut R,
     output: &mut W,
 ) -> Result<(), Fault>
-    ensures { ComesTo R.left R.fails input.old input.new W.failed
+    ensures { ComesTo R.left R.fails input.old input.new (M.refused maker.now) W.failed
         (W.written output.old) (W.written output.new) output.new result }
 {
-    let bytes = match input.read_whole(alloc) {
+    let bytes = match read_rows(alloc, input) {
         Ok(bytes) => bytes,
-        Err(e) => return Err(fault_of_read(&e)),
+        Err(fault) => return Err(fault),
     };
-    match report_of_bytes(alloc, bytes.as_slice()) {
+    match report_of_bytes(maker, bytes.as_slice()) {
         Ok(report) => match output.write_bytes(report.as_slice()) {
             Ok(()) => Ok(()),
             Err(_) => Err(Fault::Print),
@@ -44,21 +75,22 @@ fn run<R: ReadWhole, W: WriteText>(
 }
 
 // Runs over `input`, and tells `errors` of a fault. The status that the program ends with; an `Err` where there was a line to tell and it could not be written.
-pub(crate) fn program<R: ReadWhole, W: WriteText, E: WriteText>(
+pub(crate) fn program<M: MakeReport, R: ReadLines, W: WriteText, E: WriteText>(
     alloc: Global,
+    maker: &M,
     input: &mut R,
     output: &mut W,
     errors: &mut E,
 ) -> Result<u8, u8>
     ensures { MatchResult result
-        (EndsWith R.left R.fails input.old input.new W.failed
+        (EndsWith R.left R.fails input.old input.new (M.refused maker.now) W.failed
         (W.written output.old) (W.written output.new) output.new
         (Appends (E.written errors.old) (E.written errors.new)))
-        (EndsWith R.left R.fails input.old input.new W.failed
+        (EndsWith R.left R.fails input.old input.new (M.refused maker.now) W.failed
         (W.written output.old) (W.written output.new) output.new
         (λ line. (line ≢ []) × E.failed errors.new)) }
 {
-    match run(alloc, input, output) {
+    match run(alloc, maker, input, output) {
         Ok(()) => Ok(0),
         Err(fault) => tell(&fault, errors),
     }
