@@ -5,12 +5,12 @@ ghost use Rattle.fallible_iterator.specs.LawForm.{TracesAre};
 ghost use Rattle.fallible_iterator.specs.SoundHints.{HintsAsSoundAsBoth};
 ghost use Rattle.fallible_iterator.specs.Lists.{items};
 ghost use Rattle.fallible_itertools.specs.Adjacent.{AdjacentItems, Interleaved, LetsLessFirst};
-ghost use Rattle.fallible_itertools.specs.MergeBy.{MergeByTrace, merged, merge_by_left, merge_by_parts, merge_by_right};
+ghost use Rattle.fallible_itertools.specs.MergeBy.{MergeByTrace, merged, merge_by_left_fused, merge_by_parts, merge_by_right_fused};
 
 use crate::merge_by::MergeBy;
-use fallible_iterator::FallibleIterator;
+use fallible_iterator::{FallibleIterator, Fuse};
 
-/// A trace of `MergeBy` has an answer for each position. The left's failure takes no draw of the right, whose buffered item stays. After the right's failure the left's item stands at the next position too. Otherwise the answer is the first of two items by the closure, which buffers the other, or the closure's failure, an item alone, or `Ok(None)`.
+/// A trace of `MergeBy` has an answer for each position. Each side is fused, as by `fuse`. The left's failure takes no draw of the right, whose buffered item stays. After the right's failure the left's item stands at the next position too. Otherwise the answer is the first of two items by the closure, which buffers the other, or the closure's failure, an item alone, or `Ok(None)`.
 pub fn law_merge_by<
     T: FallibleIterator,
     U: FallibleIterator<Item = T::Item, Error = T::Error>,
@@ -40,7 +40,7 @@ pub fn law_merged<T, E>()
         → Interleaved a b (merged (λ x y. Ok (goes x y)) a b) }
 {}
 
-/// Each hint of `MergeBy` is as sound as the hints of both sides.
+/// Each hint of `MergeBy` is as sound as the hints of both sides, each fused.
 pub fn law_hints_merge_by<
     T: FallibleIterator,
     U: FallibleIterator<Item = T::Item, Error = T::Error>,
@@ -49,6 +49,7 @@ pub fn law_hints_merge_by<
 where
     T::Item: Drop,
     ensures { (s : MergeBy T U F T.Item T.Error)
-        → HintsAsSoundAsBoth ⟦<MergeBy<T, U, F> as FallibleIterator>⟧.contract s T.contract
-        (merge_by_left s) U.contract (merge_by_right s) }
+        → HintsAsSoundAsBoth ⟦<MergeBy<T, U, F> as FallibleIterator>⟧.contract s
+        ⟦<Fuse<T> as FallibleIterator>⟧.contract (merge_by_left_fused s)
+        ⟦<Fuse<U> as FallibleIterator>⟧.contract (merge_by_right_fused s) }
 {}
