@@ -46,10 +46,6 @@ GivesIf steps p (Some r) t = GivesHeldFirst steps p r t
 GivesIf steps p None t = t ≡ p.0
 
 module _ {S A E : Type 0} (m : Contract S A E) where
-  -- a bound of a side: one of the source, and one more if an item is held
-  abbrev pub side_bound : S × Option A → ℕ → Type 0
-  side_bound p n = (k : ℕ) × m.bound p.0 k × (k + held_count p.1 ≤ n)
-
   -- what remains of a side: of the source, and one more if an item is held
   abbrev pub side_remaining : S × Option A → Count
   side_remaining (s, Some x) = count_map (λ n. n + 1) (m.remaining s)
@@ -175,12 +171,12 @@ module _ {S U A B C E F V : Type 0} (steps : S → Answered A E → S → Type 0
   abbrev pub sides_step : (S × Option A) × (U × Option B) × F → Answered C E → (S × Option A) × (U × Option B) × F → Type 0
   sides_step p r q = (x : SidesPlace A B E V) × GivesIf steps p.0 (left_gave x) q.0.0 × (q.0.1 ≡ left_held_after rule p.0.1 x) × GivesIf others p.1 (right_gave x) q.1.0 × (q.1.1 ≡ right_held_after rule p.1.1 x) × place_decides rule p.2 x q.2 × (r ≡ place_answer rule x)
 
--- The bounds of both sides are added up, and what remains of both.
+-- The bounds of both sides and what is held of them are added up, and so is what remains.
 abbrev pub sides_contract : {S U A B C E F V : Type 0} → Contract S A E → Contract U B E → Rule A B C E F V → ((S × Option A) × (U × Option B) × F → ℕ × Option ℕ → Type 0) → Contract ((S × Option A) × (U × Option B) × F) C E
 sides_contract left right rule hints = record {
   can_next = λ p. left.can_next p.0.0 × right.can_next p.1.0 × rule.askable (side_gives left p.0) (side_gives right p.1) p.2;
   steps = sides_step left.steps right.steps rule;
-  bound = λ p n. (a : ℕ) × (b : ℕ) × side_bound left p.0 a × side_bound right p.1 b × (a + b ≤ n);
+  bound = λ p n. (a : ℕ) × (b : ℕ) × left.bound p.0.0 a × right.bound p.1.0 b × ((a + held_count p.0.1) + (b + held_count p.1.1) ≤ n);
   is_finite = λ p. left.is_finite p.0.0 × right.is_finite p.1.0;
   remaining = λ p. count_add (side_remaining left p.0) (side_remaining right p.1);
   may_give = λ p z. rule.gives (side_gives left p.0) (side_gives right p.1) z;

@@ -8,4 +8,4 @@ pub returns-clause-lists : goal.returns-clause-lists
 returns-clause-lists g c a b i k = lists_merged_in_order g.Self.FallibleIterator.contract g.I.IntoFallibleIter.FallibleIterator.contract g.Self.Item.PartialOrd.partial_cmp _ _ _ a b refl c.fuse.ensures.parts c.fuse-2.ensures.parts i (k _ c.into_fallible_iter.ensures)
 
 pub returns-clause-bounded : goal.returns-clause-bounded
-returns-clause-bounded g c a b k x y le = inr (a + b, (a, b, (a, rw c.fuse.ensures.parts x, omega arith), (b, y, omega arith), omega arith), le)
+returns-clause-bounded g c a b k x y le = inr (a + b, (a, b, rw c.fuse.ensures.parts x, y, omega arith), le)
