@@ -1,5 +1,7 @@
 // The laws of `MergeBy`.
-ghost use Rattle.std.specs.Prelude.{◌≡◌, ◌++◌, Bool, false, List, Ok, Result, IsPermutation, IsSortedBy};
+ghost use Rattle.std.specs.Cmp.{IsStrictWeakOrder};
+ghost use Rattle.std.specs.List.Sorted.{IsStableBy};
+ghost use Rattle.std.specs.Prelude.{◌≡◌, ◌++◌, Bool, false, List, Ok, Result, IsPermutation, IsSortedBy, not};
 ghost use Rattle.fallible_iterator.specs.BothEnds.{items_listed};
 ghost use Rattle.fallible_iterator.specs.LawForm.{TracesAre};
 ghost use Rattle.fallible_iterator.specs.SoundHints.{HintsAsSoundAsBoth};
@@ -22,7 +24,7 @@ where
         (MergeByTrace T.contract.steps U.contract.steps F.FnMut) }
 {}
 
-/// Two sorted lists make a sorted list, if the closure never lets an item go first than which the other is less. So it is between failures, too. If the closure never fails, the merged list has the items of both, and the answers of each list in their order.
+/// Two sorted lists make a sorted list, if the closure never lets an item go first than which the other is less. So it is between failures, too. If the closure never fails, the merged list has the items of both, and the answers of each list in their order. If the left's item goes first unless the right's is less, of equal items those of the left come first, and those of one side in their order.
 pub fn law_merged<T, E>()
     ensures sorted { (lt : T → T → Bool) (goes : T → T → Bool)
         → LetsLessFirst {E = E} lt (λ x y. Ok (goes x y))
@@ -36,6 +38,11 @@ pub fn law_merged<T, E>()
     ensures items { (goes : T → T → Bool) (a : List (Result T E)) (b : List (Result T E))
         → IsPermutation (items_listed a ++ items_listed b)
         (items_listed (merged (λ x y. Ok (goes x y)) a b)) }
+    ensures stable { (lt : T → T → Bool) (goes : T → T → Bool) → IsStrictWeakOrder lt
+        → ((x : T) (y : T) → goes x y ≡ not (lt y x))
+        → (xs : List T) (ys : List T) → IsSortedBy lt xs
+        → IsStableBy lt (xs ++ ys) (items_listed
+        (merged {E = E} (λ x y. Ok (goes x y)) (items xs) (items ys))) }
     ensures answers { (goes : T → T → Bool) (a : List (Result T E)) (b : List (Result T E))
         → Interleaved a b (merged (λ x y. Ok (goes x y)) a b) }
 {}
