@@ -1,22 +1,23 @@
 //! Callers of the adapters that join: each states what it computes, and the contracts of the calls prove it.
 ghost use Rattle.std.specs.Ordering.{nat_cmp};
-ghost use Rattle.std.specs.Prelude.{◌≡◌, ◌%◌, Ok, nat_eq, nat_le};
+ghost use Rattle.std.specs.Prelude.{◌≡◌, ◌%◌, ◌/◌, Ok, nat_eq, nat_le};
 ghost use Rattle.fallible_iterator.specs.Comparing.{by_cmp};
 ghost use Rattle.fallible_iterator.specs.Lists.{counted, last_of, results};
 ghost use Rattle.fallible_itertools.specs.CmpBy.{equal_by};
+ghost use Rattle.fallible_itertools.specs.DedupBy.{deduped_by};
 ghost use Rattle.fallible_itertools.specs.Merge.{merged_in_order};
 ghost use Rattle.fallible_itertools.specs.MergeBy.{merged};
 ghost use Rattle.fallible_itertools.specs.ZipLongest.{zipped_longest};
 
-use fallible_iterator::{FallibleIterator, convert, convert_fused};
+use fallible_iterator::{FallibleIterator, convert};
 use fallible_itertools::FallibleItertools;
 
 /// How many positions two columns have, each filled by one of them at least, or the first failure.
 pub fn places_of_both(left: Vec<Result<u32, u8>>, right: Vec<Result<u32, u8>>) -> Result<usize, u8>
     ensures { result ≡ counted (zipped_longest (results left.items) (results right.items)) }
 {
-    convert_fused(left.into_iter())
-        .zip_longest(convert_fused(right.into_iter()))
+    convert(left.into_iter())
+        .zip_longest(convert(right.into_iter()))
         .count()
 }
 
@@ -25,8 +26,19 @@ pub fn readings_merged(left: Vec<Result<u32, u8>>, right: Vec<Result<u32, u8>>) 
     ensures { result ≡ counted
         (merged (λ x y. Ok (nat_le x y)) (results left.items) (results right.items)) }
 {
-    convert_fused(left.into_iter())
-        .merge_by(convert_fused(right.into_iter()), |x, y| Ok(*x <= *y))
+    convert(left.into_iter())
+        .merge_by(convert(right.into_iter()), |x, y| Ok(*x <= *y))
+        .count()
+}
+
+/// How many readings of two sorted columns together are left without those in the same ten as the last one that was kept, or the first failure.
+pub fn tens_merged(left: Vec<Result<u32, u8>>, right: Vec<Result<u32, u8>>) -> Result<usize, u8>
+    ensures { result ≡ counted (deduped_by (λ x y. Ok (nat_eq (x / 10) (y / 10)))
+        (merged (λ x y. Ok (nat_le x y)) (results left.items) (results right.items))) }
+{
+    convert(left.into_iter())
+        .merge_by(convert(right.into_iter()), |x, y| Ok(*x <= *y))
+        .dedup_by(|first, second| Ok(*first / 10 == *second / 10))
         .count()
 }
 
@@ -38,8 +50,8 @@ pub fn last_of_both(
     ensures { result ≡ last_of
         (merged_in_order (by_cmp nat_cmp) (results left.items) (results right.items)) }
 {
-    convert_fused(left.into_iter())
-        .merge(convert_fused(right.into_iter()))
+    convert(left.into_iter())
+        .merge(convert(right.into_iter()))
         .last()
 }
 

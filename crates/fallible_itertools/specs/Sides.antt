@@ -1,11 +1,25 @@
--- What joins two sources and holds at most one item of each: each call draws the left and then the right, and a rule says what is made of what both yield.
-use Rattle.std.specs.Prelude.{ℕ, ◌+◌, ◌-◌, ◌^◌, ◌≤◌, min, Option, Some, None, ◌≡◌, List, [], ◌∷◌, map, Ok, ◌⊎◌, Result, ⊤}
+-- What joins two sources and holds at most one item of each: each call draws the left and then the right, and a rule says what is made of what both yield. Each side is fused.
+use Rattle.std.specs.Prelude.{ℕ, ◌+◌, ◌≤◌, Option, Some, None, ◌≡◌, List, [], ◌∷◌, map, Ok, ◌⊎◌, ⊤}
 use Rattle.std.specs.List.{FoldsTo}
 use Rattle.std.specs.Iterator.{Count, count_add, count_map}
-use Rattle.fallible_iterator.specs.Traces.{Answered, Run, item, failure}
-use Rattle.fallible_iterator.specs.Contract.{Contract, lenders_of_both}
-use Rattle.fallible_iterator.specs.Lists.{ListsForGood}
+use Rattle.fallible_iterator.specs.Traces.{Answered, Run, item, failure, is_end}
+use Rattle.fallible_iterator.specs.Closing.{closing_step}
+use Rattle.fallible_iterator.specs.Contract.{Contract, lenders_of_both, seen_as}
+use Rattle.fallible_iterator.specs.Cutting.Fuse.{fuse_contract, fuse_parts}
+use Rattle.fallible_iterator.specs.Held.{held_count}
+use Rattle.fallible_iterator.specs.Hints.{hint_sum}
+use Rattle.fallible_iterator.specs.Fuse.{Fuse}
 use Rattle.fallible_itertools.specs.declared.sides.Holding.{Holding}
+
+-- ---- a fused source
+
+-- one draw of a fused source: one of the source, and an end without a draw once the source returned one
+abbrev pub fused_steps : {S A E : Type 0} → (S → Answered A E → S → Type 0) → Fuse S → Answered A E → Fuse S → Type 0
+fused_steps steps s r t = closing_step steps (λ a. a) is_end (fuse_parts s) r (fuse_parts t)
+
+-- the contract of a fused source
+abbrev pub fused_contract : {S A E : Type 0} → Contract S A E → Contract (Fuse S) A E
+fused_contract m = seen_as fuse_parts (fuse_contract m)
 
 -- ---- one side
 
@@ -32,11 +46,6 @@ GivesIf steps p (Some r) t = GivesHeldFirst steps p r t
 GivesIf steps p None t = t ≡ p.0
 
 module _ {S A E : Type 0} (m : Contract S A E) where
-  -- a bound of a side: one of the source, and one more if an item is held
-  abbrev pub side_bound : S × Option A → ℕ → Type 0
-  side_bound (s, Some x) n = (k : ℕ) × m.bound s k × (k + 1 ≤ n)
-  side_bound (s, None) n = m.bound s n
-
   -- what remains of a side: of the source, and one more if an item is held
   abbrev pub side_remaining : S × Option A → Count
   side_remaining (s, Some x) = count_map (λ n. n + 1) (m.remaining s)
@@ -47,14 +56,14 @@ module _ {S A E : Type 0} (m : Contract S A E) where
   side_gives (s, Some x) y = (y ≡ x) ⊎ m.may_give s y
   side_gives (s, None) y = m.may_give s y
 
--- a lower bound of a side: one more where an item is held, at most the greatest number there is
-abbrev pub low_with : {A : Type 0} → Option A → ℕ → ℕ
-low_with (Some x) n = min (n + 1) (2 ^ 64 - 1)
-low_with None n = n
+-- the hint of a side, by one of its source: one more on each bound if an item is held
+abbrev pub side_hint : {A : Type 0} → Option A → ℕ × Option ℕ → ℕ × Option ℕ
+side_hint (Some x) h = hint_sum h (1, Some 1)
+side_hint None h = h
 
--- the number is the lower bound of a side, by a hint of its source
-abbrev pub OffersLow : {S A E : Type 0} → Contract S A E → S × Option A → ℕ → Type 0
-OffersLow m p low = (h : ℕ × Option ℕ) × m.hints p.0 h × (low ≡ low_with p.1 h.0)
+-- what a side may hint
+abbrev pub SideHints : {S A E : Type 0} → Contract S A E → S × Option A → ℕ × Option ℕ → Type 0
+SideHints m p h = (k : ℕ × Option ℕ) × m.hints p.0 k × (h ≡ side_hint p.1 k)
 
 -- ---- both sides
 
@@ -150,7 +159,7 @@ module _ {A E X : Type 0} (gave : X → Option (Answered A E)) (behind : Option 
     pub held : HeldThrough p.1 places q.1
 
 module _ {S U A B C E F V : Type 0} (steps : S → Answered A E → S → Type 0) (others : U → Answered B E → U → Type 0) (rule : Rule A B C E F V) where
-  -- A place for each answer. A failure of the left is returned, and the right isn't drawn. A failure of the right is returned, and the left's item is held, so that it stands at the next place too; an end of the left isn't held. Of an item or an end of each the rule makes the answer; an end closes nothing, and both are drawn again. Nothing is allocated, so no allocation fails.
+  -- A place for each answer. A failure of the left is returned, and the right isn't drawn. A failure of the right is returned, and the left's item is held, so that it stands at the next place too; an end of the left isn't held. Of an item or an end of each the rule makes the answer. Nothing is allocated, so no allocation fails.
   pub record SidesTrace (p : (S × Option A) × (U × Option B) × F) (trace : List (Answered C E)) (q : (S × Option A) × (U × Option B) × F) : Type 0 where
     pub places : List (SidesPlace A B E V)
     pub left : SideTrace left_gave (left_held_after rule) steps p.0 places q.0
@@ -162,12 +171,12 @@ module _ {S U A B C E F V : Type 0} (steps : S → Answered A E → S → Type 0
   abbrev pub sides_step : (S × Option A) × (U × Option B) × F → Answered C E → (S × Option A) × (U × Option B) × F → Type 0
   sides_step p r q = (x : SidesPlace A B E V) × GivesIf steps p.0 (left_gave x) q.0.0 × (q.0.1 ≡ left_held_after rule p.0.1 x) × GivesIf others p.1 (right_gave x) q.1.0 × (q.1.1 ≡ right_held_after rule p.1.1 x) × place_decides rule p.2 x q.2 × (r ≡ place_answer rule x)
 
--- An end of one side closes nothing, so the bounds of both are added up, and what remains of both.
+-- The bounds of both sides and what is held of them are added up, and so is what remains.
 abbrev pub sides_contract : {S U A B C E F V : Type 0} → Contract S A E → Contract U B E → Rule A B C E F V → ((S × Option A) × (U × Option B) × F → ℕ × Option ℕ → Type 0) → Contract ((S × Option A) × (U × Option B) × F) C E
 sides_contract left right rule hints = record {
   can_next = λ p. left.can_next p.0.0 × right.can_next p.1.0 × rule.askable (side_gives left p.0) (side_gives right p.1) p.2;
   steps = sides_step left.steps right.steps rule;
-  bound = λ p n. (a : ℕ) × (b : ℕ) × side_bound left p.0 a × side_bound right p.1 b × (a + b ≤ n);
+  bound = λ p n. (a : ℕ) × (b : ℕ) × left.bound p.0.0 a × right.bound p.1.0 b × ((a + held_count p.0.1) + (b + held_count p.1.1) ≤ n);
   is_finite = λ p. left.is_finite p.0.0 × right.is_finite p.1.0;
   remaining = λ p. count_add (side_remaining left p.0) (side_remaining right p.1);
   may_give = λ p z. rule.gives (side_gives left p.0) (side_gives right p.1) z;
@@ -175,9 +184,3 @@ sides_contract left right rule hints = record {
   hints = hints;
   lenders = λ p. lenders_of_both (left.lenders p.0.0) (right.lenders p.1.0);
 }
-
--- ---- what it lists
-
--- Over two sources that list a and b and are fused, P a b.
-abbrev pub OverBothForGood : {S A E T C B D : Type 0} → (S → Answered A E → S → Type 0) → S → (T → C → Type 0) → T → (C → Answered B D → C → Type 0) → (List (Result A E) → List (Result B D) → Type 0) → Type 0
-OverBothForGood {A = A} {E = E} {C = C} {B = B} {D = D} steps s into other others P = (a : List (Result A E)) (b : List (Result B D)) → ListsForGood steps s a → ((c : C) → into other c → ListsForGood others c b) → P a b

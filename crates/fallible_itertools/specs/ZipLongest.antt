@@ -1,27 +1,45 @@
 -- `ZipLongest`: the items of two sources place by place, up to the end of the longer one.
-use Rattle.std.specs.Prelude.{ℕ, max, Option, Some, None, ◌≡◌, List, [], ◌∷◌, map, Ok, Err, Result, ⊤}
+use Rattle.std.specs.Prelude.{ℕ, max, Bool, Option, Some, None, ◌≡◌, List, [], ◌∷◌, map, Ok, Err, Result, ⊤}
 use Rattle.fallible_iterator.specs.Traces.{Answered}
 use Rattle.fallible_iterator.specs.Contract.{Contract}
-use Rattle.fallible_itertools.specs.Sides.{Rule, SidesTrace, sides_contract, holding_source, holding_held, low_with}
+use Rattle.fallible_iterator.specs.Cutting.Fuse.{fuse_ended, fuse_source}
+use Rattle.fallible_iterator.specs.Fuse.{Fuse}
+use Rattle.fallible_itertools.specs.Sides.{Rule, SidesTrace, fused_contract, fused_steps, sides_contract, holding_source, holding_held, side_hint}
 use Rattle.fallible_itertools.specs.declared.zip_longest.EitherOrBoth.{EitherOrBoth}
 use Rattle.fallible_itertools.specs.declared.zip_longest.EitherOrBoth.TheVariants.{Both, Left, Right}
 use Rattle.fallible_itertools.specs.declared.zip_longest.ZipLongest.{ZipLongest}
 
+-- the left side, fused
+abbrev pub zip_longest_left_fused : {T U A E : Type 0} → ZipLongest T U A E → Fuse T
+zip_longest_left_fused s = holding_source s.left
+
 -- the left side
 abbrev pub zip_longest_left : {T U A E : Type 0} → ZipLongest T U A E → T
-zip_longest_left s = holding_source s.left
+zip_longest_left s = fuse_source (zip_longest_left_fused s)
+
+-- whether the left's end was met
+abbrev pub zip_longest_left_ended : {T U A E : Type 0} → ZipLongest T U A E → Bool
+zip_longest_left_ended s = fuse_ended (zip_longest_left_fused s)
 
 -- the left's item that is held, if there is one
 abbrev pub zip_longest_held : {T U A E : Type 0} → ZipLongest T U A E → Option A
 zip_longest_held s = holding_held s.left
 
+-- the right side, fused
+abbrev pub zip_longest_right_fused : {T U A E : Type 0} → ZipLongest T U A E → Fuse U
+zip_longest_right_fused s = s.right
+
 -- the right side
 abbrev pub zip_longest_right : {T U A E : Type 0} → ZipLongest T U A E → U
-zip_longest_right s = s.right
+zip_longest_right s = fuse_source (zip_longest_right_fused s)
 
--- the left with what is held of it, and the right, of which nothing is held; it has no closure
-abbrev pub zip_longest_parts : {T U A E B : Type 0} → ZipLongest T U A E → (T × Option A) × (U × Option B) × Unit {0}
-zip_longest_parts s = ((zip_longest_left s, zip_longest_held s), (zip_longest_right s, None), tt)
+-- whether the right's end was met
+abbrev pub zip_longest_right_ended : {T U A E : Type 0} → ZipLongest T U A E → Bool
+zip_longest_right_ended s = fuse_ended (zip_longest_right_fused s)
+
+-- the left with what is held of it, and the right, of which nothing is held, both fused; it has no closure
+abbrev pub zip_longest_parts : {T U A E B : Type 0} → ZipLongest T U A E → (Fuse T × Option A) × (Fuse U × Option B) × Unit {0}
+zip_longest_parts s = ((zip_longest_left_fused s, zip_longest_held s), (zip_longest_right_fused s, None), tt)
 
 -- the items of both, or the item of the one side that has one, if there is one
 abbrev pub longest : {A B : Type 0} → Option A → Option B → Option (EitherOrBoth A B)
@@ -78,17 +96,27 @@ longest_rule = record {
   refuses = λ P Q f e. ⊥;
 }
 
--- `ZipLongest`: a place for each answer, by its rule; the left's item beside a failure of the right stands at the next place too.
-abbrev pub ZipLongestTrace : {S U A B E : Type 0} → (S → Answered A E → S → Type 0) → (U → Answered B E → U → Type 0) → (S × Option A) × (U × Option B) × Unit {0} → List (Answered (EitherOrBoth A B) E) → (S × Option A) × (U × Option B) × Unit {0} → Type 0
-ZipLongestTrace steps others p trace q = SidesTrace steps others longest_rule p trace q
+-- `ZipLongest`: both sides are fused, and there is a place for each answer, by its rule; the left's item beside a failure of the right stands at the next place too.
+abbrev pub ZipLongestTrace : {S U A B E : Type 0} → (S → Answered A E → S → Type 0) → (U → Answered B E → U → Type 0) → (Fuse S × Option A) × (Fuse U × Option B) × Unit {0} → List (Answered (EitherOrBoth A B) E) → (Fuse S × Option A) × (Fuse U × Option B) × Unit {0} → Type 0
+ZipLongestTrace steps others p trace q = SidesTrace (fused_steps steps) (fused_steps others) longest_rule p trace q
 
--- The greater of the lower bounds. There is no upper one, since a side may go on after its end while the other still has items.
+-- the greater of two upper bounds, where both are known
+abbrev pub greater_bound : Option ℕ → Option ℕ → Option ℕ
+greater_bound (Some x) (Some y) = Some (max x y)
+greater_bound (Some x) None = None
+greater_bound None y = None
+
+-- the greater of each bound
+abbrev pub hint_greater : ℕ × Option ℕ → ℕ × Option ℕ → ℕ × Option ℕ
+hint_greater g k = (max g.0 k.0, greater_bound g.1 k.1)
+
+-- The greater of the bounds of both sides.
 abbrev pub zip_longest_hints : {S U A B E : Type 0} → Contract S A E → Contract U B E → (S × Option A) × (U × Option B) × Unit {0} → ℕ × Option ℕ → Type 0
-zip_longest_hints left right p h = (g : ℕ × Option ℕ) × (k : ℕ × Option ℕ) × left.hints p.0.0 g × right.hints p.1.0 k × (h ≡ (max (low_with p.0.1 g.0) k.0, None))
+zip_longest_hints left right p h = (g : ℕ × Option ℕ) × (k : ℕ × Option ℕ) × left.hints p.0.0 g × right.hints p.1.0 k × (h ≡ hint_greater (side_hint p.0.1 g) (side_hint p.1.1 k))
 
 -- `ZipLongest`'s contract, by its rule.
-abbrev pub zip_longest_contract : {S U A B E : Type 0} → Contract S A E → Contract U B E → Contract ((S × Option A) × (U × Option B) × Unit {0}) (EitherOrBoth A B) E
-zip_longest_contract left right = sides_contract left right longest_rule (zip_longest_hints left right)
+abbrev pub zip_longest_contract : {S U A B E : Type 0} → Contract S A E → Contract U B E → Contract ((Fuse S × Option A) × (Fuse U × Option B) × Unit {0}) (EitherOrBoth A B) E
+zip_longest_contract left right = sides_contract (fused_contract left) (fused_contract right) longest_rule (zip_longest_hints (fused_contract left) (fused_contract right))
 
 -- ---- what it lists
 

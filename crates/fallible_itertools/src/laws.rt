@@ -35,7 +35,7 @@ pub use intersperse::{
     law_hints_intersperse, law_hints_intersperse_with, law_intersperse, law_intersperse_with,
 };
 pub use lengths::{law_interspersed, law_joined, law_windowed, law_zipped_longest};
-pub use merge::{law_hints_merge, law_merge};
+pub use merge::{law_hints_merge, law_merge, law_merged_in_order};
 pub use merge_by::{law_hints_merge_by, law_merge_by, law_merged};
 pub use peeking_take_while::{
     law_hints_peeking_take_while, law_peeking_take_while, law_rest_peeking_take_while,

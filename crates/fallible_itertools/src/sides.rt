@@ -1,8 +1,9 @@
-// A side of what joins two sources and buffers at most one item of each.
+// A side of what joins two sources, fuses each and buffers at most one item of each.
 ghost use Rattle.std.specs.Prelude.{◌≡◌, Option, Result, None};
-ghost use Rattle.fallible_itertools.specs.Sides.{GivesHeldFirst, OffersLow, holding_held, holding_parts, holding_source};
+ghost use Rattle.fallible_itertools.specs.Sides.{GivesHeldFirst, SideHints, holding_held, holding_parts, holding_source};
 
 use fallible_iterator::FallibleIterator;
+use fallible_iterator::extending::sum;
 
 // A source, and its buffered item, if there is one.
 #[derive(Clone, Debug, Drop)]
@@ -28,14 +29,14 @@ where
         }
     }
 
-    // The source's lower bound, one more if an item is buffered.
-    pub(crate) fn low(&self) -> usize
-        ensures { OffersLow I.contract (holding_parts self.now) result }
+    // The source's hint, one more on each bound if an item is buffered.
+    pub(crate) fn hint(&self) -> (usize, Option<usize>)
+        ensures { SideHints I.contract (holding_parts self.now) result }
     {
-        let low = self.it.size_hint().0;
+        let hint = self.it.size_hint();
         match &self.held {
-            Some(_) => low.saturating_add(1),
-            None => low,
+            Some(_) => sum(hint, (1, Some(1))),
+            None => hint,
         }
     }
 }

@@ -38,11 +38,10 @@ ghost use Rattle.fallible_itertools.specs.IntersperseWith as intersperse_with;
 ghost use Rattle.fallible_itertools.specs.Parting.{interspersed_by};
 ghost use Rattle.fallible_iterator.specs.Sources.FromFn.{call_of_none};
 ghost use Rattle.fallible_itertools.specs.Join.{JoinedAs};
-ghost use Rattle.fallible_itertools.specs.Merge.{merge_contract, merge_left, merge_left_held, merge_parts, merge_right, merge_right_held, merged_in_order};
+ghost use Rattle.fallible_itertools.specs.Merge.{merge_contract, merge_left, merge_left_ended, merge_left_held, merge_parts, merge_right, merge_right_ended, merge_right_held, merged_in_order};
 ghost use Rattle.fallible_itertools.specs.MergeBy as merge_by;
 ghost use Rattle.fallible_itertools.specs.MinMax.{MinMaxDrains, minmaxed};
 ghost use Rattle.fallible_itertools.specs.PartitionMap.{EitherRefused, MadeOfEithers};
-ghost use Rattle.fallible_itertools.specs.Sides.{OverBothForGood};
 ghost use Rattle.fallible_itertools.specs.FindOrLast.{FoundOrLast, found_or_last};
 ghost use Rattle.fallible_itertools.specs.IsSorted.{ItselfCall, OrderCall, in_order, in_order_by_key};
 ghost use Rattle.fallible_itertools.specs.FoldWhile.{WhileCall, FoldWhileDrains, folded_while, rest_while};
@@ -820,7 +819,7 @@ pub trait FallibleItertools: FallibleIterator {
     ///
     /// Laziness, draws, buffered items, errors and folds: as `merge_by`, with no closure that may fail. Bounds of both sides, added up, bound it.
     ///
-    /// Requires nothing. `next` requires that it may be called on both sides, and `Item: Drop`. What it lists is known if both sides are fused, as after `convert_fused` or `fuse`.
+    /// Requires nothing. `next` requires that it may be called on both sides, and `Item: Drop`.
     ///
     /// ```
     /// let left = convert([Ok::<u32, u8>(1), Ok(4)].into_iter());
@@ -837,19 +836,16 @@ pub trait FallibleItertools: FallibleIterator {
         I: IntoFallibleIterator<Item = Self::Item, Error = Self::Error>,
         Self::Item: PartialOrd + Drop,
         ensures left { merge_left result ≡ self }
+        ensures left_ended { merge_left_ended result ≡ false }
         ensures left_held { merge_left_held result ≡ None }
         ensures right { I.into_gives other (merge_right result) }
+        ensures right_ended { merge_right_ended result ≡ false }
         ensures right_held { merge_right_held result ≡ None }
         ensures bounded { (a b k : ℕ) → Self.contract.bound self a
             → I.IntoFallibleIter.contract.bound (merge_right result) b → a + b ≤ k
             → AtMost (seen_as merge_parts (merge_contract Self.Item.partial_cmp Self.contract
             I.IntoFallibleIter.contract)) result k }
-        ensures for_good { OverBothForGood Self.contract.steps self I.into_gives other
-            I.IntoFallibleIter.contract.steps
-            (λ a b. list.ListsForGood (seen_as merge_parts (merge_contract Self.Item.partial_cmp
-            Self.contract I.IntoFallibleIter.contract)).steps result
-            (merged_in_order Self.Item.partial_cmp a b)) }
-        ensures lists { OverBothForGood Self.contract.steps self I.into_gives other
+        ensures lists { OverBoth Self.contract.steps self I.into_gives other
             I.IntoFallibleIter.contract.steps
             (λ a b. list.Lists (seen_as merge_parts (merge_contract Self.Item.partial_cmp
             Self.contract I.IntoFallibleIter.contract)).steps result
@@ -857,11 +853,11 @@ pub trait FallibleItertools: FallibleIterator {
     {
         Merge {
             left: Holding {
-                it: self,
+                it: self.fuse(),
                 held: None,
             },
             right: Holding {
-                it: other.into_fallible_iter(),
+                it: other.into_fallible_iter().fuse(),
                 held: None,
             },
         }
@@ -869,9 +865,9 @@ pub trait FallibleItertools: FallibleIterator {
 
     /// Merges the items of two sources. Of an item of this iterator and the next one of `other`, the closure returns whether the former goes first. If one side returns `Ok(None)`, the other's item is yielded without a call of the closure.
     ///
-    /// Creating it draws nothing. It buffers at most one item of each side. `next` draws this side once if nothing of it is buffered. Then, unless that failed, it draws `other` once if nothing of `other` is buffered. An `Ok(None)` of a side isn't remembered. It fails as either side does, and loses nothing that is buffered. If the closure fails, its failure is yielded, and the two items that it was called on are lost. Its folds draw as `next` does. Bounds of both sides, added up, bound it.
+    /// Creating it draws nothing. It buffers at most one item of each side. `next` draws this side once if nothing of it is buffered. Then, unless that failed, it draws `other` once if nothing of `other` is buffered. Each side is fused: once it returned `Ok(None)` it isn't drawn again. It fails as either side does, and loses nothing that is buffered. If the closure fails, its failure is yielded, and the two items that it was called on are lost. Its folds draw as `next` does. Bounds of both sides, added up, bound it.
     ///
-    /// Requires that the closure may be called on references to two items, one that may come of each side. `next` requires that it may be called on both sides, and `Item: Drop`. What it lists is known if both sides are fused, as after `convert_fused` or `fuse`.
+    /// Requires that the closure may be called on references to two items, one that may come of each side. `next` requires that it may be called on both sides, and `Item: Drop`.
     ///
     /// ```
     /// let left = convert([Ok::<u32, u8>(4), Ok(1)].into_iter());
@@ -889,24 +885,19 @@ pub trait FallibleItertools: FallibleIterator {
             (λ g z. takes_at_two F.FnMut g z.0 z.1) (λ z. Self.contract.may_give self z.0
             × I.IntoFallibleIter.contract.may_give right z.1) f }
         ensures left { merge_by.merge_by_left result ≡ self }
+        ensures left_ended { merge_by.merge_by_left_ended result ≡ false }
         ensures left_held { merge_by.merge_by_left_held result ≡ None }
         ensures right { I.into_gives other (merge_by.merge_by_right result) }
+        ensures right_ended { merge_by.merge_by_right_ended result ≡ false }
         ensures right_held { merge_by.merge_by_right_held result ≡ None }
         ensures closure { merge_by.merge_by_closure result ≡ f }
         ensures bounded { (a b k : ℕ) → Self.contract.bound self a
             → I.IntoFallibleIter.contract.bound (merge_by.merge_by_right result) b → a + b ≤ k
             → AtMost (seen_as merge_by.merge_by_parts (merge_by.merge_by_contract Self.contract
             I.IntoFallibleIter.contract F.FnMut)) result k }
-        ensures for_good { (h : Self.Item → Self.Item → Result Bool Self.Error)
-            → list.ActsWith (call_at_two F.FnMut) f h
-            → OverBothForGood Self.contract.steps self I.into_gives other
-            I.IntoFallibleIter.contract.steps
-            (λ a b. list.ListsForGood
-            (seen_as merge_by.merge_by_parts (merge_by.merge_by_contract Self.contract
-            I.IntoFallibleIter.contract F.FnMut)).steps result (merge_by.merged h a b)) }
         ensures lists { (h : Self.Item → Self.Item → Result Bool Self.Error)
             → list.ActsWith (call_at_two F.FnMut) f h
-            → OverBothForGood Self.contract.steps self I.into_gives other
+            → OverBoth Self.contract.steps self I.into_gives other
             I.IntoFallibleIter.contract.steps
             (λ a b. list.Lists (seen_as merge_by.merge_by_parts
             (merge_by.merge_by_contract Self.contract
@@ -914,11 +905,11 @@ pub trait FallibleItertools: FallibleIterator {
     {
         MergeBy {
             left: Holding {
-                it: self,
+                it: self.fuse(),
                 held: None,
             },
             right: Holding {
-                it: other.into_fallible_iter(),
+                it: other.into_fallible_iter().fuse(),
                 held: None,
             },
             f,
@@ -927,9 +918,9 @@ pub trait FallibleItertools: FallibleIterator {
 
     /// Pairs the items of both sides by their positions, up to `Ok(None)` of both. If one side returns `Ok(None)` where the other has an item, that item stands alone.
     ///
-    /// Creating it draws nothing. `next` draws this side once if no item of it is buffered. Then, unless that failed, it draws `other` once, also after an `Ok(None)`. An `Ok(None)` of a side isn't remembered. It fails as this iterator does, or else as `other` does. A failure of `other` loses nothing: the item of this side is buffered, and the next call draws `other` alone. Its folds draw as `next` does. Bounds of both sides, added up, bound it.
+    /// Creating it draws nothing. `next` draws this side once if no item of it is buffered. Then, unless that failed, it draws `other` once, also after an `Ok(None)` of this side. Each side is fused: once it returned `Ok(None)` it isn't drawn again. It fails as this iterator does, or else as `other` does. A failure of `other` loses nothing: the item of this side is buffered, and the next call draws `other` alone. Its folds draw as `next` does. Bounds of both sides, added up, bound it.
     ///
-    /// Requires nothing. `next` requires that it may be called on both sides, and `Item: Drop`. What it lists is known if both sides are fused, as after `convert_fused` or `fuse`.
+    /// Requires nothing. `next` requires that it may be called on both sides, and `Item: Drop`.
     ///
     /// ```
     /// let letters = convert([Ok::<char, u8>('a'), Ok('b')].into_iter());
@@ -943,18 +934,15 @@ pub trait FallibleItertools: FallibleIterator {
     where
         I: IntoFallibleIterator<Error = Self::Error>,
         ensures left { zip_longest.zip_longest_left result ≡ self }
+        ensures left_ended { zip_longest.zip_longest_left_ended result ≡ false }
         ensures held { zip_longest.zip_longest_held result ≡ None }
         ensures right { I.into_gives other (zip_longest.zip_longest_right result) }
+        ensures right_ended { zip_longest.zip_longest_right_ended result ≡ false }
         ensures bounded { (a b k : ℕ) → Self.contract.bound self a
             → I.IntoFallibleIter.contract.bound (zip_longest.zip_longest_right result) b → a + b ≤ k
             → AtMost (seen_as zip_longest.zip_longest_parts
             (zip_longest.zip_longest_contract Self.contract I.IntoFallibleIter.contract)) result k }
-        ensures for_good { OverBothForGood Self.contract.steps self I.into_gives other
-            I.IntoFallibleIter.contract.steps
-            (λ a b. list.ListsForGood
-            (seen_as zip_longest.zip_longest_parts (zip_longest.zip_longest_contract Self.contract
-            I.IntoFallibleIter.contract)).steps result (zip_longest.zipped_longest a b)) }
-        ensures lists { OverBothForGood Self.contract.steps self I.into_gives other
+        ensures lists { OverBoth Self.contract.steps self I.into_gives other
             I.IntoFallibleIter.contract.steps
             (λ a b. list.Lists (seen_as zip_longest.zip_longest_parts
             (zip_longest.zip_longest_contract Self.contract
@@ -962,10 +950,10 @@ pub trait FallibleItertools: FallibleIterator {
     {
         ZipLongest {
             left: Holding {
-                it: self,
+                it: self.fuse(),
                 held: None,
             },
-            right: other.into_fallible_iter(),
+            right: other.into_fallible_iter().fuse(),
         }
     }
 

@@ -2,11 +2,11 @@
 ghost use Rattle.std.specs.Prelude.{◌≡◌, Option, Result, None, is_some, unwrap_or};
 ghost use Rattle.fallible_iterator.specs.Contract.{seen_as};
 ghost use Rattle.fallible_iterator.specs.Laws.Contract.{lawful_seen};
-ghost use Rattle.fallible_itertools.specs.ZipLongest.{both_of, only_left, left_of, longest, only_right, right_of, zip_longest_contract, zip_longest_parts};
+ghost use Rattle.fallible_itertools.specs.ZipLongest.{both_of, hint_greater, only_left, left_of, longest, only_right, right_of, zip_longest_contract, zip_longest_parts};
 ghost use Rattle.fallible_itertools.specs.Laws.ZipLongest.{lawful_zip_longest};
 
 use crate::sides::Holding;
-use fallible_iterator::FallibleIterator;
+use fallible_iterator::{FallibleIterator, Fuse};
 
 /// An item of each of two sources, or of one alone.
 #[derive(Clone, Debug, PartialEq, Eq, Drop)]
@@ -149,11 +149,11 @@ impl<A, B> EitherOrBoth<A, B> {
     }
 }
 
-/// The items of two sources by their positions, up to `Ok(None)` of both. If the left fails, the right isn't drawn. If the right fails, the left's item is buffered for the next call.
+/// The items of two sources, each fused, by their positions, up to `Ok(None)` of both. If the left fails, the right isn't drawn. If the right fails, the left's item is buffered for the next call.
 #[derive(Clone, Debug, Drop)]
 pub struct ZipLongest<T: FallibleIterator, U> {
-    pub(crate) left: Holding<T, T::Item>,
-    pub(crate) right: U,
+    pub(crate) left: Holding<Fuse<T>, T::Item>,
+    pub(crate) right: Fuse<U>,
 }
 
 impl<T: FallibleIterator, U: FallibleIterator<Error = T::Error>> FallibleIterator
@@ -168,7 +168,7 @@ where
 
     ghost contract = { seen_as zip_longest_parts (zip_longest_contract T.contract U.contract) };
 
-    /// Takes the left's buffered item, or draws the left once. Then, unless that failed, it draws the right once. Each fold draws so too.
+    /// Takes the left's buffered item, or draws the left once. Then, unless that failed, it draws the right once. A side that returned `Ok(None)` isn't drawn again. Each fold draws so too.
     fn next(&mut self) -> Result<Option<EitherOrBoth<T::Item, U::Item>>, T::Error> {
         match self.left.give()? {
             Some(x) => match self.right.next() {
@@ -188,8 +188,20 @@ where
     }
 
     fn size_hint(&self) -> (usize, Option<usize>) {
-        (self.left.low().max(self.right.size_hint().0), None)
+        greater(self.left.hint(), self.right.size_hint())
     }
 
     ghost lawful = { lawful_seen zip_longest_parts (lawful_zip_longest T.lawful U.lawful) };
+}
+
+// The greater of two hints' bounds.
+fn greater(a: (usize, Option<usize>), b: (usize, Option<usize>)) -> (usize, Option<usize>)
+    ensures { result ≡ hint_greater a b }
+{
+    let high = match (a.1, b.1) {
+        (Some(x), Some(y)) => Some(x.max(y)),
+        (Some(_), None) => None,
+        (None, _) => None,
+    };
+    (a.0.max(b.0), high)
 }

@@ -219,12 +219,12 @@ const OF_INSPECT_ERR_AND_OR_ELSE: NumbersCase = Case {
 const OF_MERGE_BY: NumbersCase = Case {
     name: "MergeBy",
     requests: 4,
-    hints: [(5, None), UNKNOWN],
+    hints: [(5, Some(5)), NONE],
     first: &[Item(1)],
     expected: &[Item(2), Item(2), Item(3), Item(4)],
 };
 
-const OF_ZIP_LONGEST: Asks<'static> = ("ZipLongest", 4, [(3, None), UNKNOWN]);
+const OF_ZIP_LONGEST: Asks<'static> = ("ZipLongest", 4, [(3, Some(3)), NONE]);
 
 #[test]
 fn refused_clones_of_adapters_that_hold_nothing_or_join(rt: HostRuntime) -> Result<(), Fail> {

@@ -1,13 +1,20 @@
 -- What joins two sources and holds at most one item of each: its calls, its whole traces, and what it lists.
-use Rattle.std.specs.Prelude.{ℕ, ◌≡◌, ◌+◌, ◌-◌, ◌≤◌, ◌⊎◌, length, List, [], ◌∷◌, map, ◌↔◌, Some, None, Option, Result, Ok, Err}
+use Rattle.std.specs.Prelude.{ℕ, ◌≡◌, ◌+◌, ◌-◌, ◌≤◌, ◌⊎◌, Bool, true, false, length, List, [], ◌∷◌, map, ◌↔◌, Some, None, Option, Result, Ok, Err, IfSome, ⊤}
 use Rattle.std.specs.List.{FoldsTo}
 use Rattle.std.specs.Result.{IsErrAnd}
 use Rattle.std.proofs.Common.{refl, sym, ap, subst, arith, inl, inr}
-use Rattle.fallible_iterator.specs.Traces.{Answered, Run, Yields, item, failure, end}
+use Rattle.fallible_iterator.specs.Traces.{Answered, Run, Yields, item, failure, end, is_end}
+use Rattle.fallible_iterator.specs.Closing.{closing_step}
 use Rattle.fallible_iterator.specs.Contract.{Contract, Lawful}
+use Rattle.fallible_iterator.specs.Cutting.Fuse.{fuse_parts}
 use Rattle.fallible_iterator.specs.Held.{held_count}
-use Rattle.fallible_iterator.specs.Lists.{GivesForGood, result_answer}
-use Rattle.fallible_itertools.specs.Sides.{low_with, side_gives, GivesHeldFirst, GivesIf, Rule, SidesPlace, left_failed, right_failed, both_gave, left_gave, right_gave, left_held_after, right_held_after, place_answer, place_decides, drawn_at, before_drawn, IsGiven, SideTrace, SidesTrace, sides_step}
+use Rattle.fallible_iterator.specs.Hints.{fitting_sum}
+use Rattle.fallible_iterator.specs.Lists.{GivesForGood, Lists, result_answer}
+use Rattle.fallible_iterator.proofs.Lemmas.Cutting.Fuse.{lists_for_good_fused}
+use Rattle.fallible_iterator.proofs.Lemmas.Hints.Drawn.{if_some_no_greater}
+use Rattle.fallible_iterator.proofs.Lemmas.Hints.Joining.{if_some_fitting_sum_above}
+use Rattle.fallible_iterator.specs.Fuse.{Fuse}
+use Rattle.fallible_itertools.specs.Sides.{fused_steps, side_gives, side_hint, GivesHeldFirst, GivesIf, Rule, SidesPlace, left_failed, right_failed, both_gave, left_gave, right_gave, left_held_after, right_held_after, place_answer, place_decides, drawn_at, before_drawn, IsGiven, SideTrace, SidesTrace, sides_step}
 use Rattle.fallible_itertools.specs.Laws.Sides.{IsLawfulRule, side_kept_given}
 
 -- a result that is a failure, and which
@@ -114,6 +121,12 @@ module _ {S A E : Type 0} (steps : S → Answered A E → S → Type 0) where
     pub gives_for_good_of_sides : (l : List (Result A E)) (s : S) → R s l → GivesForGood steps s l
     gives_for_good_of_sides [] s i = record { each = λ trace t u r ran w. end_after_fused_end trace s t u r i ran w }
     gives_for_good_of_sides (y ∷ l) s i = λ r t w. let d = goes s t r (y ∷ l) i w in (d.0, gives_for_good_of_sides l t d.1)
+
+-- what a source lists, its fused source lists, and then ends alone
+pub gives_for_good_of_fresh : {S A E : Type 0} (m : Contract S A E) (f : Fuse S) (s : S) (l : List (Result A E)) → fuse_parts f ≡ (s, false) → Lists m.steps s l → GivesForGood (fused_steps m.steps) f l
+gives_for_good_of_fresh {S = S} m f s l parts i =
+    let source_is : f.it ≡ s = ap (λ (z : S × Bool). z.0) parts in
+    (lists_for_good_fused m f l (subst (λ (t : S). fuse_parts f ≡ (t, false)) (sym source_is) parts) (subst (λ (t : S). Lists m.steps t l) (sym source_is) i)).runs
 
 -- what a side lists: the held item, and then what its fused source lists
 abbrev pub SideLists : {S A E : Type 0} → (S → Answered A E → S → Type 0) → S × Option A → List (Result A E) → Type 0
@@ -243,6 +256,85 @@ module _ {S U A B C E F V : Type 0} (steps : S → Answered A E → S → Type 0
   both_end (z ∷ zs) p q r ran w = let b = both_end_first p ran.0 z (length zs) ran.1 (both_end zs ran.0 q r ran.2 w) in record { of_left = b.of_left; of_right = b.of_right; left = b.left; right = b.right; few = omega (arith, b.few) }
 
 -- a lower bound of a side's source bounds what the side yields
-pub low_with_of : {A : Type 0} (h : Option A) (n i j : ℕ) → i ≤ j → j + held_count h ≤ n → low_with h i ≤ n
-low_with_of (Some x) n i j le few = omega (arith, le, few)
-low_with_of None n i j le few = omega (arith, le, few)
+pub side_hint_below : {A : Type 0} (h : Option A) (g : ℕ × Option ℕ) (n j : ℕ) → g.0 ≤ j → j + held_count h ≤ n → (side_hint h g).0 ≤ n
+side_hint_below (Some x) g n j le few = omega (arith, le, few)
+side_hint_below None g n j le few = omega (arith, le, few)
+
+-- an upper bound too
+pub side_hint_above : {A : Type 0} (h : Option A) (g : ℕ × Option ℕ) (n j : ℕ) → n ≤ j + held_count h → IfSome g.1 (λ m. j ≤ m) → IfSome (side_hint h g).1 (λ m. n ≤ m)
+side_hint_above (Some x) g n j few le = if_some_no_greater (fitting_sum g.1 (Some 1)) n (j + 1) few (if_some_fitting_sum_above g.1 (Some 1) j 1 (j + 1) refl le (omega arith))
+side_hint_above None g n j few le = if_some_no_greater g.1 n j (omega (arith, few)) le
+
+-- ---- items that come of a fused side
+
+-- Once a draw returned an end, none returns an item.
+abbrev pub EndsOnce : {S A E : Type 0} → (S → Answered A E → S → Type 0) → Type 0
+EndsOnce {S = S} {A = A} steps = (s t u : S) (x : A) → steps s end t → steps t (item x) u → ⊥
+
+ends_once_closed : {S A E : Type 0} (steps : S → Answered A E → S → Type 0) (p q r : S × Bool) (x : A) → closing_step steps (λ a. a) is_end p end q → closing_step steps (λ a. a) is_end q (item x) r → ⊥
+ends_once_closed steps (s, true) (t, true) r x w v = let no = v.0 in cc
+ends_once_closed steps (s, true) (t, false) r x w v = let no = w.2 in cc
+ends_once_closed steps (s, false) (t, true) r x w v = let no = v.0 in cc
+ends_once_closed steps (s, false) (t, false) r x w v = let end_is : end ≡ w.0 = w.2 in let no : false ≡ is_end w.0 = w.3 in cc
+
+pub ends_once_fused : {S A E : Type 0} (steps : S → Answered A E → S → Type 0) → EndsOnce (fused_steps steps)
+ends_once_fused steps s t u x w v = ends_once_closed steps (fuse_parts s) (fuse_parts t) (fuse_parts u) x w v
+
+-- From the side come items, and they and its held item are n at least.
+pub record ItemsCome {S A E : Type 0} (steps : S → Answered A E → S → Type 0) (p : S × Option A) (n : ℕ) : Type 0 where
+  pub came : List A
+  pub left : S
+  pub ran : Yields steps p.0 came left
+  pub many : n ≤ length came + held_count p.1
+
+-- Nothing comes of a side that returned an end.
+abbrev pub IfEnded : {A : Type 0} → Option A → ℕ → Type 0
+IfEnded (Some x) n = ⊤
+IfEnded None n = n ≡ 0
+
+module _ {S A E : Type 0} (steps : S → Answered A E → S → Type 0) (once : EndsOnce steps) where
+  none_after_end : (s t u : S) (xs : List A) → steps s end t → Yields steps t xs u → length xs ≤ 0
+  none_after_end s t u [] w ran = omega arith
+  none_after_end s t u (x ∷ xs) w ran = absurd (once s t ran.0 x w ran.1)
+
+  items_come_from : (p : S × Option A) (t : S) (x h : Option A) (n : ℕ) → (h ≡ None) ⊎ (h ≡ x) → GivesHeldFirst steps p (Ok x) t → ItemsCome steps (t, h) n → ItemsCome steps p ((held_count x - held_count h) + n) × IfEnded x n
+  items_come_from (s, Some y) t None h n kept g d = absurd (let no = g.0 in cc)
+  items_come_from (s, Some y) t (Some x) h n kept g d = (record { came = d.came; left = d.left; ran = subst (λ (z : S). Yields steps z d.came d.left) g.1 d.ran; many = omega (arith, d.many, held_count_one_at_most h) }, tt)
+  items_come_from (s, None) t None None n kept g d = let no = none_after_end s t d.left d.came g d.ran in (record { came = []; left = s; ran = refl; many = omega (arith, no, d.many) }, omega (arith, no, d.many))
+  items_come_from (s, None) t None (Some y) n kept g d = absurd (elim kept [ inl e ↦ cc | inr e ↦ cc ])
+  items_come_from (s, None) t (Some x) h n kept g d = (record { came = x ∷ d.came; left = d.left; ran = (t, g, d.ran); many = omega (arith, d.many, held_count_one_at_most h) }, tt)
+
+-- How many items are consumed at least where so many are yielded; of a side that returned an end none are.
+abbrev pub TakesAsMany : {A B C E F V : Type 0} → Rule A B C E F V → (ℕ → ℕ → ℕ) → Type 0
+TakesAsMany {A} {B} {C} {E} {F} {V} rule many = (f g : F) (x : Option A) (y : Option B) (v : V) (z : C) (i j : ℕ) → rule.decides f x y v g → rule.answer x y v ≡ item z → IfEnded x i → IfEnded y j → many i j + 1 ≤ many ((held_count x - held_count (rule.left_held x y v)) + i) ((held_count y - held_count (rule.right_held x y v)) + j)
+
+module _ {S U A B C E F V : Type 0} (steps : S → Answered A E → S → Type 0) (others : U → Answered B E → U → Type 0) (once : EndsOnce steps) (once_right : EndsOnce others) (rule : Rule A B C E F V) (many : ℕ → ℕ → ℕ) (by : TakesAsMany rule many) (lawful : IsLawfulRule rule) where
+  -- Items come of both sides, and they make n at least.
+  pub record BothCome (p : SidesState steps others rule) (n : ℕ) : Type 0 where
+    pub of_left : ℕ
+    pub of_right : ℕ
+    pub left : ItemsCome steps p.0 of_left
+    pub right : ItemsCome others p.1 of_right
+    pub few : n ≤ many of_left of_right
+
+  both_come_on : (p : SidesState steps others rule) (t : S) (u : U) (g : F) (x : SidesPlace A B E V) (z : C) (k : ℕ) → GivesIf steps p.0 (left_gave x) t → GivesIf others p.1 (right_gave x) u → place_decides rule p.2 x g → place_answer rule x ≡ item z → BothCome ((t, left_held_after rule p.0.1 x), (u, right_held_after rule p.1.1 x), g) k → BothCome p (k + 1)
+  both_come_on p t u g (left_failed e) z k m n d is b = absurd cc
+  both_come_on p t u g (right_failed x e) z k m n d is b = absurd cc
+  both_come_on p t u g (both_gave x y v) z k m n d is b =
+      let l = items_come_from steps once p.0 t x (rule.left_held x y v) b.of_left (lawful.left_kept x y v) m b.left in
+      let r = items_come_from others once_right p.1 u y (rule.right_held x y v) b.of_right (lawful.right_kept x y v) n b.right in
+      record {
+        of_left = (held_count x - held_count (rule.left_held x y v)) + b.of_left;
+        of_right = (held_count y - held_count (rule.right_held x y v)) + b.of_right;
+        left = l.0;
+        right = r.0;
+        few = omega (arith, by p.2 g x y v z b.of_left b.of_right d is l.1 r.1, b.few);
+      }
+
+  both_come_first : (p q : SidesState steps others rule) (z : C) (k : ℕ) → SidesStep steps others rule p (item z) q → BothCome q k → BothCome p (k + 1)
+  both_come_first p ((t, h), (u, i), g) z k w b = both_come_on p t u g w.0 z k w.1 w.3 w.5 (sym w.6) (subst (λ (e : Option A). BothCome ((t, e), (u, right_held_after rule p.1.1 w.0), g) k) w.2 (subst (λ (e : Option B). BothCome ((t, h), (u, e), g) k) w.4 b))
+
+  -- a run of items
+  pub both_come : (zs : List C) (p q : SidesState steps others rule) → Yields (SidesStep steps others rule) p zs q → BothCome p (length zs)
+  both_come [] p q ran = record { of_left = 0; of_right = 0; left = record { came = []; left = p.0.0; ran = refl; many = omega arith }; right = record { came = []; left = p.1.0; ran = refl; many = omega arith }; few = omega arith }
+  both_come (z ∷ zs) p q ran = let b = both_come_first p ran.0 z (length zs) ran.1 (both_come zs ran.0 q ran.2) in record { of_left = b.of_left; of_right = b.of_right; left = b.left; right = b.right; few = omega (arith, b.few) }

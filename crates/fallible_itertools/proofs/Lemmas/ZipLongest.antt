@@ -1,17 +1,19 @@
 -- What `ZipLongest` lists, and that its hints are sound.
-use Rattle.std.specs.Prelude.{ℕ, ◌≡◌, ◌+◌, ◌-◌, ◌≤◌, max, List, [], ◌∷◌, Option, Some, None, Result, Ok, Err, ⊤}
+use Rattle.std.specs.Prelude.{ℕ, ◌≡◌, ◌+◌, ◌-◌, ◌≤◌, max, false, IfSome, List, [], ◌∷◌, Option, Some, None, Result, Ok, Err, ⊤}
 use Rattle.std.proofs.Common.{refl, sym, ap, subst, ◌∙◌, arith}
-use Rattle.fallible_iterator.specs.Traces.{Answered, Run, failure, end}
+use Rattle.fallible_iterator.specs.Traces.{Answered, Run, item, failure, end}
 use Rattle.fallible_iterator.specs.LawForm.{TracesAre}
 use Rattle.fallible_iterator.specs.Contract.{Contract, seen_as}
 use Rattle.fallible_iterator.specs.Held.{held_count}
-use Rattle.fallible_iterator.specs.Lists.{Lists, ListsForGood}
+use Rattle.fallible_iterator.specs.Cutting.Fuse.{fuse_parts}
+use Rattle.fallible_iterator.specs.Lists.{Lists}
 use Rattle.fallible_iterator.specs.SoundHints.{AsSoundAsBoth}
 use Rattle.fallible_iterator.proofs.Lemmas.Lists.ForGood.{lists_once, lists_for_good_seen}
-use Rattle.fallible_itertools.specs.Sides.{low_with, SidesPlace, left_failed, right_failed, both_gave, right_held_after}
-use Rattle.fallible_itertools.specs.ZipLongest.{longest, longest_rule, zip_longest_parts, zip_longest_contract, ZipLongestTrace, zipped_longest}
+use Rattle.fallible_iterator.specs.Fuse.{Fuse}
+use Rattle.fallible_itertools.specs.Sides.{fused_steps, side_hint, SidesPlace, left_failed, right_failed, both_gave, right_held_after}
+use Rattle.fallible_itertools.specs.ZipLongest.{greater_bound, hint_greater, longest, longest_rule, zip_longest_parts, zip_longest_contract, ZipLongestTrace, zipped_longest}
 use Rattle.fallible_itertools.specs.Laws.ZipLongest.{is_lawful_rule_longest}
-use Rattle.fallible_itertools.proofs.Lemmas.Sides.{first_answer, rest_of, left_over, ListsBy, gives_for_good_sides, GivesAsMany, both_end, low_with_of, SidesStep, sides_law}
+use Rattle.fallible_itertools.proofs.Lemmas.Sides.{first_answer, rest_of, left_over, EndsOnce, IfEnded, ListsBy, gives_for_good_of_fresh, gives_for_good_sides, GivesAsMany, TakesAsMany, both_come, both_end, side_hint_above, side_hint_below, SidesStep, sides_law}
 use Rattle.fallible_itertools.specs.declared.zip_longest.EitherOrBoth.{EitherOrBoth}
 use Rattle.fallible_itertools.specs.declared.zip_longest.ZipLongest.{ZipLongest}
 
@@ -20,6 +22,18 @@ one_of_each (Some x) (Some y) i j = omega arith
 one_of_each (Some x) None i j = omega arith
 one_of_each None (Some y) i j = omega arith
 one_of_each None None i j = omega arith
+
+-- where each side that still has items gives one, the greater number of them goes down
+longest_takes_one : {A B C : Type 0} (x : Option A) (y : Option B) (i j : ℕ) (z : C) → IfEnded x i → IfEnded y j → (x ≡ None → y ≡ None → ⊥) → max i j + 1 ≤ max ((held_count x - 0) + i) ((held_count y - 0) + j)
+longest_takes_one (Some x) (Some y) i j z e k some = omega arith
+longest_takes_one (Some x) None i j z e k some = omega (arith, k)
+longest_takes_one None (Some y) i j z e k some = omega (arith, e)
+longest_takes_one None None i j z e k some = absurd (some refl refl)
+
+greater_above : (a b : Option ℕ) (i j n : ℕ) → n ≤ max i j → IfSome a (λ m. i ≤ m) → IfSome b (λ m. j ≤ m) → IfSome (greater_bound a b) (λ m. n ≤ m)
+greater_above (Some x) (Some y) i j n few le also = omega (arith, few, le, also)
+greater_above (Some x) None i j n few le also = tt
+greater_above None b i j n few le also = tt
 
 module _ {A B E : Type 0} where
   zipped_longest_left_failure : (a : List (Result A E)) (b : List (Result B E)) (e : E) → failure e ≡ first_answer a → (failure e ≡ first_answer (zipped_longest a b)) × (zipped_longest (rest_of a) b ≡ rest_of (zipped_longest a b))
@@ -57,6 +71,14 @@ module _ {A B E : Type 0} where
   end_of_both None (Some y) is = absurd cc
   end_of_both None None is = (refl, refl)
 
+  item_of_one : (x : Option A) (y : Option B) (z : EitherOrBoth A B) → ◌≡◌ {A = Answered (EitherOrBoth A B) E} (Ok (longest x y)) (item z) → x ≡ None → y ≡ None → ⊥
+  item_of_one (Some x) y z is e k = absurd cc
+  item_of_one None (Some y) z is e k = absurd cc
+  item_of_one None None z is e k = absurd cc
+
+  takes_as_many_longest : TakesAsMany (longest_rule {A = A} {B = B} {E = E}) max
+  takes_as_many_longest f g x y v z i j d is e k = longest_takes_one x y i j z e k (item_of_one x y z is)
+
   gives_as_many_longest : GivesAsMany (longest_rule {A = A} {B = B} {E = E}) max
   gives_as_many_longest = record { item_given = λ f g x y v z i j d is. one_of_each x y i j; end_given = λ f g x y v d is. end_of_both x y is; nothing = refl }
 
@@ -64,24 +86,25 @@ module _ {S U A B E : Type 0} (steps : S → Answered A E → S → Type 0) (oth
   abbrev ZippedSteps : (S × Option A) × (U × Option B) × Unit {0} → Answered (EitherOrBoth A B) E → (S × Option A) × (U × Option B) × Unit {0} → Type 0
   ZippedSteps = SidesStep steps others (longest_rule {A = A} {B = B} {E = E})
 
-  pub as_sound_as_both_zip_longest : (p : (S × Option A) × (U × Option B) × Unit {0}) (h g k : ℕ × Option ℕ) → h ≡ (max (low_with p.0.1 g.0) k.0, None) → AsSoundAsBoth ZippedSteps p h steps p.0.0 g others p.1.0 k
-  as_sound_as_both_zip_longest p h g k is = rw is (record {
-    above = λ i j xs t ran. tt;
+  pub as_sound_as_both_zip_longest : EndsOnce steps → EndsOnce others → (p : (S × Option A) × (U × Option B) × Unit {0}) (h g k : ℕ × Option ℕ) → h ≡ hint_greater (side_hint p.0.1 g) (side_hint p.1.1 k) → AsSoundAsBoth ZippedSteps p h steps p.0.0 g others p.1.0 k
+  as_sound_as_both_zip_longest once once_right p h g k is = rw is (record {
+    above = λ i j zs q ran.
+        let b = both_come steps others once once_right longest_rule max takes_as_many_longest is_lawful_rule_longest zs p q ran in
+        let high = side_hint_above p.0.1 g b.of_left _ b.left.many (i b.left.came b.left.left b.left.ran) in
+        let also = side_hint_above p.1.1 k b.of_right _ b.right.many (j b.right.came b.right.left b.right.ran) in
+        greater_above (side_hint p.0.1 g).1 (side_hint p.1.1 k).1 b.of_left b.of_right _ b.few high also;
     below = λ i j zs q r ran w.
         let b = both_end steps others longest_rule max gives_as_many_longest is_lawful_rule_longest zs p q r ran w in
-        let low = low_with_of p.0.1 b.of_left g.0 _ (i b.left.came b.left.left b.left.last b.left.ran b.left.ended) b.left.few in
-        let le = j b.right.came b.right.left b.right.last b.right.ran b.right.ended in
-        omega (arith, low, le, b.right.few, b.few);
+        let low = side_hint_below p.0.1 g b.of_left _ (i b.left.came b.left.left b.left.last b.left.ran b.left.ended) b.left.few in
+        let also = side_hint_below p.1.1 k b.of_right _ (j b.right.came b.right.left b.right.last b.right.ran b.right.ended) b.right.few in
+        omega (arith, low, also, b.few);
   })
 
 -- ---- what it lists
 
-module _ {S U A B E : Type 0} (left : Contract S A E) (right : Contract U B E) (c : ZipLongest S U A E) (s : S) (a : List (Result A E)) (b : List (Result B E)) where
-  pub lists_for_good_zipped_longest : zip_longest_parts {B = B} c ≡ ((s, None), (c.right, None), tt) → ListsForGood left.steps s a → ListsForGood right.steps c.right b → ListsForGood (seen_as zip_longest_parts (zip_longest_contract left right)).steps c (zipped_longest a b)
-  lists_for_good_zipped_longest parts i k = lists_for_good_seen zip_longest_parts (zip_longest_contract left right).steps c parts refl (gives_for_good_sides left.steps right.steps longest_rule (λ f. ⊤) zipped_longest lists_by_longest is_lawful_rule_longest ((s, None), (c.right, None), tt) a b i.runs k.runs tt)
-
-  pub lists_zipped_longest : zip_longest_parts {B = B} c ≡ ((s, None), (c.right, None), tt) → ListsForGood left.steps s a → ListsForGood right.steps c.right b → Lists (seen_as zip_longest_parts (zip_longest_contract left right)).steps c (zipped_longest a b)
-  lists_zipped_longest parts i k = lists_once _ (lists_for_good_zipped_longest parts i k)
+module _ {S U A B E : Type 0} (left : Contract S A E) (right : Contract U B E) (c : ZipLongest S U A E) (s : S) (u : U) (a : List (Result A E)) (b : List (Result B E)) where
+  pub lists_zipped_longest : zip_longest_parts {B = B} c ≡ ((c.left.it, None), (c.right, None), tt) → fuse_parts c.left.it ≡ (s, false) → fuse_parts c.right ≡ (u, false) → Lists left.steps s a → Lists right.steps u b → Lists (seen_as zip_longest_parts (zip_longest_contract left right)).steps c (zipped_longest a b)
+  lists_zipped_longest parts fresh also i k = lists_once _ (lists_for_good_seen zip_longest_parts (zip_longest_contract left right).steps c parts refl (gives_for_good_sides (fused_steps left.steps) (fused_steps right.steps) longest_rule (λ f. ⊤) zipped_longest lists_by_longest is_lawful_rule_longest ((c.left.it, None), (c.right, None), tt) a b (gives_for_good_of_fresh left c.left.it s a fresh i) (gives_for_good_of_fresh right c.right u b also k) tt))
 
 -- ---- whole traces
 
@@ -92,10 +115,10 @@ right_behind_none_back h (both_gave x y v) is = refl
 
 module _ {S U A B E : Type 0} (steps : S → Answered A E → S → Type 0) (others : U → Answered B E → U → Type 0) where
   abbrev SidesHere : Type 0
-  SidesHere = (S × Option A) × (U × Option B) × Unit {0}
+  SidesHere = (Fuse S × Option A) × (Fuse U × Option B) × Unit {0}
 
   abbrev SeenSteps : ZipLongest S U A E → Answered (EitherOrBoth A B) E → ZipLongest S U A E → Type 0
-  SeenSteps s r t = ZippedSteps steps others (zip_longest_parts s) r (zip_longest_parts t)
+  SeenSteps s r t = ZippedSteps (fused_steps steps) (fused_steps others) (zip_longest_parts s) r (zip_longest_parts t)
 
   abbrev of_parts : SidesHere → ZipLongest S U A E
   of_parts p = record { left = record { it = p.0.0; held = p.0.1 }; right = p.1.0 }
@@ -104,18 +127,18 @@ module _ {S U A B E : Type 0} (steps : S → Answered A E → S → Type 0) (oth
   zip_longest_parts_of ((s, h), (u, k), f) e = rw e refl
 
   -- nothing is held of the right
-  right_holds_none : (p q : SidesHere) (r : Answered (EitherOrBoth A B) E) → p.1.1 ≡ None → ZippedSteps steps others p r q → q.1.1 ≡ None
+  right_holds_none : (p q : SidesHere) (r : Answered (EitherOrBoth A B) E) → p.1.1 ≡ None → ZippedSteps (fused_steps steps) (fused_steps others) p r q → q.1.1 ≡ None
   right_holds_none p q r e w = w.4 ∙ right_behind_none_back p.1.1 w.0 e
 
-  run_of_sides : (trace : List (Answered (EitherOrBoth A B) E)) (s t : ZipLongest S U A E) → Run SeenSteps s trace t → Run (ZippedSteps steps others) (zip_longest_parts s) trace (zip_longest_parts t)
+  run_of_sides : (trace : List (Answered (EitherOrBoth A B) E)) (s t : ZipLongest S U A E) → Run SeenSteps s trace t → Run (ZippedSteps (fused_steps steps) (fused_steps others)) (zip_longest_parts s) trace (zip_longest_parts t)
   run_of_sides [] s t e = ap zip_longest_parts e
   run_of_sides (r ∷ rest) s t ran = (zip_longest_parts ran.0, ran.1, run_of_sides rest ran.0 t ran.2)
 
-  run_from_sides : (trace : List (Answered (EitherOrBoth A B) E)) (s t : ZipLongest S U A E) → Run (ZippedSteps steps others) (zip_longest_parts s) trace (zip_longest_parts t) → Run SeenSteps s trace t
+  run_from_sides : (trace : List (Answered (EitherOrBoth A B) E)) (s t : ZipLongest S U A E) → Run (ZippedSteps (fused_steps steps) (fused_steps others)) (zip_longest_parts s) trace (zip_longest_parts t) → Run SeenSteps s trace t
   run_from_sides [] s t e = ap of_parts e
   run_from_sides (r ∷ rest) s t ran =
       let same = zip_longest_parts_of ran.0 (right_holds_none (zip_longest_parts s) ran.0 r refl ran.1) in
-      (of_parts ran.0, subst (λ (p : SidesHere). ZippedSteps steps others (zip_longest_parts s) r p) (sym same) ran.1, run_from_sides rest (of_parts ran.0) t (subst (λ (p : SidesHere). Run (ZippedSteps steps others) p rest (zip_longest_parts t)) (sym same) ran.2))
+      (of_parts ran.0, subst (λ (p : SidesHere). ZippedSteps (fused_steps steps) (fused_steps others) (zip_longest_parts s) r p) (sym same) ran.1, run_from_sides rest (of_parts ran.0) t (subst (λ (p : SidesHere). Run (ZippedSteps (fused_steps steps) (fused_steps others)) p rest (zip_longest_parts t)) (sym same) ran.2))
 
   pub zip_longest_law : TracesAre zip_longest_parts SeenSteps (ZipLongestTrace steps others)
-  zip_longest_law s trace t = let law = sides_law steps others longest_rule (zip_longest_parts s) trace (zip_longest_parts t) in ((λ ran. law.0 (run_of_sides trace s t ran)), (λ d. run_from_sides trace s t (law.1 d)))
+  zip_longest_law s trace t = let law = sides_law (fused_steps steps) (fused_steps others) longest_rule (zip_longest_parts s) trace (zip_longest_parts t) in ((λ ran. law.0 (run_of_sides trace s t ran)), (λ d. run_from_sides trace s t (law.1 d)))

@@ -4,24 +4,35 @@ use Rattle.std.specs.Iterator.{IsFinite, size}
 use Rattle.std.proofs.Common.{refl, sym, subst, ap₂, arith, inl, inr}
 use Rattle.fallible_iterator.specs.Traces.{Answered, item, failure, end}
 use Rattle.fallible_iterator.specs.Contract.{Contract, OnAnswer, KeptByDraw, Lawful, lenders_of_both}
+use Rattle.fallible_iterator.specs.Cutting.Fuse.{fuse_parts}
 use Rattle.fallible_iterator.specs.Held.{held_count}
-use Rattle.fallible_itertools.specs.Sides.{GivesHeldFirst, GivesIf, side_bound, side_remaining, side_gives, Rule, SidesPlace, left_failed, right_failed, both_gave, left_gave, right_gave, left_held_after, right_held_after, place_answer, place_decides, sides_contract}
+use Rattle.fallible_iterator.specs.Laws.Contract.{lawful_seen}
+use Rattle.fallible_iterator.specs.Laws.Cutting.Fuse.{lawful_fuse}
+use Rattle.fallible_itertools.specs.Sides.{fused_contract, GivesHeldFirst, GivesIf, side_remaining, side_gives, Rule, SidesPlace, left_failed, right_failed, both_gave, left_gave, right_gave, left_held_after, right_held_after, place_answer, place_decides, sides_contract}
 use Rattle.fallible_iterator.specs.Laws.Joining.Chain.{both_finite, sum_finite}
 
--- a sum of counts is finite where both are
+-- ---- a fused source
+
+pub lawful_fused : {S A E : Type 0} {m : Contract S A E} → Lawful m → Lawful (fused_contract m)
+lawful_fused l = lawful_seen fuse_parts (lawful_fuse l)
+
+-- ---- one side
+
 -- P holds of the item, where there is one
 abbrev pub OfItem : {A : Type 0} → (A → Type 0) → Option A → Type 0
 OfItem P (Some x) = P x
 OfItem P None = ⊤
 
--- ---- one side
-
 module _ {S A E : Type 0} (m : Contract S A E) where
+  -- a bound of a side: one of the source, and one more if an item is held
+  abbrev side_bound : S × Option A → ℕ → Type 0
+  side_bound p n = (k : ℕ) × m.bound p.0 k × (k + held_count p.1 ≤ n)
+
   -- A side goes from p to q, where i items and d items or failures are consumed.
   pub record SideKept (p q : S × Option A) (i d : ℕ) : Type 0 where
     pub can_next : m.can_next q.0
     pub is_finite : m.is_finite p.0 → m.is_finite q.0
-    pub bound : (n : ℕ) → side_bound m p n → (k : ℕ) × side_bound m q k × (k + i ≤ n)
+    pub bound : (n : ℕ) → side_bound p n → (k : ℕ) × side_bound q k × (k + i ≤ n)
     pub remaining : IsFinite (side_remaining m p) → IsFinite (side_remaining m q) × (size (side_remaining m q) + d ≤ size (side_remaining m p))
     pub gives : (y : A) → side_gives m q y → side_gives m p y
     pub fails : (e : E) → m.may_fail q.0 e → m.may_fail p.0 e
@@ -37,17 +48,17 @@ module _ {S A E : Type 0} (m : Contract S A E) where
 
   -- a side yields its held item
   side_kept_held_given : (s : S) (x : A) → m.can_next s → SideKept (s, Some x) (s, None) 1 1
-  side_kept_held_given s x c = record { can_next = c; is_finite = λ h. h; bound = λ n b. b; remaining = λ f. (f, omega arith); gives = λ y h. inr h; fails = λ e h. h; lenders = refl }
+  side_kept_held_given s x c = record { can_next = c; is_finite = λ h. h; bound = λ n b. (b.0, (b.0, b.1, omega arith), b.2); remaining = λ f. (f, omega arith); gives = λ y h. inr h; fails = λ e h. h; lenders = refl }
 
   module _ (l : Lawful m) where
     side_kept_item_drawn : (s t : S) (x : A) → m.can_next s → m.steps s (item x) t → SideKept (s, None) (t, None) 1 1
-    side_kept_item_drawn s t x c step = let a = l.kept_by_draw s (item x) t c step in record { can_next = a.can_next; is_finite = a.is_finite; bound = λ n b. let k = a.answer.1 n b in (k.0, k.1, omega (arith, k.2)); remaining = λ f. let j = a.answer.2 f in (j.0, omega (arith, j.1)); gives = a.may_give; fails = a.may_fail; lenders = a.lenders }
+    side_kept_item_drawn s t x c step = let a = l.kept_by_draw s (item x) t c step in record { can_next = a.can_next; is_finite = a.is_finite; bound = λ n b. let k = a.answer.1 b.0 b.1 in (k.0, (k.0, k.1, omega arith), omega (arith, k.2, b.2)); remaining = λ f. let j = a.answer.2 f in (j.0, omega (arith, j.1)); gives = a.may_give; fails = a.may_fail; lenders = a.lenders }
 
     side_kept_end_drawn : (s t : S) → m.can_next s → m.steps s end t → SideKept (s, None) (t, None) 0 0
-    side_kept_end_drawn s t c step = let a = l.kept_by_draw s end t c step in record { can_next = a.can_next; is_finite = a.is_finite; bound = λ n b. let k = a.answer.0 n b in (k.0, k.1, omega (arith, k.2)); remaining = λ f. let j = a.answer.1 f in (j.0, omega (arith, j.1)); gives = a.may_give; fails = a.may_fail; lenders = a.lenders }
+    side_kept_end_drawn s t c step = let a = l.kept_by_draw s end t c step in record { can_next = a.can_next; is_finite = a.is_finite; bound = λ n b. let k = a.answer.0 b.0 b.1 in (k.0, (k.0, k.1, omega arith), omega (arith, k.2, b.2)); remaining = λ f. let j = a.answer.1 f in (j.0, omega (arith, j.1)); gives = a.may_give; fails = a.may_fail; lenders = a.lenders }
 
     side_kept_failure_drawn : (s t : S) (e : E) → m.can_next s → m.steps s (failure e) t → SideKept (s, None) (t, None) 0 1
-    side_kept_failure_drawn s t e c step = let a = l.kept_by_draw s (failure e) t c step in record { can_next = a.can_next; is_finite = a.is_finite; bound = λ n b. let k = a.answer.1 n b in (k.0, k.1, omega (arith, k.2)); remaining = λ f. let j = a.answer.2 f in (j.0, omega (arith, j.1)); gives = a.may_give; fails = a.may_fail; lenders = a.lenders }
+    side_kept_failure_drawn s t e c step = let a = l.kept_by_draw s (failure e) t c step in record { can_next = a.can_next; is_finite = a.is_finite; bound = λ n b. let k = a.answer.1 b.0 b.1 in (k.0, (k.0, k.1, omega arith), omega (arith, k.2, b.2)); remaining = λ f. let j = a.answer.2 f in (j.0, omega (arith, j.1)); gives = a.may_give; fails = a.may_fail; lenders = a.lenders }
 
     -- a side fails, which holds nothing then
     pub side_kept_fails : (p : S × Option A) (t : S) (e : E) → m.can_next p.0 → GivesHeldFirst m.steps p (failure e) t → SideKept p (t, None) 0 1 × m.may_fail p.0 e
@@ -64,7 +75,7 @@ module _ {S A E : Type 0} (m : Contract S A E) where
     -- what was yielded is held again
     side_kept_held_again : (p : S × Option A) (t : S) (x : Option A) → SideKept p (t, None) (held_count x) (held_count x) → OfItem (side_gives m p) x → SideKept p (t, x) 0 0
     side_kept_held_again p t None k g = k
-    side_kept_held_again p t (Some x) k g = record { can_next = k.can_next; is_finite = k.is_finite; bound = λ n b. let j = k.bound n b in (j.0 + 1, (j.0, j.1, omega arith), omega (arith, j.2)); remaining = λ f. let j = k.remaining f in (j.0, omega (arith, j.1)); gives = λ y h. elim h [ inl e ↦ subst (λ (z : A). side_gives m p z) (sym e) g | inr h ↦ k.gives y h ]; fails = k.fails; lenders = k.lenders }
+    side_kept_held_again p t (Some x) k g = record { can_next = k.can_next; is_finite = k.is_finite; bound = λ n b. let j = k.bound n b in (j.1.0 + 1, (j.1.0, j.1.1, omega arith), omega (arith, j.1.2, j.2)); remaining = λ f. let j = k.remaining f in (j.0, omega (arith, j.1)); gives = λ y h. elim h [ inl e ↦ subst (λ (z : A). side_gives m p z) (sym e) g | inr h ↦ k.gives y h ]; fails = k.fails; lenders = k.lenders }
 
     pub side_kept_puts_back : (p : S × Option A) (t : S) (x : Option A) → m.can_next p.0 → GivesHeldFirst m.steps p (Ok x) t → SideKept p (t, x) 0 0
     side_kept_puts_back p t x c g = let k = side_kept_given p t x c g in side_kept_held_again p t x k.0 k.1
@@ -118,7 +129,10 @@ module _ {S U A B C E F V : Type 0} (left : Contract S A E) (right : Contract U 
   -- what is left of both sides
   module _ (p q : SidesState) (i d j k : ℕ) (a : SideKept left p.0 q.0 i d) (b : SideKept right p.1 q.1 j k) where
     bound_after : (n : ℕ) → SidesHere.bound p n → (m : ℕ) × SidesHere.bound q m × (m + (i + j) ≤ n)
-    bound_after n h = let x = a.bound h.0 h.2 in let y = b.bound h.1 h.3 in (x.0 + y.0, (x.0, y.0, x.1, y.1, omega arith), omega (arith, x.2, y.2, h.4))
+    bound_after n h =
+        let x = a.bound (h.0 + held_count p.0.1) (h.0, h.2, omega arith) in
+        let y = b.bound (h.1 + held_count p.1.1) (h.1, h.3, omega arith) in
+        (x.0 + y.0, (x.1.0, y.1.0, x.1.1, y.1.1, omega (arith, x.1.2, y.1.2)), omega (arith, x.2, y.2, h.4))
 
     remaining_is_finite_after : IsFinite (SidesHere.remaining p) → IsFinite (SidesHere.remaining q) × (size (SidesHere.remaining q) + (d + k) ≤ size (SidesHere.remaining p))
     remaining_is_finite_after f = let both = both_finite (side_remaining left p.0).bounded (side_remaining right p.1).bounded f in let x = a.remaining both.0 in let y = b.remaining both.1 in (sum_finite (side_remaining left q.0).bounded (side_remaining right q.1).bounded x.0 y.0, omega (arith, x.1, y.1))
@@ -168,15 +182,11 @@ module _ {S U A B C E F V : Type 0} (left : Contract S A E) (right : Contract U 
     kept_by_draw_sides : (p : SidesState) (r : Answered C E) (q : SidesState) → SidesHere.can_next p → SidesHere.steps p r q → KeptByDraw SidesHere p r q
     kept_by_draw_sides p r ((t, h), (u, k), g) c step = rw (step.2, step.4, step.6) (kept_by_draw_place p t u g step.0 c step.1 step.3 step.5)
 
-    bound_of_side : {T X : Type 0} (s : Contract T X E) → Lawful s → (z : T × Option X) → s.is_finite z.0 ↔ ((n : ℕ) × side_bound s z n)
-    bound_of_side s law (t, Some x) = ((λ e. let k = (law.bounded t).0 e in (k.0 + 1, (k.0, k.1, omega arith))), (λ h. (law.bounded t).1 (h.1.0, h.1.1)))
-    bound_of_side s law (t, None) = law.bounded t
-
     pub lawful_sides : Lawful SidesHere
     lawful_sides = record {
       kept_by_draw = kept_by_draw_sides;
       bounded = λ p. (
-        (λ e. let a = (bound_of_side left l p.0).0 e.0 in let b = (bound_of_side right m p.1).0 e.1 in (a.0 + b.0, (a.0, b.0, a.1, b.1, omega arith))),
-        (λ h. ((bound_of_side left l p.0).1 (h.1.0, h.1.2), (bound_of_side right m p.1).1 (h.1.1, h.1.3))),
+        (λ e. let a = (l.bounded p.0.0).0 e.0 in let b = (m.bounded p.1.0).0 e.1 in ((a.0 + held_count p.0.1) + (b.0 + held_count p.1.1), (a.0, b.0, a.1, b.1, omega arith))),
+        (λ h. ((l.bounded p.0.0).1 (h.1.0, h.1.2), (m.bounded p.1.0).1 (h.1.1, h.1.3))),
       );
     }

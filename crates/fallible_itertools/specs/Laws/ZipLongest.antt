@@ -3,7 +3,8 @@ use Rattle.std.specs.Prelude.{◌+◌, ◌-◌, Option, Some, None, Ok}
 use Rattle.std.proofs.Common.{refl, arith, inl}
 use Rattle.fallible_iterator.specs.Contract.{Contract, Lawful}
 use Rattle.fallible_iterator.specs.Held.{held_count}
-use Rattle.fallible_itertools.specs.Laws.Sides.{OfItem, MadeBy, IsLawfulRule, lawful_sides}
+use Rattle.fallible_itertools.specs.Laws.Sides.{OfItem, MadeBy, IsLawfulRule, lawful_fused, lawful_sides}
+use Rattle.fallible_itertools.specs.Sides.{fused_contract}
 use Rattle.fallible_itertools.specs.ZipLongest.{OfEach, longest, longest_rule, zip_longest_hints, zip_longest_contract}
 use Rattle.fallible_itertools.specs.declared.zip_longest.EitherOrBoth.{EitherOrBoth}
 use Rattle.fallible_itertools.specs.declared.zip_longest.EitherOrBoth.TheVariants.{Both, Left, Right}
@@ -33,4 +34,4 @@ module _ {A B E : Type 0} where
   }
 
 pub lawful_zip_longest : {S U A B E : Type 0} {left : Contract S A E} {right : Contract U B E} → Lawful left → Lawful right → Lawful (zip_longest_contract left right)
-lawful_zip_longest {left = left} {right = right} l k = lawful_sides left right longest_rule (zip_longest_hints left right) l k is_lawful_rule_longest
+lawful_zip_longest {left = left} {right = right} l k = lawful_sides (fused_contract left) (fused_contract right) longest_rule (zip_longest_hints (fused_contract left) (fused_contract right)) (lawful_fused l) (lawful_fused k) is_lawful_rule_longest

@@ -3,7 +3,7 @@ ghost use Rattle.std.specs.Prelude.{◌≡◌, ℕ, ◌+◌, ◌-◌, ◌*◌, �
 ghost use Rattle.fallible_iterator.specs.BothEnds.{items_listed, failures_listed};
 ghost use Rattle.fallible_iterator.specs.Lists.{nth_of, on_value};
 ghost use Rattle.fallible_itertools.specs.Intersperse.{interspersed};
-ghost use Rattle.fallible_itertools.specs.Join.{joined};
+ghost use Rattle.fallible_itertools.specs.Join.{StandsInText, joined};
 ghost use Rattle.fallible_itertools.specs.TupleWindows.{windowed};
 ghost use Rattle.fallible_itertools.specs.ZipLongest.{longest, zipped_longest};
 
@@ -43,10 +43,11 @@ pub fn law_zipped_longest<T, U, E>()
         (failures_listed (zipped_longest a b)) }
 {}
 
-/// The text of n items has the bytes of each, and n - 1 times those of the separator.
-#[tactic(auto, using(crate::proofs::Lemmas::Lengths::length_joined))]
+/// The text of n items has the bytes of each, and n - 1 times those of the separator. The text of an item stands where those of the items before it end, each with a separator, and then comes the separator, if an item comes after it.
 pub fn law_joined<T>()
-    ensures { (show : T → List ℕ) (separator : List ℕ) (xs : List T)
+    ensures length { (show : T → List ℕ) (separator : List ℕ) (xs : List T)
         → length (joined show separator xs)
         ≡ sum_by (λ x. length (show x)) xs + (length xs - 1) * length separator }
+    ensures places { (show : T → List ℕ) (separator : List ℕ) (before : List T) (x : T)
+        (after : List T) → StandsInText show separator before x after }
 {}

@@ -3,4 +3,4 @@ use Rattle.fallible_itertools.proofs.Lemmas.Merge.{merge_law}
 use Rattle.fallible_itertools.proofs.laws.merge.law_merge.Goals as goal
 
 pub returns : goal.returns
-returns g c = merge_law _ _ g.T.Item.PartialOrd.partial_cmp
+returns g c = merge_law g.T.FallibleIterator.contract.steps g.U.FallibleIterator.contract.steps g.T.Item.PartialOrd.partial_cmp

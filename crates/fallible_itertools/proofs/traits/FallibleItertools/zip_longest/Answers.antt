@@ -1,14 +1,11 @@
--- What both fused sides list, position by position.
+-- What both sides list, position by position.
 use Rattle.std.specs.Prelude.{◌+◌}
 use Rattle.std.proofs.Common.{refl, inr, arith}
-use Rattle.fallible_itertools.proofs.Lemmas.ZipLongest.{lists_zipped_longest, lists_for_good_zipped_longest}
+use Rattle.fallible_itertools.proofs.Lemmas.ZipLongest.{lists_zipped_longest}
 use Rattle.fallible_itertools.proofs.traits.FallibleItertools.zip_longest.Goals as goal
 
-pub returns-clause-for_good : goal.returns-clause-for_good
-returns-clause-for_good g c a b i k = lists_for_good_zipped_longest g.Self.FallibleIterator.contract g.I.IntoFallibleIter.FallibleIterator.contract _ _ a b refl i (k _ c.into_fallible_iter.ensures)
-
 pub returns-clause-lists : goal.returns-clause-lists
-returns-clause-lists g c a b i k = lists_zipped_longest g.Self.FallibleIterator.contract g.I.IntoFallibleIter.FallibleIterator.contract _ _ a b refl i (k _ c.into_fallible_iter.ensures)
+returns-clause-lists g c a b i k = lists_zipped_longest g.Self.FallibleIterator.contract g.I.IntoFallibleIter.FallibleIterator.contract _ _ _ a b refl c.fuse.ensures.parts c.fuse-2.ensures.parts i (k _ c.into_fallible_iter.ensures)
 
 pub returns-clause-bounded : goal.returns-clause-bounded
-returns-clause-bounded g c a b k x y le = inr (a + b, (a, b, x, y, omega arith), le)
+returns-clause-bounded g c a b k x y le = inr (a + b, (a, b, rw c.fuse.ensures.parts x, y, omega arith), le)
