@@ -1,6 +1,7 @@
 -- What a report in memory says of the file whose report it is.
-use Rattle.std.specs.Prelude.{◌≡◌, ℕ, List, [], ◌∷◌, ◌++◌, Option, Some, Result, Ok, Err}
-use Rattle.std.proofs.Common.{refl, sym, ap, subst, ◌∙◌, inl, inr}
+use Rattle.std.specs.Prelude.{◌≡◌, ℕ, List, [], ◌∷◌, ◌++◌, Option, Some, Result, Ok, Err, Bool, true, false, length, eqb}
+use Rattle.std.proofs.Common.{refl, sym, ap, subst, ◌∙◌, inl, inr, arith}
+use Rattle.std.proofs.lemmas.Bool.{eqb-true, eq-eqb, both_ways}
 use Rattle.std.proofs.KnownBytes.{Appends-nil}
 use Rattle.std.specs.Io.KnownBytes.{Appends}
 use Rattle.example_tasks.specs.Reading.{ReadsAll}
@@ -12,6 +13,15 @@ use Rattle.fallible_elf.specs.Sections.{headers_of, headers_of_table}
 use Rattle.fallible_elf.specs.Text.{text_where}
 use Rattle.fallible_elf.specs.declared.fault.ElfFault.{ElfFault}
 use Rattle.fallible_elf.specs.declared.section.Section.{Section}
+
+-- ---- a text of no byte
+
+pub nothing : (text : List ℕ) (n : ℕ) (b : Bool) → length text ≡ n → b ≡ eqb n 0 → b ≡ true → text ≡ []
+nothing [] n b long e t = refl
+nothing (x ∷ xs) n b long e t = let none : n ≡ 0 = eqb-true n 0 (sym e ∙ t) in absurd (omega (arith, long, none))
+
+pub something : (text : List ℕ) (n : ℕ) (b : Bool) → length text ≡ n → b ≡ eqb n 0 → b ≡ false → text ≡ [] → ⊥
+something text n b long e f none = both_ways b f (e ∙ eq-eqb n 0 (sym long ∙ ap length none))
 
 -- ---- a header with a fault has no report
 
