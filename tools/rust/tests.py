@@ -14,6 +14,8 @@ ITEM = re.compile(r"^(?:#\[.*\]\n)*(?:pub(?:\([^)]*\))? )?(fn|struct|enum|trait|
 
 HANDLE = r"(?:rt\.alloc\(\)|self\.alloc|alloc|&rt|rt)"
 PLAIN = [
+    # An allocation whose failure is handed on.
+    (r"\bmatch (vec!\[in .*\]) \{\s*Ok\((\w+)\) => \2,\s*Err\((\w+)\) => return Err\(Fault::Memory\(\3\)\),\s*\}", r"\1?"),
     (r"^use std::(?:alloc|test|process)::.*;\n", ""),
     (r"^([ \t]*)(?:alloc: Global|rt: &?HostRuntime|rt: &impl \w+),\n", ""),
     (r"\b(?:alloc: Global|rt: &?HostRuntime|rt: &impl \w+)(?:, )?", ""),

@@ -1,6 +1,7 @@
-// A side of what joins two sources and buffers at most one item of each.
+// A side of what joins two sources, fuses each and buffers at most one item of each.
 
 use fallible_iterator::FallibleIterator;
+use fallible_iterator::extending::sum;
 
 // A source, and its buffered item, if there is one.
 #[derive(Clone, Debug)]
@@ -18,12 +19,12 @@ impl<I: FallibleIterator> Holding<I, I::Item> {
         }
     }
 
-    // The source's lower bound, one more if an item is buffered.
-    pub(crate) fn low(&self) -> usize {
-        let low = self.it.size_hint().0;
+    // The source's hint, one more on each bound if an item is buffered.
+    pub(crate) fn hint(&self) -> (usize, Option<usize>) {
+        let hint = self.it.size_hint();
         match &self.held {
-            Some(_) => low.saturating_add(1),
-            None => low,
+            Some(_) => sum(hint, (1, Some(1))),
+            None => hint,
         }
     }
 }

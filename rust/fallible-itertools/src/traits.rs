@@ -989,19 +989,16 @@ pub trait FallibleItertools: FallibleIterator + Sized {
     ///
     /// ```text
     /// ensures left { merge_left result ≡ self }
+    /// ensures left_ended { merge_left_ended result ≡ false }
     /// ensures left_held { merge_left_held result ≡ None }
     /// ensures right { I.into_gives other (merge_right result) }
+    /// ensures right_ended { merge_right_ended result ≡ false }
     /// ensures right_held { merge_right_held result ≡ None }
     /// ensures bounded { (a b k : ℕ) → Self.contract.bound self a
     ///     → I.IntoFallibleIter.contract.bound (merge_right result) b → a + b ≤ k
     ///     → AtMost (seen_as merge_parts (merge_contract Self.Item.partial_cmp Self.contract
     ///     I.IntoFallibleIter.contract)) result k }
-    /// ensures for_good { OverBothForGood Self.contract.steps self I.into_gives other
-    ///     I.IntoFallibleIter.contract.steps
-    ///     (λ a b. list.ListsForGood (seen_as merge_parts (merge_contract Self.Item.partial_cmp
-    ///     Self.contract I.IntoFallibleIter.contract)).steps result
-    ///     (merged_in_order Self.Item.partial_cmp a b)) }
-    /// ensures lists { OverBothForGood Self.contract.steps self I.into_gives other
+    /// ensures lists { OverBoth Self.contract.steps self I.into_gives other
     ///     I.IntoFallibleIter.contract.steps
     ///     (λ a b. list.Lists (seen_as merge_parts (merge_contract Self.Item.partial_cmp
     ///     Self.contract I.IntoFallibleIter.contract)).steps result
@@ -1015,11 +1012,11 @@ pub trait FallibleItertools: FallibleIterator + Sized {
     {
         Merge {
             left: Holding {
-                it: self,
+                it: self.fuse(),
                 held: None,
             },
             right: Holding {
-                it: other.into_fallible_iter(),
+                it: other.into_fallible_iter().fuse(),
                 held: None,
             },
         }
@@ -1027,7 +1024,7 @@ pub trait FallibleItertools: FallibleIterator + Sized {
 
     /// Merges the items of two sources. Of an item of this iterator and the next one of `other`, the closure returns whether the former goes first. If one side returns `Ok(None)`, the other's item is yielded without a call of the closure.
     ///
-    /// Creating it draws nothing. It buffers at most one item of each side. `next` draws this side once if nothing of it is buffered. Then, unless that failed, it draws `other` once if nothing of `other` is buffered. An `Ok(None)` of a side isn't remembered. It fails as either side does, and loses nothing that is buffered. If the closure fails, its failure is yielded, and the two items that it was called on are lost. Its folds draw as `next` does. Bounds of both sides, added up, bound it.
+    /// Creating it draws nothing. It buffers at most one item of each side. `next` draws this side once if nothing of it is buffered. Then, unless that failed, it draws `other` once if nothing of `other` is buffered. Each side is fused: once it returned `Ok(None)` it isn't drawn again. It fails as either side does, and loses nothing that is buffered. If the closure fails, its failure is yielded, and the two items that it was called on are lost. Its folds draw as `next` does. Bounds of both sides, added up, bound it.
     ///
     /// ```
     /// # use fallible_iterator::{FallibleIterator, convert};
@@ -1049,24 +1046,19 @@ pub trait FallibleItertools: FallibleIterator + Sized {
     ///     (λ g z. takes_at_two F.FnMut g z.0 z.1) (λ z. Self.contract.may_give self z.0
     ///     × I.IntoFallibleIter.contract.may_give right z.1) f }
     /// ensures left { merge_by.merge_by_left result ≡ self }
+    /// ensures left_ended { merge_by.merge_by_left_ended result ≡ false }
     /// ensures left_held { merge_by.merge_by_left_held result ≡ None }
     /// ensures right { I.into_gives other (merge_by.merge_by_right result) }
+    /// ensures right_ended { merge_by.merge_by_right_ended result ≡ false }
     /// ensures right_held { merge_by.merge_by_right_held result ≡ None }
     /// ensures closure { merge_by.merge_by_closure result ≡ f }
     /// ensures bounded { (a b k : ℕ) → Self.contract.bound self a
     ///     → I.IntoFallibleIter.contract.bound (merge_by.merge_by_right result) b → a + b ≤ k
     ///     → AtMost (seen_as merge_by.merge_by_parts (merge_by.merge_by_contract Self.contract
     ///     I.IntoFallibleIter.contract F.FnMut)) result k }
-    /// ensures for_good { (h : Self.Item → Self.Item → Result Bool Self.Error)
-    ///     → list.ActsWith (call_at_two F.FnMut) f h
-    ///     → OverBothForGood Self.contract.steps self I.into_gives other
-    ///     I.IntoFallibleIter.contract.steps
-    ///     (λ a b. list.ListsForGood
-    ///     (seen_as merge_by.merge_by_parts (merge_by.merge_by_contract Self.contract
-    ///     I.IntoFallibleIter.contract F.FnMut)).steps result (merge_by.merged h a b)) }
     /// ensures lists { (h : Self.Item → Self.Item → Result Bool Self.Error)
     ///     → list.ActsWith (call_at_two F.FnMut) f h
-    ///     → OverBothForGood Self.contract.steps self I.into_gives other
+    ///     → OverBoth Self.contract.steps self I.into_gives other
     ///     I.IntoFallibleIter.contract.steps
     ///     (λ a b. list.Lists (seen_as merge_by.merge_by_parts
     ///     (merge_by.merge_by_contract Self.contract
@@ -1080,11 +1072,11 @@ pub trait FallibleItertools: FallibleIterator + Sized {
     {
         MergeBy {
             left: Holding {
-                it: self,
+                it: self.fuse(),
                 held: None,
             },
             right: Holding {
-                it: other.into_fallible_iter(),
+                it: other.into_fallible_iter().fuse(),
                 held: None,
             },
             f,
@@ -1093,7 +1085,7 @@ pub trait FallibleItertools: FallibleIterator + Sized {
 
     /// Pairs the items of both sides by their positions, up to `Ok(None)` of both. If one side returns `Ok(None)` where the other has an item, that item stands alone.
     ///
-    /// Creating it draws nothing. `next` draws this side once if no item of it is buffered. Then, unless that failed, it draws `other` once, also after an `Ok(None)`. An `Ok(None)` of a side isn't remembered. It fails as this iterator does, or else as `other` does. A failure of `other` loses nothing: the item of this side is buffered, and the next call draws `other` alone. Its folds draw as `next` does. Bounds of both sides, added up, bound it.
+    /// Creating it draws nothing. `next` draws this side once if no item of it is buffered. Then, unless that failed, it draws `other` once, also after an `Ok(None)` of this side. Each side is fused: once it returned `Ok(None)` it isn't drawn again. It fails as this iterator does, or else as `other` does. A failure of `other` loses nothing: the item of this side is buffered, and the next call draws `other` alone. Its folds draw as `next` does. Bounds of both sides, added up, bound it.
     ///
     /// ```
     /// # use fallible_iterator::{FallibleIterator, convert};
@@ -1113,18 +1105,15 @@ pub trait FallibleItertools: FallibleIterator + Sized {
     ///
     /// ```text
     /// ensures left { zip_longest.zip_longest_left result ≡ self }
+    /// ensures left_ended { zip_longest.zip_longest_left_ended result ≡ false }
     /// ensures held { zip_longest.zip_longest_held result ≡ None }
     /// ensures right { I.into_gives other (zip_longest.zip_longest_right result) }
+    /// ensures right_ended { zip_longest.zip_longest_right_ended result ≡ false }
     /// ensures bounded { (a b k : ℕ) → Self.contract.bound self a
     ///     → I.IntoFallibleIter.contract.bound (zip_longest.zip_longest_right result) b → a + b ≤ k
     ///     → AtMost (seen_as zip_longest.zip_longest_parts
     ///     (zip_longest.zip_longest_contract Self.contract I.IntoFallibleIter.contract)) result k }
-    /// ensures for_good { OverBothForGood Self.contract.steps self I.into_gives other
-    ///     I.IntoFallibleIter.contract.steps
-    ///     (λ a b. list.ListsForGood
-    ///     (seen_as zip_longest.zip_longest_parts (zip_longest.zip_longest_contract Self.contract
-    ///     I.IntoFallibleIter.contract)).steps result (zip_longest.zipped_longest a b)) }
-    /// ensures lists { OverBothForGood Self.contract.steps self I.into_gives other
+    /// ensures lists { OverBoth Self.contract.steps self I.into_gives other
     ///     I.IntoFallibleIter.contract.steps
     ///     (λ a b. list.Lists (seen_as zip_longest.zip_longest_parts
     ///     (zip_longest.zip_longest_contract Self.contract
@@ -1137,10 +1126,10 @@ pub trait FallibleItertools: FallibleIterator + Sized {
     {
         ZipLongest {
             left: Holding {
-                it: self,
+                it: self.fuse(),
                 held: None,
             },
-            right: other.into_fallible_iter(),
+            right: other.into_fallible_iter().fuse(),
         }
     }
 

@@ -1,7 +1,7 @@
 // The adapter that pairs the items of two sources up to `Ok(None)` of both.
 
 use crate::sides::Holding;
-use fallible_iterator::FallibleIterator;
+use fallible_iterator::{FallibleIterator, Fuse};
 
 /// An item of each of two sources, or of one alone.
 #[derive(Clone, Debug, PartialEq, Eq)]
@@ -212,12 +212,12 @@ impl<A, B> EitherOrBoth<A, B> {
     }
 }
 
-/// The items of two sources by their positions, up to `Ok(None)` of both. If the left fails, the right isn't drawn. If the right fails, the left's item is buffered for the next call.
+/// The items of two sources, each fused, by their positions, up to `Ok(None)` of both. If the left fails, the right isn't drawn. If the right fails, the left's item is buffered for the next call.
 #[derive(Clone, Debug)]
 #[must_use = "an iterator draws nothing until it is asked"]
 pub struct ZipLongest<T: FallibleIterator, U> {
-    pub(crate) left: Holding<T, T::Item>,
-    pub(crate) right: U,
+    pub(crate) left: Holding<Fuse<T>, T::Item>,
+    pub(crate) right: Fuse<U>,
 }
 
 impl<T: FallibleIterator, U: FallibleIterator<Error = T::Error>> FallibleIterator
@@ -227,7 +227,7 @@ impl<T: FallibleIterator, U: FallibleIterator<Error = T::Error>> FallibleIterato
 
     type Error = T::Error;
 
-    /// Takes the left's buffered item, or draws the left once. Then, unless that failed, it draws the right once. Each fold draws so too.
+    /// Takes the left's buffered item, or draws the left once. Then, unless that failed, it draws the right once. A side that returned `Ok(None)` isn't drawn again. Each fold draws so too.
     fn next(&mut self) -> Result<Option<EitherOrBoth<T::Item, U::Item>>, T::Error> {
         match self.left.give()? {
             Some(x) => match self.right.next() {
@@ -247,6 +247,16 @@ impl<T: FallibleIterator, U: FallibleIterator<Error = T::Error>> FallibleIterato
     }
 
     fn size_hint(&self) -> (usize, Option<usize>) {
-        (self.left.low().max(self.right.size_hint().0), None)
+        greater(self.left.hint(), self.right.size_hint())
     }
+}
+
+// The greater of two hints' bounds.
+fn greater(a: (usize, Option<usize>), b: (usize, Option<usize>)) -> (usize, Option<usize>) {
+    let high = match (a.1, b.1) {
+        (Some(x), Some(y)) => Some(x.max(y)),
+        (Some(_), None) => None,
+        (None, _) => None,
+    };
+    (a.0.max(b.0), high)
 }

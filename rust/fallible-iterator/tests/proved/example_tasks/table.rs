@@ -63,6 +63,14 @@ pub fn read<'a>(bytes: &'a [u8]) -> Records<'a> {
     Records { bytes }
 }
 
+/// Whether the bytes begin with a whole record that isn't good.
+pub fn begins_bad(bytes: &[u8]) -> bool {
+    match bytes.split_first_chunk::<8>() {
+        Some((record, _)) => !Record::from_bytes(record).is_low_to_high(),
+        None => false,
+    }
+}
+
 /// How many records come before the first one that isn't good; `None` if all are good. It draws up to that record. It fails where the table ends within a record and none before it is bad.
 pub fn first_bad(bytes: &[u8]) -> Result<Option<usize>, CutShort> {
     read(bytes).position(|record| Ok(record.high < record.low))

@@ -24,10 +24,16 @@ pub enum Damage {
     NamesNotEnded,
     /// A section's name would lie outside the names.
     NameOutOfRange,
+    /// The names of the sections have together more than four times as many bytes as the file.
+    NamesTooLong,
     /// The address ranges would lie outside the file.
     SetsOutOfRange,
+    /// Two sections of address ranges have a byte in common.
+    SetsOverlap,
     /// The address ranges are compressed.
     SetsCompressed,
+    /// The lengths of the address ranges are relocated.
+    SetsRelocated,
     /// A set of address ranges ends within its header, or outside its section.
     SetCut,
     /// A set's length is written in a form that isn't read.

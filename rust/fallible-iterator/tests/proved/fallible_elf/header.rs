@@ -25,7 +25,7 @@ const NO_TABLE: Table = Table {
 };
 
 // Looks at the header of the file.
-fn check_header(file: &[u8]) -> Result<(), ElfFault> {
+pub(crate) fn check_header(file: &[u8]) -> Result<(), ElfFault> {
     if !file.starts_with(&[127, 69, 76, 70]) {
         return Err(ElfFault::at(0, Damage::NotElf));
     }

@@ -1,6 +1,9 @@
 use crate::Fail;
 use fallible_iterator::memory::AllocError;
 
+use crate::fallible_elf::fault::{Damage, ElfFault};
+use crate::fallible_elf::section::Section;
+
 // How many bytes stand before the first 0.
 fn length_of(bytes: &[u8]) -> usize {
     let mut end = 0;
@@ -25,4 +28,25 @@ pub fn name_or_none(file: &[u8], place: Option<usize>) -> &[u8] {
         Some(place) => name_of(file, place),
         None => &[],
     }
+}
+
+// Where a name begins, or 0 where there is none.
+fn place_or_0(place: Option<usize>) -> usize {
+    match place {
+        Some(place) => place,
+        None => 0,
+    }
+}
+
+/// Whether the names of a file's sections have together at most four times as many bytes as the file. The fault is at the first byte of the first name with which they have more.
+pub fn check_names(file: &[u8], sections: &[Section]) -> Result<(), ElfFault> {
+    let mut room = 4 * file.len() as u128;
+    for section in sections {
+        let length = name_or_none(file, section.name).len() as u128;
+        if room < length {
+            return Err(ElfFault::at(place_or_0(section.name), Damage::NamesTooLong));
+        }
+        room -= length;
+    }
+    Ok(())
 }

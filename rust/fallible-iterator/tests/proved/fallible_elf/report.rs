@@ -1,10 +1,10 @@
 use crate::Fail;
 use fallible_iterator::memory::AllocError;
 
-use crate::example_tasks::reading::ReadWhole;
 use crate::example_tasks::writing::WriteText;
 use crate::fallible_elf::fault::{Damage, ElfFault};
 use crate::fallible_elf::lines::{write_ranges, write_sections, write_sets};
+use crate::fallible_elf::reading::ReadFile;
 use crate::fallible_elf::tables::{Tables, tables_of};
 use fallible_iterator::Fault;
 use std::io;
@@ -61,14 +61,15 @@ pub fn report<W: WriteText>(file: &[u8], writer: &mut W) -> Result<(), RunFault>
     }
 }
 
-/// Reads a file up to the end of `reader`, which may be any reader of std, and writes its report to `writer`, as `report` does. It also fails with `Read` where a read fails, and with `Memory` if the allocation for the file fails. An interrupted read is tried again. At `Read` and `Memory` nothing is written.
-pub fn run<R: ReadWhole, W: WriteText>(reader: &mut R, writer: &mut W) -> Result<(), RunFault>
+/// Reads a file up to the end of `reader`, which may be any reader of std, and writes its report to `writer`, as `report` does. It looks at the header first: at a fault of it at most 64 bytes are read. It also fails with `Read` where a read fails, and with `Memory` if the allocation for the file fails. An interrupted read is tried again. At `Read` and `Memory` nothing is written.
+pub fn run<R: ReadFile, W: WriteText>(reader: &mut R, writer: &mut W) -> Result<(), RunFault>
 // Reading failed, and of which kind.
 
     // An allocation failed: as the file was read, or for its tables.
 {
-    match reader.read_whole() {
-        Ok(file) => report(file.as_slice(), writer),
+    match reader.read_file() {
+        Ok(Ok(file)) => report(file.as_slice(), writer),
+        Ok(Err(fault)) => Err(RunFault::Elf(fault)),
         Err(e) => Err(fault_of_read(&e)),
     }
 }
@@ -86,8 +87,11 @@ fn text_of(damage: Damage) -> &'static str {
         Damage::NamesOutOfRange => "the names lie outside the file",
         Damage::NamesNotEnded => "the last name has no end",
         Damage::NameOutOfRange => "a section's name lies outside the names",
+        Damage::NamesTooLong => "the sections' names are too long for the file",
         Damage::SetsOutOfRange => "the address ranges lie outside the file",
+        Damage::SetsOverlap => "sections of address ranges overlap",
         Damage::SetsCompressed => "the address ranges are compressed",
+        Damage::SetsRelocated => "the lengths of the address ranges are relocated",
         Damage::SetCut => "a set of ranges is cut short",
         Damage::SetForm => "a set's length has an unknown form",
         Damage::SetVersion => "a set has an unknown version",
@@ -104,6 +108,7 @@ impl RunFault {
             RunFault::Elf(fault) => match fault.damage {
                 Damage::NotElf | Damage::NotWide | Damage::NotLittleEndian => 5,
                 Damage::SetsCompressed
+                | Damage::SetsRelocated
                 | Damage::SetForm
                 | Damage::SetVersion
                 | Damage::AddressSize

@@ -2,6 +2,7 @@ use crate::Fail;
 use fallible_iterator::memory::AllocError;
 
 use crate::fallible_elf::fault::{Damage, ElfFault};
+use crate::fallible_elf::numbers::u16_at;
 use crate::fallible_elf::section::Section;
 use crate::fallible_elf::sections::sections_of;
 use crate::fallible_elf::set::{Region, Set};
@@ -15,9 +16,30 @@ fn names_ranges(file: &[u8], name: Option<usize>) -> bool {
     }
 }
 
+// Whether this is the place of the name `.zdebug_aranges`.
+fn names_packed_ranges(file: &[u8], name: Option<usize>) -> bool {
+    match name {
+        Some(place) => place <= file.len() && file[place..].starts_with(b".zdebug_aranges\0"),
+        None => false,
+    }
+}
+
 // Whether a section has address ranges.
 pub(crate) fn has_ranges(file: &[u8], section: &Section) -> bool {
-    section.kind == 1 && names_ranges(file, section.name)
+    section.kind == 1
+        && (names_ranges(file, section.name) || names_packed_ranges(file, section.name))
+}
+
+// Whether a section is compressed.
+fn is_compressed(file: &[u8], section: &Section) -> bool {
+    section.flags / 2048 % 2 == 1 || names_packed_ranges(file, section.name)
+}
+
+// Whether the file's linker still has to write the lengths of ranges.
+fn relocates_lengths(file: &[u8]) -> bool {
+    file.len() >= 20
+        && u16_at(file, 16) == 1
+        && (u16_at(file, 18) == 243 || u16_at(file, 18) == 258)
 }
 
 // The bytes of a section.
@@ -27,8 +49,11 @@ fn region_of(file: &[u8], section: &Section) -> Result<Region, ElfFault> {
     if file.len() < place || file.len() - place < size {
         return Err(ElfFault::at(place, Damage::SetsOutOfRange));
     }
-    if section.flags / 2048 % 2 == 1 {
+    if is_compressed(file, section) {
         return Err(ElfFault::at(place, Damage::SetsCompressed));
+    }
+    if relocates_lengths(file) {
+        return Err(ElfFault::at(place, Damage::SetsRelocated));
     }
     Ok(Region {
         place,
@@ -113,6 +138,13 @@ impl<'a> IntoFallibleIterator for SectionIn<'a> {
             fault: None,
         }
     }
+}
+
+/// The sections of a file that have address ranges, or its first fault.
+pub fn range_sections(file: &[u8]) -> Result<Vec<Section>, ElfFault> {
+    sections_of(file)
+        .filter(|section| Ok(has_ranges(file, section)))
+        .collect()
 }
 
 /// The sets of all sections of a file that have address ranges, or its first fault.

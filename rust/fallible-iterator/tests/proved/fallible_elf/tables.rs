@@ -2,11 +2,13 @@ use crate::Fail;
 use fallible_iterator::memory::AllocError;
 
 use crate::fallible_elf::fault::ElfFault;
+use crate::fallible_elf::names::check_names;
+use crate::fallible_elf::overlaps::check_apart;
 use crate::fallible_elf::ranges::all_ranges;
 use crate::fallible_elf::section::Section;
 use crate::fallible_elf::sections::all_sections;
 use crate::fallible_elf::set::{Range, Set};
-use crate::fallible_elf::sets::all_sets;
+use crate::fallible_elf::sets::{all_sets, range_sections};
 use fallible_iterator::Fault;
 
 /// The address ranges of a file.
@@ -25,8 +27,24 @@ pub struct Tables {
     pub found: Result<Found, ElfFault>,
 }
 
+// The sections of a file, or the first fault of their headers and of their names together.
+fn named_sections(file: &[u8]) -> Result<Vec<Section>, ElfFault> {
+    let sections = all_sections(file)?;
+    match check_names(file, sections.as_slice()) {
+        Ok(()) => Ok(sections),
+        Err(fault) => Err(fault),
+    }
+}
+
+// Whether the sections of address ranges of a file lie apart, or the first fault.
+fn ranges_apart(file: &[u8]) -> Result<(), ElfFault> {
+    let sections = range_sections(file)?;
+    check_apart(file, sections.as_slice())
+}
+
 // The sets of a file and then their ranges, or the first fault of these.
 fn found_in(file: &[u8]) -> Result<Found, ElfFault> {
+    ranges_apart(file)?;
     let sets = all_sets(file)?;
     let ranges = all_ranges(file)?;
     Ok(Found { sets, ranges })
@@ -34,7 +52,7 @@ fn found_in(file: &[u8]) -> Result<Found, ElfFault> {
 
 /// The sections of a file, or the first fault of these; and its sets and their ranges, or the first fault of those.
 pub fn tables_of(file: &[u8]) -> Result<Tables, ElfFault> {
-    let sections = all_sections(file)?;
+    let sections = named_sections(file)?;
     match found_in(file) {
         Ok(found) => Ok(Tables {
             sections,

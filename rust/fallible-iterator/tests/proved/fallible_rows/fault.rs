@@ -1,8 +1,8 @@
 use crate::Fail;
 use fallible_iterator::memory::AllocError;
 
+use crate::example_tasks::writing::WriteText;
 use std::io;
-use std::io::Write;
 
 /// Why a run made no report.
 #[derive(Debug, PartialEq, Eq)]
@@ -29,12 +29,12 @@ impl RowFault {
     }
 }
 
-fn write_line<W: Write>(fault: &RowFault, err: &mut W) -> io::Result<()> {
+fn write_line<W: WriteText>(fault: &RowFault, err: &mut W) -> io::Result<()> {
     match fault {
-        RowFault::Row(place) => writeln!(err, "row {place}: not a number"),
-        RowFault::Read => writeln!(err, "read failed"),
-        RowFault::Memory => writeln!(err, "no memory"),
-        RowFault::Write => writeln!(err, "write failed"),
+        RowFault::Row(place) => err.write_text(format_args!("row {place}: not a number\n")),
+        RowFault::Read => err.write_text("read failed\n"),
+        RowFault::Memory => err.write_text("no memory\n"),
+        RowFault::Write => err.write_text("write failed\n"),
     }
 }
 
@@ -43,7 +43,7 @@ fn write_line<W: Write>(fault: &RowFault, err: &mut W) -> io::Result<()> {
 ///
 /// `Ok` of the status where that line and nothing else was written, and `Err` of the same status
 /// where it could not be, and part of it may have been. It allocates nothing.
-pub fn fault_line<W: Write>(fault: &RowFault, err: &mut W) -> Result<u8, u8> {
+pub fn fault_line<W: WriteText>(fault: &RowFault, err: &mut W) -> Result<u8, u8> {
     let status = fault.status();
     match write_line(fault, err) {
         Ok(()) => Ok(status),

@@ -19,10 +19,22 @@ pub trait ReadByte: Sized {
     fn consume_buffered(&mut self, count: usize);
 }
 
+// Something that yields some bytes at each read or fails, as every reader does.
+trait ReadSome {
+    // One read.
+    fn read_some(&mut self, buf: &mut [u8]) -> Result<usize, ReadFailed>;
+}
+
+impl<R: Read> ReadSome for R {
+    fn read_some(&mut self, buf: &mut [u8]) -> Result<usize, ReadFailed> {
+        self.read(buf).or(Err(ReadFailed))
+    }
+}
+
 // One read, for one byte. An interrupted read fails too.
-fn byte_of<R: Read>(reader: &mut R) -> Result<Option<u8>, ReadFailed> {
+fn byte_of<R: ReadSome>(reader: &mut R) -> Result<Option<u8>, ReadFailed> {
     let mut byte = [0u8; 1];
-    match reader.read(&mut byte) {
+    match reader.read_some(&mut byte) {
         Ok(0) => Ok(None),
         Ok(_) => Ok(Some(byte[0])),
         Err(_) => Err(ReadFailed),

@@ -3,7 +3,7 @@ use fallible_iterator::memory::AllocError;
 // What is read of a real object, and of damaged copies of it. What `readelf` says of it stands in the comments.
 use crate::fallible_elf::fault::{Damage, ElfFault};
 use crate::fallible_elf::lines::write_sections;
-use crate::fallible_elf::names::name_of;
+use crate::fallible_elf::names::{check_names, name_of};
 use crate::fallible_elf::report::{RunFault, fault_line, run};
 use crate::fallible_elf::section::Section;
 use crate::fallible_elf::set::{Range, Set};
@@ -181,6 +181,18 @@ fn bytes_exchanged() {
     fn tested() -> Result<(), Fail> {
         let good = Ok(());
         for (place, bytes, wanted) in [
+            // A relocatable object of x86-64, of RISC-V and of LoongArch.
+            (16, [1, 0, 62, 0].as_slice(), good),
+            (
+                16,
+                [1, 0, 243, 0].as_slice(),
+                fault(Damage::SetsRelocated, 199),
+            ),
+            (
+                16,
+                [1, 0, 2, 1].as_slice(),
+                fault(Damage::SetsRelocated, 199),
+            ),
             // No section headers.
             (40, [0; 8].as_slice(), good),
             // The count, and the number of the names, are those in section 0: none, and 0.
@@ -337,6 +349,13 @@ fn two_sections_of_sets() {
         // The second one compressed.
         put(&mut file, 721, &[8]);
         assert_eq!(judged(file.as_slice()), fault(Damage::SetsCompressed, 247));
+        // The second one begins within the first.
+        put(&mut file, 736, &[246]);
+        assert_eq!(judged(file.as_slice()), fault(Damage::SetsOverlap, 246));
+        // The first one is called `.zdebug_aranges`, and the second one `zdebug_aranges`.
+        put(&mut file, 504, b".z");
+        put(&mut file, 648, &[32]);
+        assert_eq!(judged(file.as_slice()), fault(Damage::SetsCompressed, 199));
         Ok(())
     }
     let _ = tested();
@@ -490,6 +509,49 @@ fn run_answers_reads_and_writes_that_fail() {
         let mut writer = BrokenWriter { room };
         assert_eq!(run(&mut file, &mut writer), Err(RunFault::Write), "{room}");
     }
+}
+
+// Of a header with a fault no more is read than what decides.
+#[test]
+fn run_looks_at_header_first() {
+    fn tested() -> Result<(), Fail> {
+        let wide = with(4, &[1])?;
+        for (bytes, wanted) in [
+            (b"yes\n".as_slice(), fault(Damage::NotElf, 0)),
+            (&wide.as_slice()[..64], fault(Damage::NotWide, 4)),
+        ] {
+            let kind = ErrorKind::Other;
+            let mut reader = BrokenReader { bytes, kind };
+            let mut written = Vec::new();
+            assert_eq!(run(&mut reader, &mut written), wanted);
+            assert!(written.is_empty());
+        }
+        Ok(())
+    }
+    let _ = tested();
+}
+
+// Three bytes of a name for each section, in a file of four: sixteen at most.
+#[test]
+fn names_together() {
+    let file = b"abc\0";
+    let section = |name| Section {
+        name,
+        kind: 1,
+        flags: 0,
+        address: 0,
+        offset: 0,
+        size: 0,
+    };
+    let [long, short, none] = [Some(0), Some(2), None].map(section);
+    let sections = [long, long, none, long, long, long, short, short];
+    assert_eq!(check_names(file, &sections[..7]), Ok(()));
+    let place = 2;
+    let damage = Damage::NamesTooLong;
+    assert_eq!(
+        check_names(file, &sections),
+        Err(ElfFault { damage, place })
+    );
 }
 
 fn expect_line(fault: RunFault, line: &[u8], status: u8) {

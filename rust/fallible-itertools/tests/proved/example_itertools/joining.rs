@@ -1,7 +1,7 @@
 use crate::Fail;
 use fallible_iterator::memory::AllocError;
 
-use fallible_iterator::{FallibleIterator, convert, convert_fused};
+use fallible_iterator::{FallibleIterator, convert};
 use fallible_itertools::FallibleItertools;
 
 /// How many positions two columns have, each filled by one of them at least, or the first failure.
@@ -9,8 +9,8 @@ pub fn places_of_both(
     left: Vec<Result<u32, u8>>,
     right: Vec<Result<u32, u8>>,
 ) -> Result<usize, u8> {
-    convert_fused(left.into_iter())
-        .zip_longest(convert_fused(right.into_iter()))
+    convert(left.into_iter())
+        .zip_longest(convert(right.into_iter()))
         .count()
 }
 
@@ -19,8 +19,16 @@ pub fn readings_merged(
     left: Vec<Result<u32, u8>>,
     right: Vec<Result<u32, u8>>,
 ) -> Result<usize, u8> {
-    convert_fused(left.into_iter())
-        .merge_by(convert_fused(right.into_iter()), |x, y| Ok(*x <= *y))
+    convert(left.into_iter())
+        .merge_by(convert(right.into_iter()), |x, y| Ok(*x <= *y))
+        .count()
+}
+
+/// How many readings of two sorted columns together are left without those in the same ten as the last one that was kept, or the first failure.
+pub fn tens_merged(left: Vec<Result<u32, u8>>, right: Vec<Result<u32, u8>>) -> Result<usize, u8> {
+    convert(left.into_iter())
+        .merge_by(convert(right.into_iter()), |x, y| Ok(*x <= *y))
+        .dedup_by(|first, second| Ok(*first / 10 == *second / 10))
         .count()
 }
 
@@ -29,8 +37,8 @@ pub fn last_of_both(
     left: Vec<Result<u32, u8>>,
     right: Vec<Result<u32, u8>>,
 ) -> Result<Option<u32>, u8> {
-    convert_fused(left.into_iter())
-        .merge(convert_fused(right.into_iter()))
+    convert(left.into_iter())
+        .merge(convert(right.into_iter()))
         .last()
 }
 

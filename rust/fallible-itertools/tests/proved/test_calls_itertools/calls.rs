@@ -186,13 +186,7 @@ const FOUR_NEXTS: Calls = Calls {
 
 const THREE_BY_FOUR_DRAWS: Folded = (Ok(3), FOUR_NEXTS);
 
-const FOUR_BY_FIVE_DRAWS: Folded = (
-    Ok(4),
-    Calls {
-        nexts: 5,
-        ..NO_CALL
-    },
-);
+const FOUR_BY_FOUR_DRAWS: Folded = (Ok(4), FOUR_NEXTS);
 
 const TWO_BY_THREE_DRAWS: Folded = (
     Ok(2),
@@ -201,8 +195,9 @@ const TWO_BY_THREE_DRAWS: Folded = (
         ..NO_CALL
     },
 );
+
 // The calls of the right sides of `zip_longest` and `merge_by`.
-const RIGHTS: [Calls; 2] = [FOUR_NEXTS, TWO_NEXTS];
+const RIGHTS: [Calls; 2] = [TWO_NEXTS, TWO_NEXTS];
 
 const NEXT_AFTER_A_LOOK: (Result<Option<u32>, TestError>, Calls) = (Ok(Some(2)), NO_CALL);
 
@@ -212,17 +207,19 @@ fn adapters_of_two_sides_and_peeking_take_while_draw_one_by_one() {
     fn tested() -> Result<(), Fail> {
         let (log) = (Log::new());
         let (beside, other) = (Log::new(), Log::new());
-        // The left's end is the fourth draw, and the right is drawn after its own.
+        // The left's end is the fourth draw, and the right isn't drawn after its own. Once both ended nothing is drawn.
         let right = Counted::new(scripted([Ok(Some(5u32))])?, &beside);
         let mut longest = one_one_two(&log)?.zip_longest(right);
         expect_folded(&mut longest, &log, &THREE_BY_FOUR_DRAWS)?;
-        // 5 is held beside 1, 1, 2 and the left's end, and then both are at their ends.
+        expect_folded(&mut longest, &log, &NONE_BY_NO_FOLD)?;
+        // 5 is held beside 1, 1, 2 and the left's end, and then the right ends.
         let right = Counted::new(scripted([Ok(Some(5))])?, &other);
         let mut merged = one_one_two(&log)?.merge_by(right, in_order);
-        expect_folded(&mut merged, &log, &FOUR_BY_FIVE_DRAWS)?;
+        expect_folded(&mut merged, &log, &FOUR_BY_FOUR_DRAWS)?;
+        expect_folded(&mut merged, &log, &NONE_BY_NO_FOLD)?;
         let right = scripted([Ok(Some(5))])?;
         let mut merged = one_one_two(&log)?.merge(right);
-        expect_folded(&mut merged, &log, &FOUR_BY_FIVE_DRAWS)?;
+        expect_folded(&mut merged, &log, &FOUR_BY_FOUR_DRAWS)?;
         assert_eq!([beside.take(), other.take()], RIGHTS);
         // 2 is drawn, and stays next.
         let mut ahead = one_one_two(&log)?.peekable();

@@ -97,12 +97,12 @@ const OF_INSPECT_ERR_AND_OR_ELSE: NumbersCase = Case {
 const OF_MERGE_BY: NumbersCase = Case {
     name: "MergeBy",
     requests: 4,
-    hints: [(5, None), UNKNOWN],
+    hints: [(5, Some(5)), NONE],
     first: &[Item(1)],
     expected: &[Item(2), Item(2), Item(3), Item(4)],
 };
 
-const OF_ZIP_LONGEST: Asks<'static> = ("ZipLongest", 4, [(3, None), UNKNOWN]);
+const OF_ZIP_LONGEST: Asks<'static> = ("ZipLongest", 4, [(3, Some(3)), NONE]);
 
 // What `intersperse` of 1, 2 and 3 returns where one of the separator's clones fails: the failure stands in its place, and the item after it is held. In the last row no allocation fails.
 const INTERSPERSED: [[Answer<u32, TestError>; 6]; 3] = [

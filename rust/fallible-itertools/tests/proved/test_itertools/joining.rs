@@ -27,25 +27,41 @@ const LONGEST: [Places; 2] = [
             ((0, None), &[Failure(8), Failure(9)]),
             // It holds 1, and draws no left beside it, and no right beside 7.
             ((1, None), &[Item(Both(1, 10)), Failure(7)]),
-            // An end of one side closes nothing.
-            (
-                (0, None),
-                &[Item(Left(2)), Item(Right(20)), Item(Left(3)), End],
-            ),
+            // The right ended beside 2, so 20 isn't drawn; and once the left ended neither is 3.
+            ((0, None), &[Item(Left(2)), End]),
+            ((0, Some(0)), &[End]),
         ],
     ),
-    // An end isn't held beside a failure.
+    // The left ended beside the failure, so 4 isn't drawn.
     (
         &[END, Ok(Some(4))],
         &[Err(9), Ok(Some(5))],
-        &[((0, None), &[Failure(9), Item(Both(4, 5)), End])],
+        &[((0, None), &[Failure(9), Item(Right(5)), End])],
     ),
 ];
 
-const LONGEST_HINTS: [(Numbers, Numbers, Hint); 2] = [
-    (&[Ok(1), Ok(2)], &[Ok(3)], (2, None)),
-    (&[Ok(1)], &[Ok(3), Err(4)], (2, None)),
+// Both sides, what is hinted, and after one draw.
+const LONGEST_HINTS: [(Numbers, Numbers, [Hint; 2]); 3] = [
+    (&[Ok(1), Ok(2)], &[Ok(3)], [(2, Some(2)), (1, Some(1))]),
+    (&[Ok(1)], &[Ok(3), Err(4)], [(2, Some(2)), (1, Some(1))]),
+    // 1 is held beside the failure.
+    (&[Ok(1)], &[Err(4)], [(1, Some(1)), (1, Some(1))]),
 ];
+
+// What stands for a missing item of the left is 8, and of the right 9.
+const OR: [(EitherOrBoth<u32, u32>, (u32, u32)); 3] =
+    [(Both(1, 2), (1, 2)), (Left(1), (1, 9)), (Right(2), (8, 2))];
+
+#[test]
+fn or_puts_its_own_in_the_place_of_a_missing_item() {
+    fn tested() -> Result<(), Fail> {
+        for (items, expected) in OR {
+            expect_same(&items.or(8, 9), &expected)?;
+        }
+        Ok(())
+    }
+    let _ = tested();
+}
 
 #[test]
 fn zip_longest_holds_the_item_beside_a_failure() {
@@ -54,9 +70,11 @@ fn zip_longest_holds_the_item_beside_a_failure() {
             let mut it = script(left)?.zip_longest(script(right)?);
             expect_course(&mut it, course)?;
         }
-        for (left, right, hint) in &LONGEST_HINTS {
-            let it = numbers(left).zip_longest(numbers(right));
-            expect_same(&it.size_hint(), hint)?;
+        for (left, right, hints) in &LONGEST_HINTS {
+            let mut it = numbers(left).zip_longest(numbers(right));
+            let hinted = it.size_hint();
+            let _drawn = it.next();
+            expect_same(&[hinted, it.size_hint()], hints)?;
         }
         Ok(())
     }
@@ -89,9 +107,9 @@ const MERGED: [Merged; 2] = [
             // 3 stayed beside 7, and 5 of the left is held; of two equal ones the left's comes.
             ((1, None), &[Item(3)]),
             ((1, None), &[Item(5), Item(5), Item(6)]),
-            // The left has an end beside 9, and then 2 beside the right's end.
-            ((1, None), &[Item(9)]),
-            ((0, None), &[Item(2), End]),
+            // The left ended beside 9, so 2 isn't drawn.
+            ((1, None), &[Item(9), End]),
+            ((0, Some(0)), &[End]),
         ],
     ),
     // The closure's failure loses the two items.
@@ -106,6 +124,9 @@ const TWO: [Result<u32, u32>; 2] = [Ok(1), Ok(2)];
 
 const ONE: [Result<u32, u32>; 1] = [Ok(3)];
 
+// What is hinted over both, and after one draw, which holds 3.
+const MERGED_HINTS: [Hint; 2] = [(3, Some(3)), (2, Some(2))];
+
 // `merge` yields the same.
 #[test]
 fn merge_holds_one_item_of_each_side() {
@@ -113,7 +134,10 @@ fn merge_holds_one_item_of_each_side() {
         let (left, right, course) = &MERGED[0];
         let mut it = script(left)?.merge(script(right)?);
         expect_hinted_numbers(&mut it, course)?;
-        expect_same(&numbers(&TWO).merge(numbers(&ONE)).size_hint(), &(3, None))
+        let mut it = numbers(&TWO).merge(numbers(&ONE));
+        let hinted = it.size_hint();
+        let _drawn = it.next();
+        expect_same(&[hinted, it.size_hint()], &MERGED_HINTS)
     }
     let _ = tested();
 }
@@ -133,8 +157,10 @@ fn merge_by_holds_one_item_of_each_side() {
             let mut it = script(left)?.merge_by(script(right)?, order);
             expect_hinted_numbers(&mut it, course)?;
         }
-        let it = numbers(&TWO).merge_by(numbers(&ONE), |x, y| Ok(*x <= *y));
-        expect_same(&it.size_hint(), &(3, None))
+        let mut it = numbers(&TWO).merge_by(numbers(&ONE), |x, y| Ok(*x <= *y));
+        let hinted = it.size_hint();
+        let _drawn = it.next();
+        expect_same(&[hinted, it.size_hint()], &MERGED_HINTS)
     }
     let _ = tested();
 }
