@@ -6,25 +6,7 @@ from examples import doc_test
 
 # What is said of proofs, handles or memory alone: the words, and what stands in their place.
 SAYS = [
-    # Preconditions that any value and any closure of Rust meets.
-    (r"Requires that the type's own condition[^.]*\.", ""),
-    (r",(?: and)? that the (?:closure|predicate|test) may be called[^.]*", ""),
-    (r", and of the (?:closure|predicate) what `map` requires(?: of its closure)?", ""),
-    (r"Requires that the (?:closure|predicate) may be called[^.]*\.", ""),
-    (r"Requires (?:what|of the)\b[^.]*\.", ""),
-    (r"Requires nothing\.( The text is known[^.]*\.)?", ""),
-    (r" The text is known of items[^.]*\.", ""),
-    (r"Requires that `next`(?: and `next_back`)? may be called(?: on both sides)?,? and that", "Requires that"),
-    (r"Requires that `next`(?: and `next_back`)? may be called(?: on each of its clones[^.]*)?\.", ""),
-    (r" ?`next` requires (?:that|what|`Item)\b[^.]*\.", ""),
     (r" It requires that `next` may be called[^.]*\.", ""),
-    (r" A drain also requires[^.]*\.", ""),
-    (r" It requires no bound:[^.]*\.", ""),
-    (r" A std loop over it requires a bound.*", ""),
-    # Preconditions that `face` checks.
-    (r"Requires that the step is at least 1\.", "It panics if the step is 0."),
-    (r"Requires that no failure can ever come, and so it never panics\.", "It panics at a failure."),
-    (r"Requires that (?=the iterator|at most|one|n)", "Precondition, which is not checked: "),
     (r"Instead of a bound it requires that at most", "Precondition, which is not checked: at most"),
     # Clauses and laws.
     (r", and no clause says what is left", ""),
@@ -42,10 +24,8 @@ SAYS = [
     (r"A type of one's own writes `next_back` and `ends`.*", "A type of one's own writes `next_back`."),
     (r"; a bound stays one after them all, and the hint is what the type's rule says of what is left", ""),
     (r": `into_gives` says which", ""),
-    (r" What it lists from the back is said by `rev`[^.]*\.", ""),
     (r", and after an item each bound is lower", ""),
     (r"It states no bound, so it is drained", "It may have no end, and is drained"),
-    (r" For a std iterator that doesn't say so,", "For a std iterator that may go on after `None`,"),
     (r" If the closure's state shows what it will return, that is listed\.", ""),
     (r" So the value of an adapter that requires a fused source[^.]*\.", ""),
     # Memory.
@@ -68,6 +48,16 @@ SAYS = [
     # Signatures.
     (r" It calls `into_fallible_iter` once, and keeps the iterator\.", ""),
 ]
+# Of a paragraph that begins with *Requires* what a caller in Rust has to see to, and what is said of it. The rest is of proofs,
+# or holds for any value and closure of Rust, and goes whole.
+REQUIRED = [
+    (r"(?:the iterator|one of the two) is finite(?:, since [^.]*?(?=, and |\.))?", "Precondition, which is not checked: {}."),
+    (r"at most `usize::MAX` items are (?:left|still to come)(?:, so that each \w+ fits)?", "Precondition, which is not checked: {}."),
+    (r"n is not 0", "Precondition, which is not checked: {}."),
+    (r"the step is at least 1", "It panics if the step is 0."),
+    (r"no failure can ever come", "It panics at a failure."),
+    (r"as `lines` of a reader, use `convert_fused`", "For a std iterator that may go on after `None`, {}."),
+]
 # Calls whose example is no doc test, and why.
 NO_TEST = {"number": "only proofs read it"}
 # What no sentence of a public call says.
@@ -86,6 +76,8 @@ class Docs:
 
     def sentence(self, line):
         """One paragraph, in the words of Rust."""
+        if line.startswith("Requires"):
+            return required(line)
         for k, (old, new) in enumerate(SAYS):
             line, n = re.subn(old, new, line)
             if n:
@@ -148,6 +140,16 @@ class Docs:
         for k, (old, _) in enumerate(SAYS):
             if k not in self.said:
                 raise Refused("docs: no sentence has %r" % old)
+
+
+def required(line):
+    """What is said of a paragraph that begins with *Requires*. What `next` requires is said by `next`."""
+    said = []
+    own = line.partition(" `next` requires ")[0]
+    for pattern, new in REQUIRED:
+        found = re.search(pattern, own if "Precondition" in new else line)
+        said += [new.format(found.group())] if found else []
+    return " ".join(said)
 
 
 def clause(text):

@@ -424,6 +424,8 @@ pub trait FallibleItertools: FallibleIterator + Sized {
     ///
     /// Draws, errors and what is left: as `try_find`.
     ///
+    /// Precondition, which is not checked: at most `usize::MAX` items are left, so that each position fits.
+    ///
     /// ```
     /// # use fallible_iterator::{FallibleIterator, convert};
     /// # use fallible_itertools::DoubleEndedFallibleItertools;
@@ -926,8 +928,6 @@ pub trait FallibleItertools: FallibleIterator + Sized {
     /// Replaces each failure by what the closure returns for it: an item, nothing or another failure.
     ///
     /// Creating it draws nothing. `next` draws up to an item, an `Ok(None)`, or a failure for which the closure returns an item or fails. It calls the closure once on each failure. It fails with the closure's failures alone. After a failure and after `Ok(None)` the next call draws again. It is double-ended if the source is. In Rust `or_else(|_| Ok(None))` over a source that fails for ever never returns from `next`.
-    ///
-    /// `take(n)` before it bounds the items alone. `convert(rows.iterator().take(n))` takes n answers of `rows`, items and failures together.
     ///
     /// ```
     /// # use fallible_iterator::{FallibleIterator, convert};
@@ -1788,8 +1788,6 @@ pub trait FallibleItertools: FallibleIterator + Sized {
     /// Yields the items, with what the closure returns between each two adjacent ones.
     ///
     /// Creating it draws nothing and calls nothing. If an item is buffered, `next` yields it and draws nothing; otherwise it draws once. An item after the first is buffered, the closure is called once, and what it returns is yielded before the item. It fails as the source does. If the closure fails, that failure is returned in the separator's place. The item is buffered then too, so none is lost. After a failure or an `Ok(None)` the next item still has a separator before it.
-    ///
-    /// If the closure's state shows what its calls return, that is listed between the items.
     ///
     /// ```
     /// # use fallible_iterator::{FallibleIterator, convert};

@@ -745,7 +745,7 @@ pub trait FallibleIterator {
     ///
     /// Laziness, draws, errors and behaviour after `Ok(None)`: as `filter`.
     ///
-    /// Precondition, which is not checked: the iterator is finite, as `filter` does.
+    /// Precondition, which is not checked: the iterator is finite.
     ///
     /// ```
     /// # use fallible_iterator::{FallibleIterator, convert};
@@ -886,7 +886,7 @@ pub trait FallibleIterator {
     ///
     /// Laziness, draws, errors and behaviour after `Ok(None)`: as `filter`. If the predicate fails, the skipping goes on.
     ///
-    /// Precondition, which is not checked: the iterator is finite, as `filter` does.
+    /// Precondition, which is not checked: the iterator is finite.
     ///
     /// ```
     /// # use fallible_iterator::{FallibleIterator, convert};
