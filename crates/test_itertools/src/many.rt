@@ -6,7 +6,7 @@ use std::convert::Infallible;
 use std::test::Fail;
 use test_support::test_error::TestError;
 
-// A collection's map has 13 sizes up to this, a `Vec` 11.
+// So many that each collection grows several times.
 const MANY: u32 = 5_000;
 
 // Fails the test where a call made nothing, or something of another length.
