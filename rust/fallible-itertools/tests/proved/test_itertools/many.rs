@@ -7,7 +7,7 @@ use fallible_iterator::{FallibleIterator, IteratorExt, repeat};
 use fallible_itertools::{Either, FallibleItertools};
 use std::convert::Infallible;
 
-// A collection's map has 13 sizes up to this, a `Vec` 11.
+// So many that each collection grows several times.
 const MANY: u32 = 5_000;
 
 // Fails the test where a call made nothing, or something of another length.
