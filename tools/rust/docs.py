@@ -47,7 +47,6 @@ SAYS = [
     (r"It states no bound, so it is drained", "It may have no end, and is drained"),
     (r" For a std iterator that doesn't say so,", "For a std iterator that may go on after `None`,"),
     (r" If the closure's state shows what it will return, that is listed\.", ""),
-    (r" What it lists is known if[^.]*\.", ""),
     (r" So the value of an adapter that requires a fused source[^.]*\.", ""),
     # Memory.
     (r" ?If (?:a|the)(?: later)? clone(?: for the first run)? can't be allocated,[^.]*\."
