@@ -41,6 +41,7 @@ PLAIN = [
     (r"^ *[\w:]+::Error,\n(?=\{)", ""),
     (r"^ *let (?:alloc|_) = (?:rt\.alloc\(\)|alloc);\n|^ *alloc(?:: [\w.()]+)?,\n", ""),
     (r"\.try_collect\(\)", ".collect::<Result<Vec<_>, _>>()"),
+    (r"\bif (\w+\.extend_from_slice\([^()]*\))\.is_err\(\)", r"if Ok::<(), AllocError>(\1).is_err()"),
     (r"\bmatch ((?:self\.)?\w+\.push\([^()]*\)) \{", r"match Ok::<(), AllocError>(\1) {"),
 ]
 # Calls that may be refused in Rattle: the name, its name in Rust.

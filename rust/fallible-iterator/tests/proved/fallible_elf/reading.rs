@@ -25,7 +25,7 @@ fn read_begin<R: Read>(reader: &mut R, begin: &mut Vec<u8>) -> io::Result<()> {
         match reader.read(&mut chunk[..room]) {
             Ok(0) => return Ok(()),
             Ok(count) => {
-                if begin.extend_from_slice(&chunk[..count]).is_err() {
+                if Ok::<(), AllocError>(begin.extend_from_slice(&chunk[..count])).is_err() {
                     return Err(io::Error::from(ErrorKind::OutOfMemory));
                 }
             }
