@@ -1,7 +1,7 @@
 -- What the buffer has left is what the input has.
 use Rattle.std.proofs.Common.{rules, ◌≡◌, subst}
 use Rattle.fallible_rows.specs.Reading.{buffered_left}
-use Rattle.fallible_rows.specs.Run.{IsRefusedAt, NoneRefusedYet}
+use Rattle.fallible_rows.specs.Run.{HasReport, IsRefusedAt, NoneRefusedYet}
 use Rattle.count_rows.proofs.program.run_buffered.Goals as goal
 
 pub returns-in-Err-Row : goal.returns-in-Err-Row
@@ -15,3 +15,10 @@ returns-in-Err-Read g c =
     let is : buffered_left g.R.Read.remaining c.new-in-Ok.result ≡ g.R.Read.remaining c.args.input = search rules in
     let after = buffered_left g.R.Read.remaining c.run.new.reader in
     (after, subst (λ u. NoneRefusedYet u after) is (c.run.ensures.read (search rules)), search rules)
+
+pub returns-in-Ok : goal.returns-in-Ok
+returns-in-Ok g c =
+    let is : buffered_left g.R.Read.remaining c.new-in-Ok.result ≡ g.R.Read.remaining c.args.input = search rules in
+    let after = buffered_left g.R.Read.remaining c.run.new.reader in
+    let told = c.run.ensures.write (search rules) in
+    (after, subst (λ u. HasReport u after) is told.0, told.1)
