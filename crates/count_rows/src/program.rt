@@ -18,7 +18,13 @@ fn run_buffered<R: Read + Drop, W: WriteText>(
         (W.written output.old) (W.written output.new) output.new result }
 {
     match BufReader::new(alloc, input) {
-        Ok(reader) => run(alloc, &mut Buffered::new(reader), output),
+        Ok(reader) => match run(alloc, &mut Buffered::new(reader), output) {
+            Ok(()) => Ok(()),
+            Err(RowFault::Row(place)) => Err(RowFault::Row(place)),
+            Err(RowFault::Read) => Err(RowFault::Read),
+            Err(RowFault::Memory) => Err(RowFault::Memory),
+            Err(RowFault::Write) => Err(RowFault::Write),
+        },
         Err(_) => Err(RowFault::Memory),
     }
 }
