@@ -27,7 +27,6 @@ SAYS = [
     (r", and after an item each bound is lower", ""),
     (r"It states no bound, so it is drained", "It may have no end, and is drained"),
     (r" If the closure's state shows what it will return, that is listed\.", ""),
-    (r" So the value of an adapter that requires a fused source[^.]*\.", ""),
     # Memory.
     (r" ?If (?:a|the)(?: later)? clone(?: for the first run)? can't be allocated,[^.]*\."
      r"(?: The item is buffered then too[^.]*\.)?", ""),

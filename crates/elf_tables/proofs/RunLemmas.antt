@@ -55,15 +55,24 @@ module _ (unread unread' : Option (List ℕ)) (f : ElfFault) (start text : List 
   -- an empty report in memory, and nothing written
   pub faulty_kept : (written : Option (List ℕ)) → text ≡ [] → ReadsFaulty unread unread' f (Some start) (Some text) → ReadsFaulty unread unread' f written written
   faulty_kept written empty read = elim read [
-      inl all ↦ inl (all.0, all.1, all.2, (all.3.0, kept all.0 written empty all.3.1))
-      | inr head ↦ inr (head.0, head.1, head.2, elim head.3 [
-      inl whole ↦ inl (whole.0, (whole.1.0, kept head.0 written empty whole.1.1))
-      | inr begun ↦ inr (λ rest. ((begun rest).0, kept (head.0 ++ rest) written empty (begun rest).1)) ]) ]
+    | inl all ↦ inl (all.0, all.1, all.2, (all.3.0, kept all.0 written empty all.3.1))
+    | inr head ↦ inr (
+      head.0,
+      head.1,
+      head.2,
+      elim head.3 [
+        | inl whole ↦ inl (whole.0, (whole.1.0, kept head.0 written empty whole.1.1))
+        | inr begun ↦ inr (λ rest. ((begun rest).0, kept (head.0 ++ rest) written empty (begun rest).1))
+      ],
+    )
+  ]
 
   -- one that is not empty is that of a file that was read whole and has sections
   pub faulty_sections : (text ≡ [] → ⊥) → ReadsFaulty unread unread' f (Some start) (Some text) → ReadsAll unread unread' HasSections
   faulty_sections some read = elim read [
-      inl all ↦ (all.0, all.1, all.2, sections_where all.0 (named_sections all.0) (λ empty. some (report_is all.0 all.3.1 ∙ empty)))
-      | inr head ↦ absurd (elim head.3 [
-      inl whole ↦ some (report_is head.0 whole.1.1 ∙ no_report head.0 f whole.1.0)
-      | inr begun ↦ some (report_is (head.0 ++ []) (begun []).1 ∙ no_report (head.0 ++ []) f (begun []).0) ]) ]
+    | inl all ↦ (all.0, all.1, all.2, sections_where all.0 (named_sections all.0) (λ empty. some (report_is all.0 all.3.1 ∙ empty)))
+    | inr head ↦ absurd (elim head.3 [
+      | inl whole ↦ some (report_is head.0 whole.1.1 ∙ no_report head.0 f whole.1.0)
+      | inr begun ↦ some (report_is (head.0 ++ []) (begun []).1 ∙ no_report (head.0 ++ []) f (begun []).0)
+    ])
+  ]

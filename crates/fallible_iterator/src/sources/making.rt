@@ -44,7 +44,7 @@ pub fn convert<T, E, I: Iterator<Item = Result<T, E>>>(it: I) -> Convert<I>
 
 /// Creates a fallible iterator of a std iterator over results that may go on after a `None`, as `lines` of a reader. It is `convert` of the iterator's `fuse`.
 ///
-/// Creating it draws nothing. `next` draws the std iterator once. It fails with the value of an `Err`. It is fused: after the first `Ok(None)` the std iterator isn't drawn again. So the value of an adapter that requires a fused source, as `zip_longest`, is known over it.
+/// Creating it draws nothing. `next` draws the std iterator once. It fails with the value of an `Err`. It is fused: after the first `Ok(None)` the std iterator isn't drawn again.
 ///
 /// Requires nothing. `next` requires that the std iterator may be drawn again after each `Some`.
 ///
