@@ -1,5 +1,5 @@
 //! Callers of the adapters that buffer: each states what it computes, and the contracts of the calls prove it.
-ghost use Rattle.std.specs.Prelude.{◌≡◌, ℕ, ◌+◌, ◌-◌, ◌%◌, ◌/◌, ◌^◌, List, Result, Some, Ok, Err, if◌then◌else◌, nat_eq, nat_lt};
+ghost use Rattle.std.specs.Prelude.{◌≡◌, ℕ, ◌+◌, ◌-◌, ◌%◌, ◌/◌, ◌^◌, List, Option, Result, Some, Ok, Err, if◌then◌else◌, nat_eq, nat_lt};
 ghost use Rattle.fallible_iterator.specs.Lists.{Lists, counted, filtered, folded, nth_of, rest_first, results, taken};
 ghost use Rattle.fallible_itertools.specs.Coalesce.{coalesced};
 ghost use Rattle.fallible_itertools.specs.Dedup.{deduped};
@@ -107,6 +107,19 @@ pub fn commas(readings: Vec<Result<u32, u8>>) -> Result<usize, u8>
         .with_position()
         .filter(|placed| Ok(has_comma(placed.0)))
         .count()
+}
+
+/// The first item with its position, over any iterator, also over one that never ends, such as the rows of a reader: `next` draws twice at most.
+pub fn first_placed<I: FallibleIterator>(it: I) -> Result<Option<(Position, I::Item)>, I::Error>
+where
+    I::Item: Drop,
+    I::Error: Drop,
+    requires { I.contract.can_next it }
+    ensures { (l : List (Result I.Item I.Error)) → Lists I.contract.steps it l
+        → result ≡ nth_of 0 (positioned l) }
+{
+    let mut it = it.with_position();
+    it.draw()
 }
 
 // Whether a comma comes after the item.
