@@ -1,5 +1,5 @@
 //! Callers of the adapters that act on failures.
-ghost use Rattle.std.specs.Prelude.{◌≡◌, ◌-◌, ◌^◌, List, None, Ok, Result, Some, take};
+ghost use Rattle.std.specs.Prelude.{◌≡◌, ◌-◌, ◌^◌, List, None, Ok, Result, Some};
 ghost use Rattle.std.specs.Iterator.{UpTo};
 ghost use Rattle.fallible_iterator.specs.Closures.{IsCallable, call_at, takes_at};
 ghost use Rattle.fallible_iterator.specs.Contract.{AtMost};
@@ -51,20 +51,6 @@ where
         → result ≡ counted (recovered (λ _. Ok None) l) }
 {
     it.or_else(|_: I::Error| Ok(None)).count()
-}
-
-/// How many of the first 1000 answers of a source are items, also of one that never ends, such as the rows of a reader: std's `take` bounds items and failures together.
-pub fn count_good_of_thousand<I: FallibleIterator>(it: I) -> Result<usize, u8>
-where
-    I::Item: Drop,
-    I::Error: Drop,
-    requires { I.contract.can_next it }
-    ensures { (l : List (Result I.Item I.Error)) → Lists I.contract.steps it l
-        → result ≡ counted (recovered (λ _. Ok None) (take 1000 l)) }
-{
-    convert(it.iterator().take(1000))
-        .or_else(|_: I::Error| Ok(None))
-        .count()
 }
 
 /// How many rows there are, or the first failure, which `noted` holds then.
