@@ -35,13 +35,6 @@ pub fn count_good_of<I: FallibleIterator>(it: I) -> Result<usize, u8> {
     it.or_else(|_: I::Error| Ok(None)).count()
 }
 
-/// How many of the first 1000 answers of a source are items, also of one that never ends, such as the rows of a reader: std's `take` bounds items and failures together.
-pub fn count_good_of_thousand<I: FallibleIterator>(it: I) -> Result<usize, u8> {
-    convert(it.iterator().take(1000))
-        .or_else(|_: I::Error| Ok(None))
-        .count()
-}
-
 /// How many rows there are, or the first failure, which `noted` holds then.
 pub fn count_noting(rows: Vec<Result<u32, u8>>, noted: &mut Option<u8>) -> Result<usize, u8> {
     convert(rows.into_iter())

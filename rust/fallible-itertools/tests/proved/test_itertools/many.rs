@@ -84,12 +84,12 @@ fn many_are_batched_grouped_and_told_apart() {
         let batches = repeat::<u32, TestError>(7)
             .take(4_500)
             .chunks(2_000)
-            .count();
+            .fold(0, |n: u32, _batch: Vec<u32>| Ok(n.wrapping_add(1)));
         assert_eq!(batches, Ok(3));
         let runs = repeat::<u32, TestError>(7)
             .take(5_000)
             .chunk_by(|x: &u32| Ok(*x))
-            .count();
+            .fold(0, |n: u32, _group: (u32, Vec<u32>)| Ok(n.wrapping_add(1)));
         assert_eq!(runs, Ok(1));
         let apart = (0..MANY)
             .into_fallible()
