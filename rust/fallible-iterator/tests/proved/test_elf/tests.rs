@@ -516,9 +516,12 @@ fn run_answers_reads_and_writes_that_fail() {
 fn run_looks_at_header_first() {
     fn tested() -> Result<(), Fail> {
         let wide = with(4, &[1])?;
+        let Some(header) = wide.as_slice().get(..64) else {
+            return Err(Fail::new("the file has a header"));
+        };
         for (bytes, wanted) in [
             (b"yes\n".as_slice(), fault(Damage::NotElf, 0)),
-            (&wide.as_slice()[..64], fault(Damage::NotWide, 4)),
+            (header, fault(Damage::NotWide, 4)),
         ] {
             let kind = ErrorKind::Other;
             let mut reader = BrokenReader { bytes, kind };
