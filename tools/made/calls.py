@@ -2,7 +2,7 @@
 
 import re
 
-from made import code, hints, terms
+from made import code, hints, index, terms
 from made.tree import code_of_library
 
 CORE, ABOVE = "fallible_core/src", "fallible_iterator/src"
@@ -42,7 +42,7 @@ def kind(function, of_types):
 
 
 class Row:
-    """What the clauses of a call say."""
+    """A call with what its clauses state of a list."""
 
     def __init__(self, function):
         self.function, self.values, self.left, self.returned = function, [], [], []
@@ -120,5 +120,7 @@ def tables(crates):
     of_types = hints.hints(files)
     made = {name: table(name, crates, of_types) for name in TABLES}
     shown = [line for name, (wanted, _) in TABLES.items() if wanted == "adapter" for line in made[name][1:]]
-    made["hints"] = ["| In a hint | What it is |\n|---|---|", *hints.legend([line.rsplit(" | ", 1)[1] for line in shown], files)]
+    sentences = {word: said for _, _, path in index.files(crates) for group, said in index.words(path) for word in group}
+    legend = hints.legend([line.rsplit(" | ", 1)[1] for line in shown], files, sentences)
+    made["hints"] = ["| In a hint | What it is |\n|---|---|", *legend]
     return made

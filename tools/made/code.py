@@ -117,10 +117,14 @@ def head(text, at):
     return parameters, returned, clauses, place
 
 
-@functools.lru_cache(maxsize=None)
 def functions(path):
     """The functions of a file."""
-    whole = path.read_text(encoding="utf-8")
+    return functions_of(path.read_text(encoding="utf-8"))
+
+
+@functools.lru_cache(maxsize=None)
+def functions_of(whole):
+    """The functions of a file's text."""
     text, lines = without_comments(whole), whole.splitlines()
     around, renamed, found = list(owners(text)), tuple(RENAMED.findall(text)), []
     for named in FUNCTION.finditer(text):

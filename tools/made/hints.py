@@ -2,7 +2,7 @@
 
 import re
 
-from made import code, terms
+from made import code
 
 # the fields that hold a second source
 SECOND = ("second", "right")
@@ -115,7 +115,14 @@ def hints(files):
     return of_types
 
 
-def legend(shown, files):
+def sentence(function, sentences):
+    """What is said of a function: of the word that its result equals, if it is one, or else its comment."""
+    equal = [text.removeprefix("result ≡ ") for _, _, text in function.clauses if text.startswith("result ≡ ")]
+    words = [code.split_at(text, " ")[0] for text in equal if len(code.split_at(text, " + ")) == 1]
+    return next((sentences[word] for word in words if word in sentences), function.comment)
+
+
+def legend(shown, files, sentences):
     """The functions and the fields that the hints name, each with its sentence."""
     text = " ".join(shown)
     called, named, rows = set(re.findall(r"\b(\w+)\(", text)), set(re.findall(r"\b(\w+)\b(?!\()", text)), {}
@@ -123,9 +130,10 @@ def legend(shown, files):
         for function in code.functions(path):
             free = not function.owner or function.owner.startswith("impl") and " for " not in function.owner
             if free and function.name in called and "usize" in function.returned and function.comment:
-                rows.setdefault(f"{function.name}({', '.join(code.arguments(function.parameters))})", function.comment)
+                given = ", ".join(code.arguments(function.parameters))
+                rows.setdefault(f"{function.name}({given})", sentence(function, sentences))
     for path in files:
         for field, comment in code.field_comments(path).items():
-            if field in named and "size_hint" in path.read_text(encoding="utf-8"):
+            if field in named and any(function.name == "size_hint" for function in code.functions(path)):
                 rows.setdefault(field, comment)
     return [f"| `{name}` | {comment} |" for name, comment in rows.items()]
