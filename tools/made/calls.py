@@ -17,6 +17,9 @@ TABLES = {
     "adapters of fallible_itertools": ("adapter", [f"{TOOLS}/traits.rt", f"{TOOLS}/peeking_take_while.rt"]),
     "other calls of fallible_itertools": ("other", [f"{TOOLS}/traits.rt", f"{TOOLS}/double_ended.rt"]),
 }
+# the clauses that state a list or a value of one
+STATING = ("lists", "value", "rest", "results", "items", "repeats", "shown", "reads", "for_good")
+OF_LIST = re.compile(r"OverList|OverBoth|Lists\b")
 # what a word of a clause says besides the list
 SAID_OF = {"Repeats": " at each draw", "ListsMade": ", up to an allocation failure", "EachRunFrom": ", as std reads it"}
 
@@ -46,14 +49,15 @@ class Row:
 
     def __init__(self, function):
         self.function, self.values, self.left, self.returned = function, [], [], []
-        for which, _, text in function.clauses:
-            if which == "ensures":
-                self.read(text)
+        for which, named, text in function.clauses:
+            if which == "ensures" and not self.read(text) and named in STATING and OF_LIST.search(text):
+                raise ValueError(f"{function.name}: the clause {named} isn't one that tools/made/calls.py can read")
 
     def read(self, text):
-        """Adds what a clause says of a list."""
+        """Adds what a clause says of a list, and returns whether it says something of one."""
         reading = terms.Reading(text, self.function.renamed)
         held, returned = reading.conditions()
+        found = False
         for conclusion in reading.conclusions:
             parts = terms.split_at(terms.bare(conclusion), " ")
             word = terms.last_name(parts[0])
@@ -73,6 +77,10 @@ class Row:
                 self.add(self.values, reading, sides[1], held)
             elif over_list and len(sides) == 2 and "result" in sides[0]:
                 self.add(self.values, reading, conclusion, held)
+            else:
+                continue
+            found = True
+        return found
 
     def add(self, cells, reading, term, held, word=""):
         """Adds a term with what has to hold for it."""
