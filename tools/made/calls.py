@@ -12,14 +12,25 @@ TOOLS = "fallible_itertools/src"
 TABLES = {
     "sources": ("adapter", [f"{ABOVE}/sources/making.rt", f"{ABOVE}/conversion.rt"]),
     "adapters": ("adapter", [f"{CORE}/traits.rt"]),
-    "draws": ("borrowing", [f"{CORE}/traits.rt", f"{CORE}/traits/double_ended.rt", f"{CORE}/peeking/peek.rt", f"{CORE}/peeking/peekable.rt", f"{ABOVE}/taking.rt", f"{ABOVE}/laws/traces.rt"]),
+    "draws": ("borrowing", [
+        f"{CORE}/traits.rt", f"{CORE}/traits/double_ended.rt", f"{CORE}/peeking/peek.rt", f"{CORE}/peeking/peekable.rt",
+        f"{ABOVE}/taking.rt", f"{ABOVE}/laws/traces.rt",
+    ]),
     "consumers": ("consuming", [f"{CORE}/traits.rt", f"{CORE}/traits/double_ended.rt"]),
     "adapters of fallible_itertools": ("adapter", [f"{TOOLS}/traits.rt", f"{TOOLS}/peeking_take_while.rt"]),
     "other calls of fallible_itertools": ("other", [f"{TOOLS}/traits.rt", f"{TOOLS}/double_ended.rt"]),
 }
+DRAWN = "| Call | Value | Left | If it returns |\n|---|---|---|---|"
+HEADS = {
+    "adapter": "| Call | Lists | Hint |\n|---|---|---|",
+    "consuming": "| Call | Value |\n|---|---|",
+    "borrowing": DRAWN,
+    "other": DRAWN,
+}
 # the clauses that state a list or a value of one
 STATING = ("lists", "value", "rest", "results", "items", "repeats", "shown", "reads", "for_good")
 OF_LIST = re.compile(r"OverList|OverBoth|Lists\b")
+BORROWS = re.compile(r"\( ?(?:alloc: Global, )?(?:&(?:mut )?self|\w+: &mut )")
 # what a word of a clause says besides the list
 SAID_OF = {"Repeats": " at each draw", "ListsMade": ", up to an allocation failure", "EachRunFrom": ", as std reads it"}
 
@@ -33,15 +44,15 @@ def made_type(function):
 def kind(function, of_types):
     """Whether a function is a call that makes an iterator, borrows one or consumes one; none if it is no call."""
     hidden = function.name.startswith("drive") or function.name in ("size_hint", "number")
-    free = not function.owner and bool(function.clauses)
-    inherent = function.owner.startswith("impl") and "FallibleIterator for" not in function.owner and " for " not in function.owner
-    if hidden or not function.public or not (free or inherent or function.in_trait) or not function.parameters:
+    stated = function.in_trait or function.is_helper and function.clauses
+    if hidden or not function.public or not stated:
         return None
     if made_type(function) in of_types:
         return "adapter"
-    if not function.in_trait and not {"value", "lists"}.intersection(named for _, named, _ in function.clauses):
-        return "borrowing" if inherent else None
-    return "borrowing" if re.match(r"\( ?(alloc: Global, )?(&mut self|\w+: &mut )", function.parameters) else "consuming"
+    states = {"value", "lists"}.intersection(named for _, named, _ in function.clauses)
+    if not states and not function.owner:
+        return None
+    return "borrowing" if BORROWS.match(function.parameters) else "consuming"
 
 
 class Row:
@@ -102,24 +113,25 @@ def cell(parts):
     return "; ".join(parts).replace("|", "\\|") or "–"
 
 
+def line(row, wanted, of_types):
+    """The line of a call in a table of that kind."""
+    cells = [call(row.function), cell(row.values)]
+    if wanted == "adapter":
+        cells.append(of_types[made_type(row.function)].replace("|", "\\|"))
+    elif wanted != "consuming":
+        cells += [cell(row.left), "; ".join(row.returned)]
+    return f"| {' | '.join(cells)} |"
+
+
 def table(name, crates, of_types):
     """The lines of a table."""
     wanted, files = TABLES[name]
+    kinds = {"other": ("borrowing", "consuming")}.get(wanted, (wanted,))
     rows = []
-    for path in files:
-        for function in code.functions(crates / path) if (crates / path).is_file() else []:
-            found = kind(function, of_types)
-            if found is None or (found == "adapter") != (wanted == "adapter") or wanted in ("borrowing", "consuming") and found != wanted:
-                continue
-            row = Row(function)
-            if wanted == "adapter":
-                rows.append(f"| {call(function)} | {cell(row.values)} | {of_types[made_type(function)].replace('|', chr(92) + '|')} |")
-            elif wanted == "consuming":
-                rows.append(f"| {call(function)} | {cell(row.values)} |")
-            else:
-                rows.append(f"| {call(function)} | {cell(row.values)} | {cell(row.left)} | {cell(row.returned) if row.returned else ''} |")
-    heads = {"adapter": "| Call | Lists | Hint |\n|---|---|---|", "consuming": "| Call | Value |\n|---|---|"}
-    return [heads.get(wanted, "| Call | Value | Left | If it returns |\n|---|---|---|---|"), *rows]
+    for path in (crates / file for file in files):
+        found = code.functions(path) if path.is_file() else []
+        rows += [line(Row(function), wanted, of_types) for function in found if kind(function, of_types) in kinds]
+    return [HEADS[wanted], *rows]
 
 
 def tables(crates):

@@ -33,6 +33,11 @@ class Function:
         return self.owner.startswith(("trait", "pub trait"))
 
     @property
+    def is_helper(self):
+        """Whether it stands by itself or in a type's own impl, and so is no call of a trait."""
+        return not self.owner or self.owner.startswith("impl") and " for " not in self.owner
+
+    @property
     def implementer(self):
         """The type whose impl of a trait of iterators it stands in, or none."""
         found = TYPE.search(self.owner) if self.owner.startswith("impl") else None

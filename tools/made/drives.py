@@ -1,4 +1,4 @@
-"""The tables of docs/LAYERS.md: the calls of its source that each type goes through, and the hidden call of each other one."""
+"""The tables of docs/LAYERS.md: the calls of its source that each type makes, and the hidden call behind each other one."""
 
 import re
 
@@ -20,16 +20,25 @@ def helpers(files):
     found = {}
     for path in files:
         for function in code.functions(path):
-            inherent = function.owner.startswith("impl") and " for " not in function.owner
-            if function.body and (not function.owner or inherent):
+            if function.body and function.is_helper:
                 for key in ((path, function.name), (path.parent, function.name), function.name):
                     found.setdefault(key, function)
     return found
 
 
+def helper_of(name, path, found):
+    """The helper that a file means by a name, or none."""
+    return found.get((path, name)) or found.get((path.parent, name)) or found.get(name)
+
+
+def given_at(function, at):
+    """The arguments of the call whose bracket opens at a place of a body."""
+    return function.body[at:code.end_of(function.body, at)]
+
+
 def turn_of(function, at):
-    """The turn that a call whose bracket opens at a place is given, if the body names it."""
-    given = function.body[at:code.end_of(function.body, at)]
+    """The turn that the call whose bracket opens at a place is given, if the body names it."""
+    given = given_at(function, at)
     if "&turn" in given and "let turn =" in function.body:
         given = function.body.split("let turn =")[1].split(";")[0]
     return next(iter(TURN.findall(given)), None)
@@ -62,11 +71,11 @@ class Way:
             elif name in STD and through:
                 self.add(STD[name], "")
             elif receiver != "self" and name not in seen:
-                helper = self.found.get((self.path, name)) or self.found.get((self.path.parent, name)) or self.found.get(name)
-                given = function.body[called.end() - 1:code.end_of(function.body, called.end() - 1)]
-                lent = [lent for lent in (field, *LENT.findall(given)) if lent in SIDES]
+                helper = helper_of(name, self.path, self.found)
+                lent = [part for part in (field, *LENT.findall(given_at(function, called.end() - 1))) if part in SIDES]
                 if helper:
-                    self.walk(helper, through or name, lent[0] if len(lent) == 1 and not through else side, (*seen, name))
+                    one = lent[0] if len(lent) == 1 and not through else side
+                    self.walk(helper, through or name, one, (*seen, name))
 
     def cell(self):
         """The calls as a cell."""
@@ -99,7 +108,8 @@ def types(crates):
     """The table of the types. Those with the same row share it."""
     shared = {}
     for kind, cells in columns(crates).items():
-        others = [cells[name] if f"`{name}`" in cells[name] else f"`{name}`: {cells[name]}" for name in HIDDEN[2:] if name in cells]
+        written = [(name, cells[name]) for name in HIDDEN[2:] if name in cells]
+        others = [text if f"`{name}`" in text else f"`{name}`: {text}" for name, text in written]
         drawn = cells.get("next", "") + (f"; `next_back`: {cells['next_back']}" if "next_back" in cells else "")
         back = cells.get("drive_back", "–" if "next_back" in cells else "")
         row = (cells.get("drive", "–"), back, "; ".join(others) or "–", drawn)
@@ -114,7 +124,7 @@ def goes_through(name, functions, found, seen=()):
     ways = []
     for called in CALLED.finditer(function.body):
         receiver, wanted = called.group(1), called.group(2)
-        helper = found.get((path, wanted)) or found.get((path.parent, wanted)) or found.get(wanted)
+        helper = helper_of(wanted, path, found)
         if wanted in seen:
             continue
         if receiver and wanted in HIDDEN:
@@ -140,5 +150,5 @@ def finals(crates):
         through = goes_through(name, functions, found, (name,))
         if through:
             rows.setdefault(", ".join(through), []).append(f"`{name}`")
-    order = sorted(rows, key=lambda through: (HIDDEN + (through,)).index(through.strip("`")) if through.strip("`") in HIDDEN else len(HIDDEN))
+    order = sorted(rows, key=lambda through: [*(f"`{name}`" for name in HIDDEN), through].index(through))
     return ["| Goes through | Calls |\n|---|---|", *(f"| {through} | {', '.join(rows[through])} |" for through in order)]

@@ -74,8 +74,9 @@ def cases(body, comments):
         end = code.end_of(text, begin)
         condition = text[3:begin].strip()
         otherwise = text[end:].strip().removeprefix("else").strip()
-        yield from ((said, shown) for said, shown in cases(otherwise, comments))
-        yield from ((said or whether(condition, comments), shown) for said, shown in cases(text[begin:end], comments))
+        yield from cases(otherwise, comments)
+        for said, shown in cases(text[begin:end], comments):
+            yield said or whether(condition, comments), shown
     elif text.startswith("match "):
         begin = text.index("{")
         yield from arms(text[len("match "):begin].strip(), block(text[begin:]), comments)
@@ -93,10 +94,12 @@ def arms(matched, text, comments):
             end = code.end_of(rest, end) if rest[end] in "({[" else end + 1
             if rest[end - 1] == "}" and rest.startswith("{"):
                 break
+        wanted = pattern.rsplit("::", 1)[-1]
         for said, shown in cases(rest[:end], comments):
-            wanted = pattern.rsplit("::", 1)[-1]
-            (last if wanted in ("_", "None") else found).append(
-                ("" if wanted in ("_", "None") else said or f"if `{field}` is `{wanted}`", shown))
+            if wanted in ("_", "None"):
+                last.append(("", shown))
+            else:
+                found.append((said or f"if `{field}` is `{wanted}`", shown))
         text = rest[end:].lstrip(", ").strip()
     return last + found
 
@@ -106,11 +109,9 @@ def hints(files):
     of_types = {}
     for path in files:
         for function in code.functions(path):
-            if function.name != "size_hint" or not function.body:
-                continue
             owner = re.search(r"Iterator for (&mut I|\w+)", function.owner)
-            if owner:
-                found = list(cases(function.body, code.field_comments(path)))
+            if owner and function.name == "size_hint":
+                found = cases(function.body, code.field_comments(path))
                 of_types[owner.group(1)] = "; ".join(f"`{shown}` {said}".strip() for said, shown in found)
     return of_types
 
@@ -124,12 +125,11 @@ def sentence(function, sentences):
 
 def legend(shown, files, sentences):
     """The functions and the fields that the hints name, each with its sentence."""
-    text = " ".join(shown)
-    called, named, rows = set(re.findall(r"\b(\w+)\(", text)), set(re.findall(r"\b(\w+)\b(?!\()", text)), {}
+    text, rows = " ".join(shown), {}
+    called, named = set(re.findall(r"\b(\w+)\(", text)), set(re.findall(r"\b(\w+)\b(?!\()", text))
     for path in files:
         for function in code.functions(path):
-            free = not function.owner or function.owner.startswith("impl") and " for " not in function.owner
-            if free and function.name in called and "usize" in function.returned and function.comment:
+            if function.is_helper and function.name in called and "usize" in function.returned and function.comment:
                 given = ", ".join(code.arguments(function.parameters))
                 rows.setdefault(f"{function.name}({given})", sentence(function, sentences))
     for path in files:
