@@ -22,8 +22,8 @@ groups|tools/groups_runs.py|minutes, once sum_groups is proved
 elf|tools/elf_runs.py|minutes, once elf_tables is proved
 memory|tools/refused_memory.sh|7 minutes
 speed|tools/speed.sh|the proof of fallible_speed, and then minutes
-rust_speed|tools/rust_bench.sh|minutes; wants valgrind and apt
-itertools_speed|tools/rust_bench_itertools.sh|minutes; wants valgrind and apt
+rust_speed|tools/rust_bench.sh|a minute; wants valgrind and apt
+itertools_speed|tools/rust_bench_itertools.sh|a minute; wants valgrind and apt
 clients|tools/rust_clients|minutes; wants cargo and apt
 END
 }
