@@ -98,6 +98,20 @@ class Refusals(unittest.TestCase):
         self.refused("fallible_core/ends/rev.rs", "is changed, and no file of")
         self.assertFalse(self.out.exists())
 
+    def test_a_paragraph_is_like_one_of_a_kind(self):
+        file = self.tree / CORE / "traits.rt"
+        line = file.read_text(encoding="utf-8").split("\n").index("    /// Requires: `next` may be called.") + 1
+        for old, new in (("Requires:", "Requires that"), ("Requires that", "requires:"), ("requires:", "In a proof,"),
+                         ("In a proof,", "Memory;"), ("Memory;", "It requires that")):
+            self.edit(CORE + "traits.rt", "    /// %s `next` may be called." % old, "    /// %s `next` may be called." % new)
+            self.refused(CORE + "traits.rt:%d: docs: %s `next` may" % (line, new), "begins with `Requires:`")
+        self.assertFalse(self.out.exists())
+
+    def test_an_example_stands_nowhere(self):
+        self.edit(CORE + "peeking/peek.rt", "    /// assert_eq!(", "    /// assert_ne!(")
+        self.refused(CORE + "peeking/peek.rt:", "no file of release/examples/src has these lines")
+        self.assertFalse(self.out.exists())
+
     def test_the_folder_holds_something_else(self):
         self.out.mkdir()
         (self.out / "letter").write_text("mine")

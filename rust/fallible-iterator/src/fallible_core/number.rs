@@ -2,7 +2,7 @@
 
 use core::marker::PhantomData;
 
-/// A number that a drain counts down by, so that it is known to end. It has no bytes, and only clauses read it.
+/// A number that a drain counts down by, so that it is known to end. It has no bytes.
 pub struct Number {
     pub(crate) marker: PhantomData<()>,
 }
