@@ -2,7 +2,8 @@
 import re
 from collections import defaultdict
 
-from source import Refused, code, functions
+import counters
+from source import Refused, functions
 
 # What is not word for word the proved body and no file of `bodies`: the file, the function, what, and why. Each row is used.
 REASONS = [
@@ -15,7 +16,8 @@ REASONS = [
     (r"sources/std_fold\.rs", r".*Progressing\.(next|next_back)", "left out", "no fold needs `Progressing`"),
     (r"fallible_core/traits/b\w+\.rs", r".*\.(drive|drive_back)", "left out",
      "`I` may have no size; the trait's own loop serves"),
-    (r"fallible_core/number\.rs", r"Drop for Number\.drop", "left out", "it only takes the value apart"),
+    (r"fallible_core/number\.rs", r".*Number\.(drop|one_less)", "left out", "a number has no bytes"),
+    (r"fallible_core/traits\.rs", r"FallibleIterator\.number", "left out", "a number has no bytes"),
     (r"fallible_core/traits\.rs", r"From for Stop\.from", "new", "why a caller's fold stopped"),
     (r"fallible_core/traits\.rs", r"FallibleIterator\.nth", "left out", "it only calls what is now `nth`"),
     (r"by_drive\.rs", r"try_fold|try_rfold|find", "new", "in each impl that writes a hidden fold, by a macro: they call it"),
@@ -35,8 +37,8 @@ def by_name(s):
 
 
 def body(s, f):
-    """A function's body, or none where it has none."""
-    return None if f.open is None else code(s[f.open:f.end])
+    """A function's body, or none where it has none. What only counts down is no part of it."""
+    return None if f.open is None else counters.without(f.name, s[f.start:f.open], s[f.open:f.end])
 
 
 def differences(written, source):

@@ -11,11 +11,9 @@ LIKE = re.compile(r"\W*(?:requir\w*|memory|(?:in (?:a|the) )?proofs?|pre-?condit
 # What is said in a paragraph of a kind that goes, and in no other one.
 OF_A_KIND = re.compile(r"\brequires?\b|\bclauses?\b|\bproofs?\b|search finds|`Fault|\bAllocError\b|"
                        r"allocation fail|failed allocation|can't be allocated", re.I)
-# Calls whose example is no doc test: only proofs read what they return.
-NO_TEST = {"number"}
 # Calls whose signature is another in Rust.
 OTHER = {"collect", "partition", "unzip", "cycle", "chain", "counts", "into_group_map", "partition_map", "join", "sorted", "sorted_by_key",
-         "unique"}
+         "unique", "drive_recovering", "drive_back_recovering", "number_of_either"}
 
 
 def paragraph(line, at):
@@ -29,18 +27,10 @@ def paragraph(line, at):
 
 
 class Docs:
-    """The comments of the crates, and which examples were run. `shown` are the files of examples."""
+    """The comments of the crates, and how many doc tests they have. `shown` are the files of examples."""
 
     def __init__(self, shown):
-        self.shown, self.run, self.left = shown, 0, []
-
-    def example(self, name, lines, at):
-        """The lines of a doc test, or none."""
-        if name in NO_TEST:
-            self.left.append(name)
-            return []
-        self.run += 1
-        return ["```", *doc_test(self.shown, lines, at), "```"]
+        self.shown, self.tests = shown, 0
 
     def comment(self, name, lines, clauses, at):
         """A comment of an item, rewritten. `clauses` are those of a public function, and `at` says where a line of it stands."""
@@ -48,7 +38,8 @@ class Docs:
         while k < len(lines):
             if lines[k] == "```":
                 end = lines.index("```", k + 1)
-                blocks.append(self.example(name, lines[k + 1:end], at(k)))
+                blocks.append(["```", *doc_test(self.shown, lines[k + 1:end], at(k)), "```"])
+                self.tests += 1
                 k = end
             elif lines[k]:
                 said = paragraph(lines[k], at(k))

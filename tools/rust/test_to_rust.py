@@ -78,9 +78,8 @@ class Refusals(unittest.TestCase):
         self.assertFalse(self.out.exists())
 
     def test_an_item_stands_twice(self):
-        self.edit(CORE + "number.rt", "use std::marker::{Model, PhantomData};",
-                  "use std::marker::{Model, PhantomData};\nuse std::marker::{Model, PhantomData};")
-        self.refused(CORE + "number.rt:", "fits 2 times, not 1")
+        self.edit(CORE + "lib.rt", "pub mod number;", "pub mod number;\npub mod number;")
+        self.refused(CORE + "lib.rt:", "fits 2 times, not 1")
         self.assertFalse(self.out.exists())
 
     def test_a_file_is_missing(self):
@@ -91,6 +90,11 @@ class Refusals(unittest.TestCase):
     def test_a_drop_does_something(self):
         self.edit(CORE + "number.rt", "let Self { marker: _ } = self;", "tell(self);")
         self.refused(CORE + "number.rt:", "a `drop` that does something")
+        self.assertFalse(self.out.exists())
+
+    def test_a_number_is_more_than_counted_down(self):
+        self.edit(CORE + "joining/flatten.rt", "left = left.one_less();", "left = tell(left.one_less());")
+        self.refused(CORE + "joining/flatten.rt:", "`left` is used for more than to count down")
         self.assertFalse(self.out.exists())
 
     def test_a_body_is_changed_for_no_reason(self):

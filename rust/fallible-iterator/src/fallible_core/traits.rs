@@ -22,7 +22,6 @@ use crate::fallible_core::cutting::{Fuse, Skip, StepBy, Take, TakeWhile};
 use crate::fallible_core::ends::Rev;
 use crate::fallible_core::filtering::{Filter, FilterMap, SkipWhile};
 use crate::fallible_core::joining::{Chain, Cycle, FlatMap, Flatten, StillDrawn, Zip};
-use crate::fallible_core::number::Number;
 use crate::fallible_core::one_to_one::{Cloned, Enumerate, Inspect, Map, MapErr, MapWhile, Scan};
 use crate::fallible_core::peeking::Peekable;
 use crate::fallible_core::picking::{best_by, best_by_key};
@@ -87,28 +86,6 @@ pub trait FallibleIterator {
     /// </details>
     fn size_hint(&self) -> (usize, Option<usize>) {
         (0, None)
-    }
-
-    /// Returns a bound, for a loop of one's own to count down by. It has no bytes.
-    ///
-    /// It draws nothing and never fails. The iterator is as before.
-    ///
-    /// Precondition, which is not checked: the iterator is finite.
-    ///
-    /// <details><summary>Contract</summary>
-    ///
-    /// As it is proved, in [these words](crate::words):
-    ///
-    /// ```text
-    /// requires { contract.is_finite self.now }
-    /// ensures { contract.bound self.now result.value }
-    /// ```
-    /// </details>
-    #[doc(hidden)]
-    fn number(&self) -> Number {
-        Number {
-            marker: PhantomData,
-        }
     }
 
     /// For types that override folds: draws until `Ok(None)`, a failure or a turn that stops the fold. It returns what `next` could: `Ok(None)`, the failure, or what the turn stopped with. `state` points to all that changes from turn to turn. Every fold goes through it. A caller uses `try_fold`.
