@@ -1355,7 +1355,7 @@ pub trait FallibleIterator: Drop + Sized {
     ///
     /// Precondition: at most `usize::MAX` items are left.
     ///
-    /// Requires: what `all` requires but a bound.
+    /// Requires: what `all` requires, but no bound.
     ///
     /// ```
     /// let mut it = convert([Ok::<u32, u8>(7), Ok(150), Ok(700)].into_iter());
