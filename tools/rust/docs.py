@@ -22,7 +22,8 @@ def paragraph(line, at):
     if kind and not KINDS[kind]:
         return None
     if not kind and LIKE.match(line) or OF_A_KIND.search(line):
-        raise Refused("%s: docs: %s: what this says stands in a paragraph that begins with %s" % (at, line, ", ".join("`%s`" % x for x in KINDS)))
+        raise Refused("%s: docs: %s: what this says stands in a paragraph that begins with %s"
+                      % (at, line, ", ".join("`%s`" % x for x in KINDS)))
     return line.replace(kind, KINDS[kind], 1) if kind else line
 
 

@@ -22,7 +22,7 @@ use std::marker::PhantomData;
 ///
 /// Creating it draws nothing. `next` draws the std iterator once. It fails with the value of an `Err`. After a failure and after `Ok(None)` the next call draws the std iterator again.
 ///
-/// For a std iterator of which nothing is known after `None`, as `lines` of a reader, use `convert_fused`.
+/// For a std iterator that may go on after a `None`, as `lines` of a reader, use `convert_fused`.
 ///
 /// Requires: nothing. `next` requires that the std iterator may be drawn again after each element and after `None`, and that a bound that it states doesn't rise there; from both ends, if that holds after every draw from either end.
 ///

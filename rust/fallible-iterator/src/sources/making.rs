@@ -8,7 +8,7 @@ use core::marker::PhantomData;
 ///
 /// Creating it draws nothing. `next` draws the std iterator once. It fails with the value of an `Err`. After a failure and after `Ok(None)` the next call draws the std iterator again.
 ///
-/// For a std iterator of which nothing is known after `None`, as `lines` of a reader, use `convert_fused`.
+/// For a std iterator that may go on after a `None`, as `lines` of a reader, use `convert_fused`.
 ///
 /// ```
 /// # use fallible_iterator::{FallibleIterator, convert};
