@@ -2,6 +2,7 @@
 import re
 from collections import defaultdict
 
+import counters
 from source import Refused, code, functions
 
 # What is not word for word the proved body and no file of `bodies`: the file, the function, what, and why. Each row is used.
@@ -15,7 +16,8 @@ REASONS = [
     (r"sources/std_fold\.rs", r".*Progressing\.(next|next_back)", "left out", "no fold needs `Progressing`"),
     (r"fallible_core/traits/b\w+\.rs", r".*\.(drive|drive_back)", "left out",
      "`I` may have no size; the trait's own loop serves"),
-    (r"fallible_core/number\.rs", r"Drop for Number\.drop", "left out", "it only takes the value apart"),
+    (r"fallible_core/number\.rs", r".*Number\.(drop|one_less)", "left out", "a number has no bytes"),
+    (r"fallible_core/traits\.rs", r"FallibleIterator\.number", "left out", "a number has no bytes"),
     (r"fallible_core/traits\.rs", r"From for Stop\.from", "new", "why a caller's fold stopped"),
     (r"fallible_core/traits\.rs", r"FallibleIterator\.nth", "left out", "it only calls what is now `nth`"),
     (r"by_drive\.rs", r"try_fold|try_rfold|find", "new", "in each impl that writes a hidden fold, by a macro: they call it"),
@@ -35,12 +37,12 @@ def by_name(s):
 
 
 def body(s, f):
-    """A function's body, or none where it has none."""
-    return None if f.open is None else code(s[f.open:f.end])
+    """A function's body, or none where it has none. What only counts down is no part of it."""
+    return None if f.open is None else counters.without(f.name, s[f.start:f.open], s[f.open:f.end])
 
 
 def differences(written, source):
-    """Yields each function of the two texts, and how what is written differs, if it does."""
+    """Yields each function of the two texts, how what is written differs, if it does, and whether the proved one counts down."""
     ours, proved = by_name(written), by_name(source)
     for name in dict.fromkeys([*proved, *ours]):
         pairs = max(len(ours[name]), len(proved[name]))
@@ -48,19 +50,21 @@ def differences(written, source):
             new = body(written, ours[name][k]) if k < len(ours[name]) else None
             old = body(source, proved[name][k]) if k < len(proved[name]) else None
             if old is not None or new is not None:
+                counts = old is not None and old != code(source[proved[name][k].open:proved[name][k].end])
                 yield name, (None if new == old else "new" if old is None else
-                             "left out" if new is None else "changed")
+                             "left out" if new is None else "changed"), counts
 
 
 def compare(files, sources, bodies):
-    """How many bodies are word for word the proved ones, and the others by how they differ and why. Each body of `bodies` is
-    another than the proved one."""
-    same, rows, used = 0, defaultdict(list), set()
+    """How many bodies are word for word the proved ones, how many of them but for what counts down, and the others by how they
+    differ and why. Each body of `bodies` is another than the proved one."""
+    same, counting, rows, used = 0, 0, defaultdict(list), set()
     for path in sorted({*files, *sources}):
-        for name, how in differences(files.get(path, ""), sources.get(path, "")):
+        for name, how, counts in differences(files.get(path, ""), sources.get(path, "")):
             own = bodies.get((path, re.sub(r"[^\w.]", "", name.split(" for ")[-1])))
             if how is None:
                 same += 1
+                counting += counts
             elif own and own.how == how:
                 used.add(own)
                 rows[how, own.why].append(name)
@@ -74,7 +78,7 @@ def compare(files, sources, bodies):
     for body in set(bodies.values()) - used:
         raise Refused("%s:1: compare: `%s` is the proved body" % (body.place, body.name))
     USED.update(used)
-    return same, rows
+    return (same, counting), rows
 
 
 USED = set()
@@ -86,10 +90,11 @@ def table(same, rows):
         if row not in USED:
             raise Refused("compare: no body is of the row %r" % (row,))
     lines = []
-    for crate, alike in same.items():
+    for crate, (alike, counting) in same.items():
         cells = ["| %s | %s | %s |" % (", ".join("`%s`" % x.split(" for ")[-1] for x in names), *reason)
                  for reason, names in sorted(rows[crate].items())]
         unlike = sum(map(len, rows[crate].values()))
-        lines += ["In `%s` %d bodies are word for word the proved ones. %d are not:" % (crate, alike, unlike),
+        lines += ["In `%s` %d bodies are word for word the proved ones, %d of them but for a number that counts down. %d are not:"
+                  % (crate, alike, counting, unlike),
                   "", "| Body | How | Why |", "|---|---|---|", *cells, ""]
     return "\n".join(lines[:-1])

@@ -48,7 +48,6 @@ ITERATOR = [
     # What Rust writes otherwise.
     (r"fallible_core/one_to_one/map\.rs", r"fn fmt<W: fmt::Write>\(&self, f: &mut fmt::Formatter<W>\)",
      "fn fmt(&self, f: &mut fmt::Formatter<'_>)", 1),
-    (r"fallible_core/number\.rs", r"\{Model, PhantomData\}", "PhantomData", 1),
     (r"fallible_core/bridges/unwrap\.rs", r"(core::iter::Iterator for Unwrap<I>) \{",
      r"\1\nwhere\n    I::Error: core::fmt::Debug,\n{", 1),
     (r"fallible_core/joining/flat_map\.rs", r"^ *#\[derive_where\(.*\)\]\n", "", 3),
@@ -63,7 +62,7 @@ ITERATOR = [
      HEAD + "mod by_drive;\npub mod fallible_contract;\npub mod fallible_core;\npub mod memory;\n", 1),
     # What users need not see.
     (r"lib\.rs", r"^pub mod (?!prelude)\w+;", r"#[doc(hidden)]\n\g<0>", 7),
-    (r"lib\.rs", r"^pub use .*(?:answers::|folds::Turn;|searching::Test;|\{Collect, Fault|Number;)", r"#[doc(hidden)]\n\g<0>", 5),
+    (r"lib\.rs", r"^pub use .*(?:answers::|folds::Turn;|searching::Test;|\{Collect, Fault)", r"#[doc(hidden)]\n\g<0>", 4),
 ]
 
 GROUPS = r"(?:chunks|chunk_by)\.rs"

@@ -78,9 +78,8 @@ class Refusals(unittest.TestCase):
         self.assertFalse(self.out.exists())
 
     def test_an_item_stands_twice(self):
-        self.edit(CORE + "number.rt", "use std::marker::{Model, PhantomData};",
-                  "use std::marker::{Model, PhantomData};\nuse std::marker::{Model, PhantomData};")
-        self.refused(CORE + "number.rt:", "fits 2 times, not 1")
+        self.edit(CORE + "lib.rt", "pub mod number;", "pub mod number;\npub mod number;")
+        self.refused(CORE + "lib.rt:", "fits 2 times, not 1")
         self.assertFalse(self.out.exists())
 
     def test_a_file_is_missing(self):
@@ -93,9 +92,28 @@ class Refusals(unittest.TestCase):
         self.refused(CORE + "number.rt:", "a `drop` that does something")
         self.assertFalse(self.out.exists())
 
+    def test_a_number_is_more_than_counted_down(self):
+        self.edit(CORE + "joining/flatten.rt", "left = left.one_less();", "left = tell(left.one_less());")
+        self.refused(CORE + "joining/flatten.rt:", "`left` is used for more than to count down")
+        self.assertFalse(self.out.exists())
+
     def test_a_body_is_changed_for_no_reason(self):
         self.edit(CORE + "ends/rev.rt", "self.it.next_back()", "std::convert::identity(self.it.next_back())")
         self.refused("fallible_core/ends/rev.rs", "is changed, and no file of")
+        self.assertFalse(self.out.exists())
+
+    def test_a_paragraph_is_like_one_of_a_kind(self):
+        file = self.tree / CORE / "traits.rt"
+        line = file.read_text(encoding="utf-8").split("\n").index("    /// Requires: `next` may be called.") + 1
+        for old, new in (("Requires:", "Requires that"), ("Requires that", "requires:"), ("requires:", "In a proof,"),
+                         ("In a proof,", "Memory;"), ("Memory;", "It requires that")):
+            self.edit(CORE + "traits.rt", "    /// %s `next` may be called." % old, "    /// %s `next` may be called." % new)
+            self.refused(CORE + "traits.rt:%d: docs: %s `next` may" % (line, new), "begins with `Requires:`")
+        self.assertFalse(self.out.exists())
+
+    def test_an_example_stands_nowhere(self):
+        self.edit(CORE + "peeking/peek.rt", "    /// assert_eq!(", "    /// assert_ne!(")
+        self.refused(CORE + "peeking/peek.rt:", "no file of release/examples/src has these lines")
         self.assertFalse(self.out.exists())
 
     def test_the_folder_holds_something_else(self):

@@ -3,6 +3,7 @@ import re
 from collections import namedtuple
 from pathlib import Path
 
+import counters
 import erase
 import overrides
 from source import functions, label_of, tokens
@@ -108,6 +109,7 @@ def as_rust(text):
         text.replace(end - 1, end, "")
         text.replace(m.start(), m.end(), "")
     overrides.of_tests(text)
+    counters.of_file(text)
 
 
 def items(text):

@@ -26,7 +26,9 @@ pub trait Collect<T>: Drop + Sized {
     fn empty(alloc: Global) -> Result<Self, AllocError>
         ensures { MatchResult result (made []) (λ _. empty_refuses) };
 
-    /// Appends one item to the others. If it fails, an allocation failed, and the item is dropped.
+    /// Appends one item to the others.
+    ///
+    /// Memory: if it fails, an allocation failed, and the item is dropped.
     fn push_one(&mut self, item: T) -> Result<(), AllocError>
         ensures { MatchResult result
             (λ _. (items : List T) → made items self.old → made (items ++ item ∷ []) self.new)
@@ -47,7 +49,7 @@ impl<E> From<E> for Fault<E> {
 
     ghost from_gives = { λ e fault. fault ≡ Source e };
 
-    /// `Fault::Source`
+    /// The source's failure.
     fn from(error: E) -> Fault<E> {
         Fault::Source(error)
     }

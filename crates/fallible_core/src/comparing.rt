@@ -41,7 +41,9 @@ where
     }
 }
 
-/// Returns the two, and a bound of one of them, for a loop of rounds of one's own to count down by.
+/// Returns the two, for a loop of rounds of one's own.
+///
+/// Proof: a bound of one of them comes with them, to count down by.
 pub fn number_of_either<L, R>(left: L, right: R) -> (L, R, Number)
 where
     L: FallibleIterator,

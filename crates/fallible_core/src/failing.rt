@@ -55,7 +55,9 @@ where
     failed(it.drive_back(state, turn), p, adapter)
 }
 
-/// The fold from the front of an adapter by which a failure may become an item, nothing or another failure: the source's fold up to a failure, and the turn on that; and again, if that turn goes on. Each further fold of the source has fewer draws to make, by the bound `left`.
+/// The fold from the front of an adapter by which a failure may become an item, nothing or another failure: the source's fold up to a failure, and the turn on that; and again, if that turn goes on.
+///
+/// Proof: each further fold of the source has fewer draws to make, by the bound `left`.
 pub fn drive_recovering<
     I: FallibleIterator,
     P,

@@ -76,7 +76,9 @@ use std::ops::ControlFlow;
 
 /// An iterator whose `next` may fail. It may go on after `Ok(None)` and after a failure.
 ///
-/// A type of one's own writes `next`, `size_hint` and `contract`: its step, and what it says of what is still to come. `counted_contract` of `specs/Contract` makes that of a step and a bound, and a search then finds `lawful`; `listing` of `specs/Showing` makes it of the list that a value shows.
+/// A type of one's own writes `next` and `size_hint`, which has a default in Rust.
+///
+/// Proof: it also writes `contract`: its step, and what it says of what is still to come. `counted_contract` of `specs/Contract` makes that of a step and a bound, and a search then finds `lawful`; `listing` of `specs/Showing` makes it of the list that a value shows.
 pub trait FallibleIterator: Drop + Sized {
     /// The type of its items.
     type Item;
@@ -87,11 +89,13 @@ pub trait FallibleIterator: Drop + Sized {
     // All that the contract says of the values of this type.
     ghost contract: { Contract Self Self.Item Self.Error };
 
-    /// Returns the next item, a failure or `Ok(None)`. The step of the type says which.
+    /// Returns the next item, a failure or `Ok(None)`.
     ///
-    /// It is one draw. It fails where the step says so. What is left is what the step says; by the type's law `next` may be called again.
+    /// It is one draw. After that `next` may be called again.
     ///
-    /// Requires that the type's own condition, `can_next`, holds: a search finds it for what sources and adapters make, and each draw keeps it.
+    /// Requires: the type's own condition, `can_next`, holds. A search finds it for what sources and adapters make, and each draw keeps it.
+    ///
+    /// Proof: the type's step says what it returns, where it fails and what is left. That `next` may be called again is the type's law.
     ///
     /// ```
     /// let mut it = convert([Ok::<u32, u8>(150), Err(9)].into_iter());
@@ -102,9 +106,11 @@ pub trait FallibleIterator: Drop + Sized {
         requires { contract.can_next self.old }
         ensures { contract.steps self.old result self.new };
 
-    /// Returns bounds on the number of items up to the first `Ok(None)`, if no failure comes before it, by the type's rule. The clause says the rule; that such bounds hold is said by `laws::hints` of `fallible_iterator`. A type that knows no bounds returns `(0, None)`.
+    /// Returns bounds on the number of items up to the first `Ok(None)`, if no failure comes before it. A type that knows no bounds returns `(0, None)`.
     ///
     /// It draws nothing and never fails. The iterator is as before.
+    ///
+    /// Proof: the clause says the type's rule. That such bounds hold is said by `laws::hints` of `fallible_iterator`.
     ///
     /// ```
     /// let mut it = once::<u32, u8>(150);
@@ -115,13 +121,13 @@ pub trait FallibleIterator: Drop + Sized {
     fn size_hint(&self) -> (usize, Option<usize>)
         ensures { contract.hints self.now result };
 
-    /// Returns a bound, for a loop of one's own to count down by. It has no bytes, and only clauses read it.
-    ///
-    /// `let mut left = it.number();` before the loop, `left = left.one_less();` after each item, and `left.value` as the measure. The invariant is that `next` may be called, and that some bound of the iterator is at most `left.value`.
+    /// Returns a bound, for a loop of one's own to count down by. It has no bytes.
     ///
     /// It draws nothing and never fails. The iterator is as before.
     ///
-    /// Requires that the iterator is finite.
+    /// Precondition: the iterator is finite.
+    ///
+    /// Proof: only clauses read it. `let mut left = it.number();` stands before the loop, `left = left.one_less();` after each item, and `left.value` is the measure. The invariant is that `next` may be called, and that some bound of the iterator is at most `left.value`.
     ///
     /// ```
     /// let mut left = (*it).number();
@@ -183,9 +189,13 @@ pub trait FallibleIterator: Drop + Sized {
 
     /// Returns the number of items up to `Ok(None)`.
     ///
-    /// It draws up to `Ok(None)` or the first failure. It fails with that failure. It consumes the iterator, and no clause says what is left.
+    /// It draws up to `Ok(None)` or the first failure. It fails with that failure. It consumes the iterator.
     ///
-    /// Requires that `next` may be called, and that at most `usize::MAX` items are left.
+    /// Precondition: at most `usize::MAX` items are left.
+    ///
+    /// Requires: `next` may be called.
+    ///
+    /// Proof: no clause says what is left.
     ///
     /// ```
     /// let readings = [Ok::<u32, u8>(150), Ok(7), Ok(700)];
@@ -229,7 +239,9 @@ pub trait FallibleIterator: Drop + Sized {
     ///
     /// Draws and errors: as `count`. It consumes the iterator too.
     ///
-    /// Requires that `next` may be called and that the iterator is finite.
+    /// Precondition: the iterator is finite.
+    ///
+    /// Requires: `next` may be called.
     ///
     /// ```
     /// let readings = [Ok::<u32, u8>(150), Ok(7), Ok(700)];
@@ -272,7 +284,7 @@ pub trait FallibleIterator: Drop + Sized {
     ///
     /// It draws at most n + 1 times: up to that item, or a failure or `Ok(None)` before it. It fails with that failure. Nothing is drawn after that, and the iterator may be used again.
     ///
-    /// Requires that `next` may be called.
+    /// Requires: `next` may be called.
     ///
     /// ```
     /// let mut it = convert([Ok::<u32, u8>(0), Ok(1), Ok(2), Err(9), Ok(4)].into_iter());
@@ -296,7 +308,9 @@ pub trait FallibleIterator: Drop + Sized {
     ///
     /// It draws up to `Ok(None)`, the first failure or an item on which the closure fails. It fails with the iterator's failure, converted, or with the closure's error. Nothing is drawn after that, and the iterator may be used again.
     ///
-    /// Requires that `next` may be called and that the iterator is finite, and that the closure may be called on the value so far and each item that may come.
+    /// Precondition: the iterator is finite.
+    ///
+    /// Requires: `next` may be called, and the closure may be called on the value so far and each item that may come.
     ///
     /// ```
     /// let mut it = convert([Ok::<u8, &str>(100), Ok(100), Ok(100), Ok(7)].into_iter());
@@ -341,9 +355,13 @@ pub trait FallibleIterator: Drop + Sized {
 
     /// As `try_fold`, but the closure fails with the iterator's own error, and the iterator is consumed.
     ///
-    /// It draws up to `Ok(None)`, the first failure or an item on which the closure fails. It fails with the first failure, of this iterator or of the closure. No clause says what is left.
+    /// It draws up to `Ok(None)`, the first failure or an item on which the closure fails. It fails with the first failure, of this iterator or of the closure.
     ///
-    /// Requires what `try_fold` requires.
+    /// Precondition: the iterator is finite.
+    ///
+    /// Requires: what `try_fold` requires.
+    ///
+    /// Proof: no clause says what is left.
     ///
     /// ```
     /// let readings = [Ok::<u32, u8>(150), Ok(7), Ok(700)];
@@ -426,7 +444,7 @@ pub trait FallibleIterator: Drop + Sized {
     ///
     /// Creating it draws nothing and calls nothing. `next` draws once. It fails as the source does. If the closure fails, its failure is yielded, and the item is lost. After a failure and after `Ok(None)` the next call draws again.
     ///
-    /// Requires that the closure may be called on each item that may come, in each state that such calls bring it to.
+    /// Requires: the closure may be called on each item that may come, in each state that such calls bring it to.
     ///
     /// ```
     /// let readings = [Ok::<u32, u8>(150), Ok(7), Ok(700)];
@@ -454,7 +472,9 @@ pub trait FallibleIterator: Drop + Sized {
     ///
     /// Creating it draws nothing and calls nothing. `next` draws until an item is kept, or a failure or `Ok(None)` comes. It fails as the source does. If the predicate fails, its failure is yielded, and the item is lost. After a failure and after `Ok(None)` the next call draws again.
     ///
-    /// Requires that the iterator is finite, since one call may leave many items out, and of the predicate what `map` requires of its closure. `next` requires `Item: Drop`.
+    /// Precondition: the iterator is finite, since one call may leave many items out.
+    ///
+    /// Requires: of the predicate what `map` requires of its closure. `next` requires `Item: Drop`.
     ///
     /// ```
     /// let readings = [Ok::<u32, u8>(150), Ok(7), Err(9), Ok(700)];
@@ -505,7 +525,7 @@ pub trait FallibleIterator: Drop + Sized {
     ///
     /// Up to the rejected item: laziness, draws, errors and behaviour after `Ok(None)` as `map`. After that item it draws nothing, and each call returns `Ok(None)`.
     ///
-    /// Requires of the predicate what `map` requires of its closure. `next` requires `Item: Drop`.
+    /// Requires: of the predicate what `map` requires of its closure. `next` requires `Item: Drop`.
     ///
     /// ```
     /// let readings = [Ok::<u32, u8>(150), Ok(7), Ok(700)];
@@ -563,7 +583,7 @@ pub trait FallibleIterator: Drop + Sized {
     ///
     /// Creating it draws nothing. `next` draws at most n + 1 times. It fails as the source does. A failure or an `Ok(None)` among the first n items is returned, and the rest of them is skipped after it.
     ///
-    /// Requires nothing. `next` requires `Item: Drop`.
+    /// Requires: nothing. `next` requires `Item: Drop`.
     ///
     /// ```
     /// let readings = [Ok::<u32, u8>(150), Err(9), Ok(7), Ok(700)];
@@ -587,7 +607,9 @@ pub trait FallibleIterator: Drop + Sized {
     ///
     /// Creating it draws nothing. `next` draws at most `step` times. It fails as the source does. After a failure and after `Ok(None)` it goes on counting.
     ///
-    /// Requires that the step is at least 1. `next` requires `Item: Drop`.
+    /// In Rust it panics if the step is 0.
+    ///
+    /// Requires: the step is at least 1. `next` requires `Item: Drop`.
     ///
     /// ```
     /// let numbers = [Ok::<u32, u8>(0), Ok(1), Ok(2), Ok(3), Ok(4)];
@@ -615,7 +637,9 @@ pub trait FallibleIterator: Drop + Sized {
     ///
     /// Laziness, draws, errors and behaviour after `Ok(None)`: as `filter`.
     ///
-    /// Requires that the iterator is finite, as `filter` does, and of the closure what `map` requires.
+    /// Precondition: the iterator is finite, as for `filter`.
+    ///
+    /// Requires: of the closure what `map` requires.
     ///
     /// ```
     /// let words = [Ok::<&str, u8>("150"), Ok("none"), Err(9), Ok("700")];
@@ -641,7 +665,7 @@ pub trait FallibleIterator: Drop + Sized {
     ///
     /// Laziness, draws, errors and behaviour after `Ok(None)`: as `map`.
     ///
-    /// Requires what `map` requires, of calls on a reference to each item. `next` requires `Item: Drop`.
+    /// Requires: what `map` requires, of calls on a reference to each item. `next` requires `Item: Drop`.
     ///
     /// ```
     /// let readings = [Ok::<u32, u8>(150), Err(9), Ok(700)];
@@ -670,7 +694,7 @@ pub trait FallibleIterator: Drop + Sized {
     ///
     /// Laziness, draws and behaviour after `Ok(None)`: as `map`. It fails where the source does, with what the closure returns.
     ///
-    /// Requires that the closure may be called on each failure that may come.
+    /// Requires: the closure may be called on each failure that may come.
     ///
     /// ```
     /// let readings = [Ok::<u32, u8>(150), Err(9)];
@@ -694,7 +718,9 @@ pub trait FallibleIterator: Drop + Sized {
     ///
     /// Laziness, draws and behaviour after `Ok(None)`: as `map`. It fails as the source does.
     ///
-    /// Requires that at most `usize::MAX` items are still to come, so that each number fits. `next` requires `Item: Drop`, and so do its `count` and `nth`.
+    /// Precondition: at most `usize::MAX` items are still to come, so that each number fits.
+    ///
+    /// Requires: nothing else. `next` requires `Item: Drop`, and so do its `count` and `nth`.
     ///
     /// ```
     /// let letters = [Ok::<char, u8>('a'), Err(9), Ok('b')];
@@ -720,7 +746,9 @@ pub trait FallibleIterator: Drop + Sized {
     ///
     /// Laziness, draws, errors and behaviour after `Ok(None)`: as `filter`. If the predicate fails, the skipping goes on.
     ///
-    /// Requires that the iterator is finite, as `filter` does, and that the predicate may be called on a reference to each item that may come until it first returns false. `next` requires `Item: Drop`.
+    /// Precondition: the iterator is finite, as for `filter`.
+    ///
+    /// Requires: the predicate may be called on a reference to each item that may come until it first returns false. `next` requires `Item: Drop`.
     ///
     /// ```
     /// let readings = [Ok::<u32, u8>(7), Ok(150), Ok(8)];
@@ -774,7 +802,7 @@ pub trait FallibleIterator: Drop + Sized {
     ///
     /// Laziness, draws, errors and behaviour after `Ok(None)`: as `map`, also after a `None` of the closure. The state stays as the closure left it.
     ///
-    /// Requires that the closure may be called on each item that may come, with each state that such calls lead to.
+    /// Requires: the closure may be called on each item that may come, with each state that such calls lead to.
     ///
     /// ```
     /// let readings = [Ok::<u32, u8>(150), Ok(7), Ok(700)];
@@ -810,7 +838,9 @@ pub trait FallibleIterator: Drop + Sized {
 
     /// Yields a clone of what each item points to.
     ///
-    /// Laziness, draws and behaviour after `Ok(None)`: as `map`. It fails as the source does. If a clone can't be allocated, the failure converted from `AllocError` is yielded, and the item is lost.
+    /// Laziness, draws and behaviour after `Ok(None)`: as `map`. It fails as the source does.
+    ///
+    /// Memory: if a clone can't be allocated, the failure converted from `AllocError` is yielded, and the item is lost.
     ///
     /// ```
     /// let readings = [150, 7];
@@ -836,7 +866,7 @@ pub trait FallibleIterator: Drop + Sized {
     ///
     /// Each call draws once, from the other end. It fails as that draw does. Laziness and behaviour after `Ok(None)`: as `map`.
     ///
-    /// Requires nothing. `next` requires that `next` and `next_back` may be called on the source.
+    /// Requires: nothing. `next` requires that `next` and `next_back` may be called on the source.
     ///
     /// ```
     /// let readings = [Ok::<u32, u8>(150), Ok(7), Err(9)];
@@ -857,9 +887,11 @@ pub trait FallibleIterator: Drop + Sized {
 
     /// Yields what this iterator yields up to its first `Ok(None)`, and then what `it` yields.
     ///
-    /// Creating it draws nothing. It calls `into_fallible_iter` once, and keeps the iterator. `next` draws once; if that draw is the first `Ok(None)`, it draws `it` in the same call. It fails as the side does that is drawn. A failure passes, and changes no side. From the first `Ok(None)` on only `it` is drawn.
+    /// Creating it draws nothing. It keeps the iterator that `it` becomes. `next` draws once; if that draw is the first `Ok(None)`, it draws `it` in the same call. It fails as the side does that is drawn. A failure passes, and changes no side. From the first `Ok(None)` on only `it` is drawn.
     ///
-    /// Requires nothing. `next` requires that it may be called on both sides.
+    /// Requires: nothing. `next` requires that it may be called on both sides.
+    ///
+    /// Proof: `into_fallible_iter` is called once.
     ///
     /// ```
     /// let first = convert([Ok::<u32, u8>(150), Err(9)].into_iter());
@@ -890,7 +922,7 @@ pub trait FallibleIterator: Drop + Sized {
     ///
     /// Laziness: as `chain`. `next` draws once. Then, unless that failed, it draws `o` once, also after an `Ok(None)`. It fails as this iterator does, or else as `o` does. An item beside a failure or an `Ok(None)` is lost, and the next call draws both again.
     ///
-    /// Requires nothing. `next` requires that it may be called on both sides, and `Item: Drop`.
+    /// Requires: nothing. `next` requires that it may be called on both sides, and `Item: Drop`.
     ///
     /// ```
     /// let letters = convert([Ok::<char, u8>('a'), Ok('b'), Ok('c')].into_iter());
@@ -929,7 +961,9 @@ pub trait FallibleIterator: Drop + Sized {
     ///
     /// Creating it draws nothing. `next` draws the current inner iterator, and this one only if there is no current one, or it ended. It fails as either does. After a failure of the inner iterator it stays the current one. After a failure or an `Ok(None)` of this iterator the next call draws this iterator again.
     ///
-    /// Requires that the iterator is finite, since many inner iterators may end in one call. `next` requires that it may be called on the current inner iterator and on each that may come. A drain also requires that the current one is finite, and one bound that serves for each that may come.
+    /// Precondition: the iterator is finite, since many inner iterators may end in one call.
+    ///
+    /// Requires: nothing else. `next` requires that it may be called on the current inner iterator and on each that may come. A drain also requires that the current one is finite, and one bound that serves for each that may come.
     ///
     /// ```
     /// let inner = [
@@ -966,7 +1000,9 @@ pub trait FallibleIterator: Drop + Sized {
     ///
     /// Laziness, draws, errors and behaviour after `Ok(None)`: as `flatten` of `map`.
     ///
-    /// Requires what `flatten` requires, at its creation, at `next` and at a drain, and of the closure what `map` requires.
+    /// Precondition: the iterator is finite, as for `flatten`.
+    ///
+    /// Requires: what `flatten` requires, at its creation, at `next` and at a drain, and of the closure what `map` requires.
     ///
     /// ```
     /// let bounds = [Ok(2), Ok(0), Ok(1)];
@@ -999,13 +1035,17 @@ pub trait FallibleIterator: Drop + Sized {
         }
     }
 
-    /// Returns a collection of the items up to `Ok(None)`. Of equal items a set keeps the first; a map keeps the first of equal keys, with its last value.
+    /// Returns a collection of the items up to `Ok(None)`. In Rattle a set keeps the first of equal items, and a map the first of equal keys with its last value; so do the collections of `partition` and `unzip`. In Rust that is the collection's own rule.
     ///
-    /// It draws up to `Ok(None)`, the first failure or an item that the collection rejects. Tested, not proved: the collection is created before the first draw, so nothing is drawn if that fails, and no capacity is reserved.
+    /// It draws up to `Ok(None)` or the first failure. It fails with that failure. It consumes the iterator.
     ///
-    /// It fails with `Fault::Source` of the first failure. It fails with `Fault::Memory` if the collection fails with an `AllocError`: at its creation, if that of its type may fail, or at the last item drawn. For a collection that never fails `Fault::Memory` is never returned. It consumes the iterator, and no clause says what is left.
+    /// Precondition: the iterator is finite.
     ///
-    /// Requires that `next` may be called and that the iterator is finite.
+    /// Requires: `next` may be called.
+    ///
+    /// Memory: that failure is a `Fault::Source`. It also stops at an item that the collection rejects. It fails with `Fault::Memory` if the collection fails with an `AllocError`: at its creation, if that of its type may fail, or at the last item drawn. For a collection that never fails `Fault::Memory` is never returned. Tested, not proved: the collection is created before the first draw, so nothing is drawn if that fails, and no capacity is reserved.
+    ///
+    /// Proof: no clause says what is left.
     ///
     /// ```
     /// let readings = [Ok::<u32, u8>(150), Ok(7), Ok(700)];
@@ -1042,11 +1082,15 @@ pub trait FallibleIterator: Drop + Sized {
         }
     }
 
-    /// Returns two collections of the items up to `Ok(None)`: of those for which the predicate returns true, and of the others. The predicate is called once on each item. Of equal items they keep what `collect` keeps.
+    /// Returns two collections of the items up to `Ok(None)`: of those for which the predicate returns true, and of the others. The predicate is called once on each item.
     ///
-    /// Draws and errors: as `collect`. It consumes the iterator too. If the predicate fails, it stops and fails with `Fault::Source` of that failure.
+    /// Draws and errors: as `collect`. It consumes the iterator too. If the predicate fails, it stops and fails with that failure.
     ///
-    /// Requires that `next` may be called and that the iterator is finite, and that the predicate may be called on each item that may come.
+    /// Precondition: the iterator is finite.
+    ///
+    /// Requires: `next` may be called, and the predicate may be called on each item that may come.
+    ///
+    /// Memory: that failure is a `Fault::Source` too.
     ///
     /// ```
     /// let readings = [Ok::<u32, u8>(150), Ok(7), Ok(700)];
@@ -1096,9 +1140,11 @@ pub trait FallibleIterator: Drop + Sized {
         }
     }
 
-    /// Returns the first halves of the pairs up to `Ok(None)` in one collection, and the second halves in another. Of equal items they keep what `collect` keeps.
+    /// Returns the first halves of the pairs up to `Ok(None)` in one collection, and the second halves in another.
     ///
-    /// Draws, errors and precondition: as `collect`. It consumes the iterator too. Before a failure of the source all pairs were accepted. A pair that is rejected is lost.
+    /// Draws, errors and precondition: as `collect`. It consumes the iterator too.
+    ///
+    /// Memory: before a failure of the source all pairs were accepted. A pair that is rejected is lost.
     ///
     /// ```
     /// let pairs = [Ok::<(u32, char), u8>((1, 'a')), Ok((2, 'b'))];
@@ -1148,7 +1194,9 @@ pub trait FallibleIterator: Drop + Sized {
     ///
     /// Draws and errors: as `fold`. It consumes the iterator too.
     ///
-    /// Requires that `next` may be called and that the iterator is finite, and that the closure may be called on each item that may come.
+    /// Precondition: the iterator is finite.
+    ///
+    /// Requires: `next` may be called, and the closure may be called on each item that may come.
     ///
     /// ```
     /// let readings = [Ok::<u32, u8>(150), Err(9), Ok(700)];
@@ -1180,7 +1228,9 @@ pub trait FallibleIterator: Drop + Sized {
     ///
     /// It draws up to the first item on which the predicate returns false or fails, the first failure or `Ok(None)`. It fails with the first failure, of this iterator or of the predicate. Nothing is drawn after that, and the iterator may be used again.
     ///
-    /// Requires that `next` may be called and that the iterator is finite, and that the predicate may be called on each item that may come until it decides.
+    /// Precondition: the iterator is finite.
+    ///
+    /// Requires: `next` may be called, and the predicate may be called on each item that may come until it decides.
     ///
     /// ```
     /// let mut it = convert([Ok::<u32, u8>(150), Ok(7), Err(9)].into_iter());
@@ -1301,7 +1351,11 @@ pub trait FallibleIterator: Drop + Sized {
 
     /// Returns how many items come before the first one for which the predicate returns true; `Ok(None)` if there is none.
     ///
-    /// It draws up to the first item on which the predicate returns true or fails, the first failure or `Ok(None)`. Instead of a bound it requires that at most `usize::MAX` items are left. Errors, what is left and the rest of the precondition: as `all`.
+    /// It draws up to the first item on which the predicate returns true or fails, the first failure or `Ok(None)`. Errors and what is left: as `all`.
+    ///
+    /// Precondition: at most `usize::MAX` items are left.
+    ///
+    /// Requires: what `all` requires, but no bound.
     ///
     /// ```
     /// let mut it = convert([Ok::<u32, u8>(7), Ok(150), Ok(700)].into_iter());
@@ -1332,7 +1386,9 @@ pub trait FallibleIterator: Drop + Sized {
     ///
     /// Draws and errors: as `count`. It consumes the iterator too.
     ///
-    /// Requires that `next` may be called and that the iterator is finite.
+    /// Precondition: the iterator is finite.
+    ///
+    /// Requires: `next` may be called.
     ///
     /// ```
     /// let readings = [Ok::<u32, u8>(150), Ok(700), Ok(7)];
@@ -1376,7 +1432,9 @@ pub trait FallibleIterator: Drop + Sized {
     ///
     /// Draws and errors: as `fold`. It consumes the iterator too.
     ///
-    /// Requires that `next` may be called and that the iterator is finite, and that the closure may be called on each item that may come.
+    /// Precondition: the iterator is finite.
+    ///
+    /// Requires: `next` may be called, and the closure may be called on each item that may come.
     ///
     /// ```
     /// let words = [Ok::<&str, u8>("to"), Ok("the"), Ok("sea")];
@@ -1434,7 +1492,9 @@ pub trait FallibleIterator: Drop + Sized {
     ///
     /// Draws and errors: as `fold`. It consumes the iterator too.
     ///
-    /// Requires that `next` may be called and that the iterator is finite, and that the closure may be called on the best item so far and each item that may come.
+    /// Precondition: the iterator is finite.
+    ///
+    /// Requires: `next` may be called, and the closure may be called on the best item so far and each item that may come.
     ///
     /// ```
     /// let pairs = [Ok::<(u32, char), u8>((1, 'a')), Ok((3, 'b')), Ok((3, 'c'))];
@@ -1484,9 +1544,13 @@ pub trait FallibleIterator: Drop + Sized {
 
     /// Compares two iterators by the order of their items. The first two that aren't equal decide. If there are none, the side that ends alone is less.
     ///
-    /// It draws in rounds, this iterator and then the other, until a failure, an `Ok(None)` or two items that decide. If this one returned `Ok(None)`, the other is still drawn in that round; if this one failed, it is not. It fails with the first failure: in each round one of this iterator comes before one of the other. It consumes both, and no clause says what is left.
+    /// It draws in rounds, this iterator and then the other, until a failure, an `Ok(None)` or two items that decide. If this one returned `Ok(None)`, the other is still drawn in that round; if this one failed, it is not. It fails with the first failure: in each round one of this iterator comes before one of the other. It consumes both.
     ///
-    /// Requires that `next` may be called on both sides and that one of the two is finite.
+    /// Precondition: one of the two is finite.
+    ///
+    /// Requires: `next` may be called on both sides.
+    ///
+    /// Proof: no clause says what is left.
     ///
     /// ```
     /// let left = convert([Ok::<u32, u8>(1), Ok(2), Err(9)].into_iter());
@@ -1734,9 +1798,13 @@ pub trait FallibleIterator: Drop + Sized {
     ///
     /// Creating it makes one clone, for the first run, and draws nothing. `next` draws once, and at a run's `Ok(None)` once more, from a fresh clone.
     ///
-    /// If the clone for the first run can't be allocated, this iterator is dropped and the call returns `Err(AllocError)`. `next` fails as the run does. If a later clone can't be allocated, it fails with the failure converted from `AllocError`. The run goes on after either. It states no bound, so it is drained through `take`.
+    /// `next` fails as the run does, and the run goes on after that. It may have no end, and is drained through `take`.
     ///
-    /// Requires that `next` may be called on each of its clones, as is so if clones equal their originals.
+    /// Requires: `next` may be called on each of its clones, as is so if clones equal their originals.
+    ///
+    /// Memory: if the clone for the first run can't be allocated, this iterator is dropped and the call returns `Err(AllocError)`. If a later clone can't be allocated, `next` fails with the failure converted from `AllocError`, and the run goes on after that.
+    ///
+    /// Proof: it states no bound.
     ///
     /// ```
     /// let readings = convert([Ok::<u32, AllocError>(150), Ok(7)].into_iter());
@@ -1762,9 +1830,11 @@ pub trait FallibleIterator: Drop + Sized {
 
     /// Returns what `next` returns. Over a list it is the first.
     ///
-    /// It is one draw, and fails as `next` does. `next` may be called again, which the clauses of `next` don't say: so a proof that draws several times by hand goes on by itself. Over a list it leaves the rest.
+    /// It is one draw, and fails as `next` does. `next` may be called again. Over a list it leaves the rest.
     ///
-    /// Requires that `next` may be called.
+    /// Requires: `next` may be called.
+    ///
+    /// Proof: the clauses of `next` don't say that it may be called again. So a caller that draws several times by hand takes this call, and its proof goes on by itself.
     ///
     /// ```
     /// let mut it = convert([Ok::<u32, u8>(150), Err(9)].into_iter());
@@ -1804,7 +1874,7 @@ pub trait FallibleIterator: Drop + Sized {
     ///
     /// Creating it draws nothing. Its `next` draws once, and never fails. After a `None` it draws again.
     ///
-    /// Requires nothing. A std loop over it requires a bound on the items and failures together. `convert` and `into_fallible` have one if their std iterator does, and so have the adapters over them but `flatten`, `flat_map` and `cycle`; `chain` and `zip` if both sides have. If there is none, std's `take` makes one.
+    /// Requires: nothing. A std loop over it requires a bound on the items and failures together. `convert` and `into_fallible` have one if their std iterator does, and so have the adapters over them but `flatten`, `flat_map` and `cycle`; `chain` and `zip` if both sides have. If there is none, std's `take` makes one.
     ///
     /// ```
     /// let readings = [Ok::<u32, u8>(150), Err(9), Ok(700)];
@@ -1828,7 +1898,9 @@ pub trait FallibleIterator: Drop + Sized {
     ///
     /// Laziness and draws: as `iterator`.
     ///
-    /// Requires that no failure can ever come, and so it never panics.
+    /// In Rust it panics at a failure.
+    ///
+    /// Requires: no failure can ever come, and so it never panics.
     ///
     /// ```
     /// let readings = [150u32, 7].into_iter().into_fallible();

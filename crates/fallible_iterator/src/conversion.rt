@@ -13,7 +13,7 @@ pub trait IteratorExt: std::iter::Iterator {
     ///
     /// Creating it draws nothing. `next` draws the std iterator once. It fails with the value of an `Err`. After a failure and after `Ok(None)` the next call draws the std iterator again.
     ///
-    /// Requires nothing. `next` requires what that of `convert` requires.
+    /// Requires: nothing. `next` requires what that of `convert` requires.
     ///
     /// ```
     /// let readings = [Ok::<u32, u8>(150), Err(9)];
@@ -39,7 +39,7 @@ pub trait IteratorExt: std::iter::Iterator {
     ///
     /// Creating it draws nothing. `next` draws the std iterator once. It never fails. After `Ok(None)` the next call draws the std iterator again.
     ///
-    /// Requires nothing. `next` requires what that of `convert` requires.
+    /// Requires: nothing. `next` requires what that of `convert` requires.
     ///
     /// ```
     /// let mut it = (0..2u32).into_fallible();

@@ -15,7 +15,9 @@ use fallible_core::{FallibleIterator, Peekable};
 ///
 /// It draws up to the first item that the test rejects, `Ok(None)`, the first failure or an item on which the test or `f` fails. A rejected item stays next, and an `Ok(None)` is buffered. It fails with the first failure, of the source, of the test or of `f`; an item on which either fails is lost. The iterator may be used again.
 ///
-/// Requires that `next` may be called and that the iterator is finite, that the test may be called on a reference to each item that may come after accepted ones, and `f` on the value so far and each such item for which the test may return true.
+/// Precondition: the iterator is finite.
+///
+/// Requires: `next` may be called, the test on a reference to each item that may come after accepted ones, and `f` on the value so far and each such item for which the test may return true.
 ///
 /// ```
 /// let mut it = convert([Ok::<u32, u8>(1), Ok(2), Ok(30), Ok(4)].into_iter()).peekable();

@@ -3,7 +3,9 @@ ghost use Rattle.std.specs.Prelude.{min, ◌≡◌, ◌≤◌, [], ◌∷◌, �
 
 use std::alloc::{AllocError, Global};
 
-/// The item alone, with room for at least so many items, or for 1024 if that is less. If the allocation fails, so does this, and the item is lost.
+/// The item alone, with room for at least so many items, or for 1024 if that is less.
+///
+/// Memory: if the allocation fails, so does this, and the item is lost.
 pub fn alone<X: Drop>(alloc: Global, room: usize, item: X) -> Result<Vec<X>, AllocError>
     ensures { IfOk result (λ v. (v.items ≡ item ∷ []) × (min room 1024 ≤ vec_capacity v)) }
 {
@@ -12,7 +14,9 @@ pub fn alone<X: Drop>(alloc: Global, room: usize, item: X) -> Result<Vec<X>, All
     Ok(items)
 }
 
-/// Appends the item. If an allocation fails, so does this; the item is lost then, and no other.
+/// Appends the item.
+///
+/// Memory: if an allocation fails, so does this; the item is lost then, and no other.
 #[inline(always)]
 pub fn pushed<X: Drop>(items: &mut Vec<X>, item: X) -> Result<(), AllocError>
     ensures { MatchResult result

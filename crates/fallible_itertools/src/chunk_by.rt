@@ -11,7 +11,9 @@ use fallible_iterator::extending::{FirstTurn, Outcome};
 use fallible_iterator::{FallibleIterator, Turn};
 use std::alloc::{AllocError, Global};
 
-/// Groups of adjacent items with equal keys, each with its key. A group is buffered until an item with another key comes, or a stop: `Ok(None)` or a failure, which the next call returns. The closure's failure is a stop, and so is a failed allocation. Then the item is lost, and no other.
+/// Groups of adjacent items with equal keys, each with its key. A group is buffered until an item with another key comes, or a stop: `Ok(None)` or a failure, which the next call returns. The closure's failure is a stop. Then the item is lost, and no other.
+///
+/// Memory: a failed allocation is a stop too, at which the item is lost, and no other.
 #[derive(Clone, Debug, Drop)]
 pub struct ChunkBy<I: FallibleIterator, K, F> {
     pub(crate) it: I,

@@ -13,7 +13,9 @@ use fallible_iterator::extending::Outcome;
 use fallible_iterator::{FallibleIterator, Turn};
 use std::alloc::{AllocError, Global};
 
-/// Batches of n items. A batch before a stop may have fewer. A batch is buffered until it has n items, or a stop comes: `Ok(None)` or a failure, which the next call returns. If an allocation for an item fails, the failure converted from `AllocError` is a stop. Then that item is lost, and no other.
+/// Batches of n items. A batch before a stop may have fewer. A batch is buffered until it has n items, or a stop comes: `Ok(None)` or a failure, which the next call returns.
+///
+/// Memory: if an allocation for an item fails, the failure converted from `AllocError` is a stop. Then that item is lost, and no other.
 #[derive(Clone, Debug, Drop)]
 pub struct Chunks<I: FallibleIterator> {
     pub(crate) it: I,

@@ -59,7 +59,7 @@ pub trait DoubleEndedFallibleItertools: DoubleEndedFallibleIterator {
     ///
     /// It draws at most n + 1 times from the back: up to that item, or a failure or `Ok(None)` before it. It fails with that failure. Nothing is drawn after that, and the iterator may be used again, from either end.
     ///
-    /// Requires that `next` and `next_back` may be called.
+    /// Requires: `next` and `next_back` may be called.
     ///
     /// ```
     /// let mut it = convert([Ok::<u32, u8>(1), Ok(2), Ok(3)].into_iter());
@@ -86,7 +86,9 @@ pub trait DoubleEndedFallibleItertools: DoubleEndedFallibleIterator {
     ///
     /// It draws from the back up to the first item on which the predicate returns true or fails, the first failure or `Ok(None)`. It calls the predicate on each item drawn, the last one first. It fails with the first failure, of this iterator or of the predicate. Nothing is drawn after that, and the iterator may be used again, from either end.
     ///
-    /// Requires that `next` and `next_back` may be called and that the iterator is finite, and that the predicate may be called on a reference to each item that may come from the back until it decides.
+    /// Precondition: the iterator is finite.
+    ///
+    /// Requires: `next` and `next_back` may be called, and the predicate may be called on a reference to each item that may come from the back until it decides.
     ///
     /// ```
     /// let mut it = convert([Ok::<u32, u8>(150), Ok(700), Ok(7)].into_iter());
@@ -123,7 +125,9 @@ pub trait DoubleEndedFallibleItertools: DoubleEndedFallibleIterator {
     ///
     /// It fails with the first failure: from the back one of this iterator or of the predicate, and then one of this iterator from the front. The iterator may be used again, from either end.
     ///
-    /// Requires that `next` and `next_back` may be called and that at most `usize::MAX` items are left, and that the predicate may be called on each item that may come from the back until it decides.
+    /// Precondition: at most `usize::MAX` items are left.
+    ///
+    /// Requires: `next` and `next_back` may be called, and the predicate may be called on each item that may come from the back until it decides.
     ///
     /// ```
     /// let mut it = convert([Ok::<u32, u8>(150), Ok(700), Ok(7)].into_iter());

@@ -21,7 +21,7 @@ pub trait PeekingNext: FallibleIterator {
     ///
     /// It draws once, or looks ahead if the item is rejected. It fails as `next` does. If the closure fails, its failure is returned, and the item is lost. The iterator may be used again.
     ///
-    /// Requires that `next` may be called, and that the closure may be called on each item that may come, in each state that such calls bring it to.
+    /// Requires: `next` may be called, and the closure may be called on each item that may come, in each state that such calls bring it to.
     fn next_accepted<F>(&mut self, accept: &mut F) -> Result<Option<Self::Item>, Self::Error>
     where
         F: FnMut(&Self::Item) -> Result<bool, Self::Error>,
@@ -40,7 +40,7 @@ pub trait PeekingNext: FallibleIterator {
     ///
     /// This iterator goes on with what is left: the rejected item comes next, also for `peek`.
     ///
-    /// Requires that the closure may be called on each item that may come, in each state that such calls bring it to.
+    /// Requires: the closure may be called on each item that may come, in each state that such calls bring it to.
     ///
     /// ```
     /// let mut it = convert([Ok::<u32, u8>(150), Ok(7), Ok(700)].into_iter()).peekable();

@@ -107,7 +107,7 @@ pub trait FallibleItertools: FallibleIterator {
     ///
     /// Creating it draws nothing. The item merged so far is buffered until the closure keeps two apart, or a stop comes: `Ok(None)` or a failure. `next` draws up to that, and calls the closure on the buffered item and each further one. The buffered item is yielded first. The stop is what the next call returns, without a draw. If the closure fails, its failure is yielded, and the two items that it was called on are lost. After a stop nothing is buffered, so items before and after it stay apart.
     ///
-    /// Requires that the closure may be called on what is buffered and each item that may come. `next` requires what that of `dedup` requires.
+    /// Requires: the closure may be called on what is buffered and each item that may come. `next` requires what that of `dedup` requires.
     ///
     /// ```
     /// let readings = [Ok::<u32, u8>(100), Ok(50), Ok(7), Ok(8)];
@@ -151,7 +151,7 @@ pub trait FallibleItertools: FallibleIterator {
     ///
     /// Laziness, draws and behaviour at a stop: as `dedup`. If the closure fails, its failure is a stop too: the buffered item is yielded first. The item that it was called on is lost, and no other.
     ///
-    /// Requires that the closure may be called on a reference to each item that may come. `next` requires what that of `dedup` requires.
+    /// Requires: the closure may be called on a reference to each item that may come. `next` requires what that of `dedup` requires.
     ///
     /// ```
     /// let readings = [Ok::<u32, u8>(150), Ok(157), Err(9), Ok(158), Ok(7)];
@@ -189,7 +189,7 @@ pub trait FallibleItertools: FallibleIterator {
     ///
     /// Laziness, draws and behaviour at a stop: as `dedup`. If the closure fails, its failure is a stop too: the buffered item is yielded first. The item that was drawn last is lost, and no other.
     ///
-    /// Requires that the closure may be called on references to what is buffered and each item that may come. `next` requires what that of `dedup` requires.
+    /// Requires: the closure may be called on references to what is buffered and each item that may come. `next` requires what that of `dedup` requires.
     ///
     /// ```
     /// let readings = [Ok::<u32, u8>(150), Ok(157), Ok(7)];
@@ -224,7 +224,7 @@ pub trait FallibleItertools: FallibleIterator {
     ///
     /// Creating it draws nothing. The first of equal items is buffered until an item that differs comes, or a stop: `Ok(None)` or a failure. `next` draws up to that. The buffered item is yielded first. The stop is what the next call returns, without a draw. After a stop nothing is buffered, so equal items before and after it are both yielded.
     ///
-    /// Requires nothing. `next` requires that it may be called on the source, and that the source is finite, since one call may leave many items out.
+    /// Requires: nothing. `next` requires that it may be called on the source, and that the source is finite, since one call may leave many items out.
     ///
     /// ```
     /// let readings = [Ok::<u32, u8>(7), Ok(7), Ok(150), Ok(7)];
@@ -253,7 +253,7 @@ pub trait FallibleItertools: FallibleIterator {
     ///
     /// Creating it draws nothing. An item is buffered until another item comes, or a stop: `Ok(None)` or a failure. `next` draws once if an item is buffered, and otherwise twice, or up to a stop. The buffered item is yielded first, and is the `Last` one before a stop. The stop is what the next call returns, without a draw. After a stop nothing is buffered, and the next item is `First` or `Only`.
     ///
-    /// Requires nothing. `next` requires that it may be called on the source.
+    /// Requires: nothing. `next` requires that it may be called on the source.
     ///
     /// ```
     /// let letters = [Ok::<char, u8>('a'), Ok('b'), Ok('c')];
@@ -282,9 +282,11 @@ pub trait FallibleItertools: FallibleIterator {
 
     /// Yields each two adjacent items as a pair. The later one of a pair is a clone.
     ///
-    /// Creating it draws nothing. `next` draws once, and twice for the first pair. It fails as the source does. If a clone can't be allocated, the failure converted from `AllocError` is yielded in place of that pair, and the next pair begins with the later item. So each pair is of two adjacent items. The last item stays buffered at a failure and at an `Ok(None)`, so the next pair begins with it.
+    /// Creating it draws nothing. `next` draws once, and twice for the first pair. It fails as the source does. Each pair is of two adjacent items. The last item stays buffered at a failure and at an `Ok(None)`, so the next pair begins with it.
     ///
-    /// Requires nothing. `next` requires that it may be called on the source.
+    /// Requires: nothing. `next` requires that it may be called on the source.
+    ///
+    /// Memory: if a clone can't be allocated, the failure converted from `AllocError` is yielded in place of that pair, and the next pair begins with the later item.
     ///
     /// ```
     /// let readings = [Ok::<u32, AllocError>(150), Ok(7), Ok(700)];
@@ -317,7 +319,9 @@ pub trait FallibleItertools: FallibleIterator {
     ///
     /// It draws up to `Ok(None)`, the first failure or an item on which the closure fails. It fails with the iterator's failure, converted, or with the closure's error. Nothing is drawn after that, and the iterator may be used again.
     ///
-    /// Requires that `next` may be called and that the iterator is finite, and that the closure may be called on each item that may come.
+    /// Precondition: the iterator is finite.
+    ///
+    /// Requires: `next` may be called, and the closure may be called on each item that may come.
     ///
     /// ```
     /// let mut it = convert([Ok::<u32, &str>(7), Ok(150), Ok(8)].into_iter());
@@ -357,7 +361,9 @@ pub trait FallibleItertools: FallibleIterator {
     ///
     /// It draws up to the first item on which the predicate returns true or fails, the first failure or `Ok(None)`. It fails with the iterator's failure, converted, or with the predicate's error. Nothing is drawn after that, and the iterator may be used again.
     ///
-    /// Requires that `next` may be called and that the iterator is finite, and that the predicate may be called on each item that may come until it decides.
+    /// Precondition: the iterator is finite.
+    ///
+    /// Requires: `next` may be called, and the predicate may be called on each item that may come until it decides.
     ///
     /// ```
     /// let mut it = convert([Ok::<u32, &str>(0), Ok(7), Ok(150)].into_iter());
@@ -402,7 +408,9 @@ pub trait FallibleItertools: FallibleIterator {
     ///
     /// Draws, errors and what is left: as `try_find`.
     ///
-    /// Requires what `try_find` requires, and that at most `usize::MAX` items are left, so that each position fits.
+    /// Precondition: at most `usize::MAX` items are left, so that each position fits.
+    ///
+    /// Requires: what `try_find` requires.
     ///
     /// ```
     /// let mut it = convert([Ok::<u32, &str>(0), Ok(7), Ok(150)].into_iter());
@@ -445,7 +453,9 @@ pub trait FallibleItertools: FallibleIterator {
     ///
     /// It draws up to the first item that equals it, the first failure or `Ok(None)`. It fails with that failure. Nothing is drawn after that, and the iterator may be used again.
     ///
-    /// Requires that `next` may be called and that the iterator is finite.
+    /// Precondition: the iterator is finite.
+    ///
+    /// Requires: `next` may be called.
     ///
     /// ```
     /// let mut it = convert([Ok::<u32, u8>(150), Ok(7), Ok(700), Err(9)].into_iter());
@@ -474,7 +484,9 @@ pub trait FallibleItertools: FallibleIterator {
     ///
     /// It draws up to an item that the first one doesn't equal, the first failure or `Ok(None)`. It fails with that failure. Nothing is drawn after that, and the iterator may be used again.
     ///
-    /// Requires that `next` may be called and that the iterator is finite.
+    /// Precondition: the iterator is finite.
+    ///
+    /// Requires: `next` may be called.
     ///
     /// ```
     /// let mut it = convert([Ok::<u32, u8>(7), Ok(7), Ok(150), Ok(8)].into_iter());
@@ -500,9 +512,13 @@ pub trait FallibleItertools: FallibleIterator {
 
     /// Returns the first item on which the predicate returns true, or the last item if there is none; `Ok(None)` if there is no item.
     ///
-    /// It draws up to the first item on which the predicate returns true or fails, the first failure or `Ok(None)`. It calls the predicate on each item drawn, in order. Nothing is drawn after that. It fails with the first failure, of this iterator or of the predicate. It consumes the iterator, and no clause says what is left.
+    /// It draws up to the first item on which the predicate returns true or fails, the first failure or `Ok(None)`. It calls the predicate on each item drawn, in order. Nothing is drawn after that. It fails with the first failure, of this iterator or of the predicate. It consumes the iterator.
     ///
-    /// Requires that `next` may be called and that the iterator is finite, and that the predicate may be called on each item that may come until it decides.
+    /// Precondition: the iterator is finite.
+    ///
+    /// Requires: `next` may be called, and the predicate may be called on each item that may come until it decides.
+    ///
+    /// Proof: no clause says what is left.
     ///
     /// ```
     /// let readings = [Ok::<u32, u8>(7), Ok(150), Ok(8)];
@@ -537,9 +553,13 @@ pub trait FallibleItertools: FallibleIterator {
 
     /// Returns the sum of the items, 0 for none. If it overflows at one of them, it returns `Ok(None)`.
     ///
-    /// It draws up to the first item at which the sum overflows, the first failure or `Ok(None)`. Nothing is drawn after that, so an overflow is returned also where a failure would come later. It fails with the first failure. It consumes the iterator, and no clause says what is left.
+    /// It draws up to the first item at which the sum overflows, the first failure or `Ok(None)`. Nothing is drawn after that, so an overflow is returned also where a failure would come later. It fails with the first failure. It consumes the iterator.
     ///
-    /// Requires that `next` may be called and that the iterator is finite.
+    /// Precondition: the iterator is finite.
+    ///
+    /// Requires: `next` may be called.
+    ///
+    /// Proof: no clause says what is left.
     ///
     /// ```
     /// let readings = [Ok::<u8, u8>(150), Ok(7)];
@@ -592,7 +612,9 @@ pub trait FallibleItertools: FallibleIterator {
     ///
     /// It draws up to the item on which the closure returns `Done` or fails, the first failure or `Ok(None)`. It fails with the first failure, of this iterator or of the closure. Nothing is drawn after that, and the iterator may be used again.
     ///
-    /// Requires that `next` may be called and that the iterator is finite, and that the closure may be called on the value so far and each item that may come.
+    /// Precondition: the iterator is finite.
+    ///
+    /// Requires: `next` may be called, and the closure may be called on the value so far and each item that may come.
     ///
     /// ```
     /// let mut it = convert([Ok::<u32, u8>(150), Ok(7), Ok(0), Ok(8)].into_iter());
@@ -634,9 +656,13 @@ pub trait FallibleItertools: FallibleIterator {
 
     /// Returns whether the keys that the closure makes of the items never go down. A key that can't be compared with the one before it goes down.
     ///
-    /// It draws up to the first item whose key goes down or on which the closure fails, the first failure or `Ok(None)`. Nothing is drawn after that. It fails with the first failure, of this iterator or of the closure. It consumes the iterator, and no clause says what is left.
+    /// It draws up to the first item whose key goes down or on which the closure fails, the first failure or `Ok(None)`. Nothing is drawn after that. It fails with the first failure, of this iterator or of the closure. It consumes the iterator.
     ///
-    /// Requires that `next` may be called and that the iterator is finite, and that the closure may be called on each item that may come.
+    /// Precondition: the iterator is finite.
+    ///
+    /// Requires: `next` may be called, and the closure may be called on each item that may come.
+    ///
+    /// Proof: no clause says what is left.
     ///
     /// ```
     /// let readings = [Ok::<u32, u8>(150), Ok(7), Ok(8)];
@@ -667,9 +693,13 @@ pub trait FallibleItertools: FallibleIterator {
 
     /// Returns whether no item is less than the one before it. An item that can't be compared with the one before it counts as less.
     ///
-    /// It draws up to the first item that is less, the first failure or `Ok(None)`. Nothing is drawn after that. It fails with that failure. It consumes the iterator, and no clause says what is left.
+    /// It draws up to the first item that is less, the first failure or `Ok(None)`. Nothing is drawn after that. It fails with that failure. It consumes the iterator.
     ///
-    /// Requires that `next` may be called and that the iterator is finite.
+    /// Precondition: the iterator is finite.
+    ///
+    /// Requires: `next` may be called.
+    ///
+    /// Proof: no clause says what is left.
     ///
     /// ```
     /// let readings = [Ok::<u32, u8>(7), Ok(7), Ok(150)];
@@ -699,7 +729,7 @@ pub trait FallibleItertools: FallibleIterator {
     ///
     /// Creating it draws nothing. `next` draws once. It fails as the source does. After a failure and after `Ok(None)` the next call draws again. It is double-ended if the source is.
     ///
-    /// Requires nothing.
+    /// Requires: nothing.
     ///
     /// ```
     /// let readings = [150, 7];
@@ -723,7 +753,7 @@ pub trait FallibleItertools: FallibleIterator {
     ///
     /// Creating it draws nothing and calls nothing. Up to the rejected item `next` draws once. It fails as the source does. If the predicate fails, its failure is yielded, and the item is lost. Neither that nor an `Ok(None)` of the source exhausts it. After the rejected item it draws nothing, and each call returns `Ok(None)`.
     ///
-    /// Requires that the predicate may be called on each item that may come, in each state that such calls bring it to. `next` requires that it may be called on the source, and `Item: Drop`.
+    /// Requires: the predicate may be called on each item that may come, in each state that such calls bring it to. `next` requires that it may be called on the source, and `Item: Drop`.
     ///
     /// ```
     /// let readings = [Ok::<u32, u8>(150), Ok(7), Ok(700)];
@@ -756,7 +786,7 @@ pub trait FallibleItertools: FallibleIterator {
     ///
     /// Creating it draws nothing. `next` draws once, and calls the closure once if a failure came. It fails as the source does. After a failure and after `Ok(None)` the next call draws again. It is double-ended if the source is.
     ///
-    /// Requires that the closure may be called on a reference to each failure that may come.
+    /// Requires: the closure may be called on a reference to each failure that may come.
     ///
     /// ```
     /// let readings = [Ok::<u32, u8>(150), Err(9), Ok(7)];
@@ -785,7 +815,7 @@ pub trait FallibleItertools: FallibleIterator {
     ///
     /// Creating it draws nothing. `next` draws up to an item, an `Ok(None)`, or a failure for which the closure returns an item or fails. It calls the closure once on each failure. It fails with the closure's failures alone. After a failure and after `Ok(None)` the next call draws again. It is double-ended if the source is. In Rust `or_else(|_| Ok(None))` over a source that fails for ever never returns from `next`.
     ///
-    /// Requires that the closure may be called on each failure that may come. `next` requires that it may be called on the source, that the source is finite, and that its items and failures together have a bound, since one call may leave many failures out. `take(n)` before it bounds the items alone. `convert(rows.iterator().take(n))` takes n answers of `rows`, items and failures together.
+    /// Requires: the closure may be called on each failure that may come. `next` requires that it may be called on the source, that the source is finite, and that its items and failures together have a bound, since one call may leave many failures out. `take(n)` before it bounds the items alone. `convert(rows.iterator().take(n))` takes n answers of `rows`, items and failures together.
     ///
     /// ```
     /// let readings = [Ok::<u32, u8>(150), Err(1), Err(2), Err(9)];
@@ -819,7 +849,7 @@ pub trait FallibleItertools: FallibleIterator {
     ///
     /// Laziness, draws, buffered items, errors and folds: as `merge_by`, with no closure that may fail. Bounds of both sides, added up, bound it.
     ///
-    /// Requires nothing. `next` requires that it may be called on both sides, and `Item: Drop`.
+    /// Requires: nothing. `next` requires that it may be called on both sides, and `Item: Drop`.
     ///
     /// ```
     /// let left = convert([Ok::<u32, u8>(1), Ok(4)].into_iter());
@@ -867,7 +897,7 @@ pub trait FallibleItertools: FallibleIterator {
     ///
     /// Creating it draws nothing. It buffers at most one item of each side. `next` draws this side once if nothing of it is buffered. Then, unless that failed, it draws `other` once if nothing of `other` is buffered. Each side is fused: once it returned `Ok(None)` it isn't drawn again. It fails as either side does, and loses nothing that is buffered. If the closure fails, its failure is yielded, and the two items that it was called on are lost. Its folds draw as `next` does. Bounds of both sides, added up, bound it.
     ///
-    /// Requires that the closure may be called on references to two items, one that may come of each side. `next` requires that it may be called on both sides, and `Item: Drop`.
+    /// Requires: the closure may be called on references to two items, one that may come of each side. `next` requires that it may be called on both sides, and `Item: Drop`.
     ///
     /// ```
     /// let left = convert([Ok::<u32, u8>(4), Ok(1)].into_iter());
@@ -920,7 +950,7 @@ pub trait FallibleItertools: FallibleIterator {
     ///
     /// Creating it draws nothing. `next` draws this side once if no item of it is buffered. Then, unless that failed, it draws `other` once, also after an `Ok(None)` of this side. Each side is fused: once it returned `Ok(None)` it isn't drawn again. It fails as this iterator does, or else as `other` does. A failure of `other` loses nothing: the item of this side is buffered, and the next call draws `other` alone. Its folds draw as `next` does. Bounds of both sides, added up, bound it.
     ///
-    /// Requires nothing. `next` requires that it may be called on both sides, and `Item: Drop`.
+    /// Requires: nothing. `next` requires that it may be called on both sides, and `Item: Drop`.
     ///
     /// ```
     /// let letters = convert([Ok::<char, u8>('a'), Ok('b')].into_iter());
@@ -963,7 +993,7 @@ pub trait FallibleItertools: FallibleIterator {
     ///
     /// It draws at most twice: up to `Ok(None)`, a failure or the second item. It fails with that failure, and drops an item that came before it. Nothing is drawn after that, and the iterator may be used again.
     ///
-    /// Requires that `next` may be called.
+    /// Requires: `next` may be called.
     ///
     /// ```
     /// let one = [Ok::<u32, u8>(150)];
@@ -1040,9 +1070,13 @@ pub trait FallibleItertools: FallibleIterator {
 
     /// Returns the first of the least items and the last of the greatest, in one pass. For one item it returns `OneElement`, for none `NoElements`.
     ///
-    /// It draws up to `Ok(None)` or the first failure. It fails with that failure. It consumes the iterator, and no clause says what is left.
+    /// It draws up to `Ok(None)` or the first failure. It fails with that failure. It consumes the iterator.
     ///
-    /// Requires that `next` may be called and that the iterator is finite.
+    /// Precondition: the iterator is finite.
+    ///
+    /// Requires: `next` may be called.
+    ///
+    /// Proof: no clause says what is left.
     ///
     /// ```
     /// let readings = [Ok::<u32, u8>(150), Ok(7), Ok(700)];
@@ -1070,9 +1104,15 @@ pub trait FallibleItertools: FallibleIterator {
 
     /// Returns how often each item comes, as a map. A key is the first of equal items, its value the number of items equal to it.
     ///
-    /// It draws up to `Ok(None)`, the first failure or an item that the map rejects. It fails with `Fault::Source` of the first failure. It fails with `Fault::Memory` if the map rejected the last item drawn: no item before equals it, and an allocation failed. It consumes the iterator, and no clause says what is left.
+    /// It draws up to `Ok(None)` or the first failure. It fails with that failure. It consumes the iterator.
     ///
-    /// Requires that `next` may be called, and that at most `usize::MAX` items are left, so that each number fits.
+    /// Precondition: at most `usize::MAX` items are left, so that each number fits.
+    ///
+    /// Requires: `next` may be called.
+    ///
+    /// Memory: that failure is a `Fault::Source`. It also stops at an item that the map rejects: no item before equals it, and an allocation failed. Then it fails with `Fault::Memory`.
+    ///
+    /// Proof: no clause says what is left.
     ///
     /// ```
     /// let readings = [Ok::<u32, u8>(7), Ok(150), Ok(7)];
@@ -1104,9 +1144,15 @@ pub trait FallibleItertools: FallibleIterator {
 
     /// Returns the pairs' values by their keys, as a map. A key is the first of equal keys, its value a `Vec` of the values of the pairs with an equal key, in order.
     ///
-    /// It draws up to `Ok(None)`, the first failure or a pair that the map rejects. It fails with `Fault::Source` of the first failure. It fails with `Fault::Memory` if the map rejected the last pair drawn: an allocation failed, for a new key or for the full `Vec` of an equal one. It consumes the iterator, and no clause says what is left.
+    /// It draws up to `Ok(None)` or the first failure. It fails with that failure. It consumes the iterator.
     ///
-    /// Requires that `next` may be called and that the iterator is finite.
+    /// Precondition: the iterator is finite.
+    ///
+    /// Requires: `next` may be called.
+    ///
+    /// Memory: that failure is a `Fault::Source`. It also stops at a pair that the map rejects, since an allocation failed, for a new key or for the full `Vec` of an equal one. Then it fails with `Fault::Memory`.
+    ///
+    /// Proof: no clause says what is left.
     ///
     /// ```
     /// let pairs = [Ok::<(char, u32), u8>(('a', 1)), Ok(('b', 2)), Ok(('a', 3))];
@@ -1141,9 +1187,15 @@ pub trait FallibleItertools: FallibleIterator {
 
     /// Returns two collections of what the closure returns for the items: of the values of each `Either::Left`, and of those of each `Either::Right`, in order. Of equal values they keep what `collect` keeps.
     ///
-    /// Draws and errors: as `collect` of `map`. The closure is called once on each item. If it fails, this stops and fails with `Fault::Source` of that failure. It consumes the iterator, and no clause says what is left.
+    /// Draws and errors: as `collect` of `map`. The closure is called once on each item. If it fails, this stops and fails with that failure. It consumes the iterator.
     ///
-    /// Requires that `next` may be called and that the iterator is finite, and of the closure what `map` requires.
+    /// Precondition: the iterator is finite.
+    ///
+    /// Requires: `next` may be called, and of the closure what `map` requires.
+    ///
+    /// Memory: that failure is a `Fault::Source` too.
+    ///
+    /// Proof: no clause says what is left.
     ///
     /// ```
     /// let readings = [Ok::<u32, u8>(150), Ok(7), Ok(700)];
@@ -1191,9 +1243,15 @@ pub trait FallibleItertools: FallibleIterator {
 
     /// Returns the items in a `Vec`, in order. Equal items keep their order.
     ///
-    /// It draws up to `Ok(None)`, the first failure or an item that the collection rejects. After `Ok(None)` it sorts. It fails with `Fault::Source` of the first failure. It fails with `Fault::Memory` if an allocation failed, for the last item drawn or for sorting more than 20 items. It consumes the iterator, and no clause says what is left.
+    /// It draws up to `Ok(None)` or the first failure. It fails with that failure. After `Ok(None)` it sorts. It consumes the iterator.
     ///
-    /// Requires that `next` may be called and that the iterator is finite.
+    /// Precondition: the iterator is finite.
+    ///
+    /// Requires: `next` may be called.
+    ///
+    /// Memory: that failure is a `Fault::Source`. It also stops at an item that the collection rejects. It fails with `Fault::Memory` if an allocation failed, for the last item drawn or for sorting more than 20 items.
+    ///
+    /// Proof: no clause says what is left.
     ///
     /// ```
     /// let readings = [Ok::<u32, u8>(150), Ok(7), Ok(700)];
@@ -1219,9 +1277,13 @@ pub trait FallibleItertools: FallibleIterator {
 
     /// Returns the items in a `Vec`, in the order of the keys that the closure returns for them. Items with equal keys keep their order. If the closure returns other keys for an item from call to call, it returns the items in any order, each of them once.
     ///
-    /// Draws and errors: as `sorted`. The closure doesn't fail; a key that may fail is made by `map` before. The closure is called after the last draw, on an item as often as its key is compared. It consumes the iterator, and no clause says what is left.
+    /// Draws and errors: as `sorted`. The closure doesn't fail; a key that may fail is made by `map` before. The closure is called after the last draw, on an item as often as its key is compared. It consumes the iterator.
     ///
-    /// Requires that `next` may be called and that the iterator is finite, and that the closure may be called on a reference to any item at any time.
+    /// Precondition: the iterator is finite.
+    ///
+    /// Requires: `next` may be called, and the closure may be called on a reference to any item at any time.
+    ///
+    /// Proof: no clause says what is left.
     ///
     /// ```
     /// let words = [Ok::<&str, u8>("the"), Ok("sea"), Ok("is")];
@@ -1258,9 +1320,17 @@ pub trait FallibleItertools: FallibleIterator {
 
     /// Returns the items as `Display` shows them, with the separator between each two.
     ///
-    /// It draws up to `Ok(None)`, the first failure or an item that can't be appended. It fails with `Fault::Source` of the first failure. It fails with `Fault::Memory` if the last item drawn couldn't be appended: an allocation failed, or its `Display` did. It consumes the iterator, and no clause says what is left.
+    /// It draws up to `Ok(None)` or the first failure. It fails with that failure. It consumes the iterator.
     ///
-    /// Requires that `next` may be called and that the iterator is finite. The text is known of items whose type says how they are shown.
+    /// In Rust it panics if the `Display` of an item fails.
+    ///
+    /// Precondition: the iterator is finite.
+    ///
+    /// Requires: `next` may be called.
+    ///
+    /// Memory: that failure is a `Fault::Source`. It also stops at an item that can't be appended, since an allocation failed or its `Display` did. Then it fails with `Fault::Memory`.
+    ///
+    /// Proof: no clause says what is left. The text is known of items whose type says how they are shown.
     ///
     /// ```
     /// let readings = [Ok::<u32, u8>(150), Ok(7), Ok(700)];
@@ -1291,9 +1361,13 @@ pub trait FallibleItertools: FallibleIterator {
 
     /// Compares two iterators by the closure, which is called on the two items of each round. The first two that aren't equal decide. If there are none, the side that ends alone is less.
     ///
-    /// It draws in rounds, this iterator and then the other, until a failure, an `Ok(None)` or two items that decide. If this one returned `Ok(None)`, the other is still drawn in that round; if this one failed, it is not. It fails with the first failure: in each round one of this iterator comes before one of the other, and that before one of the closure. It consumes both, and no clause says what is left.
+    /// It draws in rounds, this iterator and then the other, until a failure, an `Ok(None)` or two items that decide. If this one returned `Ok(None)`, the other is still drawn in that round; if this one failed, it is not. It fails with the first failure: in each round one of this iterator comes before one of the other, and that before one of the closure. It consumes both.
     ///
-    /// Requires that `next` may be called on both sides and that one of the two is finite, and that the closure may be called on each two items that may come in one round.
+    /// Precondition: one of the two is finite.
+    ///
+    /// Requires: `next` may be called on both sides, and the closure may be called on each two items that may come in one round.
+    ///
+    /// Proof: no clause says what is left.
     ///
     /// ```
     /// let left = convert([Ok::<u32, u8>(11), Ok(12)].into_iter());
@@ -1370,9 +1444,13 @@ pub trait FallibleItertools: FallibleIterator {
     ///
     /// Creating it draws nothing and allocates nothing. `next` draws until the batch has n items, or a stop comes: `Ok(None)` or a failure. A buffered batch is yielded first. The stop is what the next call returns, without a draw. A new batch has room for n items at once, or for 1024 if n is more.
     ///
-    /// It fails as the source does. If an allocation fails, for the first item of a batch or for one for which the batch has no room, the failure converted from `AllocError` is a stop too: that item is lost, and no other. After a failure and after `Ok(None)` the next call draws again.
+    /// It fails as the source does. After a failure and after `Ok(None)` the next call draws again.
     ///
-    /// Requires that n is not 0. `next` requires that it may be called on the source, and `Item: Drop`. It requires no bound: one call draws at most n times.
+    /// Precondition: n is not 0.
+    ///
+    /// Requires: nothing else. `next` requires that it may be called on the source, and `Item: Drop`. It requires no bound: one call draws at most n times.
+    ///
+    /// Memory: if an allocation fails, for the first item of a batch or for one for which the batch has no room, the failure converted from `AllocError` is a stop too: that item is lost, and no other.
     ///
     /// ```
     /// let readings = [Ok::<u32, AllocError>(150), Ok(7), Ok(700)];
@@ -1405,9 +1483,11 @@ pub trait FallibleItertools: FallibleIterator {
     ///
     /// Creating it draws nothing, calls nothing and allocates nothing. `next` draws until an item has another key than the buffered group, or a stop comes: `Ok(None)` or a failure. It calls the closure once on each item. A buffered group is yielded first. The stop is what the next call returns, without a draw. After a stop a new group begins. A new group has room at once for as many items as the one that it follows has, or for 1024 if that has more.
     ///
-    /// It fails as the source does. The closure's failure is a stop too, and so is the failure converted from `AllocError` if an allocation fails. Then the item is lost, and no other. After a failure and after `Ok(None)` the next call draws again.
+    /// It fails as the source does. The closure's failure is a stop too. Then the item is lost, and no other. After a failure and after `Ok(None)` the next call draws again.
     ///
-    /// Requires that the closure may be called on a reference to each item that may come, in each state that such calls bring it to. `next` requires that it may be called on the source, that the source is finite, and `Item: Drop`.
+    /// Requires: the closure may be called on a reference to each item that may come, in each state that such calls bring it to. `next` requires that it may be called on the source, that the source is finite, and `Item: Drop`.
+    ///
+    /// Memory: if an allocation fails, the failure converted from `AllocError` is a stop too, at which the item is lost, and no other.
     ///
     /// ```
     /// let readings = [Ok::<u32, AllocError>(150), Ok(157), Ok(7)];
@@ -1443,9 +1523,11 @@ pub trait FallibleItertools: FallibleIterator {
 
     /// Yields the items, with a clone of the separator between each two adjacent ones.
     ///
-    /// Creating it draws nothing. If an item is buffered, `next` yields it and draws nothing; otherwise it draws once. An item after the first is buffered, and a clone of the separator is yielded before it. It fails as the source does. If a clone can't be allocated, the failure converted from `AllocError` is yielded. The item is buffered then too, so none is lost. After a failure or an `Ok(None)` the next item still has a separator before it.
+    /// Creating it draws nothing. If an item is buffered, `next` yields it and draws nothing; otherwise it draws once. An item after the first is buffered, and a clone of the separator is yielded before it. It fails as the source does. After a failure or an `Ok(None)` the next item still has a separator before it.
     ///
-    /// Requires nothing. `next` requires that it may be called on the source.
+    /// Requires: nothing. `next` requires that it may be called on the source.
+    ///
+    /// Memory: if a clone can't be allocated, the failure converted from `AllocError` is yielded. The item is buffered then too, so none is lost.
     ///
     /// ```
     /// let readings = [Ok::<u32, AllocError>(150), Ok(7)];
@@ -1476,7 +1558,9 @@ pub trait FallibleItertools: FallibleIterator {
     ///
     /// Creating it draws nothing and calls nothing. If an item is buffered, `next` yields it and draws nothing; otherwise it draws once. An item after the first is buffered, the closure is called once, and what it returns is yielded before the item. It fails as the source does. If the closure fails, that failure is returned in the separator's place. The item is buffered then too, so none is lost. After a failure or an `Ok(None)` the next item still has a separator before it.
     ///
-    /// Requires that the closure may be called in each state that such calls bring it to. `next` requires that, and that it may be called on the source. If the closure's state shows what its calls return, that is listed between the items.
+    /// Requires: the closure may be called in each state that such calls bring it to. `next` requires that, and that it may be called on the source.
+    ///
+    /// Proof: if the closure's state shows what its calls return, that is listed between the items.
     ///
     /// ```
     /// let readings = [Ok::<u32, u8>(150), Ok(7), Ok(700)];
@@ -1527,9 +1611,11 @@ pub trait FallibleItertools: FallibleIterator {
 
     /// Yields each item that equals none before it: of equal items the first.
     ///
-    /// Creating it draws nothing and allocates nothing. `next` draws up to an item that equals none that was yielded, a failure or an `Ok(None)`. A set has a clone of each item that was yielded. It fails as the source does, and a failure parts nothing. If the clone or the room for it can't be allocated, the failure converted from `AllocError` is yielded. Then the item is lost, and no other: a later one that equals it is yielded. After a failure or an `Ok(None)` the set stays.
+    /// Creating it draws nothing and allocates nothing. `next` draws up to an item that equals none that was yielded, a failure or an `Ok(None)`. A set has a clone of each item that was yielded. It fails as the source does, and a failure parts nothing. After a failure or an `Ok(None)` the set stays.
     ///
-    /// Requires nothing. `next` requires that it may be called on the source, and that the source is finite, since one call may leave many items out.
+    /// Requires: nothing. `next` requires that it may be called on the source, and that the source is finite, since one call may leave many items out.
+    ///
+    /// Memory: if the clone or the room for it can't be allocated, the failure converted from `AllocError` is yielded. Then the item is lost, and no other: a later one that equals it is yielded.
     ///
     /// ```
     /// let readings = [Ok::<u32, AllocError>(7), Ok(150), Ok(7)];

@@ -12,7 +12,9 @@ use std::alloc::AllocError;
 use std::collections::HashSet;
 use std::hash::Hash;
 
-/// Of equal items the first. A set has a clone of each item that was yielded. If the clone or the room for it can't be allocated, the failure converted from `AllocError` is yielded, and the item is lost.
+/// Of equal items the first. A set has a clone of each item that was yielded.
+///
+/// Memory: if the clone or the room for it can't be allocated, the failure converted from `AllocError` is yielded, and the item is lost.
 #[derive(Clone, Debug, Drop)]
 pub struct Unique<I: FallibleIterator>
 where

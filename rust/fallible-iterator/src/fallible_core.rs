@@ -7,7 +7,6 @@ pub mod ends;
 pub mod failing;
 pub mod filtering;
 pub mod joining;
-pub mod number;
 pub mod one_to_one;
 pub mod passing;
 pub mod peeking;

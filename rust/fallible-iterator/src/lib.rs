@@ -43,8 +43,6 @@ pub use crate::fallible_contract::folds::Turn;
 pub use crate::fallible_contract::searching::Test;
 #[doc(hidden)]
 pub use crate::fallible_contract::{Collect, Fault};
-#[doc(hidden)]
-pub use crate::fallible_core::number::Number;
 pub use crate::fallible_core::{
     Chain, Cloned, Cycle, DoubleEndedFallibleIterator, Enumerate, FallibleIterator, Filter,
     FilterMap, FlatMap, Flatten, Fuse, Inspect, IntoFallibleIterator, Iterator, Map, MapErr,

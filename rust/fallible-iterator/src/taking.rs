@@ -55,10 +55,8 @@ where
 {
     let mut test = test;
     let mut f = f;
-    let mut left = (*ahead).number();
     let mut value = init;
     while let Some(x) = next_accepted(ahead, &mut test)? {
-        left = left.one_less();
         value = f(value, x)?;
     }
     Ok(value)

@@ -32,7 +32,7 @@ where
     R: FallibleIterator<Error = L::Error>,
     K: Turn<C, (L::Item, R::Item), Result<Option<Ordering>, L::Error>>,
 {
-    let (mut left, mut right, mut count) = number_of_either(left, right);
+    let (mut left, mut right) = number_of_either(left, right);
     let mut state = state;
     loop {
         let x = match left.next() {
@@ -48,7 +48,7 @@ where
             (None, Some(_)) => return Ok(Some(Ordering::Less)),
             (Some(_), None) => return Ok(Some(Ordering::Greater)),
             (Some(x), Some(y)) => match turn.turn(&mut state, (x, y)) {
-                ControlFlow::Continue(()) => count = count.one_less(),
+                ControlFlow::Continue(()) => {}
                 ControlFlow::Break(answer) => return answer,
             },
         }

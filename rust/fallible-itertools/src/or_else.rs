@@ -34,8 +34,7 @@ impl<I: FallibleIterator, E, F: FnMut(I::Error) -> Result<Option<I::Item>, E>> F
         state: &mut C,
         turn: &K,
     ) -> Result<Option<R>, E> {
-        let left = (*self).number();
-        drive_recovering(&mut self.it, &mut self.f, &OrElsePass, left, state, turn)
+        drive_recovering(&mut self.it, &mut self.f, &OrElsePass, state, turn)
     }
 
     fallible_iterator::by_drive!(drive);
@@ -54,8 +53,7 @@ impl<I: DoubleEndedFallibleIterator, E, F: FnMut(I::Error) -> Result<Option<I::I
         state: &mut C,
         turn: &K,
     ) -> Result<Option<R>, E> {
-        let left = (*self).number();
-        drive_back_recovering(&mut self.it, &mut self.f, &OrElsePass, left, state, turn)
+        drive_back_recovering(&mut self.it, &mut self.f, &OrElsePass, state, turn)
     }
 
     fallible_iterator::by_drive!(drive_back);

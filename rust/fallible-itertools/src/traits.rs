@@ -276,7 +276,7 @@ pub trait FallibleItertools: FallibleIterator + Sized {
 
     /// Yields each two adjacent items as a pair. The later one of a pair is a clone.
     ///
-    /// Creating it draws nothing. `next` draws once, and twice for the first pair. It fails as the source does. So each pair is of two adjacent items. The last item stays buffered at a failure and at an `Ok(None)`, so the next pair begins with it.
+    /// Creating it draws nothing. `next` draws once, and twice for the first pair. It fails as the source does. Each pair is of two adjacent items. The last item stays buffered at a failure and at an `Ok(None)`, so the next pair begins with it.
     ///
     /// ```
     /// # use fallible_iterator::{FallibleIterator, convert};
@@ -1321,7 +1321,7 @@ pub trait FallibleItertools: FallibleIterator + Sized {
 
     /// Returns the pairs' values by their keys, as a map. A key is the first of equal keys, its value a `Vec` of the values of the pairs with an equal key, in order.
     ///
-    /// It draws up to `Ok(None)`, the first failure or a pair that the map rejects. It fails with that failure. It consumes the iterator.
+    /// It draws up to `Ok(None)` or the first failure. It fails with that failure. It consumes the iterator.
     ///
     /// Precondition, which is not checked: the iterator is finite.
     ///
@@ -1431,7 +1431,7 @@ pub trait FallibleItertools: FallibleIterator + Sized {
 
     /// Returns the items in a `Vec`, in order. Equal items keep their order.
     ///
-    /// It draws up to `Ok(None)` or the first failure. After `Ok(None)` it sorts. It fails with that failure. It consumes the iterator.
+    /// It draws up to `Ok(None)` or the first failure. It fails with that failure. After `Ok(None)` it sorts. It consumes the iterator.
     ///
     /// Precondition, which is not checked: the iterator is finite.
     ///
@@ -1520,6 +1520,8 @@ pub trait FallibleItertools: FallibleIterator + Sized {
     /// Returns the items as `Display` shows them, with the separator between each two.
     ///
     /// It draws up to `Ok(None)` or the first failure. It fails with that failure. It consumes the iterator.
+    ///
+    /// In Rust it panics if the `Display` of an item fails.
     ///
     /// Precondition, which is not checked: the iterator is finite.
     ///
@@ -1659,7 +1661,7 @@ pub trait FallibleItertools: FallibleIterator + Sized {
 
     /// Yields the items in batches of n. A batch before an `Ok(None)` or a failure may have fewer.
     ///
-    /// Creating it draws nothing. `next` draws until the batch has n items, or a stop comes: `Ok(None)` or a failure. A buffered batch is yielded first. The stop is what the next call returns, without a draw. A new batch has room for n items at once, or for 1024 if n is more.
+    /// Creating it draws nothing and allocates nothing. `next` draws until the batch has n items, or a stop comes: `Ok(None)` or a failure. A buffered batch is yielded first. The stop is what the next call returns, without a draw. A new batch has room for n items at once, or for 1024 if n is more.
     ///
     /// It fails as the source does. After a failure and after `Ok(None)` the next call draws again.
     ///
@@ -1701,7 +1703,7 @@ pub trait FallibleItertools: FallibleIterator + Sized {
 
     /// Yields groups of adjacent items with equal keys, each with its key.
     ///
-    /// Creating it draws nothing and calls nothing. `next` draws until an item has another key than the buffered group, or a stop comes: `Ok(None)` or a failure. It calls the closure once on each item. A buffered group is yielded first. The stop is what the next call returns, without a draw. After a stop a new group begins. A new group has room at once for as many items as the one that it follows has, or for 1024 if that has more.
+    /// Creating it draws nothing, calls nothing and allocates nothing. `next` draws until an item has another key than the buffered group, or a stop comes: `Ok(None)` or a failure. It calls the closure once on each item. A buffered group is yielded first. The stop is what the next call returns, without a draw. After a stop a new group begins. A new group has room at once for as many items as the one that it follows has, or for 1024 if that has more.
     ///
     /// It fails as the source does. The closure's failure is a stop too. Then the item is lost, and no other. After a failure and after `Ok(None)` the next call draws again.
     ///
@@ -1847,7 +1849,7 @@ pub trait FallibleItertools: FallibleIterator + Sized {
 
     /// Yields each item that equals none before it: of equal items the first.
     ///
-    /// Creating it draws nothing. `next` draws up to an item that equals none that was yielded, a failure or an `Ok(None)`. A set has a clone of each item that was yielded. It fails as the source does, and a failure parts nothing. After a failure or an `Ok(None)` the set stays.
+    /// Creating it draws nothing and allocates nothing. `next` draws up to an item that equals none that was yielded, a failure or an `Ok(None)`. A set has a clone of each item that was yielded. It fails as the source does, and a failure parts nothing. After a failure or an `Ok(None)` the set stays.
     ///
     /// ```
     /// # use fallible_iterator::{FallibleIterator, convert};

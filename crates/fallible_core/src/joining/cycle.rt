@@ -28,7 +28,11 @@ where
     ghost contract = { seen_as cycle_parts
         (cycle_contract I.is_clone I.is_infallible I.Error.from_gives I.contract) };
 
-    /// Draws the current run once. It requires that `next` may be called on each clone of the kept source. At `Ok(None)` it clones the kept source. The clone is the current run then, and is drawn once, whatever comes. If the clone can't be allocated, the call fails with the failure converted from `AllocError`, and the run stays as drawn past its `Ok(None)`. The kept source stays in each case.
+    /// Draws the current run once. At `Ok(None)` it clones the kept source. The clone is the current run then, and is drawn once, whatever comes. The kept source stays in each case.
+    ///
+    /// Requires: `next` may be called on each clone of the kept source.
+    ///
+    /// Memory: if the clone can't be allocated, the call fails with the failure converted from `AllocError`, and the run stays as drawn past its `Ok(None)`.
     fn next(&mut self) -> Result<Option<I::Item>, I::Error> {
         match self.it.next() {
             Ok(Some(x)) => Ok(Some(x)),

@@ -30,7 +30,9 @@ impl<U: IntoFallibleIterator, I: FallibleIterator<Item = U, Error = U::Error>> F
     ghost contract = { seen_as flatten_parts
         (flatten_contract I.contract U.into_gives U.IntoFallibleIter.contract) };
 
-    /// Draws the current inner iterator. If there is none or it ended, it draws the outer source until an item becomes an inner iterator that does not end at once, or a failure or `Ok(None)` comes. It requires that `next` may be called on the current inner iterator and on each that may come.
+    /// Draws the current inner iterator. If there is none or it ended, it draws the outer source until an item becomes an inner iterator that does not end at once, or a failure or `Ok(None)` comes.
+    ///
+    /// Requires: `next` may be called on the current inner iterator and on each that may come.
     fn next(&mut self) -> Result<Option<U::Item>, U::Error> {
         next_joined(&mut self.it, &mut self.in_hand)
     }

@@ -15,7 +15,9 @@ use fallible_contract::folds::Turn;
 use fallible_contract::passing::{Outcome, Pass, passed};
 use std::alloc::AllocError;
 
-/// A clone of what each item points to. If a clone can't be allocated, the failure converted from `AllocError` is yielded, and the item is lost.
+/// A clone of what each item points to.
+///
+/// Memory: if a clone can't be allocated, the failure converted from `AllocError` is yielded, and the item is lost.
 #[derive(Clone, Debug, Drop)]
 pub struct Cloned<I> {
     pub(crate) it: I,

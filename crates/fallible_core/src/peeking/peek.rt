@@ -19,9 +19,11 @@ where
     ///
     /// It draws once if nothing is buffered, and otherwise nothing. It fails as the source does; a failure isn't buffered. An item or an `Ok(None)` is buffered then, so that `next` returns it without a draw. The iterator may be used again.
     ///
-    /// The reference borrows the whole iterator while it is used. A caller whose proof goes on after it takes `look`, which passes the item to a closure, or `peek_copied`.
+    /// The reference borrows the whole iterator while it is used.
     ///
-    /// Requires that `next` may be called.
+    /// Requires: `next` may be called.
+    ///
+    /// Proof: to go on after it take `look`, which passes the item to a closure, or `peek_copied`.
     ///
     /// ```
     /// let mut it = convert([Ok::<u32, u8>(150), Err(9)].into_iter()).peekable();
@@ -49,9 +51,11 @@ where
 
     /// Returns what the closure returns for a reference to the next item, or `Ok(None)`.
     ///
-    /// Draws, errors and what is buffered: as `peek`. The iterator may be used again, and a caller's proof knows what is buffered.
+    /// Draws, errors and what is buffered: as `peek`. The iterator may be used again.
     ///
-    /// Requires that `next` may be called, and that the closure may be called on a reference to each item that may come.
+    /// Requires: `next` may be called, and the closure may be called on a reference to each item that may come.
+    ///
+    /// Proof: a caller knows then what is buffered.
     ///
     /// ```
     /// let mut it = convert([Ok::<u32, u8>(150), Ok(7)].into_iter()).peekable();
@@ -82,9 +86,11 @@ where
 
     /// Returns a copy of the next item, or `Ok(None)`.
     ///
-    /// Draws, errors and what is buffered: as `peek`. The iterator may be used again, and a caller's proof knows what is buffered.
+    /// Draws, errors and what is buffered: as `peek`. The iterator may be used again.
     ///
-    /// Requires that `next` may be called.
+    /// Requires: `next` may be called.
+    ///
+    /// Proof: a caller knows then what is buffered.
     ///
     /// ```
     /// let mut it = convert([Ok::<u32, u8>(150), Ok(7)].into_iter()).peekable();
@@ -109,11 +115,13 @@ where
         Ok(self.held().copied())
     }
 
-    /// Buffers what comes next, an item or an `Ok(None)`, as `peek` does, and returns `Ok(())`. Then `held` returns the item: with it this is `peek` in two steps, after which a caller's proof knows what is buffered.
+    /// Buffers what comes next, an item or an `Ok(None)`, as `peek` does, and returns `Ok(())`. Then `held` returns the item: with it this is `peek` in two steps.
     ///
     /// Draws, errors and what is buffered: as `peek`. The iterator may be used again.
     ///
-    /// Requires that `next` may be called.
+    /// Requires: `next` may be called.
+    ///
+    /// Proof: a caller knows then what is buffered.
     ///
     /// ```
     /// let mut it = convert([Ok::<u32, u8>(150), Err(9)].into_iter()).peekable();

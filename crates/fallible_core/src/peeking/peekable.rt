@@ -71,9 +71,11 @@ where
 {
     /// Returns the next item, if the closure returns true for it, and otherwise `Ok(None)`. At an `Ok(None)` the closure isn't called.
     ///
-    /// It draws once if nothing is buffered, and otherwise nothing. It fails as the source does; a failure isn't buffered. An item that is rejected stays buffered, and so does an `Ok(None)`. The iterator may be used again, and after an item each bound is lower.
+    /// It draws once if nothing is buffered, and otherwise nothing. It fails as the source does; a failure isn't buffered. An item that is rejected stays buffered, and so does an `Ok(None)`. The iterator may be used again.
     ///
-    /// Requires that `next` may be called, and that the closure may be called on a reference to each item that may come.
+    /// Requires: `next` may be called, and the closure may be called on a reference to each item that may come.
+    ///
+    /// Proof: after an item each bound is lower.
     ///
     /// ```
     /// let mut it = convert([Ok::<u32, u8>(150), Ok(7)].into_iter()).peekable();
@@ -120,7 +122,7 @@ where
     ///
     /// Draws, errors and what is buffered: as `next_if`. The iterator may be used again.
     ///
-    /// Requires that `next` may be called.
+    /// Requires: `next` may be called.
     ///
     /// ```
     /// let mut it = convert([Ok::<u32, u8>(150), Ok(7)].into_iter()).peekable();

@@ -17,7 +17,9 @@ pub trait IntoFallibleIterator {
     // Holds of the value and of what it may become.
     ghost into_gives: { Self → Self.IntoFallibleIter → Type 0 };
 
-    /// Returns the fallible iterator that the value becomes: `into_gives` says which. A fallible iterator returns itself, and draws nothing.
+    /// Returns the fallible iterator that the value becomes. A fallible iterator returns itself, and draws nothing.
+    ///
+    /// Proof: `into_gives` says what it becomes.
     fn into_fallible_iter(self) -> Self::IntoFallibleIter
         ensures { into_gives self result };
 }

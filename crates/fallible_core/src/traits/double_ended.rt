@@ -11,18 +11,22 @@ use crate::traits::FallibleIterator;
 use fallible_contract::folds::{TryFoldTurn, Turn};
 use std::ops::ControlFlow;
 
-/// A fallible iterator that is double-ended: it may be drawn from the back as well. Draws from both ends may follow one another in any order; a bound stays one after them all, and the hint is what the type's rule says of what is left.
+/// A fallible iterator that is double-ended: it may be drawn from the back as well. Draws from both ends may follow one another in any order.
 ///
-/// A type of one's own writes `next_back` and `ends`: its step from the back, and what may come from either end. `counted_ends` of `specs/Ends` makes that of a step. A search then finds `lawful_ends`.
+/// A type of one's own writes `next_back`.
+///
+/// Proof: a bound stays one after draws from both ends, and the hint is what the type's rule says of what is left. A type of one's own also writes `ends`: its step from the back, and what may come from either end. `counted_ends` of `specs/Ends` makes that of a step. A search then finds `lawful_ends`.
 pub trait DoubleEndedFallibleIterator: FallibleIterator {
     // What the contract says of draws from the back.
     ghost ends: { Ends Self Self.Item Self.Error };
 
-    /// Returns the next item from the back, a failure or `Ok(None)`. The step from the back says which.
+    /// Returns the next item from the back, a failure or `Ok(None)`.
     ///
-    /// It is one draw, from the back. It fails where the step says so. What is left is what the step says; by the type's law the iterator may be used again, from either end.
+    /// It is one draw, from the back. After that the iterator may be used again, from either end.
     ///
-    /// Requires that `next` and `next_back` may be called.
+    /// Requires: `next` and `next_back` may be called.
+    ///
+    /// Proof: the type's step from the back says what it returns, where it fails and what is left. That the iterator may be used again is the type's law.
     ///
     /// ```
     /// let mut it = convert([Ok::<u32, u8>(1), Ok(2), Err(9)].into_iter());
@@ -65,7 +69,9 @@ pub trait DoubleEndedFallibleIterator: FallibleIterator {
     ///
     /// It draws from the back up to `Ok(None)`, the first failure or an item on which the closure fails. It fails with the iterator's failure, converted, or with the closure's error. Nothing is drawn after that, and the iterator may be used again, from either end.
     ///
-    /// Requires that `next` and `next_back` may be called and that the iterator is finite, and that the closure may be called on the value so far and each item that may come from the back.
+    /// Precondition: the iterator is finite.
+    ///
+    /// Requires: `next` and `next_back` may be called, and the closure may be called on the value so far and each item that may come from the back.
     ///
     /// ```
     /// let mut it = convert([Ok::<u8, &str>(7), Ok(100), Ok(100), Ok(100)].into_iter());
@@ -112,9 +118,13 @@ pub trait DoubleEndedFallibleIterator: FallibleIterator {
 
     /// As `try_rfold`, but the closure fails with the iterator's own error, and the iterator is consumed.
     ///
-    /// Draws and errors: as `try_rfold`, but no failure is converted. No clause says what is left.
+    /// Draws and errors: as `try_rfold`, but no failure is converted.
     ///
-    /// Requires what `try_rfold` requires.
+    /// Precondition: the iterator is finite.
+    ///
+    /// Requires: what `try_rfold` requires.
+    ///
+    /// Proof: no clause says what is left.
     ///
     /// ```
     /// let digits = [Ok::<u32, u8>(1), Ok(2), Ok(3)];
@@ -146,7 +156,7 @@ pub trait DoubleEndedFallibleIterator: FallibleIterator {
     ///
     /// It is one draw, and fails as `next` does. The iterator may be used again, from either end, where `draw` says it of the front alone. Of what is listed from both ends it leaves the rest.
     ///
-    /// Requires that `next` and `next_back` may be called.
+    /// Requires: `next` and `next_back` may be called.
     ///
     /// ```
     /// let mut it = convert([Ok::<u32, u8>(1), Ok(2), Err(9)].into_iter());
@@ -175,7 +185,7 @@ pub trait DoubleEndedFallibleIterator: FallibleIterator {
     ///
     /// It is one draw, from the back, and fails as `next_back` does. The iterator may be used again, from either end. Of what is listed from both ends it leaves what stands before it.
     ///
-    /// Requires that `next` and `next_back` may be called.
+    /// Requires: `next` and `next_back` may be called.
     ///
     /// ```
     /// let mut it = convert([Ok::<u32, u8>(1), Ok(2), Err(9)].into_iter());

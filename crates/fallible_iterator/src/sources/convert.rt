@@ -74,10 +74,13 @@ impl<T, E, I: std::iter::DoubleEndedIterator<Item = Result<T, E>>> Convert<I> {
     ///
     /// Creating it draws nothing. Each call draws once, from the other end. It fails as that draw does. After a failure and after `Ok(None)` the next call draws again.
     ///
-    /// Requires nothing. `next` requires that `next` and `next_back` may be called on the source.
+    /// Requires: nothing. `next` requires that `next` and `next_back` may be called on the source.
     ///
     /// ```
-    /// convert(readings.into_iter()).rev().collect(alloc)
+    /// let readings = [Ok::<u32, u8>(150), Ok(7), Err(9)];
+    /// let mut it = convert(readings.into_iter()).rev();
+    /// let drawn = [it.next(), it.next(), it.next(), it.next()];
+    /// assert_eq!(rt; drawn, [Err(9), Ok(Some(7)), Ok(Some(150)), Ok(None)]);
     /// ```
     pub fn rev(self) -> Rev<Convert<I>>
         ensures parts { rev_parts result ≡ self }

@@ -79,7 +79,7 @@ impl<T, I: std::iter::DoubleEndedIterator<Item = T>> IntoFallible<I> {
     ///
     /// Creating it draws nothing. Each call draws once, from the other end. It fails as that draw does. After a failure and after `Ok(None)` the next call draws again.
     ///
-    /// Requires nothing. `next` requires that `next` and `next_back` may be called on the source.
+    /// Requires: nothing. `next` requires that `next` and `next_back` may be called on the source.
     ///
     /// ```
     /// let mut it = IntoFallible::from(1..4u32).rev();

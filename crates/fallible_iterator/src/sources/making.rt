@@ -22,7 +22,11 @@ use std::marker::PhantomData;
 ///
 /// Creating it draws nothing. `next` draws the std iterator once. It fails with the value of an `Err`. After a failure and after `Ok(None)` the next call draws the std iterator again.
 ///
-/// Requires nothing. `next` requires that the std iterator may be drawn again after each element and after `None`, and that a bound that it states doesn't rise there; from both ends, if that holds after every draw from either end. For a std iterator that doesn't say so, as `lines` of a reader, use `convert_fused`. What it lists from the back is said by `rev` and by `law_back_convert`, which require a double-ended std iterator.
+/// For a std iterator that may go on after a `None`, as `lines` of a reader, use `convert_fused`.
+///
+/// Requires: nothing. `next` requires that the std iterator may be drawn again after each element and after `None`, and that a bound that it states doesn't rise there; from both ends, if that holds after every draw from either end.
+///
+/// Proof: what it lists from the back is said by `rev` and by `law_back_convert`, which require a double-ended std iterator.
 ///
 /// ```
 /// let mut it = convert([Ok::<u32, u8>(150), Err(9), Ok(700)].into_iter());
@@ -46,7 +50,7 @@ pub fn convert<T, E, I: Iterator<Item = Result<T, E>>>(it: I) -> Convert<I>
 ///
 /// Creating it draws nothing. `next` draws the std iterator once. It fails with the value of an `Err`. It is fused: after the first `Ok(None)` the std iterator isn't drawn again.
 ///
-/// Requires nothing. `next` requires that the std iterator may be drawn again after each `Some`.
+/// Requires: nothing. `next` requires that the std iterator may be drawn again after each `Some`.
 ///
 /// ```
 /// let mut polls = 0u32;
@@ -119,9 +123,11 @@ pub fn once_err<T, E>(error: E) -> OnceErr<T, E>
 
 /// Creates a fallible iterator whose `next` returns what the closure returns.
 ///
-/// Creating it draws nothing and calls nothing. `next` calls the closure once, also after an `Ok(None)` or a failure. It fails as the closure does. It states no bound, so it is drained through `take`. If the closure's state shows what it will return, that is listed.
+/// Creating it draws nothing and calls nothing. `next` calls the closure once, also after an `Ok(None)` or a failure. It fails as the closure does. It may have no end, and is drained through `take`.
 ///
-/// Requires that the closure may be called in each state that such calls bring it to.
+/// Requires: the closure may be called in each state that such calls bring it to.
+///
+/// Proof: it states no bound. If the closure's state shows what it will return, that is listed.
 ///
 /// ```
 /// let mut calls = 0u32;
@@ -164,7 +170,11 @@ pub fn empty<T, E>() -> Empty<T, E>
 
 /// Creates a fallible iterator that always yields a clone of `value`.
 ///
-/// Creating it draws nothing. If a clone can't be allocated, it fails with the failure converted from `AllocError`. The value stays, and the next call clones it again. It states no bound, so it is drained through `take`.
+/// Creating it draws nothing. Each `next` clones the value, which stays. It has no end, and is drained through `take`.
+///
+/// Memory: if a clone can't be allocated, it fails with the failure converted from `AllocError`, and the next call clones the value again.
+///
+/// Proof: it states no bound.
 ///
 /// ```
 /// let mut it = repeat::<u32, AllocError>(5);
@@ -185,15 +195,13 @@ pub fn repeat<T: Clone, E: From<AllocError>>(value: T) -> Repeat<T, E>
 
 /// Creates a fallible iterator that always fails with a clone of `error`.
 ///
-/// Creating it draws nothing. If a clone can't be allocated, it fails with the failure converted from `AllocError`. The error stays, and the next call clones it again.
+/// Creating it draws nothing. Each `next` clones the error, which stays.
+///
+/// Memory: if a clone can't be allocated, it fails with the failure converted from `AllocError`, and the next call clones the error again.
 ///
 /// ```
-/// let mut it = repeat_err::<u32, TestError>(TestError::Number(4));
-/// let failure = || Err(TestError::Number(4));
-/// assert_eq!(rt;
-///     [it.next(), it.next(), it.next()],
-///     [failure(), failure(), failure()]
-/// );
+/// let mut it = repeat_err::<u32, fmt::Error>(fmt::Error);
+/// assert_eq!(rt; [it.next(), it.next()], [Err(fmt::Error), Err(fmt::Error)]);
 /// ```
 pub fn repeat_err<T, E: Clone + From<AllocError>>(error: E) -> RepeatErr<T, E>
     ensures parts { repeat_err_parts result ≡ error }

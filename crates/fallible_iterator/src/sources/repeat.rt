@@ -9,7 +9,9 @@ use fallible_core::FallibleIterator;
 use std::alloc::AllocError;
 use std::marker::PhantomData;
 
-/// A clone of one value as each item. If a clone can't be allocated, the failure converted from `AllocError` is yielded, and the value stays.
+/// A clone of one value as each item. The value stays.
+///
+/// Memory: if a clone can't be allocated, the failure converted from `AllocError` is yielded.
 #[derive(Clone, Debug, Drop)]
 pub struct Repeat<T, E> {
     pub(crate) value: T,

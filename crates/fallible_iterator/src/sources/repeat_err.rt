@@ -9,7 +9,9 @@ use fallible_core::FallibleIterator;
 use std::alloc::AllocError;
 use std::marker::PhantomData;
 
-/// A clone of one error as each failure. If a clone can't be allocated, the failure is the one converted from `AllocError`, and the error stays.
+/// A clone of one error as each failure. The error stays.
+///
+/// Memory: if a clone can't be allocated, the failure is the one converted from `AllocError`.
 #[derive(Clone, Debug, Drop)]
 pub struct RepeatErr<T, E> {
     pub(crate) item_type: PhantomData<T>,

@@ -31,7 +31,7 @@ pub enum Fault<E> {
 }
 
 impl<E> From<E> for Fault<E> {
-    /// `Fault::Source`
+    /// The source's failure.
     fn from(error: E) -> Fault<E> {
         Fault::Source(error)
     }

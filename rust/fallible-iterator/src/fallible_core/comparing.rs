@@ -2,7 +2,6 @@
 
 use crate::fallible_contract::comparing::{Comparison, Reading, decide};
 use crate::fallible_core::joining::Zip;
-use crate::fallible_core::number::Number;
 use crate::fallible_core::traits::FallibleIterator;
 use crate::fallible_core::traits::conversion::IntoFallibleIterator;
 use core::cmp::Ordering;
@@ -43,11 +42,11 @@ where
     }
 }
 
-/// Returns the two, and a bound of one of them, for a loop of rounds of one's own to count down by.
+/// Returns the two, for a loop of rounds of one's own.
 ///
 /// <details><summary>Contract</summary>
 ///
-/// As it is proved, in [these words](crate::words):
+/// As it is proved, where its signature is another, in [these words](crate::words):
 ///
 /// ```text
 /// requires { L.contract.is_finite left ⊎ R.contract.is_finite right }
@@ -56,15 +55,14 @@ where
 /// ensures number { L.contract.bound left result.2.value ⊎ R.contract.bound right result.2.value }
 /// ```
 /// </details>
-pub fn number_of_either<L, R>(left: L, right: R) -> (L, R, Number)
+pub fn number_of_either<L, R>(left: L, right: R) -> (L, R)
 where
     L: FallibleIterator,
     R: FallibleIterator<Error = L::Error>,
 {
     let both = Zip { left, right };
-    let number = both.number();
     let Zip { left, right } = both;
-    (left, right, number)
+    (left, right)
 }
 
 /// Compares the iterator with what the other value becomes, by the rule, and reads the result.

@@ -3,7 +3,6 @@
 use crate::fallible_contract::failing::{Fail, failed, turn_on_failure};
 use crate::fallible_contract::folds::Turn;
 use crate::fallible_contract::passing::Pass;
-use crate::fallible_core::number::Number;
 use crate::fallible_core::traits::FallibleIterator;
 use crate::fallible_core::traits::double_ended::DoubleEndedFallibleIterator;
 use core::ops::ControlFlow;
@@ -69,11 +68,11 @@ pub fn drive_back_failing<
     failed(it.drive_back(state, turn), p, adapter)
 }
 
-/// The fold from the front of an adapter by which a failure may become an item, nothing or another failure: the source's fold up to a failure, and the turn on that; and again, if that turn goes on. Each further fold of the source has fewer draws to make, by the bound `left`.
+/// The fold from the front of an adapter by which a failure may become an item, nothing or another failure: the source's fold up to a failure, and the turn on that; and again, if that turn goes on.
 ///
 /// <details><summary>Contract</summary>
 ///
-/// As it is proved, in [these words](crate::words):
+/// As it is proved, where its signature is another, in [these words](crate::words):
 ///
 /// ```text
 /// requires can_next { (recovering_contract I.contract (A.call adapter.now)
@@ -100,11 +99,9 @@ pub fn drive_recovering<
     it: &mut I,
     p: &mut P,
     adapter: &A,
-    left: Number,
     state: &mut C,
     turn: &K,
 ) -> Result<Option<R>, E> {
-    let mut left = left;
     loop {
         match it.drive(state, turn) {
             Ok(value) => return Ok(value),
@@ -113,7 +110,6 @@ pub fn drive_recovering<
                 ControlFlow::Break(answer) => return answer,
             },
         }
-        left = left.one_less();
     }
 }
 
@@ -121,7 +117,7 @@ pub fn drive_recovering<
 ///
 /// <details><summary>Contract</summary>
 ///
-/// As it is proved, in [these words](crate::words):
+/// As it is proved, where its signature is another, in [these words](crate::words):
 ///
 /// ```text
 /// requires can_next { (recovering_contract (from_back I.contract I.ends) (A.call adapter.now)
@@ -148,11 +144,9 @@ pub fn drive_back_recovering<
     it: &mut I,
     p: &mut P,
     adapter: &A,
-    left: Number,
     state: &mut C,
     turn: &K,
 ) -> Result<Option<R>, E> {
-    let mut left = left;
     loop {
         match it.drive_back(state, turn) {
             Ok(value) => return Ok(value),
@@ -161,6 +155,5 @@ pub fn drive_back_recovering<
                 ControlFlow::Break(answer) => return answer,
             },
         }
-        left = left.one_less();
     }
 }

@@ -22,7 +22,6 @@ use crate::fallible_core::cutting::{Fuse, Skip, StepBy, Take, TakeWhile};
 use crate::fallible_core::ends::Rev;
 use crate::fallible_core::filtering::{Filter, FilterMap, SkipWhile};
 use crate::fallible_core::joining::{Chain, Cycle, FlatMap, Flatten, StillDrawn, Zip};
-use crate::fallible_core::number::Number;
 use crate::fallible_core::one_to_one::{Cloned, Enumerate, Inspect, Map, MapErr, MapWhile, Scan};
 use crate::fallible_core::peeking::Peekable;
 use crate::fallible_core::picking::{best_by, best_by_key};
@@ -35,7 +34,7 @@ use core::ops::ControlFlow;
 
 /// An iterator whose `next` may fail. It may go on after `Ok(None)` and after a failure.
 ///
-/// A type of one's own writes `next`, and `size_hint` where it knows bounds.
+/// A type of one's own writes `next` and `size_hint`, which has a default in Rust.
 pub trait FallibleIterator {
     /// The type of its items.
     type Item;
@@ -70,7 +69,7 @@ pub trait FallibleIterator {
     /// It draws nothing and never fails. The iterator is as before.
     ///
     /// ```
-    /// # use fallible_iterator::{FallibleIterator, convert, once};
+    /// # use fallible_iterator::{FallibleIterator, once};
     /// let mut it = once::<u32, u8>(150);
     /// assert_eq!(it.size_hint(), (1, Some(1)));
     /// assert_eq!(it.next(), Ok(Some(150)));
@@ -87,30 +86,6 @@ pub trait FallibleIterator {
     /// </details>
     fn size_hint(&self) -> (usize, Option<usize>) {
         (0, None)
-    }
-
-    /// Returns a bound, for a loop of one's own to count down by. It has no bytes, and only clauses read it.
-    ///
-    /// `let mut left = it.number();` before the loop, `left = left.one_less();` after each item, and `left.value` as the measure. The invariant is that `next` may be called, and that some bound of the iterator is at most `left.value`.
-    ///
-    /// It draws nothing and never fails. The iterator is as before.
-    ///
-    /// Precondition, which is not checked: the iterator is finite.
-    ///
-    /// <details><summary>Contract</summary>
-    ///
-    /// As it is proved, in [these words](crate::words):
-    ///
-    /// ```text
-    /// requires { contract.is_finite self.now }
-    /// ensures { contract.bound self.now result.value }
-    /// ```
-    /// </details>
-    #[doc(hidden)]
-    fn number(&self) -> Number {
-        Number {
-            marker: PhantomData,
-        }
     }
 
     /// For types that override folds: draws until `Ok(None)`, a failure or a turn that stops the fold. It returns what `next` could: `Ok(None)`, the failure, or what the turn stopped with. `state` points to all that changes from turn to turn. Every fold goes through it. A caller uses `try_fold`.
@@ -381,6 +356,8 @@ pub trait FallibleIterator {
     /// As `try_fold`, but the closure fails with the iterator's own error, and the iterator is consumed.
     ///
     /// It draws up to `Ok(None)`, the first failure or an item on which the closure fails. It fails with the first failure, of this iterator or of the closure.
+    ///
+    /// Precondition, which is not checked: the iterator is finite.
     ///
     /// ```
     /// # use fallible_iterator::{FallibleIterator, convert};
@@ -705,7 +682,7 @@ pub trait FallibleIterator {
     ///
     /// Creating it draws nothing. `next` draws at most `step` times. It fails as the source does. After a failure and after `Ok(None)` it goes on counting.
     ///
-    /// It panics if the step is 0.
+    /// In Rust it panics if the step is 0.
     ///
     /// ```
     /// # use fallible_iterator::{FallibleIterator, convert};
@@ -745,7 +722,7 @@ pub trait FallibleIterator {
     ///
     /// Laziness, draws, errors and behaviour after `Ok(None)`: as `filter`.
     ///
-    /// Precondition, which is not checked: the iterator is finite.
+    /// Precondition, which is not checked: the iterator is finite, as for `filter`.
     ///
     /// ```
     /// # use fallible_iterator::{FallibleIterator, convert};
@@ -886,7 +863,7 @@ pub trait FallibleIterator {
     ///
     /// Laziness, draws, errors and behaviour after `Ok(None)`: as `filter`. If the predicate fails, the skipping goes on.
     ///
-    /// Precondition, which is not checked: the iterator is finite.
+    /// Precondition, which is not checked: the iterator is finite, as for `filter`.
     ///
     /// ```
     /// # use fallible_iterator::{FallibleIterator, convert};
@@ -1067,7 +1044,7 @@ pub trait FallibleIterator {
 
     /// Yields what this iterator yields up to its first `Ok(None)`, and then what `it` yields.
     ///
-    /// Creating it draws nothing. `next` draws once; if that draw is the first `Ok(None)`, it draws `it` in the same call. It fails as the side does that is drawn. A failure passes, and changes no side. From the first `Ok(None)` on only `it` is drawn.
+    /// Creating it draws nothing. It keeps the iterator that `it` becomes. `next` draws once; if that draw is the first `Ok(None)`, it draws `it` in the same call. It fails as the side does that is drawn. A failure passes, and changes no side. From the first `Ok(None)` on only `it` is drawn.
     ///
     /// ```
     /// # use fallible_iterator::{FallibleIterator, convert};
@@ -1200,6 +1177,8 @@ pub trait FallibleIterator {
     ///
     /// Laziness, draws, errors and behaviour after `Ok(None)`: as `flatten` of `map`.
     ///
+    /// Precondition, which is not checked: the iterator is finite, as for `flatten`.
+    ///
     /// ```
     /// # use fallible_iterator::{FallibleIterator, IteratorExt, convert};
     /// let bounds = [Ok(2), Ok(0), Ok(1)];
@@ -1241,11 +1220,9 @@ pub trait FallibleIterator {
         }
     }
 
-    /// Returns a collection of the items up to `Ok(None)`.
+    /// Returns a collection of the items up to `Ok(None)`. In Rattle a set keeps the first of equal items, and a map the first of equal keys with its last value; so do the collections of `partition` and `unzip`. In Rust that is the collection's own rule.
     ///
-    /// It draws up to `Ok(None)` or the first failure.
-    ///
-    /// It fails with that failure. It consumes the iterator.
+    /// It draws up to `Ok(None)` or the first failure. It fails with that failure. It consumes the iterator.
     ///
     /// Precondition, which is not checked: the iterator is finite.
     ///
@@ -1592,7 +1569,9 @@ pub trait FallibleIterator {
 
     /// Returns how many items come before the first one for which the predicate returns true; `Ok(None)` if there is none.
     ///
-    /// It draws up to the first item on which the predicate returns true or fails, the first failure or `Ok(None)`. Precondition, which is not checked: at most `usize::MAX` items are left. Errors, what is left and the rest of the precondition: as `all`.
+    /// It draws up to the first item on which the predicate returns true or fails, the first failure or `Ok(None)`. Errors and what is left: as `all`.
+    ///
+    /// Precondition, which is not checked: at most `usize::MAX` items are left.
     ///
     /// ```
     /// # use fallible_iterator::{FallibleIterator, convert};
@@ -2181,7 +2160,7 @@ pub trait FallibleIterator {
     ///
     /// Creating it makes one clone, for the first run, and draws nothing. `next` draws once, and at a run's `Ok(None)` once more, from a fresh clone.
     ///
-    /// `next` fails as the run does. It may have no end, and is drained through `take`.
+    /// `next` fails as the run does, and the run goes on after that. It may have no end, and is drained through `take`.
     ///
     /// ```
     /// # use fallible_iterator::{FallibleIterator, convert};
@@ -2311,7 +2290,7 @@ pub trait FallibleIterator {
     ///
     /// Laziness and draws: as `iterator`.
     ///
-    /// It panics at a failure.
+    /// In Rust it panics at a failure.
     ///
     /// ```
     /// # use fallible_iterator::{FallibleIterator, IteratorExt};

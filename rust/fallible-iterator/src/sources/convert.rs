@@ -60,14 +60,11 @@ impl<T, E, I: core::iter::DoubleEndedIterator<Item = Result<T, E>>> Convert<I> {
     /// Creating it draws nothing. Each call draws once, from the other end. It fails as that draw does. After a failure and after `Ok(None)` the next call draws again.
     ///
     /// ```
-    /// # use fallible_iterator::DoubleEndedFallibleIterator;
-    /// # use fallible_iterator::FallibleIterator;
-    /// # use fallible_iterator::convert;
-    /// # pub fn last_first(readings: Vec<Result<u32, u8>>) -> Result<Vec<u32>, u8>
-    /// # {
-    /// convert(readings.into_iter()).rev().collect()
-    /// # }
-    /// # fn main() { let _ = last_first(vec![Ok(150), Ok(7), Ok(700), Ok(0), Ok(600)]); }
+    /// # use fallible_iterator::{DoubleEndedFallibleIterator, FallibleIterator, convert};
+    /// let readings = [Ok::<u32, u8>(150), Ok(7), Err(9)];
+    /// let mut it = convert(readings.into_iter()).rev();
+    /// let drawn = [it.next(), it.next(), it.next(), it.next()];
+    /// assert_eq!(drawn, [Err(9), Ok(Some(7)), Ok(Some(150)), Ok(None)]);
     /// ```
     ///
     /// <details><summary>Contract</summary>

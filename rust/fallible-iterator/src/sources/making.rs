@@ -8,7 +8,7 @@ use core::marker::PhantomData;
 ///
 /// Creating it draws nothing. `next` draws the std iterator once. It fails with the value of an `Err`. After a failure and after `Ok(None)` the next call draws the std iterator again.
 ///
-/// For a std iterator that may go on after `None`, as `lines` of a reader, use `convert_fused`.
+/// For a std iterator that may go on after a `None`, as `lines` of a reader, use `convert_fused`.
 ///
 /// ```
 /// # use fallible_iterator::{FallibleIterator, convert};
@@ -193,7 +193,7 @@ pub fn empty<T, E>() -> Empty<T, E> {
 
 /// Creates a fallible iterator that always yields a clone of `value`.
 ///
-/// Creating it draws nothing. The value stays, and the next call clones it again. It may have no end, and is drained through `take`.
+/// Creating it draws nothing. Each `next` clones the value, which stays. It has no end, and is drained through `take`.
 ///
 /// ```
 /// # use fallible_iterator::{FallibleIterator, repeat};
@@ -222,43 +222,13 @@ pub fn repeat<T: Clone, E>(value: T) -> Repeat<T, E> {
 
 /// Creates a fallible iterator that always fails with a clone of `error`.
 ///
-/// Creating it draws nothing. The error stays, and the next call clones it again.
+/// Creating it draws nothing. Each `next` clones the error, which stays.
 ///
 /// ```
-/// # use fallible_iterator::FallibleIterator;
-/// # use fallible_iterator::IteratorExt;
-/// # use fallible_iterator::repeat_err;
-/// # use fallible_iterator::memory::AllocError;
-/// # pub struct Fail;
-/// # impl Fail {
-/// #     pub fn new(what: impl std::fmt::Display) -> Fail {
-/// #         panic!("{what}")
-/// #     }
-/// # }
-/// # impl<E: std::fmt::Debug> From<E> for Fail {
-/// #     fn from(e: E) -> Fail {
-/// #         panic!("{e:?}")
-/// #     }
-/// # }
-/// # #[derive(Clone, Debug, PartialEq, Eq)]
-/// # pub enum TestError {
-/// #     Number(u32),
-/// #     Memory,
-/// # }
-/// # impl From<AllocError> for TestError {
-/// #     fn from(_refused: AllocError) -> TestError {
-/// #         TestError::Memory
-/// #     }
-/// # }
-/// # fn repeat_and_repeat_err_go_on() -> Result<(), Fail> {
-/// let mut it = repeat_err::<u32, TestError>(TestError::Number(4));
-/// let failure = || Err(TestError::Number(4));
-/// assert_eq!([it.next(), it.next(), it.next()],
-///     [failure(), failure(), failure()]
-/// );
-/// #     Ok(())
-/// # }
-/// # fn main() { let _ = repeat_and_repeat_err_go_on(); }
+/// # use fallible_iterator::{FallibleIterator, repeat_err};
+/// # use std::fmt;
+/// let mut it = repeat_err::<u32, fmt::Error>(fmt::Error);
+/// assert_eq!([it.next(), it.next()], [Err(fmt::Error), Err(fmt::Error)]);
 /// ```
 ///
 /// <details><summary>Contract</summary>

@@ -3,7 +3,7 @@
 use crate::fallible_core::FallibleIterator;
 use core::marker::PhantomData;
 
-/// A clone of one value as each item.
+/// A clone of one value as each item. The value stays.
 #[derive(Clone, Debug)]
 #[must_use = "an iterator draws nothing until it is asked"]
 pub struct Repeat<T, E> {

@@ -3,7 +3,7 @@
 use crate::fallible_core::FallibleIterator;
 use core::marker::PhantomData;
 
-/// A clone of one error as each failure.
+/// A clone of one error as each failure. The error stays.
 #[derive(Clone, Debug)]
 #[must_use = "an iterator draws nothing until it is asked"]
 pub struct RepeatErr<T, E> {

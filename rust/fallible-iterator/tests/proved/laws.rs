@@ -8,7 +8,7 @@ use fallible_iterator::fallible_core::{DoubleEndedFallibleIterator, FallibleIter
 ///
 /// It draws n times. It fails with `AllocError` if the allocation of its `Vec` fails: it allocates first, and nothing was drawn then. The iterator may be used again. Over a list of n answers or more it lists those after them.
 ///
-/// Requires that `next` may be called.
+/// Requires: `next` may be called.
 ///
 /// ```
 /// let mut it = convert([Ok::<u32, u8>(150), Err(9)].into_iter());
@@ -32,7 +32,7 @@ pub fn answers<I: FallibleIterator>(
 ///
 /// It draws once for each side. It fails with `AllocError` if the allocation of its `Vec` fails: it allocates first, and nothing was drawn then. The iterator may be used again, from either end. Over what both ends list they list what is between.
 ///
-/// Requires that `next` and `next_back` may be called.
+/// Requires: `next` and `next_back` may be called.
 ///
 /// ```
 /// let mut it = convert([Ok::<u32, u8>(1), Ok(2), Err(9)].into_iter());

@@ -51,7 +51,6 @@ pub(crate) fn next_joined<
     outer: &mut O,
     in_hand: &mut Option<U::IntoFallibleIter>,
 ) -> Result<Option<U::Item>, U::Error> {
-    let mut left = (*outer).number();
     loop {
         match in_hand {
             Some(inner) => match inner.next() {
@@ -67,7 +66,6 @@ pub(crate) fn next_joined<
             Ok(None) => return Ok(None),
             Err(e) => return Err(e),
         }
-        left = left.one_less();
     }
 }
 

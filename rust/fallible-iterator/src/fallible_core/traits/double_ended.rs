@@ -145,6 +145,8 @@ pub trait DoubleEndedFallibleIterator: FallibleIterator {
     ///
     /// Draws and errors: as `try_rfold`, but no failure is converted.
     ///
+    /// Precondition, which is not checked: the iterator is finite.
+    ///
     /// ```
     /// # use fallible_iterator::{DoubleEndedFallibleIterator, FallibleIterator, convert};
     /// let digits = [Ok::<u32, u8>(1), Ok(2), Ok(3)];

@@ -119,9 +119,7 @@ pub fn both_from_back(
 
 /// Whether the items read the same from both ends, up to the first two that differ, or the failure that comes first as they are drawn in turn.
 pub fn read_alike<I: DoubleEndedFallibleIterator<Item = u32>>(mut it: I) -> Result<bool, I::Error> {
-    let mut left = it.number();
     while let Some(first) = it.draw_front()? {
-        left = left.one_less();
         let Some(last) = it.draw_back()? else {
             return Ok(true);
         };

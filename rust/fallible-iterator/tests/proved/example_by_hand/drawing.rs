@@ -34,22 +34,17 @@ pub fn second_if_above<I: FallibleIterator<Item = u32>>(it: I) -> Result<Option<
 
 /// Draws until `Ok(None)`, or the first failure, and drops the items.
 pub fn draw_all<I: FallibleIterator>(it: &mut I) -> Result<(), I::Error> {
-    let mut left = (*it).number();
-    while let Some(_) = it.draw()? {
-        left = left.one_less();
-    }
+    while let Some(_) = it.draw()? {}
     Ok(())
 }
 
 /// The sum of the items up to the first that is 0, modulo 2 ^ 64, or the first failure before.
 pub fn sum_up_to_zero<I: FallibleIterator<Item = u32>>(mut it: I) -> Result<u64, I::Error> {
-    let mut left = it.number();
     let mut sum: u64 = 0;
     while let Some(item) = it.draw()? {
         if item == 0 {
             return Ok(sum);
         }
-        left = left.one_less();
         sum = sum.wrapping_add(u64::from(item));
     }
     Ok(sum)

@@ -4,12 +4,10 @@ use fallible_iterator::{FallibleIterator, Peekable};
 
 /// Draws up to the first 0, which is drawn too, or to `Ok(None)`.
 pub fn drop_up_to_zero<I: FallibleIterator<Item = u32>>(it: &mut I) -> Result<(), I::Error> {
-    let mut left = (*it).number();
     while let Some(item) = it.next()? {
         if item == 0 {
             return Ok(());
         }
-        left = left.one_less();
     }
     Ok(())
 }
@@ -18,10 +16,7 @@ pub fn drop_up_to_zero<I: FallibleIterator<Item = u32>>(it: &mut I) -> Result<()
 pub fn drop_below_ten<I: FallibleIterator<Item = u32>>(
     ahead: &mut Peekable<I>,
 ) -> Result<(), I::Error> {
-    let mut left = (*ahead).number();
-    while let Some(_) = ahead.next_if(|item| *item < 10)? {
-        left = left.one_less();
-    }
+    while let Some(_) = ahead.next_if(|item| *item < 10)? {}
     Ok(())
 }
 
@@ -29,14 +24,11 @@ pub fn drop_below_ten<I: FallibleIterator<Item = u32>>(
 pub fn drop_small<I: FallibleIterator<Item = u32>>(
     ahead: &mut Peekable<I>,
 ) -> Result<(), I::Error> {
-    let mut left = (*ahead).number();
     while let Some(item) = ahead.peek_copied()? {
         if item >= 10 {
             return Ok(());
         }
-        if ahead.next()?.is_some() {
-            left = left.one_less();
-        }
+        if ahead.next()?.is_some() {}
     }
     Ok(())
 }

@@ -109,10 +109,8 @@ pub fn rises<J: FallibleIterator<Item = u32>>(it: J) -> Result<u64, J::Error> {
 
 /// How often an item is greater than the one before it, modulo 2 ^ 64, or the first failure, of a source that looks ahead.
 fn rises_ahead<J: FallibleIterator<Item = u32>>(mut ahead: Peekable<J>) -> Result<u64, J::Error> {
-    let mut left = ahead.number();
     let mut rises: u64 = 0;
     while let Some(item) = ahead.draw()? {
-        left = left.one_less();
         if let Some(next) = ahead.peek_copied()? {
             if item < next {
                 rises = rises.wrapping_add(1);

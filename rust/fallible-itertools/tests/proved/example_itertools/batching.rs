@@ -47,10 +47,8 @@ pub fn largest_batch<I>(mut batches: I) -> Result<usize, NoBatch>
 where
     I: FallibleIterator<Item = Vec<u32>, Error = NoBatch>,
 {
-    let mut left = batches.number();
     let mut most: usize = 0;
     while let Some(batch) = batches.draw()? {
-        left = left.one_less();
         most = most.max(batch.len());
     }
     Ok(most)

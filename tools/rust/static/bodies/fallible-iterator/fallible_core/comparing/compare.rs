@@ -1,4 +1,4 @@
-// changed: one more parameter of a call, for items of two types; no number counts down
+// changed: one more parameter of a call, for items of two types
 // proved: 8cefd6e1
 pub fn compare<L, R, K>(left: L, right: R) -> Result<Option<Ordering>, L::Error>
 where
