@@ -75,7 +75,7 @@ class Row:
             sides = terms.split_at(terms.bare(conclusion), " ≡ ")
             over_list = bool(reading.over)
             if word in terms.LISTING and any(re.fullmatch(r"\w+\.new", part) for part in parts):
-                self.add(self.left, reading, parts[-1], held if "≤" in " ".join(held) else [], "left")
+                self.add(self.left, reading, parts[-1], held if "≤" in " ".join(held) else [])
                 self.returned += [said for said in returned if said not in self.returned]
             elif word in terms.LISTING and "result" in parts:
                 self.add(self.values, reading, parts[-1], held, word)
@@ -96,7 +96,7 @@ class Row:
     def add(self, cells, reading, term, held, word=""):
         """Adds a term with what has to hold for it."""
         text = reading.shown(term)
-        text += f" {reading.ends}" if reading.ends and word != "left" else ""
+        text += f" {reading.ends}" if reading.ends else ""
         text += SAID_OF.get(word, "")
         text += f", where {' and '.join(held)}" if held else ""
         if text not in cells:
