@@ -1,12 +1,56 @@
 #!/usr/bin/env bash
-# Runs all that stands outside the gate: the edits and pairs that it leaves to a release, the programs over devices,
-# tables and memory that refuse, and the program on ELF files beside readelf. The status is 0 where all of it is as wanted.
-set -eu
-cd "$(dirname "$0")"
-./release_edits.sh
-./release_pairs.sh
-./closed_devices.sh
-./table_runs.sh
-./groups_runs.py
-./elf_runs.py
-./refused_memory.sh
+# Runs all that no landing runs, one step after another, each to its end:
+#
+#     tools/before_release.sh           all steps
+#     tools/before_release.sh NAME..    these
+#     tools/before_release.sh --list    runs nothing, and prints each step and how long it takes
+#
+# It prints what each prints, the seconds that it took, and last `N passed, M failed` with the names of those that failed. The
+# status is 0 where none failed. Run it with nothing uncommitted, since the edits are tried in a copy of the last commit.
+set -u
+cd "$(dirname "$0")/.."
+
+# The name of a step, its command, and how long it takes on four cores.
+steps() {
+    cat <<'END'
+version|tools/version.sh|at once
+edits|tools/release_edits.sh|13 to 48 s an edit, and the proof of each crate that has some
+pairs|tools/release_pairs.sh|three builds of minutes each
+devices|tools/closed_devices.sh|a minute, once count_rows is proved
+tables|tools/table_runs.sh|a minute, once sum_table and sum_groups are proved
+groups|tools/groups_runs.py|minutes, once sum_groups is proved
+elf|tools/elf_runs.py|minutes, once elf_tables is proved
+memory|tools/refused_memory.sh|7 minutes
+speed|tools/speed.sh|the proof of fallible_speed, and then minutes
+rust_speed|tools/rust_bench.sh|a minute; wants valgrind and apt
+itertools_speed|tools/rust_bench_itertools.sh|a minute; wants valgrind and apt
+clients|tools/rust_clients|minutes; wants cargo and apt
+END
+}
+
+if [ "${1:-}" = --list ]; then
+    steps | while IFS='|' read -r name command time; do
+        printf '%-16s %-32s %s\n' "$name" "$command" "$time"
+    done
+    exit
+fi
+for name in "$@"; do
+    steps | grep -q "^$name|" || { echo "$name is no step; --list prints them" >&2; exit 2; }
+done
+
+passed=0
+failed=()
+while IFS='|' read -r name command _ <&3; do
+    [ $# -eq 0 ] || [[ " $* " = *" $name "* ]] || continue
+    echo "== $name: $command"
+    SECONDS=0
+    if "$command" </dev/null; then
+        passed=$((passed + 1))
+        echo "== $name: passed, $SECONDS s"
+    else
+        failed+=("$name")
+        echo "== $name: FAILED, $SECONDS s"
+    fi
+done 3< <(steps)
+echo "$passed passed, ${#failed[@]} failed${failed[*]:+: ${failed[*]}}"
+[ ${#failed[@]} -eq 0 ]

@@ -4,42 +4,11 @@
 # The status is 0 where every run is as wanted.
 set -eu
 cd "$(dirname "$0")/.."
-work=$(mktemp -d)
-trap 'rm -rf "$work"' EXIT
+. tools/device_runs.sh
 
-(cd crates/count_rows && rt run) </dev/null >"$work/built" 2>&1 || {
-    cat "$work/built"
-    echo 'closed devices: count_rows is not built'
-    exit 1
-}
-program=$PWD/crates/count_rows/out/count_rows
-
-compared=0
-differ=0
+build count_rows
 printf '100\n200\n400\n' >"$work/rows"
 printf '100\nfern\n400\n' >"$work/malformed"
-
-# Counts a run, and tells of one that is not as wanted. $1 says what was run, $2 to $4 are the wanted status, output and
-# line on standard error; the run has left its own in $status, out and err.
-compare() {
-    compared=$((compared + 1))
-    local wanted got
-    wanted="status $2, output '$3', error '$4'"
-    got="status $status, output '$(cat "$work/out")', error '$(cat "$work/err")'"
-    if [ "$got" = "$wanted" ]; then
-        echo "$1: $got"
-    else
-        differ=$((differ + 1))
-        echo "$1: wanted $wanted, got $got"
-    fi
-}
-
-# Begins a run.
-begin() {
-    status=0
-    : >"$work/out"
-    : >"$work/err"
-}
 
 begin
 "$program" <"$work/rows" >"$work/out" 2>"$work/err" || status=$?

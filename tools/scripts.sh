@@ -1,6 +1,7 @@
 #!/usr/bin/env bash
 # Drives each adapter by every script of at most four answers: the program release/scripts is built, without a proof, and
-# run. It prints a line for each adapter, and each mismatch. The status is 0 where it prints what its `stdout` says.
+# run. It prints how many comparisons were made, and the first lines that differ from the program's `stdout`, as those of
+# mismatches. The status is 0 where nothing differs.
 set -eu
 cd "$(dirname "$0")/.."
 copy=$(mktemp -d)
@@ -9,4 +10,7 @@ tools/lay.sh "$copy" scripts
 cd "$copy/crates/scripts"
 rt try --steps 1 --seconds 900 <stdin >"$copy/printed" 2>"$copy/told" || cat "$copy/told"
 tail -n 1 "$copy/printed"
-cmp "$copy/printed" stdout
+cmp -s "$copy/printed" stdout || {
+    diff stdout "$copy/printed" | head -n 20 | cut -c 1-300
+    exit 1
+}

@@ -4,21 +4,8 @@
 # The status is 0 where every run is as wanted.
 set -eu
 cd "$(dirname "$0")/.."
-work=$(mktemp -d)
-trap 'rm -rf "$work"' EXIT
+. tools/device_runs.sh
 
-# Builds a program, and begins to count its runs.
-build() {
-    (cd "crates/$1" && rt run) </dev/null >"$work/built" 2>&1 || {
-        cat "$work/built"
-        echo "table runs: $1 is not built"
-        exit 1
-    }
-    program=$PWD/crates/$1/out/$1
-    compared=0
-}
-
-differ=0
 # One record, 1 and 258; a bad one, 3 and 2; three bytes of a third.
 printf '\1\0\0\0\2\1\0\0' >"$work/good"
 printf '\1\0\0\0\2\1\0\0\3\0\0\0\2\0\0\0\1\2\3' >"$work/bad"
@@ -27,28 +14,6 @@ printf '' >"$work/none"
 report='records 1
 low 1
 high 258'
-
-# Counts a run, and tells of one that is not as wanted. $1 says what was run, $2 to $4 are the wanted status, output and
-# line on standard error; the run has left its own in $status, out and err.
-compare() {
-    compared=$((compared + 1))
-    local wanted got
-    wanted="status $2, output '$3', error '$4'"
-    got="status $status, output '$(cat "$work/out")', error '$(cat "$work/err")'"
-    if [ "$got" = "$wanted" ]; then
-        echo "$1: as wanted"
-    else
-        differ=$((differ + 1))
-        echo "$1: wanted $wanted, got $got"
-    fi
-}
-
-# Begins a run.
-begin() {
-    status=0
-    : >"$work/out"
-    : >"$work/err"
-}
 
 build sum_table
 

@@ -1,0 +1,39 @@
+# What closed_devices.sh and table_runs.sh share. They source it at the top of the repository: it makes the folder $work,
+# and counts the runs in $compared and those that are not as wanted in $differ.
+work=$(mktemp -d)
+trap 'rm -rf "$work"' EXIT
+compared=0
+differ=0
+
+# Proves and builds the program $1, where that is not done yet, and begins to count its runs.
+build() {
+    (cd "crates/$1" && rt run) </dev/null >"$work/built" 2>&1 || {
+        cat "$work/built"
+        echo "$1 is not built"
+        exit 1
+    }
+    program=$PWD/crates/$1/out/$1
+    compared=0
+}
+
+# Begins a run.
+begin() {
+    status=0
+    : >"$work/out"
+    : >"$work/err"
+}
+
+# Counts a run, and tells of one that is not as wanted. $1 says what was run, $2 to $4 are the wanted status, output and
+# line on standard error; the run has left its own in $status, out and err.
+compare() {
+    compared=$((compared + 1))
+    local wanted got
+    wanted="status $2, output '$3', error '$4'"
+    got="status $status, output '$(cat "$work/out")', error '$(cat "$work/err")'"
+    if [ "$got" = "$wanted" ]; then
+        echo "$1: as wanted"
+    else
+        differ=$((differ + 1))
+        echo "$1: wanted $wanted, got $got"
+    fi
+}

@@ -1,0 +1,146 @@
+"""The tables of docs/CALLING.md: of each call what it lists or returns, what it leaves, and its hint."""
+
+import re
+
+from made import code, hints, index, terms
+from made.tree import code_of_library
+
+CORE, ABOVE = "fallible_core/src", "fallible_iterator/src"
+TOOLS = "fallible_itertools/src"
+
+# The tables: the name of each, what kind of call it has, and the files that it is made from.
+TABLES = {
+    "sources": ("adapter", [f"{ABOVE}/sources/making.rt", f"{ABOVE}/conversion.rt"]),
+    "adapters": ("adapter", [f"{CORE}/traits.rt"]),
+    "draws": ("borrowing", [
+        f"{CORE}/traits.rt", f"{CORE}/traits/double_ended.rt", f"{CORE}/peeking/peek.rt", f"{CORE}/peeking/peekable.rt",
+        f"{ABOVE}/taking.rt", f"{ABOVE}/laws/traces.rt",
+    ]),
+    "consumers": ("consuming", [f"{CORE}/traits.rt", f"{CORE}/traits/double_ended.rt"]),
+    "adapters of fallible_itertools": ("adapter", [f"{TOOLS}/traits.rt", f"{TOOLS}/peeking_take_while.rt"]),
+    "other calls of fallible_itertools": ("other", [f"{TOOLS}/traits.rt", f"{TOOLS}/double_ended.rt"]),
+}
+DRAWN = "| Call | Value | Left | If it returns |\n|---|---|---|---|"
+HEADS = {
+    "adapter": "| Call | Lists | Hint |\n|---|---|---|",
+    "consuming": "| Call | Value |\n|---|---|",
+    "borrowing": DRAWN,
+    "other": DRAWN,
+}
+# the clauses that state a list or a value of one
+STATING = ("lists", "value", "rest", "results", "items", "repeats", "shown", "reads", "for_good")
+OF_LIST = re.compile(r"OverList|OverBoth|Lists\b")
+BORROWS = re.compile(r"\( ?(?:alloc: Global, )?(?:&(?:mut )?self|\w+: &mut )")
+# what a word of a clause says besides the list
+SAID_OF = {"Repeats": " at each draw", "ListsMade": ", up to an allocation failure", "EachRunFrom": ", as std reads it"}
+
+
+def made_type(function):
+    """The type that a call returns, of a `Result` the one in it."""
+    name = function.returned.removeprefix("Result<").lstrip()
+    return "&mut I" if name.startswith("&mut") else re.match(r"[\w:]*", name).group().rsplit("::", 1)[-1]
+
+
+def kind(function, of_types):
+    """Whether a function is a call that makes an iterator, borrows one or consumes one; none if it is no call."""
+    hidden = function.name.startswith("drive") or function.name in ("size_hint", "number")
+    stated = function.in_trait or function.is_helper and function.clauses
+    if hidden or not function.public or not stated:
+        return None
+    if made_type(function) in of_types:
+        return "adapter"
+    states = {"value", "lists"}.intersection(named for _, named, _ in function.clauses)
+    if not states and not function.owner:
+        return None
+    return "borrowing" if BORROWS.match(function.parameters) else "consuming"
+
+
+class Row:
+    """A call with what its clauses state of a list."""
+
+    def __init__(self, function):
+        self.function, self.values, self.left, self.returned = function, [], [], []
+        for which, named, text in function.clauses:
+            if which == "ensures" and not self.read(text) and named in STATING and OF_LIST.search(text):
+                raise ValueError(f"{function.name}: the clause {named} isn't one that tools/made/calls.py can read")
+
+    def read(self, text):
+        """Adds what a clause says of a list, and returns whether it says something of one."""
+        reading = terms.Reading(text, self.function.renamed)
+        held, returned = reading.conditions()
+        found = False
+        for conclusion in reading.conclusions:
+            parts = terms.split_at(terms.bare(conclusion), " ")
+            word = terms.last_name(parts[0])
+            sides = terms.split_at(terms.bare(conclusion), " ≡ ")
+            over_list = bool(reading.over)
+            if word in terms.LISTING and any(re.fullmatch(r"\w+\.new", part) for part in parts):
+                self.add(self.left, reading, parts[-1], held if "≤" in " ".join(held) else [])
+                self.returned += [said for said in returned if said not in self.returned]
+            elif word in terms.LISTING and "result" in parts:
+                self.add(self.values, reading, parts[-1], held, word)
+            elif word == "EachRunFrom" and "ItemsAre" in parts[-1]:
+                inner = terms.split_at(terms.bare(parts[-1]), " ")
+                self.add(self.values, reading, inner[-1], held, word)
+            elif over_list and word in ("CollectedAs", "UnzippedAs", "PartitionedAs"):
+                self.add(self.values, reading, " ".join(parts[:-1]), held)
+            elif over_list and len(sides) == 2 and re.fullmatch(r"result|v\.items", sides[0]):
+                self.add(self.values, reading, sides[1], held)
+            elif over_list and len(sides) == 2 and "result" in sides[0]:
+                self.add(self.values, reading, conclusion, held)
+            else:
+                continue
+            found = True
+        return found
+
+    def add(self, cells, reading, term, held, word=""):
+        """Adds a term with what has to hold for it."""
+        text = reading.shown(term)
+        text += f" {reading.ends}" if reading.ends else ""
+        text += SAID_OF.get(word, "")
+        text += f", where {' and '.join(held)}" if held else ""
+        if text not in cells:
+            cells.append(text)
+
+
+def call(function):
+    """A call as it is written."""
+    return f"`{function.name}({', '.join(code.arguments(function.parameters))})`"
+
+
+def cell(parts):
+    """The parts as a cell, with a dash of none."""
+    return "; ".join(parts).replace("|", "\\|") or "–"
+
+
+def line(row, wanted, of_types):
+    """The line of a call in a table of that kind."""
+    cells = [call(row.function), cell(row.values)]
+    if wanted == "adapter":
+        cells.append(of_types[made_type(row.function)].replace("|", "\\|"))
+    elif wanted != "consuming":
+        cells += [cell(row.left), "; ".join(row.returned)]
+    return f"| {' | '.join(cells)} |"
+
+
+def table(name, crates, of_types):
+    """The lines of a table."""
+    wanted, files = TABLES[name]
+    kinds = {"other": ("borrowing", "consuming")}.get(wanted, (wanted,))
+    rows = []
+    for path in (crates / file for file in files):
+        found = code.functions(path) if path.is_file() else []
+        rows += [line(Row(function), wanted, of_types) for function in found if kind(function, of_types) in kinds]
+    return [HEADS[wanted], *rows]
+
+
+def tables(crates):
+    """Each table of calls, and the functions that the hints name, by its name."""
+    files = code_of_library(crates)
+    of_types = hints.hints(files)
+    made = {name: table(name, crates, of_types) for name in TABLES}
+    shown = [line for name, (wanted, _) in TABLES.items() if wanted == "adapter" for line in made[name][1:]]
+    sentences = {word: said for _, _, path in index.files(crates) for group, said in index.words(path) for word in group}
+    legend = hints.legend([line.rsplit(" | ", 1)[1] for line in shown], files, sentences)
+    made["hints"] = ["| In a hint | What it is |\n|---|---|", *legend]
+    return made
