@@ -26,7 +26,8 @@ class Refusals(unittest.TestCase):
             shutil.copytree(path, self.tree / path.relative_to(TOP))
         shutil.copy(TOP / "LICENSE", self.tree)
         (self.tree / "docs").mkdir()
-        shutil.copy(TOP / "docs/INDEX.md", self.tree / "docs")
+        for page in ("CALLING.md", "INDEX.md"):
+            shutil.copy(TOP / "docs" / page, self.tree / "docs")
 
     def tearDown(self):
         shutil.rmtree(self.folder)
