@@ -11,6 +11,11 @@ printf '\1\0\0\0\2\1\0\0' >"$work/good"
 printf '\1\0\0\0\2\1\0\0\3\0\0\0\2\0\0\0\1\2\3' >"$work/bad"
 printf '\1\0\0\0\2\1\0\0\1\2\3' >"$work/cut"
 printf '' >"$work/none"
+# More records than the buffer of 64 KiB has room for.
+printf '\1\0\0\0\2\1\0\0%.0s' {1..20000} >"$work/long"
+long_report='records 20000
+low 20000
+high 5160000'
 report='records 1
 low 1
 high 258'
@@ -38,6 +43,22 @@ compare 'a bad record before a cut one' 1 '' 'record 2: the first number is abov
 begin
 "$program" <"$work/cut" >"$work/out" 2>"$work/err" || status=$?
 compare 'a cut record' 5 '' 'record 2: cut short'
+
+begin
+"$program" <"$work/long" >"$work/out" 2>"$work/err" || status=$?
+compare 'more records than the buffer has room for' 0 "$long_report" ''
+
+begin
+dd if="$work/long" bs=4093 2>/dev/null | "$program" >"$work/out" 2>"$work/err" || status=$?
+compare 'the same, in pieces that cut records' 0 "$long_report" ''
+
+begin
+cat "$work/long" "$work/bad" | "$program" >"$work/out" 2>"$work/err" || status=$?
+compare 'a bad record behind them' 1 '' 'record 20002: the first number is above the second'
+
+begin
+cat "$work/long" "$work/cut" | "$program" >"$work/out" 2>"$work/err" || status=$?
+compare 'a cut record behind them' 5 '' 'record 20002: cut short'
 
 begin
 "$program" <&- >"$work/out" 2>"$work/err" || status=$?
@@ -114,6 +135,11 @@ compare 'a word that is not UTF-8' 2 '' 'not UTF-8'
 begin
 { printf '\3\0\0\0\2\0\0\0'; yes; } | timeout 10 "$program" >"$work/out" 2>"$work/err" || status=$?
 compare 'a bad first record of an input with no end' 1 '' 'record 1: the first number is above the second'
+
+# The same behind good ones, beyond the buffer.
+begin
+{ cat "$work/long" "$work/bad"; yes; } | timeout 10 "$program" >"$work/out" 2>"$work/err" || status=$?
+compare 'a bad record behind good ones, of an input with no end' 1 '' 'record 20002: the first number is above the second'
 
 echo "table runs of sum_table: $compared runs compared"
 

@@ -6,3 +6,4 @@ mod ReadingLemmas
 mod RoomLemmas
 mod TableLemmas
 mod TokenLemmas
+mod TotalsLemmas

@@ -1,13 +1,10 @@
 -- What a run over a table reads and writes.
-use Rattle.std.specs.Prelude.{◌≡◌, ◌⊎◌, ℕ, List, [], ◌∷◌, ◌++◌, length, false, Option, Result, Ok, Err, codes, decimal}
+use Rattle.std.specs.Prelude.{◌≡◌, ℕ, ◌+◌, ◌*◌, ◌<◌, ◌≤◌, List, [], ◌∷◌, ◌++◌, length, Option, Result, Ok, Err, codes, decimal}
 use Rattle.std.specs.IoError.{error_kind}
 use Rattle.std.specs.Io.KnownBytes.{Appends, Consumes, IsAtEnd}
-use Rattle.std.specs.declared.alloc.Global.{Global}
 use Rattle.std.specs.declared.io.Error.{Error}
 use Rattle.std.specs.declared.io.ErrorKind.{ErrorKind}
-use Rattle.std.specs.declared.vec.Vec.{Vec}
-use Rattle.example_tasks.specs.Reading.{ReadsAll}
-use Rattle.example_tasks.specs.Tables.{begins_bad, totals_of}
+use Rattle.example_tasks.specs.Tables.{totals_of}
 use Rattle.example_tasks.specs.declared.table.TableFault.{TableFault}
 use Rattle.example_tasks.specs.declared.table.TableFault.TheVariants.{Bad, Cut}
 use Rattle.example_tasks.specs.declared.table.Totals.{Totals}
@@ -30,20 +27,38 @@ WritesReport unread unread' written written' = (totals : Totals) × ReadsTable u
 abbrev pub HasTotals : Option (List ℕ) → Option (List ℕ) → Type 0
 HasTotals unread unread' = (totals : Totals) × ReadsTable unread unread' (Ok totals)
 
--- A reader's first eight bytes were read, and no others, and each table that begins with them has this fault.
-abbrev pub ReadsFirst : Option (List ℕ) → Option (List ℕ) → TableFault → Type 0
-ReadsFirst unread unread' fault = (bytes : List ℕ) × Consumes unread unread' bytes × (length bytes ≡ 8) × ((rest : List ℕ) → totals_of (bytes ++ rest) ≡ Err fault)
+-- how many bytes may be read behind a bad record that isn't the first
+abbrev pub read_ahead : ℕ
+read_ahead = 65528
 
--- The table has this fault: its first record is one that isn't good, and no more was read; or that is not so, and the table was read.
+-- A reader's first bytes were read, up to a record that isn't good: each table that begins with them has this fault. Where it is the first record, no byte behind it was read, and else at most `read_ahead`.
+pub record ReadsBad (unread unread' : Option (List ℕ)) (place : ℕ) : Type 0 where
+  pub bytes : List ℕ
+  pub taken : Consumes unread unread' bytes
+  pub decides : (rest : List ℕ) → totals_of (bytes ++ rest) ≡ Err (Bad place)
+  pub first : place ≡ 1 → length bytes ≡ 8
+  pub ahead : length bytes ≤ 8 * place + read_ahead
+
+-- The table has this fault: a record isn't good, and was read, with as little behind it; or the table was read, and its last record is cut short.
 abbrev pub HasFault : Option (List ℕ) → Option (List ℕ) → TableFault → Type 0
-HasFault unread unread' fault = ReadsFirst unread unread' fault ⊎ ReadsAll unread unread' (λ bytes. (begins_bad bytes ≡ false) × (totals_of bytes ≡ Err fault))
+HasFault unread unread' (Bad place) = ReadsBad unread unread' place
+HasFault unread unread' (Cut place) = ReadsTable unread unread' (Err (Cut place))
+
+-- A reader's first bytes were read: whole records, all good, and then fewer bytes than one has.
+pub record NoneBadYet (unread unread' : Option (List ℕ)) : Type 0 where
+  pub whole : List ℕ
+  pub cut : List ℕ
+  pub taken : Consumes unread unread' (whole ++ cut)
+  pub totals : Totals
+  pub good : totals_of whole ≡ Ok totals
+  pub short : length cut < 8
 
 module _ {R : Type 0} (left : R → Option (List ℕ)) (fails : ErrorKind → R → R → Type 0) where
-  -- it yielded all bytes that were left, which don't begin with a record that isn't good, and is at its end; or such a record, which is this fault of each table that begins so; or it failed
-  abbrev pub ReadsTableBytes : R → Result (Result (Vec ℕ Global) TableFault) Error → R → Type 0
-  ReadsTableBytes r (Ok (Ok bytes)) q = Consumes (left r) (left q) bytes.items × IsAtEnd (left q) × (begins_bad bytes.items ≡ false)
-  ReadsTableBytes r (Ok (Err fault)) q = ReadsFirst (left r) (left q) fault
-  ReadsTableBytes r (Err e) q = fails (error_kind e) r q
+  -- it yielded a table, which has these totals; or one with this fault; or it failed
+  abbrev pub ReadsTotals : R → Result (Result Totals TableFault) Error → R → Type 0
+  ReadsTotals r (Ok (Ok totals)) q = ReadsTable (left r) (left q) (Ok totals)
+  ReadsTotals r (Ok (Err fault)) q = HasFault (left r) (left q) fault
+  ReadsTotals r (Err e) q = fails (error_kind e) r q
 
 -- the status that a program ends with
 abbrev pub status_of : RunFault → ℕ

@@ -1,5 +1,5 @@
 -- Records of bytes, and what is made of them.
-use Rattle.std.specs.Prelude.{◌≡◌, ℕ, zero, suc, ◌+◌, ◌/◌, ◌%◌, ◌^◌, ◌<◌, ◌≤◌, List, [], ◌∷◌, length, take, drop, Bool, ◌&&◌, not, nat_le, Some, None, Result, Ok, Err, if◌then◌else◌}
+use Rattle.std.specs.Prelude.{◌≡◌, ℕ, zero, suc, ◌+◌, ◌/◌, ◌%◌, ◌^◌, ◌<◌, ◌≤◌, List, [], ◌∷◌, length, take, drop, Bool, nat_le, Some, None, Result, Ok, Err, if◌then◌else◌}
 use Rattle.std.specs.Int.{w32, from_le_bytes}
 use Rattle.fallible_iterator.specs.Traces.{Answered}
 use Rattle.fallible_iterator.specs.Lists.{folded, mapped, numbered, failures_mapped}
@@ -37,10 +37,6 @@ DrawsRecord bytes (Err e) rest = (0 < length bytes) × (length bytes < 8) × (re
 abbrev pub is_low_to_high : Record → Bool
 is_low_to_high r = nat_le r.low r.high
 
--- whether bytes begin with a whole record that isn't good
-abbrev pub begins_bad : List ℕ → Bool
-begins_bad bytes = nat_le 8 (length bytes) && not (is_low_to_high (record_of bytes))
-
 -- a record, where it is good; otherwise the fault that tells its place
 abbrev pub checked : ℕ → Record → Result Record TableFault
 checked place r = if is_low_to_high r then Ok r else Err (Bad place)
@@ -48,6 +44,20 @@ checked place r = if is_low_to_high r then Ok r else Err (Bad place)
 -- the totals with one record more, all modulo 2 ^ 64
 abbrev pub with_record : Totals → Record → Totals
 with_record totals r = record { records = (totals.records + 1) % 2 ^ 64; low = (totals.low + r.low) % 2 ^ 64; high = (totals.high + r.high) % 2 ^ 64 }
+
+-- two totals added, all modulo 2 ^ 64
+abbrev pub plus : Totals → Totals → Totals
+plus totals more = record { records = (totals.records + more.records) % 2 ^ 64; low = (totals.low + more.low) % 2 ^ 64; high = (totals.high + more.high) % 2 ^ 64 }
+
+-- the place that a fault tells
+abbrev pub place_of : TableFault → ℕ
+place_of (Bad place) = place
+place_of (Cut place) = place
+
+-- the same fault, where so many records come before
+abbrev pub behind : ℕ → TableFault → TableFault
+behind before (Bad place) = Bad (before + place)
+behind before (Cut place) = Cut (before + place)
 
 -- the totals of no records
 abbrev pub no_totals : Totals

@@ -7,7 +7,7 @@ ghost use Rattle.std.specs.declared.io.ErrorKind.{ErrorKind};
 ghost use Rattle.example_tasks.specs.declared.table.TableFault.{TableFault};
 
 use crate::reading::ReadTable;
-use crate::table::{TableFault, Totals, sum_up};
+use crate::table::{TableFault, Totals};
 use crate::writing::WriteText;
 use std::alloc::Global;
 use std::io;
@@ -20,7 +20,7 @@ pub enum RunFault {
     Table(TableFault),
     /// A read failed.
     Read,
-    /// The allocation of the table failed.
+    /// The allocation of a buffer failed, or a read for want of memory.
     Memory,
     /// The report could not be written.
     Write,
@@ -51,7 +51,9 @@ fn write_report<W: WriteText>(totals: Totals, writer: &mut W) -> io::Result<()>
     ))
 }
 
-/// Reads a table up to the end of `reader`, which may be any reader of std, and writes its totals to `writer`. It looks at the first record first: if that is not good, no more is read. It fails with `Table` and the table's first fault, with `Read` where a read fails, with `Memory` if the allocation of the table fails, and with `Write` where the writer fails. An interrupted read is tried again. After `Ok` and `Write`, and after `Table` if the first record is good or cut short, the reader is at its end. Only at `Ok` and `Write` may something have been written.
+/// Reads a table from `reader`, which may be any reader of std, and writes its totals to `writer`. The first record is read alone, the others through a buffer. It fails with `Table` at the first record that isn't good, and reads no more then, or where the table ends within a record; with `Read` where a read fails before; with `Memory` if that is for want of memory, or the allocation of the buffer fails; and with `Write` where the writer fails. An interrupted read is tried again.
+///
+/// After `Ok` and `Write`, and after `Table` of a record cut short, the reader is at its end. After a bad record it has lost at most 65,528 bytes that come after the record, and none after a first one. Only at `Ok` and `Write` may something have been written.
 pub fn run<R: ReadTable, W: WriteText>(
     alloc: Global,
     reader: &mut R,
@@ -73,17 +75,14 @@ pub fn run<R: ReadTable, W: WriteText>(
     ensures unwritten { result ≢ Err RunFault.Write
         → OnErr result (Keeps (W.written writer.old) (W.written writer.new)) }
 {
-    let bytes = match reader.read_table(alloc) {
-        Ok(Ok(bytes)) => bytes,
+    let totals = match reader.read_totals(alloc) {
+        Ok(Ok(totals)) => totals,
         Ok(Err(fault)) => return Err(RunFault::Table(fault)),
         Err(e) => return Err(fault_of_read(&e)),
     };
-    match sum_up(bytes.as_slice()) {
-        Ok(totals) => match write_report(totals, writer) {
-            Ok(()) => Ok(()),
-            Err(_) => Err(RunFault::Write),
-        },
-        Err(fault) => Err(RunFault::Table(fault)),
+    match write_report(totals, writer) {
+        Ok(()) => Ok(()),
+        Err(_) => Err(RunFault::Write),
     }
 }
 

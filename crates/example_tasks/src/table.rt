@@ -1,9 +1,9 @@
 //! A binary table: records of two numbers, little endian.
-ghost use Rattle.std.specs.Prelude.{◌≡◌, ◌+◌, ◌*◌, ◌%◌, ◌^◌, Ok, nat_lt, length};
+ghost use Rattle.std.specs.Prelude.{◌≡◌, ℕ, List, ◌+◌, ◌*◌, ◌%◌, ◌^◌, ◌<◌, ◌++◌, Ok, nat_lt, length};
 ghost use Rattle.std.proofs.Common.{rules};
 ghost use Rattle.fallible_iterator.specs.Contract.{counted_contract};
 ghost use Rattle.fallible_iterator.specs.Lists.{Lists, folded, position_in, filtered};
-ghost use Rattle.example_tasks.specs.Tables.{DrawsRecord, record_of, records, is_low_to_high, begins_bad, checked, with_record, totals_of};
+ghost use Rattle.example_tasks.specs.Tables.{DrawsRecord, record_of, records, is_low_to_high, checked, with_record, plus, behind, place_of, totals_of};
 
 use fallible_iterator::FallibleIterator;
 
@@ -81,16 +81,6 @@ pub fn read<'a>(bytes: &'a [u8]) -> Records<'a>
     Records { bytes }
 }
 
-/// Whether the bytes begin with a whole record that isn't good.
-pub fn begins_bad(bytes: &[u8]) -> bool
-    ensures { result ≡ begins_bad bytes.now }
-{
-    match bytes.split_first_chunk::<8>() {
-        Some((record, _)) => !Record::from_bytes(record).is_low_to_high(),
-        None => false,
-    }
-}
-
 /// How many records come before the first one that isn't good; `None` if all are good. It draws up to that record. It fails where the table ends within a record and none before it is bad.
 pub fn first_bad(bytes: &[u8]) -> Result<Option<usize>, CutShort>
     ensures { result ≡ position_in (λ r. Ok (nat_lt r.high r.low)) (records bytes.now) }
@@ -131,6 +121,13 @@ pub struct Totals {
     pub high: u64,
 }
 
+// The totals of no records.
+pub(crate) const NO_TOTALS: Totals = Totals {
+    records: 0,
+    low: 0,
+    high: 0,
+};
+
 impl Totals {
     // The totals with one record more, modulo 2 ^ 64.
     fn with(self, drawn: Record) -> Totals
@@ -140,6 +137,30 @@ impl Totals {
             records: self.records.wrapping_add(1),
             low: self.low.wrapping_add(u64::from(drawn.low)),
             high: self.high.wrapping_add(u64::from(drawn.high)),
+        }
+    }
+
+    // Both totals added, modulo 2 ^ 64.
+    fn plus(self, more: Totals) -> Totals
+        ensures { result ≡ plus self more }
+    {
+        Totals {
+            records: self.records.wrapping_add(more.records),
+            low: self.low.wrapping_add(more.low),
+            high: self.high.wrapping_add(more.high),
+        }
+    }
+}
+
+impl TableFault {
+    // The same fault, where so many records come before.
+    fn behind(self, before: usize) -> TableFault
+        requires { before + place_of self < 2 ^ 64 }
+        ensures { result ≡ behind before self }
+    {
+        match self {
+            TableFault::Bad(place) => TableFault::Bad(before + place),
+            TableFault::Cut(place) => TableFault::Cut(before + place),
         }
     }
 }
@@ -164,12 +185,19 @@ pub fn sum_up(bytes: &[u8]) -> Result<Totals, TableFault>
         .map_err(|_| TableFault::Cut(whole + 1))
         .enumerate()
         .map(|placed: (usize, Record)| checked(placed.0 + 1, placed.1))
-        .fold(
-            Totals {
-                records: 0,
-                low: 0,
-                high: 0,
-            },
-            |totals: Totals, record: Record| Ok(totals.with(record)),
-        )
+        .fold(NO_TOTALS, |totals: Totals, record: Record| {
+            Ok(totals.with(record))
+        })
+}
+
+/// The totals of a table that begins with whole records of which the totals are known, and goes on with these bytes. It fails as `sum_up` does on the whole table.
+pub fn sum_up_more(known: Totals, bytes: &[u8]) -> Result<Totals, TableFault>
+    requires { known.records + length bytes.now + 1 < 2 ^ 64 }
+    ensures { (first : List ℕ) → totals_of first ≡ Ok known → length first ≡ 8 * known.records
+        → result ≡ totals_of (first ++ bytes.now) }
+{
+    match sum_up(bytes) {
+        Ok(more) => Ok(known.plus(more)),
+        Err(fault) => Err(fault.behind(known.records as usize)),
+    }
 }

@@ -32,6 +32,25 @@ impl Read for BrokenReader<'_> {
     }
 }
 
+// Yields its bytes, at most so many a read, and is interrupted before each read.
+#[derive(Drop)]
+struct PieceReader<'a> {
+    bytes: &'a [u8],
+    most: usize,
+    interrupted: bool,
+}
+
+impl Read for PieceReader<'_> {
+    fn read(&mut self, buf: &mut [u8]) -> io::Result<usize> {
+        self.interrupted = !self.interrupted;
+        if self.interrupted {
+            return Err(io::Error::from(ErrorKind::Interrupted));
+        }
+        let most = self.most.min(buf.len());
+        Read::read(&mut self.bytes, &mut buf[..most])
+    }
+}
+
 // Takes so many bytes, one at a time, and then fails.
 #[derive(Drop)]
 struct BrokenWriter {
@@ -74,27 +93,60 @@ fn expect_fault(rt: &impl Abort, alloc: Global, mut table: &[u8], fault: TableFa
     assert!(rt; written.is_empty());
 }
 
-// A table of 600 records has more bytes than one read yields.
 #[test]
-fn reports(rt: HostRuntime) -> Result<(), Fail> {
+fn reports(rt: HostRuntime) {
     let alloc = rt.alloc();
     expect_report(&rt, alloc, &TABLE[..8], b"records 1\nlow 1\nhigh 258\n");
-    let mut table = Vec::new(alloc);
-    for _ in 0..600 {
-        table.extend_from_slice(&TABLE[..8])?;
-    }
-    expect_report(
-        &rt,
-        alloc,
-        table.as_slice(),
-        b"records 600\nlow 600\nhigh 154800\n",
-    );
     expect_fault(&rt, alloc, &TABLE, TableFault::Bad(2));
     expect_fault(&rt, alloc, &TABLE[..15], TableFault::Cut(2));
+}
+
+// What `run` returns over these bytes, read in such pieces, and what it writes.
+fn run_in_pieces(alloc: Global, bytes: &[u8], most: usize) -> (Result<(), RunFault>, Vec<u8>) {
+    let mut reader = PieceReader {
+        bytes,
+        most,
+        interrupted: false,
+    };
+    let mut written = Vec::new(alloc);
+    (run(alloc, &mut reader, &mut written), written)
+}
+
+// Ten thousand good records, which are more bytes than the buffer holds, and then these bytes.
+fn long_table(alloc: Global, last: &[u8]) -> Result<Vec<u8>, Fail> {
+    let mut table = Vec::new(alloc);
+    for _ in 0..10_000 {
+        table.extend_from_slice(&TABLE[..8])?;
+    }
+    table.extend_from_slice(last)?;
+    Ok(table)
+}
+
+// Records are cut at the end of a read, and at that of the buffer.
+#[test]
+fn a_table_is_read_in_pieces(rt: HostRuntime) -> Result<(), Fail> {
+    let alloc = rt.alloc();
+    for (last, wanted) in [
+        (&TABLE[..0], Ok(())),
+        (&TABLE[8..], Err(RunFault::Table(TableFault::Bad(10_001)))),
+        (&TABLE[..7], Err(RunFault::Table(TableFault::Cut(10_001)))),
+    ] {
+        let table = long_table(alloc, last)?;
+        let report = if wanted.is_ok() {
+            b"records 10000\nlow 10000\nhigh 2580000\n".as_slice()
+        } else {
+            b"".as_slice()
+        };
+        for most in [1, 7, 8, 4093, 65_535, 65_536] {
+            let (answered, written) = run_in_pieces(alloc, table.as_slice(), most);
+            assert_eq!(rt; answered, wanted, "by {most}");
+            assert_eq!(rt; written.as_slice(), report, "by {most}");
+        }
+    }
     Ok(())
 }
 
-// The table has a bad record, and is cut short.
+// A bad record that comes before the failed read is told.
 #[test]
 fn run_answers_a_read_that_fails(rt: HostRuntime) {
     for (kind, fault) in [
@@ -102,10 +154,17 @@ fn run_answers_a_read_that_fails(rt: HostRuntime) {
         (ErrorKind::UnexpectedEof, RunFault::Read),
         (ErrorKind::OutOfMemory, RunFault::Memory),
     ] {
-        for count in [0, 7, 8, 16, 24] {
+        for (count, wanted) in [
+            (0, fault),
+            (7, fault),
+            (8, fault),
+            (15, fault),
+            (16, RunFault::Table(TableFault::Bad(2))),
+            (24, RunFault::Table(TableFault::Bad(2))),
+        ] {
             assert_eq!(rt;
                 run_on_broken(rt.alloc(), &TABLE[..count], kind),
-                Err(fault),
+                Err(wanted),
                 "{kind:?} after {count}"
             );
         }

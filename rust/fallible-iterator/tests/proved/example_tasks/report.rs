@@ -2,7 +2,7 @@ use crate::Fail;
 use fallible_iterator::memory::AllocError;
 
 use crate::example_tasks::reading::ReadTable;
-use crate::example_tasks::table::{TableFault, Totals, sum_up};
+use crate::example_tasks::table::{TableFault, Totals};
 use crate::example_tasks::writing::WriteText;
 use std::io;
 use std::io::ErrorKind;
@@ -14,7 +14,7 @@ pub enum RunFault {
     Table(TableFault),
     /// A read failed.
     Read,
-    /// The allocation of the table failed.
+    /// The allocation of a buffer failed, or a read for want of memory.
     Memory,
     /// The report could not be written.
     Write,
@@ -36,21 +36,20 @@ fn write_report<W: WriteText>(totals: Totals, writer: &mut W) -> io::Result<()> 
     ))
 }
 
-/// Reads a table up to the end of `reader`, which may be any reader of std, and writes its totals to `writer`. It looks at the first record first: if that is not good, no more is read. It fails with `Table` and the table's first fault, with `Read` where a read fails, with `Memory` if the allocation of the table fails, and with `Write` where the writer fails. An interrupted read is tried again. After `Ok` and `Write`, and after `Table` if the first record is good or cut short, the reader is at its end. Only at `Ok` and `Write` may something have been written.
+/// Reads a table from `reader`, which may be any reader of std, and writes its totals to `writer`. The first record is read alone, the others through a buffer. It fails with `Table` at the first record that isn't good, and reads no more then, or where the table ends within a record; with `Read` where a read fails before; with `Memory` if that is for want of memory, or the allocation of the buffer fails; and with `Write` where the writer fails. An interrupted read is tried again.
+///
+/// After `Ok` and `Write`, and after `Table` of a record cut short, the reader is at its end. After a bad record it has lost at most 65,528 bytes that come after the record, and none after a first one. Only at `Ok` and `Write` may something have been written.
 pub fn run<R: ReadTable, W: WriteText>(reader: &mut R, writer: &mut W) -> Result<(), RunFault>
 // Reading failed, and of which kind.
 {
-    let bytes = match reader.read_table() {
-        Ok(Ok(bytes)) => bytes,
+    let totals = match reader.read_totals() {
+        Ok(Ok(totals)) => totals,
         Ok(Err(fault)) => return Err(RunFault::Table(fault)),
         Err(e) => return Err(fault_of_read(&e)),
     };
-    match sum_up(bytes.as_slice()) {
-        Ok(totals) => match write_report(totals, writer) {
-            Ok(()) => Ok(()),
-            Err(_) => Err(RunFault::Write),
-        },
-        Err(fault) => Err(RunFault::Table(fault)),
+    match write_report(totals, writer) {
+        Ok(()) => Ok(()),
+        Err(_) => Err(RunFault::Write),
     }
 }
 

@@ -63,14 +63,6 @@ pub fn read<'a>(bytes: &'a [u8]) -> Records<'a> {
     Records { bytes }
 }
 
-/// Whether the bytes begin with a whole record that isn't good.
-pub fn begins_bad(bytes: &[u8]) -> bool {
-    match bytes.split_first_chunk::<8>() {
-        Some((record, _)) => !Record::from_bytes(record).is_low_to_high(),
-        None => false,
-    }
-}
-
 /// How many records come before the first one that isn't good; `None` if all are good. It draws up to that record. It fails where the table ends within a record and none before it is bad.
 pub fn first_bad(bytes: &[u8]) -> Result<Option<usize>, CutShort> {
     read(bytes).position(|record| Ok(record.high < record.low))
@@ -105,6 +97,13 @@ pub struct Totals {
     pub high: u64,
 }
 
+// The totals of no records.
+pub(crate) const NO_TOTALS: Totals = Totals {
+    records: 0,
+    low: 0,
+    high: 0,
+};
+
 impl Totals {
     // The totals with one record more, modulo 2 ^ 64.
     fn with(self, drawn: Record) -> Totals {
@@ -112,6 +111,25 @@ impl Totals {
             records: self.records.wrapping_add(1),
             low: self.low.wrapping_add(u64::from(drawn.low)),
             high: self.high.wrapping_add(u64::from(drawn.high)),
+        }
+    }
+
+    // Both totals added, modulo 2 ^ 64.
+    fn plus(self, more: Totals) -> Totals {
+        Totals {
+            records: self.records.wrapping_add(more.records),
+            low: self.low.wrapping_add(more.low),
+            high: self.high.wrapping_add(more.high),
+        }
+    }
+}
+
+impl TableFault {
+    // The same fault, where so many records come before.
+    fn behind(self, before: usize) -> TableFault {
+        match self {
+            TableFault::Bad(place) => TableFault::Bad(before + place),
+            TableFault::Cut(place) => TableFault::Cut(before + place),
         }
     }
 }
@@ -132,12 +150,15 @@ pub fn sum_up(bytes: &[u8]) -> Result<Totals, TableFault> {
         .map_err(|_| TableFault::Cut(whole + 1))
         .enumerate()
         .map(|placed: (usize, Record)| checked(placed.0 + 1, placed.1))
-        .fold(
-            Totals {
-                records: 0,
-                low: 0,
-                high: 0,
-            },
-            |totals: Totals, record: Record| Ok(totals.with(record)),
-        )
+        .fold(NO_TOTALS, |totals: Totals, record: Record| {
+            Ok(totals.with(record))
+        })
+}
+
+/// The totals of a table that begins with whole records of which the totals are known, and goes on with these bytes. It fails as `sum_up` does on the whole table.
+pub fn sum_up_more(known: Totals, bytes: &[u8]) -> Result<Totals, TableFault> {
+    match sum_up(bytes) {
+        Ok(more) => Ok(known.plus(more)),
+        Err(fault) => Err(fault.behind(known.records as usize)),
+    }
 }
