@@ -2,10 +2,12 @@
 use Rattle.std.specs.Prelude.{◌≡◌, List, [], ◌∷◌, map, cond, Option, Some, None, Result, Ok, Err}
 use Rattle.std.specs.Ordering.{is_gt}
 use Rattle.fallible_iterator.specs.Traces.{Answered}
-use Rattle.fallible_iterator.specs.Folds.{Drained}
+use Rattle.fallible_iterator.specs.Folds.{Drained, TurnThrough}
 use Rattle.fallible_iterator.specs.Lists.{on_value, best_by, greatest}
 use Rattle.std.specs.declared.cmp.Ordering.{Ordering}
 use Rattle.std.specs.declared.cmp.Ordering.TheVariants.{Less, Equal, Greater}
+use Rattle.std.specs.declared.ops.ControlFlow.{ControlFlow}
+use Rattle.std.specs.declared.ops.ControlFlow.TheVariants.{Continue}
 use Rattle.fallible_itertools.specs.declared.minmax.MinMaxResult.{MinMaxResult}
 use Rattle.fallible_itertools.specs.declared.minmax.MinMaxResult.TheVariants.{NoElements, OneElement, MinMax}
 
@@ -20,6 +22,10 @@ abbrev pub with_item : {A : Type 0} → (A → A → Ordering) → MinMaxResult 
 with_item cmp NoElements x = OneElement x
 with_item cmp (OneElement a) x = cond (is_gt (cmp a x)) (MinMax x a) (MinMax a x)
 with_item cmp (MinMax a b) x = cond (is_gt (cmp a x)) (MinMax x b) (cond (is_gt (cmp b x)) (MinMax a b) (MinMax a x))
+
+-- One turn of the fold, whose state is the least item and the greatest: it goes on, with what is kept after one more item.
+abbrev pub WidensBoth : {A R : Type 0} → (A → A → Ordering) → A × A → A → ControlFlow R (Unit {0}) → A × A → Type 0
+WidensBoth cmp p x r q = TurnThrough (λ b. MinMax b.0 b.1) (λ b. tt {0}) (λ c y s d. (s ≡ Continue tt) × (d ≡ with_item cmp c y)) p x r q
 
 -- an order by which equal ones are less, so that of equal ones the first is the least
 abbrev pub or_less : Ordering → Ordering

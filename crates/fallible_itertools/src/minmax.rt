@@ -1,12 +1,10 @@
 //! The least and the greatest item in one pass.
 ghost use Rattle.std.specs.Prelude.{◌≡◌, ⊤};
-ghost use Rattle.fallible_itertools.specs.MinMax.{least_and_greatest, with_item};
-ghost use Rattle.fallible_itertools.specs.declared.minmax.MinMaxResult.TheVariants.{MinMax};
-ghost use Rattle.std.specs.declared.ops.ControlFlow.TheVariants.{Continue};
+ghost use Rattle.fallible_itertools.specs.MinMax.{WidensBoth, least_and_greatest, with_item};
+ghost use Rattle.fallible_itertools.specs.declared.minmax.MinMaxResult.TheVariants.{MinMax, OneElement};
 
 use fallible_iterator::Turn;
 use std::convert::Infallible;
-use std::mem::replace;
 use std::ops::ControlFlow;
 
 /// What `minmax` finds.
@@ -33,23 +31,14 @@ impl<T: Copy> MinMaxResult<T> {
     }
 }
 
-/// Returns the least and the greatest after one more item: the first of equal least ones, and the last of equal greatest ones.
-pub fn widened<A: Ord + Drop>(so_far: MinMaxResult<A>, item: A) -> MinMaxResult<A>
-    ensures { result ≡ with_item A.cmp so_far item }
+/// Returns the lesser and the greater of two items; of equal ones the first is the lesser.
+pub fn in_order<A: Ord>(first: A, second: A) -> (A, A)
+    ensures { MinMax result.0 result.1 ≡ with_item A.cmp (OneElement first) second }
 {
-    match so_far {
-        MinMaxResult::NoElements => MinMaxResult::OneElement(item),
-        MinMaxResult::OneElement(only) => {
-            if only.cmp(&item).is_gt() {
-                MinMaxResult::MinMax(item, only)
-            } else {
-                MinMaxResult::MinMax(only, item)
-            }
-        }
-        MinMaxResult::MinMax(mut least, mut greatest) => {
-            widen(&mut least, &mut greatest, item);
-            MinMaxResult::MinMax(least, greatest)
-        }
+    if first.cmp(&second).is_gt() {
+        (second, first)
+    } else {
+        (first, second)
     }
 }
 
@@ -69,21 +58,15 @@ fn widen<A: Ord + Drop>(least: &mut A, greatest: &mut A, item: A)
 #[derive(Drop)]
 pub struct MinMaxTurn;
 
-impl<A: Ord + Drop> Turn<MinMaxResult<A>, A, Infallible> for MinMaxTurn {
+impl<A: Ord + Drop> Turn<(A, A), A, Infallible> for MinMaxTurn {
     ghost can_turn = { λ _ _ _. ⊤ };
 
-    ghost turns = { λ _ c x r d. (r ≡ Continue tt) × (d ≡ with_item A.cmp c x) };
+    ghost turns = { λ _ p x r q. WidensBoth A.cmp p x r q };
 
     /// Compares the item with those that are kept.
     #[inline(always)]
-    fn turn(&self, state: &mut MinMaxResult<A>, item: A) -> ControlFlow<Infallible, ()> {
-        match state {
-            MinMaxResult::MinMax(least, greatest) => widen(least, greatest, item),
-            _ => {
-                let so_far = replace(state, MinMaxResult::NoElements);
-                *state = widened(so_far, item);
-            }
-        }
+    fn turn(&self, state: &mut (A, A), item: A) -> ControlFlow<Infallible, ()> {
+        widen(&mut state.0, &mut state.1, item);
         ControlFlow::Continue(())
     }
 }

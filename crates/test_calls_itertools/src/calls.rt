@@ -9,7 +9,9 @@ use fallible_itertools::{
 };
 use std::alloc::{AllocError, Global};
 use std::test::Fail;
-use test_support::calls::{Calls, NO_CALL, ONE_FOLD, ONE_NEXT, THREE_FOLDS, TWO_FOLDS, TWO_NEXTS};
+use test_support::calls::{
+    Calls, NO_CALL, ONE_FOLD, ONE_NEXT, THREE_FOLDS, TWO_FOLDS, TWO_NEXTS, TWO_NEXTS_ONE_FOLD,
+};
 use test_support::closures::add_up;
 use test_support::counted::{Counted, Log};
 use test_support::counted_numbers::counted;
@@ -287,11 +289,7 @@ fn searches_and_folds_through_a_borrow_are_one_fold_each(rt: HostRuntime) {
 // The sum, the product, and the calls of both.
 const TOTALS: ([Result<Option<u32>, u32>; 2], Calls) = ([Ok(Some(5)), Ok(Some(4))], TWO_FOLDS);
 
-const SORTED_AND_EXTREMES: (Result<bool, u32>, Result<MinMaxResult<u32>, u32>, Calls) = (
-    Ok(false),
-    Ok(MinMax(1, 2)),
-    TWO_FOLDS,
-);
+const SORTED: (Result<bool, u32>, Calls) = (Ok(false), ONE_FOLD);
 
 const BOTH_MADE: (bool, bool, Calls) = (true, true, TWO_FOLDS);
 
@@ -305,11 +303,30 @@ fn consumers_that_take_the_iterator_are_one_fold_each(rt: HostRuntime) {
     ];
     assert_eq!(rt; (totals, log.take()), TOTALS);
     let is_sorted = counted(&answers, &log).is_sorted_by_key(kept);
-    let extremes = counted(&answers, &log).minmax();
-    assert_eq!(rt; (is_sorted, extremes, log.take()), SORTED_AND_EXTREMES);
+    assert_eq!(rt; (is_sorted, log.take()), SORTED);
     let counts = counted(&answers, &log).counts(rt.alloc());
     let text = counted(&answers, &log).join(rt.alloc(), ", ");
     assert_eq!(rt; (counts.is_ok(), text.is_ok(), log.take()), BOTH_MADE);
+}
+
+type Extremes = (Result<MinMaxResult<u32>, u32>, Calls);
+
+const EXTREMES: Extremes = (Ok(MinMax(1, 3)), TWO_NEXTS_ONE_FOLD);
+
+const EXTREMES_OF_ONE: Extremes = (Ok(MinMaxResult::OneElement(2)), TWO_NEXTS);
+
+const EXTREMES_OF_NONE: Extremes = (Ok(MinMaxResult::NoElements), ONE_NEXT);
+
+// It draws the first two items, and folds the rest.
+#[test]
+fn minmax_draws_twice_and_then_folds(rt: HostRuntime) {
+    let log = Log::new();
+    let extremes = counted(&[Ok(2), Ok(1), Ok(3)], &log).minmax();
+    assert_eq!(rt; (extremes, log.take()), EXTREMES);
+    let extremes = counted(&[Ok(2)], &log).minmax();
+    assert_eq!(rt; (extremes, log.take()), EXTREMES_OF_ONE);
+    let extremes = counted(&[], &log).minmax();
+    assert_eq!(rt; (extremes, log.take()), EXTREMES_OF_NONE);
 }
 
 type AtMostOne = (Result<Result<Option<u32>, (u32, u32)>, u32>, Calls);

@@ -6,10 +6,12 @@ use Rattle.fallible_contract.specs.Traces.{Answered}
 use Rattle.fallible_contract.specs.Contract.{Contract}
 use Rattle.fallible_contract.specs.Closures.{call_at, takes_at, IsCallable}
 use Rattle.fallible_contract.specs.Passing.{PassTrace, leaving_out_contract}
+use Rattle.fallible_contract.specs.Folding.{FoldingTurn}
 pub use Rattle.fallible_contract.specs.Passing.{tested_outcome}
 use Rattle.fallible_contract.specs.Hints.{upper_alone}
 use Rattle.std.specs.declared.ops.ControlFlow.{ControlFlow}
-use Rattle.std.specs.declared.ops.ControlFlow.TheVariants.{Continue}
+use Rattle.std.specs.declared.ops.ControlFlow.TheVariants.{Continue, Break}
+use Rattle.fallible_contract.specs.declared.passing.Outcome.{Outcome}
 use Rattle.fallible_core.specs.declared.filtering.filter.Filter.{Filter}
 
 -- `Filter`: the source's trace without the rejected items, where an item whose predicate failed is replaced by that failure; it doesn't end in a rejected item.
@@ -31,6 +33,16 @@ filter_predicate s = s.f
 -- the source, and the predicate
 abbrev pub filter_parts : {I F : Type 0} → Filter I F → I × F
 filter_parts s = (filter_source s, filter_predicate s)
+
+-- ---- its draw, through the source's own fold
+
+-- a draw stops with the first item
+abbrev pub StopsWithItem : {B : Type 0} → Unit {0} → B → ControlFlow B (Unit {0}) → Unit {0} → Type 0
+StopsWithItem u y r v = r ≡ Break y
+
+-- the source's turn of a draw, whose state is the closure: one call of it, and what stays in the item's place stops the draw
+abbrev pub DrawingTurn : {F X V B E : Type 0} → (F → X → V → F → Type 0) → (X → V → Outcome B E) → F → X → ControlFlow (Answered B E) (Unit {0}) → F → Type 0
+DrawingTurn call outcome f x r g = FoldingTurn call outcome StopsWithItem (tt, f) x r (tt, g)
 
 -- ---- its count, through the source's own fold
 

@@ -1,12 +1,12 @@
 -- An answer of the current inner iterator, or one of the outer source after its end, is one from the start. An item of the outer source goes before what follows.
-use Rattle.std.proofs.Common.{arith, refl, Ok, Err, Some}
+use Rattle.std.proofs.Common.{arith, rules, refl, Ok, Err}
 use Rattle.fallible_core.specs.Laws.Joining.Flatten.{kept_by_draws_begun}
 use Rattle.fallible_core.proofs.Lemmas.Joining.Flatten.{flatten_trace_in_hand, flatten_trace_after_end, flatten_trace_at_item, flatten_trace_outer_failure, flatten_trace_outer_end}
 use Rattle.fallible_core.proofs.joining.flatten.next_joined.Goals.{in-Some+in-Ok-None, in-None}
 use Rattle.fallible_core.proofs.joining.flatten.next_joined.Goals as goal
 
 pub returns-in-Ok-Some : goal.returns-in-Ok-Some
-returns-in-Ok-Some g c = c.loop-in_hand.invariant.whole _ _ (flatten_trace_in_hand (Ok (Some c.in-Ok-Some.y)) c.in-Some.is (rw c.in-Ok-Some.field-0-is at c.in-Ok-Some.ensures) refl)
+returns-in-Ok-Some g c = c.loop-in_hand.invariant.whole _ _ (flatten_trace_in_hand (Ok c.in-Ok-Some.some) c.in-Some.is c.in-Ok-Some.ensures (search rules))
 
 pub returns-in-Err : goal.returns-in-Err
 returns-in-Err g c = c.loop-in_hand.invariant.whole _ _ (flatten_trace_in_hand (Err c.in-Err.e) c.in-Some.is c.in-Err.ensures refl)
