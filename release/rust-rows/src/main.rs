@@ -1,6 +1,7 @@
-//! Chains over the rows of a PostgreSQL server, which it draws by `query_raw`. Of the three queries one lists 20 numbers, one
-//! none, and one fails at its seventh row. For each chain and query a line says what the chain returned, the failure by its
-//! SQLSTATE, and which numbers were drawn.
+//! Chains over the rows of a PostgreSQL server, drawn by `query_raw`.
+//!
+//! Of the three queries one lists 20 numbers, one none, and one fails at its seventh row. For each chain and query a line
+//! says what the chain returned, or the failure by its SQLSTATE, and which numbers were drawn.
 //!
 //!     rust-rows PORT
 use fallible_iterator::{convert, FallibleIterator};
@@ -10,7 +11,10 @@ use std::collections::{BTreeMap, BTreeSet, VecDeque};
 const QUERIES: [(&str, &str); 3] = [
     ("twenty", "SELECT n FROM generate_series(1, 20) n"),
     ("none", "SELECT n FROM generate_series(1, 0) n"),
-    ("failing", "SELECT n + 0 / (n - 7) FROM generate_series(1, 20) n"),
+    (
+        "failing",
+        "SELECT n + 0 / (n - 7) FROM generate_series(1, 20) n",
+    ),
 ];
 
 /// The numbers of a query's rows, each of which is put into `drawn`.
@@ -33,7 +37,9 @@ fn four() -> impl FallibleIterator<Item = i32, Error = Error> {
 
 /// A failure of the server's.
 fn shown(error: Error) -> String {
-    error.code().map_or(error.to_string(), |state| state.code().to_string())
+    error
+        .code()
+        .map_or(error.to_string(), |state| state.code().to_string())
 }
 
 type Chain = fn(&mut Client, &str, &mut Vec<i32>) -> Result<String, Error>;
@@ -113,7 +119,7 @@ fn adapters() -> Vec<(&'static str, Chain)> {
         |rows| rows.flat_map(|n| Ok(convert((0..n % 3).map(Ok)))).collect::<Vec<_>>()?;
         |rows| rows.map(|n| Ok(convert((n..n + 2).map(Ok)))).flatten().count()?;
         |rows| { let mut rows = rows.peekable(); (rows.peek()?.copied(), rows.next()?, rows.count()?) };
-        |rows| { let mut rows = rows.peekable(); (rows.next_if(|n| *n == 1)?, rows.next_if(|n| *n == 1)?, rows.next()?) };
+        |rows| { let mut rows = rows.fuse().peekable(); (rows.next_if(|n| *n < 2)?, rows.next_if(|n| *n < 2)?, rows.next()?) };
         |rows| rows.filter(|n| Ok(n % 2 == 1)).map(|n| Ok(n * 7 % 10)).skip_while(|n| Ok(*n < 8)).enumerate().last()?;
         |rows| rows.chain(four()).filter(|n| Ok(*n != 3)).zip(four()).map(|(a, b)| Ok(a * b)).fold(1, |p, n| Ok(p * n))?;
         |rows| rows.take_while(|n| Ok(*n < 15)).skip(2).step_by(2).map(|n| Ok(n + 1)).max()?;
@@ -128,7 +134,10 @@ fn main() -> Result<(), Error> {
         for (name, query) in QUERIES {
             let mut drawn = Vec::new();
             let outcome = chain(&mut client, query, &mut drawn).unwrap_or_else(shown);
-            println!("{} over {name}: {outcome}, drawn {drawn:?}", text.replace('\n', " "));
+            println!(
+                "{} over {name}: {outcome}, drawn {drawn:?}",
+                text.replace('\n', " ")
+            );
         }
     }
     Ok(())
