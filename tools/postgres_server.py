@@ -25,6 +25,7 @@ host all postgres 127.0.0.1/32 trust
 """
 SETTINGS = """
 listen_addresses = '127.0.0.1'
+unix_socket_directories = ''
 fsync = off
 timezone = 'UTC'
 log_timezone = 'UTC'
@@ -109,7 +110,7 @@ def server():
               "--locale=C"], log, cwd=folder, **who)
         (data / "pg_hba.conf").write_text(ACCESS)
         with (data / "postgresql.conf").open("a") as file:
-            file.write(f"{SETTINGS}port = {port}\nunix_socket_directories = '{folder}'\n")
+            file.write(f"{SETTINGS}port = {port}\n")
         with log.open("a") as file:
             process = subprocess.Popen([programs() / "postgres", "-D", data], cwd=folder, stdin=subprocess.DEVNULL,
                                        stdout=file, stderr=subprocess.STDOUT, **who)
