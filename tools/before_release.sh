@@ -24,7 +24,7 @@ memory|tools/refused_memory.sh|7 minutes
 speed|tools/speed.sh|the proof of fallible_speed, and then minutes
 rust_speed|tools/rust_bench.sh|a minute; wants valgrind and apt
 itertools_speed|tools/rust_bench_itertools.sh|a minute; wants valgrind and apt
-clients|tools/rust_clients|minutes; wants cargo and apt
+clients|tools/rust_clients|a quarter of an hour and more; wants cargo, PostgreSQL, SQLite, libclang and apt
 END
 }
 
