@@ -1,7 +1,6 @@
 //! The least and the greatest item in one pass.
 
 use core::convert::Infallible;
-use core::mem::replace;
 use core::ops::ControlFlow;
 use fallible_iterator::Turn;
 
@@ -36,30 +35,21 @@ impl<T: Copy> MinMaxResult<T> {
     }
 }
 
-/// Returns the least and the greatest after one more item: the first of equal least ones, and the last of equal greatest ones.
+/// Returns the lesser and the greater of two items; of equal ones the first is the lesser.
 ///
 /// <details><summary>Contract</summary>
 ///
 /// As it is proved, in [these words](crate::words):
 ///
 /// ```text
-/// ensures { result ≡ with_item A.cmp so_far item }
+/// ensures { MinMax result.0 result.1 ≡ with_item A.cmp (OneElement first) second }
 /// ```
 /// </details>
-pub fn widened<A: Ord>(so_far: MinMaxResult<A>, item: A) -> MinMaxResult<A> {
-    match so_far {
-        MinMaxResult::NoElements => MinMaxResult::OneElement(item),
-        MinMaxResult::OneElement(only) => {
-            if only.cmp(&item).is_gt() {
-                MinMaxResult::MinMax(item, only)
-            } else {
-                MinMaxResult::MinMax(only, item)
-            }
-        }
-        MinMaxResult::MinMax(mut least, mut greatest) => {
-            widen(&mut least, &mut greatest, item);
-            MinMaxResult::MinMax(least, greatest)
-        }
+pub fn in_order<A: Ord>(first: A, second: A) -> (A, A) {
+    if first.cmp(&second).is_gt() {
+        (second, first)
+    } else {
+        (first, second)
     }
 }
 
@@ -76,17 +66,11 @@ fn widen<A: Ord>(least: &mut A, greatest: &mut A, item: A) {
 /// The turn of `minmax`, whose state is the least and the greatest item so far.
 pub struct MinMaxTurn;
 
-impl<A: Ord> Turn<MinMaxResult<A>, A, Infallible> for MinMaxTurn {
+impl<A: Ord> Turn<(A, A), A, Infallible> for MinMaxTurn {
     /// Compares the item with those that are kept.
     #[inline(always)]
-    fn turn(&self, state: &mut MinMaxResult<A>, item: A) -> ControlFlow<Infallible, ()> {
-        match state {
-            MinMaxResult::MinMax(least, greatest) => widen(least, greatest, item),
-            _ => {
-                let so_far = replace(state, MinMaxResult::NoElements);
-                *state = widened(so_far, item);
-            }
-        }
+    fn turn(&self, state: &mut (A, A), item: A) -> ControlFlow<Infallible, ()> {
+        widen(&mut state.0, &mut state.1, item);
         ControlFlow::Continue(())
     }
 }

@@ -28,7 +28,7 @@ use crate::is_sorted::{InOrderTurn, SortedTurn};
 use crate::join::JoinTurn;
 use crate::merge::Merge;
 use crate::merge_by::MergeBy;
-use crate::minmax::{MinMaxResult, MinMaxTurn};
+use crate::minmax::{MinMaxResult, MinMaxTurn, in_order};
 use crate::or_else::OrElse;
 use crate::partition_map::Either;
 use crate::sides::Holding;
@@ -1261,9 +1261,19 @@ pub trait FallibleItertools: FallibleIterator + Sized {
     where
         Self::Item: Ord,
     {
-        let mut found = MinMaxResult::NoElements;
-        match self.drive(&mut found, &MinMaxTurn) {
-            Ok(None) => Ok(found),
+        let first = match self.draw() {
+            Ok(Some(first)) => first,
+            Ok(None) => return Ok(MinMaxResult::NoElements),
+            Err(e) => return Err(e),
+        };
+        let second = match self.draw() {
+            Ok(Some(second)) => second,
+            Ok(None) => return Ok(MinMaxResult::OneElement(first)),
+            Err(e) => return Err(e),
+        };
+        let mut both = in_order(first, second);
+        match self.drive(&mut both, &MinMaxTurn) {
+            Ok(None) => Ok(MinMaxResult::MinMax(both.0, both.1)),
             Ok(Some(never)) => match never {},
             Err(e) => Err(e),
         }

@@ -34,8 +34,8 @@ impl<T: FallibleIterator, U: FallibleIterator<Item = T::Item, Error = T::Error>>
     fn next(&mut self) -> Result<Option<T::Item>, T::Error> {
         if !matches!(self.still_drawn, StillDrawn::SecondAlone) {
             match self.first.next() {
-                Ok(Some(x)) => return Ok(Some(x)),
                 Ok(None) => {}
+                Ok(some @ Some(_)) => return Ok(some),
                 Err(e) => return Err(e),
             }
             match self.still_drawn {
@@ -186,8 +186,8 @@ impl<
     fn next_back(&mut self) -> Result<Option<T::Item>, T::Error> {
         if !matches!(self.still_drawn, StillDrawn::FirstAlone) {
             match self.second.next_back() {
-                Ok(Some(x)) => return Ok(Some(x)),
                 Ok(None) => {}
+                Ok(some @ Some(_)) => return Ok(some),
                 Err(e) => return Err(e),
             }
             match self.still_drawn {

@@ -55,9 +55,9 @@ pub(crate) fn next_joined<
     loop {
         match in_hand {
             Some(inner) => match inner.next() {
-                Ok(Some(y)) => return Ok(Some(y)),
-                Err(e) => return Err(e),
                 Ok(None) => {}
+                Ok(some @ Some(_)) => return Ok(some),
+                Err(e) => return Err(e),
             },
             None => {}
         }

@@ -3,7 +3,7 @@ use fallible_iterator::memory::AllocError;
 // What the calls of `fallible_itertools` make of their sources.
 
 use crate::test_support::calls::{
-    Calls, NO_CALL, ONE_FOLD, ONE_NEXT, THREE_FOLDS, TWO_FOLDS, TWO_NEXTS,
+    Calls, NO_CALL, ONE_FOLD, ONE_NEXT, THREE_FOLDS, TWO_FOLDS, TWO_NEXTS, TWO_NEXTS_ONE_FOLD,
 };
 use crate::test_support::closures::add_up;
 use crate::test_support::counted::{Counted, Log};
@@ -286,8 +286,7 @@ fn searches_and_folds_through_a_borrow_are_one_fold_each() {
 // The sum, the product, and the calls of both.
 const TOTALS: ([Result<Option<u32>, u32>; 2], Calls) = ([Ok(Some(5)), Ok(Some(4))], TWO_FOLDS);
 
-const SORTED_AND_EXTREMES: (Result<bool, u32>, Result<MinMaxResult<u32>, u32>, Calls) =
-    (Ok(false), Ok(MinMax(1, 2)), TWO_FOLDS);
+const SORTED: (Result<bool, u32>, Calls) = (Ok(false), ONE_FOLD);
 
 const BOTH_MADE: (bool, bool, Calls) = (true, true, TWO_FOLDS);
 
@@ -301,11 +300,30 @@ fn consumers_that_take_the_iterator_are_one_fold_each() {
     ];
     assert_eq!((totals, log.take()), TOTALS);
     let is_sorted = counted(&answers, &log).is_sorted_by_key(kept);
-    let extremes = counted(&answers, &log).minmax();
-    assert_eq!((is_sorted, extremes, log.take()), SORTED_AND_EXTREMES);
+    assert_eq!((is_sorted, log.take()), SORTED);
     let counts = counted(&answers, &log).counts();
     let text = counted(&answers, &log).join(", ");
     assert_eq!((counts.is_ok(), text.is_ok(), log.take()), BOTH_MADE);
+}
+
+type Extremes = (Result<MinMaxResult<u32>, u32>, Calls);
+
+const EXTREMES: Extremes = (Ok(MinMax(1, 3)), TWO_NEXTS_ONE_FOLD);
+
+const EXTREMES_OF_ONE: Extremes = (Ok(MinMaxResult::OneElement(2)), TWO_NEXTS);
+
+const EXTREMES_OF_NONE: Extremes = (Ok(MinMaxResult::NoElements), ONE_NEXT);
+
+// It draws the first two items, and folds the rest.
+#[test]
+fn minmax_draws_twice_and_then_folds() {
+    let log = Log::new();
+    let extremes = counted(&[Ok(2), Ok(1), Ok(3)], &log).minmax();
+    assert_eq!((extremes, log.take()), EXTREMES);
+    let extremes = counted(&[Ok(2)], &log).minmax();
+    assert_eq!((extremes, log.take()), EXTREMES_OF_ONE);
+    let extremes = counted(&[], &log).minmax();
+    assert_eq!((extremes, log.take()), EXTREMES_OF_NONE);
 }
 
 type AtMostOne = (Result<Result<Option<u32>, (u32, u32)>, u32>, Calls);
