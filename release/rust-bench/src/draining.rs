@@ -1,6 +1,6 @@
 //! The two ways of draining a chain.
 use crate::eight::Eight;
-use crate::loops::{mixed, sum_of};
+use crate::loops::{mixed, mixed_small, sum_of};
 use fallible_iterator::FallibleIterator;
 
 /// What a source may fail with. Those of the chains don't, but for one chain.
@@ -8,6 +8,12 @@ pub type Failure = u64;
 
 /// The numbers mixed into one, or the first failure.
 pub type Answer = Result<u64, Failure>;
+
+/// What a source of small items may fail with.
+pub type SmallFailure = u8;
+
+/// Small numbers mixed into one, or the first failure.
+pub type SmallAnswer = Result<u32, SmallFailure>;
 
 /// A way of draining.
 pub trait Way {
@@ -23,6 +29,14 @@ pub trait Way {
     fn answered<I: FallibleIterator<Item = u64, Error = Failure>>(it: I) -> Answer;
     /// The numbers, by what std draws.
     fn iterated<I: FallibleIterator<Item = u64, Error = Failure>>(it: I) -> Answer;
+    /// Small numbers, mixed into the value.
+    fn drained_small<I>(value: u32, it: I) -> SmallAnswer
+    where
+        I: FallibleIterator<Item = u32, Error = SmallFailure>;
+    /// How many small numbers there are, mixed into the value.
+    fn counted_small<I>(value: u32, it: I) -> SmallAnswer
+    where
+        I: FallibleIterator<Item = u32, Error = SmallFailure>;
 }
 
 /// By a fold.
@@ -65,6 +79,20 @@ impl Way for Fold {
     fn iterated<I: FallibleIterator<Item = u64, Error = Failure>>(it: I) -> Answer {
         it.iterator()
             .try_fold(0, |value: u64, answer| Ok(mixed(value, answer?)))
+    }
+
+    fn drained_small<I>(value: u32, it: I) -> SmallAnswer
+    where
+        I: FallibleIterator<Item = u32, Error = SmallFailure>,
+    {
+        it.fold(value, |value: u32, x: u32| Ok(mixed_small(value, x)))
+    }
+
+    fn counted_small<I>(value: u32, it: I) -> SmallAnswer
+    where
+        I: FallibleIterator<Item = u32, Error = SmallFailure>,
+    {
+        Ok(mixed_small(value, it.count()? as u32))
     }
 }
 
@@ -121,5 +149,27 @@ impl Way for Next {
             value = mixed(value, answer?);
         }
         Ok(value)
+    }
+
+    fn drained_small<I>(value: u32, mut it: I) -> SmallAnswer
+    where
+        I: FallibleIterator<Item = u32, Error = SmallFailure>,
+    {
+        let mut value = value;
+        while let Some(x) = it.next()? {
+            value = mixed_small(value, x);
+        }
+        Ok(value)
+    }
+
+    fn counted_small<I>(value: u32, mut it: I) -> SmallAnswer
+    where
+        I: FallibleIterator<Item = u32, Error = SmallFailure>,
+    {
+        let mut count: u32 = 0;
+        while it.next()?.is_some() {
+            count = count.wrapping_add(1);
+        }
+        Ok(mixed_small(value, count))
     }
 }

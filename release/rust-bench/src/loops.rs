@@ -7,6 +7,11 @@ pub fn mixed(value: u64, x: u64) -> u64 {
     value.wrapping_mul(3) ^ x
 }
 
+/// The same of numbers of four bytes.
+pub fn mixed_small(value: u32, x: u32) -> u32 {
+    value.wrapping_mul(3) ^ x
+}
+
 #[inline(never)]
 pub fn count(n: u64) -> u64 {
     let mut kept: u64 = 0;

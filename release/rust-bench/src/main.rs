@@ -6,6 +6,7 @@ mod chains;
 mod draining;
 mod eight;
 mod loops;
+mod small;
 
 use chains::{Chained, Converted, Own};
 use draining::{Answer, Fold, Next};
@@ -34,7 +35,19 @@ macro_rules! chain {
     };
 }
 
-const CHAINS: [(&str, Chain, Chain, Loop); 33] = [
+/// A chain over small items.
+macro_rules! small {
+    ($name:literal, $chain:ident) => {
+        (
+            $name,
+            |n| small::answer_over(n, small::$chain::<Fold>),
+            |n| small::answer_over(n, small::$chain::<Next>),
+            |n| small::value_over(n, small::by_hand::$chain),
+        )
+    };
+}
+
+const CHAINS: [(&str, Chain, Chain, Loop); 40] = [
     chain!("map.filter, count", count::<Converted>, count),
     chain!("map.filter, fold", fold::<Converted>, fold),
     chain!("filter_map", filter_map::<Converted>, filter_map),
@@ -84,6 +97,16 @@ const CHAINS: [(&str, Chain, Chain, Loop); 33] = [
         step_by
     ),
     chain!("own source: nest", nest::<Own>, nest),
+    small!("small items: map.filter, count", count),
+    small!("small items: map.filter, fold", fold),
+    small!("small items: filter_map", filter_map),
+    small!("small items: chain", chain),
+    small!(
+        "small items: chain.flat_map over ranges of 3",
+        chain_flat_map
+    ),
+    small!("small items: take_while.skip.step_by(3)", step_by),
+    small!("small items: nest", nest),
 ];
 
 /// The answer of a task, if the arguments are one.

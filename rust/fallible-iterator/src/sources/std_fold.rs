@@ -45,12 +45,17 @@ pub(crate) fn drive_std<
     state: &mut C,
     turn: &K,
 ) -> Result<Option<R>, E> {
-    match it.try_fold((), |(), element| {
-        turn_of_element(turn, elements, state, element)
-    }) {
-        Ok(()) => Ok(None),
-        Err(answer) => answer,
-    }
+    let mut answer = Ok(None);
+    let _ = it.try_fold((), |(), element| {
+        match turn_of_element(turn, elements, state, element) {
+            Ok(()) => Some(()),
+            Err(other) => {
+                answer = other;
+                None
+            }
+        }
+    });
+    answer
 }
 
 // The fold of a std iterator from the back.
@@ -69,12 +74,17 @@ pub(crate) fn drive_back_std<
     state: &mut C,
     turn: &K,
 ) -> Result<Option<R>, E> {
-    match it.try_rfold((), |(), element| {
-        turn_of_element(turn, elements, state, element)
-    }) {
-        Ok(()) => Ok(None),
-        Err(answer) => answer,
-    }
+    let mut answer = Ok(None);
+    let _ = it.try_rfold((), |(), element| {
+        match turn_of_element(turn, elements, state, element) {
+            Ok(()) => Some(()),
+            Err(other) => {
+                answer = other;
+                None
+            }
+        }
+    });
+    answer
 }
 
 // One turn of std's fold: the caller's turn on an item. A failure stops the fold.

@@ -1,4 +1,4 @@
-// changed: by the std iterator's own fold, whose closure borrows the state; the proved body's is by `next`, and carries it
+// changed: by the std iterator's own fold, whose closure borrows the state and what the fold returns; the proved body's is by `next`, and carries both
 // proved: e0a55a80
 pub(crate) fn drive_back_std<
     I: core::iter::DoubleEndedIterator,
@@ -10,8 +10,13 @@ pub(crate) fn drive_back_std<
     K: Turn<C, A, R>,
 >(it: &mut I, elements: &M, state: &mut C, turn: &K) -> Result<Option<R>, E>
 {
-    match it.try_rfold((), |(), element| turn_of_element(turn, elements, state, element)) {
-        Ok(()) => Ok(None),
-        Err(answer) => answer,
-    }
+    let mut answer = Ok(None);
+    let _ = it.try_rfold((), |(), element| match turn_of_element(turn, elements, state, element) {
+        Ok(()) => Some(()),
+        Err(other) => {
+            answer = other;
+            None
+        }
+    });
+    answer
 }
