@@ -1468,7 +1468,7 @@ pub trait FallibleItertools: FallibleIterator {
     {
         Intersperse {
             it: self,
-            parting: (separator, (false, None)),
+            stage: ((separator, false), None),
         }
     }
 
@@ -1521,7 +1521,7 @@ pub trait FallibleItertools: FallibleIterator {
     {
         IntersperseWith {
             it: self,
-            parting: (f, (false, None)),
+            stage: ((f, false), None),
         }
     }
 

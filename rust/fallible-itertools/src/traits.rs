@@ -1781,7 +1781,7 @@ pub trait FallibleItertools: FallibleIterator + Sized {
     {
         Intersperse {
             it: self,
-            parting: (separator, (false, None)),
+            stage: ((separator, false), None),
         }
     }
 
@@ -1841,7 +1841,7 @@ pub trait FallibleItertools: FallibleIterator + Sized {
     {
         IntersperseWith {
             it: self,
-            parting: (f, (false, None)),
+            stage: ((f, false), None),
         }
     }
 
