@@ -42,7 +42,6 @@ pub mod Sides
 pub mod Sorted
 pub mod Staging
 pub mod TakeWhileInclusive
-pub mod TakeWhileInclusiveFolds
 pub mod TupleWindows
 pub mod Unique
 pub mod UniqueOf

@@ -34,6 +34,10 @@ abbrev pub due_left : {B L E : Type 0} → L → Option (Answered B E) → Optio
 due_left later (Some a) = None
 due_left later None = Some later
 
+-- ends from then on
+abbrev pub ends_come : {B E : Type 0} → Unit {0} → Option (Answered B E)
+ends_come later = None
+
 -- `on_item p x made q`: the adapter holds p and is called on the item x; this is made of it, and it holds q then. `on_stop` is the same for a stop. Of both, what is made of an answer of the source.
 abbrev pub stage_meets : {P X D B L E : Type 0} → (P → X → Made B L E → P → Type 0) → (P → Option D → Made B L E → P → Type 0) → P → Answered X D → Made B L E → P → Type 0
 stage_meets on_item on_stop p (Ok (Some x)) made q = on_item p x made q

@@ -9,7 +9,7 @@ ghost use Rattle.fallible_itertools.specs.Laws.Parting.{is_stage_parting};
 ghost use Rattle.fallible_itertools.specs.Parting.{fitting, intersperse_hint, interspersed_items, item_comes, parting_on_item};
 ghost use Rattle.fallible_itertools.specs.Staging.{StopPasses, made_before};
 
-use crate::staging::{Made, Stage, before, drive_stage, next_stage, one, stopped};
+use crate::staging::{Made, Stage, drive_stage, next_stage, one, one_then, stopped};
 use fallible_iterator::{FallibleIterator, Turn};
 use std::alloc::AllocError;
 
@@ -116,8 +116,8 @@ pub(crate) fn separated<X, E>(separator: Result<X, E>, item: X) -> Made<X, X, E>
     ensures { result ≡ made_before (result_answer separator) item }
 {
     match separator {
-        Ok(separator) => before(Ok(Some(separator)), item),
-        Err(e) => before(Err(e), item),
+        Ok(separator) => one_then(Ok(Some(separator)), item),
+        Err(e) => one_then(Err(e), item),
     }
 }
 

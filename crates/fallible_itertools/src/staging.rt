@@ -24,7 +24,7 @@ pub fn one<B, L, E>(answer: Result<Option<B>, E>) -> Made<B, L, E>
 
 /// One answer, after which `later` is due.
 #[inline(always)]
-pub fn before<B, L, E>(answer: Result<Option<B>, E>, later: L) -> Made<B, L, E>
+pub fn one_then<B, L, E>(answer: Result<Option<B>, E>, later: L) -> Made<B, L, E>
     ensures { result ≡ made_before answer later }
 {
     Some((answer, Some(later)))

@@ -746,7 +746,7 @@ pub trait FallibleItertools: FallibleIterator {
     {
         TakeWhileInclusive {
             it: self,
-            taking: (false, predicate),
+            stage: (predicate, None),
         }
     }
 

@@ -1,6 +1,6 @@
 // The adapter that puts a separator between items.
 
-use crate::staging::{Made, Stage, before, drive_stage, next_stage, one, stopped};
+use crate::staging::{Made, Stage, drive_stage, next_stage, one, one_then, stopped};
 use fallible_iterator::{FallibleIterator, Turn};
 
 /// The items of the source with a clone of the separator between each two adjacent ones. An item that was drawn is buffered while the separator before it is yielded.
@@ -75,8 +75,8 @@ impl<X: Clone, E> Stage<(X, bool), X, E> for SeparatorClone {
 #[inline(always)]
 pub(crate) fn separated<X, E>(separator: Result<X, E>, item: X) -> Made<X, X, E> {
     match separator {
-        Ok(separator) => before(Ok(Some(separator)), item),
-        Err(e) => before(Err(e), item),
+        Ok(separator) => one_then(Ok(Some(separator)), item),
+        Err(e) => one_then(Err(e), item),
     }
 }
 

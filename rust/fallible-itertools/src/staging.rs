@@ -34,7 +34,7 @@ pub fn one<B, L, E>(answer: Result<Option<B>, E>) -> Made<B, L, E> {
 /// ```
 /// </details>
 #[inline(always)]
-pub fn before<B, L, E>(answer: Result<Option<B>, E>, later: L) -> Made<B, L, E> {
+pub fn one_then<B, L, E>(answer: Result<Option<B>, E>, later: L) -> Made<B, L, E> {
     Some((answer, Some(later)))
 }
 

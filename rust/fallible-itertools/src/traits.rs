@@ -881,7 +881,7 @@ pub trait FallibleItertools: FallibleIterator + Sized {
     {
         TakeWhileInclusive {
             it: self,
-            taking: (false, predicate),
+            stage: (predicate, None),
         }
     }
 
