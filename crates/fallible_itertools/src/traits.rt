@@ -142,8 +142,7 @@ pub trait FallibleItertools: FallibleIterator {
     {
         Coalesce {
             it: self,
-            coalescing: (None, f),
-            due: None,
+            stage: ((None, f), None),
         }
     }
 
@@ -180,8 +179,7 @@ pub trait FallibleItertools: FallibleIterator {
     {
         DedupByKey {
             it: self,
-            keying: (None, f),
-            due: None,
+            stage: ((None, f), None),
         }
     }
 
@@ -215,8 +213,7 @@ pub trait FallibleItertools: FallibleIterator {
     {
         DedupBy {
             it: self,
-            comparing: (None, same),
-            due: None,
+            stage: ((None, same), None),
         }
     }
 
@@ -244,8 +241,7 @@ pub trait FallibleItertools: FallibleIterator {
     {
         Dedup {
             it: self,
-            held: None,
-            due: None,
+            stage: (None, None),
         }
     }
 
@@ -275,8 +271,7 @@ pub trait FallibleItertools: FallibleIterator {
     {
         WithPosition {
             it: self,
-            held: None,
-            due: None,
+            stage: (None, None),
         }
     }
 
@@ -1396,8 +1391,7 @@ pub trait FallibleItertools: FallibleIterator {
         Chunks {
             it: self,
             alloc,
-            batch: (n, None),
-            due: None,
+            stage: ((n, None), None),
         }
     }
 
@@ -1436,8 +1430,7 @@ pub trait FallibleItertools: FallibleIterator {
         ChunkBy {
             it: self,
             alloc,
-            group: (key, None),
-            due: None,
+            stage: ((key, None), None),
         }
     }
 

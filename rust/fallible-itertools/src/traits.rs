@@ -108,8 +108,7 @@ pub trait FallibleItertools: FallibleIterator + Sized {
     {
         Coalesce {
             it: self,
-            coalescing: (None, f),
-            due: None,
+            stage: ((None, f), None),
         }
     }
 
@@ -153,8 +152,7 @@ pub trait FallibleItertools: FallibleIterator + Sized {
     {
         DedupByKey {
             it: self,
-            keying: (None, f),
-            due: None,
+            stage: ((None, f), None),
         }
     }
 
@@ -195,8 +193,7 @@ pub trait FallibleItertools: FallibleIterator + Sized {
     {
         DedupBy {
             it: self,
-            comparing: (None, same),
-            due: None,
+            stage: ((None, same), None),
         }
     }
 
@@ -232,8 +229,7 @@ pub trait FallibleItertools: FallibleIterator + Sized {
     {
         Dedup {
             it: self,
-            held: None,
-            due: None,
+            stage: (None, None),
         }
     }
 
@@ -269,8 +265,7 @@ pub trait FallibleItertools: FallibleIterator + Sized {
     fn with_position(self) -> WithPosition<Self> {
         WithPosition {
             it: self,
-            held: None,
-            due: None,
+            stage: (None, None),
         }
     }
 
@@ -1694,8 +1689,7 @@ pub trait FallibleItertools: FallibleIterator + Sized {
     fn chunks(self, n: usize) -> Chunks<Self> {
         Chunks {
             it: self,
-            batch: (n, None),
-            due: None,
+            stage: ((n, None), None),
         }
     }
 
@@ -1741,8 +1735,7 @@ pub trait FallibleItertools: FallibleIterator + Sized {
     {
         ChunkBy {
             it: self,
-            group: (key, None),
-            due: None,
+            stage: ((key, None), None),
         }
     }
 

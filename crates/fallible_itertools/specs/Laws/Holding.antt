@@ -6,7 +6,7 @@ use Rattle.fallible_iterator.specs.Contract.{Contract, KeptByDraw, Lawful}
 use Rattle.fallible_iterator.specs.Closures.{Reaches, IsCallable}
 use Rattle.fallible_iterator.specs.Laws.Closures.{reaches_here, reaches_from, is_callable_after}
 use Rattle.fallible_iterator.specs.Laws.Passing.{Passes, done, end_passes, failure_passes, keeps, refuses, closes, leaves_out, passes_of_pass_trace}
-use Rattle.fallible_itertools.specs.Staging.{Made, DrawsUpTo, yields, passes_over, EndsInStop, IsStage, IsStop, MayMeet, Weighs, items_of, made_total, stays_of, stage_contract, stage_step}
+use Rattle.fallible_itertools.specs.Staging.{Made, DrawsUpTo, yields, passes_over, EndsInStop, IsStage, IsStop, MayMeet, Weighs, items_of, made_total, stays_of, stage_contract, stage_meets, stage_step}
 use Rattle.fallible_itertools.specs.Laws.Staging.{kept_where_reached, lawful_stage}
 use Rattle.fallible_itertools.specs.Holding.{asks_item, as_answered_item, stop_answer, BeforeStop, AnswersAfter, StopMade, MadeOfStop, MadeOfItem, HeldAfter, Holds, OrStop, made_answers, stop_comes, holding_meets, holding_step, filling_contract, holding_contract}
 use Rattle.fallible_iterator.specs.Outcome.{Outcome}
@@ -74,6 +74,18 @@ module _ {P X B E : Type 0} (asks : P → Option X → Outcome B E → P → Typ
     is_stage_holding p (Ok (Some x)) made q w = weighs_item p w.1 q x w.0 made (weighs p (Some x) w.0 w.1 w.2) w.3
     is_stage_holding p (Ok None) made q w = weighs_stop X (held p) (held q) None w.0 made (weighs p None w.0 q w.1) w.2
     is_stage_holding p (Err e) made q w = weighs_stop X (held p) (held q) (Some e) w.0 made (weighs p None w.0 q w.1) w.2
+
+  -- the same of a stage that is called on items and on stops
+  abbrev pub stage_asks : P → Answered X E → Made B (Option E) E → P → Type 0
+  stage_asks = stage_meets (λ p x made q. holding_meets asks p (Ok (Some x)) made q) (λ p stop made q. holding_meets asks p (stop_answer stop) made q)
+
+  pub meets_of_stage : (p : P) (a : Answered X E) (made : Made B (Option E) E) (q : P) → stage_asks p a made q → holding_meets asks p a made q
+  meets_of_stage p (Ok (Some x)) made q w = w
+  meets_of_stage p (Ok None) made q w = w
+  meets_of_stage p (Err e) made q w = w
+
+  pub is_stage_stops : (held : P → ℕ) → Holds asks held → IsStage stop_comes stage_asks 1 held
+  is_stage_stops held weighs p a made q w = is_stage_holding held weighs p a made q (meets_of_stage p a made q w)
 
   -- ---- one answer
 
