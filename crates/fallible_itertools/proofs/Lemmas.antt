@@ -35,14 +35,13 @@ pub mod MinMax
 pub mod OrElse
 pub mod PartitionMap
 pub mod Parting
-pub mod PartingFolds
 pub mod PartingHints
 pub mod PartingTraces
 pub mod PeekingTakeWhile
 pub mod Sides
 pub mod Sorted
+pub mod Staging
 pub mod TakeWhileInclusive
-pub mod TakeWhileInclusiveFolds
 pub mod TupleWindows
 pub mod Unique
 pub mod UniqueOf

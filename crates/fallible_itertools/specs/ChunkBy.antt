@@ -112,8 +112,8 @@ chunk_by_source s = s.it
 
 -- the stop that is due, if one is
 abbrev pub chunk_by_due : {I K F A E : Type 0} → ChunkBy I K F A E → Option (Option E)
-chunk_by_due s = s.due
+chunk_by_due s = s.stage.1
 
 -- the source, beside the key's closure the group that is held, and the stop that is due
 abbrev pub chunk_by_parts : {I K F A E : Type 0} → ChunkBy I K F A E → I × ((F × Option (Group K A)) × Option (Option E))
-chunk_by_parts s = (s.it, (s.group, s.due))
+chunk_by_parts s = (s.it, s.stage)

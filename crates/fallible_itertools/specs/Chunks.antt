@@ -104,12 +104,12 @@ chunks_source s = s.it
 
 -- how many items a batch has
 abbrev pub chunks_size : {I A E : Type 0} → Chunks I A E → ℕ
-chunks_size s = s.batch.0
+chunks_size s = s.stage.0.0
 
 -- the stop that is due, if one is
 abbrev pub chunks_due : {I A E : Type 0} → Chunks I A E → Option (Option E)
-chunks_due s = s.due
+chunks_due s = s.stage.1
 
 -- the source, beside the size the batch that is held, and the stop that is due
 abbrev pub chunks_parts : {I A E : Type 0} → Chunks I A E → I × ((ℕ × Option (Vec A Global)) × Option (Option E))
-chunks_parts s = (s.it, (s.batch, s.due))
+chunks_parts s = (s.it, s.stage)

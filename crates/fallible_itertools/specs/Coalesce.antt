@@ -52,19 +52,19 @@ coalesce_source s = s.it
 
 -- the item that is held, if there is one
 abbrev pub coalesce_held : {I A E F : Type 0} → Coalesce I F A E → Option A
-coalesce_held s = s.coalescing.0
+coalesce_held s = s.stage.0.0
 
 -- the closure
 abbrev pub coalesce_closure : {I A E F : Type 0} → Coalesce I F A E → F
-coalesce_closure s = s.coalescing.1
+coalesce_closure s = s.stage.0.1
 
 -- the stop that is due, if one is
 abbrev pub coalesce_due : {I A E F : Type 0} → Coalesce I F A E → Option (Option E)
-coalesce_due s = s.due
+coalesce_due s = s.stage.1
 
 -- the source, what is held beside the closure, and the stop that is due
 abbrev pub coalesce_parts : {I A E F : Type 0} → Coalesce I F A E → I × ((Option A × F) × Option (Option E))
-coalesce_parts s = (s.it, (s.coalescing, s.due))
+coalesce_parts s = (s.it, s.stage)
 
 -- ---- what it lists
 

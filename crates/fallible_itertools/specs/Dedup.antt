@@ -54,8 +54,8 @@ dedup_source s = s.it
 
 -- the source, the item that is held, and the stop that is due
 abbrev pub dedup_parts : {I A E : Type 0} → Dedup I A E → I × (Option A × Option (Option E))
-dedup_parts s = (s.it, (s.held, s.due))
+dedup_parts s = (s.it, s.stage)
 
 -- the stop that is due, if one is
 abbrev pub dedup_due : {I A E : Type 0} → Dedup I A E → Option (Option E)
-dedup_due s = s.due
+dedup_due s = s.stage.1

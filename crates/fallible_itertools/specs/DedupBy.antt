@@ -44,15 +44,15 @@ dedup_by_source s = s.it
 
 -- the item that is held, if there is one, and the closure
 abbrev pub dedup_by_comparing : {I A E F : Type 0} → DedupBy I F A E → Option A × F
-dedup_by_comparing s = s.comparing
+dedup_by_comparing s = s.stage.0
 
 -- the stop that is due, if one is
 abbrev pub dedup_by_due : {I A E F : Type 0} → DedupBy I F A E → Option (Option E)
-dedup_by_due s = s.due
+dedup_by_due s = s.stage.1
 
 -- the source, what is held beside the closure, and the stop that is due
 abbrev pub dedup_by_parts : {I A E F : Type 0} → DedupBy I F A E → I × ((Option A × F) × Option (Option E))
-dedup_by_parts s = (s.it, (s.comparing, s.due))
+dedup_by_parts s = (s.it, s.stage)
 
 -- ---- what it lists
 

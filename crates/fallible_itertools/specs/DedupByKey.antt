@@ -74,12 +74,12 @@ dedup_by_key_source s = s.it
 
 -- the key and the item that are held, if there are some, and the closure
 abbrev pub dedup_by_key_keying : {I A E K F : Type 0} → DedupByKey I K F A E → Option (K × A) × F
-dedup_by_key_keying s = s.keying
+dedup_by_key_keying s = s.stage.0
 
 -- the stop that is due, if one is
 abbrev pub dedup_by_key_due : {I A E K F : Type 0} → DedupByKey I K F A E → Option (Option E)
-dedup_by_key_due s = s.due
+dedup_by_key_due s = s.stage.1
 
 -- the source, what is held beside the closure, and the stop that is due
 abbrev pub dedup_by_key_parts : {I A E K F : Type 0} → DedupByKey I K F A E → I × ((Option (K × A) × F) × Option (Option E))
-dedup_by_key_parts s = (s.it, (s.keying, s.due))
+dedup_by_key_parts s = (s.it, s.stage)

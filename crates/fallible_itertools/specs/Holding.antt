@@ -1,16 +1,14 @@
 -- Adapters that hold what they drew until a later item or a stop decides what becomes of it. What is held is yielded first: a stop that was met then, an end or a failure, is due, and is the next answer.
-use Rattle.std.specs.Prelude.{◌≡◌, ℕ, ◌+◌, ◌≤◌, ◌<◌, ◌⊎◌, min, ⊤, Option, Some, None, Ok, Err, List, [], ◌∷◌, ◌++◌, length, map}
-use Rattle.std.specs.Iterator.{count_map}
+use Rattle.std.specs.Prelude.{◌≡◌, ℕ, ◌+◌, ◌≤◌, ◌<◌, min, ⊤, Option, Some, None, Ok, Err, List, [], ◌∷◌, ◌++◌, length, map}
 use Rattle.std.specs.List.{FoldsTo, flat_map}
 use Rattle.fallible_iterator.specs.Traces.{Answered, Run}
 use Rattle.fallible_iterator.specs.Contract.{Contract}
-use Rattle.fallible_iterator.specs.Closures.{IsCallable, MayAnswer}
+use Rattle.fallible_iterator.specs.Closures.{IsCallable}
 use Rattle.fallible_iterator.specs.Passing.{passing_step}
 use Rattle.fallible_iterator.specs.Hints.{fitting_sum}
+use Rattle.fallible_itertools.specs.Staging.{Made, stage_contract}
 use Rattle.fallible_iterator.specs.Outcome.{Outcome}
 use Rattle.fallible_iterator.specs.Outcome.TheVariants.{Kept, LeftOut, Failure, End}
-use Rattle.std.specs.declared.ops.ControlFlow.{ControlFlow}
-use Rattle.std.specs.declared.ops.ControlFlow.TheVariants.{Continue, Break}
 
 -- A stop is an end, `None`, or a failure, `Some e`: this answer.
 abbrev pub stop_answer : {B E : Type 0} → Option E → Answered B E
@@ -123,43 +121,29 @@ OrStop P None = ⊤
 abbrev pub MayBeAsked : {S X E : Type 0} → Contract S X E → S → Option X → Type 0
 MayBeAsked m s asked = OrStop (m.may_give s) asked
 
--- a failure that is due
-abbrev pub due_failures : {E : Type 0} → Option (Option E) → ℕ
-due_failures (Some (Some e)) = 1
-due_failures (Some None) = 0
-due_failures None = 0
+-- the answers that a stage makes, and what is due after them
+abbrev pub made_answers : {B E : Type 0} → Made B (Option E) E → List (Answered B E)
+made_answers None = []
+made_answers (Some (a, due)) = a ∷ due_answer due
+
+-- the stop that is due comes
+abbrev pub stop_comes : {B E : Type 0} → Option E → Option (Answered B E)
+stop_comes stop = Some (stop_answer stop)
+
+-- What an answer of the source makes, as a stage: `DrawMade` of its answers.
+abbrev pub holding_meets : {P X B E : Type 0} → (P → Option X → Outcome B E → P → Type 0) → P → Answered X E → Made B (Option E) E → P → Type 0
+holding_meets asks p a made q = DrawMade asks p (a, made_answers made) q
 
 -- The contract of an adapter that holds so many answers. It requires no bound of its source, so it serves one of which a draw leaves out a known number of items at most.
 abbrev pub filling_contract : {S P X B E : Type 0} → Contract S X E → (P → Option X → Outcome B E → P → Type 0) → (P → Option X → Type 0) → (P → ℕ) → (S × (P × Option (Option E)) → ℕ × Option ℕ → Type 0) → Contract (S × (P × Option (Option E))) B E
-filling_contract m asks pre held hints = record {
+filling_contract m asks pre held hints = record (stage_contract m stop_comes (holding_meets asks) (λ Q p. IsCallable asks pre (OrStop (λ x. Q (Ok (Some x)))) p) 1 held hints) {
   can_next = λ p. m.can_next p.0 × IsCallable asks pre (MayBeAsked m p.0) p.1.0;
   steps = λ p r q. holding_step asks m.steps p r q;
-  bound = λ p n. (k : ℕ) × m.bound p.0 k × (k + held p.1.0 ≤ n);
-  is_finite = λ p. m.is_finite p.0;
-  remaining = λ p. count_map (λ n. n + (held p.1.0 + due_failures p.1.1)) (m.remaining p.0);
-  may_give = λ p y. MayAnswer asks (MayBeAsked m p.0) p.1.0 (λ asked o. o ≡ Kept y);
-  may_fail = λ p e. (p.1.1 ≡ Some (Some e)) ⊎ (m.may_fail p.0 e ⊎ MayAnswer asks (MayBeAsked m p.0) p.1.0 (λ asked o. o ≡ Failure e));
-  hints = hints;
-  lenders = λ p. m.lenders p.0;
 }
 
 -- The contract of an adapter that holds and may leave out many items: it requires a bound of the source besides.
 abbrev pub holding_contract : {S P X B E : Type 0} → Contract S X E → (P → Option X → Outcome B E → P → Type 0) → (P → Option X → Type 0) → (P → ℕ) → (S × (P × Option (Option E)) → ℕ × Option ℕ → Type 0) → Contract (S × (P × Option (Option E))) B E
 holding_contract m asks pre held hints = record (filling_contract m asks pre held hints) { can_next = λ p. m.is_finite p.0 × m.can_next p.0 × IsCallable asks pre (MayBeAsked m p.0) p.1.0 }
-
--- ---- the fold at a stop
-
-module _ {P X B E C R : Type 0} (asks : P → Option X → Outcome B E → P → Type 0) (turns : C → B → ControlFlow R (Unit {0}) → C → Type 0) where
-  -- The caller's turn on what is held, and then the stop; it is due where the turn stops the fold.
-  abbrev pub TurnBefore : Option E → C → Outcome B E → Answered R E → Option (Option E) → C → Type 0
-  TurnBefore stop c (Kept y) r due d = (turns c y (Continue tt) d × (r ≡ stop_answer stop) × (due ≡ None)) ⊎ ((why : R) × turns c y (Break why) d × (r ≡ Ok (Some why)) × (due ≡ Some stop))
-  TurnBefore stop c (Failure e) r due d = (r ≡ Err e) × (due ≡ Some stop) × (d ≡ c)
-  TurnBefore stop c End r due d = (r ≡ stop_answer stop) × (due ≡ None) × (d ≡ c)
-  TurnBefore stop c LeftOut r due d = ⊥
-
-  -- The adapter is called on the stop. The caller's turn is taken on what it returns, and then the stop comes.
-  abbrev pub StoppedBehind : Option E → P × C → Answered R E → P × Option (Option E) → C → Type 0
-  StoppedBehind stop (p, c) r (q, due) d = (o : Outcome B E) × asks p None o q × TurnBefore stop c o r due d
 
 -- ---- how many are held, and the hint
 

@@ -23,7 +23,7 @@ module _ {A E : Type 0} (is_clone : A → A → Type 0) (is_infallible : A → T
 
 -- `Intersperse`'s contract: an item of the source is two to come, and a held one is one.
 abbrev pub intersperse_contract : {S A E : Type 0} → (A → A → Type 0) → (A → Type 0) → (AllocError → E → Type 0) → Contract S A E → Contract (S × (A × (Bool × Option A))) A E
-intersperse_contract is_clone is_infallible from m = record (parting_contract (CloneSeparates is_clone is_infallible from) (λ _. ⊤) is_clone (RefusedAs is_infallible from) m) {
+intersperse_contract is_clone is_infallible from m = record (parting_contract (CloneSeparates is_clone is_infallible from) (λ _. ⊤) m) {
   can_next = λ p. m.can_next p.0;
 }
 
@@ -33,15 +33,15 @@ intersperse_source s = s.it
 
 -- the separator
 abbrev pub intersperse_separator : {I A E : Type 0} → Intersperse I A E → A
-intersperse_separator s = s.parting.0
+intersperse_separator s = s.stage.0.0
 
 -- whether an item came
 abbrev pub intersperse_started : {I A E : Type 0} → Intersperse I A E → Bool
-intersperse_started s = s.parting.1.0
+intersperse_started s = s.stage.0.1
 
 -- the item that is held, if there is one
 abbrev pub intersperse_held : {I A E : Type 0} → Intersperse I A E → Option A
-intersperse_held s = s.parting.1.1
+intersperse_held s = s.stage.1
 
 -- the source, the separator, and whether an item came beside the one that is held
 abbrev pub intersperse_parts : {I A E : Type 0} → Intersperse I A E → I × (A × (Bool × Option A))

@@ -1,7 +1,7 @@
 -- `IntersperseWith`, which puts what a closure returns between each two adjacent items.
-use Rattle.std.specs.Prelude.{◌≡◌, ℕ, suc, Bool, Option, Result, Ok, Err, List, ⊤}
+use Rattle.std.specs.Prelude.{◌≡◌, ℕ, suc, Bool, Option, Result, List, ⊤}
 use Rattle.std.specs.Fn.{Mut}
-use Rattle.fallible_iterator.specs.Closures.{IsCallable, MayAnswer}
+use Rattle.fallible_iterator.specs.Closures.{IsCallable}
 use Rattle.fallible_iterator.specs.Traces.{Answered}
 use Rattle.fallible_iterator.specs.Contract.{Contract}
 use Rattle.fallible_iterator.specs.Sources.FromFn.{call_of_none}
@@ -17,21 +17,13 @@ module _ {F A E : Type 0} (g : Mut F (Unit {0}) (Result A E)) where
   abbrev pub CanCallOn : F → Type 0
   CanCallOn f = IsCallable (call_of_none g) (λ p _. g.pre p tt) (λ _. ⊤) f
 
-  -- the closure may still return the item
-  abbrev pub MayReturn : F → A → Type 0
-  MayReturn f s = MayAnswer (call_of_none g) (λ _. ⊤) f (λ _ v. v ≡ Ok s)
-
-  -- the closure may still fail so
-  abbrev pub MayFailWith : F → E → Type 0
-  MayFailWith f e = MayAnswer (call_of_none g) (λ _. ⊤) f (λ _ v. v ≡ Err e)
-
   -- `IntersperseWith`: the held item, and then the source's trace where what the closure returns stands before each item but the first; failures and ends between two items part nothing. The parts are the source, the closure, and whether an item came beside the one that is held.
   abbrev pub IntersperseWithTrace : {S : Type 0} → (S → Answered A E → S → Type 0) → S × (F × (Bool × Option A)) → List (Answered A E) → S × (F × (Bool × Option A)) → Type 0
   IntersperseWithTrace steps p trace q = PartingTrace CallSeparates steps p trace q
 
 -- `IntersperseWith`'s contract: an item of the source is two to come, and a held one is one. The closure may be called on and on.
 abbrev pub intersperse_with_contract : {S F A E : Type 0} → Contract S A E → Mut F (Unit {0}) (Result A E) → Contract (S × (F × (Bool × Option A))) A E
-intersperse_with_contract m g = parting_contract (CallSeparates g) (CanCallOn g) (MayReturn g) (MayFailWith g) m
+intersperse_with_contract m g = parting_contract (CallSeparates g) (CanCallOn g) m
 
 -- the source
 abbrev pub intersperse_with_source : {I A E F : Type 0} → IntersperseWith I F A E → I
@@ -39,15 +31,15 @@ intersperse_with_source s = s.it
 
 -- the closure
 abbrev pub intersperse_with_closure : {I A E F : Type 0} → IntersperseWith I F A E → F
-intersperse_with_closure s = s.parting.0
+intersperse_with_closure s = s.stage.0.0
 
 -- whether an item came
 abbrev pub intersperse_with_started : {I A E F : Type 0} → IntersperseWith I F A E → Bool
-intersperse_with_started s = s.parting.1.0
+intersperse_with_started s = s.stage.0.1
 
 -- the item that is held, if there is one
 abbrev pub intersperse_with_held : {I A E F : Type 0} → IntersperseWith I F A E → Option A
-intersperse_with_held s = s.parting.1.1
+intersperse_with_held s = s.stage.1
 
 -- the source, the closure, and whether an item came beside the one that is held
 abbrev pub intersperse_with_parts : {I A E F : Type 0} → IntersperseWith I F A E → I × (F × (Bool × Option A))

@@ -16,6 +16,7 @@ pub mod OrElse
 pub mod Parting
 pub mod PeekingTakeWhile
 pub mod Sides
+pub mod Staging
 pub mod TakeWhileInclusive
 pub mod TupleWindows
 pub mod Unique

@@ -34,6 +34,7 @@ pub mod Parting
 pub mod PeekingTakeWhile
 pub mod Sides
 pub mod Sorted
+pub mod Staging
 pub mod TakeWhileInclusive
 pub mod TupleWindows
 pub mod Unique

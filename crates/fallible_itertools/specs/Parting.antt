@@ -1,12 +1,10 @@
 -- Adapters that put a separator before each item but the first.
-use Rattle.std.specs.Prelude.{◌≡◌, ℕ, suc, ◌+◌, ◌-◌, ◌*◌, ◌^◌, ◌≤◌, ◌⊎◌, min, cond, ltb, Bool, true, false, Option, Some, None, Result, Ok, Err, List, [], ◌∷◌, ⊤}
-use Rattle.std.specs.Iterator.{count_map}
+use Rattle.std.specs.Prelude.{◌≡◌, ℕ, suc, ◌+◌, ◌-◌, ◌^◌, ◌⊎◌, min, cond, ltb, Bool, true, false, Option, Some, None, Result, Ok, Err, List, [], ◌∷◌}
 use Rattle.fallible_iterator.specs.Traces.{Answered, item, failure, end}
-use Rattle.fallible_iterator.specs.Contract.{Contract}
+use Rattle.fallible_iterator.specs.Contract.{Contract, seen_as}
+use Rattle.fallible_iterator.specs.Lists.{result_answer}
 use Rattle.fallible_itertools.specs.Holding.{held_one}
-use Rattle.std.specs.declared.ops.ControlFlow.{ControlFlow}
-use Rattle.std.specs.declared.ops.ControlFlow.TheVariants.{Continue, Break}
-use Rattle.fallible_iterator.specs.Beside.{Beside}
+use Rattle.fallible_itertools.specs.Staging.{Made, StopPasses, made_before, one_made, stage_contract, stage_meets}
 
 -- `separates z v y` says that the separator made from the state z may be v, an item or a failure, and that y is the state then.
 module _ {Z A E : Type 0} (separates : Z → Result A E → Z → Type 0) where
@@ -47,43 +45,6 @@ module _ {Z A E : Type 0} (separates : Z → Result A E → Z → Type 0) where
   parting_step steps (s, (z, (started, Some x))) r q = (r ≡ item x) × (q.0 ≡ s) × (q.1 ≡ (z, (started, None)))
   parting_step steps (s, (z, (started, None))) r q = (drawn : Answered A E) × steps s drawn q.0 × PlacedAs z started drawn r q.1
 
--- ---- its fold
-
-module _ {A C R : Type 0} (turns : C → A → ControlFlow R (Unit {0}) → C → Type 0) where
-  -- the caller's turn on an item, as the source's fold takes it: it goes on, or stops that fold with its answer
-  abbrev pub IsCallersTurn : {E : Type 0} → C → A → ControlFlow (Answered R E) (Unit {0}) → C → Type 0
-  IsCallersTurn c x r d = (turns c x (Continue tt) d × (r ≡ Continue tt)) ⊎ ((stop : R) × turns c x (Break stop) d × (r ≡ Break (Ok (Some stop))))
-
-module _ {Z A C R : Type 0} (turns : C → A → ControlFlow R (Unit {0}) → C → Type 0) where
-  -- the caller's turn on the held item, if one is held
-  abbrev pub IsHeldTurn : {E : Type 0} → C → Z × (Bool × Option A) → ControlFlow (Answered R E) (Unit {0}) → C × (Z × (Bool × Option A)) → Type 0
-  IsHeldTurn c (z, (started, None)) r q = (r ≡ Continue tt) × (q.0 ≡ c) × (q.1 ≡ (z, (started, None)))
-  IsHeldTurn c (z, (started, Some x)) r q = IsCallersTurn turns c x r q.0 × (q.1 ≡ (z, (started, None)))
-
-  -- the caller's turn on what is yielded when an item was drawn, and if it goes on, on the item that is held then
-  abbrev pub IsAnswersTurn : {E : Type 0} → C → Answered A E → Z × (Bool × Option A) → ControlFlow (Answered R E) (Unit {0}) → C × (Z × (Bool × Option A)) → Type 0
-  IsAnswersTurn c (Ok (Some y)) k r q = ((d : C) × turns c y (Continue tt) d × IsHeldTurn d k r q) ⊎ ((stop : R) × turns c y (Break stop) q.0 × (r ≡ Break (Ok (Some stop))) × (q.1 ≡ k))
-  IsAnswersTurn c (Ok None) k r q = ⊥
-  IsAnswersTurn c (Err e) k r q = (r ≡ Break (Err e)) × (q.0 ≡ c) × (q.1 ≡ k)
-
-  -- a turn may be taken on the held item
-  abbrev pub HeldTakes : (C → A → Type 0) → C → Z × (Bool × Option A) → Type 0
-  HeldTakes can c (z, (started, None)) = ⊤
-  HeldTakes can c (z, (started, Some x)) = can c x
-
-module _ {Z A E C R : Type 0} (separates : Z → Result A E → Z → Type 0) (turns : C → A → ControlFlow R (Unit {0}) → C → Type 0) where
-  -- The turn of the source's fold: the item is placed, and the caller's turn is taken on what is yielded, and then on the item if it is held.
-  abbrev pub IsPartingTurn : C × (Z × (Bool × Option A)) → A → ControlFlow (Answered R E) (Unit {0}) → C × (Z × (Bool × Option A)) → Type 0
-  IsPartingTurn p x r q = (a : Answered A E) × (k : Z × (Bool × Option A)) × PlacedAs separates p.1.0 p.1.1.0 (Ok (Some x)) a k × IsAnswersTurn turns p.0 a k r q
-
-  -- The turn may be taken if nothing is held, a separator can be made, and the caller's may be taken on what is yielded, and then on what is held.
-  abbrev pub PartingTakes : (Z → Type 0) → (C → A → Type 0) → C × (Z × (Bool × Option A)) → A → Type 0
-  PartingTakes can_separate can p x = (p.1.1.1 ≡ None) × can_separate p.1.0 × ((y : A) (k : Z × (Bool × Option A)) → PlacedAs separates p.1.0 p.1.1.0 (Ok (Some x)) (Ok (Some y)) k → can p.0 y × ((d : C) → turns p.0 y (Continue tt) d → HeldTakes turns can d k))
-
--- the caller's state, beside what the adapter's is seen as
-abbrev pub beside_seen : {C P Q : Type 0} → (P → Q) → Beside C P → C × Q
-beside_seen seen b = (b.c.now, seen b.p.now)
-
 -- ---- its hint, and its contract
 
 -- how many items have nothing before them: the first one, while none came
@@ -108,27 +69,33 @@ interspersed_high k None = None
 abbrev pub intersperse_hint : {A : Type 0} → Bool × Option A → ℕ × Option ℕ → ℕ × Option ℕ
 intersperse_hint k h = (min (interspersed_items k h.0) (2 ^ 64 - 1), interspersed_high k h.1)
 
--- Separators can be made on and on: `can` holds of each state from which they are. `gives` is what may still be made, and `fails` what that may still fail with.
-pub record IsLawfulSeparator {Z A E : Type 0} (separates : Z → Result A E → Z → Type 0) (can : Z → Type 0) (gives : Z → A → Type 0) (fails : Z → E → Type 0) : Type 0 where
-  pub can_stays : (z : Z) (v : Result A E) (y : Z) → can z → separates z v y → can y
-  pub gives_here : (z : Z) (s : A) (y : Z) → separates z (Ok s) y → gives z s
-  pub fails_here : (z : Z) (e : E) (y : Z) → separates z (Err e) y → fails z e
-  pub gives_before : (z : Z) (v : Result A E) (y : Z) → separates z v y → (s : A) → gives y s → gives z s
-  pub fails_before : (z : Z) (v : Result A E) (y : Z) → separates z v y → (e : E) → fails y e → fails z e
+-- ---- what each answer of the source makes
 
--- The contract: an item of the source is two to come, and a held one is one. Separators can be made where `can` holds; `gives` and `fails` are what they may be.
-abbrev pub parting_contract : {S Z A E : Type 0} → (Z → Result A E → Z → Type 0) → (Z → Type 0) → (Z → A → Type 0) → (Z → E → Type 0) → Contract S A E → Contract (S × (Z × (Bool × Option A))) A E
-parting_contract separates can gives fails m = record {
-  can_next = λ p. m.can_next p.0 × can p.1.0;
-  steps = parting_step separates m.steps;
-  bound = λ p n. (k : ℕ) × m.bound p.0 k × (2 * k + held_one p.1.1.1 ≤ n);
-  is_finite = λ p. m.is_finite p.0;
-  remaining = λ p. count_map (λ n. 2 * n + held_one p.1.1.1) (m.remaining p.0);
-  may_give = λ p x. (p.1.1.1 ≡ Some x) ⊎ (m.may_give p.0 x ⊎ gives p.1.0 x);
-  may_fail = λ p e. m.may_fail p.0 e ⊎ fails p.1.0 e;
-  hints = λ p h. (k : ℕ × Option ℕ) × m.hints p.0 k × (h ≡ intersperse_hint p.1.1 k);
-  lenders = λ p. m.lenders p.0;
-}
+module _ {Z A E : Type 0} (separates : Z → Result A E → Z → Type 0) where
+  -- The first item is yielded. A later one is due after the separator before it, or after what making that failed with.
+  abbrev pub parting_on_item : Z × Bool → A → Made A A E → Z × Bool → Type 0
+  parting_on_item (z, false) x made k = (made ≡ one_made (item x)) × (k ≡ (z, true))
+  parting_on_item (z, true) x made k = (v : Result A E) × separates z v k.0 × (made ≡ made_before (result_answer v) x) × (k.1 ≡ true)
+
+  -- the same of each answer: a stop passes
+  abbrev pub parting_meets : Z × Bool → Answered A E → Made A A E → Z × Bool → Type 0
+  parting_meets k a made j = stage_meets parting_on_item StopPasses k a made j
+
+-- an item that is due
+abbrev pub item_comes : {A E : Type 0} → A → Option (Answered A E)
+item_comes x = Some (item x)
+
+-- the source, what the next item is met with, and the held item
+abbrev pub parting_stage : {S Z A : Type 0} → S × (Z × (Bool × Option A)) → S × ((Z × Bool) × Option A)
+parting_stage p = (p.0, ((p.1.0, p.1.1.0), p.1.1.1))
+
+-- the hint that is made of one of the source
+abbrev pub parting_hints : {S Z A E : Type 0} → Contract S A E → S × ((Z × Bool) × Option A) → ℕ × Option ℕ → Type 0
+parting_hints m p h = (k : ℕ × Option ℕ) × m.hints p.0 k × (h ≡ intersperse_hint (p.1.0.1, p.1.1) k)
+
+-- The contract: an item of the source is two to come, and a held one is one. Separators can be made where `can` holds.
+abbrev pub parting_contract : {S Z A E : Type 0} → (Z → Result A E → Z → Type 0) → (Z → Type 0) → Contract S A E → Contract (S × (Z × (Bool × Option A))) A E
+parting_contract separates can m = record (seen_as parting_stage (stage_contract m item_comes (parting_meets separates) (λ _ k. can k.0) 2 (λ _. 0) (parting_hints m))) { steps = parting_step separates m.steps }
 
 -- ---- what it lists
 

@@ -1,5 +1,5 @@
 -- `TakeWhileInclusive`, which is exhausted after the first item that a predicate rejects.
-use Rattle.std.specs.Prelude.{◌≡◌, ℕ, min, List, [], ◌∷◌, map, Option, Result, Ok, Err, Bool, true, false}
+use Rattle.std.specs.Prelude.{◌≡◌, ℕ, min, List, [], ◌∷◌, map, is_some, Option, Result, Ok, Err, Bool, true, false}
 use Rattle.std.specs.List.{filter_map}
 use Rattle.std.specs.Fn.{Mut}
 use Rattle.std.specs.Borrow.{Bor}
@@ -11,8 +11,7 @@ use Rattle.fallible_iterator.specs.Closing.{ClosingTrace, closing_contract}
 use Rattle.fallible_iterator.specs.Cutting.TakeWhile.{is_refused, place_drawn}
 use Rattle.fallible_iterator.specs.Outcome.{Outcome}
 use Rattle.fallible_iterator.specs.Outcome.TheVariants.{Kept, Failure}
-use Rattle.std.specs.declared.ops.ControlFlow.{ControlFlow}
-use Rattle.std.specs.declared.ops.ControlFlow.TheVariants.{Continue, Break}
+use Rattle.fallible_itertools.specs.Staging.{Made, made_before, one_made}
 use Rattle.fallible_itertools.specs.declared.take_while_inclusive.TakeWhileInclusive.{TakeWhileInclusive}
 
 -- An item is kept, whether the predicate accepts it or not; a failure of the predicate is the answer.
@@ -48,27 +47,27 @@ inclusive_source s = s.it
 
 -- the predicate
 abbrev pub inclusive_predicate : {I P : Type 0} → TakeWhileInclusive I P → P
-inclusive_predicate s = s.taking.1
+inclusive_predicate s = s.stage.0
 
 -- whether an item was rejected
 abbrev pub inclusive_refused : {I P : Type 0} → TakeWhileInclusive I P → Bool
-inclusive_refused s = s.taking.0
+inclusive_refused s = is_some s.stage.1
 
 -- the source and the predicate, and whether an item was rejected
 abbrev pub inclusive_parts : {I P : Type 0} → TakeWhileInclusive I P → (I × P) × Bool
 inclusive_parts s = ((inclusive_source s, inclusive_predicate s), inclusive_refused s)
 
--- ---- its fold, through the source's own
+-- ---- what each answer of the source makes
 
--- what a turn returns, and whether the item was rejected: if it went on after a rejected item, it stops with an end
-abbrev pub stopped_where : {R E : Type 0} → ControlFlow (Answered R E) (Unit {0}) → Bool → ControlFlow (Answered R E) (Unit {0})
-stopped_where (Continue u) true = Break end
-stopped_where (Continue u) false = Continue tt
-stopped_where (Break answer) refused = Break answer
+-- The item, and if the predicate rejects it, nothing is drawn after it; or the predicate's failure on it.
+abbrev pub inclusive_made : {X E : Type 0} → X → Result Bool E → Made X (Unit {0}) E
+inclusive_made x (Ok true) = one_made (item x)
+inclusive_made x (Ok false) = made_before (item x) tt
+inclusive_made x (Err e) = one_made (failure e)
 
--- a turn whose state has beside the caller's whether an item was rejected, and which stops after one
-abbrev pub StoppingTurn : {C F X R E : Type 0} → (C × (Bool × F) → X → ControlFlow (Answered R E) (Unit {0}) → C × (Bool × F) → Type 0) → C × (Bool × F) → X → ControlFlow (Answered R E) (Unit {0}) → C × (Bool × F) → Type 0
-StoppingTurn {R = R} {E = E} turned p x r q = (made : ControlFlow (Answered R E) (Unit {0})) × turned p x made q × (r ≡ stopped_where made q.1.0)
+-- The predicate is called on each item; a stop passes.
+abbrev pub inclusive_on_item : {F X E : Type 0} → (F → X → Result Bool E → F → Type 0) → F → X → Made X (Unit {0}) E → F → Type 0
+inclusive_on_item {E = E} call f x made h = (v : Result Bool E) × call f x v h × (made ≡ inclusive_made x v)
 
 -- ---- what it lists
 

@@ -60,8 +60,8 @@ with_position_source s = s.it
 
 -- the source, the item that is held with whether one came before it, and the stop that is due
 abbrev pub with_position_parts : {I A E : Type 0} → WithPosition I A E → I × (Option (Bool × A) × Option (Option E))
-with_position_parts s = (s.it, (s.held, s.due))
+with_position_parts s = (s.it, s.stage)
 
 -- the stop that is due, if one is
 abbrev pub with_position_due : {I A E : Type 0} → WithPosition I A E → Option (Option E)
-with_position_due s = s.due
+with_position_due s = s.stage.1

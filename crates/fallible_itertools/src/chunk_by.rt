@@ -18,10 +18,8 @@ use std::alloc::{AllocError, Global};
 pub struct ChunkBy<I: FallibleIterator, K, F> {
     pub(crate) it: I,
     pub(crate) alloc: Global,
-    // the closure, and the buffered group, if there is one
-    pub(crate) group: (F, Option<(K, Vec<I::Item>)>),
-    // the stop that is due: `Ok(None)`, or a failure
-    pub(crate) due: Option<Option<I::Error>>,
+    // the closure, and the buffered group, if there is one; and the stop that is due: `Ok(None)`, or a failure
+    pub(crate) stage: ((F, Option<(K, Vec<I::Item>)>), Option<Option<I::Error>>),
 }
 
 impl<
@@ -46,9 +44,9 @@ where
     }
 
     fn size_hint(&self) -> (usize, Option<usize>) {
-        match self.due {
+        match self.stage.1 {
             Some(None) => (0, Some(0)),
-            _ => with_held(self.it.size_hint(), self.group.1.is_some()),
+            _ => with_held(self.it.size_hint(), self.stage.0.1.is_some()),
         }
     }
 
@@ -58,14 +56,7 @@ where
         turn: &T,
     ) -> Result<Option<R>, I::Error> {
         let adapter = ChunkByHold { alloc: self.alloc };
-        drive_holding(
-            &mut self.it,
-            &mut self.group,
-            &mut self.due,
-            &adapter,
-            state,
-            turn,
-        )
+        drive_holding(&mut self.it, &mut self.stage, &adapter, state, turn)
     }
 
     ghost lawful = { lawful_seen chunk_by_parts
@@ -104,6 +95,8 @@ impl<X: Drop, K: PartialEq + Drop, E: From<AllocError>, F: FnMut(&X) -> Result<K
             None => stopped(&mut holds.1),
         }
     }
+
+    ghost can_stop = { λ _ p. tt };
 
     ghost holds = { λ _. holds_chunk_by E.from_gives K.eq F.FnMut };
 }

@@ -20,10 +20,8 @@ use std::alloc::{AllocError, Global};
 pub struct Chunks<I: FallibleIterator> {
     pub(crate) it: I,
     pub(crate) alloc: Global,
-    // how many items a batch has, and the buffered batch, if it has any
-    pub(crate) batch: (usize, Option<Vec<I::Item>>),
-    // the stop that is due: `Ok(None)`, or a failure
-    pub(crate) due: Option<Option<I::Error>>,
+    // how many items a batch has, and the buffered batch, if it has any; and the stop that is due: `Ok(None)`, or a failure
+    pub(crate) stage: ((usize, Option<Vec<I::Item>>), Option<Option<I::Error>>),
 }
 
 impl<I: FallibleIterator> FallibleIterator for Chunks<I>
@@ -39,23 +37,23 @@ where
 
     /// Returns the stop that is due, without a draw. Otherwise it draws until the batch has n items, or a stop comes.
     fn next(&mut self) -> Result<Option<Vec<I::Item>>, I::Error> {
-        match self.due.take() {
+        match self.stage.1.take() {
             Some(Some(e)) => Err(e),
             Some(None) => Ok(None),
             None => {
                 let adapter = ChunksHold { alloc: self.alloc };
-                filled(&mut self.it, &mut self.batch, &mut self.due, &adapter)
+                filled(&mut self.it, &mut self.stage.0, &mut self.stage.1, &adapter)
             }
         }
     }
 
     fn size_hint(&self) -> (usize, Option<usize>) {
-        match self.due {
+        match self.stage.1 {
             Some(None) => (0, Some(0)),
             _ => {
                 let hint = self.it.size_hint();
-                let low = batches(hint.0, self.batch.0, &self.batch.1);
-                (low, with_held(hint, self.batch.1.is_some()).1)
+                let low = batches(hint.0, self.stage.0.0, &self.stage.0.1);
+                (low, with_held(hint, self.stage.0.1.is_some()).1)
             }
         }
     }
@@ -66,14 +64,7 @@ where
         turn: &K,
     ) -> Result<Option<R>, I::Error> {
         let adapter = ChunksHold { alloc: self.alloc };
-        drive_holding(
-            &mut self.it,
-            &mut self.batch,
-            &mut self.due,
-            &adapter,
-            state,
-            turn,
-        )
+        drive_holding(&mut self.it, &mut self.stage, &adapter, state, turn)
     }
 
     ghost lawful = { lawful_seen chunks_parts (lawful_chunks I.Error.from_gives I.lawful) };
@@ -141,6 +132,8 @@ impl<X: Drop, E: From<AllocError>> Hold<(usize, Option<Vec<X>>), X, E> for Chunk
             None => let_go(&mut holds.1),
         }
     }
+
+    ghost can_stop = { λ _ p. tt };
 
     ghost holds = { λ _. holds_chunks E.from_gives };
 }

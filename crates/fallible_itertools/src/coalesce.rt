@@ -5,7 +5,7 @@ ghost use Rattle.fallible_iterator.specs.Folds.{call_with, takes_with};
 ghost use Rattle.fallible_iterator.specs.Laws.Contract.{lawful_seen};
 ghost use Rattle.fallible_itertools.specs.Coalesce.{coalesce_asks, coalesce_contract, coalesce_parts, coalesce_takes};
 ghost use Rattle.fallible_itertools.specs.Holding.{held_beside};
-ghost use Rattle.fallible_itertools.specs.Laws.Coalesce.{holds_coalesce, lawful_coalesce};
+ghost use Rattle.fallible_itertools.specs.Laws.Coalesce.{coalesce_takes_stop, holds_coalesce, lawful_coalesce};
 
 use crate::holding::{Hold, drive_holding, with_held};
 use fallible_iterator::extending::{FirstTurn, Outcome};
@@ -15,10 +15,8 @@ use fallible_iterator::{FallibleIterator, Turn};
 #[derive(Clone, Debug, Drop)]
 pub struct Coalesce<I: FallibleIterator, F> {
     pub(crate) it: I,
-    // the buffered item, and the closure
-    pub(crate) coalescing: (Option<I::Item>, F),
-    // the stop that is due: `Ok(None)`, or a failure
-    pub(crate) due: Option<Option<I::Error>>,
+    // the buffered item, and the closure; and the stop that is due: `Ok(None)`, or a failure
+    pub(crate) stage: ((Option<I::Item>, F), Option<Option<I::Error>>),
 }
 
 impl<
@@ -41,9 +39,9 @@ where
     }
 
     fn size_hint(&self) -> (usize, Option<usize>) {
-        match self.due {
+        match self.stage.1 {
             Some(None) => (0, Some(0)),
-            _ => with_held(self.it.size_hint(), self.coalescing.0.is_some()),
+            _ => with_held(self.it.size_hint(), self.stage.0.0.is_some()),
         }
     }
 
@@ -52,14 +50,7 @@ where
         state: &mut C,
         turn: &K,
     ) -> Result<Option<R>, I::Error> {
-        drive_holding(
-            &mut self.it,
-            &mut self.coalescing,
-            &mut self.due,
-            &CoalesceHold,
-            state,
-            turn,
-        )
+        drive_holding(&mut self.it, &mut self.stage, &CoalesceHold, state, turn)
     }
 
     ghost lawful = { lawful_seen coalesce_parts (lawful_coalesce F.FnMut I.lawful) };
@@ -104,6 +95,8 @@ impl<X: Drop, E, F: FnMut(X, X) -> Result<Result<X, (X, X)>, E>> Hold<(Option<X>
             (None, None) => Outcome::End,
         }
     }
+
+    ghost can_stop = { λ _ p. coalesce_takes_stop (takes_with F.FnMut) p };
 
     ghost holds = { λ _. holds_coalesce (call_with F.FnMut) };
 }

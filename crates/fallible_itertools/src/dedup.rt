@@ -14,10 +14,8 @@ use fallible_iterator::{FallibleIterator, Turn};
 #[derive(Clone, Debug, Drop)]
 pub struct Dedup<I: FallibleIterator> {
     pub(crate) it: I,
-    // the first of equal items, which wasn't yielded yet
-    pub(crate) held: Option<I::Item>,
-    // the stop that is due: `Ok(None)`, or a failure
-    pub(crate) due: Option<Option<I::Error>>,
+    // the first of equal items, which wasn't yielded yet; and the stop that is due: `Ok(None)`, or a failure
+    pub(crate) stage: (Option<I::Item>, Option<Option<I::Error>>),
 }
 
 impl<I: FallibleIterator> FallibleIterator for Dedup<I>
@@ -37,9 +35,9 @@ where
     }
 
     fn size_hint(&self) -> (usize, Option<usize>) {
-        match self.due {
+        match self.stage.1 {
             Some(None) => (0, Some(0)),
-            _ => with_held(self.it.size_hint(), self.held.is_some()),
+            _ => with_held(self.it.size_hint(), self.stage.0.is_some()),
         }
     }
 
@@ -48,14 +46,7 @@ where
         state: &mut C,
         turn: &K,
     ) -> Result<Option<R>, I::Error> {
-        drive_holding(
-            &mut self.it,
-            &mut self.held,
-            &mut self.due,
-            &DedupHold,
-            state,
-            turn,
-        )
+        drive_holding(&mut self.it, &mut self.stage, &DedupHold, state, turn)
     }
 
     ghost lawful = { lawful_seen dedup_parts (lawful_dedup I.Item.eq I.lawful) };
@@ -96,6 +87,8 @@ impl<X: PartialEq + Drop, E> Hold<Option<X>, X, E> for DedupHold {
             (None, None) => Outcome::End,
         }
     }
+
+    ghost can_stop = { λ _ p. tt };
 
     ghost holds = { λ _. holds_dedup X.eq };
 }

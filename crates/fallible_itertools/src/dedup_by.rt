@@ -5,7 +5,7 @@ ghost use Rattle.fallible_iterator.specs.Laws.Contract.{lawful_seen};
 ghost use Rattle.fallible_iterator.specs.Picking.{call_at_two, takes_at_two};
 ghost use Rattle.fallible_itertools.specs.DedupBy.{dedup_by_asks, dedup_by_contract, dedup_by_parts, dedup_by_takes};
 ghost use Rattle.fallible_itertools.specs.Holding.{held_beside};
-ghost use Rattle.fallible_itertools.specs.Laws.DedupBy.{holds_dedup_by, lawful_dedup_by};
+ghost use Rattle.fallible_itertools.specs.Laws.DedupBy.{dedup_by_takes_stop, holds_dedup_by, lawful_dedup_by};
 
 use crate::holding::{Hold, drive_holding, with_held};
 use fallible_iterator::extending::{FirstTurn, Outcome};
@@ -15,10 +15,8 @@ use fallible_iterator::{FallibleIterator, Turn};
 #[derive(Clone, Debug, Drop)]
 pub struct DedupBy<I: FallibleIterator, F> {
     pub(crate) it: I,
-    // the first of items that are the same, which wasn't yielded yet, and the closure
-    pub(crate) comparing: (Option<I::Item>, F),
-    // the stop that is due: `Ok(None)`, or a failure
-    pub(crate) due: Option<Option<I::Error>>,
+    // the first of items that are the same, which wasn't yielded yet, and the closure; and the stop that is due: `Ok(None)`, or a failure
+    pub(crate) stage: ((Option<I::Item>, F), Option<Option<I::Error>>),
 }
 
 impl<I: FallibleIterator, F: FnMut(&I::Item, &I::Item) -> Result<bool, I::Error>> FallibleIterator
@@ -39,9 +37,9 @@ where
     }
 
     fn size_hint(&self) -> (usize, Option<usize>) {
-        match self.due {
+        match self.stage.1 {
             Some(None) => (0, Some(0)),
-            _ => with_held(self.it.size_hint(), self.comparing.0.is_some()),
+            _ => with_held(self.it.size_hint(), self.stage.0.0.is_some()),
         }
     }
 
@@ -50,14 +48,7 @@ where
         state: &mut C,
         turn: &K,
     ) -> Result<Option<R>, I::Error> {
-        drive_holding(
-            &mut self.it,
-            &mut self.comparing,
-            &mut self.due,
-            &SameHold,
-            state,
-            turn,
-        )
+        drive_holding(&mut self.it, &mut self.stage, &SameHold, state, turn)
     }
 
     ghost lawful = { lawful_seen dedup_by_parts (lawful_dedup_by F.FnMut I.lawful) };
@@ -104,6 +95,8 @@ impl<X: Drop, E, F: FnMut(&X, &X) -> Result<bool, E>> Hold<(Option<X>, F), X, E>
             (None, None) => Outcome::End,
         }
     }
+
+    ghost can_stop = { λ _ p. dedup_by_takes_stop (takes_at_two F.FnMut) p };
 
     ghost holds = { λ _. holds_dedup_by (call_at_two F.FnMut) };
 }

@@ -15,10 +15,8 @@ use fallible_iterator::{FallibleIterator, Turn};
 #[derive(Clone, Debug, Drop)]
 pub struct DedupByKey<I: FallibleIterator, K, F> {
     pub(crate) it: I,
-    // the buffered item with its key, and the closure
-    pub(crate) keying: (Option<(K, I::Item)>, F),
-    // the stop that is due: `Ok(None)`, or a failure
-    pub(crate) due: Option<Option<I::Error>>,
+    // the buffered item with its key, and the closure; and the stop that is due: `Ok(None)`, or a failure
+    pub(crate) stage: ((Option<(K, I::Item)>, F), Option<Option<I::Error>>),
 }
 
 impl<
@@ -42,9 +40,9 @@ where
     }
 
     fn size_hint(&self) -> (usize, Option<usize>) {
-        match self.due {
+        match self.stage.1 {
             Some(None) => (0, Some(0)),
-            _ => with_held(self.it.size_hint(), self.keying.0.is_some()),
+            _ => with_held(self.it.size_hint(), self.stage.0.0.is_some()),
         }
     }
 
@@ -53,14 +51,7 @@ where
         state: &mut C,
         turn: &T,
     ) -> Result<Option<R>, I::Error> {
-        drive_holding(
-            &mut self.it,
-            &mut self.keying,
-            &mut self.due,
-            &KeyHold,
-            state,
-            turn,
-        )
+        drive_holding(&mut self.it, &mut self.stage, &KeyHold, state, turn)
     }
 
     ghost lawful = { lawful_seen dedup_by_key_parts (lawful_dedup_by_key K.eq F.FnMut I.lawful) };
@@ -96,6 +87,8 @@ impl<X: Drop, E, K: PartialEq + Drop, F: FnMut(&X) -> Result<K, E>> Hold<(Option
             },
         }
     }
+
+    ghost can_stop = { λ _ p. tt };
 
     ghost holds = { λ _. holds_dedup_key K.eq (call_at F.FnMut) };
 }

@@ -1,13 +1,13 @@
 //! The fold of the adapters that buffer what they drew, through their sources' own.
-ghost use Rattle.std.specs.Prelude.{◌≡◌, ℕ, if◌then◌else◌, Option, Result, Some, None, Ok, Err, ⊤};
+ghost use Rattle.std.specs.Prelude.{◌≡◌, ℕ, if◌then◌else◌, Option, Result, Some, None, Ok, ⊤};
 ghost use Rattle.fallible_iterator.specs.Folds.{CallableDriving, Driven};
 ghost use Rattle.fallible_iterator.specs.Outcome.{Outcome};
-ghost use Rattle.fallible_iterator.specs.Outcome.TheVariants.{Kept};
-ghost use Rattle.fallible_itertools.specs.Holding.{AtStop, Holds, HintHeld, StoppedBehind, stop_answer, holding_contract, holding_step};
+ghost use Rattle.fallible_itertools.specs.Holding.{AtStop, Holds, HintHeld, MadeOfStop, holding_contract, holding_meets, holding_step, made_answers, stop_answer, stop_comes};
+ghost use Rattle.fallible_itertools.specs.Laws.Holding.{is_stage_stops};
 
-use fallible_iterator::extending::{FirstTurn, Outcome, Pass, drive_passing};
+use crate::staging::{Made, Stage, drive_stage, one, one_then, stopped};
+use fallible_iterator::extending::Outcome;
 use fallible_iterator::{FallibleIterator, Turn};
-use std::ops::ControlFlow;
 
 /// What an adapter that buffers does with an item, `Some`, or with a stop of its source, `None`: it says what becomes of it.
 pub trait Hold<P, X, E> {
@@ -28,30 +28,80 @@ pub trait Hold<P, X, E> {
         requires { can_ask self.now holds.old asked }
         ensures { asks self.now holds.old asked result holds.new };
 
+    // At a stop nothing is required.
+    ghost can_stop: { (adapter : Self) → (p : P) → can_ask adapter p None };
+
     // An item that is yielded was buffered or drawn.
     ghost holds: { (adapter : Self) → Holds (asks adapter) (held adapter) };
 }
 
-// The same adapter, called on items alone.
+// The same adapter as a stage. What `ask` fails with is a stop.
 #[derive(Drop)]
-struct OfItems<'a, A> {
+struct HoldStage<'a, A> {
     adapter: &'a A,
 }
 
-impl<'a, P, X, E, A: Hold<P, X, E>> Pass<P, X, E> for OfItems<'a, A> {
+impl<'a, P, X, E, A: Hold<P, X, E>> Stage<P, X, E> for HoldStage<'a, A> {
     type Kept = A::Kept;
 
-    type Answer = Outcome<A::Kept, E>;
+    type Later = Option<E>;
 
-    ghost can_pass = { λ k p x. A.can_ask k.adapter.now p (Some x) };
+    ghost comes = { λ _ stop. stop_comes stop };
 
-    ghost call = { λ k p x o q. A.asks k.adapter.now p (Some x) o q };
+    ghost can_meet = { λ k p x. A.can_ask k.adapter.now p (Some x) };
 
-    ghost outcome = { λ _ _ o. o };
+    ghost items = { λ k p x made q. holding_meets (A.asks k.adapter.now) p (Ok (Some x)) made q };
+
+    ghost stops = { λ k p stop made q. holding_meets (A.asks k.adapter.now) p (stop_answer stop)
+        made q };
+
+    ghost most = { λ _. 1 };
+
+    ghost held = { λ k p. A.held k.adapter.now p };
 
     #[inline(always)]
-    fn pass(&self, state: &mut P, item: X) -> Outcome<A::Kept, E> {
-        self.adapter.ask(state, Some(item))
+    fn on_item(&self, p: &mut P, item: X) -> Made<A::Kept, Option<E>, E>
+        requires { A.can_ask self.now.adapter.now p.old (Some item) }
+        ensures { holding_meets (A.asks self.now.adapter.now) p.old (Ok (Some item)) result p.new }
+    {
+        match self.adapter.ask(p, Some(item)) {
+            Outcome::Kept(y) => one(Ok(Some(y))),
+            Outcome::LeftOut => None,
+            Outcome::Failure(e) => made_at_stop(Some(e), p, self.adapter),
+            Outcome::End => made_at_stop(None, p, self.adapter),
+        }
+    }
+
+    #[inline(always)]
+    fn on_stop(&self, p: &mut P, stop: Option<E>) -> Made<A::Kept, Option<E>, E>
+        ensures { holding_meets (A.asks self.now.adapter.now) p.old (stop_answer stop) result p.new }
+    {
+        made_at_stop(stop, p, self.adapter)
+    }
+
+    #[inline(always)]
+    fn come(&self, later: Option<E>) -> (Result<Option<A::Kept>, E>, Option<Option<E>>) {
+        (stopped(later), None)
+    }
+
+    ghost is_stage = { λ k. is_stage_stops (A.asks k.adapter.now) (A.held k.adapter.now)
+        (A.holds k.adapter.now) };
+}
+
+// What a stop makes: what is buffered, and then the stop is due; or the stop itself.
+#[inline(always)]
+fn made_at_stop<P, X, E, A: Hold<P, X, E>>(
+    stop: Option<E>,
+    holds: &mut P,
+    adapter: &A,
+) -> Made<A::Kept, Option<E>, E>
+    ensures { MadeOfStop (A.asks adapter.now) stop holds.old (made_answers result) holds.new }
+{
+    match adapter.ask(holds, None) {
+        Outcome::Kept(y) => one_then(Ok(Some(y)), stop),
+        Outcome::LeftOut => unreachable!(),
+        Outcome::Failure(e) => one_then(Err(e), stop),
+        Outcome::End => one(stopped(stop)),
     }
 }
 
@@ -65,31 +115,20 @@ pub fn drive_holding<
     K: Turn<C, A::Kept, R>,
 >(
     it: &mut I,
-    holds: &mut P,
-    due: &mut Option<Option<I::Error>>,
+    stage: &mut (P, Option<Option<I::Error>>),
     adapter: &A,
     state: &mut C,
     turn: &K,
 ) -> Result<Option<R>, I::Error>
 where
-    I::Error: Drop,
     requires can_next { (holding_contract I.contract (A.asks adapter.now) (A.can_ask adapter.now)
-        (A.held adapter.now) (λ _ _. ⊤)).can_next (it.old, (holds.old, due.old)) }
+        (A.held adapter.now) (λ _ _. ⊤)).can_next (it.old, stage.old) }
     requires callable { CallableDriving (holding_step (A.asks adapter.now) I.contract.steps)
-        (K.turns turn.now) (K.can_turn turn.now) (it.old, (holds.old, due.old)) state.old }
+        (K.turns turn.now) (K.can_turn turn.now) (it.old, stage.old) state.old }
     ensures { Driven (holding_step (A.asks adapter.now) I.contract.steps)
-        (K.turns turn.now) (it.old, (holds.old, due.old)) state.old result
-        (it.new, (holds.new, due.new)) state.new }
+        (K.turns turn.now) (it.old, stage.old) state.old result (it.new, stage.new) state.new }
 {
-    match due.take() {
-        Some(Some(e)) => Err(e),
-        Some(None) => Ok(None),
-        None => match drive_passing(it, holds, &OfItems { adapter }, state, turn) {
-            Ok(Some(stop)) => Ok(Some(stop)),
-            Ok(None) => before_stop(None, holds, due, adapter, state, turn),
-            Err(e) => before_stop(Some(e), holds, due, adapter, state, turn),
-        },
-    }
+    drive_stage(it, stage, &HoldStage { adapter }, state, turn)
 }
 
 /// What one call returns at a stop: what is buffered, and then the stop is due; or the stop itself if nothing is yielded.
@@ -104,50 +143,12 @@ where
     requires can_ask { A.can_ask adapter.now holds.old None }
     ensures { AtStop (A.asks adapter.now) holds.old stop result (holds.new, due.new) }
 {
-    before_stop(stop, holds, due, adapter, &mut (), &FirstTurn)
-}
-
-// At a stop: the caller's turn on what is buffered, and then the stop.
-fn before_stop<P, X, E: Drop, A: Hold<P, X, E>, C, R, K: Turn<C, A::Kept, R>>(
-    stop: Option<E>,
-    holds: &mut P,
-    due: &mut Option<Option<E>>,
-    adapter: &A,
-    state: &mut C,
-    turn: &K,
-) -> Result<Option<R>, E>
-where
-    requires none_due { due.old ≡ None }
-    requires can_ask { A.can_ask adapter.now holds.old None }
-    requires callable { (y : A.Kept) (q : P) → A.asks adapter.now holds.old None (Kept y) q
-        → K.can_turn turn.now state.old y }
-    ensures { StoppedBehind (A.asks adapter.now) (K.turns turn.now) stop
-        (holds.old, state.old) result (holds.new, due.new) state.new }
-{
-    match adapter.ask(holds, None) {
-        Outcome::Kept(y) => match turn.turn(state, y) {
-            ControlFlow::Continue(()) => answered(stop),
-            ControlFlow::Break(why) => {
-                *due = Some(stop);
-                Ok(Some(why))
-            }
-        },
-        Outcome::LeftOut => unreachable!(),
-        Outcome::Failure(e) => {
-            *due = Some(stop);
-            Err(e)
+    match made_at_stop(stop, holds, adapter) {
+        Some((answer, later)) => {
+            *due = later;
+            answer
         }
-        Outcome::End => answered(stop),
-    }
-}
-
-// The stop as a result of the fold.
-fn answered<R, E>(stop: Option<E>) -> Result<Option<R>, E>
-    ensures { result ≡ stop_answer stop }
-{
-    match stop {
-        Some(e) => Err(e),
-        None => Ok(None),
+        None => unreachable!(),
     }
 }
 

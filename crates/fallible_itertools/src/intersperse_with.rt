@@ -3,17 +3,21 @@ ghost use Rattle.std.specs.Prelude.{Option, Result};
 ghost use Rattle.fallible_iterator.specs.Contract.{seen_as};
 ghost use Rattle.fallible_iterator.specs.Laws.Contract.{lawful_seen};
 ghost use Rattle.fallible_itertools.specs.IntersperseWith.{CallSeparates, CanCallOn, intersperse_with_contract, intersperse_with_parts};
-ghost use Rattle.fallible_itertools.specs.Laws.IntersperseWith.{can_call_after, lawful_intersperse_with};
+ghost use Rattle.fallible_itertools.specs.Laws.IntersperseWith.{lawful_intersperse_with};
+ghost use Rattle.fallible_itertools.specs.Laws.Parting.{is_stage_parting};
+ghost use Rattle.fallible_itertools.specs.Parting.{item_comes, parting_on_item};
+ghost use Rattle.fallible_itertools.specs.Staging.{StopPasses};
 
-use crate::parting::{Separate, drive_parting, hint_parting, next_parting};
+use crate::intersperse::{hint_parting, separated};
+use crate::staging::{Made, Stage, drive_stage, next_stage, one, stopped};
 use fallible_iterator::{FallibleIterator, Turn};
 
 /// The items of the source with what the closure returns between each two adjacent ones. An item that was drawn is buffered while the separator before it is yielded.
 #[derive(Clone, Debug, Drop)]
 pub struct IntersperseWith<I: FallibleIterator, F> {
     pub(crate) it: I,
-    // the closure, whether an item came, and the buffered item
-    pub(crate) parting: (F, (bool, Option<I::Item>)),
+    // the closure and whether an item came, and the buffered item
+    pub(crate) stage: ((F, bool), Option<I::Item>),
 }
 
 impl<I: FallibleIterator, F: FnMut() -> Result<I::Item, I::Error>> FallibleIterator
@@ -30,7 +34,7 @@ where
 
     /// Yields the buffered item without a draw, and draws once if none is buffered. If what it draws is an item after the first, it calls the closure once.
     fn next(&mut self) -> Result<Option<I::Item>, I::Error> {
-        next_parting(&mut self.it, &mut self.parting, &SeparatorCall)
+        next_stage(&mut self.it, &mut self.stage, &SeparatorCall)
     }
 
     /// The turn on the buffered item, and then the source's fold, whose turn is one on what stands before the item and one on the item.
@@ -39,11 +43,11 @@ where
         state: &mut C,
         turn: &K,
     ) -> Result<Option<R>, I::Error> {
-        drive_parting(&mut self.it, &mut self.parting, &SeparatorCall, state, turn)
+        drive_stage(&mut self.it, &mut self.stage, &SeparatorCall, state, turn)
     }
 
     fn size_hint(&self) -> (usize, Option<usize>) {
-        hint_parting(self.it.size_hint(), &self.parting.1)
+        hint_parting(self.it.size_hint(), &self.stage)
     }
 
     ghost lawful = { lawful_seen intersperse_with_parts
@@ -54,15 +58,47 @@ where
 #[derive(Drop)]
 struct SeparatorCall;
 
-impl<X, E, F: FnMut() -> Result<X, E>> Separate<F, X, E> for SeparatorCall {
-    ghost can_separate = { λ _ f. CanCallOn F.FnMut f };
+impl<X, E, F: FnMut() -> Result<X, E>> Stage<(F, bool), X, E> for SeparatorCall {
+    type Kept = X;
 
-    ghost separates = { λ _ f v h. CallSeparates F.FnMut f v h };
+    type Later = X;
+
+    ghost comes = { λ _ x. item_comes x };
+
+    ghost can_meet = { λ _ p x. CanCallOn F.FnMut p.0 };
+
+    ghost items = { λ _ p x made q. parting_on_item (CallSeparates F.FnMut) p x made q };
+
+    ghost stops = { λ _ p stop made q. StopPasses p stop made q };
+
+    ghost most = { λ _. 2 };
+
+    ghost held = { λ _ p. 0 };
 
     #[inline(always)]
-    fn separate(&self, state: &mut F) -> Result<X, E> {
-        state()
+    fn on_item(&self, p: &mut (F, bool), item: X) -> Made<X, X, E>
+        requires { CanCallOn F.FnMut p.old.0 }
+        ensures { parting_on_item (CallSeparates F.FnMut) p.old item result p.new }
+    {
+        if p.1 {
+            separated((p.0)(), item)
+        } else {
+            p.1 = true;
+            one(Ok(Some(item)))
+        }
     }
 
-    ghost can_stays = { λ _ f v h c called. can_call_after F.FnMut f v h c called };
+    #[inline(always)]
+    fn on_stop(&self, p: &mut (F, bool), stop: Option<E>) -> Made<X, X, E>
+        ensures { StopPasses p.old stop result p.new }
+    {
+        one(stopped(stop))
+    }
+
+    #[inline(always)]
+    fn come(&self, later: X) -> (Result<Option<X>, E>, Option<X>) {
+        (Ok(Some(later)), None)
+    }
+
+    ghost is_stage = { λ _. is_stage_parting (CallSeparates F.FnMut) };
 }

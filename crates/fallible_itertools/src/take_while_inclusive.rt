@@ -1,24 +1,21 @@
 //! The adapter that ends after the first item that a predicate rejects.
-ghost use Rattle.std.specs.Prelude.{◌≡◌, false, Result, Option};
+ghost use Rattle.std.specs.Prelude.{Result, Option};
 ghost use Rattle.fallible_iterator.specs.Closures.{call_at, takes_at};
 ghost use Rattle.fallible_iterator.specs.Contract.{seen_as};
-ghost use Rattle.fallible_iterator.specs.Cutting.TakeWhile.{refusing_call};
-ghost use Rattle.fallible_iterator.specs.Folding.{FoldingTakes, FoldingTurn};
-ghost use Rattle.fallible_iterator.specs.Folds.{CallableDriving, Driven, TurnThrough, beside, beside_names};
 ghost use Rattle.fallible_iterator.specs.Laws.Contract.{lawful_seen};
-ghost use Rattle.fallible_itertools.specs.TakeWhileInclusive.{StoppingTurn, inclusive_contract, inclusive_outcome, inclusive_parts};
-ghost use Rattle.fallible_itertools.specs.Laws.TakeWhileInclusive.{lawful_inclusive};
+ghost use Rattle.fallible_itertools.specs.Staging.{StopPasses, ends_come};
+ghost use Rattle.fallible_itertools.specs.TakeWhileInclusive.{inclusive_contract, inclusive_on_item, inclusive_parts};
+ghost use Rattle.fallible_itertools.specs.Laws.TakeWhileInclusive.{is_stage_inclusive, lawful_inclusive};
 
-use fallible_iterator::extending::{Beside, Outcome, Pass, PassTurn, answer_within, passed};
+use crate::staging::{Made, Stage, drive_stage, next_stage, one, one_then, stopped};
 use fallible_iterator::{FallibleIterator, Turn};
-use std::ops::ControlFlow;
 
 /// What the source returns up to the first item that the predicate rejects, and that one too. Then each call returns `Ok(None)`. An item on which the predicate fails is lost, and its failure is yielded; neither it nor an `Ok(None)` of the source exhausts anything.
 #[derive(Clone, Debug, Drop)]
 pub struct TakeWhileInclusive<I, P> {
     pub(crate) it: I,
-    // whether an item was rejected, and the predicate
-    pub(crate) taking: (bool, P),
+    // the predicate, and once an item was rejected, ends without draws
+    pub(crate) stage: (P, Option<()>),
 }
 
 impl<I: FallibleIterator, P: FnMut(&I::Item) -> Result<bool, I::Error>> FallibleIterator
@@ -34,14 +31,11 @@ where
 
     /// Draws once, and calls the predicate on an item; draws nothing once an item was rejected.
     fn next(&mut self) -> Result<Option<I::Item>, I::Error> {
-        if self.taking.0 {
-            return Ok(None);
-        }
-        passed(self.it.next(), &mut self.taking, &InclusivePass)
+        next_stage(&mut self.it, &mut self.stage, &InclusiveStage)
     }
 
     fn size_hint(&self) -> (usize, Option<usize>) {
-        if self.taking.0 {
+        if self.stage.1.is_some() {
             (0, Some(0))
         } else {
             let (low, high) = self.it.size_hint();
@@ -55,111 +49,56 @@ where
         state: &mut C,
         turn: &K,
     ) -> Result<Option<R>, I::Error> {
-        if self.taking.0 {
-            return Ok(None);
-        }
-        drive_taking(&mut self.it, &mut self.taking, state, turn)
+        drive_stage(&mut self.it, &mut self.stage, &InclusiveStage, state, turn)
     }
 
     ghost lawful = { lawful_seen inclusive_parts (lawful_inclusive P.FnMut I.lawful) };
 }
 
-// An item is kept unless the predicate fails on it. The flag beside the predicate says whether it rejected one.
+// Nothing is drawn after an item that the predicate rejects.
 #[derive(Drop)]
-struct InclusivePass;
+struct InclusiveStage;
 
-impl<X: Drop, E, P: FnMut(&X) -> Result<bool, E>> Pass<(bool, P), X, E> for InclusivePass {
+impl<X: Drop, E, P: FnMut(&X) -> Result<bool, E>> Stage<P, X, E> for InclusiveStage {
     type Kept = X;
 
-    type Answer = Result<bool, E>;
+    type Later = ();
 
-    ghost can_pass = { λ _ p x. takes_at P.FnMut p.1 x };
+    ghost comes = { λ _ later. ends_come later };
 
-    ghost call = { λ _ p x v q. refusing_call (call_at P.FnMut) p x v q };
+    ghost can_meet = { λ _ p x. takes_at P.FnMut p x };
 
-    ghost outcome = { λ _ x v. inclusive_outcome x v };
+    ghost items = { λ _ p x made q. inclusive_on_item (call_at P.FnMut) p x made q };
 
-    #[inline(always)]
-    fn pass(&self, state: &mut (bool, P), item: X) -> Outcome<X, E> {
-        match (state.1)(&item) {
-            Ok(true) => Outcome::Kept(item),
-            Ok(false) => {
-                state.0 = true;
-                Outcome::Kept(item)
-            }
-            Err(e) => Outcome::Failure(e),
-        }
-    }
-}
+    ghost stops = { λ _ p stop made q. StopPasses p stop made q };
 
-// The turn of the fold: what becomes of the item, and the caller's turn on it. After a rejected item the fold ends, also if the caller's turn went on.
-#[derive(Drop)]
-struct InclusiveTurn<'a, K> {
-    turn: &'a K,
-}
+    ghost most = { λ _. 1 };
 
-impl<'a, 'b, X: Drop, E, C, R, P: FnMut(&X) -> Result<bool, E>, K: Turn<C, X, R>> Turn<
-    Beside<'b, C, (bool, P)>,
-    X,
-    Result<Option<R>, E>,
-> for InclusiveTurn<'a, K> {
-    ghost can_turn = { λ k b x. FoldingTakes (refusing_call (call_at P.FnMut)) inclusive_outcome
-        (λ p x. takes_at P.FnMut p.1 x) (K.can_turn k.turn.now) (beside b) x };
-
-    ghost turns = { λ k b x r d. TurnThrough beside beside_names
-        (StoppingTurn (FoldingTurn (refusing_call (call_at P.FnMut)) inclusive_outcome
-        (K.turns k.turn.now))) b x r d };
+    ghost held = { λ _ p. 0 };
 
     #[inline(always)]
-    fn turn(
-        &self,
-        state: &mut Beside<'b, C, (bool, P)>,
-        item: X,
-    ) -> ControlFlow<Result<Option<R>, E>, ()> {
-        let passing = PassTurn {
-            adapter: &InclusivePass,
-            turn: self.turn,
-        };
-        match passing.turn(state, item) {
-            ControlFlow::Continue(()) => {
-                if state.p.0 {
-                    ControlFlow::Break(Ok(None))
-                } else {
-                    ControlFlow::Continue(())
-                }
-            }
-            ControlFlow::Break(answer) => ControlFlow::Break(answer),
+    fn on_item(&self, p: &mut P, item: X) -> Made<X, (), E>
+        requires { takes_at P.FnMut p.old item }
+        ensures { inclusive_on_item (call_at P.FnMut) p.old item result p.new }
+    {
+        match p(&item) {
+            Ok(true) => one(Ok(Some(item))),
+            Ok(false) => one_then(Ok(Some(item)), ()),
+            Err(e) => one(Err(e)),
         }
     }
-}
 
-// The fold while no item was rejected yet.
-fn drive_taking<
-    I: FallibleIterator,
-    P: FnMut(&I::Item) -> Result<bool, I::Error>,
-    C,
-    R,
-    K: Turn<C, I::Item, R>,
->(it: &mut I, taking: &mut (bool, P), state: &mut C, turn: &K) -> Result<Option<R>, I::Error>
-where
-    I::Item: Drop,
-    requires can_next { I.contract.can_next it.old }
-    requires finite { I.contract.is_finite it.old }
-    requires unrefused { taking.old.0 ≡ false }
-    requires callable { CallableDriving I.contract.steps
-        (StoppingTurn (FoldingTurn (refusing_call (call_at P.FnMut)) inclusive_outcome
-        (K.turns turn.now)))
-        (FoldingTakes (refusing_call (call_at P.FnMut)) inclusive_outcome
-        (λ p x. takes_at P.FnMut p.1 x) (K.can_turn turn.now))
-        it.old (state.old, taking.old) }
-    ensures { Driven (inclusive_contract I.contract P.FnMut).steps (K.turns turn.now)
-        ((it.old, taking.old.1), taking.old.0) state.old result
-        ((it.new, taking.new.1), taking.new.0) state.new }
-{
-    let mut both = Beside {
-        c: state,
-        p: taking,
-    };
-    let answer = it.drive(&mut both, &InclusiveTurn { turn });
-    answer_within(answer)
+    #[inline(always)]
+    fn on_stop(&self, p: &mut P, stop: Option<E>) -> Made<X, (), E>
+        ensures { StopPasses p.old stop result p.new }
+    {
+        one(stopped(stop))
+    }
+
+    #[inline(always)]
+    fn come(&self, later: ()) -> (Result<Option<X>, E>, Option<()>) {
+        (Ok(None), Some(later))
+    }
+
+    ghost is_stage = { λ _. is_stage_inclusive (call_at P.FnMut) };
 }

@@ -142,8 +142,7 @@ pub trait FallibleItertools: FallibleIterator {
     {
         Coalesce {
             it: self,
-            coalescing: (None, f),
-            due: None,
+            stage: ((None, f), None),
         }
     }
 
@@ -180,8 +179,7 @@ pub trait FallibleItertools: FallibleIterator {
     {
         DedupByKey {
             it: self,
-            keying: (None, f),
-            due: None,
+            stage: ((None, f), None),
         }
     }
 
@@ -215,8 +213,7 @@ pub trait FallibleItertools: FallibleIterator {
     {
         DedupBy {
             it: self,
-            comparing: (None, same),
-            due: None,
+            stage: ((None, same), None),
         }
     }
 
@@ -244,8 +241,7 @@ pub trait FallibleItertools: FallibleIterator {
     {
         Dedup {
             it: self,
-            held: None,
-            due: None,
+            stage: (None, None),
         }
     }
 
@@ -275,8 +271,7 @@ pub trait FallibleItertools: FallibleIterator {
     {
         WithPosition {
             it: self,
-            held: None,
-            due: None,
+            stage: (None, None),
         }
     }
 
@@ -776,7 +771,7 @@ pub trait FallibleItertools: FallibleIterator {
     {
         TakeWhileInclusive {
             it: self,
-            taking: (false, predicate),
+            stage: (predicate, None),
         }
     }
 
@@ -1484,8 +1479,7 @@ pub trait FallibleItertools: FallibleIterator {
         Chunks {
             it: self,
             alloc,
-            batch: (n, None),
-            due: None,
+            stage: ((n, None), None),
         }
     }
 
@@ -1526,8 +1520,7 @@ pub trait FallibleItertools: FallibleIterator {
         ChunkBy {
             it: self,
             alloc,
-            group: (key, None),
-            due: None,
+            stage: ((key, None), None),
         }
     }
 
@@ -1560,7 +1553,7 @@ pub trait FallibleItertools: FallibleIterator {
     {
         Intersperse {
             it: self,
-            parting: (separator, (false, None)),
+            stage: ((separator, false), None),
         }
     }
 
@@ -1615,7 +1608,7 @@ pub trait FallibleItertools: FallibleIterator {
     {
         IntersperseWith {
             it: self,
-            parting: (f, (false, None)),
+            stage: ((f, false), None),
         }
     }
 

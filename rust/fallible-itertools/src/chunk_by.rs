@@ -11,10 +11,8 @@ use fallible_iterator::{FallibleIterator, Turn};
 #[must_use = "an iterator draws nothing until it is asked"]
 pub struct ChunkBy<I: FallibleIterator, K, F> {
     pub(crate) it: I,
-    // the closure, and the buffered group, if there is one
-    pub(crate) group: (F, Option<(K, Vec<I::Item>)>),
-    // the stop that is due: `Ok(None)`, or a failure
-    pub(crate) due: Option<Option<I::Error>>,
+    // the closure, and the buffered group, if there is one; and the stop that is due: `Ok(None)`, or a failure
+    pub(crate) stage: ((F, Option<(K, Vec<I::Item>)>), Option<Option<I::Error>>),
 }
 
 impl<I: FallibleIterator, K: PartialEq, F: FnMut(&I::Item) -> Result<K, I::Error>> FallibleIterator
@@ -30,9 +28,9 @@ impl<I: FallibleIterator, K: PartialEq, F: FnMut(&I::Item) -> Result<K, I::Error
     }
 
     fn size_hint(&self) -> (usize, Option<usize>) {
-        match self.due {
+        match self.stage.1 {
             Some(None) => (0, Some(0)),
-            _ => with_held(self.it.size_hint(), self.group.1.is_some()),
+            _ => with_held(self.it.size_hint(), self.stage.0.1.is_some()),
         }
     }
 
@@ -42,14 +40,7 @@ impl<I: FallibleIterator, K: PartialEq, F: FnMut(&I::Item) -> Result<K, I::Error
         turn: &T,
     ) -> Result<Option<R>, I::Error> {
         let adapter = ChunkByHold;
-        drive_holding(
-            &mut self.it,
-            &mut self.group,
-            &mut self.due,
-            &adapter,
-            state,
-            turn,
-        )
+        drive_holding(&mut self.it, &mut self.stage, &adapter, state, turn)
     }
 
     fallible_iterator::by_drive!(drive);

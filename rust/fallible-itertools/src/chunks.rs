@@ -11,10 +11,8 @@ use fallible_iterator::{FallibleIterator, Turn};
 #[must_use = "an iterator draws nothing until it is asked"]
 pub struct Chunks<I: FallibleIterator> {
     pub(crate) it: I,
-    // how many items a batch has, and the buffered batch, if it has any
-    pub(crate) batch: (usize, Option<Vec<I::Item>>),
-    // the stop that is due: `Ok(None)`, or a failure
-    pub(crate) due: Option<Option<I::Error>>,
+    // how many items a batch has, and the buffered batch, if it has any; and the stop that is due: `Ok(None)`, or a failure
+    pub(crate) stage: ((usize, Option<Vec<I::Item>>), Option<Option<I::Error>>),
 }
 
 impl<I: FallibleIterator> FallibleIterator for Chunks<I> {
@@ -24,23 +22,23 @@ impl<I: FallibleIterator> FallibleIterator for Chunks<I> {
 
     /// Returns the stop that is due, without a draw. Otherwise it draws until the batch has n items, or a stop comes.
     fn next(&mut self) -> Result<Option<Vec<I::Item>>, I::Error> {
-        match self.due.take() {
+        match self.stage.1.take() {
             Some(Some(e)) => Err(e),
             Some(None) => Ok(None),
             None => {
                 let adapter = ChunksHold;
-                filled(&mut self.it, &mut self.batch, &mut self.due, &adapter)
+                filled(&mut self.it, &mut self.stage.0, &mut self.stage.1, &adapter)
             }
         }
     }
 
     fn size_hint(&self) -> (usize, Option<usize>) {
-        match self.due {
+        match self.stage.1 {
             Some(None) => (0, Some(0)),
             _ => {
                 let hint = self.it.size_hint();
-                let low = batches(hint.0, self.batch.0, &self.batch.1);
-                (low, with_held(hint, self.batch.1.is_some()).1)
+                let low = batches(hint.0, self.stage.0.0, &self.stage.0.1);
+                (low, with_held(hint, self.stage.0.1.is_some()).1)
             }
         }
     }
@@ -51,14 +49,7 @@ impl<I: FallibleIterator> FallibleIterator for Chunks<I> {
         turn: &K,
     ) -> Result<Option<R>, I::Error> {
         let adapter = ChunksHold;
-        drive_holding(
-            &mut self.it,
-            &mut self.batch,
-            &mut self.due,
-            &adapter,
-            state,
-            turn,
-        )
+        drive_holding(&mut self.it, &mut self.stage, &adapter, state, turn)
     }
 
     fallible_iterator::by_drive!(drive);

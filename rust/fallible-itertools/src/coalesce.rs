@@ -9,10 +9,8 @@ use fallible_iterator::{FallibleIterator, Turn};
 #[must_use = "an iterator draws nothing until it is asked"]
 pub struct Coalesce<I: FallibleIterator, F> {
     pub(crate) it: I,
-    // the buffered item, and the closure
-    pub(crate) coalescing: (Option<I::Item>, F),
-    // the stop that is due: `Ok(None)`, or a failure
-    pub(crate) due: Option<Option<I::Error>>,
+    // the buffered item, and the closure; and the stop that is due: `Ok(None)`, or a failure
+    pub(crate) stage: ((Option<I::Item>, F), Option<Option<I::Error>>),
 }
 
 impl<
@@ -30,9 +28,9 @@ impl<
     }
 
     fn size_hint(&self) -> (usize, Option<usize>) {
-        match self.due {
+        match self.stage.1 {
             Some(None) => (0, Some(0)),
-            _ => with_held(self.it.size_hint(), self.coalescing.0.is_some()),
+            _ => with_held(self.it.size_hint(), self.stage.0.0.is_some()),
         }
     }
 
@@ -41,14 +39,7 @@ impl<
         state: &mut C,
         turn: &K,
     ) -> Result<Option<R>, I::Error> {
-        drive_holding(
-            &mut self.it,
-            &mut self.coalescing,
-            &mut self.due,
-            &CoalesceHold,
-            state,
-            turn,
-        )
+        drive_holding(&mut self.it, &mut self.stage, &CoalesceHold, state, turn)
     }
 
     fallible_iterator::by_drive!(drive);

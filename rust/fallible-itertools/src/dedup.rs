@@ -9,10 +9,8 @@ use fallible_iterator::{FallibleIterator, Turn};
 #[must_use = "an iterator draws nothing until it is asked"]
 pub struct Dedup<I: FallibleIterator> {
     pub(crate) it: I,
-    // the first of equal items, which wasn't yielded yet
-    pub(crate) held: Option<I::Item>,
-    // the stop that is due: `Ok(None)`, or a failure
-    pub(crate) due: Option<Option<I::Error>>,
+    // the first of equal items, which wasn't yielded yet; and the stop that is due: `Ok(None)`, or a failure
+    pub(crate) stage: (Option<I::Item>, Option<Option<I::Error>>),
 }
 
 impl<I: FallibleIterator> FallibleIterator for Dedup<I>
@@ -29,9 +27,9 @@ where
     }
 
     fn size_hint(&self) -> (usize, Option<usize>) {
-        match self.due {
+        match self.stage.1 {
             Some(None) => (0, Some(0)),
-            _ => with_held(self.it.size_hint(), self.held.is_some()),
+            _ => with_held(self.it.size_hint(), self.stage.0.is_some()),
         }
     }
 
@@ -40,14 +38,7 @@ where
         state: &mut C,
         turn: &K,
     ) -> Result<Option<R>, I::Error> {
-        drive_holding(
-            &mut self.it,
-            &mut self.held,
-            &mut self.due,
-            &DedupHold,
-            state,
-            turn,
-        )
+        drive_holding(&mut self.it, &mut self.stage, &DedupHold, state, turn)
     }
 
     fallible_iterator::by_drive!(drive);

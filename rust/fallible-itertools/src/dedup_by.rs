@@ -9,10 +9,8 @@ use fallible_iterator::{FallibleIterator, Turn};
 #[must_use = "an iterator draws nothing until it is asked"]
 pub struct DedupBy<I: FallibleIterator, F> {
     pub(crate) it: I,
-    // the first of items that are the same, which wasn't yielded yet, and the closure
-    pub(crate) comparing: (Option<I::Item>, F),
-    // the stop that is due: `Ok(None)`, or a failure
-    pub(crate) due: Option<Option<I::Error>>,
+    // the first of items that are the same, which wasn't yielded yet, and the closure; and the stop that is due: `Ok(None)`, or a failure
+    pub(crate) stage: ((Option<I::Item>, F), Option<Option<I::Error>>),
 }
 
 impl<I: FallibleIterator, F: FnMut(&I::Item, &I::Item) -> Result<bool, I::Error>> FallibleIterator
@@ -28,9 +26,9 @@ impl<I: FallibleIterator, F: FnMut(&I::Item, &I::Item) -> Result<bool, I::Error>
     }
 
     fn size_hint(&self) -> (usize, Option<usize>) {
-        match self.due {
+        match self.stage.1 {
             Some(None) => (0, Some(0)),
-            _ => with_held(self.it.size_hint(), self.comparing.0.is_some()),
+            _ => with_held(self.it.size_hint(), self.stage.0.0.is_some()),
         }
     }
 
@@ -39,14 +37,7 @@ impl<I: FallibleIterator, F: FnMut(&I::Item, &I::Item) -> Result<bool, I::Error>
         state: &mut C,
         turn: &K,
     ) -> Result<Option<R>, I::Error> {
-        drive_holding(
-            &mut self.it,
-            &mut self.comparing,
-            &mut self.due,
-            &SameHold,
-            state,
-            turn,
-        )
+        drive_holding(&mut self.it, &mut self.stage, &SameHold, state, turn)
     }
 
     fallible_iterator::by_drive!(drive);

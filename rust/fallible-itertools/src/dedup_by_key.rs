@@ -9,10 +9,8 @@ use fallible_iterator::{FallibleIterator, Turn};
 #[must_use = "an iterator draws nothing until it is asked"]
 pub struct DedupByKey<I: FallibleIterator, K, F> {
     pub(crate) it: I,
-    // the buffered item with its key, and the closure
-    pub(crate) keying: (Option<(K, I::Item)>, F),
-    // the stop that is due: `Ok(None)`, or a failure
-    pub(crate) due: Option<Option<I::Error>>,
+    // the buffered item with its key, and the closure; and the stop that is due: `Ok(None)`, or a failure
+    pub(crate) stage: ((Option<(K, I::Item)>, F), Option<Option<I::Error>>),
 }
 
 impl<I: FallibleIterator, K: PartialEq, F: FnMut(&I::Item) -> Result<K, I::Error>> FallibleIterator
@@ -28,9 +26,9 @@ impl<I: FallibleIterator, K: PartialEq, F: FnMut(&I::Item) -> Result<K, I::Error
     }
 
     fn size_hint(&self) -> (usize, Option<usize>) {
-        match self.due {
+        match self.stage.1 {
             Some(None) => (0, Some(0)),
-            _ => with_held(self.it.size_hint(), self.keying.0.is_some()),
+            _ => with_held(self.it.size_hint(), self.stage.0.0.is_some()),
         }
     }
 
@@ -39,14 +37,7 @@ impl<I: FallibleIterator, K: PartialEq, F: FnMut(&I::Item) -> Result<K, I::Error
         state: &mut C,
         turn: &T,
     ) -> Result<Option<R>, I::Error> {
-        drive_holding(
-            &mut self.it,
-            &mut self.keying,
-            &mut self.due,
-            &KeyHold,
-            state,
-            turn,
-        )
+        drive_holding(&mut self.it, &mut self.stage, &KeyHold, state, turn)
     }
 
     fallible_iterator::by_drive!(drive);

@@ -1,7 +1,7 @@
 //! The fold of the adapters that buffer what they drew, through their sources' own.
 
-use core::ops::ControlFlow;
-use fallible_iterator::extending::{FirstTurn, Outcome, Pass, drive_passing};
+use crate::staging::{Made, Stage, drive_stage, one, one_then, stopped};
+use fallible_iterator::extending::Outcome;
 use fallible_iterator::{FallibleIterator, Turn};
 
 /// What an adapter that buffers does with an item, `Some`, or with a stop of its source, `None`: it says what becomes of it.
@@ -23,19 +23,49 @@ pub trait Hold<P, X, E> {
     fn ask(&self, holds: &mut P, asked: Option<X>) -> Outcome<Self::Kept, E>;
 }
 
-// The same adapter, called on items alone.
-struct OfItems<'a, A> {
+// The same adapter as a stage. What `ask` fails with is a stop.
+struct HoldStage<'a, A> {
     adapter: &'a A,
 }
 
-impl<'a, P, X, E, A: Hold<P, X, E>> Pass<P, X, E> for OfItems<'a, A> {
+impl<'a, P, X, E, A: Hold<P, X, E>> Stage<P, X, E> for HoldStage<'a, A> {
     type Kept = A::Kept;
 
-    type Answer = Outcome<A::Kept, E>;
+    type Later = Option<E>;
 
     #[inline(always)]
-    fn pass(&self, state: &mut P, item: X) -> Outcome<A::Kept, E> {
-        self.adapter.ask(state, Some(item))
+    fn on_item(&self, p: &mut P, item: X) -> Made<A::Kept, Option<E>, E> {
+        match self.adapter.ask(p, Some(item)) {
+            Outcome::Kept(y) => one(Ok(Some(y))),
+            Outcome::LeftOut => None,
+            Outcome::Failure(e) => made_at_stop(Some(e), p, self.adapter),
+            Outcome::End => made_at_stop(None, p, self.adapter),
+        }
+    }
+
+    #[inline(always)]
+    fn on_stop(&self, p: &mut P, stop: Option<E>) -> Made<A::Kept, Option<E>, E> {
+        made_at_stop(stop, p, self.adapter)
+    }
+
+    #[inline(always)]
+    fn come(&self, later: Option<E>) -> (Result<Option<A::Kept>, E>, Option<Option<E>>) {
+        (stopped(later), None)
+    }
+}
+
+// What a stop makes: what is buffered, and then the stop is due; or the stop itself.
+#[inline(always)]
+fn made_at_stop<P, X, E, A: Hold<P, X, E>>(
+    stop: Option<E>,
+    holds: &mut P,
+    adapter: &A,
+) -> Made<A::Kept, Option<E>, E> {
+    match adapter.ask(holds, None) {
+        Outcome::Kept(y) => one_then(Ok(Some(y)), stop),
+        Outcome::LeftOut => unreachable!(),
+        Outcome::Failure(e) => one_then(Err(e), stop),
+        Outcome::End => one(stopped(stop)),
     }
 }
 
@@ -47,12 +77,11 @@ impl<'a, P, X, E, A: Hold<P, X, E>> Pass<P, X, E> for OfItems<'a, A> {
 ///
 /// ```text
 /// requires can_next { (holding_contract I.contract (A.asks adapter.now) (A.can_ask adapter.now)
-///     (A.held adapter.now) (λ _ _. ⊤)).can_next (it.old, (holds.old, due.old)) }
+///     (A.held adapter.now) (λ _ _. ⊤)).can_next (it.old, stage.old) }
 /// requires callable { CallableDriving (holding_step (A.asks adapter.now) I.contract.steps)
-///     (K.turns turn.now) (K.can_turn turn.now) (it.old, (holds.old, due.old)) state.old }
+///     (K.turns turn.now) (K.can_turn turn.now) (it.old, stage.old) state.old }
 /// ensures { Driven (holding_step (A.asks adapter.now) I.contract.steps)
-///     (K.turns turn.now) (it.old, (holds.old, due.old)) state.old result
-///     (it.new, (holds.new, due.new)) state.new }
+///     (K.turns turn.now) (it.old, stage.old) state.old result (it.new, stage.new) state.new }
 /// ```
 /// </details>
 pub fn drive_holding<
@@ -64,21 +93,12 @@ pub fn drive_holding<
     K: Turn<C, A::Kept, R>,
 >(
     it: &mut I,
-    holds: &mut P,
-    due: &mut Option<Option<I::Error>>,
+    stage: &mut (P, Option<Option<I::Error>>),
     adapter: &A,
     state: &mut C,
     turn: &K,
 ) -> Result<Option<R>, I::Error> {
-    match due.take() {
-        Some(Some(e)) => Err(e),
-        Some(None) => Ok(None),
-        None => match drive_passing(it, holds, &OfItems { adapter }, state, turn) {
-            Ok(Some(stop)) => Ok(Some(stop)),
-            Ok(None) => before_stop(None, holds, due, adapter, state, turn),
-            Err(e) => before_stop(Some(e), holds, due, adapter, state, turn),
-        },
-    }
+    drive_stage(it, stage, &HoldStage { adapter }, state, turn)
 }
 
 /// What one call returns at a stop: what is buffered, and then the stop is due; or the stop itself if nothing is yielded.
@@ -99,40 +119,12 @@ pub fn at_stop<P, X, E, A: Hold<P, X, E>>(
     due: &mut Option<Option<E>>,
     adapter: &A,
 ) -> Result<Option<A::Kept>, E> {
-    before_stop(stop, holds, due, adapter, &mut (), &FirstTurn)
-}
-
-// At a stop: the caller's turn on what is buffered, and then the stop.
-fn before_stop<P, X, E, A: Hold<P, X, E>, C, R, K: Turn<C, A::Kept, R>>(
-    stop: Option<E>,
-    holds: &mut P,
-    due: &mut Option<Option<E>>,
-    adapter: &A,
-    state: &mut C,
-    turn: &K,
-) -> Result<Option<R>, E> {
-    match adapter.ask(holds, None) {
-        Outcome::Kept(y) => match turn.turn(state, y) {
-            ControlFlow::Continue(()) => answered(stop),
-            ControlFlow::Break(why) => {
-                *due = Some(stop);
-                Ok(Some(why))
-            }
-        },
-        Outcome::LeftOut => unreachable!(),
-        Outcome::Failure(e) => {
-            *due = Some(stop);
-            Err(e)
+    match made_at_stop(stop, holds, adapter) {
+        Some((answer, later)) => {
+            *due = later;
+            answer
         }
-        Outcome::End => answered(stop),
-    }
-}
-
-// The stop as a result of the fold.
-fn answered<R, E>(stop: Option<E>) -> Result<Option<R>, E> {
-    match stop {
-        Some(e) => Err(e),
-        None => Ok(None),
+        None => unreachable!(),
     }
 }
 

@@ -75,7 +75,6 @@ pub mod merge_by;
 pub mod minmax;
 #[doc(hidden)]
 pub mod or_else;
-mod parting;
 #[doc(hidden)]
 pub mod partition_map;
 #[doc(hidden)]
@@ -83,6 +82,8 @@ pub mod peeking_take_while;
 mod sides;
 #[cfg(feature = "alloc")]
 mod sorted;
+#[doc(hidden)]
+pub mod staging;
 #[doc(hidden)]
 pub mod take_while_inclusive;
 #[doc(hidden)]

@@ -1,7 +1,6 @@
 //! The adapter that ends after the first item that a predicate rejects.
 
-use core::ops::ControlFlow;
-use fallible_iterator::extending::{Beside, Outcome, Pass, PassTurn, answer_within, passed};
+use crate::staging::{Made, Stage, drive_stage, next_stage, one, one_then, stopped};
 use fallible_iterator::{FallibleIterator, Turn};
 
 /// What the source returns up to the first item that the predicate rejects, and that one too. Then each call returns `Ok(None)`. An item on which the predicate fails is lost, and its failure is yielded; neither it nor an `Ok(None)` of the source exhausts anything.
@@ -9,8 +8,8 @@ use fallible_iterator::{FallibleIterator, Turn};
 #[must_use = "an iterator draws nothing until it is asked"]
 pub struct TakeWhileInclusive<I, P> {
     pub(crate) it: I,
-    // whether an item was rejected, and the predicate
-    pub(crate) taking: (bool, P),
+    // the predicate, and once an item was rejected, ends without draws
+    pub(crate) stage: (P, Option<()>),
 }
 
 impl<I: FallibleIterator, P: FnMut(&I::Item) -> Result<bool, I::Error>> FallibleIterator
@@ -22,14 +21,11 @@ impl<I: FallibleIterator, P: FnMut(&I::Item) -> Result<bool, I::Error>> Fallible
 
     /// Draws once, and calls the predicate on an item; draws nothing once an item was rejected.
     fn next(&mut self) -> Result<Option<I::Item>, I::Error> {
-        if self.taking.0 {
-            return Ok(None);
-        }
-        passed(self.it.next(), &mut self.taking, &InclusivePass)
+        next_stage(&mut self.it, &mut self.stage, &InclusiveStage)
     }
 
     fn size_hint(&self) -> (usize, Option<usize>) {
-        if self.taking.0 {
+        if self.stage.1.is_some() {
             (0, Some(0))
         } else {
             let (low, high) = self.it.size_hint();
@@ -43,84 +39,36 @@ impl<I: FallibleIterator, P: FnMut(&I::Item) -> Result<bool, I::Error>> Fallible
         state: &mut C,
         turn: &K,
     ) -> Result<Option<R>, I::Error> {
-        if self.taking.0 {
-            return Ok(None);
-        }
-        drive_taking(&mut self.it, &mut self.taking, state, turn)
+        drive_stage(&mut self.it, &mut self.stage, &InclusiveStage, state, turn)
     }
 
     fallible_iterator::by_drive!(drive);
 }
 
-// An item is kept unless the predicate fails on it. The flag beside the predicate says whether it rejected one.
-struct InclusivePass;
+// Nothing is drawn after an item that the predicate rejects.
+struct InclusiveStage;
 
-impl<X, E, P: FnMut(&X) -> Result<bool, E>> Pass<(bool, P), X, E> for InclusivePass {
+impl<X, E, P: FnMut(&X) -> Result<bool, E>> Stage<P, X, E> for InclusiveStage {
     type Kept = X;
 
-    type Answer = Result<bool, E>;
+    type Later = ();
 
     #[inline(always)]
-    fn pass(&self, state: &mut (bool, P), item: X) -> Outcome<X, E> {
-        match (state.1)(&item) {
-            Ok(true) => Outcome::Kept(item),
-            Ok(false) => {
-                state.0 = true;
-                Outcome::Kept(item)
-            }
-            Err(e) => Outcome::Failure(e),
+    fn on_item(&self, p: &mut P, item: X) -> Made<X, (), E> {
+        match p(&item) {
+            Ok(true) => one(Ok(Some(item))),
+            Ok(false) => one_then(Ok(Some(item)), ()),
+            Err(e) => one(Err(e)),
         }
     }
-}
 
-// The turn of the fold: what becomes of the item, and the caller's turn on it. After a rejected item the fold ends, also if the caller's turn went on.
-struct InclusiveTurn<'a, K> {
-    turn: &'a K,
-}
-
-impl<'a, 'b, X, E, C, R, P: FnMut(&X) -> Result<bool, E>, K: Turn<C, X, R>>
-    Turn<Beside<'b, C, (bool, P)>, X, Result<Option<R>, E>> for InclusiveTurn<'a, K>
-{
     #[inline(always)]
-    fn turn(
-        &self,
-        state: &mut Beside<'b, C, (bool, P)>,
-        item: X,
-    ) -> ControlFlow<Result<Option<R>, E>, ()> {
-        let passing = PassTurn {
-            adapter: &InclusivePass,
-            turn: self.turn,
-        };
-        match passing.turn(state, item) {
-            ControlFlow::Continue(()) => {
-                if state.p.0 {
-                    ControlFlow::Break(Ok(None))
-                } else {
-                    ControlFlow::Continue(())
-                }
-            }
-            ControlFlow::Break(answer) => ControlFlow::Break(answer),
-        }
+    fn on_stop(&self, p: &mut P, stop: Option<E>) -> Made<X, (), E> {
+        one(stopped(stop))
     }
-}
 
-// The fold while no item was rejected yet.
-fn drive_taking<
-    I: FallibleIterator,
-    P: FnMut(&I::Item) -> Result<bool, I::Error>,
-    C,
-    R,
-    K: Turn<C, I::Item, R>,
->(
-    it: &mut I,
-    taking: &mut (bool, P),
-    state: &mut C,
-    turn: &K,
-) -> Result<Option<R>, I::Error> {
-    let mut both = Beside {
-        c: state,
-        p: taking,
-    };
-    let answer = it.drive(&mut both, &InclusiveTurn { turn });
-    answer_within(answer)
+    #[inline(always)]
+    fn come(&self, later: ()) -> (Result<Option<X>, E>, Option<()>) {
+        (Ok(None), Some(later))
+    }
 }

@@ -108,8 +108,7 @@ pub trait FallibleItertools: FallibleIterator + Sized {
     {
         Coalesce {
             it: self,
-            coalescing: (None, f),
-            due: None,
+            stage: ((None, f), None),
         }
     }
 
@@ -153,8 +152,7 @@ pub trait FallibleItertools: FallibleIterator + Sized {
     {
         DedupByKey {
             it: self,
-            keying: (None, f),
-            due: None,
+            stage: ((None, f), None),
         }
     }
 
@@ -195,8 +193,7 @@ pub trait FallibleItertools: FallibleIterator + Sized {
     {
         DedupBy {
             it: self,
-            comparing: (None, same),
-            due: None,
+            stage: ((None, same), None),
         }
     }
 
@@ -232,8 +229,7 @@ pub trait FallibleItertools: FallibleIterator + Sized {
     {
         Dedup {
             it: self,
-            held: None,
-            due: None,
+            stage: (None, None),
         }
     }
 
@@ -269,8 +265,7 @@ pub trait FallibleItertools: FallibleIterator + Sized {
     fn with_position(self) -> WithPosition<Self> {
         WithPosition {
             it: self,
-            held: None,
-            due: None,
+            stage: (None, None),
         }
     }
 
@@ -881,7 +876,7 @@ pub trait FallibleItertools: FallibleIterator + Sized {
     {
         TakeWhileInclusive {
             it: self,
-            taking: (false, predicate),
+            stage: (predicate, None),
         }
     }
 
@@ -1706,8 +1701,7 @@ pub trait FallibleItertools: FallibleIterator + Sized {
     fn chunks(self, n: usize) -> Chunks<Self> {
         Chunks {
             it: self,
-            batch: (n, None),
-            due: None,
+            stage: ((n, None), None),
         }
     }
 
@@ -1753,8 +1747,7 @@ pub trait FallibleItertools: FallibleIterator + Sized {
     {
         ChunkBy {
             it: self,
-            group: (key, None),
-            due: None,
+            stage: ((key, None), None),
         }
     }
 
@@ -1793,7 +1786,7 @@ pub trait FallibleItertools: FallibleIterator + Sized {
     {
         Intersperse {
             it: self,
-            parting: (separator, (false, None)),
+            stage: ((separator, false), None),
         }
     }
 
@@ -1853,7 +1846,7 @@ pub trait FallibleItertools: FallibleIterator + Sized {
     {
         IntersperseWith {
             it: self,
-            parting: (f, (false, None)),
+            stage: ((f, false), None),
         }
     }
 

@@ -23,10 +23,8 @@ pub enum Position {
 #[must_use = "an iterator draws nothing until it is asked"]
 pub struct WithPosition<I: FallibleIterator> {
     pub(crate) it: I,
-    // the item that wasn't yielded yet, and whether an item since the last stop came before it
-    pub(crate) held: Option<(bool, I::Item)>,
-    // the stop that is due: `Ok(None)`, or a failure
-    pub(crate) due: Option<Option<I::Error>>,
+    // the item that wasn't yielded yet, and whether an item since the last stop came before it; and the stop that is due: `Ok(None)`, or a failure
+    pub(crate) stage: (Option<(bool, I::Item)>, Option<Option<I::Error>>),
 }
 
 impl<I: FallibleIterator> FallibleIterator for WithPosition<I> {
@@ -36,15 +34,18 @@ impl<I: FallibleIterator> FallibleIterator for WithPosition<I> {
 
     /// Returns the stop that is due, without a draw. Otherwise it draws once if an item is buffered, and otherwise twice, or up to a stop.
     fn next(&mut self) -> Result<Option<(Position, I::Item)>, I::Error> {
-        match self.due.take() {
+        match self.stage.1.take() {
             Some(Some(e)) => Err(e),
             Some(None) => Ok(None),
-            None => match self.held.take() {
-                Some(before) => behind(&mut self.it, &mut self.held, &mut self.due, before),
+            None => match self.stage.0.take() {
+                Some(before) => behind(&mut self.it, &mut self.stage.0, &mut self.stage.1, before),
                 None => match self.it.draw() {
-                    Ok(Some(first)) => {
-                        behind(&mut self.it, &mut self.held, &mut self.due, (false, first))
-                    }
+                    Ok(Some(first)) => behind(
+                        &mut self.it,
+                        &mut self.stage.0,
+                        &mut self.stage.1,
+                        (false, first),
+                    ),
                     Ok(None) => Ok(None),
                     Err(e) => Err(e),
                 },
@@ -53,10 +54,10 @@ impl<I: FallibleIterator> FallibleIterator for WithPosition<I> {
     }
 
     fn size_hint(&self) -> (usize, Option<usize>) {
-        match self.due {
+        match self.stage.1 {
             Some(None) => (0, Some(0)),
             _ => {
-                let held = if self.held.is_some() { 1 } else { 0 };
+                let held = if self.stage.0.is_some() { 1 } else { 0 };
                 sum(self.it.size_hint(), (held, Some(held)))
             }
         }
@@ -67,14 +68,7 @@ impl<I: FallibleIterator> FallibleIterator for WithPosition<I> {
         state: &mut C,
         turn: &K,
     ) -> Result<Option<R>, I::Error> {
-        drive_holding(
-            &mut self.it,
-            &mut self.held,
-            &mut self.due,
-            &PositionHold,
-            state,
-            turn,
-        )
+        drive_holding(&mut self.it, &mut self.stage, &PositionHold, state, turn)
     }
 
     fallible_iterator::by_drive!(drive);

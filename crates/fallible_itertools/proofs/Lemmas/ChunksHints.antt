@@ -167,12 +167,12 @@ module _ {S A E : Type 0} (m : Contract S A E) (from : AllocError → E → Type
 
   -- Each hint of `Chunks` is as sound as that of its source.
   pub hints_as_sound_chunks : chunks_due s ≡ None → HintsAsSoundAs (seen_as chunks_parts (chunks_contract from m)) s m s.it
-  hints_as_sound_chunks undue h is = let at : chunks_parts s ≡ (s.it, (s.batch, None)) = ap (λ (d : Option (Option E)). (s.it, (s.batch, d))) undue in
-      let k : chunks_hints m (s.it, (s.batch, None)) h = subst (λ (p : GivenOfChunksHints). chunks_hints m p h) at is in
-      (k.0, k.1, as_sound_seen chunks_parts _ s h (subst (λ (p : GivenOfChunksHints). AsSound (holding_step (chunks_asks from) m.steps) p h m.steps s.it k.0) (sym at) (as_sound_chunks from m.steps s.it s.batch h k.0 (k.2, k.3))))
+  hints_as_sound_chunks undue h is = let at : chunks_parts s ≡ (s.it, (s.stage.0, None)) = ap (λ (d : Option (Option E)). (s.it, (s.stage.0, d))) undue in
+      let k : chunks_hints m (s.it, (s.stage.0, None)) h = subst (λ (p : GivenOfChunksHints). chunks_hints m p h) at is in
+      (k.0, k.1, as_sound_seen chunks_parts _ s h (subst (λ (p : GivenOfChunksHints). AsSound (holding_step (chunks_asks from) m.steps) p h m.steps s.it k.0) (sym at) (as_sound_chunks from m.steps s.it s.stage.0 h k.0 (k.2, k.3))))
 
   -- Where a stop is due, nothing comes before it.
   pub sound_hints_chunks : (stop : Option E) → chunks_due s ≡ Some stop → SoundHints (seen_as chunks_parts (chunks_contract from m)) s
-  sound_hints_chunks stop due h is = let at : chunks_parts s ≡ (s.it, (s.batch, Some stop)) = ap (λ (d : Option (Option E)). (s.it, (s.batch, d))) due in
-      let k : chunks_hints m (s.it, (s.batch, Some stop)) h = subst (λ (p : GivenOfChunksHints). chunks_hints m p h) at is in
-      brackets_seen chunks_parts _ s h (subst (λ (p : GivenOfChunksHints). Brackets (holding_step (chunks_asks from) m.steps) p h) (sym at) (brackets_stop_sound from m.steps stop _ s.it s.batch h k))
+  sound_hints_chunks stop due h is = let at : chunks_parts s ≡ (s.it, (s.stage.0, Some stop)) = ap (λ (d : Option (Option E)). (s.it, (s.stage.0, d))) due in
+      let k : chunks_hints m (s.it, (s.stage.0, Some stop)) h = subst (λ (p : GivenOfChunksHints). chunks_hints m p h) at is in
+      brackets_seen chunks_parts _ s h (subst (λ (p : GivenOfChunksHints). Brackets (holding_step (chunks_asks from) m.steps) p h) (sym at) (brackets_stop_sound from m.steps stop _ s.it s.stage.0 h k))

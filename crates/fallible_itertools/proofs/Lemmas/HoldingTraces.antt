@@ -135,7 +135,7 @@ module _ {S P X B E : Type 0} (steps : S → Answered X E → S → Type 0) (ask
   first_made_item (Failure e) s u p h g x m step called w = let k = stop_first (Some e) w.0 m w.2 in inr (k.0, k.1, k.2, (h, Err e, pass_trace_refusal x (Failure e) e step called refl, (w.0, w.1, k.3)))
   first_made_item End s u p h g x m step called w = let k = stop_first None w.0 m w.2 in inr (k.0, k.1, k.2, (h, Ok None, pass_trace_closing x End step called refl, (w.0, w.1, k.3)))
 
-  first_made : (a : Answered X E) (s u : S) (p g : P) (m : List (Answered B E)) → steps s a u → DrawMade asks p (a, m) g → FirstMade s p a m u g
+  pub first_made : (a : Answered X E) (s u : S) (p g : P) (m : List (Answered B E)) → steps s a u → DrawMade asks p (a, m) g → FirstMade s p a m u g
   first_made (Ok (Some x)) s u p g m step w = first_made_item w.0 s u p w.1 g x m step w.2 w.3
   first_made (Ok None) s u p g m step w = let k = stop_first None w.0 m w.2 in inr (k.0, k.1, k.2, (p, Ok None, pass_trace_end step, (w.0, w.1, k.3)))
   first_made (Err e) s u p g m step w = let k = stop_first (Some e) w.0 m w.2 in inr (k.0, k.1, k.2, (p, Err e, pass_trace_failure step, (w.0, w.1, k.3)))

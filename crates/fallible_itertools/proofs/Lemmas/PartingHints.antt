@@ -74,5 +74,5 @@ module _ {Z A E : Type 0} (separates : Z → Result A E → Z → Type 0) where
           let low = interspersed_items_more p.1.1 k.0 (length d.0) (b.below d.0 q.0 u.0 d.1 e.0) in let many = d.2 in let none = e.1 in omega (arith, low, many, none);
     }
 
-  pub hints_as_sound_parting : {V S : Type 0} (view : V → S × (Z × (Bool × Option A))) (can : Z → Type 0) (gives : Z → A → Type 0) (fails : Z → E → Type 0) (m : Contract S A E) (s : V) → HintsAsSoundAs (seen_as view (parting_contract separates can gives fails m)) s m (view s).0
-  hints_as_sound_parting view can gives fails m s h is = (is.0, is.1, as_sound_seen view (StepOfPartingHints m.steps) s h (as_sound (StepOfPartingHints m.steps) m.steps (view s) (view s).0 (λ n. min (interspersed_items (view s).1.1 n) (2 ^ 64 - 1)) (interspersed_high (view s).1.1) (λ k b. brackets_of_parting_hints m.steps (view s) k b) h is.0 is.2))
+  pub hints_as_sound_parting : {V S : Type 0} (view : V → S × (Z × (Bool × Option A))) (can : Z → Type 0) (m : Contract S A E) (s : V) → HintsAsSoundAs (seen_as view (parting_contract separates can m)) s m (view s).0
+  hints_as_sound_parting view can m s h is = (is.0, is.1, as_sound_seen view (StepOfPartingHints m.steps) s h (as_sound (StepOfPartingHints m.steps) m.steps (view s) (view s).0 (λ n. min (interspersed_items (view s).1.1 n) (2 ^ 64 - 1)) (interspersed_high (view s).1.1) (λ k b. brackets_of_parting_hints m.steps (view s) k b) h is.0 is.2))

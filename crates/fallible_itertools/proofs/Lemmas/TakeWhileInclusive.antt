@@ -1,5 +1,5 @@
 -- The runs of `TakeWhileInclusive` are the traces that its definition names; what it lists; and its hint.
-use Rattle.std.specs.Prelude.{◌≡◌, ℕ, ◌≤◌, min, Bool, true, false, List, [], ◌∷◌, length, Option, Result, Ok, Err, ◌↔◌}
+use Rattle.std.specs.Prelude.{◌≡◌, ℕ, ◌≤◌, min, Bool, true, false, List, [], ◌∷◌, length, is_some, Option, Result, Some, None, Ok, Err, ◌↔◌}
 use Rattle.std.specs.List.{FoldsTo}
 use Rattle.std.specs.Fn.{Mut}
 use Rattle.std.specs.Borrow.{Bor}
@@ -7,8 +7,8 @@ use Rattle.std.proofs.Common.{refl, sym, ap, subst, ◌∙◌, arith}
 use Rattle.fallible_iterator.specs.Contract.{Contract, seen_as}
 use Rattle.fallible_iterator.specs.Lists.{AlwaysGives, Lists, Acts}
 use Rattle.fallible_iterator.specs.Traces.{Answered, Yields, item, end}
-use Rattle.fallible_iterator.specs.Closures.{call_at}
-use Rattle.fallible_iterator.specs.Passing.{LeavesNoneOut, Place, asked, failure_at, end_at, source_answer}
+use Rattle.fallible_iterator.specs.Closures.{IsCallable, call_at, takes_at}
+use Rattle.fallible_iterator.specs.Passing.{Place, asked, failure_at, end_at, source_answer}
 use Rattle.fallible_iterator.specs.Closing.{closing_step}
 use Rattle.fallible_iterator.specs.Cutting.TakeWhile.{is_refused, place_drawn}
 use Rattle.fallible_iterator.specs.SoundHints.{BoundsBelow, AsSound}
@@ -16,13 +16,11 @@ use Rattle.fallible_iterator.proofs.Lemmas.Closing.{closing_law}
 use Rattle.fallible_iterator.proofs.Lemmas.Lists.Passing.{lists_seen}
 use Rattle.fallible_iterator.proofs.Lemmas.Cutting.TakeWhile.{both_of_folds_to, folds_to_of_both}
 use Rattle.fallible_iterator.proofs.Lemmas.Hints.Drawn.{ItemsOfItems, bounds_above_of_source}
-use Rattle.fallible_itertools.specs.TakeWhileInclusive.{cons_through, taken_while_inclusive, inclusive_outcome, inclusive_answer, hint_of_first, InclusiveTrace, inclusive_parts, inclusive_contract}
+use Rattle.fallible_iterator.specs.Laws.Closures.{reaches_here, reaches_from, is_callable_after}
+use Rattle.fallible_itertools.specs.Staging.{Made, MayMeet, PassesNoneOver, StopPasses, TakesAll, ends_come, passes_over, stage_meets, stage_step, yields}
+use Rattle.fallible_itertools.specs.Laws.Staging.{made_parts, takes_where_reached}
+use Rattle.fallible_itertools.specs.TakeWhileInclusive.{cons_through, taken_while_inclusive, inclusive_answer, inclusive_made, inclusive_on_item, hint_of_first, InclusiveTrace, inclusive_parts, inclusive_contract}
 use Rattle.fallible_itertools.specs.declared.take_while_inclusive.TakeWhileInclusive.{TakeWhileInclusive}
-
--- it leaves nothing out
-pub leaves_none_out_of_inclusive : {X E : Type 0} → LeavesNoneOut {X = X} {B = X} {E = E} inclusive_outcome
-leaves_none_out_of_inclusive x (Ok b) = refl
-leaves_none_out_of_inclusive x (Err e) = refl
 
 module _ {S F X E : Type 0} (steps : S → Answered X E → S → Type 0) (call : F → X → Result Bool E → F → Type 0) where
   -- one draw
@@ -32,6 +30,59 @@ module _ {S F X E : Type 0} (steps : S → Answered X E → S → Type 0) (call 
   pub inclusive_law : (p : (S × F) × Bool) (trace : List (Answered X E)) (q : (S × F) × Bool) → FoldsTo inclusive_step p trace q ↔ InclusiveTrace steps call p trace q
   inclusive_law p trace q = let law = closing_law (place_drawn steps call) inclusive_answer is_refused p.0 p.1 trace q.0 q.1 in
       ((λ h. let d = law.0 h in let both = both_of_folds_to steps call d.0 (p.0).0 (p.0).1 (q.0).0 (q.0).1 d.1 in record { places = d.0; drawn = both.0; called = both.1; cut = d.2 }), (λ h. law.1 (h.places, folds_to_of_both steps call h.places (p.0).0 (p.0).1 (q.0).0 (q.0).1 (h.drawn, h.called), h.cut)))
+
+  -- ---- a step of the stage is one draw
+
+  abbrev Meets : F → Answered X E → Made X (Unit {0}) E → F → Type 0
+  Meets f a made h = stage_meets (inclusive_on_item call) StopPasses f a made h
+
+  makes_something : (x : X) (v : Result Bool E) → None ≡ inclusive_made x v → ⊥
+  makes_something x (Ok true) e = cc
+  makes_something x (Ok false) e = cc
+  makes_something x (Err d) e = cc
+
+  pub inclusive_passes_none : PassesNoneOver Meets
+  inclusive_passes_none f (Ok (Some x)) h w = makes_something x w.0 w.2
+  inclusive_passes_none f (Ok None) h w = let e = w.0 in cc
+  inclusive_passes_none f (Err d) h w = let e = w.0 in cc
+
+  made_at_place : (x : X) (v : Result Bool E) (r : Answered X E) (due : Option (Unit {0})) → ◌≡◌ {A = Made X (Unit {0}) E} (Some (r, due)) (inclusive_made x v) → (z : Place X (Result Bool E) E) → z ≡ asked x v → (r ≡ inclusive_answer z) × (is_some due ≡ is_refused z)
+  made_at_place x (Ok true) r due e z is = let made = made_parts e in rw is (made.0, rw made.1 refl)
+  made_at_place x (Ok false) r due e z is = let made = made_parts e in rw is (made.0, rw made.1 refl)
+  made_at_place x (Err d) r due e z is = let made = made_parts e in rw is (made.0, rw made.1 refl)
+
+  drawn_so : (s t : S) (f h : F) (a r : Answered X E) (due : Option (Unit {0})) → steps s a t → Meets f a (Some (r, due)) h → inclusive_step ((s, f), false) r ((t, h), is_some due)
+  drawn_so s t f h (Ok (Some x)) r due step w = let at = made_at_place x w.0 r due w.2 (asked x w.0) refl in (asked x w.0, (step, (h, w.1, refl)), at.0, at.1)
+  drawn_so s t f h (Ok None) r due step w = let made = made_parts w.0 in (end_at, (step, sym w.1), made.0, rw made.1 refl)
+  drawn_so s t f h (Err d) r due step w = let made = made_parts w.0 in (failure_at d, (step, sym w.1), made.0, rw made.1 refl)
+
+  pub step_of_inclusive : (p : S × (F × Option (Unit {0}))) (r : Answered X E) (q : S × (F × Option (Unit {0}))) → stage_step ends_come Meets steps p r q → inclusive_step ((p.0, p.1.0), is_some p.1.1) r ((q.0, q.1.0), is_some q.1.1)
+  step_of_inclusive (s, (f, Some u)) r (t, k) w = (w.0, rw (w.1, w.2) refl, rw w.2 refl)
+  step_of_inclusive (s, (f, None)) r (t, _) (yields {q = h} {due = due} a step called) = drawn_so s t f h a r due step called
+  step_of_inclusive (s, (f, None)) r (t, k) (passes_over {h = h} a step called rest) = absurd (inclusive_passes_none f a h called)
+
+-- where the predicate may be called on each item that may come, so may the stage
+module _ {S F X E : Type 0} (m : Contract S X E) (g : Mut F (Bor X × Unit {0}) (Result Bool E)) (s : S) where
+  kept_callable : (p : F) (a : Answered X E) (made : Made X (Unit {0}) E) (q : F) → MayMeet m s a → IsCallable (call_at g) (takes_at g) (m.may_give s) p → stage_meets (inclusive_on_item (call_at g)) StopPasses p a made q → IsCallable (call_at g) (takes_at g) (m.may_give s) q
+  kept_callable p (Ok (Some x)) made q may c w = is_callable_after (λ y q. q) (reaches_from x w.0 may w.1 reaches_here) c
+  kept_callable p (Ok None) made q may c w = rw w.1 c
+  kept_callable p (Err e) made q may c w = rw w.1 c
+
+  pub takes_inclusive : (f : F) → IsCallable (call_at g) (takes_at g) (m.may_give s) f → TakesAll m (stage_meets (inclusive_on_item (call_at g)) StopPasses) (λ h x. takes_at g h x) s f
+  takes_inclusive f c = takes_where_reached m (stage_meets (inclusive_on_item (call_at g)) StopPasses) (λ h x. takes_at g h x) (λ h. IsCallable (call_at g) (takes_at g) (m.may_give s) h) s kept_callable (λ h x may k. k.at h x reaches_here may) f c
+
+-- whether an item was rejected says what is due
+abbrev pub over_where : Bool → Option (Unit {0})
+over_where true = Some tt
+over_where false = None
+
+pub over_where_due : (due : Option (Unit {0})) → over_where (is_some due) ≡ due
+over_where_due None = refl
+over_where_due (Some u) = refl
+
+pub due_where_over : (b : Bool) → is_some (over_where b) ≡ b
+due_where_over true = refl
+due_where_over false = refl
 
 -- ---- what it lists
 

@@ -112,12 +112,12 @@ module _ {S A E : Type 0} (m : Contract S A E) (s : WithPosition S A E) where
 
   -- Each hint of `WithPosition` is as sound as that of its source.
   pub hints_as_sound_positioned : with_position_due s ≡ None → HintsAsSoundAs (seen_as with_position_parts (with_position_contract m)) s m s.it
-  hints_as_sound_positioned undue h is = let at : with_position_parts s ≡ (s.it, (s.held, None)) = ap (λ (d : Option (Option E)). (s.it, (s.held, d))) undue in
-      let k : with_position_hints m (s.it, (s.held, None)) h = subst (λ (p : GivenOfPositions). with_position_hints m p h) at is in
-      (k.0, k.1, as_sound_seen with_position_parts _ s h (subst (λ (p : GivenOfPositions). AsSound (holding_step position_asks m.steps) p h m.steps s.it k.0) (sym at) (as_sound_positioned m.steps s.it s.held k.0 h k.2)))
+  hints_as_sound_positioned undue h is = let at : with_position_parts s ≡ (s.it, (s.stage.0, None)) = ap (λ (d : Option (Option E)). (s.it, (s.stage.0, d))) undue in
+      let k : with_position_hints m (s.it, (s.stage.0, None)) h = subst (λ (p : GivenOfPositions). with_position_hints m p h) at is in
+      (k.0, k.1, as_sound_seen with_position_parts _ s h (subst (λ (p : GivenOfPositions). AsSound (holding_step position_asks m.steps) p h m.steps s.it k.0) (sym at) (as_sound_positioned m.steps s.it s.stage.0 k.0 h k.2)))
 
   -- Where a stop is due, nothing comes before it.
   pub sound_hints_positioned : (stop : Option E) → with_position_due s ≡ Some stop → SoundHints (seen_as with_position_parts (with_position_contract m)) s
-  sound_hints_positioned stop due h is = let at : with_position_parts s ≡ (s.it, (s.held, Some stop)) = ap (λ (d : Option (Option E)). (s.it, (s.held, d))) due in
-      let k : with_position_hints m (s.it, (s.held, Some stop)) h = subst (λ (p : GivenOfPositions). with_position_hints m p h) at is in
-      brackets_seen with_position_parts _ s h (subst (λ (p : GivenOfPositions). Brackets (holding_step position_asks m.steps) p h) (sym at) (brackets_due_sound m.steps position_asks held_one holds_with_position (gives_held E) stop _ s.it s.held h k))
+  sound_hints_positioned stop due h is = let at : with_position_parts s ≡ (s.it, (s.stage.0, Some stop)) = ap (λ (d : Option (Option E)). (s.it, (s.stage.0, d))) due in
+      let k : with_position_hints m (s.it, (s.stage.0, Some stop)) h = subst (λ (p : GivenOfPositions). with_position_hints m p h) at is in
+      brackets_seen with_position_parts _ s h (subst (λ (p : GivenOfPositions). Brackets (holding_step position_asks m.steps) p h) (sym at) (brackets_due_sound m.steps position_asks held_one holds_with_position (gives_held E) stop _ s.it s.stage.0 h k))

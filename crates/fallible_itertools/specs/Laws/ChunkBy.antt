@@ -3,14 +3,15 @@ use Rattle.std.specs.Prelude.{Bool, true, false, Option, Some, None, Result, Ok,
 use Rattle.std.specs.Fn.{Mut}
 use Rattle.std.specs.Borrow.{Bor}
 use Rattle.std.specs.List.{FoldsTo}
-use Rattle.std.proofs.Common.{ap, subst, arith}
-use Rattle.fallible_iterator.specs.Contract.{Contract, KeptByDraw, Lawful}
+use Rattle.std.proofs.Common.{ap, subst, sym, arith}
+use Rattle.fallible_iterator.specs.Contract.{Contract, Lawful}
 use Rattle.fallible_iterator.specs.Closures.{IsCallable, Reaches, call_at, takes_at}
 use Rattle.fallible_iterator.specs.Laws.Closures.{is_callable_after, reaches_here, reaches_from}
 use Rattle.fallible_iterator.specs.Traces.{Answered}
-use Rattle.fallible_itertools.specs.Holding.{Holds, HeldAfter, MayBeAsked, OrStop, held_one, one_at_least}
+use Rattle.fallible_itertools.specs.Holding.{Holds, HeldAfter, MayBeAsked, OrStop, held_one, holding_meets, one_at_least}
 use Rattle.fallible_itertools.specs.ChunkBy.{Group, group_at, group_begun, group_grown, group_by, group_at_stop, group_held, chunk_by_asks, chunk_by_contract, key_takes}
-use Rattle.fallible_itertools.specs.Laws.Holding.{Moved, moved_step_moves, lawful_holding}
+use Rattle.fallible_itertools.specs.Laws.Holding.{after_met, lawful_holding_where}
+use Rattle.fallible_itertools.specs.Laws.Staging.{kept_where_reached}
 use Rattle.fallible_iterator.specs.Outcome.{Outcome}
 use Rattle.fallible_iterator.specs.Outcome.TheVariants.{Kept, LeftOut, Failure, End}
 use Rattle.std.specs.declared.alloc.AllocError.{AllocError}
@@ -67,27 +68,16 @@ module _ {A K E : Type 0} (from : AllocError → E → Type 0) (eq : K → K →
     pub is_callable_asked : {S : Type 0} (m : Contract S A E) (s : S) (p : F × Option (Group K A)) → IsCallable (call_at g) (takes_at g) (m.may_give s) p.0 → IsCallable (chunk_by_asks from eq g) (key_takes g) (MayBeAsked m s) p
     is_callable_asked m s p c = record { at = λ q asked r may. key_takes_asked (m.may_give s) p q asked c r may }
 
-    module _ {S : Type 0} {m : Contract S A E} (l : Lawful m) where
-      abbrev StateOfChunkBy : Type 0
-      StateOfChunkBy = S × ((F × Option (Group K A)) × Option (Option E))
+    -- where the closure may be called on what comes, it may be after what an answer makes
+    keys_asked : (P : A → Type 0) (p q : F × Option (Group K A)) (asked : Option A) (o : Outcome (Group K A) E) → OrStop P asked → chunk_by_asks from eq g p asked o q → IsCallable (call_at g) (takes_at g) P p.0 → IsCallable (call_at g) (takes_at g) P q.0
+    keys_asked P p q (Some x) o given w c = is_callable_after (λ y k. k) (reaches_from x w.0 given w.1 reaches_here) c
+    keys_asked P p q None o given w c = subst (λ (f : F). IsCallable (call_at g) (takes_at g) P f) (sym w.0) c
 
-      abbrev ContractHere : Contract StateOfChunkBy (Group K A) E
-      ContractHere = chunk_by_contract from eq g m
+    abbrev KeysCallable : (Answered A E → Type 0) → F × Option (Group K A) → Type 0
+    KeysCallable Q p = IsCallable (call_at g) (takes_at g) (λ x. Q (Ok (Some x))) p.0
 
-      moved_by_step : (p : StateOfChunkBy) (r : Answered (Group K A) E) (q : StateOfChunkBy) → ContractHere.can_next p → ContractHere.steps p r q → Moved m (chunk_by_asks from eq g) p.0 p.1.0 q.0 q.1.0
-      moved_by_step p r q c step = moved_step_moves m l (chunk_by_asks from eq g) (key_takes g) group_held (one_at_least m group_held) holds_chunk_by p r q c.1 step
+    keys_stay : (Q R : Answered A E → Type 0) (p q : F × Option (Group K A)) → ((a : Answered A E) → R a → Q a) → Reaches (holding_meets (chunk_by_asks from eq g)) Q p q → KeysCallable Q p → KeysCallable R q
+    keys_stay Q R p q weak reached c = is_callable_after (λ x. weak (Ok (Some x))) reaches_here (kept_where_reached (KeysCallable Q) (after_met (chunk_by_asks from eq g) (KeysCallable Q) Q (keys_asked (λ x. Q (Ok (Some x))))) reached c)
 
-      kept_by_draw_chunk_by : (p : StateOfChunkBy) (r : Answered (Group K A) E) (q : StateOfChunkBy) → ContractHere.can_next p → ContractHere.steps p r q → KeptByDraw ContractHere p r q
-      kept_by_draw_chunk_by p r q c step = let k = (lawful_holding (chunk_by_asks from eq g) (key_takes g) group_held (one_at_least m group_held) holds_chunk_by l).kept_by_draw p r q (c.0, c.1, is_callable_asked m p.0 p.1.0 c.2) step in
-          let moved = moved_by_step p r q c step in
-          let keys = reaches_keys (m.may_give p.0) moved.reached.made p.1.0 q.1.0 moved.reached.by in record {
-            can_next = (k.can_next.0, k.can_next.1, is_callable_after moved.kept.may_give keys c.2);
-            is_finite = k.is_finite;
-            answer = k.answer;
-            may_give = k.may_give;
-            may_fail = k.may_fail;
-            lenders = k.lenders;
-          }
-
-      pub lawful_chunk_by : Lawful ContractHere
-      lawful_chunk_by = record { kept_by_draw = kept_by_draw_chunk_by; bounded = (lawful_holding (chunk_by_asks from eq g) (key_takes g) group_held (one_at_least m group_held) holds_chunk_by l).bounded }
+    pub lawful_chunk_by : {S : Type 0} {m : Contract S A E} → Lawful m → Lawful (chunk_by_contract from eq g m)
+    lawful_chunk_by {m = m} l = lawful_holding_where (chunk_by_asks from eq g) (key_takes g) group_held (one_at_least m group_held) holds_chunk_by KeysCallable keys_stay l

@@ -23,3 +23,8 @@ module _ {A F E : Type 0} (call : F → A → A → OneOrBoth A E → F → Type
 
 pub lawful_coalesce : {S A F E : Type 0} {m : Contract S A E} (g : Mut F (A × (A × Unit {0})) (OneOrBoth A E)) → Lawful m → Lawful (coalesce_contract m g)
 lawful_coalesce {m = m} g l = lawful_holding (coalesce_asks (call_with g)) (coalesce_takes (takes_with g)) held_beside (one_at_least m held_beside) (holds_coalesce (call_with g)) l
+
+-- at a stop nothing is required
+pub coalesce_takes_stop : {A F : Type 0} (takes : F → A → A → Type 0) (p : Option A × F) → coalesce_takes takes p None
+coalesce_takes_stop takes (None, f) = tt
+coalesce_takes_stop takes (Some y, f) = tt

@@ -24,3 +24,8 @@ module _ {A F E : Type 0} (call : F → A → A → Result Bool E → F → Type
 
 pub lawful_dedup_by : {S A F E : Type 0} {m : Contract S A E} (g : Mut F (Bor A × (Bor A × Unit {0})) (Result Bool E)) → Lawful m → Lawful (dedup_by_contract m g)
 lawful_dedup_by {m = m} g l = lawful_holding (dedup_by_asks (call_at_two g)) (dedup_by_takes (takes_at_two g)) held_beside (one_at_least m held_beside) (holds_dedup_by (call_at_two g)) l
+
+-- at a stop nothing is required
+pub dedup_by_takes_stop : {A F : Type 0} (takes : F → A → A → Type 0) (p : Option A × F) → dedup_by_takes takes p None
+dedup_by_takes_stop takes (None, f) = tt
+dedup_by_takes_stop takes (Some y, f) = tt

@@ -1,10 +1,8 @@
 -- The contract of `Intersperse` is lawful where the source's is.
 use Rattle.std.specs.Prelude.{◌≡◌, Bool, Option, Result, Ok, Err, ⊤}
-use Rattle.std.proofs.Common.{subst}
 use Rattle.fallible_iterator.specs.Traces.{Answered}
 use Rattle.fallible_iterator.specs.Contract.{Contract, KeptByDraw, Lawful}
-use Rattle.fallible_iterator.specs.Refusals.{RefusedAs}
-use Rattle.fallible_itertools.specs.Parting.{IsLawfulSeparator, parting_contract}
+use Rattle.fallible_itertools.specs.Parting.{parting_contract}
 use Rattle.fallible_itertools.specs.Intersperse.{CloneSeparates, intersperse_contract}
 use Rattle.fallible_itertools.specs.Laws.Parting.{lawful_parting}
 use Rattle.std.specs.declared.alloc.AllocError.{AllocError}
@@ -15,24 +13,15 @@ module _ {A E : Type 0} (is_clone : A → A → Type 0) (is_infallible : A → T
   separator_stays z (Ok copy) y made = made.1
   separator_stays z (Err e) y made = made.1
 
-  lawful_clones : IsLawfulSeparator (CloneSeparates is_clone is_infallible from) (λ _. ⊤) is_clone (RefusedAs is_infallible from)
-  lawful_clones = record {
-    can_stays = λ z v y c made. tt;
-    gives_here = λ z s y made. made.0;
-    fails_here = λ z e y made. made.0;
-    gives_before = λ z v y made s given. subst (λ (a : A). is_clone a s) (separator_stays z v y made) given;
-    fails_before = λ z v y made e failed. subst (λ (a : A). RefusedAs is_infallible from a e) (separator_stays z v y made) failed;
-  }
-
   module _ {S : Type 0} (m : Contract S A E) where
     abbrev ContractWithClones : Contract (S × (A × (Bool × Option A))) A E
-    ContractWithClones = parting_contract (CloneSeparates is_clone is_infallible from) (λ _. ⊤) is_clone (RefusedAs is_infallible from) m
+    ContractWithClones = parting_contract (CloneSeparates is_clone is_infallible from) (λ _. ⊤) m
 
     kept_by_draw_of_parting : (p : S × (A × (Bool × Option A))) (r : Answered A E) (q : S × (A × (Bool × Option A))) → KeptByDraw ContractWithClones p r q → KeptByDraw (intersperse_contract is_clone is_infallible from m) p r q
     kept_by_draw_of_parting p r q k = record { can_next = k.can_next.0; is_finite = k.is_finite; answer = k.answer; may_give = k.may_give; may_fail = k.may_fail; lenders = k.lenders }
 
   pub lawful_intersperse : {S : Type 0} {m : Contract S A E} → Lawful m → Lawful (intersperse_contract is_clone is_infallible from m)
-  lawful_intersperse {m = m} l = let parted = lawful_parting (CloneSeparates is_clone is_infallible from) (λ _. ⊤) is_clone (RefusedAs is_infallible from) lawful_clones l in record {
+  lawful_intersperse {m = m} l = let parted = lawful_parting (CloneSeparates is_clone is_infallible from) (λ _. ⊤) (λ z v y c made. tt) m l in record {
     kept_by_draw = λ p r q c step. kept_by_draw_of_parting m p r q (parted.kept_by_draw p r q (c, tt) step);
     bounded = parted.bounded;
   }

@@ -1,86 +1,88 @@
 -- The contract of an adapter that puts separators between items is lawful where the source's is.
-use Rattle.std.specs.Prelude.{◌≡◌, ◌+◌, ◌*◌, Bool, true, false, Option, Some, None, Result, Ok, Err}
-use Rattle.std.proofs.Common.{refl, subst, arith, inl, inr}
-use Rattle.fallible_iterator.specs.Traces.{Answered, item, end}
-use Rattle.fallible_iterator.specs.Contract.{Contract, OnAnswer, KeptByDraw, Lawful}
-use Rattle.fallible_itertools.specs.Holding.{held_one}
-use Rattle.fallible_itertools.specs.Parting.{Separated, PlacedAs, IsLawfulSeparator, parting_contract}
+use Rattle.std.specs.Prelude.{◌≡◌, Bool, true, false, Option, Some, None, Result, Ok, Err}
+use Rattle.std.proofs.Common.{refl, ap, arith}
+use Rattle.fallible_iterator.specs.Traces.{Answered}
+use Rattle.fallible_iterator.specs.Contract.{Contract, KeptByDraw, Lawful}
+use Rattle.fallible_iterator.specs.Lists.{result_answer}
+use Rattle.fallible_iterator.specs.Laws.Contract.{lawful_seen}
+use Rattle.fallible_itertools.specs.Staging.{Made, yields, passes_over, IsStage, PassesNoneOver, TakesAll, Weighs, made_before, stage_step}
+use Rattle.fallible_itertools.specs.Laws.Staging.{kept_where_reached, lawful_stage, made_parts, parts_made, takes_where_reached}
+use Rattle.fallible_itertools.specs.Parting.{Separated, PlacedAs, item_comes, parting_contract, parting_hints, parting_meets, parting_stage, parting_step}
 
-module _ {Z A E : Type 0} (separates : Z → Result A E → Z → Type 0) (can : Z → Type 0) (gives : Z → A → Type 0) (fails : Z → E → Type 0) (w : IsLawfulSeparator separates can gives fails) where
-  can_after : (z y : Z) (r : Answered A E) → Separated separates z r y → can z → can y
-  can_after z y (Ok (Some s)) made c = w.can_stays z (Ok s) y c made
-  can_after z y (Ok None) made c = absurd made
-  can_after z y (Err e) made c = w.can_stays z (Err e) y c made
+weighs_separated : {A E : Type 0} (x : A) (v : Result A E) → Weighs item_comes {X = A} {D = E} 2 0 (Ok (Some x)) (made_before (result_answer v) x) 0
+weighs_separated x (Ok s) = (omega arith, omega arith, λ s. absurd s)
+weighs_separated x (Err e) = (omega arith, omega arith, λ s. absurd s)
 
-  gives_after : (z y : Z) (r : Answered A E) → Separated separates z r y → (s : A) → gives y s → gives z s
-  gives_after z y (Ok (Some t)) made = w.gives_before z (Ok t) y made
-  gives_after z y (Ok None) made = absurd made
-  gives_after z y (Err e) made = w.gives_before z (Err e) y made
+module _ {Z A E : Type 0} (separates : Z → Result A E → Z → Type 0) where
+  pub is_stage_parting : IsStage item_comes (parting_meets separates) 2 (λ _. 0)
+  is_stage_parting (z, false) (Ok (Some x)) made k w = rw w.0 (omega arith, omega arith, λ s. absurd s)
+  is_stage_parting (z, true) (Ok (Some x)) made k w = rw w.2 (weighs_separated x w.0)
+  is_stage_parting k (Ok None) made j w = rw w.0 (omega arith, omega arith, λ s. tt)
+  is_stage_parting k (Err e) made j w = rw w.0 (omega arith, omega arith, λ s. tt)
 
-  fails_after : (z y : Z) (r : Answered A E) → Separated separates z r y → (e : E) → fails y e → fails z e
-  fails_after z y (Ok (Some t)) made = w.fails_before z (Ok t) y made
-  fails_after z y (Ok None) made = absurd made
-  fails_after z y (Err e) made = w.fails_before z (Err e) y made
+  pub parting_passes_none : PassesNoneOver (parting_meets separates)
+  parting_passes_none (z, false) (Ok (Some x)) j w = let e = w.0 in cc
+  parting_passes_none (z, true) (Ok (Some x)) j w = let e = w.2 in cc
+  parting_passes_none k (Ok None) j w = let e = w.0 in cc
+  parting_passes_none k (Err d) j w = let e = w.0 in cc
 
-  module _ {S : Type 0} (m : Contract S A E) where
-    abbrev ContractHere : Contract (S × (Z × (Bool × Option A))) A E
-    ContractHere = parting_contract separates can gives fails m
+  -- ---- one answer, by what is drawn
 
-    -- the held item comes
-    kept_by_draw_held : (s : S) (z : Z) (started : Bool) (x : A) → m.can_next s → can z → KeptByDraw ContractHere (s, (z, (started, Some x))) (item x) (s, (z, (started, None)))
-    kept_by_draw_held s z started x c d = record {
-      can_next = (c, d);
-      is_finite = λ e. e;
-      answer = (inl refl, (λ n b. (2 * b.0, (b.0, b.1, omega arith), omega (arith, b.2))), (λ f. (f, omega arith)));
-      may_give = λ y h. elim h [ inl e ↦ absurd cc | inr g ↦ inr g ];
-      may_fail = λ e h. h;
-      lenders = refl;
-    }
+  separated_so : (z y : Z) (v : Result A E) → separates z v y → Separated separates z (result_answer v) y
+  separated_so z y (Ok s) w = w
+  separated_so z y (Err e) w = w
 
-    -- an answer of the source comes as it is
-    on_answer_drawn : (s t : S) (z : Z) (b c : Bool) (r : Answered A E) → OnAnswer m s r t → OnAnswer ContractHere (s, (z, (b, None))) r (t, (z, (c, None)))
-    on_answer_drawn s t z b c (Ok (Some x)) a = (inr (inl a.0), (λ n d. let k = a.1 d.0 d.1 in (2 * k.0, (k.0, k.1, omega arith), omega (arith, k.2, d.2))), (λ f. let j = a.2 f in (j.0, omega (arith, j.1))))
-    on_answer_drawn s t z b c (Ok None) a = ((λ n d. let k = a.0 d.0 d.1 in (2 * k.0, (k.0, k.1, omega arith), omega (arith, k.2, d.2))), (λ f. let j = a.1 f in (j.0, omega (arith, j.1))))
-    on_answer_drawn s t z b c (Err e) a = (inl a.0, (λ n d. let k = a.1 d.0 d.1 in (2 * k.0, (k.0, k.1, omega arith), omega (arith, k.2, d.2))), (λ f. let j = a.2 f in (j.0, omega (arith, j.1))))
+  placed_so : (z : Z) (b : Bool) (a r : Answered A E) (k : Z × Bool) (due : Option A) → parting_meets separates (z, b) a (Some (r, due)) k → PlacedAs separates z b a r (k.0, (k.1, due))
+  placed_so z b (Ok None) r k due w = let made = made_parts w.0 in (made.0, rw (w.1, made.1) refl)
+  placed_so z b (Err d) r k due w = let made = made_parts w.0 in (made.0, rw (w.1, made.1) refl)
+  placed_so z false (Ok (Some x)) r k due w = let made = made_parts w.0 in (made.0, rw (w.1, made.1) refl)
+  placed_so z true (Ok (Some x)) r (y, b) due w = let made = made_parts w.2 in (rw made.0 (separated_so z y w.0 w.1), rw (w.3, made.1) refl)
 
-    kept_by_draw_drawn : (s t : S) (z : Z) (b c : Bool) (r : Answered A E) → can z → KeptByDraw m s r t → KeptByDraw ContractHere (s, (z, (b, None))) r (t, (z, (c, None)))
-    kept_by_draw_drawn s t z b c r d a = record {
-      can_next = (a.can_next, d);
-      is_finite = a.is_finite;
-      answer = on_answer_drawn s t z b c r a.answer;
-      may_give = λ y h. elim h [ inl e ↦ absurd cc | inr g ↦ elim g [ inl d ↦ inr (inl (a.may_give y d)) | inr d ↦ inr (inr d) ] ];
-      may_fail = λ e h. elim h [ inl d ↦ inl (a.may_fail e d) | inr d ↦ inr d ];
-      lenders = a.lenders;
-    }
+  separator_of : (z y : Z) (r : Answered A E) → Separated separates z r y → (v : Result A E) × separates z v y × (r ≡ result_answer v)
+  separator_of z y (Ok (Some s)) w = (Ok s, w, refl)
+  separator_of z y (Ok None) w = absurd w
+  separator_of z y (Err e) w = (Err e, w, refl)
 
-    -- a later item is held, and a separator comes, or what making it failed with
-    on_answer_parted : (s t : S) (z y : Z) (x : A) (r : Answered A E) → Separated separates z r y → OnAnswer m s (item x) t → OnAnswer ContractHere (s, (z, (true, None))) r (t, (y, (true, Some x)))
-    on_answer_parted s t z y x (Ok (Some v)) made a = (inr (inr (w.gives_here z v y made)), (λ n d. let k = a.1 d.0 d.1 in (2 * k.0 + 1, (k.0, k.1, omega arith), omega (arith, k.2, d.2))), (λ f. let j = a.2 f in (j.0, omega (arith, j.1))))
-    on_answer_parted s t z y x (Ok None) made a = absurd made
-    on_answer_parted s t z y x (Err e) made a = (inr (w.fails_here z e y made), (λ n d. let k = a.1 d.0 d.1 in (2 * k.0 + 1, (k.0, k.1, omega arith), omega (arith, k.2, d.2))), (λ f. let j = a.2 f in (j.0, omega (arith, j.1))))
+  met_so : (z : Z) (b : Bool) (a r : Answered A E) (k : Z × Bool) (due : Option A) → PlacedAs separates z b a r (k.0, (k.1, due)) → parting_meets separates (z, b) a (Some (r, due)) k
+  met_so z b (Ok None) r k due w = (parts_made w.0 (ap (λ i. i.1.1) w.1), ap (λ i. (i.0, i.1.0)) w.1)
+  met_so z b (Err d) r k due w = (parts_made w.0 (ap (λ i. i.1.1) w.1), ap (λ i. (i.0, i.1.0)) w.1)
+  met_so z false (Ok (Some x)) r k due w = (parts_made w.0 (ap (λ i. i.1.1) w.1), ap (λ i. (i.0, i.1.0)) w.1)
+  met_so z true (Ok (Some x)) r k due w = let v = separator_of z k.0 r w.0 in (v.0, v.1, parts_made v.2 (ap (λ i. i.1) w.1), ap (λ i. i.0) w.1)
 
-    kept_by_draw_separated : (s t : S) (z y : Z) (x : A) (r : Answered A E) → can z → Separated separates z r y → KeptByDraw m s (item x) t → KeptByDraw ContractHere (s, (z, (true, None))) r (t, (y, (true, Some x)))
-    kept_by_draw_separated s t z y x r c made a = record {
-      can_next = (a.can_next, can_after z y r made c);
-      is_finite = a.is_finite;
-      answer = on_answer_parted s t z y x r made a.answer;
-      may_give = λ v h. elim h [ inl e ↦ (let same : x ≡ v = cc in inr (inl (subst (λ (u : A). m.may_give s u) same a.answer.0))) | inr g ↦ elim g [ inl d ↦ inr (inl (a.may_give v d)) | inr d ↦ inr (inr (gives_after z y r made v d)) ] ];
-      may_fail = λ e h. elim h [ inl d ↦ inl (a.may_fail e d) | inr d ↦ inr (fails_after z y r made e d) ];
-      lenders = a.lenders;
-    }
+  module _ {S : Type 0} (steps : S → Answered A E → S → Type 0) where
+    -- a step of the stage, where what is made of each answer is drawn at once
+    pub step_of_stage : (p : S × ((Z × Bool) × Option A)) (r : Answered A E) (q : S × ((Z × Bool) × Option A)) → stage_step item_comes (parting_meets separates) steps p r q → parting_step separates steps (p.0, (p.1.0.0, (p.1.0.1, p.1.1))) r (q.0, (q.1.0.0, (q.1.0.1, q.1.1)))
+    step_of_stage (s, (k, Some x)) r (t, j) w = (w.0, w.1, rw w.2 refl)
+    step_of_stage (s, ((z, b), None)) r (t, _) (yields {q = j} {due = due} a step called) = (a, step, placed_so z b a r j due called)
+    step_of_stage (s, (k, None)) r (t, j) (passes_over {h = h} a step called rest) = absurd (parting_passes_none k a h called)
 
-    kept_by_draw_placed : (s t : S) (z : Z) (started : Bool) (drawn r : Answered A E) (k : Z × (Bool × Option A)) → can z → KeptByDraw m s drawn t → PlacedAs separates z started drawn r k → KeptByDraw ContractHere (s, (z, (started, None))) r (t, k)
-    kept_by_draw_placed s t z started (Ok None) r k c a at = rw (at.0, at.1) (kept_by_draw_drawn s t z started started end c a)
-    kept_by_draw_placed s t z started (Err e) r k c a at = rw (at.0, at.1) (kept_by_draw_drawn s t z started started (Err e) c a)
-    kept_by_draw_placed s t z false (Ok (Some x)) r k c a at = rw (at.0, at.1) (kept_by_draw_drawn s t z false true (item x) c a)
-    kept_by_draw_placed s t z true (Ok (Some x)) r (y, j) c a at = rw at.1 (kept_by_draw_separated s t z y x r c at.0 a)
+    stage_of_step : (p : S × (Z × (Bool × Option A))) (r : Answered A E) (q : S × (Z × (Bool × Option A))) → parting_step separates steps p r q → stage_step item_comes (parting_meets separates) steps (parting_stage p) r (parting_stage q)
+    stage_of_step (s, (z, (b, Some x))) r (t, k) w = (w.0, w.1, rw w.2 refl)
+    stage_of_step (s, (z, (b, None))) r (t, (y, (c, due))) w = yields w.0 w.1 (met_so z b w.0 r (y, c) due w.2)
 
-    pub kept_by_draw_parting : Lawful m → (p : S × (Z × (Bool × Option A))) (r : Answered A E) (q : S × (Z × (Bool × Option A))) → ContractHere.can_next p → ContractHere.steps p r q → KeptByDraw ContractHere p r q
-    kept_by_draw_parting l (s, (z, (started, Some x))) r (t, k) c step = rw (step.0, step.1, step.2) (kept_by_draw_held s z started x c.0 c.1)
-    kept_by_draw_parting l (s, (z, (started, None))) r (t, k) c step = kept_by_draw_placed s t z started step.0 r k c.1 (l.kept_by_draw s step.0 t c.0 step.1) step.2
+  module _ (can : Z → Type 0) (can_stays : (z : Z) (v : Result A E) (y : Z) → can z → separates z v y → can y) where
+    can_after : (k : Z × Bool) (a : Answered A E) (made : Made A A E) (j : Z × Bool) → can k.0 → parting_meets separates k a made j → can j.0
+    can_after (z, false) (Ok (Some x)) made j c w = rw w.1 c
+    can_after (z, true) (Ok (Some x)) made j c w = can_stays z w.0 j.0 c w.1
+    can_after k (Ok None) made j c w = rw w.1 c
+    can_after k (Err e) made j c w = rw w.1 c
 
-  pub lawful_parting : {S : Type 0} {m : Contract S A E} → Lawful m → Lawful (parting_contract separates can gives fails m)
-  lawful_parting {m = m} l = record {
-    kept_by_draw = kept_by_draw_parting m l;
-    bounded = λ p. ((λ e. let k = (l.bounded p.0).0 e in (2 * k.0 + held_one p.1.1.1, (k.0, k.1, omega arith))), (λ h. (l.bounded p.0).1 ((h.1).0, (h.1).1)));
-  }
+    -- where separators can be made, each item may be met
+    pub takes_parting : {S : Type 0} (m : Contract S A E) (s : S) (k : Z × Bool) → can k.0 → TakesAll m (parting_meets separates) (λ h _. can h.0) s k
+    takes_parting m s k c = takes_where_reached m (parting_meets separates) (λ h _. can h.0) (λ h. can h.0) s (λ p a made q may. can_after p a made q) (λ p x may t. t) k c
+
+    module _ {S : Type 0} (m : Contract S A E) where
+      abbrev Here : Contract (S × (Z × (Bool × Option A))) A E
+      Here = parting_contract separates can m
+
+      abbrev Stage : Contract (S × (Z × (Bool × Option A))) A E
+      Stage = record Here { steps = λ p r q. stage_step item_comes (parting_meets separates) m.steps (parting_stage p) r (parting_stage q) }
+
+      kept_by_draw_parting : (p : S × (Z × (Bool × Option A))) (r : Answered A E) (q : S × (Z × (Bool × Option A))) → KeptByDraw Stage p r q → KeptByDraw Here p r q
+      kept_by_draw_parting p r q k = record { can_next = k.can_next; is_finite = k.is_finite; answer = k.answer; may_give = k.may_give; may_fail = k.may_fail; lenders = k.lenders }
+
+      pub lawful_parting : Lawful m → Lawful (parting_contract separates can m)
+      lawful_parting l = let stage : Lawful Stage = lawful_seen parting_stage (lawful_stage l item_comes (parting_meets separates) (λ _ k. can k.0) 2 (λ _. 0) (parting_hints m) is_stage_parting (λ Q R p q weak reached c. kept_where_reached (λ h. can h.0) (λ p a made q given. can_after p a made q) reached c)) in record {
+        kept_by_draw = λ p r q c step. kept_by_draw_parting p r q (stage.kept_by_draw p r q c (stage_of_step m.steps p r q step));
+        bounded = stage.bounded;
+      }

@@ -1,5 +1,5 @@
 -- What joins two sources, and holds at most one item of each, is lawful where both are and its rule is.
-use Rattle.std.specs.Prelude.{ℕ, ◌+◌, ◌-◌, ◌≤◌, Option, Some, None, ◌≡◌, Ok, Err, ◌⊎◌, ⊤, ◌↔◌}
+use Rattle.std.specs.Prelude.{ℕ, ◌+◌, ◌-◌, ◌≤◌, Option, Some, None, ◌≡◌, Ok, Err, ◌⊎◌, ⊤}
 use Rattle.std.specs.Iterator.{IsFinite, size}
 use Rattle.std.proofs.Common.{refl, sym, subst, ap₂, arith, inl, inr}
 use Rattle.fallible_iterator.specs.Traces.{Answered, item, failure, end}

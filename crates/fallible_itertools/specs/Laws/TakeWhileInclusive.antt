@@ -1,8 +1,8 @@
 -- The contract of `TakeWhileInclusive` is lawful where the source's is.
-use Rattle.std.specs.Prelude.{◌≡◌, ℕ, [], ◌∷◌, Option, Result, Ok, Err, Bool}
+use Rattle.std.specs.Prelude.{◌≡◌, ℕ, [], ◌∷◌, Option, Some, None, Result, Ok, Err, Bool, true, false}
 use Rattle.std.specs.Fn.{Mut}
 use Rattle.std.specs.Borrow.{Bor}
-use Rattle.std.proofs.Common.{refl, sym, subst}
+use Rattle.std.proofs.Common.{refl, sym, subst, arith}
 use Rattle.fallible_iterator.specs.Traces.{item, failure, end}
 use Rattle.fallible_iterator.specs.Contract.{Contract, KeptByDraw, Lawful}
 use Rattle.fallible_iterator.specs.Closures.{Calls, IsCallable, call_at, takes_at}
@@ -11,7 +11,8 @@ use Rattle.fallible_iterator.specs.Laws.Closures.{is_callable_after}
 use Rattle.fallible_iterator.specs.Laws.Passing.{lawful_passing, pass_trace_item, pass_trace_refusal, pass_trace_end, pass_trace_failure}
 use Rattle.fallible_iterator.specs.Laws.Closing.{lawful_closing}
 use Rattle.fallible_iterator.specs.Cutting.TakeWhile.{is_refused, place_drawn}
-use Rattle.fallible_itertools.specs.TakeWhileInclusive.{inclusive_answer, inclusive_contract, inclusive_outcome, hint_of_first}
+use Rattle.fallible_itertools.specs.Staging.{IsStage, StopPasses, Weighs, ends_come, stage_meets}
+use Rattle.fallible_itertools.specs.TakeWhileInclusive.{inclusive_answer, inclusive_contract, inclusive_made, inclusive_on_item, inclusive_outcome, hint_of_first}
 
 module _ {S F X E : Type 0} (m : Contract S X E) (l : Lawful m) (g : Mut F (Bor X × Unit {0}) (Result Bool E)) where
   abbrev hint_is : S × F → ℕ × Option ℕ → Type 0
@@ -35,3 +36,15 @@ module _ {S F X E : Type 0} (m : Contract S X E) (l : Lawful m) (g : Mut F (Bor 
 
 pub lawful_inclusive : {S F X E : Type 0} {m : Contract S X E} (g : Mut F (Bor X × Unit {0}) (Result Bool E)) → Lawful m → Lawful (inclusive_contract m g)
 lawful_inclusive {m = m} g l = lawful_closing (place_drawn m.steps (call_at g)) inclusive_answer is_refused (kept_by_draw_taken m l g) (lawful_taking m l g)
+
+-- ---- what each answer of the source makes
+
+weighs_made : {X E : Type 0} (x : X) (v : Result Bool E) → Weighs ends_come {X = X} {D = E} 1 0 (Ok (Some x)) (inclusive_made x v) 0
+weighs_made x (Ok true) = (omega arith, omega arith, λ s. absurd s)
+weighs_made x (Ok false) = (omega arith, omega arith, λ s. absurd s)
+weighs_made x (Err e) = (omega arith, omega arith, λ s. absurd s)
+
+pub is_stage_inclusive : {F X E : Type 0} (call : F → X → Result Bool E → F → Type 0) → IsStage ends_come (stage_meets (inclusive_on_item call) StopPasses) 1 (λ _. 0)
+is_stage_inclusive call f (Ok (Some x)) made h w = rw w.2 (weighs_made x w.0)
+is_stage_inclusive call f (Ok None) made h w = rw w.0 (omega arith, omega arith, λ s. tt)
+is_stage_inclusive call f (Err e) made h w = rw w.0 (omega arith, omega arith, λ s. tt)

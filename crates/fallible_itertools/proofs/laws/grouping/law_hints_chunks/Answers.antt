@@ -12,4 +12,4 @@ pub returns-clause-due : goal.returns-clause-due
 returns-clause-due g c s stop is = sound_hints_chunks g.I.FallibleIterator.contract g.I.Error.From.from_gives s stop is
 
 pub returns-clause-failure_due : goal.returns-clause-failure_due
-returns-clause-failure_due g c s e is = hints_past_due chunks_parts g.I.FallibleIterator.contract.steps (chunks_asks g.I.Error.From.from_gives) (chunks_hints g.I.FallibleIterator.contract) (λ it f e h w. w) s s.it s.batch e (ap (λ d. (s.it, (s.batch, d))) is)
+returns-clause-failure_due g c s e is = hints_past_due chunks_parts g.I.FallibleIterator.contract.steps (chunks_asks g.I.Error.From.from_gives) (chunks_hints g.I.FallibleIterator.contract) (λ it f e h w. w) s s.it s.stage.0 e (ap (λ d. (s.it, (s.stage.0, d))) is)

@@ -6,4 +6,4 @@ use Rattle.fallible_itertools.proofs.Lemmas.HoldingTraces.{holding_law}
 use Rattle.fallible_itertools.proofs.laws.holding.law_dedup_by.Goals as goal
 
 pub returns : goal.returns
-returns g c = traces_are_of_parts dedup_by_parts (λ p. record { it = p.0; comparing = p.1.0; due = p.1.1 }) (λ s. refl) (λ p. refl) _ _ (holding_law _ _)
+returns g c = traces_are_of_parts dedup_by_parts (λ p. record { it = p.0; stage = p.1 }) (λ s. refl) (λ p. refl) _ _ (holding_law _ _)

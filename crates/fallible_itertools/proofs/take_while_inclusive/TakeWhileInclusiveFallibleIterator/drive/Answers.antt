@@ -1,14 +1,15 @@
--- The source's fold, which stops after a rejected item; once an item was rejected, an end without a draw.
-use Rattle.std.proofs.Common.{refl}
+-- The fold of a stage.
+use Rattle.fallible_iterator.specs.Traces.{item}
+use Rattle.fallible_iterator.specs.Closures.{call_at}
 use Rattle.fallible_iterator.proofs.Lemmas.Folding.{holds_at_each_turn_into, drained_into}
-use Rattle.fallible_itertools.proofs.Lemmas.TakeWhileInclusiveFolds.{of_parts, drained_refused, holds_each_turn_inclusive_takes}
+use Rattle.fallible_itertools.proofs.Lemmas.TakeWhileInclusive.{step_of_inclusive, takes_inclusive}
 use Rattle.fallible_itertools.proofs.take_while_inclusive.TakeWhileInclusiveFallibleIterator.drive.Goals as goal
 
-pub returns-then-self : goal.returns-then-self
-returns-then-self g c = drained_refused g.I.FallibleIterator.contract g.P.FnMut c.args.self.now c.if-self.true (record { carried = _; went = refl; exit = (refl, refl) })
+pub drive_stage-requires-clause-takes : goal.drive_stage-requires-clause-takes
+drive_stage-requires-clause-takes g c = takes_inclusive g.I.FallibleIterator.contract g.P.FnMut _ _ c.requires.can_next.1
 
-pub drive_taking-requires-clause-callable : goal.drive_taking-requires-clause-callable
-drive_taking-requires-clause-callable g c = holds_each_turn_inclusive_takes g.I.FallibleIterator.contract g.P.FnMut (g.K.Turn.turns c.args.turn.now) g.met.I.FallibleIterator.lawful c.requires.can_next.0 c.requires.can_next.1 c.if-self.false (holds_at_each_turn_into of_parts (λ p x q step. step) c.requires.callable)
+pub drive_stage-requires-clause-callable : goal.drive_stage-requires-clause-callable
+drive_stage-requires-clause-callable g c = holds_at_each_turn_into (λ p. record { it = p.0; stage = p.1 }) (λ p x q step. step_of_inclusive g.I.FallibleIterator.contract.steps (call_at g.P.FnMut) p (item x) q step) c.requires.callable
 
 pub returns : goal.returns
-returns g c = drained_into of_parts (λ p r q step. step) c.drive_taking.ensures
+returns g c = drained_into (λ p. record { it = p.0; stage = p.1 }) (step_of_inclusive g.I.FallibleIterator.contract.steps (call_at g.P.FnMut)) c.drive_stage.ensures

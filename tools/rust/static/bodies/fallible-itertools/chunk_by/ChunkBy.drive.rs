@@ -1,17 +1,10 @@
 // changed: no allocator is passed
-// proved: a93c22f9
+// proved: f8ccbeae
 fn drive<C, R, T: Turn<C, (K, Vec<I::Item>), R>>(
     &mut self,
     state: &mut C,
     turn: &T,
 ) -> Result<Option<R>, I::Error> {
     let adapter = ChunkByHold;
-    drive_holding(
-        &mut self.it,
-        &mut self.group,
-        &mut self.due,
-        &adapter,
-        state,
-        turn,
-    )
+    drive_holding(&mut self.it, &mut self.stage, &adapter, state, turn)
 }

@@ -1,17 +1,10 @@
 // changed: no allocator is passed
-// proved: a486a890
+// proved: 80cce2f2
 fn drive<C, R, K: Turn<C, Vec<I::Item>, R>>(
     &mut self,
     state: &mut C,
     turn: &K,
 ) -> Result<Option<R>, I::Error> {
     let adapter = ChunksHold;
-    drive_holding(
-        &mut self.it,
-        &mut self.batch,
-        &mut self.due,
-        &adapter,
-        state,
-        turn,
-    )
+    drive_holding(&mut self.it, &mut self.stage, &adapter, state, turn)
 }

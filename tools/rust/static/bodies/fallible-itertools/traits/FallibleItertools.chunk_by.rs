@@ -1,5 +1,5 @@
 // changed: no allocator is passed
-// proved: 9f598b9c
+// proved: 46c2ba9f
 fn chunk_by<K, F>(self, key: F) -> ChunkBy<Self, K, F>
 where
     K: PartialEq,
@@ -7,7 +7,6 @@ where
 {
     ChunkBy {
         it: self,
-        group: (key, None),
-        due: None,
+        stage: ((key, None), None),
     }
 }

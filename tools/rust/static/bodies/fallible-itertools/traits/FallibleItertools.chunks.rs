@@ -1,10 +1,9 @@
 // changed: no allocator is passed
-// proved: 2125b002
+// proved: b4d9886d
 fn chunks(self, n: usize) -> Chunks<Self>
 {
     Chunks {
         it: self,
-        batch: (n, None),
-        due: None,
+        stage: ((n, None), None),
     }
 }

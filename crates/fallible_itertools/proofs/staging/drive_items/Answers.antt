@@ -1,0 +1,13 @@
+-- The references come back.
+use Rattle.std.proofs.Common.{rules}
+use Rattle.fallible_iterator.specs.Folds.{beside_names}
+use Rattle.fallible_iterator.proofs.Lemmas.Folds.{callable_driving_through}
+use Rattle.fallible_itertools.specs.Staging.{StageTurns, beside_stage}
+use Rattle.fallible_itertools.proofs.Lemmas.Staging.{driven_beside}
+use Rattle.fallible_itertools.proofs.staging.drive_items.Goals as goal
+
+pub drive-answer-requires-clause-callable : goal.drive-answer-requires-clause-callable
+drive-answer-requires-clause-callable g c = callable_driving_through (beside_stage (g.L.Place.seen c.args.place.now)) beside_names (StageTurns (g.L.Place.comes c.args.place.now) (g.L.Place.meets c.args.place.now) (g.K.Turn.turns c.args.turn.now)) c.requires.callable
+
+pub returns : goal.returns
+returns g c = driven_beside (g.L.Place.seen c.args.place.now) _ _ c.drive-answer.ensures (λ same. search rules) (λ same. search rules)
