@@ -46,6 +46,7 @@ ghost use Rattle.fallible_itertools.specs.FindOrLast.{FoundOrLast, found_or_last
 ghost use Rattle.fallible_itertools.specs.IsSorted.{ItselfCall, OrderCall, in_order, in_order_by_key};
 ghost use Rattle.fallible_itertools.specs.FoldWhile.{WhileCall, FoldWhileDrains, folded_while, rest_while};
 ghost use Rattle.fallible_itertools.specs.Sorted.{CollectsSorted, HasItems, IsSortedByCalls, IsSortedByKeyOf, IsSortedOf};
+ghost use Rattle.fallible_itertools.specs.StopAfter.{stop_after_contract, stop_after_items, stop_after_parts, stopped_after};
 ghost use Rattle.fallible_itertools.specs.TakeWhileInclusive as inclusive;
 ghost use Rattle.fallible_itertools.specs.CheckedSum.{TotalDrains, totalled};
 ghost use Rattle.fallible_itertools.specs.TupleWindows.{tuple_windows_contract, tuple_windows_parts, windowed};
@@ -83,6 +84,7 @@ use crate::or_else::OrElse;
 use crate::partition_map::Either;
 use crate::sides::Holding;
 use crate::sorted::{sorted_items, sorted_items_by_key};
+use crate::stop_after::StopAfter;
 use crate::take_while_inclusive::TakeWhileInclusive;
 use crate::tuple_windows::TupleWindows;
 use crate::unique::Unique;
@@ -811,6 +813,40 @@ pub trait FallibleItertools: FallibleIterator {
             (or_else_contract Self.contract F.FnMut)).steps result (recovered h l)) }
     {
         OrElse { it: self, f }
+    }
+
+    /// Yields what the source yields up to its n-th failure, and that one too. Then it is exhausted.
+    ///
+    /// Creating it draws nothing. Up to the n-th failure `next` draws once. It fails as the source does. Items and `Ok(None)` of the source pass, and don't count. After the n-th failure it draws nothing, and each call returns `Ok(None)`. With n = 0 it never draws.
+    ///
+    /// What it yields has a bound, items and failures together, as `or_else` requires: `rows.take(1000).stop_after(100).or_else(..)`.
+    ///
+    /// Requires: the source is finite. `next` requires that it may be called on the source.
+    ///
+    /// ```
+    /// let readings = [Ok::<u32, u8>(150), Err(1), Ok(7), Err(2), Ok(700)];
+    /// let mut it = convert(readings.into_iter()).stop_after(2);
+    /// let drawn = [it.next(), it.next(), it.next(), it.next(), it.next()];
+    /// assert_eq!(rt;
+    ///     drawn,
+    ///     [Ok(Some(150)), Err(1), Ok(Some(7)), Err(2), Ok(None)]
+    /// );
+    /// ```
+    final fn stop_after(self, n: usize) -> StopAfter<Self>
+    where
+        requires finite { Self.contract.is_finite self }
+        ensures parts { stop_after_parts result ≡ (self, (n, stop_after_items result)) }
+        ensures bound { AtMost Self.contract self (stop_after_items result) }
+        ensures lists { OverList Self.contract.steps self
+            (λ l. list.Lists (seen_as stop_after_parts
+            (stop_after_contract Self.contract)).steps result (stopped_after n l)) }
+    {
+        let items = self.number();
+        StopAfter {
+            it: self,
+            to_fail: n,
+            items,
+        }
     }
 
     // ---- adapters that join
