@@ -785,7 +785,7 @@ pub trait FallibleItertools: FallibleIterator {
 
     /// Replaces each failure by what the closure returns for it: an item, nothing or another failure.
     ///
-    /// Creating it draws nothing. `next` draws up to an item, an `Ok(None)`, or a failure for which the closure returns an item or fails. It calls the closure once on each failure. It fails with the closure's failures alone. After a failure and after `Ok(None)` the next call draws again. It is double-ended if the source is. In Rust `or_else(|_| Ok(None))` over a source that fails for ever never returns from `next`.
+    /// Creating it draws nothing. `next` draws up to an item, an `Ok(None)`, or a failure for which the closure returns an item or fails. It calls the closure once on each failure. It fails with the closure's failures alone. After a failure and after `Ok(None)` the next call draws again. It is double-ended if the source is. In Rust `or_else(|_| Ok(None))` over a source that fails for ever never returns from `next`. `take(n).stop_after(m)` before it bounds items and failures together, also over a reader.
     ///
     /// Requires that the closure may be called on each failure that may come. `next` requires that it may be called on the source, that the source is finite, and that its items and failures together have a bound, since one call may leave many failures out. `take(n)` before it bounds the items alone. `convert(rows.iterator().take(n))` takes n answers of `rows`, items and failures together.
     ///
