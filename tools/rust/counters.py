@@ -1,5 +1,5 @@
-"""Counters: a `Number` is what a loop counts down by in its proof. It has no bytes, so what makes one, hands it on or counts it down
-does nothing, and is cut. In an arm that only counts down `{}` stays."""
+"""Counters: a `Number` is what a loop counts down by in its proof. It has no bytes, so what makes one, keeps it, hands it on or counts it
+down does nothing, and is cut. In an arm that only counts down `{}` stays."""
 import re
 
 import overrides
@@ -15,21 +15,27 @@ RULES = [
 LESS = r"\b(\w+)\s*=\s*\1\s*\.\s*one_less\s*\(\s*\)"
 MADE = r"\blet\s+(?:mut\s+)?(\w+)\s*=\s*(?:\w+|\(\s*\*\s*\w+\s*\))\s*\.\s*number\s*\(\s*\)\s*;\s*"
 TYPED = r"\b(\w+)\s*:\s*Number\s*,\s*"
+# A field of a type, with the comment above it, and its counting down.
+FIELD = r"(?:\n *//[^\n]*)*\n *(?:pub(?:\(crate\))? )?\w+: Number,(?=\n)"
+IMPORTED = r", Number(?=\};\n)"
+OWN_LESS = r"\bself\s*\.\s*(\w+)\s*=\s*self\s*\.\s*\1\s*\.\s*one_less\s*\(\s*\)\s*;\s*"
 # What is cut of each name, in turn.
 CUT = [
     (TYPED, ""),
     (r",\s*Number(?=\s*[,)])", ""),
     (MADE, ""),
     (r"\blet\s+(?:mut\s+)?(NAMES)\s*=\s*(?:NAMES)\s*;\s*", ""),
+    (OWN_LESS, ""),
     (r"(?<==>)\s*" + LESS + r"(?=\s*,)", " {}"),
     (LESS + r"\s*;\s*", ""),
     (r",\s*(?:mut\s+)?(?:NAMES)(?=\s*[,)])", ""),
+    (r",\s*(?:NAMES)(?=\s*\})", ""),
 ]
 
 
 def cut(text, start, end):
     """Cuts the numbers out of a function, which stands between the two."""
-    names = {m.group(1) for pattern in (LESS, MADE, TYPED) for m in re.finditer(pattern, text.s[start:end])}
+    names = {m.group(1) for pattern in (LESS, OWN_LESS, MADE, TYPED) for m in re.finditer(pattern, text.s[start:end])}
     for pattern, new in CUT if names else []:
         for m in reversed(list(re.compile(pattern.replace("NAMES", "|".join(sorted(names)))).finditer(text.s, start, end))):
             text.replace(m.start(), m.end(), new)
@@ -49,6 +55,8 @@ def without(place, head, body):
 
 def of_file(text):
     """Cuts the numbers out of a file."""
+    for pattern in (FIELD, IMPORTED):
+        text.cut_all(pattern, flags=0)
     for f in reversed(functions(text.s)):
         if f.open is not None:
             cut(text, f.start, f.end)

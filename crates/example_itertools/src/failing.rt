@@ -1,10 +1,11 @@
 //! Callers of the adapters that act on failures.
-ghost use Rattle.std.specs.Prelude.{◌≡◌, ◌-◌, ◌^◌, List, None, Ok, Result, Some};
+ghost use Rattle.std.specs.Prelude.{◌≡◌, ℕ, ◌+◌, ◌-◌, ◌%◌, ◌^◌, List, None, Ok, Result, Some};
 ghost use Rattle.std.specs.Iterator.{UpTo};
 ghost use Rattle.fallible_iterator.specs.Closures.{IsCallable, call_at, takes_at};
 ghost use Rattle.fallible_iterator.specs.Contract.{AtMost};
-ghost use Rattle.fallible_iterator.specs.Lists.{Lists, counted, folded, mapped, results};
+ghost use Rattle.fallible_iterator.specs.Lists.{Lists, counted, folded, mapped, results, taken};
 ghost use Rattle.fallible_itertools.specs.OrElse.{recovered};
+ghost use Rattle.fallible_itertools.specs.StopAfter.{stopped_after};
 ghost use Rattle.example_itertools.specs.Rows.{with_row};
 
 use fallible_iterator::{FallibleIterator, convert};
@@ -51,6 +52,36 @@ where
         → result ≡ counted (recovered (λ _. Ok None) l) }
 {
     it.or_else(|_: I::Error| Ok(None)).count()
+}
+
+/// The sum of the good rows, modulo 2 ^ 64. It stops at the hundredth bad one.
+pub fn sum_up_to_bad<I: FallibleIterator<Item = u32>>(rows: I) -> Result<u64, u8>
+where
+    I::Error: Drop,
+    requires can_next { I.contract.can_next rows }
+    requires finite { I.contract.is_finite rows }
+    ensures { (l : List (Result ℕ I.Error)) → Lists I.contract.steps rows l
+        → result ≡ folded (λ e. e) (λ s x. Ok ((s + x) % 2 ^ 64)) 0
+        (recovered (λ _. Ok None) (stopped_after 100 l)) }
+{
+    rows.stop_after(100)
+        .or_else(|_: I::Error| Ok(None))
+        .fold(0, |sum: u64, row: u32| Ok(sum.wrapping_add(u64::from(row))))
+}
+
+/// The sum of the good ones among the first thousand rows, modulo 2 ^ 64. It stops at the hundredth bad one. The rows may come of a reader, which has no bound.
+pub fn sum_of_thousand<I: FallibleIterator<Item = u32>>(rows: I) -> Result<u64, u8>
+where
+    I::Error: Drop,
+    requires can_next { I.contract.can_next rows }
+    ensures { (l : List (Result ℕ I.Error)) → Lists I.contract.steps rows l
+        → result ≡ folded (λ e. e) (λ s x. Ok ((s + x) % 2 ^ 64)) 0
+        (recovered (λ _. Ok None) (stopped_after 100 (taken 1000 l))) }
+{
+    rows.take(1000)
+        .stop_after(100)
+        .or_else(|_: I::Error| Ok(None))
+        .fold(0, |sum: u64, row: u32| Ok(sum.wrapping_add(u64::from(row))))
 }
 
 /// How many rows there are, or the first failure, which `noted` holds then.

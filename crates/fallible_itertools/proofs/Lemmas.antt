@@ -41,6 +41,7 @@ pub mod PeekingTakeWhile
 pub mod Sides
 pub mod Sorted
 pub mod Staging
+pub mod StopAfter
 pub mod TakeWhileInclusive
 pub mod TupleWindows
 pub mod Unique

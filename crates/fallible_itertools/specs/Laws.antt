@@ -17,6 +17,7 @@ pub mod Parting
 pub mod PeekingTakeWhile
 pub mod Sides
 pub mod Staging
+pub mod StopAfter
 pub mod TakeWhileInclusive
 pub mod TupleWindows
 pub mod Unique

@@ -9,6 +9,7 @@ mod lengths;
 mod merge;
 mod merge_by;
 mod peeking_take_while;
+mod stop_after;
 mod take_while_inclusive;
 mod unique;
 mod zip_longest;
@@ -40,6 +41,7 @@ pub use merge_by::{law_hints_merge_by, law_merge_by, law_merged};
 pub use peeking_take_while::{
     law_hints_peeking_take_while, law_peeking_take_while, law_rest_peeking_take_while,
 };
+pub use stop_after::{law_hints_stop_after, law_stop_after};
 pub use take_while_inclusive::{law_hints_take_while_inclusive, law_take_while_inclusive};
 pub use unique::{law_hints_unique, law_unique, law_unique_of};
 pub use zip_longest::{law_hints_zip_longest, law_zip_longest};

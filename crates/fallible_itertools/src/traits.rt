@@ -46,6 +46,7 @@ ghost use Rattle.fallible_itertools.specs.FindOrLast.{FoundOrLast, found_or_last
 ghost use Rattle.fallible_itertools.specs.IsSorted.{ItselfCall, OrderCall, in_order, in_order_by_key};
 ghost use Rattle.fallible_itertools.specs.FoldWhile.{WhileCall, FoldWhileDrains, folded_while, rest_while};
 ghost use Rattle.fallible_itertools.specs.Sorted.{CollectsSorted, HasItems, IsSortedByCalls, IsSortedByKeyOf, IsSortedOf};
+ghost use Rattle.fallible_itertools.specs.StopAfter.{stop_after_contract, stop_after_items, stop_after_parts, stopped_after};
 ghost use Rattle.fallible_itertools.specs.TakeWhileInclusive as inclusive;
 ghost use Rattle.fallible_itertools.specs.CheckedSum.{TotalDrains, totalled};
 ghost use Rattle.fallible_itertools.specs.TupleWindows.{tuple_windows_contract, tuple_windows_parts, windowed};
@@ -83,6 +84,7 @@ use crate::or_else::OrElse;
 use crate::partition_map::Either;
 use crate::sides::Holding;
 use crate::sorted::{sorted_items, sorted_items_by_key};
+use crate::stop_after::StopAfter;
 use crate::take_while_inclusive::TakeWhileInclusive;
 use crate::tuple_windows::TupleWindows;
 use crate::unique::Unique;
@@ -808,7 +810,7 @@ pub trait FallibleItertools: FallibleIterator {
 
     /// Replaces each failure by what the closure returns for it: an item, nothing or another failure.
     ///
-    /// Creating it draws nothing. `next` draws up to an item, an `Ok(None)`, or a failure for which the closure returns an item or fails. It calls the closure once on each failure. It fails with the closure's failures alone. After a failure and after `Ok(None)` the next call draws again. It is double-ended if the source is. In Rust `or_else(|_| Ok(None))` over a source that fails for ever never returns from `next`.
+    /// Creating it draws nothing. `next` draws up to an item, an `Ok(None)`, or a failure for which the closure returns an item or fails. It calls the closure once on each failure. It fails with the closure's failures alone. After a failure and after `Ok(None)` the next call draws again. It is double-ended if the source is. In Rust `or_else(|_| Ok(None))` over a source that fails for ever never returns from `next`. `take(n).stop_after(m)` before it bounds items and failures together, also over a reader.
     ///
     /// Requires: the closure may be called on each failure that may come. `next` requires that it may be called on the source, that the source is finite, and that its items and failures together have a bound, since one call may leave many failures out. `take(n)` before it bounds the items alone. `convert(rows.iterator().take(n))` takes n answers of `rows`, items and failures together.
     ///
@@ -836,6 +838,42 @@ pub trait FallibleItertools: FallibleIterator {
             (or_else_contract Self.contract F.FnMut)).steps result (recovered h l)) }
     {
         OrElse { it: self, f }
+    }
+
+    /// Yields what the source yields up to its n-th failure, and that one too. Then it is exhausted.
+    ///
+    /// Creating it draws nothing. Up to the n-th failure `next` draws once. It fails as the source does. Items and `Ok(None)` of the source pass, and don't count. After the n-th failure it draws nothing, and each call returns `Ok(None)`. With n = 0 it never draws.
+    ///
+    /// Precondition: the source is finite.
+    ///
+    /// Requires: `next` requires that it may be called on the source.
+    ///
+    /// Proof: what it yields has a bound, items and failures together, as `or_else` requires: `rows.take(1000).stop_after(100).or_else(..)`.
+    ///
+    /// ```
+    /// let readings = [Ok::<u32, u8>(150), Err(1), Ok(7), Err(2), Ok(700)];
+    /// let mut it = convert(readings.into_iter()).stop_after(2);
+    /// let drawn = [it.next(), it.next(), it.next(), it.next(), it.next()];
+    /// assert_eq!(rt;
+    ///     drawn,
+    ///     [Ok(Some(150)), Err(1), Ok(Some(7)), Err(2), Ok(None)]
+    /// );
+    /// ```
+    final fn stop_after(self, n: usize) -> StopAfter<Self>
+    where
+        requires finite { Self.contract.is_finite self }
+        ensures parts { stop_after_parts result ≡ (self, (n, stop_after_items result)) }
+        ensures bound { AtMost Self.contract self (stop_after_items result) }
+        ensures lists { OverList Self.contract.steps self
+            (λ l. list.Lists (seen_as stop_after_parts
+            (stop_after_contract Self.contract)).steps result (stopped_after n l)) }
+    {
+        let items = self.number();
+        StopAfter {
+            it: self,
+            to_fail: n,
+            items,
+        }
     }
 
     // ---- adapters that join

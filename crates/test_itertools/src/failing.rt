@@ -1,5 +1,5 @@
 // The adapters that act on failures. The source goes on after a failure and after an end.
-use crate::rows::{Drawn, END, expect_same, folded_after};
+use crate::rows::{Drawn, END, expect_same, folded_after, script};
 use fallible_iterator::Answer::{End, Failure, Item};
 use fallible_iterator::Side::{Back, Front};
 use fallible_iterator::{Answer, FallibleIterator, Side};
@@ -71,6 +71,70 @@ fn or_else_puts_items_failures_and_nothing_in_the_place_of_failures(
     let mut it = numbers(&BOTH_ENDS).or_else(recover);
     expect_numbers_at(&rt, &mut it, &SIDES, &RECOVERED_AT)?;
     expect_hinted_numbers(&rt, &mut numbers(&BOTH_ENDS).or_else(recover), &HINTED)
+}
+
+// Three failures, and an end before the third.
+const THREE_FAILURES: [Drawn; 7] = [
+    Ok(Some(3)),
+    Err(8),
+    END,
+    Err(3),
+    Ok(Some(1)),
+    Err(7),
+    Ok(Some(2)),
+];
+
+// How many failures are let through, what is drawn, and then the fold of what is left, and a draw of the source.
+type Stopped = (
+    usize,
+    &'static [Answer<u32, u32>],
+    (Result<u32, u32>, Drawn),
+);
+
+const STOPPED: [Stopped; 5] = [
+    (0, &[End, End], (Ok(0), Ok(Some(3)))),
+    (
+        2,
+        &[Item(3), Failure(8), End, Failure(3), End, End],
+        (Ok(0), Ok(Some(1))),
+    ),
+    (1, &[], (Err(8), END)),
+    (2, &[Item(3), Failure(8), End], (Err(3), Ok(Some(1)))),
+    (
+        4,
+        &[Item(3), Failure(8), End, Failure(3), Item(1), Failure(7)],
+        (Ok(2), END),
+    ),
+];
+
+const HINTED_STOPPED: [(Hint, &[Answer<u32, u32>]); 3] = [
+    ((6, Some(6)), &[Failure(8)]),
+    ((5, Some(5)), &[Item(1), Failure(3)]),
+    ((0, Some(0)), &[End]),
+];
+
+#[test]
+fn stop_after_ends_after_the_nth_failure(rt: HostRuntime) -> Result<(), Fail> {
+    for (allowed, drawn, expected) in &STOPPED {
+        let mut source = script(&rt, &THREE_FAILURES)?;
+        let mut it = (&mut source).stop_after(*allowed);
+        let folded = folded_after(&rt, &mut it, drawn)?;
+        expect_same(&(folded, source.next()), expected)?;
+    }
+    expect_hinted_numbers(&rt, &mut numbers(&BOTH_ENDS).stop_after(2), &HINTED_STOPPED)
+}
+
+// What is skipped has a bound, however many failures the source has.
+#[test]
+fn stop_after_bounds_what_or_else_skips(rt: HostRuntime) -> Result<(), Fail> {
+    let mut source = script(&rt, &THREE_FAILURES)?;
+    let mut it = (&mut source)
+        .take(1000)
+        .stop_after(2)
+        .or_else(|_: u32| Ok::<Option<u32>, u32>(None));
+    let drawn = [it.next(), it.next(), it.next(), it.next()];
+    assert_eq!(rt; drawn, [Ok(Some(3)), END, END, END]);
+    Ok(())
 }
 
 // One more failure that was shown, after the digits of those before.

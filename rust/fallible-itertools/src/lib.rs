@@ -85,6 +85,8 @@ mod sorted;
 #[doc(hidden)]
 pub mod staging;
 #[doc(hidden)]
+pub mod stop_after;
+#[doc(hidden)]
 pub mod take_while_inclusive;
 #[doc(hidden)]
 pub mod traits;
@@ -122,6 +124,7 @@ pub use minmax::MinMaxResult;
 pub use or_else::OrElse;
 pub use partition_map::Either;
 pub use peeking_take_while::{PeekingNext, PeekingTakeWhile};
+pub use stop_after::StopAfter;
 pub use take_while_inclusive::TakeWhileInclusive;
 pub use traits::FallibleItertools;
 pub use tuple_windows::TupleWindows;

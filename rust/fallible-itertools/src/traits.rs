@@ -34,6 +34,7 @@ use crate::partition_map::Either;
 use crate::sides::Holding;
 #[cfg(feature = "alloc")]
 use crate::sorted::{sorted_items, sorted_items_by_key};
+use crate::stop_after::StopAfter;
 use crate::take_while_inclusive::TakeWhileInclusive;
 use crate::tuple_windows::TupleWindows;
 #[cfg(feature = "std")]
@@ -922,7 +923,7 @@ pub trait FallibleItertools: FallibleIterator + Sized {
 
     /// Replaces each failure by what the closure returns for it: an item, nothing or another failure.
     ///
-    /// Creating it draws nothing. `next` draws up to an item, an `Ok(None)`, or a failure for which the closure returns an item or fails. It calls the closure once on each failure. It fails with the closure's failures alone. After a failure and after `Ok(None)` the next call draws again. It is double-ended if the source is. In Rust `or_else(|_| Ok(None))` over a source that fails for ever never returns from `next`.
+    /// Creating it draws nothing. `next` draws up to an item, an `Ok(None)`, or a failure for which the closure returns an item or fails. It calls the closure once on each failure. It fails with the closure's failures alone. After a failure and after `Ok(None)` the next call draws again. It is double-ended if the source is. In Rust `or_else(|_| Ok(None))` over a source that fails for ever never returns from `next`. `take(n).stop_after(m)` before it bounds items and failures together, also over a reader.
     ///
     /// ```
     /// # use fallible_iterator::{FallibleIterator, convert};
@@ -958,6 +959,44 @@ pub trait FallibleItertools: FallibleIterator + Sized {
         F: FnMut(Self::Error) -> Result<Option<Self::Item>, E>,
     {
         OrElse { it: self, f }
+    }
+
+    /// Yields what the source yields up to its n-th failure, and that one too. Then it is exhausted.
+    ///
+    /// Creating it draws nothing. Up to the n-th failure `next` draws once. It fails as the source does. Items and `Ok(None)` of the source pass, and don't count. After the n-th failure it draws nothing, and each call returns `Ok(None)`. With n = 0 it never draws.
+    ///
+    /// Precondition, which is not checked: the source is finite.
+    ///
+    /// ```
+    /// # use fallible_iterator::{FallibleIterator, convert};
+    /// # use fallible_itertools::FallibleItertools;
+    /// # use fallible_itertools::PeekingNext;
+    /// let readings = [Ok::<u32, u8>(150), Err(1), Ok(7), Err(2), Ok(700)];
+    /// let mut it = convert(readings.into_iter()).stop_after(2);
+    /// let drawn = [it.next(), it.next(), it.next(), it.next(), it.next()];
+    /// assert_eq!(drawn,
+    ///     [Ok(Some(150)), Err(1), Ok(Some(7)), Err(2), Ok(None)]
+    /// );
+    /// ```
+    ///
+    /// <details><summary>Contract</summary>
+    ///
+    /// As it is proved, in [these words](crate::words):
+    ///
+    /// ```text
+    /// requires finite { Self.contract.is_finite self }
+    /// ensures parts { stop_after_parts result ≡ (self, (n, stop_after_items result)) }
+    /// ensures bound { AtMost Self.contract self (stop_after_items result) }
+    /// ensures lists { OverList Self.contract.steps self
+    ///     (λ l. list.Lists (seen_as stop_after_parts
+    ///     (stop_after_contract Self.contract)).steps result (stopped_after n l)) }
+    /// ```
+    /// </details>
+    fn stop_after(self, n: usize) -> StopAfter<Self> {
+        StopAfter {
+            it: self,
+            to_fail: n,
+        }
     }
 
     // ---- adapters that join

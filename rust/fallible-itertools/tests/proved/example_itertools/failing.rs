@@ -35,6 +35,21 @@ pub fn count_good_of<I: FallibleIterator>(it: I) -> Result<usize, u8> {
     it.or_else(|_: I::Error| Ok(None)).count()
 }
 
+/// The sum of the good rows, modulo 2 ^ 64. It stops at the hundredth bad one.
+pub fn sum_up_to_bad<I: FallibleIterator<Item = u32>>(rows: I) -> Result<u64, u8> {
+    rows.stop_after(100)
+        .or_else(|_: I::Error| Ok(None))
+        .fold(0, |sum: u64, row: u32| Ok(sum.wrapping_add(u64::from(row))))
+}
+
+/// The sum of the good ones among the first thousand rows, modulo 2 ^ 64. It stops at the hundredth bad one. The rows may come of a reader, which has no bound.
+pub fn sum_of_thousand<I: FallibleIterator<Item = u32>>(rows: I) -> Result<u64, u8> {
+    rows.take(1000)
+        .stop_after(100)
+        .or_else(|_: I::Error| Ok(None))
+        .fold(0, |sum: u64, row: u32| Ok(sum.wrapping_add(u64::from(row))))
+}
+
 /// How many rows there are, or the first failure, which `noted` holds then.
 pub fn count_noting(rows: Vec<Result<u32, u8>>, noted: &mut Option<u8>) -> Result<usize, u8> {
     convert(rows.into_iter())
