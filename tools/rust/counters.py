@@ -17,7 +17,7 @@ MADE = r"\blet\s+(?:mut\s+)?(\w+)\s*=\s*(?:\w+|\(\s*\*\s*\w+\s*\))\s*\.\s*number
 TYPED = r"\b(\w+)\s*:\s*Number\s*,\s*"
 # A field of a type, with the comment above it, and its counting down.
 FIELD = r"(?:\n *//[^\n]*)*\n *(?:pub(?:\(crate\))? )?\w+: Number,(?=\n)"
-IMPORTED = r", Number(?=\};\n)"
+IMPORTED = r"^use fallible_iterator::\{[^}\n]*(, Number)\};"
 OWN_LESS = r"\bself\s*\.\s*(\w+)\s*=\s*self\s*\.\s*\1\s*\.\s*one_less\s*\(\s*\)\s*;\s*"
 # What is cut of each name, in turn.
 CUT = [
@@ -55,8 +55,8 @@ def without(place, head, body):
 
 def of_file(text):
     """Cuts the numbers out of a file."""
-    for pattern in (FIELD, IMPORTED):
-        text.cut_all(pattern, flags=0)
+    text.cut_all(FIELD)
+    text.cut_all(IMPORTED, 1)
     for f in reversed(functions(text.s)):
         if f.open is not None:
             cut(text, f.start, f.end)

@@ -5,7 +5,7 @@ use fallible_iterator::memory::AllocError;
 use crate::test_support::answered::expect_answers;
 use crate::test_support::course::{Hint, expect_course};
 use crate::test_support::scripted::Script;
-use crate::test_support::test_error::TestError::{self};
+use crate::test_support::test_error::TestError::{self, Number};
 use fallible_iterator::Answer::{End, Failure, Item};
 use fallible_iterator::{Answer, FallibleIterator, convert, repeat};
 use fallible_itertools::FallibleItertools;

@@ -6,7 +6,7 @@ use crate::test_support::course::Hint;
 use crate::test_support::expected_numbers::expect_hinted_numbers;
 use crate::test_support::numbers::numbers;
 use crate::test_support::scripted::Script;
-use crate::test_support::test_error::TestError::{self};
+use crate::test_support::test_error::TestError::{self, Number};
 use fallible_iterator::Answer::{End, Failure, Item};
 use fallible_iterator::{Answer, FallibleIterator};
 use fallible_itertools::{FallibleItertools, Position};
