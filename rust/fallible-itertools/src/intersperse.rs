@@ -50,7 +50,6 @@ impl<X: Clone, E> Stage<(X, bool), X, E> for SeparatorClone {
     type Later = X;
 
     #[inline(always)]
-    #[inline(always)]
     fn on_item(&self, p: &mut (X, bool), item: X) -> Made<X, X, E> {
         if p.1 {
             separated(Ok(p.0.clone()), item)
@@ -61,7 +60,7 @@ impl<X: Clone, E> Stage<(X, bool), X, E> for SeparatorClone {
     }
 
     #[inline(always)]
-    fn on_stop(&self, p: &mut (X, bool), stop: Option<E>) -> Made<X, X, E> {
+    fn on_stop(&self, _p: &mut (X, bool), stop: Option<E>) -> Made<X, X, E> {
         one(stopped(stop))
     }
 

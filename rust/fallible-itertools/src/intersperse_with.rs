@@ -60,7 +60,7 @@ impl<X, E, F: FnMut() -> Result<X, E>> Stage<(F, bool), X, E> for SeparatorCall 
     }
 
     #[inline(always)]
-    fn on_stop(&self, p: &mut (F, bool), stop: Option<E>) -> Made<X, X, E> {
+    fn on_stop(&self, _p: &mut (F, bool), stop: Option<E>) -> Made<X, X, E> {
         one(stopped(stop))
     }
 

@@ -63,7 +63,7 @@ impl<X, E, P: FnMut(&X) -> Result<bool, E>> Stage<P, X, E> for InclusiveStage {
     }
 
     #[inline(always)]
-    fn on_stop(&self, p: &mut P, stop: Option<E>) -> Made<X, (), E> {
+    fn on_stop(&self, _p: &mut P, stop: Option<E>) -> Made<X, (), E> {
         one(stopped(stop))
     }
 

@@ -1,6 +1,5 @@
 // changed: a clone is never refused
 // proved: 373b700d
-#[inline(always)]
 fn on_item(&self, p: &mut (X, bool), item: X) -> Made<X, X, E> {
     if p.1 {
         separated(Ok(p.0.clone()), item)
