@@ -95,8 +95,8 @@ impl<X: Clone + Drop, E: From<AllocError>> Stage<(X, bool), X, E> for SeparatorC
     }
 
     #[inline(always)]
-    fn on_stop(&self, p: &mut (X, bool), stop: Option<E>) -> Made<X, X, E>
-        ensures { StopPasses p.old stop result p.new }
+    fn on_stop(&self, _p: &mut (X, bool), stop: Option<E>) -> Made<X, X, E>
+        ensures { StopPasses _p.old stop result _p.new }
     {
         one(stopped(stop))
     }

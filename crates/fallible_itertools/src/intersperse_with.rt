@@ -89,8 +89,8 @@ impl<X, E, F: FnMut() -> Result<X, E>> Stage<(F, bool), X, E> for SeparatorCall 
     }
 
     #[inline(always)]
-    fn on_stop(&self, p: &mut (F, bool), stop: Option<E>) -> Made<X, X, E>
-        ensures { StopPasses p.old stop result p.new }
+    fn on_stop(&self, _p: &mut (F, bool), stop: Option<E>) -> Made<X, X, E>
+        ensures { StopPasses _p.old stop result _p.new }
     {
         one(stopped(stop))
     }

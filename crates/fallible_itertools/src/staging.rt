@@ -422,8 +422,7 @@ where
         (state.new, L.seen place.now q.new) }
 {
     let mut both = Beside { c: state, p: q };
-    let answer = it.drive(&mut both, &StageTurn { place, turn });
-    answer
+    it.drive(&mut both, &StageTurn { place, turn })
 }
 
 // What the fold returns at a stop of its source.

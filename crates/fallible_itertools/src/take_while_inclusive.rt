@@ -89,8 +89,8 @@ impl<X: Drop, E, P: FnMut(&X) -> Result<bool, E>> Stage<P, X, E> for InclusiveSt
     }
 
     #[inline(always)]
-    fn on_stop(&self, p: &mut P, stop: Option<E>) -> Made<X, (), E>
-        ensures { StopPasses p.old stop result p.new }
+    fn on_stop(&self, _p: &mut P, stop: Option<E>) -> Made<X, (), E>
+        ensures { StopPasses _p.old stop result _p.new }
     {
         one(stopped(stop))
     }

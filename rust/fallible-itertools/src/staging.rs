@@ -360,8 +360,7 @@ fn drive_items<
     turn: &K,
 ) -> Result<Option<Result<Option<R>, I::Error>>, I::Error> {
     let mut both = Beside { c: state, p: q };
-    let answer = it.drive(&mut both, &StageTurn { place, turn });
-    answer
+    it.drive(&mut both, &StageTurn { place, turn })
 }
 
 // What the fold returns at a stop of its source.

@@ -6,8 +6,8 @@ use Rattle.fallible_itertools.specs.Staging.{StageTurns, beside_stage}
 use Rattle.fallible_itertools.proofs.Lemmas.Staging.{driven_beside}
 use Rattle.fallible_itertools.proofs.staging.drive_items.Goals as goal
 
-pub drive-answer-requires-clause-callable : goal.drive-answer-requires-clause-callable
-drive-answer-requires-clause-callable g c = callable_driving_through (beside_stage (g.L.Place.seen c.args.place.now)) beside_names (StageTurns (g.L.Place.comes c.args.place.now) (g.L.Place.meets c.args.place.now) (g.K.Turn.turns c.args.turn.now)) c.requires.callable
+pub drive-requires-clause-callable : goal.drive-requires-clause-callable
+drive-requires-clause-callable g c = callable_driving_through (beside_stage (g.L.Place.seen c.args.place.now)) beside_names (StageTurns (g.L.Place.comes c.args.place.now) (g.L.Place.meets c.args.place.now) (g.K.Turn.turns c.args.turn.now)) c.requires.callable
 
 pub returns : goal.returns
-returns g c = driven_beside (g.L.Place.seen c.args.place.now) _ _ c.drive-answer.ensures (λ same. search rules) (λ same. search rules)
+returns g c = driven_beside (g.L.Place.seen c.args.place.now) _ _ c.drive.ensures (λ same. search rules) (λ same. search rules)
