@@ -7,8 +7,8 @@ HEAD = """#![doc = include_str!("../README.md")]
 #![forbid(unsafe_code)]
 #![warn(missing_docs)]
 // The bodies stay as they are proved.
-#![allow(clippy::let_and_return, clippy::manual_map, clippy::mem_replace_option_with_some)]
-#![allow(clippy::multiple_bound_locations, clippy::needless_match, clippy::question_mark, clippy::single_match)]
+#![allow(clippy::manual_map, clippy::mem_replace_option_with_some, clippy::multiple_bound_locations)]
+#![allow(clippy::needless_match, clippy::question_mark, clippy::single_match)]
 #![allow(clippy::type_complexity, clippy::wrong_self_convention)]
 
 #[cfg(feature = "alloc")]
@@ -75,8 +75,6 @@ ITERTOOLS = [
     (r"counts\.rs", r"^    fn empty\((?:.*\n)*?    \}\n\n", "", 1),
     (r"group_map\.rs", r"^    fn empty\((?:.*\n)*?    \}\n\n", "", 1),
     (r"partition_map\.rs", r"^    fn empty\((?:.*\n)*?    \}\n\n", "", 1),
-    # What a stage holds is named for its clauses alone, where a stop passes.
-    (EVERY, r"\bp(?=: &mut [^\n]*, stop: Option<E>\) -> [^\n]*\{\n *one\(stopped\(stop\)\)\n)", "_p", 3),
     # Imports.
     (r"sorted\.rs", r"^use fallible_iterator::Fault;", "use alloc::vec::Vec;", 1),
     (r"traits\.rs", r"^use fallible_iterator::\{Collect, FallibleIterator, Fault, Into", "use fallible_iterator::"

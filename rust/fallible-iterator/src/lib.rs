@@ -4,16 +4,11 @@
 #![warn(missing_docs)]
 // The bodies stay as they are proved.
 #![allow(
-    clippy::let_and_return,
     clippy::manual_map,
-    clippy::mem_replace_option_with_some
+    clippy::mem_replace_option_with_some,
+    clippy::multiple_bound_locations
 )]
-#![allow(
-    clippy::multiple_bound_locations,
-    clippy::needless_match,
-    clippy::question_mark,
-    clippy::single_match
-)]
+#![allow(clippy::needless_match, clippy::question_mark, clippy::single_match)]
 #![allow(clippy::type_complexity, clippy::wrong_self_convention)]
 
 #[cfg(feature = "alloc")]
