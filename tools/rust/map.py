@@ -75,6 +75,8 @@ ITERTOOLS = [
     (r"counts\.rs", r"^    fn empty\((?:.*\n)*?    \}\n\n", "", 1),
     (r"group_map\.rs", r"^    fn empty\((?:.*\n)*?    \}\n\n", "", 1),
     (r"partition_map\.rs", r"^    fn empty\((?:.*\n)*?    \}\n\n", "", 1),
+    # Without its number it can be cloned and shown.
+    (r"stop_after\.rs", r"^pub struct StopAfter<", r"#[derive(Clone, Debug)]\n\g<0>", 1),
     # Imports.
     (r"sorted\.rs", r"^use fallible_iterator::Fault;", "use alloc::vec::Vec;", 1),
     (r"traits\.rs", r"^use fallible_iterator::\{Collect, FallibleIterator, Fault, Into", "use fallible_iterator::"

@@ -3,6 +3,7 @@
 use fallible_iterator::FallibleIterator;
 
 /// What the source returns up to its n-th failure, and that one too. Then each call returns `Ok(None)`. Items and `Ok(None)` of the source pass, and don't count.
+#[derive(Clone, Debug)]
 #[must_use = "an iterator draws nothing until it is asked"]
 pub struct StopAfter<I> {
     pub(crate) it: I,
