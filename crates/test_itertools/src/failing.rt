@@ -6,7 +6,7 @@ use fallible_iterator::{Answer, FallibleIterator, Side};
 use fallible_itertools::FallibleItertools;
 use std::test::Fail;
 use test_support::course::Hint;
-use test_support::expected_numbers::{expect_hinted_numbers, expect_numbers_at};
+use test_support::expected_numbers::{expect_hinted_numbers, expect_numbers, expect_numbers_at};
 use test_support::numbers::numbers;
 
 // An item in the place of a failure, nothing in that of 8, and a failure of 70 in that of 7.
@@ -119,6 +119,7 @@ fn stop_after_ends_after_the_nth_failure(rt: HostRuntime) -> Result<(), Fail> {
         let mut source = script(&rt, &THREE_FAILURES)?;
         let mut it = (&mut source).stop_after(*allowed);
         let folded = folded_after(&rt, &mut it, drawn)?;
+        drop(it);
         expect_same(&(folded, source.next()), expected)?;
     }
     expect_hinted_numbers(&rt, &mut numbers(&BOTH_ENDS).stop_after(2), &HINTED_STOPPED)
@@ -132,9 +133,7 @@ fn stop_after_bounds_what_or_else_skips(rt: HostRuntime) -> Result<(), Fail> {
         .take(1000)
         .stop_after(2)
         .or_else(|_: u32| Ok::<Option<u32>, u32>(None));
-    let drawn = [it.next(), it.next(), it.next(), it.next()];
-    assert_eq!(rt; drawn, [Ok(Some(3)), END, END, END]);
-    Ok(())
+    expect_numbers(&rt, &mut it, &[Item(3), End, End, End])
 }
 
 // One more failure that was shown, after the digits of those before.

@@ -968,7 +968,7 @@ pub trait FallibleItertools: FallibleIterator + Sized {
 
     /// Yields what the source yields up to its n-th failure, and that one too. Then it is exhausted.
     ///
-    /// Creating it draws nothing. Up to the n-th failure `next` draws once. It fails as the source does. Items and `Ok(None)` of the source pass, and don't count. After the n-th failure it draws nothing, and each call returns `Ok(None)`. With n = 0 it never draws.
+    /// Creating it draws nothing. Up to the n-th failure `next` draws once. It fails as the source does. Items and `Ok(None)` of the source pass, and don't count. After the n-th failure it draws nothing, and each call returns `Ok(None)`. With n = 0 it never draws, and with n = 1 it ends after the first failure.
     ///
     /// What it yields has a bound, items and failures together, as `or_else` requires: `rows.take(1000).stop_after(100).or_else(..)`.
     ///

@@ -3,7 +3,9 @@ use fallible_iterator::memory::AllocError;
 // The adapters that act on failures. The source goes on after a failure and after an end.
 use crate::test_itertools::rows::{Drawn, END, expect_same, folded_after, script};
 use crate::test_support::course::Hint;
-use crate::test_support::expected_numbers::{expect_hinted_numbers, expect_numbers_at};
+use crate::test_support::expected_numbers::{
+    expect_hinted_numbers, expect_numbers, expect_numbers_at,
+};
 use crate::test_support::numbers::numbers;
 use fallible_iterator::Answer::{End, Failure, Item};
 use fallible_iterator::Side::{Back, Front};
@@ -122,6 +124,7 @@ fn stop_after_ends_after_the_nth_failure() {
             let mut source = script(&THREE_FAILURES)?;
             let mut it = (&mut source).stop_after(*allowed);
             let folded = folded_after(&mut it, drawn)?;
+            drop(it);
             expect_same(&(folded, source.next()), expected)?;
         }
         expect_hinted_numbers(&mut numbers(&BOTH_ENDS).stop_after(2), &HINTED_STOPPED)
@@ -138,9 +141,7 @@ fn stop_after_bounds_what_or_else_skips() {
             .take(1000)
             .stop_after(2)
             .or_else(|_: u32| Ok::<Option<u32>, u32>(None));
-        let drawn = [it.next(), it.next(), it.next(), it.next()];
-        assert_eq!(drawn, [Ok(Some(3)), END, END, END]);
-        Ok(())
+        expect_numbers(&mut it, &[Item(3), End, End, End])
     }
     let _ = tested();
 }
