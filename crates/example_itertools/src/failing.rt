@@ -64,9 +64,10 @@ where
         → result ≡ folded (λ e. e) (λ s x. Ok ((s + x) % 2 ^ 64)) 0
         (recovered (λ _. Ok None) (stopped_after 100 l)) }
 {
-    rows.stop_after(100)
-        .or_else(|_: I::Error| Ok(None))
-        .fold(0, |sum: u64, row: u32| Ok(sum.wrapping_add(u64::from(row))))
+    rows.stop_after(100).or_else(|_: I::Error| Ok(None)).fold(
+        0,
+        |sum: u64, row: u32| Ok(sum.wrapping_add(u64::from(row))),
+    )
 }
 
 /// The sum of the good ones among the first thousand rows, modulo 2 ^ 64. It stops at the hundredth bad one. The rows may come of a reader, which has no bound.
