@@ -21,9 +21,9 @@ abbrev pub made_before : {B L E : Type 0} → Answered B E → L → Made B L E
 made_before a later = Some (a, Some later)
 
 -- A stop is an end, `None`, or a failure, `Some e`: this answer.
-abbrev pub answer_of_stop : {B E : Type 0} → Option E → Answered B E
-answer_of_stop None = end
-answer_of_stop (Some e) = failure e
+abbrev pub stop_answer : {B E : Type 0} → Option E → Answered B E
+stop_answer None = end
+stop_answer (Some e) = failure e
 
 -- What is due is an answer, or, where it is none, ends from then on. Here the answer, and what is due after it.
 abbrev pub due_comes : {B E : Type 0} → Option (Answered B E) → Answered B E
@@ -46,7 +46,7 @@ stage_meets on_item on_stop p (Err d) made q = on_stop p (Some d) made q
 
 -- a stop passes
 abbrev pub StopPasses : {P B L E : Type 0} → P → Option E → Made B L E → P → Type 0
-StopPasses p stop made q = (made ≡ one_made (answer_of_stop stop)) × (q ≡ p)
+StopPasses p stop made q = (made ≡ one_made (stop_answer stop)) × (q ≡ p)
 
 -- `comes` says what is due.
 module _ {S P X D B L E : Type 0} (comes : L → Option (Answered B E)) (meets : P → Answered X D → Made B L E → P → Type 0) (steps : S → Answered X D → S → Type 0) where

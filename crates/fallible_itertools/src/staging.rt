@@ -2,7 +2,7 @@
 ghost use Rattle.std.specs.Prelude.{◌≡◌, ℕ, Option, Result, Some, None, Ok, Err};
 ghost use Rattle.fallible_iterator.specs.Folds.{CallableDriving, Driven, TurnThrough, beside_names};
 ghost use Rattle.fallible_iterator.specs.Passing.{IfItem};
-ghost use Rattle.fallible_itertools.specs.Staging.{DueNext, DueTakes, DueTold, First, IsStage, IsStop, Met, MetTakes, PassesNoneOver, StageTurns, StopsAtStop, TakesAll, Told, answer_of_stop, beside_stage, due_comes, due_left, made_before, one_made, stage_meets, stage_step};
+ghost use Rattle.fallible_itertools.specs.Staging.{DueNext, DueTakes, DueTold, First, IsStage, IsStop, Met, MetTakes, PassesNoneOver, StageTurns, StopsAtStop, TakesAll, Told, beside_stage, due_comes, due_left, made_before, one_made, stage_meets, stage_step, stop_answer};
 ghost use Rattle.fallible_itertools.specs.Laws.Staging.{stops_of_stage};
 ghost use Rattle.std.specs.declared.ops.ControlFlow.TheVariants.{Break};
 
@@ -33,7 +33,7 @@ pub fn one_then<B, L, E>(answer: Result<Option<B>, E>, later: L) -> Made<B, L, E
 /// A stop, `Ok(None)` or a failure, as an answer.
 #[inline(always)]
 pub fn stopped<B, E>(stop: Option<E>) -> Result<Option<B>, E>
-    ensures { result ≡ answer_of_stop stop }
+    ensures { result ≡ stop_answer stop }
 {
     match stop {
         None => Ok(None),
