@@ -6,14 +6,9 @@ use Rattle.fallible_iterator.specs.Contract.{Contract}
 use Rattle.fallible_iterator.specs.Closures.{IsCallable}
 use Rattle.fallible_iterator.specs.Passing.{passing_step}
 use Rattle.fallible_iterator.specs.Hints.{fitting_sum}
-use Rattle.fallible_itertools.specs.Staging.{Made, stage_contract}
+use Rattle.fallible_itertools.specs.Staging.{Made, stage_contract, stop_answer}
 use Rattle.fallible_iterator.specs.Outcome.{Outcome}
 use Rattle.fallible_iterator.specs.Outcome.TheVariants.{Kept, LeftOut, Failure, End}
-
--- A stop is an end, `None`, or a failure, `Some e`: this answer.
-abbrev pub stop_answer : {B E : Type 0} → Option E → Answered B E
-stop_answer None = Ok None
-stop_answer (Some e) = Err e
 
 -- the answer of the stop that is due, if one is
 abbrev pub due_answer : {B E : Type 0} → Option (Option E) → List (Answered B E)

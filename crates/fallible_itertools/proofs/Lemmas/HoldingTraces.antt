@@ -5,7 +5,8 @@ use Rattle.std.proofs.Common.{refl, sym, ap, subst, arith, inl, inr, length-appe
 use Rattle.std.proofs.lemmas.List.{append-nil}
 use Rattle.fallible_iterator.specs.Traces.{Answered, Run, item}
 use Rattle.fallible_iterator.specs.Laws.Passing.{Passes, done, end_passes, failure_passes, keeps, refuses, closes, leaves_out, passes_of_pass_trace, pass_trace_of_passes, pass_trace_item, pass_trace_refusal, pass_trace_end, pass_trace_failure, pass_trace_closing}
-use Rattle.fallible_itertools.specs.Holding.{asks_item, as_answered_item, stop_answer, due_answer, BeforeStop, AtStop, AnswersAfter, holding_step, StopMade, MadeOfItem, DrawMade, LastMade, HoldingTrace}
+use Rattle.fallible_itertools.specs.Holding.{asks_item, as_answered_item, due_answer, BeforeStop, AtStop, AnswersAfter, holding_step, StopMade, MadeOfItem, DrawMade, LastMade, HoldingTrace}
+use Rattle.fallible_itertools.specs.Staging.{stop_answer}
 use Rattle.fallible_iterator.specs.Outcome.{Outcome}
 use Rattle.fallible_iterator.specs.Outcome.TheVariants.{Kept, LeftOut, Failure, End}
 

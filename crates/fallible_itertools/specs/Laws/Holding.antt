@@ -6,9 +6,9 @@ use Rattle.fallible_iterator.specs.Contract.{Contract, KeptByDraw, Lawful}
 use Rattle.fallible_iterator.specs.Closures.{Reaches, IsCallable}
 use Rattle.fallible_iterator.specs.Laws.Closures.{reaches_here, reaches_from, is_callable_after}
 use Rattle.fallible_iterator.specs.Laws.Passing.{Passes, done, end_passes, failure_passes, keeps, refuses, closes, leaves_out, passes_of_pass_trace}
-use Rattle.fallible_itertools.specs.Staging.{Made, DrawsUpTo, yields, passes_over, EndsInStop, IsStage, IsStop, MayMeet, Weighs, items_of, made_total, stays_of, stage_contract, stage_meets, stage_step}
+use Rattle.fallible_itertools.specs.Staging.{Made, DrawsUpTo, yields, passes_over, EndsInStop, IsStage, IsStop, MayMeet, Weighs, items_of, made_total, stays_of, stage_contract, stage_meets, stage_step, stop_answer}
 use Rattle.fallible_itertools.specs.Laws.Staging.{kept_where_reached, lawful_stage}
-use Rattle.fallible_itertools.specs.Holding.{asks_item, as_answered_item, stop_answer, BeforeStop, AnswersAfter, StopMade, MadeOfStop, MadeOfItem, HeldAfter, Holds, OrStop, made_answers, stop_comes, holding_meets, holding_step, filling_contract, holding_contract}
+use Rattle.fallible_itertools.specs.Holding.{asks_item, as_answered_item, BeforeStop, AnswersAfter, StopMade, MadeOfStop, MadeOfItem, HeldAfter, Holds, OrStop, made_answers, stop_comes, holding_meets, holding_step, filling_contract, holding_contract}
 use Rattle.fallible_iterator.specs.Outcome.{Outcome}
 use Rattle.fallible_iterator.specs.Outcome.TheVariants.{Kept, LeftOut, Failure, End}
 
