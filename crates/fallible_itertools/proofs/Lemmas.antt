@@ -20,7 +20,6 @@ pub mod Groups
 pub mod Holding
 pub mod HoldingHints
 pub mod HoldingLists
-pub mod HoldingMade
 pub mod HoldingTraces
 pub mod InspectErr
 pub mod Intersperse
@@ -41,6 +40,8 @@ pub mod PeekingTakeWhile
 pub mod Sides
 pub mod Sorted
 pub mod Staging
+pub mod StagingHints
+pub mod StagingLists
 pub mod StopAfter
 pub mod TakeWhileInclusive
 pub mod TupleWindows
