@@ -27,6 +27,7 @@ pub mod IntersperseWith
 pub mod Join
 pub mod Lengths
 pub mod LoopsMade
+pub mod MayCome
 pub mod Merge
 pub mod MergeBy
 pub mod Merged
