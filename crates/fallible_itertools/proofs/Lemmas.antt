@@ -20,7 +20,6 @@ pub mod Groups
 pub mod Holding
 pub mod HoldingHints
 pub mod HoldingLists
-pub mod HoldingMade
 pub mod HoldingTraces
 pub mod InspectErr
 pub mod Intersperse
@@ -28,6 +27,7 @@ pub mod IntersperseWith
 pub mod Join
 pub mod Lengths
 pub mod LoopsMade
+pub mod MayCome
 pub mod Merge
 pub mod MergeBy
 pub mod Merged
@@ -41,6 +41,8 @@ pub mod PeekingTakeWhile
 pub mod Sides
 pub mod Sorted
 pub mod Staging
+pub mod StagingHints
+pub mod StagingLists
 pub mod StopAfter
 pub mod TakeWhileInclusive
 pub mod TupleWindows

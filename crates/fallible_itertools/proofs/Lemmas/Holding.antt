@@ -15,7 +15,7 @@ use Rattle.fallible_iterator.specs.Outcome.{Outcome}
 
 -- ---- what is due is known by its answer
 
-same_due : (B : Type 0) {E : Type 0} (due later : Option (Option E)) → due_answer {B = B} due ≡ due_answer later → due ≡ later
+pub same_due : (B : Type 0) {E : Type 0} (due later : Option (Option E)) → due_answer {B = B} due ≡ due_answer later → due ≡ later
 same_due B None None e = refl
 same_due B None (Some stop) e = absurd cc
 same_due B (Some stop) None e = absurd cc

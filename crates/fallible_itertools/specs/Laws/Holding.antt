@@ -104,7 +104,7 @@ module _ {P X B E : Type 0} (asks : P → Option X → Outcome B E → P → Typ
     draws_of_passes s t p h _ r (g, due) (closes x o step called is done) w = yields (Ok (Some x)) step (End, h, rw is at called, made_at_stop h g None r due w.0 w.1 w.2)
     draws_of_passes s t p h z r q (leaves_out {u = u} {h = g} x o step called is rest) w = passes_over (Ok (Some x)) step (LeftOut, g, rw is at called, (refl, refl)) (draws_of_passes u t g h z r q rest w)
 
-    stage_of_holding : (p : S × (P × Option (Option E))) (r : Answered B E) (q : S × (P × Option (Option E))) → holding_step asks steps p r q → stage_step stop_comes (holding_meets asks) steps p r q
+    pub stage_of_holding : (p : S × (P × Option (Option E))) (r : Answered B E) (q : S × (P × Option (Option E))) → holding_step asks steps p r q → stage_step stop_comes (holding_meets asks) steps p r q
     stage_of_holding (s, (p, Some stop)) r (t, q) w = w
     stage_of_holding (s, (p, None)) r (t, q) w = draws_of_passes s t p w.0 w.1 r q (passes_of_pass_trace w.2) w.3
 

@@ -48,7 +48,7 @@ pub parts_made : {B L E : Type 0} {r a : Answered B E} {due later : Option L} �
 parts_made same left = rw (same, left) refl
 
 module _ {L B E : Type 0} (comes : L → Option (Answered B E)) where
-  nothing_left : (later : L) (c : Option (Answered B E)) → comes later ≡ c → (due_total comes items_of (due_left later c) ≡ 0) × (due_total comes stays_of (due_left later c) ≡ 0)
+  pub nothing_left : (later : L) (c : Option (Answered B E)) → comes later ≡ c → (due_total comes items_of (due_left later c) ≡ 0) × (due_total comes stays_of (due_left later c) ≡ 0)
   nothing_left later (Some a) is = (refl, refl)
   nothing_left later None is = rw is (refl, refl)
 
