@@ -44,6 +44,7 @@ pub mod Staging
 pub mod StopAfter
 pub mod TakeWhileInclusive
 pub mod TupleWindows
+pub mod Tuples
 pub mod Unique
 pub mod UniqueOf
 pub mod WindowHints

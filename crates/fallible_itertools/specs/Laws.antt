@@ -20,6 +20,7 @@ pub mod Staging
 pub mod StopAfter
 pub mod TakeWhileInclusive
 pub mod TupleWindows
+pub mod Tuples
 pub mod Unique
 pub mod WithPosition
 pub mod ZipLongest

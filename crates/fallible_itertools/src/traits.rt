@@ -50,6 +50,7 @@ ghost use Rattle.fallible_itertools.specs.StopAfter.{stop_after_contract, stop_a
 ghost use Rattle.fallible_itertools.specs.TakeWhileInclusive as inclusive;
 ghost use Rattle.fallible_itertools.specs.CheckedSum.{TotalDrains, totalled};
 ghost use Rattle.fallible_itertools.specs.TupleWindows.{tuple_windows_contract, tuple_windows_parts, windowed};
+ghost use Rattle.fallible_itertools.specs.Tuples.{tupled, tuples_contract, tuples_parts};
 ghost use Rattle.fallible_itertools.specs.Unique.{unique_contract, unique_of, unique_parts, unique_seen, unique_source};
 ghost use Rattle.fallible_itertools.specs.WithPosition.{positioned, with_position_contract, with_position_parts};
 ghost use Rattle.fallible_itertools.specs.ZipLongest as zip_longest;
@@ -87,6 +88,7 @@ use crate::sorted::{sorted_items, sorted_items_by_key};
 use crate::stop_after::StopAfter;
 use crate::take_while_inclusive::TakeWhileInclusive;
 use crate::tuple_windows::TupleWindows;
+use crate::tuples::Tuples;
 use crate::unique::Unique;
 use crate::with_position::WithPosition;
 use crate::zip_longest::ZipLongest;
@@ -305,6 +307,33 @@ pub trait FallibleItertools: FallibleIterator {
             (windowed l) }
     {
         TupleWindows {
+            it: self,
+            held: None,
+        }
+    }
+
+    /// Yields the items two by two, as pairs. The last of an odd number of items is in no pair.
+    ///
+    /// Creating it draws nothing. `next` draws once or twice. It fails as the source does. The first item of a pair stays buffered at a failure and at an `Ok(None)`: so a pair may stand on both sides of a failure, and an item that is left over is in a pair if the source goes on.
+    ///
+    /// Requires: nothing. `next` requires that it may be called on the source.
+    ///
+    /// ```
+    /// let readings = [Ok::<u32, u8>(150), Err(9), Ok(7), Ok(700)];
+    /// let mut it = convert(readings.into_iter()).tuples();
+    /// let drawn = [it.next(), it.next(), it.next()];
+    /// assert_eq!(rt; drawn, [Err(9), Ok(Some((150, 7))), Ok(None)]);
+    /// ```
+    final fn tuples(self) -> Tuples<Self>
+    where
+        Self::Item: Drop,
+        ensures parts { tuples_parts result ≡ (self, None) }
+        ensures lists { (l : List (Result Self.Item Self.Error))
+            → list.Lists Self.contract.steps self l
+            → list.Lists (seen_as tuples_parts (tuples_contract Self.contract)).steps result
+            (tupled l) }
+    {
+        Tuples {
             it: self,
             held: None,
         }
