@@ -33,6 +33,7 @@ pub mod MergeBy
 pub mod Merged
 pub mod MinMax
 pub mod OrElse
+pub mod PadUsing
 pub mod PartitionMap
 pub mod Parting
 pub mod PartingHints

@@ -13,6 +13,7 @@ pub mod IntersperseWith
 pub mod Merge
 pub mod MergeBy
 pub mod OrElse
+pub mod PadUsing
 pub mod Parting
 pub mod PeekingTakeWhile
 pub mod Sides

@@ -29,6 +29,7 @@ pub mod Merge
 pub mod MergeBy
 pub mod MinMax
 pub mod OrElse
+pub mod PadUsing
 pub mod PartitionMap
 pub mod Parting
 pub mod PeekingTakeWhile
