@@ -33,6 +33,7 @@ pub mod MergeBy
 pub mod Merged
 pub mod MinMax
 pub mod OrElse
+pub mod PadUsing
 pub mod PartitionMap
 pub mod Parting
 pub mod PartingHints
@@ -46,6 +47,7 @@ pub mod StagingLists
 pub mod StopAfter
 pub mod TakeWhileInclusive
 pub mod TupleWindows
+pub mod Tuples
 pub mod Unique
 pub mod UniqueOf
 pub mod WindowHints

@@ -13,6 +13,7 @@ pub mod IntersperseWith
 pub mod Merge
 pub mod MergeBy
 pub mod OrElse
+pub mod PadUsing
 pub mod Parting
 pub mod PeekingTakeWhile
 pub mod Sides
@@ -20,6 +21,7 @@ pub mod Staging
 pub mod StopAfter
 pub mod TakeWhileInclusive
 pub mod TupleWindows
+pub mod Tuples
 pub mod Unique
 pub mod WithPosition
 pub mod ZipLongest

@@ -29,6 +29,7 @@ pub mod Merge
 pub mod MergeBy
 pub mod MinMax
 pub mod OrElse
+pub mod PadUsing
 pub mod PartitionMap
 pub mod Parting
 pub mod PeekingTakeWhile
@@ -38,6 +39,7 @@ pub mod Staging
 pub mod StopAfter
 pub mod TakeWhileInclusive
 pub mod TupleWindows
+pub mod Tuples
 pub mod Unique
 pub mod WithPosition
 pub mod ZipLongest

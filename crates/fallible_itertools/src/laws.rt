@@ -8,6 +8,7 @@ mod intersperse;
 mod lengths;
 mod merge;
 mod merge_by;
+mod pad_using;
 mod peeking_take_while;
 mod stop_after;
 mod take_while_inclusive;
@@ -29,15 +30,16 @@ pub use grouping::{
 pub use holding::{
     law_coalesce, law_coalesced, law_dedup, law_dedup_by, law_dedup_by_key, law_deduped,
     law_deduped_by, law_deduped_by_key, law_hints_coalesce, law_hints_dedup, law_hints_dedup_by,
-    law_hints_dedup_by_key, law_hints_tuple_windows, law_hints_with_position, law_positioned,
-    law_tuple_windows, law_with_position,
+    law_hints_dedup_by_key, law_hints_tuple_windows, law_hints_tuples, law_hints_with_position,
+    law_positioned, law_tuple_windows, law_tuples, law_with_position,
 };
 pub use intersperse::{
     law_hints_intersperse, law_hints_intersperse_with, law_intersperse, law_intersperse_with,
 };
-pub use lengths::{law_interspersed, law_joined, law_windowed, law_zipped_longest};
+pub use lengths::{law_interspersed, law_joined, law_tupled, law_windowed, law_zipped_longest};
 pub use merge::{law_hints_merge, law_merge, law_merged_in_order};
 pub use merge_by::{law_hints_merge_by, law_merge_by, law_merged};
+pub use pad_using::{law_hints_pad_using, law_pad_using, law_padded};
 pub use peeking_take_while::{
     law_hints_peeking_take_while, law_peeking_take_while, law_rest_peeking_take_while,
 };

@@ -41,6 +41,7 @@ ghost use Rattle.fallible_itertools.specs.Join.{JoinedAs};
 ghost use Rattle.fallible_itertools.specs.Merge.{merge_contract, merge_left, merge_left_ended, merge_left_held, merge_parts, merge_right, merge_right_ended, merge_right_held, merged_in_order};
 ghost use Rattle.fallible_itertools.specs.MergeBy as merge_by;
 ghost use Rattle.fallible_itertools.specs.MinMax.{MinMaxDrains, minmaxed};
+ghost use Rattle.fallible_itertools.specs.PadUsing as pad_using;
 ghost use Rattle.fallible_itertools.specs.PartitionMap.{EitherRefused, MadeOfEithers};
 ghost use Rattle.fallible_itertools.specs.FindOrLast.{FoundOrLast, found_or_last};
 ghost use Rattle.fallible_itertools.specs.IsSorted.{ItselfCall, OrderCall, in_order, in_order_by_key};
@@ -50,6 +51,7 @@ ghost use Rattle.fallible_itertools.specs.StopAfter.{stop_after_contract, stop_a
 ghost use Rattle.fallible_itertools.specs.TakeWhileInclusive as inclusive;
 ghost use Rattle.fallible_itertools.specs.CheckedSum.{TotalDrains, totalled};
 ghost use Rattle.fallible_itertools.specs.TupleWindows.{tuple_windows_contract, tuple_windows_parts, windowed};
+ghost use Rattle.fallible_itertools.specs.Tuples.{tupled, tuples_contract, tuples_parts};
 ghost use Rattle.fallible_itertools.specs.Unique.{unique_contract, unique_of, unique_parts, unique_seen, unique_source};
 ghost use Rattle.fallible_itertools.specs.WithPosition.{positioned, with_position_contract, with_position_parts};
 ghost use Rattle.fallible_itertools.specs.ZipLongest as zip_longest;
@@ -81,12 +83,14 @@ use crate::merge::Merge;
 use crate::merge_by::MergeBy;
 use crate::minmax::{MinMaxResult, MinMaxTurn, lesser_first};
 use crate::or_else::OrElse;
+use crate::pad_using::PadUsing;
 use crate::partition_map::Either;
 use crate::sides::Holding;
 use crate::sorted::{sorted_items, sorted_items_by_key};
 use crate::stop_after::StopAfter;
 use crate::take_while_inclusive::TakeWhileInclusive;
 use crate::tuple_windows::TupleWindows;
+use crate::tuples::Tuples;
 use crate::unique::Unique;
 use crate::with_position::WithPosition;
 use crate::zip_longest::ZipLongest;
@@ -305,6 +309,33 @@ pub trait FallibleItertools: FallibleIterator {
             (windowed l) }
     {
         TupleWindows {
+            it: self,
+            held: None,
+        }
+    }
+
+    /// Yields the items two by two, as pairs. The last of an odd number of items is in no pair.
+    ///
+    /// Creating it draws nothing. `next` draws once or twice. It fails as the source does. The first item of a pair stays buffered at a failure and at an `Ok(None)`: so a pair may stand on both sides of a failure, and an item that is left over is in a pair if the source goes on.
+    ///
+    /// Requires: nothing. `next` requires that it may be called on the source.
+    ///
+    /// ```
+    /// let readings = [Ok::<u32, u8>(150), Err(9), Ok(7), Ok(700)];
+    /// let mut it = convert(readings.into_iter()).tuples();
+    /// let drawn = [it.next(), it.next(), it.next()];
+    /// assert_eq!(rt; drawn, [Err(9), Ok(Some((150, 7))), Ok(None)]);
+    /// ```
+    final fn tuples(self) -> Tuples<Self>
+    where
+        Self::Item: Drop,
+        ensures parts { tuples_parts result ≡ (self, None) }
+        ensures lists { (l : List (Result Self.Item Self.Error))
+            → list.Lists Self.contract.steps self l
+            → list.Lists (seen_as tuples_parts (tuples_contract Self.contract)).steps result
+            (tupled l) }
+    {
+        Tuples {
             it: self,
             held: None,
         }
@@ -1017,6 +1048,45 @@ pub trait FallibleItertools: FallibleIterator {
                 held: None,
             },
             right: other.into_fallible_iter().fuse(),
+        }
+    }
+
+    /// Yields the items, and if these are fewer than n, then what the closure returns for each index of those that are missing: from the number of items up to n - 1.
+    ///
+    /// Creating it draws nothing and calls nothing. `next` draws once, and the iterator is fused: once it returned `Ok(None)` it isn't drawn again. From then on `next` calls the closure once, until n items were yielded, and then it returns `Ok(None)`. A failure of the iterator is returned when it is met, and counts as no item. If the closure fails, its failure is yielded in the place of that item, and the next call goes on with the next index. The iterator's bound and n, added up, bound it.
+    ///
+    /// Requires: the closure may be called on each index below n, in each state that its calls bring it to. `next` requires that it may be called on the iterator.
+    ///
+    /// ```
+    /// let readings = [Ok::<usize, u8>(150), Err(9), Ok(7)];
+    /// let mut it = convert(readings.into_iter()).pad_using(3, Ok);
+    /// let drawn = [it.next(), it.next(), it.next(), it.next(), it.next()];
+    /// assert_eq!(rt; drawn, [Ok(Some(150)), Err(9), Ok(Some(7)), Ok(Some(2)), Ok(None)]);
+    /// ```
+    final fn pad_using<F>(self, n: usize, f: F) -> PadUsing<Self, F>
+    where
+        F: FnMut(usize) -> Result<Self::Item, Self::Error>,
+        requires { IsCallable (call_on F.FnMut) (takes_on F.FnMut) (λ i. i < n) f }
+        ensures source { pad_using.pad_using_source result ≡ self }
+        ensures ended { pad_using.pad_using_ended result ≡ false }
+        ensures indices { pad_using.pad_using_indices result ≡ (0, n) }
+        ensures closure { pad_using.pad_using_closure result ≡ f }
+        ensures callable { IsCallable (pad_using.pad_call F.FnMut) (pad_using.pad_takes F.FnMut)
+            ((pad_using.beside_index_contract Self.contract).may_give
+            (pad_using.pad_using_parts result).0) f }
+        ensures bounded { (a k : ℕ) → Self.contract.bound self a → a + n ≤ k
+            → AtMost (seen_as pad_using.pad_using_parts
+            (pad_using.pad_using_contract Self.contract F.FnMut)) result k }
+        ensures lists { OverListWith (list.Acts (call_on F.FnMut) f) Self.contract.steps self
+            (λ h l. list.Lists (seen_as pad_using.pad_using_parts
+            (pad_using.pad_using_contract Self.contract F.FnMut)).steps result
+            (pad_using.padded n h l)) }
+    {
+        PadUsing {
+            it: self.fuse(),
+            next: 0,
+            end: n,
+            f,
         }
     }
 

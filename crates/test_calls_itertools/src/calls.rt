@@ -126,6 +126,8 @@ fn adapters_that_hold_fold_up_to_an_end(rt: HostRuntime) -> Result<(), Fail> {
     Ok(())
 }
 
+const ONE_BY_ONE_FOLD: Folded = (Ok(1), ONE_FOLD);
+
 const TWO_BY_ONE_FOLD: Folded = (Ok(2), ONE_FOLD);
 
 const THREE_BY_ONE_FOLD: Folded = (Ok(3), ONE_FOLD);
@@ -143,6 +145,9 @@ fn adapters_that_answer_at_no_end_fold_by_one_fold(rt: HostRuntime) -> Result<()
     expect_folded(&mut Counted::new(it, &log).copied(), &log, &TWO_BY_ONE_FOLD)?;
     let mut pairs = one_one_two(alloc, &log)?.tuple_windows();
     expect_folded(&mut pairs, &log, &TWO_BY_ONE_FOLD)?;
+    // The last of three items is in no pair.
+    let mut pairs = one_one_two(alloc, &log)?.tuples();
+    expect_folded(&mut pairs, &log, &ONE_BY_ONE_FOLD)?;
     // A rejected item stops the fold, and then nothing is folded.
     let mut up_to_two = one_one_two(alloc, &log)?.take_while_inclusive(below_two);
     expect_folded(&mut up_to_two, &log, &THREE_BY_ONE_FOLD)?;

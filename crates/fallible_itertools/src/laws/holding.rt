@@ -14,6 +14,7 @@ ghost use Rattle.fallible_itertools.specs.DedupByKey.{DedupByKeyTrace, dedup_by_
 ghost use Rattle.fallible_itertools.specs.Dedup.{DedupTrace, dedup_due, dedup_parts, dedup_source, deduped};
 ghost use Rattle.fallible_itertools.specs.Holding.{HintsPastFailure};
 ghost use Rattle.fallible_itertools.specs.TupleWindows.{TupleWindowsTrace, tuple_windows_parts, tuple_windows_source};
+ghost use Rattle.fallible_itertools.specs.Tuples.{TuplesTrace, tuples_parts, tuples_source};
 ghost use Rattle.fallible_itertools.specs.WithPosition.{WithPositionTrace, positioned, with_position_due, with_position_parts, with_position_source};
 ghost use Rattle.fallible_itertools.specs.declared.with_position.Position.TheVariants.{First, Last, Middle, Only};
 
@@ -22,6 +23,7 @@ use crate::dedup::Dedup;
 use crate::dedup_by::DedupBy;
 use crate::dedup_by_key::DedupByKey;
 use crate::tuple_windows::TupleWindows;
+use crate::tuples::Tuples;
 use crate::with_position::WithPosition;
 use fallible_iterator::FallibleIterator;
 use std::alloc::AllocError;
@@ -195,6 +197,23 @@ where
     ensures { (s : TupleWindows I I.Item I.Error)
         → HintsAsSoundAs ⟦<TupleWindows<I> as FallibleIterator>⟧.contract s I.contract
         (tuple_windows_source s) }
+{}
+
+/// The answers of `Tuples` are the source's, where each second item is replaced by the pair of the one before it and itself, and the others are left out.
+pub fn law_tuples<I: FallibleIterator>()
+where
+    I::Item: Drop,
+    ensures { TracesAre tuples_parts ⟦<Tuples<I> as FallibleIterator>⟧.contract.steps
+        (TuplesTrace I.contract.steps) }
+{}
+
+/// Each hint of `Tuples` is as sound as the hint of its source that it is made of.
+pub fn law_hints_tuples<I: FallibleIterator>()
+where
+    I::Item: Drop,
+    ensures { (s : Tuples I I.Item I.Error)
+        → HintsAsSoundAs ⟦<Tuples<I> as FallibleIterator>⟧.contract s I.contract
+        (tuples_source s) }
 {}
 
 /// The answers of `WithPosition` are the stop that is due, and then the items, each with its position: each stands where the next one or a stop came, and each stop after what was buffered before it.
