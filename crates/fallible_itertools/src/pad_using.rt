@@ -14,8 +14,9 @@ use fallible_iterator::{FallibleIterator, Fuse};
 #[derive(Clone, Debug, Drop)]
 pub struct PadUsing<I, F> {
     pub(crate) it: Fuse<I>,
-    // the index of the next item, and n; they are the same once n items came
+    // the index of the next item, up to n
     pub(crate) next: usize,
+    // n
     pub(crate) end: usize,
     pub(crate) f: F,
 }

@@ -126,8 +126,6 @@ fn adapters_that_hold_fold_up_to_an_end(rt: HostRuntime) -> Result<(), Fail> {
     Ok(())
 }
 
-const ONE_BY_ONE_FOLD: Folded = (Ok(1), ONE_FOLD);
-
 const TWO_BY_ONE_FOLD: Folded = (Ok(2), ONE_FOLD);
 
 const THREE_BY_ONE_FOLD: Folded = (Ok(3), ONE_FOLD);
@@ -231,6 +229,10 @@ fn adapters_of_two_sides_and_peeking_take_while_draw_one_by_one(
     let mut merged = one_one_two(alloc, &log)?.merge(right);
     expect_folded(&mut merged, &log, &FOUR_BY_FOUR_DRAWS)?;
     assert_eq!(rt; [beside.take(), other.take()], RIGHTS);
+    // The end is the fourth draw, and the fourth item takes none.
+    let mut padded = one_one_two(alloc, &log)?.pad_using(4, |_| Ok(5));
+    expect_folded(&mut padded, &log, &FOUR_BY_FOUR_DRAWS)?;
+    expect_folded(&mut padded, &log, &NONE_BY_NO_FOLD)?;
     // 2 is drawn, and stays next.
     let mut ahead = one_one_two(alloc, &log)?.peekable();
     let mut below = ahead.peeking_take_while(below_two);
