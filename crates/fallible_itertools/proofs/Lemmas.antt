@@ -13,7 +13,9 @@ pub mod DedupBy
 pub mod DedupByKey
 pub mod Deduped
 pub mod Equal
+pub mod ErrInto
 pub mod FindOrLast
+pub mod FindPosition
 pub mod FoldWhile
 pub mod GroupMap
 pub mod Groups
@@ -34,6 +36,7 @@ pub mod Merged
 pub mod MinMax
 pub mod OrElse
 pub mod PartitionMap
+pub mod Parted
 pub mod Parting
 pub mod PartingHints
 pub mod PartingTraces
@@ -46,6 +49,7 @@ pub mod TakeWhileInclusive
 pub mod TupleWindows
 pub mod Unique
 pub mod UniqueOf
+pub mod UntilFailure
 pub mod WindowHints
 pub mod WithPosition
 pub mod WithPositionHints

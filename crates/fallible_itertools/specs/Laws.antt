@@ -6,6 +6,7 @@ pub mod Copied
 pub mod Dedup
 pub mod DedupBy
 pub mod DedupByKey
+pub mod ErrInto
 pub mod Holding
 pub mod InspectErr
 pub mod Intersperse
@@ -13,6 +14,7 @@ pub mod IntersperseWith
 pub mod Merge
 pub mod MergeBy
 pub mod OrElse
+pub mod Parted
 pub mod Parting
 pub mod PeekingTakeWhile
 pub mod Sides

@@ -13,8 +13,10 @@ pub mod Dedup
 pub mod DedupBy
 pub mod DedupByKey
 pub mod Equal
+pub mod ErrInto
 pub mod ExactlyOne
 pub mod FindOrLast
+pub mod FindPosition
 pub mod FoldWhile
 pub mod FromBack
 pub mod GroupMap
@@ -30,6 +32,7 @@ pub mod MergeBy
 pub mod MinMax
 pub mod OrElse
 pub mod PartitionMap
+pub mod Parted
 pub mod Parting
 pub mod PeekingTakeWhile
 pub mod Sides
@@ -39,5 +42,6 @@ pub mod StopAfter
 pub mod TakeWhileInclusive
 pub mod TupleWindows
 pub mod Unique
+pub mod UntilFailure
 pub mod WithPosition
 pub mod ZipLongest
