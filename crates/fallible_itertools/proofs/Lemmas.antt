@@ -27,7 +27,9 @@ pub mod HoldingTraces
 pub mod InspectErr
 pub mod Intersperse
 pub mod IntersperseWith
+pub mod IsSortedBy
 pub mod Join
+pub mod Keyed
 pub mod Lengths
 pub mod LoopsMade
 pub mod Merge

@@ -11,6 +11,7 @@ pub mod Holding
 pub mod InspectErr
 pub mod Intersperse
 pub mod IntersperseWith
+pub mod Keyed
 pub mod Merge
 pub mod MergeBy
 pub mod OrElse

@@ -25,7 +25,9 @@ pub mod InspectErr
 pub mod Intersperse
 pub mod IntersperseWith
 pub mod IsSorted
+pub mod IsSortedBy
 pub mod Join
+pub mod Keyed
 pub mod Laws
 pub mod Merge
 pub mod MergeBy

@@ -50,6 +50,8 @@ ghost use Rattle.fallible_itertools.specs.PartitionMap.{EitherRefused, MadeOfEit
 ghost use Rattle.fallible_itertools.specs.FindOrLast.{FoundOrLast, found_or_last};
 ghost use Rattle.fallible_itertools.specs.FindPosition.{find_position_pick, position_found};
 ghost use Rattle.fallible_itertools.specs.IsSorted.{ItselfCall, OrderCall, in_order, in_order_by_key};
+ghost use Rattle.fallible_itertools.specs.IsSortedBy.{PairCall, in_order_by, takes_pair};
+ghost use Rattle.fallible_itertools.specs.Keyed.{keyed, keyed_contract};
 ghost use Rattle.fallible_itertools.specs.FoldWhile.{WhileCall, FoldWhileDrains, folded_while, rest_while};
 ghost use Rattle.fallible_itertools.specs.Sorted.{CollectsSorted, HasItems, IsSortedByCalls, IsSortedByComparisons, IsSortedByKeyOf, IsSortedByTest, IsSortedOf};
 ghost use Rattle.fallible_itertools.specs.StopAfter.{stop_after_contract, stop_after_items, stop_after_parts, stopped_after};
@@ -85,7 +87,9 @@ use crate::inspect_err::InspectErr;
 use crate::intersperse::Intersperse;
 use crate::intersperse_with::IntersperseWith;
 use crate::is_sorted::{InOrderTurn, SortedTurn};
+use crate::is_sorted_by::SortedByTurn;
 use crate::join::JoinTurn;
+use crate::keyed::Keyed;
 use crate::merge::Merge;
 use crate::merge_by::MergeBy;
 use crate::minmax::{MinMaxResult, MinMaxTurn, in_order};
@@ -731,6 +735,39 @@ pub trait FallibleItertools: FallibleIterator {
     {
         let mut state = (None, f);
         answer_or(self.drive(&mut state, &SortedTurn), true)
+    }
+
+    /// Returns whether the closure returns true for each two adjacent items. It is called on references to an item and the next one.
+    ///
+    /// It draws up to the first item for which the closure returns false or fails, the first failure or `Ok(None)`. Nothing is drawn after that. It fails with the first failure, of this iterator or of the closure. It consumes the iterator.
+    ///
+    /// Precondition: the iterator is finite.
+    ///
+    /// Requires: `next` may be called, and the closure may be called on each two items that may come one after the other, as long as it returns true.
+    ///
+    /// Proof: no clause says what is left.
+    ///
+    /// ```
+    /// let readings = [Ok::<u32, u8>(150), Ok(7), Ok(8)];
+    /// let it = convert(readings.into_iter());
+    /// assert_eq!(rt; it.is_sorted_by(|x: &u32, y: &u32| Ok(x > y)), Ok(false));
+    /// ```
+    final fn is_sorted_by<F>(mut self, f: F) -> Result<bool, Self::Error>
+    where
+        Self::Item: Drop,
+        F: FnMut(&Self::Item, &Self::Item) -> Result<bool, Self::Error>,
+        requires can_next { Self.contract.can_next self }
+        requires finite { Self.contract.is_finite self }
+        requires callable { search.CallableInSearch (PairCall (call_at_two F.FnMut))
+            search.all_pick Self.contract.steps (takes_pair (takes_at_two F.FnMut)) self (None, f) }
+        ensures sorted { (left : Self) × (q : Option Self.Item × F)
+            × search.SearchDrains (PairCall (call_at_two F.FnMut)) search.all_pick
+            Self.contract.steps true self (None, f) result left q }
+        ensures value { OverListWith (list.ActsWith (call_at_two F.FnMut) f) Self.contract.steps self
+            (λ h l. result ≡ in_order_by h l) }
+    {
+        let mut state = (None, f);
+        answer_or(self.drive(&mut state, &SortedByTurn), true)
     }
 
     /// Returns whether no item is less than the one before it. An item that can't be compared with the one before it counts as less.
@@ -1387,6 +1424,51 @@ pub trait FallibleItertools: FallibleIterator {
         };
         let answer = self.drive(&mut made, &PushTurn);
         with_failure(answer, made)
+    }
+
+    /// Returns the items by the keys that the closure makes of them, as a map. A key of the map is the first of equal ones, its value a `Vec` of the items with an equal key, in order.
+    ///
+    /// Draws and errors: as `into_group_map`. The closure is called once on each item, through a reference. If it fails, this stops and fails with that failure. It consumes the iterator.
+    ///
+    /// Precondition: the iterator is finite.
+    ///
+    /// Requires: `next` may be called, and the closure may be called on each item that may come, in each state that such calls bring it to.
+    ///
+    /// Memory: that failure is a `Fault::Source` too. All else as `into_group_map`.
+    ///
+    /// Proof: no clause says what is left.
+    ///
+    /// ```
+    /// let readings = [Ok::<u32, u8>(150), Ok(7), Ok(157)];
+    /// let groups = convert(readings.into_iter()).into_group_map_by(rt.alloc(), |reading: &u32| Ok(
+    ///     *reading / 100,
+    /// ))?;
+    /// assert_eq!(rt; groups.get(&1), Some(&vec![in rt.alloc(); 150, 157]?));
+    /// ```
+    final fn into_group_map_by<K, F>(
+        self,
+        alloc: Global,
+        f: F,
+    ) -> Result<HashMap<K, Vec<Self::Item>>, Fault<Self::Error>>
+    where
+        Self::Item: Drop,
+        K: Eq + Hash + Drop,
+        F: FnMut(&Self::Item) -> Result<K, Self::Error>,
+        requires can_next { Self.contract.can_next self }
+        requires finite { Self.contract.is_finite self }
+        requires callable { IsCallable (call_at F.FnMut) (takes_at F.FnMut)
+            (Self.contract.may_give self) f }
+        ensures collects { Collects (keyed_contract Self.contract F.FnMut).steps
+            (IsGroupMapOf K.eq) ⊥ (GroupRefuses K.eq) (self, f) result }
+        ensures value { OverListWith (list.Acts (call_at F.FnMut) f) Self.contract.steps self
+            (λ h l. list.CollectedAs (IsGroupMapOf K.eq) (keyed h l) result) }
+        ensures contents { OverListWith (list.Acts (call_at F.FnMut) f) Self.contract.steps self
+            (λ h l. IfOk result (list.MadeOf (IsGroupMapOf K.eq) (list.collected (keyed h l)))) }
+        ensures failure { OverListWith (list.Acts (call_at F.FnMut) f) Self.contract.steps self
+            (λ h l. (e : Self.Error) → result ≡ Err (Source e)
+            → list.collected (keyed h l) ≡ Err e) }
+    {
+        Keyed { it: self, f }.into_group_map(alloc)
     }
 
     /// Returns two collections of what the closure returns for the items: of the values of each `Either::Left`, and of those of each `Either::Right`, in order. Of equal values they keep what `collect` keeps.
