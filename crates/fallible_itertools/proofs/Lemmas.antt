@@ -13,7 +13,9 @@ pub mod DedupBy
 pub mod DedupByKey
 pub mod Deduped
 pub mod Equal
+pub mod ErrInto
 pub mod FindOrLast
+pub mod FindPosition
 pub mod FoldWhile
 pub mod GroupMap
 pub mod Groups
@@ -24,7 +26,9 @@ pub mod HoldingTraces
 pub mod InspectErr
 pub mod Intersperse
 pub mod IntersperseWith
+pub mod IsSortedBy
 pub mod Join
+pub mod Keyed
 pub mod Lengths
 pub mod LoopsMade
 pub mod MayCome
@@ -35,6 +39,7 @@ pub mod MinMax
 pub mod OrElse
 pub mod PadUsing
 pub mod PartitionMap
+pub mod Parted
 pub mod Parting
 pub mod PartingHints
 pub mod PartingTraces
@@ -50,6 +55,7 @@ pub mod TupleWindows
 pub mod Tuples
 pub mod Unique
 pub mod UniqueOf
+pub mod UntilFailure
 pub mod WindowHints
 pub mod WithPosition
 pub mod WithPositionHints

@@ -2,6 +2,7 @@
 
 mod copied;
 mod failing;
+mod failures;
 mod grouping;
 mod holding;
 mod intersperse;
@@ -20,10 +21,12 @@ pub use copied::{
     law_listed_copied,
 };
 pub use failing::{
-    law_back_inspect_err, law_back_or_else, law_hints_back_inspect_err, law_hints_inspect_err,
-    law_hints_listed_inspect_err, law_hints_or_else, law_inspect_err, law_listed_inspect_err,
-    law_listed_or_else, law_or_else,
+    law_back_err_into, law_back_inspect_err, law_back_or_else, law_err_into,
+    law_hints_back_err_into, law_hints_back_inspect_err, law_hints_err_into, law_hints_inspect_err,
+    law_hints_listed_err_into, law_hints_listed_inspect_err, law_hints_or_else, law_inspect_err,
+    law_listed_err_into, law_listed_inspect_err, law_listed_or_else, law_or_else,
 };
+pub use failures::{law_partition_failures, law_until_failure};
 pub use grouping::{
     law_chunk_by, law_chunked, law_chunked_by, law_chunks, law_hints_chunk_by, law_hints_chunks,
 };
