@@ -5,7 +5,7 @@ ghost use Rattle.std.specs.declared.convert.Infallible.{Infallible};
 ghost use Rattle.fallible_contract.specs.Folding.{FoldingTakes, FoldingTurn};
 ghost use Rattle.fallible_contract.specs.Folds.{CallableDriving, Driven, TurnThrough, beside, beside_names};
 ghost use Rattle.fallible_contract.specs.Passing.{passing_step};
-ghost use Rattle.fallible_core.specs.Filtering.Filter.{CountsOne};
+ghost use Rattle.fallible_core.specs.Filtering.Filter.{CountsOne, DrawingTurn};
 
 use crate::traits::FallibleIterator;
 use crate::traits::double_ended::DoubleEndedFallibleIterator;
@@ -62,6 +62,29 @@ where
     let mut both = Beside { c: state, p };
     let answer = it.drive_back(&mut both, &PassTurn { adapter, turn });
     answer_within(answer)
+}
+
+/// The turn of a draw by a fold of the source: it stops with what becomes of the first item that isn't left out.
+#[derive(Drop)]
+pub(crate) struct PassDrawTurn<'a, A> {
+    pub(crate) adapter: &'a A,
+}
+
+impl<'a, P, X, E, A: Pass<P, X, E>> Turn<P, X, Result<Option<A::Kept>, E>> for PassDrawTurn<'a, A> {
+    ghost can_turn = { λ k f x. A.can_pass k.adapter.now f x };
+
+    ghost turns = { λ k f x r g. DrawingTurn (A.call k.adapter.now) (A.outcome k.adapter.now)
+        f x r g };
+
+    #[inline(always)]
+    fn turn(&self, state: &mut P, item: X) -> ControlFlow<Result<Option<A::Kept>, E>, ()> {
+        match self.adapter.pass(state, item) {
+            Outcome::Kept(y) => ControlFlow::Break(Ok(Some(y))),
+            Outcome::LeftOut => ControlFlow::Continue(()),
+            Outcome::Failure(e) => ControlFlow::Break(Err(e)),
+            Outcome::End => ControlFlow::Break(Ok(None)),
+        }
+    }
 }
 
 /// The fold that counts what an adapter keeps: it adds one for each item that stays.

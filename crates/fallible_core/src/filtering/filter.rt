@@ -5,15 +5,14 @@ ghost use Rattle.fallible_contract.specs.Closures.{call_at, takes_at};
 ghost use Rattle.fallible_contract.specs.Ends.{from_back, ends_of, ends_seen_as};
 ghost use Rattle.fallible_contract.specs.Laws.Contract.{lawful_seen};
 ghost use Rattle.fallible_contract.specs.Laws.Ends.{lawful_ends_seen};
-ghost use Rattle.fallible_core.specs.Filtering.Filter.{DrawingTurn, tested_outcome, filter_contract, filter_parts};
+ghost use Rattle.fallible_core.specs.Filtering.Filter.{tested_outcome, filter_contract, filter_parts};
 ghost use Rattle.fallible_core.specs.Laws.Filtering.Filter.{lawful_filter, lawful_ends_filter};
 
-use crate::passing::{drive_back_passing, drive_count_passing, drive_passing};
+use crate::passing::{PassDrawTurn, drive_back_passing, drive_count_passing, drive_passing};
 use crate::traits::FallibleIterator;
 use crate::traits::double_ended::DoubleEndedFallibleIterator;
 use fallible_contract::folds::{Turn, answer_within};
 use fallible_contract::passing::{Outcome, Pass};
-use std::ops::ControlFlow;
 
 /// The items for which the predicate returns true. An item on which it fails is lost, and its failure is yielded.
 #[derive(Clone, Debug, Drop)]
@@ -35,7 +34,10 @@ where
 
     /// Draws until an item is kept, or a failure or `Ok(None)` comes. It calls the predicate on each item.
     fn next(&mut self) -> Result<Option<I::Item>, I::Error> {
-        answer_within(self.it.drive(&mut self.f, &FilterDrawTurn))
+        let turn = PassDrawTurn {
+            adapter: &FilterPass,
+        };
+        answer_within(self.it.drive(&mut self.f, &turn))
     }
 
     fn size_hint(&self) -> (usize, Option<usize>) {
@@ -74,7 +76,10 @@ where
 
     /// Draws from the back until an item is kept, or a failure or `Ok(None)` comes. It calls the predicate on each item.
     fn next_back(&mut self) -> Result<Option<I::Item>, I::Error> {
-        answer_within(self.it.drive_back(&mut self.f, &FilterDrawTurn))
+        let turn = PassDrawTurn {
+            adapter: &FilterPass,
+        };
+        answer_within(self.it.drive_back(&mut self.f, &turn))
     }
 
     fn drive_back<C, R, K: Turn<C, I::Item, R>>(
@@ -110,26 +115,6 @@ impl<X: Drop, E, F: FnMut(&X) -> Result<bool, E>> Pass<F, X, E> for FilterPass {
             Ok(true) => Outcome::Kept(item),
             Ok(false) => Outcome::LeftOut,
             Err(e) => Outcome::Failure(e),
-        }
-    }
-}
-
-// The turn of a draw, whose state is the predicate: it stops with an item for which that returns true, or if it fails.
-#[derive(Drop)]
-struct FilterDrawTurn;
-
-impl<X: Drop, E, F: FnMut(&X) -> Result<bool, E>> Turn<F, X, Result<Option<X>, E>>
-    for FilterDrawTurn {
-    ghost can_turn = { λ _ f x. takes_at F.FnMut f x };
-
-    ghost turns = { λ _ f x r g. DrawingTurn (call_at F.FnMut) tested_outcome f x r g };
-
-    #[inline(always)]
-    fn turn(&self, state: &mut F, item: X) -> ControlFlow<Result<Option<X>, E>, ()> {
-        match state(&item) {
-            Ok(true) => ControlFlow::Break(Ok(Some(item))),
-            Ok(false) => ControlFlow::Continue(()),
-            Err(e) => ControlFlow::Break(Err(e)),
         }
     }
 }

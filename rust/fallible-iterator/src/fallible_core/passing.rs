@@ -83,6 +83,23 @@ pub fn drive_back_passing<
     answer_within(answer)
 }
 
+/// The turn of a draw by a fold of the source: it stops with what becomes of the first item that isn't left out.
+pub(crate) struct PassDrawTurn<'a, A> {
+    pub(crate) adapter: &'a A,
+}
+
+impl<'a, P, X, E, A: Pass<P, X, E>> Turn<P, X, Result<Option<A::Kept>, E>> for PassDrawTurn<'a, A> {
+    #[inline(always)]
+    fn turn(&self, state: &mut P, item: X) -> ControlFlow<Result<Option<A::Kept>, E>, ()> {
+        match self.adapter.pass(state, item) {
+            Outcome::Kept(y) => ControlFlow::Break(Ok(Some(y))),
+            Outcome::LeftOut => ControlFlow::Continue(()),
+            Outcome::Failure(e) => ControlFlow::Break(Err(e)),
+            Outcome::End => ControlFlow::Break(Ok(None)),
+        }
+    }
+}
+
 /// The fold that counts what an adapter keeps: it adds one for each item that stays.
 pub(crate) fn drive_count_passing<I: FallibleIterator, P, A: Pass<P, I::Item, I::Error>>(
     it: &mut I,

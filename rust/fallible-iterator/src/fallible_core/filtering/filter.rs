@@ -2,10 +2,11 @@
 
 use crate::fallible_contract::folds::{Turn, answer_within};
 use crate::fallible_contract::passing::{Outcome, Pass};
-use crate::fallible_core::passing::{drive_back_passing, drive_count_passing, drive_passing};
+use crate::fallible_core::passing::{
+    PassDrawTurn, drive_back_passing, drive_count_passing, drive_passing,
+};
 use crate::fallible_core::traits::FallibleIterator;
 use crate::fallible_core::traits::double_ended::DoubleEndedFallibleIterator;
-use core::ops::ControlFlow;
 
 /// The items for which the predicate returns true. An item on which it fails is lost, and its failure is yielded.
 #[derive(Clone, Debug)]
@@ -24,7 +25,10 @@ impl<I: FallibleIterator, F: FnMut(&I::Item) -> Result<bool, I::Error>> Fallible
 
     /// Draws until an item is kept, or a failure or `Ok(None)` comes. It calls the predicate on each item.
     fn next(&mut self) -> Result<Option<I::Item>, I::Error> {
-        answer_within(self.it.drive(&mut self.f, &FilterDrawTurn))
+        let turn = PassDrawTurn {
+            adapter: &FilterPass,
+        };
+        answer_within(self.it.drive(&mut self.f, &turn))
     }
 
     fn size_hint(&self) -> (usize, Option<usize>) {
@@ -57,7 +61,10 @@ impl<I: DoubleEndedFallibleIterator, F: FnMut(&I::Item) -> Result<bool, I::Error
 {
     /// Draws from the back until an item is kept, or a failure or `Ok(None)` comes. It calls the predicate on each item.
     fn next_back(&mut self) -> Result<Option<I::Item>, I::Error> {
-        answer_within(self.it.drive_back(&mut self.f, &FilterDrawTurn))
+        let turn = PassDrawTurn {
+            adapter: &FilterPass,
+        };
+        answer_within(self.it.drive_back(&mut self.f, &turn))
     }
 
     #[inline(always)]
@@ -86,20 +93,6 @@ impl<X, E, F: FnMut(&X) -> Result<bool, E>> Pass<F, X, E> for FilterPass {
             Ok(true) => Outcome::Kept(item),
             Ok(false) => Outcome::LeftOut,
             Err(e) => Outcome::Failure(e),
-        }
-    }
-}
-
-// The turn of a draw, whose state is the predicate: it stops with an item for which that returns true, or if it fails.
-struct FilterDrawTurn;
-
-impl<X, E, F: FnMut(&X) -> Result<bool, E>> Turn<F, X, Result<Option<X>, E>> for FilterDrawTurn {
-    #[inline(always)]
-    fn turn(&self, state: &mut F, item: X) -> ControlFlow<Result<Option<X>, E>, ()> {
-        match state(&item) {
-            Ok(true) => ControlFlow::Break(Ok(Some(item))),
-            Ok(false) => ControlFlow::Continue(()),
-            Err(e) => ControlFlow::Break(Err(e)),
         }
     }
 }
