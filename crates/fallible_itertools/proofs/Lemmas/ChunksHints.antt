@@ -1,20 +1,18 @@
 -- The hint of `Chunks`: how many batches come at least, and at most.
-use Rattle.std.specs.Prelude.{◌≡◌, ℕ, ◌+◌, ◌-◌, ◌*◌, ◌/◌, ◌≤◌, ◌<◌, suc, max, cond, leb, Bool, true, false, Option, Some, None, [], ◌∷◌, length, vec_items}
+use Rattle.std.specs.Prelude.{◌≡◌, ℕ, ◌+◌, ◌-◌, ◌*◌, ◌/◌, ◌≤◌, ◌<◌, ⊤, suc, max, cond, leb, Bool, true, false, Option, Some, None, [], ◌∷◌, length, vec_items}
 use Rattle.std.proofs.Common.{refl, sym, ap, subst, arith, length-append, ◌∙◌}
 use Rattle.std.proofs.lemmas.Bool.{leb-false}
 use Rattle.std.proofs.Math.Nat.{div-lt_iff_lt-mul, div-le_self, suc-mul}
 use Rattle.fallible_iterator.specs.Contract.{Contract, seen_as}
-use Rattle.fallible_iterator.specs.SoundHints.{HintsAsSoundAs, SoundHints}
-use Rattle.fallible_itertools.specs.Chunks.{batch_held, begun, chunks_asks, chunks_contract, chunks_due, chunks_parts, room_left}
+use Rattle.fallible_itertools.specs.Chunks.{batch_held, begun, chunks_asks, chunks_contract, chunks_due, chunks_parts, chunks_source, room_left}
 use Rattle.fallible_itertools.specs.Batch.{Grown}
 use Rattle.fallible_iterator.specs.Hints.{fitting_sum}
-use Rattle.fallible_itertools.specs.Holding.{held_one}
+use Rattle.fallible_itertools.specs.Holding.{HintsWhereHeld, held_one}
 use Rattle.fallible_itertools.specs.Laws.Chunks.{holds_chunks}
-use Rattle.fallible_itertools.proofs.Lemmas.HoldingHints.{KeepsFew, hints_as_sound_where, sound_hints_where}
+use Rattle.fallible_itertools.proofs.Lemmas.HoldingHints.{KeepsFew, hints_where_held}
 use Rattle.std.specs.declared.vec.Vec.{Vec}
 use Rattle.std.specs.declared.alloc.Global.{Global}
 use Rattle.std.specs.declared.alloc.AllocError.{AllocError}
-use Rattle.fallible_itertools.specs.declared.chunks.Chunks.{Chunks}
 
 -- ---- numbers
 
@@ -63,17 +61,12 @@ module _ {A E : Type 0} (from : AllocError → E → Type 0) where
   held_one_bound_of n low m None few = let k : begun n 0 low ≤ m = begun_at_most n 0 low m (omega (arith, few)) in omega (arith, k)
   held_one_bound_of n low m (Some v) (k, at, few) = let j : begun n (room_left n (Some v)) low ≤ k = begun_at_most n (room_left n (Some v)) low k few in omega (arith, j, at)
 
-module _ {S A E : Type 0} (m : Contract S A E) (from : AllocError → E → Type 0) (s : Chunks S A E) where
+module _ {S A E : Type 0} (m : Contract S A E) (from : AllocError → E → Type 0) where
   abbrev IsBegun : S → ℕ × Option (Vec A Global) → ℕ × Option ℕ → Type 0
   IsBegun it p h = (k : ℕ × Option ℕ) × m.hints it k × (h.0 ≡ held_one p.1 + begun p.0 (room_left p.0 p.1) k.0) × (h.1 ≡ fitting_sum k.1 (Some (held_one p.1)))
 
   begun_bounds : (it : S) (p : ℕ × Option (Vec A Global)) (h : ℕ × Option ℕ) → IsBegun it p h → (k : ℕ × Option ℕ) × m.hints it k × ((n : ℕ) → EnoughBegun from p.0 p.1 k.0 n → h.0 ≤ n) × (h.1 ≡ fitting_sum k.1 (Some (batch_held p)))
   begun_bounds it p h is = (is.0, is.1, (λ n few. rw is.2 (held_one_bound_of from p.0 is.0.0 n p.1 few)), is.3)
 
-  -- Each hint of `Chunks` is as sound as that of its source.
-  pub hints_as_sound_chunks : chunks_due s ≡ None → HintsAsSoundAs (seen_as chunks_parts (chunks_contract from m)) s m s.it
-  hints_as_sound_chunks undue = hints_as_sound_where chunks_parts m (chunks_asks from) batch_held (holds_chunks from) (λ p low n. EnoughBegun from p.0 p.1 low n) (keeps_batches from) IsBegun begun_bounds s s.it s.stage.0 (ap (λ (d : Option (Option E)). (s.it, (s.stage.0, d))) undue)
-
-  -- Where a stop is due, nothing comes before it.
-  pub sound_hints_chunks : (stop : Option E) → chunks_due s ≡ Some stop → SoundHints (seen_as chunks_parts (chunks_contract from m)) s
-  sound_hints_chunks stop due = sound_hints_where chunks_parts m (chunks_asks from) batch_held (holds_chunks from) (λ p low n. EnoughBegun from p.0 p.1 low n) (keeps_batches from) IsBegun begun_bounds s s.it s.stage.0 stop (ap (λ (d : Option (Option E)). (s.it, (s.stage.0, d))) due)
+  pub hints_of_chunks : HintsWhereHeld (seen_as chunks_parts (chunks_contract from m)) (chunks_due {I = S} {A = A} {E = E}) m chunks_source
+  hints_of_chunks = hints_where_held chunks_parts (chunks_contract from m).can_next m (chunks_asks from) (λ p x. ⊤) batch_held (holds_chunks from) (λ p low n. EnoughBegun from p.0 p.1 low n) (keeps_batches from) IsBegun begun_bounds

@@ -1,16 +1,15 @@
 -- The hint of an adapter that holds and yields what is held before a stop.
 use Rattle.std.specs.Prelude.{◌≡◌, ℕ, suc, ◌+◌, ◌-◌, ◌≤◌, min, IfSome, Option, Some, None, Err, List, [], ◌∷◌, length}
-use Rattle.std.proofs.Common.{refl, sym, subst, arith}
+use Rattle.std.proofs.Common.{sym, ap, subst, arith, ◌∙◌}
 use Rattle.fallible_iterator.specs.Traces.{Answered, Yields, item, failure, end}
 use Rattle.fallible_iterator.specs.Contract.{Contract, seen_as}
-use Rattle.fallible_iterator.specs.SoundHints.{AsSound, BoundsAbove, BoundsBelow, Brackets, HintsAsSoundAs, SoundHints}
+use Rattle.fallible_iterator.specs.SoundHints.{BoundsAbove, BoundsBelow, Brackets, HintsAsSoundAs, SoundHints}
 use Rattle.fallible_iterator.proofs.Lemmas.Hints.Drawn.{as_sound_of_steps_within, brackets_no_item, brackets_seen}
 use Rattle.fallible_iterator.proofs.Lemmas.Hints.Joining.{if_some_fitting_sum_above}
 use Rattle.fallible_iterator.specs.Hints.{fitting_sum}
 use Rattle.fallible_itertools.specs.Staging.{Made, stage_step}
-use Rattle.fallible_itertools.specs.Holding.{HintHeld, HintUnlessEnd, Holds, MadeOfItem, StopMade, holding_contract, holding_meets, holding_step, made_answers, one_at_least, stop_comes}
-use Rattle.fallible_itertools.specs.Laws.Holding.{is_stage_holding, stage_of_holding}
-use Rattle.fallible_itertools.proofs.Lemmas.HoldingLists.{made_of_answers, nothing_made}
+use Rattle.fallible_itertools.specs.Holding.{HintHeld, HintUnlessEnd, HintsPastFailure, HintsWhereHeld, Holds, MadeOfItem, StopMade, filling_contract, holding_contract, holding_meets, holding_step, made_answers, one_at_least, stop_comes}
+use Rattle.fallible_itertools.specs.Laws.Holding.{is_stage_holding, made_of_answers, nothing_made, stage_of_holding}
 use Rattle.fallible_itertools.proofs.Lemmas.StagingHints.{MadeFew, MakesNoFewer, bounds_above_staged, bounds_below_staged, makes_one_at_most}
 use Rattle.fallible_iterator.specs.Outcome.{Outcome}
 use Rattle.fallible_iterator.specs.Outcome.TheVariants.{Kept, LeftOut, Failure, End}
@@ -77,32 +76,44 @@ module _ {S P X B E : Type 0} (steps : S → Answered X E → S → Type 0) (ask
 -- ---- its hints
 
 -- `Is s p h` says that h is the hint where the source is s and p is held; `Few` says which lower bound it has.
-module _ {V S P X B E : Type 0} (view : V → S × (P × Option (Option E))) (m : Contract S X E) (asks : P → Option X → Outcome B E → P → Type 0) (held : P → ℕ) (holds : Holds asks held) (Few : P → ℕ → ℕ → Type 0) (few : KeepsFew asks Few)
+module _ {V S P X B E : Type 0} (view : V → S × (P × Option (Option E))) (can : S × (P × Option (Option E)) → Type 0) (m : Contract S X E) (asks : P → Option X → Outcome B E → P → Type 0) (pre : P → Option X → Type 0) (held : P → ℕ) (holds : Holds asks held) (Few : P → ℕ → ℕ → Type 0) (few : KeepsFew asks Few)
     (Is : S → P → ℕ × Option ℕ → Type 0) (bounds : (s : S) (p : P) (h : ℕ × Option ℕ) → Is s p h → (k : ℕ × Option ℕ) × m.hints s k × ((n : ℕ) → Few p k.0 n → h.0 ≤ n) × (h.1 ≡ fitting_sum k.1 (Some (held p)))) where
   abbrev hint_where_held : S × (P × Option (Option E)) → ℕ × Option ℕ → Type 0
   hint_where_held (s, (p, due)) h = HintUnlessEnd due (λ j. Is s p j) h
 
-  abbrev Taken : V → Answered B E → V → Type 0
-  Taken u r v = holding_step asks m.steps (view u) r (view v)
+  abbrev SeenWhereHeld : Contract V B E
+  SeenWhereHeld = seen_as view (record (filling_contract m asks pre held hint_where_held) { can_next = can })
 
-  above_held : (it : S) (f : P) (k : ℕ × Option ℕ) → BoundsAbove m.steps it k.1 → BoundsAbove (stage_step stop_comes (holding_meets asks) m.steps) (it, (f, None)) (fitting_sum k.1 (Some (held f)))
+  abbrev Stage : S × (P × Option (Option E)) → Answered B E → S × (P × Option (Option E)) → Type 0
+  Stage = stage_step stop_comes (holding_meets asks) m.steps
+
+  -- what is seen, where this is due
+  abbrev given : V → Option (Option E) → S × (P × Option (Option E))
+  given s due = ((view s).0, ((view s).1.0, due))
+
+  above_held : (it : S) (f : P) (k : ℕ × Option ℕ) → BoundsAbove m.steps it k.1 → BoundsAbove Stage (it, (f, None)) (fitting_sum k.1 (Some (held f)))
   above_held it f k b = bounds_above_staged m.steps stop_comes (holding_meets asks) (λ p n. n + held p) (makes_one_at_most stop_comes (holding_meets asks) held (is_stage_holding asks held holds)) k.1 (fitting_sum k.1 (Some (held f))) it f None (λ n le. if_some_fitting_sum_above k.1 (Some (held f)) n (held f) (0 + (n + held f)) (omega arith) le (omega arith)) b
 
-  -- Each hint of such an adapter is as sound as that of its source.
-  pub hints_as_sound_where : (s : V) (it : S) (f : P) → view s ≡ (it, (f, None)) → (h : ℕ × Option ℕ) → hint_where_held (view s) h → (k : ℕ × Option ℕ) × m.hints it k × AsSound Taken s h m.steps it k
-  hints_as_sound_where s it f same h is = let k : hint_where_held (it, (f, None)) h = subst (λ (p : S × (P × Option (Option E))). hint_where_held p h) same is in let of = bounds it f h k in
-      let within = as_sound_of_steps_within view Taken (stage_step stop_comes (holding_meets asks) m.steps) (λ u r v w. stage_of_holding asks m.steps (view u) r (view v) w) s h in (
+  sound_undue : (s : V) → (view s).1.1 ≡ None → HintsAsSoundAs SeenWhereHeld s m (view s).0
+  sound_undue s none h is = let of = bounds (view s).0 (view s).1.0 h (subst (λ (d : Option (Option E)). hint_where_held (given s d) h) none is) in
+      let within = as_sound_of_steps_within view SeenWhereHeld.steps Stage (λ u r v w. stage_of_holding asks m.steps (view u) r (view v) w) s h in (
         of.0,
         of.1,
         record {
-          above = λ a. within.above (subst (λ (p : S × (P × Option (Option E))). BoundsAbove (stage_step stop_comes (holding_meets asks) m.steps) p h.1) (sym same) (subst (λ (o : Option ℕ). BoundsAbove (stage_step stop_comes (holding_meets asks) m.steps) (it, (f, None)) o) (sym of.3) (above_held it f of.0 a)));
-          below = λ b. within.below (subst (λ (p : S × (P × Option (Option E))). BoundsBelow (stage_step stop_comes (holding_meets asks) m.steps) p h.0) (sym same) (bounds_below_staged m.steps stop_comes (holding_meets asks) Few (makes_no_fewer asks held holds Few few) of.0.0 h.0 it f None of.2 b));
+          above = λ a. within.above (subst (λ (d : Option (Option E)). BoundsAbove Stage (given s d) h.1) (sym none) (subst (λ (o : Option ℕ). BoundsAbove Stage (given s None) o) (sym of.3) (above_held (view s).0 (view s).1.0 of.0 a)));
+          below = λ b. within.below (subst (λ (d : Option (Option E)). BoundsBelow Stage (given s d) h.0) (sym none) (bounds_below_staged m.steps stop_comes (holding_meets asks) Few (makes_no_fewer asks held holds Few few) of.0.0 h.0 (view s).0 (view s).1.0 None of.2 b));
         },
       )
 
-  -- Where a stop is due, nothing comes before it.
-  pub sound_hints_where : (s : V) (it : S) (f : P) (stop : Option E) → view s ≡ (it, (f, Some stop)) → (h : ℕ × Option ℕ) → hint_where_held (view s) h → Brackets Taken s h
-  sound_hints_where s it f stop same h is = brackets_seen view (holding_step asks m.steps) s h (subst (λ (p : S × (P × Option (Option E))). Brackets (holding_step asks m.steps) p h) (sym same) (brackets_due_sound m.steps asks it f stop _ h (subst (λ (p : S × (P × Option (Option E))). hint_where_held p h) same is)))
+  sound_due : (s : V) (stop : Option E) → (view s).1.1 ≡ Some stop → SoundHints SeenWhereHeld s
+  sound_due s stop due h is = brackets_seen view (holding_step asks m.steps) s h (subst (λ (d : Option (Option E)). Brackets (holding_step asks m.steps) (given s d) h) (sym due) (brackets_due_sound m.steps asks (view s).0 (view s).1.0 stop _ h (subst (λ (d : Option (Option E)). hint_where_held (given s d) h) due is)))
+
+  past_failure : (s : V) (e : E) → (view s).1.1 ≡ Some (Some e) → HintsPastFailure SeenWhereHeld s e
+  past_failure s e due t h step is = let w : holding_step asks m.steps (given s (Some (Some e))) (Err e) (view t) = subst (λ (d : Option (Option E)). holding_step asks m.steps (given s d) (Err e) (view t)) due step in
+      subst (λ (p : S × (P × Option (Option E))). hint_where_held p h) (sym (ap (λ (z : S). (z, (view t).1)) w.1 ∙ ap (λ (z : P × Option (Option E)). ((view s).0, z)) w.2)) (subst (λ (d : Option (Option E)). hint_where_held (given s d) h) due is)
+
+  pub hints_where_held : HintsWhereHeld SeenWhereHeld (λ s. (view s).1.1) m (λ s. (view s).0)
+  hints_where_held = record { none_due = sound_undue; due = sound_due; failure_due = past_failure }
 
 -- ---- at least one, where the source has one or one is held
 
@@ -121,20 +132,9 @@ module _ {V S P X B E : Type 0} (view : V → S × (P × Option (Option E))) (m 
   one_bounds : (s : S) (p : P) (h : ℕ × Option ℕ) → IsOne s p h → (k : ℕ × Option ℕ) × m.hints s k × ((n : ℕ) → min (k.0 + held p) 1 ≤ n → h.0 ≤ n) × (h.1 ≡ fitting_sum k.1 (Some (held p)))
   one_bounds s p h is = (is.0, is.1, (λ n few. rw is.2.0 few), is.2.1)
 
-  pub hints_as_sound_held : (s : V) (it : S) (f : P) → view s ≡ (it, (f, None)) → HintsAsSoundAs (seen_as view (holding_contract m asks pre held (one_at_least m held))) s m it
-  hints_as_sound_held = hints_as_sound_where view m asks held holds (λ p low n. min (low + held p) 1 ≤ n) keeps_one IsOne one_bounds
+  -- also where the adapter has a condition of its own
+  pub hints_held_with : (can : S × (P × Option (Option E)) → Type 0) → HintsWhereHeld (seen_as view (record (holding_contract m asks pre held (one_at_least m held)) { can_next = can })) (λ s. (view s).1.1) m (λ s. (view s).0)
+  hints_held_with can = hints_where_held view can m asks pre held holds (λ p low n. min (low + held p) 1 ≤ n) keeps_one IsOne one_bounds
 
-  pub sound_hints_due : (s : V) (it : S) (f : P) (stop : Option E) → view s ≡ (it, (f, Some stop)) → SoundHints (seen_as view (holding_contract m asks pre held (one_at_least m held))) s
-  sound_hints_due = sound_hints_where view m asks held holds (λ p low n. min (low + held p) 1 ≤ n) keeps_one IsOne one_bounds
-
--- ---- past a failure that is due
-
-module _ {V S P X B E : Type 0} (view : V → S × (P × Option (Option E))) (steps : S → Answered X E → S → Type 0) (asks : P → Option X → Outcome B E → P → Type 0) (hints : S × (P × Option (Option E)) → ℕ × Option ℕ → Type 0) (past : (it : S) (f : P) (e : E) (h : ℕ × Option ℕ) → hints (it, (f, Some (Some e))) h → hints (it, (f, None)) h) where
-  parts_are : (p : S × (P × Option (Option E))) {it : S} {q : P × Option (Option E)} → p.0 ≡ it → p.1 ≡ q → p ≡ (it, q)
-  parts_are (s, d) is same = rw (is, same) refl
-
-  -- Where the hint at a failure that is due is the one without it, it is that of what comes after the failure.
-  pub hints_past_due : (s : V) (it : S) (f : P) (e : E) → view s ≡ (it, (f, Some (Some e))) → (t : V) (h : ℕ × Option ℕ) → holding_step asks steps (view s) (Err e) (view t) → hints (view s) h → hints (view t) h
-  hints_past_due s it f e at t h step is = let w : holding_step asks steps (it, (f, Some (Some e))) (Err e) (view t) = subst (λ (p : S × (P × Option (Option E))). holding_step asks steps p (Err e) (view t)) at step in
-      let k : hints (it, (f, Some (Some e))) h = subst (λ (p : S × (P × Option (Option E))). hints p h) at is in
-      subst (λ (p : S × (P × Option (Option E))). hints p h) (sym (parts_are (view t) w.1 w.2)) (past it f e h k)
+  pub hints_held : HintsWhereHeld (seen_as view (holding_contract m asks pre held (one_at_least m held))) (λ s. (view s).1.1) m (λ s. (view s).0)
+  hints_held = hints_held_with (holding_contract m asks pre held (one_at_least m held)).can_next

@@ -5,10 +5,8 @@ use Rattle.fallible_iterator.specs.Traces.{Answered, item, failure}
 use Rattle.fallible_iterator.specs.Lists.{AlwaysGives, result_answer}
 use Rattle.fallible_iterator.specs.Making.{AtRefusal, GivesMade, IsRefusal}
 use Rattle.fallible_itertools.specs.Staging.{Made, made_before, one_made, stage_step, stop_answer}
-use Rattle.fallible_itertools.specs.Laws.Staging.{parts_made}
-use Rattle.fallible_itertools.specs.Holding.{MadeOfItem, MadeOfStop, StopMade, due_answer, holding_meets, holding_step, made_answers, stop_comes}
-use Rattle.fallible_itertools.specs.Laws.Holding.{stage_of_holding}
-use Rattle.fallible_itertools.proofs.Lemmas.Holding.{same_due}
+use Rattle.fallible_itertools.specs.Holding.{MadeOfItem, MadeOfStop, StopMade, holding_meets, holding_step, made_answers, stop_comes}
+use Rattle.fallible_itertools.specs.Laws.Holding.{made_of_answers, nothing_made, stage_of_holding}
 use Rattle.fallible_itertools.proofs.Lemmas.StagingLists.{EndMade, GivesUpTo, IsAnswerMade, IsMadeAs, RefusedAt, always_gives_within, gives_made_within, gives_staged, made_first, staged}
 use Rattle.std.specs.declared.alloc.AllocError.{AllocError}
 use Rattle.fallible_iterator.specs.Outcome.{Outcome}
@@ -105,15 +103,6 @@ module _ {Q X B E : Type 0} (does : Q → Option X → Outcome B E) (next : Q �
     some_kept (y ∷ l) n full none = some_first n y l (some_kept l) none
 
 -- ---- what is made, as answers
-
-module _ {B E : Type 0} where
-  pub made_of_answers : (m : Made B (Option E) E) (r : Answered B E) (due : Option (Option E)) → made_answers m ≡ r ∷ due_answer due → m ≡ Some (r, due)
-  made_of_answers None r due is = absurd cc
-  made_of_answers (Some (a, later)) r due is = let same : a ≡ r = cc in let rest : due_answer {B = B} later ≡ due_answer due = cc in parts_made same (same_due B later due rest)
-
-  pub nothing_made : (m : Made B (Option E) E) → made_answers m ≡ [] → m ≡ None
-  nothing_made None is = refl
-  nothing_made (Some (a, later)) is = absurd cc
 
 -- the outcome is the given one, with a value made of the given one
 abbrev pub OutcomeMade : {Y B E : Type 0} → (Y → B → Type 0) → Outcome Y E → Outcome B E → Type 0

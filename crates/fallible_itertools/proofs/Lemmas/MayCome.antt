@@ -9,9 +9,8 @@ use Rattle.fallible_iterator.specs.Laws.Closures.{may_answer_after, may_answer_h
 use Rattle.fallible_itertools.specs.Staging.{IsDue, IsMade, Made, MayCome, MayMeet, stop_answer}
 use Rattle.fallible_itertools.specs.Laws.Staging.{kept_where_reached}
 use Rattle.fallible_itertools.specs.Holding.{MadeOfItem, MayBeAsked, StopMade, holding_meets, made_answers, stop_comes}
-use Rattle.fallible_itertools.specs.Laws.Holding.{after_met}
+use Rattle.fallible_itertools.specs.Laws.Holding.{after_met, made_of_answers, nothing_made}
 use Rattle.fallible_itertools.specs.Parting.{item_comes, parting_meets, parting_stage}
-use Rattle.fallible_itertools.proofs.Lemmas.HoldingLists.{made_of_answers, nothing_made}
 use Rattle.fallible_iterator.specs.Outcome.{Outcome}
 use Rattle.fallible_iterator.specs.Outcome.TheVariants.{Kept, LeftOut, Failure, End}
 
