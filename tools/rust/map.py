@@ -103,7 +103,7 @@ ITERTOOLS = [
     (r"traits\.rs", r"^    fn (?:chunks|chunk_by|join|sorted|sorted_by_key)\b", r'    #[cfg(feature = "alloc")]\n\g<0>', 5),
     (r"traits\.rs", r"^    fn (?:counts|into_group_map|unique)\b", r'    #[cfg(feature = "std")]\n\g<0>', 3),
     (r"lib\.rs", r"\A(?://!.*\n)+\n", HEAD + "mod errors;\n", 1),
-    (r"lib\.rs", r"^pub mod \w+;", r"#[doc(hidden)]\n\g<0>", 34),
+    (r"lib\.rs", r"^pub mod \w+;", r"#[doc(hidden)]\n\g<0>", 36),
     (r"(?:counts|group_map|join|partition_map)\.rs", r"\A(//.*\n\n)", r"\1use fallible_iterator::memory::AllocError;\n", 4),
 ]
 

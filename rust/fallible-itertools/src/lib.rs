@@ -76,6 +76,8 @@ pub mod minmax;
 #[doc(hidden)]
 pub mod or_else;
 #[doc(hidden)]
+pub mod pad_using;
+#[doc(hidden)]
 pub mod partition_map;
 #[doc(hidden)]
 pub mod peeking_take_while;
@@ -92,6 +94,8 @@ pub mod take_while_inclusive;
 pub mod traits;
 #[doc(hidden)]
 pub mod tuple_windows;
+#[doc(hidden)]
+pub mod tuples;
 #[cfg(feature = "std")]
 #[doc(hidden)]
 pub mod unique;
@@ -122,12 +126,14 @@ pub use merge::Merge;
 pub use merge_by::MergeBy;
 pub use minmax::MinMaxResult;
 pub use or_else::OrElse;
+pub use pad_using::PadUsing;
 pub use partition_map::Either;
 pub use peeking_take_while::{PeekingNext, PeekingTakeWhile};
 pub use stop_after::StopAfter;
 pub use take_while_inclusive::TakeWhileInclusive;
 pub use traits::FallibleItertools;
 pub use tuple_windows::TupleWindows;
+pub use tuples::Tuples;
 #[cfg(feature = "std")]
 pub use unique::Unique;
 pub use with_position::{Position, WithPosition};
