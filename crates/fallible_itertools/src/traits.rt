@@ -533,8 +533,8 @@ pub trait FallibleItertools: FallibleIterator {
     ///
     /// ```
     /// let mut it = convert([Ok::<u32, u8>(7), Ok(150), Ok(8)].into_iter());
-    /// let mut find = || it.find_position(|reading: &u32| Ok(*reading > 100));
-    /// assert_eq!(rt; [find(), find()], [Ok(Some((1, 150))), Ok(None)]);
+    /// let found = it.find_position(|reading| Ok(*reading > 100));
+    /// assert_eq!(rt; (found, it.next()), (Ok(Some((1, 150))), Ok(Some(8))));
     /// ```
     final fn find_position<F>(&mut self, f: F) -> Result<Option<(usize, Self::Item)>, Self::Error>
     where
