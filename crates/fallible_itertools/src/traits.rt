@@ -1599,7 +1599,7 @@ pub trait FallibleItertools: FallibleIterator {
         sorted_items(self.collect(alloc))
     }
 
-    /// Returns the items in a `Vec`, in the order that the closure returns for each two. Items that it finds equal keep their order. If it compares as no order does, it returns the items in any order, each of them once.
+    /// Returns the items in a `Vec`, in the order that the closure returns for each two. Items that it finds equal keep their order. If it compares as no order does, it returns the items in any order, each of them once; in Rust it may panic.
     ///
     /// Draws and errors: as `sorted`. The closure doesn't fail. It is called after the last draw. It consumes the iterator.
     ///
