@@ -30,14 +30,18 @@ pub mod intersperse_with;
 mod is_sorted;
 mod is_sorted_by;
 pub mod join;
-pub mod keyed;
+mod keyed;
 pub mod laws;
 pub mod merge;
 pub mod merge_by;
 pub mod minmax;
 pub mod or_else;
+<<<<<<< HEAD
 pub mod pad_using;
 pub mod parted;
+=======
+mod parted;
+>>>>>>> lane-calls
 pub mod partition_map;
 pub mod peeking_take_while;
 mod sides;

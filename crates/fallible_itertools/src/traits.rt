@@ -564,8 +564,8 @@ pub trait FallibleItertools: FallibleIterator {
     ///
     /// ```
     /// let mut it = convert([Ok::<u32, u8>(7), Ok(150), Ok(8)].into_iter());
-    /// let mut find = || it.find_position(|reading: &u32| Ok(*reading > 100));
-    /// assert_eq!(rt; [find(), find()], [Ok(Some((1, 150))), Ok(None)]);
+    /// let found = it.find_position(|reading| Ok(*reading > 100));
+    /// assert_eq!(rt; (found, it.next()), (Ok(Some((1, 150))), Ok(Some(8))));
     /// ```
     final fn find_position<F>(&mut self, f: F) -> Result<Option<(usize, Self::Item)>, Self::Error>
     where
@@ -1669,7 +1669,7 @@ pub trait FallibleItertools: FallibleIterator {
         sorted_items(self.collect(alloc))
     }
 
-    /// Returns the items in a `Vec`, in the order that the closure returns for each two. Items that it finds equal keep their order. If it compares as no order does, it returns the items in any order, each of them once.
+    /// Returns the items in a `Vec`, in the order that the closure returns for each two. Items that it finds equal keep their order. If it compares as no order does, it returns the items in any order, each of them once; in Rust it may panic.
     ///
     /// Draws and errors: as `sorted`. The closure doesn't fail. It is called after the last draw. It consumes the iterator.
     ///
