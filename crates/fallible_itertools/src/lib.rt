@@ -36,12 +36,8 @@ pub mod merge;
 pub mod merge_by;
 pub mod minmax;
 pub mod or_else;
-<<<<<<< HEAD
 pub mod pad_using;
-pub mod parted;
-=======
 mod parted;
->>>>>>> lane-calls
 pub mod partition_map;
 pub mod peeking_take_while;
 mod sides;
