@@ -46,10 +46,13 @@ pub mod dedup_by_key;
 #[doc(hidden)]
 pub mod double_ended;
 mod equal;
+#[doc(hidden)]
+pub mod err_into;
 mod errors;
 #[doc(hidden)]
 pub mod exactly_one;
 mod find_or_last;
+mod find_position;
 #[doc(hidden)]
 pub mod fold_while;
 #[cfg(feature = "std")]
@@ -64,9 +67,12 @@ pub mod intersperse;
 #[doc(hidden)]
 pub mod intersperse_with;
 mod is_sorted;
+mod is_sorted_by;
 #[cfg(feature = "alloc")]
 #[doc(hidden)]
 pub mod join;
+#[cfg(feature = "std")]
+mod keyed;
 #[doc(hidden)]
 pub mod merge;
 #[doc(hidden)]
@@ -75,6 +81,7 @@ pub mod merge_by;
 pub mod minmax;
 #[doc(hidden)]
 pub mod or_else;
+mod parted;
 #[doc(hidden)]
 pub mod pad_using;
 #[doc(hidden)]
@@ -99,6 +106,7 @@ pub mod tuples;
 #[cfg(feature = "std")]
 #[doc(hidden)]
 pub mod unique;
+mod until_failure;
 #[doc(hidden)]
 pub mod with_position;
 #[cfg(doc)]
@@ -117,6 +125,7 @@ pub use dedup::Dedup;
 pub use dedup_by::DedupBy;
 pub use dedup_by_key::DedupByKey;
 pub use double_ended::DoubleEndedFallibleItertools;
+pub use err_into::ErrInto;
 pub use exactly_one::NotOne;
 pub use fold_while::FoldWhile;
 pub use inspect_err::InspectErr;

@@ -13,7 +13,8 @@ fn each_iterator_has_what_it_keeps() {
     // The source.
     rows! { M;
         M => ChunkBy<Of<M>, (), ()>, Chunks<Of<M>>, Coalesce<Of<M>, ()>, Copied<M>, Dedup<Of<M>>, DedupBy<Of<M>, ()>,
-            DedupByKey<Of<M>, (), ()>, InspectErr<M, ()>, Intersperse<Of<M>>, IntersperseWith<Of<M>, ()>,
+            DedupByKey<Of<M>, (), ()>, ErrInto<M, ()>, InspectErr<M, ()>, Intersperse<Of<M>>,
+            IntersperseWith<Of<M>, ()>,
             Merge<Of<M>, ()>, Merge<Of<()>, M>, MergeBy<Of<M>, (), ()>, MergeBy<Of<()>, M, ()>, OrElse<M, ()>,
             PadUsing<M, ()>, PeekingTakeWhile<M, ()>, StopAfter<M>, TakeWhileInclusive<M, ()>, TupleWindows<Of<M>>,
             Tuples<Of<M>>, Unique<Of<M>>, WithPosition<Of<M>>, ZipLongest<Of<M>, ()>, ZipLongest<Of<()>, M>;
