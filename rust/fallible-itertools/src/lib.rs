@@ -81,9 +81,9 @@ pub mod merge_by;
 pub mod minmax;
 #[doc(hidden)]
 pub mod or_else;
-mod parted;
 #[doc(hidden)]
 pub mod pad_using;
+mod parted;
 #[doc(hidden)]
 pub mod partition_map;
 #[doc(hidden)]

@@ -15,8 +15,10 @@ use crate::dedup::Dedup;
 use crate::dedup_by::DedupBy;
 use crate::dedup_by_key::DedupByKey;
 use crate::equal::{AllEqualTurn, ContainsTurn};
+use crate::err_into::ErrInto;
 use crate::exactly_one::NotOne;
 use crate::find_or_last::{FindLastTurn, or_last};
+use crate::find_position::FindPositionTurn;
 use crate::fold_while::{FoldWhile, FoldWhileTurn, while_or_stop};
 #[cfg(feature = "std")]
 use crate::group_map::GroupMap;
@@ -24,23 +26,28 @@ use crate::inspect_err::InspectErr;
 use crate::intersperse::Intersperse;
 use crate::intersperse_with::IntersperseWith;
 use crate::is_sorted::{InOrderTurn, SortedTurn};
+use crate::is_sorted_by::SortedByTurn;
 #[cfg(feature = "alloc")]
 use crate::join::JoinTurn;
+#[cfg(feature = "std")]
+use crate::keyed::Keyed;
 use crate::merge::Merge;
 use crate::merge_by::MergeBy;
 use crate::minmax::{MinMaxResult, MinMaxTurn, lesser_first};
 use crate::or_else::OrElse;
 use crate::pad_using::PadUsing;
+use crate::parted::Parted;
 use crate::partition_map::Either;
 use crate::sides::Holding;
 #[cfg(feature = "alloc")]
-use crate::sorted::{sorted_items, sorted_items_by_key};
+use crate::sorted::{sorted_items, sorted_items_by, sorted_items_by_key};
 use crate::stop_after::StopAfter;
 use crate::take_while_inclusive::TakeWhileInclusive;
 use crate::tuple_windows::TupleWindows;
 use crate::tuples::Tuples;
 #[cfg(feature = "std")]
 use crate::unique::Unique;
+use crate::until_failure::{PushTurn, with_failure};
 use crate::with_position::WithPosition;
 use crate::zip_longest::ZipLongest;
 #[cfg(feature = "alloc")]
@@ -52,6 +59,7 @@ use core::cmp::Ordering;
 use core::fmt::Display;
 #[cfg(feature = "std")]
 use core::hash::Hash;
+use core::marker::PhantomData;
 use fallible_iterator::extending::{
     FindTest, FindTurn, ForEachTurn, PositionTurn, ReadEq, Reading, answer_or, answer_or_none,
     found, ordered,
@@ -583,6 +591,47 @@ pub trait FallibleItertools: FallibleIterator + Sized {
         answer_or(self.drive(&mut None, &AllEqualTurn), true)
     }
 
+    /// Returns the first item on which the predicate returns true, beside how many items come before it; `Ok(None)` if there is none.
+    ///
+    /// It draws up to the first item on which the predicate returns true or fails, the first failure or `Ok(None)`. It fails with the first failure, of this iterator or of the predicate. Nothing is drawn after that, and the iterator may be used again.
+    ///
+    /// Precondition, which is not checked: at most `usize::MAX` items are left, so that each position fits.
+    ///
+    /// ```
+    /// # use fallible_iterator::{FallibleIterator, convert};
+    /// # use fallible_itertools::DoubleEndedFallibleItertools;
+    /// # use fallible_itertools::FallibleItertools;
+    /// let mut it = convert([Ok::<u32, u8>(7), Ok(150), Ok(8)].into_iter());
+    /// let found = it.find_position(|reading| Ok(*reading > 100));
+    /// assert_eq!((found, it.next()), (Ok(Some((1, 150))), Ok(Some(8))));
+    /// ```
+    ///
+    /// <details><summary>Contract</summary>
+    ///
+    /// As it is proved, in [these words](crate::words):
+    ///
+    /// ```text
+    /// requires can_next { Self.contract.can_next self.old }
+    /// requires fits { AtMost Self.contract self.old (2 ^ 64 - 1) }
+    /// requires callable { search.CallableInSearch (call_at F.FnMut) find_position_pick
+    ///     Self.contract.steps (takes_at F.FnMut) self.old f }
+    /// ensures searched { (g : F) × search.SearchDrains (call_at F.FnMut) find_position_pick
+    ///     Self.contract.steps None self.old f result self.new g }
+    /// ensures value { OverListWith (list.Acts (call_at F.FnMut) f) Self.contract.steps self.old
+    ///     (λ h l. result ≡ position_found h l) }
+    /// ensures rest { OverListWith (list.Acts (call_at F.FnMut) f) Self.contract.steps self.old
+    ///     (λ h l. ¬ (result ≡ Ok None)
+    ///     → list.Lists Self.contract.steps self.new (list.rest_true h l)) }
+    /// ensures stays { Stays Self.contract self.old self.new }
+    /// ```
+    /// </details>
+    fn find_position<F>(&mut self, f: F) -> Result<Option<(usize, Self::Item)>, Self::Error>
+    where
+        F: FnMut(&Self::Item) -> Result<bool, Self::Error>,
+    {
+        answer_or_none(self.drive(&mut (0, f), &FindPositionTurn))
+    }
+
     /// Returns the first item on which the predicate returns true, or the last item if there is none; `Ok(None)` if there is no item.
     ///
     /// It draws up to the first item on which the predicate returns true or fails, the first failure or `Ok(None)`. It calls the predicate on each item drawn, in order. Nothing is drawn after that. It fails with the first failure, of this iterator or of the predicate. It consumes the iterator.
@@ -802,6 +851,45 @@ pub trait FallibleItertools: FallibleIterator + Sized {
         answer_or(self.drive(&mut state, &SortedTurn), true)
     }
 
+    /// Returns whether the closure returns true for each two adjacent items. It is called on references to an item and the next one.
+    ///
+    /// It draws up to the first item for which the closure returns false or fails, the first failure or `Ok(None)`. Nothing is drawn after that. It fails with the first failure, of this iterator or of the closure. It consumes the iterator.
+    ///
+    /// Precondition, which is not checked: the iterator is finite.
+    ///
+    /// ```
+    /// # use fallible_iterator::{FallibleIterator, convert};
+    /// # use fallible_itertools::DoubleEndedFallibleItertools;
+    /// # use fallible_itertools::FallibleItertools;
+    /// let readings = [Ok::<u32, u8>(150), Ok(7), Ok(8)];
+    /// let it = convert(readings.into_iter());
+    /// assert_eq!(it.is_sorted_by(|x: &u32, y: &u32| Ok(x > y)), Ok(false));
+    /// ```
+    ///
+    /// <details><summary>Contract</summary>
+    ///
+    /// As it is proved, in [these words](crate::words):
+    ///
+    /// ```text
+    /// requires can_next { Self.contract.can_next self }
+    /// requires finite { Self.contract.is_finite self }
+    /// requires callable { search.CallableInSearch (PairCall (call_at_two F.FnMut))
+    ///     search.all_pick Self.contract.steps (takes_pair (takes_at_two F.FnMut)) self (None, f) }
+    /// ensures sorted { (left : Self) × (q : Option Self.Item × F)
+    ///     × search.SearchDrains (PairCall (call_at_two F.FnMut)) search.all_pick
+    ///     Self.contract.steps true self (None, f) result left q }
+    /// ensures value { OverListWith (list.ActsWith (call_at_two F.FnMut) f) Self.contract.steps self
+    ///     (λ h l. result ≡ in_order_by h l) }
+    /// ```
+    /// </details>
+    fn is_sorted_by<F>(mut self, f: F) -> Result<bool, Self::Error>
+    where
+        F: FnMut(&Self::Item, &Self::Item) -> Result<bool, Self::Error>,
+    {
+        let mut state = (None, f);
+        answer_or(self.drive(&mut state, &SortedByTurn), true)
+    }
+
     /// Returns whether no item is less than the one before it. An item that can't be compared with the one before it counts as less.
     ///
     /// It draws up to the first item that is less, the first failure or `Ok(None)`. Nothing is drawn after that. It fails with that failure. It consumes the iterator.
@@ -954,6 +1042,44 @@ pub trait FallibleItertools: FallibleIterator + Sized {
         F: FnMut(&Self::Error),
     {
         InspectErr { it: self, f }
+    }
+
+    /// Converts each failure by `From`. So `chain`, `zip` and `merge` take two sources with two error types and no closure.
+    ///
+    /// Creating it draws nothing. `next` draws once, and converts a failure. It fails where the source does, with what the failure is converted to. After a failure and after `Ok(None)` the next call draws again. It is double-ended if the source is.
+    ///
+    /// ```
+    /// # use fallible_iterator::{FallibleIterator, convert};
+    /// # use fallible_itertools::FallibleItertools;
+    /// # use fallible_itertools::PeekingNext;
+    /// let readings = convert([Ok::<u32, u8>(150), Err(9)].into_iter());
+    /// let totals = convert([Ok::<u32, u16>(157), Err(700)].into_iter());
+    /// let mut it = readings.err_into::<u32>().chain(totals.err_into());
+    /// let drawn = [it.next(), it.next(), it.next(), it.next()];
+    /// assert_eq!(drawn, [Ok(Some(150)), Err(9), Ok(Some(157)), Err(700)]);
+    /// ```
+    ///
+    /// <details><summary>Contract</summary>
+    ///
+    /// As it is proved, in [these words](crate::words):
+    ///
+    /// ```text
+    /// ensures parts { err_into_parts result ≡ (self, tt) }
+    /// ensures lists { (convert : Self.Error → E) → list.Converts E.from_gives convert
+    ///     → OverList Self.contract.steps self
+    ///     (λ l. list.Lists (seen_as err_into_parts
+    ///     (err_into_contract E.from_gives Self.contract)).steps result
+    ///     (failures_mapped convert l)) }
+    /// ```
+    /// </details>
+    fn err_into<E>(self) -> ErrInto<Self, E>
+    where
+        E: From<Self::Error>,
+    {
+        ErrInto {
+            it: self,
+            made: PhantomData,
+        }
     }
 
     /// Replaces each failure by what the closure returns for it: an item, nothing or another failure.
@@ -1446,6 +1572,54 @@ pub trait FallibleItertools: FallibleIterator + Sized {
         }
     }
 
+    /// Returns how often each key comes that the closure makes of the items, as a map. A key of the map is the first of equal ones.
+    ///
+    /// Draws and errors: as `counts` of `map`. The closure is called once on each item. If it fails, this stops and fails with that failure. It consumes the iterator.
+    ///
+    /// Precondition, which is not checked: at most `usize::MAX` items are left, so that each number fits.
+    ///
+    /// ```
+    /// # use fallible_iterator::{FallibleIterator, convert};
+    /// # use fallible_itertools::DoubleEndedFallibleItertools;
+    /// # use fallible_itertools::FallibleItertools;
+    /// let readings = [Ok::<u32, u8>(150), Ok(7), Ok(157)];
+    /// let counts = convert(readings.into_iter()).counts_by(|reading: u32| Ok(
+    ///     reading / 100,
+    /// ))?;
+    /// assert_eq!((counts.get(&1), counts.get(&0)), (Some(&2), Some(&1)));
+    /// # Ok::<(), u8>(())
+    /// ```
+    ///
+    /// <details><summary>Contract</summary>
+    ///
+    /// As it is proved, where its signature is another, in [these words](crate::words):
+    ///
+    /// ```text
+    /// requires can_next { Self.contract.can_next self }
+    /// requires fits { AtMost Self.contract self (2 ^ 64 - 1) }
+    /// requires callable { IsCallable (call_on F.FnMut) (takes_on F.FnMut)
+    ///     (Self.contract.may_give self) f }
+    /// ensures collects { Collects (map_contract Self.contract F.FnMut).steps
+    ///     (IsCountsOf K.eq) ⊥ (λ m x. (get K.eq m x ≡ None) × (spare m ≡ 0)) (self, f) result }
+    /// ensures value { OverListWith (list.Acts (call_on F.FnMut) f) Self.contract.steps self
+    ///     (λ h l. list.CollectedAs (IsCountsOf K.eq) (list.mapped h l) result) }
+    /// ensures contents { OverListWith (list.Acts (call_on F.FnMut) f) Self.contract.steps self
+    ///     (λ h l. IfOk result (list.MadeOf (IsCountsOf K.eq)
+    ///     (list.collected (list.mapped h l)))) }
+    /// ensures failure { OverListWith (list.Acts (call_on F.FnMut) f) Self.contract.steps self
+    ///     (λ h l. (e : Self.Error) → result ≡ Err (Source e)
+    ///     → list.collected (list.mapped h l) ≡ Err e) }
+    /// ```
+    /// </details>
+    #[cfg(feature = "std")]
+    fn counts_by<K, F>(self, f: F) -> Result<HashMap<K, usize>, Self::Error>
+    where
+        K: Eq + Hash,
+        F: FnMut(Self::Item) -> Result<K, Self::Error>,
+    {
+        self.map(f).counts()
+    }
+
     /// Returns the pairs' values by their keys, as a map. A key is the first of equal keys, its value a `Vec` of the values of the pairs with an equal key, in order.
     ///
     /// It draws up to `Ok(None)` or the first failure. It fails with that failure. It consumes the iterator.
@@ -1494,6 +1668,101 @@ pub trait FallibleItertools: FallibleIterator + Sized {
             Ok(Some(refused)) => match refused {},
             Err(e) => Err(e),
         }
+    }
+
+    /// Returns a collection of the items before the first failure, and that failure if one came.
+    ///
+    /// It draws up to `Ok(None)` or the first failure. Nothing is drawn after that, and the iterator may be used again: a second call collects what comes after the failure. Of equal items it keeps what `collect` keeps.
+    ///
+    /// Precondition, which is not checked: the iterator is finite.
+    ///
+    /// ```
+    /// # use fallible_iterator::{FallibleIterator, convert};
+    /// # use fallible_itertools::DoubleEndedFallibleItertools;
+    /// # use fallible_itertools::FallibleItertools;
+    /// let readings = [Ok::<u32, u8>(150), Ok(7), Err(9), Ok(700)];
+    /// let mut it = convert(readings.into_iter());
+    /// let (before, failure): (Vec<u32>, Option<u8>) = it.collect_until_failure()?;
+    /// assert_eq!(before, vec![150, 7]);
+    /// assert_eq!(failure, Some(9));
+    /// assert_eq!(it.next(), Ok(Some(700)));
+    /// # Ok::<(), u8>(())
+    /// ```
+    ///
+    /// <details><summary>Contract</summary>
+    ///
+    /// As it is proved, where its signature is another, in [these words](crate::words):
+    ///
+    /// ```text
+    /// requires can_next { Self.contract.can_next self.old }
+    /// requires finite { Self.contract.is_finite self.old }
+    /// ensures collects { CollectsUntil Self.contract.steps C.made C.empty_refuses C.push_refuses
+    ///     self.old result self.new }
+    /// ensures value { OverList Self.contract.steps self.old
+    ///     (λ l. CollectedUntilAs C.made l result) }
+    /// ensures rest { OverList Self.contract.steps self.old
+    ///     (λ l. (c : C) (e : Self.Error) → result ≡ Ok (c, Some e)
+    ///     → list.Lists Self.contract.steps self.new (rest_failure l)) }
+    /// ensures stays { Stays Self.contract self.old self.new }
+    /// ```
+    /// </details>
+    fn collect_until_failure<C>(&mut self) -> (C, Option<Self::Error>)
+    where
+        C: Default + Extend<Self::Item>,
+    {
+        let mut made = Extended(C::default());
+        let answer = self.drive(&mut made, &PushTurn);
+        match with_failure(answer, made) {
+            Ok((made, failure)) => (made.0, failure),
+            Err(refused) => match refused {},
+        }
+    }
+
+    /// Returns the items by the keys that the closure makes of them, as a map. A key of the map is the first of equal ones, its value a `Vec` of the items with an equal key, in order.
+    ///
+    /// Draws and errors: as `into_group_map`. The closure is called once on each item, through a reference. If it fails, this stops and fails with that failure. It consumes the iterator.
+    ///
+    /// Precondition, which is not checked: the iterator is finite.
+    ///
+    /// ```
+    /// # use fallible_iterator::{FallibleIterator, convert};
+    /// # use fallible_itertools::DoubleEndedFallibleItertools;
+    /// # use fallible_itertools::FallibleItertools;
+    /// let readings = [Ok::<u32, u8>(150), Ok(7), Ok(157)];
+    /// let groups = convert(readings.into_iter()).into_group_map_by(|reading: &u32| Ok(
+    ///     *reading / 100,
+    /// ))?;
+    /// assert_eq!(groups.get(&1), Some(&vec![150, 157]));
+    /// # Ok::<(), u8>(())
+    /// ```
+    ///
+    /// <details><summary>Contract</summary>
+    ///
+    /// As it is proved, where its signature is another, in [these words](crate::words):
+    ///
+    /// ```text
+    /// requires can_next { Self.contract.can_next self }
+    /// requires finite { Self.contract.is_finite self }
+    /// requires callable { IsCallable (call_at F.FnMut) (takes_at F.FnMut)
+    ///     (Self.contract.may_give self) f }
+    /// ensures collects { Collects (keyed_contract Self.contract F.FnMut).steps
+    ///     (IsGroupMapOf K.eq) ⊥ (GroupRefuses K.eq) (self, f) result }
+    /// ensures value { OverListWith (list.Acts (call_at F.FnMut) f) Self.contract.steps self
+    ///     (λ h l. list.CollectedAs (IsGroupMapOf K.eq) (keyed h l) result) }
+    /// ensures contents { OverListWith (list.Acts (call_at F.FnMut) f) Self.contract.steps self
+    ///     (λ h l. IfOk result (list.MadeOf (IsGroupMapOf K.eq) (list.collected (keyed h l)))) }
+    /// ensures failure { OverListWith (list.Acts (call_at F.FnMut) f) Self.contract.steps self
+    ///     (λ h l. (e : Self.Error) → result ≡ Err (Source e)
+    ///     → list.collected (keyed h l) ≡ Err e) }
+    /// ```
+    /// </details>
+    #[cfg(feature = "std")]
+    fn into_group_map_by<K, F>(self, f: F) -> Result<HashMap<K, Vec<Self::Item>>, Self::Error>
+    where
+        K: Eq + Hash,
+        F: FnMut(&Self::Item) -> Result<K, Self::Error>,
+    {
+        Keyed { it: self, f }.into_group_map()
     }
 
     /// Returns two collections of what the closure returns for the items: of the values of each `Either::Left`, and of those of each `Either::Right`, in order. Of equal values they keep what `collect` keeps.
@@ -1556,6 +1825,50 @@ pub trait FallibleItertools: FallibleIterator + Sized {
         }
     }
 
+    /// Returns two collections: of the items, and of the failures, each in order. Of equal values they keep what `collect` keeps.
+    ///
+    /// It draws up to `Ok(None)`; a failure doesn't stop it. It consumes the iterator. In Rust it never returns over a source that fails for ever; `take(n).stop_after(m)` before it bounds items and failures together.
+    ///
+    /// Precondition, which is not checked: the iterator is finite.
+    ///
+    /// ```
+    /// # use fallible_iterator::{FallibleIterator, convert};
+    /// # use fallible_itertools::DoubleEndedFallibleItertools;
+    /// # use fallible_itertools::FallibleItertools;
+    /// let readings = [Ok::<u32, u8>(150), Err(9), Ok(7), Err(8)];
+    /// let (items, failures): (Vec<u32>, Vec<u8>) = convert(readings.into_iter()).partition_failures()?;
+    /// assert_eq!(items, vec![150, 7]);
+    /// assert_eq!(failures, vec![9, 8]);
+    /// # Ok::<(), u8>(())
+    /// ```
+    ///
+    /// <details><summary>Contract</summary>
+    ///
+    /// As it is proved, where its signature is another, in [these words](crate::words):
+    ///
+    /// ```text
+    /// requires can_next { Self.contract.can_next self }
+    /// requires bounded { IsFinite (Self.contract.remaining self) }
+    /// ensures collects { Collects (parted_step Self.contract.steps)
+    ///     (MadeOfEithers C.made D.made) (C.empty_refuses ⊎ D.empty_refuses)
+    ///     (EitherRefused C.push_refuses D.push_refuses) self (without_source result) }
+    /// ensures value { OverList Self.contract.steps self
+    ///     (λ l. PartitionedFailuresAs C.made D.made l result) }
+    /// ```
+    /// </details>
+    fn partition_failures<C, D>(self) -> (C, D)
+    where
+        C: Default + Extend<Self::Item>,
+        D: Default + Extend<Self::Error>,
+    {
+        let mut both = (Extended(C::default()), Extended(D::default()));
+        match (Parted { it: self }).drive(&mut both, &CollectTurn) {
+            Ok(None) => (both.0.0, both.1.0),
+            Ok(Some(refused)) => match refused {},
+            Err(never) => match never {},
+        }
+    }
+
     /// Returns the items in a `Vec`, in order. Equal items keep their order.
     ///
     /// It draws up to `Ok(None)` or the first failure. It fails with that failure. After `Ok(None)` it sorts. It consumes the iterator.
@@ -1595,6 +1908,55 @@ pub trait FallibleItertools: FallibleIterator + Sized {
         Self::Item: Ord,
     {
         sorted_items(self.collect())
+    }
+
+    /// Returns the items in a `Vec`, in the order that the closure returns for each two. Items that it finds equal keep their order. If it compares as no order does, it returns the items in any order, each of them once; in Rust it may panic.
+    ///
+    /// Draws and errors: as `sorted`. The closure doesn't fail. It is called after the last draw. It consumes the iterator.
+    ///
+    /// Precondition, which is not checked: the iterator is finite.
+    ///
+    /// ```
+    /// # use fallible_iterator::{FallibleIterator, convert};
+    /// # use fallible_itertools::DoubleEndedFallibleItertools;
+    /// # use fallible_itertools::FallibleItertools;
+    /// let readings = [Ok::<u32, u8>(150), Ok(7), Ok(700)];
+    /// let falling = convert(readings.into_iter()).sorted_by(|x: &u32, y: &u32| y.cmp(x),
+    /// )?;
+    /// assert_eq!(falling, vec![700, 150, 7]);
+    /// # Ok::<(), u8>(())
+    /// ```
+    ///
+    /// <details><summary>Contract</summary>
+    ///
+    /// As it is proved, where its signature is another, in [these words](crate::words):
+    ///
+    /// ```text
+    /// requires can_next { Self.contract.can_next self }
+    /// requires finite { Self.contract.is_finite self }
+    /// requires callable { F.IsAlwaysCallable f }
+    /// ensures collects { CollectsSorted Self.contract.steps (IsSortedByComparisons F.FnMut f)
+    ///     self result }
+    /// ensures value { (lt : Self.Item → Self.Item → Bool) → IsStrictWeakOrder lt
+    ///     → ComparesAs F.FnMut lt f
+    ///     → OverList Self.contract.steps self
+    ///     (λ l. list.CollectedAs (IsSortedByTest lt) l result) }
+    /// ensures contents { (lt : Self.Item → Self.Item → Bool) → IsStrictWeakOrder lt
+    ///     → ComparesAs F.FnMut lt f
+    ///     → OverList Self.contract.steps self
+    ///     (λ l. IfOk result (list.MadeOf (IsSortedByTest lt) (list.collected l))) }
+    /// ensures items { OverList Self.contract.steps self
+    ///     (λ l. list.CollectedAs HasItems l result) }
+    /// ensures failure { OverList Self.contract.steps self
+    ///     (λ l. (e : Self.Error) → result ≡ Err (Source e) → list.collected l ≡ Err e) }
+    /// ```
+    /// </details>
+    #[cfg(feature = "alloc")]
+    fn sorted_by<F>(self, f: F) -> Result<Vec<Self::Item>, Self::Error>
+    where
+        F: FnMut(&Self::Item, &Self::Item) -> Ordering,
+    {
+        sorted_items_by(self.collect(), f)
     }
 
     /// Returns the items in a `Vec`, in the order of the keys that the closure returns for them. Items with equal keys keep their order. If the closure returns other keys for an item from call to call, it returns the items in any order, each of them once.
