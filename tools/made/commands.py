@@ -11,8 +11,10 @@ def scripts(top):
 
 
 def misnamed(top):
-    """A line for each script whose ending isn't that of its language."""
+    """A line for each script whose ending isn't that of its language, or whose words are joined by a dash."""
     for path in scripts(top):
+        if "-" in path.name:
+            yield f"{path.relative_to(top)}: words are joined by _"
         first = path.read_text(encoding="utf-8").split("\n", 1)[0]
         if path.suffix != ENDING.get(first, path.suffix):
             yield f"{path.relative_to(top)}: a script with the line {first} ends in {ENDING[first] or 'nothing'}"
