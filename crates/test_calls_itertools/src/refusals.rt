@@ -164,9 +164,9 @@ const OF_PAD_USING: NumbersCase = Case {
     expected: &[Item(3), Item(30)],
 };
 
-// Ten times the index.
-fn ten_times(index: usize) -> Result<u32, TestError> {
-    Ok((index as u32).wrapping_mul(10))
+// 30 at the index 3.
+fn thirty(index: usize) -> Result<u32, TestError> {
+    Ok(if index == 3 { 30 } else { 0 })
 }
 
 // 1 is held over the failure.
@@ -182,7 +182,7 @@ fn refused_clones_of_pairs_and_of_what_is_padded(rt: HostRuntime) -> Result<(), 
     let mut it = listed::<Number<'_>, TestError, 4>(rt.alloc(), items)?.tuples();
     let expected = [Item((Number::new(1, &r), Number::new(2, &r))), End];
     expect_refused_clones_that(&rt, &r, &mut it, OF_TUPLES, &[Failure(NINE)], &expected)?;
-    let mut it = Counting::new(1, 4, &r).pad_using(4, ten_times);
+    let mut it = Counting::new(1, 4, &r).pad_using(4, thirty);
     expect_refused_clones_of_numbers(&rt, &r, &mut it, &OF_PAD_USING)
 }
 

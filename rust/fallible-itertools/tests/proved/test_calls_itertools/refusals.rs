@@ -77,9 +77,9 @@ const OF_PAD_USING: NumbersCase = Case {
     expected: &[Item(3), Item(30)],
 };
 
-// Ten times the index.
-fn ten_times(index: usize) -> Result<u32, TestError> {
-    Ok((index as u32).wrapping_mul(10))
+// 30 at the index 3.
+fn thirty(index: usize) -> Result<u32, TestError> {
+    Ok(if index == 3 { 30 } else { 0 })
 }
 
 const OF_CHUNKS: Asks<'static> = ("Chunks", 2, [(2, Some(4)), NONE]);

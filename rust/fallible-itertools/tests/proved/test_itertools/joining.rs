@@ -165,12 +165,14 @@ fn merge_by_holds_one_item_of_each_side() {
     let _ = tested();
 }
 
-// Ten times the index; a failure at 3.
+// Ten times the index, up to 40; a failure at 3.
 fn tens(index: usize) -> Result<u32, u32> {
-    if index == 3 {
-        Err(30)
-    } else {
-        Ok((index as u32).wrapping_mul(10))
+    match index {
+        0 => Ok(0),
+        1 => Ok(10),
+        2 => Ok(20),
+        3 => Err(30),
+        _ => Ok(40),
     }
 }
 
