@@ -75,11 +75,6 @@ ITERTOOLS = [
     (r"counts\.rs", r"^    fn empty\((?:.*\n)*?    \}\n\n", "", 1),
     (r"group_map\.rs", r"^    fn empty\((?:.*\n)*?    \}\n\n", "", 1),
     (r"partition_map\.rs", r"^    fn empty\((?:.*\n)*?    \}\n\n", "", 1),
-    # What `drive_holding` goes by here.
-    (r"holding\.rs", r"^use crate::staging::\{Made, Stage, drive_stage, one, one_then, stopped\};\nuse fallible_iterator::extending::Outcome;",
-     "use crate::staging::{Made, Stage, one, one_then, stopped};\nuse core::ops::ControlFlow;\n"
-     "use fallible_iterator::extending::{Outcome, Pass, drive_passing};", 1),
-    (r"holding\.rs", r"^struct HoldStage<'a, A> \{\n    adapter", "#[doc(hidden)]\npub struct HoldStage<'a, A> {\n    pub(crate) adapter", 1),
     # Without its number it can be cloned and shown.
     (r"stop_after\.rs", r"^pub struct StopAfter<", r"#[derive(Clone, Debug)]\n\g<0>", 1),
     # Imports.

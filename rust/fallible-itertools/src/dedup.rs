@@ -1,7 +1,8 @@
 // The adapter that yields the first of adjacent equal items.
 
-use crate::holding::{Hold, drive_holding, with_held};
-use fallible_iterator::extending::{FirstTurn, Outcome};
+use crate::holding::{Hold, at_stop, drive_holding, with_held};
+use crate::staging::stopped;
+use fallible_iterator::extending::Outcome;
 use fallible_iterator::{FallibleIterator, Turn};
 
 /// The first of adjacent equal items. It is buffered until an item that differs comes, or a stop: `Ok(None)` or a failure, which the next call returns.
@@ -23,7 +24,10 @@ where
 
     /// Returns the stop that is due, without a draw. Otherwise it draws until an item differs from the buffered one, or a stop comes.
     fn next(&mut self) -> Result<Option<I::Item>, I::Error> {
-        self.drive(&mut (), &FirstTurn)
+        match self.stage.1.take() {
+            Some(stop) => stopped(stop),
+            None => differing(&mut self.it, &mut self.stage.0, &mut self.stage.1),
+        }
     }
 
     fn size_hint(&self) -> (usize, Option<usize>) {
@@ -42,6 +46,42 @@ where
     }
 
     fallible_iterator::by_drive!(drive);
+}
+
+// Draws until an item differs from the buffered one, or a stop comes. No stop is due. What is buffered stands in a local, so that a compiler keeps it in a register.
+fn differing<I: FallibleIterator>(
+    it: &mut I,
+    held: &mut Option<I::Item>,
+    due: &mut Option<Option<I::Error>>,
+) -> Result<Option<I::Item>, I::Error>
+where
+    I::Item: PartialEq,
+{
+    let mut first = held.take();
+    loop {
+        match it.draw() {
+            Ok(Some(x)) => match DedupHold.ask(&mut first, Some(x)) {
+                Outcome::Kept(y) => {
+                    *held = first;
+                    return Ok(Some(y));
+                }
+                Outcome::LeftOut => {}
+                Outcome::Failure(e) => {
+                    *held = first;
+                    return at_stop(Some(e), held, due, &DedupHold);
+                }
+                Outcome::End => unreachable!(),
+            },
+            Ok(None) => {
+                *held = first;
+                return at_stop(None, held, due, &DedupHold);
+            }
+            Err(e) => {
+                *held = first;
+                return at_stop(Some(e), held, due, &DedupHold);
+            }
+        }
+    }
 }
 
 // What becomes of an item after the buffered one.

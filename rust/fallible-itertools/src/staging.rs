@@ -45,7 +45,7 @@ pub fn one_then<B, L, E>(answer: Result<Option<B>, E>, later: L) -> Made<B, L, E
 /// As it is proved, in [these words](crate::words):
 ///
 /// ```text
-/// ensures { result ≡ answer_of_stop stop }
+/// ensures { result ≡ stop_answer stop }
 /// ```
 /// </details>
 #[inline(always)]
@@ -116,64 +116,6 @@ fn made_of<P, X, E, G: Stage<P, X, E>>(
     }
 }
 
-// What the turns of the folds do with what stands beside the source. There it is one type parameter: the borrow checker covers no reference to a tuple in the state of a turn.
-trait Place<Q, X, E> {
-    type Held;
-
-    type Kept;
-
-    type Later;
-
-    // The first of what an answer makes; the rest is due then.
-    fn first(
-        &self,
-        q: &mut Q,
-        answer: Result<Option<X>, E>,
-    ) -> Option<Result<Option<Self::Kept>, E>>;
-
-    // The answer that is due.
-    fn next_due(&self, q: &mut Q) -> Option<Result<Option<Self::Kept>, E>>;
-}
-
-struct StagePlace<'a, G> {
-    stage: &'a G,
-}
-
-impl<'a, P, X, E, G: Stage<P, X, E>> Place<(P, Option<G::Later>), X, E> for StagePlace<'a, G> {
-    type Held = P;
-
-    type Kept = G::Kept;
-
-    type Later = G::Later;
-
-    #[inline(always)]
-    fn first(
-        &self,
-        q: &mut (P, Option<G::Later>),
-        answer: Result<Option<X>, E>,
-    ) -> Option<Result<Option<G::Kept>, E>> {
-        match made_of(answer, &mut q.0, self.stage) {
-            None => None,
-            Some((first, next)) => {
-                put_due(&mut q.1, next);
-                Some(first)
-            }
-        }
-    }
-
-    #[inline(always)]
-    fn next_due(&self, q: &mut (P, Option<G::Later>)) -> Option<Result<Option<G::Kept>, E>> {
-        match q.1.take() {
-            None => None,
-            Some(later) => {
-                let (answer, left) = self.stage.come(later);
-                put_due(&mut q.1, left);
-                Some(answer)
-            }
-        }
-    }
-}
-
 // What is due from now on, where nothing was.
 #[inline(always)]
 fn put_due<L>(due: &mut Option<L>, next: Option<L>) {
@@ -200,17 +142,41 @@ fn tell<B, E, C, R, K: Turn<C, B, R>>(
     }
 }
 
-// The caller's turn on what is due.
+// The caller's turn on what is due. If it stops the fold, it says what is due then.
 #[inline(always)]
-fn tell_due<Q, X, E, L: Place<Q, X, E>, C, R, K: Turn<C, L::Kept, R>>(
-    q: &mut Q,
-    place: &L,
+fn tell_due<P, X, E, G: Stage<P, X, E>, C, R, K: Turn<C, G::Kept, R>>(
+    due: Option<G::Later>,
+    adapter: &G,
     state: &mut C,
     turn: &K,
-) -> ControlFlow<Result<Option<R>, E>, ()> {
-    match place.next_due(q) {
+) -> ControlFlow<(Result<Option<R>, E>, Option<G::Later>), ()> {
+    match due {
         None => ControlFlow::Continue(()),
-        Some(answer) => tell(answer, state, turn),
+        Some(later) => {
+            let (answer, left) = adapter.come(later);
+            match (tell(answer, state, turn), left) {
+                (ControlFlow::Continue(()), None) => ControlFlow::Continue(()),
+                (ControlFlow::Continue(()), Some(_)) => unreachable!(),
+                (ControlFlow::Break(answer), left) => ControlFlow::Break((answer, left)),
+            }
+        }
+    }
+}
+
+// The caller's turn on what an answer of the source makes.
+#[inline(always)]
+fn tell_made<P, X, E, G: Stage<P, X, E>, C, R, K: Turn<C, G::Kept, R>>(
+    made: Made<G::Kept, G::Later, E>,
+    adapter: &G,
+    state: &mut C,
+    turn: &K,
+) -> ControlFlow<(Result<Option<R>, E>, Option<G::Later>), ()> {
+    match made {
+        None => ControlFlow::Continue(()),
+        Some((first, due)) => match tell(first, state, turn) {
+            ControlFlow::Continue(()) => tell_due(due, adapter, state, turn),
+            ControlFlow::Break(answer) => ControlFlow::Break((answer, due)),
+        },
     }
 }
 
@@ -251,36 +217,27 @@ pub fn next_stage<I: FallibleIterator, P, G: Stage<P, I::Item, I::Error>>(
     }
 }
 
-// The adapter meets an answer, and the caller's turn is taken on what it makes.
-#[inline(always)]
-fn met<Q, X, E, L: Place<Q, X, E>, C, R, K: Turn<C, L::Kept, R>>(
-    answer: Result<Option<X>, E>,
-    q: &mut Q,
-    place: &L,
-    state: &mut C,
-    turn: &K,
-) -> ControlFlow<Result<Option<R>, E>, ()> {
-    match place.first(q, answer) {
-        None => ControlFlow::Continue(()),
-        Some(first) => match tell(first, state, turn) {
-            ControlFlow::Continue(()) => tell_due(q, place, state, turn),
-            ControlFlow::Break(answer) => ControlFlow::Break(answer),
-        },
-    }
-}
-
-// The turn of the source's fold.
-struct StageTurn<'a, L, K> {
-    place: &'a L,
+// The turn of the source's fold. It knows nothing of what is due: nothing is, and what is due where it stops goes with what it stops with. So a compiler may keep what is held in registers.
+struct StageTurn<'a, G, K> {
+    adapter: &'a G,
     turn: &'a K,
 }
 
-impl<'a, 'b, Q, X, E, C, R, L: Place<Q, X, E>, K: Turn<C, L::Kept, R>>
-    Turn<Beside<'b, C, Q>, X, Result<Option<R>, E>> for StageTurn<'a, L, K>
+impl<'a, 'b, P, X, E, C, R, G: Stage<P, X, E>, K: Turn<C, G::Kept, R>>
+    Turn<Beside<'b, C, P>, X, (Result<Option<R>, E>, Option<G::Later>)> for StageTurn<'a, G, K>
 {
     #[inline(always)]
-    fn turn(&self, state: &mut Beside<'b, C, Q>, item: X) -> ControlFlow<Result<Option<R>, E>, ()> {
-        met(Ok(Some(item)), state.p, self.place, state.c, self.turn)
+    fn turn(
+        &self,
+        state: &mut Beside<'b, C, P>,
+        item: X,
+    ) -> ControlFlow<(Result<Option<R>, E>, Option<G::Later>), ()> {
+        tell_made(
+            self.adapter.on_item(state.p, item),
+            self.adapter,
+            state.c,
+            self.turn,
+        )
     }
 }
 
@@ -317,62 +274,70 @@ pub fn drive_stage<
     state: &mut C,
     turn: &K,
 ) -> Result<Option<R>, I::Error> {
-    drive_place(it, stage, &StagePlace { stage: adapter }, state, turn)
-}
-
-fn drive_place<
-    I: FallibleIterator,
-    Q,
-    L: Place<Q, I::Item, I::Error>,
-    C,
-    R,
-    K: Turn<C, L::Kept, R>,
->(
-    it: &mut I,
-    q: &mut Q,
-    place: &L,
-    state: &mut C,
-    turn: &K,
-) -> Result<Option<R>, I::Error> {
-    match tell_due(q, place, state, turn) {
-        ControlFlow::Break(answer) => answer,
-        ControlFlow::Continue(()) => match drive_items(it, q, place, state, turn) {
-            Ok(Some(answer)) => answer,
-            Ok(None) => at_stop(Ok(None), q, place, state, turn),
-            Err(d) => at_stop(Err(d), q, place, state, turn),
-        },
+    match tell_due(stage.1.take(), adapter, state, turn) {
+        ControlFlow::Break((answer, left)) => {
+            put_due(&mut stage.1, left);
+            answer
+        }
+        ControlFlow::Continue(()) => {
+            let (answer, left) = drive_undue(it, &mut stage.0, adapter, state, turn);
+            put_due(&mut stage.1, left);
+            answer
+        }
     }
 }
 
-// The source's fold, which stops with the answer of the adapter's.
-fn drive_items<
+// The fold where nothing is due, and what is due after it.
+fn drive_undue<
     I: FallibleIterator,
-    Q,
-    L: Place<Q, I::Item, I::Error>,
+    P,
+    G: Stage<P, I::Item, I::Error>,
     C,
     R,
-    K: Turn<C, L::Kept, R>,
+    K: Turn<C, G::Kept, R>,
 >(
     it: &mut I,
-    q: &mut Q,
-    place: &L,
+    held: &mut P,
+    adapter: &G,
     state: &mut C,
     turn: &K,
-) -> Result<Option<Result<Option<R>, I::Error>>, I::Error> {
-    let mut both = Beside { c: state, p: q };
-    it.drive(&mut both, &StageTurn { place, turn })
+) -> (Result<Option<R>, I::Error>, Option<G::Later>) {
+    match drive_items(it, held, adapter, state, turn) {
+        Ok(Some(told)) => told,
+        Ok(None) => at_stop(None, held, adapter, state, turn),
+        Err(e) => at_stop(Some(e), held, adapter, state, turn),
+    }
 }
 
-// What the fold returns at a stop of its source.
-fn at_stop<Q, X, E, L: Place<Q, X, E>, C, R, K: Turn<C, L::Kept, R>>(
-    stop: Result<Option<X>, E>,
-    q: &mut Q,
-    place: &L,
+// The source's fold, which stops with the answer of the adapter's and what is due then.
+fn drive_items<
+    I: FallibleIterator,
+    P,
+    G: Stage<P, I::Item, I::Error>,
+    C,
+    R,
+    K: Turn<C, G::Kept, R>,
+>(
+    it: &mut I,
+    held: &mut P,
+    adapter: &G,
     state: &mut C,
     turn: &K,
-) -> Result<Option<R>, E> {
-    match met(stop, q, place, state, turn) {
-        ControlFlow::Break(answer) => answer,
+) -> Result<Option<(Result<Option<R>, I::Error>, Option<G::Later>)>, I::Error> {
+    let mut both = Beside { c: state, p: held };
+    it.drive(&mut both, &StageTurn { adapter, turn })
+}
+
+// What the fold returns at a stop of its source, and what is due then.
+fn at_stop<P, X, E, G: Stage<P, X, E>, C, R, K: Turn<C, G::Kept, R>>(
+    stop: Option<E>,
+    held: &mut P,
+    adapter: &G,
+    state: &mut C,
+    turn: &K,
+) -> (Result<Option<R>, E>, Option<G::Later>) {
+    match tell_made(adapter.on_stop(held, stop), adapter, state, turn) {
+        ControlFlow::Break(told) => told,
         ControlFlow::Continue(()) => unreachable!(),
     }
 }

@@ -28,7 +28,7 @@ use crate::is_sorted::{InOrderTurn, SortedTurn};
 use crate::join::JoinTurn;
 use crate::merge::Merge;
 use crate::merge_by::MergeBy;
-use crate::minmax::{MinMaxResult, MinMaxTurn, in_order};
+use crate::minmax::{MinMaxResult, MinMaxTurn, lesser_first};
 use crate::or_else::OrElse;
 use crate::partition_map::Either;
 use crate::sides::Holding;
@@ -1305,7 +1305,7 @@ pub trait FallibleItertools: FallibleIterator + Sized {
             Ok(None) => return Ok(MinMaxResult::OneElement(first)),
             Err(e) => return Err(e),
         };
-        let mut both = in_order(first, second);
+        let mut both = lesser_first(first, second);
         match self.drive(&mut both, &MinMaxTurn) {
             Ok(None) => Ok(MinMaxResult::MinMax(both.0, both.1)),
             Ok(Some(never)) => match never {},
