@@ -88,11 +88,6 @@ ITERTOOLS = [
     (r"err_into\.rs", r"^ *#\[derive_where\(.*\)\]\n", "", 2),
     (r"err_into\.rs", r"(pub\(crate\) made: PhantomData<)E>", r"\1fn() -> E>", 1),
     (r"err_into\.rs", r"\Z", (PIECES / "err_into.rs").read_text(encoding="utf-8"), 1),
-    # What `drive_holding` goes by here.
-    (r"holding\.rs", r"^use crate::staging::\{Made, Stage, drive_stage, one, one_then, stopped\};\nuse fallible_iterator::extending::Outcome;",
-     "use crate::staging::{Made, Stage, one, one_then, stopped};\nuse core::ops::ControlFlow;\n"
-     "use fallible_iterator::extending::{Outcome, Pass, drive_passing};", 1),
-    (r"holding\.rs", r"^struct HoldStage<'a, A> \{\n    adapter", "#[doc(hidden)]\npub struct HoldStage<'a, A> {\n    pub(crate) adapter", 1),
     # Without its number it can be cloned and shown.
     (r"stop_after\.rs", r"^pub struct StopAfter<", r"#[derive(Clone, Debug)]\n\g<0>", 1),
     # Imports.

@@ -1,8 +1,7 @@
 //! The fold of the adapters that buffer what they drew, through their sources' own.
 
-use crate::staging::{Made, Stage, one, one_then, stopped};
-use core::ops::ControlFlow;
-use fallible_iterator::extending::{Outcome, Pass, drive_passing};
+use crate::staging::{Made, Stage, drive_stage, one, one_then, stopped};
+use fallible_iterator::extending::Outcome;
 use fallible_iterator::{FallibleIterator, Turn};
 
 /// What an adapter that buffers does with an item, `Some`, or with a stop of its source, `None`: it says what becomes of it.
@@ -25,9 +24,8 @@ pub trait Hold<P, X, E> {
 }
 
 // The same adapter as a stage. What `ask` fails with is a stop.
-#[doc(hidden)]
-pub struct HoldStage<'a, A> {
-    pub(crate) adapter: &'a A,
+struct HoldStage<'a, A> {
+    adapter: &'a A,
 }
 
 impl<'a, P, X, E, A: Hold<P, X, E>> Stage<P, X, E> for HoldStage<'a, A> {
@@ -100,45 +98,7 @@ pub fn drive_holding<
     state: &mut C,
     turn: &K,
 ) -> Result<Option<R>, I::Error> {
-    struct OfItems<'a, A> {
-        adapter: &'a A,
-    }
-
-    impl<'a, P, X, E, A: Hold<P, X, E>> Pass<P, X, E> for OfItems<'a, A> {
-        type Kept = A::Kept;
-
-        type Answer = Outcome<A::Kept, E>;
-
-        #[inline(always)]
-        fn pass(&self, state: &mut P, item: X) -> Outcome<A::Kept, E> {
-            self.adapter.ask(state, Some(item))
-        }
-    }
-
-    if let Some(stop) = stage.1.take() {
-        return stopped(stop);
-    }
-    let stop = match drive_passing(it, &mut stage.0, &OfItems { adapter }, state, turn) {
-        Ok(Some(why)) => return Ok(Some(why)),
-        Ok(None) => None,
-        Err(e) => Some(e),
-    };
-    match made_at_stop(stop, &mut stage.0, adapter) {
-        Some((Ok(Some(y)), later)) => match (turn.turn(state, y), later) {
-            (ControlFlow::Continue(()), Some(stop)) => stopped(stop),
-            (ControlFlow::Continue(()), None) => unreachable!(),
-            (ControlFlow::Break(why), later) => {
-                stage.1 = later;
-                Ok(Some(why))
-            }
-        },
-        Some((Ok(None), _)) => Ok(None),
-        Some((Err(e), later)) => {
-            stage.1 = later;
-            Err(e)
-        }
-        None => unreachable!(),
-    }
+    drive_stage(it, stage, &HoldStage { adapter }, state, turn)
 }
 
 /// What one call returns at a stop: what is buffered, and then the stop is due; or the stop itself if nothing is yielded.
