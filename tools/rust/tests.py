@@ -41,6 +41,8 @@ PLAIN = [
     (r"^use [\w:]+::\{law_\w+\};\n", ""),
     (r"^ *[\w:]+::Error,\n(?=\{)", ""),
     (r"^ *let (?:alloc|_) = (?:rt\.alloc\(\)|alloc);\n|^ *alloc(?:: [\w.()]+)?,\n", ""),
+    # Two collections that are never refused.
+    (r"-> Result<(\(Vec<u32>, (?:Option|Vec)<u8>\)), AllocError>", r"-> \1"),
     (r"\.try_collect\(\)", ".collect::<Result<Vec<_>, _>>()"),
     (r"\bif (\w+\.extend_from_slice\([^()]*\))\.is_err\(\)", r"if Ok::<(), AllocError>(\1).is_err()"),
     (r"\bmatch ((?:self\.)?\w+\.push\([^()]*\)) \{", r"match Ok::<(), AllocError>(\1) {"),
@@ -53,6 +55,7 @@ NEVER_REFUSED = [
     ("Vec::with_capacity", "Vec::with_capacity"), (".push_reserved", ".push"),
     ("BufReader::new", "BufReader::new"), ("BufReader::with_capacity", "BufReader::with_capacity"),
     (".push_back", ".push_back"), (".extend_from_slice", ".extend_from_slice"),
+    (".collect_until_failure", ".collect_until_failure"), (".partition_failures", ".partition_failures"),
 ]
 
 

@@ -1682,11 +1682,10 @@ pub trait FallibleItertools: FallibleIterator + Sized {
     /// # use fallible_itertools::FallibleItertools;
     /// let readings = [Ok::<u32, u8>(150), Ok(7), Err(9), Ok(700)];
     /// let mut it = convert(readings.into_iter());
-    /// let (before, failure): (Vec<u32>, Option<u8>) = it.collect_until_failure()?;
+    /// let (before, failure): (Vec<u32>, Option<u8>) = it.collect_until_failure();
     /// assert_eq!(before, vec![150, 7]);
     /// assert_eq!(failure, Some(9));
     /// assert_eq!(it.next(), Ok(Some(700)));
-    /// # Ok::<(), u8>(())
     /// ```
     ///
     /// <details><summary>Contract</summary>
@@ -1836,10 +1835,9 @@ pub trait FallibleItertools: FallibleIterator + Sized {
     /// # use fallible_itertools::DoubleEndedFallibleItertools;
     /// # use fallible_itertools::FallibleItertools;
     /// let readings = [Ok::<u32, u8>(150), Err(9), Ok(7), Err(8)];
-    /// let (items, failures): (Vec<u32>, Vec<u8>) = convert(readings.into_iter()).partition_failures()?;
+    /// let (items, failures): (Vec<u32>, Vec<u8>) = convert(readings.into_iter()).partition_failures();
     /// assert_eq!(items, vec![150, 7]);
     /// assert_eq!(failures, vec![9, 8]);
-    /// # Ok::<(), u8>(())
     /// ```
     ///
     /// <details><summary>Contract</summary>

@@ -88,16 +88,14 @@ pub fn tally_good<I: FallibleIterator<Item = u64>>(
 }
 
 /// The readings above 100 before the first failure, and that failure, if one came.
-pub fn above_100_before_failure(
-    readings: Vec<Result<u32, u8>>,
-) -> Result<(Vec<u32>, Option<u8>), AllocError> {
+pub fn above_100_before_failure(readings: Vec<Result<u32, u8>>) -> (Vec<u32>, Option<u8>) {
     convert(readings.into_iter())
         .filter(|reading| Ok(*reading > 100))
         .collect_until_failure()
 }
 
 /// The good rows and the codes of the bad ones, each in order.
-pub fn good_and_bad(rows: Vec<Result<u32, u8>>) -> Result<(Vec<u32>, Vec<u8>), AllocError> {
+pub fn good_and_bad(rows: Vec<Result<u32, u8>>) -> (Vec<u32>, Vec<u8>) {
     convert(rows.into_iter()).partition_failures()
 }
 

@@ -36,7 +36,7 @@ fn collects_what_came_before_a_failure() {
     fn tested() -> Result<(), Fail> {
         for (answers, expected, left) in &UNTIL {
             let mut it = script(answers)?;
-            let (before, failure): (Vec<u32>, Option<u32>) = it.collect_until_failure()?;
+            let (before, failure): (Vec<u32>, Option<u32>) = it.collect_until_failure();
             expect_same(&(before.as_slice(), failure), expected)?;
             expect_same(&it.next(), left)?;
         }
@@ -57,7 +57,7 @@ const PARTED: [(Numbers, (&'static [u32], &'static [u32])); 4] = [
 fn items_and_failures_apart() {
     fn tested() -> Result<(), Fail> {
         for (answers, expected) in &PARTED {
-            let (items, failures): (Vec<u32>, Vec<u32>) = numbers(answers).partition_failures()?;
+            let (items, failures): (Vec<u32>, Vec<u32>) = numbers(answers).partition_failures();
             expect_same(&(items.as_slice(), failures.as_slice()), expected)?;
         }
         Ok(())
