@@ -288,6 +288,7 @@ pub fn drive_stage<
 }
 
 // The fold where nothing is due, and what is due after it.
+#[inline(always)]
 fn drive_undue<
     I: FallibleIterator,
     P,
@@ -310,6 +311,7 @@ fn drive_undue<
 }
 
 // The source's fold, which stops with the answer of the adapter's and what is due then.
+#[inline(always)]
 fn drive_items<
     I: FallibleIterator,
     P,
