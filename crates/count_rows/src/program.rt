@@ -3,8 +3,8 @@ ghost use Rattle.std.specs.Prelude.{◌≢◌, [], MatchResult};
 ghost use Rattle.std.specs.Io.KnownBytes.{Appends};
 ghost use Rattle.count_rows.specs.Program.{ComesTo, EndsWith};
 
-use example_tasks::writing::WriteText;
 use fallible_rows::{Buffered, RowFault, fault_line, run};
+use program_io::writing::WriteText;
 use std::alloc::Global;
 use std::io::{BufReader, Read};
 

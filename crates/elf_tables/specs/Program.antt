@@ -3,7 +3,7 @@ use Rattle.std.specs.Prelude.{◌≡◌, ◌≢◌, ◌⊎◌, ⊤, ℕ, List, [
 use Rattle.std.specs.Io.KnownBytes.{Keeps}
 use Rattle.std.specs.declared.io.ErrorKind.{ErrorKind}
 use Rattle.std.specs.declared.io.ErrorKind.TheVariants.{OutOfMemory}
-use Rattle.example_tasks.specs.Reading.{ReadsAll}
+use Rattle.program_io.specs.Reading.{ReadsAll}
 use Rattle.fallible_elf.specs.Report.{HasSections, Reports, ReadsFaulty, status_of, line_of}
 use Rattle.fallible_elf.specs.declared.report.RunFault.{RunFault}
 use Rattle.fallible_elf.specs.declared.report.RunFault.TheVariants.{Elf, Read, Memory, Write}

@@ -3,9 +3,9 @@ ghost use Rattle.std.specs.Prelude.{◌≢◌, [], MatchResult};
 ghost use Rattle.std.specs.Io.KnownBytes.{Appends};
 ghost use Rattle.elf_tables.specs.Program.{ComesTo, EndsWith};
 
-use example_tasks::writing::WriteText;
 use fallible_elf::reading::ReadFile;
 use fallible_elf::report::{RunFault, fault_line, run};
+use program_io::writing::WriteText;
 use std::alloc::Global;
 
 // `run` over `input`. The report is made in memory, so it is written whole, and nothing if its allocation fails.

@@ -8,7 +8,7 @@ ghost use Rattle.example_tasks.specs.declared.table.TableFault.{TableFault};
 
 use crate::reading::ReadTable;
 use crate::table::{TableFault, Totals};
-use crate::writing::WriteText;
+use program_io::writing::WriteText;
 use std::alloc::Global;
 use std::io;
 use std::io::ErrorKind;

@@ -1,7 +1,7 @@
 -- What a run over a file reads and writes, and what it tells of a fault.
 use Rattle.std.specs.Prelude.{◌≡◌, ◌⊎◌, ℕ, List, [], ◌∷◌, ◌++◌, Option, Some, None, Result, Ok, Err, codes, decimal}
 use Rattle.std.specs.Io.KnownBytes.{Appends}
-use Rattle.example_tasks.specs.Reading.{ReadsAll}
+use Rattle.program_io.specs.Reading.{ReadsAll}
 use Rattle.fallible_iterator.specs.Lists.{collected, on_value}
 use Rattle.fallible_elf.specs.Sections.{headers_of}
 use Rattle.fallible_elf.specs.Text.{text_where, sections_text, sets_text, ranges_text}

@@ -2,7 +2,7 @@
 ghost use Rattle.std.specs.Prelude.{◌≡◌, ◌≢◌, ◌⊎◌, ⊤, Err, Some, None, OnOk, OnErr, MatchResult};
 ghost use Rattle.std.specs.IoError.{error_kind};
 ghost use Rattle.std.specs.Io.KnownBytes.{Appends, Keeps};
-ghost use Rattle.example_tasks.specs.Reading.{ReadsAll};
+ghost use Rattle.program_io.specs.Reading.{ReadsAll};
 ghost use Rattle.fallible_elf.specs.Report.{HasTables, HasSections, Reports, ReadsFaulty, report_of, damage_text, line_of, status_of, as_run_fault};
 ghost use Rattle.fallible_elf.specs.declared.fault.ElfFault.{ElfFault};
 ghost use Rattle.std.specs.declared.io.ErrorKind.{ErrorKind};
@@ -11,8 +11,8 @@ use crate::fault::{Damage, ElfFault};
 use crate::lines::{write_ranges, write_sections, write_sets};
 use crate::reading::ReadFile;
 use crate::tables::{Tables, tables_of};
-use example_tasks::writing::WriteText;
 use fallible_iterator::Fault;
+use program_io::writing::WriteText;
 use std::alloc::Global;
 use std::io;
 use std::io::ErrorKind;

@@ -3,7 +3,7 @@ ghost use Rattle.std.specs.Prelude.{◌≡◌, MatchResult, OnOk, OnErr};
 ghost use Rattle.std.specs.Io.KnownBytes.{Appends};
 ghost use Rattle.fallible_rows.specs.Fault.{status_of, line_of};
 
-use example_tasks::writing::WriteText;
+use program_io::writing::WriteText;
 use std::io;
 
 /// Why a run made no report.

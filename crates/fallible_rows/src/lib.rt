@@ -14,8 +14,8 @@ ghost use Rattle.std.specs.Prelude.{◌≡◌, ◌≢◌, ℕ, List, Ok, Err, On
 ghost use Rattle.std.specs.Io.KnownBytes.{Keeps};
 ghost use Rattle.fallible_rows.specs.Run.{WritesReport, IsRefusedAt, HasReport, NoneRefusedYet, FailsReading, TakesFromPrefix};
 
-use example_tasks::writing::WriteText;
 pub use fault::{RowFault, fault_line};
+use program_io::writing::WriteText;
 pub use reading::{Buffered, Bytes, ReadByte, ReadFailed};
 pub use rows::Rows;
 use std::alloc::Global;

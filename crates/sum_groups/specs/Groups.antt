@@ -7,7 +7,7 @@ use Rattle.fallible_iterator.specs.Lists.{collected, items, mapped, on_value, sc
 use Rattle.fallible_itertools.specs.ChunkBy.{chunked_by}
 use Rattle.fallible_itertools.specs.Chunks.{chunked}
 use Rattle.fallible_itertools.specs.CheckedSum.{sum_below, totalled}
-use Rattle.example_tasks.specs.Numbers.{number_of}
+use Rattle.program_io.specs.Numbers.{number_of}
 use Rattle.std.specs.declared.alloc.AllocError.{AllocError}
 use Rattle.std.specs.declared.convert.Infallible.{Infallible}
 use Rattle.sum_groups.specs.declared.groups.Row.{Row}

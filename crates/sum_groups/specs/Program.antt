@@ -7,7 +7,7 @@ use Rattle.std.specs.declared.alloc.Global.{Global}
 use Rattle.std.specs.declared.io.ErrorKind.{ErrorKind}
 use Rattle.std.specs.declared.io.ErrorKind.TheVariants.{OutOfMemory}
 use Rattle.std.specs.declared.vec.Vec.{Vec}
-use Rattle.example_tasks.specs.Reading.{ReadsAll}
+use Rattle.program_io.specs.Reading.{ReadsAll}
 use Rattle.sum_groups.specs.Faults.{line_of, status_of}
 use Rattle.sum_groups.specs.Groups.{IsFaultOf, report_of, rows_of}
 use Rattle.sum_groups.specs.Reading.{IsFirstLine}

@@ -4,7 +4,7 @@ ghost use Rattle.std.specs.IoError.{error_kind};
 ghost use Rattle.std.specs.Io.KnownBytes.{Appends};
 ghost use Rattle.sum_groups.specs.Faults.{IsFaultOfRead, line_of, status_of};
 
-use example_tasks::writing::WriteText;
+use program_io::writing::WriteText;
 use std::alloc::AllocError;
 use std::io;
 use std::io::ErrorKind;

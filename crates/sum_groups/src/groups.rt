@@ -11,10 +11,10 @@ ghost use Rattle.sum_groups.specs.declared.fault.Fault.TheVariants.{Memory};
 ghost use Rattle.sum_groups.specs.declared.groups.Row.{Row};
 
 use crate::fault::Fault;
-use example_tasks::numbers::number_of;
-use example_tasks::writing::WriteText;
 use fallible_iterator::{FallibleIterator, Fault as Collecting, convert, convert_fused};
 use fallible_itertools::FallibleItertools;
+use program_io::numbers::number_of;
+use program_io::writing::WriteText;
 use std::alloc::{AllocError, Global};
 use std::convert::Infallible;
 use std::io;

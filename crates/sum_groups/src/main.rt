@@ -8,9 +8,9 @@ mod groups;
 mod program;
 mod reading;
 
-use example_tasks::arguments::input_of;
 use fault::{Fault, tell};
 use program::program;
+use program_io::arguments::input_of;
 use std::io::BufReader;
 use std::process::ExitCode;
 

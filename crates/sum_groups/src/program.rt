@@ -6,7 +6,7 @@ ghost use Rattle.sum_groups.specs.Program.{AreRows, ComesTo, EndsWith, HasFault,
 use crate::fault::{Fault, fault_of_read, tell};
 use crate::groups::{MakeReport, no_row_at};
 use crate::reading::ReadLines;
-use example_tasks::writing::WriteText;
+use program_io::writing::WriteText;
 use std::alloc::Global;
 use std::str::from_utf8;
 

@@ -5,7 +5,7 @@ ghost use Rattle.sum_table.specs.Program.{ComesTo, EndsWith};
 
 use example_tasks::reading::ReadTable;
 use example_tasks::report::{RunFault, fault_line, run};
-use example_tasks::writing::WriteText;
+use program_io::writing::WriteText;
 use std::alloc::Global;
 
 // `run` over `input`.

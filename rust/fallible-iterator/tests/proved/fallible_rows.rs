@@ -8,7 +8,7 @@ mod reading;
 mod rows;
 mod summing;
 
-use crate::example_tasks::writing::WriteText;
+use crate::program_io::writing::WriteText;
 pub use fault::{RowFault, fault_line};
 pub use reading::{Buffered, Bytes, ReadByte, ReadFailed};
 pub use rows::Rows;

@@ -3,7 +3,7 @@ use fallible_iterator::memory::AllocError;
 
 use crate::example_tasks::reading::ReadTable;
 use crate::example_tasks::table::{TableFault, Totals};
-use crate::example_tasks::writing::WriteText;
+use crate::program_io::writing::WriteText;
 use std::io;
 use std::io::ErrorKind;
 

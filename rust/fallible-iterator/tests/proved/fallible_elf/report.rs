@@ -1,11 +1,11 @@
 use crate::Fail;
 use fallible_iterator::memory::AllocError;
 
-use crate::example_tasks::writing::WriteText;
 use crate::fallible_elf::fault::{Damage, ElfFault};
 use crate::fallible_elf::lines::{write_ranges, write_sections, write_sets};
 use crate::fallible_elf::reading::ReadFile;
 use crate::fallible_elf::tables::{Tables, tables_of};
+use crate::program_io::writing::WriteText;
 use fallible_iterator::Fault;
 use std::io;
 use std::io::ErrorKind;

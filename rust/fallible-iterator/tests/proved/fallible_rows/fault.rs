@@ -1,7 +1,7 @@
 use crate::Fail;
 use fallible_iterator::memory::AllocError;
 
-use crate::example_tasks::writing::WriteText;
+use crate::program_io::writing::WriteText;
 use std::io;
 
 /// Why a run made no report.
