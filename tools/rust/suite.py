@@ -76,7 +76,7 @@ def leave_out(files, count):
                     items.remove(item)
                     if "#[test]" in code:
                         count[why] = count.get(why, 0) + 1
-                    elif not code.startswith("impl From"):
+                    elif not re.match(r"impl(?:<\w+>)? From\b", code):
                         gone[path, item.name] = why
     for path, items in files.items():
         files[path] = [re.sub(r"^use [^;]*;", lambda m: fewer(m.group(), gone), x.text, flags=re.M) for x in items]
