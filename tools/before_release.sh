@@ -18,8 +18,8 @@ edits|tools/release_edits.sh|13 to 48 s an edit, and the proof of each crate tha
 pairs|tools/release_pairs.sh|three builds of minutes each
 devices|tools/closed_devices.sh|a minute, once count_rows is proved
 tables|tools/table_runs.sh|a minute, once sum_table and sum_groups are proved
-groups|tools/groups_runs.py|minutes, once sum_groups is proved
-elf|tools/elf_runs.py|minutes, once elf_tables is proved
+groups|tools/groups_runs|minutes, once sum_groups is proved
+elf|tools/elf_runs|minutes, once elf_tables is proved
 memory|tools/refused_memory.sh|7 minutes
 speed|tools/speed.sh|the proof of fallible_speed, and then minutes
 rust_speed|tools/rust_bench.sh|a minute; wants valgrind and apt

@@ -24,6 +24,8 @@ REASONS = [
     (r"errors\.rs", r"Display for NotOne\.fmt", "new", "what the error says"),
     (r"counts\.rs", r"Collect for Tally\.empty", "left out", "`counts` makes the empty map"),
     (r"group_map\.rs", r"Collect for GroupMap\.empty", "left out", "`into_group_map` makes the empty map"),
+    (r"parted\.rs", r"without_fault", "left out", "`partition_failures` never fails"),
+    (r"err_into\.rs", r"\w+ for ErrInto\.(clone|fmt)", "new", "what `derive_where` writes"),
     (r"partition_map\.rs", r".*\.empty", "left out", "`partition_map` fills whatever extends"),
 ]
 

@@ -12,7 +12,8 @@ LIKE = re.compile(r"\W*(?:requir\w*|memory|(?:in (?:a|the) )?proofs?|pre-?condit
 OF_A_KIND = re.compile(r"\brequires?\b|\bclauses?\b|\bproofs?\b|search finds|`Fault|\bAllocError\b|"
                        r"allocation fail|failed allocation|can't be allocated", re.I)
 # Calls whose signature is another in Rust.
-OTHER = {"collect", "partition", "unzip", "cycle", "chain", "counts", "into_group_map", "partition_map", "join", "sorted", "sorted_by_key",
+OTHER = {"collect", "partition", "unzip", "cycle", "chain", "counts", "counts_by", "into_group_map", "into_group_map_by", "partition_map",
+         "collect_until_failure", "partition_failures", "join", "sorted", "sorted_by", "sorted_by_key",
          "unique", "drive_recovering", "drive_back_recovering", "number_of_either"}
 
 

@@ -1,6 +1,9 @@
 """Mapping: std of Rattle to std of Rust. Memory is never refused there: a refusal has no value."""
+from pathlib import Path
+
 from rules import ANY, apply, drop_files
 
+PIECES = Path(__file__).parent / "static/pieces"
 CONTRACT, CORE, EVERY = r"fallible_contract(?:/.*)?\.rs", r"fallible_core(?:/.*)?\.rs", r".*"
 HEAD = """#![doc = include_str!("../README.md")]
 #![no_std]
@@ -75,6 +78,16 @@ ITERTOOLS = [
     (r"counts\.rs", r"^    fn empty\((?:.*\n)*?    \}\n\n", "", 1),
     (r"group_map\.rs", r"^    fn empty\((?:.*\n)*?    \}\n\n", "", 1),
     (r"partition_map\.rs", r"^    fn empty\((?:.*\n)*?    \}\n\n", "", 1),
+    # Nothing is refused, so what would be told of it goes.
+    (r"parted\.rs", r"^/// Returns the collection, or (?:.*\n)*?\}\n", "", 1),
+    (r"parted\.rs", r"^use fallible_iterator::\{FallibleIterator, Fault\};", "use fallible_iterator::FallibleIterator;", 1),
+    (r"traits\.rs", r"^use crate::parted::\{Parted, without_fault\};", "use crate::parted::Parted;", 1),
+    # What no user sees.
+    (r"(?:keyed|parted)\.rs", r"^pub struct", "pub(crate) struct", 2),
+    # A marker that asks nothing of `E`.
+    (r"err_into\.rs", r"^ *#\[derive_where\(.*\)\]\n", "", 2),
+    (r"err_into\.rs", r"(pub\(crate\) made: PhantomData<)E>", r"\1fn() -> E>", 1),
+    (r"err_into\.rs", r"\Z", (PIECES / "err_into.rs").read_text(encoding="utf-8"), 1),
     # What `drive_holding` goes by here.
     (r"holding\.rs", r"^use crate::staging::\{Made, Stage, drive_stage, one, one_then, stopped\};\nuse fallible_iterator::extending::Outcome;",
      "use crate::staging::{Made, Stage, one, one_then, stopped};\nuse core::ops::ControlFlow;\n"
@@ -92,19 +105,22 @@ ITERTOOLS = [
     # Features.
     (r"lib\.rs", r"^pub mod (?:batch|chunk_by|chunks|join);", r'#[cfg(feature = "alloc")]\n\g<0>', 4),
     (r"lib\.rs", r"^mod sorted;", r'#[cfg(feature = "alloc")]\n\g<0>', 1),
+    (r"lib\.rs", r"^mod keyed;", r'#[cfg(feature = "std")]\n\g<0>', 1),
     (r"lib\.rs", r"^pub use (?:chunk_by|chunks)::", r'#[cfg(feature = "alloc")]\n\g<0>', 2),
     (r"lib\.rs", r"^pub (?:mod (?:counts|group_map|unique);|use unique::)", r'#[cfg(feature = "std")]\n\g<0>', 4),
     (r"(?:batch|chunk_by|chunks|group_map)\.rs", r"\A(//.*\n\n)", r"\1use alloc::vec::Vec;\n", 4),
     (r"traits\.rs", r"^use crate::(?:chunk_by|chunks|join|sorted)::", r'#[cfg(feature = "alloc")]\n\g<0>', 4),
     (r"traits\.rs", r"^use core::fmt::Display;",
      r'#[cfg(feature = "alloc")]\nuse alloc::string::String;\n#[cfg(feature = "alloc")]\nuse alloc::vec::Vec;\n#[cfg(feature = "alloc")]\n\g<0>', 1),
-    (r"traits\.rs", r"^use (?:crate::(?:counts|group_map|unique)::|core::hash::|std::coll)",
-     r'#[cfg(feature = "std")]\n\g<0>', 5),
-    (r"traits\.rs", r"^    fn (?:chunks|chunk_by|join|sorted|sorted_by_key)\b", r'    #[cfg(feature = "alloc")]\n\g<0>', 5),
-    (r"traits\.rs", r"^    fn (?:counts|into_group_map|unique)\b", r'    #[cfg(feature = "std")]\n\g<0>', 3),
+    (r"traits\.rs", r"^use (?:crate::(?:counts|group_map|keyed|unique)::|core::hash::|std::coll)",
+     r'#[cfg(feature = "std")]\n\g<0>', 6),
+    (r"traits\.rs", r"^    fn (?:chunks|chunk_by|join|sorted|sorted_by|sorted_by_key)\b", r'    #[cfg(feature = "alloc")]\n\g<0>', 6),
+    (r"traits\.rs", r"^    fn (?:counts|counts_by|into_group_map|into_group_map_by|unique)\b",
+     r'    #[cfg(feature = "std")]\n\g<0>', 5),
     (r"lib\.rs", r"\A(?://!.*\n)+\n", HEAD + "mod errors;\n", 1),
-    (r"lib\.rs", r"^pub mod \w+;", r"#[doc(hidden)]\n\g<0>", 34),
-    (r"(?:counts|group_map|join|partition_map)\.rs", r"\A(//.*\n\n)", r"\1use fallible_iterator::memory::AllocError;\n", 4),
+    (r"lib\.rs", r"^pub mod \w+;", r"#[doc(hidden)]\n\g<0>", 36),
+    (r"(?:counts|group_map|join|partition_map|until_failure)\.rs", r"\A(//.*\n\n)",
+     r"\1use fallible_iterator::memory::AllocError;\n", 5),
 ]
 
 # Collections of std that are made by Rust's own `collect`.

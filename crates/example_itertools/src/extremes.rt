@@ -6,9 +6,10 @@ ghost use Rattle.fallible_iterator.specs.Lists.{CollectedAs, filtered, found, ma
 ghost use Rattle.fallible_itertools.specs.Counts.{IsCountsOf};
 ghost use Rattle.fallible_itertools.specs.ExactlyOne.{at_most_one_of, wanting_one};
 ghost use Rattle.fallible_itertools.specs.GroupMap.{IsGroupMapOf};
+ghost use Rattle.fallible_itertools.specs.Keyed.{keyed};
 ghost use Rattle.fallible_itertools.specs.MinMax.{minmaxed};
 ghost use Rattle.fallible_itertools.specs.PartitionMap.{MadeOfEithers};
-ghost use Rattle.fallible_itertools.specs.Sorted.{IsSortedByKeyOf, IsSortedOf};
+ghost use Rattle.fallible_itertools.specs.Sorted.{IsSortedByKeyOf, IsSortedByTest, IsSortedOf};
 ghost use Rattle.fallible_itertools.specs.declared.partition_map.Either.TheVariants.{Left, Right};
 
 use fallible_iterator::laws::law_back_convert;
@@ -60,6 +61,17 @@ pub fn tally(
     convert(readings.into_iter()).counts(alloc)
 }
 
+/// How often each last digit of the readings comes.
+pub fn tally_last_digits(
+    alloc: Global,
+    readings: Vec<Result<u32, u8>>,
+) -> Result<HashMap<u32, usize>, Fault<u8>>
+    ensures { CollectedAs (IsCountsOf nat_eq) (mapped (λ x. Ok (x % 10)) (results readings.items))
+        result }
+{
+    convert(readings.into_iter()).counts_by(alloc, |reading: u32| Ok(reading % 10))
+}
+
 /// The readings by their last digits: each digit beside its readings, in order.
 pub fn by_last_digit(
     alloc: Global,
@@ -71,6 +83,17 @@ pub fn by_last_digit(
     convert(readings.into_iter())
         .map(|reading| Ok((reading % 10, reading)))
         .into_group_map(alloc)
+}
+
+/// The readings by their last digits, as `by_last_digit`, by a closure that makes the digit of a reading.
+pub fn grouped_by_last_digit(
+    alloc: Global,
+    readings: Vec<Result<u32, u8>>,
+) -> Result<HashMap<u32, Vec<u32>>, Fault<u8>>
+    ensures { CollectedAs (IsGroupMapOf nat_eq) (keyed (λ x. Ok (x % 10)) (results readings.items))
+        result }
+{
+    convert(readings.into_iter()).into_group_map_by(alloc, |reading: &u32| Ok(*reading % 10))
 }
 
 /// The readings up to 100, and how much the others are above 100.
@@ -107,6 +130,13 @@ pub fn sorted_by_last_digit(
         result }
 {
     convert(readings.into_iter()).sorted_by_key(alloc, |reading: &u32| *reading % 10)
+}
+
+/// The readings from the greatest down, or the first failure.
+pub fn sorted_down(alloc: Global, readings: Vec<Result<u32, u8>>) -> Result<Vec<u32>, Fault<u8>>
+    ensures { CollectedAs (IsSortedByTest (λ x y. nat_lt y x)) (results readings.items) result }
+{
+    convert(readings.into_iter()).sorted_by(alloc, |x: &u32, y: &u32| y.cmp(x))
 }
 
 /// The reading with n readings after it.

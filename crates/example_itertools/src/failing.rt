@@ -1,19 +1,40 @@
 //! Callers of the adapters that act on failures.
-ghost use Rattle.std.specs.Prelude.{◌≡◌, ℕ, ◌+◌, ◌-◌, ◌%◌, ◌^◌, List, None, Ok, Result, Some};
+ghost use Rattle.std.specs.Prelude.{◌≡◌, ℕ, ◌+◌, ◌-◌, ◌%◌, ◌^◌, List, None, Ok, Result, Some, nat_lt};
 ghost use Rattle.std.specs.Iterator.{UpTo};
 ghost use Rattle.fallible_iterator.specs.Closures.{IsCallable, call_at, takes_at};
 ghost use Rattle.fallible_iterator.specs.Contract.{AtMost};
-ghost use Rattle.fallible_iterator.specs.Lists.{Lists, counted, folded, mapped, results, taken};
+ghost use Rattle.fallible_iterator.specs.Failing.{failures_mapped};
+ghost use Rattle.fallible_iterator.specs.Lists.{Lists, counted, filtered, folded, mapped, on_value, results, taken};
 ghost use Rattle.fallible_itertools.specs.OrElse.{recovered};
+ghost use Rattle.fallible_itertools.specs.Parted.{PartitionedFailuresAs};
 ghost use Rattle.fallible_itertools.specs.StopAfter.{stopped_after};
-ghost use Rattle.example_itertools.specs.Rows.{with_row};
+ghost use Rattle.fallible_itertools.specs.UntilFailure.{CollectedUntilAs};
+ghost use Rattle.example_itertools.specs.declared.failing.NoCount.{NoCount};
+ghost use Rattle.example_itertools.specs.Rows.{below_hundred, row_more, with_row};
 
 use fallible_iterator::{FallibleIterator, convert};
 use fallible_itertools::FallibleItertools;
+use std::alloc::{AllocError, Global};
 
 /// A hundred rows are bad.
 #[derive(Clone, Copy, Debug, Drop, PartialEq)]
 pub struct TooManyBad;
+
+/// Why there is no count.
+#[derive(Clone, Copy, Debug, Drop, PartialEq)]
+pub enum NoCount {
+    /// A row is bad, with this code.
+    Row(u8),
+}
+
+impl From<u8> for NoCount {
+    ghost from_gives = { λ code why. why ≡ NoCount.Row code };
+
+    /// `NoCount::Row`
+    fn from(code: u8) -> NoCount {
+        NoCount::Row(code)
+    }
+}
 
 /// The sum of the good rows, modulo 2 ^ 64, and the number of bad ones. It stops at the hundredth bad one.
 pub fn sum_good(rows: Vec<Result<u32, u8>>) -> Result<(u64, u32), TooManyBad>
@@ -83,6 +104,69 @@ where
         .stop_after(100)
         .or_else(|_: I::Error| Ok(None))
         .fold(0, |sum: u64, row: u32| Ok(sum.wrapping_add(u64::from(row))))
+}
+
+/// The sum of the good ones among the first `most` rows, modulo 2 ^ 64, and the number of bad ones among them. It gives up at the hundredth bad one, and draws no more. The rows may come of a reader, which has no bound.
+pub fn tally_good<I: FallibleIterator<Item = u64>>(
+    rows: I,
+    most: usize,
+) -> Result<(u64, u32), TooManyBad>
+where
+    I::Error: Drop,
+    requires { I.contract.can_next rows }
+    ensures { (l : List (Result ℕ I.Error)) → Lists I.contract.steps rows l
+        → result ≡ on_value (folded (λ e. e) (λ tally row. Ok (row_more tally row)) (0, 0)
+        (recovered (λ _. Ok (Some None))
+        (stopped_after 100 (mapped (λ x. Ok (Some x)) (taken most l))))) below_hundred }
+{
+    let tally = rows
+        .take(most)
+        .map(|good: u64| Ok(Some(good)))
+        .stop_after(100)
+        .or_else(|_: I::Error| Ok(Some(None)))
+        .fold(
+            (0, 0),
+            |tally: (u64, u32), row: Option<u64>| Ok(match row {
+                Some(good) => (tally.0.wrapping_add(good), tally.1),
+                None => (tally.0, tally.1.wrapping_add(1)),
+            }),
+        )?;
+    if tally.1 < 100 {
+        Ok(tally)
+    } else {
+        Err(TooManyBad)
+    }
+}
+
+/// The readings above 100 before the first failure, and that failure, if one came.
+pub fn above_100_before_failure(
+    alloc: Global,
+    readings: Vec<Result<u32, u8>>,
+) -> Result<(Vec<u32>, Option<u8>), AllocError>
+    ensures { CollectedUntilAs (λ xs v. v.items ≡ xs)
+        (filtered (λ x. Ok (nat_lt 100 x)) (results readings.items)) result }
+{
+    convert(readings.into_iter())
+        .filter(|reading| Ok(*reading > 100))
+        .collect_until_failure(alloc)
+}
+
+/// The good rows and the codes of the bad ones, each in order.
+pub fn good_and_bad(
+    alloc: Global,
+    rows: Vec<Result<u32, u8>>,
+) -> Result<(Vec<u32>, Vec<u8>), AllocError>
+    ensures { PartitionedFailuresAs (λ xs v. v.items ≡ xs) (λ es v. v.items ≡ es)
+        (results rows.items) result }
+{
+    convert(rows.into_iter()).partition_failures(alloc)
+}
+
+/// How many rows there are, or why they aren't counted.
+pub fn count_rows(rows: Vec<Result<u32, u8>>) -> Result<usize, NoCount>
+    ensures { result ≡ counted (failures_mapped (λ code. NoCount.Row code) (results rows.items)) }
+{
+    convert(rows.into_iter()).err_into().count()
 }
 
 /// How many rows there are, or the first failure, which `noted` holds then.

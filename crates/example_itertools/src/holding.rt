@@ -6,6 +6,7 @@ ghost use Rattle.fallible_itertools.specs.Dedup.{deduped};
 ghost use Rattle.fallible_itertools.specs.DedupBy.{deduped_by};
 ghost use Rattle.fallible_itertools.specs.DedupByKey.{deduped_by_key};
 ghost use Rattle.fallible_itertools.specs.TupleWindows.{windowed};
+ghost use Rattle.fallible_itertools.specs.Tuples.{tupled};
 ghost use Rattle.fallible_itertools.specs.WithPosition.{positioned};
 ghost use Rattle.example_itertools.specs.Places.{comes_before_another};
 
@@ -107,6 +108,13 @@ pub fn commas(readings: Vec<Result<u32, u8>>) -> Result<usize, u8>
         .with_position()
         .filter(|placed| Ok(has_comma(placed.0)))
         .count()
+}
+
+/// How many points there are, of which the x and then the y is listed, or the first failure.
+pub fn points(coordinates: Vec<Result<u32, u8>>) -> Result<usize, u8>
+    ensures { result ≡ counted (tupled (results coordinates.items)) }
+{
+    convert(coordinates.into_iter()).tuples().count()
 }
 
 /// The first item with its position, over any iterator, also over one that never ends, such as the rows of a reader: `next` draws twice at most.

@@ -7,6 +7,7 @@ ghost use Rattle.fallible_itertools.specs.CmpBy.{equal_by};
 ghost use Rattle.fallible_itertools.specs.DedupBy.{deduped_by};
 ghost use Rattle.fallible_itertools.specs.Merge.{merged_in_order};
 ghost use Rattle.fallible_itertools.specs.MergeBy.{merged};
+ghost use Rattle.fallible_itertools.specs.PadUsing.{padded};
 ghost use Rattle.fallible_itertools.specs.ZipLongest.{zipped_longest};
 
 use fallible_iterator::{FallibleIterator, convert};
@@ -18,6 +19,15 @@ pub fn places_of_both(left: Vec<Result<u32, u8>>, right: Vec<Result<u32, u8>>) -
 {
     convert(left.into_iter())
         .zip_longest(convert(right.into_iter()))
+        .count()
+}
+
+/// How many readings a year has, where a 0 stands for each month that is missing at its end, or the first failure.
+pub fn months(readings: Vec<Result<u32, u8>>) -> Result<usize, u8>
+    ensures { result ≡ counted (padded 12 (λ _. Ok 0) (results readings.items)) }
+{
+    convert(readings.into_iter())
+        .pad_using(12, |_: usize| Ok(0))
         .count()
 }
 

@@ -5,6 +5,8 @@ ghost use Rattle.fallible_iterator.specs.Comparing.{by_cmp};
 ghost use Rattle.fallible_iterator.specs.Lists.{Lists, filtered, nth_of, results};
 ghost use Rattle.fallible_itertools.specs.Equal.{contained, equal_to_first, rest_contained};
 ghost use Rattle.fallible_itertools.specs.FindOrLast.{found_or_last};
+ghost use Rattle.fallible_itertools.specs.FindPosition.{position_found};
+ghost use Rattle.fallible_itertools.specs.IsSortedBy.{in_order_by};
 ghost use Rattle.fallible_itertools.specs.IsSorted.{in_order, in_order_by_key};
 ghost use Rattle.fallible_itertools.specs.FoldWhile.{rest_while, folded_while};
 ghost use Rattle.fallible_itertools.specs.declared.fold_while.FoldWhile.TheVariants.{Continue, Done};
@@ -103,6 +105,21 @@ pub fn after_zero(readings: Vec<Result<u32, u8>>) -> Result<Option<u32>, u8>
     } else {
         Ok(None)
     }
+}
+
+/// Whether each reading is above the next one, or the failure that comes before two of which it isn't.
+pub fn goes_down(readings: Vec<Result<u32, u8>>) -> Result<bool, u8>
+    ensures { result ≡ in_order_by (λ x y. Ok (nat_lt y x)) (results readings.items) }
+{
+    convert(readings.into_iter()).is_sorted_by(|x: &u32, y: &u32| Ok(*x > *y))
+}
+
+/// The first reading above 100 and how many come before it, or the failure that comes before.
+pub fn place_above_100(readings: Vec<Result<u32, u8>>) -> Result<Option<(usize, u32)>, u8>
+    ensures { result ≡ position_found (λ x. Ok (nat_lt 100 x)) (results readings.items) }
+{
+    let mut it = convert(readings.into_iter());
+    it.find_position(|reading| Ok(*reading > 100))
 }
 
 /// The first reading above 100, or else the last one, or the failure that comes before.

@@ -10,11 +10,11 @@ use Rattle.fallible_itertools.specs.IsSorted.{comes_after, OrderCall, ItselfCall
 use Rattle.std.specs.declared.cmp.Ordering.{Ordering}
 
 -- `all` goes on where it is true, and returns false where it isn't
-search_goes_on_at_true : {A : Type 0} (n : ℕ) (x : A) (v : Bool) → all_pick n x v ≡ None → v ≡ true
+pub search_goes_on_at_true : {A : Type 0} (n : ℕ) (x : A) (v : Bool) → all_pick n x v ≡ None → v ≡ true
 search_goes_on_at_true n x true e = refl
 search_goes_on_at_true n x false e = absurd cc
 
-search_stops_at_false : {A : Type 0} (n : ℕ) (x : A) (v z : Bool) → all_pick n x v ≡ Some z → (v ≡ false) × (z ≡ false)
+pub search_stops_at_false : {A : Type 0} (n : ℕ) (x : A) (v z : Bool) → all_pick n x v ≡ Some z → (v ≡ false) × (z ≡ false)
 search_stops_at_false n x true z e = absurd cc
 search_stops_at_false n x false z e = (refl, cc)
 

@@ -33,10 +33,10 @@ module _ {A E F B : Type 0} (call : F → B → A → Result (FoldWhile B) E →
   FoldWhileDrains steps s b f r t = (stop : Result B (Result B E)) × FoldDrains steps WhileCall (λ e d. d ≡ Err e) s b f stop t × (r ≡ while_answer stop)
 
 -- what `fold_while` stops with, from what the turns' fold returned and the value that this left
-abbrev pub IsStop : {B E : Type 0} → Answered (Result B E) E → Option B → Result B (Result B E) → Type 0
-IsStop {B = B} (Ok None) value stop = (b : B) × (value ≡ Some b) × (stop ≡ Ok b)
-IsStop (Ok (Some made)) value stop = stop ≡ Err made
-IsStop (Err e) value stop = stop ≡ Err (Err e)
+abbrev pub StopsWith : {B E : Type 0} → Answered (Result B E) E → Option B → Result B (Result B E) → Type 0
+StopsWith {B = B} (Ok None) value stop = (b : B) × (value ≡ Some b) × (stop ≡ Ok b)
+StopsWith (Ok (Some made)) value stop = stop ≡ Err made
+StopsWith (Err e) value stop = stop ≡ Err (Err e)
 
 -- ---- what it makes of a list
 

@@ -6,14 +6,10 @@ use Rattle.fallible_iterator.specs.Contract.{Contract}
 use Rattle.fallible_iterator.specs.Closures.{IsCallable}
 use Rattle.fallible_iterator.specs.Passing.{passing_step}
 use Rattle.fallible_iterator.specs.Hints.{fitting_sum}
-use Rattle.fallible_itertools.specs.Staging.{Made, stage_contract}
+use Rattle.fallible_iterator.specs.SoundHints.{HintsAsSoundAs, SoundHints}
+use Rattle.fallible_itertools.specs.Staging.{Made, stage_contract, stop_answer}
 use Rattle.fallible_iterator.specs.Outcome.{Outcome}
 use Rattle.fallible_iterator.specs.Outcome.TheVariants.{Kept, LeftOut, Failure, End}
-
--- A stop is an end, `None`, or a failure, `Some e`: this answer.
-abbrev pub stop_answer : {B E : Type 0} → Option E → Answered B E
-stop_answer None = Ok None
-stop_answer (Some e) = Err e
 
 -- the answer of the stop that is due, if one is
 abbrev pub due_answer : {B E : Type 0} → Option (Option E) → List (Answered B E)
@@ -173,3 +169,9 @@ one_at_least m held (s, (p, due)) h = HintUnlessEnd due (λ j. (k : ℕ × Optio
 -- If s returns the failure e, each hint that s may return is one that the value after it may return.
 abbrev pub HintsPastFailure : {S B E : Type 0} → Contract S B E → S → E → Type 0
 HintsPastFailure {S = S} m s e = (t : S) (h : ℕ × Option ℕ) → m.steps s (Err e) t → m.hints s h → m.hints t h
+
+-- Each hint of an adapter that holds is as sound as the hint of its source that it is made of; if a stop is due it is sound by itself, and if that is a failure it is that of what comes after it. `due_of` is the stop that is due, and `it` the source.
+pub record HintsWhereHeld {V S X B E : Type 0} (m : Contract V B E) (due_of : V → Option (Option E)) (source : Contract S X E) (it : V → S) : Type 0 where
+  pub none_due : (s : V) → due_of s ≡ None → HintsAsSoundAs m s source (it s)
+  pub due : (s : V) (stop : Option E) → due_of s ≡ Some stop → SoundHints m s
+  pub failure_due : (s : V) (e : E) → due_of s ≡ Some (Some e) → HintsPastFailure m s e

@@ -6,13 +6,17 @@ pub mod Copied
 pub mod Dedup
 pub mod DedupBy
 pub mod DedupByKey
+pub mod ErrInto
 pub mod Holding
 pub mod InspectErr
 pub mod Intersperse
 pub mod IntersperseWith
+pub mod Keyed
 pub mod Merge
 pub mod MergeBy
 pub mod OrElse
+pub mod PadUsing
+pub mod Parted
 pub mod Parting
 pub mod PeekingTakeWhile
 pub mod Sides
@@ -20,6 +24,7 @@ pub mod Staging
 pub mod StopAfter
 pub mod TakeWhileInclusive
 pub mod TupleWindows
+pub mod Tuples
 pub mod Unique
 pub mod WithPosition
 pub mod ZipLongest

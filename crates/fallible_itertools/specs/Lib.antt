@@ -13,8 +13,10 @@ pub mod Dedup
 pub mod DedupBy
 pub mod DedupByKey
 pub mod Equal
+pub mod ErrInto
 pub mod ExactlyOne
 pub mod FindOrLast
+pub mod FindPosition
 pub mod FoldWhile
 pub mod FromBack
 pub mod GroupMap
@@ -23,13 +25,17 @@ pub mod InspectErr
 pub mod Intersperse
 pub mod IntersperseWith
 pub mod IsSorted
+pub mod IsSortedBy
 pub mod Join
+pub mod Keyed
 pub mod Laws
 pub mod Merge
 pub mod MergeBy
 pub mod MinMax
 pub mod OrElse
+pub mod PadUsing
 pub mod PartitionMap
+pub mod Parted
 pub mod Parting
 pub mod PeekingTakeWhile
 pub mod Sides
@@ -38,6 +44,8 @@ pub mod Staging
 pub mod StopAfter
 pub mod TakeWhileInclusive
 pub mod TupleWindows
+pub mod Tuples
 pub mod Unique
+pub mod UntilFailure
 pub mod WithPosition
 pub mod ZipLongest

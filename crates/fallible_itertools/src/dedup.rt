@@ -1,13 +1,14 @@
 // The adapter that yields the first of adjacent equal items.
-ghost use Rattle.std.specs.Prelude.{⊤, Option, Result};
+ghost use Rattle.std.specs.Prelude.{◌≡◌, ⊤, None, Option, Result};
 ghost use Rattle.fallible_iterator.specs.Contract.{seen_as};
 ghost use Rattle.fallible_iterator.specs.Laws.Contract.{lawful_seen};
 ghost use Rattle.fallible_itertools.specs.Dedup.{dedup_asks, dedup_contract, dedup_parts};
-ghost use Rattle.fallible_itertools.specs.Holding.{held_one};
+ghost use Rattle.fallible_itertools.specs.Holding.{held_one, holding_step};
 ghost use Rattle.fallible_itertools.specs.Laws.Dedup.{holds_dedup, lawful_dedup};
 
-use crate::holding::{Hold, drive_holding, with_held};
-use fallible_iterator::extending::{FirstTurn, Outcome};
+use crate::holding::{Hold, at_stop, drive_holding, with_held};
+use crate::staging::stopped;
+use fallible_iterator::extending::Outcome;
 use fallible_iterator::{FallibleIterator, Turn};
 
 /// The first of adjacent equal items. It is buffered until an item that differs comes, or a stop: `Ok(None)` or a failure, which the next call returns.
@@ -31,7 +32,10 @@ where
 
     /// Returns the stop that is due, without a draw. Otherwise it draws until an item differs from the buffered one, or a stop comes.
     fn next(&mut self) -> Result<Option<I::Item>, I::Error> {
-        self.drive(&mut (), &FirstTurn)
+        match self.stage.1.take() {
+            Some(stop) => stopped(stop),
+            None => differing(&mut self.it, &mut self.stage.0, &mut self.stage.1),
+        }
     }
 
     fn size_hint(&self) -> (usize, Option<usize>) {
@@ -50,6 +54,49 @@ where
     }
 
     ghost lawful = { lawful_seen dedup_parts (lawful_dedup I.Item.eq I.lawful) };
+}
+
+// Draws until an item differs from the buffered one, or a stop comes. No stop is due. What is buffered stands in a local, so that a compiler keeps it in a register.
+fn differing<I: FallibleIterator>(
+    it: &mut I,
+    held: &mut Option<I::Item>,
+    due: &mut Option<Option<I::Error>>,
+) -> Result<Option<I::Item>, I::Error>
+where
+    I::Item: PartialEq + Drop,
+    I::Error: Drop,
+    requires none_due { due.old ≡ None }
+    requires can_next { I.contract.can_next it.old }
+    requires finite { I.contract.is_finite it.old }
+    ensures { holding_step (dedup_asks I.Item.eq) I.contract.steps
+        (it.old, (held.old, None)) result (it.new, (held.new, due.new)) }
+{
+    let mut first = held.take();
+    let mut left = it.number();
+    loop {
+        match it.draw() {
+            Ok(Some(x)) => match DedupHold.ask(&mut first, Some(x)) {
+                Outcome::Kept(y) => {
+                    *held = first;
+                    return Ok(Some(y));
+                }
+                Outcome::LeftOut => left = left.one_less(),
+                Outcome::Failure(e) => {
+                    *held = first;
+                    return at_stop(Some(e), held, due, &DedupHold);
+                }
+                Outcome::End => unreachable!(),
+            },
+            Ok(None) => {
+                *held = first;
+                return at_stop(None, held, due, &DedupHold);
+            }
+            Err(e) => {
+                *held = first;
+                return at_stop(Some(e), held, due, &DedupHold);
+            }
+        }
+    }
 }
 
 // What becomes of an item after the buffered one.

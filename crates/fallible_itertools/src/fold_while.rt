@@ -1,7 +1,7 @@
 //! Folds that may stop early.
 ghost use Rattle.std.specs.Prelude.{◌≡◌, IsSome, Ok, None, Result};
 ghost use Rattle.fallible_iterator.specs.Folds.{IsFoldTurnInSlot, takes_in_slot, call_with, takes_with};
-ghost use Rattle.fallible_itertools.specs.FoldWhile.{WhileCall, IsStop, while_answer, value_of, is_done_at};
+ghost use Rattle.fallible_itertools.specs.FoldWhile.{WhileCall, StopsWith, while_answer, value_of, is_done_at};
 
 use fallible_iterator::Turn;
 use std::ops::ControlFlow;
@@ -67,7 +67,7 @@ pub fn while_or_stop<B: Drop, E>(
     value: Option<B>,
 ) -> Result<FoldWhile<B>, E>
     requires { answer ≡ Ok None → IsSome value }
-    ensures { (stop : Result B (Result B E)) × IsStop answer value stop
+    ensures { (stop : Result B (Result B E)) × StopsWith answer value stop
         × (result ≡ while_answer stop) }
 {
     match answer {

@@ -2,7 +2,8 @@
 ghost use Rattle.std.specs.Prelude.{◌≡◌, ℕ, if◌then◌else◌, Option, Result, Some, None, Ok, ⊤};
 ghost use Rattle.fallible_iterator.specs.Folds.{CallableDriving, Driven};
 ghost use Rattle.fallible_iterator.specs.Outcome.{Outcome};
-ghost use Rattle.fallible_itertools.specs.Holding.{AtStop, Holds, HintHeld, MadeOfStop, holding_contract, holding_meets, holding_step, made_answers, stop_answer, stop_comes};
+ghost use Rattle.fallible_itertools.specs.Holding.{AtStop, Holds, HintHeld, MadeOfStop, holding_contract, holding_meets, holding_step, made_answers, stop_comes};
+ghost use Rattle.fallible_itertools.specs.Staging.{stop_answer};
 ghost use Rattle.fallible_itertools.specs.Laws.Holding.{is_stage_stops};
 
 use crate::staging::{Made, Stage, drive_stage, one, one_then, stopped};

@@ -2,12 +2,14 @@
 
 mod copied;
 mod failing;
+mod failures;
 mod grouping;
 mod holding;
 mod intersperse;
 mod lengths;
 mod merge;
 mod merge_by;
+mod pad_using;
 mod peeking_take_while;
 mod stop_after;
 mod take_while_inclusive;
@@ -19,25 +21,28 @@ pub use copied::{
     law_listed_copied,
 };
 pub use failing::{
-    law_back_inspect_err, law_back_or_else, law_hints_back_inspect_err, law_hints_inspect_err,
-    law_hints_listed_inspect_err, law_hints_or_else, law_inspect_err, law_listed_inspect_err,
-    law_listed_or_else, law_or_else,
+    law_back_err_into, law_back_inspect_err, law_back_or_else, law_err_into,
+    law_hints_back_err_into, law_hints_back_inspect_err, law_hints_err_into, law_hints_inspect_err,
+    law_hints_listed_err_into, law_hints_listed_inspect_err, law_hints_or_else, law_inspect_err,
+    law_listed_err_into, law_listed_inspect_err, law_listed_or_else, law_or_else,
 };
+pub use failures::{law_partition_failures, law_until_failure};
 pub use grouping::{
     law_chunk_by, law_chunked, law_chunked_by, law_chunks, law_hints_chunk_by, law_hints_chunks,
 };
 pub use holding::{
     law_coalesce, law_coalesced, law_dedup, law_dedup_by, law_dedup_by_key, law_deduped,
     law_deduped_by, law_deduped_by_key, law_hints_coalesce, law_hints_dedup, law_hints_dedup_by,
-    law_hints_dedup_by_key, law_hints_tuple_windows, law_hints_with_position, law_positioned,
-    law_tuple_windows, law_with_position,
+    law_hints_dedup_by_key, law_hints_tuple_windows, law_hints_tuples, law_hints_with_position,
+    law_positioned, law_tuple_windows, law_tuples, law_with_position,
 };
 pub use intersperse::{
     law_hints_intersperse, law_hints_intersperse_with, law_intersperse, law_intersperse_with,
 };
-pub use lengths::{law_interspersed, law_joined, law_windowed, law_zipped_longest};
+pub use lengths::{law_interspersed, law_joined, law_tupled, law_windowed, law_zipped_longest};
 pub use merge::{law_hints_merge, law_merge, law_merged_in_order};
 pub use merge_by::{law_hints_merge_by, law_merge_by, law_merged};
+pub use pad_using::{law_hints_pad_using, law_pad_using, law_padded};
 pub use peeking_take_while::{
     law_hints_peeking_take_while, law_peeking_take_while, law_rest_peeking_take_while,
 };

@@ -32,7 +32,7 @@ impl<T: Copy> MinMaxResult<T> {
 }
 
 /// Returns the lesser and the greater of two items; of equal ones the first is the lesser.
-pub fn in_order<A: Ord>(first: A, second: A) -> (A, A)
+pub fn lesser_first<A: Ord>(first: A, second: A) -> (A, A)
     ensures { MinMax result.0 result.1 ≡ with_item A.cmp (OneElement first) second }
 {
     if first.cmp(&second).is_gt() {

@@ -1,9 +1,8 @@
 //! Adapters of one source by what each of its answers makes: nothing, or one answer and what is due after it.
 ghost use Rattle.std.specs.Prelude.{◌≡◌, ℕ, Option, Result, Some, None, Ok, Err};
-ghost use Rattle.fallible_iterator.specs.Folds.{CallableDriving, Driven, TurnThrough, beside_names};
+ghost use Rattle.fallible_iterator.specs.Folds.{CallableDriving, Driven, TurnThrough, beside, beside_names};
 ghost use Rattle.fallible_iterator.specs.Passing.{IfItem};
-ghost use Rattle.fallible_itertools.specs.Staging.{DueNext, DueTakes, DueTold, First, IsStage, IsStop, Met, MetTakes, PassesNoneOver, StageTurns, StopsAtStop, TakesAll, Told, answer_of_stop, beside_stage, due_comes, due_left, made_before, one_made, stage_meets, stage_step};
-ghost use Rattle.fallible_itertools.specs.Laws.Staging.{stops_of_stage};
+ghost use Rattle.fallible_itertools.specs.Staging.{DueTakes, DueTold, IsStage, MadeTakes, MadeTold, Met, MetTakes, PassesNoneOver, StageTurns, TakesAll, Told, due_comes, due_left, made_before, one_made, stage_meets, stage_step, stop_answer};
 ghost use Rattle.std.specs.declared.ops.ControlFlow.TheVariants.{Break};
 
 use fallible_iterator::extending::Beside;
@@ -33,7 +32,7 @@ pub fn one_then<B, L, E>(answer: Result<Option<B>, E>, later: L) -> Made<B, L, E
 /// A stop, `Ok(None)` or a failure, as an answer.
 #[inline(always)]
 pub fn stopped<B, E>(stop: Option<E>) -> Result<Option<B>, E>
-    ensures { result ≡ answer_of_stop stop }
+    ensures { result ≡ stop_answer stop }
 {
     match stop {
         None => Ok(None),
@@ -105,102 +104,6 @@ fn made_of<P, X, E, G: Stage<P, X, E>>(
     }
 }
 
-// What the turns of the folds do with what stands beside the source. There it is one type parameter: the borrow checker covers no reference to a tuple in the state of a turn.
-trait Place<Q, X, E> {
-    type Held;
-
-    type Kept;
-
-    type Later;
-
-    // what is held, and what is due
-    ghost seen: { Self → Q → Self.Held × Option Self.Later };
-
-    ghost comes: { Self → Self.Later → Option (Result (Option Self.Kept) E) };
-
-    ghost can_meet: { Self → Self.Held → X → Type 0 };
-
-    ghost meets: { Self → Self.Held → Result (Option X) E
-        → Option (Result (Option Self.Kept) E × Option Self.Later) → Self.Held → Type 0 };
-
-    // The first of what an answer makes; the rest is due then.
-    fn first(
-        &self,
-        q: &mut Q,
-        answer: Result<Option<X>, E>,
-    ) -> Option<Result<Option<Self::Kept>, E>>
-        requires undue { (seen self.now q.old).1 ≡ None }
-        requires can_meet { IfItem (can_meet self.now (seen self.now q.old).0) answer }
-        ensures { First (meets self.now) (seen self.now q.old).0 answer result
-            (seen self.now q.new) };
-
-    // The answer that is due.
-    fn next_due(&self, q: &mut Q) -> Option<Result<Option<Self::Kept>, E>>
-        ensures { DueNext (comes self.now) (seen self.now q.old) result (seen self.now q.new) };
-
-    // A stop makes a stop.
-    ghost stops: { (place : Self) → StopsAtStop (comes place) (meets place) };
-}
-
-#[derive(Drop)]
-struct StagePlace<'a, G> {
-    stage: &'a G,
-}
-
-impl<'a, P, X, E, G: Stage<P, X, E>> Place<(P, Option<G::Later>), X, E> for StagePlace<'a, G> {
-    type Held = P;
-
-    type Kept = G::Kept;
-
-    type Later = G::Later;
-
-    ghost seen = { λ _ q. q };
-
-    ghost comes = { λ k later. G.comes k.stage.now later };
-
-    ghost can_meet = { λ k p x. G.can_meet k.stage.now p x };
-
-    ghost meets = { λ k p a made q. stage_meets (G.items k.stage.now) (G.stops k.stage.now) p a
-        made q };
-
-    #[inline(always)]
-    fn first(
-        &self,
-        q: &mut (P, Option<G::Later>),
-        answer: Result<Option<X>, E>,
-    ) -> Option<Result<Option<G::Kept>, E>>
-        requires undue { q.old.1 ≡ None }
-        requires can_meet { IfItem (G.can_meet self.now.stage.now q.old.0) answer }
-        ensures { First (stage_meets (G.items self.now.stage.now) (G.stops self.now.stage.now))
-            q.old.0 answer result q.new }
-    {
-        match made_of(answer, &mut q.0, self.stage) {
-            None => None,
-            Some((first, next)) => {
-                put_due(&mut q.1, next);
-                Some(first)
-            }
-        }
-    }
-
-    #[inline(always)]
-    fn next_due(&self, q: &mut (P, Option<G::Later>)) -> Option<Result<Option<G::Kept>, E>>
-        ensures { DueNext (G.comes self.now.stage.now) q.old result q.new }
-    {
-        match q.1.take() {
-            None => None,
-            Some(later) => {
-                let (answer, left) = self.stage.come(later);
-                put_due(&mut q.1, left);
-                Some(answer)
-            }
-        }
-    }
-
-    ghost stops = { λ k. stops_of_stage (G.comes k.stage.now) (G.most k.stage.now)
-        (G.held k.stage.now) (G.is_stage k.stage.now) };
-}
-
 // What is due from now on, where nothing was.
 #[inline(always)]
 fn put_due<L>(due: &mut Option<L>, next: Option<L>)
@@ -233,23 +136,47 @@ fn tell<B, E, C, R, K: Turn<C, B, R>>(
     }
 }
 
-// The caller's turn on what is due.
+// The caller's turn on what is due. If it stops the fold, it says what is due then.
 #[inline(always)]
-fn tell_due<Q, X, E, L: Place<Q, X, E>, C, R, K: Turn<C, L::Kept, R>>(
-    q: &mut Q,
-    place: &L,
+fn tell_due<P, X, E, G: Stage<P, X, E>, C, R, K: Turn<C, G::Kept, R>>(
+    due: Option<G::Later>,
+    adapter: &G,
     state: &mut C,
     turn: &K,
-) -> ControlFlow<Result<Option<R>, E>, ()>
-    requires { DueTakes (K.turns turn.now) (L.comes place.now) (K.can_turn turn.now) state.old
-        (L.seen place.now q.old).1 }
-    ensures kept { (L.seen place.now q.new).0 ≡ (L.seen place.now q.old).0 }
-    ensures told { DueTold (K.turns turn.now) (L.comes place.now) state.old
-        (L.seen place.now q.old).1 result (state.new, (L.seen place.now q.new).1) }
+) -> ControlFlow<(Result<Option<R>, E>, Option<G::Later>), ()>
+    requires { DueTakes (K.turns turn.now) (G.comes adapter.now) (K.can_turn turn.now) state.old due }
+    ensures { DueTold (K.turns turn.now) (G.comes adapter.now) state.old due result state.new }
 {
-    match place.next_due(q) {
+    match due {
         None => ControlFlow::Continue(()),
-        Some(answer) => tell(answer, state, turn),
+        Some(later) => {
+            let (answer, left) = adapter.come(later);
+            match (tell(answer, state, turn), left) {
+                (ControlFlow::Continue(()), None) => ControlFlow::Continue(()),
+                (ControlFlow::Continue(()), Some(_)) => unreachable!(),
+                (ControlFlow::Break(answer), left) => ControlFlow::Break((answer, left)),
+            }
+        }
+    }
+}
+
+// The caller's turn on what an answer of the source makes.
+#[inline(always)]
+fn tell_made<P, X, E, G: Stage<P, X, E>, C, R, K: Turn<C, G::Kept, R>>(
+    made: Made<G::Kept, G::Later, E>,
+    adapter: &G,
+    state: &mut C,
+    turn: &K,
+) -> ControlFlow<(Result<Option<R>, E>, Option<G::Later>), ()>
+    requires { MadeTakes (K.turns turn.now) (G.comes adapter.now) (K.can_turn turn.now) state.old made }
+    ensures { MadeTold (K.turns turn.now) (G.comes adapter.now) state.old made result state.new }
+{
+    match made {
+        None => ControlFlow::Continue(()),
+        Some((first, due)) => match tell(first, state, turn) {
+            ControlFlow::Continue(()) => tell_due(due, adapter, state, turn),
+            ControlFlow::Break(answer) => ControlFlow::Break((answer, due)),
+        },
     }
 }
 
@@ -284,52 +211,39 @@ where
     }
 }
 
-// The adapter meets an answer, and the caller's turn is taken on what it makes.
-#[inline(always)]
-fn met<Q, X, E, L: Place<Q, X, E>, C, R, K: Turn<C, L::Kept, R>>(
-    answer: Result<Option<X>, E>,
-    q: &mut Q,
-    place: &L,
-    state: &mut C,
-    turn: &K,
-) -> ControlFlow<Result<Option<R>, E>, ()>
-    requires { MetTakes (L.comes place.now) (L.meets place.now) (K.turns turn.now)
-        (L.can_meet place.now) (K.can_turn turn.now) (state.old, L.seen place.now q.old) answer }
-    ensures { Met (L.comes place.now) (L.meets place.now) (K.turns turn.now)
-        (state.old, L.seen place.now q.old) answer result
-        (state.new, L.seen place.now q.new) }
-{
-    match place.first(q, answer) {
-        None => ControlFlow::Continue(()),
-        Some(first) => match tell(first, state, turn) {
-            ControlFlow::Continue(()) => tell_due(q, place, state, turn),
-            ControlFlow::Break(answer) => ControlFlow::Break(answer),
-        },
-    }
-}
-
-// The turn of the source's fold.
+// The turn of the source's fold. It knows nothing of what is due: nothing is, and what is due where it stops goes with what it stops with. So a compiler may keep what is held in registers.
 #[derive(Drop)]
-struct StageTurn<'a, L, K> {
-    place: &'a L,
+struct StageTurn<'a, G, K> {
+    adapter: &'a G,
     turn: &'a K,
 }
 
-impl<'a, 'b, Q, X, E, C, R, L: Place<Q, X, E>, K: Turn<C, L::Kept, R>> Turn<
-    Beside<'b, C, Q>,
+impl<'a, 'b, P, X, E, C, R, G: Stage<P, X, E>, K: Turn<C, G::Kept, R>> Turn<
+    Beside<'b, C, P>,
     X,
-    Result<Option<R>, E>,
-> for StageTurn<'a, L, K> {
-    ghost can_turn = { λ k b x. MetTakes (L.comes k.place.now) (L.meets k.place.now)
-        (K.turns k.turn.now) (L.can_meet k.place.now) (K.can_turn k.turn.now)
-        (beside_stage (L.seen k.place.now) b) (Ok (Some x)) };
+    (Result<Option<R>, E>, Option<G::Later>),
+> for StageTurn<'a, G, K> {
+    ghost can_turn = { λ k b x. MetTakes (G.comes k.adapter.now)
+        (stage_meets (G.items k.adapter.now) (G.stops k.adapter.now)) (K.turns k.turn.now)
+        (G.can_meet k.adapter.now) (K.can_turn k.turn.now) (beside b) (Ok (Some x)) };
 
-    ghost turns = { λ k b x r d. TurnThrough (beside_stage (L.seen k.place.now)) beside_names
-        (StageTurns (L.comes k.place.now) (L.meets k.place.now) (K.turns k.turn.now)) b x r d };
+    ghost turns = { λ k b x r d. TurnThrough beside beside_names
+        (StageTurns (G.comes k.adapter.now)
+        (stage_meets (G.items k.adapter.now) (G.stops k.adapter.now)) (K.turns k.turn.now))
+        b x r d };
 
     #[inline(always)]
-    fn turn(&self, state: &mut Beside<'b, C, Q>, item: X) -> ControlFlow<Result<Option<R>, E>, ()> {
-        met(Ok(Some(item)), state.p, self.place, state.c, self.turn)
+    fn turn(
+        &self,
+        state: &mut Beside<'b, C, P>,
+        item: X,
+    ) -> ControlFlow<(Result<Option<R>, E>, Option<G::Later>), ()> {
+        tell_made(
+            self.adapter.on_item(state.p, item),
+            self.adapter,
+            state.c,
+            self.turn,
+        )
     }
 }
 
@@ -360,88 +274,105 @@ where
         (stage_meets (G.items adapter.now) (G.stops adapter.now)) I.contract.steps)
         (K.turns turn.now) (it.old, stage.old) state.old result (it.new, stage.new) state.new }
 {
-    drive_place(it, stage, &StagePlace { stage: adapter }, state, turn)
-}
-
-fn drive_place<
-    I: FallibleIterator,
-    Q,
-    L: Place<Q, I::Item, I::Error>,
-    C,
-    R,
-    K: Turn<C, L::Kept, R>,
->(it: &mut I, q: &mut Q, place: &L, state: &mut C, turn: &K) -> Result<Option<R>, I::Error>
-where
-    requires can_next { I.contract.can_next it.old }
-    requires finite { I.contract.is_finite it.old }
-    requires takes { TakesAll I.contract (L.meets place.now) (L.can_meet place.now) it.old
-        (L.seen place.now q.old).0 }
-    requires callable { CallableDriving
-        (stage_step (L.comes place.now) (L.meets place.now) I.contract.steps)
-        (K.turns turn.now) (K.can_turn turn.now) (it.old, L.seen place.now q.old) state.old }
-    ensures { Driven (stage_step (L.comes place.now) (L.meets place.now) I.contract.steps)
-        (K.turns turn.now) (it.old, L.seen place.now q.old) state.old result
-        (it.new, L.seen place.now q.new) state.new }
-{
-    match tell_due(q, place, state, turn) {
-        ControlFlow::Break(answer) => answer,
-        ControlFlow::Continue(()) => match drive_items(it, q, place, state, turn) {
-            Ok(Some(answer)) => answer,
-            Ok(None) => at_stop(Ok(None), q, place, state, turn),
-            Err(d) => at_stop(Err(d), q, place, state, turn),
-        },
+    match tell_due(stage.1.take(), adapter, state, turn) {
+        ControlFlow::Break((answer, left)) => {
+            put_due(&mut stage.1, left);
+            answer
+        }
+        ControlFlow::Continue(()) => {
+            let (answer, left) = drive_undue(it, &mut stage.0, adapter, state, turn);
+            put_due(&mut stage.1, left);
+            answer
+        }
     }
 }
 
-// The source's fold, which stops with the answer of the adapter's.
-fn drive_items<
+// The fold where nothing is due, and what is due after it.
+fn drive_undue<
     I: FallibleIterator,
-    Q,
-    L: Place<Q, I::Item, I::Error>,
+    P,
+    G: Stage<P, I::Item, I::Error>,
     C,
     R,
-    K: Turn<C, L::Kept, R>,
+    K: Turn<C, G::Kept, R>,
 >(
     it: &mut I,
-    q: &mut Q,
-    place: &L,
+    held: &mut P,
+    adapter: &G,
     state: &mut C,
     turn: &K,
-) -> Result<Option<Result<Option<R>, I::Error>>, I::Error>
+) -> (Result<Option<R>, I::Error>, Option<G::Later>)
+where
+    requires can_next { I.contract.can_next it.old }
+    requires finite { I.contract.is_finite it.old }
+    requires takes { TakesAll I.contract (stage_meets (G.items adapter.now) (G.stops adapter.now))
+        (G.can_meet adapter.now) it.old held.old }
+    requires callable { CallableDriving (stage_step (G.comes adapter.now)
+        (stage_meets (G.items adapter.now) (G.stops adapter.now)) I.contract.steps)
+        (K.turns turn.now) (K.can_turn turn.now) (it.old, (held.old, None)) state.old }
+    ensures { Driven (stage_step (G.comes adapter.now)
+        (stage_meets (G.items adapter.now) (G.stops adapter.now)) I.contract.steps)
+        (K.turns turn.now) (it.old, (held.old, None)) state.old result.0
+        (it.new, (held.new, result.1)) state.new }
+{
+    match drive_items(it, held, adapter, state, turn) {
+        Ok(Some(told)) => told,
+        Ok(None) => at_stop(None, held, adapter, state, turn),
+        Err(e) => at_stop(Some(e), held, adapter, state, turn),
+    }
+}
+
+// The source's fold, which stops with the answer of the adapter's and what is due then.
+fn drive_items<
+    I: FallibleIterator,
+    P,
+    G: Stage<P, I::Item, I::Error>,
+    C,
+    R,
+    K: Turn<C, G::Kept, R>,
+>(
+    it: &mut I,
+    held: &mut P,
+    adapter: &G,
+    state: &mut C,
+    turn: &K,
+) -> Result<Option<(Result<Option<R>, I::Error>, Option<G::Later>)>, I::Error>
 where
     requires can_next { I.contract.can_next it.old }
     requires finite { I.contract.is_finite it.old }
     requires callable { CallableDriving I.contract.steps
-        (StageTurns (L.comes place.now) (L.meets place.now) (K.turns turn.now))
-        (λ b x. MetTakes (L.comes place.now) (L.meets place.now) (K.turns turn.now)
-        (L.can_meet place.now) (K.can_turn turn.now) b (Ok (Some x)))
-        it.old (state.old, L.seen place.now q.old) }
+        (StageTurns (G.comes adapter.now) (stage_meets (G.items adapter.now) (G.stops adapter.now))
+        (K.turns turn.now))
+        (λ b x. MetTakes (G.comes adapter.now)
+        (stage_meets (G.items adapter.now) (G.stops adapter.now)) (K.turns turn.now)
+        (G.can_meet adapter.now) (K.can_turn turn.now) b (Ok (Some x)))
+        it.old (state.old, held.old) }
     ensures { Driven I.contract.steps
-        (StageTurns (L.comes place.now) (L.meets place.now) (K.turns turn.now))
-        it.old (state.old, L.seen place.now q.old) result it.new
-        (state.new, L.seen place.now q.new) }
+        (StageTurns (G.comes adapter.now) (stage_meets (G.items adapter.now) (G.stops adapter.now))
+        (K.turns turn.now))
+        it.old (state.old, held.old) result it.new (state.new, held.new) }
 {
-    let mut both = Beside { c: state, p: q };
-    it.drive(&mut both, &StageTurn { place, turn })
+    let mut both = Beside { c: state, p: held };
+    it.drive(&mut both, &StageTurn { adapter, turn })
 }
 
-// What the fold returns at a stop of its source.
-fn at_stop<Q, X, E, L: Place<Q, X, E>, C, R, K: Turn<C, L::Kept, R>>(
-    stop: Result<Option<X>, E>,
-    q: &mut Q,
-    place: &L,
+// What the fold returns at a stop of its source, and what is due then.
+fn at_stop<P, X, E, G: Stage<P, X, E>, C, R, K: Turn<C, G::Kept, R>>(
+    stop: Option<E>,
+    held: &mut P,
+    adapter: &G,
     state: &mut C,
     turn: &K,
-) -> Result<Option<R>, E>
-    requires is_stop { IsStop stop }
-    requires takes { MetTakes (L.comes place.now) (L.meets place.now) (K.turns turn.now)
-        (L.can_meet place.now) (K.can_turn turn.now) (state.old, L.seen place.now q.old) stop }
-    ensures { Met (L.comes place.now) (L.meets place.now) (K.turns turn.now)
-        (state.old, L.seen place.now q.old) stop (Break result)
-        (state.new, L.seen place.now q.new) }
+) -> (Result<Option<R>, E>, Option<G::Later>)
+    requires { MetTakes (G.comes adapter.now)
+        (stage_meets (G.items adapter.now) (G.stops adapter.now)) (K.turns turn.now)
+        (G.can_meet adapter.now) (K.can_turn turn.now) (state.old, held.old) (stop_answer stop) }
+    ensures { Met (G.comes adapter.now)
+        (stage_meets (G.items adapter.now) (G.stops adapter.now)) (K.turns turn.now)
+        (state.old, held.old) (stop_answer stop) (Break result) (state.new, held.new) }
 {
-    match met(stop, q, place, state, turn) {
-        ControlFlow::Break(answer) => answer,
+    match tell_made(adapter.on_stop(held, stop), adapter, state, turn) {
+        ControlFlow::Break(told) => told,
         ControlFlow::Continue(()) => unreachable!(),
     }
 }

@@ -3,7 +3,9 @@ ghost use Rattle.std.specs.HashMap.{get, spare};
 ghost use Rattle.std.specs.HashSet.{IsEmpty};
 ghost use Rattle.std.specs.Set.{ClonesAreEqual};
 ghost use Rattle.std.specs.Prelude.{◌≡◌, ℕ, ◌+◌, ◌≤◌, List, None, Result, ◌-◌, ◌^◌, ◌⊎◌, true, Option, Ok, Err, false, Bool, Some, IfOk, ⊤, ◌<◌, vec_items};
-ghost use Rattle.std.specs.Fn.{ComputesKey};
+ghost use Rattle.std.specs.Cmp.{IsStrictWeakOrder};
+ghost use Rattle.std.specs.Fn.{ComparesAs, ComputesKey};
+ghost use Rattle.std.specs.Iterator.{IsFinite};
 ghost use Rattle.std.specs.declared.cmp.Ordering.{Ordering};
 ghost use Rattle.fallible_iterator.specs.Clauses.{OverList, OverListWith, OverBoth};
 ghost use Rattle.fallible_iterator.specs.Closures.{IsCallable, call_at, takes_at, call_on, takes_on};
@@ -11,6 +13,7 @@ ghost use Rattle.fallible_iterator.specs.Collecting.{Collects};
 ghost use Rattle.fallible_iterator.specs.Comparing.{OneIsFinite, read_as, reads_eq};
 ghost use Rattle.fallible_iterator.specs.Contract.{seen_as, AtMost, Stays};
 ghost use Rattle.fallible_iterator.specs.Fault.TheVariants.{Source};
+ghost use Rattle.fallible_iterator.specs.Failing.{failures_mapped};
 ghost use Rattle.fallible_iterator.specs.Folds as fold;
 ghost use Rattle.fallible_iterator.specs.Lists as list;
 ghost use Rattle.fallible_iterator.specs.Making.{ListsMade};
@@ -28,6 +31,7 @@ ghost use Rattle.fallible_itertools.specs.Dedup.{dedup_contract, dedup_parts, de
 ghost use Rattle.fallible_itertools.specs.DedupBy.{dedup_by_asks, dedup_by_contract, dedup_by_parts, dedup_by_takes, deduped_by};
 ghost use Rattle.fallible_itertools.specs.DedupByKey as dedup_by_key;
 ghost use Rattle.fallible_itertools.specs.Equal.{FirstCall, TestCall, contained, equal_to_first, rest_contained, rest_unequal};
+ghost use Rattle.fallible_itertools.specs.ErrInto.{err_into_contract, err_into_parts};
 ghost use Rattle.fallible_itertools.specs.ExactlyOne.{AtMostOneDrains, at_most_one_of, wanting_one};
 ghost use Rattle.fallible_itertools.specs.Holding.{MayBeAsked};
 ghost use Rattle.fallible_itertools.specs.GroupMap.{GroupRefuses, IsGroupMapOf};
@@ -41,16 +45,23 @@ ghost use Rattle.fallible_itertools.specs.Join.{JoinedAs};
 ghost use Rattle.fallible_itertools.specs.Merge.{merge_contract, merge_left, merge_left_ended, merge_left_held, merge_parts, merge_right, merge_right_ended, merge_right_held, merged_in_order};
 ghost use Rattle.fallible_itertools.specs.MergeBy as merge_by;
 ghost use Rattle.fallible_itertools.specs.MinMax.{MinMaxDrains, minmaxed};
+ghost use Rattle.fallible_itertools.specs.PadUsing as pad_using;
+ghost use Rattle.fallible_itertools.specs.Parted.{PartitionedFailuresAs, parted_step, without_source};
 ghost use Rattle.fallible_itertools.specs.PartitionMap.{EitherRefused, MadeOfEithers};
 ghost use Rattle.fallible_itertools.specs.FindOrLast.{FoundOrLast, found_or_last};
+ghost use Rattle.fallible_itertools.specs.FindPosition.{find_position_pick, position_found};
 ghost use Rattle.fallible_itertools.specs.IsSorted.{ItselfCall, OrderCall, in_order, in_order_by_key};
+ghost use Rattle.fallible_itertools.specs.IsSortedBy.{PairCall, in_order_by, takes_pair};
+ghost use Rattle.fallible_itertools.specs.Keyed.{keyed, keyed_contract};
 ghost use Rattle.fallible_itertools.specs.FoldWhile.{WhileCall, FoldWhileDrains, folded_while, rest_while};
-ghost use Rattle.fallible_itertools.specs.Sorted.{CollectsSorted, HasItems, IsSortedByCalls, IsSortedByKeyOf, IsSortedOf};
+ghost use Rattle.fallible_itertools.specs.Sorted.{CollectsSorted, HasItems, IsSortedByCalls, IsSortedByComparisons, IsSortedByKeyOf, IsSortedByTest, IsSortedOf};
 ghost use Rattle.fallible_itertools.specs.StopAfter.{stop_after_contract, stop_after_items, stop_after_parts, stopped_after};
 ghost use Rattle.fallible_itertools.specs.TakeWhileInclusive as inclusive;
 ghost use Rattle.fallible_itertools.specs.CheckedSum.{TotalDrains, totalled};
 ghost use Rattle.fallible_itertools.specs.TupleWindows.{tuple_windows_contract, tuple_windows_parts, windowed};
+ghost use Rattle.fallible_itertools.specs.Tuples.{tupled, tuples_contract, tuples_parts};
 ghost use Rattle.fallible_itertools.specs.Unique.{unique_contract, unique_of, unique_parts, unique_seen, unique_source};
+ghost use Rattle.fallible_itertools.specs.UntilFailure.{CollectedUntilAs, CollectsUntil, rest_failure};
 ghost use Rattle.fallible_itertools.specs.WithPosition.{positioned, with_position_contract, with_position_parts};
 ghost use Rattle.fallible_itertools.specs.ZipLongest as zip_longest;
 ghost use Rattle.fallible_itertools.specs.declared.exactly_one.NotOne.TheVariants.{More};
@@ -68,26 +79,34 @@ use crate::dedup::Dedup;
 use crate::dedup_by::DedupBy;
 use crate::dedup_by_key::DedupByKey;
 use crate::equal::{AllEqualTurn, ContainsTurn};
+use crate::err_into::ErrInto;
 use crate::exactly_one::NotOne;
 use crate::find_or_last::{FindLastTurn, or_last};
+use crate::find_position::FindPositionTurn;
 use crate::fold_while::{FoldWhile, FoldWhileTurn, while_or_stop};
 use crate::group_map::GroupMap;
 use crate::inspect_err::InspectErr;
 use crate::intersperse::Intersperse;
 use crate::intersperse_with::IntersperseWith;
 use crate::is_sorted::{InOrderTurn, SortedTurn};
+use crate::is_sorted_by::SortedByTurn;
 use crate::join::JoinTurn;
+use crate::keyed::Keyed;
 use crate::merge::Merge;
 use crate::merge_by::MergeBy;
-use crate::minmax::{MinMaxResult, MinMaxTurn, in_order};
+use crate::minmax::{MinMaxResult, MinMaxTurn, lesser_first};
 use crate::or_else::OrElse;
+use crate::pad_using::PadUsing;
+use crate::parted::{Parted, without_fault};
 use crate::partition_map::Either;
 use crate::sides::Holding;
-use crate::sorted::{sorted_items, sorted_items_by_key};
+use crate::sorted::{sorted_items, sorted_items_by, sorted_items_by_key};
 use crate::stop_after::StopAfter;
 use crate::take_while_inclusive::TakeWhileInclusive;
 use crate::tuple_windows::TupleWindows;
+use crate::tuples::Tuples;
 use crate::unique::Unique;
+use crate::until_failure::{PushTurn, with_failure};
 use crate::with_position::WithPosition;
 use crate::zip_longest::ZipLongest;
 use fallible_iterator::extending::{
@@ -100,6 +119,7 @@ use std::cmp::Ordering;
 use std::collections::{HashMap, HashSet};
 use std::fmt::Display;
 use std::hash::Hash;
+use std::marker::PhantomData;
 
 /// More calls on every fallible iterator.
 pub trait FallibleItertools: FallibleIterator {
@@ -310,6 +330,33 @@ pub trait FallibleItertools: FallibleIterator {
         }
     }
 
+    /// Yields the items two by two, as pairs. The last of an odd number of items is in no pair.
+    ///
+    /// Creating it draws nothing. `next` draws once or twice. It fails as the source does. The first item of a pair stays buffered at a failure and at an `Ok(None)`: so a pair may stand on both sides of a failure, and an item that is left over is in a pair if the source goes on.
+    ///
+    /// Requires: nothing. `next` requires that it may be called on the source.
+    ///
+    /// ```
+    /// let readings = [Ok::<u32, u8>(150), Err(9), Ok(7), Ok(700)];
+    /// let mut it = convert(readings.into_iter()).tuples();
+    /// let drawn = [it.next(), it.next(), it.next()];
+    /// assert_eq!(rt; drawn, [Err(9), Ok(Some((150, 7))), Ok(None)]);
+    /// ```
+    final fn tuples(self) -> Tuples<Self>
+    where
+        Self::Item: Drop,
+        ensures parts { tuples_parts result ≡ (self, None) }
+        ensures lists { (l : List (Result Self.Item Self.Error))
+            → list.Lists Self.contract.steps self l
+            → list.Lists (seen_as tuples_parts (tuples_contract Self.contract)).steps result
+            (tupled l) }
+    {
+        Tuples {
+            it: self,
+            held: None,
+        }
+    }
+
     // ---- searches, sums and folds
 
     /// Calls the closure on each item, through a borrow. The closure fails with an error of its own.
@@ -507,6 +554,39 @@ pub trait FallibleItertools: FallibleIterator {
         answer_or(self.drive(&mut None, &AllEqualTurn), true)
     }
 
+    /// Returns the first item on which the predicate returns true, beside how many items come before it; `Ok(None)` if there is none.
+    ///
+    /// It draws up to the first item on which the predicate returns true or fails, the first failure or `Ok(None)`. It fails with the first failure, of this iterator or of the predicate. Nothing is drawn after that, and the iterator may be used again.
+    ///
+    /// Precondition: at most `usize::MAX` items are left, so that each position fits.
+    ///
+    /// Requires: `next` may be called, and the predicate may be called on each item that may come until it decides.
+    ///
+    /// ```
+    /// let mut it = convert([Ok::<u32, u8>(7), Ok(150), Ok(8)].into_iter());
+    /// let found = it.find_position(|reading| Ok(*reading > 100));
+    /// assert_eq!(rt; (found, it.next()), (Ok(Some((1, 150))), Ok(Some(8))));
+    /// ```
+    final fn find_position<F>(&mut self, f: F) -> Result<Option<(usize, Self::Item)>, Self::Error>
+    where
+        Self::Item: Drop,
+        F: FnMut(&Self::Item) -> Result<bool, Self::Error>,
+        requires can_next { Self.contract.can_next self.old }
+        requires fits { AtMost Self.contract self.old (2 ^ 64 - 1) }
+        requires callable { search.CallableInSearch (call_at F.FnMut) find_position_pick
+            Self.contract.steps (takes_at F.FnMut) self.old f }
+        ensures searched { (g : F) × search.SearchDrains (call_at F.FnMut) find_position_pick
+            Self.contract.steps None self.old f result self.new g }
+        ensures value { OverListWith (list.Acts (call_at F.FnMut) f) Self.contract.steps self.old
+            (λ h l. result ≡ position_found h l) }
+        ensures rest { OverListWith (list.Acts (call_at F.FnMut) f) Self.contract.steps self.old
+            (λ h l. ¬ (result ≡ Ok None)
+            → list.Lists Self.contract.steps self.new (list.rest_true h l)) }
+        ensures stays { Stays Self.contract self.old self.new }
+    {
+        answer_or_none(self.drive(&mut (0, f), &FindPositionTurn))
+    }
+
     /// Returns the first item on which the predicate returns true, or the last item if there is none; `Ok(None)` if there is no item.
     ///
     /// It draws up to the first item on which the predicate returns true or fails, the first failure or `Ok(None)`. It calls the predicate on each item drawn, in order. Nothing is drawn after that. It fails with the first failure, of this iterator or of the predicate. It consumes the iterator.
@@ -688,6 +768,39 @@ pub trait FallibleItertools: FallibleIterator {
         answer_or(self.drive(&mut state, &SortedTurn), true)
     }
 
+    /// Returns whether the closure returns true for each two adjacent items. It is called on references to an item and the next one.
+    ///
+    /// It draws up to the first item for which the closure returns false or fails, the first failure or `Ok(None)`. Nothing is drawn after that. It fails with the first failure, of this iterator or of the closure. It consumes the iterator.
+    ///
+    /// Precondition: the iterator is finite.
+    ///
+    /// Requires: `next` may be called, and the closure may be called on each two items that may come one after the other, as long as it returns true.
+    ///
+    /// Proof: no clause says what is left.
+    ///
+    /// ```
+    /// let readings = [Ok::<u32, u8>(150), Ok(7), Ok(8)];
+    /// let it = convert(readings.into_iter());
+    /// assert_eq!(rt; it.is_sorted_by(|x: &u32, y: &u32| Ok(x > y)), Ok(false));
+    /// ```
+    final fn is_sorted_by<F>(mut self, f: F) -> Result<bool, Self::Error>
+    where
+        Self::Item: Drop,
+        F: FnMut(&Self::Item, &Self::Item) -> Result<bool, Self::Error>,
+        requires can_next { Self.contract.can_next self }
+        requires finite { Self.contract.is_finite self }
+        requires callable { search.CallableInSearch (PairCall (call_at_two F.FnMut))
+            search.all_pick Self.contract.steps (takes_pair (takes_at_two F.FnMut)) self (None, f) }
+        ensures sorted { (left : Self) × (q : Option Self.Item × F)
+            × search.SearchDrains (PairCall (call_at_two F.FnMut)) search.all_pick
+            Self.contract.steps true self (None, f) result left q }
+        ensures value { OverListWith (list.ActsWith (call_at_two F.FnMut) f) Self.contract.steps self
+            (λ h l. result ≡ in_order_by h l) }
+    {
+        let mut state = (None, f);
+        answer_or(self.drive(&mut state, &SortedByTurn), true)
+    }
+
     /// Returns whether no item is less than the one before it. An item that can't be compared with the one before it counts as less.
     ///
     /// It draws up to the first item that is less, the first failure or `Ok(None)`. Nothing is drawn after that. It fails with that failure. It consumes the iterator.
@@ -806,6 +919,35 @@ pub trait FallibleItertools: FallibleIterator {
             (inspect_err_contract Self.contract F.FnMut)).steps result l) }
     {
         InspectErr { it: self, f }
+    }
+
+    /// Converts each failure by `From`. So `chain`, `zip` and `merge` take two sources with two error types and no closure.
+    ///
+    /// Creating it draws nothing. `next` draws once, and converts a failure. It fails where the source does, with what the failure is converted to. After a failure and after `Ok(None)` the next call draws again. It is double-ended if the source is.
+    ///
+    /// Requires: nothing.
+    ///
+    /// ```
+    /// let readings = convert([Ok::<u32, u8>(150), Err(9)].into_iter());
+    /// let totals = convert([Ok::<u32, u16>(157), Err(700)].into_iter());
+    /// let mut it = readings.err_into::<u32>().chain(totals.err_into());
+    /// let drawn = [it.next(), it.next(), it.next(), it.next()];
+    /// assert_eq!(rt; drawn, [Ok(Some(150)), Err(9), Ok(Some(157)), Err(700)]);
+    /// ```
+    final fn err_into<E>(self) -> ErrInto<Self, E>
+    where
+        E: From<Self::Error>,
+        ensures parts { err_into_parts result ≡ (self, tt) }
+        ensures lists { (convert : Self.Error → E) → list.Converts E.from_gives convert
+            → OverList Self.contract.steps self
+            (λ l. list.Lists (seen_as err_into_parts
+            (err_into_contract E.from_gives Self.contract)).steps result
+            (failures_mapped convert l)) }
+    {
+        ErrInto {
+            it: self,
+            made: PhantomData,
+        }
     }
 
     /// Replaces each failure by what the closure returns for it: an item, nothing or another failure.
@@ -1020,6 +1162,45 @@ pub trait FallibleItertools: FallibleIterator {
         }
     }
 
+    /// Yields the items, and if these are fewer than n, then what the closure returns for each index of those that are missing: from the number of items up to n - 1.
+    ///
+    /// Creating it draws nothing and calls nothing. `next` draws once, and the iterator is fused: once it returned `Ok(None)` it isn't drawn again. From then on `next` calls the closure once, until n items were yielded, and then it returns `Ok(None)`. A failure of the iterator is returned when it is met, and counts as no item. If the closure fails, its failure is yielded in the place of that item, and the next call goes on with the next index. The iterator's bound and n, added up, bound it.
+    ///
+    /// Requires: the closure may be called on each index below n, in each state that its calls bring it to. `next` requires that it may be called on the iterator.
+    ///
+    /// ```
+    /// let readings = [Ok::<usize, u8>(150), Err(9), Ok(7)];
+    /// let mut it = convert(readings.into_iter()).pad_using(3, Ok);
+    /// let drawn = [it.next(), it.next(), it.next(), it.next(), it.next()];
+    /// assert_eq!(rt; drawn, [Ok(Some(150)), Err(9), Ok(Some(7)), Ok(Some(2)), Ok(None)]);
+    /// ```
+    final fn pad_using<F>(self, n: usize, f: F) -> PadUsing<Self, F>
+    where
+        F: FnMut(usize) -> Result<Self::Item, Self::Error>,
+        requires { IsCallable (call_on F.FnMut) (takes_on F.FnMut) (λ i. i < n) f }
+        ensures source { pad_using.pad_using_source result ≡ self }
+        ensures ended { pad_using.pad_using_ended result ≡ false }
+        ensures indices { pad_using.pad_using_indices result ≡ (0, n) }
+        ensures closure { pad_using.pad_using_closure result ≡ f }
+        ensures callable { IsCallable (pad_using.pad_call F.FnMut) (pad_using.pad_takes F.FnMut)
+            ((pad_using.beside_index_contract Self.contract).may_give
+            (pad_using.pad_using_parts result).0) f }
+        ensures bounded { (a k : ℕ) → Self.contract.bound self a → a + n ≤ k
+            → AtMost (seen_as pad_using.pad_using_parts
+            (pad_using.pad_using_contract Self.contract F.FnMut)) result k }
+        ensures lists { OverListWith (list.Acts (call_on F.FnMut) f) Self.contract.steps self
+            (λ h l. list.Lists (seen_as pad_using.pad_using_parts
+            (pad_using.pad_using_contract Self.contract F.FnMut)).steps result
+            (pad_using.padded n h l)) }
+    {
+        PadUsing {
+            it: self.fuse(),
+            next: 0,
+            end: n,
+            f,
+        }
+    }
+
     // ---- extremes, counts, comparisons
 
     /// Returns the only item: `Ok(Ok(None))` if none comes, and `Ok(Err(two))` with the first two if more than one comes.
@@ -1137,7 +1318,7 @@ pub trait FallibleItertools: FallibleIterator {
             Ok(None) => return Ok(MinMaxResult::OneElement(first)),
             Err(e) => return Err(e),
         };
-        let mut both = in_order(first, second);
+        let mut both = lesser_first(first, second);
         match self.drive(&mut both, &MinMaxTurn) {
             Ok(None) => Ok(MinMaxResult::MinMax(both.0, both.1)),
             Ok(Some(never)) => match never {},
@@ -1185,6 +1366,51 @@ pub trait FallibleItertools: FallibleIterator {
         }
     }
 
+    /// Returns how often each key comes that the closure makes of the items, as a map. A key of the map is the first of equal ones.
+    ///
+    /// Draws and errors: as `counts` of `map`. The closure is called once on each item. If it fails, this stops and fails with that failure. It consumes the iterator.
+    ///
+    /// Precondition: at most `usize::MAX` items are left, so that each number fits.
+    ///
+    /// Requires: `next` may be called, and of the closure what `map` requires.
+    ///
+    /// Memory: that failure is a `Fault::Source` too. All else as `counts`.
+    ///
+    /// Proof: no clause says what is left.
+    ///
+    /// ```
+    /// let readings = [Ok::<u32, u8>(150), Ok(7), Ok(157)];
+    /// let counts = convert(readings.into_iter()).counts_by(rt.alloc(), |reading: u32| Ok(
+    ///     reading / 100,
+    /// ))?;
+    /// assert_eq!(rt; (counts.get(&1), counts.get(&0)), (Some(&2), Some(&1)));
+    /// ```
+    final fn counts_by<K, F>(
+        self,
+        alloc: Global,
+        f: F,
+    ) -> Result<HashMap<K, usize>, Fault<Self::Error>>
+    where
+        K: Eq + Hash + Drop,
+        F: FnMut(Self::Item) -> Result<K, Self::Error>,
+        requires can_next { Self.contract.can_next self }
+        requires fits { AtMost Self.contract self (2 ^ 64 - 1) }
+        requires callable { IsCallable (call_on F.FnMut) (takes_on F.FnMut)
+            (Self.contract.may_give self) f }
+        ensures collects { Collects (map_contract Self.contract F.FnMut).steps
+            (IsCountsOf K.eq) ⊥ (λ m x. (get K.eq m x ≡ None) × (spare m ≡ 0)) (self, f) result }
+        ensures value { OverListWith (list.Acts (call_on F.FnMut) f) Self.contract.steps self
+            (λ h l. list.CollectedAs (IsCountsOf K.eq) (list.mapped h l) result) }
+        ensures contents { OverListWith (list.Acts (call_on F.FnMut) f) Self.contract.steps self
+            (λ h l. IfOk result (list.MadeOf (IsCountsOf K.eq)
+            (list.collected (list.mapped h l)))) }
+        ensures failure { OverListWith (list.Acts (call_on F.FnMut) f) Self.contract.steps self
+            (λ h l. (e : Self.Error) → result ≡ Err (Source e)
+            → list.collected (list.mapped h l) ≡ Err e) }
+    {
+        self.map(f).counts(alloc)
+    }
+
     /// Returns the pairs' values by their keys, as a map. A key is the first of equal keys, its value a `Vec` of the values of the pairs with an equal key, in order.
     ///
     /// It draws up to `Ok(None)` or the first failure. It fails with that failure. It consumes the iterator.
@@ -1226,6 +1452,93 @@ pub trait FallibleItertools: FallibleIterator {
             Ok(made) => Ok(made.groups),
             Err(fault) => Err(fault),
         }
+    }
+
+    /// Returns a collection of the items before the first failure, and that failure if one came.
+    ///
+    /// It draws up to `Ok(None)` or the first failure. Nothing is drawn after that, and the iterator may be used again: a second call collects what comes after the failure. Of equal items it keeps what `collect` keeps.
+    ///
+    /// Precondition: the iterator is finite.
+    ///
+    /// Requires: `next` may be called.
+    ///
+    /// Memory: it fails with an `AllocError` where `collect` fails with `Fault::Memory`: at the creation of the collection, or at an item that the collection rejects. Then that item and the collection are lost.
+    ///
+    /// ```
+    /// let readings = [Ok::<u32, u8>(150), Ok(7), Err(9), Ok(700)];
+    /// let mut it = convert(readings.into_iter());
+    /// let (before, failure): (Vec<u32>, Option<u8>) = it.collect_until_failure(rt.alloc())?;
+    /// assert_eq!(rt; before, vec![in rt.alloc(); 150, 7]?);
+    /// assert_eq!(rt; failure, Some(9));
+    /// assert_eq!(rt; it.next(), Ok(Some(700)));
+    /// ```
+    final fn collect_until_failure<C: Collect<Self::Item>>(
+        &mut self,
+        alloc: Global,
+    ) -> Result<(C, Option<Self::Error>), AllocError>
+    where
+        requires can_next { Self.contract.can_next self.old }
+        requires finite { Self.contract.is_finite self.old }
+        ensures collects { CollectsUntil Self.contract.steps C.made C.empty_refuses C.push_refuses
+            self.old result self.new }
+        ensures value { OverList Self.contract.steps self.old
+            (λ l. CollectedUntilAs C.made l result) }
+        ensures rest { OverList Self.contract.steps self.old
+            (λ l. (c : C) (e : Self.Error) → result ≡ Ok (c, Some e)
+            → list.Lists Self.contract.steps self.new (rest_failure l)) }
+        ensures stays { Stays Self.contract self.old self.new }
+    {
+        let mut made = match C::empty(alloc) {
+            Ok(made) => made,
+            Err(refused) => return Err(refused),
+        };
+        let answer = self.drive(&mut made, &PushTurn);
+        with_failure(answer, made)
+    }
+
+    /// Returns the items by the keys that the closure makes of them, as a map. A key of the map is the first of equal ones, its value a `Vec` of the items with an equal key, in order.
+    ///
+    /// Draws and errors: as `into_group_map`. The closure is called once on each item, through a reference. If it fails, this stops and fails with that failure. It consumes the iterator.
+    ///
+    /// Precondition: the iterator is finite.
+    ///
+    /// Requires: `next` may be called, and the closure may be called on each item that may come, in each state that such calls bring it to.
+    ///
+    /// Memory: that failure is a `Fault::Source` too. All else as `into_group_map`.
+    ///
+    /// Proof: no clause says what is left.
+    ///
+    /// ```
+    /// let readings = [Ok::<u32, u8>(150), Ok(7), Ok(157)];
+    /// let groups = convert(readings.into_iter()).into_group_map_by(rt.alloc(), |reading: &u32| Ok(
+    ///     *reading / 100,
+    /// ))?;
+    /// assert_eq!(rt; groups.get(&1), Some(&vec![in rt.alloc(); 150, 157]?));
+    /// ```
+    final fn into_group_map_by<K, F>(
+        self,
+        alloc: Global,
+        f: F,
+    ) -> Result<HashMap<K, Vec<Self::Item>>, Fault<Self::Error>>
+    where
+        Self::Item: Drop,
+        K: Eq + Hash + Drop,
+        F: FnMut(&Self::Item) -> Result<K, Self::Error>,
+        requires can_next { Self.contract.can_next self }
+        requires finite { Self.contract.is_finite self }
+        requires callable { IsCallable (call_at F.FnMut) (takes_at F.FnMut)
+            (Self.contract.may_give self) f }
+        ensures collects { Collects (keyed_contract Self.contract F.FnMut).steps
+            (IsGroupMapOf K.eq) ⊥ (GroupRefuses K.eq) (self, f) result }
+        ensures value { OverListWith (list.Acts (call_at F.FnMut) f) Self.contract.steps self
+            (λ h l. list.CollectedAs (IsGroupMapOf K.eq) (keyed h l) result) }
+        ensures contents { OverListWith (list.Acts (call_at F.FnMut) f) Self.contract.steps self
+            (λ h l. IfOk result (list.MadeOf (IsGroupMapOf K.eq) (list.collected (keyed h l)))) }
+        ensures failure { OverListWith (list.Acts (call_at F.FnMut) f) Self.contract.steps self
+            (λ h l. (e : Self.Error) → result ≡ Err (Source e)
+            → list.collected (keyed h l) ≡ Err e) }
+    {
+        Keyed { it: self, f }.into_group_map(alloc)
     }
 
     /// Returns two collections of what the closure returns for the items: of the values of each `Either::Left`, and of those of each `Either::Right`, in order. Of equal values they keep what `collect` keeps.
@@ -1284,6 +1597,44 @@ pub trait FallibleItertools: FallibleIterator {
         self.map(f).collect(alloc)
     }
 
+    /// Returns two collections: of the items, and of the failures, each in order. Of equal values they keep what `collect` keeps.
+    ///
+    /// It draws up to `Ok(None)`; a failure doesn't stop it. It consumes the iterator. In Rust it never returns over a source that fails for ever; `take(n).stop_after(m)` before it bounds items and failures together.
+    ///
+    /// Precondition: the iterator is finite.
+    ///
+    /// Requires: `next` may be called, and the items and failures that remain have a bound, both together, as `or_else` requires. `take(n)` before it bounds the items alone.
+    ///
+    /// Memory: it stops at an item or a failure that its collection rejects, and fails with the `AllocError`.
+    ///
+    /// Proof: no clause says what is left.
+    ///
+    /// ```
+    /// let readings = [Ok::<u32, u8>(150), Err(9), Ok(7), Err(8)];
+    /// let (items, failures): (Vec<u32>, Vec<u8>) = convert(readings.into_iter()).partition_failures(
+    ///     rt.alloc(),
+    /// )?;
+    /// assert_eq!(rt; items, vec![in rt.alloc(); 150, 7]?);
+    /// assert_eq!(rt; failures, vec![in rt.alloc(); 9, 8]?);
+    /// ```
+    final fn partition_failures<C: Collect<Self::Item>, D: Collect<Self::Error>>(
+        self,
+        alloc: Global,
+    ) -> Result<(C, D), AllocError>
+    where
+        Self::Item: Drop,
+        Self::Error: Drop,
+        requires can_next { Self.contract.can_next self }
+        requires bounded { IsFinite (Self.contract.remaining self) }
+        ensures collects { Collects (parted_step Self.contract.steps)
+            (MadeOfEithers C.made D.made) (C.empty_refuses ⊎ D.empty_refuses)
+            (EitherRefused C.push_refuses D.push_refuses) self (without_source result) }
+        ensures value { OverList Self.contract.steps self
+            (λ l. PartitionedFailuresAs C.made D.made l result) }
+    {
+        without_fault(Parted { it: self }.collect(alloc))
+    }
+
     /// Returns the items in a `Vec`, in order. Equal items keep their order.
     ///
     /// It draws up to `Ok(None)` or the first failure. It fails with that failure. After `Ok(None)` it sorts. It consumes the iterator.
@@ -1316,6 +1667,49 @@ pub trait FallibleItertools: FallibleIterator {
             (λ l. (e : Self.Error) → result ≡ Err (Source e) → list.collected l ≡ Err e) }
     {
         sorted_items(self.collect(alloc))
+    }
+
+    /// Returns the items in a `Vec`, in the order that the closure returns for each two. Items that it finds equal keep their order. If it compares as no order does, it returns the items in any order, each of them once; in Rust it may panic.
+    ///
+    /// Draws and errors: as `sorted`. The closure doesn't fail. It is called after the last draw. It consumes the iterator.
+    ///
+    /// Precondition: the iterator is finite.
+    ///
+    /// Requires: `next` may be called, and the closure may be called on references to any two items at any time.
+    ///
+    /// Proof: no clause says what is left. It is known to be in order by a strict weak order as which the closure compares.
+    ///
+    /// ```
+    /// let readings = [Ok::<u32, u8>(150), Ok(7), Ok(700)];
+    /// let falling = convert(readings.into_iter()).sorted_by(
+    ///     rt.alloc(),
+    ///     |x: &u32, y: &u32| y.cmp(x),
+    /// )?;
+    /// assert_eq!(rt; falling, vec![in rt.alloc(); 700, 150, 7]?);
+    /// ```
+    final fn sorted_by<F>(self, alloc: Global, f: F) -> Result<Vec<Self::Item>, Fault<Self::Error>>
+    where
+        Self::Item: Drop,
+        F: FnMut(&Self::Item, &Self::Item) -> Ordering,
+        requires can_next { Self.contract.can_next self }
+        requires finite { Self.contract.is_finite self }
+        requires callable { F.IsAlwaysCallable f }
+        ensures collects { CollectsSorted Self.contract.steps (IsSortedByComparisons F.FnMut f)
+            self result }
+        ensures value { (lt : Self.Item → Self.Item → Bool) → IsStrictWeakOrder lt
+            → ComparesAs F.FnMut lt f
+            → OverList Self.contract.steps self
+            (λ l. list.CollectedAs (IsSortedByTest lt) l result) }
+        ensures contents { (lt : Self.Item → Self.Item → Bool) → IsStrictWeakOrder lt
+            → ComparesAs F.FnMut lt f
+            → OverList Self.contract.steps self
+            (λ l. IfOk result (list.MadeOf (IsSortedByTest lt) (list.collected l))) }
+        ensures items { OverList Self.contract.steps self
+            (λ l. list.CollectedAs HasItems l result) }
+        ensures failure { OverList Self.contract.steps self
+            (λ l. (e : Self.Error) → result ≡ Err (Source e) → list.collected l ≡ Err e) }
+    {
+        sorted_items_by(self.collect(alloc), f)
     }
 
     /// Returns the items in a `Vec`, in the order of the keys that the closure returns for them. Items with equal keys keep their order. If the closure returns other keys for an item from call to call, it returns the items in any order, each of them once.

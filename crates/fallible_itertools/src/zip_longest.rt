@@ -195,7 +195,10 @@ where
 }
 
 // The greater of two hints' bounds.
-fn greater(a: (usize, Option<usize>), b: (usize, Option<usize>)) -> (usize, Option<usize>)
+pub(crate) fn greater(
+    a: (usize, Option<usize>),
+    b: (usize, Option<usize>),
+) -> (usize, Option<usize>)
     ensures { result ≡ hint_greater a b }
 {
     let high = match (a.1, b.1) {

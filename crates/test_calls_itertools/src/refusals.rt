@@ -153,6 +153,39 @@ fn refused_clones_of_adapters_that_clone(rt: HostRuntime) -> Result<(), Fail> {
     expect_refused_clones_of_asking(&rt, &r, &mut it, &OF_INTERSPERSE)
 }
 
+const OF_TUPLES: Asks<'static> = ("Tuples", 3, [(2, Some(2)), NONE]);
+
+// The end and 3 are left, and what the closure returns for the fourth item is no request.
+const OF_PAD_USING: NumbersCase = Case {
+    name: "PadUsing",
+    requests: 1,
+    hints: [(4, Some(4)), NONE],
+    first: &[Item(1), Item(2)],
+    expected: &[Item(3), Item(30)],
+};
+
+// Ten times the index.
+fn ten_times(index: usize) -> Result<u32, TestError> {
+    Ok((index as u32).wrapping_mul(10))
+}
+
+// 1 is held over the failure.
+#[test]
+fn refused_clones_of_pairs_and_of_what_is_padded(rt: HostRuntime) -> Result<(), Fail> {
+    let r = Requests::refusing(u32::MAX);
+    let items = [
+        Ok(Number::new(1, &r)),
+        Err(NINE),
+        Ok(Number::new(2, &r)),
+        Ok(Number::new(3, &r)),
+    ];
+    let mut it = listed::<Number<'_>, TestError, 4>(rt.alloc(), items)?.tuples();
+    let expected = [Item((Number::new(1, &r), Number::new(2, &r))), End];
+    expect_refused_clones_that(&rt, &r, &mut it, OF_TUPLES, &[Failure(NINE)], &expected)?;
+    let mut it = Counting::new(1, 4, &r).pad_using(4, ten_times);
+    expect_refused_clones_of_numbers(&rt, &r, &mut it, &OF_PAD_USING)
+}
+
 const OF_CHUNKS: Asks<'static> = ("Chunks", 2, [(2, Some(4)), NONE]);
 
 const OF_CHUNK_BY: Asks<'static> = ("ChunkBy", 3, [UP_TO_THREE, NONE]);

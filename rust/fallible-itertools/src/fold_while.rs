@@ -76,7 +76,7 @@ impl<A, B, E, F: FnMut(B, A) -> Result<FoldWhile<B>, E>> Turn<(Option<B>, F), A,
 ///
 /// ```text
 /// requires { answer ≡ Ok None → IsSome value }
-/// ensures { (stop : Result B (Result B E)) × IsStop answer value stop
+/// ensures { (stop : Result B (Result B E)) × StopsWith answer value stop
 ///     × (result ≡ while_answer stop) }
 /// ```
 /// </details>

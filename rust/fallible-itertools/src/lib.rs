@@ -46,10 +46,13 @@ pub mod dedup_by_key;
 #[doc(hidden)]
 pub mod double_ended;
 mod equal;
+#[doc(hidden)]
+pub mod err_into;
 mod errors;
 #[doc(hidden)]
 pub mod exactly_one;
 mod find_or_last;
+mod find_position;
 #[doc(hidden)]
 pub mod fold_while;
 #[cfg(feature = "std")]
@@ -64,9 +67,12 @@ pub mod intersperse;
 #[doc(hidden)]
 pub mod intersperse_with;
 mod is_sorted;
+mod is_sorted_by;
 #[cfg(feature = "alloc")]
 #[doc(hidden)]
 pub mod join;
+#[cfg(feature = "std")]
+mod keyed;
 #[doc(hidden)]
 pub mod merge;
 #[doc(hidden)]
@@ -75,6 +81,9 @@ pub mod merge_by;
 pub mod minmax;
 #[doc(hidden)]
 pub mod or_else;
+mod parted;
+#[doc(hidden)]
+pub mod pad_using;
 #[doc(hidden)]
 pub mod partition_map;
 #[doc(hidden)]
@@ -92,9 +101,12 @@ pub mod take_while_inclusive;
 pub mod traits;
 #[doc(hidden)]
 pub mod tuple_windows;
+#[doc(hidden)]
+pub mod tuples;
 #[cfg(feature = "std")]
 #[doc(hidden)]
 pub mod unique;
+mod until_failure;
 #[doc(hidden)]
 pub mod with_position;
 #[cfg(doc)]
@@ -113,6 +125,7 @@ pub use dedup::Dedup;
 pub use dedup_by::DedupBy;
 pub use dedup_by_key::DedupByKey;
 pub use double_ended::DoubleEndedFallibleItertools;
+pub use err_into::ErrInto;
 pub use exactly_one::NotOne;
 pub use fold_while::FoldWhile;
 pub use inspect_err::InspectErr;
@@ -122,12 +135,14 @@ pub use merge::Merge;
 pub use merge_by::MergeBy;
 pub use minmax::MinMaxResult;
 pub use or_else::OrElse;
+pub use pad_using::PadUsing;
 pub use partition_map::Either;
 pub use peeking_take_while::{PeekingNext, PeekingTakeWhile};
 pub use stop_after::StopAfter;
 pub use take_while_inclusive::TakeWhileInclusive;
 pub use traits::FallibleItertools;
 pub use tuple_windows::TupleWindows;
+pub use tuples::Tuples;
 #[cfg(feature = "std")]
 pub use unique::Unique;
 pub use with_position::{Position, WithPosition};

@@ -45,7 +45,7 @@ impl<T: Copy> MinMaxResult<T> {
 /// ensures { MinMax result.0 result.1 ≡ with_item A.cmp (OneElement first) second }
 /// ```
 /// </details>
-pub fn in_order<A: Ord>(first: A, second: A) -> (A, A) {
+pub fn lesser_first<A: Ord>(first: A, second: A) -> (A, A) {
     if first.cmp(&second).is_gt() {
         (second, first)
     } else {

@@ -45,7 +45,7 @@ pub fn one_then<B, L, E>(answer: Result<Option<B>, E>, later: L) -> Made<B, L, E
 /// As it is proved, in [these words](crate::words):
 ///
 /// ```text
-/// ensures { result ≡ answer_of_stop stop }
+/// ensures { result ≡ stop_answer stop }
 /// ```
 /// </details>
 #[inline(always)]

@@ -28,8 +28,9 @@ use crate::is_sorted::{InOrderTurn, SortedTurn};
 use crate::join::JoinTurn;
 use crate::merge::Merge;
 use crate::merge_by::MergeBy;
-use crate::minmax::{MinMaxResult, MinMaxTurn, in_order};
+use crate::minmax::{MinMaxResult, MinMaxTurn, lesser_first};
 use crate::or_else::OrElse;
+use crate::pad_using::PadUsing;
 use crate::partition_map::Either;
 use crate::sides::Holding;
 #[cfg(feature = "alloc")]
@@ -37,6 +38,7 @@ use crate::sorted::{sorted_items, sorted_items_by_key};
 use crate::stop_after::StopAfter;
 use crate::take_while_inclusive::TakeWhileInclusive;
 use crate::tuple_windows::TupleWindows;
+use crate::tuples::Tuples;
 #[cfg(feature = "std")]
 use crate::unique::Unique;
 use crate::with_position::WithPosition;
@@ -304,6 +306,39 @@ pub trait FallibleItertools: FallibleIterator + Sized {
         Self::Item: Clone,
     {
         TupleWindows {
+            it: self,
+            held: None,
+        }
+    }
+
+    /// Yields the items two by two, as pairs. The last of an odd number of items is in no pair.
+    ///
+    /// Creating it draws nothing. `next` draws once or twice. It fails as the source does. The first item of a pair stays buffered at a failure and at an `Ok(None)`: so a pair may stand on both sides of a failure, and an item that is left over is in a pair if the source goes on.
+    ///
+    /// ```
+    /// # use fallible_iterator::{FallibleIterator, convert};
+    /// # use fallible_itertools::FallibleItertools;
+    /// # use fallible_itertools::PeekingNext;
+    /// let readings = [Ok::<u32, u8>(150), Err(9), Ok(7), Ok(700)];
+    /// let mut it = convert(readings.into_iter()).tuples();
+    /// let drawn = [it.next(), it.next(), it.next()];
+    /// assert_eq!(drawn, [Err(9), Ok(Some((150, 7))), Ok(None)]);
+    /// ```
+    ///
+    /// <details><summary>Contract</summary>
+    ///
+    /// As it is proved, in [these words](crate::words):
+    ///
+    /// ```text
+    /// ensures parts { tuples_parts result ≡ (self, None) }
+    /// ensures lists { (l : List (Result Self.Item Self.Error))
+    ///     → list.Lists Self.contract.steps self l
+    ///     → list.Lists (seen_as tuples_parts (tuples_contract Self.contract)).steps result
+    ///     (tupled l) }
+    /// ```
+    /// </details>
+    fn tuples(self) -> Tuples<Self> {
+        Tuples {
             it: self,
             held: None,
         }
@@ -1167,6 +1202,54 @@ pub trait FallibleItertools: FallibleIterator + Sized {
         }
     }
 
+    /// Yields the items, and if these are fewer than n, then what the closure returns for each index of those that are missing: from the number of items up to n - 1.
+    ///
+    /// Creating it draws nothing and calls nothing. `next` draws once, and the iterator is fused: once it returned `Ok(None)` it isn't drawn again. From then on `next` calls the closure once, until n items were yielded, and then it returns `Ok(None)`. A failure of the iterator is returned when it is met, and counts as no item. If the closure fails, its failure is yielded in the place of that item, and the next call goes on with the next index. The iterator's bound and n, added up, bound it.
+    ///
+    /// ```
+    /// # use fallible_iterator::{FallibleIterator, convert};
+    /// # use fallible_itertools::FallibleItertools;
+    /// # use fallible_itertools::PeekingNext;
+    /// let readings = [Ok::<usize, u8>(150), Err(9), Ok(7)];
+    /// let mut it = convert(readings.into_iter()).pad_using(3, Ok);
+    /// let drawn = [it.next(), it.next(), it.next(), it.next(), it.next()];
+    /// assert_eq!(drawn, [Ok(Some(150)), Err(9), Ok(Some(7)), Ok(Some(2)), Ok(None)]);
+    /// ```
+    ///
+    /// <details><summary>Contract</summary>
+    ///
+    /// As it is proved, in [these words](crate::words):
+    ///
+    /// ```text
+    /// requires { IsCallable (call_on F.FnMut) (takes_on F.FnMut) (λ i. i < n) f }
+    /// ensures source { pad_using.pad_using_source result ≡ self }
+    /// ensures ended { pad_using.pad_using_ended result ≡ false }
+    /// ensures indices { pad_using.pad_using_indices result ≡ (0, n) }
+    /// ensures closure { pad_using.pad_using_closure result ≡ f }
+    /// ensures callable { IsCallable (pad_using.pad_call F.FnMut) (pad_using.pad_takes F.FnMut)
+    ///     ((pad_using.beside_index_contract Self.contract).may_give
+    ///     (pad_using.pad_using_parts result).0) f }
+    /// ensures bounded { (a k : ℕ) → Self.contract.bound self a → a + n ≤ k
+    ///     → AtMost (seen_as pad_using.pad_using_parts
+    ///     (pad_using.pad_using_contract Self.contract F.FnMut)) result k }
+    /// ensures lists { OverListWith (list.Acts (call_on F.FnMut) f) Self.contract.steps self
+    ///     (λ h l. list.Lists (seen_as pad_using.pad_using_parts
+    ///     (pad_using.pad_using_contract Self.contract F.FnMut)).steps result
+    ///     (pad_using.padded n h l)) }
+    /// ```
+    /// </details>
+    fn pad_using<F>(self, n: usize, f: F) -> PadUsing<Self, F>
+    where
+        F: FnMut(usize) -> Result<Self::Item, Self::Error>,
+    {
+        PadUsing {
+            it: self.fuse(),
+            next: 0,
+            end: n,
+            f,
+        }
+    }
+
     // ---- extremes, counts, comparisons
 
     /// Returns the only item: `Ok(Ok(None))` if none comes, and `Ok(Err(two))` with the first two if more than one comes.
@@ -1305,7 +1388,7 @@ pub trait FallibleItertools: FallibleIterator + Sized {
             Ok(None) => return Ok(MinMaxResult::OneElement(first)),
             Err(e) => return Err(e),
         };
-        let mut both = in_order(first, second);
+        let mut both = lesser_first(first, second);
         match self.drive(&mut both, &MinMaxTurn) {
             Ok(None) => Ok(MinMaxResult::MinMax(both.0, both.1)),
             Ok(Some(never)) => match never {},

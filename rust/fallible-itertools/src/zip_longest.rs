@@ -252,7 +252,10 @@ impl<T: FallibleIterator, U: FallibleIterator<Error = T::Error>> FallibleIterato
 }
 
 // The greater of two hints' bounds.
-fn greater(a: (usize, Option<usize>), b: (usize, Option<usize>)) -> (usize, Option<usize>) {
+pub(crate) fn greater(
+    a: (usize, Option<usize>),
+    b: (usize, Option<usize>),
+) -> (usize, Option<usize>) {
     let high = match (a.1, b.1) {
         (Some(x), Some(y)) => Some(x.max(y)),
         (Some(_), None) => None,

@@ -44,17 +44,14 @@ where
         state: &mut C,
         turn: &K,
     ) -> Result<Option<R>, I::Error> {
-        if 0 < self.to_skip {
-            match self.it.drive(&mut self.to_skip, &NthTurn) {
-                Ok(Some(x)) => match turn.turn(state, x) {
-                    ControlFlow::Continue(()) => {}
-                    ControlFlow::Break(stop) => return Ok(Some(stop)),
-                },
-                Ok(None) => return Ok(None),
-                Err(e) => return Err(e),
-            }
+        match self.it.drive(&mut self.to_skip, &NthTurn) {
+            Ok(Some(x)) => match turn.turn(state, x) {
+                ControlFlow::Continue(()) => self.it.drive(state, turn),
+                ControlFlow::Break(stop) => Ok(Some(stop)),
+            },
+            Ok(None) => Ok(None),
+            Err(e) => Err(e),
         }
-        self.it.drive(state, turn)
     }
 
     ghost lawful = { lawful_seen skip_parts (lawful_skip I.lawful) };

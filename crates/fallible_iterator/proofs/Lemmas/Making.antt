@@ -221,9 +221,6 @@ module _ {S F X Y B C E : Type 0} (steps : S → Answered B E → S → Type 0) 
   map_gives_made_after z l k later r t g (inl q) = inl q
   map_gives_made_after z l k later r t g (inr w) = inr (w.0, subst (λ (j : F). MapGivesMade t j k) (sym w.1) (later t w.2))
 
-  abbrev one_told : X → Result Y E
-  one_told x = Ok (h x)
-
   all_of_made : (l : List (Result X E)) (s : S) → GivesMade of steps from s l → MapGivesMade s f (mapped (λ x. Ok (h x)) l)
   unfolding mapped
   all_of_made [] s a = λ r t w. map_draw_of_nil s r t.0 t.1 a (passes_of_pass_trace w)

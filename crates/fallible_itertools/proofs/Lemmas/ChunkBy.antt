@@ -11,8 +11,7 @@ use Rattle.fallible_itertools.specs.ChunkBy.{Group, MadeGroup, by_its_key, chunk
 use Rattle.fallible_itertools.specs.Holding.{held_one}
 use Rattle.fallible_iterator.proofs.Lemmas.Making.{lists_made_seen}
 use Rattle.fallible_itertools.proofs.Lemmas.HoldingHints.{GivesHeld}
-use Rattle.fallible_itertools.proofs.Lemmas.HoldingLists.{by_outcome, before_stop, held_list, listed_parts}
-use Rattle.fallible_itertools.proofs.Lemmas.HoldingMade.{AnswersHeld, NoFailureAndIfKept, OutcomeMade, IsRefused, gives_held_made}
+use Rattle.fallible_itertools.proofs.Lemmas.HoldingLists.{AnswersHeld, IsRefused, NoFailureAndIfKept, OutcomeMade, by_outcome, gives_held_made, held_list, listed_parts}
 use Rattle.std.specs.declared.alloc.AllocError.{AllocError}
 use Rattle.fallible_iterator.specs.Outcome.{Outcome}
 use Rattle.fallible_iterator.specs.Outcome.TheVariants.{Kept, LeftOut, Failure, End}
@@ -148,38 +147,29 @@ module _ {A K E : Type 0} (eq : K → K → Bool) (h : A → Result K E) where
   at_stop_full None full = absurd full
   at_stop_full (Some g) full = (g, refl)
 
-  group_never_left_out : (a : Option (K × List A)) → group_outcome eq h a None ≡ LeftOut → ⊥
-  group_never_left_out None is = cc
-  group_never_left_out (Some g) is = cc
-
-  answers_of_chunk_by : AnswersHeld {X = A} {Y = K × List A} {E = E} (group_outcome eq h) (next_group eq h) FullGroup
+  answers_of_chunk_by : AnswersHeld {X = A} {B = K × List A} {E = E} (group_outcome eq h) (next_group eq h) FullGroup
   answers_of_chunk_by = record {
     left_out = λ a x is. full_left_out a x (h x) is;
     at_stop = at_stop_full;
     no_end = λ a x is. no_end_by a (h x) is;
-    none_left = group_never_left_out;
   }
 
   abbrev held_groups_listed : Option (K × List A) → List (Result A E) → List (Result (K × List A) E)
   held_groups_listed a l = held_list (group_outcome eq h) (next_group eq h) a l
 
-  by_outcome_cons_at : (g : K × List A) (x : A) (j : K) (b : Bool) (l : List (Result A E)) (more other : List (Result (K × List A) E)) (failed : E → List (Result (K × List A) E)) → held_groups_listed (Some (g.0, g.1 ++ x ∷ [])) l ≡ more → held_groups_listed (Some (j, x ∷ [])) l ≡ other → by_outcome (group_outcome_at E g b) (held_groups_listed (next_group_at g x j b) l) failed ≡ group_or eq h g b more other
-  by_outcome_cons_at g x j true l more other failed is_more is_other = is_more
-  by_outcome_cons_at g x j false l more other failed is_more is_other = ap (λ k. Ok g ∷ k) is_other
+  by_outcome_cons_at : (g : K × List A) (x : A) (j : K) (b : Bool) (l : List (Result A E)) (more other : List (Result (K × List A) E)) → held_groups_listed (Some (g.0, g.1 ++ x ∷ [])) l ≡ more → held_groups_listed (Some (j, x ∷ [])) l ≡ other → by_outcome (group_outcome eq h) (next_group eq h) (group_outcome_at E g b) (next_group_at g x j b) l ≡ group_or eq h g b more other
+  by_outcome_cons_at g x j true l more other is_more is_other = is_more
+  by_outcome_cons_at g x j false l more other is_more is_other = ap (λ k. Ok g ∷ k) is_other
 
   abbrev groups_chunked_from : Option (K × List A) → List (Result A E) → List (Result (K × List A) E)
   groups_chunked_from a l = chunked_by_from eq h a l
 
-  -- what the closure's failure makes
-  abbrev lost_at : Option (K × List A) → List (Result A E) → E → List (Result (K × List A) E)
-  lost_at a l e = before_stop (group_outcome eq h a None) (Err e ∷ held_groups_listed None l)
-
-  by_outcome_begun : (x : A) (v : Result K E) (l : List (Result A E)) → ((a : Option (K × List A)) → held_groups_listed a l ≡ groups_chunked_from a l) → by_outcome (group_outcome_by eq None v) (held_groups_listed (next_group_by eq None x v) l) (lost_at (next_group_by eq None x v) l) ≡ by_its_key eq h None v (λ k. groups_chunked_from (Some (k, x ∷ [])) l) (groups_chunked_from None l)
+  by_outcome_begun : (x : A) (v : Result K E) (l : List (Result A E)) → ((a : Option (K × List A)) → held_groups_listed a l ≡ groups_chunked_from a l) → by_outcome (group_outcome eq h) (next_group eq h) (group_outcome_by eq None v) (next_group_by eq None x v) l ≡ by_its_key eq h None v (λ k. groups_chunked_from (Some (k, x ∷ [])) l) (groups_chunked_from None l)
   by_outcome_begun x (Ok k) l later = later (Some (k, x ∷ []))
   by_outcome_begun x (Err e) l later = ap (λ z. Err e ∷ z) (later None)
 
-  by_outcome_cons : (g : K × List A) (x : A) (v : Result K E) (l : List (Result A E)) → ((a : Option (K × List A)) → held_groups_listed a l ≡ groups_chunked_from a l) → by_outcome (group_outcome_by eq (Some g) v) (held_groups_listed (next_group_by eq (Some g) x v) l) (lost_at (next_group_by eq (Some g) x v) l) ≡ by_its_key eq h (Some g) v (λ j. group_or eq h g (eq g.0 j) (groups_chunked_from (Some (g.0, g.1 ++ x ∷ [])) l) (groups_chunked_from (Some (j, x ∷ [])) l)) (groups_chunked_from None l)
-  by_outcome_cons g x (Ok j) l later = by_outcome_cons_at g x j (eq g.0 j) l _ _ _ (later (Some (g.0, g.1 ++ x ∷ []))) (later (Some (j, x ∷ [])))
+  by_outcome_cons : (g : K × List A) (x : A) (v : Result K E) (l : List (Result A E)) → ((a : Option (K × List A)) → held_groups_listed a l ≡ groups_chunked_from a l) → by_outcome (group_outcome eq h) (next_group eq h) (group_outcome_by eq (Some g) v) (next_group_by eq (Some g) x v) l ≡ by_its_key eq h (Some g) v (λ j. group_or eq h g (eq g.0 j) (groups_chunked_from (Some (g.0, g.1 ++ x ∷ [])) l) (groups_chunked_from (Some (j, x ∷ [])) l)) (groups_chunked_from None l)
+  by_outcome_cons g x (Ok j) l later = by_outcome_cons_at g x j (eq g.0 j) l _ _ (later (Some (g.0, g.1 ++ x ∷ []))) (later (Some (j, x ∷ [])))
   by_outcome_cons g x (Err e) l later = ap (λ k. Ok g ∷ Err e ∷ k) (later None)
 
   listed_is_chunked_from : (a : Option (K × List A)) (l : List (Result A E)) → held_groups_listed a l ≡ groups_chunked_from a l

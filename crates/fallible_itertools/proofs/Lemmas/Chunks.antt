@@ -5,11 +5,10 @@ use Rattle.std.proofs.lemmas.Bool.{lt-ltb, le-ltb}
 use Rattle.fallible_iterator.specs.Contract.{Contract, seen_as}
 use Rattle.fallible_iterator.specs.Lists.{Lists}
 use Rattle.fallible_iterator.specs.Making.{ListsMade}
-use Rattle.fallible_itertools.specs.Chunks.{Grows, batch_or, chunked, chunked_from, chunks_asks, chunks_contract, chunks_parts, short_batch}
+use Rattle.fallible_itertools.specs.Chunks.{Grows, batch_or, chunked, chunked_from, chunks_asks, chunks_contract, chunks_parts}
 use Rattle.fallible_itertools.specs.Batch.{held_items}
 use Rattle.fallible_iterator.proofs.Lemmas.Making.{lists_made_seen}
-use Rattle.fallible_itertools.proofs.Lemmas.HoldingLists.{by_outcome, before_stop, held_list, listed_parts}
-use Rattle.fallible_itertools.proofs.Lemmas.HoldingMade.{AnswersHeld, NoFailureAndIfKept, OutcomeMade, IsRefused, gives_held_made}
+use Rattle.fallible_itertools.proofs.Lemmas.HoldingLists.{AnswersHeld, IsRefused, NoFailureAndIfKept, OutcomeMade, by_outcome, gives_held_made, held_list, listed_parts}
 use Rattle.std.specs.declared.vec.Vec.{Vec}
 use Rattle.std.specs.declared.alloc.Global.{Global}
 use Rattle.std.specs.declared.alloc.AllocError.{AllocError}
@@ -125,31 +124,24 @@ module _ {A E : Type 0} (from : AllocError → E → Type 0) (n : ℕ) where
   at_stop_full [] full = absurd full
   at_stop_full (x ∷ xs) full = (x ∷ xs, refl)
 
-  batch_never_left_out : (a : List A) → batch_outcome {E = E} n a None ≡ LeftOut → ⊥
-  batch_never_left_out [] is = cc
-  batch_never_left_out (x ∷ xs) is = cc
-
-  answers_of_chunks : AnswersHeld {X = A} {Y = List A} {E = E} (batch_outcome n) (next_batch n) FullBatch
+  answers_of_chunks : AnswersHeld {X = A} {B = List A} {E = E} (batch_outcome n) (next_batch n) FullBatch
   answers_of_chunks = record {
     left_out = λ a x is. full_left_out (a ++ x ∷ []) (ltb (length (a ++ x ∷ [])) n) (full_more a x) is;
     at_stop = at_stop_full;
     no_end = λ a x is. no_end_at (a ++ x ∷ []) (ltb (length (a ++ x ∷ [])) n) is;
-    none_left = batch_never_left_out;
   }
 
-  by_outcome_cons_at : (xs : List A) (b : Bool) (l : List (Result A E)) (more other : List (Result (List A) E)) (failed : E → List (Result (List A) E)) → held_list (batch_outcome n) (next_batch n) xs l ≡ more → held_list (batch_outcome n) (next_batch n) [] l ≡ other → by_outcome (batch_outcome_at E xs b) (held_list (batch_outcome n) (next_batch n) (next_batch_at xs b) l) failed ≡ batch_or xs b more other
-  by_outcome_cons_at xs true l more other failed is_more is_other = is_more
-  by_outcome_cons_at xs false l more other failed is_more is_other = ap (λ k. Ok xs ∷ k) is_other
-
-  before_stop_stopped_at : (a : List A) (rest rest' : List (Result (List A) E)) → rest ≡ rest' → before_stop (batch_outcome n a None) rest ≡ short_batch a rest'
-  before_stop_stopped_at [] rest rest' is = is
-  before_stop_stopped_at (x ∷ xs) rest rest' is = ap (λ k. Ok (x ∷ xs) ∷ k) is
+  by_outcome_cons_at : (xs : List A) (b : Bool) (l : List (Result A E)) (more other : List (Result (List A) E)) → held_list (batch_outcome n) (next_batch n) xs l ≡ more → held_list (batch_outcome n) (next_batch n) [] l ≡ other → by_outcome (batch_outcome n) (next_batch n) (batch_outcome_at E xs b) (next_batch_at xs b) l ≡ batch_or xs b more other
+  by_outcome_cons_at xs true l more other is_more is_other = is_more
+  by_outcome_cons_at xs false l more other is_more is_other = ap (λ k. Ok xs ∷ k) is_other
 
   held_list_is_chunked_from : (a : List A) (l : List (Result A E)) → held_list (batch_outcome n) (next_batch n) a l ≡ chunked_from n a l
   unfolding chunked_from
-  held_list_is_chunked_from a [] = before_stop_stopped_at a [] [] refl
-  held_list_is_chunked_from a (Ok x ∷ l) = by_outcome_cons_at (a ++ x ∷ []) (ltb (length (a ++ x ∷ [])) n) l _ _ _ (held_list_is_chunked_from (a ++ x ∷ []) l) (held_list_is_chunked_from [] l)
-  held_list_is_chunked_from a (Err e ∷ l) = before_stop_stopped_at a _ _ (ap (λ k. Err e ∷ k) (held_list_is_chunked_from [] l))
+  held_list_is_chunked_from [] [] = refl
+  held_list_is_chunked_from (x ∷ xs) [] = refl
+  held_list_is_chunked_from a (Ok x ∷ l) = by_outcome_cons_at (a ++ x ∷ []) (ltb (length (a ++ x ∷ [])) n) l _ _ (held_list_is_chunked_from (a ++ x ∷ []) l) (held_list_is_chunked_from [] l)
+  held_list_is_chunked_from [] (Err e ∷ l) = ap (λ k. Err e ∷ k) (held_list_is_chunked_from [] l)
+  held_list_is_chunked_from (x ∷ xs) (Err e ∷ l) = ap (λ k. Ok (x ∷ xs) ∷ Err e ∷ k) (held_list_is_chunked_from [] l)
 
   held_list_is_chunked : (l : List (Result A E)) → held_list (batch_outcome n) (next_batch n) [] l ≡ chunked n l
   unfolding chunked

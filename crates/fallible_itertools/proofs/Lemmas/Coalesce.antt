@@ -11,7 +11,7 @@ use Rattle.fallible_itertools.specs.Coalesce.{KeepsApart, OneOrBoth, coalesced_b
 use Rattle.fallible_itertools.specs.Holding.{held_beside, held_one}
 use Rattle.fallible_itertools.proofs.Lemmas.Adjacent.{EachNext, HoldsOfNext, adjacent_of_next}
 use Rattle.fallible_itertools.proofs.Lemmas.HoldingHints.{GivesHeld}
-use Rattle.fallible_itertools.proofs.Lemmas.HoldingLists.{by_outcome, before_stop, held_list, listed_parts, gives_held_list}
+use Rattle.fallible_itertools.proofs.Lemmas.HoldingLists.{by_outcome, held_list, listed_parts, gives_held_list}
 use Rattle.fallible_iterator.specs.Outcome.{Outcome}
 use Rattle.fallible_iterator.specs.Outcome.TheVariants.{Kept, LeftOut, Failure, End}
 use Rattle.fallible_itertools.specs.declared.coalesce.Coalesce.{Coalesce}
@@ -58,11 +58,7 @@ module _ {A E : Type 0} (h : A → A → OneOrBoth A E) where
   outcome_never_end None x is = absurd cc
   outcome_never_end (Some y) x is = no_end_by (h y x) is
 
-  outcome_at_stop_not_left_out : (a : Option A) → held_outcome a None ≡ LeftOut → ⊥
-  outcome_at_stop_not_left_out None is = absurd cc
-  outcome_at_stop_not_left_out (Some y) is = absurd cc
-
-  by_outcome_cons_at : (v : OneOrBoth A E) (l : List (Result A E)) → ((a : Option A) → held_list held_outcome next_held a l ≡ coalesced_from h a l) → by_outcome (held_outcome_by v) (held_list held_outcome next_held (next_held_by v) l) (λ e. before_stop (held_outcome (next_held_by v) None) (Err e ∷ held_list held_outcome next_held (next_held (next_held_by v) None) l)) ≡ coalesced_at v (λ held. coalesced_from h held l)
+  by_outcome_cons_at : (v : OneOrBoth A E) (l : List (Result A E)) → ((a : Option A) → held_list held_outcome next_held a l ≡ coalesced_from h a l) → by_outcome held_outcome next_held (held_outcome_by v) (next_held_by v) l ≡ coalesced_at v (λ held. coalesced_from h held l)
   by_outcome_cons_at (Ok (Ok z)) l rest = rest (Some z)
   by_outcome_cons_at (Ok (Err both)) l rest = ap (λ k. Ok both.0 ∷ k) (rest (Some both.1))
   by_outcome_cons_at (Err e) l rest = ap (λ k. Err e ∷ k) (rest None)
@@ -103,7 +99,7 @@ module _ {A E : Type 0} (h : A → A → OneOrBoth A E) where
 
 pub lists_coalesced : {S A F E : Type 0} (m : Contract S A E) (g : Mut F (A × (A × Unit {0})) (OneOrBoth A E)) (s : Coalesce S F A E) (f : F) (h : A → A → OneOrBoth A E) (l : List (Result A E)) → coalesce_parts s ≡ (s.it, ((None, f), None)) → ActsWith (call_with g) f h → Lists m.steps s.it l
     → Lists (seen_as coalesce_parts (coalesce_contract m g)).steps s (coalesced h l)
-lists_coalesced m g s f h l parts a i = lists_seen coalesce_parts (coalesce_contract m g).steps s parts (held_list_is_coalesced h l) (gives_held_list m.steps (coalesce_asks (call_with g)) (HeldAndClosure h (call_with g) f a) (held_outcome h) (next_held h) (acts_by_next h (call_with g) f a) (outcome_never_end h) (outcome_at_stop_not_left_out h) l s.it (None, f) None refl i.runs)
+lists_coalesced m g s f h l parts a i = lists_seen coalesce_parts (coalesce_contract m g).steps s parts (held_list_is_coalesced h l) (gives_held_list m.steps (coalesce_asks (call_with g)) (HeldAndClosure h (call_with g) f a) (held_outcome h) (next_held h) (acts_by_next h (call_with g) f a) l s.it (None, f) None refl i.runs)
 
 -- ---- adjacent ones are apart
 

@@ -51,10 +51,6 @@ module _ {A E : Type 0} (eq : A → A → Bool) where
   acts_by_next : (p a : Option A) (x : Option A) (o : Outcome A E) (q : Option A) → p ≡ a → dedup_asks eq p x o q → (q ≡ next_held eq a x) × (o ≡ held_outcome a x)
   acts_by_next p a x o q at w = asks_is_function a x o q (subst (λ k. dedup_asks eq k x o q) at w)
 
-  outcome_at_stop_not_left_out : (a : Option A) → held_outcome a None ≡ LeftOut → ⊥
-  outcome_at_stop_not_left_out None is = absurd cc
-  outcome_at_stop_not_left_out (Some y) is = absurd cc
-
   no_end_at : (y : A) (b : Bool) → held_outcome_at y b ≡ End → ⊥
   no_end_at y true is = absurd cc
   no_end_at y false is = absurd cc
@@ -63,16 +59,16 @@ module _ {A E : Type 0} (eq : A → A → Bool) where
   outcome_never_end None x is = absurd cc
   outcome_never_end (Some y) x is = no_end_at y (eq y x) is
 
-  by_outcome_item_at : (y x : A) (b : Bool) (l : List (Result A E)) (same other : List (Result A E)) (failed : E → List (Result A E)) → held_list held_outcome (next_held eq) (Some y) l ≡ same → held_list held_outcome (next_held eq) (Some x) l ≡ other → by_outcome (held_outcome_at y b) (held_list held_outcome (next_held eq) (next_held_at eq y x b) l) failed ≡ dedup_before eq y x b same other
-  by_outcome_item_at y x true l same other failed is_same is_other = is_same
-  by_outcome_item_at y x false l same other failed is_same is_other = ap (λ k. Ok y ∷ k) is_other
+  by_outcome_item_at : (y x : A) (b : Bool) (l : List (Result A E)) (same other : List (Result A E)) → held_list held_outcome (next_held eq) (Some y) l ≡ same → held_list held_outcome (next_held eq) (Some x) l ≡ other → by_outcome held_outcome (next_held eq) (held_outcome_at y b) (next_held_at eq y x b) l ≡ dedup_before eq y x b same other
+  by_outcome_item_at y x true l same other is_same is_other = is_same
+  by_outcome_item_at y x false l same other is_same is_other = ap (λ k. Ok y ∷ k) is_other
 
   held_list_is_deduped_at : (a : Option A) (l : List (Result A E)) → held_list held_outcome (next_held eq) a l ≡ deduped_at eq a l
   unfolding deduped_at
   held_list_is_deduped_at None [] = refl
   held_list_is_deduped_at (Some y) [] = refl
   held_list_is_deduped_at None (Ok x ∷ l) = held_list_is_deduped_at (Some x) l
-  held_list_is_deduped_at (Some y) (Ok x ∷ l) = by_outcome_item_at y x (eq y x) l _ _ _ (held_list_is_deduped_at (Some y) l) (held_list_is_deduped_at (Some x) l)
+  held_list_is_deduped_at (Some y) (Ok x ∷ l) = by_outcome_item_at y x (eq y x) l _ _ (held_list_is_deduped_at (Some y) l) (held_list_is_deduped_at (Some x) l)
   held_list_is_deduped_at None (Err e ∷ l) = ap (λ k. Err e ∷ k) (held_list_is_deduped_at None l)
   held_list_is_deduped_at (Some y) (Err e ∷ l) = ap (λ k. Ok y ∷ Err e ∷ k) (held_list_is_deduped_at None l)
 
@@ -85,7 +81,7 @@ module _ {A E : Type 0} (eq : A → A → Bool) where
   deduped_in_parts a e b = listed_parts held_outcome (next_held eq) None (next_held_at_stop_none eq) outcome_never_end (deduped eq) held_list_is_deduped a e b
 
 pub lists_deduped : {S A E : Type 0} (m : Contract S A E) (eq : A → A → Bool) (s : Dedup S A E) (l : List (Result A E)) → dedup_parts s ≡ (s.it, (None, None)) → Lists m.steps s.it l → Lists (seen_as dedup_parts (dedup_contract eq m)).steps s (deduped eq l)
-lists_deduped m eq s l parts i = lists_seen dedup_parts (dedup_contract eq m).steps s parts (held_list_is_deduped eq l) (gives_held_list m.steps (dedup_asks eq) (λ p a. p ≡ a) (held_outcome eq) (next_held eq) (acts_by_next eq) (outcome_never_end eq) (outcome_at_stop_not_left_out eq) l s.it None None refl i.runs)
+lists_deduped m eq s l parts i = lists_seen dedup_parts (dedup_contract eq m).steps s parts (held_list_is_deduped eq l) (gives_held_list m.steps (dedup_asks eq) (λ p a. p ≡ a) (held_outcome eq) (next_held eq) (acts_by_next eq) l s.it None None refl i.runs)
 
 -- ---- its hint
 

@@ -12,7 +12,7 @@ use Rattle.fallible_itertools.specs.DedupBy.{found_same, dedup_by_asks, same_bef
 use Rattle.fallible_itertools.specs.Holding.{held_beside, held_one}
 use Rattle.fallible_itertools.proofs.Lemmas.Adjacent.{EachNext, HoldsOfNext, adjacent_of_next}
 use Rattle.fallible_itertools.proofs.Lemmas.HoldingHints.{GivesHeld}
-use Rattle.fallible_itertools.proofs.Lemmas.HoldingLists.{by_outcome, before_stop, held_list, listed_parts, gives_held_list}
+use Rattle.fallible_itertools.proofs.Lemmas.HoldingLists.{by_outcome, held_list, listed_parts, gives_held_list}
 use Rattle.fallible_iterator.specs.Outcome.{Outcome}
 use Rattle.fallible_iterator.specs.Outcome.TheVariants.{Kept, LeftOut, Failure, End}
 use Rattle.fallible_itertools.specs.declared.dedup_by.DedupBy.{DedupBy}
@@ -59,11 +59,7 @@ module _ {A E : Type 0} (h : A → A → Result Bool E) where
   dedup_by_outcome_never_end None x is = absurd cc
   dedup_by_outcome_never_end (Some y) x is = no_end_by y (h y x) is
 
-  outcome_at_end_not_left_out : (a : Option A) → dedup_by_outcome a None ≡ LeftOut → ⊥
-  outcome_at_end_not_left_out None is = absurd cc
-  outcome_at_end_not_left_out (Some y) is = absurd cc
-
-  by_outcome_of_found_same : (y x : A) (v : Result Bool E) (l : List (Result A E)) → ((a : Option A) → held_list dedup_by_outcome held_after_dedup_by a l ≡ deduped_by_from h a l) → by_outcome (outcome_of_found_same y v) (held_list dedup_by_outcome held_after_dedup_by (held_after_found_same y x v) l) (λ e. before_stop (dedup_by_outcome (held_after_found_same y x v) None) (Err e ∷ held_list dedup_by_outcome held_after_dedup_by (held_after_dedup_by (held_after_found_same y x v) None) l)) ≡ same_before y x v (λ held. deduped_by_from h held l)
+  by_outcome_of_found_same : (y x : A) (v : Result Bool E) (l : List (Result A E)) → ((a : Option A) → held_list dedup_by_outcome held_after_dedup_by a l ≡ deduped_by_from h a l) → by_outcome dedup_by_outcome held_after_dedup_by (outcome_of_found_same y v) (held_after_found_same y x v) l ≡ same_before y x v (λ held. deduped_by_from h held l)
   by_outcome_of_found_same y x (Ok true) l rest = rest (Some y)
   by_outcome_of_found_same y x (Ok false) l rest = ap (λ k. Ok y ∷ k) (rest (Some x))
   by_outcome_of_found_same y x (Err e) l rest = ap (λ k. Ok y ∷ Err e ∷ k) (rest None)
@@ -104,7 +100,7 @@ module _ {A E : Type 0} (h : A → A → Result Bool E) where
 
 pub lists_deduped_by : {S A F E : Type 0} (m : Contract S A E) (g : Mut F (Bor A × (Bor A × Unit {0})) (Result Bool E)) (s : DedupBy S F A E) (f : F) (h : A → A → Result Bool E) (l : List (Result A E)) → dedup_by_parts s ≡ (s.it, ((None, f), None)) → ActsWith (call_at_two g) f h → Lists m.steps s.it l
     → Lists (seen_as dedup_by_parts (dedup_by_contract m g)).steps s (deduped_by h l)
-lists_deduped_by m g s f h l parts a i = lists_seen dedup_by_parts (dedup_by_contract m g).steps s parts (held_list_is_deduped_by h l) (gives_held_list m.steps (dedup_by_asks (call_at_two g)) (IsBesideClosure h (call_at_two g) f a) (dedup_by_outcome h) (held_after_dedup_by h) (acts h (call_at_two g) f a) (dedup_by_outcome_never_end h) (outcome_at_end_not_left_out h) l s.it (None, f) None refl i.runs)
+lists_deduped_by m g s f h l parts a i = lists_seen dedup_by_parts (dedup_by_contract m g).steps s parts (held_list_is_deduped_by h l) (gives_held_list m.steps (dedup_by_asks (call_at_two g)) (IsBesideClosure h (call_at_two g) f a) (dedup_by_outcome h) (held_after_dedup_by h) (acts h (call_at_two g) f a) l s.it (None, f) None refl i.runs)
 
 -- ---- adjacent items differ
 

@@ -11,7 +11,7 @@ use Rattle.fallible_itertools.specs.DedupByKey.{keyed_at, keyed_by, key_before, 
 use Rattle.fallible_itertools.specs.Holding.{OrStop, held_beside, held_one}
 use Rattle.fallible_itertools.proofs.Lemmas.Holding.{is_callable_beside}
 use Rattle.fallible_itertools.proofs.Lemmas.HoldingHints.{GivesHeld}
-use Rattle.fallible_itertools.proofs.Lemmas.HoldingLists.{by_outcome, before_stop, held_list, listed_parts, gives_held_list}
+use Rattle.fallible_itertools.proofs.Lemmas.HoldingLists.{by_outcome, held_list, listed_parts, gives_held_list}
 use Rattle.fallible_iterator.specs.Outcome.{Outcome}
 use Rattle.fallible_iterator.specs.Outcome.TheVariants.{Kept, LeftOut, Failure, End}
 use Rattle.fallible_itertools.specs.declared.dedup_by_key.DedupByKey.{DedupByKey}
@@ -55,10 +55,6 @@ module _ {A K E : Type 0} (eq : K → K → Bool) where
     held_outcome None None = End
     held_outcome (Some held) None = Kept held.1
 
-    outcome_at_stop_not_left_out : (a : Option (K × A)) → held_outcome a None ≡ LeftOut → ⊥
-    outcome_at_stop_not_left_out None is = absurd cc
-    outcome_at_stop_not_left_out (Some y) is = absurd cc
-
     no_end_at : (held : K × A) (b : Bool) → held_outcome_at held b ≡ End → ⊥
     no_end_at held true is = absurd cc
     no_end_at held false is = absurd cc
@@ -71,15 +67,15 @@ module _ {A K E : Type 0} (eq : K → K → Bool) where
     outcome_never_end : (a : Option (K × A)) (x : A) → held_outcome a (Some x) ≡ End → ⊥
     outcome_never_end a x is = no_end_by a x (h x) is
 
-    by_outcome_cons_before : (held this : K × A) (b : Bool) (l : List (Result A E)) (failed : E → List (Result A E)) → ((a : Option (K × A)) → held_list held_outcome next_held a l ≡ deduped_key_from eq h a l) → by_outcome (held_outcome_at held b) (held_list held_outcome next_held (next_held_at held this b) l) failed ≡ key_before eq held b (deduped_key_from eq h (Some held) l) (deduped_key_from eq h (Some this) l)
-    by_outcome_cons_before held this true l failed rest = rest (Some held)
-    by_outcome_cons_before held this false l failed rest = ap (λ k. Ok held.1 ∷ k) (rest (Some this))
+    by_outcome_cons_before : (held this : K × A) (b : Bool) (l : List (Result A E)) → ((a : Option (K × A)) → held_list held_outcome next_held a l ≡ deduped_key_from eq h a l) → by_outcome held_outcome next_held (held_outcome_at held b) (next_held_at held this b) l ≡ key_before eq held b (deduped_key_from eq h (Some held) l) (deduped_key_from eq h (Some this) l)
+    by_outcome_cons_before held this true l rest = rest (Some held)
+    by_outcome_cons_before held this false l rest = ap (λ k. Ok held.1 ∷ k) (rest (Some this))
 
-    by_outcome_cons_at : (a : Option (K × A)) (x : A) (v : Result K E) (l : List (Result A E)) → ((a : Option (K × A)) → held_list held_outcome next_held a l ≡ deduped_key_from eq h a l) → by_outcome (held_outcome_by a x v) (held_list held_outcome next_held (next_held_by a x v) l) (λ e. before_stop (held_outcome (next_held_by a x v) None) (Err e ∷ held_list held_outcome next_held None l)) ≡ key_at eq a x v (λ p. deduped_key_from eq h p l)
+    by_outcome_cons_at : (a : Option (K × A)) (x : A) (v : Result K E) (l : List (Result A E)) → ((a : Option (K × A)) → held_list held_outcome next_held a l ≡ deduped_key_from eq h a l) → by_outcome held_outcome next_held (held_outcome_by a x v) (next_held_by a x v) l ≡ key_at eq a x v (λ p. deduped_key_from eq h p l)
     by_outcome_cons_at None x (Err e) l rest = ap (λ k. Err e ∷ k) (rest None)
     by_outcome_cons_at (Some held) x (Err e) l rest = ap (λ k. Ok held.1 ∷ Err e ∷ k) (rest None)
     by_outcome_cons_at None x (Ok k) l rest = rest (Some (k, x))
-    by_outcome_cons_at (Some held) x (Ok k) l rest = by_outcome_cons_before held (k, x) (eq held.0 k) l _ rest
+    by_outcome_cons_at (Some held) x (Ok k) l rest = by_outcome_cons_before held (k, x) (eq held.0 k) l rest
 
     held_list_is_deduped_from : (a : Option (K × A)) (l : List (Result A E)) → held_list held_outcome next_held a l ≡ deduped_key_from eq h a l
     unfolding deduped_key_from
@@ -119,7 +115,7 @@ module _ {A K E : Type 0} (eq : K → K → Bool) where
 
 pub lists_deduped_by_key : {S A K F E : Type 0} (m : Contract S A E) (eq : K → K → Bool) (g : Mut F (Bor A × Unit {0}) (Result K E)) (s : DedupByKey S K F A E) (f : F) (h : A → Result K E) (l : List (Result A E)) → dedup_by_key_parts s ≡ (s.it, ((None, f), None)) → Acts (call_at g) f h → Lists m.steps s.it l
     → Lists (seen_as dedup_by_key_parts (dedup_by_key_contract eq m g)).steps s (deduped_by_key eq h l)
-lists_deduped_by_key m eq g s f h l parts a i = lists_seen dedup_by_key_parts (dedup_by_key_contract eq m g).steps s parts (held_list_is_deduped_by_key eq h l) (gives_held_list m.steps (dedup_key_asks eq (call_at g)) (HeldAndClosure eq h (call_at g) f a) (held_outcome eq h) (next_held eq h) (acts_by_next eq h (call_at g) f a) (outcome_never_end eq h) (outcome_at_stop_not_left_out eq h) l s.it (None, f) None refl i.runs)
+lists_deduped_by_key m eq g s f h l parts a i = lists_seen dedup_by_key_parts (dedup_by_key_contract eq m g).steps s parts (held_list_is_deduped_by_key eq h l) (gives_held_list m.steps (dedup_key_asks eq (call_at g)) (HeldAndClosure eq h (call_at g) f a) (held_outcome eq h) (next_held eq h) (acts_by_next eq h (call_at g) f a) l s.it (None, f) None refl i.runs)
 
 -- ---- its hint
 

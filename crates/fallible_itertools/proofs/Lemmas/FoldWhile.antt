@@ -7,7 +7,7 @@ use Rattle.fallible_iterator.specs.Lists.{Lists, ActsWith, on_value, folded, res
 use Rattle.fallible_iterator.proofs.Lemmas.Folds.{slot_never_empty, fold_drains_slot_ended, fold_drains_slot_failed, fold_drains_slot_stopped}
 use Rattle.fallible_iterator.proofs.Lemmas.Lists.Drawn.{folded_of_lists}
 use Rattle.fallible_iterator.proofs.Lemmas.Lists.Rest.{lists_rest_fold}
-use Rattle.fallible_itertools.specs.FoldWhile.{while_answer, WhileCall, FoldWhileDrains, IsStop, while_going_on, folded_while, rest_done_at, rest_while}
+use Rattle.fallible_itertools.specs.FoldWhile.{while_answer, WhileCall, FoldWhileDrains, StopsWith, while_going_on, folded_while, rest_done_at, rest_while}
 use Rattle.fallible_itertools.specs.declared.fold_while.FoldWhile.{FoldWhile}
 use Rattle.fallible_itertools.specs.declared.fold_while.FoldWhile.TheVariants.{Continue, Done}
 
@@ -30,12 +30,12 @@ module _ {S A E F B : Type 0} (call : F → B → A → Result (FoldWhile B) E �
   is_some_value_left (Some v) g w = refl
   is_some_value_left None g w = absurd (slot_never_empty (WhileCall call) w)
 
-  fold_drains_stopped : (answer : Answered (Result B E) E) (value : Option B) (g : F) (stop : Result B (Result B E)) → IsStop answer value stop → Driven steps (IsFoldTurnInSlot (WhileCall call)) s (Some b, f) answer t (value, g) → FoldDrains steps (WhileCall call) (λ e d. d ≡ Err e) s b f stop t
+  fold_drains_stopped : (answer : Answered (Result B E) E) (value : Option B) (g : F) (stop : Result B (Result B E)) → StopsWith answer value stop → Driven steps (IsFoldTurnInSlot (WhileCall call)) s (Some b, f) answer t (value, g) → FoldDrains steps (WhileCall call) (λ e d. d ≡ Err e) s b f stop t
   fold_drains_stopped (Ok None) value g stop is w = subst (λ q. FoldDrains steps (WhileCall call) (λ e d. d ≡ Err e) s b f q t) (sym is.2) (fold_drains_slot_ended (WhileCall call) (λ e d. d ≡ Err e) is.0 g (subst (λ o. Driven steps (IsFoldTurnInSlot (WhileCall call)) s (Some b, f) (Ok None) t (o, g)) is.1 w))
   fold_drains_stopped (Ok (Some made)) value g stop is w = subst (λ q. FoldDrains steps (WhileCall call) (λ e d. d ≡ Err e) s b f q t) (sym is) (fold_drains_slot_stopped (WhileCall call) (λ e d. d ≡ Err e) (value, g) made w)
   fold_drains_stopped (Err e) value g stop is w = subst (λ q. FoldDrains steps (WhileCall call) (λ e d. d ≡ Err e) s b f q t) (sym is) (fold_drains_slot_failed (WhileCall call) (λ e d. d ≡ Err e) (value, g) e (Err e) w refl)
 
-  pub folded_while_by : {answer : Answered (Result B E) E} {value : Option B} {g : F} {r : Result (FoldWhile B) E} → Driven steps (IsFoldTurnInSlot (WhileCall call)) s (Some b, f) answer t (value, g) → (stop : Result B (Result B E)) × IsStop answer value stop × (r ≡ while_answer stop) → FoldWhileDrains call steps s b f r t
+  pub folded_while_by : {answer : Answered (Result B E) E} {value : Option B} {g : F} {r : Result (FoldWhile B) E} → Driven steps (IsFoldTurnInSlot (WhileCall call)) s (Some b, f) answer t (value, g) → (stop : Result B (Result B E)) × StopsWith answer value stop × (r ≡ while_answer stop) → FoldWhileDrains call steps s b f r t
   folded_while_by {answer = answer} {value = value} {g = g} w is = (is.0, fold_drains_stopped answer value g is.0 is.1 w, is.2)
 
 -- ---- over a list

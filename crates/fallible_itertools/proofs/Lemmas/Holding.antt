@@ -1,28 +1,17 @@
 -- A fold of what holds is one of its stage; and a closure beside what is held.
 use Rattle.std.specs.Prelude.{◌≡◌, Option, Some, None, List, [], ◌∷◌}
 use Rattle.std.specs.List.{FoldsTo}
-use Rattle.std.proofs.Common.{refl, ap, subst, inl, inr}
+use Rattle.std.proofs.Common.{subst, inl, inr}
 use Rattle.fallible_iterator.specs.Traces.{Answered}
 use Rattle.fallible_iterator.specs.Closures.{Reaches, IsCallable}
 use Rattle.fallible_iterator.specs.Contract.{Contract}
 use Rattle.fallible_iterator.specs.Laws.Closures.{reaches_here, reaches_from, is_callable_after}
 use Rattle.fallible_itertools.specs.Holding.{due_answer, holding_step, stop_comes, MayBeAsked, OrStop}
-use Rattle.fallible_itertools.specs.Laws.Holding.{after_met, meets_of_stage, stage_asks}
+use Rattle.fallible_itertools.specs.Laws.Holding.{after_met, meets_of_stage, same_due, stage_asks}
 use Rattle.fallible_itertools.specs.Staging.{DrawsUpTo, MayMeet, TakesAll, passes_over, stage_step, yields}
 use Rattle.fallible_itertools.specs.Laws.Staging.{takes_where_reached}
 use Rattle.fallible_itertools.proofs.Lemmas.HoldingTraces.{first_made, step_left_before}
 use Rattle.fallible_iterator.specs.Outcome.{Outcome}
-
--- ---- what is due is known by its answer
-
-same_due : (B : Type 0) {E : Type 0} (due later : Option (Option E)) → due_answer {B = B} due ≡ due_answer later → due ≡ later
-same_due B None None e = refl
-same_due B None (Some stop) e = absurd cc
-same_due B (Some stop) None e = absurd cc
-same_due B (Some None) (Some None) e = refl
-same_due B (Some None) (Some (Some d)) e = absurd cc
-same_due B (Some (Some c)) (Some None) e = absurd cc
-same_due B (Some (Some c)) (Some (Some d)) e = let same : c ≡ d = cc in ap (λ x. Some (Some x)) same
 
 module _ {P X B E : Type 0} (asks : P → Option X → Outcome B E → P → Type 0) where
   -- ---- a step of the stage is one of what holds

@@ -1,173 +1,140 @@
 -- The hint of an adapter that holds and yields what is held before a stop.
-use Rattle.std.specs.Prelude.{◌≡◌, ℕ, ◌+◌, ◌≤◌, ◌⊎◌, min, IfSome, Option, Some, None, Ok, Err, List, [], ◌∷◌, ◌++◌, length}
-use Rattle.std.proofs.Common.{refl, sym, subst, arith, inl, inr, length-append}
-use Rattle.fallible_iterator.specs.Traces.{Answered, Yields, item, end}
+use Rattle.std.specs.Prelude.{◌≡◌, ℕ, suc, ◌+◌, ◌-◌, ◌≤◌, min, IfSome, Option, Some, None, Err, List, [], ◌∷◌, length}
+use Rattle.std.proofs.Common.{sym, ap, subst, arith, ◌∙◌}
+use Rattle.fallible_iterator.specs.Traces.{Answered, Yields, item, failure, end}
 use Rattle.fallible_iterator.specs.Contract.{Contract, seen_as}
-use Rattle.fallible_iterator.specs.SoundHints.{BoundsAbove, BoundsBelow, AsSound, Brackets, HintsAsSoundAs, SoundHints}
-use Rattle.fallible_iterator.proofs.Lemmas.Hints.Drawn.{if_some_no_greater, as_sound_seen, brackets_seen, yields_after}
+use Rattle.fallible_iterator.specs.SoundHints.{BoundsAbove, BoundsBelow, Brackets, HintsAsSoundAs, SoundHints}
+use Rattle.fallible_iterator.proofs.Lemmas.Hints.Drawn.{as_sound_of_steps_within, brackets_no_item, brackets_seen}
 use Rattle.fallible_iterator.proofs.Lemmas.Hints.Joining.{if_some_fitting_sum_above}
 use Rattle.fallible_iterator.specs.Hints.{fitting_sum}
-use Rattle.fallible_iterator.specs.Laws.Passing.{Passes, done, end_passes, failure_passes, keeps, refuses, closes, leaves_out, passes_of_pass_trace}
-use Rattle.fallible_itertools.specs.Holding.{asks_item, as_answered_item, BeforeStop, AnswersAfter, holding_step, HeldAfter, Holds, HintHeld, HintUnlessEnd, holding_contract, one_at_least}
+use Rattle.fallible_itertools.specs.Staging.{Made, stage_step}
+use Rattle.fallible_itertools.specs.Holding.{HintHeld, HintUnlessEnd, HintsPastFailure, HintsWhereHeld, Holds, MadeOfItem, StopMade, filling_contract, holding_contract, holding_meets, holding_step, made_answers, one_at_least, stop_comes}
+use Rattle.fallible_itertools.specs.Laws.Holding.{is_stage_holding, made_of_answers, nothing_made, stage_of_holding}
+use Rattle.fallible_itertools.proofs.Lemmas.StagingHints.{MadeFew, MakesNoFewer, bounds_above_staged, bounds_below_staged, makes_one_at_most}
 use Rattle.fallible_iterator.specs.Outcome.{Outcome}
 use Rattle.fallible_iterator.specs.Outcome.TheVariants.{Kept, LeftOut, Failure, End}
 
--- What is left out is held, and while something is held it is yielded before a stop.
-pub record GivesHeld {P X B E : Type 0} (asks : P → Option X → Outcome B E → P → Type 0) (held : P → ℕ) : Type 0 where
-  pub left_out : (p : P) (x : X) (q : P) → asks p (Some x) LeftOut q → 1 ≤ held q
-  pub at_stop : (p q : P) → asks p None End q → held p ≡ 0
+module _ {P X B E : Type 0} (asks : P → Option X → Outcome B E → P → Type 0) where
+  -- What is left out is held, and while something is held it is yielded before a stop.
+  pub record GivesHeld (held : P → ℕ) : Type 0 where
+    pub left_out : (p : P) (x : X) (q : P) → asks p (Some x) LeftOut q → 1 ≤ held q
+    pub at_stop : (p q : P) → asks p None End q → held p ≡ 0
 
-module _ {S P X B E : Type 0} (steps : S → Answered X E → S → Type 0) (asks : P → Option X → Outcome B E → P → Type 0) (held : P → ℕ) (holds : Holds asks held) (gives : GivesHeld asks held) where
-  abbrev UpTo : S → P → List (Answered B E) → S → P → Type 0
-  UpTo = Passes steps (asks_item asks) as_answered_item
+  -- `MakesNoFewer`, of calls
+  pub record KeepsFew (Few : P → ℕ → ℕ → Type 0) : Type 0 where
+    pub kept : (p : P) (x : X) (y : B) (q : P) (low n : ℕ) → asks p (Some x) (Kept y) q → Few q (low - 1) n → Few p low (suc n)
+    pub left_out : (p : P) (x : X) (q : P) (low n : ℕ) → asks p (Some x) LeftOut q → Few q (low - 1) n → Few p low n
+    pub kept_at_end : (p : P) (y : B) (q : P) → asks p None (Kept y) q → Few p 0 1
+    pub none_at_end : (p q : P) → asks p None End q → Few p 0 0
 
+  few_at_failure : (e : E) (o : Outcome B E) (m : Made B (Option E) E) (after before : ℕ → Type 0) → StopMade (Some e) o (made_answers m) → MadeFew stop_comes m after before
+  few_at_failure e (Kept y) m after before is = rw (made_of_answers m (item y) (Some (Some e)) is) tt
+  few_at_failure e LeftOut m after before is = absurd is
+  few_at_failure e (Failure d) m after before is = rw (made_of_answers m (failure d) (Some (Some e)) is) tt
+  few_at_failure e End m after before is = rw (made_of_answers m (failure e) None is) tt
+
+  module _ (held : P → ℕ) (holds : Holds asks held) (Few : P → ℕ → ℕ → Type 0) (few : KeepsFew Few) where
+    few_at_item : (p : P) (x : X) (m : Made B (Option E) E) (q : P) (low : ℕ) (o : Outcome B E) (h : P) → asks p (Some x) o h → MadeOfItem asks o h (made_answers m) q → MadeFew stop_comes m (λ n. Few q (low - 1) n) (λ n. Few p low n)
+    few_at_item p x m q low (Kept y) h asked is = rw (made_of_answers m (item y) None is.0) (λ n after. few.kept p x y q low n (subst (λ g. asks p (Some x) (Kept y) g) (sym is.1) asked) after)
+    few_at_item p x m q low LeftOut h asked is = rw (nothing_made m is.0) (λ n after. few.left_out p x q low n (subst (λ g. asks p (Some x) LeftOut g) (sym is.1) asked) after)
+    few_at_item p x m q low (Failure e) h asked is = few_at_failure e is.0 m _ _ is.2
+    few_at_item p x m q low End h asked is = absurd (holds p (Some x) End h asked)
+
+    few_at_end : (p : P) (m : Made B (Option E) E) (q : P) (o : Outcome B E) → asks p None o q → StopMade None o (made_answers m) → MadeFew stop_comes m (λ n. Few q 0 n) (λ n. Few p 0 n)
+    few_at_end p m q (Kept y) asked is = rw (made_of_answers m (item y) (Some None) is) (few.kept_at_end p y q asked)
+    few_at_end p m q LeftOut asked is = absurd is
+    few_at_end p m q (Failure d) asked is = rw (made_of_answers m (failure d) (Some None) is) tt
+    few_at_end p m q End asked is = rw (made_of_answers m end None is) (few.none_at_end p q asked)
+
+    makes_no_fewer : MakesNoFewer stop_comes (holding_meets asks) Few
+    makes_no_fewer = record {
+      at_item = λ p x m q low w. few_at_item p x m q low w.0 w.1 w.2 w.3;
+      at_end = λ p m q w. few_at_end p m q w.0 w.1 w.2;
+      at_failure = λ p e m q low w. few_at_failure e w.0 m _ _ w.2;
+    }
+
+-- ---- where a stop is due
+
+module _ {S P X B E : Type 0} (steps : S → Answered X E → S → Type 0) (asks : P → Option X → Outcome B E → P → Type 0) (s : S) (f : P) where
   abbrev StateOfHoldingHints : Type 0
   StateOfHoldingHints = S × (P × Option (Option E))
 
-  abbrev StepsOfHoldingHints : StateOfHoldingHints → Answered B E → StateOfHoldingHints → Type 0
-  StepsOfHoldingHints = holding_step asks steps
+  none_before_failure : (e : E) (o : Option ℕ) (xs : List B) (t : StateOfHoldingHints) → Yields (holding_step asks steps) (s, (f, Some (Some e))) xs t → IfSome o (λ n. length xs ≤ n)
+  none_before_failure e (Some n) [] t ran = omega arith
+  none_before_failure e None xs t ran = tt
+  none_before_failure e (Some n) (y ∷ xs) t ran = absurd (let k = ran.1.0 in cc)
 
-  held_after_weighed : (f h : P) (x : X) (o z : Outcome B E) → o ≡ z → asks f (Some x) o h → HeldAfter (held f) (Some x) z (held h)
-  held_after_weighed f h x o z is called = subst (λ w. HeldAfter (held f) (Some x) w (held h)) is (holds f (Some x) o h called)
-
-  held_after_weighed_stop : (h g : P) (o z : Outcome B E) → o ≡ z → asks h None o g → HeldAfter {X = X} (held h) None z (held g)
-  held_after_weighed_stop h g o z is called = subst (λ w. HeldAfter {X = X} (held h) None w (held g)) is (holds h None o g called)
-
-  -- ---- above
-
-  -- items of the source that were drawn up to an answer: up to an item it was the last of them
-  abbrev ReachedOfHoldingHints : Answered B E → S → S → P → ℕ → ℕ → Type 0
-  ReachedOfHoldingHints (Ok (Some y)) u t h n before = (u ≡ t) × (held h + 1 ≤ before + n)
-  ReachedOfHoldingHints (Ok None) u t h n before = held h ≤ before + n
-  ReachedOfHoldingHints (Err e) u t h n before = held h ≤ before + n
-
-  reached_more : (z : Answered B E) (u t : S) (h : P) (n k b c : ℕ) → k ≡ n + 1 → b ≤ c + 1 → ReachedOfHoldingHints z u t h n b → ReachedOfHoldingHints z u t h k c
-  reached_more (Ok (Some y)) u t h n k b c one le r = (r.0, omega (arith, one, le, r.1))
-  reached_more (Ok None) u t h n k b c one le r = omega (arith, one, le, r)
-  reached_more (Err e) u t h n k b c one le r = omega (arith, one, le, r)
-
-  record ItemsUpTo (s : S) (f : P) (z : Answered B E) (t : S) (h : P) : Type 0 where
-    items : List X
-    at : S
-    ran : Yields steps s items at
-    reached : ReachedOfHoldingHints z at t h (length items) (held f)
-
-  items_drawn : (s t : S) (f h : P) (z : Answered B E) → UpTo s f (z ∷ []) t h → ItemsUpTo s f z t h
-  items_drawn s t f h _ (end_passes step done) = record { items = []; at = s; ran = refl; reached = omega arith }
-  items_drawn s t f h _ (failure_passes e step done) = record { items = []; at = s; ran = refl; reached = omega arith }
-  items_drawn s t f h _ (keeps x o y step called is done) = let w = held_after_weighed f h x o (Kept y) is called in record { items = x ∷ []; at = t; ran = (t, step, refl); reached = (refl, omega (arith, w)) }
-  items_drawn s t f h _ (refuses x o e step called is done) = let w = held_after_weighed f h x o (Failure e) is called in record { items = x ∷ []; at = t; ran = (t, step, refl); reached = omega (arith, w) }
-  items_drawn s t f h _ (closes x o step called is done) = absurd (held_after_weighed f h x o End is called)
-  items_drawn s t f h z (leaves_out {u = u} {h = g} x o step called is rest) = let w = held_after_weighed f g x o LeftOut is called in let k = items_drawn u t g h z rest in record { items = x ∷ k.items; at = k.at; ran = (u, step, k.ran); reached = reached_more z k.at t h (length k.items) (length (x ∷ k.items)) (held g) (held f) (omega arith) (omega (arith, w)) k.reached }
-
-  -- a run of the source's items has at least as many, less what was held
-  abbrev AtLeast : S → P → ℕ → Type 0
-  AtLeast s f n = (xs : List X) × (t : S) × Yields steps s xs t × (n ≤ length xs + held f)
-
-  -- nothing but the stop comes where one is due
-  length_none_due : (stop : Option E) (ys : List B) (s : S) (f : P) (t : StateOfHoldingHints) → Yields StepsOfHoldingHints (s, (f, Some stop)) ys t → length ys ≤ 0
-  length_none_due stop [] s f t ran = omega arith
-  length_none_due None (y ∷ ys) s f t ran = absurd (let k = ran.1.0 in cc)
-  length_none_due (Some e) (y ∷ ys) s f t ran = absurd (let k = ran.1.0 in cc)
-
-  length_stop_last : (stop : Option E) (o : Outcome B E) (y : B) (ys : List B) (s u : S) (f h : P) (q : P × Option (Option E)) (t : StateOfHoldingHints) (n : ℕ) → asks h None o q.0 → BeforeStop stop o (item y) q.1 → held h ≤ held f + n → Yields StepsOfHoldingHints (u, q) ys t → length ys + 1 ≤ n + held f
-  length_stop_last stop (Kept z) y ys s u f h q t n asked b le ran = let none = length_none_due stop ys u q.0 t (subst (λ (d : Option (Option E)). Yields StepsOfHoldingHints (u, (q.0, d)) ys t) b.1 ran) in let w = held_after_weighed_stop h q.0 (Kept z) (Kept z) refl asked in omega (arith, none, w, le)
-  length_stop_last stop (Failure e) y ys s u f h q t n asked b le ran = absurd (let k = b.0 in cc)
-  length_stop_last None End y ys s u f h q t n asked b le ran = absurd (let k = b.0 in cc)
-  length_stop_last (Some e) End y ys s u f h q t n asked b le ran = absurd (let k = b.0 in cc)
-  length_stop_last stop LeftOut y ys s u f h q t n asked b le ran = absurd b
-
-  at_least_first_and : (z : Answered B E) (y : B) (ys : List B) (s u : S) (f h : P) (q : P × Option (Option E)) (t : StateOfHoldingHints) → ItemsUpTo s f z u h → AnswersAfter asks h z (item y) q → Yields StepsOfHoldingHints (u, q) ys t → (Yields StepsOfHoldingHints (u, (h, None)) ys t → AtLeast u h (length ys)) → AtLeast s f (length ys + 1)
-  at_least_first_and (Ok (Some x)) y ys s u f h q t k b ran more = let r = more (subst (λ (d : P × Option (Option E)). Yields StepsOfHoldingHints (u, d) ys t) b.1 ran) in let e = length-append k.items r.0 in let le = k.reached.1 in
-      (k.items ++ r.0, r.1, yields_after steps k.items r.0 s k.at r.1 k.ran (subst (λ (v : S). Yields steps v r.0 r.1) (sym k.reached.0) r.2), omega (arith, e, r.3, le))
-  at_least_first_and (Ok None) y ys s u f h q t k b ran more = let le = length_stop_last None b.0 y ys s u f h q t (length k.items) b.1 b.2 k.reached ran in (k.items, k.at, k.ran, omega (arith, le))
-  at_least_first_and (Err e) y ys s u f h q t k b ran more = let le = length_stop_last (Some e) b.0 y ys s u f h q t (length k.items) b.1 b.2 k.reached ran in (k.items, k.at, k.ran, omega (arith, le))
-
-  at_least : (ys : List B) (s : S) (f : P) (t : StateOfHoldingHints) → Yields StepsOfHoldingHints (s, (f, None)) ys t → AtLeast s f (length ys)
-  at_least [] s f t ran = ([], s, refl, omega arith)
-  at_least (y ∷ ys) s f t ran = let w = ran.1 in let k = at_least_first_and w.1 y ys s ran.0.0 f w.0 ran.0.1 t (items_drawn s ran.0.0 f w.0 w.1 (passes_of_pass_trace w.2)) w.3 ran.2 (λ r. at_least ys ran.0.0 w.0 t r) in (k.0, k.1, k.2, omega (arith, k.3))
-
-  pub bounds_above_held : (k : Option ℕ) (s : S) (f : P) → BoundsAbove steps s k → BoundsAbove StepsOfHoldingHints (s, (f, None)) (fitting_sum k (Some (held f)))
-  bounds_above_held k s f above = λ xs t ran. let a = at_least xs s f t ran in if_some_no_greater (fitting_sum k (Some (held f))) (length xs) (length a.0 + held f) a.3 (if_some_fitting_sum_above k (Some (held f)) (length a.0) (held f) (length a.0 + held f) refl (above a.0 a.1 a.2) (omega arith))
-
-  -- ---- below
-
-  -- up to an end that is first, either nothing was left out, or something is held
-  held_where_end_drawn : (s t : S) (f h : P) (z : Answered B E) → UpTo s f (z ∷ []) t h → z ≡ end → ((f ≡ h) × steps s end t) ⊎ (1 ≤ held h)
-  held_where_end_drawn s t f h _ (end_passes step done) is = inl (refl, step)
-  held_where_end_drawn s t f h _ (failure_passes e step d) is = absurd cc
-  held_where_end_drawn s t f h _ (keeps x o y step called kept d) is = absurd cc
-  held_where_end_drawn s t f h _ (refuses x o e step called kept d) is = absurd cc
-  held_where_end_drawn s t f h _ (closes {h = g} x o step called closed d) is = absurd (held_after_weighed f g x o End closed called)
-  held_where_end_drawn s t f h z (leaves_out {u = u} {h = g} x o step called left rest) is = let some = gives.left_out f x g (subst (λ w. asks f (Some x) w g) left called) in elim (held_where_end_drawn u t g h z rest is) [ inl k ↦ inr (subst (λ (p : P). 1 ≤ held p) k.0 some) | inr k ↦ inr k ]
-
-  -- where an end comes first, nothing is held, and the source returns an end first
-  pub none_held_at_first_end : (s u : S) (f h g : P) (due : Option (Option E)) (z : Answered B E) → UpTo s f (z ∷ []) u h → AnswersAfter asks h z end (g, due) → (held f ≡ 0) × steps s end u
-  none_held_at_first_end s u f h g due (Ok (Some y)) p b = absurd (let k = b.0 in cc)
-  none_held_at_first_end s u f h g due (Err e) p b = absurd (failure_no_end e b.0 b.2)
-    where
-      failure_no_end : (e : E) (o : Outcome B E) → BeforeStop (Some e) o end due → ⊥
-      failure_no_end e (Kept y) w = let k = w.0 in cc
-      failure_no_end e (Failure d) w = let k = w.0 in cc
-      failure_no_end e End w = let k = w.0 in cc
-      failure_no_end e LeftOut w = w
-  none_held_at_first_end s u f h g due (Ok None) p b = none_held_at_end b.0 b.1 b.2
-    where
-      none_held_at_end : (o : Outcome B E) → asks h None o g → BeforeStop None o end due → (held f ≡ 0) × steps s end u
-      none_held_at_end (Kept y) a w = absurd (let k = w.0 in cc)
-      none_held_at_end (Failure d) a w = absurd (let k = w.0 in cc)
-      none_held_at_end End a w = let none = gives.at_stop h g a in elim (held_where_end_drawn s u f h (Ok None) p refl) [ inl k ↦ (subst (λ (q : P). held q ≡ 0) (sym k.0) none, k.1) | inr k ↦ absurd (omega (arith, none, k)) ]
-      none_held_at_end LeftOut a w = absurd w
-
-  bounds_below_held : (low : ℕ) (s : S) (f : P) → BoundsBelow steps s low → BoundsBelow StepsOfHoldingHints (s, (f, None)) (min (low + held f) 1)
-  bounds_below_held low s f below [] t u ran step = let w : StepsOfHoldingHints (s, (f, None)) end u = subst (λ (v : StateOfHoldingHints). StepsOfHoldingHints v end u) (sym ran) step in
-      let k = none_held_at_first_end s u.0 f w.0 u.1.0 u.1.1 w.1 (passes_of_pass_trace w.2) w.3 in let none = k.0 in let few : low ≤ 0 = below [] s u.0 refl k.1 in omega (arith, none, few)
-  bounds_below_held low s f below (x ∷ xs) t u ran step = omega arith
-
-  pub as_sound_held : (s : S) (f : P) (k h : ℕ × Option ℕ) → HintHeld (held f) k h → AsSound StepsOfHoldingHints (s, (f, None)) h steps s k
-  as_sound_held s f k h is = record {
-    above = λ a. subst (λ (o : Option ℕ). BoundsAbove StepsOfHoldingHints (s, (f, None)) o) (sym is.1) (bounds_above_held k.1 s f a);
-    below = λ b. subst (λ (n : ℕ). BoundsBelow StepsOfHoldingHints (s, (f, None)) n) (sym is.0) (bounds_below_held k.0 s f b);
-  }
-
-  -- ---- where a stop is due
-
-  none_above : (o : Option ℕ) (n : ℕ) → n ≤ 0 → IfSome o (λ u. n ≤ u)
-  none_above (Some u) n few = omega (arith, few)
-  none_above None n few = tt
-
-  -- after a failure that is due comes no end
-  pub no_end_past_failure : (e : E) (xs : List B) (s : S) (f : P) (t u : StateOfHoldingHints) → Yields StepsOfHoldingHints (s, (f, Some (Some e))) xs t → StepsOfHoldingHints t end u → ⊥
-  no_end_past_failure e [] s f t u ran step = let w : StepsOfHoldingHints (s, (f, Some (Some e))) end u = subst (λ (v : StateOfHoldingHints). StepsOfHoldingHints v end u) (sym ran) step in let k = w.0 in cc
-  no_end_past_failure e (y ∷ xs) s f t u ran step = let k = ran.1.0 in cc
+  no_end_past_failure : (e : E) (xs : List B) (t u : StateOfHoldingHints) → Yields (holding_step asks steps) (s, (f, Some (Some e))) xs t → holding_step asks steps t end u → ⊥
+  no_end_past_failure e [] t u ran step = let w : holding_step asks steps (s, (f, Some (Some e))) end u = subst (λ (v : StateOfHoldingHints). holding_step asks steps v end u) (sym ran) step in let k = w.0 in cc
+  no_end_past_failure e (y ∷ xs) t u ran step = let k = ran.1.0 in cc
 
   -- Each hint is sound there: none of an item at an end, and any at a failure, before which no item comes and no end.
-  pub brackets_due_sound : (stop : Option E) (Q : ℕ × Option ℕ → Type 0) (s : S) (f : P) (h : ℕ × Option ℕ) → HintUnlessEnd (Some stop) Q h → Brackets StepsOfHoldingHints (s, (f, Some stop)) h
-  brackets_due_sound None Q s f h is = subst (λ (j : ℕ × Option ℕ). Brackets StepsOfHoldingHints (s, (f, Some None)) j) (sym is) (record { above = λ xs t ran. length_none_due None xs s f t ran; below = λ xs t u ran step. omega arith })
-  brackets_due_sound (Some e) Q s f h is = record { above = λ xs t ran. none_above h.1 (length xs) (length_none_due (Some e) xs s f t ran); below = λ xs t u ran step. absurd (no_end_past_failure e xs s f t u ran step) }
+  brackets_due_sound : (stop : Option E) (Q : ℕ × Option ℕ → Type 0) (h : ℕ × Option ℕ) → HintUnlessEnd (Some stop) Q h → Brackets (holding_step asks steps) (s, (f, Some stop)) h
+  brackets_due_sound None Q h is = subst (λ (j : ℕ × Option ℕ). Brackets (holding_step asks steps) (s, (f, Some None)) j) (sym is) (brackets_no_item (holding_step asks steps) (s, (f, Some None)) (λ x t w. let k = w.0 in cc))
+  brackets_due_sound (Some e) Q h is = record { above = λ xs t ran. none_before_failure e h.1 xs t ran; below = λ xs t u ran step. absurd (no_end_past_failure e xs t u ran step) }
+
+-- ---- its hints
+
+-- `Is s p h` says that h is the hint where the source is s and p is held; `Few` says which lower bound it has.
+module _ {V S P X B E : Type 0} (view : V → S × (P × Option (Option E))) (can : S × (P × Option (Option E)) → Type 0) (m : Contract S X E) (asks : P → Option X → Outcome B E → P → Type 0) (pre : P → Option X → Type 0) (held : P → ℕ) (holds : Holds asks held) (Few : P → ℕ → ℕ → Type 0) (few : KeepsFew asks Few)
+    (Is : S → P → ℕ × Option ℕ → Type 0) (bounds : (s : S) (p : P) (h : ℕ × Option ℕ) → Is s p h → (k : ℕ × Option ℕ) × m.hints s k × ((n : ℕ) → Few p k.0 n → h.0 ≤ n) × (h.1 ≡ fitting_sum k.1 (Some (held p)))) where
+  abbrev hint_where_held : S × (P × Option (Option E)) → ℕ × Option ℕ → Type 0
+  hint_where_held (s, (p, due)) h = HintUnlessEnd due (λ j. Is s p j) h
+
+  abbrev SeenWhereHeld : Contract V B E
+  SeenWhereHeld = seen_as view (record (filling_contract m asks pre held hint_where_held) { can_next = can })
+
+  abbrev Stage : S × (P × Option (Option E)) → Answered B E → S × (P × Option (Option E)) → Type 0
+  Stage = stage_step stop_comes (holding_meets asks) m.steps
+
+  -- what is seen, where this is due
+  abbrev given : V → Option (Option E) → S × (P × Option (Option E))
+  given s due = ((view s).0, ((view s).1.0, due))
+
+  above_held : (it : S) (f : P) (k : ℕ × Option ℕ) → BoundsAbove m.steps it k.1 → BoundsAbove Stage (it, (f, None)) (fitting_sum k.1 (Some (held f)))
+  above_held it f k b = bounds_above_staged m.steps stop_comes (holding_meets asks) (λ p n. n + held p) (makes_one_at_most stop_comes (holding_meets asks) held (is_stage_holding asks held holds)) k.1 (fitting_sum k.1 (Some (held f))) it f None (λ n le. if_some_fitting_sum_above k.1 (Some (held f)) n (held f) (0 + (n + held f)) (omega arith) le (omega arith)) b
+
+  sound_undue : (s : V) → (view s).1.1 ≡ None → HintsAsSoundAs SeenWhereHeld s m (view s).0
+  sound_undue s none h is = let of = bounds (view s).0 (view s).1.0 h (subst (λ (d : Option (Option E)). hint_where_held (given s d) h) none is) in
+      let within = as_sound_of_steps_within view SeenWhereHeld.steps Stage (λ u r v w. stage_of_holding asks m.steps (view u) r (view v) w) s h in (
+        of.0,
+        of.1,
+        record {
+          above = λ a. within.above (subst (λ (d : Option (Option E)). BoundsAbove Stage (given s d) h.1) (sym none) (subst (λ (o : Option ℕ). BoundsAbove Stage (given s None) o) (sym of.3) (above_held (view s).0 (view s).1.0 of.0 a)));
+          below = λ b. within.below (subst (λ (d : Option (Option E)). BoundsBelow Stage (given s d) h.0) (sym none) (bounds_below_staged m.steps stop_comes (holding_meets asks) Few (makes_no_fewer asks held holds Few few) of.0.0 h.0 (view s).0 (view s).1.0 None of.2 b));
+        },
+      )
+
+  sound_due : (s : V) (stop : Option E) → (view s).1.1 ≡ Some stop → SoundHints SeenWhereHeld s
+  sound_due s stop due h is = brackets_seen view (holding_step asks m.steps) s h (subst (λ (d : Option (Option E)). Brackets (holding_step asks m.steps) (given s d) h) (sym due) (brackets_due_sound m.steps asks (view s).0 (view s).1.0 stop _ h (subst (λ (d : Option (Option E)). hint_where_held (given s d) h) due is)))
+
+  past_failure : (s : V) (e : E) → (view s).1.1 ≡ Some (Some e) → HintsPastFailure SeenWhereHeld s e
+  past_failure s e due t h step is = let w : holding_step asks m.steps (given s (Some (Some e))) (Err e) (view t) = subst (λ (d : Option (Option E)). holding_step asks m.steps (given s d) (Err e) (view t)) due step in
+      subst (λ (p : S × (P × Option (Option E))). hint_where_held p h) (sym (ap (λ (z : S). (z, (view t).1)) w.1 ∙ ap (λ (z : P × Option (Option E)). ((view s).0, z)) w.2)) (subst (λ (d : Option (Option E)). hint_where_held (given s d) h) due is)
+
+  pub hints_where_held : HintsWhereHeld SeenWhereHeld (λ s. (view s).1.1) m (λ s. (view s).0)
+  hints_where_held = record { none_due = sound_undue; due = sound_due; failure_due = past_failure }
+
+-- ---- at least one, where the source has one or one is held
 
 module _ {V S P X B E : Type 0} (view : V → S × (P × Option (Option E))) (m : Contract S X E) (asks : P → Option X → Outcome B E → P → Type 0) (pre : P → Option X → Type 0) (held : P → ℕ) (holds : Holds asks held) (gives : GivesHeld asks held) where
-  abbrev SeenOfHoldingHints : Contract V B E
-  SeenOfHoldingHints = seen_as view (holding_contract m asks pre held (one_at_least m held))
+  keeps_one : KeepsFew asks (λ p low n. min (low + held p) 1 ≤ n)
+  keeps_one = record {
+    kept = λ p x y q low n asked after. omega arith;
+    left_out = λ p x q low n asked after. let some = gives.left_out p x q asked in omega (arith, some, after);
+    kept_at_end = λ p y q asked. omega arith;
+    none_at_end = λ p q asked. let none = gives.at_stop p q asked in omega (arith, none);
+  }
 
-  -- Each hint of such an adapter is as sound as that of its source.
-  pub hints_as_sound_held : (s : V) (it : S) (f : P) → view s ≡ (it, (f, None)) → HintsAsSoundAs SeenOfHoldingHints s m it
-  hints_as_sound_held s it f at h is = let k : one_at_least m held (it, (f, None)) h = subst (λ (p : S × (P × Option (Option E))). one_at_least m held p h) at is in
-      (k.0, k.1, as_sound_seen view _ s h (subst (λ (p : S × (P × Option (Option E))). AsSound (holding_step asks m.steps) p h m.steps it k.0) (sym at) (as_sound_held m.steps asks held holds gives it f k.0 h k.2)))
+  abbrev IsOne : S → P → ℕ × Option ℕ → Type 0
+  IsOne s p h = (k : ℕ × Option ℕ) × m.hints s k × HintHeld (held p) k h
 
-  -- Where a stop is due, nothing comes before it.
-  pub sound_hints_due : (s : V) (it : S) (f : P) (stop : Option E) → view s ≡ (it, (f, Some stop)) → SoundHints SeenOfHoldingHints s
-  sound_hints_due s it f stop at h is = let k : one_at_least m held (it, (f, Some stop)) h = subst (λ (p : S × (P × Option (Option E))). one_at_least m held p h) at is in
-      brackets_seen view _ s h (subst (λ (p : S × (P × Option (Option E))). Brackets (holding_step asks m.steps) p h) (sym at) (brackets_due_sound m.steps asks held holds gives stop _ it f h k))
+  one_bounds : (s : S) (p : P) (h : ℕ × Option ℕ) → IsOne s p h → (k : ℕ × Option ℕ) × m.hints s k × ((n : ℕ) → min (k.0 + held p) 1 ≤ n → h.0 ≤ n) × (h.1 ≡ fitting_sum k.1 (Some (held p)))
+  one_bounds s p h is = (is.0, is.1, (λ n few. rw is.2.0 few), is.2.1)
 
--- ---- past a failure that is due
+  -- also where the adapter has a condition of its own
+  pub hints_held_with : (can : S × (P × Option (Option E)) → Type 0) → HintsWhereHeld (seen_as view (record (holding_contract m asks pre held (one_at_least m held)) { can_next = can })) (λ s. (view s).1.1) m (λ s. (view s).0)
+  hints_held_with can = hints_where_held view can m asks pre held holds (λ p low n. min (low + held p) 1 ≤ n) keeps_one IsOne one_bounds
 
-module _ {V S P X B E : Type 0} (view : V → S × (P × Option (Option E))) (steps : S → Answered X E → S → Type 0) (asks : P → Option X → Outcome B E → P → Type 0) (hints : S × (P × Option (Option E)) → ℕ × Option ℕ → Type 0) (past : (it : S) (f : P) (e : E) (h : ℕ × Option ℕ) → hints (it, (f, Some (Some e))) h → hints (it, (f, None)) h) where
-  parts_are : (p : S × (P × Option (Option E))) {it : S} {q : P × Option (Option E)} → p.0 ≡ it → p.1 ≡ q → p ≡ (it, q)
-  parts_are (s, d) is same = rw (is, same) refl
-
-  -- Where the hint at a failure that is due is the one without it, it is that of what comes after the failure.
-  pub hints_past_due : (s : V) (it : S) (f : P) (e : E) → view s ≡ (it, (f, Some (Some e))) → (t : V) (h : ℕ × Option ℕ) → holding_step asks steps (view s) (Err e) (view t) → hints (view s) h → hints (view t) h
-  hints_past_due s it f e at t h step is = let w : holding_step asks steps (it, (f, Some (Some e))) (Err e) (view t) = subst (λ (p : S × (P × Option (Option E))). holding_step asks steps p (Err e) (view t)) at step in
-      let k : hints (it, (f, Some (Some e))) h = subst (λ (p : S × (P × Option (Option E))). hints p h) at is in
-      subst (λ (p : S × (P × Option (Option E))). hints p h) (sym (parts_are (view t) w.1 w.2)) (past it f e h k)
+  pub hints_held : HintsWhereHeld (seen_as view (holding_contract m asks pre held (one_at_least m held))) (λ s. (view s).1.1) m (λ s. (view s).0)
+  hints_held = hints_held_with (holding_contract m asks pre held (one_at_least m held)).can_next

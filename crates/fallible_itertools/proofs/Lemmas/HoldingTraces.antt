@@ -4,8 +4,10 @@ use Rattle.std.specs.List.{FoldsTo, flat_map}
 use Rattle.std.proofs.Common.{refl, sym, ap, subst, arith, inl, inr, length-append}
 use Rattle.std.proofs.lemmas.List.{append-nil}
 use Rattle.fallible_iterator.specs.Traces.{Answered, Run, item}
-use Rattle.fallible_iterator.specs.Laws.Passing.{Passes, done, end_passes, failure_passes, keeps, refuses, closes, leaves_out, passes_of_pass_trace, pass_trace_of_passes, pass_trace_item, pass_trace_refusal, pass_trace_end, pass_trace_failure, pass_trace_closing}
-use Rattle.fallible_itertools.specs.Holding.{asks_item, as_answered_item, stop_answer, due_answer, BeforeStop, AtStop, AnswersAfter, holding_step, StopMade, MadeOfItem, DrawMade, LastMade, HoldingTrace}
+use Rattle.fallible_iterator.specs.Laws.Passing.{leaves_out, passes_of_pass_trace, pass_trace_of_passes, pass_trace_item, pass_trace_refusal, pass_trace_end, pass_trace_failure, pass_trace_closing}
+use Rattle.fallible_itertools.specs.Holding.{due_answer, BeforeStop, AtStop, holding_step, StopMade, MadeOfItem, DrawMade, LastMade, HoldingTrace, holding_meets, stop_comes}
+use Rattle.fallible_itertools.specs.Laws.Holding.{same_due, stage_of_holding}
+use Rattle.fallible_itertools.specs.Staging.{DrawsUpTo, passes_over, stop_answer, yields}
 use Rattle.fallible_iterator.specs.Outcome.{Outcome}
 use Rattle.fallible_iterator.specs.Outcome.TheVariants.{Kept, LeftOut, Failure, End}
 
@@ -58,30 +60,19 @@ module _ {S P X B E : Type 0} (steps : S → Answered X E → S → Type 0) (ask
       due_length_few none = let same : due_answer due ++ [] ≡ trace ++ due_answer q.1.1 = subst (λ (draws : List DrawMadeHere). due_answer due ++ all_made draws ≡ trace ++ due_answer q.1.1) none k.answers in
           let long = ap (λ (l : List (Answered B E)). length l) same in let before = length-append (due_answer {B = B} due) [] in let behind = length-append trace (due_answer {B = B} q.1.1) in omega (arith, long, before, behind)
 
-  -- an item that was left out, before others
-  trace_left_first : (s u : S) (p g : P) (x : X) (r : Answered B E) (trace : List (Answered B E)) (q : HoldingStateHere) → steps s (item x) u → asks p (Some x) LeftOut g → HoldingTraceHere (u, (g, None)) (r ∷ trace) q → HoldingTraceHere (s, (p, None)) (r ∷ trace) q
-  trace_left_first s u p g x r trace q step called k = record {
-    draws = (item x, []) ∷ k.draws;
+  -- an answer of which nothing was made, before others
+  trace_left_first : (s u : S) (p g : P) (a : Answered X E) (r : Answered B E) (trace : List (Answered B E)) (q : HoldingStateHere) → steps s a u → DrawMade asks p (a, []) g → HoldingTraceHere (u, (g, None)) (r ∷ trace) q → HoldingTraceHere (s, (p, None)) (r ∷ trace) q
+  trace_left_first s u p g a r trace q step made k = record {
+    draws = (a, []) ∷ k.draws;
     drawn = (u, step, k.drawn);
-    made = (g, (LeftOut, g, called, (refl, refl)), k.made);
+    made = (g, made, k.made);
     answers = k.answers;
-    last = last_made_cons (due_length q.1.1) (item x, []) k.draws (λ none. absurd (let same : [] ≡ r ∷ (trace ++ due_answer q.1.1) = subst (λ (draws : List DrawMadeHere). all_made draws ≡ r ∷ (trace ++ due_answer q.1.1)) none k.answers in cc)) k.last;
+    last = last_made_cons (due_length q.1.1) (a, []) k.draws (λ none. absurd (let same : [] ≡ r ∷ (trace ++ due_answer q.1.1) = subst (λ (draws : List DrawMadeHere). all_made draws ≡ r ∷ (trace ++ due_answer q.1.1)) none k.answers in cc)) k.last;
   }
 
-  stop_made_before : (stop : Option E) (o : Outcome B E) (r : Answered B E) (due : Option (Option E)) → BeforeStop stop o r due → StopMade stop o (r ∷ due_answer due)
-  stop_made_before stop (Kept y) r due w = rw (w.0, w.1) refl
-  stop_made_before stop (Failure e) r due w = rw (w.0, w.1) refl
-  stop_made_before stop End r due w = rw (w.0, w.1) refl
-  stop_made_before stop LeftOut r due w = absurd w
-
-  trace_drawn_first : (s t : S) (p h g : P) (due : Option (Option E)) (z r : Answered B E) (trace : List (Answered B E)) (q : HoldingStateHere) → Passes steps (asks_item asks) as_answered_item s p (z ∷ []) t h → AnswersAfter asks h z r (g, due) → HoldingTraceHere (t, (g, due)) trace q → HoldingTraceHere (s, (p, None)) (r ∷ trace) q
-  trace_drawn_first s t p h g due _ r trace q (end_passes step done) b k = trace_draw_first s t p g due (Ok None) r trace q step (b.0, b.1, stop_made_before None b.0 r due b.2) k
-  trace_drawn_first s t p h g due _ r trace q (failure_passes e step done) b k = trace_draw_first s t p g due (Err e) r trace q step (b.0, b.1, stop_made_before (Some e) b.0 r due b.2) k
-  trace_drawn_first s t p h g due _ r trace q (keeps x o y step called is done) b k = let undue : due ≡ None = ap (λ (d : P × Option (Option E)). d.1) b.1 in
-      trace_draw_first s t p g due (item x) r trace q step (Kept y, h, subst (λ (c : Outcome B E). asks p (Some x) c h) is called, (rw (b.0, undue) refl, ap (λ (d : P × Option (Option E)). d.0) b.1)) k
-  trace_drawn_first s t p h g due _ r trace q (refuses x o e step called is done) b k = trace_draw_first s t p g due (item x) r trace q step (Failure e, h, subst (λ (c : Outcome B E). asks p (Some x) c h) is called, (b.0, b.1, stop_made_before (Some e) b.0 r due b.2)) k
-  trace_drawn_first s t p h g due _ r trace q (closes x o step called is done) b k = trace_draw_first s t p g due (item x) r trace q step (End, h, subst (λ (c : Outcome B E). asks p (Some x) c h) is called, (b.0, b.1, stop_made_before None b.0 r due b.2)) k
-  trace_drawn_first s t p h g due z r trace q (leaves_out {u = u} {h = j} x o step called is rest) b k = trace_left_first s u p j x r trace q step (subst (λ (c : Outcome B E). asks p (Some x) c j) is called) (trace_drawn_first u t j h g due z r trace q rest b k)
+  trace_drawn_first : (s t : S) (p : P) (r : Answered B E) (d : P × Option (Option E)) (trace : List (Answered B E)) (q : HoldingStateHere) → DrawsUpTo stop_comes (holding_meets asks) steps s p r t d → HoldingTraceHere (t, d) trace q → HoldingTraceHere (s, (p, None)) (r ∷ trace) q
+  trace_drawn_first s t p r _ trace q (yields {q = g} {due = due} a step made) k = trace_draw_first s t p g due a r trace q step made k
+  trace_drawn_first s t p r d trace q (passes_over {u = u} {h = g} a step made rest) k = trace_left_first s u p g a r trace q step made (trace_drawn_first u t g r d trace q rest k)
 
   -- the stop that is due, before others
   trace_due_first : (s : S) (p : P) (stop : Option E) (trace : List (Answered B E)) (q : HoldingStateHere) → HoldingTraceHere (s, (p, None)) trace q → HoldingTraceHere (s, (p, Some stop)) (stop_answer stop ∷ trace) q
@@ -89,19 +80,13 @@ module _ {S P X B E : Type 0} (steps : S → Answered X E → S → Type 0) (ask
 
   trace_one_first : (p : HoldingStateHere) (r : Answered B E) (u : HoldingStateHere) (trace : List (Answered B E)) (q : HoldingStateHere) → holding_step_here p r u → HoldingTraceHere u trace q → HoldingTraceHere p (r ∷ trace) q
   trace_one_first (s, (p, Some stop)) r (t, g) trace q step k = rw step.0 (trace_due_first s p stop trace q (subst (λ (v : S). HoldingTraceHere (v, (p, None)) trace q) step.1 (subst (λ (d : P × Option (Option E)). HoldingTraceHere (t, d) trace q) step.2 k)))
-  trace_one_first (s, (p, None)) r (t, (g, due)) trace q step k = trace_drawn_first s t p step.0 g due step.1 r trace q (passes_of_pass_trace step.2) step.3 k
+  trace_one_first (s, (p, None)) r (t, d) trace q step k = trace_drawn_first s t p r d trace q (stage_of_holding asks steps (s, (p, None)) r (t, d) step) k
 
   trace_run_traced : (trace : List (Answered B E)) (p q : HoldingStateHere) → Run holding_step_here p trace q → HoldingTraceHere p trace q
   trace_run_traced [] p q ran = subst (λ (z : HoldingStateHere). HoldingTraceHere p [] z) ran (record { draws = []; drawn = refl; made = refl; answers = append-nil (due_answer p.1.1); last = tt })
   trace_run_traced (r ∷ trace) p q ran = trace_one_first p r ran.0 trace q ran.1 (trace_run_traced trace ran.0 q ran.2)
 
   -- ---- a trace is a run
-
-  same_stop : (stop other : Option E) → stop_answer {B = B} stop ≡ stop_answer other → stop ≡ other
-  same_stop None None is = refl
-  same_stop None (Some e) is = absurd cc
-  same_stop (Some e) None is = absurd cc
-  same_stop (Some e) (Some d) is = let same : e ≡ d = cc in ap Some same
 
   -- where nothing was drawn
   run_none_drawn : (s : S) (p : P) (due d : Option (Option E)) (trace : List (Answered B E)) → due_answer due ++ [] ≡ trace ++ due_answer d → Run holding_step_here (s, (p, due)) trace (s, (p, d))
@@ -112,7 +97,7 @@ module _ {S P X B E : Type 0} (steps : S → Answered X E → S → Type 0) (ask
   run_none_drawn s p (Some stop) None [] is = absurd cc
   run_none_drawn s p (Some stop) None (r ∷ []) is = let same : stop_answer stop ≡ r = cc in ((s, (p, None)), (sym same, refl, refl), refl)
   run_none_drawn s p (Some stop) None (r ∷ z ∷ trace) is = absurd (let none : [] ≡ z ∷ (trace ++ []) = cc in cc)
-  run_none_drawn s p (Some stop) (Some other) [] is = ap (λ (d : Option E). (s, (p, Some d))) (same_stop stop other (let same : stop_answer {B = B} stop ≡ stop_answer other = cc in same))
+  run_none_drawn s p (Some stop) (Some other) [] is = ap (λ (d : Option (Option E)). (s, (p, d))) (same_due B (Some stop) (Some other) is)
   run_none_drawn s p (Some stop) (Some other) (r ∷ []) is = absurd (let none : [] ≡ stop_answer {B = B} other ∷ [] = cc in cc)
   run_none_drawn s p (Some stop) (Some other) (r ∷ z ∷ trace) is = absurd (let none : [] ≡ z ∷ (trace ++ (stop_answer other ∷ [])) = cc in cc)
 

@@ -1,16 +1,16 @@
 -- The hint of an adapter that puts separators between items.
-use Rattle.std.specs.Prelude.{◌≡◌, ℕ, ◌+◌, ◌-◌, ◌^◌, ◌≤◌, min, cond, ltb, Bool, true, false, Option, Some, None, Result, Ok, Err, List, [], ◌∷◌, length, IfSome}
-use Rattle.std.proofs.Common.{refl, ap, subst, arith}
-use Rattle.fallible_iterator.specs.Traces.{Answered, Yields, item, end}
+use Rattle.std.specs.Prelude.{◌≡◌, ℕ, suc, ◌+◌, ◌-◌, ◌^◌, ◌≤◌, min, cond, ltb, Bool, true, false, Option, Some, None, Result, Ok, Err, IfSome}
+use Rattle.std.proofs.Common.{refl, arith}
+use Rattle.fallible_iterator.specs.Traces.{Answered, item}
 use Rattle.fallible_iterator.specs.Contract.{Contract, seen_as}
+use Rattle.fallible_iterator.specs.Lists.{result_answer}
 use Rattle.fallible_iterator.specs.SoundHints.{Brackets, HintsAsSoundAs}
-use Rattle.fallible_iterator.proofs.Lemmas.Hints.Drawn.{as_sound, as_sound_seen}
+use Rattle.fallible_iterator.proofs.Lemmas.Hints.Drawn.{as_sound, brackets_within}
+use Rattle.fallible_itertools.specs.Staging.{Made, due_total, items_of, made_before, made_total, stage_step}
 use Rattle.fallible_itertools.specs.Holding.{held_one}
-use Rattle.fallible_itertools.specs.Parting.{Separated, PlacedAs, parting_step, parting_contract, unparted, interspersed_items, interspersed_high, fitting}
-
-one_unparted : (started : Bool) → unparted started ≤ 1
-one_unparted true = omega arith
-one_unparted false = omega arith
+use Rattle.fallible_itertools.specs.Parting.{fitting, interspersed_high, interspersed_items, item_comes, parting_contract, parting_meets, parting_stage, parting_step, unparted}
+use Rattle.fallible_itertools.specs.Laws.Parting.{is_stage_parting, stage_of_step}
+use Rattle.fallible_itertools.proofs.Lemmas.StagingHints.{DueFew, MadeFew, MakesAtMost, MakesNoFewer, bounds_above_staged, bounds_below_staged, none_of_stop}
 
 -- more items come of more
 interspersed_items_more : {A : Type 0} (k : Bool × Option A) (i j : ℕ) → i ≤ j → interspersed_items k i ≤ interspersed_items k j
@@ -29,50 +29,47 @@ high_above k None i j le h = tt
 high_above k (Some n) i j le h = fitting_above (interspersed_items k n) i (let more = interspersed_items_more k j n h in omega (arith, le, more))
 
 module _ {Z A E : Type 0} (separates : Z → Result A E → Z → Type 0) where
+  -- how many items come of n items of the source, where none is held
+  abbrev all_parted : Z × Bool → ℕ → ℕ
+  all_parted k n = n + (n - unparted k.1)
+
+  few_at_item : (k : Z × Bool) (x : A) (m : Made A A E) (j : Z × Bool) (n : ℕ) → parting_meets separates k (item x) m j → made_total item_comes items_of m + all_parted j n ≤ all_parted k (suc n)
+  few_at_item (z, false) x m j n w = rw (w.0, w.1) (omega arith)
+  few_at_item (z, true) x m j n w = let few = is_stage_parting separates (z, true) (item x) m j w in rw w.3 (omega (arith, few.0))
+
+  many_parted : (v : Result A E) (x : A) (low : ℕ) → MadeFew item_comes (made_before (result_answer v) x) (λ n. (low - 1) + ((low - 1) - 0) ≤ n) (λ n. low + (low - 0) ≤ n)
+  many_parted (Ok s) x low = λ n after. omega (arith, after)
+  many_parted (Err e) x low = tt
+
+  many_at_item : (k : Z × Bool) (x : A) (m : Made A A E) (j : Z × Bool) (low : ℕ) → parting_meets separates k (item x) m j → MadeFew item_comes m (λ n. all_parted j (low - 1) ≤ n) (λ n. all_parted k low ≤ n)
+  many_at_item (z, false) x m j low w = rw (w.0, w.1) (λ n after. omega (arith, after))
+  many_at_item (z, true) x m j low w = rw (w.2, w.3) (many_parted w.0 x low)
+
+  few_parted : MakesAtMost item_comes (parting_meets separates) all_parted
+  few_parted = record { at_item = few_at_item; at_stop = λ k a m j stop w. let few = is_stage_parting separates k a m j w in let none = none_of_stop a stop in (omega (arith, few.0, none), few.2 stop) }
+
+  many_all_parted : MakesNoFewer item_comes (parting_meets separates) (λ k low n. all_parted k low ≤ n)
+  many_all_parted = record {
+    at_item = many_at_item;
+    at_end = λ k m j w. rw w.0 (omega arith);
+    at_failure = λ k e m j low w. rw w.0 tt;
+  }
+
+  -- the held item is one
+  held_is_due : (due : Option A) → due_total {E = E} item_comes items_of due ≡ held_one due
+  held_is_due None = refl
+  held_is_due (Some x) = refl
+
+  held_before : (k : Z × Bool) (due : Option A) (low : ℕ) → DueFew {E = E} item_comes due (λ n. all_parted k low ≤ n) (λ n. min (interspersed_items (k.1, due) low) (2 ^ 64 - 1) ≤ n)
+  held_before k None low = λ n after. omega (arith, after)
+  held_before k (Some x) low = λ n after. omega (arith, after)
+
   module _ {S : Type 0} (steps : S → Answered A E → S → Type 0) where
-    abbrev StateOfPartingHints : Type 0
-    StateOfPartingHints = S × (Z × (Bool × Option A))
-
-    abbrev StepOfPartingHints : StateOfPartingHints → Answered A E → StateOfPartingHints → Type 0
-    StepOfPartingHints = parting_step separates steps
-
-    -- Items of the source came of which so many items come, but for the one that is held then.
-    abbrev TakenOfPartingHints : ℕ → StateOfPartingHints → StateOfPartingHints → Type 0
-    TakenOfPartingHints n p q = (ys : List A) × Yields steps p.0 ys q.0 × (n + held_one q.1.1.1 ≡ interspersed_items p.1.1 (length ys)) × (unparted q.1.1.0 ≡ unparted p.1.1.0 - length ys)
-
-    placed_takes : (s t : S) (z : Z) (started : Bool) (drawn r : Answered A E) (x : A) (k : Z × (Bool × Option A)) → steps s drawn t → PlacedAs separates z started drawn r k → r ≡ item x → (y : A) × (drawn ≡ item y) × (1 + held_one k.1.1 ≡ interspersed_items {A = A} (started, None) 1) × (unparted k.1.0 ≡ 0)
-    placed_takes s t z started (Ok None) r x k step w is = absurd (let e = w.0 in cc)
-    placed_takes s t z started (Err d) r x k step w is = absurd (let e = w.0 in cc)
-    placed_takes s t z false (Ok (Some y)) r x k step w is = (y, refl, rw w.1 (omega arith), rw w.1 refl)
-    placed_takes s t z true (Ok (Some y)) r x k step w is = (y, refl, rw w.1 (omega arith), rw w.1 refl)
-
-    -- one item, and then the rest
-    taken_item_then : (n : ℕ) (p u q : StateOfPartingHints) (x : A) → StepOfPartingHints p (item x) u → TakenOfPartingHints n u q → TakenOfPartingHints (n + 1) p q
-    taken_item_then n (s, (z, (started, Some y))) (u, j) q x step rest = let at = ap (λ i. i.1) step.2 in (rest.0, subst (λ (w : S). Yields steps w rest.0 q.0) step.1 rest.1, (let many = subst (λ (i : Bool × Option A). n + held_one q.1.1.1 ≡ interspersed_items i (length rest.0)) at rest.2 in omega (arith, many)), (let left = subst (λ (i : Bool × Option A). unparted q.1.1.0 ≡ unparted i.0 - length rest.0) at rest.3 in left))
-    taken_item_then n (s, (z, (started, None))) (u, j) q x step rest = let d = step in let k = placed_takes s u z started d.0 (item x) x j d.1 d.2 refl in
-        (k.0 ∷ rest.0, (u, subst (λ (a : Answered A E). steps s a u) k.1 d.1, rest.1), (let many = rest.2 in let one = k.2 in let none = k.3 in let few = one_unparted started in omega (arith, many, one, none, few)), (let left = rest.3 in let none = k.3 in let few = one_unparted started in omega (arith, left, none, few)))
-
-    taken_run : (xs : List A) (p q : StateOfPartingHints) → Yields StepOfPartingHints p xs q → TakenOfPartingHints (length xs) p q
-    taken_run [] p q ran = subst (λ (u : StateOfPartingHints). TakenOfPartingHints 0 p u) ran ([], refl, omega arith, omega arith)
-    taken_run (x ∷ xs) p q ran = let d = taken_item_then (length xs) p ran.0 q x ran.1 (taken_run xs ran.0 q ran.2) in (d.0, d.1, (let many = d.2 in omega (arith, many)), d.3)
-
-    -- an end is one of the source, where nothing is held
-    placed_end : (s t : S) (z : Z) (started : Bool) (drawn r : Answered A E) (k : Z × (Bool × Option A)) → steps s drawn t → PlacedAs separates z started drawn r k → r ≡ end → steps s end t
-    placed_end s t z started (Ok None) r k step w is = step
-    placed_end s t z started (Err d) r k step w is = absurd (let e = w.0 in cc)
-    placed_end s t z false (Ok (Some y)) r k step w is = absurd (let e = w.0 in cc)
-    placed_end s t z true (Ok (Some y)) r k step w is = absurd (subst (λ (a : Answered A E). Separated separates z a k.0) is w.0)
-
-    end_taken : (p u : StateOfPartingHints) → StepOfPartingHints p end u → steps p.0 end u.0 × (held_one p.1.1.1 ≡ 0)
-    end_taken (s, (z, (started, Some y))) u step = absurd (let e = step.0 in cc)
-    end_taken (s, (z, (started, None))) u step = (placed_end s u.0 z started step.0 end u.1 step.1 step.2 refl, refl)
-
-    brackets_of_parting_hints : (p : StateOfPartingHints) (k : ℕ × Option ℕ) → Brackets steps p.0 k → Brackets StepOfPartingHints p (min (interspersed_items p.1.1 k.0) (2 ^ 64 - 1), interspersed_high p.1.1 k.1)
-    brackets_of_parting_hints p k b = record {
-      above = λ xs q ran. let d = taken_run xs p q ran in high_above p.1.1 k.1 (length xs) (length d.0) (let many = d.2 in omega (arith, many)) (b.above d.0 q.0 d.1);
-      below = λ xs q u ran step. let d = taken_run xs p q ran in let e = end_taken q u step in
-          let low = interspersed_items_more p.1.1 k.0 (length d.0) (b.below d.0 q.0 u.0 d.1 e.0) in let many = d.2 in let none = e.1 in omega (arith, low, many, none);
+    brackets_parted : (s : S) (k : Z × Bool) (due : Option A) (h : ℕ × Option ℕ) → Brackets steps s h → Brackets (stage_step item_comes (parting_meets separates) steps) (s, (k, due)) (min (interspersed_items (k.1, due) h.0) (2 ^ 64 - 1), interspersed_high (k.1, due) h.1)
+    brackets_parted s k due h b = record {
+      above = bounds_above_staged steps item_comes (parting_meets separates) all_parted few_parted h.1 _ s k due (λ n le. high_above (k.1, due) h.1 (due_total {E = E} item_comes items_of due + all_parted k n) n (let one = held_is_due due in omega (arith, one)) le) b.above;
+      below = bounds_below_staged steps item_comes (parting_meets separates) (λ j low n. all_parted j low ≤ n) many_all_parted h.0 _ s k due (held_before k due h.0) b.below;
     }
 
   pub hints_as_sound_parting : {V S : Type 0} (view : V → S × (Z × (Bool × Option A))) (can : Z → Type 0) (m : Contract S A E) (s : V) → HintsAsSoundAs (seen_as view (parting_contract separates can m)) s m (view s).0
-  hints_as_sound_parting view can m s h is = (is.0, is.1, as_sound_seen view (StepOfPartingHints m.steps) s h (as_sound (StepOfPartingHints m.steps) m.steps (view s) (view s).0 (λ n. min (interspersed_items (view s).1.1 n) (2 ^ 64 - 1)) (interspersed_high (view s).1.1) (λ k b. brackets_of_parting_hints m.steps (view s) k b) h is.0 is.2))
+  hints_as_sound_parting view can m s h is = (is.0, is.1, as_sound (λ u r v. parting_step separates m.steps (view u) r (view v)) m.steps s (view s).0 (λ n. min (interspersed_items (view s).1.1 n) (2 ^ 64 - 1)) (interspersed_high (view s).1.1) (λ k b. brackets_within (λ v. parting_stage (view v)) (λ u r v. parting_step separates m.steps (view u) r (view v)) (stage_step item_comes (parting_meets separates) m.steps) (λ u r v w. stage_of_step separates m.steps (view u) r (view v) w) s _ (brackets_parted m.steps (view s).0 ((view s).1.0, (view s).1.1.0) (view s).1.1.1 k b)) h is.0 is.2)

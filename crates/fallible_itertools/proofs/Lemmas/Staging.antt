@@ -1,17 +1,17 @@
 -- The fold of a stage: turns on what is due and on what is made are turns on the adapter's own answers.
-use Rattle.std.specs.Prelude.{◌≡◌, List, [], ◌∷◌, ◌++◌, map, ⊤, Option, Some, None, Ok, Err}
+use Rattle.std.specs.Prelude.{◌≡◌, ℕ, List, [], ◌∷◌, ◌++◌, map, ⊤, Option, Some, None, Ok, Err}
 use Rattle.std.specs.List.{FoldsTo}
 use Rattle.std.proofs.Common.{refl, sym, ap, ◌∙◌, subst, inl, inr}
 use Rattle.fallible_iterator.specs.Traces.{Answered, Run, Yields, item}
 use Rattle.fallible_iterator.specs.Contract.{Contract, KeptByDraws, Lawful}
 use Rattle.fallible_iterator.specs.Closures.{Reaches}
 use Rattle.fallible_iterator.specs.Passing.{IfItem}
-use Rattle.fallible_iterator.specs.Folds.{HoldsAtEachTurn, goes_on, DriveExit, Driven, TurnThrough, beside_names}
+use Rattle.fallible_iterator.specs.Folds.{HoldsAtEachTurn, goes_on, DriveExit, Driven, TurnThrough, beside, beside_names}
 use Rattle.fallible_iterator.specs.Laws.Contract.{kept_by_draws_after, kept_by_draws_here, kept_by_draws_then}
 use Rattle.fallible_iterator.specs.Laws.Closures.{reaches_here, reaches_weaken, reaches_from}
 use Rattle.fallible_iterator.proofs.Lemmas.Folds.{holds_at_first_turn, holds_each_turn_after, driven_after, driven_end, driven_failure, driven_stop, driven_through, names_kept}
 use Rattle.fallible_iterator.proofs.Lemmas.Folding.{drained_after_first, holds_each_turn_after_first}
-use Rattle.fallible_itertools.specs.Staging.{Made, yields, passes_over, due_comes, due_left, stage_step, MayMeet, TakesAll, IsStop, EndsInStop, Told, DueTold, MadeTold, DueTakes, MadeTakes, Met, MetTakes, StageTurns, beside_stage}
+use Rattle.fallible_itertools.specs.Staging.{Made, yields, passes_over, due_comes, due_left, stage_meets, stage_step, stop_answer, MayMeet, TakesAll, IsStage, IsStop, EndsInStop, Told, DueTold, MadeTold, DueTakes, MadeTakes, Met, MetTakes, StageTurns}
 use Rattle.fallible_itertools.specs.Laws.Staging.{met_of_answer, met_before}
 use Rattle.std.specs.declared.ops.ControlFlow.{ControlFlow}
 use Rattle.std.specs.declared.ops.ControlFlow.TheVariants.{Continue, Break}
@@ -53,90 +53,66 @@ module _ {S P X D B L E C R : Type 0} (comes : L → Option (Answered B E)) (mee
   abbrev Steps : State → Answered B E → State → Type 0
   Steps = stage_step comes meets steps
 
-  pub due_stop : (s : S) (p : P) (due : Option L) (c : C) (why : Answered R E) (q : C × Option L) → DueTold turns comes c due (Break why) q → Driven Steps turns (s, (p, due)) c why (s, (p, q.1)) q.0
-  due_stop s p None c why q w = absurd (let e = w.0 in cc)
-  due_stop s p (Some later) c why (d, left) w = rw w.1 (told_stop Steps turns (s, (p, Some later)) (s, (p, due_left later (comes later))) (due_comes (comes later)) why c d (refl, refl, refl) w.0)
+  due_stop : (s : S) (p : P) (due : Option L) (c : C) (told : Answered R E × Option L) (d : C) → DueTold turns comes c due (Break told) d → Driven Steps turns (s, (p, due)) c told.0 (s, (p, told.1)) d
+  due_stop s p None c told d w = absurd (let e = w.0 in cc)
+  due_stop s p (Some later) c (why, left) d w = rw w.1 (told_stop Steps turns (s, (p, Some later)) (s, (p, due_left later (comes later))) (due_comes (comes later)) why c d (refl, refl, refl) w.0)
 
   -- a fold that went on after what was due: nothing is due then
   none_left_of : (later : L) (came : Option (Answered B E)) (c d : C) → Told {R = R} turns c (due_comes came) (Continue tt) d → due_left later came ≡ None
   none_left_of later (Some a) c d w = refl
   none_left_of later None c d w = absurd w
 
-  none_due : (due : Option L) (c : C) (q : C × Option L) → DueTold {R = R} turns comes c due (Continue tt) q → q.1 ≡ None
-  none_due None c q w = ap (λ (z : C × Option L). z.1) w.1
-  none_due (Some later) c q w = w.1 ∙ none_left_of later (comes later) c q.0 w.0
+  due_on : (s : S) (p : P) (due : Option L) (c : C) (why : Answered R E) (k : C) (u : State) (z : C) → DueTold {R = R} turns comes c due (Continue tt) k → Driven Steps turns (s, (p, None)) k why u z → Driven Steps turns (s, (p, due)) c why u z
+  due_on s p None c why k u z w rest = (rw w.1 at rest)
+  due_on s p (Some later) c why k u z w rest = told_on Steps turns (s, (p, Some later)) (s, (p, None)) u (due_comes (comes later)) why c k z (refl, refl, ap (λ (l : Option L). (p, l)) (sym (none_left_of later (comes later) c k w))) w rest
 
-  due_on : (s : S) (p : P) (due : Option L) (c : C) (why : Answered R E) (q : C × Option L) (u : State) (z : C) → DueTold {R = R} turns comes c due (Continue tt) q → Driven Steps turns (s, (p, None)) q.0 why u z → Driven Steps turns (s, (p, due)) c why u z
-  due_on s p None c why q u z w rest = (rw w.1 at rest)
-  due_on s p (Some later) c why q u z w rest = told_on Steps turns (s, (p, Some later)) (s, (p, None)) u (due_comes (comes later)) why c q.0 z (refl, refl, ap (λ (k : Option L). (p, k)) (sym (none_left_of later (comes later) c q.0 w.0))) w.0 rest
+  made_stop : (s t : S) (p h : P) (a : Answered X D) (made : Made B L E) (c : C) (told : Answered R E × Option L) (d : C) → steps s a t → meets p a made h → MadeTold turns comes c made (Break told) d → Driven Steps turns (s, (p, None)) c told.0 (t, (h, told.1)) d
+  made_stop s t p h a None c told d step called w = absurd (let e = w.0 in cc)
+  made_stop s t p h a (Some (b, due)) c told d step called (inl w) = told_on Steps turns (s, (p, None)) (t, (h, due)) (t, (h, told.1)) b told.0 c w.0 d (yields a step called) w.1 (due_stop t h due w.0 told d w.2)
+  made_stop s t p h a (Some (b, due)) c told d step called (inr w) = let same : told ≡ (w.0, due) = (let e = w.2 in cc) in rw same (told_stop Steps turns (s, (p, None)) (t, (h, due)) b w.0 c d (yields a step called) w.1)
 
-  made_stop : (s t : S) (p h : P) (a : Answered X D) (made : Made B L E) (c : C) (why : Answered R E) (q : C × Option L) → steps s a t → meets p a made h → MadeTold turns comes c made (Break why) q → Driven Steps turns (s, (p, None)) c why (t, (h, q.1)) q.0
-  made_stop s t p h a None c why q step called w = absurd (let e = w.0 in cc)
-  made_stop s t p h a (Some (b, due)) c why q step called (inl w) = told_on Steps turns (s, (p, None)) (t, (h, due)) (t, (h, q.1)) b why c w.0 q.0 (yields a step called) w.1 (due_stop t h due w.0 why q w.2)
-  made_stop s t p h a (Some (b, due)) c why (d, left) step called (inr w) = let same : why ≡ w.0 = (let e = w.2 in cc) in rw (same, w.3) (told_stop Steps turns (s, (p, None)) (t, (h, due)) b w.0 c d (yields a step called) w.1)
-
-  made_left : (made : Made B L E) (c : C) (q : C × Option L) → MadeTold {R = R} turns comes c made (Continue tt) q → q.1 ≡ None
-  made_left None c q w = ap (λ (z : C × Option L). z.1) w.1
-  made_left (Some (b, due)) c q (inl w) = none_due due w.0 q w.2
-  made_left (Some (b, due)) c q (inr w) = absurd (let e = w.2 in cc)
-
-  made_on : (s t : S) (p h : P) (a : Answered X D) (made : Made B L E) (c : C) (why : Answered R E) (q : C × Option L) (u : State) (z : C) → steps s a t → meets p a made h → MadeTold {R = R} turns comes c made (Continue tt) q → Driven Steps turns (t, (h, None)) q.0 why u z → Driven Steps turns (s, (p, None)) c why u z
-  made_on s t p h a None c why q u z step called w rest = drained_after_first (λ r v more. passes_over a step called more) (rw w.1 at rest)
-  made_on s t p h a (Some (b, due)) c why q u z step called (inl w) rest = told_on Steps turns (s, (p, None)) (t, (h, due)) u b why c w.0 z (yields a step called) w.1 (due_on t h due w.0 why q u z w.2 rest)
-  made_on s t p h a (Some (b, due)) c why q u z step called (inr w) rest = absurd (let e = w.2 in cc)
+  made_on : (s t : S) (p h : P) (a : Answered X D) (made : Made B L E) (c : C) (why : Answered R E) (k : C) (u : State) (z : C) → steps s a t → meets p a made h → MadeTold {R = R} turns comes c made (Continue tt) k → Driven Steps turns (t, (h, None)) k why u z → Driven Steps turns (s, (p, None)) c why u z
+  made_on s t p h a None c why k u z step called w rest = drained_after_first (λ r v more. passes_over a step called more) (rw w.1 at rest)
+  made_on s t p h a (Some (b, due)) c why k u z step called (inl w) rest = told_on Steps turns (s, (p, None)) (t, (h, due)) u b why c w.0 z (yields a step called) w.1 (due_on t h due w.0 why k u z w.2 rest)
+  made_on s t p h a (Some (b, due)) c why k u z step called (inr w) rest = absurd (let e = w.2 in cc)
 
   module _ (Q : C → B → Type 0) where
     abbrev HoldsHere : State → C → Type 0
     HoldsHere s c = HoldsAtEachTurn Steps (goes_on turns) Q s c
 
-    due_holds : (s : S) (p : P) (due : Option L) (c : C) (q : C × Option L) → DueTold {R = R} turns comes c due (Continue tt) q → HoldsHere (s, (p, due)) c → HoldsHere (s, (p, None)) q.0
-    due_holds s p None c q w h = rw w.1 h
-    due_holds s p (Some later) c q w h = told_holds Steps turns Q (s, (p, Some later)) (s, (p, None)) (due_comes (comes later)) c q.0 (refl, refl, ap (λ (k : Option L). (p, k)) (sym (none_left_of later (comes later) c q.0 w.0))) w.0 h
+    due_holds : (s : S) (p : P) (due : Option L) (c k : C) → DueTold {R = R} turns comes c due (Continue tt) k → HoldsHere (s, (p, due)) c → HoldsHere (s, (p, None)) k
+    due_holds s p None c k w h = rw w.1 h
+    due_holds s p (Some later) c k w h = told_holds Steps turns Q (s, (p, Some later)) (s, (p, None)) (due_comes (comes later)) c k (refl, refl, ap (λ (l : Option L). (p, l)) (sym (none_left_of later (comes later) c k w))) w h
 
     due_takes : (s : S) (p : P) (due : Option L) (c : C) → HoldsHere (s, (p, due)) c → DueTakes {R = R} turns comes Q c due
     due_takes s p None c h = tt
     due_takes s p (Some later) c h = told_takes Steps turns Q (s, (p, Some later)) (s, (p, due_left later (comes later))) (due_comes (comes later)) c (refl, refl, refl) h
 
-    made_holds : (s t : S) (p h : P) (a : Answered X D) (made : Made B L E) (c : C) (q : C × Option L) → steps s a t → meets p a made h → MadeTold {R = R} turns comes c made (Continue tt) q → HoldsHere (s, (p, None)) c → HoldsHere (t, (h, None)) q.0
-    made_holds s t p h a None c q step called w holds = rw w.1 (holds_each_turn_after_first (λ r v more. passes_over a step called more) holds)
-    made_holds s t p h a (Some (b, due)) c q step called (inl w) holds = due_holds t h due w.0 q w.2 (told_holds Steps turns Q (s, (p, None)) (t, (h, due)) b c w.0 (yields a step called) w.1 holds)
-    made_holds s t p h a (Some (b, due)) c q step called (inr w) holds = absurd (let e = w.2 in cc)
+    made_holds : (s t : S) (p h : P) (a : Answered X D) (made : Made B L E) (c k : C) → steps s a t → meets p a made h → MadeTold {R = R} turns comes c made (Continue tt) k → HoldsHere (s, (p, None)) c → HoldsHere (t, (h, None)) k
+    made_holds s t p h a None c k step called w holds = rw w.1 (holds_each_turn_after_first (λ r v more. passes_over a step called more) holds)
+    made_holds s t p h a (Some (b, due)) c k step called (inl w) holds = due_holds t h due w.0 k w.2 (told_holds Steps turns Q (s, (p, None)) (t, (h, due)) b c w.0 (yields a step called) w.1 holds)
+    made_holds s t p h a (Some (b, due)) c k step called (inr w) holds = absurd (let e = w.2 in cc)
 
     made_takes : (s t : S) (p h : P) (a : Answered X D) (made : Made B L E) (c : C) → steps s a t → meets p a made h → HoldsHere (s, (p, None)) c → MadeTakes turns comes Q c made
     made_takes s t p h a None c step called holds = tt
     made_takes s t p h a (Some (b, due)) c step called holds = (told_takes Steps turns Q (s, (p, None)) (t, (h, due)) b c (yields a step called) holds, (λ d w. due_takes t h due d (told_holds Steps turns Q (s, (p, None)) (t, (h, due)) b c d (yields a step called) w holds)))
 
-  -- a stop makes a stop, so the fold doesn't go on
-  told_no_more : (a : Answered B E) (c d : C) → IsStop a → Told {R = R} turns c a (Continue tt) d → ⊥
-  told_no_more (Ok (Some y)) c d stop w = stop
-  told_no_more (Ok None) c d stop w = w
-  told_no_more (Err e) c d stop w = w
-
-  pub stop_breaks : (made : Made B L E) (c : C) (q : C × Option L) → EndsInStop comes made → MadeTold {R = R} turns comes c made (Continue tt) q → ⊥
-  stop_breaks None c q stop w = stop
-  stop_breaks (Some (a, None)) c q stop (inl w) = told_no_more a c w.0 stop w.1
-  stop_breaks (Some (a, Some later)) c q stop (inl w) = told_no_more (due_comes (comes later)) w.0 q.0 stop w.2.0
-  stop_breaks (Some (a, due)) c q stop (inr w) = let e = w.2 in absurd cc
-
   -- ---- the source's fold
 
-  abbrev Turns : C × (P × Option L) → X → ControlFlow (Answered R E) (Unit {0}) → C × (P × Option L) → Type 0
+  abbrev Turns : C × P → X → ControlFlow (Answered R E × Option L) (Unit {0}) → C × P → Type 0
   Turns = StageTurns comes meets turns
 
   -- what turns on items of the source leave
-  pub record Onward (Q : C → B → Type 0) (s : S) (p : C × (P × Option L)) (t : S) (q : C × (P × Option L)) : Type 0 where
-    pub left : q.1.1 ≡ None
-    pub holds : HoldsAtEachTurn Steps (goes_on turns) Q (s, (p.1.0, None)) p.0 → HoldsAtEachTurn Steps (goes_on turns) Q (t, (q.1.0, None)) q.0
-    pub driven : (why : Answered R E) (u : State) (z : C) → Driven Steps turns (t, (q.1.0, None)) q.0 why u z → Driven Steps turns (s, (p.1.0, None)) p.0 why u z
+  pub record Onward (Q : C → B → Type 0) (s : S) (p : C × P) (t : S) (q : C × P) : Type 0 where
+    pub holds : HoldsAtEachTurn Steps (goes_on turns) Q (s, (p.1, None)) p.0 → HoldsAtEachTurn Steps (goes_on turns) Q (t, (q.1, None)) q.0
+    pub driven : (why : Answered R E) (u : State) (z : C) → Driven Steps turns (t, (q.1, None)) q.0 why u z → Driven Steps turns (s, (p.1, None)) p.0 why u z
 
-  onward : (Q : C → B → Type 0) (items : List X) (s t : S) (p q : C × (P × Option L)) → p.1.1 ≡ None → Yields steps s items t → FoldsTo (goes_on Turns) p items q → Onward Q s p t q
-  onward Q [] s t p q undue ran went = rw (sym ran, sym went) (record { left = undue; holds = λ h. h; driven = λ why u z h. h })
-  onward Q (x ∷ items) s t p q undue ran went = let k = went.0 in let met = went.1 in
-      let rest = onward Q items ran.0 t k q (made_left met.0 p.0 (k.0, k.1.1) met.2) ran.2 went.2 in record {
-        left = rest.left;
-        holds = λ h. rest.holds (made_holds Q s ran.0 p.1.0 k.1.0 (item x) met.0 p.0 (k.0, k.1.1) ran.1 met.1 met.2 h);
-        driven = λ why u z h. made_on s ran.0 p.1.0 k.1.0 (item x) met.0 p.0 why (k.0, k.1.1) u z ran.1 met.1 met.2 (rest.driven why u z h);
-      }
+  onward : (Q : C → B → Type 0) (items : List X) (s t : S) (p q : C × P) → Yields steps s items t → FoldsTo (goes_on Turns) p items q → Onward Q s p t q
+  onward Q [] s t p q ran went = rw (sym ran, sym went) (record { holds = λ h. h; driven = λ why u z h. h })
+  onward Q (x ∷ items) s t p q ran went = let k = went.0 in let met = went.1 in let rest = onward Q items ran.0 t k q ran.2 went.2 in record {
+    holds = λ h. rest.holds (made_holds Q s ran.0 p.1 k.1 (item x) met.0 p.0 k.0 ran.1 met.1 met.2 h);
+    driven = λ why u z h. made_on s ran.0 p.1 k.1 (item x) met.0 p.0 why k.0 u z ran.1 met.1 met.2 (rest.driven why u z h);
+  }
 
   -- the draws before the last one
   split_last : (items : List X) (last : Answered X D) (s t : S) → Run steps s (map item items ++ last ∷ []) t → (u : S) × Yields steps s items u × steps u last t
@@ -144,7 +120,7 @@ module _ {S P X D B L E C R : Type 0} (comes : L → Option (Answered B E)) (mee
   split_last (x ∷ items) last s t ran = let k = split_last items last ran.0 t ran.2 in (k.0, (ran.0, ran.1, k.1), k.2)
 
   -- the fold up to the answer a of the source, on which the adapter's turn is taken next
-  pub record UpTo (Q : C → B → Type 0) (s : S) (p : C × (P × Option L)) (a : Answered X D) (t : S) (k : C × (P × Option L)) : Type 0 where
+  pub record UpTo (Q : C → B → Type 0) (s : S) (p : C × P) (a : Answered X D) (t : S) (k : C × P) : Type 0 where
     pub items : List X
     pub before : S
     pub ran : Yields steps s items before
@@ -153,38 +129,38 @@ module _ {S P X D B L E C R : Type 0} (comes : L → Option (Answered B E)) (mee
     pub on : Onward Q s p before k
 
   -- what the adapter makes of that answer stops the fold
-  pub driven_by_met : (Q : C → B → Type 0) (s t : S) (p k : C × (P × Option L)) (a : Answered X D) (why : Answered R E) (q : C × (P × Option L)) → UpTo Q s p a t k → Met comes meets turns k a (Break why) q → Driven Steps turns (s, (p.1.0, None)) p.0 why (t, q.1) q.0
-  driven_by_met Q s t p k a why q up met = up.on.driven why (t, q.1) q.0 (made_stop up.before t k.1.0 q.1.0 a met.0 k.0 why (q.0, q.1.1) up.step met.1 met.2)
+  driven_by_met : (Q : C → B → Type 0) (s t : S) (p k : C × P) (a : Answered X D) (told : Answered R E × Option L) (q : C × P) → UpTo Q s p a t k → Met comes meets turns k a (Break told) q → Driven Steps turns (s, (p.1, None)) p.0 told.0 (t, (q.1, told.1)) q.0
+  driven_by_met Q s t p k a told q up met = up.on.driven told.0 (t, (q.1, told.1)) q.0 (made_stop up.before t k.1 q.1 a met.0 k.0 told q.0 up.step met.1 met.2)
 
-  module _ (Q : C → B → Type 0) (s t : S) (p q : C × (P × Option L)) (undue : p.1.1 ≡ None) where
-    up_to : (r : Answered (Answered R E) D) (w : Driven steps Turns s p r t q) → UpTo Q s p w.last t w.at.carried
-    up_to r w = let k = split_last w.items w.last s t w.ran in record { items = w.items; before = k.0; ran = k.1; went = w.at.went; step = k.2; on = onward Q w.items s k.0 p w.at.carried undue k.1 w.at.went }
+  module _ (Q : C → B → Type 0) (s t : S) (p q : C × P) where
+    up_to : (r : Answered (Answered R E × Option L) D) (w : Driven steps Turns s p r t q) → UpTo Q s p w.last t w.at.carried
+    up_to r w = let k = split_last w.items w.last s t w.ran in record { items = w.items; before = k.0; ran = k.1; went = w.at.went; step = k.2; on = onward Q w.items s k.0 p w.at.carried k.1 w.at.went }
 
     -- the source ended
-    ended : (last : Answered X D) (k : C × (P × Option L)) → DriveExit Turns k last (Ok None) q → UpTo Q s p last t k → UpTo Q s p (Ok None) t q
+    ended : (last : Answered X D) (k : C × P) → DriveExit Turns k last (Ok None) q → UpTo Q s p last t k → UpTo Q s p (Ok None) t q
     ended (Ok None) k e up = rw e.1 up
     ended (Ok (Some x)) k e up = absurd (let f = e.2 in cc)
     ended (Err d) k e up = absurd (let f = e.0 in cc)
 
-    pub up_to_end : Driven steps Turns s p (Ok None) t q → UpTo Q s p (Ok None) t q
+    up_to_end : Driven steps Turns s p (Ok None) t q → UpTo Q s p (Ok None) t q
     up_to_end w = ended w.last w.at.carried w.at.exit (up_to (Ok None) w)
 
-    failed : (e : D) (last : Answered X D) (k : C × (P × Option L)) → DriveExit Turns k last (Err e) q → UpTo Q s p last t k → UpTo Q s p (Err e) t q
+    failed : (e : D) (last : Answered X D) (k : C × P) → DriveExit Turns k last (Err e) q → UpTo Q s p last t k → UpTo Q s p (Err e) t q
     failed e (Ok None) k at up = absurd (let f = at.0 in cc)
     failed e (Ok (Some x)) k at up = absurd (let f = at.2 in cc)
     failed e (Err d) k at up = let same : e ≡ d = (let f = at.0 in cc) in rw (same, at.1) up
 
-    pub up_to_failure : (e : D) → Driven steps Turns s p (Err e) t q → UpTo Q s p (Err e) t q
+    up_to_failure : (e : D) → Driven steps Turns s p (Err e) t q → UpTo Q s p (Err e) t q
     up_to_failure e w = failed e w.last w.at.carried w.at.exit (up_to (Err e) w)
 
     -- an item stopped it
-    stopped : (why : Answered R E) (last : Answered X D) (k : C × (P × Option L)) → DriveExit Turns k last (Ok (Some why)) q → UpTo Q s p last t k → Driven Steps turns (s, (p.1.0, None)) p.0 why (t, q.1) q.0
-    stopped why (Ok None) k e up = absurd (let f = e.0 in cc)
-    stopped why (Err d) k e up = absurd (let f = e.0 in cc)
-    stopped why (Ok (Some x)) k e up = let same : why ≡ e.0 = (let f = e.2 in cc) in rw same (driven_by_met Q s t p k (item x) e.0 q up e.1)
+    stopped : (told : Answered R E × Option L) (last : Answered X D) (k : C × P) → DriveExit Turns k last (Ok (Some told)) q → UpTo Q s p last t k → Driven Steps turns (s, (p.1, None)) p.0 told.0 (t, (q.1, told.1)) q.0
+    stopped told (Ok None) k e up = absurd (let f = e.0 in cc)
+    stopped told (Err d) k e up = absurd (let f = e.0 in cc)
+    stopped told (Ok (Some x)) k e up = let same : told ≡ e.0 = (let f = e.2 in cc) in rw same (driven_by_met Q s t p k (item x) e.0 q up e.1)
 
-    pub driven_stopped : (why : Answered R E) → Driven steps Turns s p (Ok (Some why)) t q → Driven Steps turns (s, (p.1.0, None)) p.0 why (t, q.1) q.0
-    driven_stopped why w = stopped why w.last w.at.carried w.at.exit (up_to (Ok (Some why)) w)
+    driven_stopped : (told : Answered R E × Option L) → Driven steps Turns s p (Ok (Some told)) t q → Driven Steps turns (s, (p.1, None)) p.0 told.0 (t, (q.1, told.1)) q.0
+    driven_stopped told w = stopped told w.last w.at.carried w.at.exit (up_to (Ok (Some told)) w)
 
 module _ {S P X D B L E : Type 0} (comes : L → Option (Answered B E)) (meets : P → Answered X D → Made B L E → P → Type 0) (steps : S → Answered X D → S → Type 0) where
   -- where nothing is due, what a draw makes is one answer
@@ -194,66 +170,92 @@ module _ {S P X D B L E : Type 0} (comes : L → Option (Answered B E)) (meets :
 -- ---- the whole fold
 
 module _ {S P X D B L E C R : Type 0} (comes : L → Option (Answered B E)) (meets : P → Answered X D → Made B L E → P → Type 0) (steps : S → Answered X D → S → Type 0) (turns : C → B → ControlFlow R (Unit {0}) → C → Type 0) where
-  -- what is due stopped it
-  pub fold_due_stopped : {s : S} {p : P × Option L} {c : C} {why : Answered R E} {q : C × (P × Option L)} → q.1.0 ≡ p.0 → DueTold turns comes c p.1 (Break why) (q.0, q.1.1) → Driven (stage_step comes meets steps) turns (s, p) c why (s, q.1) q.0
-  fold_due_stopped {s = s} {p = p} {c = c} {why = why} {q = q} kept told = subst (λ (h : P). Driven (stage_step comes meets steps) turns (s, p) c why (s, (h, q.1.1)) q.0) (sym kept) (due_stop comes meets steps turns s p.0 p.1 c why (q.0, q.1.1) told)
+  module _ {s : S} {p : P × Option L} {c : C} where
+    -- what is due stopped it
+    pub fold_due_stopped : {told : Answered R E × Option L} {d : C} → DueTold turns comes c p.1 (Break told) d → Driven (stage_step comes meets steps) turns (s, p) c told.0 (s, (p.0, told.1)) d
+    fold_due_stopped {told = told} {d = d} w = due_stop comes meets steps turns s p.0 p.1 c told d w
 
-  after_due : (s t : S) (p : P × Option L) (c : C) (k : C × (P × Option L)) (why : Answered R E) (q : C × (P × Option L)) → k.1.0 ≡ p.0 → DueTold {R = R} turns comes c p.1 (Continue tt) (k.0, k.1.1) → Driven (stage_step comes meets steps) turns (s, (k.1.0, None)) k.0 why (t, q.1) q.0 → Driven (stage_step comes meets steps) turns (s, p) c why (t, q.1) q.0
-  after_due s t p c k why q kept told w = due_on comes meets steps turns s p.0 p.1 c why (k.0, k.1.1) (t, q.1) q.0 told (subst (λ (h : P). Driven (stage_step comes meets steps) turns (s, (h, None)) k.0 why (t, q.1) q.0) kept w)
+    -- it went on after that
+    pub fold_after_due : {k : C} {why : Answered R E} {u : S × (P × Option L)} {z : C} → DueTold {R = R} turns comes c p.1 (Continue tt) k → Driven (stage_step comes meets steps) turns (s, (p.0, None)) k why u z → Driven (stage_step comes meets steps) turns (s, p) c why u z
+    fold_after_due {k = k} {why = why} {u = u} {z = z} w rest = due_on comes meets steps turns s p.0 p.1 c why k u z w rest
 
-  none_left : (p : P × Option L) (c : C) (k : C × (P × Option L)) → DueTold {R = R} turns comes c p.1 (Continue tt) (k.0, k.1.1) → k.1.1 ≡ None
-  none_left p c k told = none_due comes meets steps turns p.1 c (k.0, k.1.1) told
+  -- where nothing is due
+  module _ {s t : S} {p q : C × P} where
+    pub fold_stopped : {told : Answered R E × Option L} → Driven steps (StageTurns comes meets turns) s p (Ok (Some told)) t q → Driven (stage_step comes meets steps) turns (s, (p.1, None)) p.0 told.0 (t, (q.1, told.1)) q.0
+    fold_stopped {told = told} w = driven_stopped comes meets steps turns (λ c y. ⊤) s t p q told w
 
-  module _ {s t : S} {p : P × Option L} {c : C} {k : C × (P × Option L)} (kept : k.1.0 ≡ p.0) (told : DueTold {R = R} turns comes c p.1 (Continue tt) (k.0, k.1.1)) where
-    pub fold_stopped : {why : Answered R E} {q : C × (P × Option L)} → Driven steps (StageTurns comes meets turns) s k (Ok (Some why)) t q → Driven (stage_step comes meets steps) turns (s, p) c why (t, q.1) q.0
-    fold_stopped {why = why} {q = q} w = after_due s t p c k why q kept told (driven_stopped comes meets steps turns (λ c y. ⊤) s t k q (none_left p c k told) why w)
+    module _ {k : C × P} {told : Answered R E × Option L} where
+      pub fold_ended : Driven steps (StageTurns comes meets turns) s p (Ok None) t k → Met comes meets turns k (Ok None) (Break told) q → Driven (stage_step comes meets steps) turns (s, (p.1, None)) p.0 told.0 (t, (q.1, told.1)) q.0
+      fold_ended w met = driven_by_met comes meets steps turns (λ c y. ⊤) s t p k (Ok None) told q (up_to_end comes meets steps turns (λ c y. ⊤) s t p k w) met
 
-    pub fold_ended : {why : Answered R E} {h q : C × (P × Option L)} → Driven steps (StageTurns comes meets turns) s k (Ok None) t h → Met comes meets turns h (Ok None) (Break why) q → Driven (stage_step comes meets steps) turns (s, p) c why (t, q.1) q.0
-    fold_ended {why = why} {h = h} {q = q} w met = after_due s t p c k why q kept told (driven_by_met comes meets steps turns (λ c y. ⊤) s t k h (Ok None) why q (up_to_end comes meets steps turns (λ c y. ⊤) s t k h (none_left p c k told) w) met)
-
-    pub fold_failed : {why : Answered R E} {h q : C × (P × Option L)} {e : D} → Driven steps (StageTurns comes meets turns) s k (Err e) t h → Met comes meets turns h (Err e) (Break why) q → Driven (stage_step comes meets steps) turns (s, p) c why (t, q.1) q.0
-    fold_failed {why = why} {h = h} {q = q} {e = e} w met = after_due s t p c k why q kept told (driven_by_met comes meets steps turns (λ c y. ⊤) s t k h (Err e) why q (up_to_failure comes meets steps turns (λ c y. ⊤) s t k h (none_left p c k told) e w) met)
+      pub fold_failed : {e : D} → Driven steps (StageTurns comes meets turns) s p (Err e) t k → Met comes meets turns k (Err e) (Break told) q → Driven (stage_step comes meets steps) turns (s, (p.1, None)) p.0 told.0 (t, (q.1, told.1)) q.0
+      fold_failed {e = e} w met = driven_by_met comes meets steps turns (λ c y. ⊤) s t p k (Err e) told q (up_to_failure comes meets steps turns (λ c y. ⊤) s t p k e w) met
 
 -- a fold on what references point to, which come back
-pub driven_beside : {S A E C Q W R : Type 0} {steps : S → Answered A E → S → Type 0} (seen : Q → W) {turns : C × W → A → ControlFlow R (Unit {0}) → C × W → Type 0} {s t : S} {b d : Beside C Q} {r : Answered R E} (f : Q) (c : C) → Driven steps (TurnThrough (beside_stage seen) beside_names turns) s b r t d → (d.p.ghost_name ≡ b.p.ghost_name → f ≡ d.p.now) → (d.c.ghost_name ≡ b.c.ghost_name → c ≡ d.c.now) → Driven steps turns s (b.c.now, seen b.p.now) r t (c, seen f)
-driven_beside seen {turns = turns} f c w is_f is_c = let same = names_kept (beside_stage seen) beside_names turns w in rw (is_f (ap (λ z. z.1) same), is_c (ap (λ z. z.0) same)) (driven_through (beside_stage seen) beside_names turns w)
+pub driven_beside : {S A E C P R : Type 0} {steps : S → Answered A E → S → Type 0} {turns : C × P → A → ControlFlow R (Unit {0}) → C × P → Type 0} {s t : S} {b d : Beside C P} {r : Answered R E} (f : P) (c : C) → Driven steps (TurnThrough beside beside_names turns) s b r t d → (d.p.ghost_name ≡ b.p.ghost_name → f ≡ d.p.now) → (d.c.ghost_name ≡ b.c.ghost_name → c ≡ d.c.now) → Driven steps turns s (b.c.now, b.p.now) r t (c, f)
+driven_beside {turns = turns} f c w is_f is_c = let same = names_kept beside beside_names turns w in rw (is_f (ap (λ z. z.1) same), is_c (ap (λ z. z.0) same)) (driven_through beside beside_names turns w)
 
 -- ---- where the turn may be taken
 
 module _ {S P X D B L E C R : Type 0} {m : Contract S X D} (l : Lawful m) (comes : L → Option (Answered B E)) (meets : P → Answered X D → Made B L E → P → Type 0) (turns : C → B → ControlFlow R (Unit {0}) → C → Type 0) (takes : P → X → Type 0) (Q : C → B → Type 0) where
-  reached_by_items : (items : List X) (s t : S) (p q : C × (P × Option L)) → m.can_next s → Yields m.steps s items t → FoldsTo (goes_on (StageTurns comes meets turns)) p items q → KeptByDraws m s t × Reaches meets (MayMeet m s) p.1.0 q.1.0
+  abbrev HoldsThere : S × (P × Option L) → C → Type 0
+  HoldsThere s c = HoldsAtEachTurn (stage_step comes meets m.steps) (goes_on turns) Q s c
+
+  reached_by_items : (items : List X) (s t : S) (p q : C × P) → m.can_next s → Yields m.steps s items t → FoldsTo (goes_on (StageTurns comes meets turns)) p items q → KeptByDraws m s t × Reaches meets (MayMeet m s) p.1 q.1
   reached_by_items [] s t p q c ran went = rw (sym ran, sym went) (kept_by_draws_here c, reaches_here)
   reached_by_items (x ∷ items) s t p q c ran went = let g = l.kept_by_draw s (item x) ran.0 c ran.1 in let k = kept_by_draws_after g in let met = went.1 in let rest = reached_by_items items ran.0 t went.0 q g.can_next ran.2 went.2 in
       (kept_by_draws_then k rest.0, reaches_from (item x) met.0 (met_of_answer m s ran.0 (item x) g.answer) met.1 (reaches_weaken (met_before m s ran.0 k) rest.1))
 
-  pub met_takes : (s t : S) (p k : C × (P × Option L)) (a : Answered X D) → m.can_next s → TakesAll m meets takes s p.1.0 → HoldsAtEachTurn (stage_step comes meets m.steps) (goes_on turns) Q (s, (p.1.0, None)) p.0 → UpTo comes meets m.steps turns Q s p a t k → MetTakes comes meets turns takes Q k a
+  met_takes : (s t : S) (p k : C × P) (a : Answered X D) → m.can_next s → TakesAll m meets takes s p.1 → HoldsThere (s, (p.1, None)) p.0 → UpTo comes meets m.steps turns Q s p a t k → MetTakes comes meets turns takes Q k a
   met_takes s t p k a c callable holds up = let r = reached_by_items up.items s up.before p k c up.ran up.went in (
-    up.on.left,
-    callable.at k.1.0 a r.1 (met_before m s up.before r.0 a (met_of_answer m up.before t a (l.kept_by_draw up.before a t r.0.can_next up.step).answer)),
-    (λ made h called. made_takes comes meets m.steps turns Q up.before t k.1.0 h a made k.0 up.step called (up.on.holds holds)),
+    callable.at k.1 a r.1 (met_before m s up.before r.0 a (met_of_answer m up.before t a (l.kept_by_draw up.before a t r.0.can_next up.step).answer)),
+    (λ made h called. made_takes comes meets m.steps turns Q up.before t k.1 h a made k.0 up.step called (up.on.holds holds)),
   )
 
-  pub takes_at_each_item : (s : S) (p : C × (P × Option L)) → p.1.1 ≡ None → m.can_next s → TakesAll m meets takes s p.1.0 → HoldsAtEachTurn (stage_step comes meets m.steps) (goes_on turns) Q (s, (p.1.0, None)) p.0 → HoldsAtEachTurn m.steps (goes_on (StageTurns comes meets turns)) (λ b x. MetTakes comes meets turns takes Q b (item x)) s p
-  takes_at_each_item s p undue c callable holds = record {
-    at = λ items t u k x ran went step. met_takes s u p k (item x) c callable holds (record { items = items; before = t; ran = ran; went = went; step = step; on = onward comes meets m.steps turns Q items s t p k undue ran went });
-  }
+  -- where nothing is due
+  module _ {s : S} {p : C × P} (can : m.can_next s) (callable : TakesAll m meets takes s p.1) (holds : HoldsThere (s, (p.1, None)) p.0) where
+    pub takes_at_items : HoldsAtEachTurn m.steps (goes_on (StageTurns comes meets turns)) (λ b x. MetTakes comes meets turns takes Q b (item x)) s p
+    takes_at_items = record {
+      at = λ items t u k x ran went step. met_takes s u p k (item x) can callable holds (record { items = items; before = t; ran = ran; went = went; step = step; on = onward comes meets m.steps turns Q items s t p k ran went });
+    }
 
-  callable_kept : (s : S) (p : P × Option L) (k : C × (P × Option L)) → k.1.0 ≡ p.0 → TakesAll m meets takes s p.0 → TakesAll m meets takes s k.1.0
-  callable_kept s p k kept callable = subst (λ (h : P). TakesAll m meets takes s h) (sym kept) callable
+    module _ {t : S} {k : C × P} where
+      pub takes_at_end : Driven m.steps (StageTurns comes meets turns) s p (Ok None) t k → MetTakes comes meets turns takes Q k (Ok None)
+      takes_at_end w = met_takes s t p k (Ok None) can callable holds (up_to_end comes meets m.steps turns Q s t p k w)
 
-  holds_kept : (s : S) (p : P × Option L) (c : C) (k : C × (P × Option L)) → k.1.0 ≡ p.0 → DueTold {R = R} turns comes c p.1 (Continue tt) (k.0, k.1.1) → HoldsAtEachTurn (stage_step comes meets m.steps) (goes_on turns) Q (s, p) c → HoldsAtEachTurn (stage_step comes meets m.steps) (goes_on turns) Q (s, (k.1.0, None)) k.0
-  holds_kept s p c k kept told holds = subst (λ (h : P). HoldsAtEachTurn (stage_step comes meets m.steps) (goes_on turns) Q (s, (h, None)) k.0) (sym kept) (due_holds comes meets m.steps turns Q s p.0 p.1 c (k.0, k.1.1) told holds)
+      pub takes_at_failure : {e : D} → Driven m.steps (StageTurns comes meets turns) s p (Err e) t k → MetTakes comes meets turns takes Q k (Err e)
+      takes_at_failure {e = e} w = met_takes s t p k (Err e) can callable holds (up_to_failure comes meets m.steps turns Q s t p k e w)
 
-  module _ {s : S} {p : P × Option L} {c : C} (holds : HoldsAtEachTurn (stage_step comes meets m.steps) (goes_on turns) Q (s, p) c) where
+  module _ {s : S} {p : P × Option L} {c : C} (holds : HoldsThere (s, p) c) where
     pub takes_due : DueTakes {R = R} turns comes Q c p.1
     takes_due = due_takes comes meets m.steps turns Q s p.0 p.1 c holds
 
-    module _ {k : C × (P × Option L)} (can : m.can_next s) (callable : TakesAll m meets takes s p.0) (kept : k.1.0 ≡ p.0) (told : DueTold {R = R} turns comes c p.1 (Continue tt) (k.0, k.1.1)) where
-      pub takes_at_items : HoldsAtEachTurn m.steps (goes_on (StageTurns comes meets turns)) (λ b x. MetTakes comes meets turns takes Q b (item x)) s k
-      takes_at_items = takes_at_each_item s k (none_left comes meets m.steps turns p c k told) can (callable_kept s p k kept callable) (holds_kept s p c k kept told holds)
+    pub takes_after_due : {k : C} → DueTold {R = R} turns comes c p.1 (Continue tt) k → HoldsThere (s, (p.0, None)) k
+    takes_after_due {k = k} told = due_holds comes meets m.steps turns Q s p.0 p.1 c k told holds
 
-      pub takes_at_end : {t : S} {h : C × (P × Option L)} → Driven m.steps (StageTurns comes meets turns) s k (Ok None) t h → MetTakes comes meets turns takes Q h (Ok None)
-      takes_at_end {t = t} {h = h} w = met_takes s t k h (Ok None) can (callable_kept s p k kept callable) (holds_kept s p c k kept told holds) (up_to_end comes meets m.steps turns Q s t k h (none_left comes meets m.steps turns p c k told) w)
+-- ---- a stop of the source
 
-      pub takes_at_failure : {t : S} {h : C × (P × Option L)} {e : D} → Driven m.steps (StageTurns comes meets turns) s k (Err e) t h → MetTakes comes meets turns takes Q h (Err e)
-      takes_at_failure {t = t} {h = h} {e = e} w = met_takes s t k h (Err e) can (callable_kept s p k kept callable) (holds_kept s p c k kept told holds) (up_to_failure comes meets m.steps turns Q s t k h (none_left comes meets m.steps turns p c k told) e w)
+module _ {B L E C R : Type 0} (comes : L → Option (Answered B E)) (turns : C → B → ControlFlow R (Unit {0}) → C → Type 0) where
+  -- the fold doesn't go on after a stop
+  told_no_more : (a : Answered B E) (c d : C) → IsStop a → Told {R = R} turns c a (Continue tt) d → ⊥
+  told_no_more (Ok (Some y)) c d stop w = stop
+  told_no_more (Ok None) c d stop w = w
+  told_no_more (Err e) c d stop w = w
+
+  stop_breaks : (made : Made B L E) (c d : C) → EndsInStop comes made → MadeTold {R = R} turns comes c made (Continue tt) d → ⊥
+  stop_breaks None c d stop w = stop
+  stop_breaks (Some (a, None)) c d stop (inl w) = told_no_more a c w.0 stop w.1
+  stop_breaks (Some (a, Some later)) c d stop (inl w) = told_no_more (due_comes (comes later)) w.0 d stop w.2
+  stop_breaks (Some (a, due)) c d stop (inr w) = let e = w.2 in absurd cc
+
+  stop_is : (X : Type 0) {D : Type 0} (stop : Option D) → IsStop {B = X} (stop_answer stop)
+  stop_is X None = tt
+  stop_is X (Some e) = tt
+
+  module _ {P X D : Type 0} (items : P → X → Made B L E → P → Type 0) (stops : P → Option D → Made B L E → P → Type 0) where
+    pub met_of_stop : {p q : P} (stop : Option D) {made : Made B L E} → stops p stop made q → stage_meets items stops p (stop_answer stop) made q
+    met_of_stop None w = w
+    met_of_stop (Some e) w = w
+
+    pub breaks_at_stop : (most : ℕ) (held : P → ℕ) → IsStage comes (stage_meets items stops) most held → {p q : P} (stop : Option D) (made : Made B L E) (c d : C) → stops p stop made q → MadeTold {R = R} turns comes c made (Continue tt) d → ⊥
+    breaks_at_stop most held is {p = p} {q = q} stop made c d called told = stop_breaks made c d ((is p (stop_answer stop) made q (met_of_stop stop called)).2 (stop_is X stop)) told

@@ -1,25 +1,28 @@
 -- The runs of `TakeWhileInclusive` are the traces that its definition names; what it lists; and its hint.
-use Rattle.std.specs.Prelude.{◌≡◌, ℕ, ◌≤◌, min, Bool, true, false, List, [], ◌∷◌, length, is_some, Option, Result, Some, None, Ok, Err, ◌↔◌}
+use Rattle.std.specs.Prelude.{◌≡◌, ℕ, ◌+◌, ◌-◌, ◌≤◌, min, Bool, true, false, List, [], ◌∷◌, is_some, Option, Result, Some, None, Ok, Err, ◌↔◌}
 use Rattle.std.specs.List.{FoldsTo}
 use Rattle.std.specs.Fn.{Mut}
 use Rattle.std.specs.Borrow.{Bor}
-use Rattle.std.proofs.Common.{refl, sym, ap, subst, ◌∙◌, arith}
+use Rattle.std.proofs.Common.{refl, sym, ap, subst, inl, inr, ◌∙◌, arith}
 use Rattle.fallible_iterator.specs.Contract.{Contract, seen_as}
-use Rattle.fallible_iterator.specs.Lists.{AlwaysGives, Lists, Acts}
-use Rattle.fallible_iterator.specs.Traces.{Answered, Yields, item, end}
+use Rattle.fallible_iterator.specs.Lists.{AlwaysGives, Lists, Acts, result_answer}
+use Rattle.fallible_iterator.specs.Traces.{Answered, item, failure, end}
 use Rattle.fallible_iterator.specs.Closures.{IsCallable, call_at, takes_at}
-use Rattle.fallible_iterator.specs.Passing.{Place, asked, failure_at, end_at, source_answer}
+use Rattle.fallible_iterator.specs.Passing.{Place, asked, failure_at, end_at}
 use Rattle.fallible_iterator.specs.Closing.{closing_step}
 use Rattle.fallible_iterator.specs.Cutting.TakeWhile.{is_refused, place_drawn}
-use Rattle.fallible_iterator.specs.SoundHints.{BoundsBelow, AsSound}
+use Rattle.fallible_iterator.specs.SoundHints.{AsSound, Brackets}
 use Rattle.fallible_iterator.proofs.Lemmas.Closing.{closing_law}
 use Rattle.fallible_iterator.proofs.Lemmas.Lists.Passing.{lists_seen}
 use Rattle.fallible_iterator.proofs.Lemmas.Cutting.TakeWhile.{both_of_folds_to, folds_to_of_both}
-use Rattle.fallible_iterator.proofs.Lemmas.Hints.Drawn.{ItemsOfItems, bounds_above_of_source}
+use Rattle.fallible_iterator.proofs.Lemmas.Hints.Drawn.{as_sound, brackets_within, if_some_no_greater}
 use Rattle.fallible_iterator.specs.Laws.Closures.{reaches_here, reaches_from, is_callable_after}
-use Rattle.fallible_itertools.specs.Staging.{Made, MayMeet, PassesNoneOver, StopPasses, TakesAll, ends_come, passes_over, stage_meets, stage_step, yields}
+use Rattle.fallible_itertools.specs.Staging.{DrawsUpTo, Made, MayMeet, PassesNoneOver, StopPasses, TakesAll, ends_come, one_made, passes_over, stage_meets, stage_step, yields}
 use Rattle.fallible_itertools.specs.Laws.Staging.{made_parts, takes_where_reached}
+use Rattle.fallible_itertools.specs.Laws.TakeWhileInclusive.{call_of_place, is_stage_inclusive}
 use Rattle.fallible_itertools.specs.TakeWhileInclusive.{cons_through, taken_while_inclusive, inclusive_answer, inclusive_made, inclusive_on_item, hint_of_first, InclusiveTrace, inclusive_parts, inclusive_contract}
+use Rattle.fallible_itertools.proofs.Lemmas.StagingHints.{MadeFew, MakesNoFewer, bounds_above_staged, bounds_below_staged, makes_one_at_most}
+use Rattle.fallible_itertools.proofs.Lemmas.StagingLists.{IsMadeAs, always_gives_within, gives_staged, made_first, staged}
 use Rattle.fallible_itertools.specs.declared.take_while_inclusive.TakeWhileInclusive.{TakeWhileInclusive}
 
 module _ {S F X E : Type 0} (steps : S → Answered X E → S → Type 0) (call : F → X → Result Bool E → F → Type 0) where
@@ -84,50 +87,55 @@ pub due_where_over : (b : Bool) → is_some (over_where b) ≡ b
 due_where_over true = refl
 due_where_over false = refl
 
+-- ---- one draw is a step of the stage
+
+module _ {S F X E : Type 0} (steps : S → Answered X E → S → Type 0) (call : F → X → Result Bool E → F → Type 0) where
+  abbrev inclusive_staged : (S × F) × Bool → S × (F × Option (Unit {0}))
+  inclusive_staged p = ((p.0).0, ((p.0).1, over_where p.1))
+
+  draws_at_place : (z : Place X (Result Bool E) E) (s t : S) (f g : F) (r : Answered X E) (b : Bool) → place_drawn steps call (s, f) z (t, g) → r ≡ inclusive_answer z → b ≡ is_refused z → DrawsUpTo ends_come (Meets steps call) steps s f r t (g, over_where b)
+  draws_at_place (asked x (Ok true)) s t f g r b drawn is over = rw (is, over) (yields (item x) drawn.0 (Ok true, call_of_place call f g x (Ok true) drawn.1, refl))
+  draws_at_place (asked x (Ok false)) s t f g r b drawn is over = rw (is, over) (yields (item x) drawn.0 (Ok false, call_of_place call f g x (Ok false) drawn.1, refl))
+  draws_at_place (asked x (Err e)) s t f g r b drawn is over = rw (is, over) (yields (item x) drawn.0 (Err e, call_of_place call f g x (Err e) drawn.1, refl))
+  draws_at_place (failure_at e) s t f g r b drawn is over = rw (is, over) (yields (failure e) drawn.0 (refl, sym drawn.1))
+  draws_at_place end_at s t f g r b drawn is over = rw (is, over) (yields end drawn.0 (refl, sym drawn.1))
+
+  stage_of_inclusive : (p : (S × F) × Bool) (r : Answered X E) (q : (S × F) × Bool) → inclusive_step steps call p r q → stage_step ends_come (Meets steps call) steps (inclusive_staged p) r (inclusive_staged q)
+  stage_of_inclusive (p, true) r q w = (w.0, ap (λ k. k.0) w.1, rw (w.1, w.2) refl)
+  stage_of_inclusive (p, false) r q w = draws_at_place w.0 p.0 (q.0).0 p.1 (q.0).1 r q.1 w.1 w.2 w.3
+
 -- ---- what it lists
 
 module _ {S F X E : Type 0} (steps : S → Answered X E → S → Type 0) (call : F → X → Result Bool E → F → Type 0) (f : F) (h : X → Result Bool E) (acts : Acts call f h) where
-  abbrev GivesInclusive : S → F → Bool → List (Result X E) → Type 0
-  GivesInclusive s g b l = AlwaysGives (inclusive_step steps call) ((s, g), b) l
+  -- what is made of an answer; nothing is held
+  abbrev inclusive_does : Unit {0} → Answered X E → Made X (Unit {0}) E × Unit {0}
+  inclusive_does u (Ok None) = (one_made end, u)
+  inclusive_does u (Err e) = (one_made (failure e), u)
+  inclusive_does u (Ok (Some x)) = (inclusive_made x (h x), u)
 
-  -- where the flag and the predicate are known
-  gives_inclusive_of_draws : (t : S) (k : F) (b c : Bool) (l : List (Result X E)) → k ≡ f → b ≡ c → GivesInclusive t f c l → GivesInclusive t k b l
-  gives_inclusive_of_draws t k b c l same is g = subst (λ (z : F). GivesInclusive t z b l) (sym same) (subst (λ (z : Bool). GivesInclusive t f z l) (sym is) g)
+  made_itself : (x : X) (v : Result Bool E) → IsMadeAs (λ z y. y ≡ z) (inclusive_made x v) (inclusive_made x v)
+  made_itself x (Ok true) = (refl, refl)
+  made_itself x (Ok false) = (refl, refl)
+  made_itself x (Err e) = (refl, refl)
 
-  -- the place of the first draw, where the list is empty, begins with a failure, or with an item
-  end_of_nil : (z : Place X (Result Bool E) E) (s t : S) (r : Answered X E) → AlwaysGives {A = X} steps s [] → steps s (source_answer z) t → r ≡ inclusive_answer z → r ≡ end
-  end_of_nil (asked y v) s t r a step e = absurd (let d = a (item y) t step in cc)
-  end_of_nil (failure_at d) s t r a step e = absurd (let k = a (Err d) t step in cc)
-  end_of_nil end_at s t r a step e = e
+  inclusive_acts : (p q : F) (u : Unit {0}) (x : Answered X E) (m : Made X (Unit {0}) E) → p ≡ f → Meets steps call p x m q → (q ≡ f) × IsMadeAs (λ z y. y ≡ z) (inclusive_does u x).0 m
+  inclusive_acts p q u (Ok None) m at w = (w.1 ∙ at, rw w.0 (refl, refl))
+  inclusive_acts p q u (Err e) m at w = (w.1 ∙ at, rw w.0 (refl, refl))
+  inclusive_acts p q u (Ok (Some x)) m at w = let k = acts x w.0 q (subst (λ g. call g x w.0 q) at w.1) in (k.0, rw (w.2, k.1) (made_itself x (h x)))
 
-  failure_of_first : (z : Place X (Result Bool E) E) (d : E) (l : List (Result X E)) (s t : S) (k : F) → AlwaysGives steps s (Err d ∷ l) → place_drawn steps call (s, f) z (t, k) → (z ≡ failure_at d) × AlwaysGives steps t l × (k ≡ f)
-  failure_of_first (asked y v) d l s t k a drawn = absurd (let q = (a (item y) t drawn.0).0 in cc)
-  failure_of_first (failure_at c) d l s t k a drawn = let q = a (Err c) t drawn.0 in let same : c ≡ d = (let e = q.0 in cc) in (ap (λ (e : E). failure_at e) same, q.1, sym drawn.1)
-  failure_of_first end_at d l s t k a drawn = absurd (let q = (a end t drawn.0).0 in cc)
+  made_through : (x : X) (v : Result Bool E) (rest l : List (Result X E)) → rest ≡ l → made_first ends_come (inclusive_made x v) rest ≡ cons_through x v l
+  made_through x (Ok true) rest l is = ap (λ k. Ok x ∷ k) is
+  made_through x (Ok false) rest l is = refl
+  made_through x (Err e) rest l is = ap (λ k. Err e ∷ k) is
 
-  item_of_first : (z : Place X (Result Bool E) E) (x : X) (l : List (Result X E)) (s t : S) (k : F) → AlwaysGives steps s (Ok x ∷ l) → place_drawn steps call (s, f) z (t, k) → (z ≡ asked x (h x)) × AlwaysGives steps t l × (k ≡ f)
-  item_of_first (asked y v) x l s t k a drawn =
-      let q = a (item y) t drawn.0 in
-      let same : y ≡ x = (let e = q.0 in cc) in
-      let called = acts y v drawn.1.0 drawn.1.1 in
-      (ap (λ (w : Result Bool E). asked y w) called.1 ∙ ap (λ (w : X). asked w (h w)) same, q.1, sym drawn.1.2 ∙ called.0)
-  item_of_first (failure_at c) x l s t k a drawn = absurd (let q = (a (Err c) t drawn.0).0 in cc)
-  item_of_first end_at x l s t k a drawn = absurd (let q = (a end t drawn.0).0 in cc)
-
-  gives_through_item : (x : X) (v : Result Bool E) (l rest : List (Result X E)) (s : S) → h x ≡ v → AlwaysGives steps s (Ok x ∷ l) → ((u : S) → AlwaysGives steps u l → GivesInclusive u f false rest) → GivesInclusive s f false (cons_through x v rest)
-  gives_through_item x (Ok true) l rest s is a then = λ r q w. let d = item_of_first w.0 x l s (q.0).0 (q.0).1 a w.1 in let z : w.0 ≡ asked x (Ok true) = d.0 ∙ ap (λ (v : Result Bool E). asked x v) is in
-      (w.2 ∙ ap inclusive_answer z, gives_inclusive_of_draws (q.0).0 (q.0).1 q.1 false rest d.2 (w.3 ∙ ap is_refused z) (then (q.0).0 d.1))
-  gives_through_item x (Ok false) l rest s is a then = λ r q w. let d = item_of_first w.0 x l s (q.0).0 (q.0).1 a w.1 in let z : w.0 ≡ asked x (Ok false) = d.0 ∙ ap (λ (v : Result Bool E). asked x v) is in
-      (w.2 ∙ ap inclusive_answer z, gives_inclusive_of_draws (q.0).0 (q.0).1 q.1 true [] d.2 (w.3 ∙ ap is_refused z) (λ r t over. over.0))
-  gives_through_item x (Err e) l rest s is a then = λ r q w. let d = item_of_first w.0 x l s (q.0).0 (q.0).1 a w.1 in let z : w.0 ≡ asked x (Err e) = d.0 ∙ ap (λ (v : Result Bool E). asked x v) is in
-      (w.2 ∙ ap inclusive_answer z, gives_inclusive_of_draws (q.0).0 (q.0).1 q.1 false rest d.2 (w.3 ∙ ap is_refused z) (then (q.0).0 d.1))
-
-  gives_inclusive : (l : List (Result X E)) (s : S) → AlwaysGives steps s l → GivesInclusive s f false (taken_while_inclusive h l)
+  staged_is_taken : (l : List (Result X E)) → staged ends_come inclusive_does tt l ≡ taken_while_inclusive h l
   unfolding taken_while_inclusive
-  gives_inclusive [] s a = λ r q w. end_of_nil w.0 s (q.0).0 r a w.1.0 w.2
-  gives_inclusive (Ok x ∷ l) s a = gives_through_item x (h x) l (taken_while_inclusive h l) s refl a (λ u b. gives_inclusive l u b)
-  gives_inclusive (Err e ∷ l) s a = λ r q w. let d = failure_of_first w.0 e l s (q.0).0 (q.0).1 a w.1 in
-      (w.2 ∙ ap inclusive_answer d.0, gives_inclusive_of_draws (q.0).0 (q.0).1 q.1 false (taken_while_inclusive h l) d.2 (w.3 ∙ ap is_refused d.0) (gives_inclusive l (q.0).0 d.1))
+  staged_is_taken [] = refl
+  staged_is_taken (Ok x ∷ l) = made_through x (h x) _ _ (staged_is_taken l)
+  staged_is_taken (Err e ∷ l) = ap (λ k. Err e ∷ k) (staged_is_taken l)
+
+  gives_inclusive : (l : List (Result X E)) (s : S) → AlwaysGives steps s l → AlwaysGives (inclusive_step steps call) ((s, f), false) (taken_while_inclusive h l)
+  gives_inclusive l s g = subst (λ k. AlwaysGives (inclusive_step steps call) ((s, f), false) k) (staged_is_taken l) (always_gives_within (inclusive_staged steps call) steps ends_come (Meets steps call) (inclusive_step steps call) (stage_of_inclusive steps call) _ ((s, f), false) (gives_staged steps ends_come (Meets steps call) (λ z y. y ≡ z) (λ r t. ⊥) ends_come (λ p u. p ≡ f) inclusive_does (λ later. refl) (λ p q u y m at w. inr (inclusive_acts p q u (result_answer y) m at w)) (λ p q u m at w. (inl refl, (inclusive_acts p q u end m at w).1)) (λ u y l r t w. absurd w) l s f tt refl g))
 
 pub lists_inclusive : {S F X E : Type 0} (m : Contract S X E) (g : Mut F (Bor X × Unit {0}) (Result Bool E)) (s : TakeWhileInclusive S F) (f : F) (h : X → Result Bool E) (l : List (Result X E)) → inclusive_parts s ≡ ((s.it, f), false) → Acts (call_at g) f h → Lists m.steps s.it l
     → Lists (seen_as inclusive_parts (inclusive_contract m g)).steps s (taken_while_inclusive h l)
@@ -136,34 +144,24 @@ lists_inclusive m g s f h l parts a i = lists_seen inclusive_parts (inclusive_co
 -- ---- its hint
 
 module _ {S F X E : Type 0} (steps : S → Answered X E → S → Type 0) (call : F → X → Result Bool E → F → Type 0) where
-  item_given : (z : Place X (Result Bool E) E) (y : X) → item y ≡ inclusive_answer z → (x : X) × (source_answer z ≡ item x)
-  item_given (asked x v) y e = (x, refl)
-  item_given (failure_at d) y e = absurd cc
-  item_given end_at y e = absurd cc
+  -- the first item comes, or its failure
+  first_comes : (x : X) (v : Result Bool E) (low : ℕ) → MadeFew ends_come (inclusive_made x v) (λ n. min (low - 1) 1 ≤ n) (λ n. min low 1 ≤ n)
+  first_comes x (Ok true) low = λ n after. omega arith
+  first_comes x (Ok false) low = omega arith
+  first_comes x (Err e) low = tt
 
-  yields_one_at_least : (p q : (S × F) × Bool) (y : X) → inclusive_step steps call p (item y) q → (xs : List X) × Yields steps (p.0).0 xs (q.0).0 × (1 ≤ length xs)
-  yields_one_at_least (p, true) q y w = absurd (let e = w.0 in cc)
-  yields_one_at_least (p, false) q y w = let d = item_given w.0 y w.2 in (d.0 ∷ [], ((q.0).0, subst (λ (r : Answered X E). steps p.0 r (q.0).0) d.1 w.1.0, refl), omega arith)
+  makes_first : MakesNoFewer ends_come (Meets steps call) (λ f low n. min low 1 ≤ n)
+  makes_first = record {
+    at_item = λ f x m g low w. rw w.2 (first_comes x w.0 low);
+    at_end = λ f m g w. rw w.0 (omega arith);
+    at_failure = λ f e m g low w. rw w.0 tt;
+  }
 
-  -- an item of it comes of one of the source
-  pub items_of_items_inclusive : ItemsOfItems (inclusive_step steps call) steps (λ p. (p.0).0) (λ p. Unit {0})
-  items_of_items_inclusive = record { items_of_item = λ p q y _ w. let d = yields_one_at_least p q y w in (d.0, d.1, d.2, tt) }
-
-  end_given : (z : Place X (Result Bool E) E) → end ≡ inclusive_answer z → source_answer z ≡ end
-  end_given (asked x (Ok b)) e = absurd cc
-  end_given (asked x (Err d)) e = absurd cc
-  end_given (failure_at d) e = absurd cc
-  end_given end_at e = refl
-
-  -- where no item came before an end, the source ended
-  min_one_at_most : (xs : List X) (p t u : (S × F) × Bool) (n : ℕ) → p.1 ≡ false → BoundsBelow steps (p.0).0 n → Yields (inclusive_step steps call) p xs t → inclusive_step steps call t end u → min n 1 ≤ length xs
-  min_one_at_most (x ∷ xs) p t u n unrefused b ran w = omega arith
-  min_one_at_most [] (p, true) t u n unrefused b ran w = absurd cc
-  min_one_at_most [] (p, false) t u n unrefused b ran w = let first : inclusive_step steps call (p, false) end u = subst (λ (z : (S × F) × Bool). inclusive_step steps call z end u) (sym ran) w in
-      let le = b [] p.0 (u.0).0 refl (subst (λ (r : Answered X E). steps p.0 r (u.0).0) (end_given first.0 first.2) first.1.0) in omega (arith, le)
+  brackets_first : (s : S) (f : F) (k : ℕ × Option ℕ) → Brackets steps s k → Brackets (stage_step ends_come (Meets steps call) steps) (s, (f, None)) (hint_of_first k)
+  brackets_first s f k b = record {
+    above = bounds_above_staged steps ends_come (Meets steps call) (λ g n. n + 0) (makes_one_at_most ends_come (Meets steps call) (λ g. 0) (is_stage_inclusive call)) k.1 k.1 s f None (λ n le. if_some_no_greater k.1 (0 + (n + 0)) n (omega arith) le) b.above;
+    below = bounds_below_staged steps ends_come (Meets steps call) (λ g low n. min low 1 ≤ n) makes_first k.0 (min k.0 1) s f None (λ n few. few) b.below;
+  }
 
   pub as_sound_inclusive : (p : (S × F) × Bool) (h k : ℕ × Option ℕ) → p.1 ≡ false → h ≡ hint_of_first k → AsSound (inclusive_step steps call) p h steps (p.0).0 k
-  as_sound_inclusive p h k unrefused is = subst (λ (j : ℕ × Option ℕ). AsSound (inclusive_step steps call) p j steps (p.0).0 k) (sym is) (record {
-    above = λ b. bounds_above_of_source (inclusive_step steps call) steps (λ p. (p.0).0) (λ p. Unit {0}) items_of_items_inclusive p tt k.1 b;
-    below = λ b xs t u ran step. min_one_at_most xs p t u k.0 unrefused b ran step;
-  })
+  as_sound_inclusive p h k unrefused is = as_sound (inclusive_step steps call) steps p (p.0).0 (λ n. min n 1) (λ o. o) (λ j b. brackets_within (inclusive_staged steps call) (inclusive_step steps call) (stage_step ends_come (Meets steps call) steps) (stage_of_inclusive steps call) p (hint_of_first j) (subst (λ (c : Bool). Brackets (stage_step ends_come (Meets steps call) steps) ((p.0).0, ((p.0).1, over_where c)) (hint_of_first j)) (sym unrefused) (brackets_first (p.0).0 (p.0).1 j b))) h k is

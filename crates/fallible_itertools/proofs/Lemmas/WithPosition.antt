@@ -43,10 +43,6 @@ module _ {A E : Type 0} where
   acts_by_next : (p a : Option (Bool × A)) (x : Option A) (o : Outcome (Position × A) E) (q : Option (Bool × A)) → p ≡ a → position_asks p x o q → (q ≡ next_held a x) × (o ≡ held_outcome a x)
   acts_by_next p a x o q at w = asks_is_function a x o q (subst (λ k. position_asks k x o q) at w)
 
-  outcome_at_stop_not_left_out : (a : Option (Bool × A)) → held_outcome a None ≡ LeftOut → ⊥
-  outcome_at_stop_not_left_out None is = absurd cc
-  outcome_at_stop_not_left_out (Some p) is = absurd cc
-
   outcome_never_end : (a : Option (Bool × A)) (x : A) → held_outcome a (Some x) ≡ End → ⊥
   outcome_never_end None x is = absurd cc
   outcome_never_end (Some p) x is = absurd cc
@@ -69,7 +65,7 @@ module _ {A E : Type 0} where
   positioned_in_parts a e b = listed_parts held_outcome next_held None next_held_at_stop_none outcome_never_end positioned held_list_is_positioned a e b
 
 pub lists_positioned : {S A E : Type 0} (m : Contract S A E) (s : WithPosition S A E) (l : List (Result A E)) → with_position_parts s ≡ (s.it, (None, None)) → Lists m.steps s.it l → Lists (seen_as with_position_parts (with_position_contract m)).steps s (positioned l)
-lists_positioned m s l parts i = lists_seen with_position_parts (with_position_contract m).steps s parts (held_list_is_positioned l) (gives_held_list m.steps position_asks (λ p a. p ≡ a) held_outcome next_held acts_by_next outcome_never_end outcome_at_stop_not_left_out l s.it None None refl i.runs)
+lists_positioned m s l parts i = lists_seen with_position_parts (with_position_contract m).steps s parts (held_list_is_positioned l) (gives_held_list m.steps position_asks (λ p a. p ≡ a) held_outcome next_held acts_by_next l s.it None None refl i.runs)
 
 -- ---- one draw
 

@@ -60,7 +60,7 @@ module _ {A B E : Type 0} where
   zipped_longest_of_both (Ok z ∷ a) [] x y i k = let m : x ≡ Some z = cc in let n : y ≡ None = cc in rw (m, n) (refl, refl)
   zipped_longest_of_both (Ok z ∷ a) (Ok w ∷ b) x y i k = let m : x ≡ Some z = cc in let n : y ≡ Some w = cc in rw (m, n) (refl, refl)
 
-  lists_by_longest : ListsBy (longest_rule {A = A} {B = B} {E = E}) (λ f. ⊤) zipped_longest
+  pub lists_by_longest : ListsBy (longest_rule {A = A} {B = B} {E = E}) (λ f. ⊤) zipped_longest
   lists_by_longest = record { left_fails = zipped_longest_left_failure; right_fails = zipped_longest_right_failure; both_give = λ a b x y v f g q i k d. let w = zipped_longest_of_both a b x y i k in (tt, w.0, w.1) }
 
   -- ---- hints

@@ -1,72 +1,55 @@
 -- The contracts of the adapters that hold are lawful where the source's is.
-use Rattle.std.specs.Prelude.{◌≡◌, ℕ, ◌+◌, ◌*◌, ◌≤◌, Option, Some, None, Ok, Err, List, [], ◌∷◌}
-use Rattle.std.proofs.Common.{refl, arith}
-use Rattle.fallible_iterator.specs.Traces.{Answered}
+use Rattle.std.specs.Prelude.{◌≡◌, ℕ, Option, Some, None, Ok, Err, List, [], ◌∷◌}
+use Rattle.std.proofs.Common.{refl, ap, arith}
+use Rattle.fallible_iterator.specs.Traces.{Answered, item, failure}
 use Rattle.fallible_iterator.specs.Contract.{Contract, KeptByDraw, Lawful}
 use Rattle.fallible_iterator.specs.Closures.{Reaches, IsCallable}
 use Rattle.fallible_iterator.specs.Laws.Closures.{reaches_here, reaches_from, is_callable_after}
 use Rattle.fallible_iterator.specs.Laws.Passing.{Passes, done, end_passes, failure_passes, keeps, refuses, closes, leaves_out, passes_of_pass_trace}
-use Rattle.fallible_itertools.specs.Staging.{Made, DrawsUpTo, yields, passes_over, EndsInStop, IsStage, IsStop, MayMeet, Weighs, items_of, made_total, stays_of, stage_contract, stage_meets, stage_step}
-use Rattle.fallible_itertools.specs.Laws.Staging.{kept_where_reached, lawful_stage}
-use Rattle.fallible_itertools.specs.Holding.{asks_item, as_answered_item, stop_answer, BeforeStop, AnswersAfter, StopMade, MadeOfStop, MadeOfItem, HeldAfter, Holds, OrStop, made_answers, stop_comes, holding_meets, holding_step, filling_contract, holding_contract}
+use Rattle.fallible_itertools.specs.Staging.{Made, DrawsUpTo, yields, passes_over, IsStage, IsStop, MayMeet, Weighs, due_total, items_of, stays_of, stage_contract, stage_meets, stage_step, stop_answer}
+use Rattle.fallible_itertools.specs.Laws.Staging.{kept_where_reached, lawful_stage, parts_made}
+use Rattle.fallible_itertools.specs.Holding.{asks_item, as_answered_item, BeforeStop, AnswersAfter, StopMade, MadeOfStop, MadeOfItem, HeldAfter, Holds, OrStop, due_answer, made_answers, stop_comes, holding_meets, holding_step, filling_contract, holding_contract}
 use Rattle.fallible_iterator.specs.Outcome.{Outcome}
 use Rattle.fallible_iterator.specs.Outcome.TheVariants.{Kept, LeftOut, Failure, End}
 
 -- ---- what is made, as a list
 
-abbrev total : {B E : Type 0} → (Answered B E → ℕ) → List (Answered B E) → ℕ
-total count [] = 0
-total count (a ∷ l) = count a + total count l
+-- what is due is known by its answer
+pub same_due : (B : Type 0) {E : Type 0} (due later : Option (Option E)) → due_answer {B = B} due ≡ due_answer later → due ≡ later
+same_due B None None e = refl
+same_due B None (Some stop) e = absurd cc
+same_due B (Some stop) None e = absurd cc
+same_due B (Some None) (Some None) e = refl
+same_due B (Some None) (Some (Some d)) e = absurd cc
+same_due B (Some (Some c)) (Some None) e = absurd cc
+same_due B (Some (Some c)) (Some (Some d)) e = let same : c ≡ d = cc in ap (λ x. Some (Some x)) same
 
-total_made : {B E : Type 0} (count : Answered B E → ℕ) (made : Made B (Option E) E) → made_total stop_comes count made ≡ total count (made_answers made)
-total_made count None = refl
-total_made count (Some (a, None)) = omega arith
-total_made count (Some (a, Some stop)) = omega arith
-
-stop_is_stop : (B : Type 0) {E : Type 0} (stop : Option E) → IsStop {B = B} (stop_answer stop)
-stop_is_stop B None = tt
-stop_is_stop B (Some e) = tt
-
--- where what is made is known as a list, the totals are those of the list
-module _ {X B E : Type 0} (before after : ℕ) (a : Answered X E) where
-  record WeighsAs (l : List (Answered B E)) : Type 0 where
-    items : total items_of l + after ≤ before + 1 * items_of a
-    stays : total stays_of l + after ≤ before + 1 * stays_of a
-    stop : IsStop a → (made : Made B (Option E) E) → made_answers made ≡ l → EndsInStop stop_comes made
-
-  weighs_as : (made : Made B (Option E) E) (l : List (Answered B E)) → made_answers made ≡ l → WeighsAs l → Weighs stop_comes 1 before a made after
-  weighs_as made l is w = (
-    (let e = total_made items_of made in let known : total items_of (made_answers made) + after ≤ before + 1 * items_of a = rw is w.items in omega (arith, e, known)),
-    (let e = total_made stays_of made in let known : total stays_of (made_answers made) + after ≤ before + 1 * stays_of a = rw is w.stays in omega (arith, e, known)),
-    (λ s. w.stop s made is),
-  )
+-- a stop is no item, whichever the items are
+stop_counts : (X B : Type 0) {E : Type 0} (stop : Option E) → (due_total {B = B} stop_comes items_of (Some stop) ≡ 0) × (due_total {B = B} stop_comes stays_of (Some stop) ≡ stays_of (stop_answer {B = X} stop)) × IsStop (stop_answer {B = B} stop)
+stop_counts X B None = (refl, refl, tt)
+stop_counts X B (Some e) = (refl, refl, tt)
 
 module _ {B E : Type 0} where
-  -- an answer and then a stop, or a stop alone: the last is a stop
-  ends_behind : (y : Answered B E) (stop : Option E) (made : Made B (Option E) E) → made_answers made ≡ y ∷ stop_answer stop ∷ [] → EndsInStop stop_comes made
-  ends_behind y stop None e = absurd cc
-  ends_behind y stop (Some (a, None)) e = absurd cc
-  ends_behind y stop (Some (a, Some other)) e = stop_is_stop B other
+  -- and what is made by its answers
+  pub made_of_answers : (m : Made B (Option E) E) (r : Answered B E) (due : Option (Option E)) → made_answers m ≡ r ∷ due_answer due → m ≡ Some (r, due)
+  made_of_answers None r due is = absurd cc
+  made_of_answers (Some (a, later)) r due is = let same : a ≡ r = cc in let rest : due_answer {B = B} later ≡ due_answer due = cc in parts_made same (same_due B later due rest)
 
-  ends_alone : (stop : Option E) (made : Made B (Option E) E) → made_answers made ≡ stop_answer stop ∷ [] → EndsInStop stop_comes made
-  ends_alone stop None e = absurd cc
-  ends_alone stop (Some (a, None)) e = let same : a ≡ stop_answer stop = cc in rw same (stop_is_stop B stop)
-  ends_alone stop (Some (a, Some other)) e = absurd cc
+  pub nothing_made : (m : Made B (Option E) E) → made_answers m ≡ [] → m ≡ None
+  nothing_made None is = refl
+  nothing_made (Some (a, later)) is = absurd cc
 
   weighs_stop : (X : Type 0) (before after : ℕ) (stop : Option E) (o : Outcome B E) (made : Made B (Option E) E) → HeldAfter {X = X} before None o after → StopMade stop o (made_answers made) → Weighs stop_comes {X = X} {D = E} 1 before (stop_answer stop) made after
-  weighs_stop X before after None (Kept y) made h m = weighs_as {X = X} before after (Ok None) made (Ok (Some y) ∷ stop_answer None ∷ []) m (record { items = omega (arith, h); stays = omega (arith, h); stop = λ s. ends_behind (Ok (Some y)) None })
-  weighs_stop X before after (Some e) (Kept y) made h m = weighs_as {X = X} before after (Err e) made (Ok (Some y) ∷ stop_answer (Some e) ∷ []) m (record { items = omega (arith, h); stays = omega (arith, h); stop = λ s. ends_behind (Ok (Some y)) (Some e) })
-  weighs_stop X before after None (Failure d) made h m = weighs_as {X = X} before after (Ok None) made (Err d ∷ stop_answer None ∷ []) m (record { items = omega (arith, h); stays = omega (arith, h); stop = λ s. ends_behind (Err d) None })
-  weighs_stop X before after (Some e) (Failure d) made h m = weighs_as {X = X} before after (Err e) made (Err d ∷ stop_answer (Some e) ∷ []) m (record { items = omega (arith, h); stays = omega (arith, h); stop = λ s. ends_behind (Err d) (Some e) })
-  weighs_stop X before after None End made h m = weighs_as {X = X} before after (Ok None) made (stop_answer None ∷ []) m (record { items = omega (arith, h); stays = omega (arith, h); stop = λ s. ends_alone None })
-  weighs_stop X before after (Some e) End made h m = weighs_as {X = X} before after (Err e) made (stop_answer (Some e) ∷ []) m (record { items = omega (arith, h); stays = omega (arith, h); stop = λ s. ends_alone (Some e) })
+  weighs_stop X before after stop (Kept y) made h m = rw (made_of_answers made (item y) (Some stop) m) (let k = stop_counts X B stop in (omega (arith, h, k.0), omega (arith, h, k.1), λ s. k.2))
+  weighs_stop X before after stop (Failure d) made h m = rw (made_of_answers made (failure d) (Some stop) m) (let k = stop_counts X B stop in (omega (arith, h, k.0), omega (arith, h, k.1), λ s. k.2))
+  weighs_stop X before after stop End made h m = rw (made_of_answers made (stop_answer stop) None m) (let k = stop_counts X B stop in let none : items_of (stop_answer {B = B} stop) ≡ 0 = k.0 in let same : stays_of (stop_answer {B = B} stop) ≡ stays_of (stop_answer {B = X} stop) = k.1 in (omega (arith, h, none), omega (arith, h, same), λ s. k.2))
   weighs_stop X before after stop LeftOut made h m = absurd m
 
 module _ {P X B E : Type 0} (asks : P → Option X → Outcome B E → P → Type 0) where
   module _ (held : P → ℕ) (weighs : Holds asks held) where
     weighs_item : (p h q : P) (x : X) (o : Outcome B E) (made : Made B (Option E) E) → HeldAfter (held p) (Some x) o (held h) → MadeOfItem asks o h (made_answers made) q → Weighs stop_comes {D = E} 1 (held p) (Ok (Some x)) made (held q)
-    weighs_item p h q x (Kept y) made w m = rw m.1 (weighs_as (held p) (held h) (Ok (Some x)) made (Ok (Some y) ∷ []) m.0 (record { items = omega (arith, w); stays = omega (arith, w); stop = λ s. absurd s }))
-    weighs_item p h q x LeftOut made w m = rw m.1 (weighs_as (held p) (held h) (Ok (Some x)) made [] m.0 (record { items = omega (arith, w); stays = omega (arith, w); stop = λ s. absurd s }))
+    weighs_item p h q x (Kept y) made w m = rw (m.1, made_of_answers made (item y) None m.0) (omega (arith, w), omega (arith, w), λ s. absurd s)
+    weighs_item p h q x LeftOut made w m = rw (m.1, nothing_made made m.0) (omega (arith, w), omega (arith, w), λ s. absurd s)
     weighs_item p h q x (Failure e) made w m = let k = weighs_stop X (held h) (held q) (Some e) m.0 made (weighs h None m.0 q m.1) m.2 in (omega (arith, k.0, w), omega (arith, k.1, w), λ s. absurd s)
     weighs_item p h q x End made w m = absurd w
 
@@ -104,7 +87,7 @@ module _ {P X B E : Type 0} (asks : P → Option X → Outcome B E → P → Typ
     draws_of_passes s t p h _ r (g, due) (closes x o step called is done) w = yields (Ok (Some x)) step (End, h, rw is at called, made_at_stop h g None r due w.0 w.1 w.2)
     draws_of_passes s t p h z r q (leaves_out {u = u} {h = g} x o step called is rest) w = passes_over (Ok (Some x)) step (LeftOut, g, rw is at called, (refl, refl)) (draws_of_passes u t g h z r q rest w)
 
-    stage_of_holding : (p : S × (P × Option (Option E))) (r : Answered B E) (q : S × (P × Option (Option E))) → holding_step asks steps p r q → stage_step stop_comes (holding_meets asks) steps p r q
+    pub stage_of_holding : (p : S × (P × Option (Option E))) (r : Answered B E) (q : S × (P × Option (Option E))) → holding_step asks steps p r q → stage_step stop_comes (holding_meets asks) steps p r q
     stage_of_holding (s, (p, Some stop)) r (t, q) w = w
     stage_of_holding (s, (p, None)) r (t, q) w = draws_of_passes s t p w.0 w.1 r q (passes_of_pass_trace w.2) w.3
 

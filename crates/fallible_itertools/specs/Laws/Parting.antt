@@ -56,7 +56,7 @@ module _ {Z A E : Type 0} (separates : Z → Result A E → Z → Type 0) where
     step_of_stage (s, ((z, b), None)) r (t, _) (yields {q = j} {due = due} a step called) = (a, step, placed_so z b a r j due called)
     step_of_stage (s, (k, None)) r (t, j) (passes_over {h = h} a step called rest) = absurd (parting_passes_none k a h called)
 
-    stage_of_step : (p : S × (Z × (Bool × Option A))) (r : Answered A E) (q : S × (Z × (Bool × Option A))) → parting_step separates steps p r q → stage_step item_comes (parting_meets separates) steps (parting_stage p) r (parting_stage q)
+    pub stage_of_step : (p : S × (Z × (Bool × Option A))) (r : Answered A E) (q : S × (Z × (Bool × Option A))) → parting_step separates steps p r q → stage_step item_comes (parting_meets separates) steps (parting_stage p) r (parting_stage q)
     stage_of_step (s, (z, (b, Some x))) r (t, k) w = (w.0, w.1, rw w.2 refl)
     stage_of_step (s, (z, (b, None))) r (t, (y, (c, due))) w = yields w.0 w.1 (met_so z b w.0 r (y, c) due w.2)
 

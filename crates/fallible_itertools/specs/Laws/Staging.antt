@@ -9,7 +9,7 @@ use Rattle.fallible_iterator.specs.Contract.{Contract, OnAnswer, KeptByDraw, Kep
 use Rattle.fallible_iterator.specs.Closures.{Reaches, MayAnswer}
 use Rattle.fallible_iterator.specs.Laws.Contract.{kept_by_draws_after, kept_by_draws_then}
 use Rattle.fallible_iterator.specs.Laws.Closures.{reaches_here, reaches_weaken, reaches_from, may_answer_here, may_answer_after}
-use Rattle.fallible_itertools.specs.Staging.{Made, DrawsUpTo, yields, passes_over, due_comes, due_left, items_of, stays_of, due_total, made_total, IsStage, IsDue, IsMade, MayMeet, MayCome, StopsAtStop, TakesAll, stage_contract}
+use Rattle.fallible_itertools.specs.Staging.{Made, DrawsUpTo, yields, passes_over, due_comes, due_left, items_of, stays_of, due_total, made_total, IsStage, IsDue, IsMade, MayMeet, MayCome, TakesAll, stage_contract}
 use Rattle.fallible_iterator.specs.Passing.{IfItem}
 
 scaled : (c k i n : ℕ) → k + i ≤ n → c * k + c * i ≤ c * n
@@ -48,7 +48,7 @@ pub parts_made : {B L E : Type 0} {r a : Answered B E} {due later : Option L} �
 parts_made same left = rw (same, left) refl
 
 module _ {L B E : Type 0} (comes : L → Option (Answered B E)) where
-  nothing_left : (later : L) (c : Option (Answered B E)) → comes later ≡ c → (due_total comes items_of (due_left later c) ≡ 0) × (due_total comes stays_of (due_left later c) ≡ 0)
+  pub nothing_left : (later : L) (c : Option (Answered B E)) → comes later ≡ c → (due_total comes items_of (due_left later c) ≡ 0) × (due_total comes stays_of (due_left later c) ≡ 0)
   nothing_left later (Some a) is = (refl, refl)
   nothing_left later None is = rw is (refl, refl)
 
@@ -152,9 +152,6 @@ module _ {S P X D B L E : Type 0} {m : Contract S X D} (l : Lawful m) (comes : L
     kept_by_draw = kept_by_draw_stage;
     bounded = λ p. ((λ e. let k = (l.bounded p.0).0 e in (most * k.0 + held p.1.0 + due_total comes items_of p.1.1, (k.0, k.1, omega arith))), (λ h. (l.bounded p.0).1 ((h.1).0, (h.1).1)));
   }
-
-pub stops_of_stage : {P X D B L E : Type 0} (comes : L → Option (Answered B E)) {meets : P → Answered X D → Made B L E → P → Type 0} (most : ℕ) (held : P → ℕ) → IsStage comes meets most held → StopsAtStop comes meets
-stops_of_stage comes most held w p a made q stop called = (w p a made q called).2 stop
 
 -- ---- what holds in each state
 

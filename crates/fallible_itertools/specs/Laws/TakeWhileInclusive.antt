@@ -14,6 +14,10 @@ use Rattle.fallible_iterator.specs.Cutting.TakeWhile.{is_refused, place_drawn}
 use Rattle.fallible_itertools.specs.Staging.{IsStage, StopPasses, Weighs, ends_come, stage_meets}
 use Rattle.fallible_itertools.specs.TakeWhileInclusive.{inclusive_answer, inclusive_contract, inclusive_made, inclusive_on_item, inclusive_outcome, hint_of_first}
 
+-- the one call at a place
+pub call_of_place : {F X E : Type 0} (call : F → X → Result Bool E → F → Type 0) (p q : F) (x : X) (v : Result Bool E) → Calls call p ((x, v) ∷ []) q → call p x v q
+call_of_place {F = F} call p q x v called = subst (λ (k : F). call p x v k) called.2 called.1
+
 module _ {S F X E : Type 0} (m : Contract S X E) (l : Lawful m) (g : Mut F (Bor X × Unit {0}) (Result Bool E)) where
   abbrev hint_is : S × F → ℕ × Option ℕ → Type 0
   hint_is p h = (k : ℕ × Option ℕ) × m.hints p.0 k × (h ≡ hint_of_first k)
@@ -24,13 +28,9 @@ module _ {S F X E : Type 0} (m : Contract S X E) (l : Lawful m) (g : Mut F (Bor 
   lawful_taking : Lawful ContractHere
   lawful_taking = lawful_passing (call_at g) (λ P f. IsCallable (call_at g) (takes_at g) P f) inclusive_outcome hint_is (λ P Q f h weak reached c. is_callable_after weak reached c) l
 
-  -- the one call at a place
-  call_of_place : (p q : F) (x : X) (v : Result Bool E) → Calls (call_at g) p ((x, v) ∷ []) q → call_at g p x v q
-  call_of_place p q x v called = subst (λ (k : F). call_at g p x v k) called.2 called.1
-
   kept_by_draw_taken : (p : S × F) (x : Place X (Result Bool E) E) (q : S × F) → ContractHere.can_next p → place_drawn m.steps (call_at g) p x q → KeptByDraw ContractHere p (inclusive_answer x) q
-  kept_by_draw_taken (s, f) (asked x (Ok b)) (t, h) c step = lawful_taking.kept_by_draw (s, f) (item x) (t, h) c (pass_trace_item x (Ok b) x step.0 (call_of_place f h x (Ok b) step.1) refl)
-  kept_by_draw_taken (s, f) (asked x (Err e)) (t, h) c step = lawful_taking.kept_by_draw (s, f) (failure e) (t, h) c (pass_trace_refusal x (Err e) e step.0 (call_of_place f h x (Err e) step.1) refl)
+  kept_by_draw_taken (s, f) (asked x (Ok b)) (t, h) c step = lawful_taking.kept_by_draw (s, f) (item x) (t, h) c (pass_trace_item x (Ok b) x step.0 (call_of_place (call_at g) f h x (Ok b) step.1) refl)
+  kept_by_draw_taken (s, f) (asked x (Err e)) (t, h) c step = lawful_taking.kept_by_draw (s, f) (failure e) (t, h) c (pass_trace_refusal x (Err e) e step.0 (call_of_place (call_at g) f h x (Err e) step.1) refl)
   kept_by_draw_taken (s, f) (failure_at e) (t, h) c step = lawful_taking.kept_by_draw (s, f) (failure e) (t, h) c (rw (sym step.1) (pass_trace_failure step.0))
   kept_by_draw_taken (s, f) end_at (t, h) c step = lawful_taking.kept_by_draw (s, f) end (t, h) c (rw (sym step.1) (pass_trace_end step.0))
 

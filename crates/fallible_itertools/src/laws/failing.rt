@@ -4,11 +4,14 @@ ghost use Rattle.fallible_iterator.specs.BothEnds.{ListsBothEnds};
 ghost use Rattle.fallible_iterator.specs.Closures.{call_on};
 ghost use Rattle.fallible_iterator.specs.Ends.{from_back};
 ghost use Rattle.fallible_iterator.specs.LawForm.{TracesAre};
-ghost use Rattle.fallible_iterator.specs.Lists.{Acts};
+ghost use Rattle.fallible_iterator.specs.Failing.{failures_mapped};
+ghost use Rattle.fallible_iterator.specs.Lists.{Acts, Converts};
 ghost use Rattle.fallible_iterator.specs.SoundHints.{KeepsBounds, HintsAsSoundAs, SoundHints};
+ghost use Rattle.fallible_itertools.specs.ErrInto.{ErrIntoTrace, err_into_parts, err_into_source};
 ghost use Rattle.fallible_itertools.specs.InspectErr.{InspectErrTrace, inspect_err_parts, inspect_err_source};
 ghost use Rattle.fallible_itertools.specs.OrElse.{OrElseTrace, or_else_closure, or_else_parts, or_else_source, recovered};
 
+use crate::err_into::ErrInto;
 use crate::inspect_err::InspectErr;
 use crate::or_else::OrElse;
 use fallible_iterator::{DoubleEndedFallibleIterator, FallibleIterator};
@@ -63,6 +66,58 @@ where
     ensures { (s : InspectErr I F) (l : List (Result I.Item I.Error))
         → KeepsBounds ⟦<InspectErr<I, F> as FallibleIterator>⟧.contract s l I.contract
         (inspect_err_source s) l }
+{}
+
+// ---- `ErrInto`
+
+/// The answers of `ErrInto` are the source's, each failure replaced by what it is converted to.
+pub fn law_err_into<I: FallibleIterator, E: From<I::Error>>()
+where
+    ensures { TracesAre err_into_parts ⟦<ErrInto<I, E> as FallibleIterator>⟧.contract.steps
+        (ErrIntoTrace E.from_gives I.contract.steps) }
+{}
+
+/// From the back the answers of `ErrInto` are the source's from the back, each failure replaced by what it is converted to.
+pub fn law_back_err_into<I: DoubleEndedFallibleIterator, E: From<I::Error>>()
+where
+    ensures { TracesAre err_into_parts ⟦<ErrInto<I, E> as DoubleEndedFallibleIterator>⟧.ends.steps
+        (ErrIntoTrace E.from_gives I.ends.steps) }
+{}
+
+/// Each hint of `ErrInto` is as sound as the hint of its source that it is made of.
+pub fn law_hints_err_into<I: FallibleIterator, E: From<I::Error>>()
+where
+    ensures { (s : ErrInto I E)
+        → HintsAsSoundAs ⟦<ErrInto<I, E> as FallibleIterator>⟧.contract s I.contract
+        (err_into_source s) }
+{}
+
+/// From the back each hint of `ErrInto` is as sound as the hint of its source that it is made of.
+pub fn law_hints_back_err_into<I: DoubleEndedFallibleIterator, E: From<I::Error>>()
+where
+    ensures { (s : ErrInto I E)
+        → HintsAsSoundAs (from_back ⟦<ErrInto<I, E> as FallibleIterator>⟧.contract
+        ⟦<ErrInto<I, E> as DoubleEndedFallibleIterator>⟧.ends) s
+        (from_back I.contract I.ends) (err_into_source s) }
+{}
+
+/// From both ends `ErrInto` lists what its source lists, with what each failure is converted to in its place.
+pub fn law_listed_err_into<I: DoubleEndedFallibleIterator, E: From<I::Error>>()
+where
+    ensures { (convert : I.Error → E) → Converts E.from_gives convert → (s : ErrInto I E)
+        (l : List (Result I.Item I.Error))
+        → ListsBothEnds I.contract.steps I.ends.steps (err_into_source s) l
+        → ListsBothEnds ⟦<ErrInto<I, E> as FallibleIterator>⟧.contract.steps
+        ⟦<ErrInto<I, E> as DoubleEndedFallibleIterator>⟧.ends.steps s
+        (failures_mapped convert l) }
+{}
+
+/// Each hint of `ErrInto` bounds its list wherever a hint of its source bounds the source's list.
+pub fn law_hints_listed_err_into<I: FallibleIterator, E: From<I::Error>>()
+where
+    ensures { (s : ErrInto I E) (convert : I.Error → E) (l : List (Result I.Item I.Error))
+        → KeepsBounds ⟦<ErrInto<I, E> as FallibleIterator>⟧.contract s
+        (failures_mapped convert l) I.contract (err_into_source s) l }
 {}
 
 // ---- `OrElse`

@@ -1,13 +1,12 @@
 // The laws of the adapters that yield groups of items.
-ghost use Rattle.std.specs.Prelude.{◌≡◌, ℕ, ◌<◌, ◌++◌, ◌∷◌, false, List, None, Ok, Err, Option, Result, Some, All, length, map};
+ghost use Rattle.std.specs.Prelude.{◌≡◌, ℕ, ◌<◌, ◌++◌, ◌∷◌, false, List, Ok, Err, Result, All, length, map};
 ghost use Rattle.fallible_iterator.specs.BothEnds.{items_listed, failures_listed};
 ghost use Rattle.fallible_iterator.specs.LawForm.{TracesAre};
 ghost use Rattle.fallible_iterator.specs.Lists.{items};
-ghost use Rattle.fallible_iterator.specs.SoundHints.{HintsAsSoundAs, SoundHints};
 ghost use Rattle.fallible_itertools.specs.Adjacent.{AdjacentItems, IsGroup};
 ghost use Rattle.fallible_itertools.specs.ChunkBy.{ChunkByTrace, chunk_by_due, chunk_by_parts, chunk_by_source, chunked_by};
 ghost use Rattle.fallible_itertools.specs.Chunks.{BatchesOf, BatchesUpTo, ChunksTrace, chunked, chunks_due, chunks_parts, chunks_source, batches_joined};
-ghost use Rattle.fallible_itertools.specs.Holding.{HintsPastFailure};
+ghost use Rattle.fallible_itertools.specs.Holding.{HintsWhereHeld};
 
 use crate::chunk_by::ChunkBy;
 use crate::chunks::Chunks;
@@ -44,12 +43,7 @@ pub fn law_hints_chunks<I: FallibleIterator>()
 where
     I::Item: Drop,
     I::Error: Drop + From<AllocError>,
-    ensures none_due { (s : Chunks I I.Item I.Error) → chunks_due s ≡ None
-        → HintsAsSoundAs ⟦<Chunks<I> as FallibleIterator>⟧.contract s I.contract (chunks_source s) }
-    ensures due { (s : Chunks I I.Item I.Error) (stop : Option I.Error) → chunks_due s ≡ Some stop
-        → SoundHints ⟦<Chunks<I> as FallibleIterator>⟧.contract s }
-    ensures failure_due { (s : Chunks I I.Item I.Error) (e : I.Error) → chunks_due s ≡ Some (Some e)
-        → HintsPastFailure ⟦<Chunks<I> as FallibleIterator>⟧.contract s e }
+    ensures { HintsWhereHeld ⟦<Chunks<I> as FallibleIterator>⟧.contract chunks_due I.contract chunks_source }
 {}
 
 /// The answers of `ChunkBy` are the stop that is due, and then the source's in groups of equal keys: each group stands where the next key differs or a stop came, and each stop after the group that was buffered before it. The closure's failure and a failed allocation are stops.
@@ -87,12 +81,5 @@ where
     F: FnMut(&I::Item) -> Result<K, I::Error>,
     I::Item: Drop,
     I::Error: Drop + From<AllocError>,
-    ensures none_due { (s : ChunkBy I K F I.Item I.Error) → chunk_by_due s ≡ None
-        → HintsAsSoundAs ⟦<ChunkBy<I, K, F> as FallibleIterator>⟧.contract s I.contract
-        (chunk_by_source s) }
-    ensures due { (s : ChunkBy I K F I.Item I.Error) (stop : Option I.Error)
-        → chunk_by_due s ≡ Some stop
-        → SoundHints ⟦<ChunkBy<I, K, F> as FallibleIterator>⟧.contract s }
-    ensures failure_due { (s : ChunkBy I K F I.Item I.Error) (e : I.Error) → chunk_by_due s ≡ Some (Some e)
-        → HintsPastFailure ⟦<ChunkBy<I, K, F> as FallibleIterator>⟧.contract s e }
+    ensures { HintsWhereHeld ⟦<ChunkBy<I, K, F> as FallibleIterator>⟧.contract chunk_by_due I.contract chunk_by_source }
 {}

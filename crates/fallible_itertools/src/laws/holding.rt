@@ -1,7 +1,7 @@
 // The laws of the adapters that buffer.
-ghost use Rattle.std.specs.Prelude.{◌≡◌, ◌++◌, ◌∷◌, Bool, false, List, Option, Result, Some, None, Ok, Err, [], map};
+ghost use Rattle.std.specs.Prelude.{◌≡◌, ◌++◌, ◌∷◌, Bool, false, List, Result, Ok, Err, [], map};
 ghost use Rattle.fallible_iterator.specs.LawForm.{TracesAre};
-ghost use Rattle.fallible_iterator.specs.SoundHints.{HintsAsSoundAs, SoundHints};
+ghost use Rattle.fallible_iterator.specs.SoundHints.{HintsAsSoundAs};
 ghost use Rattle.fallible_iterator.specs.Closures.{call_at};
 ghost use Rattle.fallible_iterator.specs.Folds.{call_with};
 ghost use Rattle.fallible_iterator.specs.Lists.{filter_mapped, items, nth_of};
@@ -12,8 +12,9 @@ ghost use Rattle.fallible_itertools.specs.Coalesce.{CoalesceTrace, KeepsApart, O
 ghost use Rattle.fallible_itertools.specs.DedupBy.{DedupByTrace, dedup_by_due, dedup_by_parts, dedup_by_source, deduped_by};
 ghost use Rattle.fallible_itertools.specs.DedupByKey.{DedupByKeyTrace, dedup_by_key_due, dedup_by_key_parts, dedup_by_key_source, deduped_by_key};
 ghost use Rattle.fallible_itertools.specs.Dedup.{DedupTrace, dedup_due, dedup_parts, dedup_source, deduped};
-ghost use Rattle.fallible_itertools.specs.Holding.{HintsPastFailure};
+ghost use Rattle.fallible_itertools.specs.Holding.{HintsWhereHeld};
 ghost use Rattle.fallible_itertools.specs.TupleWindows.{TupleWindowsTrace, tuple_windows_parts, tuple_windows_source};
+ghost use Rattle.fallible_itertools.specs.Tuples.{TuplesTrace, tuples_parts, tuples_source};
 ghost use Rattle.fallible_itertools.specs.WithPosition.{WithPositionTrace, positioned, with_position_due, with_position_parts, with_position_source};
 ghost use Rattle.fallible_itertools.specs.declared.with_position.Position.TheVariants.{First, Last, Middle, Only};
 
@@ -22,6 +23,7 @@ use crate::dedup::Dedup;
 use crate::dedup_by::DedupBy;
 use crate::dedup_by_key::DedupByKey;
 use crate::tuple_windows::TupleWindows;
+use crate::tuples::Tuples;
 use crate::with_position::WithPosition;
 use fallible_iterator::FallibleIterator;
 use std::alloc::AllocError;
@@ -50,12 +52,7 @@ pub fn law_hints_dedup<I: FallibleIterator>()
 where
     I::Item: PartialEq + Drop,
     I::Error: Drop,
-    ensures none_due { (s : Dedup I I.Item I.Error) → dedup_due s ≡ None
-        → HintsAsSoundAs ⟦<Dedup<I> as FallibleIterator>⟧.contract s I.contract (dedup_source s) }
-    ensures due { (s : Dedup I I.Item I.Error) (stop : Option I.Error) → dedup_due s ≡ Some stop
-        → SoundHints ⟦<Dedup<I> as FallibleIterator>⟧.contract s }
-    ensures failure_due { (s : Dedup I I.Item I.Error) (e : I.Error) → dedup_due s ≡ Some (Some e)
-        → HintsPastFailure ⟦<Dedup<I> as FallibleIterator>⟧.contract s e }
+    ensures { HintsWhereHeld ⟦<Dedup<I> as FallibleIterator>⟧.contract dedup_due I.contract dedup_source }
 {}
 
 /// The answers of `Coalesce` are the stop that is due, and then adjacent items merged: each stands where the next one that isn't merged with it or a stop came, and each stop after what was buffered before it. The closure's failure is a stop.
@@ -86,14 +83,7 @@ pub fn law_hints_coalesce<
 where
     I::Item: Drop,
     I::Error: Drop,
-    ensures none_due { (s : Coalesce I F I.Item I.Error) → coalesce_due s ≡ None
-        → HintsAsSoundAs ⟦<Coalesce<I, F> as FallibleIterator>⟧.contract s I.contract
-        (coalesce_source s) }
-    ensures due { (s : Coalesce I F I.Item I.Error) (stop : Option I.Error)
-        → coalesce_due s ≡ Some stop
-        → SoundHints ⟦<Coalesce<I, F> as FallibleIterator>⟧.contract s }
-    ensures failure_due { (s : Coalesce I F I.Item I.Error) (e : I.Error) → coalesce_due s ≡ Some (Some e)
-        → HintsPastFailure ⟦<Coalesce<I, F> as FallibleIterator>⟧.contract s e }
+    ensures { HintsWhereHeld ⟦<Coalesce<I, F> as FallibleIterator>⟧.contract coalesce_due I.contract coalesce_source }
 {}
 
 /// The answers of `DedupBy` are the stop that is due, and then the first of adjacent items that the closure finds the same: each stands where the next one that differs or a stop came, and each stop after what was buffered before it. The closure's failure is a stop.
@@ -121,14 +111,7 @@ pub fn law_hints_dedup_by<
 where
     I::Item: Drop,
     I::Error: Drop,
-    ensures none_due { (s : DedupBy I F I.Item I.Error) → dedup_by_due s ≡ None
-        → HintsAsSoundAs ⟦<DedupBy<I, F> as FallibleIterator>⟧.contract s I.contract
-        (dedup_by_source s) }
-    ensures due { (s : DedupBy I F I.Item I.Error) (stop : Option I.Error)
-        → dedup_by_due s ≡ Some stop
-        → SoundHints ⟦<DedupBy<I, F> as FallibleIterator>⟧.contract s }
-    ensures failure_due { (s : DedupBy I F I.Item I.Error) (e : I.Error) → dedup_by_due s ≡ Some (Some e)
-        → HintsPastFailure ⟦<DedupBy<I, F> as FallibleIterator>⟧.contract s e }
+    ensures { HintsWhereHeld ⟦<DedupBy<I, F> as FallibleIterator>⟧.contract dedup_by_due I.contract dedup_by_source }
 {}
 
 /// The answers of `DedupByKey` are the stop that is due, and then the first of adjacent items with equal keys: each stands where the next one that differs or a stop came, and each stop after what was buffered before it. The closure's failure is a stop.
@@ -166,14 +149,7 @@ pub fn law_hints_dedup_by_key<
 where
     I::Item: Drop,
     I::Error: Drop,
-    ensures none_due { (s : DedupByKey I K F I.Item I.Error) → dedup_by_key_due s ≡ None
-        → HintsAsSoundAs ⟦<DedupByKey<I, K, F> as FallibleIterator>⟧.contract s I.contract
-        (dedup_by_key_source s) }
-    ensures due { (s : DedupByKey I K F I.Item I.Error) (stop : Option I.Error)
-        → dedup_by_key_due s ≡ Some stop
-        → SoundHints ⟦<DedupByKey<I, K, F> as FallibleIterator>⟧.contract s }
-    ensures failure_due { (s : DedupByKey I K F I.Item I.Error) (e : I.Error) → dedup_by_key_due s ≡ Some (Some e)
-        → HintsPastFailure ⟦<DedupByKey<I, K, F> as FallibleIterator>⟧.contract s e }
+    ensures { HintsWhereHeld ⟦<DedupByKey<I, K, F> as FallibleIterator>⟧.contract dedup_by_key_due I.contract dedup_by_key_source }
 {}
 
 /// The answers of `TupleWindows` are the source's, where each item but the first is replaced by the pair of the one before it and itself, or by the failure converted from the `AllocError` of its clone. The one before it is the last item that the source yielded, also after such a failure.
@@ -195,6 +171,23 @@ where
     ensures { (s : TupleWindows I I.Item I.Error)
         → HintsAsSoundAs ⟦<TupleWindows<I> as FallibleIterator>⟧.contract s I.contract
         (tuple_windows_source s) }
+{}
+
+/// The answers of `Tuples` are the source's, where each second item is replaced by the pair of the one before it and itself, and the others are left out.
+pub fn law_tuples<I: FallibleIterator>()
+where
+    I::Item: Drop,
+    ensures { TracesAre tuples_parts ⟦<Tuples<I> as FallibleIterator>⟧.contract.steps
+        (TuplesTrace I.contract.steps) }
+{}
+
+/// Each hint of `Tuples` is as sound as the hint of its source that it is made of.
+pub fn law_hints_tuples<I: FallibleIterator>()
+where
+    I::Item: Drop,
+    ensures { (s : Tuples I I.Item I.Error)
+        → HintsAsSoundAs ⟦<Tuples<I> as FallibleIterator>⟧.contract s I.contract
+        (tuples_source s) }
 {}
 
 /// The answers of `WithPosition` are the stop that is due, and then the items, each with its position: each stands where the next one or a stop came, and each stop after what was buffered before it.
@@ -222,12 +215,5 @@ pub fn law_hints_with_position<I: FallibleIterator>()
 where
     I::Item: Drop,
     I::Error: Drop,
-    ensures none_due { (s : WithPosition I I.Item I.Error) → with_position_due s ≡ None
-        → HintsAsSoundAs ⟦<WithPosition<I> as FallibleIterator>⟧.contract s I.contract
-        (with_position_source s) }
-    ensures due { (s : WithPosition I I.Item I.Error) (stop : Option I.Error)
-        → with_position_due s ≡ Some stop
-        → SoundHints ⟦<WithPosition<I> as FallibleIterator>⟧.contract s }
-    ensures failure_due { (s : WithPosition I I.Item I.Error) (e : I.Error) → with_position_due s ≡ Some (Some e)
-        → HintsPastFailure ⟦<WithPosition<I> as FallibleIterator>⟧.contract s e }
+    ensures { HintsWhereHeld ⟦<WithPosition<I> as FallibleIterator>⟧.contract with_position_due I.contract with_position_source }
 {}

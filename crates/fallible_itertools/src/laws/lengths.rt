@@ -1,10 +1,12 @@
 // The laws of the list words: how long what they make is, and what stands at each position.
-ghost use Rattle.std.specs.Prelude.{◌≡◌, ℕ, ◌+◌, ◌-◌, ◌*◌, ◌++◌, List, Ok, Option, Result, IsPermutation, drop, length, max, option_map, sum_by, zip};
+ghost use Rattle.std.specs.Prelude.{◌≡◌, ℕ, ◌+◌, ◌-◌, ◌*◌, ◌/◌, ◌++◌, [], ◌∷◌, List, Ok, Option, Result, IsPermutation, drop, length, max, option_map, sum_by, take, zip};
+ghost use Rattle.std.specs.List.{flat_map};
 ghost use Rattle.fallible_iterator.specs.BothEnds.{items_listed, failures_listed};
 ghost use Rattle.fallible_iterator.specs.Lists.{nth_of, on_value};
 ghost use Rattle.fallible_itertools.specs.Intersperse.{interspersed};
 ghost use Rattle.fallible_itertools.specs.Join.{StandsInText, joined};
 ghost use Rattle.fallible_itertools.specs.TupleWindows.{windowed};
+ghost use Rattle.fallible_itertools.specs.Tuples.{tupled};
 ghost use Rattle.fallible_itertools.specs.ZipLongest.{longest, zipped_longest};
 
 /// `interspersed` makes 2n - 1 items of n, and none of none. The items stand at the even positions, and the separator at the odd ones between them. The failures are the list's.
@@ -28,6 +30,17 @@ pub fn law_windowed<T, E>()
         → items_listed (windowed l) ≡ zip (items_listed l) (drop 1 (items_listed l)) }
     ensures failures { (l : List (Result T E))
         → failures_listed (windowed l) ≡ failures_listed l }
+{}
+
+/// `tupled` makes half as many pairs as there are items. Their items, in order, are those of the list, without the last of an odd number. The failures are the list's.
+pub fn law_tupled<T, E>()
+    ensures length { (l : List (Result T E))
+        → length (items_listed (tupled l)) ≡ length (items_listed l) / 2 }
+    ensures pairs { (l : List (Result T E))
+        → flat_map (λ p. p.0 ∷ p.1 ∷ []) (items_listed (tupled l))
+        ≡ take (2 * (length (items_listed l) / 2)) (items_listed l) }
+    ensures failures { (l : List (Result T E))
+        → failures_listed (tupled l) ≡ failures_listed l }
 {}
 
 /// `zipped_longest` makes as many items as the longer list has. Each position before a failure has the items of both lists, or the one that is there. The failures are those of both lists.

@@ -1,9 +1,11 @@
 //! The folds of the adapters that let items pass, through their sources' own. The adapter's state stands beside the caller's, and a reference points to each.
 
 use crate::fallible_contract::folds::{Beside, Turn, answer_within};
-use crate::fallible_contract::passing::{Pass, PassTurn};
+use crate::fallible_contract::passing::{Outcome, Pass, PassTurn};
 use crate::fallible_core::traits::FallibleIterator;
 use crate::fallible_core::traits::double_ended::DoubleEndedFallibleIterator;
+use core::convert::Infallible;
+use core::ops::ControlFlow;
 
 /// The fold from the front of an adapter: what becomes of each item of the source, and the caller's turn on what is kept.
 ///
@@ -79,4 +81,64 @@ pub fn drive_back_passing<
     let mut both = Beside { c: state, p };
     let answer = it.drive_back(&mut both, &PassTurn { adapter, turn });
     answer_within(answer)
+}
+
+/// The turn of a draw by a fold of the source: it stops with what becomes of the first item that isn't left out.
+pub(crate) struct PassDrawTurn<'a, A> {
+    pub(crate) adapter: &'a A,
+}
+
+impl<'a, P, X, E, A: Pass<P, X, E>> Turn<P, X, Result<Option<A::Kept>, E>> for PassDrawTurn<'a, A> {
+    #[inline(always)]
+    fn turn(&self, state: &mut P, item: X) -> ControlFlow<Result<Option<A::Kept>, E>, ()> {
+        match self.adapter.pass(state, item) {
+            Outcome::Kept(y) => ControlFlow::Break(Ok(Some(y))),
+            Outcome::LeftOut => ControlFlow::Continue(()),
+            Outcome::Failure(e) => ControlFlow::Break(Err(e)),
+            Outcome::End => ControlFlow::Break(Ok(None)),
+        }
+    }
+}
+
+/// The fold that counts what an adapter keeps: it adds one for each item that stays.
+pub(crate) fn drive_count_passing<I: FallibleIterator, P, A: Pass<P, I::Item, I::Error>>(
+    it: &mut I,
+    p: &mut P,
+    adapter: &A,
+    number: &mut usize,
+) -> Result<Option<Infallible>, I::Error> {
+    let mut both = Beside { c: number, p };
+    let answer = it.drive(&mut both, &PassCountTurn { adapter });
+    answer_within(answer)
+}
+
+// The turn of that fold: it adds one if the item is kept.
+struct PassCountTurn<'a, A> {
+    adapter: &'a A,
+}
+
+impl<'a, 'b, P, X, E, A: Pass<P, X, E>> Turn<Beside<'b, usize, P>, X, Result<Option<Infallible>, E>>
+    for PassCountTurn<'a, A>
+{
+    #[inline(always)]
+    fn turn(
+        &self,
+        state: &mut Beside<'b, usize, P>,
+        item: X,
+    ) -> ControlFlow<Result<Option<Infallible>, E>, ()> {
+        let kept = match self.adapter.pass(state.p, item) {
+            Outcome::Kept(_) => true,
+            Outcome::LeftOut => false,
+            Outcome::Failure(e) => return ControlFlow::Break(Err(e)),
+            Outcome::End => return ControlFlow::Break(Ok(None)),
+        };
+        count_if(state.c, kept);
+        ControlFlow::Continue(())
+    }
+}
+
+// Adds one if the item is kept. The sum has no branch.
+#[inline(always)]
+fn count_if(number: &mut usize, kept: bool) {
+    *number += usize::from(kept);
 }

@@ -2,6 +2,8 @@ use crate::Fail;
 use fallible_iterator::memory::AllocError;
 
 #[cfg(test)]
+mod apart;
+#[cfg(test)]
 mod ends;
 #[cfg(test)]
 mod extremes;

@@ -53,14 +53,6 @@ module _ {S A E : Type 0} (m : Contract S A E) (s : Skip S) where
   pub skip_step_reached : {t : S} {k : ℕ} {r : Answered A E} → Driven m.steps IsNthTurn s.it s.to_skip r t k → (skip_here m).steps s r (record { it = t; to_skip = k })
   skip_step_reached w = skips_reached m.steps w
 
-  -- where nothing is left to leave out, what holds at each turn holds at each turn of the source
-  pub holds_each_turn_unskipped : {C : Type 0} {on : C → A → C → Type 0} {P : C → A → Type 0} {c : C} → s.to_skip ≡ 0 → HoldsAtEachTurn (skip_here m).steps on P s c → HoldsAtEachTurn m.steps on P s.it c
-  holds_each_turn_unskipped {on = on} {P = P} {c = c} nothing h = holds_at_each_turn_into none_to_skip (λ p x q step. skip_step_past m.steps p (item x) q step) (subst (λ (n : ℕ). HoldsAtEachTurn (skip_here m).steps on P (record { it = s.it; to_skip = n }) c) nothing h)
-
-  -- and a fold of the source is the fold
-  pub driven_unskipped : {C R : Type 0} {turns : C → A → ControlFlow R (Unit {0}) → C → Type 0} {c z : C} {r : Answered R E} {u : S} → s.to_skip ≡ 0 → Driven m.steps turns s.it c r u z → Driven (skip_here m).steps turns s c r (record { it = u; to_skip = s.to_skip }) z
-  driven_unskipped {turns = turns} {c = c} {z = z} {r = r} {u = u} nothing rest = subst (λ (n : ℕ). Driven (skip_here m).steps turns (record { it = s.it; to_skip = n }) c r (record { it = u; to_skip = n }) z) (sym nothing) (drained_into none_to_skip (λ p r q step. skip_step_past m.steps p r q step) rest)
-
   module _ {t : S} {k : ℕ} {x : A} (w : Driven m.steps IsNthTurn s.it s.to_skip (item x) t k) where
     nothing_more_to_skip : k ≡ 0
     nothing_more_to_skip = none_left_to_skip m.steps (leaves_of_skip_trace m.steps {p = skip_parts s} {q = (t, k)} (skip_step_reached w))

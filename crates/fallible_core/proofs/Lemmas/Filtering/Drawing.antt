@@ -1,21 +1,19 @@
 -- One draw of `Filter` and of `FilterMap` is a fold of the source, which stops with the item that is kept.
-use Rattle.std.specs.Prelude.{◌≡◌, ◌+◌, ℕ, Result, Ok, Err, Option, Some, None, is_some, Bool, true, false, List, [], ◌∷◌}
-use Rattle.std.specs.Int.{from_bool}
+use Rattle.std.specs.Prelude.{◌≡◌, Result, Ok, Err, Option, Some, None, List, [], ◌∷◌}
 use Rattle.std.specs.List.{FoldsTo}
-use Rattle.std.proofs.Common.{refl, sym, ap, subst, arith}
+use Rattle.std.proofs.Common.{refl, sym, ap, subst}
 use Rattle.fallible_contract.specs.Traces.{Answered}
 use Rattle.fallible_contract.specs.Contract.{Contract, Lawful}
 use Rattle.fallible_contract.specs.Closures.{IsCallable}
 use Rattle.fallible_contract.specs.Folds.{HoldsAtEachTurn, Driven, DriveExit, goes_on, within}
 use Rattle.fallible_contract.specs.Folding.{FoldingTurn, TurnedBy}
-use Rattle.fallible_contract.specs.Passing.{PassTrace, ItemPassed, tested_outcome}
+use Rattle.fallible_contract.specs.Passing.{PassTrace, ItemPassed}
 use Rattle.fallible_contract.specs.Searching.{IsSearchTurn, SearchDecides, find_map_pick}
 use Rattle.fallible_contract.proofs.Lemmas.Folds.{folds_to_map, holds_each_turn_map, drained_map, step_of_first_drawn}
 use Rattle.fallible_contract.proofs.Lemmas.Folding.{drives_through}
 use Rattle.fallible_contract.proofs.Lemmas.Passing.{holds_each_turn_callable}
-use Rattle.fallible_core.specs.Filtering.Filter.{CountsOne, DrawingTurn, StopsWithItem}
+use Rattle.fallible_core.specs.Filtering.Filter.{DrawingTurn, StopsWithItem}
 use Rattle.fallible_core.specs.Filtering.FilterMap.{filter_map_outcome}
-use Rattle.std.specs.declared.convert.Infallible.{Infallible}
 use Rattle.std.specs.declared.ops.ControlFlow.{ControlFlow}
 use Rattle.std.specs.declared.ops.ControlFlow.TheVariants.{Continue, Break}
 use Rattle.fallible_contract.specs.declared.passing.Outcome.{Outcome}
@@ -52,14 +50,6 @@ pub pass_trace_drawing : {S F X V B E : Type 0} {steps : S → Answered X E → 
 pass_trace_drawing {steps = steps} {call = call} outcome {s = s} {t = t} {f = f} {g = g} {answer = answer} {r = r} driven is = subst (λ (z : Answered _ _). PassTrace steps call outcome (s, f) (z ∷ []) (t, g)) (sym is)
     (step_of_first_drawn (drives_through {turns = StopsWithItem} {p = (tt, f)} {q = (tt, g)} (drained_map (λ items last w. record { carried = (tt, w.carried); went = folds_to_went_drawing call outcome items f w.carried w.went; exit = drive_exit_drawing call outcome last w.carried g answer w.exit }) driven)))
 
--- ---- `Filter`
-
-module _ {F X E : Type 0} (call : F → X → Result Bool E → F → Type 0) where
-  -- where the test's answer is added as a number, that is the turn of the fold that counts
-  pub folding_turn_counts_one : {n k : ℕ} {f g : F} (x : X) (b : Bool) → call f x (Ok b) g → k ≡ n + from_bool b → FoldingTurn {B = X} {E = E} call tested_outcome (CountsOne {R = Infallible}) (n, f) x (Continue tt) (k, g)
-  folding_turn_counts_one x true called is = (Ok true, called, (Continue tt, (refl, is), refl))
-  folding_turn_counts_one {n} x false called is = (Ok false, called, (refl, omega (arith, is)))
-
 -- ---- `FilterMap`
 
 module _ {F X B E : Type 0} (call : F → X → Result (Option B) E → F → Type 0) where
@@ -83,16 +73,6 @@ module _ {F X B E : Type 0} (call : F → X → Result (Option B) E → F → Ty
   drive_exit_by_search (Ok None) f g r e = e
   drive_exit_by_search (Ok (Some x)) f g r e = (e.0, drawing_turn_by_search f x (Break e.0) g e.1, e.2)
   drive_exit_by_search (Err d) f g r e = e
-
-  -- where it is added whether the closure returns a value, that is the turn of the fold that counts
-  pub folding_turn_counts_made : {n k : ℕ} {f g : F} (x : X) (made : Option B) → call f x (Ok made) g → k ≡ n + from_bool (is_some made) → FoldingTurn {B = B} {E = E} call filter_map_outcome (CountsOne {R = Infallible}) (n, f) x (Continue tt) (k, g)
-  folding_turn_counts_made x (Some y) called is = (Ok (Some y), called, (Continue tt, (refl, is), refl))
-  folding_turn_counts_made {n} x None called is = (Ok None, called, (refl, omega (arith, is)))
-
-  -- and the number stays one
-  pub made_fits : {f g : F} {P : Type 0} (x : X) (made : Option B) → ((v : Result (Option B) E) (h : F) (y : B) → call f x v h → filter_map_outcome x v ≡ Kept y → P) → call f x (Ok made) g → is_some made ≡ true → P
-  made_fits {g = g} x (Some y) takes called is = takes (Ok (Some y)) g y called refl
-  made_fits x None takes called is = absurd cc
 
 module _ {S F X B E : Type 0} {call : F → X → Result (Option B) E → F → Type 0} where
   pub holds_each_turn_filter_map : {m : Contract S X E} {pre : F → X → Type 0} {s : S} {f : F} → Lawful m → m.can_next s → IsCallable call pre (m.may_give s) f → HoldsAtEachTurn m.steps (goes_on (IsSearchTurn call find_map_pick)) pre s f

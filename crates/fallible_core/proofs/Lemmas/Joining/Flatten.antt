@@ -22,9 +22,6 @@ module _ {S X C B E : Type 0} (outer : S → Answered X E → S → Type 0) (int
   abbrev TraceHere : S → Option C → List (Answered B E) → S → Option C → Type 0
   TraceHere = FlattenAnswers outer into inner
 
-  abbrev JoinedHere : S → Option C → List (Answered B E) → S → Option C → Type 0
-  JoinedHere = JoinedTrace outer into inner
-
   -- an answer, which is no end, of the current inner iterator
   joined_trace_more : (s t : S) (c d : C) (hand : Option C) (r : Answered B E) (trace : List (Answered B E)) → inner c r d → is_end r ≡ false → JoinedTrace outer into inner s (Some d) trace t hand → JoinedTrace outer into inner s (Some c) (r ∷ trace) t hand
   joined_trace_more s t c d hand r trace step free j = let f = j.hand_finished in record {

@@ -36,17 +36,14 @@ impl<I: FallibleIterator> FallibleIterator for Skip<I> {
         state: &mut C,
         turn: &K,
     ) -> Result<Option<R>, I::Error> {
-        if 0 < self.to_skip {
-            match self.it.drive(&mut self.to_skip, &NthTurn) {
-                Ok(Some(x)) => match turn.turn(state, x) {
-                    ControlFlow::Continue(()) => {}
-                    ControlFlow::Break(stop) => return Ok(Some(stop)),
-                },
-                Ok(None) => return Ok(None),
-                Err(e) => return Err(e),
-            }
+        match self.it.drive(&mut self.to_skip, &NthTurn) {
+            Ok(Some(x)) => match turn.turn(state, x) {
+                ControlFlow::Continue(()) => self.it.drive(state, turn),
+                ControlFlow::Break(stop) => Ok(Some(stop)),
+            },
+            Ok(None) => Ok(None),
+            Err(e) => Err(e),
         }
-        self.it.drive(state, turn)
     }
 
     crate::by_drive!(drive);

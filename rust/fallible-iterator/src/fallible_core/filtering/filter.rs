@@ -1,12 +1,12 @@
 // The adapter that leaves out the items that a predicate rejects.
 
-use crate::fallible_contract::folds::{Beside, Turn, answer_within};
+use crate::fallible_contract::folds::{Turn, answer_within};
 use crate::fallible_contract::passing::{Outcome, Pass};
-use crate::fallible_core::passing::{drive_back_passing, drive_passing};
+use crate::fallible_core::passing::{
+    PassDrawTurn, drive_back_passing, drive_count_passing, drive_passing,
+};
 use crate::fallible_core::traits::FallibleIterator;
 use crate::fallible_core::traits::double_ended::DoubleEndedFallibleIterator;
-use core::convert::Infallible;
-use core::ops::ControlFlow;
 
 /// The items for which the predicate returns true. An item on which it fails is lost, and its failure is yielded.
 #[derive(Clone, Debug)]
@@ -25,7 +25,10 @@ impl<I: FallibleIterator, F: FnMut(&I::Item) -> Result<bool, I::Error>> Fallible
 
     /// Draws until an item is kept, or a failure or `Ok(None)` comes. It calls the predicate on each item.
     fn next(&mut self) -> Result<Option<I::Item>, I::Error> {
-        answer_within(self.it.drive(&mut self.f, &FilterDrawTurn))
+        let turn = PassDrawTurn {
+            adapter: &FilterPass,
+        };
+        answer_within(self.it.drive(&mut self.f, &turn))
     }
 
     fn size_hint(&self) -> (usize, Option<usize>) {
@@ -43,7 +46,7 @@ impl<I: FallibleIterator, F: FnMut(&I::Item) -> Result<bool, I::Error>> Fallible
 
     /// One fold of the source, which adds one for each item that is kept.
     fn drive_count(&mut self, number: &mut usize) -> Result<(), I::Error> {
-        match drive_kept(&mut self.it, &mut self.f, number) {
+        match drive_count_passing(&mut self.it, &mut self.f, &FilterPass, number) {
             Ok(None) => Ok(()),
             Ok(Some(never)) => match never {},
             Err(e) => Err(e),
@@ -58,7 +61,10 @@ impl<I: DoubleEndedFallibleIterator, F: FnMut(&I::Item) -> Result<bool, I::Error
 {
     /// Draws from the back until an item is kept, or a failure or `Ok(None)` comes. It calls the predicate on each item.
     fn next_back(&mut self) -> Result<Option<I::Item>, I::Error> {
-        answer_within(self.it.drive_back(&mut self.f, &FilterDrawTurn))
+        let turn = PassDrawTurn {
+            adapter: &FilterPass,
+        };
+        answer_within(self.it.drive_back(&mut self.f, &turn))
     }
 
     #[inline(always)]
@@ -89,57 +95,4 @@ impl<X, E, F: FnMut(&X) -> Result<bool, E>> Pass<F, X, E> for FilterPass {
             Err(e) => Outcome::Failure(e),
         }
     }
-}
-
-// The turn of a draw, whose state is the predicate: it stops with an item for which that returns true, or if it fails.
-struct FilterDrawTurn;
-
-impl<X, E, F: FnMut(&X) -> Result<bool, E>> Turn<F, X, Result<Option<X>, E>> for FilterDrawTurn {
-    #[inline(always)]
-    fn turn(&self, state: &mut F, item: X) -> ControlFlow<Result<Option<X>, E>, ()> {
-        match state(&item) {
-            Ok(true) => ControlFlow::Break(Ok(Some(item))),
-            Ok(false) => ControlFlow::Continue(()),
-            Err(e) => ControlFlow::Break(Err(e)),
-        }
-    }
-}
-
-// The fold that counts the items for which the predicate returns true.
-fn drive_kept<I: FallibleIterator, F: FnMut(&I::Item) -> Result<bool, I::Error>>(
-    it: &mut I,
-    f: &mut F,
-    number: &mut usize,
-) -> Result<Option<Infallible>, I::Error> {
-    let mut both = Beside { c: number, p: f };
-    let answer = it.drive(&mut both, &FilterCountTurn);
-    answer_within(answer)
-}
-
-// The turn of that fold: it adds one if the item is kept.
-struct FilterCountTurn;
-
-impl<'b, X, E, F: FnMut(&X) -> Result<bool, E>>
-    Turn<Beside<'b, usize, F>, X, Result<Option<Infallible>, E>> for FilterCountTurn
-{
-    #[inline(always)]
-    fn turn(
-        &self,
-        state: &mut Beside<'b, usize, F>,
-        item: X,
-    ) -> ControlFlow<Result<Option<Infallible>, E>, ()> {
-        match (state.p)(&item) {
-            Ok(kept) => {
-                count_if(state.c, kept);
-                ControlFlow::Continue(())
-            }
-            Err(e) => ControlFlow::Break(Err(e)),
-        }
-    }
-}
-
-// Adds one if the item is kept. The sum has no branch.
-#[inline(always)]
-pub(crate) fn count_if(number: &mut usize, kept: bool) {
-    *number += usize::from(kept);
 }

@@ -1,14 +1,11 @@
 // The adapter that leaves out the items for which its closure returns `None`.
 
-use crate::fallible_contract::folds::{Beside, Turn, answer_within};
+use crate::fallible_contract::folds::{Turn, answer_within};
 use crate::fallible_contract::passing::{Outcome, Pass};
 use crate::fallible_contract::searching::FindMapTurn;
-use crate::fallible_core::filtering::filter::count_if;
-use crate::fallible_core::passing::{drive_back_passing, drive_passing};
+use crate::fallible_core::passing::{drive_back_passing, drive_count_passing, drive_passing};
 use crate::fallible_core::traits::FallibleIterator;
 use crate::fallible_core::traits::double_ended::DoubleEndedFallibleIterator;
-use core::convert::Infallible;
-use core::ops::ControlFlow;
 
 /// The values that the closure returns. An item for which it returns `None` is left out; an item on which it fails is lost, and its failure is yielded.
 #[derive(Clone, Debug)]
@@ -45,7 +42,7 @@ impl<I: FallibleIterator, B, F: FnMut(I::Item) -> Result<Option<B>, I::Error>> F
 
     /// One fold of the source, which adds one for each item for which the closure returns a value.
     fn drive_count(&mut self, number: &mut usize) -> Result<(), I::Error> {
-        match drive_made(&mut self.it, &mut self.f, number) {
+        match drive_count_passing(&mut self.it, &mut self.f, &FilterMapPass, number) {
             Ok(None) => Ok(()),
             Ok(Some(never)) => match never {},
             Err(e) => Err(e),
@@ -89,39 +86,6 @@ impl<X, B, E, F: FnMut(X) -> Result<Option<B>, E>> Pass<F, X, E> for FilterMapPa
             Ok(Some(y)) => Outcome::Kept(y),
             Ok(None) => Outcome::LeftOut,
             Err(e) => Outcome::Failure(e),
-        }
-    }
-}
-
-// The fold that counts the items for which the closure returns a value.
-fn drive_made<I: FallibleIterator, B, F: FnMut(I::Item) -> Result<Option<B>, I::Error>>(
-    it: &mut I,
-    f: &mut F,
-    number: &mut usize,
-) -> Result<Option<Infallible>, I::Error> {
-    let mut both = Beside { c: number, p: f };
-    let answer = it.drive(&mut both, &FilterMapCountTurn);
-    answer_within(answer)
-}
-
-// The turn of that fold: it adds one if the closure returns a value.
-struct FilterMapCountTurn;
-
-impl<'b, X, B, E, F: FnMut(X) -> Result<Option<B>, E>>
-    Turn<Beside<'b, usize, F>, X, Result<Option<Infallible>, E>> for FilterMapCountTurn
-{
-    #[inline(always)]
-    fn turn(
-        &self,
-        state: &mut Beside<'b, usize, F>,
-        item: X,
-    ) -> ControlFlow<Result<Option<Infallible>, E>, ()> {
-        match (state.p)(item) {
-            Ok(made) => {
-                count_if(state.c, made.is_some());
-                ControlFlow::Continue(())
-            }
-            Err(e) => ControlFlow::Break(Err(e)),
         }
     }
 }

@@ -35,11 +35,21 @@ pub fn tally(readings: Vec<Result<u32, u8>>) -> Result<HashMap<u32, usize>, u8> 
     convert(readings.into_iter()).counts()
 }
 
+/// How often each last digit of the readings comes.
+pub fn tally_last_digits(readings: Vec<Result<u32, u8>>) -> Result<HashMap<u32, usize>, u8> {
+    convert(readings.into_iter()).counts_by(|reading: u32| Ok(reading % 10))
+}
+
 /// The readings by their last digits: each digit beside its readings, in order.
 pub fn by_last_digit(readings: Vec<Result<u32, u8>>) -> Result<HashMap<u32, Vec<u32>>, u8> {
     convert(readings.into_iter())
         .map(|reading| Ok((reading % 10, reading)))
         .into_group_map()
+}
+
+/// The readings by their last digits, as `by_last_digit`, by a closure that makes the digit of a reading.
+pub fn grouped_by_last_digit(readings: Vec<Result<u32, u8>>) -> Result<HashMap<u32, Vec<u32>>, u8> {
+    convert(readings.into_iter()).into_group_map_by(|reading: &u32| Ok(*reading % 10))
 }
 
 /// The readings up to 100, and how much the others are above 100.
@@ -61,6 +71,11 @@ pub fn readings_sorted(readings: Vec<Result<u32, u8>>) -> Result<Vec<u32>, u8> {
 /// The readings in the order of their last digits, or the first failure.
 pub fn sorted_by_last_digit(readings: Vec<Result<u32, u8>>) -> Result<Vec<u32>, u8> {
     convert(readings.into_iter()).sorted_by_key(|reading: &u32| *reading % 10)
+}
+
+/// The readings from the greatest down, or the first failure.
+pub fn sorted_down(readings: Vec<Result<u32, u8>>) -> Result<Vec<u32>, u8> {
+    convert(readings.into_iter()).sorted_by(|x: &u32, y: &u32| y.cmp(x))
 }
 
 /// The reading with n readings after it.

@@ -8,6 +8,20 @@ use fallible_itertools::FallibleItertools;
 #[derive(Clone, Copy, Debug, PartialEq)]
 pub struct TooManyBad;
 
+/// Why there is no count.
+#[derive(Clone, Copy, Debug, PartialEq)]
+pub enum NoCount {
+    /// A row is bad, with this code.
+    Row(u8),
+}
+
+impl From<u8> for NoCount {
+    /// `NoCount::Row`
+    fn from(code: u8) -> NoCount {
+        NoCount::Row(code)
+    }
+}
+
 /// The sum of the good rows, modulo 2 ^ 64, and the number of bad ones. It stops at the hundredth bad one.
 pub fn sum_good(rows: Vec<Result<u32, u8>>) -> Result<(u64, u32), TooManyBad> {
     convert(rows.into_iter())
@@ -48,6 +62,48 @@ pub fn sum_of_thousand<I: FallibleIterator<Item = u32>>(rows: I) -> Result<u64, 
         .stop_after(100)
         .or_else(|_: I::Error| Ok(None))
         .fold(0, |sum: u64, row: u32| Ok(sum.wrapping_add(u64::from(row))))
+}
+
+/// The sum of the good ones among the first `most` rows, modulo 2 ^ 64, and the number of bad ones among them. It gives up at the hundredth bad one, and draws no more. The rows may come of a reader, which has no bound.
+pub fn tally_good<I: FallibleIterator<Item = u64>>(
+    rows: I,
+    most: usize,
+) -> Result<(u64, u32), TooManyBad> {
+    let tally = rows
+        .take(most)
+        .map(|good: u64| Ok(Some(good)))
+        .stop_after(100)
+        .or_else(|_: I::Error| Ok(Some(None)))
+        .fold((0, 0), |tally: (u64, u32), row: Option<u64>| {
+            Ok(match row {
+                Some(good) => (tally.0.wrapping_add(good), tally.1),
+                None => (tally.0, tally.1.wrapping_add(1)),
+            })
+        })?;
+    if tally.1 < 100 {
+        Ok(tally)
+    } else {
+        Err(TooManyBad)
+    }
+}
+
+/// The readings above 100 before the first failure, and that failure, if one came.
+pub fn above_100_before_failure(
+    readings: Vec<Result<u32, u8>>,
+) -> Result<(Vec<u32>, Option<u8>), AllocError> {
+    convert(readings.into_iter())
+        .filter(|reading| Ok(*reading > 100))
+        .collect_until_failure()
+}
+
+/// The good rows and the codes of the bad ones, each in order.
+pub fn good_and_bad(rows: Vec<Result<u32, u8>>) -> Result<(Vec<u32>, Vec<u8>), AllocError> {
+    convert(rows.into_iter()).partition_failures()
+}
+
+/// How many rows there are, or why they aren't counted.
+pub fn count_rows(rows: Vec<Result<u32, u8>>) -> Result<usize, NoCount> {
+    convert(rows.into_iter()).err_into().count()
 }
 
 /// How many rows there are, or the first failure, which `noted` holds then.

@@ -71,6 +71,11 @@ pub fn commas(readings: Vec<Result<u32, u8>>) -> Result<usize, u8> {
         .count()
 }
 
+/// How many points there are, of which the x and then the y is listed, or the first failure.
+pub fn points(coordinates: Vec<Result<u32, u8>>) -> Result<usize, u8> {
+    convert(coordinates.into_iter()).tuples().count()
+}
+
 /// The first item with its position, over any iterator, also over one that never ends, such as the rows of a reader: `next` draws twice at most.
 pub fn first_placed<I: FallibleIterator>(it: I) -> Result<Option<(Position, I::Item)>, I::Error> {
     let mut it = it.with_position();

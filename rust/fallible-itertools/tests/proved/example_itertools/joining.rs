@@ -14,6 +14,13 @@ pub fn places_of_both(
         .count()
 }
 
+/// How many readings a year has, where a 0 stands for each month that is missing at its end, or the first failure.
+pub fn months(readings: Vec<Result<u32, u8>>) -> Result<usize, u8> {
+    convert(readings.into_iter())
+        .pad_using(12, |_: usize| Ok(0))
+        .count()
+}
+
 /// How many readings two sorted columns have together, or the first failure.
 pub fn readings_merged(
     left: Vec<Result<u32, u8>>,

@@ -70,6 +70,17 @@ pub fn after_zero(readings: Vec<Result<u32, u8>>) -> Result<Option<u32>, u8> {
     }
 }
 
+/// Whether each reading is above the next one, or the failure that comes before two of which it isn't.
+pub fn goes_down(readings: Vec<Result<u32, u8>>) -> Result<bool, u8> {
+    convert(readings.into_iter()).is_sorted_by(|x: &u32, y: &u32| Ok(*x > *y))
+}
+
+/// The first reading above 100 and how many come before it, or the failure that comes before.
+pub fn place_above_100(readings: Vec<Result<u32, u8>>) -> Result<Option<(usize, u32)>, u8> {
+    let mut it = convert(readings.into_iter());
+    it.find_position(|reading| Ok(*reading > 100))
+}
+
 /// The first reading above 100, or else the last one, or the failure that comes before.
 pub fn above_100_or_last(readings: Vec<Result<u32, u8>>) -> Result<Option<u32>, u8> {
     convert(readings.into_iter()).find_or_last(|reading| Ok(*reading > 100))

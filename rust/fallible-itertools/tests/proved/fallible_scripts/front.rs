@@ -153,9 +153,6 @@ const SKIP: [Step<'static>; 2] = [
     (Sum, Ok(Some(9)), &[THREE_FOLDS]),
 ];
 
-// Where nothing is left to skip, it folds once.
-const SKIP_NOTHING: [Step<'static>; 1] = [(Sum, Ok(Some(7)), &[ONE_FOLD])];
-
 const SKIP_WHILE_FOLDED: [Step<'static>; 1] = [(Sum, Ok(Some(4)), &[ONE_FOLD_ONE_FIND])];
 // It draws by a `find`. Once the predicate was false, it draws its source.
 const SKIP_WHILE_DRAWN: [Step<'static>; 2] = [
@@ -169,9 +166,6 @@ fn skip_and_skip_while_fold_the_rest_by_one_fold() {
         let log = Log::new();
         let answers = [Ok(1), Ok(2), Err(9), Ok(3), Ok(4), Ok(5)];
         expect_steps(&mut counted(&answers, &log).skip(3), &[&log], &SKIP)?;
-        let log = Log::new();
-        let answers = [Ok(3), Ok(4)];
-        expect_steps(&mut counted(&answers, &log).skip(0), &[&log], &SKIP_NOTHING)?;
         let log = Log::new();
         let answers = [Ok(1), Ok(2), Ok(3), Ok(1)];
         let mut it = counted(&answers, &log).skip_while(below_three);

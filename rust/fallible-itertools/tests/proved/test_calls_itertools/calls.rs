@@ -137,6 +137,9 @@ fn adapters_that_answer_at_no_end_fold_by_one_fold() {
         expect_folded(&mut Counted::new(it, &log).copied(), &log, &TWO_BY_ONE_FOLD)?;
         let mut pairs = one_one_two(&log)?.tuple_windows();
         expect_folded(&mut pairs, &log, &TWO_BY_ONE_FOLD)?;
+        // The last of three items is in no pair.
+        let mut pairs = one_one_two(&log)?.tuples();
+        expect_folded(&mut pairs, &log, &ONE_BY_ONE_FOLD)?;
         // A rejected item stops the fold, and then nothing is folded.
         let mut up_to_two = one_one_two(&log)?.take_while_inclusive(below_two);
         expect_folded(&mut up_to_two, &log, &THREE_BY_ONE_FOLD)?;
@@ -221,6 +224,10 @@ fn adapters_of_two_sides_and_peeking_take_while_draw_one_by_one() {
         let mut merged = one_one_two(&log)?.merge(right);
         expect_folded(&mut merged, &log, &FOUR_BY_FOUR_DRAWS)?;
         assert_eq!([beside.take(), other.take()], RIGHTS);
+        // The end is the fourth draw, and the fourth item takes none.
+        let mut padded = one_one_two(&log)?.pad_using(4, |_| Ok(5));
+        expect_folded(&mut padded, &log, &FOUR_BY_FOUR_DRAWS)?;
+        expect_folded(&mut padded, &log, &NONE_BY_NO_FOLD)?;
         // 2 is drawn, and stays next.
         let mut ahead = one_one_two(&log)?.peekable();
         let mut below = ahead.peeking_take_while(below_two);

@@ -66,6 +66,22 @@ const OF_INTERSPERSE: NumbersCase = Case {
 
 const OF_TUPLE_WINDOWS: Asks<'static> = ("TupleWindows", 2, [(2, Some(2)), NONE]);
 
+const OF_TUPLES: Asks<'static> = ("Tuples", 3, [(2, Some(2)), NONE]);
+
+// The end and 3 are left, and what the closure returns for the fourth item is no request.
+const OF_PAD_USING: NumbersCase = Case {
+    name: "PadUsing",
+    requests: 1,
+    hints: [(4, Some(4)), NONE],
+    first: &[Item(1), Item(2)],
+    expected: &[Item(3), Item(30)],
+};
+
+// Ten times the index.
+fn ten_times(index: usize) -> Result<u32, TestError> {
+    Ok((index as u32).wrapping_mul(10))
+}
+
 const OF_CHUNKS: Asks<'static> = ("Chunks", 2, [(2, Some(4)), NONE]);
 
 const OF_CHUNK_BY: Asks<'static> = ("ChunkBy", 3, [UP_TO_THREE, NONE]);

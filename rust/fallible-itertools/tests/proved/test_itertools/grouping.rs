@@ -115,8 +115,8 @@ fn chunks_batch_items_and_end_with_a_short_one() {
 
 const BEHIND: (
     Result<Option<u32>, TestError>,
-    Result<Option<(u32, u32)>, TestError>,
-) = (Ok(Some(777)), Ok(Some((7, 7))));
+    [Result<Option<(u32, u32)>, TestError>; 2],
+) = (Ok(Some(777)), [Ok(Some((7, 7))), Ok(Some((7, 7)))]);
 
 // A draw requires no bound of its source.
 #[test]
@@ -125,8 +125,9 @@ fn batches_and_pairs_come_of_a_source_with_no_end() {
         let mut batches = repeat::<u32, TestError>(7)
             .chunks(3)
             .map(|batch| Ok(digits(batch)));
-        let mut pairs = repeat::<u32, TestError>(7).tuple_windows();
-        assert_eq!((batches.next(), pairs.next()), BEHIND);
+        let mut windows = repeat::<u32, TestError>(7).tuple_windows();
+        let mut pairs = repeat::<u32, TestError>(7).tuples();
+        assert_eq!((batches.next(), [windows.next(), pairs.next()]), BEHIND);
         Ok(())
     }
     let _ = tested();

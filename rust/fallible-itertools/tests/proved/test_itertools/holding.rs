@@ -342,3 +342,54 @@ fn tuple_windows_pairs_over_failures_and_ends() {
     }
     let _ = tested();
 }
+
+// What is hinted, and what six draws return.
+const TWO_BY_TWO: (Hint, [Result<Option<(u32, u32)>, TestError>; 6]) = (
+    (0, None),
+    [
+        Ok(Some((1, 2))),
+        Err(Number(9)),
+        Ok(None),
+        Ok(Some((3, 4))),
+        Ok(None),
+        Ok(None),
+    ],
+);
+
+// Both items of a pair, a digit each.
+fn two_digits(pair: (u32, u32)) -> Result<u32, u32> {
+    Ok(pair.0.wrapping_mul(10).wrapping_add(pair.1))
+}
+
+const FIVE_AND_FAILURE: [Result<u32, u32>; 6] = [Ok(4), Ok(5), Ok(6), Err(9), Ok(7), Ok(8)];
+
+// Where an item is held, an odd number of them makes one pair more. The failure counts as an item in the source's hint.
+const HINTED_PAIRS: [(Hint, &[Answer<u32, u32>]); 4] = [
+    ((3, Some(3)), &[Item(45)]),
+    ((2, Some(2)), &[Failure(9)]),
+    ((1, Some(1)), &[Item(67)]),
+    ((0, Some(0)), &[End]),
+];
+
+#[test]
+fn tuples_pair_over_failures_and_ends() {
+    fn tested() -> Result<(), Fail> {
+        let mut source = Script {
+            answers: PAIRED.to_vec().into_iter(),
+        };
+        let mut it = (&mut source).tuples();
+        let hint = it.size_hint();
+        let drawn = [
+            it.next(),
+            it.next(),
+            it.next(),
+            it.next(),
+            it.next(),
+            it.next(),
+        ];
+        expect_same(&(hint, drawn), &TWO_BY_TWO)?;
+        let mut it = numbers(&FIVE_AND_FAILURE).tuples().map(two_digits);
+        expect_hinted_numbers(&mut it, &HINTED_PAIRS)
+    }
+    let _ = tested();
+}

@@ -164,3 +164,68 @@ fn merge_by_holds_one_item_of_each_side() {
     }
     let _ = tested();
 }
+
+// Ten times the index; a failure at 3.
+fn tens(index: usize) -> Result<u32, u32> {
+    if index == 3 {
+        Err(30)
+    } else {
+        Ok((index as u32).wrapping_mul(10))
+    }
+}
+
+// How many items there are at least, what the source answers, and what is hinted and drawn.
+type Padded = (
+    usize,
+    &'static [Drawn],
+    &'static [(Hint, &'static [Answer<u32, u32>])],
+);
+
+const PADDED: [Padded; 3] = [
+    (
+        5,
+        &[Ok(Some(1)), Err(7), Ok(Some(2)), END, Ok(Some(3))],
+        &[
+            ((5, None), &[Item(1), Failure(7)]),
+            ((4, None), &[Item(2)]),
+            // Once it ended 3 isn't drawn, and the failure of the closure takes an item's place.
+            ((3, None), &[Item(20)]),
+            ((2, Some(2)), &[Failure(30)]),
+            ((1, Some(1)), &[Item(40)]),
+            ((0, Some(0)), &[End, End]),
+        ],
+    ),
+    (
+        1,
+        &[Ok(Some(1)), Ok(Some(2)), END, Ok(Some(3))],
+        &[
+            ((1, None), &[Item(1)]),
+            ((0, None), &[Item(2), End]),
+            ((0, Some(0)), &[End]),
+        ],
+    ),
+    (
+        2,
+        &[END, Ok(Some(4))],
+        &[((2, None), &[Item(0)]), ((1, Some(1)), &[Item(10), End])],
+    ),
+];
+
+// The greater of what is left of both.
+const PADDED_HINTS: [Hint; 2] = [(3, Some(3)), (2, Some(2))];
+
+#[test]
+fn pad_using_fills_up_to_n_items() {
+    fn tested() -> Result<(), Fail> {
+        for (n, answers, course) in &PADDED {
+            let mut it = script(answers)?.pad_using(*n, tens);
+            expect_course(&mut it, course)?;
+        }
+        let hints = [
+            numbers(&TWO).pad_using(3, tens).size_hint(),
+            numbers(&TWO).pad_using(1, tens).size_hint(),
+        ];
+        expect_same(&hints, &PADDED_HINTS)
+    }
+    let _ = tested();
+}

@@ -1,18 +1,11 @@
 -- What is left out is held, and what is held comes before a stop.
-use Rattle.std.proofs.Common.{ap}
 use Rattle.fallible_iterator.specs.Picking.{call_at_two, takes_at_two}
 use Rattle.fallible_itertools.specs.DedupBy.{dedup_by_parts, dedup_by_asks, dedup_by_takes}
-use Rattle.fallible_itertools.specs.Holding.{held_beside, one_at_least}
+use Rattle.fallible_itertools.specs.Holding.{held_beside}
 use Rattle.fallible_itertools.specs.Laws.DedupBy.{holds_dedup_by}
 use Rattle.fallible_itertools.proofs.Lemmas.DedupBy.{gives_held}
-use Rattle.fallible_itertools.proofs.Lemmas.HoldingHints.{hints_as_sound_held, hints_past_due, sound_hints_due}
+use Rattle.fallible_itertools.proofs.Lemmas.HoldingHints.{hints_held}
 use Rattle.fallible_itertools.proofs.laws.holding.law_hints_dedup_by.Goals as goal
 
-pub returns-clause-none_due : goal.returns-clause-none_due
-returns-clause-none_due g c s is = hints_as_sound_held dedup_by_parts g.I.FallibleIterator.contract (dedup_by_asks (call_at_two g.F.FnMut)) (dedup_by_takes (takes_at_two g.F.FnMut)) held_beside (holds_dedup_by (call_at_two g.F.FnMut)) (gives_held (call_at_two g.F.FnMut)) s s.it s.stage.0 (ap (λ d. (s.it, (s.stage.0, d))) is)
-
-pub returns-clause-due : goal.returns-clause-due
-returns-clause-due g c s stop is = sound_hints_due dedup_by_parts g.I.FallibleIterator.contract (dedup_by_asks (call_at_two g.F.FnMut)) (dedup_by_takes (takes_at_two g.F.FnMut)) held_beside (holds_dedup_by (call_at_two g.F.FnMut)) (gives_held (call_at_two g.F.FnMut)) s s.it s.stage.0 stop (ap (λ d. (s.it, (s.stage.0, d))) is)
-
-pub returns-clause-failure_due : goal.returns-clause-failure_due
-returns-clause-failure_due g c s e is = hints_past_due dedup_by_parts g.I.FallibleIterator.contract.steps (dedup_by_asks (call_at_two g.F.FnMut)) (one_at_least g.I.FallibleIterator.contract held_beside) (λ it f e h w. w) s s.it s.stage.0 e (ap (λ d. (s.it, (s.stage.0, d))) is)
+pub returns : goal.returns
+returns g c = hints_held dedup_by_parts g.I.FallibleIterator.contract (dedup_by_asks (call_at_two g.F.FnMut)) (dedup_by_takes (takes_at_two g.F.FnMut)) held_beside (holds_dedup_by (call_at_two g.F.FnMut)) (gives_held (call_at_two g.F.FnMut))

@@ -30,13 +30,13 @@ pub returns-in-Err-draw-clause-value : goal.returns-in-Err-draw-clause-value
 returns-in-Err-draw-clause-value g c l i = minmaxed_of_lists _ l (returns-in-Err-draw-clause-minmaxed g c) i
 
 pub returns-in-Ok-None-drive-clause-minmaxed : goal.returns-in-Ok-None-drive-clause-minmaxed
-returns-in-Ok-None-drive-clause-minmaxed g c = min_maxed_minmaxed_to_end g.met.Self.Item.Ord.total _ (min_max_after_two g.met.Self.Item.Ord.total _ _ c.in-Ok-Some.first c.in-Ok-Some-draw.second (rw c.in-Ok-Some.field-0-is at c.in-Ok-Some.ensures.drawn) (rw c.in-Ok-Some-draw.field-0-is at c.in-Ok-Some-draw.ensures.drawn) c.in_order-both.ensures (rw c.in-Ok-None-drive.field-0-is at c.in-Ok-None-drive.ensures))
+returns-in-Ok-None-drive-clause-minmaxed g c = min_maxed_minmaxed_to_end g.met.Self.Item.Ord.total _ (min_max_after_two g.met.Self.Item.Ord.total _ _ c.in-Ok-Some.first c.in-Ok-Some-draw.second (rw c.in-Ok-Some.field-0-is at c.in-Ok-Some.ensures.drawn) (rw c.in-Ok-Some-draw.field-0-is at c.in-Ok-Some-draw.ensures.drawn) c.lesser_first-both.ensures (rw c.in-Ok-None-drive.field-0-is at c.in-Ok-None-drive.ensures))
 
 pub returns-in-Ok-None-drive-clause-value : goal.returns-in-Ok-None-drive-clause-value
 returns-in-Ok-None-drive-clause-value g c l i = minmaxed_of_lists _ l (returns-in-Ok-None-drive-clause-minmaxed g c) i
 
 pub returns-clause-minmaxed : goal.returns-clause-minmaxed
-returns-clause-minmaxed g c = min_maxed_minmaxed_to_failure g.met.Self.Item.Ord.total _ (min_max_after_two g.met.Self.Item.Ord.total _ _ c.in-Ok-Some.first c.in-Ok-Some-draw.second (rw c.in-Ok-Some.field-0-is at c.in-Ok-Some.ensures.drawn) (rw c.in-Ok-Some-draw.field-0-is at c.in-Ok-Some-draw.ensures.drawn) c.in_order-both.ensures c.in-Err-drive.ensures)
+returns-clause-minmaxed g c = min_maxed_minmaxed_to_failure g.met.Self.Item.Ord.total _ (min_max_after_two g.met.Self.Item.Ord.total _ _ c.in-Ok-Some.first c.in-Ok-Some-draw.second (rw c.in-Ok-Some.field-0-is at c.in-Ok-Some.ensures.drawn) (rw c.in-Ok-Some-draw.field-0-is at c.in-Ok-Some-draw.ensures.drawn) c.lesser_first-both.ensures c.in-Err-drive.ensures)
 
 pub returns-clause-value : goal.returns-clause-value
 returns-clause-value g c l i = minmaxed_of_lists _ l (returns-clause-minmaxed g c) i

@@ -8,8 +8,8 @@ use Rattle.fallible_core.specs.Laws.Filtering.Filter.{lawful_filter}
 use Rattle.std.specs.declared.convert.Infallible.{Infallible}
 use Rattle.fallible_core.proofs.filtering.filter.FilterFallibleIterator.drive_count.Goals as goal
 
-pub drive_kept-requires-clause-callable : goal.drive_kept-requires-clause-callable
-drive_kept-requires-clause-callable g c = holds_each_turn_through g.met.I.FallibleIterator.lawful (call_at g.F.FnMut) tested_outcome (CountsOne {R = Infallible}) c.requires.can_next.1.0 c.requires.can_next.1.1
+pub drive_count_passing-requires-clause-callable : goal.drive_count_passing-requires-clause-callable
+drive_count_passing-requires-clause-callable g c = holds_each_turn_through g.met.I.FallibleIterator.lawful (call_at g.F.FnMut) tested_outcome (CountsOne {R = Infallible}) c.requires.can_next.1.0 c.requires.can_next.1.1
     (holds_at_each_turn_into (λ p. record { it = p.0; f = p.1 }) (λ p x q step. step) (holds_each_turn_map (λ n x k h. h.1) (λ n x h. h) (holds_each_turn_below_from _ _ (lawful_seen filter_parts (lawful_filter g.F.FnMut g.met.I.FallibleIterator.lawful)) c.requires.can_next c.requires.fits)))
 
 pub returns-in-Ok-None : goal.returns-in-Ok-None

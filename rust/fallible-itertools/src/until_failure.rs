@@ -1,0 +1,40 @@
+//! A collection of what came before the first failure.
+
+use core::ops::ControlFlow;
+use fallible_iterator::memory::AllocError;
+use fallible_iterator::{Collect, Turn};
+
+/// The turn of `collect_until_failure`, whose state is the collection. It stops if that rejects an item.
+pub struct PushTurn;
+
+impl<A, C: Collect<A>> Turn<C, A, AllocError> for PushTurn {
+    /// Appends the item to the others.
+    #[inline(always)]
+    fn turn(&self, state: &mut C, item: A) -> ControlFlow<AllocError, ()> {
+        match state.push_one(item) {
+            Ok(()) => ControlFlow::Continue(()),
+            Err(refused) => ControlFlow::Break(refused),
+        }
+    }
+}
+
+/// Returns the collection beside the failure that the fold met, if it met one.
+///
+/// <details><summary>Contract</summary>
+///
+/// As it is proved, in [these words](crate::words):
+///
+/// ```text
+/// ensures { result ≡ with_failure_of answer made }
+/// ```
+/// </details>
+pub fn with_failure<C, E>(
+    answer: Result<Option<AllocError>, E>,
+    made: C,
+) -> Result<(C, Option<E>), AllocError> {
+    match answer {
+        Ok(None) => Ok((made, None)),
+        Ok(Some(refused)) => Err(refused),
+        Err(e) => Ok((made, Some(e))),
+    }
+}
