@@ -11,7 +11,7 @@ SUITES = {
     "fallible-iterator": [
         "test_support", "example_chains", "example_by_hand", "fallible_vectors",
         "test_adapters", "test_joining", "test_consumers",
-        "test_ends", "test_examples", "example_tasks", "test_tasks",
+        "test_ends", "test_examples", "program_io", "example_tasks", "test_tasks",
         "fallible_elf", "test_elf", "fallible_rows", "test_rows",
     ],
     "fallible-itertools": [
@@ -20,7 +20,7 @@ SUITES = {
     ],
 }
 # Modules that are left out: a program's words and files come by Rattle's own runtime.
-MODULES_LEFT_OUT = {"example_tasks/arguments.rs"}
+MODULES_LEFT_OUT = {"program_io/arguments.rs"}
 # Items that are left out, with those that use them: a pattern of their text, and why.
 LEFT_OUT = [
     (r"\bFault::Memory\b|\bAllocError\)|-> AllocError|\bexpect_refused\b", "memory is refused"),
@@ -76,7 +76,7 @@ def leave_out(files, count):
                     items.remove(item)
                     if "#[test]" in code:
                         count[why] = count.get(why, 0) + 1
-                    elif not code.startswith("impl From"):
+                    elif not re.match(r"impl(?:<\w+>)? From\b", code):
                         gone[path, item.name] = why
     for path, items in files.items():
         files[path] = [re.sub(r"^use [^;]*;", lambda m: fewer(m.group(), gone), x.text, flags=re.M) for x in items]
@@ -102,7 +102,7 @@ def module(path, blocks, count):
     """One file as a module of the suite."""
     s = "\n\n".join(blocks)
     s = re.sub(r"\bcrate::", "crate::%s::" % re.split(r"[/.]", path)[0], s)
-    s = re.sub(r"(?<![\w:])((?:fallible_(?!iter|contract|core)|test_|example_)\w+)::", r"crate::\1::", s)
+    s = re.sub(r"(?<![\w:])((?:fallible_(?!iter|contract|core)|test_|example_|program_)\w+)::", r"crate::\1::", s)
     s = re.sub(r"\bfallible_iterator::laws::", "crate::laws::", s)
     s = re.sub(r"(?<![\w:])fallible_(contract|core)::", r"fallible_iterator::fallible_\1::", s)
     s = re.sub(r"(?<=[{ ])Fault, |, Fault(?=[,}])", "", s)

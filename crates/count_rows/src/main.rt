@@ -8,11 +8,26 @@
 
 mod program;
 
+use fallible_rows::{BadRow, Buffered};
 use program::program;
+use program_io::ending::ended;
+use program_io::fault::RunFault;
+use std::io::BufReader;
 use std::process::ExitCode;
 
 fn main(rt: HostRuntime) -> ExitCode {
-    match program(rt.alloc(), rt.stdin(), &mut rt.stdout(), &mut rt.stderr()) {
+    let mut output = rt.stdout();
+    let mut errors = rt.stderr();
+    let ended = match BufReader::new(rt.alloc(), rt.stdin()) {
+        Ok(reader) => program(
+            rt.alloc(),
+            &mut Buffered::new(reader),
+            &mut output,
+            &mut errors,
+        ),
+        Err(_) => ended::<BadRow, _>(Err(RunFault::Memory), &mut errors),
+    };
+    match ended {
         Ok(status) | Err(status) => ExitCode::from(status),
     }
 }

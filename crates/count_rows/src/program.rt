@@ -1,51 +1,43 @@
 // The program, over any input and any two outputs.
-ghost use Rattle.std.specs.Prelude.{◌≢◌, [], MatchResult};
-ghost use Rattle.std.specs.Io.KnownBytes.{Appends};
-ghost use Rattle.count_rows.specs.Program.{ComesTo, EndsWith};
+ghost use Rattle.count_rows.specs.Program.{ComesTo};
+ghost use Rattle.fallible_rows.specs.Fault.{status_of, text_of};
+ghost use Rattle.program_io.specs.Endings.{EndsWith};
 
-use example_tasks::writing::WriteText;
-use fallible_rows::{Buffered, RowFault, fault_line, run};
+use fallible_rows::{BadRow, ReadByte, run};
+use program_io::ending::ended;
+use program_io::fault::RunFault;
+use program_io::writing::WriteText;
 use std::alloc::Global;
-use std::io::{BufReader, Read};
 
-// `run` over `input`, through a buffer.
-fn run_buffered<R: Read + Drop, W: WriteText>(
+// `run` over `input`.
+fn run_rows<R: ReadByte, W: WriteText>(
     alloc: Global,
-    input: R,
+    input: &mut R,
     output: &mut W,
-) -> Result<(), RowFault>
-    ensures { ComesTo (R.remaining input) W.failed
+) -> Result<(), RunFault<BadRow>>
+    ensures { ComesTo R.left R.stays input.old input.new W.failed
         (W.written output.old) (W.written output.new) output.new result }
 {
-    match BufReader::new(alloc, input) {
-        Ok(reader) => match run(alloc, &mut Buffered::new(reader), output) {
-            Ok(()) => Ok(()),
-            Err(RowFault::Row(place)) => Err(RowFault::Row(place)),
-            Err(RowFault::Read) => Err(RowFault::Read),
-            Err(RowFault::Memory) => Err(RowFault::Memory),
-            Err(RowFault::Write) => Err(RowFault::Write),
-        },
-        Err(_) => Err(RowFault::Memory),
+    match run(alloc, input, output) {
+        Ok(()) => Ok(()),
+        Err(RunFault::Input(row)) => Err(RunFault::Input(row)),
+        Err(RunFault::Read) => Err(RunFault::Read),
+        Err(RunFault::Memory) => Err(RunFault::Memory),
+        Err(RunFault::Write) => Err(RunFault::Write),
     }
 }
 
 // Runs over `input`, and tells `errors` of a fault. The status that the program ends with; an `Err` where there was a line to tell and it could not be written.
-pub(crate) fn program<R: Read + Drop, W: WriteText, E: WriteText>(
+pub(crate) fn program<R: ReadByte, W: WriteText, E: WriteText>(
     alloc: Global,
-    input: R,
+    input: &mut R,
     output: &mut W,
     errors: &mut E,
 ) -> Result<u8, u8>
-    ensures { MatchResult result
-        (EndsWith (R.remaining input) W.failed
-        (W.written output.old) (W.written output.new) output.new
-        (Appends (E.written errors.old) (E.written errors.new)))
-        (EndsWith (R.remaining input) W.failed
-        (W.written output.old) (W.written output.new) output.new
-        (λ line. (line ≢ []) × E.failed errors.new)) }
+    ensures { EndsWith status_of text_of
+        (E.written errors.old) (E.written errors.new) (E.failed errors.new)
+        (ComesTo R.left R.stays input.old input.new W.failed
+        (W.written output.old) (W.written output.new) output.new) result }
 {
-    match run_buffered(alloc, input, output) {
-        Ok(()) => Ok(0),
-        Err(fault) => fault_line(&fault, errors),
-    }
+    ended(run_rows(alloc, input, output), errors)
 }

@@ -4,7 +4,7 @@ use Rattle.std.proofs.Common.{refl, sym, ap, subst, ◌∙◌, inl, inr, arith}
 use Rattle.std.proofs.lemmas.Bool.{eqb-true, eq-eqb, both_ways}
 use Rattle.std.proofs.KnownBytes.{Appends-nil}
 use Rattle.std.specs.Io.KnownBytes.{Appends}
-use Rattle.example_tasks.specs.Reading.{ReadsAll}
+use Rattle.program_io.specs.Reading.{ReadsAll}
 use Rattle.fallible_iterator.specs.Lists.{collected}
 use Rattle.fallible_elf.specs.Headers.{table_of}
 use Rattle.fallible_elf.specs.Reading.{HasHeaderFault}

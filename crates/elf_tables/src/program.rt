@@ -1,11 +1,14 @@
 // The program, over any input and any two outputs.
-ghost use Rattle.std.specs.Prelude.{◌≢◌, [], MatchResult};
-ghost use Rattle.std.specs.Io.KnownBytes.{Appends};
-ghost use Rattle.elf_tables.specs.Program.{ComesTo, EndsWith};
+ghost use Rattle.fallible_elf.specs.Report.{status_of, text_of};
+ghost use Rattle.program_io.specs.Endings.{EndsWith};
+ghost use Rattle.elf_tables.specs.Program.{ComesTo};
 
-use example_tasks::writing::WriteText;
+use fallible_elf::fault::ElfFault;
 use fallible_elf::reading::ReadFile;
-use fallible_elf::report::{RunFault, fault_line, run};
+use fallible_elf::report::run;
+use program_io::ending::ended;
+use program_io::fault::RunFault;
+use program_io::writing::WriteText;
 use std::alloc::Global;
 
 // `run` over `input`. The report is made in memory, so it is written whole, and nothing if its allocation fails.
@@ -13,7 +16,7 @@ fn run_whole<R: ReadFile, W: WriteText>(
     alloc: Global,
     input: &mut R,
     output: &mut W,
-) -> Result<(), RunFault>
+) -> Result<(), RunFault<ElfFault>>
     ensures { ComesTo R.left R.fails input.old input.new W.failed
         (W.written output.old) (W.written output.new) output.new result }
 {
@@ -23,12 +26,12 @@ fn run_whole<R: ReadFile, W: WriteText>(
             Ok(()) => Ok(()),
             Err(_) => Err(RunFault::Write),
         },
-        Err(RunFault::Elf(fault)) => {
+        Err(RunFault::Input(fault)) => {
             if text.is_empty() {
-                return Err(RunFault::Elf(fault));
+                return Err(RunFault::Input(fault));
             }
             match output.write_bytes(text.as_slice()) {
-                Ok(()) => Err(RunFault::Elf(fault)),
+                Ok(()) => Err(RunFault::Input(fault)),
                 Err(_) => Err(RunFault::Write),
             }
         }
@@ -44,16 +47,10 @@ pub(crate) fn program<R: ReadFile, W: WriteText, E: WriteText>(
     output: &mut W,
     errors: &mut E,
 ) -> Result<u8, u8>
-    ensures { MatchResult result
-        (EndsWith R.left R.fails input.old input.new W.failed
-        (W.written output.old) (W.written output.new) output.new
-        (Appends (E.written errors.old) (E.written errors.new)))
-        (EndsWith R.left R.fails input.old input.new W.failed
-        (W.written output.old) (W.written output.new) output.new
-        (λ line. (line ≢ []) × E.failed errors.new)) }
+    ensures { EndsWith status_of text_of
+        (E.written errors.old) (E.written errors.new) (E.failed errors.new)
+        (ComesTo R.left R.fails input.old input.new W.failed
+        (W.written output.old) (W.written output.new) output.new) result }
 {
-    match run_whole(alloc, input, output) {
-        Ok(()) => Ok(0),
-        Err(fault) => fault_line(&fault, errors),
-    }
+    ended(run_whole(alloc, input, output), errors)
 }

@@ -1,6 +1,5 @@
 mod GrammarLemmas
 mod MergingLemmas
-mod NumberLemmas
 mod PageLemmas
 mod ReadingLemmas
 mod RoomLemmas

@@ -4,7 +4,7 @@ use Rattle.std.specs.Char.{is_ascii_digit}
 use Rattle.std.specs.Option.{ok_or}
 use Rattle.std.specs.Str.{IsAscii}
 use Rattle.fallible_iterator.specs.Lists.{folded, on_value}
-use Rattle.example_tasks.specs.Numbers.{number_of}
+use Rattle.program_io.specs.Numbers.{number_of}
 use Rattle.std.specs.declared.alloc.Global.{Global}
 use Rattle.std.specs.declared.vec.Vec.{Vec}
 use Rattle.example_tasks.specs.declared.tokens.Token.{Token}

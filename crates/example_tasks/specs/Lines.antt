@@ -2,7 +2,7 @@
 use Rattle.std.specs.Prelude.{ℕ, ◌+◌, ◌%◌, ◌^◌, List, Result, Ok, Some, string_bytes}
 use Rattle.std.specs.Option.{ok_or}
 use Rattle.fallible_iterator.specs.Lists.{folded, scanned, on_value}
-use Rattle.example_tasks.specs.Numbers.{number_of}
+use Rattle.program_io.specs.Numbers.{number_of}
 use Rattle.std.specs.declared.string.String.{String}
 use Rattle.std.specs.declared.alloc.Global.{Global}
 use Rattle.example_tasks.specs.declared.lines.LineFault.{LineFault}

@@ -8,8 +8,6 @@ use Rattle.example_tasks.specs.Tables.{totals_of}
 use Rattle.example_tasks.specs.declared.table.TableFault.{TableFault}
 use Rattle.example_tasks.specs.declared.table.TableFault.TheVariants.{Bad, Cut}
 use Rattle.example_tasks.specs.declared.table.Totals.{Totals}
-use Rattle.example_tasks.specs.declared.report.RunFault.{RunFault}
-use Rattle.example_tasks.specs.declared.report.RunFault.TheVariants.{Table, Read, Memory, Write}
 
 -- the lines that tell the totals
 abbrev pub report_of : Totals → List ℕ
@@ -61,21 +59,11 @@ module _ {R : Type 0} (left : R → Option (List ℕ)) (fails : ErrorKind → R 
   ReadsTotals r (Err e) q = fails (error_kind e) r q
 
 -- the status that a program ends with
-abbrev pub status_of : RunFault → ℕ
-status_of (Table (Bad place)) = 1
-status_of Read = 2
-status_of Memory = 3
-status_of Write = 4
-status_of (Table (Cut place)) = 5
+abbrev pub status_of : TableFault → ℕ
+status_of (Bad place) = 1
+status_of (Cut place) = 5
 
 -- the text of the line that tells a fault, without its newline
-abbrev pub text_of : RunFault → List ℕ
-text_of (Table (Bad place)) = codes "record " ++ decimal place ++ codes ": the first number is above the second"
-text_of (Table (Cut place)) = codes "record " ++ decimal place ++ codes ": cut short"
-text_of Read = codes "read failed"
-text_of Memory = codes "no memory"
-text_of Write = codes "write failed"
-
--- the line, with its newline
-abbrev pub line_of : RunFault → List ℕ
-line_of fault = text_of fault ++ 10 ∷ []
+abbrev pub text_of : TableFault → List ℕ
+text_of (Bad place) = codes "record " ++ decimal place ++ codes ": the first number is above the second"
+text_of (Cut place) = codes "record " ++ decimal place ++ codes ": cut short"

@@ -1,16 +1,13 @@
 //! Uses of `fallible_iterator` that a reader recognises: a binary table, sorted sources, rows of a client, pages, lines, tokens. Each states what it computes as far as the contracts of the calls allow.
 #![tactic(auto)]
 
-pub mod arguments;
 pub mod client;
 pub mod edges;
 pub mod generic;
 pub mod lines;
 pub mod merging;
-pub mod numbers;
 pub mod pages;
 pub mod reading;
 pub mod report;
 pub mod table;
 pub mod tokens;
-pub mod writing;

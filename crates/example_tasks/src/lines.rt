@@ -6,8 +6,8 @@ ghost use Rattle.std.specs.declared.string.String.{String};
 ghost use Rattle.std.specs.declared.alloc.Global.{Global};
 ghost use Rattle.example_tasks.specs.declared.lines.LineFault.{LineFault};
 
-use crate::numbers::number_of;
 use fallible_iterator::{FallibleIterator, convert_fused};
+use program_io::numbers::number_of;
 use std::alloc::Global;
 use std::io::BufRead;
 

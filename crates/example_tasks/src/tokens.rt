@@ -10,8 +10,8 @@ ghost use Rattle.example_tasks.specs.Grammar.{Expression, as_sum, written, expre
 ghost use Rattle.example_tasks.specs.declared.tokens.Token.{Token};
 ghost use Rattle.example_tasks.specs.declared.tokens.TextFault.{TextFault};
 
-use crate::numbers::number_of;
 use fallible_iterator::FallibleIterator;
+use program_io::numbers::number_of;
 use std::alloc::Global;
 
 /// A token.

@@ -13,9 +13,9 @@ use Rattle.fallible_elf.specs.Reading.{ReadsHead, HasHeaderFault}
 use Rattle.fallible_elf.specs.Report.{named_sections, ranges_apart, found_of, report_of, Reports, ReadsFaulty}
 use Rattle.fallible_elf.specs.Sections.{headers_of, headers_of_table}
 use Rattle.fallible_elf.specs.Sets.{range_sections, sets_of, ranges_of}
+use Rattle.program_io.specs.declared.fault.RunFault.{RunFault}
+use Rattle.program_io.specs.declared.fault.RunFault.TheVariants.{Input}
 use Rattle.fallible_elf.specs.declared.fault.ElfFault.{ElfFault}
-use Rattle.fallible_elf.specs.declared.report.RunFault.{RunFault}
-use Rattle.fallible_elf.specs.declared.report.RunFault.TheVariants.{Elf}
 use Rattle.fallible_elf.specs.declared.section.Section.{Section}
 use Rattle.fallible_elf.specs.declared.set.Range.{Range}
 use Rattle.fallible_elf.specs.declared.set.Set.{Set}
@@ -108,5 +108,5 @@ reads_faulty unread unread' written f read = (
   ],
 )
 
-pub reads_faulty_told : (unread unread' written : Option (List ℕ)) (given f : ElfFault) → ◌≡◌ {A = Result (Unit {0}) RunFault} (Err (Elf given)) (Err (Elf f)) → ReadsHead unread unread' (HasHeaderFault given) → ReadsFaulty unread unread' f written written
+pub reads_faulty_told : (unread unread' written : Option (List ℕ)) (given f : ElfFault) → ◌≡◌ {A = Result (Unit {0}) (RunFault ElfFault)} (Err (Input given)) (Err (Input f)) → ReadsHead unread unread' (HasHeaderFault given) → ReadsFaulty unread unread' f written written
 reads_faulty_told unread unread' written given f told read = let same : given ≡ f = cc in inr (subst (λ g. ReadsHead unread unread' (λ bytes. HasHeaderFault g bytes × Reports bytes (Some g) written written)) same (reads_faulty unread unread' written given read))

@@ -1,7 +1,7 @@
 -- What a run over a file reads and writes, and what it tells of a fault.
 use Rattle.std.specs.Prelude.{◌≡◌, ◌⊎◌, ℕ, List, [], ◌∷◌, ◌++◌, Option, Some, None, Result, Ok, Err, codes, decimal}
 use Rattle.std.specs.Io.KnownBytes.{Appends}
-use Rattle.example_tasks.specs.Reading.{ReadsAll}
+use Rattle.program_io.specs.Reading.{ReadsAll}
 use Rattle.fallible_iterator.specs.Lists.{collected, on_value}
 use Rattle.fallible_elf.specs.Sections.{headers_of}
 use Rattle.fallible_elf.specs.Text.{text_where, sections_text, sets_text, ranges_text}
@@ -11,11 +11,11 @@ use Rattle.fallible_elf.specs.Reading.{HasHeader, HasHeaderFault, ReadsHead}
 use Rattle.fallible_elf.specs.Sets.{range_sections, sets_of, ranges_of}
 use Rattle.fallible_iterator.specs.Fault.{Fault}
 use Rattle.fallible_iterator.specs.Fault.TheVariants.{Source}
+use Rattle.program_io.specs.declared.fault.RunFault.{RunFault}
+use Rattle.program_io.specs.declared.fault.RunFault.TheVariants.{Input, Memory}
 use Rattle.fallible_elf.specs.declared.fault.Damage.{Damage}
 use Rattle.fallible_elf.specs.declared.fault.Damage.TheVariants.{NotElf, HeaderCut, NotWide, NotLittleEndian, EntrySize, TableOutOfRange, NamesNumber, NamesOutOfRange, NamesNotEnded, NameOutOfRange, NamesTooLong, SetsOutOfRange, SetsOverlap, SetsCompressed, SetsRelocated, SetCut, SetForm, SetVersion, AddressSize, SegmentSize, RangesNotEnded}
 use Rattle.fallible_elf.specs.declared.fault.ElfFault.{ElfFault}
-use Rattle.fallible_elf.specs.declared.report.RunFault.{RunFault}
-use Rattle.fallible_elf.specs.declared.report.RunFault.TheVariants.{Elf, Read, Memory, Write}
 use Rattle.fallible_elf.specs.declared.section.Section.{Section}
 use Rattle.fallible_elf.specs.declared.set.Range.{Range}
 use Rattle.fallible_elf.specs.declared.set.Set.{Set}
@@ -80,9 +80,9 @@ ReadsFaulty unread unread' fault written written' =
 
 -- ---- faults
 
--- what a fault of `collect` is for a run
-abbrev pub as_run_fault : Fault ElfFault → RunFault
-as_run_fault (Source f) = Elf f
+-- what a fault of tables is for a run
+abbrev pub as_run_fault : Fault ElfFault → RunFault ElfFault
+as_run_fault (Source f) = Input f
 as_run_fault fault = Memory
 
 -- what is wrong, as text
@@ -110,15 +110,8 @@ damage_text SegmentSize = codes "ranges have segments"
 damage_text RangesNotEnded = codes "the ranges of a set have no end"
 
 -- the text of the line that tells a fault, without its newline
-abbrev pub text_of : RunFault → List ℕ
-text_of (Elf fault) = codes "byte " ++ decimal fault.place ++ codes ": " ++ damage_text fault.damage
-text_of Read = codes "read failed"
-text_of Memory = codes "no memory"
-text_of Write = codes "write failed"
-
--- the line, with its newline
-abbrev pub line_of : RunFault → List ℕ
-line_of fault = text_of fault ++ 10 ∷ []
+abbrev pub text_of : ElfFault → List ℕ
+text_of fault = codes "byte " ++ decimal fault.place ++ codes ": " ++ damage_text fault.damage
 
 -- the status of a file with such a damage: 5 where it is no file of the kind that is read, 6 where its address ranges are valid and of no kind that is read, else 1
 abbrev pub damage_status : Damage → ℕ
@@ -134,8 +127,5 @@ damage_status SegmentSize = 6
 damage_status damage = 1
 
 -- the status that a program ends with
-abbrev pub status_of : RunFault → ℕ
-status_of (Elf fault) = damage_status fault.damage
-status_of Read = 2
-status_of Memory = 3
-status_of Write = 4
+abbrev pub status_of : ElfFault → ℕ
+status_of fault = damage_status fault.damage

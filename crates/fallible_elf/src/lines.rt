@@ -8,7 +8,7 @@ ghost use Rattle.fallible_elf.specs.Text.{shown, section_type, section_extent, s
 use crate::names::name_or_none;
 use crate::section::Section;
 use crate::set::{Range, Set};
-use example_tasks::writing::WriteText;
+use program_io::writing::WriteText;
 use std::io;
 
 // The digit of a number below 16.

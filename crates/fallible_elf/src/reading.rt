@@ -2,7 +2,7 @@
 ghost use Rattle.std.specs.Prelude.{◌≡◌, ◌≢◌, ℕ, [], List, Option, OnOk, IfErr};
 ghost use Rattle.std.specs.IoError.{error_kind};
 ghost use Rattle.std.specs.declared.io.ErrorKind.{ErrorKind};
-ghost use Rattle.example_tasks.specs.Reading.{TakesSome};
+ghost use Rattle.program_io.specs.Reading.{TakesSome};
 ghost use Rattle.fallible_elf.specs.Reading.{is_decided, ReadsBegin, ReadsFile};
 
 use crate::fault::ElfFault;

@@ -1,9 +1,8 @@
 //! The sections and the address ranges of a file that a reader yields, as lines of text.
-ghost use Rattle.std.specs.Prelude.{◌≡◌, ◌≢◌, ◌⊎◌, ⊤, Err, Some, None, OnOk, OnErr, MatchResult};
-ghost use Rattle.std.specs.IoError.{error_kind};
+ghost use Rattle.std.specs.Prelude.{◌≡◌, ◌≢◌, ◌⊎◌, ⊤, Err, Some, None, OnOk, OnErr};
 ghost use Rattle.std.specs.Io.KnownBytes.{Appends, Keeps};
-ghost use Rattle.example_tasks.specs.Reading.{ReadsAll};
-ghost use Rattle.fallible_elf.specs.Report.{HasTables, HasSections, Reports, ReadsFaulty, report_of, damage_text, line_of, status_of, as_run_fault};
+ghost use Rattle.program_io.specs.Reading.{ReadsAll};
+ghost use Rattle.fallible_elf.specs.Report.{HasTables, HasSections, Reports, ReadsFaulty, report_of, damage_text, status_of, text_of, as_run_fault};
 ghost use Rattle.fallible_elf.specs.declared.fault.ElfFault.{ElfFault};
 ghost use Rattle.std.specs.declared.io.ErrorKind.{ErrorKind};
 
@@ -11,46 +10,20 @@ use crate::fault::{Damage, ElfFault};
 use crate::lines::{write_ranges, write_sections, write_sets};
 use crate::reading::ReadFile;
 use crate::tables::{Tables, tables_of};
-use example_tasks::writing::WriteText;
 use fallible_iterator::Fault;
+use program_io::fault::{InputFault, RunFault, fault_of_read};
+use program_io::writing::WriteText;
 use std::alloc::Global;
 use std::io;
 use std::io::ErrorKind;
 
-/// Why a run made no report.
-#[derive(Clone, Copy, Debug, PartialEq, Eq)]
-pub enum RunFault {
-    /// The file has a fault.
-    Elf(ElfFault),
-    /// A read failed.
-    Read,
-    /// An allocation failed.
-    Memory,
-    /// The report could not be written.
-    Write,
-}
-
-impl From<Fault<ElfFault>> for RunFault {
-    ghost from_gives = { λ fault given. given ≡ as_run_fault fault };
-
-    fn from(fault: Fault<ElfFault>) -> RunFault {
-        match fault {
-            Fault::Source(fault) => RunFault::Elf(fault),
-            Fault::Memory(_) => RunFault::Memory,
-        }
-    }
-}
-
-// What a failed read comes to.
-fn fault_of_read(error: &io::Error) -> RunFault
-    ensures memory { result ≡ RunFault.Memory → error_kind error.now ≡ ErrorKind.OutOfMemory }
-    ensures read { result ≡ RunFault.Read → error_kind error.now ≢ ErrorKind.OutOfMemory }
-    ensures elf { (fault : ElfFault) → result ≢ RunFault.Elf fault }
-    ensures write { result ≢ RunFault.Write }
+/// What a fault of `tables_of` is for a run.
+pub fn run_fault(fault: Fault<ElfFault>) -> RunFault<ElfFault>
+    ensures { result ≡ as_run_fault fault }
 {
-    match error.kind() {
-        ErrorKind::OutOfMemory => RunFault::Memory,
-        _ => RunFault::Read,
+    match fault {
+        Fault::Source(fault) => RunFault::Input(fault),
+        Fault::Memory(_) => RunFault::Memory,
     }
 }
 
@@ -69,11 +42,15 @@ fn write_tables<W: WriteText>(file: &[u8], tables: &Tables, writer: &mut W) -> i
     Ok(())
 }
 
-/// Writes the sections of a file to `writer`, and then its sets and their ranges. At a fault of a section nothing is written, and at one of a set or a range the sections alone. It fails with `Elf` and the file's first fault, with `Memory` if an allocation fails, before anything is written, and with `Write` where the writer fails.
-pub fn report<W: WriteText>(alloc: Global, file: &[u8], writer: &mut W) -> Result<(), RunFault>
+/// Writes the sections of a file to `writer`, and then its sets and their ranges. At a fault of a section nothing is written, and at one of a set or a range the sections alone. It fails with `Input` and the file's first fault, with `Memory` if an allocation fails, before anything is written, and with `Write` where the writer fails.
+pub fn report<W: WriteText>(
+    alloc: Global,
+    file: &[u8],
+    writer: &mut W,
+) -> Result<(), RunFault<ElfFault>>
     ensures ok { OnOk result (Reports file.now None
         (W.written writer.old) (W.written writer.new)) }
-    ensures fault { (fault : ElfFault) → result ≡ Err (RunFault.Elf fault)
+    ensures fault { (fault : ElfFault) → result ≡ Err (RunFault.Input fault)
         → Reports file.now (Some fault) (W.written writer.old) (W.written writer.new) }
     ensures memory { result ≡ Err RunFault.Memory
         → Keeps (W.written writer.old) (W.written writer.new) }
@@ -81,13 +58,16 @@ pub fn report<W: WriteText>(alloc: Global, file: &[u8], writer: &mut W) -> Resul
         → HasSections file.now × W.failed writer.new }
     ensures read { result ≢ Err RunFault.Read }
 {
-    let tables = tables_of(alloc, file)?;
+    let tables = match tables_of(alloc, file) {
+        Ok(tables) => tables,
+        Err(fault) => return Err(run_fault(fault)),
+    };
     if write_tables(file, &tables, writer).is_err() {
         return Err(RunFault::Write);
     }
     match tables.found {
         Ok(_) => Ok(()),
-        Err(fault) => Err(RunFault::Elf(fault)),
+        Err(fault) => Err(RunFault::Input(fault)),
     }
 }
 
@@ -96,10 +76,10 @@ pub fn run<R: ReadFile, W: WriteText>(
     alloc: Global,
     reader: &mut R,
     writer: &mut W,
-) -> Result<(), RunFault>
+) -> Result<(), RunFault<ElfFault>>
     ensures ok { OnOk result (ReadsAll (R.left reader.old) (R.left reader.new)
         (λ bytes. Reports bytes None (W.written writer.old) (W.written writer.new))) }
-    ensures fault { (fault : ElfFault) → result ≡ Err (RunFault.Elf fault)
+    ensures fault { (fault : ElfFault) → result ≡ Err (RunFault.Input fault)
         → ReadsFaulty (R.left reader.old) (R.left reader.new) fault
         (W.written writer.old) (W.written writer.new) }
     ensures write { result ≡ Err RunFault.Write
@@ -119,13 +99,13 @@ pub fn run<R: ReadFile, W: WriteText>(
 {
     match reader.read_file(alloc) {
         Ok(Ok(file)) => report(alloc, file.as_slice(), writer),
-        Ok(Err(fault)) => Err(RunFault::Elf(fault)),
+        Ok(Err(fault)) => Err(RunFault::Input(fault)),
         Err(e) => Err(fault_of_read(&e)),
     }
 }
 
 // What is wrong, as text.
-fn text_of(damage: Damage) -> &'static str
+fn damage_text(damage: Damage) -> &'static str
     ensures { result.now ≡ damage_text damage }
 {
     match damage {
@@ -153,58 +133,28 @@ fn text_of(damage: Damage) -> &'static str
     }
 }
 
-impl RunFault {
-    // The status that a program ends with.
-    fn status(&self) -> u8
-        ensures { result ≡ status_of self.now }
-    {
-        match self {
-            RunFault::Elf(fault) => match fault.damage {
-                Damage::NotElf | Damage::NotWide | Damage::NotLittleEndian => 5,
-                Damage::SetsCompressed
-                | Damage::SetsRelocated
-                | Damage::SetForm
-                | Damage::SetVersion
-                | Damage::AddressSize
-                | Damage::SegmentSize => 6,
-                _ => 1,
-            },
-            RunFault::Read => 2,
-            RunFault::Memory => 3,
-            RunFault::Write => 4,
+impl InputFault for ElfFault {
+    ghost status = { status_of };
+
+    ghost text = { text_of };
+
+    /// 5 for a file that is no ELF file of 64 bits whose numbers begin with their least byte, 6 for one whose address ranges aren't read, and 1 for a damaged one.
+    fn status(&self) -> u8 {
+        match self.damage {
+            Damage::NotElf | Damage::NotWide | Damage::NotLittleEndian => 5,
+            Damage::SetsCompressed
+            | Damage::SetsRelocated
+            | Damage::SetForm
+            | Damage::SetVersion
+            | Damage::AddressSize
+            | Damage::SegmentSize => 6,
+            _ => 1,
         }
     }
-}
 
-// Writes the line that tells of a fault.
-fn write_line<W: WriteText>(fault: &RunFault, err: &mut W) -> io::Result<()>
-    ensures line { OnOk result
-        (Appends (W.written err.old) (W.written err.new) (line_of fault.now)) }
-    ensures failed { OnErr result (W.failed err.new) }
-{
-    match fault {
-        RunFault::Elf(fault) => {
-            let place = fault.place;
-            let text = text_of(fault.damage);
-            err.write_text(format_args!("byte {place}: {text}\n"))
-        }
-        RunFault::Read => err.write_text("read failed\n"),
-        RunFault::Memory => err.write_text("no memory\n"),
-        RunFault::Write => err.write_text("write failed\n"),
-    }
-}
-
-/// Writes the one line that tells of `fault` to `err`, and returns the status that a program ends with after it: 1 for a damaged file, 5 for one that is no ELF file of 64 bits whose numbers begin with their least byte, and 6 for one whose address ranges aren't read; 2 for `Read`, 3 for `Memory`, 4 for `Write`. If the line could not be written, the status is an `Err`.
-pub fn fault_line<W: WriteText>(fault: &RunFault, err: &mut W) -> Result<u8, u8>
-    ensures status { MatchResult result (λ status. status ≡ status_of fault.now)
-        (λ status. status ≡ status_of fault.now) }
-    ensures line { OnOk result
-        (Appends (W.written err.old) (W.written err.new) (line_of fault.now)) }
-    ensures failed { OnErr result (W.failed err.new) }
-{
-    let status = fault.status();
-    match write_line(fault, err) {
-        Ok(()) => Ok(status),
-        Err(_) => Err(status),
+    fn write_line<W: WriteText>(&self, errors: &mut W) -> io::Result<()> {
+        let place = self.place;
+        let text = damage_text(self.damage);
+        errors.write_text(format_args!("byte {place}: {text}\n"))
     }
 }

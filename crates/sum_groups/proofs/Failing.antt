@@ -4,11 +4,12 @@ use Rattle.std.proofs.lemmas.Option.{IfSome_then}
 use Rattle.std.specs.Io.BufRead.{take_through}
 use Rattle.std.specs.Io.KnownBytes.{Consumes}
 use Rattle.std.specs.declared.io.ErrorKind.{ErrorKind}
-use Rattle.sum_groups.specs.Faults.{IsFaultOfRead}
+use Rattle.program_io.specs.Faults.{IsFaultOfRead}
 use Rattle.sum_groups.specs.Program.{AreRows, BeginsWithRow, FailsToRead, ReadsRows}
 use Rattle.sum_groups.specs.Reading.{IsFirstLine}
-use Rattle.sum_groups.specs.declared.fault.Fault.{Fault}
-use Rattle.sum_groups.specs.declared.fault.Fault.TheVariants.{NotText, NoRow, Read, Memory, Print}
+use Rattle.program_io.specs.declared.fault.RunFault.{RunFault}
+use Rattle.program_io.specs.declared.fault.RunFault.TheVariants.{Input, Read, Memory, Write}
+use Rattle.sum_groups.specs.declared.fault.GroupsFault.{GroupsFault}
 
 -- a first line that is a row, as that of the bytes that were left
 pub begins_with : (unread : Option (List ℕ)) (line : List ℕ) → IsFirstLine unread line → AreRows line → IfSome unread (λ bytes. AreRows (take_through 10 bytes))
@@ -16,14 +17,13 @@ begins_with unread line first rows = IfSome_then unread first (λ bytes is. subs
 
 module _ {R : Type 0} (left : R → Option (List ℕ)) (fails : ErrorKind → R → R → Type 0) where
   -- a read that failed, by its kind
-  pub by_kind : (r q : R) (kind : ErrorKind) (fault : Fault) → FailsToRead left fails r q kind → IsFaultOfRead kind fault → ReadsRows left fails r q (Err fault)
-  by_kind r q kind (NotText place) failed is = absurd is
-  by_kind r q kind (NoRow place) failed is = absurd is
+  pub by_kind : (r q : R) (kind : ErrorKind) (fault : RunFault GroupsFault) → FailsToRead left fails r q kind → IsFaultOfRead kind fault → ReadsRows left fails r q (Err fault)
+  by_kind r q kind (Input given) failed is = absurd is
   by_kind r q kind Read failed is = (kind, is, failed)
   by_kind r q kind Memory failed is = subst (λ k. FailsToRead left fails r q k) is failed
-  by_kind r q kind Print failed is = absurd is
+  by_kind r q kind Write failed is = absurd is
 
   -- a read that failed after the first line
-  pub after_line : (r middle q : R) (line : List ℕ) (kind : ErrorKind) (fault : Fault) → IsFirstLine (left r) line → AreRows line → Consumes (left r) (left middle) line → fails kind middle q → IsFaultOfRead kind fault → ReadsRows left fails r q (Err fault)
+  pub after_line : (r middle q : R) (line : List ℕ) (kind : ErrorKind) (fault : RunFault GroupsFault) → IsFirstLine (left r) line → AreRows line → Consumes (left r) (left middle) line → fails kind middle q → IsFaultOfRead kind fault → ReadsRows left fails r q (Err fault)
   after_line r middle q line kind fault first rows consumed failed is =
       by_kind r q kind fault (inr (begins_with (left r) line first rows, (line, middle, first, consumed, failed))) is

@@ -7,12 +7,14 @@ use Rattle.fallible_iterator.specs.Lists.{collected, items, mapped, on_value, sc
 use Rattle.fallible_itertools.specs.ChunkBy.{chunked_by}
 use Rattle.fallible_itertools.specs.Chunks.{chunked}
 use Rattle.fallible_itertools.specs.CheckedSum.{sum_below, totalled}
-use Rattle.example_tasks.specs.Numbers.{number_of}
+use Rattle.program_io.specs.Numbers.{number_of}
 use Rattle.std.specs.declared.alloc.AllocError.{AllocError}
 use Rattle.std.specs.declared.convert.Infallible.{Infallible}
 use Rattle.sum_groups.specs.declared.groups.Row.{Row}
-use Rattle.sum_groups.specs.declared.fault.Fault.{Fault}
-use Rattle.sum_groups.specs.declared.fault.Fault.TheVariants.{NotText, NoRow, Read, Memory, Print}
+use Rattle.program_io.specs.declared.fault.RunFault.{RunFault}
+use Rattle.program_io.specs.declared.fault.RunFault.TheVariants.{Input, Read, Memory, Write}
+use Rattle.sum_groups.specs.declared.fault.GroupsFault.{GroupsFault}
+use Rattle.sum_groups.specs.declared.fault.GroupsFault.TheVariants.{NotText, NoRow}
 
 -- ---- rows
 
@@ -92,9 +94,9 @@ abbrev pub report_of : List Row → List ℕ
 report_of rows = groups_text rows ++ batches_text rows
 
 -- What a fault says of a text whose report could not be made: that the line at this place is the first that is no row, or that its lines are rows, and the memory for them or their report was refused.
-abbrev pub IsFaultOf : (List ℕ → Type 0) → List ℕ → Fault → Type 0
-IsFaultOf refused text (NotText place) = ⊥
-IsFaultOf refused text (NoRow place) = rows_of text ≡ Err place
+abbrev pub IsFaultOf : (List ℕ → Type 0) → List ℕ → RunFault GroupsFault → Type 0
+IsFaultOf refused text (Input (NotText place)) = ⊥
+IsFaultOf refused text (Input (NoRow place)) = rows_of text ≡ Err place
 IsFaultOf refused text Read = ⊥
 IsFaultOf refused text Memory = ((rows : List Row) × (rows_of text ≡ Ok rows)) × refused text
-IsFaultOf refused text Print = ⊥
+IsFaultOf refused text Write = ⊥

@@ -7,14 +7,15 @@ ghost use Rattle.sum_groups.specs.Groups.{IsFaultOf, batches_text, first_key, gr
 ghost use Rattle.std.specs.declared.vec.Vec.{Vec};
 ghost use Rattle.std.specs.declared.alloc.Global.{Global};
 ghost use Rattle.fallible_iterator.specs.declared.Fault.TheVariants.{Source};
-ghost use Rattle.sum_groups.specs.declared.fault.Fault.TheVariants.{Memory};
+ghost use Rattle.program_io.specs.declared.fault.RunFault.TheVariants.{Memory};
 ghost use Rattle.sum_groups.specs.declared.groups.Row.{Row};
 
-use crate::fault::Fault;
-use example_tasks::numbers::number_of;
-use example_tasks::writing::WriteText;
-use fallible_iterator::{FallibleIterator, Fault as Collecting, convert, convert_fused};
+use crate::fault::GroupsFault;
+use fallible_iterator::{FallibleIterator, Fault, convert, convert_fused};
 use fallible_itertools::FallibleItertools;
+use program_io::fault::RunFault;
+use program_io::numbers::number_of;
+use program_io::writing::WriteText;
 use std::alloc::{AllocError, Global};
 use std::convert::Infallible;
 use std::io;
@@ -53,7 +54,7 @@ fn row_at(place: &mut u64, found: Option<Row>) -> Result<Option<Row>, u64>
 fn rows_found<I: FallibleIterator<Item = Option<Row>, Error = u64>>(
     alloc: Global,
     found: I,
-) -> Result<Vec<Row>, Collecting<u64>>
+) -> Result<Vec<Row>, Fault<u64>>
 where
     requires can_next { I.contract.can_next found }
     requires finite { I.contract.is_finite found }
@@ -79,7 +80,7 @@ where
 }
 
 // The rows that the lines of a text are, or the place of the first that is none.
-fn rows_of(alloc: Global, text: &str) -> Result<Vec<Row>, Collecting<u64>>
+fn rows_of(alloc: Global, text: &str) -> Result<Vec<Row>, Fault<u64>>
     ensures ok { (rows : Vec Row Global) → result ≡ Ok rows → rows_of text.now ≡ Ok rows.items }
     ensures fault { (place : ℕ) → result ≡ Err (Source place) → rows_of text.now ≡ Err place }
 {
@@ -131,19 +132,27 @@ fn write_line<W: WriteText>(report: &mut W, name: u64, rows: &[Row]) -> io::Resu
 }
 
 // The report with the line of some rows after it, under a name.
-fn print_line(mut report: Vec<u8>, name: u64, rows: &[Row]) -> Result<Vec<u8>, Fault>
+fn print_line(
+    mut report: Vec<u8>,
+    name: u64,
+    rows: &[Row],
+) -> Result<Vec<u8>, RunFault<GroupsFault>>
     ensures { MatchResult result
         (λ printed. vec_items printed ≡ vec_items report ++ line_of name rows.now)
         (λ fault. fault ≡ Memory) }
 {
     match write_line(&mut report, name, rows) {
         Ok(()) => Ok(report),
-        Err(_) => Err(Fault::Memory),
+        Err(_) => Err(RunFault::Memory),
     }
 }
 
 // The report with one line a group of adjacent rows of one key after it.
-fn print_groups(alloc: Global, report: Vec<u8>, rows: &[Row]) -> Result<Vec<u8>, Fault>
+fn print_groups(
+    alloc: Global,
+    report: Vec<u8>,
+    rows: &[Row],
+) -> Result<Vec<u8>, RunFault<GroupsFault>>
     ensures { IfOk result
         (λ printed. vec_items printed ≡ vec_items report ++ groups_text rows.now) }
 {
@@ -155,7 +164,11 @@ fn print_groups(alloc: Global, report: Vec<u8>, rows: &[Row]) -> Result<Vec<u8>,
 }
 
 // The report with one line a batch of three rows after it, under the key of its first row.
-fn print_batches(alloc: Global, report: Vec<u8>, rows: &[Row]) -> Result<Vec<u8>, Fault>
+fn print_batches(
+    alloc: Global,
+    report: Vec<u8>,
+    rows: &[Row],
+) -> Result<Vec<u8>, RunFault<GroupsFault>>
     ensures { IfOk result
         (λ printed. vec_items printed ≡ vec_items report ++ batches_text rows.now) }
 {
@@ -177,7 +190,7 @@ fn first_key(rows: &[Row]) -> u64
 }
 
 // The groups and then the batches of rows.
-fn print_both(alloc: Global, rows: &[Row]) -> Result<Vec<u8>, Fault>
+fn print_both(alloc: Global, rows: &[Row]) -> Result<Vec<u8>, RunFault<GroupsFault>>
     ensures { IfOk result (λ printed. vec_items printed ≡ report_of rows.now) }
 {
     let groups = print_groups(alloc, Vec::new(alloc), rows)?;
@@ -185,12 +198,12 @@ fn print_both(alloc: Global, rows: &[Row]) -> Result<Vec<u8>, Fault>
 }
 
 // Why a text has no report, where memory was refused: the first line that is no row, or otherwise that.
-fn fault_of(text: &str) -> Fault
+fn fault_of(text: &str) -> RunFault<GroupsFault>
     ensures { IsFaultOf (λ _. ⊤) text.now result }
 {
     match no_row_at(text) {
-        Some(place) => Fault::NoRow(place),
-        None => Fault::Memory,
+        Some(place) => RunFault::Input(GroupsFault::NoRow(place)),
+        None => RunFault::Memory,
     }
 }
 
@@ -200,7 +213,7 @@ pub(crate) trait MakeReport {
     ghost refused: { Self → List ℕ → Type 0 };
 
     // The report of the rows that the lines of a text are, or the fault of the first line that is none.
-    fn report_of(&self, text: &str) -> Result<Vec<u8>, Fault>
+    fn report_of(&self, text: &str) -> Result<Vec<u8>, RunFault<GroupsFault>>
         ensures { MatchResult result (λ report. (rows : List Row) × (rows_of text.now ≡ Ok rows)
             × (vec_items report ≡ report_of rows)) (IsFaultOf (refused self.now) text.now) };
 }
@@ -209,15 +222,15 @@ impl MakeReport for Global {
     // Std says of no request that it is granted.
     ghost refused = { λ _ _. ⊤ };
 
-    fn report_of(&self, text: &str) -> Result<Vec<u8>, Fault> {
+    fn report_of(&self, text: &str) -> Result<Vec<u8>, RunFault<GroupsFault>> {
         let rows = match rows_of(*self, text) {
             Ok(rows) => rows,
-            Err(Collecting::Source(place)) => return Err(Fault::NoRow(place)),
-            Err(Collecting::Memory(_)) => return Err(fault_of(text)),
+            Err(Fault::Source(place)) => return Err(RunFault::Input(GroupsFault::NoRow(place))),
+            Err(Fault::Memory(_)) => return Err(fault_of(text)),
         };
         match print_both(*self, rows.as_slice()) {
             Ok(report) => Ok(report),
-            Err(_) => Err(Fault::Memory),
+            Err(_) => Err(RunFault::Memory),
         }
     }
 }

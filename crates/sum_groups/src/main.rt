@@ -8,9 +8,11 @@ mod groups;
 mod program;
 mod reading;
 
-use example_tasks::arguments::input_of;
-use fault::{Fault, tell};
+use fault::GroupsFault;
 use program::program;
+use program_io::arguments::input_of;
+use program_io::ending::ended;
+use program_io::fault::RunFault;
 use std::io::BufReader;
 use std::process::ExitCode;
 
@@ -31,7 +33,7 @@ fn main(rt: HostRuntime) -> ExitCode {
     };
     let ended = match BufReader::new(rt.alloc(), input) {
         Ok(mut rows) => program(rt.alloc(), &rt.alloc(), &mut rows, &mut output, &mut errors),
-        Err(_) => tell(&Fault::Memory, &mut errors),
+        Err(_) => ended::<GroupsFault, _>(Err(RunFault::Memory), &mut errors),
     };
     match ended {
         Ok(status) | Err(status) => ExitCode::from(status),

@@ -1,41 +1,44 @@
 // The program, over any input and any two outputs.
-ghost use Rattle.std.specs.Prelude.{◌≢◌, [], MatchOption, MatchResult, vec_items};
-ghost use Rattle.std.specs.Io.KnownBytes.{Appends};
-ghost use Rattle.sum_groups.specs.Program.{AreRows, ComesTo, EndsWith, HasFault, IsNoRows, IsReportOf, ReadsRows};
+ghost use Rattle.std.specs.Prelude.{MatchOption, MatchResult, vec_items};
+ghost use Rattle.program_io.specs.Endings.{EndsWith};
+ghost use Rattle.sum_groups.specs.Faults.{status_of, text_of};
+ghost use Rattle.sum_groups.specs.Program.{AreRows, ComesTo, HasFault, IsNoRows, IsReportOf, ReadsRows};
 
-use crate::fault::{Fault, fault_of_read, tell};
+use crate::fault::GroupsFault;
 use crate::groups::{MakeReport, no_row_at};
 use crate::reading::ReadLines;
-use example_tasks::writing::WriteText;
+use program_io::ending::ended;
+use program_io::fault::{RunFault, fault_of_read};
+use program_io::writing::WriteText;
 use std::alloc::Global;
 use std::str::from_utf8;
 
 // The report of the rows that bytes are, or their fault.
-fn report_of_bytes<M: MakeReport>(maker: &M, bytes: &[u8]) -> Result<Vec<u8>, Fault>
+fn report_of_bytes<M: MakeReport>(maker: &M, bytes: &[u8]) -> Result<Vec<u8>, RunFault<GroupsFault>>
     ensures { MatchResult result (λ report. IsReportOf bytes.now (vec_items report))
         (HasFault (M.refused maker.now) bytes.now) }
 {
     match from_utf8(bytes) {
         Ok(text) => maker.report_of(text),
-        Err(e) => Err(Fault::NotText(e.valid_up_to())),
+        Err(e) => Err(RunFault::Input(GroupsFault::NotText(e.valid_up_to()))),
     }
 }
 
 // Why bytes are no rows, if they are none. It allocates nothing.
-fn fault_of_bytes(bytes: &[u8]) -> Option<Fault>
+fn fault_of_bytes(bytes: &[u8]) -> Option<GroupsFault>
     ensures { MatchOption result (AreRows bytes.now) (IsNoRows bytes.now) }
 {
     match from_utf8(bytes) {
         Ok(text) => match no_row_at(text) {
-            Some(place) => Some(Fault::NoRow(place)),
+            Some(place) => Some(GroupsFault::NoRow(place)),
             None => None,
         },
-        Err(e) => Some(Fault::NotText(e.valid_up_to())),
+        Err(e) => Some(GroupsFault::NotText(e.valid_up_to())),
     }
 }
 
 // The bytes of `input`, which is read up to its end only if its first line is a row.
-fn read_rows<R: ReadLines>(alloc: Global, input: &mut R) -> Result<Vec<u8>, Fault>
+fn read_rows<R: ReadLines>(alloc: Global, input: &mut R) -> Result<Vec<u8>, RunFault<GroupsFault>>
     ensures { ReadsRows R.left R.fails input.old input.new result }
 {
     let mut bytes = match input.read_first_line(alloc) {
@@ -43,7 +46,7 @@ fn read_rows<R: ReadLines>(alloc: Global, input: &mut R) -> Result<Vec<u8>, Faul
         Err(e) => return Err(fault_of_read(&e)),
     };
     match fault_of_bytes(bytes.as_slice()) {
-        Some(fault) => Err(fault),
+        Some(fault) => Err(RunFault::Input(fault)),
         None => match input.read_rest(&mut bytes) {
             Ok(()) => Ok(bytes),
             Err(e) => Err(fault_of_read(&e)),
@@ -57,7 +60,7 @@ fn run<M: MakeReport, R: ReadLines, W: WriteText>(
     maker: &M,
     input: &mut R,
     output: &mut W,
-) -> Result<(), Fault>
+) -> Result<(), RunFault<GroupsFault>>
     ensures { ComesTo R.left R.fails input.old input.new (M.refused maker.now) W.failed
         (W.written output.old) (W.written output.new) output.new result }
 {
@@ -68,7 +71,7 @@ fn run<M: MakeReport, R: ReadLines, W: WriteText>(
     match report_of_bytes(maker, bytes.as_slice()) {
         Ok(report) => match output.write_bytes(report.as_slice()) {
             Ok(()) => Ok(()),
-            Err(_) => Err(Fault::Print),
+            Err(_) => Err(RunFault::Write),
         },
         Err(fault) => Err(fault),
     }
@@ -82,16 +85,10 @@ pub(crate) fn program<M: MakeReport, R: ReadLines, W: WriteText, E: WriteText>(
     output: &mut W,
     errors: &mut E,
 ) -> Result<u8, u8>
-    ensures { MatchResult result
-        (EndsWith R.left R.fails input.old input.new (M.refused maker.now) W.failed
-        (W.written output.old) (W.written output.new) output.new
-        (Appends (E.written errors.old) (E.written errors.new)))
-        (EndsWith R.left R.fails input.old input.new (M.refused maker.now) W.failed
-        (W.written output.old) (W.written output.new) output.new
-        (λ line. (line ≢ []) × E.failed errors.new)) }
+    ensures { EndsWith status_of text_of
+        (E.written errors.old) (E.written errors.new) (E.failed errors.new)
+        (ComesTo R.left R.fails input.old input.new (M.refused maker.now) W.failed
+        (W.written output.old) (W.written output.new) output.new) result }
 {
-    match run(alloc, maker, input, output) {
-        Ok(()) => Ok(0),
-        Err(fault) => tell(&fault, errors),
-    }
+    ended(run(alloc, maker, input, output), errors)
 }

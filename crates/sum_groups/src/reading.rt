@@ -1,7 +1,7 @@
 // Readers of which the first line is read before the rest.
 ghost use Rattle.std.specs.Prelude.{◌≢◌, ℕ, List, Option};
 ghost use Rattle.std.specs.declared.io.ErrorKind.{ErrorKind};
-ghost use Rattle.example_tasks.specs.Reading.{TakesSome};
+ghost use Rattle.program_io.specs.Reading.{TakesSome};
 ghost use Rattle.sum_groups.specs.Reading.{ReadsLine, ReadsRest};
 
 use std::alloc::Global;

@@ -5,8 +5,8 @@
 
 mod program;
 
-use example_tasks::arguments::input_of;
 use program::program;
+use program_io::arguments::input_of;
 use std::process::ExitCode;
 
 const USAGE: &str = "usage: sum_table [FILE]

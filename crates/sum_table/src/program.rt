@@ -1,11 +1,14 @@
 // The program, over any input and any two outputs.
-ghost use Rattle.std.specs.Prelude.{◌≢◌, [], MatchResult};
-ghost use Rattle.std.specs.Io.KnownBytes.{Appends};
-ghost use Rattle.sum_table.specs.Program.{ComesTo, EndsWith};
+ghost use Rattle.example_tasks.specs.Report.{status_of, text_of};
+ghost use Rattle.program_io.specs.Endings.{EndsWith};
+ghost use Rattle.sum_table.specs.Program.{ComesTo};
 
 use example_tasks::reading::ReadTable;
-use example_tasks::report::{RunFault, fault_line, run};
-use example_tasks::writing::WriteText;
+use example_tasks::report::run;
+use example_tasks::table::TableFault;
+use program_io::ending::ended;
+use program_io::fault::RunFault;
+use program_io::writing::WriteText;
 use std::alloc::Global;
 
 // `run` over `input`.
@@ -13,13 +16,13 @@ fn run_table<R: ReadTable, W: WriteText>(
     alloc: Global,
     input: &mut R,
     output: &mut W,
-) -> Result<(), RunFault>
+) -> Result<(), RunFault<TableFault>>
     ensures { ComesTo R.left R.fails input.old input.new W.failed
         (W.written output.old) (W.written output.new) output.new result }
 {
     match run(alloc, input, output) {
         Ok(()) => Ok(()),
-        Err(RunFault::Table(fault)) => Err(RunFault::Table(fault)),
+        Err(RunFault::Input(fault)) => Err(RunFault::Input(fault)),
         Err(RunFault::Read) => Err(RunFault::Read),
         Err(RunFault::Memory) => Err(RunFault::Memory),
         Err(RunFault::Write) => Err(RunFault::Write),
@@ -33,16 +36,10 @@ pub(crate) fn program<R: ReadTable, W: WriteText, E: WriteText>(
     output: &mut W,
     errors: &mut E,
 ) -> Result<u8, u8>
-    ensures { MatchResult result
-        (EndsWith R.left R.fails input.old input.new W.failed
-        (W.written output.old) (W.written output.new) output.new
-        (Appends (E.written errors.old) (E.written errors.new)))
-        (EndsWith R.left R.fails input.old input.new W.failed
-        (W.written output.old) (W.written output.new) output.new
-        (λ line. (line ≢ []) × E.failed errors.new)) }
+    ensures { EndsWith status_of text_of
+        (E.written errors.old) (E.written errors.new) (E.failed errors.new)
+        (ComesTo R.left R.fails input.old input.new W.failed
+        (W.written output.old) (W.written output.new) output.new) result }
 {
-    match run_table(alloc, input, output) {
-        Ok(()) => Ok(0),
-        Err(fault) => fault_line(&fault, errors),
-    }
+    ended(run_table(alloc, input, output), errors)
 }

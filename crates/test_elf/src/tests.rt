@@ -3,10 +3,11 @@ use crate::object::OBJECT;
 use fallible_elf::fault::{Damage, ElfFault};
 use fallible_elf::lines::write_sections;
 use fallible_elf::names::{check_names, name_of};
-use fallible_elf::report::{RunFault, fault_line, run};
+use fallible_elf::report::{run, run_fault};
 use fallible_elf::section::Section;
 use fallible_elf::set::{Range, Set};
 use fallible_elf::tables::{Found, Tables, tables_of};
+use program_io::fault::{RunFault, fault_line};
 use std::alloc::{AllocError, Global};
 use std::io;
 use std::io::{ErrorKind, Read, Write};
@@ -14,24 +15,24 @@ use std::process::Abort;
 use std::test::Fail;
 
 // The fault of a file, where it has one.
-fn judged(alloc: Global, file: &[u8]) -> Result<(), RunFault> {
-    match tables_of(alloc, file)?.found {
+fn judged(alloc: Global, file: &[u8]) -> Result<(), RunFault<ElfFault>> {
+    match tables_of(alloc, file).map_err(run_fault)?.found {
         Ok(_) => Ok(()),
-        Err(fault) => Err(RunFault::Elf(fault)),
+        Err(fault) => Err(RunFault::Input(fault)),
     }
 }
 
 // The sets and ranges of a file, or their fault.
-fn found(alloc: Global, file: &[u8]) -> Result<Found, RunFault> {
-    let Tables { sections: _, found } = tables_of(alloc, file)?;
+fn found(alloc: Global, file: &[u8]) -> Result<Found, RunFault<ElfFault>> {
+    let Tables { sections: _, found } = tables_of(alloc, file).map_err(run_fault)?;
     match found {
         Ok(found) => Ok(found),
-        Err(fault) => Err(RunFault::Elf(fault)),
+        Err(fault) => Err(RunFault::Input(fault)),
     }
 }
 
-fn fault(damage: Damage, place: usize) -> Result<(), RunFault> {
-    Err(RunFault::Elf(ElfFault { damage, place }))
+fn fault(damage: Damage, place: usize) -> Result<(), RunFault<ElfFault>> {
+    Err(RunFault::Input(ElfFault { damage, place }))
 }
 
 // Puts bytes in the place of a file's own.
@@ -555,7 +556,7 @@ fn names_together(rt: HostRuntime) {
     );
 }
 
-fn expect_line(rt: &impl Abort, alloc: Global, fault: RunFault, line: &[u8], status: u8) {
+fn expect_line(rt: &impl Abort, alloc: Global, fault: RunFault<ElfFault>, line: &[u8], status: u8) {
     let mut written = Vec::new(alloc);
     assert_eq!(rt; fault_line(&fault, &mut written), Ok(status));
     assert_eq!(rt; written.as_slice(), line);
@@ -600,7 +601,7 @@ fn fault_line_tells_each_fault(rt: HostRuntime) {
             1,
         ),
     ] {
-        let fault = RunFault::Elf(ElfFault { damage, place });
+        let fault = RunFault::Input(ElfFault { damage, place });
         expect_line(&rt, rt.alloc(), fault, line, status);
     }
     expect_line(&rt, rt.alloc(), RunFault::Read, b"read failed\n", 2);

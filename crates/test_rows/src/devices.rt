@@ -1,5 +1,6 @@
 //! Readers and writers that fail at each call in turn or come in pieces, and inputs that a generator makes, against a rule over the whole input.
-use fallible_rows::{Buffered, RowFault, run};
+use fallible_rows::{BadRow, Buffered, run};
+use program_io::fault::RunFault;
 use std::alloc::{AllocError, Global};
 use std::io;
 use std::io::{BufReader, ErrorKind, Read, Write};
@@ -85,7 +86,7 @@ fn rows_of(alloc: Global, bytes: &[u8]) -> Result<Vec<&[u8]>, AllocError> {
 }
 
 // What `run` is to return for all bytes: how many rows are above 100, or the place of the first that is no number.
-fn answer_of(alloc: Global, bytes: &[u8]) -> Result<Result<usize, RowFault>, AllocError> {
+fn answer_of(alloc: Global, bytes: &[u8]) -> Result<Result<usize, RunFault<BadRow>>, AllocError> {
     let mut above = 0usize;
     for (place, row) in (1u32..).zip(rows_of(alloc, bytes)?) {
         match number_of(row) {
@@ -94,7 +95,7 @@ fn answer_of(alloc: Global, bytes: &[u8]) -> Result<Result<usize, RowFault>, All
                     above = above.wrapping_add(1);
                 }
             }
-            None => return Ok(Err(RowFault::Row(place))),
+            None => return Ok(Err(RunFault::Input(BadRow { place }))),
         }
     }
     Ok(Ok(above))
@@ -113,7 +114,7 @@ fn run_on(
     alloc: Global,
     device: &mut Device<'_>,
     capacity: usize,
-) -> io::Result<(Result<(), RowFault>, Vec<u8>)> {
+) -> io::Result<(Result<(), RunFault<BadRow>>, Vec<u8>)> {
     let mut written = Vec::new(alloc);
     let outcome = if capacity == 0 {
         run(alloc, device, &mut written)
@@ -127,8 +128,8 @@ fn run_on(
 // The same as it is to be, where the whole input has that answer.
 fn report_of(
     alloc: Global,
-    answer: Result<usize, RowFault>,
-) -> Result<(Result<(), RowFault>, Vec<u8>), AllocError> {
+    answer: Result<usize, RunFault<BadRow>>,
+) -> Result<(Result<(), RunFault<BadRow>>, Vec<u8>), AllocError> {
     let mut report = Vec::new(alloc);
     match answer {
         Ok(above) => {
@@ -162,7 +163,7 @@ fn expect_each_read_failed(
         let answer = if met {
             let count = input.len().saturating_sub(device.bytes.len());
             match answer_of(alloc, closed(&input[..count]))? {
-                Ok(_) => Err(RowFault::Read),
+                Ok(_) => Err(RunFault::Read),
                 Err(fault) => Err(fault),
             }
         } else {
@@ -213,7 +214,7 @@ fn run_into(
     piece: usize,
     failing: u32,
     kind: ErrorKind,
-) -> (Result<(), RowFault>, [u8; 8], usize, bool) {
+) -> (Result<(), RunFault<BadRow>>, [u8; 8], usize, bool) {
     let mut reader = TEN_ABOVE;
     let mut taker = Taker {
         piece,
@@ -241,7 +242,7 @@ fn run_over_writers_that_fail_at_each_write_in_turn(rt: HostRuntime) {
             let mut met_none = false;
             for failing in 0..8 {
                 let (outcome, kept, count, met) = run_into(rt.alloc(), piece, failing, kind);
-                let wanted = if met { Err(RowFault::Write) } else { Ok(()) };
+                let wanted = if met { Err(RunFault::Write) } else { Ok(()) };
                 assert_eq!(rt; outcome, wanted, "by {piece}: {kind:?} at write {failing}");
                 assert_eq!(rt;
                     kept.get(..count),
@@ -282,7 +283,7 @@ fn run_over_writers_that_are_interrupted_or_take_nothing(rt: HostRuntime) {
         }
     }
     let (outcome, _, count, _) = run_into(rt.alloc(), 0, u32::MAX, ErrorKind::Other);
-    assert_eq!(rt; (outcome, count), (Err(RowFault::Write), 0), "by 0");
+    assert_eq!(rt; (outcome, count), (Err(RunFault::Write), 0), "by 0");
 }
 
 // Numbers that look like chance, the same in each run.
@@ -432,7 +433,7 @@ fn run_refuses_200_malformed_inputs_at_the_row_that_the_rule_names(
     let mut places = 0u32;
     for case in 0..200u32 {
         let input = malformed(alloc, &mut generator)?;
-        let Err(RowFault::Row(place)) = answer_of(alloc, input.as_slice())? else {
+        let Err(RunFault::Input(BadRow { place })) = answer_of(alloc, input.as_slice())? else {
             return Err(Fail::new(format_args!(
                 "case {case}: wanted a malformed input, got {input:?}"
             )));
@@ -447,7 +448,7 @@ fn run_refuses_200_malformed_inputs_at_the_row_that_the_rule_names(
                 reads: 0,
             };
             let got = run_on(alloc, &mut device, 0)?;
-            let wanted = (Err(RowFault::Row(place)), Vec::new(alloc));
+            let wanted = (Err(RunFault::Input(BadRow { place })), Vec::new(alloc));
             assert_eq!(rt; got, wanted, "case {case} by {piece}: {input:?}");
             let length = length_of(alloc, input.as_slice(), place)?;
             assert_eq!(rt;

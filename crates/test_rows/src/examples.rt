@@ -1,7 +1,8 @@
 //! What no clause says: the numbers of the examples, and calls that fail or come in pieces.
 use fallible_iterator::laws::answers;
 use fallible_iterator::{Answer, FallibleIterator};
-use fallible_rows::{Buffered, ReadByte, RowFault, Rows, fault_line, run, sum_of_rows};
+use fallible_rows::{BadRow, Buffered, ReadByte, RowFault, Rows, run, sum_of_rows};
+use program_io::fault::{RunFault, fault_line};
 use std::alloc::{AllocError, Global};
 use std::io;
 use std::io::{BufReader, ErrorKind, Read, Write};
@@ -81,8 +82,16 @@ impl Write for BrokenWriter {
     }
 }
 
+// What `run` returns at a row that is no number.
+fn bad_row(place: u32) -> Result<(), RunFault<BadRow>> {
+    Err(RunFault::Input(BadRow { place }))
+}
+
 // What `run` returns, and what it wrote.
-fn run_on<R: Read + Drop>(alloc: Global, reader: &mut R) -> (Result<(), RowFault>, Vec<u8>) {
+fn run_on<R: Read + Drop>(
+    alloc: Global,
+    reader: &mut R,
+) -> (Result<(), RunFault<BadRow>>, Vec<u8>) {
     let mut written = Vec::new(alloc);
     let outcome = run(alloc, reader, &mut written);
     (outcome, written)
@@ -100,7 +109,7 @@ fn expect_count(rt: &impl Abort, alloc: Global, mut input: &[u8], output: &[u8])
 
 fn expect_refused(rt: &impl Abort, alloc: Global, mut input: &[u8], place: u32) {
     let (outcome, written) = run_on(alloc, &mut input);
-    assert_eq!(rt; outcome, Err(RowFault::Row(place)));
+    assert_eq!(rt; outcome, bad_row(place));
     assert!(rt; written.is_empty());
 }
 
@@ -184,7 +193,7 @@ fn run_answers_failed_read(rt: HostRuntime) {
             kind,
         };
         let mut written = Vec::new(alloc);
-        assert_eq!(rt; run(alloc, &mut reader, &mut written), Err(RowFault::Read));
+        assert_eq!(rt; run(alloc, &mut reader, &mut written), Err(RunFault::Read));
         assert!(rt; written.is_empty());
     }
 }
@@ -201,9 +210,9 @@ fn run_answers_each_read_that_fails(rt: HostRuntime) {
         let mut written = Vec::new(rt.alloc());
         let outcome = run(rt.alloc(), &mut reader, &mut written);
         if count < input.len() {
-            assert_eq!(rt; outcome, Err(RowFault::Read));
+            assert_eq!(rt; outcome, Err(RunFault::Read));
         } else {
-            assert_eq!(rt; outcome, Err(RowFault::Row(2)));
+            assert_eq!(rt; outcome, bad_row(2));
         }
         assert!(rt; written.is_empty());
     }
@@ -226,7 +235,7 @@ fn run_answers_a_read_that_fails_once_and_reads_no_more(rt: HostRuntime) {
                 reads: 0,
             };
             let (outcome, written) = run_on(rt.alloc(), &mut reader);
-            assert_eq!(rt; outcome, Err(RowFault::Read), "{kind:?} at {failing}");
+            assert_eq!(rt; outcome, Err(RunFault::Read), "{kind:?} at {failing}");
             assert!(rt; written.is_empty());
             assert_eq!(rt; reader.reads, failing);
         }
@@ -234,7 +243,7 @@ fn run_answers_a_read_that_fails_once_and_reads_no_more(rt: HostRuntime) {
 }
 
 // What `run` returns over a reader that yields these bytes and then fails.
-fn run_on_broken(alloc: Global, bytes: &[u8]) -> Result<(), RowFault> {
+fn run_on_broken(alloc: Global, bytes: &[u8]) -> Result<(), RunFault<BadRow>> {
     let mut reader = BrokenReader {
         bytes,
         kind: ErrorKind::Other,
@@ -245,19 +254,16 @@ fn run_on_broken(alloc: Global, bytes: &[u8]) -> Result<(), RowFault> {
 #[test]
 fn run_answers_row_that_was_closed_before_a_read_fails(rt: HostRuntime) {
     let alloc = rt.alloc();
-    assert_eq!(rt; run_on_broken(alloc, b"fern\n"), Err(RowFault::Row(1)));
-    assert_eq!(rt; run_on_broken(alloc, b"fern"), Err(RowFault::Read));
-    assert_eq!(rt; run_on_broken(alloc, b"100\n"), Err(RowFault::Read));
+    assert_eq!(rt; run_on_broken(alloc, b"fern\n"), bad_row(1));
+    assert_eq!(rt; run_on_broken(alloc, b"fern"), Err(RunFault::Read));
+    assert_eq!(rt; run_on_broken(alloc, b"100\n"), Err(RunFault::Read));
 }
 
 #[test]
 fn run_leaves_what_follows_the_refused_row(rt: HostRuntime) {
     let mut reader: &[u8] = b"100\nfern\n200\n";
     let mut written = Vec::new(rt.alloc());
-    assert_eq!(rt;
-        run(rt.alloc(), &mut reader, &mut written),
-        Err(RowFault::Row(2))
-    );
+    assert_eq!(rt; run(rt.alloc(), &mut reader, &mut written), bad_row(2));
     assert_eq!(rt; reader, b"200\n".as_slice());
 }
 
@@ -287,8 +293,8 @@ fn run_leaves_what_follows_row_1_000_000_in_the_buffer(rt: HostRuntime) -> Resul
 #[test]
 fn run_answers_each_write_that_fails(rt: HostRuntime) {
     for (room, outcome) in [
-        (0, Err(RowFault::Write)),
-        (1, Err(RowFault::Write)),
+        (0, Err(RunFault::Write)),
+        (1, Err(RunFault::Write)),
         (2, Ok(())),
     ] {
         let mut reader: &[u8] = b"100\n200\n";
@@ -300,15 +306,19 @@ fn run_answers_each_write_that_fails(rt: HostRuntime) {
 #[test]
 fn fault_line_tells_each_fault(rt: HostRuntime) {
     for (fault, line, status) in [
-        (RowFault::Row(3), b"row 3: not a number\n".as_slice(), 1),
         (
-            RowFault::Row(1_000_000),
+            RunFault::Input(BadRow { place: 3 }),
+            b"row 3: not a number\n".as_slice(),
+            1,
+        ),
+        (
+            RunFault::Input(BadRow { place: 1_000_000 }),
             b"row 1000000: not a number\n".as_slice(),
             1,
         ),
-        (RowFault::Read, b"read failed\n".as_slice(), 2),
-        (RowFault::Memory, b"no memory\n".as_slice(), 3),
-        (RowFault::Write, b"write failed\n".as_slice(), 4),
+        (RunFault::Read, b"read failed\n".as_slice(), 2),
+        (RunFault::Memory, b"no memory\n".as_slice(), 3),
+        (RunFault::Write, b"write failed\n".as_slice(), 4),
     ] {
         let mut written = Vec::new(rt.alloc());
         assert_eq!(rt; fault_line(&fault, &mut written), Ok(status));

@@ -1,8 +1,9 @@
 // What the uses answer of which no clause says it: which reads, writes and requests fail, and what the lines of a reader come to.
 use example_tasks::lines::{LineFault, sum_of_lines};
-use example_tasks::report::{RunFault, fault_line, run};
+use example_tasks::report::run;
 use example_tasks::table::TableFault;
 use example_tasks::tokens::evaluate;
+use program_io::fault::{RunFault, fault_line};
 use std::alloc::Global;
 use std::io;
 use std::io::{ErrorKind, Read, Write};
@@ -73,7 +74,7 @@ impl Write for BrokenWriter {
 }
 
 // What `run` returns over these bytes, where a read fails after them.
-fn run_on_broken(alloc: Global, bytes: &[u8], kind: ErrorKind) -> Result<(), RunFault> {
+fn run_on_broken(alloc: Global, bytes: &[u8], kind: ErrorKind) -> Result<(), RunFault<TableFault>> {
     let mut reader = BrokenReader { bytes, kind };
     run(alloc, &mut reader, &mut Vec::new(alloc))
 }
@@ -88,7 +89,7 @@ fn expect_fault(rt: &impl Abort, alloc: Global, mut table: &[u8], fault: TableFa
     let mut written = Vec::new(alloc);
     assert_eq!(rt;
         run(alloc, &mut table, &mut written),
-        Err(RunFault::Table(fault))
+        Err(RunFault::Input(fault))
     );
     assert!(rt; written.is_empty());
 }
@@ -102,7 +103,11 @@ fn reports(rt: HostRuntime) {
 }
 
 // What `run` returns over these bytes, read in such pieces, and what it writes.
-fn run_in_pieces(alloc: Global, bytes: &[u8], most: usize) -> (Result<(), RunFault>, Vec<u8>) {
+fn run_in_pieces(
+    alloc: Global,
+    bytes: &[u8],
+    most: usize,
+) -> (Result<(), RunFault<TableFault>>, Vec<u8>) {
     let mut reader = PieceReader {
         bytes,
         most,
@@ -128,8 +133,8 @@ fn a_table_is_read_in_pieces(rt: HostRuntime) -> Result<(), Fail> {
     let alloc = rt.alloc();
     for (last, wanted) in [
         (&TABLE[..0], Ok(())),
-        (&TABLE[8..], Err(RunFault::Table(TableFault::Bad(10_001)))),
-        (&TABLE[..7], Err(RunFault::Table(TableFault::Cut(10_001)))),
+        (&TABLE[8..], Err(RunFault::Input(TableFault::Bad(10_001)))),
+        (&TABLE[..7], Err(RunFault::Input(TableFault::Cut(10_001)))),
     ] {
         let table = long_table(alloc, last)?;
         let report = if wanted.is_ok() {
@@ -159,8 +164,8 @@ fn run_answers_a_read_that_fails(rt: HostRuntime) {
             (7, fault),
             (8, fault),
             (15, fault),
-            (16, RunFault::Table(TableFault::Bad(2))),
-            (24, RunFault::Table(TableFault::Bad(2))),
+            (16, RunFault::Input(TableFault::Bad(2))),
+            (24, RunFault::Input(TableFault::Bad(2))),
         ] {
             assert_eq!(rt;
                 run_on_broken(rt.alloc(), &TABLE[..count], kind),
@@ -190,12 +195,12 @@ fn run_answers_each_write_that_fails(rt: HostRuntime) {
 fn fault_line_tells_each_fault(rt: HostRuntime) {
     for (fault, line, status) in [
         (
-            RunFault::Table(TableFault::Bad(2)),
+            RunFault::Input(TableFault::Bad(2)),
             b"record 2: the first number is above the second\n".as_slice(),
             1,
         ),
         (
-            RunFault::Table(TableFault::Cut(10)),
+            RunFault::Input(TableFault::Cut(10)),
             b"record 10: cut short\n".as_slice(),
             5,
         ),

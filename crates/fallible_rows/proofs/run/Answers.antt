@@ -4,5 +4,5 @@ use Rattle.fallible_rows.proofs.run.Goals as goal
 
 pub returns-in-Err-clause-write : goal.returns-in-Err-clause-write
 returns-in-Err-clause-write g c =
-    let counted = c.in_ok-count.ensures.counts in
-    λ _. ((counted.0, decimal c.in_ok-count.count ++ 10 ∷ [], counted.1, ap line_of_count counted.2), search rules)
+    let counted = c.in-Ok.ensures.counts in
+    λ _. ((counted.0, decimal c.in-Ok.count ++ 10 ∷ [], counted.1, ap line_of_count counted.2), search rules)

@@ -23,6 +23,7 @@ mod fallible_elf;
 mod fallible_rows;
 mod fallible_vectors;
 mod laws;
+mod program_io;
 mod test_adapters;
 mod test_consumers;
 mod test_elf;

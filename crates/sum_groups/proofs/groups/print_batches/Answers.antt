@@ -3,7 +3,7 @@ use Rattle.std.specs.Prelude.{◌≡◌, ◌++◌, vec_items}
 use Rattle.std.proofs.Common.{rules, refl, ap}
 use Rattle.fallible_iterator.proofs.Lemmas.Making.{folded_made}
 use Rattle.sum_groups.specs.Groups.{batch_line}
-use Rattle.sum_groups.specs.declared.fault.Fault.TheVariants.{Memory}
+use Rattle.program_io.specs.declared.fault.RunFault.TheVariants.{Memory}
 use Rattle.sum_groups.proofs.Printing.{has_bytes, line_told, no_memory, appends_text}
 use Rattle.sum_groups.proofs.groups.print_batches.Goals as goal
 

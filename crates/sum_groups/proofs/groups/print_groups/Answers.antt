@@ -4,7 +4,7 @@ use Rattle.std.proofs.Common.{rules, refl, ap, ◌∙◌}
 use Rattle.fallible_iterator.proofs.Lemmas.Making.{folded_made}
 use Rattle.fallible_itertools.specs.ChunkBy.{MadeGroup}
 use Rattle.sum_groups.specs.Groups.{group_line, line_of}
-use Rattle.sum_groups.specs.declared.fault.Fault.TheVariants.{Memory}
+use Rattle.program_io.specs.declared.fault.RunFault.TheVariants.{Memory}
 use Rattle.sum_groups.proofs.Printing.{has_bytes, line_told, no_memory, appends_text}
 use Rattle.sum_groups.proofs.groups.print_groups.Goals as goal
 

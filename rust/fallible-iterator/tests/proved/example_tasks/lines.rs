@@ -1,7 +1,7 @@
 use crate::Fail;
 use fallible_iterator::memory::AllocError;
 
-use crate::example_tasks::numbers::number_of;
+use crate::program_io::numbers::number_of;
 use fallible_iterator::{FallibleIterator, convert_fused};
 use std::io::BufRead;
 

@@ -3,30 +3,10 @@ use fallible_iterator::memory::AllocError;
 
 use crate::example_tasks::reading::ReadTable;
 use crate::example_tasks::table::{TableFault, Totals};
-use crate::example_tasks::writing::WriteText;
+use crate::program_io::fault::{InputFault, RunFault, fault_of_read};
+use crate::program_io::writing::WriteText;
 use std::io;
 use std::io::ErrorKind;
-
-/// Why a run made no report.
-#[derive(Clone, Copy, Debug, PartialEq, Eq)]
-pub enum RunFault {
-    /// The table has a fault.
-    Table(TableFault),
-    /// A read failed.
-    Read,
-    /// The allocation of a buffer failed, or a read for want of memory.
-    Memory,
-    /// The report could not be written.
-    Write,
-}
-
-// What a failed read comes to.
-fn fault_of_read(error: &io::Error) -> RunFault {
-    match error.kind() {
-        ErrorKind::OutOfMemory => RunFault::Memory,
-        _ => RunFault::Read,
-    }
-}
 
 // Writes the totals.
 fn write_report<W: WriteText>(totals: Totals, writer: &mut W) -> io::Result<()> {
@@ -36,15 +16,18 @@ fn write_report<W: WriteText>(totals: Totals, writer: &mut W) -> io::Result<()> 
     ))
 }
 
-/// Reads a table from `reader`, which may be any reader of std, and writes its totals to `writer`. The first record is read alone, the others through a buffer. It fails with `Table` at the first record that isn't good, and reads no more then, or where the table ends within a record; with `Read` where a read fails before; with `Memory` if that is for want of memory, or the allocation of the buffer fails; and with `Write` where the writer fails. An interrupted read is tried again.
+/// Reads a table from `reader`, which may be any reader of std, and writes its totals to `writer`. The first record is read alone, the others through a buffer. It fails with `Input` at the first record that isn't good, and reads no more then, or where the table ends within a record; with `Read` where a read fails before; with `Memory` if that is for want of memory, or the allocation of the buffer fails; and with `Write` where the writer fails. An interrupted read is tried again.
 ///
-/// After `Ok` and `Write`, and after `Table` of a record cut short, the reader is at its end. After a bad record it has lost at most 65,528 bytes that come after the record, and none after a first one. Only at `Ok` and `Write` may something have been written.
-pub fn run<R: ReadTable, W: WriteText>(reader: &mut R, writer: &mut W) -> Result<(), RunFault>
+/// After `Ok` and `Write`, and after `Input` of a record cut short, the reader is at its end. After a bad record it has lost at most 65,528 bytes that come after the record, and none after a first one. Only at `Ok` and `Write` may something have been written.
+pub fn run<R: ReadTable, W: WriteText>(
+    reader: &mut R,
+    writer: &mut W,
+) -> Result<(), RunFault<TableFault>>
 // Reading failed, and of which kind.
 {
     let totals = match reader.read_totals() {
         Ok(Ok(totals)) => totals,
-        Ok(Err(fault)) => return Err(RunFault::Table(fault)),
+        Ok(Err(fault)) => return Err(RunFault::Input(fault)),
         Err(e) => return Err(fault_of_read(&e)),
     };
     match write_report(totals, writer) {
@@ -53,38 +36,23 @@ pub fn run<R: ReadTable, W: WriteText>(reader: &mut R, writer: &mut W) -> Result
     }
 }
 
-impl RunFault {
-    // The status that a program ends with.
+impl InputFault for TableFault {
+    /// 1 for a bad record, and 5 for one that is cut short.
     fn status(&self) -> u8 {
         match self {
-            RunFault::Table(TableFault::Bad(_)) => 1,
-            RunFault::Read => 2,
-            RunFault::Memory => 3,
-            RunFault::Write => 4,
-            RunFault::Table(TableFault::Cut(_)) => 5,
+            TableFault::Bad(_) => 1,
+            TableFault::Cut(_) => 5,
         }
     }
-}
 
-fn write_line<W: WriteText>(fault: &RunFault, err: &mut W) -> io::Result<()> {
-    match fault {
-        RunFault::Table(TableFault::Bad(place)) => err.write_text(format_args!(
-            "record {place}: the first number is above the second\n"
-        )),
-        RunFault::Table(TableFault::Cut(place)) => {
-            err.write_text(format_args!("record {place}: cut short\n"))
+    fn write_line<W: WriteText>(&self, errors: &mut W) -> io::Result<()> {
+        match self {
+            TableFault::Bad(place) => errors.write_text(format_args!(
+                "record {place}: the first number is above the second\n"
+            )),
+            TableFault::Cut(place) => {
+                errors.write_text(format_args!("record {place}: cut short\n"))
+            }
         }
-        RunFault::Read => err.write_text("read failed\n"),
-        RunFault::Memory => err.write_text("no memory\n"),
-        RunFault::Write => err.write_text("write failed\n"),
-    }
-}
-
-/// Writes the one line that tells of `fault` to `err`, and returns the status that a program ends with after it: 1 and 5 for a bad record and one cut short, 2 for `Read`, 3 for `Memory`, 4 for `Write`. If the line could not be written, the status is an `Err`.
-pub fn fault_line<W: WriteText>(fault: &RunFault, err: &mut W) -> Result<u8, u8> {
-    let status = fault.status();
-    match write_line(fault, err) {
-        Ok(()) => Ok(status),
-        Err(_) => Err(status),
     }
 }

@@ -1,10 +1,10 @@
 use crate::Fail;
 use fallible_iterator::memory::AllocError;
 
-use crate::example_tasks::writing::WriteText;
 use crate::fallible_elf::names::name_or_none;
 use crate::fallible_elf::section::Section;
 use crate::fallible_elf::set::{Range, Set};
+use crate::program_io::writing::WriteText;
 use std::io;
 
 // The digit of a number below 16.

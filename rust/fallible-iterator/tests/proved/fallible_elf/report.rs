@@ -1,41 +1,20 @@
 use crate::Fail;
 use fallible_iterator::memory::AllocError;
 
-use crate::example_tasks::writing::WriteText;
 use crate::fallible_elf::fault::{Damage, ElfFault};
 use crate::fallible_elf::lines::{write_ranges, write_sections, write_sets};
 use crate::fallible_elf::reading::ReadFile;
 use crate::fallible_elf::tables::{Tables, tables_of};
+use crate::program_io::fault::{InputFault, RunFault, fault_of_read};
+use crate::program_io::writing::WriteText;
 use fallible_iterator::Fault;
 use std::io;
 use std::io::ErrorKind;
 
-/// Why a run made no report.
-#[derive(Clone, Copy, Debug, PartialEq, Eq)]
-pub enum RunFault {
-    /// The file has a fault.
-    Elf(ElfFault),
-    /// A read failed.
-    Read,
-    /// An allocation failed.
-    Memory,
-    /// The report could not be written.
-    Write,
-}
-
-impl From<ElfFault> for RunFault {
-    fn from(fault: ElfFault) -> RunFault {
-        match fault {
-            fault => RunFault::Elf(fault),
-        }
-    }
-}
-
-// What a failed read comes to.
-fn fault_of_read(error: &io::Error) -> RunFault {
-    match error.kind() {
-        ErrorKind::OutOfMemory => RunFault::Memory,
-        _ => RunFault::Read,
+/// What a fault of `tables_of` is for a run.
+pub fn run_fault(fault: ElfFault) -> RunFault<ElfFault> {
+    match fault {
+        fault => RunFault::Input(fault),
     }
 }
 
@@ -49,33 +28,39 @@ fn write_tables<W: WriteText>(file: &[u8], tables: &Tables, writer: &mut W) -> i
     Ok(())
 }
 
-/// Writes the sections of a file to `writer`, and then its sets and their ranges. At a fault of a section nothing is written, and at one of a set or a range the sections alone. It fails with `Elf` and the file's first fault, with `Memory` if an allocation fails, before anything is written, and with `Write` where the writer fails.
-pub fn report<W: WriteText>(file: &[u8], writer: &mut W) -> Result<(), RunFault> {
-    let tables = tables_of(file)?;
+/// Writes the sections of a file to `writer`, and then its sets and their ranges. At a fault of a section nothing is written, and at one of a set or a range the sections alone. It fails with `Input` and the file's first fault, with `Memory` if an allocation fails, before anything is written, and with `Write` where the writer fails.
+pub fn report<W: WriteText>(file: &[u8], writer: &mut W) -> Result<(), RunFault<ElfFault>> {
+    let tables = match tables_of(file) {
+        Ok(tables) => tables,
+        Err(fault) => return Err(run_fault(fault)),
+    };
     if write_tables(file, &tables, writer).is_err() {
         return Err(RunFault::Write);
     }
     match tables.found {
         Ok(_) => Ok(()),
-        Err(fault) => Err(RunFault::Elf(fault)),
+        Err(fault) => Err(RunFault::Input(fault)),
     }
 }
 
 /// Reads a file up to the end of `reader`, which may be any reader of std, and writes its report to `writer`, as `report` does. It looks at the header first: at a fault of it at most 64 bytes are read. It also fails with `Read` where a read fails, and with `Memory` if the allocation for the file fails. An interrupted read is tried again. At `Read` and `Memory` nothing is written.
-pub fn run<R: ReadFile, W: WriteText>(reader: &mut R, writer: &mut W) -> Result<(), RunFault>
+pub fn run<R: ReadFile, W: WriteText>(
+    reader: &mut R,
+    writer: &mut W,
+) -> Result<(), RunFault<ElfFault>>
 // Reading failed, and of which kind.
 
     // An allocation failed: as the file was read, or for its tables.
 {
     match reader.read_file() {
         Ok(Ok(file)) => report(file.as_slice(), writer),
-        Ok(Err(fault)) => Err(RunFault::Elf(fault)),
+        Ok(Err(fault)) => Err(RunFault::Input(fault)),
         Err(e) => Err(fault_of_read(&e)),
     }
 }
 
 // What is wrong, as text.
-fn text_of(damage: Damage) -> &'static str {
+fn damage_text(damage: Damage) -> &'static str {
     match damage {
         Damage::NotElf => "no ELF file",
         Damage::HeaderCut => "the header is cut short",
@@ -101,46 +86,24 @@ fn text_of(damage: Damage) -> &'static str {
     }
 }
 
-impl RunFault {
-    // The status that a program ends with.
+impl InputFault for ElfFault {
+    /// 5 for a file that is no ELF file of 64 bits whose numbers begin with their least byte, 6 for one whose address ranges aren't read, and 1 for a damaged one.
     fn status(&self) -> u8 {
-        match self {
-            RunFault::Elf(fault) => match fault.damage {
-                Damage::NotElf | Damage::NotWide | Damage::NotLittleEndian => 5,
-                Damage::SetsCompressed
-                | Damage::SetsRelocated
-                | Damage::SetForm
-                | Damage::SetVersion
-                | Damage::AddressSize
-                | Damage::SegmentSize => 6,
-                _ => 1,
-            },
-            RunFault::Read => 2,
-            RunFault::Memory => 3,
-            RunFault::Write => 4,
+        match self.damage {
+            Damage::NotElf | Damage::NotWide | Damage::NotLittleEndian => 5,
+            Damage::SetsCompressed
+            | Damage::SetsRelocated
+            | Damage::SetForm
+            | Damage::SetVersion
+            | Damage::AddressSize
+            | Damage::SegmentSize => 6,
+            _ => 1,
         }
     }
-}
 
-// Writes the line that tells of a fault.
-fn write_line<W: WriteText>(fault: &RunFault, err: &mut W) -> io::Result<()> {
-    match fault {
-        RunFault::Elf(fault) => {
-            let place = fault.place;
-            let text = text_of(fault.damage);
-            err.write_text(format_args!("byte {place}: {text}\n"))
-        }
-        RunFault::Read => err.write_text("read failed\n"),
-        RunFault::Memory => err.write_text("no memory\n"),
-        RunFault::Write => err.write_text("write failed\n"),
-    }
-}
-
-/// Writes the one line that tells of `fault` to `err`, and returns the status that a program ends with after it: 1 for a damaged file, 5 for one that is no ELF file of 64 bits whose numbers begin with their least byte, and 6 for one whose address ranges aren't read; 2 for `Read`, 3 for `Memory`, 4 for `Write`. If the line could not be written, the status is an `Err`.
-pub fn fault_line<W: WriteText>(fault: &RunFault, err: &mut W) -> Result<u8, u8> {
-    let status = fault.status();
-    match write_line(fault, err) {
-        Ok(()) => Ok(status),
-        Err(_) => Err(status),
+    fn write_line<W: WriteText>(&self, errors: &mut W) -> io::Result<()> {
+        let place = self.place;
+        let text = damage_text(self.damage);
+        errors.write_text(format_args!("byte {place}: {text}\n"))
     }
 }

@@ -1,52 +1,34 @@
 use crate::Fail;
 use fallible_iterator::memory::AllocError;
 
-use crate::example_tasks::writing::WriteText;
+use crate::program_io::fault::InputFault;
+use crate::program_io::writing::WriteText;
 use std::io;
 
-/// Why a run made no report.
+/// Why a row is not known.
 #[derive(Debug, PartialEq, Eq)]
 pub enum RowFault {
     /// The row at this place, from 1, is not a number.
     Row(u32),
     /// A read failed.
     Read,
-    /// An allocation failed. `run` never returns it; the program does, if that of its buffer failed.
-    Memory,
-    /// The report could not be written.
-    Write,
 }
 
-impl RowFault {
-    // The status that a program ends with.
+/// A row that is not a number.
+#[derive(Clone, Copy, Debug, PartialEq, Eq)]
+pub struct BadRow {
+    /// Its place, from 1.
+    pub place: u32,
+}
+
+impl InputFault for BadRow {
+    /// 1
     fn status(&self) -> u8 {
-        match self {
-            RowFault::Row(_) => 1,
-            RowFault::Read => 2,
-            RowFault::Memory => 3,
-            RowFault::Write => 4,
-        }
+        1
     }
-}
 
-fn write_line<W: WriteText>(fault: &RowFault, err: &mut W) -> io::Result<()> {
-    match fault {
-        RowFault::Row(place) => err.write_text(format_args!("row {place}: not a number\n")),
-        RowFault::Read => err.write_text("read failed\n"),
-        RowFault::Memory => err.write_text("no memory\n"),
-        RowFault::Write => err.write_text("write failed\n"),
-    }
-}
-
-/// Writes the one line that tells of `fault` to `err`, and returns the status that a program ends
-/// with after it: 1 for `Row`, 2 for `Read`, 3 for `Memory`, 4 for `Write`.
-///
-/// `Ok` of the status where that line and nothing else was written, and `Err` of the same status
-/// where it could not be, and part of it may have been. It allocates nothing.
-pub fn fault_line<W: WriteText>(fault: &RowFault, err: &mut W) -> Result<u8, u8> {
-    let status = fault.status();
-    match write_line(fault, err) {
-        Ok(()) => Ok(status),
-        Err(_) => Err(status),
+    fn write_line<W: WriteText>(&self, errors: &mut W) -> io::Result<()> {
+        let place = self.place;
+        errors.write_text(format_args!("row {place}: not a number\n"))
     }
 }

@@ -4,33 +4,34 @@ use fallible_iterator::memory::AllocError;
 use crate::fallible_elf::fault::{Damage, ElfFault};
 use crate::fallible_elf::lines::write_sections;
 use crate::fallible_elf::names::{check_names, name_of};
-use crate::fallible_elf::report::{RunFault, fault_line, run};
+use crate::fallible_elf::report::{run, run_fault};
 use crate::fallible_elf::section::Section;
 use crate::fallible_elf::set::{Range, Set};
 use crate::fallible_elf::tables::{Found, Tables, tables_of};
+use crate::program_io::fault::{RunFault, fault_line};
 use crate::test_elf::object::OBJECT;
 use std::io;
 use std::io::{ErrorKind, Read, Write};
 
 // The fault of a file, where it has one.
-fn judged(file: &[u8]) -> Result<(), RunFault> {
-    match tables_of(file)?.found {
+fn judged(file: &[u8]) -> Result<(), RunFault<ElfFault>> {
+    match tables_of(file).map_err(run_fault)?.found {
         Ok(_) => Ok(()),
-        Err(fault) => Err(RunFault::Elf(fault)),
+        Err(fault) => Err(RunFault::Input(fault)),
     }
 }
 
 // The sets and ranges of a file, or their fault.
-fn found(file: &[u8]) -> Result<Found, RunFault> {
-    let Tables { sections: _, found } = tables_of(file)?;
+fn found(file: &[u8]) -> Result<Found, RunFault<ElfFault>> {
+    let Tables { sections: _, found } = tables_of(file).map_err(run_fault)?;
     match found {
         Ok(found) => Ok(found),
-        Err(fault) => Err(RunFault::Elf(fault)),
+        Err(fault) => Err(RunFault::Input(fault)),
     }
 }
 
-fn fault(damage: Damage, place: usize) -> Result<(), RunFault> {
-    Err(RunFault::Elf(ElfFault { damage, place }))
+fn fault(damage: Damage, place: usize) -> Result<(), RunFault<ElfFault>> {
+    Err(RunFault::Input(ElfFault { damage, place }))
 }
 
 // Puts bytes in the place of a file's own.
@@ -557,7 +558,7 @@ fn names_together() {
     );
 }
 
-fn expect_line(fault: RunFault, line: &[u8], status: u8) {
+fn expect_line(fault: RunFault<ElfFault>, line: &[u8], status: u8) {
     let mut written = Vec::new();
     assert_eq!(fault_line(&fault, &mut written), Ok(status));
     assert_eq!(written.as_slice(), line);
@@ -602,7 +603,7 @@ fn fault_line_tells_each_fault() {
             1,
         ),
     ] {
-        let fault = RunFault::Elf(ElfFault { damage, place });
+        let fault = RunFault::Input(ElfFault { damage, place });
         expect_line(fault, line, status);
     }
     expect_line(RunFault::Read, b"read failed\n", 2);

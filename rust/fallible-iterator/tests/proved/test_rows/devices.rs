@@ -1,5 +1,6 @@
 use crate::Fail;
-use crate::fallible_rows::{Buffered, RowFault, run};
+use crate::fallible_rows::{BadRow, Buffered, run};
+use crate::program_io::fault::RunFault;
 use fallible_iterator::memory::AllocError;
 use std::io;
 use std::io::{BufReader, ErrorKind, Read, Write};
@@ -81,7 +82,7 @@ fn rows_of(bytes: &[u8]) -> Result<Vec<&[u8]>, AllocError> {
 }
 
 // What `run` is to return for all bytes: how many rows are above 100, or the place of the first that is no number.
-fn answer_of(bytes: &[u8]) -> Result<Result<usize, RowFault>, AllocError> {
+fn answer_of(bytes: &[u8]) -> Result<Result<usize, RunFault<BadRow>>, AllocError> {
     let mut above = 0usize;
     for (place, row) in (1u32..).zip(rows_of(bytes)?) {
         match number_of(row) {
@@ -90,7 +91,7 @@ fn answer_of(bytes: &[u8]) -> Result<Result<usize, RowFault>, AllocError> {
                     above = above.wrapping_add(1);
                 }
             }
-            None => return Ok(Err(RowFault::Row(place))),
+            None => return Ok(Err(RunFault::Input(BadRow { place }))),
         }
     }
     Ok(Ok(above))
@@ -105,7 +106,10 @@ fn closed(bytes: &[u8]) -> &[u8] {
 }
 
 // What `run` returns over the device, and what it wrote: through a buffer of so many bytes, or with none by single bytes.
-fn run_on(device: &mut Device<'_>, capacity: usize) -> io::Result<(Result<(), RowFault>, Vec<u8>)> {
+fn run_on(
+    device: &mut Device<'_>,
+    capacity: usize,
+) -> io::Result<(Result<(), RunFault<BadRow>>, Vec<u8>)> {
     let mut written = Vec::new();
     let outcome = if capacity == 0 {
         run(device, &mut written)
@@ -118,8 +122,8 @@ fn run_on(device: &mut Device<'_>, capacity: usize) -> io::Result<(Result<(), Ro
 
 // The same as it is to be, where the whole input has that answer.
 fn report_of(
-    answer: Result<usize, RowFault>,
-) -> Result<(Result<(), RowFault>, Vec<u8>), AllocError> {
+    answer: Result<usize, RunFault<BadRow>>,
+) -> Result<(Result<(), RunFault<BadRow>>, Vec<u8>), AllocError> {
     let mut report = Vec::new();
     match answer {
         Ok(above) => {
@@ -151,7 +155,7 @@ fn expect_each_read_failed(
         let answer = if met {
             let count = input.len().saturating_sub(device.bytes.len());
             match answer_of(closed(&input[..count]))? {
-                Ok(_) => Err(RowFault::Read),
+                Ok(_) => Err(RunFault::Read),
                 Err(fault) => Err(fault),
             }
         } else {
@@ -205,7 +209,7 @@ fn run_into(
     piece: usize,
     failing: u32,
     kind: ErrorKind,
-) -> (Result<(), RowFault>, [u8; 8], usize, bool) {
+) -> (Result<(), RunFault<BadRow>>, [u8; 8], usize, bool) {
     let mut reader = TEN_ABOVE;
     let mut taker = Taker {
         piece,
@@ -233,7 +237,7 @@ fn run_over_writers_that_fail_at_each_write_in_turn() {
             let mut met_none = false;
             for failing in 0..8 {
                 let (outcome, kept, count, met) = run_into(piece, failing, kind);
-                let wanted = if met { Err(RowFault::Write) } else { Ok(()) };
+                let wanted = if met { Err(RunFault::Write) } else { Ok(()) };
                 assert_eq!(outcome, wanted, "by {piece}: {kind:?} at write {failing}");
                 assert_eq!(
                     kept.get(..count),
@@ -269,7 +273,7 @@ fn run_over_writers_that_are_interrupted_or_take_nothing() {
         }
     }
     let (outcome, _, count, _) = run_into(0, u32::MAX, ErrorKind::Other);
-    assert_eq!((outcome, count), (Err(RowFault::Write), 0), "by 0");
+    assert_eq!((outcome, count), (Err(RunFault::Write), 0), "by 0");
 }
 
 // How many bytes the first rows have, with their newlines.

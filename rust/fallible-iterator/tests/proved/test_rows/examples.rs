@@ -1,6 +1,7 @@
 use crate::Fail;
-use crate::fallible_rows::{Buffered, ReadByte, RowFault, Rows, fault_line, run, sum_of_rows};
+use crate::fallible_rows::{BadRow, Buffered, ReadByte, RowFault, Rows, run, sum_of_rows};
 use crate::laws::answers;
+use crate::program_io::fault::{RunFault, fault_line};
 use fallible_iterator::memory::AllocError;
 use fallible_iterator::{Answer, FallibleIterator};
 use std::io;
@@ -75,8 +76,13 @@ impl Write for BrokenWriter {
     }
 }
 
+// What `run` returns at a row that is no number.
+fn bad_row(place: u32) -> Result<(), RunFault<BadRow>> {
+    Err(RunFault::Input(BadRow { place }))
+}
+
 // What `run` returns, and what it wrote.
-fn run_on<R: Read>(reader: &mut R) -> (Result<(), RowFault>, Vec<u8>) {
+fn run_on<R: Read>(reader: &mut R) -> (Result<(), RunFault<BadRow>>, Vec<u8>) {
     let mut written = Vec::new();
     let outcome = run(reader, &mut written);
     (outcome, written)
@@ -148,7 +154,7 @@ fn run_answers_failed_read() {
             kind,
         };
         let mut written = Vec::new();
-        assert_eq!(run(&mut reader, &mut written), Err(RowFault::Read));
+        assert_eq!(run(&mut reader, &mut written), Err(RunFault::Read));
         assert!(written.is_empty());
     }
 }
@@ -165,9 +171,9 @@ fn run_answers_each_read_that_fails() {
         let mut written = Vec::new();
         let outcome = run(&mut reader, &mut written);
         if count < input.len() {
-            assert_eq!(outcome, Err(RowFault::Read));
+            assert_eq!(outcome, Err(RunFault::Read));
         } else {
-            assert_eq!(outcome, Err(RowFault::Row(2)));
+            assert_eq!(outcome, bad_row(2));
         }
         assert!(written.is_empty());
     }
@@ -190,7 +196,7 @@ fn run_answers_a_read_that_fails_once_and_reads_no_more() {
                 reads: 0,
             };
             let (outcome, written) = run_on(&mut reader);
-            assert_eq!(outcome, Err(RowFault::Read), "{kind:?} at {failing}");
+            assert_eq!(outcome, Err(RunFault::Read), "{kind:?} at {failing}");
             assert!(written.is_empty());
             assert_eq!(reader.reads, failing);
         }
@@ -198,7 +204,7 @@ fn run_answers_a_read_that_fails_once_and_reads_no_more() {
 }
 
 // What `run` returns over a reader that yields these bytes and then fails.
-fn run_on_broken(bytes: &[u8]) -> Result<(), RowFault> {
+fn run_on_broken(bytes: &[u8]) -> Result<(), RunFault<BadRow>> {
     let mut reader = BrokenReader {
         bytes,
         kind: ErrorKind::Other,
@@ -208,16 +214,16 @@ fn run_on_broken(bytes: &[u8]) -> Result<(), RowFault> {
 
 #[test]
 fn run_answers_row_that_was_closed_before_a_read_fails() {
-    assert_eq!(run_on_broken(b"fern\n"), Err(RowFault::Row(1)));
-    assert_eq!(run_on_broken(b"fern"), Err(RowFault::Read));
-    assert_eq!(run_on_broken(b"100\n"), Err(RowFault::Read));
+    assert_eq!(run_on_broken(b"fern\n"), bad_row(1));
+    assert_eq!(run_on_broken(b"fern"), Err(RunFault::Read));
+    assert_eq!(run_on_broken(b"100\n"), Err(RunFault::Read));
 }
 
 #[test]
 fn run_leaves_what_follows_the_refused_row() {
     let mut reader: &[u8] = b"100\nfern\n200\n";
     let mut written = Vec::new();
-    assert_eq!(run(&mut reader, &mut written), Err(RowFault::Row(2)));
+    assert_eq!(run(&mut reader, &mut written), bad_row(2));
     assert_eq!(reader, b"200\n".as_slice());
 }
 
@@ -251,8 +257,8 @@ fn run_leaves_what_follows_row_1_000_000_in_the_buffer() {
 #[test]
 fn run_answers_each_write_that_fails() {
     for (room, outcome) in [
-        (0, Err(RowFault::Write)),
-        (1, Err(RowFault::Write)),
+        (0, Err(RunFault::Write)),
+        (1, Err(RunFault::Write)),
         (2, Ok(())),
     ] {
         let mut reader: &[u8] = b"100\n200\n";
@@ -264,15 +270,19 @@ fn run_answers_each_write_that_fails() {
 #[test]
 fn fault_line_tells_each_fault() {
     for (fault, line, status) in [
-        (RowFault::Row(3), b"row 3: not a number\n".as_slice(), 1),
         (
-            RowFault::Row(1_000_000),
+            RunFault::Input(BadRow { place: 3 }),
+            b"row 3: not a number\n".as_slice(),
+            1,
+        ),
+        (
+            RunFault::Input(BadRow { place: 1_000_000 }),
             b"row 1000000: not a number\n".as_slice(),
             1,
         ),
-        (RowFault::Read, b"read failed\n".as_slice(), 2),
-        (RowFault::Memory, b"no memory\n".as_slice(), 3),
-        (RowFault::Write, b"write failed\n".as_slice(), 4),
+        (RunFault::Read, b"read failed\n".as_slice(), 2),
+        (RunFault::Memory, b"no memory\n".as_slice(), 3),
+        (RunFault::Write, b"write failed\n".as_slice(), 4),
     ] {
         let mut written = Vec::new();
         assert_eq!(fault_line(&fault, &mut written), Ok(status));

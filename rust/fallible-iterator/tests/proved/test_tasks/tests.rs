@@ -2,9 +2,10 @@ use crate::Fail;
 use fallible_iterator::memory::AllocError;
 // What the uses answer of which no clause says it: which reads, writes and requests fail, and what the lines of a reader come to.
 use crate::example_tasks::lines::{LineFault, sum_of_lines};
-use crate::example_tasks::report::{RunFault, fault_line, run};
+use crate::example_tasks::report::run;
 use crate::example_tasks::table::TableFault;
 
+use crate::program_io::fault::{RunFault, fault_line};
 use std::io;
 use std::io::{ErrorKind, Read, Write};
 
@@ -69,7 +70,7 @@ impl Write for BrokenWriter {
 }
 
 // What `run` returns over these bytes, where a read fails after them.
-fn run_on_broken(bytes: &[u8], kind: ErrorKind) -> Result<(), RunFault> {
+fn run_on_broken(bytes: &[u8], kind: ErrorKind) -> Result<(), RunFault<TableFault>> {
     let mut reader = BrokenReader { bytes, kind };
     run(&mut reader, &mut Vec::new())
 }
@@ -82,7 +83,7 @@ fn expect_report(mut table: &[u8], report: &[u8]) {
 
 fn expect_fault(mut table: &[u8], fault: TableFault) {
     let mut written = Vec::new();
-    assert_eq!(run(&mut table, &mut written), Err(RunFault::Table(fault)));
+    assert_eq!(run(&mut table, &mut written), Err(RunFault::Input(fault)));
     assert!(written.is_empty());
 }
 
@@ -94,7 +95,7 @@ fn reports() {
 }
 
 // What `run` returns over these bytes, read in such pieces, and what it writes.
-fn run_in_pieces(bytes: &[u8], most: usize) -> (Result<(), RunFault>, Vec<u8>) {
+fn run_in_pieces(bytes: &[u8], most: usize) -> (Result<(), RunFault<TableFault>>, Vec<u8>) {
     let mut reader = PieceReader {
         bytes,
         most,
@@ -120,8 +121,8 @@ fn a_table_is_read_in_pieces() {
     fn tested() -> Result<(), Fail> {
         for (last, wanted) in [
             (&TABLE[..0], Ok(())),
-            (&TABLE[8..], Err(RunFault::Table(TableFault::Bad(10_001)))),
-            (&TABLE[..7], Err(RunFault::Table(TableFault::Cut(10_001)))),
+            (&TABLE[8..], Err(RunFault::Input(TableFault::Bad(10_001)))),
+            (&TABLE[..7], Err(RunFault::Input(TableFault::Cut(10_001)))),
         ] {
             let table = long_table(last)?;
             let report = if wanted.is_ok() {
@@ -153,8 +154,8 @@ fn run_answers_a_read_that_fails() {
             (7, fault),
             (8, fault),
             (15, fault),
-            (16, RunFault::Table(TableFault::Bad(2))),
-            (24, RunFault::Table(TableFault::Bad(2))),
+            (16, RunFault::Input(TableFault::Bad(2))),
+            (24, RunFault::Input(TableFault::Bad(2))),
         ] {
             assert_eq!(
                 run_on_broken(&TABLE[..count], kind),
@@ -184,12 +185,12 @@ fn run_answers_each_write_that_fails() {
 fn fault_line_tells_each_fault() {
     for (fault, line, status) in [
         (
-            RunFault::Table(TableFault::Bad(2)),
+            RunFault::Input(TableFault::Bad(2)),
             b"record 2: the first number is above the second\n".as_slice(),
             1,
         ),
         (
-            RunFault::Table(TableFault::Cut(10)),
+            RunFault::Input(TableFault::Cut(10)),
             b"record 10: cut short\n".as_slice(),
             5,
         ),

@@ -2,7 +2,7 @@
 ghost use Rattle.std.specs.Prelude.{◌≡◌, ◌≢◌, Ok, Err, [], ◌∷◌, ◌++◌, MatchResult, OnOk, OnErr, codes};
 ghost use Rattle.std.specs.Vec.Iter.{into_iter_items};
 ghost use Rattle.std.specs.Io.KnownBytes.{Appends, Keeps};
-ghost use Rattle.example_tasks.specs.Arguments.{asked_by, asked_first, lines_of, status_of};
+ghost use Rattle.program_io.specs.Arguments.{asked_by, asked_first, lines_of, status_of};
 
 use crate::writing::WriteText;
 use std::env::{Args, Env};

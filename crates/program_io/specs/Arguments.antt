@@ -2,10 +2,10 @@
 use Rattle.std.specs.Prelude.{ℕ, ◌==◌, List, [], ◌∷◌, ◌++◌, Bool, false, if◌then◌else◌, codes, bytes_eq, string_bytes}
 use Rattle.std.specs.declared.string.String.{String}
 use Rattle.std.specs.declared.alloc.Global.{Global}
-use Rattle.example_tasks.specs.declared.arguments.Asked.{Asked}
-use Rattle.example_tasks.specs.declared.arguments.Asked.TheVariants.{Help, Unexpected, Standard, File}
-use Rattle.example_tasks.specs.declared.arguments.Refusal.{Refusal}
-use Rattle.example_tasks.specs.declared.arguments.Refusal.TheVariants.{Word, Unopened, NoText, Memory}
+use Rattle.program_io.specs.declared.arguments.Asked.{Asked}
+use Rattle.program_io.specs.declared.arguments.Asked.TheVariants.{Help, Unexpected, Standard, File}
+use Rattle.program_io.specs.declared.arguments.Refusal.{Refusal}
+use Rattle.program_io.specs.declared.arguments.Refusal.TheVariants.{Word, Unopened, NoText, Memory}
 
 -- whether a text begins with a minus
 abbrev pub begins_with_minus : List ℕ → Bool

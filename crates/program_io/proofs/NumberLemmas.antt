@@ -5,7 +5,7 @@ use Rattle.std.specs.Str.{all_ascii_digits}
 use Rattle.std.specs.Str.Parse.{IsNumeral, ParsesUnsigned, digits_value, without_leading_plus}
 use Rattle.std.proofs.lemmas.Bool.{and_parts, and_from, lt-ltb, ltb-true, leb-true, le-leb, false_from_ne_true, cond-true, cond-false}
 use Rattle.std.proofs.lemmas.Str.Parse.{tells_all_ascii_digits, numerals_by_value, IsNumeralModel}
-use Rattle.example_tasks.specs.Numbers.{is_number, number_of}
+use Rattle.program_io.specs.Numbers.{is_number, number_of}
 use Rattle.std.specs.declared.result.Result.{Result}
 
 is_numeral_model_digits : IsNumeralModel (λ ds. all_ascii_digits ds ≡ true) (digits_value 10)

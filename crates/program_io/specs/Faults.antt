@@ -1,0 +1,31 @@
+-- Why a run fails, and what is told of it.
+use Rattle.std.specs.Prelude.{◌≡◌, ◌≢◌, ℕ, List, [], ◌∷◌, ◌++◌, codes}
+use Rattle.std.specs.declared.io.ErrorKind.{ErrorKind}
+use Rattle.std.specs.declared.io.ErrorKind.TheVariants.{OutOfMemory}
+use Rattle.program_io.specs.declared.fault.RunFault.{RunFault}
+use Rattle.program_io.specs.declared.fault.RunFault.TheVariants.{Input, Read, Memory, Write}
+
+-- This is what a failed read of a kind comes to.
+abbrev pub IsFaultOfRead : {F : Type 0} → ErrorKind → RunFault F → Type 0
+IsFaultOfRead kind (Input fault) = ⊥
+IsFaultOfRead kind Read = kind ≢ OutOfMemory
+IsFaultOfRead kind Memory = kind ≡ OutOfMemory
+IsFaultOfRead kind Write = ⊥
+
+-- the status that a program ends with: that of the input's fault, or one that all programs have
+abbrev pub status_of : {F : Type 0} → (F → ℕ) → RunFault F → ℕ
+status_of status (Input fault) = status fault
+status_of status Read = 2
+status_of status Memory = 3
+status_of status Write = 4
+
+-- the text of the line that tells a fault, without its newline
+abbrev pub text_of : {F : Type 0} → (F → List ℕ) → RunFault F → List ℕ
+text_of text (Input fault) = text fault
+text_of text Read = codes "read failed"
+text_of text Memory = codes "no memory"
+text_of text Write = codes "write failed"
+
+-- the line, with its newline
+abbrev pub line_of : {F : Type 0} → (F → List ℕ) → RunFault F → List ℕ
+line_of text fault = text_of text fault ++ 10 ∷ []

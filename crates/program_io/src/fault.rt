@@ -1,0 +1,111 @@
+//! Why a run fails, and how that is told.
+ghost use Rattle.std.specs.Prelude.{◌≡◌, ◌∷◌, ◌++◌, [], ℕ, List, MatchResult, OnErr, OnOk};
+ghost use Rattle.std.specs.IoError.{error_kind};
+ghost use Rattle.std.specs.Io.KnownBytes.{Appends};
+ghost use Rattle.program_io.specs.Faults.{IsFaultOfRead, line_of, status_of};
+
+use crate::writing::WriteText;
+use std::alloc::AllocError;
+use std::io;
+use std::io::ErrorKind;
+
+/// What may be wrong with a program's input, and how that is told.
+pub trait InputFault {
+    // The status that the program ends with.
+    ghost status: { Self → ℕ };
+
+    // The text of the line that tells of it, without the newline.
+    ghost text: { Self → List ℕ };
+
+    /// The status that the program ends with.
+    fn status(&self) -> u8
+        ensures { result ≡ status self.now };
+
+    /// Writes the line that tells of it, with its newline.
+    fn write_line<W: WriteText>(&self, errors: &mut W) -> io::Result<()>
+        ensures line { OnOk result (Appends (W.written errors.old) (W.written errors.new)
+            (text self.now ++ 10 ∷ [])) }
+        ensures failed { OnErr result (W.failed errors.new) };
+}
+
+/// Why a run made no report.
+#[derive(Clone, Copy, Debug, PartialEq, Eq, Drop)]
+pub enum RunFault<F> {
+    /// The input has a fault.
+    Input(F),
+    /// A read failed.
+    Read,
+    /// An allocation failed, or a read for want of memory.
+    Memory,
+    /// The report could not be written.
+    Write,
+}
+
+impl<F> From<AllocError> for RunFault<F> {
+    ghost use Rattle.program_io.specs.declared.fault.RunFault.TheVariants.{Memory};
+
+    ghost from_gives = { λ refused fault. fault ≡ Memory };
+
+    /// `RunFault::Memory`
+    fn from(_: AllocError) -> RunFault<F> {
+        RunFault::Memory
+    }
+}
+
+/// What a failed read comes to: `Memory` if it failed for want of memory, and otherwise `Read`.
+pub fn fault_of_read<F>(error: &io::Error) -> RunFault<F>
+    ensures { IsFaultOfRead (error_kind error.now) result }
+{
+    match error.kind() {
+        ErrorKind::OutOfMemory => RunFault::Memory,
+        _ => RunFault::Read,
+    }
+}
+
+impl<F: InputFault> RunFault<F> {
+    // The status that a program ends with.
+    fn exit_status(&self) -> u8
+        ensures { result ≡ status_of F.status self.now }
+    {
+        match self {
+            RunFault::Input(fault) => fault.status(),
+            RunFault::Read => 2,
+            RunFault::Memory => 3,
+            RunFault::Write => 4,
+        }
+    }
+
+    // Writes the line that tells of it.
+    fn write_whole_line<W: WriteText>(&self, errors: &mut W) -> io::Result<()>
+        ensures line { OnOk result (Appends (W.written errors.old) (W.written errors.new)
+            (line_of F.text self.now)) }
+        ensures failed { OnErr result (W.failed errors.new) }
+    {
+        match self {
+            RunFault::Input(fault) => fault.write_line(errors),
+            RunFault::Read => errors.write_text("read failed\n"),
+            RunFault::Memory => errors.write_text("no memory\n"),
+            RunFault::Write => errors.write_text("write failed\n"),
+        }
+    }
+}
+
+/// Writes the one line that tells of `fault` to `errors`, and returns the status that a program ends with after it: that of the input's fault, 2 for `Read`, 3 for `Memory`, 4 for `Write`.
+///
+/// `Ok` of the status where that line and nothing else was written, and `Err` of the same status where it could not be, and part of it may have been. It allocates nothing.
+pub fn fault_line<F: InputFault, W: WriteText>(
+    fault: &RunFault<F>,
+    errors: &mut W,
+) -> Result<u8, u8>
+    ensures status { MatchResult result (λ status. status ≡ status_of F.status fault.now)
+        (λ status. status ≡ status_of F.status fault.now) }
+    ensures line { OnOk result
+        (Appends (W.written errors.old) (W.written errors.new) (line_of F.text fault.now)) }
+    ensures failed { OnErr result (W.failed errors.new) }
+{
+    let status = fault.exit_status();
+    match fault.write_whole_line(errors) {
+        Ok(()) => Ok(status),
+        Err(_) => Err(status),
+    }
+}
