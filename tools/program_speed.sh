@@ -8,8 +8,8 @@
 # One that is not there is named, and its loops are measured alone. The input is made anew, the same in each run.
 #
 # It prints a table for each program. The instructions are those of 100,000 rows or records less those of none, by valgrind's
-# callgrind. A column by the number of rows has the least processor time of RUNS runs, else of 20, and the most memory that
-# one run had, by GNU time.
+# callgrind. A column by the number of rows has the least processor time of RUNS runs, else of 20, and the memory of one more
+# run, its maximum resident set by GNU time. That of no rows is what a process takes to start and to end.
 #
 # The status is 1 where an output differs from the program's or from crates/NAME/stdout, and otherwise 2 where a program is
 # not there.
