@@ -17,7 +17,8 @@ use Rattle.fallible_iterator.proofs.Lemmas.BothEnds.{lists_both_ends_swapped, li
 use Rattle.fallible_iterator.proofs.Lemmas.Lists.Drawn.{counted_of_lists, nth_of_lists}
 use Rattle.fallible_iterator.proofs.Lemmas.Lists.Searched.{any_of_lists, found_of_lists}
 use Rattle.fallible_iterator.proofs.Lemmas.Ends.{draws_list, draws_list_run}
-use Rattle.fallible_itertools.specs.FromBack.{CountedWhere, PlacedFromBack, before_last_true, rest_failure, last_position_in, rest_where, rest_position}
+use Rattle.fallible_itertools.specs.FromBack.{CountedWhere, PlacedFromBack, before_last_true, last_position_in, rest_where, rest_position}
+use Rattle.fallible_itertools.specs.UntilFailure.{rest_failure}
 use Rattle.fallible_iterator.proofs.Lemmas.Lists.Rest.{is_some_any_pick, is_some_find_pick}
 use Rattle.std.specs.declared.ops.ControlFlow.{ControlFlow}
 use Rattle.std.specs.declared.ops.ControlFlow.TheVariants.{Continue}

@@ -1,10 +1,11 @@
 -- What searches from the back return and leave.
-use Rattle.std.specs.Prelude.{◌≡◌, ℕ, List, [], ◌∷◌, reverse, Bool, true, false, cond, Option, Some, None, Result, Ok, Err}
+use Rattle.std.specs.Prelude.{◌≡◌, ℕ, List, reverse, Bool, true, false, cond, Option, Some, None, Result, Ok, Err}
 use Rattle.fallible_iterator.specs.Traces.{Answered}
 use Rattle.fallible_iterator.specs.Folds.{CountedBy, Drained}
 use Rattle.fallible_iterator.specs.Searching.{SearchDrains, any_pick}
 use Rattle.fallible_iterator.specs.Comparing.{read_as}
 use Rattle.fallible_iterator.specs.Lists.{on_value, any_of, counted, rest_true}
+use Rattle.fallible_itertools.specs.UntilFailure.{rest_failure}
 
 -- If the search was true of an item, what is left is counted: the result is the number, or the failure. Otherwise nothing more is drawn.
 abbrev pub CountedWhere : {S A E : Type 0} → (S → Answered A E → S → Type 0) → Result Bool E → S → Result (Option ℕ) E → S → Type 0
@@ -23,12 +24,6 @@ pub record PlacedFromBack {S A E F : Type 0} (front back : S → Answered A E �
 -- what stands before the last item x for which h x is true, or before the failure of the list or of h that comes first from the back
 unfoldable pub before_last_true : {A E : Type 0} → (A → Result Bool E) → List (Result A E) → List (Result A E)
 before_last_true h l = reverse (rest_true h (reverse l))
-
--- what comes after the first failure; nothing if there is none
-unfoldable pub rest_failure : {A E : Type 0} → List (Result A E) → List (Result A E)
-rest_failure [] = []
-rest_failure (Ok x ∷ l) = rest_failure l
-rest_failure (Err e ∷ l) = l
 
 -- how many items stand before the last item x for which h x is true, if there is one; or the failure that comes first: from the back up to that item, and then from the front
 unfoldable pub last_position_in : {A E : Type 0} → (A → Result Bool E) → List (Result A E) → Result (Option ℕ) E

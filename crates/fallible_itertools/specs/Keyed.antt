@@ -9,7 +9,7 @@ use Rattle.fallible_iterator.specs.Outcome.{Outcome}
 use Rattle.fallible_iterator.specs.Outcome.TheVariants.{Kept, Failure}
 use Rattle.fallible_itertools.specs.declared.keyed.Keyed.{Keyed}
 
--- An item stands behind its key, or becomes the closure's failure.
+-- An item stands beside its key, or becomes the closure's failure.
 abbrev pub keyed_outcome : {X K E : Type 0} → X → Result K E → Outcome (K × X) E
 keyed_outcome x (Ok k) = Kept (k, x)
 keyed_outcome x (Err e) = Failure e
@@ -24,12 +24,12 @@ keyed_parts s = (s.it, s.f)
 
 -- ---- what it lists
 
--- an item behind its key, or the closure's failure
+-- an item beside its key, or the closure's failure
 abbrev pub with_key : {X K E : Type 0} → X → Result K E → Result (K × X) E
 with_key x (Ok k) = Ok (k, x)
 with_key x (Err e) = Err e
 
--- each item x behind the key that h makes of it, or the failure of h in its place
+-- each item x beside the key that h makes of it, or the failure of h in its place
 unfoldable pub keyed : {X K E : Type 0} → (X → Result K E) → List (Result X E) → List (Result (K × X) E)
 keyed h [] = []
 keyed h (Ok x ∷ l) = with_key x (h x) ∷ keyed h l

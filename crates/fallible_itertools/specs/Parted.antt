@@ -21,9 +21,9 @@ module _ {A E : Type 0} where
   parted_step steps s (Err never) t = ⊥
 
   -- the item may still come, or the failure may
-  abbrev pub MayCome : (A → Type 0) → (E → Type 0) → Either A E → Type 0
-  MayCome gives fails (Left x) = gives x
-  MayCome gives fails (Right e) = fails e
+  abbrev pub EitherMayCome : (A → Type 0) → (E → Type 0) → Either A E → Type 0
+  EitherMayCome gives fails (Left x) = gives x
+  EitherMayCome gives fails (Right e) = fails e
 
   -- the answers of a list, each as a value of its kind
   abbrev pub eithers : List (Result A E) → List (Either A E)
@@ -39,7 +39,7 @@ parted_contract m = record {
   bound = λ s n. IsFinite (m.remaining s) × (size (m.remaining s) ≤ n);
   is_finite = λ s. IsFinite (m.remaining s);
   remaining = λ s. m.remaining s;
-  may_give = λ s v. MayCome (m.may_give s) (m.may_fail s) v;
+  may_give = λ s v. EitherMayCome (m.may_give s) (m.may_fail s) v;
   may_fail = λ s never. ⊥;
   hints = λ s h. h ≡ (0, None);
   lenders = λ s. m.lenders s;

@@ -45,7 +45,7 @@ first_failure [] = None
 first_failure (Ok x ∷ l) = first_failure l
 first_failure (Err e ∷ l) = Some e
 
--- what comes after the first failure
+-- what comes after the first failure; nothing if there is none
 unfoldable pub rest_failure : {A E : Type 0} → List (Result A E) → List (Result A E)
 rest_failure [] = []
 rest_failure (Ok x ∷ l) = rest_failure l

@@ -9,7 +9,7 @@ ghost use Rattle.fallible_itertools.specs.Laws.Keyed.{lawful_keyed};
 use fallible_iterator::extending::{Outcome, Pass, drive_passing, passed};
 use fallible_iterator::{FallibleIterator, Turn};
 
-/// Each item of the source behind the key that the closure makes of it. An item on which the closure fails is lost, and its failure is yielded.
+/// Each item of the source beside the key that the closure makes of it. An item on which the closure fails is lost, and its failure is yielded.
 #[derive(Drop)]
 pub struct Keyed<I, F> {
     /// the source

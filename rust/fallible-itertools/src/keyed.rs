@@ -3,7 +3,7 @@
 use fallible_iterator::extending::{Outcome, Pass, drive_passing, passed};
 use fallible_iterator::{FallibleIterator, Turn};
 
-/// Each item of the source behind the key that the closure makes of it. An item on which the closure fails is lost, and its failure is yielded.
+/// Each item of the source beside the key that the closure makes of it. An item on which the closure fails is lost, and its failure is yielded.
 pub(crate) struct Keyed<I, F> {
     /// the source
     pub it: I,

@@ -4,13 +4,13 @@ use Rattle.std.proofs.Common.{arith, refl}
 use Rattle.std.specs.Iterator.{size}
 use Rattle.fallible_iterator.specs.Traces.{Answered}
 use Rattle.fallible_iterator.specs.Contract.{Contract, KeptByDraw, Lawful}
-use Rattle.fallible_itertools.specs.Parted.{MayCome, parted_contract}
+use Rattle.fallible_itertools.specs.Parted.{EitherMayCome, parted_contract}
 use Rattle.fallible_itertools.specs.declared.partition_map.Either.{Either}
 use Rattle.fallible_itertools.specs.declared.partition_map.Either.TheVariants.{Left, Right}
 use Rattle.std.specs.declared.convert.Infallible.{Infallible}
 
 module _ {S A E : Type 0} (m : Contract S A E) (l : Lawful m) where
-  may_come_kept : {P P' : A → Type 0} {Q Q' : E → Type 0} → ((x : A) → P x → P' x) → ((e : E) → Q e → Q' e) → (v : Either A E) → MayCome P Q v → MayCome P' Q' v
+  may_come_kept : {P P' : A → Type 0} {Q Q' : E → Type 0} → ((x : A) → P x → P' x) → ((e : E) → Q e → Q' e) → (v : Either A E) → EitherMayCome P Q v → EitherMayCome P' Q' v
   may_come_kept p q (Left x) h = p x h
   may_come_kept p q (Right e) h = q e h
 
