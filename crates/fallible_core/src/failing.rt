@@ -7,9 +7,9 @@ ghost use Rattle.fallible_contract.specs.Folds.{CallableDriving, Driven};
 use crate::number::Number;
 use crate::traits::FallibleIterator;
 use crate::traits::double_ended::DoubleEndedFallibleIterator;
-use fallible_contract::failing::{Fail, failed, turn_on_failure};
+use fallible_contract::failing::{Fail, failed};
 use fallible_contract::folds::Turn;
-use fallible_contract::passing::Pass;
+use fallible_contract::passing::{Pass, turn_on_passed};
 use std::ops::ControlFlow;
 
 /// The fold from the front of such an adapter: the source's, and what becomes of the failure that it met.
@@ -83,7 +83,7 @@ where
     loop {
         match it.drive(state, turn) {
             Ok(value) => return Ok(value),
-            Err(d) => match turn_on_failure(d, p, adapter, state, turn) {
+            Err(d) => match turn_on_passed(d, p, adapter, state, turn) {
                 ControlFlow::Continue(()) => {}
                 ControlFlow::Break(answer) => return answer,
             },
@@ -118,7 +118,7 @@ where
     loop {
         match it.drive_back(state, turn) {
             Ok(value) => return Ok(value),
-            Err(d) => match turn_on_failure(d, p, adapter, state, turn) {
+            Err(d) => match turn_on_passed(d, p, adapter, state, turn) {
                 ControlFlow::Continue(()) => {}
                 ControlFlow::Break(answer) => return answer,
             },

@@ -9,8 +9,8 @@ drive_back-requires-clause-callable g c = holds_each_turn_source g.I.DoubleEnded
 pub returns-in-Ok : goal.returns-in-Ok
 returns-in-Ok g c = c.loop-value.invariant.whole _ _ _ (drives_value g.I.DoubleEndedFallibleIterator.ends.steps (g.A.Pass.call c.args.adapter.now) (g.A.Pass.outcome c.args.adapter.now) (g.K.Turn.turns c.args.turn.now) _ c.in-Ok.ensures)
 
-pub turn_on_failure-requires : goal.turn_on_failure-requires
-turn_on_failure-requires g c = let call = g.A.Pass.call c.args.adapter.now in let outcome = g.A.Pass.outcome c.args.adapter.now in let turns = g.K.Turn.turns c.args.turn.now in
+pub turn_on_passed-requires : goal.turn_on_passed-requires
+turn_on_passed-requires g c = let call = g.A.Pass.call c.args.adapter.now in let outcome = g.A.Pass.outcome c.args.adapter.now in let turns = g.K.Turn.turns c.args.turn.now in
     let met = met_failure g.I.DoubleEndedFallibleIterator.ends.steps turns c.in-Err.ensures in let i = c.loop-value.invariant in let pre = g.A.Pass.can_pass c.args.adapter.now in
     folding_takes_at g.I.DoubleEndedFallibleIterator.ends.steps call outcome turns _ met pre (takes_met_failure g.met.I.DoubleEndedFallibleIterator.lawful_ends.back call pre i.can_next met) i.callable
 
