@@ -1,6 +1,6 @@
 #!/usr/bin/env bash
 # Runs every test and every program of the repository without a proof, by `rt try`, and says a line for each crate, as
-# '7 of 26: test_ends: 9 passed, 0 failed'. It is no gate: what it passes is tested, and not proved. With names it runs
+# '7 of 26: test_examples: 9 passed, 0 failed'. It is no gate: what it passes is tested, and not proved. With names it runs
 # these crates alone. The last line is 'N passed, M failed'; the status is 0 where none failed. A test and a program have
 # ten minutes each, so that a busy machine fails none.
 #

@@ -11,8 +11,8 @@ SUITES = {
     "fallible-iterator": [
         "test_support", "example_chains", "example_by_hand", "fallible_vectors",
         "test_adapters", "test_joining", "test_consumers",
-        "test_ends", "test_examples", "program_io", "example_tasks", "test_tasks",
-        "fallible_elf", "test_elf", "fallible_rows", "test_rows",
+        "test_examples", "program_io", "example_tasks", "fallible_table", "fallible_elf",
+        "test_programs", "fallible_rows", "test_rows",
     ],
     "fallible-itertools": [
         "test_support", "example_itertools", "test_itertools", "fallible_scripts",

@@ -1,8 +1,5 @@
 mod GrammarLemmas
 mod MergingLemmas
 mod PageLemmas
-mod ReadingLemmas
 mod RoomLemmas
-mod TableLemmas
 mod TokenLemmas
-mod TotalsLemmas

@@ -4,5 +4,3 @@ pub mod Grammar
 pub mod Lines
 pub mod Merging
 pub mod Pages
-pub mod Report
-pub mod Tables

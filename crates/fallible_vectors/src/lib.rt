@@ -1,4 +1,4 @@
-//! Vectors: the sources, the consumers and the trait's own calls on small inputs, with answers that come from outside.
+//! Vectors: the sources, the consumers, the trait's own calls and both ends on small inputs, with answers that come from outside.
 #![tactic(auto)]
 
 #[cfg(test)]
@@ -11,6 +11,8 @@ mod bridges;
 mod collecting;
 #[cfg(test)]
 mod draining;
+#[cfg(test)]
+mod ends;
 #[cfg(test)]
 mod exact_count;
 #[cfg(test)]

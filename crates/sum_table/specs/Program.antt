@@ -3,8 +3,8 @@ use Rattle.std.specs.Prelude.{◌≢◌, ℕ, List, Option, Result, Ok, Err}
 use Rattle.std.specs.Io.KnownBytes.{Keeps}
 use Rattle.std.specs.declared.io.ErrorKind.{ErrorKind}
 use Rattle.std.specs.declared.io.ErrorKind.TheVariants.{OutOfMemory}
-use Rattle.example_tasks.specs.Report.{HasFault, WritesReport, HasTotals}
-use Rattle.example_tasks.specs.declared.table.TableFault.{TableFault}
+use Rattle.fallible_table.specs.Report.{HasFault, WritesReport, HasTotals}
+use Rattle.fallible_table.specs.declared.table.TableFault.{TableFault}
 use Rattle.program_io.specs.declared.fault.RunFault.{RunFault}
 use Rattle.program_io.specs.declared.fault.RunFault.TheVariants.{Input, Read, Memory, Write}
 

@@ -1,11 +1,11 @@
 // The program, over any input and any two outputs.
-ghost use Rattle.example_tasks.specs.Report.{status_of, text_of};
+ghost use Rattle.fallible_table.specs.Report.{status_of, text_of};
 ghost use Rattle.program_io.specs.Endings.{EndsWith};
 ghost use Rattle.sum_table.specs.Program.{ComesTo};
 
-use example_tasks::reading::ReadTable;
-use example_tasks::report::run;
-use example_tasks::table::TableFault;
+use fallible_table::reading::ReadTable;
+use fallible_table::report::run;
+use fallible_table::table::TableFault;
 use program_io::ending::ended;
 use program_io::fault::RunFault;
 use program_io::writing::WriteText;

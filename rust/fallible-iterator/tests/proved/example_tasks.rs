@@ -7,7 +7,4 @@ pub mod generic;
 pub mod lines;
 pub mod merging;
 pub mod pages;
-pub mod reading;
-pub mod report;
-pub mod table;
 pub mod tokens;

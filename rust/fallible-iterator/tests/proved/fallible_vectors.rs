@@ -12,6 +12,8 @@ mod collecting;
 #[cfg(test)]
 mod draining;
 #[cfg(test)]
+mod ends;
+#[cfg(test)]
 mod exact_count;
 #[cfg(test)]
 mod overriding;

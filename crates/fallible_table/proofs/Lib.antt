@@ -1,0 +1,3 @@
+mod ReadingLemmas
+mod TableLemmas
+mod TotalsLemmas

@@ -1,0 +1,3 @@
+-- What the clauses of `src/` cite.
+pub mod Report
+pub mod Tables

@@ -1,0 +1,11 @@
+//! Vectors: what `fallible_elf`, `fallible_table` and `example_tasks` return where no clause of theirs says it. They stand apart, so that these are proved once.
+#![tactic(auto)]
+
+#[cfg(test)]
+mod object;
+#[cfg(test)]
+mod objects;
+#[cfg(test)]
+mod tables;
+#[cfg(test)]
+mod tasks;

@@ -1,0 +1,11 @@
+use crate::Fail;
+use fallible_iterator::memory::AllocError;
+
+#[cfg(test)]
+mod object;
+#[cfg(test)]
+mod objects;
+#[cfg(test)]
+mod tables;
+#[cfg(test)]
+mod tasks;
