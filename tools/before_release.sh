@@ -23,8 +23,7 @@ elf|tools/elf_runs|minutes, once elf_tables is proved
 memory|tools/refused_memory.sh|7 minutes
 speed|tools/speed.sh|the proof of fallible_speed, and then minutes
 program_speed|tools/program_speed.sh|2 minutes; wants count_rows, sum_table and sum_groups proved, cargo, valgrind and GNU time
-rust_speed|tools/rust_bench.sh|a minute; wants valgrind and apt
-itertools_speed|tools/rust_bench_itertools.sh|a minute; wants valgrind and apt
+rust_speed|tools/rust_bench.sh|3 minutes; wants valgrind and apt
 clients|tools/rust_clients|a quarter of an hour and more; wants cargo, PostgreSQL, SQLite, libclang and apt
 END
 }

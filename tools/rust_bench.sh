@@ -1,71 +1,115 @@
 #!/usr/bin/env bash
-# Measures the chains of release/rust-bench over this repository's Rust crate, over the original, and beside a loop
-# written by hand.
+# Measures this repository's Rust crates beside others, by what each number takes.
 #
-#     tools/rust_bench.sh [CRATE_FOLDER [ORIGINAL_FOLDER]]
+#     tools/rust_bench.sh [chains|calls|all [MADE_FOLDER [ORIGINAL_FOLDER]]]
 #
-# CRATE_FOLDER is the folder of our crate, else rust/fallible-iterator. ORIGINAL_FOLDER is that of the original;
-# without it Debian's package is taken, from /usr/share/cargo/registry, or fetched by apt and not installed.
-# It prints for each chain the instructions for each number, by the loop, by a fold and by `next`: those of 200,000
-# numbers less those of none, by valgrind's callgrind. The status is 1 where an answer differs from the loop's.
+# `chains` are those of release/rust-bench, over our fallible-iterator, over the original, and beside a loop written by hand.
+# `calls` are those of our fallible-itertools in release/rust-bench-itertools, beside those of itertools, which has them over
+# items that can't fail. MADE_FOLDER is what tools/to_rust wrote, else rust/. ORIGINAL_FOLDER is that of the original;
+# without it, and for itertools, Debian's packages are taken, from /usr/share/cargo/registry, or fetched by apt and not
+# installed. It prints the instructions for each number, by a fold and by `next`: those of 200,000 numbers less those of
+# none, by valgrind's callgrind. The status is 1 where an answer differs.
 set -eu
 repository=$(cd "$(dirname "$0")/.." && pwd)
+what=${1:-all}
+made=${2:-$repository/rust}
+original=${3:-}
 work=$(mktemp -d)
 trap 'rm -rf "$work"' EXIT
-crate=${1:-$repository/rust/fallible-iterator}
-original=${2:-}
-if [ -z "$original" ] && ! ls -d /usr/share/cargo/registry/fallible-iterator-[0-9]* >/dev/null 2>&1; then
-    (cd "$work" && apt-get download librust-fallible-iterator-dev >/dev/null 2>&1 && dpkg-deb -x librust-*.deb debian) ||
-        { echo "apt-get download finds no librust-fallible-iterator-dev: run apt-get update" >&2; exit 2; }
-    original=$(echo "$work"/debian/usr/share/cargo/registry/fallible-iterator-[0-9]*)
-fi
-original=${original:-$(echo /usr/share/cargo/registry/fallible-iterator-[0-9]*)}
-
-# Builds the bench over the crate in that folder, as $work/$1/rust-bench/target/release/rust-bench.
-build() {
-    mkdir "$work/$1"
-    cp -r "$repository/release/rust-bench" "$work/$1/rust-bench"
-    cp -r "$2" "$work/$1/fallible-iterator"
-    rm -rf "$work/$1/fallible-iterator/target"
-    (cd "$work/$1/rust-bench" && RUSTFLAGS=--cap-lints=allow cargo build --release --offline --quiet)
-    cp "$work/$1/rust-bench/target/release/rust-bench" "$work/bench-$1"
-}
-build ours "$crate"
-build original "$original"
-
-# The instructions of one task: the side, the way, the chain, the number of numbers.
-instructions() {
-    valgrind --tool=callgrind --callgrind-out-file=/dev/null "$work/bench-$1" "$2" "$3" "$4" 2>&1 >/dev/null |
-        awk '/Collected/ { print $4 }'
-}
-
 count=200000
-declare -A none=([ours]=$(instructions ours fold chain 0) [original]=$(instructions original fold chain 0))
+differs=0
+case $what in chains | calls | all) ;; *) sed -n 2,11p "$0" >&2; exit 2 ;; esac
+
+# The source of a crate of Debian's.
+source_of() {
+    local registry=/usr/share/cargo/registry
+    if ! ls -d $registry/"$1"-[0-9]* >/dev/null 2>&1; then
+        registry=$work/debian$registry
+        ls -d "$registry/$1"-[0-9]* >/dev/null 2>&1 ||
+            (cd "$work" && apt-get download "librust-$1-dev" >/dev/null 2>&1 && dpkg-deb -x librust-"$1"-dev*.deb debian) ||
+            { echo "apt-get download finds no librust-$1-dev: run apt-get update" >&2; exit 2; }
+    fi
+    echo "$registry/$1"-[0-9]*
+}
+
+# Builds the bench $2 in the folder $1 of the crates that are laid there, as $1/bench.
+build() {
+    cp -r "$repository/release/$2" "$1/$2"
+    rm -rf "$1"/fallible-*/target
+    (cd "$1/$2" && RUSTFLAGS=--cap-lints=allow cargo build --release --offline --quiet)
+    cp "$1/$2/target/release/$2" "$1/bench"
+}
+
+# The instructions of one task: the executable, the way, the name, the number of numbers.
+instructions() {
+    valgrind --tool=callgrind --callgrind-out-file=/dev/null "$@" 2>&1 >/dev/null | awk '/Collected/ { print $4 }'
+}
 
 # The instructions for each number.
 figure() {
-    awk -v all="$(instructions "$1" "$2" "$3" $count)" -v none="${none[$1]}" -v count=$count \
+    awk -v all="$(instructions "$@" $count)" -v none="$(instructions "$@" 0)" -v count=$count \
         'BEGIN { printf "%.4f", (all - none) / count }'
 }
 
-# Both sides' figures of one way, and what ours is of the original's.
-pair() {
-    awk -v ours="$(figure ours "$1" "$2")" -v theirs="$(figure original "$1" "$2")" \
-        'BEGIN { printf " %.1f | %.1f | %.2f |", ours, theirs, ours / theirs }'
+# Says where an executable's answer is another than that: the answer, the executable, the way, the name.
+compare() {
+    [ "$("${@:2}" 1000)" = "$1" ] || { echo "$4, $(basename "$(dirname "$2")") by $3: differs"; differs=1; }
 }
 
-differs=0
-echo "$(rustc --version); the original: $(sed -n 's/^version *= *"\(.*\)"/\1/p' "$original/Cargo.toml" | head -1)"
-echo
-echo '| Chain | Loop | By a fold: ours | The original | Ratio | By `next`: ours | The original | Ratio |'
-echo '|---|---|---|---|---|---|---|---|'
-while read -r name; do
-    wanted=$("$work/bench-ours" loop "$name" 1000)
-    for side in ours original; do
+version_of() {
+    sed -n 's/^version *= *"\(.*\)"/\1/p' "$1/Cargo.toml" | head -1
+}
+
+chains() {
+    original=${original:-$(source_of fallible-iterator)}
+    mkdir "$work/ours" "$work/original"
+    cp -r "$made/fallible-iterator" "$work/ours"
+    cp -r "$original" "$work/original/fallible-iterator"
+    local ours=$work/ours/bench theirs=$work/original/bench name wanted line way
+    build "$work/ours" rust-bench
+    build "$work/original" rust-bench
+    echo "$(rustc --version); the original: $(version_of "$original")"
+    echo
+    echo '| Chain | Loop | By a fold: ours | The original | Ratio | By `next`: ours | The original | Ratio |'
+    echo '|---|---|---|---|---|---|---|---|'
+    while read -r name; do
+        wanted=$("$ours" loop "$name" 1000)
+        line="| $name | $(printf %.1f "$(figure "$ours" loop "$name")") |"
         for way in fold next; do
-            [ "$("$work/bench-$side" $way "$name" 1000)" = "$wanted" ] || { echo "$name, $side by $way: differs"; differs=1; }
+            compare "$wanted" "$ours" $way "$name"
+            compare "$wanted" "$theirs" $way "$name"
+            line="$line$(awk -v ours="$(figure "$ours" $way "$name")" -v theirs="$(figure "$theirs" $way "$name")" \
+                'BEGIN { printf " %.1f | %.1f | %.2f |", ours, theirs, ours / theirs }')"
         done
-    done
-    echo "| $name | $(printf %.1f "$(figure ours loop "$name")") |$(pair fold "$name")$(pair next "$name")"
-done < <("$work/bench-ours" names)
+        echo "$line"
+    done < <("$ours" names)
+}
+
+calls() {
+    mkdir "$work/calls"
+    cp -r "$made/fallible-iterator" "$made/fallible-itertools" "$work/calls"
+    local itertools either bench=$work/calls/bench name wanted line way
+    itertools=$(source_of itertools)
+    either=$(source_of either)
+    cp -r "$itertools" "$work/calls/itertools"
+    cp -r "$either" "$work/calls/either"
+    build "$work/calls" rust-bench-itertools
+    echo "$(rustc --version); itertools $(version_of "$itertools")"
+    echo
+    echo '| Call | By a fold: ours | `itertools` | By `next`: ours | `itertools` |'
+    echo '|---|---|---|---|---|'
+    while read -r name; do
+        wanted=$("$bench" theirs-fold "$name" 1000)
+        line="| $name |"
+        for way in ours-fold theirs-fold ours-next theirs-next; do
+            compare "$wanted" "$bench" $way "$name"
+            line="$line $(printf %.1f "$(figure "$bench" $way "$name")") |"
+        done
+        echo "$line"
+    done < <("$bench" names)
+}
+
+[ "$what" = calls ] || chains
+[ "$what" != all ] || echo
+[ "$what" = chains ] || calls
 exit $differs
