@@ -1,4 +1,6 @@
+mod AheadLemmas
 mod GrammarLemmas
+mod LexingLemmas
 mod MergingLemmas
 mod PageLemmas
 mod ReadingLemmas

@@ -4,6 +4,7 @@
 pub mod client;
 pub mod edges;
 pub mod generic;
+pub mod lexing;
 pub mod lines;
 pub mod merging;
 pub mod pages;

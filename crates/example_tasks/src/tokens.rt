@@ -5,7 +5,7 @@ ghost use Rattle.std.specs.Str.{IsAscii};
 ghost use Rattle.fallible_iterator.specs.Laws.Showing.{lawful_listing};
 ghost use Rattle.fallible_iterator.specs.Lists.{Lists, items, result_answer};
 ghost use Rattle.fallible_iterator.specs.Showing.{listing};
-ghost use Rattle.example_tasks.specs.Expressions.{number_token, sign_token, tokens_of, ReadsDigits, level_value, with_factor, after_token, value_at_end, value_of_tokens, IsValueInRoom};
+ghost use Rattle.example_tasks.specs.Expressions.{number_token, sign_of, sign_token, tokens_of, ReadsDigits, level_value, with_factor, after_token, value_at_end, value_of_tokens, IsValueInRoom};
 ghost use Rattle.example_tasks.specs.Grammar.{Expression, as_sum, written, expression_value};
 ghost use Rattle.example_tasks.specs.declared.tokens.Token.{Token};
 ghost use Rattle.example_tasks.specs.declared.tokens.TextFault.{TextFault};
@@ -19,8 +19,12 @@ use std::alloc::Global;
 pub enum Token {
     /// A number.
     Number(u64),
+    /// A word of at most eight bytes, as their number in base 256.
+    Word(u64),
     /// A sum's sign.
     Plus,
+    /// A difference's sign.
+    Minus,
     /// A product's sign.
     Times,
     /// An opening parenthesis.
@@ -54,16 +58,27 @@ fn number_token(digits: &[u8]) -> Result<Option<Token>, TextFault>
     }
 }
 
+// The sign that a byte is, if it is one.
+pub(crate) fn sign_of(byte: u8) -> Option<Token>
+    ensures { result ≡ sign_of byte }
+{
+    match byte {
+        b'+' => Some(Token::Plus),
+        b'-' => Some(Token::Minus),
+        b'*' => Some(Token::Times),
+        b'(' => Some(Token::Open),
+        b')' => Some(Token::Close),
+        _ => None,
+    }
+}
+
 // The token that another byte is, as `next` returns it.
 fn sign_token(byte: u8) -> Result<Option<Token>, TextFault>
     ensures { result ≡ result_answer (sign_token byte) }
 {
-    match byte {
-        b'+' => Ok(Some(Token::Plus)),
-        b'*' => Ok(Some(Token::Times)),
-        b'(' => Ok(Some(Token::Open)),
-        b')' => Ok(Some(Token::Close)),
-        _ => Err(TextFault::Unknown),
+    match sign_of(byte) {
+        Some(sign) => Ok(Some(sign)),
+        None => Err(TextFault::Unknown),
     }
 }
 
@@ -187,6 +202,13 @@ impl Calculation {
                 self.level = Level {
                     sum: self.level.value(),
                     product: 1,
+                };
+                self.is_begun = true;
+            }
+            (Token::Minus, false) => {
+                self.level = Level {
+                    sum: self.level.value(),
+                    product: u64::MAX,
                 };
                 self.is_begun = true;
             }
