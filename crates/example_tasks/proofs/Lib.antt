@@ -1,4 +1,5 @@
 mod AheadLemmas
+mod EvaluatingLemmas
 mod GrammarLemmas
 mod LexingLemmas
 mod MergingLemmas

@@ -1,5 +1,6 @@
 -- What the clauses of `src/` cite.
 pub mod Ahead
+pub mod Evaluating
 pub mod Expressions
 pub mod Grammar
 pub mod Laws

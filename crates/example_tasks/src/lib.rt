@@ -3,6 +3,7 @@
 
 pub mod client;
 pub mod edges;
+pub mod evaluating;
 pub mod generic;
 pub mod lexing;
 pub mod lines;

@@ -164,18 +164,18 @@ impl Level {
     }
 }
 
-const EMPTY: Level = Level { sum: 0, product: 1 };
+pub(crate) const EMPTY: Level = Level { sum: 0, product: 1 };
 
 // What tokens came to: the levels outside the parentheses that are open, the level at hand, and whether a number or an opening parenthesis is to come.
 #[derive(Drop)]
-struct Calculation {
-    outside: Vec<Level>,
-    level: Level,
-    is_begun: bool,
+pub(crate) struct Calculation {
+    pub(crate) outside: Vec<Level>,
+    pub(crate) level: Level,
+    pub(crate) is_begun: bool,
 }
 
 impl Calculation {
-    fn after(mut self, token: Token) -> Result<Calculation, TextFault>
+    pub(crate) fn after(mut self, token: Token) -> Result<Calculation, TextFault>
         ensures value { MatchResult result
             (λ c. after_token (reverse self.outside.items, self.level, self.is_begun) token
             ≡ Ok (reverse c.outside.items, c.level, c.is_begun))
@@ -224,7 +224,7 @@ impl Calculation {
         Ok(self)
     }
 
-    fn end(self) -> Result<u64, TextFault>
+    pub(crate) fn end(self) -> Result<u64, TextFault>
         ensures { result ≡ value_at_end (reverse self.outside.items, self.level, self.is_begun) }
     {
         if self.is_begun || !self.outside.is_empty() {
