@@ -1,8 +1,10 @@
 //! The value of tokens that come with their places, or the first fault and its place.
-ghost use Rattle.std.specs.Prelude.{◌≡◌, ◌≢◌, ◌-◌, ◌^◌, ℕ, List, Result, Err};
+ghost use Rattle.std.specs.Prelude.{◌≡◌, ◌≢◌, ◌-◌, ◌^◌, ℕ, List, Result, Ok, Err, map};
+ghost use Rattle.std.specs.Int.{cast_signed, w64};
 ghost use Rattle.fallible_iterator.specs.Contract.{AtMost};
-ghost use Rattle.fallible_iterator.specs.Lists.{Lists, numbered};
+ghost use Rattle.fallible_iterator.specs.Lists.{Lists, items, numbered};
 ghost use Rattle.example_tasks.specs.Evaluating.{IsPlacedValueInRoom, PlacedToken, ended, fault_at, value_of_placed};
+ghost use Rattle.example_tasks.specs.Grammar.{Expression, as_sum, expression_value, written};
 ghost use Rattle.example_tasks.specs.Lexing.{lexed};
 ghost use Rattle.example_tasks.specs.declared.evaluating.Misplaced.TheVariants.{Memory};
 
@@ -78,6 +80,13 @@ where
         };
     }
 }
+
+/// What is written of a sum, a difference or a product, with the parentheses that it needs and any others, has its value, whatever the places of its tokens.
+pub fn law_written_placed<E>()
+    ensures { (e : Expression) (xs : List PlacedToken)
+        → map (λ x. x.1) xs ≡ written as_sum e
+        → value_of_placed {E = E} (items xs) ≡ Ok (cast_signed w64 (expression_value e)) }
+{}
 
 /// The value of a text of numbers, `+`, `-`, `*` and parentheses, whose bytes come from any source, modulo 2 ^ 64, as a signed number. It draws up to the first fault, of the source, of the lexer or of the tokens, which is returned. It fails with `Memory` at an opening parenthesis if an allocation fails: only if as many are open as the vector of those has room for. Over the bytes of `1+2*(3-4)` it is `Ok(-1)`.
 ///
