@@ -100,8 +100,13 @@ where
     requires fits { AtMost I.contract bytes (2 ^ 64 - 1) }
     ensures value { (l : List (Result ℕ I.Error)) → Lists I.contract.steps bytes l
         → result ≢ Err Memory → result ≡ value_of_placed (lexed (numbered 0 l)) }
+    ensures written { (l : List (Result ℕ I.Error)) → Lists I.contract.steps bytes l
+        → (e : Expression) (xs : List PlacedToken) → map (λ x. x.1) xs ≡ written as_sum e
+        → lexed (numbered 0 l) ≡ items xs → result ≢ Err Memory
+        → result ≡ Ok (cast_signed w64 (expression_value e)) }
     ensures room { (l : List (Result ℕ I.Error)) → Lists I.contract.steps bytes l
         → IsPlacedValueInRoom (lexed (numbered 0 l)) result }
 {
+    law_written_placed::<LexFault<I::Error>>();
     value_of_placed(alloc, Lexer::new(bytes.enumerate()))
 }
