@@ -1,12 +1,12 @@
 -- What is written of a tree comes to the tree's value.
-use Rattle.std.proofs.Common.{◌≡◌, ℕ, ◌+◌, ◌*◌, ◌%◌, ◌^◌, Bool, true, false, List, [], ◌∷◌, ◌++◌, Result, Ok, sym, ap, ◌∙◌, arith, append_assoc, append-nil}
+use Rattle.std.proofs.Common.{◌≡◌, ℕ, ◌<◌, ◌+◌, ◌-◌, ◌*◌, ◌%◌, ◌^◌, Bool, true, false, List, [], ◌∷◌, ◌++◌, Result, Ok, sym, ap, ◌∙◌, arith, append_assoc, append-nil}
 use Rattle.std.proofs.Math.Nat.{add-mod, add-mod-mod, mod-mod, mul_assoc}
 use Rattle.std.proofs.lemmas.Nat.{mul-mod_first, mul-mod_second}
 use Rattle.fallible_iterator.specs.Lists.{folded, items, on_value}
-use Rattle.example_tasks.specs.Expressions.{no_terms, level_value, with_factor, with_plus, after_token, value_at_end, value_of_tokens}
-use Rattle.example_tasks.specs.Grammar.{Expression, number, plus, times, parentheses, expression_value, enclosed, as_sum, as_product, as_factor, written}
+use Rattle.example_tasks.specs.Expressions.{no_terms, level_value, with_factor, with_minus, with_plus, after_token, value_at_end, value_of_tokens}
+use Rattle.example_tasks.specs.Grammar.{Expression, number, plus, minus, times, parentheses, expression_value, enclosed, as_sum, as_product, as_factor, written}
 use Rattle.example_tasks.specs.declared.tokens.Token.{Token}
-use Rattle.example_tasks.specs.declared.tokens.Token.TheVariants.{Number, Plus, Times, Close}
+use Rattle.example_tasks.specs.declared.tokens.Token.TheVariants.{Number, Plus, Minus, Times, Close}
 use Rattle.example_tasks.specs.declared.tokens.TextFault.{TextFault}
 use Rattle.example_tasks.specs.declared.tokens.Level.{Level}
 
@@ -57,6 +57,9 @@ is_factor_product left right v w f g outside level rest =
     ∙ g outside (with_factor level v) rest
     ∙ ap (λ k. after_tokens (outside, record { sum = level.sum; product = k }, false) rest) (mul-mod_first (level.product * v) w (2 ^ 64) ∙ ap (λ k. k % 2 ^ 64) (mul_assoc level.product v w) ∙ sym (mul-mod_second level.product (v * w) (2 ^ 64)))
 
+sum_of_three : (s v w : ℕ) → s + v + w ≡ s + (v + w)
+sum_of_three s v w = omega arith
+
 is_terms_sum : (left right : List Token) (v w : ℕ) → IsTerms left v → IsFactor right w → IsTerms (left ++ Plus ∷ right) ((v + w) % 2 ^ 64)
 unfolding folded items
 is_terms_sum left right v w t g = record {
@@ -72,9 +75,29 @@ is_terms_sum left right v w t g = record {
       ∙ t.comes outside s (Plus ∷ (right ++ rest))
       ∙ g outside (with_plus (t.level s)) rest;
 }
-  where
-    sum_of_three : (s v w : ℕ) → s + v + w ≡ s + (v + w)
-    sum_of_three s v w = omega arith
+
+below_of_small : (v : ℕ) → v % 2 ^ 64 ≡ v → v < 2 ^ 64
+below_of_small v small = omega (arith, small)
+
+-- a factor that is taken away, by the factor -1
+negated : (w : ℕ) → w < 2 ^ 64 → (2 ^ 64 - 1) * w % 2 ^ 64 ≡ (2 ^ 64 - w) % 2 ^ 64
+negated w small = omega arith
+
+is_terms_difference : (left right : List Token) (v w : ℕ) → w < 2 ^ 64 → IsTerms left v → IsFactor right w → IsTerms (left ++ Minus ∷ right) ((v + (2 ^ 64 - w)) % 2 ^ 64)
+unfolding folded items
+is_terms_difference left right v w small t g = record {
+  level = λ s. with_factor (with_minus (t.level s)) w;
+  value = λ s.
+      ap (λ k. (k + (2 ^ 64 - 1) * w % 2 ^ 64) % 2 ^ 64) (t.value s)
+      ∙ ap (λ k. ((s + v) % 2 ^ 64 + k) % 2 ^ 64) (negated w small)
+      ∙ sym (add-mod (s + v) (2 ^ 64 - w) (2 ^ 64))
+      ∙ ap (λ k. k % 2 ^ 64) (sum_of_three s v (2 ^ 64 - w))
+      ∙ sym (add-mod-mod s (v + (2 ^ 64 - w)) (2 ^ 64));
+  comes = λ outside s rest.
+      ap (after_tokens (outside, record { sum = s; product = 1 }, true)) (append_assoc left (Minus ∷ right) rest)
+      ∙ t.comes outside s (Minus ∷ (right ++ rest))
+      ∙ g outside (with_minus (t.level s)) rest;
+}
 
 -- the tokens of a tree, at each place
 record ComesToValue (e : Expression) : Type 0 where
@@ -91,6 +114,13 @@ comes_to_value_of_written (plus a b) =
     let r = comes_to_value_of_written b in
     let small : (expression_value a + expression_value b) % 2 ^ 64 % 2 ^ 64 ≡ (expression_value a + expression_value b) % 2 ^ 64 = mod-mod (expression_value a + expression_value b) (2 ^ 64) in
     let t = is_terms_sum (written as_sum a) (written as_product b) (expression_value a) (expression_value b) l.terms r.product in
+    let f = is_factor_enclosed _ _ small t in
+    record { factor = f; product = f; terms = t; small = small }
+comes_to_value_of_written (minus a b) =
+    let l = comes_to_value_of_written a in
+    let r = comes_to_value_of_written b in
+    let small : (expression_value a + (2 ^ 64 - expression_value b)) % 2 ^ 64 % 2 ^ 64 ≡ (expression_value a + (2 ^ 64 - expression_value b)) % 2 ^ 64 = mod-mod (expression_value a + (2 ^ 64 - expression_value b)) (2 ^ 64) in
+    let t = is_terms_difference (written as_sum a) (written as_product b) (expression_value a) (expression_value b) (below_of_small (expression_value b) r.small) l.terms r.product in
     let f = is_factor_enclosed _ _ small t in
     record { factor = f; product = f; terms = t; small = small }
 comes_to_value_of_written (times a b) =

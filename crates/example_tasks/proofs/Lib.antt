@@ -1,4 +1,7 @@
+mod AheadLemmas
+mod EvaluatingLemmas
 mod GrammarLemmas
+mod LexingLemmas
 mod MergingLemmas
 mod PageLemmas
 mod RoomLemmas

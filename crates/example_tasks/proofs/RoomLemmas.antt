@@ -5,7 +5,7 @@ use Rattle.std.proofs.lemmas.List.{length-reverse}
 use Rattle.fallible_iterator.specs.Lists.{folded}
 use Rattle.example_tasks.specs.Expressions.{no_terms, after_token, after_token_in, value_from_in}
 use Rattle.example_tasks.specs.declared.tokens.Token.{Token}
-use Rattle.example_tasks.specs.declared.tokens.Token.TheVariants.{Number, Plus, Times, Open, Close}
+use Rattle.example_tasks.specs.declared.tokens.Token.TheVariants.{Number, Word, Plus, Minus, Times, Open, Close}
 use Rattle.example_tasks.specs.declared.tokens.TextFault.{TextFault}
 use Rattle.example_tasks.specs.declared.tokens.TextFault.TheVariants.{Unknown, Unexpected, Memory}
 use Rattle.example_tasks.specs.declared.tokens.Level.{Level}
@@ -17,7 +17,9 @@ StateOfRoomLemmas = List Level × Level × Bool
 pub after_token_in_goes_on : (room : ℕ) (state after : StateOfRoomLemmas) (token : Token) → after_token state token ≡ Ok after → length after.0 ≤ room → after_token_in room state token ≡ Ok after
 after_token_in_goes_on room (outside, level, false) after token is fits = is
 after_token_in_goes_on room (outside, level, true) after (Number n) is fits = is
+after_token_in_goes_on room (outside, level, true) after (Word n) is fits = is
 after_token_in_goes_on room (outside, level, true) after Plus is fits = is
+after_token_in_goes_on room (outside, level, true) after Minus is fits = is
 after_token_in_goes_on room (outside, level, true) after Times is fits = is
 after_token_in_goes_on room (outside, level, true) after Close is fits = is
 after_token_in_goes_on room (outside, level, true) after Open is fits =
@@ -29,7 +31,9 @@ after_token_in_goes_on room (outside, level, true) after Open is fits =
 pub after_token_in_fails : (room : ℕ) (state : StateOfRoomLemmas) (token : Token) (e : TextFault) → after_token state token ≡ Err e → after_token_in room state token ≡ Err e
 after_token_in_fails room (outside, level, false) token e is = is
 after_token_in_fails room (outside, level, true) (Number n) e is = is
+after_token_in_fails room (outside, level, true) (Word n) e is = is
 after_token_in_fails room (outside, level, true) Plus e is = is
+after_token_in_fails room (outside, level, true) Minus e is = is
 after_token_in_fails room (outside, level, true) Times e is = is
 after_token_in_fails room (outside, level, true) Close e is = is
 after_token_in_fails room (outside, level, true) Open e is = absurd cc

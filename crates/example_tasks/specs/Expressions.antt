@@ -1,5 +1,5 @@
 -- Texts of sums and products: their tokens, and what these come to.
-use Rattle.std.specs.Prelude.{◌≡◌, ◌≤◌, nat_lt, length, take, drop, ℕ, ◌+◌, ◌*◌, ◌%◌, ◌^◌, ◌==◌, if◌then◌else◌, Bool, true, false, List, [], ◌∷◌, ◌++◌, Result, Ok, Err, option_map, vec_capacity}
+use Rattle.std.specs.Prelude.{◌≡◌, ◌≤◌, nat_lt, length, take, drop, ℕ, ◌+◌, ◌-◌, ◌*◌, ◌%◌, ◌^◌, ◌==◌, if◌then◌else◌, Bool, true, false, List, [], ◌∷◌, ◌++◌, Option, Some, None, Result, Ok, Err, option_map, vec_capacity}
 use Rattle.std.specs.Char.{is_ascii_digit}
 use Rattle.std.specs.Option.{ok_or}
 use Rattle.std.specs.Str.{IsAscii}
@@ -8,7 +8,7 @@ use Rattle.program_io.specs.Numbers.{number_of}
 use Rattle.std.specs.declared.alloc.Global.{Global}
 use Rattle.std.specs.declared.vec.Vec.{Vec}
 use Rattle.example_tasks.specs.declared.tokens.Token.{Token}
-use Rattle.example_tasks.specs.declared.tokens.Token.TheVariants.{Number, Plus, Times, Open, Close}
+use Rattle.example_tasks.specs.declared.tokens.Token.TheVariants.{Number, Plus, Minus, Times, Open, Close}
 use Rattle.example_tasks.specs.declared.tokens.TextFault.{TextFault}
 use Rattle.example_tasks.specs.declared.tokens.TextFault.TheVariants.{Unknown, Unexpected, Memory}
 use Rattle.example_tasks.specs.declared.tokens.Level.{Level}
@@ -19,9 +19,13 @@ use Rattle.example_tasks.specs.declared.tokens.Level.{Level}
 abbrev pub number_token : List ℕ → Result Token TextFault
 number_token digits = ok_or (option_map (λ n. Number n) (number_of digits)) Unknown
 
--- the token that another byte is, or the failure of one that is none: 43 is `+`, 42 is `*`, and 40 and 41 are the parentheses
+-- the sign that a byte is, if it is one: 43 is `+`, 45 is `-`, 42 is `*`, and 40 and 41 are the parentheses
+abbrev pub sign_of : ℕ → Option Token
+sign_of byte = if byte == 43 then Some Plus else if byte == 45 then Some Minus else if byte == 42 then Some Times else if byte == 40 then Some Open else if byte == 41 then Some Close else None
+
+-- the token that another byte is, or the failure of one that is none
 abbrev pub sign_token : ℕ → Result Token TextFault
-sign_token byte = if byte == 43 then Ok Plus else if byte == 42 then Ok Times else if byte == 40 then Ok Open else if byte == 41 then Ok Close else Err Unknown
+sign_token byte = ok_or (sign_of byte) Unknown
 
 -- the token of digits, where there are any, before others
 abbrev pub with_number : List ℕ → List (Result Token TextFault) → List (Result Token TextFault)
@@ -61,11 +65,16 @@ with_factor level factor = record { sum = level.sum; product = level.product * f
 abbrev pub with_plus : Level → Level
 with_plus level = record { sum = level_value level; product = 1 }
 
+-- a level whose term at hand is closed by a minus: its value is the sum, and the next term begins with the factor -1, modulo 2 ^ 64
+abbrev pub with_minus : Level → Level
+with_minus level = record { sum = level_value level; product = 2 ^ 64 - 1 }
+
 -- What one token makes of the levels outside, the nearest first, of the level at hand, and of whether a number or an opening parenthesis is to come: each token where it may stand, and otherwise a failure.
 abbrev pub after_token : List Level × Level × Bool → Token → Result (List Level × Level × Bool) TextFault
 after_token (outside, level, true) (Number n) = Ok (outside, with_factor level n, false)
 after_token (outside, level, true) Open = Ok (level ∷ outside, no_terms, true)
 after_token (outside, level, false) Plus = Ok (outside, with_plus level, true)
+after_token (outside, level, false) Minus = Ok (outside, with_minus level, true)
 after_token (outside, level, false) Times = Ok (outside, level, true)
 after_token (outer ∷ outside, level, false) Close = Ok (outside, with_factor outer (level_value level), false)
 after_token (outside, level, is_begun) token = Err Unexpected

@@ -5,7 +5,7 @@ ghost use Rattle.std.specs.Str.{IsAscii};
 ghost use Rattle.fallible_iterator.specs.Laws.Showing.{lawful_listing};
 ghost use Rattle.fallible_iterator.specs.Lists.{Lists, items, result_answer};
 ghost use Rattle.fallible_iterator.specs.Showing.{listing};
-ghost use Rattle.example_tasks.specs.Expressions.{number_token, sign_token, tokens_of, ReadsDigits, level_value, with_factor, after_token, value_at_end, value_of_tokens, IsValueInRoom};
+ghost use Rattle.example_tasks.specs.Expressions.{number_token, sign_of, sign_token, tokens_of, ReadsDigits, level_value, with_factor, after_token, value_at_end, value_of_tokens, IsValueInRoom};
 ghost use Rattle.example_tasks.specs.Grammar.{Expression, as_sum, written, expression_value};
 ghost use Rattle.example_tasks.specs.declared.tokens.Token.{Token};
 ghost use Rattle.example_tasks.specs.declared.tokens.TextFault.{TextFault};
@@ -19,8 +19,12 @@ use std::alloc::Global;
 pub enum Token {
     /// A number.
     Number(u64),
+    /// A word of at most eight bytes, as their number in base 256.
+    Word(u64),
     /// A sum's sign.
     Plus,
+    /// A difference's sign.
+    Minus,
     /// A product's sign.
     Times,
     /// An opening parenthesis.
@@ -54,16 +58,27 @@ fn number_token(digits: &[u8]) -> Result<Option<Token>, TextFault>
     }
 }
 
+// The sign that a byte is, if it is one.
+pub(crate) fn sign_of(byte: u8) -> Option<Token>
+    ensures { result ≡ sign_of byte }
+{
+    match byte {
+        b'+' => Some(Token::Plus),
+        b'-' => Some(Token::Minus),
+        b'*' => Some(Token::Times),
+        b'(' => Some(Token::Open),
+        b')' => Some(Token::Close),
+        _ => None,
+    }
+}
+
 // The token that another byte is, as `next` returns it.
 fn sign_token(byte: u8) -> Result<Option<Token>, TextFault>
     ensures { result ≡ result_answer (sign_token byte) }
 {
-    match byte {
-        b'+' => Ok(Some(Token::Plus)),
-        b'*' => Ok(Some(Token::Times)),
-        b'(' => Ok(Some(Token::Open)),
-        b')' => Ok(Some(Token::Close)),
-        _ => Err(TextFault::Unknown),
+    match sign_of(byte) {
+        Some(sign) => Ok(Some(sign)),
+        None => Err(TextFault::Unknown),
     }
 }
 
@@ -149,18 +164,18 @@ impl Level {
     }
 }
 
-const EMPTY: Level = Level { sum: 0, product: 1 };
+pub(crate) const EMPTY: Level = Level { sum: 0, product: 1 };
 
 // What tokens came to: the levels outside the parentheses that are open, the level at hand, and whether a number or an opening parenthesis is to come.
 #[derive(Drop)]
-struct Calculation {
-    outside: Vec<Level>,
-    level: Level,
-    is_begun: bool,
+pub(crate) struct Calculation {
+    pub(crate) outside: Vec<Level>,
+    pub(crate) level: Level,
+    pub(crate) is_begun: bool,
 }
 
 impl Calculation {
-    fn after(mut self, token: Token) -> Result<Calculation, TextFault>
+    pub(crate) fn after(mut self, token: Token) -> Result<Calculation, TextFault>
         ensures value { MatchResult result
             (λ c. after_token (reverse self.outside.items, self.level, self.is_begun) token
             ≡ Ok (reverse c.outside.items, c.level, c.is_begun))
@@ -190,6 +205,13 @@ impl Calculation {
                 };
                 self.is_begun = true;
             }
+            (Token::Minus, false) => {
+                self.level = Level {
+                    sum: self.level.value(),
+                    product: u64::MAX,
+                };
+                self.is_begun = true;
+            }
             (Token::Times, false) => self.is_begun = true,
             (Token::Close, false) => {
                 let Some(outer) = self.outside.pop() else {
@@ -202,7 +224,7 @@ impl Calculation {
         Ok(self)
     }
 
-    fn end(self) -> Result<u64, TextFault>
+    pub(crate) fn end(self) -> Result<u64, TextFault>
         ensures { result ≡ value_at_end (reverse self.outside.items, self.level, self.is_begun) }
     {
         if self.is_begun || !self.outside.is_empty() {

@@ -9,8 +9,12 @@ use fallible_iterator::FallibleIterator;
 pub enum Token {
     /// A number.
     Number(u64),
+    /// A word of at most eight bytes, as their number in base 256.
+    Word(u64),
     /// A sum's sign.
     Plus,
+    /// A difference's sign.
+    Minus,
     /// A product's sign.
     Times,
     /// An opening parenthesis.
@@ -41,14 +45,23 @@ fn number_token(digits: &[u8]) -> Result<Option<Token>, TextFault> {
     }
 }
 
+// The sign that a byte is, if it is one.
+pub(crate) fn sign_of(byte: u8) -> Option<Token> {
+    match byte {
+        b'+' => Some(Token::Plus),
+        b'-' => Some(Token::Minus),
+        b'*' => Some(Token::Times),
+        b'(' => Some(Token::Open),
+        b')' => Some(Token::Close),
+        _ => None,
+    }
+}
+
 // The token that another byte is, as `next` returns it.
 fn sign_token(byte: u8) -> Result<Option<Token>, TextFault> {
-    match byte {
-        b'+' => Ok(Some(Token::Plus)),
-        b'*' => Ok(Some(Token::Times)),
-        b'(' => Ok(Some(Token::Open)),
-        b')' => Ok(Some(Token::Close)),
-        _ => Err(TextFault::Unknown),
+    match sign_of(byte) {
+        Some(sign) => Ok(Some(sign)),
+        None => Err(TextFault::Unknown),
     }
 }
 
@@ -119,7 +132,7 @@ impl Level {
     }
 }
 
-const EMPTY: Level = Level { sum: 0, product: 1 };
+pub(crate) const EMPTY: Level = Level { sum: 0, product: 1 };
 
 /// What is written of a sum or a product, with the parentheses that it needs and any others, has its value.
 pub fn law_written() {}

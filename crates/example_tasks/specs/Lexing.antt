@@ -1,0 +1,98 @@
+-- Tokens of placed bytes.
+use Rattle.std.specs.Prelude.{ℕ, ◌+◌, ◌*◌, ◌-◌, ◌^◌, nat_lt, if◌then◌else◌, Bool, Option, Some, None, Result, Ok, Err, List, [], ◌∷◌}
+use Rattle.std.specs.Char.{is_ascii_alphabetic, is_ascii_alphanumeric, is_ascii_digit, is_ascii_whitespace}
+use Rattle.fallible_iterator.specs.Lists.{folded_if, rest_fold_if}
+use Rattle.example_tasks.specs.Expressions.{sign_of}
+use Rattle.example_tasks.specs.declared.lexing.Kind.{Kind}
+use Rattle.example_tasks.specs.declared.lexing.Kind.TheVariants as kinds
+use Rattle.example_tasks.specs.declared.lexing.LexFault.{LexFault}
+use Rattle.example_tasks.specs.declared.lexing.LexFault.TheVariants.{Source, Unknown, TooLong}
+use Rattle.example_tasks.specs.declared.tokens.Token.{Token}
+use Rattle.example_tasks.specs.declared.tokens.Token.TheVariants.{Number, Word}
+
+-- a byte and its place, the place first
+abbrev pub Placed : Type 0
+Placed = ℕ × ℕ
+
+-- ---- tokens of several bytes
+
+-- what a byte begins: a digit a number, a letter a word, and another byte neither
+abbrev pub kind_of : ℕ → Option Kind
+kind_of byte = if is_ascii_digit byte then Some kinds.Number else if is_ascii_alphabetic byte then Some kinds.Word else None
+
+-- whether a byte goes on with a token: a digit with a number, a letter and a digit with a word
+abbrev pub belongs : Kind → ℕ → Bool
+belongs kinds.Number byte = is_ascii_digit byte
+belongs kinds.Word byte = is_ascii_alphanumeric byte
+
+-- a number with one digit more in a base, if it is below 2 ^ 64
+abbrev pub with_digit : ℕ → Option ℕ → ℕ → Option ℕ
+with_digit base None digit = None
+with_digit base (Some n) digit = if nat_lt (n * base + digit) (2 ^ 64) then Some (n * base + digit) else None
+
+-- the value with one byte more: of a number in base 10, of a word in base 256
+abbrev pub with_byte : Kind → Option ℕ → ℕ → Option ℕ
+with_byte kinds.Number value byte = with_digit 10 value (byte - 48)
+with_byte kinds.Word value byte = with_digit 256 value byte
+
+-- what is begun of a token, if one is: its kind, its place, and its value so far
+abbrev pub Begun : Type 0
+Begun = Option (Kind × ℕ × Option ℕ)
+
+-- ---- one token at its place
+
+module _ {E : Type 0} where
+  -- the token that a value is, or the failure of one that doesn't fit
+  abbrev pub token_at : Kind → ℕ → Option ℕ → Result (ℕ × Token) (LexFault E)
+  token_at kind place None = Err (TooLong place)
+  token_at kinds.Number place (Some n) = Ok (place, Number n)
+  token_at kinds.Word place (Some n) = Ok (place, Word n)
+
+  -- the sign that a byte is, or the failure of one that is none
+  abbrev pub sign_or_unknown : ℕ → ℕ → Option Token → Result (ℕ × Token) (LexFault E)
+  sign_or_unknown place byte (Some sign) = Ok (place, sign)
+  sign_or_unknown place byte None = Err (Unknown place byte)
+
+  abbrev pub sign_at : ℕ → ℕ → Result (ℕ × Token) (LexFault E)
+  sign_at place byte = sign_or_unknown place byte (sign_of byte)
+
+  -- ---- what two folds make of a list
+
+  -- what taking the blanks in front returns: a failure that comes before another byte
+  abbrev pub blanks_taken : List (Result Placed E) → Result (Unit {0}) E
+  blanks_taken l = folded_if (λ x. Ok (is_ascii_whitespace x.1)) (λ u x. Ok u) tt l
+
+  -- what taking the blanks in front leaves
+  abbrev pub rest_blanks : List (Result Placed E) → List (Result Placed E)
+  rest_blanks l = rest_fold_if (λ x. Ok (is_ascii_whitespace x.1)) (λ (u : Unit {0}) x. Ok u) tt l
+
+  -- the value of a token that was begun, with the bytes in front that go on with it
+  abbrev pub value_taken : Kind → Option ℕ → List (Result Placed E) → Result (Option ℕ) E
+  value_taken kind value l = folded_if (λ x. Ok (belongs kind x.1)) (λ v x. Ok (with_byte kind v x.1)) value l
+
+  -- what taking these bytes leaves
+  abbrev pub rest_value : Kind → Option ℕ → List (Result Placed E) → List (Result Placed E)
+  rest_value kind value l = rest_fold_if (λ x. Ok (belongs kind x.1)) (λ v x. Ok (with_byte kind v x.1)) value l
+
+  -- ---- the tokens of a list
+
+  -- the tokens from a byte on that begins this kind or is a sign; `behind` makes the tokens behind it, by what is begun
+  abbrev pub begun_by : Option Kind → ℕ → ℕ → (Begun → List (Result (ℕ × Token) (LexFault E))) → List (Result (ℕ × Token) (LexFault E))
+  begun_by (Some kind) place byte behind = behind (Some (kind, place, with_byte kind (Some 0) byte))
+  begun_by None place byte behind = sign_at place byte ∷ behind None
+
+  -- the same of any byte: a blank begins nothing
+  abbrev pub lexed_from : ℕ → ℕ → (Begun → List (Result (ℕ × Token) (LexFault E))) → List (Result (ℕ × Token) (LexFault E))
+  lexed_from place byte behind = if is_ascii_whitespace byte then behind None else begun_by (kind_of byte) place byte behind
+
+  -- The tokens of a list behind what is begun. A byte that belongs to it goes on with it. Another byte and the end close it. At a failure of the source it is lost.
+  unfoldable pub lexed_behind : Begun → List (Result Placed E) → List (Result (ℕ × Token) (LexFault E))
+  lexed_behind None [] = []
+  lexed_behind (Some (kind, place, value)) [] = token_at kind place value ∷ []
+  lexed_behind None (Ok (at, byte) ∷ l) = lexed_from at byte (λ b. lexed_behind b l)
+  lexed_behind (Some (kind, place, value)) (Ok (at, byte) ∷ l) = if belongs kind byte then lexed_behind (Some (kind, place, with_byte kind value byte)) l else token_at kind place value ∷ lexed_from at byte (λ b. lexed_behind b l)
+  lexed_behind begun (Err e ∷ l) = Err (Source e) ∷ lexed_behind None l
+
+  -- The tokens of placed bytes, each at the place of its first byte.
+  abbrev pub lexed : List (Result Placed E) → List (Result (ℕ × Token) (LexFault E))
+  lexed l = lexed_behind None l
