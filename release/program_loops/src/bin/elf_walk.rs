@@ -4,7 +4,6 @@
 //! registers of another.
 use std::env;
 use std::io::{self, Read};
-use std::slice::ChunksExact;
 
 /// What is wrong with a file.
 #[derive(Debug)]
@@ -163,7 +162,7 @@ fn table_of(file: &[u8]) -> Result<Table, ElfFault> {
 }
 
 /// The section of a header, or None where its name is damaged.
-fn section_of(table: &Table, header: &[u8]) -> Option<Section> {
+fn section_of(table: &Table, header: &[u8; 64]) -> Option<Section> {
     let name = match table.names_size {
         0 => None,
         size => {
@@ -185,15 +184,17 @@ fn section_of(table: &Table, header: &[u8]) -> Option<Section> {
 }
 
 /// The headers of a file's sections.
-fn headers_of<'a>(file: &'a [u8], table: &Table) -> ChunksExact<'a, u8> {
-    file[table.place..table.place + 64 * table.count].chunks_exact(64)
+fn headers_of<'a>(file: &'a [u8], table: &Table) -> &'a [[u8; 64]] {
+    file[table.place..table.place + 64 * table.count]
+        .as_chunks()
+        .0
 }
 
 /// A sum, and the fields of all sections.
 #[inline(never)]
 fn with_sections(file: &[u8], mut sum: u64) -> Result<u64, ElfFault> {
     let table = table_of(file)?;
-    for (number, header) in headers_of(file, &table).enumerate() {
+    for (number, header) in headers_of(file, &table).iter().enumerate() {
         let Some(section) = section_of(&table, header) else {
             return fault(table.place + 64 * number, Damage::NameOutOfRange);
         };
@@ -207,7 +208,7 @@ fn with_sections(file: &[u8], mut sum: u64) -> Result<u64, ElfFault> {
 fn all_sections(file: &[u8]) -> Result<Vec<Section>, ElfFault> {
     let table = table_of(file)?;
     let mut all = Vec::new();
-    for (number, header) in headers_of(file, &table).enumerate() {
+    for (number, header) in headers_of(file, &table).iter().enumerate() {
         let Some(section) = section_of(&table, header) else {
             return fault(table.place + 64 * number, Damage::NameOutOfRange);
         };
@@ -322,7 +323,7 @@ fn each_set(
     mut with: impl FnMut(Set) -> Result<(), ElfFault>,
 ) -> Result<(), ElfFault> {
     let table = table_of(file)?;
-    for (number, header) in headers_of(file, &table).enumerate() {
+    for (number, header) in headers_of(file, &table).iter().enumerate() {
         let Some(section) = section_of(&table, header) else {
             return fault(table.place + 64 * number, Damage::NameOutOfRange);
         };
@@ -340,7 +341,7 @@ fn each_set(
 }
 
 /// The range of a set in sixteen bytes, or None at the end of the ranges.
-fn range_of(set: &Set, bytes: &[u8]) -> Option<Range> {
+fn range_of(set: &Set, bytes: &[u8; 16]) -> Option<Range> {
     let range = Range {
         unit: set.unit,
         address: u64_at(bytes, 0),
@@ -350,8 +351,8 @@ fn range_of(set: &Set, bytes: &[u8]) -> Option<Range> {
 }
 
 /// The bytes of a set's ranges, sixteen at a time.
-fn pairs_of<'a>(file: &'a [u8], set: &Set) -> ChunksExact<'a, u8> {
-    file[set.place..set.end].chunks_exact(16)
+fn pairs_of<'a>(file: &'a [u8], set: &Set) -> &'a [[u8; 16]] {
+    file[set.place..set.end].as_chunks().0
 }
 
 /// The fault of a set whose ranges have no end.
