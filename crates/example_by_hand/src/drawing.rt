@@ -1,5 +1,5 @@
 //! Draws by hand.
-ghost use Rattle.std.specs.Prelude.{◌≡◌, ◌+◌, ◌*◌, ◌%◌, ◌^◌, ℕ, List, [], ◌∷◌, Result, Option, Ok, Err, Some, None, false, nat_lt};
+ghost use Rattle.std.specs.Prelude.{◌≡◌, ◌+◌, ◌*◌, ◌%◌, ◌^◌, ℕ, List, [], ◌∷◌, Result, Option, Ok, Err, Some, None, false, min, nat_lt};
 ghost use Rattle.fallible_iterator.specs.Lists.{Lists, rest_first, rest_nth, chained, filtered, first_if, folded, items, look_of, mapped, nth_of, on_value, results, taken, taken_while, zipped};
 
 use fallible_iterator::laws::{law_next, law_peek};
@@ -60,6 +60,30 @@ where
         Some(first) => ahead.next_if(|second| first < *second),
         None => Ok(None),
     }
+}
+
+/// The first item, or `limit` if it is above that; the failure in its place. It is looked at, changed and then drawn.
+pub fn first_at_most<I: FallibleIterator<Item = u32>>(
+    it: I,
+    limit: u32,
+) -> Result<Option<u32>, I::Error>
+where
+    requires { I.contract.can_next it }
+    ensures some { (l : List (Result ℕ I.Error)) (x : ℕ) → Lists I.contract.steps it l
+        → nth_of 0 l ≡ Ok (Some x) → result ≡ Ok (Some (min x limit)) }
+    ensures none { (l : List (Result ℕ I.Error)) → Lists I.contract.steps it l
+        → nth_of 0 l ≡ Ok None → result ≡ Ok None }
+    ensures fails { (l : List (Result ℕ I.Error)) (e : I.Error) → Lists I.contract.steps it l
+        → nth_of 0 l ≡ Err e → result ≡ Err e }
+{
+    let mut ahead = it.peekable();
+    ahead.fill()?;
+    if let Some(first) = ahead.held_mut() {
+        if limit < *first {
+            *first = limit;
+        }
+    }
+    ahead.draw()
 }
 
 /// Draws until `Ok(None)`, or the first failure, and drops the items.

@@ -26,7 +26,7 @@ pub use Rattle.fallible_core.specs.Joining.Zip.{NoFailureAtEnd}
 unfoldable pub use Rattle.fallible_core.specs.Joining.Zip.{zipped}
 pub use Rattle.fallible_core.specs.Joining.Flatten.{EachLists}
 unfoldable pub use Rattle.fallible_core.specs.Joining.Flatten.{flattened}
-unfoldable pub use Rattle.fallible_core.specs.Peeking.Peekable.{rest_look, look_of, first_if, rest_if}
+unfoldable pub use Rattle.fallible_core.specs.Peeking.Peekable.{rest_look, changed_first, look_of, first_if, rest_if}
 unfoldable pub use Rattle.fallible_iterator.specs.Answering.{told, by_sides, answers_at_ends, rest_ends}
 pub use Rattle.fallible_iterator.specs.Answering.{fronts, backs}
 unfoldable pub use Rattle.fallible_iterator.specs.Cycled.{cycled_from, cycled}

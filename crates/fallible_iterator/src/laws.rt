@@ -42,10 +42,11 @@ pub use nests::{law_nest, law_nest_borrowed};
 pub use one_to_one::{
     law_cloned, law_enumerate, law_inspect, law_map, law_map_err, law_map_while, law_scan,
 };
-pub use peeking::law_peekable;
+pub use peeking::{law_listed_peekable, law_peekable};
 pub use sources::{
     law_back_convert, law_back_into_fallible, law_convert, law_empty, law_from_fn,
-    law_into_fallible, law_listed_convert, law_listed_into_fallible, law_listed_vec, law_once,
-    law_once_err, law_repeat, law_repeat_err, law_sources,
+    law_into_fallible, law_listed_convert, law_listed_empty, law_listed_into_fallible,
+    law_listed_once, law_listed_once_err, law_listed_vec, law_once, law_once_err, law_repeat,
+    law_repeat_err, law_sources,
 };
 pub use traces::{answers, answers_at};

@@ -1,7 +1,7 @@
 -- The laws of the second end.
 use Rattle.std.specs.Prelude.{ℕ, Option}
 use Rattle.std.proofs.Common.{inl, inr}
-use Rattle.fallible_contract.specs.Contract.{Contract, seen_as}
+use Rattle.fallible_contract.specs.Contract.{Contract, Lawful, seen_as}
 use Rattle.fallible_contract.specs.Ends.{Ends, from_front, from_back, ends_of, ends_seen_as, LawfulEnds}
 use Rattle.fallible_contract.specs.Passing.{passing_contract, leaving_out_contract}
 use Rattle.fallible_contract.specs.Laws.Contract.{lawful_seen}
@@ -17,6 +17,16 @@ lawful_ends_seen view l = record {
   may_fail = λ s x h. l.may_fail (view s) x h;
   front = lawful_seen view l.front;
   back = lawful_seen view l.back;
+}
+
+-- a type that steps from the back as it does from the front
+pub lawful_ends_alike : {S A E : Type 0} {m : Contract S A E} → Lawful m → LawfulEnds m (ends_of m)
+lawful_ends_alike l = record {
+  front_can = λ s c. c;
+  may_give = λ s x h. h;
+  may_fail = λ s x h. h;
+  front = l;
+  back = l;
 }
 
 -- the ends swapped

@@ -1,10 +1,11 @@
 -- `Peekable`, which looks one answer ahead and holds it.
-use Rattle.std.specs.Prelude.{ℕ, Bool, Option, Some, ◌≡◌, ◌+◌, ◌≤◌, List, [], ◌∷◌, ◌++◌, Result, None, Ok, Err, true, false, ◌⊎◌}
+use Rattle.std.specs.Prelude.{ℕ, Bool, Option, Some, ◌≡◌, ◌+◌, ◌≤◌, List, [], ◌∷◌, ◌++◌, Result, None, Ok, Err, true, false, ⊤, ◌⊎◌}
 use Rattle.std.specs.Iterator.{count_map}
 use Rattle.std.specs.Fn.{Shared, FnReturnsAt}
-use Rattle.std.specs.Borrow.{Bor}
+use Rattle.std.specs.Borrow.{Bor, MutBor}
 use Rattle.fallible_contract.specs.Traces.{Answered, Run, item, failure, end}
 use Rattle.fallible_contract.specs.Contract.{Contract}
+use Rattle.fallible_contract.specs.Ends.{Ends}
 use Rattle.fallible_contract.specs.Hints.{HintWithItem}
 use Rattle.fallible_core.specs.declared.peeking.peekable.Peekable.{Peekable}
 
@@ -73,6 +74,29 @@ peekable_contract m = record {
   lenders = λ p. m.lenders p.0;
 }
 
+-- ---- the second end
+
+-- The answer is an item or a failure.
+abbrev pub IsNoEnd : {A E : Type 0} → Answered A E → Type 0
+IsNoEnd (Ok (Some x)) = ⊤
+IsNoEnd (Ok None) = ⊥
+IsNoEnd (Err e) = ⊤
+
+-- One answer from the back: the source's from the back. A held item stays held, up to the source's end there: it comes in the place of that, and an end is held then. A held end comes without a draw, and stays held.
+abbrev pub peekable_step_back : {S A E : Type 0} → (S → Answered A E → S → Type 0) → S × Option (Option A) → Answered A E → S × Option (Option A) → Type 0
+peekable_step_back back (s, Some (Some x)) r (t, held) = (back s end t × (r ≡ item x) × (held ≡ Some None)) ⊎ (back s r t × IsNoEnd r × (held ≡ Some (Some x)))
+peekable_step_back back (s, Some None) r (t, held) = (r ≡ end) × (t ≡ s) × (held ≡ Some None)
+peekable_step_back back (s, None) r (t, held) = back s r t × (held ≡ None)
+
+-- `Peekable`'s second end: a held item may come from either end.
+abbrev pub peekable_ends : {S A E : Type 0} → Ends S A E → Ends (S × Option (Option A)) A E
+peekable_ends e = record {
+  can_next = λ p. e.can_next p.0;
+  steps = peekable_step_back e.steps;
+  may_give = λ p x. (p.1 ≡ Some (Some x)) ⊎ e.may_give p.0 x;
+  may_fail = λ p d. e.may_fail p.0 d;
+}
+
 -- ---- looking ahead
 
 -- what the reference that is returned points to
@@ -80,6 +104,12 @@ abbrev pub seen : {A E : Type 0} → Result (Option (Bor A)) E → Answered A E
 seen (Ok (Some x)) = item x.now
 seen (Ok None) = end
 seen (Err e) = failure e
+
+-- what the mutable reference that is returned points to
+abbrev pub seen_mut : {A E : Type 0} → Result (Option (MutBor A)) E → Answered A E
+seen_mut (Ok (Some x)) = item x.now
+seen_mut (Ok None) = end
+seen_mut (Err e) = failure e
 
 -- what is held once it was drawn: an item or an end, and no failure
 abbrev pub held_of : {A E : Type 0} → Answered A E → Option (Option A)
@@ -104,6 +134,10 @@ Fills {A = A} {E = E} steps p r q = (a : Answered A E) × Peeks steps p a q × (
 abbrev pub held_item : {A : Type 0} → Option (Option A) → Option A
 held_item (Some o) = o
 held_item None = None
+
+-- s where the held item is changed to x
+abbrev pub with_held : {I A E : Type 0} → Peekable I A E → A → Peekable I A E
+with_held s x = record s { held = Some (Some x) }
 
 -- what a closure returns for the item that was looked at; none at an end, and the failure if one came
 abbrev pub LooksAt : {F A R E : Type 0} → Shared F (Bor A × Unit {0}) R → F → Answered A E → Result (Option R) E → Type 0
@@ -143,6 +177,12 @@ unfoldable pub rest_look : {A E : Type 0} → List (Result A E) → List (Result
 rest_look [] = []
 rest_look (Ok x ∷ l) = Ok x ∷ l
 rest_look (Err e ∷ l) = l
+
+-- the list with w in the place of its first item
+unfoldable pub changed_first : {A E : Type 0} → A → List (Result A E) → List (Result A E)
+changed_first w [] = []
+changed_first w (Ok x ∷ l) = Ok w ∷ l
+changed_first w (Err e ∷ l) = Err e ∷ l
 
 -- h of the item that stands first; none if the list is empty, and the failure that stands first
 unfoldable pub look_of : {A E R : Type 0} → (A → R) → List (Result A E) → Result (Option R) E

@@ -1,11 +1,12 @@
 // `peek`, apart from its type, whose row its clause names.
-ghost use Rattle.std.specs.Prelude.{◌≡◌, ⊤, Result, Option, None, Ok, Err, MatchResult, option_copied};
-ghost use Rattle.std.specs.Borrow.{sem, follows_so};
+ghost use Rattle.std.specs.Prelude.{◌≡◌, ⊤, Result, Option, Some, None, Ok, Err, MatchResult, option_copied};
+ghost use Rattle.std.specs.Option.{option_copied_mut};
+ghost use Rattle.std.specs.Borrow.{sem, follows_so, LendsIf};
 ghost use mathlib.Core.Option.{none};
 ghost use Rattle.fallible_contract.specs.Clauses.{OverList, OverListWith};
 ghost use Rattle.fallible_contract.specs.Contract.{Stays, seen_as};
 ghost use Rattle.fallible_contract.specs.Lists.{Lists, nth_of};
-ghost use Rattle.fallible_core.specs.Peeking.Peekable.{peekable_contract, seen, held_item, Fills, Peeks, Looks, IsTestable, peekable_parts, peekable_held, LooksAs, rest_look, look_of};
+ghost use Rattle.fallible_core.specs.Peeking.Peekable.{peekable_contract, seen, seen_mut, held_item, held_of, failure_told, with_held, changed_first, Fills, Peeks, Looks, IsTestable, peekable_parts, peekable_held, LooksAs, rest_look, look_of};
 ghost use Rattle.fallible_core.specs.contracts.peeking.peekable.Peekable.{the_row};
 
 use crate::peeking::Peekable;
@@ -47,6 +48,32 @@ where
         let filled = self.fill();
         let held = self.lend();
         Self::joined(filled, held)
+    }
+
+    /// Returns a mutable reference to the next item, or `Ok(None)`. What is written there is buffered, and `next` returns it.
+    ///
+    /// Draws, errors and what is buffered: as `peek`. The iterator may be used again.
+    ///
+    /// Requires: `next` may be called.
+    ///
+    /// Proof: nothing is said of the iterator afterwards. To go on call `fill` and then `held_mut`, which says what is buffered.
+    ///
+    /// ```
+    /// let mut it = convert([Ok::<u32, u8>(150), Ok(7)].into_iter()).peekable();
+    /// if let Ok(Some(reading)) = it.peek_mut() {
+    ///     *reading = 151;
+    /// }
+    /// assert_eq!(rt; it.next(), Ok(Some(151)));
+    /// assert_eq!(rt; it.next(), Ok(Some(7)));
+    /// ```
+    pub fn peek_mut(&mut self) -> Result<Option<&mut I::Item>, I::Error>
+    where
+        requires { (peekable_contract I.contract).can_next (peekable_parts self.old) }
+        ensures { (left : I × Option (Option I.Item))
+            × Peeks I.contract.steps (peekable_parts self.old) (seen_mut result) left }
+    {
+        self.fill()?;
+        Ok(self.held_mut())
     }
 
     /// Returns what the closure returns for a reference to the next item, or `Ok(None)`.
@@ -135,6 +162,12 @@ where
             (peekable_parts self.old) result (peekable_parts self.new) }
         ensures stays { Stays (peekable_contract I.contract)
             (peekable_parts self.old) (peekable_parts self.new) }
+        ensures lists { OverList
+            (seen_as peekable_parts (peekable_contract I.contract)).steps self.old
+            (λ l. (result ≡ failure_told (nth_of 0 l))
+            × (peekable_held self.new ≡ held_of (nth_of 0 l))
+            × Lists (seen_as peekable_parts (peekable_contract I.contract)).steps
+            self.new (rest_look l)) }
     {
         match self.held {
             Some(_) => Ok(()),
@@ -175,6 +208,38 @@ where
         match &self.held {
             Some(Some(x)) => Some(x),
             Some(None) => None,
+            None => None,
+        }
+    }
+
+    /// Returns a mutable reference to the buffered item, and `None` if an `Ok(None)` or nothing is buffered. What is written there is buffered, and `next` returns it.
+    ///
+    /// It draws nothing and never fails. The iterator may be used again.
+    ///
+    /// Proof: a caller knows then what is buffered, and that the list has it in the place of its first item.
+    ///
+    /// ```
+    /// let mut it = convert([Ok::<u32, u8>(150), Ok(7)].into_iter()).peekable();
+    /// assert_eq!(rt; it.fill(), Ok(()));
+    /// if let Some(reading) = it.held_mut() {
+    ///     *reading = 151;
+    /// }
+    /// assert_eq!(rt; it.next(), Ok(Some(151)));
+    /// assert_eq!(rt; it.next(), Ok(Some(7)));
+    /// ```
+    pub fn held_mut(&mut self) -> Option<&mut I::Item>
+    where
+        ensures value { option_copied_mut result ≡ held_item (peekable_held self.old) }
+        ensures* writes_back { sem 𝓛 (LendsIf (the_row I.row I.Item.row I.Error.row) I.Item.row
+            self.entry result (with_held self.old) self.old) }
+        ensures lists { OverList
+            (seen_as peekable_parts (peekable_contract I.contract)).steps self.old
+            (λ l. (x w : I.Item) → held_item (peekable_held self.old) ≡ Some x
+            → Lists (seen_as peekable_parts (peekable_contract I.contract)).steps
+            (with_held self.old w) (changed_first w l)) }
+    {
+        match self.held.as_mut() {
+            Some(answer) => answer.as_mut(),
             None => None,
         }
     }

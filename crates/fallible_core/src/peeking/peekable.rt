@@ -3,11 +3,14 @@ ghost use Rattle.std.specs.Prelude.{◌≡◌, Result, Option};
 ghost use Rattle.fallible_contract.specs.Clauses.{OverList, OverListWith};
 ghost use Rattle.fallible_contract.specs.Contract.{seen_as, Fewer, Stays};
 ghost use Rattle.fallible_contract.specs.Lists.{Lists};
+ghost use Rattle.fallible_contract.specs.Ends.{ends_seen_as};
 ghost use Rattle.fallible_contract.specs.Laws.Contract.{lawful_seen};
-ghost use Rattle.fallible_core.specs.Peeking.Peekable.{peekable_contract, NextIf, TestedBy, IsTestable, peekable_parts, LooksAs, first_if, rest_if};
-ghost use Rattle.fallible_core.specs.Laws.Peeking.Peekable.{lawful_peekable};
+ghost use Rattle.fallible_contract.specs.Laws.Ends.{lawful_ends_seen};
+ghost use Rattle.fallible_core.specs.Peeking.Peekable.{peekable_contract, peekable_ends, NextIf, TestedBy, IsTestable, peekable_parts, LooksAs, first_if, rest_if};
+ghost use Rattle.fallible_core.specs.Laws.Peeking.Peekable.{lawful_peekable, lawful_ends_peekable};
 
 use crate::traits::FallibleIterator;
+use crate::traits::double_ended::DoubleEndedFallibleIterator;
 use fallible_contract::folds::Turn;
 use fallible_contract::hints::one_more;
 use std::ops::ControlFlow;
@@ -63,6 +66,41 @@ where
     }
 
     ghost lawful = { lawful_seen peekable_parts (lawful_peekable I.lawful) };
+}
+
+impl<I: DoubleEndedFallibleIterator> DoubleEndedFallibleIterator for Peekable<I>
+where
+    I::Item: Drop,
+{
+    ghost ends = { ends_seen_as peekable_parts (peekable_ends I.ends) };
+
+    /// Draws the source once from the back, and at its end there returns the buffered item, in whose place an `Ok(None)` is buffered. A buffered `Ok(None)` is returned without a draw, and stays buffered.
+    ///
+    /// ```
+    /// let mut it = convert([Ok::<u32, u8>(150), Ok(7)].into_iter()).peekable();
+    /// assert_eq!(rt; it.peek(), Ok(Some(&150)));
+    /// assert_eq!(rt; it.next_back(), Ok(Some(7)));
+    /// assert_eq!(rt; it.next_back(), Ok(Some(150)));
+    /// assert_eq!(rt; it.next_back(), Ok(None));
+    /// ```
+    fn next_back(&mut self) -> Result<Option<I::Item>, I::Error> {
+        if let Some(None) = &self.held {
+            return Ok(None);
+        }
+        match self.it.next_back() {
+            Ok(Some(x)) => Ok(Some(x)),
+            Ok(None) => match self.held.take() {
+                Some(answer) => {
+                    self.held = Some(None);
+                    Ok(answer)
+                }
+                None => Ok(None),
+            },
+            Err(e) => Err(e),
+        }
+    }
+
+    ghost lawful_ends = { lawful_ends_seen peekable_parts (lawful_ends_peekable I.lawful_ends) };
 }
 
 impl<I: FallibleIterator> Peekable<I>

@@ -1,5 +1,5 @@
 // What each type with two ends lists, from what its source lists.
-ghost use Rattle.std.specs.Prelude.{◌≡◌, Ok, Err, Some, List, Option, Result, Bool};
+ghost use Rattle.std.specs.Prelude.{◌≡◌, Ok, Err, Some, None, List, [], Option, Result, Bool};
 ghost use Rattle.std.specs.Borrow.{MutBor};
 ghost use Rattle.fallible_contract.specs.Closures.{call_on, call_at};
 ghost use Rattle.fallible_contract.specs.Lists.{Lists, Acts, results, items};
@@ -12,6 +12,7 @@ ghost use Rattle.fallible_core.specs.OneToOne.Cloned.{cloned_parts};
 ghost use Rattle.fallible_core.specs.OneToOne.MapErr.{map_err_parts};
 ghost use Rattle.fallible_core.specs.Joining.Chain.{chain_parts, chained};
 ghost use Rattle.fallible_core.specs.Ends.Rev.{rev_parts};
+ghost use Rattle.fallible_core.specs.Peeking.Peekable.{held_then, peekable_held, peekable_source};
 ghost use Rattle.fallible_iterator.specs.Sources.Convert.{convert_parts};
 ghost use Rattle.fallible_iterator.specs.Sources.IntoFallible.{into_fallible_parts, never};
 ghost use Rattle.fallible_iterator.specs.Listing.{ListsByClosure, ListsFailures, ListsClones, ListsBothSides, ListsReversed, ListsTheSame, ListsElements, ListsAtEachEnd};
@@ -19,12 +20,14 @@ ghost use Rattle.std.specs.declared.boxed.Box.{Box};
 ghost use Rattle.std.specs.declared.alloc.Global.{Global};
 ghost use Rattle.fallible_core.specs.declared.joining.chain.StillDrawn.TheVariants.{Both};
 
+use super::peeking::law_listed_peekable;
 use super::sources::{law_listed_convert, law_listed_into_fallible};
 use crate::sources::{Convert, IntoFallible};
 use fallible_core::ends::Rev;
 use fallible_core::filtering::{Filter, FilterMap};
 use fallible_core::joining::Chain;
 use fallible_core::one_to_one::{Cloned, Inspect, Map, MapErr};
+use fallible_core::peeking::Peekable;
 use fallible_core::traits::FallibleIterator;
 use fallible_core::traits::double_ended::DoubleEndedFallibleIterator;
 use std::alloc::AllocError;
@@ -253,6 +256,12 @@ where
     ensures rev { ListsReversed rev_parts (ListsBothEnds I.contract.steps I.ends.steps)
         (ListsBothEnds ⟦<Rev<I> as FallibleIterator>⟧.contract.steps
         ⟦<Rev<I> as DoubleEndedFallibleIterator>⟧.ends.steps) }
+    ensures peekable { (s : Peekable I I.Item I.Error) (l : List (Result I.Item I.Error))
+        → ListsBothEnds I.contract.steps I.ends.steps (peekable_source s) l
+        → (peekable_held s ≡ Some None → l ≡ [])
+        → ListsBothEnds ⟦<Peekable<I> as FallibleIterator>⟧.contract.steps
+        ⟦<Peekable<I> as DoubleEndedFallibleIterator>⟧.ends.steps s
+        (held_then (peekable_held s) l) }
     ensures borrowed { ListsTheSame
         (λ (s : MutBor I). s.now) (ListsBothEnds I.contract.steps I.ends.steps)
         (ListsBothEnds ⟦<&'a mut I as FallibleIterator>⟧.contract.steps
@@ -273,6 +282,7 @@ where
     law_listed_cloned::<T, R>();
     law_listed_chain::<I, U>();
     law_listed_rev::<I>();
+    law_listed_peekable::<I>();
     law_listed_borrowed::<I>();
     law_listed_each::<I>();
 }

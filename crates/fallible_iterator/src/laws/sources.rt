@@ -1,5 +1,5 @@
 //! What a trace of each source is.
-ghost use Rattle.std.specs.Prelude.{◌≡◌, List, Option, Result, Ok, Err};
+ghost use Rattle.std.specs.Prelude.{◌≡◌, List, Option, Result, Some, Ok, Err, [], ◌∷◌};
 ghost use Rattle.std.specs.Vec.Iter.{into_iter_items};
 ghost use Rattle.fallible_contract.specs.LawForm.{TracesAre};
 ghost use Rattle.fallible_contract.specs.Lists.{Lists, RunsReadBack, results, items, reversed};
@@ -18,6 +18,9 @@ ghost use Rattle.fallible_iterator.specs.Sources.OnceErr.{once_err_parts};
 ghost use Rattle.std.specs.declared.vec.IntoIter.{IntoIter};
 ghost use Rattle.std.specs.declared.alloc.Global.{Global};
 ghost use Rattle.fallible_iterator.specs.declared.sources.convert.Convert.{Convert};
+ghost use Rattle.fallible_iterator.specs.declared.sources.empty.Empty.{Empty};
+ghost use Rattle.fallible_iterator.specs.declared.sources.once.Once.{Once};
+ghost use Rattle.fallible_iterator.specs.declared.sources.once_err.OnceErr.{OnceErr};
 
 use crate::sources::{Convert, Empty, FromFn, IntoFallible, Once, OnceErr, Repeat, RepeatErr};
 use fallible_core::{DoubleEndedFallibleIterator, FallibleIterator};
@@ -113,6 +116,26 @@ pub fn law_once<T: Drop, E>()
 pub fn law_once_err<T, E: Drop>()
     ensures { TracesAre once_err_parts ⟦<OnceErr<T, E> as FallibleIterator>⟧.contract.steps
         (OnceTrace failure) }
+{}
+
+/// From both ends `Once` lists its item.
+pub fn law_listed_once<T: Drop, E>()
+    ensures { (s : Once T E) (x : T) → once_parts s ≡ Some x
+        → ListsBothEnds ⟦<Once<T, E> as FallibleIterator>⟧.contract.steps
+        ⟦<Once<T, E> as DoubleEndedFallibleIterator>⟧.ends.steps s (Ok x ∷ []) }
+{}
+
+/// From both ends `OnceErr` lists its failure.
+pub fn law_listed_once_err<T, E: Drop>()
+    ensures { (s : OnceErr T E) (e : E) → once_err_parts s ≡ Some e
+        → ListsBothEnds ⟦<OnceErr<T, E> as FallibleIterator>⟧.contract.steps
+        ⟦<OnceErr<T, E> as DoubleEndedFallibleIterator>⟧.ends.steps s (Err e ∷ []) }
+{}
+
+/// From both ends `Empty` lists nothing.
+pub fn law_listed_empty<T, E>()
+    ensures { (s : Empty T E) → ListsBothEnds ⟦<Empty<T, E> as FallibleIterator>⟧.contract.steps
+        ⟦<Empty<T, E> as DoubleEndedFallibleIterator>⟧.ends.steps s [] }
 {}
 
 /// A trace of `Repeat` has clones of its value as items, and the failure converted from the `AllocError` of each clone that failed.

@@ -1,9 +1,11 @@
 // The source of nothing.
 ghost use Rattle.std.specs.Prelude.{Some, Ok, Result, Option};
+ghost use Rattle.fallible_contract.specs.Ends.{ends_of};
+ghost use Rattle.fallible_contract.specs.Laws.Ends.{lawful_ends_alike};
 ghost use Rattle.fallible_iterator.specs.Sources.Empty.{empty_contract};
 ghost use Rattle.fallible_iterator.specs.Laws.Sources.Empty.{lawful_empty};
 
-use fallible_core::FallibleIterator;
+use fallible_core::{DoubleEndedFallibleIterator, FallibleIterator};
 use std::marker::PhantomData;
 
 /// Yields nothing: each call returns `Ok(None)`.
@@ -29,4 +31,14 @@ impl<T, E> FallibleIterator for Empty<T, E> {
     }
 
     ghost lawful = { lawful_empty };
+}
+
+impl<T, E> DoubleEndedFallibleIterator for Empty<T, E> {
+    ghost ends = { ends_of empty_contract };
+
+    fn next_back(&mut self) -> Result<Option<T>, E> {
+        Ok(None)
+    }
+
+    ghost lawful_ends = { lawful_ends_alike lawful_empty };
 }

@@ -1,11 +1,13 @@
 // The source of one item.
 ghost use Rattle.std.specs.Prelude.{Some, Ok, Result, Option};
 ghost use Rattle.fallible_contract.specs.Contract.{seen_as};
+ghost use Rattle.fallible_contract.specs.Ends.{ends_of, ends_seen_as};
 ghost use Rattle.fallible_contract.specs.Laws.Contract.{lawful_seen};
+ghost use Rattle.fallible_contract.specs.Laws.Ends.{lawful_ends_alike, lawful_ends_seen};
 ghost use Rattle.fallible_iterator.specs.Sources.Once.{once_contract, once_parts};
 ghost use Rattle.fallible_iterator.specs.Laws.Sources.Once.{lawful_once};
 
-use fallible_core::FallibleIterator;
+use fallible_core::{DoubleEndedFallibleIterator, FallibleIterator};
 use std::marker::PhantomData;
 
 /// One item. Then each call returns `Ok(None)`.
@@ -34,4 +36,14 @@ impl<T: Drop, E> FallibleIterator for Once<T, E> {
     }
 
     ghost lawful = { lawful_seen once_parts lawful_once };
+}
+
+impl<T: Drop, E> DoubleEndedFallibleIterator for Once<T, E> {
+    ghost ends = { ends_seen_as once_parts (ends_of once_contract) };
+
+    fn next_back(&mut self) -> Result<Option<T>, E> {
+        self.next()
+    }
+
+    ghost lawful_ends = { lawful_ends_seen once_parts (lawful_ends_alike lawful_once) };
 }

@@ -1,11 +1,13 @@
 // The source of one failure.
 ghost use Rattle.std.specs.Prelude.{Some, Ok, Err, Result, Option};
 ghost use Rattle.fallible_contract.specs.Contract.{seen_as};
+ghost use Rattle.fallible_contract.specs.Ends.{ends_of, ends_seen_as};
 ghost use Rattle.fallible_contract.specs.Laws.Contract.{lawful_seen};
+ghost use Rattle.fallible_contract.specs.Laws.Ends.{lawful_ends_alike, lawful_ends_seen};
 ghost use Rattle.fallible_iterator.specs.Sources.OnceErr.{once_err_contract, once_err_parts};
 ghost use Rattle.fallible_iterator.specs.Laws.Sources.OnceErr.{lawful_once_err};
 
-use fallible_core::FallibleIterator;
+use fallible_core::{DoubleEndedFallibleIterator, FallibleIterator};
 use std::marker::PhantomData;
 
 /// One failure. Then each call returns `Ok(None)`.
@@ -34,4 +36,14 @@ impl<T, E: Drop> FallibleIterator for OnceErr<T, E> {
     }
 
     ghost lawful = { lawful_seen once_err_parts lawful_once_err };
+}
+
+impl<T, E: Drop> DoubleEndedFallibleIterator for OnceErr<T, E> {
+    ghost ends = { ends_seen_as once_err_parts (ends_of once_err_contract) };
+
+    fn next_back(&mut self) -> Result<Option<T>, E> {
+        self.next()
+    }
+
+    ghost lawful_ends = { lawful_ends_seen once_err_parts (lawful_ends_alike lawful_once_err) };
 }

@@ -2,7 +2,8 @@
 use fallible_iterator::Answer::{Failure, Item};
 use fallible_iterator::Side::{Back, Front};
 use fallible_iterator::{
-    Answer, DoubleEndedFallibleIterator, FallibleIterator, IntoFallible, Side, convert,
+    Answer, DoubleEndedFallibleIterator, FallibleIterator, IntoFallible, Side, convert, empty,
+    once, once_err,
 };
 use std::alloc::AllocError;
 use std::test::Fail;
@@ -41,6 +42,19 @@ const SEVEN_TO_ZERO: Made = Ok(&[7, 6, 5, 4, 3, 2, 1, 0]);
 fn rev_of_a_chain_is_the_back_s_and_then_the_front_s(rt: HostRuntime) -> Result<(), Fail> {
     let it = numbers(&UP_TO_THREE).chain(numbers(&FOUR_TO_SEVEN));
     expect_collected_back(&rt, it, SEVEN_TO_ZERO)
+}
+
+#[test]
+fn rev_of_sources_of_one_answer_and_none(rt: HostRuntime) -> Result<(), Fail> {
+    let at_the_back = numbers(&UP_TO_THREE).chain(once(4));
+    expect_collected_back(&rt, at_the_back, Ok(&[4, 3, 2, 1, 0]))?;
+    expect_collected_back(
+        &rt,
+        once(4).chain(numbers(&UP_TO_THREE)),
+        Ok(&[3, 2, 1, 0, 4]),
+    )?;
+    expect_collected_back(&rt, once_err(4).chain(empty()), Err(4))?;
+    expect_collected_back(&rt, empty().chain(empty()), Ok(&[]))
 }
 
 const FAILING_TWICE: [Result<u32, u32>; 4] = [Ok(0), Err(1), Ok(2), Err(3)];

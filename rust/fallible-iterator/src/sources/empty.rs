@@ -1,6 +1,6 @@
 // The source of nothing.
 
-use crate::fallible_core::FallibleIterator;
+use crate::fallible_core::{DoubleEndedFallibleIterator, FallibleIterator};
 use core::marker::PhantomData;
 
 /// Yields nothing: each call returns `Ok(None)`.
@@ -22,5 +22,11 @@ impl<T, E> FallibleIterator for Empty<T, E> {
 
     fn size_hint(&self) -> (usize, Option<usize>) {
         (0, Some(0))
+    }
+}
+
+impl<T, E> DoubleEndedFallibleIterator for Empty<T, E> {
+    fn next_back(&mut self) -> Result<Option<T>, E> {
+        Ok(None)
     }
 }

@@ -1,6 +1,6 @@
 // The source of one item.
 
-use crate::fallible_core::FallibleIterator;
+use crate::fallible_core::{DoubleEndedFallibleIterator, FallibleIterator};
 use core::marker::PhantomData;
 
 /// One item. Then each call returns `Ok(None)`.
@@ -25,5 +25,11 @@ impl<T, E> FallibleIterator for Once<T, E> {
             Some(_) => (1, Some(1)),
             None => (0, Some(0)),
         }
+    }
+}
+
+impl<T, E> DoubleEndedFallibleIterator for Once<T, E> {
+    fn next_back(&mut self) -> Result<Option<T>, E> {
+        self.next()
     }
 }

@@ -1,6 +1,6 @@
 // The source of one failure.
 
-use crate::fallible_core::FallibleIterator;
+use crate::fallible_core::{DoubleEndedFallibleIterator, FallibleIterator};
 use core::marker::PhantomData;
 
 /// One failure. Then each call returns `Ok(None)`.
@@ -25,5 +25,11 @@ impl<T, E> FallibleIterator for OnceErr<T, E> {
 
     fn size_hint(&self) -> (usize, Option<usize>) {
         (0, Some(0))
+    }
+}
+
+impl<T, E> DoubleEndedFallibleIterator for OnceErr<T, E> {
+    fn next_back(&mut self) -> Result<Option<T>, E> {
+        self.next()
     }
 }

@@ -1,6 +1,7 @@
 -- `Peekable`: what is left after a look ahead, and its runs, which are the traces that its definition names.
 use Rattle.std.specs.Prelude.{◌≡◌, List, [], ◌∷◌, ◌++◌, Option, Result, MatchResult, option_copied, Some, None, Ok, Err, Bool, true, false, ◌↔◌}
-use Rattle.std.specs.Borrow.{Bor}
+use Rattle.std.specs.Option.{option_copied_mut}
+use Rattle.std.specs.Borrow.{Bor, MutBor}
 use Rattle.std.specs.Fn.{Shared, FnReturnsAt}
 use Rattle.std.proofs.Common.{refl, sym, ap, subst, arith, inl, inr}
 use Rattle.fallible_contract.specs.Traces.{Answered, Run, item, end}
@@ -8,7 +9,7 @@ use Rattle.fallible_contract.specs.Contract.{Contract, KeptByDraw, NeverFails, S
 use Rattle.fallible_contract.specs.Lists.{AlwaysGives, Lists}
 use Rattle.fallible_contract.proofs.Lemmas.Lists.Passing.{lists_seen}
 use Rattle.fallible_contract.specs.Laws.Contract.{stays_after, stays_here}
-use Rattle.fallible_core.specs.Peeking.Peekable.{peekable_parts, held_answers, held_then, PeekableTrace, peekable_step, peekable_contract, seen, failure_told, held_of, held_item, Fills, Peeks, Looks, TakenIf, NextIf}
+use Rattle.fallible_core.specs.Peeking.Peekable.{peekable_parts, held_answers, held_then, PeekableTrace, peekable_step, peekable_contract, seen, seen_mut, failure_told, held_of, held_item, Fills, Peeks, Looks, TakenIf, NextIf}
 use Rattle.fallible_core.specs.Laws.Peeking.Peekable.{kept_by_draw_drawn}
 use Rattle.fallible_core.specs.declared.peeking.peekable.Peekable.{Peekable}
 
@@ -91,7 +92,7 @@ stays_kept {m = m} l p q o c step = stays_peek l p (Ok o) (q.0, Some o) c (peeks
 -- ---- `peek`
 
 module _ {S A E : Type 0} (steps : S → Answered A E → S → Type 0) where
-  held_of_answer : (p q : S × Option (Option A)) (a : Answered A E) → Peeks steps p a q → q.1 ≡ held_of a
+  pub held_of_answer : (p q : S × Option (Option A)) (a : Answered A E) → Peeks steps p a q → q.1 ≡ held_of a
   held_of_answer (s, Some o) (t, held) a peeks = rw (peeks.0, peeks.2) refl
   held_of_answer (s, None) (t, held) a peeks = peeks.1
 
@@ -102,6 +103,17 @@ module _ {S A E : Type 0} (steps : S → Answered A E → S → Type 0) where
   seen_is_answer (Ok None) held (Some z) x is copied joined = let some : Some z.now ≡ None = rw is at copied in absurd cc
   seen_is_answer (Ok None) held None x is copied joined = rw joined refl
   seen_is_answer (Err e) held shown x is copied joined = rw joined refl
+
+  -- the same of a mutable reference to the held item
+  seen_mut_is_answer : (a : Answered A E) (held : Option (Option A)) (shown : Option (MutBor A)) → Ok tt ≡ failure_told a → held ≡ held_of a → option_copied_mut shown ≡ held_item held → seen_mut (Ok shown) ≡ a
+  seen_mut_is_answer (Ok (Some y)) held (Some z) told is copied = let same : Some z.now ≡ Some y = rw is at copied in let at : z.now ≡ y = cc in ap (λ w. item w) at
+  seen_mut_is_answer (Ok (Some y)) held None told is copied = let none : None ≡ Some y = rw is at copied in absurd cc
+  seen_mut_is_answer (Ok None) held (Some z) told is copied = let some : Some z.now ≡ None = rw is at copied in absurd cc
+  seen_mut_is_answer (Ok None) held None told is copied = refl
+  seen_mut_is_answer (Err e) held shown told is copied = absurd cc
+
+  pub peeks_mut : (p q : S × Option (Option A)) (shown : Option (MutBor A)) → Fills steps p (Ok tt) q → option_copied_mut shown ≡ held_item q.1 → Peeks steps p (seen_mut (Ok shown)) q
+  peeks_mut p q shown fills copied = subst (λ (r : Answered A E). Peeks steps p r q) (sym (seen_mut_is_answer fills.0 q.1 shown fills.2 (held_of_answer p q fills.0 fills.1) copied)) fills.1
 
   pub peeks_joined : (p q : S × Option (Option A)) (filled : Result (Unit {0}) E) (shown : Option (Bor A)) (x : Result (Option (Bor A)) E) → Fills steps p filled q → option_copied shown ≡ held_item q.1 → MatchResult filled (λ _. x ≡ Ok shown) (λ e. x ≡ Err e) → Peeks steps p (seen x) q
   peeks_joined p q filled shown x fills copied joined =

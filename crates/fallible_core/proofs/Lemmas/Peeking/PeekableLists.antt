@@ -7,7 +7,8 @@ use Rattle.fallible_contract.specs.Traces.{Answered, item}
 use Rattle.fallible_contract.specs.Contract.{Contract, seen_as}
 use Rattle.fallible_contract.specs.Lists.{AlwaysGives, Lists, nth_of}
 use Rattle.fallible_contract.proofs.Lemmas.Lists.Passing.{lists_seen}
-use Rattle.fallible_core.specs.Peeking.Peekable.{peekable_parts, peekable_step, peekable_contract, Peeks, Looks, LooksAt, LooksAs, TakenIf, NextIf, rest_look, look_of, first_if, rest_if}
+use Rattle.fallible_core.specs.Peeking.Peekable.{peekable_source, peekable_parts, peekable_step, peekable_contract, held_of, held_item, with_held, failure_told, Fills, Peeks, Looks, LooksAt, LooksAs, TakenIf, NextIf, rest_look, changed_first, look_of, first_if, rest_if}
+use Rattle.fallible_core.proofs.Lemmas.Peeking.Peekable.{held_of_answer}
 use Rattle.fallible_core.specs.declared.peeking.peekable.Peekable.{Peekable}
 
 -- what is listed of a value is listed of its parts
@@ -41,6 +42,15 @@ module _ {S A E : Type 0} (steps : S → Answered A E → S → Type 0) where
   nth_of_0_of_peek (s, None) (t, k) (Ok None) (Err y ∷ l) a w = absurd (let h = (a (Ok None) (t, None) (w.0, refl)).0 in cc)
   nth_of_0_of_peek (s, None) (t, k) (Ok (Some x)) (Err y ∷ l) a w = absurd (let h = (a (Ok (Some x)) (t, None) (w.0, refl)).0 in cc)
   nth_of_0_of_peek (s, None) (t, k) (Err e) (Err y ∷ l) a w = let d = a (Err e) (t, None) (w.0, refl) in (d.0, subst (λ (h : Option (Option A)). AlwaysGives StepOfPeekableLists (t, h) l) (sym w.1) d.1)
+
+  -- what is listed where the item that is held is changed
+  always_gives_changed : (l : List (Result A E)) (s : S) (held : Option (Option A)) (x w : A) → held_item held ≡ Some x → AlwaysGives StepOfPeekableLists (s, held) l → AlwaysGives StepOfPeekableLists (s, Some (Some w)) (changed_first w l)
+  unfolding changed_first
+  always_gives_changed l s (Some None) x w is a = absurd cc
+  always_gives_changed l s None x w is a = absurd cc
+  always_gives_changed [] s (Some (Some y)) x w is a = absurd (let h = a (Ok (Some y)) (s, None) (refl, refl, refl) in cc)
+  always_gives_changed (Ok z ∷ l) s (Some (Some y)) x w is a = always_gives_item_held s w l (a (Ok (Some y)) (s, None) (refl, refl, refl)).1
+  always_gives_changed (Err e ∷ l) s (Some (Some y)) x w is a = absurd (let h = (a (Ok (Some y)) (s, None) (refl, refl, refl)).0 in cc)
 
   look_of_of_look : {F R : Type 0} (g : Shared F (Bor A × Unit {0}) R) (f : F) (h : A → R) → LooksAs g f h → (a : Answered A E) (r : Result (Option R) E) (l : List (Result A E)) → a ≡ nth_of 0 l → LooksAt g f a r → r ≡ look_of h l
   unfolding nth_of look_of
@@ -76,6 +86,13 @@ module _ {S A E : Type 0} (m : Contract S A E) (s t : Peekable S A E) (l : List 
 
   pub peek_listed : {r : Answered A E} → Peeks m.steps (peekable_parts s) r (peekable_parts t) → (r ≡ nth_of 0 l) × Lists (seen_as peekable_parts (peekable_contract m)).steps t (rest_look l)
   peek_listed {r = r} w = let d = nth_of_0_of_peek m.steps (peekable_parts s) (peekable_parts t) r l always_gives_of_lists w in (d.0, lists_seen peekable_parts (peekable_step m.steps) t refl refl d.1)
+
+  pub fill_listed : {r : Result (Unit {0}) E} → Fills m.steps (peekable_parts s) r (peekable_parts t) → (r ≡ failure_told (nth_of 0 l)) × (t.held ≡ held_of (nth_of 0 l)) × Lists (seen_as peekable_parts (peekable_contract m)).steps t (rest_look l)
+  fill_listed w = let d = peek_listed w.1 in (w.2 ∙ ap failure_told d.0, held_of_answer m.steps (peekable_parts s) (peekable_parts t) w.0 w.1 ∙ ap held_of d.0, d.1)
+
+  -- what is listed where the held item is changed
+  pub changed_listed : (x w : A) → held_item s.held ≡ Some x → Lists (seen_as peekable_parts (peekable_contract m)).steps (with_held s w) (changed_first w l)
+  changed_listed x w is = lists_seen peekable_parts (peekable_step m.steps) (with_held s w) refl refl (always_gives_changed m.steps l (peekable_source s) s.held x w is always_gives_of_lists)
 
   pub look_listed : {F R : Type 0} {g : Shared F (Bor A × Unit {0}) R} {f : F} {r : Result (Option R) E} (h : A → R) → LooksAs g f h → Looks m.steps g f (peekable_parts s) r (peekable_parts t) → (r ≡ look_of h l) × Lists (seen_as peekable_parts (peekable_contract m)).steps t (rest_look l)
   look_listed {g = g} {f = f} {r = r} h acts w = let d = peek_listed w.1 in (look_of_of_look m.steps g f h acts w.0 r l d.0 w.2, d.1)

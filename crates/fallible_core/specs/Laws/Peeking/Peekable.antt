@@ -1,9 +1,10 @@
 -- The contract of `Peekable` is lawful where the source's is.
 use Rattle.std.specs.Prelude.{◌+◌, Option, Some, None, Ok, Err}
 use Rattle.std.proofs.Common.{refl, arith, inl, inr}
-use Rattle.fallible_contract.specs.Traces.{Answered}
+use Rattle.fallible_contract.specs.Traces.{Answered, item, end}
 use Rattle.fallible_contract.specs.Contract.{Contract, OnAnswer, KeptByDraw, Lawful}
-use Rattle.fallible_core.specs.Peeking.Peekable.{held_items, peekable_contract}
+use Rattle.fallible_contract.specs.Ends.{Ends, from_back, LawfulEnds}
+use Rattle.fallible_core.specs.Peeking.Peekable.{held_items, peekable_contract, IsNoEnd, peekable_step_back, peekable_ends}
 
 module _ {S A E : Type 0} (m : Contract S A E) where
   abbrev ContractHere : Contract (S × Option (Option A)) A E
@@ -48,4 +49,82 @@ pub lawful_peekable : {S A E : Type 0} {m : Contract S A E} → Lawful m → Law
 lawful_peekable {m = m} l = record {
   kept_by_draw = kept_by_draw_peekable m l;
   bounded = λ p. ((λ e. let k = (l.bounded p.0).0 e in (k.0 + held_items p.1, (k.0, k.1, omega arith))), (λ h. (l.bounded p.0).1 ((h.1).0, (h.1).1)));
+}
+
+-- ---- from the back
+
+module _ {S A E : Type 0} (m : Contract S A E) (e : Ends S A E) where
+  abbrev SourceBack : Contract S A E
+  SourceBack = from_back m e
+
+  abbrev PeekableBack : Contract (S × Option (Option A)) A E
+  PeekableBack = from_back (peekable_contract m) (peekable_ends e)
+
+  -- at the source's end the held item comes
+  kept_by_draw_last : (s t : S) (x : A) → KeptByDraw SourceBack s end t → KeptByDraw PeekableBack (s, Some (Some x)) (item x) (t, Some None)
+  kept_by_draw_last s t x a = record {
+    can_next = a.can_next;
+    is_finite = a.is_finite;
+    answer = (inl refl, (λ n b. let k = a.answer.0 b.0 b.1 in (k.0, (k.0, k.1, omega arith), omega (arith, k.2, b.2))), (λ f. let j = a.answer.1 f in (j.0, omega (arith, j.1))));
+    may_give = λ y h. elim h [ inl d ↦ absurd cc | inr g ↦ inr (a.may_give y g) ];
+    may_fail = a.may_fail;
+    lenders = a.lenders;
+  }
+
+  on_answer_before : (s t : S) (x : A) (r : Answered A E) → IsNoEnd r → OnAnswer SourceBack s r t → OnAnswer PeekableBack (s, Some (Some x)) r (t, Some (Some x))
+  on_answer_before s t x (Ok (Some y)) goes_on a = (inr a.0, (λ n b. let k = a.1 b.0 b.1 in (k.0 + 1, (k.0, k.1, omega arith), omega (arith, k.2, b.2))), (λ f. let j = a.2 f in (j.0, omega (arith, j.1))))
+  on_answer_before s t x (Ok None) goes_on a = absurd goes_on
+  on_answer_before s t x (Err d) goes_on a = (a.0, (λ n b. let k = a.1 b.0 b.1 in (k.0 + 1, (k.0, k.1, omega arith), omega (arith, k.2, b.2))), (λ f. let j = a.2 f in (j.0, omega (arith, j.1))))
+
+  -- before that the source's answers come, and the item stays held
+  kept_by_draw_before : (s t : S) (x : A) (r : Answered A E) → IsNoEnd r → KeptByDraw SourceBack s r t → KeptByDraw PeekableBack (s, Some (Some x)) r (t, Some (Some x))
+  kept_by_draw_before s t x r goes_on a = record {
+    can_next = a.can_next;
+    is_finite = a.is_finite;
+    answer = on_answer_before s t x r goes_on a.answer;
+    may_give = λ y h. elim h [ inl d ↦ inl d | inr g ↦ inr (a.may_give y g) ];
+    may_fail = a.may_fail;
+    lenders = a.lenders;
+  }
+
+  -- a held end comes and stays
+  kept_by_draw_ended : (s : S) → e.can_next s → KeptByDraw PeekableBack (s, Some None) end (s, Some None)
+  kept_by_draw_ended s c = record {
+    can_next = c;
+    is_finite = λ h. h;
+    answer = ((λ n b. (n, b, omega arith)), (λ f. (f, omega arith)));
+    may_give = λ y h. h;
+    may_fail = λ d h. h;
+    lenders = refl;
+  }
+
+  -- with nothing held they are the source's
+  kept_by_draw_bare : (s t : S) (r : Answered A E) → KeptByDraw SourceBack s r t → KeptByDraw PeekableBack (s, None) r (t, None)
+  kept_by_draw_bare s t r a = record {
+    can_next = a.can_next;
+    is_finite = a.is_finite;
+    answer = on_answer_drawn SourceBack s t r a.answer;
+    may_give = λ y h. elim h [ inl d ↦ absurd cc | inr g ↦ inr (a.may_give y g) ];
+    may_fail = a.may_fail;
+    lenders = a.lenders;
+  }
+
+  kept_by_draw_back : Lawful SourceBack → (p : S × Option (Option A)) (r : Answered A E) (q : S × Option (Option A)) → e.can_next p.0 → peekable_step_back e.steps p r q → KeptByDraw PeekableBack p r q
+  kept_by_draw_back l (s, Some (Some x)) r (t, held) c step = elim step [
+    | inl d ↦ rw (d.1, d.2) (kept_by_draw_last s t x (l.kept_by_draw s end t c d.0))
+    | inr d ↦ rw d.2 (kept_by_draw_before s t x r d.1 (l.kept_by_draw s r t c d.0))
+  ]
+  kept_by_draw_back l (s, Some None) r (t, held) c step = rw (step.0, step.1, step.2) (kept_by_draw_ended s c)
+  kept_by_draw_back l (s, None) r (t, held) c step = rw step.1 (kept_by_draw_bare s t r (l.kept_by_draw s r t c step.0))
+
+pub lawful_ends_peekable : {S A E : Type 0} {m : Contract S A E} {e : Ends S A E} → LawfulEnds m e → LawfulEnds (peekable_contract m) (peekable_ends e)
+lawful_ends_peekable {m = m} {e = e} l = record {
+  front_can = λ p c. l.front_can p.0 c;
+  may_give = λ p x h. elim h [ inl d ↦ inl d | inr g ↦ inr (l.may_give p.0 x g) ];
+  may_fail = λ p d h. l.may_fail p.0 d h;
+  front = lawful_peekable l.front;
+  back = record {
+    kept_by_draw = kept_by_draw_back m e l.back;
+    bounded = (lawful_peekable l.back).bounded;
+  };
 }

@@ -41,6 +41,35 @@ impl<I: FallibleIterator> Peekable<I> {
         Self::joined(filled, held)
     }
 
+    /// Returns a mutable reference to the next item, or `Ok(None)`. What is written there is buffered, and `next` returns it.
+    ///
+    /// Draws, errors and what is buffered: as `peek`. The iterator may be used again.
+    ///
+    /// ```
+    /// # use fallible_iterator::{FallibleIterator, convert};
+    /// let mut it = convert([Ok::<u32, u8>(150), Ok(7)].into_iter()).peekable();
+    /// if let Ok(Some(reading)) = it.peek_mut() {
+    ///     *reading = 151;
+    /// }
+    /// assert_eq!(it.next(), Ok(Some(151)));
+    /// assert_eq!(it.next(), Ok(Some(7)));
+    /// ```
+    ///
+    /// <details><summary>Contract</summary>
+    ///
+    /// As it is proved, in [these words](crate::words):
+    ///
+    /// ```text
+    /// requires { (peekable_contract I.contract).can_next (peekable_parts self.old) }
+    /// ensures { (left : I × Option (Option I.Item))
+    ///     × Peeks I.contract.steps (peekable_parts self.old) (seen_mut result) left }
+    /// ```
+    /// </details>
+    pub fn peek_mut(&mut self) -> Result<Option<&mut I::Item>, I::Error> {
+        self.fill()?;
+        Ok(self.held_mut())
+    }
+
     /// Returns what the closure returns for a reference to the next item, or `Ok(None)`.
     ///
     /// Draws, errors and what is buffered: as `peek`. The iterator may be used again.
@@ -137,6 +166,12 @@ impl<I: FallibleIterator> Peekable<I> {
     ///     (peekable_parts self.old) result (peekable_parts self.new) }
     /// ensures stays { Stays (peekable_contract I.contract)
     ///     (peekable_parts self.old) (peekable_parts self.new) }
+    /// ensures lists { OverList
+    ///     (seen_as peekable_parts (peekable_contract I.contract)).steps self.old
+    ///     (λ l. (result ≡ failure_told (nth_of 0 l))
+    ///     × (peekable_held self.new ≡ held_of (nth_of 0 l))
+    ///     × Lists (seen_as peekable_parts (peekable_contract I.contract)).steps
+    ///     self.new (rest_look l)) }
     /// ```
     /// </details>
     #[doc(hidden)]
@@ -182,6 +217,43 @@ impl<I: FallibleIterator> Peekable<I> {
         match &self.held {
             Some(Some(x)) => Some(x),
             Some(None) => None,
+            None => None,
+        }
+    }
+
+    /// Returns a mutable reference to the buffered item, and `None` if an `Ok(None)` or nothing is buffered. What is written there is buffered, and `next` returns it.
+    ///
+    /// It draws nothing and never fails. The iterator may be used again.
+    ///
+    /// ```
+    /// # use fallible_iterator::{FallibleIterator, convert};
+    /// let mut it = convert([Ok::<u32, u8>(150), Ok(7)].into_iter()).peekable();
+    /// assert_eq!(it.fill(), Ok(()));
+    /// if let Some(reading) = it.held_mut() {
+    ///     *reading = 151;
+    /// }
+    /// assert_eq!(it.next(), Ok(Some(151)));
+    /// assert_eq!(it.next(), Ok(Some(7)));
+    /// ```
+    ///
+    /// <details><summary>Contract</summary>
+    ///
+    /// As it is proved, in [these words](crate::words):
+    ///
+    /// ```text
+    /// ensures value { option_copied_mut result ≡ held_item (peekable_held self.old) }
+    /// ensures* writes_back { sem 𝓛 (LendsIf (the_row I.row I.Item.row I.Error.row) I.Item.row
+    ///     self.entry result (with_held self.old) self.old) }
+    /// ensures lists { OverList
+    ///     (seen_as peekable_parts (peekable_contract I.contract)).steps self.old
+    ///     (λ l. (x w : I.Item) → held_item (peekable_held self.old) ≡ Some x
+    ///     → Lists (seen_as peekable_parts (peekable_contract I.contract)).steps
+    ///     (with_held self.old w) (changed_first w l)) }
+    /// ```
+    /// </details>
+    pub fn held_mut(&mut self) -> Option<&mut I::Item> {
+        match self.held.as_mut() {
+            Some(answer) => answer.as_mut(),
             None => None,
         }
     }

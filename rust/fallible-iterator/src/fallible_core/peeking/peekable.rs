@@ -3,6 +3,7 @@
 use crate::fallible_contract::folds::Turn;
 use crate::fallible_contract::hints::one_more;
 use crate::fallible_core::traits::FallibleIterator;
+use crate::fallible_core::traits::double_ended::DoubleEndedFallibleIterator;
 use core::ops::ControlFlow;
 
 /// What the source yields; the next item can be looked at ahead. An item or an `Ok(None)` that was looked at is buffered, and comes first; a failure isn't buffered.
@@ -53,6 +54,35 @@ impl<I: FallibleIterator> FallibleIterator for Peekable<I> {
     }
 
     crate::by_drive!(drive);
+}
+
+impl<I: DoubleEndedFallibleIterator> DoubleEndedFallibleIterator for Peekable<I> {
+    /// Draws the source once from the back, and at its end there returns the buffered item, in whose place an `Ok(None)` is buffered. A buffered `Ok(None)` is returned without a draw, and stays buffered.
+    ///
+    /// ```
+    /// # use fallible_iterator::{DoubleEndedFallibleIterator, FallibleIterator, convert};
+    /// let mut it = convert([Ok::<u32, u8>(150), Ok(7)].into_iter()).peekable();
+    /// assert_eq!(it.peek(), Ok(Some(&150)));
+    /// assert_eq!(it.next_back(), Ok(Some(7)));
+    /// assert_eq!(it.next_back(), Ok(Some(150)));
+    /// assert_eq!(it.next_back(), Ok(None));
+    /// ```
+    fn next_back(&mut self) -> Result<Option<I::Item>, I::Error> {
+        if let Some(None) = &self.held {
+            return Ok(None);
+        }
+        match self.it.next_back() {
+            Ok(Some(x)) => Ok(Some(x)),
+            Ok(None) => match self.held.take() {
+                Some(answer) => {
+                    self.held = Some(None);
+                    Ok(answer)
+                }
+                None => Ok(None),
+            },
+            Err(e) => Err(e),
+        }
+    }
 }
 
 impl<I: FallibleIterator> Peekable<I> {

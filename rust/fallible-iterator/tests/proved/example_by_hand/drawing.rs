@@ -32,6 +32,21 @@ pub fn second_if_above<I: FallibleIterator<Item = u32>>(it: I) -> Result<Option<
     }
 }
 
+/// The first item, or `limit` if it is above that; the failure in its place. It is looked at, changed and then drawn.
+pub fn first_at_most<I: FallibleIterator<Item = u32>>(
+    it: I,
+    limit: u32,
+) -> Result<Option<u32>, I::Error> {
+    let mut ahead = it.peekable();
+    ahead.fill()?;
+    if let Some(first) = ahead.held_mut() {
+        if limit < *first {
+            *first = limit;
+        }
+    }
+    ahead.draw()
+}
+
 /// Draws until `Ok(None)`, or the first failure, and drops the items.
 pub fn draw_all<I: FallibleIterator>(it: &mut I) -> Result<(), I::Error> {
     while let Some(_) = it.draw()? {}

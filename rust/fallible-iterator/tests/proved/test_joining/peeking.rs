@@ -449,6 +449,42 @@ fn take_looked_at<I: FallibleIterator>(it: &mut Peekable<I>) -> Result<Option<I:
     }
 }
 
+// Puts ten times the next item in its place, and draws.
+fn draw_changed<I: FallibleIterator<Item = u32>>(
+    it: &mut Peekable<I>,
+) -> Result<Option<u32>, I::Error> {
+    it.fill()?;
+    if let Some(x) = it.held_mut() {
+        *x = x.wrapping_mul(10);
+    }
+    it.draw()
+}
+
+#[test]
+fn a_changed_item_is_the_next_item() {
+    let answers = [Ok(1), Ok(2), Err(3)];
+    let mut it = numbers(&answers).peekable();
+    for answer in &[Ok(Some(10)), Ok(Some(20)), Err(3), Ok(None)] {
+        assert_eq!(draw_changed(&mut it), *answer);
+    }
+}
+
+// A copy of what `peek_mut` looked at in a script.
+fn seen_by_peek_mut(answers: &[Result<u32, u32>]) -> Drawn {
+    let mut it = numbers(answers).peekable();
+    match it.peek_mut()? {
+        Some(x) => Ok(Some(*x)),
+        None => Ok(None),
+    }
+}
+
+#[test]
+fn peek_mut_returns_what_comes_next() {
+    assert_eq!(seen_by_peek_mut(&[Ok(1), Ok(2)]), Ok(Some(1)));
+    assert_eq!(seen_by_peek_mut(&[Err(2), Ok(1)]), Err(2));
+    assert_eq!(seen_by_peek_mut(&[]), Ok(None));
+}
+
 #[test]
 fn what_is_looked_at_is_the_next_item() {
     let answers = [Ok(1), Err(2)];

@@ -8,7 +8,8 @@ use crate::test_support::numbers::numbers;
 use fallible_iterator::Answer::{Failure, Item};
 use fallible_iterator::Side::{Back, Front};
 use fallible_iterator::{
-    Answer, DoubleEndedFallibleIterator, FallibleIterator, IntoFallible, Side, convert,
+    Answer, DoubleEndedFallibleIterator, FallibleIterator, IntoFallible, Side, convert, empty,
+    once, once_err,
 };
 
 // What is collected: the items, or the failure of the source.
@@ -37,6 +38,18 @@ fn rev_of_a_chain_is_the_back_s_and_then_the_front_s() {
     fn tested() -> Result<(), Fail> {
         let it = numbers(&UP_TO_THREE).chain(numbers(&FOUR_TO_SEVEN));
         expect_collected_back(it, SEVEN_TO_ZERO)
+    }
+    let _ = tested();
+}
+
+#[test]
+fn rev_of_sources_of_one_answer_and_none() {
+    fn tested() -> Result<(), Fail> {
+        let at_the_back = numbers(&UP_TO_THREE).chain(once(4));
+        expect_collected_back(at_the_back, Ok(&[4, 3, 2, 1, 0]))?;
+        expect_collected_back(once(4).chain(numbers(&UP_TO_THREE)), Ok(&[3, 2, 1, 0, 4]))?;
+        expect_collected_back(once_err(4).chain(empty()), Err(4))?;
+        expect_collected_back(empty().chain(empty()), Ok(&[]))
     }
     let _ = tested();
 }

@@ -1,6 +1,7 @@
 -- Where an answer is held, nothing is drawn.
 use Rattle.fallible_core.specs.Peeking.Peekable.{peekable_parts}
 use Rattle.fallible_core.proofs.Lemmas.Peeking.Peekable.{fills_held, stays_filled}
+use Rattle.fallible_core.proofs.Lemmas.Peeking.PeekableLists.{fill_listed}
 use Rattle.fallible_core.proofs.peeking.peekable.Peekable.fill.Goals as goal
 
 pub returns-in-Some-clause-filled : goal.returns-in-Some-clause-filled
@@ -11,3 +12,9 @@ returns-in-Some-clause-stays g c = stays_filled g.met.I.FallibleIterator.lawful 
 
 pub returns-in-None-clause-stays : goal.returns-in-None-clause-stays
 returns-in-None-clause-stays g c = stays_filled g.met.I.FallibleIterator.lawful _ _ _ c.requires c.hold.ensures
+
+pub returns-in-Some-clause-lists : goal.returns-in-Some-clause-lists
+returns-in-Some-clause-lists g c l i = fill_listed g.I.FallibleIterator.contract c.args.self.now c.args.self.now l i (returns-in-Some-clause-filled g c)
+
+pub returns-in-None-clause-lists : goal.returns-in-None-clause-lists
+returns-in-None-clause-lists g c l i = fill_listed g.I.FallibleIterator.contract c.args.self.now _ l i c.hold.ensures

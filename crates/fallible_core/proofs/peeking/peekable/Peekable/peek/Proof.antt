@@ -38,7 +38,9 @@ use Rattle.std.specs.contracts.option.Option as option
 use Rattle.std.proofs.option.Option.TheLaws as option_laws
 use Rattle.std.proofs.result.Result.TheLaws as result_laws
 use Rattle.fallible_contract.specs.Contract as draws
-use Rattle.fallible_core.specs.Peeking.Peekable.{peekable_parts, peekable_contract, seen, held_item, Fills, Peeks}
+use Rattle.fallible_contract.specs.Clauses.{OverList}
+use Rattle.fallible_contract.specs.Lists.{Lists, nth_of}
+use Rattle.fallible_core.specs.Peeking.Peekable.{peekable_parts, peekable_held, peekable_contract, seen, held_item, held_of, failure_told, rest_look, Fills, Peeks}
 use Rattle.fallible_core.proofs.Lemmas.Peeking.Peekable.{peeks_joined}
 use Rattle.fallible_core.specs.contracts.peeking.peekable.Peekable.{the_row}
 use Rattle.fallible_core.specs.contracts.peeking.peekable.Peekable.peek as f
@@ -98,13 +100,13 @@ peek_spec 𝓤 𝓛 𝓜 𝓡 wired I X E L L' L'' g d d' d'' m m' m'' =
     use2 𝓛 (raw (G₁.pre z₁)) (id⊢ 𝓤 _) $
     calls_at ! Tab G₁ (fill.met 𝓤 𝓛 𝓜 𝓡 (code.calls-fallible_core::peeking::peekable::Peekable::fill 𝓡.env wired) I X E L L' L'' g d d' d'' m m' m'') z₁ (and_then ! (get ! refl) (no_more !)) (λ v.
     use1 𝓛 (later (some (λ (u : Filled.Denot). ((‵ (flft κ₁ p.1) ⊛ tokens) ⊛ ‵ (Filled.own_val u (v ∷ []))) ⊛ some (λ (ws : R.Denot × Unit {0}). ‵ (lasts T₁ z₁.0.0 z₁.0.3 ws)
-    ⊛ raw (fact 𝓤 (Fills g.contract.steps (peekable_parts r.now) u (peekable_parts ws.0))) ⊛ raw (fact 𝓤 (draws.Stays (peekable_contract g.contract) (peekable_parts r.now) (peekable_parts ws.0))))))) (id⊢ 𝓤 _) $
+    ⊛ raw (fact 𝓤 (Fills g.contract.steps (peekable_parts r.now) u (peekable_parts ws.0))) ⊛ raw (fact 𝓤 (draws.Stays (peekable_contract g.contract) (peekable_parts r.now) (peekable_parts ws.0))) ⊛ raw (fact 𝓤 (OverList (draws.seen_as peekable_parts (peekable_contract g.contract)).steps r.now (λ l. (u ≡ failure_told (nth_of 0 l)) × (peekable_held ws.0 ≡ held_of (nth_of 0 l)) × Lists (draws.seen_as peekable_parts (peekable_contract g.contract)).steps ws.0 (rest_look l)))))))) (id⊢ 𝓤 _) $
     await ! tt $ pick ! (λ u. split ! $ split ! $ split ! $ move ! (2 ∷ []) $ peeks ! Filled (Is Filled) (shows 𝓛 Filled) u (v ∷ []) (λ is₁.
     let good₁ = ((filled_laws.lawful 𝓛).typed u (v ∷ []) is₁).0 in
     lands_as ! refl refl good₁ $
     -- [what was told; κ₁'s token; the other tokens; the rest of the answer; what the lender keeps; the way to end κ₁]
     move ! (1 ∷ 5 ∷ []) $ use2 𝓛 (later (‵ (fdead κ₁) ⊛ ‵ (flft κ (Share.right q)))) (apply∗ 𝓤 (𝓛.A.lft κ₁ p.1) _) $ await ! tt $ split ! $
-    move ! (4 ∷ []) $ pick ! (λ ws. split ! $ fsplit ! $ fsplit ! $ move ! (1 ∷ 2 ∷ []) $ drop ! $ drop ! $ move ! (1 ∷ []) $ split ! $ heard ! _ (λ fills. heard ! _ (λ stays.
+    move ! (4 ∷ []) $ pick ! (λ ws. split ! $ fsplit ! $ fsplit ! $ move ! (1 ∷ 2 ∷ []) $ drop ! $ drop ! $ move ! (1 ∷ []) $ split ! $ heard ! _ (λ fills. split ! $ heard ! _ (λ stays. drop ! $
     -- [the loan's last value; κ₁ is over; half of κ's token; what was told; the other tokens; what the lender keeps]
     move ! (1 ∷ 5 ∷ 0 ∷ []) $ use3 𝓛 (later (‵ ((MutRef (named 0) κ R).own_val (record r { now = ws.0 }) vs) ⊛ ‵ (flft κ (Share.left q)))) (comes_back 𝓛 R (named 0) κ κ₁ (Share.left q) r.ghost_name b o δ r.now ws.0) $ await ! tt $ split ! $
     move ! (1 ∷ 2 ∷ []) $ use2 𝓛 (‵ (flft κ q)) (𝓛.lfts.lft_join κ q) $
