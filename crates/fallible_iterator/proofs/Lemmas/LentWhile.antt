@@ -105,8 +105,8 @@ module _ {S P A E : Type 0} (steps : S → Answered A E → S → Type 0) (g : M
 
 module _ {S P A E B E' F : Type 0} {steps : S → Answered A E → S → Type 0} {g : Mut P (Bor A × Unit {0}) (Result Bool E)} {it : MutBor S} {p : P} {s t : TakeWhile (MutBor S) P} {l : List (Result A E)} {call : F → B → A → Result B E' → F → Type 0} {from : E → E' → Type 0} {b v : B} {f : F} {x : S} where
   -- After a fold over `take_while` of a borrow that came to its end, the lender lists what comes after the first item that the predicate rejects, where there is one.
-  pub lists_rest_lent_while : (h : A → Result Bool E) → Acts (call_at g) p h → x ≡ t.it.now → take_while_source s ≡ it → take_while_predicate s ≡ p → take_while_refused s ≡ false → FoldDrains (until_steps steps g) call from s b f (Ok v) t → Lists steps it.now l → all_of h l ≡ Ok false → Lists steps x (rest_false h l)
-  lists_rest_lent_while h acts back source predicate refused d i found =
+  pub lists_rest_lent_while : {h : A → Result Bool E} → Acts (call_at g) p h → x ≡ t.it.now → take_while_source s ≡ it → take_while_predicate s ≡ p → take_while_refused s ≡ false → FoldDrains (until_steps steps g) call from s b f (Ok v) t → Lists steps it.now l → all_of h l ≡ Ok false → Lists steps x (rest_false h l)
+  lists_rest_lent_while {h = h} acts back source predicate refused d i found =
       let parts : take_while_parts s ≡ ((it, p), false) = cc in
       let ended : d.last ≡ end = last_is_end call from d.at.value d.at.closure d.last v d.at.exit in
       let ran = subst (λ (r : Answered _ _). Run (until_steps steps g) s (map item d.items ++ r ∷ []) t) ended d.ran in
