@@ -151,9 +151,9 @@ right_drawn x others (both_drawn (Some z) (Ok None)) u v is step = (Ok None, ste
 right_drawn x others (both_drawn (Some z) (Err e)) u v is step = (Err e, step, refl)
 
 -- the answer of a place at which the left failed
-zip_answer_left_failed_at : {A B E : Type 0} {e : E} (p : ZipPlace A B E) → left_answer p ≡ Err e → zip_answer p ≡ Err e
-zip_answer_left_failed_at (left_failed d) is = cc
-zip_answer_left_failed_at (both_drawn z r) is = absurd cc
+zip_answer_of_left_failure : {A B E : Type 0} {e : E} (p : ZipPlace A B E) → left_answer p ≡ Err e → zip_answer p ≡ Err e
+zip_answer_of_left_failure (left_failed d) is = cc
+zip_answer_of_left_failure (both_drawn z r) is = absurd cc
 
 -- what a step of a borrow makes of the value that it points to
 lent_step : {S A E : Type 0} (steps : S → Answered A E → S → Type 0) {it u : MutBor S} (v : MutBor S) (r : Answered A E) → u ≡ it → steps u.now r v.now → steps it.now r v.now
@@ -166,7 +166,7 @@ module _ {S U A B E : Type 0} {steps : S → Answered A E → S → Type 0} {oth
   pair_lent {a = []} left right w i j no_end = absurd (no_end refl)
   pair_lent {a = Ok x ∷ a} {b = []} left right w i j no_end = absurd (no_end refl)
   pair_lent {a = Err e ∷ a} left right w i j no_end =
-      let failed : r ≡ Err e = w.3 ∙ zip_answer_left_failed_at w.0 (nth_of_0_of_lists t.left.now (Err e ∷ a) (lent_step steps t.left (left_answer w.0) left w.1.0) i) in
+      let failed : r ≡ Err e = w.3 ∙ zip_answer_of_left_failure w.0 (nth_of_0_of_lists t.left.now (Err e ∷ a) (lent_step steps t.left (left_answer w.0) left w.1.0) i) in
       (failed, λ p is. absurd cc)
   pair_lent {a = Ok x ∷ a} {b = Ok y ∷ b} left right w i j no_end =
       let of_left : steps it.now (left_answer w.0) t.left.now = lent_step steps t.left (left_answer w.0) left w.1.0 in
