@@ -62,7 +62,7 @@ pub record Interleaves {S A E : Type 0} (front back : S → Answered A E → S �
   pub after : List (Result A E)
   pub lists_after : ListsBothEnds front back t after
   pub makes : l ≡ came_from_front drawn ++ after ++ reverse (came_from_back drawn)
-  pub ends : (before after : List (Side × Answered A E)) (side : Side) → drawn ≡ before ++ (side, end) ∷ after → l ≡ came_from_front before ++ reverse (came_from_back before)
+  pub lists_before_end : (before after : List (Side × Answered A E)) (side : Side) → drawn ≡ before ++ (side, end) ∷ after → l ≡ came_from_front before ++ reverse (came_from_back before)
 
 -- ---- what an adapter lists whose closure is called on each item
 

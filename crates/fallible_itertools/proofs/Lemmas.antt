@@ -1,11 +1,15 @@
 -- The lemmas on each adapter, on what adapters share, and on consumers that have the name of their module.
 pub mod Adjacent
+pub mod AtMostOne
+pub mod CheckedSum
 pub mod ChunkBy
 pub mod Chunked
 pub mod ChunkedBy
 pub mod Chunks
 pub mod ChunksHints
+pub mod CmpBy
 pub mod Coalesce
+pub mod Conversions
 pub mod Copied
 pub mod Counts
 pub mod Dedup
@@ -17,6 +21,7 @@ pub mod ErrInto
 pub mod FindOrLast
 pub mod FindPosition
 pub mod FoldWhile
+pub mod FromBack
 pub mod GroupMap
 pub mod Groups
 pub mod Holding
@@ -26,6 +31,7 @@ pub mod HoldingTraces
 pub mod InspectErr
 pub mod Intersperse
 pub mod IntersperseWith
+pub mod IsSorted
 pub mod IsSortedBy
 pub mod Join
 pub mod Keyed
@@ -38,11 +44,11 @@ pub mod Merged
 pub mod MinMax
 pub mod OrElse
 pub mod PadUsing
-pub mod PartitionMap
 pub mod Parted
 pub mod Parting
 pub mod PartingHints
 pub mod PartingTraces
+pub mod PartitionMap
 pub mod PeekingTakeWhile
 pub mod Sides
 pub mod Sorted

@@ -142,16 +142,16 @@ IsGiven (Some x) (Some r) = r ≡ item x
 IsGiven (Some x) None = ⊤
 IsGiven None gave = ⊤
 
-module _ {A E X : Type 0} (gave : X → Option (Answered A E)) (behind : Option A → X → Option A) where
+module _ {A E X : Type 0} (gave : X → Option (Answered A E)) (held_after : Option A → X → Option A) where
   -- the answers that one side drew at the places: what it yielded if nothing of it was held
   abbrev pub drawn_at : Option A → List X → List (Answered A E)
   drawn_at held [] = []
-  drawn_at held (x ∷ places) = before_drawn held (gave x) (drawn_at (behind held x) places)
+  drawn_at held (x ∷ places) = before_drawn held (gave x) (drawn_at (held_after held x) places)
 
   -- what is held before each place is yielded there, if the side is drawn, and `last` is held after the last place
   abbrev pub HeldThrough : Option A → List X → Option A → Type 0
   HeldThrough held [] last = last ≡ held
-  HeldThrough held (x ∷ places) last = IsGiven held (gave x) × HeldThrough (behind held x) places last
+  HeldThrough held (x ∷ places) last = IsGiven held (gave x) × HeldThrough (held_after held x) places last
 
   -- one side over all places
   pub record SideTrace {S : Type 0} (steps : S → Answered A E → S → Type 0) (p : S × Option A) (places : List X) (q : S × Option A) : Type 0 where

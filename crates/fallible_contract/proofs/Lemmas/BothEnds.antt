@@ -109,5 +109,5 @@ pub lists_both_ends_seen : {V P A E : Type 0} {front back : P → Answered A E �
 lists_both_ends_seen {front = front} {back = back} view i = lists_both_ends_within view (λ u r v. front (view u) r (view v)) (λ u r v. back (view u) r (view v)) (λ u r v step. step) (λ u r v step. step) i
 
 -- the same, where parts and list are known by other names
-pub lists_both_ends_seen_as : {V P A E : Type 0} {front back : P → Answered A E → P → Type 0} (view : V → P) (s : V) {p : P} {l k : List (Result A E)} → view s ≡ p → l ≡ k → ListsBothEnds front back p l → ListsBothEnds (λ u r v. front (view u) r (view v)) (λ u r v. back (view u) r (view v)) s k
-lists_both_ends_seen_as {A = A} {E = E} {front = front} {back = back} view s {p = p} {l = l} {k = k} at same i = lists_both_ends_seen view (subst (λ (q : _). ListsBothEnds front back q k) (sym at) (subst (λ (j : List (Result A E)). ListsBothEnds front back p j) same i))
+pub lists_both_ends_of_parts : {V P A E : Type 0} {front back : P → Answered A E → P → Type 0} (view : V → P) (s : V) {p : P} {l k : List (Result A E)} → view s ≡ p → l ≡ k → ListsBothEnds front back p l → ListsBothEnds (λ u r v. front (view u) r (view v)) (λ u r v. back (view u) r (view v)) s k
+lists_both_ends_of_parts {A = A} {E = E} {front = front} {back = back} view s {p = p} {l = l} {k = k} at same i = lists_both_ends_seen view (subst (λ (q : _). ListsBothEnds front back q k) (sym at) (subst (λ (j : List (Result A E)). ListsBothEnds front back p j) same i))

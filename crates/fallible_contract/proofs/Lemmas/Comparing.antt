@@ -63,11 +63,11 @@ module _ {A : Type 0} (rule : A → A → Option Ordering) where
   order_is_equal (Some Greater) e = absurd cc
 
   -- a round that decided nothing was one of two equal items
-  pub round_goes_on : (x y : Option A) → decided_round rule x y ≡ None → (a : A) × (b : A) × (x ≡ Some a) × (y ≡ Some b) × (rule a b ≡ Some Equal)
-  round_goes_on None None e = absurd cc
-  round_goes_on None (Some y) e = absurd cc
-  round_goes_on (Some x) None e = absurd cc
-  round_goes_on (Some x) (Some y) e = (x, y, refl, refl, order_is_equal (rule x y) e)
+  pub undecided_are_equal : (x y : Option A) → decided_round rule x y ≡ None → (a : A) × (b : A) × (x ≡ Some a) × (y ≡ Some b) × (rule a b ≡ Some Equal)
+  undecided_are_equal None None e = absurd cc
+  undecided_are_equal None (Some y) e = absurd cc
+  undecided_are_equal (Some x) None e = absurd cc
+  undecided_are_equal (Some x) (Some y) e = (x, y, refl, refl, order_is_equal (rule x y) e)
 
 pub by_cmp_always_ordered : {S T A E : Type 0} {cmp : A → A → Ordering} {left-steps : S → Answered A E → S → Type 0} {right-steps : T → Answered A E → T → Type 0} {s : S} {t : T} → CompareDraws {E = E} (by_cmp cmp) left-steps right-steps s t (Ok None) → ⊥
 by_cmp_always_ordered c = order_not_none _ (λ x y e. absurd cc) c.last_left c.last_right c.last_round

@@ -107,17 +107,17 @@ module _ {S C F X V B E R : Type 0} (steps : S → Answered X E → S → Type 0
 
   -- an item on which the source's turn went on, before the rest of the fold
   module _ (x : X) (v : V) (s u : S) (p k : C × F) (step : steps s (item x) u) (called : call p.1 x v k.1) where
-    drives_on : (o : Outcome B E) (t : S) (q : C × F) (r : Answered R E) → outcome x v ≡ o → TurnedBy {E = E} turns p.0 o (Continue tt) k.0 → DrivesOfFolding u k r t q → DrivesOfFolding s p r t q
-    drives_on (Kept y) t q r is (Continue z, w, e) rest = driven_after y (pass_trace_of_passes (keeps x v y step called is done)) w rest
-    drives_on (Kept y) t q r is (Break why, w, e) rest = absurd cc
-    drives_on LeftOut t q r is w rest = drained_after_first (step_left_out x v step called is) (subst (λ c. DrivesOfFolding u (c, k.1) r t q) w.1 rest)
-    drives_on (Failure d) t q r is w rest = absurd (let e = w.0 in cc)
-    drives_on End t q r is w rest = absurd (let e = w.0 in cc)
+    drives_after_item : (o : Outcome B E) (t : S) (q : C × F) (r : Answered R E) → outcome x v ≡ o → TurnedBy {E = E} turns p.0 o (Continue tt) k.0 → DrivesOfFolding u k r t q → DrivesOfFolding s p r t q
+    drives_after_item (Kept y) t q r is (Continue z, w, e) rest = driven_after y (pass_trace_of_passes (keeps x v y step called is done)) w rest
+    drives_after_item (Kept y) t q r is (Break why, w, e) rest = absurd cc
+    drives_after_item LeftOut t q r is w rest = drained_after_first (step_left_out x v step called is) (subst (λ c. DrivesOfFolding u (c, k.1) r t q) w.1 rest)
+    drives_after_item (Failure d) t q r is w rest = absurd (let e = w.0 in cc)
+    drives_after_item End t q r is w rest = absurd (let e = w.0 in cc)
 
   drives_items_through : (items : List X) (last : Answered X E) (s t : S) (p k q : C × F) (r : Answered (Answered R E) E) → Run steps s (map item items ++ last ∷ []) t → FoldsTo (goes_on TurnedOfFolding) p items k → DriveExit TurnedOfFolding k last r q → DrivesOfFolding s p (within r) t q
   drives_items_through [] last s t p k q r ran went at = drives_last_through last s t p q r (subst (λ (u : S). steps s last u) ran.2 ran.1) (subst (λ (z : C × F). DriveExit TurnedOfFolding z last r q) (sym went) at)
   drives_items_through (x ∷ items) last s t p k q r ran went at = let turned = went.1 in
-      drives_on x turned.0 s ran.0 p went.0 ran.1 turned.1 (outcome x turned.0) t q (within r) refl turned.2 (drives_items_through items last ran.0 t went.0 k q r ran.2 went.2 at)
+      drives_after_item x turned.0 s ran.0 p went.0 ran.1 turned.1 (outcome x turned.0) t q (within r) refl turned.2 (drives_items_through items last ran.0 t went.0 k q r ran.2 went.2 at)
 
   -- ---- where the source's turn may be taken
 
@@ -125,17 +125,17 @@ module _ {S C F X V B E R : Type 0} (steps : S → Answered X E → S → Type 0
     abbrev HoldsOfFolding : S → C × F → Type 0
     HoldsOfFolding s p = HoldsAtEachTurn StepsOfFolding (goes_on turns) P (s, p.1) p.0
 
-    holds_of_goes_on : (x : X) (v : V) (o : Outcome B E) (s u : S) (p k : C × F) → steps s (item x) u → call p.1 x v k.1 → outcome x v ≡ o → TurnedBy {E = E} turns p.0 o (Continue tt) k.0 → HoldsOfFolding s p → HoldsOfFolding u k
-    holds_of_goes_on x v (Kept y) s u p k step called is (Continue z, w, e) holds = holds_each_turn_after holds (pass_trace_of_passes (keeps x v y step called is done)) w
-    holds_of_goes_on x v (Kept y) s u p k step called is (Break why, w, e) holds = absurd cc
-    holds_of_goes_on x v LeftOut s u p k step called is w holds = subst (λ c. HoldsOfFolding u (c, k.1)) (sym w.1) (holds_each_turn_after_first (step_left_out x v step called is) holds)
-    holds_of_goes_on x v (Failure d) s u p k step called is w holds = absurd (let e = w.0 in cc)
-    holds_of_goes_on x v End s u p k step called is w holds = absurd (let e = w.0 in cc)
+    holds_after_item : (x : X) (v : V) (o : Outcome B E) (s u : S) (p k : C × F) → steps s (item x) u → call p.1 x v k.1 → outcome x v ≡ o → TurnedBy {E = E} turns p.0 o (Continue tt) k.0 → HoldsOfFolding s p → HoldsOfFolding u k
+    holds_after_item x v (Kept y) s u p k step called is (Continue z, w, e) holds = holds_each_turn_after holds (pass_trace_of_passes (keeps x v y step called is done)) w
+    holds_after_item x v (Kept y) s u p k step called is (Break why, w, e) holds = absurd cc
+    holds_after_item x v LeftOut s u p k step called is w holds = subst (λ c. HoldsOfFolding u (c, k.1)) (sym w.1) (holds_each_turn_after_first (step_left_out x v step called is) holds)
+    holds_after_item x v (Failure d) s u p k step called is w holds = absurd (let e = w.0 in cc)
+    holds_after_item x v End s u p k step called is w holds = absurd (let e = w.0 in cc)
 
     holds_of_items : (items : List X) (s t : S) (p q : C × F) → Yields steps s items t → FoldsTo (goes_on TurnedOfFolding) p items q → HoldsOfFolding s p → HoldsOfFolding t q
     holds_of_items [] s t p q ran went holds = subst (λ (u : S). HoldsOfFolding u q) ran (subst (λ z. HoldsOfFolding s z) went holds)
     holds_of_items (x ∷ items) s t p q ran went holds = let turned = went.1 in
-        holds_of_items items ran.0 t went.0 q ran.2 went.2 (holds_of_goes_on x turned.0 (outcome x turned.0) s ran.0 p went.0 ran.1 turned.1 refl turned.2 holds)
+        holds_of_items items ran.0 t went.0 q ran.2 went.2 (holds_after_item x turned.0 (outcome x turned.0) s ran.0 p went.0 ran.1 turned.1 refl turned.2 holds)
 
 -- A fold of the source by that turn is a fold of the adapter.
 pub drives_through : {S C F X V B E R : Type 0} {steps : S → Answered X E → S → Type 0} {call : F → X → V → F → Type 0} {outcome : X → V → Outcome B E} {turns : C → B → ControlFlow R (Unit {0}) → C → Type 0} {s t : S} {p q : C × F} {r : Answered (Answered R E) E}

@@ -7,9 +7,9 @@ use Rattle.fallible_contract.specs.LawForm.{TracesAre}
 module _ {P A E : Type 0} (D : P → List (Answered A E) → P → Type 0) where
   -- what the first answer of a trace leaves, and the other answers from there
   pub record FirstOf (p : P) (r : Answered A E) (rest : List (Answered A E)) (q : P) : Type 0 where
-    pub then_at : P
-    pub first : D p (r ∷ []) then_at
-    pub others : D then_at rest q
+    pub left_by_first : P
+    pub first : D p (r ∷ []) left_by_first
+    pub others : D left_by_first rest q
 
   -- A trace is its answers, one after another.
   pub record IsByAnswers : Type 0 where
@@ -24,7 +24,7 @@ is_by_answers_renamed name by = record {
   none = by.none;
   same = by.same;
   joins = λ p u q r rest d e. by.joins p u q (name r) (map name rest) d e;
-  splits = λ p q r rest d. let first = by.splits p q (name r) (map name rest) d in record { then_at = first.then_at; first = first.first; others = first.others };
+  splits = λ p q r rest d. let first = by.splits p q (name r) (map name rest) d in record { left_by_first = first.left_by_first; first = first.first; others = first.others };
 }
 
 -- A run of steps that are the definition at one answer is the definition over the whole trace.
@@ -38,7 +38,7 @@ module _ {P A E : Type 0} (D : P → List (Answered A E) → P → Type 0) (by :
 
   run_of_by_answers : (trace : List (Answered A E)) (p q : P) → D p trace q → Run at_one_answer p trace q
   run_of_by_answers [] p q d = by.same p q d
-  run_of_by_answers (r ∷ rest) p q d = let h = by.splits p q r rest d in (h.then_at, h.first, run_of_by_answers rest h.then_at q h.others)
+  run_of_by_answers (r ∷ rest) p q d = let h = by.splits p q r rest d in (h.left_by_first, h.first, run_of_by_answers rest h.left_by_first q h.others)
 
   pub runs_by_answers : (p : P) (trace : List (Answered A E)) (q : P) → Run at_one_answer p trace q ↔ D p trace q
   runs_by_answers p trace q = (by_answers_of_run trace p q, run_of_by_answers trace p q)

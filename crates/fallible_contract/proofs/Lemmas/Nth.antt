@@ -11,10 +11,10 @@ nth_exit_more n k skipped (Ok (Some x)) e h = omega (arith, e, h)
 nth_exit_more n k skipped (Ok None) e h = omega (arith, e, h)
 nth_exit_more n k skipped (Err d) e h = omega (arith, e, h)
 
-nth_exit_now : {A E : Type 0} (n : ℕ) (r : Answered A E) → n ≤ 0 → NthExit n 0 r
-nth_exit_now n (Ok (Some x)) h = omega (arith, h)
-nth_exit_now n (Ok None) h = omega arith
-nth_exit_now n (Err e) h = omega arith
+nth_exit_at_once : {A E : Type 0} (n : ℕ) (r : Answered A E) → n ≤ 0 → NthExit n 0 r
+nth_exit_at_once n (Ok (Some x)) h = omega (arith, h)
+nth_exit_at_once n (Ok None) h = omega arith
+nth_exit_at_once n (Err e) h = omega arith
 
 module _ {S A E : Type 0} {steps : S → Answered A E → S → Type 0} where
   -- a skipped item, and then the rest
@@ -22,12 +22,12 @@ module _ {S A E : Type 0} {steps : S → Answered A E → S → Type 0} where
   nth_drains_after {r = r} n k x e step rest = drained_of_longer x step (λ skipped last h. record { is = h.is; exit = nth_exit_more n k (length skipped) r e h.exit }) rest
 
   -- the answer comes with no item skipped
-  pub nth_drains_now : {s t : S} {r : Answered A E} (n : ℕ) → NthExit n 0 r → steps s r t → NthDrains steps s n r t
-  nth_drains_now {r = r} n exit step = drained_by_last r step (record { is = refl; exit = exit })
+  pub nth_drains_at_once : {s t : S} {r : Answered A E} (n : ℕ) → NthExit n 0 r → steps s r t → NthDrains steps s n r t
+  nth_drains_at_once {r = r} n exit step = drained_by_last r step (record { is = refl; exit = exit })
 
   -- the answer to a draw where nothing is left to skip
   pub nth_drains_next : {s t : S} (n : ℕ) (r : Answered A E) → n ≤ 0 → steps s r t → NthDrains steps s n r t
-  nth_drains_next n r none step = nth_drains_now n (nth_exit_now n r none) step
+  nth_drains_next n r none step = nth_drains_at_once n (nth_exit_at_once n r none) step
 
 -- ---- as one fold
 

@@ -43,7 +43,7 @@ module _ {S F X R B E : Type 0} (steps : S → Answered X E → S → Type 0) (c
   first_passed_split s t f g r rest (leaves_out {u = u} {h = h} x v step called is p) = let q = first_passed_split u t h g r rest p in record { source = q.source; closure = q.closure; first = leaves_out x v step called is q.first; others = q.others }
 
   first_of_passes_some : (s t : S) (f g : F) (r : Answered B E) (rest : List (Answered B E)) → FirstPassed s f r rest t g → FirstOf (PassTrace steps call outcome) (s, f) r rest (t, g)
-  first_of_passes_some s t f g r rest q = record { then_at = (q.source, q.closure); first = pass_trace_of_passes q.first; others = pass_trace_of_passes q.others }
+  first_of_passes_some s t f g r rest q = record { left_by_first = (q.source, q.closure); first = pass_trace_of_passes q.first; others = pass_trace_of_passes q.others }
 
   passes_nil_same : (s t : S) (f g : F) → Passes steps call outcome s f [] t g → ◌≡◌ {A = S × F} (s, f) (t, g)
   passes_nil_same s _ f _ done = refl

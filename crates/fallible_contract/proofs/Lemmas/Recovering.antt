@@ -112,8 +112,8 @@ module _ {S F X D V E C R : Type 0} (steps : S → Answered X D → S → Type 0
     holds_each_turn_before h = holds_each_turn_after_items met.items (s, f) (met.at, f) c b (yields_recovered f met.items s met.at met.ran) met.went h
 
     -- the caller's turn may be taken on the item that it becomes
-    pub folding_takes_at : (pre : F → D → Type 0) {P : C → X → Type 0} → pre f d → HoldsAtEachTurn StepOfRecovering (goes_on turns) P (s, f) c → FoldingTakes call outcome pre P (b, f) d
-    folding_takes_at pre can h = (can, (λ v g y called is. holds_at_first_turn (holds_each_turn_before h) (failure_to_item steps call outcome d v met.fails called y is)))
+    pub folding_takes_of_holds : (pre : F → D → Type 0) {P : C → X → Type 0} → pre f d → HoldsAtEachTurn StepOfRecovering (goes_on turns) P (s, f) c → FoldingTakes call outcome pre P (b, f) d
+    folding_takes_of_holds pre can h = (can, (λ v g y called is. holds_at_first_turn (holds_each_turn_before h) (failure_to_item steps call outcome d v met.fails called y is)))
 
     drives_to_stop_by : (v : V) (g : F) (o : Outcome X E) (z : C) (r : Answered R E) → call f d v g → outcome d v ≡ o → TurnedBy turns b o (Break r) z → DrivesOfRecovering (met.at, f) b r (t, g) z
     drives_to_stop_by v g (Kept y) z r called is (Continue u, w, e) = absurd cc
@@ -144,8 +144,8 @@ module _ {S F X D V E C R : Type 0} (steps : S → Answered X D → S → Type 0
     pub drives_on_after : {g : F} {y z : C} {r : Answered R E} {q : S × F} → FoldingTurn call outcome turns (b, f) d (Continue tt) (y, g) → DrivesOfRecovering (t, g) y r q z → DrivesOfRecovering (s, f) c r q z
     drives_on_after {g} {y} {z} {r} {q} w rest = drives_after (drives_on_by w.0 g (outcome d w.0) y z r q w.1 refl w.2 rest)
 
-    pub holds_each_turn_on : {P : C → X → Type 0} {g : F} {y : C} → FoldingTurn call outcome turns (b, f) d (Continue tt) (y, g) → HoldsAtEachTurn StepOfRecovering (goes_on turns) P (s, f) c → HoldsAtEachTurn StepOfRecovering (goes_on turns) P (t, g) y
-    holds_each_turn_on {P} {g} {y} w h = holds_each_turn_by P w.0 g (outcome d w.0) y w.1 refl w.2 (holds_each_turn_before h)
+    pub holds_each_turn_past_turn : {P : C → X → Type 0} {g : F} {y : C} → FoldingTurn call outcome turns (b, f) d (Continue tt) (y, g) → HoldsAtEachTurn StepOfRecovering (goes_on turns) P (s, f) c → HoldsAtEachTurn StepOfRecovering (goes_on turns) P (t, g) y
+    holds_each_turn_past_turn {P} {g} {y} w h = holds_each_turn_by P w.0 g (outcome d w.0) y w.1 refl w.2 (holds_each_turn_before h)
 
 -- ---- what a failure that was met leaves of the source
 

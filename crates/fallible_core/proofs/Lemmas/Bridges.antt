@@ -100,10 +100,10 @@ module _ {A E : Type 0} where
   none_of_no_items o e = cc
 
 -- of items alone nothing is left out
-pub items_unwrapped : {A : Type 0} (E : Type 0) (l : List A) → unwrapped (items {E = E} l) ≡ l
+pub unwrapped_items : {A : Type 0} (E : Type 0) (l : List A) → unwrapped (items {E = E} l) ≡ l
 unfolding items unwrapped
-items_unwrapped E [] = refl
-items_unwrapped E (x ∷ l) = ap {B = List _} (λ t. x ∷ t) (items_unwrapped E l)
+unwrapped_items E [] = refl
+unwrapped_items E (x ∷ l) = ap {B = List _} (λ t. x ∷ t) (unwrapped_items E l)
 
 none_unwrapped : (A E : Type 0) → unwrapped {A = A} {E = E} [] ≡ []
 unfolding unwrapped

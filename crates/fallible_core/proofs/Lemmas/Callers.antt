@@ -11,6 +11,7 @@ use Rattle.fallible_contract.specs.Folds.{HoldsAtEachTurn, CountExit, FoldExit, 
 use Rattle.fallible_contract.specs.Passing.{PassTrace}
 use Rattle.fallible_contract.specs.Laws.Passing.{Passes, done, end_passes, failure_passes, keeps, refuses, closes, leaves_out, passes_of_pass_trace}
 use Rattle.fallible_contract.proofs.Lemmas.LawForm.{runs_by_answers}
+pub use Rattle.fallible_contract.proofs.Lemmas.Lists.ForGood.{run_seen}
 use Rattle.fallible_contract.proofs.Lemmas.Folds.{holds_each_turn_below, number_counted_up}
 use Rattle.fallible_contract.proofs.Lemmas.Passing.{passing_by_answers}
 use Rattle.fallible_core.specs.Cutting.Take.{take_step, take_contract, take_parts}
@@ -54,11 +55,6 @@ module _ {A E : Type 0} where
 pub turns_split : {P A : Type 0} (R : P → A → P → Type 0) (xs ys : List A) (p r : P) → FoldsTo R p (xs ++ ys) r → (q : P) × FoldsTo R p xs q × FoldsTo R q ys r
 turns_split R [] ys p r h = (p, refl, h)
 turns_split R (x ∷ xs) ys p r h = let k = turns_split R xs ys h.0 r h.2 in (k.0, (h.0, h.1, k.1), k.2)
-
--- a run of a type is one of what its values are seen as
-pub run_seen : {S P A E : Type 0} (view : S → P) (steps : P → Answered A E → P → Type 0) (trace : List (Answered A E)) (s t : S) → Run (λ u r v. steps (view u) r (view v)) s trace t → Run steps (view s) trace (view t)
-run_seen view steps [] s t e = ap view e
-run_seen view steps (r ∷ rest) s t h = (view h.0, h.1, run_seen view steps rest h.0 t h.2)
 
 -- ---- a fold whose closure counts
 
@@ -163,13 +159,13 @@ module _ {S A E : Type 0} (steps : S → Answered A E → S → Type 0) where
   taken_run_one_more n s u t x xs last step (inl d) = let few = d.1 in inl ((u, step, d.0), omega (arith, few))
   taken_run_one_more n s u t x xs last step (inr d) = let all = d.2 in inr ((u, step, d.0), d.1, omega (arith, all))
 
-  taken_run_at : (xs : List A) (last : Answered A E) (n k : ℕ) (s t : S) → Run (take_step steps) (s, n) (map item xs ++ last ∷ []) (t, k) → TakenRun steps n s xs last t
-  taken_run_at [] last zero k s t ran = inr (sym ran.1.1 ∙ ap (λ p. p.0) ran.2, ran.1.0, refl)
-  taken_run_at [] last (suc n) k s t ran = inl ((t, subst (λ (u : S). steps s last u) (ap (λ p. p.0) ran.2) ran.1.0, refl), omega arith)
-  taken_run_at (x ∷ xs) last zero k s t ran = absurd (let e = ran.1.0 in cc)
-  taken_run_at (x ∷ xs) last (suc n) k s t ran =
+  taken_run_of_run : (xs : List A) (last : Answered A E) (n k : ℕ) (s t : S) → Run (take_step steps) (s, n) (map item xs ++ last ∷ []) (t, k) → TakenRun steps n s xs last t
+  taken_run_of_run [] last zero k s t ran = inr (sym ran.1.1 ∙ ap (λ p. p.0) ran.2, ran.1.0, refl)
+  taken_run_of_run [] last (suc n) k s t ran = inl ((t, subst (λ (u : S). steps s last u) (ap (λ p. p.0) ran.2) ran.1.0, refl), omega arith)
+  taken_run_of_run (x ∷ xs) last zero k s t ran = absurd (let e = ran.1.0 in cc)
+  taken_run_of_run (x ∷ xs) last (suc n) k s t ran =
       let one_less : ran.0.1 ≡ n = let e = ran.1.1 in omega (arith, e) in
-      taken_run_one_more n s ran.0.0 t x xs last ran.1.0 (subst (λ (j : ℕ). TakenRun steps j ran.0.0 xs last t) one_less (taken_run_at xs last ran.0.1 k ran.0.0 t ran.2))
+      taken_run_one_more n s ran.0.0 t x xs last ran.1.0 (subst (λ (j : ℕ). TakenRun steps j ran.0.0 xs last t) one_less (taken_run_of_run xs last ran.0.1 k ran.0.0 t ran.2))
 
 pub taken_run : {I A E : Type 0} (m : Contract I A E) (n : ℕ) (it : I) (s t : Take I) (xs : List A) (last : Answered A E) → take_parts s ≡ (it, n) → Run (seen_as take_parts (take_contract m)).steps s (map item xs ++ last ∷ []) t → TakenRun m.steps n it xs last t.it
-taken_run {I = I} m n it s t xs last parts ran = taken_run_at m.steps xs last n t.to_take it t.it (subst (λ (p : I × ℕ). Run (take_step m.steps) p (map item xs ++ last ∷ []) (take_parts t)) parts (run_seen take_parts _ (map item xs ++ last ∷ []) s t ran))
+taken_run {I = I} m n it s t xs last parts ran = taken_run_of_run m.steps xs last n t.to_take it t.it (subst (λ (p : I × ℕ). Run (take_step m.steps) p (map item xs ++ last ∷ []) (take_parts t)) parts (run_seen take_parts _ (map item xs ++ last ∷ []) s t ran))

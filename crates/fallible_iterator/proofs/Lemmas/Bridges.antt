@@ -12,7 +12,7 @@ use Rattle.fallible_contract.specs.BothEnds.{RunAtEnds}
 use Rattle.fallible_contract.specs.Lists.{AlwaysGives, Lists}
 use Rattle.fallible_contract.specs.Laws.Contract.{kept_by_draws_run}
 -- a lemma of `fallible_core`, reexported
-pub use Rattle.fallible_core.proofs.Lemmas.Bridges.{items_unwrapped}
+pub use Rattle.fallible_core.proofs.Lemmas.Bridges.{unwrapped_items}
 use Rattle.fallible_iterator.specs.Sources.Std.{std_step, element_by, IsAskable, IsAskableAtEnds}
 use Rattle.fallible_contract.specs.declared.answers.Side.{Side}
 use Rattle.fallible_contract.specs.declared.answers.Side.TheVariants.{Front, Back}

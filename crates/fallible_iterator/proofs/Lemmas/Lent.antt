@@ -77,7 +77,7 @@ last_is_end call from b f (Err e) v exit = absurd (let h = exit.2 in cc)
 last_is_end call from b f (Ok (Some x)) v exit = absurd (let h = exit.2 in cc)
 
 -- a fold that came to its end drew its items and then an end
-pub run_to_end : {S A B E E' F : Type 0} {steps : S → Answered A E → S → Type 0} {call : F → B → A → Result B E' → F → Type 0} {from : E → E' → Type 0} {s t : S} {b v : B} {f : F} (d : FoldDrains steps call from s b f (Ok v) t) → Run steps s (map item d.items ++ end ∷ []) t
+run_to_end : {S A B E E' F : Type 0} {steps : S → Answered A E → S → Type 0} {call : F → B → A → Result B E' → F → Type 0} {from : E → E' → Type 0} {s t : S} {b v : B} {f : F} (d : FoldDrains steps call from s b f (Ok v) t) → Run steps s (map item d.items ++ end ∷ []) t
 run_to_end {steps = steps} {call = call} {from = from} {s = s} {t = t} {v = v} d = subst (λ (r : Answered _ _). Run steps s (map item d.items ++ r ∷ []) t) (last_is_end call from d.at.value d.at.closure d.last v d.at.exit) d.ran
 
 -- the steps of `take` of a borrow of what steps so
@@ -121,12 +121,12 @@ module _ {S A E : Type 0} {steps : S → Answered A E → S → Type 0} {it : Mu
 abbrev pub lent_filter_steps : {S P A E : Type 0} → (S → Answered A E → S → Type 0) → Mut P (Bor A × Unit {0}) (Result Bool E) → Filter (Take (MutBor S)) P → Answered A E → Filter (Take (MutBor S)) P → Type 0
 lent_filter_steps steps g = (seen_as filter_parts (filter_contract (seen_as take_parts (take_contract (borrowed (unbounded_contract steps)))) g)).steps
 
-module _ {S P A E : Type 0} {steps : S → Answered A E → S → Type 0} {g : Mut P (Bor A × Unit {0}) (Result Bool E)} {it : MutBor S} {tk : Take (MutBor S)} {p : P} (s t : Filter (Take (MutBor S)) P) {x : S} (k : ℕ) {l : List (Result A E)} (h : A → Bool) where
-  -- After a run over `take(k + 1).filter(p)` of a borrow that came to its end, the lender lists what comes after its first k + 1 items, where it has so many.
-  pub lists_rest_lent_run : Acts (call_at g) p (λ y. Ok (h y)) → x ≡ t.it.it.now → take_parts tk ≡ (it, suc k) → filter_parts s ≡ (tk, p) → (xs : List A) → Run (lent_filter_steps steps g) s (map item xs ++ end ∷ []) t → Lists steps it.now l → ¬ (nth_of k l ≡ Ok None) → Lists steps x (rest_nth k l)
-  lists_rest_lent_run acts back taken parts xs ran i no_end =
+module _ {S P A E : Type 0} {steps : S → Answered A E → S → Type 0} {g : Mut P (Bor A × Unit {0}) (Result Bool E)} {it : MutBor S} {tk : Take (MutBor S)} {p : P} {s t : Filter (Take (MutBor S)) P} {x : S} {k : ℕ} {l : List (Result A E)} {B E' F : Type 0} {call : F → B → A → Result B E' → F → Type 0} {from : E → E' → Type 0} {b v : B} {f : F} (h : A → Bool) where
+  -- After a fold over `take(k + 1).filter(p)` of a borrow that came to its end, the lender lists what comes after its first k + 1 items, where it has so many.
+  pub lists_rest_lent_filter : Acts (call_at g) p (λ y. Ok (h y)) → x ≡ t.it.it.now → take_parts tk ≡ (it, suc k) → filter_parts s ≡ (tk, p) → FoldDrains (lent_filter_steps steps g) call from s b f (Ok v) t → Lists steps it.now l → ¬ (nth_of k l ≡ Ok None) → Lists steps x (rest_nth k l)
+  lists_rest_lent_filter acts back taken parts d i no_end =
       let m : Contract S A E = unbounded_contract steps in
-      let under = filtered_run (seen_as take_parts (take_contract (borrowed m))) g h p tk s t xs end acts parts ran in
+      let under = filtered_run (seen_as take_parts (take_contract (borrowed m))) g h p tk s t d.items end acts parts (run_to_end d) in
       let left : Lists steps t.it.it.now (rest_nth k l) = record { runs = always_gives_rest_nth steps under.items k l it.now t.it.it.now i.runs no_end (run_of_lender m under.items k it t.it.it (taken_run (borrowed m) (suc k) it tk t.it under.items end taken under.ran)) } in
       rw back left
 
@@ -151,24 +151,24 @@ right_drawn x others (both_drawn (Some z) (Ok None)) u v is step = (Ok None, ste
 right_drawn x others (both_drawn (Some z) (Err e)) u v is step = (Err e, step, refl)
 
 -- the answer of a place at which the left failed
-zip_answer_left_failed_at : {A B E : Type 0} {e : E} (p : ZipPlace A B E) → left_answer p ≡ Err e → zip_answer p ≡ Err e
-zip_answer_left_failed_at (left_failed d) is = cc
-zip_answer_left_failed_at (both_drawn z r) is = absurd cc
+zip_answer_of_left_failure : {A B E : Type 0} {e : E} (p : ZipPlace A B E) → left_answer p ≡ Err e → zip_answer p ≡ Err e
+zip_answer_of_left_failure (left_failed d) is = cc
+zip_answer_of_left_failure (both_drawn z r) is = absurd cc
 
 -- what a step of a borrow makes of the value that it points to
 lent_step : {S A E : Type 0} (steps : S → Answered A E → S → Type 0) {it u : MutBor S} (v : MutBor S) (r : Answered A E) → u ≡ it → steps u.now r v.now → steps it.now r v.now
 lent_step steps v r same step = subst (λ (u : MutBor _). steps u.now r v.now) same step
 
-module _ {S U A B E : Type 0} {steps : S → Answered A E → S → Type 0} {others : U → Answered B E → U → Type 0} {it : MutBor S} {other : MutBor U} (s t : Zip (MutBor S) (MutBor U)) {r : Answered (A × B) E} where
+module _ {S U A B E : Type 0} {steps : S → Answered A E → S → Type 0} {others : U → Answered B E → U → Type 0} {it : MutBor S} {other : MutBor U} {s : Zip (MutBor S) (MutBor U)} (t : Zip (MutBor S) (MutBor U)) {r : Answered (A × B) E} where
   -- A draw over `zip` of two borrows returns the first pair, or the failure in its place, where the lists don't end there. A pair leaves each lender without its first.
-  pub pair_lent : (a : List (Result A E)) (b : List (Result B E)) → s.left ≡ it → s.right ≡ other → lent_zip_steps steps others s r t → Lists steps it.now a → Lists others other.now b → ¬ (nth_of 0 (zipped a b) ≡ Ok None) → (r ≡ nth_of 0 (zipped a b)) × ((p : Option (A × B)) → r ≡ Ok p → Lists steps t.left.now (rest_first a) × Lists others t.right.now (rest_first b))
+  pub pair_lent : {a : List (Result A E)} {b : List (Result B E)} → s.left ≡ it → s.right ≡ other → lent_zip_steps steps others s r t → Lists steps it.now a → Lists others other.now b → ¬ (nth_of 0 (zipped a b) ≡ Ok None) → (r ≡ nth_of 0 (zipped a b)) × ((p : Option (A × B)) → r ≡ Ok p → Lists steps t.left.now (rest_first a) × Lists others t.right.now (rest_first b))
   unfolding nth_of zipped
-  pair_lent [] b left right w i j no_end = absurd (no_end refl)
-  pair_lent (Ok x ∷ a) [] left right w i j no_end = absurd (no_end refl)
-  pair_lent (Err e ∷ a) b left right w i j no_end =
-      let failed : r ≡ Err e = w.3 ∙ zip_answer_left_failed_at w.0 (nth_of_0_of_lists t.left.now (Err e ∷ a) (lent_step steps t.left (left_answer w.0) left w.1.0) i) in
+  pair_lent {a = []} left right w i j no_end = absurd (no_end refl)
+  pair_lent {a = Ok x ∷ a} {b = []} left right w i j no_end = absurd (no_end refl)
+  pair_lent {a = Err e ∷ a} left right w i j no_end =
+      let failed : r ≡ Err e = w.3 ∙ zip_answer_of_left_failure w.0 (nth_of_0_of_lists t.left.now (Err e ∷ a) (lent_step steps t.left (left_answer w.0) left w.1.0) i) in
       (failed, λ p is. absurd cc)
-  pair_lent (Ok x ∷ a) (Ok y ∷ b) left right w i j no_end =
+  pair_lent {a = Ok x ∷ a} {b = Ok y ∷ b} left right w i j no_end =
       let of_left : steps it.now (left_answer w.0) t.left.now = lent_step steps t.left (left_answer w.0) left w.1.0 in
       let at_left : left_answer w.0 ≡ Ok (Some x) = nth_of_0_of_lists t.left.now (Ok x ∷ a) of_left i in
       let d = right_drawn x (borrowed (unbounded_contract others)).steps w.0 s.right t.right at_left w.2 in
@@ -176,7 +176,7 @@ module _ {S U A B E : Type 0} {steps : S → Answered A E → S → Type 0} {oth
       let same : d.0 ≡ Ok (Some y) = nth_of_0_of_lists t.right.now (Ok y ∷ b) of_right j in
       let pair : r ≡ Ok (Some (x, y)) = w.3 ∙ d.2 ∙ ap (paired_of_lent x) same in
       (pair, λ p is. (lists_rest_first (Ok x ∷ a) of_left i (λ e. cc), lists_rest_first (Ok y ∷ b) of_right j (λ e. cc)))
-  pair_lent (Ok x ∷ a) (Err e ∷ b) left right w i j no_end =
+  pair_lent {a = Ok x ∷ a} {b = Err e ∷ b} left right w i j no_end =
       let of_left : steps it.now (left_answer w.0) t.left.now = lent_step steps t.left (left_answer w.0) left w.1.0 in
       let at_left : left_answer w.0 ≡ Ok (Some x) = nth_of_0_of_lists t.left.now (Ok x ∷ a) of_left i in
       let d = right_drawn x (borrowed (unbounded_contract others)).steps w.0 s.right t.right at_left w.2 in
@@ -199,7 +199,7 @@ module _ {S U A E : Type 0} (steps : S → Answered A E → S → Type 0) (other
   drawn_of_first (s, u, FirstAlone) d r a at w i no_end = absurd cc
   drawn_of_first (s, u, SecondAlone) d r a at w i no_end = absurd cc
 
-module _ {S U A E : Type 0} {steps : S → Answered A E → S → Type 0} {others : U → Answered A E → U → Type 0} {it : MutBor S} {other : MutBor U} (s t : Chain (MutBor S) (MutBor U)) {r : Answered A E} {a b : List (Result A E)} where
+module _ {S U A E : Type 0} {steps : S → Answered A E → S → Type 0} {others : U → Answered A E → U → Type 0} {it : MutBor S} {other : MutBor U} {s : Chain (MutBor S) (MutBor U)} (t : Chain (MutBor S) (MutBor U)) {r : Answered A E} {a b : List (Result A E)} where
   -- A draw over `chain` of two borrows of which the first doesn't end returns its first, and leaves the first lender without it, and the second as it was.
   pub chain_lent : s.first ≡ it → s.second ≡ other → s.still_drawn ≡ Both → lent_chain_steps steps others s r t → Lists steps it.now a → Lists others other.now b → ¬ (nth_of 0 a ≡ Ok None) → (r ≡ nth_of 0 a) × Lists steps t.first.now (rest_first a) × Lists others t.second.now b
   chain_lent first second still w i j no_end =

@@ -27,13 +27,13 @@ module _ {S F X E : Type 0} (steps : S → Answered X E → S → Type 0) (call 
   unfolding searched
   searched_all_of_rest n x l is found = sym (ap (λ (v : Result Bool E). decided (all_pick n x) v (searched all_pick true h (n + 1) l)) is) ∙ found
 
-  rest_stop_on : (x : X) (l : List (Result X E)) → h x ≡ Ok true → rest_stop not h (Ok x ∷ l) ≡ rest_stop not h l
+  rest_stop_past_true : (x : X) (l : List (Result X E)) → h x ≡ Ok true → rest_stop not h (Ok x ∷ l) ≡ rest_stop not h l
   unfolding rest_stop
-  rest_stop_on x l is = ap (λ (v : Result Bool E). rest_answer not v l (rest_stop not h l)) is
+  rest_stop_past_true x l is = ap (λ (v : Result Bool E). rest_answer not v l (rest_stop not h l)) is
 
-  rest_stop_here : (x : X) (l : List (Result X E)) → h x ≡ Ok false → rest_stop not h (Ok x ∷ l) ≡ l
+  rest_stop_after_false : (x : X) (l : List (Result X E)) → h x ≡ Ok false → rest_stop not h (Ok x ∷ l) ≡ l
   unfolding rest_stop
-  rest_stop_here x l is = ap (λ (v : Result Bool E). rest_answer not v l (rest_stop not h l)) is
+  rest_stop_after_false x l is = ap (λ (v : Result Bool E). rest_answer not v l (rest_stop not h l)) is
 
   all_of_never_false : (n : ℕ) → searched all_pick true h n [] ≡ Ok false → ⊥
   unfolding searched
@@ -53,7 +53,7 @@ module _ {S F X E : Type 0} (steps : S → Answered X E → S → Type 0) (call 
       let q = a (item x) t d.0 in
       let same : x ≡ y = (let z = q.0 in cc) in
       let made : h y ≡ Ok false = (let c = (acts x (Ok false) (d.1).0 (subst (λ (k : F). call k x (Ok false) (d.1).0) at (d.1).1)).1 in cc) in
-      subst (λ (k : List (Result X E)). AlwaysGives steps t k) (sym (rest_stop_here y l made)) q.1
+      subst (λ (k : List (Result X E)). AlwaysGives steps t k) (sym (rest_stop_after_false y l made)) q.1
 
   -- an item that is kept
   item_is_kept : (x : Place X (Result Bool E) E) (y : X) (s t : S) (j g : F) → j ≡ f → place_drawn steps call (s, j) x (t, g) → item y ≡ taken_answer x → steps s (item y) t × (g ≡ f) × (h y ≡ Ok true) × (is_refused x ≡ false)
@@ -81,7 +81,7 @@ module _ {S F X E : Type 0} (steps : S → Answered X E → S → Type 0) (call 
       let same : x ≡ y = (let z = q.0 in cc) in
       let made : h y ≡ Ok true = (let v = k.2 in cc) in
       let open_still : (ran.0).1 ≡ false = w.3 ∙ k.3 in
-      subst (λ (m : List (Result X E)). AlwaysGives steps t m) (sym (rest_stop_on y l made))
+      subst (λ (m : List (Result X E)). AlwaysGives steps t m) (sym (rest_stop_past_true y l made))
       (always_gives_rest_stop xs (n + 1) l u t i g b k.1 q.1 (subst (λ (c : Bool). Run step_until_refused ((u, i), c) (map item xs ++ end ∷ []) ((t, g), b)) open_still ran.2) (searched_all_of_rest n y l made found))
 
 -- the steps of `take_while` of a borrow of what steps so
@@ -105,8 +105,8 @@ module _ {S P A E : Type 0} (steps : S → Answered A E → S → Type 0) (g : M
 
 module _ {S P A E B E' F : Type 0} {steps : S → Answered A E → S → Type 0} {g : Mut P (Bor A × Unit {0}) (Result Bool E)} {it : MutBor S} {p : P} {s t : TakeWhile (MutBor S) P} {l : List (Result A E)} {call : F → B → A → Result B E' → F → Type 0} {from : E → E' → Type 0} {b v : B} {f : F} {x : S} where
   -- After a fold over `take_while` of a borrow that came to its end, the lender lists what comes after the first item that the predicate rejects, where there is one.
-  pub lists_rest_lent_while : (h : A → Result Bool E) → Acts (call_at g) p h → x ≡ t.it.now → take_while_source s ≡ it → take_while_predicate s ≡ p → take_while_refused s ≡ false → FoldDrains (until_steps steps g) call from s b f (Ok v) t → Lists steps it.now l → all_of h l ≡ Ok false → Lists steps x (rest_false h l)
-  lists_rest_lent_while h acts back source predicate refused d i found =
+  pub lists_rest_lent_while : {h : A → Result Bool E} → Acts (call_at g) p h → x ≡ t.it.now → take_while_source s ≡ it → take_while_predicate s ≡ p → take_while_refused s ≡ false → FoldDrains (until_steps steps g) call from s b f (Ok v) t → Lists steps it.now l → all_of h l ≡ Ok false → Lists steps x (rest_false h l)
+  lists_rest_lent_while {h = h} acts back source predicate refused d i found =
       let parts : take_while_parts s ≡ ((it, p), false) = cc in
       let ended : d.last ≡ end = last_is_end call from d.at.value d.at.closure d.last v d.at.exit in
       let ran = subst (λ (r : Answered _ _). Run (until_steps steps g) s (map item d.items ++ r ∷ []) t) ended d.ran in

@@ -13,8 +13,8 @@ abbrev pub Looked : {S A E : Type 0} → (S → Answered A E → S → Type 0) �
 Looked {A = A} {E = E} steps s r t = (l : List (Result A E)) → Lists steps s l → (r ≡ nth_of 0 l) × Lists steps t (rest_look l)
 
 -- what is counted down before a look is so after it
-pub counts_down_on : {S A E : Type 0} {m : Contract S A E} {s t : S} {left : ℕ} → CountsDown m s left → Stays m s t → CountsDown m t left
-counts_down_on counts stays = let k = stays.bound counts.1.0 counts.1.1 in (stays.can_next, (k.0, k.1, (let below = k.2 in let up_to = counts.1.2 in omega arith)))
+pub counts_down_after_look : {S A E : Type 0} {m : Contract S A E} {s t : S} {left : ℕ} → CountsDown m s left → Stays m s t → CountsDown m t left
+counts_down_after_look counts stays = let k = stays.bound counts.1.0 counts.1.1 in (stays.can_next, (k.0, k.1, (let below = k.2 in let up_to = counts.1.2 in omega arith)))
 
 -- and one less is counted after a `next_if` that took an item
 pub counts_down_taken : {S A E : Type 0} (m : Contract S A E) {s t : Peekable S A E} {left less : ℕ} → CountsDown (seen_as peekable_parts (peekable_contract m)) s left → Fewer (peekable_contract m) (peekable_parts s) (peekable_parts t) → Stays (peekable_contract m) (peekable_parts s) (peekable_parts t) → less + 1 ≡ left → CountsDown (seen_as peekable_parts (peekable_contract m)) t less

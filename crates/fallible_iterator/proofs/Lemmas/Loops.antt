@@ -37,8 +37,8 @@ module _ {S A E B R : Type 0} where
 
   module _ {steps : S → Answered A E → S → Type 0} {answers : B → List (Result A E) → R} {s0 s t : S} {b0 b : B} {r : Answered A E} where
     -- after an item on which the loop goes on with the value c
-    pub answers_from_here_on : (x : A) {c : B} → AnswersFromHere steps answers s0 b0 s b → steps s r t → r ≡ Ok (Some x) → ((l : List (Result A E)) → answers b (Ok x ∷ l) ≡ answers c l) → AnswersFromHere steps answers s0 b0 t c
-    answers_from_here_on x {c = c} here drawn is same = record { at = λ whole i. let k = here.at whole i in lists_after_item steps answers s t b r drawn x c _ k.0 is same k.1.runs k.2 }
+    pub answers_after_item : (x : A) {c : B} → AnswersFromHere steps answers s0 b0 s b → steps s r t → r ≡ Ok (Some x) → ((l : List (Result A E)) → answers b (Ok x ∷ l) ≡ answers c l) → AnswersFromHere steps answers s0 b0 t c
+    answers_after_item x {c = c} here drawn is same = record { at = λ whole i. let k = here.at whole i in lists_after_item steps answers s t b r drawn x c _ k.0 is same k.1.runs k.2 }
 
     -- at an item at which the loop is left with v
     pub answer_at_stop : (x : A) {v : R} → AnswersFromHere steps answers s0 b0 s b → steps s r t → r ≡ Ok (Some x) → ((l : List (Result A E)) → v ≡ answers b (Ok x ∷ l)) → (whole : List (Result A E)) → Lists steps s0 whole → v ≡ answers b0 whole

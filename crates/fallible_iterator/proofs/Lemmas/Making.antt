@@ -10,6 +10,7 @@ use Rattle.fallible_contract.specs.Collecting.{Collects}
 use Rattle.fallible_contract.specs.Passing.{passing_step}
 use Rattle.fallible_contract.specs.Laws.Passing.{Passes, done, end_passes, failure_passes, keeps, refuses, closes, leaves_out, passes_of_pass_trace}
 use Rattle.fallible_contract.specs.Lists.{AlwaysGives, Converts, Lists, before, collected, counted, folded, one_more_than}
+use Rattle.fallible_contract.proofs.Lemmas.Lists.Passing.{end_of_nil, failure_of_first}
 use Rattle.fallible_core.specs.OneToOne.Map.{map_outcome, map_parts, mapped}
 use Rattle.fallible_iterator.specs.Making.{AnswersRefusal, AtRefusal, CollectedMade, EachMade, GivesMade, IsMadeOf, IsRefusal, IsToldOrRefused, ListsMade, Makes, MakesOf, MakesWith, RefusesNext, SameOrRefused}
 use Rattle.std.specs.declared.alloc.AllocError.{AllocError}
@@ -49,22 +50,6 @@ module _ {S F X V B E : Type 0} (steps : S → Answered X E → S → Type 0) (c
   abbrev OneDrawn : S → Answered B E → S → F → Type 0
   OneDrawn s r t g = Passes steps call map_outcome s f (r ∷ []) t g
 
-  end_of_nil : (s : S) (r : Answered B E) (t : S) (g : F) → AlwaysGives {A = X} steps s [] → OneDrawn s r t g → r ≡ end
-  end_of_nil s _ t g a (end_passes step d) = refl
-  end_of_nil s _ t g a (failure_passes e step d) = absurd (let w = a (Err e) _ step in cc)
-  end_of_nil s _ t g a (keeps x v y step called is d) = absurd (let w = a (Ok (Some x)) _ step in cc)
-  end_of_nil s _ t g a (refuses x v e step called is d) = absurd (let w = a (Ok (Some x)) _ step in cc)
-  end_of_nil s _ t g a (closes x v step called is d) = absurd (let w = a (Ok (Some x)) _ step in cc)
-  end_of_nil s r t g a (leaves_out x v step called is d) = absurd (let w = a (Ok (Some x)) _ step in cc)
-
-  failure_of_first : (d : E) (l : List (Result X E)) (s : S) (r : Answered B E) (t : S) (g : F) → AlwaysGives steps s (Err d ∷ l) → OneDrawn s r t g → (r ≡ Err d) × (g ≡ f) × AlwaysGives steps t l
-  failure_of_first d l s _ t g a (end_passes step c) = absurd (let w = (a (Ok None) _ step).0 in cc)
-  failure_of_first d l s _ t g a (failure_passes e step done) = let w = a (Err e) t step in ((let q = w.0 in cc), refl, w.1)
-  failure_of_first d l s _ t g a (keeps x v y step called is c) = absurd (let w = (a (Ok (Some x)) _ step).0 in cc)
-  failure_of_first d l s _ t g a (refuses x v e step called is c) = absurd (let w = (a (Ok (Some x)) _ step).0 in cc)
-  failure_of_first d l s _ t g a (closes x v step called is c) = absurd (let w = (a (Ok (Some x)) _ step).0 in cc)
-  failure_of_first d l s r t g a (leaves_out x v step called is c) = absurd (let w = (a (Ok (Some x)) _ step).0 in cc)
-
   -- what a call on the list's item returned
   told_or_refused : (x z : X) (v : Result B E) (g : F) → z ≡ x → call f z v g → (g ≡ f) × IsToldOrRefused made from (h x) v
   told_or_refused x z v g same called = let c = makes z v g called in (c.0, subst (λ (k : X). IsToldOrRefused made from (h k) v) same c.1)
@@ -76,13 +61,13 @@ module _ {S F X V B E : Type 0} (steps : S → Answered X E → S → Type 0) (c
   after_or_failed l x e t g same a (inl r) = inl r
   after_or_failed l x e t g same a (inr m) = inr (m, same, a)
 
-  after_called_on : (x : X) (l : List (Result X E)) (s : S) (r : Answered B E) (t : S) (g : F) → AlwaysGives steps s (Ok x ∷ l) → OneDrawn s r t g → AfterItem l x r t g
-  after_called_on x l s _ t g a (end_passes step c) = absurd (let w = (a (Ok None) _ step).0 in cc)
-  after_called_on x l s _ t g a (failure_passes e step c) = absurd (let w = (a (Err e) _ step).0 in cc)
-  after_called_on x l s _ t g a (keeps z v y step called is done) = let w = a (Ok (Some z)) t step in let c = told_or_refused x z v g (let q = w.0 in cc) called in inr (is_made_of_kept made from z (h x) v y is c.1, c.0, w.1)
-  after_called_on x l s _ t g a (refuses z v e step called is done) = let w = a (Ok (Some z)) t step in let c = told_or_refused x z v g (let q = w.0 in cc) called in after_or_failed l x e t g c.0 w.1 (answers_refusal_failed_made made from z (h x) v e is c.1)
-  after_called_on x l s _ t g a (closes z v step called is c) = absurd (made_never_ends made from z v is)
-  after_called_on x l s r t g a (leaves_out z v step called is c) = absurd (none_left_out made from z v is)
+  after_draw_of_item : (x : X) (l : List (Result X E)) (s : S) (r : Answered B E) (t : S) (g : F) → AlwaysGives steps s (Ok x ∷ l) → OneDrawn s r t g → AfterItem l x r t g
+  after_draw_of_item x l s _ t g a (end_passes step c) = absurd (let w = (a (Ok None) _ step).0 in cc)
+  after_draw_of_item x l s _ t g a (failure_passes e step c) = absurd (let w = (a (Err e) _ step).0 in cc)
+  after_draw_of_item x l s _ t g a (keeps z v y step called is done) = let w = a (Ok (Some z)) t step in let c = told_or_refused x z v g (let q = w.0 in cc) called in inr (is_made_of_kept made from z (h x) v y is c.1, c.0, w.1)
+  after_draw_of_item x l s _ t g a (refuses z v e step called is done) = let w = a (Ok (Some z)) t step in let c = told_or_refused x z v g (let q = w.0 in cc) called in after_or_failed l x e t g c.0 w.1 (answers_refusal_failed_made made from z (h x) v e is c.1)
+  after_draw_of_item x l s _ t g a (closes z v step called is c) = absurd (made_never_ends made from z v is)
+  after_draw_of_item x l s r t g a (leaves_out z v step called is c) = absurd (none_left_out made from z v is)
 
   answers_refusal_then_rest : (l : List (Result X E)) (x : X) (k : List (Result V E)) → ((t : S) → AlwaysGives steps t l → GivesMadeItems t f k) → (r : Answered B E) (t : S) (g : F) → AfterItem l x r t g → AtRefusal made (passing_step steps call map_outcome) from r (t, g) ⊎ (IsMadeOf made (h x) r × GivesMadeItems t g k)
   answers_refusal_then_rest l x k later r t g (inl q) = inl (inl q)
@@ -90,9 +75,9 @@ module _ {S F X V B E : Type 0} (steps : S → Answered X E → S → Type 0) (c
 
   gives_all_made : (l : List (Result X E)) (s : S) → AlwaysGives steps s l → GivesMadeItems s f (mapped h l)
   unfolding mapped
-  gives_all_made [] s a = λ r t w. end_of_nil s r t.0 t.1 a (passes_of_pass_trace w)
-  gives_all_made (Err d ∷ l) s a = λ r t w. let k = failure_of_first d l s r t.0 t.1 a (passes_of_pass_trace w) in inr (k.0, subst (λ (g : F). GivesMadeItems t.0 g (mapped h l)) (sym k.1) (gives_all_made l t.0 k.2))
-  gives_all_made (Ok x ∷ l) s a = λ r t w. answers_refusal_then_rest l x (mapped h l) (λ u b. gives_all_made l u b) r t.0 t.1 (after_called_on x l s r t.0 t.1 a (passes_of_pass_trace w))
+  gives_all_made [] s a = λ r t w. end_of_nil a (passes_of_pass_trace w)
+  gives_all_made (Err d ∷ l) s a = λ r t w. let k = failure_of_first d l a (passes_of_pass_trace w) in inr (k.0, subst (λ (g : F). GivesMadeItems t.0 g (mapped h l)) (sym k.1) (gives_all_made l t.0 k.2))
+  gives_all_made (Ok x ∷ l) s a = λ r t w. answers_refusal_then_rest l x (mapped h l) (λ u b. gives_all_made l u b) r t.0 t.1 (after_draw_of_item x l s r t.0 t.1 a (passes_of_pass_trace w))
 
 module _ {W P V B E : Type 0} (made : V → B → Type 0) (from : AllocError → E → Type 0) (view : W → P) (steps : P → Answered B E → P → Type 0) where
   abbrev SeenSteps : W → Answered B E → W → Type 0
@@ -119,9 +104,9 @@ module _ {W P V B E : Type 0} (made : V → B → Type 0) (from : AllocError →
   lists_made_seen s p l k at same a = record { runs = seen_made k s (subst (λ (q : P). GivesMade made steps from q k) (sym at) (subst (λ (j : List (Result V E)). GivesMade made steps from p j) same a)) }
 
 -- `map` whose closure makes what h says lists what h makes, up to an allocation failure
-pub lists_made_by_map : {S F X V B E : Type 0} (steps : S → Answered X E → S → Type 0) (g : Mut F (X × Unit {0}) (Result B E)) (made : V → B → Type 0) (from : AllocError → E → Type 0) (h : X → Result V E) {it : S} {f : F} (l : List (Result X E)) {s : Map S F} → map_parts s ≡ (it, f) → Makes made from (call_on g) f h → Lists steps it l
+pub lists_made_by_map : {S F X V B E : Type 0} {steps : S → Answered X E → S → Type 0} {g : Mut F (X × Unit {0}) (Result B E)} {made : V → B → Type 0} {from : AllocError → E → Type 0} {it : S} {f : F} {l : List (Result X E)} {s : Map S F} (h : X → Result V E) → map_parts s ≡ (it, f) → Makes made from (call_on g) f h → Lists steps it l
     → ListsMade made (λ u r v. passing_step steps (call_on g) map_outcome (map_parts u) r (map_parts v)) from s (mapped h l)
-lists_made_by_map steps g made from h {it} {f} l {s} parts makes i = lists_made_seen made from map_parts (passing_step steps (call_on g) map_outcome) s (it, f) _ _ parts refl (gives_all_made steps (call_on g) made from f h makes l it i.runs)
+lists_made_by_map {steps = steps} {g = g} {made = made} {from = from} {it = it} {f = f} {l = l} {s = s} h parts makes i = lists_made_seen made from map_parts (passing_step steps (call_on g) map_outcome) s (it, f) _ _ parts refl (gives_all_made steps (call_on g) made from f h makes l it i.runs)
 
 -- ---- what one answer of what lists made values is
 
@@ -172,16 +157,8 @@ module _ {S F X Y B C E : Type 0} (steps : S → Answered B E → S → Type 0) 
   refused_one s _ t g a (closes x v step called is d) = no_item_refuses x (a (Ok (Some x)) _ step)
   refused_one s r t g a (leaves_out x v step called is d) = no_item_refuses x (a (Ok (Some x)) _ step)
 
-  refuses_behind : (t : S) (g : F) → g ≡ f → RefusesNext steps from t → RefusesNext MapSteps from (t, g)
-  refuses_behind t g same a = subst (λ (j : F). RefusesNext MapSteps from (t, j)) (sym same) (λ r q w. refused_one t r q.0 q.1 a (passes_of_pass_trace w))
-
-  map_draw_of_nil : (s : S) (r : Answered C E) (t : S) (g : F) → GivesMade of steps from s [] → MapDrawsOne s r t g → r ≡ end
-  map_draw_of_nil s _ t g a (end_passes step d) = refl
-  map_draw_of_nil s _ t g a (failure_passes e step d) = absurd (let w = a (Err e) _ step in cc)
-  map_draw_of_nil s _ t g a (keeps x v y step called is d) = absurd (let w = a (Ok (Some x)) _ step in cc)
-  map_draw_of_nil s _ t g a (refuses x v e step called is d) = absurd (let w = a (Ok (Some x)) _ step in cc)
-  map_draw_of_nil s _ t g a (closes x v step called is d) = absurd (let w = a (Ok (Some x)) _ step in cc)
-  map_draw_of_nil s r t g a (leaves_out x v step called is d) = absurd (let w = a (Ok (Some x)) _ step in cc)
+  map_refuses_next : (t : S) (g : F) → g ≡ f → RefusesNext steps from t → RefusesNext MapSteps from (t, g)
+  map_refuses_next t g same a = subst (λ (j : F). RefusesNext MapSteps from (t, j)) (sym same) (λ r q w. refused_one t r q.0 q.1 a (passes_of_pass_trace w))
 
   -- what the map makes of one of the list
   abbrev told_of : Result X E → Result Y E
@@ -196,7 +173,7 @@ module _ {S F X Y B C E : Type 0} (steps : S → Answered B E → S → Type 0) 
   map_draw_of_failure z l e t (inr k) = inr (subst (λ (w : Result X E). IsMadeOf made (told_of w) (Err e)) (sym k.0) refl, refl, k.1)
 
   map_draw_of_kept : (z : Result X E) (l : List (Result X E)) (b : B) (v : Result C E) (y : C) (t : S) (g : F) → map_outcome b v ≡ Kept y → call f b v g → ItemTold of steps from z b t (GivesMade of steps from t l) → MapRefusedOrMade z l (Ok (Some y)) t g
-  map_draw_of_kept z l b v y t g is called (inl (x, m, next)) = let c = makes x b v g m called in inl (inr (h x, y, is_made_of_kept made from b (Ok (h x)) v y is c.1, refl, refuses_behind t g c.0 next))
+  map_draw_of_kept z l b v y t g is called (inl (x, m, next)) = let c = makes x b v g m called in inl (inr (h x, y, is_made_of_kept made from b (Ok (h x)) v y is c.1, refl, map_refuses_next t g c.0 next))
   map_draw_of_kept z l b v y t g is called (inr (x, same, m, rest)) = let c = makes x b v g m called in inr (subst (λ (w : Result X E). IsMadeOf made (told_of w) (Ok (Some y))) (sym same) (is_made_of_kept made from b (Ok (h x)) v y is c.1), c.0, rest)
 
   refused_by_call : (x : X) (b : B) (v : Result C E) (e : E) → map_outcome b v ≡ Failure e → IsToldOrRefused made from (Ok (h x)) v → AnswersRefusal {B = C} from (Err e)
@@ -223,14 +200,14 @@ module _ {S F X Y B C E : Type 0} (steps : S → Answered B E → S → Type 0) 
 
   all_of_made : (l : List (Result X E)) (s : S) → GivesMade of steps from s l → MapGivesMade s f (mapped (λ x. Ok (h x)) l)
   unfolding mapped
-  all_of_made [] s a = λ r t w. map_draw_of_nil s r t.0 t.1 a (passes_of_pass_trace w)
+  all_of_made [] s a = λ r t w. end_of_nil a (passes_of_pass_trace w)
   all_of_made (Err d ∷ l) s a = λ r t w. map_gives_made_after (Err d) l (mapped (λ x. Ok (h x)) l) (λ u b. all_of_made l u b) r t.0 t.1 (map_draw_of_gives_made (Err d) l s r t.0 t.1 a (passes_of_pass_trace w))
   all_of_made (Ok x ∷ l) s a = λ r t w. map_gives_made_after (Ok x) l (mapped (λ x. Ok (h x)) l) (λ u b. all_of_made l u b) r t.0 t.1 (map_draw_of_gives_made (Ok x) l s r t.0 t.1 a (passes_of_pass_trace w))
 
 -- `map` over what lists made values lists what h makes of them, up to an allocation failure
-pub made_by_map_of_made : {S F X Y B C E : Type 0} (steps : S → Answered B E → S → Type 0) (g : Mut F (B × Unit {0}) (Result C E)) (of : X → B → Type 0) (made : Y → C → Type 0) (from : AllocError → E → Type 0) (h : X → Y) {it : S} {f : F} (l : List (Result X E)) {s : Map S F} → map_parts s ≡ (it, f) → MakesOf of made from (call_on g) f h → ListsMade of steps from it l
+pub made_by_map_of_made : {S F X Y B C E : Type 0} {steps : S → Answered B E → S → Type 0} {g : Mut F (B × Unit {0}) (Result C E)} {of : X → B → Type 0} {made : Y → C → Type 0} {from : AllocError → E → Type 0} {it : S} {f : F} {l : List (Result X E)} {s : Map S F} (h : X → Y) → map_parts s ≡ (it, f) → MakesOf of made from (call_on g) f h → ListsMade of steps from it l
     → ListsMade made (λ u r v. passing_step steps (call_on g) map_outcome (map_parts u) r (map_parts v)) from s (mapped (λ x. Ok (h x)) l)
-made_by_map_of_made steps g of made from h {it} {f} l {s} parts makes i = lists_made_seen made from map_parts (passing_step steps (call_on g) map_outcome) s (it, f) _ _ parts refl (all_of_made steps (call_on g) of made from f h makes l it i.runs)
+made_by_map_of_made {steps = steps} {g = g} {of = of} {made = made} {from = from} {it = it} {f = f} {l = l} {s = s} h parts makes i = lists_made_seen made from map_parts (passing_step steps (call_on g) map_outcome) s (it, f) _ _ parts refl (all_of_made steps (call_on g) of made from f h makes l it i.runs)
 
 -- ---- what draws up to a last answer are made of
 
@@ -309,9 +286,9 @@ module _ {V E : Type 0} where
   failed_front [] rest e is = is
   failed_front (v ∷ vs) rest e is = ap (before v) (failed_front vs rest e is)
 
-  failed_at : (e : E) (l : List (Result V E)) → collected (Err e ∷ l) ≡ Err e
+  collected_failure_first : (e : E) (l : List (Result V E)) → collected (Err e ∷ l) ≡ Err e
   unfolding collected
-  failed_at e l = refl
+  collected_failure_first e l = refl
 
   counted_front : (vs : List V) (rest : List (Result V E)) (n : ℕ) → counted rest ≡ Ok n → counted (map (λ v. Ok v) vs ++ rest) ≡ Ok (length vs + n)
   unfolding counted
@@ -323,9 +300,9 @@ module _ {V E : Type 0} where
   count_failed [] rest e is = is
   count_failed (v ∷ vs) rest e is = ap one_more_than (count_failed vs rest e is)
 
-  count_failed_at : (e : E) (l : List (Result V E)) → counted (Err e ∷ l) ≡ Err e
+  counted_failure_first : (e : E) (l : List (Result V E)) → counted (Err e ∷ l) ≡ Err e
   unfolding counted
-  count_failed_at e l = refl
+  counted_failure_first e l = refl
 
 nothing_collected : {V E : Type 0} → collected {A = V} {E = E} [] ≡ Ok []
 unfolding collected
@@ -356,24 +333,25 @@ module _ {S V B E : Type 0} (steps : S → Answered B E → S → Type 0) (made 
 
   failed_by : (l : List (Result V E)) (ys : List B) (e : E) → DrawsTold steps made from l ys (Err e) → (collected l ≡ Err e) ⊎ IsRefusal from e
   failed_by l ys e (inl r) = inr (subst (IsRefusal from) (let q = r.1 in cc) r.2)
-  failed_by l ys e (inr d) = inl (ap collected d.list_is ∙ failed_front d.values d.rest e (ap collected d.rest_is.1 ∙ failed_at e d.rest_is.0))
-
-  -- what `collect` returns over what lists made values
-  pub collected_made : {C : Type 0} (into : List B → C → Type 0) (at_making : Type 0) (at_item : C → B → Type 0) {s : S} (l : List (Result V E)) (r : Result C (Fault E)) → Collects steps into at_making at_item s r → ListsMade made steps from s l → CollectedMade made from into l r
-  collected_made into at_making at_item {s} l (Ok c) k i = collected_by into l k.items c k.is_made (draws_told steps made from k.items end l s k.after i.runs k.ran)
-  collected_made into at_making at_item {s} l (Err (Source e)) k i = failed_by l k.items e (draws_told steps made from k.items (Err e) l s k.after i.runs k.ran)
-  collected_made into at_making at_item l (Err (Memory a)) k i = tt
+  failed_by l ys e (inr d) = inl (ap collected d.list_is ∙ failed_front d.values d.rest e (ap collected d.rest_is.1 ∙ collected_failure_first e d.rest_is.0))
 
   counted_by : (l : List (Result V E)) (ys : List B) (last : Answered B E) (r : Result ℕ E) → CountExit (length ys) last r → DrawsTold steps made from l ys last → SameOrRefused from (counted l) r
   counted_by l ys (Ok (Some y)) r exit d = absurd exit
   counted_by l ys (Ok None) r exit (inl w) = absurd (let e = w.1 in cc)
   counted_by l ys (Ok None) r exit (inr d) = rw (exit, ap counted d.list_is ∙ counted_front d.values d.rest 0 (ap counted d.rest_is ∙ none_counted V)) (each_length made d.values ys d.each ∙ omega arith)
   counted_by l ys (Err e) r exit (inl w) = rw exit (refused_result (λ v y. y ≡ v) from (counted l) e (subst (IsRefusal from) (let q = w.1 in cc) w.2))
-  counted_by l ys (Err e) r exit (inr d) = rw exit (failed_result (λ v y. y ≡ v) from (counted l) e (ap counted d.list_is ∙ count_failed d.values d.rest e (ap counted d.rest_is.1 ∙ count_failed_at e d.rest_is.0)))
+  counted_by l ys (Err e) r exit (inr d) = rw exit (failed_result (λ v y. y ≡ v) from (counted l) e (ap counted d.list_is ∙ count_failed d.values d.rest e (ap counted d.rest_is.1 ∙ counted_failure_first e d.rest_is.0)))
+
+module _ {S V B E : Type 0} {steps : S → Answered B E → S → Type 0} {made : V → B → Type 0} {from : AllocError → E → Type 0} where
+  -- what `collect` returns over what lists made values
+  pub collected_made : {C : Type 0} (into : List B → C → Type 0) (at_making : Type 0) (at_item : C → B → Type 0) {s : S} {l : List (Result V E)} (r : Result C (Fault E)) → Collects steps into at_making at_item s r → ListsMade made steps from s l → CollectedMade made from into l r
+  collected_made into at_making at_item {s} {l} (Ok c) k i = collected_by steps made from into l k.items c k.is_made (draws_told steps made from k.items end l s k.after i.runs k.ran)
+  collected_made into at_making at_item {s} {l} (Err (Source e)) k i = failed_by steps made from l k.items e (draws_told steps made from k.items (Err e) l s k.after i.runs k.ran)
+  collected_made into at_making at_item (Err (Memory a)) k i = tt
 
   -- what `count` returns over what lists made values
-  pub counted_made : {s t : S} (l : List (Result V E)) (r : Result ℕ E) → CountDrains steps s r t → ListsMade made steps from s l → SameOrRefused from (counted l) r
-  counted_made {s} {t} l r k i = counted_by l k.items k.last r k.at.exit (draws_told steps made from k.items k.last l s t i.runs k.ran)
+  pub counted_made : {s t : S} {l : List (Result V E)} {r : Result ℕ E} → CountDrains steps s r t → ListsMade made steps from s l → SameOrRefused from (counted l) r
+  counted_made {s = s} {t = t} {l = l} {r = r} k i = counted_by steps made from l k.items k.last r k.at.exit (draws_told steps made from k.items k.last l s t i.runs k.ran)
 
 -- ---- what folds make of it
 
@@ -422,5 +400,5 @@ module _ {X B D C E E' F : Type 0} (of : X → B → Type 0) (made : D → C →
         rw is (refused_result made from' (folded_by_values d l) e' (makes w.value q.0 k.rest_is.0 y (Err e') g w.is_made k.rest_is.1 (subst (λ (j : F). call j q.0 y (Err e') g) w.stays called)).1)
 
 -- What `try_fold` returns over what lists made values: a value made of the one that the list is folded to, its first failure, or an allocation failure. The failure made of an `AllocError` is one of the closure's error too.
-pub folded_made : {S X B D C E E' F : Type 0} (steps : S → Answered B E → S → Type 0) (g : Mut F (C × (B × Unit {0})) (Result C E')) (of : X → B → Type 0) (made : D → C → Type 0) (from : AllocError → E → Type 0) (from' : AllocError → E' → Type 0) (converts_by : E → E' → Type 0) (convert : E → E') (h : D → X → D) {s t : S} {f : F} {c : C} (d : D) (l : List (Result X E)) (r : Result C E') → FoldDrains steps (call_with g) converts_by s c f r t → made d c → MakesWith of made from' (call_with g) f h → Converts converts_by convert → ((e : E) (e' : E') → IsRefusal from e → converts_by e e' → IsRefusal from' e') → ListsMade of steps from s l → IsToldOrRefused made from' (folded convert (λ a x. Ok (h a x)) d l) r
-folded_made steps g of made from from' converts_by convert h {s} {t} {f} {c} d l r k m makes converts refusals i = fold_made_of_exit of made from' (call_with g) f h makes convert from converts_by converts refusals l k.items k.last d c (k.at.value, k.at.closure) r m k.at.went k.at.exit (draws_told steps of from k.items k.last l s t i.runs k.ran)
+pub folded_made : {S X B D C E E' F : Type 0} {steps : S → Answered B E → S → Type 0} {g : Mut F (C × (B × Unit {0})) (Result C E')} {of : X → B → Type 0} {made : D → C → Type 0} {from : AllocError → E → Type 0} {from' : AllocError → E' → Type 0} {converts_by : E → E' → Type 0} {convert : E → E'} {s t : S} {f : F} {c : C} {l : List (Result X E)} {r : Result C E'} (h : D → X → D) (d : D) → FoldDrains steps (call_with g) converts_by s c f r t → made d c → MakesWith of made from' (call_with g) f h → Converts converts_by convert → ((e : E) (e' : E') → IsRefusal from e → converts_by e e' → IsRefusal from' e') → ListsMade of steps from s l → IsToldOrRefused made from' (folded convert (λ a x. Ok (h a x)) d l) r
+folded_made {steps = steps} {g = g} {of = of} {made = made} {from = from} {from' = from'} {converts_by = converts_by} {convert = convert} {s = s} {t = t} {f = f} {c = c} {l = l} {r = r} h d k m makes converts refusals i = fold_made_of_exit of made from' (call_with g) f h makes convert from converts_by converts refusals l k.items k.last d c (k.at.value, k.at.closure) r m k.at.went k.at.exit (draws_told steps of from k.items k.last l s t i.runs k.ran)

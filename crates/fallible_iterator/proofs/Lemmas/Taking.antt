@@ -158,16 +158,16 @@ module _ {S A E : Type 0} (steps : S → Answered A E → S → Type 0) where
     pub takes_if_failed : (s t : HeldState) (p : P) (e : E) → Fills steps s (Err e) t → TakesIf steps tests s p (Err e) t p
     takes_if_failed s t p e fills = failed_look_taken fills.0 s t p e fills.1 fills.2
 
-    tests_held_as : (o h : Option A) (p q : P) (v : Result Bool E) → h ≡ o → TestsHeld tests h p v q → TestsHeld tests o p v q
-    tests_held_as o h p q v is w = subst (λ (z : Option A). TestsHeld tests z p v q) is w
+    tests_held_of_equal : (o h : Option A) (p q : P) (v : Result Bool E) → h ≡ o → TestsHeld tests h p v q → TestsHeld tests o p v q
+    tests_held_of_equal o h p q v is w = subst (λ (z : Option A). TestsHeld tests z p v q) is w
 
     accepted_taken : (a : Answered A E) (s u t : HeldState) (p q : P) (r : Answered A E) → Peeks steps s a u → Ok tt ≡ failure_told a → TestsHeld tests (held_item u.1) p (Ok true) q → peekable_step steps u r t → TakesIf steps tests s p r t q
     accepted_taken (Err e) s u t p q r peeks told tested step = absurd cc
-    accepted_taken (Ok None) s u t p q r peeks told tested step = absurd (let e = (tests_held_as None (held_item u.1) p q (Ok true) (ap held_item (looked_step s u None peeks).1) tested).0 in cc)
+    accepted_taken (Ok None) s u t p q r peeks told tested step = absurd (let e = (tests_held_of_equal None (held_item u.1) p q (Ok true) (ap held_item (looked_step s u None peeks).1) tested).0 in cc)
     accepted_taken (Ok (Some x)) s u t p q r peeks told tested step =
         let k = looked_step s u (Some x) peeks in
         let h = held_step u t (Some x) r k.1 step in
-        record { seen = item x; looked = u; peeks = peeks; taken = (Ok true, tests_held_as (Some x) (held_item u.1) p q (Ok true) (ap held_item k.1) tested, (h.0, subst (λ (z : Answered A E). peekable_step steps u z t) h.0 step)) }
+        record { seen = item x; looked = u; peeks = peeks; taken = (Ok true, tests_held_of_equal (Some x) (held_item u.1) p q (Ok true) (ap held_item k.1) tested, (h.0, subst (λ (z : Answered A E). peekable_step steps u z t) h.0 step)) }
 
     -- the test accepted what is held, which was drawn
     pub takes_if_accepted : (s u t : HeldState) (p q : P) (r : Answered A E) → Fills steps s (Ok tt) u → TestsHeld tests (held_item u.1) p (Ok true) q → peekable_step steps u r t → TakesIf steps tests s p r t q
@@ -175,8 +175,8 @@ module _ {S A E : Type 0} (steps : S → Answered A E → S → Type 0) where
 
     refused_taken : (a : Answered A E) (s u : HeldState) (p q : P) → Peeks steps s a u → Ok tt ≡ failure_told a → TestsHeld tests (held_item u.1) p (Ok false) q → TakesIf steps tests s p end u q
     refused_taken (Err e) s u p q peeks told tested = absurd cc
-    refused_taken (Ok None) s u p q peeks told tested = record { seen = end; looked = u; peeks = peeks; taken = (refl, refl, (tests_held_as None (held_item u.1) p q (Ok false) (ap held_item (looked_step s u None peeks).1) tested).1) }
-    refused_taken (Ok (Some x)) s u p q peeks told tested = record { seen = item x; looked = u; peeks = peeks; taken = (Ok false, tests_held_as (Some x) (held_item u.1) p q (Ok false) (ap held_item (looked_step s u (Some x) peeks).1) tested, (refl, refl)) }
+    refused_taken (Ok None) s u p q peeks told tested = record { seen = end; looked = u; peeks = peeks; taken = (refl, refl, (tests_held_of_equal None (held_item u.1) p q (Ok false) (ap held_item (looked_step s u None peeks).1) tested).1) }
+    refused_taken (Ok (Some x)) s u p q peeks told tested = record { seen = item x; looked = u; peeks = peeks; taken = (Ok false, tests_held_of_equal (Some x) (held_item u.1) p q (Ok false) (ap held_item (looked_step s u (Some x) peeks).1) tested, (refl, refl)) }
 
     -- the test rejected what is held, or an end is held
     pub takes_if_refused : (s u : HeldState) (p q : P) → Fills steps s (Ok tt) u → TestsHeld tests (held_item u.1) p (Ok false) q → TakesIf steps tests s p end u q
@@ -184,11 +184,11 @@ module _ {S A E : Type 0} (steps : S → Answered A E → S → Type 0) where
 
     lost_taken : (a : Answered A E) (s u t : HeldState) (p q : P) (e : E) (r : Answered A E) → Peeks steps s a u → Ok tt ≡ failure_told a → TestsHeld tests (held_item u.1) p (Err e) q → peekable_step steps u r t → TakesIf steps tests s p (Err e) t q
     lost_taken (Err d) s u t p q e r peeks told tested step = absurd cc
-    lost_taken (Ok None) s u t p q e r peeks told tested step = absurd (let d = (tests_held_as None (held_item u.1) p q (Err e) (ap held_item (looked_step s u None peeks).1) tested).0 in cc)
+    lost_taken (Ok None) s u t p q e r peeks told tested step = absurd (let d = (tests_held_of_equal None (held_item u.1) p q (Err e) (ap held_item (looked_step s u None peeks).1) tested).0 in cc)
     lost_taken (Ok (Some x)) s u t p q e r peeks told tested step =
         let k = looked_step s u (Some x) peeks in
         let h = held_step u t (Some x) r k.1 step in
-        record { seen = item x; looked = u; peeks = peeks; taken = (Err e, tests_held_as (Some x) (held_item u.1) p q (Err e) (ap held_item k.1) tested, (refl, subst (λ (z : Answered A E). peekable_step steps u z t) h.0 step)) }
+        record { seen = item x; looked = u; peeks = peeks; taken = (Err e, tests_held_of_equal (Some x) (held_item u.1) p q (Err e) (ap held_item k.1) tested, (refl, subst (λ (z : Answered A E). peekable_step steps u z t) h.0 step)) }
 
     -- the test failed on what is held, which was drawn
     pub takes_if_lost : (s u t : HeldState) (p q : P) (e : E) (r : Answered A E) → Fills steps s (Ok tt) u → TestsHeld tests (held_item u.1) p (Err e) q → peekable_step steps u r t → TakesIf steps tests s p (Err e) t q
@@ -209,24 +209,24 @@ module _ {S A E : Type 0} (steps : S → Answered A E → S → Type 0) where
 -- ---- the run of the fold, turn by turn
 
 module _ {S A E P F B : Type 0} (steps : S → Answered A E → S → Type 0) (tests : P → A → Result Bool E → P → Type 0) (call : F → B → A → Result B E → F → Type 0) where
-  takes_if_as : {s t : S × Option (Option A)} {p q : P} {a c : Answered A E} → a ≡ c → TakesIf steps tests s p a t q → TakesIf steps tests s p c t q
-  takes_if_as {s} {t} {p} {q} is w = subst (λ (z : Answered A E). TakesIf steps tests s p z t q) is w
+  takes_if_of_equal : {s t : S × Option (Option A)} {p q : P} {a c : Answered A E} → a ≡ c → TakesIf steps tests s p a t q → TakesIf steps tests s p c t q
+  takes_if_of_equal {s} {t} {p} {q} is w = subst (λ (z : Answered A E). TakesIf steps tests s p z t q) is w
 
   -- nothing more was taken
   pub fold_if_ends : {s t : S × Option (Option A)} {p q : P} {a : Answered A E} (b : B) (f : F) → a ≡ end → TakesIf steps tests s p a t q → FoldIfDrains steps tests call s b p f (Ok b) t
-  fold_if_ends {s} {t} {p} {q} b f is w = record { items = []; between = s; value = b; test = p; closure = f; drawn = refl; went = refl; last = end; tested = q; takes = takes_if_as is w; exit = refl }
+  fold_if_ends {s} {t} {p} {q} b f is w = record { items = []; between = s; value = b; test = p; closure = f; drawn = refl; went = refl; last = end; tested = q; takes = takes_if_of_equal is w; exit = refl }
 
   -- a failure came, of the source or of the test
   pub fold_if_fails : {s t : S × Option (Option A)} {p q : P} {a : Answered A E} {r : Result B E} (b : B) (f : F) (e : E) → a ≡ Err e → r ≡ Err e → TakesIf steps tests s p a t q → FoldIfDrains steps tests call s b p f r t
-  fold_if_fails {s} {t} {p} {q} b f e is made w = record { items = []; between = s; value = b; test = p; closure = f; drawn = refl; went = refl; last = Err e; tested = q; takes = takes_if_as is w; exit = (e, refl, made) }
+  fold_if_fails {s} {t} {p} {q} b f e is made w = record { items = []; between = s; value = b; test = p; closure = f; drawn = refl; went = refl; last = Err e; tested = q; takes = takes_if_of_equal is w; exit = (e, refl, made) }
 
   -- the closure failed on an accepted item
   pub fold_if_stops : {s t : S × Option (Option A)} {p q : P} {a : Answered A E} {b : B} {f g : F} {r : Result B E} (x : A) (e : E) → a ≡ item x → r ≡ Err e → TakesIf steps tests s p a t q → call f b x (Err e) g → FoldIfDrains steps tests call s b p f r t
-  fold_if_stops {s} {t} {p} {q} {b = b} {f} {g} x e is made w called = record { items = []; between = s; value = b; test = p; closure = f; drawn = refl; went = refl; last = item x; tested = q; takes = takes_if_as is w; exit = (g, e, called, made) }
+  fold_if_stops {s} {t} {p} {q} {b = b} {f} {g} x e is made w called = record { items = []; between = s; value = b; test = p; closure = f; drawn = refl; went = refl; last = item x; tested = q; takes = takes_if_of_equal is w; exit = (g, e, called, made) }
 
   -- the turn on an accepted item, as the turn of a fold whose state is the value and the two closures
   accepted_turn : {s t : S × Option (Option A)} {p q : P} {a : Answered A E} {b c : B} {f g : F} (x : A) → a ≡ item x → TakesIf steps tests s p a t q → call f b x (Ok c) g → peekable_step steps s (item x) t × went_on_with (AcceptedCall tests call) (b, (p, f)) x (c, (q, g))
-  accepted_turn x is w called = let k = item_taken_by_test steps tests (takes_if_as is w) in (k.0, (k.1, called))
+  accepted_turn x is w called = let k = item_taken_by_test steps tests (takes_if_of_equal is w) in (k.0, (k.1, called))
 
   -- an accepted item, on which the closure returned, and then the fold from there
   pub fold_if_after : {s u t : S × Option (Option A)} {p q : P} {a : Answered A E} {b c : B} {f g : F} {r : Result B E} (x : A) → a ≡ item x → TakesIf steps tests s p a u q → call f b x (Ok c) g → FoldIfDrains steps tests call u c q g r t → FoldIfDrains steps tests call s b p f r t
@@ -256,7 +256,7 @@ module _ {S A E P F B : Type 0} (steps : S → Answered A E → S → Type 0) (t
 
     -- the closure on the value so far and an accepted item
     pub takes_accepted : {s t : S × Option (Option A)} {p q : P} {a : Answered A E} {f : F} {b : B} (x : A) → CallableHere s (p, f) b → a ≡ item x → TakesIf steps tests s p a t q → takes f b x
-    takes_accepted {s} {t} {p} {q} {f = f} {b} x callable is w = let k = item_taken_by_test steps tests (takes_if_as is w) in (holds_at_first_turn {s = s} {t = t} {c = (b, (p, f))} {x = x} callable k.0).1 q k.1
+    takes_accepted {s} {t} {p} {q} {f = f} {b} x callable is w = let k = item_taken_by_test steps tests (takes_if_of_equal is w) in (holds_at_first_turn {s = s} {t = t} {c = (b, (p, f))} {x = x} callable k.0).1 q k.1
 
     -- both after an accepted item
     pub callable_after_accepted : {s t : S × Option (Option A)} {p q : P} {a : Answered A E} {b c : B} {f g : F} (x : A) → CallableHere s (p, f) b → a ≡ item x → TakesIf steps tests s p a t q → call f b x (Ok c) g → CallableHere t (q, g) c
@@ -275,14 +275,14 @@ module _ {S A E P : Type 0} {m : Contract S A E} (l : Lawful m) (tests : P → A
   stays_on_yields [] s t c ran = subst (λ (u : S × Option (Option A)). StaysHere s u) ran (stays_here c)
   stays_on_yields (x ∷ items) s t c ran = let k = stays_on_draw s ran.0 (item x) c ran.1 in stays_then k (stays_on_yields items ran.0 t k.can_next ran.2)
 
-  stays_as : {s t u : S × Option (Option A)} → u ≡ t → StaysHere s t → StaysHere s u
-  stays_as {s} is h = subst (λ (u : S × Option (Option A)). StaysHere s u) (sym is) h
+  stays_of_equal : {s t u : S × Option (Option A)} → u ≡ t → StaysHere s t → StaysHere s u
+  stays_of_equal {s} is h = subst (λ (u : S × Option (Option A)). StaysHere s u) (sym is) h
 
   stays_after_look : (a : Answered A E) (u t : S × Option (Option A)) (p q : P) (r : Answered A E) (s : S × Option (Option A)) → StaysHere s u → TakenAfterLook m.steps tests a u p r t q → StaysHere s t
-  stays_after_look (Err e) u t p q r s h taken = stays_as taken.1 h
-  stays_after_look (Ok None) u t p q r s h taken = stays_as taken.1 h
+  stays_after_look (Err e) u t p q r s h taken = stays_of_equal taken.1 h
+  stays_after_look (Ok None) u t p q r s h taken = stays_of_equal taken.1 h
   stays_after_look (Ok (Some x)) u t p q r s h (Ok true, tested, taken) = stays_then h (stays_on_draw u t (item x) h.can_next taken.1)
-  stays_after_look (Ok (Some x)) u t p q r s h (Ok false, tested, taken) = stays_as taken.1 h
+  stays_after_look (Ok (Some x)) u t p q r s h (Ok false, tested, taken) = stays_of_equal taken.1 h
   stays_after_look (Ok (Some x)) u t p q r s h (Err e, tested, taken) = stays_then h (stays_on_draw u t (item x) h.can_next taken.1)
 
   pub stays_fold_if : {F B : Type 0} {call : F → B → A → Result B E → F → Type 0} {b : B} {p : P} {f : F} {r : Result B E} (s t : Peekable S A E) → m.can_next s.it → FoldIfDrains m.steps tests call (peekable_parts s) b p f r (peekable_parts t) → Stays (seen_as peekable_parts (peekable_contract m)) s t
@@ -371,14 +371,14 @@ module _ {S A E P F B : Type 0} (steps : S → Answered A E → S → Type 0) (t
   GivesHere = AlwaysGives (peekable_step steps)
 
   -- after accepted items: what is listed there, the closures as they were, and the same value and rest
-  abbrev ComesOn : B → List (Result A E) → S × Option (Option A) → B → P × F → Type 0
-  ComesOn b l t v w = (rest : List (Result A E)) × GivesHere t rest × (w ≡ (p0, f0)) × (folded_if_and_rest p h b l ≡ folded_if_and_rest p h v rest)
+  abbrev AcceptedItemsLeave : B → List (Result A E) → S × Option (Option A) → B → P × F → Type 0
+  AcceptedItemsLeave b l t v w = (rest : List (Result A E)) × GivesHere t rest × (w ≡ (p0, f0)) × (folded_if_and_rest p h b l ≡ folded_if_and_rest p h v rest)
 
-  comes_on : (items : List A) (l : List (Result A E)) (s t : S × Option (Option A)) (b v : B) (w : P × F) → GivesHere s l → Yields (peekable_step steps) s items t → FoldsTo {P = B × (P × F)} (went_on_with (AcceptedCall tests call)) (b, (p0, f0)) items (v, w) → ComesOn b l t v w
-  comes_on [] l s t b v w a ran went = (l, subst (λ (u : S × Option (Option A)). GivesHere u l) ran a, sym (ap (λ z. z.1) went), ap (λ z. folded_if_and_rest p h z.0 l) went)
-  comes_on (x ∷ items) [] s t b v w a ran went = absurd (let d = a (item x) ran.0 ran.1 in cc)
-  comes_on (x ∷ items) (Err e ∷ l) s t b v w a ran went = absurd (let d = (a (item x) ran.0 ran.1).0 in cc)
-  comes_on (x ∷ items) (Ok y ∷ l) s t b v w a ran went =
+  accepted_items_leave_rest : (items : List A) (l : List (Result A E)) (s t : S × Option (Option A)) (b v : B) (w : P × F) → GivesHere s l → Yields (peekable_step steps) s items t → FoldsTo {P = B × (P × F)} (went_on_with (AcceptedCall tests call)) (b, (p0, f0)) items (v, w) → AcceptedItemsLeave b l t v w
+  accepted_items_leave_rest [] l s t b v w a ran went = (l, subst (λ (u : S × Option (Option A)). GivesHere u l) ran a, sym (ap (λ z. z.1) went), ap (λ z. folded_if_and_rest p h z.0 l) went)
+  accepted_items_leave_rest (x ∷ items) [] s t b v w a ran went = absurd (let d = a (item x) ran.0 ran.1 in cc)
+  accepted_items_leave_rest (x ∷ items) (Err e ∷ l) s t b v w a ran went = absurd (let d = (a (item x) ran.0 ran.1).0 in cc)
+  accepted_items_leave_rest (x ∷ items) (Ok y ∷ l) s t b v w a ran went =
       let k = a (item x) ran.0 ran.1 in
       let same : x ≡ y = (let e = k.0 in cc) in
       let c : B = (went.0).0 in
@@ -386,15 +386,15 @@ module _ {S A E P F B : Type 0} (steps : S → Answered A E → S → Type 0) (t
       let called = folds b x (Ok c) ((went.0).1).1 (sym tested.1) (went.1).1 in
       let states : (went.0).1 ≡ (p0, f0) = ap₂ (λ (q : P) (g : F). (q, g)) tested.0 called.0 in
       let others : FoldsTo {P = B × (P × F)} (went_on_with (AcceptedCall tests call)) (c, (p0, f0)) items (v, w) = subst (λ (z : P × F). FoldsTo {P = B × (P × F)} (went_on_with (AcceptedCall tests call)) (c, z) items (v, w)) states went.2 in
-      let d = comes_on items l ran.0 t c v w k.1 ran.2 others in
+      let d = accepted_items_leave_rest items l ran.0 t c v w k.1 ran.2 others in
       (d.0, d.1, d.2, ap (λ (z : A). folded_if_and_rest p h b (Ok z ∷ l)) (sym same) ∙ comes_to_item p h b c x l (sym tested.1) (sym called.1) ∙ d.3)
 
   -- what is returned and left from the value v on
   abbrev ReturnsFrom : B → List (Result A E) → Result B E → S × Option (Option A) → Type 0
   ReturnsFrom v l r t = (rest : List (Result A E)) × GivesHere t rest × (folded_if_and_rest p h v l ≡ (r, rest))
 
-  returns_as : (v : B) (l : List (Result A E)) (r : Result B E) {t u : S × Option (Option A)} → t ≡ u → ReturnsFrom v l r u → ReturnsFrom v l r t
-  returns_as v l r is w = subst (λ (z : S × Option (Option A)). ReturnsFrom v l r z) (sym is) w
+  returns_from_equal : (v : B) (l : List (Result A E)) (r : Result B E) {t u : S × Option (Option A)} → t ≡ u → ReturnsFrom v l r u → ReturnsFrom v l r t
+  returns_from_equal v l r is w = subst (λ (z : S × Option (Option A)). ReturnsFrom v l r z) (sym is) w
 
   failed_with : (e : E) (v : B) (r : Result B E) (last : Answered A E) → last ≡ Err e → FoldExit call (λ e d. d ≡ e) v f0 last r → r ≡ Err e
   failed_with e v r last is exit = let w = subst (λ (z : Answered A E). FoldExit call (λ e d. d ≡ e) v f0 z r) is exit in w.2 ∙ ap (λ (z : E). Err z) w.1
@@ -423,7 +423,7 @@ module _ {S A E P F B : Type 0} (steps : S → Answered A E → S → Type 0) (t
       let w = subst (λ (z : Answered A E). FoldExit call (λ e d. d ≡ e) v f0 z r) taken.0 exit in
       let c = folds v x (Err w.1) w.0 (sym is) w.2 in
       (l, (a (item x) t (drawn_after_look steps s u t (Some x) (item x) peeks taken.1).1).1, comes_to_item_failure p h v w.1 x l (sym is) (sym c.1) ∙ ap (λ (z : Result B E). (z, l)) (sym w.3))
-  at_tested (Ok false) x l s u t v last r is a peeks taken exit = returns_as v (Ok x ∷ l) r taken.1 (Ok x ∷ l, gives_looked (Ok x) l (Some x) s u refl a peeks, comes_to_refused p h v x l (sym is) ∙ ap (λ (z : Result B E). (z, Ok x ∷ l)) (sym (ended_with v r last taken.0 exit)))
+  at_tested (Ok false) x l s u t v last r is a peeks taken exit = returns_from_equal v (Ok x ∷ l) r taken.1 (Ok x ∷ l, gives_looked (Ok x) l (Some x) s u refl a peeks, comes_to_refused p h v x l (sym is) ∙ ap (λ (z : Result B E). (z, Ok x ∷ l)) (sym (ended_with v r last taken.0 exit)))
   at_tested (Err e) x l s u t v last r is a peeks taken exit =
       (l, (a (item x) t (drawn_after_look steps s u t (Some x) (item x) peeks taken.1).1).1, comes_to_lost p h v e x l (sym is) ∙ ap (λ (z : Result B E). (z, l)) (sym (failed_with e v r last taken.0 exit)))
 
@@ -436,13 +436,13 @@ module _ {S A E P F B : Type 0} (steps : S → Answered A E → S → Type 0) (t
 
   at_last : (seen : Answered A E) (l : List (Result A E)) (s u t : S × Option (Option A)) (v : B) (q : P) (last : Answered A E) (r : Result B E) → GivesHere s l → Peeks steps s seen u → TakenAfterLook steps tests seen u p0 last t q → FoldExit call (λ e d. d ≡ e) v f0 last r → ReturnsFrom v l r t
   at_last (Ok (Some x)) l s u t v q last r a peeks taken exit = at_item_seen x l s u t v q last r a peeks taken exit
-  at_last (Ok None) l s u t v q last r a peeks taken exit = returns_as v l r taken.1 (at_end l s u v r a peeks (ended_with v r last taken.0 exit))
-  at_last (Err e) l s u t v q last r a peeks taken exit = returns_as v l r taken.1 (at_failure e l s u v r a peeks (failed_with e v r last taken.0 exit))
+  at_last (Ok None) l s u t v q last r a peeks taken exit = returns_from_equal v l r taken.1 (at_end l s u v r a peeks (ended_with v r last taken.0 exit))
+  at_last (Err e) l s u t v q last r a peeks taken exit = returns_from_equal v l r taken.1 (at_failure e l s u v r a peeks (failed_with e v r last taken.0 exit))
 
   -- the whole run over a list
   comes_fold_if : (l : List (Result A E)) (s t : S × Option (Option A)) (b : B) (r : Result B E) → GivesHere s l → FoldIfDrains steps tests call s b p0 f0 r t → ReturnsFrom b l r t
   comes_fold_if l s t b r a w =
-      let d = comes_on w.items l s w.between b w.value (w.test, w.closure) a w.drawn w.went in
+      let d = accepted_items_leave_rest w.items l s w.between b w.value (w.test, w.closure) a w.drawn w.went in
       let here : TakesIf steps tests w.between p0 w.last t w.tested = subst (λ (z : P). TakesIf steps tests w.between z w.last t w.tested) (ap (λ z. z.0) d.2) w.takes in
       let exit : FoldExit call (λ e d. d ≡ e) w.value f0 w.last r = subst (λ (z : F). FoldExit call (λ e d. d ≡ e) w.value z w.last r) (ap (λ z. z.1) d.2) w.exit in
       let k = at_last here.seen d.0 w.between here.looked t w.value w.tested w.last r d.1 here.peeks here.taken exit in

@@ -102,13 +102,13 @@ module _ {S A E C H : Type 0} {m : Contract S A E} (law : Lawful m) {s : S} (can
   abbrev TalliedItems : List A → C → Type 0
   TalliedItems items c = IsTally eq items (counts c)
 
-  abbrev refuses_here : hash.HashMap A ℕ H → A → Type 0
-  refuses_here n x = (hash.get eq n x ≡ None) × (hash.spare n ≡ 0)
+  abbrev refuses_new_key : hash.HashMap A ℕ H → A → Type 0
+  refuses_new_key n x = (hash.get eq n x ≡ None) × (hash.spare n ≡ 0)
 
   pub collects_all_counted : (c : C) → CollectsAll m.steps TalliedItems s c → CollectsAll m.steps (IsCountsOf eq) s (counts c)
   collects_all_counted c h = record { items = h.items; after = h.after; ran = h.ran; is_made = counts_are_exact h.items c (length_fits h.items (end ∷ []) h.after h.ran) h.is_made }
 
-  pub collects_not_counted : (fault : Fault E) → Collects m.steps TalliedItems ⊥ (λ c x. refuses_here (counts c) x) s (Err fault) → Collects m.steps (IsCountsOf eq) ⊥ refuses_here s (Err fault)
+  pub collects_not_counted : (fault : Fault E) → Collects m.steps TalliedItems ⊥ (λ c x. refuses_new_key (counts c) x) s (Err fault) → Collects m.steps (IsCountsOf eq) ⊥ refuses_new_key s (Err fault)
   collects_not_counted (Source e) h = record { items = h.items; collection = counts h.collection; after = h.after; ran = h.ran; is_made = counts_are_exact h.items h.collection (length_fits h.items (Err e ∷ []) h.after h.ran) h.is_made }
   collects_not_counted (Memory a) (inl never) = inl never
   collects_not_counted (Memory a) (inr h) = inr (record { items = h.items; refused = h.refused; collection = counts h.collection; after = h.after; ran = h.ran; is_made = counts_are_exact h.items h.collection (length_fits h.items (item h.refused ∷ []) h.after h.ran) h.is_made; refuses_it = h.refuses_it })

@@ -41,9 +41,9 @@ module _ {S A E : Type 0} (steps : S → Answered A E → S → Type 0) (eq : A 
   exit_at_any n k c (Ok (Some x)) exit = decided_at_any n k c x r exit
 
   -- the first item decides nothing
-  first_goes_on : (n : ℕ) (x : A) (r : Result Bool E) → SearchDecides (FirstCall eq) all_pick n None x r q → ⊥
-  first_goes_on n x (Ok z) d = let v : d.0 ≡ true = (let e = d.1.0 in cc) in let p = subst (λ b. all_pick n x b ≡ Some z) v d.2 in cc
-  first_goes_on n x (Err e) d = let f = d.0 in cc
+  first_decides_nothing : (n : ℕ) (x : A) (r : Result Bool E) → SearchDecides (FirstCall eq) all_pick n None x r q → ⊥
+  first_decides_nothing n x (Ok z) d = let v : d.0 ≡ true = (let e = d.1.0 in cc) in let p = subst (λ b. all_pick n x b ≡ Some z) v d.2 in cc
+  first_decides_nothing n x (Err e) d = let f = d.0 in cc
 
   -- what came after the first answer: nothing was drawn after an end or a failure, and after an item a search of what it doesn't equal
   abbrev AfterFirst : Answered A E → S → Type 0
@@ -60,7 +60,7 @@ module _ {S A E : Type 0} (steps : S → Answered A E → S → Type 0) (eq : A 
   from_first_of_last_answer : (s : S) (last : Answered A E) → Run steps s (last ∷ []) t → SearchExit (FirstCall eq) all_pick true 0 None last r q → FromFirst s
   from_first_of_last_answer s (Ok None) ran exit = record { first = Ok None; mid = ran.0; drawn = ran.1; after = exit.0 }
   from_first_of_last_answer s (Err e) ran exit = record { first = Err e; mid = ran.0; drawn = ran.1; after = (exit.0, ran.2) }
-  from_first_of_last_answer s (Ok (Some x)) ran exit = absurd (first_goes_on 0 x r exit)
+  from_first_of_last_answer s (Ok (Some x)) ran exit = absurd (first_decides_nothing 0 x r exit)
 
   from_first_of_run : (s : S) (items : List A) (last : Answered A E) → Run steps s (map item items ++ last ∷ []) t → SearchedBy (FirstCall eq) all_pick true None r q items last → FromFirst s
   from_first_of_run s [] last ran at = from_first_of_last_answer s last ran (subst (λ c. SearchExit (FirstCall eq) all_pick true 0 c last r q) (sym at.went) at.exit)

@@ -8,7 +8,7 @@ use Rattle.fallible_iterator.specs.Searching.{WentOn, SearchExit, SearchDrains, 
 use Rattle.fallible_iterator.proofs.Lemmas.Lists.Drawn.{RestAt, drawn_of_lists}
 use Rattle.fallible_itertools.specs.IsSorted.{while_in_order}
 use Rattle.fallible_itertools.specs.IsSortedBy.{PairAnswered, PairCall, pair_in_order, in_order_by_after, in_order_by}
-use Rattle.fallible_itertools.proofs.IsSorted.{search_goes_on_at_true, search_stops_at_false}
+use Rattle.fallible_itertools.proofs.Lemmas.IsSorted.{search_goes_on_at_true, search_stops_at_false}
 
 module _ {A E F : Type 0} (call : F → A → A → Result Bool E → F → Type 0) (h : A → A → Result Bool E) (f : F) (acts : ActsWith call f h) where
   -- the answer is that of h, and the closure stays

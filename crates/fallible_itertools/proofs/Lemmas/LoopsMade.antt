@@ -25,13 +25,13 @@ module _ {S X B E C R : Type 0} (made : X → B → Type 0) (steps : S → Answe
   abbrev ItemFrom : Result X E → B → S → Type 0 → Type 0
   ItemFrom z y t G = ((x : X) × made x y × RefusesNext steps from t) ⊎ ((x : X) × (z ≡ Ok x) × made x y × G)
 
-  made_from_here_item_on : {whole : R} {t : S} {c d : C} (y : B) (z : Result X E) (l : List (Result X E)) → whole ≡ answers c (z ∷ l) → ((x : X) (k : List (Result X E)) → made x y → answers c (Ok x ∷ k) ≡ answers d k) → ItemFrom z y t (GivesMade made steps from t l) → OrRefusesNext whole t d
-  made_from_here_item_on y z l is same (inl (x, m, next)) = inl next
-  made_from_here_item_on {c = c} y z l is same (inr (x, this, m, rest)) = inr (record { rest = l; lists = record { runs = rest }; same = is ∙ ap (λ w. answers c (w ∷ l)) this ∙ same x l m })
+  made_from_here_of_item : {whole : R} {t : S} {c d : C} (y : B) (z : Result X E) (l : List (Result X E)) → whole ≡ answers c (z ∷ l) → ((x : X) (k : List (Result X E)) → made x y → answers c (Ok x ∷ k) ≡ answers d k) → ItemFrom z y t (GivesMade made steps from t l) → OrRefusesNext whole t d
+  made_from_here_of_item y z l is same (inl (x, m, next)) = inl next
+  made_from_here_of_item {c = c} y z l is same (inr (x, this, m, rest)) = inr (record { rest = l; lists = record { runs = rest }; same = is ∙ ap (λ w. answers c (w ∷ l)) this ∙ same x l m })
 
   made_from_here_at_item : {whole : R} {s t : S} {c d : C} (y : B) (l : List (Result X E)) → GivesMade made steps from s l → whole ≡ answers c l → steps s (Ok (Some y)) t → ((x : X) (k : List (Result X E)) → made x y → answers c (Ok x ∷ k) ≡ answers d k) → OrRefusesNext whole t d
   made_from_here_at_item y [] gives is drawn same = absurd (let h = gives _ _ drawn in cc)
-  made_from_here_at_item {t = t} y (z ∷ l) gives is drawn same = made_from_here_item_on y z l is same (item_told made steps from z y t (gives _ _ drawn))
+  made_from_here_at_item {t = t} y (z ∷ l) gives is drawn same = made_from_here_of_item y z l is same (item_told made steps from z y t (gives _ _ drawn))
 
   after_item : {whole : R} {s t : S} {c d : C} (y : B) → OrRefusesNext whole s c → steps s (Ok (Some y)) t → ((x : X) (k : List (Result X E)) → made x y → answers c (Ok x ∷ k) ≡ answers d k) → OrRefusesNext whole t d
   after_item y (inl r) drawn same = absurd (let h = (r _ _ drawn).1 in cc)
@@ -41,13 +41,13 @@ module _ {S X B E C R : Type 0} (made : X → B → Type 0) (steps : S → Answe
   abbrev FailedBy : R → C → E → Type 0
   FailedBy whole c e = IsRefusal from e ⊎ ((k : List (Result X E)) × (whole ≡ answers c (Err e ∷ k)))
 
-  failed_on : {whole : R} {c : C} (e : E) (z : Result X E) (l : List (Result X E)) {G : Type 0} → whole ≡ answers c (z ∷ l) → IsRefusal from e ⊎ ((z ≡ Err e) × G) → FailedBy whole c e
-  failed_on e z l is (inl r) = inl r
-  failed_on {c = c} e z l is (inr k) = inr (l, is ∙ ap (λ w. answers c (w ∷ l)) k.0)
+  failed_by_first : {whole : R} {c : C} (e : E) (z : Result X E) (l : List (Result X E)) {G : Type 0} → whole ≡ answers c (z ∷ l) → IsRefusal from e ⊎ ((z ≡ Err e) × G) → FailedBy whole c e
+  failed_by_first e z l is (inl r) = inl r
+  failed_by_first {c = c} e z l is (inr k) = inr (l, is ∙ ap (λ w. answers c (w ∷ l)) k.0)
 
   at_failure : {whole : R} {s t : S} {c : C} (e : E) (l : List (Result X E)) → GivesMade made steps from s l → whole ≡ answers c l → steps s (Err e) t → FailedBy whole c e
   at_failure e [] gives is drawn = absurd (let h = gives _ _ drawn in cc)
-  at_failure {t = t} e (z ∷ l) gives is drawn = failed_on e z l is (failure_told made steps from z e t (gives _ _ drawn))
+  at_failure {t = t} e (z ∷ l) gives is drawn = failed_by_first e z l is (failure_told made steps from z e t (gives _ _ drawn))
 
   after_failure : {whole : R} {s t : S} {c : C} (e : E) → OrRefusesNext whole s c → steps s (Err e) t → FailedBy whole c e
   after_failure e (inl r) drawn = let h = r _ _ drawn in inl (subst (IsRefusal from) (let q = h.1 in cc) h.2)
@@ -68,8 +68,8 @@ module _ {S X B E C R : Type 0} {made : X → B → Type 0} {steps : S → Answe
 
   module _ {s t : S} {c : C} {r : Answered B E} where
     -- after a value on which the loop goes on with d
-    pub made_from_here_on : (y : B) {d : C} → MadeFromHere made steps from answers s0 c0 s c → steps s r t → r ≡ Ok (Some y) → ((x : X) (k : List (Result X E)) → made x y → answers c (Ok x ∷ k) ≡ answers d k) → MadeFromHere made steps from answers s0 c0 t d
-    made_from_here_on y here drawn is same = record { at = λ whole lists. after_item made steps from answers y (here.at whole lists) (subst (λ z. steps s z t) is drawn) same }
+    pub made_after_item : (y : B) {d : C} → MadeFromHere made steps from answers s0 c0 s c → steps s r t → r ≡ Ok (Some y) → ((x : X) (k : List (Result X E)) → made x y → answers c (Ok x ∷ k) ≡ answers d k) → MadeFromHere made steps from answers s0 c0 t d
+    made_after_item y here drawn is same = record { at = λ whole lists. after_item made steps from answers y (here.at whole lists) (subst (λ z. steps s z t) is drawn) same }
 
     -- at the end
     pub whole_at_end : MadeFromHere made steps from answers s0 c0 s c → steps s r t → r ≡ Ok None → (whole : List (Result X E)) → ListsMade made steps from s0 whole → answers c0 whole ≡ answers c []

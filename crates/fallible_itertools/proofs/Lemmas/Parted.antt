@@ -6,7 +6,7 @@ use Rattle.fallible_iterator.specs.BothEnds.{items_listed, failures_listed}
 use Rattle.fallible_iterator.specs.Collecting.{Collects}
 use Rattle.fallible_iterator.specs.Fault.{Fault}
 use Rattle.fallible_iterator.specs.Lists.{AlwaysGives, Lists, CollectedAs, collected}
-use Rattle.fallible_iterator.proofs.Lemmas.Lists.Drawn.{collected_as}
+use Rattle.fallible_iterator.proofs.Lemmas.Lists.Drawn.{collected_of_lists}
 use Rattle.fallible_itertools.specs.Adjacent.{Interleaved, of_neither, of_first, of_second}
 use Rattle.fallible_itertools.specs.PartitionMap.{lefts, rights, MadeOfEithers}
 use Rattle.fallible_itertools.specs.Parted.{parted_step, eithers, without_source, PartitionedFailuresAs}
@@ -68,7 +68,7 @@ module _ {A E : Type 0} where
           (subst (λ (xs : List A). made_items xs p.0) (lefts_are_items l) m.0, subst (λ (es : List E). made_failures es p.1) (rights_are_failures l) m.1)
 
       pub partitioned_failures_of_lists : (empty_refuses : Type 0) (refuses : C × D → Either A E → Type 0) {s : S} (r : Result (C × D) AllocError) (l : List (Result A E)) → Collects (parted_step steps) (MadeOfEithers made_items made_failures) empty_refuses refuses s (without_source r) → Lists steps s l → PartitionedFailuresAs made_items made_failures l r
-      partitioned_failures_of_lists empty_refuses refuses {s = s} r l h i = partitioned_of_collected l r (collected_as (MadeOfEithers made_items made_failures) empty_refuses refuses (without_source r) (all_items (eithers l)) h (record { runs = always_gives_parted l s i.runs }))
+      partitioned_failures_of_lists empty_refuses refuses {s = s} r l h i = partitioned_of_collected l r (collected_of_lists (MadeOfEithers made_items made_failures) empty_refuses refuses (without_source r) (all_items (eithers l)) h (record { runs = always_gives_parted l s i.runs }))
 
 -- items and failures make up the list, each in their order
 pub interleaved_parts : {A E : Type 0} (l : List (Result A E)) → Interleaved (map (λ x. Ok x) (items_listed l)) (map (λ e. Err e) (failures_listed l)) l

@@ -38,19 +38,19 @@ module _ {S F X E : Type 0} (m : Contract S X E) (call : F → X → Result Bool
   ahead_fails p u f e fills = (failure_at e, peekable_step_of_failure p u fills.0 e fills.1 fills.2, refl, refl)
 
   -- what is held was looked at
-  accepts_held_as : (o h : Option X) (f g : F) (v : Result Bool E) → h ≡ o → AcceptsHeld call h f v g → AcceptsHeld call o f v g
-  accepts_held_as o h f g v is a = subst (λ (z : Option X). AcceptsHeld call z f v g) is a
+  accepts_held_of_equal : (o h : Option X) (f g : F) (v : Result Bool E) → h ≡ o → AcceptsHeld call h f v g → AcceptsHeld call o f v g
+  accepts_held_of_equal o h f g v is a = subst (λ (z : Option X). AcceptsHeld call z f v g) is a
 
   ahead_taken : (a : Answered X E) (p u w : Peekable S X E) (f g : F) (r : Answered X E) → Peeks m.steps (peekable_parts p) a (peekable_parts u) → Ok tt ≡ failure_told a → AcceptsHeld call (held_item u.held) f (Ok true) g → peekable_step m.steps (peekable_parts u) r (peekable_parts w) → AheadStep (p, f) r (w, g)
   ahead_taken (Err e) p u w f g r peeks is accepts step = absurd cc
   ahead_taken (Ok (Some x)) p u w f g r peeks is accepts step =
       let k = looked_step m.steps (peekable_parts p) (peekable_parts u) (Some x) peeks in
       let h = held_step m.steps (peekable_parts u) (peekable_parts w) (Some x) r k.1 step in
-      (asked x (Ok true), subst (λ z. peekable_step m.steps (peekable_parts p) (item x) z) (sym h.1) k.0, (g, accepts_held_as (Some x) (held_item u.held) f g (Ok true) (ap held_item k.1) accepts, refl), h.0)
+      (asked x (Ok true), subst (λ z. peekable_step m.steps (peekable_parts p) (item x) z) (sym h.1) k.0, (g, accepts_held_of_equal (Some x) (held_item u.held) f g (Ok true) (ap held_item k.1) accepts, refl), h.0)
   ahead_taken (Ok None) p u w f g r peeks is accepts step =
       let k = looked_step m.steps (peekable_parts p) (peekable_parts u) None peeks in
       let h = held_step m.steps (peekable_parts u) (peekable_parts w) None r k.1 step in
-      (end_at, subst (λ z. peekable_step m.steps (peekable_parts p) end z) (sym h.1) k.0, sym (accepts_held_as None (held_item u.held) f g (Ok true) (ap held_item k.1) accepts).1, h.0)
+      (end_at, subst (λ z. peekable_step m.steps (peekable_parts p) end z) (sym h.1) k.0, sym (accepts_held_of_equal None (held_item u.held) f g (Ok true) (ap held_item k.1) accepts).1, h.0)
 
   pub ahead_takes : (p u w : Peekable S X E) (f g : F) (r : Answered X E) → Fills m.steps (peekable_parts p) (Ok tt) (peekable_parts u) → AcceptsHeld call (held_item u.held) f (Ok true) g → peekable_step m.steps (peekable_parts u) r (peekable_parts w) → AheadStep (p, f) r (w, g)
   ahead_takes p u w f g r fills accepts step = ahead_taken fills.0 p u w f g r fills.1 fills.2 accepts step
@@ -58,9 +58,9 @@ module _ {S F X E : Type 0} (m : Contract S X E) (call : F → X → Result Bool
   ahead_refused : (a : Answered X E) (p u : Peekable S X E) (f g : F) → Peeks m.steps (peekable_parts p) a (peekable_parts u) → Ok tt ≡ failure_told a → AcceptsHeld call (held_item u.held) f (Ok false) g → AheadStep (p, f) end (u, g)
   ahead_refused (Err e) p u f g peeks is accepts = absurd cc
   ahead_refused (Ok (Some x)) p u f g peeks is accepts = let k = looked_step m.steps (peekable_parts p) (peekable_parts u) (Some x) peeks in
-      (asked x (Ok false), peeks, (g, accepts_held_as (Some x) (held_item u.held) f g (Ok false) (ap held_item k.1) accepts, refl), refl)
+      (asked x (Ok false), peeks, (g, accepts_held_of_equal (Some x) (held_item u.held) f g (Ok false) (ap held_item k.1) accepts, refl), refl)
   ahead_refused (Ok None) p u f g peeks is accepts = let k = looked_step m.steps (peekable_parts p) (peekable_parts u) None peeks in
-      absurd (let e = (accepts_held_as None (held_item u.held) f g (Ok false) (ap held_item k.1) accepts).0 in cc)
+      absurd (let e = (accepts_held_of_equal None (held_item u.held) f g (Ok false) (ap held_item k.1) accepts).0 in cc)
 
   pub ahead_refuses : (p u : Peekable S X E) (f g : F) → Fills m.steps (peekable_parts p) (Ok tt) (peekable_parts u) → AcceptsHeld call (held_item u.held) f (Ok false) g → AheadStep (p, f) end (u, g)
   ahead_refuses p u f g fills accepts = ahead_refused fills.0 p u f g fills.1 fills.2 accepts
@@ -70,9 +70,9 @@ module _ {S F X E : Type 0} (m : Contract S X E) (call : F → X → Result Bool
   ahead_lost (Ok (Some x)) p u w f g e r peeks is accepts step =
       let k = looked_step m.steps (peekable_parts p) (peekable_parts u) (Some x) peeks in
       let h = held_step m.steps (peekable_parts u) (peekable_parts w) (Some x) r k.1 step in
-      (asked x (Err e), subst (λ z. peekable_step m.steps (peekable_parts p) (item x) z) (sym h.1) k.0, (g, accepts_held_as (Some x) (held_item u.held) f g (Err e) (ap held_item k.1) accepts, refl), refl)
+      (asked x (Err e), subst (λ z. peekable_step m.steps (peekable_parts p) (item x) z) (sym h.1) k.0, (g, accepts_held_of_equal (Some x) (held_item u.held) f g (Err e) (ap held_item k.1) accepts, refl), refl)
   ahead_lost (Ok None) p u w f g e r peeks is accepts step = let k = looked_step m.steps (peekable_parts p) (peekable_parts u) None peeks in
-      absurd (let d = (accepts_held_as None (held_item u.held) f g (Err e) (ap held_item k.1) accepts).0 in cc)
+      absurd (let d = (accepts_held_of_equal None (held_item u.held) f g (Err e) (ap held_item k.1) accepts).0 in cc)
 
   pub ahead_loses : (p u w : Peekable S X E) (f g : F) (e : E) (r : Answered X E) → Fills m.steps (peekable_parts p) (Ok tt) (peekable_parts u) → AcceptsHeld call (held_item u.held) f (Err e) g → peekable_step m.steps (peekable_parts u) r (peekable_parts w) → AheadStep (p, f) (Err e) (w, g)
   ahead_loses p u w f g e r fills accepts step = ahead_lost fills.0 p u w f g e r fills.1 fills.2 accepts step
@@ -114,13 +114,13 @@ module _ {S F X E : Type 0} {m : Contract S X E} {looks : S → X → S → Type
   }
 
   -- after a look at an item the closure is called on that item first
-  first_looked : (w : AheadState) (places : List AheadState) (s t u q : S) (x : X) → looks s x t → Run m.steps t (filter_map let_go (w ∷ places)) u → LeftAt looks (w ∷ places) u q → AskedAgain (w ∷ places) → (v : Result Bool E) × (w ≡ asked x v)
-  first_looked (asked y (Ok true)) places s t u q x look ran left again = let d = (k.next s x t (item y) ran.0 look ran.1).0 in let same : y ≡ x = cc in (Ok true, ap (λ z. asked z (Ok true)) same)
-  first_looked (asked y (Err e)) places s t u q x look ran left again = let d = (k.next s x t (item y) ran.0 look ran.1).0 in let same : y ≡ x = cc in (Err e, ap (λ z. asked z (Err e)) same)
-  first_looked (failure_at e) places s t u q x look ran left again = absurd (let d = (k.next s x t (Err e) ran.0 look ran.1).0 in cc)
-  first_looked end_at places s t u q x look ran left again = absurd (let d = (k.next s x t end ran.0 look ran.1).0 in cc)
-  first_looked (asked y (Ok false)) [] s t u q x look ran left again = let same = (k.again s x t y q look (subst (λ (v : S). looks v y q) (sym ran) left)).0 in (Ok false, ap (λ z. asked z (Ok false)) same)
-  first_looked (asked y (Ok false)) (w ∷ places) s t u q x look ran left again = let first = first_looked w places s t u q x look ran left again.1 in let is = again.0 in let same : y ≡ x = (let e = sym is.1 ∙ first.1 in cc) in (Ok false, ap (λ z. asked z (Ok false)) same)
+  asked_after_look : (w : AheadState) (places : List AheadState) (s t u q : S) (x : X) → looks s x t → Run m.steps t (filter_map let_go (w ∷ places)) u → LeftAt looks (w ∷ places) u q → AskedAgain (w ∷ places) → (v : Result Bool E) × (w ≡ asked x v)
+  asked_after_look (asked y (Ok true)) places s t u q x look ran left again = let d = (k.next s x t (item y) ran.0 look ran.1).0 in let same : y ≡ x = cc in (Ok true, ap (λ z. asked z (Ok true)) same)
+  asked_after_look (asked y (Err e)) places s t u q x look ran left again = let d = (k.next s x t (item y) ran.0 look ran.1).0 in let same : y ≡ x = cc in (Err e, ap (λ z. asked z (Err e)) same)
+  asked_after_look (failure_at e) places s t u q x look ran left again = absurd (let d = (k.next s x t (Err e) ran.0 look ran.1).0 in cc)
+  asked_after_look end_at places s t u q x look ran left again = absurd (let d = (k.next s x t end ran.0 look ran.1).0 in cc)
+  asked_after_look (asked y (Ok false)) [] s t u q x look ran left again = let same = (k.again s x t y q look (subst (λ (v : S). looks v y q) (sym ran) left)).0 in (Ok false, ap (λ z. asked z (Ok false)) same)
+  asked_after_look (asked y (Ok false)) (w ∷ places) s t u q x look ran left again = let first = asked_after_look w places s t u q x look ran left again.1 in let is = again.0 in let same : y ≡ x = (let e = sym is.1 ∙ first.1 in cc) in (Ok false, ap (λ z. asked z (Ok false)) same)
 
   -- what comes after a look comes from before it too
   run_before : (r : Answered X E) (l : List (Answered X E)) (p t u : S) (x : X) → looks p x t → Run m.steps t (r ∷ l) u → Run m.steps p (r ∷ l) u
@@ -140,7 +140,7 @@ module _ {S F X E : Type 0} {m : Contract S X E} {looks : S → X → S → Type
   -- a look at an item that is rejected, before the others
   before_look : (places : List AheadState) (x : X) (p t q : S) → looks p x t → LookedBefore places t q → AskedAgain places → LookedBefore (asked x (Ok false) ∷ places) p q × AskedAgain (asked x (Ok false) ∷ places)
   before_look [] x p t q look (between, ran, left) again = ((p, refl, subst (λ (v : S). looks p x v) (ran ∙ sym left) look), tt)
-  before_look (w ∷ places) x p t q look (between, ran, left) again = (before_from w places p t between q x look ran left, (first_looked w places p t between q x look ran left again, again))
+  before_look (w ∷ places) x p t q look (between, ran, left) again = (before_from w places p t between q x look ran left, (asked_after_look w places p t between q x look ran left again, again))
 
   trace_refused_first : (x : X) (p mid : S) (f g : F) (q : S × F) (trace : List (Answered X E)) → looks p x mid → Calls call f ((x, Ok false) ∷ []) g → TraceOfPeekingTakeWhile (mid, g) trace q → TraceOfPeekingTakeWhile (p, f) (end ∷ trace) q
   trace_refused_first x p mid f g q trace look called t =
@@ -227,24 +227,24 @@ module _ {S F X E : Type 0} {m : Contract S X E} {looks : S → X → S → Type
   source_step_of_place (failure_at e) p q d = (q, d)
   source_step_of_place end_at p q d = (q, d)
 
-  end_of_nil : (z : Place X (Result Bool E) E) (p u : S) (r : Answered X E) → AlwaysGives {A = X} m.steps p [] → m.steps p (source_answer z) u → r ≡ taken_answer z → r ≡ end
-  end_of_nil (asked y v) p u r a step e = absurd (let d = a (item y) u step in cc)
-  end_of_nil (failure_at d) p u r a step e = absurd (let b = a (Err d) u step in cc)
-  end_of_nil end_at p u r a step e = e
+  taken_end_of_nil : (z : Place X (Result Bool E) E) (p u : S) (r : Answered X E) → AlwaysGives {A = X} m.steps p [] → m.steps p (source_answer z) u → r ≡ taken_answer z → r ≡ end
+  taken_end_of_nil (asked y v) p u r a step e = absurd (let d = a (item y) u step in cc)
+  taken_end_of_nil (failure_at d) p u r a step e = absurd (let b = a (Err d) u step in cc)
+  taken_end_of_nil end_at p u r a step e = e
 
-  failure_of_first : (z : Place X (Result Bool E) E) (d : E) (l : List (Result X E)) (p q : S) (g : F) → AlwaysGives m.steps p (Err d ∷ l) → DrawsAtPlace m.steps looks z p q → Calls call f (filter_map call_of (z ∷ [])) g → (z ≡ failure_at d) × AlwaysGives m.steps q l × (g ≡ f)
-  failure_of_first (asked y v) d l p q g a drawn called = absurd (let u = source_step_of_place (asked y v) p q drawn in let e = (a (item y) u.0 u.1).0 in cc)
-  failure_of_first (failure_at c) d l p q g a drawn called = let is = a (Err c) q drawn in let same : c ≡ d = (let e = is.0 in cc) in (ap (λ (e : E). failure_at e) same, is.1, sym called)
-  failure_of_first end_at d l p q g a drawn called = absurd (let e = (a end q drawn).0 in cc)
+  failure_place_of_first : (z : Place X (Result Bool E) E) (d : E) (l : List (Result X E)) (p q : S) (g : F) → AlwaysGives m.steps p (Err d ∷ l) → DrawsAtPlace m.steps looks z p q → Calls call f (filter_map call_of (z ∷ [])) g → (z ≡ failure_at d) × AlwaysGives m.steps q l × (g ≡ f)
+  failure_place_of_first (asked y v) d l p q g a drawn called = absurd (let u = source_step_of_place (asked y v) p q drawn in let e = (a (item y) u.0 u.1).0 in cc)
+  failure_place_of_first (failure_at c) d l p q g a drawn called = let is = a (Err c) q drawn in let same : c ≡ d = (let e = is.0 in cc) in (ap (λ (e : E). failure_at e) same, is.1, sym called)
+  failure_place_of_first end_at d l p q g a drawn called = absurd (let e = (a end q drawn).0 in cc)
 
   -- the call at an item that the list begins with
-  asked_as : (x y : X) (v : Result Bool E) (g : F) → y ≡ x → Calls call f ((y, v) ∷ []) g → (◌≡◌ {A = Place X (Result Bool E) E} (asked y v) (asked x (h x))) × (g ≡ f)
-  asked_as x y v g same called = let c = acts y v called.0 called.1 in (ap (λ (w : Result Bool E). asked y w) c.1 ∙ ap (λ (w : X). asked w (h w)) same, sym called.2 ∙ c.0)
+  asked_on_listed : (x y : X) (v : Result Bool E) (g : F) → y ≡ x → Calls call f ((y, v) ∷ []) g → (◌≡◌ {A = Place X (Result Bool E) E} (asked y v) (asked x (h x))) × (g ≡ f)
+  asked_on_listed x y v g same called = let c = acts y v called.0 called.1 in (ap (λ (w : Result Bool E). asked y w) c.1 ∙ ap (λ (w : X). asked w (h w)) same, sym called.2 ∙ c.0)
 
   item_of_first : (z : Place X (Result Bool E) E) (x : X) (l : List (Result X E)) (p q : S) (g : F) → AlwaysGives m.steps p (Ok x ∷ l) → DrawsAtPlace m.steps looks z p q → Calls call f (filter_map call_of (z ∷ [])) g → (z ≡ asked x (h x)) × (g ≡ f) × (is_refused z ≡ false → AlwaysGives m.steps q l)
-  item_of_first (asked y (Ok true)) x l p q g a drawn called = let is = a (item y) q drawn in let same : y ≡ x = (let e = is.0 in cc) in let c = asked_as x y (Ok true) g same called in (c.0, c.1, λ e. is.1)
-  item_of_first (asked y (Ok false)) x l p q g a drawn called = let u = k.comes p y q drawn in let same : y ≡ x = (let e = (a (item y) u.0 u.1).0 in cc) in let c = asked_as x y (Ok false) g same called in (c.0, c.1, λ e. absurd cc)
-  item_of_first (asked y (Err d)) x l p q g a drawn called = let is = a (item y) q drawn in let same : y ≡ x = (let e = is.0 in cc) in let c = asked_as x y (Err d) g same called in (c.0, c.1, λ e. is.1)
+  item_of_first (asked y (Ok true)) x l p q g a drawn called = let is = a (item y) q drawn in let same : y ≡ x = (let e = is.0 in cc) in let c = asked_on_listed x y (Ok true) g same called in (c.0, c.1, λ e. is.1)
+  item_of_first (asked y (Ok false)) x l p q g a drawn called = let u = k.comes p y q drawn in let same : y ≡ x = (let e = (a (item y) u.0 u.1).0 in cc) in let c = asked_on_listed x y (Ok false) g same called in (c.0, c.1, λ e. absurd cc)
+  item_of_first (asked y (Err d)) x l p q g a drawn called = let is = a (item y) q drawn in let same : y ≡ x = (let e = is.0 in cc) in let c = asked_on_listed x y (Err d) g same called in (c.0, c.1, λ e. is.1)
   item_of_first (failure_at c) x l p q g a drawn called = absurd (let e = (a (Err c) q drawn).0 in cc)
   item_of_first end_at x l p q g a drawn called = absurd (let e = (a end q drawn).0 in cc)
 
@@ -260,9 +260,9 @@ module _ {S F X E : Type 0} {m : Contract S X E} {looks : S → X → S → Type
 
   gives_peeking : (l : List (Result X E)) (p : S) → AlwaysGives m.steps p l → GivesPeeking p f (taken_while h l)
   unfolding taken_while
-  gives_peeking [] p a = λ r q w. let u = source_step_of_place w.0 p q.0 w.1 in end_of_nil w.0 p u.0 r a u.1 w.3
+  gives_peeking [] p a = λ r q w. let u = source_step_of_place w.0 p q.0 w.1 in taken_end_of_nil w.0 p u.0 r a u.1 w.3
   gives_peeking (Ok x ∷ l) p a = gives_through_item x (h x) l (taken_while h l) p refl a (λ u b. gives_peeking l u b)
-  gives_peeking (Err e ∷ l) p a = λ r q w. let d = failure_of_first w.0 e l p q.0 q.1 a w.1 w.2 in (w.3 ∙ ap taken_answer d.0, gives_peeking_of_draws q.0 q.1 (taken_while h l) d.2 (gives_peeking l q.0 d.1))
+  gives_peeking (Err e ∷ l) p a = λ r q w. let d = failure_place_of_first w.0 e l p q.0 q.1 a w.1 w.2 in (w.3 ∙ ap taken_answer d.0, gives_peeking_of_draws q.0 q.1 (taken_while h l) d.2 (gives_peeking l q.0 d.1))
 
 pub lists_peeking : {S F X E : Type 0} {m : Contract S X E} {looks : S → X → S → Type 0} (k : LooksAhead m looks) (g : Mut F (Bor X × Unit {0}) (Result Bool E)) (s : PeekingTakeWhile S F) (f : F) (h : X → Result Bool E) (l : List (Result X E)) → peeking_parts s ≡ (s.it, f) → Acts (call_at g) f h → Lists m.steps s.it l
     → Lists (seen_as peeking_parts (peeking_contract m looks g)).steps s (taken_while h l)
@@ -297,7 +297,7 @@ module _ {S F X E : Type 0} {m : Contract S X E} {looks : S → X → S → Type
   unfolding rest_by_while taken_while
   leaves_refused [] s t a = λ ran. tt
   leaves_refused (Ok x ∷ l) s t a = leaves_rest_item x (h x) l (taken_while h l) (rest_by_while h l) s t refl a (λ u b. leaves_refused l u t b)
-  leaves_refused (Err e ∷ l) s t a = λ ran. let w = ran.1 in let d = failure_of_first k call f h acts w.0 e l s ran.0.0 ran.0.1 a w.1 w.2 in
+  leaves_refused (Err e ∷ l) s t a = λ ran. let w = ran.1 in let d = failure_place_of_first k call f h acts w.0 e l s ran.0.0 ran.0.1 a w.1 w.2 in
       leaves_of_draws (rest_by_while h l) (taken_while h l) ran.0.0 ran.0.1 t d.2 (leaves_refused l ran.0.0 t d.1) ran.2
 
 -- a run of a value whose answers are those of its parts is one of these

@@ -39,7 +39,7 @@ module _ {S U A B C E F V : Type 0} (steps : S → Answered A E → S → Type 0
 
 -- ---- whole traces: one side
 
-module _ {A E X S : Type 0} (gave : X → Option (Answered A E)) (behind : Option A → X → Option A) (steps : S → Answered A E → S → Type 0) where
+module _ {A E X S : Type 0} (gave : X → Option (Answered A E)) (held_after : Option A → X → Option A) (steps : S → Answered A E → S → Type 0) where
   -- one place before others
   run_drawn_first : (h : Option A) (o : Option (Answered A E)) (s m t : S) (rest : List (Answered A E)) → GivesIf steps (s, h) o m → Run steps m rest t → Run steps s (before_drawn h o rest) t
   run_drawn_first (Some x) (Some r) s m t rest g ran = subst (λ (z : S). Run steps z rest t) g.1 ran
@@ -52,8 +52,8 @@ module _ {A E X S : Type 0} (gave : X → Option (Answered A E)) (behind : Optio
   is_given_first (Some x) None s m g = tt
   is_given_first None o s m g = tt
 
-  pub side_trace_first : (p q : S × Option A) (m : S) (x : X) (places : List X) → GivesIf steps p (gave x) m → SideTrace gave behind steps (m, behind p.1 x) places q → SideTrace gave behind steps p (x ∷ places) q
-  side_trace_first p q m x places g d = record { drawn = run_drawn_first p.1 (gave x) p.0 m q.0 (drawn_at gave behind (behind p.1 x) places) g d.drawn; held = (is_given_first p.1 (gave x) p.0 m g, d.held) }
+  pub side_trace_first : (p q : S × Option A) (m : S) (x : X) (places : List X) → GivesIf steps p (gave x) m → SideTrace gave held_after steps (m, held_after p.1 x) places q → SideTrace gave held_after steps p (x ∷ places) q
+  side_trace_first p q m x places g d = record { drawn = run_drawn_first p.1 (gave x) p.0 m q.0 (drawn_at gave held_after (held_after p.1 x) places) g d.drawn; held = (is_given_first p.1 (gave x) p.0 m g, d.held) }
 
   -- a first place and the others
   run_first_and_rest : (h : Option A) (o : Option (Answered A E)) (s t : S) (rest : List (Answered A E)) → IsGiven h o → Run steps s (before_drawn h o rest) t → (m : S) × GivesIf steps (s, h) o m × Run steps m rest t
@@ -62,8 +62,8 @@ module _ {A E X S : Type 0} (gave : X → Option (Answered A E)) (behind : Optio
   run_first_and_rest None None s t rest is ran = (s, refl, ran)
   run_first_and_rest None (Some r) s t rest is ran = (ran.0, ran.1, ran.2)
 
-  pub side_rest : (p q : S × Option A) (x : X) (places : List X) → SideTrace gave behind steps p (x ∷ places) q → (m : S) × GivesIf steps p (gave x) m × SideTrace gave behind steps (m, behind p.1 x) places q
-  side_rest p q x places d = let f = run_first_and_rest p.1 (gave x) p.0 q.0 (drawn_at gave behind (behind p.1 x) places) d.held.0 d.drawn in (f.0, f.1, record { drawn = f.2; held = d.held.1 })
+  pub side_rest : (p q : S × Option A) (x : X) (places : List X) → SideTrace gave held_after steps p (x ∷ places) q → (m : S) × GivesIf steps p (gave x) m × SideTrace gave held_after steps (m, held_after p.1 x) places q
+  side_rest p q x places d = let f = run_first_and_rest p.1 (gave x) p.0 q.0 (drawn_at gave held_after (held_after p.1 x) places) d.held.0 d.drawn in (f.0, f.1, record { drawn = f.2; held = d.held.1 })
 
 -- ---- whole traces: both sides
 
@@ -147,11 +147,11 @@ left_over None l = rest_of l
 left_over (Some x) l = l
 
 module _ {S A E : Type 0} (steps : S → Answered A E → S → Type 0) where
-  side_lists_on : (t : S) (x h : Option A) (l : List (Result A E)) → (h ≡ None) ⊎ (h ≡ x) → Ok x ≡ first_answer l → GivesForGood steps t (rest_of l) → SideLists steps (t, h) (left_over h l)
-  side_lists_on t x None l kept is i = i
-  side_lists_on t x (Some y) [] kept is i = absurd (elim kept [ inl e ↦ cc | inr e ↦ cc ])
-  side_lists_on t x (Some y) (Ok z ∷ l) kept is i = elim kept [ inl e ↦ absurd cc | inr e ↦ let same : z ≡ y = cc in (l, rw same refl, i) ]
-  side_lists_on t x (Some y) (Err e ∷ l) kept is i = absurd cc
+  side_lists_after_item : (t : S) (x h : Option A) (l : List (Result A E)) → (h ≡ None) ⊎ (h ≡ x) → Ok x ≡ first_answer l → GivesForGood steps t (rest_of l) → SideLists steps (t, h) (left_over h l)
+  side_lists_after_item t x None l kept is i = i
+  side_lists_after_item t x (Some y) [] kept is i = absurd (elim kept [ inl e ↦ cc | inr e ↦ cc ])
+  side_lists_after_item t x (Some y) (Ok z ∷ l) kept is i = elim kept [ inl e ↦ absurd cc | inr e ↦ let same : z ≡ y = cc in (l, rw same refl, i) ]
+  side_lists_after_item t x (Some y) (Err e ∷ l) kept is i = absurd cc
 
 -- What a list word says of a rule: of what stands first in both lists it makes the answer that stands first, and of what is left of both lists the rest. Q holds of each closure that is reached.
 pub record ListsBy {A B C E F V : Type 0} (rule : Rule A B C E F V) (Q : F → Type 0) (W : List (Result A E) → List (Result B E) → List (Result C E)) : Type 0 where
@@ -166,24 +166,24 @@ module _ {S U A B C E F V : Type 0} (steps : S → Answered A E → S → Type 0
 
   -- one place, where the sides of p list a and b
   module _ (p : SidesState steps others rule) (a : List (Result A E)) (b : List (Result B E)) (i : SideLists steps p.0 a) (k : SideLists others p.1 b) (c : Q p.2) where
-    together_on : (x : SidesPlace A B E V) (t : S) (u : U) (g : F) → GivesIf steps p.0 (left_gave x) t → GivesIf others p.1 (right_gave x) u → place_decides rule p.2 x g → (place_answer rule x ≡ first_answer (W a b)) × ListTogether ((t, left_held_after rule p.0.1 x), (u, right_held_after rule p.1.1 x), g) (rest_of (W a b))
-    together_on (left_failed e) t u g m n d =
+    together_after_place : (x : SidesPlace A B E V) (t : S) (u : U) (g : F) → GivesIf steps p.0 (left_gave x) t → GivesIf others p.1 (right_gave x) u → place_decides rule p.2 x g → (place_answer rule x ≡ first_answer (W a b)) × ListTogether ((t, left_held_after rule p.0.1 x), (u, right_held_after rule p.1.1 x), g) (rest_of (W a b))
+    together_after_place (left_failed e) t u g m n d =
         let first = side_gives_first steps p.0 t (failure e) a i m in
         let w = by.left_fails a b e first.0 in
         (w.0, (rest_of a, b, first.1, subst (λ (z : U). SideLists others (z, p.1.1) b) (sym n) k, subst Q (sym d) c, w.1))
-    together_on (right_failed x e) t u g m n d =
+    together_after_place (right_failed x e) t u g m n d =
         let first = side_gives_first steps p.0 t (Ok x) a i m in
         let second = side_gives_first others p.1 u (failure e) b k n in
         let w = by.right_fails a b x e first.0 second.0 in
-        (w.0, (left_over x a, rest_of b, side_lists_on steps t x x a (inr refl) first.0 first.1, second.1, subst Q (sym d) c, w.1))
-    together_on (both_gave x y v) t u g m n d =
+        (w.0, (left_over x a, rest_of b, side_lists_after_item steps t x x a (inr refl) first.0 first.1, second.1, subst Q (sym d) c, w.1))
+    together_after_place (both_gave x y v) t u g m n d =
         let first = side_gives_first steps p.0 t (Ok x) a i m in
         let second = side_gives_first others p.1 u (Ok y) b k n in
         let w = by.both_give a b x y v p.2 g c first.0 second.0 d in
-        (w.1, (left_over (rule.left_held x y v) a, left_over (rule.right_held x y v) b, side_lists_on steps t x (rule.left_held x y v) a (lawful.left_kept x y v) first.0 first.1, side_lists_on others u y (rule.right_held x y v) b (lawful.right_kept x y v) second.0 second.1, w.0, w.2))
+        (w.1, (left_over (rule.left_held x y v) a, left_over (rule.right_held x y v) b, side_lists_after_item steps t x (rule.left_held x y v) a (lawful.left_kept x y v) first.0 first.1, side_lists_after_item others u y (rule.right_held x y v) b (lawful.right_kept x y v) second.0 second.1, w.0, w.2))
 
   together_goes : (p q : SidesState steps others rule) (r : Answered C E) (l : List (Result C E)) → ListTogether p l → SidesStep steps others rule p r q → (r ≡ first_answer l) × ListTogether q (rest_of l)
-  together_goes p ((t, h), (u, k), g) r l i w = rw (w.2, w.4, w.6, ← i.5) (together_on p i.0 i.1 i.2 i.3 i.4 w.0 t u g w.1 w.3 w.5)
+  together_goes p ((t, h), (u, k), g) r l i w = rw (w.2, w.4, w.6, ← i.5) (together_after_place p i.0 i.1 i.2 i.3 i.4 w.0 t u g w.1 w.3 w.5)
 
   pub gives_for_good_sides : (p : SidesState steps others rule) (a : List (Result A E)) (b : List (Result B E)) → SideLists steps p.0 a → SideLists others p.1 b → Q p.2 → GivesForGood (SidesStep steps others rule) p (W a b)
   gives_for_good_sides p a b i k c = gives_for_good_of_sides (SidesStep steps others rule) ListTogether (λ s t r l d w. together_goes s t r l d w) (W a b) p (a, b, i, k, c, refl)
@@ -229,17 +229,17 @@ module _ {S U A B C E F V : Type 0} (steps : S → Answered A E → S → Type 0
     pub right : ItemsThenEnd others p.1 of_right
     pub few : many of_left of_right ≤ n
 
-  both_end_now : (p : SidesState steps others rule) (t : S) (u : U) (g : F) (x : SidesPlace A B E V) → GivesIf steps p.0 (left_gave x) t → GivesIf others p.1 (right_gave x) u → place_decides rule p.2 x g → place_answer rule x ≡ end → BothEnd p 0
-  both_end_now p t u g (left_failed e) m n d is = absurd cc
-  both_end_now p t u g (right_failed x e) m n d is = absurd cc
-  both_end_now p t u g (both_gave x y v) m n d is =
+  both_end_at_end : (p : SidesState steps others rule) (t : S) (u : U) (g : F) (x : SidesPlace A B E V) → GivesIf steps p.0 (left_gave x) t → GivesIf others p.1 (right_gave x) u → place_decides rule p.2 x g → place_answer rule x ≡ end → BothEnd p 0
+  both_end_at_end p t u g (left_failed e) m n d is = absurd cc
+  both_end_at_end p t u g (right_failed x e) m n d is = absurd cc
+  both_end_at_end p t u g (both_gave x y v) m n d is =
       let no = by.end_given p.2 g x y v d is in
       record { of_left = 0; of_right = 0; left = items_then_end_none_from steps p.0 t (subst (λ (z : Option A). GivesHeldFirst steps p.0 (Ok z) t) no.0 m); right = items_then_end_none_from others p.1 u (subst (λ (z : Option B). GivesHeldFirst others p.1 (Ok z) u) no.1 n); few = omega (arith, by.nothing) }
 
-  both_end_on : (p : SidesState steps others rule) (t : S) (u : U) (g : F) (x : SidesPlace A B E V) (z : C) (k : ℕ) → GivesIf steps p.0 (left_gave x) t → GivesIf others p.1 (right_gave x) u → place_decides rule p.2 x g → place_answer rule x ≡ item z → BothEnd ((t, left_held_after rule p.0.1 x), (u, right_held_after rule p.1.1 x), g) k → BothEnd p (k + 1)
-  both_end_on p t u g (left_failed e) z k m n d is b = absurd cc
-  both_end_on p t u g (right_failed x e) z k m n d is b = absurd cc
-  both_end_on p t u g (both_gave x y v) z k m n d is b = record {
+  both_end_after_item : (p : SidesState steps others rule) (t : S) (u : U) (g : F) (x : SidesPlace A B E V) (z : C) (k : ℕ) → GivesIf steps p.0 (left_gave x) t → GivesIf others p.1 (right_gave x) u → place_decides rule p.2 x g → place_answer rule x ≡ item z → BothEnd ((t, left_held_after rule p.0.1 x), (u, right_held_after rule p.1.1 x), g) k → BothEnd p (k + 1)
+  both_end_after_item p t u g (left_failed e) z k m n d is b = absurd cc
+  both_end_after_item p t u g (right_failed x e) z k m n d is b = absurd cc
+  both_end_after_item p t u g (both_gave x y v) z k m n d is b = record {
     of_left = (held_count x - held_count (rule.left_held x y v)) + b.of_left;
     of_right = (held_count y - held_count (rule.right_held x y v)) + b.of_right;
     left = items_then_end_from steps p.0 t x (rule.left_held x y v) b.of_left (lawful.left_kept x y v) m b.left;
@@ -248,11 +248,11 @@ module _ {S U A B C E F V : Type 0} (steps : S → Answered A E → S → Type 0
   }
 
   both_end_first : (p q : SidesState steps others rule) (z : C) (k : ℕ) → SidesStep steps others rule p (item z) q → BothEnd q k → BothEnd p (k + 1)
-  both_end_first p ((t, h), (u, i), g) z k w b = both_end_on p t u g w.0 z k w.1 w.3 w.5 (sym w.6) (subst (λ (e : Option A). BothEnd ((t, e), (u, right_held_after rule p.1.1 w.0), g) k) w.2 (subst (λ (e : Option B). BothEnd ((t, h), (u, e), g) k) w.4 b))
+  both_end_first p ((t, h), (u, i), g) z k w b = both_end_after_item p t u g w.0 z k w.1 w.3 w.5 (sym w.6) (subst (λ (e : Option A). BothEnd ((t, e), (u, right_held_after rule p.1.1 w.0), g) k) w.2 (subst (λ (e : Option B). BothEnd ((t, h), (u, e), g) k) w.4 b))
 
   -- a run of items and then an end
   pub both_end : (zs : List C) (p q r : SidesState steps others rule) → Yields (SidesStep steps others rule) p zs q → SidesStep steps others rule q end r → BothEnd p (length zs)
-  both_end [] p q ((t, h), (u, k), g) ran w = subst (λ (z : SidesState steps others rule). BothEnd z 0) (sym ran) (both_end_now q t u g w.0 w.1 w.3 w.5 (sym w.6))
+  both_end [] p q ((t, h), (u, k), g) ran w = subst (λ (z : SidesState steps others rule). BothEnd z 0) (sym ran) (both_end_at_end q t u g w.0 w.1 w.3 w.5 (sym w.6))
   both_end (z ∷ zs) p q r ran w = let b = both_end_first p ran.0 z (length zs) ran.1 (both_end zs ran.0 q r ran.2 w) in record { of_left = b.of_left; of_right = b.of_right; left = b.left; right = b.right; few = omega (arith, b.few) }
 
 -- a lower bound of a side's source bounds what the side yields
@@ -317,10 +317,10 @@ module _ {S U A B C E F V : Type 0} (steps : S → Answered A E → S → Type 0
     pub right : ItemsCome others p.1 of_right
     pub few : n ≤ many of_left of_right
 
-  both_come_on : (p : SidesState steps others rule) (t : S) (u : U) (g : F) (x : SidesPlace A B E V) (z : C) (k : ℕ) → GivesIf steps p.0 (left_gave x) t → GivesIf others p.1 (right_gave x) u → place_decides rule p.2 x g → place_answer rule x ≡ item z → BothCome ((t, left_held_after rule p.0.1 x), (u, right_held_after rule p.1.1 x), g) k → BothCome p (k + 1)
-  both_come_on p t u g (left_failed e) z k m n d is b = absurd cc
-  both_come_on p t u g (right_failed x e) z k m n d is b = absurd cc
-  both_come_on p t u g (both_gave x y v) z k m n d is b =
+  both_come_after_item : (p : SidesState steps others rule) (t : S) (u : U) (g : F) (x : SidesPlace A B E V) (z : C) (k : ℕ) → GivesIf steps p.0 (left_gave x) t → GivesIf others p.1 (right_gave x) u → place_decides rule p.2 x g → place_answer rule x ≡ item z → BothCome ((t, left_held_after rule p.0.1 x), (u, right_held_after rule p.1.1 x), g) k → BothCome p (k + 1)
+  both_come_after_item p t u g (left_failed e) z k m n d is b = absurd cc
+  both_come_after_item p t u g (right_failed x e) z k m n d is b = absurd cc
+  both_come_after_item p t u g (both_gave x y v) z k m n d is b =
       let l = items_come_from steps once p.0 t x (rule.left_held x y v) b.of_left (lawful.left_kept x y v) m b.left in
       let r = items_come_from others once_right p.1 u y (rule.right_held x y v) b.of_right (lawful.right_kept x y v) n b.right in
       record {
@@ -332,7 +332,7 @@ module _ {S U A B C E F V : Type 0} (steps : S → Answered A E → S → Type 0
       }
 
   both_come_first : (p q : SidesState steps others rule) (z : C) (k : ℕ) → SidesStep steps others rule p (item z) q → BothCome q k → BothCome p (k + 1)
-  both_come_first p ((t, h), (u, i), g) z k w b = both_come_on p t u g w.0 z k w.1 w.3 w.5 (sym w.6) (subst (λ (e : Option A). BothCome ((t, e), (u, right_held_after rule p.1.1 w.0), g) k) w.2 (subst (λ (e : Option B). BothCome ((t, h), (u, e), g) k) w.4 b))
+  both_come_first p ((t, h), (u, i), g) z k w b = both_come_after_item p t u g w.0 z k w.1 w.3 w.5 (sym w.6) (subst (λ (e : Option A). BothCome ((t, e), (u, right_held_after rule p.1.1 w.0), g) k) w.2 (subst (λ (e : Option B). BothCome ((t, h), (u, e), g) k) w.4 b))
 
   -- a run of items
   pub both_come : (zs : List C) (p q : SidesState steps others rule) → Yields (SidesStep steps others rule) p zs q → BothCome p (length zs)

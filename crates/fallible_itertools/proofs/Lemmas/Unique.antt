@@ -11,6 +11,7 @@ use Rattle.fallible_iterator.specs.Lists.{AlwaysGives, Lists}
 use Rattle.fallible_iterator.specs.Making.{AtRefusal, GivesMade, IsMadeOf, ListsMade}
 use Rattle.fallible_iterator.specs.Passing.{passing_step}
 use Rattle.fallible_iterator.specs.Laws.Passing.{Passes, done, end_passes, failure_passes, keeps, refuses, closes, leaves_out, passes_of_pass_trace, pass_trace_of_passes}
+use Rattle.fallible_iterator.proofs.Lemmas.Lists.Passing.{end_of_nil, failure_of_first}
 use Rattle.fallible_iterator.proofs.Lemmas.Making.{lists_made_seen}
 use Rattle.fallible_itertools.specs.Holding.{as_answered_item}
 use Rattle.fallible_itertools.specs.Unique.{first_of_equal, unique_asks, unique_by, unique_contract, unique_from, unique_of, unique_parts, unique_seen}
@@ -61,22 +62,6 @@ module _ {A E : Type 0} (S : Type 0) (eq : A → A → Bool) (equivalence : IsEq
     gives_where_told [] s a = a
     gives_where_told (y ∷ l) s a = a
 
-    end_of_nil : (s : I) (p : HashSet A S) (r : Answered A E) (t : I) (q : HashSet A S) → AlwaysGives {A = A} steps s [] → OneDrawn s p r t q → r ≡ end
-    end_of_nil s p _ t q a (end_passes step d) = refl
-    end_of_nil s p _ t q a (failure_passes e step d) = absurd (let w = a (Err e) _ step in cc)
-    end_of_nil s p _ t q a (keeps x o y step called is d) = absurd (let w = a (Ok (Some x)) _ step in cc)
-    end_of_nil s p _ t q a (refuses x o e step called is d) = absurd (let w = a (Ok (Some x)) _ step in cc)
-    end_of_nil s p _ t q a (closes x o step called is d) = absurd (let w = a (Ok (Some x)) _ step in cc)
-    end_of_nil s p r t q a (leaves_out x o step called is d) = absurd (let w = a (Ok (Some x)) _ step in cc)
-
-    failure_of_first : (d : E) (l : List (Result A E)) (s : I) (p : HashSet A S) (r : Answered A E) (t : I) (q : HashSet A S) → AlwaysGives steps s (Err d ∷ l) → OneDrawn s p r t q → (r ≡ Err d) × (q ≡ p) × AlwaysGives steps t l
-    failure_of_first d l s p _ t q a (end_passes step c) = absurd (let w = (a (Ok None) _ step).0 in cc)
-    failure_of_first d l s p _ t q a (failure_passes e step done) = let w = a (Err e) t step in ((let k = w.0 in cc), refl, w.1)
-    failure_of_first d l s p _ t q a (keeps x o y step called is c) = absurd (let w = (a (Ok (Some x)) _ step).0 in cc)
-    failure_of_first d l s p _ t q a (refuses x o e step called is c) = absurd (let w = (a (Ok (Some x)) _ step).0 in cc)
-    failure_of_first d l s p _ t q a (closes x o step called is c) = absurd (let w = (a (Ok (Some x)) _ step).0 in cc)
-    failure_of_first d l s p r t q a (leaves_out x o step called is c) = absurd (let w = (a (Ok (Some x)) _ step).0 in cc)
-
     -- after an item of the list, what is seen and what comes then
     abbrev After : List (Result A E) → List A → Type 0
     After l seen = (t : I) (q : HashSet A S) → AlwaysGives steps t l → HasSeen q seen → Gives (t, q) (unique_from eq seen l)
@@ -114,8 +99,8 @@ module _ {A E : Type 0} (S : Type 0) (eq : A → A → Bool) (equivalence : IsEq
 
     gives_unique : (l : List (Result A E)) (seen : List A) → After l seen
     unfolding unique_from
-    gives_unique [] seen = λ s p a has r t w. end_of_nil s p r t.0 t.1 a (passes_of_pass_trace w)
-    gives_unique (Err d ∷ l) seen = λ s p a has r t w. let k = failure_of_first d l s p r t.0 t.1 a (passes_of_pass_trace w) in inr (k.0, gives_unique l seen t.0 t.1 k.2 (subst (λ (q : HashSet A S). HasSeen q seen) (sym k.1) has))
+    gives_unique [] seen = λ s p a has r t w. end_of_nil a (passes_of_pass_trace w)
+    gives_unique (Err d ∷ l) seen = λ s p a has r t w. let k = failure_of_first d l a (passes_of_pass_trace w) in inr (k.0, gives_unique l seen t.0 t.1 k.2 (subst (λ (q : HashSet A S). HasSeen q seen) (sym k.1) has))
     gives_unique (Ok x ∷ l) seen = λ s p a has. gives_where_told (first_of_equal x (is_member eq seen x) (unique_from eq seen l) (unique_from eq (x ∷ seen) l)) (s, p) (λ r t w. told_of_item x l seen s p r t.0 t.1 a has (gives_unique l seen) (gives_unique l (x ∷ seen)) (passes_of_pass_trace w))
 
 unique_from_none : {A E : Type 0} (eq : A → A → Bool) (l : List (Result A E)) → unique_from eq [] l ≡ unique_of eq l

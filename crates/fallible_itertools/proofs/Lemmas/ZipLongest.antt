@@ -108,10 +108,10 @@ module _ {S U A B E : Type 0} (left : Contract S A E) (right : Contract U B E) (
 
 -- ---- whole traces
 
-right_behind_none_back : {A B E : Type 0} (h : Option B) (x : SidesPlace A B E (Unit {0})) → h ≡ None → right_held_after (longest_rule {A = A} {B = B} {E = E}) h x ≡ None
-right_behind_none_back h (left_failed e) is = is
-right_behind_none_back h (right_failed x e) is = refl
-right_behind_none_back h (both_gave x y v) is = refl
+right_held_none_of_none : {A B E : Type 0} (h : Option B) (x : SidesPlace A B E (Unit {0})) → h ≡ None → right_held_after (longest_rule {A = A} {B = B} {E = E}) h x ≡ None
+right_held_none_of_none h (left_failed e) is = is
+right_held_none_of_none h (right_failed x e) is = refl
+right_held_none_of_none h (both_gave x y v) is = refl
 
 module _ {S U A B E : Type 0} (steps : S → Answered A E → S → Type 0) (others : U → Answered B E → U → Type 0) where
   abbrev SidesHere : Type 0
@@ -128,7 +128,7 @@ module _ {S U A B E : Type 0} (steps : S → Answered A E → S → Type 0) (oth
 
   -- nothing is held of the right
   right_holds_none : (p q : SidesHere) (r : Answered (EitherOrBoth A B) E) → p.1.1 ≡ None → ZippedSteps (fused_steps steps) (fused_steps others) p r q → q.1.1 ≡ None
-  right_holds_none p q r e w = w.4 ∙ right_behind_none_back p.1.1 w.0 e
+  right_holds_none p q r e w = w.4 ∙ right_held_none_of_none p.1.1 w.0 e
 
   run_of_sides : (trace : List (Answered (EitherOrBoth A B) E)) (s t : ZipLongest S U A E) → Run SeenSteps s trace t → Run (ZippedSteps (fused_steps steps) (fused_steps others)) (zip_longest_parts s) trace (zip_longest_parts t)
   run_of_sides [] s t e = ap zip_longest_parts e

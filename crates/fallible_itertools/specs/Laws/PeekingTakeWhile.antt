@@ -140,13 +140,13 @@ module _ {S F X E : Type 0} (m : Contract S X E) (l : Lawful m) (looks : S → X
   lawful_taking = lawful_passing (call_at g) callable_here take_while_outcome (λ p h. upper_alone m p.0 h) (λ P PeekableHere f h weak reached c. is_callable_after weak reached c) l
 
   -- what a draw keeps, whatever the steps are
-  on_answer_as : (p q : S × F) (r : Answered X E) → OnAnswer PassingHere p r q → OnAnswer PeekingHere p r q
-  on_answer_as p q (Ok (Some x)) h = h
-  on_answer_as p q (Ok None) h = h
-  on_answer_as p q (Err e) h = h
+  on_answer_peeking : (p q : S × F) (r : Answered X E) → OnAnswer PassingHere p r q → OnAnswer PeekingHere p r q
+  on_answer_peeking p q (Ok (Some x)) h = h
+  on_answer_peeking p q (Ok None) h = h
+  on_answer_peeking p q (Err e) h = h
 
-  kept_by_draw_as : (p q : S × F) (r : Answered X E) → KeptByDraw PassingHere p r q → KeptByDraw PeekingHere p r q
-  kept_by_draw_as p q r a = record { can_next = a.can_next; is_finite = a.is_finite; answer = on_answer_as p q r a.answer; may_give = a.may_give; may_fail = a.may_fail; lenders = a.lenders }
+  kept_by_draw_of_passing : (p q : S × F) (r : Answered X E) → KeptByDraw PassingHere p r q → KeptByDraw PeekingHere p r q
+  kept_by_draw_of_passing p q r a = record { can_next = a.can_next; is_finite = a.is_finite; answer = on_answer_peeking p q r a.answer; may_give = a.may_give; may_fail = a.may_fail; lenders = a.lenders }
 
   -- the one call at a place
   call_of_place : (p q : F) (x : X) (v : Result Bool E) → Calls (call_at g) p ((x, v) ∷ []) q → call_at g p x v q
@@ -166,11 +166,11 @@ module _ {S F X E : Type 0} (m : Contract S X E) (l : Lawful m) (looks : S → X
       }
 
   kept_by_draw_place : (z : Place X (Result Bool E) E) (p q : S) (f h : F) → PeekingHere.can_next (p, f) → DrawsAtPlace m.steps looks z p q → Calls (call_at g) f (filter_map call_of (z ∷ [])) h → KeptByDraw PeekingHere (p, f) (taken_answer z) (q, h)
-  kept_by_draw_place (asked x (Ok true)) p q f h c step called = kept_by_draw_as (p, f) (q, h) (item x) (lawful_taking.kept_by_draw (p, f) (item x) (q, h) c (pass_trace_item x (Ok true) x step (call_of_place f h x (Ok true) called) refl))
+  kept_by_draw_place (asked x (Ok true)) p q f h c step called = kept_by_draw_of_passing (p, f) (q, h) (item x) (lawful_taking.kept_by_draw (p, f) (item x) (q, h) c (pass_trace_item x (Ok true) x step (call_of_place f h x (Ok true) called) refl))
   kept_by_draw_place (asked x (Ok false)) p q f h c step called = kept_by_draw_refused p q f h x c step (call_of_place f h x (Ok false) called)
-  kept_by_draw_place (asked x (Err e)) p q f h c step called = kept_by_draw_as (p, f) (q, h) (Err e) (lawful_taking.kept_by_draw (p, f) (failure e) (q, h) c (pass_trace_refusal x (Err e) e step (call_of_place f h x (Err e) called) refl))
-  kept_by_draw_place (failure_at e) p q f h c step called = kept_by_draw_as (p, f) (q, h) (Err e) (lawful_taking.kept_by_draw (p, f) (failure e) (q, h) c (rw (sym called) (pass_trace_failure step)))
-  kept_by_draw_place end_at p q f h c step called = kept_by_draw_as (p, f) (q, h) end (lawful_taking.kept_by_draw (p, f) end (q, h) c (rw (sym called) (pass_trace_end step)))
+  kept_by_draw_place (asked x (Err e)) p q f h c step called = kept_by_draw_of_passing (p, f) (q, h) (Err e) (lawful_taking.kept_by_draw (p, f) (failure e) (q, h) c (pass_trace_refusal x (Err e) e step (call_of_place f h x (Err e) called) refl))
+  kept_by_draw_place (failure_at e) p q f h c step called = kept_by_draw_of_passing (p, f) (q, h) (Err e) (lawful_taking.kept_by_draw (p, f) (failure e) (q, h) c (rw (sym called) (pass_trace_failure step)))
+  kept_by_draw_place end_at p q f h c step called = kept_by_draw_of_passing (p, f) (q, h) end (lawful_taking.kept_by_draw (p, f) end (q, h) c (rw (sym called) (pass_trace_end step)))
 
   kept_by_draw_peeking : (p : S × F) (r : Answered X E) (q : S × F) → PeekingHere.can_next p → PeekingHere.steps p r q → KeptByDraw PeekingHere p r q
   kept_by_draw_peeking p r q c w = subst (λ (a : Answered X E). KeptByDraw PeekingHere p a q) (sym w.3) (kept_by_draw_place w.0 p.0 q.0 p.1 q.1 c w.1 w.2)

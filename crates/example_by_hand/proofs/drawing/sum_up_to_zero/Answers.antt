@@ -1,7 +1,7 @@
 -- What an item, the first 0, a failure and the end make of the sum.
 use Rattle.std.proofs.Common.{rules, arith}
 use Rattle.fallible_iterator.specs.Lists.{folded, taken_while}
-use Rattle.fallible_iterator.proofs.Lemmas.Loops.{answers_from_here_on, answer_at_stop, answer_at_failure, answer_at_end}
+use Rattle.fallible_iterator.proofs.Lemmas.Loops.{answers_after_item, answer_at_stop, answer_at_failure, answer_at_end}
 use Rattle.example_by_hand.proofs.drawing.sum_up_to_zero.Goals as goal
 
 pub returns-in_err-item : goal.returns-in_err-item
@@ -14,7 +14,7 @@ returns-then-item-eq0 g c = answer_at_stop c.in-Some.item c.loop-left.invariant.
 
 pub loop-left-preserved : goal.loop-left-preserved
 unfolding folded taken_while
-loop-left-preserved g c = (search rules, answers_from_here_on c.in-Some.item c.loop-left.invariant.1 c.draw.ensures.drawn (search rules) (λ l. grind arith))
+loop-left-preserved g c = (search rules, answers_after_item c.in-Some.item c.loop-left.invariant.1 c.draw.ensures.drawn (search rules) (λ l. grind arith))
 
 pub returns : goal.returns
 unfolding folded taken_while

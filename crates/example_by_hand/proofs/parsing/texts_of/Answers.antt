@@ -5,4 +5,4 @@ use Rattle.fallible_iterator.proofs.Lemmas.Making.{collected_made, lists_made_by
 use Rattle.example_by_hand.proofs.parsing.texts_of.Goals as goal
 
 pub returns : goal.returns
-returns c = collected_made _ _ _ _ _ _ _ _ c.collect.ensures.collects (lists_made_by_map _ _ _ _ (λ x. Ok (decimal x)) _ c.map.ensures.parts (λ x r q k. search (rules, tests)) (c.convert.ensures.results _ (search rules)))
+returns c = collected_made _ _ _ _ c.collect.ensures.collects (lists_made_by_map (λ x. Ok (decimal x)) c.map.ensures.parts (λ x r q k. search (rules, tests)) (c.convert.ensures.results _ (search rules)))

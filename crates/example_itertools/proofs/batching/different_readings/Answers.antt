@@ -4,4 +4,4 @@ use Rattle.fallible_iterator.proofs.Lemmas.Making.{counted_made}
 use Rattle.example_itertools.proofs.batching.different_readings.Goals as goal
 
 pub returns : goal.returns
-returns c = counted_made _ _ _ _ _ c.count.ensures.counted.1 (c.unique.ensures.lists _ (c.convert.ensures.results _ (search rules)) (search rules))
+returns c = counted_made c.count.ensures.counted.1 (c.unique.ensures.lists _ (c.convert.ensures.results _ (search rules)) (search rules))

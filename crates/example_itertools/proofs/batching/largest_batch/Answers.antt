@@ -3,7 +3,7 @@ use Rattle.std.proofs.Common.{rules, refl, sym, subst, length, max, Ok, Err, ◌
 use Rattle.fallible_iterator.specs.Lists.{folded}
 use Rattle.fallible_iterator.specs.Making.{SameOrRefused}
 use Rattle.example_itertools.specs.declared.batching.NoBatch.TheVariants.{Memory}
-use Rattle.fallible_itertools.proofs.Lemmas.LoopsMade.{made_from_here_first, made_from_here_on, fails_told, ends_told}
+use Rattle.fallible_itertools.proofs.Lemmas.LoopsMade.{made_from_here_first, made_after_item, fails_told, ends_told}
 use Rattle.example_itertools.proofs.batching.largest_batch.Goals as goal
 
 pub loop-left-init : goal.loop-left-init
@@ -15,7 +15,7 @@ returns-in_err-batch g c = λ whole lists. let same : c.from_residual.result ≡
 
 pub loop-left-preserved : goal.loop-left-preserved
 unfolding folded
-loop-left-preserved g c = (search rules, made_from_here_on c.in-Some.batch c.loop-left.invariant.1 c.draw.ensures.drawn (search rules) (λ xs k is. search rules))
+loop-left-preserved g c = (search rules, made_after_item c.in-Some.batch c.loop-left.invariant.1 c.draw.ensures.drawn (search rules) (λ xs k is. search rules))
 
 pub returns : goal.returns
 unfolding folded

@@ -1,7 +1,7 @@
 -- What a failure, a token after which the value goes on, one at which it fails, and the end make of it. The room is that of the vector of the levels outside.
 use Rattle.std.proofs.Common.{rules, arith, vec_capacity, reverse}
 use Rattle.fallible_iterator.specs.Lists.{folded}
-use Rattle.fallible_iterator.proofs.Lemmas.Loops.{answers_from_here_on, answer_at_stop, answer_at_failure, answer_at_end}
+use Rattle.fallible_iterator.proofs.Lemmas.Loops.{answers_after_item, answer_at_stop, answer_at_failure, answer_at_end}
 use Rattle.example_tasks.proofs.RoomLemmas.{value_from_in_goes_on, refused_from, length_fits_outside, fills_outside}
 use Rattle.example_tasks.proofs.tokens.value_of.Goals as goal
 
@@ -26,7 +26,7 @@ returns-in_err-calculation-clause-room g c = λ l i.
 
 pub loop-calculation-preserved : goal.loop-calculation-preserved
 unfolding folded
-loop-calculation-preserved g c = (search rules, answers_from_here_on c.in-Some.token c.loop-calculation.invariant.1 c.draw.ensures.drawn (search rules) (λ l. grind arith), λ room fits. answers_from_here_on c.in-Some.token (c.loop-calculation.invariant.2 room (let grows = c.in_ok-calculation.ensures.capacity in omega arith)) c.draw.ensures.drawn (search rules) (λ l. value_from_in_goes_on room (reverse c.loop-calculation.calculation.outside.items, c.loop-calculation.calculation.level, c.loop-calculation.calculation.is_begun) (reverse c.in_ok-calculation.calculation.outside.items, c.in_ok-calculation.calculation.level, c.in_ok-calculation.calculation.is_begun) c.in-Some.token l (search rules) (let few = length_fits_outside c.in_ok-calculation.calculation.outside in omega arith)))
+loop-calculation-preserved g c = (search rules, answers_after_item c.in-Some.token c.loop-calculation.invariant.1 c.draw.ensures.drawn (search rules) (λ l. grind arith), λ room fits. answers_after_item c.in-Some.token (c.loop-calculation.invariant.2 room (let grows = c.in_ok-calculation.ensures.capacity in omega arith)) c.draw.ensures.drawn (search rules) (λ l. value_from_in_goes_on room (reverse c.loop-calculation.calculation.outside.items, c.loop-calculation.calculation.level, c.loop-calculation.calculation.is_begun) (reverse c.in_ok-calculation.calculation.outside.items, c.in_ok-calculation.calculation.level, c.in_ok-calculation.calculation.is_begun) c.in-Some.token l (search rules) (let few = length_fits_outside c.in_ok-calculation.calculation.outside in omega arith)))
 
 pub returns-clause-value : goal.returns-clause-value
 unfolding folded

@@ -91,7 +91,7 @@ module _ {S A E : Type 0} (front back : S → Answered A E → S → Type 0) whe
       (made ∙ ap (λ j. j ++ reverse (with_back side r (came_from_back before))) (append-nil (with_front side r (came_from_front before))) ∙ ap (λ j. j ++ reverse (with_back side r (came_from_back before))) (with_front_came side r before) ∙ ap (λ j. came_from_front ((side, r) ∷ before) ++ reverse j) (with_back_came side r before))
 
   interleaves_draws : (drawn : List (Side × Answered A E)) (s t : S) (l : List (Result A E)) → ListsBothEnds front back s l → RunAtEnds front back s drawn t → Interleaves front back l drawn t
-  interleaves_draws [] s t l i mixed = record { after = l; lists_after = subst (λ (u : S). ListsBothEnds front back u l) mixed i; makes = sym (append-nil l); ends = λ before after side e. absurd (no_draws_of_items before after (side, end) e) }
+  interleaves_draws [] s t l i mixed = record { after = l; lists_after = subst (λ (u : S). ListsBothEnds front back u l) mixed i; makes = sym (append-nil l); lists_before_end = λ before after side e. absurd (no_draws_of_items before after (side, end) e) }
   interleaves_draws ((side, r) ∷ drawn) s t l i mixed =
       let one = leaves_at_each_side side s mixed.0 r l i mixed.1 in
       let rest = interleaves_draws drawn mixed.0 t one.0 one.1 mixed.2 in
@@ -99,7 +99,7 @@ module _ {S A E : Type 0} (front back : S → Answered A E → S → Type 0) whe
         after = rest.after;
         lists_after = rest.lists_after;
         makes = one.2.makes (came_from_front drawn) rest.after (came_from_back drawn) rest.makes ∙ ap (λ j. j ++ rest.after ++ reverse (with_back side r (came_from_back drawn))) (with_front_came side r drawn) ∙ ap (λ j. came_from_front ((side, r) ∷ drawn) ++ rest.after ++ reverse j) (with_back_came side r drawn);
-        ends = one_taken_at_end l one.0 side r drawn one.2 rest.ends;
+        lists_before_end = one_taken_at_end l one.0 side r drawn one.2 rest.lists_before_end;
       }
 
 -- Draws from both ends of what lists l interleave l.

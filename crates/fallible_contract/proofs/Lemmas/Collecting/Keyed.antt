@@ -102,26 +102,26 @@ module _ {K : Type 0} {eq : K → K → Bool} (equivalence_by_cmp : IsEquivalenc
   first_stays : FirstStays eq (items ++ k ∷ []) (λ q. find (eq q) ns)
   first_stays q = find_pushed (list_any (eq k) ks) refl ∙ sym (find-append (eq q) items (k ∷ []))
     where
-      found_now : K → Option K
-      found_now p = find (eq p) items
+      found_in_items : K → Option K
+      found_in_items p = find (eq p) items
 
-      is_some_found_now : (p : K) → eq p k ≡ true → is_some (found_now p) ≡ list_any (eq k) ks
-      is_some_found_now p e = ap is_some (sym (first p) ∙ finds_alike equivalence_by_cmp p k e ks) ∙ is_some-find (eq k) ks
+      is_some_found_in_items : (p : K) → eq p k ≡ true → is_some (found_in_items p) ≡ list_any (eq k) ks
+      is_some_found_in_items p e = ap is_some (sym (first p) ∙ finds_alike equivalence_by_cmp p k e ks) ∙ is_some-find (eq k) ks
 
-      option_or_same : list_any (eq k) ks ≡ true → (b : Bool) → eq q k ≡ b → (o : Option K) → found_now q ≡ o → o ≡ option_or o (cond b (Some k) None)
+      option_or_same : list_any (eq k) ks ≡ true → (b : Bool) → eq q k ≡ b → (o : Option K) → found_in_items q ≡ o → o ≡ option_or o (cond b (Some k) None)
       option_or_same h b e (Some y) f = refl
       option_or_same h false e None f = refl
-      option_or_same h true e None f = absurd (true≢false (sym h ∙ sym (is_some_found_now q e) ∙ ap is_some f))
+      option_or_same h true e None f = absurd (true≢false (sym h ∙ sym (is_some_found_in_items q e) ∙ ap is_some f))
 
-      option_or_new : list_any (eq k) ks ≡ false → (b : Bool) → eq q k ≡ b → (o : Option K) → found_now q ≡ o → cond b (Some k) o ≡ option_or o (cond b (Some k) None)
+      option_or_new : list_any (eq k) ks ≡ false → (b : Bool) → eq q k ≡ b → (o : Option K) → found_in_items q ≡ o → cond b (Some k) o ≡ option_or o (cond b (Some k) None)
       option_or_new h true e None f = refl
-      option_or_new h true e (Some y) f = absurd (true≢false (sym (ap is_some f) ∙ is_some_found_now q e ∙ h))
+      option_or_new h true e (Some y) f = absurd (true≢false (sym (ap is_some f) ∙ is_some_found_in_items q e ∙ h))
       option_or_new h false e None f = refl
       option_or_new h false e (Some y) f = refl
 
-      find_pushed : (b : Bool) → list_any (eq k) ks ≡ b → find (eq q) ns ≡ option_or (found_now q) (cond (eq q k) (Some k) None)
-      find_pushed true h = ap (find (eq q)) (stays h) ∙ first q ∙ option_or_same h (eq q k) refl (found_now q) refl
-      find_pushed false h = added h q ∙ ap (cond (eq q k) (Some k)) (first q) ∙ option_or_new h (eq q k) refl (found_now q) refl
+      find_pushed : (b : Bool) → list_any (eq k) ks ≡ b → find (eq q) ns ≡ option_or (found_in_items q) (cond (eq q k) (Some k) None)
+      find_pushed true h = ap (find (eq q)) (stays h) ∙ first q ∙ option_or_same h (eq q k) refl (found_in_items q) refl
+      find_pushed false h = added h q ∙ ap (cond (eq q k) (Some k)) (first q) ∙ option_or_new h (eq q k) refl (found_in_items q) refl
 
 -- ---- std's four collections
 

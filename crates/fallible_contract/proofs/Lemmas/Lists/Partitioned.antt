@@ -47,9 +47,9 @@ module _ {A E F : Type 0} (call : F → A → Result Bool E → F → Type 0) (h
   unfolding partitioned
   partitioned_failed_at_item x e tail is = ap (λ (w : Result Bool E). on_value w (λ v. to_side x v (partitioned h tail))) (sym is)
 
-  partitioned_failed_at : (e : E) (tail : List (Result A E)) → partitioned h (Err e ∷ tail) ≡ Err e
+  partitioned_failure_first : (e : E) (tail : List (Result A E)) → partitioned h (Err e ∷ tail) ≡ Err e
   unfolding partitioned
-  partitioned_failed_at e tail = refl
+  partitioned_failure_first e tail = refl
 
   module _ {S B : Type 0} {steps : S → Answered A E → S → Type 0} (made : List A → B → Type 0) {s : S} (l : List (Result A E)) (i : Lists steps s l) where
     partitioned_by_all : (g : F) (p : B × B) → CollectsAll steps (Sides call made f) s (g, p) → PartitionedBy made h l (Ok p)
@@ -58,7 +58,7 @@ module _ {A E F : Type 0} (call : F → A → Result Bool E → F → Type 0) (h
 
     source_partitioned : (e : E) → FailsWith steps (Sides call made f) s e → partitioned h l ≡ Err e
     source_partitioned e k = let d = drawn_of_lists steps k.items (Err e) l s k.after i.runs k.ran in let sides = k.is_made in
-        ap (partitioned h) d.list_is ∙ ap (λ (rest : _). partitioned h (map (λ x. Ok x) k.items ++ rest)) d.rest_is.1 ∙ ap (λ (xs : List A). partitioned h (map (λ x. Ok x) xs ++ Err e ∷ d.rest_is.0)) (sym sides.beside) ∙ partitioned_failure sides.answered k.collection.0 (Err e ∷ d.rest_is.0) e sides.called (partitioned_failed_at e d.rest_is.0)
+        ap (partitioned h) d.list_is ∙ ap (λ (rest : _). partitioned h (map (λ x. Ok x) k.items ++ rest)) d.rest_is.1 ∙ ap (λ (xs : List A). partitioned h (map (λ x. Ok x) xs ++ Err e ∷ d.rest_is.0)) (sym sides.beside) ∙ partitioned_failure sides.answered k.collection.0 (Err e ∷ d.rest_is.0) e sides.called (partitioned_failure_first e d.rest_is.0)
 
     closure_partitioned : (e : E) → RefusesItem steps (Sides call made f) (ClosureFails {B = B} call e) s → partitioned h l ≡ Err e
     closure_partitioned e k = let d = drawn_of_lists steps k.items (Ok (Some k.refused)) l s k.after i.runs k.ran in let sides = k.is_made in
@@ -72,9 +72,9 @@ module _ {A E F : Type 0} (call : F → A → Result Bool E → F → Type 0) (h
     partitioned_by empty_refuses refuses (Err (Source e)) (inr k) = closure_partitioned e k
     partitioned_by empty_refuses refuses (Err (Memory a)) k = tt
 
-    pub partitioned_as : (empty_refuses : Type 0) (refuses : B → A → Type 0) (r : Result (B × B) (Fault E)) → Partitions steps call made empty_refuses refuses s f r → PartitionedAs made h l r
+    pub partitioned_of_lists : (empty_refuses : Type 0) (refuses : B → A → Type 0) (r : Result (B × B) (Fault E)) → Partitions steps call made empty_refuses refuses s f r → PartitionedAs made h l r
     unfolding PartitionedAs
-    partitioned_as empty_refuses refuses r k = partitioned_by empty_refuses refuses r k
+    partitioned_of_lists empty_refuses refuses r k = partitioned_by empty_refuses refuses r k
 
 -- want of memory says nothing of the list
 pub partitioned_as_refused : {A E B : Type 0} (made : List A → B → Type 0) (h : A → Result Bool E) (l : List (Result A E)) (a : AllocError) → PartitionedAs made h l (Err (Memory a))

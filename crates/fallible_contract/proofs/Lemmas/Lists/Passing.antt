@@ -1,7 +1,7 @@
 -- What an adapter that lets items pass lists, from what its source lists.
 use Rattle.std.specs.Prelude.{◌≡◌, Result, Some, None, Ok, Err, List, [], ◌∷◌}
 use Rattle.std.proofs.Common.{refl, sym, ap, subst, ◌∙◌}
-use Rattle.fallible_contract.specs.Traces.{Answered}
+use Rattle.fallible_contract.specs.Traces.{Answered, end}
 use Rattle.fallible_contract.specs.Passing.{passing_step}
 use Rattle.fallible_contract.specs.Laws.Passing.{Passes, done, end_passes, failure_passes, keeps, refuses, closes, leaves_out, passes_of_pass_trace, pass_trace_of_passes}
 use Rattle.fallible_contract.specs.Lists.{AlwaysGives, Lists, Acts}
@@ -37,29 +37,34 @@ module _ {P X R B E : Type 0} (outcome : X → R → Outcome B E) (answers : P �
   passed p (Ok x ∷ l) = by_outcome (outcome x (answers p x)) (passed (next p x) l)
   passed p (Err e ∷ l) = Err e ∷ passed p l
 
+module _ {S F X R B E : Type 0} {steps : S → Answered X E → S → Type 0} {call : F → X → R → F → Type 0} {outcome : X → R → Outcome B E} where
+  -- what one draw yields, where the source's list is empty
+  pub end_of_nil : {s t : S} {f g : F} {r : Answered B E} → AlwaysGives {A = X} steps s [] → Passes steps call outcome s f (r ∷ []) t g → r ≡ end
+  end_of_nil a (end_passes step c) = refl
+  end_of_nil a (failure_passes e step c) = absurd (let w = a (Err e) _ step in cc)
+  end_of_nil a (keeps x v y step called is c) = absurd (let w = a (Ok (Some x)) _ step in cc)
+  end_of_nil a (refuses x v e step called is c) = absurd (let w = a (Ok (Some x)) _ step in cc)
+  end_of_nil a (closes x v step called is c) = absurd (let w = a (Ok (Some x)) _ step in cc)
+  end_of_nil a (leaves_out x v step called is c) = absurd (let w = a (Ok (Some x)) _ step in cc)
+
+  -- what one draw yields and leaves, where the source's list begins with a failure
+  pub failure_of_first : {s t : S} {f g : F} {r : Answered B E} (d : E) (l : List (Result X E)) → AlwaysGives steps s (Err d ∷ l) → Passes steps call outcome s f (r ∷ []) t g → (r ≡ Err d) × (g ≡ f) × AlwaysGives steps t l
+  failure_of_first d l a (end_passes step c) = absurd (let w = (a (Ok None) _ step).0 in cc)
+  failure_of_first d l a (failure_passes {u = u} e step done) = let w = a (Err e) u step in ((let q = w.0 in cc), refl, w.1)
+  failure_of_first d l a (keeps x v y step called is c) = absurd (let w = (a (Ok (Some x)) _ step).0 in cc)
+  failure_of_first d l a (refuses x v e step called is c) = absurd (let w = (a (Ok (Some x)) _ step).0 in cc)
+  failure_of_first d l a (closes x v step called is c) = absurd (let w = (a (Ok (Some x)) _ step).0 in cc)
+  failure_of_first d l a (leaves_out x v step called is c) = absurd (let w = (a (Ok (Some x)) _ step).0 in cc)
+
 module _ {S F P X R B E : Type 0} (steps : S → Answered X E → S → Type 0) (call : F → X → R → F → Type 0) (outcome : X → R → Outcome B E)
     (At : F → P → Type 0) (answers : P → X → R) (next : P → X → P) (acts : (f : F) (p : P) (x : X) (v : R) (g : F) → At f p → call f x v g → At g (next p x) × (v ≡ answers p x)) where
   abbrev GivesPassed : S → F → List (Result B E) → Type 0
   GivesPassed s f l = AlwaysGives (passing_step steps call outcome) (s, f) l
 
-  -- what one draw yields, where the source's list is empty
-  end_of_nil : (s : S) (f : F) (r : Answered B E) (t : S) (g : F) → AlwaysGives {A = X} steps s [] → Passes steps call outcome s f (r ∷ []) t g → r ≡ Ok None
-  end_of_nil s f _ t g a (end_passes step d) = refl
-  end_of_nil s f _ t g a (failure_passes e step d) = absurd (let h = a (Err e) _ step in cc)
-  end_of_nil s f _ t g a (keeps x v y step called is d) = absurd (let h = a (Ok (Some x)) _ step in cc)
-  end_of_nil s f _ t g a (refuses x v e step called is d) = absurd (let h = a (Ok (Some x)) _ step in cc)
-  end_of_nil s f _ t g a (closes x v step called is d) = absurd (let h = a (Ok (Some x)) _ step in cc)
-  end_of_nil s f r t g a (leaves_out x v step called is d) = absurd (let h = a (Ok (Some x)) _ step in cc)
-
   -- one draw at a failure of the source's list
-  always_gives_failure : (d : E) (l : List (Result X E)) (rest : List (Result B E)) (s : S) (f : F) → ((u : S) → AlwaysGives steps u l → GivesPassed u f rest) → AlwaysGives steps s (Err d ∷ l)
-      → (r : Answered B E) (t : S) (g : F) → Passes steps call outcome s f (r ∷ []) t g → (r ≡ Err d) × GivesPassed t g rest
-  always_gives_failure d l rest s f then a _ t g (end_passes step c) = absurd (let h = (a (Ok None) _ step).0 in cc)
-  always_gives_failure d l rest s f then a _ t g (failure_passes e step done) = let h = a (Err e) t step in ((let q = h.0 in cc), then t h.1)
-  always_gives_failure d l rest s f then a _ t g (keeps x v y step called is c) = absurd (let h = (a (Ok (Some x)) _ step).0 in cc)
-  always_gives_failure d l rest s f then a _ t g (refuses x v e step called is c) = absurd (let h = (a (Ok (Some x)) _ step).0 in cc)
-  always_gives_failure d l rest s f then a _ t g (closes x v step called is c) = absurd (let h = (a (Ok (Some x)) _ step).0 in cc)
-  always_gives_failure d l rest s f then a r t g (leaves_out x v step called is c) = absurd (let h = (a (Ok (Some x)) _ step).0 in cc)
+  always_gives_failure : (d : E) (l : List (Result X E)) (rest : List (Result B E)) {s : S} {f : F} → ((u : S) → AlwaysGives steps u l → GivesPassed u f rest) → AlwaysGives steps s (Err d ∷ l)
+      → {r : Answered B E} {t : S} {g : F} → Passes steps call outcome s f (r ∷ []) t g → (r ≡ Err d) × GivesPassed t g rest
+  always_gives_failure d l rest then a {t = t} q = let w = failure_of_first d l a q in (w.0, subst (λ (k : F). GivesPassed t k rest) (sym w.1) (then t w.2))
 
   -- what is known of a call at an item of the source's list
   record CalledAs (l : List (Result X E)) (p : P) (x z : X) (v : R) (o : Outcome B E) (u : S) (g : F) : Type 0 where
@@ -69,8 +74,8 @@ module _ {S F P X R B E : Type 0} (steps : S → Answered X E → S → Type 0) 
 
   -- one draw where an item is the first of the source's list
   module _ (l : List (Result X E)) (x : X) (s : S) (f : F) (p : P) (at : At f p) (a : AlwaysGives steps s (Ok x ∷ l)) where
-    called_as : (o : Outcome B E) → outcome x (answers p x) ≡ o → (z : X) (v : R) (u : S) (g : F) → steps s (Ok (Some z)) u → call f z v g → CalledAs l p x z v o u g
-    called_as o is z v u g step called = let h = a (Ok (Some z)) u step in let same : z ≡ x = (let q = h.0 in cc) in
+    called_on_first : (o : Outcome B E) → outcome x (answers p x) ≡ o → (z : X) (v : R) (u : S) (g : F) → steps s (Ok (Some z)) u → call f z v g → CalledAs l p x z v o u g
+    called_on_first o is z v u g step called = let h = a (Ok (Some z)) u step in let same : z ≡ x = (let q = h.0 in cc) in
         let c = acts f p z v g at called in record {
           outcome_is = ap (λ (w : R). outcome z w) c.1 ∙ ap (λ (y : X). outcome y (answers p y)) same ∙ is;
           at = subst (λ (y : X). At g (next p y)) same c.0;
@@ -81,27 +86,27 @@ module _ {S F P X R B E : Type 0} (steps : S → Answered X E → S → Type 0) 
         → ((u : S) (g : F) → At g (next p x) → AlwaysGives steps u l → GivesPassed u g rest) → (r : Answered B E) (t : S) (g : F) → Passes steps call outcome s f (r ∷ []) t g → (r ≡ Ok (Some y)) × GivesPassed t g rest
     kept_given rest y is then _ t g (end_passes step c) = absurd (let h = (a (Ok None) _ step).0 in cc)
     kept_given rest y is then _ t g (failure_passes e step c) = absurd (let h = (a (Err e) _ step).0 in cc)
-    kept_given rest y is then _ t g (keeps z v w step called out done) = let k = called_as (Kept y) is z v t g step called in ((let q = sym out ∙ k.outcome_is in cc), then t g k.at k.others)
-    kept_given rest y is then _ t g (refuses z v e step called out c) = absurd (let q = sym out ∙ (called_as (Kept y) is z v _ _ step called).outcome_is in cc)
-    kept_given rest y is then _ t g (closes z v step called out c) = absurd (let q = sym out ∙ (called_as (Kept y) is z v _ _ step called).outcome_is in cc)
-    kept_given rest y is then r t g (leaves_out z v step called out c) = absurd (let q = sym out ∙ (called_as (Kept y) is z v _ _ step called).outcome_is in cc)
+    kept_given rest y is then _ t g (keeps z v w step called out done) = let k = called_on_first (Kept y) is z v t g step called in ((let q = sym out ∙ k.outcome_is in cc), then t g k.at k.others)
+    kept_given rest y is then _ t g (refuses z v e step called out c) = absurd (let q = sym out ∙ (called_on_first (Kept y) is z v _ _ step called).outcome_is in cc)
+    kept_given rest y is then _ t g (closes z v step called out c) = absurd (let q = sym out ∙ (called_on_first (Kept y) is z v _ _ step called).outcome_is in cc)
+    kept_given rest y is then r t g (leaves_out z v step called out c) = absurd (let q = sym out ∙ (called_on_first (Kept y) is z v _ _ step called).outcome_is in cc)
 
     failed_given : (rest : List (Result B E)) (d : E) → outcome x (answers p x) ≡ Failure d
         → ((u : S) (g : F) → At g (next p x) → AlwaysGives steps u l → GivesPassed u g rest) → (r : Answered B E) (t : S) (g : F) → Passes steps call outcome s f (r ∷ []) t g → (r ≡ Err d) × GivesPassed t g rest
     failed_given rest d is then _ t g (end_passes step c) = absurd (let h = (a (Ok None) _ step).0 in cc)
     failed_given rest d is then _ t g (failure_passes e step c) = absurd (let h = (a (Err e) _ step).0 in cc)
-    failed_given rest d is then _ t g (keeps z v w step called out c) = absurd (let q = sym out ∙ (called_as (Failure d) is z v _ _ step called).outcome_is in cc)
-    failed_given rest d is then _ t g (refuses z v e step called out done) = let k = called_as (Failure d) is z v t g step called in ((let q = sym out ∙ k.outcome_is in cc), then t g k.at k.others)
-    failed_given rest d is then _ t g (closes z v step called out c) = absurd (let q = sym out ∙ (called_as (Failure d) is z v _ _ step called).outcome_is in cc)
-    failed_given rest d is then r t g (leaves_out z v step called out c) = absurd (let q = sym out ∙ (called_as (Failure d) is z v _ _ step called).outcome_is in cc)
+    failed_given rest d is then _ t g (keeps z v w step called out c) = absurd (let q = sym out ∙ (called_on_first (Failure d) is z v _ _ step called).outcome_is in cc)
+    failed_given rest d is then _ t g (refuses z v e step called out done) = let k = called_on_first (Failure d) is z v t g step called in ((let q = sym out ∙ k.outcome_is in cc), then t g k.at k.others)
+    failed_given rest d is then _ t g (closes z v step called out c) = absurd (let q = sym out ∙ (called_on_first (Failure d) is z v _ _ step called).outcome_is in cc)
+    failed_given rest d is then r t g (leaves_out z v step called out c) = absurd (let q = sym out ∙ (called_on_first (Failure d) is z v _ _ step called).outcome_is in cc)
 
     end_given : outcome x (answers p x) ≡ End → (r : Answered B E) (t : S) (g : F) → Passes steps call outcome s f (r ∷ []) t g → r ≡ Ok None
     end_given is _ t g (end_passes step c) = refl
     end_given is _ t g (failure_passes e step c) = absurd (let h = (a (Err e) _ step).0 in cc)
-    end_given is _ t g (keeps z v w step called out c) = absurd (let q = sym out ∙ (called_as End is z v _ _ step called).outcome_is in cc)
-    end_given is _ t g (refuses z v e step called out c) = absurd (let q = sym out ∙ (called_as End is z v _ _ step called).outcome_is in cc)
+    end_given is _ t g (keeps z v w step called out c) = absurd (let q = sym out ∙ (called_on_first End is z v _ _ step called).outcome_is in cc)
+    end_given is _ t g (refuses z v e step called out c) = absurd (let q = sym out ∙ (called_on_first End is z v _ _ step called).outcome_is in cc)
     end_given is _ t g (closes z v step called out c) = refl
-    end_given is r t g (leaves_out z v step called out c) = absurd (let q = sym out ∙ (called_as End is z v _ _ step called).outcome_is in cc)
+    end_given is r t g (leaves_out z v step called out c) = absurd (let q = sym out ∙ (called_on_first End is z v _ _ step called).outcome_is in cc)
 
     -- a state from which the draw is made once the item is left out
     draw_after_left_out : (rest : List (Result B E)) → outcome x (answers p x) ≡ LeftOut
@@ -109,10 +114,10 @@ module _ {S F P X R B E : Type 0} (steps : S → Answered X E → S → Type 0) 
         → (q : S × F) × passing_step steps call outcome q r (t, g) × AlwaysGives (passing_step steps call outcome) q rest
     draw_after_left_out rest is then _ t g (end_passes step c) = absurd (let h = (a (Ok None) _ step).0 in cc)
     draw_after_left_out rest is then _ t g (failure_passes e step c) = absurd (let h = (a (Err e) _ step).0 in cc)
-    draw_after_left_out rest is then _ t g (keeps z v w step called out c) = absurd (let q = sym out ∙ (called_as LeftOut is z v _ _ step called).outcome_is in cc)
-    draw_after_left_out rest is then _ t g (refuses z v e step called out c) = absurd (let q = sym out ∙ (called_as LeftOut is z v _ _ step called).outcome_is in cc)
-    draw_after_left_out rest is then _ t g (closes z v step called out c) = absurd (let q = sym out ∙ (called_as LeftOut is z v _ _ step called).outcome_is in cc)
-    draw_after_left_out rest is then r t g (leaves_out {u = u} {h = h} z v step called out c) = let k = called_as LeftOut is z v u h step called in ((u, h), pass_trace_of_passes c, then u h k.at k.others)
+    draw_after_left_out rest is then _ t g (keeps z v w step called out c) = absurd (let q = sym out ∙ (called_on_first LeftOut is z v _ _ step called).outcome_is in cc)
+    draw_after_left_out rest is then _ t g (refuses z v e step called out c) = absurd (let q = sym out ∙ (called_on_first LeftOut is z v _ _ step called).outcome_is in cc)
+    draw_after_left_out rest is then _ t g (closes z v step called out c) = absurd (let q = sym out ∙ (called_on_first LeftOut is z v _ _ step called).outcome_is in cc)
+    draw_after_left_out rest is then r t g (leaves_out {u = u} {h = h} z v step called out c) = let k = called_on_first LeftOut is z v u h step called in ((u, h), pass_trace_of_passes c, then u h k.at k.others)
 
     gives_item : (rest : List (Result B E)) (o : Outcome B E) → outcome x (answers p x) ≡ o → ((u : S) (g : F) → At g (next p x) → AlwaysGives steps u l → GivesPassed u g rest) → GivesPassed s f (by_outcome o rest)
     gives_item rest (Kept y) is then = λ r t w. kept_given rest y is then r t.0 t.1 (passes_of_pass_trace w)
@@ -121,8 +126,8 @@ module _ {S F P X R B E : Type 0} (steps : S → Answered X E → S → Type 0) 
     gives_item rest LeftOut is then = always_gives_if (passing_step steps call outcome) rest (s, f) (λ r t w. draw_after_left_out rest is then r t.0 t.1 (passes_of_pass_trace w))
 
   pub gives_all : (l : List (Result X E)) (s : S) (f : F) (p : P) → At f p → AlwaysGives steps s l → GivesPassed s f (passed outcome answers next p l)
-  gives_all [] s f p at a = λ r t w. end_of_nil s f r t.0 t.1 a (passes_of_pass_trace w)
-  gives_all (Err d ∷ l) s f p at a = λ r t w. always_gives_failure d l (passed outcome answers next p l) s f (λ u b. gives_all l u f p at b) a r t.0 t.1 (passes_of_pass_trace w)
+  gives_all [] s f p at a = λ r t w. end_of_nil a (passes_of_pass_trace w)
+  gives_all (Err d ∷ l) s f p at a = λ r t w. always_gives_failure d l (passed outcome answers next p l) (λ u b. gives_all l u f p at b) a (passes_of_pass_trace w)
   gives_all (Ok x ∷ l) s f p at a = gives_item l x s f p at a (passed outcome answers next (next p x) l) (outcome x (answers p x)) refl (λ u g k b. gives_all l u g (next p x) k b)
 
 -- ---- with a closure that acts as a function

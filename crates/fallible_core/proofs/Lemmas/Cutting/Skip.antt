@@ -49,7 +49,7 @@ module _ {S A E : Type 0} (steps : S → Answered A E → S → Type 0) where
     none = λ p. (skip_trace_nothing p p).1 refl;
     same = λ p q d. (skip_trace_nothing p q).0 d;
     joins = λ p u q r rest d e. skip_trace_of_leaves {p = p} {q = q} (leaves_then steps 0 (leaves_of_skip_trace {p = p} {q = u} d) (leaves_of_skip_trace {p = u} {q = q} e));
-    splits = λ p q r rest d. let h = leaves_split steps 0 (leaves_of_skip_trace {p = p} {q = q} d) in record { then_at = (h.0, h.1); first = skip_trace_of_leaves {p = p} {q = (h.0, h.1)} h.2; others = skip_trace_of_leaves {p = (h.0, h.1)} {q = q} h.3 };
+    splits = λ p q r rest d. let h = leaves_split steps 0 (leaves_of_skip_trace {p = p} {q = q} d) in record { left_by_first = (h.0, h.1); first = skip_trace_of_leaves {p = p} {q = (h.0, h.1)} h.2; others = skip_trace_of_leaves {p = (h.0, h.1)} {q = q} h.3 };
   }
 
   pub skip_law : (p : S × ℕ) (trace : List (Answered A E)) (q : S × ℕ) → Run (skip_step steps) p trace q ↔ SkipTrace steps p trace q

@@ -41,8 +41,8 @@ module _ {S A E : Type 0} (steps : S → Answered A E → S → Type 0) where
   pub skips_reached : {s t : S} {n k : ℕ} {r : Answered A E} → Driven steps IsNthTurn s n r t k → skip_step steps (s, n) r (t, k)
   skips_reached {s} {t} {n} {k} {r} w = skip_trace_of_leaves steps {p = (s, n)} {q = (t, k)} (leaves_reached w.items w.last n w.at.carried k r s t w.at.went w.ran w.at.exit)
 
-abbrev skip_here : {S A E : Type 0} → Contract S A E → Contract (Skip S) A E
-skip_here m = seen_as skip_parts (skip_contract m)
+abbrev contract_of_skip : {S A E : Type 0} → Contract S A E → Contract (Skip S) A E
+contract_of_skip m = seen_as skip_parts (skip_contract m)
 
 -- nothing is left to leave out
 abbrev none_to_skip : {S : Type 0} → S → Skip S
@@ -50,7 +50,7 @@ none_to_skip s = record { it = s; to_skip = 0 }
 
 module _ {S A E : Type 0} (m : Contract S A E) (s : Skip S) where
   -- the fold up to the first item that stays is one draw
-  pub skip_step_reached : {t : S} {k : ℕ} {r : Answered A E} → Driven m.steps IsNthTurn s.it s.to_skip r t k → (skip_here m).steps s r (record { it = t; to_skip = k })
+  pub skip_step_reached : {t : S} {k : ℕ} {r : Answered A E} → Driven m.steps IsNthTurn s.it s.to_skip r t k → (contract_of_skip m).steps s r (record { it = t; to_skip = k })
   skip_step_reached w = skips_reached m.steps w
 
   module _ {t : S} {k : ℕ} {x : A} (w : Driven m.steps IsNthTurn s.it s.to_skip (item x) t k) where
@@ -58,9 +58,9 @@ module _ {S A E : Type 0} (m : Contract S A E) (s : Skip S) where
     nothing_more_to_skip = none_left_to_skip m.steps (leaves_of_skip_trace m.steps {p = skip_parts s} {q = (t, k)} (skip_step_reached w))
 
     -- after that item what holds at each turn holds at each turn of the source
-    pub holds_each_turn_past : {C : Type 0} {on : C → A → C → Type 0} {P : C → A → Type 0} {c d : C} → HoldsAtEachTurn (skip_here m).steps on P s c → on c x d → HoldsAtEachTurn m.steps on P t d
-    holds_each_turn_past {on = on} {P = P} {d = d} h turn = holds_at_each_turn_into none_to_skip (λ p x q step. skip_step_past m.steps p (item x) q step) (subst (λ (n : ℕ). HoldsAtEachTurn (skip_here m).steps on P (record { it = t; to_skip = n }) d) nothing_more_to_skip (holds_each_turn_after h (skip_step_reached w) turn))
+    pub holds_each_turn_past : {C : Type 0} {on : C → A → C → Type 0} {P : C → A → Type 0} {c d : C} → HoldsAtEachTurn (contract_of_skip m).steps on P s c → on c x d → HoldsAtEachTurn m.steps on P t d
+    holds_each_turn_past {on = on} {P = P} {d = d} h turn = holds_at_each_turn_into none_to_skip (λ p x q step. skip_step_past m.steps p (item x) q step) (subst (λ (n : ℕ). HoldsAtEachTurn (contract_of_skip m).steps on P (record { it = t; to_skip = n }) d) nothing_more_to_skip (holds_each_turn_after h (skip_step_reached w) turn))
 
     -- and a fold of the source is the rest of the fold
-    pub driven_past : {C R : Type 0} {turns : C → A → ControlFlow R (Unit {0}) → C → Type 0} {c d z : C} {r : Answered R E} {u : S} → goes_on turns c x d → Driven m.steps turns t d r u z → Driven (skip_here m).steps turns s c r (record { it = u; to_skip = k }) z
-    driven_past {turns = turns} {d = d} {z = z} {r = r} {u = u} turn rest = driven_after x (skip_step_reached w) turn (subst (λ (n : ℕ). Driven (skip_here m).steps turns (record { it = t; to_skip = n }) d r (record { it = u; to_skip = n }) z) (sym nothing_more_to_skip) (drained_into none_to_skip (λ p r q step. skip_step_past m.steps p r q step) rest))
+    pub driven_past : {C R : Type 0} {turns : C → A → ControlFlow R (Unit {0}) → C → Type 0} {c d z : C} {r : Answered R E} {u : S} → goes_on turns c x d → Driven m.steps turns t d r u z → Driven (contract_of_skip m).steps turns s c r (record { it = u; to_skip = k }) z
+    driven_past {turns = turns} {d = d} {z = z} {r = r} {u = u} turn rest = driven_after x (skip_step_reached w) turn (subst (λ (n : ℕ). Driven (contract_of_skip m).steps turns (record { it = t; to_skip = n }) d r (record { it = u; to_skip = n }) z) (sym nothing_more_to_skip) (drained_into none_to_skip (λ p r q step. skip_step_past m.steps p r q step) rest))

@@ -85,7 +85,7 @@ module _ {S A E : Type 0} (steps : S → Answered A E → S → Type 0) where
     none = λ p. (step_by_trace_nothing p p).1 refl;
     same = λ p q d. (step_by_trace_nothing p q).0 d;
     joins = λ p u q r rest d e. step_by_trace_of_leaves {p = p} {q = q} (steps_of_first_and_rest p u q r rest (steps_of_step_by_trace {p = p} {q = u} d) (steps_of_step_by_trace {p = u} {q = q} e));
-    splits = λ p q r rest d. let h = steps_split p q r rest (steps_of_step_by_trace {p = p} {q = q} d) in record { then_at = h.0; first = step_by_trace_of_leaves {p = p} {q = h.0} h.1; others = step_by_trace_of_leaves {p = h.0} {q = q} h.2 };
+    splits = λ p q r rest d. let h = steps_split p q r rest (steps_of_step_by_trace {p = p} {q = q} d) in record { left_by_first = h.0; first = step_by_trace_of_leaves {p = p} {q = h.0} h.1; others = step_by_trace_of_leaves {p = h.0} {q = q} h.2 };
   }
 
   pub step_by_law : (p : S × (ℕ × ℕ)) (trace : List (Answered A E)) (q : S × (ℕ × ℕ)) → Run (step_by_step steps) p trace q ↔ StepByTrace steps p trace q

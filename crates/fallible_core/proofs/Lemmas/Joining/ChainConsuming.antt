@@ -115,16 +115,16 @@ module _ {A E F : Type 0} (tests : F → A → Result Bool E → F → Type 0) w
 
 -- ---- of the struct
 
-abbrev chain_here : {S U A E : Type 0} → Contract S A E → Contract U A E → Contract (Chain S U) A E
-chain_here first second = seen_as chain_parts (chain_contract first second)
+abbrev contract_of_chain : {S U A E : Type 0} → Contract S A E → Contract U A E → Contract (Chain S U) A E
+contract_of_chain first second = seen_as chain_parts (chain_contract first second)
 
 module _ {S U A E : Type 0} (first : Contract S A E) (second : Contract U A E) {s : Chain S U} where
   -- what is still to come of the sides
-  pub bounds_of_both : (k : ℕ) → s.still_drawn ≡ Both → AtMost (chain_here first second) s k → (a : ℕ) × (b : ℕ) × first.bound s.first a × second.bound s.second b × (a + b ≤ k)
-  bounds_of_both k is h = let n = number_of_at_most (chain_here first second) s k h in
+  pub bounds_of_both : (k : ℕ) → s.still_drawn ≡ Both → AtMost (contract_of_chain first second) s k → (a : ℕ) × (b : ℕ) × first.bound s.first a × second.bound s.second b × (a + b ≤ k)
+  bounds_of_both k is h = let n = number_of_at_most (contract_of_chain first second) s k h in
       let m = subst (λ (d : StillDrawn). (chain_contract first second).bound (s.first, s.second, d) n.0) is n.1 in
       (m.0, m.1, m.2, m.3, omega (arith, m.4, n.2))
 
   -- so where the first's are counted, the second's fit
-  pub at_most_of_rest : {n j : ℕ} {r : Result (Unit {0}) E} {t : S} (k : ℕ) → Lawful first → first.can_next s.first → s.still_drawn ≡ Both → AtMost (chain_here first second) s (k - n) → CountDrainsOn first.steps s.first n r t j → AtMost second s.second (k - j)
+  pub at_most_of_rest : {n j : ℕ} {r : Result (Unit {0}) E} {t : S} (k : ℕ) → Lawful first → first.can_next s.first → s.still_drawn ≡ Both → AtMost (contract_of_chain first second) s (k - n) → CountDrainsOn first.steps s.first n r t j → AtMost second s.second (k - j)
   at_most_of_rest {n} {j} k l c is h w = let m = bounds_of_both (k - n) is h in let met = number_at_most_bound l c m.2 w in let sides = m.4 in inr (m.1, m.3, omega (arith, met, sides))

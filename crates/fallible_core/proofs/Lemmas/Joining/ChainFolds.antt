@@ -201,5 +201,5 @@ module _ {V S U A E : Type 0} (view : V → S × U × StillDrawn) (make : S × U
         by_cases SecondAlone is = absurd (drawn is)
 
     -- draws of the first that met its end, and then draws of the second
-    pub drained_chain_over : {before after : List A → Answered A E → Type 0} → (view s).2 ≡ Both → (view w).2 ≡ SecondAlone → ((xs ys : List A) (met last : Answered A E) → before xs met → after ys last → (met ≡ end) × came (xs ++ ys) last) → Drained first.steps before (view s).0 (view w).0 → Drained second.steps after (view s).1 (view w).1 → Drained ChainStep came s w
-    drained_chain_over is now joins f b = drained_parts (ap (λ (d : StillDrawn). ((view s).0, (view s).1, d)) is) (ap (λ (d : StillDrawn). ((view w).0, (view w).1, d)) now) (drained_over first.steps second.steps joins f b)
+    pub drained_chain_both : {before after : List A → Answered A E → Type 0} → (view s).2 ≡ Both → (view w).2 ≡ SecondAlone → ((xs ys : List A) (met last : Answered A E) → before xs met → after ys last → (met ≡ end) × came (xs ++ ys) last) → Drained first.steps before (view s).0 (view w).0 → Drained second.steps after (view s).1 (view w).1 → Drained ChainStep came s w
+    drained_chain_both is now joins f b = drained_parts (ap (λ (d : StillDrawn). ((view s).0, (view s).1, d)) is) (ap (λ (d : StillDrawn). ((view w).0, (view w).1, d)) now) (drained_over first.steps second.steps joins f b)

@@ -109,7 +109,7 @@ module _ {S X C B E : Type 0} (outer : S → Answered X E → S → Type 0) (int
   flattens_none s _ hand _ done = refl
 
   first_of_flattens_some : (s t : S) (hand hand' : Option C) (r : Answered B E) (rest : List (Answered B E)) → FirstFlattened s hand r rest t hand' → FirstOf (FlattenTrace outer into inner) (s, hand) r rest (t, hand')
-  first_of_flattens_some s t hand hand' r rest q = record { then_at = (q.source, q.hand_then); first = from_flattens s q.source hand q.hand_then (r ∷ []) q.first; others = from_flattens q.source t q.hand_then hand' rest q.others }
+  first_of_flattens_some s t hand hand' r rest q = record { left_by_first = (q.source, q.hand_then); first = from_flattens s q.source hand q.hand_then (r ∷ []) q.first; others = from_flattens q.source t q.hand_then hand' rest q.others }
 
   abbrev flattens_of_trace : (s t : S) (hand hand' : Option C) (trace : List (Answered B E)) → TraceHere s hand trace t hand' → FlattensHere s hand trace t hand'
   flattens_of_trace = flattens_of_flatten_trace outer into inner

@@ -29,9 +29,9 @@ module _ {S A E : Type 0} (steps : S → Answered A E → S → Type 0) where
   numbered_joins s u t n _ k _ rest (numbered_failure e step numbered_none) q = numbered_failure e step q
 
   numbered_first_and_rest : (s t : S) (n k : ℕ) (r : Answered (ℕ × A) E) (rest : List (Answered (ℕ × A) E)) → NumberedHere s n (r ∷ rest) t k → FirstOf (EnumerateTrace steps) (s, n) r rest (t, k)
-  numbered_first_and_rest s t n k _ rest (numbered_item {u = u} x step q) = record { then_at = (u, n + 1); first = enumerate_trace_of_numbered s u n (n + 1) _ (numbered_item x step numbered_none); others = enumerate_trace_of_numbered u t (n + 1) k rest q }
-  numbered_first_and_rest s t n k _ rest (numbered_end {u = u} step q) = record { then_at = (u, n); first = enumerate_trace_of_numbered s u n n _ (numbered_end step numbered_none); others = enumerate_trace_of_numbered u t n k rest q }
-  numbered_first_and_rest s t n k _ rest (numbered_failure {u = u} e step q) = record { then_at = (u, n); first = enumerate_trace_of_numbered s u n n _ (numbered_failure e step numbered_none); others = enumerate_trace_of_numbered u t n k rest q }
+  numbered_first_and_rest s t n k _ rest (numbered_item {u = u} x step q) = record { left_by_first = (u, n + 1); first = enumerate_trace_of_numbered s u n (n + 1) _ (numbered_item x step numbered_none); others = enumerate_trace_of_numbered u t (n + 1) k rest q }
+  numbered_first_and_rest s t n k _ rest (numbered_end {u = u} step q) = record { left_by_first = (u, n); first = enumerate_trace_of_numbered s u n n _ (numbered_end step numbered_none); others = enumerate_trace_of_numbered u t n k rest q }
+  numbered_first_and_rest s t n k _ rest (numbered_failure {u = u} e step q) = record { left_by_first = (u, n); first = enumerate_trace_of_numbered s u n n _ (numbered_failure e step numbered_none); others = enumerate_trace_of_numbered u t n k rest q }
 
   pub enumerate_trace_is_by_answers : IsByAnswers (EnumerateTrace steps)
   enumerate_trace_is_by_answers = record {

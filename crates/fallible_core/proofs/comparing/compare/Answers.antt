@@ -1,6 +1,6 @@
 -- Each round goes before the comparison from there on.
 use Rattle.std.proofs.Common.{Ok, sym, ◌∙◌}
-use Rattle.fallible_contract.proofs.Lemmas.Comparing.{compare_draws_after, compare_draws_left_failure, compare_draws_round, last_round_right_failure, last_round_decided, round_goes_on, either_at_most_fewer, either_at_most_begins}
+use Rattle.fallible_contract.proofs.Lemmas.Comparing.{compare_draws_after, compare_draws_left_failure, compare_draws_round, last_round_right_failure, last_round_decided, undecided_are_equal, either_at_most_fewer, either_at_most_begins}
 use Rattle.fallible_core.proofs.comparing.compare.Goals as goal
 
 pub loop-x-init : goal.loop-x-init
@@ -21,7 +21,7 @@ pub returns-in-Some : goal.returns-in-Some
 returns-in-Some g c = c.loop-x.invariant.whole _ (compare_draws_round _ _ (Ok c.in-Ok.x) (Ok c.in-Ok-next.y) c.in-Ok.ensures c.in-Ok-next.ensures (last_round_decided g.K.Comparison.rule _ c.in-Ok.x c.in-Ok-next.y c.in-Some.order (sym c.decide.ensures ∙ c.in-Some.is)))
 
 pub loop-x-preserved : goal.loop-x-preserved
-loop-x-preserved g c = let equal = round_goes_on g.K.Comparison.rule c.in-Ok.x c.in-Ok-next.y (sym c.decide.ensures ∙ c.in-None.is) in
+loop-x-preserved g c = let equal = undecided_are_equal g.K.Comparison.rule c.in-Ok.x c.in-Ok-next.y (sym c.decide.ensures ∙ c.in-None.is) in
     let step = rw equal.2 at c.in-Ok.ensures in let next = rw equal.3 at c.in-Ok-next.ensures in
     let goes = g.met.L.FallibleIterator.lawful.kept_by_draw _ _ _ c.loop-x.invariant.can_left step in
     let went = g.met.R.FallibleIterator.lawful.kept_by_draw _ _ _ c.loop-x.invariant.can_right next in record {

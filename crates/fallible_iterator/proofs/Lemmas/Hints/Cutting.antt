@@ -22,16 +22,16 @@ module _ {P : Type 0} (hints : P → ℕ × Option ℕ → Type 0) where
   hint_of_open_fuse (p, false) h e is = is
 
 module _ {P Q B E : Type 0} (draws : P → Q → P → Type 0) (answer : Q → Answered B E) (closes : Q → Bool) where
-  abbrev closing_here : P × Bool → Answered B E → P × Bool → Type 0
-  closing_here = closing_step draws answer closes
+  abbrev closing_of_draws : P × Bool → Answered B E → P × Bool → Type 0
+  closing_of_draws = closing_step draws answer closes
 
-  no_item_closed : (p q : P × Bool) (y : B) → p.1 ≡ true → closing_here p (item y) q → ⊥
+  no_item_closed : (p q : P × Bool) (y : B) → p.1 ≡ true → closing_of_draws p (item y) q → ⊥
   no_item_closed (p, true) q y e w = let d = w.0 in cc
   no_item_closed (p, false) q y e w = absurd cc
 
   -- nothing comes once it is closed
-  pub brackets_closed : (hints : P → ℕ × Option ℕ → Type 0) (p : P × Bool) (h : ℕ × Option ℕ) → p.1 ≡ true → closing_hints hints p h → Brackets closing_here p h
-  brackets_closed hints p h e is = subst (λ (k : ℕ × Option ℕ). Brackets closing_here p k) (sym (hint_of_closed_fuse hints p h e is)) (brackets_no_item closing_here p (λ y q w. no_item_closed p q y e w))
+  pub brackets_closed : (hints : P → ℕ × Option ℕ → Type 0) (p : P × Bool) (h : ℕ × Option ℕ) → p.1 ≡ true → closing_hints hints p h → Brackets closing_of_draws p h
+  brackets_closed hints p h e is = subst (λ (k : ℕ × Option ℕ). Brackets closing_of_draws p k) (sym (hint_of_closed_fuse hints p h e is)) (brackets_no_item closing_of_draws p (λ y q w. no_item_closed p q y e w))
 
 -- ---- `Fuse`
 
@@ -91,7 +91,7 @@ module _ {S A E : Type 0} (steps : S → Answered A E → S → Type 0) where
     above = λ xs q ran. let d = yields_take xs s n q ran in at_most_both k.1 n (length xs) (omega (arith, d.1)) (b.above xs q.0 d.0);
     below = λ xs q z ran w. let d = yields_take xs s n q ran in elim (end_or_full q.0 q.1 z w) [
       | inl full ↦ omega (arith, d.1, full)
-      | inr closing_here ↦ let le = b.below xs q.0 z.0 d.0 closing_here in omega (arith, le)
+      | inr closing_of_draws ↦ let le = b.below xs q.0 z.0 d.0 closing_of_draws in omega (arith, le)
     ];
   }
 

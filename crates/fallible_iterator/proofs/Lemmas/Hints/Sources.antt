@@ -47,10 +47,10 @@ module _ {S A E Z : Type 0} (of_item : A → Z) (of_failure : E → Z) (can : S 
   module _ (left : S → ℕ) (counts : CountsDown left gives) where
     number_left_after : (xs : List A) (s t : S) → Yields called_step s xs t → left s ≡ left t + length xs
     number_left_after [] s t ran = let same : left s ≡ left t = ap left ran in omega (arith, same)
-    number_left_after (x ∷ xs) s t ran = let once_step_here : left s ≡ left ran.0 + 1 = counts s (Some (of_item x)) ran.0 ran.1.0 in let rest = number_left_after xs ran.0 t ran.2 in omega (arith, once_step_here, rest)
+    number_left_after (x ∷ xs) s t ran = let once_item_step : left s ≡ left ran.0 + 1 = counts s (Some (of_item x)) ran.0 ran.1.0 in let rest = number_left_after xs ran.0 t ran.2 in omega (arith, once_item_step, rest)
 
-    pub brackets_counted : (s : S) (h : ℕ × Option ℕ) → remaining s ≡ at_most (left s) → IsWithinCount h.0 (remaining s) → IfSome h.1 (UpTo (remaining s)) → Brackets called_step s h
-    brackets_counted s h is low up = record {
+    pub brackets_called : (s : S) (h : ℕ × Option ℕ) → remaining s ≡ at_most (left s) → IsWithinCount h.0 (remaining s) → IfSome h.1 (UpTo (remaining s)) → Brackets called_step s h
+    brackets_called s h is low up = record {
       above = bounds_above_remaining s h.1 up;
       below = λ xs t u ran step.
           let within : IsWithinCount h.0 (at_most (left s)) = subst (λ (c : Count). IsWithinCount h.0 c) is low in
@@ -97,23 +97,23 @@ module _ {A E : Type 0} where
   brackets_failure v = brackets_no_item (once_step {A = A} failure) v (λ x w step. no_item_left v x w step)
 
 module _ {A : Type 0} (E : Type 0) where
-  abbrev once_step_here : Option A → Answered A E → Option A → Type 0
-  once_step_here = once_step item
+  abbrev once_item_step : Option A → Answered A E → Option A → Type 0
+  once_item_step = once_step item
 
-  once_used_yields_no_items : (xs : List A) (w : Option A) → Yields once_step_here None xs w → length xs ≤ 0
+  once_used_yields_no_items : (xs : List A) (w : Option A) → Yields once_item_step None xs w → length xs ≤ 0
   once_used_yields_no_items [] w ran = omega arith
   once_used_yields_no_items (x ∷ xs) w ran = absurd (let d = ran.1.0 in cc)
 
   -- what an item leaves yields no other
-  length_at_most_held : (xs : List A) (v w : Option A) → Yields once_step_here v xs w → length xs ≤ held_count v
+  length_at_most_held : (xs : List A) (v w : Option A) → Yields once_item_step v xs w → length xs ≤ held_count v
   length_at_most_held xs None w ran = once_used_yields_no_items xs w ran
   length_at_most_held [] (Some y) w ran = omega arith
-  length_at_most_held (x ∷ xs) (Some y) w ran = let le = once_used_yields_no_items xs w (subst (λ (u : Option A). Yields once_step_here u xs w) ran.1.1 ran.2) in omega (arith, le)
+  length_at_most_held (x ∷ xs) (Some y) w ran = let le = once_used_yields_no_items xs w (subst (λ (u : Option A). Yields once_item_step u xs w) ran.1.1 ran.2) in omega (arith, le)
 
-  held_count_at_most : (xs : List A) (v w z : Option A) → Yields once_step_here v xs w → once_step_here w end z → held_count v ≤ length xs
+  held_count_at_most : (xs : List A) (v w z : Option A) → Yields once_item_step v xs w → once_item_step w end z → held_count v ≤ length xs
   held_count_at_most xs None w z ran step = omega arith
-  held_count_at_most [] (Some y) w z ran step = absurd (let at : once_step_here (Some y) end z = subst (λ (u : Option A). once_step_here u end z) (sym ran) step in let d = at.0 in cc)
+  held_count_at_most [] (Some y) w z ran step = absurd (let at : once_item_step (Some y) end z = subst (λ (u : Option A). once_item_step u end z) (sym ran) step in let d = at.0 in cc)
   held_count_at_most (x ∷ xs) (Some y) w z ran step = omega arith
 
-  pub brackets_once : (v : Option A) → Brackets once_step_here v (held_count v, Some (held_count v))
+  pub brackets_once : (v : Option A) → Brackets once_item_step v (held_count v, Some (held_count v))
   brackets_once v = record { above = λ xs w ran. length_at_most_held xs v w ran; below = λ xs w z ran step. held_count_at_most xs v w z ran step }

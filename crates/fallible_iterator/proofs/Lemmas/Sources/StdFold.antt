@@ -59,9 +59,9 @@ module _ {S A E Z F C R : Type 0} (of_item : A → Z) (of_failure : E → Z) (re
   element_turn_went_on c d z h w = let called = turned c z w.0 h w.1 in (called.0, subst (λ (r : Result C (C × Answered R E)). ElementTurn turns c (read z) r) w.2 called.1)
 
   -- and it is taken on an item
-  item_of_turn_on : (c d : C) (q : Result A E) → ElementTurn turns c q (Ok d) → (x : A) × (q ≡ Ok x) × turns c x (Continue tt) d
-  item_of_turn_on c d (Ok x) w = (x, refl, w)
-  item_of_turn_on c d (Err e) w = absurd w
+  item_of_element_turn : (c d : C) (q : Result A E) → ElementTurn turns c q (Ok d) → (x : A) × (q ≡ Ok x) × turns c x (Continue tt) d
+  item_of_element_turn c d (Ok x) w = (x, refl, w)
+  item_of_element_turn c d (Err e) w = absurd w
 
   -- the turn at which std's fold breaks off is where the fold stops, or meets a failure
   driven_to_stop : (c : C) (s t : Progressing S) (z : Z) (q : Result A E) (stop : C × Answered R E) → read z ≡ q → ElementCall s (Some z) t → ElementTurn turns c q (Err stop) → Driven StepOfStdFold turns s.it.now c stop.1 t.it.now stop.0
@@ -88,7 +88,7 @@ module _ {S A E Z F C R : Type 0} (of_item : A → Z) (of_failure : E → Z) (re
         driven_to_end c s u o r now last
     driven_of_std_fold (z ∷ xs) s c y went =
         let on = element_turn_went_on c went.0.1 z went.0.0 went.1 in
-        let item_on = item_of_turn_on c went.0.1 (read z) on.1 in
+        let item_on = item_of_element_turn c went.0.1 (read z) on.1 in
         driven_after item_on.0 (step_of_result s y.0 z (Ok item_on.0) item_on.1 y.1) item_on.2
         (driven_of_std_fold xs y.0 went.0.1 y.2 (subst (λ (k : F). FoldsTo TurnOnElement (k, went.0.1) xs (h, a)) on.0 went.2))
 
@@ -111,7 +111,7 @@ module _ {S A E Z F C R : Type 0} (of_item : A → Z) (of_failure : E → Z) (re
         subst (λ (p : F × C). Takes g p.0 (p.1, (z, tt))) went (takes c z (can_turn_at_first c s u z (read z) refl now h))
     takes_at_element (y ∷ xs) s t u c q z h ran went w =
         let on = element_turn_went_on c went.0.1 y went.0.0 went.1 in
-        let item_on = item_of_turn_on c went.0.1 (read y) on.1 in
+        let item_on = item_of_element_turn c went.0.1 (read y) on.1 in
         takes_at_element xs ran.0 t u went.0.1 q z (holds_each_turn_after h (step_of_result s ran.0 y (Ok item_on.0) item_on.1 ran.1) item_on.2) ran.2 (subst (λ (k : F). FoldsTo TurnOnElement (k, went.0.1) xs q) on.0 went.2) w
 
     pub callable_in_std_fold : {s : Progressing S} {c : C} → HoldsAtEachTurn StepOfStdFold (goes_on turns) can_turn s.it.now c → CallableInTryFold ElementCall g (λ r b. r ≡ result_from_control_flow b) s f c
@@ -126,5 +126,5 @@ pub driven_lent : {S A E C R : Type 0} {steps : S → Answered A E → S → Typ
 driven_lent {steps = steps} {turns = turns} {s = s} {t = t} {b = b} {d = d} {r = r} c w is = subst (λ z. Driven steps turns s b.now r t z) (sym (is (names_kept (λ (z : MutBor _). z.now) (λ (z : MutBor _). z.ghost_name) turns w))) (driven_through (λ (z : MutBor _). z.now) (λ (z : MutBor _). z.ghost_name) turns w)
 
 -- and what the other reference points to then
-pub driven_left_at : {S A E C R : Type 0} {steps : S → Answered A E → S → Type 0} {turns : C → A → ControlFlow R (Unit {0}) → C → Type 0} {s t u : S} {c d : C} {r : Answered R E} → t ≡ u → Driven steps turns s c r u d → Driven steps turns s c r t d
-driven_left_at {steps = steps} {turns = turns} {s = s} {c = c} {d = d} {r = r} same w = subst (λ z. Driven steps turns s c r z d) (sym same) w
+pub driven_of_equal_left : {S A E C R : Type 0} {steps : S → Answered A E → S → Type 0} {turns : C → A → ControlFlow R (Unit {0}) → C → Type 0} {s t u : S} {c d : C} {r : Answered R E} → t ≡ u → Driven steps turns s c r u d → Driven steps turns s c r t d
+driven_of_equal_left {steps = steps} {turns = turns} {s = s} {c = c} {d = d} {r = r} same w = subst (λ z. Driven steps turns s c r z d) (sym same) w

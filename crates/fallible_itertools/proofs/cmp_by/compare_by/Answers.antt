@@ -1,7 +1,7 @@
 -- Each round goes before the comparison from there on.
 use Rattle.std.proofs.Common.{refl, Ok, Err, Some, None}
 use Rattle.fallible_iterator.proofs.Lemmas.Comparing.{either_at_most_begins, either_at_most_fewer}
-use Rattle.fallible_itertools.proofs.CmpBy.{callable_at_first_round, callable_in_rounds_after, compare_by_draws_after, compare_by_draws_left_failure, compare_by_draws_last_round, last_turn_round_right_failure}
+use Rattle.fallible_itertools.proofs.Lemmas.CmpBy.{callable_at_first_round, callable_in_rounds_after, compare_by_draws_after, compare_by_draws_left_failure, compare_by_draws_last_round, last_turn_round_right_failure}
 use Rattle.fallible_itertools.proofs.cmp_by.compare_by.Goals as goal
 
 pub loop-x-init : goal.loop-x-init

@@ -2,7 +2,7 @@
 use Rattle.std.specs.Prelude.{Ok, Err}
 use Rattle.std.proofs.Common.{inr}
 use Rattle.fallible_contract.proofs.Lemmas.Collecting.{collects_all_by_turns, fails_with_by_turns, refuses_item_by_turns}
-use Rattle.fallible_contract.proofs.Lemmas.Lists.Drawn.{collected_as, made_of_collected, collected_is_failure, collected_as_refused}
+use Rattle.fallible_contract.proofs.Lemmas.Lists.Drawn.{collected_of_lists, made_of_collected, collected_is_failure, collected_as_refused}
 use Rattle.fallible_contract.specs.declared.collecting.Fault.TheVariants.{Source}
 use Rattle.fallible_core.proofs.traits.FallibleIterator.collect.Goals as goal
 
@@ -10,13 +10,13 @@ pub returns-in-Ok-None-clause-collects : goal.returns-in-Ok-None-clause-collects
 returns-in-Ok-None-clause-collects g c = collects_all_by_turns {refuses = g.C.Collect.push_refuses} (λ d x r e p. p) c.in-Ok.ensures (rw c.in-Ok-None.field-0-is at c.in-Ok-None.ensures)
 
 pub returns-in-Ok-None-clause-value : goal.returns-in-Ok-None-clause-value
-returns-in-Ok-None-clause-value g c l i = collected_as g.C.Collect.made g.C.Collect.empty_refuses g.C.Collect.push_refuses (Ok _) l (returns-in-Ok-None-clause-collects g c) i
+returns-in-Ok-None-clause-value g c l i = collected_of_lists g.C.Collect.made g.C.Collect.empty_refuses g.C.Collect.push_refuses (Ok _) l (returns-in-Ok-None-clause-collects g c) i
 
 pub returns-clause-collects : goal.returns-clause-collects
 returns-clause-collects g c = fails_with_by_turns {made = g.C.Collect.made} {refuses = g.C.Collect.push_refuses} (λ d x r e p. p) c.in-Ok.ensures c.in-Err-drive.ensures
 
 pub returns-clause-value : goal.returns-clause-value
-returns-clause-value g c l i = collected_as g.C.Collect.made g.C.Collect.empty_refuses g.C.Collect.push_refuses (Err (Source _)) l (returns-clause-collects g c) i
+returns-clause-value g c l i = collected_of_lists g.C.Collect.made g.C.Collect.empty_refuses g.C.Collect.push_refuses (Err (Source _)) l (returns-clause-collects g c) i
 
 pub returns-in-Ok-Some-clause-collects : goal.returns-in-Ok-Some-clause-collects
 returns-in-Ok-Some-clause-collects g c = inr (refuses_item_by_turns (λ d x r e p. p) c.in-Ok.ensures (rw c.in-Ok-Some.field-0-is at c.in-Ok-Some.ensures))

@@ -1,6 +1,6 @@
 -- Each skipped item goes before what is left of the call.
 use Rattle.std.proofs.Common.{arith}
-use Rattle.fallible_contract.proofs.Lemmas.Nth.{nth_drains_after, nth_drains_now, nth_drains_next}
+use Rattle.fallible_contract.proofs.Lemmas.Nth.{nth_drains_after, nth_drains_at_once, nth_drains_next}
 use Rattle.fallible_core.proofs.traits.FallibleIterator.drive_nth.Goals as goal
 
 pub loop-left-init : goal.loop-left-init
@@ -13,10 +13,10 @@ loop-left-preserved g c = let i = c.loop-left.invariant in let step = rw c.in-Ok
 }
 
 pub returns-in-Ok-None : goal.returns-in-Ok-None
-returns-in-Ok-None g c = c.loop-left.invariant.whole _ _ (nth_drains_now _ (omega arith) (rw c.in-Ok-None.field-0-is at c.in-Ok-None.ensures))
+returns-in-Ok-None g c = c.loop-left.invariant.whole _ _ (nth_drains_at_once _ (omega arith) (rw c.in-Ok-None.field-0-is at c.in-Ok-None.ensures))
 
 pub returns-in-Err : goal.returns-in-Err
-returns-in-Err g c = c.loop-left.invariant.whole _ _ (nth_drains_now _ (omega arith) c.in-Err.ensures)
+returns-in-Err g c = c.loop-left.invariant.whole _ _ (nth_drains_at_once _ (omega arith) c.in-Err.ensures)
 
 pub returns : goal.returns
 returns g c = c.loop-left.invariant.whole _ _ (nth_drains_next c.loop-left.left c.next-2.result c.loop-left-test.false c.next-2.ensures)

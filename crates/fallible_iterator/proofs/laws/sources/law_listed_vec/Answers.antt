@@ -22,11 +22,11 @@ module _ {X Z : Type 0} where
   last a None b h = (none_left (into_iter_items a) (sym a.rest.ok.0 ∙ h.0), none_left (into_iter_items b) (sym b.rest.ok.0 ∙ h.1))
   last a (Some x) b h = h
 
-listed_as : {S A E : Type 0} {front back : S → Answered A E → S → Type 0} {s : S} {k l : List (Result A E)} → k ≡ l → ListsBothEnds front back s (results k) → ListsBothEnds front back s (results l)
-listed_as {front = front} {back = back} {s = s} same i = subst (λ (j : List _). ListsBothEnds front back s (results j)) same i
+lists_both_ends_of_equal : {S A E : Type 0} {front back : S → Answered A E → S → Type 0} {s : S} {k l : List (Result A E)} → k ≡ l → ListsBothEnds front back s (results k) → ListsBothEnds front back s (results l)
+lists_both_ends_of_equal {front = front} {back = back} {s = s} same i = subst (λ (j : List _). ListsBothEnds front back s (results j)) same i
 
 pub returns-clause-results : goal.returns-clause-results
-returns-clause-results g c s l same = listed_as same (c.law_listed_convert.ensures.rest into_iter_items first last s)
+returns-clause-results g c s l same = lists_both_ends_of_equal same (c.law_listed_convert.ensures.rest into_iter_items first last s)
 
 pub returns-clause-listed : goal.returns-clause-listed
 unfolding results

@@ -1,7 +1,7 @@
 -- What the list from the back says of the item, and of what is left.
 use Rattle.fallible_iterator.specs.Laws.Contract.{stays_run}
 use Rattle.fallible_iterator.proofs.Lemmas.Lists.Drawn.{nth_of_lists}
-use Rattle.fallible_itertools.proofs.FromBack.{nth_at_back}
+use Rattle.fallible_itertools.proofs.Lemmas.FromBack.{nth_at_back}
 use Rattle.fallible_itertools.proofs.double_ended.DoubleEndedFallibleItertools.nth_back.Goals as goal
 
 pub returns-clause-value : goal.returns-clause-value

@@ -5,7 +5,7 @@ use Rattle.fallible_iterator.specs.Laws.Contract.{stays_run}
 use Rattle.fallible_iterator.proofs.Lemmas.Folds.{holds_each_turn_map}
 use Rattle.fallible_iterator.proofs.Lemmas.Searching.{search_drains_found}
 use Rattle.fallible_iterator.proofs.Lemmas.Lists.Searched.{found_of_lists}
-use Rattle.fallible_itertools.proofs.FromBack.{find_at_back}
+use Rattle.fallible_itertools.proofs.Lemmas.FromBack.{find_at_back}
 use Rattle.fallible_itertools.proofs.double_ended.DoubleEndedFallibleItertools.rfind.Goals as goal
 
 pub drive_back-requires-clause-callable : goal.drive_back-requires-clause-callable

@@ -1,4 +1,4 @@
--- What `into_group_map` makes of the items behind their keys.
+-- What `into_group_map` makes of the items paired with their keys.
 use Rattle.std.proofs.Common.{refl}
 use Rattle.fallible_itertools.specs.Keyed.{keyed_parts, keyed_contract}
 use Rattle.fallible_itertools.proofs.Lemmas.Keyed.{lists_keyed}

@@ -4,7 +4,7 @@ use Rattle.fallible_iterator.specs.Closures.{call_on}
 use Rattle.fallible_iterator.specs.Searching.{all_pick}
 use Rattle.fallible_iterator.proofs.Lemmas.Searching.{search_drains_of_drive}
 use Rattle.fallible_itertools.specs.IsSorted.{OrderCall}
-use Rattle.fallible_itertools.proofs.IsSorted.{in_order_by_key_of_lists}
+use Rattle.fallible_itertools.proofs.Lemmas.IsSorted.{in_order_by_key_of_lists}
 use Rattle.fallible_itertools.proofs.traits.FallibleItertools.is_sorted_by_key.Goals as goal
 
 pub returns-clause-sorted : goal.returns-clause-sorted

@@ -1,7 +1,7 @@
 -- The fold whose state is the text makes it.
 use Rattle.std.specs.Prelude.{Ok, Err}
 use Rattle.std.proofs.Common.{inr, refl}
-use Rattle.fallible_iterator.proofs.Lemmas.Lists.Drawn.{collected_as, made_of_collected, collected_is_failure, collected_as_refused}
+use Rattle.fallible_iterator.proofs.Lemmas.Lists.Drawn.{collected_of_lists, made_of_collected, collected_is_failure, collected_as_refused}
 use Rattle.fallible_itertools.specs.Join.{JoinedAs}
 use Rattle.fallible_itertools.proofs.Lemmas.Join.{collects_all_joined, fails_with_join, refuses_item_join_refused}
 use Rattle.fallible_itertools.proofs.traits.FallibleItertools.join.Goals as goal
@@ -11,7 +11,7 @@ pub returns-in-Ok-None-clause-collects : goal.returns-in-Ok-None-clause-collects
 returns-in-Ok-None-clause-collects g c = collects_all_joined g.Self.Item.Display.output c.args.separator.now (refl, λ show shows. c.new.ensures.bytes) (rw c.in-Ok-None.field-0-is at c.in-Ok-None.ensures)
 
 pub returns-in-Ok-None-clause-value : goal.returns-in-Ok-None-clause-value
-returns-in-Ok-None-clause-value g c l i = collected_as (JoinedAs g.Self.Item.Display.output c.args.separator.now) ⊥ (λ _ _. Unit {0}) (Ok _) l (returns-in-Ok-None-clause-collects g c) i
+returns-in-Ok-None-clause-value g c l i = collected_of_lists (JoinedAs g.Self.Item.Display.output c.args.separator.now) ⊥ (λ _ _. Unit {0}) (Ok _) l (returns-in-Ok-None-clause-collects g c) i
 
 pub returns-in-Ok-None-clause-contents : goal.returns-in-Ok-None-clause-contents
 returns-in-Ok-None-clause-contents g c l i = made_of_collected (JoinedAs g.Self.Item.Display.output c.args.separator.now) l _ (returns-in-Ok-None-clause-value g c l i)
@@ -20,7 +20,7 @@ pub returns-clause-collects : goal.returns-clause-collects
 returns-clause-collects g c = fails_with_join g.Self.Item.Display.output c.args.separator.now (refl, λ show shows. c.new.ensures.bytes) c.in-Err.ensures
 
 pub returns-clause-value : goal.returns-clause-value
-returns-clause-value g c l i = collected_as (JoinedAs g.Self.Item.Display.output c.args.separator.now) ⊥ (λ _ _. Unit {0}) (Err (Source _)) l (returns-clause-collects g c) i
+returns-clause-value g c l i = collected_of_lists (JoinedAs g.Self.Item.Display.output c.args.separator.now) ⊥ (λ _ _. Unit {0}) (Err (Source _)) l (returns-clause-collects g c) i
 
 pub returns-clause-failure : goal.returns-clause-failure
 returns-clause-failure g c l i e is = collected_is_failure (JoinedAs g.Self.Item.Display.output c.args.separator.now) l (returns-clause-value g c l i) is

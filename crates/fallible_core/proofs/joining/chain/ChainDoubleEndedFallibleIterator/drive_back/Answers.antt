@@ -3,7 +3,7 @@ use Rattle.std.proofs.Common.{refl, ap}
 use Rattle.fallible_contract.specs.Ends.{from_back}
 use Rattle.fallible_core.specs.Joining.Chain.{chain_parts, sides_back}
 use Rattle.fallible_core.proofs.Lemmas.Joining.Chain.{chain_parts_back, of_parts_back, chain_back_twice}
-use Rattle.fallible_core.proofs.Lemmas.Joining.ChainFolds.{still_drawn_is_both, second_drawn_back, first_is_finite, second_is_finite, drive_met_end, is_end_of_drive, drive_joins, holds_each_turn_second_by_itself, holds_each_turn_first, holds_each_turn_second, drained_chain_second_alone, drained_chain_first_alone, drained_chain_first, drained_chain_over}
+use Rattle.fallible_core.proofs.Lemmas.Joining.ChainFolds.{still_drawn_is_both, second_drawn_back, first_is_finite, second_is_finite, drive_met_end, is_end_of_drive, drive_joins, holds_each_turn_second_by_itself, holds_each_turn_first, holds_each_turn_second, drained_chain_second_alone, drained_chain_first_alone, drained_chain_first, drained_chain_both}
 use Rattle.fallible_core.proofs.joining.chain.ChainDoubleEndedFallibleIterator.drive_back.Goals as goal
 
 pub drive_back-requires-clause-callable : goal.drive_back-requires-clause-callable
@@ -33,7 +33,7 @@ pub returns-in-SecondAlone : goal.returns-in-SecondAlone
 returns-in-SecondAlone g c = drained_chain_first_alone chain_parts_back of_parts_back chain_back_twice (from_back g.U.FallibleIterator.contract g.U.DoubleEndedFallibleIterator.ends) (from_back g.T.FallibleIterator.contract g.T.DoubleEndedFallibleIterator.ends) (ap sides_back c.in-SecondAlone.is) refl (ap sides_back c.in-SecondAlone.is) (rw c.in-Ok-None.field-0-is at c.in-Ok-None.ensures)
 
 pub returns-in_default-still_drawn : goal.returns-in_default-still_drawn
-returns-in_default-still_drawn g c = drained_chain_over chain_parts_back of_parts_back chain_back_twice (from_back g.U.FallibleIterator.contract g.U.DoubleEndedFallibleIterator.ends) (from_back g.T.FallibleIterator.contract g.T.DoubleEndedFallibleIterator.ends) (ap sides_back (still_drawn_is_both _ c.in_default-still_drawn.not-SecondAlone c.in_default.not-FirstAlone)) refl (drive_joins (g.K.Turn.turns c.args.turn.now)) (rw c.in-Ok-None.field-0-is at c.in-Ok-None.ensures) c.drive_back-in_default-still_drawn.ensures
+returns-in_default-still_drawn g c = drained_chain_both chain_parts_back of_parts_back chain_back_twice (from_back g.U.FallibleIterator.contract g.U.DoubleEndedFallibleIterator.ends) (from_back g.T.FallibleIterator.contract g.T.DoubleEndedFallibleIterator.ends) (ap sides_back (still_drawn_is_both _ c.in_default-still_drawn.not-SecondAlone c.in_default.not-FirstAlone)) refl (drive_joins (g.K.Turn.turns c.args.turn.now)) (rw c.in-Ok-None.field-0-is at c.in-Ok-None.ensures) c.drive_back-in_default-still_drawn.ensures
 
 pub returns-in-Err : goal.returns-in-Err
 returns-in-Err g c = drained_chain_first chain_parts_back of_parts_back chain_back_twice (from_back g.U.FallibleIterator.contract g.U.DoubleEndedFallibleIterator.ends) (from_back g.T.FallibleIterator.contract g.T.DoubleEndedFallibleIterator.ends) (second_drawn_back _ c.in_default.not-FirstAlone) refl refl (is_end_of_drive (g.K.Turn.turns c.args.turn.now) (λ e. absurd cc)) c.in-Err.ensures

@@ -86,23 +86,23 @@ rest_failure_of_drawn {A = A} {E = E} (x ∷ items) last n r (Ok y ∷ l) k ran 
 
 module _ {S A E : Type 0} {front back : S → Answered A E → S → Type 0} {s t : S} (l : List (Result A E)) (i : ListsBothEnds front back s l) where
   -- what draws from the front leave is what they leave of the list
-  lists_both_ends_as : (trace : List (Answered A E)) (k : List (Result A E)) → Run front s trace t → ((left : List (Result A E)) → Run draws_list l trace left → k ≡ left) → ListsBothEnds front back t k
-  lists_both_ends_as trace k ran is = let d = draws_list_run front back trace s t l i ran in subst (λ (j : List (Result A E)). ListsBothEnds front back t j) (sym (is d.0 d.1)) d.2
+  lists_both_ends_of_left : (trace : List (Answered A E)) (k : List (Result A E)) → Run front s trace t → ((left : List (Result A E)) → Run draws_list l trace left → k ≡ left) → ListsBothEnds front back t k
+  lists_both_ends_of_left trace k ran is = let d = draws_list_run front back trace s t l i ran in subst (λ (j : List (Result A E)). ListsBothEnds front back t j) (sym (is d.0 d.1)) d.2
 
   lists_both_ends_rest_nth : {n : ℕ} {r : Answered A E} → NthDrains front s n r t → ListsBothEnds front back t (rest_nth n l)
-  lists_both_ends_rest_nth {n = n} {r = r} c = lists_both_ends_as _ (rest_nth n l) c.ran (λ left ran. rest_nth_of_drawn c.items c.last n l left ran (subst (λ (q : Answered A E). NthExit n (length c.items) q) (sym c.at.is) c.at.exit))
+  lists_both_ends_rest_nth {n = n} {r = r} c = lists_both_ends_of_left _ (rest_nth n l) c.ran (λ left ran. rest_nth_of_drawn c.items c.last n l left ran (subst (λ (q : Answered A E). NthExit n (length c.items) q) (sym c.at.is) c.at.exit))
 
   lists_both_ends_rest_failure : {n : Result ℕ E} → Drained front (CountedBy n) s t → ListsBothEnds front back t (rest_failure l)
-  lists_both_ends_rest_failure {n = n} c = lists_both_ends_as _ (rest_failure l) c.ran (λ left ran. rest_failure_of_drawn c.items c.last (length c.items) n l left ran c.at.exit)
+  lists_both_ends_rest_failure {n = n} c = lists_both_ends_of_left _ (rest_failure l) c.ran (λ left ran. rest_failure_of_drawn c.items c.last (length c.items) n l left ran c.at.exit)
 
   module _ {F : Type 0} {f g : F} {call : F → A → Result Bool E → F → Type 0} (h : A → Result Bool E) (acts : Acts call f h) where
     lists_both_ends_rest_true : {r : Result Bool E} → SearchDrains call any_pick front false s f r t g → ListsBothEnds front back t (rest_true h l)
     unfolding rest_true
-    lists_both_ends_rest_true {r = r} c = lists_both_ends_as _ (rest_stop (λ v. v) h l) c.ran (λ left ran. rest_stop_of_drawn call any_pick false (λ v. v) is_some_any_pick h f acts c.items c.last (length c.items) r c.at.closure g l left ran c.at.went c.at.exit)
+    lists_both_ends_rest_true {r = r} c = lists_both_ends_of_left _ (rest_stop (λ v. v) h l) c.ran (λ left ran. rest_stop_of_drawn call any_pick false (λ v. v) is_some_any_pick h f acts c.items c.last (length c.items) r c.at.closure g l left ran c.at.went c.at.exit)
 
     lists_both_ends_rest_true_found : {r : Result (Option A) E} → SearchDrains call find_pick front None s f r t g → ListsBothEnds front back t (rest_true h l)
     unfolding rest_true
-    lists_both_ends_rest_true_found {r = r} c = lists_both_ends_as _ (rest_stop (λ v. v) h l) c.ran (λ left ran. rest_stop_of_drawn call find_pick None (λ v. v) is_some_find_pick h f acts c.items c.last (length c.items) r c.at.closure g l left ran c.at.went c.at.exit)
+    lists_both_ends_rest_true_found {r = r} c = lists_both_ends_of_left _ (rest_stop (λ v. v) h l) c.ran (λ left ran. rest_stop_of_drawn call find_pick None (λ v. v) is_some_find_pick h f acts c.items c.last (length c.items) r c.at.closure g l left ran c.at.went c.at.exit)
 
 -- the same of draws from the back, with what is returned
 module _ {S A E : Type 0} {front back : S → Answered A E → S → Type 0} {s t : S} (l : List (Result A E)) (i : ListsBothEnds front back s l) where
@@ -175,12 +175,12 @@ module _ {A E : Type 0} (R : Type 0) where
   count_exit_failure (Err d) n k e h = let same : e ≡ d = (let f = h.0 in cc) in ap Err same
 
 module _ {S A E : Type 0} {steps : S → Answered A E → S → Type 0} {s t : S} (found : Result Bool E) (is : found ≡ Ok true) where
-  counted_where_as : (r : Result ℕ E) → Drained steps (CountedBy r) s t → CountedWhere steps found s (read_as (λ k. Some k) r) t
-  counted_where_as r d = subst (λ (w : Result Bool E). CountedWhere steps w s (read_as (λ k. Some k) r) t) (sym is) (r, d, refl)
+  counted_where_found : (r : Result ℕ E) → Drained steps (CountedBy r) s t → CountedWhere steps found s (read_as (λ k. Some k) r) t
+  counted_where_found r d = subst (λ (w : Result Bool E). CountedWhere steps w s (read_as (λ k. Some k) r) t) (sym is) (r, d, refl)
 
   module _ {R : Type 0} {n : ℕ} where
     pub counted_where_to_end : Driven steps (CountsUp R) s 0 (Ok None) t n → CountedWhere steps found s (Ok (Some n)) t
-    counted_where_to_end w = counted_where_as (Ok n) (drained_map (λ items last h. record { exit = subst (λ (k : ℕ). CountExit k last (Ok n)) (let e = number_counted_up R items 0 h.carried h.went in omega (arith, e)) (count_exit_end R last h.carried n h.exit) }) w)
+    counted_where_to_end w = counted_where_found (Ok n) (drained_map (λ items last h. record { exit = subst (λ (k : ℕ). CountExit k last (Ok n)) (let e = number_counted_up R items 0 h.carried h.went in omega (arith, e)) (count_exit_end R last h.carried n h.exit) }) w)
 
     pub counted_where_to_failure : {e : E} → Driven steps (CountsUp R) s 0 (Err e) t n → CountedWhere steps found s (Err e) t
-    counted_where_to_failure {e = e} w = counted_where_as (Err e) (drained_map (λ items last h. record { exit = subst (λ (k : ℕ). CountExit k last (Err e)) (let q = number_counted_up R items 0 h.carried h.went in omega (arith, q)) (count_exit_failure R last h.carried n e h.exit) }) w)
+    counted_where_to_failure {e = e} w = counted_where_found (Err e) (drained_map (λ items last h. record { exit = subst (λ (k : ℕ). CountExit k last (Err e)) (let q = number_counted_up R items 0 h.carried h.went in omega (arith, q)) (count_exit_failure R last h.carried n e h.exit) }) w)

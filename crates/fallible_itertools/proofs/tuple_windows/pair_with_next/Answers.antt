@@ -2,7 +2,7 @@
 use Rattle.std.proofs.Common.{refl}
 use Rattle.fallible_iterator.specs.Laws.Passing.{pass_trace_item, pass_trace_refusal, pass_trace_end, pass_trace_failure}
 use Rattle.fallible_iterator.specs.Outcome.TheVariants.{Kept, Failure}
-use Rattle.fallible_itertools.proofs.tuple_windows.behind.Goals as goal
+use Rattle.fallible_itertools.proofs.tuple_windows.pair_with_next.Goals as goal
 
 pub returns-in-Kept : goal.returns-in-Kept
 returns-in-Kept g c = pass_trace_item c.in-Ok-Some.x (Kept c.in-Kept.both) c.in-Kept.both (rw c.in-Ok-Some.field-0-is at c.in-Ok-Some.ensures) c.in-Kept.ensures refl

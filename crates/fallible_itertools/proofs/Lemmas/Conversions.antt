@@ -102,27 +102,27 @@ module _ {A E' F V R : Type 0} (call : F → A → Result V E' → F → Type 0)
 
   module _ (stops : V → Bool) (fits : (n : ℕ) (x : A) (v : V) → is_some (pick n x v) ≡ stops v) (h : A → Result V E') where
     -- where the closure acts as h, these calls act so
-    abbrev search_acts_as : Unit {0} → A → Result (Unit {0}) (Unit {0})
-    search_acts_as u x = went_or_stopped (stops_by stops (h x))
+    abbrev search_returns : Unit {0} → A → Result (Unit {0}) (Unit {0})
+    search_returns u x = went_or_stopped (stops_by stops (h x))
 
     decided_acts : (f : F) → Acts call f h → (n : ℕ) (x : A) (r : Result R E') (g : F) → SearchDecides call pick n f x r g → (g ≡ f) × (stops_by stops (h x) ≡ true)
     decided_acts f acts n x (Ok z) g d = let a = acts x (Ok d.0) g d.1 in (a.0, ap (stops_by stops) (sym a.1) ∙ sym (fits n x d.0) ∙ ap is_some d.2)
     decided_acts f acts n x (Err e) g d = let a = acts x (Err e) g d in (a.0, ap (stops_by stops) (sym a.1))
 
-    acts_with_search : (f : F) → Acts call f h → ActsWith SearchCall f search_acts_as
+    acts_with_search : (f : F) → Acts call f h → ActsWith SearchCall f search_returns
     acts_with_search f acts u x (Ok v) g d = let a = acts x (Ok d.0) g d.1 in (a.0, ap went_or_stopped (sym (ap (stops_by stops) (sym a.1) ∙ sym (fits 0 x d.0) ∙ ap is_some (d.2 0))))
     acts_with_search f acts u x (Err v) g d = let a = decided_acts f acts d.0 x d.1 g d.2 in (a.0, ap went_or_stopped (sym a.1))
 
     -- so they leave what the search does
-    rest_fold_is_rest_try_stop : {E : Type 0} (l : List (Result A E)) → rest_fold search_acts_as tt l ≡ rest_try_stop stops h l
+    rest_fold_is_rest_try_stop : {E : Type 0} (l : List (Result A E)) → rest_fold search_returns tt l ≡ rest_try_stop stops h l
     unfolding rest_fold rest_try_stop
     rest_fold_is_rest_try_stop [] = refl
-    rest_fold_is_rest_try_stop (Ok x ∷ l) = rest_failed_item_is_fold (stops_by stops (h x)) l (rest_fold search_acts_as tt l) ∙ ap (stopped_or (stops_by stops (h x)) l) (rest_fold_is_rest_try_stop l)
+    rest_fold_is_rest_try_stop (Ok x ∷ l) = rest_failed_item_is_fold (stops_by stops (h x)) l (rest_fold search_returns tt l) ∙ ap (stopped_or (stops_by stops (h x)) l) (rest_fold_is_rest_try_stop l)
     rest_fold_is_rest_try_stop (Err e ∷ l) = refl
 
     module _ {S E : Type 0} (from : E → E' → Type 0) {steps : S → Answered A E → S → Type 0} {s t : S} {f g : F} {r : Result R E'} {none : R} {l : List (Result A E)} where
       lists_rest_try_stop : Acts call f h → Lists steps s l → SearchDrains call pick (Converted from steps) none s f r t g → ¬ (r ≡ Ok none) → Lists steps t (rest_try_stop stops h l)
-      lists_rest_try_stop acts i w no_end = subst (λ k. Lists steps t k) (rest_fold_is_rest_try_stop l) (lists_rest_fold SearchCall (λ e v. ⊤) search_acts_as f (acts_with_search f acts) steps l (fold_drains_search from steps none s t f g r w no_end) i tt refl)
+      lists_rest_try_stop acts i w no_end = subst (λ k. Lists steps t k) (rest_fold_is_rest_try_stop l) (lists_rest_fold SearchCall (λ e v. ⊤) search_returns f (acts_with_search f acts) steps l (fold_drains_search from steps none s t f g r w no_end) i tt refl)
 
 module _ {S A E E' F : Type 0} {from : E → E' → Type 0} {steps : S → Answered A E → S → Type 0} {s t : S} {f g : F} (l : List (Result A E)) (i : Lists steps s l) where
   pub lists_rest_try_each : {call : F → A → Result (Unit {0}) E' → F → Type 0} (h : A → Result (Unit {0}) E') {r : Result (Unit {0}) E'} {e : E'} → Acts call f h → SearchDrains call each_pick (Converted from steps) tt s f r t g → r ≡ Err e → Lists steps t (rest_try_each h l)

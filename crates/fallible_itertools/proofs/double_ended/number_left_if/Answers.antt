@@ -2,8 +2,8 @@
 use Rattle.std.proofs.Common.{◌≡◌, true, Ok}
 use Rattle.fallible_iterator.proofs.Lemmas.Contract.{number_of_at_most}
 use Rattle.fallible_iterator.proofs.Lemmas.Folds.{holds_each_turn_map, holds_each_turn_below}
-use Rattle.fallible_itertools.proofs.FromBack.{counted_where_to_end, counted_where_to_failure}
-use Rattle.fallible_itertools.proofs.double_ended.counted_where.Goals as goal
+use Rattle.fallible_itertools.proofs.Lemmas.FromBack.{counted_where_to_end, counted_where_to_failure}
+use Rattle.fallible_itertools.proofs.double_ended.number_left_if.Goals as goal
 
 pub drive-requires-clause-finite : goal.drive-requires-clause-finite
 drive-requires-clause-finite g c = let b = number_of_at_most g.I.FallibleIterator.contract _ _ c.requires.fits in (g.met.I.FallibleIterator.lawful.bounded _).1 (b.0, b.1)
