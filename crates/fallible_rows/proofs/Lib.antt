@@ -1,3 +1,4 @@
+mod BoundLemmas
 pub mod BytesLaw
 pub mod ChainLemmas
 pub mod FailingLemmas

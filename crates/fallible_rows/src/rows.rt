@@ -1,6 +1,6 @@
 //! Rows of a reader, as a fallible iterator.
 ghost use Rattle.std.specs.Prelude.{◌≡◌, ◌-◌, ◌^◌, ◌<◌, ℕ, List, length, Some};
-ghost use Rattle.fallible_iterator.specs.Contract.{unbounded_contract, seen_as};
+ghost use Rattle.fallible_iterator.specs.Contract.{AtMost, unbounded_contract, seen_as};
 ghost use Rattle.fallible_iterator.specs.Laws.Contract.{lawful_seen};
 ghost use Rattle.fallible_iterator.specs.Laws.BoundsRuns.{lawful_unbounded};
 ghost use Rattle.fallible_iterator.specs.Lists.{Lists};
@@ -20,7 +20,9 @@ use fallible_iterator::FallibleIterator;
 ///
 /// A draw reads one byte at a time from the reader, up to the newline that ends a row, and that newline, or to the input's end; a row is judged then, also if it was known before to be no number. A row that stands whole in the reader's buffer (`ReadByte::buffered`) may be taken from there at once, with its newline and no byte after it. If a read fails, for whatever reason, or a byte is wanted when as many as the limit were read, it fails with `Read`; the input's end wanted after the limit counts as a byte. An interrupted read isn't tried again. After `Read` and after the input's end each call returns `Ok(None)` and reads no more.
 ///
-/// It states no bound, so it is drained through `take`. Neither its creation nor a draw allocates.
+/// At most as many items come as bytes may be read. Neither its creation nor a draw allocates.
+///
+/// Proof: the clauses `finite` and `fits` of its creation say how many items come at most. So it may be drained with no `take`, and `stop_after(n)` bounds its items and failures together.
 #[derive(Drop)]
 pub struct Rows<B> {
     reader: B,
@@ -41,6 +43,10 @@ impl<B: ReadByte> Rows<B> {
     /// The rows of `reader`, of which at most `u64::MAX` bytes are read. It reads nothing.
     pub fn new(reader: B) -> Rows<B>
         ensures parts { rows_parts result ≡ begun reader (2 ^ 64 - 1) }
+        ensures finite { (seen_as rows_parts
+            (unbounded_contract (row_step B.left B.stays))).is_finite result }
+        ensures fits { AtMost (seen_as rows_parts
+            (unbounded_contract (row_step B.left B.stays))) result (2 ^ 64 - 1) }
         ensures lists { (bytes : List ℕ) → NoReadFails B.stays → B.left reader ≡ Some bytes
             → length bytes < 2 ^ 64 - 1
             → Lists (seen_as rows_parts (unbounded_contract (row_step B.left B.stays))).steps
@@ -52,6 +58,10 @@ impl<B: ReadByte> Rows<B> {
     /// The rows of `reader`, of which at most `limit` bytes are read. It reads nothing.
     pub fn with_limit(reader: B, limit: u64) -> Rows<B>
         ensures parts { rows_parts result ≡ begun reader limit }
+        ensures finite { (seen_as rows_parts
+            (unbounded_contract (row_step B.left B.stays))).is_finite result }
+        ensures fits { AtMost (seen_as rows_parts
+            (unbounded_contract (row_step B.left B.stays))) result limit }
         ensures lists { (bytes : List ℕ) → NoReadFails B.stays → B.left reader ≡ Some bytes
             → length bytes < limit
             → Lists (seen_as rows_parts (unbounded_contract (row_step B.left B.stays))).steps
