@@ -2,6 +2,7 @@
 use Rattle.std.specs.Prelude.{Bool, ◌≡◌, ◌≢◌, ℕ, ◌+◌, ◌<◌, ◌≤◌, ◌⊎◌, min, List, [], ◌∷◌, ◌++◌, length, take, replicate, All, Option, Some, None, Result, ⊤}
 use Rattle.std.specs.Option.{ok_or}
 use Rattle.fallible_iterator.specs.Traces.{Answered, item, failure, end}
+use Rattle.fallible_iterator.specs.Lists.{Lists}
 use Rattle.fallible_rows.specs.Rows.{rows, row_number}
 use Rattle.fallible_rows.specs.Reading.{GivesByte, GivesBytes, GivesEnd, FailsToRead}
 use Rattle.fallible_rows.specs.declared.fault.RowFault.{RowFault}
@@ -102,6 +103,14 @@ module _ {B : Type 0} (left : B → Option (List ℕ)) (stays : Bool → B → B
   abbrev pub row_step : B × Option Ahead → Answered ℕ RowFault → B × Option Ahead → Type 0
   row_step (r, Some a) answer p = DrawsRow r a answer p
   row_step (r, None) answer p = (answer ≡ end) × (p ≡ (r, None))
+
+  -- One answer that is not the failure `Read`.
+  abbrev pub row_step_where_read : B × Option Ahead → Answered ℕ RowFault → B × Option Ahead → Type 0
+  row_step_where_read s answer p = row_step s answer p × (answer ≢ failure Read)
+
+  -- Where no draw fails with `Read`, the answers of s, up to its first end, list l.
+  abbrev pub ListsWhereRead : Rows B → List (Result ℕ RowFault) → Type 0
+  ListsWhereRead s l = Lists (λ u r v. row_step_where_read (rows_parts u) r (rows_parts v)) s l
 
   -- ---- whole traces
 

@@ -6,7 +6,7 @@ ghost use Rattle.fallible_iterator.specs.Laws.BoundsRuns.{lawful_unbounded};
 ghost use Rattle.fallible_iterator.specs.Lists.{Lists};
 ghost use Rattle.fallible_rows.specs.Reading.{NoReadFails};
 ghost use Rattle.fallible_rows.specs.Rows.{rows};
-ghost use Rattle.fallible_rows.specs.RowTraces.{rows_parts, begun, row_step, row_results};
+ghost use Rattle.fallible_rows.specs.RowTraces.{rows_parts, begun, row_step, row_results, ListsWhereRead};
 ghost use Rattle.fallible_rows.specs.Digits.{ReadsRow};
 
 use crate::digits::{Digits, number_ahead};
@@ -51,6 +51,9 @@ impl<B: ReadByte> Rows<B> {
             → length bytes < 2 ^ 64 - 1
             → Lists (seen_as rows_parts (unbounded_contract (row_step B.left B.stays))).steps
             result (row_results 1 (rows bytes)) }
+        ensures lists_where_read { (bytes : List ℕ) → B.left reader ≡ Some bytes
+            → length bytes < 2 ^ 64 - 1
+            → ListsWhereRead B.left B.stays result (row_results 1 (rows bytes)) }
     {
         Rows::with_limit(reader, u64::MAX)
     }
@@ -66,6 +69,9 @@ impl<B: ReadByte> Rows<B> {
             → length bytes < limit
             → Lists (seen_as rows_parts (unbounded_contract (row_step B.left B.stays))).steps
             result (row_results 1 (rows bytes)) }
+        ensures lists_where_read { (bytes : List ℕ) → B.left reader ≡ Some bytes
+            → length bytes < limit
+            → ListsWhereRead B.left B.stays result (row_results 1 (rows bytes)) }
     {
         Rows {
             reader,
