@@ -15,8 +15,8 @@ SUITES = {
         "fallible_elf", "test_elf", "fallible_rows", "test_rows",
     ],
     "fallible-itertools": [
-        "test_support", "example_itertools", "test_itertools", "fallible_scripts",
-        "test_calls_itertools",
+        "test_support", "program_io", "fallible_rows", "example_itertools", "test_itertools",
+        "fallible_scripts", "test_calls_itertools",
     ],
 }
 # Modules that are left out: a program's words and files come by Rattle's own runtime.
