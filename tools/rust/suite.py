@@ -15,12 +15,12 @@ SUITES = {
         "test_programs", "fallible_rows", "test_rows",
     ],
     "fallible-itertools": [
-        "test_support", "example_itertools", "test_itertools", "fallible_scripts",
-        "test_calls_itertools",
+        "test_support", "program_io", "fallible_rows", "example_itertools", "test_itertools",
+        "fallible_scripts", "test_calls_itertools",
     ],
 }
-# Modules that are left out: a program's words and files come by Rattle's own runtime.
-MODULES_LEFT_OUT = {"program_io/arguments.rs"}
+# Modules that are left out: a program's words and files come by Rattle's own runtime, and tallies stand on fallible_itertools.
+MODULES_LEFT_OUT = {"program_io/arguments.rs", "test_rows/tallies.rs"}
 # Items that are left out, with those that use them: a pattern of their text, and why.
 LEFT_OUT = [
     (r"\bFault::Memory\b|\bAllocError\)|-> AllocError|\bexpect_refused\b", "memory is refused"),
@@ -48,7 +48,7 @@ def modules(top, crate, count):
                 continue
             for left_out in MODULES_LEFT_OUT:
                 if rel == left_out.split("/")[0] + ".rs":
-                    text.cut_all(r"^(?:pub )?mod %s;\n" % Path(left_out).stem)
+                    text.cut_all(r"^(?:#\[cfg\(test\)\]\n)?(?:pub )?mod %s;\n" % Path(left_out).stem)
             files[rel] = list(tests.items(text))
     traces = top / "crates/fallible_iterator/src/laws/traces.rt"
     files["laws.rs"] = list(tests.items(read(traces, str(traces.relative_to(top)))))

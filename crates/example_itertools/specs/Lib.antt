@@ -1,3 +1,5 @@
 -- What the clauses of `src/` cite.
 pub mod Places
+pub mod Reading
 pub mod Rows
+pub mod Settings

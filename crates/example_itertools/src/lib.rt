@@ -9,6 +9,8 @@ pub mod interspersing;
 pub mod joining;
 pub mod ordering;
 pub mod passing;
+pub mod reading;
+pub mod settings;
 pub mod stopping;
 pub mod totals;
 pub mod trying;

@@ -1,6 +1,6 @@
 //! Rows of a reader, as a fallible iterator.
 ghost use Rattle.std.specs.Prelude.{◌≡◌, ◌-◌, ◌^◌, ◌<◌, ℕ, List, length, Some};
-ghost use Rattle.fallible_iterator.specs.Contract.{unbounded_contract, seen_as};
+ghost use Rattle.fallible_iterator.specs.Contract.{AtMost, unbounded_contract, seen_as};
 ghost use Rattle.fallible_iterator.specs.Laws.Contract.{lawful_seen};
 ghost use Rattle.fallible_iterator.specs.Laws.BoundsRuns.{lawful_unbounded};
 ghost use Rattle.fallible_iterator.specs.Lists.{Lists};
@@ -22,7 +22,7 @@ use fallible_iterator::FallibleIterator;
 ///
 /// At most as many items come as bytes may be read. Neither its creation nor a draw allocates.
 ///
-/// Proof: the clause `bound` of its creation says how many items come at most. So it may be drained with no `take`, and `stop_after(n)` bounds its items and failures together.
+/// Proof: the clauses `finite` and `fits` of its creation say how many items come at most. So it may be drained with no `take`, and `stop_after(n)` bounds its items and failures together.
 #[derive(Drop)]
 pub struct Rows<B> {
     reader: B,
@@ -43,8 +43,10 @@ impl<B: ReadByte> Rows<B> {
     /// The rows of `reader`, of which at most `u64::MAX` bytes are read. It reads nothing.
     pub fn new(reader: B) -> Rows<B>
         ensures parts { rows_parts result ≡ begun reader (2 ^ 64 - 1) }
-        ensures bound { (seen_as rows_parts
-            (unbounded_contract (row_step B.left B.stays))).bound result (2 ^ 64 - 1) }
+        ensures finite { (seen_as rows_parts
+            (unbounded_contract (row_step B.left B.stays))).is_finite result }
+        ensures fits { AtMost (seen_as rows_parts
+            (unbounded_contract (row_step B.left B.stays))) result (2 ^ 64 - 1) }
         ensures lists { (bytes : List ℕ) → NoReadFails B.stays → B.left reader ≡ Some bytes
             → length bytes < 2 ^ 64 - 1
             → Lists (seen_as rows_parts (unbounded_contract (row_step B.left B.stays))).steps
@@ -59,8 +61,10 @@ impl<B: ReadByte> Rows<B> {
     /// The rows of `reader`, of which at most `limit` bytes are read. It reads nothing.
     pub fn with_limit(reader: B, limit: u64) -> Rows<B>
         ensures parts { rows_parts result ≡ begun reader limit }
-        ensures bound { (seen_as rows_parts
-            (unbounded_contract (row_step B.left B.stays))).bound result limit }
+        ensures finite { (seen_as rows_parts
+            (unbounded_contract (row_step B.left B.stays))).is_finite result }
+        ensures fits { AtMost (seen_as rows_parts
+            (unbounded_contract (row_step B.left B.stays))) result limit }
         ensures lists { (bytes : List ℕ) → NoReadFails B.stays → B.left reader ≡ Some bytes
             → length bytes < limit
             → Lists (seen_as rows_parts (unbounded_contract (row_step B.left B.stays))).steps

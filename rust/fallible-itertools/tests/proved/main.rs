@@ -17,8 +17,10 @@ impl<E: std::fmt::Debug> From<E> for Fail {
 }
 
 mod example_itertools;
+mod fallible_rows;
 mod fallible_scripts;
 mod laws;
+mod program_io;
 mod test_calls_itertools;
 mod test_itertools;
 mod test_support;

@@ -14,7 +14,7 @@ use fallible_iterator::FallibleIterator;
 ///
 /// At most as many items come as bytes may be read. Neither its creation nor a draw allocates.
 ///
-/// Proof: the clause `bound` of its creation says how many items come at most. So it may be drained with no `take`, and `stop_after(n)` bounds its items and failures together.
+/// Proof: the clauses `finite` and `fits` of its creation say how many items come at most. So it may be drained with no `take`, and `stop_after(n)` bounds its items and failures together.
 pub struct Rows<B> {
     reader: B,
     // none once it is exhausted

@@ -1,0 +1,58 @@
+//! Rows that a reader holds, some of them bad.
+ghost use Rattle.std.specs.Prelude.{◌≡◌, ◌≢◌, ℕ, ◌-◌, ◌<◌, ◌^◌, List, Err, Some, length};
+ghost use Rattle.fallible_rows.specs.Reading.{NoReadFails};
+ghost use Rattle.fallible_rows.specs.Rows.{rows};
+ghost use Rattle.fallible_rows.specs.RowTraces.{row_results};
+ghost use Rattle.example_itertools.specs.Reading.{instead_of_row, tally_of};
+
+use fallible_iterator::FallibleIterator;
+use fallible_itertools::FallibleItertools;
+use fallible_rows::{ReadByte, ReadFailed, RowFault, Rows};
+
+/// Why rows have no tally.
+#[derive(Clone, Copy, Debug, Drop, PartialEq)]
+pub enum NoTally {
+    /// A hundred rows are bad.
+    TooManyBad,
+    /// A read failed.
+    NotRead,
+}
+
+// What comes in the place of a row's fault: nothing to add for a bad row, and the end of all for a failed read.
+fn instead_of_row(fault: RowFault) -> Result<Option<Option<u64>>, ReadFailed>
+    ensures { result ≡ instead_of_row fault }
+{
+    match fault {
+        RowFault::Row(_) => Ok(Some(None)),
+        RowFault::Read => Err(ReadFailed),
+    }
+}
+
+/// The sum of the rows of a reader that are numbers, modulo 2 ^ 64, and how many rows are none. It gives up at the hundredth of these, and reads nothing after it. If a read fails before, it fails with `NotRead`.
+pub fn tally_rows<B: ReadByte>(reader: B) -> Result<(u64, u32), NoTally>
+    // Of a reader that tells its bytes. If its reads never fail, none did.
+    ensures where_read { (bytes : List ℕ) → B.left reader ≡ Some bytes → length bytes < 2 ^ 64 - 1
+        → result ≢ Err NoTally.NotRead → result ≡ tally_of (row_results 1 (rows bytes)) }
+    ensures never_fails { (bytes : List ℕ) → B.left reader ≡ Some bytes → length bytes < 2 ^ 64 - 1
+        → NoReadFails B.stays → result ≡ tally_of (row_results 1 (rows bytes)) }
+{
+    let read = Rows::new(reader)
+        .map(|number: u64| Ok(Some(number)))
+        .stop_after(100)
+        .or_else(instead_of_row)
+        .fold(
+            (0, 0),
+            |tally: (u64, u32), row: Option<u64>| Ok(match row {
+                Some(number) => (tally.0.wrapping_add(number), tally.1),
+                None => (tally.0, tally.1.wrapping_add(1)),
+            }),
+        );
+    match read {
+        Ok(tally) => if tally.1 < 100 {
+            Ok(tally)
+        } else {
+            Err(NoTally::TooManyBad)
+        },
+        Err(_) => Err(NoTally::NotRead),
+    }
+}

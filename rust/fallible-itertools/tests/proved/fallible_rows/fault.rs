@@ -1,0 +1,34 @@
+use crate::Fail;
+use fallible_iterator::memory::AllocError;
+
+use crate::program_io::fault::InputFault;
+use crate::program_io::writing::WriteText;
+use std::io;
+
+/// Why a row is not known.
+#[derive(Debug, PartialEq, Eq)]
+pub enum RowFault {
+    /// The row at this place, from 1, is not a number.
+    Row(u32),
+    /// A read failed.
+    Read,
+}
+
+/// A row that is not a number.
+#[derive(Clone, Copy, Debug, PartialEq, Eq)]
+pub struct BadRow {
+    /// Its place, from 1.
+    pub place: u32,
+}
+
+impl InputFault for BadRow {
+    /// 1
+    fn status(&self) -> u8 {
+        1
+    }
+
+    fn write_line<W: WriteText>(&self, errors: &mut W) -> io::Result<()> {
+        let place = self.place;
+        errors.write_text(format_args!("row {place}: not a number\n"))
+    }
+}

@@ -1,0 +1,72 @@
+use crate::Fail;
+use fallible_iterator::memory::AllocError;
+
+use crate::program_io::writing::WriteText;
+use std::io;
+use std::io::ErrorKind;
+
+/// What may be wrong with a program's input, and how that is told.
+pub trait InputFault {
+    /// The status that the program ends with.
+    fn status(&self) -> u8;
+
+    /// Writes the line that tells of it, with its newline.
+    fn write_line<W: WriteText>(&self, errors: &mut W) -> io::Result<()>;
+}
+
+/// Why a run made no report.
+#[derive(Clone, Copy, Debug, PartialEq, Eq)]
+pub enum RunFault<F> {
+    /// The input has a fault.
+    Input(F),
+    /// A read failed.
+    Read,
+    /// An allocation failed, or a read for want of memory.
+    Memory,
+    /// The report could not be written.
+    Write,
+}
+
+/// What a failed read comes to: `Memory` if it failed for want of memory, and otherwise `Read`.
+pub fn fault_of_read<F>(error: &io::Error) -> RunFault<F> {
+    match error.kind() {
+        ErrorKind::OutOfMemory => RunFault::Memory,
+        _ => RunFault::Read,
+    }
+}
+
+impl<F: InputFault> RunFault<F> {
+    // The status that a program ends with.
+    fn exit_status(&self) -> u8 {
+        match self {
+            RunFault::Input(fault) => fault.status(),
+            RunFault::Read => 2,
+            RunFault::Memory => 3,
+            RunFault::Write => 4,
+        }
+    }
+
+    // Writes the line that tells of it.
+    fn write_whole_line<W: WriteText>(&self, errors: &mut W) -> io::Result<()> {
+        match self {
+            RunFault::Input(fault) => fault.write_line(errors),
+            RunFault::Read => errors.write_text("read failed\n"),
+            RunFault::Memory => errors.write_text("no memory\n"),
+            RunFault::Write => errors.write_text("write failed\n"),
+        }
+    }
+}
+
+/// Writes the one line that tells of `fault` to `errors`, and returns the status that a program ends with after it: that of the input's fault, 2 for `Read`, 3 for `Memory`, 4 for `Write`.
+///
+/// `Ok` of the status where that line and nothing else was written, and `Err` of the same status where it could not be, and part of it may have been. It allocates nothing.
+pub fn fault_line<F: InputFault, W: WriteText>(
+    fault: &RunFault<F>,
+    errors: &mut W,
+) -> Result<u8, u8> {
+    let status = fault.exit_status();
+    match fault.write_whole_line(errors) {
+        Ok(()) => Ok(status),
+        Err(_) => Err(status),
+    }
+}
