@@ -7,7 +7,7 @@ ghost use Rattle.fallible_iterator.specs.Lists.{CollectedAs, Lists, numbered, re
 ghost use Rattle.fallible_iterator.specs.Peeking.Peekable.{peekable_parts};
 ghost use Rattle.example_tasks.specs.Ahead.{making};
 ghost use Rattle.example_tasks.specs.Laws.Ahead.{lawful_making};
-ghost use Rattle.example_tasks.specs.Lexing.{Placed, belongs, blanks_taken, kind_of, lexed, rest_blanks, rest_value, sign_at, token_at, value_taken, with_byte};
+ghost use Rattle.example_tasks.specs.Lexing.{Placed, belongs, blanks_taken, kind_of, lexed, rest_blanks, rest_lexed, rest_value, sign_at, token_at, value_taken, with_byte};
 ghost use Rattle.example_tasks.specs.declared.lexing.Kind.{Kind};
 
 use crate::tokens::{Token, sign_of};
@@ -157,7 +157,7 @@ impl<I: FallibleIterator<Item = (usize, u8)>> FallibleIterator for Lexer<I> {
 
     type Error = LexFault<I::Error>;
 
-    ghost contract = { making (λ s. s.ahead) lexed
+    ghost contract = { making (λ s. s.ahead) lexed rest_lexed
         ⟦<Peekable<I> as FallibleIterator>⟧.contract };
 
     fn next(&mut self) -> Result<Option<(usize, Token)>, LexFault<I::Error>> {
@@ -182,7 +182,7 @@ impl<I: FallibleIterator<Item = (usize, u8)>> FallibleIterator for Lexer<I> {
         (0, None)
     }
 
-    ghost lawful = { lawful_making (λ s. s.ahead) lexed
+    ghost lawful = { lawful_making (λ s. s.ahead) lexed rest_lexed
         (lawful_seen peekable_parts (lawful_peekable I.lawful)) };
 }
 
