@@ -1,10 +1,10 @@
 -- Answers that are made of what the source lists: one of them, and all.
 use Rattle.std.specs.Prelude.{◌≡◌, Some, None, Ok, Err, Result, List, [], ◌∷◌}
-use Rattle.std.proofs.Common.{refl, sym, ap, subst, ◌∙◌}
+use Rattle.std.proofs.Common.{refl, sym, ap, ◌∙◌}
 use Rattle.fallible_iterator.specs.Traces.{Answered, end}
 use Rattle.fallible_iterator.specs.Contract.{Contract, Fewer}
 use Rattle.fallible_iterator.specs.Lists.{AlwaysGives, Lists, nth_of, rest_first, result_answer}
-use Rattle.example_tasks.specs.Ahead.{FewerAtItem, TakesMade, making}
+use Rattle.example_tasks.specs.Ahead.{FewerAtItem, making}
 
 module _ {P A E B F : Type 0} (m : Contract P A E) (answers : List (Result A E) → List (Result B F)) (left : List (Result A E) → List (Result A E)) where
   pub fewer_at_item : {s t : P} (r : Answered B F) → Fewer m s t → FewerAtItem m answers left s r t

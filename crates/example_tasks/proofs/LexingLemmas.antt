@@ -2,7 +2,7 @@
 use Rattle.std.specs.Prelude.{◌≡◌, ℕ, Bool, true, false, ⊤, Option, Some, None, Ok, Err, Result, List, [], ◌∷◌}
 use Rattle.std.specs.Char.{is_ascii_whitespace}
 use Rattle.std.proofs.Common.{refl, sym, ap, subst, ◌∙◌, arith}
-use Rattle.fallible_iterator.specs.Traces.{Answered, item, end}
+use Rattle.fallible_iterator.specs.Traces.{Answered, item}
 use Rattle.fallible_iterator.specs.Contract.{Contract, Fewer, KeptByDraw, Lawful, NoMore, Stays}
 use Rattle.fallible_iterator.specs.Laws.Contract.{kept_by_draw_after, kept_by_draws_after, kept_by_draws_of_stays, kept_by_draws_then}
 use Rattle.fallible_iterator.specs.Lists.{Lists, folded_if, nth_of, rest_first, rest_fold_if, result_answer}

@@ -1,5 +1,5 @@
 -- The contract of an adapter that looks ahead: what it yields is a function of what its source lists.
-use Rattle.std.specs.Prelude.{◌≡◌, ℕ, Some, None, Ok, Err, ⊤, Result, List}
+use Rattle.std.specs.Prelude.{◌≡◌, Some, None, Ok, Err, ⊤, Result, List}
 use Rattle.std.specs.Iterator.{endless}
 use Rattle.fallible_iterator.specs.Traces.{Answered, end}
 use Rattle.fallible_iterator.specs.Contract.{Contract, Fewer, KeptByDraws}
