@@ -1,4 +1,4 @@
--- Texts of sums and products: their tokens, and what these come to.
+-- Texts of sums, differences and products: their tokens, and what these come to.
 use Rattle.std.specs.Prelude.{◌≡◌, ◌≤◌, nat_lt, length, take, drop, ℕ, ◌+◌, ◌-◌, ◌*◌, ◌%◌, ◌^◌, ◌==◌, if◌then◌else◌, Bool, true, false, List, [], ◌∷◌, ◌++◌, Option, Some, None, Result, Ok, Err, option_map, vec_capacity}
 use Rattle.std.specs.Char.{is_ascii_digit}
 use Rattle.std.specs.Option.{ok_or}

@@ -96,3 +96,25 @@ module _ {E : Type 0} where
   -- The tokens of placed bytes, each at the place of its first byte.
   abbrev pub lexed : List (Result Placed E) → List (Result (ℕ × Token) (LexFault E))
   lexed l = lexed_behind None l
+
+  -- ---- what a draw leaves
+
+  -- what comes after a byte that begins this kind or is a sign: the list without the bytes that go on with it
+  abbrev pub rest_of_kind : Option Kind → ℕ → List (Result Placed E) → List (Result Placed E)
+  rest_of_kind (Some kind) byte l = rest_value kind (with_byte kind (Some 0) byte) l
+  rest_of_kind None byte l = l
+
+  -- what a list leaves that doesn't start with a blank: what comes after its first token, or after the failure that stands first
+  abbrev pub rest_of_token : List (Result Placed E) → List (Result Placed E)
+  rest_of_token [] = []
+  rest_of_token (Ok (place, byte) ∷ l) = rest_of_kind (kind_of byte) byte l
+  rest_of_token (Err e ∷ l) = l
+
+  -- the same once blanks were taken: nothing more is taken at a failure among them
+  abbrev pub rest_behind_blanks : Result (Unit {0}) E → List (Result Placed E) → List (Result Placed E)
+  rest_behind_blanks (Ok done) l = rest_of_token l
+  rest_behind_blanks (Err e) l = l
+
+  -- What a draw leaves of placed bytes: what comes after the blanks and the token, or after the failure that comes first.
+  abbrev pub rest_lexed : List (Result Placed E) → List (Result Placed E)
+  rest_lexed l = rest_behind_blanks (blanks_taken l) (rest_blanks l)

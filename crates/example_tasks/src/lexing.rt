@@ -7,7 +7,7 @@ ghost use Rattle.fallible_iterator.specs.Lists.{CollectedAs, Lists, numbered, re
 ghost use Rattle.fallible_iterator.specs.Peeking.Peekable.{peekable_parts};
 ghost use Rattle.example_tasks.specs.Ahead.{making};
 ghost use Rattle.example_tasks.specs.Laws.Ahead.{lawful_making};
-ghost use Rattle.example_tasks.specs.Lexing.{Placed, belongs, blanks_taken, kind_of, lexed, rest_blanks, rest_value, sign_at, token_at, value_taken, with_byte};
+ghost use Rattle.example_tasks.specs.Lexing.{Placed, belongs, blanks_taken, kind_of, lexed, rest_blanks, rest_lexed, rest_value, sign_at, token_at, value_taken, with_byte};
 ghost use Rattle.example_tasks.specs.declared.lexing.Kind.{Kind};
 
 use crate::tokens::{Token, sign_of};
@@ -143,7 +143,7 @@ where
 
 /// The tokens of bytes that come with their places, each with the place of its first byte. Blanks part tokens. A sign is one byte, a number digits in a row, and a word a letter and the letters and digits in a row after it.
 ///
-/// A draw takes the blanks, the token and one look at what comes after it. So it fails with the source's failure where that stands among the bytes of a token or right after them, and what was read of the token is lost. A byte that begins no token is a failure, and so is a number or a word that doesn't fit; the next draw goes on after it.
+/// A draw takes the blanks and the token; after a number or a word it looks at the byte that comes next, which stays there. A failure of the source comes as soon as it is met. Among the bytes of a number or a word, or right after them, it takes the place of that token, which is lost. A byte that begins no token is a failure, and so is a number or a word that doesn't fit; the next draw goes on after it.
 ///
 /// Requires that the source is finite.
 #[derive(Drop)]
@@ -157,9 +157,10 @@ impl<I: FallibleIterator<Item = (usize, u8)>> FallibleIterator for Lexer<I> {
 
     type Error = LexFault<I::Error>;
 
-    ghost contract = { making (λ s. s.ahead) lexed
+    ghost contract = { making (λ s. s.ahead) lexed rest_lexed
         ⟦<Peekable<I> as FallibleIterator>⟧.contract };
 
+    /// Returns the next token and its place.
     fn next(&mut self) -> Result<Option<(usize, Token)>, LexFault<I::Error>> {
         if let Err(e) = skip_blanks(&mut self.ahead) {
             return Err(LexFault::Source(e));
@@ -182,7 +183,7 @@ impl<I: FallibleIterator<Item = (usize, u8)>> FallibleIterator for Lexer<I> {
         (0, None)
     }
 
-    ghost lawful = { lawful_making (λ s. s.ahead) lexed
+    ghost lawful = { lawful_making (λ s. s.ahead) lexed rest_lexed
         (lawful_seen peekable_parts (lawful_peekable I.lawful)) };
 }
 

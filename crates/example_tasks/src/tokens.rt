@@ -1,4 +1,4 @@
-//! Sums and products with parentheses.
+//! Sums, differences and products with parentheses.
 ghost use Rattle.std.specs.Prelude.{◌≡◌, ◌≢◌, ◌<◌, ◌≤◌, false, true, List, Result, Ok, Err, MatchResult, IfOk, length, reverse, slice_index, vec_len, vec_capacity};
 ghost use Rattle.std.specs.Char.{is_ascii_digit};
 ghost use Rattle.std.specs.Str.{IsAscii};
@@ -234,7 +234,7 @@ impl Calculation {
     }
 }
 
-/// The value of tokens of numbers, `+`, `*` and parentheses, modulo 2 ^ 64. It draws up to `Ok(None)` or the first failure, which is returned then. It fails with `Unexpected` at a token that may not stand there, and with `Memory` at an opening parenthesis if an allocation fails: only if as many are open as the vector of those has room for.
+/// The value of tokens of numbers, `+`, `-`, `*` and parentheses, modulo 2 ^ 64. It draws up to `Ok(None)` or the first failure, which is returned then. It fails with `Unexpected` at a token that may not stand there, and with `Memory` at an opening parenthesis if an allocation fails: only if as many are open as the vector of those has room for.
 ///
 /// Requires that `next` may be called on the source, and that it is finite.
 pub fn value_of<I: FallibleIterator<Item = Token, Error = TextFault>>(
@@ -262,13 +262,13 @@ where
     calculation.end()
 }
 
-/// What is written of a sum or a product, with the parentheses that it needs and any others, has its value.
+/// What is written of a sum, a difference or a product, with the parentheses that it needs and any others, has its value.
 pub fn law_written()
     ensures { (e : Expression)
         → value_of_tokens (items (written as_sum e)) ≡ Ok (expression_value e) }
 {}
 
-/// The value of a text of numbers, `+`, `*` and parentheses, modulo 2 ^ 64. It draws up to the first fault. It fails with `Unknown` at what is no token, with `Unexpected` at a token that may not stand there, and with `Memory` at an opening parenthesis if an allocation fails: only if as many are open as the vector of those has room for. `evaluate(alloc, "2+3*(4+10)*2")` is `Ok(86)`.
+/// The value of a text of numbers, `+`, `-`, `*` and parentheses, modulo 2 ^ 64. It draws up to the first fault. It fails with `Unknown` at what is no token, with `Unexpected` at a token that may not stand there, and with `Memory` at an opening parenthesis if an allocation fails: only if as many are open as the vector of those has room for. `evaluate(alloc, "2+3*(4+10)*2")` is `Ok(86)`.
 pub fn evaluate(alloc: Global, text: &str) -> Result<u64, TextFault>
     ensures value { result ≢ Err TextFault.Memory
         → result ≡ value_of_tokens (tokens_of text.now) }

@@ -1,5 +1,5 @@
 -- What a failure, a token after which the value goes on, one at which it fails, and the end make of it. The room is that of the vector of the levels outside.
-use Rattle.std.proofs.Common.{rules, arith, ap, reverse, vec_capacity, ◌∙◌, Err}
+use Rattle.std.proofs.Common.{rules, arith, ap, reverse, vec_capacity, Err}
 use Rattle.fallible_iterator.proofs.Lemmas.Loops.{answers_from_here_on, answer_at_stop, answer_at_failure, answer_at_end}
 use Rattle.example_tasks.specs.Evaluating.{State}
 use Rattle.example_tasks.specs.Expressions.{after_token, after_token_in}

@@ -100,7 +100,7 @@ fn value_ahead<I: FallibleIterator<Item = (usize, u8)>>(
 
 /// The tokens of bytes that come with their places, each with the place of its first byte. Blanks part tokens. A sign is one byte, a number digits in a row, and a word a letter and the letters and digits in a row after it.
 ///
-/// A draw takes the blanks, the token and one look at what comes after it. So it fails with the source's failure where that stands among the bytes of a token or right after them, and what was read of the token is lost. A byte that begins no token is a failure, and so is a number or a word that doesn't fit; the next draw goes on after it.
+/// A draw takes the blanks and the token; after a number or a word it looks at the byte that comes next, which stays there. A failure of the source comes as soon as it is met. Among the bytes of a number or a word, or right after them, it takes the place of that token, which is lost. A byte that begins no token is a failure, and so is a number or a word that doesn't fit; the next draw goes on after it.
 ///
 /// Requires that the source is finite.
 pub struct Lexer<I: FallibleIterator> {
@@ -113,6 +113,7 @@ impl<I: FallibleIterator<Item = (usize, u8)>> FallibleIterator for Lexer<I> {
 
     type Error = LexFault<I::Error>;
 
+    /// Returns the next token and its place.
     fn next(&mut self) -> Result<Option<(usize, Token)>, LexFault<I::Error>> {
         if let Err(e) = skip_blanks(&mut self.ahead) {
             return Err(LexFault::Source(e));

@@ -134,5 +134,5 @@ impl Level {
 
 pub(crate) const EMPTY: Level = Level { sum: 0, product: 1 };
 
-/// What is written of a sum or a product, with the parentheses that it needs and any others, has its value.
+/// What is written of a sum, a difference or a product, with the parentheses that it needs and any others, has its value.
 pub fn law_written() {}
