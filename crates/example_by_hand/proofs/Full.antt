@@ -48,7 +48,7 @@ module _ {E F : Type 0} (call : F → ℕ → Result Bool E → F → Type 0) (f
       }
 
   -- If an allocation failed, a side was full.
-  pub side_full_of_partitions : {S : Type 0} {steps : S → Answered ℕ E → S → Type 0} {s : S} (l : List (Result ℕ E)) → Lists steps s l → (fault : Fault E) (a : AllocError) → Partitions {B = Vec ℕ Global} steps call (λ xs v. v.items ≡ xs) ⊥ (λ v _. vec_capacity v ≤ vec_len v) s f (Err fault) → fault ≡ Memory a → SideFull h l
-  side_full_of_partitions l i (Source e) a k is = absurd cc
-  side_full_of_partitions l i (Memory b) a (inl k) is = absurd k
-  side_full_of_partitions l i (Memory b) a (inr k) is = side_full_where_refused l i k
+  pub side_full_of_partitions : {S : Type 0} {steps : S → Answered ℕ E → S → Type 0} {s : S} {l : List (Result ℕ E)} (fault : Fault E) {a : AllocError} → Lists steps s l → Partitions {B = Vec ℕ Global} steps call (λ xs v. v.items ≡ xs) ⊥ (λ v _. vec_capacity v ≤ vec_len v) s f (Err fault) → fault ≡ Memory a → SideFull h l
+  side_full_of_partitions (Source e) i k is = absurd cc
+  side_full_of_partitions (Memory b) i (inl k) is = absurd k
+  side_full_of_partitions {l = l} (Memory b) i (inr k) is = side_full_where_refused l i k

@@ -4,7 +4,7 @@ use Rattle.std.proofs.Common.{sym, ap, subst, ◌∙◌, append_assoc, append-ni
 use Rattle.std.proofs.KnownBytes.{Appends-trans}
 use Rattle.std.proofs.lemmas.List.{take_more, take_all, length-take-le}
 use Rattle.std.specs.Io.KnownBytes.{Appends}
-use Rattle.fallible_elf.specs.Text.{shown, lines_from, table_text}
+use Rattle.fallible_elf.specs.Text.{lines_from, table_text}
 
 module _ {A : Type 0} (line : ℕ → A → List ℕ) where
   lines_from_append : (n : ℕ) (xs : List A) (y : A) → lines_from line n (xs ++ y ∷ []) ≡ lines_from line n xs ++ line (n + length xs) y
@@ -33,9 +33,7 @@ module _ {A : Type 0} (line : ℕ → A → List ℕ) where
     pub appends_all_lines : (old new : Option (List ℕ)) (k : ℕ) → length xs ≤ k → Appends old new (lines_so_far k) → Appends old new (table_text word line xs)
     appends_all_lines old new k past p = subst (λ t. Appends old new (word ++ decimal (length xs) ++ 10 ∷ lines_from line 0 t)) (take_all k xs past) p
 
--- three texts, a name and an end, one after the other
-pub on_ok_writes_named : {T E : Type 0} (r : Result T E) (a b c d e f : Option (List ℕ)) (number kind extent name name' end : List ℕ) → name ≡ name' → Appends a b number → Appends b c kind → Appends c d extent → Appends d e (shown name) → OnOk r (Appends e f end) → OnOk r (Appends a f (number ++ kind ++ extent ++ shown name' ++ end))
-on_ok_writes_named (Ok x) a b c d e f number kind extent name name' end is p q w n l =
-    let front = Appends-trans a c d (number ++ kind) extent (Appends-trans a b c number kind p q) w in
-    subst (λ z. Appends a f (number ++ kind ++ extent ++ shown z ++ end)) is (Appends-trans a e f (number ++ kind ++ extent ++ shown name) end (Appends-trans a d e (number ++ kind ++ extent) (shown name) front n) l)
-on_ok_writes_named (Err x) a b c d e f number kind extent name name' end is p q w n l = tt
+-- a last text, after those that were written
+pub on_ok_appends_last : {T E : Type 0} (r : Result T E) (old between new : Option (List ℕ)) (text last : List ℕ) → Appends old between text → OnOk r (Appends between new last) → OnOk r (Appends old new (text ++ last))
+on_ok_appends_last (Ok x) old between new text last p q = Appends-trans old between new text last p q
+on_ok_appends_last (Err e) old between new text last p q = tt

@@ -7,12 +7,12 @@ use Rattle.fallible_iterator.specs.Lists.{on_value}
 use Rattle.std.specs.declared.io.ErrorKind.{ErrorKind}
 use Rattle.fallible_table.specs.Report.{ReadsTable, HasFault, NoneBadYet, ReadsTotals}
 use Rattle.fallible_table.specs.Tables.{records, no_totals, totals_of}
-use Rattle.fallible_table.proofs.TotalsLemmas.{Sum, summed, totals_of_wholes, totals_joined, IsSum, is_sum_behind, none_bad_in_cut}
+use Rattle.fallible_table.proofs.TotalsLemmas.{Sum, summed, totals_of_wholes, totals_joined, IsSum, is_sum_after, none_bad_in_cut}
 use Rattle.fallible_table.specs.declared.table.TableFault.{TableFault}
 use Rattle.fallible_table.specs.declared.table.TableFault.TheVariants.{Bad, Cut}
 use Rattle.fallible_table.specs.declared.table.Totals.{Totals}
 
--- whole records of these totals were read, and behind them these bytes
+-- whole records of these totals were read, and after them these bytes
 pub record ReadSoFar (unread unread' : Option (List ℕ)) (held : List ℕ) (totals : Totals) : Type 0 where
   pub whole : List ℕ
   pub taken : Consumes unread unread' (whole ++ held)
@@ -22,9 +22,9 @@ pub record ReadSoFar (unread unread' : Option (List ℕ)) (held : List ℕ) (tot
 pub nothing_read : (unread : Option (List ℕ)) → ReadSoFar unread unread [] no_totals
 nothing_read unread = record { whole = []; taken = Consumes-nil unread; good = totals_of_wholes 0 [] refl; long = refl }
 
--- a read gave bytes, behind those that are held
-pub read_on : (unread between unread' : Option (List ℕ)) (old new : List ℕ) (held count : ℕ) (t : Totals) → ReadSoFar unread between (take held old) t → take held new ≡ take held old → Consumes between unread' (take count (drop held new)) → ReadSoFar unread unread' (take (held + count) new) t
-read_on unread between unread' old new held count t h front more =
+-- a read gave bytes, which stand after those that are held
+pub so_far_after_read : {unread between unread' : Option (List ℕ)} {t : Totals} (old new : List ℕ) (held count : ℕ) → ReadSoFar unread between (take held old) t → take held new ≡ take held old → Consumes between unread' (take count (drop held new)) → ReadSoFar unread unread' (take (held + count) new) t
+so_far_after_read {unread = unread} {between = between} {unread' = unread'} old new held count h front more =
     let bytes = take count (drop held new) in
     let filled : take held old ++ bytes ≡ take (held + count) new = ap (λ l. l ++ bytes) (sym front) ∙ sym (take-add held count new) in
     record {
@@ -34,31 +34,36 @@ read_on unread between unread' old new held count t h front more =
       long = h.long;
     }
 
--- named otherwise
-pub so_far_as : (unread unread' : Option (List ℕ)) (held left : ℕ) (buffer moved : List ℕ) (t u : Totals) → held ≡ left → buffer ≡ moved → t ≡ u → ReadSoFar unread unread' (take left moved) u → ReadSoFar unread unread' (take held buffer) t
-so_far_as unread unread' held left buffer moved t u p q r h =
+-- the same of what equals it
+pub so_far_of_equal : {unread unread' : Option (List ℕ)} {held left : ℕ} {buffer moved : List ℕ} {t u : Totals} → held ≡ left → buffer ≡ moved → t ≡ u → ReadSoFar unread unread' (take left moved) u → ReadSoFar unread unread' (take held buffer) t
+so_far_of_equal {unread = unread} {unread' = unread'} {left = left} {buffer = buffer} {moved = moved} {t = t} p q r h =
     subst (λ k. ReadSoFar unread unread' (take k buffer) t) (sym p) (subst (λ l. ReadSoFar unread unread' (take left l) t) (sym q) (subst (ReadSoFar unread unread' (take left moved)) (sym r) h))
 
 -- a read failed
-pub read_in_vain : (unread between unread' : Option (List ℕ)) (old new : List ℕ) (held : ℕ) (t : Totals) → ReadSoFar unread between (take held old) t → take held new ≡ take held old → Keeps between unread' → ReadSoFar unread unread' (take held new) t
-read_in_vain unread between unread' old new held t h front kept = record {
+pub so_far_after_failure : {unread between unread' : Option (List ℕ)} {t : Totals} (old new : List ℕ) (held : ℕ) → ReadSoFar unread between (take held old) t → take held new ≡ take held old → Keeps between unread' → ReadSoFar unread unread' (take held new) t
+so_far_after_failure {unread = unread} {between = between} {unread' = unread'} old new held h front kept = record {
   whole = h.whole;
   taken = subst (λ l. Consumes unread unread' (h.whole ++ l)) (sym front) (Consumes-kept unread between unread' (h.whole ++ take held old) h.taken kept);
   good = h.good;
   long = h.long;
 }
 
+-- whole records of these totals were read, and after them the first bytes of the buffer, which has so many
+pub record FilledSoFar (unread unread' : Option (List ℕ)) (buffer : List ℕ) (filled : ℕ) (totals : Totals) : Type 0 where
+  pub so_far : ReadSoFar unread unread' (take filled buffer) totals
+  pub room : filled ≤ length buffer
+
 -- ---- the whole records of what is filled are added
 
-module _ (unread unread' : Option (List ℕ)) (buffer : List ℕ) (filled : ℕ) (t : Totals) (h : ReadSoFar unread unread' (take filled buffer) t) (room : filled ≤ length buffer) where
+module _ {unread unread' : Option (List ℕ)} {buffer : List ℕ} {filled : ℕ} {t : Totals} (read : FilledSoFar unread unread' buffer filled t) where
   -- the whole records, and how many they are
   abbrev front : List ℕ
   front = take (filled - filled % 8) buffer
 
   front_long : length front ≡ 8 * (filled / 8)
-  front_long = length-take-le (filled - filled % 8) buffer (omega (arith, room)) ∙ omega arith
+  front_long = let room = read.room in length-take-le (filled - filled % 8) buffer (omega (arith, room)) ∙ omega arith
 
-  -- what comes behind them
+  -- what comes after them
   abbrev cut : List ℕ
   cut = take (filled % 8) (drop (filled - filled % 8) buffer)
 
@@ -67,45 +72,45 @@ module _ (unread unread' : Option (List ℕ)) (buffer : List ℕ) (filled : ℕ)
       let is : filled ≡ filled - filled % 8 + filled % 8 = omega arith in
       ap (λ k. take k buffer) is ∙ take-add (filled - filled % 8) (filled % 8) buffer
 
-  counted : (r : Sum) → r ≡ totals_of (h.whole ++ front) → IsSum t.records t (filled / 8) r
-  counted r is = subst (IsSum t.records t (filled / 8)) (sym is) (is_sum_behind t.records (filled / 8) h.whole front t h.long front_long h.good)
+  counted : (r : Sum) → r ≡ totals_of (read.so_far.whole ++ front) → IsSum t.records t (filled / 8) r
+  counted r is = subst (IsSum t.records t (filled / 8)) (sym is) (is_sum_after t.records (filled / 8) read.so_far.whole front t read.so_far.long front_long read.so_far.good)
 
-  pub added_records : (u : Totals) → t.records + filled < 2 ^ 64 → Ok u ≡ totals_of (h.whole ++ front) → u.records ≡ t.records + filled / 8
-  added_records u fits is = (counted (Ok u) is).0 (omega (arith, fits))
+  pub added_records : {u : Totals} → t.records + filled < 2 ^ 64 → Ok u ≡ totals_of (read.so_far.whole ++ front) → u.records ≡ t.records + filled / 8
+  added_records {u = u} fits is = (counted (Ok u) is).0 (omega (arith, fits))
 
-  pub read_and_added : (moved : List ℕ) (left : ℕ) (u : Totals) → t.records + filled < 2 ^ 64 → Ok u ≡ totals_of (h.whole ++ front) → left ≡ filled % 8 → take left moved ≡ take left (drop (filled - left) buffer) → ReadSoFar unread unread' (take left moved) u
-  read_and_added moved left u fits is few kept =
-      let more = added_records u fits is in
-      let before = h.long in
-      let behind : front ++ cut ≡ front ++ take left moved = ap (λ l. front ++ l) (ap (λ k. take k (drop (filled - k) buffer)) (sym few) ∙ sym kept) in
+  pub read_and_added : {left : ℕ} {u : Totals} (moved : List ℕ) → t.records + filled < 2 ^ 64 → Ok u ≡ totals_of (read.so_far.whole ++ front) → left ≡ filled % 8 → take left moved ≡ take left (drop (filled - left) buffer) → ReadSoFar unread unread' (take left moved) u
+  read_and_added {left = left} {u = u} moved fits is few kept =
+      let more = added_records fits is in
+      let before = read.so_far.long in
+      let parted : front ++ cut ≡ front ++ take left moved = ap (λ l. front ++ l) (ap (λ k. take k (drop (filled - k) buffer)) (sym few) ∙ sym kept) in
       record {
-        whole = h.whole ++ front;
-        taken = subst (Consumes unread unread') (ap (λ l. h.whole ++ l) (parts ∙ behind) ∙ sym (append_assoc h.whole front (take left moved))) h.taken;
+        whole = read.so_far.whole ++ front;
+        taken = subst (Consumes unread unread') (ap (λ l. read.so_far.whole ++ l) (parts ∙ parted) ∙ sym (append_assoc read.so_far.whole front (take left moved))) read.so_far.taken;
         good = sym is;
-        long = omega (arith, length-append h.whole front, before, front_long, more);
+        long = omega (arith, length-append read.so_far.whole front, before, front_long, more);
       }
 
   -- or one of them is bad
-  pub read_bad : (fault : TableFault) → (t.records ≡ 0 → filled ≤ 8) → filled ≤ 65536 → Err fault ≡ totals_of (h.whole ++ front) → HasFault unread unread' fault
-  read_bad (Bad place) alone few is =
+  pub read_bad : {fault : TableFault} → (t.records ≡ 0 → filled ≤ 8) → filled ≤ 65536 → Err fault ≡ totals_of (read.so_far.whole ++ front) → HasFault unread unread' fault
+  read_bad {fault = Bad place} alone few is =
       let within = counted (Err (Bad place)) is in
       let later = within.0 in
       let sooner = within.1 in
-      let before = h.long in
-      let held = length-take-le filled buffer room in
-      let all = length-append h.whole (take filled buffer) in
-      let both : length (h.whole ++ front) ≡ 8 * (t.records + filled / 8) = omega (arith, length-append h.whole front, before, front_long) in
+      let before = read.so_far.long in
+      let held = length-take-le filled buffer read.room in
+      let all = length-append read.so_far.whole (take filled buffer) in
+      let both : length (read.so_far.whole ++ front) ≡ 8 * (t.records + filled / 8) = omega (arith, length-append read.so_far.whole front, before, front_long) in
       record {
-        bytes = h.whole ++ take filled buffer;
-        taken = h.taken;
+        bytes = read.so_far.whole ++ take filled buffer;
+        taken = read.so_far.taken;
         decides = λ rest.
-            let split : (h.whole ++ take filled buffer) ++ rest ≡ (h.whole ++ front) ++ (cut ++ rest) = ap (λ l. (h.whole ++ l) ++ rest) parts ∙ ap (λ l. l ++ rest) (sym (append_assoc h.whole front cut)) ∙ append_assoc (h.whole ++ front) cut rest in
+            let split : (read.so_far.whole ++ take filled buffer) ++ rest ≡ (read.so_far.whole ++ front) ++ (cut ++ rest) = ap (λ l. (read.so_far.whole ++ l) ++ rest) parts ∙ ap (λ l. l ++ rest) (sym (append_assoc read.so_far.whole front cut)) ∙ append_assoc (read.so_far.whole ++ front) cut rest in
             let n = t.records + filled / 8 in
-            ap totals_of split ∙ totals_joined n (h.whole ++ front) (cut ++ rest) both ∙ ap (λ (r : Sum). on_value r (λ u. summed (Cut (n + length (cut ++ rest) / 8 + 1)) n u (records (cut ++ rest)))) (sym is);
+            ap totals_of split ∙ totals_joined n (read.so_far.whole ++ front) (cut ++ rest) both ∙ ap (λ (r : Sum). on_value r (λ u. summed (Cut (n + length (cut ++ rest) / 8 + 1)) n u (records (cut ++ rest)))) (sym is);
         first = λ one. let small = alone (omega (arith, one, later)) in omega (arith, all, before, one, later, sooner, held, small);
         ahead = omega (arith, all, before, later, held, few);
       }
-  read_bad (Cut place) alone few is = absurd (counted (Err (Cut place)) is)
+  read_bad {fault = Cut place} alone few is = absurd (counted (Err (Cut place)) is)
 
 -- ---- fewer bytes than a record has are held
 
@@ -114,21 +119,21 @@ abbrev pub EndsAs : Option (List ℕ) → Option (List ℕ) → Sum → Type 0
 EndsAs unread unread' (Ok totals) = ReadsTable unread unread' (Ok totals)
 EndsAs unread unread' (Err fault) = HasFault unread unread' fault
 
-pub ends_as : {R : Type 0} (left : R → Option (List ℕ)) (fails : ErrorKind → R → R → Type 0) (r q : R) (s : Sum) → EndsAs (left r) (left q) s → ReadsTotals left fails r (Ok s) q
-ends_as left fails r q (Ok u) h = h
-ends_as left fails r q (Err fault) h = h
+pub reads_totals_of_ends : {R : Type 0} (left : R → Option (List ℕ)) (fails : ErrorKind → R → R → Type 0) (r q : R) (s : Sum) → EndsAs (left r) (left q) s → ReadsTotals left fails r (Ok s) q
+reads_totals_of_ends left fails r q (Ok u) h = h
+reads_totals_of_ends left fails r q (Err fault) h = h
 
-module _ (unread unread' : Option (List ℕ)) (buffer : List ℕ) (held : ℕ) (t : Totals) (h : ReadSoFar unread unread' (take held buffer) t) (short : held < 8) (room : held ≤ length buffer) where
+module _ {unread unread' : Option (List ℕ)} {buffer : List ℕ} {held : ℕ} {t : Totals} (read : FilledSoFar unread unread' buffer held t) (short : held < 8) where
   few : length (take held buffer) < 8
-  few = omega (arith, length-take-le held buffer room, short)
+  few = omega (arith, length-take-le held buffer read.room, short)
 
-  pub read_to_end : (r : Sum) → IsAtEnd unread' → r ≡ totals_of (h.whole ++ take held buffer) → EndsAs unread unread' r
-  read_to_end (Ok u) end is = (h.whole ++ take held buffer, h.taken, end, sym is)
-  read_to_end (Err (Cut place)) end is = (h.whole ++ take held buffer, h.taken, end, sym is)
-  read_to_end (Err (Bad place)) end is = absurd (none_bad_in_cut t.records h.whole (take held buffer) t place h.long h.good few is)
+  pub read_to_end : {r : Sum} → IsAtEnd unread' → r ≡ totals_of (read.so_far.whole ++ take held buffer) → EndsAs unread unread' r
+  read_to_end {r = Ok u} end is = (read.so_far.whole ++ take held buffer, read.so_far.taken, end, sym is)
+  read_to_end {r = Err (Cut place)} end is = (read.so_far.whole ++ take held buffer, read.so_far.taken, end, sym is)
+  read_to_end {r = Err (Bad place)} end is = absurd (none_bad_in_cut t.records read.so_far.whole (take held buffer) t place read.so_far.long read.so_far.good few is)
 
   pub none_bad_yet : NoneBadYet unread unread'
-  none_bad_yet = record { whole = h.whole; cut = take held buffer; taken = h.taken; totals = t; good = h.good; short = few }
+  none_bad_yet = record { whole = read.so_far.whole; cut = take held buffer; taken = read.so_far.taken; totals = t; good = read.so_far.good; short = few }
 
 pub none_bad_at_first : (unread : Option (List ℕ)) → NoneBadYet unread unread
 none_bad_at_first unread = record { whole = []; cut = []; taken = Consumes-nil unread; totals = no_totals; good = totals_of_wholes 0 [] refl; short = lit< tt }

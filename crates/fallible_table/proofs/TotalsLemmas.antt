@@ -3,7 +3,7 @@ use Rattle.std.specs.Prelude.{◌≡◌, ℕ, zero, suc, ◌+◌, ◌*◌, ◌/�
 use Rattle.std.proofs.Common.{refl, sym, ap, ◌∙◌, subst, arith, length-append, length-drop, append-nil}
 use Rattle.std.proofs.lemmas.List.{take-append-le, drop-append-le}
 use Rattle.fallible_iterator.specs.Lists.{folded, mapped, numbered, failures_mapped, on_value}
-use Rattle.fallible_table.specs.Tables.{record_of, cut_of, records_then, records, is_low_to_high, checked, with_record, plus, place_of, behind, no_totals, totals_of}
+use Rattle.fallible_table.specs.Tables.{record_of, cut_of, records_then, records, is_low_to_high, checked, with_record, plus, place_of, placed_after, no_totals, totals_of}
 use Rattle.fallible_table.specs.declared.table.Record.{Record}
 use Rattle.fallible_table.specs.declared.table.CutShort.{CutShort}
 use Rattle.fallible_table.specs.declared.table.TableFault.{TableFault}
@@ -124,9 +124,9 @@ is_sum : (before : ℕ) (t : Totals) (n : ℕ) (bytes : List ℕ) → IsSum befo
 is_sum before t zero bytes = (λ _. omega arith, λ fits. fits)
 is_sum before t (suc n) bytes = is_sum_first (is_low_to_high (record_of bytes)) before n t (record_of bytes) (summed_wholes (before + 1) (with_record t (record_of bytes)) n (drop 8 bytes)) (is_sum (before + 1) (with_record t (record_of bytes)) n (drop 8 bytes))
 
--- so it is behind whole records of known totals
-pub is_sum_behind : (n m : ℕ) (first more : List ℕ) (t : Totals) → length first ≡ 8 * n → length more ≡ 8 * m → totals_of first ≡ Ok t → IsSum n t m (totals_of (first ++ more))
-is_sum_behind n m first more t long longer good =
+-- so it is after whole records of known totals
+pub is_sum_after : (n m : ℕ) (first more : List ℕ) (t : Totals) → length first ≡ 8 * n → length more ≡ 8 * m → totals_of first ≡ Ok t → IsSum n t m (totals_of (first ++ more))
+is_sum_after n m first more t long longer good =
     let cut = Cut (n + length more / 8 + 1) in
     let joined : totals_of (first ++ more) ≡ summed cut n t (records more) = totals_joined n first more long ∙ ap (λ (r : Sum). on_value r (λ u. summed cut n u (records more))) good in
     subst (IsSum n t m) (sym (joined ∙ summed_all cut m n t more longer)) (is_sum n t m more)
@@ -138,10 +138,10 @@ fit_totals n first t long good =
 
 -- ---- the totals of a part, added to those before it
 
--- what a part comes to behind whole records of known totals
+-- what a part comes to after whole records of known totals
 abbrev pub after_known : Totals → Sum → Sum
 after_known t (Ok u) = Ok (plus t u)
-after_known t (Err fault) = Err (behind t.records fault)
+after_known t (Err fault) = Err (placed_after t.records fault)
 
 abbrev totals_made : ℕ → ℕ → ℕ → Totals
 totals_made a b c = record { records = a; low = b; high = c }
@@ -162,13 +162,13 @@ if_after_known : (b : Bool) (t : Totals) (place : ℕ) (s w : Sum) → s ≡ aft
 if_after_known true t place s w is = is
 if_after_known false t place s w is = refl
 
-summed_after : (cut : TableFault) (before : ℕ) (t u : Totals) (l : List (Result Record CutShort)) → summed (behind t.records cut) (t.records + before) (plus t u) l ≡ after_known t (summed cut before u l)
+summed_after : (cut : TableFault) (before : ℕ) (t u : Totals) (l : List (Result Record CutShort)) → summed (placed_after t.records cut) (t.records + before) (plus t u) l ≡ after_known t (summed cut before u l)
 summed_after cut before t u [] = refl
 summed_after cut before t u (Ok r ∷ l) =
     let next : t.records + before + 1 ≡ t.records + (before + 1) = omega arith in
-    ap (λ k. if is_low_to_high r then summed (behind t.records cut) k (with_record (plus t u) r) l else Err (Bad k)) next
-    ∙ ap (λ v. if is_low_to_high r then summed (behind t.records cut) (t.records + (before + 1)) v l else Err (Bad (t.records + (before + 1)))) (with_plus t u r)
-    ∙ if_after_known (is_low_to_high r) t (before + 1) (summed (behind t.records cut) (t.records + (before + 1)) (plus t (with_record u r)) l) (summed cut (before + 1) (with_record u r) l) (summed_after cut (before + 1) t (with_record u r) l)
+    ap (λ k. if is_low_to_high r then summed (placed_after t.records cut) k (with_record (plus t u) r) l else Err (Bad k)) next
+    ∙ ap (λ v. if is_low_to_high r then summed (placed_after t.records cut) (t.records + (before + 1)) v l else Err (Bad (t.records + (before + 1)))) (with_plus t u r)
+    ∙ if_after_known (is_low_to_high r) t (before + 1) (summed (placed_after t.records cut) (t.records + (before + 1)) (plus t (with_record u r)) l) (summed cut (before + 1) (with_record u r) l) (summed_after cut (before + 1) t (with_record u r) l)
 summed_after cut before t u (Err e ∷ l) = refl
 
 pub totals_after_known : (first more : List ℕ) (t : Totals) → totals_of first ≡ Ok t → length first ≡ 8 * t.records → totals_of (first ++ more) ≡ after_known t (totals_of more)

@@ -25,11 +25,11 @@ WritesReport unread unread' written written' = (totals : Totals) × ReadsTable u
 abbrev pub HasTotals : Option (List ℕ) → Option (List ℕ) → Type 0
 HasTotals unread unread' = (totals : Totals) × ReadsTable unread unread' (Ok totals)
 
--- how many bytes may be read behind a bad record that isn't the first
+-- how many bytes may be read after a bad record that isn't the first
 abbrev pub read_ahead : ℕ
 read_ahead = 65528
 
--- A reader's first bytes were read, up to a record that isn't good: each table that begins with them has this fault. Where it is the first record, no byte behind it was read, and else at most `read_ahead`.
+-- A reader's first bytes were read, up to a record that isn't good: each table that begins with them has this fault. Where it is the first record, no byte after it was read, and else at most `read_ahead`.
 pub record ReadsBad (unread unread' : Option (List ℕ)) (place : ℕ) : Type 0 where
   pub bytes : List ℕ
   pub taken : Consumes unread unread' bytes
@@ -37,7 +37,7 @@ pub record ReadsBad (unread unread' : Option (List ℕ)) (place : ℕ) : Type 0 
   pub first : place ≡ 1 → length bytes ≡ 8
   pub ahead : length bytes ≤ 8 * place + read_ahead
 
--- The table has this fault: a record isn't good, and was read, with as little behind it; or the table was read, and its last record is cut short.
+-- The table has this fault: a record isn't good, and was read, with as little after it; or the table was read, and its last record is cut short.
 abbrev pub HasFault : Option (List ℕ) → Option (List ℕ) → TableFault → Type 0
 HasFault unread unread' (Bad place) = ReadsBad unread unread' place
 HasFault unread unread' (Cut place) = ReadsTable unread unread' (Err (Cut place))

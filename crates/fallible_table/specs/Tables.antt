@@ -55,9 +55,9 @@ place_of (Bad place) = place
 place_of (Cut place) = place
 
 -- the same fault, where so many records come before
-abbrev pub behind : ℕ → TableFault → TableFault
-behind before (Bad place) = Bad (before + place)
-behind before (Cut place) = Cut (before + place)
+abbrev pub placed_after : ℕ → TableFault → TableFault
+placed_after before (Bad place) = Bad (before + place)
+placed_after before (Cut place) = Cut (before + place)
 
 -- the totals of no records
 abbrev pub no_totals : Totals

@@ -3,7 +3,7 @@ ghost use Rattle.std.specs.Prelude.{◌≡◌, ℕ, List, ◌+◌, ◌*◌, ◌%
 ghost use Rattle.std.proofs.Common.{rules};
 ghost use Rattle.fallible_iterator.specs.Contract.{counted_contract};
 ghost use Rattle.fallible_iterator.specs.Lists.{Lists, folded, position_in, filtered};
-ghost use Rattle.fallible_table.specs.Tables.{DrawsRecord, record_of, records, is_low_to_high, checked, with_record, plus, behind, place_of, totals_of};
+ghost use Rattle.fallible_table.specs.Tables.{DrawsRecord, record_of, records, is_low_to_high, checked, with_record, plus, placed_after, place_of, totals_of};
 
 use fallible_iterator::FallibleIterator;
 
@@ -154,9 +154,9 @@ impl Totals {
 
 impl TableFault {
     // The same fault, where so many records come before.
-    fn behind(self, before: usize) -> TableFault
+    fn placed_after(self, before: usize) -> TableFault
         requires { before + place_of self < 2 ^ 64 }
-        ensures { result ≡ behind before self }
+        ensures { result ≡ placed_after before self }
     {
         match self {
             TableFault::Bad(place) => TableFault::Bad(before + place),
@@ -198,6 +198,6 @@ pub fn sum_up_more(known: Totals, bytes: &[u8]) -> Result<Totals, TableFault>
 {
     match sum_up(bytes) {
         Ok(more) => Ok(known.plus(more)),
-        Err(fault) => Err(fault.behind(known.records as usize)),
+        Err(fault) => Err(fault.placed_after(known.records as usize)),
     }
 }

@@ -1,10 +1,9 @@
 -- The items and the failures of an iterator, as values of two kinds, and what is collected of them.
-use Rattle.std.specs.Prelude.{◌≡◌, Option, Some, None, Result, Ok, Err, IfOk, List, [], ◌∷◌, map, ◌++◌}
-use Rattle.std.proofs.Common.{refl, sym, ap, subst, ◌∙◌}
+use Rattle.std.specs.Prelude.{◌≡◌, Some, None, Result, Ok, Err, List, [], ◌∷◌, map}
+use Rattle.std.proofs.Common.{refl, ap, subst}
 use Rattle.fallible_iterator.specs.Traces.{Answered}
 use Rattle.fallible_iterator.specs.BothEnds.{items_listed, failures_listed}
 use Rattle.fallible_iterator.specs.Collecting.{Collects}
-use Rattle.fallible_iterator.specs.Fault.{Fault}
 use Rattle.fallible_iterator.specs.Lists.{AlwaysGives, Lists, CollectedAs, collected}
 use Rattle.fallible_iterator.proofs.Lemmas.Lists.Drawn.{collected_of_lists}
 use Rattle.fallible_itertools.specs.Adjacent.{Interleaved, of_neither, of_first, of_second}

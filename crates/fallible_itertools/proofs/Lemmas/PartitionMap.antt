@@ -5,7 +5,7 @@ use Rattle.std.proofs.Common.{refl, ap, subst, ◌∙◌, append-nil, inl, inr, 
 use Rattle.fallible_iterator.specs.Collecting.{Collects}
 use Rattle.fallible_iterator.specs.Fault.{Fault}
 use Rattle.fallible_iterator.specs.Fault.TheVariants.{Source, Memory}
-use Rattle.fallible_iterator.specs.Traces.{Answered, Run, item, end, failure}
+use Rattle.fallible_iterator.specs.Traces.{Answered, item, end, failure}
 use Rattle.fallible_iterator.proofs.Lemmas.Callers.{run_seen}
 use Rattle.fallible_itertools.specs.PartitionMap.{lefts, rights, MadeOfEithers, EitherRefused}
 use Rattle.fallible_itertools.specs.declared.partition_map.Either.{Either}

@@ -5,8 +5,8 @@ use Rattle.fallible_table.specs.declared.table.TableFault.{TableFault}
 use Rattle.fallible_table.specs.declared.table.Totals.{Totals}
 use Rattle.fallible_table.proofs.table.sum_up_more.Goals as goal
 
-pub behind-requires : goal.behind-requires
-behind-requires c = omega (arith, fault_within c.args.bytes.now c.in-Err.fault (sym c.in-Err.is ∙ c.sum_up.ensures), c.requires)
+pub placed_after-requires : goal.placed_after-requires
+placed_after-requires c = omega (arith, fault_within c.args.bytes.now c.in-Err.fault (sym c.in-Err.is ∙ c.sum_up.ensures), c.requires)
 
 pub returns-in-Ok : goal.returns-in-Ok
 returns-in-Ok c = λ first good long.
@@ -14,4 +14,4 @@ returns-in-Ok c = λ first good long.
 
 pub returns-in-Err : goal.returns-in-Err
 returns-in-Err c = λ first good long.
-    ap {B = Sum} (λ (f : TableFault). Err f) c.behind.ensures ∙ ap (after_known c.args.known) (sym c.in-Err.is ∙ c.sum_up.ensures) ∙ sym (totals_after_known first c.args.bytes.now c.args.known good long)
+    ap {B = Sum} (λ (f : TableFault). Err f) c.placed_after.ensures ∙ ap (after_known c.args.known) (sym c.in-Err.is ∙ c.sum_up.ensures) ∙ sym (totals_after_known first c.args.bytes.now c.args.known good long)
