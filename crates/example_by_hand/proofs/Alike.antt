@@ -60,5 +60,5 @@ module _ {E : Type 0} where
   pub alike_same : (x y : ℕ) (l : List (Result ℕ E)) → x ≡ y → alike (Ok x ∷ (l ++ Ok y ∷ [])) ≡ alike l
   alike_same x y l is = alike_between x (Ok y) l ∙ elim (eqb_tells x y) [ inl e ↦ ap (λ b. cond b (alike l) (Ok false)) e.0 | inr e ↦ absurd (e.1 is) ]
 
-  pub alike_failed_behind : (x : ℕ) (e : E) (l : List (Result ℕ E)) → alike (Ok x ∷ (l ++ Err e ∷ [])) ≡ Err e
-  alike_failed_behind x e l = alike_between x (Err e) l
+  pub alike_failed_after : (x : ℕ) (e : E) (l : List (Result ℕ E)) → alike (Ok x ∷ (l ++ Err e ∷ [])) ≡ Err e
+  alike_failed_after x e l = alike_between x (Err e) l

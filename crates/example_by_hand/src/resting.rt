@@ -6,7 +6,7 @@ ghost use Rattle.fallible_iterator.specs.Lists.{Lists, rest_first, rest_true, co
 use fallible_iterator::{FallibleIterator, convert};
 
 /// The reading after the first one that is 0; `None` if there is no such one, and the first failure before.
-pub fn behind_zero(readings: Vec<Result<u32, u8>>) -> Result<Option<u32>, u8>
+pub fn reading_after_zero(readings: Vec<Result<u32, u8>>) -> Result<Option<u32>, u8>
     ensures some { (x : ℕ) → found (λ r. Ok (eqb r 0)) (results readings.items) ≡ Ok (Some x)
         → result ≡ nth_of 0 (rest_true (λ r. Ok (eqb r 0)) (results readings.items)) }
     ensures none { found (λ r. Ok (eqb r 0)) (results readings.items) ≡ Ok None
@@ -22,7 +22,7 @@ pub fn behind_zero(readings: Vec<Result<u32, u8>>) -> Result<Option<u32>, u8>
 }
 
 /// How many items come after the first one that is 0; 0 if there is no such one, and the first failure.
-pub fn count_behind<I: FallibleIterator<Item = u32>>(mut it: I) -> Result<usize, I::Error>
+pub fn count_after_zero<I: FallibleIterator<Item = u32>>(mut it: I) -> Result<usize, I::Error>
 where
     requires can_next { I.contract.can_next it }
     requires fits { AtMost I.contract it (2 ^ 64 - 1) }
@@ -44,7 +44,7 @@ where
 }
 
 /// How many readings come after the first two, or the first failure. No clause says what it returns if there are fewer than two.
-pub fn count_behind_two(readings: Vec<Result<u32, u8>>) -> Result<usize, u8>
+pub fn count_after_two(readings: Vec<Result<u32, u8>>) -> Result<usize, u8>
     ensures value { (x y : ℕ) → nth_of 0 (results readings.items) ≡ Ok (Some x)
         → nth_of 0 (rest_first (results readings.items)) ≡ Ok (Some y)
         → result ≡ counted (rest_first (rest_first (results readings.items))) }

@@ -46,10 +46,10 @@ where
 }
 
 /// How many changes come after the first; if a failure comes first, those after it.
-pub fn changes_behind(readings: Vec<Result<u32, u8>>) -> Result<usize, u8>
-    ensures behind_item { (x : ℕ) → nth_of 0 (deduped nat_eq (results readings.items)) ≡ Ok (Some x)
+pub fn changes_after_first(readings: Vec<Result<u32, u8>>) -> Result<usize, u8>
+    ensures after_item { (x : ℕ) → nth_of 0 (deduped nat_eq (results readings.items)) ≡ Ok (Some x)
         → result ≡ counted (rest_first (deduped nat_eq (results readings.items))) }
-    ensures behind_failure { (e : ℕ) → nth_of 0 (deduped nat_eq (results readings.items)) ≡ Err e
+    ensures after_failure { (e : ℕ) → nth_of 0 (deduped nat_eq (results readings.items)) ≡ Err e
         → result ≡ counted (rest_first (deduped nat_eq (results readings.items))) }
 {
     let mut it = convert(readings.into_iter()).dedup();

@@ -22,7 +22,7 @@ pub struct Lost;
 /// How many elements a std iterator yields up to its `None`: code that knows nothing of fallible iterators. It draws up to the `None`.
 ///
 /// Requires that the iterator may be drawn from and ends, and that the number fits a `usize`.
-pub fn lines_of_report<S: std::iter::Iterator<Item = Result<Row, Lost>>>(rows: S) -> usize
+pub fn count_elements<S: std::iter::Iterator<Item = Result<Row, Lost>>>(rows: S) -> usize
     requires can { S.can_next rows }
     requires finite { IsFinite (S.remaining rows) }
     requires fits { CountFits S.next_gives S.remaining 0 rows }
@@ -37,7 +37,7 @@ pub fn report_above_100(rows: Vec<Result<Row, Lost>>) -> usize
     ensures { result ≡ length
         (filtered (λ row. Ok (nat_lt 100 row.amount)) (results rows.items)) }
 {
-    lines_of_report(
+    count_elements(
         convert(rows.into_iter())
             .filter(|row| Ok(row.amount > 100))
             .iterator(),

@@ -5,7 +5,7 @@ use Rattle.std.proofs.lemmas.Bool.{le-leb, lt-ltb, leb-true, ltb-true, and_from,
 use Rattle.std.proofs.lemmas.List.{drop_all, take_more}
 use Rattle.std.specs.List.{list_any}
 use Rattle.fallible_elf.specs.Faults.{fault_at}
-use Rattle.fallible_elf.specs.Overlaps.{end_of, lies_in, share_a_byte, apart_behind, stands_between, has_byte, MarksMore, MarksAre, Claims, ClaimsSection}
+use Rattle.fallible_elf.specs.Overlaps.{end_of, lies_in, share_a_byte, apart_after, stands_between, has_byte, MarksMore, MarksAre, Claims, ClaimsSection}
 use Rattle.fallible_elf.specs.declared.fault.Damage.TheVariants.{SetsOverlap}
 use Rattle.fallible_elf.specs.declared.section.Section.{Section}
 
@@ -81,22 +81,22 @@ module _ (bytes : List ℕ) (sections : List Section) (k : ℕ) (d : Section) wh
   first_left : k < length sections → drop k sections ≡ get_or sections k d ∷ drop (k + 1) sections
   first_left below = let next : suc k ≡ k + 1 = omega arith in drop-cons sections k d below ∙ ap (λ n. get_or sections k d ∷ drop n sections) next
 
-  pub apart_next : k < length sections → list_any (share_a_byte bytes (get_or sections k d)) (take k sections) ≡ false → apart_behind bytes (take k sections) (drop k sections) ≡ apart_behind bytes (take (k + 1) sections) (drop (k + 1) sections)
-  unfolding apart_behind
+  pub apart_next : k < length sections → list_any (share_a_byte bytes (get_or sections k d)) (take k sections) ≡ false → apart_after bytes (take k sections) (drop k sections) ≡ apart_after bytes (take (k + 1) sections) (drop (k + 1) sections)
+  unfolding apart_after
   apart_next below none = rw (first_left below, none, take_more sections k d below) refl
 
-  pub apart_fault : k < length sections → list_any (share_a_byte bytes (get_or sections k d)) (take k sections) ≡ true → apart_behind bytes (take k sections) (drop k sections) ≡ Err (fault_at (get_or sections k d).offset SetsOverlap)
-  unfolding apart_behind
+  pub apart_fault : k < length sections → list_any (share_a_byte bytes (get_or sections k d)) (take k sections) ≡ true → apart_after bytes (take k sections) (drop k sections) ≡ Err (fault_at (get_or sections k d).offset SetsOverlap)
+  unfolding apart_after
   apart_fault below one = rw (first_left below, one) refl
 
 -- after the last one
-pub apart_all : (bytes : List ℕ) (sections : List Section) (k : ℕ) → length sections ≤ k → apart_behind bytes (take k sections) (drop k sections) ≡ Ok tt
-unfolding apart_behind
+pub apart_all : (bytes : List ℕ) (sections : List Section) (k : ℕ) → length sections ≤ k → apart_after bytes (take k sections) (drop k sections) ≡ Ok tt
+unfolding apart_after
 apart_all bytes sections k past = rw (drop_all k sections past) refl
 
 -- fewer than two
-pub apart_few : (bytes : List ℕ) (sections : List Section) → length sections < 2 → apart_behind bytes [] sections ≡ Ok tt
-unfolding apart_behind
+pub apart_few : (bytes : List ℕ) (sections : List Section) → length sections < 2 → apart_after bytes [] sections ≡ Ok tt
+unfolding apart_after
 apart_few bytes [] few = refl
 apart_few bytes (x ∷ []) few = refl
 apart_few bytes (x ∷ y ∷ xs) few = absurd (omega (arith, few))

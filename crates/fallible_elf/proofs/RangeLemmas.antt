@@ -12,27 +12,27 @@ use Rattle.fallible_elf.specs.declared.set.Range.{Range}
 
 module _ (unit : ℕ) (bytes : List ℕ) (place : ℕ) where
   -- where the room ends: the fault, and then nothing
-  pub takes_shown_fault : (f g : Option ElfFault) (left : ℕ) (e : ElfFault) → left ≡ 0 → f ≡ Some e → g ≡ None → TakesShown (ranges_from f unit bytes place left) (Err e) (ranges_from g unit bytes place left)
+  pub takes_shown_fault : {f g : Option ElfFault} {left : ℕ} {e : ElfFault} → left ≡ 0 → f ≡ Some e → g ≡ None → TakesShown (ranges_from f unit bytes place left) (Err e) (ranges_from g unit bytes place left)
   unfolding ranges_from
-  takes_shown_fault f g left e none is after = rw (none, is, after) (refl, refl)
+  takes_shown_fault none is after = rw (none, is, after) (refl, refl)
 
-  pub takes_shown_end : (f g : Option ElfFault) (left : ℕ) → left ≡ 0 → f ≡ None → g ≡ None → TakesShown (ranges_from f unit bytes place left) (Ok None) (ranges_from g unit bytes place left)
+  pub takes_shown_end : {f g : Option ElfFault} {left : ℕ} → left ≡ 0 → f ≡ None → g ≡ None → TakesShown (ranges_from f unit bytes place left) (Ok None) (ranges_from g unit bytes place left)
   unfolding ranges_from
-  takes_shown_end f g left none is after = rw (none, is, after) (refl, refl)
+  takes_shown_end none is after = rw (none, is, after) (refl, refl)
 
   -- at the last one, which stays
-  pub takes_shown_last : (f : Option ElfFault) (left k : ℕ) → left ≡ suc k → u64_at bytes place ≡ 0 → u64_at bytes (place + 8) ≡ 0 → TakesShown (ranges_from f unit bytes place left) (Ok None) (ranges_from f unit bytes place left)
+  pub takes_shown_last : {left : ℕ} (f : Option ElfFault) (k : ℕ) → left ≡ suc k → u64_at bytes place ≡ 0 → u64_at bytes (place + 8) ≡ 0 → TakesShown (ranges_from f unit bytes place left) (Ok None) (ranges_from f unit bytes place left)
   unfolding ranges_from
-  takes_shown_last f left k some a b = let last : is_last bytes place ≡ true = and_from _ _ (eq-eqb _ 0 a) (eq-eqb _ 0 b) in rw (some, last) (refl, refl)
+  takes_shown_last f k some a b = let last : is_last bytes place ≡ true = and_from _ _ (eq-eqb _ 0 a) (eq-eqb _ 0 b) in rw (some, last) (refl, refl)
 
   is_last_false : ((u64_at bytes place ≡ 0 → ⊥) ⊎ ((u64_at bytes place ≡ 0) × (u64_at bytes (place + 8) ≡ 0 → ⊥))) → is_last bytes place ≡ false
   is_last_false (inl a) = and_left _ _ (ne_eqb _ 0 a)
   is_last_false (inr (a, b)) = and_right _ _ (ne_eqb _ 0 b)
 
   -- a range, and those after it are left
-  pub takes_shown_range : (f : Option ElfFault) (left k : ℕ) (r : Range) → left ≡ suc k → ((u64_at bytes place ≡ 0 → ⊥) ⊎ ((u64_at bytes place ≡ 0) × (u64_at bytes (place + 8) ≡ 0 → ⊥))) → r ≡ range_at unit bytes place → TakesShown (ranges_from f unit bytes place left) (Ok (Some r)) (ranges_from f unit bytes (place + 16) k)
+  pub takes_shown_range : {left k : ℕ} {r : Range} (f : Option ElfFault) → left ≡ suc k → ((u64_at bytes place ≡ 0 → ⊥) ⊎ ((u64_at bytes place ≡ 0) × (u64_at bytes (place + 8) ≡ 0 → ⊥))) → r ≡ range_at unit bytes place → TakesShown (ranges_from f unit bytes place left) (Ok (Some r)) (ranges_from f unit bytes (place + 16) k)
   unfolding ranges_from
-  takes_shown_range f left k r some more is = rw (some, is_last_false more, is) (refl, refl)
+  takes_shown_range f some more is = rw (some, is_last_false more, is) (refl, refl)
 
 -- a list whose items become others, which become lists
 pub flattened_mapped : {X Y B E : Type 0} (inner : Y → List (Result B E)) (h : X → Y) (l : List (Result X E)) → flattened inner (mapped (λ x. Ok (h x)) l) ≡ flattened (λ x. inner (h x)) l

@@ -12,18 +12,18 @@ use Rattle.fallible_elf.specs.declared.section.Section.{Section}
 
 module _ (names names_size : ℕ) (bytes : List ℕ) (place : ℕ) where
   -- after the last header: the fault, and then nothing
-  pub takes_shown_fault : (f g : Option ElfFault) (left : ℕ) (e : ElfFault) → left ≡ 0 → f ≡ Some e → g ≡ None → TakesShown (headers_from names names_size f bytes place left) (Err e) (headers_from names names_size g bytes place left)
+  pub takes_shown_fault : {f g : Option ElfFault} {left : ℕ} {e : ElfFault} → left ≡ 0 → f ≡ Some e → g ≡ None → TakesShown (headers_from names names_size f bytes place left) (Err e) (headers_from names names_size g bytes place left)
   unfolding headers_from
-  takes_shown_fault f g left e none is after = rw (none, is, after) (refl, refl)
+  takes_shown_fault none is after = rw (none, is, after) (refl, refl)
 
-  pub takes_shown_end : (f g : Option ElfFault) (left : ℕ) → left ≡ 0 → f ≡ None → g ≡ None → TakesShown (headers_from names names_size f bytes place left) (Ok None) (headers_from names names_size g bytes place left)
+  pub takes_shown_end : {f g : Option ElfFault} {left : ℕ} → left ≡ 0 → f ≡ None → g ≡ None → TakesShown (headers_from names names_size f bytes place left) (Ok None) (headers_from names names_size g bytes place left)
   unfolding headers_from
-  takes_shown_end f g left none is after = rw (none, is, after) (refl, refl)
+  takes_shown_end none is after = rw (none, is, after) (refl, refl)
 
   -- a header or its fault, and the others are left
-  pub takes_shown_header : (f : Option ElfFault) (left k : ℕ) (y : Result Section ElfFault) (r : Answered Section ElfFault) → left ≡ suc k → y ≡ header_at names names_size bytes place → r ≡ result_answer y → TakesShown (headers_from names names_size f bytes place left) r (headers_from names names_size f bytes (place + 64) k)
+  pub takes_shown_header : {left k : ℕ} {y : Result Section ElfFault} {r : Answered Section ElfFault} (f : Option ElfFault) → left ≡ suc k → y ≡ header_at names names_size bytes place → r ≡ result_answer y → TakesShown (headers_from names names_size f bytes place left) r (headers_from names names_size f bytes (place + 64) k)
   unfolding headers_from
-  takes_shown_header f left k y r some is answers = rw (some, ← is) (answers, refl)
+  takes_shown_header f some is answers = rw (some, ← is) (answers, refl)
 
 -- the headers of the table that the file has, or its fault
 pub headers_from_table : (bytes : List ℕ) (table : Table) → Ok table ≡ table_of bytes → headers_from table.names table.names_size None bytes table.place table.count ≡ headers_of bytes

@@ -52,13 +52,13 @@ sets_from_enough_steps f bytes limit (suc n) (suc m) place p q = ap (λ l. if na
 
 module _ (bytes : List ℕ) (limit place : ℕ) where
   -- after the last set: the fault, and then nothing
-  pub takes_shown_fault : (f g : Option ElfFault) (e : ElfFault) → limit ≤ place → f ≡ Some e → g ≡ None → TakesShown (sets_between f bytes place limit) (Err e) (sets_between g bytes place limit)
+  pub takes_shown_fault : {f g : Option ElfFault} {e : ElfFault} → limit ≤ place → f ≡ Some e → g ≡ None → TakesShown (sets_between f bytes place limit) (Err e) (sets_between g bytes place limit)
   unfolding sets_from
-  takes_shown_fault f g e behind is after = let none : limit - place ≡ 0 = omega arith in rw (none, is, after) (refl, refl)
+  takes_shown_fault past is after = let none : limit - place ≡ 0 = omega arith in rw (none, is, after) (refl, refl)
 
-  pub takes_shown_end : (f g : Option ElfFault) → limit ≤ place → f ≡ None → g ≡ None → TakesShown (sets_between f bytes place limit) (Ok None) (sets_between g bytes place limit)
+  pub takes_shown_end : {f g : Option ElfFault} → limit ≤ place → f ≡ None → g ≡ None → TakesShown (sets_between f bytes place limit) (Ok None) (sets_between g bytes place limit)
   unfolding sets_from
-  takes_shown_end f g behind is after = let none : limit - place ≡ 0 = omega arith in rw (none, is, after) (refl, refl)
+  takes_shown_end past is after = let none : limit - place ≡ 0 = omega arith in rw (none, is, after) (refl, refl)
 
   -- a set, and those after it are left
   takes_shown_of : (f : Option ElfFault) (k : ℕ) (set : Set) → place < limit → limit - place ≡ suc k → set_at bytes limit place ≡ Ok set → TakesShown (sets_between f bytes place limit) (Ok (Some set)) (sets_between f bytes set.end limit)

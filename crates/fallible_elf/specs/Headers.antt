@@ -80,9 +80,9 @@ abbrev pub named_table : List ℕ → Result Table ElfFault
 named_table bytes = if eqb (names_number bytes) 0 then Ok (nameless_table bytes) else on_value (first_fault (names_checks bytes)) (λ _. Ok (full_table bytes))
 
 -- what comes after a good header: no table, where its place is 0, and otherwise the table
-abbrev pub table_behind : List ℕ → Result Table ElfFault
-table_behind bytes = if eqb (table_place bytes) 0 then Ok no_table else on_value (first_fault (table_checks bytes)) (λ _. named_table bytes)
+abbrev pub table_after_header : List ℕ → Result Table ElfFault
+table_after_header bytes = if eqb (table_place bytes) 0 then Ok no_table else on_value (first_fault (table_checks bytes)) (λ _. named_table bytes)
 
 -- the table of a file, or the first fault of its header and its table
 abbrev pub table_of : List ℕ → Result Table ElfFault
-table_of bytes = on_value (first_fault (header_checks bytes)) (λ _. table_behind bytes)
+table_of bytes = on_value (first_fault (header_checks bytes)) (λ _. table_after_header bytes)

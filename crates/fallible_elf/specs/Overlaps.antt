@@ -19,13 +19,13 @@ abbrev pub share_a_byte : List ℕ → Section → Section → Bool
 share_a_byte bytes a b = (lies_in bytes a && lies_in bytes b) && nat_lt (max a.offset b.offset) (min (end_of a) (end_of b))
 
 -- No section shares a byte with one of those before it: the fault is where the first one begins that does.
-unfoldable pub apart_behind : List ℕ → List Section → List Section → Result (Unit {0}) ElfFault
-apart_behind bytes before [] = Ok tt
-apart_behind bytes before (section ∷ rest) = if list_any (share_a_byte bytes section) before then Err (fault_at section.offset SetsOverlap) else apart_behind bytes (before ++ section ∷ []) rest
+unfoldable pub apart_after : List ℕ → List Section → List Section → Result (Unit {0}) ElfFault
+apart_after bytes before [] = Ok tt
+apart_after bytes before (section ∷ rest) = if list_any (share_a_byte bytes section) before then Err (fault_at section.offset SetsOverlap) else apart_after bytes (before ++ section ∷ []) rest
 
 -- No two of these sections have a byte in common.
 abbrev pub apart_check : List ℕ → List Section → Result (Unit {0}) ElfFault
-apart_check bytes sections = apart_behind bytes [] sections
+apart_check bytes sections = apart_after bytes [] sections
 
 -- ---- bytes that are marked
 

@@ -1,7 +1,7 @@
 //! The header of a file, and where it has its section headers.
 ghost use Rattle.std.specs.Prelude.{◌≡◌, ◌+◌, ◌*◌, ◌<◌, ◌≤◌, length, IfOk, OnOk};
 ghost use Rattle.fallible_elf.specs.Faults.{first_fault};
-ghost use Rattle.fallible_elf.specs.Headers.{header_checks, table_place, header_place, section_count, names_number, named_table, table_behind, table_of};
+ghost use Rattle.fallible_elf.specs.Headers.{header_checks, table_place, header_place, section_count, names_number, named_table, table_after_header, table_of};
 
 use crate::fault::{Damage, ElfFault};
 use crate::numbers::{u16_at, u32_at, u64_at};
@@ -108,9 +108,9 @@ fn table_with_names(file: &[u8], place: usize, count: usize) -> Result<Table, El
 }
 
 // The table after a good header.
-fn table_behind(file: &[u8]) -> Result<Table, ElfFault>
+fn table_after_header(file: &[u8]) -> Result<Table, ElfFault>
     requires { 64 ≤ length file.now }
-    ensures { result ≡ table_behind file.now }
+    ensures { result ≡ table_after_header file.now }
 {
     let place = u64_at(file, 40) as usize;
     if place == 0 {
@@ -136,5 +136,5 @@ pub fn table_of(file: &[u8]) -> Result<Table, ElfFault>
         × (table.names + table.names_size ≤ length file.now)) }
 {
     check_header(file)?;
-    table_behind(file)
+    table_after_header(file)
 }

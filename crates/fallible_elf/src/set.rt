@@ -43,7 +43,7 @@ impl Set {
         requires within { limit ≤ length file.now }
         requires room { place + 16 ≤ limit }
         ensures value { result ≡ short_set file.now limit place }
-        ensures behind { IfOk result (λ set. place < set.end) }
+        ensures ends_after { IfOk result (λ set. place < set.end) }
     {
         let length = u32_at(file, place) as usize;
         if length < 12 || limit - place - 4 < length {
@@ -71,7 +71,7 @@ impl Set {
         requires within { limit ≤ length file.now }
         requires room { place + 16 ≤ limit }
         ensures value { result ≡ long_set file.now limit place }
-        ensures behind { IfOk result (λ set. place < set.end) }
+        ensures ends_after { IfOk result (λ set. place < set.end) }
     {
         if limit - place < 32 {
             return Err(ElfFault::at(place, Damage::SetCut));
@@ -98,11 +98,11 @@ impl Set {
 
     // The set at a place of a section that ends at `limit`, or its first fault.
     #[tactic(auto, unfolding(crate::specs::Sets::set_at))]
-    pub(crate) fn at(file: &[u8], limit: usize, place: usize) -> Result<Set, ElfFault>
+    pub(crate) fn read_at(file: &[u8], limit: usize, place: usize) -> Result<Set, ElfFault>
         requires within { limit ≤ length file.now }
         requires before { place ≤ limit }
         ensures value { result ≡ set_at file.now limit place }
-        ensures behind { IfOk result (λ set. place < set.end) }
+        ensures ends_after { IfOk result (λ set. place < set.end) }
     {
         if limit - place < 16 {
             return Err(ElfFault::at(place, Damage::SetCut));

@@ -1,5 +1,5 @@
 // What callers leave of which no clause says a value.
-use example_by_hand::back::last_behind_zero;
+use example_by_hand::back::last_after_zero;
 use example_by_hand::digits::number_ahead;
 use example_by_hand::drawing::draw_all;
 use example_by_hand::looping::{drop_below_ten, drop_small, drop_up_to_zero};
@@ -21,7 +21,7 @@ const FAILING: [Reading; 3] = [Ok(101), Err(9), Ok(700)];
 const BEHIND: [Reading; 4] = [Ok(5), Ok(0), Ok(600), Ok(501)];
 
 #[test]
-fn loops_leave_what_stands_behind(rt: HostRuntime) -> Result<(), Fail> {
+fn loops_leave_what_comes_after(rt: HostRuntime) -> Result<(), Fail> {
     let mut it = convert(Vec::from_array(rt.alloc(), LOOPED)?.into_iter());
     assert_eq!(rt; drop_up_to_zero(&mut it), Ok(()));
     let mut ahead = it.peekable();
@@ -33,12 +33,12 @@ fn loops_leave_what_stands_behind(rt: HostRuntime) -> Result<(), Fail> {
 }
 
 #[test]
-fn draws_leave_what_stands_behind(rt: HostRuntime) -> Result<(), Fail> {
+fn draws_leave_what_comes_after(rt: HostRuntime) -> Result<(), Fail> {
     let mut it = convert(Vec::from_array(rt.alloc(), FAILING)?.into_iter());
     let drawn = (draw_all(&mut it), it.next());
     assert_eq!(rt; drawn, (Err(9), Ok(Some(700))));
     let mut it = convert(Vec::from_array(rt.alloc(), BEHIND)?.into_iter());
-    let last = (last_behind_zero(&mut it), it.draw_back(), it.draw_back());
+    let last = (last_after_zero(&mut it), it.draw_back(), it.draw_back());
     assert_eq!(rt; last, (Ok(Some(501)), Ok(Some(600)), Ok(None)));
     Ok(())
 }

@@ -5,7 +5,7 @@ use fallible_iterator::Side::{Back, Front};
 use fallible_iterator::{Answer, FallibleIterator, Side, convert};
 use fallible_itertools::{FallibleItertools, PeekingNext};
 use std::test::Fail;
-use test_support::closures::put_behind;
+use test_support::closures::append_digit;
 use test_support::course::Hint;
 use test_support::expected_numbers::{expect_hinted_numbers, expect_numbers_at};
 use test_support::numbers::numbers;
@@ -25,7 +25,7 @@ fn copied_copies_from_both_ends(rt: HostRuntime) -> Result<(), Fail> {
     expect_numbers_at(&rt, &mut it, &SIDES, &COPIED)?;
     let mut it = convert(POINTING.iter().copied()).copied();
     let hint = it.size_hint();
-    let folded = it.try_fold(0, put_behind);
+    let folded = it.try_fold(0, append_digit);
     expect_same(&(hint, folded, it.next()), &COPIED_FOLD)
 }
 

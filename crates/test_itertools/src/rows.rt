@@ -4,7 +4,7 @@ ghost use Rattle.fallible_iterator.specs.Contract.{KeptByDraws};
 use fallible_iterator::{Answer, FallibleIterator};
 use std::fmt::Debug;
 use std::test::Fail;
-use test_support::closures::put_behind;
+use test_support::closures::append_digit;
 use test_support::expected_numbers::expect_numbers;
 use test_support::scripted::Script;
 
@@ -40,7 +40,7 @@ where
     ensures { KeptByDraws I.contract it.old it.new }
 {
     expect_numbers(rt, it, drawn)?;
-    Ok(it.try_fold(0, put_behind))
+    Ok(it.try_fold(0, append_digit))
 }
 
 /// Fails the test where the answer isn't the one expected.

@@ -158,7 +158,7 @@ const PARTITIONED: [(u32, Came<(&[u32], &[u32])>, Option<u32>, u32); 5] = [
 ];
 
 #[test]
-fn collect_and_partition_refused_an_item_leave_those_behind_it(
+fn collect_and_partition_refused_an_item_leave_those_after_it(
     rt: HostRuntime,
 ) -> Result<(), Fail> {
     for (number, wanted, next, made) in &COLLECTED {
@@ -213,7 +213,7 @@ const UNZIPPED: [(u32, Came<(&[u32], &[u32])>, Option<u32>, u32); 9] = [
 ];
 
 #[test]
-fn unzip_refused_a_part_leaves_the_pairs_behind_it(rt: HostRuntime) -> Result<(), Fail> {
+fn unzip_refused_a_part_leaves_the_pairs_after_it(rt: HostRuntime) -> Result<(), Fail> {
     for (number, wanted, next, made) in &UNZIPPED {
         let requests = Requests::refusing(*number);
         let (came, left) = unzipped::<Kept, Kept>(rt.alloc(), &requests)?;

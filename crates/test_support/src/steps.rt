@@ -3,7 +3,7 @@ ghost use Rattle.std.specs.Prelude.{◌^◌, ◌-◌};
 ghost use Rattle.fallible_iterator.specs.Contract.{AtMost, KeptByDraws};
 
 use crate::calls::Calls;
-use crate::closures::{add_up, add_up_to_three, put_behind, stop, stop_with_item};
+use crate::closures::{add_up, add_up_to_three, append_digit, stop, stop_with_item};
 use crate::counted::Log;
 use fallible_iterator::FallibleIterator;
 use std::fmt::Debug;
@@ -57,7 +57,7 @@ where
         Do::Find(item) => it.find(|x: &u32| Ok(*x == item)),
         Do::Sum => Ok(Some(it.try_fold(0, add_up)?)),
         Do::SumToThree => Ok(Some(it.try_fold(0, add_up_to_three)?)),
-        Do::Digits => Ok(Some(it.try_fold(0, put_behind)?)),
+        Do::Digits => Ok(Some(it.try_fold(0, append_digit)?)),
         Do::Stop => Ok(Some(it.try_fold(0, stop)?)),
         Do::StopWithItem => Ok(Some(it.try_fold(0, stop_with_item)?)),
         Do::StopAt(item) => Ok(Some(it.try_fold(0, |_: u32, x: u32| stopped_at(x == item))?)),

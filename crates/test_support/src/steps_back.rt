@@ -2,7 +2,7 @@
 ghost use Rattle.fallible_iterator.specs.Ends.{from_back};
 
 use crate::calls::Calls;
-use crate::closures::{add_up, put_behind, stop_with_item};
+use crate::closures::{add_up, append_digit, stop_with_item};
 use crate::counted::Log;
 use crate::steps::{Answered, expect_calls, stopped_at};
 use fallible_iterator::{DoubleEndedFallibleIterator, FallibleIterator};
@@ -43,7 +43,7 @@ where
         DoBack::Next => it.draw_front(),
         DoBack::NextBack => it.draw_back(),
         DoBack::SumBack => Ok(Some(it.try_rfold(0, add_up)?)),
-        DoBack::DigitsBack => Ok(Some(it.try_rfold(0, put_behind)?)),
+        DoBack::DigitsBack => Ok(Some(it.try_rfold(0, append_digit)?)),
         DoBack::StopBack => Ok(Some(it.try_rfold(0, stop_with_item)?)),
         DoBack::StopBackAt(number, item) => Ok(Some(it.try_rfold(
             1,

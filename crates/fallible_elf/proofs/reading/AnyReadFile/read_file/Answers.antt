@@ -1,4 +1,4 @@
--- The first bytes decide of the header, or the rest was read behind them.
+-- The first bytes decide of the header, or the rest was read after them.
 use Rattle.std.proofs.KnownBytes.{Consumes-trans}
 use Rattle.fallible_elf.proofs.ReadingLemmas.{reads_head, has_header, consumes_file}
 use Rattle.fallible_elf.proofs.reading.AnyReadFile.read_file.Goals as goal

@@ -4,10 +4,10 @@ use Rattle.fallible_elf.proofs.SetLemmas.{takes_shown_fault, takes_shown_end, ta
 use Rattle.fallible_elf.proofs.sets.SetsFallibleIterator.next.Goals as goal
 
 pub returns-in-Some : goal.returns-in-Some
-returns-in-Some c = (takes_shown_fault _ _ _ _ _ _ (search rules) (search rules) (search rules), search rules)
+returns-in-Some c = (takes_shown_fault _ _ _ (search rules) (search rules) (search rules), search rules)
 
 pub returns-in-None : goal.returns-in-None
-returns-in-None c = (takes_shown_end _ _ _ _ _ (search rules) (search rules) (search rules), search rules)
+returns-in-None c = (takes_shown_end _ _ _ (search rules) (search rules) (search rules), search rules)
 
 pub returns-in-Ok : goal.returns-in-Ok
 returns-in-Ok c = (takes_shown_set _ _ _ _ _ (search rules) c.in-Ok.ensures.value, search rules)
