@@ -48,7 +48,7 @@ ghost use Rattle.fallible_itertools.specs.MinMax.{MinMaxDrains, minmaxed};
 ghost use Rattle.fallible_itertools.specs.PadUsing as pad_using;
 ghost use Rattle.fallible_itertools.specs.Parted.{PartitionedFailuresAs, parted_step, without_source};
 ghost use Rattle.fallible_itertools.specs.PartitionMap.{EitherRefused, MadeOfEithers};
-ghost use Rattle.fallible_itertools.specs.FindOrLast.{FoundOrLast, found_or_last};
+ghost use Rattle.fallible_itertools.specs.FindOrLast.{FoundOrFirst, FoundOrLast, found_or_first, found_or_last};
 ghost use Rattle.fallible_itertools.specs.FindPosition.{find_position_pick, position_found};
 ghost use Rattle.fallible_itertools.specs.IsSorted.{ItselfCall, OrderCall, in_order, in_order_by_key};
 ghost use Rattle.fallible_itertools.specs.IsSortedBy.{PairCall, in_order_by, takes_pair};
@@ -81,7 +81,7 @@ use crate::dedup_by_key::DedupByKey;
 use crate::equal::{AllEqualTurn, ContainsTurn};
 use crate::err_into::ErrInto;
 use crate::exactly_one::NotOne;
-use crate::find_or_last::{FindLastTurn, or_last};
+use crate::find_or_last::{FindFirstTurn, FindLastTurn, or_kept};
 use crate::find_position::FindPositionTurn;
 use crate::fold_while::{FoldWhile, FoldWhileTurn, while_or_stop};
 use crate::group_map::GroupMap;
@@ -625,7 +625,42 @@ pub trait FallibleItertools: FallibleIterator {
         let mut state = (None, f);
         let answer = self.drive(&mut state, &FindLastTurn);
         let (last, _) = state;
-        or_last(answer_or_none(answer), last)
+        or_kept(answer_or_none(answer), last)
+    }
+
+    /// Returns the first item on which the predicate returns true, or the first item of all if there is none; `Ok(None)` if there is no item.
+    ///
+    /// Draws, errors and precondition: as `find_or_last`. It consumes the iterator too.
+    ///
+    /// ```
+    /// let readings = [Ok::<u32, u8>(7), Ok(150), Ok(8)];
+    /// let it = convert(readings.into_iter());
+    /// assert_eq!(rt;
+    ///     it.find_or_first(|reading| Ok(*reading > 100)),
+    ///     Ok(Some(150))
+    /// );
+    ///
+    /// let low = [Ok::<u32, u8>(7), Ok(8)];
+    /// let it = convert(low.into_iter());
+    /// assert_eq!(rt; it.find_or_first(|reading| Ok(*reading > 100)), Ok(Some(7)));
+    /// ```
+    final fn find_or_first<F>(mut self, f: F) -> Result<Option<Self::Item>, Self::Error>
+    where
+        Self::Item: Drop,
+        F: FnMut(&Self::Item) -> Result<bool, Self::Error>,
+        requires can_next { Self.contract.can_next self }
+        requires finite { Self.contract.is_finite self }
+        requires callable { search.CallableInSearch (call_at F.FnMut) search.find_pick
+            Self.contract.steps (takes_at F.FnMut) self f }
+        ensures found { (left : Self) × (g : F)
+            × FoundOrFirst (call_at F.FnMut) Self.contract.steps self f result left g }
+        ensures value { OverListWith (list.Acts (call_at F.FnMut) f) Self.contract.steps self
+            (λ h l. result ≡ found_or_first h l) }
+    {
+        let mut state = (None, f);
+        let answer = self.drive(&mut state, &FindFirstTurn);
+        let (first, _) = state;
+        or_kept(answer_or_none(answer), first)
     }
 
     /// Returns the sum of the items, 0 for none. If it overflows at one of them, it returns `Ok(None)`.
