@@ -50,6 +50,7 @@ pub mod PartingHints
 pub mod PartingTraces
 pub mod PartitionMap
 pub mod PeekingTakeWhile
+pub mod Positions
 pub mod Sides
 pub mod Sorted
 pub mod Staging

@@ -1,7 +1,7 @@
-//! The first item that passes, or else the last one.
+//! The first item that passes, or else the last one or the first.
 ghost use Rattle.std.specs.Prelude.{◌≡◌, Ok};
 ghost use Rattle.fallible_iterator.specs.Closures.{call_at, takes_at};
-ghost use Rattle.fallible_itertools.specs.FindOrLast.{IsFindLastTurn, found_or};
+ghost use Rattle.fallible_itertools.specs.FindOrLast.{IsFindOrTurn, first_kept, found_or, last_kept};
 
 use fallible_iterator::Turn;
 use std::ops::ControlFlow;
@@ -14,7 +14,7 @@ impl<A: Drop, E, F: FnMut(&A) -> Result<bool, E>> Turn<(Option<A>, F), A, Result
     for FindLastTurn {
     ghost can_turn = { λ _ p x. takes_at F.FnMut p.1 x };
 
-    ghost turns = { λ _ p x r q. IsFindLastTurn (call_at F.FnMut) p x r q };
+    ghost turns = { λ _ p x r q. IsFindOrTurn (call_at F.FnMut) last_kept p x r q };
 
     /// Calls the predicate once. The item is the last one then.
     #[inline(always)]
@@ -30,13 +30,47 @@ impl<A: Drop, E, F: FnMut(&A) -> Result<bool, E>> Turn<(Option<A>, F), A, Result
     }
 }
 
-/// Returns what a search found, or the last item if it found nothing.
-pub fn or_last<A: Drop, E>(found: Result<Option<A>, E>, last: Option<A>) -> Result<Option<A>, E>
-    ensures { result ≡ found_or found (Ok last) }
+// The item is kept if none was.
+#[inline(always)]
+fn keep_first<A: Drop>(kept: &mut Option<A>, item: A)
+    ensures { kept.new ≡ first_kept kept.old item }
+{
+    if kept.is_none() {
+        *kept = Some(item);
+    }
+}
+
+/// The turn of `find_or_first`. It keeps the first item instead.
+#[derive(Drop)]
+pub struct FindFirstTurn;
+
+impl<A: Drop, E, F: FnMut(&A) -> Result<bool, E>> Turn<(Option<A>, F), A, Result<Option<A>, E>>
+    for FindFirstTurn {
+    ghost can_turn = { λ _ p x. takes_at F.FnMut p.1 x };
+
+    ghost turns = { λ _ p x r q. IsFindOrTurn (call_at F.FnMut) first_kept p x r q };
+
+    /// Calls the predicate once. The item is kept if it is the first.
+    #[inline(always)]
+    fn turn(&self, state: &mut (Option<A>, F), item: A) -> ControlFlow<Result<Option<A>, E>, ()> {
+        match (state.1)(&item) {
+            Ok(true) => ControlFlow::Break(Ok(Some(item))),
+            Ok(false) => {
+                keep_first(&mut state.0, item);
+                ControlFlow::Continue(())
+            }
+            Err(e) => ControlFlow::Break(Err(e)),
+        }
+    }
+}
+
+/// Returns what a search found, or the item kept if it found nothing.
+pub fn or_kept<A: Drop, E>(found: Result<Option<A>, E>, kept: Option<A>) -> Result<Option<A>, E>
+    ensures { result ≡ found_or found (Ok kept) }
 {
     match found {
         Ok(Some(item)) => Ok(Some(item)),
-        Ok(None) => Ok(last),
+        Ok(None) => Ok(kept),
         Err(e) => Err(e),
     }
 }

@@ -17,6 +17,7 @@ ghost use Rattle.fallible_iterator.specs.Failing.{failures_mapped};
 ghost use Rattle.fallible_iterator.specs.Folds as fold;
 ghost use Rattle.fallible_iterator.specs.Lists as list;
 ghost use Rattle.fallible_iterator.specs.Making.{ListsMade};
+ghost use Rattle.fallible_iterator.specs.OneToOne.Enumerate.{IsNumberable, enumerate_contract, enumerate_parts};
 ghost use Rattle.fallible_iterator.specs.OneToOne.Map.{map_contract};
 ghost use Rattle.fallible_iterator.specs.Picking.{call_at_two, takes_at_two};
 ghost use Rattle.fallible_iterator.specs.Searching as search;
@@ -46,9 +47,10 @@ ghost use Rattle.fallible_itertools.specs.Merge.{merge_contract, merge_left, mer
 ghost use Rattle.fallible_itertools.specs.MergeBy as merge_by;
 ghost use Rattle.fallible_itertools.specs.MinMax.{MinMaxDrains, minmaxed};
 ghost use Rattle.fallible_itertools.specs.PadUsing as pad_using;
+ghost use Rattle.fallible_itertools.specs.Positions.{positions_contract, positions_parts, positions_source, positions_where};
 ghost use Rattle.fallible_itertools.specs.Parted.{PartitionedFailuresAs, parted_step, without_source};
 ghost use Rattle.fallible_itertools.specs.PartitionMap.{EitherRefused, MadeOfEithers};
-ghost use Rattle.fallible_itertools.specs.FindOrLast.{FoundOrLast, found_or_last};
+ghost use Rattle.fallible_itertools.specs.FindOrLast.{FoundOrFirst, FoundOrLast, found_or_first, found_or_last};
 ghost use Rattle.fallible_itertools.specs.FindPosition.{find_position_pick, position_found};
 ghost use Rattle.fallible_itertools.specs.IsSorted.{ItselfCall, OrderCall, in_order, in_order_by_key};
 ghost use Rattle.fallible_itertools.specs.IsSortedBy.{PairCall, in_order_by, takes_pair};
@@ -81,7 +83,7 @@ use crate::dedup_by_key::DedupByKey;
 use crate::equal::{AllEqualTurn, ContainsTurn};
 use crate::err_into::ErrInto;
 use crate::exactly_one::NotOne;
-use crate::find_or_last::{FindLastTurn, or_last};
+use crate::find_or_last::{FindFirstTurn, FindLastTurn, or_kept};
 use crate::find_position::FindPositionTurn;
 use crate::fold_while::{FoldWhile, FoldWhileTurn, while_or_stop};
 use crate::group_map::GroupMap;
@@ -99,6 +101,7 @@ use crate::or_else::OrElse;
 use crate::pad_using::PadUsing;
 use crate::parted::{Parted, without_fault};
 use crate::partition_map::Either;
+use crate::positions::Positions;
 use crate::sides::Holding;
 use crate::sorted::{sorted_items, sorted_items_by, sorted_items_by_key};
 use crate::stop_after::StopAfter;
@@ -625,7 +628,42 @@ pub trait FallibleItertools: FallibleIterator {
         let mut state = (None, f);
         let answer = self.drive(&mut state, &FindLastTurn);
         let (last, _) = state;
-        or_last(answer_or_none(answer), last)
+        or_kept(answer_or_none(answer), last)
+    }
+
+    /// Returns the first item on which the predicate returns true, or the first item of all if there is none; `Ok(None)` if there is no item.
+    ///
+    /// Draws, errors and precondition: as `find_or_last`. It consumes the iterator too.
+    ///
+    /// ```
+    /// let readings = [Ok::<u32, u8>(7), Ok(150), Ok(8)];
+    /// let it = convert(readings.into_iter());
+    /// assert_eq!(rt;
+    ///     it.find_or_first(|reading| Ok(*reading > 100)),
+    ///     Ok(Some(150))
+    /// );
+    ///
+    /// let low = [Ok::<u32, u8>(7), Ok(8)];
+    /// let it = convert(low.into_iter());
+    /// assert_eq!(rt; it.find_or_first(|reading| Ok(*reading > 100)), Ok(Some(7)));
+    /// ```
+    final fn find_or_first<F>(mut self, f: F) -> Result<Option<Self::Item>, Self::Error>
+    where
+        Self::Item: Drop,
+        F: FnMut(&Self::Item) -> Result<bool, Self::Error>,
+        requires can_next { Self.contract.can_next self }
+        requires finite { Self.contract.is_finite self }
+        requires callable { search.CallableInSearch (call_at F.FnMut) search.find_pick
+            Self.contract.steps (takes_at F.FnMut) self f }
+        ensures found { (left : Self) × (g : F)
+            × FoundOrFirst (call_at F.FnMut) Self.contract.steps self f result left g }
+        ensures value { OverListWith (list.Acts (call_at F.FnMut) f) Self.contract.steps self
+            (λ h l. result ≡ found_or_first h l) }
+    {
+        let mut state = (None, f);
+        let answer = self.drive(&mut state, &FindFirstTurn);
+        let (first, _) = state;
+        or_kept(answer_or_none(answer), first)
     }
 
     /// Returns the sum of the items, 0 for none. If it overflows at one of them, it returns `Ok(None)`.
@@ -2080,3 +2118,36 @@ pub trait FallibleItertools: FallibleIterator {
 }
 
 impl<I: FallibleIterator> FallibleItertools for I {}
+    /// Yields the position of each item for which the closure returns true: how many items come before it. Failures and `Ok(None)` don't count.
+    ///
+    /// Creating it draws nothing and calls nothing. `next` draws up to an item for which the closure returns true or fails, a failure or an `Ok(None)`. It fails as the source does. If the closure fails, its failure is yielded; the item is lost, and counts. After a failure or an `Ok(None)` the count goes on.
+    ///
+    /// Precondition: at most `usize::MAX` items are still to come, so that each position fits.
+    ///
+    /// Requires: nothing else. `next` requires that it may be called on the source, that the source is finite, since one call may leave many items out, and that the closure may be called on each item that may come.
+    ///
+    /// ```
+    /// let readings = [Ok::<u32, u8>(150), Ok(7), Err(9), Ok(700)];
+    /// let mut it = convert(readings.into_iter()).positions(|reading| Ok(reading > 100));
+    /// let drawn = [it.next(), it.next(), it.next(), it.next()];
+    /// assert_eq!(rt; drawn, [Ok(Some(0)), Err(9), Ok(Some(2)), Ok(None)]);
+    /// ```
+    final fn positions<F>(self, f: F) -> Positions<Self, F>
+    where
+        Self::Item: Drop,
+        F: FnMut(Self::Item) -> Result<bool, Self::Error>,
+        requires { AtMost Self.contract self (2 ^ 64 - 1) }
+        ensures parts { positions_parts result ≡ (positions_source result, f) }
+        ensures numbers { enumerate_parts (positions_source result) ≡ (self, 0) }
+        ensures numberable { Self.contract.can_next self → IsNumberable Self.contract self 0 }
+        ensures lists { OverListWith (list.Acts (call_on F.FnMut) f) Self.contract.steps self
+            (λ h l. list.Lists (seen_as positions_parts (positions_contract
+            (seen_as enumerate_parts (enumerate_contract Self.contract)) F.FnMut)).steps result
+            (positions_where h l)) }
+    {
+        Positions {
+            it: self.enumerate(),
+            f,
+        }
+    }
+

@@ -7,7 +7,7 @@ pub drive-answer-requires-clause-callable : goal.drive-answer-requires-clause-ca
 drive-answer-requires-clause-callable g c = last_callable (call_at g.F.FnMut) c.requires.callable
 
 pub returns-clause-found : goal.returns-clause-found
-returns-clause-found g c = (_, _, found_or_last_by (call_at g.F.FnMut) c.drive-answer.ensures c.answer_or_none.ensures c.or_last.ensures)
+returns-clause-found g c = (_, _, found_or_last_by (call_at g.F.FnMut) c.drive-answer.ensures c.answer_or_none.ensures c.or_kept.ensures)
 
 pub returns-clause-value : goal.returns-clause-value
 returns-clause-value g c h l acts i = found_or_last_is (call_at g.F.FnMut) h acts l i (returns-clause-found g c).2
