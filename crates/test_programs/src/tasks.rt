@@ -38,7 +38,10 @@ const TEXTS: [(&[u8], Answer); 7] = [
     (b"2 * ab", Err(Misplaced::Unexpected(4, Token::Word(24930)))),
     (b"1+(2", Err(Misplaced::Ended)),
     (b"1 / 2", Err(Misplaced::Source(LexFault::Unknown(2, b'/')))),
-    (b"1+18446744073709551616", Err(Misplaced::Source(LexFault::TooLong(2)))),
+    (
+        b"1+18446744073709551616",
+        Err(Misplaced::Source(LexFault::TooLong(2))),
+    ),
 ];
 
 #[test]
@@ -52,7 +55,14 @@ fn texts_have_values(rt: HostRuntime) {
 // A failure of the source ends the number before it, which is lost.
 #[test]
 fn tokens_have_places(rt: HostRuntime) {
-    let bytes = [Ok::<u8, u8>(b'1'), Err(7), Ok(b'2'), Ok(b' '), Ok(b'x'), Ok(b'9')];
+    let bytes = [
+        Ok::<u8, u8>(b'1'),
+        Err(7),
+        Ok(b'2'),
+        Ok(b' '),
+        Ok(b'x'),
+        Ok(b'9'),
+    ];
     let mut tokens = Lexer::new(convert(bytes.into_iter()).enumerate());
     assert_eq!(rt; tokens.next(), Err(LexFault::Source(7)));
     assert_eq!(rt; tokens.next(), Ok(Some((1, Token::Number(2)))));
