@@ -6,6 +6,7 @@ pub mod ChunkedBy
 pub mod Chunks
 pub mod ChunksHints
 pub mod Coalesce
+pub mod CoalesceBy
 pub mod Copied
 pub mod Counts
 pub mod Dedup
