@@ -53,7 +53,7 @@ def drawn(text):
     text = re.sub(r"\(\*\*self\)", "self.it", text)
     text = re.sub(r"self\.(\w+)\.size_hint\(\)(?:\.([01]))?", letters, text)
     text = re.sub(r"[&*]?\bself\.", "", text)
-    text = re.sub(r"\b[\w.]+\.is_some\(\)", "is_held", text)
+    text = re.sub(r"\b[\w.]+\.is_(?:some\(\)|held\([\w.]*\))", "is_held", text)
     return re.sub(r",? \)", ")", re.sub(r"\( ", "(", text)).strip()
 
 
@@ -105,7 +105,7 @@ def arms(matched, text, comments):
 
 
 def hints(files):
-    """The hint of each type with a `size_hint`, as a cell."""
+    """The hint of each type with a `size_hint`, or of what a `type` names, as a cell."""
     of_types = {}
     for path in files:
         for function in code.functions(path):
@@ -113,6 +113,10 @@ def hints(files):
             if owner and function.name == "size_hint":
                 found = cases(function.body, code.field_comments(path))
                 of_types[owner.group(1)] = "; ".join(f"`{shown}` {said}".strip() for said, shown in found)
+    for path in files:
+        for name, of in re.findall(r"^pub type (\w+)<[^=]*= (\w+)<", path.read_text(encoding="utf-8"), re.M):
+            if of in of_types:
+                of_types[name] = of_types[of]
     return of_types
 
 

@@ -10,6 +10,7 @@ pub mod ChunksHints
 pub mod CmpBy
 pub mod Coalesce
 pub mod Conversions
+pub mod CoalesceBy
 pub mod Copied
 pub mod Counts
 pub mod Dedup

@@ -1,13 +1,12 @@
 -- `Coalesce`, which puts adjacent items together where a closure makes one of two.
-use Rattle.std.specs.Prelude.{◌≡◌, Option, Some, None, Result, Ok, Err, List, [], ◌∷◌, ⊤}
+use Rattle.std.specs.Prelude.{◌≡◌, Option, Some, None, Result, Ok, Err, List, [], ◌∷◌}
 use Rattle.std.specs.Fn.{Mut}
-use Rattle.fallible_iterator.specs.Traces.{Answered}
 use Rattle.fallible_iterator.specs.Contract.{Contract}
 use Rattle.fallible_iterator.specs.Folds.{call_with, takes_with}
-use Rattle.fallible_itertools.specs.Holding.{HoldingTrace, holding_contract, held_beside, one_at_least}
+use Rattle.fallible_itertools.specs.CoalesceBy.{asks_of_two, takes_of_two}
+use Rattle.fallible_itertools.specs.Holding.{holding_contract, held_beside, one_at_least}
 use Rattle.fallible_iterator.specs.Outcome.{Outcome}
-use Rattle.fallible_iterator.specs.Outcome.TheVariants.{Kept, LeftOut, Failure, End}
-use Rattle.fallible_itertools.specs.declared.coalesce.Coalesce.{Coalesce}
+use Rattle.fallible_iterator.specs.Outcome.TheVariants.{Kept, LeftOut, Failure}
 
 -- what a closure returns for two items: one to go on in their place, or two that stay apart; or a failure
 abbrev pub OneOrBoth : Type 0 → Type 0 → Type 0
@@ -22,20 +21,11 @@ coalesced_by (Err e) o q = (o ≡ Failure e) × (q ≡ None)
 module _ {A F E : Type 0} (call : F → A → A → OneOrBoth A E → F → Type 0) where
   -- An item is held beside the closure, which is called on it and the next one.
   abbrev pub coalesce_asks : Option A × F → Option A → Outcome A E → Option A × F → Type 0
-  coalesce_asks (None, f) (Some x) o q = (o ≡ LeftOut) × (q ≡ (Some x, f))
-  coalesce_asks (Some y, f) (Some x) o q = (v : OneOrBoth A E) × call f y x v q.1 × coalesced_by v o q.0
-  coalesce_asks (None, f) None o q = (o ≡ End) × (q ≡ (None, f))
-  coalesce_asks (Some y, f) None o q = (o ≡ Kept y) × (q ≡ (None, f))
-
-  -- `Coalesce`: adjacent items put together, each where the next one that isn't put to it stands or a stop; the closure's failure is a stop.
-  abbrev pub CoalesceTrace : {S : Type 0} → (S → Answered A E → S → Type 0) → S × ((Option A × F) × Option (Option E)) → List (Answered A E) → S × ((Option A × F) × Option (Option E)) → Type 0
-  CoalesceTrace steps p trace q = HoldingTrace steps coalesce_asks p trace q
+  coalesce_asks p asked o q = asks_of_two call (λ y x v. coalesced_by v) p asked o q
 
 -- the closure may be called on what is held and the item
 abbrev pub coalesce_takes : {A F : Type 0} → (F → A → A → Type 0) → Option A × F → Option A → Type 0
-coalesce_takes takes (None, f) asked = ⊤
-coalesce_takes takes (Some y, f) None = ⊤
-coalesce_takes takes (Some y, f) (Some x) = takes f y x
+coalesce_takes takes p asked = takes_of_two takes p asked
 
 -- `Coalesce`'s contract
 abbrev pub coalesce_contract : {S A F E : Type 0} → Contract S A E → Mut F (A × (A × Unit {0})) (OneOrBoth A E) → Contract (S × ((Option A × F) × Option (Option E))) A E
@@ -45,26 +35,6 @@ coalesce_contract m g = holding_contract m (coalesce_asks (call_with g)) (coales
 pub record KeepsApart {A E : Type 0} (h : A → A → OneOrBoth A E) : Type 0 where
   pub as_they_are : (x y : A) (both : A × A) → h x y ≡ Ok (Err both) → both ≡ (x, y)
   pub stays : (x y z w : A) → h x y ≡ Ok (Err (x, y)) → h y z ≡ Ok (Ok w) → h x w ≡ Ok (Err (x, w))
-
--- the source
-abbrev pub coalesce_source : {I A E F : Type 0} → Coalesce I F A E → I
-coalesce_source s = s.it
-
--- the item that is held, if there is one
-abbrev pub coalesce_held : {I A E F : Type 0} → Coalesce I F A E → Option A
-coalesce_held s = s.stage.0.0
-
--- the closure
-abbrev pub coalesce_closure : {I A E F : Type 0} → Coalesce I F A E → F
-coalesce_closure s = s.stage.0.1
-
--- the stop that is due, if one is
-abbrev pub coalesce_due : {I A E F : Type 0} → Coalesce I F A E → Option (Option E)
-coalesce_due s = s.stage.1
-
--- the source, what is held beside the closure, and the stop that is due
-abbrev pub coalesce_parts : {I A E F : Type 0} → Coalesce I F A E → I × ((Option A × F) × Option (Option E))
-coalesce_parts s = (s.it, s.stage)
 
 -- ---- what it lists
 

@@ -31,6 +31,8 @@ pub mod chunks;
 pub mod cmp_by;
 #[doc(hidden)]
 pub mod coalesce;
+#[doc(hidden)]
+pub mod coalesce_by;
 mod converting;
 #[doc(hidden)]
 pub mod copied;
@@ -122,6 +124,7 @@ pub use chunk_by::ChunkBy;
 #[cfg(feature = "alloc")]
 pub use chunks::Chunks;
 pub use coalesce::Coalesce;
+pub use coalesce_by::CoalesceBy;
 pub use copied::Copied;
 pub use dedup::Dedup;
 pub use dedup_by::DedupBy;
