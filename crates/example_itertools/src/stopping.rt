@@ -6,6 +6,7 @@ ghost use Rattle.fallible_iterator.specs.Lists.{Lists, filtered, last_of, nth_of
 ghost use Rattle.fallible_itertools.specs.Equal.{contained, equal_to_first, rest_contained};
 ghost use Rattle.fallible_itertools.specs.FindOrLast.{found_or_first, found_or_last};
 ghost use Rattle.fallible_itertools.specs.FindPosition.{position_found};
+ghost use Rattle.fallible_itertools.specs.Positions.{positions_where};
 ghost use Rattle.fallible_itertools.specs.IsSortedBy.{in_order_by};
 ghost use Rattle.fallible_itertools.specs.IsSorted.{in_order, in_order_by_key};
 ghost use Rattle.fallible_itertools.specs.FoldWhile.{rest_while, folded_while};
@@ -120,6 +121,15 @@ pub fn place_above_100(readings: Vec<Result<u32, u8>>) -> Result<Option<(usize, 
 {
     let mut it = convert(readings.into_iter());
     it.find_position(|reading| Ok(*reading > 100))
+}
+
+/// How many readings come before the last one above 100, if there is one, or the first failure.
+pub fn last_place_above_100(readings: Vec<Result<u32, u8>>) -> Result<Option<usize>, u8>
+    ensures { result ≡ last_of (positions_where (λ x. Ok (nat_lt 100 x)) (results readings.items)) }
+{
+    convert(readings.into_iter())
+        .positions(|reading: u32| Ok(reading > 100))
+        .last()
 }
 
 /// The first reading above 100, or else the last one, or the failure that comes before.

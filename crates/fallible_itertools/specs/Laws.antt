@@ -19,6 +19,7 @@ pub mod PadUsing
 pub mod Parted
 pub mod Parting
 pub mod PeekingTakeWhile
+pub mod Positions
 pub mod Sides
 pub mod Staging
 pub mod StopAfter

@@ -11,6 +11,7 @@ mod merge;
 mod merge_by;
 mod pad_using;
 mod peeking_take_while;
+mod positions;
 mod stop_after;
 mod take_while_inclusive;
 mod unique;
@@ -46,6 +47,7 @@ pub use pad_using::{law_hints_pad_using, law_pad_using, law_padded};
 pub use peeking_take_while::{
     law_hints_peeking_take_while, law_peeking_take_while, law_rest_peeking_take_while,
 };
+pub use positions::{law_hints_positions, law_positions};
 pub use stop_after::{law_hints_stop_after, law_stop_after};
 pub use take_while_inclusive::{law_hints_take_while_inclusive, law_take_while_inclusive};
 pub use unique::{law_hints_unique, law_unique, law_unique_of};

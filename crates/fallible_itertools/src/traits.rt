@@ -17,6 +17,7 @@ ghost use Rattle.fallible_iterator.specs.Failing.{failures_mapped};
 ghost use Rattle.fallible_iterator.specs.Folds as fold;
 ghost use Rattle.fallible_iterator.specs.Lists as list;
 ghost use Rattle.fallible_iterator.specs.Making.{ListsMade};
+ghost use Rattle.fallible_iterator.specs.OneToOne.Enumerate.{IsNumberable, enumerate_contract, enumerate_parts};
 ghost use Rattle.fallible_iterator.specs.OneToOne.Map.{map_contract};
 ghost use Rattle.fallible_iterator.specs.Picking.{call_at_two, takes_at_two};
 ghost use Rattle.fallible_iterator.specs.Searching as search;
@@ -46,6 +47,7 @@ ghost use Rattle.fallible_itertools.specs.Merge.{merge_contract, merge_left, mer
 ghost use Rattle.fallible_itertools.specs.MergeBy as merge_by;
 ghost use Rattle.fallible_itertools.specs.MinMax.{MinMaxDrains, minmaxed};
 ghost use Rattle.fallible_itertools.specs.PadUsing as pad_using;
+ghost use Rattle.fallible_itertools.specs.Positions.{positions_contract, positions_parts, positions_source, positions_where};
 ghost use Rattle.fallible_itertools.specs.Parted.{PartitionedFailuresAs, parted_step, without_source};
 ghost use Rattle.fallible_itertools.specs.PartitionMap.{EitherRefused, MadeOfEithers};
 ghost use Rattle.fallible_itertools.specs.FindOrLast.{FoundOrFirst, FoundOrLast, found_or_first, found_or_last};
@@ -99,6 +101,7 @@ use crate::or_else::OrElse;
 use crate::pad_using::PadUsing;
 use crate::parted::{Parted, without_fault};
 use crate::partition_map::Either;
+use crate::positions::Positions;
 use crate::sides::Holding;
 use crate::sorted::{sorted_items, sorted_items_by, sorted_items_by_key};
 use crate::stop_after::StopAfter;
@@ -2076,6 +2079,39 @@ pub trait FallibleItertools: FallibleIterator {
         IntersperseWith {
             it: self,
             stage: ((f, false), None),
+        }
+    }
+
+    /// Yields the position of each item for which the closure returns true: how many items come before it. Failures and `Ok(None)` don't count.
+    ///
+    /// Creating it draws nothing and calls nothing. `next` draws up to an item for which the closure returns true or fails, a failure or an `Ok(None)`. It fails as the source does. If the closure fails, its failure is yielded; the item is lost, and counts. After a failure or an `Ok(None)` the count goes on.
+    ///
+    /// Precondition: at most `usize::MAX` items are still to come, so that each position fits.
+    ///
+    /// Requires: nothing else. `next` requires that it may be called on the source, that the source is finite, since one call may leave many items out, and that the closure may be called on each item that may come.
+    ///
+    /// ```
+    /// let readings = [Ok::<u32, u8>(150), Ok(7), Err(9), Ok(700)];
+    /// let mut it = convert(readings.into_iter()).positions(|reading| Ok(reading > 100));
+    /// let drawn = [it.next(), it.next(), it.next(), it.next()];
+    /// assert_eq!(rt; drawn, [Ok(Some(0)), Err(9), Ok(Some(2)), Ok(None)]);
+    /// ```
+    final fn positions<F>(self, f: F) -> Positions<Self, F>
+    where
+        Self::Item: Drop,
+        F: FnMut(Self::Item) -> Result<bool, Self::Error>,
+        requires { AtMost Self.contract self (2 ^ 64 - 1) }
+        ensures parts { positions_parts result ≡ (positions_source result, f) }
+        ensures numbers { enumerate_parts (positions_source result) ≡ (self, 0) }
+        ensures numberable { Self.contract.can_next self → IsNumberable Self.contract self 0 }
+        ensures lists { OverListWith (list.Acts (call_on F.FnMut) f) Self.contract.steps self
+            (λ h l. list.Lists (seen_as positions_parts (positions_contract
+            (seen_as enumerate_parts (enumerate_contract Self.contract)) F.FnMut)).steps result
+            (positions_where h l)) }
+    {
+        Positions {
+            it: self.enumerate(),
+            f,
         }
     }
 

@@ -136,6 +136,66 @@ fn find_position_has_the_place() -> Result<(), Fail> {
     Ok(())
 }
 
+// What a draw of positions returns.
+type Place = Result<Option<usize>, u32>;
+
+const NO_PLACE: Place = Ok(None);
+
+// The answers; the hint, the first four draws of the positions of odd items, and how many there are.
+type Places = (Numbers, (Hint, [Place; 4], Result<usize, u32>));
+
+const PLACES: [Places; 4] = [
+    (
+        &[],
+        (
+            (0, Some(0)),
+            [NO_PLACE, NO_PLACE, NO_PLACE, NO_PLACE],
+            Ok(0),
+        ),
+    ),
+    (
+        &[Ok(2), Ok(4), Ok(7)],
+        (
+            (0, Some(3)),
+            [Ok(Some(2)), NO_PLACE, NO_PLACE, NO_PLACE],
+            Ok(1),
+        ),
+    ),
+    (
+        &[Ok(1), Ok(2), Err(9), Ok(3)],
+        (
+            (0, Some(4)),
+            [Ok(Some(0)), Err(9), Ok(Some(2)), NO_PLACE],
+            Err(9),
+        ),
+    ),
+    (
+        &[Ok(99), Ok(1), Ok(2), Ok(5)],
+        (
+            (0, Some(4)),
+            [Err(5), Ok(Some(1)), Ok(Some(3)), NO_PLACE],
+            Err(5),
+        ),
+    ),
+];
+
+// Whether it is odd; it fails on 99.
+fn is_odd(x: u32) -> Result<bool, u32> {
+    if x == 99 { Err(5) } else { Ok(x % 2 == 1) }
+}
+
+#[test]
+fn positions_count_all_items() -> Result<(), Fail> {
+    for (answers, expected) in &PLACES {
+        let mut it = numbers(answers).positions(is_odd);
+        let hint = it.size_hint();
+        let drawn = [it.next(), it.next(), it.next(), it.next()];
+        let number = numbers(answers).positions(is_odd).count();
+        expect_same(&(hint, drawn, number), expected)?;
+    }
+    Ok(())
+}
+
 // The answers; how often the last digits 5 and 2 come, and how many there are; and the items by falling last digits. Or the failure.
 type ByDigit = (
     Numbers,

@@ -88,6 +88,8 @@ mod parted;
 pub mod partition_map;
 #[doc(hidden)]
 pub mod peeking_take_while;
+#[doc(hidden)]
+pub mod positions;
 mod sides;
 #[cfg(feature = "alloc")]
 mod sorted;
@@ -138,6 +140,7 @@ pub use or_else::OrElse;
 pub use pad_using::PadUsing;
 pub use partition_map::Either;
 pub use peeking_take_while::{PeekingNext, PeekingTakeWhile};
+pub use positions::Positions;
 pub use stop_after::StopAfter;
 pub use take_while_inclusive::TakeWhileInclusive;
 pub use traits::FallibleItertools;

@@ -17,7 +17,7 @@ use crate::dedup_by_key::DedupByKey;
 use crate::equal::{AllEqualTurn, ContainsTurn};
 use crate::err_into::ErrInto;
 use crate::exactly_one::NotOne;
-use crate::find_or_last::{FindLastTurn, or_last};
+use crate::find_or_last::{FindFirstTurn, FindLastTurn, or_kept};
 use crate::find_position::FindPositionTurn;
 use crate::fold_while::{FoldWhile, FoldWhileTurn, while_or_stop};
 #[cfg(feature = "std")]
@@ -38,6 +38,7 @@ use crate::or_else::OrElse;
 use crate::pad_using::PadUsing;
 use crate::parted::Parted;
 use crate::partition_map::Either;
+use crate::positions::Positions;
 use crate::sides::Holding;
 #[cfg(feature = "alloc")]
 use crate::sorted::{sorted_items, sorted_items_by, sorted_items_by_key};
@@ -675,7 +676,51 @@ pub trait FallibleItertools: FallibleIterator + Sized {
         let mut state = (None, f);
         let answer = self.drive(&mut state, &FindLastTurn);
         let (last, _) = state;
-        or_last(answer_or_none(answer), last)
+        or_kept(answer_or_none(answer), last)
+    }
+
+    /// Returns the first item on which the predicate returns true, or the first item of all if there is none; `Ok(None)` if there is no item.
+    ///
+    /// Draws, errors and precondition: as `find_or_last`. It consumes the iterator too.
+    ///
+    /// ```
+    /// # use fallible_iterator::{FallibleIterator, convert};
+    /// # use fallible_itertools::DoubleEndedFallibleItertools;
+    /// # use fallible_itertools::FallibleItertools;
+    /// let readings = [Ok::<u32, u8>(7), Ok(150), Ok(8)];
+    /// let it = convert(readings.into_iter());
+    /// assert_eq!(it.find_or_first(|reading| Ok(*reading > 100)),
+    ///     Ok(Some(150))
+    /// );
+    ///
+    /// let low = [Ok::<u32, u8>(7), Ok(8)];
+    /// let it = convert(low.into_iter());
+    /// assert_eq!(it.find_or_first(|reading| Ok(*reading > 100)), Ok(Some(7)));
+    /// ```
+    ///
+    /// <details><summary>Contract</summary>
+    ///
+    /// As it is proved, in [these words](crate::words):
+    ///
+    /// ```text
+    /// requires can_next { Self.contract.can_next self }
+    /// requires finite { Self.contract.is_finite self }
+    /// requires callable { search.CallableInSearch (call_at F.FnMut) search.find_pick
+    ///     Self.contract.steps (takes_at F.FnMut) self f }
+    /// ensures found { (left : Self) × (g : F)
+    ///     × FoundOrFirst (call_at F.FnMut) Self.contract.steps self f result left g }
+    /// ensures value { OverListWith (list.Acts (call_at F.FnMut) f) Self.contract.steps self
+    ///     (λ h l. result ≡ found_or_first h l) }
+    /// ```
+    /// </details>
+    fn find_or_first<F>(mut self, f: F) -> Result<Option<Self::Item>, Self::Error>
+    where
+        F: FnMut(&Self::Item) -> Result<bool, Self::Error>,
+    {
+        let mut state = (None, f);
+        let answer = self.drive(&mut state, &FindFirstTurn);
+        let (first, _) = state;
+        or_kept(answer_or_none(answer), first)
     }
 
     /// Returns the sum of the items, 0 for none. If it overflows at one of them, it returns `Ok(None)`.
@@ -2329,6 +2374,47 @@ pub trait FallibleItertools: FallibleIterator + Sized {
         IntersperseWith {
             it: self,
             stage: ((f, false), None),
+        }
+    }
+
+    /// Yields the position of each item for which the closure returns true: how many items come before it. Failures and `Ok(None)` don't count.
+    ///
+    /// Creating it draws nothing and calls nothing. `next` draws up to an item for which the closure returns true or fails, a failure or an `Ok(None)`. It fails as the source does. If the closure fails, its failure is yielded; the item is lost, and counts. After a failure or an `Ok(None)` the count goes on.
+    ///
+    /// Precondition, which is not checked: at most `usize::MAX` items are still to come, so that each position fits.
+    ///
+    /// ```
+    /// # use fallible_iterator::{FallibleIterator, convert};
+    /// # use fallible_itertools::FallibleItertools;
+    /// # use fallible_itertools::PeekingNext;
+    /// let readings = [Ok::<u32, u8>(150), Ok(7), Err(9), Ok(700)];
+    /// let mut it = convert(readings.into_iter()).positions(|reading| Ok(reading > 100));
+    /// let drawn = [it.next(), it.next(), it.next(), it.next()];
+    /// assert_eq!(drawn, [Ok(Some(0)), Err(9), Ok(Some(2)), Ok(None)]);
+    /// ```
+    ///
+    /// <details><summary>Contract</summary>
+    ///
+    /// As it is proved, in [these words](crate::words):
+    ///
+    /// ```text
+    /// requires { AtMost Self.contract self (2 ^ 64 - 1) }
+    /// ensures parts { positions_parts result ≡ (positions_source result, f) }
+    /// ensures numbers { enumerate_parts (positions_source result) ≡ (self, 0) }
+    /// ensures numberable { Self.contract.can_next self → IsNumberable Self.contract self 0 }
+    /// ensures lists { OverListWith (list.Acts (call_on F.FnMut) f) Self.contract.steps self
+    ///     (λ h l. list.Lists (seen_as positions_parts (positions_contract
+    ///     (seen_as enumerate_parts (enumerate_contract Self.contract)) F.FnMut)).steps result
+    ///     (positions_where h l)) }
+    /// ```
+    /// </details>
+    fn positions<F>(self, f: F) -> Positions<Self, F>
+    where
+        F: FnMut(Self::Item) -> Result<bool, Self::Error>,
+    {
+        Positions {
+            it: self.enumerate(),
+            f,
         }
     }
 

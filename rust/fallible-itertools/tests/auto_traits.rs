@@ -16,14 +16,15 @@ fn each_iterator_has_what_it_keeps() {
             DedupByKey<Of<M>, (), ()>, ErrInto<M, ()>, InspectErr<M, ()>, Intersperse<Of<M>>,
             IntersperseWith<Of<M>, ()>,
             Merge<Of<M>, ()>, Merge<Of<()>, M>, MergeBy<Of<M>, (), ()>, MergeBy<Of<()>, M, ()>, OrElse<M, ()>,
-            PadUsing<M, ()>, PeekingTakeWhile<M, ()>, StopAfter<M>, TakeWhileInclusive<M, ()>, TupleWindows<Of<M>>,
+            PadUsing<M, ()>, PeekingTakeWhile<M, ()>, Positions<M, ()>, StopAfter<M>, TakeWhileInclusive<M, ()>, TupleWindows<Of<M>>,
             Tuples<Of<M>>, Unique<Of<M>>, WithPosition<Of<M>>, ZipLongest<Of<M>, ()>, ZipLongest<Of<()>, M>;
     }
     // The closure, and a key.
     rows! { M;
         M => ChunkBy<Of<()>, (), M>, ChunkBy<Of<()>, M, ()>, Coalesce<Of<()>, M>, DedupBy<Of<()>, M>,
             DedupByKey<Of<()>, (), M>, DedupByKey<Of<()>, M, ()>, InspectErr<(), M>, IntersperseWith<Of<()>, M>,
-            MergeBy<Of<()>, (), M>, OrElse<(), M>, PadUsing<(), M>, PeekingTakeWhile<(), M>, TakeWhileInclusive<(), M>;
+            MergeBy<Of<()>, (), M>, OrElse<(), M>, PadUsing<(), M>, PeekingTakeWhile<(), M>,
+            Positions<(), M>, TakeWhileInclusive<(), M>;
     }
     // An item in hand, and a failure that is due.
     rows! { M;

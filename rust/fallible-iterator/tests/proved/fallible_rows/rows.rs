@@ -12,7 +12,9 @@ use fallible_iterator::FallibleIterator;
 ///
 /// A draw reads one byte at a time from the reader, up to the newline that ends a row, and that newline, or to the input's end; a row is judged then, also if it was known before to be no number. A row that stands whole in the reader's buffer (`ReadByte::buffered`) may be taken from there at once, with its newline and no byte after it. If a read fails, for whatever reason, or a byte is wanted when as many as the limit were read, it fails with `Read`; the input's end wanted after the limit counts as a byte. An interrupted read isn't tried again. After `Read` and after the input's end each call returns `Ok(None)` and reads no more.
 ///
-/// It states no bound, so it is drained through `take`. Neither its creation nor a draw allocates.
+/// At most as many items come as bytes may be read. Neither its creation nor a draw allocates.
+///
+/// Proof: the clause `bound` of its creation says how many items come at most. So it may be drained with no `take`, and `stop_after(n)` bounds its items and failures together.
 pub struct Rows<B> {
     reader: B,
     // none once it is exhausted

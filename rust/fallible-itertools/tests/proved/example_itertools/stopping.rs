@@ -81,7 +81,19 @@ pub fn place_above_100(readings: Vec<Result<u32, u8>>) -> Result<Option<(usize, 
     it.find_position(|reading| Ok(*reading > 100))
 }
 
+/// How many readings come before the last one above 100, if there is one, or the first failure.
+pub fn last_place_above_100(readings: Vec<Result<u32, u8>>) -> Result<Option<usize>, u8> {
+    convert(readings.into_iter())
+        .positions(|reading: u32| Ok(reading > 100))
+        .last()
+}
+
 /// The first reading above 100, or else the last one, or the failure that comes before.
 pub fn above_100_or_last(readings: Vec<Result<u32, u8>>) -> Result<Option<u32>, u8> {
     convert(readings.into_iter()).find_or_last(|reading| Ok(*reading > 100))
+}
+
+/// The first reading above 100, or else the first one, or the failure that comes before.
+pub fn above_100_or_first(readings: Vec<Result<u32, u8>>) -> Result<Option<u32>, u8> {
+    convert(readings.into_iter()).find_or_first(|reading| Ok(*reading > 100))
 }

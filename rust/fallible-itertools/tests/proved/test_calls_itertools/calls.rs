@@ -155,6 +155,22 @@ fn adapters_that_answer_at_no_end_fold_by_one_fold() {
     let _ = tested();
 }
 
+// How many positions there are, and the calls that come for it.
+const PLACES: (Result<usize, u32>, Calls) = (Ok(2), ONE_FOLD);
+
+const FIRST_PLACE: (Result<Option<usize>, u32>, Calls) = (Ok(Some(1)), ONE_FOLD);
+
+// A draw is a fold too, which stops.
+#[test]
+fn positions_are_one_fold() {
+    let log = Log::new();
+    let answers = [Ok(1), Ok(4), Ok(2), Ok(4)];
+    let number = counted(&answers, &log).positions(is_four).count();
+    assert_eq!((number, log.take()), PLACES);
+    let mut it = counted(&answers, &log).positions(is_four);
+    assert_eq!((it.next(), log.take()), FIRST_PLACE);
+}
+
 // What `or_else` and `inspect_err` add up, and the calls that come for both.
 const AROUND_A_FAILURE: ([Result<u32, u32>; 2], Calls) = ([Ok(12), Err(9)], THREE_FOLDS);
 
@@ -246,6 +262,11 @@ fn at_two(x: &u32) -> Result<bool, u32> {
     Ok(*x == 2)
 }
 
+// Whether it is 3.
+fn at_three(x: &u32) -> Result<bool, u32> {
+    Ok(*x == 3)
+}
+
 // Whether it is 4.
 fn is_four(x: u32) -> Result<bool, u32> {
     Ok(x == 4)
@@ -296,6 +317,9 @@ fn searches_and_folds_through_a_borrow_are_one_fold_each() {
 // The sum, the product, and the calls of both.
 const TOTALS: ([Result<Option<u32>, u32>; 2], Calls) = ([Ok(Some(5)), Ok(Some(4))], TWO_FOLDS);
 
+// What the fold of each answers, and the calls of both.
+const FOUND: ([Result<Option<u32>, u32>; 2], Calls) = ([Ok(Some(2)), Ok(Some(1))], TWO_FOLDS);
+
 const SORTED: (Result<bool, u32>, Calls) = (Ok(false), ONE_FOLD);
 
 const BOTH_MADE: (bool, bool, Calls) = (true, true, TWO_FOLDS);
@@ -309,6 +333,11 @@ fn consumers_that_take_the_iterator_are_one_fold_each() {
         counted(&answers, &log).checked_product(),
     ];
     assert_eq!((totals, log.take()), TOTALS);
+    let found = [
+        counted(&answers, &log).find_or_last(at_three),
+        counted(&answers[1..], &log).find_or_first(at_three),
+    ];
+    assert_eq!((found, log.take()), FOUND);
     let is_sorted = counted(&answers, &log).is_sorted_by_key(kept);
     assert_eq!((is_sorted, log.take()), SORTED);
     let counts = counted(&answers, &log).counts();

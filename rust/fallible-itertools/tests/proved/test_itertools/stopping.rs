@@ -79,17 +79,17 @@ fn keys_are_sorted_up_to_the_first_that_goes_down() {
 // What a call returns, and what the next draw returns.
 type Told = (Result<bool, u32>, Drawn);
 
-// The answers, and what `contains(&7)`, `all_equal`, `is_sorted` and `find_or_last` of 7 return.
-const SEARCHED: [(Numbers, [Told; 3], (Drawn, Drawn)); 5] = [
+// The answers, and what `contains(&7)`, `all_equal`, `is_sorted`, and `find_or_last` and `find_or_first` of 7 return.
+const SEARCHED: [(Numbers, [Told; 3], [(Drawn, Drawn); 2]); 5] = [
     (
         &[],
         [(Ok(false), END), (Ok(true), END), (Ok(true), END)],
-        (END, END),
+        [(END, END), (END, END)],
     ),
     (
         &[Ok(7), Ok(7), Ok(8)],
         [(Ok(true), Ok(Some(7))), (Ok(false), END), (Ok(true), END)],
-        (Ok(Some(7)), Ok(Some(7))),
+        [(Ok(Some(7)), Ok(Some(7))), (Ok(Some(7)), Ok(Some(7)))],
     ),
     (
         &[Ok(6), Ok(5), Ok(9)],
@@ -98,7 +98,7 @@ const SEARCHED: [(Numbers, [Told; 3], (Drawn, Drawn)); 5] = [
             (Ok(false), Ok(Some(9))),
             (Ok(false), Ok(Some(9))),
         ],
-        (Ok(Some(9)), END),
+        [(Ok(Some(9)), END), (Ok(Some(6)), END)],
     ),
     (
         &[Ok(6), Err(9), Ok(7)],
@@ -107,16 +107,20 @@ const SEARCHED: [(Numbers, [Told; 3], (Drawn, Drawn)); 5] = [
             (Err(9), Ok(Some(7))),
             (Err(9), Ok(Some(7))),
         ],
-        (Err(9), Ok(Some(7))),
+        [(Err(9), Ok(Some(7))), (Err(9), Ok(Some(7)))],
     ),
     (
         &[Ok(6), Ok(99), Ok(7)],
         [(Ok(true), END), (Ok(false), Ok(Some(7))), (Ok(false), END)],
-        (Err(5), Ok(Some(7))),
+        [(Err(5), Ok(Some(7))), (Err(5), Ok(Some(7)))],
     ),
 ];
 
-// The predicate fails on 99.
+// Whether it is 7; it fails on 99.
+fn at_seven(x: &u32) -> Result<bool, u32> {
+    if *x == 99 { Err(5) } else { Ok(*x == 7) }
+}
+
 #[test]
 fn searches_stop_where_they_find() {
     fn tested() -> Result<(), Fail> {
@@ -129,10 +133,10 @@ fn searches_stop_where_they_find() {
             let sorted = (it.by_ref().is_sorted(), it.next());
             expect_same(&[contained, equal, sorted], told)?;
             let mut it = numbers(answers);
-            let last = it
-                .by_ref()
-                .find_or_last(|x: &u32| if *x == 99 { Err(5) } else { Ok(*x == 7) });
-            expect_same(&(last, it.next()), found)?;
+            let last = (it.by_ref().find_or_last(at_seven), it.next());
+            let mut it = numbers(answers);
+            let first = (it.by_ref().find_or_first(at_seven), it.next());
+            expect_same(&[last, first], found)?;
         }
         Ok(())
     }
