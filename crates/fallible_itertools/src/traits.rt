@@ -31,7 +31,7 @@ ghost use Rattle.fallible_itertools.specs.Counts.{IsCountsOf};
 ghost use Rattle.fallible_itertools.specs.Dedup.{dedup_contract, dedup_parts, deduped};
 ghost use Rattle.fallible_itertools.specs.DedupBy.{dedup_by_asks, dedup_by_contract, dedup_by_parts, dedup_by_takes, deduped_by};
 ghost use Rattle.fallible_itertools.specs.DedupByKey as dedup_by_key;
-ghost use Rattle.fallible_itertools.specs.Equal.{FirstCall, TestCall, contained, equal_to_first, rest_contained, rest_unequal};
+ghost use Rattle.fallible_itertools.specs.Equal.{FirstCall, TestCall, contained, equal_to_first, equal_value, rest_contained, rest_unequal, unequal_pick, value_or_both};
 ghost use Rattle.fallible_itertools.specs.ErrInto.{err_into_contract, err_into_parts};
 ghost use Rattle.fallible_itertools.specs.ExactlyOne.{AtMostOneDrains, at_most_one_of, wanting_one};
 ghost use Rattle.fallible_itertools.specs.Holding.{MayBeAsked};
@@ -80,7 +80,7 @@ use crate::counts::Tally;
 use crate::dedup::Dedup;
 use crate::dedup_by::DedupBy;
 use crate::dedup_by_key::DedupByKey;
-use crate::equal::{AllEqualTurn, ContainsTurn};
+use crate::equal::{AllEqualTurn, ContainsTurn, UnequalTurn, first_or_both};
 use crate::err_into::ErrInto;
 use crate::exactly_one::NotOne;
 use crate::find_or_last::{FindFirstTurn, FindLastTurn, or_kept};
@@ -555,6 +555,45 @@ pub trait FallibleItertools: FallibleIterator {
         ensures stays { Stays Self.contract self.old self.new }
     {
         answer_or(self.drive(&mut None, &AllEqualTurn), true)
+    }
+
+    /// Returns the first item, if it equals each later one: `Ok(Ok(item))`. Of items that aren't all equal it returns the first one and the first that it doesn't equal, `Ok(Err(Some((item, other))))`, and of no items `Ok(Err(None))`.
+    ///
+    /// Draws, errors and what is left: as `all_equal`.
+    ///
+    /// Precondition: the iterator is finite.
+    ///
+    /// Requires: `next` may be called.
+    ///
+    /// ```
+    /// let mut it = convert([Ok::<u32, u8>(7), Ok(7), Ok(150), Ok(8)].into_iter());
+    /// assert_eq!(rt; it.all_equal_value(), Ok(Err(Some((7, 150)))));
+    /// assert_eq!(rt; it.all_equal_value(), Ok(Ok(8)));
+    /// assert_eq!(rt; it.all_equal_value(), Ok(Err(None)));
+    /// ```
+    final fn all_equal_value(
+        &mut self,
+    ) -> Result<Result<Self::Item, Option<(Self::Item, Self::Item)>>, Self::Error>
+    where
+        Self::Item: PartialEq + Drop,
+        requires can_next { Self.contract.can_next self.old }
+        requires finite { Self.contract.is_finite self.old }
+        ensures searched { (first : Option Self.Item) × (found : Result (Option Self.Item) Self.Error)
+            × search.SearchDrains (FirstCall Self.Item.eq) unequal_pick Self.contract.steps None
+            self.old None found self.new first × (result ≡ value_or_both first found) }
+        ensures value { OverList Self.contract.steps self.old
+            (λ l. result ≡ equal_value Self.Item.eq l) }
+        ensures rest_unequal { OverList Self.contract.steps self.old
+            (λ l. (x y : Self.Item) → result ≡ Ok (Err (Some (x, y)))
+            → list.Lists Self.contract.steps self.new (rest_unequal Self.Item.eq l)) }
+        ensures rest_failed { OverList Self.contract.steps self.old
+            (λ l. (e : Self.Error) → result ≡ Err e
+            → list.Lists Self.contract.steps self.new (rest_unequal Self.Item.eq l)) }
+        ensures stays { Stays Self.contract self.old self.new }
+    {
+        let mut first = None;
+        let found = answer_or_none(self.drive(&mut first, &UnequalTurn));
+        first_or_both(first, found)
     }
 
     /// Returns the first item on which the predicate returns true, beside how many items come before it; `Ok(None)` if there is none.
