@@ -3,7 +3,7 @@ ghost use Rattle.std.specs.Prelude.{◌≡◌, true, nat_eq, ◌+◌, ◌%◌, �
 ghost use Rattle.std.specs.Ordering.{nat_cmp};
 ghost use Rattle.fallible_iterator.specs.Comparing.{by_cmp};
 ghost use Rattle.fallible_iterator.specs.Lists.{Lists, filtered, last_of, nth_of, results};
-ghost use Rattle.fallible_itertools.specs.Equal.{contained, equal_to_first, rest_contained};
+ghost use Rattle.fallible_itertools.specs.Equal.{contained, equal_to_first, equal_value, rest_contained};
 ghost use Rattle.fallible_itertools.specs.FindOrLast.{found_or_first, found_or_last};
 ghost use Rattle.fallible_itertools.specs.FindPosition.{position_found};
 ghost use Rattle.fallible_itertools.specs.Positions.{positions_where};
@@ -85,6 +85,18 @@ pub fn above_100_equal(readings: Vec<Result<u32, u8>>) -> Result<bool, u8>
     convert(readings.into_iter())
         .filter(|reading| Ok(*reading > 100))
         .all_equal()
+}
+
+/// The one value of the readings above 100; or the first two that differ; or nothing, if there is none; or the first failure.
+pub fn value_above_100(
+    readings: Vec<Result<u32, u8>>,
+) -> Result<Result<u32, Option<(u32, u32)>>, u8>
+    ensures { result ≡ equal_value nat_eq
+        (filtered (λ x. Ok (nat_lt 100 x)) (results readings.items)) }
+{
+    convert(readings.into_iter())
+        .filter(|reading| Ok(*reading > 100))
+        .all_equal_value()
 }
 
 /// Whether a reading is 0, or the failure that comes before it.

@@ -9,8 +9,8 @@ pub mod Chunks
 pub mod ChunksHints
 pub mod CmpBy
 pub mod Coalesce
-pub mod Conversions
 pub mod CoalesceBy
+pub mod Conversions
 pub mod Copied
 pub mod Counts
 pub mod Dedup

@@ -15,7 +15,7 @@ use crate::counts::Tally;
 use crate::dedup::Dedup;
 use crate::dedup_by::{DedupBy, SameHold};
 use crate::dedup_by_key::{DedupByKey, KeyHold};
-use crate::equal::{AllEqualTurn, ContainsTurn};
+use crate::equal::{AllEqualTurn, ContainsTurn, UnequalTurn, first_or_both};
 use crate::err_into::ErrInto;
 use crate::exactly_one::NotOne;
 use crate::find_or_last::{FindFirstTurn, FindLastTurn, or_kept};
@@ -594,6 +594,54 @@ pub trait FallibleItertools: FallibleIterator + Sized {
         Self::Item: PartialEq,
     {
         answer_or(self.drive(&mut None, &AllEqualTurn), true)
+    }
+
+    /// Returns the first item, if it equals each later one: `Ok(Ok(item))`. Of items that aren't all equal it returns the first one and the first that it doesn't equal, `Ok(Err(Some((item, other))))`, and of no items `Ok(Err(None))`.
+    ///
+    /// Draws, errors and what is left: as `all_equal`.
+    ///
+    /// Precondition, which is not checked: the iterator is finite.
+    ///
+    /// ```
+    /// # use fallible_iterator::{FallibleIterator, convert};
+    /// # use fallible_itertools::DoubleEndedFallibleItertools;
+    /// # use fallible_itertools::FallibleItertools;
+    /// let mut it = convert([Ok::<u32, u8>(7), Ok(7), Ok(150), Ok(8)].into_iter());
+    /// assert_eq!(it.all_equal_value(), Ok(Err(Some((7, 150)))));
+    /// assert_eq!(it.all_equal_value(), Ok(Ok(8)));
+    /// assert_eq!(it.all_equal_value(), Ok(Err(None)));
+    /// ```
+    ///
+    /// <details><summary>Contract</summary>
+    ///
+    /// As it is proved, in [these words](crate::words):
+    ///
+    /// ```text
+    /// requires can_next { Self.contract.can_next self.old }
+    /// requires finite { Self.contract.is_finite self.old }
+    /// ensures searched { (first : Option Self.Item) × (found : Result (Option Self.Item) Self.Error)
+    ///     × search.SearchDrains (FirstCall Self.Item.eq) unequal_pick Self.contract.steps None
+    ///     self.old None found self.new first × (result ≡ value_or_both first found) }
+    /// ensures value { OverList Self.contract.steps self.old
+    ///     (λ l. result ≡ equal_value Self.Item.eq l) }
+    /// ensures rest_unequal { OverList Self.contract.steps self.old
+    ///     (λ l. (x y : Self.Item) → result ≡ Ok (Err (Some (x, y)))
+    ///     → list.Lists Self.contract.steps self.new (rest_unequal Self.Item.eq l)) }
+    /// ensures rest_failed { OverList Self.contract.steps self.old
+    ///     (λ l. (e : Self.Error) → result ≡ Err e
+    ///     → list.Lists Self.contract.steps self.new (rest_unequal Self.Item.eq l)) }
+    /// ensures stays { Stays Self.contract self.old self.new }
+    /// ```
+    /// </details>
+    fn all_equal_value(
+        &mut self,
+    ) -> Result<Result<Self::Item, Option<(Self::Item, Self::Item)>>, Self::Error>
+    where
+        Self::Item: PartialEq,
+    {
+        let mut first = None;
+        let found = answer_or_none(self.drive(&mut first, &UnequalTurn));
+        first_or_both(first, found)
     }
 
     /// Returns the first item on which the predicate returns true, beside how many items come before it; `Ok(None)` if there is none.
@@ -2381,6 +2429,47 @@ pub trait FallibleItertools: FallibleIterator + Sized {
         }
     }
 
+    /// Yields the position of each item for which the closure returns true: how many items come before it. Failures and `Ok(None)` don't count.
+    ///
+    /// Creating it draws nothing and calls nothing. `next` draws up to an item for which the closure returns true or fails, a failure or an `Ok(None)`. It fails as the source does. If the closure fails, its failure is yielded; the item is lost, and counts. After a failure or an `Ok(None)` the count goes on.
+    ///
+    /// Precondition, which is not checked: at most `usize::MAX` items are still to come, so that each position fits.
+    ///
+    /// ```
+    /// # use fallible_iterator::{FallibleIterator, convert};
+    /// # use fallible_itertools::FallibleItertools;
+    /// # use fallible_itertools::PeekingNext;
+    /// let readings = [Ok::<u32, u8>(150), Ok(7), Err(9), Ok(700)];
+    /// let mut it = convert(readings.into_iter()).positions(|reading| Ok(reading > 100));
+    /// let drawn = [it.next(), it.next(), it.next(), it.next()];
+    /// assert_eq!(drawn, [Ok(Some(0)), Err(9), Ok(Some(2)), Ok(None)]);
+    /// ```
+    ///
+    /// <details><summary>Contract</summary>
+    ///
+    /// As it is proved, in [these words](crate::words):
+    ///
+    /// ```text
+    /// requires { AtMost Self.contract self (2 ^ 64 - 1) }
+    /// ensures parts { positions_parts result ≡ (positions_source result, f) }
+    /// ensures numbers { enumerate_parts (positions_source result) ≡ (self, 0) }
+    /// ensures numberable { Self.contract.can_next self → IsNumberable Self.contract self 0 }
+    /// ensures lists { OverListWith (list.Acts (call_on F.FnMut) f) Self.contract.steps self
+    ///     (λ h l. list.Lists (seen_as positions_parts (positions_contract
+    ///     (seen_as enumerate_parts (enumerate_contract Self.contract)) F.FnMut)).steps result
+    ///     (positions_where h l)) }
+    /// ```
+    /// </details>
+    fn positions<F>(self, f: F) -> Positions<Self, F>
+    where
+        F: FnMut(Self::Item) -> Result<bool, Self::Error>,
+    {
+        Positions {
+            it: self.enumerate(),
+            f,
+        }
+    }
+
     /// Yields each item that equals none before it: of equal items the first.
     ///
     /// Creating it draws nothing and allocates nothing. `next` draws up to an item that equals none that was yielded, a failure or an `Ok(None)`. A set has a clone of each item that was yielded. It fails as the source does, and a failure parts nothing. After a failure or an `Ok(None)` the set stays.
@@ -2424,27 +2513,3 @@ pub trait FallibleItertools: FallibleIterator + Sized {
 }
 
 impl<I: FallibleIterator> FallibleItertools for I {}
-/// Yields the position of each item for which the closure returns true: how many items come before it. Failures and `Ok(None)` don't count.
-///
-/// Creating it draws nothing and calls nothing. `next` draws up to an item for which the closure returns true or fails, a failure or an `Ok(None)`. It fails as the source does. If the closure fails, its failure is yielded; the item is lost, and counts. After a failure or an `Ok(None)` the count goes on.
-///
-/// Precondition, which is not checked: at most `usize::MAX` items are still to come, so that each position fits.
-///
-/// ```
-/// # use fallible_iterator::{FallibleIterator, convert};
-/// # use fallible_itertools::FallibleItertools;
-/// # use fallible_itertools::PeekingNext;
-/// let readings = [Ok::<u32, u8>(150), Ok(7), Err(9), Ok(700)];
-/// let mut it = convert(readings.into_iter()).positions(|reading| Ok(reading > 100));
-/// let drawn = [it.next(), it.next(), it.next(), it.next()];
-/// assert_eq!(drawn, [Ok(Some(0)), Err(9), Ok(Some(2)), Ok(None)]);
-/// ```
-fn positions<F>(self, f: F) -> Positions<Self, F>
-where
-    F: FnMut(Self::Item) -> Result<bool, Self::Error>,
-{
-    Positions {
-        it: self.enumerate(),
-        f,
-    }
-}

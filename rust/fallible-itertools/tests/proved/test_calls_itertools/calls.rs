@@ -314,6 +314,22 @@ fn searches_and_folds_through_a_borrow_are_one_fold_each() {
     assert_eq!((sum, done, log.take()), FOLDED_WHILE);
 }
 
+// What `all_equal_value` returns, and the calls that come for it.
+type OneValue = (Result<Result<u32, Option<(u32, u32)>>, u32>, Calls);
+
+const TWO_VALUES: OneValue = (Ok(Err(Some((1, 2)))), ONE_FOLD);
+
+const ONE_VALUE: OneValue = (Ok(Ok(3)), ONE_FOLD);
+
+#[test]
+fn all_equal_value_is_one_fold() {
+    let log = Log::new();
+    let answers = [Ok(1), Ok(2), Ok(3)];
+    let mut it = counted(&answers, &log);
+    assert_eq!((it.all_equal_value(), log.take()), TWO_VALUES);
+    assert_eq!((it.all_equal_value(), log.take()), ONE_VALUE);
+}
+
 // The sum, the product, and the calls of both.
 const TOTALS: ([Result<Option<u32>, u32>; 2], Calls) = ([Ok(Some(5)), Ok(Some(4))], TWO_FOLDS);
 
