@@ -1,7 +1,7 @@
 -- Tokens of placed bytes.
-use Rattle.std.specs.Prelude.{ℕ, ◌+◌, ◌*◌, ◌-◌, ◌^◌, nat_lt, if◌then◌else◌, Bool, Option, Some, None, Result, Ok, Err, List, [], ◌∷◌}
+use Rattle.std.specs.Prelude.{ℕ, ◌+◌, ◌*◌, ◌-◌, ◌^◌, nat_lt, if◌then◌else◌, Bool, not, Option, Some, None, Result, Ok, Err, List, [], ◌∷◌}
 use Rattle.std.specs.Char.{is_ascii_alphabetic, is_ascii_alphanumeric, is_ascii_digit, is_ascii_whitespace}
-use Rattle.fallible_iterator.specs.Lists.{folded_if, rest_fold_if}
+use Rattle.fallible_iterator.specs.Lists.{folded_if, found, rest_fold_if, rest_true}
 use Rattle.example_tasks.specs.Expressions.{sign_of}
 use Rattle.example_tasks.specs.declared.lexing.Kind.{Kind}
 use Rattle.example_tasks.specs.declared.lexing.Kind.TheVariants as kinds
@@ -56,15 +56,15 @@ module _ {E : Type 0} where
   abbrev pub sign_at : ℕ → ℕ → Result (ℕ × Token) (LexFault E)
   sign_at place byte = sign_or_unknown place byte (sign_of byte)
 
-  -- ---- what two folds make of a list
+  -- ---- what a search and a fold make of a list
 
-  -- what taking the blanks in front returns: a failure that comes before another byte
-  abbrev pub blanks_taken : List (Result Placed E) → Result (Unit {0}) E
-  blanks_taken l = folded_if (λ x. Ok (is_ascii_whitespace x.1)) (λ u x. Ok u) tt l
+  -- the first byte that is no blank, if there is one; or a failure that comes before
+  abbrev pub first_byte : List (Result Placed E) → Result (Option Placed) E
+  first_byte l = found (λ x. Ok (not (is_ascii_whitespace x.1))) l
 
-  -- what taking the blanks in front leaves
-  abbrev pub rest_blanks : List (Result Placed E) → List (Result Placed E)
-  rest_blanks l = rest_fold_if (λ x. Ok (is_ascii_whitespace x.1)) (λ (u : Unit {0}) x. Ok u) tt l
+  -- what comes after that byte, or after the failure
+  abbrev pub rest_byte : List (Result Placed E) → List (Result Placed E)
+  rest_byte l = rest_true (λ x. Ok (not (is_ascii_whitespace x.1))) l
 
   -- the value of a token that was begun, with the bytes in front that go on with it
   abbrev pub value_taken : Kind → Option ℕ → List (Result Placed E) → Result (Option ℕ) E
@@ -104,17 +104,12 @@ module _ {E : Type 0} where
   rest_of_kind (Some kind) byte l = rest_value kind (with_byte kind (Some 0) byte) l
   rest_of_kind None byte l = l
 
-  -- what a list leaves that doesn't start with a blank: what comes after its first token, or after the failure that stands first
-  abbrev pub rest_of_token : List (Result Placed E) → List (Result Placed E)
-  rest_of_token [] = []
-  rest_of_token (Ok (place, byte) ∷ l) = rest_of_kind (kind_of byte) byte l
-  rest_of_token (Err e ∷ l) = l
-
-  -- the same once blanks were taken: nothing more is taken at a failure among them
-  abbrev pub rest_behind_blanks : Result (Unit {0}) E → List (Result Placed E) → List (Result Placed E)
-  rest_behind_blanks (Ok done) l = rest_of_token l
-  rest_behind_blanks (Err e) l = l
+  -- what comes after the token of the first byte; after a failure that came before it, nothing more is taken
+  abbrev pub rest_of_first : Result (Option Placed) E → List (Result Placed E) → List (Result Placed E)
+  rest_of_first (Ok (Some x)) l = rest_of_kind (kind_of x.1) x.1 l
+  rest_of_first (Ok None) l = l
+  rest_of_first (Err e) l = l
 
   -- What a draw leaves of placed bytes: what comes after the blanks and the token, or after the failure that comes first.
   abbrev pub rest_lexed : List (Result Placed E) → List (Result Placed E)
-  rest_lexed l = rest_behind_blanks (blanks_taken l) (rest_blanks l)
+  rest_lexed l = rest_of_first (first_byte l) (rest_byte l)

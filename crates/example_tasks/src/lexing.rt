@@ -1,13 +1,13 @@
 //! A lexer over any iterator of bytes: numbers, words and signs, read by looking one byte ahead.
-ghost use Rattle.std.specs.Prelude.{◌≡◌, ◌-◌, ◌^◌, ℕ, List, None, Result};
+ghost use Rattle.std.specs.Prelude.{◌≡◌, ◌-◌, ◌^◌, ℕ, List, None, Ok, Result};
 ghost use Rattle.fallible_iterator.specs.Contract.{AtMost, Stays};
 ghost use Rattle.fallible_iterator.specs.Laws.Contract.{lawful_seen};
 ghost use Rattle.fallible_iterator.specs.Laws.Peeking.Peekable.{lawful_peekable};
 ghost use Rattle.fallible_iterator.specs.Lists.{CollectedAs, Lists, numbered, result_answer};
 ghost use Rattle.fallible_iterator.specs.Peeking.Peekable.{peekable_parts};
-ghost use Rattle.example_tasks.specs.Ahead.{making};
+ghost use Rattle.example_tasks.specs.Ahead.{Lowers, making};
 ghost use Rattle.example_tasks.specs.Laws.Ahead.{lawful_making};
-ghost use Rattle.example_tasks.specs.Lexing.{Placed, belongs, blanks_taken, kind_of, lexed, rest_blanks, rest_lexed, rest_value, sign_at, token_at, value_taken, with_byte};
+ghost use Rattle.example_tasks.specs.Lexing.{Placed, belongs, first_byte, kind_of, lexed, rest_byte, rest_lexed, rest_value, sign_at, token_at, value_taken, with_byte};
 ghost use Rattle.example_tasks.specs.declared.lexing.Kind.{Kind};
 
 use crate::tokens::{Token, sign_of};
@@ -92,27 +92,25 @@ fn sign_at<E>(place: usize, byte: u8) -> Result<Option<(usize, Token)>, LexFault
     }
 }
 
-// Draws the blanks that come next.
-fn skip_blanks<I: FallibleIterator<Item = (usize, u8)>>(
+// Draws up to the first byte that is no blank.
+fn first_byte<I: FallibleIterator<Item = (usize, u8)>>(
     ahead: &mut Peekable<I>,
-) -> Result<(), I::Error>
+) -> Result<Option<(usize, u8)>, I::Error>
 where
     requires can_next { ⟦<Peekable<I> as FallibleIterator>⟧.contract.can_next ahead.old }
     requires finite { ⟦<Peekable<I> as FallibleIterator>⟧.contract.is_finite ahead.old }
     ensures value { (l : List (Result Placed I.Error))
         → Lists ⟦<Peekable<I> as FallibleIterator>⟧.contract.steps ahead.old l
-        → result ≡ blanks_taken l }
+        → result ≡ first_byte l }
     ensures rest { (l : List (Result Placed I.Error))
         → Lists ⟦<Peekable<I> as FallibleIterator>⟧.contract.steps ahead.old l
-        → Lists ⟦<Peekable<I> as FallibleIterator>⟧.contract.steps ahead.new (rest_blanks l) }
+        → ¬ (result ≡ Ok None)
+        → Lists ⟦<Peekable<I> as FallibleIterator>⟧.contract.steps ahead.new (rest_byte l) }
     ensures stays { Stays ⟦<Peekable<I> as FallibleIterator>⟧.contract ahead.old ahead.new }
+    ensures lowers { Lowers ⟦<Peekable<I> as FallibleIterator>⟧.contract
+        ahead.old result ahead.new }
 {
-    fold_if(
-        ahead,
-        (),
-        |next: &(usize, u8)| Ok(next.1.is_ascii_whitespace()),
-        |done: (), _: (usize, u8)| Ok(done),
-    )
+    ahead.find(|next| Ok(!next.1.is_ascii_whitespace()))
 }
 
 // The value of a token that was begun, with the bytes that go on with it.
@@ -162,10 +160,7 @@ impl<I: FallibleIterator<Item = (usize, u8)>> FallibleIterator for Lexer<I> {
 
     /// Returns the next token and its place.
     fn next(&mut self) -> Result<Option<(usize, Token)>, LexFault<I::Error>> {
-        if let Err(e) = skip_blanks(&mut self.ahead) {
-            return Err(LexFault::Source(e));
-        }
-        let (place, byte) = match self.ahead.draw() {
+        let (place, byte) = match first_byte(&mut self.ahead) {
             Ok(Some(first)) => first,
             Ok(None) => return Ok(None),
             Err(e) => return Err(LexFault::Source(e)),

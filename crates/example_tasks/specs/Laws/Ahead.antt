@@ -6,9 +6,9 @@ use Rattle.example_tasks.specs.Ahead.{TakesMade, making}
 
 module _ {S P A E B F : Type 0} (view : S → P) (answers : List (Result A E) → List (Result B F)) (left : List (Result A E) → List (Result A E)) (m : Contract P A E) where
   on_answer_made : (s t : S) (r : Answered B F) → TakesMade m answers left (view s) r (view t) → OnAnswer (making view answers left m) s r t
-  on_answer_made s t (Ok (Some y)) h = (tt, h.fewer, (λ f. absurd f))
-  on_answer_made s t (Ok None) h = (h.keeps.bound, (λ f. absurd f))
-  on_answer_made s t (Err e) h = (tt, h.keeps.bound, (λ f. absurd f))
+  on_answer_made s t (Ok (Some y)) h = (tt, h.lowers.0, h.lowers.1)
+  on_answer_made s t (Ok None) h = (h.keeps.bound, h.keeps.remaining)
+  on_answer_made s t (Err e) h = (tt, h.keeps.bound, h.lowers)
 
   kept_by_draw_made : (s t : S) (r : Answered B F) → m.is_finite (view s) → TakesMade m answers left (view s) r (view t) → KeptByDraw (making view answers left m) s r t
   kept_by_draw_made s t r finite h = record {

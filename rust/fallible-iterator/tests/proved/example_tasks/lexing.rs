@@ -72,16 +72,11 @@ fn sign_at<E>(place: usize, byte: u8) -> Result<Option<(usize, Token)>, LexFault
     }
 }
 
-// Draws the blanks that come next.
-fn skip_blanks<I: FallibleIterator<Item = (usize, u8)>>(
+// Draws up to the first byte that is no blank.
+fn first_byte<I: FallibleIterator<Item = (usize, u8)>>(
     ahead: &mut Peekable<I>,
-) -> Result<(), I::Error> {
-    fold_if(
-        ahead,
-        (),
-        |next: &(usize, u8)| Ok(next.1.is_ascii_whitespace()),
-        |done: (), _: (usize, u8)| Ok(done),
-    )
+) -> Result<Option<(usize, u8)>, I::Error> {
+    ahead.find(|next| Ok(!next.1.is_ascii_whitespace()))
 }
 
 // The value of a token that was begun, with the bytes that go on with it.
@@ -115,10 +110,7 @@ impl<I: FallibleIterator<Item = (usize, u8)>> FallibleIterator for Lexer<I> {
 
     /// Returns the next token and its place.
     fn next(&mut self) -> Result<Option<(usize, Token)>, LexFault<I::Error>> {
-        if let Err(e) = skip_blanks(&mut self.ahead) {
-            return Err(LexFault::Source(e));
-        }
-        let (place, byte) = match self.ahead.draw() {
+        let (place, byte) = match first_byte(&mut self.ahead) {
             Ok(Some(first)) => first,
             Ok(None) => return Ok(None),
             Err(e) => return Err(LexFault::Source(e)),
