@@ -158,9 +158,7 @@ const PARTITIONED: [(u32, Came<(&[u32], &[u32])>, Option<u32>, u32); 5] = [
 ];
 
 #[test]
-fn collect_and_partition_refused_an_item_leave_those_after_it(
-    rt: HostRuntime,
-) -> Result<(), Fail> {
+fn collect_and_partition_refused_an_item_leave_those_after_it(rt: HostRuntime) -> Result<(), Fail> {
     for (number, wanted, next, made) in &COLLECTED {
         let requests = Requests::refusing(*number);
         let (came, left) = collected::<Kept>(rt.alloc(), &requests)?;
