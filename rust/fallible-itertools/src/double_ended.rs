@@ -21,7 +21,7 @@ where
 }
 
 // Counts what is left, if an item was found.
-fn counted_where<I>(it: &mut I, found: Result<bool, I::Error>) -> Result<Option<usize>, I::Error>
+fn number_left_if<I>(it: &mut I, found: Result<bool, I::Error>) -> Result<Option<usize>, I::Error>
 where
     I: FallibleIterator,
 {
@@ -157,7 +157,7 @@ pub trait DoubleEndedFallibleItertools: DoubleEndedFallibleIterator + Sized {
     {
         let mut f = f;
         let found = answer_or(self.drive_back(&mut f, &AnyTurn), false);
-        counted_where(self, found)
+        number_left_if(self, found)
     }
 }
 

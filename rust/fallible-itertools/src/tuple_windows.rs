@@ -23,9 +23,9 @@ where
     /// Draws once if an item is buffered, and otherwise until a second item, a failure or an `Ok(None)` comes.
     fn next(&mut self) -> Result<Option<(I::Item, I::Item)>, I::Error> {
         match self.held.take() {
-            Some(before) => behind(&mut self.it, &mut self.held, before),
+            Some(before) => pair_with_next(&mut self.it, &mut self.held, before),
             None => match self.it.draw() {
-                Ok(Some(first)) => behind(&mut self.it, &mut self.held, first),
+                Ok(Some(first)) => pair_with_next(&mut self.it, &mut self.held, first),
                 Ok(None) => Ok(None),
                 Err(e) => Err(e),
             },
@@ -76,7 +76,7 @@ impl<X: Clone, E> Pass<Option<X>, X, E> for WindowPass {
 }
 
 // One draw after that item.
-fn behind<I: FallibleIterator>(
+fn pair_with_next<I: FallibleIterator>(
     it: &mut I,
     held: &mut Option<I::Item>,
     before: I::Item,

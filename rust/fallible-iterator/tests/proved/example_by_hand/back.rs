@@ -78,7 +78,7 @@ pub fn last_after_three(readings: Vec<Result<u32, u8>>) -> Result<Option<u64>, u
 pub fn law_readings() {}
 
 /// The last item after the first 0, of any fallible iterator with two ends; `None` if there is no 0, and the first failure before.
-pub fn last_behind_zero<I: DoubleEndedFallibleIterator<Item = u32>>(
+pub fn last_after_zero<I: DoubleEndedFallibleIterator<Item = u32>>(
     it: &mut I,
 ) -> Result<Option<u32>, I::Error> {
     match it.find(|x| Ok(*x == 0))? {

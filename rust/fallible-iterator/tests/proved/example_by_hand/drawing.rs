@@ -91,7 +91,7 @@ where
 }
 
 /// The first pair of both sides, after the first item of a chain of both, or a failure in its place. No clause says what it returns if the left has none, or if the right fails.
-pub fn pair_behind_first<I, J>(
+pub fn pair_after_first<I, J>(
     mut left: I,
     mut right: J,
 ) -> Result<Option<(I::Item, I::Item)>, I::Error>

@@ -20,7 +20,7 @@ pub fn up_to_ten<I: FallibleIterator>(it: I) -> usize {
 }
 
 /// The last item after the second one of any fallible iterator, which std reads: `None` if nothing comes after it. Or the failure that comes before. No clause says what it returns if there are fewer than two.
-pub fn last_behind_two<I: FallibleIterator>(
+pub fn last_after_two<I: FallibleIterator>(
     mut it: I,
 ) -> Result<Option<Result<I::Item, I::Error>>, I::Error> {
     it.nth(1)?;
@@ -39,7 +39,7 @@ pub fn failures(readings: Vec<Result<u32, u8>>) -> u32 {
 }
 
 /// The last item after the first of any fallible iterator that can't fail: `None` if nothing comes after it. No clause says what it returns if there is no first.
-pub fn last_behind_the_first<I: FallibleIterator>(mut it: I) -> Result<Option<I::Item>, I::Error>
+pub fn last_after_the_first<I: FallibleIterator>(mut it: I) -> Result<Option<I::Item>, I::Error>
 where
     I::Error: Debug,
 {

@@ -18,7 +18,7 @@ pub fn any_above_100(readings: Vec<Result<u32, u8>>) -> Result<bool, u8> {
 }
 
 /// The sum of the readings modulo 2 ^ 32, or the first failure; `None` if there is no reading.
-pub fn sum_of_some(readings: Vec<Result<u32, u8>>) -> Result<Option<u32>, u8> {
+pub fn sum_if_any(readings: Vec<Result<u32, u8>>) -> Result<Option<u32>, u8> {
     convert(readings.into_iter()).reduce(|sum, reading| Ok(sum.wrapping_add(reading)))
 }
 

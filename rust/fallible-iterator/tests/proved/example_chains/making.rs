@@ -16,7 +16,7 @@ pub fn given_above_100(readings: Vec<Result<u32, u8>>) -> Result<usize, u8> {
 }
 
 /// How many readings come after the first two, which are dropped, or the first failure after them; or an allocation failure for those two. No clause says what it returns if there are fewer than two.
-pub fn count_behind_two_answers(
+pub fn count_after_two_answers(
     readings: Vec<Result<u32, u8>>,
 ) -> Result<Result<usize, u8>, AllocError> {
     let mut it = convert(readings.into_iter());

@@ -19,13 +19,13 @@ pub struct Lost;
 /// How many elements a std iterator yields up to its `None`: code that knows nothing of fallible iterators. It draws up to the `None`.
 ///
 /// Requires that the iterator may be drawn from and ends, and that the number fits a `usize`.
-pub fn lines_of_report<S: std::iter::Iterator<Item = Result<Row, Lost>>>(rows: S) -> usize {
+pub fn count_elements<S: std::iter::Iterator<Item = Result<Row, Lost>>>(rows: S) -> usize {
     rows.count()
 }
 
 /// How many lines a report on the rows above 100 has. It draws all rows; a lost connection has a line too, and ends nothing.
 pub fn report_above_100(rows: Vec<Result<Row, Lost>>) -> usize {
-    lines_of_report(
+    count_elements(
         convert(rows.into_iter())
             .filter(|row| Ok(row.amount > 100))
             .iterator(),

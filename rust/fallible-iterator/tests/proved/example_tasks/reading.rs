@@ -19,8 +19,8 @@ fn end_of_read(records: u64) -> usize {
     if records == 0 { RECORD } else { BUFFER }
 }
 
-// One read, which puts bytes behind the first `held` ones, up to `end` at most. How many it puts there.
-fn read_behind<R: Read>(
+// One read, which puts bytes after the first `held` ones, up to `end` at most. How many it puts there.
+fn read_after<R: Read>(
     reader: &mut R,
     buffer: &mut [u8],
     held: usize,
@@ -44,7 +44,7 @@ fn sum_up_read<R: Read>(
     let mut totals = NO_TOTALS;
     let mut held = 0;
     for read in 0..READS {
-        match read_behind(reader, buffer, held, end_of_read(totals.records)) {
+        match read_after(reader, buffer, held, end_of_read(totals.records)) {
             Ok(0) => return Ok(sum_up_more(totals, &buffer[..held])),
             Ok(count) => {
                 let filled = held + count;

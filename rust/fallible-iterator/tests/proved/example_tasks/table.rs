@@ -126,7 +126,7 @@ impl Totals {
 
 impl TableFault {
     // The same fault, where so many records come before.
-    fn behind(self, before: usize) -> TableFault {
+    fn placed_after(self, before: usize) -> TableFault {
         match self {
             TableFault::Bad(place) => TableFault::Bad(before + place),
             TableFault::Cut(place) => TableFault::Cut(before + place),
@@ -159,6 +159,6 @@ pub fn sum_up(bytes: &[u8]) -> Result<Totals, TableFault> {
 pub fn sum_up_more(known: Totals, bytes: &[u8]) -> Result<Totals, TableFault> {
     match sum_up(bytes) {
         Ok(more) => Ok(known.plus(more)),
-        Err(fault) => Err(fault.behind(known.records as usize)),
+        Err(fault) => Err(fault.placed_after(known.records as usize)),
     }
 }

@@ -89,7 +89,7 @@ fn table_with_names(file: &[u8], place: usize, count: usize) -> Result<Table, El
 }
 
 // The table after a good header.
-fn table_behind(file: &[u8]) -> Result<Table, ElfFault> {
+fn table_after_header(file: &[u8]) -> Result<Table, ElfFault> {
     let place = u64_at(file, 40) as usize;
     if place == 0 {
         return Ok(NO_TABLE);
@@ -110,5 +110,5 @@ fn table_behind(file: &[u8]) -> Result<Table, ElfFault> {
 /// Where a file has its section headers, or the first fault of its header and of what that says.
 pub fn table_of(file: &[u8]) -> Result<Table, ElfFault> {
     check_header(file)?;
-    table_behind(file)
+    table_after_header(file)
 }

@@ -84,7 +84,7 @@ impl Set {
     }
 
     // The set at a place of a section that ends at `limit`, or its first fault.
-    pub(crate) fn at(file: &[u8], limit: usize, place: usize) -> Result<Set, ElfFault> {
+    pub(crate) fn read_at(file: &[u8], limit: usize, place: usize) -> Result<Set, ElfFault> {
         if limit - place < 16 {
             return Err(ElfFault::at(place, Damage::SetCut));
         }

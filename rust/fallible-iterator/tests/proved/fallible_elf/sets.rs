@@ -84,7 +84,7 @@ impl FallibleIterator for Sets<'_> {
                 None => Ok(None),
             };
         }
-        match Set::at(self.file, self.end, self.place) {
+        match Set::read_at(self.file, self.end, self.place) {
             Ok(set) => {
                 self.place = set.end;
                 Ok(Some(set))

@@ -32,7 +32,7 @@ fn counted_items(pages: &[&[u32]]) -> Result<usize, Infallible> {
 }
 
 // The same, where each page can be peeked into.
-fn counted_behind_a_peek(pages: &[&[u32]]) -> Result<usize, Infallible> {
+fn counted_after_a_peek(pages: &[&[u32]]) -> Result<usize, Infallible> {
     IntoFallible::from(pages.iter())
         .flat_map(|page: &&[u32]| Ok(IntoFallible::from(page.iter()).peekable()))
         .take(9)
@@ -57,7 +57,7 @@ fn lent_pages_are_collected_up_to_a_failure_and_counted() {
         assert_eq!(
             [
                 counted_items(&COUNTED_PAGES),
-                counted_behind_a_peek(&COUNTED_PAGES)
+                counted_after_a_peek(&COUNTED_PAGES)
             ],
             BOTH_THREE
         );

@@ -1,7 +1,7 @@
 use crate::Fail;
 use fallible_iterator::memory::AllocError;
 // Folds from the back.
-use crate::test_support::closures::{add_up, put_behind};
+use crate::test_support::closures::{add_up, append_digit};
 use crate::test_support::expected_numbers::expect_numbers_at;
 use crate::test_support::numbers::numbers;
 use fallible_iterator::Answer::{End, Item};
@@ -18,10 +18,10 @@ const UP_TO_FIVE: [Result<u32, u32>; 5] = [Ok(1), Ok(2), Ok(3), Ok(4), Ok(5)];
 fn rfold_meets_the_last_item_first() {
     let answers = [Ok(1), Ok(2), Ok(3)];
     let it = numbers(&answers);
-    assert_eq!(it.rfold(0, put_behind), Ok(321));
+    assert_eq!(it.rfold(0, append_digit), Ok(321));
     // It meets what a filter keeps.
     let odd = numbers(&UP_TO_FIVE).filter(is_odd);
-    assert_eq!(odd.rfold(0, put_behind), Ok(531));
+    assert_eq!(odd.rfold(0, append_digit), Ok(531));
 }
 
 fn ten_times(x: u32) -> Result<u32, u32> {

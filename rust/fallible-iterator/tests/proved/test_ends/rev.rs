@@ -54,9 +54,9 @@ fn letter(c: char) -> Result<char, ()> {
 }
 
 // The count of a text's letters from one end, or of all its letters and spaces as elements.
-fn counted_letters(text: &str, from_behind: bool, as_elements: bool) -> Result<usize, ()> {
+fn counted_letters(text: &str, from_the_back: bool, as_elements: bool) -> Result<usize, ()> {
     let it = convert(text.chars().map(letter));
-    match (from_behind, as_elements) {
+    match (from_the_back, as_elements) {
         (false, false) => it.count(),
         (true, false) => it.rev().count(),
         (false, true) => Ok(it.iterator().count()),
@@ -75,9 +75,9 @@ const COUNTED_LETTERS: [(bool, bool, Result<usize, ()>); 4] = [
 #[test]
 fn letters_are_counted_up_to_a_space_and_both_as_elements() {
     for row in &COUNTED_LETTERS {
-        let (from_behind, as_elements, _) = *row;
-        let counted = counted_letters("ab cd", from_behind, as_elements);
-        assert_eq!((from_behind, as_elements, counted), *row);
+        let (from_the_back, as_elements, _) = *row;
+        let counted = counted_letters("ab cd", from_the_back, as_elements);
+        assert_eq!((from_the_back, as_elements, counted), *row);
     }
 }
 

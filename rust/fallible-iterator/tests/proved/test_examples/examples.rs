@@ -15,7 +15,7 @@ fn two_written_out(readings: Vec<Result<u32, u8>>) -> Result<(u32, Option<u32>),
 }
 
 // Of `zip`.
-fn behind_a_pair<I, J>(mut left: I, mut right: J) -> Result<Option<J::Item>, I::Error>
+fn first_after_pair<I, J>(mut left: I, mut right: J) -> Result<Option<J::Item>, I::Error>
 where
     I: FallibleIterator,
     J: FallibleIterator<Error = I::Error>,
@@ -62,7 +62,7 @@ fn answer() {
         let left = some_readings()?.into_iter();
         let right = some_readings()?;
         assert_eq!(
-            behind_a_pair(convert(left), convert(right.into_iter())),
+            first_after_pair(convert(left), convert(right.into_iter())),
             Ok(Some(3))
         );
         assert_eq!(lines_written_out(b"20\n22\n".as_slice()), Ok(42));

@@ -1,7 +1,7 @@
 use crate::Fail;
 use fallible_iterator::memory::AllocError;
 // What callers leave of which no clause says a value.
-use crate::example_by_hand::back::last_behind_zero;
+use crate::example_by_hand::back::last_after_zero;
 use crate::example_by_hand::digits::number_ahead;
 use crate::example_by_hand::drawing::draw_all;
 use crate::example_by_hand::looping::{drop_below_ten, drop_small, drop_up_to_zero};
@@ -22,7 +22,7 @@ const FAILING: [Reading; 3] = [Ok(101), Err(9), Ok(700)];
 const BEHIND: [Reading; 4] = [Ok(5), Ok(0), Ok(600), Ok(501)];
 
 #[test]
-fn loops_leave_what_stands_behind() {
+fn loops_leave_what_comes_after() {
     fn tested() -> Result<(), Fail> {
         let mut it = convert(Vec::from(LOOPED).into_iter());
         assert_eq!(drop_up_to_zero(&mut it), Ok(()));
@@ -37,13 +37,13 @@ fn loops_leave_what_stands_behind() {
 }
 
 #[test]
-fn draws_leave_what_stands_behind() {
+fn draws_leave_what_comes_after() {
     fn tested() -> Result<(), Fail> {
         let mut it = convert(Vec::from(FAILING).into_iter());
         let drawn = (draw_all(&mut it), it.next());
         assert_eq!(drawn, (Err(9), Ok(Some(700))));
         let mut it = convert(Vec::from(BEHIND).into_iter());
-        let last = (last_behind_zero(&mut it), it.draw_back(), it.draw_back());
+        let last = (last_after_zero(&mut it), it.draw_back(), it.draw_back());
         assert_eq!(last, (Ok(Some(501)), Ok(Some(600)), Ok(None)));
         Ok(())
     }

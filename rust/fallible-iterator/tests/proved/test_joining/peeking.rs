@@ -59,7 +59,7 @@ fn sum_up_to_two(total: u32, x: u32) -> Result<u32, u32> {
 }
 
 // Puts two digits behind the number.
-fn put_behind(calls: &Cell<u64>, digits: u32) {
+fn append_digit(calls: &Cell<u64>, digits: u32) {
     calls.set(
         calls
             .get()
@@ -78,11 +78,11 @@ where
         it,
         0u32,
         |x: &u32| {
-            put_behind(&calls, x.wrapping_add(10));
+            append_digit(&calls, x.wrapping_add(10));
             if *x == 7 { Err(70) } else { Ok(*x < 5) }
         },
         |value: u32, x: u32| {
-            put_behind(&calls, x.wrapping_add(20));
+            append_digit(&calls, x.wrapping_add(20));
             if x == 4 {
                 Err(40)
             } else {

@@ -2,7 +2,7 @@ use crate::Fail;
 use fallible_iterator::memory::AllocError;
 
 /// The items as digits, each after those that came before.
-pub fn put_behind(digits: u32, x: u32) -> Result<u32, u32> {
+pub fn append_digit(digits: u32, x: u32) -> Result<u32, u32> {
     Ok(digits.wrapping_mul(10).wrapping_add(x))
 }
 

@@ -25,7 +25,7 @@ pub fn changes_of<I: FallibleIterator<Item = u32>>(it: I) -> Result<u64, I::Erro
 }
 
 /// How many changes come after the first; if a failure comes first, those after it.
-pub fn changes_behind(readings: Vec<Result<u32, u8>>) -> Result<usize, u8> {
+pub fn changes_after_first(readings: Vec<Result<u32, u8>>) -> Result<usize, u8> {
     let mut it = convert(readings.into_iter()).dedup();
     match it.draw() {
         Ok(Some(_)) => it.count(),

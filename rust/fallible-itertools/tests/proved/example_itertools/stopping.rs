@@ -17,7 +17,7 @@ pub fn sum_up_to_zero(readings: Vec<Result<u32, u8>>) -> Result<FoldWhile<u32>, 
 }
 
 /// The item after the first 0, or the first failure; `None` if there is no 0.
-pub fn item_behind_zero<I: FallibleIterator<Item = u32>>(
+pub fn item_after_zero<I: FallibleIterator<Item = u32>>(
     mut it: I,
 ) -> Result<Option<u32>, I::Error> {
     let sum = it.fold_while(0, |sum: u32, reading: u32| {

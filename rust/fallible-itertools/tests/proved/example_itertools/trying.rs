@@ -58,7 +58,7 @@ pub fn place_of_seven<I: FallibleIterator<Item = u32, Error = u8>>(
 }
 
 /// The item after the first one that is 7; `None` if there is no such one, and the trouble that comes first.
-pub fn behind_seven<I: FallibleIterator<Item = u32, Error = u8>>(
+pub fn after_seven<I: FallibleIterator<Item = u32, Error = u8>>(
     mut it: I,
 ) -> Result<Option<u32>, Trouble> {
     let found = it.try_find(|reading: &u32| {

@@ -2,7 +2,7 @@ use crate::Fail;
 use fallible_iterator::memory::AllocError;
 // The adapters that let items pass.
 use crate::test_itertools::rows::{Drawn, END, Folded, expect_same, folded_after, script};
-use crate::test_support::closures::put_behind;
+use crate::test_support::closures::append_digit;
 use crate::test_support::course::Hint;
 use crate::test_support::expected_numbers::{expect_hinted_numbers, expect_numbers_at};
 use crate::test_support::numbers::numbers;
@@ -27,7 +27,7 @@ fn copied_copies_from_both_ends() {
         expect_numbers_at(&mut it, &SIDES, &COPIED)?;
         let mut it = convert(POINTING.iter().copied()).copied();
         let hint = it.size_hint();
-        let folded = it.try_fold(0, put_behind);
+        let folded = it.try_fold(0, append_digit);
         expect_same(&(hint, folded, it.next()), &COPIED_FOLD)
     }
     let _ = tested();

@@ -2,7 +2,7 @@ use crate::Fail;
 use fallible_iterator::memory::AllocError;
 // One call for a nest: it draws, folds and compares.
 
-use crate::test_support::closures::put_behind;
+use crate::test_support::closures::append_digit;
 use crate::test_support::expected_numbers::expect_numbers;
 use crate::test_support::scripted::Script;
 use fallible_iterator::{Answer, FallibleIterator};
@@ -34,7 +34,7 @@ pub fn folded_after<I: FallibleIterator<Item = u32, Error = u32>>(
     drawn: &[Answer<u32, u32>],
 ) -> Result<Result<u32, u32>, Fail> {
     expect_numbers(it, drawn)?;
-    Ok(it.try_fold(0, put_behind))
+    Ok(it.try_fold(0, append_digit))
 }
 
 /// Fails the test where the answer isn't the one expected.

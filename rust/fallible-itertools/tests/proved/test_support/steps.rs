@@ -2,7 +2,7 @@ use crate::Fail;
 use fallible_iterator::memory::AllocError;
 
 use crate::test_support::calls::Calls;
-use crate::test_support::closures::{add_up, add_up_to_three, put_behind, stop, stop_with_item};
+use crate::test_support::closures::{add_up, add_up_to_three, append_digit, stop, stop_with_item};
 use crate::test_support::counted::Log;
 use fallible_iterator::FallibleIterator;
 use std::fmt::Debug;
@@ -50,7 +50,7 @@ fn done<I: FallibleIterator<Item = u32, Error = u32>>(it: &mut I, call: Do) -> A
         Do::Find(item) => it.find(|x: &u32| Ok(*x == item)),
         Do::Sum => Ok(Some(it.try_fold(0, add_up)?)),
         Do::SumToThree => Ok(Some(it.try_fold(0, add_up_to_three)?)),
-        Do::Digits => Ok(Some(it.try_fold(0, put_behind)?)),
+        Do::Digits => Ok(Some(it.try_fold(0, append_digit)?)),
         Do::Stop => Ok(Some(it.try_fold(0, stop)?)),
         Do::StopWithItem => Ok(Some(it.try_fold(0, stop_with_item)?)),
         Do::StopAt(item) => Ok(Some(

@@ -2,7 +2,7 @@ use crate::Fail;
 use fallible_iterator::memory::AllocError;
 
 use crate::test_support::calls::Calls;
-use crate::test_support::closures::{add_up, put_behind, stop_with_item};
+use crate::test_support::closures::{add_up, append_digit, stop_with_item};
 use crate::test_support::counted::Log;
 use crate::test_support::steps::{Answered, expect_calls, stopped_at};
 use fallible_iterator::{DoubleEndedFallibleIterator, FallibleIterator};
@@ -36,7 +36,7 @@ fn done<I: DoubleEndedFallibleIterator<Item = u32, Error = u32>>(
         DoBack::Next => it.draw_front(),
         DoBack::NextBack => it.draw_back(),
         DoBack::SumBack => Ok(Some(it.try_rfold(0, add_up)?)),
-        DoBack::DigitsBack => Ok(Some(it.try_rfold(0, put_behind)?)),
+        DoBack::DigitsBack => Ok(Some(it.try_rfold(0, append_digit)?)),
         DoBack::StopBack => Ok(Some(it.try_rfold(0, stop_with_item)?)),
         DoBack::StopBackAt(number, item) => Ok(Some(it.try_rfold(1, |place: u32, x: u32| {
             if place == number {
