@@ -45,7 +45,7 @@ sections_where : (bytes : List ℕ) (r : Result (List Section) ElfFault) → (te
 sections_where bytes (Ok sections) some = (sections, refl)
 sections_where bytes (Err f) some = absurd (some refl)
 
-module _ (unread unread' : Option (List ℕ)) (f : ElfFault) (start text : List ℕ) (none : start ≡ []) where
+module _ (unread unread' : Option (List ℕ)) (f : ElfFault) {start : List ℕ} (text : List ℕ) (none : start ≡ []) where
   report_is : (bytes : List ℕ) → Reports bytes (Some f) (Some start) (Some text) → text ≡ report_of bytes
   report_is bytes r = r.1 ∙ ap (λ front. front ++ report_of bytes) none
 

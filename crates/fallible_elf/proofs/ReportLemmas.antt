@@ -23,17 +23,17 @@ use Rattle.std.specs.declared.alloc.Global.{Global}
 use Rattle.std.specs.declared.vec.Vec.{Vec}
 
 module _ {A : Type 0} (l : List (Result A ElfFault)) where
-  pub collected_is_items : (r : Result (Vec A Global) (Fault ElfFault)) (v : Vec A Global) → CollectedAs (λ all v. v.items ≡ all) l r → r ≡ Ok v → collected l ≡ Ok v.items
+  pub collected_is_items : {r : Result (Vec A Global) (Fault ElfFault)} {v : Vec A Global} → CollectedAs (λ all v. v.items ≡ all) l r → r ≡ Ok v → collected l ≡ Ok v.items
   unfolding CollectedAs
-  collected_is_items r v i e = let h = subst (λ (r : Result (Vec A Global) (Fault ElfFault)). CollectedAs (λ all v. v.items ≡ all) l r) e i in h.1 ∙ ap Ok (sym h.2)
+  collected_is_items i e = let h = subst (λ (r : Result (Vec A Global) (Fault ElfFault)). CollectedAs (λ all v. v.items ≡ all) l r) e i in h.1 ∙ ap Ok (sym h.2)
 
   pub collected_is_failure : (r : Result (Vec A Global) (Fault ElfFault)) (f : ElfFault) → CollectedAs (λ all v. v.items ≡ all) l r → r ≡ Err (Source f) → collected l ≡ Err f
   unfolding CollectedAs
   collected_is_failure r f i e = subst (λ (r : Result (Vec A Global) (Fault ElfFault)). CollectedAs (λ all v. v.items ≡ all) l r) e i
 
   -- the fault that is passed on is that of the list
-  pub collected_is_fault : {B : Type 0} (r : Result (Vec A Global) (Fault ElfFault)) (fault : Fault ElfFault) → CollectedAs (λ all v. v.items ≡ all) l r → r ≡ Err fault → (told : Result B (Fault ElfFault)) → IsErrAnd told (λ given. given ≡ fault) → (f : ElfFault) → told ≡ Err (Source f) → collected l ≡ Err f
-  collected_is_fault {B = B} r fault i e told made f is =
+  pub collected_is_fault : {B : Type 0} {r : Result (Vec A Global) (Fault ElfFault)} {fault : Fault ElfFault} {told : Result B (Fault ElfFault)} {f : ElfFault} → CollectedAs (λ all v. v.items ≡ all) l r → r ≡ Err fault → IsErrAnd told (λ given. given ≡ fault) → told ≡ Err (Source f) → collected l ≡ Err f
+  collected_is_fault {B = B} {r = r} {fault = fault} {told = told} {f = f} i e made is =
       let same : Source f ≡ fault = subst (λ (t : Result B (Fault ElfFault)). IsErrAnd t (λ given. given ≡ fault)) is made in
       collected_is_failure r f i (e ∙ ap Err (sym same))
 

@@ -4,7 +4,7 @@ use Rattle.elf_tables.proofs.RunLemmas.{nothing, something, faulty_kept, faulty_
 use Rattle.elf_tables.proofs.program.run_whole.Goals as goal
 
 pub returns-then-is_empty : goal.returns-then-is_empty
-returns-then-is_empty g c = faulty_kept _ _ c.in-Err-Input.fault c.new-text.result.items c.run.new.writer.items c.new-text.ensures.items _ (nothing _ _ c.is_empty.result (search rules) c.is_empty.ensures c.if-is_empty.true) (c.run.ensures.fault c.in-Err-Input.fault (search rules))
+returns-then-is_empty g c = faulty_kept _ _ c.in-Err-Input.fault c.run.new.writer.items c.new-text.ensures.items _ (nothing _ _ c.is_empty.result (search rules) c.is_empty.ensures c.if-is_empty.true) (c.run.ensures.fault c.in-Err-Input.fault (search rules))
 
 pub returns-in-Err-Input : goal.returns-in-Err-Input
-returns-in-Err-Input g c = (faulty_sections _ _ c.in-Err-Input.fault c.new-text.result.items c.run.new.writer.items c.new-text.ensures.items (something _ _ c.is_empty.result (search rules) c.is_empty.ensures c.if-is_empty.false) (c.run.ensures.fault c.in-Err-Input.fault (search rules)), c.in-Err-write_bytes.ensures.failed)
+returns-in-Err-Input g c = (faulty_sections _ _ c.in-Err-Input.fault c.run.new.writer.items c.new-text.ensures.items (something _ _ c.is_empty.result (search rules) c.is_empty.ensures c.if-is_empty.false) (c.run.ensures.fault c.in-Err-Input.fault (search rules)), c.in-Err-write_bytes.ensures.failed)
