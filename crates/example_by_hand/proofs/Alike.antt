@@ -20,16 +20,16 @@ module _ {E : Type 0} where
   first_alike_append (suc n) (Ok x ∷ a) (Ok y ∷ b) c d few less = ap (λ r. cond (eqb x y) r (Ok false)) (first_alike_append n a b c d (omega (arith, few)) (omega (arith, less)))
 
   -- what the item x in front and the result y at the back make of what is between them
-  abbrev pub at_ends : ℕ → Result ℕ E → Result Bool E → Result Bool E
-  at_ends x (Ok y) r = cond (eqb x y) r (Ok false)
-  at_ends x (Err e) r = Err e
+  abbrev pub alike_by_ends : ℕ → Result ℕ E → Result Bool E → Result Bool E
+  alike_by_ends x (Ok y) r = cond (eqb x y) r (Ok false)
+  alike_by_ends x (Err e) r = Err e
 
-  first_alike_cons : (n x : ℕ) (y : Result ℕ E) (a b : List (Result ℕ E)) → first_alike (suc n) (Ok x ∷ a) (y ∷ b) ≡ at_ends x y (first_alike n a b)
+  first_alike_cons : (n x : ℕ) (y : Result ℕ E) (a b : List (Result ℕ E)) → first_alike (suc n) (Ok x ∷ a) (y ∷ b) ≡ alike_by_ends x y (first_alike n a b)
   unfolding first_alike
   first_alike_cons n x (Ok y) a b = refl
   first_alike_cons n x (Err e) a b = refl
 
-  pub alike_between : (x : ℕ) (y : Result ℕ E) (l : List (Result ℕ E)) → alike (Ok x ∷ (l ++ y ∷ [])) ≡ at_ends x y (alike l)
+  pub alike_between : (x : ℕ) (y : Result ℕ E) (l : List (Result ℕ E)) → alike (Ok x ∷ (l ++ y ∷ [])) ≡ alike_by_ends x y (alike l)
   unfolding alike
   alike_between x y l =
       let whole : List (Result ℕ E) = Ok x ∷ (l ++ y ∷ []) in
@@ -38,7 +38,7 @@ module _ {E : Type 0} where
       let n = (length l + 1) / 2 in
       ap (λ k. first_alike k whole (reverse whole)) half ∙ ap (first_alike (suc n) whole) turned
       ∙ first_alike_cons n x y (l ++ y ∷ []) (reverse l ++ Ok x ∷ [])
-      ∙ ap (at_ends x y) (first_alike_append n l (reverse l) (y ∷ []) (Ok x ∷ []) (omega arith) (let e = length-reverse l in omega (arith, e)))
+      ∙ ap (alike_by_ends x y) (first_alike_append n l (reverse l) (y ∷ []) (Ok x ∷ []) (omega arith) (let e = length-reverse l in omega (arith, e)))
 
   pub alike_alone : (x : ℕ) → alike {E = E} (Ok x ∷ []) ≡ Ok true
   unfolding alike first_alike
@@ -57,8 +57,8 @@ module _ {E : Type 0} where
   pub alike_differ : (x y : ℕ) (l : List (Result ℕ E)) → x ≢ y → alike (Ok x ∷ (l ++ Ok y ∷ [])) ≡ Ok false
   alike_differ x y l differ = alike_between x (Ok y) l ∙ elim (eqb_tells x y) [ inl e ↦ absurd (differ e.1) | inr e ↦ ap (λ b. cond b (alike l) (Ok false)) e.0 ]
 
-  pub alike_same : (x y : ℕ) (l : List (Result ℕ E)) → x ≡ y → alike (Ok x ∷ (l ++ Ok y ∷ [])) ≡ alike l
-  alike_same x y l is = alike_between x (Ok y) l ∙ elim (eqb_tells x y) [ inl e ↦ ap (λ b. cond b (alike l) (Ok false)) e.0 | inr e ↦ absurd (e.1 is) ]
+  pub alike_of_equal_ends : (x y : ℕ) (l : List (Result ℕ E)) → x ≡ y → alike (Ok x ∷ (l ++ Ok y ∷ [])) ≡ alike l
+  alike_of_equal_ends x y l is = alike_between x (Ok y) l ∙ elim (eqb_tells x y) [ inl e ↦ ap (λ b. cond b (alike l) (Ok false)) e.0 | inr e ↦ absurd (e.1 is) ]
 
   pub alike_failed_after : (x : ℕ) (e : E) (l : List (Result ℕ E)) → alike (Ok x ∷ (l ++ Err e ∷ [])) ≡ Err e
   alike_failed_after x e l = alike_between x (Err e) l

@@ -31,10 +31,10 @@ module _ {A E : Type 0} (k : ℕ) where
   cuts_retried = record { goes_on = begins_with_answer k; ends = retried_from_at_end k }
 
 module _ {A E : Type 0} where
-  takes_enough_more : (e : E) (taken : List (Answered A E)) (r : Answered A E) → TakesEnough r taken → TakesEnough r (failure e ∷ taken)
-  takes_enough_more e taken (Ok (Some x)) enough = enough
-  takes_enough_more e taken (Ok None) enough = tt
-  takes_enough_more e taken (Err d) enough = omega (arith, enough)
+  takes_enough_after_failure : (e : E) (taken : List (Answered A E)) (r : Answered A E) → TakesEnough r taken → TakesEnough r (failure e ∷ taken)
+  takes_enough_after_failure e taken (Ok (Some x)) enough = enough
+  takes_enough_after_failure e taken (Ok None) enough = tt
+  takes_enough_after_failure e taken (Err d) enough = omega (arith, enough)
 
 module _ {P A E : Type 0} {steps : P → Answered A E → P → Type 0} where
   -- one draw is enough where it is no failure, or none is passed over
@@ -48,13 +48,13 @@ module _ {P A E : Type 0} {steps : P → Answered A E → P → Type 0} where
 
   -- a failure that is passed over, and then the answer
   pub gathers_after_failure : {left : ℕ} {s t u : P} (e : E) {r : Answered A E} → steps s (failure e) t → Gathers steps (MakesRetried left) t r u → Gathers steps (MakesRetried (suc left)) s r u
-  gathers_after_failure {t = t} e {r = r} drawn g = record { taken = failure e ∷ g.taken; drawn = (t, drawn, g.drawn); enough = takes_enough_more e g.taken r g.enough; answers = g.answers }
+  gathers_after_failure {t = t} e {r = r} drawn g = record { taken = failure e ∷ g.taken; drawn = (t, drawn, g.drawn); enough = takes_enough_after_failure e g.taken r g.enough; answers = g.answers }
 
 module _ {P A E : Type 0} (steps : P → Answered A E → P → Type 0) where
   -- What is gathered from here on is what is gathered from the start, as far as failures were passed over.
   pub record GathersFrom (k : ℕ) (start : P) (left : ℕ) (here : P) : Type 0 where
-    pub at : (r : Answered A E) (u : P) → Gathers steps (MakesRetried left) here r u → Gathers steps (MakesRetried k) start r u
+    pub gathers_from_start : (r : Answered A E) (u : P) → Gathers steps (MakesRetried left) here r u → Gathers steps (MakesRetried k) start r u
 
 module _ {P A E : Type 0} {steps : P → Answered A E → P → Type 0} where
   pub gathers_from_after_failure : {k left less : ℕ} {start s t : P} (e : E) → GathersFrom steps k start left s → steps s (failure e) t → left ≡ suc less → GathersFrom steps k start less t
-  gathers_from_after_failure {less = less} e from drawn is = record { at = λ r u g. from.at r u (rw is (gathers_after_failure e drawn g)) }
+  gathers_from_after_failure {less = less} e from drawn is = record { gathers_from_start = λ r u g. from.gathers_from_start r u (rw is (gathers_after_failure e drawn g)) }

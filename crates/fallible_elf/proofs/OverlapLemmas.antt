@@ -61,19 +61,19 @@ any_append test [] y = or_false (test y)
 any_append test (x ∷ xs) y = ap (λ b. test x || b) (any_append test xs y) ∙ or_assoc (test x) (list_any test xs) (test y)
 
 module _ (bytes : List ℕ) (before : List Section) (s : Section) (marks : List Bool) where
-  pub marks_are_more : (marks' : List Bool) → lies_in bytes s ≡ true → MarksAre bytes before marks → MarksMore marks s.offset (end_of s) marks' → MarksAre bytes (before ++ s ∷ []) marks'
-  marks_are_more marks' lies are more = (more.0 ∙ are.0, (λ at. more.1 at ∙ ap (λ b. b || stands_between s.offset (end_of s) at) (are.1 at) ∙ ap (λ b. list_any (has_byte bytes at) before || (b && stands_between s.offset (end_of s) at)) (sym lies) ∙ sym (any_append (has_byte bytes at) before s)))
+  pub marks_are_with_section : (marks' : List Bool) → lies_in bytes s ≡ true → MarksAre bytes before marks → MarksMore marks s.offset (end_of s) marks' → MarksAre bytes (before ++ s ∷ []) marks'
+  marks_are_with_section marks' lies are more = (more.0 ∙ are.0, (λ at. more.1 at ∙ ap (λ b. b || stands_between s.offset (end_of s) at) (are.1 at) ∙ ap (λ b. list_any (has_byte bytes at) before || (b && stands_between s.offset (end_of s) at)) (sym lies) ∙ sym (any_append (has_byte bytes at) before s)))
 
-  pub marks_are_same : lies_in bytes s ≡ false → MarksAre bytes before marks → MarksAre bytes (before ++ s ∷ []) marks
-  marks_are_same outside are = (are.0, (λ at. are.1 at ∙ sym (or_false _) ∙ ap (λ b. list_any (has_byte bytes at) before || (b && stands_between s.offset (end_of s) at)) (sym outside) ∙ sym (any_append (has_byte bytes at) before s)))
+  pub marks_are_without_section : lies_in bytes s ≡ false → MarksAre bytes before marks → MarksAre bytes (before ++ s ∷ []) marks
+  marks_are_without_section outside are = (are.0, (λ at. are.1 at ∙ sym (or_false _) ∙ ap (λ b. list_any (has_byte bytes at) before || (b && stands_between s.offset (end_of s) at)) (sym outside) ∙ sym (any_append (has_byte bytes at) before s)))
 
 -- what was claimed of a section
 pub claims_section : (bytes : List ℕ) (s : Section) (old new : List Bool) (fresh : Bool) → lies_in bytes s ≡ true → Claims old s.offset (end_of s) fresh new → ClaimsSection bytes s old fresh new
-claims_section bytes s old new true lies claims = λ before are. (marks_are_more bytes before s old new lies are claims.0, any_shares_no_byte bytes s before (λ at from to. sym (are.1 at) ∙ claims.1 at from to))
+claims_section bytes s old new true lies claims = λ before are. (marks_are_with_section bytes before s old new lies are claims.0, any_shares_no_byte bytes s before (λ at from to. sym (are.1 at) ∙ claims.1 at from to))
 claims_section bytes s old new false lies claims = λ before are. any_shares_of_byte bytes s claims.1.0 before lies claims.1.1 claims.1.2 (sym (are.1 claims.1.0) ∙ claims.1.3)
 
 pub claims_outside : (bytes : List ℕ) (s : Section) (marks : List Bool) → lies_in bytes s ≡ false → ClaimsSection bytes s marks true marks
-claims_outside bytes s marks outside = λ before are. (marks_are_same bytes before s marks outside are, any_shares_outside bytes s before outside)
+claims_outside bytes s marks outside = λ before are. (marks_are_without_section bytes before s marks outside are, any_shares_outside bytes s before outside)
 
 -- ---- the sections one after the other
 

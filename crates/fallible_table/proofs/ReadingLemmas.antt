@@ -67,8 +67,8 @@ module _ {unread unread' : Option (List ℕ)} {buffer : List ℕ} {filled : ℕ}
   abbrev cut : List ℕ
   cut = take (filled % 8) (drop (filled - filled % 8) buffer)
 
-  parts : take filled buffer ≡ front ++ cut
-  parts =
+  filled_is_front_and_cut : take filled buffer ≡ front ++ cut
+  filled_is_front_and_cut =
       let is : filled ≡ filled - filled % 8 + filled % 8 = omega arith in
       ap (λ k. take k buffer) is ∙ take-add (filled - filled % 8) (filled % 8) buffer
 
@@ -85,7 +85,7 @@ module _ {unread unread' : Option (List ℕ)} {buffer : List ℕ} {filled : ℕ}
       let parted : front ++ cut ≡ front ++ take left moved = ap (λ l. front ++ l) (ap (λ k. take k (drop (filled - k) buffer)) (sym few) ∙ sym kept) in
       record {
         whole = read.so_far.whole ++ front;
-        taken = subst (Consumes unread unread') (ap (λ l. read.so_far.whole ++ l) (parts ∙ parted) ∙ sym (append_assoc read.so_far.whole front (take left moved))) read.so_far.taken;
+        taken = subst (Consumes unread unread') (ap (λ l. read.so_far.whole ++ l) (filled_is_front_and_cut ∙ parted) ∙ sym (append_assoc read.so_far.whole front (take left moved))) read.so_far.taken;
         good = sym is;
         long = omega (arith, length-append read.so_far.whole front, before, front_long, more);
       }
@@ -104,7 +104,7 @@ module _ {unread unread' : Option (List ℕ)} {buffer : List ℕ} {filled : ℕ}
         bytes = read.so_far.whole ++ take filled buffer;
         taken = read.so_far.taken;
         decides = λ rest.
-            let split : (read.so_far.whole ++ take filled buffer) ++ rest ≡ (read.so_far.whole ++ front) ++ (cut ++ rest) = ap (λ l. (read.so_far.whole ++ l) ++ rest) parts ∙ ap (λ l. l ++ rest) (sym (append_assoc read.so_far.whole front cut)) ∙ append_assoc (read.so_far.whole ++ front) cut rest in
+            let split : (read.so_far.whole ++ take filled buffer) ++ rest ≡ (read.so_far.whole ++ front) ++ (cut ++ rest) = ap (λ l. (read.so_far.whole ++ l) ++ rest) filled_is_front_and_cut ∙ ap (λ l. l ++ rest) (sym (append_assoc read.so_far.whole front cut)) ∙ append_assoc (read.so_far.whole ++ front) cut rest in
             let n = t.records + filled / 8 in
             ap totals_of split ∙ totals_joined n (read.so_far.whole ++ front) (cut ++ rest) both ∙ ap (λ (r : Sum). on_value r (λ u. summed (Cut (n + length (cut ++ rest) / 8 + 1)) n u (records (cut ++ rest)))) (sym is);
         first = λ one. let small = alone (omega (arith, one, later)) in omega (arith, all, before, one, later, sooner, held, small);
@@ -115,19 +115,19 @@ module _ {unread unread' : Option (List ℕ)} {buffer : List ℕ} {filled : ℕ}
 -- ---- fewer bytes than a record has are held
 
 -- what a table comes to whose end was met
-abbrev pub EndsAs : Option (List ℕ) → Option (List ℕ) → Sum → Type 0
-EndsAs unread unread' (Ok totals) = ReadsTable unread unread' (Ok totals)
-EndsAs unread unread' (Err fault) = HasFault unread unread' fault
+abbrev pub SumAtEnd : Option (List ℕ) → Option (List ℕ) → Sum → Type 0
+SumAtEnd unread unread' (Ok totals) = ReadsTable unread unread' (Ok totals)
+SumAtEnd unread unread' (Err fault) = HasFault unread unread' fault
 
-pub reads_totals_of_ends : {R : Type 0} (left : R → Option (List ℕ)) (fails : ErrorKind → R → R → Type 0) (r q : R) (s : Sum) → EndsAs (left r) (left q) s → ReadsTotals left fails r (Ok s) q
-reads_totals_of_ends left fails r q (Ok u) h = h
-reads_totals_of_ends left fails r q (Err fault) h = h
+pub reads_totals_at_end : {R : Type 0} (left : R → Option (List ℕ)) (fails : ErrorKind → R → R → Type 0) (r q : R) (s : Sum) → SumAtEnd (left r) (left q) s → ReadsTotals left fails r (Ok s) q
+reads_totals_at_end left fails r q (Ok u) h = h
+reads_totals_at_end left fails r q (Err fault) h = h
 
 module _ {unread unread' : Option (List ℕ)} {buffer : List ℕ} {held : ℕ} {t : Totals} (read : FilledSoFar unread unread' buffer held t) (short : held < 8) where
   few : length (take held buffer) < 8
   few = omega (arith, length-take-le held buffer read.room, short)
 
-  pub read_to_end : {r : Sum} → IsAtEnd unread' → r ≡ totals_of (read.so_far.whole ++ take held buffer) → EndsAs unread unread' r
+  pub read_to_end : {r : Sum} → IsAtEnd unread' → r ≡ totals_of (read.so_far.whole ++ take held buffer) → SumAtEnd unread unread' r
   read_to_end {r = Ok u} end is = (read.so_far.whole ++ take held buffer, read.so_far.taken, end, sym is)
   read_to_end {r = Err (Cut place)} end is = (read.so_far.whole ++ take held buffer, read.so_far.taken, end, sym is)
   read_to_end {r = Err (Bad place)} end is = absurd (none_bad_in_cut t.records read.so_far.whole (take held buffer) t place read.so_far.long read.so_far.good few is)

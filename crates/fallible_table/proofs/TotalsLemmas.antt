@@ -32,11 +32,11 @@ unfolding folded
 first_checked true r place t rest = refl
 first_checked false r place t rest = refl
 
-summed_is : (cut : TableFault) (before : ℕ) (t : Totals) (l : List (Result Record CutShort)) → fold_of t (checks_of cut before l) ≡ summed cut before t l
+fold_is_summed : (cut : TableFault) (before : ℕ) (t : Totals) (l : List (Result Record CutShort)) → fold_of t (checks_of cut before l) ≡ summed cut before t l
 unfolding folded mapped numbered failures_mapped
-summed_is cut before t [] = refl
-summed_is cut before t (Ok r ∷ l) = first_checked (is_low_to_high r) r (before + 1) t (checks_of cut (before + 1) l) ∙ ap (λ (s : Sum). if is_low_to_high r then s else Err (Bad (before + 1))) (summed_is cut (before + 1) (with_record t r) l)
-summed_is cut before t (Err e ∷ l) = refl
+fold_is_summed cut before t [] = refl
+fold_is_summed cut before t (Ok r ∷ l) = first_checked (is_low_to_high r) r (before + 1) t (checks_of cut (before + 1) l) ∙ ap (λ (s : Sum). if is_low_to_high r then s else Err (Bad (before + 1))) (fold_is_summed cut (before + 1) (with_record t r) l)
+fold_is_summed cut before t (Err e ∷ l) = refl
 
 -- ---- whole records
 
@@ -70,9 +70,9 @@ summed_front cut (suc n) m before t first rest long =
     ∙ if_on_value (is_low_to_high (record_of first)) (before + 1) (summed cut (before + 1) (with_record t (record_of first)) (records_then (n + m) (drop 8 first ++ rest))) (summed_wholes (before + 1) (with_record t (record_of first)) n (drop 8 first)) (λ u. summed cut (before + 1 + n) u (records_then m rest)) (summed_front cut n m (before + 1) (with_record t (record_of first)) (drop 8 first) rest short)
     ∙ ap (λ k. on_value (summed_wholes before t (suc n) first) (λ u. summed cut k u (records_then m rest))) next
 
-on_value_same : (r : Sum) → on_value r (λ u. Ok u) ≡ r
-on_value_same (Ok u) = refl
-on_value_same (Err e) = refl
+on_value_of_ok : (r : Sum) → on_value r (λ u. Ok u) ≡ r
+on_value_of_ok (Ok u) = refl
+on_value_of_ok (Err e) = refl
 
 summed_all : (cut : TableFault) (m before : ℕ) (t : Totals) (bytes : List ℕ) → length bytes ≡ 8 * m → summed cut before t (records bytes) ≡ summed_wholes before t m bytes
 unfolding records
@@ -81,10 +81,10 @@ summed_all cut m before t bytes long =
     ap (λ k. summed cut before t (records_then k bytes)) is
     ∙ ap (λ l. summed cut before t (records_then (m + 0) l)) (sym (append-nil bytes))
     ∙ summed_front cut m 0 before t bytes [] long
-    ∙ on_value_same (summed_wholes before t m bytes)
+    ∙ on_value_of_ok (summed_wholes before t m bytes)
 
 pub totals_of_wholes : (n : ℕ) (bytes : List ℕ) → length bytes ≡ 8 * n → totals_of bytes ≡ summed_wholes 0 no_totals n bytes
-totals_of_wholes n bytes long = summed_is (Cut (length bytes / 8 + 1)) 0 no_totals (records bytes) ∙ summed_all _ n 0 no_totals bytes long
+totals_of_wholes n bytes long = fold_is_summed (Cut (length bytes / 8 + 1)) 0 no_totals (records bytes) ∙ summed_all _ n 0 no_totals bytes long
 
 -- a table that begins with whole records comes to what the rest makes of their totals
 pub totals_joined : (n : ℕ) (first rest : List ℕ) → length first ≡ 8 * n → totals_of (first ++ rest) ≡ on_value (totals_of first) (λ u. summed (Cut (n + length rest / 8 + 1)) n u (records rest))
@@ -92,7 +92,7 @@ unfolding records
 totals_joined n first rest long =
     let is : length (first ++ rest) / 8 ≡ n + length rest / 8 = omega (arith, long, length-append first rest) in
     let here : 0 + n ≡ n = omega arith in
-    summed_is (Cut (length (first ++ rest) / 8 + 1)) 0 no_totals (records (first ++ rest))
+    fold_is_summed (Cut (length (first ++ rest) / 8 + 1)) 0 no_totals (records (first ++ rest))
     ∙ ap (λ k. summed (Cut (k + 1)) 0 no_totals (records_then k (first ++ rest))) is
     ∙ summed_front (Cut (n + length rest / 8 + 1)) n (length rest / 8) 0 no_totals first rest long
     ∙ ap (λ k. on_value (summed_wholes 0 no_totals n first) (λ u. summed (Cut (n + length rest / 8 + 1)) k u (records_then (length rest / 8) rest))) here
@@ -110,14 +110,14 @@ IsSum before t n (Ok u) = (t.records + n < 2 ^ 64 → u.records ≡ t.records + 
 IsSum before t n (Err (Bad place)) = (before < place) × (place ≤ before + n)
 IsSum before t n (Err (Cut place)) = ⊥
 
-is_sum_more : (before n : ℕ) (t : Totals) (r : Record) (s : Sum) → IsSum (before + 1) (with_record t r) n s → IsSum before t (suc n) s
-is_sum_more before n t r (Ok u) h =
+is_sum_with_record : (before n : ℕ) (t : Totals) (r : Record) (s : Sum) → IsSum (before + 1) (with_record t r) n s → IsSum before t (suc n) s
+is_sum_with_record before n t r (Ok u) h =
     (λ fits. let is = h.0 (omega (arith, fits)) in omega (arith, is, fits), λ _. h.1 (omega arith, omega arith, omega arith))
-is_sum_more before n t r (Err (Bad place)) h = (omega (arith, h.0), omega (arith, h.1))
-is_sum_more before n t r (Err (Cut place)) h = h
+is_sum_with_record before n t r (Err (Bad place)) h = (omega (arith, h.0), omega (arith, h.1))
+is_sum_with_record before n t r (Err (Cut place)) h = h
 
 is_sum_first : (b : Bool) (before n : ℕ) (t : Totals) (r : Record) (s : Sum) → IsSum (before + 1) (with_record t r) n s → IsSum before t (suc n) (if b then s else Err (Bad (before + 1)))
-is_sum_first true before n t r s h = is_sum_more before n t r s h
+is_sum_first true before n t r s h = is_sum_with_record before n t r s h
 is_sum_first false before n t r s h = (omega arith, omega arith)
 
 is_sum : (before : ℕ) (t : Totals) (n : ℕ) (bytes : List ℕ) → IsSum before t n (summed_wholes before t n bytes)
@@ -149,11 +149,11 @@ totals_made a b c = record { records = a; low = b; high = c }
 totals_alike : (a b c x y z : ℕ) → a ≡ x → b ≡ y → c ≡ z → totals_made a b c ≡ totals_made x y z
 totals_alike a b c x y z p q r = ap (λ k. totals_made k b c) p ∙ ap (λ k. totals_made x k c) q ∙ ap (λ k. totals_made x y k) r
 
-added_more : (a b c : ℕ) → ((a + b) % 2 ^ 64 + c) % 2 ^ 64 ≡ (a + (b + c) % 2 ^ 64) % 2 ^ 64
-added_more a b c = omega arith
+wrapped_sum_associative : (a b c : ℕ) → ((a + b) % 2 ^ 64 + c) % 2 ^ 64 ≡ (a + (b + c) % 2 ^ 64) % 2 ^ 64
+wrapped_sum_associative a b c = omega arith
 
 with_plus : (t u : Totals) (r : Record) → with_record (plus t u) r ≡ plus t (with_record u r)
-with_plus t u r = totals_alike _ _ _ _ _ _ (added_more t.records u.records 1) (added_more t.low u.low r.low) (added_more t.high u.high r.high)
+with_plus t u r = totals_alike _ _ _ _ _ _ (wrapped_sum_associative t.records u.records 1) (wrapped_sum_associative t.low u.low r.low) (wrapped_sum_associative t.high u.high r.high)
 
 plus_none : (t : Totals) → FitTotals t → plus t no_totals ≡ t
 plus_none t fits = totals_alike ((t.records + 0) % 2 ^ 64) ((t.low + 0) % 2 ^ 64) ((t.high + 0) % 2 ^ 64) t.records t.low t.high (omega (arith, fits.0)) (omega (arith, fits.1)) (omega (arith, fits.2))
@@ -183,7 +183,7 @@ totals_after_known first more t good long =
     ∙ ap (λ k. summed (Cut (n + (m + 1))) k t (records more)) here
     ∙ ap (λ v. summed (Cut (n + (m + 1))) (n + 0) v (records more)) (sym (plus_none t (fit_totals n first t long good)))
     ∙ summed_after (Cut (m + 1)) 0 t no_totals (records more)
-    ∙ ap (after_known t) (sym (summed_is (Cut (m + 1)) 0 no_totals (records more)))
+    ∙ ap (after_known t) (sym (fold_is_summed (Cut (m + 1)) 0 no_totals (records more)))
 
 -- ---- the place of a fault
 
@@ -204,7 +204,7 @@ pub fault_within : (bytes : List ℕ) (fault : TableFault) → Err fault ≡ tot
 unfolding records
 fault_within bytes fault is =
     let limit = length bytes / 8 + 1 in
-    subst (IsWithin limit) (sym (is ∙ summed_is (Cut limit) 0 no_totals (records bytes))) (summed_within (Cut limit) limit 0 (length bytes / 8) no_totals bytes (omega arith) (omega arith))
+    subst (IsWithin limit) (sym (is ∙ fold_is_summed (Cut limit) 0 no_totals (records bytes))) (summed_within (Cut limit) limit 0 (length bytes / 8) no_totals bytes (omega arith) (omega arith))
 
 -- bytes of no whole record have no bad one
 cut_is_not_bad : (last place before : ℕ) (t : Totals) (bytes : List ℕ) → Err (Bad place) ≡ summed (Cut last) before t (cut_of bytes) → ⊥

@@ -48,12 +48,12 @@ IsReportOf bytes report = (rows : List Row) × AreRowsOf bytes rows × (report �
 
 module _ {R : Type 0} (left : R → Option (List ℕ)) (fails : ErrorKind → R → R → Type 0) (input input' : R) where
   -- The input was read up to its end, and this holds of its bytes.
-  abbrev pub ReadAs : (List ℕ → Type 0) → Type 0
-  ReadAs Holds = ReadsAll (left input) (left input') Holds
+  abbrev pub ReadsAllWhere : (List ℕ → Type 0) → Type 0
+  ReadsAllWhere Holds = ReadsAll (left input) (left input') Holds
 
   -- The first line of the input was read, and nothing after it, and this holds of its bytes.
-  abbrev pub ReadLineAs : (List ℕ → Type 0) → Type 0
-  ReadLineAs Holds = (line : List ℕ) × IsFirstLine (left input) line × Consumes (left input) (left input') line × Holds line
+  abbrev pub ReadsLineWhere : (List ℕ → Type 0) → Type 0
+  ReadsLineWhere Holds = (line : List ℕ) × IsFirstLine (left input) line × Consumes (left input) (left input') line × Holds line
 
   -- The first line of the input, where its bytes are known, is a row, or it has none.
   abbrev pub BeginsWithRow : Type 0
@@ -65,23 +65,23 @@ module _ {R : Type 0} (left : R → Option (List ℕ)) (fails : ErrorKind → R 
 
   -- What the input comes to, once it is read: its bytes, of which the first line is a row; the fault of that line, and nothing after it was read; or a read failed, for want of memory or else.
   abbrev pub ReadsRows : Result (Vec ℕ Global) (RunFault GroupsFault) → Type 0
-  ReadsRows (Ok bytes) = BeginsWithRow × ReadAs (λ read. read ≡ bytes.items)
-  ReadsRows (Err (Input (NotText place))) = ReadLineAs (λ line. IsNoTextAt line place)
-  ReadsRows (Err (Input (NoRow place))) = ReadLineAs (λ line. HasNoRowAt line place)
+  ReadsRows (Ok bytes) = BeginsWithRow × ReadsAllWhere (λ read. read ≡ bytes.items)
+  ReadsRows (Err (Input (NotText place))) = ReadsLineWhere (λ line. IsNoTextAt line place)
+  ReadsRows (Err (Input (NoRow place))) = ReadsLineWhere (λ line. HasNoRowAt line place)
   ReadsRows (Err Read) = (kind : ErrorKind) × (kind ≢ OutOfMemory) × FailsToRead kind
   ReadsRows (Err Memory) = FailsToRead OutOfMemory
   ReadsRows (Err Write) = ⊥
 
   -- The input has a fault of its bytes: its first line has it, and nothing after it was read; or that line is a row, and its bytes, which were read up to its end, have it.
   abbrev pub IsFaulty : (List ℕ → Type 0) → Type 0
-  IsFaulty Holds = ReadLineAs Holds ⊎ (BeginsWithRow × ReadAs Holds)
+  IsFaulty Holds = ReadsLineWhere Holds ⊎ (BeginsWithRow × ReadsAllWhere Holds)
 
   module _ {W : Type 0} (refused : List ℕ → Type 0) (failed : W → Type 0) (written written' : Option (List ℕ)) (output' : W) where
     -- What an outcome says of the input, and of what was written: that its lines are rows, and their report was written and nothing else; that it is no UTF-8 at this place; that the line at this place is the first that is no row; that reading failed, for want of memory or else; that its lines are rows, and there was no memory for them or their report; or that its lines are rows, and writing failed.
     abbrev pub ComesTo : {T : Type 0} → Result T (RunFault GroupsFault) → Type 0
-    ComesTo (Ok done) = ReadAs (λ bytes. (rows : List Row) × AreRowsOf bytes rows × Appends written written' (report_of rows))
+    ComesTo (Ok done) = ReadsAllWhere (λ bytes. (rows : List Row) × AreRowsOf bytes rows × Appends written written' (report_of rows))
     ComesTo (Err (Input (NotText place))) = IsFaulty (λ bytes. IsNoTextAt bytes place) × Keeps written written'
     ComesTo (Err (Input (NoRow place))) = IsFaulty (λ bytes. HasNoRowAt bytes place) × Keeps written written'
     ComesTo (Err Read) = ((kind : ErrorKind) × (kind ≢ OutOfMemory) × FailsToRead kind) × Keeps written written'
-    ComesTo (Err Memory) = (FailsToRead OutOfMemory ⊎ ReadAs (λ bytes. AreRows bytes × refused bytes)) × Keeps written written'
-    ComesTo (Err Write) = ReadAs (λ bytes. (rows : List Row) × AreRowsOf bytes rows) × failed output'
+    ComesTo (Err Memory) = (FailsToRead OutOfMemory ⊎ ReadsAllWhere (λ bytes. AreRows bytes × refused bytes)) × Keeps written written'
+    ComesTo (Err Write) = ReadsAllWhere (λ bytes. (rows : List Row) × AreRowsOf bytes rows) × failed output'

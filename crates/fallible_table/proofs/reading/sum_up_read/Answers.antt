@@ -1,6 +1,6 @@
 -- What was read is summed up, as far as it goes.
 use Rattle.std.proofs.Common.{rules, ◌≡◌, ◌≢◌, ◌+◌, ◌^◌, ◌<◌, ◌≤◌, ◌∙◌, take, length, sym, ap, subst, arith}
-use Rattle.fallible_table.proofs.ReadingLemmas.{ReadSoFar, FilledSoFar, nothing_read, so_far_after_read, so_far_of_equal, so_far_after_failure, added_records, read_and_added, read_bad, reads_totals_of_ends, read_to_end, none_bad_yet}
+use Rattle.fallible_table.proofs.ReadingLemmas.{ReadSoFar, FilledSoFar, nothing_read, so_far_after_read, so_far_of_equal, so_far_after_failure, added_records, read_and_added, read_bad, reads_totals_at_end, read_to_end, none_bad_yet}
 use Rattle.std.specs.declared.io.ErrorKind.TheVariants.{Interrupted}
 use Rattle.fallible_table.specs.Report.{NoneBadYet}
 use Rattle.fallible_table.specs.declared.table.Totals.{Totals}
@@ -20,7 +20,7 @@ returns-in-Ok-eq0 g c =
     let same : held + c.in-Ok-eq0.field-0 ≡ held = omega (arith, c.in-Ok-eq0.field-0-test) in
     let h = subst (λ k. ReadSoFar (left c.args.reader.now) (left c.read_after.new.reader) (take k buffer) c.loop-read.totals) same on in
     let read : FilledSoFar (left c.args.reader.now) (left c.read_after.new.reader) buffer held c.loop-read.totals = record { so_far = h; room = omega (arith, c.read_after.ensures.room, inv.room, inv.short) } in
-    reads_totals_of_ends left (λ kind s t. (kind ≢ Interrupted) × NoneBadYet (left s) (left t)) c.args.reader.now c.read_after.new.reader c.sum_up_more.result (read_to_end read inv.short (c.in-Ok-eq0.ensures.end c.in-Ok-eq0.field-0-test) (c.sum_up_more.ensures h.whole h.good h.long))
+    reads_totals_at_end left (λ kind s t. (kind ≢ Interrupted) × NoneBadYet (left s) (left t)) c.args.reader.now c.read_after.new.reader c.sum_up_more.result (read_to_end read inv.short (c.in-Ok-eq0.ensures.end c.in-Ok-eq0.field-0-test) (c.sum_up_more.ensures h.whole h.good h.long))
 
 pub returns-in-Err-sum_up_more : goal.returns-in-Err-sum_up_more
 returns-in-Err-sum_up_more g c =
