@@ -1,10 +1,10 @@
--- What the rows of known bytes list, where no read fails, or none of the draws does so by a read.
+-- What the rows of known bytes list, where no read can fail, or no draw fails with `Read`.
 use Rattle.std.proofs.Common.{◌≡◌, ℕ, zero, suc, ◌+◌, ◌<◌, inl, inr, Bool, true, List, [], ◌∷◌, ◌++◌, length, Option, Some, None, Result, refl, sym, ap, subst, ◌∙◌, arith, append_assoc, append-nil}
+use Rattle.std.specs.Prelude.{◌≢◌, ⊤}
 use Rattle.std.specs.Io.KnownBytes.{Consumes, IsAtEnd}
 use Rattle.std.specs.Option.{ok_or}
 use Rattle.std.proofs.KnownBytes.{Consumes-trans}
 use Rattle.std.proofs.lemmas.List.{length-append}
-use Rattle.std.specs.Prelude.{◌≢◌, ⊤}
 use Rattle.fallible_iterator.specs.Traces.{Answered, end, failure}
 use Rattle.fallible_iterator.specs.Contract.{unbounded_contract, seen_as}
 use Rattle.fallible_iterator.specs.Lists.{AlwaysGives, Lists, result_answer}
@@ -41,7 +41,7 @@ known_bytes_left None new bytes known is taken = absurd cc
 known_bytes_left (Some x) None bytes known is taken = absurd taken
 known_bytes_left (Some x) (Some y) bytes known is taken = let same : x ≡ known = cc in (y, refl, sym same ∙ taken, λ e. e)
 
--- The draws are those that some answers are allowed to, and no read fails where the failure `Read` is allowed.
+-- Of each draw the answer is an allowed one, and no read fails where the failure `Read` is allowed.
 module _ {B : Type 0} (left : B → Option (List ℕ)) (stays : Bool → B → B → Type 0) (allowed : Answered ℕ RowFault → Type 0) (never : (r q : B) → stays true r q → allowed (failure Read) → ⊥) where
   abbrev allowed_step : B × Option Ahead → Answered ℕ RowFault → B × Option Ahead → Type 0
   allowed_step s answer p = row_step left stays s answer p × allowed answer
