@@ -3,7 +3,6 @@ pub mod ChainLemmas
 pub mod FailingLemmas
 mod ListsLaw
 pub mod PrefixLemmas
-pub mod ReadingLemmas
 pub mod ReportLemmas
 pub mod RowLemmas
 pub mod RowsLaw

@@ -4,10 +4,10 @@ use Rattle.std.specs.Prelude.{⊤}
 use Rattle.std.specs.Io.Buffered.{reader_buffer, reader_capacity, reader_inner}
 use Rattle.std.specs.Io.KnownBytes.{Consumes, prepend_known}
 use Rattle.std.proofs.lemmas.List.{drop-drop, take-append-drop, length-take}
-use Rattle.fallible_rows.specs.Reading.{GivesBytes, held_bytes, buffered_left, bytes_left}
-use Rattle.fallible_rows.specs.declared.reading.Buffered.{Buffered}
-use Rattle.fallible_rows.specs.declared.reading.Bytes.{Bytes}
-use Rattle.fallible_rows.specs.declared.reading.Lent.{Lent}
+use Rattle.program_io.specs.Bytes.{GivesBytes, held_bytes, buffered_left, bytes_left}
+use Rattle.program_io.specs.declared.reading.Buffered.{Buffered}
+use Rattle.program_io.specs.declared.reading.Bytes.{Bytes}
+use Rattle.program_io.specs.declared.reading.Lent.{Lent}
 
 -- ---- a buffered reader
 

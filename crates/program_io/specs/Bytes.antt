@@ -3,8 +3,8 @@ use Rattle.std.specs.Prelude.{Bool, true, false, ℕ, List, [], ◌∷◌, drop,
 use Rattle.std.specs.List.{FoldsTo}
 use Rattle.std.specs.Io.Buffered.{reader_buffer, reader_capacity, reader_inner}
 use Rattle.std.specs.Io.KnownBytes.{Consumes, Keeps, IsAtEnd, prepend_known}
-use Rattle.fallible_rows.specs.declared.reading.Buffered.{Buffered}
-use Rattle.fallible_rows.specs.declared.reading.Bytes.{Bytes}
+use Rattle.program_io.specs.declared.reading.Buffered.{Buffered}
+use Rattle.program_io.specs.declared.reading.Bytes.{Bytes}
 
 module _ {R : Type 0} (left : R → Option (List ℕ)) (stays : Bool → R → R → Type 0) where
   -- it yielded this byte, the first of those that were left

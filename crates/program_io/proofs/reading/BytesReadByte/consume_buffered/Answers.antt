@@ -1,7 +1,7 @@
 use Rattle.std.proofs.Common.{refl, false, ◌≡◌, length, drop, ◌-◌, arith}
 use Rattle.std.proofs.lemmas.List.{take_all, length-drop}
-use Rattle.fallible_rows.proofs.ReadingLemmas.{gives_bytes}
-use Rattle.fallible_rows.proofs.reading.BytesReadByte.consume_buffered.Goals as goal
+use Rattle.program_io.proofs.ReadingLemmas.{gives_bytes}
+use Rattle.program_io.proofs.reading.BytesReadByte.consume_buffered.Goals as goal
 
 pub returns-then-count-gt0 : goal.returns-then-count-gt0
 returns-then-count-gt0 c =

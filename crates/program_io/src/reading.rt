@@ -3,7 +3,7 @@ ghost use Rattle.std.specs.Prelude.{◌≡◌, ◌≤◌, ℕ, Bool, false, List
 ghost use Rattle.std.specs.Io.{ReadsAtMost};
 ghost use Rattle.std.specs.Io.KnownBytes.{ReadConsumes};
 ghost use Rattle.std.specs.Io.Buffered.{reader_buffer, reader_remaining};
-ghost use Rattle.fallible_rows.specs.Reading.{ReadsOne, GivesBytes, bytes_left, held_bytes, buffered_left};
+ghost use Rattle.program_io.specs.Bytes.{ReadsOne, GivesBytes, bytes_left, held_bytes, buffered_left};
 
 use std::io::{BufRead, BufReader, Read};
 
@@ -95,10 +95,10 @@ impl<R: Read + Drop> ReadByte for R {
     }
 }
 
-// A reader that is lent. It stays the same reference, so what the reads leave is known to its owner.
+/// A reader that is lent. It stays the same reference, so what the reads leave is known to its owner.
 #[derive(Drop)]
-pub(crate) struct Lent<'a, R> {
-    pub(crate) reader: &'a mut R,
+pub struct Lent<'a, R> {
+    pub reader: &'a mut R,
 }
 
 impl<R: ReadByte> ReadByte for Lent<'_, R> {
