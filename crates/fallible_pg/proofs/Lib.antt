@@ -1,0 +1,5 @@
+mod CellLemmas
+mod ReadingLemmas
+mod RowLemmas
+mod SizeLemmas
+mod TextLemmas
