@@ -1,4 +1,5 @@
 mod CellLemmas
+pub mod DrawLemmas
 mod ReadingLemmas
 mod RowLemmas
 mod SizeLemmas

@@ -1,5 +1,6 @@
 -- What the clauses of `src/` cite.
 pub mod Cells
+pub mod Draws
 pub mod Messages
 pub mod Numbers
 pub mod Reading

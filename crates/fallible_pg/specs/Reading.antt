@@ -1,5 +1,5 @@
 -- What reading a message takes of a reader.
-use Rattle.std.specs.Prelude.{◌≡◌, ℕ, ◌+◌, ◌-◌, ◌^◌, ◌<◌, ◌≤◌, ◌⊎◌, Bool, List, ◌++◌, length, take, Option, Some, None, Result, Ok, Err}
+use Rattle.std.specs.Prelude.{◌≡◌, ℕ, ◌+◌, ◌-◌, ◌^◌, ◌<◌, ◌≤◌, ◌⊎◌, Bool, List, [], ◌++◌, length, take, Option, Some, None, Result, Ok, Err}
 use Rattle.fallible_iterator.specs.Traces.{Answered, end}
 use Rattle.program_io.specs.Bytes.{GivesBytes, GivesEnd, FailsToRead}
 use Rattle.fallible_pg.specs.Messages.{message_bytes}
@@ -63,10 +63,10 @@ module _ {R : Type 0} (left : R → Option (List ℕ)) (stays : Bool → R → R
 
   -- ---- one draw
 
-  -- the fault is that of the message at this place, which wasn't read so
+  -- The fault is that of the message at this place, which wasn't read so; nothing is read after 2 ^ 63 bytes.
   abbrev pub TellsWhy : ℕ → List ℕ → R → PgFault → R → Type 0
   TellsWhy place begun last (Damaged at damage) q = (at ≡ place) × BreaksOff begun last (Why.Damaged damage) q
-  TellsWhy place begun last Read q = BreaksOff begun last Why.Read q ⊎ ((2 ^ 63 < place) × (q ≡ last))
+  TellsWhy place begun last Read q = BreaksOff begun last Why.Read q ⊎ ((2 ^ 63 < place) × (begun ≡ []) × (q ≡ last))
   TellsWhy place begun last Memory q = BreaksOff begun last Why.Memory q
   TellsWhy place begun last (Server m) q = ⊥
 

@@ -3,6 +3,7 @@
 
 mod cells;
 mod fault;
+pub mod laws;
 mod message;
 mod messages;
 mod numbers;
@@ -15,7 +16,8 @@ pub use cells::Cells;
 pub use fault::{Damage, PgFault};
 pub use message::Message;
 pub use messages::Messages;
-pub use rows::{Row, Rows};
+pub use reading::Broken;
+pub use rows::{Kind, Row, Rows};
 pub use sending::{
     Request, Unsent, password_message, query_message, request_of, startup_message,
     terminate_message,

@@ -9,14 +9,14 @@ use crate::numbers::u32_at;
 use program_io::reading::ReadByte;
 use std::alloc::Global;
 
-// Why a message wasn't read.
-#[derive(Clone, Copy)]
-pub(crate) enum Broken {
-    // What came is damaged.
+/// Why a message wasn't read.
+#[derive(Clone, Copy, Debug, PartialEq, Eq)]
+pub enum Broken {
+    /// What came is damaged.
     Damaged(Damage),
-    // A read failed.
+    /// A read failed.
     Read,
-    // An allocation failed.
+    /// An allocation failed.
     Memory,
 }
 

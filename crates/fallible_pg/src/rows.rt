@@ -5,7 +5,7 @@ ghost use Rattle.fallible_iterator.specs.Laws.Contract.{lawful_seen};
 ghost use Rattle.fallible_iterator.specs.Laws.BoundsRuns.{lawful_unbounded};
 ghost use Rattle.fallible_pg.specs.Cells.{shows_cells, cells_of};
 ghost use Rattle.fallible_pg.specs.Messages.{message_bytes};
-ghost use Rattle.fallible_pg.specs.Reading.{messages_parts};
+ghost use Rattle.fallible_pg.specs.Reading.{messages_parts, place_of};
 ghost use Rattle.fallible_pg.specs.Rows.{kind_of, is_skipped, rows_parts, rows_step};
 
 use crate::cells::{Cells, is_row};
@@ -44,13 +44,18 @@ pub struct Rows<R> {
     ended: bool,
 }
 
-// What a message is to one who reads rows.
-#[derive(Clone, Copy)]
-enum Kind {
+/// What a message is to one who reads rows.
+#[derive(Clone, Copy, Debug, PartialEq, Eq)]
+pub enum Kind {
+    /// A row.
     Row,
+    /// Passed over.
     Skipped,
+    /// The server refuses a statement.
     Refusal,
+    /// The server is ready for the next query.
     Ready,
+    /// It is damaged, or isn't read.
     Damaged(Damage),
 }
 
@@ -93,6 +98,13 @@ impl<R: ReadByte> Rows<R> {
             messages,
             ended: false,
         }
+    }
+
+    /// How many bytes of messages were read; 0 once no message can be found.
+    pub fn place(&self) -> u64
+        ensures { result ≡ place_of (rows_parts self.now).0.1 }
+    {
+        self.messages.place()
     }
 
     /// The messages that come after.
