@@ -4,3 +4,5 @@ mod ReadingLemmas
 mod RowLemmas
 mod SizeLemmas
 mod TextLemmas
+mod TurnLaw
+mod TurnLemmas

@@ -8,3 +8,4 @@ pub mod Rows
 pub mod Sent
 pub mod Sizes
 pub mod Text
+pub mod Turns
