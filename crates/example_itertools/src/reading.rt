@@ -1,6 +1,6 @@
 //! Rows that a reader holds, some of them bad.
 ghost use Rattle.std.specs.Prelude.{◌≡◌, ◌≢◌, ℕ, ◌-◌, ◌<◌, ◌^◌, List, Err, Some, length};
-ghost use Rattle.fallible_rows.specs.Reading.{NoReadFails};
+ghost use Rattle.program_io.specs.Bytes.{NoReadFails};
 ghost use Rattle.fallible_rows.specs.Rows.{rows};
 ghost use Rattle.fallible_rows.specs.RowTraces.{row_results};
 ghost use Rattle.example_itertools.specs.Reading.{instead_of_row, tally_of};

@@ -10,7 +10,7 @@ use Rattle.std.proofs.lemmas.Grind.{replicate_next}
 use Rattle.fallible_iterator.specs.Traces.{Answered, Run, failure, end}
 use Rattle.fallible_iterator.proofs.Lemmas.Callers.{turns_split}
 use Rattle.fallible_rows.specs.Rows.{rows, is_newline}
-use Rattle.fallible_rows.specs.Reading.{GivesBytes}
+use Rattle.program_io.specs.Bytes.{GivesBytes}
 use Rattle.fallible_rows.specs.RowTraces.{row_answer, row_answers, IsOneRow, IsClosed, row_step, ReadsRows, AnswersRowsOf, NeverFailsToRead, BeginsWith, CanGiveAll}
 use Rattle.fallible_rows.proofs.RowLemmas.{not_newline, rows-closed}
 use Rattle.fallible_rows.proofs.RowsLaw.{reads_rows_of_run, run_of_reads_rows}

@@ -13,7 +13,7 @@ use Rattle.fallible_rows.proofs.ChainLemmas.{ReadsAtMost}
 use Rattle.fallible_rows.proofs.PrefixLemmas.{consumes_given}
 use Rattle.fallible_rows.specs.declared.fault.RowFault.{RowFault}
 use Rattle.fallible_rows.specs.declared.fault.RowFault.TheVariants.{Read}
-use Rattle.fallible_rows.specs.declared.reading.Lent.{Lent}
+use Rattle.program_io.specs.declared.reading.Lent.{Lent}
 use Rattle.fallible_rows.specs.declared.rows.Ahead.{Ahead}
 
 -- no row is answered by a read that failed

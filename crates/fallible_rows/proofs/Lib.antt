@@ -4,7 +4,6 @@ pub mod ChainLemmas
 pub mod FailingLemmas
 mod ListsLaw
 pub mod PrefixLemmas
-pub mod ReadingLemmas
 pub mod ReportLemmas
 pub mod RowLemmas
 pub mod RowsLaw

@@ -9,7 +9,7 @@ use Rattle.fallible_iterator.specs.Traces.{Answered, end, failure}
 use Rattle.fallible_iterator.specs.Contract.{unbounded_contract, seen_as}
 use Rattle.fallible_iterator.specs.Lists.{AlwaysGives, Lists, result_answer}
 use Rattle.fallible_iterator.proofs.Lemmas.Lists.Passing.{lists_seen}
-use Rattle.fallible_rows.specs.Reading.{NoReadFails}
+use Rattle.program_io.specs.Bytes.{NoReadFails}
 use Rattle.fallible_rows.specs.Rows.{rows, row_number}
 use Rattle.fallible_rows.specs.RowTraces.{rows_parts, begun, told_place, answer_of_number, row_result, row_results, DrawsRow, row_step, row_step_where_read, ListsWhereRead}
 use Rattle.fallible_rows.proofs.RowLemmas.{rows-none, rows-row, rows-one}

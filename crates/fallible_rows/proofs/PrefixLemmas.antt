@@ -7,7 +7,7 @@ use Rattle.std.proofs.lemmas.List.Elements.{All-take}
 use Rattle.fallible_iterator.specs.Traces.{Answered, item, failure, end}
 use Rattle.fallible_iterator.specs.Folds.{CountExit}
 use Rattle.fallible_iterator.proofs.Lemmas.Callers.{no_item_end, no_item-failure, items_then_last, not_items_with}
-use Rattle.fallible_rows.specs.Reading.{GivesBytes, GivesEnd}
+use Rattle.program_io.specs.Bytes.{GivesBytes, GivesEnd}
 use Rattle.fallible_rows.specs.Rows.{rows}
 use Rattle.fallible_rows.specs.Report.{row_limit, line_of_count}
 use Rattle.fallible_rows.specs.Run.{byte_limit}

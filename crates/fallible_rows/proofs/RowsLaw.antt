@@ -6,7 +6,7 @@ use Rattle.std.proofs.lemmas.List.Elements.{All-nil}
 use Rattle.fallible_iterator.specs.Traces.{Answered, Run, failure, end}
 use Rattle.fallible_iterator.specs.Laws.Closures.{folds_to_then}
 use Rattle.fallible_iterator.proofs.Lemmas.Callers.{turns_split}
-use Rattle.fallible_rows.specs.Reading.{GivesByte, GivesBytes}
+use Rattle.program_io.specs.Bytes.{GivesByte, GivesBytes}
 use Rattle.fallible_rows.specs.Rows.{rows, row_number}
 use Rattle.fallible_rows.specs.RowTraces.{told_place, answer_of_number, row_answer, row_answers, IsPlaced, IsOneRow, EndsByEnd, EndsByFailure, DrawsRow, row_step, StopsBetween, StopsAtEnd, StopsAtFailure, ReadsRows, RowsTrace}
 use Rattle.fallible_rows.proofs.RowLemmas.{not_newline, rows-none, rows-row, rows-one, ClosedRows, no_rows, row_then, closed_rows_of_bytes, IsClosed-row}

@@ -7,7 +7,7 @@ use Rattle.fallible_iterator.specs.Laws.Closures.{folds_to_then}
 use Rattle.fallible_iterator.proofs.Lemmas.Callers.{turns_split}
 use Rattle.fallible_iterator.proofs.Lemmas.LawForm.{traces_are_of_parts}
 use Rattle.fallible_rows.specs.Digits.{TellsOf, HasNumberAhead, ClosesAs, ReadsRow}
-use Rattle.fallible_rows.specs.Reading.{GivesByte, GivesBytes}
+use Rattle.program_io.specs.Bytes.{GivesByte, GivesBytes}
 use Rattle.fallible_rows.specs.RowTraces.{rows_parts, told_place, row_answer, IsOneRow, DrawsRow}
 use Rattle.fallible_rows.proofs.RowLemmas.{not_newline}
 use Rattle.fallible_rows.specs.declared.fault.RowFault.{RowFault}

@@ -1,6 +1,6 @@
 -- What is kept of the bytes of a row, and what a draw reads of one.
 use Rattle.std.specs.Prelude.{Bool, ◌≡◌, ◌≢◌, ℕ, ◌+◌, ◌<◌, List, [], ◌∷◌, ◌++◌, length, Option, Some, None}
-use Rattle.fallible_rows.specs.Reading.{GivesByte, GivesBytes, GivesEnd}
+use Rattle.program_io.specs.Bytes.{GivesByte, GivesBytes, GivesEnd}
 use Rattle.fallible_rows.specs.Rows.{row_number}
 use Rattle.fallible_rows.specs.RowTraces.{IsOneRow, MissesByte}
 use Rattle.fallible_rows.specs.declared.digits.Digits.{Digits}

@@ -1,7 +1,6 @@
 pub mod Counting
 pub mod Digits
 pub mod Fault
-pub mod Reading
 pub mod Report
 pub mod RowTraces
 pub mod Rows

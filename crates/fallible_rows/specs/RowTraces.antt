@@ -4,7 +4,7 @@ use Rattle.std.specs.Option.{ok_or}
 use Rattle.fallible_iterator.specs.Traces.{Answered, item, failure, end}
 use Rattle.fallible_iterator.specs.Lists.{Lists}
 use Rattle.fallible_rows.specs.Rows.{rows, row_number}
-use Rattle.fallible_rows.specs.Reading.{GivesByte, GivesBytes, GivesEnd, FailsToRead}
+use Rattle.program_io.specs.Bytes.{GivesByte, GivesBytes, GivesEnd, FailsToRead}
 use Rattle.fallible_rows.specs.declared.fault.RowFault.{RowFault}
 use Rattle.fallible_rows.specs.declared.fault.RowFault.TheVariants.{Row, Read}
 use Rattle.fallible_rows.specs.declared.rows.Ahead.{Ahead}

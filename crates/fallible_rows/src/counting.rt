@@ -4,7 +4,7 @@ ghost use Rattle.fallible_rows.specs.Counting.{CountsPrefix};
 ghost use Rattle.fallible_rows.specs.Run.{FailsReading};
 
 use crate::fault::RowFault;
-use crate::reading::{Lent, ReadByte};
+use program_io::reading::{Lent, ReadByte};
 use crate::rows::Rows;
 use fallible_iterator::FallibleIterator;
 

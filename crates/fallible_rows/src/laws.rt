@@ -4,7 +4,7 @@ ghost use Rattle.fallible_iterator.specs.Traces.{Answered, Run};
 ghost use Rattle.fallible_rows.specs.RowTraces.{rows_parts, IsPlaced, RowsTrace, AnswersRowsOf, NeverFailsToRead, BeginsWith, CanGiveAll};
 ghost use Rattle.fallible_rows.specs.declared.fault.RowFault.{RowFault};
 
-use crate::reading::ReadByte;
+use program_io::reading::ReadByte;
 use crate::rows::Rows;
 use fallible_iterator::FallibleIterator;
 

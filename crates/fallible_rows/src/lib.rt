@@ -6,7 +6,6 @@ mod counting;
 mod digits;
 mod fault;
 pub mod laws;
-mod reading;
 mod rows;
 mod summing;
 
@@ -18,7 +17,7 @@ ghost use Rattle.fallible_rows.specs.Run.{WritesReport, IsRefusedAt, HasReport, 
 pub use fault::{BadRow, RowFault};
 use program_io::fault::RunFault;
 use program_io::writing::WriteText;
-pub use reading::{Buffered, Bytes, ReadByte, ReadFailed};
+pub use program_io::reading::{Buffered, Bytes, ReadByte, ReadFailed};
 pub use rows::Rows;
 use std::alloc::Global;
 pub use summing::sum_of_rows;

@@ -4,14 +4,14 @@ ghost use Rattle.fallible_iterator.specs.Contract.{AtMost, unbounded_contract, s
 ghost use Rattle.fallible_iterator.specs.Laws.Contract.{lawful_seen};
 ghost use Rattle.fallible_iterator.specs.Laws.BoundsRuns.{lawful_unbounded};
 ghost use Rattle.fallible_iterator.specs.Lists.{Lists};
-ghost use Rattle.fallible_rows.specs.Reading.{NoReadFails};
+ghost use Rattle.program_io.specs.Bytes.{NoReadFails};
 ghost use Rattle.fallible_rows.specs.Rows.{rows};
 ghost use Rattle.fallible_rows.specs.RowTraces.{rows_parts, begun, row_step, row_results, ListsWhereRead};
 ghost use Rattle.fallible_rows.specs.Digits.{ReadsRow};
 
 use crate::digits::{Digits, number_ahead};
 use crate::fault::RowFault;
-use crate::reading::ReadByte;
+use program_io::reading::ReadByte;
 use fallible_iterator::FallibleIterator;
 
 /// The rows of a reader: an item for each that is a number, and the failure `Row(K)` for each that is not, after which the next draw goes on with the next row. K is the place of the row, from 1, or `u32::MAX` where the place is above it.

@@ -5,7 +5,7 @@ ghost use Rattle.fallible_rows.specs.Rows.{rows};
 ghost use Rattle.fallible_rows.specs.RowTraces.{row_results};
 
 use crate::fault::RowFault;
-use crate::reading::Bytes;
+use program_io::reading::Bytes;
 use crate::rows::Rows;
 use fallible_iterator::FallibleIterator;
 

@@ -1,1 +1,2 @@
 mod NumberLemmas
+mod ReadingLemmas

@@ -5,4 +5,5 @@ pub mod arguments;
 pub mod ending;
 pub mod fault;
 pub mod numbers;
+pub mod reading;
 pub mod writing;

@@ -15,7 +15,7 @@ use Rattle.fallible_rows.proofs.FailingLemmas.{fails_of_result, fails_lent}
 use Rattle.fallible_rows.proofs.ReportLemmas.{row_limit-is}
 use Rattle.fallible_rows.proofs.PrefixLemmas.{counts_prefix_of_result, name_kept_by_reads}
 use Rattle.fallible_rows.proofs.counting.count_above.Goals as goal
-use Rattle.fallible_rows.specs.declared.reading.Lent.{Lent}
+use Rattle.program_io.specs.declared.reading.Lent.{Lent}
 
 pub try_fold-requires-clause-callable : goal.try_fold-requires-clause-callable
 try_fold-requires-clause-callable g c = holds_each_turn_counting (2 ^ 64 - 1) (λ p x q h. search rules) (λ p x h. search rules) (lawful_seen filter_parts (lawful_filter _ (lawful_seen take_parts (lawful_take (lawful_seen rows_parts (lawful_unbounded (row_step _ _))))))) (search (rules, tests)) (search (rules, tests))

@@ -1,8 +1,8 @@
 use Rattle.std.proofs.Common.{◌≢◌, ℕ, ◌++◌, ◌∷◌, [], Option, Ok, subst, arith, rules}
 use Rattle.std.proofs.lemmas.List.{length_push}
-use Rattle.fallible_rows.specs.Reading.{ReadsOne}
+use Rattle.program_io.specs.Bytes.{ReadsOne}
 use Rattle.fallible_rows.proofs.TraceLemmas.{is_one_row_one_more, gives_bytes_more}
-use Rattle.fallible_rows.specs.declared.reading.ReadFailed.{ReadFailed}
+use Rattle.program_io.specs.declared.reading.ReadFailed.{ReadFailed}
 use Rattle.fallible_rows.proofs.rows.read_row_by_byte.Goals as goal
 
 pub loop-read-preserved : goal.loop-read-preserved

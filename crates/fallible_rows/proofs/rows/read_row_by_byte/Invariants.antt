@@ -1,6 +1,6 @@
 use Rattle.std.proofs.Common.{◌≡◌, ℕ, List, length}
 use Rattle.fallible_rows.specs.Digits.{TellsOf}
-use Rattle.fallible_rows.specs.Reading.{GivesBytes}
+use Rattle.program_io.specs.Bytes.{GivesBytes}
 use Rattle.fallible_rows.specs.RowTraces.{IsOneRow}
 use Rattle.fallible_rows.proofs.rows.read_row_by_byte.Given as goal
 

@@ -1,0 +1,17 @@
+-- Messages were passed that are skipped, each of which has five bytes.
+use Rattle.std.proofs.Common.{◌≡◌, ◌≤◌, ◌*◌, List, Bool, true}
+use Rattle.std.specs.Prelude.{All}
+use Rattle.fallible_iterator.specs.Traces.{Yields}
+use Rattle.fallible_pg.specs.Reading.{messages_parts, message_step, place_of}
+use Rattle.fallible_pg.specs.Rows.{IsSkipped}
+use Rattle.fallible_pg.specs.declared.message.Message.{Message}
+use Rattle.fallible_pg.proofs.rows.RowsFallibleIterator.next.Given as goal
+
+abbrev pub invariant-loop : goal.invariant-loop
+invariant-loop g l = record {
+  ended : l.self.ended ≡ true;
+  skipped : List Message;
+  each : All IsSkipped skipped;
+  passed : Yields (message_step g.R.ReadByte.left g.R.ReadByte.stays) (messages_parts l.fn.self.messages) skipped (messages_parts l.self.messages);
+  many : 5 * l.counter ≤ place_of (messages_parts l.self.messages).1;
+}

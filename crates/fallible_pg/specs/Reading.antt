@@ -1,0 +1,82 @@
+-- What reading a message takes of a reader.
+use Rattle.std.specs.Prelude.{◌≡◌, ℕ, ◌+◌, ◌-◌, ◌^◌, ◌<◌, ◌≤◌, ◌⊎◌, Bool, List, [], ◌++◌, length, take, Option, Some, None, Result, Ok, Err}
+use Rattle.fallible_iterator.specs.Traces.{Answered, end}
+use Rattle.program_io.specs.Bytes.{GivesBytes, GivesEnd, FailsToRead}
+use Rattle.fallible_pg.specs.Messages.{message_bytes}
+use Rattle.fallible_pg.specs.Sizes.{first_size, IsMessage}
+use Rattle.fallible_pg.specs.declared.fault.Damage.{Damage}
+use Rattle.fallible_pg.specs.declared.fault.Damage.TheVariants.{Cut, Length, Tag, Row}
+use Rattle.fallible_pg.specs.declared.fault.PgFault.{PgFault}
+use Rattle.fallible_pg.specs.declared.fault.PgFault.TheVariants.{Server, Damaged, Read, Memory}
+use Rattle.fallible_pg.specs.declared.message.Message.{Message}
+use Rattle.fallible_pg.specs.declared.messages.Messages.{Messages}
+use Rattle.fallible_pg.specs.declared.reading.Broken.{Broken}
+use Rattle.fallible_pg.specs.declared.reading.Broken.TheVariants as Why
+
+-- the parts of the messages of a reader: the reader, and how many bytes were read, until no message can be found
+abbrev pub messages_parts : {R : Type 0} → Messages R → R × Option ℕ
+messages_parts s = (s.reader, s.place)
+
+-- how many bytes were read; 0 once no message can be found
+abbrev pub place_of : Option ℕ → ℕ
+place_of (Some place) = place
+place_of None = 0
+
+-- the bytes but the last
+abbrev pub but_last : List ℕ → List ℕ
+but_last bytes = take (length bytes - 1) bytes
+
+module _ {R : Type 0} (left : R → Option (List ℕ)) (stays : Bool → R → R → Type 0) where
+  -- ---- so many bytes
+
+  -- Bytes came until there were this many. Why no more did: the end was met, a read failed, or the room for the last of them was refused.
+  abbrev pub StopsShort : ℕ → ℕ → R → Broken → R → Type 0
+  StopsShort n many last (Why.Damaged Cut) q = (many < n) × GivesEnd left stays last q
+  StopsShort n many last (Why.Damaged damage) q = ⊥
+  StopsShort n many last Why.Read q = (many < n) × FailsToRead left stays last q
+  StopsShort n many last Why.Memory q = (many ≤ n) × (q ≡ last)
+
+  -- Some bytes were read behind those that were there, at most so many; or reading them broke off.
+  abbrev pub ReadsSome : {U : Type 0} → R → List ℕ → ℕ → Result U Broken → List ℕ → R → Type 0
+  ReadsSome r old room (Ok done) new q = (more : List ℕ) × (new ≡ old ++ more) × GivesBytes left stays r more q × (1 ≤ length more) × (length more ≤ room)
+  ReadsSome r old room (Err why) new q = (more : List ℕ) × (last : R) × GivesBytes left stays r more last × StopsShort room (length more) last why q
+
+  -- Bytes were read behind those that were there, until they were n; or reading them broke off.
+  abbrev pub ReadsUpTo : {U : Type 0} → R → List ℕ → ℕ → Result U Broken → List ℕ → R → Type 0
+  ReadsUpTo r old n (Ok done) new q = (more : List ℕ) × (new ≡ old ++ more) × GivesBytes left stays r more q × (length new ≡ n)
+  ReadsUpTo r old n (Err why) new q = (more : List ℕ) × (last : R) × GivesBytes left stays r more last × StopsShort n (length (old ++ more)) last why q
+
+  -- ---- one message
+
+  -- Why a message that begins with these bytes wasn't read: the end was met before its last byte; it states a length that none has; a read failed; or room was refused for these bytes, the last of which is at most its last.
+  abbrev pub BreaksOff : List ℕ → R → Broken → R → Type 0
+  BreaksOff begun last (Why.Damaged Cut) q = (first_size begun ≡ Err Cut) × GivesEnd left stays last q
+  BreaksOff begun last (Why.Damaged (Length n)) q = (first_size begun ≡ Err (Length n)) × (length begun ≡ 5) × (q ≡ last)
+  BreaksOff begun last (Why.Damaged damage) q = ⊥
+  BreaksOff begun last Why.Read q = (first_size begun ≡ Err Cut) × FailsToRead left stays last q
+  BreaksOff begun last Why.Memory q = (first_size (but_last begun) ≡ Err Cut) × (q ≡ last)
+
+  -- One message was read, and no byte after it; or reading it broke off.
+  abbrev pub ReadsMessage : R → Result Message Broken → R → Type 0
+  ReadsMessage r (Ok m) q = GivesBytes left stays r (message_bytes m) q × IsMessage (message_bytes m)
+  ReadsMessage r (Err why) q = (begun : List ℕ) × (last : R) × GivesBytes left stays r begun last × BreaksOff begun last why q
+
+  -- ---- one draw
+
+  -- The fault is that of the message at this place, which wasn't read so; nothing is read after 2 ^ 63 bytes.
+  abbrev pub TellsWhy : ℕ → List ℕ → R → PgFault → R → Type 0
+  TellsWhy place begun last (Damaged at damage) q = (at ≡ place) × BreaksOff begun last (Why.Damaged damage) q
+  TellsWhy place begun last Read q = BreaksOff begun last Why.Read q ⊎ ((2 ^ 63 < place) × (begun ≡ []) × (q ≡ last))
+  TellsWhy place begun last Memory q = BreaksOff begun last Why.Memory q
+  TellsWhy place begun last (Server m) q = ⊥
+
+  -- One draw reads the bytes of one message; or it fails, and no message can be found any more.
+  abbrev pub DrawsMessage : R → ℕ → Answered Message PgFault → R × Option ℕ → Type 0
+  DrawsMessage r place (Ok (Some m)) p = GivesBytes left stays r (message_bytes m) p.0 × IsMessage (message_bytes m) × (p.1 ≡ Some (place + length (message_bytes m)))
+  DrawsMessage r place (Ok None) p = ⊥
+  DrawsMessage r place (Err fault) p = (p.1 ≡ None) × ((begun : List ℕ) × (last : R) × GivesBytes left stays r begun last × TellsWhy place begun last fault p.0)
+
+  -- One answer: a message or a failure, and an end without a read once no message can be found.
+  abbrev pub message_step : R × Option ℕ → Answered Message PgFault → R × Option ℕ → Type 0
+  message_step (r, Some place) answer p = DrawsMessage r place answer p
+  message_step (r, None) answer p = (answer ≡ end) × (p ≡ (r, None))

@@ -1,0 +1,42 @@
+-- What a client sends, and what a server asks of it first.
+use Rattle.std.specs.Prelude.{ℕ, ◌+◌, ◌==◌, ◌&&◌, if◌then◌else◌, nat_le, List, [], ◌∷◌, ◌++◌, length, slice_index, Option, Some, None, codes}
+use Rattle.std.specs.Int.{w32, to_be_bytes}
+use Rattle.fallible_pg.specs.Numbers.{u32_at}
+use Rattle.fallible_pg.specs.declared.sending.Request.{Request}
+use Rattle.fallible_pg.specs.declared.sending.Request.TheVariants.{Nothing, Password, Other}
+
+-- a message: its tag, its length, which counts its own four bytes and the body, and the body
+abbrev pub sent_message : List ℕ → List ℕ → List ℕ
+sent_message tag body = tag ++ to_be_bytes w32 (length body + 4) ++ body
+
+-- a message of a text, which ends with a 0
+abbrev pub sent_text : List ℕ → List ℕ → List ℕ
+sent_text tag text = sent_message tag (text ++ 0 ∷ [])
+
+-- a query
+abbrev pub sent_query : List ℕ → List ℕ
+sent_query query = sent_text (codes "Q") query
+
+-- a password in clear text
+abbrev pub sent_password : List ℕ → List ℕ
+sent_password password = sent_text (codes "p") password
+
+-- the end of a session
+abbrev pub sent_end : List ℕ
+sent_end = sent_message (codes "X") []
+
+-- what asks for a session: version 3.0, and pairs of names and values, each with a 0 behind it, and a 0
+abbrev pub startup_body : List ℕ → List ℕ → List ℕ
+startup_body user database = 0 ∷ 3 ∷ 0 ∷ 0 ∷ codes "user" ++ 0 ∷ user ++ 0 ∷ codes "database" ++ 0 ∷ database ++ 0 ∷ codes "client_encoding" ++ 0 ∷ codes "UTF8" ++ 0 ∷ 0 ∷ []
+
+-- what asks for a session; it has no tag
+abbrev pub sent_startup : List ℕ → List ℕ → List ℕ
+sent_startup user database = sent_message [] (startup_body user database)
+
+-- what a number asks for
+abbrev pub request_by : ℕ → Request
+request_by n = if n == 0 then Nothing else if n == 3 then Password else Other n
+
+-- what a message asks for: it has the tag R, and its body begins with a number
+abbrev pub request_of : List ℕ → Option Request
+request_of message = if (slice_index message 0 == 82) && nat_le 9 (length message) then Some (request_by (u32_at message 5)) else None

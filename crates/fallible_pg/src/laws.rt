@@ -1,0 +1,29 @@
+//! What the words of the clauses come to, as functions whose body is empty.
+ghost use Rattle.std.specs.Prelude.{◌≡◌, ℕ, ◌+◌, ◌^◌, ◌≤◌, List, length, Some, false};
+ghost use Rattle.fallible_iterator.specs.Traces.{Answered};
+ghost use Rattle.fallible_pg.specs.Draws.{DrawsBytes};
+ghost use Rattle.fallible_pg.specs.Rows.{rows_parts};
+ghost use Rattle.fallible_pg.specs.Turns.{GivesTurns, turns_of};
+ghost use Rattle.program_io.specs.Bytes.{NoReadFails};
+ghost use Rattle.fallible_pg.specs.declared.fault.PgFault.{PgFault};
+ghost use Rattle.fallible_pg.specs.declared.rows.Row.{Row};
+
+use crate::rows::Rows;
+use fallible_iterator::FallibleIterator;
+use program_io::reading::ReadByte;
+
+/// A draw of rows reads the bytes of the messages that it skips and of the one that its answer is made of, one at a time, and no byte after these.
+pub fn law_draw<R: ReadByte>()
+    ensures { (s t : Rows R) (r : R) (place : ℕ) (answer : Answered Row PgFault)
+        → rows_parts s ≡ ((r, Some place), false)
+        → ⟦<Rows<R> as FallibleIterator>⟧.contract.steps s answer t
+        → DrawsBytes R.left R.stays place r answer (rows_parts t).0 (rows_parts t).1 }
+{}
+
+/// Over a reader that tells its bytes, and none of whose reads fails, rows are a function of these bytes, and so is the first failure: up to an allocation failure, draws return what comes of the bytes, in order, and then `Ok(None)`. They are at most 2 ^ 63.
+pub fn law_turns<R: ReadByte>()
+    ensures { (s : Rows R) (r : R) (place : ℕ) (bytes : List ℕ) → NoReadFails R.stays
+        → rows_parts s ≡ ((r, Some place), false) → R.left r ≡ Some bytes
+        → place + length bytes ≤ 2 ^ 63
+        → GivesTurns ⟦<Rows<R> as FallibleIterator>⟧.contract.steps s (turns_of place bytes) }
+{}

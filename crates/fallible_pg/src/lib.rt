@@ -1,0 +1,25 @@
+//! Rows from a server that speaks version 3 of PostgreSQL's protocol, over any reader.
+#![tactic(auto)]
+
+mod cells;
+mod fault;
+pub mod laws;
+mod message;
+mod messages;
+mod numbers;
+mod reading;
+mod rows;
+mod sending;
+mod text;
+
+pub use cells::Cells;
+pub use fault::{Damage, PgFault};
+pub use message::Message;
+pub use messages::Messages;
+pub use reading::Broken;
+pub use rows::{Kind, Row, Rows};
+pub use sending::{
+    Request, Unsent, password_message, query_message, request_of, startup_message,
+    terminate_message,
+};
+pub use text::write_row;

@@ -1,0 +1,77 @@
+//! The messages of a reader.
+ghost use Rattle.std.specs.Prelude.{◌≡◌, Some};
+ghost use Rattle.fallible_iterator.specs.Contract.{seen_as, unbounded_contract};
+ghost use Rattle.fallible_iterator.specs.Laws.Contract.{lawful_seen};
+ghost use Rattle.fallible_iterator.specs.Laws.BoundsRuns.{lawful_unbounded};
+ghost use Rattle.fallible_pg.specs.Reading.{messages_parts, message_step, place_of};
+
+use crate::fault::PgFault;
+use crate::message::Message;
+use crate::reading::{Broken, read_message};
+use fallible_iterator::FallibleIterator;
+use program_io::reading::ReadByte;
+use std::alloc::Global;
+
+/// The messages of a reader.
+#[derive(Drop)]
+pub struct Messages<R> {
+    alloc: Global,
+    reader: R,
+    // how many bytes were read; none once no message can be found
+    place: Option<u64>,
+}
+
+// After so many bytes nothing more is read.
+const MAX_PLACE: u64 = 0x8000_0000_0000_0000;
+
+impl<R: ReadByte> Messages<R> {
+    /// The messages of this reader. It reads nothing.
+    pub fn new(alloc: Global, reader: R) -> Messages<R>
+        ensures { messages_parts result ≡ (reader, Some 0) }
+    {
+        Messages {
+            alloc,
+            reader,
+            place: Some(0),
+        }
+    }
+
+    // How many bytes were read; 0 once no message can be found.
+    pub(crate) fn place(&self) -> u64
+        ensures { result ≡ place_of (messages_parts self.now).1 }
+    {
+        self.place.unwrap_or(0)
+    }
+}
+
+impl<R: ReadByte> FallibleIterator for Messages<R> {
+    type Item = Message;
+
+    type Error = PgFault;
+
+    ghost contract = { seen_as messages_parts (unbounded_contract (message_step R.left R.stays)) };
+
+    fn next(&mut self) -> Result<Option<Message>, PgFault> {
+        let Some(place) = self.place.take() else {
+            return Ok(None);
+        };
+        if place > MAX_PLACE {
+            return Err(PgFault::Read);
+        }
+        match read_message(self.alloc, &mut self.reader) {
+            Ok(message) => {
+                self.place = Some(place + message.bytes().len() as u64);
+                Ok(Some(message))
+            }
+            Err(Broken::Damaged(damage)) => Err(PgFault::Damaged(place, damage)),
+            Err(Broken::Read) => Err(PgFault::Read),
+            Err(Broken::Memory) => Err(PgFault::Memory),
+        }
+    }
+
+    fn size_hint(&self) -> (usize, Option<usize>) {
+        (0, None)
+    }
+
+    ghost lawful = { lawful_seen messages_parts (lawful_unbounded (message_step R.left R.stays)) };
+}

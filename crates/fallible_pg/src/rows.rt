@@ -1,0 +1,159 @@
+//! The rows of a result.
+ghost use Rattle.std.specs.Prelude.{◌≡◌, false};
+ghost use Rattle.fallible_iterator.specs.Contract.{seen_as, unbounded_contract};
+ghost use Rattle.fallible_iterator.specs.Laws.Contract.{lawful_seen};
+ghost use Rattle.fallible_iterator.specs.Laws.BoundsRuns.{lawful_unbounded};
+ghost use Rattle.fallible_pg.specs.Cells.{shows_cells, cells_of};
+ghost use Rattle.fallible_pg.specs.Messages.{message_bytes};
+ghost use Rattle.fallible_pg.specs.Reading.{messages_parts, place_of};
+ghost use Rattle.fallible_pg.specs.Rows.{kind_of, is_skipped, rows_parts, rows_step};
+
+use crate::cells::{Cells, is_row};
+use crate::fault::{Damage, PgFault};
+use crate::message::Message;
+use crate::messages::Messages;
+use fallible_iterator::FallibleIterator;
+use program_io::reading::ReadByte;
+
+/// A row, whose cells are undamaged.
+#[derive(Debug, Drop)]
+pub struct Row {
+    message: Message,
+}
+
+impl Row {
+    /// Its message.
+    pub fn message(&self) -> &Message
+        ensures { result.now ≡ self.now.message }
+    {
+        &self.message
+    }
+
+    /// Its cells.
+    pub fn cells(&self) -> Cells<'_>
+        ensures { shows_cells result ≡ cells_of (message_bytes self.now.message) }
+    {
+        Cells::new(self.message.bytes())
+    }
+}
+
+/// The rows of a result, over the messages that come after a query.
+#[derive(Drop)]
+pub struct Rows<R> {
+    messages: Messages<R>,
+    ended: bool,
+}
+
+/// What a message is to one who reads rows.
+#[derive(Clone, Copy, Debug, PartialEq, Eq)]
+pub enum Kind {
+    /// A row.
+    Row,
+    /// Passed over.
+    Skipped,
+    /// The server refuses a statement.
+    Refusal,
+    /// The server is ready for the next query.
+    Ready,
+    /// It is damaged, or isn't read.
+    Damaged(Damage),
+}
+
+// Whether messages with this tag are skipped: the description of rows, the end of a statement, an empty statement, a notice, a parameter, a notification.
+fn is_skipped(tag: u8) -> bool
+    ensures { result ≡ is_skipped tag }
+{
+    tag == b'T' || tag == b'C' || tag == b'I' || tag == b'N' || tag == b'S' || tag == b'A'
+}
+
+// What a message is to one who reads rows.
+#[tactic(auto, unfolding(crate::specs::Rows::kind_of))]
+fn kind_of(message: &Message) -> Kind
+    ensures { result ≡ kind_of (message_bytes message.now) }
+{
+    let tag = message.tag();
+    if tag == b'D' {
+        if is_row(message.bytes()) {
+            Kind::Row
+        } else {
+            Kind::Damaged(Damage::Row)
+        }
+    } else if is_skipped(tag) {
+        Kind::Skipped
+    } else if tag == b'E' {
+        Kind::Refusal
+    } else if tag == b'Z' {
+        Kind::Ready
+    } else {
+        Kind::Damaged(Damage::Tag(tag))
+    }
+}
+
+impl<R: ReadByte> Rows<R> {
+    /// The rows that these messages bring.
+    pub fn new(messages: Messages<R>) -> Rows<R>
+        ensures { rows_parts result ≡ (messages_parts messages, false) }
+    {
+        Rows {
+            messages,
+            ended: false,
+        }
+    }
+
+    /// How many bytes of messages were read; 0 once no message can be found.
+    pub fn place(&self) -> u64
+        ensures { result ≡ place_of (rows_parts self.now).0.1 }
+    {
+        self.messages.place()
+    }
+
+    /// The messages that come after.
+    pub fn into_messages(self) -> Messages<R>
+        ensures { messages_parts result ≡ (rows_parts self).0 }
+    {
+        self.messages
+    }
+}
+
+impl<R: ReadByte> FallibleIterator for Rows<R> {
+    type Item = Row;
+
+    type Error = PgFault;
+
+    ghost contract = { seen_as rows_parts (unbounded_contract (rows_step R.left R.stays)) };
+
+    fn next(&mut self) -> Result<Option<Row>, PgFault> {
+        if self.ended {
+            return Ok(None);
+        }
+        self.ended = true;
+        for _ in 0..u64::MAX {
+            let place = self.messages.place();
+            match self.messages.next() {
+                Ok(Some(message)) => match kind_of(&message) {
+                    Kind::Row => {
+                        self.ended = false;
+                        return Ok(Some(Row { message }));
+                    }
+                    Kind::Skipped => {}
+                    Kind::Refusal => {
+                        self.ended = false;
+                        return Err(PgFault::Server(message));
+                    }
+                    Kind::Ready => return Ok(None),
+                    Kind::Damaged(damage) => return Err(PgFault::Damaged(place, damage)),
+                },
+                Ok(None) => return Ok(None),
+                Err(fault) => return Err(fault),
+            }
+        }
+        // Not reached: each message has at least five bytes, and their place fits a `u64`.
+        Err(PgFault::Damaged(self.messages.place(), Damage::Cut))
+    }
+
+    fn size_hint(&self) -> (usize, Option<usize>) {
+        (0, None)
+    }
+
+    ghost lawful = { lawful_seen rows_parts (lawful_unbounded (rows_step R.left R.stays)) };
+}

@@ -1,0 +1,130 @@
+//! What a client sends.
+ghost use Rattle.std.specs.Prelude.{◌≡◌, ◌<◌, ◌++◌, length, IfOk, MatchResult, vec_items};
+ghost use Rattle.fallible_pg.specs.Messages.{message_bytes};
+ghost use Rattle.fallible_pg.specs.Sent.{request_of, request_by, sent_message, sent_text, sent_query, sent_password, sent_end, sent_startup};
+ghost use Rattle.fallible_pg.specs.declared.sending.Unsent.TheVariants.{Long};
+
+use crate::message::Message;
+use crate::numbers::u32_at;
+use std::alloc::{AllocError, Global};
+
+/// Why a message can't be sent.
+#[derive(Clone, Copy, Debug, PartialEq, Eq)]
+pub enum Unsent {
+    /// It is longer than a server takes.
+    Long,
+    /// An allocation failed.
+    Memory,
+}
+
+impl From<AllocError> for Unsent {
+    ghost use Rattle.fallible_pg.specs.declared.sending.Unsent.TheVariants.{Memory};
+
+    ghost from_gives = { λ _ why. why ≡ Memory };
+
+    /// `Unsent::Memory`
+    fn from(_: AllocError) -> Unsent {
+        Unsent::Memory
+    }
+}
+
+// The greatest body that a server takes.
+const MAX_BODY: usize = 0x3fff_fffb;
+
+// A tag, if there is one, the length and the body.
+fn message_of(alloc: Global, tag: &[u8], body: &[u8]) -> Result<Vec<u8>, Unsent>
+    ensures { MatchResult result (λ sent. vec_items sent ≡ sent_message tag.now body.now)
+        (λ why. why ≡ Long → 1073741819 < length body.now) }
+{
+    if body.len() > MAX_BODY {
+        return Err(Unsent::Long);
+    }
+    let mut message = Vec::new(alloc);
+    message.extend_from_slice(tag)?;
+    message.extend_from_slice(&(body.len() as u32 + 4).to_be_bytes())?;
+    message.extend_from_slice(body)?;
+    Ok(message)
+}
+
+// A message of a tag and one text.
+fn text_message(alloc: Global, tag: &[u8], text: &[u8]) -> Result<Vec<u8>, Unsent>
+    ensures { MatchResult result (λ sent. vec_items sent ≡ sent_text tag.now text.now)
+        (λ why. why ≡ Long → 1073741818 < length text.now) }
+{
+    let mut body = Vec::new(alloc);
+    body.extend_from_slice(text)?;
+    body.extend_from_slice(&[0])?;
+    message_of(alloc, tag, body.as_slice())
+}
+
+/// A query. It fails with `Long` only above 1,073,741,818 bytes.
+pub fn query_message(alloc: Global, query: &str) -> Result<Vec<u8>, Unsent>
+    ensures { MatchResult result (λ sent. vec_items sent ≡ sent_query query.now)
+        (λ why. why ≡ Long → 1073741818 < length query.now) }
+{
+    text_message(alloc, b"Q", query.as_bytes())
+}
+
+/// A password in clear text. It fails with `Long` only above 1,073,741,818 bytes.
+pub fn password_message(alloc: Global, password: &str) -> Result<Vec<u8>, Unsent>
+    ensures { MatchResult result (λ sent. vec_items sent ≡ sent_password password.now)
+        (λ why. why ≡ Long → 1073741818 < length password.now) }
+{
+    text_message(alloc, b"p", password.as_bytes())
+}
+
+/// The end of a session.
+pub fn terminate_message(alloc: Global) -> Result<Vec<u8>, Unsent>
+    ensures { IfOk result (λ sent. vec_items sent ≡ sent_end) }
+{
+    message_of(alloc, b"X", &[])
+}
+
+/// What asks for a session of a user with a database. A name with a 0 in it is read otherwise than it is meant.
+pub fn startup_message(alloc: Global, user: &str, database: &str) -> Result<Vec<u8>, Unsent>
+    ensures { IfOk result (λ sent. vec_items sent ≡ sent_startup user.now database.now) }
+{
+    let mut body = Vec::new(alloc);
+    body.extend_from_slice(b"\0\x03\0\0user\0")?;
+    body.extend_from_slice(user.as_bytes())?;
+    body.extend_from_slice(b"\0database\0")?;
+    body.extend_from_slice(database.as_bytes())?;
+    body.extend_from_slice(b"\0client_encoding\0UTF8\0\0")?;
+    message_of(alloc, &[], body.as_slice())
+}
+
+/// What a server asks for before it starts a session.
+#[derive(Clone, Copy, Debug, PartialEq, Eq)]
+pub enum Request {
+    /// Nothing more.
+    Nothing,
+    /// The password in clear text.
+    Password,
+    /// Another proof of identity, by its number.
+    Other(u32),
+}
+
+// What a number asks for.
+fn request_by(number: u32) -> Request
+    ensures { result ≡ request_by number }
+{
+    if number == 0 {
+        Request::Nothing
+    } else if number == 3 {
+        Request::Password
+    } else {
+        Request::Other(number)
+    }
+}
+
+/// What a message asks for, if it asks for something.
+pub fn request_of(message: &Message) -> Option<Request>
+    ensures { result ≡ request_of (message_bytes message.now) }
+{
+    let bytes = message.bytes();
+    if message.tag() == b'R' && bytes.len() >= 9 {
+        Some(request_by(u32_at(bytes, 5)))
+    } else {
+        None
+    }
+}

@@ -1,0 +1,69 @@
+//! Rows as text.
+ghost use Rattle.std.specs.Prelude.{◌≡◌, ◌∷◌, OnOk, OnErr};
+ghost use Rattle.std.specs.Io.KnownBytes.{Appends};
+ghost use Rattle.fallible_pg.specs.Cells.{shows_cells};
+ghost use Rattle.fallible_pg.specs.Messages.{message_bytes};
+ghost use Rattle.fallible_pg.specs.Text.{drawn_text, further_text, row_text};
+
+use crate::cells::Cells;
+use crate::rows::Row;
+use fallible_iterator::FallibleIterator;
+use program_io::writing::WriteText;
+use std::io;
+
+// The bytes of a cell: none at a NULL.
+fn bytes_of(cell: Option<&[u8]>) -> &[u8]
+    ensures { result.now ≡ drawn_text cell.entry }
+{
+    match cell {
+        Some(bytes) => bytes,
+        None => &[],
+    }
+}
+
+// Writes a bar and a cell.
+fn write_further_cell<W: WriteText>(cell: Option<&[u8]>, writer: &mut W) -> io::Result<()>
+    ensures whole { OnOk result (Appends (W.written writer.old) (W.written writer.new)
+        (124 ∷ drawn_text cell.entry)) }
+    ensures failed { OnErr result (W.failed writer.new) }
+{
+    writer.write_bytes(b"|")?;
+    writer.write_bytes(bytes_of(cell))
+}
+
+// Writes the further cells, a bar before each, and a newline.
+fn write_further<W: WriteText>(cells: &mut Cells<'_>, writer: &mut W) -> io::Result<()>
+    ensures whole { OnOk result (Appends (W.written writer.old) (W.written writer.new)
+        (further_text (shows_cells cells.old))) }
+    ensures failed { OnErr result (W.failed writer.new) }
+{
+    let count = cells.left();
+    for _ in 0..count {
+        match cells.next() {
+            Ok(Some(cell)) => match write_further_cell(cell, writer) {
+                Ok(()) => {}
+                Err(error) => return Err(error),
+            },
+            Ok(None) => return writer.write_bytes(b"\n"),
+            Err(_) => return writer.write_bytes(b"\n"),
+        }
+    }
+    writer.write_bytes(b"\n")
+}
+
+/// Writes a row as `psql -A -t` does: its cells with a bar between each two, a NULL as nothing, and a newline. A row without cells is nothing.
+pub fn write_row<W: WriteText>(row: &Row, writer: &mut W) -> io::Result<()>
+    ensures whole { OnOk result (Appends (W.written writer.old) (W.written writer.new)
+        (row_text (message_bytes row.now.message))) }
+    ensures failed { OnErr result (W.failed writer.new) }
+{
+    let mut cells = row.cells();
+    match cells.next() {
+        Ok(Some(cell)) => match writer.write_bytes(bytes_of(cell)) {
+            Ok(()) => write_further(&mut cells, writer),
+            Err(error) => Err(error),
+        },
+        Ok(None) => Ok(()),
+        Err(_) => Ok(()),
+    }
+}

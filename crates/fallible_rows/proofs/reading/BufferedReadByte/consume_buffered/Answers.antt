@@ -1,5 +1,0 @@
-use Rattle.fallible_rows.proofs.ReadingLemmas.{gives_bytes_held}
-use Rattle.fallible_rows.proofs.reading.BufferedReadByte.consume_buffered.Goals as goal
-
-pub returns : goal.returns
-returns g c = gives_bytes_held g.R.Read.remaining c.args.self.now c.args.count c.requires

@@ -1,0 +1,56 @@
+-- Lemmas on the fields of a refusal.
+use Rattle.std.proofs.Common.{◌≡◌, ◌≢◌, ℕ, ◌+◌, ◌<◌, ◌≤◌, ◌==◌, Bool, true, false, List, [], ◌∷◌, ◌++◌, length, take, drop, slice_index, refl, sym, ap, ◌∙◌, arith, append_assoc, append-nil, drop_of_length-le}
+use Rattle.std.proofs.lemmas.Bool.{eq-eqb, ne_eqb}
+use Rattle.std.proofs.lemmas.List.{take_more, drop_more, take_all}
+use Rattle.pg_rows.specs.Faults.{before_zero, field_from}
+
+before_zero-zero : (b : ℕ) (bs : List ℕ) → b ≡ 0 → before_zero (b ∷ bs) ≡ []
+unfolding before_zero
+before_zero-zero b bs is = rw (eq-eqb b 0 is) refl
+
+before_zero-other : (b : ℕ) (bs : List ℕ) → b ≢ 0 → before_zero (b ∷ bs) ≡ b ∷ before_zero bs
+unfolding before_zero
+before_zero-other b bs other = rw (ne_eqb b 0 other) refl
+
+before_zero-none : before_zero [] ≡ []
+unfolding before_zero
+before_zero-none = refl
+
+module _ (bytes : List ℕ) (i : ℕ) (so_far : before_zero bytes ≡ take i bytes ++ before_zero (drop i bytes)) where
+  pub zero_next : i < length bytes → slice_index bytes i ≢ 0 → before_zero bytes ≡ take (i + 1) bytes ++ before_zero (drop (i + 1) bytes)
+  zero_next inside other =
+      let b = slice_index bytes i in
+      let rest = before_zero (drop (i + 1) bytes) in
+      so_far ∙ ap (λ l. take i bytes ++ before_zero l) (drop_more bytes i 0 inside) ∙ ap (λ l. take i bytes ++ l) (before_zero-other b (drop (i + 1) bytes) other) ∙ sym (append_assoc (take i bytes) (b ∷ []) rest) ∙ ap (λ l. l ++ rest) (sym (take_more bytes i 0 inside))
+
+  pub zero_here : i < length bytes → slice_index bytes i ≡ 0 → take i bytes ≡ before_zero bytes
+  zero_here inside is = sym (so_far ∙ ap (λ l. take i bytes ++ before_zero l) (drop_more bytes i 0 inside) ∙ ap (λ l. take i bytes ++ l) (before_zero-zero (slice_index bytes i) (drop (i + 1) bytes) is) ∙ append-nil (take i bytes))
+
+  pub no_zero : length bytes ≤ i → bytes ≡ before_zero bytes
+  no_zero behind = sym (so_far ∙ ap (λ l. take i bytes ++ before_zero l) (drop_of_length-le bytes behind) ∙ ap (λ l. take i bytes ++ l) before_zero-none ∙ append-nil (take i bytes) ∙ take_all i bytes behind)
+
+-- ---- fields
+
+field_on : (begins : Bool) (letter b : ℕ) (bs : List ℕ) → (begins ≡ true → b ≢ letter) → field_from begins letter (b ∷ bs) ≡ field_from (b == 0) letter bs
+unfolding field_from
+field_on true letter b bs other = rw (ne_eqb b letter (other refl)) refl
+field_on false letter b bs other = refl
+
+field_found : (letter b : ℕ) (bs : List ℕ) → b ≡ letter → field_from true letter (b ∷ bs) ≡ before_zero bs
+unfolding field_from
+field_found letter b bs is = rw (eq-eqb b letter is) refl
+
+field_none : (begins : Bool) (letter : ℕ) → field_from begins letter [] ≡ []
+unfolding field_from
+field_none true letter = refl
+field_none false letter = refl
+
+module _ (fields : List ℕ) (letter i : ℕ) (begins : Bool) (so_far : field_from true letter fields ≡ field_from begins letter (drop i fields)) where
+  pub field_next : i < length fields → (begins ≡ true → slice_index fields i ≢ letter) → field_from true letter fields ≡ field_from (slice_index fields i == 0) letter (drop (i + 1) fields)
+  field_next inside other = so_far ∙ ap (field_from begins letter) (drop_more fields i 0 inside) ∙ field_on begins letter (slice_index fields i) (drop (i + 1) fields) other
+
+  pub field_here : i < length fields → begins ≡ true → slice_index fields i ≡ letter → before_zero (drop (i + 1) fields) ≡ field_from true letter fields
+  field_here inside starts is = sym (so_far ∙ ap (λ (b : Bool). field_from b letter (drop i fields)) starts ∙ ap (field_from true letter) (drop_more fields i 0 inside) ∙ field_found letter (slice_index fields i) (drop (i + 1) fields) is)
+
+  pub no_field : length fields ≤ i → [] ≡ field_from true letter fields
+  no_field behind = sym (so_far ∙ ap (field_from begins letter) (drop_of_length-le fields behind) ∙ field_none begins letter)

@@ -1,0 +1,12 @@
+use Rattle.std.proofs.Common.{rules, refl}
+use Rattle.pg_rows.proofs.FieldLemmas.{zero_next, zero_here, no_zero}
+use Rattle.pg_rows.proofs.printing.before_zero.Goals as goal
+
+pub returns-then-bytes-place-eq0 : goal.returns-then-bytes-place-eq0
+returns-then-bytes-place-eq0 c = zero_here c.args.bytes.now c.loop-place.place c.loop-place.invariant (search rules) (search rules)
+
+pub loop-place-preserved : goal.loop-place-preserved
+loop-place-preserved c = zero_next c.args.bytes.now c.loop-place.place c.loop-place.invariant (search rules) (search rules)
+
+pub returns : goal.returns
+returns c = no_zero c.args.bytes.now c.loop-place.place c.loop-place.invariant (search rules)

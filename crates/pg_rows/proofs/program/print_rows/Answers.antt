@@ -1,0 +1,32 @@
+use Rattle.std.proofs.Common.{rules, refl, sym, subst, Option, Result, Ok, Err, Some}
+use Rattle.fallible_iterator.specs.Traces.{end}
+use Rattle.fallible_pg.specs.Rows.{rows_parts, rows_step}
+use Rattle.fallible_pg.specs.declared.rows.Row.{Row}
+use Rattle.program_io.specs.declared.fault.RunFault.{RunFault}
+use Rattle.pg_rows.specs.Program.{ComesTo, as_run_fault}
+use Rattle.pg_rows.specs.declared.printing.PgInput.{PgInput}
+use Rattle.pg_rows.proofs.PrintLemmas.{printed_first, printed_row, comes_to_write, comes_to, reads_fault_outcome, writes_fault_outcome}
+use Rattle.pg_rows.proofs.program.print_rows.Goals as goal
+
+pub loop-init : goal.loop-init
+loop-init g c = printed_first g.R.ReadByte.left g.R.ReadByte.stays (rows_parts c.args.rows.now).0.0 (rows_parts c.args.rows.now) (g.W.WriteText.written c.args.output.now) c.requires
+
+pub loop-preserved : goal.loop-preserved
+loop-preserved g c =
+    let step = subst (λ (o : Option Row). rows_step g.R.ReadByte.left g.R.ReadByte.stays (rows_parts c.loop.rows) (Ok o) (rows_parts c.next.new.self)) c.in-Ok-Some.field-0-is c.in-Ok-Some.ensures in
+    printed_row g.R.ReadByte.left g.R.ReadByte.stays (rows_parts c.args.rows.now).0.0 (rows_parts c.loop.rows) (rows_parts c.next.new.self) (g.W.WriteText.written c.args.output.now) (g.W.WriteText.written c.loop.output) c.loop.counter c.loop.invariant c.in-Ok-Some.row step (g.W.WriteText.written c.write_row.new.writer) c.in-Ok.ensures.whole
+
+pub returns-in-Err-write_row : goal.returns-in-Err-write_row
+returns-in-Err-write_row g c =
+    let step = subst (λ (o : Option Row). rows_step g.R.ReadByte.left g.R.ReadByte.stays (rows_parts c.loop.rows) (Ok o) (rows_parts c.next.new.self)) c.in-Ok-Some.field-0-is c.in-Ok-Some.ensures in
+    comes_to_write g.R.ReadByte.left g.R.ReadByte.stays (rows_parts c.args.rows.now).0.0 (rows_parts c.loop.rows) (rows_parts c.next.new.self) (g.W.WriteText.written c.args.output.now) (g.W.WriteText.written c.loop.output) c.loop.counter c.loop.invariant c.in-Ok-Some.row step g.W.WriteText.failed (g.W.WriteText.written c.write_row.new.writer) c.write_row.new.writer c.in-Err-write_row.ensures.failed
+
+pub returns-in-Ok-None : goal.returns-in-Ok-None
+returns-in-Ok-None g c =
+    let step = subst (λ (o : Option Row). rows_step g.R.ReadByte.left g.R.ReadByte.stays (rows_parts c.loop.rows) (Ok o) (rows_parts c.next.new.self)) c.in-Ok-None.field-0-is c.in-Ok-None.ensures in
+    comes_to g.R.ReadByte.left g.R.ReadByte.stays (rows_parts c.args.rows.now).0.0 (rows_parts c.loop.rows) (rows_parts c.next.new.self) (g.W.WriteText.written c.args.output.now) (g.W.WriteText.written c.loop.output) c.loop.counter c.loop.invariant g.W.WriteText.failed c.loop.output end (Ok tt) step (λ place t h. h) (λ text h. h)
+
+pub returns-in-Err : goal.returns-in-Err
+returns-in-Err g c =
+    let comes = comes_to g.R.ReadByte.left g.R.ReadByte.stays (rows_parts c.args.rows.now).0.0 (rows_parts c.loop.rows) (rows_parts c.next.new.self) (g.W.WriteText.written c.args.output.now) (g.W.WriteText.written c.loop.output) c.loop.counter c.loop.invariant g.W.WriteText.failed c.loop.output (Err c.in-Err.fault) (Err (as_run_fault c.in-Err.fault)) c.in-Err.ensures (λ place t h. reads_fault_outcome g.R.ReadByte.left g.R.ReadByte.stays c.in-Err.fault place t _ h) (λ text h. writes_fault_outcome g.R.ReadByte.left g.R.ReadByte.stays g.W.WriteText.failed (rows_parts c.args.rows.now).0.0 (rows_parts c.next.new.self).0.0 (g.W.WriteText.written c.args.output.now) (g.W.WriteText.written c.loop.output) c.loop.output c.in-Err.fault text h) in
+    subst (λ (f : RunFault PgInput). ComesTo g.R.ReadByte.left g.R.ReadByte.stays (rows_parts c.args.rows.now).0.0 (rows_parts c.next.new.self).0.0 g.W.WriteText.failed (g.W.WriteText.written c.args.output.now) (g.W.WriteText.written c.loop.output) c.loop.output {T = Unit {0}} (Err f)) (sym c.run_fault.ensures) comes

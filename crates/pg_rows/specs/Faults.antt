@@ -1,0 +1,68 @@
+-- What is told of a fault.
+use Rattle.std.specs.Prelude.{ℕ, ◌==◌, List, [], ◌∷◌, ◌++◌, Bool, true, false, ◌||◌, if◌then◌else◌, codes, decimal, drop}
+use Rattle.fallible_pg.specs.declared.fault.Damage.{Damage}
+use Rattle.fallible_pg.specs.declared.fault.Damage.TheVariants.{Cut, Length, Tag, Row}
+use Rattle.fallible_pg.specs.Messages.{message_bytes}
+use Rattle.pg_rows.specs.declared.printing.PgInput.{PgInput}
+use Rattle.pg_rows.specs.declared.printing.PgInput.TheVariants.{Server, Damaged}
+
+-- the bytes before the first 0
+unfoldable pub before_zero : List ℕ → List ℕ
+before_zero [] = []
+before_zero (b ∷ bs) = if b == 0 then [] else b ∷ before_zero bs
+
+-- The field that a letter names: the first text that begins with it, without it, of texts that each end with a 0. A text begins here, or it doesn't.
+unfoldable pub field_from : Bool → ℕ → List ℕ → List ℕ
+field_from begins letter [] = []
+field_from true letter (b ∷ bs) = if b == letter then before_zero bs else field_from (b == 0) letter bs
+field_from false letter (b ∷ bs) = field_from (b == 0) letter bs
+
+-- the field that a letter names
+abbrev pub field : ℕ → List ℕ → List ℕ
+field letter fields = field_from true letter fields
+
+-- what the server tells: how severe it is, and the message
+abbrev pub refusal_text : List ℕ → List ℕ
+refusal_text fields = field 83 fields ++ codes ":  " ++ field 77 fields
+
+-- whether the tag is one of COPY
+abbrev pub is_copy : ℕ → Bool
+is_copy tag = tag == 71 || tag == 72 || tag == 87 || tag == 99 || tag == 100
+
+-- whether the tag is one of the extended protocol
+abbrev pub is_extended : ℕ → Bool
+is_extended tag = tag == 49 || tag == 50 || tag == 51 || tag == 110 || tag == 115 || tag == 116
+
+-- the status of a tag that isn't read
+abbrev pub tag_status : ℕ → ℕ
+tag_status tag = if is_copy tag || is_extended tag then 7 else 5
+
+-- what is told of a tag that isn't read
+abbrev pub tag_text : ℕ → List ℕ
+tag_text tag = if is_copy tag then codes "COPY isn't read"
+    else if is_extended tag then codes "the extended protocol isn't read"
+    else codes "a message has the unknown tag " ++ decimal tag
+
+-- the status of a damage: 6 where the bytes were cut, 7 where they are of a kind that isn't read, else 5
+abbrev pub damage_status : Damage → ℕ
+damage_status Cut = 6
+damage_status (Length n) = 5
+damage_status (Tag tag) = tag_status tag
+damage_status Row = 5
+
+-- what is told of a damage
+abbrev pub damage_text : Damage → List ℕ
+damage_text Cut = codes "the connection ended within a message"
+damage_text (Length n) = codes "a message states the length " ++ decimal n
+damage_text (Tag tag) = tag_text tag
+damage_text Row = codes "the cells of a row don't fill it"
+
+-- the status that a program ends with
+abbrev pub status_of : PgInput → ℕ
+status_of (Server message) = 1
+status_of (Damaged place damage) = damage_status damage
+
+-- the text of the line that tells of a fault, without its newline
+abbrev pub text_of : PgInput → List ℕ
+text_of (Server message) = refusal_text (drop 5 (message_bytes message))
+text_of (Damaged place damage) = codes "byte " ++ decimal place ++ codes ": " ++ damage_text damage

@@ -1,0 +1,3 @@
+-- What the clauses of `src/` cite.
+pub mod Faults
+pub mod Program

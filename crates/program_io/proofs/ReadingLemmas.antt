@@ -1,0 +1,63 @@
+-- Lemmas on bytes that readers hold in a buffer, and yield one at a time.
+use Rattle.std.proofs.Common.{Bool, true, false, ◌≡◌, ℕ, ◌+◌, List, [], ◌∷◌, ◌++◌, length, take, drop, if◌then◌else◌, ◌==◌, refl, sym, ap, subst, ◌∙◌, arith, Option, Some, None, ◌<◌, ◌≤◌}
+use Rattle.std.specs.Prelude.{⊤}
+use Rattle.std.specs.Io.Buffered.{reader_buffer, reader_capacity, reader_inner}
+use Rattle.std.specs.Io.KnownBytes.{Consumes, prepend_known}
+use Rattle.std.proofs.lemmas.List.{drop-drop, take-append-drop, length-take}
+use Rattle.program_io.specs.Bytes.{GivesBytes, held_bytes, buffered_left, bytes_left}
+use Rattle.program_io.specs.declared.reading.Buffered.{Buffered}
+use Rattle.program_io.specs.declared.reading.Bytes.{Bytes}
+use Rattle.program_io.specs.declared.reading.Lent.{Lent}
+
+-- ---- a buffered reader
+
+consumes_first : (unknown : Bool) (held : List ℕ) (byte : ℕ) (rest : List ℕ) (behind : Option (List ℕ)) → held ≡ byte ∷ rest → Consumes (if unknown then None else prepend_known held behind) (if unknown then None else prepend_known rest behind) (byte ∷ [])
+consumes_first true held byte rest behind is = tt
+consumes_first false held byte rest None is = tt
+consumes_first false held byte rest (Some more) is = ap (λ l. l ++ more) is
+
+-- the reader of which so many bytes more were yielded
+abbrev pub given_more : {R : Type 0} → Buffered R → ℕ → Buffered R
+given_more s n = record { reader = s.reader; given = s.given + n }
+
+module _ {R : Type 0} (remaining : R → Option (List ℕ)) where
+  gives_bytes_front : (s : Buffered R) (front rest : List ℕ) → held_bytes s ≡ front ++ rest → GivesBytes (buffered_left remaining) (λ _ _ _. ⊤) s front (given_more s (length front))
+  gives_bytes_front s [] rest is = let none : s.given ≡ s.given + 0 = omega arith in ap (λ (n : ℕ). record { reader = s.reader; given = n }) none
+  gives_bytes_front s (byte ∷ front) rest is =
+      let next : held_bytes (given_more s 1) ≡ front ++ rest = sym (drop-drop 1 s.given (reader_buffer s.reader)) ∙ ap (drop 1) is in
+      let more : (s.given + 1) + length front ≡ s.given + length (byte ∷ front) = omega arith in
+      let unknown = reader_capacity s.reader == 0 in
+      let came = consumes_first unknown (held_bytes s) byte (held_bytes (given_more s 1)) (remaining (reader_inner s.reader)) (is ∙ ap (λ l. byte ∷ l) (sym next)) in
+      (given_more s 1, (came, tt), subst (λ (n : ℕ). GivesBytes (buffered_left remaining) (λ _ _ _. ⊤) (given_more s 1) front (record { reader = s.reader; given = n })) more (gives_bytes_front (given_more s 1) front rest next))
+
+  pub gives_bytes_held : (s : Buffered R) (n : ℕ) → n ≤ length (held_bytes s) → GivesBytes (buffered_left remaining) (λ _ _ _. ⊤) s (take n (held_bytes s)) (given_more s n)
+  gives_bytes_held s n l =
+      let long : length (take n (held_bytes s)) ≡ n = omega (arith, length-take n (held_bytes s)) in
+      subst (λ (k : ℕ). GivesBytes (buffered_left remaining) (λ _ _ _. ⊤) s (take n (held_bytes s)) (given_more s k)) long (gives_bytes_front s (take n (held_bytes s)) (drop n (held_bytes s)) (sym (take-append-drop n (held_bytes s))))
+
+-- ---- a reader that is lent
+
+-- the same reference, which this stands under
+abbrev pub lent_as : {R : Type 0} → Lent R → R → Lent R
+lent_as s q = record { reader = record s.reader { now = q } }
+
+module _ {R : Type 0} (left : R → Option (List ℕ)) (stays : Bool → R → R → Type 0) where
+  pub gives_bytes_lent : (s : Lent R) (bytes : List ℕ) (q : R) → GivesBytes left stays s.reader.now bytes q → GivesBytes {R = Lent R} (λ t. left t.reader.now) (λ failed t u. (u.reader.ghost_name ≡ t.reader.ghost_name) × stays failed t.reader.now u.reader.now) s bytes (lent_as s q)
+  gives_bytes_lent s [] q h = ap (lent_as s) h
+  gives_bytes_lent s (byte ∷ bytes) q h = (lent_as s h.0, (h.1.0, (refl, h.1.1)), gives_bytes_lent (lent_as s h.0) bytes q h.2)
+
+-- ---- bytes in memory
+
+module _ (stays : Bool → Bytes → Bytes → Type 0) (always : (s t : Bytes) → stays false s t) where
+  pub gives_bytes_first : (s t : Bytes) (byte : ℕ) (front rest : List ℕ) → s.bytes.now ≡ (byte ∷ front) ++ rest → t.bytes.now ≡ rest → GivesBytes bytes_left stays s (byte ∷ front) t
+  gives_bytes_first s t byte [] rest is after = (t, (is ∙ ap (λ l. byte ∷ l) (sym after), always s t), refl)
+  gives_bytes_first s t byte (next ∷ front) rest is after =
+      let u : Bytes = record { bytes = record s.bytes { now = (next ∷ front) ++ rest } } in
+      (u, (is, always s u), gives_bytes_first u t next front rest refl after)
+
+  gives_bytes_taken : (s t : Bytes) (n : ℕ) → 0 < n → n ≤ length s.bytes.now → t.bytes.now ≡ drop n s.bytes.now → (front : List ℕ) → take n s.bytes.now ≡ front → GivesBytes bytes_left stays s front t
+  gives_bytes_taken s t n some l after [] is = let long : length (take n s.bytes.now) ≡ 0 = ap length is in absurd (omega (arith, long, length-take n s.bytes.now))
+  gives_bytes_taken s t n some l after (byte ∷ front) is = gives_bytes_first s t byte front (drop n s.bytes.now) (sym (take-append-drop n s.bytes.now) ∙ ap (λ x. x ++ drop n s.bytes.now) is) after
+
+  pub gives_bytes : (s t : Bytes) (n : ℕ) → 0 < n → n ≤ length s.bytes.now → t.bytes.now ≡ drop n s.bytes.now → GivesBytes bytes_left stays s (take n s.bytes.now) t
+  gives_bytes s t n some l after = gives_bytes_taken s t n some l after (take n s.bytes.now) refl

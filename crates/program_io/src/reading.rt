@@ -1,0 +1,212 @@
+//! Readers that are read one byte at a time, and tell what they hold in a buffer.
+ghost use Rattle.std.specs.Prelude.{◌≡◌, ◌≤◌, ℕ, Bool, false, List, [], length, take, Option, OnErr, Some, ⊤};
+ghost use Rattle.std.specs.Io.{ReadsAtMost};
+ghost use Rattle.std.specs.Io.KnownBytes.{ReadConsumes};
+ghost use Rattle.std.specs.Io.Buffered.{reader_buffer, reader_remaining};
+ghost use Rattle.program_io.specs.Bytes.{ReadsOne, GivesBytes, bytes_left, held_bytes, buffered_left};
+
+use std::io::{BufRead, BufReader, Read};
+
+/// A read failed.
+#[derive(Debug, Drop)]
+pub struct ReadFailed;
+
+/// Something that yields its bytes one at a time, as every reader does.
+pub trait ReadByte: Drop + Sized {
+    // The bytes that are left, where they are known.
+    ghost left: { Self → Option (List ℕ) };
+
+    // What every read keeps as it was, by whether it failed.
+    ghost stays: { Bool → Self → Self → Type 0 };
+
+    // The bytes that it holds in a buffer.
+    ghost in_buffer: { Self → List ℕ };
+
+    /// The next byte, or `None` at the end. A failed read takes no byte.
+    fn read_byte(&mut self) -> Result<Option<u8>, ReadFailed>
+        ensures { ReadsOne left stays self.old result self.new };
+
+    /// The bytes that it holds in a buffer, and yields next.
+    fn buffered(&self) -> &[u8]
+        ensures { result.now ≡ in_buffer self.now };
+
+    /// Takes the first `count` of the bytes that it holds in a buffer, as so many calls of `read_byte` would.
+    fn consume_buffered(&mut self, count: usize)
+        requires { count ≤ length (in_buffer self.old) }
+        ensures { GivesBytes left stays self.old (take count (in_buffer self.old)) self.new };
+}
+
+// Something that yields some bytes at each read or fails, as every reader does.
+trait ReadSome {
+    // The bytes that are left, where they are known.
+    ghost left: { Self → Option (List ℕ) };
+
+    // What a failed read leaves.
+    ghost failed: { Self → Self → Type 0 };
+
+    // One read.
+    fn read_some(&mut self, buf: &mut [u8]) -> Result<usize, ReadFailed>
+        ensures bound { ReadsAtMost result buf.new }
+        ensures bytes { ReadConsumes (left self.old) (left self.new) result buf.new }
+        ensures failed { OnErr result (failed self.old self.new) };
+}
+
+impl<R: Read> ReadSome for R {
+    ghost left = { R.remaining };
+
+    ghost failed = { λ _ _. ⊤ };
+
+    fn read_some(&mut self, buf: &mut [u8]) -> Result<usize, ReadFailed> {
+        self.read(buf).or(Err(ReadFailed))
+    }
+}
+
+// One read, for one byte. An interrupted read fails too.
+fn byte_of<R: ReadSome>(reader: &mut R) -> Result<Option<u8>, ReadFailed>
+    ensures one { ReadsOne R.left (λ _ _ _. ⊤) reader.old result reader.new }
+    ensures failed { OnErr result (R.failed reader.old reader.new) }
+{
+    let mut byte = [0u8; 1];
+    match reader.read_some(&mut byte) {
+        Ok(0) => Ok(None),
+        Ok(_) => Ok(Some(byte[0])),
+        Err(_) => Err(ReadFailed),
+    }
+}
+
+impl<R: Read + Drop> ReadByte for R {
+    ghost left = { R.remaining };
+
+    ghost stays = { λ _ _ _. ⊤ };
+
+    ghost in_buffer = { λ _. [] };
+
+    fn read_byte(&mut self) -> Result<Option<u8>, ReadFailed> {
+        byte_of(self)
+    }
+
+    /// None: what any reader holds is not known.
+    fn buffered(&self) -> &[u8] {
+        &[]
+    }
+
+    fn consume_buffered(&mut self, count: usize) {
+        let _ = count;
+    }
+}
+
+/// A reader that is lent. It stays the same reference, so what the reads leave is known to its owner.
+#[derive(Drop)]
+pub struct Lent<'a, R> {
+    pub reader: &'a mut R,
+}
+
+impl<R: ReadByte> ReadByte for Lent<'_, R> {
+    ghost left = { λ s. R.left s.reader.now };
+
+    ghost stays = { λ failed s t. (t.reader.ghost_name ≡ s.reader.ghost_name)
+        × R.stays failed s.reader.now t.reader.now };
+
+    ghost in_buffer = { λ s. R.in_buffer s.reader.now };
+
+    fn read_byte(&mut self) -> Result<Option<u8>, ReadFailed> {
+        self.reader.read_byte()
+    }
+
+    fn buffered(&self) -> &[u8] {
+        self.reader.buffered()
+    }
+
+    fn consume_buffered(&mut self, count: usize) {
+        self.reader.consume_buffered(count)
+    }
+}
+
+/// A buffered reader that tells what its buffer holds, so that a row that stands there whole is read at once.
+#[derive(Drop)]
+pub struct Buffered<R> {
+    reader: BufReader<R>,
+    // how many bytes of its buffer were yielded
+    given: usize,
+}
+
+impl<R: Read> Buffered<R> {
+    /// The bytes of `reader`. It reads nothing.
+    pub fn new(reader: BufReader<R>) -> Buffered<R>
+        ensures left { buffered_left R.remaining result ≡ reader_remaining R.remaining reader }
+        ensures held { held_bytes result ≡ reader_buffer reader }
+    {
+        Buffered { reader, given: 0 }
+    }
+}
+
+impl<R: Read + Drop> ReadByte for Buffered<R> {
+    ghost left = { buffered_left R.remaining };
+
+    ghost stays = { λ _ _ _. ⊤ };
+
+    ghost in_buffer = { held_bytes };
+
+    /// The next byte of the buffer. If that is empty, one read fills it, and this is what it yields.
+    fn read_byte(&mut self) -> Result<Option<u8>, ReadFailed> {
+        let Some(byte) = self.reader.buffer().get(self.given) else {
+            self.reader.consume(self.given);
+            self.given = 0;
+            return byte_of(&mut self.reader);
+        };
+        let byte = *byte;
+        self.given += 1;
+        Ok(Some(byte))
+    }
+
+    fn buffered(&self) -> &[u8] {
+        let held = self.reader.buffer();
+        &held[self.given.min(held.len())..]
+    }
+
+    fn consume_buffered(&mut self, count: usize) {
+        self.given += count;
+    }
+}
+
+/// Bytes, as a reader whose reads never fail. Of `&[u8]` as a reader that isn't known where any reader may stand.
+#[derive(Drop)]
+pub struct Bytes<'a> {
+    bytes: &'a [u8],
+}
+
+impl<'a> Bytes<'a> {
+    /// A reader of these bytes.
+    pub fn new(bytes: &'a [u8]) -> Bytes<'a>
+        ensures { bytes_left result ≡ Some bytes.now }
+    {
+        Bytes { bytes }
+    }
+}
+
+impl ReadByte for Bytes<'_> {
+    ghost left = { bytes_left };
+
+    ghost stays = { λ failed _ _. failed ≡ false };
+
+    ghost in_buffer = { λ s. s.bytes.now };
+
+    fn read_byte(&mut self) -> Result<Option<u8>, ReadFailed> {
+        let Some((first, rest)) = self.bytes.split_first() else {
+            return Ok(None);
+        };
+        self.bytes = rest;
+        Ok(Some(*first))
+    }
+
+    fn buffered(&self) -> &[u8] {
+        self.bytes
+    }
+
+    fn consume_buffered(&mut self, count: usize) {
+        // Where none is taken, the value stays as it is.
+        if count > 0 {
+            self.bytes = &self.bytes[count..];
+        }
+    }
+}

@@ -1,0 +1,146 @@
+use crate::Fail;
+use fallible_iterator::memory::AllocError;
+
+use std::io::{BufRead, BufReader, Read};
+
+/// A read failed.
+#[derive(Debug)]
+pub struct ReadFailed;
+
+/// Something that yields its bytes one at a time, as every reader does.
+pub trait ReadByte: Sized {
+    /// The next byte, or `None` at the end. A failed read takes no byte.
+    fn read_byte(&mut self) -> Result<Option<u8>, ReadFailed>;
+
+    /// The bytes that it holds in a buffer, and yields next.
+    fn buffered(&self) -> &[u8];
+
+    /// Takes the first `count` of the bytes that it holds in a buffer, as so many calls of `read_byte` would.
+    fn consume_buffered(&mut self, count: usize);
+}
+
+// Something that yields some bytes at each read or fails, as every reader does.
+trait ReadSome {
+    // One read.
+    fn read_some(&mut self, buf: &mut [u8]) -> Result<usize, ReadFailed>;
+}
+
+impl<R: Read> ReadSome for R {
+    fn read_some(&mut self, buf: &mut [u8]) -> Result<usize, ReadFailed> {
+        self.read(buf).or(Err(ReadFailed))
+    }
+}
+
+// One read, for one byte. An interrupted read fails too.
+fn byte_of<R: ReadSome>(reader: &mut R) -> Result<Option<u8>, ReadFailed> {
+    let mut byte = [0u8; 1];
+    match reader.read_some(&mut byte) {
+        Ok(0) => Ok(None),
+        Ok(_) => Ok(Some(byte[0])),
+        Err(_) => Err(ReadFailed),
+    }
+}
+
+impl<R: Read> ReadByte for R {
+    fn read_byte(&mut self) -> Result<Option<u8>, ReadFailed> {
+        byte_of(self)
+    }
+
+    /// None: what any reader holds is not known.
+    fn buffered(&self) -> &[u8] {
+        &[]
+    }
+
+    fn consume_buffered(&mut self, count: usize) {
+        let _ = count;
+    }
+}
+
+/// A reader that is lent. It stays the same reference, so what the reads leave is known to its owner.
+pub struct Lent<'a, R> {
+    pub reader: &'a mut R,
+}
+
+impl<R: ReadByte> ReadByte for Lent<'_, R> {
+    fn read_byte(&mut self) -> Result<Option<u8>, ReadFailed> {
+        self.reader.read_byte()
+    }
+
+    fn buffered(&self) -> &[u8] {
+        self.reader.buffered()
+    }
+
+    fn consume_buffered(&mut self, count: usize) {
+        self.reader.consume_buffered(count)
+    }
+}
+
+/// A buffered reader that tells what its buffer holds, so that a row that stands there whole is read at once.
+pub struct Buffered<R> {
+    reader: BufReader<R>,
+    // how many bytes of its buffer were yielded
+    given: usize,
+}
+
+impl<R: Read> Buffered<R> {
+    /// The bytes of `reader`. It reads nothing.
+    pub fn new(reader: BufReader<R>) -> Buffered<R> {
+        Buffered { reader, given: 0 }
+    }
+}
+
+impl<R: Read> ReadByte for Buffered<R> {
+    /// The next byte of the buffer. If that is empty, one read fills it, and this is what it yields.
+    fn read_byte(&mut self) -> Result<Option<u8>, ReadFailed> {
+        let Some(byte) = self.reader.buffer().get(self.given) else {
+            self.reader.consume(self.given);
+            self.given = 0;
+            return byte_of(&mut self.reader);
+        };
+        let byte = *byte;
+        self.given += 1;
+        Ok(Some(byte))
+    }
+
+    fn buffered(&self) -> &[u8] {
+        let held = self.reader.buffer();
+        &held[self.given.min(held.len())..]
+    }
+
+    fn consume_buffered(&mut self, count: usize) {
+        self.given += count;
+    }
+}
+
+/// Bytes, as a reader whose reads never fail. Of `&[u8]` as a reader that isn't known where any reader may stand.
+pub struct Bytes<'a> {
+    bytes: &'a [u8],
+}
+
+impl<'a> Bytes<'a> {
+    /// A reader of these bytes.
+    pub fn new(bytes: &'a [u8]) -> Bytes<'a> {
+        Bytes { bytes }
+    }
+}
+
+impl ReadByte for Bytes<'_> {
+    fn read_byte(&mut self) -> Result<Option<u8>, ReadFailed> {
+        let Some((first, rest)) = self.bytes.split_first() else {
+            return Ok(None);
+        };
+        self.bytes = rest;
+        Ok(Some(*first))
+    }
+
+    fn buffered(&self) -> &[u8] {
+        self.bytes
+    }
+
+    fn consume_buffered(&mut self, count: usize) {
+        // Where none is taken, the value stays as it is.
+        if count > 0 {
+            self.bytes = &self.bytes[count..];
+        }
+    }
+}
