@@ -44,6 +44,7 @@ pub mod Parting
 pub mod PartingHints
 pub mod PartingTraces
 pub mod PeekingTakeWhile
+pub mod PositionBest
 pub mod Positions
 pub mod Sides
 pub mod Sorted

@@ -38,6 +38,7 @@ pub mod PartitionMap
 pub mod Parted
 pub mod Parting
 pub mod PeekingTakeWhile
+pub mod PositionBest
 pub mod Positions
 pub mod Sides
 pub mod Sorted

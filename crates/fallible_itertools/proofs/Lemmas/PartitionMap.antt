@@ -37,7 +37,7 @@ module _ {A B : Type 0} where
 -- ---- a drain of what is seen as its parts
 
 module _ {S P A E : Type 0} (view : S → P) (steps : P → Answered A E → P → Type 0) where
-  run_seen : (trace : List (Answered A E)) (s t : S) → Run (λ u r v. steps (view u) r (view v)) s trace t → Run steps (view s) trace (view t)
+  pub run_seen : (trace : List (Answered A E)) (s t : S) → Run (λ u r v. steps (view u) r (view v)) s trace t → Run steps (view s) trace (view t)
   run_seen [] s t ran = ap view ran
   run_seen (r ∷ rest) s t ran = (view ran.0, ran.1, run_seen rest ran.0 t ran.2)
 
