@@ -40,3 +40,45 @@ impl<A: PartialEq, E> Turn<Option<A>, A, Result<bool, E>> for AllEqualTurn {
         }
     }
 }
+
+/// The turn of `all_equal_value`, whose state is the first item, if one came: it stops with an item that the first one doesn't equal.
+pub struct UnequalTurn;
+
+impl<A: PartialEq, E> Turn<Option<A>, A, Result<Option<A>, E>> for UnequalTurn {
+    /// Keeps the first item, and compares each later one with it.
+    #[inline(always)]
+    fn turn(&self, state: &mut Option<A>, item: A) -> ControlFlow<Result<Option<A>, E>, ()> {
+        if let Some(first) = state {
+            if *first == item {
+                ControlFlow::Continue(())
+            } else {
+                ControlFlow::Break(Ok(Some(item)))
+            }
+        } else {
+            *state = Some(item);
+            ControlFlow::Continue(())
+        }
+    }
+}
+
+/// Returns the first item, if nothing differs from it, or both.
+///
+/// <details><summary>Contract</summary>
+///
+/// As it is proved, in [these words](crate::words):
+///
+/// ```text
+/// ensures { result ≡ value_or_both first found }
+/// ```
+/// </details>
+pub fn first_or_both<A, E>(
+    first: Option<A>,
+    found: Result<Option<A>, E>,
+) -> Result<Result<A, Option<(A, A)>>, E> {
+    match (first, found) {
+        (_, Err(e)) => Err(e),
+        (None, Ok(_)) => Ok(Err(None)),
+        (Some(x), Ok(None)) => Ok(Ok(x)),
+        (Some(x), Ok(Some(y))) => Ok(Err(Some((x, y)))),
+    }
+}

@@ -14,7 +14,7 @@ use crate::counts::Tally;
 use crate::dedup::Dedup;
 use crate::dedup_by::DedupBy;
 use crate::dedup_by_key::DedupByKey;
-use crate::equal::{AllEqualTurn, ContainsTurn};
+use crate::equal::{AllEqualTurn, ContainsTurn, UnequalTurn, first_or_both};
 use crate::err_into::ErrInto;
 use crate::exactly_one::NotOne;
 use crate::find_or_last::{FindFirstTurn, FindLastTurn, or_kept};
@@ -38,6 +38,7 @@ use crate::or_else::OrElse;
 use crate::pad_using::PadUsing;
 use crate::parted::Parted;
 use crate::partition_map::Either;
+use crate::position_best::{first_is_less, place_alone};
 use crate::positions::Positions;
 use crate::sides::Holding;
 #[cfg(feature = "alloc")]
@@ -590,6 +591,54 @@ pub trait FallibleItertools: FallibleIterator + Sized {
         Self::Item: PartialEq,
     {
         answer_or(self.drive(&mut None, &AllEqualTurn), true)
+    }
+
+    /// Returns the first item, if it equals each later one: `Ok(Ok(item))`. Of items that aren't all equal it returns the first one and the first that it doesn't equal, `Ok(Err(Some((item, other))))`, and of no items `Ok(Err(None))`.
+    ///
+    /// Draws, errors and what is left: as `all_equal`.
+    ///
+    /// Precondition, which is not checked: the iterator is finite.
+    ///
+    /// ```
+    /// # use fallible_iterator::{FallibleIterator, convert};
+    /// # use fallible_itertools::DoubleEndedFallibleItertools;
+    /// # use fallible_itertools::FallibleItertools;
+    /// let mut it = convert([Ok::<u32, u8>(7), Ok(7), Ok(150), Ok(8)].into_iter());
+    /// assert_eq!(it.all_equal_value(), Ok(Err(Some((7, 150)))));
+    /// assert_eq!(it.all_equal_value(), Ok(Ok(8)));
+    /// assert_eq!(it.all_equal_value(), Ok(Err(None)));
+    /// ```
+    ///
+    /// <details><summary>Contract</summary>
+    ///
+    /// As it is proved, in [these words](crate::words):
+    ///
+    /// ```text
+    /// requires can_next { Self.contract.can_next self.old }
+    /// requires finite { Self.contract.is_finite self.old }
+    /// ensures searched { (first : Option Self.Item) × (found : Result (Option Self.Item) Self.Error)
+    ///     × search.SearchDrains (FirstCall Self.Item.eq) unequal_pick Self.contract.steps None
+    ///     self.old None found self.new first × (result ≡ value_or_both first found) }
+    /// ensures value { OverList Self.contract.steps self.old
+    ///     (λ l. result ≡ equal_value Self.Item.eq l) }
+    /// ensures rest_unequal { OverList Self.contract.steps self.old
+    ///     (λ l. (x y : Self.Item) → result ≡ Ok (Err (Some (x, y)))
+    ///     → list.Lists Self.contract.steps self.new (rest_unequal Self.Item.eq l)) }
+    /// ensures rest_failed { OverList Self.contract.steps self.old
+    ///     (λ l. (e : Self.Error) → result ≡ Err e
+    ///     → list.Lists Self.contract.steps self.new (rest_unequal Self.Item.eq l)) }
+    /// ensures stays { Stays Self.contract self.old self.new }
+    /// ```
+    /// </details>
+    fn all_equal_value(
+        &mut self,
+    ) -> Result<Result<Self::Item, Option<(Self::Item, Self::Item)>>, Self::Error>
+    where
+        Self::Item: PartialEq,
+    {
+        let mut first = None;
+        let found = answer_or_none(self.drive(&mut first, &UnequalTurn));
+        first_or_both(first, found)
     }
 
     /// Returns the first item on which the predicate returns true, beside how many items come before it; `Ok(None)` if there is none.
@@ -1514,6 +1563,80 @@ pub trait FallibleItertools: FallibleIterator + Sized {
             Ok(Err((first, second))) => Ok(Err(NotOne::More(first, second))),
             Err(e) => Err(e),
         }
+    }
+
+    /// Returns how many items come before the greatest one, of equal ones before the last; `Ok(None)` if no item comes.
+    ///
+    /// Draws and errors: as `fold`. It consumes the iterator too.
+    ///
+    /// Precondition, which is not checked: the iterator is finite, and at most `usize::MAX` items are left, so that each position fits.
+    ///
+    /// ```
+    /// # use fallible_iterator::{FallibleIterator, convert};
+    /// # use fallible_itertools::DoubleEndedFallibleItertools;
+    /// # use fallible_itertools::FallibleItertools;
+    /// let readings = [Ok::<u32, u8>(150), Ok(7), Ok(150), Ok(8)];
+    /// assert_eq!(convert(readings.into_iter()).position_max(), Ok(Some(2)));
+    /// ```
+    ///
+    /// <details><summary>Contract</summary>
+    ///
+    /// As it is proved, in [these words](crate::words):
+    ///
+    /// ```text
+    /// requires can_next { Self.contract.can_next self }
+    /// requires finite { Self.contract.is_finite self }
+    /// requires fits { AtMost Self.contract self (2 ^ 64 - 1) }
+    /// ensures picked { PlaceDrains Greater Self.Item.cmp Self.contract self result }
+    /// ensures value { OverList Self.contract.steps self
+    ///     (λ l. result ≡ position_greatest Self.Item.cmp l) }
+    /// ```
+    /// </details>
+    fn position_max(self) -> Result<Option<usize>, Self::Error>
+    where
+        Self::Item: Ord,
+    {
+        let compare = |best: &(usize, Self::Item),
+                       x: &(usize, Self::Item)|
+         -> Result<Ordering, Self::Error> { Ok(best.1.cmp(&x.1)) };
+        place_alone(self.enumerate().max_by(compare))
+    }
+
+    /// Returns how many items come before the least one, of equal ones before the first; `Ok(None)` if no item comes.
+    ///
+    /// Draws, errors and precondition: as `position_max`. It consumes the iterator too.
+    ///
+    /// ```
+    /// # use fallible_iterator::{FallibleIterator, convert};
+    /// # use fallible_itertools::DoubleEndedFallibleItertools;
+    /// # use fallible_itertools::FallibleItertools;
+    /// let readings = [Ok::<u32, u8>(150), Ok(7), Ok(8), Ok(7)];
+    /// assert_eq!(convert(readings.into_iter()).position_min(), Ok(Some(1)));
+    /// ```
+    ///
+    /// <details><summary>Contract</summary>
+    ///
+    /// As it is proved, in [these words](crate::words):
+    ///
+    /// ```text
+    /// requires can_next { Self.contract.can_next self }
+    /// requires finite { Self.contract.is_finite self }
+    /// requires fits { AtMost Self.contract self (2 ^ 64 - 1) }
+    /// ensures picked { PlaceDrains Less (λ x y. or_less (Self.Item.cmp x y)) Self.contract self
+    ///     result }
+    /// ensures value { OverList Self.contract.steps self
+    ///     (λ l. result ≡ position_least Self.Item.cmp l) }
+    /// ```
+    /// </details>
+    fn position_min(self) -> Result<Option<usize>, Self::Error>
+    where
+        Self::Item: Ord,
+    {
+        let compare =
+            |best: &(usize, Self::Item),
+             x: &(usize, Self::Item)|
+             -> Result<Ordering, Self::Error> { Ok(first_is_less(best.1.cmp(&x.1))) };
+        place_alone(self.enumerate().min_by(compare))
     }
 
     /// Returns the first of the least items and the last of the greatest, in one pass. For one item it returns `OneElement`, for none `NoElements`.

@@ -54,6 +54,15 @@ pub fn above_100_equal(readings: Vec<Result<u32, u8>>) -> Result<bool, u8> {
         .all_equal()
 }
 
+/// The one value of the readings above 100; or the first two that differ; or nothing, if there is none; or the first failure.
+pub fn value_above_100(
+    readings: Vec<Result<u32, u8>>,
+) -> Result<Result<u32, Option<(u32, u32)>>, u8> {
+    convert(readings.into_iter())
+        .filter(|reading| Ok(*reading > 100))
+        .all_equal_value()
+}
+
 /// Whether a reading is 0, or the failure that comes before it.
 pub fn has_zero(readings: Vec<Result<u32, u8>>) -> Result<bool, u8> {
     let mut it = convert(readings.into_iter());

@@ -142,3 +142,30 @@ fn searches_stop_where_they_find() {
     }
     let _ = tested();
 }
+
+// What `all_equal_value` returns, and what the next draw returns.
+type Value = (Result<Result<u32, Option<(u32, u32)>>, u32>, Drawn);
+
+const VALUES: [(Numbers, Value); 5] = [
+    (&[], (Ok(Err(None)), END)),
+    (&[Ok(7)], (Ok(Ok(7)), END)),
+    (&[Ok(7), Ok(7)], (Ok(Ok(7)), END)),
+    (
+        &[Ok(7), Ok(7), Ok(8), Ok(6)],
+        (Ok(Err(Some((7, 8)))), Ok(Some(6))),
+    ),
+    (&[Ok(7), Err(9), Ok(8)], (Err(9), Ok(Some(8)))),
+];
+
+#[test]
+fn all_equal_value_has_one_or_two() {
+    fn tested() -> Result<(), Fail> {
+        for (answers, expected) in &VALUES {
+            let mut it = numbers(answers);
+            let value = it.all_equal_value();
+            expect_same(&(value, it.next()), expected)?;
+        }
+        Ok(())
+    }
+    let _ = tested();
+}
