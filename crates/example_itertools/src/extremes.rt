@@ -9,6 +9,7 @@ ghost use Rattle.fallible_itertools.specs.GroupMap.{IsGroupMapOf};
 ghost use Rattle.fallible_itertools.specs.Keyed.{keyed};
 ghost use Rattle.fallible_itertools.specs.MinMax.{minmaxed};
 ghost use Rattle.fallible_itertools.specs.PartitionMap.{MadeOfEithers};
+ghost use Rattle.fallible_itertools.specs.PositionBest.{position_greatest, position_least};
 ghost use Rattle.fallible_itertools.specs.Sorted.{IsSortedByKeyOf, IsSortedByTest, IsSortedOf};
 ghost use Rattle.fallible_itertools.specs.declared.partition_map.Either.TheVariants.{Left, Right};
 
@@ -28,6 +29,20 @@ pub fn span_above_100(readings: Vec<Result<u32, u8>>) -> Result<MinMaxResult<u32
     convert(readings.into_iter())
         .filter(|reading| Ok(*reading > 100))
         .minmax()
+}
+
+/// How many readings come before the greatest, of equal ones before the last, or the first failure.
+pub fn place_of_greatest(readings: Vec<Result<u32, u8>>) -> Result<Option<usize>, u8>
+    ensures { result ≡ position_greatest nat_cmp (results readings.items) }
+{
+    convert(readings.into_iter()).position_max()
+}
+
+/// How many readings come before the least, of equal ones before the first, or the first failure.
+pub fn place_of_least(readings: Vec<Result<u32, u8>>) -> Result<Option<usize>, u8>
+    ensures { result ≡ position_least nat_cmp (results readings.items) }
+{
+    convert(readings.into_iter()).position_min()
 }
 
 /// The only reading above 100, if there is one, and otherwise the first two.

@@ -51,6 +51,7 @@ pub mod PartingHints
 pub mod PartingTraces
 pub mod PartitionMap
 pub mod PeekingTakeWhile
+pub mod PositionBest
 pub mod Positions
 pub mod Sides
 pub mod Sorted

@@ -39,6 +39,7 @@ pub mod PartitionMap
 pub mod Parted
 pub mod Parting
 pub mod PeekingTakeWhile
+pub mod PositionBest
 pub mod Positions
 pub mod Sides
 pub mod Sorted

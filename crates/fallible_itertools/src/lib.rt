@@ -41,6 +41,7 @@ pub mod pad_using;
 mod parted;
 pub mod partition_map;
 pub mod peeking_take_while;
+mod position_best;
 pub mod positions;
 mod sides;
 mod sorted;

@@ -7,6 +7,7 @@ ghost use Rattle.std.specs.Cmp.{IsStrictWeakOrder};
 ghost use Rattle.std.specs.Fn.{ComparesAs, ComputesKey};
 ghost use Rattle.std.specs.Iterator.{IsFinite};
 ghost use Rattle.std.specs.declared.cmp.Ordering.{Ordering};
+ghost use Rattle.std.specs.declared.cmp.Ordering.TheVariants.{Greater, Less};
 ghost use Rattle.fallible_iterator.specs.Clauses.{OverList, OverListWith, OverBoth};
 ghost use Rattle.fallible_iterator.specs.Closures.{IsCallable, call_at, takes_at, call_on, takes_on};
 ghost use Rattle.fallible_iterator.specs.Collecting.{Collects};
@@ -46,8 +47,9 @@ ghost use Rattle.fallible_iterator.specs.Sources.FromFn.{call_of_none};
 ghost use Rattle.fallible_itertools.specs.Join.{JoinedAs};
 ghost use Rattle.fallible_itertools.specs.Merge.{merge_contract, merge_left, merge_left_ended, merge_left_held, merge_parts, merge_right, merge_right_ended, merge_right_held, merged_in_order};
 ghost use Rattle.fallible_itertools.specs.MergeBy as merge_by;
-ghost use Rattle.fallible_itertools.specs.MinMax.{MinMaxDrains, minmaxed};
+ghost use Rattle.fallible_itertools.specs.MinMax.{MinMaxDrains, minmaxed, or_less};
 ghost use Rattle.fallible_itertools.specs.PadUsing as pad_using;
+ghost use Rattle.fallible_itertools.specs.PositionBest.{PlaceDrains, position_greatest, position_least};
 ghost use Rattle.fallible_itertools.specs.Positions.{positions_contract, positions_parts, positions_source, positions_where};
 ghost use Rattle.fallible_itertools.specs.Parted.{PartitionedFailuresAs, parted_step, without_source};
 ghost use Rattle.fallible_itertools.specs.PartitionMap.{EitherRefused, MadeOfEithers};
@@ -103,6 +105,7 @@ use crate::or_else::OrElse;
 use crate::pad_using::PadUsing;
 use crate::parted::{Parted, without_fault};
 use crate::partition_map::Either;
+use crate::position_best::{first_is_less, place_alone};
 use crate::positions::Positions;
 use crate::sides::Holding;
 use crate::sorted::{sorted_items, sorted_items_by, sorted_items_by_key};
@@ -1362,6 +1365,65 @@ pub trait FallibleItertools: FallibleIterator {
             Ok(Err((first, second))) => Ok(Err(NotOne::More(first, second))),
             Err(e) => Err(e),
         }
+    }
+
+    /// Returns how many items come before the greatest one, of equal ones before the last; `Ok(None)` if no item comes.
+    ///
+    /// Draws and errors: as `fold`. It consumes the iterator too.
+    ///
+    /// Precondition: the iterator is finite, and at most `usize::MAX` items are left, so that each position fits.
+    ///
+    /// Requires: `next` may be called.
+    ///
+    /// ```
+    /// let readings = [Ok::<u32, u8>(150), Ok(7), Ok(150), Ok(8)];
+    /// assert_eq!(rt; convert(readings.into_iter()).position_max(), Ok(Some(2)));
+    /// ```
+    final fn position_max(self) -> Result<Option<usize>, Self::Error>
+    where
+        Self::Item: Ord + Drop,
+        requires can_next { Self.contract.can_next self }
+        requires finite { Self.contract.is_finite self }
+        requires fits { AtMost Self.contract self (2 ^ 64 - 1) }
+        ensures picked { PlaceDrains Greater Self.Item.cmp Self.contract self result }
+        ensures value { OverList Self.contract.steps self
+            (λ l. result ≡ position_greatest Self.Item.cmp l) }
+    {
+        let compare = |best: &(usize, Self::Item), x: &(usize, Self::Item)| -> Result<
+            Ordering,
+            Self::Error,
+        >
+            ensures { result ≡ Ok (Self.Item.cmp best.now.1 x.now.1) }
+        { Ok(best.1.cmp(&x.1)) };
+        place_alone(self.enumerate().max_by(compare))
+    }
+
+    /// Returns how many items come before the least one, of equal ones before the first; `Ok(None)` if no item comes.
+    ///
+    /// Draws, errors and precondition: as `position_max`. It consumes the iterator too.
+    ///
+    /// ```
+    /// let readings = [Ok::<u32, u8>(150), Ok(7), Ok(8), Ok(7)];
+    /// assert_eq!(rt; convert(readings.into_iter()).position_min(), Ok(Some(1)));
+    /// ```
+    final fn position_min(self) -> Result<Option<usize>, Self::Error>
+    where
+        Self::Item: Ord + Drop,
+        requires can_next { Self.contract.can_next self }
+        requires finite { Self.contract.is_finite self }
+        requires fits { AtMost Self.contract self (2 ^ 64 - 1) }
+        ensures picked { PlaceDrains Less (λ x y. or_less (Self.Item.cmp x y)) Self.contract self
+            result }
+        ensures value { OverList Self.contract.steps self
+            (λ l. result ≡ position_least Self.Item.cmp l) }
+    {
+        let compare = |best: &(usize, Self::Item), x: &(usize, Self::Item)| -> Result<
+            Ordering,
+            Self::Error,
+        >
+            ensures { result ≡ Ok (or_less (Self.Item.cmp best.now.1 x.now.1)) }
+        { Ok(first_is_less(best.1.cmp(&x.1))) };
+        place_alone(self.enumerate().min_by(compare))
     }
 
     /// Returns the first of the least items and the last of the greatest, in one pass. For one item it returns `OneElement`, for none `NoElements`.

@@ -90,6 +90,7 @@ mod parted;
 pub mod partition_map;
 #[doc(hidden)]
 pub mod peeking_take_while;
+mod position_best;
 #[doc(hidden)]
 pub mod positions;
 mod sides;

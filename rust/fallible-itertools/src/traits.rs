@@ -39,6 +39,7 @@ use crate::or_else::OrElse;
 use crate::pad_using::PadUsing;
 use crate::parted::Parted;
 use crate::partition_map::Either;
+use crate::position_best::{first_is_less, place_alone};
 use crate::positions::Positions;
 use crate::sides::Holding;
 #[cfg(feature = "alloc")]
@@ -1566,6 +1567,80 @@ pub trait FallibleItertools: FallibleIterator + Sized {
             Ok(Err((first, second))) => Ok(Err(NotOne::More(first, second))),
             Err(e) => Err(e),
         }
+    }
+
+    /// Returns how many items come before the greatest one, of equal ones before the last; `Ok(None)` if no item comes.
+    ///
+    /// Draws and errors: as `fold`. It consumes the iterator too.
+    ///
+    /// Precondition, which is not checked: the iterator is finite, and at most `usize::MAX` items are left, so that each position fits.
+    ///
+    /// ```
+    /// # use fallible_iterator::{FallibleIterator, convert};
+    /// # use fallible_itertools::DoubleEndedFallibleItertools;
+    /// # use fallible_itertools::FallibleItertools;
+    /// let readings = [Ok::<u32, u8>(150), Ok(7), Ok(150), Ok(8)];
+    /// assert_eq!(convert(readings.into_iter()).position_max(), Ok(Some(2)));
+    /// ```
+    ///
+    /// <details><summary>Contract</summary>
+    ///
+    /// As it is proved, in [these words](crate::words):
+    ///
+    /// ```text
+    /// requires can_next { Self.contract.can_next self }
+    /// requires finite { Self.contract.is_finite self }
+    /// requires fits { AtMost Self.contract self (2 ^ 64 - 1) }
+    /// ensures picked { PlaceDrains Greater Self.Item.cmp Self.contract self result }
+    /// ensures value { OverList Self.contract.steps self
+    ///     (λ l. result ≡ position_greatest Self.Item.cmp l) }
+    /// ```
+    /// </details>
+    fn position_max(self) -> Result<Option<usize>, Self::Error>
+    where
+        Self::Item: Ord,
+    {
+        let compare = |best: &(usize, Self::Item),
+                       x: &(usize, Self::Item)|
+         -> Result<Ordering, Self::Error> { Ok(best.1.cmp(&x.1)) };
+        place_alone(self.enumerate().max_by(compare))
+    }
+
+    /// Returns how many items come before the least one, of equal ones before the first; `Ok(None)` if no item comes.
+    ///
+    /// Draws, errors and precondition: as `position_max`. It consumes the iterator too.
+    ///
+    /// ```
+    /// # use fallible_iterator::{FallibleIterator, convert};
+    /// # use fallible_itertools::DoubleEndedFallibleItertools;
+    /// # use fallible_itertools::FallibleItertools;
+    /// let readings = [Ok::<u32, u8>(150), Ok(7), Ok(8), Ok(7)];
+    /// assert_eq!(convert(readings.into_iter()).position_min(), Ok(Some(1)));
+    /// ```
+    ///
+    /// <details><summary>Contract</summary>
+    ///
+    /// As it is proved, in [these words](crate::words):
+    ///
+    /// ```text
+    /// requires can_next { Self.contract.can_next self }
+    /// requires finite { Self.contract.is_finite self }
+    /// requires fits { AtMost Self.contract self (2 ^ 64 - 1) }
+    /// ensures picked { PlaceDrains Less (λ x y. or_less (Self.Item.cmp x y)) Self.contract self
+    ///     result }
+    /// ensures value { OverList Self.contract.steps self
+    ///     (λ l. result ≡ position_least Self.Item.cmp l) }
+    /// ```
+    /// </details>
+    fn position_min(self) -> Result<Option<usize>, Self::Error>
+    where
+        Self::Item: Ord,
+    {
+        let compare =
+            |best: &(usize, Self::Item),
+             x: &(usize, Self::Item)|
+             -> Result<Ordering, Self::Error> { Ok(first_is_less(best.1.cmp(&x.1))) };
+        place_alone(self.enumerate().min_by(compare))
     }
 
     /// Returns the first of the least items and the last of the greatest, in one pass. For one item it returns `OneElement`, for none `NoElements`.

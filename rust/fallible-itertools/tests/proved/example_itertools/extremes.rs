@@ -14,6 +14,16 @@ pub fn span_above_100(readings: Vec<Result<u32, u8>>) -> Result<MinMaxResult<u32
         .minmax()
 }
 
+/// How many readings come before the greatest, of equal ones before the last, or the first failure.
+pub fn place_of_greatest(readings: Vec<Result<u32, u8>>) -> Result<Option<usize>, u8> {
+    convert(readings.into_iter()).position_max()
+}
+
+/// How many readings come before the least, of equal ones before the first, or the first failure.
+pub fn place_of_least(readings: Vec<Result<u32, u8>>) -> Result<Option<usize>, u8> {
+    convert(readings.into_iter()).position_min()
+}
+
 /// The only reading above 100, if there is one, and otherwise the first two.
 pub fn only_above_100(
     readings: Vec<Result<u32, u8>>,

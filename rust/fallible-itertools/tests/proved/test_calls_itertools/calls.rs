@@ -314,6 +314,49 @@ fn searches_and_folds_through_a_borrow_are_one_fold_each() {
     assert_eq!((sum, done, log.take()), FOLDED_WHILE);
 }
 
+// What `find_position` and `is_sorted_by` return, and the calls of both.
+type PlacedAndSorted = (Result<Option<(usize, u32)>, u32>, Result<bool, u32>, Calls);
+
+const PLACED_AND_SORTED: PlacedAndSorted = (Ok(Some((1, 2))), Ok(false), TWO_FOLDS);
+
+// Whether the first is no greater.
+fn is_up(x: &u32, y: &u32) -> Result<bool, u32> {
+    Ok(*x <= *y)
+}
+
+#[test]
+fn find_position_and_is_sorted_by_are_one_fold_each() {
+    let log = Log::new();
+    let answers = [Ok(3), Ok(2), Ok(4)];
+    let mut it = counted(&answers, &log);
+    let placed = it.find_position(at_two);
+    let is_sorted = counted(&answers, &log).is_sorted_by(is_up);
+    assert_eq!((placed, is_sorted, log.take()), PLACED_AND_SORTED);
+}
+
+// The number of items, the last one, and the calls of both.
+type Converted = (Result<usize, u64>, Result<Option<u32>, u64>, Calls);
+
+const CONVERTED: Converted = (
+    Ok(2),
+    Ok(Some(6)),
+    Calls {
+        counts: 1,
+        lasts: 1,
+        ..NO_CALL
+    },
+);
+
+// It has no count and no last of its own, but the source's.
+#[test]
+fn err_into_counts_by_its_source() {
+    let log = Log::new();
+    let answers = [Ok(5), Ok(6)];
+    let number = counted(&answers, &log).err_into::<u64>().count();
+    let last = counted(&answers, &log).err_into::<u64>().last();
+    assert_eq!((number, last, log.take()), CONVERTED);
+}
+
 // What `all_equal_value` returns, and the calls that come for it.
 type OneValue = (Result<Result<u32, Option<(u32, u32)>>, u32>, Calls);
 
@@ -336,6 +379,10 @@ const TOTALS: ([Result<Option<u32>, u32>; 2], Calls) = ([Ok(Some(5)), Ok(Some(4)
 // What the fold of each answers, and the calls of both.
 const FOUND: ([Result<Option<u32>, u32>; 2], Calls) = ([Ok(Some(2)), Ok(Some(1))], TWO_FOLDS);
 
+// Where the greatest and the least stand, and the calls of both.
+const BEST_PLACES: ([Result<Option<usize>, u32>; 2], Calls) =
+    ([Ok(Some(2)), Ok(Some(1))], TWO_FOLDS);
+
 const SORTED: (Result<bool, u32>, Calls) = (Ok(false), ONE_FOLD);
 
 const BOTH_MADE: (bool, bool, Calls) = (true, true, TWO_FOLDS);
@@ -354,11 +401,48 @@ fn consumers_that_take_the_iterator_are_one_fold_each() {
         counted(&answers[1..], &log).find_or_first(at_three),
     ];
     assert_eq!((found, log.take()), FOUND);
+    let places = [
+        counted(&answers, &log).position_max(),
+        counted(&answers, &log).position_min(),
+    ];
+    assert_eq!((places, log.take()), BEST_PLACES);
     let is_sorted = counted(&answers, &log).is_sorted_by_key(kept);
     assert_eq!((is_sorted, log.take()), SORTED);
     let counts = counted(&answers, &log).counts();
     let text = counted(&answers, &log).join(", ");
     assert_eq!((counts.is_ok(), text.is_ok(), log.take()), BOTH_MADE);
+}
+
+// Whether each was made, and the calls of all: a fold for each of the first four, and four draws for the last, up to the end.
+const ALL_MADE: ([bool; 5], Calls) = (
+    [true, true, true, true, true],
+    Calls {
+        nexts: 4,
+        folds: 4,
+        ..NO_CALL
+    },
+);
+
+// `partition_failures` goes on behind a failure, so it draws one by one.
+#[test]
+fn collections_by_a_closure_fold_and_those_apart_draw() {
+    let log = Log::new();
+    let answers = [Ok(2), Ok(1), Ok(2)];
+    let counts = counted(&answers, &log).counts_by(kept);
+    let groups = counted(&answers, &log).into_group_map_by(|x: &u32| Ok(*x));
+    let sorted = counted(&answers, &log).sorted_by(|x: &u32, y: &u32| y.cmp(x));
+    let mut it = counted(&answers, &log);
+    let until: Result<(Vec<u32>, Option<u32>), AllocError> = it.collect_until_failure();
+    let apart: Result<(Vec<u32>, Vec<u32>), AllocError> =
+        counted(&answers, &log).partition_failures();
+    let made = [
+        counts.is_ok(),
+        groups.is_ok(),
+        sorted.is_ok(),
+        until.is_ok(),
+        apart.is_ok(),
+    ];
+    assert_eq!((made, log.take()), ALL_MADE);
 }
 
 type Extremes = (Result<MinMaxResult<u32>, u32>, Calls);

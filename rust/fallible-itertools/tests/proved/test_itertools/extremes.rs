@@ -67,6 +67,34 @@ fn both_extremes() {
     let _ = tested();
 }
 
+// Where the greatest item stands, and where the least.
+type Place = Result<Option<usize>, u32>;
+
+const PLACES: [(Numbers, [Place; 2]); 4] = [
+    (&[], [Ok(None), Ok(None)]),
+    (&[Ok(3)], [Ok(Some(0)), Ok(Some(0))]),
+    (
+        &[Ok(3), Ok(4), Ok(1), Ok(4), Ok(1)],
+        [Ok(Some(3)), Ok(Some(2))],
+    ),
+    (&[Ok(3), Err(9), Ok(4)], [Err(9), Err(9)]),
+];
+
+#[test]
+fn places_of_extremes() {
+    fn tested() -> Result<(), Fail> {
+        for (answers, expected) in &PLACES {
+            let places = [
+                numbers(answers).position_max(),
+                numbers(answers).position_min(),
+            ];
+            expect_same(&places, expected)?;
+        }
+        Ok(())
+    }
+    let _ = tested();
+}
+
 // The readings, in order, and in the order of their last digits; or the failure.
 type InOrder = (Numbers, Result<(&'static [u32], &'static [u32]), u32>);
 
