@@ -1,5 +1,7 @@
 mod CellLemmas
-pub mod DrawLemmas
+mod DrawLemmas
+mod FieldLemmas
+mod PrintLemmas
 mod ReadingLemmas
 mod RowLemmas
 mod SizeLemmas

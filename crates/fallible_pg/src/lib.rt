@@ -7,7 +7,9 @@ pub mod laws;
 mod message;
 mod messages;
 mod numbers;
+mod printing;
 mod reading;
+mod report;
 mod rows;
 mod sending;
 mod text;
@@ -16,7 +18,9 @@ pub use cells::Cells;
 pub use fault::{Damage, PgFault};
 pub use message::Message;
 pub use messages::Messages;
+pub use printing::PgInput;
 pub use reading::Broken;
+pub use report::print_rows;
 pub use rows::{Kind, Row, Rows};
 pub use sending::{
     Request, Unsent, password_message, query_message, request_of, startup_message,

@@ -1,11 +1,11 @@
-//! Prints the rows that a PostgreSQL server sent, as `psql -A -t` does.
+//! Reads what a PostgreSQL server sent after a query from standard input, and prints the rows as `psql -A -t` does, each as it comes.
+//!
+//! At the first fault it says why on standard error, and ends with status 1 where the server refused a statement, 2 where a read fails, 3 where memory runs out, 4 where the rows cannot be printed, 5 at damage, 6 where the bytes are cut, and 7 at COPY and the extended protocol, which aren't read.
 #![tactic(auto)]
 
-mod printing;
 mod program;
 
-use fallible_pg::{Messages, Rows};
-use printing::PgInput;
+use fallible_pg::{Messages, PgInput, Rows};
 use program::program;
 use program_io::ending::ended;
 use program_io::fault::RunFault;

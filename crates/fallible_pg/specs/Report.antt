@@ -1,4 +1,4 @@
--- What the program does, by how its run comes out.
+-- What a run prints, by how it comes out.
 use Rattle.std.specs.Prelude.{◌≡◌, ℕ, ◌^◌, ◌<◌, ◌⊎◌, Bool, List, [], ◌∷◌, ◌++◌, length, All, Option, Result, Ok, Err}
 use Rattle.std.specs.List.{concat}
 use Rattle.std.specs.Io.KnownBytes.{Appends}
@@ -14,8 +14,8 @@ use Rattle.fallible_pg.specs.declared.fault.PgFault.TheVariants as Why
 use Rattle.fallible_pg.specs.declared.reading.Broken.TheVariants as Broke
 use Rattle.fallible_pg.specs.declared.rows.Kind.{Kind}
 use Rattle.fallible_pg.specs.declared.rows.Kind.TheVariants as Is
-use Rattle.pg_rows.specs.declared.printing.PgInput.{PgInput}
-use Rattle.pg_rows.specs.declared.printing.PgInput.TheVariants.{Server, Damaged}
+use Rattle.fallible_pg.specs.declared.printing.PgInput.{PgInput}
+use Rattle.fallible_pg.specs.declared.printing.PgInput.TheVariants.{Server, Damaged}
 
 -- what a fault of rows is for the run
 abbrev pub as_run_fault : PgFault → RunFault PgInput

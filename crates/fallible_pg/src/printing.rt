@@ -1,19 +1,20 @@
-// Rows and faults as text.
+//! What is told of rows that have a fault.
 ghost use Rattle.std.specs.Prelude.{◌≡◌, ◌++◌, OnOk, OnErr};
 ghost use Rattle.std.specs.Io.KnownBytes.{Appends};
-ghost use Rattle.pg_rows.specs.Faults.{status_of, text_of, field, before_zero, refusal_text, is_copy, is_extended, tag_status, tag_text, damage_status, damage_text};
+ghost use Rattle.fallible_pg.specs.Faults.{status_of, text_of, field, before_zero, refusal_text, is_copy, is_extended, tag_status, tag_text, damage_status, damage_text};
 
-use fallible_pg::{Damage, Message};
+use crate::fault::Damage;
+use crate::message::Message;
 use program_io::fault::InputFault;
 use program_io::writing::WriteText;
 use std::io;
 
-// Why the input is no rows.
+/// Why a run printed no more rows.
 #[derive(Debug, Drop)]
-pub(crate) enum PgInput {
-    // The server refused a statement.
+pub enum PgInput {
+    /// The server refused a statement, by this message.
     Server(Message),
-    // It is damaged at the message of this place.
+    /// What it sent is damaged: the place of the message, in bytes from 0, and how.
     Damaged(u64, Damage),
 }
 

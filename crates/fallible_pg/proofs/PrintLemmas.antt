@@ -20,8 +20,8 @@ use Rattle.fallible_pg.specs.declared.rows.Kind.TheVariants as Is
 use Rattle.fallible_pg.specs.declared.rows.Row.{Row}
 use Rattle.program_io.specs.declared.fault.RunFault.{RunFault}
 use Rattle.program_io.specs.declared.fault.RunFault.TheVariants as Run
-use Rattle.pg_rows.specs.Program.{as_run_fault, text_by, rows_text, IsPassed, ReadsOutcome, WritesText, ComesTo}
-use Rattle.pg_rows.specs.declared.printing.PgInput.{PgInput}
+use Rattle.fallible_pg.specs.Report.{as_run_fault, text_by, rows_text, IsPassed, ReadsOutcome, WritesText, ComesTo}
+use Rattle.fallible_pg.specs.declared.printing.PgInput.{PgInput}
 
 -- ---- the text
 

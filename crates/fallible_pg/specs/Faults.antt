@@ -3,8 +3,8 @@ use Rattle.std.specs.Prelude.{ℕ, ◌==◌, List, [], ◌∷◌, ◌++◌, Bool
 use Rattle.fallible_pg.specs.declared.fault.Damage.{Damage}
 use Rattle.fallible_pg.specs.declared.fault.Damage.TheVariants.{Cut, Length, Tag, Row}
 use Rattle.fallible_pg.specs.Messages.{message_bytes}
-use Rattle.pg_rows.specs.declared.printing.PgInput.{PgInput}
-use Rattle.pg_rows.specs.declared.printing.PgInput.TheVariants.{Server, Damaged}
+use Rattle.fallible_pg.specs.declared.printing.PgInput.{PgInput}
+use Rattle.fallible_pg.specs.declared.printing.PgInput.TheVariants.{Server, Damaged}
 
 -- the bytes before the first 0
 unfoldable pub before_zero : List ℕ → List ℕ

@@ -3,10 +3,10 @@ use Rattle.fallible_iterator.specs.Traces.{end}
 use Rattle.fallible_pg.specs.Rows.{rows_parts, rows_step}
 use Rattle.fallible_pg.specs.declared.rows.Row.{Row}
 use Rattle.program_io.specs.declared.fault.RunFault.{RunFault}
-use Rattle.pg_rows.specs.Program.{ComesTo, as_run_fault}
-use Rattle.pg_rows.specs.declared.printing.PgInput.{PgInput}
-use Rattle.pg_rows.proofs.PrintLemmas.{printed_first, printed_row, comes_to_write, comes_to, reads_fault_outcome, writes_fault_outcome}
-use Rattle.pg_rows.proofs.program.print_rows.Goals as goal
+use Rattle.fallible_pg.specs.Report.{ComesTo, as_run_fault}
+use Rattle.fallible_pg.specs.declared.printing.PgInput.{PgInput}
+use Rattle.fallible_pg.proofs.PrintLemmas.{printed_first, printed_row, comes_to_write, comes_to, reads_fault_outcome, writes_fault_outcome}
+use Rattle.fallible_pg.proofs.report.print_rows.Goals as goal
 
 pub loop-init : goal.loop-init
 loop-init g c = printed_first g.R.ReadByte.left g.R.ReadByte.stays (rows_parts c.args.rows.now).0.0 (rows_parts c.args.rows.now) (g.W.WriteText.written c.args.output.now) c.requires

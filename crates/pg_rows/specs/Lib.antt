@@ -1,3 +1,0 @@
--- What the clauses of `src/` cite.
-pub mod Faults
-pub mod Program
