@@ -10,7 +10,7 @@ use Rattle.fallible_iterator.specs.OneToOne.Enumerate.{enumerate_contract, enume
 use Rattle.fallible_iterator.specs.Picking.{PickDrains, PickExit}
 use Rattle.fallible_itertools.specs.MinMax.{or_less}
 use Rattle.fallible_itertools.specs.PositionBest.{PlaceCall, PlaceDrains, place_of, position_greatest, position_least}
-use Rattle.fallible_itertools.proofs.Lemmas.PartitionMap.{run_seen}
+use Rattle.fallible_iterator.proofs.Lemmas.Callers.{run_seen}
 use Rattle.fallible_iterator.specs.Enumerate.{Enumerate}
 use Rattle.std.specs.declared.cmp.Ordering.{Ordering}
 use Rattle.std.specs.declared.cmp.Ordering.TheVariants.{Less, Greater}
