@@ -418,37 +418,18 @@ fn consumers_that_take_the_iterator_are_one_fold_each(rt: HostRuntime) {
     assert_eq!(rt; (counts.is_ok(), text.is_ok(), log.take()), BOTH_MADE);
 }
 
-// Whether each was made, and the calls of all: a fold for each of the first four, and four draws for the last, up to the end.
-const ALL_MADE: ([bool; 5], Calls) = (
-    [true, true, true, true, true],
-    Calls {
-        nexts: 4,
-        folds: 4,
-        ..NO_CALL
-    },
-);
+// Whether each was made, and the calls of all.
+const MADE_BY_A_CLOSURE: ([bool; 3], Calls) = ([true, true, true], THREE_FOLDS);
 
-// `partition_failures` goes on behind a failure, so it draws one by one.
 #[test]
-fn collections_by_a_closure_fold_and_those_apart_draw(rt: HostRuntime) {
+fn collections_by_a_closure_are_one_fold_each(rt: HostRuntime) {
     let log = Log::new();
     let answers = [Ok(2), Ok(1), Ok(2)];
     let counts = counted(&answers, &log).counts_by(rt.alloc(), kept);
     let groups = counted(&answers, &log).into_group_map_by(rt.alloc(), |x: &u32| Ok(*x));
     let sorted = counted(&answers, &log).sorted_by(rt.alloc(), |x: &u32, y: &u32| y.cmp(x));
-    let mut it = counted(&answers, &log);
-    let until: Result<(Vec<u32>, Option<u32>), AllocError> = it.collect_until_failure(rt.alloc());
-    let apart: Result<(Vec<u32>, Vec<u32>), AllocError> = counted(
-        &answers, &log,
-    ).partition_failures(rt.alloc());
-    let made = [
-        counts.is_ok(),
-        groups.is_ok(),
-        sorted.is_ok(),
-        until.is_ok(),
-        apart.is_ok(),
-    ];
-    assert_eq!(rt; (made, log.take()), ALL_MADE);
+    let made = [counts.is_ok(), groups.is_ok(), sorted.is_ok()];
+    assert_eq!(rt; (made, log.take()), MADE_BY_A_CLOSURE);
 }
 
 type Extremes = (Result<MinMaxResult<u32>, u32>, Calls);
