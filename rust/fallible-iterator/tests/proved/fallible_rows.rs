@@ -4,14 +4,13 @@ use fallible_iterator::memory::AllocError;
 mod counting;
 mod digits;
 mod fault;
-mod reading;
 mod rows;
 mod summing;
 
 use crate::program_io::fault::RunFault;
+pub use crate::program_io::reading::{Buffered, Bytes, ReadByte, ReadFailed};
 use crate::program_io::writing::WriteText;
 pub use fault::{BadRow, RowFault};
-pub use reading::{Buffered, Bytes, ReadByte, ReadFailed};
 pub use rows::Rows;
 pub use summing::sum_of_rows;
 

@@ -2,8 +2,8 @@ use crate::Fail;
 use fallible_iterator::memory::AllocError;
 
 use crate::fallible_rows::fault::RowFault;
-use crate::fallible_rows::reading::{Lent, ReadByte};
 use crate::fallible_rows::rows::Rows;
+use crate::program_io::reading::{Lent, ReadByte};
 use fallible_iterator::FallibleIterator;
 
 // How many rows are looked at.

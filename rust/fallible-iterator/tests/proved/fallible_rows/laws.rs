@@ -1,7 +1,7 @@
 use crate::Fail;
 use fallible_iterator::memory::AllocError;
 
-use crate::fallible_rows::reading::ReadByte;
+use crate::program_io::reading::ReadByte;
 use crate::fallible_rows::rows::Rows;
 use fallible_iterator::FallibleIterator;
 

@@ -3,7 +3,7 @@ use fallible_iterator::memory::AllocError;
 
 use crate::fallible_rows::digits::{Digits, number_ahead};
 use crate::fallible_rows::fault::RowFault;
-use crate::fallible_rows::reading::ReadByte;
+use crate::program_io::reading::ReadByte;
 use fallible_iterator::FallibleIterator;
 
 /// The rows of a reader: an item for each that is a number, and the failure `Row(K)` for each that is not, after which the next draw goes on with the next row. K is the place of the row, from 1, or `u32::MAX` where the place is above it.

@@ -2,8 +2,8 @@ use crate::Fail;
 use fallible_iterator::memory::AllocError;
 
 use crate::fallible_rows::fault::RowFault;
-use crate::fallible_rows::reading::Bytes;
 use crate::fallible_rows::rows::Rows;
+use crate::program_io::reading::Bytes;
 use fallible_iterator::FallibleIterator;
 
 /// The sum of the first n rows of these bytes, modulo 2 ^ 64. It fails with `Row` of the place, from 1, of the first of them that is no number.

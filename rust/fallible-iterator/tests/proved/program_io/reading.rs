@@ -56,9 +56,9 @@ impl<R: Read> ReadByte for R {
     }
 }
 
-// A reader that is lent. It stays the same reference, so what the reads leave is known to its owner.
-pub(crate) struct Lent<'a, R> {
-    pub(crate) reader: &'a mut R,
+/// A reader that is lent. It stays the same reference, so what the reads leave is known to its owner.
+pub struct Lent<'a, R> {
+    pub reader: &'a mut R,
 }
 
 impl<R: ReadByte> ReadByte for Lent<'_, R> {
@@ -75,7 +75,7 @@ impl<R: ReadByte> ReadByte for Lent<'_, R> {
     }
 }
 
-/// A buffered reader that tells what its buffer holds, so that a row that stands there whole is read at once.
+/// A buffered reader that tells what its buffer holds, so that what stands there whole is read at once.
 pub struct Buffered<R> {
     reader: BufReader<R>,
     // how many bytes of its buffer were yielded
