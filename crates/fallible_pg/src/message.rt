@@ -2,7 +2,7 @@
 ghost use Rattle.std.specs.Prelude.{◌≡◌, ◌≤◌, length, drop, slice_index, vec_items};
 ghost use Rattle.fallible_pg.specs.Sizes.{IsMessage};
 
-/// A message of a server: its tag, its length and its body.
+/// A message of a server: its tag, its length of four bytes, which counts these and the body, and the body.
 #[derive(Debug, Drop)]
 pub struct Message {
     bytes: Vec<u8>,

@@ -12,7 +12,11 @@ use fallible_iterator::FallibleIterator;
 use program_io::reading::ReadByte;
 use std::alloc::Global;
 
-/// The messages of a reader.
+/// The messages of a reader, as a server sends them: each is its tag, its length and its body.
+///
+/// A draw reads the bytes of one message, one at a time or by what stands in the reader's buffer, and none of the next. It takes room for what has come alone, whatever length is stated. Nothing ends them but a fault, since a server ends nothing without a message: where the bytes end it fails with `Damaged` and `Cut`, at a length that no message has with `Damaged` and `Length`, and with `Read` and `Memory`. After 2 ^ 63 bytes it fails with `Read`. After a fault each call returns `Ok(None)` and reads no more.
+///
+/// It states no bound, so it is drained through `take`.
 #[derive(Drop)]
 pub struct Messages<R> {
     alloc: Global,

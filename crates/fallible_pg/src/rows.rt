@@ -37,7 +37,11 @@ impl Row {
     }
 }
 
-/// The rows of a result, over the messages that come after a query.
+/// The rows of the results of a query, over the messages that come after it.
+///
+/// A draw passes the messages that are no row: the description of rows, the end of a statement, a notice and such. It reads the bytes of these and of the one that decides, and none of the next. A refusal of the server is the failure `Server`, and the next draw goes on. Where the server is ready for the next query the rows end, and `into_messages` returns the messages after that. A row whose cells don't fill it, a message of a tag that isn't read, and each fault of the messages is a failure after which each call returns `Ok(None)` and reads no more.
+///
+/// Over a reader that tells its bytes they are a function of these (`law_turns`). It states no bound, so it is drained through `take`.
 #[derive(Drop)]
 pub struct Rows<R> {
     messages: Messages<R>,
@@ -90,7 +94,7 @@ fn kind_of(message: &Message) -> Kind
 }
 
 impl<R: ReadByte> Rows<R> {
-    /// The rows that these messages bring.
+    /// The rows that these messages bring. It reads nothing.
     pub fn new(messages: Messages<R>) -> Rows<R>
         ensures { rows_parts result ≡ (messages_parts messages, false) }
     {
@@ -107,7 +111,7 @@ impl<R: ReadByte> Rows<R> {
         self.messages.place()
     }
 
-    /// The messages that come after.
+    /// The messages that come after what was read.
     pub fn into_messages(self) -> Messages<R>
         ensures { messages_parts result ≡ (rows_parts self).0 }
     {

@@ -122,7 +122,7 @@ impl<R: ReadByte> ReadByte for Lent<'_, R> {
     }
 }
 
-/// A buffered reader that tells what its buffer holds, so that a row that stands there whole is read at once.
+/// A buffered reader that tells what its buffer holds, so that what stands there whole is read at once.
 #[derive(Drop)]
 pub struct Buffered<R> {
     reader: BufReader<R>,

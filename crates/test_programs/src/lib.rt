@@ -1,10 +1,14 @@
-//! Vectors: what `fallible_elf`, `fallible_table` and `example_tasks` return where no clause of theirs says it. They stand apart, so that these are proved once.
+//! Vectors: what `fallible_elf`, `fallible_table`, `fallible_pg` and `example_tasks` return where no clause of theirs says it. They stand apart, so that these are proved once.
 #![tactic(auto)]
 
 #[cfg(test)]
 mod object;
 #[cfg(test)]
 mod objects;
+#[cfg(test)]
+mod printed_rows;
+#[cfg(test)]
+mod sent_rows;
 #[cfg(test)]
 mod tables;
 #[cfg(test)]

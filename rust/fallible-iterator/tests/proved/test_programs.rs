@@ -6,6 +6,10 @@ mod object;
 #[cfg(test)]
 mod objects;
 #[cfg(test)]
+mod printed_rows;
+#[cfg(test)]
+mod sent_rows;
+#[cfg(test)]
 mod tables;
 #[cfg(test)]
 mod tasks;

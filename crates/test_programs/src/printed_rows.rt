@@ -1,0 +1,217 @@
+//! What is printed and told of bytes, and the status.
+use fallible_pg::{Messages, Rows, print_rows};
+use program_io::ending::ended;
+use program_io::reading::{Buffered, ReadByte};
+use std::alloc::Global;
+use std::io;
+use std::io::{BufReader, ErrorKind, Read, Write};
+use std::process::Abort;
+use std::test::Fail;
+
+// One cell, `1`.
+const ROW: &[u8] = b"D\0\0\0\x0b\0\x01\0\0\0\x011";
+
+// Takes so many bytes, one at a time, and then fails.
+#[derive(Drop)]
+struct BrokenWriter {
+    room: usize,
+}
+
+impl Write for BrokenWriter {
+    fn write(&mut self, buf: &[u8]) -> io::Result<usize> {
+        if self.room == 0 {
+            return Err(io::Error::from(ErrorKind::BrokenPipe));
+        }
+        let count = buf.len().min(1);
+        self.room -= count;
+        Ok(count)
+    }
+
+    fn flush(&mut self) -> io::Result<()> {
+        Ok(())
+    }
+}
+
+// Yields its bytes, and then fails.
+#[derive(Drop)]
+struct BrokenReader<'a>(&'a [u8]);
+
+impl Read for BrokenReader<'_> {
+    fn read(&mut self, buf: &mut [u8]) -> io::Result<usize> {
+        match Read::read(&mut self.0, buf) {
+            Ok(0) => Err(io::Error::from(ErrorKind::Other)),
+            other => other,
+        }
+    }
+}
+
+// Expects this status, and these texts, of a reader.
+fn expect_of<R: ReadByte>(
+    rt: &impl Abort,
+    alloc: Global,
+    reader: R,
+    status: u8,
+    text: &[u8],
+    told: &[u8],
+) {
+    let mut output = Vec::new(alloc);
+    let mut errors = Vec::new(alloc);
+    let mut rows = Rows::new(Messages::new(alloc, reader));
+    let outcome = print_rows(&mut rows, &mut output);
+    assert_eq!(rt; ended(outcome, &mut errors), Ok(status));
+    assert_eq!(rt; output.as_slice(), text);
+    assert_eq!(rt; errors.as_slice(), told);
+}
+
+// Expects these of bytes, byte by byte and through a buffer.
+fn expect(
+    rt: &impl Abort,
+    alloc: Global,
+    bytes: &[u8],
+    status: u8,
+    text: &[u8],
+    told: &[u8],
+) -> Result<(), Fail> {
+    expect_of(rt, alloc, bytes, status, text, told);
+    let buffered = Buffered::new(BufReader::new(alloc, bytes)?);
+    expect_of(rt, alloc, buffered, status, text, told);
+    Ok(())
+}
+
+#[test]
+fn rows_are_printed_up_to_ready(rt: HostRuntime) -> Result<(), Fail> {
+    let alloc = rt.alloc();
+    expect(&rt, alloc, b"Z\0\0\0\x05I", 0, b"", b"")?;
+    let one = b"D\0\0\0\x0b\0\x01\0\0\0\x011Z\0\0\0\x05Ix";
+    expect(&rt, alloc, one, 0, b"1\n", b"")?;
+    let four = b"D\0\0\0\x1a\0\x04\0\0\0\x01a\xff\xff\xff\xff\0\0\0\0\0\0\0\x03b|cZ\0\0\0\x05I";
+    expect(&rt, alloc, four, 0, b"a|||b|c\n", b"")?;
+    let null = b"D\0\0\0\x0a\0\x01\xff\xff\xff\xffZ\0\0\0\x05I";
+    expect(&rt, alloc, null, 0, b"\n", b"")?;
+    expect(&rt, alloc, b"D\0\0\0\x06\0\0Z\0\0\0\x05I", 0, b"", b"")
+}
+
+#[test]
+fn what_is_no_row_is_skipped(rt: HostRuntime) -> Result<(), Fail> {
+    let bytes =
+        b"T\0\0\0\x06\0\0N\0\0\0\x05\0S\0\0\0\x04A\0\0\0\x04D\0\0\0\x0b\0\x01\0\0\0\x011C\0\0\0\x04I\0\0\0\x04Z\0\0\0\x05I";
+    expect(&rt, rt.alloc(), bytes, 0, b"1\n", b"")
+}
+
+#[test]
+fn a_refusal_is_told(rt: HostRuntime) -> Result<(), Fail> {
+    let alloc = rt.alloc();
+    let whole =
+        b"D\0\0\0\x0b\0\x01\0\0\0\x011E\0\0\0\x2cSERROR\0VERROR\0C22012\0Mdivision by zero\0\0Z\0\0\0\x05I";
+    expect(&rt, alloc, whole, 1, b"1\n", b"ERROR:  division by zero\n")?;
+    expect(&rt, alloc, b"E\0\0\0\x04", 1, b"", b":  \n")?;
+    expect(&rt, alloc, b"E\0\0\0\x08MSno", 1, b"", b":  Sno\n")
+}
+
+#[test]
+fn a_cut_is_told(rt: HostRuntime) -> Result<(), Fail> {
+    let alloc = rt.alloc();
+    let at_0 = b"byte 0: the connection ended within a message\n";
+    let at_12 = b"byte 12: the connection ended within a message\n";
+    expect(&rt, alloc, b"", 6, b"", at_0)?;
+    expect(&rt, alloc, ROW, 6, b"1\n", at_12)?;
+    expect(&rt, alloc, &ROW[..4], 6, b"", at_0)?;
+    expect(&rt, alloc, &ROW[..11], 6, b"", at_0)?;
+    expect(&rt, alloc, b"D\x3f\xff\xff\xff\0\x01", 6, b"", at_0)
+}
+
+#[test]
+fn damage_is_told(rt: HostRuntime) -> Result<(), Fail> {
+    let alloc = rt.alloc();
+    for (bytes, told) in [
+        (
+            b"D\0\0\0\x03".as_slice(),
+            b"byte 0: a message states the length 3\n".as_slice(),
+        ),
+        (
+            b"D\x40\0\0\0",
+            b"byte 0: a message states the length 1073741824\n",
+        ),
+        (
+            b"x\0\0\0\x04",
+            b"byte 0: a message has the unknown tag 120\n",
+        ),
+        (
+            b"D\0\0\0\x05\0",
+            b"byte 0: the cells of a row don't fill it\n",
+        ),
+        (
+            b"D\0\0\0\x0b\0\x01\0\0\0\x021",
+            b"byte 0: the cells of a row don't fill it\n",
+        ),
+        (
+            b"D\0\0\0\x0b\0\x01\xff\xff\xff\xfe1",
+            b"byte 0: the cells of a row don't fill it\n",
+        ),
+        (
+            b"D\0\0\0\x0c\0\x01\0\0\0\x0112",
+            b"byte 0: the cells of a row don't fill it\n",
+        ),
+        (
+            b"D\0\0\0\x0b\0\x02\0\0\0\x011",
+            b"byte 0: the cells of a row don't fill it\n",
+        ),
+    ] {
+        expect(&rt, alloc, bytes, 5, b"", told)?;
+    }
+    let second = b"D\0\0\0\x0b\0\x01\0\0\0\x011D\0\0\0\0";
+    expect(
+        &rt,
+        alloc,
+        second,
+        5,
+        b"1\n",
+        b"byte 12: a message states the length 0\n",
+    )
+}
+
+#[test]
+fn what_is_not_read_is_told(rt: HostRuntime) -> Result<(), Fail> {
+    let alloc = rt.alloc();
+    expect(
+        &rt,
+        alloc,
+        b"H\0\0\0\x04",
+        7,
+        b"",
+        b"byte 0: COPY isn't read\n",
+    )?;
+    let told = b"byte 0: the extended protocol isn't read\n";
+    expect(&rt, alloc, b"1\0\0\0\x04", 7, b"", told)
+}
+
+#[test]
+fn a_failed_read_is_told(rt: HostRuntime) {
+    let alloc = rt.alloc();
+    expect_of(&rt, alloc, BrokenReader(ROW), 2, b"1\n", b"read failed\n");
+    expect_of(
+        &rt,
+        alloc,
+        BrokenReader(&ROW[..7]),
+        2,
+        b"",
+        b"read failed\n",
+    );
+}
+
+#[test]
+fn each_failed_write_is_told(rt: HostRuntime) {
+    let bytes = b"D\0\0\0\x0b\0\x01\0\0\0\x011Z\0\0\0\x05I".as_slice();
+    for (room, status, told) in [
+        (0, 4, b"write failed\n".as_slice()),
+        (1, 4, b"write failed\n"),
+        (2, 0, b""),
+    ] {
+        let mut output = BrokenWriter { room };
+        let mut errors = Vec::new(rt.alloc());
+        let mut rows = Rows::new(Messages::new(rt.alloc(), bytes));
+        let outcome = print_rows(&mut rows, &mut output);
+        assert_eq!(rt; ended(outcome, &mut errors), Ok(status));
+        assert_eq!(rt; errors.as_slice(), told);
+    }
+}
