@@ -11,7 +11,7 @@ SUITES = {
     "fallible-iterator": [
         "test_support", "example_chains", "example_by_hand", "fallible_vectors",
         "test_adapters", "test_joining", "test_consumers",
-        "test_examples", "program_io", "example_tasks", "fallible_table", "fallible_elf",
+        "test_examples", "program_io", "example_tasks", "fallible_table", "fallible_elf", "fallible_pg",
         "test_programs", "fallible_rows", "test_rows",
     ],
     "fallible-itertools": [

@@ -20,6 +20,7 @@ mod example_by_hand;
 mod example_chains;
 mod example_tasks;
 mod fallible_elf;
+mod fallible_pg;
 mod fallible_rows;
 mod fallible_table;
 mod fallible_vectors;

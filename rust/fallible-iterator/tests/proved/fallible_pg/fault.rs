@@ -1,0 +1,30 @@
+use crate::Fail;
+use fallible_iterator::memory::AllocError;
+
+use crate::fallible_pg::message::Message;
+
+/// What is wrong with what a server sent.
+#[derive(Clone, Copy, Debug, PartialEq, Eq)]
+pub enum Damage {
+    /// The bytes end where a message was to come, or within one.
+    Cut,
+    /// A message states this length, which none has.
+    Length(u32),
+    /// A message has this tag, which isn't read here.
+    Tag(u8),
+    /// A row's cells don't fill its message.
+    Row,
+}
+
+/// Why no row came.
+#[derive(Debug)]
+pub enum PgFault {
+    /// The server refused a statement, by this message.
+    Server(Message),
+    /// What it sent is damaged: the place of the message, in bytes from 0, and how.
+    Damaged(u64, Damage),
+    /// A read failed.
+    Read,
+    /// An allocation failed.
+    Memory,
+}

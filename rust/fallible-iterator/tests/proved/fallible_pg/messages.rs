@@ -1,0 +1,65 @@
+use crate::Fail;
+use fallible_iterator::memory::AllocError;
+
+use crate::fallible_pg::fault::PgFault;
+use crate::fallible_pg::message::Message;
+use crate::fallible_pg::reading::{Broken, read_message};
+use crate::program_io::reading::ReadByte;
+use fallible_iterator::FallibleIterator;
+
+/// The messages of a reader, as a server sends them: each is its tag, its length and its body.
+///
+/// A draw reads the bytes of one message, one at a time or by what stands in the reader's buffer, and none of the next. It takes room for what has come alone, whatever length is stated. Nothing ends them but a fault, since a server ends nothing without a message: where the bytes end it fails with `Damaged` and `Cut`, at a length that no message has with `Damaged` and `Length`, and with `Read` and `Memory`. After 2 ^ 63 bytes it fails with `Read`. After a fault each call returns `Ok(None)` and reads no more.
+///
+/// It states no bound, so it is drained through `take`.
+pub struct Messages<R> {
+    reader: R,
+    // how many bytes were read; none once no message can be found
+    place: Option<u64>,
+}
+
+// After so many bytes nothing more is read.
+const MAX_PLACE: u64 = 0x8000_0000_0000_0000;
+
+impl<R: ReadByte> Messages<R> {
+    /// The messages of this reader. It reads nothing.
+    pub fn new(reader: R) -> Messages<R> {
+        Messages {
+            reader,
+            place: Some(0),
+        }
+    }
+
+    // How many bytes were read; 0 once no message can be found.
+    pub(crate) fn place(&self) -> u64 {
+        self.place.unwrap_or(0)
+    }
+}
+
+impl<R: ReadByte> FallibleIterator for Messages<R> {
+    type Item = Message;
+
+    type Error = PgFault;
+
+    fn next(&mut self) -> Result<Option<Message>, PgFault> {
+        let Some(place) = self.place.take() else {
+            return Ok(None);
+        };
+        if place > MAX_PLACE {
+            return Err(PgFault::Read);
+        }
+        match read_message(&mut self.reader) {
+            Ok(message) => {
+                self.place = Some(place + message.bytes().len() as u64);
+                Ok(Some(message))
+            }
+            Err(Broken::Damaged(damage)) => Err(PgFault::Damaged(place, damage)),
+            Err(Broken::Read) => Err(PgFault::Read),
+            Err(Broken::Memory) => Err(PgFault::Memory),
+        }
+    }
+
+    fn size_hint(&self) -> (usize, Option<usize>) {
+        (0, None)
+    }
+}

@@ -1,0 +1,122 @@
+use crate::Fail;
+use fallible_iterator::memory::AllocError;
+
+use crate::fallible_pg::fault::Damage;
+use crate::fallible_pg::message::Message;
+use crate::program_io::fault::InputFault;
+use crate::program_io::writing::WriteText;
+use std::io;
+
+/// Why a run printed no more rows.
+#[derive(Debug)]
+pub enum PgInput {
+    /// The server refused a statement, by this message.
+    Server(Message),
+    /// What it sent is damaged: the place of the message, in bytes from 0, and how.
+    Damaged(u64, Damage),
+}
+
+// The bytes before the first 0.
+fn before_zero(bytes: &[u8]) -> &[u8] {
+    for place in 0..bytes.len() {
+        if bytes[place] == 0 {
+            return &bytes[..place];
+        }
+    }
+    bytes
+}
+
+// The field of a refusal that a letter names.
+fn field(letter: u8, fields: &[u8]) -> &[u8] {
+    let mut begins = true;
+    for place in 0..fields.len() {
+        let byte = fields[place];
+        if begins && byte == letter {
+            return before_zero(&fields[place + 1..]);
+        }
+        begins = byte == 0;
+    }
+    &[]
+}
+
+// Whether the tag is one of COPY.
+fn is_copy(tag: u8) -> bool {
+    tag == b'G' || tag == b'H' || tag == b'W' || tag == b'c' || tag == b'd'
+}
+
+// Whether the tag is one of the extended protocol.
+fn is_extended(tag: u8) -> bool {
+    tag == b'1' || tag == b'2' || tag == b'3' || tag == b'n' || tag == b's' || tag == b't'
+}
+
+// The status of a damage.
+fn damage_status(damage: Damage) -> u8 {
+    match damage {
+        Damage::Cut => 6,
+        Damage::Tag(tag) => {
+            if is_copy(tag) || is_extended(tag) {
+                7
+            } else {
+                5
+            }
+        }
+        _ => 5,
+    }
+}
+
+// Writes what the server tells.
+fn write_refusal<W: WriteText>(fields: &[u8], errors: &mut W) -> io::Result<()> {
+    errors.write_bytes(field(b'S', fields))?;
+    errors.write_text(":  ")?;
+    errors.write_bytes(field(b'M', fields))
+}
+
+// Writes what is told of a tag.
+fn write_tag<W: WriteText>(tag: u8, errors: &mut W) -> io::Result<()> {
+    if is_copy(tag) {
+        return errors.write_text("COPY isn't read");
+    }
+    if is_extended(tag) {
+        return errors.write_text("the extended protocol isn't read");
+    }
+    errors.write_text(format_args!("a message has the unknown tag {tag}"))
+}
+
+// Writes what is told of a damage.
+fn write_damage<W: WriteText>(damage: Damage, errors: &mut W) -> io::Result<()> {
+    match damage {
+        Damage::Cut => errors.write_text("the connection ended within a message"),
+        Damage::Length(length) => {
+            errors.write_text(format_args!("a message states the length {length}"))
+        }
+        Damage::Tag(tag) => write_tag(tag, errors),
+        Damage::Row => errors.write_text("the cells of a row don't fill it"),
+    }
+}
+
+impl PgInput {
+    // Writes what is told of it.
+    fn write<W: WriteText>(&self, errors: &mut W) -> io::Result<()> {
+        match self {
+            PgInput::Server(message) => write_refusal(message.body(), errors),
+            PgInput::Damaged(place, damage) => {
+                errors.write_text(format_args!("byte {place}: "))?;
+                write_damage(*damage, errors)
+            }
+        }
+    }
+}
+
+impl InputFault for PgInput {
+    fn status(&self) -> u8 {
+        match self {
+            PgInput::Server(_) => 1,
+            PgInput::Damaged(_, damage) => damage_status(*damage),
+        }
+    }
+
+    fn write_line<W: WriteText>(&self, errors: &mut W) -> io::Result<()> {
+        self.write(errors)?;
+        errors.write_bytes(b"\n")
+    }
+}

@@ -1,0 +1,44 @@
+use crate::Fail;
+use fallible_iterator::memory::AllocError;
+
+use crate::fallible_pg::fault::{Damage, PgFault};
+use crate::fallible_pg::printing::PgInput;
+use crate::fallible_pg::rows::Rows;
+use crate::fallible_pg::text::write_row;
+use crate::program_io::fault::RunFault;
+use crate::program_io::reading::ReadByte;
+use crate::program_io::writing::WriteText;
+use fallible_iterator::FallibleIterator;
+
+// What a fault of rows is for the run.
+fn run_fault(fault: PgFault) -> RunFault<PgInput> {
+    match fault {
+        PgFault::Server(message) => RunFault::Input(PgInput::Server(message)),
+        PgFault::Damaged(place, damage) => RunFault::Input(PgInput::Damaged(place, damage)),
+        PgFault::Read => RunFault::Read,
+        PgFault::Memory => RunFault::Memory,
+    }
+}
+
+/// Prints the rows up to the first fault, each as it comes, as `write_row` does.
+///
+/// It fails with `Input` at the server's refusal and at damage; with `Read` where a read fails, or after 2 ^ 63 bytes; with `Memory` where a message has no room; with `Write` where the writer fails. Only at `Write` may something have been written that is not whole rows.
+///
+/// Requires that no row was drawn.
+pub fn print_rows<R: ReadByte, W: WriteText>(
+    rows: &mut Rows<R>,
+    output: &mut W,
+) -> Result<(), RunFault<PgInput>> {
+    for _ in 0..u64::MAX {
+        match rows.next() {
+            Ok(Some(row)) => match write_row(&row, output) {
+                Ok(()) => {}
+                Err(_) => return Err(RunFault::Write),
+            },
+            Ok(None) => return Ok(()),
+            Err(fault) => return Err(run_fault(fault)),
+        }
+    }
+    // Not reached: each row has at least five bytes, and their place fits a `u64`.
+    Err(RunFault::Input(PgInput::Damaged(rows.place(), Damage::Cut)))
+}

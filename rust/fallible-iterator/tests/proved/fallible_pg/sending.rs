@@ -1,0 +1,95 @@
+use crate::Fail;
+use fallible_iterator::memory::AllocError;
+
+use crate::fallible_pg::message::Message;
+use crate::fallible_pg::numbers::u32_at;
+
+/// Why a message can't be sent.
+#[derive(Clone, Copy, Debug, PartialEq, Eq)]
+pub enum Unsent {
+    /// It is longer than a server takes.
+    Long,
+    /// An allocation failed.
+    Memory,
+}
+
+// The greatest body that a server takes.
+const MAX_BODY: usize = 0x3fff_fffb;
+
+// A tag, if there is one, the length and the body.
+fn message_of(tag: &[u8], body: &[u8]) -> Result<Vec<u8>, Unsent> {
+    if body.len() > MAX_BODY {
+        return Err(Unsent::Long);
+    }
+    let mut message = Vec::new();
+    message.extend_from_slice(tag);
+    message.extend_from_slice(&(body.len() as u32 + 4).to_be_bytes());
+    message.extend_from_slice(body);
+    Ok(message)
+}
+
+// A message of a tag and one text.
+fn text_message(tag: &[u8], text: &[u8]) -> Result<Vec<u8>, Unsent> {
+    let mut body = Vec::new();
+    body.extend_from_slice(text);
+    body.extend_from_slice(&[0]);
+    message_of(tag, body.as_slice())
+}
+
+/// A query. It fails with `Long` only above 1,073,741,818 bytes.
+pub fn query_message(query: &str) -> Result<Vec<u8>, Unsent> {
+    text_message(b"Q", query.as_bytes())
+}
+
+/// A password in clear text. It fails with `Long` only above 1,073,741,818 bytes.
+pub fn password_message(password: &str) -> Result<Vec<u8>, Unsent> {
+    text_message(b"p", password.as_bytes())
+}
+
+/// The end of a session.
+pub fn terminate_message() -> Result<Vec<u8>, Unsent> {
+    message_of(b"X", &[])
+}
+
+/// What asks for a session of a user with a database. A name with a 0 in it is read otherwise than it is meant.
+pub fn startup_message(user: &str, database: &str) -> Result<Vec<u8>, Unsent> {
+    let mut body = Vec::new();
+    body.extend_from_slice(b"\0\x03\0\0user\0");
+    body.extend_from_slice(user.as_bytes());
+    body.extend_from_slice(b"\0database\0");
+    body.extend_from_slice(database.as_bytes());
+    body.extend_from_slice(b"\0client_encoding\0UTF8\0\0");
+    message_of(&[], body.as_slice())
+}
+
+/// What a server asks for before it starts a session.
+#[derive(Clone, Copy, Debug, PartialEq, Eq)]
+pub enum Request {
+    /// Nothing more.
+    Nothing,
+    /// The password in clear text.
+    Password,
+    /// Another proof of identity, by its number.
+    Other(u32),
+}
+
+// What a number asks for.
+fn request_by(number: u32) -> Request {
+    if number == 0 {
+        Request::Nothing
+    } else if number == 3 {
+        Request::Password
+    } else {
+        Request::Other(number)
+    }
+}
+
+/// What a message asks for, if it asks for something.
+pub fn request_of(message: &Message) -> Option<Request> {
+    let bytes = message.bytes();
+    if message.tag() == b'R' && bytes.len() >= 9 {
+        Some(request_by(u32_at(bytes, 5)))
+    } else {
+        None
+    }
+}
