@@ -3,6 +3,7 @@ mod DrawLemmas
 mod FieldLemmas
 mod PrintLemmas
 mod ReadingLemmas
+mod ReportLaw
 mod RowLemmas
 mod SizeLemmas
 mod TextLemmas
