@@ -1,6 +1,7 @@
 mod CellLemmas
 mod DrawLemmas
 mod FieldLemmas
+mod ListedLaw
 mod PrintLemmas
 mod ReadingLemmas
 mod ReportLaw

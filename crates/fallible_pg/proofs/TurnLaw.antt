@@ -9,6 +9,7 @@ use Rattle.fallible_iterator.specs.Traces.{Answered, end}
 use Rattle.fallible_pg.specs.Draws.{row_bytes, ReadsKind, Breaks, ReadsAnswer, GoesOn, DrawsBytes}
 use Rattle.fallible_pg.specs.Messages.{message_bytes}
 use Rattle.fallible_pg.specs.Rows.{kind_of, rows_parts, rows_step}
+use Rattle.fallible_pg.specs.Sizes.{first_size}
 use Rattle.fallible_pg.specs.Turns.{Turn, row, refused, damaged, turn_by, turns_of, AnswersTurn, GivesTurns}
 use Rattle.fallible_pg.proofs.DrawLemmas.{draws_bytes_of}
 use Rattle.fallible_pg.proofs.TurnLemmas.{has_size, turns_of-message, turns_of-damage, turns_of-skipped, first_size-length}
@@ -41,17 +42,20 @@ module _ {R : Type 0} (left : R → Option (List ℕ)) (stays : Bool → R → R
         (k.0, ap (turns_of place) k.2 ∙ turns_of-message place m k.0 h.0.0 ∙ ap (λ (d : Kind). turn_by d place m (turns_of (place + length m) k.0)) h.0.1)
 
     -- first bytes of a message that is damaged
-    pub turns_broken : (damage : Damage) (q : R) → Breaks left stays (Why.Damaged damage) last q → turns_of place bytes ≡ damaged place damage ∷ []
-    turns_broken What.Cut q (begun, broke, given, h) =
+    pub size_broken : (damage : Damage) (q : R) → Breaks left stays (Why.Damaged damage) last q → first_size bytes ≡ Err damage
+    size_broken What.Cut q (begun, broke, given, h) =
         let k = known_left (left last) (left broke) begun bytes known (consumes_given begun last broke given) in
         let j = known_left (left broke) (left q) [] k.0 k.1 h.1.0 in
         let none : k.0 ≡ [] = j.2 ∙ j.3 h.1.1 in
-        ap (turns_of place) (k.2 ∙ ap (λ l. begun ++ l) none ∙ append-nil begun) ∙ turns_of-damage place begun What.Cut h.0
-    turns_broken (What.Length k) q (begun, broke, given, h) =
+        ap first_size (k.2 ∙ ap (λ l. begun ++ l) none ∙ append-nil begun) ∙ h.0
+    size_broken (What.Length k) q (begun, broke, given, h) =
         let j = known_left (left last) (left broke) begun bytes known (consumes_given begun last broke given) in
-        ap (turns_of place) j.2 ∙ turns_of-damage place (begun ++ j.0) (What.Length k) (first_size-length begun j.0 k h.1 h.0)
-    turns_broken (What.Tag k) q (begun, broke, given, h) = absurd h
-    turns_broken What.Row q (begun, broke, given, h) = absurd h
+        ap first_size j.2 ∙ first_size-length begun j.0 k h.1 h.0
+    size_broken (What.Tag k) q (begun, broke, given, h) = absurd h
+    size_broken What.Row q (begun, broke, given, h) = absurd h
+
+    pub turns_broken : (damage : Damage) (q : R) → Breaks left stays (Why.Damaged damage) last q → turns_of place bytes ≡ damaged place damage ∷ []
+    turns_broken damage q h = turns_of-damage place bytes damage (size_broken damage q h)
 
 module _ {R : Type 0} (left : R → Option (List ℕ)) (stays : Bool → R → R → Type 0) (never : NoReadFails stays) where
   abbrev steps : Rows R → Answered Row PgFault → Rows R → Type 0
