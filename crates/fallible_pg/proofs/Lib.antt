@@ -1,8 +1,10 @@
 mod CellLemmas
 mod DrawLemmas
 mod FieldLemmas
+mod ListedLaw
 mod PrintLemmas
 mod ReadingLemmas
+mod ReportLaw
 mod RowLemmas
 mod SizeLemmas
 mod TextLemmas

@@ -9,6 +9,7 @@ use Rattle.fallible_iterator.specs.Traces.{Answered, end}
 use Rattle.fallible_pg.specs.Draws.{row_bytes, ReadsKind, Breaks, ReadsAnswer, GoesOn, DrawsBytes}
 use Rattle.fallible_pg.specs.Messages.{message_bytes}
 use Rattle.fallible_pg.specs.Rows.{kind_of, rows_parts, rows_step}
+use Rattle.fallible_pg.specs.Sizes.{first_size}
 use Rattle.fallible_pg.specs.Turns.{Turn, row, refused, damaged, turn_by, turns_of, AnswersTurn, GivesTurns}
 use Rattle.fallible_pg.proofs.DrawLemmas.{draws_bytes_of}
 use Rattle.fallible_pg.proofs.TurnLemmas.{has_size, turns_of-message, turns_of-damage, turns_of-skipped, first_size-length}
@@ -23,16 +24,40 @@ use Rattle.fallible_pg.specs.declared.rows.Row.{Row}
 use Rattle.fallible_pg.specs.declared.rows.Rows.{Rows}
 
 -- what is left of known bytes
-known_left : (old new : Option (List ℕ)) (bytes known : List ℕ) → old ≡ Some known → Consumes old new bytes → (rest : List ℕ) × (new ≡ Some rest) × (known ≡ bytes ++ rest) × (IsAtEnd new → rest ≡ [])
+pub known_left : (old new : Option (List ℕ)) (bytes known : List ℕ) → old ≡ Some known → Consumes old new bytes → (rest : List ℕ) × (new ≡ Some rest) × (known ≡ bytes ++ rest) × (IsAtEnd new → rest ≡ [])
 known_left None new bytes known is taken = absurd cc
 known_left (Some x) None bytes known is taken = absurd taken
 known_left (Some x) (Some y) bytes known is taken = let same : x ≡ known = cc in (y, refl, sym same ∙ taken, λ e. e)
 
-module _ {R : Type 0} (left : R → Option (List ℕ)) (stays : Bool → R → R → Type 0) (never : NoReadFails stays) where
-  consumes_given : (bytes : List ℕ) (r q : R) → GivesBytes left stays r bytes q → Consumes (left r) (left q) bytes
+module _ {R : Type 0} (left : R → Option (List ℕ)) (stays : Bool → R → R → Type 0) where
+  pub consumes_given : (bytes : List ℕ) (r q : R) → GivesBytes left stays r bytes q → Consumes (left r) (left q) bytes
   consumes_given [] r q h = subst (λ (z : R). Consumes (left r) (left z) []) h (Consumes-nil (left r))
   consumes_given (x ∷ xs) r q h = Consumes-trans (left r) (left h.0) (left q) (x ∷ []) xs h.1.0 (consumes_given xs h.0 q h.2)
 
+  module _ (place : ℕ) (bytes : List ℕ) (last : R) (known : left last ≡ Some bytes) where
+    -- a message, after which nothing comes
+    pub turns_last : (m : List ℕ) (kind : Kind) (q : R) → ReadsKind left stays kind m last q → (rest : List ℕ) × (turns_of place bytes ≡ turn_by kind place m (turns_of (place + length m) rest))
+    turns_last m kind q h =
+        let k = known_left (left last) (left q) m bytes known (consumes_given m last q h.1) in
+        (k.0, ap (turns_of place) k.2 ∙ turns_of-message place m k.0 h.0.0 ∙ ap (λ (d : Kind). turn_by d place m (turns_of (place + length m) k.0)) h.0.1)
+
+    -- first bytes of a message that is damaged
+    pub size_broken : (damage : Damage) (q : R) → Breaks left stays (Why.Damaged damage) last q → first_size bytes ≡ Err damage
+    size_broken What.Cut q (begun, broke, given, h) =
+        let k = known_left (left last) (left broke) begun bytes known (consumes_given begun last broke given) in
+        let j = known_left (left broke) (left q) [] k.0 k.1 h.1.0 in
+        let none : k.0 ≡ [] = j.2 ∙ j.3 h.1.1 in
+        ap first_size (k.2 ∙ ap (λ l. begun ++ l) none ∙ append-nil begun) ∙ h.0
+    size_broken (What.Length k) q (begun, broke, given, h) =
+        let j = known_left (left last) (left broke) begun bytes known (consumes_given begun last broke given) in
+        ap first_size j.2 ∙ first_size-length begun j.0 k h.1 h.0
+    size_broken (What.Tag k) q (begun, broke, given, h) = absurd h
+    size_broken What.Row q (begun, broke, given, h) = absurd h
+
+    pub turns_broken : (damage : Damage) (q : R) → Breaks left stays (Why.Damaged damage) last q → turns_of place bytes ≡ damaged place damage ∷ []
+    turns_broken damage q h = turns_of-damage place bytes damage (size_broken damage q h)
+
+module _ {R : Type 0} (left : R → Option (List ℕ)) (stays : Bool → R → R → Type 0) (never : NoReadFails stays) where
   abbrev steps : Rows R → Answered Row PgFault → Rows R → Type 0
   steps s answer t = rows_step left stays (rows_parts s) answer (rows_parts t)
 
@@ -57,7 +82,7 @@ module _ {R : Type 0} (left : R → Option (List ℕ)) (stays : Bool → R → R
     -- a message, after which more may come
     gives_rest : (m : List ℕ) (kind : Kind) → ReadsKind left stays kind m last (rows_parts t).0.0 → (rows_parts t).0.1 ≡ Some (place + length m) → (rows_parts t).1 ≡ false → (rest : List ℕ) × (turns_of place bytes ≡ turn_by kind place m (turns_of (place + length m) rest)) × GivesTurns steps t (turns_of (place + length m) rest)
     gives_rest m kind h at going =
-        let k = known_left (left last) (left (rows_parts t).0.0) m bytes known (consumes_given m last (rows_parts t).0.0 h.1) in
+        let k = known_left (left last) (left (rows_parts t).0.0) m bytes known (consumes_given left stays m last (rows_parts t).0.0 h.1) in
         let five = (has_size m (length m) h.0.0).long in
         let long : length bytes ≡ length m + length k.0 = ap length k.2 ∙ length-append m k.0 in
         let is : rows_parts t ≡ (((rows_parts t).0.0, Some (place + length m)), false) = ap (λ (o : Option ℕ). (((rows_parts t).0.0, o), (rows_parts t).1)) at ∙ ap (λ (b : Bool). (((rows_parts t).0.0, Some (place + length m)), b)) going in (
@@ -66,31 +91,12 @@ module _ {R : Type 0} (left : R → Option (List ℕ)) (stays : Bool → R → R
           fewer t (rows_parts t).0.0 (place + length m) k.0 (omega (arith, long, five, few)) is k.1 (omega (arith, long, fits)),
         )
 
-    -- a message, after which nothing comes
-    turns_last : (m : List ℕ) (kind : Kind) (q : R) → ReadsKind left stays kind m last q → (rest : List ℕ) × (turns_of place bytes ≡ turn_by kind place m (turns_of (place + length m) rest))
-    turns_last m kind q h =
-        let k = known_left (left last) (left q) m bytes known (consumes_given m last q h.1) in
-        (k.0, ap (turns_of place) k.2 ∙ turns_of-message place m k.0 h.0.0 ∙ ap (λ (d : Kind). turn_by d place m (turns_of (place + length m) k.0)) h.0.1)
-
-    -- first bytes of a message that is damaged
-    turns_broken : (damage : Damage) (q : R) → Breaks left stays (Why.Damaged damage) last q → turns_of place bytes ≡ damaged place damage ∷ []
-    turns_broken What.Cut q (begun, broke, given, h) =
-        let k = known_left (left last) (left broke) begun bytes known (consumes_given begun last broke given) in
-        let j = known_left (left broke) (left q) [] k.0 k.1 h.1.0 in
-        let none : k.0 ≡ [] = j.2 ∙ j.3 h.1.1 in
-        ap (turns_of place) (k.2 ∙ ap (λ l. begun ++ l) none ∙ append-nil begun) ∙ turns_of-damage place begun What.Cut h.0
-    turns_broken (What.Length k) q (begun, broke, given, h) =
-        let j = known_left (left last) (left broke) begun bytes known (consumes_given begun last broke given) in
-        ap (turns_of place) j.2 ∙ turns_of-damage place (begun ++ j.0) (What.Length k) (first_size-length begun j.0 k h.1 h.0)
-    turns_broken (What.Tag k) q (begun, broke, given, h) = absurd h
-    turns_broken What.Row q (begun, broke, given, h) = absurd h
-
     takes_turn : (answer : Answered Row PgFault) → ReadsAnswer left stays place last answer (rows_parts t).0.0 → GoesOn place answer (rows_parts t).0.1 (rows_parts t).1 → (answer ≡ Err Memory) ⊎ TakesTurn answer t (turns_of place bytes)
     takes_turn (Ok (Some x)) h on = let g = gives_rest (row_bytes x) Is.Row h on.0 on.1 in inr (subst (TakesTurn (Ok (Some x)) t) (sym g.1) (refl, g.2))
-    takes_turn (Ok None) h on = let g = turns_last h.0 Is.Ready (rows_parts t).0.0 h.1 in inr (subst (TakesTurn (Ok None) t) (sym g.1) refl)
+    takes_turn (Ok None) h on = let g = turns_last left stays place bytes last known h.0 Is.Ready (rows_parts t).0.0 h.1 in inr (subst (TakesTurn (Ok None) t) (sym g.1) refl)
     takes_turn (Err (Server m)) h on = let g = gives_rest (message_bytes m) Is.Refusal h on.0 on.1 in inr (subst (TakesTurn (Err (Server m)) t) (sym g.1) (refl, g.2))
-    takes_turn (Err (Damaged at damage)) (is, inl h) on = let g = turns_last h.0 (Is.Damaged damage) (rows_parts t).0.0 h.1 in inr (subst (TakesTurn (Err (Damaged at damage)) t) (sym g.1) ((is, refl), gives_none t on))
-    takes_turn (Err (Damaged at damage)) (is, inr h) on = inr (subst (TakesTurn (Err (Damaged at damage)) t) (sym (turns_broken damage (rows_parts t).0.0 h)) ((is, refl), gives_none t on))
+    takes_turn (Err (Damaged at damage)) (is, inl h) on = let g = turns_last left stays place bytes last known h.0 (Is.Damaged damage) (rows_parts t).0.0 h.1 in inr (subst (TakesTurn (Err (Damaged at damage)) t) (sym g.1) ((is, refl), gives_none t on))
+    takes_turn (Err (Damaged at damage)) (is, inr h) on = inr (subst (TakesTurn (Err (Damaged at damage)) t) (sym (turns_broken left stays place bytes last known damage (rows_parts t).0.0 h)) ((is, refl), gives_none t on))
     takes_turn (Err Read) (inl h) on = absurd (never h.1 (rows_parts t).0.0 h.3.1.1)
     takes_turn (Err Read) (inr h) on = let far = h.0 in absurd (omega (arith, far, fits))
     takes_turn (Err Memory) h on = inl refl
@@ -99,7 +105,7 @@ module _ {R : Type 0} (left : R → Option (List ℕ)) (stays : Bool → R → R
   gives_fewer zero s r place bytes few is known fits = absurd (omega arith)
   gives_fewer (suc n) s r place bytes few is known fits = gives_by_draws s (turns_of place bytes) (λ answer t step.
       let d = draws_bytes_of left stays (rows_parts s) (rows_parts t) r place answer is step in
-      let k = known_left (left r) (left d.last) (concat d.skipped) bytes known (consumes_given (concat d.skipped) r d.last d.given) in
+      let k = known_left (left r) (left d.last) (concat d.skipped) bytes known (consumes_given left stays (concat d.skipped) r d.last d.given) in
       let long : length bytes ≡ length (concat d.skipped) + length k.0 = ap length k.2 ∙ length-append (concat d.skipped) k.0 in
       let same : turns_of place bytes ≡ turns_of (place + length (concat d.skipped)) k.0 = ap (turns_of place) k.2 ∙ turns_of-skipped place d.skipped k.0 d.each in
       subst (λ (l : List Turn). (answer ≡ Err Memory) ⊎ TakesTurn answer t l) (sym same) (takes_turn n (gives_fewer n) t (place + length (concat d.skipped)) k.0 d.last (omega (arith, long, few)) k.1 (omega (arith, long, fits)) answer d.answers d.goes_on))

@@ -2,6 +2,7 @@
 pub mod Cells
 pub mod Draws
 pub mod Faults
+pub mod Listed
 pub mod Messages
 pub mod Numbers
 pub mod Reading

@@ -1,5 +1,5 @@
 -- What a run prints, by how it comes out.
-use Rattle.std.specs.Prelude.{◌≡◌, ℕ, ◌^◌, ◌<◌, ◌⊎◌, Bool, List, [], ◌∷◌, ◌++◌, length, All, Option, Result, Ok, Err}
+use Rattle.std.specs.Prelude.{◌≡◌, ℕ, ◌^◌, ◌<◌, ◌⊎◌, Bool, List, [], ◌∷◌, ◌++◌, length, All, Option, Some, None, Result, Ok, Err}
 use Rattle.std.specs.List.{concat}
 use Rattle.std.specs.Io.KnownBytes.{Appends}
 use Rattle.program_io.specs.Bytes.{GivesBytes}
@@ -9,6 +9,7 @@ use Rattle.fallible_pg.specs.Draws.{IsOfKind, ReadsKind, Breaks}
 use Rattle.fallible_pg.specs.Messages.{message_bytes}
 use Rattle.fallible_pg.specs.Rows.{kind_of}
 use Rattle.fallible_pg.specs.Text.{row_text}
+use Rattle.fallible_pg.specs.Turns.{Turn, row, refused, damaged}
 use Rattle.fallible_pg.specs.declared.fault.PgFault.{PgFault}
 use Rattle.fallible_pg.specs.declared.fault.PgFault.TheVariants as Why
 use Rattle.fallible_pg.specs.declared.reading.Broken.TheVariants as Broke
@@ -62,3 +63,36 @@ module _ {R : Type 0} (left : R → Option (List ℕ)) (stays : Bool → R → R
       pub given : GivesBytes left stays input (concat messages) last
       pub reads : ReadsOutcome (length (concat messages)) last outcome input'
       pub writes : WritesText (rows_text messages) outcome
+
+-- ---- over known bytes
+
+-- the text of what comes: that of the rows up to the first refusal or damage
+abbrev pub turns_text : List Turn → List ℕ
+turns_text [] = []
+turns_text (row message ∷ turns) = row_text message ++ turns_text turns
+turns_text (refused message ∷ turns) = []
+turns_text (damaged place damage ∷ turns) = []
+
+-- the first refusal or damage of what comes, where there is one
+abbrev pub first_fault : List Turn → Option Turn
+first_fault [] = None
+first_fault (row message ∷ turns) = first_fault turns
+first_fault (refused message ∷ turns) = Some (refused message)
+first_fault (damaged place damage ∷ turns) = Some (damaged place damage)
+
+-- the turn that a fault of the input is
+abbrev pub turn_of : PgInput → Turn
+turn_of (Server message) = refused (message_bytes message)
+turn_of (Damaged place damage) = damaged place damage
+
+-- What comes has this fault first, and its text was written, and nothing else.
+abbrev pub ReportsTurns : List Turn → Option Turn → Option (List ℕ) → Option (List ℕ) → Type 0
+ReportsTurns turns fault written written' = (first_fault turns ≡ fault) × Appends written written' (turns_text turns)
+
+-- An outcome tells the first fault of what comes, and its text was written, unless a read, an allocation or a write failed.
+abbrev pub IsReportOf : {T : Type 0} → List Turn → Option (List ℕ) → Option (List ℕ) → Result T (RunFault PgInput) → Type 0
+IsReportOf turns written written' (Ok done) = ReportsTurns turns None written written'
+IsReportOf turns written written' (Err (Input fault)) = ReportsTurns turns (Some (turn_of fault)) written written'
+IsReportOf turns written written' (Err Read) = Unit {0}
+IsReportOf turns written written' (Err Memory) = Unit {0}
+IsReportOf turns written written' (Err Write) = Unit {0}

@@ -1,8 +1,11 @@
 //! What the words of the clauses come to, as functions whose body is empty.
-ghost use Rattle.std.specs.Prelude.{◌≡◌, ℕ, ◌+◌, ◌^◌, ◌≤◌, List, length, Some, false};
+ghost use Rattle.std.specs.Prelude.{◌≡◌, ℕ, ◌+◌, ◌^◌, ◌≤◌, List, length, Option, Some, Result, false};
 ghost use Rattle.fallible_iterator.specs.Traces.{Answered};
 ghost use Rattle.fallible_pg.specs.Draws.{DrawsBytes};
+ghost use Rattle.fallible_pg.specs.Report.{ComesTo, IsReportOf};
 ghost use Rattle.fallible_pg.specs.Rows.{rows_parts};
+ghost use Rattle.fallible_pg.specs.declared.printing.PgInput.{PgInput};
+ghost use Rattle.program_io.specs.declared.fault.RunFault.{RunFault};
 ghost use Rattle.fallible_pg.specs.Turns.{GivesTurns, turns_of};
 ghost use Rattle.program_io.specs.Bytes.{NoReadFails};
 ghost use Rattle.fallible_pg.specs.declared.fault.PgFault.{PgFault};
@@ -11,6 +14,7 @@ ghost use Rattle.fallible_pg.specs.declared.rows.Row.{Row};
 use crate::rows::Rows;
 use fallible_iterator::FallibleIterator;
 use program_io::reading::ReadByte;
+use program_io::writing::WriteText;
 
 /// A draw of rows reads the bytes of the messages that it skips and of the one that its answer is made of, one at a time, and no byte after these.
 pub fn law_draw<R: ReadByte>()
@@ -26,4 +30,12 @@ pub fn law_turns<R: ReadByte>()
         → rows_parts s ≡ ((r, Some place), false) → R.left r ≡ Some bytes
         → place + length bytes ≤ 2 ^ 63
         → GivesTurns ⟦<Rows<R> as FallibleIterator>⟧.contract.steps s (turns_of place bytes) }
+{}
+
+/// Over a reader that tells its bytes what `print_rows` prints is a function of these, and so is the fault that it returns, unless a read, an allocation or a write fails.
+pub fn law_report<R: ReadByte, W: WriteText>()
+    ensures { (input after : R) (written now : Option (List ℕ)) (output : W) (bytes : List ℕ)
+        (outcome : Result (Unit {0}) (RunFault PgInput)) → R.left input ≡ Some bytes
+        → ComesTo R.left R.stays input after W.failed written now output outcome
+        → IsReportOf (turns_of 0 bytes) written now outcome }
 {}

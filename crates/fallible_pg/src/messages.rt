@@ -1,8 +1,11 @@
 //! The messages of a reader.
-ghost use Rattle.std.specs.Prelude.{◌≡◌, Some};
+ghost use Rattle.std.specs.Prelude.{◌≡◌, ◌^◌, ◌≤◌, ℕ, List, length, Some};
 ghost use Rattle.fallible_iterator.specs.Contract.{seen_as, unbounded_contract};
 ghost use Rattle.fallible_iterator.specs.Laws.Contract.{lawful_seen};
 ghost use Rattle.fallible_iterator.specs.Laws.BoundsRuns.{lawful_unbounded};
+ghost use Rattle.fallible_iterator.specs.Making.{ListsMade};
+ghost use Rattle.program_io.specs.Bytes.{NoReadFails};
+ghost use Rattle.fallible_pg.specs.Listed.{messages_of, HasBytes, IsMemory};
 ghost use Rattle.fallible_pg.specs.Reading.{messages_parts, message_step, place_of};
 
 use crate::fault::PgFault;
@@ -31,7 +34,12 @@ const MAX_PLACE: u64 = 0x8000_0000_0000_0000;
 impl<R: ReadByte> Messages<R> {
     /// The messages of this reader. It reads nothing.
     pub fn new(alloc: Global, reader: R) -> Messages<R>
-        ensures { messages_parts result ≡ (reader, Some 0) }
+        ensures parts { messages_parts result ≡ (reader, Some 0) }
+        ensures lists { (bytes : List ℕ) → NoReadFails R.stays → R.left reader ≡ Some bytes
+            → length bytes ≤ 2 ^ 63
+            → ListsMade HasBytes
+            (seen_as messages_parts (unbounded_contract (message_step R.left R.stays))).steps
+            IsMemory result (messages_of 0 bytes) }
     {
         Messages {
             alloc,
