@@ -1,6 +1,6 @@
 -- What a failure, a token after which the value goes on, one at which it fails, and the end make of it. The room is that of the vector of the levels outside.
 use Rattle.std.proofs.Common.{rules, arith, ap, reverse, vec_capacity, Err}
-use Rattle.fallible_iterator.proofs.Lemmas.Loops.{answers_from_here_on, answer_at_stop, answer_at_failure, answer_at_end}
+use Rattle.fallible_iterator.proofs.Lemmas.Loops.{answers_after_item, answer_at_stop, answer_at_failure, answer_at_end}
 use Rattle.example_tasks.specs.Evaluating.{State}
 use Rattle.example_tasks.specs.Expressions.{after_token, after_token_in}
 use Rattle.example_tasks.proofs.EvaluatingLemmas.{memory_at, placed_ends, placed_fails, placed_goes_on, placed_stops}
@@ -21,8 +21,8 @@ loop-next-preserved g c =
     let after = c.in-Ok.after in
     let token = c.in-Ok-Some.next in (
       search rules,
-      answers_from_here_on token c.loop-next.invariant.1 c.draw.ensures.drawn (search rules) (λ l. placed_goes_on after_token (reverse before.outside.items, before.level, before.is_begun) token (reverse after.outside.items, after.level, after.is_begun) l (search rules)),
-      λ room fits. answers_from_here_on token (c.loop-next.invariant.2 room (let grows = c.in-Ok.ensures.capacity in omega arith)) c.draw.ensures.drawn (search rules) (λ l. placed_goes_on (after_token_in room) (reverse before.outside.items, before.level, before.is_begun) token (reverse after.outside.items, after.level, after.is_begun) l (after_token_in_goes_on room (reverse before.outside.items, before.level, before.is_begun) (reverse after.outside.items, after.level, after.is_begun) token.1 (search rules) (let few = length_fits_outside after.outside in omega arith))),
+      answers_after_item token c.loop-next.invariant.1 c.draw.ensures.drawn (search rules) (λ l. placed_goes_on after_token (reverse before.outside.items, before.level, before.is_begun) token (reverse after.outside.items, after.level, after.is_begun) l (search rules)),
+      λ room fits. answers_after_item token (c.loop-next.invariant.2 room (let grows = c.in-Ok.ensures.capacity in omega arith)) c.draw.ensures.drawn (search rules) (λ l. placed_goes_on (after_token_in room) (reverse before.outside.items, before.level, before.is_begun) token (reverse after.outside.items, after.level, after.is_begun) l (after_token_in_goes_on room (reverse before.outside.items, before.level, before.is_begun) (reverse after.outside.items, after.level, after.is_begun) token.1 (search rules) (let few = length_fits_outside after.outside in omega arith))),
     )
 
 pub returns-in-Ok-None-clause-value : goal.returns-in-Ok-None-clause-value
