@@ -1,5 +1,5 @@
 -- What was printed of the messages that were read.
-use Rattle.std.proofs.Common.{◌≡◌, ℕ, ◌+◌, ◌*◌, ◌≤◌, ◌⊎◌, inl, inr, Bool, true, false, List, [], ◌∷◌, ◌++◌, length, Option, Some, None, Result, Ok, Err, refl, sym, ap, subst, ◌∙◌, arith, append_assoc, append-nil, length-append}
+use Rattle.std.proofs.Common.{◌≡◌, ℕ, ◌+◌, ◌*◌, ◌≤◌, inl, inr, Bool, false, List, [], ◌∷◌, ◌++◌, length, Option, Some, Result, Err, refl, sym, ap, subst, ◌∙◌, arith, append_assoc, append-nil, length-append}
 use Rattle.std.specs.Prelude.{All}
 use Rattle.std.specs.List.{concat}
 use Rattle.std.specs.Io.KnownBytes.{Appends}
@@ -8,7 +8,7 @@ use Rattle.std.proofs.lemmas.List.Elements.{All-nil, All-cons, All-append, All-h
 use Rattle.std.proofs.lemmas.List.Folds.{concat-append}
 use Rattle.program_io.specs.Bytes.{GivesByte, GivesBytes}
 use Rattle.fallible_iterator.specs.Laws.Closures.{folds_to_then}
-use Rattle.fallible_iterator.specs.Traces.{Answered, item, end}
+use Rattle.fallible_iterator.specs.Traces.{Answered, item}
 use Rattle.fallible_pg.specs.Draws.{row_bytes, IsOfKind, ReadsAnswer, DrawsBytes}
 use Rattle.fallible_pg.specs.Rows.{kind_of, rows_step}
 use Rattle.fallible_pg.specs.Text.{row_text}

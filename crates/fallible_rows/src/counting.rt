@@ -4,9 +4,9 @@ ghost use Rattle.fallible_rows.specs.Counting.{CountsPrefix};
 ghost use Rattle.fallible_rows.specs.Run.{FailsReading};
 
 use crate::fault::RowFault;
-use program_io::reading::{Lent, ReadByte};
 use crate::rows::Rows;
 use fallible_iterator::FallibleIterator;
+use program_io::reading::{Lent, ReadByte};
 
 // How many rows are looked at.
 const MAX_ROWS: usize = 1_000_000;

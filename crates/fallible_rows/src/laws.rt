@@ -4,9 +4,9 @@ ghost use Rattle.fallible_iterator.specs.Traces.{Answered, Run};
 ghost use Rattle.fallible_rows.specs.RowTraces.{rows_parts, IsPlaced, RowsTrace, AnswersRowsOf, NeverFailsToRead, BeginsWith, CanGiveAll};
 ghost use Rattle.fallible_rows.specs.declared.fault.RowFault.{RowFault};
 
-use program_io::reading::ReadByte;
 use crate::rows::Rows;
 use fallible_iterator::FallibleIterator;
+use program_io::reading::ReadByte;
 
 /// A trace of `Rows` is the answers of the rows of the bytes that were read, in order, and then, if the reader's end was met, `Ok(None)` at each position. If a byte was wanted and none came, it is the answers of the closed rows alone, the failure `Read`, and then `Ok(None)` at each position. It requires that the place of the next row fits a `u32`, as that of each value does.
 pub fn law_rows<B: ReadByte>()

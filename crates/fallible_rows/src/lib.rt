@@ -16,8 +16,8 @@ ghost use Rattle.fallible_rows.specs.Run.{WritesReport, IsRefusedAt, HasReport, 
 
 pub use fault::{BadRow, RowFault};
 use program_io::fault::RunFault;
-use program_io::writing::WriteText;
 pub use program_io::reading::{Buffered, Bytes, ReadByte, ReadFailed};
+use program_io::writing::WriteText;
 pub use rows::Rows;
 use std::alloc::Global;
 pub use summing::sum_of_rows;

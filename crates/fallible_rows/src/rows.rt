@@ -11,8 +11,8 @@ ghost use Rattle.fallible_rows.specs.Digits.{ReadsRow};
 
 use crate::digits::{Digits, number_ahead};
 use crate::fault::RowFault;
-use program_io::reading::ReadByte;
 use fallible_iterator::FallibleIterator;
+use program_io::reading::ReadByte;
 
 /// The rows of a reader: an item for each that is a number, and the failure `Row(K)` for each that is not, after which the next draw goes on with the next row. K is the place of the row, from 1, or `u32::MAX` where the place is above it.
 ///

@@ -5,9 +5,9 @@ ghost use Rattle.fallible_rows.specs.Rows.{rows};
 ghost use Rattle.fallible_rows.specs.RowTraces.{row_results};
 
 use crate::fault::RowFault;
-use program_io::reading::Bytes;
 use crate::rows::Rows;
 use fallible_iterator::FallibleIterator;
+use program_io::reading::Bytes;
 
 /// The sum of the first n rows of these bytes, modulo 2 ^ 64. It fails with `Row` of the place, from 1, of the first of them that is no number.
 pub fn sum_of_rows(bytes: &[u8], n: usize) -> Result<u64, RowFault>

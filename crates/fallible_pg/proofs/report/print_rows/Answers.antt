@@ -1,4 +1,4 @@
-use Rattle.std.proofs.Common.{rules, refl, sym, subst, Option, Result, Ok, Err, Some}
+use Rattle.std.proofs.Common.{sym, subst, Option, Ok, Err}
 use Rattle.fallible_iterator.specs.Traces.{end}
 use Rattle.fallible_pg.specs.Rows.{rows_parts, rows_step}
 use Rattle.fallible_pg.specs.declared.rows.Row.{Row}

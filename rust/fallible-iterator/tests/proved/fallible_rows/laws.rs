@@ -1,9 +1,9 @@
 use crate::Fail;
 use fallible_iterator::memory::AllocError;
 
-use crate::program_io::reading::ReadByte;
 use crate::fallible_rows::rows::Rows;
 use fallible_iterator::FallibleIterator;
+use crate::program_io::reading::ReadByte;
 
 /// A trace of `Rows` is the answers of the rows of the bytes that were read, in order, and then, if the reader's end was met, `Ok(None)` at each position. If a byte was wanted and none came, it is the answers of the closed rows alone, the failure `Read`, and then `Ok(None)` at each position. It requires that the place of the next row fits a `u32`, as that of each value does.
 pub fn law_rows<B: ReadByte>()
