@@ -1,9 +1,8 @@
 -- Lemmas on the cells of a row.
-use Rattle.std.proofs.Common.{◌≡◌, ◌≢◌, ℕ, zero, suc, ◌+◌, ◌-◌, ◌<◌, ◌≤◌, Bool, true, false, List, [], ◌∷◌, length, take, drop, Option, Some, None, Result, Ok, Err, refl, sym, ap, subst, ◌∙◌, arith}
+use Rattle.std.proofs.Common.{◌≡◌, ◌≢◌, ℕ, suc, ◌+◌, ◌<◌, ◌≤◌, Bool, true, false, List, [], ◌∷◌, length, take, drop, Option, Some, None, Result, Ok, Err, refl, sym, ap, subst, ◌∙◌, arith}
 use Rattle.std.specs.Borrow.{Bor}
 use Rattle.std.proofs.lemmas.Bool.{le-leb, lt-leb, eq-eqb, ne_eqb}
-use Rattle.fallible_iterator.specs.Traces.{Answered, item, end}
-use Rattle.fallible_pg.specs.Cells.{first_cell, cell_then, cells_from, cells_of, are_whole, IsCell, FindsCell, TakesCell}
+use Rattle.fallible_pg.specs.Cells.{first_cell, cell_then, cells_from, cells_of, are_whole, FindsCell, TakesCell}
 use Rattle.fallible_pg.specs.Numbers.{u16_at, u32_at}
 use Rattle.fallible_pg.specs.declared.fault.Damage.{Damage}
 use Rattle.fallible_pg.specs.declared.fault.Damage.TheVariants.{Row}

@@ -1,16 +1,15 @@
 -- What a draw of rows reads, by the messages that it takes.
-use Rattle.std.proofs.Common.{◌≡◌, ℕ, ◌+◌, ◌*◌, ◌<◌, ◌≤◌, ◌⊎◌, inl, inr, Bool, true, false, List, [], ◌∷◌, ◌++◌, length, map, Option, Some, None, Result, Ok, Err, refl, sym, ap, subst, ◌∙◌, arith, length-append}
+use Rattle.std.proofs.Common.{◌≡◌, ℕ, ◌+◌, inl, inr, Bool, true, false, List, [], ◌∷◌, ◌++◌, length, map, Option, Some, None, Ok, Err, refl, sym, ap, subst, ◌∙◌, arith, length-append}
 use Rattle.std.specs.Prelude.{All}
 use Rattle.std.specs.List.{concat}
 use Rattle.std.proofs.lemmas.List.Elements.{All-nil, All-cons, All-head, All-tail}
 use Rattle.program_io.specs.Bytes.{GivesBytes}
-use Rattle.fallible_iterator.specs.Traces.{Answered, Yields, item, end}
-use Rattle.fallible_pg.specs.Draws.{row_bytes, IsOfKind, ReadsKind, Breaks, ReadsAnswer, GoesOn, DrawsBytes}
+use Rattle.fallible_iterator.specs.Traces.{Answered, Yields}
+use Rattle.fallible_pg.specs.Draws.{IsOfKind, ReadsAnswer, GoesOn, DrawsBytes}
 use Rattle.fallible_pg.specs.Messages.{message_bytes}
 use Rattle.fallible_pg.specs.Reading.{message_step, place_of, TellsWhy}
 use Rattle.fallible_pg.specs.Rows.{kind_of, MadeOfKind, MadeOfLast, IsSkipped, DrawsRow, rows_step}
 use Rattle.fallible_pg.proofs.ReadingLemmas.{gives_bytes_then}
-use Rattle.fallible_pg.specs.declared.fault.Damage.{Damage}
 use Rattle.fallible_pg.specs.declared.fault.PgFault.{PgFault}
 use Rattle.fallible_pg.specs.declared.fault.PgFault.TheVariants.{Server, Damaged, Read, Memory}
 use Rattle.fallible_pg.specs.declared.message.Message.{Message}

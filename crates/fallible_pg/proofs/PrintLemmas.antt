@@ -1,5 +1,5 @@
 -- What was printed of the messages that were read.
-use Rattle.std.proofs.Common.{◌≡◌, ℕ, ◌+◌, ◌*◌, ◌≤◌, ◌⊎◌, inl, inr, Bool, true, false, List, [], ◌∷◌, ◌++◌, length, Option, Some, None, Result, Ok, Err, refl, sym, ap, subst, ◌∙◌, arith, append_assoc, append-nil, length-append}
+use Rattle.std.proofs.Common.{◌≡◌, ℕ, ◌+◌, ◌*◌, ◌≤◌, inl, inr, Bool, false, List, [], ◌∷◌, ◌++◌, length, Option, Some, Result, Err, refl, sym, ap, subst, ◌∙◌, arith, append_assoc, append-nil, length-append}
 use Rattle.std.specs.Prelude.{All}
 use Rattle.std.specs.List.{concat}
 use Rattle.std.specs.Io.KnownBytes.{Appends}
@@ -8,7 +8,7 @@ use Rattle.std.proofs.lemmas.List.Elements.{All-nil, All-cons, All-append, All-h
 use Rattle.std.proofs.lemmas.List.Folds.{concat-append}
 use Rattle.program_io.specs.Bytes.{GivesByte, GivesBytes}
 use Rattle.fallible_iterator.specs.Laws.Closures.{folds_to_then}
-use Rattle.fallible_iterator.specs.Traces.{Answered, item, end}
+use Rattle.fallible_iterator.specs.Traces.{Answered, item}
 use Rattle.fallible_pg.specs.Draws.{row_bytes, IsOfKind, ReadsAnswer, DrawsBytes}
 use Rattle.fallible_pg.specs.Rows.{kind_of, rows_step}
 use Rattle.fallible_pg.specs.Text.{row_text}
@@ -104,6 +104,20 @@ module _ {R : Type 0} (left : R → Option (List ℕ)) (stays : Bool → R → R
       pub comes_to_write : {W : Type 0} (failed : W → Type 0) (written'' : Option (List ℕ)) (output' : W) → failed output' → ComesTo left stays r q.0.0 failed written written'' output' {T = Unit {0}} (Err Run.Write)
       comes_to_write failed written'' output' h = record { messages = before.messages ++ with_row; each = each_row; last = q.0.0; given = given_row; reads = refl; writes = h }
 
+    -- a row was drawn, and its text had no room
+    pub comes_to_memory : {W : Type 0} (failed : W → Type 0) (output' : W) (row : Row) (step : rows_step left stays p (item row) q) → ComesTo left stays r q.0.0 failed written written' output' {T = Unit {0}} (Err Run.Memory)
+    comes_to_memory failed output' row step =
+        let drawn = draws_bytes_of left stays p q p.0.0 (length (concat before.messages)) (item row) before.goes_on step in
+        let text : rows_text (before.messages ++ drawn.skipped) ≡ rows_text before.messages = rows_text-append before.messages drawn.skipped ∙ ap (λ l. rows_text before.messages ++ l) (rows_text-skipped drawn.skipped drawn.each) ∙ append-nil (rows_text before.messages) in
+        record {
+          messages = before.messages ++ drawn.skipped;
+          each = All-append IsPassed before.messages drawn.skipped before.each (passed_skipped drawn.skipped drawn.each);
+          last = drawn.last;
+          given = gives_all before.messages drawn.skipped r p.0.0 drawn.last before.given drawn.given;
+          reads = inr (row_bytes row, drawn.answers);
+          writes = subst (Appends written written') (sym text) before.wrote;
+        }
+
     -- an end or a failure was drawn
     module _ {W : Type 0} (failed : W → Type 0) (output' : W) (answer : Answered Row PgFault) (outcome : Result (Unit {0}) (RunFault PgInput)) (step : rows_step left stays p answer q) where
       pub comes_to : ((place : ℕ) (t : R) → ReadsAnswer left stays place t answer q.0.0 → ReadsOutcome left stays place t outcome q.0.0) → ((text : List ℕ) → Appends written written' text → WritesText left stays r q.0.0 failed written written' output' text outcome) → ComesTo left stays r q.0.0 failed written written' output' outcome
@@ -124,7 +138,7 @@ module _ {R : Type 0} (left : R → Option (List ℕ)) (stays : Bool → R → R
   reads_fault_outcome (Server m) place t q h = h
   reads_fault_outcome (Damaged at damage) place t q h = h
   reads_fault_outcome Read place t q h = h
-  reads_fault_outcome Memory place t q h = h
+  reads_fault_outcome Memory place t q h = inl h
 
   pub writes_fault_outcome : {W : Type 0} (failed : W → Type 0) (r q : R) (written written' : Option (List ℕ)) (output' : W) (fault : PgFault) (text : List ℕ) → Appends written written' text → WritesText left stays r q failed written written' output' {T = Unit {0}} text (Err (as_run_fault fault))
   writes_fault_outcome failed r q written written' output' (Server m) text h = h

@@ -1,14 +1,12 @@
 -- Lemmas on bytes that were read, and on the message that they begin.
-use Rattle.std.proofs.Common.{take, length-take, false, true, ◌≡◌, ℕ, ◌+◌, ◌-◌, ◌<◌, ◌≤◌, Bool, List, [], ◌∷◌, ◌++◌, length, Option, Result, Ok, Err, refl, sym, ap, subst, ◌∙◌, arith, append_assoc}
+use Rattle.std.proofs.Common.{length-take, false, true, ◌≡◌, ℕ, ◌+◌, ◌-◌, ◌≤◌, Bool, List, [], ◌++◌, length, Option, Ok, Err, refl, sym, ap, subst, ◌∙◌, arith, append_assoc}
 use Rattle.std.proofs.lemmas.List.{length-append}
 use Rattle.fallible_iterator.specs.Laws.Closures.{folds_to_then}
 use Rattle.program_io.specs.Bytes.{GivesByte, GivesBytes}
-use Rattle.fallible_pg.specs.Messages.{message_bytes}
 use Rattle.fallible_pg.specs.Numbers.{u32_at}
 use Rattle.fallible_pg.specs.Reading.{but_last, StopsShort, ReadsSome, ReadsUpTo, BreaksOff, ReadsMessage}
 use Rattle.fallible_pg.specs.Sizes.{is_length, IsMessage}
 use Rattle.fallible_pg.proofs.SizeLemmas.{u32_at-front, first_size-short, first_size-wrong, first_size-cut, first_size-whole, first_size-but_last}
-use Rattle.fallible_pg.specs.declared.fault.Damage.{Damage}
 use Rattle.fallible_pg.specs.declared.fault.Damage.TheVariants.{Cut, Length, Tag, Row}
 use Rattle.fallible_pg.specs.declared.reading.Broken.{Broken}
 use Rattle.fallible_pg.specs.declared.reading.Broken.TheVariants.{Damaged, Read, Memory}

@@ -1,20 +1,17 @@
 -- What a run reports of known bytes.
-use Rattle.std.proofs.Common.{◌≡◌, ℕ, ◌+◌, ◌⊎◌, inl, inr, Bool, List, [], ◌∷◌, ◌++◌, length, Option, Some, None, Result, Ok, Err, refl, sym, ap, subst, ◌∙◌, arith, append_assoc, append-nil, length-append}
+use Rattle.std.proofs.Common.{◌≡◌, ℕ, ◌+◌, inl, inr, Bool, List, [], ◌∷◌, ◌++◌, length, Option, Some, None, Result, Ok, Err, refl, sym, ap, subst, ◌∙◌, arith, append_assoc, append-nil, length-append}
 use Rattle.std.specs.Prelude.{All}
 use Rattle.std.specs.List.{concat}
 use Rattle.std.specs.Io.KnownBytes.{Appends}
 use Rattle.std.proofs.lemmas.List.Elements.{All-head, All-tail}
-use Rattle.fallible_pg.specs.Draws.{IsOfKind}
 use Rattle.fallible_pg.specs.Messages.{message_bytes}
 use Rattle.fallible_pg.specs.Report.{text_by, rows_text, IsPassed, ReadsOutcome, WritesText, ComesTo, turns_text, first_fault, ReportsTurns, IsReportOf}
 use Rattle.fallible_pg.specs.Rows.{kind_of}
-use Rattle.fallible_pg.specs.Text.{row_text}
-use Rattle.fallible_pg.specs.Turns.{Turn, row, refused, damaged, turn_by, turns_of}
+use Rattle.fallible_pg.specs.Turns.{Turn, refused, damaged, turn_by, turns_of}
 use Rattle.fallible_pg.proofs.TurnLaw.{known_left, consumes_given, turns_last, turns_broken}
 use Rattle.fallible_pg.proofs.TurnLemmas.{turns_of-message}
 use Rattle.fallible_pg.specs.declared.printing.PgInput.{PgInput}
 use Rattle.fallible_pg.specs.declared.printing.PgInput.TheVariants.{Server, Damaged}
-use Rattle.fallible_pg.specs.declared.rows.Kind.{Kind}
 use Rattle.fallible_pg.specs.declared.rows.Kind.TheVariants as Is
 use Rattle.program_io.specs.declared.fault.RunFault.{RunFault}
 use Rattle.program_io.specs.declared.fault.RunFault.TheVariants as Run

@@ -1,16 +1,15 @@
 -- Lemmas on what a draw of rows takes of the messages.
-use Rattle.std.proofs.Common.{◌≡◌, ℕ, ◌+◌, ◌*◌, ◌<◌, ◌≤◌, Bool, true, false, List, [], ◌∷◌, ◌++◌, length, Option, Some, None, Result, Ok, Err, refl, sym, ap, subst, ◌∙◌, arith}
+use Rattle.std.proofs.Common.{◌≡◌, ℕ, ◌+◌, ◌≤◌, Bool, false, List, [], ◌∷◌, ◌++◌, Option, Some, None, Ok, refl, sym, subst, ◌∙◌, arith}
 use Rattle.std.specs.Prelude.{All}
 use Rattle.std.proofs.lemmas.List.Elements.{All-nil, All-cons, All-append}
 use Rattle.fallible_iterator.specs.Laws.Closures.{folds_to_then}
-use Rattle.fallible_iterator.specs.Traces.{Answered, Yields, item, end}
+use Rattle.fallible_iterator.specs.Traces.{Answered, Yields, item}
 use Rattle.fallible_pg.specs.Messages.{message_bytes}
 use Rattle.fallible_pg.specs.Reading.{message_step, place_of}
 use Rattle.fallible_pg.specs.Rows.{kind_of, MadeOfKind, MadeOfLast, IsSkipped, DrawsRow, rows_step}
 use Rattle.fallible_pg.specs.declared.fault.PgFault.{PgFault}
 use Rattle.fallible_pg.specs.declared.message.Message.{Message}
 use Rattle.fallible_pg.specs.declared.rows.Kind.{Kind}
-use Rattle.fallible_pg.specs.declared.rows.Kind.TheVariants.{Skipped}
 use Rattle.fallible_pg.specs.declared.rows.Row.{Row}
 
 pub all_skipped_more : (ms : List Message) (m : Message) → All IsSkipped ms → IsSkipped m → All IsSkipped (ms ++ m ∷ [])

@@ -1,11 +1,10 @@
 -- Lemmas on the size of the message that bytes begin.
-use Rattle.std.proofs.Common.{◌≡◌, ℕ, ◌+◌, ◌-◌, ◌<◌, ◌≤◌, ◌⊎◌, inl, inr, Bool, true, false, nat_le, List, [], ◌∷◌, ◌++◌, length, take, drop, slice_index, Result, Ok, Err, refl, sym, ap, subst, ◌∙◌, arith, length-append, length-take, take-append-drop}
+use Rattle.std.proofs.Common.{◌≡◌, ℕ, ◌+◌, ◌-◌, ◌<◌, ◌≤◌, Bool, true, false, nat_le, List, ◌++◌, length, drop, Ok, Err, refl, sym, ap, ◌∙◌, arith, length-take, take-append-drop}
 use Rattle.std.proofs.lemmas.Bool.{le-leb, leb-true, leb-false, lt-leb}
 use lib.ListN.{get_or-append}
 use Rattle.fallible_pg.specs.Numbers.{u32_at}
-use Rattle.fallible_pg.specs.Sizes.{is_length, size_by, first_size, IsMessage}
+use Rattle.fallible_pg.specs.Sizes.{is_length, size_by, first_size}
 use Rattle.fallible_pg.specs.Reading.{but_last}
-use Rattle.fallible_pg.specs.declared.fault.Damage.{Damage}
 use Rattle.fallible_pg.specs.declared.fault.Damage.TheVariants.{Cut, Length}
 
 -- the number is that of the bytes there, whatever follows them

@@ -1,10 +1,9 @@
 -- Lemmas on what is written of cells.
-use Rattle.std.proofs.Common.{◌≡◌, ℕ, List, [], ◌∷◌, ◌++◌, Option, Some, None, Result, Ok, Err, refl, sym, ap, subst, ◌∙◌, append_assoc}
+use Rattle.std.proofs.Common.{◌≡◌, ℕ, List, [], ◌∷◌, ◌++◌, Option, Some, None, Result, Ok, Err, refl, sym, ap, subst, ◌∙◌}
 use Rattle.std.specs.Prelude.{OnOk}
 use Rattle.std.specs.Borrow.{Bor}
 use Rattle.std.specs.Io.KnownBytes.{Appends}
 use Rattle.std.proofs.KnownBytes.{Appends-trans, Appends-nil}
-use Rattle.fallible_iterator.specs.Traces.{end}
 use Rattle.fallible_pg.specs.Cells.{cells_from, IsCell, TakesCell}
 use Rattle.fallible_pg.specs.Text.{cell_text, further_text, cells_text, drawn_text}
 use Rattle.fallible_pg.specs.declared.fault.Damage.{Damage}

@@ -1,16 +1,15 @@
 -- What draws of rows return over known bytes.
-use Rattle.std.proofs.Common.{◌≡◌, ℕ, zero, suc, ◌+◌, ◌^◌, ◌<◌, ◌≤◌, ◌⊎◌, inl, inr, Bool, true, false, List, [], ◌∷◌, ◌++◌, length, Option, Some, None, Result, Ok, Err, refl, sym, ap, subst, ◌∙◌, arith, append-nil, length-append}
-use Rattle.std.specs.Prelude.{All}
+use Rattle.std.proofs.Common.{◌≡◌, ℕ, zero, suc, ◌+◌, ◌^◌, ◌<◌, ◌≤◌, ◌⊎◌, inl, inr, Bool, true, false, List, [], ◌∷◌, ◌++◌, length, Option, Some, None, Ok, Err, refl, sym, ap, subst, ◌∙◌, arith, append-nil, length-append}
 use Rattle.std.specs.List.{concat}
 use Rattle.std.specs.Io.KnownBytes.{Consumes, IsAtEnd}
 use Rattle.std.proofs.KnownBytes.{Consumes-nil, Consumes-trans}
-use Rattle.program_io.specs.Bytes.{GivesBytes, GivesEnd, NoReadFails}
+use Rattle.program_io.specs.Bytes.{GivesBytes, NoReadFails}
 use Rattle.fallible_iterator.specs.Traces.{Answered, end}
-use Rattle.fallible_pg.specs.Draws.{row_bytes, ReadsKind, Breaks, ReadsAnswer, GoesOn, DrawsBytes}
+use Rattle.fallible_pg.specs.Draws.{row_bytes, ReadsKind, Breaks, ReadsAnswer, GoesOn}
 use Rattle.fallible_pg.specs.Messages.{message_bytes}
-use Rattle.fallible_pg.specs.Rows.{kind_of, rows_parts, rows_step}
+use Rattle.fallible_pg.specs.Rows.{rows_parts, rows_step}
 use Rattle.fallible_pg.specs.Sizes.{first_size}
-use Rattle.fallible_pg.specs.Turns.{Turn, row, refused, damaged, turn_by, turns_of, AnswersTurn, GivesTurns}
+use Rattle.fallible_pg.specs.Turns.{Turn, damaged, turn_by, turns_of, AnswersTurn, GivesTurns}
 use Rattle.fallible_pg.proofs.DrawLemmas.{draws_bytes_of}
 use Rattle.fallible_pg.proofs.TurnLemmas.{has_size, turns_of-message, turns_of-damage, turns_of-skipped, first_size-length}
 use Rattle.fallible_pg.specs.declared.fault.Damage.{Damage}

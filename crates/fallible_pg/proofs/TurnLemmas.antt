@@ -1,15 +1,15 @@
 -- What comes of bytes, one message off the front.
-use Rattle.std.proofs.Common.{◌≡◌, ℕ, zero, suc, ◌+◌, ◌-◌, ◌<◌, ◌≤◌, Bool, true, false, nat_le, if◌then◌else◌, List, [], ◌∷◌, ◌++◌, length, take, drop, Option, Some, None, Result, Ok, Err, refl, sym, ap, subst, ◌∙◌, arith, append_assoc, append-nil, length-append, length-drop}
+use Rattle.std.proofs.Common.{◌≡◌, ℕ, zero, suc, ◌+◌, ◌-◌, ◌≤◌, Bool, true, false, nat_le, if◌then◌else◌, List, [], ◌∷◌, ◌++◌, length, take, drop, Result, Ok, Err, refl, sym, ap, ◌∙◌, arith, append_assoc, length-append, length-drop}
 use Rattle.std.specs.Prelude.{All}
 use Rattle.std.specs.List.{concat}
-use Rattle.std.proofs.lemmas.Bool.{le-leb, leb-true}
+use Rattle.std.proofs.lemmas.Bool.{leb-true}
 use Rattle.std.proofs.lemmas.List.{take_at, drop_at}
 use Rattle.std.proofs.lemmas.List.Elements.{All-head, All-tail}
 use Rattle.fallible_pg.specs.Draws.{IsOfKind}
 use Rattle.fallible_pg.specs.Numbers.{u32_at}
 use Rattle.fallible_pg.specs.Rows.{kind_of}
 use Rattle.fallible_pg.specs.Sizes.{is_length, size_by, first_size, IsMessage}
-use Rattle.fallible_pg.specs.Turns.{Turn, row, refused, damaged, turn_by, turn_at, turns_in, turns_of}
+use Rattle.fallible_pg.specs.Turns.{Turn, damaged, turn_by, turn_at, turns_in, turns_of}
 use Rattle.fallible_pg.proofs.SizeLemmas.{u32_at-front, first_size-by, first_size-whole, first_size-wrong, first_size-short}
 use Rattle.fallible_pg.specs.declared.fault.Damage.{Damage}
 use Rattle.fallible_pg.specs.declared.fault.Damage.TheVariants.{Cut, Length}

@@ -4,8 +4,7 @@ use Rattle.fallible_iterator.specs.Traces.{Answered, end}
 use Rattle.program_io.specs.Bytes.{GivesBytes, GivesEnd, FailsToRead}
 use Rattle.fallible_pg.specs.Messages.{message_bytes}
 use Rattle.fallible_pg.specs.Sizes.{first_size, IsMessage}
-use Rattle.fallible_pg.specs.declared.fault.Damage.{Damage}
-use Rattle.fallible_pg.specs.declared.fault.Damage.TheVariants.{Cut, Length, Tag, Row}
+use Rattle.fallible_pg.specs.declared.fault.Damage.TheVariants.{Cut, Length}
 use Rattle.fallible_pg.specs.declared.fault.PgFault.{PgFault}
 use Rattle.fallible_pg.specs.declared.fault.PgFault.TheVariants.{Server, Damaged, Read, Memory}
 use Rattle.fallible_pg.specs.declared.message.Message.{Message}

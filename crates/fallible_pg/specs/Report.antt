@@ -40,13 +40,13 @@ abbrev pub IsPassed : List ℕ → Type 0
 IsPassed message = IsOfKind Is.Row message ⊎ IsOfKind Is.Skipped message
 
 module _ {R : Type 0} (left : R → Option (List ℕ)) (stays : Bool → R → R → Type 0) where
-  -- What was read at a place, by the outcome: the message that says the server is ready; its refusal; a damaged message, or such first bytes of one as tell the damage; the first bytes of a message, up to a read that failed, or to where there was no memory; nothing, where a write failed. After 2 ^ 63 bytes nothing is read.
+  -- What was read at a place, by the outcome: the message that says the server is ready; its refusal; a damaged message, or such first bytes of one as tell the damage; the first bytes of a message, up to a read that failed, or to where there was no memory; a row whose text had no memory; nothing, where a write failed. After 2 ^ 63 bytes nothing is read.
   abbrev pub ReadsOutcome : {T : Type 0} → ℕ → R → Result T (RunFault PgInput) → R → Type 0
   ReadsOutcome place r (Ok done) q = (bytes : List ℕ) × ReadsKind left stays Is.Ready bytes r q
   ReadsOutcome place r (Err (Input (Server m))) q = ReadsKind left stays Is.Refusal (message_bytes m) r q
   ReadsOutcome place r (Err (Input (Damaged at damage))) q = (at ≡ place) × (((bytes : List ℕ) × ReadsKind left stays (Is.Damaged damage) bytes r q) ⊎ Breaks left stays (Broke.Damaged damage) r q)
   ReadsOutcome place r (Err Read) q = Breaks left stays Broke.Read r q ⊎ ((2 ^ 63 < place) × (q ≡ r))
-  ReadsOutcome place r (Err Memory) q = Breaks left stays Broke.Memory r q
+  ReadsOutcome place r (Err Memory) q = Breaks left stays Broke.Memory r q ⊎ ((bytes : List ℕ) × ReadsKind left stays Is.Row bytes r q)
   ReadsOutcome place r (Err Write) q = q ≡ r
 
   module _ {W : Type 0} (input input' : R) (failed : W → Type 0) (written written' : Option (List ℕ)) (output' : W) where

@@ -4,7 +4,6 @@ use Rattle.fallible_iterator.specs.Traces.{Answered, Yields, item, end}
 use Rattle.fallible_pg.specs.Cells.{is_row}
 use Rattle.fallible_pg.specs.Messages.{message_bytes}
 use Rattle.fallible_pg.specs.Reading.{messages_parts, message_step, place_of}
-use Rattle.fallible_pg.specs.declared.fault.Damage.{Damage}
 use Rattle.fallible_pg.specs.declared.fault.Damage.TheVariants as What
 use Rattle.fallible_pg.specs.declared.fault.PgFault.{PgFault}
 use Rattle.fallible_pg.specs.declared.fault.PgFault.TheVariants as Why

@@ -1,5 +1,5 @@
 -- What rows come of bytes.
-use Rattle.std.specs.Prelude.{◌≡◌, ℕ, zero, suc, ◌+◌, ◌⊎◌, Bool, List, [], ◌∷◌, length, take, drop, Option, Some, None, Result, Ok, Err}
+use Rattle.std.specs.Prelude.{◌≡◌, ℕ, zero, suc, ◌+◌, ◌⊎◌, List, [], ◌∷◌, length, take, drop, Some, Result, Ok, Err}
 use Rattle.fallible_iterator.specs.Traces.{Answered, end}
 use Rattle.fallible_pg.specs.Draws.{row_bytes}
 use Rattle.fallible_pg.specs.Messages.{message_bytes}
@@ -8,7 +8,7 @@ use Rattle.fallible_pg.specs.Sizes.{first_size}
 use Rattle.fallible_pg.specs.declared.fault.Damage.{Damage}
 use Rattle.fallible_pg.specs.declared.fault.Damage.TheVariants.{Cut}
 use Rattle.fallible_pg.specs.declared.fault.PgFault.{PgFault}
-use Rattle.fallible_pg.specs.declared.fault.PgFault.TheVariants.{Server, Damaged, Read, Memory}
+use Rattle.fallible_pg.specs.declared.fault.PgFault.TheVariants.{Server, Damaged, Memory}
 use Rattle.fallible_pg.specs.declared.rows.Kind.{Kind}
 use Rattle.fallible_pg.specs.declared.rows.Kind.TheVariants as Is
 use Rattle.fallible_pg.specs.declared.rows.Row.{Row}

@@ -1,16 +1,19 @@
 //! Prints rows.
-ghost use Rattle.std.specs.Prelude.{◌≡◌, Some, false};
+ghost use Rattle.std.specs.Prelude.{◌≡◌, Some, true, false};
+ghost use Rattle.fallible_pg.specs.Messages.{message_bytes};
+ghost use Rattle.fallible_pg.specs.Text.{row_text};
 ghost use Rattle.fallible_pg.specs.Report.{ComesTo, as_run_fault};
 ghost use Rattle.fallible_pg.specs.Rows.{rows_parts};
 
 use crate::fault::{Damage, PgFault};
 use crate::printing::PgInput;
-use crate::rows::Rows;
+use crate::rows::{Row, Rows};
 use crate::text::write_row;
 use fallible_iterator::FallibleIterator;
 use program_io::fault::RunFault;
 use program_io::reading::ReadByte;
 use program_io::writing::WriteText;
+use std::alloc::Global;
 
 // What a fault of rows is for the run.
 fn run_fault(fault: PgFault) -> RunFault<PgInput>
@@ -24,12 +27,21 @@ fn run_fault(fault: PgFault) -> RunFault<PgInput>
     }
 }
 
-/// Prints the rows up to the first fault, each as it comes, as `write_row` does.
+// Puts the text of a row in place of what the buffer has. Whether it had room.
+fn text_of_row(row: &Row, text: &mut Vec<u8>) -> bool
+    ensures { result ≡ true → text.new.items ≡ row_text (message_bytes row.now.message) }
+{
+    text.clear();
+    write_row(row, text).is_ok()
+}
+
+/// Prints the rows up to the first fault, each as it comes and by one write, as `write_row` does.
 ///
-/// It fails with `Input` at the server's refusal and at damage; with `Read` where a read fails, or after 2 ^ 63 bytes; with `Memory` where a message has no room; with `Write` where the writer fails. Only at `Write` may something have been written that is not whole rows.
+/// It fails with `Input` at the server's refusal and at damage; with `Read` where a read fails, or after 2 ^ 63 bytes; with `Memory` where a message or the text of a row has no room; with `Write` where the writer fails. Only at `Write` may something have been written that is not whole rows.
 ///
 /// Requires that no row was drawn.
 pub fn print_rows<R: ReadByte, W: WriteText>(
+    alloc: Global,
     rows: &mut Rows<R>,
     output: &mut W,
 ) -> Result<(), RunFault<PgInput>>
@@ -37,12 +49,18 @@ pub fn print_rows<R: ReadByte, W: WriteText>(
     ensures { ComesTo R.left R.stays (rows_parts rows.old).0.0 (rows_parts rows.new).0.0 W.failed
         (W.written output.old) (W.written output.new) output.new result }
 {
+    let mut text = Vec::new(alloc);
     for _ in 0..u64::MAX {
         match rows.next() {
-            Ok(Some(row)) => match write_row(&row, output) {
-                Ok(()) => {}
-                Err(_) => return Err(RunFault::Write),
-            },
+            Ok(Some(row)) => {
+                if !text_of_row(&row, &mut text) {
+                    return Err(RunFault::Memory);
+                }
+                match output.write_bytes(text.as_slice()) {
+                    Ok(()) => {}
+                    Err(_) => return Err(RunFault::Write),
+                }
+            }
             Ok(None) => return Ok(()),
             Err(fault) => return Err(run_fault(fault)),
         }

@@ -19,7 +19,7 @@ fn main(rt: HostRuntime) -> ExitCode {
     let ended = match BufReader::new(rt.alloc(), rt.stdin()) {
         Ok(reader) => {
             let mut rows = Rows::new(Messages::new(rt.alloc(), Buffered::new(reader)));
-            program(&mut rows, &mut output, &mut errors)
+            program(rt.alloc(), &mut rows, &mut output, &mut errors)
         }
         Err(_) => ended::<PgInput, _>(Err(RunFault::Memory), &mut errors),
     };

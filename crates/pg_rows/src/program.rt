@@ -9,9 +9,11 @@ use fallible_pg::{Rows, print_rows};
 use program_io::ending::ended;
 use program_io::reading::ReadByte;
 use program_io::writing::WriteText;
+use std::alloc::Global;
 
 // Runs over `rows`, and tells `errors` of a fault. The status that the program ends with; an `Err` where there was a line to tell and it could not be written.
 pub(crate) fn program<R: ReadByte, W: WriteText, E: WriteText>(
+    alloc: Global,
     rows: &mut Rows<R>,
     output: &mut W,
     errors: &mut E,
@@ -22,5 +24,5 @@ pub(crate) fn program<R: ReadByte, W: WriteText, E: WriteText>(
         (ComesTo R.left R.stays (rows_parts rows.old).0.0 (rows_parts rows.new).0.0 W.failed
         (W.written output.old) (W.written output.new) output.new) result }
 {
-    ended(print_rows(rows, output), errors)
+    ended(print_rows(alloc, rows, output), errors)
 }

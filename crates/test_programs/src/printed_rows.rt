@@ -57,7 +57,7 @@ fn expect_of<R: ReadByte>(
     let mut output = Vec::new(alloc);
     let mut errors = Vec::new(alloc);
     let mut rows = Rows::new(Messages::new(alloc, reader));
-    let outcome = print_rows(&mut rows, &mut output);
+    let outcome = print_rows(alloc, &mut rows, &mut output);
     assert_eq!(rt; ended(outcome, &mut errors), Ok(status));
     assert_eq!(rt; output.as_slice(), text);
     assert_eq!(rt; errors.as_slice(), told);
@@ -210,7 +210,7 @@ fn each_failed_write_is_told(rt: HostRuntime) {
         let mut output = BrokenWriter { room };
         let mut errors = Vec::new(rt.alloc());
         let mut rows = Rows::new(Messages::new(rt.alloc(), bytes));
-        let outcome = print_rows(&mut rows, &mut output);
+        let outcome = print_rows(rt.alloc(), &mut rows, &mut output);
         assert_eq!(rt; ended(outcome, &mut errors), Ok(status));
         assert_eq!(rt; errors.as_slice(), told);
     }

@@ -1,4 +1,4 @@
-use Rattle.std.proofs.Common.{rules, refl, arith, length, drop, ◌≤◌, sym}
+use Rattle.std.proofs.Common.{rules, refl}
 use Rattle.fallible_pg.proofs.CellLemmas.{finds_short, finds_null, finds_few, finds_cell}
 use Rattle.fallible_pg.proofs.cells.first_cell.Goals as goal
 

@@ -1,4 +1,4 @@
-use Rattle.std.proofs.Common.{rules, arith, sym, ◌∙◌}
+use Rattle.std.proofs.Common.{rules, sym, ◌∙◌}
 use Rattle.fallible_pg.proofs.CellLemmas.{whole_without_cells}
 use Rattle.fallible_pg.proofs.cells.is_row.Goals as goal
 

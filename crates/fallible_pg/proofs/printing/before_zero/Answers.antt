@@ -1,4 +1,4 @@
-use Rattle.std.proofs.Common.{rules, refl}
+use Rattle.std.proofs.Common.{rules}
 use Rattle.fallible_pg.proofs.FieldLemmas.{zero_next, zero_here, no_zero}
 use Rattle.fallible_pg.proofs.printing.before_zero.Goals as goal
 

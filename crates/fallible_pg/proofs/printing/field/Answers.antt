@@ -1,4 +1,4 @@
-use Rattle.std.proofs.Common.{rules, refl, ◌∙◌, ap, true, arith, length, drop, length-drop, ◌+◌, ◌-◌}
+use Rattle.std.proofs.Common.{rules, ◌∙◌, ap, arith, length, drop, length-drop, ◌+◌, ◌-◌}
 use Rattle.std.proofs.lemmas.List.{take_all}
 use Rattle.fallible_pg.specs.Faults.{before_zero}
 use Rattle.fallible_pg.proofs.FieldLemmas.{field_next, field_here, no_field}

@@ -1,5 +1,5 @@
 -- The first five bytes state the length, and the rest came behind them.
-use Rattle.std.proofs.Common.{rules, sym, ◌∙◌}
+use Rattle.std.proofs.Common.{rules}
 use Rattle.fallible_pg.proofs.ReadingLemmas.{head_read, head_broken, wrong_length, body_broken, message_read}
 use Rattle.fallible_pg.proofs.reading.read_message.Goals as goal
 

@@ -1,11 +1,12 @@
-use Rattle.std.proofs.Common.{rules, refl, sym, subst, Option, Result, Ok, Err, Some}
+use Rattle.std.proofs.Common.{sym, subst, Option, Ok, Err, rules, ◌∙◌}
+use Rattle.std.specs.Io.KnownBytes.{Appends}
 use Rattle.fallible_iterator.specs.Traces.{end}
 use Rattle.fallible_pg.specs.Rows.{rows_parts, rows_step}
 use Rattle.fallible_pg.specs.declared.rows.Row.{Row}
 use Rattle.program_io.specs.declared.fault.RunFault.{RunFault}
 use Rattle.fallible_pg.specs.Report.{ComesTo, as_run_fault}
 use Rattle.fallible_pg.specs.declared.printing.PgInput.{PgInput}
-use Rattle.fallible_pg.proofs.PrintLemmas.{printed_first, printed_row, comes_to_write, comes_to, reads_fault_outcome, writes_fault_outcome}
+use Rattle.fallible_pg.proofs.PrintLemmas.{printed_first, printed_row, comes_to_memory, comes_to_write, comes_to, reads_fault_outcome, writes_fault_outcome}
 use Rattle.fallible_pg.proofs.report.print_rows.Goals as goal
 
 pub loop-init : goal.loop-init
@@ -14,12 +15,18 @@ loop-init g c = printed_first g.R.ReadByte.left g.R.ReadByte.stays (rows_parts c
 pub loop-preserved : goal.loop-preserved
 loop-preserved g c =
     let step = subst (λ (o : Option Row). rows_step g.R.ReadByte.left g.R.ReadByte.stays (rows_parts c.loop.rows) (Ok o) (rows_parts c.next.new.self)) c.in-Ok-Some.field-0-is c.in-Ok-Some.ensures in
-    printed_row g.R.ReadByte.left g.R.ReadByte.stays (rows_parts c.args.rows.now).0.0 (rows_parts c.loop.rows) (rows_parts c.next.new.self) (g.W.WriteText.written c.args.output.now) (g.W.WriteText.written c.loop.output) c.loop.counter c.loop.invariant c.in-Ok-Some.row step (g.W.WriteText.written c.write_row.new.writer) c.in-Ok.ensures.whole
+    let text = c.as_slice.ensures.value ∙ c.text_of_row.ensures (search rules) in
+    printed_row g.R.ReadByte.left g.R.ReadByte.stays (rows_parts c.args.rows.now).0.0 (rows_parts c.loop.rows) (rows_parts c.next.new.self) (g.W.WriteText.written c.args.output.now) (g.W.WriteText.written c.loop.output) c.loop.counter c.loop.invariant c.in-Ok-Some.row step (g.W.WriteText.written c.write_bytes.new.self) (subst (Appends (g.W.WriteText.written c.loop.output) (g.W.WriteText.written c.write_bytes.new.self)) text c.in-Ok.ensures.whole)
 
-pub returns-in-Err-write_row : goal.returns-in-Err-write_row
-returns-in-Err-write_row g c =
+pub returns-then-not-text_of_row : goal.returns-then-not-text_of_row
+returns-then-not-text_of_row g c =
     let step = subst (λ (o : Option Row). rows_step g.R.ReadByte.left g.R.ReadByte.stays (rows_parts c.loop.rows) (Ok o) (rows_parts c.next.new.self)) c.in-Ok-Some.field-0-is c.in-Ok-Some.ensures in
-    comes_to_write g.R.ReadByte.left g.R.ReadByte.stays (rows_parts c.args.rows.now).0.0 (rows_parts c.loop.rows) (rows_parts c.next.new.self) (g.W.WriteText.written c.args.output.now) (g.W.WriteText.written c.loop.output) c.loop.counter c.loop.invariant c.in-Ok-Some.row step g.W.WriteText.failed (g.W.WriteText.written c.write_row.new.writer) c.write_row.new.writer c.in-Err-write_row.ensures.failed
+    comes_to_memory g.R.ReadByte.left g.R.ReadByte.stays (rows_parts c.args.rows.now).0.0 (rows_parts c.loop.rows) (rows_parts c.next.new.self) (g.W.WriteText.written c.args.output.now) (g.W.WriteText.written c.loop.output) c.loop.counter c.loop.invariant g.W.WriteText.failed c.loop.output c.in-Ok-Some.row step
+
+pub returns-in-Err-write_bytes : goal.returns-in-Err-write_bytes
+returns-in-Err-write_bytes g c =
+    let step = subst (λ (o : Option Row). rows_step g.R.ReadByte.left g.R.ReadByte.stays (rows_parts c.loop.rows) (Ok o) (rows_parts c.next.new.self)) c.in-Ok-Some.field-0-is c.in-Ok-Some.ensures in
+    comes_to_write g.R.ReadByte.left g.R.ReadByte.stays (rows_parts c.args.rows.now).0.0 (rows_parts c.loop.rows) (rows_parts c.next.new.self) (g.W.WriteText.written c.args.output.now) (g.W.WriteText.written c.loop.output) c.loop.counter c.loop.invariant c.in-Ok-Some.row step g.W.WriteText.failed (g.W.WriteText.written c.write_bytes.new.self) c.write_bytes.new.self c.in-Err-write_bytes.ensures.failed
 
 pub returns-in-Ok-None : goal.returns-in-Ok-None
 returns-in-Ok-None g c =

@@ -1,4 +1,4 @@
-use Rattle.std.proofs.Common.{rules, refl, sym, subst, ◌∙◌, ap, List, ℕ, ◌++◌, ◌∷◌, [], arith, append_assoc, Option, Ok, Some}
+use Rattle.std.proofs.Common.{rules, refl, sym, subst, ◌∙◌, ap, List, ℕ, ◌++◌, ◌∷◌, [], arith, append_assoc, Option, Ok}
 use Rattle.std.specs.Borrow.{Bor}
 use Rattle.std.proofs.KnownBytes.{Appends-nil, Appends-trans}
 use Rattle.fallible_iterator.specs.Own.{LowersAtItem}

@@ -1,9 +1,8 @@
-use Rattle.std.proofs.Common.{rules, refl, sym, ◌∙◌, subst, Option, Ok, Err, Some, arith, ◌++◌, ◌∷◌, [], ap, true, false}
+use Rattle.std.proofs.Common.{refl, sym, ◌∙◌, subst, Option, Ok, Err, arith, ◌++◌, ◌∷◌, [], false}
 use Rattle.std.proofs.lemmas.List.Elements.{All-nil}
 use Rattle.fallible_pg.specs.Rows.{IsSkipped}
 use Rattle.fallible_iterator.specs.Traces.{item, end}
 use Rattle.fallible_pg.specs.Reading.{messages_parts, message_step}
-use Rattle.fallible_pg.specs.declared.fault.PgFault.{PgFault}
 use Rattle.fallible_pg.specs.declared.message.Message.{Message}
 use Rattle.fallible_pg.proofs.RowLemmas.{all_skipped_more, made_of_kind, yields_more, step_of_draw, place_grows}
 use Rattle.fallible_pg.proofs.rows.RowsFallibleIterator.next.Goals as goal

@@ -1,5 +1,5 @@
 -- Messages were passed that are skipped, each of which has five bytes.
-use Rattle.std.proofs.Common.{◌≡◌, ◌≤◌, ◌*◌, List, Bool, true}
+use Rattle.std.proofs.Common.{◌≡◌, ◌≤◌, ◌*◌, List, true}
 use Rattle.std.specs.Prelude.{All}
 use Rattle.fallible_iterator.specs.Traces.{Yields}
 use Rattle.fallible_pg.specs.Reading.{messages_parts, message_step, place_of}
