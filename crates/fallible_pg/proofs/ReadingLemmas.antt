@@ -1,58 +1,38 @@
 -- Lemmas on bytes that were read, and on the message that they begin.
-use Rattle.std.proofs.Common.{length-take, false, true, ◌≡◌, ℕ, ◌+◌, ◌-◌, ◌≤◌, Bool, List, [], ◌++◌, length, Option, Ok, Err, refl, sym, ap, subst, ◌∙◌, arith, append_assoc}
+use Rattle.std.proofs.Common.{length-take, false, true, ◌≡◌, ℕ, ◌+◌, ◌-◌, ◌≤◌, Bool, List, [], ◌++◌, length, Option, Ok, Err, refl, sym, ap, subst, ◌∙◌, arith}
 use Rattle.std.proofs.lemmas.List.{length-append}
 use Rattle.fallible_iterator.specs.Laws.Closures.{folds_to_then}
-use Rattle.program_io.specs.Bytes.{GivesByte, GivesBytes}
+use Rattle.program_io.specs.Bytes.{GivesByte, GivesBytes, StopsShort, ReadsUpTo}
+use Rattle.program_io.specs.declared.reading.Unread.{Unread}
+use Rattle.program_io.specs.declared.reading.Unread.TheVariants.{End, Failed, Memory}
 use Rattle.fallible_pg.specs.Numbers.{u32_at}
-use Rattle.fallible_pg.specs.Reading.{but_last, StopsShort, ReadsSome, ReadsUpTo, BreaksOff, ReadsMessage}
+use Rattle.fallible_pg.specs.Reading.{but_last, broken_by, BreaksOff, ReadsMessage}
 use Rattle.fallible_pg.specs.Sizes.{is_length, IsMessage}
 use Rattle.fallible_pg.proofs.SizeLemmas.{u32_at-front, first_size-short, first_size-wrong, first_size-cut, first_size-whole, first_size-but_last}
-use Rattle.fallible_pg.specs.declared.fault.Damage.TheVariants.{Cut, Length, Tag, Row}
-use Rattle.fallible_pg.specs.declared.reading.Broken.{Broken}
-use Rattle.fallible_pg.specs.declared.reading.Broken.TheVariants.{Damaged, Read, Memory}
+use Rattle.fallible_pg.specs.declared.fault.Damage.TheVariants.{Length}
+use Rattle.fallible_pg.specs.declared.reading.Broken.TheVariants.{Damaged}
 
 module _ {R : Type 0} (left : R → Option (List ℕ)) (stays : Bool → R → R → Type 0) where
   pub gives_bytes_then : (xs ys : List ℕ) (p q r : R) → GivesBytes left stays p xs q → GivesBytes left stays q ys r → GivesBytes left stays p (xs ++ ys) r
   gives_bytes_then xs ys p q r h k = folds_to_then (GivesByte left stays) xs ys p q r h k
 
-  stops_later : (many more n room : ℕ) (last q : R) (why : Broken) → many + room ≡ n → StopsShort left stays room more last why q → StopsShort left stays n (many + more) last why q
-  stops_later many more n room last q (Damaged Cut) at h = (let few = h.0 in omega (arith, few, at), h.1)
-  stops_later many more n room last q (Damaged (Length k)) at h = h
-  stops_later many more n room last q (Damaged (Tag k)) at h = h
-  stops_later many more n room last q (Damaged Row) at h = h
-  stops_later many more n room last q Read at h = (let few = h.0 in omega (arith, few, at), h.1)
-  stops_later many more n room last q Memory at h = (let few = h.0 in omega (arith, few, at), h.1)
-
-  -- bytes that came, and then a read that broke off
-  pub reads_up_to_broken : (r p q : R) (old more mid new : List ℕ) (n room : ℕ) (why : Broken) → GivesBytes left stays r more p → mid ≡ old ++ more → length mid + room ≡ n → ReadsSome left stays {U = Unit {0}} p mid room (Err why) new q → ReadsUpTo left stays {U = Unit {0}} r old n (Err why) new q
-  reads_up_to_broken r p q old more mid new n room why given are at h =
-      let all : old ++ (more ++ h.0) ≡ mid ++ h.0 = sym (append_assoc old more h.0) ∙ ap (λ l. l ++ h.0) (sym are) in
-      let long : length mid + length h.0 ≡ length (old ++ (more ++ h.0)) = sym (length-append mid h.0) ∙ ap length (sym all) in
-      (more ++ h.0, h.1, gives_bytes_then more h.0 r p h.1 given h.2, subst (λ (k : ℕ). StopsShort left stays n k h.1 why q) long (stops_later (length mid) (length h.0) n room h.1 q why at h.3))
-
   -- ---- a message
 
-  breaks_in_head : (begun : List ℕ) (last q : R) (why : Broken) → StopsShort left stays 5 (length begun) last why q → BreaksOff left stays begun last why q
-  breaks_in_head begun last q (Damaged Cut) h = (first_size-short begun h.0, h.1)
-  breaks_in_head begun last q (Damaged (Length k)) h = absurd h
-  breaks_in_head begun last q (Damaged (Tag k)) h = absurd h
-  breaks_in_head begun last q (Damaged Row) h = absurd h
-  breaks_in_head begun last q Read h = (first_size-short begun h.0, h.1)
+  breaks_in_head : (begun : List ℕ) (last q : R) (why : Unread) → StopsShort left stays 5 (length begun) last why q → BreaksOff left stays begun last (broken_by why) q
+  breaks_in_head begun last q End h = (first_size-short begun h.0, h.1)
+  breaks_in_head begun last q Failed h = (first_size-short begun h.0, h.1)
   breaks_in_head begun last q Memory h = (let few = h.0 in first_size-short (but_last begun) (omega (arith, few, length-take (length begun - 1) begun)), h.1)
 
-  breaks_in_body : (n : ℕ) (begun : List ℕ) (last q : R) (why : Broken) → u32_at begun 1 ≡ n → is_length n ≡ true → 5 ≤ length begun → StopsShort left stays (n + 1) (length begun) last why q → BreaksOff left stays begun last why q
-  breaks_in_body n begun last q (Damaged Cut) stated right long h = (let few = h.0 in first_size-cut begun n stated long right (omega (arith, few)), h.1)
-  breaks_in_body n begun last q (Damaged (Length k)) stated right long h = absurd h
-  breaks_in_body n begun last q (Damaged (Tag k)) stated right long h = absurd h
-  breaks_in_body n begun last q (Damaged Row) stated right long h = absurd h
-  breaks_in_body n begun last q Read stated right long h = (let few = h.0 in first_size-cut begun n stated long right (omega (arith, few)), h.1)
+  breaks_in_body : (n : ℕ) (begun : List ℕ) (last q : R) (why : Unread) → u32_at begun 1 ≡ n → is_length n ≡ true → 5 ≤ length begun → StopsShort left stays (n + 1) (length begun) last why q → BreaksOff left stays begun last (broken_by why) q
+  breaks_in_body n begun last q End stated right long h = (let few = h.0 in first_size-cut begun n stated long right (omega (arith, few)), h.1)
+  breaks_in_body n begun last q Failed stated right long h = (let few = h.0 in first_size-cut begun n stated long right (omega (arith, few)), h.1)
   breaks_in_body n begun last q Memory stated right long h = (first_size-but_last begun n (λ _. stated) right h.0, h.1)
 
   -- the first five bytes, behind none
   pub head_read : (r p : R) (old head : List ℕ) (done : Unit {0}) → old ≡ [] → ReadsUpTo left stays r old 5 (Ok done) head p → GivesBytes left stays r head p × (length head ≡ 5)
   head_read r p old head done none h = (subst (λ l. GivesBytes left stays r l p) (sym (h.1 ∙ ap (λ l. l ++ h.0) none)) h.2, h.3)
 
-  pub head_broken : (r q : R) (old new : List ℕ) (why : Broken) → old ≡ [] → ReadsUpTo left stays {U = Unit {0}} r old 5 (Err why) new q → ReadsMessage left stays r (Err why) q
+  pub head_broken : (r q : R) (old new : List ℕ) (why : Unread) → old ≡ [] → ReadsUpTo left stays {U = Unit {0}} r old 5 (Err why) new q → ReadsMessage left stays r (Err (broken_by why)) q
   head_broken r q old new why none h = (h.0, h.1, h.2, breaks_in_head h.0 h.1 q why (subst (λ l. StopsShort left stays 5 (length (l ++ h.0)) h.1 why q) none h.3))
 
   module _ (r p : R) (head slice : List ℕ) (n : ℕ) (came : GivesBytes left stays r head p × (length head ≡ 5)) (same : slice ≡ head) (stated : n ≡ u32_at slice 1) where
@@ -65,7 +45,7 @@ module _ {R : Type 0} (left : R → Option (List ℕ)) (stays : Bool → R → R
     pub wrong_length : is_length n ≡ false → ReadsMessage left stays r (Err (Damaged (Length n))) p
     wrong_length wrong = (head, p, came.0, (first_size-wrong head n head_states head_long wrong, came.1, refl))
 
-    pub body_broken : (q : R) (new : List ℕ) (why : Broken) → is_length n ≡ true → ReadsUpTo left stays {U = Unit {0}} p head (n + 1) (Err why) new q → ReadsMessage left stays r (Err why) q
+    pub body_broken : (q : R) (new : List ℕ) (why : Unread) → is_length n ≡ true → ReadsUpTo left stays {U = Unit {0}} p head (n + 1) (Err why) new q → ReadsMessage left stays r (Err (broken_by why)) q
     body_broken q new why right h =
         (head ++ h.0, h.1, gives_bytes_then head h.0 r p h.1 came.0 h.2, breaks_in_body n (head ++ h.0) h.1 q why (u32_at-front head h.0 head_long ∙ head_states) right (let five = came.1 in omega (arith, five, length-append head h.0)) h.3)
 

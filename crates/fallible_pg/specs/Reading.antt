@@ -1,5 +1,7 @@
 -- What reading a message takes of a reader.
-use Rattle.std.specs.Prelude.{◌≡◌, ℕ, ◌+◌, ◌-◌, ◌^◌, ◌<◌, ◌≤◌, ◌⊎◌, Bool, List, [], ◌++◌, length, take, Option, Some, None, Result, Ok, Err}
+use Rattle.std.specs.Prelude.{◌≡◌, ℕ, ◌+◌, ◌-◌, ◌^◌, ◌<◌, ◌⊎◌, Bool, List, [], length, take, Option, Some, None, Result, Ok, Err}
+use Rattle.program_io.specs.declared.reading.Unread.{Unread}
+use Rattle.program_io.specs.declared.reading.Unread.TheVariants as Short
 use Rattle.fallible_iterator.specs.Traces.{Answered, end}
 use Rattle.program_io.specs.Bytes.{GivesBytes, GivesEnd, FailsToRead}
 use Rattle.fallible_pg.specs.Messages.{message_bytes}
@@ -21,30 +23,17 @@ abbrev pub place_of : Option ℕ → ℕ
 place_of (Some place) = place
 place_of None = 0
 
+-- what reading a message broke off with, where fewer bytes came
+abbrev pub broken_by : Unread → Broken
+broken_by Short.End = Why.Damaged Cut
+broken_by Short.Failed = Why.Read
+broken_by Short.Memory = Why.Memory
+
 -- the bytes but the last
 abbrev pub but_last : List ℕ → List ℕ
 but_last bytes = take (length bytes - 1) bytes
 
 module _ {R : Type 0} (left : R → Option (List ℕ)) (stays : Bool → R → R → Type 0) where
-  -- ---- so many bytes
-
-  -- Bytes came until there were this many. Why no more did: the end was met, a read failed, or the room for the last of them was refused.
-  abbrev pub StopsShort : ℕ → ℕ → R → Broken → R → Type 0
-  StopsShort n many last (Why.Damaged Cut) q = (many < n) × GivesEnd left stays last q
-  StopsShort n many last (Why.Damaged damage) q = ⊥
-  StopsShort n many last Why.Read q = (many < n) × FailsToRead left stays last q
-  StopsShort n many last Why.Memory q = (many ≤ n) × (q ≡ last)
-
-  -- Some bytes were read behind those that were there, at most so many; or reading them broke off.
-  abbrev pub ReadsSome : {U : Type 0} → R → List ℕ → ℕ → Result U Broken → List ℕ → R → Type 0
-  ReadsSome r old room (Ok done) new q = (more : List ℕ) × (new ≡ old ++ more) × GivesBytes left stays r more q × (1 ≤ length more) × (length more ≤ room)
-  ReadsSome r old room (Err why) new q = (more : List ℕ) × (last : R) × GivesBytes left stays r more last × StopsShort room (length more) last why q
-
-  -- Bytes were read behind those that were there, until they were n; or reading them broke off.
-  abbrev pub ReadsUpTo : {U : Type 0} → R → List ℕ → ℕ → Result U Broken → List ℕ → R → Type 0
-  ReadsUpTo r old n (Ok done) new q = (more : List ℕ) × (new ≡ old ++ more) × GivesBytes left stays r more q × (length new ≡ n)
-  ReadsUpTo r old n (Err why) new q = (more : List ℕ) × (last : R) × GivesBytes left stays r more last × StopsShort n (length (old ++ more)) last why q
-
   -- ---- one message
 
   -- Why a message that begins with these bytes wasn't read: the end was met before its last byte; it states a length that none has; a read failed; or room was refused for these bytes, the last of which is at most its last.

@@ -1,12 +1,12 @@
-//! Reading so many bytes, or a message.
-ghost use Rattle.std.specs.Prelude.{◌≡◌, ◌<◌, ◌≤◌, length};
+//! Reading a message.
+ghost use Rattle.std.specs.Prelude.{◌≡◌};
 ghost use Rattle.fallible_pg.specs.Sizes.{is_length};
-ghost use Rattle.fallible_pg.specs.Reading.{ReadsSome, ReadsUpTo, ReadsMessage};
+ghost use Rattle.fallible_pg.specs.Reading.{ReadsMessage, broken_by};
 
 use crate::fault::Damage;
 use crate::message::Message;
 use crate::numbers::u32_at;
-use program_io::reading::ReadByte;
+use program_io::reading::{ReadByte, Unread, read_up_to};
 use std::alloc::Global;
 
 /// Why a message wasn't read.
@@ -23,48 +23,15 @@ pub enum Broken {
 // The greatest length that a message may state.
 const MAX_LENGTH: u32 = 0x3fff_ffff;
 
-// Reads some bytes, at most so many: all that the reader holds in its buffer, or one. No more room is asked for than what has come.
-fn read_some<R: ReadByte>(reader: &mut R, bytes: &mut Vec<u8>, room: usize) -> Result<(), Broken>
-    requires { 0 < room }
-    ensures { ReadsSome R.left R.stays reader.old bytes.old.items room result bytes.new.items
-        reader.new }
+// What reading broke off with, where fewer bytes came.
+fn broken_by(why: Unread) -> Broken
+    ensures { result ≡ broken_by why }
 {
-    let held = reader.buffered();
-    let count = held.len().min(room);
-    if count > 0 {
-        if bytes.extend_from_slice(&held[..count]).is_err() {
-            return Err(Broken::Memory);
-        }
-        reader.consume_buffered(count);
-        return Ok(());
+    match why {
+        Unread::End => Broken::Damaged(Damage::Cut),
+        Unread::Failed => Broken::Read,
+        Unread::Memory => Broken::Memory,
     }
-    match reader.read_byte() {
-        Ok(Some(byte)) => match bytes.push(byte) {
-            Ok(()) => Ok(()),
-            Err(_) => Err(Broken::Memory),
-        },
-        Ok(None) => Err(Broken::Damaged(Damage::Cut)),
-        Err(_) => Err(Broken::Read),
-    }
-}
-
-// Reads until there are so many bytes.
-fn read_up_to<R: ReadByte>(reader: &mut R, bytes: &mut Vec<u8>, size: usize) -> Result<(), Broken>
-    requires { length bytes.old.items ≤ size }
-    ensures { ReadsUpTo R.left R.stays reader.old bytes.old.items size result bytes.new.items
-        reader.new }
-{
-    for _ in 0..size {
-        let missing = size - bytes.len();
-        if missing == 0 {
-            return Ok(());
-        }
-        match read_some(reader, bytes, missing) {
-            Ok(()) => {}
-            Err(why) => return Err(why),
-        }
-    }
-    Ok(())
 }
 
 // Whether a message may state this length, which counts its own four bytes and the body.
@@ -81,7 +48,7 @@ pub(crate) fn read_message<R: ReadByte>(alloc: Global, reader: &mut R) -> Result
     let mut bytes = Vec::new(alloc);
     match read_up_to(reader, &mut bytes, 5) {
         Ok(()) => {}
-        Err(why) => return Err(why),
+        Err(why) => return Err(broken_by(why)),
     }
     let stated = u32_at(bytes.as_slice(), 1);
     if !is_length(stated) {
@@ -89,6 +56,6 @@ pub(crate) fn read_message<R: ReadByte>(alloc: Global, reader: &mut R) -> Result
     }
     match read_up_to(reader, &mut bytes, stated as usize + 1) {
         Ok(()) => Ok(Message::new(bytes)),
-        Err(why) => Err(why),
+        Err(why) => Err(broken_by(why)),
     }
 }

@@ -1,10 +1,12 @@
 -- The first five bytes state the length, and the rest came behind them.
-use Rattle.std.proofs.Common.{rules}
+use Rattle.std.proofs.Common.{rules, subst, sym, Err}
 use Rattle.fallible_pg.proofs.ReadingLemmas.{head_read, head_broken, wrong_length, body_broken, message_read}
+use Rattle.fallible_pg.specs.Reading.{ReadsMessage}
+use Rattle.fallible_pg.specs.declared.reading.Broken.{Broken}
 use Rattle.fallible_pg.proofs.reading.read_message.Goals as goal
 
 pub returns-in-Err : goal.returns-in-Err
-returns-in-Err g c = head_broken g.R.ReadByte.left g.R.ReadByte.stays c.args.reader.now c.read_up_to.new.reader c.new-bytes.result.items c.read_up_to.new.bytes.items c.in-Err.why c.new-bytes.ensures.items c.in-Err.ensures
+returns-in-Err g c = subst (λ (why : Broken). ReadsMessage g.R.ReadByte.left g.R.ReadByte.stays c.args.reader.now (Err why) c.read_up_to.new.reader) (sym c.broken_by.ensures) (head_broken g.R.ReadByte.left g.R.ReadByte.stays c.args.reader.now c.read_up_to.new.reader c.new-bytes.result.items c.read_up_to.new.bytes.items c.in-Err.why c.new-bytes.ensures.items c.in-Err.ensures)
 
 pub returns-then-not-is_length : goal.returns-then-not-is_length
 returns-then-not-is_length g c =
@@ -25,4 +27,4 @@ returns-in-Ok-read_up_to g c =
 pub returns-in-Err-read_up_to : goal.returns-in-Err-read_up_to
 returns-in-Err-read_up_to g c =
     let came = head_read g.R.ReadByte.left g.R.ReadByte.stays c.args.reader.now c.read_up_to.new.reader c.new-bytes.result.items c.read_up_to.new.bytes.items tt c.new-bytes.ensures.items c.in-Ok.ensures in
-    body_broken g.R.ReadByte.left g.R.ReadByte.stays c.args.reader.now c.read_up_to.new.reader c.read_up_to.new.bytes.items c.as_slice.result.now c.u32_at-stated.result came c.as_slice.ensures.value c.u32_at-stated.ensures c.read_up_to-2.new.reader c.read_up_to-2.new.bytes.items c.in-Err-read_up_to.why (search rules) c.in-Err-read_up_to.ensures
+    subst (λ (why : Broken). ReadsMessage g.R.ReadByte.left g.R.ReadByte.stays c.args.reader.now (Err why) c.read_up_to-2.new.reader) (sym c.broken_by-in-Err-read_up_to.ensures) (body_broken g.R.ReadByte.left g.R.ReadByte.stays c.args.reader.now c.read_up_to.new.reader c.read_up_to.new.bytes.items c.as_slice.result.now c.u32_at-stated.result came c.as_slice.ensures.value c.u32_at-stated.ensures c.read_up_to-2.new.reader c.read_up_to-2.new.bytes.items c.in-Err-read_up_to.why (search rules) c.in-Err-read_up_to.ensures)

@@ -1,7 +1,7 @@
 -- These bytes came behind those that were there.
 use Rattle.std.proofs.Common.{◌≡◌, ◌≤◌, ℕ, List, ◌++◌, length}
 use Rattle.program_io.specs.Bytes.{GivesBytes}
-use Rattle.fallible_pg.proofs.reading.read_up_to.Given as goal
+use Rattle.program_io.proofs.reading.read_up_to.Given as goal
 
 abbrev pub invariant-loop : goal.invariant-loop
 invariant-loop g l = record {

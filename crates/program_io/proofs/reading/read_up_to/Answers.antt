@@ -1,8 +1,8 @@
 -- What each read takes comes behind what came before.
 use Rattle.std.proofs.Common.{rules, ◌-◌, length, [], ◌++◌, refl, sym, ◌∙◌, ap, append_assoc, append-nil, arith}
 use Rattle.std.proofs.lemmas.List.{length-append}
-use Rattle.fallible_pg.proofs.ReadingLemmas.{gives_bytes_then, reads_up_to_broken}
-use Rattle.fallible_pg.proofs.reading.read_up_to.Goals as goal
+use Rattle.program_io.proofs.ReadingLemmas.{gives_bytes_then, reads_up_to_broken}
+use Rattle.program_io.proofs.reading.read_up_to.Goals as goal
 
 pub loop-init : goal.loop-init
 loop-init g c = record { more = []; are = sym (append-nil c.args.bytes.now.items); given = refl; some = search rules; within = c.requires }
