@@ -144,3 +144,56 @@ impl ReadByte for Bytes<'_> {
         }
     }
 }
+
+/// Why fewer bytes came than were wanted.
+#[derive(Clone, Copy, Debug, PartialEq, Eq)]
+pub enum Unread {
+    /// The reader's end was met.
+    End,
+    /// A read failed.
+    Failed,
+    /// An allocation failed.
+    Memory,
+}
+
+// Reads some bytes, at most so many: all that the reader holds in its buffer, or one. No more room is asked for than what has come.
+fn read_some<R: ReadByte>(reader: &mut R, bytes: &mut Vec<u8>, room: usize) -> Result<(), Unread> {
+    let held = reader.buffered();
+    let count = held.len().min(room);
+    if count > 0 {
+        if Ok::<(), AllocError>(bytes.extend_from_slice(&held[..count])).is_err() {
+            return Err(Unread::Memory);
+        }
+        reader.consume_buffered(count);
+        return Ok(());
+    }
+    match reader.read_byte() {
+        Ok(Some(byte)) => match Ok::<(), AllocError>(bytes.push(byte)) {
+            Ok(()) => Ok(()),
+            Err(_) => Err(Unread::Memory),
+        },
+        Ok(None) => Err(Unread::End),
+        Err(_) => Err(Unread::Failed),
+    }
+}
+
+/// Reads until `bytes` has so many. What the reader holds in its buffer is taken at once, and no more room is asked for than what has come, so a wrong number takes none. It fails at the reader's end, where a read fails, and where an allocation does; `bytes` has what came then, but for a byte that had no room.
+///
+/// Requires that it has no more now.
+pub fn read_up_to<R: ReadByte>(
+    reader: &mut R,
+    bytes: &mut Vec<u8>,
+    size: usize,
+) -> Result<(), Unread> {
+    for _ in 0..size {
+        let missing = size - bytes.len();
+        if missing == 0 {
+            return Ok(());
+        }
+        match read_some(reader, bytes, missing) {
+            Ok(()) => {}
+            Err(why) => return Err(why),
+        }
+    }
+    Ok(())
+}
