@@ -5,7 +5,7 @@ use Rattle.fallible_itertools.specs.OrElse.{recovered}
 use Rattle.fallible_itertools.specs.StopAfter.{stopped_after}
 use Rattle.fallible_rows.specs.declared.fault.RowFault.{RowFault}
 use Rattle.fallible_rows.specs.declared.fault.RowFault.TheVariants.{Row, Read}
-use Rattle.fallible_rows.specs.declared.reading.ReadFailed.{ReadFailed}
+use Rattle.program_io.specs.declared.reading.ReadFailed.{ReadFailed}
 use Rattle.example_itertools.specs.Rows.{row_more}
 use Rattle.example_itertools.specs.declared.reading.NoTally.{NoTally}
 use Rattle.example_itertools.specs.declared.reading.NoTally.TheVariants.{TooManyBad, NotRead}
