@@ -189,7 +189,7 @@ fn positions_count_all_items() -> Result<(), Fail> {
     for (answers, expected) in &PLACES {
         let mut it = numbers(answers).positions(is_odd);
         let hint = it.size_hint();
-        let drawn = [it.next(), it.next(), it.next(), it.next()];
+        let drawn = [it.draw(), it.draw(), it.draw(), it.draw()];
         let number = numbers(answers).positions(is_odd).count();
         expect_same(&(hint, drawn, number), expected)?;
     }
