@@ -53,7 +53,7 @@ def drawn(text):
     text = re.sub(r"\(\*\*self\)", "self.it", text)
     text = re.sub(r"self\.(\w+)\.size_hint\(\)(?:\.([01]))?", letters, text)
     text = re.sub(r"[&*]?\bself\.", "", text)
-    text = re.sub(r"\b[\w.]+\.is_(?:some\(\)|held\([\w.]*\))", "is_held", text)
+    text = re.sub(r"\b[\w.]+\.is_some\(\)", "is_held", text)
     return re.sub(r",? \)", ")", re.sub(r"\( ", "(", text)).strip()
 
 

@@ -1,16 +1,52 @@
 // The adapter that merges adjacent items.
 
-use crate::coalesce_by::{CoalesceBy, HoldOne};
-use crate::holding::Hold;
-use fallible_iterator::FallibleIterator;
-use fallible_iterator::extending::Outcome;
+use crate::holding::{Hold, drive_holding, with_held};
+use fallible_iterator::extending::{FirstTurn, Outcome};
+use fallible_iterator::{FallibleIterator, Turn};
 
 /// Adjacent items, merged where the closure makes one of two. The item merged so far is buffered until the closure keeps two apart, or a stop comes: `Ok(None)` or a failure, which the next call returns.
-pub type Coalesce<I, F> = CoalesceBy<I, (Option<<I as FallibleIterator>::Item>, F), CoalesceHold>;
+#[derive(Clone, Debug)]
+#[must_use = "an iterator draws nothing until it is asked"]
+pub struct Coalesce<I: FallibleIterator, F> {
+    pub(crate) it: I,
+    // the buffered item, and the closure; and the stop that is due: `Ok(None)`, or a failure
+    pub(crate) stage: ((Option<I::Item>, F), Option<Option<I::Error>>),
+}
+
+impl<
+    I: FallibleIterator,
+    F: FnMut(I::Item, I::Item) -> Result<Result<I::Item, (I::Item, I::Item)>, I::Error>,
+> FallibleIterator for Coalesce<I, F>
+{
+    type Item = I::Item;
+
+    type Error = I::Error;
+
+    /// Returns the stop that is due, without a draw. Otherwise it draws until the closure keeps two items apart, or a stop comes.
+    fn next(&mut self) -> Result<Option<I::Item>, I::Error> {
+        self.drive(&mut (), &FirstTurn)
+    }
+
+    fn size_hint(&self) -> (usize, Option<usize>) {
+        match self.stage.1 {
+            Some(None) => (0, Some(0)),
+            _ => with_held(self.it.size_hint(), self.stage.0.0.is_some()),
+        }
+    }
+
+    fn drive<C, R, K: Turn<C, I::Item, R>>(
+        &mut self,
+        state: &mut C,
+        turn: &K,
+    ) -> Result<Option<R>, I::Error> {
+        drive_holding(&mut self.it, &mut self.stage, &CoalesceHold, state, turn)
+    }
+
+    fallible_iterator::by_drive!(drive);
+}
 
 // What the closure makes of the buffered item and the next one.
-#[derive(Clone, Debug)]
-pub struct CoalesceHold;
+struct CoalesceHold;
 
 impl<X, E, F: FnMut(X, X) -> Result<Result<X, (X, X)>, E>> Hold<(Option<X>, F), X, E>
     for CoalesceHold
@@ -38,13 +74,5 @@ impl<X, E, F: FnMut(X, X) -> Result<Result<X, (X, X)>, E>> Hold<(Option<X>, F), 
             (Some(first), None) => Outcome::Kept(first),
             (None, None) => Outcome::End,
         }
-    }
-}
-
-impl<X, E, F: FnMut(X, X) -> Result<Result<X, (X, X)>, E>> HoldOne<(Option<X>, F), X, E>
-    for CoalesceHold
-{
-    fn is_held(&self, holds: &(Option<X>, F)) -> bool {
-        holds.0.is_some()
     }
 }

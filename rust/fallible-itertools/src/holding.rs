@@ -16,8 +16,8 @@ pub trait Hold<P, X, E> {
     /// As it is proved, in [these words](crate::words):
     ///
     /// ```text
-    /// requires { can_ask holds.old asked }
-    /// ensures { asks holds.old asked result holds.new }
+    /// requires { can_ask self.now holds.old asked }
+    /// ensures { asks self.now holds.old asked result holds.new }
     /// ```
     /// </details>
     fn ask(&self, holds: &mut P, asked: Option<X>) -> Outcome<Self::Kept, E>;
@@ -76,11 +76,11 @@ fn made_at_stop<P, X, E, A: Hold<P, X, E>>(
 /// As it is proved, in [these words](crate::words):
 ///
 /// ```text
-/// requires can_next { (holding_contract I.contract A.asks A.can_ask
-///     A.held (λ _ _. ⊤)).can_next (it.old, stage.old) }
-/// requires callable { CallableDriving (holding_step A.asks I.contract.steps)
+/// requires can_next { (holding_contract I.contract (A.asks adapter.now) (A.can_ask adapter.now)
+///     (A.held adapter.now) (λ _ _. ⊤)).can_next (it.old, stage.old) }
+/// requires callable { CallableDriving (holding_step (A.asks adapter.now) I.contract.steps)
 ///     (K.turns turn.now) (K.can_turn turn.now) (it.old, stage.old) state.old }
-/// ensures { Driven (holding_step A.asks I.contract.steps)
+/// ensures { Driven (holding_step (A.asks adapter.now) I.contract.steps)
 ///     (K.turns turn.now) (it.old, stage.old) state.old result (it.new, stage.new) state.new }
 /// ```
 /// </details>
@@ -109,8 +109,8 @@ pub fn drive_holding<
 ///
 /// ```text
 /// requires none_due { due.old ≡ None }
-/// requires can_ask { A.can_ask holds.old None }
-/// ensures { AtStop A.asks holds.old stop result (holds.new, due.new) }
+/// requires can_ask { A.can_ask adapter.now holds.old None }
+/// ensures { AtStop (A.asks adapter.now) holds.old stop result (holds.new, due.new) }
 /// ```
 /// </details>
 pub fn at_stop<P, X, E, A: Hold<P, X, E>>(

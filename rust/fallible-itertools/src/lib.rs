@@ -31,8 +31,6 @@ pub mod chunks;
 pub mod cmp_by;
 #[doc(hidden)]
 pub mod coalesce;
-#[doc(hidden)]
-pub mod coalesce_by;
 mod converting;
 #[doc(hidden)]
 pub mod copied;
@@ -125,7 +123,6 @@ pub use chunk_by::ChunkBy;
 #[cfg(feature = "alloc")]
 pub use chunks::Chunks;
 pub use coalesce::Coalesce;
-pub use coalesce_by::CoalesceBy;
 pub use copied::Copied;
 pub use dedup::Dedup;
 pub use dedup_by::DedupBy;

@@ -12,7 +12,7 @@ type Of<M> = Source<M>;
 fn each_iterator_has_what_it_keeps() {
     // The source.
     rows! { M;
-        M => ChunkBy<Of<M>, (), ()>, Chunks<Of<M>>, Coalesce<Of<M>, ()>, CoalesceBy<Of<M>, (), ()>, Copied<M>,
+        M => ChunkBy<Of<M>, (), ()>, Chunks<Of<M>>, Coalesce<Of<M>, ()>, CoalesceBy<Of<M>, (), (), ()>, Copied<M>,
             Dedup<Of<M>>, DedupBy<Of<M>, ()>, DedupByKey<Of<M>, (), ()>, ErrInto<M, ()>, InspectErr<M, ()>, Intersperse<Of<M>>,
             IntersperseWith<Of<M>, ()>,
             Merge<Of<M>, ()>, Merge<Of<()>, M>, MergeBy<Of<M>, (), ()>, MergeBy<Of<()>, M, ()>, OrElse<M, ()>,
@@ -21,8 +21,8 @@ fn each_iterator_has_what_it_keeps() {
     }
     // The closure, a key, and a rule.
     rows! { M;
-        M => ChunkBy<Of<()>, (), M>, ChunkBy<Of<()>, M, ()>, Coalesce<Of<()>, M>, CoalesceBy<Of<()>, M, ()>,
-            CoalesceBy<Of<()>, (), M>, DedupBy<Of<()>, M>,
+        M => ChunkBy<Of<()>, (), M>, ChunkBy<Of<()>, M, ()>, Coalesce<Of<()>, M>, CoalesceBy<Of<()>, (), M, ()>,
+            CoalesceBy<Of<()>, M, (), ()>, CoalesceBy<Of<()>, (), (), M>, DedupBy<Of<()>, M>,
             DedupByKey<Of<()>, (), M>, DedupByKey<Of<()>, M, ()>, InspectErr<(), M>, IntersperseWith<Of<()>, M>,
             MergeBy<Of<()>, (), M>, OrElse<(), M>, PadUsing<(), M>, PeekingTakeWhile<(), M>,
             Positions<(), M>, TakeWhileInclusive<(), M>;
