@@ -9,7 +9,6 @@ pub mod Chunks
 pub mod ChunksHints
 pub mod CmpBy
 pub mod Coalesce
-pub mod CoalesceBy
 pub mod Conversions
 pub mod Copied
 pub mod Counts

@@ -1,12 +1,11 @@
 -- `Coalesce`, which puts adjacent items together where a closure makes one of two.
-use Rattle.std.specs.Prelude.{◌≡◌, Option, Some, None, Result, Ok, Err, List, [], ◌∷◌}
+use Rattle.std.specs.Prelude.{◌≡◌, Option, Some, None, Result, Ok, Err, List, [], ◌∷◌, ⊤}
 use Rattle.std.specs.Fn.{Mut}
 use Rattle.fallible_iterator.specs.Contract.{Contract}
 use Rattle.fallible_iterator.specs.Folds.{call_with, takes_with}
-use Rattle.fallible_itertools.specs.CoalesceBy.{asks_of_two, takes_of_two}
 use Rattle.fallible_itertools.specs.Holding.{holding_contract, held_beside, one_at_least}
 use Rattle.fallible_iterator.specs.Outcome.{Outcome}
-use Rattle.fallible_iterator.specs.Outcome.TheVariants.{Kept, LeftOut, Failure}
+use Rattle.fallible_iterator.specs.Outcome.TheVariants.{Kept, LeftOut, Failure, End}
 
 -- what a closure returns for two items: one to go on in their place, or two that stay apart; or a failure
 abbrev pub OneOrBoth : Type 0 → Type 0 → Type 0
@@ -21,11 +20,16 @@ coalesced_by (Err e) o q = (o ≡ Failure e) × (q ≡ None)
 module _ {A F E : Type 0} (call : F → A → A → OneOrBoth A E → F → Type 0) where
   -- An item is held beside the closure, which is called on it and the next one.
   abbrev pub coalesce_asks : Option A × F → Option A → Outcome A E → Option A × F → Type 0
-  coalesce_asks p asked o q = asks_of_two call (λ y x v. coalesced_by v) p asked o q
+  coalesce_asks (None, f) (Some x) o q = (o ≡ LeftOut) × (q ≡ (Some x, f))
+  coalesce_asks (Some y, f) (Some x) o q = (v : OneOrBoth A E) × call f y x v q.1 × coalesced_by v o q.0
+  coalesce_asks (None, f) None o q = (o ≡ End) × (q ≡ (None, f))
+  coalesce_asks (Some y, f) None o q = (o ≡ Kept y) × (q ≡ (None, f))
 
 -- the closure may be called on what is held and the item
 abbrev pub coalesce_takes : {A F : Type 0} → (F → A → A → Type 0) → Option A × F → Option A → Type 0
-coalesce_takes takes p asked = takes_of_two takes p asked
+coalesce_takes takes (None, f) asked = ⊤
+coalesce_takes takes (Some y, f) None = ⊤
+coalesce_takes takes (Some y, f) (Some x) = takes f y x
 
 -- `Coalesce`'s contract
 abbrev pub coalesce_contract : {S A F E : Type 0} → Contract S A E → Mut F (A × (A × Unit {0})) (OneOrBoth A E) → Contract (S × ((Option A × F) × Option (Option E))) A E

@@ -1,13 +1,12 @@
 -- `DedupBy`, which yields the first of adjacent items that a closure finds the same.
-use Rattle.std.specs.Prelude.{◌≡◌, Bool, true, false, Option, Some, None, Result, Ok, Err, List, [], ◌∷◌}
+use Rattle.std.specs.Prelude.{◌≡◌, Bool, true, false, Option, Some, None, Result, Ok, Err, List, [], ◌∷◌, ⊤}
 use Rattle.std.specs.Fn.{Mut}
 use Rattle.std.specs.Borrow.{Bor}
 use Rattle.fallible_iterator.specs.Contract.{Contract}
 use Rattle.fallible_iterator.specs.Picking.{call_at_two, takes_at_two}
-use Rattle.fallible_itertools.specs.CoalesceBy.{asks_of_two, takes_of_two}
 use Rattle.fallible_itertools.specs.Holding.{holding_contract, held_beside, one_at_least}
 use Rattle.fallible_iterator.specs.Outcome.{Outcome}
-use Rattle.fallible_iterator.specs.Outcome.TheVariants.{Kept, LeftOut, Failure}
+use Rattle.fallible_iterator.specs.Outcome.TheVariants.{Kept, LeftOut, Failure, End}
 
 -- What becomes of an item x beside the item y that is held, by the closure's result: x is left out if they are the same, and otherwise y is yielded and x is held; if the closure fails, x is lost, and nothing else is.
 abbrev pub found_same : {A E : Type 0} → A → A → Result Bool E → Outcome A E → Option A → Type 0
@@ -18,11 +17,16 @@ found_same y x (Err e) o q = (o ≡ Failure e) × (q ≡ Some y)
 module _ {A F E : Type 0} (call : F → A → A → Result Bool E → F → Type 0) where
   -- An item is held beside the closure, which is called on references to it and the next one.
   abbrev pub dedup_by_asks : Option A × F → Option A → Outcome A E → Option A × F → Type 0
-  dedup_by_asks p asked o q = asks_of_two call found_same p asked o q
+  dedup_by_asks (None, f) (Some x) o q = (o ≡ LeftOut) × (q ≡ (Some x, f))
+  dedup_by_asks (Some y, f) (Some x) o q = (v : Result Bool E) × call f y x v q.1 × found_same y x v o q.0
+  dedup_by_asks (None, f) None o q = (o ≡ End) × (q ≡ (None, f))
+  dedup_by_asks (Some y, f) None o q = (o ≡ Kept y) × (q ≡ (None, f))
 
 -- the closure may be called on references to what is held and the item
 abbrev pub dedup_by_takes : {A F : Type 0} → (F → A → A → Type 0) → Option A × F → Option A → Type 0
-dedup_by_takes takes p asked = takes_of_two takes p asked
+dedup_by_takes takes (None, f) asked = ⊤
+dedup_by_takes takes (Some y, f) None = ⊤
+dedup_by_takes takes (Some y, f) (Some x) = takes f y x
 
 -- `DedupBy`'s contract
 abbrev pub dedup_by_contract : {S A F E : Type 0} → Contract S A E → Mut F (Bor A × (Bor A × Unit {0})) (Result Bool E) → Contract (S × ((Option A × F) × Option (Option E))) A E

@@ -2,7 +2,6 @@
 pub mod ChunkBy
 pub mod Chunks
 pub mod Coalesce
-pub mod CoalesceBy
 pub mod Copied
 pub mod Dedup
 pub mod DedupBy

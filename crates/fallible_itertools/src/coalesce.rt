@@ -4,8 +4,7 @@ ghost use Rattle.std.proofs.Common.{refl};
 ghost use Rattle.fallible_iterator.specs.Folds.{call_with, takes_with};
 ghost use Rattle.fallible_itertools.specs.Coalesce.{coalesce_asks, coalesce_takes};
 ghost use Rattle.fallible_itertools.specs.Holding.{held_beside};
-ghost use Rattle.fallible_itertools.specs.Laws.Coalesce.{holds_coalesce};
-ghost use Rattle.fallible_itertools.specs.Laws.CoalesceBy.{takes_of_two_stop};
+ghost use Rattle.fallible_itertools.specs.Laws.Coalesce.{coalesce_takes_stop, holds_coalesce};
 
 use crate::coalesce_by::{CoalesceBy, HoldOne};
 use crate::holding::Hold;
@@ -55,7 +54,7 @@ impl<X: Drop, E, F: FnMut(X, X) -> Result<Result<X, (X, X)>, E>> Hold<(Option<X>
         }
     }
 
-    ghost can_stop = { λ p. takes_of_two_stop (takes_with F.FnMut) p };
+    ghost can_stop = { λ p. coalesce_takes_stop (takes_with F.FnMut) p };
 
     ghost holds = { holds_coalesce (call_with F.FnMut) };
 }

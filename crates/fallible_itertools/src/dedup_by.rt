@@ -4,8 +4,7 @@ ghost use Rattle.std.proofs.Common.{refl};
 ghost use Rattle.fallible_iterator.specs.Picking.{call_at_two, takes_at_two};
 ghost use Rattle.fallible_itertools.specs.DedupBy.{dedup_by_asks, dedup_by_takes};
 ghost use Rattle.fallible_itertools.specs.Holding.{held_beside};
-ghost use Rattle.fallible_itertools.specs.Laws.CoalesceBy.{takes_of_two_stop};
-ghost use Rattle.fallible_itertools.specs.Laws.DedupBy.{holds_dedup_by};
+ghost use Rattle.fallible_itertools.specs.Laws.DedupBy.{dedup_by_takes_stop, holds_dedup_by};
 
 use crate::coalesce_by::{CoalesceBy, HoldOne};
 use crate::holding::Hold;
@@ -57,7 +56,7 @@ impl<X: Drop, E, F: FnMut(&X, &X) -> Result<bool, E>> Hold<(Option<X>, F), X, E>
         }
     }
 
-    ghost can_stop = { λ p. takes_of_two_stop (takes_at_two F.FnMut) p };
+    ghost can_stop = { λ p. dedup_by_takes_stop (takes_at_two F.FnMut) p };
 
     ghost holds = { holds_dedup_by (call_at_two F.FnMut) };
 }

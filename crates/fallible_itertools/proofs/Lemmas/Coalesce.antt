@@ -1,7 +1,7 @@
 -- What `Coalesce` lists, that adjacent ones of these are kept apart, and its hint.
 use Rattle.std.specs.Prelude.{◌≡◌, Option, Some, None, Result, Ok, Err, List, [], ◌∷◌, ◌++◌}
 use Rattle.std.specs.Fn.{Mut}
-use Rattle.std.proofs.Common.{refl, sym, ap, subst}
+use Rattle.std.proofs.Common.{refl, sym, ap, subst, ◌∙◌}
 use Rattle.fallible_iterator.specs.Contract.{Contract, seen_as}
 use Rattle.fallible_iterator.specs.Folds.{call_with}
 use Rattle.fallible_iterator.specs.Lists.{ActsWith, Lists}
@@ -10,51 +10,64 @@ use Rattle.fallible_itertools.specs.Adjacent.{AdjacentItems}
 use Rattle.fallible_itertools.specs.CoalesceBy.{coalesce_by_parts}
 use Rattle.fallible_itertools.specs.Coalesce.{KeepsApart, OneOrBoth, coalesced_by, coalesce_asks, coalesced_at, coalesce_contract, coalesced, coalesced_from}
 use Rattle.fallible_itertools.proofs.Lemmas.Adjacent.{EachNext, HoldsOfNext, adjacent_of_next}
-use Rattle.fallible_itertools.proofs.Lemmas.CoalesceBy.{acts_of_two, next_of_two, no_end_at_item, none_held_after_stop, outcome_of_two}
 use Rattle.fallible_itertools.proofs.Lemmas.HoldingLists.{by_outcome, held_list, listed_parts, gives_held_list}
 use Rattle.fallible_iterator.specs.Outcome.{Outcome}
 use Rattle.fallible_iterator.specs.Outcome.TheVariants.{Kept, LeftOut, Failure, End}
 use Rattle.fallible_itertools.specs.declared.coalesce_by.CoalesceBy.{CoalesceBy}
 
 module _ {A E : Type 0} where
-  abbrev next_held_by : A → A → OneOrBoth A E → Option A
-  next_held_by y x (Ok (Ok z)) = Some z
-  next_held_by y x (Ok (Err both)) = Some both.1
-  next_held_by y x (Err e) = None
+  abbrev next_held_by : OneOrBoth A E → Option A
+  next_held_by (Ok (Ok z)) = Some z
+  next_held_by (Ok (Err both)) = Some both.1
+  next_held_by (Err e) = None
 
-  abbrev held_outcome_by : A → A → OneOrBoth A E → Outcome A E
-  held_outcome_by y x (Ok (Ok z)) = LeftOut
-  held_outcome_by y x (Ok (Err both)) = Kept both.0
-  held_outcome_by y x (Err e) = Failure e
+  abbrev held_outcome_by : OneOrBoth A E → Outcome A E
+  held_outcome_by (Ok (Ok z)) = LeftOut
+  held_outcome_by (Ok (Err both)) = Kept both.0
+  held_outcome_by (Err e) = Failure e
 
-  held_and_outcome_by : (y x : A) (v : OneOrBoth A E) (o : Outcome A E) (q : Option A) → coalesced_by v o q → (q ≡ next_held_by y x v) × (o ≡ held_outcome_by y x v)
-  held_and_outcome_by y x (Ok (Ok z)) o q w = (w.1, w.0)
-  held_and_outcome_by y x (Ok (Err both)) o q w = (w.1, w.0)
-  held_and_outcome_by y x (Err e) o q w = (w.1, w.0)
-
-  no_end_by : (y x : A) (v : OneOrBoth A E) → held_outcome_by y x v ≡ End → ⊥
-  no_end_by y x (Ok (Ok z)) is = absurd cc
-  no_end_by y x (Ok (Err both)) is = absurd cc
-  no_end_by y x (Err e) is = absurd cc
+  held_and_outcome_by : (v : OneOrBoth A E) (o : Outcome A E) (q : Option A) → coalesced_by v o q → (q ≡ next_held_by v) × (o ≡ held_outcome_by v)
+  held_and_outcome_by (Ok (Ok z)) o q w = (w.1, w.0)
+  held_and_outcome_by (Ok (Err both)) o q w = (w.1, w.0)
+  held_and_outcome_by (Err e) o q w = (w.1, w.0)
 
 module _ {A E : Type 0} (h : A → A → OneOrBoth A E) where
   abbrev next_held : Option A → Option A → Option A
-  next_held = next_of_two next_held_by h
+  next_held None (Some x) = Some x
+  next_held (Some y) (Some x) = next_held_by (h y x)
+  next_held None None = None
+  next_held (Some y) None = None
 
   abbrev held_outcome : Option A → Option A → Outcome A E
-  held_outcome = outcome_of_two held_outcome_by h
+  held_outcome None (Some x) = LeftOut
+  held_outcome (Some y) (Some x) = held_outcome_by (h y x)
+  held_outcome None None = End
+  held_outcome (Some y) None = Kept y
 
-  by_outcome_cons_at : (y x : A) (v : OneOrBoth A E) (l : List (Result A E)) → ((a : Option A) → held_list held_outcome next_held a l ≡ coalesced_from h a l) → by_outcome held_outcome next_held (held_outcome_by y x v) (next_held_by y x v) l ≡ coalesced_at v (λ held. coalesced_from h held l)
-  by_outcome_cons_at y x (Ok (Ok z)) l rest = rest (Some z)
-  by_outcome_cons_at y x (Ok (Err both)) l rest = ap (λ k. Ok both.0 ∷ k) (rest (Some both.1))
-  by_outcome_cons_at y x (Err e) l rest = ap (λ k. Err e ∷ k) (rest None)
+  next_held_at_stop_none : (a : Option A) → next_held a None ≡ None
+  next_held_at_stop_none None = refl
+  next_held_at_stop_none (Some y) = refl
+
+  no_end_by : (v : OneOrBoth A E) → held_outcome_by v ≡ End → ⊥
+  no_end_by (Ok (Ok z)) is = absurd cc
+  no_end_by (Ok (Err both)) is = absurd cc
+  no_end_by (Err e) is = absurd cc
+
+  outcome_never_end : (a : Option A) (x : A) → held_outcome a (Some x) ≡ End → ⊥
+  outcome_never_end None x is = absurd cc
+  outcome_never_end (Some y) x is = no_end_by (h y x) is
+
+  by_outcome_cons_at : (v : OneOrBoth A E) (l : List (Result A E)) → ((a : Option A) → held_list held_outcome next_held a l ≡ coalesced_from h a l) → by_outcome held_outcome next_held (held_outcome_by v) (next_held_by v) l ≡ coalesced_at v (λ held. coalesced_from h held l)
+  by_outcome_cons_at (Ok (Ok z)) l rest = rest (Some z)
+  by_outcome_cons_at (Ok (Err both)) l rest = ap (λ k. Ok both.0 ∷ k) (rest (Some both.1))
+  by_outcome_cons_at (Err e) l rest = ap (λ k. Err e ∷ k) (rest None)
 
   held_list_is_coalesced_from : (a : Option A) (l : List (Result A E)) → held_list held_outcome next_held a l ≡ coalesced_from h a l
   unfolding coalesced_from
   held_list_is_coalesced_from None [] = refl
   held_list_is_coalesced_from (Some y) [] = refl
   held_list_is_coalesced_from None (Ok x ∷ l) = held_list_is_coalesced_from (Some x) l
-  held_list_is_coalesced_from (Some y) (Ok x ∷ l) = by_outcome_cons_at y x (h y x) l (λ a. held_list_is_coalesced_from a l)
+  held_list_is_coalesced_from (Some y) (Ok x ∷ l) = by_outcome_cons_at (h y x) l (λ a. held_list_is_coalesced_from a l)
   held_list_is_coalesced_from None (Err e ∷ l) = ap (λ k. Err e ∷ k) (held_list_is_coalesced_from None l)
   held_list_is_coalesced_from (Some y) (Err e ∷ l) = ap (λ k. Ok y ∷ Err e ∷ k) (held_list_is_coalesced_from None l)
 
@@ -64,11 +77,28 @@ module _ {A E : Type 0} (h : A → A → OneOrBoth A E) where
 
   -- What stands before a failure is put together by itself, and so is what comes after it.
   pub coalesced_in_parts : (a : List (Result A E)) (e : E) (b : List (Result A E)) → coalesced h (a ++ Err e ∷ b) ≡ coalesced h a ++ Err e ∷ coalesced h b
-  coalesced_in_parts a e b = listed_parts held_outcome next_held None (none_held_after_stop next_held_by h) (no_end_at_item held_outcome_by h no_end_by) (coalesced h) held_list_is_coalesced a e b
+  coalesced_in_parts a e b = listed_parts held_outcome next_held None next_held_at_stop_none outcome_never_end (coalesced h) held_list_is_coalesced a e b
+
+  module _ {F : Type 0} (call : F → A → A → OneOrBoth A E → F → Type 0) (f : F) (acts_with : ActsWith call f h) where
+    pair_of_parts : (q : Option A × F) {held : Option A} → q.0 ≡ held → q.1 ≡ f → q ≡ (held, f)
+    pair_of_parts (a, g) same is = rw (same, is) refl
+
+    -- an item is held beside the closure
+    abbrev HeldAndClosure : Option A × F → Option A → Type 0
+    HeldAndClosure p a = p ≡ (a, f)
+
+    asks_is_function : (a x : Option A) (o : Outcome A E) (q : Option A × F) → coalesce_asks call (a, f) x o q → HeldAndClosure q (next_held a x) × (o ≡ held_outcome a x)
+    asks_is_function None (Some x) o q w = (w.1, w.0)
+    asks_is_function (Some y) (Some x) o q w = let d = acts_with y x w.0 q.1 w.1 in let v = held_and_outcome_by w.0 o q.0 w.2 in (pair_of_parts q (v.0 ∙ ap next_held_by d.1) d.0, v.1 ∙ ap held_outcome_by d.1)
+    asks_is_function None None o q w = (w.1, w.0)
+    asks_is_function (Some y) None o q w = (w.1, w.0)
+
+    acts_by_next : (p : Option A × F) (a x : Option A) (o : Outcome A E) (q : Option A × F) → HeldAndClosure p a → coalesce_asks call p x o q → HeldAndClosure q (next_held a x) × (o ≡ held_outcome a x)
+    acts_by_next p a x o q at w = asks_is_function a x o q (subst (λ k. coalesce_asks call k x o q) at w)
 
 pub lists_coalesced : {S A F E R : Type 0} (m : Contract S A E) (g : Mut F (A × (A × Unit {0})) (OneOrBoth A E)) (s : CoalesceBy S (Option A × F) R A E) (f : F) (h : A → A → OneOrBoth A E) (l : List (Result A E)) → coalesce_by_parts s ≡ (s.it, ((None, f), None)) → ActsWith (call_with g) f h → Lists m.steps s.it l
     → Lists (seen_as coalesce_by_parts (coalesce_contract m g)).steps s (coalesced h l)
-lists_coalesced m g s f h l parts a i = lists_seen coalesce_by_parts (coalesce_contract m g).steps s parts (held_list_is_coalesced h l) (gives_held_list m.steps (coalesce_asks (call_with g)) (λ p held. p ≡ (held, f)) (held_outcome h) (next_held h) (acts_of_two next_held_by held_outcome_by h (call_with g) (λ y x v. coalesced_by v) held_and_outcome_by f a) l s.it (None, f) None refl i.runs)
+lists_coalesced m g s f h l parts a i = lists_seen coalesce_by_parts (coalesce_contract m g).steps s parts (held_list_is_coalesced h l) (gives_held_list m.steps (coalesce_asks (call_with g)) (HeldAndClosure h (call_with g) f a) (held_outcome h) (next_held h) (acts_by_next h (call_with g) f a) l s.it (None, f) None refl i.runs)
 
 -- ---- adjacent ones are apart
 
@@ -109,3 +139,9 @@ module _ {A E : Type 0} (h : A → A → OneOrBoth A E) (keeps : KeepsApart h) w
   pub coalesced_apart : (l : List (Result A E)) → AdjacentItems (λ x y. h x y ≡ Ok (Err (x, y))) (coalesced h l)
   unfolding coalesced
   coalesced_apart l = adjacent_of_next Apart (coalesced_from h None l) (each_next_apart None l)
+
+-- ---- one item beside the one that is held
+
+module _ {A F E : Type 0} (call : F → A → A → OneOrBoth A E → F → Type 0) where
+  pub coalesce_asks_two : (p : Option A × F) (asked : Option A) (y x : A) (v : OneOrBoth A E) (f : F) (o : Outcome A E) (q : Option A) → p.0 ≡ Some y → asked ≡ Some x → call p.1 y x v f → coalesced_by v o q → coalesce_asks call p asked o (q, f)
+  coalesce_asks_two (held, g) asked y x v f o q is same called by = rw (is, same) (v, called, by)

@@ -5,33 +5,38 @@ use Rattle.fallible_iterator.specs.Contract.{Contract, seen_as}
 use Rattle.fallible_iterator.specs.Lists.{Lists}
 use Rattle.fallible_iterator.proofs.Lemmas.Lists.Passing.{lists_seen}
 use Rattle.fallible_itertools.specs.Dedup.{dedup_at, dedup_asks, dedup_before, dedup_contract, dedup_parts, deduped, deduped_at}
-use Rattle.fallible_itertools.proofs.Lemmas.CoalesceBy.{next_of_two, no_end_at_item, none_held_after_stop, outcome_of_two}
 use Rattle.fallible_itertools.proofs.Lemmas.HoldingLists.{by_outcome, held_list, listed_parts, gives_held_list}
 use Rattle.fallible_iterator.specs.Outcome.{Outcome}
 use Rattle.fallible_iterator.specs.Outcome.TheVariants.{Kept, LeftOut, End}
 use Rattle.fallible_itertools.specs.declared.dedup.Dedup.{Dedup}
 
-abbrev next_held_at : {A : Type 0} → A → A → Bool → Option A
-next_held_at y x true = Some y
-next_held_at y x false = Some x
+module _ {A : Type 0} (eq : A → A → Bool) where
+  abbrev next_held_at : A → A → Bool → Option A
+  next_held_at y x true = Some y
+  next_held_at y x false = Some x
 
-abbrev next_held : {A : Type 0} → (A → A → Bool) → Option A → Option A → Option A
-next_held eq = next_of_two next_held_at eq
+  abbrev next_held : Option A → Option A → Option A
+  next_held None (Some x) = Some x
+  next_held (Some y) (Some x) = next_held_at y x (eq y x)
+  next_held None None = None
+  next_held (Some y) None = None
 
-module _ {A E : Type 0} where
-  abbrev held_outcome_at : A → A → Bool → Outcome A E
-  held_outcome_at y x true = LeftOut
-  held_outcome_at y x false = Kept y
-
-  no_end_at : (y x : A) (b : Bool) → held_outcome_at y x b ≡ End → ⊥
-  no_end_at y x true is = absurd cc
-  no_end_at y x false is = absurd cc
+  next_held_at_stop_none : (a : Option A) → next_held a None ≡ None
+  next_held_at_stop_none None = refl
+  next_held_at_stop_none (Some y) = refl
 
 module _ {A E : Type 0} (eq : A → A → Bool) where
-  abbrev held_outcome : Option A → Option A → Outcome A E
-  held_outcome = outcome_of_two held_outcome_at eq
+  abbrev held_outcome_at : A → Bool → Outcome A E
+  held_outcome_at y true = LeftOut
+  held_outcome_at y false = Kept y
 
-  held_and_outcome_at : (y x : A) (b : Bool) (o : Outcome A E) (q : Option A) → dedup_at eq y x b o q → (q ≡ next_held_at y x b) × (o ≡ held_outcome_at y x b)
+  abbrev held_outcome : Option A → Option A → Outcome A E
+  held_outcome None (Some x) = LeftOut
+  held_outcome (Some y) (Some x) = held_outcome_at y (eq y x)
+  held_outcome None None = End
+  held_outcome (Some y) None = Kept y
+
+  held_and_outcome_at : (y x : A) (b : Bool) (o : Outcome A E) (q : Option A) → dedup_at eq y x b o q → (q ≡ next_held_at eq y x b) × (o ≡ held_outcome_at y b)
   held_and_outcome_at y x true o q w = (w.1, w.0)
   held_and_outcome_at y x false o q w = (w.1, w.0)
 
@@ -44,7 +49,15 @@ module _ {A E : Type 0} (eq : A → A → Bool) where
   acts_by_next : (p a : Option A) (x : Option A) (o : Outcome A E) (q : Option A) → p ≡ a → dedup_asks eq p x o q → (q ≡ next_held eq a x) × (o ≡ held_outcome a x)
   acts_by_next p a x o q at w = asks_is_function a x o q (subst (λ k. dedup_asks eq k x o q) at w)
 
-  by_outcome_item_at : (y x : A) (b : Bool) (l : List (Result A E)) (same other : List (Result A E)) → held_list held_outcome (next_held eq) (Some y) l ≡ same → held_list held_outcome (next_held eq) (Some x) l ≡ other → by_outcome held_outcome (next_held eq) (held_outcome_at y x b) (next_held_at y x b) l ≡ dedup_before eq y x b same other
+  no_end_at : (y : A) (b : Bool) → held_outcome_at y b ≡ End → ⊥
+  no_end_at y true is = absurd cc
+  no_end_at y false is = absurd cc
+
+  outcome_never_end : (a : Option A) (x : A) → held_outcome a (Some x) ≡ End → ⊥
+  outcome_never_end None x is = absurd cc
+  outcome_never_end (Some y) x is = no_end_at y (eq y x) is
+
+  by_outcome_item_at : (y x : A) (b : Bool) (l : List (Result A E)) (same other : List (Result A E)) → held_list held_outcome (next_held eq) (Some y) l ≡ same → held_list held_outcome (next_held eq) (Some x) l ≡ other → by_outcome held_outcome (next_held eq) (held_outcome_at y b) (next_held_at eq y x b) l ≡ dedup_before eq y x b same other
   by_outcome_item_at y x true l same other is_same is_other = is_same
   by_outcome_item_at y x false l same other is_same is_other = ap (λ k. Ok y ∷ k) is_other
 
@@ -63,7 +76,7 @@ module _ {A E : Type 0} (eq : A → A → Bool) where
 
   -- What stands before a failure is deduped by itself, and so is what comes after it.
   pub deduped_in_parts : (a : List (Result A E)) (e : E) (b : List (Result A E)) → deduped eq (a ++ Err e ∷ b) ≡ deduped eq a ++ Err e ∷ deduped eq b
-  deduped_in_parts a e b = listed_parts held_outcome (next_held eq) None (none_held_after_stop next_held_at eq) (no_end_at_item held_outcome_at eq no_end_at) (deduped eq) held_list_is_deduped a e b
+  deduped_in_parts a e b = listed_parts held_outcome (next_held eq) None (next_held_at_stop_none eq) outcome_never_end (deduped eq) held_list_is_deduped a e b
 
 pub lists_deduped : {S A E : Type 0} (m : Contract S A E) (eq : A → A → Bool) (s : Dedup S A E) (l : List (Result A E)) → dedup_parts s ≡ (s.it, (None, None)) → Lists m.steps s.it l → Lists (seen_as dedup_parts (dedup_contract eq m)).steps s (deduped eq l)
 lists_deduped m eq s l parts i = lists_seen dedup_parts (dedup_contract eq m).steps s parts (held_list_is_deduped eq l) (gives_held_list m.steps (dedup_asks eq) (λ p a. p ≡ a) (held_outcome eq) (next_held eq) (acts_by_next eq) l s.it None None refl i.runs)

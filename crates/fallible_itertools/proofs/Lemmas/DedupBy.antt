@@ -2,7 +2,7 @@
 use Rattle.std.specs.Prelude.{◌≡◌, Bool, true, false, Option, Some, None, Result, Ok, Err, List, [], ◌∷◌, ◌++◌}
 use Rattle.std.specs.Fn.{Mut}
 use Rattle.std.specs.Borrow.{Bor}
-use Rattle.std.proofs.Common.{refl, ap}
+use Rattle.std.proofs.Common.{refl, ap, subst, ◌∙◌}
 use Rattle.fallible_iterator.specs.Contract.{Contract, seen_as}
 use Rattle.fallible_iterator.specs.Lists.{ActsWith, Lists}
 use Rattle.fallible_iterator.specs.Picking.{call_at_two}
@@ -11,7 +11,6 @@ use Rattle.fallible_itertools.specs.Adjacent.{AdjacentItems}
 use Rattle.fallible_itertools.specs.CoalesceBy.{coalesce_by_parts}
 use Rattle.fallible_itertools.specs.DedupBy.{found_same, dedup_by_asks, same_before, dedup_by_contract, deduped_by, deduped_by_from}
 use Rattle.fallible_itertools.proofs.Lemmas.Adjacent.{EachNext, HoldsOfNext, adjacent_of_next}
-use Rattle.fallible_itertools.proofs.Lemmas.CoalesceBy.{acts_of_two, next_of_two, no_end_at_item, none_held_after_stop, outcome_of_two}
 use Rattle.fallible_itertools.proofs.Lemmas.HoldingLists.{by_outcome, held_list, listed_parts, gives_held_list}
 use Rattle.fallible_iterator.specs.Outcome.{Outcome}
 use Rattle.fallible_iterator.specs.Outcome.TheVariants.{Kept, LeftOut, Failure, End}
@@ -23,29 +22,43 @@ module _ {A E : Type 0} where
   held_after_found_same y x (Ok false) = Some x
   held_after_found_same y x (Err e) = Some y
 
-  abbrev outcome_of_found_same : A → A → Result Bool E → Outcome A E
-  outcome_of_found_same y x (Ok true) = LeftOut
-  outcome_of_found_same y x (Ok false) = Kept y
-  outcome_of_found_same y x (Err e) = Failure e
+  abbrev outcome_of_found_same : A → Result Bool E → Outcome A E
+  outcome_of_found_same y (Ok true) = LeftOut
+  outcome_of_found_same y (Ok false) = Kept y
+  outcome_of_found_same y (Err e) = Failure e
 
-  found_same_is_function : (y x : A) (v : Result Bool E) (o : Outcome A E) (q : Option A) → found_same y x v o q → (q ≡ held_after_found_same y x v) × (o ≡ outcome_of_found_same y x v)
+  found_same_is_function : (y x : A) (v : Result Bool E) (o : Outcome A E) (q : Option A) → found_same y x v o q → (q ≡ held_after_found_same y x v) × (o ≡ outcome_of_found_same y v)
   found_same_is_function y x (Ok true) o q w = (w.1, w.0)
   found_same_is_function y x (Ok false) o q w = (w.1, w.0)
   found_same_is_function y x (Err e) o q w = (w.1, w.0)
 
-  no_end_by : (y x : A) (v : Result Bool E) → outcome_of_found_same y x v ≡ End → ⊥
-  no_end_by y x (Ok true) is = absurd cc
-  no_end_by y x (Ok false) is = absurd cc
-  no_end_by y x (Err e) is = absurd cc
-
 module _ {A E : Type 0} (h : A → A → Result Bool E) where
   abbrev held_after_dedup_by : Option A → Option A → Option A
-  held_after_dedup_by = next_of_two held_after_found_same h
+  held_after_dedup_by None (Some x) = Some x
+  held_after_dedup_by (Some y) (Some x) = held_after_found_same y x (h y x)
+  held_after_dedup_by None None = None
+  held_after_dedup_by (Some y) None = None
 
   abbrev dedup_by_outcome : Option A → Option A → Outcome A E
-  dedup_by_outcome = outcome_of_two outcome_of_found_same h
+  dedup_by_outcome None (Some x) = LeftOut
+  dedup_by_outcome (Some y) (Some x) = outcome_of_found_same y (h y x)
+  dedup_by_outcome None None = End
+  dedup_by_outcome (Some y) None = Kept y
 
-  by_outcome_of_found_same : (y x : A) (v : Result Bool E) (l : List (Result A E)) → ((a : Option A) → held_list dedup_by_outcome held_after_dedup_by a l ≡ deduped_by_from h a l) → by_outcome dedup_by_outcome held_after_dedup_by (outcome_of_found_same y x v) (held_after_found_same y x v) l ≡ same_before y x v (λ held. deduped_by_from h held l)
+  none_held_after_end : (a : Option A) → held_after_dedup_by a None ≡ None
+  none_held_after_end None = refl
+  none_held_after_end (Some y) = refl
+
+  no_end_by : (y : A) (v : Result Bool E) → outcome_of_found_same y v ≡ End → ⊥
+  no_end_by y (Ok true) is = absurd cc
+  no_end_by y (Ok false) is = absurd cc
+  no_end_by y (Err e) is = absurd cc
+
+  dedup_by_outcome_never_end : (a : Option A) (x : A) → dedup_by_outcome a (Some x) ≡ End → ⊥
+  dedup_by_outcome_never_end None x is = absurd cc
+  dedup_by_outcome_never_end (Some y) x is = no_end_by y (h y x) is
+
+  by_outcome_of_found_same : (y x : A) (v : Result Bool E) (l : List (Result A E)) → ((a : Option A) → held_list dedup_by_outcome held_after_dedup_by a l ≡ deduped_by_from h a l) → by_outcome dedup_by_outcome held_after_dedup_by (outcome_of_found_same y v) (held_after_found_same y x v) l ≡ same_before y x v (λ held. deduped_by_from h held l)
   by_outcome_of_found_same y x (Ok true) l rest = rest (Some y)
   by_outcome_of_found_same y x (Ok false) l rest = ap (λ k. Ok y ∷ k) (rest (Some x))
   by_outcome_of_found_same y x (Err e) l rest = ap (λ k. Ok y ∷ Err e ∷ k) (rest None)
@@ -65,11 +78,28 @@ module _ {A E : Type 0} (h : A → A → Result Bool E) where
 
   -- What stands before a failure is deduped by itself, and so is what comes after it.
   pub deduped_by_in_parts : (a : List (Result A E)) (e : E) (b : List (Result A E)) → deduped_by h (a ++ Err e ∷ b) ≡ deduped_by h a ++ Err e ∷ deduped_by h b
-  deduped_by_in_parts a e b = listed_parts dedup_by_outcome held_after_dedup_by None (none_held_after_stop held_after_found_same h) (no_end_at_item outcome_of_found_same h no_end_by) (deduped_by h) held_list_is_deduped_by a e b
+  deduped_by_in_parts a e b = listed_parts dedup_by_outcome held_after_dedup_by None none_held_after_end dedup_by_outcome_never_end (deduped_by h) held_list_is_deduped_by a e b
+
+  module _ {F : Type 0} (call : F → A → A → Result Bool E → F → Type 0) (f : F) (acts_with : ActsWith call f h) where
+    pair_of_components : (q : Option A × F) {held : Option A} → q.0 ≡ held → q.1 ≡ f → q ≡ (held, f)
+    pair_of_components (a, g) same is = rw (same, is) refl
+
+    -- an item is held beside the closure
+    abbrev IsBesideClosure : Option A × F → Option A → Type 0
+    IsBesideClosure p a = p ≡ (a, f)
+
+    dedup_by_asks_is_function : (a x : Option A) (o : Outcome A E) (q : Option A × F) → dedup_by_asks call (a, f) x o q → IsBesideClosure q (held_after_dedup_by a x) × (o ≡ dedup_by_outcome a x)
+    dedup_by_asks_is_function None (Some x) o q w = (w.1, w.0)
+    dedup_by_asks_is_function (Some y) (Some x) o q w = let d = acts_with y x w.0 q.1 w.1 in let v = found_same_is_function y x w.0 o q.0 w.2 in (pair_of_components q (v.0 ∙ ap (held_after_found_same y x) d.1) d.0, v.1 ∙ ap (outcome_of_found_same y) d.1)
+    dedup_by_asks_is_function None None o q w = (w.1, w.0)
+    dedup_by_asks_is_function (Some y) None o q w = (w.1, w.0)
+
+    acts : (p : Option A × F) (a x : Option A) (o : Outcome A E) (q : Option A × F) → IsBesideClosure p a → dedup_by_asks call p x o q → IsBesideClosure q (held_after_dedup_by a x) × (o ≡ dedup_by_outcome a x)
+    acts p a x o q at w = dedup_by_asks_is_function a x o q (subst (λ k. dedup_by_asks call k x o q) at w)
 
 pub lists_deduped_by : {S A F E R : Type 0} (m : Contract S A E) (g : Mut F (Bor A × (Bor A × Unit {0})) (Result Bool E)) (s : CoalesceBy S (Option A × F) R A E) (f : F) (h : A → A → Result Bool E) (l : List (Result A E)) → coalesce_by_parts s ≡ (s.it, ((None, f), None)) → ActsWith (call_at_two g) f h → Lists m.steps s.it l
     → Lists (seen_as coalesce_by_parts (dedup_by_contract m g)).steps s (deduped_by h l)
-lists_deduped_by m g s f h l parts a i = lists_seen coalesce_by_parts (dedup_by_contract m g).steps s parts (held_list_is_deduped_by h l) (gives_held_list m.steps (dedup_by_asks (call_at_two g)) (λ p held. p ≡ (held, f)) (dedup_by_outcome h) (held_after_dedup_by h) (acts_of_two held_after_found_same outcome_of_found_same h (call_at_two g) found_same found_same_is_function f a) l s.it (None, f) None refl i.runs)
+lists_deduped_by m g s f h l parts a i = lists_seen coalesce_by_parts (dedup_by_contract m g).steps s parts (held_list_is_deduped_by h l) (gives_held_list m.steps (dedup_by_asks (call_at_two g)) (IsBesideClosure h (call_at_two g) f a) (dedup_by_outcome h) (held_after_dedup_by h) (acts h (call_at_two g) f a) l s.it (None, f) None refl i.runs)
 
 -- ---- adjacent items differ
 
@@ -107,3 +137,9 @@ module _ {A E : Type 0} (h : A → A → Result Bool E) where
   pub deduped_by_differ : (l : List (Result A E)) → AdjacentItems (λ x y. h x y ≡ Ok false) (deduped_by h l)
   unfolding deduped_by
   deduped_by_differ l = adjacent_of_next FoundToDiffer (deduped_by_from h None l) (each_next_differs None l)
+
+-- ---- one item beside the one that is held
+
+module _ {A F E : Type 0} (call : F → A → A → Result Bool E → F → Type 0) where
+  pub two_compared : (p : Option A × F) (asked : Option A) (y x : A) (v : Result Bool E) (f : F) (o : Outcome A E) (q : Option A) → p.0 ≡ Some y → asked ≡ Some x → call p.1 y x v f → found_same y x v o q → dedup_by_asks call p asked o (q, f)
+  two_compared (held, g) asked y x v f o q is same called by = rw (is, same) (v, called, by)

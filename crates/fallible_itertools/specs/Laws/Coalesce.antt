@@ -1,15 +1,23 @@
--- How many answers `Coalesce` holds.
-use Rattle.std.specs.Prelude.{Option, Some, Ok, Err}
-use Rattle.std.proofs.Common.{arith}
+-- The contract of `Coalesce` is lawful where the source's is.
+use Rattle.std.specs.Prelude.{Option, Some, None, Ok, Err}
+use Rattle.std.proofs.Common.{refl, arith}
 use Rattle.fallible_itertools.specs.Holding.{Holds, HeldAfter, held_one, held_beside}
-use Rattle.fallible_itertools.specs.Coalesce.{OneOrBoth, coalesced_by, coalesce_asks}
-use Rattle.fallible_itertools.specs.Laws.CoalesceBy.{holds_of_two}
+use Rattle.fallible_itertools.specs.Coalesce.{OneOrBoth, coalesced_by, coalesce_asks, coalesce_takes}
 use Rattle.fallible_iterator.specs.Outcome.{Outcome}
 
-held_after_of_coalesce : {A E : Type 0} (y x : A) (v : OneOrBoth A E) (o : Outcome A E) (q : Option A) → coalesced_by v o q → HeldAfter 1 (Some x) o (held_one q)
-held_after_of_coalesce y x (Ok (Ok z)) o q (is, at) = rw (is, at) (omega arith, omega arith)
-held_after_of_coalesce y x (Ok (Err both)) o q (is, at) = rw (is, at) (omega arith)
-held_after_of_coalesce y x (Err e) o q (is, at) = rw (is, at) (omega arith)
+module _ {A F E : Type 0} (call : F → A → A → OneOrBoth A E → F → Type 0) where
+  held_after_of_coalesce : (x : A) (v : OneOrBoth A E) (o : Outcome A E) (q : Option A) → coalesced_by v o q → HeldAfter 1 (Some x) o (held_one q)
+  held_after_of_coalesce x (Ok (Ok z)) o q (is, at) = rw (is, at) (omega arith, omega arith)
+  held_after_of_coalesce x (Ok (Err both)) o q (is, at) = rw (is, at) (omega arith)
+  held_after_of_coalesce x (Err e) o q (is, at) = rw (is, at) (omega arith)
 
-pub holds_coalesce : {A F E : Type 0} (call : F → A → A → OneOrBoth A E → F → Type 0) → Holds {E = E} (coalesce_asks call) held_beside
-holds_coalesce call = holds_of_two call (λ y x v. coalesced_by v) held_after_of_coalesce
+  pub holds_coalesce : Holds {E = E} (coalesce_asks call) held_beside
+  holds_coalesce (None, f) (Some x) o q (is, at) = rw (is, at) (omega arith, omega arith)
+  holds_coalesce (Some y, f) (Some x) o q w = held_after_of_coalesce x w.0 o q.0 w.2
+  holds_coalesce (None, f) None o q (is, at) = rw (is, at) (refl, refl)
+  holds_coalesce (Some y, f) None o q (is, at) = rw (is, at) (omega arith)
+
+-- at a stop nothing is required
+pub coalesce_takes_stop : {A F : Type 0} (takes : F → A → A → Type 0) (p : Option A × F) → coalesce_takes takes p None
+coalesce_takes_stop takes (None, f) = tt
+coalesce_takes_stop takes (Some y, f) = tt
