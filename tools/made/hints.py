@@ -105,7 +105,7 @@ def arms(matched, text, comments):
 
 
 def hints(files):
-    """The hint of each type with a `size_hint`, or of what a `type` names, as a cell."""
+    """The hint of each type with a `size_hint`, as a cell."""
     of_types = {}
     for path in files:
         for function in code.functions(path):
@@ -113,10 +113,6 @@ def hints(files):
             if owner and function.name == "size_hint":
                 found = cases(function.body, code.field_comments(path))
                 of_types[owner.group(1)] = "; ".join(f"`{shown}` {said}".strip() for said, shown in found)
-    for path in files:
-        for name, of in re.findall(r"^pub type (\w+)<[^=]*= (\w+)<", path.read_text(encoding="utf-8"), re.M):
-            if of in of_types:
-                of_types[name] = of_types[of]
     return of_types
 
 

@@ -1,11 +1,13 @@
 -- `Coalesce`, which puts adjacent items together where a closure makes one of two.
 use Rattle.std.specs.Prelude.{◌≡◌, Option, Some, None, Result, Ok, Err, List, [], ◌∷◌, ⊤}
 use Rattle.std.specs.Fn.{Mut}
+use Rattle.fallible_iterator.specs.Traces.{Answered}
 use Rattle.fallible_iterator.specs.Contract.{Contract}
 use Rattle.fallible_iterator.specs.Folds.{call_with, takes_with}
-use Rattle.fallible_itertools.specs.Holding.{holding_contract, held_beside, one_at_least}
+use Rattle.fallible_itertools.specs.Holding.{HoldingTrace, holding_contract, held_beside, one_at_least}
 use Rattle.fallible_iterator.specs.Outcome.{Outcome}
 use Rattle.fallible_iterator.specs.Outcome.TheVariants.{Kept, LeftOut, Failure, End}
+use Rattle.fallible_itertools.specs.declared.coalesce.Coalesce.{Coalesce}
 
 -- what a closure returns for two items: one to go on in their place, or two that stay apart; or a failure
 abbrev pub OneOrBoth : Type 0 → Type 0 → Type 0
@@ -25,6 +27,10 @@ module _ {A F E : Type 0} (call : F → A → A → OneOrBoth A E → F → Type
   coalesce_asks (None, f) None o q = (o ≡ End) × (q ≡ (None, f))
   coalesce_asks (Some y, f) None o q = (o ≡ Kept y) × (q ≡ (None, f))
 
+  -- `Coalesce`: adjacent items put together, each where the next one that isn't put to it stands or a stop; the closure's failure is a stop.
+  abbrev pub CoalesceTrace : {S : Type 0} → (S → Answered A E → S → Type 0) → S × ((Option A × F) × Option (Option E)) → List (Answered A E) → S × ((Option A × F) × Option (Option E)) → Type 0
+  CoalesceTrace steps p trace q = HoldingTrace steps coalesce_asks p trace q
+
 -- the closure may be called on what is held and the item
 abbrev pub coalesce_takes : {A F : Type 0} → (F → A → A → Type 0) → Option A × F → Option A → Type 0
 coalesce_takes takes (None, f) asked = ⊤
@@ -39,6 +45,26 @@ coalesce_contract m g = holding_contract m (coalesce_asks (call_with g)) (coales
 pub record KeepsApart {A E : Type 0} (h : A → A → OneOrBoth A E) : Type 0 where
   pub as_they_are : (x y : A) (both : A × A) → h x y ≡ Ok (Err both) → both ≡ (x, y)
   pub stays : (x y z w : A) → h x y ≡ Ok (Err (x, y)) → h y z ≡ Ok (Ok w) → h x w ≡ Ok (Err (x, w))
+
+-- the source
+abbrev pub coalesce_source : {I A E F : Type 0} → Coalesce I F A E → I
+coalesce_source s = s.it
+
+-- the item that is held, if there is one
+abbrev pub coalesce_held : {I A E F : Type 0} → Coalesce I F A E → Option A
+coalesce_held s = s.stage.0.0
+
+-- the closure
+abbrev pub coalesce_closure : {I A E F : Type 0} → Coalesce I F A E → F
+coalesce_closure s = s.stage.0.1
+
+-- the stop that is due, if one is
+abbrev pub coalesce_due : {I A E F : Type 0} → Coalesce I F A E → Option (Option E)
+coalesce_due s = s.stage.1
+
+-- the source, what is held beside the closure, and the stop that is due
+abbrev pub coalesce_parts : {I A E F : Type 0} → Coalesce I F A E → I × ((Option A × F) × Option (Option E))
+coalesce_parts s = (s.it, s.stage)
 
 -- ---- what it lists
 

@@ -2,11 +2,13 @@
 use Rattle.std.specs.Prelude.{◌≡◌, Bool, true, false, Option, Some, None, Result, Ok, Err, List, [], ◌∷◌, ⊤}
 use Rattle.std.specs.Fn.{Mut}
 use Rattle.std.specs.Borrow.{Bor}
+use Rattle.fallible_iterator.specs.Traces.{Answered}
 use Rattle.fallible_iterator.specs.Contract.{Contract}
 use Rattle.fallible_iterator.specs.Closures.{call_at, takes_at}
-use Rattle.fallible_itertools.specs.Holding.{holding_contract, held_beside, one_at_least}
+use Rattle.fallible_itertools.specs.Holding.{HoldingTrace, holding_contract, held_beside, one_at_least}
 use Rattle.fallible_iterator.specs.Outcome.{Outcome}
 use Rattle.fallible_iterator.specs.Outcome.TheVariants.{Kept, LeftOut, Failure, End}
+use Rattle.fallible_itertools.specs.declared.dedup_by_key.DedupByKey.{DedupByKey}
 
 module _ {A K : Type 0} (eq : K → K → Bool) where
   -- an item and its key that are held, beside the next item and its key
@@ -26,6 +28,10 @@ module _ {A K : Type 0} (eq : K → K → Bool) where
     dedup_key_asks p (Some x) o q = (v : Result K E) × call p.1 x v q.1 × keyed_by p.0 x v o q.0
     dedup_key_asks (None, f) None o q = (o ≡ End) × (q ≡ (None, f))
     dedup_key_asks (Some held, f) None o q = (o ≡ Kept held.1) × (q ≡ (None, f))
+
+    -- `DedupByKey`: the first of adjacent items with equal keys, each where the next one that differs stands or a stop; the closure's failure is a stop.
+    abbrev pub DedupByKeyTrace : {S : Type 0} → (S → Answered A E → S → Type 0) → S × ((Option (K × A) × F) × Option (Option E)) → List (Answered A E) → S × ((Option (K × A) × F) × Option (Option E)) → Type 0
+    DedupByKeyTrace steps p trace q = HoldingTrace steps dedup_key_asks p trace q
 
   -- ---- what it lists
 
@@ -61,3 +67,19 @@ dedup_key_takes takes p (Some x) = takes p.1 x
 -- `DedupByKey`'s contract
 abbrev pub dedup_by_key_contract : {S A K F E : Type 0} → (K → K → Bool) → Contract S A E → Mut F (Bor A × Unit {0}) (Result K E) → Contract (S × ((Option (K × A) × F) × Option (Option E))) A E
 dedup_by_key_contract eq m g = holding_contract m (dedup_key_asks eq (call_at g)) (dedup_key_takes (takes_at g)) held_beside (one_at_least m held_beside)
+
+-- the source
+abbrev pub dedup_by_key_source : {I A E K F : Type 0} → DedupByKey I K F A E → I
+dedup_by_key_source s = s.it
+
+-- the key and the item that are held, if there are some, and the closure
+abbrev pub dedup_by_key_keying : {I A E K F : Type 0} → DedupByKey I K F A E → Option (K × A) × F
+dedup_by_key_keying s = s.stage.0
+
+-- the stop that is due, if one is
+abbrev pub dedup_by_key_due : {I A E K F : Type 0} → DedupByKey I K F A E → Option (Option E)
+dedup_by_key_due s = s.stage.1
+
+-- the source, what is held beside the closure, and the stop that is due
+abbrev pub dedup_by_key_parts : {I A E K F : Type 0} → DedupByKey I K F A E → I × ((Option (K × A) × F) × Option (Option E))
+dedup_by_key_parts s = (s.it, s.stage)

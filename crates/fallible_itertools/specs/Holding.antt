@@ -93,16 +93,16 @@ pub record HoldingTrace {S P X B E : Type 0} (steps : S → Answered X E → S �
   pub answers : due_answer p.1.1 ++ flat_map (λ d. d.1) draws ≡ trace ++ due_answer q.1.1
   pub last : LastMade (length (due_answer {B = B} {E = E} q.1.1)) draws
 
--- How many answers are held, before and after the adapter was called: an item makes at most one more, none if something was returned, and no end, and what is left out is held; at a stop what is returned was held, nothing is left out, and an end comes where nothing is held.
+-- How many answers are held, before and after the adapter was called: an item makes at most one more, none if something was returned, and no end; at a stop what is returned was held, and nothing is left out.
 abbrev pub HeldAfter : {X B E : Type 0} → ℕ → Option X → Outcome B E → ℕ → Type 0
 HeldAfter before (Some x) (Kept y) after = after ≤ before
-HeldAfter before (Some x) LeftOut after = (1 ≤ after) × (after ≤ before + 1)
+HeldAfter before (Some x) LeftOut after = after ≤ before + 1
 HeldAfter before (Some x) (Failure e) after = after ≤ before
 HeldAfter before (Some x) End after = ⊥
 HeldAfter before None (Kept y) after = after < before
 HeldAfter before None LeftOut after = ⊥
 HeldAfter before None (Failure e) after = after < before
-HeldAfter before None End after = (before ≡ 0) × (after ≡ 0)
+HeldAfter before None End after = after ≤ before
 
 -- `HeldAfter` holds of each call of the adapter.
 abbrev pub Holds : {P X B E : Type 0} → (P → Option X → Outcome B E → P → Type 0) → (P → ℕ) → Type 0

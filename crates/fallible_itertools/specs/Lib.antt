@@ -6,7 +6,6 @@ pub mod ChunkBy
 pub mod Chunks
 pub mod CmpBy
 pub mod Coalesce
-pub mod CoalesceBy
 pub mod Converting
 pub mod Copied
 pub mod Counts

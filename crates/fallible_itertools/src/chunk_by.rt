@@ -76,11 +76,11 @@ impl<X: Drop, K: PartialEq + Drop, E: From<AllocError>, F: FnMut(&X) -> Result<K
 > for ChunkByHold {
     type Kept = (K, Vec<X>);
 
-    ghost can_ask = { λ p x. key_takes F.FnMut p x };
+    ghost can_ask = { λ _ p x. key_takes F.FnMut p x };
 
-    ghost asks = { λ p x o q. chunk_by_asks E.from_gives K.eq F.FnMut p x o q };
+    ghost asks = { λ _ p x o q. chunk_by_asks E.from_gives K.eq F.FnMut p x o q };
 
-    ghost held = { λ p. group_held p };
+    ghost held = { λ _ p. group_held p };
 
     #[inline(always)]
     fn ask(&self, holds: &mut (F, Option<(K, Vec<X>)>), asked: Option<X>) -> Outcome<(K, Vec<X>), E>
@@ -96,9 +96,9 @@ impl<X: Drop, K: PartialEq + Drop, E: From<AllocError>, F: FnMut(&X) -> Result<K
         }
     }
 
-    ghost can_stop = { λ p. tt };
+    ghost can_stop = { λ _ p. tt };
 
-    ghost holds = { holds_chunk_by E.from_gives K.eq F.FnMut };
+    ghost holds = { λ _. holds_chunk_by E.from_gives K.eq F.FnMut };
 }
 
 // What becomes of an item by its key. A new group has room for as many items as the one that it follows, up to 1024.

@@ -108,11 +108,11 @@ struct ChunksHold {
 impl<X: Drop, E: From<AllocError>> Hold<(usize, Option<Vec<X>>), X, E> for ChunksHold {
     type Kept = Vec<X>;
 
-    ghost can_ask = { λ p x. ⊤ };
+    ghost can_ask = { λ _ p x. ⊤ };
 
-    ghost asks = { λ p x o q. chunks_asks E.from_gives p x o q };
+    ghost asks = { λ _ p x o q. chunks_asks E.from_gives p x o q };
 
-    ghost held = { λ p. batch_held p };
+    ghost held = { λ _ p. batch_held p };
 
     #[inline(always)]
     fn ask(&self, holds: &mut (usize, Option<Vec<X>>), asked: Option<X>) -> Outcome<Vec<X>, E>
@@ -133,9 +133,9 @@ impl<X: Drop, E: From<AllocError>> Hold<(usize, Option<Vec<X>>), X, E> for Chunk
         }
     }
 
-    ghost can_stop = { λ p. tt };
+    ghost can_stop = { λ _ p. tt };
 
-    ghost holds = { holds_chunks E.from_gives };
+    ghost holds = { λ _. holds_chunks E.from_gives };
 }
 
 // Appends the item to the buffered batch, or to a new one with room for n, and returns how many items the batch has then.

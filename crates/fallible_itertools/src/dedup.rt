@@ -106,11 +106,11 @@ struct DedupHold;
 impl<X: PartialEq + Drop, E> Hold<Option<X>, X, E> for DedupHold {
     type Kept = X;
 
-    ghost can_ask = { λ p x. ⊤ };
+    ghost can_ask = { λ _ p x. ⊤ };
 
-    ghost asks = { λ p x o q. dedup_asks X.eq p x o q };
+    ghost asks = { λ _ p x o q. dedup_asks X.eq p x o q };
 
-    ghost held = { λ p. held_one p };
+    ghost held = { λ _ p. held_one p };
 
     #[inline(always)]
     fn ask(&self, holds: &mut Option<X>, asked: Option<X>) -> Outcome<X, E>
@@ -135,7 +135,7 @@ impl<X: PartialEq + Drop, E> Hold<Option<X>, X, E> for DedupHold {
         }
     }
 
-    ghost can_stop = { λ p. tt };
+    ghost can_stop = { λ _ p. tt };
 
-    ghost holds = { holds_dedup X.eq };
+    ghost holds = { λ _. holds_dedup X.eq };
 }

@@ -16,24 +16,24 @@ pub trait Hold<P, X, E> {
     type Kept;
 
     // Holds of what is buffered and of what the call may be made on then.
-    ghost can_ask: { P → Option X → Type 0 };
+    ghost can_ask: { Self → P → Option X → Type 0 };
 
     // Holds of what was buffered and the argument, of what the call returned, and of what is buffered then.
-    ghost asks: { P → Option X → Outcome Self.Kept E → P → Type 0 };
+    ghost asks: { Self → P → Option X → Outcome Self.Kept E → P → Type 0 };
 
     // How many items are buffered.
-    ghost held: { P → ℕ };
+    ghost held: { Self → P → ℕ };
 
     /// What becomes of an item or a stop.
     fn ask(&self, holds: &mut P, asked: Option<X>) -> Outcome<Self::Kept, E>
-        requires { can_ask holds.old asked }
-        ensures { asks holds.old asked result holds.new };
+        requires { can_ask self.now holds.old asked }
+        ensures { asks self.now holds.old asked result holds.new };
 
     // At a stop nothing is required.
-    ghost can_stop: { (p : P) → can_ask p None };
+    ghost can_stop: { (adapter : Self) → (p : P) → can_ask adapter p None };
 
     // An item that is yielded was buffered or drawn.
-    ghost holds: { Holds asks held };
+    ghost holds: { (adapter : Self) → Holds (asks adapter) (held adapter) };
 }
 
 // The same adapter as a stage. What `ask` fails with is a stop.
@@ -49,21 +49,21 @@ impl<'a, P, X, E, A: Hold<P, X, E>> Stage<P, X, E> for HoldStage<'a, A> {
 
     ghost comes = { λ _ stop. stop_comes stop };
 
-    ghost can_meet = { λ _ p x. A.can_ask p (Some x) };
+    ghost can_meet = { λ k p x. A.can_ask k.adapter.now p (Some x) };
 
-    ghost items = { λ _ p x made q. holding_meets A.asks p (Ok (Some x)) made q };
+    ghost items = { λ k p x made q. holding_meets (A.asks k.adapter.now) p (Ok (Some x)) made q };
 
-    ghost stops = { λ _ p stop made q. holding_meets A.asks p (stop_answer stop)
+    ghost stops = { λ k p stop made q. holding_meets (A.asks k.adapter.now) p (stop_answer stop)
         made q };
 
     ghost most = { λ _. 1 };
 
-    ghost held = { λ _ p. A.held p };
+    ghost held = { λ k p. A.held k.adapter.now p };
 
     #[inline(always)]
     fn on_item(&self, p: &mut P, item: X) -> Made<A::Kept, Option<E>, E>
-        requires { A.can_ask p.old (Some item) }
-        ensures { holding_meets A.asks p.old (Ok (Some item)) result p.new }
+        requires { A.can_ask self.now.adapter.now p.old (Some item) }
+        ensures { holding_meets (A.asks self.now.adapter.now) p.old (Ok (Some item)) result p.new }
     {
         match self.adapter.ask(p, Some(item)) {
             Outcome::Kept(y) => one(Ok(Some(y))),
@@ -75,7 +75,7 @@ impl<'a, P, X, E, A: Hold<P, X, E>> Stage<P, X, E> for HoldStage<'a, A> {
 
     #[inline(always)]
     fn on_stop(&self, p: &mut P, stop: Option<E>) -> Made<A::Kept, Option<E>, E>
-        ensures { holding_meets A.asks p.old (stop_answer stop) result p.new }
+        ensures { holding_meets (A.asks self.now.adapter.now) p.old (stop_answer stop) result p.new }
     {
         made_at_stop(stop, p, self.adapter)
     }
@@ -85,8 +85,8 @@ impl<'a, P, X, E, A: Hold<P, X, E>> Stage<P, X, E> for HoldStage<'a, A> {
         (stopped(later), None)
     }
 
-    ghost is_stage = { λ _. is_stage_stops A.asks A.held
-        A.holds };
+    ghost is_stage = { λ k. is_stage_stops (A.asks k.adapter.now) (A.held k.adapter.now)
+        (A.holds k.adapter.now) };
 }
 
 // What a stop makes: what is buffered, and then the stop is due; or the stop itself.
@@ -96,7 +96,7 @@ fn made_at_stop<P, X, E, A: Hold<P, X, E>>(
     holds: &mut P,
     adapter: &A,
 ) -> Made<A::Kept, Option<E>, E>
-    ensures { MadeOfStop A.asks stop holds.old (made_answers result) holds.new }
+    ensures { MadeOfStop (A.asks adapter.now) stop holds.old (made_answers result) holds.new }
 {
     match adapter.ask(holds, None) {
         Outcome::Kept(y) => one_then(Ok(Some(y)), stop),
@@ -122,11 +122,11 @@ pub fn drive_holding<
     turn: &K,
 ) -> Result<Option<R>, I::Error>
 where
-    requires can_next { (holding_contract I.contract A.asks A.can_ask
-        A.held (λ _ _. ⊤)).can_next (it.old, stage.old) }
-    requires callable { CallableDriving (holding_step A.asks I.contract.steps)
+    requires can_next { (holding_contract I.contract (A.asks adapter.now) (A.can_ask adapter.now)
+        (A.held adapter.now) (λ _ _. ⊤)).can_next (it.old, stage.old) }
+    requires callable { CallableDriving (holding_step (A.asks adapter.now) I.contract.steps)
         (K.turns turn.now) (K.can_turn turn.now) (it.old, stage.old) state.old }
-    ensures { Driven (holding_step A.asks I.contract.steps)
+    ensures { Driven (holding_step (A.asks adapter.now) I.contract.steps)
         (K.turns turn.now) (it.old, stage.old) state.old result (it.new, stage.new) state.new }
 {
     drive_stage(it, stage, &HoldStage { adapter }, state, turn)
@@ -141,8 +141,8 @@ pub fn at_stop<P, X, E: Drop, A: Hold<P, X, E>>(
 ) -> Result<Option<A::Kept>, E>
 where
     requires none_due { due.old ≡ None }
-    requires can_ask { A.can_ask holds.old None }
-    ensures { AtStop A.asks holds.old stop result (holds.new, due.new) }
+    requires can_ask { A.can_ask adapter.now holds.old None }
+    ensures { AtStop (A.asks adapter.now) holds.old stop result (holds.new, due.new) }
 {
     match made_at_stop(stop, holds, adapter) {
         Some((answer, later)) => {

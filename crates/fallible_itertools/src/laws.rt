@@ -32,9 +32,10 @@ pub use grouping::{
     law_chunk_by, law_chunked, law_chunked_by, law_chunks, law_hints_chunk_by, law_hints_chunks,
 };
 pub use holding::{
-    law_coalesce_by, law_coalesced, law_dedup, law_deduped, law_deduped_by, law_deduped_by_key,
-    law_hints_coalesce_by, law_hints_dedup, law_hints_tuple_windows, law_hints_tuples,
-    law_hints_with_position, law_positioned, law_tuple_windows, law_tuples, law_with_position,
+    law_coalesce, law_coalesced, law_dedup, law_dedup_by, law_dedup_by_key, law_deduped,
+    law_deduped_by, law_deduped_by_key, law_hints_coalesce, law_hints_dedup, law_hints_dedup_by,
+    law_hints_dedup_by_key, law_hints_tuple_windows, law_hints_tuples, law_hints_with_position,
+    law_positioned, law_tuple_windows, law_tuples, law_with_position,
 };
 pub use intersperse::{
     law_hints_intersperse, law_hints_intersperse_with, law_intersperse, law_intersperse_with,

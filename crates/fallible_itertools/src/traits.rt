@@ -25,13 +25,12 @@ ghost use Rattle.fallible_iterator.specs.Searching as search;
 ghost use Rattle.fallible_itertools.specs.ChunkBy.{MadeGroup, chunk_by_contract, chunk_by_parts, chunked_by};
 ghost use Rattle.fallible_itertools.specs.Chunks.{chunked, chunks_contract, chunks_parts};
 ghost use Rattle.fallible_itertools.specs.Coalesce as coalesce;
-ghost use Rattle.fallible_itertools.specs.CoalesceBy.{coalesce_by_parts};
 ghost use Rattle.fallible_itertools.specs.CmpBy as comparing;
 ghost use Rattle.fallible_itertools.specs.Converting as trying;
 ghost use Rattle.fallible_itertools.specs.Copied.{copied_contract, copied_parts};
 ghost use Rattle.fallible_itertools.specs.Counts.{IsCountsOf};
 ghost use Rattle.fallible_itertools.specs.Dedup.{dedup_contract, dedup_parts, deduped};
-ghost use Rattle.fallible_itertools.specs.DedupBy.{dedup_by_asks, dedup_by_contract, dedup_by_takes, deduped_by};
+ghost use Rattle.fallible_itertools.specs.DedupBy.{dedup_by_asks, dedup_by_contract, dedup_by_parts, dedup_by_takes, deduped_by};
 ghost use Rattle.fallible_itertools.specs.DedupByKey as dedup_by_key;
 ghost use Rattle.fallible_itertools.specs.Equal.{FirstCall, TestCall, contained, equal_to_first, equal_value, rest_contained, rest_unequal, unequal_pick, value_or_both};
 ghost use Rattle.fallible_itertools.specs.ErrInto.{err_into_contract, err_into_parts};
@@ -76,14 +75,13 @@ use crate::checked_sum::{CheckedTotal, ProductTurn, SumTurn, total_or_none};
 use crate::chunk_by::ChunkBy;
 use crate::chunks::Chunks;
 use crate::cmp_by::{CmpTurn, EqTurn, compare_by};
-use crate::coalesce::{Coalesce, CoalesceHold};
-use crate::coalesce_by::CoalesceBy;
+use crate::coalesce::Coalesce;
 use crate::converting::converted;
 use crate::copied::Copied;
 use crate::counts::Tally;
 use crate::dedup::Dedup;
-use crate::dedup_by::{DedupBy, SameHold};
-use crate::dedup_by_key::{DedupByKey, KeyHold};
+use crate::dedup_by::DedupBy;
+use crate::dedup_by_key::DedupByKey;
 use crate::equal::{AllEqualTurn, ContainsTurn, UnequalTurn, first_or_both};
 use crate::err_into::ErrInto;
 use crate::exactly_one::NotOne;
@@ -162,18 +160,17 @@ pub trait FallibleItertools: FallibleIterator {
         requires callable { IsCallable (coalesce.coalesce_asks (fold.call_with F.FnMut))
             (coalesce.coalesce_takes (fold.takes_with F.FnMut)) (MayBeAsked Self.contract self)
             (None, f) }
-        ensures parts { coalesce_by_parts result ≡ (self, ((None, f), None)) }
+        ensures parts { coalesce.coalesce_parts result ≡ (self, ((None, f), None)) }
         ensures lists { (h : Self.Item → Self.Item → coalesce.OneOrBoth Self.Item Self.Error)
             (l : List (Result Self.Item Self.Error))
             → list.ActsWith (fold.call_with F.FnMut) f h → list.Lists Self.contract.steps self l
-            → list.Lists (seen_as coalesce_by_parts
+            → list.Lists (seen_as coalesce.coalesce_parts
             (coalesce.coalesce_contract Self.contract F.FnMut)).steps result
             (coalesce.coalesced h l) }
     {
-        CoalesceBy {
+        Coalesce {
             it: self,
             stage: ((None, f), None),
-            rule: CoalesceHold,
         }
     }
 
@@ -197,21 +194,20 @@ pub trait FallibleItertools: FallibleIterator {
         F: FnMut(&Self::Item) -> Result<K, Self::Error>,
         requires callable { IsCallable (call_at F.FnMut) (takes_at F.FnMut)
             (Self.contract.may_give self) f }
-        ensures parts { coalesce_by_parts result ≡ (self, ((None, f), None)) }
+        ensures parts { dedup_by_key.dedup_by_key_parts result ≡ (self, ((None, f), None)) }
         ensures callable { IsCallable (dedup_by_key.dedup_key_asks K.eq (call_at F.FnMut))
             (dedup_by_key.dedup_key_takes (takes_at F.FnMut)) (MayBeAsked Self.contract self)
             (None, f) }
         ensures lists { (h : Self.Item → Result K Self.Error)
             (l : List (Result Self.Item Self.Error)) → list.Acts (call_at F.FnMut) f h
             → list.Lists Self.contract.steps self l
-            → list.Lists (seen_as coalesce_by_parts
+            → list.Lists (seen_as dedup_by_key.dedup_by_key_parts
             (dedup_by_key.dedup_by_key_contract K.eq Self.contract F.FnMut)).steps result
             (dedup_by_key.deduped_by_key K.eq h l) }
     {
-        CoalesceBy {
+        DedupByKey {
             it: self,
             stage: ((None, f), None),
-            rule: KeyHold,
         }
     }
 
@@ -236,17 +232,16 @@ pub trait FallibleItertools: FallibleIterator {
         F: FnMut(&Self::Item, &Self::Item) -> Result<bool, Self::Error>,
         requires callable { IsCallable (dedup_by_asks (call_at_two F.FnMut))
             (dedup_by_takes (takes_at_two F.FnMut)) (MayBeAsked Self.contract self) (None, same) }
-        ensures parts { coalesce_by_parts result ≡ (self, ((None, same), None)) }
+        ensures parts { dedup_by_parts result ≡ (self, ((None, same), None)) }
         ensures lists { (h : Self.Item → Self.Item → Result Bool Self.Error)
             (l : List (Result Self.Item Self.Error))
             → list.ActsWith (call_at_two F.FnMut) same h → list.Lists Self.contract.steps self l
-            → list.Lists (seen_as coalesce_by_parts (dedup_by_contract Self.contract F.FnMut)).steps
+            → list.Lists (seen_as dedup_by_parts (dedup_by_contract Self.contract F.FnMut)).steps
             result (deduped_by h l) }
     {
-        CoalesceBy {
+        DedupBy {
             it: self,
             stage: ((None, same), None),
-            rule: SameHold,
         }
     }
 

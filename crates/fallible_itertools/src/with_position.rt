@@ -127,11 +127,11 @@ struct PositionHold;
 impl<X, E> Hold<Option<(bool, X)>, X, E> for PositionHold {
     type Kept = (Position, X);
 
-    ghost can_ask = { λ p x. ⊤ };
+    ghost can_ask = { λ _ p x. ⊤ };
 
-    ghost asks = { λ p x o q. position_asks p x o q };
+    ghost asks = { λ _ p x o q. position_asks p x o q };
 
-    ghost held = { λ p. held_one p };
+    ghost held = { λ _ p. held_one p };
 
     #[inline(always)]
     fn ask(&self, holds: &mut Option<(bool, X)>, asked: Option<X>) -> Outcome<(Position, X), E>
@@ -152,9 +152,9 @@ impl<X, E> Hold<Option<(bool, X)>, X, E> for PositionHold {
         }
     }
 
-    ghost can_stop = { λ p. tt };
+    ghost can_stop = { λ _ p. tt };
 
-    ghost holds = { holds_with_position };
+    ghost holds = { λ _. holds_with_position };
 }
 
 // The position of an item that another item comes after.

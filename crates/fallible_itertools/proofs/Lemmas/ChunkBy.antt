@@ -1,14 +1,16 @@
 -- What `ChunkBy` makes of its source's answers.
-use Rattle.std.specs.Prelude.{◌≡◌, Bool, true, false, Option, Some, None, Result, Ok, Err, List, [], ◌∷◌, ◌++◌, ⊤, ◌⊎◌, vec_items}
+use Rattle.std.specs.Prelude.{◌≡◌, ◌≤◌, Bool, true, false, Option, Some, None, Result, Ok, Err, List, [], ◌∷◌, ◌++◌, ⊤, ◌⊎◌, vec_items}
 use Rattle.std.specs.Fn.{Mut}
 use Rattle.std.specs.Borrow.{Bor}
-use Rattle.std.proofs.Common.{refl, sym, ap, subst, inl, inr, ◌∙◌}
+use Rattle.std.proofs.Common.{refl, sym, ap, subst, arith, inl, inr, ◌∙◌}
 use Rattle.fallible_iterator.specs.Closures.{call_at}
 use Rattle.fallible_iterator.specs.Contract.{Contract, seen_as}
 use Rattle.fallible_iterator.specs.Lists.{Acts, Lists}
 use Rattle.fallible_iterator.specs.Making.{ListsMade}
-use Rattle.fallible_itertools.specs.ChunkBy.{Group, MadeGroup, by_its_key, chunk_by_asks, chunk_by_contract, chunk_by_parts, chunked_by, chunked_by_from, group_at, group_at_stop, group_begun, group_by, group_grown, group_or}
+use Rattle.fallible_itertools.specs.ChunkBy.{Group, MadeGroup, by_its_key, chunk_by_asks, chunk_by_contract, chunk_by_parts, chunked_by, chunked_by_from, group_at, group_at_stop, group_begun, group_by, group_grown, group_held, group_or}
+use Rattle.fallible_itertools.specs.Holding.{held_one}
 use Rattle.fallible_iterator.proofs.Lemmas.Making.{lists_made_seen}
+use Rattle.fallible_itertools.proofs.Lemmas.HoldingHints.{GivesHeld}
 use Rattle.fallible_itertools.proofs.Lemmas.HoldingLists.{AnswersHeld, IsRefused, NoFailureAndIfKept, OutcomeMade, by_outcome, gives_held_made, held_list, listed_parts}
 use Rattle.std.specs.declared.alloc.AllocError.{AllocError}
 use Rattle.fallible_iterator.specs.Outcome.{Outcome}
@@ -192,3 +194,23 @@ module _ {A K E : Type 0} (eq : K → K → Bool) (h : A → Result K E) where
 
 pub lists_up_to_refusal_chunked : {S F A K E : Type 0} (m : Contract S A E) (from : AllocError → E → Type 0) (eq : K → K → Bool) (c : Mut F (Bor A × Unit {0}) (Result K E)) (f : F) (h : A → Result K E) → Acts (call_at c) f h → (s : ChunkBy S K F A E) (l : List (Result A E)) → chunk_by_parts s ≡ (s.it, ((f, None), None)) → Lists m.steps s.it l → ListsMade MadeGroup (seen_as chunk_by_parts (chunk_by_contract from eq c m)).steps from s (chunked_by eq h l)
 lists_up_to_refusal_chunked m from eq c f h acts s l parts i = lists_made_seen MadeGroup from chunk_by_parts (chunk_by_contract from eq c m).steps s _ _ _ parts (listed_is_chunked_by eq h l) (gives_held_made m.steps (chunk_by_asks from eq c) MadeGroup from (HeldAndState from eq c f h acts) (group_outcome eq h) (next_group eq h) (refuses_on_item from eq c f h acts) (at_on_stop from eq c f h acts) FullGroup (answers_of_chunk_by eq h) (made_at_stop from eq c) l s.it (f, None) None (refl, tt) i.runs)
+
+-- ---- its hint
+
+module _ {A K E F : Type 0} (from : AllocError → E → Type 0) (eq : K → K → Bool) (c : Mut F (Bor A × Unit {0}) (Result K E)) where
+  held_one_at_least : (g : Group K A) (x : A) (j : K) (b : Bool) (q : Option (Group K A)) → group_at from g x j b LeftOut q → 1 ≤ held_one q
+  held_one_at_least g x j true q w = rw w.2 (omega arith)
+  held_one_at_least g x j false q w = absurd w
+
+  held_one_at_least_by : (g : Option (Group K A)) (x : A) (v : Result K E) (q : Option (Group K A)) → group_by from eq g x v LeftOut q → 1 ≤ held_one q
+  held_one_at_least_by None x (Ok j) q w = rw w.2 (omega arith)
+  held_one_at_least_by (Some g) x (Ok j) q w = held_one_at_least g x j (eq g.0 j) q w
+  held_one_at_least_by None x (Err e) q w = absurd (let is = w.0 in cc)
+  held_one_at_least_by (Some g) x (Err e) q w = absurd (let is = w.0 in cc)
+
+  held_one_none : (g q : Option (Group K A)) → group_at_stop {E = E} g End q → held_one g ≡ 0
+  held_one_none None q w = refl
+  held_one_none (Some g) q w = absurd (let is = w.0 in cc)
+
+  pub gives_held : GivesHeld (chunk_by_asks from eq c) group_held
+  gives_held = record { left_out = λ p x q w. held_one_at_least_by p.1 x w.0 q.1 w.2; at_stop = λ p q w. held_one_none p.1 q.1 w.1 }

@@ -1,19 +1,20 @@
 -- What `Coalesce` lists, that adjacent ones of these are kept apart, and its hint.
-use Rattle.std.specs.Prelude.{◌≡◌, Option, Some, None, Result, Ok, Err, List, [], ◌∷◌, ◌++◌}
+use Rattle.std.specs.Prelude.{◌≡◌, ◌≤◌, Option, Some, None, Result, Ok, Err, List, [], ◌∷◌, ◌++◌}
 use Rattle.std.specs.Fn.{Mut}
-use Rattle.std.proofs.Common.{refl, sym, ap, subst, ◌∙◌}
+use Rattle.std.proofs.Common.{refl, sym, ap, subst, arith, ◌∙◌}
 use Rattle.fallible_iterator.specs.Contract.{Contract, seen_as}
 use Rattle.fallible_iterator.specs.Folds.{call_with}
 use Rattle.fallible_iterator.specs.Lists.{ActsWith, Lists}
 use Rattle.fallible_iterator.proofs.Lemmas.Lists.Passing.{lists_seen}
 use Rattle.fallible_itertools.specs.Adjacent.{AdjacentItems}
-use Rattle.fallible_itertools.specs.CoalesceBy.{coalesce_by_parts}
-use Rattle.fallible_itertools.specs.Coalesce.{KeepsApart, OneOrBoth, coalesced_by, coalesce_asks, coalesced_at, coalesce_contract, coalesced, coalesced_from}
+use Rattle.fallible_itertools.specs.Coalesce.{KeepsApart, OneOrBoth, coalesced_by, coalesce_asks, coalesced_at, coalesce_contract, coalesce_parts, coalesced, coalesced_from}
+use Rattle.fallible_itertools.specs.Holding.{held_beside, held_one}
 use Rattle.fallible_itertools.proofs.Lemmas.Adjacent.{EachNext, HoldsOfNext, adjacent_of_next}
+use Rattle.fallible_itertools.proofs.Lemmas.HoldingHints.{GivesHeld}
 use Rattle.fallible_itertools.proofs.Lemmas.HoldingLists.{by_outcome, held_list, listed_parts, gives_held_list}
 use Rattle.fallible_iterator.specs.Outcome.{Outcome}
 use Rattle.fallible_iterator.specs.Outcome.TheVariants.{Kept, LeftOut, Failure, End}
-use Rattle.fallible_itertools.specs.declared.coalesce_by.CoalesceBy.{CoalesceBy}
+use Rattle.fallible_itertools.specs.declared.coalesce.Coalesce.{Coalesce}
 
 module _ {A E : Type 0} where
   abbrev next_held_by : OneOrBoth A E → Option A
@@ -96,9 +97,9 @@ module _ {A E : Type 0} (h : A → A → OneOrBoth A E) where
     acts_by_next : (p : Option A × F) (a x : Option A) (o : Outcome A E) (q : Option A × F) → HeldAndClosure p a → coalesce_asks call p x o q → HeldAndClosure q (next_held a x) × (o ≡ held_outcome a x)
     acts_by_next p a x o q at w = asks_is_function a x o q (subst (λ k. coalesce_asks call k x o q) at w)
 
-pub lists_coalesced : {S A F E R : Type 0} (m : Contract S A E) (g : Mut F (A × (A × Unit {0})) (OneOrBoth A E)) (s : CoalesceBy S (Option A × F) R A E) (f : F) (h : A → A → OneOrBoth A E) (l : List (Result A E)) → coalesce_by_parts s ≡ (s.it, ((None, f), None)) → ActsWith (call_with g) f h → Lists m.steps s.it l
-    → Lists (seen_as coalesce_by_parts (coalesce_contract m g)).steps s (coalesced h l)
-lists_coalesced m g s f h l parts a i = lists_seen coalesce_by_parts (coalesce_contract m g).steps s parts (held_list_is_coalesced h l) (gives_held_list m.steps (coalesce_asks (call_with g)) (HeldAndClosure h (call_with g) f a) (held_outcome h) (next_held h) (acts_by_next h (call_with g) f a) l s.it (None, f) None refl i.runs)
+pub lists_coalesced : {S A F E : Type 0} (m : Contract S A E) (g : Mut F (A × (A × Unit {0})) (OneOrBoth A E)) (s : Coalesce S F A E) (f : F) (h : A → A → OneOrBoth A E) (l : List (Result A E)) → coalesce_parts s ≡ (s.it, ((None, f), None)) → ActsWith (call_with g) f h → Lists m.steps s.it l
+    → Lists (seen_as coalesce_parts (coalesce_contract m g)).steps s (coalesced h l)
+lists_coalesced m g s f h l parts a i = lists_seen coalesce_parts (coalesce_contract m g).steps s parts (held_list_is_coalesced h l) (gives_held_list m.steps (coalesce_asks (call_with g)) (HeldAndClosure h (call_with g) f a) (held_outcome h) (next_held h) (acts_by_next h (call_with g) f a) l s.it (None, f) None refl i.runs)
 
 -- ---- adjacent ones are apart
 
@@ -139,6 +140,25 @@ module _ {A E : Type 0} (h : A → A → OneOrBoth A E) (keeps : KeepsApart h) w
   pub coalesced_apart : (l : List (Result A E)) → AdjacentItems (λ x y. h x y ≡ Ok (Err (x, y))) (coalesced h l)
   unfolding coalesced
   coalesced_apart l = adjacent_of_next Apart (coalesced_from h None l) (each_next_apart None l)
+
+-- ---- its hint
+
+module _ {A F E : Type 0} (call : F → A → A → OneOrBoth A E → F → Type 0) where
+  held_one_where_left_out : (v : OneOrBoth A E) (q : Option A) → coalesced_by v LeftOut q → 1 ≤ held_one q
+  held_one_where_left_out (Ok (Ok z)) q w = rw w.1 (omega arith)
+  held_one_where_left_out (Ok (Err both)) q w = absurd (let is = w.0 in cc)
+  held_one_where_left_out (Err e) q w = absurd (let is = w.0 in cc)
+
+  held_beside_where_left_out : (p : Option A × F) (x : A) (q : Option A × F) → coalesce_asks call p (Some x) LeftOut q → 1 ≤ held_beside q
+  held_beside_where_left_out (None, f) x q w = rw w.1 (omega arith)
+  held_beside_where_left_out (Some y, f) x q w = held_one_where_left_out w.0 q.0 w.2
+
+  held_beside_at_stop : (p q : Option A × F) → coalesce_asks call p None End q → held_beside p ≡ 0
+  held_beside_at_stop (None, f) q w = refl
+  held_beside_at_stop (Some y, f) q w = absurd (let is = w.0 in cc)
+
+  pub gives_held : GivesHeld {E = E} (coalesce_asks call) held_beside
+  gives_held = record { left_out = held_beside_where_left_out; at_stop = held_beside_at_stop }
 
 -- ---- one item beside the one that is held
 

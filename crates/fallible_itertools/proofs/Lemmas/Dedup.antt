@@ -1,10 +1,12 @@
 -- What `Dedup` lists.
-use Rattle.std.specs.Prelude.{◌≡◌, Bool, true, false, Option, Some, None, Result, Ok, Err, List, [], ◌∷◌, ◌++◌}
-use Rattle.std.proofs.Common.{refl, ap, subst}
+use Rattle.std.specs.Prelude.{◌≡◌, ◌≤◌, Bool, true, false, Option, Some, None, Result, Ok, Err, List, [], ◌∷◌, ◌++◌}
+use Rattle.std.proofs.Common.{refl, ap, subst, arith}
 use Rattle.fallible_iterator.specs.Contract.{Contract, seen_as}
 use Rattle.fallible_iterator.specs.Lists.{Lists}
 use Rattle.fallible_iterator.proofs.Lemmas.Lists.Passing.{lists_seen}
 use Rattle.fallible_itertools.specs.Dedup.{dedup_at, dedup_asks, dedup_before, dedup_contract, dedup_parts, deduped, deduped_at}
+use Rattle.fallible_itertools.specs.Holding.{held_one}
+use Rattle.fallible_itertools.proofs.Lemmas.HoldingHints.{GivesHeld}
 use Rattle.fallible_itertools.proofs.Lemmas.HoldingLists.{by_outcome, held_list, listed_parts, gives_held_list}
 use Rattle.fallible_iterator.specs.Outcome.{Outcome}
 use Rattle.fallible_iterator.specs.Outcome.TheVariants.{Kept, LeftOut, End}
@@ -80,3 +82,21 @@ module _ {A E : Type 0} (eq : A → A → Bool) where
 
 pub lists_deduped : {S A E : Type 0} (m : Contract S A E) (eq : A → A → Bool) (s : Dedup S A E) (l : List (Result A E)) → dedup_parts s ≡ (s.it, (None, None)) → Lists m.steps s.it l → Lists (seen_as dedup_parts (dedup_contract eq m)).steps s (deduped eq l)
 lists_deduped m eq s l parts i = lists_seen dedup_parts (dedup_contract eq m).steps s parts (held_list_is_deduped eq l) (gives_held_list m.steps (dedup_asks eq) (λ p a. p ≡ a) (held_outcome eq) (next_held eq) (acts_by_next eq) l s.it None None refl i.runs)
+
+-- ---- its hint
+
+module _ {A : Type 0} (E : Type 0) (eq : A → A → Bool) where
+  held_one_after_item : (y x : A) (b : Bool) (q : Option A) → dedup_at eq {E = E} y x b LeftOut q → 1 ≤ held_one q
+  held_one_after_item y x true q w = rw w.1 (omega arith)
+  held_one_after_item y x false q w = absurd (let is = w.0 in cc)
+
+  held_one_where_left_out : (p : Option A) (x : A) (q : Option A) → dedup_asks eq {E = E} p (Some x) LeftOut q → 1 ≤ held_one q
+  held_one_where_left_out None x q w = rw w.1 (omega arith)
+  held_one_where_left_out (Some y) x q w = held_one_after_item y x (eq y x) q w
+
+  held_one_at_stop : (p q : Option A) → dedup_asks eq {E = E} p None End q → held_one p ≡ 0
+  held_one_at_stop None q w = refl
+  held_one_at_stop (Some y) q w = absurd (let is = w.0 in cc)
+
+  pub gives_held : GivesHeld {E = E} (dedup_asks eq) held_one
+  gives_held = record { left_out = held_one_where_left_out; at_stop = held_one_at_stop }

@@ -1,20 +1,21 @@
 -- What `DedupBy` lists, and its hint.
-use Rattle.std.specs.Prelude.{◌≡◌, Bool, true, false, Option, Some, None, Result, Ok, Err, List, [], ◌∷◌, ◌++◌}
+use Rattle.std.specs.Prelude.{◌≡◌, ◌≤◌, Bool, true, false, Option, Some, None, Result, Ok, Err, List, [], ◌∷◌, ◌++◌}
 use Rattle.std.specs.Fn.{Mut}
 use Rattle.std.specs.Borrow.{Bor}
-use Rattle.std.proofs.Common.{refl, ap, subst, ◌∙◌}
+use Rattle.std.proofs.Common.{refl, ap, subst, arith, ◌∙◌}
 use Rattle.fallible_iterator.specs.Contract.{Contract, seen_as}
 use Rattle.fallible_iterator.specs.Lists.{ActsWith, Lists}
 use Rattle.fallible_iterator.specs.Picking.{call_at_two}
 use Rattle.fallible_iterator.proofs.Lemmas.Lists.Passing.{lists_seen}
 use Rattle.fallible_itertools.specs.Adjacent.{AdjacentItems}
-use Rattle.fallible_itertools.specs.CoalesceBy.{coalesce_by_parts}
-use Rattle.fallible_itertools.specs.DedupBy.{found_same, dedup_by_asks, same_before, dedup_by_contract, deduped_by, deduped_by_from}
+use Rattle.fallible_itertools.specs.DedupBy.{found_same, dedup_by_asks, same_before, dedup_by_contract, dedup_by_parts, deduped_by, deduped_by_from}
+use Rattle.fallible_itertools.specs.Holding.{held_beside, held_one}
 use Rattle.fallible_itertools.proofs.Lemmas.Adjacent.{EachNext, HoldsOfNext, adjacent_of_next}
+use Rattle.fallible_itertools.proofs.Lemmas.HoldingHints.{GivesHeld}
 use Rattle.fallible_itertools.proofs.Lemmas.HoldingLists.{by_outcome, held_list, listed_parts, gives_held_list}
 use Rattle.fallible_iterator.specs.Outcome.{Outcome}
 use Rattle.fallible_iterator.specs.Outcome.TheVariants.{Kept, LeftOut, Failure, End}
-use Rattle.fallible_itertools.specs.declared.coalesce_by.CoalesceBy.{CoalesceBy}
+use Rattle.fallible_itertools.specs.declared.dedup_by.DedupBy.{DedupBy}
 
 module _ {A E : Type 0} where
   abbrev held_after_found_same : A → A → Result Bool E → Option A
@@ -97,9 +98,9 @@ module _ {A E : Type 0} (h : A → A → Result Bool E) where
     acts : (p : Option A × F) (a x : Option A) (o : Outcome A E) (q : Option A × F) → IsBesideClosure p a → dedup_by_asks call p x o q → IsBesideClosure q (held_after_dedup_by a x) × (o ≡ dedup_by_outcome a x)
     acts p a x o q at w = dedup_by_asks_is_function a x o q (subst (λ k. dedup_by_asks call k x o q) at w)
 
-pub lists_deduped_by : {S A F E R : Type 0} (m : Contract S A E) (g : Mut F (Bor A × (Bor A × Unit {0})) (Result Bool E)) (s : CoalesceBy S (Option A × F) R A E) (f : F) (h : A → A → Result Bool E) (l : List (Result A E)) → coalesce_by_parts s ≡ (s.it, ((None, f), None)) → ActsWith (call_at_two g) f h → Lists m.steps s.it l
-    → Lists (seen_as coalesce_by_parts (dedup_by_contract m g)).steps s (deduped_by h l)
-lists_deduped_by m g s f h l parts a i = lists_seen coalesce_by_parts (dedup_by_contract m g).steps s parts (held_list_is_deduped_by h l) (gives_held_list m.steps (dedup_by_asks (call_at_two g)) (IsBesideClosure h (call_at_two g) f a) (dedup_by_outcome h) (held_after_dedup_by h) (acts h (call_at_two g) f a) l s.it (None, f) None refl i.runs)
+pub lists_deduped_by : {S A F E : Type 0} (m : Contract S A E) (g : Mut F (Bor A × (Bor A × Unit {0})) (Result Bool E)) (s : DedupBy S F A E) (f : F) (h : A → A → Result Bool E) (l : List (Result A E)) → dedup_by_parts s ≡ (s.it, ((None, f), None)) → ActsWith (call_at_two g) f h → Lists m.steps s.it l
+    → Lists (seen_as dedup_by_parts (dedup_by_contract m g)).steps s (deduped_by h l)
+lists_deduped_by m g s f h l parts a i = lists_seen dedup_by_parts (dedup_by_contract m g).steps s parts (held_list_is_deduped_by h l) (gives_held_list m.steps (dedup_by_asks (call_at_two g)) (IsBesideClosure h (call_at_two g) f a) (dedup_by_outcome h) (held_after_dedup_by h) (acts h (call_at_two g) f a) l s.it (None, f) None refl i.runs)
 
 -- ---- adjacent items differ
 
@@ -137,6 +138,25 @@ module _ {A E : Type 0} (h : A → A → Result Bool E) where
   pub deduped_by_differ : (l : List (Result A E)) → AdjacentItems (λ x y. h x y ≡ Ok false) (deduped_by h l)
   unfolding deduped_by
   deduped_by_differ l = adjacent_of_next FoundToDiffer (deduped_by_from h None l) (each_next_differs None l)
+
+-- ---- its hint
+
+module _ {A F E : Type 0} (call : F → A → A → Result Bool E → F → Type 0) where
+  held_one_of_found_same_left_out : (y x : A) (v : Result Bool E) (q : Option A) → found_same y x v LeftOut q → 1 ≤ held_one q
+  held_one_of_found_same_left_out y x (Ok true) q w = rw w.1 (omega arith)
+  held_one_of_found_same_left_out y x (Ok false) q w = absurd (let is = w.0 in cc)
+  held_one_of_found_same_left_out y x (Err e) q w = absurd (let is = w.0 in cc)
+
+  left_out : (p : Option A × F) (x : A) (q : Option A × F) → dedup_by_asks call p (Some x) LeftOut q → 1 ≤ held_beside q
+  left_out (None, f) x q w = rw w.1 (omega arith)
+  left_out (Some y, f) x q w = held_one_of_found_same_left_out y x w.0 q.0 w.2
+
+  at_stop : (p q : Option A × F) → dedup_by_asks call p None End q → held_beside p ≡ 0
+  at_stop (None, f) q w = refl
+  at_stop (Some y, f) q w = absurd (let is = w.0 in cc)
+
+  pub gives_held : GivesHeld {E = E} (dedup_by_asks call) held_beside
+  gives_held = record { left_out = left_out; at_stop = at_stop }
 
 -- ---- one item beside the one that is held
 

@@ -1,20 +1,20 @@
 -- What `DedupByKey` lists, and its hint.
-use Rattle.std.specs.Prelude.{◌≡◌, Bool, true, false, Option, Some, None, Result, Ok, Err, List, [], ◌∷◌, ◌++◌}
+use Rattle.std.specs.Prelude.{◌≡◌, ◌≤◌, Bool, true, false, Option, Some, None, Result, Ok, Err, List, [], ◌∷◌, ◌++◌}
 use Rattle.std.specs.Fn.{Mut}
 use Rattle.std.specs.Borrow.{Bor}
-use Rattle.std.proofs.Common.{refl, ap, subst, ◌∙◌}
+use Rattle.std.proofs.Common.{refl, ap, subst, arith, ◌∙◌}
 use Rattle.fallible_iterator.specs.Contract.{Contract, seen_as}
 use Rattle.fallible_iterator.specs.Closures.{IsCallable, call_at}
 use Rattle.fallible_iterator.specs.Lists.{Acts, Lists}
 use Rattle.fallible_iterator.proofs.Lemmas.Lists.Passing.{lists_seen}
-use Rattle.fallible_itertools.specs.CoalesceBy.{coalesce_by_parts}
-use Rattle.fallible_itertools.specs.DedupByKey.{keyed_at, keyed_by, key_before, key_at, dedup_key_asks, dedup_key_takes, dedup_by_key_contract, deduped_by_key, deduped_key_from}
-use Rattle.fallible_itertools.specs.Holding.{OrStop}
+use Rattle.fallible_itertools.specs.DedupByKey.{keyed_at, keyed_by, key_before, key_at, dedup_key_asks, dedup_key_takes, dedup_by_key_contract, dedup_by_key_parts, deduped_by_key, deduped_key_from}
+use Rattle.fallible_itertools.specs.Holding.{OrStop, held_beside, held_one}
 use Rattle.fallible_itertools.proofs.Lemmas.Holding.{is_callable_beside}
+use Rattle.fallible_itertools.proofs.Lemmas.HoldingHints.{GivesHeld}
 use Rattle.fallible_itertools.proofs.Lemmas.HoldingLists.{by_outcome, held_list, listed_parts, gives_held_list}
 use Rattle.fallible_iterator.specs.Outcome.{Outcome}
 use Rattle.fallible_iterator.specs.Outcome.TheVariants.{Kept, LeftOut, Failure, End}
-use Rattle.fallible_itertools.specs.declared.coalesce_by.CoalesceBy.{CoalesceBy}
+use Rattle.fallible_itertools.specs.declared.dedup_by_key.DedupByKey.{DedupByKey}
 
 abbrev next_held_at : {H : Type 0} → H → H → Bool → Option H
 next_held_at held this true = Some held
@@ -113,9 +113,32 @@ module _ {A K E : Type 0} (eq : K → K → Bool) where
       acts_by_next : (p : Option (K × A) × F) (a : Option (K × A)) (x : Option A) (o : Outcome A E) (q : Option (K × A) × F) → HeldAndClosure p a → dedup_key_asks eq call p x o q → HeldAndClosure q (next_held a x) × (o ≡ held_outcome a x)
       acts_by_next p a x o q at w = asks_is_function a x o q (subst (λ k. dedup_key_asks eq call k x o q) at w)
 
-pub lists_deduped_by_key : {S A K F E R : Type 0} (m : Contract S A E) (eq : K → K → Bool) (g : Mut F (Bor A × Unit {0}) (Result K E)) (s : CoalesceBy S (Option (K × A) × F) R A E) (f : F) (h : A → Result K E) (l : List (Result A E)) → coalesce_by_parts s ≡ (s.it, ((None, f), None)) → Acts (call_at g) f h → Lists m.steps s.it l
-    → Lists (seen_as coalesce_by_parts (dedup_by_key_contract eq m g)).steps s (deduped_by_key eq h l)
-lists_deduped_by_key m eq g s f h l parts a i = lists_seen coalesce_by_parts (dedup_by_key_contract eq m g).steps s parts (held_list_is_deduped_by_key eq h l) (gives_held_list m.steps (dedup_key_asks eq (call_at g)) (HeldAndClosure eq h (call_at g) f a) (held_outcome eq h) (next_held eq h) (acts_by_next eq h (call_at g) f a) l s.it (None, f) None refl i.runs)
+pub lists_deduped_by_key : {S A K F E : Type 0} (m : Contract S A E) (eq : K → K → Bool) (g : Mut F (Bor A × Unit {0}) (Result K E)) (s : DedupByKey S K F A E) (f : F) (h : A → Result K E) (l : List (Result A E)) → dedup_by_key_parts s ≡ (s.it, ((None, f), None)) → Acts (call_at g) f h → Lists m.steps s.it l
+    → Lists (seen_as dedup_by_key_parts (dedup_by_key_contract eq m g)).steps s (deduped_by_key eq h l)
+lists_deduped_by_key m eq g s f h l parts a i = lists_seen dedup_by_key_parts (dedup_by_key_contract eq m g).steps s parts (held_list_is_deduped_by_key eq h l) (gives_held_list m.steps (dedup_key_asks eq (call_at g)) (HeldAndClosure eq h (call_at g) f a) (held_outcome eq h) (next_held eq h) (acts_by_next eq h (call_at g) f a) l s.it (None, f) None refl i.runs)
+
+-- ---- its hint
+
+module _ {A K F E : Type 0} (eq : K → K → Bool) (call : F → A → Result K E → F → Type 0) where
+  held_one_at_key : (held this : K × A) (b : Bool) (q : Option (K × A)) → keyed_at eq {E = E} held this b LeftOut q → 1 ≤ held_one q
+  held_one_at_key held this true q w = rw w.1 (omega arith)
+  held_one_at_key held this false q w = absurd (let is = w.0 in cc)
+
+  held_one_where_left_out : (held : Option (K × A)) (x : A) (v : Result K E) (q : Option (K × A)) → keyed_by eq held x v LeftOut q → 1 ≤ held_one q
+  held_one_where_left_out None x (Err e) q w = absurd (let is = w.0 in cc)
+  held_one_where_left_out (Some held) x (Err e) q w = absurd (let is = w.0 in cc)
+  held_one_where_left_out None x (Ok k) q w = rw w.1 (omega arith)
+  held_one_where_left_out (Some held) x (Ok k) q w = held_one_at_key held (k, x) (eq held.0 k) q w
+
+  held_beside_where_left_out : (p : Option (K × A) × F) (x : A) (q : Option (K × A) × F) → dedup_key_asks eq call p (Some x) LeftOut q → 1 ≤ held_beside q
+  held_beside_where_left_out p x q w = held_one_where_left_out p.0 x w.0 q.0 w.2
+
+  held_beside_at_stop : (p q : Option (K × A) × F) → dedup_key_asks eq call p None End q → held_beside p ≡ 0
+  held_beside_at_stop (None, f) q w = refl
+  held_beside_at_stop (Some held, f) q w = absurd (let is = w.0 in cc)
+
+  pub gives_held : GivesHeld {E = E} (dedup_key_asks eq call) held_beside
+  gives_held = record { left_out = held_beside_where_left_out; at_stop = held_beside_at_stop }
 
 -- ---- where the closure may be called
 

@@ -15,6 +15,11 @@ use Rattle.fallible_iterator.specs.Outcome.{Outcome}
 use Rattle.fallible_iterator.specs.Outcome.TheVariants.{Kept, LeftOut, Failure, End}
 
 module _ {P X B E : Type 0} (asks : P → Option X → Outcome B E → P → Type 0) where
+  -- What is left out is held, and while something is held it is yielded before a stop.
+  pub record GivesHeld (held : P → ℕ) : Type 0 where
+    pub left_out : (p : P) (x : X) (q : P) → asks p (Some x) LeftOut q → 1 ≤ held q
+    pub at_stop : (p q : P) → asks p None End q → held p ≡ 0
+
   -- `MakesNoFewer`, of calls
   pub record KeepsFew (Few : P → ℕ → ℕ → Type 0) : Type 0 where
     pub kept : (p : P) (x : X) (y : B) (q : P) (low n : ℕ) → asks p (Some x) (Kept y) q → Few q (low - 1) n → Few p low (suc n)
@@ -112,13 +117,13 @@ module _ {V S P X B E : Type 0} (view : V → S × (P × Option (Option E))) (ca
 
 -- ---- at least one, where the source has one or one is held
 
-module _ {V S P X B E : Type 0} (view : V → S × (P × Option (Option E))) (m : Contract S X E) (asks : P → Option X → Outcome B E → P → Type 0) (pre : P → Option X → Type 0) (held : P → ℕ) (holds : Holds asks held) where
+module _ {V S P X B E : Type 0} (view : V → S × (P × Option (Option E))) (m : Contract S X E) (asks : P → Option X → Outcome B E → P → Type 0) (pre : P → Option X → Type 0) (held : P → ℕ) (holds : Holds asks held) (gives : GivesHeld asks held) where
   keeps_one : KeepsFew asks (λ p low n. min (low + held p) 1 ≤ n)
   keeps_one = record {
     kept = λ p x y q low n asked after. omega arith;
-    left_out = λ p x q low n asked after. let some = (holds p (Some x) LeftOut q asked).0 in omega (arith, some, after);
+    left_out = λ p x q low n asked after. let some = gives.left_out p x q asked in omega (arith, some, after);
     kept_at_end = λ p y q asked. omega arith;
-    none_at_end = λ p q asked. let none = (holds p None End q asked).0 in omega (arith, none);
+    none_at_end = λ p q asked. let none = gives.at_stop p q asked in omega (arith, none);
   }
 
   abbrev IsOne : S → P → ℕ × Option ℕ → Type 0

@@ -1,12 +1,13 @@
 -- What `WithPosition` lists, its draws, and that what it leaves out is held.
-use Rattle.std.specs.Prelude.{◌≡◌, Bool, true, false, Option, Some, None, Result, Ok, Err, List, [], ◌∷◌, ◌++◌, map}
-use Rattle.std.proofs.Common.{refl, ap, subst}
+use Rattle.std.specs.Prelude.{◌≡◌, ◌≤◌, Bool, true, false, Option, Some, None, Result, Ok, Err, List, [], ◌∷◌, ◌++◌, map}
+use Rattle.std.proofs.Common.{refl, ap, subst, arith}
 use Rattle.fallible_iterator.specs.Traces.{Answered, item}
 use Rattle.fallible_iterator.specs.Contract.{Contract, seen_as}
 use Rattle.fallible_iterator.specs.Lists.{Lists}
 use Rattle.fallible_iterator.proofs.Lemmas.Lists.Passing.{lists_seen}
-use Rattle.fallible_itertools.specs.Holding.{holding_step}
+use Rattle.fallible_itertools.specs.Holding.{held_one, holding_step}
 use Rattle.fallible_itertools.specs.WithPosition.{position_asks, position_before_item, position_before_stop, positioned, positioned_at, with_position_contract, with_position_parts}
+use Rattle.fallible_itertools.proofs.Lemmas.HoldingHints.{GivesHeld}
 use Rattle.fallible_itertools.proofs.Lemmas.HoldingLists.{held_list, listed_parts, gives_held_list}
 use Rattle.fallible_itertools.proofs.Lemmas.HoldingTraces.{step_item, step_end, step_failure, step_left_before}
 use Rattle.fallible_iterator.specs.Outcome.{Outcome}
@@ -129,3 +130,17 @@ module _ {A E : Type 0} where
   pub one_positioned : (x : A) → positioned {E = E} (Ok x ∷ []) ≡ Ok (Only, x) ∷ []
   unfolding positioned positioned_at
   one_positioned x = refl
+
+-- ---- its hint
+
+module _ {A : Type 0} (E : Type 0) where
+  held_one_where_left_out : (p : Option (Bool × A)) (x : A) (q : Option (Bool × A)) → position_asks {E = E} p (Some x) LeftOut q → 1 ≤ held_one q
+  held_one_where_left_out None x q w = rw w.1 (omega arith)
+  held_one_where_left_out (Some p) x q w = absurd (let is = w.0 in cc)
+
+  held_one_at_stop : (p q : Option (Bool × A)) → position_asks {E = E} p None End q → held_one p ≡ 0
+  held_one_at_stop None q w = refl
+  held_one_at_stop (Some p) q w = absurd (let is = w.0 in cc)
+
+  pub gives_held : GivesHeld {E = E} (position_asks {A = A}) held_one
+  gives_held = record { left_out = held_one_where_left_out; at_stop = held_one_at_stop }

@@ -7,7 +7,8 @@ use Rattle.fallible_itertools.specs.Holding.{HintsWhereHeld, held_one}
 use Rattle.fallible_itertools.specs.WithPosition.{position_asks, with_position_contract, with_position_due, with_position_parts, with_position_source}
 use Rattle.fallible_itertools.specs.Laws.WithPosition.{holds_with_position}
 use Rattle.fallible_itertools.proofs.Lemmas.HoldingHints.{KeepsFew, hints_where_held}
-use Rattle.fallible_iterator.specs.Outcome.TheVariants.{Kept, LeftOut, End}
+use Rattle.fallible_itertools.proofs.Lemmas.WithPosition.{gives_held}
+use Rattle.fallible_iterator.specs.Outcome.TheVariants.{Kept, LeftOut}
 use Rattle.fallible_itertools.specs.declared.with_position.Position.{Position}
 
 module _ (A E : Type 0) where
@@ -29,7 +30,7 @@ module _ (A E : Type 0) where
     kept = kept_few;
     left_out = left_few;
     kept_at_end = λ p y q w. let few = held_one_few p in omega (arith, few);
-    none_at_end = λ p q w. let none = (holds_with_position {E = E} p None End q w).0 in omega (arith, none);
+    none_at_end = λ p q w. let none = (gives_held E).at_stop p q w in omega (arith, none);
   }
 
 module _ {S A E : Type 0} (m : Contract S A E) where

@@ -3,7 +3,7 @@ use Rattle.std.specs.Prelude.{Bool, true, false, Option, Some, None, Result, Ok,
 use Rattle.std.specs.Fn.{Mut}
 use Rattle.std.specs.Borrow.{Bor}
 use Rattle.std.specs.List.{FoldsTo}
-use Rattle.std.proofs.Common.{refl, ap, subst, sym, arith}
+use Rattle.std.proofs.Common.{ap, subst, sym, arith}
 use Rattle.fallible_iterator.specs.Contract.{Contract, Lawful}
 use Rattle.fallible_iterator.specs.Closures.{IsCallable, Reaches, call_at, takes_at}
 use Rattle.fallible_iterator.specs.Laws.Closures.{is_callable_after, reaches_here, reaches_from}
@@ -20,7 +20,7 @@ module _ {A K E : Type 0} (from : AllocError → E → Type 0) (eq : K → K →
   held_after_begun : (g : Option (Group K A)) (x : A) (k : K) (o : Outcome (Group K A) E) (q : Option (Group K A)) → group_begun from g x k o q → HeldAfter (held_one g) (Some x) o (held_one q)
   held_after_begun None x k (Kept y) q w = absurd w
   held_after_begun (Some g) x k (Kept y) q w = rw (w.1.2) (omega arith)
-  held_after_begun None x k LeftOut q w = rw (w.2) (omega arith, omega arith)
+  held_after_begun None x k LeftOut q w = rw (w.2) (omega arith)
   held_after_begun (Some g) x k LeftOut q w = absurd w
   held_after_begun None x k (Failure e) q w = rw (w.1) (omega arith)
   held_after_begun (Some g) x k (Failure e) q w = rw (w.1) (omega arith)
@@ -28,7 +28,7 @@ module _ {A K E : Type 0} (from : AllocError → E → Type 0) (eq : K → K →
 
   held_after_grown : (g : Group K A) (x : A) (o : Outcome (Group K A) E) (q : Option (Group K A)) → group_grown from g x o q → HeldAfter 1 (Some x) o (held_one q)
   held_after_grown g x (Kept y) q w = absurd w
-  held_after_grown g x LeftOut q w = rw (w.2) (omega arith, omega arith)
+  held_after_grown g x LeftOut q w = rw (w.2) (omega arith)
   held_after_grown g x (Failure e) q w = rw (w.2.2) (omega arith)
   held_after_grown g x End q w = w
 
@@ -43,7 +43,7 @@ module _ {A K E : Type 0} (from : AllocError → E → Type 0) (eq : K → K →
   held_after_of_chunk_by (Some g) x (Err e) o q (is, at) = rw (is, at) (omega arith)
 
   held_after_stop : (g : Option (Group K A)) (o : Outcome (Group K A) E) (q : Option (Group K A)) → group_at_stop g o q → HeldAfter {X = A} (held_one g) None o (held_one q)
-  held_after_stop None o q (is, at) = rw (is, at) (refl, refl)
+  held_after_stop None o q (is, at) = rw (is, at) (omega arith)
   held_after_stop (Some g) o q (is, at) = rw (is, at) (omega arith)
 
   module _ {F : Type 0} (g : Mut F (Bor A × Unit {0}) (Result K E)) where

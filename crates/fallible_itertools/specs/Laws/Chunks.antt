@@ -21,13 +21,13 @@ held_one_of_same (Some v) (Some y) w = refl
 module _ {A E : Type 0} (from : AllocError → E → Type 0) where
   pub holds_chunks : Holds (chunks_asks {A = A} from) batch_held
   holds_chunks p (Some x) (Kept y) q w = rw w.2 (omega arith)
-  holds_chunks p (Some x) LeftOut q w = rw w.3 (omega arith, omega arith)
+  holds_chunks p (Some x) LeftOut q w = rw w.3 (omega arith)
   holds_chunks p (Some x) (Failure e) q w = omega (arith, held_one_of_same p.1 q.1 w.3)
   holds_chunks p (Some x) End q w = w
   holds_chunks p None (Kept y) q w = rw (w.0, w.1) (omega arith)
   holds_chunks p None LeftOut q w = w
   holds_chunks p None (Failure e) q w = absurd w
-  holds_chunks p None End q w = rw (w.1, w.0) (refl, refl)
+  holds_chunks p None End q w = rw w.1 (omega arith)
 
 pub lawful_chunks : {S A E : Type 0} {m : Contract S A E} (from : AllocError → E → Type 0) → Lawful m → Lawful (chunks_contract from m)
 lawful_chunks {m = m} from l = lawful_filling (chunks_asks from) (λ p x. ⊤) batch_held (chunks_hints m) (holds_chunks from) l

@@ -42,14 +42,14 @@ module _ {B E : Type 0} where
   weighs_stop : (X : Type 0) (before after : ℕ) (stop : Option E) (o : Outcome B E) (made : Made B (Option E) E) → HeldAfter {X = X} before None o after → StopMade stop o (made_answers made) → Weighs stop_comes {X = X} {D = E} 1 before (stop_answer stop) made after
   weighs_stop X before after stop (Kept y) made h m = rw (made_of_answers made (item y) (Some stop) m) (let k = stop_counts X B stop in (omega (arith, h, k.0), omega (arith, h, k.1), λ s. k.2))
   weighs_stop X before after stop (Failure d) made h m = rw (made_of_answers made (failure d) (Some stop) m) (let k = stop_counts X B stop in (omega (arith, h, k.0), omega (arith, h, k.1), λ s. k.2))
-  weighs_stop X before after stop End made h m = rw (made_of_answers made (stop_answer stop) None m) (let k = stop_counts X B stop in let none : items_of (stop_answer {B = B} stop) ≡ 0 = k.0 in let same : stays_of (stop_answer {B = B} stop) ≡ stays_of (stop_answer {B = X} stop) = k.1 in (omega (arith, h.0, h.1, none), omega (arith, h.0, h.1, same), λ s. k.2))
+  weighs_stop X before after stop End made h m = rw (made_of_answers made (stop_answer stop) None m) (let k = stop_counts X B stop in let none : items_of (stop_answer {B = B} stop) ≡ 0 = k.0 in let same : stays_of (stop_answer {B = B} stop) ≡ stays_of (stop_answer {B = X} stop) = k.1 in (omega (arith, h, none), omega (arith, h, same), λ s. k.2))
   weighs_stop X before after stop LeftOut made h m = absurd m
 
 module _ {P X B E : Type 0} (asks : P → Option X → Outcome B E → P → Type 0) where
   module _ (held : P → ℕ) (weighs : Holds asks held) where
     weighs_item : (p h q : P) (x : X) (o : Outcome B E) (made : Made B (Option E) E) → HeldAfter (held p) (Some x) o (held h) → MadeOfItem asks o h (made_answers made) q → Weighs stop_comes {D = E} 1 (held p) (Ok (Some x)) made (held q)
     weighs_item p h q x (Kept y) made w m = rw (m.1, made_of_answers made (item y) None m.0) (omega (arith, w), omega (arith, w), λ s. absurd s)
-    weighs_item p h q x LeftOut made w m = rw (m.1, nothing_made made m.0) (omega (arith, w.1), omega (arith, w.1), λ s. absurd s)
+    weighs_item p h q x LeftOut made w m = rw (m.1, nothing_made made m.0) (omega (arith, w), omega (arith, w), λ s. absurd s)
     weighs_item p h q x (Failure e) made w m = let k = weighs_stop X (held h) (held q) (Some e) m.0 made (weighs h None m.0 q m.1) m.2 in (omega (arith, k.0, w), omega (arith, k.1, w), λ s. absurd s)
     weighs_item p h q x End made w m = absurd w
 

@@ -2,22 +2,26 @@
 ghost use Rattle.std.specs.Prelude.{◌≡◌, ◌++◌, ◌∷◌, Bool, false, List, Result, Ok, Err, [], map};
 ghost use Rattle.fallible_iterator.specs.LawForm.{TracesAre};
 ghost use Rattle.fallible_iterator.specs.SoundHints.{HintsAsSoundAs};
+ghost use Rattle.fallible_iterator.specs.Closures.{call_at};
+ghost use Rattle.fallible_iterator.specs.Folds.{call_with};
 ghost use Rattle.fallible_iterator.specs.Lists.{filter_mapped, items, nth_of};
+ghost use Rattle.fallible_iterator.specs.Picking.{call_at_two};
 ghost use Rattle.fallible_itertools.specs.Adjacent.{AdjacentItems, HaveKeys};
 ghost use Rattle.fallible_itertools.specs.ChunkBy.{chunked_by};
-ghost use Rattle.fallible_itertools.specs.Coalesce.{KeepsApart, OneOrBoth, coalesced};
-ghost use Rattle.fallible_itertools.specs.CoalesceBy.{coalesce_by_due, coalesce_by_parts, coalesce_by_source};
-ghost use Rattle.fallible_itertools.specs.DedupBy.{deduped_by};
-ghost use Rattle.fallible_itertools.specs.DedupByKey.{deduped_by_key};
+ghost use Rattle.fallible_itertools.specs.Coalesce.{CoalesceTrace, KeepsApart, OneOrBoth, coalesce_due, coalesce_parts, coalesce_source, coalesced};
+ghost use Rattle.fallible_itertools.specs.DedupBy.{DedupByTrace, dedup_by_due, dedup_by_parts, dedup_by_source, deduped_by};
+ghost use Rattle.fallible_itertools.specs.DedupByKey.{DedupByKeyTrace, dedup_by_key_due, dedup_by_key_parts, dedup_by_key_source, deduped_by_key};
 ghost use Rattle.fallible_itertools.specs.Dedup.{DedupTrace, dedup_due, dedup_parts, dedup_source, deduped};
-ghost use Rattle.fallible_itertools.specs.Holding.{HintsWhereHeld, HoldingTrace};
+ghost use Rattle.fallible_itertools.specs.Holding.{HintsWhereHeld};
 ghost use Rattle.fallible_itertools.specs.TupleWindows.{TupleWindowsTrace, tuple_windows_parts, tuple_windows_source};
 ghost use Rattle.fallible_itertools.specs.Tuples.{TuplesTrace, tuples_parts, tuples_source};
 ghost use Rattle.fallible_itertools.specs.WithPosition.{WithPositionTrace, positioned, with_position_due, with_position_parts, with_position_source};
 ghost use Rattle.fallible_itertools.specs.declared.with_position.Position.TheVariants.{First, Last, Middle, Only};
 
-use crate::coalesce_by::{CoalesceBy, HoldOne};
+use crate::coalesce::Coalesce;
 use crate::dedup::Dedup;
+use crate::dedup_by::DedupBy;
+use crate::dedup_by_key::DedupByKey;
 use crate::tuple_windows::TupleWindows;
 use crate::tuples::Tuples;
 use crate::with_position::WithPosition;
@@ -51,24 +55,16 @@ where
     ensures { HintsWhereHeld ⟦<Dedup<I> as FallibleIterator>⟧.contract dedup_due I.contract dedup_source }
 {}
 
-/// The answers of `CoalesceBy`, so of `DedupBy`, `DedupByKey` and `Coalesce`, are the stop that is due, and then what the rule makes of the items: each stands where the item came that the rule yields it at, or a stop, and each stop after what was buffered before it. The closure's failure is a stop.
-pub fn law_coalesce_by<I: FallibleIterator, P: Drop, A: HoldOne<P, I::Item, I::Error> + Drop>()
-where
-    I::Error: Drop,
-    ensures { TracesAre coalesce_by_parts
-        ⟦<CoalesceBy<I, P, A> as FallibleIterator>⟧.contract.steps
-        (HoldingTrace I.contract.steps A.asks) }
-{}
-
-/// Each hint of `CoalesceBy` is as sound as the hint of its source that it is made of; if a stop is due it is sound by itself, and if that is a failure it is that of what comes after it.
-pub fn law_hints_coalesce_by<
+/// The answers of `Coalesce` are the stop that is due, and then adjacent items merged: each stands where the next one that isn't merged with it or a stop came, and each stop after what was buffered before it. The closure's failure is a stop.
+pub fn law_coalesce<
     I: FallibleIterator,
-    P: Drop,
-    A: HoldOne<P, I::Item, I::Error> + Drop,
+    F: FnMut(I::Item, I::Item) -> Result<Result<I::Item, (I::Item, I::Item)>, I::Error>,
 >()
 where
+    I::Item: Drop,
     I::Error: Drop,
-    ensures { HintsWhereHeld ⟦<CoalesceBy<I, P, A> as FallibleIterator>⟧.contract coalesce_by_due I.contract coalesce_by_source }
+    ensures { TracesAre coalesce_parts ⟦<Coalesce<I, F> as FallibleIterator>⟧.contract.steps
+        (CoalesceTrace (call_with F.FnMut) I.contract.steps) }
 {}
 
 /// A failure parts a list: what stands before it is merged by itself, and so is what comes after it. The closure keeps each two adjacent results apart, if it hands what it keeps apart back as it is, and what it makes of the second of two and a later item is still apart from the first; unless a failure stands between.
@@ -79,12 +75,57 @@ pub fn law_coalesced<T, E>()
         → AdjacentItems (λ x y. h x y ≡ Ok (Err (x, y))) (coalesced h l) }
 {}
 
+/// Each hint of `Coalesce` is as sound as the hint of its source that it is made of; if a stop is due it is sound by itself, and if that is a failure it is that of what comes after it.
+pub fn law_hints_coalesce<
+    I: FallibleIterator,
+    F: FnMut(I::Item, I::Item) -> Result<Result<I::Item, (I::Item, I::Item)>, I::Error>,
+>()
+where
+    I::Item: Drop,
+    I::Error: Drop,
+    ensures { HintsWhereHeld ⟦<Coalesce<I, F> as FallibleIterator>⟧.contract coalesce_due I.contract coalesce_source }
+{}
+
+/// The answers of `DedupBy` are the stop that is due, and then the first of adjacent items that the closure finds the same: each stands where the next one that differs or a stop came, and each stop after what was buffered before it. The closure's failure is a stop.
+pub fn law_dedup_by<I: FallibleIterator, F: FnMut(&I::Item, &I::Item) -> Result<bool, I::Error>>()
+where
+    I::Item: Drop,
+    I::Error: Drop,
+    ensures { TracesAre dedup_by_parts ⟦<DedupBy<I, F> as FallibleIterator>⟧.contract.steps
+        (DedupByTrace (call_at_two F.FnMut) I.contract.steps) }
+{}
+
 /// A failure parts a list: what stands before it is deduped by itself, and so is what comes after it. The closure finds that each item differs from the next one, unless a failure stands between.
 pub fn law_deduped_by<T, E>()
     ensures parts { (h : T → T → Result Bool E) (a : List (Result T E)) (e : E) (b : List (Result T E))
         → deduped_by h (a ++ Err e ∷ b) ≡ deduped_by h a ++ Err e ∷ deduped_by h b }
     ensures adjacent { (h : T → T → Result Bool E) (l : List (Result T E))
         → AdjacentItems (λ x y. h x y ≡ Ok false) (deduped_by h l) }
+{}
+
+/// Each hint of `DedupBy` is as sound as the hint of its source that it is made of; if a stop is due it is sound by itself, and if that is a failure it is that of what comes after it.
+pub fn law_hints_dedup_by<
+    I: FallibleIterator,
+    F: FnMut(&I::Item, &I::Item) -> Result<bool, I::Error>,
+>()
+where
+    I::Item: Drop,
+    I::Error: Drop,
+    ensures { HintsWhereHeld ⟦<DedupBy<I, F> as FallibleIterator>⟧.contract dedup_by_due I.contract dedup_by_source }
+{}
+
+/// The answers of `DedupByKey` are the stop that is due, and then the first of adjacent items with equal keys: each stands where the next one that differs or a stop came, and each stop after what was buffered before it. The closure's failure is a stop.
+pub fn law_dedup_by_key<
+    I: FallibleIterator,
+    K: PartialEq + Drop,
+    F: FnMut(&I::Item) -> Result<K, I::Error>,
+>()
+where
+    I::Item: Drop,
+    I::Error: Drop,
+    ensures { TracesAre dedup_by_key_parts
+        ⟦<DedupByKey<I, K, F> as FallibleIterator>⟧.contract.steps
+        (DedupByKeyTrace K.eq (call_at F.FnMut) I.contract.steps) }
 {}
 
 /// The key of no item equals that of the next one, unless a failure stands between. The items are the first ones of the groups that `chunked_by` makes. A failure parts a list: what stands before it is deduped by itself, and so is what comes after it.
@@ -97,6 +138,18 @@ pub fn law_deduped_by_key<T, K: PartialEq, E>()
     ensures groups { (h : T → Result K E) (l : List (Result T E))
         → deduped_by_key K.eq h l
         ≡ filter_mapped (λ g. nth_of 0 (items g.1)) (chunked_by K.eq h l) }
+{}
+
+/// Each hint of `DedupByKey` is as sound as the hint of its source that it is made of; if a stop is due it is sound by itself, and if that is a failure it is that of what comes after it.
+pub fn law_hints_dedup_by_key<
+    I: FallibleIterator,
+    K: PartialEq + Drop,
+    F: FnMut(&I::Item) -> Result<K, I::Error>,
+>()
+where
+    I::Item: Drop,
+    I::Error: Drop,
+    ensures { HintsWhereHeld ⟦<DedupByKey<I, K, F> as FallibleIterator>⟧.contract dedup_by_key_due I.contract dedup_by_key_source }
 {}
 
 /// The answers of `TupleWindows` are the source's, where each item but the first is replaced by the pair of the one before it and itself, or by the failure converted from the `AllocError` of its clone. The one before it is the last item that the source yielded, also after such a failure.

@@ -12,17 +12,16 @@ type Of<M> = Source<M>;
 fn each_iterator_has_what_it_keeps() {
     // The source.
     rows! { M;
-        M => ChunkBy<Of<M>, (), ()>, Chunks<Of<M>>, Coalesce<Of<M>, ()>, CoalesceBy<Of<M>, (), (), ()>, Copied<M>,
-            Dedup<Of<M>>, DedupBy<Of<M>, ()>, DedupByKey<Of<M>, (), ()>, ErrInto<M, ()>, InspectErr<M, ()>, Intersperse<Of<M>>,
+        M => ChunkBy<Of<M>, (), ()>, Chunks<Of<M>>, Coalesce<Of<M>, ()>, Copied<M>, Dedup<Of<M>>, DedupBy<Of<M>, ()>,
+            DedupByKey<Of<M>, (), ()>, ErrInto<M, ()>, InspectErr<M, ()>, Intersperse<Of<M>>,
             IntersperseWith<Of<M>, ()>,
             Merge<Of<M>, ()>, Merge<Of<()>, M>, MergeBy<Of<M>, (), ()>, MergeBy<Of<()>, M, ()>, OrElse<M, ()>,
             PadUsing<M, ()>, PeekingTakeWhile<M, ()>, Positions<M, ()>, StopAfter<M>, TakeWhileInclusive<M, ()>, TupleWindows<Of<M>>,
             Tuples<Of<M>>, Unique<Of<M>>, WithPosition<Of<M>>, ZipLongest<Of<M>, ()>, ZipLongest<Of<()>, M>;
     }
-    // The closure, a key, and a rule.
+    // The closure, and a key.
     rows! { M;
-        M => ChunkBy<Of<()>, (), M>, ChunkBy<Of<()>, M, ()>, Coalesce<Of<()>, M>, CoalesceBy<Of<()>, (), M, ()>,
-            CoalesceBy<Of<()>, M, (), ()>, CoalesceBy<Of<()>, (), (), M>, DedupBy<Of<()>, M>,
+        M => ChunkBy<Of<()>, (), M>, ChunkBy<Of<()>, M, ()>, Coalesce<Of<()>, M>, DedupBy<Of<()>, M>,
             DedupByKey<Of<()>, (), M>, DedupByKey<Of<()>, M, ()>, InspectErr<(), M>, IntersperseWith<Of<()>, M>,
             MergeBy<Of<()>, (), M>, OrElse<(), M>, PadUsing<(), M>, PeekingTakeWhile<(), M>,
             Positions<(), M>, TakeWhileInclusive<(), M>;
