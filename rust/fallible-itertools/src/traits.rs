@@ -6,15 +6,14 @@ use crate::chunk_by::ChunkBy;
 #[cfg(feature = "alloc")]
 use crate::chunks::Chunks;
 use crate::cmp_by::{CmpTurn, EqTurn, compare_by};
-use crate::coalesce::{Coalesce, CoalesceHold};
-use crate::coalesce_by::CoalesceBy;
+use crate::coalesce::Coalesce;
 use crate::converting::converted;
 use crate::copied::Copied;
 #[cfg(feature = "std")]
 use crate::counts::Tally;
 use crate::dedup::Dedup;
-use crate::dedup_by::{DedupBy, SameHold};
-use crate::dedup_by_key::{DedupByKey, KeyHold};
+use crate::dedup_by::DedupBy;
+use crate::dedup_by_key::DedupByKey;
 use crate::equal::{AllEqualTurn, ContainsTurn, UnequalTurn, first_or_both};
 use crate::err_into::ErrInto;
 use crate::exactly_one::NotOne;
@@ -104,11 +103,11 @@ pub trait FallibleItertools: FallibleIterator + Sized {
     /// requires callable { IsCallable (coalesce.coalesce_asks (fold.call_with F.FnMut))
     ///     (coalesce.coalesce_takes (fold.takes_with F.FnMut)) (MayBeAsked Self.contract self)
     ///     (None, f) }
-    /// ensures parts { coalesce_by_parts result ≡ (self, ((None, f), None)) }
+    /// ensures parts { coalesce.coalesce_parts result ≡ (self, ((None, f), None)) }
     /// ensures lists { (h : Self.Item → Self.Item → coalesce.OneOrBoth Self.Item Self.Error)
     ///     (l : List (Result Self.Item Self.Error))
     ///     → list.ActsWith (fold.call_with F.FnMut) f h → list.Lists Self.contract.steps self l
-    ///     → list.Lists (seen_as coalesce_by_parts
+    ///     → list.Lists (seen_as coalesce.coalesce_parts
     ///     (coalesce.coalesce_contract Self.contract F.FnMut)).steps result
     ///     (coalesce.coalesced h l) }
     /// ```
@@ -120,10 +119,9 @@ pub trait FallibleItertools: FallibleIterator + Sized {
             Self::Item,
         ) -> Result<Result<Self::Item, (Self::Item, Self::Item)>, Self::Error>,
     {
-        CoalesceBy {
+        Coalesce {
             it: self,
             stage: ((None, f), None),
-            rule: CoalesceHold,
         }
     }
 
@@ -148,14 +146,14 @@ pub trait FallibleItertools: FallibleIterator + Sized {
     /// ```text
     /// requires callable { IsCallable (call_at F.FnMut) (takes_at F.FnMut)
     ///     (Self.contract.may_give self) f }
-    /// ensures parts { coalesce_by_parts result ≡ (self, ((None, f), None)) }
+    /// ensures parts { dedup_by_key.dedup_by_key_parts result ≡ (self, ((None, f), None)) }
     /// ensures callable { IsCallable (dedup_by_key.dedup_key_asks K.eq (call_at F.FnMut))
     ///     (dedup_by_key.dedup_key_takes (takes_at F.FnMut)) (MayBeAsked Self.contract self)
     ///     (None, f) }
     /// ensures lists { (h : Self.Item → Result K Self.Error)
     ///     (l : List (Result Self.Item Self.Error)) → list.Acts (call_at F.FnMut) f h
     ///     → list.Lists Self.contract.steps self l
-    ///     → list.Lists (seen_as coalesce_by_parts
+    ///     → list.Lists (seen_as dedup_by_key.dedup_by_key_parts
     ///     (dedup_by_key.dedup_by_key_contract K.eq Self.contract F.FnMut)).steps result
     ///     (dedup_by_key.deduped_by_key K.eq h l) }
     /// ```
@@ -165,10 +163,9 @@ pub trait FallibleItertools: FallibleIterator + Sized {
         K: PartialEq,
         F: FnMut(&Self::Item) -> Result<K, Self::Error>,
     {
-        CoalesceBy {
+        DedupByKey {
             it: self,
             stage: ((None, f), None),
-            rule: KeyHold,
         }
     }
 
@@ -195,11 +192,11 @@ pub trait FallibleItertools: FallibleIterator + Sized {
     /// ```text
     /// requires callable { IsCallable (dedup_by_asks (call_at_two F.FnMut))
     ///     (dedup_by_takes (takes_at_two F.FnMut)) (MayBeAsked Self.contract self) (None, same) }
-    /// ensures parts { coalesce_by_parts result ≡ (self, ((None, same), None)) }
+    /// ensures parts { dedup_by_parts result ≡ (self, ((None, same), None)) }
     /// ensures lists { (h : Self.Item → Self.Item → Result Bool Self.Error)
     ///     (l : List (Result Self.Item Self.Error))
     ///     → list.ActsWith (call_at_two F.FnMut) same h → list.Lists Self.contract.steps self l
-    ///     → list.Lists (seen_as coalesce_by_parts (dedup_by_contract Self.contract F.FnMut)).steps
+    ///     → list.Lists (seen_as dedup_by_parts (dedup_by_contract Self.contract F.FnMut)).steps
     ///     result (deduped_by h l) }
     /// ```
     /// </details>
@@ -207,10 +204,9 @@ pub trait FallibleItertools: FallibleIterator + Sized {
     where
         F: FnMut(&Self::Item, &Self::Item) -> Result<bool, Self::Error>,
     {
-        CoalesceBy {
+        DedupBy {
             it: self,
             stage: ((None, same), None),
-            rule: SameHold,
         }
     }
 

@@ -37,6 +37,38 @@ pub trait Pass<P, X, E> {
     fn pass(&self, state: &mut P, item: X) -> Outcome<Self::Kept, E>;
 }
 
+/// What becomes of one item of the source, or of one failure where those are passed, and the caller's turn on what is kept: whether the fold goes on, or what it returns.
+///
+/// <details><summary>Contract</summary>
+///
+/// As it is proved, in [these words](crate::words):
+///
+/// ```text
+/// requires { FoldingTakes (A.call adapter.now) (A.outcome adapter.now) (A.can_pass adapter.now)
+///     (K.can_turn turn.now) (state.old, p.old) item }
+/// ensures { FoldingTurn (A.call adapter.now) (A.outcome adapter.now) (K.turns turn.now)
+///     (state.old, p.old) item result (state.new, p.new) }
+/// ```
+/// </details>
+#[inline(always)]
+pub fn turn_on_passed<P, X, E, A: Pass<P, X, E>, C, R, K: Turn<C, A::Kept, R>>(
+    item: X,
+    p: &mut P,
+    adapter: &A,
+    state: &mut C,
+    turn: &K,
+) -> ControlFlow<Result<Option<R>, E>, ()> {
+    match adapter.pass(p, item) {
+        Outcome::Kept(y) => match turn.turn(state, y) {
+            ControlFlow::Continue(()) => ControlFlow::Continue(()),
+            ControlFlow::Break(stop) => ControlFlow::Break(Ok(Some(stop))),
+        },
+        Outcome::LeftOut => ControlFlow::Continue(()),
+        Outcome::Failure(e) => ControlFlow::Break(Err(e)),
+        Outcome::End => ControlFlow::Break(Ok(None)),
+    }
+}
+
 /// The turn of an adapter's fold through its source's own: what becomes of the item, and the caller's turn on what is kept.
 pub struct PassTurn<'a, A, K> {
     /// the adapter
@@ -51,15 +83,7 @@ impl<'a, 'b, P, X, E, C, R, A: Pass<P, X, E>, K: Turn<C, A::Kept, R>>
     /// Calls the closure once, and takes the caller's turn if the item is kept.
     #[inline(always)]
     fn turn(&self, state: &mut Beside<'b, C, P>, item: X) -> ControlFlow<Result<Option<R>, E>, ()> {
-        match self.adapter.pass(state.p, item) {
-            Outcome::Kept(y) => match self.turn.turn(state.c, y) {
-                ControlFlow::Continue(()) => ControlFlow::Continue(()),
-                ControlFlow::Break(stop) => ControlFlow::Break(Ok(Some(stop))),
-            },
-            Outcome::LeftOut => ControlFlow::Continue(()),
-            Outcome::Failure(e) => ControlFlow::Break(Err(e)),
-            Outcome::End => ControlFlow::Break(Ok(None)),
-        }
+        turn_on_passed(item, state.p, self.adapter, state.c, self.turn)
     }
 }
 

@@ -1,8 +1,8 @@
 //! The folds of the adapters whose closure is called on failures, through their sources' own. The closure is called on the failure that the source's fold returns, and so never on what a turn stops with.
 
-use crate::fallible_contract::failing::{Fail, failed, turn_on_failure};
+use crate::fallible_contract::failing::{Fail, failed};
 use crate::fallible_contract::folds::Turn;
-use crate::fallible_contract::passing::Pass;
+use crate::fallible_contract::passing::{Pass, turn_on_passed};
 use crate::fallible_core::traits::FallibleIterator;
 use crate::fallible_core::traits::double_ended::DoubleEndedFallibleIterator;
 use core::ops::ControlFlow;
@@ -105,7 +105,7 @@ pub fn drive_recovering<
     loop {
         match it.drive(state, turn) {
             Ok(value) => return Ok(value),
-            Err(d) => match turn_on_failure(d, p, adapter, state, turn) {
+            Err(d) => match turn_on_passed(d, p, adapter, state, turn) {
                 ControlFlow::Continue(()) => {}
                 ControlFlow::Break(answer) => return answer,
             },
@@ -150,7 +150,7 @@ pub fn drive_back_recovering<
     loop {
         match it.drive_back(state, turn) {
             Ok(value) => return Ok(value),
-            Err(d) => match turn_on_failure(d, p, adapter, state, turn) {
+            Err(d) => match turn_on_passed(d, p, adapter, state, turn) {
                 ControlFlow::Continue(()) => {}
                 ControlFlow::Break(answer) => return answer,
             },
