@@ -1,6 +1,6 @@
 //! Idioms of Rust, over fallible iterators.
 ghost use Rattle.std.specs.Prelude.{◌≡◌, ◌+◌, ◌%◌, ◌^◌, ℕ, Bool, List, Option, Result, Some, None, Ok, Err};
-ghost use Rattle.fallible_iterator.specs.Closures.{IsCallable, call_at, takes_at};
+ghost use Rattle.fallible_iterator.specs.Closures.{IsCallable, call_by_reference, takes_by_reference};
 ghost use Rattle.fallible_iterator.specs.Filtering.Filter.{filter_parts};
 ghost use Rattle.fallible_iterator.specs.Lists.{Acts, Lists, failures_mapped, rest_first, filtered, folded, nth_of, results, skipped, taken};
 ghost use Rattle.example_by_hand.specs.declared.idioms.NoRow.{NoRow};
@@ -138,10 +138,10 @@ where
     I::Item: Drop,
     F: FnMut(&I::Item) -> Result<bool, I::Error>,
     requires finite { I.contract.is_finite it }
-    requires callable { IsCallable (call_at F.FnMut) (takes_at F.FnMut)
+    requires callable { IsCallable (call_by_reference F.FnMut) (takes_by_reference F.FnMut)
         (I.contract.may_give it) keep }
     ensures parts { filter_parts result ≡ (it, keep) }
-    ensures lists { (h : I.Item → Result Bool I.Error) → Acts (call_at F.FnMut) keep h
+    ensures lists { (h : I.Item → Result Bool I.Error) → Acts (call_by_reference F.FnMut) keep h
         → (l : List (Result I.Item I.Error)) → Lists I.contract.steps it l
         → Lists ⟦<Filter<I, F> as FallibleIterator>⟧.contract.steps result (filtered h l) }
 {

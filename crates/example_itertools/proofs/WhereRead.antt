@@ -6,7 +6,7 @@ use Rattle.std.specs.Fn.{Mut}
 use Rattle.std.proofs.Common.{refl, sym, ap, subst}
 use Rattle.fallible_iterator.specs.Traces.{Answered, Run, item, failure, end}
 use Rattle.fallible_iterator.specs.Contract.{Contract, unbounded_contract}
-use Rattle.fallible_iterator.specs.Closures.{Calls, call_on}
+use Rattle.fallible_iterator.specs.Closures.{Calls, call_by_value}
 use Rattle.fallible_iterator.specs.Exchange.{exchanged, steps_exchanged}
 use Rattle.fallible_iterator.specs.Failing.{RecoveringTrace, outcome_exchanged}
 use Rattle.fallible_iterator.specs.Folds.{FoldDrains, FoldedBy}
@@ -74,12 +74,12 @@ module _ {S X R B : Type 0} (steps : S → Answered X RowFault → S → Type 0)
     last_kept = d.last_kept;
   }
 
-pub lists_read_mapped : {S F X B : Type 0} {steps : S → Answered X RowFault → S → Type 0} {g : Mut F (X × Unit {0}) (Result B RowFault)} {s : Map S F} {it : S} {f : F} {l : List (Result X RowFault)} (h : X → Result B RowFault) → map_parts s ≡ (it, f) → Acts (call_on g) f h → Lists (read_steps steps) it l → Lists (read_steps (λ (u : Map S F) (r : Answered B RowFault) (v : Map S F). PassTrace steps (call_on g) map_outcome (map_parts u) (r ∷ []) (map_parts v))) s (mapped h l)
+pub lists_read_mapped : {S F X B : Type 0} {steps : S → Answered X RowFault → S → Type 0} {g : Mut F (X × Unit {0}) (Result B RowFault)} {s : Map S F} {it : S} {f : F} {l : List (Result X RowFault)} (h : X → Result B RowFault) → map_parts s ≡ (it, f) → Acts (call_by_value g) f h → Lists (read_steps steps) it l → Lists (read_steps (λ (u : Map S F) (r : Answered B RowFault) (v : Map S F). PassTrace steps (call_by_value g) map_outcome (map_parts u) (r ∷ []) (map_parts v))) s (mapped h l)
 lists_read_mapped {S} {F} {X} {B} {steps} {g} {s} {it} {f} {l} h parts acts i =
     let at : it ≡ s.it = sym (ap (λ (p : S × F). p.0) parts) in
     let same : s.f ≡ f = ap (λ (p : S × F). p.1) parts in
     let m : Contract S X RowFault = unbounded_contract (read_steps steps) in
-    lists_fewer _ _ (λ u r v w. pass_trace_read steps map_outcome (call_on g) (map_parts u) r (map_parts v) w.0 w.1) (mapped h l) s (lists_mapped m g s f h l (ap (λ (o : F). (s.it, o)) same) acts (subst (λ (u : S). Lists (read_steps steps) u l) at i))
+    lists_fewer _ _ (λ u r v w. pass_trace_read steps map_outcome (call_by_value g) (map_parts u) r (map_parts v) w.0 w.1) (mapped h l) s (lists_mapped m g s f h l (ap (λ (o : F). (s.it, o)) same) acts (subst (λ (u : S). Lists (read_steps steps) u l) at i))
 
 -- ---- `stop_after`
 
@@ -140,12 +140,12 @@ module _ {S F X E : Type 0} (steps : S → Answered X RowFault → S → Type 0)
     last_kept = d.last_kept;
   }
 
-pub lists_where_ok_recovered : {S F X E : Type 0} {steps : S → Answered X RowFault → S → Type 0} {g : Mut F (RowFault × Unit {0}) (Result (Option X) E)} {s : OrElse S F} {it : S} {f : F} {l : List (Result X RowFault)} (h : RowFault → Result (Option X) E) → ((f k : F) (v : Result (Option X) E) → call_on g f Read v k → (e : E) × (v ≡ Err e)) → or_else_parts s ≡ (it, f) → Acts (call_on g) f h → Lists (read_steps steps) it l → ListsWhereOk (λ (u : OrElse S F) (r : Answered X E) (v : OrElse S F). RecoveringTrace steps (call_on g) or_else_outcome (or_else_parts u) (r ∷ []) (or_else_parts v)) s (recovered h l)
+pub lists_where_ok_recovered : {S F X E : Type 0} {steps : S → Answered X RowFault → S → Type 0} {g : Mut F (RowFault × Unit {0}) (Result (Option X) E)} {s : OrElse S F} {it : S} {f : F} {l : List (Result X RowFault)} (h : RowFault → Result (Option X) E) → ((f k : F) (v : Result (Option X) E) → call_by_value g f Read v k → (e : E) × (v ≡ Err e)) → or_else_parts s ≡ (it, f) → Acts (call_by_value g) f h → Lists (read_steps steps) it l → ListsWhereOk (λ (u : OrElse S F) (r : Answered X E) (v : OrElse S F). RecoveringTrace steps (call_by_value g) or_else_outcome (or_else_parts u) (r ∷ []) (or_else_parts v)) s (recovered h l)
 lists_where_ok_recovered {S} {F} {X} {E} {steps} {g} {s} {it} {f} {l} h fails parts acts i =
     let at : it ≡ s.it = sym (ap (λ (p : S × F). p.0) parts) in
     let same : s.f ≡ f = ap (λ (p : S × F). p.1) parts in
     let m : Contract S X RowFault = unbounded_contract (read_steps steps) in
-    lists_fewer _ _ (λ u r v w. recovering_trace_read steps (call_on g) fails (or_else_parts u) r (or_else_parts v) w.0 w.1) (recovered h l) s (lists_recovered m g s f h l (ap (λ (o : F). (s.it, o)) same) acts (subst (λ (u : S). Lists (read_steps steps) u l) at i))
+    lists_fewer _ _ (λ u r v w. recovering_trace_read steps (call_by_value g) fails (or_else_parts u) r (or_else_parts v) w.0 w.1) (recovered h l) s (lists_recovered m g s f h l (ap (λ (o : F). (s.it, o)) same) acts (subst (λ (u : S). Lists (read_steps steps) u l) at i))
 
 -- ---- `fold`
 

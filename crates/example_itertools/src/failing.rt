@@ -1,7 +1,7 @@
 //! Callers of the adapters that act on failures.
 ghost use Rattle.std.specs.Prelude.{◌≡◌, ℕ, ◌+◌, ◌-◌, ◌%◌, ◌^◌, List, None, Ok, Result, Some, nat_lt};
 ghost use Rattle.std.specs.Iterator.{UpTo};
-ghost use Rattle.fallible_iterator.specs.Closures.{IsCallable, call_at, takes_at};
+ghost use Rattle.fallible_iterator.specs.Closures.{IsCallable, call_by_reference, takes_by_reference};
 ghost use Rattle.fallible_iterator.specs.Contract.{AtMost};
 ghost use Rattle.fallible_iterator.specs.Failing.{failures_mapped};
 ghost use Rattle.fallible_iterator.specs.Lists.{Lists, counted, filtered, folded, mapped, on_value, results, taken};
@@ -187,7 +187,7 @@ where
     I::Item: Drop,
     requires can_next { I.contract.can_next it }
     requires fits { AtMost I.contract it (2 ^ 64 - 1) }
-    requires callable { IsCallable (call_at L.FnMut) (takes_at L.FnMut)
+    requires callable { IsCallable (call_by_reference L.FnMut) (takes_by_reference L.FnMut)
         (I.contract.may_fail it) log }
     ensures { (l : List (Result I.Item I.Error)) → Lists I.contract.steps it l
         → result ≡ counted l }

@@ -34,17 +34,17 @@ module _ {F X R : Type 0} (call : F → X → R → F → Type 0) where
     pub says : Q argument answer
 
 -- one call on an item itself, which may return so and leave the closure so
-abbrev pub call_on : {F A R : Type 0} → Mut F (A × Unit {0}) R → F → A → R → F → Type 0
-call_on g f x r f' = Called g f (x, tt) r f'
+abbrev pub call_by_value : {F A R : Type 0} → Mut F (A × Unit {0}) R → F → A → R → F → Type 0
+call_by_value g f x r f' = Called g f (x, tt) r f'
 
 -- the closure may be called on the item
-abbrev pub takes_on : {F A R : Type 0} → Mut F (A × Unit {0}) R → F → A → Type 0
-takes_on g f x = Takes g f (x, tt)
+abbrev pub takes_by_value : {F A R : Type 0} → Mut F (A × Unit {0}) R → F → A → Type 0
+takes_by_value g f x = Takes g f (x, tt)
 
 -- one call on a reference to an item
-abbrev pub call_at : {F A R : Type 0} → Mut F (Bor A × Unit {0}) R → F → A → R → F → Type 0
-call_at g f x r f' = CalledAt g f x r f'
+abbrev pub call_by_reference : {F A R : Type 0} → Mut F (Bor A × Unit {0}) R → F → A → R → F → Type 0
+call_by_reference g f x r f' = CalledAt g f x r f'
 
 -- the closure may be called on a reference to the item
-abbrev pub takes_at : {F A R : Type 0} → Mut F (Bor A × Unit {0}) R → F → A → Type 0
-takes_at g f x = TakesAt g f x
+abbrev pub takes_by_reference : {F A R : Type 0} → Mut F (Bor A × Unit {0}) R → F → A → Type 0
+takes_by_reference g f x = TakesAt g f x

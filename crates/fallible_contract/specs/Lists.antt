@@ -4,7 +4,7 @@ use Rattle.std.specs.Iterator.Runs.{EachRunFrom}
 use Rattle.std.specs.List.{last_or}
 use Rattle.fallible_contract.specs.Traces.{Answered, Run, end}
 use Rattle.fallible_contract.specs.Picking.{better, better_key, item_of}
-use Rattle.fallible_contract.specs.Searching.{all_pick, any_pick, find_map_pick, find_pick, position_pick, each_pick}
+use Rattle.fallible_contract.specs.Searching.{all_pick, any_pick, find_map_pick, find_pick, position_pick, for_each_pick}
 use Rattle.fallible_contract.specs.Collecting.{MadeOfPairs}
 use Rattle.std.specs.declared.option.Option.{Option}
 use Rattle.std.specs.declared.cmp.Ordering.{Ordering}
@@ -145,7 +145,7 @@ position_in h l = searched position_pick None h 0 l
 
 -- nothing, if no item is a failure and h fails on none; otherwise the failure that comes first
 unfoldable pub each_done : {A E : Type 0} → (A → Result (Unit {0}) E) → List (Result A E) → Result (Unit {0}) E
-each_done h l = searched each_pick tt h 0 l
+each_done h l = searched for_each_pick tt h 0 l
 
 -- an item before a list of items, where there is one
 abbrev pub before : {A E : Type 0} → A → Result (List A) E → Result (List A) E

@@ -34,8 +34,8 @@ position_pick n x true = Some (Some n)
 position_pick n x false = None
 
 -- `for_each` goes on at each item
-abbrev pub each_pick : {A : Type 0} → ℕ → A → Unit {0} → Option (Unit {0})
-each_pick n x u = None
+abbrev pub for_each_pick : {A : Type 0} → ℕ → A → Unit {0} → Option (Unit {0})
+for_each_pick n x u = None
 
 module _ {A E F V R : Type 0} (call : F → A → Result V E → F → Type 0) (pick : ℕ → A → V → Option R) where
   -- One call of the closure, after which the search goes on, whatever number of items came before.
@@ -79,16 +79,16 @@ module _ {A E F V R : Type 0} (call : F → A → Result V E → F → Type 0) (
     SearchDrains none s f r t g = Drained steps (SearchedBy none f r g) s t
 
 -- what a search returns, from what its fold returned, which stops with the search's result
-abbrev pub answer_by : {E R : Type 0} → R → Answered (Result R E) E → Result R E
-answer_by none (Ok None) = Ok none
-answer_by none (Err e) = Err e
-answer_by none (Ok (Some r)) = r
+abbrev pub search_answer : {E R : Type 0} → R → Answered (Result R E) E → Result R E
+search_answer none (Ok None) = Ok none
+search_answer none (Err e) = Err e
+search_answer none (Ok (Some r)) = r
 
 -- what `find` returns, from what its fold returned, which stops with the item or the failure of the test
-abbrev pub found_by : {A E : Type 0} → Answered (Result A E) E → Answered A E
-found_by (Ok None) = Ok None
-found_by (Err e) = Err e
-found_by (Ok (Some stop)) = stopped_answer stop
+abbrev pub find_answer : {A E : Type 0} → Answered (Result A E) E → Answered A E
+find_answer (Ok None) = Ok None
+find_answer (Err e) = Err e
+find_answer (Ok (Some stop)) = stopped_answer stop
 
 -- One test, as the turn of the fold that `find` is: the test goes on, or it stops the fold with the item, or with its failure.
 abbrev pub IsFindTurn : {A E C : Type 0} → (C → A → Result Bool E → C → Type 0) → C → A → ControlFlow (Result A E) (Unit {0}) → C → Type 0

@@ -1,6 +1,6 @@
 //! Collections that are made of items, and the turns of the folds that fill them.
 ghost use Rattle.std.specs.Prelude.{◌≡◌, ℕ, ◌≤◌, List, [], ◌∷◌, ◌++◌, MatchResult, IfOk, ⊤, vec_len, vec_capacity};
-ghost use Rattle.fallible_contract.specs.Closures.{call_at, takes_at};
+ghost use Rattle.fallible_contract.specs.Closures.{call_by_reference, takes_by_reference};
 ghost use Rattle.fallible_contract.specs.Collecting.{IsCollectTurn, IsUnzipTurn, IsPartitionTurn};
 
 mod deque;
@@ -103,9 +103,9 @@ pub struct PartitionTurn;
 
 impl<A: Drop, E, B: Collect<A>, F: FnMut(&A) -> Result<bool, E>> Turn<(F, (B, B)), A, Fault<E>>
     for PartitionTurn {
-    ghost can_turn = { λ _ c x. takes_at F.FnMut c.0 x };
+    ghost can_turn = { λ _ c x. takes_by_reference F.FnMut c.0 x };
 
-    ghost turns = { λ _ c x r d. IsPartitionTurn (call_at F.FnMut) B.made B.push_refuses
+    ghost turns = { λ _ c x r d. IsPartitionTurn (call_by_reference F.FnMut) B.made B.push_refuses
         c x r d };
 
     /// Calls the predicate once, and pushes the item to the side that it returns.

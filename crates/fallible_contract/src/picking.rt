@@ -1,6 +1,6 @@
 //! The best of the items: the turns of the folds that keep the better of two.
 ghost use Rattle.std.specs.Prelude.{◌≡◌};
-ghost use Rattle.fallible_contract.specs.Closures.{call_at, takes_at};
+ghost use Rattle.fallible_contract.specs.Closures.{call_by_reference, takes_by_reference};
 ghost use Rattle.fallible_contract.specs.Folds.{IsFoldTurn};
 ghost use Rattle.fallible_contract.specs.Picking.{same_order, call_at_two, takes_at_two, PickCall, takes_in_pick, KeyCall, item_of};
 ghost use Rattle.std.specs.declared.cmp.Ordering.{Ordering};
@@ -62,9 +62,9 @@ pub struct BestKeyTurn {
 
 impl<A: Drop, E, K: Ord + Drop, F: FnMut(&A) -> Result<K, E>> Turn<(Option<(K, A)>, F), A, E>
     for BestKeyTurn {
-    ghost can_turn = { λ _ p x. takes_at F.FnMut p.1 x };
+    ghost can_turn = { λ _ p x. takes_by_reference F.FnMut p.1 x };
 
-    ghost turns = { λ k p x r q. IsFoldTurn (KeyCall k.keeps K.cmp (call_at F.FnMut)) p x r q };
+    ghost turns = { λ k p x r q. IsFoldTurn (KeyCall k.keeps K.cmp (call_by_reference F.FnMut)) p x r q };
 
     /// Calls the closure once for the key, and compares it with the best so far.
     #[inline(always)]

@@ -1,15 +1,15 @@
 //! Searches: the turns of the folds that they are, the test of one, and what a search makes of its fold.
 ghost use Rattle.std.specs.Prelude.{◌≡◌, ◌-◌, ◌^◌, ◌<◌, Bool, Result, None};
 ghost use Rattle.std.specs.Borrow.{Bor, MutBor};
-ghost use Rattle.fallible_contract.specs.Closures.{call_on, takes_on, call_at, takes_at};
-ghost use Rattle.fallible_contract.specs.Searching.{IsFindTurn, IsSearchTurn, IsPositionTurn, answer_by, found_by, all_pick, any_pick, find_map_pick, position_pick, each_pick};
+ghost use Rattle.fallible_contract.specs.Closures.{call_by_value, takes_by_value, call_by_reference, takes_by_reference};
+ghost use Rattle.fallible_contract.specs.Searching.{IsFindTurn, IsSearchTurn, IsPositionTurn, search_answer, find_answer, all_pick, any_pick, find_map_pick, position_pick, for_each_pick};
 
 use crate::folds::Turn;
 use std::ops::ControlFlow;
 
 /// What a search returns, from what its fold returned: `none` at `Ok(None)`, the source's failure, or what the fold stopped with.
 pub fn answer_or<R: Drop, E>(answer: Result<Option<Result<R, E>>, E>, none: R) -> Result<R, E>
-    ensures { result ≡ answer_by none answer }
+    ensures { result ≡ search_answer none answer }
 {
     match answer {
         Ok(None) => Ok(none),
@@ -20,7 +20,7 @@ pub fn answer_or<R: Drop, E>(answer: Result<Option<Result<R, E>>, E>, none: R) -
 
 /// What a search for a value returns, from what its fold returned: `Ok(None)` at the end, the source's failure, or what the fold stopped with.
 pub fn answer_or_none<R, E>(answer: Result<Option<Result<Option<R>, E>>, E>) -> Result<Option<R>, E>
-    ensures { result ≡ answer_by None answer }
+    ensures { result ≡ search_answer None answer }
 {
     match answer {
         Ok(None) => Ok(None),
@@ -31,7 +31,7 @@ pub fn answer_or_none<R, E>(answer: Result<Option<Result<Option<R>, E>>, E>) -> 
 
 /// What `find` returns, from what its fold returned: `Ok(None)` at the end, the source's failure, or the item or the failure that the fold stopped with.
 pub fn found<A, E>(answer: Result<Option<Result<A, E>>, E>) -> Result<Option<A>, E>
-    ensures { result ≡ found_by answer }
+    ensures { result ≡ find_answer answer }
 {
     match answer {
         Ok(None) => Ok(None),
@@ -96,9 +96,9 @@ impl<'a, C, A: Drop, E, K: Test<C, A, E>> Turn<C, A, Result<A, E>> for FindTurn<
 pub struct FindTest;
 
 impl<A, E, F: FnMut(&A) -> Result<bool, E>> Test<F, A, E> for FindTest {
-    ghost can_test = { λ _ f x. takes_at F.FnMut f x };
+    ghost can_test = { λ _ f x. takes_by_reference F.FnMut f x };
 
-    ghost tests = { λ _ f x v g. call_at F.FnMut f x v g };
+    ghost tests = { λ _ f x v g. call_by_reference F.FnMut f x v g };
 
     /// Calls the predicate once.
     #[inline(always)]
@@ -112,9 +112,9 @@ impl<A, E, F: FnMut(&A) -> Result<bool, E>> Test<F, A, E> for FindTest {
 pub struct ForEachTurn;
 
 impl<A, E, F: FnMut(A) -> Result<(), E>> Turn<F, A, Result<(), E>> for ForEachTurn {
-    ghost can_turn = { λ _ f x. takes_on F.FnMut f x };
+    ghost can_turn = { λ _ f x. takes_by_value F.FnMut f x };
 
-    ghost turns = { λ _ f x r g. IsSearchTurn (call_on F.FnMut) each_pick f x r g };
+    ghost turns = { λ _ f x r g. IsSearchTurn (call_by_value F.FnMut) for_each_pick f x r g };
 
     /// Calls the closure once.
     #[inline(always)]
@@ -131,9 +131,9 @@ impl<A, E, F: FnMut(A) -> Result<(), E>> Turn<F, A, Result<(), E>> for ForEachTu
 pub struct AllTurn;
 
 impl<A, E, F: FnMut(A) -> Result<bool, E>> Turn<F, A, Result<bool, E>> for AllTurn {
-    ghost can_turn = { λ _ f x. takes_on F.FnMut f x };
+    ghost can_turn = { λ _ f x. takes_by_value F.FnMut f x };
 
-    ghost turns = { λ _ f x r g. IsSearchTurn (call_on F.FnMut) all_pick f x r g };
+    ghost turns = { λ _ f x r g. IsSearchTurn (call_by_value F.FnMut) all_pick f x r g };
 
     /// Calls the predicate once.
     #[inline(always)]
@@ -151,9 +151,9 @@ impl<A, E, F: FnMut(A) -> Result<bool, E>> Turn<F, A, Result<bool, E>> for AllTu
 pub struct AnyTurn;
 
 impl<A, E, F: FnMut(A) -> Result<bool, E>> Turn<F, A, Result<bool, E>> for AnyTurn {
-    ghost can_turn = { λ _ f x. takes_on F.FnMut f x };
+    ghost can_turn = { λ _ f x. takes_by_value F.FnMut f x };
 
-    ghost turns = { λ _ f x r g. IsSearchTurn (call_on F.FnMut) any_pick f x r g };
+    ghost turns = { λ _ f x r g. IsSearchTurn (call_by_value F.FnMut) any_pick f x r g };
 
     /// Calls the predicate once.
     #[inline(always)]
@@ -172,9 +172,9 @@ pub struct FindMapTurn;
 
 impl<A, B, E, F: FnMut(A) -> Result<Option<B>, E>> Turn<F, A, Result<Option<B>, E>>
     for FindMapTurn {
-    ghost can_turn = { λ _ f x. takes_on F.FnMut f x };
+    ghost can_turn = { λ _ f x. takes_by_value F.FnMut f x };
 
-    ghost turns = { λ _ f x r g. IsSearchTurn (call_on F.FnMut) find_map_pick f x r g };
+    ghost turns = { λ _ f x r g. IsSearchTurn (call_by_value F.FnMut) find_map_pick f x r g };
 
     /// Calls the closure once.
     #[inline(always)]
@@ -193,9 +193,9 @@ pub struct PositionTurn;
 
 impl<A, E, F: FnMut(A) -> Result<bool, E>> Turn<(usize, F), A, Result<Option<usize>, E>>
     for PositionTurn {
-    ghost can_turn = { λ _ p x. takes_on F.FnMut p.1 x × (p.0 < 2 ^ 64 - 1) };
+    ghost can_turn = { λ _ p x. takes_by_value F.FnMut p.1 x × (p.0 < 2 ^ 64 - 1) };
 
-    ghost turns = { λ _ p x r q. IsPositionTurn (call_on F.FnMut) position_pick p x r q };
+    ghost turns = { λ _ p x r q. IsPositionTurn (call_by_value F.FnMut) position_pick p x r q };
 
     /// Calls the predicate once, and adds one for the next item.
     #[inline(always)]

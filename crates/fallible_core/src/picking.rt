@@ -1,6 +1,6 @@
 //! The best of the items: one fold that keeps the better of two.
 ghost use Rattle.std.specs.Prelude.{◌≡◌, Option, Result, None};
-ghost use Rattle.fallible_contract.specs.Closures.{call_at, takes_at};
+ghost use Rattle.fallible_contract.specs.Closures.{call_by_reference, takes_by_reference};
 ghost use Rattle.fallible_contract.specs.Folds.{CallableInFold, FoldDrains};
 ghost use Rattle.fallible_contract.specs.Picking.{call_at_two, takes_at_two, PickCall, PickedByFold, takes_in_pick, KeyCall};
 ghost use Rattle.std.specs.declared.cmp.Ordering.{Ordering};
@@ -41,10 +41,10 @@ where
     F: FnMut(&I::Item) -> Result<K, I::Error>,
     requires can_next { I.contract.can_next it }
     requires finite { I.contract.is_finite it }
-    requires callable { CallableInFold I.contract.steps (KeyCall keeps K.cmp (call_at F.FnMut))
-        (λ g b x. takes_at F.FnMut g x) it f None }
+    requires callable { CallableInFold I.contract.steps (KeyCall keeps K.cmp (call_by_reference F.FnMut))
+        (λ g b x. takes_by_reference F.FnMut g x) it f None }
     ensures { (left : I)
-        × FoldDrains I.contract.steps (KeyCall keeps K.cmp (call_at F.FnMut)) (λ e d. d ≡ e)
+        × FoldDrains I.contract.steps (KeyCall keeps K.cmp (call_by_reference F.FnMut)) (λ e d. d ≡ e)
         it None f result left }
 {
     let mut it = it;

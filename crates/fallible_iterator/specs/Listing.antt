@@ -10,7 +10,7 @@ use Rattle.fallible_core.specs.OneToOne.Map.{mapped}
 use Rattle.fallible_contract.specs.Failing.{failures_mapped}
 use Rattle.fallible_core.specs.OneToOne.Cloned.{pointed_to}
 use Rattle.fallible_core.specs.Joining.Chain.{chained}
-use Rattle.fallible_iterator.specs.Sources.Std.{element_by}
+use Rattle.fallible_iterator.specs.Sources.Std.{std_element}
 use Rattle.fallible_contract.specs.declared.answers.Side.{Side}
 use Rattle.fallible_contract.specs.declared.passing.Outcome.{Outcome}
 use Rattle.fallible_core.specs.declared.joining.chain.StillDrawn.{StillDrawn}
@@ -56,7 +56,7 @@ DrawsInterleave steps steps_back l s drawn t = RunAtEnds steps steps_back s draw
 
 -- A source over a std iterator: what that iterator lists, call by call from both ends; and what is left of one whose state shows it, if each call of `next` returns the first of it, and each of `next_back` the last.
 pub record ListsElements {V S A E Z : Type 0} (parts : V → S) (of_item : A → Z) (of_failure : E → Z) (list : List Z → List (Result A E)) (gives gives_back : S → Option Z → S → Type 0) (lists : V → List (Result A E) → Type 0) : Type 0 where
-  pub listed : (s : V) (l : List (Result A E)) → ListsBothEnds (λ a r b. gives a (element_by of_item of_failure r) b) (λ a r b. gives_back a (element_by of_item of_failure r) b) (parts s) l → lists s l
+  pub listed : (s : V) (l : List (Result A E)) → ListsBothEnds (λ a r b. gives a (std_element of_item of_failure r) b) (λ a r b. gives_back a (std_element of_item of_failure r) b) (parts s) l → lists s l
   pub rest : (rest : S → List Z) → ((a : S) (o : Option Z) (b : S) → gives a o b → YieldsFirst rest a o b) → ((a : S) (o : Option Z) (b : S) → gives_back a o b → YieldsLast rest a o b) → (s : V) → lists s (list (rest (parts s)))
 
 -- What both ends list, each of them lists: the front the list, and the back its reverse.

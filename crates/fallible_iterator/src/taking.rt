@@ -1,7 +1,7 @@
 //! A fold over the items that a test accepts.
 ghost use Rattle.std.specs.Prelude.{◌≡◌, Option, Result, Some};
 ghost use Rattle.fallible_contract.specs.Clauses.{OverListWith};
-ghost use Rattle.fallible_contract.specs.Closures.{call_at, takes_at};
+ghost use Rattle.fallible_contract.specs.Closures.{call_by_reference, takes_by_reference};
 ghost use Rattle.fallible_contract.specs.Contract.{Stays, seen_as};
 ghost use Rattle.fallible_contract.specs.Folds.{CallableInFold, call_with, takes_with};
 ghost use Rattle.fallible_contract.specs.Lists.{Acts, Lists};
@@ -40,16 +40,16 @@ where
     requires can_next { (peekable_contract I.contract).can_next (peekable_parts ahead.old) }
     requires finite { (peekable_contract I.contract).is_finite (peekable_parts ahead.old) }
     requires callable { CallableInFold (peekable_contract I.contract).steps
-        (AcceptedCall (call_at P.FnMut) (call_with F.FnMut))
-        (accepted_takes (call_at P.FnMut) (call_with F.FnMut)
-        (takes_at P.FnMut) (takes_with F.FnMut)) (peekable_parts ahead.old) (test, f) init }
-    ensures folded { FoldIfDrains I.contract.steps (call_at P.FnMut) (call_with F.FnMut)
+        (AcceptedCall (call_by_reference P.FnMut) (call_with F.FnMut))
+        (accepted_takes (call_by_reference P.FnMut) (call_with F.FnMut)
+        (takes_by_reference P.FnMut) (takes_with F.FnMut)) (peekable_parts ahead.old) (test, f) init }
+    ensures folded { FoldIfDrains I.contract.steps (call_by_reference P.FnMut) (call_with F.FnMut)
         (peekable_parts ahead.old) init test f result (peekable_parts ahead.new) }
-    ensures value { OverListWith (Acts (call_at P.FnMut) test)
+    ensures value { OverListWith (Acts (call_by_reference P.FnMut) test)
         (seen_as peekable_parts (peekable_contract I.contract)).steps ahead.old
         (λ p l. (h : B → I.Item → Result B I.Error) → FoldsAs (call_with F.FnMut) f p h
         → result ≡ folded_if p h init l) }
-    ensures rest { OverListWith (Acts (call_at P.FnMut) test)
+    ensures rest { OverListWith (Acts (call_by_reference P.FnMut) test)
         (seen_as peekable_parts (peekable_contract I.contract)).steps ahead.old
         (λ p l. (h : B → I.Item → Result B I.Error) → FoldsAs (call_with F.FnMut) f p h
         → Lists (seen_as peekable_parts (peekable_contract I.contract)).steps ahead.new
@@ -77,8 +77,8 @@ where
     requires can_next { (peekable_contract I.contract).can_next (peekable_parts ahead.old) }
     requires callable { (x : I.Item) (left : I × Option (Option I.Item))
         → peekable_step I.contract.steps (peekable_parts ahead.old) (item x) left
-        → takes_at P.FnMut test.old x }
-    ensures { TakesIf I.contract.steps (call_at P.FnMut) (peekable_parts ahead.old) test.old
+        → takes_by_reference P.FnMut test.old x }
+    ensures { TakesIf I.contract.steps (call_by_reference P.FnMut) (peekable_parts ahead.old) test.old
         result (peekable_parts ahead.new) test.new }
 {
     match ahead.fill() {
@@ -102,8 +102,8 @@ where
     I::Item: Drop,
     P: FnMut(&I::Item) -> Result<bool, I::Error>,
     requires { (x : I.Item) → held_item (peekable_held ahead.now) ≡ Some x
-        → takes_at P.FnMut test.old x }
-    ensures { TestsHeld (call_at P.FnMut) (held_item (peekable_held ahead.now))
+        → takes_by_reference P.FnMut test.old x }
+    ensures { TestsHeld (call_by_reference P.FnMut) (held_item (peekable_held ahead.now))
         test.old result test.new }
 {
     match ahead.held() {

@@ -2,7 +2,7 @@
 use Rattle.std.specs.Prelude.{◌≡◌, ℕ, Bool, true, false, Option, Some, None, Result, Ok, Err, List, [], ◌∷◌, ◌++◌, vec_items}
 use Rattle.std.specs.Fn.{Mut}
 use Rattle.std.specs.Borrow.{Bor}
-use Rattle.fallible_iterator.specs.Closures.{IsCallable, call_at, takes_at}
+use Rattle.fallible_iterator.specs.Closures.{IsCallable, call_by_reference, takes_by_reference}
 use Rattle.fallible_iterator.specs.Traces.{Answered}
 use Rattle.fallible_iterator.specs.Contract.{Contract}
 use Rattle.fallible_itertools.specs.Batch.{Grown, NoRoom, SameHeld, IsRefusal}
@@ -56,7 +56,7 @@ module _ {A K E : Type 0} (from : AllocError → E → Type 0) where
     module _ {F : Type 0} (g : Mut F (Bor A × Unit {0}) (Result K E)) where
       -- The key's closure is called once on each item, and on no stop.
       abbrev pub chunk_by_asks : F × Option (Group K A) → Option A → Outcome (Group K A) E → F × Option (Group K A) → Type 0
-      chunk_by_asks p (Some x) o q = (v : Result K E) × call_at g p.0 x v q.0 × group_by p.1 x v o q.1
+      chunk_by_asks p (Some x) o q = (v : Result K E) × call_by_reference g p.0 x v q.0 × group_by p.1 x v o q.1
       chunk_by_asks p None o q = (q.0 ≡ p.0) × group_at_stop p.1 o q.1
 
       -- `ChunkBy`: the items in groups, each where the next key differs or a stop stands. The closure's failure and a failed allocation are stops.
@@ -65,7 +65,7 @@ module _ {A K E : Type 0} (from : AllocError → E → Type 0) where
 
 -- the closure may be called on the item
 abbrev pub key_takes : {F A K E : Type 0} → Mut F (Bor A × Unit {0}) (Result K E) → F × Option (Group K A) → Option A → Type 0
-key_takes g p asked = OrStop (takes_at g p.0) asked
+key_takes g p asked = OrStop (takes_by_reference g p.0) asked
 
 -- a group that is held, or none
 abbrev pub group_held : {F A K : Type 0} → F × Option (Group K A) → ℕ
@@ -73,7 +73,7 @@ group_held p = held_one p.1
 
 -- `ChunkBy`'s contract. Its condition: one of the source, a bound of it, and that the closure may be called on what comes.
 abbrev pub chunk_by_contract : {S F A K E : Type 0} → (AllocError → E → Type 0) → (K → K → Bool) → Mut F (Bor A × Unit {0}) (Result K E) → Contract S A E → Contract (S × ((F × Option (Group K A)) × Option (Option E))) (Group K A) E
-chunk_by_contract from eq g m = let h = holding_contract m (chunk_by_asks from eq g) (key_takes g) group_held (one_at_least m group_held) in record h { can_next = λ p. m.is_finite p.0 × m.can_next p.0 × IsCallable (call_at g) (takes_at g) (m.may_give p.0) p.1.0.0 }
+chunk_by_contract from eq g m = let h = holding_contract m (chunk_by_asks from eq g) (key_takes g) group_held (one_at_least m group_held) in record h { can_next = λ p. m.is_finite p.0 × m.can_next p.0 × IsCallable (call_by_reference g) (takes_by_reference g) (m.may_give p.0) p.1.0.0 }
 
 -- ---- what it lists
 

@@ -4,7 +4,7 @@ use Rattle.std.specs.Fn.{Mut}
 use Rattle.std.specs.Borrow.{Bor}
 use Rattle.fallible_iterator.specs.Traces.{Answered}
 use Rattle.fallible_iterator.specs.Contract.{Contract}
-use Rattle.fallible_iterator.specs.Closures.{call_at, takes_at}
+use Rattle.fallible_iterator.specs.Closures.{call_by_reference, takes_by_reference}
 use Rattle.fallible_itertools.specs.Holding.{HoldingTrace, holding_contract, held_beside, one_at_least}
 use Rattle.fallible_iterator.specs.Outcome.{Outcome}
 use Rattle.fallible_iterator.specs.Outcome.TheVariants.{Kept, LeftOut, Failure, End}
@@ -66,7 +66,7 @@ dedup_key_takes takes p (Some x) = takes p.1 x
 
 -- `DedupByKey`'s contract
 abbrev pub dedup_by_key_contract : {S A K F E : Type 0} → (K → K → Bool) → Contract S A E → Mut F (Bor A × Unit {0}) (Result K E) → Contract (S × ((Option (K × A) × F) × Option (Option E))) A E
-dedup_by_key_contract eq m g = holding_contract m (dedup_key_asks eq (call_at g)) (dedup_key_takes (takes_at g)) held_beside (one_at_least m held_beside)
+dedup_by_key_contract eq m g = holding_contract m (dedup_key_asks eq (call_by_reference g)) (dedup_key_takes (takes_by_reference g)) held_beside (one_at_least m held_beside)
 
 -- the source
 abbrev pub dedup_by_key_source : {I A E K F : Type 0} → DedupByKey I K F A E → I

@@ -3,7 +3,7 @@ use Rattle.std.specs.Prelude.{Result, Ok, Err, List, [], ◌∷◌}
 use Rattle.std.specs.Fn.{Mut}
 use Rattle.std.specs.Borrow.{Bor}
 use Rattle.fallible_iterator.specs.Contract.{Contract}
-use Rattle.fallible_iterator.specs.Closures.{call_at, takes_at, IsCallable}
+use Rattle.fallible_iterator.specs.Closures.{call_by_reference, takes_by_reference, IsCallable}
 use Rattle.fallible_iterator.specs.Passing.{passing_contract}
 use Rattle.fallible_iterator.specs.Outcome.{Outcome}
 use Rattle.fallible_iterator.specs.Outcome.TheVariants.{Kept, Failure}
@@ -16,7 +16,7 @@ keyed_outcome x (Err e) = Failure e
 
 -- The contract, with the source's hint.
 abbrev pub keyed_contract : {S F X K E : Type 0} → Contract S X E → Mut F (Bor X × Unit {0}) (Result K E) → Contract (S × F) (K × X) E
-keyed_contract m g = passing_contract m (call_at g) (λ P f. IsCallable (call_at g) (takes_at g) P f) keyed_outcome (λ p h. m.hints p.0 h)
+keyed_contract m g = passing_contract m (call_by_reference g) (λ P f. IsCallable (call_by_reference g) (takes_by_reference g) P f) keyed_outcome (λ p h. m.hints p.0 h)
 
 -- the source, and the closure
 abbrev pub keyed_parts : {I F : Type 0} → Keyed I F → I × F

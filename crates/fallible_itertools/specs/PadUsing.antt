@@ -4,7 +4,7 @@ use Rattle.std.specs.Fn.{Mut}
 use Rattle.std.specs.Iterator.{at_most}
 use Rattle.fallible_iterator.specs.BothEnds.{items_listed}
 use Rattle.fallible_iterator.specs.Traces.{Answered}
-use Rattle.fallible_iterator.specs.Closures.{IsCallable, call_on, takes_on}
+use Rattle.fallible_iterator.specs.Closures.{IsCallable, call_by_value, takes_by_value}
 use Rattle.fallible_iterator.specs.Contract.{Contract, no_lenders, seen_as}
 use Rattle.fallible_iterator.specs.Cutting.Fuse.{fuse_ended, fuse_source}
 use Rattle.fallible_iterator.specs.OneToOne.Map.{map_outcome}
@@ -62,13 +62,13 @@ module _ {F X E : Type 0} (g : Mut F (ℕ × Unit {0}) (Result X E)) where
   abbrev pub pad_call : F → EitherOrBoth X ℕ → Result X E → F → Type 0
   pad_call f (Both x i) v h = (v ≡ Ok x) × (h ≡ f)
   pad_call f (Left x) v h = (v ≡ Ok x) × (h ≡ f)
-  pad_call f (Right i) v h = call_on g f i v h
+  pad_call f (Right i) v h = call_by_value g f i v h
 
   -- the closure may be called on an index alone
   abbrev pub pad_takes : F → EitherOrBoth X ℕ → Type 0
   pad_takes f (Both x i) = ⊤
   pad_takes f (Left x) = ⊤
-  pad_takes f (Right i) = takes_on g f i
+  pad_takes f (Right i) = takes_by_value g f i
 
 -- `PadUsing`: the trace of `ZipLongest` of the source and the indices below n, where an item stands as it is, and what the closure returns for an index alone stands in its place. The parts are the source, fused, beside the index of the next item and n; and the closure.
 abbrev pub PadUsingTrace : {S F A E : Type 0} → Contract S A E → Mut F (ℕ × Unit {0}) (Result A E) → (Fuse S × (ℕ × ℕ)) × F → List (Answered A E) → (Fuse S × (ℕ × ℕ)) × F → Type 0

@@ -5,7 +5,7 @@ use Rattle.std.specs.Fn.{Mut}
 use Rattle.std.specs.Borrow.{Bor, MutBor}
 use Rattle.fallible_iterator.specs.Traces.{Answered, Run, item, failure, end}
 use Rattle.fallible_iterator.specs.Contract.{Contract, KeptByDraw}
-use Rattle.fallible_iterator.specs.Closures.{Calls, IsCallable, call_at, takes_at}
+use Rattle.fallible_iterator.specs.Closures.{Calls, IsCallable, call_by_reference, takes_by_reference}
 use Rattle.fallible_iterator.specs.Passing.{Place, asked, failure_at, end_at, call_of, passing_contract}
 use Rattle.fallible_iterator.specs.Hints.{upper_alone}
 use Rattle.fallible_iterator.specs.Cutting.TakeWhile.{taken_answer, take_while_outcome}
@@ -106,7 +106,7 @@ peeking_step {X = X} {E = E} steps looks call p r q = (z : Place X (Result Bool 
 
 -- The contract: the closure may be called on each item that may come, and the hint has the source's upper bound alone.
 abbrev pub peeking_contract : {S F X E : Type 0} → Contract S X E → (S → X → S → Type 0) → Mut F (Bor X × Unit {0}) (Result Bool E) → Contract (S × F) X E
-peeking_contract m looks g = record (passing_contract m (call_at g) (λ P f. IsCallable (call_at g) (takes_at g) P f) take_while_outcome (λ p h. upper_alone m p.0 h)) { steps = peeking_step m.steps looks (call_at g) }
+peeking_contract m looks g = record (passing_contract m (call_by_reference g) (λ P f. IsCallable (call_by_reference g) (takes_by_reference g) P f) take_while_outcome (λ p h. upper_alone m p.0 h)) { steps = peeking_step m.steps looks (call_by_reference g) }
 
 -- the source
 abbrev pub peeking_source : {P F : Type 0} → PeekingTakeWhile P F → P
@@ -123,13 +123,13 @@ peeking_parts s = (peeking_source s, peeking_closure s)
 -- ---- what it leaves
 
 -- what is left of the list at an item for which the closure returns so: that item and what comes after it, if it is rejected
-abbrev pub rest_at : {X E : Type 0} → X → Result Bool E → List (Result X E) → Option (List (Result X E)) → Option (List (Result X E))
-rest_at x (Ok true) l left = left
-rest_at x (Ok false) l left = Some (Ok x ∷ l)
-rest_at x (Err e) l left = left
+abbrev pub rest_from_item : {X E : Type 0} → X → Result Bool E → List (Result X E) → Option (List (Result X E)) → Option (List (Result X E))
+rest_from_item x (Ok true) l left = left
+rest_from_item x (Ok false) l left = Some (Ok x ∷ l)
+rest_from_item x (Err e) l left = left
 
 -- the list from the first item x on for which h x is false; none if there is no such item
 unfoldable pub rest_by_while : {X E : Type 0} → (X → Result Bool E) → List (Result X E) → Option (List (Result X E))
 rest_by_while h [] = None
-rest_by_while h (Ok x ∷ l) = rest_at x (h x) l (rest_by_while h l)
+rest_by_while h (Ok x ∷ l) = rest_from_item x (h x) l (rest_by_while h l)
 rest_by_while h (Err e ∷ l) = rest_by_while h l

@@ -3,7 +3,7 @@ use Rattle.std.specs.Prelude.{ℕ, Bool, true, false, Option, Some, None, Result
 use Rattle.std.specs.Fn.{Mut}
 use Rattle.fallible_iterator.specs.Traces.{Answered}
 use Rattle.fallible_iterator.specs.Contract.{Contract}
-use Rattle.fallible_iterator.specs.Closures.{call_on, takes_on, IsCallable}
+use Rattle.fallible_iterator.specs.Closures.{call_by_value, takes_by_value, IsCallable}
 use Rattle.fallible_iterator.specs.Passing.{PassTrace, leaving_out_contract}
 use Rattle.fallible_iterator.specs.Hints.{upper_alone}
 use Rattle.fallible_iterator.specs.Filtering.FilterMap.{filter_map_outcome}
@@ -21,11 +21,11 @@ position_if n (Err e) = Err e
 module _ {F X E : Type 0} (g : Mut F (X × Unit {0}) (Result Bool E)) where
   -- the closure is called on the item beside a position
   abbrev pub item_call : F → ℕ × X → Result Bool E → F → Type 0
-  item_call f p v h = call_on g f p.1 v h
+  item_call f p v h = call_by_value g f p.1 v h
 
   -- the closure may be called on the item beside a position
   abbrev pub item_takes : F → ℕ × X → Type 0
-  item_takes f p = takes_on g f p.1
+  item_takes f p = takes_by_value g f p.1
 
 -- An item beside its position is replaced by the position if the closure returns true, left out if it returns false, and replaced by a failure of it.
 abbrev pub positions_outcome : {X E : Type 0} → ℕ × X → Result Bool E → Outcome ℕ E

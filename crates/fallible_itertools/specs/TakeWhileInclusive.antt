@@ -5,7 +5,7 @@ use Rattle.std.specs.Fn.{Mut}
 use Rattle.std.specs.Borrow.{Bor}
 use Rattle.fallible_iterator.specs.Traces.{Answered, Run, item, failure, end}
 use Rattle.fallible_iterator.specs.Contract.{Contract}
-use Rattle.fallible_iterator.specs.Closures.{Calls, IsCallable, call_at, takes_at}
+use Rattle.fallible_iterator.specs.Closures.{Calls, IsCallable, call_by_reference, takes_by_reference}
 use Rattle.fallible_iterator.specs.Passing.{Place, asked, failure_at, end_at, source_answer, call_of, passing_contract}
 use Rattle.fallible_iterator.specs.Closing.{ClosingTrace, closing_contract}
 use Rattle.fallible_iterator.specs.Cutting.TakeWhile.{is_refused, place_drawn}
@@ -39,7 +39,7 @@ hint_of_first k = (min k.0 1, k.1)
 
 -- `TakeWhileInclusive`'s contract, with the flag whether an item was rejected: the predicate may be called on each item that may come. Until an item was rejected the hint has the source's upper bound, and 1 below if the source has an item for certain: the first one comes, whatever the predicate says of it, or its failure.
 abbrev pub inclusive_contract : {S F X E : Type 0} → Contract S X E → Mut F (Bor X × Unit {0}) (Result Bool E) → Contract ((S × F) × Bool) X E
-inclusive_contract m g = closing_contract (passing_contract m (call_at g) (λ P f. IsCallable (call_at g) (takes_at g) P f) inclusive_outcome (λ p h. (k : ℕ × Option ℕ) × m.hints p.0 k × (h ≡ hint_of_first k))) (place_drawn m.steps (call_at g)) inclusive_answer is_refused
+inclusive_contract m g = closing_contract (passing_contract m (call_by_reference g) (λ P f. IsCallable (call_by_reference g) (takes_by_reference g) P f) inclusive_outcome (λ p h. (k : ℕ × Option ℕ) × m.hints p.0 k × (h ≡ hint_of_first k))) (place_drawn m.steps (call_by_reference g)) inclusive_answer is_refused
 
 -- the source
 abbrev pub inclusive_source : {I P : Type 0} → TakeWhileInclusive I P → I

@@ -1,6 +1,6 @@
 // The adapter that yields the first of adjacent items with equal keys.
 ghost use Rattle.std.specs.Prelude.{Ok, Option, Result};
-ghost use Rattle.fallible_iterator.specs.Closures.{call_at, takes_at};
+ghost use Rattle.fallible_iterator.specs.Closures.{call_by_reference, takes_by_reference};
 ghost use Rattle.fallible_iterator.specs.Contract.{seen_as};
 ghost use Rattle.fallible_iterator.specs.Laws.Contract.{lawful_seen};
 ghost use Rattle.fallible_itertools.specs.DedupByKey.{dedup_by_key_contract, dedup_by_key_parts, dedup_key_asks, dedup_key_takes, keyed_by};
@@ -65,16 +65,16 @@ impl<X: Drop, E, K: PartialEq + Drop, F: FnMut(&X) -> Result<K, E>> Hold<(Option
     for KeyHold {
     type Kept = X;
 
-    ghost can_ask = { λ _ p x. dedup_key_takes (takes_at F.FnMut) p x };
+    ghost can_ask = { λ _ p x. dedup_key_takes (takes_by_reference F.FnMut) p x };
 
-    ghost asks = { λ _ p x o q. dedup_key_asks K.eq (call_at F.FnMut) p x o q };
+    ghost asks = { λ _ p x o q. dedup_key_asks K.eq (call_by_reference F.FnMut) p x o q };
 
     ghost held = { λ _ p. held_beside p };
 
     #[inline(always)]
     fn ask(&self, holds: &mut (Option<(K, X)>, F), asked: Option<X>) -> Outcome<X, E>
-        requires { dedup_key_takes (takes_at F.FnMut) holds.old asked }
-        ensures { dedup_key_asks K.eq (call_at F.FnMut) holds.old asked result holds.new }
+        requires { dedup_key_takes (takes_by_reference F.FnMut) holds.old asked }
+        ensures { dedup_key_asks K.eq (call_by_reference F.FnMut) holds.old asked result holds.new }
     {
         match asked {
             Some(x) => match (holds.1)(&x) {
@@ -90,7 +90,7 @@ impl<X: Drop, E, K: PartialEq + Drop, F: FnMut(&X) -> Result<K, E>> Hold<(Option
 
     ghost can_stop = { λ _ p. tt };
 
-    ghost holds = { λ _. holds_dedup_key K.eq (call_at F.FnMut) };
+    ghost holds = { λ _. holds_dedup_key K.eq (call_by_reference F.FnMut) };
 }
 
 // An item with its key after the buffered one, if there is one.

@@ -1,6 +1,6 @@
 //! The first item that passes, or else the last one or the first.
 ghost use Rattle.std.specs.Prelude.{◌≡◌, Ok};
-ghost use Rattle.fallible_iterator.specs.Closures.{call_at, takes_at};
+ghost use Rattle.fallible_iterator.specs.Closures.{call_by_reference, takes_by_reference};
 ghost use Rattle.fallible_itertools.specs.FindOrLast.{IsFindOrTurn, first_kept, found_or, last_kept};
 
 use fallible_iterator::Turn;
@@ -12,9 +12,9 @@ pub struct FindLastTurn;
 
 impl<A: Drop, E, F: FnMut(&A) -> Result<bool, E>> Turn<(Option<A>, F), A, Result<Option<A>, E>>
     for FindLastTurn {
-    ghost can_turn = { λ _ p x. takes_at F.FnMut p.1 x };
+    ghost can_turn = { λ _ p x. takes_by_reference F.FnMut p.1 x };
 
-    ghost turns = { λ _ p x r q. IsFindOrTurn (call_at F.FnMut) last_kept p x r q };
+    ghost turns = { λ _ p x r q. IsFindOrTurn (call_by_reference F.FnMut) last_kept p x r q };
 
     /// Calls the predicate once. The item is the last one then.
     #[inline(always)]
@@ -46,9 +46,9 @@ pub struct FindFirstTurn;
 
 impl<A: Drop, E, F: FnMut(&A) -> Result<bool, E>> Turn<(Option<A>, F), A, Result<Option<A>, E>>
     for FindFirstTurn {
-    ghost can_turn = { λ _ p x. takes_at F.FnMut p.1 x };
+    ghost can_turn = { λ _ p x. takes_by_reference F.FnMut p.1 x };
 
-    ghost turns = { λ _ p x r q. IsFindOrTurn (call_at F.FnMut) first_kept p x r q };
+    ghost turns = { λ _ p x r q. IsFindOrTurn (call_by_reference F.FnMut) first_kept p x r q };
 
     /// Calls the predicate once. The item is kept if it is the first.
     #[inline(always)]

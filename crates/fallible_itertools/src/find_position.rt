@@ -1,6 +1,6 @@
 //! The first item that passes, beside its position.
 ghost use Rattle.std.specs.Prelude.{◌≡◌, ◌-◌, ◌^◌, ◌<◌};
-ghost use Rattle.fallible_iterator.specs.Closures.{call_at, takes_at};
+ghost use Rattle.fallible_iterator.specs.Closures.{call_by_reference, takes_by_reference};
 ghost use Rattle.fallible_iterator.specs.Searching.{IsPositionTurn};
 ghost use Rattle.fallible_itertools.specs.FindPosition.{find_position_pick};
 
@@ -13,9 +13,9 @@ pub struct FindPositionTurn;
 
 impl<A: Drop, E, F: FnMut(&A) -> Result<bool, E>> Turn<(usize, F), A, Result<Option<(usize, A)>, E>>
     for FindPositionTurn {
-    ghost can_turn = { λ _ p x. takes_at F.FnMut p.1 x × (p.0 < 2 ^ 64 - 1) };
+    ghost can_turn = { λ _ p x. takes_by_reference F.FnMut p.1 x × (p.0 < 2 ^ 64 - 1) };
 
-    ghost turns = { λ _ p x r q. IsPositionTurn (call_at F.FnMut) find_position_pick p x r q };
+    ghost turns = { λ _ p x r q. IsPositionTurn (call_by_reference F.FnMut) find_position_pick p x r q };
 
     /// Calls the predicate once, and adds one for the next item.
     #[inline(always)]

@@ -1,6 +1,6 @@
 //! The adapter that calls a closure on each failure.
 ghost use Rattle.std.specs.Prelude.{Result, Option};
-ghost use Rattle.fallible_iterator.specs.Closures.{takes_at};
+ghost use Rattle.fallible_iterator.specs.Closures.{takes_by_reference};
 ghost use Rattle.fallible_iterator.specs.Contract.{seen_as};
 ghost use Rattle.fallible_iterator.specs.Ends.{from_back, ends_of, ends_seen_as};
 ghost use Rattle.fallible_iterator.specs.Laws.Contract.{lawful_seen};
@@ -96,7 +96,7 @@ struct InspectErrFail;
 impl<D, F: FnMut(&D)> Fail<F, D> for InspectErrFail {
     type Failure = D;
 
-    ghost can_fail = { λ _ f d. takes_at F.FnMut f d };
+    ghost can_fail = { λ _ f d. takes_by_reference F.FnMut f d };
 
     ghost call = { λ _ f d e g. seen_call F.FnMut f d e g };
 

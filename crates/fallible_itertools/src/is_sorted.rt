@@ -1,6 +1,6 @@
 //! Whether keys come in order.
 ghost use Rattle.std.specs.Prelude.{◌≡◌, ⊤};
-ghost use Rattle.fallible_iterator.specs.Closures.{call_on, takes_on};
+ghost use Rattle.fallible_iterator.specs.Closures.{call_by_value, takes_by_value};
 ghost use Rattle.fallible_iterator.specs.Searching.{IsSearchTurn, all_pick};
 ghost use Rattle.fallible_itertools.specs.IsSorted.{ItselfCall, OrderCall, comes_after};
 
@@ -26,9 +26,9 @@ impl<A, K: PartialOrd + Drop, E, F: FnMut(A) -> Result<K, E>> Turn<
     A,
     Result<bool, E>,
 > for SortedTurn {
-    ghost can_turn = { λ _ p x. takes_on F.FnMut p.1 x };
+    ghost can_turn = { λ _ p x. takes_by_value F.FnMut p.1 x };
 
-    ghost turns = { λ _ p x r q. IsSearchTurn (OrderCall K.partial_cmp (call_on F.FnMut)) all_pick
+    ghost turns = { λ _ p x r q. IsSearchTurn (OrderCall K.partial_cmp (call_by_value F.FnMut)) all_pick
         p x r q };
 
     /// Calls the closure once. Its key is the last one then.

@@ -1,6 +1,6 @@
 //! Items beside the keys that a closure makes of them.
 ghost use Rattle.std.specs.Prelude.{Result, Option};
-ghost use Rattle.fallible_iterator.specs.Closures.{call_at, takes_at};
+ghost use Rattle.fallible_iterator.specs.Closures.{call_by_reference, takes_by_reference};
 ghost use Rattle.fallible_iterator.specs.Contract.{seen_as};
 ghost use Rattle.fallible_iterator.specs.Laws.Contract.{lawful_seen};
 ghost use Rattle.fallible_itertools.specs.Keyed.{keyed_contract, keyed_outcome, keyed_parts};
@@ -58,9 +58,9 @@ impl<X: Drop, K, E, F: FnMut(&X) -> Result<K, E>> Pass<F, X, E> for KeyPass {
 
     type Answer = Result<K, E>;
 
-    ghost can_pass = { λ _ f x. takes_at F.FnMut f x };
+    ghost can_pass = { λ _ f x. takes_by_reference F.FnMut f x };
 
-    ghost call = { λ _ f x v g. call_at F.FnMut f x v g };
+    ghost call = { λ _ f x v g. call_by_reference F.FnMut f x v g };
 
     ghost outcome = { λ _ x v. keyed_outcome x v };
 

@@ -1,6 +1,6 @@
 //! The adapter that replaces failures: by an item, nothing or another failure.
 ghost use Rattle.std.specs.Prelude.{Result, Option};
-ghost use Rattle.fallible_iterator.specs.Closures.{call_on, takes_on};
+ghost use Rattle.fallible_iterator.specs.Closures.{call_by_value, takes_by_value};
 ghost use Rattle.fallible_iterator.specs.Contract.{seen_as};
 ghost use Rattle.fallible_iterator.specs.Ends.{from_back, ends_of, ends_seen_as};
 ghost use Rattle.fallible_iterator.specs.Laws.Contract.{lawful_seen};
@@ -84,9 +84,9 @@ impl<X, D, E, F: FnMut(D) -> Result<Option<X>, E>> Pass<F, D, E> for OrElsePass 
 
     type Answer = Result<Option<X>, E>;
 
-    ghost can_pass = { λ _ f d. takes_on F.FnMut f d };
+    ghost can_pass = { λ _ f d. takes_by_value F.FnMut f d };
 
-    ghost call = { λ _ f d v g. call_on F.FnMut f d v g };
+    ghost call = { λ _ f d v g. call_by_value F.FnMut f d v g };
 
     ghost outcome = { λ _ d v. or_else_outcome d v };
 

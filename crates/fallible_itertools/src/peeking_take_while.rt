@@ -2,7 +2,7 @@
 ghost use Rattle.std.specs.Prelude.{◌≡◌, Some, Result, Option};
 ghost use Rattle.fallible_iterator.specs.Borrowed.{borrowed};
 ghost use Rattle.fallible_iterator.specs.Clauses.{OverListWith};
-ghost use Rattle.fallible_iterator.specs.Closures.{IsCallable, call_at, takes_at};
+ghost use Rattle.fallible_iterator.specs.Closures.{IsCallable, call_by_reference, takes_by_reference};
 ghost use Rattle.fallible_iterator.specs.Contract.{seen_as};
 ghost use Rattle.fallible_iterator.specs.Laws.Contract.{lawful_seen};
 ghost use Rattle.fallible_iterator.specs.Lists.{Acts, Lists, taken_while};
@@ -26,9 +26,9 @@ pub trait PeekingNext: FallibleIterator {
     where
         F: FnMut(&Self::Item) -> Result<bool, Self::Error>,
         requires can_next { Self.contract.can_next self.old }
-        requires callable { IsCallable (call_at F.FnMut) (takes_at F.FnMut)
+        requires callable { IsCallable (call_by_reference F.FnMut) (takes_by_reference F.FnMut)
             (Self.contract.may_give self.old) accept.old }
-        ensures { peeking_step Self.contract.steps looks (call_at F.FnMut)
+        ensures { peeking_step Self.contract.steps looks (call_by_reference F.FnMut)
             (self.old, accept.old) result (self.new, accept.new) };
 
     // What a look keeps, and that the item comes next as it would have come.
@@ -51,12 +51,12 @@ pub trait PeekingNext: FallibleIterator {
     final fn peeking_take_while<F>(&mut self, accept: F) -> PeekingTakeWhile<&mut Self, F>
     where
         F: FnMut(&Self::Item) -> Result<bool, Self::Error>,
-        requires { IsCallable (call_at F.FnMut) (takes_at F.FnMut)
+        requires { IsCallable (call_by_reference F.FnMut) (takes_by_reference F.FnMut)
             (Self.contract.may_give self.old) accept }
         ensures source { (peeking_source result).now ≡ self.old }
         ensures same_reference { (peeking_source result).ghost_name ≡ self.entry.ghost_name }
         ensures closure { peeking_closure result ≡ accept }
-        ensures lists { OverListWith (Acts (call_at F.FnMut) accept) Self.contract.steps self.old
+        ensures lists { OverListWith (Acts (call_by_reference F.FnMut) accept) Self.contract.steps self.old
             (λ h l. Lists (seen_as peeking_parts (peeking_contract (borrowed Self.contract)
             (borrowed_looks looks) F.FnMut)).steps result (taken_while h l)) }
     {
@@ -99,8 +99,8 @@ fn accepts_held<I: FallibleIterator, F: FnMut(&I::Item) -> Result<bool, I::Error
 where
     I::Item: Drop,
     requires { (x : I.Item) → held_item (peekable_held it.now) ≡ Some x
-        → takes_at F.FnMut accept.old x }
-    ensures { AcceptsHeld (call_at F.FnMut) (held_item (peekable_held it.now))
+        → takes_by_reference F.FnMut accept.old x }
+    ensures { AcceptsHeld (call_by_reference F.FnMut) (held_item (peekable_held it.now))
         accept.old result accept.new }
 {
     match it.held() {

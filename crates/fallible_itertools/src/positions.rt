@@ -1,6 +1,6 @@
 //! The adapter that yields the positions of the items for which its closure returns true.
 ghost use Rattle.std.specs.Prelude.{Result, Option};
-ghost use Rattle.fallible_iterator.specs.Closures.{call_on, takes_on};
+ghost use Rattle.fallible_iterator.specs.Closures.{call_by_value, takes_by_value};
 ghost use Rattle.fallible_iterator.specs.Contract.{seen_as};
 ghost use Rattle.fallible_iterator.specs.Laws.Contract.{lawful_seen};
 ghost use Rattle.fallible_iterator.specs.Laws.OneToOne.Enumerate.{lawful_enumerate};
@@ -60,9 +60,9 @@ impl<X, E, F: FnMut(X) -> Result<bool, E>> Pass<F, (usize, X), E> for PositionsP
 
     type Answer = Result<bool, E>;
 
-    ghost can_pass = { λ _ f p. takes_on F.FnMut f p.1 };
+    ghost can_pass = { λ _ f p. takes_by_value F.FnMut f p.1 };
 
-    ghost call = { λ _ f p v g. call_on F.FnMut f p.1 v g };
+    ghost call = { λ _ f p v g. call_by_value F.FnMut f p.1 v g };
 
     ghost outcome = { λ _ p v. positions_outcome p v };
 

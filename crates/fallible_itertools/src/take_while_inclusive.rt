@@ -1,6 +1,6 @@
 //! The adapter that ends after the first item that a predicate rejects.
 ghost use Rattle.std.specs.Prelude.{Result, Option};
-ghost use Rattle.fallible_iterator.specs.Closures.{call_at, takes_at};
+ghost use Rattle.fallible_iterator.specs.Closures.{call_by_reference, takes_by_reference};
 ghost use Rattle.fallible_iterator.specs.Contract.{seen_as};
 ghost use Rattle.fallible_iterator.specs.Laws.Contract.{lawful_seen};
 ghost use Rattle.fallible_itertools.specs.Staging.{StopPasses, ends_come};
@@ -66,9 +66,9 @@ impl<X: Drop, E, P: FnMut(&X) -> Result<bool, E>> Stage<P, X, E> for InclusiveSt
 
     ghost comes = { λ _ later. ends_come later };
 
-    ghost can_meet = { λ _ p x. takes_at P.FnMut p x };
+    ghost can_meet = { λ _ p x. takes_by_reference P.FnMut p x };
 
-    ghost items = { λ _ p x made q. inclusive_on_item (call_at P.FnMut) p x made q };
+    ghost items = { λ _ p x made q. inclusive_on_item (call_by_reference P.FnMut) p x made q };
 
     ghost stops = { λ _ p stop made q. StopPasses p stop made q };
 
@@ -78,8 +78,8 @@ impl<X: Drop, E, P: FnMut(&X) -> Result<bool, E>> Stage<P, X, E> for InclusiveSt
 
     #[inline(always)]
     fn on_item(&self, p: &mut P, item: X) -> Made<X, (), E>
-        requires { takes_at P.FnMut p.old item }
-        ensures { inclusive_on_item (call_at P.FnMut) p.old item result p.new }
+        requires { takes_by_reference P.FnMut p.old item }
+        ensures { inclusive_on_item (call_by_reference P.FnMut) p.old item result p.new }
     {
         match p(&item) {
             Ok(true) => one(Ok(Some(item))),
@@ -100,5 +100,5 @@ impl<X: Drop, E, P: FnMut(&X) -> Result<bool, E>> Stage<P, X, E> for InclusiveSt
         (Ok(None), Some(later))
     }
 
-    ghost is_stage = { λ _. is_stage_inclusive (call_at P.FnMut) };
+    ghost is_stage = { λ _. is_stage_inclusive (call_by_reference P.FnMut) };
 }

@@ -5,7 +5,7 @@ use Rattle.std.specs.Borrow.{Bor}
 use Rattle.std.proofs.lemmas.List.Sums.{length-filter}
 use Rattle.fallible_iterator.specs.Traces.{Answered, Run, item, end}
 use Rattle.fallible_iterator.specs.Contract.{Contract, seen_as, unbounded_contract}
-use Rattle.fallible_iterator.specs.Closures.{call_at}
+use Rattle.fallible_iterator.specs.Closures.{call_by_reference}
 use Rattle.fallible_iterator.specs.Lists.{Acts}
 use Rattle.fallible_iterator.specs.Cutting.Take.{take_contract, take_parts}
 use Rattle.fallible_iterator.specs.Filtering.Filter.{filter_contract, filter_parts}
@@ -37,7 +37,7 @@ module _ {B : Type 0} (left : B → Option (List ℕ)) (stays : Bool → B → B
     reads_rows : (trace : List (Answered ℕ RowFault)) (t : Rows B) → Run row_contract.steps begin trace t → ReadsRows left stays r a trace (rows_parts t)
     reads_rows trace t ran = reads_rows_of_run left stays trace r a (rows_parts t) placed (subst (λ (p : B × Option Ahead). Run (row_step left stays) p trace (rows_parts t)) begins (run_seen rows_parts (row_step left stays) trace begin t ran))
 
-    pub chain_reads : {F : Type 0} {g : Mut F (Bor ℕ × Unit {0}) (Result Bool RowFault)} {s : Filter (Take (Rows B)) F} {first : Take (Rows B)} {f : F} {n : ℕ} {last : Answered ℕ RowFault} (t : Filter (Take (Rows B)) F) (xs : List ℕ) → Acts (call_at g) f (λ x. Ok (is_above_100 x)) → filter_parts s ≡ (first, f) → take_parts first ≡ (begin, n)
+    pub chain_reads : {F : Type 0} {g : Mut F (Bor ℕ × Unit {0}) (Result Bool RowFault)} {s : Filter (Take (Rows B)) F} {first : Take (Rows B)} {f : F} {n : ℕ} {last : Answered ℕ RowFault} (t : Filter (Take (Rows B)) F) (xs : List ℕ) → Acts (call_by_reference g) f (λ x. Ok (is_above_100 x)) → filter_parts s ≡ (first, f) → take_parts first ≡ (begin, n)
         → Run (seen_as filter_parts (filter_contract (seen_as take_parts (take_contract row_contract)) g)).steps s (map item xs ++ last ∷ []) t → ChainReads n (length xs) last (rows_parts t.it.it)
     chain_reads {g = g} {s = s} {first = first} {f = f} {n = n} {last = last} t xs acts at_filter at_take ran =
         let b = filtered_run (seen_as take_parts (take_contract row_contract)) g is_above_100 f first s t xs last acts at_filter ran in

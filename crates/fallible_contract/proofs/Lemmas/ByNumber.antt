@@ -28,11 +28,11 @@ module _ {S A E : Type 0} (steps : S → Answered A E → S → Type 0) (between
   leaves_from_equal e f h = rw (e, f) h
 
   -- one answer and then others are one trace, and a trace is its first answer and then the others
-  pub leaves_then : {j i k : ℕ} {s u t : S} {r : Answered A E} {trace : List (Answered A E)} → Leaves j s (r ∷ []) u i → Leaves i u trace t k → Leaves j s (r ∷ trace) t k
-  leaves_then (keeps_item x step last) more = let h = leaves_nil_same last in keeps_item x step (leaves_from_equal h.0 h.1 more)
-  leaves_then (keeps_end step last) more = let h = leaves_nil_same last in keeps_end step (leaves_from_equal h.0 h.1 more)
-  leaves_then (keeps_failure e step last) more = let h = leaves_nil_same last in keeps_failure e step (leaves_from_equal h.0 h.1 more)
-  leaves_then (leaves_out x step rest) more = leaves_out x step (leaves_then rest more)
+  pub leaves_first_and_others : {j i k : ℕ} {s u t : S} {r : Answered A E} {trace : List (Answered A E)} → Leaves j s (r ∷ []) u i → Leaves i u trace t k → Leaves j s (r ∷ trace) t k
+  leaves_first_and_others (keeps_item x step last) more = let h = leaves_nil_same last in keeps_item x step (leaves_from_equal h.0 h.1 more)
+  leaves_first_and_others (keeps_end step last) more = let h = leaves_nil_same last in keeps_end step (leaves_from_equal h.0 h.1 more)
+  leaves_first_and_others (keeps_failure e step last) more = let h = leaves_nil_same last in keeps_failure e step (leaves_from_equal h.0 h.1 more)
+  leaves_first_and_others (leaves_out x step rest) more = leaves_out x step (leaves_first_and_others rest more)
 
   pub leaves_split : {j k : ℕ} {s t : S} {r : Answered A E} {trace : List (Answered A E)} → Leaves j s (r ∷ trace) t k → (u : S) × (i : ℕ) × Leaves j s (r ∷ []) u i × Leaves i u trace t k
   leaves_split (keeps_item {u = u} x step more) = (u, between, keeps_item x step none, more)

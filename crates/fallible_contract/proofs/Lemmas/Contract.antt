@@ -5,7 +5,7 @@ use Rattle.fallible_contract.specs.Traces.{Answered, Yields, item}
 use Rattle.fallible_contract.specs.Contract.{Contract, AtMost, OnAnswer, KeptByDraw, KeptByDraws, Stays, Lawful}
 use Rattle.fallible_contract.specs.Ends.{Ends, from_front, from_back, LawfulEnds}
 use Rattle.fallible_contract.specs.BothEnds.{step_at}
-use Rattle.fallible_contract.specs.Laws.Contract.{kept_by_draws_after, kept_by_draws_of_stays, kept_by_draws_then, stays_after, stays_here, stays_of_kept_by_draws, never_fails_after}
+use Rattle.fallible_contract.specs.Laws.Contract.{kept_by_draws_after, kept_by_draws_of_stays, kept_by_draws_then, stays_after, stays_reflexive, stays_of_kept_by_draws, never_fails_after}
 use Rattle.fallible_contract.specs.declared.answers.Side.{Side}
 use Rattle.fallible_contract.specs.declared.answers.Side.TheVariants.{Front, Back}
 
@@ -17,7 +17,7 @@ module _ {S A E : Type 0} (m : Contract S A E) where
 
 module _ {S A E : Type 0} {m : Contract S A E} where
   pub stays_yields : Lawful m → (s : S) (xs : List A) (t : S) → m.can_next s → Yields m.steps s xs t → Stays m s t
-  stays_yields l s [] t c ran = subst (λ (u : S). Stays m s u) ran (stays_here c)
+  stays_yields l s [] t c ran = subst (λ (u : S). Stays m s u) ran (stays_reflexive c)
   stays_yields l s (x ∷ xs) t c ran = let g = l.kept_by_draw s (item x) ran.0 c ran.1 in stays_after ran.1 g (stays_yields l ran.0 xs t g.can_next ran.2)
 
   -- an item that came after others was one to come

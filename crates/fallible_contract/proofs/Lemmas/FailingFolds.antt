@@ -6,7 +6,7 @@ use Rattle.fallible_contract.specs.Contract.{Contract, Lawful}
 use Rattle.fallible_contract.specs.Closures.{IsCallable}
 use Rattle.fallible_contract.specs.Failing.{failing_step, FailingAnswer, TakesFailure}
 use Rattle.fallible_contract.specs.Folds.{Drained, HoldsAtEachTurn, DrivenBy, CountedUp, LastBy, NthExit, NthBy}
-use Rattle.fallible_contract.specs.Laws.Closures.{reaches_here, is_callable_after}
+use Rattle.fallible_contract.specs.Laws.Closures.{reaches_reflexive, is_callable_after}
 use Rattle.fallible_contract.proofs.Lemmas.Failing.{failing_trace_answered}
 use Rattle.fallible_contract.proofs.Lemmas.Folding.{holds_at_each_turn_into}
 use Rattle.std.specs.declared.ops.ControlFlow.{ControlFlow}
@@ -89,8 +89,8 @@ takes_failure_of_made takes fails items (Err d) made f at k = subst (TakesFailur
 module _ {S F X D E : Type 0} {m : Contract S X D} (l : Lawful m) (call : F → D → E → F → Type 0) (takes : F → D → Type 0) where
   takes_failure_at_last : (items : List X) (last : Answered X D) (s t : S) (f : F) → m.can_next s × IsCallable call takes (m.may_fail s) f → Run m.steps s (map item items ++ last ∷ []) t → TakesFailure takes f last
   takes_failure_at_last [] (Ok v) s t f can ran = tt
-  takes_failure_at_last [] (Err d) s t f can ran = can.1.at f d reaches_here ((l.kept_by_draw s (Err d) ran.0 can.0 ran.1).answer.0)
-  takes_failure_at_last (x ∷ items) last s t f can ran = let a = l.kept_by_draw s (item x) ran.0 can.0 ran.1 in takes_failure_at_last items last ran.0 t f (a.can_next, is_callable_after a.may_fail reaches_here can.1) ran.2
+  takes_failure_at_last [] (Err d) s t f can ran = can.1.at f d reaches_reflexive ((l.kept_by_draw s (Err d) ran.0 can.0 ran.1).answer.0)
+  takes_failure_at_last (x ∷ items) last s t f can ran = let a = l.kept_by_draw s (item x) ran.0 can.0 ran.1 in takes_failure_at_last items last ran.0 t f (a.can_next, is_callable_after a.may_fail reaches_reflexive can.1) ran.2
 
   pub takes_failure_drawn : {s t : S} {f : F} → m.can_next s × IsCallable call takes (m.may_fail s) f → (drawn : Answered X D) → m.steps s drawn t → TakesFailure takes f drawn
   takes_failure_drawn {s = s} {t = t} {f = f} can drawn step = takes_failure_at_last [] drawn s t f can (t, step, refl)

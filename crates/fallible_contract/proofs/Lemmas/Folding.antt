@@ -8,10 +8,10 @@ use Rattle.fallible_contract.specs.Contract.{Contract, Lawful}
 use Rattle.fallible_contract.specs.Closures.{Reaches, IsCallable}
 use Rattle.fallible_contract.specs.Folds.{Drained, HoldsAtEachTurn, goes_on, DriveExit, Driven, TurnThrough, beside, beside_names, within}
 use Rattle.fallible_contract.specs.Folding.{TurnedBy, FoldingTurn, FoldingTakes}
-use Rattle.fallible_contract.specs.Laws.Closures.{reaches_here, reaches_weaken, reaches_from}
+use Rattle.fallible_contract.specs.Laws.Closures.{reaches_reflexive, reaches_weaken, reaches_from}
 use Rattle.fallible_contract.specs.Laws.Passing.{done, end_passes, failure_passes, keeps, refuses, closes, leaves_out, passes_of_pass_trace, pass_trace_of_passes}
 use Rattle.fallible_contract.proofs.Lemmas.Contract.{may_give_before}
-use Rattle.fallible_contract.proofs.Lemmas.Folds.{holds_at_first_turn, holds_each_turn_after, driven_after, driven_end, driven_failure, driven_stop, driven_through, names_kept}
+use Rattle.fallible_contract.proofs.Lemmas.Folds.{holds_at_first_turn, holds_each_turn_after, driven_after, driven_end, driven_failure, driven_stop, fold_of_references_drives_values, names_kept}
 use Rattle.std.specs.declared.ops.ControlFlow.{ControlFlow}
 use Rattle.std.specs.declared.ops.ControlFlow.TheVariants.{Continue, Break}
 use Rattle.fallible_contract.specs.declared.folds.Beside.{Beside}
@@ -100,10 +100,10 @@ module _ {S C F X V B E R : Type 0} (steps : S → Answered X E → S → Type 0
   drives_to_stop x v End s t p q r step called is w = let same : r ≡ Ok None = (let e = w.0 in cc) in subst (λ a. DrivesOfFolding s p a t q) (sym same) (subst (λ c. DrivesOfFolding s p (Ok None) t (c, q.1)) (sym w.1) (driven_end (pass_trace_of_passes (closes x v step called is done))))
 
   -- the last answer of the source's fold
-  drives_last_through : (last : Answered X E) (s t : S) (p q : C × F) (r : Answered (Answered R E) E) → steps s last t → DriveExit TurnedOfFolding p last r q → DrivesOfFolding s p (within r) t q
-  drives_last_through (Ok None) s t p q r step w = subst (λ a. DrivesOfFolding s p (within a) t q) (sym w.0) (subst (λ z. DrivesOfFolding s p (Ok None) t z) (sym w.1) (driven_end (pass_trace_of_passes (end_passes step done))))
-  drives_last_through (Err d) s t p q r step w = subst (λ a. DrivesOfFolding s p (within a) t q) (sym w.0) (subst (λ z. DrivesOfFolding s p (Err d) t z) (sym w.1) (driven_failure (pass_trace_of_passes (failure_passes d step done))))
-  drives_last_through (Ok (Some x)) s t p q r step w = subst (λ a. DrivesOfFolding s p (within a) t q) (sym w.2) (let turned = w.1 in drives_to_stop x turned.0 (outcome x turned.0) s t p q w.0 step turned.1 refl turned.2)
+  last_answer_drives_adapter : (last : Answered X E) (s t : S) (p q : C × F) (r : Answered (Answered R E) E) → steps s last t → DriveExit TurnedOfFolding p last r q → DrivesOfFolding s p (within r) t q
+  last_answer_drives_adapter (Ok None) s t p q r step w = subst (λ a. DrivesOfFolding s p (within a) t q) (sym w.0) (subst (λ z. DrivesOfFolding s p (Ok None) t z) (sym w.1) (driven_end (pass_trace_of_passes (end_passes step done))))
+  last_answer_drives_adapter (Err d) s t p q r step w = subst (λ a. DrivesOfFolding s p (within a) t q) (sym w.0) (subst (λ z. DrivesOfFolding s p (Err d) t z) (sym w.1) (driven_failure (pass_trace_of_passes (failure_passes d step done))))
+  last_answer_drives_adapter (Ok (Some x)) s t p q r step w = subst (λ a. DrivesOfFolding s p (within a) t q) (sym w.2) (let turned = w.1 in drives_to_stop x turned.0 (outcome x turned.0) s t p q w.0 step turned.1 refl turned.2)
 
   -- an item on which the source's turn went on, before the rest of the fold
   module _ (x : X) (v : V) (s u : S) (p k : C × F) (step : steps s (item x) u) (called : call p.1 x v k.1) where
@@ -115,7 +115,7 @@ module _ {S C F X V B E R : Type 0} (steps : S → Answered X E → S → Type 0
     drives_after_item End t q r is w rest = absurd (let e = w.0 in cc)
 
   drives_items_through : (items : List X) (last : Answered X E) (s t : S) (p k q : C × F) (r : Answered (Answered R E) E) → Run steps s (map item items ++ last ∷ []) t → FoldsTo (goes_on TurnedOfFolding) p items k → DriveExit TurnedOfFolding k last r q → DrivesOfFolding s p (within r) t q
-  drives_items_through [] last s t p k q r ran went at = drives_last_through last s t p q r (subst (λ (u : S). steps s last u) ran.2 ran.1) (subst (λ (z : C × F). DriveExit TurnedOfFolding z last r q) (sym went) at)
+  drives_items_through [] last s t p k q r ran went at = last_answer_drives_adapter last s t p q r (subst (λ (u : S). steps s last u) ran.2 ran.1) (subst (λ (z : C × F). DriveExit TurnedOfFolding z last r q) (sym went) at)
   drives_items_through (x ∷ items) last s t p k q r ran went at = let turned = went.1 in
       drives_after_item x turned.0 s ran.0 p went.0 ran.1 turned.1 (outcome x turned.0) t q (within r) refl turned.2 (drives_items_through items last ran.0 t went.0 k q r ran.2 went.2 at)
 
@@ -138,9 +138,9 @@ module _ {S C F X V B E R : Type 0} (steps : S → Answered X E → S → Type 0
         holds_of_items items ran.0 t went.0 q ran.2 went.2 (holds_after_item x turned.0 (outcome x turned.0) s ran.0 p went.0 ran.1 turned.1 refl turned.2 holds)
 
 -- A fold of the source by that turn is a fold of the adapter.
-pub drives_through : {S C F X V B E R : Type 0} {steps : S → Answered X E → S → Type 0} {call : F → X → V → F → Type 0} {outcome : X → V → Outcome B E} {turns : C → B → ControlFlow R (Unit {0}) → C → Type 0} {s t : S} {p q : C × F} {r : Answered (Answered R E) E}
+pub source_fold_drives_adapter : {S C F X V B E R : Type 0} {steps : S → Answered X E → S → Type 0} {call : F → X → V → F → Type 0} {outcome : X → V → Outcome B E} {turns : C → B → ControlFlow R (Unit {0}) → C → Type 0} {s t : S} {p q : C × F} {r : Answered (Answered R E) E}
     → Driven steps (FoldingTurn call outcome turns) s p r t q → Driven (passing_step steps call outcome) turns (s, p.1) p.0 (within r) (t, q.1) q.0
-drives_through {steps = steps} {call = call} {outcome = outcome} {turns = turns} {s = s} {t = t} {p = p} {q = q} {r = r} w = drives_items_through steps call outcome turns w.items w.last s t p w.at.carried q r w.ran w.at.went w.at.exit
+source_fold_drives_adapter {steps = steps} {call = call} {outcome = outcome} {turns = turns} {s = s} {t = t} {p = p} {q = q} {r = r} w = drives_items_through steps call outcome turns w.items w.last s t p w.at.carried q r w.ran w.at.went w.at.exit
 
 module _ {S C F X V B E R : Type 0} {steps : S → Answered X E → S → Type 0} {call : F → X → V → F → Type 0} {outcome : X → V → Outcome B E} {turns : C → B → ControlFlow R (Unit {0}) → C → Type 0} {s t : S} {b d : Beside C F} {r : Answered (Answered R E) E} where
   -- The same, where the adapter's closure and the caller's state are lent by reference. What was lent is what those that came back point to, once they are known to be the same.
@@ -149,12 +149,12 @@ module _ {S C F X V B E R : Type 0} {steps : S → Answered X E → S → Type 0
   drives_beside f c w is_f is_c = let same = names_kept beside beside_names (FoldingTurn call outcome turns) w in
       subst (λ z. Driven (passing_step steps call outcome) turns (s, b.p.now) b.c.now (within r) (t, f) z) (sym (is_c (ap (λ z. z.0) same)))
       (subst (λ z. Driven (passing_step steps call outcome) turns (s, b.p.now) b.c.now (within r) (t, z) d.c.now) (sym (is_f (ap (λ z. z.1) same)))
-      (drives_through (driven_through beside beside_names (FoldingTurn call outcome turns) w)))
+      (source_fold_drives_adapter (fold_of_references_drives_values beside beside_names (FoldingTurn call outcome turns) w)))
 
 -- calls of the source's turns bring the closure where calls on what comes do
 module _ {S C F X V B E R : Type 0} {m : Contract S X E} (l : Lawful m) (call : F → X → V → F → Type 0) (outcome : X → V → Outcome B E) (turns : C → B → ControlFlow R (Unit {0}) → C → Type 0) where
   reaches_turned : (items : List X) (s t : S) (p q : C × F) → m.can_next s → Yields m.steps s items t → FoldsTo (goes_on (FoldingTurn call outcome turns)) p items q → Reaches call (m.may_give s) p.1 q.1
-  reaches_turned [] s t p q c ran went = subst (λ (r : C × F). Reaches call (m.may_give s) p.1 r.1) went reaches_here
+  reaches_turned [] s t p q c ran went = subst (λ (r : C × F). Reaches call (m.may_give s) p.1 r.1) went reaches_reflexive
   reaches_turned (x ∷ items) s t p q c ran went = let a = l.kept_by_draw s (item x) ran.0 c ran.1 in let turned = went.1 in
       reaches_from x turned.0 a.answer.0 turned.1 (reaches_weaken a.may_give (reaches_turned items ran.0 t went.0 q a.can_next ran.2 went.2))
 

@@ -82,8 +82,8 @@ module _ {X N A C R : Type 0} (values : X → C) (names : X → N) (turns : C �
     callable_driving_through h = record { at = λ items t u d x ran went step. h.at items t u (values d) x ran (folds_to_through items c d went).0 step }
 
     -- it is a fold on what the references point to, and these come back
-    pub driven_through : {t : S} {d : X} {r : Answered R E} → Driven steps (TurnThrough values names turns) s c r t d → Driven steps turns s (values c) r t (values d)
-    driven_through {d = d} {r = r} w = drained_map (λ items last h. record { carried = values h.carried; went = (folds_to_through items c h.carried h.went).0; exit = (drive_exit_through last r h.carried d h.exit).0 }) w
+    pub fold_of_references_drives_values : {t : S} {d : X} {r : Answered R E} → Driven steps (TurnThrough values names turns) s c r t d → Driven steps turns s (values c) r t (values d)
+    fold_of_references_drives_values {d = d} {r = r} w = drained_map (λ items last h. record { carried = values h.carried; went = (folds_to_through items c h.carried h.went).0; exit = (drive_exit_through last r h.carried d h.exit).0 }) w
 
     pub names_kept : {t : S} {d : X} {r : Answered R E} → Driven steps (TurnThrough values names turns) s c r t d → names d ≡ names c
     names_kept {d = d} {r = r} w = (drive_exit_through w.last r w.at.carried d w.at.exit).1 ∙ (folds_to_through w.items c w.at.carried w.at.went).1

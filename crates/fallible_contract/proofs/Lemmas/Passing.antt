@@ -7,7 +7,7 @@ use Rattle.fallible_contract.specs.Contract.{Contract, Lawful}
 use Rattle.fallible_contract.specs.Closures.{Reaches, IsCallable}
 use Rattle.fallible_contract.proofs.Lemmas.LawForm.{FirstOf, IsByAnswers}
 use Rattle.fallible_contract.proofs.Lemmas.Contract.{may_give_before}
-use Rattle.fallible_contract.specs.Laws.Closures.{reaches_here, reaches_weaken, reaches_from}
+use Rattle.fallible_contract.specs.Laws.Closures.{reaches_reflexive, reaches_weaken, reaches_from}
 use Rattle.fallible_contract.specs.Folds.{HoldsAtEachTurn}
 use Rattle.fallible_contract.proofs.Lemmas.Folds.{folds_to_map, holds_each_turn_map}
 use Rattle.fallible_contract.specs.Passing.{ItemPassed, LeavesNoneOut, PassTest, PassAnswer, IfItem, outcome_answer, PassTrace}
@@ -69,7 +69,7 @@ module _ {S F X R B E : Type 0} (steps : S → Answered X E → S → Type 0) (c
 
 module _ {S F X R B E : Type 0} (m : Contract S X E) (l : Lawful m) (call : F → X → R → F → Type 0) (outcome : X → R → Outcome B E) where
   reaches_turns : (items : List X) (s t : S) (f g : F) → m.can_next s → Yields m.steps s items t → FoldsTo (left_out_turn m.steps call outcome) f items g → Reaches call (m.may_give s) f g
-  reaches_turns [] s t f g c ran went = subst (λ (h : F). Reaches call (m.may_give s) f h) went reaches_here
+  reaches_turns [] s t f g c ran went = subst (λ (h : F). Reaches call (m.may_give s) f h) went reaches_reflexive
   reaches_turns (x ∷ items) s t f g c ran went = let a = l.kept_by_draw s (item x) ran.0 c ran.1 in reaches_from x went.1.0 a.answer.0 went.1.1 (reaches_weaken a.may_give (reaches_turns items ran.0 t went.0 g a.can_next ran.2 went.2))
 
 -- a stored closure may be called at each turn of such a fold
@@ -121,7 +121,7 @@ module _ {S F X R B E : Type 0} {steps : S → Answered X E → S → Type 0} {c
 
 -- the closure may be called on an item that was drawn
 pub if_item_taken : {S F X R E : Type 0} {m : Contract S X E} {s t : S} {call : F → X → R → F → Type 0} {pre : F → X → Type 0} {f : F} → Lawful m → m.can_next s → (drawn : Answered X E) → m.steps s drawn t → IsCallable call pre (m.may_give s) f → IfItem (pre f) drawn
-if_item_taken {s = s} {t = t} {f = f} l c (Ok (Some x)) step callable = callable.at f x reaches_here ((l.kept_by_draw s (item x) t c step).answer.0)
+if_item_taken {s = s} {t = t} {f = f} l c (Ok (Some x)) step callable = callable.at f x reaches_reflexive ((l.kept_by_draw s (item x) t c step).answer.0)
 if_item_taken l c (Ok None) step callable = tt
 if_item_taken l c (Err e) step callable = tt
 

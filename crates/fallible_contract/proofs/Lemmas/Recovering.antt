@@ -9,7 +9,7 @@ use Rattle.fallible_contract.specs.Closures.{IsCallable}
 use Rattle.fallible_contract.specs.Failing.{outcome_exchanged, recovering_step}
 use Rattle.fallible_contract.specs.Folds.{HoldsAtEachTurn, goes_on, DriveExit, Driven}
 use Rattle.fallible_contract.specs.Folding.{TurnedBy, FoldingTurn, FoldingTakes}
-use Rattle.fallible_contract.specs.Laws.Closures.{reaches_here, reaches_from, is_callable_after}
+use Rattle.fallible_contract.specs.Laws.Closures.{reaches_reflexive, reaches_from, is_callable_after}
 use Rattle.fallible_contract.specs.Laws.Passing.{done, end_passes, failure_passes, keeps, refuses, closes, leaves_out, passes_of_pass_trace, pass_trace_of_passes}
 use Rattle.fallible_contract.proofs.Lemmas.Contract.{stays_yields}
 use Rattle.fallible_contract.proofs.Lemmas.Folding.{drained_after_first, holds_each_turn_after_first, holds_at_each_turn_into}
@@ -156,13 +156,13 @@ CanRecover m call takes s f = (m.is_finite s × IsFinite (m.remaining s)) × (m.
 module _ {S F X D V C R : Type 0} {m : Contract S X D} (l : Lawful m) (call : F → D → V → F → Type 0) (takes : F → D → Type 0) {turns : C → X → ControlFlow R (Unit {0}) → C → Type 0} {s t : S} {c b : C} {d : D} {f : F} (can : CanRecover m call takes s f) (met : MetFailure m.steps turns s c d t b) where
   -- the closure may be called on it
   pub takes_met_failure : takes f d
-  takes_met_failure = let h = stays_yields l s met.items met.at can.1.0 met.ran in can.1.1.at f d reaches_here (h.may_fail d ((l.kept_by_draw met.at (Err d) t h.can_next met.fails).answer.0))
+  takes_met_failure = let h = stays_yields l s met.items met.at can.1.0 met.ran in can.1.1.at f d reaches_reflexive (h.may_fail d ((l.kept_by_draw met.at (Err d) t h.can_next met.fails).answer.0))
 
   -- and the next fold may be made, over fewer answers
   pub can_recover_after : {v : V} {g : F} → call f d v g → CanRecover m call takes t g
   can_recover_after {v} {g} called = let h = stays_yields l s met.items met.at can.1.0 met.ran in let a = l.kept_by_draw met.at (Err d) t h.can_next met.fails in
       let finite = h.remaining can.0.1 in
-      ((a.is_finite (h.is_finite can.0.0), (a.answer.2 finite.0).0), (a.can_next, is_callable_after (λ e given. h.may_fail e (a.may_fail e given)) (reaches_from d v (h.may_fail d a.answer.0) called reaches_here) can.1.1))
+      ((a.is_finite (h.is_finite can.0.0), (a.answer.2 finite.0).0), (a.can_next, is_callable_after (λ e given. h.may_fail e (a.may_fail e given)) (reaches_from d v (h.may_fail d a.answer.0) called reaches_reflexive) can.1.1))
 
   pub size_remaining_fewer : size (m.remaining t) < size (m.remaining s)
   size_remaining_fewer = let h = stays_yields l s met.items met.at can.1.0 met.ran in let a = l.kept_by_draw met.at (Err d) t h.can_next met.fails in

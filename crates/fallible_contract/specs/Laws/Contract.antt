@@ -17,8 +17,8 @@ module _ {S A E : Type 0} (m : Contract S A E) where
   no_more_remains_after s t (Ok None) h f = h.1 f
   no_more_remains_after s t (Err e) h f = let k = h.2 f in (k.0, omega (arith, k.1))
 
-  no_more_then : (s t u : S) → NoMore m s t → NoMore m t u → NoMore m s u
-  no_more_then s t u p q n b = let j = p n b in let k = q j.0 j.1 in (k.0, k.1, omega (arith, j.2, k.2))
+  no_more_transitive : (s t u : S) → NoMore m s t → NoMore m t u → NoMore m s u
+  no_more_transitive s t u p q n b = let j = p n b in let k = q j.0 j.1 in (k.0, k.1, omega (arith, j.2, k.2))
 
   no_more_remains_then : (s t u : S) → NoMoreRemains m s t → NoMoreRemains m t u → NoMoreRemains m s u
   no_more_remains_then s t u p q f = let j = p f in let k = q j.0 in (k.0, omega (arith, j.1, k.1))
@@ -51,18 +51,18 @@ module _ {S A E : Type 0} {m : Contract S A E} where
   kept_by_draws_then {s} {t} {u} p q = record {
     can_next = q.can_next;
     is_finite = λ e. q.is_finite (p.is_finite e);
-    bound = no_more_then m s t u p.bound q.bound;
+    bound = no_more_transitive m s t u p.bound q.bound;
     remaining = no_more_remains_then m s t u p.remaining q.remaining;
     may_give = λ x h. p.may_give x (q.may_give x h);
     may_fail = λ e h. p.may_fail e (q.may_fail e h);
     lenders = q.lenders ∙ p.lenders;
   }
 
-  pub kept_by_draws_here : {s : S} → m.can_next s → KeptByDraws m s s
-  kept_by_draws_here c = record { can_next = c; is_finite = λ e. e; bound = λ n b. (n, b, omega arith); remaining = λ f. (f, omega arith); may_give = λ x p. p; may_fail = λ e p. p; lenders = refl }
+  pub kept_by_no_draw : {s : S} → m.can_next s → KeptByDraws m s s
+  kept_by_no_draw c = record { can_next = c; is_finite = λ e. e; bound = λ n b. (n, b, omega arith); remaining = λ f. (f, omega arith); may_give = λ x p. p; may_fail = λ e p. p; lenders = refl }
 
   pub kept_by_draws_run : Lawful m → (s : S) (trace : List (Answered A E)) (t : S) → m.can_next s → Run m.steps s trace t → KeptByDraws m s t
-  kept_by_draws_run l s [] t c ran = subst (λ (u : S). KeptByDraws m s u) ran (kept_by_draws_here c)
+  kept_by_draws_run l s [] t c ran = subst (λ (u : S). KeptByDraws m s u) ran (kept_by_no_draw c)
   kept_by_draws_run l s (r ∷ rest) t c ran = let g = l.kept_by_draw s r ran.0 c ran.1 in kept_by_draws_then (kept_by_draws_after g) (kept_by_draws_run l ran.0 rest t g.can_next ran.2)
 
 -- ---- draws from one end
@@ -78,8 +78,8 @@ module _ {S A E : Type 0} {m : Contract S A E} where
   pub stays_after : {s t u : S} {r : Answered A E} → m.steps s r t → KeptByDraw m s r t → Stays m t u → Stays m s u
   stays_after {s} {t} {u} {r} step g h = stays_of_kept_by_draws (kept_by_draws_then (kept_by_draws_after g) (kept_by_draws_of_stays h)) (λ never. h.sure (never_fails_after m s t r step never))
 
-  pub stays_here : {s : S} → m.can_next s → Stays m s s
-  stays_here c = stays_of_kept_by_draws (kept_by_draws_here c) (λ never. never)
+  pub stays_reflexive : {s : S} → m.can_next s → Stays m s s
+  stays_reflexive c = stays_of_kept_by_draws (kept_by_no_draw c) (λ never. never)
 
   pub stays_run : Lawful m → (s : S) (trace : List (Answered A E)) (t : S) → m.can_next s → Run m.steps s trace t → Stays m s t
   stays_run l s trace t c ran = stays_of_kept_by_draws (kept_by_draws_run l s trace t c ran) (never_fails_run m s trace t ran)
@@ -101,8 +101,8 @@ lawful_seen {m = m} view l = record { kept_by_draw = λ s r t c step. kept_by_dr
 module _ {S A E : Type 0} {m : Contract S A E} where
   on_answer_after : (s t u : S) (r : Answered A E) → KeptByDraws m s t → OnAnswer m t r u → OnAnswer m s r u
   on_answer_after s t u (Ok (Some x)) p a = (p.may_give x a.0, (λ n b. let j = p.bound n b in let k = a.1 j.0 j.1 in (k.0, k.1, omega (arith, j.2, k.2))), (λ f. let j = p.remaining f in let k = a.2 j.0 in (k.0, omega (arith, j.1, k.1))))
-  on_answer_after s t u (Ok None) p a = (no_more_then m s t u p.bound a.0, no_more_remains_then m s t u p.remaining a.1)
-  on_answer_after s t u (Err e) p a = (p.may_fail e a.0, no_more_then m s t u p.bound a.1, (λ f. let j = p.remaining f in let k = a.2 j.0 in (k.0, omega (arith, j.1, k.1))))
+  on_answer_after s t u (Ok None) p a = (no_more_transitive m s t u p.bound a.0, no_more_remains_then m s t u p.remaining a.1)
+  on_answer_after s t u (Err e) p a = (p.may_fail e a.0, no_more_transitive m s t u p.bound a.1, (λ f. let j = p.remaining f in let k = a.2 j.0 in (k.0, omega (arith, j.1, k.1))))
 
   -- a draw keeps the contract also from where nothing more was to come before it
   pub kept_by_draw_after : {s t u : S} {r : Answered A E} → KeptByDraws m s t → KeptByDraw m t r u → KeptByDraw m s r u

@@ -5,7 +5,7 @@ use Rattle.std.specs.Fn.{Mut}
 use Rattle.std.specs.Borrow.{Bor}
 use Rattle.fallible_contract.specs.Traces.{Answered, Run, item, failure, end}
 use Rattle.fallible_contract.specs.Contract.{Contract, Lawful, AtMost, seen_as}
-use Rattle.fallible_contract.specs.Closures.{call_at}
+use Rattle.fallible_contract.specs.Closures.{call_by_reference}
 use Rattle.fallible_contract.specs.Lists.{Acts}
 use Rattle.fallible_contract.specs.Folds.{HoldsAtEachTurn, CountExit, FoldExit, FoldDrains}
 use Rattle.fallible_contract.specs.Passing.{PassTrace}
@@ -143,10 +143,10 @@ closure_acts_from : {F X R : Type 0} (call : F → X → R → F → Type 0) (f 
 closure_acts_from call f h acts k x v g e c = acts x v g (subst (λ z. call z x v g) e c)
 
 module _ {I F X E : Type 0} (m : Contract I X E) (g : Mut F (Bor X × Unit {0}) (Result Bool E)) (h : X → Bool) (f : F) (it : I) where
-  pub filtered_run : (s t : Filter I F) (xs : List X) (last : Answered X E) → Acts (call_at g) f (λ x. Ok (h x)) → filter_parts s ≡ (it, f) → Run (seen_as filter_parts (filter_contract m g)).steps s (map item xs ++ last ∷ []) t → FilteredRun m.steps h it xs last t.it
+  pub filtered_run : (s t : Filter I F) (xs : List X) (last : Answered X E) → Acts (call_by_reference g) f (λ x. Ok (h x)) → filter_parts s ≡ (it, f) → Run (seen_as filter_parts (filter_contract m g)).steps s (map item xs ++ last ∷ []) t → FilteredRun m.steps h it xs last t.it
   filtered_run s t xs last acts parts ran =
       let at : s.it ≡ it = ap (λ p. p.0) parts in
-      subst (λ (i : I). FilteredRun m.steps h i xs last t.it) at (filtered_below_of_run m.steps (call_at g) f h (closure_acts_from (call_at g) f (λ x. Ok (h x)) acts) xs last (filter_parts s) (filter_parts t) (ap (λ p. p.1) parts) (run_seen filter_parts _ (map item xs ++ last ∷ []) s t ran))
+      subst (λ (i : I). FilteredRun m.steps h i xs last t.it) at (filtered_below_of_run m.steps (call_by_reference g) f h (closure_acts_from (call_by_reference g) f (λ x. Ok (h x)) acts) xs last (filter_parts s) (filter_parts t) (ap (λ p. p.1) parts) (run_seen filter_parts _ (map item xs ++ last ∷ []) s t ran))
 
 -- ---- `Take`
 

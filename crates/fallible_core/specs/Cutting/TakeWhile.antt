@@ -5,7 +5,7 @@ use Rattle.std.specs.Fn.{Mut}
 use Rattle.std.specs.Borrow.{Bor}
 use Rattle.fallible_contract.specs.Traces.{Answered, Run, item, failure, end}
 use Rattle.fallible_contract.specs.Contract.{Contract}
-use Rattle.fallible_contract.specs.Closures.{Calls, IsCallable, call_at, takes_at}
+use Rattle.fallible_contract.specs.Closures.{Calls, IsCallable, call_by_reference, takes_by_reference}
 use Rattle.fallible_contract.specs.Passing.{Place, asked, failure_at, end_at, source_answer, call_of, passing_contract}
 use Rattle.fallible_contract.specs.Hints.{upper_alone}
 use Rattle.fallible_contract.specs.Closing.{ClosingTrace, closing_contract}
@@ -48,7 +48,7 @@ place_drawn steps call p x q = steps p.0 (source_answer x) q.0 × Calls call p.1
 
 -- `TakeWhile`'s contract, with the flag whether an item was rejected: the predicate may be called on each item that may come, and until then the hint has the source's upper bound alone.
 abbrev pub take_while_contract : {S F X E : Type 0} → Contract S X E → Mut F (Bor X × Unit {0}) (Result Bool E) → Contract ((S × F) × Bool) X E
-take_while_contract m g = closing_contract (passing_contract m (call_at g) (λ P f. IsCallable (call_at g) (takes_at g) P f) take_while_outcome (λ p h. upper_alone m p.0 h)) (place_drawn m.steps (call_at g)) taken_answer is_refused
+take_while_contract m g = closing_contract (passing_contract m (call_by_reference g) (λ P f. IsCallable (call_by_reference g) (takes_by_reference g) P f) take_while_outcome (λ p h. upper_alone m p.0 h)) (place_drawn m.steps (call_by_reference g)) taken_answer is_refused
 
 -- the source
 abbrev pub take_while_source : {I P : Type 0} → TakeWhile I P → I

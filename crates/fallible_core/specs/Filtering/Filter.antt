@@ -4,7 +4,7 @@ use Rattle.std.specs.Fn.{Mut}
 use Rattle.std.specs.Borrow.{Bor}
 use Rattle.fallible_contract.specs.Traces.{Answered}
 use Rattle.fallible_contract.specs.Contract.{Contract}
-use Rattle.fallible_contract.specs.Closures.{call_at, takes_at, IsCallable}
+use Rattle.fallible_contract.specs.Closures.{call_by_reference, takes_by_reference, IsCallable}
 use Rattle.fallible_contract.specs.Passing.{PassTrace, leaving_out_contract}
 use Rattle.fallible_contract.specs.Folding.{FoldingTurn}
 pub use Rattle.fallible_contract.specs.Passing.{tested_outcome}
@@ -16,11 +16,11 @@ use Rattle.fallible_core.specs.declared.filtering.filter.Filter.{Filter}
 
 -- `Filter`: the source's trace without the rejected items, where an item whose predicate failed is replaced by that failure; it doesn't end in a rejected item.
 abbrev pub FilterTrace : {S F X E : Type 0} → (S → Answered X E → S → Type 0) → Mut F (Bor X × Unit {0}) (Result Bool E) → S × F → List (Answered X E) → S × F → Type 0
-FilterTrace steps g p trace q = PassTrace steps (call_at g) tested_outcome p trace q
+FilterTrace steps g p trace q = PassTrace steps (call_by_reference g) tested_outcome p trace q
 
 -- `Filter`'s contract: its hint has the source's upper bound alone.
 abbrev pub filter_contract : {S F X E : Type 0} → Contract S X E → Mut F (Bor X × Unit {0}) (Result Bool E) → Contract (S × F) X E
-filter_contract m g = leaving_out_contract m (call_at g) (λ P f. IsCallable (call_at g) (takes_at g) P f) tested_outcome (λ p h. upper_alone m p.0 h)
+filter_contract m g = leaving_out_contract m (call_by_reference g) (λ P f. IsCallable (call_by_reference g) (takes_by_reference g) P f) tested_outcome (λ p h. upper_alone m p.0 h)
 
 -- the source
 abbrev pub filter_source : {I F : Type 0} → Filter I F → I

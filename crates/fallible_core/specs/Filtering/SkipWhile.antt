@@ -5,7 +5,7 @@ use Rattle.std.specs.Borrow.{Bor}
 use Rattle.std.specs.List.{filter_map}
 use Rattle.fallible_contract.specs.Traces.{Answered, Run, LastKept}
 use Rattle.fallible_contract.specs.Contract.{Contract}
-use Rattle.fallible_contract.specs.Closures.{Calls, IsCallable, call_at, takes_at}
+use Rattle.fallible_contract.specs.Closures.{Calls, IsCallable, call_by_reference, takes_by_reference}
 use Rattle.fallible_contract.specs.Passing.{Place, asked, failure_at, end_at, source_answer, call_of, answer_at, leaving_out_contract, has_answer}
 use Rattle.fallible_contract.specs.Hints.{upper_alone}
 use Rattle.fallible_contract.specs.declared.passing.Outcome.{Outcome}
@@ -76,7 +76,7 @@ skip_while_hints m p h = MatchBool (p.1).0 (m.hints p.0 h) (upper_alone m p.0 h)
 
 -- `SkipWhile`'s contract.
 abbrev pub skip_while_contract : {S F X E : Type 0} → Contract S X E → Mut F (Bor X × Unit {0}) (Result Bool E) → Contract (S × (Bool × F)) X E
-skip_while_contract m g = leaving_out_contract m (skip_call (call_at g)) (λ P p. IsCallable (skip_call (call_at g)) (skip_takes (takes_at g)) P p) skip_while_outcome (skip_while_hints m)
+skip_while_contract m g = leaving_out_contract m (skip_call (call_by_reference g)) (λ P p. IsCallable (skip_call (call_by_reference g)) (skip_takes (takes_by_reference g)) P p) skip_while_outcome (skip_while_hints m)
 
 -- the source
 abbrev pub skip_while_source : {I P : Type 0} → SkipWhile I P → I

@@ -4,7 +4,7 @@ use Rattle.std.specs.Fn.{Mut}
 use Rattle.std.specs.Borrow.{Bor}
 use Rattle.fallible_contract.specs.Traces.{Answered}
 use Rattle.fallible_contract.specs.Contract.{Contract}
-use Rattle.fallible_contract.specs.Closures.{call_at, takes_at, IsCallable}
+use Rattle.fallible_contract.specs.Closures.{call_by_reference, takes_by_reference, IsCallable}
 use Rattle.fallible_contract.specs.Passing.{PassTrace, passing_contract}
 use Rattle.fallible_contract.specs.declared.passing.Outcome.{Outcome}
 use Rattle.fallible_contract.specs.declared.passing.Outcome.TheVariants.{Kept, Failure}
@@ -17,11 +17,11 @@ inspect_outcome x (Err e) = Failure e
 
 -- `Inspect`: the source's trace, where each item on which the closure failed is replaced by that failure.
 abbrev pub InspectTrace : {S F X E : Type 0} → (S → Answered X E → S → Type 0) → Mut F (Bor X × Unit {0}) (Result (Unit {0}) E) → S × F → List (Answered X E) → S × F → Type 0
-InspectTrace steps g p trace q = PassTrace steps (call_at g) inspect_outcome p trace q
+InspectTrace steps g p trace q = PassTrace steps (call_by_reference g) inspect_outcome p trace q
 
 -- `Inspect`'s contract, with the source's hint.
 abbrev pub inspect_contract : {S F X E : Type 0} → Contract S X E → Mut F (Bor X × Unit {0}) (Result (Unit {0}) E) → Contract (S × F) X E
-inspect_contract m g = passing_contract m (call_at g) (λ P f. IsCallable (call_at g) (takes_at g) P f) inspect_outcome (λ p h. m.hints p.0 h)
+inspect_contract m g = passing_contract m (call_by_reference g) (λ P f. IsCallable (call_by_reference g) (takes_by_reference g) P f) inspect_outcome (λ p h. m.hints p.0 h)
 
 -- the source
 abbrev pub inspect_source : {I F : Type 0} → Inspect I F → I

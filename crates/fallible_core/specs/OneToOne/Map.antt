@@ -3,7 +3,7 @@ use Rattle.std.specs.Prelude.{Result, Ok, Err, List, [], ◌∷◌}
 use Rattle.std.specs.Fn.{Mut}
 use Rattle.fallible_contract.specs.Traces.{Answered}
 use Rattle.fallible_contract.specs.Contract.{Contract}
-use Rattle.fallible_contract.specs.Closures.{call_on, takes_on, IsCallable}
+use Rattle.fallible_contract.specs.Closures.{call_by_value, takes_by_value, IsCallable}
 use Rattle.fallible_contract.specs.Passing.{PassTrace, passing_contract}
 use Rattle.fallible_contract.specs.declared.passing.Outcome.{Outcome}
 use Rattle.fallible_contract.specs.declared.passing.Outcome.TheVariants.{Kept, Failure}
@@ -16,11 +16,11 @@ map_outcome x (Err e) = Failure e
 
 -- `Map`: the source's trace, where each item is replaced by the closure's answer on it.
 abbrev pub MapTrace : {S F X B E : Type 0} → (S → Answered X E → S → Type 0) → Mut F (X × Unit {0}) (Result B E) → S × F → List (Answered B E) → S × F → Type 0
-MapTrace steps g p trace q = PassTrace steps (call_on g) map_outcome p trace q
+MapTrace steps g p trace q = PassTrace steps (call_by_value g) map_outcome p trace q
 
 -- `Map`'s contract, with the source's hint.
 abbrev pub map_contract : {S F X B E : Type 0} → Contract S X E → Mut F (X × Unit {0}) (Result B E) → Contract (S × F) B E
-map_contract m g = passing_contract m (call_on g) (λ P f. IsCallable (call_on g) (takes_on g) P f) map_outcome (λ p h. m.hints p.0 h)
+map_contract m g = passing_contract m (call_by_value g) (λ P f. IsCallable (call_by_value g) (takes_by_value g) P f) map_outcome (λ p h. m.hints p.0 h)
 
 -- the source
 abbrev pub map_source : {I F : Type 0} → Map I F → I

@@ -3,7 +3,7 @@ use Rattle.std.specs.Prelude.{List}
 use Rattle.std.specs.Fn.{Mut}
 use Rattle.fallible_contract.specs.Traces.{Answered}
 use Rattle.fallible_contract.specs.Contract.{Contract}
-use Rattle.fallible_contract.specs.Closures.{call_on, takes_on}
+use Rattle.fallible_contract.specs.Closures.{call_by_value, takes_by_value}
 use Rattle.fallible_contract.specs.Failing.{FailingTrace, failing_contract}
 use Rattle.fallible_core.specs.declared.one_to_one.map_err.MapErr.{MapErr}
 
@@ -13,7 +13,7 @@ MapErrTrace steps call p trace q = FailingTrace steps call p trace q
 
 -- `MapErr`'s contract: the closure may be called on each failure that may come, in each state that such calls bring it to; all else is the source's.
 abbrev pub map_err_contract : {S F X D E : Type 0} → Contract S X D → Mut F (D × Unit {0}) E → Contract (S × F) X E
-map_err_contract m g = failing_contract m (call_on g) (takes_on g)
+map_err_contract m g = failing_contract m (call_by_value g) (takes_by_value g)
 
 -- the source
 abbrev pub map_err_source : {I F : Type 0} → MapErr I F → I

@@ -1,7 +1,7 @@
 -- `MapWhile`, which maps each item, and ends where its closure returns `None`.
 use Rattle.std.specs.Prelude.{Option, Result, Ok, Err, List, [], ◌∷◌}
 use Rattle.std.specs.Fn.{Mut}
-use Rattle.fallible_contract.specs.Closures.{call_on, takes_on, IsCallable}
+use Rattle.fallible_contract.specs.Closures.{call_by_value, takes_by_value, IsCallable}
 use Rattle.fallible_contract.specs.Contract.{Contract}
 use Rattle.fallible_contract.specs.Hints.{upper_alone}
 use Rattle.fallible_contract.specs.Passing.{PassTrace, passing_contract}
@@ -11,11 +11,11 @@ use Rattle.fallible_core.specs.declared.one_to_one.map_while.MapWhile.{MapWhile}
 
 -- `MapWhile`: the source's trace, where each item is replaced by the closure's answer on it, none being an end.
 abbrev pub MapWhileTrace : {S F X B E : Type 0} → (S → Answered X E → S → Type 0) → Mut F (X × Unit {0}) (Result (Option B) E) → S × F → List (Answered B E) → S × F → Type 0
-MapWhileTrace steps g p trace q = PassTrace steps (call_on g) scan_outcome p trace q
+MapWhileTrace steps g p trace q = PassTrace steps (call_by_value g) scan_outcome p trace q
 
 -- `MapWhile`'s contract: its hint has the source's upper bound alone, since none is an end.
 abbrev pub map_while_contract : {S F X B E : Type 0} → Contract S X E → Mut F (X × Unit {0}) (Result (Option B) E) → Contract (S × F) B E
-map_while_contract m g = passing_contract m (call_on g) (λ P f. IsCallable (call_on g) (takes_on g) P f) scan_outcome (λ p h. upper_alone m p.0 h)
+map_while_contract m g = passing_contract m (call_by_value g) (λ P f. IsCallable (call_by_value g) (takes_by_value g) P f) scan_outcome (λ p h. upper_alone m p.0 h)
 
 -- the source
 abbrev pub map_while_source : {I F : Type 0} → MapWhile I F → I

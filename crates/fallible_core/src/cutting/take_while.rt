@@ -1,7 +1,7 @@
 // The adapter that ends at the first item that a predicate rejects.
 ghost use Rattle.std.specs.Prelude.{Result, Option};
 ghost use Rattle.fallible_contract.specs.Contract.{seen_as};
-ghost use Rattle.fallible_contract.specs.Closures.{call_at, takes_at};
+ghost use Rattle.fallible_contract.specs.Closures.{call_by_reference, takes_by_reference};
 ghost use Rattle.fallible_contract.specs.Laws.Contract.{lawful_seen};
 ghost use Rattle.fallible_core.specs.Cutting.TakeWhile.{refusing_call, take_while_contract, take_while_outcome, take_while_parts};
 ghost use Rattle.fallible_core.specs.Laws.Cutting.TakeWhile.{lawful_take_while};
@@ -69,9 +69,9 @@ impl<X: Drop, E, P: FnMut(&X) -> Result<bool, E>> Pass<(bool, P), X, E> for Take
 
     type Answer = Result<bool, E>;
 
-    ghost can_pass = { λ _ p x. takes_at P.FnMut p.1 x };
+    ghost can_pass = { λ _ p x. takes_by_reference P.FnMut p.1 x };
 
-    ghost call = { λ _ p x v q. refusing_call (call_at P.FnMut) p x v q };
+    ghost call = { λ _ p x v q. refusing_call (call_by_reference P.FnMut) p x v q };
 
     ghost outcome = { λ _ x v. take_while_outcome x v };
 

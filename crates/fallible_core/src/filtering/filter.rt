@@ -1,7 +1,7 @@
 // The adapter that leaves out the items that a predicate rejects.
 ghost use Rattle.std.specs.Prelude.{Result, Option};
 ghost use Rattle.fallible_contract.specs.Contract.{seen_as};
-ghost use Rattle.fallible_contract.specs.Closures.{call_at, takes_at};
+ghost use Rattle.fallible_contract.specs.Closures.{call_by_reference, takes_by_reference};
 ghost use Rattle.fallible_contract.specs.Ends.{from_back, ends_of, ends_seen_as};
 ghost use Rattle.fallible_contract.specs.Laws.Contract.{lawful_seen};
 ghost use Rattle.fallible_contract.specs.Laws.Ends.{lawful_ends_seen};
@@ -103,9 +103,9 @@ impl<X: Drop, E, F: FnMut(&X) -> Result<bool, E>> Pass<F, X, E> for FilterPass {
 
     type Answer = Result<bool, E>;
 
-    ghost can_pass = { λ _ f x. takes_at F.FnMut f x };
+    ghost can_pass = { λ _ f x. takes_by_reference F.FnMut f x };
 
-    ghost call = { λ _ f x v g. call_at F.FnMut f x v g };
+    ghost call = { λ _ f x v g. call_by_reference F.FnMut f x v g };
 
     ghost outcome = { λ _ x v. tested_outcome x v };
 

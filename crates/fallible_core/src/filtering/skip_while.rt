@@ -1,6 +1,6 @@
 // The adapter that skips items up to the first one that a predicate rejects.
 ghost use Rattle.std.specs.Prelude.{Some, Result, Option};
-ghost use Rattle.fallible_contract.specs.Closures.{call_at, takes_at};
+ghost use Rattle.fallible_contract.specs.Closures.{call_by_reference, takes_by_reference};
 ghost use Rattle.fallible_contract.specs.Contract.{seen_as};
 ghost use Rattle.fallible_contract.specs.Passing.{PassTest};
 ghost use Rattle.fallible_contract.specs.Laws.Contract.{lawful_seen};
@@ -72,9 +72,9 @@ where
 struct SkipWhileTest;
 
 impl<X, E, P: FnMut(&X) -> Result<bool, E>> Test<(bool, P), X, E> for SkipWhileTest {
-    ghost can_test = { λ _ state x. skip_takes (takes_at P.FnMut) state x };
+    ghost can_test = { λ _ state x. skip_takes (takes_by_reference P.FnMut) state x };
 
-    ghost tests = { λ _ state x v d. PassTest (skip_call (call_at P.FnMut)) skip_while_outcome
+    ghost tests = { λ _ state x v d. PassTest (skip_call (call_by_reference P.FnMut)) skip_while_outcome
         state x v d };
 
     #[inline(always)]

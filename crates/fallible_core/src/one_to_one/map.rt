@@ -1,7 +1,7 @@
 // The adapter that calls a closure on each item.
 ghost use Rattle.std.specs.Prelude.{Some, Result, Option};
 ghost use Rattle.fallible_contract.specs.Contract.{seen_as};
-ghost use Rattle.fallible_contract.specs.Closures.{call_on, takes_on};
+ghost use Rattle.fallible_contract.specs.Closures.{call_by_value, takes_by_value};
 ghost use Rattle.fallible_contract.specs.Ends.{from_back, ends_of, ends_seen_as};
 ghost use Rattle.fallible_contract.specs.Laws.Contract.{lawful_seen};
 ghost use Rattle.fallible_contract.specs.Laws.Ends.{lawful_ends_seen};
@@ -91,9 +91,9 @@ impl<X, B, E, F: FnMut(X) -> Result<B, E>> Pass<F, X, E> for MapPass {
 
     type Answer = Result<B, E>;
 
-    ghost can_pass = { λ _ f x. takes_on F.FnMut f x };
+    ghost can_pass = { λ _ f x. takes_by_value F.FnMut f x };
 
-    ghost call = { λ _ f x v g. call_on F.FnMut f x v g };
+    ghost call = { λ _ f x v g. call_by_value F.FnMut f x v g };
 
     ghost outcome = { λ _ x v. map_outcome x v };
 

@@ -1,7 +1,7 @@
 // The adapter that calls a closure on each failure.
 ghost use Rattle.std.specs.Prelude.{Result, Option};
 ghost use Rattle.fallible_contract.specs.Contract.{seen_as};
-ghost use Rattle.fallible_contract.specs.Closures.{call_on, takes_on};
+ghost use Rattle.fallible_contract.specs.Closures.{call_by_value, takes_by_value};
 ghost use Rattle.fallible_contract.specs.Ends.{from_back, ends_of, ends_seen_as};
 ghost use Rattle.fallible_contract.specs.Laws.Contract.{lawful_seen};
 ghost use Rattle.fallible_contract.specs.Laws.Ends.{lawful_ends_seen};
@@ -99,9 +99,9 @@ struct MapErrFail;
 impl<D, E, F: FnMut(D) -> E> Fail<F, D> for MapErrFail {
     type Failure = E;
 
-    ghost can_fail = { λ _ f d. takes_on F.FnMut f d };
+    ghost can_fail = { λ _ f d. takes_by_value F.FnMut f d };
 
-    ghost call = { λ _ f d e g. call_on F.FnMut f d e g };
+    ghost call = { λ _ f d e g. call_by_value F.FnMut f d e g };
 
     #[inline(always)]
     fn fail(&self, state: &mut F, failure: D) -> E {

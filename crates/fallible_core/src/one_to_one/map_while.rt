@@ -1,6 +1,6 @@
 // The adapter that maps each item, and returns `Ok(None)` where its closure returns `None`.
 ghost use Rattle.fallible_contract.specs.Contract.{seen_as};
-ghost use Rattle.fallible_contract.specs.Closures.{call_on, takes_on};
+ghost use Rattle.fallible_contract.specs.Closures.{call_by_value, takes_by_value};
 ghost use Rattle.fallible_contract.specs.Laws.Contract.{lawful_seen};
 ghost use Rattle.fallible_core.specs.OneToOne.Scan.{scan_outcome};
 ghost use Rattle.fallible_core.specs.OneToOne.MapWhile.{map_while_contract, map_while_parts};
@@ -55,9 +55,9 @@ impl<X, B, E, F: FnMut(X) -> Result<Option<B>, E>> Pass<F, X, E> for MapWhilePas
 
     type Answer = Result<Option<B>, E>;
 
-    ghost can_pass = { λ _ f x. takes_on F.FnMut f x };
+    ghost can_pass = { λ _ f x. takes_by_value F.FnMut f x };
 
-    ghost call = { λ _ f x v g. call_on F.FnMut f x v g };
+    ghost call = { λ _ f x v g. call_by_value F.FnMut f x v g };
 
     ghost outcome = { λ _ x v. scan_outcome x v };
 

@@ -31,9 +31,9 @@ answer_of_side Front l = answer_of (nth_of 0 l)
 answer_of_side Back l = answer_of (nth_of 0 (reverse l))
 
 -- what such a draw leaves: the list without its first, or without its last
-abbrev rest_at : {A E : Type 0} → Side → List (Result A E) → List (Result A E)
-rest_at Front l = rest_first l
-rest_at Back l = reverse (rest_first (reverse l))
+abbrev rest_after_side : {A E : Type 0} → Side → List (Result A E) → List (Result A E)
+rest_after_side Front l = rest_first l
+rest_after_side Back l = reverse (rest_first (reverse l))
 
 module _ {A E : Type 0} where
   -- a list is empty, or has a last
@@ -136,7 +136,7 @@ module _ {A E : Type 0} where
   drop_take_nil i (suc n) = drop-nil i
 
   -- what is drawn at the back of a list with a last
-  answer_and_rest_at_back : (k : List (Result A E)) (y : Result A E) → (answer_of_side Back (k ++ y ∷ []) ≡ answer_of (result_answer y)) × (rest_at Back (k ++ y ∷ []) ≡ k)
+  answer_and_rest_at_back : (k : List (Result A E)) (y : Result A E) → (answer_of_side Back (k ++ y ∷ []) ≡ answer_of (result_answer y)) × (rest_after_side Back (k ++ y ∷ []) ≡ k)
   unfolding rest_first
   answer_and_rest_at_back k y = let last = reverse-append k (y ∷ []) in
       (ap (λ l. answer_of (nth_of 0 l)) last ∙ answer_of_nth_of_0 y (reverse k), ap (λ l. reverse (rest_first l)) last ∙ reverse-reverse k)
@@ -151,7 +151,7 @@ module _ {A E : Type 0} where
   rest_ends_nil l = let all : length l - 0 ≡ length l = omega arith in ap (λ n. take n l) all ∙ take-length l
 
   abbrev AnswersAfterOneSide : Side → List Side → List (Result A E) → Type 0
-  AnswersAfterOneSide side sides l = (answers_at_ends (side ∷ sides) l ≡ answer_of_side side l ∷ answers_at_ends sides (rest_at side l)) × (rest_ends (side ∷ sides) l ≡ rest_ends sides (rest_at side l))
+  AnswersAfterOneSide side sides l = (answers_at_ends (side ∷ sides) l ≡ answer_of_side side l ∷ answers_at_ends sides (rest_after_side side l)) × (rest_ends (side ∷ sides) l ≡ rest_ends sides (rest_after_side side l))
 
   one_more_of_none : (side : Side) (sides : List Side) → AnswersAfterOneSide side sides []
   unfolding answers_at_ends rest_ends nth_of rest_first by_sides told
@@ -169,13 +169,13 @@ module _ {A E : Type 0} where
   ]
 
 module _ {S A E : Type 0} (front back : S → Answered A E → S → Type 0) where
-  answer_and_rest_at_side : (side : Side) (s t : S) (r : Answered A E) (l : List (Result A E)) → ListsBothEnds front back s l → step_at front back side s r t → (answer_of r ≡ answer_of_side side l) × ListsBothEnds front back t (rest_at side l)
+  answer_and_rest_at_side : (side : Side) (s t : S) (r : Answered A E) (l : List (Result A E)) → ListsBothEnds front back s l → step_at front back side s r t → (answer_of r ≡ answer_of_side side l) × ListsBothEnds front back t (rest_after_side side l)
   answer_and_rest_at_side Front s t r l i step = let d = rest_at_front l i step in (ap answer_of d.0, d.1)
   answer_and_rest_at_side Back s t r l i step = let d = rest_at_back l i step in (ap answer_of d.0, d.1)
 
   told_at_ends : (pairs : List (Side × Answered A E)) (l : List (Result A E)) (s t : S) → ListsBothEnds front back s l → RunAtEnds front back s pairs t → (map (λ p. answer_of p.1) pairs ≡ answers_at_ends (map (λ p. p.0) pairs) l) × ListsBothEnds front back t (rest_ends (map (λ p. p.0) pairs) l)
   told_at_ends [] l s t i ran = (answers_at_ends_nil l, subst (λ (u : S). ListsBothEnds front back u (rest_ends [] l)) ran (subst (λ (k : List (Result A E)). ListsBothEnds front back s k) (sym (rest_ends_nil l)) i))
-  told_at_ends (p ∷ pairs) l s t i ran = let d = answer_and_rest_at_side p.0 s ran.0 p.1 l i ran.1 in let rest = told_at_ends pairs (rest_at p.0 l) ran.0 t d.1 ran.2 in let more = one_more p.0 (map (λ q. q.0) pairs) l in
+  told_at_ends (p ∷ pairs) l s t i ran = let d = answer_and_rest_at_side p.0 s ran.0 p.1 l i ran.1 in let rest = told_at_ends pairs (rest_after_side p.0 l) ran.0 t d.1 ran.2 in let more = one_more p.0 (map (λ q. q.0) pairs) l in
       (ap (λ a. a ∷ map (λ q. answer_of q.1) pairs) d.0 ∙ ap (λ k. answer_of_side p.0 l ∷ k) rest.0 ∙ sym more.0, subst (λ (k : List (Result A E)). ListsBothEnds front back t k) (sym more.1) rest.1)
 
   pub answers_at_told : {s t : S} {sides : List Side} {values : List (Answer A E)} (l : List (Result A E)) → IsAnswersAt front back s sides values t → ListsBothEnds front back s l → (values ≡ answers_at_ends sides l) × ListsBothEnds front back t (rest_ends sides l)

@@ -13,7 +13,7 @@ use Rattle.fallible_contract.specs.Lists.{AlwaysGives, Lists}
 use Rattle.fallible_contract.specs.Laws.Contract.{kept_by_draws_run}
 -- a lemma of `fallible_core`, reexported
 pub use Rattle.fallible_core.proofs.Lemmas.Bridges.{unwrapped_items}
-use Rattle.fallible_iterator.specs.Sources.Std.{std_step, element_by, IsAskable, IsAskableAtEnds}
+use Rattle.fallible_iterator.specs.Sources.Std.{std_step, std_element, IsAskable, IsAskableAtEnds}
 use Rattle.fallible_contract.specs.declared.answers.Side.{Side}
 use Rattle.fallible_contract.specs.declared.answers.Side.TheVariants.{Front, Back}
 
@@ -24,7 +24,7 @@ module _ {A E : Type 0} where
   option_transpose_result_transpose (Err e) = refl
 
   -- what `convert` makes of an element is the answer that the element is
-  converted_back : (r : Answered A E) → option_transpose (element_by {A = A} {E = E} Ok Err r) ≡ r
+  converted_back : (r : Answered A E) → option_transpose (std_element {A = A} {E = E} Ok Err r) ≡ r
   converted_back (Ok (Some x)) = refl
   converted_back (Ok None) = refl
   converted_back (Err e) = refl
@@ -97,7 +97,7 @@ module _ {V S A E : Type 0} (m : Contract S A E) (view : V → S) where
   }
 
   -- each draw makes the progress that std requires
-  makes_progress_converted : Lawful m → (s : V) (r : Answered A E) (t : V) → m.can_next (view s) → m.steps (view s) r (view t) → MakesProgress can_convert remaining_converted s (element_by {A = A} {E = E} Ok Err r) t
+  makes_progress_converted : Lawful m → (s : V) (r : Answered A E) (t : V) → m.can_next (view s) → m.steps (view s) r (view t) → MakesProgress can_convert remaining_converted s (std_element {A = A} {E = E} Ok Err r) t
   makes_progress_converted l s (Ok (Some x)) t c h = let g = l.kept_by_draw (view s) (Ok (Some x)) (view t) c h in record { on = λ f. let less = g.answer.2 f in (g.can_next, less.0, less.1); keeps = g.can_next; rests = λ f. tt }
   makes_progress_converted l s (Ok None) t c h = let g = l.kept_by_draw (view s) (Ok None) (view t) c h in record { on = λ f. tt; keeps = tt; rests = λ f. (g.answer.1 f).0 }
   makes_progress_converted l s (Err e) t c h = let g = l.kept_by_draw (view s) (Err e) (view t) c h in record { on = λ f. let less = g.answer.2 f in (g.can_next, less.0, less.1); keeps = g.can_next; rests = λ f. tt }

@@ -35,17 +35,17 @@ module _ {E : Type 0} where
 
 module _ {A E : Type 0} (eq : A → A → Bool) (cmp : A → A → Ordering) (agree : (x y : A) → eq x y ≡ is_eq (cmp x y)) where
   -- where items are equal just where their order is, so are lists
-  read_as_compared : (a b : List (Result A E)) → read_as reads_eq (compared (by_eq eq) a b) ≡ read_as reads_eq (compared (by_cmp cmp) a b)
+  compared_alike_by_eq_and_cmp : (a b : List (Result A E)) → read_as reads_eq (compared (by_eq eq) a b) ≡ read_as reads_eq (compared (by_cmp cmp) a b)
   unfolding compared
-  read_as_compared (Err e ∷ a) b = refl
-  read_as_compared [] [] = refl
-  read_as_compared [] (Ok y ∷ b) = refl
-  read_as_compared [] (Err e ∷ b) = refl
-  read_as_compared (Ok x ∷ a) [] = refl
-  read_as_compared (Ok x ∷ a) (Ok y ∷ b) = read_as_unless_equal (eq x y) (cmp x y) (compared (by_eq eq) a b) (compared (by_cmp cmp) a b) (agree x y) (read_as_compared a b)
-  read_as_compared (Ok x ∷ a) (Err e ∷ b) = refl
+  compared_alike_by_eq_and_cmp (Err e ∷ a) b = refl
+  compared_alike_by_eq_and_cmp [] [] = refl
+  compared_alike_by_eq_and_cmp [] (Ok y ∷ b) = refl
+  compared_alike_by_eq_and_cmp [] (Err e ∷ b) = refl
+  compared_alike_by_eq_and_cmp (Ok x ∷ a) [] = refl
+  compared_alike_by_eq_and_cmp (Ok x ∷ a) (Ok y ∷ b) = read_as_unless_equal (eq x y) (cmp x y) (compared (by_eq eq) a b) (compared (by_cmp cmp) a b) (agree x y) (compared_alike_by_eq_and_cmp a b)
+  compared_alike_by_eq_and_cmp (Ok x ∷ a) (Err e ∷ b) = refl
 
   pub eq_reads_cmp : (a b : List (Result A E)) (equal : Result Bool E) (order : Result Ordering E) → equal ≡ read_as reads_eq (compared (by_eq eq) a b) → read_as (λ o. Some o) order ≡ compared (by_cmp cmp) a b → (equal ≡ read_as is_eq order) × (equal ≡ Ok true ↔ order ≡ Ok Equal)
   eq_reads_cmp a b equal order p q =
-      let same : equal ≡ read_as is_eq order = p ∙ read_as_compared a b ∙ sym (ap (read_as reads_eq) q) ∙ read_as_reads_eq order in
+      let same : equal ≡ read_as is_eq order = p ∙ compared_alike_by_eq_and_cmp a b ∙ sym (ap (read_as reads_eq) q) ∙ read_as_reads_eq order in
       (same, ((λ e. (true_where_equal order).0 (sym same ∙ e)), (λ e. same ∙ (true_where_equal order).1 e)))

@@ -5,7 +5,7 @@ use Rattle.std.specs.Fn.{Mut}
 use Rattle.std.proofs.Common.{refl, sym, ap, subst, ◌∙◌, arith, length-append, ◌⊎◌, inl, inr}
 use Rattle.fallible_contract.specs.Traces.{Answered, Run, item, end}
 use Rattle.fallible_contract.specs.Contract.{Contract, seen_as, unbounded_contract}
-use Rattle.fallible_contract.specs.Closures.{call_at}
+use Rattle.fallible_contract.specs.Closures.{call_by_reference}
 use Rattle.fallible_contract.specs.Folds.{FoldDrains, FoldExit, NthDrains, NthExit}
 use Rattle.fallible_contract.specs.Lists.{Acts, AlwaysGives, Lists, nth_of, on_value, rest_first, rest_nth}
 use Rattle.fallible_core.specs.Borrowed.{borrowed}
@@ -123,7 +123,7 @@ lent_filter_steps steps g = (seen_as filter_parts (filter_contract (seen_as take
 
 module _ {S P A E : Type 0} {steps : S → Answered A E → S → Type 0} {g : Mut P (Bor A × Unit {0}) (Result Bool E)} {it : MutBor S} {tk : Take (MutBor S)} {p : P} {s t : Filter (Take (MutBor S)) P} {x : S} {k : ℕ} {l : List (Result A E)} {B E' F : Type 0} {call : F → B → A → Result B E' → F → Type 0} {from : E → E' → Type 0} {b v : B} {f : F} (h : A → Bool) where
   -- After a fold over `take(k + 1).filter(p)` of a borrow that came to its end, the lender lists what comes after its first k + 1 items, where it has so many.
-  pub lists_rest_lent_filter : Acts (call_at g) p (λ y. Ok (h y)) → x ≡ t.it.it.now → take_parts tk ≡ (it, suc k) → filter_parts s ≡ (tk, p) → FoldDrains (lent_filter_steps steps g) call from s b f (Ok v) t → Lists steps it.now l → ¬ (nth_of k l ≡ Ok None) → Lists steps x (rest_nth k l)
+  pub lists_rest_lent_filter : Acts (call_by_reference g) p (λ y. Ok (h y)) → x ≡ t.it.it.now → take_parts tk ≡ (it, suc k) → filter_parts s ≡ (tk, p) → FoldDrains (lent_filter_steps steps g) call from s b f (Ok v) t → Lists steps it.now l → ¬ (nth_of k l ≡ Ok None) → Lists steps x (rest_nth k l)
   lists_rest_lent_filter acts back taken parts d i no_end =
       let m : Contract S A E = unbounded_contract steps in
       let under = filtered_run (seen_as take_parts (take_contract (borrowed m))) g h p tk s t d.items end acts parts (run_to_end d) in

@@ -5,7 +5,7 @@ use Rattle.std.specs.Fn.{Mut}
 use Rattle.std.proofs.Common.{refl, sym, ap, subst, ◌∙◌}
 use Rattle.fallible_contract.specs.Traces.{Answered, Run, item, end}
 use Rattle.fallible_contract.specs.Contract.{Contract, seen_as, unbounded_contract}
-use Rattle.fallible_contract.specs.Closures.{call_at}
+use Rattle.fallible_contract.specs.Closures.{call_by_reference}
 use Rattle.fallible_contract.specs.Passing.{Place, asked, failure_at, end_at}
 use Rattle.fallible_contract.specs.Closing.{closing_step}
 use Rattle.fallible_contract.specs.Folds.{FoldDrains}
@@ -93,19 +93,19 @@ module _ {S A E : Type 0} (steps : S → Answered A E → S → Type 0) where
   always_gives_lender [] s a = λ r t w. a r (record s { now = t }) (w, refl)
   always_gives_lender (y ∷ l) s a = λ r t w. let u : MutBor S = record s { now = t } in let d = a r u (w, refl) in (d.0, always_gives_lender l u d.1)
 
-module _ {S P A E : Type 0} (steps : S → Answered A E → S → Type 0) (g : Mut P (Bor A × Unit {0}) (Result Bool E)) (it : MutBor S) (p : P) (s t : TakeWhile (MutBor S) P) (l : List (Result A E)) (h : A → Result Bool E) (acts : Acts (call_at g) p h) (parts : take_while_parts s ≡ ((it, p), false)) where
+module _ {S P A E : Type 0} (steps : S → Answered A E → S → Type 0) (g : Mut P (Bor A × Unit {0}) (Result Bool E)) (it : MutBor S) (p : P) (s t : TakeWhile (MutBor S) P) (l : List (Result A E)) (h : A → Result Bool E) (acts : Acts (call_by_reference g) p h) (parts : take_while_parts s ≡ ((it, p), false)) where
   -- A run over `take_while` of a borrow that came to its end leaves the lender at what comes after the first item that the predicate rejects, where there is one.
   lists_rest_false_of_run : (xs : List A) → Run (until_steps steps g) s (map item xs ++ end ∷ []) t → Lists steps it.now l → all_of h l ≡ Ok false → Lists steps t.it.now (rest_false h l)
   unfolding all_of rest_false
   lists_rest_false_of_run xs ran i found =
       let m : Contract (MutBor S) A E = borrowed (unbounded_contract steps) in
       let seen = subst (λ (q : (MutBor S × P) × Bool). Run (take_while_contract m g).steps q (map item xs ++ end ∷ []) (take_while_parts t)) parts (run_seen take_while_parts (take_while_contract m g).steps (map item xs ++ end ∷ []) s t ran) in
-      let left = always_gives_rest_stop m.steps (call_at g) p h acts xs 0 l it t.it p (take_while_predicate t) (take_while_refused t) refl (lists_borrowed (unbounded_contract steps) it l i).runs seen found in
+      let left = always_gives_rest_stop m.steps (call_by_reference g) p h acts xs 0 l it t.it p (take_while_predicate t) (take_while_refused t) refl (lists_borrowed (unbounded_contract steps) it l i).runs seen found in
       record { runs = always_gives_lender steps (rest_false h l) t.it left }
 
 module _ {S P A E B E' F : Type 0} {steps : S → Answered A E → S → Type 0} {g : Mut P (Bor A × Unit {0}) (Result Bool E)} {it : MutBor S} {p : P} {s t : TakeWhile (MutBor S) P} {l : List (Result A E)} {call : F → B → A → Result B E' → F → Type 0} {from : E → E' → Type 0} {b v : B} {f : F} {x : S} where
   -- After a fold over `take_while` of a borrow that came to its end, the lender lists what comes after the first item that the predicate rejects, where there is one.
-  pub lists_rest_lent_while : {h : A → Result Bool E} → Acts (call_at g) p h → x ≡ t.it.now → take_while_source s ≡ it → take_while_predicate s ≡ p → take_while_refused s ≡ false → FoldDrains (until_steps steps g) call from s b f (Ok v) t → Lists steps it.now l → all_of h l ≡ Ok false → Lists steps x (rest_false h l)
+  pub lists_rest_lent_while : {h : A → Result Bool E} → Acts (call_by_reference g) p h → x ≡ t.it.now → take_while_source s ≡ it → take_while_predicate s ≡ p → take_while_refused s ≡ false → FoldDrains (until_steps steps g) call from s b f (Ok v) t → Lists steps it.now l → all_of h l ≡ Ok false → Lists steps x (rest_false h l)
   lists_rest_lent_while {h = h} acts back source predicate refused d i found =
       let parts : take_while_parts s ≡ ((it, p), false) = cc in
       let ended : d.last ≡ end = last_is_end call from d.at.value d.at.closure d.last v d.at.exit in

@@ -4,7 +4,7 @@ use Rattle.std.specs.List.{FoldsTo}
 use Rattle.std.specs.Fn.{Mut}
 use Rattle.std.proofs.Common.{refl, sym, ap, subst, arith, append-nil, inl, inr, ◌∙◌}
 use Rattle.fallible_contract.specs.Traces.{Answered, Run, item, end}
-use Rattle.fallible_contract.specs.Closures.{call_on}
+use Rattle.fallible_contract.specs.Closures.{call_by_value}
 use Rattle.fallible_contract.specs.Folds.{CountExit, CountDrains, FoldExit, FoldDrains, call_with, went_on_with}
 use Rattle.fallible_contract.specs.Collecting.{Collects}
 use Rattle.fallible_contract.specs.Passing.{passing_step}
@@ -104,9 +104,9 @@ module _ {W P V B E : Type 0} (made : V → B → Type 0) (from : AllocError →
   lists_made_seen s p l k at same a = record { runs = seen_made k s (subst (λ (q : P). GivesMade made steps from q k) (sym at) (subst (λ (j : List (Result V E)). GivesMade made steps from p j) same a)) }
 
 -- `map` whose closure makes what h says lists what h makes, up to an allocation failure
-pub lists_made_by_map : {S F X V B E : Type 0} {steps : S → Answered X E → S → Type 0} {g : Mut F (X × Unit {0}) (Result B E)} {made : V → B → Type 0} {from : AllocError → E → Type 0} {it : S} {f : F} {l : List (Result X E)} {s : Map S F} (h : X → Result V E) → map_parts s ≡ (it, f) → Makes made from (call_on g) f h → Lists steps it l
-    → ListsMade made (λ u r v. passing_step steps (call_on g) map_outcome (map_parts u) r (map_parts v)) from s (mapped h l)
-lists_made_by_map {steps = steps} {g = g} {made = made} {from = from} {it = it} {f = f} {l = l} {s = s} h parts makes i = lists_made_seen made from map_parts (passing_step steps (call_on g) map_outcome) s (it, f) _ _ parts refl (gives_all_made steps (call_on g) made from f h makes l it i.runs)
+pub lists_made_by_map : {S F X V B E : Type 0} {steps : S → Answered X E → S → Type 0} {g : Mut F (X × Unit {0}) (Result B E)} {made : V → B → Type 0} {from : AllocError → E → Type 0} {it : S} {f : F} {l : List (Result X E)} {s : Map S F} (h : X → Result V E) → map_parts s ≡ (it, f) → Makes made from (call_by_value g) f h → Lists steps it l
+    → ListsMade made (λ u r v. passing_step steps (call_by_value g) map_outcome (map_parts u) r (map_parts v)) from s (mapped h l)
+lists_made_by_map {steps = steps} {g = g} {made = made} {from = from} {it = it} {f = f} {l = l} {s = s} h parts makes i = lists_made_seen made from map_parts (passing_step steps (call_by_value g) map_outcome) s (it, f) _ _ parts refl (gives_all_made steps (call_by_value g) made from f h makes l it i.runs)
 
 -- ---- what one answer of what lists made values is
 
@@ -205,9 +205,9 @@ module _ {S F X Y B C E : Type 0} (steps : S → Answered B E → S → Type 0) 
   all_of_made (Ok x ∷ l) s a = λ r t w. map_gives_made_after (Ok x) l (mapped (λ x. Ok (h x)) l) (λ u b. all_of_made l u b) r t.0 t.1 (map_draw_of_gives_made (Ok x) l s r t.0 t.1 a (passes_of_pass_trace w))
 
 -- `map` over what lists made values lists what h makes of them, up to an allocation failure
-pub made_by_map_of_made : {S F X Y B C E : Type 0} {steps : S → Answered B E → S → Type 0} {g : Mut F (B × Unit {0}) (Result C E)} {of : X → B → Type 0} {made : Y → C → Type 0} {from : AllocError → E → Type 0} {it : S} {f : F} {l : List (Result X E)} {s : Map S F} (h : X → Y) → map_parts s ≡ (it, f) → MakesOf of made from (call_on g) f h → ListsMade of steps from it l
-    → ListsMade made (λ u r v. passing_step steps (call_on g) map_outcome (map_parts u) r (map_parts v)) from s (mapped (λ x. Ok (h x)) l)
-made_by_map_of_made {steps = steps} {g = g} {of = of} {made = made} {from = from} {it = it} {f = f} {l = l} {s = s} h parts makes i = lists_made_seen made from map_parts (passing_step steps (call_on g) map_outcome) s (it, f) _ _ parts refl (all_of_made steps (call_on g) of made from f h makes l it i.runs)
+pub made_by_map_of_made : {S F X Y B C E : Type 0} {steps : S → Answered B E → S → Type 0} {g : Mut F (B × Unit {0}) (Result C E)} {of : X → B → Type 0} {made : Y → C → Type 0} {from : AllocError → E → Type 0} {it : S} {f : F} {l : List (Result X E)} {s : Map S F} (h : X → Y) → map_parts s ≡ (it, f) → MakesOf of made from (call_by_value g) f h → ListsMade of steps from it l
+    → ListsMade made (λ u r v. passing_step steps (call_by_value g) map_outcome (map_parts u) r (map_parts v)) from s (mapped (λ x. Ok (h x)) l)
+made_by_map_of_made {steps = steps} {g = g} {of = of} {made = made} {from = from} {it = it} {f = f} {l = l} {s = s} h parts makes i = lists_made_seen made from map_parts (passing_step steps (call_by_value g) map_outcome) s (it, f) _ _ parts refl (all_of_made steps (call_by_value g) of made from f h makes l it i.runs)
 
 -- ---- what draws up to a last answer are made of
 

@@ -34,6 +34,6 @@ module _ {S A E : Type 0} (steps : S → Answered A E → S → Type 0) where
   take_trace_of_source {p = p} {q = q} {l = l} ran h = record { source_trace = h.source_trace; ends = h.ends; drawn = subst (λ (k : List (Answered A E)). Run steps p.0 k q.0) (list_is_trace h.source_trace l h.drawn) ran; answers = h.answers; prefixes = h.prefixes; at_most = h.at_most; over = h.over; remaining = h.remaining }
 
 -- Draws through a reference keep its name.
-pub same_name : {S A E : Type 0} (steps : MutBor S → Answered A E → MutBor S → Type 0) → ((s : MutBor S) (r : Answered A E) (t : MutBor S) → steps s r t → t.ghost_name ≡ s.ghost_name) → (trace : List (Answered A E)) (s t : MutBor S) → Run steps s trace t → t.ghost_name ≡ s.ghost_name
-same_name {S = S} steps same [] s t e = ap (λ (u : MutBor S). u.ghost_name) (sym e)
-same_name steps same (r ∷ rest) s t h = same_name steps same rest h.0 t h.2 ∙ same s r h.0 h.1
+pub reference_keeps_name : {S A E : Type 0} (steps : MutBor S → Answered A E → MutBor S → Type 0) → ((s : MutBor S) (r : Answered A E) (t : MutBor S) → steps s r t → t.ghost_name ≡ s.ghost_name) → (trace : List (Answered A E)) (s t : MutBor S) → Run steps s trace t → t.ghost_name ≡ s.ghost_name
+reference_keeps_name {S = S} steps same [] s t e = ap (λ (u : MutBor S). u.ghost_name) (sym e)
+reference_keeps_name steps same (r ∷ rest) s t h = reference_keeps_name steps same rest h.0 t h.2 ∙ same s r h.0 h.1

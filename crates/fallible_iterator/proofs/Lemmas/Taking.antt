@@ -10,7 +10,7 @@ use Rattle.fallible_contract.specs.Lists.{Acts, AlwaysGives, Lists, folded, on_v
 use Rattle.fallible_contract.proofs.Lemmas.Lists.Passing.{lists_seen}
 use Rattle.fallible_core.specs.Cutting.TakeWhile.{cons_while, taken_while}
 use Rattle.fallible_core.specs.Filtering.SkipWhile.{cons_from, skipped_while}
-use Rattle.fallible_contract.specs.Laws.Contract.{kept_by_draws_of_stays, kept_by_draws_then, stays_here, stays_of_kept_by_draws, stays_run}
+use Rattle.fallible_contract.specs.Laws.Contract.{kept_by_draws_of_stays, kept_by_draws_then, stays_reflexive, stays_of_kept_by_draws, stays_run}
 use Rattle.fallible_core.specs.Laws.Peeking.Peekable.{lawful_peekable}
 use Rattle.fallible_core.specs.Peeking.Peekable.{Fills, Peeks, failure_told, first_if, held_item, left_by, peekable_contract, peekable_parts, peekable_step, rest_if, taken_by}
 use Rattle.fallible_core.proofs.Lemmas.Peeking.Peekable.{stays_peek}
@@ -29,8 +29,8 @@ RefusesFirst p (Ok x ∷ l) = p x ≡ false
 RefusesFirst p (Err e ∷ l) = ⊥
 
 -- one run of draws after another
-pub stays_then : {S A E : Type 0} {m : Contract S A E} {s t u : S} → Stays m s t → Stays m t u → Stays m s u
-stays_then p q = stays_of_kept_by_draws (kept_by_draws_then (kept_by_draws_of_stays p) (kept_by_draws_of_stays q)) (λ never. q.sure (p.sure never))
+pub stays_transitive : {S A E : Type 0} {m : Contract S A E} {s t u : S} → Stays m s t → Stays m t u → Stays m s u
+stays_transitive p q = stays_of_kept_by_draws (kept_by_draws_then (kept_by_draws_of_stays p) (kept_by_draws_of_stays q)) (λ never. q.sure (p.sure never))
 
 -- ---- what stays of a value that is seen as its parts
 
@@ -120,9 +120,9 @@ module _ {S A E : Type 0} (steps : S → Answered A E → S → Type 0) where
   HeldState = S × Option (Option A)
 
   -- what was looked at is held, and is what a draw would have returned
-  looked_step : (s t : HeldState) (o : Option A) → Peeks steps s (Ok o) t → peekable_step steps s (Ok o) (t.0, None) × (t.1 ≡ Some o)
-  looked_step (s, Some h) t o w = let same : o ≡ h = (let e = w.0 in cc) in ((w.0, w.1, refl), w.2 ∙ ap (λ z. Some z) (sym same))
-  looked_step (s, None) t o w = ((w.0, refl), w.1)
+  looked_at_is_next_answer : (s t : HeldState) (o : Option A) → Peeks steps s (Ok o) t → peekable_step steps s (Ok o) (t.0, None) × (t.1 ≡ Some o)
+  looked_at_is_next_answer (s, Some h) t o w = let same : o ≡ h = (let e = w.0 in cc) in ((w.0, w.1, refl), w.2 ∙ ap (λ z. Some z) (sym same))
+  looked_at_is_next_answer (s, None) t o w = ((w.0, refl), w.1)
 
   -- a draw of what is held
   held_step : (s t : HeldState) (o : Option A) (r : Answered A E) → s.1 ≡ Some o → peekable_step steps s r t → (r ≡ Ok o) × (t ≡ (s.0, None))
@@ -132,7 +132,7 @@ module _ {S A E : Type 0} (steps : S → Answered A E → S → Type 0) where
   -- a draw after a look is one before it
   drawn_after_look : (s u t : HeldState) (o : Option A) (r : Answered A E) → Peeks steps s (Ok o) u → peekable_step steps u r t → (r ≡ Ok o) × peekable_step steps s r t
   drawn_after_look s u t o r peeks step =
-      let k = looked_step s u o peeks in
+      let k = looked_at_is_next_answer s u o peeks in
       let h = held_step u t o r k.1 step in
       (h.0, subst (λ (z : HeldState). peekable_step steps s r z) (sym h.1) (subst (λ (z : Answered A E). peekable_step steps s z (u.0, None)) (sym h.0) k.0))
 
@@ -142,7 +142,7 @@ module _ {S A E : Type 0} (steps : S → Answered A E → S → Type 0) where
   drawn_failed_look (s, None) t e w = w
 
   held_item_drawn : (a : Answered A E) (s t : HeldState) (x : A) → Peeks steps s a t → Ok tt ≡ failure_told a → held_item t.1 ≡ Some x → peekable_step steps s (item x) (t.0, None)
-  held_item_drawn (Ok o) s t x peeks told is = let k = looked_step s t o peeks in subst (λ (z : Option A). peekable_step steps s (Ok z) (t.0, None)) (sym (ap held_item k.1) ∙ is) k.0
+  held_item_drawn (Ok o) s t x peeks told is = let k = looked_at_is_next_answer s t o peeks in subst (λ (z : Option A). peekable_step steps s (Ok z) (t.0, None)) (sym (ap held_item k.1) ∙ is) k.0
   held_item_drawn (Err e) s t x peeks told is = absurd cc
 
   -- the item that is held after a look is one that a draw yields
@@ -163,9 +163,9 @@ module _ {S A E : Type 0} (steps : S → Answered A E → S → Type 0) where
 
     accepted_taken : (a : Answered A E) (s u t : HeldState) (p q : P) (r : Answered A E) → Peeks steps s a u → Ok tt ≡ failure_told a → TestsHeld tests (held_item u.1) p (Ok true) q → peekable_step steps u r t → TakesIf steps tests s p r t q
     accepted_taken (Err e) s u t p q r peeks told tested step = absurd cc
-    accepted_taken (Ok None) s u t p q r peeks told tested step = absurd (let e = (tests_held_of_equal None (held_item u.1) p q (Ok true) (ap held_item (looked_step s u None peeks).1) tested).0 in cc)
+    accepted_taken (Ok None) s u t p q r peeks told tested step = absurd (let e = (tests_held_of_equal None (held_item u.1) p q (Ok true) (ap held_item (looked_at_is_next_answer s u None peeks).1) tested).0 in cc)
     accepted_taken (Ok (Some x)) s u t p q r peeks told tested step =
-        let k = looked_step s u (Some x) peeks in
+        let k = looked_at_is_next_answer s u (Some x) peeks in
         let h = held_step u t (Some x) r k.1 step in
         record { seen = item x; looked = u; peeks = peeks; taken = (Ok true, tests_held_of_equal (Some x) (held_item u.1) p q (Ok true) (ap held_item k.1) tested, (h.0, subst (λ (z : Answered A E). peekable_step steps u z t) h.0 step)) }
 
@@ -175,8 +175,8 @@ module _ {S A E : Type 0} (steps : S → Answered A E → S → Type 0) where
 
     refused_taken : (a : Answered A E) (s u : HeldState) (p q : P) → Peeks steps s a u → Ok tt ≡ failure_told a → TestsHeld tests (held_item u.1) p (Ok false) q → TakesIf steps tests s p end u q
     refused_taken (Err e) s u p q peeks told tested = absurd cc
-    refused_taken (Ok None) s u p q peeks told tested = record { seen = end; looked = u; peeks = peeks; taken = (refl, refl, (tests_held_of_equal None (held_item u.1) p q (Ok false) (ap held_item (looked_step s u None peeks).1) tested).1) }
-    refused_taken (Ok (Some x)) s u p q peeks told tested = record { seen = item x; looked = u; peeks = peeks; taken = (Ok false, tests_held_of_equal (Some x) (held_item u.1) p q (Ok false) (ap held_item (looked_step s u (Some x) peeks).1) tested, (refl, refl)) }
+    refused_taken (Ok None) s u p q peeks told tested = record { seen = end; looked = u; peeks = peeks; taken = (refl, refl, (tests_held_of_equal None (held_item u.1) p q (Ok false) (ap held_item (looked_at_is_next_answer s u None peeks).1) tested).1) }
+    refused_taken (Ok (Some x)) s u p q peeks told tested = record { seen = item x; looked = u; peeks = peeks; taken = (Ok false, tests_held_of_equal (Some x) (held_item u.1) p q (Ok false) (ap held_item (looked_at_is_next_answer s u (Some x) peeks).1) tested, (refl, refl)) }
 
     -- the test rejected what is held, or an end is held
     pub takes_if_refused : (s u : HeldState) (p q : P) → Fills steps s (Ok tt) u → TestsHeld tests (held_item u.1) p (Ok false) q → TakesIf steps tests s p end u q
@@ -184,9 +184,9 @@ module _ {S A E : Type 0} (steps : S → Answered A E → S → Type 0) where
 
     lost_taken : (a : Answered A E) (s u t : HeldState) (p q : P) (e : E) (r : Answered A E) → Peeks steps s a u → Ok tt ≡ failure_told a → TestsHeld tests (held_item u.1) p (Err e) q → peekable_step steps u r t → TakesIf steps tests s p (Err e) t q
     lost_taken (Err d) s u t p q e r peeks told tested step = absurd cc
-    lost_taken (Ok None) s u t p q e r peeks told tested step = absurd (let d = (tests_held_of_equal None (held_item u.1) p q (Err e) (ap held_item (looked_step s u None peeks).1) tested).0 in cc)
+    lost_taken (Ok None) s u t p q e r peeks told tested step = absurd (let d = (tests_held_of_equal None (held_item u.1) p q (Err e) (ap held_item (looked_at_is_next_answer s u None peeks).1) tested).0 in cc)
     lost_taken (Ok (Some x)) s u t p q e r peeks told tested step =
-        let k = looked_step s u (Some x) peeks in
+        let k = looked_at_is_next_answer s u (Some x) peeks in
         let h = held_step u t (Some x) r k.1 step in
         record { seen = item x; looked = u; peeks = peeks; taken = (Err e, tests_held_of_equal (Some x) (held_item u.1) p q (Err e) (ap held_item k.1) tested, (refl, subst (λ (z : Answered A E). peekable_step steps u z t) h.0 step)) }
 
@@ -272,8 +272,8 @@ module _ {S A E P : Type 0} {m : Contract S A E} (l : Lawful m) (tests : P → A
   stays_on_draw s t r c step = stays_run (lawful_peekable l) s (r ∷ []) t c (t, step, refl)
 
   stays_on_yields : (items : List A) (s t : S × Option (Option A)) → m.can_next s.0 → Yields (peekable_step m.steps) s items t → StaysHere s t
-  stays_on_yields [] s t c ran = subst (λ (u : S × Option (Option A)). StaysHere s u) ran (stays_here c)
-  stays_on_yields (x ∷ items) s t c ran = let k = stays_on_draw s ran.0 (item x) c ran.1 in stays_then k (stays_on_yields items ran.0 t k.can_next ran.2)
+  stays_on_yields [] s t c ran = subst (λ (u : S × Option (Option A)). StaysHere s u) ran (stays_reflexive c)
+  stays_on_yields (x ∷ items) s t c ran = let k = stays_on_draw s ran.0 (item x) c ran.1 in stays_transitive k (stays_on_yields items ran.0 t k.can_next ran.2)
 
   stays_of_equal : {s t u : S × Option (Option A)} → u ≡ t → StaysHere s t → StaysHere s u
   stays_of_equal {s} is h = subst (λ (u : S × Option (Option A)). StaysHere s u) (sym is) h
@@ -281,14 +281,14 @@ module _ {S A E P : Type 0} {m : Contract S A E} (l : Lawful m) (tests : P → A
   stays_after_look : (a : Answered A E) (u t : S × Option (Option A)) (p q : P) (r : Answered A E) (s : S × Option (Option A)) → StaysHere s u → TakenAfterLook m.steps tests a u p r t q → StaysHere s t
   stays_after_look (Err e) u t p q r s h taken = stays_of_equal taken.1 h
   stays_after_look (Ok None) u t p q r s h taken = stays_of_equal taken.1 h
-  stays_after_look (Ok (Some x)) u t p q r s h (Ok true, tested, taken) = stays_then h (stays_on_draw u t (item x) h.can_next taken.1)
+  stays_after_look (Ok (Some x)) u t p q r s h (Ok true, tested, taken) = stays_transitive h (stays_on_draw u t (item x) h.can_next taken.1)
   stays_after_look (Ok (Some x)) u t p q r s h (Ok false, tested, taken) = stays_of_equal taken.1 h
-  stays_after_look (Ok (Some x)) u t p q r s h (Err e, tested, taken) = stays_then h (stays_on_draw u t (item x) h.can_next taken.1)
+  stays_after_look (Ok (Some x)) u t p q r s h (Err e, tested, taken) = stays_transitive h (stays_on_draw u t (item x) h.can_next taken.1)
 
   pub stays_fold_if : {F B : Type 0} {call : F → B → A → Result B E → F → Type 0} {b : B} {p : P} {f : F} {r : Result B E} (s t : Peekable S A E) → m.can_next s.it → FoldIfDrains m.steps tests call (peekable_parts s) b p f r (peekable_parts t) → Stays (seen_as peekable_parts (peekable_contract m)) s t
   stays_fold_if s t c w =
       let k = stays_on_yields w.items (peekable_parts s) w.between c w.drawn in
-      let j = stays_then k (stays_peek l w.between w.takes.seen w.takes.looked k.can_next w.takes.peeks) in
+      let j = stays_transitive k (stays_peek l w.between w.takes.seen w.takes.looked k.can_next w.takes.peeks) in
       stays_ahead m s t (stays_after_look w.takes.seen w.takes.looked (peekable_parts t) w.test w.tested w.last (peekable_parts s) j w.takes.taken)
 
 -- one less is counted after an accepted item
@@ -414,8 +414,8 @@ module _ {S A E P F B : Type 0} (steps : S → Answered A E → S → Type 0) (t
 
   at_end : (l : List (Result A E)) (s u : S × Option (Option A)) (v : B) (r : Result B E) → GivesHere s l → Peeks steps s (Ok None) u → r ≡ Ok v → ReturnsFrom v l r u
   at_end [] s u v r a peeks is = ([], (λ q t step. a q t (drawn_after_look steps s u t None q peeks step).1), comes_to_end p h v ∙ ap (λ (z : Result B E). (z, [])) (sym is))
-  at_end (Ok y ∷ l) s u v r a peeks is = absurd (let d = (a end (u.0, None) (looked_step steps s u None peeks).0).0 in cc)
-  at_end (Err y ∷ l) s u v r a peeks is = absurd (let d = (a end (u.0, None) (looked_step steps s u None peeks).0).0 in cc)
+  at_end (Ok y ∷ l) s u v r a peeks is = absurd (let d = (a end (u.0, None) (looked_at_is_next_answer steps s u None peeks).0).0 in cc)
+  at_end (Err y ∷ l) s u v r a peeks is = absurd (let d = (a end (u.0, None) (looked_at_is_next_answer steps s u None peeks).0).0 in cc)
 
   -- at an item, by what the test returned on it
   at_tested : (w : Result Bool E) (x : A) (l : List (Result A E)) (s u t : S × Option (Option A)) (v : B) (last : Answered A E) (r : Result B E) → w ≡ p x → GivesHere s (Ok x ∷ l) → Peeks steps s (item x) u → TakenByTest steps x w u last t → FoldExit call (λ e d. d ≡ e) v f0 last r → ReturnsFrom v (Ok x ∷ l) r t
@@ -427,15 +427,15 @@ module _ {S A E P F B : Type 0} (steps : S → Answered A E → S → Type 0) (t
   at_tested (Err e) x l s u t v last r is a peeks taken exit =
       (l, (a (item x) t (drawn_after_look steps s u t (Some x) (item x) peeks taken.1).1).1, comes_to_lost p h v e x l (sym is) ∙ ap (λ (z : Result B E). (z, l)) (sym (failed_with e v r last taken.0 exit)))
 
-  at_item_seen : (x : A) (l : List (Result A E)) (s u t : S × Option (Option A)) (v : B) (q : P) (last : Answered A E) (r : Result B E) → GivesHere s l → Peeks steps s (item x) u → TakenAfterLook steps tests (item x) u p0 last t q → FoldExit call (λ e d. d ≡ e) v f0 last r → ReturnsFrom v l r t
-  at_item_seen x [] s u t v q last r a peeks taken exit = absurd (let d = a (item x) (u.0, None) (looked_step steps s u (Some x) peeks).0 in cc)
-  at_item_seen x (Err y ∷ l) s u t v q last r a peeks taken exit = absurd (let d = (a (item x) (u.0, None) (looked_step steps s u (Some x) peeks).0).0 in cc)
-  at_item_seen x (Ok y ∷ l) s u t v q last r a peeks taken exit =
-      let same : x ≡ y = (let d = (a (item x) (u.0, None) (looked_step steps s u (Some x) peeks).0).0 in cc) in
+  returns_from_peeked_item : (x : A) (l : List (Result A E)) (s u t : S × Option (Option A)) (v : B) (q : P) (last : Answered A E) (r : Result B E) → GivesHere s l → Peeks steps s (item x) u → TakenAfterLook steps tests (item x) u p0 last t q → FoldExit call (λ e d. d ≡ e) v f0 last r → ReturnsFrom v l r t
+  returns_from_peeked_item x [] s u t v q last r a peeks taken exit = absurd (let d = a (item x) (u.0, None) (looked_at_is_next_answer steps s u (Some x) peeks).0 in cc)
+  returns_from_peeked_item x (Err y ∷ l) s u t v q last r a peeks taken exit = absurd (let d = (a (item x) (u.0, None) (looked_at_is_next_answer steps s u (Some x) peeks).0).0 in cc)
+  returns_from_peeked_item x (Ok y ∷ l) s u t v q last r a peeks taken exit =
+      let same : x ≡ y = (let d = (a (item x) (u.0, None) (looked_at_is_next_answer steps s u (Some x) peeks).0).0 in cc) in
       subst (λ (z : A). ReturnsFrom v (Ok z ∷ l) r t) same (at_tested taken.0 x l s u t v last r (acts x taken.0 q taken.1).1 (subst (λ (z : A). GivesHere s (Ok z ∷ l)) (sym same) a) peeks taken.2 exit)
 
   at_last : (seen : Answered A E) (l : List (Result A E)) (s u t : S × Option (Option A)) (v : B) (q : P) (last : Answered A E) (r : Result B E) → GivesHere s l → Peeks steps s seen u → TakenAfterLook steps tests seen u p0 last t q → FoldExit call (λ e d. d ≡ e) v f0 last r → ReturnsFrom v l r t
-  at_last (Ok (Some x)) l s u t v q last r a peeks taken exit = at_item_seen x l s u t v q last r a peeks taken exit
+  at_last (Ok (Some x)) l s u t v q last r a peeks taken exit = returns_from_peeked_item x l s u t v q last r a peeks taken exit
   at_last (Ok None) l s u t v q last r a peeks taken exit = returns_from_equal v l r taken.1 (at_end l s u v r a peeks (ended_with v r last taken.0 exit))
   at_last (Err e) l s u t v q last r a peeks taken exit = returns_from_equal v l r taken.1 (at_failure e l s u v r a peeks (failed_with e v r last taken.0 exit))
 

@@ -7,7 +7,7 @@ use Rattle.std.specs.Borrow.{Bor}
 use Rattle.std.proofs.Common.{refl, sym, ap, subst}
 use Rattle.fallible_contract.specs.Traces.{Answered, Run, item, end}
 use Rattle.fallible_contract.specs.Contract.{Contract, unbounded_contract}
-use Rattle.fallible_contract.specs.Closures.{call_at}
+use Rattle.fallible_contract.specs.Closures.{call_by_reference}
 use Rattle.fallible_contract.specs.Folds.{CountDrains, CountExit}
 use Rattle.fallible_contract.specs.Lists.{AlwaysGives, Lists, Acts, counted}
 use Rattle.fallible_contract.specs.Passing.{Place, asked, failure_at, end_at, PassTrace, source_answer, answer_at, outcome_answer, tested_outcome}
@@ -77,12 +77,12 @@ module _ {S X E : Type 0} (steps : S → Answered X E → S → Type 0) where
   }
 
 module _ {S F X E : Type 0} {steps : S → Answered X E → S → Type 0} {g : Mut F (Bor X × Unit {0}) (Result Bool E)} {s : Filter S F} {it : S} {f : F} {l : List (Result X E)} where
-  pub lists_where_ok_filtered : (h : X → Result Bool E) → filter_parts s ≡ (it, f) → Acts (call_at g) f h → ListsWhereOk steps it l → ListsWhereOk (λ (u : Filter S F) (r : Answered X E) (v : Filter S F). PassTrace steps (call_at g) tested_outcome (filter_parts u) (r ∷ []) (filter_parts v)) s (filtered h l)
+  pub lists_where_ok_filtered : (h : X → Result Bool E) → filter_parts s ≡ (it, f) → Acts (call_by_reference g) f h → ListsWhereOk steps it l → ListsWhereOk (λ (u : Filter S F) (r : Answered X E) (v : Filter S F). PassTrace steps (call_by_reference g) tested_outcome (filter_parts u) (r ∷ []) (filter_parts v)) s (filtered h l)
   lists_where_ok_filtered h parts acts i =
       let at : it ≡ s.it = sym (ap (λ (p : S × F). p.0) parts) in
       let same : s.f ≡ f = ap (λ (p : S × F). p.1) parts in
       let m : Contract S X E = unbounded_contract (ok_steps steps) in
-      lists_fewer _ _ (λ u r v w. pass_trace_filter_ok steps (call_at g) tested_outcome (filter_parts u) r (filter_parts v) w.0 w.1) (filtered h l) s (lists_filtered m g s f h l (ap (λ (o : F). (s.it, o)) same) acts (subst (λ (u : S). Lists (ok_steps steps) u l) at i))
+      lists_fewer _ _ (λ u r v w. pass_trace_filter_ok steps (call_by_reference g) tested_outcome (filter_parts u) r (filter_parts v) w.0 w.1) (filtered h l) s (lists_filtered m g s f h l (ap (λ (o : F). (s.it, o)) same) acts (subst (λ (u : S). Lists (ok_steps steps) u l) at i))
 
 -- ---- `count`
 

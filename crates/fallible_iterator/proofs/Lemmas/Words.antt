@@ -4,7 +4,7 @@ use Rattle.std.proofs.Common.{refl, sym, ap, ◌∙◌, arith}
 use Rattle.std.specs.List.{last_or, find, list_all, list_any}
 use Rattle.std.proofs.lemmas.List.{reverse-append, append-nil}
 use Rattle.fallible_contract.specs.Lists.{items, reversed, on_value, one_more_than, counted, nth_of, searched, decided, picked_or, all_of, any_of, found, find_mapped, position_in, each_done, before, collected, last_of, folded}
-use Rattle.fallible_contract.specs.Searching.{all_pick, any_pick, find_pick, find_map_pick, position_pick, each_pick}
+use Rattle.fallible_contract.specs.Searching.{all_pick, any_pick, find_pick, find_map_pick, position_pick, for_each_pick}
 use Rattle.fallible_core.specs.OneToOne.Map.{mapped}
 use Rattle.fallible_core.specs.Filtering.Filter.{cons_if, filtered}
 use Rattle.fallible_core.specs.Filtering.FilterMap.{cons_some, filter_mapped}
@@ -397,7 +397,7 @@ module _ {A B E : Type 0} (h : A → Result B E) where
 
   pub each_done_mapped : (q : B → Result (Unit {0}) E) (l : List (Result A E)) → each_done q (mapped h l) ≡ each_done (λ x. on_value (h x) q) l
   unfolding each_done
-  each_done_mapped q l = searched_mapped each_pick each_pick (λ n y x v. refl) tt q 0 l
+  each_done_mapped q l = searched_mapped for_each_pick for_each_pick (λ n y x v. refl) tt q 0 l
 
 module _ {A E : Type 0} (p : A → Bool) where
   decided_all_pick : (n : ℕ) (x : A) (b c : Bool) {r : Result Bool E} → r ≡ Ok c → decided (all_pick n x) (Ok b) r ≡ Ok (b && c)

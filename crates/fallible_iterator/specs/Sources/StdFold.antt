@@ -23,9 +23,9 @@ abbrev pub answer_of : {C E R : Type 0} → Result C (C × Answered R E) → Ans
 answer_of (Ok d) = Ok None
 answer_of (Err p) = p.1
 
-abbrev pub left_of : {C E R : Type 0} → Result C (C × Answered R E) → C
-left_of (Ok d) = d
-left_of (Err p) = p.0
+abbrev pub state_left : {C E R : Type 0} → Result C (C × Answered R E) → C
+state_left (Ok d) = d
+state_left (Err p) = p.0
 
 -- a turn on a state that a reference points to, which stays the same
 abbrev pub lent : {C A R : Type 0} → (C → A → ControlFlow R (Unit {0}) → C → Type 0) → MutBor C → A → ControlFlow R (Unit {0}) → MutBor C → Type 0

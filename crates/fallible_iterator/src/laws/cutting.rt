@@ -1,7 +1,7 @@
 // The whole-trace laws of the adapters that cut a trace off.
 ghost use Rattle.std.specs.Prelude.{Result};
 ghost use Rattle.fallible_contract.specs.LawForm.{TracesAre};
-ghost use Rattle.fallible_contract.specs.Closures.{call_at};
+ghost use Rattle.fallible_contract.specs.Closures.{call_by_reference};
 ghost use Rattle.fallible_core.specs.Cutting.Fuse.{fuse_parts, FuseTrace};
 ghost use Rattle.fallible_core.specs.Cutting.Skip.{skip_parts, SkipTrace};
 ghost use Rattle.fallible_core.specs.Cutting.StepBy.{step_by_parts, StepByTrace};
@@ -28,7 +28,7 @@ pub fn law_take_while<I: FallibleIterator, P: FnMut(&I::Item) -> Result<bool, I:
 where
     I::Item: Drop,
     ensures { TracesAre take_while_parts ⟦<TakeWhile<I, P> as FallibleIterator>⟧.contract.steps
-        (TakeWhileTrace I.contract.steps (call_at P.FnMut)) }
+        (TakeWhileTrace I.contract.steps (call_by_reference P.FnMut)) }
 {}
 
 /// A trace of `Skip` is the source's without its first n items; failures and `Ok(None)` stay, and don't count. It doesn't end in a skipped item.

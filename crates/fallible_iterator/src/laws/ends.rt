@@ -5,7 +5,7 @@ ghost use Rattle.fallible_contract.specs.Ends.{from_front};
 ghost use Rattle.fallible_contract.specs.Traces.{Answered, Run, item};
 ghost use Rattle.fallible_contract.specs.Folds.{FoldDrains, NthDrains, call_with};
 ghost use Rattle.fallible_contract.specs.LawForm.{TracesAre};
-ghost use Rattle.fallible_contract.specs.Closures.{call_on, call_at};
+ghost use Rattle.fallible_contract.specs.Closures.{call_by_value, call_by_reference};
 ghost use Rattle.fallible_contract.specs.Lists.{Acts, rest_nth, result_answer};
 ghost use Rattle.fallible_contract.specs.BothEnds.{ListsBothEnds, RunAtEnds, step_at, from_side, Interleaves};
 ghost use Rattle.fallible_core.specs.OneToOne.Map.{mapped, MapTrace, map_parts};
@@ -74,7 +74,7 @@ where
         (h : I.Item → Result B I.Error) (k : B → Result Bool I.Error)
         (l : List (Result I.Item I.Error)) (drawn : List (Side × Answered B I.Error))
         → filter_parts (rev_parts s) ≡ (inner, g) → map_parts inner ≡ (it, f)
-        → Acts (call_on F.FnMut) f h → Acts (call_at G.FnMut) g k
+        → Acts (call_by_value F.FnMut) f h → Acts (call_by_reference G.FnMut) g k
         → ListsBothEnds I.contract.steps I.ends.steps it l
         → DrawsInterleave ⟦<Rev<Filter<Map<I, F>, G>> as FallibleIterator>⟧.contract.steps
         ⟦<Rev<Filter<Map<I, F>, G>> as DoubleEndedFallibleIterator>⟧.ends.steps
@@ -160,7 +160,7 @@ where
 pub fn law_back_map_err<I: DoubleEndedFallibleIterator, B, F: FnMut(I::Error) -> B>()
 where
     ensures { TracesAre map_err_parts ⟦<MapErr<I, F> as DoubleEndedFallibleIterator>⟧.ends.steps
-        (MapErrTrace I.ends.steps (call_on F.FnMut)) }
+        (MapErrTrace I.ends.steps (call_by_value F.FnMut)) }
 {}
 
 /// A trace of `Chain` from the back is one from the front with the sides swapped, both drawn from the back: the second's up to its first `Ok(None)`, and from the draw that meets it on the first's.

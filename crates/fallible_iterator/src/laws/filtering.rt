@@ -1,6 +1,6 @@
 // What a trace of each adapter that leaves items out is.
 ghost use Rattle.fallible_contract.specs.LawForm.{TracesAre};
-ghost use Rattle.fallible_contract.specs.Closures.{call_at};
+ghost use Rattle.fallible_contract.specs.Closures.{call_by_reference};
 ghost use Rattle.fallible_core.specs.Filtering.Filter.{FilterTrace, filter_parts};
 ghost use Rattle.fallible_core.specs.Filtering.FilterMap.{FilterMapTrace, filter_map_parts};
 ghost use Rattle.fallible_core.specs.Filtering.SkipWhile.{SkipWhileTrace, skip_while_parts};
@@ -28,5 +28,5 @@ pub fn law_skip_while<I: FallibleIterator, P: FnMut(&I::Item) -> Result<bool, I:
 where
     I::Item: Drop,
     ensures { TracesAre skip_while_parts ⟦<SkipWhile<I, P> as FallibleIterator>⟧.contract.steps
-        (SkipWhileTrace I.contract.steps (call_at P.FnMut)) }
+        (SkipWhileTrace I.contract.steps (call_by_reference P.FnMut)) }
 {}

@@ -1,7 +1,7 @@
 // What each type with two ends lists, from what its source lists.
 ghost use Rattle.std.specs.Prelude.{◌≡◌, Ok, Err, Some, None, List, [], Option, Result, Bool};
 ghost use Rattle.std.specs.Borrow.{MutBor};
-ghost use Rattle.fallible_contract.specs.Closures.{call_on, call_at};
+ghost use Rattle.fallible_contract.specs.Closures.{call_by_value, call_by_reference};
 ghost use Rattle.fallible_contract.specs.Lists.{Lists, Acts, results, items};
 ghost use Rattle.fallible_contract.specs.BothEnds.{ListsBothEnds};
 ghost use Rattle.fallible_core.specs.OneToOne.Map.{mapped, map_outcome, map_parts};
@@ -37,7 +37,7 @@ use std::alloc::AllocError;
 /// `Map` lists what its closure returns for each item of its source's list, in the item's place.
 pub fn law_listed_map<I: DoubleEndedFallibleIterator, B, F: FnMut(I::Item) -> Result<B, I::Error>>()
 where
-    ensures { ListsByClosure map_parts (call_on F.FnMut) map_outcome mapped
+    ensures { ListsByClosure map_parts (call_by_value F.FnMut) map_outcome mapped
         (ListsBothEnds I.contract.steps I.ends.steps)
         (ListsBothEnds ⟦<Map<I, F> as FallibleIterator>⟧.contract.steps
         ⟦<Map<I, F> as DoubleEndedFallibleIterator>⟧.ends.steps) }
@@ -50,7 +50,7 @@ pub fn law_listed_inspect<
 >()
 where
     I::Item: Drop,
-    ensures { ListsByClosure inspect_parts (call_at F.FnMut) inspect_outcome inspected
+    ensures { ListsByClosure inspect_parts (call_by_reference F.FnMut) inspect_outcome inspected
         (ListsBothEnds I.contract.steps I.ends.steps)
         (ListsBothEnds ⟦<Inspect<I, F> as FallibleIterator>⟧.contract.steps
         ⟦<Inspect<I, F> as DoubleEndedFallibleIterator>⟧.ends.steps) }
@@ -63,7 +63,7 @@ pub fn law_listed_filter<
 >()
 where
     I::Item: Drop,
-    ensures { ListsByClosure filter_parts (call_at F.FnMut) tested_outcome filtered
+    ensures { ListsByClosure filter_parts (call_by_reference F.FnMut) tested_outcome filtered
         (ListsBothEnds I.contract.steps I.ends.steps)
         (ListsBothEnds ⟦<Filter<I, F> as FallibleIterator>⟧.contract.steps
         ⟦<Filter<I, F> as DoubleEndedFallibleIterator>⟧.ends.steps) }
@@ -76,7 +76,7 @@ pub fn law_listed_filter_map<
     F: FnMut(I::Item) -> Result<Option<B>, I::Error>,
 >()
 where
-    ensures { ListsByClosure filter_map_parts (call_on F.FnMut) filter_map_outcome filter_mapped
+    ensures { ListsByClosure filter_map_parts (call_by_value F.FnMut) filter_map_outcome filter_mapped
         (ListsBothEnds I.contract.steps I.ends.steps)
         (ListsBothEnds ⟦<FilterMap<I, F> as FallibleIterator>⟧.contract.steps
         ⟦<FilterMap<I, F> as DoubleEndedFallibleIterator>⟧.ends.steps) }
@@ -96,7 +96,7 @@ where
 pub fn law_listed_map_err<I: DoubleEndedFallibleIterator, B, F: FnMut(I::Error) -> B>()
 where
     ensures { ListsFailures map_err_parts
-        (call_on F.FnMut) (ListsBothEnds I.contract.steps I.ends.steps)
+        (call_by_value F.FnMut) (ListsBothEnds I.contract.steps I.ends.steps)
         (ListsBothEnds ⟦<MapErr<I, F> as FallibleIterator>⟧.contract.steps
         ⟦<MapErr<I, F> as DoubleEndedFallibleIterator>⟧.ends.steps) }
 {}
@@ -145,13 +145,13 @@ pub fn law_lists_map<I: DoubleEndedFallibleIterator, B, F: FnMut(I::Item) -> Res
 where
     ensures both { (it : I) (f : F) (h : I.Item → Result B I.Error)
         (l : List (Result I.Item I.Error))
-        → map_parts s.now ≡ (it, f) → Acts (call_on F.FnMut) f h
+        → map_parts s.now ≡ (it, f) → Acts (call_by_value F.FnMut) f h
         → ListsBothEnds I.contract.steps I.ends.steps it l
         → ListsBothEnds ⟦<Map<I, F> as FallibleIterator>⟧.contract.steps
         ⟦<Map<I, F> as DoubleEndedFallibleIterator>⟧.ends.steps s.now (mapped h l) }
     ensures back { (it : I) (f : F) (h : I.Item → Result B I.Error)
         (l : List (Result I.Item I.Error))
-        → map_parts s.now ≡ (it, f) → Acts (call_on F.FnMut) f h
+        → map_parts s.now ≡ (it, f) → Acts (call_by_value F.FnMut) f h
         → Lists I.ends.steps it l
         → Lists ⟦<Map<I, F> as DoubleEndedFallibleIterator>⟧.ends.steps s.now (mapped h l) }
 {
@@ -167,13 +167,13 @@ where
     I::Item: Drop,
     ensures both { (it : I) (f : F) (h : I.Item → Result Bool I.Error)
         (l : List (Result I.Item I.Error))
-        → filter_parts s.now ≡ (it, f) → Acts (call_at F.FnMut) f h
+        → filter_parts s.now ≡ (it, f) → Acts (call_by_reference F.FnMut) f h
         → ListsBothEnds I.contract.steps I.ends.steps it l
         → ListsBothEnds ⟦<Filter<I, F> as FallibleIterator>⟧.contract.steps
         ⟦<Filter<I, F> as DoubleEndedFallibleIterator>⟧.ends.steps s.now (filtered h l) }
     ensures back { (it : I) (f : F) (h : I.Item → Result Bool I.Error)
         (l : List (Result I.Item I.Error))
-        → filter_parts s.now ≡ (it, f) → Acts (call_at F.FnMut) f h
+        → filter_parts s.now ≡ (it, f) → Acts (call_by_reference F.FnMut) f h
         → Lists I.ends.steps it l
         → Lists ⟦<Filter<I, F> as DoubleEndedFallibleIterator>⟧.ends.steps s.now
         (filtered h l) }
@@ -225,23 +225,23 @@ where
         K.next_back_gives
         (ListsBothEnds ⟦<IntoFallible<K> as FallibleIterator>⟧.contract.steps
         ⟦<IntoFallible<K> as DoubleEndedFallibleIterator>⟧.ends.steps) }
-    ensures map { ListsByClosure map_parts (call_on F.FnMut) map_outcome mapped
+    ensures map { ListsByClosure map_parts (call_by_value F.FnMut) map_outcome mapped
         (ListsBothEnds I.contract.steps I.ends.steps)
         (ListsBothEnds ⟦<Map<I, F> as FallibleIterator>⟧.contract.steps
         ⟦<Map<I, F> as DoubleEndedFallibleIterator>⟧.ends.steps) }
-    ensures inspect { ListsByClosure inspect_parts (call_at G.FnMut) inspect_outcome inspected
+    ensures inspect { ListsByClosure inspect_parts (call_by_reference G.FnMut) inspect_outcome inspected
         (ListsBothEnds I.contract.steps I.ends.steps)
         (ListsBothEnds ⟦<Inspect<I, G> as FallibleIterator>⟧.contract.steps
         ⟦<Inspect<I, G> as DoubleEndedFallibleIterator>⟧.ends.steps) }
-    ensures filter { ListsByClosure filter_parts (call_at P.FnMut) tested_outcome filtered
+    ensures filter { ListsByClosure filter_parts (call_by_reference P.FnMut) tested_outcome filtered
         (ListsBothEnds I.contract.steps I.ends.steps)
         (ListsBothEnds ⟦<Filter<I, P> as FallibleIterator>⟧.contract.steps
         ⟦<Filter<I, P> as DoubleEndedFallibleIterator>⟧.ends.steps) }
-    ensures filter_map { ListsByClosure filter_map_parts (call_on Q.FnMut) filter_map_outcome
+    ensures filter_map { ListsByClosure filter_map_parts (call_by_value Q.FnMut) filter_map_outcome
         filter_mapped (ListsBothEnds I.contract.steps I.ends.steps)
         (ListsBothEnds ⟦<FilterMap<I, Q> as FallibleIterator>⟧.contract.steps
         ⟦<FilterMap<I, Q> as DoubleEndedFallibleIterator>⟧.ends.steps) }
-    ensures map_err { ListsFailures map_err_parts (call_on H.FnMut)
+    ensures map_err { ListsFailures map_err_parts (call_by_value H.FnMut)
         (ListsBothEnds I.contract.steps I.ends.steps)
         (ListsBothEnds ⟦<MapErr<I, H> as FallibleIterator>⟧.contract.steps
         ⟦<MapErr<I, H> as DoubleEndedFallibleIterator>⟧.ends.steps) }

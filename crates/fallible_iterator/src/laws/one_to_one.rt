@@ -1,6 +1,6 @@
 // What a trace of each adapter is that draws once in each call.
 ghost use Rattle.fallible_contract.specs.LawForm.{TracesAre};
-ghost use Rattle.fallible_contract.specs.Closures.{call_on};
+ghost use Rattle.fallible_contract.specs.Closures.{call_by_value};
 ghost use Rattle.fallible_core.specs.OneToOne.Map.{MapTrace, map_parts};
 ghost use Rattle.fallible_core.specs.OneToOne.Inspect.{InspectTrace, inspect_parts};
 ghost use Rattle.fallible_core.specs.OneToOne.Scan.{ScanTrace, scan_parts};
@@ -32,7 +32,7 @@ where
 pub fn law_map_err<I: FallibleIterator, B, F: FnMut(I::Error) -> B>()
 where
     ensures { TracesAre map_err_parts ⟦<MapErr<I, F> as FallibleIterator>⟧.contract.steps
-        (MapErrTrace I.contract.steps (call_on F.FnMut)) }
+        (MapErrTrace I.contract.steps (call_by_value F.FnMut)) }
 {}
 
 /// The answers of `Enumerate` are the source's, each item paired with the number of items before it.

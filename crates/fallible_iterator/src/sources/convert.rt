@@ -7,7 +7,7 @@ ghost use Rattle.fallible_contract.specs.Laws.Contract.{lawful_seen};
 ghost use Rattle.fallible_contract.specs.Laws.Ends.{lawful_ends_seen};
 ghost use Rattle.fallible_core.specs.Ends.Rev.{rev_parts};
 ghost use Rattle.fallible_iterator.specs.Sources.Convert.{convert_contract, convert_ends, convert_parts};
-ghost use Rattle.fallible_iterator.specs.Sources.Std.{element_by};
+ghost use Rattle.fallible_iterator.specs.Sources.Std.{std_element};
 ghost use Rattle.fallible_iterator.specs.Laws.Sources.Std.{lawful_std, lawful_ends_std};
 
 use crate::sources::std_fold::{AsResult, drive_back_std, drive_std};
@@ -102,7 +102,7 @@ impl<T, E, I: std::iter::DoubleEndedIterator<Item = Result<T, E>>> Convert<I> {
 
 // What an element of the std iterator becomes: `Ok` an item, `Err` a failure, `None` an `Ok(None)`.
 fn transpose<T, E>(element: Option<Result<T, E>>) -> Result<Option<T>, E>
-    ensures { element ≡ element_by Ok Err result }
+    ensures { element ≡ std_element Ok Err result }
 {
     match element {
         Some(Ok(x)) => Ok(Some(x)),

@@ -6,7 +6,7 @@ ghost use Rattle.std.specs.Iterator.{IsFinite};
 ghost use Rattle.fallible_contract.specs.Folds.{CallableDriving, Driven};
 ghost use Rattle.fallible_contract.specs.Lists.{result_answer};
 ghost use Rattle.fallible_iterator.specs.Sources.IntoFallible.{never};
-ghost use Rattle.fallible_iterator.specs.Sources.Std.{element_by, std_step};
+ghost use Rattle.fallible_iterator.specs.Sources.Std.{std_element, std_step};
 ghost use Rattle.fallible_iterator.specs.Sources.StdFold.{progressing, ElementTurn, lent};
 ghost use Rattle.fallible_iterator.specs.Laws.Sources.Std.{element_by_reads_item, element_by_reads_result};
 
@@ -28,7 +28,7 @@ pub(crate) trait Element<Z, A, E> {
         ensures { result ≡ read element };
 
     // The answer that an element is comes from that element.
-    ghost reads: { (z : Z) → element_by of_item of_failure (result_answer (read z)) ≡ Some z };
+    ghost reads: { (z : Z) → std_element of_item of_failure (result_answer (read z)) ≡ Some z };
 }
 
 // Each `Ok` is an item, and each `Err` a failure.

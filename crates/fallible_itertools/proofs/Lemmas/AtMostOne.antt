@@ -55,8 +55,8 @@ module _ {S A E : Type 0} {steps : S → Answered A E → S → Type 0} {s t : S
   at_most_one_of_lists {r = r} l c i = let d = drawn_of_lists steps c.items c.last l s t i.runs c.ran in at_most_one_of_after_items c.items c.last r d.rest d.rest_is c.at.exit ∙ sym (ap at_most_one_of d.list_is)
 
   -- and so is what it leaves
-  pub lists_rest_nth_1 : {r : Result (Result (Option A) (A × A)) E} (l : List (Result A E)) → AtMostOneDrains steps s r t → Lists steps s l → ((o : Option A) → ¬ (r ≡ Ok (Ok o))) → Lists steps t (rest_nth 1 l)
-  lists_rest_nth_1 {r = r} l c i other =
+  pub lists_rest_after_two : {r : Result (Result (Option A) (A × A)) E} (l : List (Result A E)) → AtMostOneDrains steps s r t → Lists steps s l → ((o : Option A) → ¬ (r ≡ Ok (Ok o))) → Lists steps t (rest_nth 1 l)
+  lists_rest_after_two {r = r} l c i other =
       let no_end = no_end_drawn c.items c.last r other c.at.exit in
       let c' : NthDrains steps s 1 c.last t = record { items = c.items; last = c.last; ran = c.ran; at = record { is = refl; exit = nth_exit_second_or_failure c.items c.last r no_end c.at.exit } } in
       lists_rest_nth l c' i no_end

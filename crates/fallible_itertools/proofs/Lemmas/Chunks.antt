@@ -116,9 +116,9 @@ module _ {A E : Type 0} (from : AllocError → E → Type 0) (n : ℕ) where
   full_left_out xs true full is = full
   full_left_out xs false full is = absurd cc
 
-  no_end_at : (xs : List A) (b : Bool) → batch_outcome_at E xs b ≡ End → ⊥
-  no_end_at xs true is = cc
-  no_end_at xs false is = cc
+  batch_outcome_at_is_no_end : (xs : List A) (b : Bool) → batch_outcome_at E xs b ≡ End → ⊥
+  batch_outcome_at_is_no_end xs true is = cc
+  batch_outcome_at_is_no_end xs false is = cc
 
   at_stop_full : (a : List A) → FullBatch a → (y : List A) × (batch_outcome {E = E} n a None ≡ Kept y)
   at_stop_full [] full = absurd full
@@ -128,18 +128,18 @@ module _ {A E : Type 0} (from : AllocError → E → Type 0) (n : ℕ) where
   answers_of_chunks = record {
     left_out = λ a x is. full_left_out (a ++ x ∷ []) (ltb (length (a ++ x ∷ [])) n) (full_more a x) is;
     at_stop = at_stop_full;
-    no_end = λ a x is. no_end_at (a ++ x ∷ []) (ltb (length (a ++ x ∷ [])) n) is;
+    no_end = λ a x is. batch_outcome_at_is_no_end (a ++ x ∷ []) (ltb (length (a ++ x ∷ [])) n) is;
   }
 
-  by_outcome_cons_at : (xs : List A) (b : Bool) (l : List (Result A E)) (more other : List (Result (List A) E)) → held_list (batch_outcome n) (next_batch n) xs l ≡ more → held_list (batch_outcome n) (next_batch n) [] l ≡ other → by_outcome (batch_outcome n) (next_batch n) (batch_outcome_at E xs b) (next_batch_at xs b) l ≡ batch_or xs b more other
-  by_outcome_cons_at xs true l more other is_more is_other = is_more
-  by_outcome_cons_at xs false l more other is_more is_other = ap (λ k. Ok xs ∷ k) is_other
+  by_outcome_is_batch_or : (xs : List A) (b : Bool) (l : List (Result A E)) (more other : List (Result (List A) E)) → held_list (batch_outcome n) (next_batch n) xs l ≡ more → held_list (batch_outcome n) (next_batch n) [] l ≡ other → by_outcome (batch_outcome n) (next_batch n) (batch_outcome_at E xs b) (next_batch_at xs b) l ≡ batch_or xs b more other
+  by_outcome_is_batch_or xs true l more other is_more is_other = is_more
+  by_outcome_is_batch_or xs false l more other is_more is_other = ap (λ k. Ok xs ∷ k) is_other
 
   held_list_is_chunked_from : (a : List A) (l : List (Result A E)) → held_list (batch_outcome n) (next_batch n) a l ≡ chunked_from n a l
   unfolding chunked_from
   held_list_is_chunked_from [] [] = refl
   held_list_is_chunked_from (x ∷ xs) [] = refl
-  held_list_is_chunked_from a (Ok x ∷ l) = by_outcome_cons_at (a ++ x ∷ []) (ltb (length (a ++ x ∷ [])) n) l _ _ (held_list_is_chunked_from (a ++ x ∷ []) l) (held_list_is_chunked_from [] l)
+  held_list_is_chunked_from a (Ok x ∷ l) = by_outcome_is_batch_or (a ++ x ∷ []) (ltb (length (a ++ x ∷ [])) n) l _ _ (held_list_is_chunked_from (a ++ x ∷ []) l) (held_list_is_chunked_from [] l)
   held_list_is_chunked_from [] (Err e ∷ l) = ap (λ k. Err e ∷ k) (held_list_is_chunked_from [] l)
   held_list_is_chunked_from (x ∷ xs) (Err e ∷ l) = ap (λ k. Ok (x ∷ xs) ∷ Err e ∷ k) (held_list_is_chunked_from [] l)
 
@@ -152,7 +152,7 @@ module _ {A E : Type 0} (from : AllocError → E → Type 0) (n : ℕ) where
 
   -- What stands before a failure is batched by itself, and so is what comes after it.
   pub chunked_in_parts : (a : List (Result A E)) (e : E) (b : List (Result A E)) → chunked n (a ++ Err e ∷ b) ≡ chunked n a ++ Err e ∷ chunked n b
-  chunked_in_parts a e b = listed_parts (batch_outcome n) (next_batch n) [] next_held_at_stop_none (λ a x is. no_end_at (a ++ x ∷ []) (ltb (length (a ++ x ∷ [])) n) is) (chunked n) held_list_is_chunked a e b
+  chunked_in_parts a e b = listed_parts (batch_outcome n) (next_batch n) [] next_held_at_stop_none (λ a x is. batch_outcome_at_is_no_end (a ++ x ∷ []) (ltb (length (a ++ x ∷ [])) n) is) (chunked n) held_list_is_chunked a e b
 
 pub lists_up_to_refusal_chunked : {S A E : Type 0} (m : Contract S A E) (from : AllocError → E → Type 0) (n : ℕ) (s : Chunks S A E) (l : List (Result A E)) → chunks_parts s ≡ (s.it, ((n, None), None)) → Lists m.steps s.it l → ListsMade (λ xs v. vec_items v ≡ xs) (seen_as chunks_parts (chunks_contract from m)).steps from s (chunked n l)
 lists_up_to_refusal_chunked m from n s l parts i = lists_made_seen (λ xs v. vec_items v ≡ xs) from chunks_parts (chunks_contract from m).steps s _ _ _ parts (held_list_is_chunked from n l) (gives_held_made m.steps (chunks_asks from) (λ xs v. vec_items v ≡ xs) from (HeldAndNumber from n) (batch_outcome n) (next_batch n) (refuses_on_item from n) (at_on_stop from n) FullBatch (answers_of_chunks from n) (made_at_stop from n) l s.it (n, None) [] (refl, tt) i.runs)

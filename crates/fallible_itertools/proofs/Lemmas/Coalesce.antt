@@ -27,10 +27,10 @@ module _ {A E : Type 0} where
   held_outcome_by (Ok (Err both)) = Kept both.0
   held_outcome_by (Err e) = Failure e
 
-  held_and_outcome_by : (v : OneOrBoth A E) (o : Outcome A E) (q : Option A) → coalesced_by v o q → (q ≡ next_held_by v) × (o ≡ held_outcome_by v)
-  held_and_outcome_by (Ok (Ok z)) o q w = (w.1, w.0)
-  held_and_outcome_by (Ok (Err both)) o q w = (w.1, w.0)
-  held_and_outcome_by (Err e) o q w = (w.1, w.0)
+  coalesced_by_gives_held_and_outcome : (v : OneOrBoth A E) (o : Outcome A E) (q : Option A) → coalesced_by v o q → (q ≡ next_held_by v) × (o ≡ held_outcome_by v)
+  coalesced_by_gives_held_and_outcome (Ok (Ok z)) o q w = (w.1, w.0)
+  coalesced_by_gives_held_and_outcome (Ok (Err both)) o q w = (w.1, w.0)
+  coalesced_by_gives_held_and_outcome (Err e) o q w = (w.1, w.0)
 
 module _ {A E : Type 0} (h : A → A → OneOrBoth A E) where
   abbrev next_held : Option A → Option A → Option A
@@ -49,26 +49,26 @@ module _ {A E : Type 0} (h : A → A → OneOrBoth A E) where
   next_held_at_stop_none None = refl
   next_held_at_stop_none (Some y) = refl
 
-  no_end_by : (v : OneOrBoth A E) → held_outcome_by v ≡ End → ⊥
-  no_end_by (Ok (Ok z)) is = absurd cc
-  no_end_by (Ok (Err both)) is = absurd cc
-  no_end_by (Err e) is = absurd cc
+  held_outcome_by_is_no_end : (v : OneOrBoth A E) → held_outcome_by v ≡ End → ⊥
+  held_outcome_by_is_no_end (Ok (Ok z)) is = absurd cc
+  held_outcome_by_is_no_end (Ok (Err both)) is = absurd cc
+  held_outcome_by_is_no_end (Err e) is = absurd cc
 
   outcome_never_end : (a : Option A) (x : A) → held_outcome a (Some x) ≡ End → ⊥
   outcome_never_end None x is = absurd cc
-  outcome_never_end (Some y) x is = no_end_by (h y x) is
+  outcome_never_end (Some y) x is = held_outcome_by_is_no_end (h y x) is
 
-  by_outcome_cons_at : (v : OneOrBoth A E) (l : List (Result A E)) → ((a : Option A) → held_list held_outcome next_held a l ≡ coalesced_from h a l) → by_outcome held_outcome next_held (held_outcome_by v) (next_held_by v) l ≡ coalesced_at v (λ held. coalesced_from h held l)
-  by_outcome_cons_at (Ok (Ok z)) l rest = rest (Some z)
-  by_outcome_cons_at (Ok (Err both)) l rest = ap (λ k. Ok both.0 ∷ k) (rest (Some both.1))
-  by_outcome_cons_at (Err e) l rest = ap (λ k. Err e ∷ k) (rest None)
+  by_outcome_is_coalesced_from : (v : OneOrBoth A E) (l : List (Result A E)) → ((a : Option A) → held_list held_outcome next_held a l ≡ coalesced_from h a l) → by_outcome held_outcome next_held (held_outcome_by v) (next_held_by v) l ≡ coalesced_at v (λ held. coalesced_from h held l)
+  by_outcome_is_coalesced_from (Ok (Ok z)) l rest = rest (Some z)
+  by_outcome_is_coalesced_from (Ok (Err both)) l rest = ap (λ k. Ok both.0 ∷ k) (rest (Some both.1))
+  by_outcome_is_coalesced_from (Err e) l rest = ap (λ k. Err e ∷ k) (rest None)
 
   held_list_is_coalesced_from : (a : Option A) (l : List (Result A E)) → held_list held_outcome next_held a l ≡ coalesced_from h a l
   unfolding coalesced_from
   held_list_is_coalesced_from None [] = refl
   held_list_is_coalesced_from (Some y) [] = refl
   held_list_is_coalesced_from None (Ok x ∷ l) = held_list_is_coalesced_from (Some x) l
-  held_list_is_coalesced_from (Some y) (Ok x ∷ l) = by_outcome_cons_at (h y x) l (λ a. held_list_is_coalesced_from a l)
+  held_list_is_coalesced_from (Some y) (Ok x ∷ l) = by_outcome_is_coalesced_from (h y x) l (λ a. held_list_is_coalesced_from a l)
   held_list_is_coalesced_from None (Err e ∷ l) = ap (λ k. Err e ∷ k) (held_list_is_coalesced_from None l)
   held_list_is_coalesced_from (Some y) (Err e ∷ l) = ap (λ k. Ok y ∷ Err e ∷ k) (held_list_is_coalesced_from None l)
 
@@ -90,7 +90,7 @@ module _ {A E : Type 0} (h : A → A → OneOrBoth A E) where
 
     asks_is_function : (a x : Option A) (o : Outcome A E) (q : Option A × F) → coalesce_asks call (a, f) x o q → HeldAndClosure q (next_held a x) × (o ≡ held_outcome a x)
     asks_is_function None (Some x) o q w = (w.1, w.0)
-    asks_is_function (Some y) (Some x) o q w = let d = acts_with y x w.0 q.1 w.1 in let v = held_and_outcome_by w.0 o q.0 w.2 in (pair_of_parts q (v.0 ∙ ap next_held_by d.1) d.0, v.1 ∙ ap held_outcome_by d.1)
+    asks_is_function (Some y) (Some x) o q w = let d = acts_with y x w.0 q.1 w.1 in let v = coalesced_by_gives_held_and_outcome w.0 o q.0 w.2 in (pair_of_parts q (v.0 ∙ ap next_held_by d.1) d.0, v.1 ∙ ap held_outcome_by d.1)
     asks_is_function None None o q w = (w.1, w.0)
     asks_is_function (Some y) None o q w = (w.1, w.0)
 

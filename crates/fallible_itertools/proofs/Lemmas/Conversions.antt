@@ -4,7 +4,7 @@ use Rattle.std.specs.List.{FoldsTo}
 use Rattle.std.proofs.Common.{refl, sym, ap, subst, ◌∙◌}
 use Rattle.fallible_iterator.specs.Traces.{Answered, Run, item}
 use Rattle.fallible_iterator.specs.Folds.{DriveExit, Driven, FoldExit, FoldDrains, went_on_with}
-use Rattle.fallible_iterator.specs.Searching.{WentOn, SearchDecides, SearchExit, SearchDrains, each_pick, find_pick, position_pick}
+use Rattle.fallible_iterator.specs.Searching.{WentOn, SearchDecides, SearchExit, SearchDrains, for_each_pick, find_pick, position_pick}
 use Rattle.fallible_iterator.specs.Lists.{AlwaysGives, Lists, Acts, ActsWith, Converts, stopped_or, rest_failed, rest_fold, failures_mapped}
 use Rattle.fallible_iterator.proofs.Lemmas.Lists.Rest.{lists_rest_fold, is_some_find_pick, is_some_position_pick}
 use Rattle.fallible_iterator.proofs.Lemmas.Lists.Searched.{each_done_of_lists, found_of_lists, position_in_of_lists}
@@ -55,7 +55,7 @@ module _ {S A E E' C R : Type 0} {from : E → E' → Type 0} {steps : S → Ans
 -- ---- values
 
 module _ {S A E E' F : Type 0} {from : E → E' → Type 0} {steps : S → Answered A E → S → Type 0} {s t : S} {f g : F} (convert : E → E') (converts : Converts from convert) (l : List (Result A E)) (i : Lists steps s l) where
-  pub try_each_done_of_lists : {call : F → A → Result (Unit {0}) E' → F → Type 0} (h : A → Result (Unit {0}) E') {r : Result (Unit {0}) E'} → Acts call f h → SearchDrains call each_pick (Converted from steps) tt s f r t g → r ≡ try_each_done convert h l
+  pub try_each_done_of_lists : {call : F → A → Result (Unit {0}) E' → F → Type 0} (h : A → Result (Unit {0}) E') {r : Result (Unit {0}) E'} → Acts call f h → SearchDrains call for_each_pick (Converted from steps) tt s f r t g → r ≡ try_each_done convert h l
   unfolding try_each_done
   try_each_done_of_lists {call = call} h acts d = each_done_of_lists (failures_mapped convert l) (lists_converted from steps convert s l converts i) {call = call} h acts d
 
@@ -125,9 +125,9 @@ module _ {A E' F V R : Type 0} (call : F → A → Result V E' → F → Type 0)
       lists_rest_try_stop acts i w no_end = subst (λ k. Lists steps t k) (rest_fold_is_rest_try_stop l) (lists_rest_fold SearchCall (λ e v. ⊤) search_returns f (acts_with_search f acts) steps l (fold_drains_search from steps none s t f g r w no_end) i tt refl)
 
 module _ {S A E E' F : Type 0} {from : E → E' → Type 0} {steps : S → Answered A E → S → Type 0} {s t : S} {f g : F} (l : List (Result A E)) (i : Lists steps s l) where
-  pub lists_rest_try_each : {call : F → A → Result (Unit {0}) E' → F → Type 0} (h : A → Result (Unit {0}) E') {r : Result (Unit {0}) E'} {e : E'} → Acts call f h → SearchDrains call each_pick (Converted from steps) tt s f r t g → r ≡ Err e → Lists steps t (rest_try_each h l)
+  pub lists_rest_try_each : {call : F → A → Result (Unit {0}) E' → F → Type 0} (h : A → Result (Unit {0}) E') {r : Result (Unit {0}) E'} {e : E'} → Acts call f h → SearchDrains call for_each_pick (Converted from steps) tt s f r t g → r ≡ Err e → Lists steps t (rest_try_each h l)
   unfolding rest_try_each
-  lists_rest_try_each {call = call} h acts d is = lists_rest_try_stop call each_pick (λ u. false) (λ n x u. refl) h from acts i d (λ no. absurd cc)
+  lists_rest_try_each {call = call} h acts d is = lists_rest_try_stop call for_each_pick (λ u. false) (λ n x u. refl) h from acts i d (λ no. absurd cc)
 
   pub lists_rest_try_true : {call : F → A → Result Bool E' → F → Type 0} (h : A → Result Bool E') {r : Result (Option A) E'} → Acts call f h → SearchDrains call find_pick (Converted from steps) None s f r t g → ¬ (r ≡ Ok None) → Lists steps t (rest_try_true h l)
   unfolding rest_try_true

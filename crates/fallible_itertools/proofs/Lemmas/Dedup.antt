@@ -38,26 +38,26 @@ module _ {A E : Type 0} (eq : A → A → Bool) where
   held_outcome None None = End
   held_outcome (Some y) None = Kept y
 
-  held_and_outcome_at : (y x : A) (b : Bool) (o : Outcome A E) (q : Option A) → dedup_at eq y x b o q → (q ≡ next_held_at eq y x b) × (o ≡ held_outcome_at y b)
-  held_and_outcome_at y x true o q w = (w.1, w.0)
-  held_and_outcome_at y x false o q w = (w.1, w.0)
+  dedup_at_gives_held_and_outcome : (y x : A) (b : Bool) (o : Outcome A E) (q : Option A) → dedup_at eq y x b o q → (q ≡ next_held_at eq y x b) × (o ≡ held_outcome_at y b)
+  dedup_at_gives_held_and_outcome y x true o q w = (w.1, w.0)
+  dedup_at_gives_held_and_outcome y x false o q w = (w.1, w.0)
 
   asks_is_function : (a : Option A) (x : Option A) (o : Outcome A E) (q : Option A) → dedup_asks eq a x o q → (q ≡ next_held eq a x) × (o ≡ held_outcome a x)
   asks_is_function None (Some x) o q w = (w.1, w.0)
-  asks_is_function (Some y) (Some x) o q w = held_and_outcome_at y x (eq y x) o q w
+  asks_is_function (Some y) (Some x) o q w = dedup_at_gives_held_and_outcome y x (eq y x) o q w
   asks_is_function None None o q w = (w.1, w.0)
   asks_is_function (Some y) None o q w = (w.1, w.0)
 
   acts_by_next : (p a : Option A) (x : Option A) (o : Outcome A E) (q : Option A) → p ≡ a → dedup_asks eq p x o q → (q ≡ next_held eq a x) × (o ≡ held_outcome a x)
   acts_by_next p a x o q at w = asks_is_function a x o q (subst (λ k. dedup_asks eq k x o q) at w)
 
-  no_end_at : (y : A) (b : Bool) → held_outcome_at y b ≡ End → ⊥
-  no_end_at y true is = absurd cc
-  no_end_at y false is = absurd cc
+  held_outcome_at_is_no_end : (y : A) (b : Bool) → held_outcome_at y b ≡ End → ⊥
+  held_outcome_at_is_no_end y true is = absurd cc
+  held_outcome_at_is_no_end y false is = absurd cc
 
   outcome_never_end : (a : Option A) (x : A) → held_outcome a (Some x) ≡ End → ⊥
   outcome_never_end None x is = absurd cc
-  outcome_never_end (Some y) x is = no_end_at y (eq y x) is
+  outcome_never_end (Some y) x is = held_outcome_at_is_no_end y (eq y x) is
 
   by_outcome_item_at : (y x : A) (b : Bool) (l : List (Result A E)) (same other : List (Result A E)) → held_list held_outcome (next_held eq) (Some y) l ≡ same → held_list held_outcome (next_held eq) (Some x) l ≡ other → by_outcome held_outcome (next_held eq) (held_outcome_at y b) (next_held_at eq y x b) l ≡ dedup_before eq y x b same other
   by_outcome_item_at y x true l same other is_same is_other = is_same

@@ -50,14 +50,14 @@ module _ {A E : Type 0} (h : A → A → Result Bool E) where
   none_held_after_end None = refl
   none_held_after_end (Some y) = refl
 
-  no_end_by : (y : A) (v : Result Bool E) → outcome_of_found_same y v ≡ End → ⊥
-  no_end_by y (Ok true) is = absurd cc
-  no_end_by y (Ok false) is = absurd cc
-  no_end_by y (Err e) is = absurd cc
+  outcome_of_found_same_is_no_end : (y : A) (v : Result Bool E) → outcome_of_found_same y v ≡ End → ⊥
+  outcome_of_found_same_is_no_end y (Ok true) is = absurd cc
+  outcome_of_found_same_is_no_end y (Ok false) is = absurd cc
+  outcome_of_found_same_is_no_end y (Err e) is = absurd cc
 
   dedup_by_outcome_never_end : (a : Option A) (x : A) → dedup_by_outcome a (Some x) ≡ End → ⊥
   dedup_by_outcome_never_end None x is = absurd cc
-  dedup_by_outcome_never_end (Some y) x is = no_end_by y (h y x) is
+  dedup_by_outcome_never_end (Some y) x is = outcome_of_found_same_is_no_end y (h y x) is
 
   by_outcome_of_found_same : (y x : A) (v : Result Bool E) (l : List (Result A E)) → ((a : Option A) → held_list dedup_by_outcome held_after_dedup_by a l ≡ deduped_by_from h a l) → by_outcome dedup_by_outcome held_after_dedup_by (outcome_of_found_same y v) (held_after_found_same y x v) l ≡ same_before y x v (λ held. deduped_by_from h held l)
   by_outcome_of_found_same y x (Ok true) l rest = rest (Some y)

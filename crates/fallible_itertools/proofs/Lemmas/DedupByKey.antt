@@ -4,7 +4,7 @@ use Rattle.std.specs.Fn.{Mut}
 use Rattle.std.specs.Borrow.{Bor}
 use Rattle.std.proofs.Common.{refl, ap, subst, arith, ◌∙◌}
 use Rattle.fallible_iterator.specs.Contract.{Contract, seen_as}
-use Rattle.fallible_iterator.specs.Closures.{IsCallable, call_at}
+use Rattle.fallible_iterator.specs.Closures.{IsCallable, call_by_reference}
 use Rattle.fallible_iterator.specs.Lists.{Acts, Lists}
 use Rattle.fallible_iterator.proofs.Lemmas.Lists.Passing.{lists_seen}
 use Rattle.fallible_itertools.specs.DedupByKey.{keyed_at, keyed_by, key_before, key_at, dedup_key_asks, dedup_key_takes, dedup_by_key_contract, dedup_by_key_parts, deduped_by_key, deduped_key_from}
@@ -35,15 +35,15 @@ module _ {A K E : Type 0} (eq : K → K → Bool) where
   held_outcome_by None x (Ok k) = LeftOut
   held_outcome_by (Some held) x (Ok k) = held_outcome_at held (eq held.0 k)
 
-  held_and_outcome_at : (held this : K × A) (b : Bool) (o : Outcome A E) (q : Option (K × A)) → keyed_at eq held this b o q → (q ≡ next_held_at held this b) × (o ≡ held_outcome_at held b)
-  held_and_outcome_at held this true o q w = (w.1, w.0)
-  held_and_outcome_at held this false o q w = (w.1, w.0)
+  keyed_at_gives_held_and_outcome : (held this : K × A) (b : Bool) (o : Outcome A E) (q : Option (K × A)) → keyed_at eq held this b o q → (q ≡ next_held_at held this b) × (o ≡ held_outcome_at held b)
+  keyed_at_gives_held_and_outcome held this true o q w = (w.1, w.0)
+  keyed_at_gives_held_and_outcome held this false o q w = (w.1, w.0)
 
-  held_and_outcome_by : (held : Option (K × A)) (x : A) (v : Result K E) (o : Outcome A E) (q : Option (K × A)) → keyed_by eq held x v o q → (q ≡ next_held_by held x v) × (o ≡ held_outcome_by held x v)
-  held_and_outcome_by None x (Err e) o q w = (w.1, w.0)
-  held_and_outcome_by (Some held) x (Err e) o q w = (w.1, w.0)
-  held_and_outcome_by None x (Ok k) o q w = (w.1, w.0)
-  held_and_outcome_by (Some held) x (Ok k) o q w = held_and_outcome_at held (k, x) (eq held.0 k) o q w
+  keyed_by_gives_held_and_outcome : (held : Option (K × A)) (x : A) (v : Result K E) (o : Outcome A E) (q : Option (K × A)) → keyed_by eq held x v o q → (q ≡ next_held_by held x v) × (o ≡ held_outcome_by held x v)
+  keyed_by_gives_held_and_outcome None x (Err e) o q w = (w.1, w.0)
+  keyed_by_gives_held_and_outcome (Some held) x (Err e) o q w = (w.1, w.0)
+  keyed_by_gives_held_and_outcome None x (Ok k) o q w = (w.1, w.0)
+  keyed_by_gives_held_and_outcome (Some held) x (Ok k) o q w = keyed_at_gives_held_and_outcome held (k, x) (eq held.0 k) o q w
 
   module _ (h : A → Result K E) where
     abbrev next_held : Option (K × A) → Option A → Option (K × A)
@@ -55,34 +55,34 @@ module _ {A K E : Type 0} (eq : K → K → Bool) where
     held_outcome None None = End
     held_outcome (Some held) None = Kept held.1
 
-    no_end_at : (held : K × A) (b : Bool) → held_outcome_at held b ≡ End → ⊥
-    no_end_at held true is = absurd cc
-    no_end_at held false is = absurd cc
+    held_outcome_at_is_no_end : (held : K × A) (b : Bool) → held_outcome_at held b ≡ End → ⊥
+    held_outcome_at_is_no_end held true is = absurd cc
+    held_outcome_at_is_no_end held false is = absurd cc
 
-    no_end_by : (a : Option (K × A)) (x : A) (v : Result K E) → held_outcome_by a x v ≡ End → ⊥
-    no_end_by a x (Err e) is = absurd cc
-    no_end_by None x (Ok k) is = absurd cc
-    no_end_by (Some held) x (Ok k) is = no_end_at held (eq held.0 k) is
+    held_outcome_by_is_no_end : (a : Option (K × A)) (x : A) (v : Result K E) → held_outcome_by a x v ≡ End → ⊥
+    held_outcome_by_is_no_end a x (Err e) is = absurd cc
+    held_outcome_by_is_no_end None x (Ok k) is = absurd cc
+    held_outcome_by_is_no_end (Some held) x (Ok k) is = held_outcome_at_is_no_end held (eq held.0 k) is
 
     outcome_never_end : (a : Option (K × A)) (x : A) → held_outcome a (Some x) ≡ End → ⊥
-    outcome_never_end a x is = no_end_by a x (h x) is
+    outcome_never_end a x is = held_outcome_by_is_no_end a x (h x) is
 
     by_outcome_cons_before : (held this : K × A) (b : Bool) (l : List (Result A E)) → ((a : Option (K × A)) → held_list held_outcome next_held a l ≡ deduped_key_from eq h a l) → by_outcome held_outcome next_held (held_outcome_at held b) (next_held_at held this b) l ≡ key_before eq held b (deduped_key_from eq h (Some held) l) (deduped_key_from eq h (Some this) l)
     by_outcome_cons_before held this true l rest = rest (Some held)
     by_outcome_cons_before held this false l rest = ap (λ k. Ok held.1 ∷ k) (rest (Some this))
 
-    by_outcome_cons_at : (a : Option (K × A)) (x : A) (v : Result K E) (l : List (Result A E)) → ((a : Option (K × A)) → held_list held_outcome next_held a l ≡ deduped_key_from eq h a l) → by_outcome held_outcome next_held (held_outcome_by a x v) (next_held_by a x v) l ≡ key_at eq a x v (λ p. deduped_key_from eq h p l)
-    by_outcome_cons_at None x (Err e) l rest = ap (λ k. Err e ∷ k) (rest None)
-    by_outcome_cons_at (Some held) x (Err e) l rest = ap (λ k. Ok held.1 ∷ Err e ∷ k) (rest None)
-    by_outcome_cons_at None x (Ok k) l rest = rest (Some (k, x))
-    by_outcome_cons_at (Some held) x (Ok k) l rest = by_outcome_cons_before held (k, x) (eq held.0 k) l rest
+    by_outcome_is_keyed_from : (a : Option (K × A)) (x : A) (v : Result K E) (l : List (Result A E)) → ((a : Option (K × A)) → held_list held_outcome next_held a l ≡ deduped_key_from eq h a l) → by_outcome held_outcome next_held (held_outcome_by a x v) (next_held_by a x v) l ≡ key_at eq a x v (λ p. deduped_key_from eq h p l)
+    by_outcome_is_keyed_from None x (Err e) l rest = ap (λ k. Err e ∷ k) (rest None)
+    by_outcome_is_keyed_from (Some held) x (Err e) l rest = ap (λ k. Ok held.1 ∷ Err e ∷ k) (rest None)
+    by_outcome_is_keyed_from None x (Ok k) l rest = rest (Some (k, x))
+    by_outcome_is_keyed_from (Some held) x (Ok k) l rest = by_outcome_cons_before held (k, x) (eq held.0 k) l rest
 
     held_list_is_deduped_from : (a : Option (K × A)) (l : List (Result A E)) → held_list held_outcome next_held a l ≡ deduped_key_from eq h a l
     unfolding deduped_key_from
     held_list_is_deduped_from None [] = refl
     held_list_is_deduped_from (Some held) [] = refl
-    held_list_is_deduped_from None (Ok x ∷ l) = by_outcome_cons_at None x (h x) l (λ a. held_list_is_deduped_from a l)
-    held_list_is_deduped_from (Some held) (Ok x ∷ l) = by_outcome_cons_at (Some held) x (h x) l (λ a. held_list_is_deduped_from a l)
+    held_list_is_deduped_from None (Ok x ∷ l) = by_outcome_is_keyed_from None x (h x) l (λ a. held_list_is_deduped_from a l)
+    held_list_is_deduped_from (Some held) (Ok x ∷ l) = by_outcome_is_keyed_from (Some held) x (h x) l (λ a. held_list_is_deduped_from a l)
     held_list_is_deduped_from None (Err e ∷ l) = ap (λ k. Err e ∷ k) (held_list_is_deduped_from None l)
     held_list_is_deduped_from (Some held) (Err e ∷ l) = ap (λ k. Ok held.1 ∷ Err e ∷ k) (held_list_is_deduped_from None l)
 
@@ -106,16 +106,16 @@ module _ {A K E : Type 0} (eq : K → K → Bool) where
       HeldAndClosure p a = p ≡ (a, f)
 
       asks_is_function : (a : Option (K × A)) (x : Option A) (o : Outcome A E) (q : Option (K × A) × F) → dedup_key_asks eq call (a, f) x o q → HeldAndClosure q (next_held a x) × (o ≡ held_outcome a x)
-      asks_is_function a (Some x) o q w = let d = acts_as x w.0 q.1 w.1 in let v = held_and_outcome_by a x w.0 o q.0 w.2 in (pair_of_parts q (v.0 ∙ ap (next_held_by a x) d.1) d.0, v.1 ∙ ap (held_outcome_by a x) d.1)
+      asks_is_function a (Some x) o q w = let d = acts_as x w.0 q.1 w.1 in let v = keyed_by_gives_held_and_outcome a x w.0 o q.0 w.2 in (pair_of_parts q (v.0 ∙ ap (next_held_by a x) d.1) d.0, v.1 ∙ ap (held_outcome_by a x) d.1)
       asks_is_function None None o q w = (w.1, w.0)
       asks_is_function (Some held) None o q w = (w.1, w.0)
 
       acts_by_next : (p : Option (K × A) × F) (a : Option (K × A)) (x : Option A) (o : Outcome A E) (q : Option (K × A) × F) → HeldAndClosure p a → dedup_key_asks eq call p x o q → HeldAndClosure q (next_held a x) × (o ≡ held_outcome a x)
       acts_by_next p a x o q at w = asks_is_function a x o q (subst (λ k. dedup_key_asks eq call k x o q) at w)
 
-pub lists_deduped_by_key : {S A K F E : Type 0} (m : Contract S A E) (eq : K → K → Bool) (g : Mut F (Bor A × Unit {0}) (Result K E)) (s : DedupByKey S K F A E) (f : F) (h : A → Result K E) (l : List (Result A E)) → dedup_by_key_parts s ≡ (s.it, ((None, f), None)) → Acts (call_at g) f h → Lists m.steps s.it l
+pub lists_deduped_by_key : {S A K F E : Type 0} (m : Contract S A E) (eq : K → K → Bool) (g : Mut F (Bor A × Unit {0}) (Result K E)) (s : DedupByKey S K F A E) (f : F) (h : A → Result K E) (l : List (Result A E)) → dedup_by_key_parts s ≡ (s.it, ((None, f), None)) → Acts (call_by_reference g) f h → Lists m.steps s.it l
     → Lists (seen_as dedup_by_key_parts (dedup_by_key_contract eq m g)).steps s (deduped_by_key eq h l)
-lists_deduped_by_key m eq g s f h l parts a i = lists_seen dedup_by_key_parts (dedup_by_key_contract eq m g).steps s parts (held_list_is_deduped_by_key eq h l) (gives_held_list m.steps (dedup_key_asks eq (call_at g)) (HeldAndClosure eq h (call_at g) f a) (held_outcome eq h) (next_held eq h) (acts_by_next eq h (call_at g) f a) l s.it (None, f) None refl i.runs)
+lists_deduped_by_key m eq g s f h l parts a i = lists_seen dedup_by_key_parts (dedup_by_key_contract eq m g).steps s parts (held_list_is_deduped_by_key eq h l) (gives_held_list m.steps (dedup_key_asks eq (call_by_reference g)) (HeldAndClosure eq h (call_by_reference g) f a) (held_outcome eq h) (next_held eq h) (acts_by_next eq h (call_by_reference g) f a) l s.it (None, f) None refl i.runs)
 
 -- ---- its hint
 

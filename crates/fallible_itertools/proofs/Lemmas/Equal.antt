@@ -136,11 +136,11 @@ module _ {S A E : Type 0} {steps : S → Answered A E → S → Type 0} (eq : A 
   unequal_after t r q (Err e ∷ l) (Ok (Some x)) mid step i after no_end = absurd (let f = (i.runs (Ok (Some x)) mid step).0 in cc)
   unequal_after t r q (Err e ∷ l) (Err d) mid step i after no_end = record { runs = subst (λ (u : S). AlwaysGives steps u l) after.1 (i.runs (Err d) mid step).1 }
 
-  pub equal_to_first_is : {t : S} {r : Result Bool E} {q : Option A} (l : List (Result A E)) → Lists steps s l → SearchDrains (FirstCall eq) all_pick steps true s None r t q → r ≡ equal_to_first eq l
-  equal_to_first_is {t = t} {r = r} {q = q} l i w = let f = from_first steps eq all_pick true pick_at_any (λ n x. refl) t r q s w in equal_after t r q l f.first f.mid f.drawn i f.after
+  pub drain_is_equal_to_first : {t : S} {r : Result Bool E} {q : Option A} (l : List (Result A E)) → Lists steps s l → SearchDrains (FirstCall eq) all_pick steps true s None r t q → r ≡ equal_to_first eq l
+  drain_is_equal_to_first {t = t} {r = r} {q = q} l i w = let f = from_first steps eq all_pick true pick_at_any (λ n x. refl) t r q s w in equal_after t r q l f.first f.mid f.drawn i f.after
 
-  pub rest_unequal_is : {t : S} {r : Result Bool E} {q : Option A} (l : List (Result A E)) → Lists steps s l → SearchDrains (FirstCall eq) all_pick steps true s None r t q → ¬ (r ≡ Ok true) → Lists steps t (rest_unequal eq l)
-  rest_unequal_is {t = t} {r = r} {q = q} l i w no_end = let f = from_first steps eq all_pick true pick_at_any (λ n x. refl) t r q s w in unequal_after t r q l f.first f.mid f.drawn i f.after no_end
+  pub drain_leaves_rest_unequal : {t : S} {r : Result Bool E} {q : Option A} (l : List (Result A E)) → Lists steps s l → SearchDrains (FirstCall eq) all_pick steps true s None r t q → ¬ (r ≡ Ok true) → Lists steps t (rest_unequal eq l)
+  drain_leaves_rest_unequal {t = t} {r = r} {q = q} l i w no_end = let f = from_first steps eq all_pick true pick_at_any (λ n x. refl) t r q s w in unequal_after t r q l f.first f.mid f.drawn i f.after no_end
 
   value_after : (t : S) (r : Result (Option A) E) (q : Option A) (l : List (Result A E)) (first : Answered A E) (mid : S) → steps s first mid → Lists steps s l → AfterFirst steps eq unequal_pick None unequal_at_any (λ n x. refl) t r q first mid → value_or_both q r ≡ equal_value eq l
   unfolding equal_value
@@ -188,7 +188,7 @@ module _ {A E : Type 0} (eq : A → A → Bool) (q : Option A) where
   exit_all (Ok (Some x)) n c r h = decided_all n c x r h
 
   pub rest_unequal_found : {S : Type 0} {steps : S → Answered A E → S → Type 0} {s t : S} {r : Result (Option A) E} (l : List (Result A E)) → Lists steps s l → SearchDrains (FirstCall eq) unequal_pick steps None s None r t q → ¬ (none_unequal r ≡ Ok true) → Lists steps t (rest_unequal eq l)
-  rest_unequal_found {r = r} l i w no_end = rest_unequal_is eq l i (drained_map (λ items last h. record { closure = h.closure; went = folds_to_map (λ c x d k. (k.0, k.1, λ n. goes_on_equal n x k.0 (k.2 n))) items None h.closure h.went; exit = exit_all last (length items) h.closure r h.exit }) w) no_end
+  rest_unequal_found {r = r} l i w no_end = drain_leaves_rest_unequal eq l i (drained_map (λ items last h. record { closure = h.closure; went = folds_to_map (λ c x d k. (k.0, k.1, λ n. goes_on_equal n x k.0 (k.2 n))) items None h.closure h.went; exit = exit_all last (length items) h.closure r h.exit }) w) no_end
 
 -- no value, and no want of one, stands for a difference or a failure
 module _ {A E : Type 0} where

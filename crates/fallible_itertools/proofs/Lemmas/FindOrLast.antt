@@ -5,7 +5,7 @@ use Rattle.std.proofs.Common.{refl, sym, ap, subst, ◌∙◌}
 use Rattle.fallible_iterator.specs.Traces.{Answered, Run, item}
 use Rattle.fallible_iterator.specs.Folds.{goes_on, CallableDriving, DriveExit, Drained, Driven}
 use Rattle.fallible_iterator.specs.Lists.{Lists, Acts, last_of, nth_of, found}
-use Rattle.fallible_iterator.specs.Searching.{WentOn, SearchDecides, SearchExit, SearchedBy, CallableInSearch, answer_by, find_pick}
+use Rattle.fallible_iterator.specs.Searching.{WentOn, SearchDecides, SearchExit, SearchedBy, CallableInSearch, search_answer, find_pick}
 use Rattle.fallible_iterator.proofs.Lemmas.Folds.{drained_map}
 use Rattle.fallible_iterator.proofs.Lemmas.Lists.Drawn.{last_of_lists}
 use Rattle.fallible_iterator.proofs.Lemmas.Lists.Rest.{nth_of_0_of_lists}
@@ -24,10 +24,10 @@ module _ {A E F : Type 0} (call : F → A → Result Bool E → F → Type 0) wh
     went_kept [] p q e = (ap (λ c. c.1) e, sym (ap (λ c. c.0) e) ∙ sym (of_none p.0))
     went_kept (x ∷ items) p q w = let d = went_kept items w.0 q w.2 in ((w.0.1, (w.1).0, d.0), d.1 ∙ ap (λ o. kept o items) (w.1).1 ∙ sym (of_more p.0 x items))
 
-    found_exit : (last : Answered A E) (n : ℕ) (c d : Option A × F) (answer : Answered (Result (Option A) E) E) → DriveExit (IsFindOrTurn call keep) c last answer d → SearchExit call find_pick None n c.1 last (answer_by None answer) d.1
-    found_exit (Ok None) n c d answer h = (ap (answer_by None) h.0, ap (λ p. p.1) h.1)
-    found_exit (Err e) n c d answer h = (ap (answer_by None) h.0, ap (λ p. p.1) h.1)
-    found_exit (Ok (Some x)) n c d answer h = subst (λ (z : Result (Option A) E). SearchDecides call find_pick n c.1 x z d.1) (sym (ap (answer_by None) h.2)) (h.1 n)
+    found_exit : (last : Answered A E) (n : ℕ) (c d : Option A × F) (answer : Answered (Result (Option A) E) E) → DriveExit (IsFindOrTurn call keep) c last answer d → SearchExit call find_pick None n c.1 last (search_answer None answer) d.1
+    found_exit (Ok None) n c d answer h = (ap (search_answer None) h.0, ap (λ p. p.1) h.1)
+    found_exit (Err e) n c d answer h = (ap (search_answer None) h.0, ap (λ p. p.1) h.1)
+    found_exit (Ok (Some x)) n c d answer h = subst (λ (z : Result (Option A) E). SearchDecides call find_pick n c.1 x z d.1) (sym (ap (search_answer None) h.2)) (h.1 n)
 
     -- where the predicate decided, it isn't called again
     found_or_of_decided : (n : ℕ) (f : F) (x : A) (stop : Result (Option A) E) (g : F) (a b : Result (Option A) E) → SearchDecides call find_pick n f x stop g → found_or stop a ≡ found_or stop b
@@ -35,18 +35,18 @@ module _ {A E F : Type 0} (call : F → A → Result Bool E → F → Type 0) wh
     found_or_of_decided n f x (Ok None) g a b d = absurd (find_pick_not_none n x d.0 d.2)
     found_or_of_decided n f x (Err e) g a b d = refl
 
-    kept_at_end : (last : Answered A E) (c d : Option A × F) (answer : Answered (Result (Option A) E) E) (items : List A) → c.0 ≡ kept None items → DriveExit (IsFindOrTurn call keep) c last answer d → found_or (answer_by None answer) (Ok d.0) ≡ found_or (answer_by None answer) (Ok (kept None items))
-    kept_at_end (Ok None) c d answer items at h = ap (λ (o : Option A). found_or (answer_by None answer) (Ok o)) (ap (λ p. p.0) h.1 ∙ at)
-    kept_at_end (Err e) c d answer items at h = ap (λ (o : Option A). found_or (answer_by None answer) (Ok o)) (ap (λ p. p.0) h.1 ∙ at)
-    kept_at_end (Ok (Some x)) c d answer items at h = subst (λ (z : Answered (Result (Option A) E) E). found_or (answer_by None z) (Ok d.0) ≡ found_or (answer_by None z) (Ok (kept None items))) (sym h.2) (found_or_of_decided 0 c.1 x h.0 d.1 (Ok d.0) (Ok (kept None items)) (h.1 0))
+    kept_at_end : (last : Answered A E) (c d : Option A × F) (answer : Answered (Result (Option A) E) E) (items : List A) → c.0 ≡ kept None items → DriveExit (IsFindOrTurn call keep) c last answer d → found_or (search_answer None answer) (Ok d.0) ≡ found_or (search_answer None answer) (Ok (kept None items))
+    kept_at_end (Ok None) c d answer items at h = ap (λ (o : Option A). found_or (search_answer None answer) (Ok o)) (ap (λ p. p.0) h.1 ∙ at)
+    kept_at_end (Err e) c d answer items at h = ap (λ (o : Option A). found_or (search_answer None answer) (Ok o)) (ap (λ p. p.0) h.1 ∙ at)
+    kept_at_end (Ok (Some x)) c d answer items at h = subst (λ (z : Answered (Result (Option A) E) E). found_or (search_answer None z) (Ok d.0) ≡ found_or (search_answer None z) (Ok (kept None items))) (sym h.2) (found_or_of_decided 0 c.1 x h.0 d.1 (Ok d.0) (Ok (kept None items)) (h.1 0))
 
     -- where the search may call the predicate, the fold may
     kept_callable : {S : Type 0} {steps : S → Answered A E → S → Type 0} {takes : F → A → Type 0} {s : S} {f : F} → CallableInSearch call find_pick steps takes s f → CallableDriving steps (IsFindOrTurn call keep) (λ p x. takes p.1 x) s (None, f)
     kept_callable {f = f} h = record { at = λ items t u p x ran went step. h.at items t u p.1 x ran (went_kept items (None, f) p went).0 step }
 
-    found_or_by : {S : Type 0} {steps : S → Answered A E → S → Type 0} {s t : S} {f : F} {r found : Result (Option A) E} {q : Option A × F} {answer : Answered (Result (Option A) E) E} → Driven steps (IsFindOrTurn call keep) s (None, f) answer t q → found ≡ answer_by None answer → r ≡ found_or found (Ok q.0) → Drained steps (FoundOrBy call kept f r q.1) s t
+    found_or_by : {S : Type 0} {steps : S → Answered A E → S → Type 0} {s t : S} {f : F} {r found : Result (Option A) E} {q : Option A × F} {answer : Answered (Result (Option A) E) E} → Driven steps (IsFindOrTurn call keep) s (None, f) answer t q → found ≡ search_answer None answer → r ≡ found_or found (Ok q.0) → Drained steps (FoundOrBy call kept f r q.1) s t
     found_or_by {f = f} {q = q} {answer = answer} w is by = drained_map (λ items last h. let p = went_kept items (None, f) h.carried h.went in record {
-      found = answer_by None answer;
+      found = search_answer None answer;
       search = record { closure = h.carried.1; went = p.0; exit = found_exit last (length items) h.carried q answer h.exit };
       answer = by ∙ ap (λ z. found_or z (Ok q.0)) is ∙ kept_at_end last h.carried q answer items p.1 h.exit;
     }) w
@@ -69,7 +69,7 @@ module _ {A E F : Type 0} (call : F → A → Result Bool E → F → Type 0) wh
   pub last_callable : {S : Type 0} {steps : S → Answered A E → S → Type 0} {takes : F → A → Type 0} {s : S} {f : F} → CallableInSearch call find_pick steps takes s f → CallableDriving steps (IsFindOrTurn call last_kept) (λ p x. takes p.1 x) s (None, f)
   last_callable h = kept_callable last_kept last_or (λ o. refl) (λ o x items. refl) h
 
-  pub found_or_last_by : {S : Type 0} {steps : S → Answered A E → S → Type 0} {s t : S} {f : F} {r found : Result (Option A) E} {q : Option A × F} {answer : Answered (Result (Option A) E) E} → Driven steps (IsFindOrTurn call last_kept) s (None, f) answer t q → found ≡ answer_by None answer → r ≡ found_or found (Ok q.0) → FoundOrLast call steps s f r t q.1
+  pub found_or_last_by : {S : Type 0} {steps : S → Answered A E → S → Type 0} {s t : S} {f : F} {r found : Result (Option A) E} {q : Option A × F} {answer : Answered (Result (Option A) E) E} → Driven steps (IsFindOrTurn call last_kept) s (None, f) answer t q → found ≡ search_answer None answer → r ≡ found_or found (Ok q.0) → FoundOrLast call steps s f r t q.1
   found_or_last_by w is by = found_or_by last_kept last_or (λ o. refl) (λ o x items. refl) w is by
 
   pub found_or_last_is : {S : Type 0} {steps : S → Answered A E → S → Type 0} {s t : S} {f g : F} {r : Result (Option A) E} (h : A → Result Bool E) → Acts call f h → (l : List (Result A E)) → Lists steps s l → FoundOrLast call steps s f r t g → r ≡ found_or_last h l
@@ -81,7 +81,7 @@ module _ {A E F : Type 0} (call : F → A → Result Bool E → F → Type 0) wh
   pub first_callable : {S : Type 0} {steps : S → Answered A E → S → Type 0} {takes : F → A → Type 0} {s : S} {f : F} → CallableInSearch call find_pick steps takes s f → CallableDriving steps (IsFindOrTurn call first_kept) (λ p x. takes p.1 x) s (None, f)
   first_callable h = kept_callable first_kept first_or (λ o. refl) (λ o x items. refl) h
 
-  pub found_or_first_by : {S : Type 0} {steps : S → Answered A E → S → Type 0} {s t : S} {f : F} {r found : Result (Option A) E} {q : Option A × F} {answer : Answered (Result (Option A) E) E} → Driven steps (IsFindOrTurn call first_kept) s (None, f) answer t q → found ≡ answer_by None answer → r ≡ found_or found (Ok q.0) → FoundOrFirst call steps s f r t q.1
+  pub found_or_first_by : {S : Type 0} {steps : S → Answered A E → S → Type 0} {s t : S} {f : F} {r found : Result (Option A) E} {q : Option A × F} {answer : Answered (Result (Option A) E) E} → Driven steps (IsFindOrTurn call first_kept) s (None, f) answer t q → found ≡ search_answer None answer → r ≡ found_or found (Ok q.0) → FoundOrFirst call steps s f r t q.1
   found_or_first_by w is by = found_or_by first_kept first_or (λ o. refl) (λ o x items. refl) w is by
 
   first_stays : (x : A) (items : List A) → first_or (Some x) items ≡ Some x

@@ -17,10 +17,10 @@ as_failing (Ok (Continue c)) = Ok c
 as_failing (Ok (Done d)) = Err (Ok d)
 as_failing (Err e) = Err (Err e)
 
-as_failing_it_was : {B E : Type 0} (r : Result B (Result B E)) → as_failing (while_answer r) ≡ r
-as_failing_it_was (Ok c) = refl
-as_failing_it_was (Err (Ok d)) = refl
-as_failing_it_was (Err (Err e)) = refl
+as_failing_of_while_answer : {B E : Type 0} (r : Result B (Result B E)) → as_failing (while_answer r) ≡ r
+as_failing_of_while_answer (Ok c) = refl
+as_failing_of_while_answer (Err (Ok d)) = refl
+as_failing_of_while_answer (Err (Err e)) = refl
 
 -- ---- the turns' fold
 
@@ -65,14 +65,14 @@ module _ {A E B : Type 0} (h : B → A → Result (FoldWhile B) E) where
 
   module _ {F : Type 0} (call : F → B → A → Result (FoldWhile B) E → F → Type 0) (f : F) (acts : ActsWith call f h) where
     acts_with_failing : ActsWith (WhileCall call) f (λ c x. as_failing (h c x))
-    acts_with_failing b x r g c = let a = acts b x (while_answer r) g c in (a.0, sym (as_failing_it_was r) ∙ ap as_failing a.1)
+    acts_with_failing b x r g c = let a = acts b x (while_answer r) g c in (a.0, sym (as_failing_of_while_answer r) ∙ ap as_failing a.1)
 
     module _ {S : Type 0} {steps : S → Answered A E → S → Type 0} {s t : S} {b : B} {r : Result (FoldWhile B) E} (l : List (Result A E)) (i : Lists steps s l) where
       pub folded_while_of_lists : FoldWhileDrains call steps s b f r t → r ≡ folded_while h b l
       folded_while_of_lists w = w.2 ∙ ap while_answer (folded_of_lists (WhileCall call) (λ e d. d ≡ Err e) (λ e. Err e) (λ c x. as_failing (h c x)) f acts_with_failing (λ e d is. is) l w.1 i) ∙ while_answer_folded_same b l
 
       lists_rest_while : (d : Result B E) → FoldWhileDrains call steps s b f r t → as_failing r ≡ Err d → Lists steps t (rest_while h b l)
-      lists_rest_while d w is = subst (λ k. Lists steps t k) (rest_fold_same b l) (lists_rest_fold (WhileCall call) (λ e d. d ≡ Err e) (λ c x. as_failing (h c x)) f acts_with_failing steps l w.1 i d (sym (as_failing_it_was w.0) ∙ ap as_failing (sym w.2) ∙ is))
+      lists_rest_while d w is = subst (λ k. Lists steps t k) (rest_fold_same b l) (lists_rest_fold (WhileCall call) (λ e d. d ≡ Err e) (λ c x. as_failing (h c x)) f acts_with_failing steps l w.1 i d (sym (as_failing_of_while_answer w.0) ∙ ap as_failing (sym w.2) ∙ is))
 
       pub lists_rest_while_done : (d : B) → FoldWhileDrains call steps s b f r t → r ≡ Ok (Done d) → Lists steps t (rest_while h b l)
       lists_rest_while_done d w is = lists_rest_while (Ok d) w (ap as_failing is)

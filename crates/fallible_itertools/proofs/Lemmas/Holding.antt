@@ -5,9 +5,9 @@ use Rattle.std.proofs.Common.{subst, inl, inr}
 use Rattle.fallible_iterator.specs.Traces.{Answered}
 use Rattle.fallible_iterator.specs.Closures.{Reaches, IsCallable}
 use Rattle.fallible_iterator.specs.Contract.{Contract}
-use Rattle.fallible_iterator.specs.Laws.Closures.{reaches_here, reaches_from, is_callable_after}
+use Rattle.fallible_iterator.specs.Laws.Closures.{reaches_reflexive, reaches_from, is_callable_after}
 use Rattle.fallible_itertools.specs.Holding.{due_answer, holding_step, stop_comes, MayBeAsked, OrStop}
-use Rattle.fallible_itertools.specs.Laws.Holding.{after_met, meets_of_stage, same_due, stage_asks}
+use Rattle.fallible_itertools.specs.Laws.Holding.{after_met, meets_of_stage, due_is_known_by_answer, stage_asks}
 use Rattle.fallible_itertools.specs.Staging.{DrawsUpTo, MayMeet, TakesAll, passes_over, stage_step, yields}
 use Rattle.fallible_itertools.specs.Laws.Staging.{takes_where_reached}
 use Rattle.fallible_itertools.proofs.Lemmas.HoldingTraces.{first_made, step_left_before}
@@ -20,7 +20,7 @@ module _ {P X B E : Type 0} (asks : P → Option X → Outcome B E → P → Typ
     holding_of_draws : (s t : S) (p : P) (r : Answered B E) (q : P × Option (Option E)) → DrawsUpTo stop_comes (stage_asks asks) steps s p r t q → holding_step asks steps (s, (p, None)) r (t, q)
     holding_of_draws s t p r _ (yields {q = q} {due = due} a step called) = elim (first_made steps asks a s t p q (r ∷ due_answer due) step (meets_of_stage asks p a (Some (r, due)) q called)) [
       | inl k ↦ absurd (let e = k.3 in cc)
-      | inr k ↦ (let same : r ≡ k.0 = (let e = k.2 in cc) in let left = same_due B due k.1 (let e = k.2 in cc) in rw (same, left) k.3)
+      | inr k ↦ (let same : r ≡ k.0 = (let e = k.2 in cc) in let left = due_is_known_by_answer B due k.1 (let e = k.2 in cc) in rw (same, left) k.3)
     ]
     holding_of_draws s t p r q (passes_over {u = u} {h = h} a step called rest) = elim (first_made steps asks a s u p h [] step (meets_of_stage asks p a None h called)) [
       | inl k ↦ step_left_before steps asks s u p h k.0 r (t, q) (rw k.1 at step) k.2 (holding_of_draws u t h r q rest)
@@ -33,13 +33,13 @@ module _ {P X B E : Type 0} (asks : P → Option X → Outcome B E → P → Typ
 
   -- where the adapter may be called on what comes, so may the stage
   pub takes_holding : {S : Type 0} (m : Contract S X E) (pre : P → Option X → Type 0) (s : S) (p : P) → IsCallable asks pre (MayBeAsked m s) p → TakesAll m (stage_asks asks) (λ h x. pre h (Some x)) s p
-  takes_holding m pre s p c = takes_where_reached m (stage_asks asks) (λ h x. pre h (Some x)) (λ h. IsCallable asks pre (MayBeAsked m s) h) s (λ h a made q may t w. after_met asks (λ h. IsCallable asks pre (MayBeAsked m s) h) (MayMeet m s) (λ h q asked o given called k. is_callable_after (λ x y. y) (reaches_from asked o given called reaches_here) k) h a made q may t (meets_of_stage asks h a made q w)) (λ h x may t. t.at h (Some x) reaches_here may) p c
+  takes_holding m pre s p c = takes_where_reached m (stage_asks asks) (λ h x. pre h (Some x)) (λ h. IsCallable asks pre (MayBeAsked m s) h) s (λ h a made q may t w. after_met asks (λ h. IsCallable asks pre (MayBeAsked m s) h) (MayMeet m s) (λ h q asked o given called k. is_callable_after (λ x y. y) (reaches_from asked o given called reaches_reflexive) k) h a made q may t (meets_of_stage asks h a made q w)) (λ h x may t. t.at h (Some x) reaches_reflexive may) p c
 
 -- ---- a closure that is called once on each item, beside what is held
 
 module _ {P F X V B E : Type 0} (asks : P → Option X → Outcome B E → P → Type 0) (call : F → X → V → F → Type 0) (closure : P → F) (on_item : (p : P) (x : X) (o : Outcome B E) (q : P) → asks p (Some x) o q → (v : V) × call (closure p) x v (closure q)) (on_stop : (p : P) (o : Outcome B E) (q : P) → asks p None o q → closure q ≡ closure p) where
   reaches_closure : {Q : X → Type 0} (made : List (Option X × Outcome B E)) (p q : P) → FoldsTo (λ p (c : Option X × Outcome B E) q. OrStop Q c.0 × asks p c.0 c.1 q) p made q → Reaches call Q (closure p) (closure q)
-  reaches_closure {Q = Q} [] p q w = subst (λ (z : P). Reaches call Q (closure p) (closure z)) w reaches_here
+  reaches_closure {Q = Q} [] p q w = subst (λ (z : P). Reaches call Q (closure p) (closure z)) w reaches_reflexive
   reaches_closure {Q = Q} ((Some x, o) ∷ made) p q w = let v = on_item p x o w.0 w.1.1 in reaches_from x v.0 w.1.0 v.1 (reaches_closure made w.0 q w.2)
   reaches_closure {Q = Q} ((None, o) ∷ made) p q w = subst (λ (f : F). Reaches call Q f (closure q)) (on_stop p o w.0 w.1.1) (reaches_closure made w.0 q w.2)
 

@@ -9,7 +9,7 @@ use Rattle.fallible_iterator.proofs.Lemmas.Hints.Joining.{if_some_fitting_sum_ab
 use Rattle.fallible_iterator.specs.Hints.{fitting_sum}
 use Rattle.fallible_itertools.specs.Staging.{Made, stage_step}
 use Rattle.fallible_itertools.specs.Holding.{HintHeld, HintUnlessEnd, HintsPastFailure, HintsWhereHeld, Holds, MadeOfItem, StopMade, filling_contract, holding_contract, holding_meets, holding_step, made_answers, one_at_least, stop_comes}
-use Rattle.fallible_itertools.specs.Laws.Holding.{is_stage_holding, made_of_answers, nothing_made, stage_of_holding}
+use Rattle.fallible_itertools.specs.Laws.Holding.{is_stage_holding, made_is_known_by_answers, nothing_made, stage_of_holding}
 use Rattle.fallible_itertools.proofs.Lemmas.StagingHints.{MadeFew, MakesNoFewer, bounds_above_staged, bounds_below_staged, makes_one_at_most}
 use Rattle.fallible_iterator.specs.Outcome.{Outcome}
 use Rattle.fallible_iterator.specs.Outcome.TheVariants.{Kept, LeftOut, Failure, End}
@@ -28,23 +28,23 @@ module _ {P X B E : Type 0} (asks : P → Option X → Outcome B E → P → Typ
     pub none_at_end : (p q : P) → asks p None End q → Few p 0 0
 
   few_at_failure : (e : E) (o : Outcome B E) (m : Made B (Option E) E) (after before : ℕ → Type 0) → StopMade (Some e) o (made_answers m) → MadeFew stop_comes m after before
-  few_at_failure e (Kept y) m after before is = rw (made_of_answers m (item y) (Some (Some e)) is) tt
+  few_at_failure e (Kept y) m after before is = rw (made_is_known_by_answers m (item y) (Some (Some e)) is) tt
   few_at_failure e LeftOut m after before is = absurd is
-  few_at_failure e (Failure d) m after before is = rw (made_of_answers m (failure d) (Some (Some e)) is) tt
-  few_at_failure e End m after before is = rw (made_of_answers m (failure e) None is) tt
+  few_at_failure e (Failure d) m after before is = rw (made_is_known_by_answers m (failure d) (Some (Some e)) is) tt
+  few_at_failure e End m after before is = rw (made_is_known_by_answers m (failure e) None is) tt
 
   module _ (held : P → ℕ) (holds : Holds asks held) (Few : P → ℕ → ℕ → Type 0) (few : KeepsFew Few) where
     few_at_item : (p : P) (x : X) (m : Made B (Option E) E) (q : P) (low : ℕ) (o : Outcome B E) (h : P) → asks p (Some x) o h → MadeOfItem asks o h (made_answers m) q → MadeFew stop_comes m (λ n. Few q (low - 1) n) (λ n. Few p low n)
-    few_at_item p x m q low (Kept y) h asked is = rw (made_of_answers m (item y) None is.0) (λ n after. few.kept p x y q low n (subst (λ g. asks p (Some x) (Kept y) g) (sym is.1) asked) after)
+    few_at_item p x m q low (Kept y) h asked is = rw (made_is_known_by_answers m (item y) None is.0) (λ n after. few.kept p x y q low n (subst (λ g. asks p (Some x) (Kept y) g) (sym is.1) asked) after)
     few_at_item p x m q low LeftOut h asked is = rw (nothing_made m is.0) (λ n after. few.left_out p x q low n (subst (λ g. asks p (Some x) LeftOut g) (sym is.1) asked) after)
     few_at_item p x m q low (Failure e) h asked is = few_at_failure e is.0 m _ _ is.2
     few_at_item p x m q low End h asked is = absurd (holds p (Some x) End h asked)
 
     few_at_end : (p : P) (m : Made B (Option E) E) (q : P) (o : Outcome B E) → asks p None o q → StopMade None o (made_answers m) → MadeFew stop_comes m (λ n. Few q 0 n) (λ n. Few p 0 n)
-    few_at_end p m q (Kept y) asked is = rw (made_of_answers m (item y) (Some None) is) (few.kept_at_end p y q asked)
+    few_at_end p m q (Kept y) asked is = rw (made_is_known_by_answers m (item y) (Some None) is) (few.kept_at_end p y q asked)
     few_at_end p m q LeftOut asked is = absurd is
-    few_at_end p m q (Failure d) asked is = rw (made_of_answers m (failure d) (Some None) is) tt
-    few_at_end p m q End asked is = rw (made_of_answers m end None is) (few.none_at_end p q asked)
+    few_at_end p m q (Failure d) asked is = rw (made_is_known_by_answers m (failure d) (Some None) is) tt
+    few_at_end p m q End asked is = rw (made_is_known_by_answers m end None is) (few.none_at_end p q asked)
 
     makes_no_fewer : MakesNoFewer stop_comes (holding_meets asks) Few
     makes_no_fewer = record {

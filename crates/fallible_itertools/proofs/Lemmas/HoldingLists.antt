@@ -6,7 +6,7 @@ use Rattle.fallible_iterator.specs.Lists.{AlwaysGives, result_answer}
 use Rattle.fallible_iterator.specs.Making.{AtRefusal, GivesMade, IsRefusal}
 use Rattle.fallible_itertools.specs.Staging.{Made, made_before, one_made, stage_step, stop_answer}
 use Rattle.fallible_itertools.specs.Holding.{MadeOfItem, MadeOfStop, StopMade, holding_meets, holding_step, made_answers, stop_comes}
-use Rattle.fallible_itertools.specs.Laws.Holding.{made_of_answers, nothing_made, stage_of_holding}
+use Rattle.fallible_itertools.specs.Laws.Holding.{made_is_known_by_answers, nothing_made, stage_of_holding}
 use Rattle.fallible_itertools.proofs.Lemmas.StagingLists.{EndMade, GivesUpTo, IsAnswerMade, IsMadeAs, RefusedAt, always_gives_within, gives_made_within, gives_staged, made_first, staged}
 use Rattle.std.specs.declared.alloc.AllocError.{AllocError}
 use Rattle.fallible_iterator.specs.Outcome.{Outcome}
@@ -121,22 +121,22 @@ module _ {S P Q X Y B E : Type 0} (steps : S → Answered X E → S → Type 0) 
       (on_item : (p : P) (a : Q) (x : X) (o : Outcome B E) (h : P) → At p a → asks p (Some x) o h → RefusedAfter o h ⊎ (At h (next a (Some x)) × OutcomeMade made (does a (Some x)) o))
       (on_stop : (p : P) (a : Q) (o : Outcome B E) (q : P) → At p a → asks p None o q → At q (next a None) × OutcomeMade made (does a None) o)
       (never_nil : (a : Q) (y : Result X E) (l : List (Result X E)) (r : Answered B E) (t : S × (P × Option (Option E))) → Refuses r t → held_list does next a (y ∷ l) ≡ [] → ⊥) where
-    stop_as : (stop : Option E) → IsAnswerMade made (stop_answer stop) (stop_answer stop)
-    stop_as None = refl
-    stop_as (Some e) = refl
+    stop_answer_is_made : (stop : Option E) → IsAnswerMade made (stop_answer stop) (stop_answer stop)
+    stop_answer_is_made None = refl
+    stop_answer_is_made (Some e) = refl
 
     made_at_stop : (stop : Option E) (o : Outcome Y E) (v : Outcome B E) (m : Made B (Option E) E) → OutcomeMade made o v → StopMade stop v (made_answers m) → IsMadeAs made (stop_made stop o) m
-    made_at_stop stop (Kept z) (Kept y) m w is = rw (made_of_answers m (item y) (Some stop) is) (w, refl)
+    made_at_stop stop (Kept z) (Kept y) m w is = rw (made_is_known_by_answers m (item y) (Some stop) is) (w, refl)
     made_at_stop stop LeftOut LeftOut m w is = absurd is
-    made_at_stop stop (Failure d) (Failure e) m w is = rw (made_of_answers m (failure e) (Some stop) is) (ap (λ c. Err c) w, refl)
-    made_at_stop stop End End m w is = rw (made_of_answers m (stop_answer stop) None is) (stop_as stop, refl)
+    made_at_stop stop (Failure d) (Failure e) m w is = rw (made_is_known_by_answers m (failure e) (Some stop) is) (ap (λ c. Err c) w, refl)
+    made_at_stop stop End End m w is = rw (made_is_known_by_answers m (stop_answer stop) None is) (stop_answer_is_made stop, refl)
     made_at_stop stop o v m w is = absurd w
 
     acts_at_stop : (stop : Option E) (p q : P) (a : Q) (m : Made B (Option E) E) → At p a → MadeOfStop asks stop p (made_answers m) q → At q (next a None) × IsMadeAs made (stop_made stop (does a None)) m
     acts_at_stop stop p q a m at w = let k = on_stop p a w.0 q at w.1 in (k.0, made_at_stop stop (does a None) w.0 m k.1 w.2)
 
     acts_at_item : (o : Outcome Y E) (v : Outcome B E) (n : Q) (h q : P) (m : Made B (Option E) E) → At h n → OutcomeMade made o v → MadeOfItem asks v h (made_answers m) q → At q (at_item does next o n).1 × IsMadeAs made (at_item does next o n).0 m
-    acts_at_item (Kept z) (Kept y) n h q m at w is = (subst (λ g. At g n) (sym is.1) at, rw (made_of_answers m (item y) None is.0) (w, refl))
+    acts_at_item (Kept z) (Kept y) n h q m at w is = (subst (λ g. At g n) (sym is.1) at, rw (made_is_known_by_answers m (item y) None is.0) (w, refl))
     acts_at_item LeftOut LeftOut n h q m at w is = (subst (λ g. At g n) (sym is.1) at, rw (nothing_made m is.0) tt)
     acts_at_item (Failure d) (Failure e) n h q m at w is = acts_at_stop (Some d) h q n m at (subst (λ c. MadeOfStop asks (Some c) h (made_answers m) q) w is)
     acts_at_item End End n h q m at w is = acts_at_stop None h q n m at is
@@ -153,7 +153,7 @@ module _ {S P Q X Y B E : Type 0} (steps : S → Answered X E → S → Type 0) 
     end_made End = inl refl
 
     gives_held : (l : List (Result X E)) (s : S) (p : P) (a : Q) → At p a → AlwaysGives steps s l → GivesUpTo steps stop_comes (holding_meets asks) made Refuses (s, (p, None)) (held_list does next a l)
-    gives_held = gives_staged steps stop_comes (holding_meets asks) made Refuses stop_comes At (held_does does next) stop_as acts (λ p q a m at w. (end_made (does a None), (acts_at_stop None p q a m at w).1)) never_nil
+    gives_held = gives_staged steps stop_comes (holding_meets asks) made Refuses stop_comes At (held_does does next) stop_answer_is_made acts (λ p q a m at w. (end_made (does a None), (acts_at_stop None p q a m at w).1)) never_nil
 
 -- ---- plain
 
@@ -194,10 +194,10 @@ module _ {S P Q X Y B E : Type 0} (steps : S → Answered X E → S → Type 0) 
 
   -- what is held comes, and the allocation failure is due; or it comes
   refused_at_stop : (e : E) (o : Outcome B E) (m : Made B (Option E) E) (q : P) → IsRefusal from e → NoFailureAndIfKept (λ y. (z : Y) × made z y) o → StopMade (Some e) o (made_answers m) → RefusedAt steps stop_comes (holding_meets asks) made Refuses q m
-  refused_at_stop e (Kept y) m q because w is = rw (made_of_answers m (item y) (Some (Some e)) is) (λ t. inr (w.0, y, w.1, refl, λ r u step. (e, step.0, because)))
+  refused_at_stop e (Kept y) m q because w is = rw (made_is_known_by_answers m (item y) (Some (Some e)) is) (λ t. inr (w.0, y, w.1, refl, λ r u step. (e, step.0, because)))
   refused_at_stop e LeftOut m q because w is = absurd is
   refused_at_stop e (Failure d) m q because w is = absurd w
-  refused_at_stop e End m q because w is = rw (made_of_answers m (failure e) None is) (λ t. inl (e, refl, because))
+  refused_at_stop e End m q because w is = rw (made_is_known_by_answers m (failure e) None is) (λ t. inl (e, refl, because))
 
   refused_after : (o : Outcome B E) (h : P) → IsRefused from o → RefusedAfter steps asks made Refuses At does next o h
   refused_after o h w m q is = let k : MadeOfItem asks (Failure w.0) h (made_answers m) q = (rw w.1 at is) in refused_at_stop w.0 k.0 m q w.2 (kept_at_stop h k.0 q k.1) k.2

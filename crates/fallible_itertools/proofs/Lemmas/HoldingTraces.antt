@@ -6,16 +6,16 @@ use Rattle.std.proofs.lemmas.List.{append-nil}
 use Rattle.fallible_iterator.specs.Traces.{Answered, Run, item}
 use Rattle.fallible_iterator.specs.Laws.Passing.{leaves_out, passes_of_pass_trace, pass_trace_of_passes, pass_trace_item, pass_trace_refusal, pass_trace_end, pass_trace_failure, pass_trace_closing}
 use Rattle.fallible_itertools.specs.Holding.{due_answer, BeforeStop, AtStop, holding_step, StopMade, MadeOfItem, DrawMade, LastMade, HoldingTrace, holding_meets, stop_comes}
-use Rattle.fallible_itertools.specs.Laws.Holding.{same_due, stage_of_holding}
+use Rattle.fallible_itertools.specs.Laws.Holding.{due_is_known_by_answer, stage_of_holding}
 use Rattle.fallible_itertools.specs.Staging.{DrawsUpTo, passes_over, stop_answer, yields}
 use Rattle.fallible_iterator.specs.Outcome.{Outcome}
 use Rattle.fallible_iterator.specs.Outcome.TheVariants.{Kept, LeftOut, Failure, End}
 
 -- ---- the last draw
 
-more_made : {Y Z : Type 0} (n : ℕ) (d : Y × List Z) (draws : List (Y × List Z)) → LastMade n (d ∷ draws) → n < length (flat_map (λ (k : Y × List Z). k.1) (d ∷ draws))
-more_made n d [] last = let long = length-append d.1 [] in omega (arith, long, last)
-more_made n d (e ∷ draws) last = let long = length-append d.1 (flat_map (λ k. k.1) (e ∷ draws)) in let more = more_made n e draws last in omega (arith, long, more)
+made_more_than_due : {Y Z : Type 0} (n : ℕ) (d : Y × List Z) (draws : List (Y × List Z)) → LastMade n (d ∷ draws) → n < length (flat_map (λ (k : Y × List Z). k.1) (d ∷ draws))
+made_more_than_due n d [] last = let long = length-append d.1 [] in omega (arith, long, last)
+made_more_than_due n d (e ∷ draws) last = let long = length-append d.1 (flat_map (λ k. k.1) (e ∷ draws)) in let more = made_more_than_due n e draws last in omega (arith, long, more)
 
 last_made_tail : {Y Z : Type 0} (n : ℕ) (d : Y × List Z) (draws : List (Y × List Z)) → LastMade n (d ∷ draws) → LastMade n draws
 last_made_tail n d [] last = tt
@@ -47,17 +47,17 @@ module _ {S P X B E : Type 0} (steps : S → Answered X E → S → Type 0) (ask
   -- ---- a run is a trace
 
   -- a draw that made an answer and the stop that is due then, before others
-  trace_draw_first : (s u : S) (p g : P) (due : Option (Option E)) (a : Answered X E) (r : Answered B E) (trace : List (Answered B E)) (q : HoldingStateHere) → steps s a u → DrawMade asks p (a, r ∷ due_answer due) g → HoldingTraceHere (u, (g, due)) trace q → HoldingTraceHere (s, (p, None)) (r ∷ trace) q
-  trace_draw_first s u p g due a r trace q step made k = record {
+  trace_with_draw_before : (s u : S) (p g : P) (due : Option (Option E)) (a : Answered X E) (r : Answered B E) (trace : List (Answered B E)) (q : HoldingStateHere) → steps s a u → DrawMade asks p (a, r ∷ due_answer due) g → HoldingTraceHere (u, (g, due)) trace q → HoldingTraceHere (s, (p, None)) (r ∷ trace) q
+  trace_with_draw_before s u p g due a r trace q step made k = record {
     draws = (a, r ∷ due_answer due) ∷ k.draws;
     drawn = (u, step, k.drawn);
     made = (g, made, k.made);
     answers = ap (λ (l : List (Answered B E)). r ∷ l) k.answers;
-    last = last_made_cons (due_length q.1.1) (a, r ∷ due_answer due) k.draws due_length_few k.last;
+    last = last_made_cons (due_length q.1.1) (a, r ∷ due_answer due) k.draws due_shorter_than_answers k.last;
   }
     where
-      due_length_few : k.draws ≡ [] → due_length q.1.1 < length (r ∷ due_answer {B = B} due)
-      due_length_few none = let same : due_answer due ++ [] ≡ trace ++ due_answer q.1.1 = subst (λ (draws : List DrawMadeHere). due_answer due ++ all_made draws ≡ trace ++ due_answer q.1.1) none k.answers in
+      due_shorter_than_answers : k.draws ≡ [] → due_length q.1.1 < length (r ∷ due_answer {B = B} due)
+      due_shorter_than_answers none = let same : due_answer due ++ [] ≡ trace ++ due_answer q.1.1 = subst (λ (draws : List DrawMadeHere). due_answer due ++ all_made draws ≡ trace ++ due_answer q.1.1) none k.answers in
           let long = ap (λ (l : List (Answered B E)). length l) same in let before = length-append (due_answer {B = B} due) [] in let behind = length-append trace (due_answer {B = B} q.1.1) in omega (arith, long, before, behind)
 
   -- an answer of which nothing was made, before others
@@ -71,7 +71,7 @@ module _ {S P X B E : Type 0} (steps : S → Answered X E → S → Type 0) (ask
   }
 
   trace_drawn_first : (s t : S) (p : P) (r : Answered B E) (d : P × Option (Option E)) (trace : List (Answered B E)) (q : HoldingStateHere) → DrawsUpTo stop_comes (holding_meets asks) steps s p r t d → HoldingTraceHere (t, d) trace q → HoldingTraceHere (s, (p, None)) (r ∷ trace) q
-  trace_drawn_first s t p r _ trace q (yields {q = g} {due = due} a step made) k = trace_draw_first s t p g due a r trace q step made k
+  trace_drawn_first s t p r _ trace q (yields {q = g} {due = due} a step made) k = trace_with_draw_before s t p g due a r trace q step made k
   trace_drawn_first s t p r d trace q (passes_over {u = u} {h = g} a step made rest) k = trace_left_first s u p g a r trace q step made (trace_drawn_first u t g r d trace q rest k)
 
   -- the stop that is due, before others
@@ -97,7 +97,7 @@ module _ {S P X B E : Type 0} (steps : S → Answered X E → S → Type 0) (ask
   run_none_drawn s p (Some stop) None [] is = absurd cc
   run_none_drawn s p (Some stop) None (r ∷ []) is = let same : stop_answer stop ≡ r = cc in ((s, (p, None)), (sym same, refl, refl), refl)
   run_none_drawn s p (Some stop) None (r ∷ z ∷ trace) is = absurd (let none : [] ≡ z ∷ (trace ++ []) = cc in cc)
-  run_none_drawn s p (Some stop) (Some other) [] is = ap (λ (d : Option (Option E)). (s, (p, d))) (same_due B (Some stop) (Some other) is)
+  run_none_drawn s p (Some stop) (Some other) [] is = ap (λ (d : Option (Option E)). (s, (p, d))) (due_is_known_by_answer B (Some stop) (Some other) is)
   run_none_drawn s p (Some stop) (Some other) (r ∷ []) is = absurd (let none : [] ≡ stop_answer {B = B} other ∷ [] = cc in cc)
   run_none_drawn s p (Some stop) (Some other) (r ∷ z ∷ trace) is = absurd (let none : [] ≡ z ∷ (trace ++ (stop_answer other ∷ [])) = cc in cc)
 
@@ -163,7 +163,7 @@ module _ {S P X B E : Type 0} (steps : S → Answered X E → S → Type 0) (ask
 
   run_from : (draws : List DrawMadeHere) (s : S) (p : P) (due : Option (Option E)) (trace : List (Answered B E)) (t : S) (g : P) (d : Option (Option E)) → Run steps s (map (λ (k : DrawMadeHere). k.0) draws) t → FoldsTo (DrawMade asks) p draws g → due_answer due ++ all_made draws ≡ trace ++ due_answer d → LastMade (due_length d) draws → Run holding_step_here (s, (p, due)) trace (t, (g, d))
   run_from [] s p due trace t g d ran made is last = subst (λ (v : S). Run holding_step_here (s, (p, due)) trace (v, (g, d))) ran (subst (λ (h : P). Run holding_step_here (s, (p, due)) trace (s, (h, d))) made (run_none_drawn s p due d trace is))
-  run_from ((a, m) ∷ draws) s p due trace t g d ran made is last = let more = more_made (due_length d) (a, m) draws last in
+  run_from ((a, m) ∷ draws) s p due trace t g d ran made is last = let more = made_more_than_due (due_length d) (a, m) draws last in
       run_due d (t, (g, d)) s p (m ++ all_made draws) more (run_undue d (t, (g, d)) s ran.0 p made.0 a m (all_made draws) ran.1 more (λ due' trace' is'. run_from draws ran.0 made.0 due' trace' t g d ran.2 made.2 is' (last_made_tail (due_length d) (a, m) draws last)) (first_made a s ran.0 p made.0 m ran.1 made.1)) due trace is
 
   -- A run is a trace, and a trace is a run.

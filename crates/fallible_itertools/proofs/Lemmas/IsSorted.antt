@@ -58,6 +58,6 @@ module _ {A E K F : Type 0} (order : K → K → Option Ordering) (call : F → 
 
 -- ---- the items themselves as keys
 
-pub in_order_is : {S A E : Type 0} {steps : S → Answered A E → S → Type 0} (order : A → A → Option Ordering) {s t : S} {q : Option A × Unit {0}} {r : Result Bool E} (l : List (Result A E)) → SearchDrains (OrderCall order ItselfCall) all_pick steps true s (None, tt) r t q → Lists steps s l → r ≡ in_order order l
+pub drain_is_in_order : {S A E : Type 0} {steps : S → Answered A E → S → Type 0} (order : A → A → Option Ordering) {s t : S} {q : Option A × Unit {0}} {r : Result Bool E} (l : List (Result A E)) → SearchDrains (OrderCall order ItselfCall) all_pick steps true s (None, tt) r t q → Lists steps s l → r ≡ in_order order l
 unfolding in_order
-in_order_is order l w i = in_order_by_key_of_lists order ItselfCall (λ x. Ok x) tt (λ x r g c. (refl, c)) l w i
+drain_is_in_order order l w i = in_order_by_key_of_lists order ItselfCall (λ x. Ok x) tt (λ x r g c. (refl, c)) l w i

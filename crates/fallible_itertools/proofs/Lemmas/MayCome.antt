@@ -5,11 +5,11 @@ use Rattle.fallible_iterator.specs.Traces.{Answered, item, failure}
 use Rattle.fallible_iterator.specs.Contract.{Contract}
 use Rattle.fallible_iterator.specs.Closures.{MayAnswer, Reaches}
 use Rattle.fallible_iterator.specs.Lists.{result_answer}
-use Rattle.fallible_iterator.specs.Laws.Closures.{may_answer_after, may_answer_here, reaches_from, reaches_here, reaches_then}
+use Rattle.fallible_iterator.specs.Laws.Closures.{may_answer_after, may_answer_of_call, reaches_from, reaches_reflexive, reaches_transitive}
 use Rattle.fallible_itertools.specs.Staging.{IsDue, IsMade, Made, MayCome, MayMeet, stop_answer}
 use Rattle.fallible_itertools.specs.Laws.Staging.{kept_where_reached}
 use Rattle.fallible_itertools.specs.Holding.{MadeOfItem, MayBeAsked, StopMade, holding_meets, made_answers, stop_comes}
-use Rattle.fallible_itertools.specs.Laws.Holding.{after_met, made_of_answers, nothing_made}
+use Rattle.fallible_itertools.specs.Laws.Holding.{after_met, made_is_known_by_answers, nothing_made}
 use Rattle.fallible_itertools.specs.Parting.{item_comes, parting_meets, parting_stage}
 use Rattle.fallible_iterator.specs.Outcome.{Outcome}
 use Rattle.fallible_iterator.specs.Outcome.TheVariants.{Kept, LeftOut, Failure, End}
@@ -35,24 +35,24 @@ module _ {S P X B E : Type 0} (m : Contract S X E) (asks : P → Option X → Ou
     of_either one two (inr e) = subst (λ z. OfCall s p z) e two
 
     of_stop : (stop : Option E) (g q : P) (o : Outcome B E) (made : Made B (Option E) E) → Reaches asks (MayBeAsked m s) p g → OfCall s p (stop_answer stop) → asks g None o q → StopMade stop o (made_answers made) → IsMade stop_comes r made → OfCall s p r
-    of_stop stop g q (Kept y) made reached may asked is w = of_either {a = item y} {b = stop_answer stop} (of_call_after s p g (item y) reached (may_answer_here q None (Kept y) tt asked refl)) may (rw (made_of_answers made (item y) (Some stop) is) at w)
-    of_stop stop g q (Failure e) made reached may asked is w = of_either {a = failure e} {b = stop_answer stop} (of_call_after s p g (failure e) reached (inr (may_answer_here q None (Failure e) tt asked refl))) may (rw (made_of_answers made (failure e) (Some stop) is) at w)
-    of_stop stop g q End made reached may asked is w = elim (rw (made_of_answers made (stop_answer stop) None is) at w) [ inl e ↦ subst (λ z. OfCall s p z) e may | inr k ↦ absurd k ]
+    of_stop stop g q (Kept y) made reached may asked is w = of_either {a = item y} {b = stop_answer stop} (of_call_after s p g (item y) reached (may_answer_of_call q None (Kept y) tt asked refl)) may (rw (made_is_known_by_answers made (item y) (Some stop) is) at w)
+    of_stop stop g q (Failure e) made reached may asked is w = of_either {a = failure e} {b = stop_answer stop} (of_call_after s p g (failure e) reached (inr (may_answer_of_call q None (Failure e) tt asked refl))) may (rw (made_is_known_by_answers made (failure e) (Some stop) is) at w)
+    of_stop stop g q End made reached may asked is w = elim (rw (made_is_known_by_answers made (stop_answer stop) None is) at w) [ inl e ↦ subst (λ z. OfCall s p z) e may | inr k ↦ absurd k ]
     of_stop stop g q LeftOut made reached may asked is w = absurd is
 
     of_item : (x : X) (h q : P) (o : Outcome B E) (made : Made B (Option E) E) → m.may_give s x → asks p (Some x) o h → MadeOfItem asks o h (made_answers made) q → IsMade stop_comes r made → OfCall s p r
-    of_item x h q (Kept y) made may asked is w = elim (rw (made_of_answers made (item y) None is.0) at w) [ inl e ↦ subst (λ z. OfCall s p z) e (may_answer_here h (Some x) (Kept y) may asked refl) | inr k ↦ absurd k ]
+    of_item x h q (Kept y) made may asked is w = elim (rw (made_is_known_by_answers made (item y) None is.0) at w) [ inl e ↦ subst (λ z. OfCall s p z) e (may_answer_of_call h (Some x) (Kept y) may asked refl) | inr k ↦ absurd k ]
     of_item x h q LeftOut made may asked is w = absurd (rw (nothing_made made is.0) at w)
-    of_item x h q (Failure e) made may asked is w = of_stop (Some e) h q is.0 made (reaches_from (Some x) (Failure e) may asked reaches_here) (inr (may_answer_here h (Some x) (Failure e) may asked refl)) is.1 is.2 w
-    of_item x h q End made may asked is w = of_stop None h q is.0 made (reaches_from (Some x) End may asked reaches_here) tt is.1 is.2 w
+    of_item x h q (Failure e) made may asked is w = of_stop (Some e) h q is.0 made (reaches_from (Some x) (Failure e) may asked reaches_reflexive) (inr (may_answer_of_call h (Some x) (Failure e) may asked refl)) is.1 is.2 w
+    of_item x h q End made may asked is w = of_stop None h q is.0 made (reaches_from (Some x) End may asked reaches_reflexive) tt is.1 is.2 w
 
     of_met : (a : Answered X E) (made : Made B (Option E) E) (q : P) → MayMeet m s a → holding_meets asks p a made q → IsMade stop_comes r made → OfCall s p r
     of_met (Ok (Some x)) made q may w is = of_item x w.1 q w.0 made may w.2 w.3 is
-    of_met (Ok None) made q may w is = of_stop None p q w.0 made reaches_here tt w.1 w.2 is
-    of_met (Err e) made q may w is = of_stop (Some e) p q w.0 made reaches_here (inl may) w.1 w.2 is
+    of_met (Ok None) made q may w is = of_stop None p q w.0 made reaches_reflexive tt w.1 w.2 is
+    of_met (Err e) made q may w is = of_stop (Some e) p q w.0 made reaches_reflexive (inl may) w.1 w.2 is
 
   of_call : (s : S) (p : P) (r : Answered B E) → MayAnswer (holding_meets asks) (MayMeet m s) p (λ a made. IsMade stop_comes r made) → OfCall s p r
-  of_call s p r k = of_call_after s p k.state r (kept_where_reached (λ g. Reaches asks (MayBeAsked m s) p g) (λ g a made q may t w. after_met asks (λ h. Reaches asks (MayBeAsked m s) p h) (MayMeet m s) (λ g h asked o given called t. reaches_then t (reaches_from asked o given called reaches_here)) g a made q may t w) k.reached reaches_here) (of_met s k.state r k.argument k.answer k.after k.given k.called k.says)
+  of_call s p r k = of_call_after s p k.state r (kept_where_reached (λ g. Reaches asks (MayBeAsked m s) p g) (λ g a made q may t w. after_met asks (λ h. Reaches asks (MayBeAsked m s) p h) (MayMeet m s) (λ g h asked o given called t. reaches_transitive t (reaches_from asked o given called reaches_reflexive)) g a made q may t w) k.reached reaches_reflexive) (of_met s k.state r k.argument k.answer k.after k.given k.called k.says)
 
   no_item_due : (due : Option (Option E)) (y : B) → IsDue stop_comes (item y) due → ⊥
   no_item_due None y d = d

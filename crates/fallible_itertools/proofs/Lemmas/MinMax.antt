@@ -8,7 +8,7 @@ use Rattle.fallible_iterator.specs.Traces.{Answered}
 use Rattle.fallible_iterator.specs.Folds.{goes_on, DriveExit, Driven}
 use Rattle.fallible_iterator.specs.Picking.{better}
 use Rattle.fallible_iterator.specs.Lists.{Lists, on_value, folded, pick_of, best_by, greatest}
-use Rattle.fallible_iterator.proofs.Lemmas.Folds.{drained_map, driven_after, driven_through}
+use Rattle.fallible_iterator.proofs.Lemmas.Folds.{drained_map, driven_after, fold_of_references_drives_values}
 use Rattle.fallible_iterator.proofs.Lemmas.Lists.Drawn.{RestAt, drawn_of_lists}
 use Rattle.fallible_itertools.specs.MinMax.{WidensBoth, with_item, or_less, first_least, both_of, minmaxed, MinMaxExit, MinMaxDrains}
 use Rattle.std.specs.declared.cmp.Ordering.{Ordering}
@@ -110,7 +110,7 @@ module _ {A : Type 0} {cmp : A → A → Ordering} (o : IsTotalOrder cmp) where
 
     -- two draws, and then a fold whose state is the least item and the greatest
     pub min_max_after_two : {S E : Type 0} {steps : S → Answered A E → S → Type 0} {s v t : S} {p q : A × A} {r : Answered R E} (u : S) (x y : A) → steps s (Ok (Some x)) u → steps u (Ok (Some y)) v → MinMax p.0 p.1 ≡ with_item cmp (OneElement x) y → Driven steps (WidensBoth cmp) v p r t q → Driven steps (WidensTo R) s NoElements r t (MinMax q.0 q.1)
-    min_max_after_two u x y first second is w = driven_after x first (refl, refl) (driven_after y second (refl, is) (driven_through (λ b. MinMax b.0 b.1) (λ b. tt {0}) (WidensTo R) w))
+    min_max_after_two u x y first second is w = driven_after x first (refl, refl) (driven_after y second (refl, is) (fold_of_references_drives_values (λ b. MinMax b.0 b.1) (λ b. tt {0}) (WidensTo R) w))
 
 -- ---- over a list
 

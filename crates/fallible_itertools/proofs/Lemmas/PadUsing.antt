@@ -5,13 +5,13 @@ use Rattle.std.specs.Fn.{Mut}
 use Rattle.std.proofs.Common.{refl, sym, ap, subst, ◌∙◌, arith, inl, inr, length-append}
 use Rattle.fallible_iterator.specs.BothEnds.{failures_listed, items_listed}
 use Rattle.fallible_iterator.specs.Traces.{Answered, Yields, item, end}
-use Rattle.fallible_iterator.specs.Closures.{IsCallable, Reaches, call_on, takes_on}
+use Rattle.fallible_iterator.specs.Closures.{IsCallable, Reaches, call_by_value, takes_by_value}
 use Rattle.fallible_iterator.specs.Contract.{Contract, seen_as}
 use Rattle.fallible_iterator.specs.Cutting.Fuse.{fuse_parts}
 use Rattle.fallible_iterator.specs.Lists.{Acts, GivesForGood, Lists}
 use Rattle.fallible_iterator.specs.OneToOne.Map.{map_outcome, mapped}
 use Rattle.fallible_iterator.specs.SoundHints.{Brackets, HintsAsSoundAs}
-use Rattle.fallible_iterator.specs.Laws.Closures.{reaches_from, reaches_here}
+use Rattle.fallible_iterator.specs.Laws.Closures.{reaches_from, reaches_reflexive}
 use Rattle.fallible_iterator.proofs.Lemmas.Hints.Drawn.{as_sound_as_both_seen, as_sound_same, as_sound_seen}
 use Rattle.fallible_iterator.proofs.Lemmas.Hints.Passing.{one_of_one_passing}
 use Rattle.fallible_iterator.proofs.Lemmas.Lists.ForGood.{always_gives_once, gives_for_good_seen}
@@ -71,18 +71,18 @@ module _ (E : Type 0) where
 
 module _ {F X E : Type 0} (g : Mut F (ℕ × Unit {0}) (Result X E)) where
   module _ (P : EitherOrBoth X ℕ → Type 0) (Q : ℕ → Type 0) (of_index : (i : ℕ) → P (Right i) → Q i) where
-    reached_by_indices : (made : List (EitherOrBoth X ℕ × Result X E)) (f h : F) → FoldsTo (λ p c q. P c.0 × pad_call g p c.0 c.1 q) f made h → Reaches (call_on g) Q f h
-    reached_by_indices [] f h e = subst (λ (k : F). Reaches (call_on g) Q f k) e reaches_here
-    reached_by_indices ((Both x i, v) ∷ made) f h w = subst (λ (k : F). Reaches (call_on g) Q k h) w.1.1.1 (reached_by_indices made w.0 h w.2)
-    reached_by_indices ((Left x, v) ∷ made) f h w = subst (λ (k : F). Reaches (call_on g) Q k h) w.1.1.1 (reached_by_indices made w.0 h w.2)
+    reached_by_indices : (made : List (EitherOrBoth X ℕ × Result X E)) (f h : F) → FoldsTo (λ p c q. P c.0 × pad_call g p c.0 c.1 q) f made h → Reaches (call_by_value g) Q f h
+    reached_by_indices [] f h e = subst (λ (k : F). Reaches (call_by_value g) Q f k) e reaches_reflexive
+    reached_by_indices ((Both x i, v) ∷ made) f h w = subst (λ (k : F). Reaches (call_by_value g) Q k h) w.1.1.1 (reached_by_indices made w.0 h w.2)
+    reached_by_indices ((Left x, v) ∷ made) f h w = subst (λ (k : F). Reaches (call_by_value g) Q k h) w.1.1.1 (reached_by_indices made w.0 h w.2)
     reached_by_indices ((Right i, v) ∷ made) f h w = reaches_from i v (of_index i w.1.0) w.1.1 (reached_by_indices made w.0 h w.2)
 
-    takes_beside : {f : F} → IsCallable (call_on g) (takes_on g) Q f → (h : F) (x : EitherOrBoth X ℕ) → Reaches (call_on g) Q f h → P x → pad_takes g h x
+    takes_beside : {f : F} → IsCallable (call_by_value g) (takes_by_value g) Q f → (h : F) (x : EitherOrBoth X ℕ) → Reaches (call_by_value g) Q f h → P x → pad_takes g h x
     takes_beside c h (Both x i) reached may = tt
     takes_beside c h (Left x) reached may = tt
     takes_beside c h (Right i) reached may = c.at h i reached (of_index i may)
 
-    pub is_callable_pad : {f : F} → IsCallable (call_on g) (takes_on g) Q f → IsCallable (pad_call g) (pad_takes g) P f
+    pub is_callable_pad : {f : F} → IsCallable (call_by_value g) (takes_by_value g) Q f → IsCallable (pad_call g) (pad_takes g) P f
     is_callable_pad {f = f} c = record { at = λ h x reached may. takes_beside c h x (reached_by_indices reached.made f h reached.by) may }
 
   -- what is yielded at a position
@@ -91,7 +91,7 @@ module _ {F X E : Type 0} (g : Mut F (ℕ × Unit {0}) (Result X E)) where
   pad_value h (Left x) = Ok x
   pad_value h (Right i) = h i
 
-  acts_pad : (f : F) (h : ℕ → Result X E) → Acts (call_on g) f h → Acts (pad_call g) f (pad_value h)
+  acts_pad : (f : F) (h : ℕ → Result X E) → Acts (call_by_value g) f h → Acts (pad_call g) f (pad_value h)
   acts_pad f h acts (Both x i) v k w = (w.1, w.0)
   acts_pad f h acts (Left x) v k w = (w.1, w.0)
   acts_pad f h acts (Right i) v k w = acts i v k w
@@ -125,7 +125,7 @@ module _ {F X E : Type 0} (g : Mut F (ℕ × Unit {0}) (Result X E)) where
     unfolding padded
     mapped_is_padded n l = let all : n - 0 ≡ n = omega arith in let first : 0 + length (items_listed l) ≡ length (items_listed l) = omega arith in ap (λ k. mapped (pad_value h) (zipped_longest l (from_index (λ j. Ok j) 0 k))) all ∙ mapped_zipped l 0 n ∙ ap (λ j. l ++ from_index h j (n - length (items_listed l))) first
 
-pub lists_padded : {S F A E : Type 0} (m : Contract S A E) (g : Mut F (ℕ × Unit {0}) (Result A E)) (s : PadUsing S F) (f : F) (n : ℕ) (it : S) (h : ℕ → Result A E) (l : List (Result A E)) → pad_using_parts s ≡ ((s.it, (0, n)), f) → fuse_parts s.it ≡ (it, false) → Acts (call_on g) f h → Lists m.steps it l → Lists (seen_as pad_using_parts (pad_using_contract m g)).steps s (padded n h l)
+pub lists_padded : {S F A E : Type 0} (m : Contract S A E) (g : Mut F (ℕ × Unit {0}) (Result A E)) (s : PadUsing S F) (f : F) (n : ℕ) (it : S) (h : ℕ → Result A E) (l : List (Result A E)) → pad_using_parts s ≡ ((s.it, (0, n)), f) → fuse_parts s.it ≡ (it, false) → Acts (call_by_value g) f h → Lists m.steps it l → Lists (seen_as pad_using_parts (pad_using_contract m g)).steps s (padded n h l)
 lists_padded {E = E} m g s f n it h l parts fresh acts i =
     let sides = gives_for_good_sides (fused_steps m.steps) (IndexSteps E) longest_rule (λ u. ⊤) zipped_longest lists_by_longest is_lawful_rule_longest (both_sides (s.it, (0, n))) l (indices_left (0, n)) (gives_for_good_of_fresh m s.it it l fresh i) (gives_indices E (0, n)) tt in
     let beside = always_gives_once (beside_index_contract m).steps (zipped_longest l (indices_left (0, n))) (s.it, (0, n)) (gives_for_good_seen both_sides _ (zipped_longest l (indices_left (0, n))) (s.it, (0, n)) sides) in

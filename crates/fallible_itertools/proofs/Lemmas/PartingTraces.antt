@@ -70,18 +70,18 @@ module _ {S Z A E : Type 0} (separates : Z → Result A E → Z → Type 0) (ste
   -- ---- what separators are made from, where that stays the same
 
   module _ (stays : (z : Z) (v : Result A E) (y : Z) → separates z v y → y ≡ z) where
-    stays_placed : (z : Z) (started : Bool) (drawn r : Answered A E) (k : Z × (Bool × Option A)) → PlacedAs separates z started drawn r k → k.0 ≡ z
-    stays_placed z started (Ok None) r k w = ap (λ i. i.0) w.1
-    stays_placed z started (Err e) r k w = ap (λ i. i.0) w.1
-    stays_placed z false (Ok (Some x)) r k w = ap (λ i. i.0) w.1
-    stays_placed z true (Ok (Some x)) (Ok (Some v)) k w = stays z (Ok v) k.0 w.0
-    stays_placed z true (Ok (Some x)) (Ok None) k w = absurd w.0
-    stays_placed z true (Ok (Some x)) (Err e) k w = stays z (Err e) k.0 w.0
+    separators_kept_by_placing : (z : Z) (started : Bool) (drawn r : Answered A E) (k : Z × (Bool × Option A)) → PlacedAs separates z started drawn r k → k.0 ≡ z
+    separators_kept_by_placing z started (Ok None) r k w = ap (λ i. i.0) w.1
+    separators_kept_by_placing z started (Err e) r k w = ap (λ i. i.0) w.1
+    separators_kept_by_placing z false (Ok (Some x)) r k w = ap (λ i. i.0) w.1
+    separators_kept_by_placing z true (Ok (Some x)) (Ok (Some v)) k w = stays z (Ok v) k.0 w.0
+    separators_kept_by_placing z true (Ok (Some x)) (Ok None) k w = absurd w.0
+    separators_kept_by_placing z true (Ok (Some x)) (Err e) k w = stays z (Err e) k.0 w.0
 
-    stays_stepped : (p q : StateOfPartingTraces) (r : Answered A E) → StepOfPartingTraces p r q → q.1.0 ≡ p.1.0
-    stays_stepped (s, (z, (started, Some x))) (t, k) r step = ap (λ i. i.0) step.2
-    stays_stepped (s, (z, (started, None))) (t, k) r step = stays_placed z started step.0 r k step.2
+    separators_kept_by_step : (p q : StateOfPartingTraces) (r : Answered A E) → StepOfPartingTraces p r q → q.1.0 ≡ p.1.0
+    separators_kept_by_step (s, (z, (started, Some x))) (t, k) r step = ap (λ i. i.0) step.2
+    separators_kept_by_step (s, (z, (started, None))) (t, k) r step = separators_kept_by_placing z started step.0 r k step.2
 
     pub stays_run : (trace : List (Answered A E)) (p q : StateOfPartingTraces) → Run StepOfPartingTraces p trace q → q.1.0 ≡ p.1.0
     stays_run [] p q e = ap (λ i. i.1.0) (sym e)
-    stays_run (r ∷ rest) p q ran = stays_run rest ran.0 q ran.2 ∙ stays_stepped p ran.0 r ran.1
+    stays_run (r ∷ rest) p q ran = stays_run rest ran.0 q ran.2 ∙ separators_kept_by_step p ran.0 r ran.1

@@ -7,15 +7,15 @@ use Rattle.std.proofs.Common.{refl, sym, ap, ap₂, subst, ◌∙◌, arith}
 use Rattle.fallible_iterator.specs.Contract.{Contract, seen_as}
 use Rattle.fallible_iterator.specs.Lists.{AlwaysGives, Lists, Acts, result_answer}
 use Rattle.fallible_iterator.specs.Traces.{Answered, Run, Yields, item, end}
-use Rattle.fallible_iterator.specs.Closures.{Calls, call_at}
+use Rattle.fallible_iterator.specs.Closures.{Calls, call_by_reference}
 use Rattle.fallible_iterator.specs.Passing.{Place, asked, failure_at, end_at, source_answer, call_of}
 use Rattle.fallible_iterator.specs.Cutting.TakeWhile.{cons_while, is_refused, taken_answer, taken_while}
 use Rattle.fallible_iterator.specs.Peeking.Peekable.{Fills, Peeks, failure_told, held_item, peekable_contract, peekable_parts, peekable_step}
 use Rattle.fallible_iterator.proofs.Lemmas.Lists.Passing.{lists_seen}
 use Rattle.fallible_iterator.proofs.Lemmas.Cutting.TakeWhile.{calls_cons, calls_first_and_rest}
 use Rattle.fallible_iterator.proofs.Lemmas.Hints.Drawn.{ItemsOfItems}
-use Rattle.fallible_itertools.specs.Laws.PeekingTakeWhile.{looked_step, held_step}
-use Rattle.fallible_itertools.specs.PeekingTakeWhile.{AcceptsHeld, LookedAgainAt, AskedAgain, DrawsAtPlace, LeftAt, LeavesSource, LooksAhead, PeekingTrace, rest_at, rest_by_while, let_go, peekable_looks, peeking_contract, peeking_parts, peeking_step}
+use Rattle.fallible_itertools.specs.Laws.PeekingTakeWhile.{looked_at_is_next_answer, held_step}
+use Rattle.fallible_itertools.specs.PeekingTakeWhile.{AcceptsHeld, LookedAgainAt, AskedAgain, DrawsAtPlace, LeftAt, LeavesSource, LooksAhead, PeekingTrace, rest_from_item, rest_by_while, let_go, peekable_looks, peeking_contract, peeking_parts, peeking_step}
 use Rattle.fallible_iterator.specs.Peekable.{Peekable}
 use Rattle.fallible_itertools.specs.declared.peeking_take_while.PeekingTakeWhile.{PeekingTakeWhile}
 
@@ -44,11 +44,11 @@ module _ {S F X E : Type 0} (m : Contract S X E) (call : F → X → Result Bool
   ahead_taken : (a : Answered X E) (p u w : Peekable S X E) (f g : F) (r : Answered X E) → Peeks m.steps (peekable_parts p) a (peekable_parts u) → Ok tt ≡ failure_told a → AcceptsHeld call (held_item u.held) f (Ok true) g → peekable_step m.steps (peekable_parts u) r (peekable_parts w) → AheadStep (p, f) r (w, g)
   ahead_taken (Err e) p u w f g r peeks is accepts step = absurd cc
   ahead_taken (Ok (Some x)) p u w f g r peeks is accepts step =
-      let k = looked_step m.steps (peekable_parts p) (peekable_parts u) (Some x) peeks in
+      let k = looked_at_is_next_answer m.steps (peekable_parts p) (peekable_parts u) (Some x) peeks in
       let h = held_step m.steps (peekable_parts u) (peekable_parts w) (Some x) r k.1 step in
       (asked x (Ok true), subst (λ z. peekable_step m.steps (peekable_parts p) (item x) z) (sym h.1) k.0, (g, accepts_held_of_equal (Some x) (held_item u.held) f g (Ok true) (ap held_item k.1) accepts, refl), h.0)
   ahead_taken (Ok None) p u w f g r peeks is accepts step =
-      let k = looked_step m.steps (peekable_parts p) (peekable_parts u) None peeks in
+      let k = looked_at_is_next_answer m.steps (peekable_parts p) (peekable_parts u) None peeks in
       let h = held_step m.steps (peekable_parts u) (peekable_parts w) None r k.1 step in
       (end_at, subst (λ z. peekable_step m.steps (peekable_parts p) end z) (sym h.1) k.0, sym (accepts_held_of_equal None (held_item u.held) f g (Ok true) (ap held_item k.1) accepts).1, h.0)
 
@@ -57,9 +57,9 @@ module _ {S F X E : Type 0} (m : Contract S X E) (call : F → X → Result Bool
 
   ahead_refused : (a : Answered X E) (p u : Peekable S X E) (f g : F) → Peeks m.steps (peekable_parts p) a (peekable_parts u) → Ok tt ≡ failure_told a → AcceptsHeld call (held_item u.held) f (Ok false) g → AheadStep (p, f) end (u, g)
   ahead_refused (Err e) p u f g peeks is accepts = absurd cc
-  ahead_refused (Ok (Some x)) p u f g peeks is accepts = let k = looked_step m.steps (peekable_parts p) (peekable_parts u) (Some x) peeks in
+  ahead_refused (Ok (Some x)) p u f g peeks is accepts = let k = looked_at_is_next_answer m.steps (peekable_parts p) (peekable_parts u) (Some x) peeks in
       (asked x (Ok false), peeks, (g, accepts_held_of_equal (Some x) (held_item u.held) f g (Ok false) (ap held_item k.1) accepts, refl), refl)
-  ahead_refused (Ok None) p u f g peeks is accepts = let k = looked_step m.steps (peekable_parts p) (peekable_parts u) None peeks in
+  ahead_refused (Ok None) p u f g peeks is accepts = let k = looked_at_is_next_answer m.steps (peekable_parts p) (peekable_parts u) None peeks in
       absurd (let e = (accepts_held_of_equal None (held_item u.held) f g (Ok false) (ap held_item k.1) accepts).0 in cc)
 
   pub ahead_refuses : (p u : Peekable S X E) (f g : F) → Fills m.steps (peekable_parts p) (Ok tt) (peekable_parts u) → AcceptsHeld call (held_item u.held) f (Ok false) g → AheadStep (p, f) end (u, g)
@@ -68,10 +68,10 @@ module _ {S F X E : Type 0} (m : Contract S X E) (call : F → X → Result Bool
   ahead_lost : (a : Answered X E) (p u w : Peekable S X E) (f g : F) (e : E) (r : Answered X E) → Peeks m.steps (peekable_parts p) a (peekable_parts u) → Ok tt ≡ failure_told a → AcceptsHeld call (held_item u.held) f (Err e) g → peekable_step m.steps (peekable_parts u) r (peekable_parts w) → AheadStep (p, f) (Err e) (w, g)
   ahead_lost (Err d) p u w f g e r peeks is accepts step = absurd cc
   ahead_lost (Ok (Some x)) p u w f g e r peeks is accepts step =
-      let k = looked_step m.steps (peekable_parts p) (peekable_parts u) (Some x) peeks in
+      let k = looked_at_is_next_answer m.steps (peekable_parts p) (peekable_parts u) (Some x) peeks in
       let h = held_step m.steps (peekable_parts u) (peekable_parts w) (Some x) r k.1 step in
       (asked x (Err e), subst (λ z. peekable_step m.steps (peekable_parts p) (item x) z) (sym h.1) k.0, (g, accepts_held_of_equal (Some x) (held_item u.held) f g (Err e) (ap held_item k.1) accepts, refl), refl)
-  ahead_lost (Ok None) p u w f g e r peeks is accepts step = let k = looked_step m.steps (peekable_parts p) (peekable_parts u) None peeks in
+  ahead_lost (Ok None) p u w f g e r peeks is accepts step = let k = looked_at_is_next_answer m.steps (peekable_parts p) (peekable_parts u) None peeks in
       absurd (let d = (accepts_held_of_equal None (held_item u.held) f g (Err e) (ap held_item k.1) accepts).0 in cc)
 
   pub ahead_loses : (p u w : Peekable S X E) (f g : F) (e : E) (r : Answered X E) → Fills m.steps (peekable_parts p) (Ok tt) (peekable_parts u) → AcceptsHeld call (held_item u.held) f (Err e) g → peekable_step m.steps (peekable_parts u) r (peekable_parts w) → AheadStep (p, f) (Err e) (w, g)
@@ -264,9 +264,9 @@ module _ {S F X E : Type 0} {m : Contract S X E} {looks : S → X → S → Type
   gives_peeking (Ok x ∷ l) p a = gives_through_item x (h x) l (taken_while h l) p refl a (λ u b. gives_peeking l u b)
   gives_peeking (Err e ∷ l) p a = λ r q w. let d = failure_place_of_first w.0 e l p q.0 q.1 a w.1 w.2 in (w.3 ∙ ap taken_answer d.0, gives_peeking_of_draws q.0 q.1 (taken_while h l) d.2 (gives_peeking l q.0 d.1))
 
-pub lists_peeking : {S F X E : Type 0} {m : Contract S X E} {looks : S → X → S → Type 0} (k : LooksAhead m looks) (g : Mut F (Bor X × Unit {0}) (Result Bool E)) (s : PeekingTakeWhile S F) (f : F) (h : X → Result Bool E) (l : List (Result X E)) → peeking_parts s ≡ (s.it, f) → Acts (call_at g) f h → Lists m.steps s.it l
+pub lists_peeking : {S F X E : Type 0} {m : Contract S X E} {looks : S → X → S → Type 0} (k : LooksAhead m looks) (g : Mut F (Bor X × Unit {0}) (Result Bool E)) (s : PeekingTakeWhile S F) (f : F) (h : X → Result Bool E) (l : List (Result X E)) → peeking_parts s ≡ (s.it, f) → Acts (call_by_reference g) f h → Lists m.steps s.it l
     → Lists (seen_as peeking_parts (peeking_contract m looks g)).steps s (taken_while h l)
-lists_peeking {m = m} {looks = looks} k g s f h l parts a i = lists_seen peeking_parts (peeking_contract m looks g).steps s parts refl (gives_peeking k (call_at g) f h a l s.it i.runs)
+lists_peeking {m = m} {looks = looks} k g s f h l parts a i = lists_seen peeking_parts (peeking_contract m looks g).steps s parts refl (gives_peeking k (call_by_reference g) f h a l s.it i.runs)
 
 -- ---- what it leaves
 
@@ -285,7 +285,7 @@ module _ {S F X E : Type 0} {m : Contract S X E} {looks : S → X → S → Type
   refused_look : (z : Place X (Result Bool E) E) (x : X) (s t : S) → z ≡ asked x (Ok false) → DrawsAtPlace m.steps looks z s t → looks s x t
   refused_look z x s t is d = subst (λ (w : Place X (Result Bool E) E). DrawsAtPlace m.steps looks w s t) is d
 
-  leaves_rest_item : (x : X) (v : Result Bool E) (l rest : List (Result X E)) (left : Option (List (Result X E))) (s : S) (t : S × F) → h x ≡ v → AlwaysGives m.steps s (Ok x ∷ l) → ((u : S) → AlwaysGives m.steps u l → LeavesRest left rest u t) → LeavesRest (rest_at x v l left) (cons_while x v rest) s t
+  leaves_rest_item : (x : X) (v : Result Bool E) (l rest : List (Result X E)) (left : Option (List (Result X E))) (s : S) (t : S × F) → h x ≡ v → AlwaysGives m.steps s (Ok x ∷ l) → ((u : S) → AlwaysGives m.steps u l → LeavesRest left rest u t) → LeavesRest (rest_from_item x v l left) (cons_while x v rest) s t
   leaves_rest_item x (Ok true) l rest left s t is a then = λ ran. let w = ran.1 in let d = item_of_first k call f h acts w.0 x l s ran.0.0 ran.0.1 a w.1 w.2 in
       leaves_of_draws left rest ran.0.0 ran.0.1 t d.1 (then ran.0.0 (d.2 (ap is_refused (d.0 ∙ ap (λ (v : Result Bool E). asked x v) is)))) ran.2
   leaves_rest_item x (Err e) l rest left s t is a then = λ ran. let w = ran.1 in let d = item_of_first k call f h acts w.0 x l s ran.0.0 ran.0.1 a w.1 w.2 in
@@ -309,9 +309,9 @@ given_listed : {S X E : Type 0} (steps : S → Answered X E → S → Type 0) (s
 given_listed steps s None i = tt
 given_listed steps s (Some l) i = record { runs = i }
 
-pub lists_rest : {S F X E : Type 0} {m : Contract S X E} {looks : S → X → S → Type 0} (k : LooksAhead m looks) (g : Mut F (Bor X × Unit {0}) (Result Bool E)) (s t : PeekingTakeWhile S F) (h : X → Result Bool E) (l : List (Result X E)) → Acts (call_at g) s.accept h → Lists m.steps s.it l
+pub lists_rest : {S F X E : Type 0} {m : Contract S X E} {looks : S → X → S → Type 0} (k : LooksAhead m looks) (g : Mut F (Bor X × Unit {0}) (Result Bool E)) (s t : PeekingTakeWhile S F) (h : X → Result Bool E) (l : List (Result X E)) → Acts (call_by_reference g) s.accept h → Lists m.steps s.it l
     → Run (seen_as peeking_parts (peeking_contract m looks g)).steps s (map result_answer (taken_while h l) ++ end ∷ []) t → IfSome (rest_by_while h l) (λ rest. Lists m.steps t.it rest)
-lists_rest {m = m} {looks = looks} k g s t h l a i ran = given_listed m.steps t.it (rest_by_while h l) (leaves_refused k (call_at g) s.accept h a l s.it (peeking_parts t) i.runs (run_parts peeking_parts (peeking_contract m looks g).steps (map result_answer (taken_while h l) ++ end ∷ []) s t ran))
+lists_rest {m = m} {looks = looks} k g s t h l a i ran = given_listed m.steps t.it (rest_by_while h l) (leaves_refused k (call_by_reference g) s.accept h a l s.it (peeking_parts t) i.runs (run_parts peeking_parts (peeking_contract m looks g).steps (map result_answer (taken_while h l) ++ end ∷ []) s t ran))
 
 -- ---- its hint
 

@@ -3,7 +3,7 @@ use Rattle.std.specs.Prelude.{◌≡◌, ℕ, Bool, true, false, Result, Ok, Err
 use Rattle.std.proofs.Common.{refl, ap, ◌∙◌}
 use Rattle.std.specs.Fn.{Mut}
 use Rattle.fallible_iterator.specs.Contract.{Contract, seen_as}
-use Rattle.fallible_iterator.specs.Closures.{call_on}
+use Rattle.fallible_iterator.specs.Closures.{call_by_value}
 use Rattle.fallible_iterator.specs.Filtering.FilterMap.{cons_some}
 use Rattle.fallible_iterator.specs.Lists.{Lists, Acts, filter_mapped, numbered}
 use Rattle.fallible_iterator.proofs.Lemmas.Lists.Passing.{passed, by_outcome, lists_seen, always_gives_passed}
@@ -24,7 +24,7 @@ module _ {X E : Type 0} (h : X → Result Bool E) where
   passed_is_positions (Err e ∷ l) = ap (λ t. Err e ∷ t) (passed_is_positions l)
 
 -- over a source that lists the items by their numbers
-pub lists_positions : {I F X E : Type 0} (m : Contract (Enumerate I) (ℕ × X) E) (g : Mut F (X × Unit {0}) (Result Bool E)) (s : Positions I F) (h : X → Result Bool E) (l : List (Result X E)) → Acts (call_on g) s.f h → Lists m.steps s.it (numbered 0 l)
+pub lists_positions : {I F X E : Type 0} (m : Contract (Enumerate I) (ℕ × X) E) (g : Mut F (X × Unit {0}) (Result Bool E)) (s : Positions I F) (h : X → Result Bool E) (l : List (Result X E)) → Acts (call_by_value g) s.f h → Lists m.steps s.it (numbered 0 l)
     → Lists (seen_as positions_parts (positions_contract m g)).steps s (positions_where h l)
 unfolding positions_where
 lists_positions m g s h l a i = lists_seen positions_parts (positions_contract m g).steps s refl (passed_is_positions h (numbered 0 l)) (always_gives_passed (item_call g) s.f (λ p. h p.1) (λ p v f c. a p.1 v f c) m.steps positions_outcome s.it (numbered 0 l) i.runs)

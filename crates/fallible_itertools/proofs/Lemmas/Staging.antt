@@ -7,9 +7,9 @@ use Rattle.fallible_iterator.specs.Contract.{Contract, KeptByDraws, Lawful}
 use Rattle.fallible_iterator.specs.Closures.{Reaches}
 use Rattle.fallible_iterator.specs.Passing.{IfItem}
 use Rattle.fallible_iterator.specs.Folds.{HoldsAtEachTurn, goes_on, DriveExit, Driven, TurnThrough, beside, beside_names}
-use Rattle.fallible_iterator.specs.Laws.Contract.{kept_by_draws_after, kept_by_draws_here, kept_by_draws_then}
-use Rattle.fallible_iterator.specs.Laws.Closures.{reaches_here, reaches_weaken, reaches_from}
-use Rattle.fallible_iterator.proofs.Lemmas.Folds.{holds_at_first_turn, holds_each_turn_after, driven_after, driven_end, driven_failure, driven_stop, driven_through, names_kept}
+use Rattle.fallible_iterator.specs.Laws.Contract.{kept_by_draws_after, kept_by_no_draw, kept_by_draws_then}
+use Rattle.fallible_iterator.specs.Laws.Closures.{reaches_reflexive, reaches_weaken, reaches_from}
+use Rattle.fallible_iterator.proofs.Lemmas.Folds.{holds_at_first_turn, holds_each_turn_after, driven_after, driven_end, driven_failure, driven_stop, fold_of_references_drives_values, names_kept}
 use Rattle.fallible_iterator.proofs.Lemmas.Folding.{drained_after_first, holds_each_turn_after_first}
 use Rattle.fallible_itertools.specs.Staging.{Made, yields, passes_over, due_comes, due_left, stage_meets, stage_step, stop_answer, MayMeet, TakesAll, IsStage, IsStop, EndsInStop, Told, DueTold, MadeTold, DueTakes, MadeTakes, Met, MetTakes, StageTurns}
 use Rattle.fallible_itertools.specs.Laws.Staging.{met_of_answer, met_before}
@@ -25,24 +25,24 @@ module _ {S A E C R : Type 0} (steps : S → Answered A E → S → Type 0) (tur
   told_stop s t (Ok None) why c d step w = rw (w.0, w.1) (driven_end step)
   told_stop s t (Err e) why c d step w = rw (w.0, w.1) (driven_failure step)
 
-  pub told_on : (s t u : S) (a : Answered A E) (why : Answered R E) (c d z : C) → steps s a t → Told turns c a (Continue tt) d → Driven steps turns t d why u z → Driven steps turns s c why u z
-  told_on s t u (Ok (Some y)) why c d z step w rest = driven_after y step w rest
-  told_on s t u (Ok None) why c d z step w rest = absurd w
-  told_on s t u (Err e) why c d z step w rest = absurd w
+  pub drives_on_after_told : (s t u : S) (a : Answered A E) (why : Answered R E) (c d z : C) → steps s a t → Told turns c a (Continue tt) d → Driven steps turns t d why u z → Driven steps turns s c why u z
+  drives_on_after_told s t u (Ok (Some y)) why c d z step w rest = driven_after y step w rest
+  drives_on_after_told s t u (Ok None) why c d z step w rest = absurd w
+  drives_on_after_told s t u (Err e) why c d z step w rest = absurd w
 
   module _ (Q : C → A → Type 0) where
     abbrev Holds : S → C → Type 0
     Holds s c = HoldsAtEachTurn steps (goes_on turns) Q s c
 
-    pub told_holds : (s t : S) (a : Answered A E) (c d : C) → steps s a t → Told turns c a (Continue tt) d → Holds s c → Holds t d
-    told_holds s t (Ok (Some y)) c d step w h = holds_each_turn_after h step w
-    told_holds s t (Ok None) c d step w h = absurd w
-    told_holds s t (Err e) c d step w h = absurd w
+    pub holds_after_told : (s t : S) (a : Answered A E) (c d : C) → steps s a t → Told turns c a (Continue tt) d → Holds s c → Holds t d
+    holds_after_told s t (Ok (Some y)) c d step w h = holds_each_turn_after h step w
+    holds_after_told s t (Ok None) c d step w h = absurd w
+    holds_after_told s t (Err e) c d step w h = absurd w
 
-    pub told_takes : (s t : S) (a : Answered A E) (c : C) → steps s a t → Holds s c → IfItem (Q c) a
-    told_takes s t (Ok (Some y)) c step h = holds_at_first_turn h step
-    told_takes s t (Ok None) c step h = tt
-    told_takes s t (Err e) c step h = tt
+    pub told_item_is_taken : (s t : S) (a : Answered A E) (c : C) → steps s a t → Holds s c → IfItem (Q c) a
+    told_item_is_taken s t (Ok (Some y)) c step h = holds_at_first_turn h step
+    told_item_is_taken s t (Ok None) c step h = tt
+    told_item_is_taken s t (Err e) c step h = tt
 
 -- ---- turns on what is due, and on what is made
 
@@ -62,40 +62,40 @@ module _ {S P X D B L E C R : Type 0} (comes : L → Option (Answered B E)) (mee
   none_left_of later (Some a) c d w = refl
   none_left_of later None c d w = absurd w
 
-  due_on : (s : S) (p : P) (due : Option L) (c : C) (why : Answered R E) (k : C) (u : State) (z : C) → DueTold {R = R} turns comes c due (Continue tt) k → Driven Steps turns (s, (p, None)) k why u z → Driven Steps turns (s, (p, due)) c why u z
-  due_on s p None c why k u z w rest = (rw w.1 at rest)
-  due_on s p (Some later) c why k u z w rest = told_on Steps turns (s, (p, Some later)) (s, (p, None)) u (due_comes (comes later)) why c k z (refl, refl, ap (λ (l : Option L). (p, l)) (sym (none_left_of later (comes later) c k w))) w rest
+  drives_on_after_due : (s : S) (p : P) (due : Option L) (c : C) (why : Answered R E) (k : C) (u : State) (z : C) → DueTold {R = R} turns comes c due (Continue tt) k → Driven Steps turns (s, (p, None)) k why u z → Driven Steps turns (s, (p, due)) c why u z
+  drives_on_after_due s p None c why k u z w rest = (rw w.1 at rest)
+  drives_on_after_due s p (Some later) c why k u z w rest = drives_on_after_told Steps turns (s, (p, Some later)) (s, (p, None)) u (due_comes (comes later)) why c k z (refl, refl, ap (λ (l : Option L). (p, l)) (sym (none_left_of later (comes later) c k w))) w rest
 
   made_stop : (s t : S) (p h : P) (a : Answered X D) (made : Made B L E) (c : C) (told : Answered R E × Option L) (d : C) → steps s a t → meets p a made h → MadeTold turns comes c made (Break told) d → Driven Steps turns (s, (p, None)) c told.0 (t, (h, told.1)) d
   made_stop s t p h a None c told d step called w = absurd (let e = w.0 in cc)
-  made_stop s t p h a (Some (b, due)) c told d step called (inl w) = told_on Steps turns (s, (p, None)) (t, (h, due)) (t, (h, told.1)) b told.0 c w.0 d (yields a step called) w.1 (due_stop t h due w.0 told d w.2)
+  made_stop s t p h a (Some (b, due)) c told d step called (inl w) = drives_on_after_told Steps turns (s, (p, None)) (t, (h, due)) (t, (h, told.1)) b told.0 c w.0 d (yields a step called) w.1 (due_stop t h due w.0 told d w.2)
   made_stop s t p h a (Some (b, due)) c told d step called (inr w) = let same : told ≡ (w.0, due) = (let e = w.2 in cc) in rw same (told_stop Steps turns (s, (p, None)) (t, (h, due)) b w.0 c d (yields a step called) w.1)
 
-  made_on : (s t : S) (p h : P) (a : Answered X D) (made : Made B L E) (c : C) (why : Answered R E) (k : C) (u : State) (z : C) → steps s a t → meets p a made h → MadeTold {R = R} turns comes c made (Continue tt) k → Driven Steps turns (t, (h, None)) k why u z → Driven Steps turns (s, (p, None)) c why u z
-  made_on s t p h a None c why k u z step called w rest = drained_after_first (λ r v more. passes_over a step called more) (rw w.1 at rest)
-  made_on s t p h a (Some (b, due)) c why k u z step called (inl w) rest = told_on Steps turns (s, (p, None)) (t, (h, due)) u b why c w.0 z (yields a step called) w.1 (due_on t h due w.0 why k u z w.2 rest)
-  made_on s t p h a (Some (b, due)) c why k u z step called (inr w) rest = absurd (let e = w.2 in cc)
+  drives_on_after_made : (s t : S) (p h : P) (a : Answered X D) (made : Made B L E) (c : C) (why : Answered R E) (k : C) (u : State) (z : C) → steps s a t → meets p a made h → MadeTold {R = R} turns comes c made (Continue tt) k → Driven Steps turns (t, (h, None)) k why u z → Driven Steps turns (s, (p, None)) c why u z
+  drives_on_after_made s t p h a None c why k u z step called w rest = drained_after_first (λ r v more. passes_over a step called more) (rw w.1 at rest)
+  drives_on_after_made s t p h a (Some (b, due)) c why k u z step called (inl w) rest = drives_on_after_told Steps turns (s, (p, None)) (t, (h, due)) u b why c w.0 z (yields a step called) w.1 (drives_on_after_due t h due w.0 why k u z w.2 rest)
+  drives_on_after_made s t p h a (Some (b, due)) c why k u z step called (inr w) rest = absurd (let e = w.2 in cc)
 
   module _ (Q : C → B → Type 0) where
     abbrev HoldsHere : State → C → Type 0
     HoldsHere s c = HoldsAtEachTurn Steps (goes_on turns) Q s c
 
-    due_holds : (s : S) (p : P) (due : Option L) (c k : C) → DueTold {R = R} turns comes c due (Continue tt) k → HoldsHere (s, (p, due)) c → HoldsHere (s, (p, None)) k
-    due_holds s p None c k w h = rw w.1 h
-    due_holds s p (Some later) c k w h = told_holds Steps turns Q (s, (p, Some later)) (s, (p, None)) (due_comes (comes later)) c k (refl, refl, ap (λ (l : Option L). (p, l)) (sym (none_left_of later (comes later) c k w))) w h
+    holds_after_due : (s : S) (p : P) (due : Option L) (c k : C) → DueTold {R = R} turns comes c due (Continue tt) k → HoldsHere (s, (p, due)) c → HoldsHere (s, (p, None)) k
+    holds_after_due s p None c k w h = rw w.1 h
+    holds_after_due s p (Some later) c k w h = holds_after_told Steps turns Q (s, (p, Some later)) (s, (p, None)) (due_comes (comes later)) c k (refl, refl, ap (λ (l : Option L). (p, l)) (sym (none_left_of later (comes later) c k w))) w h
 
-    due_takes : (s : S) (p : P) (due : Option L) (c : C) → HoldsHere (s, (p, due)) c → DueTakes {R = R} turns comes Q c due
-    due_takes s p None c h = tt
-    due_takes s p (Some later) c h = told_takes Steps turns Q (s, (p, Some later)) (s, (p, due_left later (comes later))) (due_comes (comes later)) c (refl, refl, refl) h
+    due_is_taken : (s : S) (p : P) (due : Option L) (c : C) → HoldsHere (s, (p, due)) c → DueTakes {R = R} turns comes Q c due
+    due_is_taken s p None c h = tt
+    due_is_taken s p (Some later) c h = told_item_is_taken Steps turns Q (s, (p, Some later)) (s, (p, due_left later (comes later))) (due_comes (comes later)) c (refl, refl, refl) h
 
-    made_holds : (s t : S) (p h : P) (a : Answered X D) (made : Made B L E) (c k : C) → steps s a t → meets p a made h → MadeTold {R = R} turns comes c made (Continue tt) k → HoldsHere (s, (p, None)) c → HoldsHere (t, (h, None)) k
-    made_holds s t p h a None c k step called w holds = rw w.1 (holds_each_turn_after_first (λ r v more. passes_over a step called more) holds)
-    made_holds s t p h a (Some (b, due)) c k step called (inl w) holds = due_holds t h due w.0 k w.2 (told_holds Steps turns Q (s, (p, None)) (t, (h, due)) b c w.0 (yields a step called) w.1 holds)
-    made_holds s t p h a (Some (b, due)) c k step called (inr w) holds = absurd (let e = w.2 in cc)
+    holds_after_made : (s t : S) (p h : P) (a : Answered X D) (made : Made B L E) (c k : C) → steps s a t → meets p a made h → MadeTold {R = R} turns comes c made (Continue tt) k → HoldsHere (s, (p, None)) c → HoldsHere (t, (h, None)) k
+    holds_after_made s t p h a None c k step called w holds = rw w.1 (holds_each_turn_after_first (λ r v more. passes_over a step called more) holds)
+    holds_after_made s t p h a (Some (b, due)) c k step called (inl w) holds = holds_after_due t h due w.0 k w.2 (holds_after_told Steps turns Q (s, (p, None)) (t, (h, due)) b c w.0 (yields a step called) w.1 holds)
+    holds_after_made s t p h a (Some (b, due)) c k step called (inr w) holds = absurd (let e = w.2 in cc)
 
-    made_takes : (s t : S) (p h : P) (a : Answered X D) (made : Made B L E) (c : C) → steps s a t → meets p a made h → HoldsHere (s, (p, None)) c → MadeTakes turns comes Q c made
-    made_takes s t p h a None c step called holds = tt
-    made_takes s t p h a (Some (b, due)) c step called holds = (told_takes Steps turns Q (s, (p, None)) (t, (h, due)) b c (yields a step called) holds, (λ d w. due_takes t h due d (told_holds Steps turns Q (s, (p, None)) (t, (h, due)) b c d (yields a step called) w holds)))
+    made_is_taken : (s t : S) (p h : P) (a : Answered X D) (made : Made B L E) (c : C) → steps s a t → meets p a made h → HoldsHere (s, (p, None)) c → MadeTakes turns comes Q c made
+    made_is_taken s t p h a None c step called holds = tt
+    made_is_taken s t p h a (Some (b, due)) c step called holds = (told_item_is_taken Steps turns Q (s, (p, None)) (t, (h, due)) b c (yields a step called) holds, (λ d w. due_is_taken t h due d (holds_after_told Steps turns Q (s, (p, None)) (t, (h, due)) b c d (yields a step called) w holds)))
 
   -- ---- the source's fold
 
@@ -110,8 +110,8 @@ module _ {S P X D B L E C R : Type 0} (comes : L → Option (Answered B E)) (mee
   onward : (Q : C → B → Type 0) (items : List X) (s t : S) (p q : C × P) → Yields steps s items t → FoldsTo (goes_on Turns) p items q → Onward Q s p t q
   onward Q [] s t p q ran went = rw (sym ran, sym went) (record { holds = λ h. h; driven = λ why u z h. h })
   onward Q (x ∷ items) s t p q ran went = let k = went.0 in let met = went.1 in let rest = onward Q items ran.0 t k q ran.2 went.2 in record {
-    holds = λ h. rest.holds (made_holds Q s ran.0 p.1 k.1 (item x) met.0 p.0 k.0 ran.1 met.1 met.2 h);
-    driven = λ why u z h. made_on s ran.0 p.1 k.1 (item x) met.0 p.0 why k.0 u z ran.1 met.1 met.2 (rest.driven why u z h);
+    holds = λ h. rest.holds (holds_after_made Q s ran.0 p.1 k.1 (item x) met.0 p.0 k.0 ran.1 met.1 met.2 h);
+    driven = λ why u z h. drives_on_after_made s ran.0 p.1 k.1 (item x) met.0 p.0 why k.0 u z ran.1 met.1 met.2 (rest.driven why u z h);
   }
 
   -- the draws before the last one
@@ -177,7 +177,7 @@ module _ {S P X D B L E C R : Type 0} (comes : L → Option (Answered B E)) (mee
 
     -- it went on after that
     pub fold_after_due : {k : C} {why : Answered R E} {u : S × (P × Option L)} {z : C} → DueTold {R = R} turns comes c p.1 (Continue tt) k → Driven (stage_step comes meets steps) turns (s, (p.0, None)) k why u z → Driven (stage_step comes meets steps) turns (s, p) c why u z
-    fold_after_due {k = k} {why = why} {u = u} {z = z} w rest = due_on comes meets steps turns s p.0 p.1 c why k u z w rest
+    fold_after_due {k = k} {why = why} {u = u} {z = z} w rest = drives_on_after_due comes meets steps turns s p.0 p.1 c why k u z w rest
 
   -- where nothing is due
   module _ {s t : S} {p q : C × P} where
@@ -193,7 +193,7 @@ module _ {S P X D B L E C R : Type 0} (comes : L → Option (Answered B E)) (mee
 
 -- a fold on what references point to, which come back
 pub driven_beside : {S A E C P R : Type 0} {steps : S → Answered A E → S → Type 0} {turns : C × P → A → ControlFlow R (Unit {0}) → C × P → Type 0} {s t : S} {b d : Beside C P} {r : Answered R E} (f : P) (c : C) → Driven steps (TurnThrough beside beside_names turns) s b r t d → (d.p.ghost_name ≡ b.p.ghost_name → f ≡ d.p.now) → (d.c.ghost_name ≡ b.c.ghost_name → c ≡ d.c.now) → Driven steps turns s (b.c.now, b.p.now) r t (c, f)
-driven_beside {turns = turns} f c w is_f is_c = let same = names_kept beside beside_names turns w in rw (is_f (ap (λ z. z.1) same), is_c (ap (λ z. z.0) same)) (driven_through beside beside_names turns w)
+driven_beside {turns = turns} f c w is_f is_c = let same = names_kept beside beside_names turns w in rw (is_f (ap (λ z. z.1) same), is_c (ap (λ z. z.0) same)) (fold_of_references_drives_values beside beside_names turns w)
 
 -- ---- where the turn may be taken
 
@@ -202,14 +202,14 @@ module _ {S P X D B L E C R : Type 0} {m : Contract S X D} (l : Lawful m) (comes
   HoldsThere s c = HoldsAtEachTurn (stage_step comes meets m.steps) (goes_on turns) Q s c
 
   reached_by_items : (items : List X) (s t : S) (p q : C × P) → m.can_next s → Yields m.steps s items t → FoldsTo (goes_on (StageTurns comes meets turns)) p items q → KeptByDraws m s t × Reaches meets (MayMeet m s) p.1 q.1
-  reached_by_items [] s t p q c ran went = rw (sym ran, sym went) (kept_by_draws_here c, reaches_here)
+  reached_by_items [] s t p q c ran went = rw (sym ran, sym went) (kept_by_no_draw c, reaches_reflexive)
   reached_by_items (x ∷ items) s t p q c ran went = let g = l.kept_by_draw s (item x) ran.0 c ran.1 in let k = kept_by_draws_after g in let met = went.1 in let rest = reached_by_items items ran.0 t went.0 q g.can_next ran.2 went.2 in
       (kept_by_draws_then k rest.0, reaches_from (item x) met.0 (met_of_answer m s ran.0 (item x) g.answer) met.1 (reaches_weaken (met_before m s ran.0 k) rest.1))
 
   met_takes : (s t : S) (p k : C × P) (a : Answered X D) → m.can_next s → TakesAll m meets takes s p.1 → HoldsThere (s, (p.1, None)) p.0 → UpTo comes meets m.steps turns Q s p a t k → MetTakes comes meets turns takes Q k a
   met_takes s t p k a c callable holds up = let r = reached_by_items up.items s up.before p k c up.ran up.went in (
     callable.at k.1 a r.1 (met_before m s up.before r.0 a (met_of_answer m up.before t a (l.kept_by_draw up.before a t r.0.can_next up.step).answer)),
-    (λ made h called. made_takes comes meets m.steps turns Q up.before t k.1 h a made k.0 up.step called (up.on.holds holds)),
+    (λ made h called. made_is_taken comes meets m.steps turns Q up.before t k.1 h a made k.0 up.step called (up.on.holds holds)),
   )
 
   -- where nothing is due
@@ -228,10 +228,10 @@ module _ {S P X D B L E C R : Type 0} {m : Contract S X D} (l : Lawful m) (comes
 
   module _ {s : S} {p : P × Option L} {c : C} (holds : HoldsThere (s, p) c) where
     pub takes_due : DueTakes {R = R} turns comes Q c p.1
-    takes_due = due_takes comes meets m.steps turns Q s p.0 p.1 c holds
+    takes_due = due_is_taken comes meets m.steps turns Q s p.0 p.1 c holds
 
     pub takes_after_due : {k : C} → DueTold {R = R} turns comes c p.1 (Continue tt) k → HoldsThere (s, (p.0, None)) k
-    takes_after_due {k = k} told = due_holds comes meets m.steps turns Q s p.0 p.1 c k told holds
+    takes_after_due {k = k} told = holds_after_due comes meets m.steps turns Q s p.0 p.1 c k told holds
 
 -- ---- a stop of the source
 
@@ -248,9 +248,9 @@ module _ {B L E C R : Type 0} (comes : L → Option (Answered B E)) (turns : C �
   stop_breaks (Some (a, Some later)) c d stop (inl w) = told_no_more (due_comes (comes later)) w.0 d stop w.2
   stop_breaks (Some (a, due)) c d stop (inr w) = let e = w.2 in absurd cc
 
-  stop_is : (X : Type 0) {D : Type 0} (stop : Option D) → IsStop {B = X} (stop_answer stop)
-  stop_is X None = tt
-  stop_is X (Some e) = tt
+  stop_answer_is_stop : (X : Type 0) {D : Type 0} (stop : Option D) → IsStop {B = X} (stop_answer stop)
+  stop_answer_is_stop X None = tt
+  stop_answer_is_stop X (Some e) = tt
 
   module _ {P X D : Type 0} (items : P → X → Made B L E → P → Type 0) (stops : P → Option D → Made B L E → P → Type 0) where
     pub met_of_stop : {p q : P} (stop : Option D) {made : Made B L E} → stops p stop made q → stage_meets items stops p (stop_answer stop) made q
@@ -258,4 +258,4 @@ module _ {B L E C R : Type 0} (comes : L → Option (Answered B E)) (turns : C �
     met_of_stop (Some e) w = w
 
     pub breaks_at_stop : (most : ℕ) (held : P → ℕ) → IsStage comes (stage_meets items stops) most held → {p q : P} (stop : Option D) (made : Made B L E) (c d : C) → stops p stop made q → MadeTold {R = R} turns comes c made (Continue tt) d → ⊥
-    breaks_at_stop most held is {p = p} {q = q} stop made c d called told = stop_breaks made c d ((is p (stop_answer stop) made q (met_of_stop stop called)).2 (stop_is X stop)) told
+    breaks_at_stop most held is {p = p} {q = q} stop made c d called told = stop_breaks made c d ((is p (stop_answer stop) made q (met_of_stop stop called)).2 (stop_answer_is_stop X stop)) told

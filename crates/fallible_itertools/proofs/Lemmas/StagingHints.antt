@@ -61,13 +61,13 @@ module _ {S P X B L E : Type 0} (steps : S → Answered X E → S → Type 0) (c
     abbrev Drawn : S → P → ℕ → Type 0
     Drawn s p n = (xs : List X) × (t : S) × Yields steps s xs t × (n ≤ most p (length xs))
 
-    none_behind : (y : B) (due : Option L) (ys : List B) (s : S) (q : P) (t : State) → EndsInStop comes (Some (item y, due)) → Yields Steps (s, (q, due)) ys t → length ys ≡ 0
-    none_behind y None ys s q t stop ran = absurd stop
-    none_behind y (Some later) [] s q t stop ran = refl
-    none_behind y (Some later) (z ∷ ys) s q t stop ran = absurd (rw (sym ran.1.0) at stop)
+    no_item_after_due_stop : (y : B) (due : Option L) (ys : List B) (s : S) (q : P) (t : State) → EndsInStop comes (Some (item y, due)) → Yields Steps (s, (q, due)) ys t → length ys ≡ 0
+    no_item_after_due_stop y None ys s q t stop ran = absurd stop
+    no_item_after_due_stop y (Some later) [] s q t stop ran = refl
+    no_item_after_due_stop y (Some later) (z ∷ ys) s q t stop ran = absurd (rw (sym ran.1.0) at stop)
 
     drawn_last : (y : B) (due : Option L) (ys : List B) (s v : S) (p q : P) (t : State) → (made_total comes items_of (Some (item y, due)) ≤ most p 0) × EndsInStop comes (Some (item y, due)) → Yields Steps (v, (q, due)) ys t → Drawn s p (length ys + 1)
-    drawn_last y due ys s v p q t few ran = let none = none_behind y due ys v q t few.1 ran in ([], s, refl, omega (arith, few.0, none))
+    drawn_last y due ys s v p q t few ran = let none = no_item_after_due_stop y due ys v q t few.1 ran in ([], s, refl, omega (arith, few.0, none))
 
     drawn_first : (a : Answered X E) (y : B) (due : Option L) (ys : List B) (s v : S) (p q : P) (t : State) → steps s a v → meets p a (Some (item y, due)) q → Yields Steps (v, (q, due)) ys t → ((xs : List X) × (u : S) × Yields steps v xs u × (length ys ≤ due_total comes items_of due + most q (length xs))) → Drawn s p (length ys + 1)
     drawn_first (Ok (Some x)) y due ys s v p q t step called ran k = let few = makes.at_item p x (Some (item y, due)) q (length k.0) called in (x ∷ k.0, k.1, (v, step, k.2), omega (arith, few, k.3))

@@ -77,21 +77,21 @@ module _ {S A E : Type 0} (steps : S → Answered A E → S → Type 0) where
   pub as_sound_stop_after : (p : State) (h : ℕ × Option ℕ) → 1 ≤ p.1.0 → AsSound Step p h steps p.0 h
   as_sound_stop_after p h some = as_sound_same Step steps (λ p. p.0) (λ p. 1 ≤ p.1.0) (record { item_of_item = one_of_item; end_of_end = one_of_end }) p some h
 
-  no_item_over : (p q : State) (x : A) → p.1.0 ≡ 0 → Step p (item x) q → ⊥
-  no_item_over (s, (zero, k)) q x none w = let d = w.0 in cc
-  no_item_over (s, (suc n, k)) q x none w = omega (arith, none)
+  no_item_once_stopped : (p q : State) (x : A) → p.1.0 ≡ 0 → Step p (item x) q → ⊥
+  no_item_once_stopped (s, (zero, k)) q x none w = let d = w.0 in cc
+  no_item_once_stopped (s, (suc n, k)) q x none w = omega (arith, none)
 
 module _ {S A E : Type 0} (m : Contract S A E) where
   pub hint_of_source : (p : S × (ℕ × ℕ)) (h : ℕ × Option ℕ) → 1 ≤ p.1.0 → stop_after_hints m p h → m.hints p.0 h
   hint_of_source (s, (zero, k)) h some is = absurd (omega (arith, some))
   hint_of_source (s, (suc n, k)) h some is = is
 
-  hint_over : (p : S × (ℕ × ℕ)) (h : ℕ × Option ℕ) → p.1.0 ≡ 0 → stop_after_hints m p h → h ≡ (0, Some 0)
-  hint_over (s, (zero, k)) h none is = is
-  hint_over (s, (suc n, k)) h none is = absurd (omega (arith, none))
+  hint_once_stopped : (p : S × (ℕ × ℕ)) (h : ℕ × Option ℕ) → p.1.0 ≡ 0 → stop_after_hints m p h → h ≡ (0, Some 0)
+  hint_once_stopped (s, (zero, k)) h none is = is
+  hint_once_stopped (s, (suc n, k)) h none is = absurd (omega (arith, none))
 
-  pub brackets_over : (p : S × (ℕ × ℕ)) (h : ℕ × Option ℕ) → p.1.0 ≡ 0 → stop_after_hints m p h → Brackets (stop_after_step m.steps) p h
-  brackets_over p h none is = subst (λ (j : ℕ × Option ℕ). Brackets (stop_after_step m.steps) p j) (sym (hint_over p h none is)) (brackets_no_item (stop_after_step m.steps) p (λ x q w. no_item_over m.steps p q x none w))
+  pub brackets_once_stopped : (p : S × (ℕ × ℕ)) (h : ℕ × Option ℕ) → p.1.0 ≡ 0 → stop_after_hints m p h → Brackets (stop_after_step m.steps) p h
+  brackets_once_stopped p h none is = subst (λ (j : ℕ × Option ℕ). Brackets (stop_after_step m.steps) p j) (sym (hint_once_stopped p h none is)) (brackets_no_item (stop_after_step m.steps) p (λ x q w. no_item_once_stopped m.steps p q x none w))
 
 pub lists_stopped : {S A E : Type 0} (m : Contract S A E) (s : StopAfter S) (n k : ℕ) (l : List (Result A E)) → stop_after_parts s ≡ (s.it, (n, k)) → Lists m.steps s.it l → Lists (seen_as stop_after_parts (stop_after_contract m)).steps s (stopped_after n l)
 lists_stopped m s n k l parts i = lists_seen stop_after_parts (stop_after_step m.steps) s parts refl (gives_stopped m.steps l s.it n k i.runs)

@@ -7,7 +7,7 @@ use Rattle.std.proofs.Common.{refl, sym, ap, subst, inl, inr, ◌∙◌, arith}
 use Rattle.fallible_iterator.specs.Contract.{Contract, seen_as}
 use Rattle.fallible_iterator.specs.Lists.{AlwaysGives, Lists, Acts, result_answer}
 use Rattle.fallible_iterator.specs.Traces.{Answered, item, failure, end}
-use Rattle.fallible_iterator.specs.Closures.{IsCallable, call_at, takes_at}
+use Rattle.fallible_iterator.specs.Closures.{IsCallable, call_by_reference, takes_by_reference}
 use Rattle.fallible_iterator.specs.Passing.{Place, asked, failure_at, end_at}
 use Rattle.fallible_iterator.specs.Closing.{closing_step}
 use Rattle.fallible_iterator.specs.Cutting.TakeWhile.{is_refused, place_drawn}
@@ -16,7 +16,7 @@ use Rattle.fallible_iterator.proofs.Lemmas.Closing.{closing_law}
 use Rattle.fallible_iterator.proofs.Lemmas.Lists.Passing.{lists_seen}
 use Rattle.fallible_iterator.proofs.Lemmas.Cutting.TakeWhile.{both_of_folds_to, folds_to_of_both}
 use Rattle.fallible_iterator.proofs.Lemmas.Hints.Drawn.{as_sound, brackets_within, if_some_no_greater}
-use Rattle.fallible_iterator.specs.Laws.Closures.{reaches_here, reaches_from, is_callable_after}
+use Rattle.fallible_iterator.specs.Laws.Closures.{reaches_reflexive, reaches_from, is_callable_after}
 use Rattle.fallible_itertools.specs.Staging.{DrawsUpTo, Made, MayMeet, PassesNoneOver, StopPasses, TakesAll, ends_come, one_made, passes_over, stage_meets, stage_step, yields}
 use Rattle.fallible_itertools.specs.Laws.Staging.{made_parts, takes_where_reached}
 use Rattle.fallible_itertools.specs.Laws.TakeWhileInclusive.{call_of_place, is_stage_inclusive}
@@ -66,13 +66,13 @@ module _ {S F X E : Type 0} (steps : S → Answered X E → S → Type 0) (call 
 
 -- where the predicate may be called on each item that may come, so may the stage
 module _ {S F X E : Type 0} (m : Contract S X E) (g : Mut F (Bor X × Unit {0}) (Result Bool E)) (s : S) where
-  kept_callable : (p : F) (a : Answered X E) (made : Made X (Unit {0}) E) (q : F) → MayMeet m s a → IsCallable (call_at g) (takes_at g) (m.may_give s) p → stage_meets (inclusive_on_item (call_at g)) StopPasses p a made q → IsCallable (call_at g) (takes_at g) (m.may_give s) q
-  kept_callable p (Ok (Some x)) made q may c w = is_callable_after (λ y q. q) (reaches_from x w.0 may w.1 reaches_here) c
+  kept_callable : (p : F) (a : Answered X E) (made : Made X (Unit {0}) E) (q : F) → MayMeet m s a → IsCallable (call_by_reference g) (takes_by_reference g) (m.may_give s) p → stage_meets (inclusive_on_item (call_by_reference g)) StopPasses p a made q → IsCallable (call_by_reference g) (takes_by_reference g) (m.may_give s) q
+  kept_callable p (Ok (Some x)) made q may c w = is_callable_after (λ y q. q) (reaches_from x w.0 may w.1 reaches_reflexive) c
   kept_callable p (Ok None) made q may c w = rw w.1 c
   kept_callable p (Err e) made q may c w = rw w.1 c
 
-  pub takes_inclusive : (f : F) → IsCallable (call_at g) (takes_at g) (m.may_give s) f → TakesAll m (stage_meets (inclusive_on_item (call_at g)) StopPasses) (λ h x. takes_at g h x) s f
-  takes_inclusive f c = takes_where_reached m (stage_meets (inclusive_on_item (call_at g)) StopPasses) (λ h x. takes_at g h x) (λ h. IsCallable (call_at g) (takes_at g) (m.may_give s) h) s kept_callable (λ h x may k. k.at h x reaches_here may) f c
+  pub takes_inclusive : (f : F) → IsCallable (call_by_reference g) (takes_by_reference g) (m.may_give s) f → TakesAll m (stage_meets (inclusive_on_item (call_by_reference g)) StopPasses) (λ h x. takes_by_reference g h x) s f
+  takes_inclusive f c = takes_where_reached m (stage_meets (inclusive_on_item (call_by_reference g)) StopPasses) (λ h x. takes_by_reference g h x) (λ h. IsCallable (call_by_reference g) (takes_by_reference g) (m.may_give s) h) s kept_callable (λ h x may k. k.at h x reaches_reflexive may) f c
 
 -- whether an item was rejected says what is due
 abbrev pub over_where : Bool → Option (Unit {0})
@@ -137,9 +137,9 @@ module _ {S F X E : Type 0} (steps : S → Answered X E → S → Type 0) (call 
   gives_inclusive : (l : List (Result X E)) (s : S) → AlwaysGives steps s l → AlwaysGives (inclusive_step steps call) ((s, f), false) (taken_while_inclusive h l)
   gives_inclusive l s g = subst (λ k. AlwaysGives (inclusive_step steps call) ((s, f), false) k) (staged_is_taken l) (always_gives_within (inclusive_staged steps call) steps ends_come (Meets steps call) (inclusive_step steps call) (stage_of_inclusive steps call) _ ((s, f), false) (gives_staged steps ends_come (Meets steps call) (λ z y. y ≡ z) (λ r t. ⊥) ends_come (λ p u. p ≡ f) inclusive_does (λ later. refl) (λ p q u y m at w. inr (inclusive_acts p q u (result_answer y) m at w)) (λ p q u m at w. (inl refl, (inclusive_acts p q u end m at w).1)) (λ u y l r t w. absurd w) l s f tt refl g))
 
-pub lists_inclusive : {S F X E : Type 0} (m : Contract S X E) (g : Mut F (Bor X × Unit {0}) (Result Bool E)) (s : TakeWhileInclusive S F) (f : F) (h : X → Result Bool E) (l : List (Result X E)) → inclusive_parts s ≡ ((s.it, f), false) → Acts (call_at g) f h → Lists m.steps s.it l
+pub lists_inclusive : {S F X E : Type 0} (m : Contract S X E) (g : Mut F (Bor X × Unit {0}) (Result Bool E)) (s : TakeWhileInclusive S F) (f : F) (h : X → Result Bool E) (l : List (Result X E)) → inclusive_parts s ≡ ((s.it, f), false) → Acts (call_by_reference g) f h → Lists m.steps s.it l
     → Lists (seen_as inclusive_parts (inclusive_contract m g)).steps s (taken_while_inclusive h l)
-lists_inclusive m g s f h l parts a i = lists_seen inclusive_parts (inclusive_contract m g).steps s parts refl (gives_inclusive m.steps (call_at g) f h a l s.it i.runs)
+lists_inclusive m g s f h l parts a i = lists_seen inclusive_parts (inclusive_contract m g).steps s parts refl (gives_inclusive m.steps (call_by_reference g) f h a l s.it i.runs)
 
 -- ---- its hint
 

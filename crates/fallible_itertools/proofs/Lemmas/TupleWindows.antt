@@ -38,18 +38,18 @@ module _ {A E : Type 0} where
   windows_listed_is_windowed (Err e ∷ l) = ap (λ k. Err e ∷ k) (windows_listed_is_windowed l)
 
 module _ {A E : Type 0} (is_clone : A → A → Type 0) (is_infallible : A → Type 0) (from : AllocError → E → Type 0) (equal : (x y : A) → is_clone x y → y ≡ x) (infallible : (x : A) → is_infallible x) where
-  held_and_outcome_at : (y x : A) (o : Outcome (A × A) E) (q : Option A) → window_at is_clone is_infallible from y x o q → (q ≡ Some x) × (o ≡ Kept (y, x))
-  held_and_outcome_at y x (Kept both) q w = (w.2, ap {B = Outcome (A × A) E} Kept (pair_of_items both w.0 (equal x both.1 w.1)))
+  window_at_gives_held_and_outcome : (y x : A) (o : Outcome (A × A) E) (q : Option A) → window_at is_clone is_infallible from y x o q → (q ≡ Some x) × (o ≡ Kept (y, x))
+  window_at_gives_held_and_outcome y x (Kept both) q w = (w.2, ap {B = Outcome (A × A) E} Kept (pair_of_items both w.0 (equal x both.1 w.1)))
     where
       pair_of_items : (p : A × A) {a b : A} → p.0 ≡ a → p.1 ≡ b → ◌≡◌ {A = A × A} p (a, b)
       pair_of_items (c, d) is same = rw (is, same) refl
-  held_and_outcome_at y x LeftOut q w = absurd w
-  held_and_outcome_at y x (Failure e) q w = absurd (w.0.0 (infallible x))
-  held_and_outcome_at y x End q w = absurd w
+  window_at_gives_held_and_outcome y x LeftOut q w = absurd w
+  window_at_gives_held_and_outcome y x (Failure e) q w = absurd (w.0.0 (infallible x))
+  window_at_gives_held_and_outcome y x End q w = absurd w
 
   asks_is_function : (a : Option A) (x : A) (o : Outcome (A × A) E) (q : Option A) → windows_asks is_clone is_infallible from a x o q → (q ≡ next_item a x) × (o ≡ window_outcome a x)
   asks_is_function None x o q w = (w.1, w.0)
-  asks_is_function (Some y) x o q w = held_and_outcome_at y x o q w
+  asks_is_function (Some y) x o q w = window_at_gives_held_and_outcome y x o q w
 
   acts_by_next : (p a : Option A) (x : A) (o : Outcome (A × A) E) (q : Option A) → p ≡ a → windows_asks is_clone is_infallible from p x o q → (q ≡ next_item a x) × (o ≡ window_outcome a x)
   acts_by_next p a x o q at w = asks_is_function a x o q (subst (λ k. windows_asks is_clone is_infallible from k x o q) at w)

@@ -10,14 +10,14 @@ use Rattle.fallible_iterator.specs.BothEnds.{failures_listed, items_listed}
 use Rattle.fallible_itertools.specs.Unique.{first_of_equal, unique_from, unique_of}
 
 module _ {A E : Type 0} (eq : A → A → Bool) where
-  failures_by : (x : A) (b : Bool) (same other l : List (Result A E)) → failures_listed same ≡ failures_listed l → failures_listed other ≡ failures_listed l → failures_listed (first_of_equal x b same other) ≡ failures_listed l
-  failures_by x true same other l is_same is_other = is_same
-  failures_by x false same other l is_same is_other = is_other
+  failures_of_first_of_equal : (x : A) (b : Bool) (same other l : List (Result A E)) → failures_listed same ≡ failures_listed l → failures_listed other ≡ failures_listed l → failures_listed (first_of_equal x b same other) ≡ failures_listed l
+  failures_of_first_of_equal x true same other l is_same is_other = is_same
+  failures_of_first_of_equal x false same other l is_same is_other = is_other
 
   failures_from : (seen : List A) (l : List (Result A E)) → failures_listed (unique_from eq seen l) ≡ failures_listed l
   unfolding unique_from
   failures_from seen [] = refl
-  failures_from seen (Ok x ∷ l) = failures_by x (is_member eq seen x) (unique_from eq seen l) (unique_from eq (x ∷ seen) l) l (failures_from seen l) (failures_from (x ∷ seen) l)
+  failures_from seen (Ok x ∷ l) = failures_of_first_of_equal x (is_member eq seen x) (unique_from eq seen l) (unique_from eq (x ∷ seen) l) l (failures_from seen l) (failures_from (x ∷ seen) l)
   failures_from seen (Err e ∷ l) = ap (λ k. e ∷ k) (failures_from seen l)
 
   pub failures_of_unique : (l : List (Result A E)) → failures_listed (unique_of eq l) ≡ failures_listed l
@@ -36,8 +36,8 @@ module _ {A : Type 0} (eq : A → A → Bool) (equivalence : IsEquivalence eq) w
       by_first true b e = absurd cc
       by_first false b e = e
 
-  unseen_first : (x y : A) (seen : List A) → Unseen (x ∷ seen) y → eq x y ≡ false
-  unseen_first x y seen is = equivalence.symm x y ∙ by_first (eq y x) (is_member eq seen y) is
+  unseen_differs_from_first : (x y : A) (seen : List A) → Unseen (x ∷ seen) y → eq x y ≡ false
+  unseen_differs_from_first x y seen is = equivalence.symm x y ∙ by_first (eq y x) (is_member eq seen y) is
     where
       by_first : (a b : Bool) → (a || b) ≡ false → a ≡ false
       by_first true b e = absurd cc
@@ -49,7 +49,7 @@ module _ {A : Type 0} (eq : A → A → Bool) (equivalence : IsEquivalence eq) w
 
   all_differ_first : (x : A) (seen xs : List A) → AllByRecursion (Unseen (x ∷ seen)) xs → AllByRecursion (λ y. eq x y ≡ false) xs
   all_differ_first x seen [] all = tt
-  all_differ_first x seen (y ∷ xs) all = (unseen_first x y seen all.0, all_differ_first x seen xs all.1)
+  all_differ_first x seen (y ∷ xs) all = (unseen_differs_from_first x y seen all.0, all_differ_first x seen xs all.1)
 
   unseen_by : {E : Type 0} (x : A) (seen : List A) (b : Bool) (same other : List (Result A E)) → is_member eq seen x ≡ b → AllByRecursion (Unseen seen) (items_listed same) → AllByRecursion (Unseen (x ∷ seen)) (items_listed other) → AllByRecursion (Unseen seen) (items_listed (first_of_equal x b same other))
   unseen_by x seen true same other is all more = all
@@ -61,15 +61,15 @@ module _ {A : Type 0} (eq : A → A → Bool) (equivalence : IsEquivalence eq) w
   all_unseen seen (Ok x ∷ l) = unseen_by x seen (is_member eq seen x) (unique_from eq seen l) (unique_from eq (x ∷ seen) l) refl (all_unseen seen l) (all_unseen (x ∷ seen) l)
   all_unseen seen (Err e ∷ l) = all_unseen seen l
 
-  distinct_by : {E : Type 0} (x : A) (seen : List A) (b : Bool) (same other : List (Result A E)) → IsDistinct eq (items_listed same) → AllByRecursion (Unseen (x ∷ seen)) (items_listed other) → IsDistinct eq (items_listed other) → IsDistinct eq (items_listed (first_of_equal x b same other))
+  distinct_first_of_equal : {E : Type 0} (x : A) (seen : List A) (b : Bool) (same other : List (Result A E)) → IsDistinct eq (items_listed same) → AllByRecursion (Unseen (x ∷ seen)) (items_listed other) → IsDistinct eq (items_listed other) → IsDistinct eq (items_listed (first_of_equal x b same other))
   unfolding IsDistinct
-  distinct_by x seen true same other d all more = d
-  distinct_by x seen false same other d all more = (all_differ_first x seen (items_listed other) all, more)
+  distinct_first_of_equal x seen true same other d all more = d
+  distinct_first_of_equal x seen false same other d all more = (all_differ_first x seen (items_listed other) all, more)
 
   distinct_from : {E : Type 0} (seen : List A) (l : List (Result A E)) → IsDistinct eq (items_listed (unique_from eq seen l))
   unfolding unique_from IsDistinct
   distinct_from seen [] = tt
-  distinct_from seen (Ok x ∷ l) = distinct_by x seen (is_member eq seen x) (unique_from eq seen l) (unique_from eq (x ∷ seen) l) (distinct_from seen l) (all_unseen (x ∷ seen) l) (distinct_from (x ∷ seen) l)
+  distinct_from seen (Ok x ∷ l) = distinct_first_of_equal x seen (is_member eq seen x) (unique_from eq seen l) (unique_from eq (x ∷ seen) l) (distinct_from seen l) (all_unseen (x ∷ seen) l) (distinct_from (x ∷ seen) l)
   distinct_from seen (Err e ∷ l) = distinct_from seen l
 
   pub unique_distinct : {E : Type 0} (l : List (Result A E)) → IsDistinct eq (items_listed (unique_of eq l))
@@ -90,14 +90,14 @@ module _ {A : Type 0} (eq : A → A → Bool) (equivalence : IsEquivalence eq) w
   find_at_first q x seen xs ys true e unseen more = refl
   find_at_first q x seen xs ys false e unseen more = more (ap (λ (a : Bool). a || is_member eq seen q) e ∙ unseen)
 
-  find_by : {E : Type 0} (q x : A) (seen : List A) (b : Bool) (same other l : List (Result A E)) → is_member eq seen x ≡ b → Unseen seen q → find (eq q) (items_listed same) ≡ find (eq q) (items_listed l) → (Unseen (x ∷ seen) q → find (eq q) (items_listed other) ≡ find (eq q) (items_listed l)) → find (eq q) (items_listed (first_of_equal x b same other)) ≡ cond (eq q x) (Some x) (find (eq q) (items_listed l))
-  find_by q x seen true same other l is unseen found more = found ∙ find_past q x seen (items_listed l) (eq q x) refl is unseen
-  find_by q x seen false same other l is unseen found more = find_at_first q x seen (items_listed other) (items_listed l) (eq q x) refl unseen more
+  find_in_first_of_equal : {E : Type 0} (q x : A) (seen : List A) (b : Bool) (same other l : List (Result A E)) → is_member eq seen x ≡ b → Unseen seen q → find (eq q) (items_listed same) ≡ find (eq q) (items_listed l) → (Unseen (x ∷ seen) q → find (eq q) (items_listed other) ≡ find (eq q) (items_listed l)) → find (eq q) (items_listed (first_of_equal x b same other)) ≡ cond (eq q x) (Some x) (find (eq q) (items_listed l))
+  find_in_first_of_equal q x seen true same other l is unseen found more = found ∙ find_past q x seen (items_listed l) (eq q x) refl is unseen
+  find_in_first_of_equal q x seen false same other l is unseen found more = find_at_first q x seen (items_listed other) (items_listed l) (eq q x) refl unseen more
 
   find_from : {E : Type 0} (seen : List A) (l : List (Result A E)) (q : A) → Unseen seen q → find (eq q) (items_listed (unique_from eq seen l)) ≡ find (eq q) (items_listed l)
   unfolding unique_from
   find_from seen [] q unseen = refl
-  find_from seen (Ok x ∷ l) q unseen = find_by q x seen (is_member eq seen x) (unique_from eq seen l) (unique_from eq (x ∷ seen) l) l refl unseen (find_from seen l q unseen) (λ more. find_from (x ∷ seen) l q more)
+  find_from seen (Ok x ∷ l) q unseen = find_in_first_of_equal q x seen (is_member eq seen x) (unique_from eq seen l) (unique_from eq (x ∷ seen) l) l refl unseen (find_from seen l q unseen) (λ more. find_from (x ∷ seen) l q more)
   find_from seen (Err e ∷ l) q unseen = find_from seen l q unseen
 
   pub find_in_unique : {E : Type 0} (l : List (Result A E)) (q : A) → find (eq q) (items_listed (unique_of eq l)) ≡ find (eq q) (items_listed l)
@@ -131,14 +131,14 @@ module _ {A E : Type 0} (eq : A → A → Bool) where
   seen_after seen (Ok x ∷ l) = seen_by (is_member eq seen x) (seen_after seen l) (seen_after (x ∷ seen) l)
   seen_after seen (Err e ∷ l) = seen_after seen l
 
-  joined_by : (x : A) (b : Bool) (same other same_left other_left r : List (Result A E)) (same_seen other_seen : List A) → same ≡ same_left ++ unique_from eq same_seen r → other ≡ other_left ++ unique_from eq other_seen r → first_of_equal x b same other ≡ first_of_equal x b same_left other_left ++ unique_from eq (seen_by b same_seen other_seen) r
-  joined_by x true same other same_left other_left r same_seen other_seen is_same is_other = is_same
-  joined_by x false same other same_left other_left r same_seen other_seen is_same is_other = ap {B = List (Result A E)} (λ k. Ok x ∷ k) is_other
+  joined_first_of_equal : (x : A) (b : Bool) (same other same_left other_left r : List (Result A E)) (same_seen other_seen : List A) → same ≡ same_left ++ unique_from eq same_seen r → other ≡ other_left ++ unique_from eq other_seen r → first_of_equal x b same other ≡ first_of_equal x b same_left other_left ++ unique_from eq (seen_by b same_seen other_seen) r
+  joined_first_of_equal x true same other same_left other_left r same_seen other_seen is_same is_other = is_same
+  joined_first_of_equal x false same other same_left other_left r same_seen other_seen is_same is_other = ap {B = List (Result A E)} (λ k. Ok x ∷ k) is_other
 
   unique_joined : (seen : List A) (l r : List (Result A E)) → unique_from eq seen (l ++ r) ≡ unique_from eq seen l ++ unique_from eq (seen_after seen l) r
   unfolding unique_from
   unique_joined seen [] r = refl
-  unique_joined seen (Ok x ∷ l) r = joined_by x (is_member eq seen x) _ _ _ _ r _ _ (unique_joined seen l r) (unique_joined (x ∷ seen) l r)
+  unique_joined seen (Ok x ∷ l) r = joined_first_of_equal x (is_member eq seen x) _ _ _ _ r _ _ (unique_joined seen l r) (unique_joined (x ∷ seen) l r)
   unique_joined seen (Err e ∷ l) r = ap {B = List (Result A E)} (λ k. Err e ∷ k) (unique_joined seen l r)
 
   pub failure_last : (l : List (Result A E)) (e : E) → unique_of eq (l ++ Err e ∷ []) ≡ unique_of eq l ++ Err e ∷ []

@@ -8,13 +8,13 @@ use Rattle.fallible_itertools.specs.Laws.Holding.{lawful_holding}
 use Rattle.fallible_iterator.specs.Outcome.{Outcome}
 
 module _ {A E : Type 0} (eq : A → A → Bool) where
-  held_after_at : (y x : A) (b : Bool) (o : Outcome A E) (q : Option A) → dedup_at eq y x b o q → HeldAfter 1 (Some x) o (held_one q)
-  held_after_at y x true o q (is, at) = rw (is, at) (omega arith)
-  held_after_at y x false o q (is, at) = rw (is, at) (omega arith)
+  held_after_dedup_at : (y x : A) (b : Bool) (o : Outcome A E) (q : Option A) → dedup_at eq y x b o q → HeldAfter 1 (Some x) o (held_one q)
+  held_after_dedup_at y x true o q (is, at) = rw (is, at) (omega arith)
+  held_after_dedup_at y x false o q (is, at) = rw (is, at) (omega arith)
 
   pub holds_dedup : Holds {E = E} (dedup_asks eq) held_one
   holds_dedup None (Some x) o q (is, at) = rw (is, at) (omega arith)
-  holds_dedup (Some y) (Some x) o q w = held_after_at y x (eq y x) o q w
+  holds_dedup (Some y) (Some x) o q w = held_after_dedup_at y x (eq y x) o q w
   holds_dedup None None o q (is, at) = rw (is, at) (omega arith)
   holds_dedup (Some y) None o q (is, at) = rw (is, at) (omega arith)
 

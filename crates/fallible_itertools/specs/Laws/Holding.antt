@@ -4,7 +4,7 @@ use Rattle.std.proofs.Common.{refl, ap, arith}
 use Rattle.fallible_iterator.specs.Traces.{Answered, item, failure}
 use Rattle.fallible_iterator.specs.Contract.{Contract, KeptByDraw, Lawful}
 use Rattle.fallible_iterator.specs.Closures.{Reaches, IsCallable}
-use Rattle.fallible_iterator.specs.Laws.Closures.{reaches_here, reaches_from, is_callable_after}
+use Rattle.fallible_iterator.specs.Laws.Closures.{reaches_reflexive, reaches_from, is_callable_after}
 use Rattle.fallible_iterator.specs.Laws.Passing.{Passes, done, end_passes, failure_passes, keeps, refuses, closes, leaves_out, passes_of_pass_trace}
 use Rattle.fallible_itertools.specs.Staging.{Made, DrawsUpTo, yields, passes_over, IsStage, IsStop, MayMeet, Weighs, due_total, items_of, stays_of, stage_contract, stage_meets, stage_step, stop_answer}
 use Rattle.fallible_itertools.specs.Laws.Staging.{kept_where_reached, lawful_stage, parts_made}
@@ -15,14 +15,14 @@ use Rattle.fallible_iterator.specs.Outcome.TheVariants.{Kept, LeftOut, Failure, 
 -- ---- what is made, as a list
 
 -- what is due is known by its answer
-pub same_due : (B : Type 0) {E : Type 0} (due later : Option (Option E)) → due_answer {B = B} due ≡ due_answer later → due ≡ later
-same_due B None None e = refl
-same_due B None (Some stop) e = absurd cc
-same_due B (Some stop) None e = absurd cc
-same_due B (Some None) (Some None) e = refl
-same_due B (Some None) (Some (Some d)) e = absurd cc
-same_due B (Some (Some c)) (Some None) e = absurd cc
-same_due B (Some (Some c)) (Some (Some d)) e = let same : c ≡ d = cc in ap (λ x. Some (Some x)) same
+pub due_is_known_by_answer : (B : Type 0) {E : Type 0} (due later : Option (Option E)) → due_answer {B = B} due ≡ due_answer later → due ≡ later
+due_is_known_by_answer B None None e = refl
+due_is_known_by_answer B None (Some stop) e = absurd cc
+due_is_known_by_answer B (Some stop) None e = absurd cc
+due_is_known_by_answer B (Some None) (Some None) e = refl
+due_is_known_by_answer B (Some None) (Some (Some d)) e = absurd cc
+due_is_known_by_answer B (Some (Some c)) (Some None) e = absurd cc
+due_is_known_by_answer B (Some (Some c)) (Some (Some d)) e = let same : c ≡ d = cc in ap (λ x. Some (Some x)) same
 
 -- a stop is no item, whichever the items are
 stop_counts : (X B : Type 0) {E : Type 0} (stop : Option E) → (due_total {B = B} stop_comes items_of (Some stop) ≡ 0) × (due_total {B = B} stop_comes stays_of (Some stop) ≡ stays_of (stop_answer {B = X} stop)) × IsStop (stop_answer {B = B} stop)
@@ -31,24 +31,24 @@ stop_counts X B (Some e) = (refl, refl, tt)
 
 module _ {B E : Type 0} where
   -- and what is made by its answers
-  pub made_of_answers : (m : Made B (Option E) E) (r : Answered B E) (due : Option (Option E)) → made_answers m ≡ r ∷ due_answer due → m ≡ Some (r, due)
-  made_of_answers None r due is = absurd cc
-  made_of_answers (Some (a, later)) r due is = let same : a ≡ r = cc in let rest : due_answer {B = B} later ≡ due_answer due = cc in parts_made same (same_due B later due rest)
+  pub made_is_known_by_answers : (m : Made B (Option E) E) (r : Answered B E) (due : Option (Option E)) → made_answers m ≡ r ∷ due_answer due → m ≡ Some (r, due)
+  made_is_known_by_answers None r due is = absurd cc
+  made_is_known_by_answers (Some (a, later)) r due is = let same : a ≡ r = cc in let rest : due_answer {B = B} later ≡ due_answer due = cc in parts_made same (due_is_known_by_answer B later due rest)
 
   pub nothing_made : (m : Made B (Option E) E) → made_answers m ≡ [] → m ≡ None
   nothing_made None is = refl
   nothing_made (Some (a, later)) is = absurd cc
 
   weighs_stop : (X : Type 0) (before after : ℕ) (stop : Option E) (o : Outcome B E) (made : Made B (Option E) E) → HeldAfter {X = X} before None o after → StopMade stop o (made_answers made) → Weighs stop_comes {X = X} {D = E} 1 before (stop_answer stop) made after
-  weighs_stop X before after stop (Kept y) made h m = rw (made_of_answers made (item y) (Some stop) m) (let k = stop_counts X B stop in (omega (arith, h, k.0), omega (arith, h, k.1), λ s. k.2))
-  weighs_stop X before after stop (Failure d) made h m = rw (made_of_answers made (failure d) (Some stop) m) (let k = stop_counts X B stop in (omega (arith, h, k.0), omega (arith, h, k.1), λ s. k.2))
-  weighs_stop X before after stop End made h m = rw (made_of_answers made (stop_answer stop) None m) (let k = stop_counts X B stop in let none : items_of (stop_answer {B = B} stop) ≡ 0 = k.0 in let same : stays_of (stop_answer {B = B} stop) ≡ stays_of (stop_answer {B = X} stop) = k.1 in (omega (arith, h, none), omega (arith, h, same), λ s. k.2))
+  weighs_stop X before after stop (Kept y) made h m = rw (made_is_known_by_answers made (item y) (Some stop) m) (let k = stop_counts X B stop in (omega (arith, h, k.0), omega (arith, h, k.1), λ s. k.2))
+  weighs_stop X before after stop (Failure d) made h m = rw (made_is_known_by_answers made (failure d) (Some stop) m) (let k = stop_counts X B stop in (omega (arith, h, k.0), omega (arith, h, k.1), λ s. k.2))
+  weighs_stop X before after stop End made h m = rw (made_is_known_by_answers made (stop_answer stop) None m) (let k = stop_counts X B stop in let none : items_of (stop_answer {B = B} stop) ≡ 0 = k.0 in let same : stays_of (stop_answer {B = B} stop) ≡ stays_of (stop_answer {B = X} stop) = k.1 in (omega (arith, h, none), omega (arith, h, same), λ s. k.2))
   weighs_stop X before after stop LeftOut made h m = absurd m
 
 module _ {P X B E : Type 0} (asks : P → Option X → Outcome B E → P → Type 0) where
   module _ (held : P → ℕ) (weighs : Holds asks held) where
     weighs_item : (p h q : P) (x : X) (o : Outcome B E) (made : Made B (Option E) E) → HeldAfter (held p) (Some x) o (held h) → MadeOfItem asks o h (made_answers made) q → Weighs stop_comes {D = E} 1 (held p) (Ok (Some x)) made (held q)
-    weighs_item p h q x (Kept y) made w m = rw (m.1, made_of_answers made (item y) None m.0) (omega (arith, w), omega (arith, w), λ s. absurd s)
+    weighs_item p h q x (Kept y) made w m = rw (m.1, made_is_known_by_answers made (item y) None m.0) (omega (arith, w), omega (arith, w), λ s. absurd s)
     weighs_item p h q x LeftOut made w m = rw (m.1, nothing_made made m.0) (omega (arith, w), omega (arith, w), λ s. absurd s)
     weighs_item p h q x (Failure e) made w m = let k = weighs_stop X (held h) (held q) (Some e) m.0 made (weighs h None m.0 q m.1) m.2 in (omega (arith, k.0, w), omega (arith, k.1, w), λ s. absurd s)
     weighs_item p h q x End made w m = absurd w
@@ -114,7 +114,7 @@ module _ {P X B E : Type 0} (asks : P → Option X → Outcome B E → P → Typ
   CanAsk pre Q h = IsCallable asks pre (OrStop (λ x. Q (Ok (Some x)))) h
 
   can_ask_stays : (pre : P → Option X → Type 0) (Q R : Answered X E → Type 0) (p q : P) → ((a : Answered X E) → R a → Q a) → Reaches (holding_meets asks) Q p q → CanAsk pre Q p → CanAsk pre R q
-  can_ask_stays pre Q R p q weak reached c = is_callable_after (or_stop_weaker (λ x. weak (Ok (Some x)))) reaches_here (kept_where_reached (CanAsk pre Q) (after_met (CanAsk pre Q) Q (λ p q asked o given called c. is_callable_after (λ x k. k) (reaches_from asked o given called reaches_here) c)) reached c)
+  can_ask_stays pre Q R p q weak reached c = is_callable_after (or_stop_weaker (λ x. weak (Ok (Some x)))) reaches_reflexive (kept_where_reached (CanAsk pre Q) (after_met (CanAsk pre Q) Q (λ p q asked o given called c. is_callable_after (λ x k. k) (reaches_from asked o given called reaches_reflexive) c)) reached c)
 
 -- ---- the contracts
 

@@ -16,20 +16,20 @@ use Rattle.fallible_itertools.specs.Sides.{fused_contract}
 use Rattle.fallible_itertools.specs.ZipLongest.{longest_rule, zip_longest_hints}
 
 module _ {E : Type 0} where
-  abbrev ContractHere : Contract (ℕ × ℕ) ℕ E
-  ContractHere = index_contract
+  abbrev PadUsingContract : Contract (ℕ × ℕ) ℕ E
+  PadUsingContract = index_contract
 
-  kept_by_draw_of_index : (p : ℕ × ℕ) → p.0 < p.1 → KeptByDraw ContractHere p (item p.0) (suc p.0, p.1)
+  kept_by_draw_of_index : (p : ℕ × ℕ) → p.0 < p.1 → KeptByDraw PadUsingContract p (item p.0) (suc p.0, p.1)
   kept_by_draw_of_index p some = record { can_next = tt; is_finite = λ f. f; answer = ((omega arith, some), (λ n b. (p.1 - suc p.0, omega arith, omega (arith, b, some))), (λ f. (f, omega (arith, some)))); may_give = λ x c. (omega (arith, c.0), c.1); may_fail = λ e c. c; lenders = refl }
 
-  kept_by_draw_past_indices : (p : ℕ × ℕ) → KeptByDraw ContractHere p end p
+  kept_by_draw_past_indices : (p : ℕ × ℕ) → KeptByDraw PadUsingContract p end p
   kept_by_draw_past_indices p = record { can_next = tt; is_finite = λ f. f; answer = ((λ n b. (n, b, omega arith)), (λ f. (f, omega arith))); may_give = λ x c. c; may_fail = λ e c. c; lenders = refl }
 
-  kept_by_draw_of_step : (p : ℕ × ℕ) (r : Answered ℕ E) (q : ℕ × ℕ) → index_step p r q → KeptByDraw ContractHere p r q
+  kept_by_draw_of_step : (p : ℕ × ℕ) (r : Answered ℕ E) (q : ℕ × ℕ) → index_step p r q → KeptByDraw PadUsingContract p r q
   kept_by_draw_of_step p (Ok o) q step = elim step [ inl d ↦ rw (d.1, d.2) (kept_by_draw_of_index p d.0) | inr d ↦ rw (d.1, d.2) (kept_by_draw_past_indices p) ]
   kept_by_draw_of_step p (Err e) q step = absurd step
 
-  lawful_index : Lawful ContractHere
+  lawful_index : Lawful PadUsingContract
   lawful_index = record { kept_by_draw = λ p r q c step. kept_by_draw_of_step p r q step; bounded = λ p. ((λ e. (p.1 - p.0, omega arith)), (λ b. tt)) }
 
 pub lawful_pad_using : {S F A E : Type 0} {m : Contract S A E} (g : Mut F (ℕ × Unit {0}) (Result A E)) → Lawful m → Lawful (pad_using_contract m g)

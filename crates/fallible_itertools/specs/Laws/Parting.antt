@@ -72,13 +72,13 @@ module _ {Z A E : Type 0} (separates : Z → Result A E → Z → Type 0) where
     takes_parting m s k c = takes_where_reached m (parting_meets separates) (λ h _. can h.0) (λ h. can h.0) s (λ p a made q may. can_after p a made q) (λ p x may t. t) k c
 
     module _ {S : Type 0} (m : Contract S A E) where
-      abbrev Here : Contract (S × (Z × (Bool × Option A))) A E
-      Here = parting_contract separates can m
+      abbrev PartingContract : Contract (S × (Z × (Bool × Option A))) A E
+      PartingContract = parting_contract separates can m
 
       abbrev Stage : Contract (S × (Z × (Bool × Option A))) A E
-      Stage = record Here { steps = λ p r q. stage_step item_comes (parting_meets separates) m.steps (parting_stage p) r (parting_stage q) }
+      Stage = record PartingContract { steps = λ p r q. stage_step item_comes (parting_meets separates) m.steps (parting_stage p) r (parting_stage q) }
 
-      kept_by_draw_parting : (p : S × (Z × (Bool × Option A))) (r : Answered A E) (q : S × (Z × (Bool × Option A))) → KeptByDraw Stage p r q → KeptByDraw Here p r q
+      kept_by_draw_parting : (p : S × (Z × (Bool × Option A))) (r : Answered A E) (q : S × (Z × (Bool × Option A))) → KeptByDraw Stage p r q → KeptByDraw PartingContract p r q
       kept_by_draw_parting p r q k = record { can_next = k.can_next; is_finite = k.is_finite; answer = k.answer; may_give = k.may_give; may_fail = k.may_fail; lenders = k.lenders }
 
       pub lawful_parting : Lawful m → Lawful (parting_contract separates can m)

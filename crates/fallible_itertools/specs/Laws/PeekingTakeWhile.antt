@@ -7,10 +7,10 @@ use Rattle.std.proofs.Common.{refl, sym, ap, ap₂, subst, ◌∙◌, arith, inl
 use Rattle.fallible_iterator.specs.Traces.{Answered, item, failure, end}
 use Rattle.fallible_iterator.specs.Borrowed.{borrowed}
 use Rattle.fallible_iterator.specs.Contract.{Contract, KeptByDraw, Lawful, OnAnswer, lender_and, seen_as}
-use Rattle.fallible_iterator.specs.Closures.{Calls, IsCallable, Reaches, call_at, takes_at}
+use Rattle.fallible_iterator.specs.Closures.{Calls, IsCallable, Reaches, call_by_reference, takes_by_reference}
 use Rattle.fallible_iterator.specs.Passing.{Place, asked, failure_at, end_at, call_of, passing_contract}
 use Rattle.fallible_iterator.specs.Hints.{upper_alone}
-use Rattle.fallible_iterator.specs.Laws.Closures.{is_callable_after, may_answer_after, reaches_from, reaches_here}
+use Rattle.fallible_iterator.specs.Laws.Closures.{is_callable_after, may_answer_after, reaches_from, reaches_reflexive}
 use Rattle.fallible_iterator.specs.Laws.Passing.{lawful_passing, pass_trace_item, pass_trace_refusal, pass_trace_end, pass_trace_failure}
 use Rattle.fallible_iterator.specs.Laws.Peeking.Peekable.{lawful_peekable}
 use Rattle.fallible_iterator.specs.Cutting.TakeWhile.{taken_answer, take_while_outcome}
@@ -25,9 +25,9 @@ module _ {S X E : Type 0} (steps : S → Answered X E → S → Type 0) where
   HeldState = S × Option (Option X)
 
   -- what was looked at is held, and is what a draw returns
-  pub looked_step : (p q : HeldState) (o : Option X) → Peeks steps p (Ok o) q → peekable_step steps p (Ok o) (q.0, None) × (q.1 ≡ Some o)
-  looked_step (s, Some h) q o w = let same : o ≡ h = (let e = w.0 in cc) in ((w.0, w.1, refl), w.2 ∙ ap (λ z. Some z) (sym same))
-  looked_step (s, None) q o w = ((w.0, refl), w.1)
+  pub looked_at_is_next_answer : (p q : HeldState) (o : Option X) → Peeks steps p (Ok o) q → peekable_step steps p (Ok o) (q.0, None) × (q.1 ≡ Some o)
+  looked_at_is_next_answer (s, Some h) q o w = let same : o ≡ h = (let e = w.0 in cc) in ((w.0, w.1, refl), w.2 ∙ ap (λ z. Some z) (sym same))
+  looked_at_is_next_answer (s, None) q o w = ((w.0, refl), w.1)
 
   none_held_after_draw : (p q : HeldState) (r : Answered X E) → peekable_step steps p r q → q.1 ≡ None
   none_held_after_draw (s, Some o) q r step = step.2
@@ -81,13 +81,13 @@ module _ {S X E : Type 0} {m : Contract S X E} (l : Lawful m) where
   kept_by_draw_look (s, Some o) (t, held) x c w = rw (w.1, w.2) (kept_by_draw_where_still (s, Some o) c)
 
   may_give_looked : (p q : S × Option (Option X)) (x : X) → PeekableHere.can_next p → Peeks m.steps p (item x) q → PeekableHere.may_give p x
-  may_give_looked p q x c w = ((lawful_peekable l).kept_by_draw p (item x) (q.0, None) c (looked_step m.steps p q (Some x) w).0).answer.0
+  may_give_looked p q x c w = ((lawful_peekable l).kept_by_draw p (item x) (q.0, None) c (looked_at_is_next_answer m.steps p q (Some x) w).0).answer.0
 
   step_of_looked : (p q u : S × Option (Option X)) (x : X) (r : Answered X E) → Peeks m.steps p (item x) q → peekable_step m.steps q r u → (r ≡ item x) × peekable_step m.steps p (item x) u
-  step_of_looked p q u x r w step = let k = looked_step m.steps p q (Some x) w in let h = held_step m.steps q u (Some x) r k.1 step in (h.0, subst (λ z. peekable_step m.steps p (item x) z) (sym h.1) k.0)
+  step_of_looked p q u x r w step = let k = looked_at_is_next_answer m.steps p q (Some x) w in let h = held_step m.steps q u (Some x) r k.1 step in (h.0, subst (λ z. peekable_step m.steps p (item x) z) (sym h.1) k.0)
 
-  looked_again : (p q u : S × Option (Option X)) (x y : X) → Peeks m.steps p (item x) q → Peeks m.steps q (item y) u → (y ≡ x) × Peeks m.steps p (item x) u
-  looked_again p q u x y w v = let k = looked_step m.steps p q (Some x) w in let h = held_item_is_looked_at m.steps q u (Some x) y k.1 v in ((let e = h.0 in cc), subst (λ z. Peeks m.steps p (item x) z) (sym h.1) w)
+  second_look_same : (p q u : S × Option (Option X)) (x y : X) → Peeks m.steps p (item x) q → Peeks m.steps q (item y) u → (y ≡ x) × Peeks m.steps p (item x) u
+  second_look_same p q u x y w v = let k = looked_at_is_next_answer m.steps p q (Some x) w in let h = held_item_is_looked_at m.steps q u (Some x) y k.1 v in ((let e = h.0 in cc), subst (λ z. Peeks m.steps p (item x) z) (sym h.1) w)
 
   on_answer_seen : (s t : Peekable S X E) → OnAnswer PeekableHere (peekable_parts s) end (peekable_parts t) → OnAnswer (seen_as peekable_parts PeekableHere) s end t
   on_answer_seen s t h = h
@@ -100,11 +100,11 @@ module _ {S X E : Type 0} {m : Contract S X E} (l : Lawful m) where
   looks_ahead_peekable_looking = record {
     kept = λ s x t c w. let k = kept_by_draw_look (peekable_parts s) (peekable_parts t) x c w in record { can_next = k.can_next; is_finite = k.is_finite; answer = on_answer_seen s t k.answer; may_give = k.may_give; may_fail = k.may_fail; lenders = k.lenders };
     given = λ s x t c w. may_give_looked (peekable_parts s) (peekable_parts t) x c w;
-    comes = λ s x t w. (of_held (t.it, None), (looked_step m.steps (peekable_parts s) (peekable_parts t) (Some x) w).0);
+    comes = λ s x t w. (of_held (t.it, None), (looked_at_is_next_answer m.steps (peekable_parts s) (peekable_parts t) (Some x) w).0);
     next = λ s x t r u w step. step_of_looked (peekable_parts s) (peekable_parts t) (peekable_parts u) x r w step;
-    again = λ s x t y u w v. looked_again (peekable_parts s) (peekable_parts t) (peekable_parts u) x y w v;
+    again = λ s x t y u w v. second_look_same (peekable_parts s) (peekable_parts t) (peekable_parts u) x y w v;
     first = λ s x u step. (of_held (u.it, Some (Some x)), peeks_looks_first m.steps (peekable_parts s) (peekable_parts u) x step, (refl, refl, none_held_after_draw m.steps (peekable_parts s) (peekable_parts u) (item x) step));
-    same = λ s x t w. peeks_held_again m.steps (peekable_parts t) (Some x) (looked_step m.steps (peekable_parts s) (peekable_parts t) (Some x) w).1;
+    same = λ s x t w. peeks_held_again m.steps (peekable_parts t) (Some x) (looked_at_is_next_answer m.steps (peekable_parts s) (peekable_parts t) (Some x) w).1;
   }
 
 -- ---- what is borrowed looks ahead as it does itself
@@ -128,16 +128,16 @@ module _ {S X E : Type 0} {m : Contract S X E} {looks : S → X → S → Type 0
 
 module _ {S F X E : Type 0} (m : Contract S X E) (l : Lawful m) (looks : S → X → S → Type 0) (k : LooksAhead m looks) (g : Mut F (Bor X × Unit {0}) (Result Bool E)) where
   abbrev callable_here : (X → Type 0) → F → Type 0
-  callable_here P f = IsCallable (call_at g) (takes_at g) P f
+  callable_here P f = IsCallable (call_by_reference g) (takes_by_reference g) P f
 
   abbrev PassingHere : Contract (S × F) X E
-  PassingHere = passing_contract m (call_at g) callable_here take_while_outcome (λ p h. upper_alone m p.0 h)
+  PassingHere = passing_contract m (call_by_reference g) callable_here take_while_outcome (λ p h. upper_alone m p.0 h)
 
   abbrev PeekingHere : Contract (S × F) X E
   PeekingHere = peeking_contract m looks g
 
   lawful_taking : Lawful PassingHere
-  lawful_taking = lawful_passing (call_at g) callable_here take_while_outcome (λ p h. upper_alone m p.0 h) (λ P PeekableHere f h weak reached c. is_callable_after weak reached c) l
+  lawful_taking = lawful_passing (call_by_reference g) callable_here take_while_outcome (λ p h. upper_alone m p.0 h) (λ P PeekableHere f h weak reached c. is_callable_after weak reached c) l
 
   -- what a draw keeps, whatever the steps are
   on_answer_peeking : (p q : S × F) (r : Answered X E) → OnAnswer PassingHere p r q → OnAnswer PeekingHere p r q
@@ -149,13 +149,13 @@ module _ {S F X E : Type 0} (m : Contract S X E) (l : Lawful m) (looks : S → X
   kept_by_draw_of_passing p q r a = record { can_next = a.can_next; is_finite = a.is_finite; answer = on_answer_peeking p q r a.answer; may_give = a.may_give; may_fail = a.may_fail; lenders = a.lenders }
 
   -- the one call at a place
-  call_of_place : (p q : F) (x : X) (v : Result Bool E) → Calls (call_at g) p ((x, v) ∷ []) q → call_at g p x v q
-  call_of_place p q x v called = subst (λ (h : F). call_at g p x v h) called.2 called.1
+  call_of_place : (p q : F) (x : X) (v : Result Bool E) → Calls (call_by_reference g) p ((x, v) ∷ []) q → call_by_reference g p x v q
+  call_of_place p q x v called = subst (λ (h : F). call_by_reference g p x v h) called.2 called.1
 
-  kept_by_draw_refused : (p q : S) (f h : F) (x : X) → PeekingHere.can_next (p, f) → looks p x q → call_at g f x (Ok false) h → KeptByDraw PeekingHere (p, f) end (q, h)
+  kept_by_draw_refused : (p q : S) (f h : F) (x : X) → PeekingHere.can_next (p, f) → looks p x q → call_by_reference g f x (Ok false) h → KeptByDraw PeekingHere (p, f) end (q, h)
   kept_by_draw_refused p q f h x c look called =
       let a = k.kept p x q c.0 look in
-      let reached : Reaches (call_at g) (m.may_give p) f h = reaches_from x (Ok false) (k.given p x q c.0 look) called reaches_here in
+      let reached : Reaches (call_by_reference g) (m.may_give p) f h = reaches_from x (Ok false) (k.given p x q c.0 look) called reaches_reflexive in
       record {
         can_next = (a.can_next, is_callable_after a.may_give reached c.1);
         is_finite = a.is_finite;
@@ -165,7 +165,7 @@ module _ {S F X E : Type 0} (m : Contract S X E) (l : Lawful m) (looks : S → X
         lenders = a.lenders;
       }
 
-  kept_by_draw_place : (z : Place X (Result Bool E) E) (p q : S) (f h : F) → PeekingHere.can_next (p, f) → DrawsAtPlace m.steps looks z p q → Calls (call_at g) f (filter_map call_of (z ∷ [])) h → KeptByDraw PeekingHere (p, f) (taken_answer z) (q, h)
+  kept_by_draw_place : (z : Place X (Result Bool E) E) (p q : S) (f h : F) → PeekingHere.can_next (p, f) → DrawsAtPlace m.steps looks z p q → Calls (call_by_reference g) f (filter_map call_of (z ∷ [])) h → KeptByDraw PeekingHere (p, f) (taken_answer z) (q, h)
   kept_by_draw_place (asked x (Ok true)) p q f h c step called = kept_by_draw_of_passing (p, f) (q, h) (item x) (lawful_taking.kept_by_draw (p, f) (item x) (q, h) c (pass_trace_item x (Ok true) x step (call_of_place f h x (Ok true) called) refl))
   kept_by_draw_place (asked x (Ok false)) p q f h c step called = kept_by_draw_refused p q f h x c step (call_of_place f h x (Ok false) called)
   kept_by_draw_place (asked x (Err e)) p q f h c step called = kept_by_draw_of_passing (p, f) (q, h) (Err e) (lawful_taking.kept_by_draw (p, f) (failure e) (q, h) c (pass_trace_refusal x (Err e) e step (call_of_place f h x (Err e) called) refl))

@@ -8,7 +8,7 @@ use Rattle.fallible_iterator.specs.Traces.{Answered, item, failure}
 use Rattle.fallible_iterator.specs.Contract.{Contract, OnAnswer, KeptByDraw, KeptByDraws, Lawful}
 use Rattle.fallible_iterator.specs.Closures.{Reaches, MayAnswer}
 use Rattle.fallible_iterator.specs.Laws.Contract.{kept_by_draws_after, kept_by_draws_then}
-use Rattle.fallible_iterator.specs.Laws.Closures.{reaches_here, reaches_weaken, reaches_from, may_answer_here, may_answer_after}
+use Rattle.fallible_iterator.specs.Laws.Closures.{reaches_reflexive, reaches_weaken, reaches_from, may_answer_of_call, may_answer_after}
 use Rattle.fallible_itertools.specs.Staging.{Made, DrawsUpTo, yields, passes_over, due_comes, due_left, items_of, stays_of, due_total, made_total, IsStage, IsDue, IsMade, MayMeet, MayCome, TakesAll, stage_contract}
 use Rattle.fallible_iterator.specs.Passing.{IfItem}
 
@@ -60,8 +60,8 @@ module _ {S P X D B L E : Type 0} {m : Contract S X D} (l : Lawful m) (comes : L
   abbrev State : Type 0
   State = S × (P × Option L)
 
-  abbrev Here : Contract State B E
-  Here = stage_contract m comes meets can most held hints
+  abbrev StageContract : Contract State B E
+  StageContract = stage_contract m comes meets can most held hints
 
   -- Of each bound, with what is held, i less are left, and of what remains j less.
   record Spends (i j : ℕ) (s : S) (p : P) (t : S) (q : P) : Type 0 where
@@ -91,30 +91,30 @@ module _ {S P X D B L E : Type 0} {m : Contract S X D} (l : Lawful m) (comes : L
   came_of_draws : (s t : S) (p : P) (r : Answered B E) (q : P × Option L) → m.can_next s → DrawsUpTo comes meets m.steps s p r t q → Came s p r t q
   came_of_draws s t p r _ c (yields {q = q} {due = due} a step called) = let g = l.kept_by_draw s a t c step in let may = met_of_answer m s t a g.answer in record {
     kept = kept_by_draws_after g;
-    reached = reaches_from a (Some (r, due)) may called reaches_here;
+    reached = reaches_from a (Some (r, due)) may called reaches_reflexive;
     spends = spends_met s t p q a (Some (r, due)) g.answer called;
-    may = λ z is. may_answer_here q a (Some (r, due)) may called is;
+    may = λ z is. may_answer_of_call q a (Some (r, due)) may called is;
   }
   came_of_draws s t p r q c (passes_over {u = u} {h = h} a step called rest) = let g = l.kept_by_draw s a u c step in let may = met_of_answer m s u a g.answer in let k = kept_by_draws_after g in
       let d = came_of_draws u t h r q g.can_next rest in record {
         kept = kept_by_draws_then k d.kept;
         reached = reaches_from a None may called (reaches_weaken (met_before m s u k) d.reached);
         spends = spends_then _ _ s u t p h q.0 (spends_met s u p h a None g.answer called) d.spends;
-        may = λ z is. may_answer_after (met_before m s u k) (reaches_from a None may called reaches_here) (d.may z is);
+        may = λ z is. may_answer_after (met_before m s u k) (reaches_from a None may called reaches_reflexive) (d.may z is);
       }
 
   -- ---- one answer
 
   record Leaves (p : State) (r : Answered B E) (q : State) : Type 0 where
-    bound : (n : ℕ) → Here.bound p n → (k : ℕ) × Here.bound q k × (k + items_of r ≤ n)
-    remaining : IsFinite (Here.remaining p) → IsFinite (Here.remaining q) × (size (Here.remaining q) + stays_of r ≤ size (Here.remaining p))
+    bound : (n : ℕ) → StageContract.bound p n → (k : ℕ) × StageContract.bound q k × (k + items_of r ≤ n)
+    remaining : IsFinite (StageContract.remaining p) → IsFinite (StageContract.remaining q) × (size (StageContract.remaining q) + stays_of r ≤ size (StageContract.remaining p))
 
-  on_answer_leaves : (p q : State) (r : Answered B E) → MayCome m comes meets p r → Leaves p r q → OnAnswer Here p r q
+  on_answer_leaves : (p q : State) (r : Answered B E) → MayCome m comes meets p r → Leaves p r q → OnAnswer StageContract p r q
   on_answer_leaves p q (Ok (Some y)) may k = (may, (λ n b. let e = k.bound n b in (e.0, e.1, omega (arith, e.2))), (λ f. let e = k.remaining f in (e.0, omega (arith, e.1))))
   on_answer_leaves p q (Ok None) may k = ((λ n b. let e = k.bound n b in (e.0, e.1, omega (arith, e.2))), (λ f. let e = k.remaining f in (e.0, omega (arith, e.1))))
   on_answer_leaves p q (Err e) may k = (may, (λ n b. let e = k.bound n b in (e.0, e.1, omega (arith, e.2))), (λ f. let e = k.remaining f in (e.0, omega (arith, e.1))))
 
-  kept_by_draw_drawn : (s t : S) (p : P) (r : Answered B E) (q : P × Option L) → Here.can_next (s, (p, None)) → Came s p r t q → KeptByDraw Here (s, (p, None)) r (t, q)
+  kept_by_draw_drawn : (s t : S) (p : P) (r : Answered B E) (q : P × Option L) → StageContract.can_next (s, (p, None)) → Came s p r t q → KeptByDraw StageContract (s, (p, None)) r (t, q)
   kept_by_draw_drawn s t p r q c k = record {
     can_next = (k.kept.can_next, stays (MayMeet m s) (MayMeet m t) p q.0 (met_before m s t k.kept) k.reached c.1);
     is_finite = k.kept.is_finite;
@@ -130,7 +130,7 @@ module _ {S P X D B L E : Type 0} {m : Contract S X D} (l : Lawful m) (comes : L
       came_before : (z : Answered B E) → MayCome m comes meets (t, q) z → MayCome m comes meets (s, (p, None)) z
       came_before z h = inr (elim h [ inl d ↦ k.may z (inr d) | inr d ↦ may_answer_after (met_before m s t k.kept) k.reached d ])
 
-  kept_by_draw_due : (s : S) (p : P) (later : L) → Here.can_next (s, (p, Some later)) → KeptByDraw Here (s, (p, Some later)) (due_comes (comes later)) (s, (p, due_left later (comes later)))
+  kept_by_draw_due : (s : S) (p : P) (later : L) → StageContract.can_next (s, (p, Some later)) → KeptByDraw StageContract (s, (p, Some later)) (due_comes (comes later)) (s, (p, due_left later (comes later)))
   kept_by_draw_due s p later c = let none = nothing_left comes later (comes later) refl in record {
     can_next = c;
     is_finite = λ e. e;
@@ -143,7 +143,7 @@ module _ {S P X D B L E : Type 0} {m : Contract S X D} (l : Lawful m) (comes : L
     lenders = refl;
   }
 
-  kept_by_draw_stage : (p : State) (r : Answered B E) (q : State) → Here.can_next p → Here.steps p r q → KeptByDraw Here p r q
+  kept_by_draw_stage : (p : State) (r : Answered B E) (q : State) → StageContract.can_next p → StageContract.steps p r q → KeptByDraw StageContract p r q
   kept_by_draw_stage (s, (p, None)) r (t, q) c step = kept_by_draw_drawn s t p r q c (came_of_draws s t p r q c.0 step)
   kept_by_draw_stage (s, (p, Some later)) r (t, q) c step = rw (step.0, step.1, step.2) (kept_by_draw_due s p later c)
 

@@ -5,7 +5,7 @@ use Rattle.std.specs.Borrow.{Bor}
 use Rattle.std.proofs.Common.{refl, sym, subst, arith}
 use Rattle.fallible_iterator.specs.Traces.{item, failure, end}
 use Rattle.fallible_iterator.specs.Contract.{Contract, KeptByDraw, Lawful}
-use Rattle.fallible_iterator.specs.Closures.{Calls, IsCallable, call_at, takes_at}
+use Rattle.fallible_iterator.specs.Closures.{Calls, IsCallable, call_by_reference, takes_by_reference}
 use Rattle.fallible_iterator.specs.Passing.{Place, asked, failure_at, end_at, passing_contract}
 use Rattle.fallible_iterator.specs.Laws.Closures.{is_callable_after}
 use Rattle.fallible_iterator.specs.Laws.Passing.{lawful_passing, pass_trace_item, pass_trace_refusal, pass_trace_end, pass_trace_failure}
@@ -22,20 +22,20 @@ module _ {S F X E : Type 0} (m : Contract S X E) (l : Lawful m) (g : Mut F (Bor 
   abbrev hint_is : S × F → ℕ × Option ℕ → Type 0
   hint_is p h = (k : ℕ × Option ℕ) × m.hints p.0 k × (h ≡ hint_of_first k)
 
-  abbrev ContractHere : Contract (S × F) X E
-  ContractHere = passing_contract m (call_at g) (λ P f. IsCallable (call_at g) (takes_at g) P f) inclusive_outcome hint_is
+  abbrev TakeWhileInclusiveContract : Contract (S × F) X E
+  TakeWhileInclusiveContract = passing_contract m (call_by_reference g) (λ P f. IsCallable (call_by_reference g) (takes_by_reference g) P f) inclusive_outcome hint_is
 
-  lawful_taking : Lawful ContractHere
-  lawful_taking = lawful_passing (call_at g) (λ P f. IsCallable (call_at g) (takes_at g) P f) inclusive_outcome hint_is (λ P Q f h weak reached c. is_callable_after weak reached c) l
+  lawful_taking : Lawful TakeWhileInclusiveContract
+  lawful_taking = lawful_passing (call_by_reference g) (λ P f. IsCallable (call_by_reference g) (takes_by_reference g) P f) inclusive_outcome hint_is (λ P Q f h weak reached c. is_callable_after weak reached c) l
 
-  kept_by_draw_taken : (p : S × F) (x : Place X (Result Bool E) E) (q : S × F) → ContractHere.can_next p → place_drawn m.steps (call_at g) p x q → KeptByDraw ContractHere p (inclusive_answer x) q
-  kept_by_draw_taken (s, f) (asked x (Ok b)) (t, h) c step = lawful_taking.kept_by_draw (s, f) (item x) (t, h) c (pass_trace_item x (Ok b) x step.0 (call_of_place (call_at g) f h x (Ok b) step.1) refl)
-  kept_by_draw_taken (s, f) (asked x (Err e)) (t, h) c step = lawful_taking.kept_by_draw (s, f) (failure e) (t, h) c (pass_trace_refusal x (Err e) e step.0 (call_of_place (call_at g) f h x (Err e) step.1) refl)
+  kept_by_draw_taken : (p : S × F) (x : Place X (Result Bool E) E) (q : S × F) → TakeWhileInclusiveContract.can_next p → place_drawn m.steps (call_by_reference g) p x q → KeptByDraw TakeWhileInclusiveContract p (inclusive_answer x) q
+  kept_by_draw_taken (s, f) (asked x (Ok b)) (t, h) c step = lawful_taking.kept_by_draw (s, f) (item x) (t, h) c (pass_trace_item x (Ok b) x step.0 (call_of_place (call_by_reference g) f h x (Ok b) step.1) refl)
+  kept_by_draw_taken (s, f) (asked x (Err e)) (t, h) c step = lawful_taking.kept_by_draw (s, f) (failure e) (t, h) c (pass_trace_refusal x (Err e) e step.0 (call_of_place (call_by_reference g) f h x (Err e) step.1) refl)
   kept_by_draw_taken (s, f) (failure_at e) (t, h) c step = lawful_taking.kept_by_draw (s, f) (failure e) (t, h) c (rw (sym step.1) (pass_trace_failure step.0))
   kept_by_draw_taken (s, f) end_at (t, h) c step = lawful_taking.kept_by_draw (s, f) end (t, h) c (rw (sym step.1) (pass_trace_end step.0))
 
 pub lawful_inclusive : {S F X E : Type 0} {m : Contract S X E} (g : Mut F (Bor X × Unit {0}) (Result Bool E)) → Lawful m → Lawful (inclusive_contract m g)
-lawful_inclusive {m = m} g l = lawful_closing (place_drawn m.steps (call_at g)) inclusive_answer is_refused (kept_by_draw_taken m l g) (lawful_taking m l g)
+lawful_inclusive {m = m} g l = lawful_closing (place_drawn m.steps (call_by_reference g)) inclusive_answer is_refused (kept_by_draw_taken m l g) (lawful_taking m l g)
 
 -- ---- what each answer of the source makes
 

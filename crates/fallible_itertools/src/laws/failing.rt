@@ -1,7 +1,7 @@
 // The laws of the adapters that act on failures.
 ghost use Rattle.std.specs.Prelude.{List, Result, Option};
 ghost use Rattle.fallible_iterator.specs.BothEnds.{ListsBothEnds};
-ghost use Rattle.fallible_iterator.specs.Closures.{call_on};
+ghost use Rattle.fallible_iterator.specs.Closures.{call_by_value};
 ghost use Rattle.fallible_iterator.specs.Ends.{from_back};
 ghost use Rattle.fallible_iterator.specs.LawForm.{TracesAre};
 ghost use Rattle.fallible_iterator.specs.Failing.{failures_mapped};
@@ -155,7 +155,7 @@ pub fn law_listed_or_else<
 >()
 where
     ensures { (s : OrElse I F) (h : I.Error → Result (Option I.Item) E)
-        (l : List (Result I.Item I.Error)) → Acts (call_on F.FnMut) (or_else_closure s) h
+        (l : List (Result I.Item I.Error)) → Acts (call_by_value F.FnMut) (or_else_closure s) h
         → ListsBothEnds I.contract.steps I.ends.steps (or_else_source s) l
         → ListsBothEnds ⟦<OrElse<I, F> as FallibleIterator>⟧.contract.steps
         ⟦<OrElse<I, F> as DoubleEndedFallibleIterator>⟧.ends.steps s (recovered h l) }

@@ -2,7 +2,7 @@
 ghost use Rattle.std.specs.Prelude.{◌≡◌, ◌++◌, ◌∷◌, Bool, false, List, Result, Ok, Err, [], map};
 ghost use Rattle.fallible_iterator.specs.LawForm.{TracesAre};
 ghost use Rattle.fallible_iterator.specs.SoundHints.{HintsAsSoundAs};
-ghost use Rattle.fallible_iterator.specs.Closures.{call_at};
+ghost use Rattle.fallible_iterator.specs.Closures.{call_by_reference};
 ghost use Rattle.fallible_iterator.specs.Folds.{call_with};
 ghost use Rattle.fallible_iterator.specs.Lists.{filter_mapped, items, nth_of};
 ghost use Rattle.fallible_iterator.specs.Picking.{call_at_two};
@@ -125,7 +125,7 @@ where
     I::Error: Drop,
     ensures { TracesAre dedup_by_key_parts
         ⟦<DedupByKey<I, K, F> as FallibleIterator>⟧.contract.steps
-        (DedupByKeyTrace K.eq (call_at F.FnMut) I.contract.steps) }
+        (DedupByKeyTrace K.eq (call_by_reference F.FnMut) I.contract.steps) }
 {}
 
 /// The key of no item equals that of the next one, unless a failure stands between. The items are the first ones of the groups that `chunked_by` makes. A failure parts a list: what stands before it is deduped by itself, and so is what comes after it.

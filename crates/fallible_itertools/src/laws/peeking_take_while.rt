@@ -1,6 +1,6 @@
 // The laws of the adapter that leaves the first rejected item in the iterator that it borrows.
 ghost use Rattle.std.specs.Prelude.{[], ◌∷◌, ◌++◌, Bool, IfSome, List, Result, map};
-ghost use Rattle.fallible_iterator.specs.Closures.{call_at};
+ghost use Rattle.fallible_iterator.specs.Closures.{call_by_reference};
 ghost use Rattle.fallible_iterator.specs.LawForm.{TracesAre};
 ghost use Rattle.fallible_iterator.specs.Lists.{Acts, Lists, result_answer, taken_while};
 ghost use Rattle.fallible_iterator.specs.SoundHints.{HintsAsSoundAs};
@@ -15,7 +15,7 @@ pub fn law_peeking_take_while<P: PeekingNext, F: FnMut(&P::Item) -> Result<bool,
 where
     ensures { TracesAre peeking_parts
         ⟦<PeekingTakeWhile<P, F> as FallibleIterator>⟧.contract.steps
-        (PeekingTrace P.contract.steps P.looks (call_at F.FnMut)) }
+        (PeekingTrace P.contract.steps P.looks (call_by_reference F.FnMut)) }
 {}
 
 /// Each hint of `PeekingTakeWhile` is as sound as the hint of its source that it is made of.
@@ -30,7 +30,7 @@ where
 pub fn law_rest_peeking_take_while<P: PeekingNext, F: FnMut(&P::Item) -> Result<bool, P::Error>>()
 where
     ensures { (s t : PeekingTakeWhile P F) (h : P.Item → Result Bool P.Error)
-        (l : List (Result P.Item P.Error)) → Acts (call_at F.FnMut) (peeking_closure s) h
+        (l : List (Result P.Item P.Error)) → Acts (call_by_reference F.FnMut) (peeking_closure s) h
         → Lists P.contract.steps (peeking_source s) l
         → Run ⟦<PeekingTakeWhile<P, F> as FallibleIterator>⟧.contract.steps s
         (map result_answer (taken_while h l) ++ end ∷ []) t

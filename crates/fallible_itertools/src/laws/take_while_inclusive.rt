@@ -1,6 +1,6 @@
 // The laws of the adapter that ends after the first item that a predicate rejects.
 ghost use Rattle.std.specs.Prelude.{◌≡◌, Result, true, false};
-ghost use Rattle.fallible_iterator.specs.Closures.{call_at};
+ghost use Rattle.fallible_iterator.specs.Closures.{call_by_reference};
 ghost use Rattle.fallible_iterator.specs.LawForm.{TracesAre};
 ghost use Rattle.fallible_iterator.specs.SoundHints.{HintsAsSoundAs, SoundHints};
 ghost use Rattle.fallible_itertools.specs.TakeWhileInclusive.{InclusiveTrace, inclusive_parts, inclusive_refused, inclusive_source};
@@ -14,7 +14,7 @@ where
     I::Item: Drop,
     ensures { TracesAre inclusive_parts
         ⟦<TakeWhileInclusive<I, P> as FallibleIterator>⟧.contract.steps
-        (InclusiveTrace I.contract.steps (call_at P.FnMut)) }
+        (InclusiveTrace I.contract.steps (call_by_reference P.FnMut)) }
 {}
 
 /// Until an item was rejected each hint of `TakeWhileInclusive` is as sound as the hint of its source that it is made of; from then on each is sound by itself.

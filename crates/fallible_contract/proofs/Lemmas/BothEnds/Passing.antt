@@ -41,8 +41,8 @@ module _ {F X R : Type 0} (call : F → X → R → F → Type 0) where
   GivesAt p q c = (r : R) → call p c.0 r q → r ≡ c.1
 
   -- a steady closure is steady after a call, and over fewer pairs
-  pub steady_after : (pairs : List (X × R)) (f g : F) (x : X) (v : R) → Steady call f pairs → call f x v g → Steady call g pairs
-  steady_after pairs f g x v steady called = λ made p q w. steady ((x, v) ∷ made) p q (g, called, w)
+  pub steady_after_call : (pairs : List (X × R)) (f g : F) (x : X) (v : R) → Steady call f pairs → call f x v g → Steady call g pairs
+  steady_after_call pairs f g x v steady called = λ made p q w. steady ((x, v) ∷ made) p q (g, called, w)
 
   pub steady_rest : (c : X × R) (pairs : List (X × R)) (f : F) → Steady call f (c ∷ pairs) → Steady call f pairs
   steady_rest c pairs f steady = λ made p q w. All-tail (GivesAt p q) c pairs (steady made p q w)
@@ -84,7 +84,7 @@ module _ {S F X R B E : Type 0} (front back : S → Answered X E → S → Type 
         others = asked;
         list_is = ap (λ (w : R). cons_option (outcome_listed (outcome c.0 w)) (passed_list outcome asked)) (sym answer) ∙ ap (λ (z : X). cons_option (outcome_listed (outcome z v)) (passed_list outcome asked)) (sym same);
         listed = h.1;
-        steady = steady_after call (items_listed asked) f g x v (steady_rest call c (items_listed asked) f k) called;
+        steady = steady_after_call call (items_listed asked) f g x v (steady_rest call c (items_listed asked) f k) called;
       }
 
   says_of_passed_list : (asked : List (Result (X × R) E)) (s : S) (f : F) → ListsBothEnds front back s (source_list asked) → Steady call f (items_listed asked) → ListedByCalls (s, f) (passed_list outcome asked)

@@ -29,11 +29,11 @@ module _ {S A E : Type 0} (steps : S → Answered A E → S → Type 0) where
     list_is : l ≡ map (λ x. Ok x) items ++ rest
     given : GivesAfter t last rest
 
-  drawn_then : (items : List A) (last : Answered A E) (l : List (Result A E)) (s t : S) → AlwaysGives steps s l → Run steps s (map item items ++ last ∷ []) t → DrawnThen items last l t
-  drawn_then [] last l s t a ran = record { rest = l; list_is = refl; given = gives_after_last last l s t a (subst (λ (u : S). steps s last u) ran.2 ran.1) }
-  drawn_then (x ∷ items) last [] s t a ran = absurd (let h = a (Ok (Some x)) ran.0 ran.1 in cc)
-  drawn_then (x ∷ items) last (Err y ∷ l) s t a ran = absurd (let h = (a (Ok (Some x)) ran.0 ran.1).0 in cc)
-  drawn_then (x ∷ items) last (Ok y ∷ l) s t a ran = let h = a (Ok (Some x)) ran.0 ran.1 in let d = drawn_then items last l ran.0 t h.1 ran.2 in
+  run_is_drawn_then : (items : List A) (last : Answered A E) (l : List (Result A E)) (s t : S) → AlwaysGives steps s l → Run steps s (map item items ++ last ∷ []) t → DrawnThen items last l t
+  run_is_drawn_then [] last l s t a ran = record { rest = l; list_is = refl; given = gives_after_last last l s t a (subst (λ (u : S). steps s last u) ran.2 ran.1) }
+  run_is_drawn_then (x ∷ items) last [] s t a ran = absurd (let h = a (Ok (Some x)) ran.0 ran.1 in cc)
+  run_is_drawn_then (x ∷ items) last (Err y ∷ l) s t a ran = absurd (let h = (a (Ok (Some x)) ran.0 ran.1).0 in cc)
+  run_is_drawn_then (x ∷ items) last (Ok y ∷ l) s t a ran = let h = a (Ok (Some x)) ran.0 ran.1 in let d = run_is_drawn_then items last l ran.0 t h.1 ran.2 in
       record { rest = d.rest; list_is = (let same : y ≡ x = (let q = h.0 in cc) in let is = d.list_is in cc); given = d.given }
 
 -- ---- one draw
@@ -71,7 +71,7 @@ module _ {S A E : Type 0} (steps : S → Answered A E → S → Type 0) where
 
 pub lists_rest_nth : {S A E : Type 0} {steps : S → Answered A E → S → Type 0} {s t : S} {n : ℕ} {r : Answered A E} (l : List (Result A E)) → NthDrains steps s n r t → Lists steps s l → ¬ (r ≡ Ok None) → Lists steps t (rest_nth n l)
 lists_rest_nth {steps = steps} {s = s} {t = t} {n = n} {r = r} l c i no_end =
-    let d = drawn_then steps c.items r l s t i.runs (subst (λ (q : Answered _ _). Run steps s (map item c.items ++ q ∷ []) t) c.at.is c.ran) in
+    let d = run_is_drawn_then steps c.items r l s t i.runs (subst (λ (q : Answered _ _). Run steps s (map item c.items ++ q ∷ []) t) c.at.is c.ran) in
     let k = gives_rest_nth steps n (length c.items) r d.rest t c.at.exit no_end d.given in
     record { runs = subst (λ (m : _). AlwaysGives steps t m) (sym (ap (rest_nth n) d.list_is ∙ rest_nth_after_items steps c.items d.rest n k.0 k.1)) k.2 }
 
@@ -107,7 +107,7 @@ module _ {A E F V R : Type 0} (call : F → A → Result V E → F → Type 0) (
 
     lists_rest_stop : {s t : S} {g : F} {r : Result R E} (l : List (Result A E)) → SearchDrains call pick steps none s f r t g → Lists steps s l → ¬ (r ≡ Ok none) → Lists steps t (rest_stop stops h l)
     lists_rest_stop {s = s} {t = t} {g = g} {r = r} l c i no_end =
-        let d = drawn_then steps c.items c.last l s t i.runs c.ran in
+        let d = run_is_drawn_then steps c.items c.last l s t i.runs c.ran in
         let p = rest_stop_after_items c.items d.rest c.at.closure c.at.went in
         let given = always_gives_rest_stop c.last (length c.items) r g d.rest t (subst (λ (k : F). SearchExit call pick none (length c.items) k c.last r g) p.0 c.at.exit) no_end d.given in
         record { runs = subst (λ (m : List (Result A E)). AlwaysGives steps t m) (sym (ap (rest_stop stops h) d.list_is ∙ p.1)) given }
@@ -183,7 +183,7 @@ module _ {A E F B E' : Type 0} (call : F → B → A → Result B E' → F → T
 
     pub lists_rest_fold : {s t : S} {b : B} {r : Result B E'} (l : List (Result A E)) → FoldDrains steps call from s b f r t → Lists steps s l → (d : E') → r ≡ Err d → Lists steps t (rest_fold h b l)
     lists_rest_fold {s = s} {t = t} {b = b} {r = r} l c i e is =
-        let d = drawn_then steps c.items c.last l s t i.runs c.ran in
+        let d = run_is_drawn_then steps c.items c.last l s t i.runs c.ran in
         let p = rest_fold_after_items c.items d.rest b c.at.value c.at.closure c.at.went in
         let exit = subst (λ (q : Result B E'). FoldExit call from c.at.value f c.last q) is (subst (λ (g : F). FoldExit call from c.at.value g c.last r) p.0 c.at.exit) in
         record { runs = subst (λ (m : List (Result A E)). AlwaysGives steps t m) (sym (ap (rest_fold h b) d.list_is ∙ p.1)) (always_gives_rest_fold c.last c.at.value e d.rest t exit d.given) }

@@ -4,7 +4,7 @@ use Rattle.std.specs.List.{FoldsTo}
 use Rattle.std.proofs.Common.{sym, ap, subst, ◌∙◌, arith}
 use Rattle.fallible_contract.specs.Traces.{Answered}
 use Rattle.fallible_contract.specs.Lists.{Lists, Acts, decided, picked_or, searched, all_of, any_of, find_mapped, found, position_in, each_done}
-use Rattle.fallible_contract.specs.Searching.{WentOn, SearchDecides, SearchExit, SearchDrains, all_pick, any_pick, find_map_pick, find_pick, position_pick, each_pick}
+use Rattle.fallible_contract.specs.Searching.{WentOn, SearchDecides, SearchExit, SearchDrains, all_pick, any_pick, find_map_pick, find_pick, position_pick, for_each_pick}
 use Rattle.fallible_contract.proofs.Lemmas.Lists.Drawn.{RestAt, drawn_of_lists}
 
 module _ {A E F V R : Type 0} (call : F → A → Result V E → F → Type 0) (pick : ℕ → A → V → Option R) (none : R) (h : A → Result V E) (f : F) (acts : Acts call f h) where
@@ -18,16 +18,16 @@ module _ {A E F V R : Type 0} (call : F → A → Result V E → F → Type 0) (
       let d = searched_after_items items rest (n + 1) g others in
       (d.0, ap (λ (w : Result V E). decided (pick n x) w (searched pick none h (n + 1) (map (λ y. Ok y) items ++ rest))) (sym a.1) ∙ ap (λ (w : Option R). picked_or w (searched pick none h (n + 1) (map (λ y. Ok y) items ++ rest))) ((went.1).2 n) ∙ d.1 ∙ ap (λ k. searched pick none h k rest) (omega arith))
 
-  searched_item : (n : ℕ) (x : A) (r : Result R E) (g : F) (l : List (Result A E)) → SearchDecides call pick n f x r g → r ≡ searched pick none h n (Ok x ∷ l)
+  decided_item_is_searched : (n : ℕ) (x : A) (r : Result R E) (g : F) (l : List (Result A E)) → SearchDecides call pick n f x r g → r ≡ searched pick none h n (Ok x ∷ l)
   unfolding searched
-  searched_item n x (Ok z) g l d = let a = acts x (Ok d.0) g d.1 in sym (ap (λ (w : Result V E). decided (pick n x) w (searched pick none h (n + 1) l)) (sym a.1) ∙ ap (λ (w : Option R). picked_or w (searched pick none h (n + 1) l)) d.2)
-  searched_item n x (Err e) g l d = let a = acts x (Err e) g d in ap (λ (w : Result V E). decided (pick n x) w (searched pick none h (n + 1) l)) a.1
+  decided_item_is_searched n x (Ok z) g l d = let a = acts x (Ok d.0) g d.1 in sym (ap (λ (w : Result V E). decided (pick n x) w (searched pick none h (n + 1) l)) (sym a.1) ∙ ap (λ (w : Option R). picked_or w (searched pick none h (n + 1) l)) d.2)
+  decided_item_is_searched n x (Err e) g l d = let a = acts x (Err e) g d in ap (λ (w : Result V E). decided (pick n x) w (searched pick none h (n + 1) l)) a.1
 
   searched_rest : (last : Answered A E) (n : ℕ) (r : Result R E) (g : F) (rest : List (Result A E)) → SearchExit call pick none n f last r g → RestAt last rest → r ≡ searched pick none h n rest
   unfolding searched
   searched_rest (Ok None) n r g rest exit rest_is = exit.0 ∙ sym (ap (searched pick none h n) rest_is)
   searched_rest (Err e) n r g rest exit rest_is = exit.0 ∙ sym (ap (searched pick none h n) rest_is.1)
-  searched_rest (Ok (Some x)) n r g rest exit rest_is = searched_item n x r g rest_is.0 exit ∙ sym (ap (searched pick none h n) rest_is.1)
+  searched_rest (Ok (Some x)) n r g rest exit rest_is = decided_item_is_searched n x r g rest_is.0 exit ∙ sym (ap (searched pick none h n) rest_is.1)
 
   pub searched_of_lists : {S : Type 0} {steps : S → Answered A E → S → Type 0} {s t : S} {g : F} {r : Result R E} (l : List (Result A E)) → SearchDrains call pick steps none s f r t g → Lists steps s l → r ≡ searched pick none h 0 l
   searched_of_lists {steps = steps} {s = s} {t = t} {g = g} {r = r} l c i =
@@ -56,6 +56,6 @@ module _ {S A E F : Type 0} {steps : S → Answered A E → S → Type 0} {s t :
   unfolding position_in
   position_in_of_lists {call = call} h acts d = searched_of_lists call position_pick None h f acts l d i
 
-  pub each_done_of_lists : {call : F → A → Result (Unit {0}) E → F → Type 0} (h : A → Result (Unit {0}) E) {r : Result (Unit {0}) E} → Acts call f h → SearchDrains call each_pick steps tt s f r t g → r ≡ each_done h l
+  pub each_done_of_lists : {call : F → A → Result (Unit {0}) E → F → Type 0} (h : A → Result (Unit {0}) E) {r : Result (Unit {0}) E} → Acts call f h → SearchDrains call for_each_pick steps tt s f r t g → r ≡ each_done h l
   unfolding each_done
-  each_done_of_lists {call = call} h acts d = searched_of_lists call each_pick tt h f acts l d i
+  each_done_of_lists {call = call} h acts d = searched_of_lists call for_each_pick tt h f acts l d i

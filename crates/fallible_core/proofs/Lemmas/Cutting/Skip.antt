@@ -7,7 +7,7 @@ use Rattle.fallible_contract.specs.Contract.{Contract, seen_as}
 use Rattle.fallible_contract.specs.Lists.{AlwaysGives, Lists}
 use Rattle.fallible_contract.proofs.Lemmas.Lists.Passing.{lists_seen}
 use Rattle.fallible_contract.proofs.Lemmas.LawForm.{IsByAnswers, runs_by_answers}
-use Rattle.fallible_contract.proofs.Lemmas.ByNumber.{Fits, Leaves, none, keeps_item, keeps_end, keeps_failure, leaves_nil_same, leaves_then, leaves_split, kept_by_number_of_leaves, leaves_of_kept_by_number}
+use Rattle.fallible_contract.proofs.Lemmas.ByNumber.{Fits, Leaves, none, keeps_item, keeps_end, keeps_failure, leaves_nil_same, leaves_first_and_others, leaves_split, kept_by_number_of_leaves, leaves_of_kept_by_number}
 use Rattle.fallible_core.specs.Cutting.Skip.{SkipTrace, skip_step, skip_parts, skip_contract, skipped}
 use Rattle.fallible_core.specs.Cutting.StepBy.{stepped}
 use Rattle.fallible_core.proofs.Lemmas.Cutting.ByNumber.{leaves_one, always_gives_stepped}
@@ -48,7 +48,7 @@ module _ {S A E : Type 0} (steps : S → Answered A E → S → Type 0) where
   skip_by_answers = record {
     none = λ p. (skip_trace_nothing p p).1 refl;
     same = λ p q d. (skip_trace_nothing p q).0 d;
-    joins = λ p u q r rest d e. skip_trace_of_leaves {p = p} {q = q} (leaves_then steps 0 (leaves_of_skip_trace {p = p} {q = u} d) (leaves_of_skip_trace {p = u} {q = q} e));
+    joins = λ p u q r rest d e. skip_trace_of_leaves {p = p} {q = q} (leaves_first_and_others steps 0 (leaves_of_skip_trace {p = p} {q = u} d) (leaves_of_skip_trace {p = u} {q = q} e));
     splits = λ p q r rest d. let h = leaves_split steps 0 (leaves_of_skip_trace {p = p} {q = q} d) in record { left_by_first = (h.0, h.1); first = skip_trace_of_leaves {p = p} {q = (h.0, h.1)} h.2; others = skip_trace_of_leaves {p = (h.0, h.1)} {q = q} h.3 };
   }
 
@@ -57,16 +57,16 @@ module _ {S A E : Type 0} (steps : S → Answered A E → S → Type 0) where
 
 -- ---- what it lists
 
-stepped_0 : {A E : Type 0} (l : List (Result A E)) (n : ℕ) → stepped 0 n l ≡ skipped n l
+stepped_by_one_is_skipped : {A E : Type 0} (l : List (Result A E)) (n : ℕ) → stepped 0 n l ≡ skipped n l
 unfolding skipped stepped
-stepped_0 [] n = refl
-stepped_0 {A = A} {E = E} (Err e ∷ l) n = ap {B = List (Result A E)} (λ k. Err e ∷ k) (stepped_0 l n)
-stepped_0 {A = A} {E = E} (Ok x ∷ l) zero = ap {B = List (Result A E)} (λ k. Ok x ∷ k) (stepped_0 l zero)
-stepped_0 (Ok x ∷ l) (suc n) = stepped_0 l n
+stepped_by_one_is_skipped [] n = refl
+stepped_by_one_is_skipped {A = A} {E = E} (Err e ∷ l) n = ap {B = List (Result A E)} (λ k. Err e ∷ k) (stepped_by_one_is_skipped l n)
+stepped_by_one_is_skipped {A = A} {E = E} (Ok x ∷ l) zero = ap {B = List (Result A E)} (λ k. Ok x ∷ k) (stepped_by_one_is_skipped l zero)
+stepped_by_one_is_skipped (Ok x ∷ l) (suc n) = stepped_by_one_is_skipped l n
 
 always_gives_skipped : {S A E : Type 0} (steps : S → Answered A E → S → Type 0) (l : List (Result A E)) (p : S × ℕ) → AlwaysGives (leaves_one steps 0) p l → AlwaysGives (skip_step steps) p l
 always_gives_skipped steps [] p g = λ r q w. g r q (leaves_of_skip_trace steps {p = p} {q = q} w)
 always_gives_skipped steps (y ∷ l) p g = λ r q w. let d = g r q (leaves_of_skip_trace steps {p = p} {q = q} w) in (d.0, always_gives_skipped steps l q d.1)
 
 pub lists_skipped : {S A E : Type 0} (m : Contract S A E) (s : Skip S) (n : ℕ) (l : List (Result A E)) → skip_parts s ≡ (s.it, n) → Lists m.steps s.it l → Lists (seen_as skip_parts (skip_contract m)).steps s (skipped n l)
-lists_skipped m s n l parts i = lists_seen skip_parts (skip_step m.steps) s parts (stepped_0 l n) (always_gives_skipped m.steps (stepped 0 n l) (s.it, n) (always_gives_stepped m.steps 0 l n s.it i.runs))
+lists_skipped m s n l parts i = lists_seen skip_parts (skip_step m.steps) s parts (stepped_by_one_is_skipped l n) (always_gives_skipped m.steps (stepped 0 n l) (s.it, n) (always_gives_stepped m.steps 0 l n s.it i.runs))

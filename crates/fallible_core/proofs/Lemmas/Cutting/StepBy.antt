@@ -9,7 +9,7 @@ use Rattle.fallible_contract.specs.Contract.{Contract, seen_as}
 use Rattle.fallible_contract.specs.Lists.{AlwaysGives, Lists}
 use Rattle.fallible_contract.proofs.Lemmas.Lists.Passing.{lists_seen}
 use Rattle.fallible_contract.proofs.Lemmas.LawForm.{IsByAnswers, runs_by_answers}
-use Rattle.fallible_contract.proofs.Lemmas.ByNumber.{Fits, Leaves, leaves_from_equal, none, keeps_item, keeps_end, keeps_failure, leaves_out, leaves_nil_same, leaves_then, leaves_split, kept_by_number_of_leaves, leaves_of_kept_by_number}
+use Rattle.fallible_contract.proofs.Lemmas.ByNumber.{Fits, Leaves, leaves_from_equal, none, keeps_item, keeps_end, keeps_failure, leaves_out, leaves_nil_same, leaves_first_and_others, leaves_split, kept_by_number_of_leaves, leaves_of_kept_by_number}
 use Rattle.fallible_core.specs.Cutting.StepBy.{keeps_at_steps, to_skip_after, StepByTrace, step_by_step, step_by_parts, step_by_contract, stepped}
 use Rattle.fallible_core.specs.Cutting.Skip.{SkipTrace}
 use Rattle.fallible_core.proofs.Lemmas.Cutting.Skip.{leaves_of_skip_trace}
@@ -75,7 +75,7 @@ module _ {S A E : Type 0} (steps : S → Answered A E → S → Type 0) where
   step_by_trace_nothing p q = ((λ d. (steps_nothing p q).0 (steps_of_step_by_trace {p = p} {q = q} d)), (λ e. step_by_trace_of_leaves {p = p} {q = q} ((steps_nothing p q).1 e)))
 
   steps_of_first_and_rest : (p u q : S × (ℕ × ℕ)) (r : Answered A E) (rest : List (Answered A E)) → StepByLeaves p (r ∷ []) u → StepByLeaves u rest q → StepByLeaves p (r ∷ rest) q
-  steps_of_first_and_rest p (u, (c, i)) q r rest d e = (leaves_then steps (p.1).0 d.0 (rw d.1 at e.0), e.1 ∙ d.1)
+  steps_of_first_and_rest p (u, (c, i)) q r rest d e = (leaves_first_and_others steps (p.1).0 d.0 (rw d.1 at e.0), e.1 ∙ d.1)
 
   steps_split : (p q : S × (ℕ × ℕ)) (r : Answered A E) (rest : List (Answered A E)) → StepByLeaves p (r ∷ rest) q → (u : S × (ℕ × ℕ)) × StepByLeaves p (r ∷ []) u × StepByLeaves u rest q
   steps_split p q r rest d = let h = leaves_split steps (p.1).0 d.0 in ((h.0, ((p.1).0, h.1)), (h.2, refl), (h.3, d.1))

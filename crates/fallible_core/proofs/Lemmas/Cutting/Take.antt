@@ -32,13 +32,13 @@ module _ {A E : Type 0} where
 
 module _ {S A E : Type 0} (steps : S → Answered A E → S → Type 0) where
   -- an end without a draw more, where nothing is left to take
-  take_trace_over : (source : List (Answered A E)) (ends : ℕ) (s : S) (rest : List (Answered A E)) (t : S) (k : ℕ) → Run steps s source t → rest ≡ source ++ replicate ends end → PrefixesBelow source 0 → k + items_in source ≡ 0 → TakeTrace steps (s, 0) (end ∷ rest) (t, k)
-  take_trace_over [] ends s rest t k ran e prefixes c = record { source_trace = []; ends = suc ends; drawn = ran; answers = ap {B = List (Answered A E)} (λ l. end ∷ l) e; prefixes = prefixes_nil 0; at_most = omega arith; over = λ h. refl; remaining = c }
-  take_trace_over (r ∷ source) ends s rest t k ran e prefixes c = absurd (let h = prefixes [] r source refl in omega (arith, h))
+  take_trace_once_all_taken : (source : List (Answered A E)) (ends : ℕ) (s : S) (rest : List (Answered A E)) (t : S) (k : ℕ) → Run steps s source t → rest ≡ source ++ replicate ends end → PrefixesBelow source 0 → k + items_in source ≡ 0 → TakeTrace steps (s, 0) (end ∷ rest) (t, k)
+  take_trace_once_all_taken [] ends s rest t k ran e prefixes c = record { source_trace = []; ends = suc ends; drawn = ran; answers = ap {B = List (Answered A E)} (λ l. end ∷ l) e; prefixes = prefixes_nil 0; at_most = omega arith; over = λ h. refl; remaining = c }
+  take_trace_once_all_taken (r ∷ source) ends s rest t k ran e prefixes c = absurd (let h = prefixes [] r source refl in omega (arith, h))
 
   take_trace_of_run : (trace : List (Answered A E)) (s : S) (n : ℕ) (t : S) (k : ℕ) → Run (take_step steps) (s, n) trace (t, k) → TakeTrace steps (s, n) trace (t, k)
   take_trace_of_run [] s n t k e = let same : n ≡ k = ap (λ p. p.1) e in record { source_trace = []; ends = 0; drawn = ap (λ p. p.0) e; answers = refl; prefixes = prefixes_nil n; at_most = omega arith; over = λ h. absurd (omega arith); remaining = omega (arith, same) }
-  take_trace_of_run (r ∷ rest) s zero t k h = let p : TakeTrace steps (s, 0) rest (t, k) = take_trace_of_run rest s 0 t k (rw (h.1.1, h.1.2) at h.2) in rw h.1.0 (take_trace_over p.source_trace p.ends s rest t k p.drawn p.answers p.prefixes p.remaining)
+  take_trace_of_run (r ∷ rest) s zero t k h = let p : TakeTrace steps (s, 0) rest (t, k) = take_trace_of_run rest s 0 t k (rw (h.1.1, h.1.2) at h.2) in rw h.1.0 (take_trace_once_all_taken p.source_trace p.ends s rest t k p.drawn p.answers p.prefixes p.remaining)
   take_trace_of_run (r ∷ rest) s (suc n) t k h = let p : TakeTrace steps (h.0.0, h.0.1) rest (t, k) = take_trace_of_run rest h.0.0 h.0.1 t k h.2 in record {
     source_trace = r ∷ p.source_trace;
     ends = p.ends;
@@ -50,13 +50,13 @@ module _ {S A E : Type 0} (steps : S → Answered A E → S → Type 0) where
     remaining = omega (arith, items_in_first_and_rest r p.source_trace, p.remaining, h.1.1);
   }
 
-  run_over : (ends : ℕ) (s : S) → Run (take_step steps) (s, zero) (replicate ends end) (s, zero)
-  run_over zero s = refl
-  run_over (suc ends) s = ((s, zero), (refl, refl, refl), run_over ends s)
+  ends_once_all_taken : (ends : ℕ) (s : S) → Run (take_step steps) (s, zero) (replicate ends end) (s, zero)
+  ends_once_all_taken zero s = refl
+  ends_once_all_taken (suc ends) s = ((s, zero), (refl, refl, refl), ends_once_all_taken ends s)
 
   run_only_ends : (ends : ℕ) (s : S) (n : ℕ) (t : S) (k : ℕ) → s ≡ t → k ≡ n → (0 < ends → n ≡ 0) → Run (take_step steps) (s, n) (replicate ends end) (t, k)
   run_only_ends zero s n t k e c over = rw (e, c) refl
-  run_only_ends (suc ends) s n t k e c over = let none : n ≡ 0 = over (omega arith) in rw (c, none, ← e) (run_over (suc ends) s)
+  run_only_ends (suc ends) s n t k e c over = let none : n ≡ 0 = over (omega arith) in rw (c, none, ← e) (ends_once_all_taken (suc ends) s)
 
   take_run_of_source_run : (source : List (Answered A E)) (ends : ℕ) (s : S) (n : ℕ) (t : S) (k : ℕ) → Run steps s source t → PrefixesBelow source n → (0 < ends → items_in source ≡ n) → k + items_in source ≡ n → Run (take_step steps) (s, n) (source ++ replicate ends end) (t, k)
   take_run_of_source_run [] ends s n t k ran prefixes over c = run_only_ends ends s n t k ran (omega (arith, c)) (λ some. let none = over some in omega (arith, none))

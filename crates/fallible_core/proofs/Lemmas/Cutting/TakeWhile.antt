@@ -8,7 +8,7 @@ use Rattle.fallible_contract.specs.Contract.{Contract, seen_as}
 use Rattle.fallible_contract.specs.Lists.{AlwaysGives, Lists, Acts, result_answer}
 use Rattle.fallible_contract.proofs.Lemmas.Lists.Passing.{passed, by_outcome, lists_seen, always_gives_passed}
 use Rattle.fallible_contract.specs.Traces.{Answered, Run}
-use Rattle.fallible_contract.specs.Closures.{Calls, call_at}
+use Rattle.fallible_contract.specs.Closures.{Calls, call_by_reference}
 use Rattle.fallible_contract.specs.Passing.{LeavesNoneOut, Place, asked, failure_at, end_at, source_answer, call_of, passing_step}
 use Rattle.fallible_contract.specs.Closing.{closing_step}
 use Rattle.fallible_contract.proofs.Lemmas.Closing.{closing_law}
@@ -85,10 +85,10 @@ passed_is_taken_while h [] = refl
 passed_is_taken_while h (Ok x ∷ l) = by_outcome_of_take_while x (h x) _ ∙ ap (λ t. cons_while x (h x) t) (passed_is_taken_while h l)
 passed_is_taken_while h (Err e ∷ l) = ap (λ t. Err e ∷ t) (passed_is_taken_while h l)
 
-pub lists_taken_while : {S F X E : Type 0} (m : Contract S X E) (g : Mut F (Bor X × Unit {0}) (Result Bool E)) (s : TakeWhile S F) (f : F) (h : X → Result Bool E) (l : List (Result X E)) → take_while_parts s ≡ ((s.it, f), false) → Acts (call_at g) f h → Lists m.steps s.it l
+pub lists_taken_while : {S F X E : Type 0} (m : Contract S X E) (g : Mut F (Bor X × Unit {0}) (Result Bool E)) (s : TakeWhile S F) (f : F) (h : X → Result Bool E) (l : List (Result X E)) → take_while_parts s ≡ ((s.it, f), false) → Acts (call_by_reference g) f h → Lists m.steps s.it l
     → Lists (seen_as take_while_parts (take_while_contract m g)).steps s (taken_while h l)
 lists_taken_while m g s f h l parts a i = lists_seen take_while_parts (take_while_contract m g).steps s parts (passed_is_taken_while h l)
-    (always_gives_until_refused m.steps (call_at g) _ (s.it, f) (always_gives_passed (call_at g) f h a m.steps take_while_outcome s.it l i.runs))
+    (always_gives_until_refused m.steps (call_by_reference g) _ (s.it, f) (always_gives_passed (call_by_reference g) f h a m.steps take_while_outcome s.it l i.runs))
 
 -- it leaves nothing out
 pub leaves_none_out_of_take_while : {X E : Type 0} → LeavesNoneOut {X = X} {B = X} {E = E} take_while_outcome

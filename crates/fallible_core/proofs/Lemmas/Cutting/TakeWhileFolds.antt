@@ -5,7 +5,7 @@ use Rattle.std.specs.Fn.{Mut}
 use Rattle.std.specs.Borrow.{Bor}
 use Rattle.std.proofs.Common.{refl, sym, ap, subst, ◌∙◌}
 use Rattle.fallible_contract.specs.Traces.{Answered, item}
-use Rattle.fallible_contract.specs.Closures.{IsCallable, call_at, takes_at}
+use Rattle.fallible_contract.specs.Closures.{IsCallable, call_by_reference, takes_by_reference}
 use Rattle.fallible_contract.specs.Contract.{Contract, Lawful, seen_as}
 use Rattle.fallible_contract.specs.Folds.{Drained, HoldsAtEachTurn, goes_on}
 use Rattle.fallible_contract.specs.Folding.{FoldingTurn, FoldingTakes}
@@ -34,7 +34,7 @@ module _ {S F X E : Type 0} (m : Contract S X E) (a : Mut F (Bor X × Unit {0}) 
   steps_of_take_while_folds = (seen_as take_while_parts (take_while_contract m a)).steps
 
   abbrev CallsOfTakeWhileFolds : Bool × F → X → Result Bool E → Bool × F → Type 0
-  CallsOfTakeWhileFolds = refusing_call (call_at a)
+  CallsOfTakeWhileFolds = refusing_call (call_by_reference a)
 
   abbrev OnceOfTakeWhileFolds : S × (Bool × F) → Answered X E → S × (Bool × F) → Type 0
   OnceOfTakeWhileFolds = passing_step m.steps CallsOfTakeWhileFolds take_while_outcome
@@ -94,9 +94,9 @@ module _ {S F X E : Type 0} (m : Contract S X E) (a : Mut F (Bor X × Unit {0}) 
       taking_step {t = t} q r drawn step h = step_where_open (s.it, s.taking) r (t, q) unrefused (pass_trace_answer drawn step h)
 
       -- where its turns may be taken, the source's may
-      pub holds_each_turn_taking : {C R : Type 0} (turns : C → X → ControlFlow R (Unit {0}) → C → Type 0) {P : C → X → Type 0} {c : C} → Lawful m → m.can_next s.it → IsCallable (call_at a) (takes_at a) (m.may_give s.it) s.taking.1 → HoldsAtEachTurn steps_of_take_while_folds (goes_on turns) P s c
-          → HoldsAtEachTurn m.steps (goes_on (FoldingTurn CallsOfTakeWhileFolds take_while_outcome turns)) (FoldingTakes CallsOfTakeWhileFolds take_while_outcome (λ p x. takes_at a p.1 x) P) s.it (c, s.taking)
-      holds_each_turn_taking turns l can callable holds = holds_each_turn_through l CallsOfTakeWhileFolds take_while_outcome turns can (is_callable_beside (call_at a) s.taking callable) (holds_each_turn_while IsOpen OnceOfTakeWhileFolds steps_of_take_while_folds of_parts step_where_open is_open_stays unrefused holds)
+      pub holds_each_turn_taking : {C R : Type 0} (turns : C → X → ControlFlow R (Unit {0}) → C → Type 0) {P : C → X → Type 0} {c : C} → Lawful m → m.can_next s.it → IsCallable (call_by_reference a) (takes_by_reference a) (m.may_give s.it) s.taking.1 → HoldsAtEachTurn steps_of_take_while_folds (goes_on turns) P s c
+          → HoldsAtEachTurn m.steps (goes_on (FoldingTurn CallsOfTakeWhileFolds take_while_outcome turns)) (FoldingTakes CallsOfTakeWhileFolds take_while_outcome (λ p x. takes_by_reference a p.1 x) P) s.it (c, s.taking)
+      holds_each_turn_taking turns l can callable holds = holds_each_turn_through l CallsOfTakeWhileFolds take_while_outcome turns can (is_callable_beside (call_by_reference a) s.taking callable) (holds_each_turn_while IsOpen OnceOfTakeWhileFolds steps_of_take_while_folds of_parts step_where_open is_open_stays unrefused holds)
 
       -- and a drain of its source by the predicate's answers is one of it
       pub drained_taking : {came : List X → Answered X E → Type 0} {t : S} {q : Bool × F} → Drained OnceOfTakeWhileFolds came (s.it, s.taking) (t, q) → Drained steps_of_take_while_folds came s (of_parts (t, q))

@@ -10,7 +10,7 @@ use Rattle.fallible_contract.specs.Folding.{FoldingTurn, TurnedBy}
 use Rattle.fallible_contract.specs.Passing.{PassTrace, ItemPassed}
 use Rattle.fallible_contract.specs.Searching.{IsSearchTurn, SearchDecides, find_map_pick}
 use Rattle.fallible_contract.proofs.Lemmas.Folds.{folds_to_map, holds_each_turn_map, drained_map, step_of_first_drawn}
-use Rattle.fallible_contract.proofs.Lemmas.Folding.{drives_through}
+use Rattle.fallible_contract.proofs.Lemmas.Folding.{source_fold_drives_adapter}
 use Rattle.fallible_contract.proofs.Lemmas.Passing.{holds_each_turn_callable}
 use Rattle.fallible_core.specs.Filtering.Filter.{DrawingTurn, StopsWithItem}
 use Rattle.fallible_core.specs.Filtering.FilterMap.{filter_map_outcome}
@@ -48,7 +48,7 @@ holds_each_turn_drawing {call = call} outcome l can callable = holds_each_turn_m
 -- a fold by that turn is one draw
 pub pass_trace_drawing : {S F X V B E : Type 0} {steps : S → Answered X E → S → Type 0} {call : F → X → V → F → Type 0} (outcome : X → V → Outcome B E) {s t : S} {f g : F} {answer : Answered (Answered B E) E} {r : Answered B E} → Driven steps (DrawingTurn call outcome) s f answer t g → r ≡ within answer → PassTrace steps call outcome (s, f) (r ∷ []) (t, g)
 pass_trace_drawing {steps = steps} {call = call} outcome {s = s} {t = t} {f = f} {g = g} {answer = answer} {r = r} driven is = subst (λ (z : Answered _ _). PassTrace steps call outcome (s, f) (z ∷ []) (t, g)) (sym is)
-    (step_of_first_drawn (drives_through {turns = StopsWithItem} {p = (tt, f)} {q = (tt, g)} (drained_map (λ items last w. record { carried = (tt, w.carried); went = folds_to_went_drawing call outcome items f w.carried w.went; exit = drive_exit_drawing call outcome last w.carried g answer w.exit }) driven)))
+    (step_of_first_drawn (source_fold_drives_adapter {turns = StopsWithItem} {p = (tt, f)} {q = (tt, g)} (drained_map (λ items last w. record { carried = (tt, w.carried); went = folds_to_went_drawing call outcome items f w.carried w.went; exit = drive_exit_drawing call outcome last w.carried g answer w.exit }) driven)))
 
 -- ---- `FilterMap`
 

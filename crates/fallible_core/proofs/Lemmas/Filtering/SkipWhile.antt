@@ -5,7 +5,7 @@ use Rattle.std.proofs.Common.{refl, sym, ◌∙◌, ap, subst, append-nil}
 use Rattle.std.specs.Fn.{Mut}
 use Rattle.std.specs.Borrow.{Bor}
 use Rattle.fallible_contract.specs.Traces.{Answered, Run, item}
-use Rattle.fallible_contract.specs.Closures.{Calls, call_at}
+use Rattle.fallible_contract.specs.Closures.{Calls, call_by_reference}
 use Rattle.fallible_contract.specs.Contract.{Contract, seen_as}
 use Rattle.fallible_contract.specs.Lists.{Lists, Acts}
 use Rattle.fallible_contract.proofs.Lemmas.Lists.Passing.{passed, by_outcome, gives_all, lists_seen}
@@ -200,7 +200,7 @@ module _ {F X E : Type 0} (call : F → X → Result Bool E → F → Type 0) (f
   acts_until_false p false x (Some v) q e c = let a = acts x v q.1 (subst (λ (z : F). call z x v q.1) (ap (λ z. z.1) e) c.1) in
       (ap (λ (b : Bool). (b, q.1)) (c.2 ∙ ap answers_false a.1) ∙ ap (λ (k : F). (answers_false (h x), k)) a.0, ap Some a.1)
 
-pub lists_skipped_while : {S F X E : Type 0} (m : Contract S X E) (g : Mut F (Bor X × Unit {0}) (Result Bool E)) (s : SkipWhile S F) (f : F) (h : X → Result Bool E) (l : List (Result X E)) → skip_while_parts s ≡ (s.it, (false, f)) → Acts (call_at g) f h → Lists m.steps s.it l
+pub lists_skipped_while : {S F X E : Type 0} (m : Contract S X E) (g : Mut F (Bor X × Unit {0}) (Result Bool E)) (s : SkipWhile S F) (f : F) (h : X → Result Bool E) (l : List (Result X E)) → skip_while_parts s ≡ (s.it, (false, f)) → Acts (call_by_reference g) f h → Lists m.steps s.it l
     → Lists (seen_as skip_while_parts (skip_while_contract m g)).steps s (skipped_while h l)
 lists_skipped_while {F = F} m g s f h l parts a i = lists_seen skip_while_parts (skip_while_contract m g).steps s parts (listed_is_skipped_while h l)
-    (gives_all m.steps (skip_call (call_at g)) skip_while_outcome (λ (p : Bool × F) b. p ≡ (b, f)) (asked_by h) (flag_after h) (acts_until_false (call_at g) f h a) l s.it (false, f) false refl i.runs)
+    (gives_all m.steps (skip_call (call_by_reference g)) skip_while_outcome (λ (p : Bool × F) b. p ≡ (b, f)) (asked_by h) (flag_after h) (acts_until_false (call_by_reference g) f h a) l s.it (false, f) false refl i.runs)

@@ -4,7 +4,7 @@ use Rattle.std.specs.Fn.{Mut}
 use Rattle.std.specs.Borrow.{Bor}
 use Rattle.std.proofs.Common.{refl, ap, subst, sym, ◌∙◌}
 use Rattle.fallible_contract.specs.Traces.{Answered, item}
-use Rattle.fallible_contract.specs.Closures.{call_at}
+use Rattle.fallible_contract.specs.Closures.{call_by_reference}
 use Rattle.fallible_contract.specs.Contract.{Contract, seen_as}
 use Rattle.fallible_contract.specs.Folds.{HoldsAtEachTurn, Drained}
 use Rattle.fallible_contract.specs.Laws.Passing.{Passes, done, end_passes, failure_passes, keeps, refuses, closes, leaves_out, passes_of_pass_trace, pass_trace_of_passes}
@@ -39,10 +39,10 @@ module _ {S F X E : Type 0} (m : Contract S X E) (g : Mut F (Bor X × Unit {0}) 
   past_of_skip_while_folds f s = record { it = s; skipping = (true, f) }
 
   step_of_source_past : (f : F) (s t : S) (r : Answered X E) → m.steps s r t → steps_of_skip_while_folds (past_of_skip_while_folds f s) r (past_of_skip_while_folds f t)
-  step_of_source_past f s t r step = pass_trace_of_passes (run_passes m.steps (call_at g) (r ∷ []) s t f (t, step, refl))
+  step_of_source_past f s t r step = pass_trace_of_passes (run_passes m.steps (call_by_reference g) (r ∷ []) s t f (t, step, refl))
 
   pub item_is_past : (s t : SkipWhile S F) (x : X) → steps_of_skip_while_folds s (item x) t → t.skipping.0 ≡ true
-  item_is_past s t x step = found_by_item m.steps (call_at g) s.it t.it s.skipping t.skipping (item x ∷ []) x refl (passes_of_pass_trace step)
+  item_is_past s t x step = found_by_item m.steps (call_by_reference g) s.it t.it s.skipping t.skipping (item x ∷ []) x refl (passes_of_pass_trace step)
 
   module _ {s : SkipWhile S F} (at : s.skipping.0 ≡ true) where
     -- a draw of the source is one of it

@@ -88,13 +88,13 @@ module _ {S U A E : Type 0} (steps : S → Answered A E → S → Type 0) (other
   yields_both (x ∷ items) s t u h = ((h.0, u, Both), inl (h.1, refl, refl, refl), yields_both items h.0 t u h.2)
 
   -- the draws of the second from the first's end on are draws of the chain from before that end
-  yields_over : (items : List A) (s t : S) (u v w : U) (x : A) → steps s end t → Yields others u items v → others v (item x) w → (p : S × U × StillDrawn) × Yields StepOfChainFolds (s, u, Both) items p × StepOfChainFolds p (item x) (t, w, SecondAlone)
-  yields_over [] s t u v w x met e step = ((s, u, Both), refl, inr (met, subst (λ (z : U). others z (item x) w) (sym e) step, refl))
-  yields_over (y ∷ items) s t u v w x met h step = ((t, v, SecondAlone), ((t, h.0, SecondAlone), inr (met, h.1, refl), yields_second_alone items t h.0 v h.2), (step, refl, refl))
+  yields_past_first_end : (items : List A) (s t : S) (u v w : U) (x : A) → steps s end t → Yields others u items v → others v (item x) w → (p : S × U × StillDrawn) × Yields StepOfChainFolds (s, u, Both) items p × StepOfChainFolds p (item x) (t, w, SecondAlone)
+  yields_past_first_end [] s t u v w x met e step = ((s, u, Both), refl, inr (met, subst (λ (z : U). others z (item x) w) (sym e) step, refl))
+  yields_past_first_end (y ∷ items) s t u v w x met h step = ((t, v, SecondAlone), ((t, h.0, SecondAlone), inr (met, h.1, refl), yields_second_alone items t h.0 v h.2), (step, refl, refl))
 
   -- items of the first and its end, and then items of the second and a last answer
-  run_over : (xs ys : List A) (last : Answered A E) (s t : S) (u v : U) → Run steps s (map item xs ++ end ∷ []) t → Run others u (map item ys ++ last ∷ []) v → Run StepOfChainFolds (s, u, Both) (map item (xs ++ ys) ++ last ∷ []) (t, v, SecondAlone)
-  run_over xs ys last s t u v first second = subst (λ (trace : List (Answered A E)). Run StepOfChainFolds (s, u, Both) trace (t, v, SecondAlone))
+  run_of_both : (xs ys : List A) (last : Answered A E) (s t : S) (u v : U) → Run steps s (map item xs ++ end ∷ []) t → Run others u (map item ys ++ last ∷ []) v → Run StepOfChainFolds (s, u, Both) (map item (xs ++ ys) ++ last ∷ []) (t, v, SecondAlone)
+  run_of_both xs ys last s t u v first second = subst (λ (trace : List (Answered A E)). Run StepOfChainFolds (s, u, Both) trace (t, v, SecondAlone))
       (sym (ap (λ (l : List (Answered A E)). l ++ last ∷ []) (map-append item xs ys) ∙ append_assoc (map item xs) (map item ys) (last ∷ [])))
       (run_from_joined steps others (map item xs) (map item ys ++ last ∷ []) s u t v first (no_end_items E xs) second (items_and_last_not_nil ys last))
 
@@ -111,11 +111,11 @@ module _ {S U A E : Type 0} (steps : S → Answered A E → S → Type 0) (other
     drained_both {s} {t} u other h = record { items = h.items; last = h.last; ran = run_from_both steps others (map item h.items ++ h.last ∷ []) s u t h.ran (items_and_last_no_end h.items h.last (other h.items h.last h.at)); at = h.at }
 
     -- those of the first that met its end, and then those of the second
-    drained_over : {before after : List A → Answered A E → Type 0} {s t : S} {u v : U} → ((xs ys : List A) (met last : Answered A E) → before xs met → after ys last → (met ≡ end) × came (xs ++ ys) last) → Drained steps before s t → Drained others after u v → Drained StepOfChainFolds came (s, u, Both) (t, v, SecondAlone)
-    drained_over {s = s} {t = t} {u = u} {v = v} joins f b = let over = joins f.items b.items f.last b.last f.at b.at in record {
+    drained_of_both : {before after : List A → Answered A E → Type 0} {s t : S} {u v : U} → ((xs ys : List A) (met last : Answered A E) → before xs met → after ys last → (met ≡ end) × came (xs ++ ys) last) → Drained steps before s t → Drained others after u v → Drained StepOfChainFolds came (s, u, Both) (t, v, SecondAlone)
+    drained_of_both {s = s} {t = t} {u = u} {v = v} joins f b = let over = joins f.items b.items f.last b.last f.at b.at in record {
       items = f.items ++ b.items;
       last = b.last;
-      ran = run_over f.items b.items b.last s t u v (subst (λ (r : Answered A E). Run steps s (map item f.items ++ r ∷ []) t) over.0 f.ran) b.ran;
+      ran = run_of_both f.items b.items b.last s t u v (subst (λ (r : Answered A E). Run steps s (map item f.items ++ r ∷ []) t) over.0 f.ran) b.ran;
       at = over.1;
     }
 
@@ -131,14 +131,14 @@ module _ {S U A E : Type 0} (steps : S → Answered A E → S → Type 0) (other
     holds_each_turn_both h = holds_at_each_turn_into (λ (z : S). (z, u, Both)) (λ p x q step. inl (step, refl, refl, refl)) h
 
     -- and after draws of the first that met its end, at each turn over the second
-    holds_each_turn_over : {before : List A → Answered A E → Type 0} {t : S} {d : C} → ((items : List A) (met : Answered A E) → before items met → (met ≡ end) × FoldsTo on c items d) → Drained steps before s t → HoldsAtEachTurn StepOfChainFolds on P (s, u, Both) c → HoldsAtEachTurn others on P u d
-    holds_each_turn_over {t = t} met f h =
+    holds_each_turn_past_first_end : {before : List A → Answered A E → Type 0} {t : S} {d : C} → ((items : List A) (met : Answered A E) → before items met → (met ≡ end) × FoldsTo on c items d) → Drained steps before s t → HoldsAtEachTurn StepOfChainFolds on P (s, u, Both) c → HoldsAtEachTurn others on P u d
+    holds_each_turn_past_first_end {t = t} met f h =
         let over = met f.items f.last f.at in
         let first = yields_first steps f.items f.last s t f.ran in
         let ended = subst (λ (r : Answered A E). steps first.0 r t) over.0 first.2 in
         record {
           at = λ items v w e x ran went step.
-              let rest = yields_over items first.0 t u v w x ended ran step in
+              let rest = yields_past_first_end items first.0 t u v w x ended ran step in
               h.at (f.items ++ items) rest.0 (t, w, SecondAlone) e x (folds_to_then _ f.items items _ _ _ (yields_both f.items s first.0 u first.1) rest.1) (folds_to_then _ f.items items _ _ _ over.1 went) rest.2;
         }
 
@@ -178,7 +178,7 @@ module _ {V S U A E : Type 0} (view : V → S × U × StillDrawn) (make : S × U
 
     -- after draws of the first that met its end
     pub holds_each_turn_second : {before : List A → Answered A E → Type 0} {t : S} {d : C} → (view s).2 ≡ Both → ((items : List A) (met : Answered A E) → before items met → (met ≡ end) × FoldsTo on c items d) → Drained first.steps before (view s).0 t → HoldsAtEachTurn ChainStep on P s c → HoldsAtEachTurn second.steps on P (view s).1 d
-    holds_each_turn_second is met f h = holds_each_turn_over first.steps second.steps met f (holds_each_turn_parts is h)
+    holds_each_turn_second is met f h = holds_each_turn_past_first_end first.steps second.steps met f (holds_each_turn_parts is h)
 
   module _ {came : List A → Answered A E → Type 0} {s w : V} where
     drained_parts : {p q : S × U × StillDrawn} → view s ≡ p → view w ≡ q → Drained (chain_step first.steps second.steps) came p q → Drained ChainStep came s w
@@ -202,4 +202,4 @@ module _ {V S U A E : Type 0} (view : V → S × U × StillDrawn) (make : S × U
 
     -- draws of the first that met its end, and then draws of the second
     pub drained_chain_both : {before after : List A → Answered A E → Type 0} → (view s).2 ≡ Both → (view w).2 ≡ SecondAlone → ((xs ys : List A) (met last : Answered A E) → before xs met → after ys last → (met ≡ end) × came (xs ++ ys) last) → Drained first.steps before (view s).0 (view w).0 → Drained second.steps after (view s).1 (view w).1 → Drained ChainStep came s w
-    drained_chain_both is now joins f b = drained_parts (ap (λ (d : StillDrawn). ((view s).0, (view s).1, d)) is) (ap (λ (d : StillDrawn). ((view w).0, (view w).1, d)) now) (drained_over first.steps second.steps joins f b)
+    drained_chain_both is now joins f b = drained_parts (ap (λ (d : StillDrawn). ((view s).0, (view s).1, d)) is) (ap (λ (d : StillDrawn). ((view w).0, (view w).1, d)) now) (drained_of_both first.steps second.steps joins f b)

@@ -7,7 +7,7 @@ use Rattle.fallible_contract.specs.Contract.{Contract, Lawful}
 use Rattle.fallible_contract.specs.Folds.{HoldsAtEachTurn, goes_on, DriveExit, Driven, within, TurnThrough, beside, beside_names}
 use Rattle.fallible_contract.proofs.Lemmas.Contract.{may_give_before}
 use Rattle.fallible_contract.proofs.Lemmas.Folding.{drained_after_first, holds_each_turn_after_first, holds_at_each_turn_into}
-use Rattle.fallible_contract.proofs.Lemmas.Folds.{holds_each_turn_after_items, driven_after_items, driven_end, driven_failure, driven_through, names_kept}
+use Rattle.fallible_contract.proofs.Lemmas.Folds.{holds_each_turn_after_items, driven_after_items, driven_end, driven_failure, fold_of_references_drives_values, names_kept}
 use Rattle.fallible_core.specs.Joining.Flatten.{flatten_contract, IsFlattenTurn, JoiningTakes}
 use Rattle.fallible_core.proofs.Lemmas.Joining.Flatten.{flatten_trace_in_hand, flatten_trace_after_end, flatten_trace_at_item, flatten_trace_outer_failure, flatten_trace_outer_end}
 use Rattle.fallible_core.proofs.Lemmas.Joining.ChainFolds.{yields_first, drive_met_end, is_end_of_drive}
@@ -97,7 +97,7 @@ module _ {S X C B E : Type 0} (m : Contract S X E) (into : X → C → Type 0) (
     driven_beside {s = s} {t = t} {b = b} {d = d} {r = r} hand v is w is_hand is_v = let same = names_kept beside beside_names JoinsOfFlattenFolds w in
         subst (λ z. Driven FlattenStep turns (s, None) b.c.now (within r) (t, hand) z) (sym (is_v (ap (λ z. z.0) same)))
         (subst (λ z. Driven FlattenStep turns (s, None) b.c.now (within r) (t, z) d.c.now) (sym (is_hand (ap (λ z. z.1) same)))
-        (driven_joined is (driven_through beside beside_names JoinsOfFlattenFolds w)))
+        (driven_joined is (fold_of_references_drives_values beside beside_names JoinsOfFlattenFolds w)))
 
     -- what holds at each turn of the whole holds at each after items of the outer source
     module _ (P : V → B → Type 0) where

@@ -4,7 +4,7 @@ use Rattle.std.proofs.Common.{refl, ap, ◌∙◌}
 use Rattle.std.specs.Fn.{Mut}
 use Rattle.std.specs.Borrow.{Bor}
 use Rattle.fallible_contract.specs.Contract.{Contract, seen_as}
-use Rattle.fallible_contract.specs.Closures.{call_at}
+use Rattle.fallible_contract.specs.Closures.{call_by_reference}
 use Rattle.fallible_contract.specs.Passing.{LeavesNoneOut}
 use Rattle.fallible_contract.specs.Lists.{Lists, Acts}
 use Rattle.fallible_contract.proofs.Lemmas.Lists.Passing.{passed, by_outcome, lists_seen, always_gives_passed}
@@ -27,9 +27,9 @@ passed_is_inspected h [] = refl
 passed_is_inspected h (Ok x ∷ l) = by_outcome_of_inspect x (h x) _ ∙ ap (λ t. once_seen x (h x) ∷ t) (passed_is_inspected h l)
 passed_is_inspected h (Err e ∷ l) = ap (λ t. Err e ∷ t) (passed_is_inspected h l)
 
-pub lists_inspected : {S F X E : Type 0} (m : Contract S X E) (g : Mut F (Bor X × Unit {0}) (Result (Unit {0}) E)) (s : Inspect S F) (f : F) (h : X → Result (Unit {0}) E) (l : List (Result X E)) → inspect_parts s ≡ (s.it, f) → Acts (call_at g) f h → Lists m.steps s.it l
+pub lists_inspected : {S F X E : Type 0} (m : Contract S X E) (g : Mut F (Bor X × Unit {0}) (Result (Unit {0}) E)) (s : Inspect S F) (f : F) (h : X → Result (Unit {0}) E) (l : List (Result X E)) → inspect_parts s ≡ (s.it, f) → Acts (call_by_reference g) f h → Lists m.steps s.it l
     → Lists (seen_as inspect_parts (inspect_contract m g)).steps s (inspected h l)
-lists_inspected m g s f h l parts a i = lists_seen inspect_parts (inspect_contract m g).steps s parts (passed_is_inspected h l) (always_gives_passed (call_at g) f h a m.steps inspect_outcome s.it l i.runs)
+lists_inspected m g s f h l parts a i = lists_seen inspect_parts (inspect_contract m g).steps s parts (passed_is_inspected h l) (always_gives_passed (call_by_reference g) f h a m.steps inspect_outcome s.it l i.runs)
 
 -- it leaves nothing out
 pub leaves_none_out_of_inspect : {X E : Type 0} → LeavesNoneOut {X = X} {B = X} {E = E} inspect_outcome

@@ -8,7 +8,7 @@ use Rattle.fallible_contract.specs.Traces.{Answered, Run, item, end}
 use Rattle.fallible_contract.specs.Contract.{Contract, KeptByDraw, NeverFails, Stays, Lawful, seen_as}
 use Rattle.fallible_contract.specs.Lists.{AlwaysGives, Lists}
 use Rattle.fallible_contract.proofs.Lemmas.Lists.Passing.{lists_seen}
-use Rattle.fallible_contract.specs.Laws.Contract.{stays_after, stays_here}
+use Rattle.fallible_contract.specs.Laws.Contract.{stays_after, stays_reflexive}
 use Rattle.fallible_core.specs.Peeking.Peekable.{peekable_parts, held_answers, held_then, PeekableTrace, peekable_step, peekable_contract, seen, seen_mut, failure_told, held_of, held_item, Fills, Peeks, Looks, TakenIf, NextIf}
 use Rattle.fallible_core.specs.Laws.Peeking.Peekable.{kept_by_draw_drawn}
 use Rattle.fallible_core.specs.declared.peeking.peekable.Peekable.{Peekable}
@@ -16,16 +16,16 @@ use Rattle.fallible_core.specs.declared.peeking.peekable.Peekable.{Peekable}
 -- ---- looking ahead
 
 module _ {S A E : Type 0} {m : Contract S A E} (l : Lawful m) where
-  abbrev ContractHere : Contract (S × Option (Option A)) A E
-  ContractHere = peekable_contract m
+  abbrev PeekableContract : Contract (S × Option (Option A)) A E
+  PeekableContract = peekable_contract m
 
   -- an item or an end that was drawn and is held comes next, as it came
-  never_fails_held : (s t : S) (o : Option A) → m.steps s (Ok o) t → NeverFails ContractHere (s, None) → NeverFails ContractHere (t, Some o)
-  never_fails_held s t o step never [] u v e ran fails = let d : Err e ≡ Ok o = (subst (λ (p : S × Option (Option A)). ContractHere.steps p (Err e) v) (sym ran) fails).0 in absurd cc
+  never_fails_held : (s t : S) (o : Option A) → m.steps s (Ok o) t → NeverFails PeekableContract (s, None) → NeverFails PeekableContract (t, Some o)
+  never_fails_held s t o step never [] u v e ran fails = let d : Err e ≡ Ok o = (subst (λ (p : S × Option (Option A)). PeekableContract.steps p (Err e) v) (sym ran) fails).0 in absurd cc
   never_fails_held s t o step never (r ∷ trace) u v e ((t', held'), held, ran) fails = never (r ∷ trace) u v e ((t', held'), (rw (held.0, held.1) step, held.2), ran) fails
 
   -- an item that was drawn is held
-  stays_item : (s t : S) (x : A) → m.steps s (item x) t → KeptByDraw m s (item x) t → Stays ContractHere (s, None) (t, Some (Some x))
+  stays_item : (s t : S) (x : A) → m.steps s (item x) t → KeptByDraw m s (item x) t → Stays PeekableContract (s, None) (t, Some (Some x))
   stays_item s t x step a = record {
     can_next = a.can_next;
     is_finite = a.is_finite;
@@ -38,7 +38,7 @@ module _ {S A E : Type 0} {m : Contract S A E} (l : Lawful m) where
   }
 
   -- an end that was drawn is held
-  stays_end : (s t : S) → m.steps s end t → KeptByDraw m s end t → Stays ContractHere (s, None) (t, Some None)
+  stays_end : (s t : S) → m.steps s end t → KeptByDraw m s end t → Stays PeekableContract (s, None) (t, Some None)
   stays_end s t step a = record {
     can_next = a.can_next;
     is_finite = a.is_finite;
@@ -50,16 +50,16 @@ module _ {S A E : Type 0} {m : Contract S A E} (l : Lawful m) where
     sure = never_fails_held s t None step;
   }
 
-  stays_peeked : (s t : S) (r : Answered A E) (held : Option (Option A)) → m.can_next s → Peeks m.steps (s, None) r (t, held) → Stays ContractHere (s, None) (t, held)
+  stays_peeked : (s t : S) (r : Answered A E) (held : Option (Option A)) → m.can_next s → Peeks m.steps (s, None) r (t, held) → Stays PeekableContract (s, None) (t, held)
   stays_peeked s t (Ok (Some x)) held c peeks = rw peeks.1 (stays_item s t x peeks.0 (l.kept_by_draw s (item x) t c peeks.0))
   stays_peeked s t (Ok None) held c peeks = rw peeks.1 (stays_end s t peeks.0 (l.kept_by_draw s end t c peeks.0))
-  stays_peeked s t (Err e) held c peeks = let a = l.kept_by_draw s (Err e) t c peeks.0 in rw peeks.1 (stays_after (peeks.0, refl) (kept_by_draw_drawn m s t (Err e) a) (stays_here a.can_next))
+  stays_peeked s t (Err e) held c peeks = let a = l.kept_by_draw s (Err e) t c peeks.0 in rw peeks.1 (stays_after (peeks.0, refl) (kept_by_draw_drawn m s t (Err e) a) (stays_reflexive a.can_next))
 
-  pub stays_peek : (p : S × Option (Option A)) (r : Answered A E) (q : S × Option (Option A)) → m.can_next p.0 → Peeks m.steps p r q → Stays ContractHere p q
-  stays_peek (s, Some o) r (t, held) c peeks = rw (peeks.1, peeks.2) (stays_here c)
+  pub stays_peek : (p : S × Option (Option A)) (r : Answered A E) (q : S × Option (Option A)) → m.can_next p.0 → Peeks m.steps p r q → Stays PeekableContract p q
+  stays_peek (s, Some o) r (t, held) c peeks = rw (peeks.1, peeks.2) (stays_reflexive c)
   stays_peek (s, None) r (t, held) c peeks = stays_peeked s t r held c peeks
 
-  pub stays_filled : (p : S × Option (Option A)) (r : Result (Unit {0}) E) (q : S × Option (Option A)) → m.can_next p.0 → Fills m.steps p r q → Stays ContractHere p q
+  pub stays_filled : (p : S × Option (Option A)) (r : Result (Unit {0}) E) (q : S × Option (Option A)) → m.can_next p.0 → Fills m.steps p r q → Stays PeekableContract p q
   stays_filled p r q c fills = stays_peek p fills.0 q c fills.1
 
 module _ {S A E : Type 0} (steps : S → Answered A E → S → Type 0) where

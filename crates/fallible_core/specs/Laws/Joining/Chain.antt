@@ -19,21 +19,21 @@ sum_finite true b h k = k
 sum_finite false b h k = absurd h
 
 module _ {S U A E : Type 0} (first : Contract S A E) (second : Contract U A E) where
-  abbrev ContractHere : Contract (S × U × StillDrawn) A E
-  ContractHere = chain_contract first second
+  abbrev ChainContract : Contract (S × U × StillDrawn) A E
+  ChainContract = chain_contract first second
 
-  on_answer_first : (s t : S) (u : U) (r : Answered A E) → OnAnswer first s r t → OnAnswer ContractHere (s, u, FirstAlone) r (t, u, FirstAlone)
+  on_answer_first : (s t : S) (u : U) (r : Answered A E) → OnAnswer first s r t → OnAnswer ChainContract (s, u, FirstAlone) r (t, u, FirstAlone)
   on_answer_first s t u (Ok (Some x)) a = a
   on_answer_first s t u (Ok None) a = a
   on_answer_first s t u (Err e) a = a
 
-  on_answer_second : (s : S) (u v : U) (r : Answered A E) → OnAnswer second u r v → OnAnswer ContractHere (s, u, SecondAlone) r (s, v, SecondAlone)
+  on_answer_second : (s : S) (u v : U) (r : Answered A E) → OnAnswer second u r v → OnAnswer ChainContract (s, u, SecondAlone) r (s, v, SecondAlone)
   on_answer_second s u v (Ok (Some x)) a = a
   on_answer_second s u v (Ok None) a = a
   on_answer_second s u v (Err e) a = a
 
   -- an answer of the first, which isn't its end
-  on_answer_before_end : (s t : S) (u : U) (r : Answered A E) → is_end r ≡ false → OnAnswer first s r t → OnAnswer ContractHere (s, u, Both) r (t, u, Both)
+  on_answer_before_end : (s t : S) (u : U) (r : Answered A E) → is_end r ≡ false → OnAnswer first s r t → OnAnswer ChainContract (s, u, Both) r (t, u, Both)
   on_answer_before_end s t u (Ok (Some x)) e a = (
     inl a.0,
     (λ n h. let k = a.1 h.0 h.2 in (k.0 + h.1, (k.0, h.1, k.1, h.3, omega arith), omega (arith, k.2, h.4))),
@@ -47,7 +47,7 @@ module _ {S U A E : Type 0} (first : Contract S A E) (second : Contract U A E) w
   )
 
   -- an answer of the second, in the draw that met the first's end
-  on_answer_at_end : (s t : S) (u v : U) (r : Answered A E) → OnAnswer second u r v → OnAnswer ContractHere (s, u, Both) r (t, v, SecondAlone)
+  on_answer_at_end : (s t : S) (u v : U) (r : Answered A E) → OnAnswer second u r v → OnAnswer ChainContract (s, u, Both) r (t, v, SecondAlone)
   on_answer_at_end s t u v (Ok (Some x)) a = (
     inr a.0,
     (λ n h. let k = a.1 h.1 h.3 in (k.0, k.1, omega (arith, k.2, h.4))),
@@ -64,13 +64,13 @@ module _ {S U A E : Type 0} (first : Contract S A E) (second : Contract U A E) w
   )
 
   module _ (l : Lawful first) (k : Lawful second) where
-    kept_by_draw_first : (s t : S) (u : U) (r : Answered A E) → ContractHere.can_next (s, u, FirstAlone) → first.steps s r t → KeptByDraw ContractHere (s, u, FirstAlone) r (t, u, FirstAlone)
+    kept_by_draw_first : (s t : S) (u : U) (r : Answered A E) → ChainContract.can_next (s, u, FirstAlone) → first.steps s r t → KeptByDraw ChainContract (s, u, FirstAlone) r (t, u, FirstAlone)
     kept_by_draw_first s t u r c step = let a = l.kept_by_draw s r t c.0 step in record { can_next = (a.can_next, c.1); is_finite = a.is_finite; answer = on_answer_first s t u r a.answer; may_give = a.may_give; may_fail = a.may_fail; lenders = ap₂ lenders_of_both a.lenders refl }
 
-    kept_by_draw_second : (s : S) (u v : U) (r : Answered A E) → ContractHere.can_next (s, u, SecondAlone) → second.steps u r v → KeptByDraw ContractHere (s, u, SecondAlone) r (s, v, SecondAlone)
+    kept_by_draw_second : (s : S) (u v : U) (r : Answered A E) → ChainContract.can_next (s, u, SecondAlone) → second.steps u r v → KeptByDraw ChainContract (s, u, SecondAlone) r (s, v, SecondAlone)
     kept_by_draw_second s u v r c step = let b = k.kept_by_draw u r v c.1 step in record { can_next = (c.0, b.can_next); is_finite = b.is_finite; answer = on_answer_second s u v r b.answer; may_give = b.may_give; may_fail = b.may_fail; lenders = ap₂ lenders_of_both refl b.lenders }
 
-    kept_by_draw_before_end : (s t : S) (u : U) (r : Answered A E) → ContractHere.can_next (s, u, Both) → first.steps s r t → is_end r ≡ false → KeptByDraw ContractHere (s, u, Both) r (t, u, Both)
+    kept_by_draw_before_end : (s t : S) (u : U) (r : Answered A E) → ChainContract.can_next (s, u, Both) → first.steps s r t → is_end r ≡ false → KeptByDraw ChainContract (s, u, Both) r (t, u, Both)
     kept_by_draw_before_end s t u r c step e = let a = l.kept_by_draw s r t c.0 step in record {
       can_next = (a.can_next, c.1);
       is_finite = λ h. (a.is_finite h.0, h.1);
@@ -80,7 +80,7 @@ module _ {S U A E : Type 0} (first : Contract S A E) (second : Contract U A E) w
       lenders = ap₂ lenders_of_both a.lenders refl;
     }
 
-    kept_by_draw_at_end : (s t : S) (u v : U) (r : Answered A E) → ContractHere.can_next (s, u, Both) → first.steps s end t → second.steps u r v → KeptByDraw ContractHere (s, u, Both) r (t, v, SecondAlone)
+    kept_by_draw_at_end : (s t : S) (u v : U) (r : Answered A E) → ChainContract.can_next (s, u, Both) → first.steps s end t → second.steps u r v → KeptByDraw ChainContract (s, u, Both) r (t, v, SecondAlone)
     kept_by_draw_at_end s t u v r c met step = let a = l.kept_by_draw s end t c.0 met in let b = k.kept_by_draw u r v c.1 step in record {
       can_next = (a.can_next, b.can_next);
       is_finite = λ h. b.is_finite h.1;
@@ -90,13 +90,13 @@ module _ {S U A E : Type 0} (first : Contract S A E) (second : Contract U A E) w
       lenders = ap₂ lenders_of_both a.lenders b.lenders;
     }
 
-    kept_by_draw_chain : (p : S × U × StillDrawn) (r : Answered A E) (q : S × U × StillDrawn) → ContractHere.can_next p → ContractHere.steps p r q → KeptByDraw ContractHere p r q
+    kept_by_draw_chain : (p : S × U × StillDrawn) (r : Answered A E) (q : S × U × StillDrawn) → ChainContract.can_next p → ChainContract.steps p r q → KeptByDraw ChainContract p r q
     kept_by_draw_chain (s, u, Both) r (t, v, after) c (inl step) = rw (step.2, step.3) (kept_by_draw_before_end s t u r c step.0 step.1)
     kept_by_draw_chain (s, u, Both) r (t, v, after) c (inr step) = rw step.2 (kept_by_draw_at_end s t u v r c step.0 step.1)
     kept_by_draw_chain (s, u, FirstAlone) r (t, v, after) c step = rw (step.1, step.2) (kept_by_draw_first s t u r c step.0)
     kept_by_draw_chain (s, u, SecondAlone) r (t, v, after) c step = rw (step.1, step.2) (kept_by_draw_second s u v r c step.0)
 
-    is_finite_iff_bound_chain : (p : S × U × StillDrawn) → ContractHere.is_finite p ↔ ((n : ℕ) × ContractHere.bound p n)
+    is_finite_iff_bound_chain : (p : S × U × StillDrawn) → ChainContract.is_finite p ↔ ((n : ℕ) × ChainContract.bound p n)
     is_finite_iff_bound_chain (s, u, Both) = (
       (λ e. let a = (l.bounded s).0 e.0 in let b = (k.bounded u).0 e.1 in (a.0 + b.0, (a.0, b.0, a.1, b.1, omega arith))),
       (λ h. ((l.bounded s).1 (h.1.0, h.1.2), (k.bounded u).1 (h.1.1, h.1.3))),
@@ -123,17 +123,17 @@ may_come_back P Q (s, u, SecondAlone) x = ((λ h. h), (λ h. h))
 
 module _ {S U A E : Type 0} (first : Contract S A E) (second : Contract U A E) where
   -- What else is said of the sides is said of them swapped.
-  bound_back : (p : S × U × StillDrawn) (n : ℕ) → (ContractHere first second).bound p n ↔ (ContractHere second first).bound (chain_back p) n
+  bound_back : (p : S × U × StillDrawn) (n : ℕ) → (ChainContract first second).bound p n ↔ (ChainContract second first).bound (chain_back p) n
   bound_back (s, u, Both) n = ((λ h. (h.1, h.0, h.3, h.2, omega (arith, h.4))), (λ h. (h.1, h.0, h.3, h.2, omega (arith, h.4))))
   bound_back (s, u, FirstAlone) n = ((λ h. h), (λ h. h))
   bound_back (s, u, SecondAlone) n = ((λ h. h), (λ h. h))
 
-  is_finite_back : (p : S × U × StillDrawn) → (ContractHere first second).is_finite p ↔ (ContractHere second first).is_finite (chain_back p)
+  is_finite_back : (p : S × U × StillDrawn) → (ChainContract first second).is_finite p ↔ (ChainContract second first).is_finite (chain_back p)
   is_finite_back (s, u, Both) = ((λ h. (h.1, h.0)), (λ h. (h.1, h.0)))
   is_finite_back (s, u, FirstAlone) = ((λ h. h), (λ h. h))
   is_finite_back (s, u, SecondAlone) = ((λ h. h), (λ h. h))
 
-  remaining_is_finite_back : (p : S × U × StillDrawn) → IsFinite ((ContractHere first second).remaining p) ↔ IsFinite ((ContractHere second first).remaining (chain_back p))
+  remaining_is_finite_back : (p : S × U × StillDrawn) → IsFinite ((ChainContract first second).remaining p) ↔ IsFinite ((ChainContract second first).remaining (chain_back p))
   remaining_is_finite_back (s, u, Both) = (
     (λ h. let b = both_finite (first.remaining s).bounded (second.remaining u).bounded h in sum_finite (second.remaining u).bounded (first.remaining s).bounded b.1 b.0),
     (λ h. let b = both_finite (second.remaining u).bounded (first.remaining s).bounded h in sum_finite (first.remaining s).bounded (second.remaining u).bounded b.1 b.0),
@@ -141,12 +141,12 @@ module _ {S U A E : Type 0} (first : Contract S A E) (second : Contract U A E) w
   remaining_is_finite_back (s, u, FirstAlone) = ((λ h. h), (λ h. h))
   remaining_is_finite_back (s, u, SecondAlone) = ((λ h. h), (λ h. h))
 
-  size_back : (p : S × U × StillDrawn) → size ((ContractHere first second).remaining p) ≡ size ((ContractHere second first).remaining (chain_back p))
+  size_back : (p : S × U × StillDrawn) → size ((ChainContract first second).remaining p) ≡ size ((ChainContract second first).remaining (chain_back p))
   size_back (s, u, Both) = omega arith
   size_back (s, u, FirstAlone) = refl
   size_back (s, u, SecondAlone) = refl
 
-  on_answer_back : (p : S × U × StillDrawn) (r : Answered A E) (q : S × U × StillDrawn) → OnAnswer (ContractHere second first) (chain_back p) r (chain_back q) → OnAnswer (ContractHere first second) p r q
+  on_answer_back : (p : S × U × StillDrawn) (r : Answered A E) (q : S × U × StillDrawn) → OnAnswer (ChainContract second first) (chain_back p) r (chain_back q) → OnAnswer (ChainContract first second) p r q
   on_answer_back p (Ok (Some x)) q a = (
     (may_come_back first.may_give second.may_give p x).1 a.0,
     (λ n h. let k = a.1 n ((bound_back p n).0 h) in (k.0, (bound_back q k.0).1 k.1, k.2)),
@@ -163,7 +163,7 @@ module _ {S U A E : Type 0} (first : Contract S A E) (second : Contract U A E) w
   )
 
   -- A draw that goes, seen from the back, goes, whatever the steps are.
-  kept_by_draw_back : (steps : S × U × StillDrawn → Answered A E → S × U × StillDrawn → Type 0) (p : S × U × StillDrawn) (r : Answered A E) (q : S × U × StillDrawn) → KeptByDraw (ContractHere second first) (chain_back p) r (chain_back q) → KeptByDraw (record (ContractHere first second) { steps = steps }) p r q
+  kept_by_draw_back : (steps : S × U × StillDrawn → Answered A E → S × U × StillDrawn → Type 0) (p : S × U × StillDrawn) (r : Answered A E) (q : S × U × StillDrawn) → KeptByDraw (ChainContract second first) (chain_back p) r (chain_back q) → KeptByDraw (record (ChainContract first second) { steps = steps }) p r q
   kept_by_draw_back steps p r q g = record {
     can_next = (g.can_next.1, g.can_next.0);
     is_finite = λ h. (is_finite_back q).1 (g.is_finite ((is_finite_back p).0 h));

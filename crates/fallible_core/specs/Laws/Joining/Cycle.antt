@@ -8,19 +8,19 @@ use Rattle.fallible_core.specs.Joining.Cycle.{CycleAnswer, cycle_contract}
 use Rattle.std.specs.declared.alloc.AllocError.{AllocError}
 
 module _ {S A E : Type 0} (is_clone : S → S → Type 0) (is_infallible : S → Type 0) (from : AllocError → E → Type 0) (m : Contract S A E) where
-  abbrev ContractHere : Contract (S × S) A E
-  ContractHere = cycle_contract is_clone is_infallible from m
+  abbrev CycleContract : Contract (S × S) A E
+  CycleContract = cycle_contract is_clone is_infallible from m
 
   -- the answer was one to come
   abbrev CameBefore : S × S → Answered A E → Type 0
-  CameBefore p (Ok (Some x)) = ContractHere.may_give p x
+  CameBefore p (Ok (Some x)) = CycleContract.may_give p x
   CameBefore p (Ok None) = ⊤
-  CameBefore p (Err e) = ContractHere.may_fail p e
+  CameBefore p (Err e) = CycleContract.may_fail p e
 
-  on_answer_of_came : (p q : S × S) (r : Answered A E) → ContractHere.steps p r q → CameBefore p r → OnAnswer ContractHere p r q
-  on_answer_of_came p q (Ok (Some x)) step came = (came, (λ n b. bounds_fewer {steps = ContractHere.steps} x step b), (λ f. absurd f))
-  on_answer_of_came p q (Ok None) step came = ((λ n b. bounds_end {steps = ContractHere.steps} step b), (λ f. absurd f))
-  on_answer_of_came p q (Err e) step came = (came, (λ n b. bounds_failure {steps = ContractHere.steps} e step b), (λ f. absurd f))
+  on_answer_of_came : (p q : S × S) (r : Answered A E) → CycleContract.steps p r q → CameBefore p r → OnAnswer CycleContract p r q
+  on_answer_of_came p q (Ok (Some x)) step came = (came, (λ n b. bounds_fewer {steps = CycleContract.steps} x step b), (λ f. absurd f))
+  on_answer_of_came p q (Ok None) step came = ((λ n b. bounds_end {steps = CycleContract.steps} step b), (λ f. absurd f))
+  on_answer_of_came p q (Err e) step came = (came, (λ n b. bounds_failure {steps = CycleContract.steps} e step b), (λ f. absurd f))
 
   came_from_run : (s t k : S) (r : Answered A E) → OnAnswer m s r t → CameBefore (s, k) r
   came_from_run s t k (Ok (Some x)) a = inl a.0
@@ -33,17 +33,17 @@ module _ {S A E : Type 0} (is_clone : S → S → Type 0) (is_infallible : S →
   came_from_clone s t k c (Err e) is a = inr (inl (c, is, a.0))
 
   -- with what the answer and what is left have to do with the source, a draw keeps the contract
-  kept_by_draw_of_came : (s t k : S) (r : Answered A E) → ContractHere.can_next (s, k) → m.can_next t → ContractHere.steps (s, k) r (t, k) → CameBefore (s, k) r → ((x : A) → m.may_give t x → ContractHere.may_give (s, k) x) → ((e : E) → m.may_fail t e → ContractHere.may_fail (s, k) e) → KeptByDraw ContractHere (s, k) r (t, k)
+  kept_by_draw_of_came : (s t k : S) (r : Answered A E) → CycleContract.can_next (s, k) → m.can_next t → CycleContract.steps (s, k) r (t, k) → CameBefore (s, k) r → ((x : A) → m.may_give t x → CycleContract.may_give (s, k) x) → ((e : E) → m.may_fail t e → CycleContract.may_fail (s, k) e) → KeptByDraw CycleContract (s, k) r (t, k)
   kept_by_draw_of_came s t k r c can step came gives fails = let a = on_answer_of_came (s, k) (t, k) r step came in record {
     can_next = (can, c.1);
-    is_finite = bound_stays ContractHere (s, k) (t, k) r a;
+    is_finite = bound_stays CycleContract (s, k) (t, k) r a;
     answer = a;
     may_give = λ x h. elim h [ inl g ↦ gives x g | inr d ↦ inr d ];
     may_fail = λ e h. elim h [ inl g ↦ fails e g | inr d ↦ inr d ];
     lenders = refl;
   }
 
-  kept_by_draw_cycle : Lawful m → (s t k : S) (r : Answered A E) → ContractHere.can_next (s, k) → CycleAnswer is_clone is_infallible from m.steps k s r t → KeptByDraw ContractHere (s, k) r (t, k)
+  kept_by_draw_cycle : Lawful m → (s t k : S) (r : Answered A E) → CycleContract.can_next (s, k) → CycleAnswer is_clone is_infallible from m.steps k s r t → KeptByDraw CycleContract (s, k) r (t, k)
   kept_by_draw_cycle l s t k r c h = elim h [
     | inl d ↦ (let a = l.kept_by_draw s r t c.0 d.0 in kept_by_draw_of_came s t k r c a.can_next (refl, inl d) (came_from_run s t k r a.answer) (λ x g. inl (a.may_give x g)) (λ e g. inl (a.may_fail e g)))
     | inr i ↦ elim i [
@@ -52,7 +52,7 @@ module _ {S A E : Type 0} (is_clone : S → S → Type 0) (is_infallible : S →
     ]
   ]
 
-  kept_by_draw_cycle_parts : Lawful m → (p : S × S) (r : Answered A E) (q : S × S) → ContractHere.can_next p → ContractHere.steps p r q → KeptByDraw ContractHere p r q
+  kept_by_draw_cycle_parts : Lawful m → (p : S × S) (r : Answered A E) (q : S × S) → CycleContract.can_next p → CycleContract.steps p r q → KeptByDraw CycleContract p r q
   kept_by_draw_cycle_parts l (s, k) r (t, k') c step = rw step.0 (kept_by_draw_cycle l s t k r c step.1)
 
 pub lawful_cycle : {S A E : Type 0} {m : Contract S A E} (is_clone : S → S → Type 0) (is_infallible : S → Type 0) (from : AllocError → E → Type 0) → Lawful m → Lawful (cycle_contract is_clone is_infallible from m)

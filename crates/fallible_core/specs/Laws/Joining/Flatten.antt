@@ -87,8 +87,8 @@ module _ {S X C B E : Type 0} (outer : S → Answered X E → S → Type 0) (int
 -- ---- the contract is lawful where those of the outer source and of the inner iterators are
 
 module _ {S X C B E : Type 0} (m : Contract S X E) (l : Lawful m) (into : X → C → Type 0) (inner : Contract C B E) (k : Lawful inner) where
-  abbrev ContractHere : Contract (S × Option C) B E
-  ContractHere = flatten_contract m into inner
+  abbrev FlattenContract : Contract (S × Option C) B E
+  FlattenContract = flatten_contract m into inner
 
   some_inner_after_draw : (P : C → Type 0) (s u : S) → ((x : X) → m.may_give u x → m.may_give s x) → SomeInner m into inner P u → SomeInner m into inner P s
   some_inner_after_draw P s u fewer p = record { argument = p.argument; iterator = p.iterator; given = fewer p.argument p.given; becomes = p.becomes; holds = p.holds }
@@ -100,12 +100,12 @@ module _ {S X C B E : Type 0} (m : Contract S X E) (l : Lawful m) (into : X → 
   flatten_number_one_less : (s : S) (c d : C) (n j : ℕ) (b : FlattenNumber m into inner s (Some c) n) → inner.bound d j → FlattenNumber m into inner s (Some d) (b.each * b.outer + j)
   flatten_number_one_less s c d n j b is = record { outer = b.outer; each = b.each; in_hand = j; outer_is = b.outer_is; each_is = b.each_is; in_hand_is = is; sum = omega arith }
 
-  on_answer_in_hand : (s : S) (c d : C) (r : Answered B E) → OnAnswer inner c r d → OnAnswer ContractHere (s, Some c) r (s, Some d)
+  on_answer_in_hand : (s : S) (c d : C) (r : Answered B E) → OnAnswer inner c r d → OnAnswer FlattenContract (s, Some c) r (s, Some d)
   on_answer_in_hand s c d (Ok (Some y)) a = (inl a.0, (λ n b. let j = a.1 b.in_hand b.in_hand_is in (b.each * b.outer + j.0, flatten_number_one_less s c d n j.0 b j.1, omega (arith, j.2, b.sum))), (λ f. absurd f))
   on_answer_in_hand s c d (Ok None) a = ((λ n b. let j = a.0 b.in_hand b.in_hand_is in (b.each * b.outer + j.0, flatten_number_one_less s c d n j.0 b j.1, omega (arith, j.2, b.sum))), (λ f. absurd f))
   on_answer_in_hand s c d (Err e) a = (inr (inl a.0), (λ n b. let j = a.1 b.in_hand b.in_hand_is in (b.each * b.outer + j.0, flatten_number_one_less s c d n j.0 b j.1, omega (arith, j.2, b.sum))), (λ f. absurd f))
 
-  kept_by_draw_in_hand : (s : S) (c d : C) (r : Answered B E) → ContractHere.can_next (s, Some c) → inner.steps c r d → KeptByDraw ContractHere (s, Some c) r (s, Some d)
+  kept_by_draw_in_hand : (s : S) (c d : C) (r : Answered B E) → FlattenContract.can_next (s, Some c) → inner.steps c r d → KeptByDraw FlattenContract (s, Some c) r (s, Some d)
   kept_by_draw_in_hand s c d r can step = let g = k.kept_by_draw c r d can.2 step in record {
     can_next = (can.0, can.1, g.can_next, can.3);
     is_finite = λ e. (e.0, g.is_finite e.1, e.2);
@@ -116,7 +116,7 @@ module _ {S X C B E : Type 0} (m : Contract S X E) (l : Lawful m) (into : X → 
   }
 
   -- an inner iterator that ended is dropped
-  kept_by_draws_dropped : (s : S) (c : C) → ContractHere.can_next (s, Some c) → KeptByDraws ContractHere (s, Some c) (s, None)
+  kept_by_draws_dropped : (s : S) (c : C) → FlattenContract.can_next (s, Some c) → KeptByDraws FlattenContract (s, Some c) (s, None)
   kept_by_draws_dropped s c can = record {
     can_next = (can.0, can.1, tt, can.3);
     is_finite = λ e. (e.0, tt, e.2);
@@ -131,7 +131,7 @@ module _ {S X C B E : Type 0} (m : Contract S X E) (l : Lawful m) (into : X → 
   product_one_fewer b a j q lt le = let h : b * j + b ≤ b * a = rw (sym (mul-suc b j)) (mul-le-mul_left b lt) in omega (arith, h, le)
 
   -- an item became an inner iterator, which is in hand then
-  pub kept_by_draws_begun : (s u : S) (c : C) (x : X) → ContractHere.can_next (s, None) → m.steps s (item x) u → into x c → KeptByDraws ContractHere (s, None) (u, Some c)
+  pub kept_by_draws_begun : (s u : S) (c : C) (x : X) → FlattenContract.can_next (s, None) → m.steps s (item x) u → into x c → KeptByDraws FlattenContract (s, None) (u, Some c)
   kept_by_draws_begun s u c x can step becomes = let g = l.kept_by_draw s (item x) u can.0 step in record {
     can_next = (g.can_next, g.is_finite can.1, can.3.at x c g.answer.0 becomes, each_inner_after_draw inner.can_next s u g.may_give can.3);
     is_finite = λ e. (g.is_finite e.0, (let n = e.2.1.at x c g.answer.0 becomes in (k.bounded c).1 (n.0, n.1)), (e.2.0, each_inner_after_draw _ s u g.may_give e.2.1));
@@ -147,7 +147,7 @@ module _ {S X C B E : Type 0} (m : Contract S X E) (l : Lawful m) (into : X → 
   }
 
   -- an answer of the outer source that is no item
-  kept_by_draws_outer : (s u : S) (r : Answered X E) → ContractHere.can_next (s, None) → KeptByDraw m s r u → KeptByDraws ContractHere (s, None) (u, None)
+  kept_by_draws_outer : (s u : S) (r : Answered X E) → FlattenContract.can_next (s, None) → KeptByDraw m s r u → KeptByDraws FlattenContract (s, None) (u, None)
   kept_by_draws_outer s u r can g = record {
     can_next = (g.can_next, g.is_finite can.1, tt, each_inner_after_draw inner.can_next s u g.may_give can.3);
     is_finite = λ e. (g.is_finite e.0, tt, (e.2.0, each_inner_after_draw _ s u g.may_give e.2.1));
@@ -158,13 +158,13 @@ module _ {S X C B E : Type 0} (m : Contract S X E) (l : Lawful m) (into : X → 
     lenders = g.lenders;
   }
 
-  kept_by_draw_end : (p q : S × Option C) → KeptByDraws ContractHere p q → KeptByDraw ContractHere p end q
+  kept_by_draw_end : (p q : S × Option C) → KeptByDraws FlattenContract p q → KeptByDraw FlattenContract p end q
   kept_by_draw_end p q h = record { can_next = h.can_next; is_finite = h.is_finite; answer = (h.bound, h.remaining); may_give = h.may_give; may_fail = h.may_fail; lenders = h.lenders }
 
-  kept_by_draw_failure : (p q : S × Option C) (e : E) → ContractHere.may_fail p e → KeptByDraws ContractHere p q → KeptByDraw ContractHere p (failure e) q
+  kept_by_draw_failure : (p q : S × Option C) (e : E) → FlattenContract.may_fail p e → KeptByDraws FlattenContract p q → KeptByDraw FlattenContract p (failure e) q
   kept_by_draw_failure p q e given h = record { can_next = h.can_next; is_finite = h.is_finite; answer = (given, h.bound, (λ f. absurd f)); may_give = h.may_give; may_fail = h.may_fail; lenders = h.lenders }
 
-  kept_by_draw_flattens : (s t : S) (hand hand' : Option C) (r : Answered B E) → ContractHere.can_next (s, hand) → Flattens m.steps into inner.steps s hand (r ∷ []) t hand' → KeptByDraw ContractHere (s, hand) r (t, hand')
+  kept_by_draw_flattens : (s t : S) (hand hand' : Option C) (r : Answered B E) → FlattenContract.can_next (s, hand) → Flattens m.steps into inner.steps s hand (r ∷ []) t hand' → KeptByDraw FlattenContract (s, hand) r (t, hand')
   kept_by_draw_flattens s _ _ _ _ can (gives {c = c} {d = d} y step done) = kept_by_draw_in_hand s c d (item y) can step
   kept_by_draw_flattens s _ _ _ _ can (fails {c = c} {d = d} e step done) = kept_by_draw_in_hand s c d (failure e) can step
   kept_by_draw_flattens s t _ hand' r can (finishes {c = c} {d = d} step rest) = let h = kept_by_draws_dropped s c can in kept_by_draw_after h (kept_by_draw_flattens s t None hand' r h.can_next rest)
@@ -180,7 +180,7 @@ module _ {S X C B E : Type 0} (m : Contract S X E) (l : Lawful m) (into : X → 
   inner_is_finite_of_number (Some c) j is = (k.bounded c).1 (j, is)
   inner_is_finite_of_number None j is = tt
 
-  pub lawful_flatten : Lawful ContractHere
+  pub lawful_flatten : Lawful FlattenContract
   lawful_flatten = record {
     kept_by_draw = λ p r q can step. kept_by_draw_flattens p.0 q.0 p.1 q.1 r can (flattens_of_flatten_trace m.steps into inner.steps p.0 q.0 p.1 q.1 (r ∷ []) step);
     bounded = λ p. (

@@ -9,20 +9,20 @@ use Rattle.fallible_core.specs.Joining.Zip.{ZipPlace, left_failed, both_drawn, l
 use Rattle.fallible_core.specs.Laws.Joining.Chain.{both_finite, sum_finite}
 
 module _ {S U A B E : Type 0} (left : Contract S A E) (right : Contract U B E) where
-  abbrev ContractHere : Contract (S × U) (A × B) E
-  ContractHere = zip_contract left right
+  abbrev ZipContract : Contract (S × U) (A × B) E
+  ZipContract = zip_contract left right
 
   -- nothing more is to come of the pairs where nothing more is to come of either
-  no_more_pairs : (s t : S) (u v : U) → NoMore left s t → NoMore right u v → NoMore ContractHere (s, u) (t, v)
+  no_more_pairs : (s t : S) (u v : U) → NoMore left s t → NoMore right u v → NoMore ZipContract (s, u) (t, v)
   no_more_pairs s t u v p q n b = elim b [ inl h ↦ let k = p n h in (k.0, inl k.1, k.2) | inr h ↦ let k = q n h in (k.0, inr k.1, k.2) ]
 
   -- what remains of both sides is no more, where it is no more of either
-  no_more_remains_of_pairs : (s t : S) (u v : U) → NoMoreRemains left s t → NoMoreRemains right u v → NoMoreRemains ContractHere (s, u) (t, v)
+  no_more_remains_of_pairs : (s t : S) (u v : U) → NoMoreRemains left s t → NoMoreRemains right u v → NoMoreRemains ZipContract (s, u) (t, v)
   no_more_remains_of_pairs s t u v p q f = let b = both_finite (left.remaining s).bounded (right.remaining u).bounded f in let j = p b.0 in let k = q b.1 in (sum_finite (left.remaining t).bounded (right.remaining v).bounded j.0 k.0, omega (arith, j.1, k.1))
 
   -- less remains of both sides at q than at p, and it is finite there, if it is finite at p
   abbrev LessRemains : S × U → S × U → Type 0
-  LessRemains p q = IsFinite (ContractHere.remaining p) → IsFinite (ContractHere.remaining q) × (size (ContractHere.remaining q) < size (ContractHere.remaining p))
+  LessRemains p q = IsFinite (ZipContract.remaining p) → IsFinite (ZipContract.remaining q) × (size (ZipContract.remaining q) < size (ZipContract.remaining p))
 
   less_remains_of_left : (s t : S) (u v : U) → (IsFinite (left.remaining s) → IsFinite (left.remaining t) × (size (left.remaining t) < size (left.remaining s))) → NoMoreRemains right u v → LessRemains (s, u) (t, v)
   less_remains_of_left s t u v p q f = let b = both_finite (left.remaining s).bounded (right.remaining u).bounded f in let j = p b.0 in let k = q b.1 in (sum_finite (left.remaining t).bounded (right.remaining v).bounded j.0 k.0, omega (arith, j.1, k.1))
@@ -31,7 +31,7 @@ module _ {S U A B E : Type 0} (left : Contract S A E) (right : Contract U B E) w
   less_remains_of_right s t u v p q f = let b = both_finite (left.remaining s).bounded (right.remaining u).bounded f in let j = p b.0 in let k = q b.1 in (sum_finite (left.remaining t).bounded (right.remaining v).bounded j.0 k.0, omega (arith, j.1, k.1))
 
   -- an answer of the left and one of the right
-  on_answer_pair : (s t : S) (u v : U) (x : Option A) (r : Answered B E) → OnAnswer left s (Ok x) t → OnAnswer right u r v → OnAnswer ContractHere (s, u) (zip_answer (both_drawn x r)) (t, v)
+  on_answer_pair : (s t : S) (u v : U) (x : Option A) (r : Answered B E) → OnAnswer left s (Ok x) t → OnAnswer right u r v → OnAnswer ZipContract (s, u) (zip_answer (both_drawn x r)) (t, v)
   on_answer_pair s t u v x (Err e) a b = (inr b.0, no_more_pairs s t u v (no_more_after left s t (Ok x) a) b.1, less_remains_of_right s t u v (no_more_remains_after left s t (Ok x) a) b.2)
   on_answer_pair s t u v (Some x) (Ok (Some y)) a b = (
     (a.0, b.0),
@@ -42,7 +42,7 @@ module _ {S U A B E : Type 0} (left : Contract S A E) (right : Contract U B E) w
   on_answer_pair s t u v None (Ok y) a b = (no_more_pairs s t u v a.0 (no_more_after right u v (Ok y) b), no_more_remains_of_pairs s t u v a.1 (no_more_remains_after right u v (Ok y) b))
 
   module _ (l : Lawful left) (k : Lawful right) where
-    kept_by_draw_place : (s t : S) (u v : U) (x : ZipPlace A B E) → ContractHere.can_next (s, u) → left.steps s (left_answer x) t → right_step right.steps u x v → KeptByDraw ContractHere (s, u) (zip_answer x) (t, v)
+    kept_by_draw_place : (s t : S) (u v : U) (x : ZipPlace A B E) → ZipContract.can_next (s, u) → left.steps s (left_answer x) t → right_step right.steps u x v → KeptByDraw ZipContract (s, u) (zip_answer x) (t, v)
     kept_by_draw_place s t u v (left_failed e) c step same = let a = l.kept_by_draw s (failure e) t c.0 step in rw same record {
       can_next = (a.can_next, c.1);
       is_finite = λ h. elim h [ inl h ↦ inl (a.is_finite h) | inr h ↦ inr h ];
@@ -60,10 +60,10 @@ module _ {S U A B E : Type 0} (left : Contract S A E) (right : Contract U B E) w
       lenders = ap₂ lenders_of_both a.lenders b.lenders;
     }
 
-    kept_by_draw_zip : (p : S × U) (r : Answered (A × B) E) (q : S × U) → ContractHere.can_next p → ContractHere.steps p r q → KeptByDraw ContractHere p r q
+    kept_by_draw_zip : (p : S × U) (r : Answered (A × B) E) (q : S × U) → ZipContract.can_next p → ZipContract.steps p r q → KeptByDraw ZipContract p r q
     kept_by_draw_zip (s, u) r (t, v) c step = rw step.3 (kept_by_draw_place s t u v step.0 c step.1 step.2)
 
-    is_finite_iff_bound_zip : (p : S × U) → ContractHere.is_finite p ↔ ((n : ℕ) × ContractHere.bound p n)
+    is_finite_iff_bound_zip : (p : S × U) → ZipContract.is_finite p ↔ ((n : ℕ) × ZipContract.bound p n)
     is_finite_iff_bound_zip (s, u) = (
       (λ e. elim e [ inl h ↦ let a = (l.bounded s).0 h in (a.0, inl a.1) | inr h ↦ let b = (k.bounded u).0 h in (b.0, inr b.1) ]),
       (λ h. elim h.1 [ inl b ↦ inl ((l.bounded s).1 (h.0, b)) | inr b ↦ inr ((k.bounded u).1 (h.0, b)) ]),

@@ -23,10 +23,10 @@ module _ {S A E : Type 0} (steps : S → Answered A E → S → Type 0) where
   numbered_of_trace s t n k trace p = subst (λ (l : List (Answered (ℕ × A) E)). NumberedTrace s n l t k) (sym p.answers) (numbered_from_source p.source_trace s t n k p.drawn p.number_after)
 
 module _ {S A E : Type 0} (m : Contract S A E) (l : Lawful m) where
-  abbrev ContractHere : Contract (S × ℕ) (ℕ × A) E
-  ContractHere = enumerate_contract m
+  abbrev EnumerateContract : Contract (S × ℕ) (ℕ × A) E
+  EnumerateContract = enumerate_contract m
 
-  kept_by_draw_numbered : (s t : S) (n k : ℕ) (r : Answered (ℕ × A) E) → ContractHere.can_next (s, n) → NumberedTrace m.steps s n (r ∷ []) t k → KeptByDraw ContractHere (s, n) r (t, k)
+  kept_by_draw_numbered : (s t : S) (n k : ℕ) (r : Answered (ℕ × A) E) → EnumerateContract.can_next (s, n) → NumberedTrace m.steps s n (r ∷ []) t k → KeptByDraw EnumerateContract (s, n) r (t, k)
   kept_by_draw_numbered s t n _ _ c (numbered_item x step numbered_none) = let a = l.kept_by_draw s (item x) t c.can_next step in record {
     can_next = (let b = a.answer.1 c.bound c.bounds in record { can_next = a.can_next; bound = b.0; bounds = b.1; fits = omega (arith, b.2, c.fits) });
     is_finite = a.is_finite;
@@ -52,7 +52,7 @@ module _ {S A E : Type 0} (m : Contract S A E) (l : Lawful m) where
     lenders = a.lenders;
   }
 
-  kept_by_draw_enumerate : (p : S × ℕ) (r : Answered (ℕ × A) E) (q : S × ℕ) → ContractHere.can_next p → ContractHere.steps p r q → KeptByDraw ContractHere p r q
+  kept_by_draw_enumerate : (p : S × ℕ) (r : Answered (ℕ × A) E) (q : S × ℕ) → EnumerateContract.can_next p → EnumerateContract.steps p r q → KeptByDraw EnumerateContract p r q
   kept_by_draw_enumerate (s, n) r (t, k) c step = kept_by_draw_numbered s t n k r c (numbered_of_trace m.steps s t n k (r ∷ []) step)
 
 pub lawful_enumerate : {S A E : Type 0} {m : Contract S A E} → Lawful m → Lawful (enumerate_contract m)

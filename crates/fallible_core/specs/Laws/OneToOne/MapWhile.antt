@@ -1,7 +1,7 @@
 -- The contract of `MapWhile` is lawful where the source's is.
 use Rattle.std.specs.Prelude.{Option, Result}
 use Rattle.std.specs.Fn.{Mut}
-use Rattle.fallible_contract.specs.Closures.{call_on, takes_on, IsCallable}
+use Rattle.fallible_contract.specs.Closures.{call_by_value, takes_by_value, IsCallable}
 use Rattle.fallible_contract.specs.Contract.{Contract, Lawful}
 use Rattle.fallible_contract.specs.Hints.{upper_alone}
 use Rattle.fallible_contract.specs.Laws.Closures.{is_callable_after}
@@ -10,4 +10,4 @@ use Rattle.fallible_core.specs.OneToOne.MapWhile.{map_while_contract}
 use Rattle.fallible_core.specs.OneToOne.Scan.{scan_outcome}
 
 pub lawful_map_while : {S F X B E : Type 0} {m : Contract S X E} (g : Mut F (X × Unit {0}) (Result (Option B) E)) → Lawful m → Lawful (map_while_contract m g)
-lawful_map_while {m = m} g l = lawful_passing (call_on g) (λ P f. IsCallable (call_on g) (takes_on g) P f) scan_outcome (λ p h. upper_alone m p.0 h) (λ P Q f h weak reached c. is_callable_after weak reached c) l
+lawful_map_while {m = m} g l = lawful_passing (call_by_value g) (λ P f. IsCallable (call_by_value g) (takes_by_value g) P f) scan_outcome (λ p h. upper_alone m p.0 h) (λ P Q f h weak reached c. is_callable_after weak reached c) l

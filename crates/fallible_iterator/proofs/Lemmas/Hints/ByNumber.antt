@@ -99,19 +99,19 @@ module _ {S A E : Type 0} (steps : S → Answered A E → S → Type 0) (between
 
 -- ---- `Skip` leaves none out between two
 
-kept_of_0 : (n b : ℕ) → kept_of 0 n b ≡ b - n
-kept_of_0 n b = elim (cases_lt n b) [
+kept_of_zero_is_difference : (n b : ℕ) → kept_of 0 n b ≡ b - n
+kept_of_zero_is_difference n b = elim (cases_lt n b) [
   | inl past ↦ rw (lt-leb b n past, div-one (b - 1 - n)) (omega (arith, past))
   | inr few ↦ rw (le-leb b n few) (omega (arith, few))
 ]
 
 less_upper : (n : ℕ) (o : Option ℕ) → option_map (kept_of 0 n) o ≡ option_map (λ u. u - n) o
 less_upper n None = refl
-less_upper n (Some u) = ap {B = Option ℕ} (λ z. Some z) (kept_of_0 n u)
+less_upper n (Some u) = ap {B = Option ℕ} (λ z. Some z) (kept_of_zero_is_difference n u)
 
 module _ {S A E : Type 0} (steps : S → Answered A E → S → Type 0) where
   pub brackets_skip : (p : S × ℕ) (k : ℕ × Option ℕ) → Brackets steps p.0 k → Brackets (skip_step steps) p (hint_less p.1 k)
-  brackets_skip p k b = subst (λ (h : ℕ × Option ℕ). Brackets (skip_step steps) p h) (pair_of_parts (kept_of_0 p.1 k.0) (less_upper p.1 k.1)) (brackets_within (λ q. q) (skip_step steps) (leaves_one steps 0) (λ u r v w. leaves_of_skip_trace steps {p = u} {q = v} w) p (hint_kept 0 p.1 k) (brackets_kept steps 0 p.0 p.1 k b))
+  brackets_skip p k b = subst (λ (h : ℕ × Option ℕ). Brackets (skip_step steps) p h) (pair_of_parts (kept_of_zero_is_difference p.1 k.0) (less_upper p.1 k.1)) (brackets_within (λ q. q) (skip_step steps) (leaves_one steps 0) (λ u r v w. leaves_of_skip_trace steps {p = u} {q = v} w) p (hint_kept 0 p.1 k) (brackets_kept steps 0 p.0 p.1 k b))
 
   pub as_sound_skip : (p : S × ℕ) (h k : ℕ × Option ℕ) → h ≡ hint_less p.1 k → AsSound (skip_step steps) p h steps p.0 k
   as_sound_skip p h k is = as_sound (skip_step steps) steps p p.0 (λ i. i - p.1) (λ o. option_map (λ u. u - p.1) o) (λ j b. brackets_skip p j b) h k is

@@ -10,7 +10,7 @@ use Rattle.fallible_contract.specs.Traces.{Answered}
 use Rattle.fallible_contract.specs.Contract.{seen_as}
 use Rattle.fallible_contract.specs.Lists.{Lists, RunsRead, RunsReadBack, result_answer, results, items, reversed}
 use Rattle.fallible_contract.proofs.Lemmas.Lists.Passing.{lists_seen}
-use Rattle.fallible_iterator.specs.Sources.Std.{element_by}
+use Rattle.fallible_iterator.specs.Sources.Std.{std_element}
 use Rattle.fallible_iterator.specs.Sources.Convert.{ItemsRead, convert_parts, convert_contract}
 use Rattle.fallible_iterator.proofs.Lemmas.Sources.Std.{gives_read, runs_read_back}
 use Rattle.fallible_contract.proofs.Lemmas.BothEnds.Passing.{map-reverse}
@@ -35,7 +35,7 @@ unfolding reversed
 items_reversed l = sym (map_is_items (reverse l)) ∙ map-reverse (λ x. Ok x) l ∙ ap reverse (map_is_items l)
 
 module _ {A E : Type 0} where
-  pub answer_of_first_result : (r : Answered A E) (y : Result A E) → element_by {A = A} {E = E} Ok Err r ≡ Some y → r ≡ result_answer y
+  pub answer_of_first_result : (r : Answered A E) (y : Result A E) → std_element {A = A} {E = E} Ok Err r ≡ Some y → r ≡ result_answer y
   answer_of_first_result (Ok (Some x)) (Ok y) e = cc
   answer_of_first_result (Ok (Some x)) (Err y) e = absurd cc
   answer_of_first_result (Err d) (Ok y) e = absurd cc
@@ -43,7 +43,7 @@ module _ {A E : Type 0} where
   answer_of_first_result (Ok None) (Ok y) e = absurd cc
   answer_of_first_result (Ok None) (Err y) e = absurd cc
 
-  pub none_converted : (r : Answered A E) → element_by {A = A} {E = E} Ok Err r ≡ None → r ≡ Ok None
+  pub none_converted : (r : Answered A E) → std_element {A = A} {E = E} Ok Err r ≡ None → r ≡ Ok None
   none_converted (Ok (Some x)) e = absurd cc
   none_converted (Ok None) e = refl
   none_converted (Err d) e = absurd cc

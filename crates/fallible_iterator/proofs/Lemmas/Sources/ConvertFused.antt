@@ -6,7 +6,7 @@ use Rattle.fallible_contract.specs.Traces.{Answered, Run, end}
 use Rattle.fallible_contract.specs.Contract.{seen_as}
 use Rattle.fallible_contract.specs.Lists.{GivesForGood, ListsForGood, RunsRead, results, items, result_answer}
 use Rattle.fallible_contract.proofs.Lemmas.Lists.ForGood.{lists_for_good_seen}
-use Rattle.fallible_iterator.specs.Sources.Std.{std_step, element_by}
+use Rattle.fallible_iterator.specs.Sources.Std.{std_step, std_element}
 use Rattle.fallible_iterator.specs.Sources.Convert.{convert_parts, convert_contract}
 use Rattle.fallible_iterator.proofs.Lemmas.Sources.Std.{gives_read, result_of_call}
 use Rattle.fallible_iterator.proofs.Lemmas.Sources.Convert.{answer_of_first_result, none_converted, map_id_is_results, map_is_items}
@@ -31,17 +31,17 @@ module _ {S V A E : Type 0} (iter : V → S) (done : V → Bool) (can : V → Ty
   StepOfConvertFused = std_step Ok Err can GivesInConvertFused remaining
 
   ends_done : (trace : List (Answered A E)) (s t u : V) (r : Answered A E) → done s ≡ true → Run StepOfConvertFused s trace t → StepOfConvertFused t r u → r ≡ end
-  ends_done [] s t u r is ran w = none_converted r (none_done iter done raw t u (element_by Ok Err r) (subst (λ (q : V). done q ≡ true) ran is) w.0)
+  ends_done [] s t u r is ran w = none_converted r (none_done iter done raw t u (std_element Ok Err r) (subst (λ (q : V). done q ≡ true) ran is) w.0)
   ends_done (y ∷ trace) s t u r is ran w =
       let first = ran.1.0 in
-      ends_done trace ran.0 t u r (done_at_none iter done raw s ran.0 (element_by Ok Err y) (none_done iter done raw s ran.0 (element_by Ok Err y) is first) first) ran.2 w
+      ends_done trace ran.0 t u r (done_at_none iter done raw s ran.0 (std_element Ok Err y) (none_done iter done raw s ran.0 (std_element Ok Err y) is first) first) ran.2 w
 
-  module _ {X : Type 0} (h : X → Result A E) (to : X → Result A E) (back : (r : Answered A E) (x : X) → element_by {A = A} {E = E} Ok Err r ≡ Some (h x) → r ≡ result_answer (to x)) where
+  module _ {X : Type 0} (h : X → Result A E) (to : X → Result A E) (back : (r : Answered A E) (x : X) → std_element {A = A} {E = E} Ok Err r ≡ Some (h x) → r ≡ result_answer (to x)) where
     ends_read : (trace : List (Answered A E)) (s t u : V) (r : Answered A E) → RunsRead GivesInConvertFused h s [] → Run StepOfConvertFused s trace t → StepOfConvertFused t r u → r ≡ end
     ends_read [] s t u r reads ran w = gives_read Ok Err can GivesInConvertFused remaining h to back [] s reads r u (subst (λ (q : V). StepOfConvertFused q r u) (sym ran) w)
     ends_read (y ∷ trace) s t u r reads ran w =
         let is_end = gives_read Ok Err can GivesInConvertFused remaining h to back [] s reads y ran.0 ran.1 in
-        ends_done trace ran.0 t u r (done_at_none iter done raw s ran.0 (element_by Ok Err y) (ap (element_by Ok Err) is_end) ran.1.0) ran.2 w
+        ends_done trace ran.0 t u r (done_at_none iter done raw s ran.0 (std_element Ok Err y) (ap (std_element Ok Err) is_end) ran.1.0) ran.2 w
 
     gives_for_good_read : (l : List X) (s : V) → RunsRead GivesInConvertFused h s l → GivesForGood StepOfConvertFused s (map to l)
     gives_for_good_read [] s reads = record { each = λ trace t u r ran w. ends_read trace s t u r reads ran w }

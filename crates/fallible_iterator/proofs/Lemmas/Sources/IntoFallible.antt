@@ -6,19 +6,19 @@ use Rattle.fallible_contract.specs.Traces.{Answered}
 use Rattle.fallible_contract.specs.Contract.{seen_as}
 use Rattle.fallible_contract.specs.Lists.{Lists, RunsRead, RunsReadBack, result_answer, items, reversed}
 use Rattle.fallible_contract.proofs.Lemmas.Lists.Passing.{lists_seen}
-use Rattle.fallible_iterator.specs.Sources.Std.{element_by}
+use Rattle.fallible_iterator.specs.Sources.Std.{std_element}
 use Rattle.fallible_iterator.specs.Sources.IntoFallible.{into_fallible_parts, into_fallible_contract, never}
 use Rattle.fallible_iterator.proofs.Lemmas.Sources.Std.{gives_read, runs_read_back}
 use Rattle.fallible_iterator.proofs.Lemmas.Sources.Convert.{map_is_items, items_reversed}
 use Rattle.std.specs.declared.convert.Infallible.{Infallible}
 use Rattle.fallible_iterator.specs.declared.sources.into_fallible.IntoFallible.{IntoFallible}
 
-pub item_answered : {A : Type 0} (r : Answered A Infallible) (x : A) → element_by (λ y. y) never r ≡ Some x → r ≡ result_answer (Ok x)
+pub item_answered : {A : Type 0} (r : Answered A Infallible) (x : A) → std_element (λ y. y) never r ≡ Some x → r ≡ result_answer (Ok x)
 item_answered (Ok (Some y)) x e = cc
 item_answered (Ok None) x e = absurd cc
 item_answered (Err d) x e = elim d [ ]
 
-pub none_given : {A : Type 0} (r : Answered A Infallible) → element_by (λ y. y) never r ≡ None → r ≡ Ok None
+pub none_given : {A : Type 0} (r : Answered A Infallible) → std_element (λ y. y) never r ≡ None → r ≡ Ok None
 none_given (Ok (Some y)) e = absurd cc
 none_given (Ok None) e = refl
 none_given (Err d) e = elim d [ ]

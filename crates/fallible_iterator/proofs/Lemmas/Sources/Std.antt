@@ -7,7 +7,7 @@ use Rattle.std.proofs.lemmas.List.{length-reverse, get_or-reverse}
 use Rattle.std.proofs.iter.runs.Made.{run, took, seen, at-is}
 use Rattle.fallible_contract.specs.Traces.{Answered, Run}
 use Rattle.fallible_contract.specs.Lists.{AlwaysGives, RunsRead, RunsReadBack, result_answer}
-use Rattle.fallible_iterator.specs.Sources.Std.{std_step, StdTrace, element_by}
+use Rattle.fallible_iterator.specs.Sources.Std.{std_step, StdTrace, std_element}
 
 module _ {S A E Z : Type 0} (of_item : A → Z) (of_failure : E → Z) (can : S → Type 0) (gives : S → Option Z → S → Type 0) (remaining : S → Count) where
   std_trace_of_run : (trace : List (Answered A E)) (s t : S) → Run (std_step of_item of_failure can gives remaining) s trace t → StdTrace of_item of_failure can gives remaining s trace t
@@ -48,17 +48,17 @@ module _ {S Z X : Type 0} (gives : S → Option Z → S → Type 0) (h : X → Z
       (omega (arith, few, p.long), (λ whole. let all : suc (length p.items) ≡ suc (length l) = q.1 whole in omega (arith, all, p.long)), (λ k d lt. at-is p k ∙ q.2 (suc k) d (omega (arith, lt, p.long))))
 
 module _ {S A E Z X : Type 0} (of_item : A → Z) (of_failure : E → Z) (can : S → Type 0) (gives : S → Option Z → S → Type 0) (remaining : S → Count) (h : X → Z) (to : X → Result A E)
-    (back : (r : Answered A E) (x : X) → element_by of_item of_failure r ≡ Some (h x) → r ≡ result_answer (to x)) where
+    (back : (r : Answered A E) (x : X) → std_element of_item of_failure r ≡ Some (h x) → r ≡ result_answer (to x)) where
   abbrev GivesRead : S → List (Result A E) → Type 0
   GivesRead s l = AlwaysGives (std_step of_item of_failure can gives remaining) s l
 
-  end_of_no_runs : (r : Answered A E) (s t : S) → RunsRead gives h s [] → gives s (element_by of_item of_failure r) t → r ≡ Ok None
+  end_of_no_runs : (r : Answered A E) (s t : S) → RunsRead gives h s [] → gives s (std_element of_item of_failure r) t → r ≡ Ok None
   end_of_no_runs (Ok (Some x)) s t reads w = absurd (reads_no_item gives h s t (of_item x) reads w)
   end_of_no_runs (Err e) s t reads w = absurd (reads_no_item gives h s t (of_failure e) reads w)
   end_of_no_runs (Ok None) s t reads w = refl
 
   -- one call at an element
-  pub result_of_call : (r : Answered A E) (s t : S) (x : X) (l : List X) → RunsRead gives h s (x ∷ l) → gives s (element_by of_item of_failure r) t → (r ≡ result_answer (to x)) × RunsRead gives h t l
+  pub result_of_call : (r : Answered A E) (s t : S) (x : X) (l : List X) → RunsRead gives h s (x ∷ l) → gives s (std_element of_item of_failure r) t → (r ≡ result_answer (to x)) × RunsRead gives h t l
   result_of_call (Ok (Some y)) s t x l reads w = (back (Ok (Some y)) x (ap Some (first_read gives h s t (of_item y) x l reads w)), runs_read_rest gives h s t (of_item y) x l reads w)
   result_of_call (Err e) s t x l reads w = (back (Err e) x (ap Some (first_read gives h s t (of_failure e) x l reads w)), runs_read_rest gives h s t (of_failure e) x l reads w)
   result_of_call (Ok None) s t x l reads w = absurd (reads_some_absurd gives h s t x l reads w)

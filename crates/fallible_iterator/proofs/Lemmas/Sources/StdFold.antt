@@ -9,9 +9,9 @@ use Rattle.std.proofs.Common.{refl, sym, subst, ap, ◌∙◌}
 use Rattle.fallible_contract.specs.Traces.{Answered}
 use Rattle.fallible_contract.specs.Lists.{result_answer}
 use Rattle.fallible_contract.specs.Folds.{HoldsAtEachTurn, goes_on, Driven}
-use Rattle.fallible_contract.proofs.Lemmas.Folds.{holds_at_first_turn, holds_each_turn_after, driven_after, driven_end, driven_failure, driven_stop, driven_through, names_kept}
-use Rattle.fallible_iterator.specs.Sources.Std.{std_step, element_by}
-use Rattle.fallible_iterator.specs.Sources.StdFold.{progressing, ElementTurn, answer_of, left_of, lent}
+use Rattle.fallible_contract.proofs.Lemmas.Folds.{holds_at_first_turn, holds_each_turn_after, driven_after, driven_end, driven_failure, driven_stop, fold_of_references_drives_values, names_kept}
+use Rattle.fallible_iterator.specs.Sources.Std.{std_step, std_element}
+use Rattle.fallible_iterator.specs.Sources.StdFold.{progressing, ElementTurn, answer_of, state_left, lent}
 use Rattle.std.specs.declared.ops.ControlFlow.{ControlFlow}
 use Rattle.std.specs.declared.ops.ControlFlow.TheVariants.{Continue, Break}
 use Rattle.fallible_iterator.specs.declared.sources.std_fold.Progressing.{Progressing}
@@ -38,7 +38,7 @@ module _ {S Z : Type 0} (can : S → Type 0) (gives : S → Option Z → S → T
 abbrev pub TurnsBy : {F C A E R Z : Type 0} → Mut F (C × (Z × Unit {0})) (Result C (C × Answered R E)) → F → (Z → Result A E) → (C → A → ControlFlow R (Unit {0}) → C → Type 0) → Type 0
 TurnsBy {F} {C} {E = E} {R = R} {Z = Z} g f read turns = (c : C) (z : Z) (r : Result C (C × Answered R E)) (h : F) → Called g f (c, (z, tt)) r h → (h ≡ f) × ElementTurn turns c (read z) r
 
-module _ {S A E Z F C R : Type 0} (of_item : A → Z) (of_failure : E → Z) (read : Z → Result A E) (reads : (z : Z) → element_by of_item of_failure (result_answer (read z)) ≡ Some z) (can : S → Type 0) (gives : S → Option Z → S → Type 0) (remaining : S → Count)
+module _ {S A E Z F C R : Type 0} (of_item : A → Z) (of_failure : E → Z) (read : Z → Result A E) (reads : (z : Z) → std_element of_item of_failure (result_answer (read z)) ≡ Some z) (can : S → Type 0) (gives : S → Option Z → S → Type 0) (remaining : S → Count)
     (g : Mut F (C × (Z × Unit {0})) (Result C (C × Answered R E))) (f : F) (turns : C → A → ControlFlow R (Unit {0}) → C → Type 0) (turned : TurnsBy g f read turns) where
   abbrev StepOfStdFold : S → Answered A E → S → Type 0
   StepOfStdFold = std_step of_item of_failure can gives remaining
@@ -73,15 +73,15 @@ module _ {S A E Z F C R : Type 0} (of_item : A → Z) (of_failure : E → Z) (re
   LastOfStd h a o r = MatchOption o (r ≡ Ok a) (λ z. (v : Result C (C × Answered R E)) × (h' : F) × (d : _) × Called g h (a, (z, tt)) v h' × (v ≡ result_from_control_flow (Break d)) × (IsErr r × IsErrAnd r (λ y. y ≡ d.0)))
 
   -- one call, at which std's fold ended or broke off
-  driven_to_end : (c : C) (s t : Progressing S) (o : Option Z) (r : Result C (C × Answered R E)) → ElementCall s o t → LastOfStd f c o r → Driven StepOfStdFold turns s.it.now c (answer_of r) t.it.now (left_of r)
-  driven_to_end c s t None r w is = subst (λ (y : Result C (C × Answered R E)). Driven StepOfStdFold turns s.it.now c (answer_of y) t.it.now (left_of y)) (sym is) (driven_end (w.0, w.1))
+  driven_to_end : (c : C) (s t : Progressing S) (o : Option Z) (r : Result C (C × Answered R E)) → ElementCall s o t → LastOfStd f c o r → Driven StepOfStdFold turns s.it.now c (answer_of r) t.it.now (state_left r)
+  driven_to_end c s t None r w is = subst (λ (y : Result C (C × Answered R E)). Driven StepOfStdFold turns s.it.now c (answer_of y) t.it.now (state_left y)) (sym is) (driven_end (w.0, w.1))
   driven_to_end c s t (Some z) r w (v, h, d, called, broke, is) =
       let turn : ElementTurn turns c (read z) (Err d.0) = subst (λ (y : Result C (C × Answered R E)). ElementTurn turns c (read z) y) broke (turned c z v h called).1 in
-      subst (λ (y : Result C (C × Answered R E)). Driven StepOfStdFold turns s.it.now c (answer_of y) t.it.now (left_of y)) (sym (result_of_err r d.0 is.1)) (driven_to_stop c s t z (read z) d.0 refl w turn)
+      subst (λ (y : Result C (C × Answered R E)). Driven StepOfStdFold turns s.it.now c (answer_of y) t.it.now (state_left y)) (sym (result_of_err r d.0 is.1)) (driven_to_stop c s t z (read z) d.0 refl w turn)
 
   -- the calls before it returned items on which the turns went on
   module _ (o : Option Z) (t u : Progressing S) (a : C) (h : F) (r : Result C (C × Answered R E)) (w : ElementCall t o u) (is : LastOfStd h a o r) where
-    driven_of_std_fold : (xs : List Z) (s : Progressing S) (c : C) → Yields ElementCall s xs t → FoldsTo TurnOnElement (f, c) xs (h, a) → Driven StepOfStdFold turns s.it.now c (answer_of r) u.it.now (left_of r)
+    driven_of_std_fold : (xs : List Z) (s : Progressing S) (c : C) → Yields ElementCall s xs t → FoldsTo TurnOnElement (f, c) xs (h, a) → Driven StepOfStdFold turns s.it.now c (answer_of r) u.it.now (state_left r)
     driven_of_std_fold [] s c e went =
         let now : ElementCall s o u = subst (λ (z : Progressing S). ElementCall z o u) (sym e) w in
         let last : LastOfStd f c o r = subst (λ (p : F × C). LastOfStd p.0 p.1 o r) (sym went) is in
@@ -96,7 +96,7 @@ module _ {S A E Z F C R : Type 0} (of_item : A → Z) (of_failure : E → Z) (re
   abbrev StdFolds : Progressing S → C → Result C (C × Answered R E) → Progressing S → Type 0
   StdFolds s c r u = TryFoldsItems ElementCall g (λ r b. r ≡ result_from_control_flow b) (λ d r. IsErr r × IsErrAnd r (λ y. y ≡ d.0)) s f c r u
 
-  pub driven_by_std : {s : Progressing S} {c : C} {r : Result C (C × Answered R E)} (u : Progressing S) → StdFolds s c r u → Driven StepOfStdFold turns s.it.now c (answer_of r) u.it.now (left_of r)
+  pub driven_by_std : {s : Progressing S} {c : C} {r : Result C (C × Answered R E)} (u : Progressing S) → StdFolds s c r u → Driven StepOfStdFold turns s.it.now c (answer_of r) u.it.now (state_left r)
   driven_by_std {s} {c} {r} u (xs, o, h, a, (t, y, w), went, is) = driven_of_std_fold o t u a h r w is xs s c y went
 
   -- the closure may be called where the caller's turn may be taken on an item
@@ -123,7 +123,7 @@ module _ {S A E Z F C R : Type 0} (of_item : A → Z) (of_failure : E → Z) (re
 
 -- what the reference that came back points to, once it is known to be the one that was lent
 pub driven_lent : {S A E C R : Type 0} {steps : S → Answered A E → S → Type 0} {turns : C → A → ControlFlow R (Unit {0}) → C → Type 0} {s t : S} {b d : MutBor C} {r : Answered R E} (c : C) → Driven steps (lent turns) s b r t d → (d.ghost_name ≡ b.ghost_name → c ≡ d.now) → Driven steps turns s b.now r t c
-driven_lent {steps = steps} {turns = turns} {s = s} {t = t} {b = b} {d = d} {r = r} c w is = subst (λ z. Driven steps turns s b.now r t z) (sym (is (names_kept (λ (z : MutBor _). z.now) (λ (z : MutBor _). z.ghost_name) turns w))) (driven_through (λ (z : MutBor _). z.now) (λ (z : MutBor _). z.ghost_name) turns w)
+driven_lent {steps = steps} {turns = turns} {s = s} {t = t} {b = b} {d = d} {r = r} c w is = subst (λ z. Driven steps turns s b.now r t z) (sym (is (names_kept (λ (z : MutBor _). z.now) (λ (z : MutBor _). z.ghost_name) turns w))) (fold_of_references_drives_values (λ (z : MutBor _). z.now) (λ (z : MutBor _). z.ghost_name) turns w)
 
 -- and what the other reference points to then
 pub driven_of_equal_left : {S A E C R : Type 0} {steps : S → Answered A E → S → Type 0} {turns : C → A → ControlFlow R (Unit {0}) → C → Type 0} {s t u : S} {c d : C} {r : Answered R E} → t ≡ u → Driven steps turns s c r u d → Driven steps turns s c r t d

@@ -1,5 +1,5 @@
 -- A bound is counted down; the closures may be called on what may come; and what a fold from here does, the whole fold does.
-use Rattle.fallible_contract.specs.Closures.{call_at, takes_at}
+use Rattle.fallible_contract.specs.Closures.{call_by_reference, takes_by_reference}
 use Rattle.fallible_contract.specs.Contract.{seen_as}
 use Rattle.fallible_contract.specs.Folds.{CallableInFold, call_with, takes_with}
 use Rattle.fallible_core.specs.Peeking.Peekable.{peekable_contract, peekable_parts}
@@ -10,11 +10,11 @@ use Rattle.fallible_iterator.proofs.taking.fold_if.Given as goal
 abbrev pub invariant-loop-left : goal.invariant-loop-left
 invariant-loop-left g l =
     let m = peekable_contract g.I.FallibleIterator.contract in
-    let tests = call_at g.P.FnMut in
+    let tests = call_by_reference g.P.FnMut in
     let call = call_with g.F.FnMut in
     let drains = FoldIfDrains g.I.FallibleIterator.contract.steps tests call in record {
       counts : CountsDown (seen_as peekable_parts m) l.ahead l.left.value;
-      callable : CallableInFold m.steps (AcceptedCall tests call) (accepted_takes tests call (takes_at g.P.FnMut) (takes_with g.F.FnMut)) (peekable_parts l.ahead) (l.test, l.f) l.value;
+      callable : CallableInFold m.steps (AcceptedCall tests call) (accepted_takes tests call (takes_by_reference g.P.FnMut) (takes_with g.F.FnMut)) (peekable_parts l.ahead) (l.test, l.f) l.value;
       whole : (r : _) (t : _) → drains (peekable_parts l.ahead) l.value l.test l.f r t → drains (peekable_parts l.fn.ahead) l.fn.init l.fn.test l.fn.f r t;
     }
 

@@ -8,17 +8,17 @@ use Rattle.fallible_contract.specs.Ends.{LawfulEnds}
 use Rattle.fallible_contract.specs.BothEnds.{step_at, RunAtEnds}
 use Rattle.fallible_contract.specs.Lists.{result_answer}
 use Rattle.fallible_iterator.specs.Sources.IntoFallible.{never}
-use Rattle.fallible_iterator.specs.Sources.Std.{element_by, std_step, std_contract, std_ends, IsAskable, Comes, IsAskableAtEnds, ComesAtEnds}
+use Rattle.fallible_iterator.specs.Sources.Std.{std_element, std_step, std_contract, std_ends, IsAskable, Comes, IsAskableAtEnds, ComesAtEnds}
 use Rattle.fallible_contract.specs.declared.answers.Side.{Side}
 use Rattle.fallible_contract.specs.declared.answers.Side.TheVariants.{Front, Back}
 
 -- ---- the answer that an element is comes from that element
 
-pub element_by_reads_result : {A E : Type 0} (z : Result A E) → element_by {A = A} {E = E} Ok Err (result_answer z) ≡ Some z
+pub element_by_reads_result : {A E : Type 0} (z : Result A E) → std_element {A = A} {E = E} Ok Err (result_answer z) ≡ Some z
 element_by_reads_result (Ok x) = refl
 element_by_reads_result (Err e) = refl
 
-pub element_by_reads_item : {A : Type 0} (z : A) → element_by {A = A} (λ x. x) never (result_answer (Ok z)) ≡ Some z
+pub element_by_reads_item : {A : Type 0} (z : A) → std_element {A = A} (λ x. x) never (result_answer (Ok z)) ≡ Some z
 element_by_reads_item z = refl
 
 -- ---- draws that are each one call, whatever is required of them and whatever may come

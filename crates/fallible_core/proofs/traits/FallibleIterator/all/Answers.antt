@@ -1,6 +1,6 @@
 -- The fold whose state is the closure is the search.
 use Rattle.std.proofs.Common.{true}
-use Rattle.fallible_contract.specs.Closures.{call_on}
+use Rattle.fallible_contract.specs.Closures.{call_by_value}
 use Rattle.fallible_contract.specs.Searching.{all_pick}
 use Rattle.fallible_contract.proofs.Lemmas.Searching.{search_drains_of_drive}
 use Rattle.fallible_contract.proofs.Lemmas.Lists.Searched.{all_of_lists}
@@ -9,13 +9,13 @@ use Rattle.fallible_contract.specs.Laws.Contract.{stays_run}
 use Rattle.fallible_core.proofs.traits.FallibleIterator.all.Goals as goal
 
 pub returns-clause-searched : goal.returns-clause-searched
-returns-clause-searched g c = (_, search_drains_of_drive {call = call_on g.F.FnMut} {pick = all_pick} true (λ f x r g w. w) c.drive.ensures c.answer_or.ensures)
+returns-clause-searched g c = (_, search_drains_of_drive {call = call_by_value g.F.FnMut} {pick = all_pick} true (λ f x r g w. w) c.drive.ensures c.answer_or.ensures)
 
 pub returns-clause-value : goal.returns-clause-value
-returns-clause-value g c h l acts i = all_of_lists l i {call = call_on g.F.FnMut} h acts (search_drains_of_drive {call = call_on g.F.FnMut} {pick = all_pick} true (λ f x r g w. w) c.drive.ensures c.answer_or.ensures)
+returns-clause-value g c h l acts i = all_of_lists l i {call = call_by_value g.F.FnMut} h acts (search_drains_of_drive {call = call_by_value g.F.FnMut} {pick = all_pick} true (λ f x r g w. w) c.drive.ensures c.answer_or.ensures)
 
 pub returns-clause-rest : goal.returns-clause-rest
-returns-clause-rest g c h l acts i no_end = lists_rest_all l i {call = call_on g.F.FnMut} h acts (search_drains_of_drive {call = call_on g.F.FnMut} {pick = all_pick} true (λ f x r g w. w) c.drive.ensures c.answer_or.ensures) no_end
+returns-clause-rest g c h l acts i no_end = lists_rest_all l i {call = call_by_value g.F.FnMut} h acts (search_drains_of_drive {call = call_by_value g.F.FnMut} {pick = all_pick} true (λ f x r g w. w) c.drive.ensures c.answer_or.ensures) no_end
 
 pub returns-clause-stays : goal.returns-clause-stays
 returns-clause-stays g c = stays_run g.met.Self.FallibleIterator.lawful _ _ _ c.requires.can_next c.drive.ensures.ran

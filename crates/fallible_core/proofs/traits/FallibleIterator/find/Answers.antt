@@ -1,5 +1,5 @@
 -- The search whose state is the predicate.
-use Rattle.fallible_contract.specs.Closures.{call_at}
+use Rattle.fallible_contract.specs.Closures.{call_by_reference}
 use Rattle.fallible_contract.proofs.Lemmas.Lists.Searched.{found_of_lists}
 use Rattle.fallible_contract.proofs.Lemmas.Lists.Rest.{lists_rest_find}
 use Rattle.fallible_contract.specs.Laws.Contract.{stays_run}
@@ -9,10 +9,10 @@ pub returns-clause-searched : goal.returns-clause-searched
 returns-clause-searched g c = (_, c.drive_find.ensures)
 
 pub returns-clause-value : goal.returns-clause-value
-returns-clause-value g c h l acts i = found_of_lists l i {call = call_at g.F.FnMut} h acts c.drive_find.ensures
+returns-clause-value g c h l acts i = found_of_lists l i {call = call_by_reference g.F.FnMut} h acts c.drive_find.ensures
 
 pub returns-clause-rest : goal.returns-clause-rest
-returns-clause-rest g c h l acts i no_end = lists_rest_find l i {call = call_at g.F.FnMut} h acts c.drive_find.ensures no_end
+returns-clause-rest g c h l acts i no_end = lists_rest_find l i {call = call_by_reference g.F.FnMut} h acts c.drive_find.ensures no_end
 
 pub returns-clause-stays : goal.returns-clause-stays
 returns-clause-stays g c = stays_run g.met.Self.FallibleIterator.lawful _ _ _ c.requires.can_next c.drive_find.ensures.ran

@@ -1,6 +1,6 @@
 -- What its parts list.
 use Rattle.std.proofs.Common.{refl}
-use Rattle.fallible_contract.specs.Closures.{call_at}
+use Rattle.fallible_contract.specs.Closures.{call_by_reference}
 use Rattle.fallible_contract.proofs.Lemmas.BothEnds.{lists_both_ends_of_parts}
 use Rattle.fallible_contract.proofs.Lemmas.BothEnds.Passing.{lists_both_ends_passed, lists_both_ends_by_function}
 use Rattle.fallible_core.specs.Filtering.Filter.{tested_outcome, filter_parts}
@@ -9,6 +9,6 @@ use Rattle.fallible_iterator.proofs.laws.listed.law_listed_filter.Goals as goal
 
 pub returns : goal.returns
 returns g c = record {
-  steady = λ s it f asked at steady i. lists_both_ends_of_parts filter_parts s at refl (lists_both_ends_passed _ _ (call_at g.F.FnMut) tested_outcome tested_never_ends asked it f steady i);
-  acts = λ s it f h l at acts i. lists_both_ends_of_parts filter_parts s at (passed_is_filtered h l) (lists_both_ends_by_function (call_at g.F.FnMut) tested_outcome tested_never_ends f h acts _ _ it l i);
+  steady = λ s it f asked at steady i. lists_both_ends_of_parts filter_parts s at refl (lists_both_ends_passed _ _ (call_by_reference g.F.FnMut) tested_outcome tested_never_ends asked it f steady i);
+  acts = λ s it f h l at acts i. lists_both_ends_of_parts filter_parts s at (passed_is_filtered h l) (lists_both_ends_by_function (call_by_reference g.F.FnMut) tested_outcome tested_never_ends f h acts _ _ it l i);
 }

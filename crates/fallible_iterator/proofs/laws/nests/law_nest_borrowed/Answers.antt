@@ -1,5 +1,5 @@
 -- One law a type: that of the outermost first, whose source's trace the next one speaks of.
-use Rattle.fallible_iterator.proofs.Lemmas.Nests.{take_trace_of_list, take_trace_of_source, same_name}
+use Rattle.fallible_iterator.proofs.Lemmas.Nests.{take_trace_of_list, take_trace_of_source, reference_keeps_name}
 use Rattle.fallible_iterator.proofs.laws.nests.law_nest_borrowed.Goals as goal
 
 pub returns-clause-trace : goal.returns-clause-trace
@@ -9,7 +9,7 @@ returns-clause-trace g c = λ s trace t ran.
       source_trace = takes.source_trace;
       drawn = (c.law_convert.ensures s.it.now takes.source_trace t.it.now).0 (c.law_borrowed.ensures.borrowed_run s.it takes.source_trace t.it takes.drawn);
       takes = take_trace_of_list _ takes;
-      same_reference = same_name _ (λ u r v step. ((c.law_borrowed.ensures.borrowed u r v).0 step).1) takes.source_trace s.it t.it takes.drawn;
+      same_reference = reference_keeps_name _ (λ u r v step. ((c.law_borrowed.ensures.borrowed u r v).0 step).1) takes.source_trace s.it t.it takes.drawn;
     }
 
 pub returns-clause-run : goal.returns-clause-run

@@ -1,6 +1,6 @@
 -- One draw decides, or the second one does.
 use Rattle.std.proofs.Common.{refl, Ok, Some, None, Err}
-use Rattle.fallible_itertools.proofs.Lemmas.AtMostOne.{at_most_one_draw, at_most_one_two_draws, at_most_one_of_lists, lists_rest_nth_1}
+use Rattle.fallible_itertools.proofs.Lemmas.AtMostOne.{at_most_one_draw, at_most_one_two_draws, at_most_one_of_lists, lists_rest_after_two}
 use Rattle.fallible_itertools.proofs.traits.FallibleItertools.at_most_one.Goals as goal
 
 pub returns-in-Ok-None-clause-drawn : goal.returns-in-Ok-None-clause-drawn
@@ -16,7 +16,7 @@ pub returns-in-Err-clause-value : goal.returns-in-Err-clause-value
 returns-in-Err-clause-value g c l i = at_most_one_of_lists l (returns-in-Err-clause-drawn g c) i
 
 pub returns-in-Err-clause-rest_failure : goal.returns-in-Err-clause-rest_failure
-returns-in-Err-clause-rest_failure g c l i e is = lists_rest_nth_1 l (returns-in-Err-clause-drawn g c) i (λ o q. cc)
+returns-in-Err-clause-rest_failure g c l i e is = lists_rest_after_two l (returns-in-Err-clause-drawn g c) i (λ o q. cc)
 
 pub returns-in-Ok-Some-draw-clause-drawn : goal.returns-in-Ok-Some-draw-clause-drawn
 returns-in-Ok-Some-draw-clause-drawn g c = at_most_one_two_draws _ c.in-Ok-Some.first (Ok (Some c.in-Ok-Some-draw.second)) (rw c.in-Ok-Some.field-0-is at c.in-Ok-Some.ensures.drawn) (rw c.in-Ok-Some-draw.field-0-is at c.in-Ok-Some-draw.ensures.drawn) refl
@@ -25,7 +25,7 @@ pub returns-in-Ok-Some-draw-clause-value : goal.returns-in-Ok-Some-draw-clause-v
 returns-in-Ok-Some-draw-clause-value g c l i = at_most_one_of_lists l (returns-in-Ok-Some-draw-clause-drawn g c) i
 
 pub returns-in-Ok-Some-draw-clause-rest_two : goal.returns-in-Ok-Some-draw-clause-rest_two
-returns-in-Ok-Some-draw-clause-rest_two g c l i p is = lists_rest_nth_1 l (returns-in-Ok-Some-draw-clause-drawn g c) i (λ o q. cc)
+returns-in-Ok-Some-draw-clause-rest_two g c l i p is = lists_rest_after_two l (returns-in-Ok-Some-draw-clause-drawn g c) i (λ o q. cc)
 
 pub returns-in-Ok-None-draw-clause-drawn : goal.returns-in-Ok-None-draw-clause-drawn
 returns-in-Ok-None-draw-clause-drawn g c = at_most_one_two_draws _ c.in-Ok-Some.first (Ok None) (rw c.in-Ok-Some.field-0-is at c.in-Ok-Some.ensures.drawn) (rw c.in-Ok-None-draw.field-0-is at c.in-Ok-None-draw.ensures.drawn) refl
@@ -40,4 +40,4 @@ pub returns-in-Err-draw-clause-value : goal.returns-in-Err-draw-clause-value
 returns-in-Err-draw-clause-value g c l i = at_most_one_of_lists l (returns-in-Err-draw-clause-drawn g c) i
 
 pub returns-in-Err-draw-clause-rest_failure : goal.returns-in-Err-draw-clause-rest_failure
-returns-in-Err-draw-clause-rest_failure g c l i e is = lists_rest_nth_1 l (returns-in-Err-draw-clause-drawn g c) i (λ o q. cc)
+returns-in-Err-draw-clause-rest_failure g c l i e is = lists_rest_after_two l (returns-in-Err-draw-clause-drawn g c) i (λ o q. cc)

@@ -1,7 +1,7 @@
 -- One draw, after which an item that the closure returns false on is put back, and an end.
 use Rattle.std.proofs.Common.{Some, None, refl}
 use Rattle.fallible_contract.specs.Traces.{item}
-use Rattle.fallible_contract.specs.Laws.Contract.{stays_here}
+use Rattle.fallible_contract.specs.Laws.Contract.{stays_reflexive}
 use Rattle.fallible_contract.proofs.Lemmas.Contract.{stays_step}
 use Rattle.fallible_core.specs.Peeking.Peekable.{peekable_parts}
 use Rattle.fallible_core.specs.Laws.Peeking.Peekable.{lawful_peekable}
@@ -28,7 +28,7 @@ pub returns-clause-taken : goal.returns-clause-taken
 returns-clause-taken g c = next_if_takes_failure _ _ _ _ _ c.in-Err.ensures
 
 pub returns-then-f-clause-stays : goal.returns-then-f-clause-stays
-returns-then-f-clause-stays g c = stays_step (lawful_peekable g.met.I.FallibleIterator.lawful) (stays_here c.requires.can_next) c.next.ensures
+returns-then-f-clause-stays g c = stays_step (lawful_peekable g.met.I.FallibleIterator.lawful) (stays_reflexive c.requires.can_next) c.next.ensures
 
 pub returns-then-f-clause-fewer : goal.returns-then-f-clause-fewer
 returns-then-f-clause-fewer g c x is = ((lawful_peekable g.met.I.FallibleIterator.lawful).kept_by_draw _ (item c.in-Ok-Some.x) _ c.requires.can_next (rw c.in-Ok-Some.field-0-is at c.in-Ok-Some.ensures)).answer.1
@@ -43,7 +43,7 @@ pub returns-in-Ok-None-clause-lists : goal.returns-in-Ok-None-clause-lists
 returns-in-Ok-None-clause-lists g c h l acts i = next_if_listed g.I.FallibleIterator.contract _ _ l i h acts (returns-in-Ok-None-clause-taken g c)
 
 pub returns-clause-stays : goal.returns-clause-stays
-returns-clause-stays g c = stays_step (lawful_peekable g.met.I.FallibleIterator.lawful) (stays_here c.requires.can_next) c.next.ensures
+returns-clause-stays g c = stays_step (lawful_peekable g.met.I.FallibleIterator.lawful) (stays_reflexive c.requires.can_next) c.next.ensures
 
 pub returns-clause-lists : goal.returns-clause-lists
 returns-clause-lists g c h l acts i = next_if_listed g.I.FallibleIterator.contract _ _ l i h acts (returns-clause-taken g c)
