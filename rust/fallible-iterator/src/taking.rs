@@ -29,16 +29,16 @@ use crate::fallible_core::{FallibleIterator, Peekable};
 /// requires can_next { (peekable_contract I.contract).can_next (peekable_parts ahead.old) }
 /// requires finite { (peekable_contract I.contract).is_finite (peekable_parts ahead.old) }
 /// requires callable { CallableInFold (peekable_contract I.contract).steps
-///     (AcceptedCall (call_at P.FnMut) (call_with F.FnMut))
-///     (accepted_takes (call_at P.FnMut) (call_with F.FnMut)
-///     (takes_at P.FnMut) (takes_with F.FnMut)) (peekable_parts ahead.old) (test, f) init }
-/// ensures folded { FoldIfDrains I.contract.steps (call_at P.FnMut) (call_with F.FnMut)
+///     (AcceptedCall (call_by_reference P.FnMut) (call_with F.FnMut))
+///     (accepted_takes (call_by_reference P.FnMut) (call_with F.FnMut)
+///     (takes_by_reference P.FnMut) (takes_with F.FnMut)) (peekable_parts ahead.old) (test, f) init }
+/// ensures folded { FoldIfDrains I.contract.steps (call_by_reference P.FnMut) (call_with F.FnMut)
 ///     (peekable_parts ahead.old) init test f result (peekable_parts ahead.new) }
-/// ensures value { OverListWith (Acts (call_at P.FnMut) test)
+/// ensures value { OverListWith (Acts (call_by_reference P.FnMut) test)
 ///     (seen_as peekable_parts (peekable_contract I.contract)).steps ahead.old
 ///     (λ p l. (h : B → I.Item → Result B I.Error) → FoldsAs (call_with F.FnMut) f p h
 ///     → result ≡ folded_if p h init l) }
-/// ensures rest { OverListWith (Acts (call_at P.FnMut) test)
+/// ensures rest { OverListWith (Acts (call_by_reference P.FnMut) test)
 ///     (seen_as peekable_parts (peekable_contract I.contract)).steps ahead.old
 ///     (λ p l. (h : B → I.Item → Result B I.Error) → FoldsAs (call_with F.FnMut) f p h
 ///     → Lists (seen_as peekable_parts (peekable_contract I.contract)).steps ahead.new

@@ -93,14 +93,14 @@ pub trait DoubleEndedFallibleItertools: DoubleEndedFallibleIterator + Sized {
     /// ```text
     /// requires can_next { Self.ends.can_next self.old }
     /// requires finite { Self.contract.is_finite self.old }
-    /// requires callable { CallableInSearch (call_at F.FnMut) find_pick Self.ends.steps
-    ///     (takes_at F.FnMut) self.old f }
-    /// ensures searched { (g : F) × SearchDrains (call_at F.FnMut) find_pick Self.ends.steps None
+    /// requires callable { CallableInSearch (call_by_reference F.FnMut) find_pick Self.ends.steps
+    ///     (takes_by_reference F.FnMut) self.old f }
+    /// ensures searched { (g : F) × SearchDrains (call_by_reference F.FnMut) find_pick Self.ends.steps None
     ///     self.old f result self.new g }
-    /// ensures value { OverListWith (Acts (call_at F.FnMut) f) Self.ends.steps self.old
+    /// ensures value { OverListWith (Acts (call_by_reference F.FnMut) f) Self.ends.steps self.old
     ///     (λ h l. result ≡ found h l) }
     /// ensures rest { (h : Self.Item → Result Bool Self.Error)
-    ///     (l : List (Result Self.Item Self.Error)) → Acts (call_at F.FnMut) f h
+    ///     (l : List (Result Self.Item Self.Error)) → Acts (call_by_reference F.FnMut) f h
     ///     → ListsBothEnds Self.contract.steps Self.ends.steps self.old l
     ///     → (result ≡ found h (reverse l))
     ///     × ListsBothEnds Self.contract.steps Self.ends.steps self.new
@@ -139,12 +139,12 @@ pub trait DoubleEndedFallibleItertools: DoubleEndedFallibleIterator + Sized {
     /// ```text
     /// requires can_next { Self.ends.can_next self.old }
     /// requires fits { AtMost Self.contract self.old (2 ^ 64 - 1) }
-    /// requires callable { CallableInSearch (call_on F.FnMut) any_pick Self.ends.steps
-    ///     (takes_on F.FnMut) self.old f }
-    /// ensures placed { PlacedFromBack Self.contract.steps Self.ends.steps (call_on F.FnMut)
+    /// requires callable { CallableInSearch (call_by_value F.FnMut) any_pick Self.ends.steps
+    ///     (takes_by_value F.FnMut) self.old f }
+    /// ensures placed { PlacedFromBack Self.contract.steps Self.ends.steps (call_by_value F.FnMut)
     ///     self.old f result self.new }
     /// ensures rest { (h : Self.Item → Result Bool Self.Error)
-    ///     (l : List (Result Self.Item Self.Error)) → Acts (call_on F.FnMut) f h
+    ///     (l : List (Result Self.Item Self.Error)) → Acts (call_by_value F.FnMut) f h
     ///     → ListsBothEnds Self.contract.steps Self.ends.steps self.old l
     ///     → (result ≡ last_position_in h l)
     ///     × ListsBothEnds Self.contract.steps Self.ends.steps self.new (rest_position h l) }

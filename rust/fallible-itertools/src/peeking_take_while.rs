@@ -14,9 +14,9 @@ pub trait PeekingNext: FallibleIterator + Sized {
     ///
     /// ```text
     /// requires can_next { Self.contract.can_next self.old }
-    /// requires callable { IsCallable (call_at F.FnMut) (takes_at F.FnMut)
+    /// requires callable { IsCallable (call_by_reference F.FnMut) (takes_by_reference F.FnMut)
     ///     (Self.contract.may_give self.old) accept.old }
-    /// ensures { peeking_step Self.contract.steps looks (call_at F.FnMut)
+    /// ensures { peeking_step Self.contract.steps looks (call_by_reference F.FnMut)
     ///     (self.old, accept.old) result (self.new, accept.new) }
     /// ```
     /// </details>
@@ -45,12 +45,12 @@ pub trait PeekingNext: FallibleIterator + Sized {
     /// As it is proved, in [these words](crate::words):
     ///
     /// ```text
-    /// requires { IsCallable (call_at F.FnMut) (takes_at F.FnMut)
+    /// requires { IsCallable (call_by_reference F.FnMut) (takes_by_reference F.FnMut)
     ///     (Self.contract.may_give self.old) accept }
     /// ensures source { (peeking_source result).now ≡ self.old }
     /// ensures same_reference { (peeking_source result).ghost_name ≡ self.entry.ghost_name }
     /// ensures closure { peeking_closure result ≡ accept }
-    /// ensures lists { OverListWith (Acts (call_at F.FnMut) accept) Self.contract.steps self.old
+    /// ensures lists { OverListWith (Acts (call_by_reference F.FnMut) accept) Self.contract.steps self.old
     ///     (λ h l. Lists (seen_as peeking_parts (peeking_contract (borrowed Self.contract)
     ///     (borrowed_looks looks) F.FnMut)).steps result (taken_while h l)) }
     /// ```

@@ -144,14 +144,14 @@ pub trait FallibleItertools: FallibleIterator + Sized {
     /// As it is proved, in [these words](crate::words):
     ///
     /// ```text
-    /// requires callable { IsCallable (call_at F.FnMut) (takes_at F.FnMut)
+    /// requires callable { IsCallable (call_by_reference F.FnMut) (takes_by_reference F.FnMut)
     ///     (Self.contract.may_give self) f }
     /// ensures parts { dedup_by_key.dedup_by_key_parts result ≡ (self, ((None, f), None)) }
-    /// ensures callable { IsCallable (dedup_by_key.dedup_key_asks K.eq (call_at F.FnMut))
-    ///     (dedup_by_key.dedup_key_takes (takes_at F.FnMut)) (MayBeAsked Self.contract self)
+    /// ensures callable { IsCallable (dedup_by_key.dedup_key_asks K.eq (call_by_reference F.FnMut))
+    ///     (dedup_by_key.dedup_key_takes (takes_by_reference F.FnMut)) (MayBeAsked Self.contract self)
     ///     (None, f) }
     /// ensures lists { (h : Self.Item → Result K Self.Error)
-    ///     (l : List (Result Self.Item Self.Error)) → list.Acts (call_at F.FnMut) f h
+    ///     (l : List (Result Self.Item Self.Error)) → list.Acts (call_by_reference F.FnMut) f h
     ///     → list.Lists Self.contract.steps self l
     ///     → list.Lists (seen_as dedup_by_key.dedup_by_key_parts
     ///     (dedup_by_key.dedup_by_key_contract K.eq Self.contract F.FnMut)).steps result
@@ -386,13 +386,13 @@ pub trait FallibleItertools: FallibleIterator + Sized {
     /// requires can_next { Self.contract.can_next self.old }
     /// requires finite { Self.contract.is_finite self.old }
     /// requires callable { fold.HoldsAtEachTurn Self.contract.steps
-    ///     (search.WentOn (call_on F.FnMut) search.each_pick) (takes_on F.FnMut) self.old f }
-    /// ensures searched { (g : F) × search.SearchDrains (call_on F.FnMut) search.each_pick
+    ///     (search.WentOn (call_by_value F.FnMut) search.for_each_pick) (takes_by_value F.FnMut) self.old f }
+    /// ensures searched { (g : F) × search.SearchDrains (call_by_value F.FnMut) search.for_each_pick
     ///     (trying.Converted E.from_gives Self.contract.steps) tt self.old f result self.new g }
     /// ensures value { (convert : Self.Error → E) → list.Converts E.from_gives convert
-    ///     → OverListWith (list.Acts (call_on F.FnMut) f) Self.contract.steps self.old
+    ///     → OverListWith (list.Acts (call_by_value F.FnMut) f) Self.contract.steps self.old
     ///     (λ h l. result ≡ trying.try_each_done convert h l) }
-    /// ensures rest { OverListWith (list.Acts (call_on F.FnMut) f) Self.contract.steps self.old
+    /// ensures rest { OverListWith (list.Acts (call_by_value F.FnMut) f) Self.contract.steps self.old
     ///     (λ h l. (e : E) → result ≡ Err e
     ///     → list.Lists Self.contract.steps self.new (trying.rest_try_each h l)) }
     /// ensures stays { Stays Self.contract self.old self.new }
@@ -440,13 +440,13 @@ pub trait FallibleItertools: FallibleIterator + Sized {
     /// requires can_next { Self.contract.can_next self.old }
     /// requires finite { Self.contract.is_finite self.old }
     /// requires callable { fold.HoldsAtEachTurn Self.contract.steps
-    ///     (search.WentOn (call_at F.FnMut) search.find_pick) (takes_at F.FnMut) self.old f }
-    /// ensures searched { (g : F) × search.SearchDrains (call_at F.FnMut) search.find_pick
+    ///     (search.WentOn (call_by_reference F.FnMut) search.find_pick) (takes_by_reference F.FnMut) self.old f }
+    /// ensures searched { (g : F) × search.SearchDrains (call_by_reference F.FnMut) search.find_pick
     ///     (trying.Converted E.from_gives Self.contract.steps) None self.old f result self.new g }
     /// ensures value { (convert : Self.Error → E) → list.Converts E.from_gives convert
-    ///     → OverListWith (list.Acts (call_at F.FnMut) f) Self.contract.steps self.old
+    ///     → OverListWith (list.Acts (call_by_reference F.FnMut) f) Self.contract.steps self.old
     ///     (λ h l. result ≡ trying.try_found convert h l) }
-    /// ensures rest { OverListWith (list.Acts (call_at F.FnMut) f) Self.contract.steps self.old
+    /// ensures rest { OverListWith (list.Acts (call_by_reference F.FnMut) f) Self.contract.steps self.old
     ///     (λ h l. ¬ (result ≡ Ok None)
     ///     → list.Lists Self.contract.steps self.new (trying.rest_try_true h l)) }
     /// ensures stays { Stays Self.contract self.old self.new }
@@ -494,13 +494,13 @@ pub trait FallibleItertools: FallibleIterator + Sized {
     /// requires can_next { Self.contract.can_next self.old }
     /// requires fits { AtMost Self.contract self.old (2 ^ 64 - 1) }
     /// requires callable { fold.HoldsAtEachTurn Self.contract.steps
-    ///     (search.WentOn (call_on F.FnMut) search.position_pick) (takes_on F.FnMut) self.old f }
-    /// ensures searched { (g : F) × search.SearchDrains (call_on F.FnMut) search.position_pick
+    ///     (search.WentOn (call_by_value F.FnMut) search.position_pick) (takes_by_value F.FnMut) self.old f }
+    /// ensures searched { (g : F) × search.SearchDrains (call_by_value F.FnMut) search.position_pick
     ///     (trying.Converted E.from_gives Self.contract.steps) None self.old f result self.new g }
     /// ensures value { (convert : Self.Error → E) → list.Converts E.from_gives convert
-    ///     → OverListWith (list.Acts (call_on F.FnMut) f) Self.contract.steps self.old
+    ///     → OverListWith (list.Acts (call_by_value F.FnMut) f) Self.contract.steps self.old
     ///     (λ h l. result ≡ trying.try_position_in convert h l) }
-    /// ensures rest { OverListWith (list.Acts (call_on F.FnMut) f) Self.contract.steps self.old
+    /// ensures rest { OverListWith (list.Acts (call_by_value F.FnMut) f) Self.contract.steps self.old
     ///     (λ h l. ¬ (result ≡ Ok None)
     ///     → list.Lists Self.contract.steps self.new (trying.rest_try_true h l)) }
     /// ensures stays { Stays Self.contract self.old self.new }
@@ -663,13 +663,13 @@ pub trait FallibleItertools: FallibleIterator + Sized {
     /// ```text
     /// requires can_next { Self.contract.can_next self.old }
     /// requires fits { AtMost Self.contract self.old (2 ^ 64 - 1) }
-    /// requires callable { search.CallableInSearch (call_at F.FnMut) find_position_pick
-    ///     Self.contract.steps (takes_at F.FnMut) self.old f }
-    /// ensures searched { (g : F) × search.SearchDrains (call_at F.FnMut) find_position_pick
+    /// requires callable { search.CallableInSearch (call_by_reference F.FnMut) find_position_pick
+    ///     Self.contract.steps (takes_by_reference F.FnMut) self.old f }
+    /// ensures searched { (g : F) × search.SearchDrains (call_by_reference F.FnMut) find_position_pick
     ///     Self.contract.steps None self.old f result self.new g }
-    /// ensures value { OverListWith (list.Acts (call_at F.FnMut) f) Self.contract.steps self.old
+    /// ensures value { OverListWith (list.Acts (call_by_reference F.FnMut) f) Self.contract.steps self.old
     ///     (λ h l. result ≡ position_found h l) }
-    /// ensures rest { OverListWith (list.Acts (call_at F.FnMut) f) Self.contract.steps self.old
+    /// ensures rest { OverListWith (list.Acts (call_by_reference F.FnMut) f) Self.contract.steps self.old
     ///     (λ h l. ¬ (result ≡ Ok None)
     ///     → list.Lists Self.contract.steps self.new (list.rest_true h l)) }
     /// ensures stays { Stays Self.contract self.old self.new }
@@ -710,11 +710,11 @@ pub trait FallibleItertools: FallibleIterator + Sized {
     /// ```text
     /// requires can_next { Self.contract.can_next self }
     /// requires finite { Self.contract.is_finite self }
-    /// requires callable { search.CallableInSearch (call_at F.FnMut) search.find_pick
-    ///     Self.contract.steps (takes_at F.FnMut) self f }
+    /// requires callable { search.CallableInSearch (call_by_reference F.FnMut) search.find_pick
+    ///     Self.contract.steps (takes_by_reference F.FnMut) self f }
     /// ensures found { (left : Self) × (g : F)
-    ///     × FoundOrLast (call_at F.FnMut) Self.contract.steps self f result left g }
-    /// ensures value { OverListWith (list.Acts (call_at F.FnMut) f) Self.contract.steps self
+    ///     × FoundOrLast (call_by_reference F.FnMut) Self.contract.steps self f result left g }
+    /// ensures value { OverListWith (list.Acts (call_by_reference F.FnMut) f) Self.contract.steps self
     ///     (λ h l. result ≡ found_or_last h l) }
     /// ```
     /// </details>
@@ -754,11 +754,11 @@ pub trait FallibleItertools: FallibleIterator + Sized {
     /// ```text
     /// requires can_next { Self.contract.can_next self }
     /// requires finite { Self.contract.is_finite self }
-    /// requires callable { search.CallableInSearch (call_at F.FnMut) search.find_pick
-    ///     Self.contract.steps (takes_at F.FnMut) self f }
+    /// requires callable { search.CallableInSearch (call_by_reference F.FnMut) search.find_pick
+    ///     Self.contract.steps (takes_by_reference F.FnMut) self f }
     /// ensures found { (left : Self) × (g : F)
-    ///     × FoundOrFirst (call_at F.FnMut) Self.contract.steps self f result left g }
-    /// ensures value { OverListWith (list.Acts (call_at F.FnMut) f) Self.contract.steps self
+    ///     × FoundOrFirst (call_by_reference F.FnMut) Self.contract.steps self f result left g }
+    /// ensures value { OverListWith (list.Acts (call_by_reference F.FnMut) f) Self.contract.steps self
     ///     (λ h l. result ≡ found_or_first h l) }
     /// ```
     /// </details>
@@ -926,13 +926,13 @@ pub trait FallibleItertools: FallibleIterator + Sized {
     /// ```text
     /// requires can_next { Self.contract.can_next self }
     /// requires finite { Self.contract.is_finite self }
-    /// requires callable { search.CallableInSearch (OrderCall K.partial_cmp (call_on F.FnMut))
-    ///     search.all_pick Self.contract.steps (λ p x. takes_on F.FnMut p.1 x) self (None, f) }
+    /// requires callable { search.CallableInSearch (OrderCall K.partial_cmp (call_by_value F.FnMut))
+    ///     search.all_pick Self.contract.steps (λ p x. takes_by_value F.FnMut p.1 x) self (None, f) }
     /// ensures sorted { (left : Self) × (q : Option K × F)
-    ///     × search.SearchDrains (OrderCall K.partial_cmp (call_on F.FnMut)) search.all_pick
+    ///     × search.SearchDrains (OrderCall K.partial_cmp (call_by_value F.FnMut)) search.all_pick
     ///     Self.contract.steps true self (None, f) result left q }
     /// ensures value { (order : K → K → Option Ordering) → order ≡ K.partial_cmp
-    ///     → OverListWith (list.Acts (call_on F.FnMut) f) Self.contract.steps self
+    ///     → OverListWith (list.Acts (call_by_value F.FnMut) f) Self.contract.steps self
     ///     (λ h l. result ≡ in_order_by_key order h l) }
     /// ```
     /// </details>
@@ -1077,12 +1077,12 @@ pub trait FallibleItertools: FallibleIterator + Sized {
     /// As it is proved, in [these words](crate::words):
     ///
     /// ```text
-    /// requires { IsCallable (call_at P.FnMut) (takes_at P.FnMut)
+    /// requires { IsCallable (call_by_reference P.FnMut) (takes_by_reference P.FnMut)
     ///     (Self.contract.may_give self) predicate }
     /// ensures source { inclusive.inclusive_source result ≡ self }
     /// ensures predicate { inclusive.inclusive_predicate result ≡ predicate }
     /// ensures refused { inclusive.inclusive_refused result ≡ false }
-    /// ensures lists { OverListWith (list.Acts (call_at P.FnMut) predicate) Self.contract.steps
+    /// ensures lists { OverListWith (list.Acts (call_by_reference P.FnMut) predicate) Self.contract.steps
     ///     self (λ h l. list.Lists (seen_as inclusive.inclusive_parts
     ///     (inclusive.inclusive_contract Self.contract P.FnMut)).steps
     ///     result (inclusive.taken_while_inclusive h l)) }
@@ -1121,10 +1121,10 @@ pub trait FallibleItertools: FallibleIterator + Sized {
     /// As it is proved, in [these words](crate::words):
     ///
     /// ```text
-    /// requires { IsCallable (call_at F.FnMut) (takes_at F.FnMut)
+    /// requires { IsCallable (call_by_reference F.FnMut) (takes_by_reference F.FnMut)
     ///     (Self.contract.may_fail self) f }
     /// ensures parts { inspect_err_parts result ≡ (self, f) }
-    /// ensures callable { IsCallable (seen_call F.FnMut) (takes_at F.FnMut)
+    /// ensures callable { IsCallable (seen_call F.FnMut) (takes_by_reference F.FnMut)
     ///     (Self.contract.may_fail self) f }
     /// ensures lists { OverList Self.contract.steps self
     ///     (λ l. list.Lists (seen_as inspect_err_parts
@@ -1201,10 +1201,10 @@ pub trait FallibleItertools: FallibleIterator + Sized {
     /// As it is proved, in [these words](crate::words):
     ///
     /// ```text
-    /// requires { IsCallable (call_on F.FnMut) (takes_on F.FnMut)
+    /// requires { IsCallable (call_by_value F.FnMut) (takes_by_value F.FnMut)
     ///     (Self.contract.may_fail self) f }
     /// ensures parts { or_else_parts result ≡ (self, f) }
-    /// ensures lists { OverListWith (list.Acts (call_on F.FnMut) f) Self.contract.steps self
+    /// ensures lists { OverListWith (list.Acts (call_by_value F.FnMut) f) Self.contract.steps self
     ///     (λ h l. list.Lists (seen_as or_else_parts
     ///     (or_else_contract Self.contract F.FnMut)).steps result (recovered h l)) }
     /// ```
@@ -1441,7 +1441,7 @@ pub trait FallibleItertools: FallibleIterator + Sized {
     /// As it is proved, in [these words](crate::words):
     ///
     /// ```text
-    /// requires { IsCallable (call_on F.FnMut) (takes_on F.FnMut) (λ i. i < n) f }
+    /// requires { IsCallable (call_by_value F.FnMut) (takes_by_value F.FnMut) (λ i. i < n) f }
     /// ensures source { pad_using.pad_using_source result ≡ self }
     /// ensures ended { pad_using.pad_using_ended result ≡ false }
     /// ensures indices { pad_using.pad_using_indices result ≡ (0, n) }
@@ -1452,7 +1452,7 @@ pub trait FallibleItertools: FallibleIterator + Sized {
     /// ensures bounded { (a k : ℕ) → Self.contract.bound self a → a + n ≤ k
     ///     → AtMost (seen_as pad_using.pad_using_parts
     ///     (pad_using.pad_using_contract Self.contract F.FnMut)) result k }
-    /// ensures lists { OverListWith (list.Acts (call_on F.FnMut) f) Self.contract.steps self
+    /// ensures lists { OverListWith (list.Acts (call_by_value F.FnMut) f) Self.contract.steps self
     ///     (λ h l. list.Lists (seen_as pad_using.pad_using_parts
     ///     (pad_using.pad_using_contract Self.contract F.FnMut)).steps result
     ///     (pad_using.padded n h l)) }
@@ -1765,16 +1765,16 @@ pub trait FallibleItertools: FallibleIterator + Sized {
     /// ```text
     /// requires can_next { Self.contract.can_next self }
     /// requires fits { AtMost Self.contract self (2 ^ 64 - 1) }
-    /// requires callable { IsCallable (call_on F.FnMut) (takes_on F.FnMut)
+    /// requires callable { IsCallable (call_by_value F.FnMut) (takes_by_value F.FnMut)
     ///     (Self.contract.may_give self) f }
     /// ensures collects { Collects (map_contract Self.contract F.FnMut).steps
     ///     (IsCountsOf K.eq) ⊥ (λ m x. (get K.eq m x ≡ None) × (spare m ≡ 0)) (self, f) result }
-    /// ensures value { OverListWith (list.Acts (call_on F.FnMut) f) Self.contract.steps self
+    /// ensures value { OverListWith (list.Acts (call_by_value F.FnMut) f) Self.contract.steps self
     ///     (λ h l. list.CollectedAs (IsCountsOf K.eq) (list.mapped h l) result) }
-    /// ensures contents { OverListWith (list.Acts (call_on F.FnMut) f) Self.contract.steps self
+    /// ensures contents { OverListWith (list.Acts (call_by_value F.FnMut) f) Self.contract.steps self
     ///     (λ h l. IfOk result (list.MadeOf (IsCountsOf K.eq)
     ///     (list.collected (list.mapped h l)))) }
-    /// ensures failure { OverListWith (list.Acts (call_on F.FnMut) f) Self.contract.steps self
+    /// ensures failure { OverListWith (list.Acts (call_by_value F.FnMut) f) Self.contract.steps self
     ///     (λ h l. (e : Self.Error) → result ≡ Err (Source e)
     ///     → list.collected (list.mapped h l) ≡ Err e) }
     /// ```
@@ -1910,15 +1910,15 @@ pub trait FallibleItertools: FallibleIterator + Sized {
     /// ```text
     /// requires can_next { Self.contract.can_next self }
     /// requires finite { Self.contract.is_finite self }
-    /// requires callable { IsCallable (call_at F.FnMut) (takes_at F.FnMut)
+    /// requires callable { IsCallable (call_by_reference F.FnMut) (takes_by_reference F.FnMut)
     ///     (Self.contract.may_give self) f }
     /// ensures collects { Collects (keyed_contract Self.contract F.FnMut).steps
     ///     (IsGroupMapOf K.eq) ⊥ (GroupRefuses K.eq) (self, f) result }
-    /// ensures value { OverListWith (list.Acts (call_at F.FnMut) f) Self.contract.steps self
+    /// ensures value { OverListWith (list.Acts (call_by_reference F.FnMut) f) Self.contract.steps self
     ///     (λ h l. list.CollectedAs (IsGroupMapOf K.eq) (keyed h l) result) }
-    /// ensures contents { OverListWith (list.Acts (call_at F.FnMut) f) Self.contract.steps self
+    /// ensures contents { OverListWith (list.Acts (call_by_reference F.FnMut) f) Self.contract.steps self
     ///     (λ h l. IfOk result (list.MadeOf (IsGroupMapOf K.eq) (list.collected (keyed h l)))) }
-    /// ensures failure { OverListWith (list.Acts (call_at F.FnMut) f) Self.contract.steps self
+    /// ensures failure { OverListWith (list.Acts (call_by_reference F.FnMut) f) Self.contract.steps self
     ///     (λ h l. (e : Self.Error) → result ≡ Err (Source e)
     ///     → list.collected (keyed h l) ≡ Err e) }
     /// ```
@@ -1963,17 +1963,17 @@ pub trait FallibleItertools: FallibleIterator + Sized {
     /// ```text
     /// requires can_next { Self.contract.can_next self }
     /// requires finite { Self.contract.is_finite self }
-    /// requires callable { IsCallable (call_on F.FnMut) (takes_on F.FnMut)
+    /// requires callable { IsCallable (call_by_value F.FnMut) (takes_by_value F.FnMut)
     ///     (Self.contract.may_give self) f }
     /// ensures collects { Collects (map_contract Self.contract F.FnMut).steps
     ///     (MadeOfEithers L.made R.made) (L.empty_refuses ⊎ R.empty_refuses)
     ///     (EitherRefused L.push_refuses R.push_refuses) (self, f) result }
-    /// ensures value { OverListWith (list.Acts (call_on F.FnMut) f) Self.contract.steps self
+    /// ensures value { OverListWith (list.Acts (call_by_value F.FnMut) f) Self.contract.steps self
     ///     (λ h l. list.CollectedAs (MadeOfEithers L.made R.made) (list.mapped h l) result) }
-    /// ensures contents { OverListWith (list.Acts (call_on F.FnMut) f) Self.contract.steps self
+    /// ensures contents { OverListWith (list.Acts (call_by_value F.FnMut) f) Self.contract.steps self
     ///     (λ h l. IfOk result (list.MadeOf (MadeOfEithers L.made R.made)
     ///     (list.collected (list.mapped h l)))) }
-    /// ensures failure { OverListWith (list.Acts (call_on F.FnMut) f) Self.contract.steps self
+    /// ensures failure { OverListWith (list.Acts (call_by_value F.FnMut) f) Self.contract.steps self
     ///     (λ h l. (e : Self.Error) → result ≡ Err (Source e)
     ///     → list.collected (list.mapped h l) ≡ Err e) }
     /// ```
@@ -2377,12 +2377,12 @@ pub trait FallibleItertools: FallibleIterator + Sized {
     /// As it is proved, in [these words](crate::words):
     ///
     /// ```text
-    /// requires callable { IsCallable (call_at F.FnMut) (takes_at F.FnMut)
+    /// requires callable { IsCallable (call_by_reference F.FnMut) (takes_by_reference F.FnMut)
     ///     (Self.contract.may_give self) key }
     /// ensures parts { chunk_by_parts result ≡ (self, ((key, None), None)) }
     /// ensures lists { (h : Self.Item → Result K Self.Error)
     ///     → (l : List (Result Self.Item Self.Error))
-    ///     → list.Acts (call_at F.FnMut) key h
+    ///     → list.Acts (call_by_reference F.FnMut) key h
     ///     → list.Lists Self.contract.steps self l
     ///     → ListsMade MadeGroup (seen_as chunk_by_parts
     ///     (chunk_by_contract Self.Error.from_gives K.eq F.FnMut Self.contract)).steps
@@ -2525,7 +2525,7 @@ pub trait FallibleItertools: FallibleIterator + Sized {
     /// ensures parts { positions_parts result ≡ (positions_source result, f) }
     /// ensures numbers { enumerate_parts (positions_source result) ≡ (self, 0) }
     /// ensures numberable { Self.contract.can_next self → IsNumberable Self.contract self 0 }
-    /// ensures lists { OverListWith (list.Acts (call_on F.FnMut) f) Self.contract.steps self
+    /// ensures lists { OverListWith (list.Acts (call_by_value F.FnMut) f) Self.contract.steps self
     ///     (λ h l. list.Lists (seen_as positions_parts (positions_contract
     ///     (seen_as enumerate_parts (enumerate_contract Self.contract)) F.FnMut)).steps result
     ///     (positions_where h l)) }

@@ -10,7 +10,7 @@ use core::ops::ControlFlow;
 /// As it is proved, in [these words](crate::words):
 ///
 /// ```text
-/// ensures { result ≡ answer_by none answer }
+/// ensures { result ≡ search_answer none answer }
 /// ```
 /// </details>
 pub fn answer_or<R, E>(answer: Result<Option<Result<R, E>>, E>, none: R) -> Result<R, E> {
@@ -28,7 +28,7 @@ pub fn answer_or<R, E>(answer: Result<Option<Result<R, E>>, E>, none: R) -> Resu
 /// As it is proved, in [these words](crate::words):
 ///
 /// ```text
-/// ensures { result ≡ answer_by None answer }
+/// ensures { result ≡ search_answer None answer }
 /// ```
 /// </details>
 pub fn answer_or_none<R, E>(
@@ -48,7 +48,7 @@ pub fn answer_or_none<R, E>(
 /// As it is proved, in [these words](crate::words):
 ///
 /// ```text
-/// ensures { result ≡ found_by answer }
+/// ensures { result ≡ find_answer answer }
 /// ```
 /// </details>
 pub fn found<A, E>(answer: Result<Option<Result<A, E>>, E>) -> Result<Option<A>, E> {

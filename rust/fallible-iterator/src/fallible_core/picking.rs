@@ -43,10 +43,10 @@ where
 /// ```text
 /// requires can_next { I.contract.can_next it }
 /// requires finite { I.contract.is_finite it }
-/// requires callable { CallableInFold I.contract.steps (KeyCall keeps K.cmp (call_at F.FnMut))
-///     (λ g b x. takes_at F.FnMut g x) it f None }
+/// requires callable { CallableInFold I.contract.steps (KeyCall keeps K.cmp (call_by_reference F.FnMut))
+///     (λ g b x. takes_by_reference F.FnMut g x) it f None }
 /// ensures { (left : I)
-///     × FoldDrains I.contract.steps (KeyCall keeps K.cmp (call_at F.FnMut)) (λ e d. d ≡ e)
+///     × FoldDrains I.contract.steps (KeyCall keeps K.cmp (call_by_reference F.FnMut)) (λ e d. d ≡ e)
 ///     it None f result left }
 /// ```
 /// </details>

@@ -481,9 +481,9 @@ pub trait FallibleIterator {
     /// As it is proved, in [these words](crate::words):
     ///
     /// ```text
-    /// requires { IsCallable (call_on F.FnMut) (takes_on F.FnMut) (contract.may_give self) f }
+    /// requires { IsCallable (call_by_value F.FnMut) (takes_by_value F.FnMut) (contract.may_give self) f }
     /// ensures parts { map_parts result ≡ (self, f) }
-    /// ensures lists { OverListWith (list.Acts (call_on F.FnMut) f) contract.steps self
+    /// ensures lists { OverListWith (list.Acts (call_by_value F.FnMut) f) contract.steps self
     ///     (λ h l. list.Lists (seen_as map_parts (map_contract contract F.FnMut)).steps
     ///     result (mapped h l)) }
     /// ```
@@ -516,10 +516,10 @@ pub trait FallibleIterator {
     ///
     /// ```text
     /// requires finite { contract.is_finite self }
-    /// requires callable { IsCallable (call_at F.FnMut) (takes_at F.FnMut)
+    /// requires callable { IsCallable (call_by_reference F.FnMut) (takes_by_reference F.FnMut)
     ///     (contract.may_give self) f }
     /// ensures parts { filter_parts result ≡ (self, f) }
-    /// ensures lists { OverListWith (list.Acts (call_at F.FnMut) f) contract.steps self
+    /// ensures lists { OverListWith (list.Acts (call_by_reference F.FnMut) f) contract.steps self
     ///     (λ h l. list.Lists (seen_as filter_parts (filter_contract contract F.FnMut)).steps
     ///     result (filtered h l)) }
     /// ```
@@ -585,12 +585,12 @@ pub trait FallibleIterator {
     /// As it is proved, in [these words](crate::words):
     ///
     /// ```text
-    /// requires { IsCallable (call_at P.FnMut)
-    ///     (takes_at P.FnMut) (contract.may_give self) predicate }
+    /// requires { IsCallable (call_by_reference P.FnMut)
+    ///     (takes_by_reference P.FnMut) (contract.may_give self) predicate }
     /// ensures source { take_while.take_while_source result ≡ self }
     /// ensures predicate { take_while.take_while_predicate result ≡ predicate }
     /// ensures refused { take_while.take_while_refused result ≡ false }
-    /// ensures lists { OverListWith (list.Acts (call_at P.FnMut) predicate) contract.steps self
+    /// ensures lists { OverListWith (list.Acts (call_by_reference P.FnMut) predicate) contract.steps self
     ///     (λ h l. list.Lists (seen_as take_while.take_while_parts
     ///     (take_while.take_while_contract contract P.FnMut)).steps
     ///     result (take_while.taken_while h l)) }
@@ -738,10 +738,10 @@ pub trait FallibleIterator {
     ///
     /// ```text
     /// requires finite { contract.is_finite self }
-    /// requires callable { IsCallable (call_on F.FnMut) (takes_on F.FnMut)
+    /// requires callable { IsCallable (call_by_value F.FnMut) (takes_by_value F.FnMut)
     ///     (contract.may_give self) f }
     /// ensures parts { filter_map_parts result ≡ (self, f) }
-    /// ensures lists { OverListWith (list.Acts (call_on F.FnMut) f) contract.steps self
+    /// ensures lists { OverListWith (list.Acts (call_by_value F.FnMut) f) contract.steps self
     ///     (λ h l. list.Lists (seen_as filter_map_parts
     ///     (filter_map_contract contract F.FnMut)).steps result (filter_mapped h l)) }
     /// ```
@@ -776,9 +776,9 @@ pub trait FallibleIterator {
     /// As it is proved, in [these words](crate::words):
     ///
     /// ```text
-    /// requires { IsCallable (call_at F.FnMut) (takes_at F.FnMut) (contract.may_give self) f }
+    /// requires { IsCallable (call_by_reference F.FnMut) (takes_by_reference F.FnMut) (contract.may_give self) f }
     /// ensures parts { inspect_parts result ≡ (self, f) }
-    /// ensures lists { OverListWith (list.Acts (call_at F.FnMut) f) contract.steps self
+    /// ensures lists { OverListWith (list.Acts (call_by_reference F.FnMut) f) contract.steps self
     ///     (λ h l. list.Lists (seen_as inspect_parts (inspect_contract contract F.FnMut)).steps
     ///     result (inspected h l)) }
     /// ```
@@ -808,9 +808,9 @@ pub trait FallibleIterator {
     /// As it is proved, in [these words](crate::words):
     ///
     /// ```text
-    /// requires { IsCallable (call_on F.FnMut) (takes_on F.FnMut) (contract.may_fail self) f }
+    /// requires { IsCallable (call_by_value F.FnMut) (takes_by_value F.FnMut) (contract.may_fail self) f }
     /// ensures parts { map_err_parts result ≡ (self, f) }
-    /// ensures lists { OverListWith (list.Acts (call_on F.FnMut) f) contract.steps self
+    /// ensures lists { OverListWith (list.Acts (call_by_value F.FnMut) f) contract.steps self
     ///     (λ h l. list.Lists (seen_as map_err_parts (map_err_contract contract F.FnMut)).steps
     ///     result (failures_mapped h l)) }
     /// ```
@@ -879,12 +879,12 @@ pub trait FallibleIterator {
     ///
     /// ```text
     /// requires finite { contract.is_finite self }
-    /// requires callable { IsCallable (skip_while.skip_call (call_at P.FnMut))
-    ///     (skip_while.skip_takes (takes_at P.FnMut)) (contract.may_give self) (false, predicate) }
+    /// requires callable { IsCallable (skip_while.skip_call (call_by_reference P.FnMut))
+    ///     (skip_while.skip_takes (takes_by_reference P.FnMut)) (contract.may_give self) (false, predicate) }
     /// ensures source { skip_while.skip_while_source result ≡ self }
     /// ensures found { skip_while.skip_while_found result ≡ false }
     /// ensures predicate { skip_while.skip_while_predicate result ≡ predicate }
-    /// ensures lists { OverListWith (list.Acts (call_at P.FnMut) predicate) contract.steps self
+    /// ensures lists { OverListWith (list.Acts (call_by_reference P.FnMut) predicate) contract.steps self
     ///     (λ h l. list.Lists (seen_as skip_while.skip_while_parts
     ///     (skip_while.skip_while_contract contract P.FnMut)).steps
     ///     result (skip_while.skipped_while h l)) }
@@ -918,9 +918,9 @@ pub trait FallibleIterator {
     /// As it is proved, in [these words](crate::words):
     ///
     /// ```text
-    /// requires { IsCallable (call_on F.FnMut) (takes_on F.FnMut) (contract.may_give self) f }
+    /// requires { IsCallable (call_by_value F.FnMut) (takes_by_value F.FnMut) (contract.may_give self) f }
     /// ensures parts { map_while_parts result ≡ (self, f) }
-    /// ensures lists { OverListWith (list.Acts (call_on F.FnMut) f) contract.steps self
+    /// ensures lists { OverListWith (list.Acts (call_by_value F.FnMut) f) contract.steps self
     ///     (λ h l. list.Lists (seen_as map_while_parts (map_while_contract contract F.FnMut)).steps
     ///     result (mapped_while h l)) }
     /// ```
@@ -1193,14 +1193,14 @@ pub trait FallibleIterator {
     ///
     /// ```text
     /// requires finite { contract.is_finite self }
-    /// requires callable { IsCallable (call_on F.FnMut) (takes_on F.FnMut)
+    /// requires callable { IsCallable (call_by_value F.FnMut) (takes_by_value F.FnMut)
     ///     (contract.may_give self) f }
     /// ensures source { flat_map.flat_map_source result ≡ self }
     /// ensures closure { flat_map.flat_map_closure result ≡ f }
     /// ensures inner { flat_map.flat_map_inner result ≡ None }
     /// ensures lists { (inner : U → List (Result U.Item Self.Error))
     ///     → flatten.EachLists U.into_gives U.IntoFallibleIter.contract.steps inner
-    ///     → OverListWith (list.Acts (call_on F.FnMut) f) contract.steps self
+    ///     → OverListWith (list.Acts (call_by_value F.FnMut) f) contract.steps self
     ///     (λ h l. list.Lists (seen_as flat_map.flat_map_parts
     ///     (flat_map.flat_map_contract contract F.FnMut
     ///     U.into_gives U.IntoFallibleIter.contract)).steps
@@ -1285,15 +1285,15 @@ pub trait FallibleIterator {
     /// ```text
     /// requires can_next { contract.can_next self }
     /// requires finite { contract.is_finite self }
-    /// requires callable { fold.HoldsAtEachTurn contract.steps (collecting.Asks (call_at F.FnMut))
-    ///     (takes_at F.FnMut) self f }
-    /// ensures partitions { collecting.Partitions contract.steps (call_at F.FnMut) B.made
+    /// requires callable { fold.HoldsAtEachTurn contract.steps (collecting.Asks (call_by_reference F.FnMut))
+    ///     (takes_by_reference F.FnMut) self f }
+    /// ensures partitions { collecting.Partitions contract.steps (call_by_reference F.FnMut) B.made
     ///     B.empty_refuses B.push_refuses self f result }
-    /// ensures value { OverListWith (list.Acts (call_at F.FnMut) f) contract.steps self
+    /// ensures value { OverListWith (list.Acts (call_by_reference F.FnMut) f) contract.steps self
     ///     (λ h l. list.PartitionedAs B.made h l result) }
-    /// ensures contents { OverListWith (list.Acts (call_at F.FnMut) f) contract.steps self
+    /// ensures contents { OverListWith (list.Acts (call_by_reference F.FnMut) f) contract.steps self
     ///     (λ h l. IfOk result (list.MadeOf (list.MadeOfSides B.made) (list.partitioned h l))) }
-    /// ensures failure { OverListWith (list.Acts (call_at F.FnMut) f) contract.steps self
+    /// ensures failure { OverListWith (list.Acts (call_by_reference F.FnMut) f) contract.steps self
     ///     (λ h l. (e : Self.Error) → result ≡ Err (Source e) → list.partitioned h l ≡ Err e) }
     /// ```
     /// </details>
@@ -1387,12 +1387,12 @@ pub trait FallibleIterator {
     /// ```text
     /// requires can_next { contract.can_next self }
     /// requires finite { contract.is_finite self }
-    /// requires callable { search.CallableInSearch (call_on F.FnMut) search.each_pick
-    ///     contract.steps (takes_on F.FnMut) self f }
+    /// requires callable { search.CallableInSearch (call_by_value F.FnMut) search.for_each_pick
+    ///     contract.steps (takes_by_value F.FnMut) self f }
     /// ensures searched { (left : Self) × (g : F)
-    ///     × search.SearchDrains (call_on F.FnMut) search.each_pick contract.steps tt self f result
+    ///     × search.SearchDrains (call_by_value F.FnMut) search.for_each_pick contract.steps tt self f result
     ///     left g }
-    /// ensures value { OverListWith (list.Acts (call_on F.FnMut) f) contract.steps self
+    /// ensures value { OverListWith (list.Acts (call_by_value F.FnMut) f) contract.steps self
     ///     (λ h l. result ≡ list.each_done h l) }
     /// ```
     /// </details>
@@ -1426,13 +1426,13 @@ pub trait FallibleIterator {
     /// ```text
     /// requires can_next { contract.can_next self.old }
     /// requires finite { contract.is_finite self.old }
-    /// requires callable { search.CallableInSearch (call_on F.FnMut) search.all_pick contract.steps
-    ///     (takes_on F.FnMut) self.old f }
-    /// ensures searched { (g : F) × search.SearchDrains (call_on F.FnMut) search.all_pick
+    /// requires callable { search.CallableInSearch (call_by_value F.FnMut) search.all_pick contract.steps
+    ///     (takes_by_value F.FnMut) self.old f }
+    /// ensures searched { (g : F) × search.SearchDrains (call_by_value F.FnMut) search.all_pick
     ///     contract.steps true self.old f result self.new g }
-    /// ensures value { OverListWith (list.Acts (call_on F.FnMut) f) contract.steps self.old
+    /// ensures value { OverListWith (list.Acts (call_by_value F.FnMut) f) contract.steps self.old
     ///     (λ h l. result ≡ list.all_of h l) }
-    /// ensures rest { OverListWith (list.Acts (call_on F.FnMut) f) contract.steps self.old
+    /// ensures rest { OverListWith (list.Acts (call_by_value F.FnMut) f) contract.steps self.old
     ///     (λ h l. ¬ (result ≡ Ok true)
     ///     → list.Lists contract.steps self.new (list.rest_false h l)) }
     /// ensures stays { Stays contract self.old self.new }
@@ -1466,13 +1466,13 @@ pub trait FallibleIterator {
     /// ```text
     /// requires can_next { contract.can_next self.old }
     /// requires finite { contract.is_finite self.old }
-    /// requires callable { search.CallableInSearch (call_on F.FnMut) search.any_pick contract.steps
-    ///     (takes_on F.FnMut) self.old f }
-    /// ensures searched { (g : F) × search.SearchDrains (call_on F.FnMut) search.any_pick
+    /// requires callable { search.CallableInSearch (call_by_value F.FnMut) search.any_pick contract.steps
+    ///     (takes_by_value F.FnMut) self.old f }
+    /// ensures searched { (g : F) × search.SearchDrains (call_by_value F.FnMut) search.any_pick
     ///     contract.steps false self.old f result self.new g }
-    /// ensures value { OverListWith (list.Acts (call_on F.FnMut) f) contract.steps self.old
+    /// ensures value { OverListWith (list.Acts (call_by_value F.FnMut) f) contract.steps self.old
     ///     (λ h l. result ≡ list.any_of h l) }
-    /// ensures rest { OverListWith (list.Acts (call_on F.FnMut) f) contract.steps self.old
+    /// ensures rest { OverListWith (list.Acts (call_by_value F.FnMut) f) contract.steps self.old
     ///     (λ h l. ¬ (result ≡ Ok false)
     ///     → list.Lists contract.steps self.new (list.rest_true h l)) }
     /// ensures stays { Stays contract self.old self.new }
@@ -1506,13 +1506,13 @@ pub trait FallibleIterator {
     /// ```text
     /// requires can_next { contract.can_next self.old }
     /// requires finite { contract.is_finite self.old }
-    /// requires callable { search.CallableInSearch (call_at F.FnMut) search.find_pick
-    ///     contract.steps (takes_at F.FnMut) self.old f }
-    /// ensures searched { (g : F) × search.SearchDrains (call_at F.FnMut) search.find_pick
+    /// requires callable { search.CallableInSearch (call_by_reference F.FnMut) search.find_pick
+    ///     contract.steps (takes_by_reference F.FnMut) self.old f }
+    /// ensures searched { (g : F) × search.SearchDrains (call_by_reference F.FnMut) search.find_pick
     ///     contract.steps None self.old f result self.new g }
-    /// ensures value { OverListWith (list.Acts (call_at F.FnMut) f) contract.steps self.old
+    /// ensures value { OverListWith (list.Acts (call_by_reference F.FnMut) f) contract.steps self.old
     ///     (λ h l. result ≡ list.found h l) }
-    /// ensures rest { OverListWith (list.Acts (call_at F.FnMut) f) contract.steps self.old
+    /// ensures rest { OverListWith (list.Acts (call_by_reference F.FnMut) f) contract.steps self.old
     ///     (λ h l. ¬ (result ≡ Ok None)
     ///     → list.Lists contract.steps self.new (list.rest_true h l)) }
     /// ensures stays { Stays contract self.old self.new }
@@ -1546,13 +1546,13 @@ pub trait FallibleIterator {
     /// ```text
     /// requires can_next { contract.can_next self.old }
     /// requires finite { contract.is_finite self.old }
-    /// requires callable { search.CallableInSearch (call_on F.FnMut) search.find_map_pick
-    ///     contract.steps (takes_on F.FnMut) self.old f }
-    /// ensures searched { (g : F) × search.SearchDrains (call_on F.FnMut) search.find_map_pick
+    /// requires callable { search.CallableInSearch (call_by_value F.FnMut) search.find_map_pick
+    ///     contract.steps (takes_by_value F.FnMut) self.old f }
+    /// ensures searched { (g : F) × search.SearchDrains (call_by_value F.FnMut) search.find_map_pick
     ///     contract.steps None self.old f result self.new g }
-    /// ensures value { OverListWith (list.Acts (call_on F.FnMut) f) contract.steps self.old
+    /// ensures value { OverListWith (list.Acts (call_by_value F.FnMut) f) contract.steps self.old
     ///     (λ h l. result ≡ list.find_mapped h l) }
-    /// ensures rest { OverListWith (list.Acts (call_on F.FnMut) f) contract.steps self.old
+    /// ensures rest { OverListWith (list.Acts (call_by_value F.FnMut) f) contract.steps self.old
     ///     (λ h l. ¬ (result ≡ Ok None)
     ///     → list.Lists contract.steps self.new (list.rest_value h l)) }
     /// ensures stays { Stays contract self.old self.new }
@@ -1588,13 +1588,13 @@ pub trait FallibleIterator {
     /// ```text
     /// requires can_next { contract.can_next self.old }
     /// requires fits { AtMost contract self.old (2 ^ 64 - 1) }
-    /// requires callable { search.CallableInSearch (call_on F.FnMut) search.position_pick
-    ///     contract.steps (takes_on F.FnMut) self.old f }
-    /// ensures searched { (g : F) × search.SearchDrains (call_on F.FnMut) search.position_pick
+    /// requires callable { search.CallableInSearch (call_by_value F.FnMut) search.position_pick
+    ///     contract.steps (takes_by_value F.FnMut) self.old f }
+    /// ensures searched { (g : F) × search.SearchDrains (call_by_value F.FnMut) search.position_pick
     ///     contract.steps None self.old f result self.new g }
-    /// ensures value { OverListWith (list.Acts (call_on F.FnMut) f) contract.steps self.old
+    /// ensures value { OverListWith (list.Acts (call_by_value F.FnMut) f) contract.steps self.old
     ///     (λ h l. result ≡ list.position_in h l) }
-    /// ensures rest { OverListWith (list.Acts (call_on F.FnMut) f) contract.steps self.old
+    /// ensures rest { OverListWith (list.Acts (call_by_value F.FnMut) f) contract.steps self.old
     ///     (λ h l. ¬ (result ≡ Ok None)
     ///     → list.Lists contract.steps self.new (list.rest_true h l)) }
     /// ensures stays { Stays contract self.old self.new }
@@ -1694,11 +1694,11 @@ pub trait FallibleIterator {
     /// requires can_next { contract.can_next self }
     /// requires finite { contract.is_finite self }
     /// requires callable { fold.CallableInFold contract.steps
-    ///     (pick.KeyCall Greater B.cmp (call_at F.FnMut))
-    ///     (λ g best x. takes_at F.FnMut g x) self f None }
-    /// ensures best { pick.BestByKeyDrains Greater B.cmp (call_at F.FnMut) contract.steps self f
+    ///     (pick.KeyCall Greater B.cmp (call_by_reference F.FnMut))
+    ///     (λ g best x. takes_by_reference F.FnMut g x) self f None }
+    /// ensures best { pick.BestByKeyDrains Greater B.cmp (call_by_reference F.FnMut) contract.steps self f
     ///     result }
-    /// ensures value { OverListWith (list.Acts (call_at F.FnMut) f) contract.steps self
+    /// ensures value { OverListWith (list.Acts (call_by_reference F.FnMut) f) contract.steps self
     ///     (λ h l. result ≡ list.best_by_key Greater B.cmp h l) }
     /// ```
     /// </details>
@@ -1729,11 +1729,11 @@ pub trait FallibleIterator {
     /// requires can_next { contract.can_next self }
     /// requires finite { contract.is_finite self }
     /// requires callable { fold.CallableInFold contract.steps
-    ///     (pick.KeyCall Less B.cmp (call_at F.FnMut))
-    ///     (λ g best x. takes_at F.FnMut g x) self f None }
-    /// ensures best { pick.BestByKeyDrains Less B.cmp (call_at F.FnMut) contract.steps self f
+    ///     (pick.KeyCall Less B.cmp (call_by_reference F.FnMut))
+    ///     (λ g best x. takes_by_reference F.FnMut g x) self f None }
+    /// ensures best { pick.BestByKeyDrains Less B.cmp (call_by_reference F.FnMut) contract.steps self f
     ///     result }
-    /// ensures value { OverListWith (list.Acts (call_at F.FnMut) f) contract.steps self
+    /// ensures value { OverListWith (list.Acts (call_by_reference F.FnMut) f) contract.steps self
     ///     (λ h l. result ≡ list.best_by_key Less B.cmp h l) }
     /// ```
     /// </details>
