@@ -1,5 +1,5 @@
 -- Where items stand.
-use Rattle.std.specs.Prelude.{Bool, true, false}
+use Rattle.std.specs.Prelude.{ℕ, Bool, true, false, nat_lt, ◌&&◌}
 use Rattle.fallible_itertools.specs.declared.with_position.Position.{Position}
 use Rattle.fallible_itertools.specs.declared.with_position.Position.TheVariants.{First, Middle, Last, Only}
 
@@ -9,3 +9,7 @@ comes_before_another First = true
 comes_before_another Middle = true
 comes_before_another Last = false
 comes_before_another Only = false
+
+-- whether the middle of three items, which are given as two pairs that share it, is above both others
+abbrev pub is_above_both : (ℕ × ℕ) × (ℕ × ℕ) → Bool
+is_above_both w = nat_lt w.0.0 w.0.1 && nat_lt w.1.1 w.0.1

@@ -1,5 +1,6 @@
 //! Callers of the adapters that buffer: each states what it computes, and the contracts of the calls prove it.
 ghost use Rattle.std.specs.Prelude.{◌≡◌, ℕ, ◌+◌, ◌-◌, ◌%◌, ◌/◌, ◌^◌, List, Option, Result, Some, Ok, Err, if◌then◌else◌, nat_eq, nat_lt};
+ghost use Rattle.fallible_iterator.specs.Contract.{AtMost};
 ghost use Rattle.fallible_iterator.specs.Lists.{Lists, counted, filtered, folded, nth_of, rest_first, results, taken};
 ghost use Rattle.fallible_itertools.specs.Coalesce.{coalesced};
 ghost use Rattle.fallible_itertools.specs.Dedup.{deduped};
@@ -8,10 +9,11 @@ ghost use Rattle.fallible_itertools.specs.DedupByKey.{deduped_by_key};
 ghost use Rattle.fallible_itertools.specs.TupleWindows.{windowed};
 ghost use Rattle.fallible_itertools.specs.Tuples.{tupled};
 ghost use Rattle.fallible_itertools.specs.WithPosition.{positioned};
-ghost use Rattle.example_itertools.specs.Places.{comes_before_another};
+ghost use Rattle.example_itertools.specs.Places.{comes_before_another, is_above_both};
 
 use fallible_iterator::{FallibleIterator, convert};
 use fallible_itertools::{FallibleItertools, Position};
+use std::alloc::AllocError;
 
 /// How many readings differ from the one before them, the first one counted, or the first failure.
 pub fn changes(readings: Vec<Result<u32, u8>>) -> Result<usize, u8>
@@ -107,6 +109,21 @@ pub fn commas(readings: Vec<Result<u32, u8>>) -> Result<usize, u8>
     convert(readings.into_iter())
         .with_position()
         .filter(|placed| Ok(has_comma(placed.0)))
+        .count()
+}
+
+/// How many items are above the one before and the one after, or the first failure. Two windows of two are a window of three.
+pub fn local_maxima<I: FallibleIterator<Item = u32>>(it: I) -> Result<usize, I::Error>
+where
+    I::Error: From<AllocError>,
+    requires can_next { I.contract.can_next it }
+    requires fits { AtMost I.contract it (2 ^ 64 - 1) }
+    ensures { (l : List (Result ℕ I.Error)) → Lists I.contract.steps it l
+        → result ≡ counted (filtered (λ w. Ok (is_above_both w)) (windowed (windowed l))) }
+{
+    it.tuple_windows()
+        .tuple_windows()
+        .filter(|((before, here), (_, after))| Ok(before < here && after < here))
         .count()
 }
 

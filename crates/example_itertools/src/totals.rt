@@ -1,5 +1,5 @@
 //! Sums and products that may overflow.
-ghost use Rattle.std.specs.Prelude.{◌≡◌, ◌^◌, ℤ, pos, List, Result, Ok, nat_lt};
+ghost use Rattle.std.specs.Prelude.{◌≡◌, ℕ, ◌^◌, ℤ, pos, List, Result, Ok, Err, Some, None, nat_lt};
 ghost use Rattle.fallible_iterator.specs.Lists.{Lists, filtered, results, taken};
 ghost use Rattle.fallible_itertools.specs.CheckedSum.{product_within, sum_below, totalled};
 
@@ -24,4 +24,17 @@ where
         → result ≡ totalled (product_within (2 ^ 63)) (pos 1) (taken 3 l) }
 {
     it.take(3).checked_product()
+}
+
+/// The sum of the readings, or the first failure; a sum of 2 ^ 32 or more is the failure `too_large`.
+pub fn sum_within(readings: Vec<Result<u32, u8>>, too_large: u8) -> Result<u32, u8>
+    ensures sum { (n : ℕ) → totalled (sum_below (2 ^ 32)) 0 (results readings.items) ≡ Ok (Some n)
+        → result ≡ Ok n }
+    ensures too_large { totalled (sum_below (2 ^ 32)) 0 (results readings.items) ≡ Ok None
+        → result ≡ Err too_large }
+    ensures failed { (e : ℕ) → totalled (sum_below (2 ^ 32)) 0 (results readings.items) ≡ Err e
+        → result ≡ Err e }
+{
+    let sum: Option<u32> = convert(readings.into_iter()).checked_sum()?;
+    sum.ok_or(too_large)
 }
