@@ -5,11 +5,8 @@ use Rattle.std.proofs.lemmas.Bool.{eqb-true, eq-eqb, both_ways}
 use Rattle.std.proofs.KnownBytes.{Appends-nil}
 use Rattle.std.specs.Io.KnownBytes.{Appends}
 use Rattle.program_io.specs.Reading.{ReadsAll}
-use Rattle.fallible_iterator.specs.Lists.{collected}
-use Rattle.fallible_elf.specs.Headers.{table_of}
-use Rattle.fallible_elf.specs.Reading.{HasHeaderFault}
+use Rattle.fallible_elf.proofs.HeaderFaults.{report_of_header_fault}
 use Rattle.fallible_elf.specs.Report.{named_sections, report_with, report_of, HasSections, Reports, ReadsFaulty}
-use Rattle.fallible_elf.specs.Sections.{headers_of, headers_of_table}
 use Rattle.fallible_elf.specs.Text.{text_where}
 use Rattle.fallible_elf.specs.declared.fault.ElfFault.{ElfFault}
 use Rattle.fallible_elf.specs.declared.section.Section.{Section}
@@ -23,22 +20,7 @@ nothing (x ∷ xs) n b long e t = let none : n ≡ 0 = eqb-true n 0 (sym e ∙ t
 pub something : (text : List ℕ) (n : ℕ) (b : Bool) → length text ≡ n → b ≡ eqb n 0 → b ≡ false → text ≡ [] → ⊥
 something text n b long e f none = both_ways b f (e ∙ eq-eqb n 0 (sym long ∙ ap length none))
 
--- ---- a header with a fault has no report
-
-module _ (bytes : List ℕ) (f : ElfFault) (has : HasHeaderFault f bytes) where
-  table_faulty : table_of bytes ≡ Err f
-  table_faulty = rw has refl
-
-  headers_faulty : headers_of bytes ≡ Err f ∷ []
-  unfolding headers_of
-  headers_faulty = ap (headers_of_table bytes) table_faulty
-
-  collected_faulty : collected (headers_of bytes) ≡ Err f
-  unfolding collected
-  collected_faulty = rw headers_faulty refl
-
-  no_report : report_of bytes ≡ []
-  no_report = rw collected_faulty refl
+-- ---- a report in memory
 
 -- a report that is written has sections
 sections_where : (bytes : List ℕ) (r : Result (List Section) ElfFault) → (text_where (report_with bytes) r ≡ [] → ⊥) → (sections : List Section) × (r ≡ Ok sections)
@@ -72,7 +54,7 @@ module _ (unread unread' : Option (List ℕ)) (f : ElfFault) {start : List ℕ} 
   faulty_sections some read = elim read [
     | inl all ↦ (all.0, all.1, all.2, sections_where all.0 (named_sections all.0) (λ empty. some (report_is all.0 all.3.1 ∙ empty)))
     | inr head ↦ absurd (elim head.3 [
-      | inl whole ↦ some (report_is head.0 whole.1.1 ∙ no_report head.0 f whole.1.0)
-      | inr begun ↦ some (report_is (head.0 ++ []) (begun []).1 ∙ no_report (head.0 ++ []) f (begun []).0)
+      | inl whole ↦ some (report_is head.0 whole.1.1 ∙ report_of_header_fault head.0 f whole.1.0)
+      | inr begun ↦ some (report_is (head.0 ++ []) (begun []).1 ∙ report_of_header_fault (head.0 ++ []) f (begun []).0)
     ])
   ]

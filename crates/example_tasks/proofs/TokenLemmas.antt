@@ -67,8 +67,8 @@ pub takes_shown_sign : (text rest : List ℕ) (byte : ℕ) (r : Answered Token T
 unfolding tokens_behind
 takes_shown_sign text rest byte r e sign is = takes_shown_first text rest (sign_token byte) r (ap tokens_of e ∙ rw sign refl) is
 
-pub takes_shown_number : (text rest : List ℕ) (byte end : ℕ) (r : Answered Token TextFault) → text ≡ byte ∷ rest → is_ascii_digit byte ≡ true → ReadsDigits text end → (end < length text → is_ascii_digit (get_or text end 0) ≡ false) → r ≡ result_answer (number_token (take end text)) → TakesShown (tokens_of text) r (tokens_of (drop end text))
-takes_shown_number text rest byte end r e digit h stops is = takes_shown_first text (drop end text) (number_token (take end text)) r (tokens_of_read_digits text end h stops ∙ with_number_is_token (take end text) _ (length_of_digits_positive text rest byte end e digit stops)) is
+pub takes_shown_number : {text : List ℕ} (rest : List ℕ) (byte end : ℕ) {r : Answered Token TextFault} → text ≡ byte ∷ rest → is_ascii_digit byte ≡ true → ReadsDigits text end → (end < length text → is_ascii_digit (get_or text end 0) ≡ false) → r ≡ result_answer (number_token (take end text)) → TakesShown (tokens_of text) r (tokens_of (drop end text))
+takes_shown_number {text = text} rest byte end {r = r} e digit h stops is = takes_shown_first text (drop end text) (number_token (take end text)) r (tokens_of_read_digits text end h stops ∙ with_number_is_token (take end text) _ (length_of_digits_positive text rest byte end e digit stops)) is
 
 pub takes_shown_end : (text : List ℕ) → length text ≡ 0 → TakesShown (tokens_of text) (Ok None) (tokens_of text)
 unfolding tokens_behind

@@ -1,3 +1,4 @@
+pub mod HeaderFaults
 mod NameLemmas
 mod OverlapLemmas
 mod RangeLemmas

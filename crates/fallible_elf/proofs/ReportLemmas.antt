@@ -1,17 +1,17 @@
 -- What a collection says of the list, and what several say of a file.
-use Rattle.std.specs.Prelude.{◌≡◌, ℕ, List, [], ◌∷◌, ◌++◌, Option, Some, Result, Ok, Err, IfOk, IsErrAnd}
+use Rattle.std.specs.Prelude.{◌≡◌, ℕ, List, ◌++◌, Option, Some, Result, Ok, Err, IfOk, IsErrAnd}
 use Rattle.std.proofs.Common.{refl, sym, ap, subst, ◌∙◌, inl, inr}
 use Rattle.std.proofs.KnownBytes.{Appends-nil}
 use Rattle.std.specs.Io.KnownBytes.{Appends}
 use Rattle.fallible_iterator.specs.Fault.{Fault}
 use Rattle.fallible_iterator.specs.Fault.TheVariants.{Source}
 use Rattle.fallible_iterator.specs.Lists.{collected, CollectedAs}
+use Rattle.fallible_elf.proofs.HeaderFaults.{named_sections_of_header_fault, report_of_header_fault}
 use Rattle.fallible_elf.specs.Names.{names_check}
 use Rattle.fallible_elf.specs.Overlaps.{apart_check}
-use Rattle.fallible_elf.specs.Headers.{table_of}
 use Rattle.fallible_elf.specs.Reading.{ReadsHead, HasHeaderFault}
-use Rattle.fallible_elf.specs.Report.{named_sections, ranges_apart, found_of, report_of, Reports, ReadsFaulty}
-use Rattle.fallible_elf.specs.Sections.{headers_of, headers_of_table}
+use Rattle.fallible_elf.specs.Report.{named_sections, ranges_apart, found_of, Reports, ReadsFaulty}
+use Rattle.fallible_elf.specs.Sections.{headers_of}
 use Rattle.fallible_elf.specs.Sets.{range_sections, sets_of, ranges_of}
 use Rattle.program_io.specs.declared.fault.RunFault.{RunFault}
 use Rattle.program_io.specs.declared.fault.RunFault.TheVariants.{Input}
@@ -75,26 +75,9 @@ module _ (bytes : List ℕ) where
 -- ---- a header with a fault
 
 module _ (bytes : List ℕ) (f : ElfFault) (has : HasHeaderFault f bytes) where
-  table_faulty : table_of bytes ≡ Err f
-  table_faulty = rw has refl
-
-  headers_faulty : headers_of bytes ≡ Err f ∷ []
-  unfolding headers_of
-  headers_faulty = ap (headers_of_table bytes) table_faulty
-
-  collected_faulty : collected (headers_of bytes) ≡ Err f
-  unfolding collected
-  collected_faulty = rw headers_faulty refl
-
-  named_sections_faulty_header : named_sections bytes ≡ Err f
-  named_sections_faulty_header = named_sections_of_faulty_headers bytes f collected_faulty
-
-  no_text : report_of bytes ≡ []
-  no_text = rw named_sections_faulty_header refl
-
   -- nothing is written of it
   pub reports_header_fault : (written : Option (List ℕ)) → HasHeaderFault f bytes × Reports bytes (Some f) written written
-  reports_header_fault written = (has, (rw named_sections_faulty_header refl, subst (Appends written written) (sym no_text) (Appends-nil written)))
+  reports_header_fault written = (has, (rw (named_sections_of_header_fault bytes f has) refl, subst (Appends written written) (sym (report_of_header_fault bytes f has)) (Appends-nil written)))
 
 -- what a header's fault says of the file
 pub reads_faulty : (unread unread' written : Option (List ℕ)) (f : ElfFault) → ReadsHead unread unread' (HasHeaderFault f) → ReadsHead unread unread' (λ bytes. HasHeaderFault f bytes × Reports bytes (Some f) written written)

@@ -1,6 +1,7 @@
 -- What a run over a file reads and writes, and what it tells of a fault.
-use Rattle.std.specs.Prelude.{◌≡◌, ◌⊎◌, ℕ, List, [], ◌∷◌, ◌++◌, Option, Some, None, Result, Ok, Err, codes, decimal}
+use Rattle.std.specs.Prelude.{◌≡◌, ◌⊎◌, ℕ, List, [], ◌∷◌, ◌++◌, Option, Some, None, Result, Ok, Err, codes}
 use Rattle.std.specs.Io.KnownBytes.{Appends}
+use Rattle.program_io.specs.Faults.{placed_text}
 use Rattle.program_io.specs.Reading.{ReadsAll}
 use Rattle.fallible_iterator.specs.Lists.{collected, on_value}
 use Rattle.fallible_elf.specs.Sections.{headers_of}
@@ -111,7 +112,7 @@ damage_text RangesNotEnded = codes "the ranges of a set have no end"
 
 -- the text of the line that tells a fault, without its newline
 abbrev pub text_of : ElfFault → List ℕ
-text_of fault = codes "byte " ++ decimal fault.place ++ codes ": " ++ damage_text fault.damage
+text_of fault = placed_text (codes "byte") fault.place (damage_text fault.damage)
 
 -- the status of a file with such a damage: 5 where it is no file of the kind that is read, 6 where its address ranges are valid and of no kind that is read, else 1
 abbrev pub damage_status : Damage → ℕ

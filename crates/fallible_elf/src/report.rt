@@ -11,7 +11,7 @@ use crate::lines::{write_ranges, write_sections, write_sets};
 use crate::reading::ReadFile;
 use crate::tables::{Tables, tables_of};
 use fallible_iterator::Fault;
-use program_io::fault::{InputFault, RunFault, fault_of_read};
+use program_io::fault::{InputFault, RunFault, fault_of_read, write_placed};
 use program_io::writing::WriteText;
 use std::alloc::Global;
 use std::io;
@@ -153,8 +153,7 @@ impl InputFault for ElfFault {
     }
 
     fn write_line<W: WriteText>(&self, errors: &mut W) -> io::Result<()> {
-        let place = self.place;
         let text = damage_text(self.damage);
-        errors.write_text(format_args!("byte {place}: {text}\n"))
+        write_placed("byte", self.place as u64, text, errors)
     }
 }

@@ -85,8 +85,8 @@ module _ {B : Type 0} (left : B → Option (List ℕ)) (stays : Bool → B → B
     ]
   ]
 
-  pub answers_are_of_bytes : (bytes : List ℕ) (trace : RowAnswers) (p q : B × Option Ahead) → BeginsWith left stays p bytes → NeverFailsToRead trace → Run (row_step left stays) p trace q → AnswersRowsOf bytes trace
-  answers_are_of_bytes bytes trace p q b never ran =
+  pub answers_are_of_bytes : (bytes : List ℕ) (trace : RowAnswers) {p : B × Option Ahead} (q : B × Option Ahead) → BeginsWith left stays p bytes → NeverFailsToRead trace → Run (row_step left stays) p trace q → AnswersRowsOf bytes trace
+  answers_are_of_bytes bytes trace {p = p} q b never ran =
       let ahead : Ahead = record { left = b.limit; place = 1 } in
       answers_rows_of_known bytes trace p.0 ahead q refl b.tells never (reads_rows_of_run left stays trace p.0 ahead q (lit≤ tt) (subst (λ (u : B × Option Ahead). Run (row_step left stays) u trace q) b.begins ran))
 

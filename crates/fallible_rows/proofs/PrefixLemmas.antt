@@ -49,10 +49,6 @@ module _ {B : Type 0} (left : B → Option (List ℕ)) (stays : Bool → B → B
       ]
     ]
 
-    pub name_kept_by_reads : (r : B) (a : Ahead) (n : ℕ) (xs : List ℕ) (last : Answered ℕ RowFault) (p : B × Option Ahead) → ReadsAtMost left stays r a n xs last p → name p.0 ≡ name r
-    name_kept_by_reads r a n xs last p (inl d) = name_kept_by_rows r a (map item xs ++ last ∷ []) p d.0
-    name_kept_by_reads r a n xs last p (inr d) = name_kept_by_rows r a (map item xs) p d.0
-
   module _ (r : B) (a : Ahead) (p : B × Option Ahead) (first : a.place ≡ 1) (most : a.left ≡ byte_limit) (xs : List ℕ) (count : ℕ) (counted : count ≡ count_by is_above_100 xs) where
     abbrev CountsPrefixOf : Result ℕ RowFault → Type 0
     CountsPrefixOf result = CountsPrefix (left r) (left p.0) result
@@ -79,8 +75,8 @@ module _ {B : Type 0} (left : B → Option (List ℕ)) (stays : Bool → B → B
         let not_more : length (rows bytes) ≤ row_limit = omega (arith, long, few) in (
           bytes,
           elim how [
-            | inl met ↦ reads_prefix_at_end (left r) (left p.0) bytes taken met (All-take is_taken (length (rows bytes) - 1) (rows bytes) rs.numbers) not_more
-            | inr full ↦ reads_prefix_full (left r) (left p.0) bytes taken full.0 full.1 rs.numbers (let e = full.2 in omega (arith, long, e))
+            | inl met ↦ reads_prefix_at_end bytes taken met (All-take is_taken (length (rows bytes) - 1) (rows bytes) rs.numbers) not_more
+            | inr full ↦ reads_prefix_full bytes taken full.0 full.1 rs.numbers (let e = full.2 in omega (arith, long, e))
           ],
           tally-numbers bytes rs.numbers not_more ∙ ap (λ n. Ok n) (rs.count ∙ sym counted),
         )
@@ -95,8 +91,8 @@ module _ {B : Type 0} (left : B → Option (List ℕ)) (stays : Bool → B → B
         subst (λ (f : RowFault). CountsPrefixOf (Err f)) (sym (rs.fault ∙ ap (λ k. Row k) place)) (
           bytes,
           elim how [
-            | inl met ↦ reads_prefix_refused_at_end (left r) (left p.0) bytes taken rs.good rs.bad met rs.are rs.numbers fewer
-            | inr closed ↦ reads_prefix_refused (left r) (left p.0) bytes taken rs.good rs.bad closed.0 closed.1 rs.are rs.numbers rs.refused fewer
+            | inl met ↦ reads_prefix_refused_at_end bytes taken rs met fewer
+            | inr closed ↦ reads_prefix_refused bytes taken rs closed.0 closed.1 fewer
           ],
           ap line_of_count (tally-refused bytes rs.good rs.bad [] rs.are rs.numbers rs.refused fewer),
         )
@@ -164,10 +160,20 @@ module _ {B : Type 0} (left : B → Option (List ℕ)) (stays : Bool → B → B
         counts_by_ends s zero d = counts_prefix_of_numbers (h.closed ++ h.unclosed) (sym (append-nil (row_answers a.place (rows (h.closed ++ h.unclosed)))) ∙ sym d ∙ are) (consumes_to_end (h.closed ++ h.unclosed) r h.last p.0 h.given s.met_end) (inl (meets_end_of_bytes h.last h.closed h.unclosed trace s)) (omega (arith, long))
         counts_by_ends s (suc n) d = absurd (not_items_with (row_answers a.place (rows (h.closed ++ h.unclosed))) (replicate n end) end xs no_item_end (sym d ∙ are))
 
-    -- the count of a chain over the first rows
-    pub counts_prefix_of_result : (n : ℕ) → row_limit ≡ n → (last : Answered ℕ RowFault) (result : Result ℕ RowFault) → ReadsAtMost left stays r a n xs last p → CountExit count last result → CountsPrefixOf result
-    counts_prefix_of_result n limit (Ok None) result (inl d) exit = let few = d.1 in subst CountsPrefixOf (sym exit) (counts_by_end (map item xs ++ end ∷ []) refl d.0 (omega (arith, few, limit)))
-    counts_prefix_of_result n limit (Ok None) result (inr d) exit = subst CountsPrefixOf (sym exit) (counts_by_limit (map item xs) refl d.0 (d.2 ∙ sym limit))
-    counts_prefix_of_result n limit (Ok (Some x)) result d exit = absurd exit
-    counts_prefix_of_result n limit (Err e) result (inl d) exit = let few = d.1 in subst CountsPrefixOf (sym exit) (counts_by_failure (map item xs ++ failure e ∷ []) e refl d.0 (omega (arith, few, limit)))
-    counts_prefix_of_result n limit (Err e) result (inr d) exit = absurd (let is = d.1 in cc)
+    counts_prefix : (n : ℕ) → row_limit ≡ n → (last : Answered ℕ RowFault) (result : Result ℕ RowFault) → ReadsAtMost left stays r a n xs last p → CountExit count last result → CountsPrefixOf result
+    counts_prefix n limit (Ok None) result (inl d) exit = let few = d.1 in subst CountsPrefixOf (sym exit) (counts_by_end (map item xs ++ end ∷ []) refl d.0 (omega (arith, few, limit)))
+    counts_prefix n limit (Ok None) result (inr d) exit = subst CountsPrefixOf (sym exit) (counts_by_limit (map item xs) refl d.0 (d.2 ∙ sym limit))
+    counts_prefix n limit (Ok (Some x)) result d exit = absurd exit
+    counts_prefix n limit (Err e) result (inl d) exit = let few = d.1 in subst CountsPrefixOf (sym exit) (counts_by_failure (map item xs ++ failure e ∷ []) e refl d.0 (omega (arith, few, limit)))
+    counts_prefix n limit (Err e) result (inr d) exit = absurd (let is = d.1 in cc)
+
+-- ---- what was read of the rows up to the last answer
+
+module _ {B : Type 0} {left : B → Option (List ℕ)} {stays : Bool → B → B → Type 0} {r : B} {a : Ahead} {n : ℕ} {last : Answered ℕ RowFault} {p : B × Option Ahead} where
+  pub name_kept_by_reads : {N : Type 0} (name : B → N) → ((failed : Bool) (r q : B) → stays failed r q → name q ≡ name r) → (xs : List ℕ) → ReadsAtMost left stays r a n xs last p → name p.0 ≡ name r
+  name_kept_by_reads name kept xs (inl d) = name_kept_by_rows left stays name kept r a (map item xs ++ last ∷ []) p d.0
+  name_kept_by_reads name kept xs (inr d) = name_kept_by_rows left stays name kept r a (map item xs) p d.0
+
+  -- the count of a chain over the first rows
+  pub counts_prefix_of_result : {count : ℕ} (xs : List ℕ) → a.place ≡ 1 → a.left ≡ byte_limit → count ≡ count_by is_above_100 xs → row_limit ≡ n → (result : Result ℕ RowFault) → ReadsAtMost left stays r a n xs last p → CountExit count last result → CountsPrefix (left r) (left p.0) result
+  counts_prefix_of_result {count = count} xs first most counted limit result reads exit = counts_prefix left stays r a p first most xs count counted n limit last result reads exit

@@ -177,7 +177,10 @@ but_last-good rs good bad are h =
     let long : length (good ++ bad ∷ []) - 1 ≡ length good = omega (arith, length_push good bad) in
     subst (λ l. AreNumbers (but_last l)) (sym are) (subst AreNumbers (sym (ap (λ n. take n (good ++ bad ∷ [])) long ∙ take_at good (bad ∷ []) (length good) refl)) h)
 
-module _ (old new : Option (List ℕ)) (bytes : List ℕ) (taken : Consumes old new bytes) where
+refused_long : {place : ℕ} {rs : List (List ℕ)} {xs : List ℕ} {e : RowFault} (d : RefusedRows place rs xs e) → length rs ≡ length d.good + 1
+refused_long d = ap length d.are ∙ length_push d.good d.bad
+
+module _ {old new : Option (List ℕ)} (bytes : List ℕ) (taken : Consumes old new bytes) where
   pub reads_prefix_at_end : IsAtEnd new × (length bytes < byte_limit) → AreNumbers (but_last (rows bytes)) → length (rows bytes) ≤ row_limit → ReadsPrefix old new bytes
   reads_prefix_at_end met numbers few = let fewer = met.1 in record { taken = taken; within = omega (arith, fewer); none_sooner = (numbers, few); closed = inr met; same_report = Consumes-whole old new bytes (λ known. report bytes ≡ report known) taken met.0 refl }
 
@@ -190,18 +193,15 @@ module _ (old new : Option (List ℕ)) (bytes : List ℕ) (taken : Consumes old 
     same_report = same_report-deciding old new bytes taken (same_with_more-full bytes closed long);
   }
 
-  pub reads_prefix_refused : (good : List (List ℕ)) (bad : List ℕ) → length bytes ≤ byte_limit → IsClosed bytes → rows bytes ≡ good ++ bad ∷ [] → AreNumbers good → is_refused bad ≡ true → length good < row_limit → ReadsPrefix old new bytes
-  reads_prefix_refused good bad within closed are numbers refused few =
-      let long : length (rows bytes) ≡ length good + 1 = ap length are ∙ length_push good bad in
-      record {
-        taken = taken;
-        within = within;
-        none_sooner = (but_last-good (rows bytes) good bad are numbers, omega (arith, long, few));
-        closed = inl (ends_with_newline bytes closed (omega (arith, long)), inr (length good + 1, ap line_of_count (tally-refused bytes good bad [] are numbers refused few)));
-        same_report = same_report-deciding old new bytes taken (same_with_more_refused bytes good bad closed are numbers refused few);
-      }
+  module _ {place : ℕ} {xs : List ℕ} {e : RowFault} (rs : RefusedRows place (rows bytes) xs e) where
+    pub reads_prefix_refused : length bytes ≤ byte_limit → IsClosed bytes → length rs.good < row_limit → ReadsPrefix old new bytes
+    reads_prefix_refused within closed few = let long = refused_long rs in record {
+      taken = taken;
+      within = within;
+      none_sooner = (but_last-good (rows bytes) rs.good rs.bad rs.are rs.numbers, omega (arith, long, few));
+      closed = inl (ends_with_newline bytes closed (omega (arith, long)), inr (length rs.good + 1, ap line_of_count (tally-refused bytes rs.good rs.bad [] rs.are rs.numbers rs.refused few)));
+      same_report = same_report-deciding old new bytes taken (same_with_more_refused bytes rs.good rs.bad closed rs.are rs.numbers rs.refused few);
+    }
 
-  pub reads_prefix_refused_at_end : (good : List (List ℕ)) (bad : List ℕ) → IsAtEnd new × (length bytes < byte_limit) → rows bytes ≡ good ++ bad ∷ [] → AreNumbers good → length good < row_limit → ReadsPrefix old new bytes
-  reads_prefix_refused_at_end good bad met are numbers few =
-      let long : length (rows bytes) ≡ length good + 1 = ap length are ∙ length_push good bad in
-      reads_prefix_at_end met (but_last-good (rows bytes) good bad are numbers) (omega (arith, long, few))
+    pub reads_prefix_refused_at_end : IsAtEnd new × (length bytes < byte_limit) → length rs.good < row_limit → ReadsPrefix old new bytes
+    reads_prefix_refused_at_end met few = let long = refused_long rs in reads_prefix_at_end met (but_last-good (rows bytes) rs.good rs.bad rs.are rs.numbers) (omega (arith, long, few))

@@ -3,7 +3,6 @@ use Rattle.std.proofs.Common.{Bool, ◌↔◌, ◌≡◌, ◌≢◌, ℕ, ◌+�
 use Rattle.std.proofs.lemmas.List.{take_at, length_push}
 use Rattle.std.proofs.lemmas.List.Elements.{All-nil, All-cons, All-append}
 use Rattle.fallible_iterator.specs.Traces.{Answered, Run, failure, end}
-use Rattle.fallible_iterator.specs.Laws.Closures.{folds_to_then}
 use Rattle.fallible_iterator.proofs.Lemmas.Callers.{turns_split}
 use Rattle.fallible_iterator.proofs.Lemmas.LawForm.{traces_are_of_parts}
 use Rattle.fallible_rows.specs.Digits.{TellsOf, HasNumberAhead, ClosesAs, ReadsRow}
@@ -22,12 +21,9 @@ use Rattle.fallible_rows.specs.declared.rows.Close.TheVariants.{Newline, End, Fa
 pub is_one_row_one_more : (row : List ℕ) (byte : ℕ) → IsOneRow row → byte ≢ 10 → IsOneRow (row ++ byte ∷ [])
 is_one_row_one_more row byte one other = All-append not_newline row (byte ∷ []) one (All-cons not_newline byte [] other (All-nil not_newline))
 
-pub gives_bytes_more : {B : Type 0} (left : B → Option (List ℕ)) (stays : Bool → B → B → Type 0) (row : List ℕ) (byte : ℕ) (p q r : B) → GivesBytes left stays p row q → GivesByte left stays q byte r → GivesBytes left stays p (row ++ byte ∷ []) r
-gives_bytes_more left stays row byte p q r h k = folds_to_then (GivesByte left stays) row (byte ∷ []) p q r h (r, k, refl)
-
 -- a row that stands whole in what a reader holds, and was yielded with its newline
-pub reads_row_ahead : {B : Type 0} (left : B → Option (List ℕ)) (stays : Bool → B → B → Type 0) (r q : B) (held : List ℕ) (count value more limit : ℕ) → HasNumberAhead held count value → GivesBytes left stays r (take (count + 1) held) q → more + count + 1 ≡ limit → ReadsRow left stays r limit (Number count value, Newline more) q
-reads_row_ahead left stays r q held count value more limit h given at =
+pub reads_row_ahead : {B : Type 0} (left : B → Option (List ℕ)) (stays : Bool → B → B → Type 0) {r q : B} {held : List ℕ} {count value more limit : ℕ} → HasNumberAhead held count value → GivesBytes left stays r (take (count + 1) held) q → more + count + 1 ≡ limit → ReadsRow left stays r limit (Number count value, Newline more) q
+reads_row_ahead left stays {r = r} {q = q} {held = held} {count = count} h given at =
     let whole : held ≡ (h.row ++ 10 ∷ []) ++ h.rest = h.are ∙ sym (append_assoc h.row (10 ∷ []) h.rest) in
     let long : length (h.row ++ 10 ∷ []) ≡ count + 1 = let row = h.long in omega (arith, length_push h.row 10, row) in
     let taken : take (count + 1) held ≡ h.row ++ 10 ∷ [] = ap (take (count + 1)) whole ∙ take_at (h.row ++ 10 ∷ []) h.rest (count + 1) long in
@@ -51,7 +47,7 @@ run_rows_seen step trace s t = traces_are_of_parts rows_parts rows_of (λ x. ref
 
 -- ---- one draw
 
-module _ {B : Type 0} (left : B → Option (List ℕ)) (stays : Bool → B → B → Type 0) (r q : B) (a : Ahead) (digits : Digits) (close : Close) (read : ReadsRow left stays r a.left (digits, close) q) where
+module _ {B : Type 0} {left : B → Option (List ℕ)} {stays : Bool → B → B → Type 0} {r q : B} (a : Ahead) {digits : Digits} {close : Close} (read : ReadsRow left stays r a.left (digits, close) q) where
   closes_as : (c : Close) → close ≡ c → ClosesAs left stays a.left read.row read.last c q
   closes_as c is = subst (λ (z : Close). ClosesAs left stays a.left read.row read.last z q) is read.closed
 

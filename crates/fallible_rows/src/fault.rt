@@ -1,7 +1,7 @@
 //! What may be wrong with rows, and how that is told.
 ghost use Rattle.fallible_rows.specs.Fault.{status_of, text_of};
 
-use program_io::fault::InputFault;
+use program_io::fault::{InputFault, write_placed};
 use program_io::writing::WriteText;
 use std::io;
 
@@ -32,7 +32,6 @@ impl InputFault for BadRow {
     }
 
     fn write_line<W: WriteText>(&self, errors: &mut W) -> io::Result<()> {
-        let place = self.place;
-        errors.write_text(format_args!("row {place}: not a number\n"))
+        write_placed("row", u64::from(self.place), "not a number", errors)
     }
 }

@@ -130,7 +130,7 @@ module _ {unread unread' : Option (List ℕ)} {buffer : List ℕ} {held : ℕ} {
   pub read_to_end : {r : Sum} → IsAtEnd unread' → r ≡ totals_of (read.so_far.whole ++ take held buffer) → SumAtEnd unread unread' r
   read_to_end {r = Ok u} end is = (read.so_far.whole ++ take held buffer, read.so_far.taken, end, sym is)
   read_to_end {r = Err (Cut place)} end is = (read.so_far.whole ++ take held buffer, read.so_far.taken, end, sym is)
-  read_to_end {r = Err (Bad place)} end is = absurd (none_bad_in_cut t.records read.so_far.whole (take held buffer) t place read.so_far.long read.so_far.good few is)
+  read_to_end {r = Err (Bad place)} end is = absurd (none_bad_in_cut t.records read.so_far.whole (take held buffer) read.so_far.long read.so_far.good few is)
 
   pub none_bad_yet : NoneBadYet unread unread'
   none_bad_yet = record { whole = read.so_far.whole; cut = take held buffer; taken = read.so_far.taken; totals = t; good = read.so_far.good; short = few }

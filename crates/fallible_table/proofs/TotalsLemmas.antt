@@ -211,9 +211,9 @@ cut_is_not_bad : (last place before : ℕ) (t : Totals) (bytes : List ℕ) → E
 cut_is_not_bad last place before t [] is = absurd cc
 cut_is_not_bad last place before t (byte ∷ bytes) is = absurd cc
 
-pub none_bad_in_cut : (n : ℕ) (first rest : List ℕ) (t : Totals) (place : ℕ) → length first ≡ 8 * n → totals_of first ≡ Ok t → length rest < 8 → Err (Bad place) ≡ totals_of (first ++ rest) → ⊥
+pub none_bad_in_cut : (n : ℕ) (first rest : List ℕ) {t : Totals} {place : ℕ} → length first ≡ 8 * n → totals_of first ≡ Ok t → length rest < 8 → Err (Bad place) ≡ totals_of (first ++ rest) → ⊥
 unfolding records
-none_bad_in_cut n first rest t place long good short is =
+none_bad_in_cut n first rest {t = t} {place = place} long good short is =
     let last = n + length rest / 8 + 1 in
     let none : length rest / 8 ≡ 0 = omega (arith, short) in
     cut_is_not_bad last place n t rest (is ∙ totals_joined n first rest long ∙ ap (λ (r : Sum). on_value r (λ u. summed (Cut last) n u (records rest))) good ∙ ap (λ k. summed (Cut last) n t (records_then k rest)) none)

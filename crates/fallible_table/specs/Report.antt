@@ -4,6 +4,7 @@ use Rattle.std.specs.IoError.{error_kind}
 use Rattle.std.specs.Io.KnownBytes.{Appends, Consumes, IsAtEnd}
 use Rattle.std.specs.declared.io.Error.{Error}
 use Rattle.std.specs.declared.io.ErrorKind.{ErrorKind}
+use Rattle.program_io.specs.Faults.{placed_text}
 use Rattle.fallible_table.specs.Tables.{totals_of}
 use Rattle.fallible_table.specs.declared.table.TableFault.{TableFault}
 use Rattle.fallible_table.specs.declared.table.TableFault.TheVariants.{Bad, Cut}
@@ -65,5 +66,5 @@ status_of (Cut place) = 5
 
 -- the text of the line that tells a fault, without its newline
 abbrev pub text_of : TableFault → List ℕ
-text_of (Bad place) = codes "record " ++ decimal place ++ codes ": the first number is above the second"
-text_of (Cut place) = codes "record " ++ decimal place ++ codes ": cut short"
+text_of (Bad place) = placed_text (codes "record") place (codes "the first number is above the second")
+text_of (Cut place) = placed_text (codes "record") place (codes "cut short")

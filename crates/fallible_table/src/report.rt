@@ -7,7 +7,7 @@ ghost use Rattle.fallible_table.specs.declared.table.TableFault.{TableFault};
 
 use crate::reading::ReadTable;
 use crate::table::{TableFault, Totals};
-use program_io::fault::{InputFault, RunFault, fault_of_read};
+use program_io::fault::{InputFault, RunFault, fault_of_read, write_placed};
 use program_io::writing::WriteText;
 use std::alloc::Global;
 use std::io;
@@ -75,12 +75,11 @@ impl InputFault for TableFault {
 
     fn write_line<W: WriteText>(&self, errors: &mut W) -> io::Result<()> {
         match self {
-            TableFault::Bad(place) => errors.write_text(format_args!(
-                "record {place}: the first number is above the second\n"
-            )),
-            TableFault::Cut(place) => errors.write_text(format_args!(
-                "record {place}: cut short\n"
-            )),
+            TableFault::Bad(place) => {
+                let text = "the first number is above the second";
+                write_placed("record", *place as u64, text, errors)
+            }
+            TableFault::Cut(place) => write_placed("record", *place as u64, "cut short", errors),
         }
     }
 }

@@ -1,10 +1,11 @@
 -- Lemmas on bytes that readers hold in a buffer, and yield one at a time.
 use Rattle.std.proofs.Common.{Bool, true, false, ◌≡◌, ℕ, ◌+◌, List, [], ◌∷◌, ◌++◌, length, take, drop, if◌then◌else◌, ◌==◌, refl, sym, ap, subst, ◌∙◌, arith, Option, Some, None, ◌<◌, ◌≤◌, append_assoc, length-append, Err}
 use Rattle.std.specs.Prelude.{⊤}
+use Rattle.std.specs.List.{FoldsTo}
 use Rattle.std.specs.Io.Buffered.{reader_buffer, reader_capacity, reader_inner}
 use Rattle.std.specs.Io.KnownBytes.{Consumes, prepend_known}
 use Rattle.std.proofs.lemmas.List.{drop-drop, take-append-drop, length-take}
-use Rattle.program_io.specs.Bytes.{GivesBytes, StopsShort, ReadsSome, ReadsUpTo, held_bytes, buffered_left, bytes_left}
+use Rattle.program_io.specs.Bytes.{GivesByte, GivesBytes, StopsShort, ReadsSome, ReadsUpTo, held_bytes, buffered_left, bytes_left}
 use Rattle.program_io.specs.declared.reading.Buffered.{Buffered}
 use Rattle.program_io.specs.declared.reading.Bytes.{Bytes}
 use Rattle.program_io.specs.declared.reading.Lent.{Lent}
@@ -51,7 +52,7 @@ module _ {R : Type 0} (left : R → Option (List ℕ)) (stays : Bool → R → R
 -- ---- bytes in memory
 
 module _ (stays : Bool → Bytes → Bytes → Type 0) (always : (s t : Bytes) → stays false s t) where
-  pub gives_bytes_first : (s t : Bytes) (byte : ℕ) (front rest : List ℕ) → s.bytes.now ≡ (byte ∷ front) ++ rest → t.bytes.now ≡ rest → GivesBytes bytes_left stays s (byte ∷ front) t
+  gives_bytes_first : (s t : Bytes) (byte : ℕ) (front rest : List ℕ) → s.bytes.now ≡ (byte ∷ front) ++ rest → t.bytes.now ≡ rest → GivesBytes bytes_left stays s (byte ∷ front) t
   gives_bytes_first s t byte [] rest is after = (t, (is ∙ ap (λ l. byte ∷ l) (sym after), always s t), refl)
   gives_bytes_first s t byte (next ∷ front) rest is after =
       let u : Bytes = record { bytes = record s.bytes { now = (next ∷ front) ++ rest } } in
@@ -66,10 +67,18 @@ module _ (stays : Bool → Bytes → Bytes → Type 0) (always : (s t : Bytes) �
 
 -- ---- so many bytes
 
+-- some steps, and then others
+pub folds_to_append : {P A : Type 0} (step : P → A → P → Type 0) (xs ys : List A) (p q r : P) → FoldsTo step p xs q → FoldsTo step q ys r → FoldsTo step p (xs ++ ys) r
+folds_to_append {P = P} step [] ys p q r e w = subst (λ (z : P). FoldsTo step z ys r) (sym e) w
+folds_to_append step (x ∷ xs) ys p q r v w = (v.0, v.1, folds_to_append step xs ys v.0 q r v.2 w)
+
 module _ {R : Type 0} (left : R → Option (List ℕ)) (stays : Bool → R → R → Type 0) where
-  pub gives_bytes_then : (xs ys : List ℕ) (p q r : R) → GivesBytes left stays p xs q → GivesBytes left stays q ys r → GivesBytes left stays p (xs ++ ys) r
-  gives_bytes_then [] ys p q r e w = subst (λ (z : R). GivesBytes left stays z ys r) (sym e) w
-  gives_bytes_then (x ∷ xs) ys p q r v w = (v.0, v.1, gives_bytes_then xs ys v.0 q r v.2 w)
+  -- bytes came after those that were there; of n bytes so many are missing
+  pub record Came (r p : R) (old mid : List ℕ) (n room : ℕ) : Type 0 where
+    pub more : List ℕ
+    pub given : GivesBytes left stays r more p
+    pub are : mid ≡ old ++ more
+    pub missing : length mid + room ≡ n
 
   stops_later : (many more n room : ℕ) (last q : R) (why : Unread) → many + room ≡ n → StopsShort left stays room more last why q → StopsShort left stays n (many + more) last why q
   stops_later many more n room last q End at h = (let few = h.0 in omega (arith, few, at), h.1)
@@ -77,8 +86,8 @@ module _ {R : Type 0} (left : R → Option (List ℕ)) (stays : Bool → R → R
   stops_later many more n room last q Memory at h = (let few = h.0 in omega (arith, few, at), h.1)
 
   -- bytes that came, and then a read that broke off
-  pub reads_up_to_broken : (r p q : R) (old more mid new : List ℕ) (n room : ℕ) (why : Unread) → GivesBytes left stays r more p → mid ≡ old ++ more → length mid + room ≡ n → ReadsSome left stays {U = Unit {0}} p mid room (Err why) new q → ReadsUpTo left stays {U = Unit {0}} r old n (Err why) new q
-  reads_up_to_broken r p q old more mid new n room why given are at h =
-      let all : old ++ (more ++ h.0) ≡ mid ++ h.0 = sym (append_assoc old more h.0) ∙ ap (λ l. l ++ h.0) (sym are) in
-      let long : length mid + length h.0 ≡ length (old ++ (more ++ h.0)) = sym (length-append mid h.0) ∙ ap length (sym all) in
-      (more ++ h.0, h.1, gives_bytes_then more h.0 r p h.1 given h.2, subst (λ (k : ℕ). StopsShort left stays n k h.1 why q) long (stops_later (length mid) (length h.0) n room h.1 q why at h.3))
+  pub reads_up_to_broken : {r p : R} {old mid : List ℕ} {n room : ℕ} → Came r p old mid n room → (q : R) (new : List ℕ) (why : Unread) → ReadsSome left stays {U = Unit {0}} p mid room (Err why) new q → ReadsUpTo left stays {U = Unit {0}} r old n (Err why) new q
+  reads_up_to_broken {r = r} {p = p} {old = old} {mid = mid} {n = n} {room = room} came q new why h =
+      let all : old ++ (came.more ++ h.0) ≡ mid ++ h.0 = sym (append_assoc old came.more h.0) ∙ ap (λ l. l ++ h.0) (sym came.are) in
+      let long : length mid + length h.0 ≡ length (old ++ (came.more ++ h.0)) = sym (length-append mid h.0) ∙ ap length (sym all) in
+      (came.more ++ h.0, h.1, folds_to_append (GivesByte left stays) came.more h.0 r p h.1 came.given h.2, subst (λ (k : ℕ). StopsShort left stays n k h.1 why q) long (stops_later (length mid) (length h.0) n room h.1 q why came.missing h.3))

@@ -5,7 +5,7 @@ use Rattle.std.specs.declared.alloc.Global.{Global}
 use Rattle.program_io.specs.declared.arguments.Asked.{Asked}
 use Rattle.program_io.specs.declared.arguments.Asked.TheVariants.{Help, Unexpected, Standard, File}
 use Rattle.program_io.specs.declared.arguments.Refusal.{Refusal}
-use Rattle.program_io.specs.declared.arguments.Refusal.TheVariants.{Word, Unopened, NoText, Memory}
+use Rattle.program_io.specs.declared.arguments.Refusal.TheVariants.{Word, Unopened, NoText}
 
 -- whether a text begins with a minus
 abbrev pub begins_with_minus : List ℕ → Bool
@@ -32,14 +32,8 @@ asked_by [] = Standard
 asked_by (name ∷ []) = Standard
 asked_by (name ∷ word ∷ words) = with_further (asked_first word) words
 
--- the status that a program ends with where it refuses its words or the file that they name
-abbrev pub status_of : Refusal → ℕ
-status_of Memory = 3
-status_of refusal = 2
-
--- the lines that tell of a refusal; after a word comes the usage text
-abbrev pub lines_of : Refusal → List ℕ → List ℕ
-lines_of (Word word) usage = string_bytes word ++ codes ": unexpected\n" ++ usage ++ 10 ∷ []
-lines_of (Unopened path) usage = codes "cannot open " ++ string_bytes path ++ 10 ∷ []
-lines_of NoText usage = codes "not UTF-8\n"
-lines_of Memory usage = codes "no memory\n"
+-- the text that tells of a refusal, without its last newline; after a word comes the usage text
+abbrev pub text_of : Refusal → List ℕ
+text_of (Word word usage) = string_bytes word ++ codes ": unexpected\n" ++ usage.now
+text_of (Unopened path) = codes "cannot open " ++ string_bytes path
+text_of NoText = codes "not UTF-8"

@@ -1,5 +1,5 @@
 -- Why a run fails, and what is told of it.
-use Rattle.std.specs.Prelude.{◌≡◌, ◌≢◌, ℕ, List, [], ◌∷◌, ◌++◌, codes}
+use Rattle.std.specs.Prelude.{◌≡◌, ◌≢◌, ℕ, List, [], ◌∷◌, ◌++◌, codes, decimal}
 use Rattle.std.specs.declared.io.ErrorKind.{ErrorKind}
 use Rattle.std.specs.declared.io.ErrorKind.TheVariants.{OutOfMemory}
 use Rattle.program_io.specs.declared.fault.RunFault.{RunFault}
@@ -29,3 +29,7 @@ text_of text Write = codes "write failed"
 -- the line, with its newline
 abbrev pub line_of : {F : Type 0} → (F → List ℕ) → RunFault F → List ℕ
 line_of text fault = text_of text fault ++ 10 ∷ []
+
+-- the text that tells what is wrong at a place of the input, without its newline
+abbrev pub placed_text : List ℕ → ℕ → List ℕ → List ℕ
+placed_text unit place text = unit ++ codes " " ++ decimal place ++ codes ": " ++ text

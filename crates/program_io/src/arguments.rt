@@ -1,9 +1,11 @@
 //! The input that a program's words ask for: standard input, or the one file that they name.
-ghost use Rattle.std.specs.Prelude.{◌≡◌, ◌≢◌, Ok, Err, [], ◌∷◌, ◌++◌, MatchResult, OnOk, OnErr, codes};
+ghost use Rattle.std.specs.Prelude.{◌≡◌, ◌≢◌, Err, [], ◌∷◌, ◌++◌, OnOk, OnErr};
 ghost use Rattle.std.specs.Vec.Iter.{into_iter_items};
 ghost use Rattle.std.specs.Io.KnownBytes.{Appends, Keeps};
-ghost use Rattle.program_io.specs.Arguments.{asked_by, asked_first, lines_of, status_of};
+ghost use Rattle.program_io.specs.Arguments.{asked_by, asked_first, text_of};
+ghost use Rattle.program_io.specs.Faults.{status_of};
 
+use crate::fault::{InputFault, RunFault, fault_line};
 use crate::writing::WriteText;
 use std::env::{Args, Env};
 use std::fs::File;
@@ -55,63 +57,44 @@ pub fn asked_by(mut words: Args) -> Asked
     }
 }
 
-// Why there is no input.
+// What is wrong with a program's words.
 #[derive(Drop)]
-enum Refusal {
-    // This word asks for nothing that there is.
-    Word(String),
+enum Refusal<'a> {
+    // This word asks for nothing that there is. The usage text is told after it.
+    Word(String, &'a str),
     // The file at this path can't be opened.
     Unopened(String),
     // A word is not UTF-8.
     NoText,
-    // An allocation failed.
-    Memory,
 }
 
-// Writes that a word is none that is taken, and the usage text.
-fn write_unexpected<W: WriteText>(word: &str, usage: &str, errors: &mut W) -> io::Result<()>
-    ensures text { OnOk result (Appends (W.written errors.old) (W.written errors.new)
-        (word.now ++ codes ": unexpected\n" ++ usage.now ++ 10 ∷ [])) }
-    ensures failed { OnErr result (W.failed errors.new) }
-{
-    errors.write_text(format_args!("{word}: unexpected\n{usage}\n"))
-}
+impl InputFault for Refusal<'_> {
+    ghost status = { λ _. 2 };
 
-impl Refusal {
-    // The status that a program ends with.
-    fn status(&self) -> u8
-        ensures { result ≡ status_of self.now }
-    {
-        match self {
-            Refusal::Memory => 3,
-            _ => 2,
-        }
+    ghost text = { text_of };
+
+    // 2
+    fn status(&self) -> u8 {
+        2
     }
 
-    fn write<W: WriteText>(&self, usage: &str, errors: &mut W) -> io::Result<()>
-        ensures text { OnOk result
-            (Appends (W.written errors.old) (W.written errors.new) (lines_of self.now usage.now)) }
-        ensures failed { OnErr result (W.failed errors.new) }
-    {
+    fn write_line<W: WriteText>(&self, errors: &mut W) -> io::Result<()> {
         match self {
-            Refusal::Word(word) => write_unexpected(word.as_str(), usage, errors),
+            Refusal::Word(word, usage) => {
+                errors.write_text(format_args!("{word}: unexpected\n{usage}\n"))
+            }
             Refusal::Unopened(path) => errors.write_text(format_args!("cannot open {path}\n")),
             Refusal::NoText => errors.write_text("not UTF-8\n"),
-            Refusal::Memory => errors.write_text("no memory\n"),
         }
     }
+}
 
-    // Tells `errors` of it. The status that the program ends with, as an `Err` if it could not be told.
-    fn tell<W: WriteText>(&self, usage: &str, errors: &mut W) -> Result<u8, u8>
-        ensures { MatchResult result
-            (λ status. (status ≡ status_of self.now)
-            × Appends (W.written errors.old) (W.written errors.new) (lines_of self.now usage.now))
-            (λ status. (status ≡ status_of self.now) × W.failed errors.new) }
-    {
-        match self.write(usage, errors) {
-            Ok(()) => Ok(self.status()),
-            Err(_) => Err(self.status()),
-        }
+// Tells `errors` of a fault, if that can be written. The status that the program ends with.
+fn told<E: WriteText>(fault: &RunFault<Refusal<'_>>, errors: &mut E) -> u8
+    ensures { result ≡ status_of (λ _. 2) fault.now }
+{
+    match fault_line(fault, errors) {
+        Ok(status) | Err(status) => status,
     }
 }
 
@@ -143,17 +126,18 @@ fn help<W: WriteText, E: WriteText>(usage: &str, output: &mut W, errors: &mut E)
     if output.write_text(format_args!("{usage}\n")).is_ok() {
         return 0;
     }
-    let _ = errors.write_text("write failed\n");
-    4
+    told(&RunFault::Write, errors)
 }
 
 // What the system's words ask for, or why that is not known.
-fn asked_of<R: Env + AllocGlobal>(rt: &R) -> Result<Asked, Refusal> {
+fn asked_of<'a, R: Env + AllocGlobal>(rt: &R) -> Result<Asked, RunFault<Refusal<'a>>>
+    ensures { result ≢ Err RunFault.Write }
+{
     match env::args(rt) {
         Ok(words) => Ok(asked_by(words)),
         Err(error) => Err(match error.kind() {
-            ErrorKind::OutOfMemory => Refusal::Memory,
-            _ => Refusal::NoText,
+            ErrorKind::OutOfMemory => RunFault::Memory,
+            _ => RunFault::Input(Refusal::NoText),
         }),
     }
 }
@@ -175,17 +159,15 @@ pub fn input_of<R: Env + Files + AllocGlobal, S: Read + Drop, W: WriteText, E: W
     ensures refused { OnErr result (result ≢ Err 0 → result ≢ Err 4
         → Keeps (W.written output.old) (W.written output.new)) }
 {
-    let refusal = match asked_of(rt) {
+    let fault = match asked_of(rt) {
         Ok(Asked::Standard) => return Ok(Input::Standard(standard)),
         Ok(Asked::File(path)) => match File::open(rt, path.as_str()) {
             Ok(file) => return Ok(Input::File(file)),
-            Err(_) => Refusal::Unopened(path),
+            Err(_) => RunFault::Input(Refusal::Unopened(path)),
         },
         Ok(Asked::Help) => return Err(help(usage, output, errors)),
-        Ok(Asked::Unexpected(word)) => Refusal::Word(word),
-        Err(refusal) => refusal,
+        Ok(Asked::Unexpected(word)) => RunFault::Input(Refusal::Word(word, usage)),
+        Err(fault) => fault,
     };
-    match refusal.tell(usage, errors) {
-        Ok(status) | Err(status) => Err(status),
-    }
+    Err(told(&fault, errors))
 }

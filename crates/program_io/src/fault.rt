@@ -2,7 +2,7 @@
 ghost use Rattle.std.specs.Prelude.{◌≡◌, ◌∷◌, ◌++◌, [], ℕ, List, MatchResult, OnErr, OnOk};
 ghost use Rattle.std.specs.IoError.{error_kind};
 ghost use Rattle.std.specs.Io.KnownBytes.{Appends};
-ghost use Rattle.program_io.specs.Faults.{IsFaultOfRead, line_of, status_of};
+ghost use Rattle.program_io.specs.Faults.{IsFaultOfRead, line_of, placed_text, status_of};
 
 use crate::writing::WriteText;
 use std::alloc::AllocError;
@@ -26,6 +26,20 @@ pub trait InputFault {
         ensures line { OnOk result (Appends (W.written errors.old) (W.written errors.new)
             (text self.now ++ 10 ∷ [])) }
         ensures failed { OnErr result (W.failed errors.new) };
+}
+
+/// Writes the line that tells what is wrong at a place of the input, as `row 3: not a number`, with its newline.
+pub fn write_placed<W: WriteText>(
+    unit: &str,
+    place: u64,
+    text: &str,
+    errors: &mut W,
+) -> io::Result<()>
+    ensures line { OnOk result (Appends (W.written errors.old) (W.written errors.new)
+        (placed_text unit.now place text.now ++ 10 ∷ [])) }
+    ensures failed { OnErr result (W.failed errors.new) }
+{
+    errors.write_text(format_args!("{unit} {place}: {text}\n"))
 }
 
 /// Why a run made no report.

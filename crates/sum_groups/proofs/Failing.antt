@@ -15,6 +15,13 @@ use Rattle.sum_groups.specs.declared.fault.GroupsFault.{GroupsFault}
 pub begins_with : (unread : Option (List ℕ)) (line : List ℕ) → IsFirstLine unread line → AreRows line → IfSome unread (λ bytes. AreRows (take_through 10 bytes))
 begins_with unread line first rows = IfSome_then unread first (λ bytes is. subst AreRows is rows)
 
+-- the first line was read, and is a row
+pub record RowRead {R : Type 0} (left : R → Option (List ℕ)) (r middle : R) : Type 0 where
+  pub line : List ℕ
+  pub first : IsFirstLine (left r) line
+  pub rows : AreRows line
+  pub consumed : Consumes (left r) (left middle) line
+
 module _ {R : Type 0} (left : R → Option (List ℕ)) (fails : ErrorKind → R → R → Type 0) where
   -- a read that failed, by its kind
   pub by_kind : (r q : R) (kind : ErrorKind) (fault : RunFault GroupsFault) → FailsToRead left fails r q kind → IsFaultOfRead kind fault → ReadsRows left fails r q (Err fault)
@@ -24,6 +31,6 @@ module _ {R : Type 0} (left : R → Option (List ℕ)) (fails : ErrorKind → R 
   by_kind r q kind Write failed is = absurd is
 
   -- a read that failed after the first line
-  pub after_line : (r middle q : R) (line : List ℕ) (kind : ErrorKind) (fault : RunFault GroupsFault) → IsFirstLine (left r) line → AreRows line → Consumes (left r) (left middle) line → fails kind middle q → IsFaultOfRead kind fault → ReadsRows left fails r q (Err fault)
-  after_line r middle q line kind fault first rows consumed failed is =
-      by_kind r q kind fault (inr (begins_with (left r) line first rows, (line, middle, first, consumed, failed))) is
+  pub after_line : {r middle : R} → RowRead left r middle → (q : R) (kind : ErrorKind) (fault : RunFault GroupsFault) → fails kind middle q → IsFaultOfRead kind fault → ReadsRows left fails r q (Err fault)
+  after_line {r = r} {middle = middle} read q kind fault failed is =
+      by_kind r q kind fault (inr (begins_with (left r) read.line read.first read.rows, (read.line, middle, read.first, read.consumed, failed))) is

@@ -1,5 +1,6 @@
 -- What is told of a fault of the input.
-use Rattle.std.specs.Prelude.{ℕ, List, ◌++◌, codes, decimal}
+use Rattle.std.specs.Prelude.{ℕ, List, codes}
+use Rattle.program_io.specs.Faults.{placed_text}
 use Rattle.sum_groups.specs.declared.fault.GroupsFault.{GroupsFault}
 use Rattle.sum_groups.specs.declared.fault.GroupsFault.TheVariants.{NotText, NoRow}
 
@@ -9,5 +10,5 @@ status_of fault = 1
 
 -- the text of the line that tells the fault, without its newline
 abbrev pub text_of : GroupsFault → List ℕ
-text_of (NotText place) = codes "byte " ++ decimal place ++ codes ": not UTF-8"
-text_of (NoRow place) = codes "row " ++ decimal place ++ codes ": not a key and an amount"
+text_of (NotText place) = placed_text (codes "byte") place (codes "not UTF-8")
+text_of (NoRow place) = placed_text (codes "row") place (codes "not a key and an amount")

@@ -1,7 +1,7 @@
 // What is wrong with rows, and how that is told.
 ghost use Rattle.sum_groups.specs.Faults.{status_of, text_of};
 
-use program_io::fault::InputFault;
+use program_io::fault::{InputFault, write_placed};
 use program_io::writing::WriteText;
 use std::io;
 
@@ -27,10 +27,10 @@ impl InputFault for GroupsFault {
     fn write_line<W: WriteText>(&self, errors: &mut W) -> io::Result<()> {
         match self {
             GroupsFault::NotText(place) => {
-                errors.write_text(format_args!("byte {place}: not UTF-8\n"))
+                write_placed("byte", *place as u64, "not UTF-8", errors)
             }
             GroupsFault::NoRow(place) => {
-                errors.write_text(format_args!("row {place}: not a key and an amount\n"))
+                write_placed("row", *place, "not a key and an amount", errors)
             }
         }
     }

@@ -1,4 +1,5 @@
 // What is read of a real object, and of damaged copies of it. What `readelf` says of it stands in the comments.
+use crate::devices::{BrokenReader, BrokenWriter};
 use crate::object::OBJECT;
 use fallible_elf::fault::{Damage, ElfFault};
 use fallible_elf::lines::write_sections;
@@ -9,8 +10,7 @@ use fallible_elf::set::{Range, Set};
 use fallible_elf::tables::{Found, Tables, tables_of};
 use program_io::fault::{RunFault, fault_line};
 use std::alloc::{AllocError, Global};
-use std::io;
-use std::io::{ErrorKind, Read, Write};
+use std::io::ErrorKind;
 use std::process::Abort;
 use std::test::Fail;
 
@@ -377,43 +377,6 @@ fn counts_that_lie(rt: HostRuntime) -> Result<(), Fail> {
         );
     }
     Ok(())
-}
-
-// Yields its bytes, and then fails at each read.
-#[derive(Drop)]
-struct BrokenReader<'a> {
-    bytes: &'a [u8],
-    kind: ErrorKind,
-}
-
-impl Read for BrokenReader<'_> {
-    fn read(&mut self, buf: &mut [u8]) -> io::Result<usize> {
-        if self.bytes.is_empty() {
-            return Err(io::Error::from(self.kind));
-        }
-        Read::read(&mut self.bytes, buf)
-    }
-}
-
-// Takes so many bytes, one at a time, and then fails.
-#[derive(Drop)]
-struct BrokenWriter {
-    room: usize,
-}
-
-impl Write for BrokenWriter {
-    fn write(&mut self, buf: &[u8]) -> io::Result<usize> {
-        if self.room == 0 {
-            return Err(io::Error::from(ErrorKind::BrokenPipe));
-        }
-        let count = buf.len().min(1);
-        self.room -= count;
-        Ok(count)
-    }
-
-    fn flush(&mut self) -> io::Result<()> {
-        Ok(())
-    }
 }
 
 // The lines of the object's sections.

@@ -1,49 +1,15 @@
 //! What is printed and told of bytes, and the status.
+use crate::devices::{BrokenReader, BrokenWriter};
 use fallible_pg::{Messages, Rows, print_rows};
 use program_io::ending::ended;
 use program_io::reading::{Buffered, ReadByte};
 use std::alloc::Global;
-use std::io;
-use std::io::{BufReader, ErrorKind, Read, Write};
+use std::io::{BufReader, ErrorKind};
 use std::process::Abort;
 use std::test::Fail;
 
 // One cell, `1`.
 const ROW: &[u8] = b"D\0\0\0\x0b\0\x01\0\0\0\x011";
-
-// Takes so many bytes, one at a time, and then fails.
-#[derive(Drop)]
-struct BrokenWriter {
-    room: usize,
-}
-
-impl Write for BrokenWriter {
-    fn write(&mut self, buf: &[u8]) -> io::Result<usize> {
-        if self.room == 0 {
-            return Err(io::Error::from(ErrorKind::BrokenPipe));
-        }
-        let count = buf.len().min(1);
-        self.room -= count;
-        Ok(count)
-    }
-
-    fn flush(&mut self) -> io::Result<()> {
-        Ok(())
-    }
-}
-
-// Yields its bytes, and then fails.
-#[derive(Drop)]
-struct BrokenReader<'a>(&'a [u8]);
-
-impl Read for BrokenReader<'_> {
-    fn read(&mut self, buf: &mut [u8]) -> io::Result<usize> {
-        match Read::read(&mut self.0, buf) {
-            Ok(0) => Err(io::Error::from(ErrorKind::Other)),
-            other => other,
-        }
-    }
-}
 
 // Expects this status, and these texts, of a reader.
 fn expect_of<R: ReadByte>(
@@ -188,15 +154,13 @@ fn what_is_not_read_is_told(rt: HostRuntime) -> Result<(), Fail> {
 #[test]
 fn a_failed_read_is_told(rt: HostRuntime) {
     let alloc = rt.alloc();
-    expect_of(&rt, alloc, BrokenReader(ROW), 2, b"1\n", b"read failed\n");
-    expect_of(
-        &rt,
-        alloc,
-        BrokenReader(&ROW[..7]),
-        2,
-        b"",
-        b"read failed\n",
-    );
+    for (bytes, text) in [(ROW, b"1\n".as_slice()), (&ROW[..7], b"")] {
+        let reader = BrokenReader {
+            bytes,
+            kind: ErrorKind::Other,
+        };
+        expect_of(&rt, alloc, reader, 2, text, b"read failed\n");
+    }
 }
 
 #[test]

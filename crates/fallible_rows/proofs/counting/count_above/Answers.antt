@@ -24,9 +24,9 @@ pub returns-clause-counts : goal.returns-clause-counts
 returns-clause-counts g c =
     let counted = c.try_fold.ensures.folded in
     let exit = count_exit_of_folded (λ f n x r h k. search rules) (λ e d h. search rules) counted in
-    let read = chain_reads _ _ _ _ c.new.result c.new.ensures.parts (lit≤ tt) {s = c.filter-above.result} {first = c.take.result} {last = counted.last} c.try_fold.new.self counted.items (λ x r h k. search (rules, tests)) c.filter-above.ensures.parts c.take.ensures.parts counted.ran in
-    let names = sym (name_kept_by_reads _ _ (λ (s : Lent g.row.R.Denot). s.reader.ghost_name) (λ failed r q k. k.0) _ _ _ _ _ _ read.reads) in
-    let holds = counts_prefix_of_result _ _ _ _ _ refl refl read.items _ read.count_is _ row_limit-is counted.last c.try_fold.result read.reads exit in
+    let read = chain_reads c.new.ensures.parts (lit≤ tt) {s = c.filter-above.result} {first = c.take.result} {last = counted.last} c.try_fold.new.self counted.items (λ x r h k. search (rules, tests)) c.filter-above.ensures.parts c.take.ensures.parts counted.ran in
+    let names = sym (name_kept_by_reads (λ (s : Lent g.row.R.Denot). s.reader.ghost_name) (λ failed r q k. k.0) read.items read.reads) in
+    let holds = counts_prefix_of_result read.items refl refl read.count_is row_limit-is c.try_fold.result read.reads exit in
     let finally = λ (x : g.row.R.Denot) (same : x ≡ c.try_fold.new.self.it.it.reader.reader.now). subst (λ y. CountsPrefix (g.R.ReadByte.left c.args.reader.now) (g.R.ReadByte.left y) c.try_fold.result) (sym same) holds in
     finally _ (search (rules, names))
 
@@ -34,9 +34,9 @@ pub returns-clause-failed : goal.returns-clause-failed
 returns-clause-failed g c is =
     let counted = c.try_fold.ensures.folded in
     let exit = count_exit_of_folded (λ f n x r h k. search rules) (λ e d h. search rules) counted in
-    let read = chain_reads _ _ _ _ c.new.result c.new.ensures.parts (lit≤ tt) {s = c.filter-above.result} {first = c.take.result} {last = counted.last} c.try_fold.new.self counted.items (λ x r h k. search (rules, tests)) c.filter-above.ensures.parts c.take.ensures.parts counted.ran in
-    let names = sym (name_kept_by_reads _ _ (λ (s : Lent g.row.R.Denot). s.reader.ghost_name) (λ failed r q k. k.0) _ _ _ _ _ _ read.reads) in
-    let lent = fails_of_result _ _ _ _ _ refl read.items _ _ counted.last c.try_fold.result read.reads exit is in
+    let read = chain_reads c.new.ensures.parts (lit≤ tt) {s = c.filter-above.result} {first = c.take.result} {last = counted.last} c.try_fold.new.self counted.items (λ x r h k. search (rules, tests)) c.filter-above.ensures.parts c.take.ensures.parts counted.ran in
+    let names = sym (name_kept_by_reads (λ (s : Lent g.row.R.Denot). s.reader.ghost_name) (λ failed r q k. k.0) read.items read.reads) in
+    let lent = fails_of_result refl read.items _ counted.last c.try_fold.result read.reads exit is in
     let fails = fails_lent g.R.ReadByte.left g.R.ReadByte.stays c.args.reader.now lent.1 c.try_fold.new.self.it.it.reader lent.0 lent.2 lent.3 in
     let finally = λ (x : g.row.R.Denot) (same : x ≡ c.try_fold.new.self.it.it.reader.reader.now). subst (λ y. FailsReading g.R.ReadByte.left g.R.ReadByte.stays c.args.reader.now y) (sym same) fails in
     finally _ (search (rules, names))

@@ -6,7 +6,7 @@ use Rattle.fallible_rows.proofs.laws.law_rows_of_bytes.Goals as goal
 
 pub returns-clause-only : goal.returns-clause-only
 returns-clause-only g c = λ s bytes trace t b never ran.
-    answers_are_of_bytes g.B.ReadByte.left g.B.ReadByte.stays bytes trace (rows_parts s) (rows_parts t) b never ((run_rows_seen (row_step g.B.ReadByte.left g.B.ReadByte.stays) trace s t).0 ran)
+    answers_are_of_bytes g.B.ReadByte.left g.B.ReadByte.stays bytes trace (rows_parts t) b never ((run_rows_seen (row_step g.B.ReadByte.left g.B.ReadByte.stays) trace s t).0 ran)
 
 pub returns-clause-each : goal.returns-clause-each
 returns-clause-each g c = λ s bytes trace b can h.

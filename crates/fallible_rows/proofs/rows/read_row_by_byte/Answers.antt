@@ -1,7 +1,8 @@
 use Rattle.std.proofs.Common.{◌≢◌, ℕ, ◌++◌, ◌∷◌, [], Option, Ok, subst, arith, rules}
+use Rattle.std.proofs.lemmas.Fn.{FoldsTo-push}
 use Rattle.std.proofs.lemmas.List.{length_push}
-use Rattle.program_io.specs.Bytes.{ReadsOne}
-use Rattle.fallible_rows.proofs.TraceLemmas.{is_one_row_one_more, gives_bytes_more}
+use Rattle.program_io.specs.Bytes.{GivesByte, ReadsOne}
+use Rattle.fallible_rows.proofs.TraceLemmas.{is_one_row_one_more}
 use Rattle.program_io.specs.declared.reading.ReadFailed.{ReadFailed}
 use Rattle.fallible_rows.proofs.rows.read_row_by_byte.Goals as goal
 
@@ -13,7 +14,7 @@ loop-read-preserved g c =
     record {
       bytes = before ++ c.in-Ok-Some.byte ∷ [];
       one = is_one_row_one_more before c.in-Ok-Some.byte c.loop-read.invariant.one other;
-      given = gives_bytes_more g.B.ReadByte.left g.B.ReadByte.stays before c.in-Ok-Some.byte _ _ _ c.loop-read.invariant.given came;
+      given = FoldsTo-push (GivesByte g.B.ReadByte.left g.B.ReadByte.stays) _ before _ c.in-Ok-Some.byte _ c.loop-read.invariant.given came;
       tells = c.followed_by-row.ensures before c.loop-read.invariant.tells;
       long = let longer = length_push before c.in-Ok-Some.byte in let long = c.loop-read.invariant.long in omega (arith, longer, long);
     }

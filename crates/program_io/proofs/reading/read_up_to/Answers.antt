@@ -1,7 +1,8 @@
 -- What each read takes comes behind what came before.
 use Rattle.std.proofs.Common.{rules, ◌-◌, length, [], ◌++◌, refl, sym, ◌∙◌, ap, append_assoc, append-nil, arith}
 use Rattle.std.proofs.lemmas.List.{length-append}
-use Rattle.program_io.proofs.ReadingLemmas.{gives_bytes_then, reads_up_to_broken}
+use Rattle.program_io.specs.Bytes.{GivesByte}
+use Rattle.program_io.proofs.ReadingLemmas.{folds_to_append, reads_up_to_broken}
 use Rattle.program_io.proofs.reading.read_up_to.Goals as goal
 
 pub loop-init : goal.loop-init
@@ -10,7 +11,7 @@ loop-init g c = record { more = []; are = sym (append-nil c.args.bytes.now.items
 pub returns-in-Err : goal.returns-in-Err
 returns-in-Err g c =
     let inv = c.loop.invariant in
-    reads_up_to_broken g.R.ReadByte.left g.R.ReadByte.stays _ _ _ c.args.bytes.now.items inv.more c.loop.bytes.items c.read_some.new.bytes.items c.args.size (c.args.size - c.len.result) c.in-Err.why inv.given inv.are (search rules) c.in-Err.ensures
+    reads_up_to_broken g.R.ReadByte.left g.R.ReadByte.stays {room = c.args.size - c.len.result} (record { more = inv.more; given = inv.given; are = inv.are; missing = search rules }) _ c.read_some.new.bytes.items c.in-Err.why c.in-Err.ensures
 
 pub loop-preserved : goal.loop-preserved
 loop-preserved g c =
@@ -23,7 +24,7 @@ loop-preserved g c =
     record {
       more = inv.more ++ read.0;
       are = read.1 ∙ ap (λ l. l ++ read.0) inv.are ∙ append_assoc c.args.bytes.now.items inv.more read.0;
-      given = gives_bytes_then g.R.ReadByte.left g.R.ReadByte.stays inv.more read.0 _ _ _ inv.given read.2;
+      given = folds_to_append (GivesByte g.R.ReadByte.left g.R.ReadByte.stays) inv.more read.0 _ _ _ inv.given read.2;
       some = omega (arith, some, at_least, long);
       within = search rules;
     }

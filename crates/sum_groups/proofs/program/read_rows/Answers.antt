@@ -4,4 +4,4 @@ use Rattle.sum_groups.proofs.Failing.{after_line}
 use Rattle.sum_groups.proofs.program.read_rows.Goals as goal
 
 pub returns-in-Err-read_rest : goal.returns-in-Err-read_rest
-returns-in-Err-read_rest g c = after_line g.R.ReadLines.left g.R.ReadLines.fails c.args.input.now c.read_first_line.new.self c.read_rest.new.self _ _ _ c.in-Ok.ensures.0 (search rules) c.in-Ok.ensures.1 c.in-Err-read_rest.ensures c.fault_of_read-in-Err-read_rest.ensures
+returns-in-Err-read_rest g c = after_line g.R.ReadLines.left g.R.ReadLines.fails (record { line = _; first = c.in-Ok.ensures.0; rows = search rules; consumed = c.in-Ok.ensures.1 }) c.read_rest.new.self _ _ c.in-Err-read_rest.ensures c.fault_of_read-in-Err-read_rest.ensures

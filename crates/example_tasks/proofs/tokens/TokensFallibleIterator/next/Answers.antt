@@ -12,4 +12,4 @@ pub returns-then-not-is_ascii_digit : goal.returns-then-not-is_ascii_digit
 returns-then-not-is_ascii_digit c = takes_shown_sign _ _ c.in-Some.first.now _ (search rules) (search rules) c.sign_token.ensures
 
 pub returns : goal.returns
-returns c = rw c.split_at.ensures.back (takes_shown_number _ c.in-Some.rest.now c.in-Some.first.now c.digits_in_front.result _ (search rules) (search rules) c.digits_in_front.ensures.reads c.digits_in_front.ensures.stops (c.number_token.ensures ∙ ap (λ k. result_answer (number_token k)) c.split_at.ensures.front))
+returns c = rw c.split_at.ensures.back (takes_shown_number c.in-Some.rest.now c.in-Some.first.now c.digits_in_front.result (search rules) (search rules) c.digits_in_front.ensures.reads c.digits_in_front.ensures.stops (c.number_token.ensures ∙ ap (λ k. result_answer (number_token k)) c.split_at.ensures.front))

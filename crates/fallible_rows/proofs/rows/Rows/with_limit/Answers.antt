@@ -11,7 +11,7 @@ pub returns-clause-fits : goal.returns-clause-fits
 returns-clause-fits g c = inl (bounds_rows g.B.ReadByte.left g.B.ReadByte.stays _ c.args.reader c.args.limit refl)
 
 pub returns-clause-lists : goal.returns-clause-lists
-returns-clause-lists g c = λ bytes never tells within. lists_rows g.B.ReadByte.left g.B.ReadByte.stays never _ c.args.reader c.args.limit bytes refl tells within
+returns-clause-lists g c = λ bytes never tells within. lists_rows g.B.ReadByte.left g.B.ReadByte.stays never c.args.reader c.args.limit refl tells within
 
 pub returns-clause-lists_where_read : goal.returns-clause-lists_where_read
-returns-clause-lists_where_read g c = λ bytes tells within. lists_rows_where_read g.B.ReadByte.left g.B.ReadByte.stays _ c.args.reader c.args.limit bytes refl tells within
+returns-clause-lists_where_read g c = λ bytes tells within. lists_rows_where_read g.B.ReadByte.left g.B.ReadByte.stays c.args.reader c.args.limit refl tells within
