@@ -11,10 +11,12 @@ pub mod CmpBy
 pub mod Coalesce
 pub mod Conversions
 pub mod Copied
+pub mod CountedGroups
 pub mod Counts
 pub mod Dedup
 pub mod DedupBy
 pub mod DedupByKey
+pub mod DedupWithCount
 pub mod Deduped
 pub mod Equal
 pub mod ErrInto
@@ -52,6 +54,7 @@ pub mod PartitionMap
 pub mod PeekingTakeWhile
 pub mod PositionBest
 pub mod Positions
+pub mod RunCounts
 pub mod Sides
 pub mod Sorted
 pub mod Staging

@@ -12,6 +12,7 @@ pub mod Counts
 pub mod Dedup
 pub mod DedupBy
 pub mod DedupByKey
+pub mod DedupWithCount
 pub mod Equal
 pub mod ErrInto
 pub mod ExactlyOne
@@ -40,6 +41,7 @@ pub mod Parting
 pub mod PeekingTakeWhile
 pub mod PositionBest
 pub mod Positions
+pub mod RunCounts
 pub mod Sides
 pub mod Sorted
 pub mod Staging

@@ -32,6 +32,7 @@ ghost use Rattle.fallible_itertools.specs.Counts.{IsCountsOf};
 ghost use Rattle.fallible_itertools.specs.Dedup.{dedup_contract, dedup_parts, deduped};
 ghost use Rattle.fallible_itertools.specs.DedupBy.{dedup_by_asks, dedup_by_contract, dedup_by_parts, dedup_by_takes, deduped_by};
 ghost use Rattle.fallible_itertools.specs.DedupByKey as dedup_by_key;
+ghost use Rattle.fallible_itertools.specs.DedupWithCount.{dedup_with_count_contract, dedup_with_count_parts};
 ghost use Rattle.fallible_itertools.specs.Equal.{FirstCall, TestCall, contained, equal_to_first, equal_value, rest_contained, rest_unequal, unequal_pick, value_or_both};
 ghost use Rattle.fallible_itertools.specs.ErrInto.{err_into_contract, err_into_parts};
 ghost use Rattle.fallible_itertools.specs.ExactlyOne.{AtMostOneDrains, at_most_one_of, wanting_one};
@@ -50,6 +51,7 @@ ghost use Rattle.fallible_itertools.specs.MinMax.{MinMaxDrains, minmaxed, or_les
 ghost use Rattle.fallible_itertools.specs.PadUsing as pad_using;
 ghost use Rattle.fallible_itertools.specs.PositionBest.{PlaceDrains, position_greatest, position_least};
 ghost use Rattle.fallible_itertools.specs.Positions.{positions_contract, positions_parts, positions_source, positions_where};
+ghost use Rattle.fallible_itertools.specs.RunCounts.{deduped_with_count};
 ghost use Rattle.fallible_itertools.specs.Parted.{PartitionedFailuresAs, parted_step, without_source};
 ghost use Rattle.fallible_itertools.specs.PartitionMap.{EitherRefused, MadeOfEithers};
 ghost use Rattle.fallible_itertools.specs.FindOrLast.{FoundOrFirst, FoundOrLast, found_or_first, found_or_last};
@@ -82,6 +84,7 @@ use crate::counts::Tally;
 use crate::dedup::Dedup;
 use crate::dedup_by::DedupBy;
 use crate::dedup_by_key::DedupByKey;
+use crate::dedup_with_count::DedupWithCount;
 use crate::equal::{AllEqualTurn, ContainsTurn, UnequalTurn, first_or_both};
 use crate::err_into::ErrInto;
 use crate::exactly_one::NotOne;
@@ -268,6 +271,38 @@ pub trait FallibleItertools: FallibleIterator {
             result (deduped Self.Item.eq l) }
     {
         Dedup {
+            it: self,
+            stage: (None, None),
+        }
+    }
+
+    /// Yields the first of adjacent equal items, each as `(count, item)`: beside how many they are. A count stays at `usize::MAX`.
+    ///
+    /// Laziness, draws and behaviour at a stop: as `dedup`. So equal items before and after a stop are counted apart.
+    ///
+    /// Requires: what `dedup` does, and so does `next`.
+    ///
+    /// ```
+    /// let readings = [Ok::<u32, u8>(7), Ok(7), Ok(150), Err(9), Ok(150)];
+    /// let mut it = convert(readings.into_iter()).dedup_with_count();
+    /// let drawn = [it.next(), it.next(), it.next(), it.next()];
+    /// assert_eq!(rt;
+    ///     drawn,
+    ///     [Ok(Some((2, 7))), Ok(Some((1, 150))), Err(9), Ok(Some((1, 150)))]
+    /// );
+    /// ```
+    final fn dedup_with_count(self) -> DedupWithCount<Self>
+    where
+        Self::Item: PartialEq + Drop,
+        Self::Error: Drop,
+        ensures parts { dedup_with_count_parts result ≡ (self, (None, None)) }
+        ensures lists { (l : List (Result Self.Item Self.Error))
+            → list.Lists Self.contract.steps self l
+            → list.Lists (seen_as dedup_with_count_parts
+            (dedup_with_count_contract Self.Item.eq Self.contract)).steps result
+            (deduped_with_count Self.Item.eq l) }
+    {
+        DedupWithCount {
             it: self,
             stage: (None, None),
         }

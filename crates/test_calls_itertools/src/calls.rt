@@ -95,6 +95,8 @@ fn adapters_that_hold_fold_up_to_an_end(rt: HostRuntime) -> Result<(), Fail> {
     expect_folded(&mut over_an_end, &log, &TWO_BY_ONE_FOLD)?;
     let mut it = one_one_two(alloc, &log)?.dedup();
     expect_folded(&mut it, &log, &TWO_BY_ONE_FOLD)?;
+    let mut it = one_one_two(alloc, &log)?.dedup_with_count();
+    expect_folded(&mut it, &log, &TWO_BY_ONE_FOLD)?;
     let mut it = one_one_two(alloc, &log)?.dedup_by_key(itself);
     expect_folded(&mut it, &log, &TWO_BY_ONE_FOLD)?;
     let mut it = one_one_two(alloc, &log)?.coalesce(one_of_equal);

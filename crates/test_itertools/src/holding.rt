@@ -57,6 +57,51 @@ fn dedup_gives_what_is_held_before_a_stop(rt: HostRuntime) -> Result<(), Fail> {
     Ok(())
 }
 
+// The count before the item, a digit each. It begins anew after a stop.
+const COUNTED: [Folded; 3] = [
+    (
+        &EQUAL,
+        &[
+            Item(21),
+            End,
+            Item(11),
+            Item(12),
+            Failure(9),
+            Item(12),
+            Item(13),
+            End,
+        ],
+        (Ok(0), END),
+    ),
+    (&EQUAL, &[], (Ok(21), Ok(Some(1)))),
+    (
+        &EQUAL,
+        &[Item(21), End, Item(11), Item(12), Failure(9)],
+        (Ok(133), END),
+    ),
+];
+
+// The count and the item, a digit each.
+fn count_and_item(run: (usize, u32)) -> Result<u32, u32> {
+    Ok(
+        u32::try_from(run.0)
+            .unwrap_or(9)
+            .wrapping_mul(10)
+            .wrapping_add(run.1),
+    )
+}
+
+#[test]
+fn dedup_with_count_counts_up_to_a_stop(rt: HostRuntime) -> Result<(), Fail> {
+    for (answers, drawn, expected) in &COUNTED {
+        let mut source = script(&rt, answers)?;
+        let mut it = (&mut source).dedup_with_count().map(count_and_item);
+        let folded = folded_after(&rt, &mut it, drawn)?;
+        expect_same(&(folded, source.next()), expected)?;
+    }
+    Ok(())
+}
+
 const TENS: [Drawn; 9] = [
     Ok(Some(11)),
     Ok(Some(12)),
