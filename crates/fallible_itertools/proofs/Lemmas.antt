@@ -16,6 +16,7 @@ pub mod Counts
 pub mod Dedup
 pub mod DedupBy
 pub mod DedupByKey
+pub mod DedupByWithCount
 pub mod DedupWithCount
 pub mod Deduped
 pub mod Equal

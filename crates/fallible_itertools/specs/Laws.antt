@@ -6,6 +6,7 @@ pub mod Copied
 pub mod Dedup
 pub mod DedupBy
 pub mod DedupByKey
+pub mod DedupByWithCount
 pub mod DedupWithCount
 pub mod ErrInto
 pub mod Holding

@@ -32,6 +32,7 @@ ghost use Rattle.fallible_itertools.specs.Counts.{IsCountsOf};
 ghost use Rattle.fallible_itertools.specs.Dedup.{dedup_contract, dedup_parts, deduped};
 ghost use Rattle.fallible_itertools.specs.DedupBy.{dedup_by_asks, dedup_by_contract, dedup_by_parts, dedup_by_takes, deduped_by};
 ghost use Rattle.fallible_itertools.specs.DedupByKey as dedup_by_key;
+ghost use Rattle.fallible_itertools.specs.DedupByWithCount.{dedup_by_with_count_asks, dedup_by_with_count_contract, dedup_by_with_count_parts, dedup_by_with_count_takes};
 ghost use Rattle.fallible_itertools.specs.DedupWithCount.{dedup_with_count_contract, dedup_with_count_parts};
 ghost use Rattle.fallible_itertools.specs.Equal.{FirstCall, TestCall, contained, equal_to_first, equal_value, rest_contained, rest_unequal, unequal_pick, value_or_both};
 ghost use Rattle.fallible_itertools.specs.ErrInto.{err_into_contract, err_into_parts};
@@ -51,7 +52,7 @@ ghost use Rattle.fallible_itertools.specs.MinMax.{MinMaxDrains, minmaxed, or_les
 ghost use Rattle.fallible_itertools.specs.PadUsing as pad_using;
 ghost use Rattle.fallible_itertools.specs.PositionBest.{PlaceDrains, position_greatest, position_least};
 ghost use Rattle.fallible_itertools.specs.Positions.{positions_contract, positions_parts, positions_source, positions_where};
-ghost use Rattle.fallible_itertools.specs.RunCounts.{deduped_with_count};
+ghost use Rattle.fallible_itertools.specs.RunCounts.{deduped_by_with_count, deduped_with_count};
 ghost use Rattle.fallible_itertools.specs.Parted.{PartitionedFailuresAs, parted_step, without_source};
 ghost use Rattle.fallible_itertools.specs.PartitionMap.{EitherRefused, MadeOfEithers};
 ghost use Rattle.fallible_itertools.specs.FindOrLast.{FoundOrFirst, FoundOrLast, found_or_first, found_or_last};
@@ -84,6 +85,7 @@ use crate::counts::Tally;
 use crate::dedup::Dedup;
 use crate::dedup_by::DedupBy;
 use crate::dedup_by_key::DedupByKey;
+use crate::dedup_by_with_count::DedupByWithCount;
 use crate::dedup_with_count::DedupWithCount;
 use crate::equal::{AllEqualTurn, ContainsTurn, UnequalTurn, first_or_both};
 use crate::err_into::ErrInto;
@@ -305,6 +307,42 @@ pub trait FallibleItertools: FallibleIterator {
         DedupWithCount {
             it: self,
             stage: (None, None),
+        }
+    }
+
+    /// Yields the first of adjacent items that the closure finds the same, each as `(count, item)`: beside how many they are. The closure is called on references to the buffered item and the next one. A count stays at `usize::MAX`.
+    ///
+    /// Laziness, draws and behaviour at a stop: as `dedup_by`. An item on which the closure fails isn't counted.
+    ///
+    /// Requires: what `dedup_by` does, and so does `next`.
+    ///
+    /// ```
+    /// let readings = [Ok::<u32, u8>(150), Ok(157), Ok(7)];
+    /// let mut it = convert(readings.into_iter()).dedup_by_with_count(|first, second| Ok(
+    ///     *first / 10 == *second / 10,
+    /// ));
+    /// let drawn = [it.next(), it.next(), it.next()];
+    /// assert_eq!(rt; drawn, [Ok(Some((2, 150))), Ok(Some((1, 7))), Ok(None)]);
+    /// ```
+    final fn dedup_by_with_count<F>(self, same: F) -> DedupByWithCount<Self, F>
+    where
+        Self::Item: Drop,
+        Self::Error: Drop,
+        F: FnMut(&Self::Item, &Self::Item) -> Result<bool, Self::Error>,
+        requires callable { IsCallable (dedup_by_with_count_asks (call_at_two F.FnMut))
+            (dedup_by_with_count_takes (takes_at_two F.FnMut)) (MayBeAsked Self.contract self)
+            (None, same) }
+        ensures parts { dedup_by_with_count_parts result ≡ (self, ((None, same), None)) }
+        ensures lists { (h : Self.Item → Self.Item → Result Bool Self.Error)
+            (l : List (Result Self.Item Self.Error))
+            → list.ActsWith (call_at_two F.FnMut) same h → list.Lists Self.contract.steps self l
+            → list.Lists (seen_as dedup_by_with_count_parts
+            (dedup_by_with_count_contract Self.contract F.FnMut)).steps result
+            (deduped_by_with_count h l) }
+    {
+        DedupByWithCount {
+            it: self,
+            stage: ((None, same), None),
         }
     }
 

@@ -64,6 +64,11 @@ fn one_of_equal(first: u32, second: u32) -> Result<Result<u32, (u32, u32)>, Test
     })
 }
 
+// Whether they are equal.
+fn are_equal(first: &u32, second: &u32) -> Result<bool, TestError> {
+    Ok(*first == *second)
+}
+
 // Itself.
 fn itself(x: &u32) -> Result<u32, TestError> {
     Ok(*x)
@@ -96,6 +101,8 @@ fn adapters_that_hold_fold_up_to_an_end(rt: HostRuntime) -> Result<(), Fail> {
     let mut it = one_one_two(alloc, &log)?.dedup();
     expect_folded(&mut it, &log, &TWO_BY_ONE_FOLD)?;
     let mut it = one_one_two(alloc, &log)?.dedup_with_count();
+    expect_folded(&mut it, &log, &TWO_BY_ONE_FOLD)?;
+    let mut it = one_one_two(alloc, &log)?.dedup_by_with_count(are_equal);
     expect_folded(&mut it, &log, &TWO_BY_ONE_FOLD)?;
     let mut it = one_one_two(alloc, &log)?.dedup_by_key(itself);
     expect_folded(&mut it, &log, &TWO_BY_ONE_FOLD)?;

@@ -167,6 +167,46 @@ fn dedup_by_loses_the_item_that_it_failed_on_alone(rt: HostRuntime) -> Result<()
     Ok(())
 }
 
+// The count and the first of each ten, which begins anew after a stop. 77 isn't counted.
+const COUNTED_TENS: [Folded; 3] = [
+    (
+        &TENS,
+        &[
+            Item(31),
+            Failure(5),
+            Item(23),
+            Item(31),
+            Failure(9),
+            Item(39),
+            End,
+            Item(32),
+            End,
+        ],
+        (Ok(0), END),
+    ),
+    (&TENS, &[], (Err(5), Ok(Some(13)))),
+    (&TENS, &[Item(31), Failure(5)], (Err(9), Ok(Some(29)))),
+];
+
+#[test]
+fn dedup_by_with_count_counts_what_the_closure_finds_the_same(rt: HostRuntime) -> Result<(), Fail> {
+    for (answers, drawn, expected) in &COUNTED_TENS {
+        let mut source = script(&rt, answers)?;
+        let mut it = (&mut source)
+            .dedup_by_with_count(|first: &u32, second: &u32| -> Result<bool, u32> {
+                if *second == 77 {
+                    Err(5)
+                } else {
+                    Ok(*first / 10 == *second / 10)
+                }
+            })
+            .map(count_and_item);
+        let folded = folded_after(&rt, &mut it, drawn)?;
+        expect_same(&(folded, source.next()), expected)?;
+    }
+    Ok(())
+}
+
 const SUMMED: [Drawn; 10] = [
     Ok(Some(1)),
     Ok(Some(2)),

@@ -4,7 +4,7 @@ use Rattle.std.proofs.Common.{refl, ap, arith}
 use Rattle.fallible_iterator.specs.Lists.{mapped}
 use Rattle.fallible_itertools.specs.DedupBy.{deduped_by, deduped_by_from, same_before}
 use Rattle.fallible_itertools.specs.Holding.{held_one}
-use Rattle.fallible_itertools.specs.RunCounts.{counted_before, counted_from, counted_same, one_more}
+use Rattle.fallible_itertools.specs.RunCounts.{counted_before, counted_from, counted_same, deduped_by_with_count, one_more}
 use Rattle.fallible_itertools.proofs.Lemmas.HoldingLists.{by_outcome, held_list, listed_parts}
 use Rattle.fallible_iterator.specs.Outcome.{Outcome}
 use Rattle.fallible_iterator.specs.Outcome.TheVariants.{Kept, LeftOut, Failure, End}
@@ -103,3 +103,12 @@ module _ {A E : Type 0} (h : A → A → Result Bool E) where
   pub deduped_by_of_counted : (l : List (Result A E)) → mapped (λ p. Ok p.1) (counted_from h None l) ≡ deduped_by h l
   unfolding deduped_by
   deduped_by_of_counted l = uncounted_from None l
+
+  -- The same of the word that callers have.
+  pub deduped_by_with_count_in_parts : (a : List (Result A E)) (e : E) (b : List (Result A E)) → deduped_by_with_count h (a ++ Err e ∷ b) ≡ deduped_by_with_count h a ++ Err e ∷ deduped_by_with_count h b
+  unfolding deduped_by_with_count
+  deduped_by_with_count_in_parts a e b = counted_in_parts a e b
+
+  pub deduped_by_of_deduped_by_with_count : (l : List (Result A E)) → mapped (λ p. Ok p.1) (deduped_by_with_count h l) ≡ deduped_by h l
+  unfolding deduped_by_with_count
+  deduped_by_of_deduped_by_with_count l = deduped_by_of_counted l
