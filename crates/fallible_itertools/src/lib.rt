@@ -3,6 +3,7 @@
 //! Import the trait [`FallibleItertools`] to have them, and [`DoubleEndedFallibleItertools`] for those from the back.
 #![tactic(auto)]
 
+mod all_unique;
 pub mod batch;
 pub mod checked_sum;
 pub mod chunk_by;

@@ -6,6 +6,7 @@ ghost use Rattle.std.specs.Prelude.{◌≡◌, ℕ, ◌+◌, ◌≤◌, List, No
 ghost use Rattle.std.specs.Cmp.{IsStrictWeakOrder};
 ghost use Rattle.std.specs.Fn.{ComparesAs, ComputesKey};
 ghost use Rattle.std.specs.Iterator.{IsFinite};
+ghost use Rattle.std.specs.declared.alloc.AllocError.{AllocError};
 ghost use Rattle.std.specs.declared.cmp.Ordering.{Ordering};
 ghost use Rattle.std.specs.declared.cmp.Ordering.TheVariants.{Greater, Less};
 ghost use Rattle.fallible_iterator.specs.Clauses.{OverList, OverListWith, OverBoth};
@@ -13,7 +14,7 @@ ghost use Rattle.fallible_iterator.specs.Closures.{IsCallable, call_by_reference
 ghost use Rattle.fallible_iterator.specs.Collecting.{Collects};
 ghost use Rattle.fallible_iterator.specs.Comparing.{OneIsFinite, read_as, reads_eq};
 ghost use Rattle.fallible_iterator.specs.Contract.{seen_as, AtMost, Stays};
-ghost use Rattle.fallible_iterator.specs.Fault.TheVariants.{Source};
+ghost use Rattle.fallible_iterator.specs.Fault.TheVariants.{Memory, Source};
 ghost use Rattle.fallible_iterator.specs.Failing.{failures_mapped};
 ghost use Rattle.fallible_iterator.specs.Folds as fold;
 ghost use Rattle.fallible_iterator.specs.Lists as list;
@@ -22,6 +23,7 @@ ghost use Rattle.fallible_iterator.specs.OneToOne.Enumerate.{IsNumberable, enume
 ghost use Rattle.fallible_iterator.specs.OneToOne.Map.{map_contract};
 ghost use Rattle.fallible_iterator.specs.Picking.{call_at_two, takes_at_two};
 ghost use Rattle.fallible_iterator.specs.Searching as search;
+ghost use Rattle.fallible_itertools.specs.AllUnique.{AllUniqueAs, AllUniqueDrains, rest_repeated};
 ghost use Rattle.fallible_itertools.specs.ChunkBy.{MadeGroup, chunk_by_contract, chunk_by_parts, chunked_by};
 ghost use Rattle.fallible_itertools.specs.Chunks.{chunked, chunks_contract, chunks_parts};
 ghost use Rattle.fallible_itertools.specs.Coalesce as coalesce;
@@ -74,6 +76,7 @@ ghost use Rattle.fallible_itertools.specs.ZipLongest as zip_longest;
 ghost use Rattle.fallible_itertools.specs.declared.exactly_one.NotOne.TheVariants.{More};
 ghost use Rattle.fallible_itertools.specs.declared.fold_while.FoldWhile.TheVariants.{Done};
 
+use crate::all_unique::{AllUniqueTurn, unique_or_fault};
 use crate::checked_sum::{CheckedTotal, ProductTurn, SumTurn, total_or_none};
 use crate::chunk_by::ChunkBy;
 use crate::chunks::Chunks;
@@ -631,6 +634,39 @@ pub trait FallibleItertools: FallibleIterator {
         ensures stays { Stays Self.contract self.old self.new }
     {
         answer_or(self.drive(&mut None, &AllEqualTurn), true)
+    }
+
+    /// Returns whether no two items are equal; true if there is no item.
+    ///
+    /// It draws up to an item that equals one before it, the first failure or `Ok(None)`. It fails with that failure. Nothing is drawn after that, and the iterator may be used again. It forgets what came before then. A set has each item that was drawn.
+    ///
+    /// Precondition: the iterator is finite.
+    ///
+    /// Requires: `next` may be called.
+    ///
+    /// Memory: that failure is a `Fault::Source`. It also stops at an item that no item before equals, if room for it can't be allocated. Then it fails with `Fault::Memory`.
+    ///
+    /// ```
+    /// let mut it = convert([Ok::<u32, u8>(7), Ok(150), Ok(7), Ok(8)].into_iter());
+    /// assert!(rt; !it.all_unique(rt.alloc())?);
+    /// assert!(rt; it.all_unique(rt.alloc())?);
+    /// ```
+    final fn all_unique(&mut self, alloc: Global) -> Result<bool, Fault<Self::Error>>
+    where
+        Self::Item: Eq + Hash + Drop,
+        requires can_next { Self.contract.can_next self.old }
+        requires finite { Self.contract.is_finite self.old }
+        ensures searched { AllUniqueDrains Self.Item.eq Self.contract.steps self.old result self.new }
+        ensures value { OverList Self.contract.steps self.old
+            (λ l. AllUniqueAs Self.Item.eq l result) }
+        ensures rest { OverList Self.contract.steps self.old
+            (λ l. ¬ (result ≡ Ok true) → ((a : AllocError) → ¬ (result ≡ Err (Memory a)))
+            → list.Lists Self.contract.steps self.new (rest_repeated Self.Item.eq l)) }
+        ensures stays { Stays Self.contract self.old self.new }
+    {
+        let mut seen = HashSet::new(alloc);
+        let answer = self.drive(&mut seen, &AllUniqueTurn);
+        unique_or_fault(answer)
     }
 
     /// Returns the first item, if it equals each later one: `Ok(Ok(item))`. Of items that aren't all equal it returns the first one and the first that it doesn't equal, `Ok(Err(Some((item, other))))`, and of no items `Ok(Err(None))`.

@@ -385,6 +385,20 @@ fn all_equal_value_is_one_fold(rt: HostRuntime) {
     assert_eq!(rt; (it.all_equal_value(), log.take()), ONE_VALUE);
 }
 
+// Whether no item comes again, and the calls that come for it.
+const REPEATED: (Option<bool>, Calls) = (Some(false), ONE_FOLD);
+
+const NOT_REPEATED: (Option<bool>, Calls) = (Some(true), ONE_FOLD);
+
+#[test]
+fn all_unique_is_one_fold(rt: HostRuntime) {
+    let log = Log::new();
+    let answers = [Ok(1), Ok(2), Ok(1), Ok(2)];
+    let mut it = counted(&answers, &log);
+    assert_eq!(rt; (it.all_unique(rt.alloc()).ok(), log.take()), REPEATED);
+    assert_eq!(rt; (it.all_unique(rt.alloc()).ok(), log.take()), NOT_REPEATED);
+}
+
 // The sum, the product, and the calls of both.
 const TOTALS: ([Result<Option<u32>, u32>; 2], Calls) = ([Ok(Some(5)), Ok(Some(4))], TWO_FOLDS);
 
