@@ -6,7 +6,6 @@ ghost use Rattle.std.specs.Prelude.{◌≡◌, ℕ, ◌+◌, ◌≤◌, List, No
 ghost use Rattle.std.specs.Cmp.{IsStrictWeakOrder};
 ghost use Rattle.std.specs.Fn.{ComparesAs, ComputesKey};
 ghost use Rattle.std.specs.Iterator.{IsFinite};
-ghost use Rattle.std.specs.declared.alloc.AllocError.{AllocError};
 ghost use Rattle.std.specs.declared.cmp.Ordering.{Ordering};
 ghost use Rattle.std.specs.declared.cmp.Ordering.TheVariants.{Greater, Less};
 ghost use Rattle.fallible_iterator.specs.Clauses.{OverList, OverListWith, OverBoth};
@@ -14,7 +13,7 @@ ghost use Rattle.fallible_iterator.specs.Closures.{IsCallable, call_by_reference
 ghost use Rattle.fallible_iterator.specs.Collecting.{Collects};
 ghost use Rattle.fallible_iterator.specs.Comparing.{OneIsFinite, read_as, reads_eq};
 ghost use Rattle.fallible_iterator.specs.Contract.{seen_as, AtMost, Stays};
-ghost use Rattle.fallible_iterator.specs.Fault.TheVariants.{Memory, Source};
+ghost use Rattle.fallible_iterator.specs.Fault.TheVariants.{Source};
 ghost use Rattle.fallible_iterator.specs.Failing.{failures_mapped};
 ghost use Rattle.fallible_iterator.specs.Folds as fold;
 ghost use Rattle.fallible_iterator.specs.Lists as list;
@@ -660,7 +659,10 @@ pub trait FallibleItertools: FallibleIterator {
         ensures value { OverList Self.contract.steps self.old
             (λ l. AllUniqueAs Self.Item.eq l result) }
         ensures rest { OverList Self.contract.steps self.old
-            (λ l. ¬ (result ≡ Ok true) → ((a : AllocError) → ¬ (result ≡ Err (Memory a)))
+            (λ l. result ≡ Ok false
+            → list.Lists Self.contract.steps self.new (rest_repeated Self.Item.eq l)) }
+        ensures rest_failed { OverList Self.contract.steps self.old
+            (λ l. (e : Self.Error) → result ≡ Err (Source e)
             → list.Lists Self.contract.steps self.new (rest_repeated Self.Item.eq l)) }
         ensures stays { Stays Self.contract self.old self.new }
     {

@@ -7,7 +7,7 @@ use Rattle.std.specs.List.{FoldsTo, list_any}
 use Rattle.std.proofs.Common.{refl, sym, ap, subst, arith, ◌∙◌}
 use Rattle.fallible_iterator.specs.Traces.{Answered}
 use Rattle.fallible_iterator.specs.Fault.{Fault}
-use Rattle.fallible_iterator.specs.Fault.TheVariants.{Memory, Source}
+use Rattle.fallible_iterator.specs.Fault.TheVariants.{Memory}
 use Rattle.fallible_iterator.specs.Folds.{goes_on, DriveExit, Driven, NthExit}
 use Rattle.fallible_iterator.specs.Lists.{Lists, rest_nth, stopped_or}
 use Rattle.fallible_iterator.proofs.Lemmas.Folds.{drained_map}
@@ -15,7 +15,6 @@ use Rattle.fallible_iterator.proofs.Lemmas.Lists.Drawn.{RestAt, drawn_of_lists}
 use Rattle.fallible_iterator.proofs.Lemmas.Lists.Rest.{lists_rest_nth}
 use Rattle.fallible_itertools.specs.AllUnique.{AllUniqueAs, AllUniqueDrains, UniqueAs, UniqueExit, UniqueStop, are_unique, false_or, is_unique_turn, rest_repeated, rest_repeated_after, seen_turn, unique_after, unique_or_fault_of}
 use Rattle.std.specs.declared.alloc.AllocError.{AllocError}
-use Rattle.std.specs.declared.ops.ControlFlow.{ControlFlow}
 use Rattle.std.specs.declared.ops.ControlFlow.TheVariants.{Break, Continue}
 
 cond_or : (a b : Bool) → cond a true b ≡ (a || b)

@@ -14,7 +14,7 @@ use Rattle.fallible_itertools.proofs.Lemmas.HoldingHints.{GivesHeld}
 use Rattle.fallible_itertools.proofs.Lemmas.HoldingLists.{held_list, gives_held_list}
 use Rattle.fallible_itertools.proofs.Lemmas.RunCounts.{count_outcome, counted_same_is_function, held_after_count, held_after_counted, held_list_is_counted_from, held_one_of_counted_left_out, outcome_of_counted}
 use Rattle.fallible_iterator.specs.Outcome.{Outcome}
-use Rattle.fallible_iterator.specs.Outcome.TheVariants.{Kept, LeftOut, End}
+use Rattle.fallible_iterator.specs.Outcome.TheVariants.{LeftOut, End}
 use Rattle.fallible_itertools.specs.declared.dedup_by_with_count.DedupByWithCount.{DedupByWithCount}
 
 module _ {A E : Type 0} (h : A → A → Result Bool E) where

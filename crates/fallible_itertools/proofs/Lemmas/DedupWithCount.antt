@@ -1,17 +1,17 @@
 -- What `DedupWithCount` lists, and its hint.
-use Rattle.std.specs.Prelude.{◌≡◌, ℕ, ◌≤◌, Bool, true, false, Option, Some, None, Result, Ok, Err, List, [], ◌∷◌}
+use Rattle.std.specs.Prelude.{◌≡◌, ℕ, ◌≤◌, Bool, Option, Some, None, Result, Ok, List}
 use Rattle.std.proofs.Common.{refl, subst, arith}
 use Rattle.fallible_iterator.specs.Contract.{Contract, seen_as}
 use Rattle.fallible_iterator.specs.Lists.{Lists}
 use Rattle.fallible_iterator.proofs.Lemmas.Lists.Passing.{lists_seen}
 use Rattle.fallible_itertools.specs.DedupWithCount.{dedup_with_count_asks, dedup_with_count_contract, dedup_with_count_parts}
 use Rattle.fallible_itertools.specs.Holding.{held_one}
-use Rattle.fallible_itertools.specs.RunCounts.{counted_from, deduped_with_count}
+use Rattle.fallible_itertools.specs.RunCounts.{deduped_with_count}
 use Rattle.fallible_itertools.proofs.Lemmas.HoldingHints.{GivesHeld}
 use Rattle.fallible_itertools.proofs.Lemmas.HoldingLists.{held_list, gives_held_list}
 use Rattle.fallible_itertools.proofs.Lemmas.RunCounts.{count_outcome, counted_same_is_function, held_after_count, held_list_is_counted_from, held_one_of_counted_left_out}
 use Rattle.fallible_iterator.specs.Outcome.{Outcome}
-use Rattle.fallible_iterator.specs.Outcome.TheVariants.{Kept, LeftOut, End}
+use Rattle.fallible_iterator.specs.Outcome.TheVariants.{LeftOut, End}
 use Rattle.fallible_itertools.specs.declared.dedup_with_count.DedupWithCount.{DedupWithCount}
 
 module _ {A E : Type 0} (eq : A → A → Bool) where

@@ -10,7 +10,10 @@ pub returns-clause-value : goal.returns-clause-value
 returns-clause-value g c l i = all_unique_of_lists g.Self.Item.PartialEq.eq l (returns-clause-searched g c) i
 
 pub returns-clause-rest : goal.returns-clause-rest
-returns-clause-rest g c l i ended refused = lists_rest_repeated g.Self.Item.PartialEq.eq l (returns-clause-searched g c) i ended refused
+returns-clause-rest g c l i is = lists_rest_repeated g.Self.Item.PartialEq.eq l (returns-clause-searched g c) i (λ k. cc) (λ a k. cc)
+
+pub returns-clause-rest_failed : goal.returns-clause-rest_failed
+returns-clause-rest_failed g c l i e is = lists_rest_repeated g.Self.Item.PartialEq.eq l (returns-clause-searched g c) i (λ k. cc) (λ a k. cc)
 
 pub returns-clause-stays : goal.returns-clause-stays
 returns-clause-stays g c = stays_run g.met.Self.FallibleIterator.lawful _ _ _ c.requires.can_next c.drive-answer.ensures.ran

@@ -1,6 +1,6 @@
 // changed: a refusal has no value
 // proved: 98a8ea2f
-fn unique_or_fault<E>(answer: Result<Option<Option<AllocError>>, E>) -> Result<bool, E>
+pub fn unique_or_fault<E>(answer: Result<Option<Option<AllocError>>, E>) -> Result<bool, E>
 {
     match answer {
         Ok(None) => Ok(true),
