@@ -91,6 +91,7 @@ ITERTOOLS = [
     # Without its number it can be cloned and shown.
     (r"stop_after\.rs", r"^pub struct StopAfter<", r"#[derive(Clone, Debug)]\n\g<0>", 1),
     # Imports.
+    (r"all_unique\.rs", r"^use fallible_iterator::\{Fault, Turn\};", "use fallible_iterator::Turn;", 1),
     (r"sorted\.rs", r"^use fallible_iterator::Fault;", "use alloc::vec::Vec;", 1),
     (r"traits\.rs", r"^use fallible_iterator::\{Collect, FallibleIterator, Fault, Into", "use fallible_iterator::"
      "fallible_contract::collecting::{CollectTurn, Extended};\nuse fallible_iterator::{FallibleIterator, Into", 1),
@@ -100,22 +101,22 @@ ITERTOOLS = [
     # Features.
     (r"lib\.rs", r"^pub mod (?:batch|chunk_by|chunks|join);", r'#[cfg(feature = "alloc")]\n\g<0>', 4),
     (r"lib\.rs", r"^mod sorted;", r'#[cfg(feature = "alloc")]\n\g<0>', 1),
-    (r"lib\.rs", r"^mod keyed;", r'#[cfg(feature = "std")]\n\g<0>', 1),
+    (r"lib\.rs", r"^mod (?:all_unique|keyed);", r'#[cfg(feature = "std")]\n\g<0>', 2),
     (r"lib\.rs", r"^pub use (?:chunk_by|chunks)::", r'#[cfg(feature = "alloc")]\n\g<0>', 2),
     (r"lib\.rs", r"^pub (?:mod (?:counts|group_map|unique);|use unique::)", r'#[cfg(feature = "std")]\n\g<0>', 4),
     (r"(?:batch|chunk_by|chunks|group_map)\.rs", r"\A(//.*\n\n)", r"\1use alloc::vec::Vec;\n", 4),
     (r"traits\.rs", r"^use crate::(?:chunk_by|chunks|join|sorted)::", r'#[cfg(feature = "alloc")]\n\g<0>', 4),
     (r"traits\.rs", r"^use core::fmt::Display;",
      r'#[cfg(feature = "alloc")]\nuse alloc::string::String;\n#[cfg(feature = "alloc")]\nuse alloc::vec::Vec;\n#[cfg(feature = "alloc")]\n\g<0>', 1),
-    (r"traits\.rs", r"^use (?:crate::(?:counts|group_map|keyed|unique)::|core::hash::|std::coll)",
-     r'#[cfg(feature = "std")]\n\g<0>', 6),
+    (r"traits\.rs", r"^use (?:crate::(?:all_unique|counts|group_map|keyed|unique)::|core::hash::|std::coll)",
+     r'#[cfg(feature = "std")]\n\g<0>', 7),
     (r"traits\.rs", r"^    fn (?:chunks|chunk_by|join|sorted|sorted_by|sorted_by_key)\b", r'    #[cfg(feature = "alloc")]\n\g<0>', 6),
-    (r"traits\.rs", r"^    fn (?:counts|counts_by|into_group_map|into_group_map_by|unique)\b",
-     r'    #[cfg(feature = "std")]\n\g<0>', 5),
+    (r"traits\.rs", r"^    fn (?:all_unique|counts|counts_by|into_group_map|into_group_map_by|unique)\b",
+     r'    #[cfg(feature = "std")]\n\g<0>', 6),
     (r"lib\.rs", r"\A(?://!.*\n)+\n", HEAD + "mod errors;\n", 1),
-    (r"lib\.rs", r"^pub mod \w+;", r"#[doc(hidden)]\n\g<0>", 38),
-    (r"(?:counts|group_map|join|partition_map|until_failure)\.rs", r"\A(//.*\n\n)",
-     r"\1use fallible_iterator::memory::AllocError;\n", 5),
+    (r"lib\.rs", r"^pub mod \w+;", r"#[doc(hidden)]\n\g<0>", 40),
+    (r"(?:all_unique|counts|group_map|join|partition_map|until_failure)\.rs", r"\A(//.*\n\n)",
+     r"\1use fallible_iterator::memory::AllocError;\n", 6),
 ]
 
 # Collections of std that are made by Rust's own `collect`.

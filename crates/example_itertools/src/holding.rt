@@ -6,6 +6,7 @@ ghost use Rattle.fallible_itertools.specs.Coalesce.{coalesced};
 ghost use Rattle.fallible_itertools.specs.Dedup.{deduped};
 ghost use Rattle.fallible_itertools.specs.DedupBy.{deduped_by};
 ghost use Rattle.fallible_itertools.specs.DedupByKey.{deduped_by_key};
+ghost use Rattle.fallible_itertools.specs.RunCounts.{deduped_by_with_count, deduped_with_count};
 ghost use Rattle.fallible_itertools.specs.TupleWindows.{windowed};
 ghost use Rattle.fallible_itertools.specs.Tuples.{tupled};
 ghost use Rattle.fallible_itertools.specs.WithPosition.{positioned};
@@ -83,6 +84,36 @@ pub fn changes_of_tens(readings: Vec<Result<u32, u8>>) -> Result<usize, u8>
     convert(readings.into_iter())
         .dedup_by(|first, second| Ok(*first / 10 == *second / 10))
         .count()
+}
+
+/// The first reading with the number of readings that follow each other and are equal to it, itself counted, or the first failure.
+pub fn first_run(readings: Vec<Result<u32, u8>>) -> Result<Option<(usize, u32)>, u8>
+    ensures { result ≡ nth_of 0 (deduped_with_count nat_eq (results readings.items)) }
+{
+    let mut it = convert(readings.into_iter()).dedup_with_count();
+    it.draw()
+}
+
+/// How many readings come in runs of two equal ones or more, each run once, or the first failure.
+pub fn repeated_runs(readings: Vec<Result<u32, u8>>) -> Result<usize, u8>
+    ensures { result ≡ counted (filtered (λ run. Ok (nat_lt 1 run.0))
+        (deduped_with_count nat_eq (results readings.items))) }
+{
+    convert(readings.into_iter())
+        .dedup_with_count()
+        .filter(|run| Ok(run.0 > 1))
+        .count()
+}
+
+/// The first reading with the number of readings in the same ten as it that follow it at once, itself counted, or the first failure.
+pub fn first_run_of_tens(readings: Vec<Result<u32, u8>>) -> Result<Option<(usize, u32)>, u8>
+    ensures { result ≡ nth_of 0 (deduped_by_with_count
+        (λ x y. Ok (nat_eq (x / 10) (y / 10))) (results readings.items)) }
+{
+    let mut it = convert(readings.into_iter()).dedup_by_with_count(|first, second| Ok(
+        *first / 10 == *second / 10,
+    ));
+    it.draw()
 }
 
 /// How many readings are left if each that is below the one before it is merged with that, or the first failure.

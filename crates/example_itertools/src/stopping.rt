@@ -3,6 +3,7 @@ ghost use Rattle.std.specs.Prelude.{◌≡◌, true, nat_eq, ◌+◌, ◌%◌, �
 ghost use Rattle.std.specs.Ordering.{nat_cmp};
 ghost use Rattle.fallible_iterator.specs.Comparing.{by_cmp};
 ghost use Rattle.fallible_iterator.specs.Lists.{Lists, filtered, last_of, nth_of, results};
+ghost use Rattle.fallible_itertools.specs.AllUnique.{AllUniqueAs};
 ghost use Rattle.fallible_itertools.specs.Equal.{contained, equal_to_first, equal_value, rest_contained};
 ghost use Rattle.fallible_itertools.specs.FindOrLast.{found_or_first, found_or_last};
 ghost use Rattle.fallible_itertools.specs.FindPosition.{position_found};
@@ -12,8 +13,9 @@ ghost use Rattle.fallible_itertools.specs.IsSorted.{in_order, in_order_by_key};
 ghost use Rattle.fallible_itertools.specs.FoldWhile.{rest_while, folded_while};
 ghost use Rattle.fallible_itertools.specs.declared.fold_while.FoldWhile.TheVariants.{Continue, Done};
 
-use fallible_iterator::{FallibleIterator, convert};
+use fallible_iterator::{FallibleIterator, Fault, convert};
 use fallible_itertools::{FallibleItertools, FoldWhile};
+use std::alloc::Global;
 
 /// The sum of the readings up to the first 0, modulo 2 ^ 32, or the first failure before.
 pub fn sum_up_to_zero(readings: Vec<Result<u32, u8>>) -> Result<FoldWhile<u32>, u8>
@@ -97,6 +99,16 @@ pub fn value_above_100(
     convert(readings.into_iter())
         .filter(|reading| Ok(*reading > 100))
         .all_equal_value()
+}
+
+/// Whether no reading above 100 comes again, or the failure that comes before one that does; or an allocation failure.
+pub fn above_100_unique(readings: Vec<Result<u32, u8>>, alloc: Global) -> Result<bool, Fault<u8>>
+    ensures { AllUniqueAs nat_eq
+        (filtered (λ x. Ok (nat_lt 100 x)) (results readings.items)) result }
+{
+    convert(readings.into_iter())
+        .filter(|reading| Ok(*reading > 100))
+        .all_unique(alloc)
 }
 
 /// Whether a reading is 0, or the failure that comes before it.

@@ -1,5 +1,6 @@
 -- The lemmas on each adapter, on what adapters share, and on consumers that have the name of their module.
 pub mod Adjacent
+pub mod AllUnique
 pub mod AtMostOne
 pub mod CheckedSum
 pub mod ChunkBy
@@ -11,10 +12,13 @@ pub mod CmpBy
 pub mod Coalesce
 pub mod Conversions
 pub mod Copied
+pub mod CountedGroups
 pub mod Counts
 pub mod Dedup
 pub mod DedupBy
 pub mod DedupByKey
+pub mod DedupByWithCount
+pub mod DedupWithCount
 pub mod Deduped
 pub mod Equal
 pub mod ErrInto
@@ -52,6 +56,7 @@ pub mod PartitionMap
 pub mod PeekingTakeWhile
 pub mod PositionBest
 pub mod Positions
+pub mod RunCounts
 pub mod Sides
 pub mod Sorted
 pub mod Staging

@@ -6,6 +6,8 @@ pub mod Copied
 pub mod Dedup
 pub mod DedupBy
 pub mod DedupByKey
+pub mod DedupByWithCount
+pub mod DedupWithCount
 pub mod ErrInto
 pub mod Holding
 pub mod InspectErr

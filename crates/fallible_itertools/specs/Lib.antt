@@ -1,5 +1,6 @@
 -- What the clauses of `src/` cite, and in `Laws` what follows from it: lemmas that the ghost members cite.
 pub mod Adjacent
+pub mod AllUnique
 pub mod Batch
 pub mod CheckedSum
 pub mod ChunkBy
@@ -12,6 +13,8 @@ pub mod Counts
 pub mod Dedup
 pub mod DedupBy
 pub mod DedupByKey
+pub mod DedupByWithCount
+pub mod DedupWithCount
 pub mod Equal
 pub mod ErrInto
 pub mod ExactlyOne
@@ -40,6 +43,7 @@ pub mod Parting
 pub mod PeekingTakeWhile
 pub mod PositionBest
 pub mod Positions
+pub mod RunCounts
 pub mod Sides
 pub mod Sorted
 pub mod Staging

@@ -1,6 +1,7 @@
 //! What a trace of each adapter is, and that hints are sound, as functions whose body is empty or calls other laws.
 
 mod copied;
+mod counting;
 mod failing;
 mod failures;
 mod grouping;
@@ -20,6 +21,10 @@ mod zip_longest;
 pub use copied::{
     law_back_copied, law_copied, law_hints_back_copied, law_hints_copied, law_hints_listed_copied,
     law_listed_copied,
+};
+pub use counting::{
+    law_dedup_by_with_count, law_dedup_with_count, law_deduped_by_with_count,
+    law_deduped_with_count, law_hints_dedup_by_with_count, law_hints_dedup_with_count,
 };
 pub use failing::{
     law_back_err_into, law_back_inspect_err, law_back_or_else, law_err_into,

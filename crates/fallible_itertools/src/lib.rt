@@ -3,6 +3,7 @@
 //! Import the trait [`FallibleItertools`] to have them, and [`DoubleEndedFallibleItertools`] for those from the back.
 #![tactic(auto)]
 
+mod all_unique;
 pub mod batch;
 pub mod checked_sum;
 pub mod chunk_by;
@@ -15,6 +16,8 @@ pub mod counts;
 pub mod dedup;
 pub mod dedup_by;
 pub mod dedup_by_key;
+pub mod dedup_by_with_count;
+pub mod dedup_with_count;
 pub mod double_ended;
 mod equal;
 pub mod err_into;
@@ -63,6 +66,8 @@ pub use copied::Copied;
 pub use dedup::Dedup;
 pub use dedup_by::DedupBy;
 pub use dedup_by_key::DedupByKey;
+pub use dedup_by_with_count::DedupByWithCount;
+pub use dedup_with_count::DedupWithCount;
 pub use double_ended::DoubleEndedFallibleItertools;
 pub use err_into::ErrInto;
 pub use exactly_one::NotOne;

@@ -22,6 +22,7 @@ ghost use Rattle.fallible_iterator.specs.OneToOne.Enumerate.{IsNumberable, enume
 ghost use Rattle.fallible_iterator.specs.OneToOne.Map.{map_contract};
 ghost use Rattle.fallible_iterator.specs.Picking.{call_at_two, takes_at_two};
 ghost use Rattle.fallible_iterator.specs.Searching as search;
+ghost use Rattle.fallible_itertools.specs.AllUnique.{AllUniqueAs, AllUniqueDrains, rest_repeated};
 ghost use Rattle.fallible_itertools.specs.ChunkBy.{MadeGroup, chunk_by_contract, chunk_by_parts, chunked_by};
 ghost use Rattle.fallible_itertools.specs.Chunks.{chunked, chunks_contract, chunks_parts};
 ghost use Rattle.fallible_itertools.specs.Coalesce as coalesce;
@@ -32,6 +33,8 @@ ghost use Rattle.fallible_itertools.specs.Counts.{IsCountsOf};
 ghost use Rattle.fallible_itertools.specs.Dedup.{dedup_contract, dedup_parts, deduped};
 ghost use Rattle.fallible_itertools.specs.DedupBy.{dedup_by_asks, dedup_by_contract, dedup_by_parts, dedup_by_takes, deduped_by};
 ghost use Rattle.fallible_itertools.specs.DedupByKey as dedup_by_key;
+ghost use Rattle.fallible_itertools.specs.DedupByWithCount.{dedup_by_with_count_asks, dedup_by_with_count_contract, dedup_by_with_count_parts, dedup_by_with_count_takes};
+ghost use Rattle.fallible_itertools.specs.DedupWithCount.{dedup_with_count_contract, dedup_with_count_parts};
 ghost use Rattle.fallible_itertools.specs.Equal.{FirstCall, TestCall, contained, equal_to_first, equal_value, rest_contained, rest_unequal, unequal_pick, value_or_both};
 ghost use Rattle.fallible_itertools.specs.ErrInto.{err_into_contract, err_into_parts};
 ghost use Rattle.fallible_itertools.specs.ExactlyOne.{AtMostOneDrains, at_most_one_of, wanting_one};
@@ -50,6 +53,7 @@ ghost use Rattle.fallible_itertools.specs.MinMax.{MinMaxDrains, minmaxed, or_les
 ghost use Rattle.fallible_itertools.specs.PadUsing as pad_using;
 ghost use Rattle.fallible_itertools.specs.PositionBest.{PlaceDrains, position_greatest, position_least};
 ghost use Rattle.fallible_itertools.specs.Positions.{positions_contract, positions_parts, positions_source, positions_where};
+ghost use Rattle.fallible_itertools.specs.RunCounts.{deduped_by_with_count, deduped_with_count};
 ghost use Rattle.fallible_itertools.specs.Parted.{PartitionedFailuresAs, parted_step, without_source};
 ghost use Rattle.fallible_itertools.specs.PartitionMap.{EitherRefused, MadeOfEithers};
 ghost use Rattle.fallible_itertools.specs.FindOrLast.{FoundOrFirst, FoundOrLast, found_or_first, found_or_last};
@@ -71,6 +75,7 @@ ghost use Rattle.fallible_itertools.specs.ZipLongest as zip_longest;
 ghost use Rattle.fallible_itertools.specs.declared.exactly_one.NotOne.TheVariants.{More};
 ghost use Rattle.fallible_itertools.specs.declared.fold_while.FoldWhile.TheVariants.{Done};
 
+use crate::all_unique::{AllUniqueTurn, unique_or_fault};
 use crate::checked_sum::{CheckedTotal, ProductTurn, SumTurn, total_or_none};
 use crate::chunk_by::ChunkBy;
 use crate::chunks::Chunks;
@@ -82,6 +87,8 @@ use crate::counts::Tally;
 use crate::dedup::Dedup;
 use crate::dedup_by::DedupBy;
 use crate::dedup_by_key::DedupByKey;
+use crate::dedup_by_with_count::DedupByWithCount;
+use crate::dedup_with_count::DedupWithCount;
 use crate::equal::{AllEqualTurn, ContainsTurn, UnequalTurn, first_or_both};
 use crate::err_into::ErrInto;
 use crate::exactly_one::NotOne;
@@ -270,6 +277,74 @@ pub trait FallibleItertools: FallibleIterator {
         Dedup {
             it: self,
             stage: (None, None),
+        }
+    }
+
+    /// Yields the first of adjacent equal items, each as `(count, item)`: beside how many they are. A count stays at `usize::MAX`.
+    ///
+    /// Laziness, draws and behaviour at a stop: as `dedup`. So equal items before and after a stop are counted apart.
+    ///
+    /// Requires: what `dedup` does, and so does `next`.
+    ///
+    /// ```
+    /// let readings = [Ok::<u32, u8>(7), Ok(7), Ok(150), Err(9), Ok(150)];
+    /// let mut it = convert(readings.into_iter()).dedup_with_count();
+    /// let drawn = [it.next(), it.next(), it.next(), it.next()];
+    /// assert_eq!(rt;
+    ///     drawn,
+    ///     [Ok(Some((2, 7))), Ok(Some((1, 150))), Err(9), Ok(Some((1, 150)))]
+    /// );
+    /// ```
+    final fn dedup_with_count(self) -> DedupWithCount<Self>
+    where
+        Self::Item: PartialEq + Drop,
+        Self::Error: Drop,
+        ensures parts { dedup_with_count_parts result ≡ (self, (None, None)) }
+        ensures lists { (l : List (Result Self.Item Self.Error))
+            → list.Lists Self.contract.steps self l
+            → list.Lists (seen_as dedup_with_count_parts
+            (dedup_with_count_contract Self.Item.eq Self.contract)).steps result
+            (deduped_with_count Self.Item.eq l) }
+    {
+        DedupWithCount {
+            it: self,
+            stage: (None, None),
+        }
+    }
+
+    /// Yields the first of adjacent items that the closure finds the same, each as `(count, item)`: beside how many they are. The closure is called on references to the buffered item and the next one. A count stays at `usize::MAX`.
+    ///
+    /// Laziness, draws and behaviour at a stop: as `dedup_by`. An item on which the closure fails isn't counted.
+    ///
+    /// Requires: what `dedup_by` does, and so does `next`.
+    ///
+    /// ```
+    /// let readings = [Ok::<u32, u8>(150), Ok(157), Ok(7)];
+    /// let mut it = convert(readings.into_iter()).dedup_by_with_count(|first, second| Ok(
+    ///     *first / 10 == *second / 10,
+    /// ));
+    /// let drawn = [it.next(), it.next(), it.next()];
+    /// assert_eq!(rt; drawn, [Ok(Some((2, 150))), Ok(Some((1, 7))), Ok(None)]);
+    /// ```
+    final fn dedup_by_with_count<F>(self, same: F) -> DedupByWithCount<Self, F>
+    where
+        Self::Item: Drop,
+        Self::Error: Drop,
+        F: FnMut(&Self::Item, &Self::Item) -> Result<bool, Self::Error>,
+        requires callable { IsCallable (dedup_by_with_count_asks (call_at_two F.FnMut))
+            (dedup_by_with_count_takes (takes_at_two F.FnMut)) (MayBeAsked Self.contract self)
+            (None, same) }
+        ensures parts { dedup_by_with_count_parts result ≡ (self, ((None, same), None)) }
+        ensures lists { (h : Self.Item → Self.Item → Result Bool Self.Error)
+            (l : List (Result Self.Item Self.Error))
+            → list.ActsWith (call_at_two F.FnMut) same h → list.Lists Self.contract.steps self l
+            → list.Lists (seen_as dedup_by_with_count_parts
+            (dedup_by_with_count_contract Self.contract F.FnMut)).steps result
+            (deduped_by_with_count h l) }
+    {
+        DedupByWithCount {
+            it: self,
+            stage: ((None, same), None),
         }
     }
 
@@ -558,6 +633,42 @@ pub trait FallibleItertools: FallibleIterator {
         ensures stays { Stays Self.contract self.old self.new }
     {
         answer_or(self.drive(&mut None, &AllEqualTurn), true)
+    }
+
+    /// Returns whether no two items are equal; true if there is no item.
+    ///
+    /// It draws up to an item that equals one before it, the first failure or `Ok(None)`. It fails with that failure. Nothing is drawn after that, and the iterator may be used again. It forgets what came before then. A set has each item that was drawn.
+    ///
+    /// Precondition: the iterator is finite.
+    ///
+    /// Requires: `next` may be called.
+    ///
+    /// Memory: that failure is a `Fault::Source`. It also stops at an item that no item before equals, if room for it can't be allocated. Then it fails with `Fault::Memory`.
+    ///
+    /// ```
+    /// let mut it = convert([Ok::<u32, u8>(7), Ok(150), Ok(7), Ok(8)].into_iter());
+    /// assert!(rt; !it.all_unique(rt.alloc())?);
+    /// assert!(rt; it.all_unique(rt.alloc())?);
+    /// ```
+    final fn all_unique(&mut self, alloc: Global) -> Result<bool, Fault<Self::Error>>
+    where
+        Self::Item: Eq + Hash + Drop,
+        requires can_next { Self.contract.can_next self.old }
+        requires finite { Self.contract.is_finite self.old }
+        ensures searched { AllUniqueDrains Self.Item.eq Self.contract.steps self.old result self.new }
+        ensures value { OverList Self.contract.steps self.old
+            (λ l. AllUniqueAs Self.Item.eq l result) }
+        ensures rest { OverList Self.contract.steps self.old
+            (λ l. result ≡ Ok false
+            → list.Lists Self.contract.steps self.new (rest_repeated Self.Item.eq l)) }
+        ensures rest_failed { OverList Self.contract.steps self.old
+            (λ l. (e : Self.Error) → result ≡ Err (Source e)
+            → list.Lists Self.contract.steps self.new (rest_repeated Self.Item.eq l)) }
+        ensures stays { Stays Self.contract self.old self.new }
+    {
+        let mut seen = HashSet::new(alloc);
+        let answer = self.drive(&mut seen, &AllUniqueTurn);
+        unique_or_fault(answer)
     }
 
     /// Returns the first item, if it equals each later one: `Ok(Ok(item))`. Of items that aren't all equal it returns the first one and the first that it doesn't equal, `Ok(Err(Some((item, other))))`, and of no items `Ok(Err(None))`.

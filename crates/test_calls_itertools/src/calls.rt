@@ -64,6 +64,11 @@ fn one_of_equal(first: u32, second: u32) -> Result<Result<u32, (u32, u32)>, Test
     })
 }
 
+// Whether they are equal.
+fn are_equal(first: &u32, second: &u32) -> Result<bool, TestError> {
+    Ok(*first == *second)
+}
+
 // Itself.
 fn itself(x: &u32) -> Result<u32, TestError> {
     Ok(*x)
@@ -94,6 +99,10 @@ fn adapters_that_hold_fold_up_to_an_end(rt: HostRuntime) -> Result<(), Fail> {
     expect_folded(&mut over_an_end, &log, &ONE_BY_ONE_FOLD)?;
     expect_folded(&mut over_an_end, &log, &TWO_BY_ONE_FOLD)?;
     let mut it = one_one_two(alloc, &log)?.dedup();
+    expect_folded(&mut it, &log, &TWO_BY_ONE_FOLD)?;
+    let mut it = one_one_two(alloc, &log)?.dedup_with_count();
+    expect_folded(&mut it, &log, &TWO_BY_ONE_FOLD)?;
+    let mut it = one_one_two(alloc, &log)?.dedup_by_with_count(are_equal);
     expect_folded(&mut it, &log, &TWO_BY_ONE_FOLD)?;
     let mut it = one_one_two(alloc, &log)?.dedup_by_key(itself);
     expect_folded(&mut it, &log, &TWO_BY_ONE_FOLD)?;
@@ -374,6 +383,20 @@ fn all_equal_value_is_one_fold(rt: HostRuntime) {
     let mut it = counted(&answers, &log);
     assert_eq!(rt; (it.all_equal_value(), log.take()), TWO_VALUES);
     assert_eq!(rt; (it.all_equal_value(), log.take()), ONE_VALUE);
+}
+
+// Whether no item comes again, and the calls that come for it.
+const REPEATED: (Option<bool>, Calls) = (Some(false), ONE_FOLD);
+
+const NOT_REPEATED: (Option<bool>, Calls) = (Some(true), ONE_FOLD);
+
+#[test]
+fn all_unique_is_one_fold(rt: HostRuntime) {
+    let log = Log::new();
+    let answers = [Ok(1), Ok(2), Ok(1), Ok(2)];
+    let mut it = counted(&answers, &log);
+    assert_eq!(rt; (it.all_unique(rt.alloc()).ok(), log.take()), REPEATED);
+    assert_eq!(rt; (it.all_unique(rt.alloc()).ok(), log.take()), NOT_REPEATED);
 }
 
 // The sum, the product, and the calls of both.

@@ -66,6 +66,11 @@ fn half<'a>(x: &Number<'a>) -> Result<Number<'a>, TestError> {
     Ok(Number::new(x.value / 2, x.requests))
 }
 
+// Whether the numbers are equal.
+fn are_equal<'a>(first: &Number<'a>, second: &Number<'a>) -> Result<bool, TestError> {
+    Ok(first.value == second.value)
+}
+
 // The two as they are.
 fn apart<'a>(
     first: Number<'a>,
@@ -92,6 +97,10 @@ const OF_COALESCE: NumbersCase = Case {
 };
 
 const OF_WITH_POSITION: Asks<'static> = ("WithPosition", 2, [(3, Some(3)), NONE]);
+
+const OF_DEDUP_WITH_COUNT: Asks<'static> = ("DedupWithCount", 2, [UP_TO_THREE, NONE]);
+
+const OF_DEDUP_BY_WITH_COUNT: Asks<'static> = ("DedupByWithCount", 2, [UP_TO_THREE, NONE]);
 
 // The key is a request too. It is 1 of 2 and of 3.
 const OF_DEDUP_BY_KEY: NumbersCase = Case {
@@ -122,6 +131,31 @@ fn refused_clones_of_adapters_that_hold_an_item(rt: HostRuntime) -> Result<(), F
     )?;
     let mut it = up_to_three(rt.alloc(), &r)?.dedup_by_key(half);
     expect_refused_clones_of_asking(&rt, &r, &mut it, &OF_DEDUP_BY_KEY)
+}
+
+// An item is held with its number.
+#[test]
+fn refused_clones_of_adapters_that_hold_a_count(rt: HostRuntime) -> Result<(), Fail> {
+    let r = Requests::refusing(u32::MAX);
+    let once = |x: u32| Item((1_usize, Number::new(x, &r)));
+    let mut it = up_to_three(rt.alloc(), &r)?.dedup_with_count();
+    expect_refused_clones_that(
+        &rt,
+        &r,
+        &mut it,
+        OF_DEDUP_WITH_COUNT,
+        &[once(1)],
+        &[once(2), once(3), End],
+    )?;
+    let mut it = up_to_three(rt.alloc(), &r)?.dedup_by_with_count(are_equal);
+    expect_refused_clones_that(
+        &rt,
+        &r,
+        &mut it,
+        OF_DEDUP_BY_WITH_COUNT,
+        &[once(1)],
+        &[once(2), once(3), End],
+    )
 }
 
 // 2 is held after the separator, which is a request too.

@@ -2,7 +2,7 @@
 ghost use Rattle.std.specs.Prelude.{◌^◌, ◌-◌};
 
 use crate::rows::{Drawn, END, expect_same};
-use fallible_iterator::FallibleIterator;
+use fallible_iterator::{FallibleIterator, Fault};
 use fallible_itertools::{FallibleItertools, FoldWhile};
 use std::test::Fail;
 use test_support::numbers::numbers;
@@ -154,6 +154,28 @@ fn all_equal_value_has_one_or_two() -> Result<(), Fail> {
         let mut it = numbers(answers);
         let value = it.all_equal_value();
         expect_same(&(value, it.next()), expected)?;
+    }
+    Ok(())
+}
+
+// Whether no item comes again, and what the next draw returns.
+const UNIQUE: [(Numbers, Told); 4] = [
+    (&[], (Ok(true), END)),
+    (&[Ok(7), Ok(8), Ok(6)], (Ok(true), END)),
+    (&[Ok(7), Ok(8), Ok(7), Ok(6)], (Ok(false), Ok(Some(6)))),
+    (&[Ok(7), Err(9), Ok(7)], (Err(9), Ok(Some(7)))),
+];
+
+#[test]
+fn all_unique_stops_at_an_item_that_comes_again(rt: HostRuntime) -> Result<(), Fail> {
+    for (answers, expected) in &UNIQUE {
+        let mut it = numbers(answers);
+        let unique = match it.all_unique(rt.alloc()) {
+            Ok(unique) => Ok(unique),
+            Err(Fault::Source(e)) => Err(e),
+            Err(Fault::Memory(_)) => return Err(Fail::new("no set was made")),
+        };
+        expect_same(&(unique, it.next()), expected)?;
     }
     Ok(())
 }
