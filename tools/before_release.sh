@@ -20,10 +20,11 @@ devices|tools/closed_devices.sh|a minute, once count_rows is proved
 tables|tools/table_runs.sh|a minute, once sum_table and sum_groups are proved
 groups|tools/groups_runs|minutes, once sum_groups is proved
 elf|tools/elf_runs|minutes, once elf_tables is proved
+pg|tools/pg_runs|2 minutes, once pg_rows is proved; wants PostgreSQL, cargo and GNU time
 memory|tools/refused_memory.sh|7 minutes
 speed|tools/speed.sh|the proof of fallible_speed, and then minutes
 elf_speed|tools/elf_speed|the proof of fallible_elf and elf_walk, and then minutes; wants cargo and valgrind
-program_speed|tools/program_speed.sh|2 minutes; wants count_rows, sum_table and sum_groups proved, cargo, valgrind and GNU time
+program_speed|tools/program_speed.sh|3 minutes; wants count_rows, sum_table, sum_groups and pg_rows proved, cargo, valgrind and GNU time
 rust_speed|tools/rust_bench.sh|3 minutes; wants valgrind and apt
 clients|tools/rust_clients|a quarter of an hour and more; wants cargo, PostgreSQL, SQLite, libclang and apt
 END

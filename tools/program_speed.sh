@@ -1,6 +1,6 @@
 #!/usr/bin/env bash
-# Measures the programs count_rows, sum_table and sum_groups beside the loops by hand of release/program_loops, and compares
-# what they print.
+# Measures the programs count_rows, sum_table, sum_groups and pg_rows beside the loops by hand of release/program_loops, and
+# compares what they print.
 #
 #     tools/program_speed.sh [RUNS]
 #
@@ -36,8 +36,8 @@ loops_of() {
 
 # Makes the inputs of a program, $work/input.N of N rows or records, and $work/input.digits of rows of 20 digits.
 make_inputs() {
-    python3 - "$1" "${sizes[-1]}" "$counted" "$work/input" <<'END'
-import array, random, sys
+    python3 - "$1" "${sizes[-1]}" "$counted" "$work/input" "${sizes[@]}" <<'END'
+import array, random, struct, sys
 
 name, count, counted, path = sys.argv[1], int(sys.argv[2]), int(sys.argv[3]), sys.argv[4]
 chance = random.Random(7)
@@ -50,13 +50,22 @@ with open(f"{path}.{count}", "wb") as it:
         if sys.byteorder == "big":
             table.byteswap()
         table.tofile(it)
-    else:
+    elif name != "pg_rows":
         keys = sorted(chance.choices(range(count // 3), k=count))
         it.write("".join(f"{key},{amount}\n" for key, amount in zip(keys, chance.choices(range(10**6), k=count))).encode())
+# What a server sends of so many rows of four cells, the last of which is NULL in each tenth.
+for size in map(int, sys.argv[5:]) if name == "pg_rows" else ():
+    with open(f"{path}.{size}", "wb") as it:
+        for row in range(1, size + 1):
+            cells = [b"%d" % row, b"%d" % (row * 7), b"row %d" % row] + [b"x" * (row % 30)] * (row % 10 > 0)
+            body = b"\0\4" + b"".join(struct.pack(">I", len(cell)) + cell for cell in cells) + b"\xff" * 4 * (row % 10 == 0)
+            it.write(b"D" + struct.pack(">I", len(body) + 4) + body)
+        it.write(b"C\0\0\0\x04Z\0\0\0\x05I")
 with open(f"{path}.digits", "w") as it:
     it.write("".join(f"{chance.randrange(10**19, 2**64)}\n" for _ in range(counted)))
 END
     local size
+    [ "$1" != pg_rows ] || return 0
     for size in "${sizes[@]:0:${#sizes[@]}-1}"; do
         if [ "$1" = sum_table ]; then
             head -c $((size * 8)) "$work/input.${sizes[-1]}" >"$work/input.$size"
@@ -140,7 +149,7 @@ print_table() {
 missing=()
 differs=0
 rustc --version
-for name in count_rows sum_table sum_groups; do
+for name in count_rows sum_table sum_groups pg_rows; do
     make_inputs "$name"
     crate=$repository/crates/$name
     program=$crate/out/$name

@@ -1,22 +1,34 @@
-//! Reads what a PostgreSQL server sent after a query from standard input, and prints the rows as `psql -A -t` does, each as it comes.
+//! Reads what a PostgreSQL server sent after a query, from the file that its word names or from standard input, and prints the rows as `psql -A -t` does, each as it comes.
 //!
-//! At the first fault it says why on standard error, and ends with status 1 where the server refused a statement, 2 where a read fails, 3 where memory runs out, 4 where the rows cannot be printed, 5 at damage, 6 where the bytes are cut, and 7 at COPY and the extended protocol, which aren't read.
+//! At the first fault it says why on standard error, and ends with status 1 where the server refused a statement, 2 where a read fails, the file can't be opened, or a word is none that it takes, 3 where memory runs out, 4 where the rows cannot be printed, 5 at damage, 6 where the bytes are cut, and 7 at COPY and the extended protocol, which aren't read.
 #![tactic(auto)]
 
 mod program;
 
 use fallible_pg::{Messages, PgInput, Rows};
 use program::program;
+use program_io::arguments::input_of;
 use program_io::ending::ended;
 use program_io::fault::RunFault;
 use program_io::reading::Buffered;
 use std::io::BufReader;
 use std::process::ExitCode;
 
+const USAGE: &str = "usage: pg_rows [FILE]
+       pg_rows --help
+Reads what a PostgreSQL server sent after a query, and prints the rows as
+`psql -A -t` does.
+It reads one FILE at most, and standard input where FILE is - or none is given.
+A FILE whose name begins with - is given as ./-NAME.";
+
 fn main(rt: HostRuntime) -> ExitCode {
     let mut output = rt.stdout();
     let mut errors = rt.stderr();
-    let ended = match BufReader::new(rt.alloc(), rt.stdin()) {
+    let input = match input_of(&rt, rt.stdin(), USAGE, &mut output, &mut errors) {
+        Ok(input) => input,
+        Err(status) => return ExitCode::from(status),
+    };
+    let ended = match BufReader::new(rt.alloc(), input) {
         Ok(reader) => {
             let mut rows = Rows::new(Messages::new(rt.alloc(), Buffered::new(reader)));
             program(rt.alloc(), &mut rows, &mut output, &mut errors)

@@ -10,6 +10,8 @@ mod objects;
 #[cfg(test)]
 mod printed_rows;
 #[cfg(test)]
+mod recorded_rows;
+#[cfg(test)]
 mod sent_rows;
 #[cfg(test)]
 mod tables;

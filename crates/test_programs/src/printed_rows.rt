@@ -30,7 +30,7 @@ fn expect_of<R: ReadByte>(
 }
 
 // Expects these of bytes, byte by byte and through a buffer.
-fn expect(
+pub(crate) fn expect(
     rt: &impl Abort,
     alloc: Global,
     bytes: &[u8],
