@@ -29,6 +29,7 @@ pub mod HoldingHints
 pub mod HoldingLists
 pub mod HoldingTraces
 pub mod InspectErr
+pub mod Interleave
 pub mod Intersperse
 pub mod IntersperseWith
 pub mod IsSorted

@@ -9,6 +9,7 @@ pub mod DedupByKey
 pub mod ErrInto
 pub mod Holding
 pub mod InspectErr
+pub mod Interleave
 pub mod Intersperse
 pub mod IntersperseWith
 pub mod Keyed

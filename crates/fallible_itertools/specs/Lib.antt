@@ -22,6 +22,7 @@ pub mod FromBack
 pub mod GroupMap
 pub mod Holding
 pub mod InspectErr
+pub mod Interleave
 pub mod Intersperse
 pub mod IntersperseWith
 pub mod IsSorted

@@ -5,6 +5,7 @@ mod failing;
 mod failures;
 mod grouping;
 mod holding;
+mod interleave;
 mod intersperse;
 mod lengths;
 mod merge;
@@ -37,6 +38,7 @@ pub use holding::{
     law_hints_dedup_by_key, law_hints_tuple_windows, law_hints_tuples, law_hints_with_position,
     law_positioned, law_tuple_windows, law_tuples, law_with_position,
 };
+pub use interleave::{law_hints_interleave, law_interleave, law_interleaved};
 pub use intersperse::{
     law_hints_intersperse, law_hints_intersperse_with, law_intersperse, law_intersperse_with,
 };

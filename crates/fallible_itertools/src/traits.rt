@@ -39,6 +39,7 @@ ghost use Rattle.fallible_itertools.specs.Holding.{MayBeAsked};
 ghost use Rattle.fallible_itertools.specs.GroupMap.{GroupRefuses, IsGroupMapOf};
 ghost use Rattle.fallible_itertools.specs.InspectErr.{inspect_err_contract, inspect_err_parts, seen_call};
 ghost use Rattle.fallible_itertools.specs.OrElse.{or_else_contract, or_else_parts, recovered};
+ghost use Rattle.fallible_itertools.specs.Interleave as interleave;
 ghost use Rattle.fallible_itertools.specs.Intersperse.{intersperse_contract, intersperse_parts, interspersed};
 ghost use Rattle.fallible_itertools.specs.IntersperseWith as intersperse_with;
 ghost use Rattle.fallible_itertools.specs.Parting.{interspersed_by};
@@ -90,6 +91,7 @@ use crate::find_position::FindPositionTurn;
 use crate::fold_while::{FoldWhile, FoldWhileTurn, while_or_stop};
 use crate::group_map::GroupMap;
 use crate::inspect_err::InspectErr;
+use crate::interleave::Interleave;
 use crate::intersperse::Intersperse;
 use crate::intersperse_with::IntersperseWith;
 use crate::is_sorted::{InOrderTurn, SortedTurn};
@@ -1239,6 +1241,45 @@ pub trait FallibleItertools: FallibleIterator {
                 held: None,
             },
             right: other.into_fallible_iter().fuse(),
+        }
+    }
+
+    /// Yields the items of this iterator and of `other` in turn, this one's first. Once one side returned `Ok(None)`, it yields the rest of the other. A failure takes its side's turn, as an item does.
+    ///
+    /// Creating it draws nothing. It buffers nothing. `next` draws the side whose turn it is once, and if that returned `Ok(None)`, the other side once. Then it is the other side's turn, whatever was returned. Each side is fused: once it returned `Ok(None)` it isn't drawn again. It fails as the side does whose answer it returns, and loses nothing. Its folds draw as `next` does. Bounds of both sides, added up, bound it.
+    ///
+    /// Requires: nothing. `next` requires that it may be called on both sides.
+    ///
+    /// ```
+    /// let left = convert([Ok::<u32, u8>(1), Err(9)].into_iter());
+    /// let right = convert([Ok(10), Ok(20), Ok(30)].into_iter());
+    /// let mut it = left.interleave(right);
+    /// let drawn = [it.next(), it.next(), it.next(), it.next(), it.next()];
+    /// assert_eq!(rt; drawn, [Ok(Some(1)), Ok(Some(10)), Err(9), Ok(Some(20)), Ok(Some(30))]);
+    /// assert_eq!(rt; it.next(), Ok(None));
+    /// ```
+    final fn interleave<I>(self, other: I) -> Interleave<Self, I::IntoFallibleIter>
+    where
+        I: IntoFallibleIterator<Item = Self::Item, Error = Self::Error>,
+        ensures left { interleave.interleave_left result ≡ self }
+        ensures left_ended { interleave.interleave_left_ended result ≡ false }
+        ensures right { I.into_gives other (interleave.interleave_right result) }
+        ensures right_ended { interleave.interleave_right_ended result ≡ false }
+        ensures right_next { interleave.interleave_right_next result ≡ false }
+        ensures bounded { (a b k : ℕ) → Self.contract.bound self a
+            → I.IntoFallibleIter.contract.bound (interleave.interleave_right result) b → a + b ≤ k
+            → AtMost (seen_as interleave.interleave_parts
+            (interleave.interleave_contract Self.contract I.IntoFallibleIter.contract)) result k }
+        ensures lists { OverBoth Self.contract.steps self I.into_gives other
+            I.IntoFallibleIter.contract.steps
+            (λ a b. list.Lists (seen_as interleave.interleave_parts
+            (interleave.interleave_contract Self.contract
+            I.IntoFallibleIter.contract)).steps result (interleave.interleaved a b)) }
+    {
+        Interleave {
+            left: self.fuse(),
+            right: other.into_fallible_iter().fuse(),
+            right_next: false,
         }
     }
 

@@ -297,7 +297,7 @@ module _ {S A E : Type 0} (steps : S → Answered A E → S → Type 0) (once : 
   none_after_end s t u [] w ran = omega arith
   none_after_end s t u (x ∷ xs) w ran = absurd (once s t ran.0 x w ran.1)
 
-  items_come_from : (p : S × Option A) (t : S) (x h : Option A) (n : ℕ) → (h ≡ None) ⊎ (h ≡ x) → GivesHeldFirst steps p (Ok x) t → ItemsCome steps (t, h) n → ItemsCome steps p ((held_count x - held_count h) + n) × IfEnded x n
+  pub items_come_from : (p : S × Option A) (t : S) (x h : Option A) (n : ℕ) → (h ≡ None) ⊎ (h ≡ x) → GivesHeldFirst steps p (Ok x) t → ItemsCome steps (t, h) n → ItemsCome steps p ((held_count x - held_count h) + n) × IfEnded x n
   items_come_from (s, Some y) t None h n kept g d = absurd (let no = g.0 in cc)
   items_come_from (s, Some y) t (Some x) h n kept g d = (record { came = d.came; left = d.left; ran = subst (λ (z : S). Yields steps z d.came d.left) g.1 d.ran; many = omega (arith, d.many, held_count_one_at_most h) }, tt)
   items_come_from (s, None) t None None n kept g d = let no = none_after_end s t d.left d.came g d.ran in (record { came = []; left = s; ran = refl; many = omega (arith, no, d.many) }, omega (arith, no, d.many))
