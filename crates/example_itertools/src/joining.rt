@@ -9,6 +9,7 @@ ghost use Rattle.fallible_itertools.specs.Interleave.{interleaved};
 ghost use Rattle.fallible_itertools.specs.Merge.{merged_in_order};
 ghost use Rattle.fallible_itertools.specs.MergeBy.{merged};
 ghost use Rattle.fallible_itertools.specs.PadUsing.{padded};
+ghost use Rattle.fallible_itertools.specs.ZipEq.{zipped_equal};
 ghost use Rattle.fallible_itertools.specs.ZipLongest.{zipped_longest};
 
 use fallible_iterator::{FallibleIterator, convert};
@@ -64,6 +65,15 @@ pub fn last_of_both(
     convert(left.into_iter())
         .merge(convert(right.into_iter()))
         .last()
+}
+
+/// How many pairs two columns make, or the first failure, which is 9 where one column is longer.
+pub fn pairs_of_both(left: Vec<Result<u32, u8>>, right: Vec<Result<u32, u8>>) -> Result<usize, u8>
+    ensures { result ≡ counted (zipped_equal 9 (results left.items) (results right.items)) }
+{
+    convert(left.into_iter())
+        .zip_eq(convert(right.into_iter()), || 9)
+        .count()
 }
 
 /// The reading at an index of two columns that are read in turn, or the first failure before it.

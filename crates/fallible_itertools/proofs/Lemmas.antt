@@ -68,4 +68,5 @@ pub mod UntilFailure
 pub mod WindowHints
 pub mod WithPosition
 pub mod WithPositionHints
+pub mod ZipEq
 pub mod ZipLongest

@@ -29,4 +29,5 @@ pub mod TupleWindows
 pub mod Tuples
 pub mod Unique
 pub mod WithPosition
+pub mod ZipEq
 pub mod ZipLongest

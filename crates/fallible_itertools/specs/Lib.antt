@@ -51,4 +51,5 @@ pub mod Tuples
 pub mod Unique
 pub mod UntilFailure
 pub mod WithPosition
+pub mod ZipEq
 pub mod ZipLongest

@@ -54,6 +54,7 @@ pub mod tuples;
 pub mod unique;
 mod until_failure;
 pub mod with_position;
+pub mod zip_eq;
 pub mod zip_longest;
 
 pub use checked_sum::CheckedTotal;
@@ -87,4 +88,5 @@ pub use tuple_windows::TupleWindows;
 pub use tuples::Tuples;
 pub use unique::Unique;
 pub use with_position::{Position, WithPosition};
+pub use zip_eq::ZipEq;
 pub use zip_longest::{EitherOrBoth, ZipLongest};

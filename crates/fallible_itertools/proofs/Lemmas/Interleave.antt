@@ -1,5 +1,5 @@
 -- What `Interleave` lists, its whole traces, and that its hints are sound.
-use Rattle.std.specs.Prelude.{ℕ, zero, suc, ◌≡◌, ◌+◌, ◌≤◌, ◌↔◌, Bool, true, false, not, IfSome, List, [], ◌∷◌, ◌++◌, Some, None, Option, Result, Ok, Err, drop, length, map, zip}
+use Rattle.std.specs.Prelude.{ℕ, zero, suc, ◌≡◌, ◌+◌, ◌≤◌, ◌↔◌, Bool, true, false, not, List, [], ◌∷◌, ◌++◌, None, Option, Result, Ok, Err, drop, length, map, zip}
 use Rattle.std.specs.List.{flat_map}
 use Rattle.std.proofs.Common.{refl, sym, ap, subst, ◌∙◌, arith, inl}
 use Rattle.fallible_iterator.specs.Contract.{Contract, seen_as}

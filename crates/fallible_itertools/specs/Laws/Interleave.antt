@@ -1,6 +1,6 @@
 -- The contract of `Interleave` is lawful where those of both sides are.
-use Rattle.std.specs.Prelude.{ℕ, ◌+◌, ◌⊎◌, [], ◌∷◌, Bool, true, false, not, Some, None, Ok, Err, Result}
-use Rattle.std.proofs.Common.{arith, inl, inr, refl, sym, subst, ap₂}
+use Rattle.std.specs.Prelude.{◌+◌, [], ◌∷◌, Bool, true, false, not, Some, None, Ok, Err}
+use Rattle.std.proofs.Common.{arith, inl, inr, refl, subst, ap₂}
 use Rattle.fallible_iterator.specs.Contract.{Contract, KeptByDraw, Lawful, OnAnswer, lenders_of_both}
 use Rattle.fallible_iterator.specs.Laws.Joining.Chain.{both_finite, sum_finite}
 use Rattle.fallible_iterator.specs.Lists.{result_answer}
