@@ -2,12 +2,14 @@
 ghost use Rattle.std.specs.Ordering.{nat_cmp};
 ghost use Rattle.std.specs.Prelude.{◌≡◌, ◌%◌, ◌/◌, Ok, nat_eq, nat_le};
 ghost use Rattle.fallible_iterator.specs.Comparing.{by_cmp};
-ghost use Rattle.fallible_iterator.specs.Lists.{counted, last_of, results};
+ghost use Rattle.fallible_iterator.specs.Lists.{counted, last_of, nth_of, results};
 ghost use Rattle.fallible_itertools.specs.CmpBy.{equal_by};
 ghost use Rattle.fallible_itertools.specs.DedupBy.{deduped_by};
+ghost use Rattle.fallible_itertools.specs.Interleave.{interleaved};
 ghost use Rattle.fallible_itertools.specs.Merge.{merged_in_order};
 ghost use Rattle.fallible_itertools.specs.MergeBy.{merged};
 ghost use Rattle.fallible_itertools.specs.PadUsing.{padded};
+ghost use Rattle.fallible_itertools.specs.ZipEq.{zipped_equal};
 ghost use Rattle.fallible_itertools.specs.ZipLongest.{zipped_longest};
 
 use fallible_iterator::{FallibleIterator, convert};
@@ -63,6 +65,28 @@ pub fn last_of_both(
     convert(left.into_iter())
         .merge(convert(right.into_iter()))
         .last()
+}
+
+/// How many pairs two columns make, or the first failure, which is 9 where one column is longer.
+pub fn pairs_of_both(left: Vec<Result<u32, u8>>, right: Vec<Result<u32, u8>>) -> Result<usize, u8>
+    ensures { result ≡ counted (zipped_equal 9 (results left.items) (results right.items)) }
+{
+    convert(left.into_iter())
+        .zip_eq(convert(right.into_iter()), || 9)
+        .count()
+}
+
+/// The reading at an index of two columns that are read in turn, or the first failure before it.
+pub fn nth_in_turn(
+    left: Vec<Result<u32, u8>>,
+    right: Vec<Result<u32, u8>>,
+    n: usize,
+) -> Result<Option<u32>, u8>
+    ensures { result ≡ nth_of n (interleaved (results left.items) (results right.items)) }
+{
+    convert(left.into_iter())
+        .interleave(convert(right.into_iter()))
+        .nth(n)
 }
 
 /// Whether two columns have the same last digits, position by position, or the first failure.

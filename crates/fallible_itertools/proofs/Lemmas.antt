@@ -33,6 +33,7 @@ pub mod HoldingHints
 pub mod HoldingLists
 pub mod HoldingTraces
 pub mod InspectErr
+pub mod Interleave
 pub mod Intersperse
 pub mod IntersperseWith
 pub mod IsSorted
@@ -72,4 +73,5 @@ pub mod UntilFailure
 pub mod WindowHints
 pub mod WithPosition
 pub mod WithPositionHints
+pub mod ZipEq
 pub mod ZipLongest

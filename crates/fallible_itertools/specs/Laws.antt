@@ -11,6 +11,7 @@ pub mod DedupWithCount
 pub mod ErrInto
 pub mod Holding
 pub mod InspectErr
+pub mod Interleave
 pub mod Intersperse
 pub mod IntersperseWith
 pub mod Keyed
@@ -30,4 +31,5 @@ pub mod TupleWindows
 pub mod Tuples
 pub mod Unique
 pub mod WithPosition
+pub mod ZipEq
 pub mod ZipLongest

@@ -25,6 +25,7 @@ pub mod FromBack
 pub mod GroupMap
 pub mod Holding
 pub mod InspectErr
+pub mod Interleave
 pub mod Intersperse
 pub mod IntersperseWith
 pub mod IsSorted
@@ -54,4 +55,5 @@ pub mod Tuples
 pub mod Unique
 pub mod UntilFailure
 pub mod WithPosition
+pub mod ZipEq
 pub mod ZipLongest

@@ -6,6 +6,7 @@ mod failing;
 mod failures;
 mod grouping;
 mod holding;
+mod interleave;
 mod intersperse;
 mod lengths;
 mod merge;
@@ -16,6 +17,7 @@ mod positions;
 mod stop_after;
 mod take_while_inclusive;
 mod unique;
+mod zip_eq;
 mod zip_longest;
 
 pub use copied::{
@@ -42,6 +44,7 @@ pub use holding::{
     law_hints_dedup_by_key, law_hints_tuple_windows, law_hints_tuples, law_hints_with_position,
     law_positioned, law_tuple_windows, law_tuples, law_with_position,
 };
+pub use interleave::{law_hints_interleave, law_interleave, law_interleaved};
 pub use intersperse::{
     law_hints_intersperse, law_hints_intersperse_with, law_intersperse, law_intersperse_with,
 };
@@ -56,4 +59,5 @@ pub use positions::{law_hints_positions, law_positions};
 pub use stop_after::{law_hints_stop_after, law_stop_after};
 pub use take_while_inclusive::{law_hints_take_while_inclusive, law_take_while_inclusive};
 pub use unique::{law_hints_unique, law_unique, law_unique_of};
+pub use zip_eq::{law_hints_zip_eq, law_zip_eq};
 pub use zip_longest::{law_hints_zip_longest, law_zip_longest};

@@ -42,6 +42,7 @@ ghost use Rattle.fallible_itertools.specs.Holding.{MayBeAsked};
 ghost use Rattle.fallible_itertools.specs.GroupMap.{GroupRefuses, IsGroupMapOf};
 ghost use Rattle.fallible_itertools.specs.InspectErr.{inspect_err_contract, inspect_err_parts, seen_call};
 ghost use Rattle.fallible_itertools.specs.OrElse.{or_else_contract, or_else_parts, recovered};
+ghost use Rattle.fallible_itertools.specs.Interleave as interleave;
 ghost use Rattle.fallible_itertools.specs.Intersperse.{intersperse_contract, intersperse_parts, interspersed};
 ghost use Rattle.fallible_itertools.specs.IntersperseWith as intersperse_with;
 ghost use Rattle.fallible_itertools.specs.Parting.{interspersed_by};
@@ -71,6 +72,7 @@ ghost use Rattle.fallible_itertools.specs.Tuples.{tupled, tuples_contract, tuple
 ghost use Rattle.fallible_itertools.specs.Unique.{unique_contract, unique_of, unique_parts, unique_seen, unique_source};
 ghost use Rattle.fallible_itertools.specs.UntilFailure.{CollectedUntilAs, CollectsUntil, rest_failure};
 ghost use Rattle.fallible_itertools.specs.WithPosition.{positioned, with_position_contract, with_position_parts};
+ghost use Rattle.fallible_itertools.specs.ZipEq as zip_eq;
 ghost use Rattle.fallible_itertools.specs.ZipLongest as zip_longest;
 ghost use Rattle.fallible_itertools.specs.declared.exactly_one.NotOne.TheVariants.{More};
 ghost use Rattle.fallible_itertools.specs.declared.fold_while.FoldWhile.TheVariants.{Done};
@@ -97,6 +99,7 @@ use crate::find_position::FindPositionTurn;
 use crate::fold_while::{FoldWhile, FoldWhileTurn, while_or_stop};
 use crate::group_map::GroupMap;
 use crate::inspect_err::InspectErr;
+use crate::interleave::Interleave;
 use crate::intersperse::Intersperse;
 use crate::intersperse_with::IntersperseWith;
 use crate::is_sorted::{InOrderTurn, SortedTurn};
@@ -121,6 +124,7 @@ use crate::tuples::Tuples;
 use crate::unique::Unique;
 use crate::until_failure::{PushTurn, with_failure};
 use crate::with_position::WithPosition;
+use crate::zip_eq::ZipEq;
 use crate::zip_longest::ZipLongest;
 use fallible_iterator::extending::{
     FindTest, FindTurn, ForEachTurn, PositionTurn, ReadEq, Reading, answer_or, answer_or_none,
@@ -1350,6 +1354,90 @@ pub trait FallibleItertools: FallibleIterator {
                 held: None,
             },
             right: other.into_fallible_iter().fuse(),
+        }
+    }
+
+    /// Pairs the items of both sides by their positions, up to `Ok(None)` of both, and fails where one side has more items than the other. `unequal` makes that failure.
+    ///
+    /// Creating it draws nothing. `next` draws this side once if no item of it is buffered. Then, unless that failed, it draws `other` once, also after an `Ok(None)` of this side. Each side is fused: once it returned `Ok(None)` it isn't drawn again. It fails as this iterator does, or else as `other` does. A failure of `other` loses nothing: the item of this side is buffered, and the next call draws `other` alone. If one side alone has an item, that item is lost, and what one call of `unequal` returns is the failure. Calls after that go on so, one item each. Its folds draw as `next` does. Bounds of both sides, added up, bound it.
+    ///
+    /// Requires: `unequal` may be called, in each state that its calls bring it to. `next` requires that it may be called on both sides, and `Item: Drop` of both.
+    ///
+    /// ```
+    /// let letters = convert([Ok::<char, u8>('a'), Ok('b')].into_iter());
+    /// let numbers = convert([Ok(1)].into_iter());
+    /// let mut it = letters.zip_eq(numbers, || 9);
+    /// assert_eq!(rt; it.next(), Ok(Some(('a', 1))));
+    /// assert_eq!(rt; it.next(), Err(9));
+    /// assert_eq!(rt; it.next(), Ok(None));
+    /// ```
+    final fn zip_eq<I, F>(self, other: I, unequal: F) -> ZipEq<Self, I::IntoFallibleIter, F>
+    where
+        I: IntoFallibleIterator<Error = Self::Error>,
+        F: FnMut() -> Self::Error,
+        requires { IsCallable (call_of_none F.FnMut) (λ g _. F.pre g) (λ _. ⊤) unequal }
+        ensures left { zip_eq.zip_eq_left result ≡ self }
+        ensures left_ended { zip_eq.zip_eq_left_ended result ≡ false }
+        ensures held { zip_eq.zip_eq_held result ≡ None }
+        ensures right { I.into_gives other (zip_eq.zip_eq_right result) }
+        ensures right_ended { zip_eq.zip_eq_right_ended result ≡ false }
+        ensures closure { zip_eq.zip_eq_closure result ≡ unequal }
+        ensures bounded { (a b k : ℕ) → Self.contract.bound self a
+            → I.IntoFallibleIter.contract.bound (zip_eq.zip_eq_right result) b → a + b ≤ k
+            → AtMost (seen_as zip_eq.zip_eq_parts (zip_eq.zip_eq_contract Self.contract
+            I.IntoFallibleIter.contract F.FnMut)) result k }
+        ensures lists { (e : Self.Error) → list.Acts (call_of_none F.FnMut) unequal (λ _. e)
+            → OverBoth Self.contract.steps self I.into_gives other
+            I.IntoFallibleIter.contract.steps
+            (λ a b. list.Lists (seen_as zip_eq.zip_eq_parts (zip_eq.zip_eq_contract Self.contract
+            I.IntoFallibleIter.contract F.FnMut)).steps result (zip_eq.zipped_equal e a b)) }
+    {
+        ZipEq {
+            left: Holding {
+                it: self.fuse(),
+                held: None,
+            },
+            right: other.into_fallible_iter().fuse(),
+            f: unequal,
+        }
+    }
+
+    /// Yields the items of this iterator and of `other` in turn, this one's first. Once one side returned `Ok(None)`, it yields the rest of the other. A failure takes its side's turn, as an item does.
+    ///
+    /// Creating it draws nothing. It buffers nothing. `next` draws the side whose turn it is once, and if that returned `Ok(None)`, the other side once. Then it is the other side's turn, whatever was returned. Each side is fused: once it returned `Ok(None)` it isn't drawn again. It fails as the side does whose answer it returns, and loses nothing. Its folds draw as `next` does. Bounds of both sides, added up, bound it.
+    ///
+    /// Requires: nothing. `next` requires that it may be called on both sides.
+    ///
+    /// ```
+    /// let left = convert([Ok::<u32, u8>(1), Err(9)].into_iter());
+    /// let right = convert([Ok(10), Ok(20), Ok(30)].into_iter());
+    /// let mut it = left.interleave(right);
+    /// let drawn = [it.next(), it.next(), it.next(), it.next(), it.next()];
+    /// assert_eq!(rt; drawn, [Ok(Some(1)), Ok(Some(10)), Err(9), Ok(Some(20)), Ok(Some(30))]);
+    /// assert_eq!(rt; it.next(), Ok(None));
+    /// ```
+    final fn interleave<I>(self, other: I) -> Interleave<Self, I::IntoFallibleIter>
+    where
+        I: IntoFallibleIterator<Item = Self::Item, Error = Self::Error>,
+        ensures left { interleave.interleave_left result ≡ self }
+        ensures left_ended { interleave.interleave_left_ended result ≡ false }
+        ensures right { I.into_gives other (interleave.interleave_right result) }
+        ensures right_ended { interleave.interleave_right_ended result ≡ false }
+        ensures right_next { interleave.interleave_right_next result ≡ false }
+        ensures bounded { (a b k : ℕ) → Self.contract.bound self a
+            → I.IntoFallibleIter.contract.bound (interleave.interleave_right result) b → a + b ≤ k
+            → AtMost (seen_as interleave.interleave_parts
+            (interleave.interleave_contract Self.contract I.IntoFallibleIter.contract)) result k }
+        ensures lists { OverBoth Self.contract.steps self I.into_gives other
+            I.IntoFallibleIter.contract.steps
+            (λ a b. list.Lists (seen_as interleave.interleave_parts
+            (interleave.interleave_contract Self.contract
+            I.IntoFallibleIter.contract)).steps result (interleave.interleaved a b)) }
+    {
+        Interleave {
+            left: self.fuse(),
+            right: other.into_fallible_iter().fuse(),
+            right_next: false,
         }
     }
 

@@ -236,6 +236,49 @@ const RIGHTS: [Calls; 2] = [TWO_NEXTS, TWO_NEXTS];
 
 const NEXT_AFTER_A_LOOK: (Result<Option<u32>, TestError>, Calls) = (Ok(Some(2)), NO_CALL);
 
+const THREE_BY_THREE_DRAWS: Folded = (
+    Ok(3),
+    Calls {
+        nexts: 3,
+        ..NO_CALL
+    },
+);
+
+const LEFT_ALONE: (Result<Option<u32>, TestError>, [Calls; 2]) = (Ok(Some(1)), [ONE_NEXT, NO_CALL]);
+
+// The right's end is its second draw, and once both ended nothing is drawn.
+#[test]
+fn interleave_draws_one_side_at_a_turn(rt: HostRuntime) -> Result<(), Fail> {
+    let (alloc, log, beside) = (rt.alloc(), Log::new(), Log::new());
+    let right = Counted::new(scripted(alloc, [Ok(Some(5u32))])?, &beside);
+    let mut it = one_one_two(alloc, &log)?.interleave(right);
+    assert_eq!(rt; (it.next(), [log.take(), beside.take()]), LEFT_ALONE);
+    expect_folded(&mut it, &log, &THREE_BY_THREE_DRAWS)?;
+    expect_folded(&mut it, &log, &NONE_BY_NO_FOLD)?;
+    assert_eq!(rt; beside.take(), TWO_NEXTS);
+    Ok(())
+}
+
+const FAILED_BY_TWO_DRAWS: Folded = (Err(TestError::Number(9)), TWO_NEXTS);
+
+const NONE_BY_ONE_DRAW: Folded = (Ok(0), ONE_NEXT);
+
+// 5 is paired with 1, the second 1 and the 2 have no partner, and nothing is drawn of a side that ended.
+#[test]
+fn zip_eq_draws_both_sides_up_to_their_ends(rt: HostRuntime) -> Result<(), Fail> {
+    let (alloc, log, beside) = (rt.alloc(), Log::new(), Log::new());
+    let right = Counted::new(scripted(alloc, [Ok(Some(5u32))])?, &beside);
+    let mut it = one_one_two(alloc, &log)?.zip_eq(right, || TestError::Number(9));
+    expect_folded(&mut it, &log, &FAILED_BY_TWO_DRAWS)?;
+    assert_eq!(rt;
+        (it.next(), log.take()),
+        (Err(TestError::Number(9)), ONE_NEXT)
+    );
+    expect_folded(&mut it, &log, &NONE_BY_ONE_DRAW)?;
+    assert_eq!(rt; beside.take(), TWO_NEXTS);
+    Ok(())
+}
+
 // Two sides are drawn in turn, and a fold of the source would drop the item that stays next.
 #[test]
 fn adapters_of_two_sides_and_peeking_take_while_draw_one_by_one(

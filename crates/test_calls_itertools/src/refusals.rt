@@ -291,6 +291,17 @@ const OF_MERGE_BY: NumbersCase = Case {
     expected: &[Item(2), Item(2), Item(3), Item(4)],
 };
 
+// 2 and 3 are left in the left, and 5 and 4 in the right.
+const OF_INTERLEAVE: NumbersCase = Case {
+    name: "Interleave",
+    requests: 4,
+    hints: [(5, Some(5)), NONE],
+    first: &[Item(1)],
+    expected: &[Item(5), Item(2), Item(4), Item(3)],
+};
+
+const OF_ZIP_EQ: Asks<'static> = ("ZipEq", 4, [(2, Some(2)), NONE]);
+
 const OF_ZIP_LONGEST: Asks<'static> = ("ZipLongest", 4, [(3, Some(3)), NONE]);
 
 #[test]
@@ -326,7 +337,27 @@ fn refused_clones_of_adapters_that_hold_nothing_or_join(rt: HostRuntime) -> Resu
     let right = [Ok(Number::new(2, &r)), Ok(Number::new(4, &r))];
     let right = listed::<Number<'_>, TestError, 2>(rt.alloc(), right)?;
     let mut it = up_to_three(rt.alloc(), &r)?.merge_by(right, in_order);
-    expect_refused_clones_of_asking(&rt, &r, &mut it, &OF_MERGE_BY)
+    expect_refused_clones_of_asking(&rt, &r, &mut it, &OF_MERGE_BY)?;
+    let right = [Ok(Number::new(5, &r)), Ok(Number::new(4, &r))];
+    let right = listed::<Number<'_>, TestError, 2>(rt.alloc(), right)?;
+    let mut it = up_to_three(rt.alloc(), &r)?.interleave(right);
+    expect_refused_clones_of_asking(&rt, &r, &mut it, &OF_INTERLEAVE)
+}
+
+// 1 is held beside the right's failure, and 5 is left there.
+#[test]
+fn refused_clones_of_zip_eq(rt: HostRuntime) -> Result<(), Fail> {
+    let r = Requests::refusing(u32::MAX);
+    let right = [Err(NINE), Ok(Number::new(5, &r))];
+    let right = listed::<Number<'_>, TestError, 2>(rt.alloc(), right)?;
+    let mut it = up_to_three(rt.alloc(), &r)?.zip_eq(right, || TestError::Number(8));
+    let expected = [
+        Item((Number::new(1, &r), Number::new(5, &r))),
+        Failure(TestError::Number(8)),
+        Failure(TestError::Number(8)),
+        End,
+    ];
+    expect_refused_clones_that(&rt, &r, &mut it, OF_ZIP_EQ, &[Failure(NINE)], &expected)
 }
 
 // The pair is lost, and the next one begins with its later item. In the last row no allocation fails.

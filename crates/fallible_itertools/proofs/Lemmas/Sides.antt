@@ -2,13 +2,14 @@
 use Rattle.std.specs.Prelude.{ℕ, ◌≡◌, ◌+◌, ◌-◌, ◌≤◌, ◌⊎◌, Bool, true, false, length, List, [], ◌∷◌, map, ◌↔◌, Some, None, Option, Result, Ok, Err, IfSome, ⊤}
 use Rattle.std.specs.List.{FoldsTo}
 use Rattle.std.specs.Result.{IsErrAnd}
-use Rattle.std.proofs.Common.{refl, sym, ap, subst, arith, inl, inr}
+use Rattle.std.proofs.Common.{refl, sym, ap, subst, ◌∙◌, arith, inl, inr}
 use Rattle.fallible_iterator.specs.Traces.{Answered, Run, Yields, item, failure, end, is_end}
 use Rattle.fallible_iterator.specs.Closing.{closing_step}
 use Rattle.fallible_iterator.specs.Contract.{Contract, Lawful}
 use Rattle.fallible_iterator.specs.Cutting.Fuse.{fuse_parts}
 use Rattle.fallible_iterator.specs.Held.{held_count}
 use Rattle.fallible_iterator.specs.Hints.{fitting_sum}
+use Rattle.fallible_iterator.specs.LawForm.{TracesAre}
 use Rattle.fallible_iterator.specs.Lists.{GivesForGood, Lists, result_answer}
 use Rattle.fallible_iterator.proofs.Lemmas.Cutting.Fuse.{lists_for_good_fused}
 use Rattle.fallible_iterator.proofs.Lemmas.Hints.Drawn.{if_some_no_greater}
@@ -93,6 +94,31 @@ module _ {S U A B C E F V : Type 0} (steps : S → Answered A E → S → Type 0
 
   pub sides_law : (p : SidesState steps others rule) (trace : List (Answered C E)) (q : SidesState steps others rule) → Run (SidesStep steps others rule) p trace q ↔ TraceOfSides p trace q
   sides_law p trace q = (trace_places trace p q, (λ d. rw d.answers (run_from_places d.places p q d.left d.right d.decided)))
+
+-- ---- whole traces: values of which nothing is held of the right
+
+module _ {S U A B C E F V Z : Type 0} (steps : S → Answered A E → S → Type 0) (others : U → Answered B E → U → Type 0) (rule : Rule A B C E F V) (none : (x : Option A) (y : Option B) (v : V) → rule.right_held x y v ≡ None) (parts : Z → SidesState steps others rule) (make : SidesState steps others rule → Z) (made : (s : Z) → make (parts s) ≡ s) (free : (s : Z) → (parts s).1.1 ≡ None) (has : (p : SidesState steps others rule) → p.1.1 ≡ None → parts (make p) ≡ p) where
+  abbrev SeenStep : Z → Answered C E → Z → Type 0
+  SeenStep s r t = SidesStep steps others rule (parts s) r (parts t)
+
+  right_held_none_after : (h : Option B) (x : SidesPlace A B E V) → h ≡ None → right_held_after rule h x ≡ None
+  right_held_none_after h (left_failed e) is = is
+  right_held_none_after h (right_failed x e) is = refl
+  right_held_none_after h (both_gave x y v) is = none x y v
+
+  run_of_sides : (trace : List (Answered C E)) (s t : Z) → Run SeenStep s trace t → Run (SidesStep steps others rule) (parts s) trace (parts t)
+  run_of_sides [] s t e = ap parts e
+  run_of_sides (r ∷ rest) s t ran = (parts ran.0, ran.1, run_of_sides rest ran.0 t ran.2)
+
+  run_from_sides : (trace : List (Answered C E)) (s t : Z) → Run (SidesStep steps others rule) (parts s) trace (parts t) → Run SeenStep s trace t
+  run_from_sides [] s t e = sym (made s) ∙ ap make e ∙ made t
+  run_from_sides (r ∷ rest) s t ran =
+      let w = ran.1 in
+      let same = has ran.0 (w.4 ∙ right_held_none_after (parts s).1.1 w.0 (free s)) in
+      (make ran.0, subst (λ (p : SidesState steps others rule). SidesStep steps others rule (parts s) r p) (sym same) w, run_from_sides rest (make ran.0) t (subst (λ (p : SidesState steps others rule). Run (SidesStep steps others rule) p rest (parts t)) (sym same) ran.2))
+
+  pub traces_are_of_sides : TracesAre parts SeenStep (SidesTrace steps others rule)
+  traces_are_of_sides s trace t = let law = sides_law steps others rule (parts s) trace (parts t) in ((λ ran. law.0 (run_of_sides trace s t ran)), (λ d. run_from_sides trace s t (law.1 d)))
 
 -- ---- what it lists
 
@@ -297,7 +323,7 @@ module _ {S A E : Type 0} (steps : S → Answered A E → S → Type 0) (once : 
   none_after_end s t u [] w ran = omega arith
   none_after_end s t u (x ∷ xs) w ran = absurd (once s t ran.0 x w ran.1)
 
-  items_come_from : (p : S × Option A) (t : S) (x h : Option A) (n : ℕ) → (h ≡ None) ⊎ (h ≡ x) → GivesHeldFirst steps p (Ok x) t → ItemsCome steps (t, h) n → ItemsCome steps p ((held_count x - held_count h) + n) × IfEnded x n
+  pub items_come_from : (p : S × Option A) (t : S) (x h : Option A) (n : ℕ) → (h ≡ None) ⊎ (h ≡ x) → GivesHeldFirst steps p (Ok x) t → ItemsCome steps (t, h) n → ItemsCome steps p ((held_count x - held_count h) + n) × IfEnded x n
   items_come_from (s, Some y) t None h n kept g d = absurd (let no = g.0 in cc)
   items_come_from (s, Some y) t (Some x) h n kept g d = (record { came = d.came; left = d.left; ran = subst (λ (z : S). Yields steps z d.came d.left) g.1 d.ran; many = omega (arith, d.many, held_count_one_at_most h) }, tt)
   items_come_from (s, None) t None None n kept g d = let no = none_after_end s t d.left d.came g d.ran in (record { came = []; left = s; ran = refl; many = omega (arith, no, d.many) }, omega (arith, no, d.many))

@@ -1,7 +1,7 @@
 -- What `ZipLongest` lists, and that its hints are sound.
 use Rattle.std.specs.Prelude.{ℕ, ◌≡◌, ◌+◌, ◌-◌, ◌≤◌, max, false, IfSome, List, [], ◌∷◌, Option, Some, None, Result, Ok, Err, ⊤}
-use Rattle.std.proofs.Common.{refl, sym, ap, subst, ◌∙◌, arith}
-use Rattle.fallible_iterator.specs.Traces.{Answered, Run, item, failure, end}
+use Rattle.std.proofs.Common.{refl, ap, arith}
+use Rattle.fallible_iterator.specs.Traces.{Answered, item, failure, end}
 use Rattle.fallible_iterator.specs.LawForm.{TracesAre}
 use Rattle.fallible_iterator.specs.Contract.{Contract, seen_as}
 use Rattle.fallible_iterator.specs.Held.{held_count}
@@ -10,10 +10,10 @@ use Rattle.fallible_iterator.specs.Lists.{Lists}
 use Rattle.fallible_iterator.specs.SoundHints.{AsSoundAsBoth}
 use Rattle.fallible_iterator.proofs.Lemmas.Lists.ForGood.{lists_once, lists_for_good_seen}
 use Rattle.fallible_iterator.specs.Fuse.{Fuse}
-use Rattle.fallible_itertools.specs.Sides.{fused_steps, side_hint, SidesPlace, left_failed, right_failed, both_gave, right_held_after}
+use Rattle.fallible_itertools.specs.Sides.{fused_steps, side_hint}
 use Rattle.fallible_itertools.specs.ZipLongest.{greater_bound, hint_greater, longest, longest_rule, zip_longest_parts, zip_longest_contract, ZipLongestTrace, zipped_longest}
 use Rattle.fallible_itertools.specs.Laws.ZipLongest.{is_lawful_rule_longest}
-use Rattle.fallible_itertools.proofs.Lemmas.Sides.{first_answer, rest_of, left_over, EndsOnce, IfEnded, ListsBy, gives_for_good_of_fresh, gives_for_good_sides, GivesAsMany, TakesAsMany, both_come, both_end, side_hint_above, side_hint_below, SidesStep, sides_law}
+use Rattle.fallible_itertools.proofs.Lemmas.Sides.{first_answer, rest_of, left_over, EndsOnce, IfEnded, ListsBy, gives_for_good_of_fresh, gives_for_good_sides, GivesAsMany, TakesAsMany, both_come, both_end, side_hint_above, side_hint_below, SidesStep, traces_are_of_sides}
 use Rattle.fallible_itertools.specs.declared.zip_longest.EitherOrBoth.{EitherOrBoth}
 use Rattle.fallible_itertools.specs.declared.zip_longest.ZipLongest.{ZipLongest}
 
@@ -108,17 +108,9 @@ module _ {S U A B E : Type 0} (left : Contract S A E) (right : Contract U B E) (
 
 -- ---- whole traces
 
-right_held_none_of_none : {A B E : Type 0} (h : Option B) (x : SidesPlace A B E (Unit {0})) → h ≡ None → right_held_after (longest_rule {A = A} {B = B} {E = E}) h x ≡ None
-right_held_none_of_none h (left_failed e) is = is
-right_held_none_of_none h (right_failed x e) is = refl
-right_held_none_of_none h (both_gave x y v) is = refl
-
 module _ {S U A B E : Type 0} (steps : S → Answered A E → S → Type 0) (others : U → Answered B E → U → Type 0) where
   abbrev SidesHere : Type 0
   SidesHere = (Fuse S × Option A) × (Fuse U × Option B) × Unit {0}
-
-  abbrev SeenSteps : ZipLongest S U A E → Answered (EitherOrBoth A B) E → ZipLongest S U A E → Type 0
-  SeenSteps s r t = ZippedSteps (fused_steps steps) (fused_steps others) (zip_longest_parts s) r (zip_longest_parts t)
 
   abbrev of_parts : SidesHere → ZipLongest S U A E
   of_parts p = record { left = record { it = p.0.0; held = p.0.1 }; right = p.1.0 }
@@ -126,19 +118,5 @@ module _ {S U A B E : Type 0} (steps : S → Answered A E → S → Type 0) (oth
   zip_longest_parts_of : (p : SidesHere) → p.1.1 ≡ None → zip_longest_parts (of_parts p) ≡ p
   zip_longest_parts_of ((s, h), (u, k), f) e = rw e refl
 
-  -- nothing is held of the right
-  right_holds_none : (p q : SidesHere) (r : Answered (EitherOrBoth A B) E) → p.1.1 ≡ None → ZippedSteps (fused_steps steps) (fused_steps others) p r q → q.1.1 ≡ None
-  right_holds_none p q r e w = w.4 ∙ right_held_none_of_none p.1.1 w.0 e
-
-  run_of_sides : (trace : List (Answered (EitherOrBoth A B) E)) (s t : ZipLongest S U A E) → Run SeenSteps s trace t → Run (ZippedSteps (fused_steps steps) (fused_steps others)) (zip_longest_parts s) trace (zip_longest_parts t)
-  run_of_sides [] s t e = ap zip_longest_parts e
-  run_of_sides (r ∷ rest) s t ran = (zip_longest_parts ran.0, ran.1, run_of_sides rest ran.0 t ran.2)
-
-  run_from_sides : (trace : List (Answered (EitherOrBoth A B) E)) (s t : ZipLongest S U A E) → Run (ZippedSteps (fused_steps steps) (fused_steps others)) (zip_longest_parts s) trace (zip_longest_parts t) → Run SeenSteps s trace t
-  run_from_sides [] s t e = ap of_parts e
-  run_from_sides (r ∷ rest) s t ran =
-      let same = zip_longest_parts_of ran.0 (right_holds_none (zip_longest_parts s) ran.0 r refl ran.1) in
-      (of_parts ran.0, subst (λ (p : SidesHere). ZippedSteps (fused_steps steps) (fused_steps others) (zip_longest_parts s) r p) (sym same) ran.1, run_from_sides rest (of_parts ran.0) t (subst (λ (p : SidesHere). Run (ZippedSteps (fused_steps steps) (fused_steps others)) p rest (zip_longest_parts t)) (sym same) ran.2))
-
-  pub zip_longest_law : TracesAre zip_longest_parts SeenSteps (ZipLongestTrace steps others)
-  zip_longest_law s trace t = let law = sides_law (fused_steps steps) (fused_steps others) longest_rule (zip_longest_parts s) trace (zip_longest_parts t) in ((λ ran. law.0 (run_of_sides trace s t ran)), (λ d. run_from_sides trace s t (law.1 d)))
+  pub zip_longest_law : TracesAre (zip_longest_parts {E = E}) (λ s r t. ZippedSteps (fused_steps steps) (fused_steps others) (zip_longest_parts s) r (zip_longest_parts t)) (ZipLongestTrace steps others)
+  zip_longest_law = traces_are_of_sides (fused_steps steps) (fused_steps others) longest_rule (λ x y v. refl) (zip_longest_parts {E = E}) of_parts (λ s. refl) (λ s. refl) zip_longest_parts_of
