@@ -18,9 +18,9 @@ module _ (bytes : List ℕ) (room : ℕ) (sections : List Section) (k : ℕ) (d 
   first_of_rest below = let next : suc k ≡ k + 1 = omega arith in drop-cons sections k d below ∙ ap (λ n. get_or sections k d ∷ drop n sections) next
 
   -- a name for which there is room
-  pub names_within_next : {name : List ℕ} → k < length sections → name ≡ name_or_none bytes (get_or sections k d).name → length name ≤ room → names_within bytes room (drop k sections) ≡ names_within bytes (room - length name) (drop (k + 1) sections)
+  pub names_within_at_fitting_name : {name : List ℕ} → k < length sections → name ≡ name_or_none bytes (get_or sections k d).name → length name ≤ room → names_within bytes room (drop k sections) ≡ names_within bytes (room - length name) (drop (k + 1) sections)
   unfolding names_within
-  names_within_next below is fits = rw (first_of_rest below, ← is, le-leb _ _ fits) refl
+  names_within_at_fitting_name below is fits = rw (first_of_rest below, ← is, le-leb _ _ fits) refl
 
   -- a name for which there is none
   pub names_within_fault : {name : List ℕ} → k < length sections → name ≡ name_or_none bytes (get_or sections k d).name → room < length name → names_within bytes room (drop k sections) ≡ Err (fault_at (place_or_0 (get_or sections k d).name) NamesTooLong)

@@ -17,10 +17,10 @@ text_of_cell (Some bytes) (Some slice) h = h
 text_of_cell None (Some slice) h = absurd h
 text_of_cell (Some bytes) None h = absurd h
 
-pub further_item : (cells rest : Shown) (o : Option (Bor (List ℕ))) → TakesCell cells (Ok (Some o)) rest → further_text cells ≡ 124 ∷ drawn_text o ++ further_text rest
-further_item [] rest o h = absurd (let e = h.0 in cc)
-further_item (Ok cell ∷ cells) rest o h = ap (λ l. 124 ∷ l ++ further_text cells) (sym (text_of_cell cell o h.0)) ∙ ap (λ l. 124 ∷ drawn_text o ++ further_text l) (sym h.1)
-further_item (Err damage ∷ cells) rest o h = absurd (let e = h.0 in cc)
+pub further_text_at_item : (cells rest : Shown) (o : Option (Bor (List ℕ))) → TakesCell cells (Ok (Some o)) rest → further_text cells ≡ 124 ∷ drawn_text o ++ further_text rest
+further_text_at_item [] rest o h = absurd (let e = h.0 in cc)
+further_text_at_item (Ok cell ∷ cells) rest o h = ap (λ l. 124 ∷ l ++ further_text cells) (sym (text_of_cell cell o h.0)) ∙ ap (λ l. 124 ∷ drawn_text o ++ further_text l) (sym h.1)
+further_text_at_item (Err damage ∷ cells) rest o h = absurd (let e = h.0 in cc)
 
 pub further_end : (cells rest : Shown) → TakesCell cells (Ok None) rest → further_text cells ≡ 10 ∷ []
 further_end [] rest h = refl

@@ -11,7 +11,7 @@ use Rattle.fallible_iterator.specs.Traces.{Answered, Run, failure, end}
 use Rattle.fallible_iterator.proofs.Lemmas.Callers.{turns_split}
 use Rattle.fallible_rows.specs.Rows.{rows, is_newline}
 use Rattle.program_io.specs.Bytes.{GivesBytes}
-use Rattle.fallible_rows.specs.RowTraces.{row_answer, row_answers, IsOneRow, IsClosed, row_step, ReadsRows, AnswersRowsOf, NeverFailsToRead, BeginsWith, CanGiveAll}
+use Rattle.fallible_rows.specs.RowTraces.{row_answer, row_answers, IsOneRow, IsClosed, row_step, ReadsRows, IsPrefixOfRowAnswers, NeverFailsToRead, BeginsWith, CanGiveAll}
 use Rattle.fallible_rows.proofs.RowLemmas.{not_newline, rows-closed}
 use Rattle.fallible_rows.proofs.RowsLaw.{reads_rows_of_run, run_of_reads_rows}
 use Rattle.fallible_rows.proofs.PrefixLemmas.{consumes_given, consumes_to_end}
@@ -64,7 +64,7 @@ reading_never_fails_there prefix rest h =
     h (length prefix) end (omega (arith, long)) (get_or-append_seam prefix (failure Read) rest end)
 
 module _ {B : Type 0} (left : B → Option (List ℕ)) (stays : Bool → B → B → Type 0) where
-  answers_rows_of_known : (bytes : List ℕ) (trace : RowAnswers) (r : B) (a : Ahead) (p : B × Option Ahead) → a.place ≡ 1 → left r ≡ Some bytes → NeverFailsToRead trace → ReadsRows left stays r a trace p → AnswersRowsOf bytes trace
+  answers_rows_of_known : (bytes : List ℕ) (trace : RowAnswers) (r : B) (a : Ahead) (p : B × Option Ahead) → a.place ≡ 1 → left r ≡ Some bytes → NeverFailsToRead trace → ReadsRows left stays r a trace p → IsPrefixOfRowAnswers bytes trace
   answers_rows_of_known bytes trace r a p first tells never h = elim h.stopped [
     | inl s ↦
         let whole : h.closed ++ h.unclosed ≡ h.closed = ap (λ l. h.closed ++ l) s.none_unclosed ∙ append-nil h.closed in
@@ -85,7 +85,7 @@ module _ {B : Type 0} (left : B → Option (List ℕ)) (stays : Bool → B → B
     ]
   ]
 
-  pub answers_are_of_bytes : (bytes : List ℕ) (trace : RowAnswers) {p : B × Option Ahead} (q : B × Option Ahead) → BeginsWith left stays p bytes → NeverFailsToRead trace → Run (row_step left stays) p trace q → AnswersRowsOf bytes trace
+  pub answers_are_of_bytes : (bytes : List ℕ) (trace : RowAnswers) {p : B × Option Ahead} (q : B × Option Ahead) → BeginsWith left stays p bytes → NeverFailsToRead trace → Run (row_step left stays) p trace q → IsPrefixOfRowAnswers bytes trace
   answers_are_of_bytes bytes trace {p = p} q b never ran =
       let ahead : Ahead = record { left = b.limit; place = 1 } in
       answers_rows_of_known bytes trace p.0 ahead q refl b.tells never (reads_rows_of_run left stays trace p.0 ahead q (lit≤ tt) (subst (λ (u : B × Option Ahead). Run (row_step left stays) u trace q) b.begins ran))
@@ -114,7 +114,7 @@ module _ {B : Type 0} (left : B → Option (List ℕ)) (stays : Bool → B → B
       } in
       subst (λ (u : B × Option Ahead). Run (row_step left stays) u (row_answers 1 (rows bytes) ++ replicate (n + 1) end) (c.after, None)) (sym b.begins) (run_of_reads_rows left stays (row_answers 1 (rows bytes) ++ replicate (n + 1) end) p.0 ahead (c.after, None) (lit≤ tt) reads)
 
-  pub run_for_each_bytes : (bytes : List ℕ) (trace : RowAnswers) (p : B × Option Ahead) → BeginsWith left stays p bytes → CanGiveAll left stays p bytes → AnswersRowsOf bytes trace → (q : B × Option Ahead) × Run (row_step left stays) p trace q
+  pub run_for_each_bytes : (bytes : List ℕ) (trace : RowAnswers) (p : B × Option Ahead) → BeginsWith left stays p bytes → CanGiveAll left stays p bytes → IsPrefixOfRowAnswers bytes trace → (q : B × Option Ahead) × Run (row_step left stays) p trace q
   run_for_each_bytes bytes trace p b c h =
       let prefix = row_answers 1 (rows bytes) in
       let known = prefix ++ replicate h.1 end in

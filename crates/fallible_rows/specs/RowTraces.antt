@@ -157,8 +157,8 @@ module _ {B : Type 0} (left : B → Option (List ℕ)) (stays : Bool → B → B
 -- ---- the rows of known bytes
 
 -- the first answers of these: those of the rows of the bytes, from place 1 on, and then ends
-abbrev pub AnswersRowsOf : List ℕ → List (Answered ℕ RowFault) → Type 0
-AnswersRowsOf bytes trace = (n : ℕ) × (ends : ℕ) × (trace ≡ take n (row_answers 1 (rows bytes) ++ replicate ends end))
+abbrev pub IsPrefixOfRowAnswers : List ℕ → List (Answered ℕ RowFault) → Type 0
+IsPrefixOfRowAnswers bytes trace = (n : ℕ) × (ends : ℕ) × (trace ≡ take n (row_answers 1 (rows bytes) ++ replicate ends end))
 
 -- no read failed, and no byte was wanted beyond the limit
 abbrev pub NeverFailsToRead : List (Answered ℕ RowFault) → Type 0

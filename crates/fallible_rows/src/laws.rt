@@ -1,7 +1,7 @@
 //! What a trace of the rows of a reader is.
 ghost use Rattle.std.specs.Prelude.{◌≡◌, ℕ, ◌≤◌, ◌<◌, List, Option, Result, ◌↔◌};
 ghost use Rattle.fallible_iterator.specs.Traces.{Answered, Run};
-ghost use Rattle.fallible_rows.specs.RowTraces.{rows_parts, IsPlaced, RowsTrace, AnswersRowsOf, NeverFailsToRead, BeginsWith, CanGiveAll};
+ghost use Rattle.fallible_rows.specs.RowTraces.{rows_parts, IsPlaced, RowsTrace, IsPrefixOfRowAnswers, NeverFailsToRead, BeginsWith, CanGiveAll};
 ghost use Rattle.fallible_rows.specs.declared.fault.RowFault.{RowFault};
 
 use crate::rows::Rows;
@@ -20,9 +20,9 @@ pub fn law_rows<B: ReadByte>()
 pub fn law_rows_of_bytes<B: ReadByte>()
     ensures only { (s : Rows B) (bytes : List ℕ) (trace : List (Answered ℕ RowFault)) (t : Rows B)
         → BeginsWith B.left B.stays (rows_parts s) bytes → NeverFailsToRead trace
-        → Run ⟦<Rows<B> as FallibleIterator>⟧.contract.steps s trace t → AnswersRowsOf bytes trace }
+        → Run ⟦<Rows<B> as FallibleIterator>⟧.contract.steps s trace t → IsPrefixOfRowAnswers bytes trace }
     ensures each { (s : Rows B) (bytes : List ℕ) (trace : List (Answered ℕ RowFault))
         → BeginsWith B.left B.stays (rows_parts s) bytes
-        → CanGiveAll B.left B.stays (rows_parts s) bytes → AnswersRowsOf bytes trace
+        → CanGiveAll B.left B.stays (rows_parts s) bytes → IsPrefixOfRowAnswers bytes trace
         → (t : Rows B) × Run ⟦<Rows<B> as FallibleIterator>⟧.contract.steps s trace t }
 {}

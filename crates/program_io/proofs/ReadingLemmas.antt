@@ -80,14 +80,14 @@ module _ {R : Type 0} (left : R → Option (List ℕ)) (stays : Bool → R → R
     pub are : mid ≡ old ++ more
     pub missing : length mid + room ≡ n
 
-  stops_later : (many more n room : ℕ) (last q : R) (why : Unread) → many + room ≡ n → StopsShort left stays room more last why q → StopsShort left stays n (many + more) last why q
-  stops_later many more n room last q End at h = (let few = h.0 in omega (arith, few, at), h.1)
-  stops_later many more n room last q Failed at h = (let few = h.0 in omega (arith, few, at), h.1)
-  stops_later many more n room last q Memory at h = (let few = h.0 in omega (arith, few, at), h.1)
+  stops_short_after_more : (many more n room : ℕ) (last q : R) (why : Unread) → many + room ≡ n → StopsShort left stays room more last why q → StopsShort left stays n (many + more) last why q
+  stops_short_after_more many more n room last q End at h = (let few = h.0 in omega (arith, few, at), h.1)
+  stops_short_after_more many more n room last q Failed at h = (let few = h.0 in omega (arith, few, at), h.1)
+  stops_short_after_more many more n room last q Memory at h = (let few = h.0 in omega (arith, few, at), h.1)
 
   -- bytes that came, and then a read that broke off
   pub reads_up_to_broken : {r p : R} {old mid : List ℕ} {n room : ℕ} → Came r p old mid n room → (q : R) (new : List ℕ) (why : Unread) → ReadsSome left stays {U = Unit {0}} p mid room (Err why) new q → ReadsUpTo left stays {U = Unit {0}} r old n (Err why) new q
   reads_up_to_broken {r = r} {p = p} {old = old} {mid = mid} {n = n} {room = room} came q new why h =
       let all : old ++ (came.more ++ h.0) ≡ mid ++ h.0 = sym (append_assoc old came.more h.0) ∙ ap (λ l. l ++ h.0) (sym came.are) in
       let long : length mid + length h.0 ≡ length (old ++ (came.more ++ h.0)) = sym (length-append mid h.0) ∙ ap length (sym all) in
-      (came.more ++ h.0, h.1, folds_to_append (GivesByte left stays) came.more h.0 r p h.1 came.given h.2, subst (λ (k : ℕ). StopsShort left stays n k h.1 why q) long (stops_later (length mid) (length h.0) n room h.1 q why came.missing h.3))
+      (came.more ++ h.0, h.1, folds_to_append (GivesByte left stays) came.more h.0 r p h.1 came.given h.2, subst (λ (k : ℕ). StopsShort left stays n k h.1 why q) long (stops_short_after_more (length mid) (length h.0) n room h.1 q why came.missing h.3))

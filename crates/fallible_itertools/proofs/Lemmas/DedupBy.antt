@@ -120,17 +120,17 @@ module _ {A E : Type 0} (h : A → A → Result Bool E) where
   next_is_held z y (Ok x ∷ l) differ = next_by_result z y x (h y x) l differ (λ k is. next_is_held z k l is)
   next_is_held z y (Err e ∷ l) differ = differ
 
-  each_by_result : (y x : A) (v : Result Bool E) (l : List (Result A E)) → h y x ≡ v → ((o : Option A) → EachNext FoundToDiffer (deduped_by_from h o l)) → EachNext FoundToDiffer (same_before y x v (λ held. deduped_by_from h held l))
-  each_by_result y x (Ok true) l is rest = rest (Some y)
-  each_by_result y x (Ok false) l is rest = (next_is_held y x l is, rest (Some x))
-  each_by_result y x (Err e) l is rest = (tt, rest None)
+  each_next_differs_by_result : (y x : A) (v : Result Bool E) (l : List (Result A E)) → h y x ≡ v → ((o : Option A) → EachNext FoundToDiffer (deduped_by_from h o l)) → EachNext FoundToDiffer (same_before y x v (λ held. deduped_by_from h held l))
+  each_next_differs_by_result y x (Ok true) l is rest = rest (Some y)
+  each_next_differs_by_result y x (Ok false) l is rest = (next_is_held y x l is, rest (Some x))
+  each_next_differs_by_result y x (Err e) l is rest = (tt, rest None)
 
   each_next_differs : (o : Option A) (l : List (Result A E)) → EachNext FoundToDiffer (deduped_by_from h o l)
   unfolding deduped_by_from
   each_next_differs None [] = tt
   each_next_differs (Some y) [] = (tt, tt)
   each_next_differs None (Ok x ∷ l) = each_next_differs (Some x) l
-  each_next_differs (Some y) (Ok x ∷ l) = each_by_result y x (h y x) l refl (λ o. each_next_differs o l)
+  each_next_differs (Some y) (Ok x ∷ l) = each_next_differs_by_result y x (h y x) l refl (λ o. each_next_differs o l)
   each_next_differs None (Err e ∷ l) = each_next_differs None l
   each_next_differs (Some y) (Err e ∷ l) = (tt, each_next_differs None l)
 

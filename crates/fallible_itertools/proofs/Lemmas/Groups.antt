@@ -73,9 +73,9 @@ module _ {A K : Type 0} (E : Type 0) (eq : K → K → Bool) (h : A → Result K
   abbrev Groups : List (Result (K × List A) E) → Type 0
   Groups l = AllByRecursion (IsGroup eq h) (items_listed l)
 
-  abbrev IsHeld : Option (K × List A) → Type 0
-  IsHeld None = ⊤
-  IsHeld (Some g) = IsGroup eq h g
+  abbrev HeldIsGroup : Option (K × List A) → Type 0
+  HeldIsGroup None = ⊤
+  HeldIsGroup (Some g) = IsGroup eq h g
 
   grown : (k : K) (xs : List A) (y : A) → IsGroup eq h (k, xs) → HasKey eq h k y → IsGroup eq h (k, xs ++ y ∷ [])
   grown k [] y is has = absurd is
@@ -86,7 +86,7 @@ module _ {A K : Type 0} (E : Type 0) (eq : K → K → Bool) (h : A → Result K
 
   -- of the rest, where a group is held before it
   abbrev GroupsOf : List (Result A E) → Type 0
-  GroupsOf l = (a : Option (K × List A)) → IsHeld a → Groups (chunked_by_from eq h a l)
+  GroupsOf l = (a : Option (K × List A)) → HeldIsGroup a → Groups (chunked_by_from eq h a l)
 
   groups_or : (g : K × List A) (b : Bool) (more other : List (Result (K × List A) E)) → IsGroup eq h g → (b ≡ true → Groups more) → Groups other → Groups (group_or eq h g b more other)
   groups_or g true more other is at_more at_other = at_more refl
@@ -100,7 +100,7 @@ module _ {A K : Type 0} (E : Type 0) (eq : K → K → Bool) (h : A → Result K
   groups_keyed g x (Ok k) l held is rest = groups_or g (eq g.0 k) (chunked_by_from eq h (Some (g.0, g.1 ++ x ∷ [])) l) (chunked_by_from eq h (Some (k, x ∷ [])) l) held (λ same. rest (Some (g.0, g.1 ++ x ∷ [])) (grown g.0 g.1 x held (k, is, same))) (rest (Some (k, x ∷ [])) (alone k x is))
   groups_keyed g x (Err e) l held is rest = (held, rest None tt)
 
-  groups_from : (a : Option (K × List A)) (l : List (Result A E)) → IsHeld a → Groups (chunked_by_from eq h a l)
+  groups_from : (a : Option (K × List A)) (l : List (Result A E)) → HeldIsGroup a → Groups (chunked_by_from eq h a l)
   unfolding chunked_by_from
   groups_from None [] held = tt
   groups_from (Some g) [] held = (held, tt)

@@ -45,11 +45,11 @@ module _ {Q X B E : Type 0} (does : Q → Option X → Outcome B E) (next : Q �
 
   -- ---- a failure parts a list
 
-  stop_parts : (o : Outcome B E) (e : E) (rest : List (Result B E)) → made_first stop_comes (stop_made (Some e) o) rest ≡ made_first stop_comes (stop_made None o) [] ++ Err e ∷ rest
-  stop_parts (Kept y) e rest = refl
-  stop_parts LeftOut e rest = refl
-  stop_parts (Failure d) e rest = refl
-  stop_parts End e rest = refl
+  made_first_splits_at_failure : (o : Outcome B E) (e : E) (rest : List (Result B E)) → made_first stop_comes (stop_made (Some e) o) rest ≡ made_first stop_comes (stop_made None o) [] ++ Err e ∷ rest
+  made_first_splits_at_failure (Kept y) e rest = refl
+  made_first_splits_at_failure LeftOut e rest = refl
+  made_first_splits_at_failure (Failure d) e rest = refl
+  made_first_splits_at_failure End e rest = refl
 
   stop_appended : (o : Outcome B E) (e : E) (a whole tail : List (Result B E)) → whole ≡ a ++ tail → made_first stop_comes (stop_made (Some e) o) whole ≡ made_first stop_comes (stop_made (Some e) o) a ++ tail
   stop_appended (Kept y) e a whole tail is = ap (λ k. Ok y ∷ Err e ∷ k) is
@@ -65,7 +65,7 @@ module _ {Q X B E : Type 0} (does : Q → Option X → Outcome B E) (next : Q �
     by_outcome_parts End n l e k some rest = absurd (some refl)
 
     held_list_parts : (a : Q) (l : List (Result X E)) (e : E) (k : List (Result X E)) → held_list a (l ++ Err e ∷ k) ≡ held_list a l ++ Err e ∷ held_list none k
-    held_list_parts a [] e k = stop_parts (does a None) e (held_list (next a None) k) ∙ ap (λ (n : Q). held_list a [] ++ Err e ∷ held_list n k) (settles a)
+    held_list_parts a [] e k = made_first_splits_at_failure (does a None) e (held_list (next a None) k) ∙ ap (λ (n : Q). held_list a [] ++ Err e ∷ held_list n k) (settles a)
     held_list_parts a (Ok x ∷ l) e k = by_outcome_parts (does a (Some x)) (next a (Some x)) l e k (no_end a x) (λ b. held_list_parts b l e k)
     held_list_parts a (Err d ∷ l) e k = stop_appended (does a None) d _ _ _ (held_list_parts (next a None) l e k)
 

@@ -18,7 +18,7 @@ use Rattle.fallible_itertools.specs.Adjacent.{Interleaved, of_neither, of_first,
 use Rattle.fallible_itertools.specs.Interleave.{InterleaveTrace, Turn, TurnsTrace, by_itself, by_other, interleave_contract, interleave_parts, interleave_step, interleaved, turn_answer, turn_draws, turns_drawn, waits_after}
 use Rattle.fallible_itertools.specs.Sides.{fused_steps}
 use Rattle.fallible_itertools.specs.declared.interleave.Interleave.{Interleave}
-use Rattle.fallible_itertools.proofs.Lemmas.Sides.{EndsOnce, ItemsCome, ItemsThenEnd, first_answer, first_for_good, gives_for_good_of_fresh, gives_for_good_of_sides, items_come_from, rest_of, side_hint_above, side_hint_below}
+use Rattle.fallible_itertools.proofs.Lemmas.Sides.{EndsOnce, ItemsCome, ItemsThenEnd, first_answer, first_for_good, gives_for_good_of_fresh, gives_for_good_of_sides, items_come_before_draw, rest_of, side_hint_above, side_hint_below}
 
 -- ---- whole traces
 
@@ -182,7 +182,7 @@ module _ {S A E : Type 0} (steps : S → Answered A E → S → Type 0) where
   items_come_at_turn : EndsOnce steps → (b : Bool) (x : Turn A E) (z : A) (s t : S) (n : ℕ) → turn_answer x ≡ item z → Run steps s (turn_draws b x) t → ItemsCome steps (t, None) n → ItemsCome steps (s, None) (taken b x + n)
   items_come_at_turn once false (by_itself (Ok y)) z s t n is ran d = items_come_first s t y n ran d
   items_come_at_turn once false (by_itself (Err e)) z s t n is ran d = absurd cc
-  items_come_at_turn once false (by_other r) z s t n is ran d = (items_come_from steps once (s, None) ran.0 None None n (inl refl) ran.1 (subst (λ (u : S). ItemsCome steps (u, None) n) (sym ran.2) d)).0
+  items_come_at_turn once false (by_other r) z s t n is ran d = (items_come_before_draw steps once (s, None) ran.0 None None n (inl refl) ran.1 (subst (λ (u : S). ItemsCome steps (u, None) n) (sym ran.2) d)).0
   items_come_at_turn once true (by_itself y) z s t n is ran d = items_come_fewer (s, None) n _ (omega arith) (subst (λ (u : S). ItemsCome steps (u, None) n) (sym ran) d)
   items_come_at_turn once true (by_other r) z s t n is ran d = items_come_first s t z n (subst (λ (a : Answered A E). Run steps s (a ∷ []) t) is ran) d
 

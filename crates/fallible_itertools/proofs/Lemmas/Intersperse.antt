@@ -14,16 +14,16 @@ use Rattle.std.specs.declared.alloc.AllocError.{AllocError}
 use Rattle.fallible_itertools.specs.declared.intersperse.Intersperse.{Intersperse}
 
 -- where each separator is the same, the list is that of one
-each_after_same : {A E : Type 0} (s : A) (l : List (Result A E)) → each_after_made (λ n. Ok s) l ≡ each_after s l
+each_after_made_by_constant : {A E : Type 0} (s : A) (l : List (Result A E)) → each_after_made (λ n. Ok s) l ≡ each_after s l
 unfolding each_after_made each_after
-each_after_same s [] = refl
-each_after_same s (Ok x ∷ l) = ap (λ k. Ok s ∷ Ok x ∷ k) (each_after_same s l)
-each_after_same s (Err e ∷ l) = ap (λ k. Err e ∷ k) (each_after_same s l)
+each_after_made_by_constant s [] = refl
+each_after_made_by_constant s (Ok x ∷ l) = ap (λ k. Ok s ∷ Ok x ∷ k) (each_after_made_by_constant s l)
+each_after_made_by_constant s (Err e ∷ l) = ap (λ k. Err e ∷ k) (each_after_made_by_constant s l)
 
 pub interspersed_by_same : {A E : Type 0} (s : A) (l : List (Result A E)) → interspersed_by (λ n. Ok s) l ≡ interspersed s l
 unfolding interspersed_by interspersed
 interspersed_by_same s [] = refl
-interspersed_by_same s (Ok x ∷ l) = ap (λ k. Ok x ∷ k) (each_after_same s l)
+interspersed_by_same s (Ok x ∷ l) = ap (λ k. Ok x ∷ k) (each_after_made_by_constant s l)
 interspersed_by_same s (Err e ∷ l) = ap (λ k. Err e ∷ k) (interspersed_by_same s l)
 
 module _ {A E : Type 0} (is_clone : A → A → Type 0) (is_infallible : A → Type 0) (from : AllocError → E → Type 0) where

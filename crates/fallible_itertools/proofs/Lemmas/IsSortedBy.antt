@@ -32,16 +32,16 @@ module _ {A E F : Type 0} (call : F → A → A → Result Bool E → F → Type
       let d = pairs_after_items items rest (Some x) q (subst (λ (p : Option A × F). FoldsTo (WentOn (PairCall call) all_pick) p items q) same w.2) in
       (d.0, in_order_by_after_item last x v mid.1 (map (λ y. Ok y) items ++ rest) c.0 ∙ ap (λ b. while_in_order b (in_order_by_after h (Some x) (map (λ y. Ok y) items ++ rest))) true_here ∙ d.1)
 
-  in_order_by_deciding_item : (n : ℕ) (last : Option A) (x : A) (r : Result Bool E) (q : Option A × F) (l : List (Result A E)) → SearchDecides (PairCall call) all_pick n (last, f) x r q → r ≡ in_order_by_after h last (Ok x ∷ l)
+  in_order_by_at_deciding_item : (n : ℕ) (last : Option A) (x : A) (r : Result Bool E) (q : Option A × F) (l : List (Result A E)) → SearchDecides (PairCall call) all_pick n (last, f) x r q → r ≡ in_order_by_after h last (Ok x ∷ l)
   unfolding in_order_by_after
-  in_order_by_deciding_item n last x (Ok z) q l d = let s = search_stops_at_false n x d.0 z d.2 in ap (λ (b : Bool). Ok b) s.1 ∙ sym (in_order_by_after_item last x d.0 q.1 l d.1.0 ∙ ap (λ b. while_in_order b (in_order_by_after h (Some x) l)) s.0)
-  in_order_by_deciding_item n last x (Err e) q l d = ap (λ (w : Result Bool E). on_value w (λ b. while_in_order b (in_order_by_after h (Some x) l))) (pair_answered last x (Err e) q.1 d).1
+  in_order_by_at_deciding_item n last x (Ok z) q l d = let s = search_stops_at_false n x d.0 z d.2 in ap (λ (b : Bool). Ok b) s.1 ∙ sym (in_order_by_after_item last x d.0 q.1 l d.1.0 ∙ ap (λ b. while_in_order b (in_order_by_after h (Some x) l)) s.0)
+  in_order_by_at_deciding_item n last x (Err e) q l d = ap (λ (w : Result Bool E). on_value w (λ b. while_in_order b (in_order_by_after h (Some x) l))) (pair_answered last x (Err e) q.1 d).1
 
   pairs_after_rest : (ended : Answered A E) (n : ℕ) (last : Option A) (r : Result Bool E) (q : Option A × F) (rest : List (Result A E)) → SearchExit (PairCall call) all_pick true n (last, f) ended r q → RestAt ended rest → r ≡ in_order_by_after h last rest
   unfolding in_order_by_after
   pairs_after_rest (Ok None) n last r q rest exit left = exit.0 ∙ sym (ap (in_order_by_after h last) left)
   pairs_after_rest (Err e) n last r q rest exit left = exit.0 ∙ sym (ap (in_order_by_after h last) left.1)
-  pairs_after_rest (Ok (Some x)) n last r q rest exit left = in_order_by_deciding_item n last x r q left.0 exit ∙ sym (ap (in_order_by_after h last) left.1)
+  pairs_after_rest (Ok (Some x)) n last r q rest exit left = in_order_by_at_deciding_item n last x r q left.0 exit ∙ sym (ap (in_order_by_after h last) left.1)
 
   pub in_order_by_of_lists : {S : Type 0} {steps : S → Answered A E → S → Type 0} {s t : S} {q : Option A × F} {r : Result Bool E} (l : List (Result A E)) → SearchDrains (PairCall call) all_pick steps true s (None, f) r t q → Lists steps s l → r ≡ in_order_by h l
   unfolding in_order_by

@@ -25,13 +25,13 @@ module _ {S X B E C R : Type 0} (made : X → B → Type 0) (steps : S → Answe
   abbrev ItemFrom : Result X E → B → S → Type 0 → Type 0
   ItemFrom z y t G = ((x : X) × made x y × RefusesNext steps from t) ⊎ ((x : X) × (z ≡ Ok x) × made x y × G)
 
-  made_from_here_of_item : {whole : R} {t : S} {c d : C} (y : B) (z : Result X E) (l : List (Result X E)) → whole ≡ answers c (z ∷ l) → ((x : X) (k : List (Result X E)) → made x y → answers c (Ok x ∷ k) ≡ answers d k) → ItemFrom z y t (GivesMade made steps from t l) → OrRefusesNext whole t d
-  made_from_here_of_item y z l is same (inl (x, m, next)) = inl next
-  made_from_here_of_item {c = c} y z l is same (inr (x, this, m, rest)) = inr (record { rest = l; lists = record { runs = rest }; same = is ∙ ap (λ w. answers c (w ∷ l)) this ∙ same x l m })
+  or_refuses_next_of_item : {whole : R} {t : S} {c d : C} (y : B) (z : Result X E) (l : List (Result X E)) → whole ≡ answers c (z ∷ l) → ((x : X) (k : List (Result X E)) → made x y → answers c (Ok x ∷ k) ≡ answers d k) → ItemFrom z y t (GivesMade made steps from t l) → OrRefusesNext whole t d
+  or_refuses_next_of_item y z l is same (inl (x, m, next)) = inl next
+  or_refuses_next_of_item {c = c} y z l is same (inr (x, this, m, rest)) = inr (record { rest = l; lists = record { runs = rest }; same = is ∙ ap (λ w. answers c (w ∷ l)) this ∙ same x l m })
 
   made_from_here_at_item : {whole : R} {s t : S} {c d : C} (y : B) (l : List (Result X E)) → GivesMade made steps from s l → whole ≡ answers c l → steps s (Ok (Some y)) t → ((x : X) (k : List (Result X E)) → made x y → answers c (Ok x ∷ k) ≡ answers d k) → OrRefusesNext whole t d
   made_from_here_at_item y [] gives is drawn same = absurd (let h = gives _ _ drawn in cc)
-  made_from_here_at_item {t = t} y (z ∷ l) gives is drawn same = made_from_here_of_item y z l is same (item_told made steps from z y t (gives _ _ drawn))
+  made_from_here_at_item {t = t} y (z ∷ l) gives is drawn same = or_refuses_next_of_item y z l is same (item_told made steps from z y t (gives _ _ drawn))
 
   after_item : {whole : R} {s t : S} {c d : C} (y : B) → OrRefusesNext whole s c → steps s (Ok (Some y)) t → ((x : X) (k : List (Result X E)) → made x y → answers c (Ok x ∷ k) ≡ answers d k) → OrRefusesNext whole t d
   after_item y (inl r) drawn same = absurd (let h = (r _ _ drawn).1 in cc)

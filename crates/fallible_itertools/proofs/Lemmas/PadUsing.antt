@@ -71,11 +71,11 @@ module _ (E : Type 0) where
 
 module _ {F X E : Type 0} (g : Mut F (ℕ × Unit {0}) (Result X E)) where
   module _ (P : EitherOrBoth X ℕ → Type 0) (Q : ℕ → Type 0) (of_index : (i : ℕ) → P (Right i) → Q i) where
-    reached_by_indices : (made : List (EitherOrBoth X ℕ × Result X E)) (f h : F) → FoldsTo (λ p c q. P c.0 × pad_call g p c.0 c.1 q) f made h → Reaches (call_by_value g) Q f h
-    reached_by_indices [] f h e = subst (λ (k : F). Reaches (call_by_value g) Q f k) e reaches_reflexive
-    reached_by_indices ((Both x i, v) ∷ made) f h w = subst (λ (k : F). Reaches (call_by_value g) Q k h) w.1.1.1 (reached_by_indices made w.0 h w.2)
-    reached_by_indices ((Left x, v) ∷ made) f h w = subst (λ (k : F). Reaches (call_by_value g) Q k h) w.1.1.1 (reached_by_indices made w.0 h w.2)
-    reached_by_indices ((Right i, v) ∷ made) f h w = reaches_from i v (of_index i w.1.0) w.1.1 (reached_by_indices made w.0 h w.2)
+    closure_reached_by_index_calls : (made : List (EitherOrBoth X ℕ × Result X E)) (f h : F) → FoldsTo (λ p c q. P c.0 × pad_call g p c.0 c.1 q) f made h → Reaches (call_by_value g) Q f h
+    closure_reached_by_index_calls [] f h e = subst (λ (k : F). Reaches (call_by_value g) Q f k) e reaches_reflexive
+    closure_reached_by_index_calls ((Both x i, v) ∷ made) f h w = subst (λ (k : F). Reaches (call_by_value g) Q k h) w.1.1.1 (closure_reached_by_index_calls made w.0 h w.2)
+    closure_reached_by_index_calls ((Left x, v) ∷ made) f h w = subst (λ (k : F). Reaches (call_by_value g) Q k h) w.1.1.1 (closure_reached_by_index_calls made w.0 h w.2)
+    closure_reached_by_index_calls ((Right i, v) ∷ made) f h w = reaches_from i v (of_index i w.1.0) w.1.1 (closure_reached_by_index_calls made w.0 h w.2)
 
     takes_beside : {f : F} → IsCallable (call_by_value g) (takes_by_value g) Q f → (h : F) (x : EitherOrBoth X ℕ) → Reaches (call_by_value g) Q f h → P x → pad_takes g h x
     takes_beside c h (Both x i) reached may = tt
@@ -83,7 +83,7 @@ module _ {F X E : Type 0} (g : Mut F (ℕ × Unit {0}) (Result X E)) where
     takes_beside c h (Right i) reached may = c.at h i reached (of_index i may)
 
     pub is_callable_pad : {f : F} → IsCallable (call_by_value g) (takes_by_value g) Q f → IsCallable (pad_call g) (pad_takes g) P f
-    is_callable_pad {f = f} c = record { at = λ h x reached may. takes_beside c h x (reached_by_indices reached.made f h reached.by) may }
+    is_callable_pad {f = f} c = record { at = λ h x reached may. takes_beside c h x (closure_reached_by_index_calls reached.made f h reached.by) may }
 
   -- what is yielded at a position
   abbrev pad_value : (ℕ → Result X E) → EitherOrBoth X ℕ → Result X E

@@ -323,12 +323,12 @@ module _ {S A E : Type 0} (steps : S → Answered A E → S → Type 0) (once : 
   none_after_end s t u [] w ran = omega arith
   none_after_end s t u (x ∷ xs) w ran = absurd (once s t ran.0 x w ran.1)
 
-  pub items_come_from : (p : S × Option A) (t : S) (x h : Option A) (n : ℕ) → (h ≡ None) ⊎ (h ≡ x) → GivesHeldFirst steps p (Ok x) t → ItemsCome steps (t, h) n → ItemsCome steps p ((held_count x - held_count h) + n) × IfEnded x n
-  items_come_from (s, Some y) t None h n kept g d = absurd (let no = g.0 in cc)
-  items_come_from (s, Some y) t (Some x) h n kept g d = (record { came = d.came; left = d.left; ran = subst (λ (z : S). Yields steps z d.came d.left) g.1 d.ran; many = omega (arith, d.many, held_count_one_at_most h) }, tt)
-  items_come_from (s, None) t None None n kept g d = let no = none_after_end s t d.left d.came g d.ran in (record { came = []; left = s; ran = refl; many = omega (arith, no, d.many) }, omega (arith, no, d.many))
-  items_come_from (s, None) t None (Some y) n kept g d = absurd (elim kept [ inl e ↦ cc | inr e ↦ cc ])
-  items_come_from (s, None) t (Some x) h n kept g d = (record { came = x ∷ d.came; left = d.left; ran = (t, g, d.ran); many = omega (arith, d.many, held_count_one_at_most h) }, tt)
+  pub items_come_before_draw : (p : S × Option A) (t : S) (x h : Option A) (n : ℕ) → (h ≡ None) ⊎ (h ≡ x) → GivesHeldFirst steps p (Ok x) t → ItemsCome steps (t, h) n → ItemsCome steps p ((held_count x - held_count h) + n) × IfEnded x n
+  items_come_before_draw (s, Some y) t None h n kept g d = absurd (let no = g.0 in cc)
+  items_come_before_draw (s, Some y) t (Some x) h n kept g d = (record { came = d.came; left = d.left; ran = subst (λ (z : S). Yields steps z d.came d.left) g.1 d.ran; many = omega (arith, d.many, held_count_one_at_most h) }, tt)
+  items_come_before_draw (s, None) t None None n kept g d = let no = none_after_end s t d.left d.came g d.ran in (record { came = []; left = s; ran = refl; many = omega (arith, no, d.many) }, omega (arith, no, d.many))
+  items_come_before_draw (s, None) t None (Some y) n kept g d = absurd (elim kept [ inl e ↦ cc | inr e ↦ cc ])
+  items_come_before_draw (s, None) t (Some x) h n kept g d = (record { came = x ∷ d.came; left = d.left; ran = (t, g, d.ran); many = omega (arith, d.many, held_count_one_at_most h) }, tt)
 
 -- How many items are consumed at least where so many are yielded; of a side that returned an end none are.
 abbrev pub TakesAsMany : {A B C E F V : Type 0} → Rule A B C E F V → (ℕ → ℕ → ℕ) → Type 0
@@ -347,8 +347,8 @@ module _ {S U A B C E F V : Type 0} (steps : S → Answered A E → S → Type 0
   both_come_after_item p t u g (left_failed e) z k m n d is b = absurd cc
   both_come_after_item p t u g (right_failed x e) z k m n d is b = absurd cc
   both_come_after_item p t u g (both_gave x y v) z k m n d is b =
-      let l = items_come_from steps once p.0 t x (rule.left_held x y v) b.of_left (lawful.left_kept x y v) m b.left in
-      let r = items_come_from others once_right p.1 u y (rule.right_held x y v) b.of_right (lawful.right_kept x y v) n b.right in
+      let l = items_come_before_draw steps once p.0 t x (rule.left_held x y v) b.of_left (lawful.left_kept x y v) m b.left in
+      let r = items_come_before_draw others once_right p.1 u y (rule.right_held x y v) b.of_right (lawful.right_kept x y v) n b.right in
       record {
         of_left = (held_count x - held_count (rule.left_held x y v)) + b.of_left;
         of_right = (held_count y - held_count (rule.right_held x y v)) + b.of_right;

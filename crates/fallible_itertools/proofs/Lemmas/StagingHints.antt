@@ -97,18 +97,18 @@ module _ {S P X B L E : Type 0} (steps : S → Answered X E → S → Type 0) (c
   -- ---- below
 
   module _ (Few : P → ℕ → ℕ → Type 0) (makes : MakesNoFewer comes meets Few) where
-    few_met : (a : Answered X E) (s u : S) (p q : P) (m : Made B L E) (low : ℕ) → steps s a u → BoundsBelow steps s low → meets p a m q → (j : ℕ) × BoundsBelow steps u j × MadeFew comes m (λ n. Few q j n) (λ n. Few p low n)
-    few_met (Ok (Some x)) s u p q m low step b called = (low - 1, (λ xs t v ran last. let k = b (x ∷ xs) t v (u, step, ran) last in omega (arith, k)), makes.at_item p x m q low called)
-    few_met (Ok None) s u p q m low step b called = let none = b [] s u refl step in let is : low ≡ 0 = omega (arith, none) in (0, (λ xs t v ran last. omega arith), rw is (makes.at_end p m q called))
-    few_met (Err e) s u p q m low step b called = (0, (λ xs t v ran last. omega arith), makes.at_failure p e m q low called)
+    lower_bound_after_answer : (a : Answered X E) (s u : S) (p q : P) (m : Made B L E) (low : ℕ) → steps s a u → BoundsBelow steps s low → meets p a m q → (j : ℕ) × BoundsBelow steps u j × MadeFew comes m (λ n. Few q j n) (λ n. Few p low n)
+    lower_bound_after_answer (Ok (Some x)) s u p q m low step b called = (low - 1, (λ xs t v ran last. let k = b (x ∷ xs) t v (u, step, ran) last in omega (arith, k)), makes.at_item p x m q low called)
+    lower_bound_after_answer (Ok None) s u p q m low step b called = let none = b [] s u refl step in let is : low ≡ 0 = omega (arith, none) in (0, (λ xs t v ran last. omega arith), rw is (makes.at_end p m q called))
+    lower_bound_after_answer (Err e) s u p q m low step b called = (0, (λ xs t v ran last. omega arith), makes.at_failure p e m q low called)
 
     few_at_end : (s t : S) (p : P) (r : Answered B E) (q : P × Option L) (low : ℕ) → r ≡ end → DrawsUpTo comes meets steps s p r t q → BoundsBelow steps s low → Few p low 0
-    few_at_end s t p r _ low is (yields {q = q} {due = due} a step called) b = (few_met a s t p q (Some (end, due)) low step b (rw is at called)).2
-    few_at_end s t p r q low is (passes_over {u = u} {h = h} a step called rest) b = let k = few_met a s u p h None low step b called in k.2 0 (few_at_end u t h r q k.0 is rest k.1)
+    few_at_end s t p r _ low is (yields {q = q} {due = due} a step called) b = (lower_bound_after_answer a s t p q (Some (end, due)) low step b (rw is at called)).2
+    few_at_end s t p r q low is (passes_over {u = u} {h = h} a step called rest) b = let k = lower_bound_after_answer a s u p h None low step b called in k.2 0 (few_at_end u t h r q k.0 is rest k.1)
 
     few_drawn : (y : B) (n : ℕ) (s t : S) (p : P) (r : Answered B E) (q : P × Option L) (low : ℕ) → r ≡ item y → DrawsUpTo comes meets steps s p r t q → BoundsBelow steps s low → ((j : ℕ) (F : ℕ → Type 0) → BoundsBelow steps t j → DueFew comes q.1 (λ k. Few q.0 j k) F → F n) → Few p low (suc n)
-    few_drawn y n s t p r _ low is (yields {q = q} {due = due} a step called) b then = let k = few_met a s t p q (Some (item y, due)) low step b (rw is at called) in then k.0 (λ i. Few p low (suc i)) k.1 k.2
-    few_drawn y n s t p r q low is (passes_over {u = u} {h = h} a step called rest) b then = let k = few_met a s u p h None low step b called in k.2 (suc n) (few_drawn y n u t h r q k.0 is rest k.1 then)
+    few_drawn y n s t p r _ low is (yields {q = q} {due = due} a step called) b then = let k = lower_bound_after_answer a s t p q (Some (item y, due)) low step b (rw is at called) in then k.0 (λ i. Few p low (suc i)) k.1 k.2
+    few_drawn y n s t p r q low is (passes_over {u = u} {h = h} a step called rest) b then = let k = lower_bound_after_answer a s u p h None low step b called in k.2 (suc n) (few_drawn y n u t h r q k.0 is rest k.1 then)
 
     left_none : (later : L) (c : Option (Answered B E)) (y : B) → item y ≡ due_comes c → due_left later c ≡ None
     left_none later (Some r) y is = refl

@@ -10,14 +10,14 @@ use Rattle.fallible_iterator.specs.BothEnds.{failures_listed, items_listed}
 use Rattle.fallible_itertools.specs.Unique.{first_of_equal, unique_from, unique_of}
 
 module _ {A E : Type 0} (eq : A → A → Bool) where
-  failures_of_first_of_equal : (x : A) (b : Bool) (same other l : List (Result A E)) → failures_listed same ≡ failures_listed l → failures_listed other ≡ failures_listed l → failures_listed (first_of_equal x b same other) ≡ failures_listed l
-  failures_of_first_of_equal x true same other l is_same is_other = is_same
-  failures_of_first_of_equal x false same other l is_same is_other = is_other
+  failures_of_either_branch : (x : A) (b : Bool) (same other l : List (Result A E)) → failures_listed same ≡ failures_listed l → failures_listed other ≡ failures_listed l → failures_listed (first_of_equal x b same other) ≡ failures_listed l
+  failures_of_either_branch x true same other l is_same is_other = is_same
+  failures_of_either_branch x false same other l is_same is_other = is_other
 
   failures_from : (seen : List A) (l : List (Result A E)) → failures_listed (unique_from eq seen l) ≡ failures_listed l
   unfolding unique_from
   failures_from seen [] = refl
-  failures_from seen (Ok x ∷ l) = failures_of_first_of_equal x (is_member eq seen x) (unique_from eq seen l) (unique_from eq (x ∷ seen) l) l (failures_from seen l) (failures_from (x ∷ seen) l)
+  failures_from seen (Ok x ∷ l) = failures_of_either_branch x (is_member eq seen x) (unique_from eq seen l) (unique_from eq (x ∷ seen) l) l (failures_from seen l) (failures_from (x ∷ seen) l)
   failures_from seen (Err e ∷ l) = ap (λ k. e ∷ k) (failures_from seen l)
 
   pub failures_of_unique : (l : List (Result A E)) → failures_listed (unique_of eq l) ≡ failures_listed l

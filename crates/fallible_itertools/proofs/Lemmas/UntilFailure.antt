@@ -18,16 +18,16 @@ module _ {A C : Type 0} (made : List A → C → Type 0) (refuses : C → A → 
   made_further before (x ∷ items) c d h went = subst (λ (l : List A). made l d) (append_assoc before (x ∷ []) items) (made_further (before ++ x ∷ []) items went.0 d (went.1 before h) went.2)
 
 module _ {A E C : Type 0} (made : List A → C → Type 0) (refuses : C → A → Type 0) where
-  until_failure_exit : (last : Answered A E) (c d : C) (answer : Answered AllocError E) → DriveExit (IsCollectTurn made refuses) c last answer d → UntilFailureExit refuses c last (with_failure_of answer d)
-  until_failure_exit (Ok None) c d answer h = ap (λ (z : Answered AllocError E). with_failure_of z d) h.0 ∙ ap (λ (k : C). Ok (k, None)) h.1
-  until_failure_exit (Err e) c d answer h = ap (λ (z : Answered AllocError E). with_failure_of z d) h.0 ∙ ap (λ (k : C). Ok (k, Some e)) h.1
-  until_failure_exit (Ok (Some x)) c d answer h = (h.1, (h.0, ap (λ (z : Answered AllocError E). with_failure_of z d) h.2))
+  until_failure_exit_of_drive_exit : (last : Answered A E) (c d : C) (answer : Answered AllocError E) → DriveExit (IsCollectTurn made refuses) c last answer d → UntilFailureExit refuses c last (with_failure_of answer d)
+  until_failure_exit_of_drive_exit (Ok None) c d answer h = ap (λ (z : Answered AllocError E). with_failure_of z d) h.0 ∙ ap (λ (k : C). Ok (k, None)) h.1
+  until_failure_exit_of_drive_exit (Err e) c d answer h = ap (λ (z : Answered AllocError E). with_failure_of z d) h.0 ∙ ap (λ (k : C). Ok (k, Some e)) h.1
+  until_failure_exit_of_drive_exit (Ok (Some x)) c d answer h = (h.1, (h.0, ap (λ (z : Answered AllocError E). with_failure_of z d) h.2))
 
   pub collects_until_by_fold : (empty_refuses : Type 0) {S : Type 0} {steps : S → Answered A E → S → Type 0} {s t : S} {c d : C} {answer : Answered AllocError E} {r : Result (C × Option E) AllocError} → made [] c → Driven steps (IsCollectTurn made refuses) s c answer t d → r ≡ with_failure_of answer d → CollectsUntil steps made empty_refuses refuses s r t
   collects_until_by_fold empty_refuses {c = c} {d = d} {answer = answer} {r = r} is_empty w is = inr (drained_map (λ items last h. record {
     collection = h.carried;
     is_made = made_further made refuses [] items c h.carried is_empty h.went;
-    exit = subst (λ (z : Result (C × Option E) AllocError). UntilFailureExit refuses h.carried last z) (sym is) (until_failure_exit last h.carried d answer h.exit);
+    exit = subst (λ (z : Result (C × Option E) AllocError). UntilFailureExit refuses h.carried last z) (sym is) (until_failure_exit_of_drive_exit last h.carried d answer h.exit);
   }) w)
 
 -- ---- over a list

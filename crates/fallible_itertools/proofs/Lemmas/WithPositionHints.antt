@@ -34,11 +34,11 @@ module _ (A E : Type 0) where
   }
 
 module _ {S A E : Type 0} (m : Contract S A E) where
-  abbrev IsSum : S → Option (Bool × A) → ℕ × Option ℕ → Type 0
-  IsSum it p h = (k : ℕ × Option ℕ) × m.hints it k × (h ≡ hint_sum k (held_one p, Some (held_one p)))
+  abbrev HintIsSumWithHeld : S → Option (Bool × A) → ℕ × Option ℕ → Type 0
+  HintIsSumWithHeld it p h = (k : ℕ × Option ℕ) × m.hints it k × (h ≡ hint_sum k (held_one p, Some (held_one p)))
 
-  sum_bounds : (it : S) (p : Option (Bool × A)) (h : ℕ × Option ℕ) → IsSum it p h → (k : ℕ × Option ℕ) × m.hints it k × ((n : ℕ) → k.0 + held_one p ≤ n → h.0 ≤ n) × (h.1 ≡ fitting_sum k.1 (Some (held_one p)))
+  sum_bounds : (it : S) (p : Option (Bool × A)) (h : ℕ × Option ℕ) → HintIsSumWithHeld it p h → (k : ℕ × Option ℕ) × m.hints it k × ((n : ℕ) → k.0 + held_one p ≤ n → h.0 ≤ n) × (h.1 ≡ fitting_sum k.1 (Some (held_one p)))
   sum_bounds it p h is = (is.0, is.1, (λ n few. rw is.2 (omega (arith, few))), ap (λ (z : ℕ × Option ℕ). z.1) is.2)
 
   pub hints_positioned : HintsWhereHeld (seen_as with_position_parts (with_position_contract m)) (with_position_due {I = S} {A = A} {E = E}) m with_position_source
-  hints_positioned = hints_where_held with_position_parts (with_position_contract m).can_next m position_asks (λ p x. ⊤) held_one holds_with_position (λ p low n. low + held_one p ≤ n) (keeps_positions A E) IsSum sum_bounds
+  hints_positioned = hints_where_held with_position_parts (with_position_contract m).can_next m position_asks (λ p x. ⊤) held_one holds_with_position (λ p low n. low + held_one p ≤ n) (keeps_positions A E) HintIsSumWithHeld sum_bounds

@@ -61,15 +61,15 @@ module _ {Z A E : Type 0} (separates : Z → Result A E → Z → Type 0) where
     stage_of_step (s, (z, (b, None))) r (t, (y, (c, due))) w = yields w.0 w.1 (met_so z b w.0 r (y, c) due w.2)
 
   module _ (can : Z → Type 0) (can_stays : (z : Z) (v : Result A E) (y : Z) → can z → separates z v y → can y) where
-    can_after : (k : Z × Bool) (a : Answered A E) (made : Made A A E) (j : Z × Bool) → can k.0 → parting_meets separates k a made j → can j.0
-    can_after (z, false) (Ok (Some x)) made j c w = rw w.1 c
-    can_after (z, true) (Ok (Some x)) made j c w = can_stays z w.0 j.0 c w.1
-    can_after k (Ok None) made j c w = rw w.1 c
-    can_after k (Err e) made j c w = rw w.1 c
+    can_separate_after_answer : (k : Z × Bool) (a : Answered A E) (made : Made A A E) (j : Z × Bool) → can k.0 → parting_meets separates k a made j → can j.0
+    can_separate_after_answer (z, false) (Ok (Some x)) made j c w = rw w.1 c
+    can_separate_after_answer (z, true) (Ok (Some x)) made j c w = can_stays z w.0 j.0 c w.1
+    can_separate_after_answer k (Ok None) made j c w = rw w.1 c
+    can_separate_after_answer k (Err e) made j c w = rw w.1 c
 
     -- where separators can be made, each item may be met
     pub takes_parting : {S : Type 0} (m : Contract S A E) (s : S) (k : Z × Bool) → can k.0 → TakesAll m (parting_meets separates) (λ h _. can h.0) s k
-    takes_parting m s k c = takes_where_reached m (parting_meets separates) (λ h _. can h.0) (λ h. can h.0) s (λ p a made q may. can_after p a made q) (λ p x may t. t) k c
+    takes_parting m s k c = takes_where_reached m (parting_meets separates) (λ h _. can h.0) (λ h. can h.0) s (λ p a made q may. can_separate_after_answer p a made q) (λ p x may t. t) k c
 
     module _ {S : Type 0} (m : Contract S A E) where
       abbrev PartingContract : Contract (S × (Z × (Bool × Option A))) A E
@@ -82,7 +82,7 @@ module _ {Z A E : Type 0} (separates : Z → Result A E → Z → Type 0) where
       kept_by_draw_parting p r q k = record { can_next = k.can_next; is_finite = k.is_finite; answer = k.answer; may_give = k.may_give; may_fail = k.may_fail; lenders = k.lenders }
 
       pub lawful_parting : Lawful m → Lawful (parting_contract separates can m)
-      lawful_parting l = let stage : Lawful Stage = lawful_seen parting_stage (lawful_stage l item_comes (parting_meets separates) (λ _ k. can k.0) 2 (λ _. 0) (parting_hints m) is_stage_parting (λ Q R p q weak reached c. kept_where_reached (λ h. can h.0) (λ p a made q given. can_after p a made q) reached c)) in record {
+      lawful_parting l = let stage : Lawful Stage = lawful_seen parting_stage (lawful_stage l item_comes (parting_meets separates) (λ _ k. can k.0) 2 (λ _. 0) (parting_hints m) is_stage_parting (λ Q R p q weak reached c. kept_where_reached (λ h. can h.0) (λ p a made q given. can_separate_after_answer p a made q) reached c)) in record {
         kept_by_draw = λ p r q c step. kept_by_draw_parting p r q (stage.kept_by_draw p r q c (stage_of_step m.steps p r q step));
         bounded = stage.bounded;
       }

@@ -5,7 +5,7 @@ use Rattle.fallible_iterator.specs.Own.{LowersAtItem}
 use Rattle.fallible_pg.specs.Cells.{shows_cells, TakesCell}
 use Rattle.fallible_pg.specs.Text.{drawn_text, further_text}
 use Rattle.fallible_pg.specs.declared.fault.Damage.{Damage}
-use Rattle.fallible_pg.proofs.TextLemmas.{further_item, further_none, appends_rest, on_ok_then}
+use Rattle.fallible_pg.proofs.TextLemmas.{further_text_at_item, further_none, appends_rest, on_ok_then}
 use Rattle.fallible_pg.proofs.text.write_further.Goals as goal
 
 pub loop-init : goal.loop-init
@@ -21,7 +21,7 @@ loop-preserved g c =
     record {
       text = inv.text ++ (124 ∷ drawn_text cell);
       wrote = Appends-trans _ _ _ inv.text (124 ∷ drawn_text cell) inv.wrote c.in-Ok.ensures.whole;
-      all = inv.all ∙ ap (λ l. inv.text ++ l) (further_item (shows_cells c.loop.cells) (shows_cells c.next.new.self) cell drawn.0) ∙ sym (append_assoc inv.text (124 ∷ drawn_text cell) (further_text (shows_cells c.next.new.self)));
+      all = inv.all ∙ ap (λ l. inv.text ++ l) (further_text_at_item (shows_cells c.loop.cells) (shows_cells c.next.new.self) cell drawn.0) ∙ sym (append_assoc inv.text (124 ∷ drawn_text cell) (further_text (shows_cells c.next.new.self)));
       fewer = omega (arith, fewer, lower);
     }
 
