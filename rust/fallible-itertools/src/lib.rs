@@ -16,6 +16,8 @@ extern crate alloc;
 #[cfg(feature = "std")]
 extern crate std;
 
+#[cfg(feature = "std")]
+mod all_unique;
 #[cfg(feature = "alloc")]
 #[doc(hidden)]
 pub mod batch;
@@ -44,6 +46,10 @@ pub mod dedup_by;
 #[doc(hidden)]
 pub mod dedup_by_key;
 #[doc(hidden)]
+pub mod dedup_by_with_count;
+#[doc(hidden)]
+pub mod dedup_with_count;
+#[doc(hidden)]
 pub mod double_ended;
 mod equal;
 #[doc(hidden)]
@@ -62,6 +68,8 @@ pub mod group_map;
 pub mod holding;
 #[doc(hidden)]
 pub mod inspect_err;
+#[doc(hidden)]
+pub mod interleave;
 #[doc(hidden)]
 pub mod intersperse;
 #[doc(hidden)]
@@ -115,6 +123,8 @@ pub mod with_position;
 #[cfg(doc)]
 pub mod words;
 #[doc(hidden)]
+pub mod zip_eq;
+#[doc(hidden)]
 pub mod zip_longest;
 
 pub use checked_sum::CheckedTotal;
@@ -127,11 +137,14 @@ pub use copied::Copied;
 pub use dedup::Dedup;
 pub use dedup_by::DedupBy;
 pub use dedup_by_key::DedupByKey;
+pub use dedup_by_with_count::DedupByWithCount;
+pub use dedup_with_count::DedupWithCount;
 pub use double_ended::DoubleEndedFallibleItertools;
 pub use err_into::ErrInto;
 pub use exactly_one::NotOne;
 pub use fold_while::FoldWhile;
 pub use inspect_err::InspectErr;
+pub use interleave::Interleave;
 pub use intersperse::Intersperse;
 pub use intersperse_with::IntersperseWith;
 pub use merge::Merge;
@@ -150,4 +163,5 @@ pub use tuples::Tuples;
 #[cfg(feature = "std")]
 pub use unique::Unique;
 pub use with_position::{Position, WithPosition};
+pub use zip_eq::ZipEq;
 pub use zip_longest::{EitherOrBoth, ZipLongest};

@@ -1,5 +1,7 @@
 //! The extension trait of every fallible iterator.
 
+#[cfg(feature = "std")]
+use crate::all_unique::{AllUniqueTurn, unique_or_fault};
 use crate::checked_sum::{CheckedTotal, ProductTurn, SumTurn, total_or_none};
 #[cfg(feature = "alloc")]
 use crate::chunk_by::ChunkBy;
@@ -14,6 +16,8 @@ use crate::counts::Tally;
 use crate::dedup::Dedup;
 use crate::dedup_by::DedupBy;
 use crate::dedup_by_key::DedupByKey;
+use crate::dedup_by_with_count::DedupByWithCount;
+use crate::dedup_with_count::DedupWithCount;
 use crate::equal::{AllEqualTurn, ContainsTurn, UnequalTurn, first_or_both};
 use crate::err_into::ErrInto;
 use crate::exactly_one::NotOne;
@@ -23,6 +27,7 @@ use crate::fold_while::{FoldWhile, FoldWhileTurn, while_or_stop};
 #[cfg(feature = "std")]
 use crate::group_map::GroupMap;
 use crate::inspect_err::InspectErr;
+use crate::interleave::Interleave;
 use crate::intersperse::Intersperse;
 use crate::intersperse_with::IntersperseWith;
 use crate::is_sorted::{InOrderTurn, SortedTurn};
@@ -51,6 +56,7 @@ use crate::tuples::Tuples;
 use crate::unique::Unique;
 use crate::until_failure::{PushTurn, with_failure};
 use crate::with_position::WithPosition;
+use crate::zip_eq::ZipEq;
 use crate::zip_longest::ZipLongest;
 #[cfg(feature = "alloc")]
 use alloc::string::String;
@@ -243,6 +249,88 @@ pub trait FallibleItertools: FallibleIterator + Sized {
         Dedup {
             it: self,
             stage: (None, None),
+        }
+    }
+
+    /// Yields the first of adjacent equal items, each as `(count, item)`: beside how many they are. A count stays at `usize::MAX`.
+    ///
+    /// Laziness, draws and behaviour at a stop: as `dedup`. So equal items before and after a stop are counted apart.
+    ///
+    /// ```
+    /// # use fallible_iterator::{FallibleIterator, convert};
+    /// # use fallible_itertools::FallibleItertools;
+    /// # use fallible_itertools::PeekingNext;
+    /// let readings = [Ok::<u32, u8>(7), Ok(7), Ok(150), Err(9), Ok(150)];
+    /// let mut it = convert(readings.into_iter()).dedup_with_count();
+    /// let drawn = [it.next(), it.next(), it.next(), it.next()];
+    /// assert_eq!(drawn,
+    ///     [Ok(Some((2, 7))), Ok(Some((1, 150))), Err(9), Ok(Some((1, 150)))]
+    /// );
+    /// ```
+    ///
+    /// <details><summary>Contract</summary>
+    ///
+    /// As it is proved, in [these words](crate::words):
+    ///
+    /// ```text
+    /// ensures parts { dedup_with_count_parts result ≡ (self, (None, None)) }
+    /// ensures lists { (l : List (Result Self.Item Self.Error))
+    ///     → list.Lists Self.contract.steps self l
+    ///     → list.Lists (seen_as dedup_with_count_parts
+    ///     (dedup_with_count_contract Self.Item.eq Self.contract)).steps result
+    ///     (deduped_with_count Self.Item.eq l) }
+    /// ```
+    /// </details>
+    fn dedup_with_count(self) -> DedupWithCount<Self>
+    where
+        Self::Item: PartialEq,
+    {
+        DedupWithCount {
+            it: self,
+            stage: (None, None),
+        }
+    }
+
+    /// Yields the first of adjacent items that the closure finds the same, each as `(count, item)`: beside how many they are. The closure is called on references to the buffered item and the next one. A count stays at `usize::MAX`.
+    ///
+    /// Laziness, draws and behaviour at a stop: as `dedup_by`. An item on which the closure fails isn't counted.
+    ///
+    /// ```
+    /// # use fallible_iterator::{FallibleIterator, convert};
+    /// # use fallible_itertools::FallibleItertools;
+    /// # use fallible_itertools::PeekingNext;
+    /// let readings = [Ok::<u32, u8>(150), Ok(157), Ok(7)];
+    /// let mut it = convert(readings.into_iter()).dedup_by_with_count(|first, second| Ok(
+    ///     *first / 10 == *second / 10,
+    /// ));
+    /// let drawn = [it.next(), it.next(), it.next()];
+    /// assert_eq!(drawn, [Ok(Some((2, 150))), Ok(Some((1, 7))), Ok(None)]);
+    /// ```
+    ///
+    /// <details><summary>Contract</summary>
+    ///
+    /// As it is proved, in [these words](crate::words):
+    ///
+    /// ```text
+    /// requires callable { IsCallable (dedup_by_with_count_asks (call_at_two F.FnMut))
+    ///     (dedup_by_with_count_takes (takes_at_two F.FnMut)) (MayBeAsked Self.contract self)
+    ///     (None, same) }
+    /// ensures parts { dedup_by_with_count_parts result ≡ (self, ((None, same), None)) }
+    /// ensures lists { (h : Self.Item → Self.Item → Result Bool Self.Error)
+    ///     (l : List (Result Self.Item Self.Error))
+    ///     → list.ActsWith (call_at_two F.FnMut) same h → list.Lists Self.contract.steps self l
+    ///     → list.Lists (seen_as dedup_by_with_count_parts
+    ///     (dedup_by_with_count_contract Self.contract F.FnMut)).steps result
+    ///     (deduped_by_with_count h l) }
+    /// ```
+    /// </details>
+    fn dedup_by_with_count<F>(self, same: F) -> DedupByWithCount<Self, F>
+    where
+        F: FnMut(&Self::Item, &Self::Item) -> Result<bool, Self::Error>,
+    {
+        DedupByWithCount {
+            it: self,
+            stage: ((None, same), None),
         }
     }
 
@@ -591,6 +679,51 @@ pub trait FallibleItertools: FallibleIterator + Sized {
         Self::Item: PartialEq,
     {
         answer_or(self.drive(&mut None, &AllEqualTurn), true)
+    }
+
+    /// Returns whether no two items are equal; true if there is no item.
+    ///
+    /// It draws up to an item that equals one before it, the first failure or `Ok(None)`. It fails with that failure. Nothing is drawn after that, and the iterator may be used again. It forgets what came before then. A set has each item that was drawn.
+    ///
+    /// Precondition, which is not checked: the iterator is finite.
+    ///
+    /// ```
+    /// # use fallible_iterator::{FallibleIterator, convert};
+    /// # use fallible_itertools::DoubleEndedFallibleItertools;
+    /// # use fallible_itertools::FallibleItertools;
+    /// let mut it = convert([Ok::<u32, u8>(7), Ok(150), Ok(7), Ok(8)].into_iter());
+    /// assert!(!it.all_unique()?);
+    /// assert!(it.all_unique()?);
+    /// # Ok::<(), u8>(())
+    /// ```
+    ///
+    /// <details><summary>Contract</summary>
+    ///
+    /// As it is proved, where its signature is another, in [these words](crate::words):
+    ///
+    /// ```text
+    /// requires can_next { Self.contract.can_next self.old }
+    /// requires finite { Self.contract.is_finite self.old }
+    /// ensures searched { AllUniqueDrains Self.Item.eq Self.contract.steps self.old result self.new }
+    /// ensures value { OverList Self.contract.steps self.old
+    ///     (λ l. AllUniqueAs Self.Item.eq l result) }
+    /// ensures rest { OverList Self.contract.steps self.old
+    ///     (λ l. result ≡ Ok false
+    ///     → list.Lists Self.contract.steps self.new (rest_repeated Self.Item.eq l)) }
+    /// ensures rest_failed { OverList Self.contract.steps self.old
+    ///     (λ l. (e : Self.Error) → result ≡ Err (Source e)
+    ///     → list.Lists Self.contract.steps self.new (rest_repeated Self.Item.eq l)) }
+    /// ensures stays { Stays Self.contract self.old self.new }
+    /// ```
+    /// </details>
+    #[cfg(feature = "std")]
+    fn all_unique(&mut self) -> Result<bool, Self::Error>
+    where
+        Self::Item: Eq + Hash,
+    {
+        let mut seen = HashSet::new();
+        let answer = self.drive(&mut seen, &AllUniqueTurn);
+        unique_or_fault(answer)
     }
 
     /// Returns the first item, if it equals each later one: `Ok(Ok(item))`. Of items that aren't all equal it returns the first one and the first that it doesn't equal, `Ok(Err(Some((item, other))))`, and of no items `Ok(Err(None))`.
@@ -1419,6 +1552,106 @@ pub trait FallibleItertools: FallibleIterator + Sized {
                 held: None,
             },
             right: other.into_fallible_iter().fuse(),
+        }
+    }
+
+    /// Pairs the items of both sides by their positions, up to `Ok(None)` of both, and fails where one side has more items than the other. `unequal` makes that failure.
+    ///
+    /// Creating it draws nothing. `next` draws this side once if no item of it is buffered. Then, unless that failed, it draws `other` once, also after an `Ok(None)` of this side. Each side is fused: once it returned `Ok(None)` it isn't drawn again. It fails as this iterator does, or else as `other` does. A failure of `other` loses nothing: the item of this side is buffered, and the next call draws `other` alone. If one side alone has an item, that item is lost, and what one call of `unequal` returns is the failure. Calls after that go on so, one item each. Its folds draw as `next` does. Bounds of both sides, added up, bound it.
+    ///
+    /// ```
+    /// # use fallible_iterator::{FallibleIterator, convert};
+    /// # use fallible_itertools::FallibleItertools;
+    /// let letters = convert([Ok::<char, u8>('a'), Ok('b')].into_iter());
+    /// let numbers = convert([Ok(1)].into_iter());
+    /// let mut it = letters.zip_eq(numbers, || 9);
+    /// assert_eq!(it.next(), Ok(Some(('a', 1))));
+    /// assert_eq!(it.next(), Err(9));
+    /// assert_eq!(it.next(), Ok(None));
+    /// ```
+    ///
+    /// <details><summary>Contract</summary>
+    ///
+    /// As it is proved, in [these words](crate::words):
+    ///
+    /// ```text
+    /// requires { IsCallable (call_of_none F.FnMut) (λ g _. F.pre g) (λ _. ⊤) unequal }
+    /// ensures left { zip_eq.zip_eq_left result ≡ self }
+    /// ensures left_ended { zip_eq.zip_eq_left_ended result ≡ false }
+    /// ensures held { zip_eq.zip_eq_held result ≡ None }
+    /// ensures right { I.into_gives other (zip_eq.zip_eq_right result) }
+    /// ensures right_ended { zip_eq.zip_eq_right_ended result ≡ false }
+    /// ensures closure { zip_eq.zip_eq_closure result ≡ unequal }
+    /// ensures bounded { (a b k : ℕ) → Self.contract.bound self a
+    ///     → I.IntoFallibleIter.contract.bound (zip_eq.zip_eq_right result) b → a + b ≤ k
+    ///     → AtMost (seen_as zip_eq.zip_eq_parts (zip_eq.zip_eq_contract Self.contract
+    ///     I.IntoFallibleIter.contract F.FnMut)) result k }
+    /// ensures lists { (e : Self.Error) → list.Acts (call_of_none F.FnMut) unequal (λ _. e)
+    ///     → OverBoth Self.contract.steps self I.into_gives other
+    ///     I.IntoFallibleIter.contract.steps
+    ///     (λ a b. list.Lists (seen_as zip_eq.zip_eq_parts (zip_eq.zip_eq_contract Self.contract
+    ///     I.IntoFallibleIter.contract F.FnMut)).steps result (zip_eq.zipped_equal e a b)) }
+    /// ```
+    /// </details>
+    fn zip_eq<I, F>(self, other: I, unequal: F) -> ZipEq<Self, I::IntoFallibleIter, F>
+    where
+        I: IntoFallibleIterator<Error = Self::Error>,
+        F: FnMut() -> Self::Error,
+    {
+        ZipEq {
+            left: Holding {
+                it: self.fuse(),
+                held: None,
+            },
+            right: other.into_fallible_iter().fuse(),
+            f: unequal,
+        }
+    }
+
+    /// Yields the items of this iterator and of `other` in turn, this one's first. Once one side returned `Ok(None)`, it yields the rest of the other. A failure takes its side's turn, as an item does.
+    ///
+    /// Creating it draws nothing. It buffers nothing. `next` draws the side whose turn it is once, and if that returned `Ok(None)`, the other side once. Then it is the other side's turn, whatever was returned. Each side is fused: once it returned `Ok(None)` it isn't drawn again. It fails as the side does whose answer it returns, and loses nothing. Its folds draw as `next` does. Bounds of both sides, added up, bound it.
+    ///
+    /// ```
+    /// # use fallible_iterator::{FallibleIterator, convert};
+    /// # use fallible_itertools::FallibleItertools;
+    /// let left = convert([Ok::<u32, u8>(1), Err(9)].into_iter());
+    /// let right = convert([Ok(10), Ok(20), Ok(30)].into_iter());
+    /// let mut it = left.interleave(right);
+    /// let drawn = [it.next(), it.next(), it.next(), it.next(), it.next()];
+    /// assert_eq!(drawn, [Ok(Some(1)), Ok(Some(10)), Err(9), Ok(Some(20)), Ok(Some(30))]);
+    /// assert_eq!(it.next(), Ok(None));
+    /// ```
+    ///
+    /// <details><summary>Contract</summary>
+    ///
+    /// As it is proved, in [these words](crate::words):
+    ///
+    /// ```text
+    /// ensures left { interleave.interleave_left result ≡ self }
+    /// ensures left_ended { interleave.interleave_left_ended result ≡ false }
+    /// ensures right { I.into_gives other (interleave.interleave_right result) }
+    /// ensures right_ended { interleave.interleave_right_ended result ≡ false }
+    /// ensures right_next { interleave.interleave_right_next result ≡ false }
+    /// ensures bounded { (a b k : ℕ) → Self.contract.bound self a
+    ///     → I.IntoFallibleIter.contract.bound (interleave.interleave_right result) b → a + b ≤ k
+    ///     → AtMost (seen_as interleave.interleave_parts
+    ///     (interleave.interleave_contract Self.contract I.IntoFallibleIter.contract)) result k }
+    /// ensures lists { OverBoth Self.contract.steps self I.into_gives other
+    ///     I.IntoFallibleIter.contract.steps
+    ///     (λ a b. list.Lists (seen_as interleave.interleave_parts
+    ///     (interleave.interleave_contract Self.contract
+    ///     I.IntoFallibleIter.contract)).steps result (interleave.interleaved a b)) }
+    /// ```
+    /// </details>
+    fn interleave<I>(self, other: I) -> Interleave<Self, I::IntoFallibleIter>
+    where
+        I: IntoFallibleIterator<Item = Self::Item, Error = Self::Error>,
+    {
+        Interleave {
+            left: self.fuse(),
+            right: other.into_fallible_iter().fuse(),
+            right_next: false,
         }
     }
 

@@ -5,7 +5,7 @@ use crate::fallible_elf::fault::{Damage, ElfFault};
 use crate::fallible_elf::lines::{write_ranges, write_sections, write_sets};
 use crate::fallible_elf::reading::ReadFile;
 use crate::fallible_elf::tables::{Tables, tables_of};
-use crate::program_io::fault::{InputFault, RunFault, fault_of_read};
+use crate::program_io::fault::{InputFault, RunFault, fault_of_read, write_placed};
 use crate::program_io::writing::WriteText;
 use fallible_iterator::Fault;
 use std::io;
@@ -102,8 +102,7 @@ impl InputFault for ElfFault {
     }
 
     fn write_line<W: WriteText>(&self, errors: &mut W) -> io::Result<()> {
-        let place = self.place;
         let text = damage_text(self.damage);
-        errors.write_text(format_args!("byte {place}: {text}\n"))
+        write_placed("byte", self.place as u64, text, errors)
     }
 }

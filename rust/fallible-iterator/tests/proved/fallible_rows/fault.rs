@@ -1,7 +1,7 @@
 use crate::Fail;
 use fallible_iterator::memory::AllocError;
 
-use crate::program_io::fault::InputFault;
+use crate::program_io::fault::{InputFault, write_placed};
 use crate::program_io::writing::WriteText;
 use std::io;
 
@@ -28,7 +28,6 @@ impl InputFault for BadRow {
     }
 
     fn write_line<W: WriteText>(&self, errors: &mut W) -> io::Result<()> {
-        let place = self.place;
-        errors.write_text(format_args!("row {place}: not a number\n"))
+        write_placed("row", u64::from(self.place), "not a number", errors)
     }
 }

@@ -3,7 +3,7 @@ use fallible_iterator::memory::AllocError;
 
 use crate::fallible_table::reading::ReadTable;
 use crate::fallible_table::table::{TableFault, Totals};
-use crate::program_io::fault::{InputFault, RunFault, fault_of_read};
+use crate::program_io::fault::{InputFault, RunFault, fault_of_read, write_placed};
 use crate::program_io::writing::WriteText;
 use std::io;
 use std::io::ErrorKind;
@@ -47,12 +47,11 @@ impl InputFault for TableFault {
 
     fn write_line<W: WriteText>(&self, errors: &mut W) -> io::Result<()> {
         match self {
-            TableFault::Bad(place) => errors.write_text(format_args!(
-                "record {place}: the first number is above the second\n"
-            )),
-            TableFault::Cut(place) => {
-                errors.write_text(format_args!("record {place}: cut short\n"))
+            TableFault::Bad(place) => {
+                let text = "the first number is above the second";
+                write_placed("record", *place as u64, text, errors)
             }
+            TableFault::Cut(place) => write_placed("record", *place as u64, "cut short", errors),
         }
     }
 }

@@ -9,9 +9,9 @@ use crate::fallible_elf::section::Section;
 use crate::fallible_elf::set::{Range, Set};
 use crate::fallible_elf::tables::{Found, Tables, tables_of};
 use crate::program_io::fault::{RunFault, fault_line};
+use crate::test_programs::devices::{BrokenReader, BrokenWriter};
 use crate::test_programs::object::OBJECT;
-use std::io;
-use std::io::{ErrorKind, Read, Write};
+use std::io::ErrorKind;
 
 // The fault of a file, where it has one.
 fn judged(file: &[u8]) -> Result<(), RunFault<ElfFault>> {
@@ -380,41 +380,6 @@ fn counts_that_lie() {
         Ok(())
     }
     let _ = tested();
-}
-
-// Yields its bytes, and then fails at each read.
-struct BrokenReader<'a> {
-    bytes: &'a [u8],
-    kind: ErrorKind,
-}
-
-impl Read for BrokenReader<'_> {
-    fn read(&mut self, buf: &mut [u8]) -> io::Result<usize> {
-        if self.bytes.is_empty() {
-            return Err(io::Error::from(self.kind));
-        }
-        Read::read(&mut self.bytes, buf)
-    }
-}
-
-// Takes so many bytes, one at a time, and then fails.
-struct BrokenWriter {
-    room: usize,
-}
-
-impl Write for BrokenWriter {
-    fn write(&mut self, buf: &[u8]) -> io::Result<usize> {
-        if self.room == 0 {
-            return Err(io::Error::from(ErrorKind::BrokenPipe));
-        }
-        let count = buf.len().min(1);
-        self.room -= count;
-        Ok(count)
-    }
-
-    fn flush(&mut self) -> io::Result<()> {
-        Ok(())
-    }
 }
 
 // The lines of the object's sections.

@@ -2,44 +2,12 @@ use crate::Fail;
 use crate::fallible_pg::{Messages, Rows, print_rows};
 use crate::program_io::ending::ended;
 use crate::program_io::reading::{Buffered, ReadByte};
+use crate::test_programs::devices::{BrokenReader, BrokenWriter};
 use fallible_iterator::memory::AllocError;
-use std::io;
-use std::io::{BufReader, ErrorKind, Read, Write};
+use std::io::{BufReader, ErrorKind};
 
 // One cell, `1`.
 const ROW: &[u8] = b"D\0\0\0\x0b\0\x01\0\0\0\x011";
-
-// Takes so many bytes, one at a time, and then fails.
-struct BrokenWriter {
-    room: usize,
-}
-
-impl Write for BrokenWriter {
-    fn write(&mut self, buf: &[u8]) -> io::Result<usize> {
-        if self.room == 0 {
-            return Err(io::Error::from(ErrorKind::BrokenPipe));
-        }
-        let count = buf.len().min(1);
-        self.room -= count;
-        Ok(count)
-    }
-
-    fn flush(&mut self) -> io::Result<()> {
-        Ok(())
-    }
-}
-
-// Yields its bytes, and then fails.
-struct BrokenReader<'a>(&'a [u8]);
-
-impl Read for BrokenReader<'_> {
-    fn read(&mut self, buf: &mut [u8]) -> io::Result<usize> {
-        match Read::read(&mut self.0, buf) {
-            Ok(0) => Err(io::Error::from(ErrorKind::Other)),
-            other => other,
-        }
-    }
-}
 
 // Expects this status, and these texts, of a reader.
 fn expect_of<R: ReadByte>(reader: R, status: u8, text: &[u8], told: &[u8]) {
@@ -53,7 +21,7 @@ fn expect_of<R: ReadByte>(reader: R, status: u8, text: &[u8], told: &[u8]) {
 }
 
 // Expects these of bytes, byte by byte and through a buffer.
-fn expect(bytes: &[u8], status: u8, text: &[u8], told: &[u8]) -> Result<(), Fail> {
+pub(crate) fn expect(bytes: &[u8], status: u8, text: &[u8], told: &[u8]) -> Result<(), Fail> {
     expect_of(bytes, status, text, told);
     let buffered = Buffered::new(BufReader::new(bytes));
     expect_of(buffered, status, text, told);
@@ -173,8 +141,13 @@ fn what_is_not_read_is_told() {
 
 #[test]
 fn a_failed_read_is_told() {
-    expect_of(BrokenReader(ROW), 2, b"1\n", b"read failed\n");
-    expect_of(BrokenReader(&ROW[..7]), 2, b"", b"read failed\n");
+    for (bytes, text) in [(ROW, b"1\n".as_slice()), (&ROW[..7], b"")] {
+        let reader = BrokenReader {
+            bytes,
+            kind: ErrorKind::Other,
+        };
+        expect_of(reader, 2, text, b"read failed\n");
+    }
 }
 
 #[test]

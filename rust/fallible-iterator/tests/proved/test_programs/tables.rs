@@ -4,8 +4,9 @@ use fallible_iterator::memory::AllocError;
 use crate::fallible_table::report::run;
 use crate::fallible_table::table::TableFault;
 use crate::program_io::fault::{RunFault, fault_line};
+use crate::test_programs::devices::{BrokenReader, BrokenWriter};
 use std::io;
-use std::io::{ErrorKind, Read, Write};
+use std::io::{ErrorKind, Read};
 
 // Three records: 1 to 258, 513 to 512, and 7 to 65536.
 const TABLE: [u8; 24] = [
@@ -13,21 +14,6 @@ const TABLE: [u8; 24] = [
     1, 2, 0, 0, 0, 2, 0, 0, //
     7, 0, 0, 0, 0, 0, 1, 0,
 ];
-
-// Yields its bytes, and then fails at each read.
-struct BrokenReader<'a> {
-    bytes: &'a [u8],
-    kind: ErrorKind,
-}
-
-impl Read for BrokenReader<'_> {
-    fn read(&mut self, buf: &mut [u8]) -> io::Result<usize> {
-        if self.bytes.is_empty() {
-            return Err(io::Error::from(self.kind));
-        }
-        Read::read(&mut self.bytes, buf)
-    }
-}
 
 // Yields its bytes, at most so many a read, and is interrupted before each read.
 struct PieceReader<'a> {
@@ -44,26 +30,6 @@ impl Read for PieceReader<'_> {
         }
         let most = self.most.min(buf.len());
         Read::read(&mut self.bytes, &mut buf[..most])
-    }
-}
-
-// Takes so many bytes, one at a time, and then fails.
-struct BrokenWriter {
-    room: usize,
-}
-
-impl Write for BrokenWriter {
-    fn write(&mut self, buf: &[u8]) -> io::Result<usize> {
-        if self.room == 0 {
-            return Err(io::Error::from(ErrorKind::BrokenPipe));
-        }
-        let count = buf.len().min(1);
-        self.room -= count;
-        Ok(count)
-    }
-
-    fn flush(&mut self) -> io::Result<()> {
-        Ok(())
     }
 }
 

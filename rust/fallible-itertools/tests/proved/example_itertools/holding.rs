@@ -50,6 +50,27 @@ pub fn changes_of_tens(readings: Vec<Result<u32, u8>>) -> Result<usize, u8> {
         .count()
 }
 
+/// The first reading with the number of readings that follow each other and are equal to it, itself counted, or the first failure.
+pub fn first_run(readings: Vec<Result<u32, u8>>) -> Result<Option<(usize, u32)>, u8> {
+    let mut it = convert(readings.into_iter()).dedup_with_count();
+    it.draw()
+}
+
+/// How many readings come in runs of two equal ones or more, each run once, or the first failure.
+pub fn repeated_runs(readings: Vec<Result<u32, u8>>) -> Result<usize, u8> {
+    convert(readings.into_iter())
+        .dedup_with_count()
+        .filter(|run| Ok(run.0 > 1))
+        .count()
+}
+
+/// The first reading with the number of readings in the same ten as it that follow it at once, itself counted, or the first failure.
+pub fn first_run_of_tens(readings: Vec<Result<u32, u8>>) -> Result<Option<(usize, u32)>, u8> {
+    let mut it = convert(readings.into_iter())
+        .dedup_by_with_count(|first, second| Ok(*first / 10 == *second / 10));
+    it.draw()
+}
+
 /// How many readings are left if each that is below the one before it is merged with that, or the first failure.
 pub fn peaks(readings: Vec<Result<u32, u8>>) -> Result<usize, u8> {
     convert(readings.into_iter())
@@ -68,6 +89,16 @@ pub fn commas(readings: Vec<Result<u32, u8>>) -> Result<usize, u8> {
     convert(readings.into_iter())
         .with_position()
         .filter(|placed| Ok(has_comma(placed.0)))
+        .count()
+}
+
+/// How many items are above the one before and the one after, or the first failure. Two windows of two are a window of three.
+pub fn local_maxima<I: FallibleIterator<Item = u32>>(it: I) -> Result<usize, I::Error>
+where
+{
+    it.tuple_windows()
+        .tuple_windows()
+        .filter(|((before, here), (_, after))| Ok(before < here && after < here))
         .count()
 }
 

@@ -49,6 +49,24 @@ pub fn last_of_both(
         .last()
 }
 
+/// How many pairs two columns make, or the first failure, which is 9 where one column is longer.
+pub fn pairs_of_both(left: Vec<Result<u32, u8>>, right: Vec<Result<u32, u8>>) -> Result<usize, u8> {
+    convert(left.into_iter())
+        .zip_eq(convert(right.into_iter()), || 9)
+        .count()
+}
+
+/// The reading at an index of two columns that are read in turn, or the first failure before it.
+pub fn nth_in_turn(
+    left: Vec<Result<u32, u8>>,
+    right: Vec<Result<u32, u8>>,
+    n: usize,
+) -> Result<Option<u32>, u8> {
+    convert(left.into_iter())
+        .interleave(convert(right.into_iter()))
+        .nth(n)
+}
+
 /// Whether two columns have the same last digits, position by position, or the first failure.
 pub fn same_last_digits(
     left: Vec<Result<u32, u8>>,

@@ -63,6 +63,13 @@ pub fn value_above_100(
         .all_equal_value()
 }
 
+/// Whether no reading above 100 comes again, or the failure that comes before one that does; or an allocation failure.
+pub fn above_100_unique(readings: Vec<Result<u32, u8>>) -> Result<bool, u8> {
+    convert(readings.into_iter())
+        .filter(|reading| Ok(*reading > 100))
+        .all_unique()
+}
+
 /// Whether a reading is 0, or the failure that comes before it.
 pub fn has_zero(readings: Vec<Result<u32, u8>>) -> Result<bool, u8> {
     let mut it = convert(readings.into_iter());

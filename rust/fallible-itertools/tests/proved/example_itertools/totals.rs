@@ -15,3 +15,9 @@ pub fn sum_above_100(readings: Vec<Result<u32, u8>>) -> Result<Option<u32>, u8> 
 pub fn product_of_three<I: FallibleIterator<Item = i64>>(it: I) -> Result<Option<i64>, I::Error> {
     it.take(3).checked_product()
 }
+
+/// The sum of the readings, or the first failure; a sum of 2 ^ 32 or more is the failure `too_large`.
+pub fn sum_within(readings: Vec<Result<u32, u8>>, too_large: u8) -> Result<u32, u8> {
+    let sum: Option<u32> = convert(readings.into_iter()).checked_sum()?;
+    sum.ok_or(too_large)
+}

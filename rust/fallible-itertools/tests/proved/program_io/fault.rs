@@ -14,6 +14,16 @@ pub trait InputFault {
     fn write_line<W: WriteText>(&self, errors: &mut W) -> io::Result<()>;
 }
 
+/// Writes the line that tells what is wrong at a place of the input, as `row 3: not a number`, with its newline.
+pub fn write_placed<W: WriteText>(
+    unit: &str,
+    place: u64,
+    text: &str,
+    errors: &mut W,
+) -> io::Result<()> {
+    errors.write_text(format_args!("{unit} {place}: {text}\n"))
+}
+
 /// Why a run made no report.
 #[derive(Clone, Copy, Debug, PartialEq, Eq)]
 pub enum RunFault<F> {

@@ -56,6 +56,11 @@ fn one_of_equal(first: u32, second: u32) -> Result<Result<u32, (u32, u32)>, Test
     })
 }
 
+// Whether they are equal.
+fn are_equal(first: &u32, second: &u32) -> Result<bool, TestError> {
+    Ok(*first == *second)
+}
+
 // Itself.
 fn itself(x: &u32) -> Result<u32, TestError> {
     Ok(*x)
@@ -87,6 +92,10 @@ fn adapters_that_hold_fold_up_to_an_end() {
         expect_folded(&mut over_an_end, &log, &ONE_BY_ONE_FOLD)?;
         expect_folded(&mut over_an_end, &log, &TWO_BY_ONE_FOLD)?;
         let mut it = one_one_two(&log)?.dedup();
+        expect_folded(&mut it, &log, &TWO_BY_ONE_FOLD)?;
+        let mut it = one_one_two(&log)?.dedup_with_count();
+        expect_folded(&mut it, &log, &TWO_BY_ONE_FOLD)?;
+        let mut it = one_one_two(&log)?.dedup_by_with_count(are_equal);
         expect_folded(&mut it, &log, &TWO_BY_ONE_FOLD)?;
         let mut it = one_one_two(&log)?.dedup_by_key(itself);
         expect_folded(&mut it, &log, &TWO_BY_ONE_FOLD)?;
@@ -222,6 +231,55 @@ const TWO_BY_THREE_DRAWS: Folded = (
 const RIGHTS: [Calls; 2] = [TWO_NEXTS, TWO_NEXTS];
 
 const NEXT_AFTER_A_LOOK: (Result<Option<u32>, TestError>, Calls) = (Ok(Some(2)), NO_CALL);
+
+const THREE_BY_THREE_DRAWS: Folded = (
+    Ok(3),
+    Calls {
+        nexts: 3,
+        ..NO_CALL
+    },
+);
+
+const LEFT_ALONE: (Result<Option<u32>, TestError>, [Calls; 2]) = (Ok(Some(1)), [ONE_NEXT, NO_CALL]);
+
+// The right's end is its second draw, and once both ended nothing is drawn.
+#[test]
+fn interleave_draws_one_side_at_a_turn() {
+    fn tested() -> Result<(), Fail> {
+        let (log, beside) = (Log::new(), Log::new());
+        let right = Counted::new(scripted([Ok(Some(5u32))])?, &beside);
+        let mut it = one_one_two(&log)?.interleave(right);
+        assert_eq!((it.next(), [log.take(), beside.take()]), LEFT_ALONE);
+        expect_folded(&mut it, &log, &THREE_BY_THREE_DRAWS)?;
+        expect_folded(&mut it, &log, &NONE_BY_NO_FOLD)?;
+        assert_eq!(beside.take(), TWO_NEXTS);
+        Ok(())
+    }
+    let _ = tested();
+}
+
+const FAILED_BY_TWO_DRAWS: Folded = (Err(TestError::Number(9)), TWO_NEXTS);
+
+const NONE_BY_ONE_DRAW: Folded = (Ok(0), ONE_NEXT);
+
+// 5 is paired with 1, the second 1 and the 2 have no partner, and nothing is drawn of a side that ended.
+#[test]
+fn zip_eq_draws_both_sides_up_to_their_ends() {
+    fn tested() -> Result<(), Fail> {
+        let (log, beside) = (Log::new(), Log::new());
+        let right = Counted::new(scripted([Ok(Some(5u32))])?, &beside);
+        let mut it = one_one_two(&log)?.zip_eq(right, || TestError::Number(9));
+        expect_folded(&mut it, &log, &FAILED_BY_TWO_DRAWS)?;
+        assert_eq!(
+            (it.next(), log.take()),
+            (Err(TestError::Number(9)), ONE_NEXT)
+        );
+        expect_folded(&mut it, &log, &NONE_BY_ONE_DRAW)?;
+        assert_eq!(beside.take(), TWO_NEXTS);
+        Ok(())
+    }
+    let _ = tested();
+}
 
 // Two sides are drawn in turn, and a fold of the source would drop the item that stays next.
 #[test]
@@ -371,6 +429,20 @@ fn all_equal_value_is_one_fold() {
     let mut it = counted(&answers, &log);
     assert_eq!((it.all_equal_value(), log.take()), TWO_VALUES);
     assert_eq!((it.all_equal_value(), log.take()), ONE_VALUE);
+}
+
+// Whether no item comes again, and the calls that come for it.
+const REPEATED: (Option<bool>, Calls) = (Some(false), ONE_FOLD);
+
+const NOT_REPEATED: (Option<bool>, Calls) = (Some(true), ONE_FOLD);
+
+#[test]
+fn all_unique_is_one_fold() {
+    let log = Log::new();
+    let answers = [Ok(1), Ok(2), Ok(1), Ok(2)];
+    let mut it = counted(&answers, &log);
+    assert_eq!((it.all_unique().ok(), log.take()), REPEATED);
+    assert_eq!((it.all_unique().ok(), log.take()), NOT_REPEATED);
 }
 
 // The sum, the product, and the calls of both.

@@ -46,6 +46,10 @@ const OF_COALESCE: NumbersCase = Case {
 
 const OF_WITH_POSITION: Asks<'static> = ("WithPosition", 2, [(3, Some(3)), NONE]);
 
+const OF_DEDUP_WITH_COUNT: Asks<'static> = ("DedupWithCount", 2, [UP_TO_THREE, NONE]);
+
+const OF_DEDUP_BY_WITH_COUNT: Asks<'static> = ("DedupByWithCount", 2, [UP_TO_THREE, NONE]);
+
 // The key is a request too. It is 1 of 2 and of 3.
 const OF_DEDUP_BY_KEY: NumbersCase = Case {
     name: "DedupByKey",
@@ -117,6 +121,17 @@ const OF_MERGE_BY: NumbersCase = Case {
     first: &[Item(1)],
     expected: &[Item(2), Item(2), Item(3), Item(4)],
 };
+
+// 2 and 3 are left in the left, and 5 and 4 in the right.
+const OF_INTERLEAVE: NumbersCase = Case {
+    name: "Interleave",
+    requests: 4,
+    hints: [(5, Some(5)), NONE],
+    first: &[Item(1)],
+    expected: &[Item(5), Item(2), Item(4), Item(3)],
+};
+
+const OF_ZIP_EQ: Asks<'static> = ("ZipEq", 4, [(2, Some(2)), NONE]);
 
 const OF_ZIP_LONGEST: Asks<'static> = ("ZipLongest", 4, [(3, Some(3)), NONE]);
 

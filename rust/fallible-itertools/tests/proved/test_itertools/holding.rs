@@ -61,6 +61,52 @@ fn dedup_gives_what_is_held_before_a_stop() {
     let _ = tested();
 }
 
+// The count before the item, a digit each. It begins anew after a stop.
+const COUNTED: [Folded; 3] = [
+    (
+        &EQUAL,
+        &[
+            Item(21),
+            End,
+            Item(11),
+            Item(12),
+            Failure(9),
+            Item(12),
+            Item(13),
+            End,
+        ],
+        (Ok(0), END),
+    ),
+    (&EQUAL, &[], (Ok(21), Ok(Some(1)))),
+    (
+        &EQUAL,
+        &[Item(21), End, Item(11), Item(12), Failure(9)],
+        (Ok(133), END),
+    ),
+];
+
+// The count and the item, a digit each.
+fn count_and_item(run: (usize, u32)) -> Result<u32, u32> {
+    Ok(u32::try_from(run.0)
+        .unwrap_or(9)
+        .wrapping_mul(10)
+        .wrapping_add(run.1))
+}
+
+#[test]
+fn dedup_with_count_counts_up_to_a_stop() {
+    fn tested() -> Result<(), Fail> {
+        for (answers, drawn, expected) in &COUNTED {
+            let mut source = script(answers)?;
+            let mut it = (&mut source).dedup_with_count().map(count_and_item);
+            let folded = folded_after(&mut it, drawn)?;
+            expect_same(&(folded, source.next()), expected)?;
+        }
+        Ok(())
+    }
+    let _ = tested();
+}
+
 const TENS: [Drawn; 9] = [
     Ok(Some(11)),
     Ok(Some(12)),
@@ -124,6 +170,49 @@ fn dedup_by_loses_the_item_that_it_failed_on_alone() {
                     Ok(*first / 10 == *second / 10)
                 }
             });
+            let folded = folded_after(&mut it, drawn)?;
+            expect_same(&(folded, source.next()), expected)?;
+        }
+        Ok(())
+    }
+    let _ = tested();
+}
+
+// The count and the first of each ten, which begins anew after a stop. 77 isn't counted.
+const COUNTED_TENS: [Folded; 3] = [
+    (
+        &TENS,
+        &[
+            Item(31),
+            Failure(5),
+            Item(23),
+            Item(31),
+            Failure(9),
+            Item(39),
+            End,
+            Item(32),
+            End,
+        ],
+        (Ok(0), END),
+    ),
+    (&TENS, &[], (Err(5), Ok(Some(13)))),
+    (&TENS, &[Item(31), Failure(5)], (Err(9), Ok(Some(29)))),
+];
+
+#[test]
+fn dedup_by_with_count_counts_what_the_closure_finds_the_same() {
+    fn tested() -> Result<(), Fail> {
+        for (answers, drawn, expected) in &COUNTED_TENS {
+            let mut source = script(answers)?;
+            let mut it = (&mut source)
+                .dedup_by_with_count(|first: &u32, second: &u32| -> Result<bool, u32> {
+                    if *second == 77 {
+                        Err(5)
+                    } else {
+                        Ok(*first / 10 == *second / 10)
+                    }
+                })
+                .map(count_and_item);
             let folded = folded_after(&mut it, drawn)?;
             expect_same(&(folded, source.next()), expected)?;
         }

@@ -165,6 +165,107 @@ fn merge_by_holds_one_item_of_each_side() {
     let _ = tested();
 }
 
+// What both sides answer, and what is hinted and drawn.
+type Pairs = (
+    &'static [Drawn],
+    &'static [Drawn],
+    &'static [(Hint, &'static [Answer<(u32, u32), u32>])],
+);
+
+const EQUAL: [Pairs; 3] = [
+    (
+        &[Ok(Some(1)), Err(7), Ok(Some(2)), END, Ok(Some(3))],
+        &[Err(8), Ok(Some(10)), Ok(Some(20)), END],
+        &[
+            // 1 is held beside 8, and no right is drawn beside 7.
+            ((0, None), &[Failure(8), Item((1, 10)), Failure(7)]),
+            ((0, None), &[Item((2, 20)), End]),
+            // Once both ended 3 isn't drawn.
+            ((0, Some(0)), &[End]),
+        ],
+    ),
+    // The right ended beside 2, so 20 isn't drawn, and 2 and 3 are lost.
+    (
+        &[Ok(Some(1)), Ok(Some(2)), Ok(Some(3)), END],
+        &[Ok(Some(10)), END, Ok(Some(20))],
+        &[
+            ((0, None), &[Item((1, 10)), Failure(99)]),
+            ((0, Some(0)), &[Failure(99), End, End]),
+        ],
+    ),
+    (
+        &[END, Ok(Some(4))],
+        &[Ok(Some(10))],
+        &[((0, None), &[Failure(99)]), ((0, Some(0)), &[End])],
+    ),
+];
+
+const EQUAL_HINTS: [Hint; 2] = [(1, Some(1)), (0, Some(0))];
+
+#[test]
+fn zip_eq_fails_at_an_item_with_no_partner() {
+    fn tested() -> Result<(), Fail> {
+        for (left, right, course) in &EQUAL {
+            let mut it = script(left)?.zip_eq(script(right)?, || 99);
+            expect_course(&mut it, course)?;
+        }
+        let mut it = numbers(&TWO).zip_eq(numbers(&ONE), || 99);
+        let hinted = it.size_hint();
+        let _drawn = it.next();
+        expect_same(&[hinted, it.size_hint()], &EQUAL_HINTS)
+    }
+    let _ = tested();
+}
+
+const IN_TURN: [Merged; 3] = [
+    (
+        &[Ok(Some(1)), Err(7), Ok(Some(2)), END, Ok(Some(3))],
+        &[Ok(Some(10)), Err(9), END, Ok(Some(20))],
+        &[
+            // A failure takes its side's turn.
+            (
+                (0, None),
+                &[Item(1), Item(10), Failure(7), Failure(9), Item(2)],
+            ),
+            // At the right's end the left is drawn, and ends too.
+            ((0, None), &[End]),
+            ((0, Some(0)), &[End]),
+        ],
+    ),
+    // The right ended beside 2, so 20 isn't drawn.
+    (
+        &[Ok(Some(1)), Ok(Some(2)), Ok(Some(3)), END, Ok(Some(4))],
+        &[END, Ok(Some(20))],
+        &[
+            ((0, None), &[Item(1), Item(2), Item(3), End]),
+            ((0, Some(0)), &[End]),
+        ],
+    ),
+    (
+        &[END, Ok(Some(4))],
+        &[Ok(Some(5)), Err(6), Ok(Some(7))],
+        &[
+            ((0, None), &[Item(5), Failure(6), Item(7), End]),
+            ((0, Some(0)), &[End]),
+        ],
+    ),
+];
+
+#[test]
+fn interleave_draws_the_sides_in_turn() {
+    fn tested() -> Result<(), Fail> {
+        for (left, right, course) in &IN_TURN {
+            let mut it = script(left)?.interleave(script(right)?);
+            expect_hinted_numbers(&mut it, course)?;
+        }
+        let mut it = numbers(&TWO).interleave(numbers(&ONE));
+        let hinted = it.size_hint();
+        let _drawn = it.next();
+        expect_same(&[hinted, it.size_hint()], &MERGED_HINTS)
+    }
+    let _ = tested();
+}
+
 // Ten times the index, up to 40; a failure at 3.
 fn tens(index: usize) -> Result<u32, u32> {
     match index {

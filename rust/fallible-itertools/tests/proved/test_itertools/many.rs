@@ -97,6 +97,8 @@ fn many_are_batched_grouped_and_told_apart() {
             .unique()
             .count();
         assert_eq!(apart, Ok(5_000));
+        let unique = (0..MANY).into_fallible().all_unique();
+        assert!(matches!(unique, Ok(true)));
         Ok(())
     }
     let _ = tested();

@@ -169,3 +169,27 @@ fn all_equal_value_has_one_or_two() {
     }
     let _ = tested();
 }
+
+// Whether no item comes again, and what the next draw returns.
+const UNIQUE: [(Numbers, Told); 4] = [
+    (&[], (Ok(true), END)),
+    (&[Ok(7), Ok(8), Ok(6)], (Ok(true), END)),
+    (&[Ok(7), Ok(8), Ok(7), Ok(6)], (Ok(false), Ok(Some(6)))),
+    (&[Ok(7), Err(9), Ok(7)], (Err(9), Ok(Some(7)))),
+];
+
+#[test]
+fn all_unique_stops_at_an_item_that_comes_again() {
+    fn tested() -> Result<(), Fail> {
+        for (answers, expected) in &UNIQUE {
+            let mut it = numbers(answers);
+            let unique = match it.all_unique() {
+                Ok(unique) => Ok(unique),
+                Err(e) => Err(e),
+            };
+            expect_same(&(unique, it.next()), expected)?;
+        }
+        Ok(())
+    }
+    let _ = tested();
+}
