@@ -1,5 +1,5 @@
 -- What one token, a failure and the end make of the text of tokens.
-use Rattle.std.specs.Prelude.{◌≡◌, ℕ, ◌++◌, Option, Some, None, Result, Ok, Err, List, [], ◌∷◌}
+use Rattle.std.specs.Prelude.{◌≡◌, ℕ, ◌++◌, Some, None, Result, Ok, Err, List, [], ◌∷◌}
 use Rattle.std.proofs.Common.{refl}
 use Rattle.fallible_iterator.specs.Lists.{folded}
 use Rattle.fallible_json.specs.Grammar.{State, after_token, is_whole}

@@ -1,6 +1,6 @@
 -- What one byte more makes of a place.
 use Rattle.std.specs.Prelude.{◌≡◌, ℕ, suc, ◌+◌, ◌<◌, ◌≤◌, Bool, true, false, if◌then◌else◌, List, length, drop}
-use Rattle.std.proofs.Common.{arith, refl, ap, ◌∙◌, get_or, drop-cons}
+use Rattle.std.proofs.Common.{arith, ap, ◌∙◌, get_or, drop-cons}
 use Rattle.std.proofs.lemmas.List.{drop_all}
 use Rattle.fallible_json.specs.Places.{after_byte, is_within, place_behind}
 

@@ -6,7 +6,7 @@ use Rattle.fallible_iterator.specs.Traces.{Answered}
 use Rattle.fallible_iterator.specs.Lists.{Lists}
 use Rattle.fallible_iterator.proofs.Lemmas.Loops.{AnswersFromHere}
 use Rattle.fallible_iterator.proofs.Lemmas.Taking.{RefusesFirst, TookIf, answers_from_here_taking, failure_met, none_taken}
-use Rattle.fallible_json.specs.Lexing.{Placed, run_of, where_goes, with_byte}
+use Rattle.fallible_json.specs.Lexing.{Placed, run_of, with_byte}
 use Rattle.fallible_json.specs.Tokens.{after, goes_on}
 use Rattle.fallible_json.specs.declared.token.Phase.{Phase}
 

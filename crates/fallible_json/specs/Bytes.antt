@@ -1,5 +1,5 @@
 -- The bytes of a text with their places.
-use Rattle.std.specs.Prelude.{ℕ, List, Result, drop}
+use Rattle.std.specs.Prelude.{List, Result, drop}
 use Rattle.std.specs.declared.convert.Infallible.{Infallible}
 use Rattle.fallible_iterator.specs.Lists.{items, numbered}
 use Rattle.fallible_json.specs.Lexing.{Placed}

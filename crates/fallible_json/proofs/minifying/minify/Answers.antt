@@ -1,5 +1,5 @@
 -- What a failure, a token after which the text goes on, one that may not stand there, and the end make of it.
-use Rattle.std.proofs.Common.{rules, ap, sym, subst, reverse, ◌++◌, ◌∙◌}
+use Rattle.std.proofs.Common.{rules, ap, sym, subst, reverse, ◌∙◌}
 use Rattle.fallible_iterator.proofs.Lemmas.Loops.{answers_after_item, answer_at_stop, answer_at_failure, answer_at_end}
 use Rattle.fallible_json.specs.Minifying.{ComesFrom, ended}
 use Rattle.fallible_json.proofs.MinifyingLemmas.{minified_ends, minified_fails, minified_goes_on, minified_stops}

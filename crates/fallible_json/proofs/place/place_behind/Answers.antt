@@ -1,6 +1,6 @@
 -- One byte more, and the end.
-use Rattle.std.proofs.Common.{rules, arith, subst, sym, ap, ◌≡◌, ◌+◌, ◌≤◌, ◌∙◌, drop, get_or}
-use Rattle.fallible_json.specs.Places.{after_byte, place_behind}
+use Rattle.std.proofs.Common.{arith, subst, sym, ◌≡◌, ◌+◌, ◌≤◌, ◌∙◌, drop, get_or}
+use Rattle.fallible_json.specs.Places.{place_behind}
 use Rattle.fallible_json.proofs.PlaceLemmas.{place_behind_byte, place_behind_end, within_after}
 use Rattle.fallible_json.proofs.place.place_behind.Goals as goal
 
