@@ -21,6 +21,7 @@ tables|tools/table_runs.sh|a minute, once sum_table and sum_groups are proved
 groups|tools/groups_runs|minutes, once sum_groups is proved
 elf|tools/elf_runs|minutes, once elf_tables is proved
 pg|tools/pg_runs|2 minutes, once pg_rows is proved; wants PostgreSQL, cargo and GNU time
+json|tools/json_runs|a minute, once json_tokens is proved
 memory|tools/refused_memory.sh|7 minutes
 speed|tools/speed.sh|the proof of fallible_speed, and then minutes
 elf_speed|tools/elf_speed|the proof of fallible_elf and elf_walk, and then minutes; wants cargo and valgrind

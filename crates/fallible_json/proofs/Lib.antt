@@ -1,0 +1,7 @@
+mod AheadLemmas
+mod JsonLemmas
+mod LexingLemmas
+mod MinifyingLemmas
+mod PlaceLemmas
+mod ReadingLemmas
+mod RunLemmas

@@ -1,0 +1,19 @@
+-- What is wrong with a text that is no JSON, and what is told of it.
+use Rattle.std.specs.Prelude.{ℕ, nat_lt, if◌then◌else◌, List, length, slice_index, ◌++◌, codes, decimal}
+use Rattle.fallible_json.specs.Places.{place_of}
+use Rattle.fallible_json.specs.declared.fault.JsonFault.{JsonFault}
+use Rattle.fallible_json.specs.declared.fault.JsonFault.TheVariants.{Unexpected, Ended, NotText}
+
+-- the fault at the byte with so many before it: that byte, with its line and column, or the end
+abbrev pub fault_at : List ℕ → ℕ → JsonFault
+fault_at text place = let p = place_of text place in if nat_lt place (length text) then Unexpected p.0 p.1 (slice_index text place) else Ended p.0 p.1
+
+-- the status that a program ends with
+abbrev pub status_of : JsonFault → ℕ
+status_of fault = 1
+
+-- the text of the line that tells a fault, without its newline
+abbrev pub text_of : JsonFault → List ℕ
+text_of (Unexpected line column byte) = codes "line " ++ decimal line ++ codes ", column " ++ decimal column ++ codes ": unexpected byte " ++ decimal byte
+text_of (Ended line column) = codes "line " ++ decimal line ++ codes ", column " ++ decimal column ++ codes ": unexpected end"
+text_of (NotText line column) = codes "line " ++ decimal line ++ codes ", column " ++ decimal column ++ codes ": not UTF-8"

@@ -1,0 +1,13 @@
+-- What the clauses of `src/` cite.
+pub mod Ahead
+pub mod Bytes
+pub mod Faults
+pub mod Grammar
+pub mod Json
+pub mod Laws
+pub mod Lexing
+pub mod Minifying
+pub mod Places
+pub mod Reading
+pub mod Report
+pub mod Tokens

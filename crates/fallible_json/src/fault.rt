@@ -1,0 +1,98 @@
+//! What is wrong with a text that is no JSON, and how that is told.
+ghost use Rattle.std.specs.Prelude.{◌≡◌, ◌++◌, OnErr, OnOk, codes, decimal};
+ghost use Rattle.std.specs.Io.KnownBytes.{Appends};
+ghost use Rattle.fallible_json.specs.Faults.{fault_at, status_of, text_of};
+
+use crate::place::place_of;
+use program_io::fault::InputFault;
+use program_io::writing::WriteText;
+use std::io;
+
+/// Why a text is no JSON text. Each has the line and the column where that was met, both from 1.
+#[derive(Clone, Copy, Debug, Drop, PartialEq, Eq)]
+pub enum JsonFault {
+    /// This byte may not stand there.
+    Unexpected(usize, usize, u8),
+    /// The text ends there.
+    Ended(usize, usize),
+    /// What stands there is no UTF-8.
+    NotText(usize, usize),
+}
+
+// The fault of the byte at a place, or of the end.
+pub(crate) fn fault_at(text: &[u8], place: usize) -> JsonFault
+    ensures { result ≡ fault_at text.now place }
+{
+    let (line, column) = place_of(text, place);
+    if place < text.len() {
+        JsonFault::Unexpected(line, column, text[place])
+    } else {
+        JsonFault::Ended(line, column)
+    }
+}
+
+// Writes that a byte may not stand at a place.
+fn write_unexpected<W: WriteText>(
+    line: usize,
+    column: usize,
+    byte: u8,
+    errors: &mut W,
+) -> io::Result<()>
+    ensures text { OnOk result (Appends (W.written errors.old) (W.written errors.new)
+        (codes "line " ++ decimal line ++ codes ", column " ++ decimal column
+        ++ codes ": unexpected byte " ++ decimal byte)) }
+    ensures failed { OnErr result (W.failed errors.new) }
+{
+    errors.write_text(format_args!("line {line}, column {column}: unexpected byte {byte}"))
+}
+
+// Writes a place, and a text behind it.
+fn write_behind_place<W: WriteText>(
+    line: usize,
+    column: usize,
+    text: &str,
+    errors: &mut W,
+) -> io::Result<()>
+    ensures text { OnOk result (Appends (W.written errors.old) (W.written errors.new)
+        (codes "line " ++ decimal line ++ codes ", column " ++ decimal column ++ text.now)) }
+    ensures failed { OnErr result (W.failed errors.new) }
+{
+    errors.write_text(format_args!("line {line}, column {column}{text}"))
+}
+
+impl JsonFault {
+    // Writes the line that tells of it, without its newline.
+    fn write<W: WriteText>(&self, errors: &mut W) -> io::Result<()>
+        ensures text { OnOk result
+            (Appends (W.written errors.old) (W.written errors.new) (text_of self.now)) }
+        ensures failed { OnErr result (W.failed errors.new) }
+    {
+        match *self {
+            JsonFault::Unexpected(line, column, byte) => {
+                write_unexpected(line, column, byte, errors)
+            }
+            JsonFault::Ended(line, column) => {
+                write_behind_place(line, column, ": unexpected end", errors)
+            }
+            JsonFault::NotText(line, column) => {
+                write_behind_place(line, column, ": not UTF-8", errors)
+            }
+        }
+    }
+}
+
+impl InputFault for JsonFault {
+    ghost status = { status_of };
+
+    ghost text = { text_of };
+
+    /// 1
+    fn status(&self) -> u8 {
+        1
+    }
+
+    fn write_line<W: WriteText>(&self, errors: &mut W) -> io::Result<()> {
+        self.write(errors)?;
+        errors.write_bytes(b"\n")
+    }
+}

@@ -1,0 +1,176 @@
+//! Which tokens may come, token by token.
+ghost use Rattle.std.specs.Prelude.{◌≡◌, ◌≢◌, MatchResult, None, Ok, Some, reverse};
+ghost use Rattle.fallible_json.specs.Grammar.{after_token, first_in, is_whole, next_in, step_of, taken, value_step};
+
+use crate::token::Token;
+
+// What encloses values.
+#[derive(Clone, Copy, PartialEq, Eq)]
+pub(crate) enum Container {
+    Array,
+    Object,
+}
+
+// What may come next.
+#[derive(Clone, Copy)]
+pub(crate) enum Expects {
+    // A value.
+    Value,
+    // A value, or the end of an array without values.
+    ValueOrEnd,
+    // A name, or the end of an object without members.
+    NameOrEnd,
+    // A name.
+    Name,
+    // The separator after a name.
+    Separator,
+    // What comes after a value: a separator, the end of the container, or the end of the text.
+    Behind,
+}
+
+// What a token is where it may stand.
+#[derive(Clone, Copy)]
+pub(crate) enum Step {
+    // A value that encloses nothing.
+    Scalar,
+    // The begin of a container.
+    Opens(Container),
+    // The end of a container.
+    Closes(Container),
+    // The name of a member.
+    Names,
+    // The separator after a name.
+    Separates,
+    // The separator after a value.
+    GoesOn,
+}
+
+// Why a token was not taken.
+#[derive(Clone, Copy, PartialEq, Eq)]
+pub(crate) enum Stop {
+    // It may not stand there.
+    Unexpected,
+    // An allocation failed.
+    Memory,
+}
+
+// What a token is where a value may come.
+fn value_step(token: Token) -> Option<Step>
+    ensures { result ≡ value_step token }
+{
+    match token {
+        Token::Text | Token::Number | Token::Literal => Some(Step::Scalar),
+        Token::BeginArray => Some(Step::Opens(Container::Array)),
+        Token::BeginObject => Some(Step::Opens(Container::Object)),
+        _ => None,
+    }
+}
+
+// What a token is where this may come.
+fn step_of(expects: Expects, token: Token) -> Option<Step>
+    ensures { result ≡ step_of expects token }
+{
+    match (expects, token) {
+        (Expects::ValueOrEnd, Token::EndArray) => Some(Step::Closes(Container::Array)),
+        (Expects::Value | Expects::ValueOrEnd, _) => value_step(token),
+        (Expects::NameOrEnd, Token::EndObject) => Some(Step::Closes(Container::Object)),
+        (Expects::Name | Expects::NameOrEnd, Token::Text) => Some(Step::Names),
+        (Expects::Separator, Token::NameSeparator) => Some(Step::Separates),
+        (Expects::Behind, Token::ValueSeparator) => Some(Step::GoesOn),
+        (Expects::Behind, Token::EndArray) => Some(Step::Closes(Container::Array)),
+        (Expects::Behind, Token::EndObject) => Some(Step::Closes(Container::Object)),
+        _ => None,
+    }
+}
+
+// What may come first in a container.
+fn first_in(container: Container) -> Expects
+    ensures { result ≡ first_in container }
+{
+    match container {
+        Container::Array => Expects::ValueOrEnd,
+        Container::Object => Expects::NameOrEnd,
+    }
+}
+
+// What may come after a separator in a container.
+fn next_in(container: Container) -> Expects
+    ensures { result ≡ next_in container }
+{
+    match container {
+        Container::Array => Expects::Value,
+        Container::Object => Expects::Name,
+    }
+}
+
+// Where tokens have come to: the containers that are open, of which each is within the one before, and what may come next.
+#[derive(Drop)]
+pub(crate) struct Nesting {
+    pub(crate) containers: Vec<Container>,
+    pub(crate) expects: Expects,
+}
+
+impl Nesting {
+    fn take(mut self, step: Step) -> Result<Nesting, Stop>
+        ensures { MatchResult result
+            (λ n. taken (reverse self.containers.items) step ≡ Some (reverse n.containers.items, n.expects))
+            (λ e. e ≢ Stop.Memory → taken (reverse self.containers.items) step ≡ None) }
+    {
+        match step {
+            Step::Scalar => self.expects = Expects::Behind,
+            Step::Opens(container) => {
+                if self.containers.push(container).is_err() {
+                    return Err(Stop::Memory);
+                }
+                self.expects = first_in(container);
+            }
+            Step::Closes(container) => {
+                let Some(innermost) = self.containers.pop() else {
+                    return Err(Stop::Unexpected);
+                };
+                match (innermost, container) {
+                    (Container::Array, Container::Array) => {}
+                    (Container::Object, Container::Object) => {}
+                    _ => return Err(Stop::Unexpected),
+                }
+                self.expects = Expects::Behind;
+            }
+            Step::Names => self.expects = Expects::Separator,
+            Step::Separates => self.expects = Expects::Value,
+            Step::GoesOn => {
+                let Some(innermost) = self.containers.pop() else {
+                    return Err(Stop::Unexpected);
+                };
+                if self.containers.push(innermost).is_err() {
+                    return Err(Stop::Memory);
+                }
+                self.expects = next_in(innermost);
+            }
+        }
+        Ok(self)
+    }
+
+    // Whether the tokens so far are one JSON text.
+    pub(crate) fn is_whole(&self) -> bool
+        ensures { result ≡ is_whole (reverse self.now.containers.items, self.now.expects) }
+    {
+        match self.expects {
+            Expects::Behind => self.containers.is_empty(),
+            _ => false,
+        }
+    }
+
+    // One token more.
+    pub(crate) fn after(self, token: Token) -> Result<Nesting, Stop>
+        ensures { MatchResult result
+            (λ n. after_token (reverse self.containers.items, self.expects) token
+            ≡ Some (reverse n.containers.items, n.expects))
+            (λ e. e ≢ Stop.Memory
+            → after_token (reverse self.containers.items, self.expects) token ≡ None) }
+    {
+        match step_of(self.expects, token) {
+            Some(step) => self.take(step),
+            None => Err(Stop::Unexpected),
+        }
+    }
+}

@@ -1,0 +1,23 @@
+//! JSON: its tokens, over any iterator of bytes with their places; its grammar, over any iterator of tokens; and a text without the blanks between its tokens.
+#![tactic(auto)]
+
+mod bytes;
+mod fault;
+mod grammar;
+mod json;
+mod lexer;
+mod minifying;
+mod place;
+mod reading;
+mod report;
+mod token;
+
+pub use bytes::PlacedBytes;
+pub use fault::JsonFault;
+pub use json::json_of;
+pub use lexer::{LexFault, Tokens};
+pub use minifying::{Misplaced, minify};
+pub use place::place_of;
+pub use reading::ReadText;
+pub use report::run;
+pub use token::Token;

@@ -1,0 +1,83 @@
+//! The text of JSON without the blanks between its tokens, or the first fault and its place.
+ghost use Rattle.std.specs.Prelude.{◌≡◌, List, Result};
+ghost use Rattle.fallible_iterator.specs.Lists.{Lists};
+ghost use Rattle.fallible_json.specs.Lexing.{Lexeme};
+ghost use Rattle.fallible_json.specs.Minifying.{ComesFrom, bytes_of, ended, minified};
+
+use crate::grammar::{Expects, Nesting, Stop};
+use crate::token::Token;
+use fallible_iterator::{FallibleIterator, Fault};
+use std::alloc::{AllocError, Global};
+
+/// Why tokens are no JSON text.
+#[derive(Clone, Copy, Debug, Drop, PartialEq, Eq)]
+pub enum Misplaced<E> {
+    /// The source of the tokens failed.
+    Source(E),
+    /// The token that begins at this place may not stand there.
+    Unexpected(usize),
+    /// The tokens end where one is missing.
+    Ended,
+}
+
+// The bytes of a text from the first to the last; none, where it has no such bytes.
+fn bytes_of(text: &[u8], first: usize, last: usize) -> &[u8]
+    ensures { result.now ≡ bytes_of text.now first last }
+{
+    if first <= last && last < text.len() {
+        &text[first..last + 1]
+    } else {
+        &text[..0]
+    }
+}
+
+// The text, if the tokens were one JSON text.
+fn ended<E>(is_whole: bool, json: Vec<u8>) -> Result<Vec<u8>, Fault<Misplaced<E>>>
+    ensures { ComesFrom (ended is_whole json.items) result }
+{
+    if is_whole {
+        Ok(json)
+    } else {
+        Err(Fault::Source(Misplaced::Ended))
+    }
+}
+
+/// The bytes of tokens of a text, one after the other, if the tokens are one JSON text of RFC 8259. The tokens come with the places of their first and last bytes in the text; one that has no such bytes adds none.
+///
+/// It draws up to `Ok(None)` or the first fault, which is returned: the source's failure, the first token that may not stand where it stands, or the end where a token is missing. It doesn't recurse: the containers that are open are a vector. It fails with `Fault::Memory` if an allocation fails.
+///
+/// Requires that `next` may be called on the source, and that it is finite.
+pub fn minify<I: FallibleIterator<Item = (usize, usize, Token)>>(
+    alloc: Global,
+    text: &[u8],
+    mut tokens: I,
+) -> Result<Vec<u8>, Fault<Misplaced<I::Error>>>
+where
+    requires can_next { I.contract.can_next tokens }
+    requires finite { I.contract.is_finite tokens }
+    ensures { (l : List (Result Lexeme I.Error)) → Lists I.contract.steps tokens l
+        → ComesFrom (minified text.now l) result }
+{
+    let mut left = tokens.number();
+    let mut nesting = Nesting {
+        containers: Vec::new(alloc),
+        expects: Expects::Value,
+    };
+    let mut json = Vec::new(alloc);
+    loop {
+        let (first, last, token) = match tokens.draw() {
+            Ok(Some(next)) => next,
+            Ok(None) => return ended(nesting.is_whole(), json),
+            Err(e) => return Err(Fault::Source(Misplaced::Source(e))),
+        };
+        left = left.one_less();
+        nesting = match nesting.after(token) {
+            Ok(after) => after,
+            Err(Stop::Unexpected) => return Err(Fault::Source(Misplaced::Unexpected(first))),
+            Err(Stop::Memory) => return Err(Fault::Memory(AllocError)),
+        };
+        if json.extend_from_slice(bytes_of(text, first, last)).is_err() {
+            return Err(Fault::Memory(AllocError));
+        }
+    }
+}

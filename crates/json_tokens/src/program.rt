@@ -1,0 +1,24 @@
+// The program, over any input and any two outputs.
+ghost use Rattle.fallible_json.specs.Faults.{status_of, text_of};
+ghost use Rattle.fallible_json.specs.Report.{ComesTo};
+ghost use Rattle.program_io.specs.Endings.{EndsWith};
+
+use fallible_json::{ReadText, run};
+use program_io::ending::ended;
+use program_io::writing::WriteText;
+use std::alloc::Global;
+
+// Runs over `input`, and tells `errors` of a fault. The status that the program ends with; an `Err` where there was a line to tell and it could not be written.
+pub(crate) fn program<R: ReadText, W: WriteText, E: WriteText>(
+    alloc: Global,
+    input: &mut R,
+    output: &mut W,
+    errors: &mut E,
+) -> Result<u8, u8>
+    ensures { EndsWith status_of text_of
+        (E.written errors.old) (E.written errors.new) (E.failed errors.new)
+        (ComesTo R.left R.fails input.old input.new W.failed
+        (W.written output.old) (W.written output.new) output.new) result }
+{
+    ended(run(alloc, input, output), errors)
+}
