@@ -7,13 +7,13 @@ use Rattle.fallible_iterator.specs.Contract.{Contract, Stays}
 use Rattle.fallible_iterator.specs.Laws.Contract.{kept_by_draws_of_stays, kept_by_draws_then}
 use Rattle.fallible_iterator.specs.Lists.{Lists, folded_if, found, nth_of, rest_first, rest_fold_if, rest_stop, rest_true, result_answer, searched}
 use Rattle.fallible_iterator.specs.Searching.{find_pick}
-use Rattle.example_tasks.specs.Ahead.{Lowers, TakesMade}
+use Rattle.fallible_itertools.specs.Ahead.{Lowers, TakesMade}
 use Rattle.example_tasks.specs.Lexing.{Placed, belongs, begun_by, first_byte, kind_of, lexed, lexed_behind, rest_byte, rest_lexed, rest_of_first, rest_of_kind, rest_value, sign_at, token_at, value_taken, with_byte}
 use Rattle.example_tasks.specs.declared.lexing.Kind.{Kind}
 use Rattle.example_tasks.specs.declared.lexing.LexFault.{LexFault}
 use Rattle.example_tasks.specs.declared.lexing.LexFault.TheVariants.{Source}
 use Rattle.example_tasks.specs.declared.tokens.Token.{Token}
-use Rattle.example_tasks.proofs.AheadLemmas.{first_made, lowers_then}
+use Rattle.fallible_itertools.proofs.Lemmas.Ahead.{first_made, lowers_then}
 
 -- ---- of a list
 

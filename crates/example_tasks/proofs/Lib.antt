@@ -1,4 +1,3 @@
-mod AheadLemmas
 mod EvaluatingLemmas
 mod GrammarLemmas
 mod LexingLemmas

@@ -1,9 +1,7 @@
 -- What the clauses of `src/` cite.
-pub mod Ahead
 pub mod Evaluating
 pub mod Expressions
 pub mod Grammar
-pub mod Laws
 pub mod Lexing
 pub mod Lines
 pub mod Merging

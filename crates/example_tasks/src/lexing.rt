@@ -5,8 +5,8 @@ ghost use Rattle.fallible_iterator.specs.Laws.Contract.{lawful_seen};
 ghost use Rattle.fallible_iterator.specs.Laws.Peeking.Peekable.{lawful_peekable};
 ghost use Rattle.fallible_iterator.specs.Lists.{CollectedAs, Lists, numbered, result_answer};
 ghost use Rattle.fallible_iterator.specs.Peeking.Peekable.{peekable_parts};
-ghost use Rattle.example_tasks.specs.Ahead.{Lowers, making};
-ghost use Rattle.example_tasks.specs.Laws.Ahead.{lawful_making};
+ghost use Rattle.fallible_itertools.specs.Ahead.{Lowers, making};
+ghost use Rattle.fallible_itertools.specs.Laws.Ahead.{lawful_making};
 ghost use Rattle.example_tasks.specs.Lexing.{Placed, belongs, first_byte, kind_of, lexed, rest_byte, rest_lexed, rest_value, sign_at, token_at, value_taken, with_byte};
 ghost use Rattle.example_tasks.specs.declared.lexing.Kind.{Kind};
 

@@ -1,5 +1,6 @@
 -- The lemmas on each adapter, on what adapters share, and on consumers that have the name of their module.
 pub mod Adjacent
+pub mod Ahead
 pub mod AllUnique
 pub mod AtMostOne
 pub mod CheckedSum

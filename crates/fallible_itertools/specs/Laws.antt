@@ -1,4 +1,5 @@
 -- What follows from the definitions: the lemmas that ghost members cite.
+pub mod Ahead
 pub mod ChunkBy
 pub mod Chunks
 pub mod Coalesce

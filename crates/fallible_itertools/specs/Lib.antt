@@ -1,5 +1,6 @@
 -- What the clauses of `src/` cite, and in `Laws` what follows from it: lemmas that the ghost members cite.
 pub mod Adjacent
+pub mod Ahead
 pub mod AllUnique
 pub mod Batch
 pub mod CheckedSum

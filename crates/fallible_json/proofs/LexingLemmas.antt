@@ -6,13 +6,13 @@ use Rattle.fallible_iterator.specs.Contract.{Contract, Stays}
 use Rattle.fallible_iterator.specs.Laws.Contract.{kept_by_draws_of_stays, kept_by_draws_then}
 use Rattle.fallible_iterator.specs.Lists.{Lists, found, nth_of, rest_first, rest_stop, rest_true, result_answer, searched}
 use Rattle.fallible_iterator.specs.Searching.{find_pick}
-use Rattle.fallible_json.specs.Ahead.{Lowers, TakesMade}
+use Rattle.fallible_itertools.specs.Ahead.{Lowers, TakesMade}
 use Rattle.fallible_json.specs.Lexing.{Lexeme, Placed, begun_at, closed, first_byte, lexed, lexed_behind, rest_byte, rest_lexed, rest_of_begun, rest_of_first, run_of}
 use Rattle.fallible_json.specs.Tokens.{after, begun_by, is_blank}
 use Rattle.fallible_json.specs.declared.lexer.LexFault.{LexFault}
 use Rattle.fallible_json.specs.declared.lexer.LexFault.TheVariants.{Source, Unknown}
 use Rattle.fallible_json.specs.declared.token.Phase.{Phase}
-use Rattle.fallible_json.proofs.AheadLemmas.{first_made, lowers_then}
+use Rattle.fallible_itertools.proofs.Lemmas.Ahead.{first_made, lowers_then}
 
 -- ---- of a list
 

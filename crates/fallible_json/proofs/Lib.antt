@@ -1,4 +1,3 @@
-mod AheadLemmas
 mod JsonLemmas
 mod LexingLemmas
 mod MinifyingLemmas

@@ -1,10 +1,8 @@
 -- What the clauses of `src/` cite.
-pub mod Ahead
 pub mod Bytes
 pub mod Faults
 pub mod Grammar
 pub mod Json
-pub mod Laws
 pub mod Lexing
 pub mod Minifying
 pub mod Places

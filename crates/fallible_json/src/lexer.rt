@@ -5,8 +5,8 @@ ghost use Rattle.fallible_iterator.specs.Laws.Contract.{lawful_seen};
 ghost use Rattle.fallible_iterator.specs.Laws.Peeking.Peekable.{lawful_peekable};
 ghost use Rattle.fallible_iterator.specs.Lists.{Lists, result_answer};
 ghost use Rattle.fallible_iterator.specs.Peeking.Peekable.{peekable_parts};
-ghost use Rattle.fallible_json.specs.Ahead.{Lowers, making};
-ghost use Rattle.fallible_json.specs.Laws.Ahead.{lawful_making};
+ghost use Rattle.fallible_itertools.specs.Ahead.{Lowers, making};
+ghost use Rattle.fallible_itertools.specs.Laws.Ahead.{lawful_making};
 ghost use Rattle.fallible_json.specs.Lexing.{Placed, closed, first_byte, lexed, rest_byte, rest_lexed, run_of, with_byte};
 
 use crate::token::{Phase, Token, after, begun_by, goes_on, is_blank, token_of};

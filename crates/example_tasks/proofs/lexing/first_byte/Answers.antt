@@ -3,7 +3,7 @@ use Rattle.fallible_iterator.specs.Laws.Contract.{lawful_seen}
 use Rattle.fallible_iterator.specs.Laws.Peeking.Peekable.{lawful_peekable}
 use Rattle.fallible_iterator.specs.Peeking.Peekable.{peekable_parts}
 use Rattle.fallible_iterator.specs.Searching.{find_pick}
-use Rattle.example_tasks.proofs.AheadLemmas.{lowers_searched}
+use Rattle.fallible_itertools.proofs.Lemmas.Ahead.{lowers_searched}
 use Rattle.example_tasks.proofs.lexing.first_byte.Goals as goal
 
 pub returns-clause-lowers : goal.returns-clause-lowers

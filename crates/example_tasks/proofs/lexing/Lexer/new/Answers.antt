@@ -2,7 +2,7 @@
 use Rattle.fallible_iterator.specs.Contract.{seen_as}
 use Rattle.fallible_iterator.specs.Peeking.Peekable.{peekable_contract, peekable_parts}
 use Rattle.example_tasks.specs.Lexing.{lexed, rest_lexed}
-use Rattle.example_tasks.proofs.AheadLemmas.{lists_made}
+use Rattle.fallible_itertools.proofs.Lemmas.Ahead.{lists_made}
 use Rattle.example_tasks.proofs.LexingLemmas.{lexed_others}
 use Rattle.example_tasks.proofs.lexing.Lexer.new.Goals as goal
 

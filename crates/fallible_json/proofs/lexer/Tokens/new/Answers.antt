@@ -2,7 +2,7 @@
 use Rattle.fallible_iterator.specs.Contract.{seen_as}
 use Rattle.fallible_iterator.specs.Peeking.Peekable.{peekable_contract, peekable_parts}
 use Rattle.fallible_json.specs.Lexing.{lexed, rest_lexed}
-use Rattle.fallible_json.proofs.AheadLemmas.{lists_made}
+use Rattle.fallible_itertools.proofs.Lemmas.Ahead.{lists_made}
 use Rattle.fallible_json.proofs.LexingLemmas.{lexed_others}
 use Rattle.fallible_json.proofs.lexer.Tokens.new.Goals as goal
 

@@ -2,7 +2,7 @@
 use Rattle.std.specs.Prelude.{List, Some, None, Ok, Err, Result}
 use Rattle.fallible_iterator.specs.Traces.{Answered}
 use Rattle.fallible_iterator.specs.Contract.{Contract, KeptByDraw, Lawful, OnAnswer}
-use Rattle.example_tasks.specs.Ahead.{TakesMade, making}
+use Rattle.fallible_itertools.specs.Ahead.{TakesMade, making}
 
 module _ {S P A E B F : Type 0} (view : S → P) (answers : List (Result A E) → List (Result B F)) (left : List (Result A E) → List (Result A E)) (m : Contract P A E) where
   on_answer_made : (s t : S) (r : Answered B F) → TakesMade m answers left (view s) r (view t) → OnAnswer (making view answers left m) s r t

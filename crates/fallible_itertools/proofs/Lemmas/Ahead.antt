@@ -7,7 +7,7 @@ use Rattle.fallible_iterator.specs.Own.{items_and_failures_in}
 use Rattle.fallible_iterator.specs.Searching.{SearchDrains, SearchExit}
 use Rattle.fallible_iterator.specs.Contract.{Contract, Fewer, Lawful, NoMore, NoMoreRemains}
 use Rattle.fallible_iterator.specs.Lists.{AlwaysGives, Lists, nth_of, rest_first, result_answer}
-use Rattle.fallible_json.specs.Ahead.{FewerRemain, Lowers, making}
+use Rattle.fallible_itertools.specs.Ahead.{FewerRemain, Lowers, making}
 
 -- ---- what an answer lowers
 
