@@ -1,5 +1,5 @@
 -- What a run over a file reads and writes, and what it tells of a fault.
-use Rattle.std.specs.Prelude.{◌≡◌, ◌⊎◌, ℕ, List, [], ◌∷◌, ◌++◌, Option, Some, None, Result, Ok, Err, codes}
+use Rattle.std.specs.Prelude.{◌≡◌, ◌⊎◌, ℕ, List, ◌++◌, Option, Some, None, Result, Ok, Err, codes}
 use Rattle.std.specs.Io.KnownBytes.{Appends}
 use Rattle.program_io.specs.Faults.{placed_text}
 use Rattle.program_io.specs.Reading.{ReadsAll}

@@ -1,11 +1,11 @@
 -- What a failed read comes to.
-use Rattle.std.proofs.Common.{◌≡◌, ℕ, List, Option, Result, Ok, Err, IfSome, subst, inr}
+use Rattle.std.proofs.Common.{ℕ, List, Option, Err, IfSome, subst, inr}
 use Rattle.std.proofs.lemmas.Option.{IfSome_then}
 use Rattle.std.specs.Io.BufRead.{take_through}
 use Rattle.std.specs.Io.KnownBytes.{Consumes}
 use Rattle.std.specs.declared.io.ErrorKind.{ErrorKind}
 use Rattle.program_io.specs.Faults.{IsFaultOfRead}
-use Rattle.sum_groups.specs.Program.{AreRows, BeginsWithRow, FailsToRead, ReadsRows}
+use Rattle.sum_groups.specs.Program.{AreRows, FailsToRead, ReadsRows}
 use Rattle.sum_groups.specs.Reading.{IsFirstLine}
 use Rattle.program_io.specs.declared.fault.RunFault.{RunFault}
 use Rattle.program_io.specs.declared.fault.RunFault.TheVariants.{Input, Read, Memory, Write}

@@ -4,7 +4,7 @@ use Rattle.std.proofs.Common.{refl, ap}
 use Rattle.fallible_iterator.specs.Traces.{Answered}
 use Rattle.fallible_iterator.specs.Lists.{Lists, Acts, rest_true}
 use Rattle.fallible_iterator.specs.Picking.{item_of}
-use Rattle.fallible_iterator.specs.Searching.{WentOn, SearchDecides, SearchExit, SearchDrains, find_pick}
+use Rattle.fallible_iterator.specs.Searching.{SearchDecides, SearchExit, SearchDrains, find_pick}
 use Rattle.fallible_iterator.proofs.Lemmas.Folds.{drained_map, folds_to_map}
 use Rattle.fallible_iterator.proofs.Lemmas.Lists.Searched.{searched_of_lists}
 use Rattle.fallible_iterator.proofs.Lemmas.Lists.Rest.{lists_rest_find}

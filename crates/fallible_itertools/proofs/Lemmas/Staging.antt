@@ -1,7 +1,7 @@
 -- The fold of a stage: turns on what is due and on what is made are turns on the adapter's own answers.
 use Rattle.std.specs.Prelude.{◌≡◌, ℕ, List, [], ◌∷◌, ◌++◌, map, ⊤, Option, Some, None, Ok, Err}
 use Rattle.std.specs.List.{FoldsTo}
-use Rattle.std.proofs.Common.{refl, sym, ap, ◌∙◌, subst, inl, inr}
+use Rattle.std.proofs.Common.{refl, sym, ap, subst, inl, inr}
 use Rattle.fallible_iterator.specs.Traces.{Answered, Run, Yields, item}
 use Rattle.fallible_iterator.specs.Contract.{Contract, KeptByDraws, Lawful}
 use Rattle.fallible_iterator.specs.Closures.{Reaches}

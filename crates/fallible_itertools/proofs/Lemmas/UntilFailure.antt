@@ -1,5 +1,5 @@
 -- What came before the first failure, by the fold whose state is the collection.
-use Rattle.std.specs.Prelude.{◌≡◌, ℕ, zero, suc, ◌≤◌, length, Option, Some, None, Result, Ok, Err, IfOk, List, [], ◌∷◌, ◌++◌, map}
+use Rattle.std.specs.Prelude.{◌≡◌, length, Option, Some, None, Result, Ok, Err, IfOk, List, [], ◌∷◌, ◌++◌, map}
 use Rattle.std.specs.List.{FoldsTo}
 use Rattle.std.proofs.Common.{refl, sym, ap, subst, ◌∙◌, append_assoc, append-nil, inl, inr, arith}
 use Rattle.fallible_iterator.specs.Traces.{Answered, Run, item}
@@ -9,7 +9,7 @@ use Rattle.fallible_iterator.specs.Lists as list
 use Rattle.fallible_iterator.proofs.Lemmas.Folds.{drained_map}
 use Rattle.fallible_iterator.proofs.Lemmas.Lists.Drawn.{RestAt, drawn_of_lists}
 use Rattle.fallible_iterator.proofs.Lemmas.Lists.Rest.{lists_rest_nth}
-use Rattle.fallible_itertools.specs.UntilFailure.{with_failure_of, UntilFailureExit, CollectedUntil, CollectsUntil, before_failure, first_failure, rest_failure, CollectedUntilAs}
+use Rattle.fallible_itertools.specs.UntilFailure.{with_failure_of, UntilFailureExit, CollectsUntil, before_failure, first_failure, rest_failure, CollectedUntilAs}
 use Rattle.std.specs.declared.alloc.AllocError.{AllocError}
 
 module _ {A C : Type 0} (made : List A → C → Type 0) (refuses : C → A → Type 0) where

@@ -1,6 +1,6 @@
 -- The contract of `Parted` is lawful where the source's is.
-use Rattle.std.specs.Prelude.{◌≡◌, ℕ, ◌≤◌, ◌<◌, Some, None, Ok, Err}
-use Rattle.std.proofs.Common.{arith, refl}
+use Rattle.std.specs.Prelude.{Some, None, Ok, Err}
+use Rattle.std.proofs.Common.{arith}
 use Rattle.std.specs.Iterator.{size}
 use Rattle.fallible_iterator.specs.Traces.{Answered}
 use Rattle.fallible_iterator.specs.Contract.{Contract, KeptByDraw, Lawful}
