@@ -25,11 +25,12 @@ fn expect_of<R: ReadText>(
     assert_eq!(rt; errors.as_slice(), told);
 }
 
-// A text, and it without blanks.
-type Whole = (&'static [u8], &'static [u8]);
+// A text, and what is written or told of it.
+type Row = (&'static [u8], &'static [u8]);
 
-const WHOLE: [Whole; 19] = [
-    // Each value alone, between each blank.
+// Texts, and what they are without blanks.
+const WHOLE: [Row; 19] = [
+    // Each value alone, and each blank.
     (b"\t\r\n null\n\r\t ", b"null"),
     (b"true", b"true"),
     (b"false ", b"false"),
@@ -87,11 +88,8 @@ fn texts_are_written_without_blanks(rt: HostRuntime) {
     }
 }
 
-// A text, and what is told of it.
-type Faulty = (&'static [u8], &'static [u8]);
-
 // Where a byte may not stand.
-const UNEXPECTED: [Faulty; 46] = [
+const UNEXPECTED: [Row; 46] = [
     // No token begins so. The first is a byte order mark, the second U+00A0, the third U+2028.
     (b"\xef\xbb\xbf1", b"line 1, column 1: unexpected byte 239\n"),
     (b"1\xc2\xa0", b"line 1, column 2: unexpected byte 194\n"),
@@ -107,7 +105,7 @@ const UNEXPECTED: [Faulty; 46] = [
     (b"True", b"line 1, column 1: unexpected byte 84\n"),
     (b"+1", b"line 1, column 1: unexpected byte 43\n"),
     (b".5", b"line 1, column 1: unexpected byte 46\n"),
-    // Numbers: what goes on with none, and what none goes on without.
+    // Numbers.
     (b"01", b"line 1, column 2: unexpected byte 49\n"),
     (b"-01", b"line 1, column 3: unexpected byte 49\n"),
     (b"0x1", b"line 1, column 2: unexpected byte 120\n"),
@@ -158,7 +156,7 @@ const UNEXPECTED: [Faulty; 46] = [
 ];
 
 // Where something is missing at the end, or what is no UTF-8.
-const CUT: [Faulty; 30] = [
+const CUT: [Row; 30] = [
     (b"", b"line 1, column 1: unexpected end\n"),
     (b" \t\n ", b"line 2, column 2: unexpected end\n"),
     (b"-", b"line 1, column 2: unexpected end\n"),
@@ -198,8 +196,8 @@ const CUT: [Faulty; 30] = [
     (b"] \x80", b"line 1, column 3: not UTF-8\n"),
 ];
 
-fn expect_told(rt: &impl Abort, alloc: Global, faulty: &[Faulty]) {
-    for (text, told) in faulty {
+fn expect_told(rt: &impl Abort, alloc: Global, rows: &[Row]) {
+    for (text, told) in rows {
         let mut reader = *text;
         expect_of(rt, alloc, &mut reader, 1, b"", told);
     }
