@@ -1,8 +1,10 @@
-//! Vectors: what `fallible_elf`, `fallible_table`, `fallible_pg` and `example_tasks` return where no clause of theirs says it. They stand apart, so that these are proved once.
+//! Vectors: what `fallible_elf`, `fallible_table`, `fallible_pg`, `fallible_json` and `example_tasks` return where no clause of theirs says it. They stand apart, so that these are proved once.
 #![tactic(auto)]
 
 #[cfg(test)]
 mod devices;
+#[cfg(test)]
+mod json_texts;
 #[cfg(test)]
 mod object;
 #[cfg(test)]

@@ -1,11 +1,10 @@
 // What a table comes to whose reads and writes fail, or that is read in pieces.
-use crate::devices::{BrokenReader, BrokenWriter};
+use crate::devices::{BrokenReader, BrokenWriter, PieceReader};
 use fallible_table::report::run;
 use fallible_table::table::TableFault;
 use program_io::fault::{RunFault, fault_line};
 use std::alloc::Global;
-use std::io;
-use std::io::{ErrorKind, Read};
+use std::io::ErrorKind;
 use std::process::Abort;
 use std::test::Fail;
 
@@ -15,25 +14,6 @@ const TABLE: [u8; 24] = [
     1, 2, 0, 0, 0, 2, 0, 0, //
     7, 0, 0, 0, 0, 0, 1, 0,
 ];
-
-// Yields its bytes, at most so many a read, and is interrupted before each read.
-#[derive(Drop)]
-struct PieceReader<'a> {
-    bytes: &'a [u8],
-    most: usize,
-    interrupted: bool,
-}
-
-impl Read for PieceReader<'_> {
-    fn read(&mut self, buf: &mut [u8]) -> io::Result<usize> {
-        self.interrupted = !self.interrupted;
-        if self.interrupted {
-            return Err(io::Error::from(ErrorKind::Interrupted));
-        }
-        let most = self.most.min(buf.len());
-        Read::read(&mut self.bytes, &mut buf[..most])
-    }
-}
 
 // What `run` returns over these bytes, where a read fails after them.
 fn run_on_broken(alloc: Global, bytes: &[u8], kind: ErrorKind) -> Result<(), RunFault<TableFault>> {
