@@ -89,17 +89,32 @@ module _ {E : Type 0} where
 
 -- ---- of draws
 
-module _ {P E : Type 0} {m : Contract P Placed E} {s t : P} {r : Answered Placed E} (stays : Stays m s t) (lowers : Lowers m s r t) (value : (l : List (Result Placed E)) → Lists m.steps s l → r ≡ first_byte l) (rest : (l : List (Result Placed E)) → Lists m.steps s l → (r ≡ end → ⊥) → Lists m.steps t (rest_byte l)) where
+module _ {P E : Type 0} (m : Contract P Placed E) where
+  -- the draw of the first byte: what it returns and leaves of each list, and what it lowers
+  pub record DrawsFirst (s : P) (r : Answered Placed E) (t : P) : Type 0 where
+    pub stays : Stays m s t
+    pub lowers : Lowers m s r t
+    pub value : (l : List (Result Placed E)) → Lists m.steps s l → r ≡ first_byte l
+    pub rest : (l : List (Result Placed E)) → Lists m.steps s l → (r ≡ end → ⊥) → Lists m.steps t (rest_byte l)
+
+  -- the draws of the rest of a token that a byte begins: what they return and leave of each list
+  pub record TakesRest (kind : Kind) (byte : ℕ) (begun : Option ℕ) (t : P) (w : Result (Option ℕ) E) (v : P) : Type 0 where
+    pub begins : begun ≡ with_byte kind (Some 0) byte
+    pub stays : Stays m t v
+    pub value : (l : List (Result Placed E)) → Lists m.steps t l → w ≡ value_taken kind begun l
+    pub rest : (l : List (Result Placed E)) → Lists m.steps t l → Lists m.steps v (rest_value kind begun l)
+
+module _ {P E : Type 0} {m : Contract P Placed E} {s t : P} {r : Answered Placed E} (drawn : DrawsFirst m s r t) where
   after_first : (q : Answered Placed E) → r ≡ q → (l : List (Result Placed E)) → Lists m.steps s l → AfterBlanks q (lexed l) (rest_byte l) × (rest_lexed l ≡ rest_of_first q (rest_byte l))
-  after_first q is l i = let same = sym (value l i) ∙ is in (subst (λ k. AfterBlanks k (lexed l) (rest_byte l)) same (after_blanks l), ap (λ k. rest_of_first k (rest_byte l)) same)
+  after_first q is l i = let same = sym (drawn.value l i) ∙ is in (subst (λ k. AfterBlanks k (lexed l) (rest_byte l)) same (after_blanks l), ap (λ k. rest_of_first k (rest_byte l)) same)
 
   lowers_as : (q : Answered Placed E) → r ≡ q → Lowers m s q t
-  lowers_as q is = subst (λ k. Lowers m s k t) is lowers
+  lowers_as q is = subst (λ k. Lowers m s k t) is drawn.lowers
 
   pub ends_after_blanks : r ≡ Ok None → TakesMade m lexed rest_lexed s (Ok None) t
   unfolding nth_of
   ends_after_blanks is = record {
-    keeps = kept_by_draws_of_stays stays;
+    keeps = kept_by_draws_of_stays drawn.stays;
     lowers = tt;
     first = λ l i. sym (ap (nth_of 0) (after_first (Ok None) is l i).0.0);
     rest = λ l i goes. absurd (goes refl);
@@ -107,54 +122,54 @@ module _ {P E : Type 0} {m : Contract P Placed E} {s t : P} {r : Answered Placed
 
   pub fails_in_blanks : (e : E) → r ≡ Err e → TakesMade m lexed rest_lexed s (Err (Source e)) t
   fails_in_blanks e is = record {
-    keeps = kept_by_draws_of_stays stays;
+    keeps = kept_by_draws_of_stays drawn.stays;
     lowers = lowers_as (Err e) is;
     first = λ l i. first_made (Err (Source e)) (lexed l) _ (after_first (Err e) is l i).0 refl;
-    rest = λ l i goes. subst (Lists m.steps t) (sym (after_first (Err e) is l i).1) (rest l i (λ none. let never = sym is ∙ none in cc));
+    rest = λ l i goes. subst (Lists m.steps t) (sym (after_first (Err e) is l i).1) (drawn.rest l i (λ none. let never = sym is ∙ none in cc));
   }
 
   -- at a byte: the tokens and what is left are those that it begins
-  module _ (place byte : ℕ) (is : r ≡ item (place, byte)) where
+  module _ (x : Placed) (is : r ≡ item x) where
     lists_after_byte : (l : List (Result Placed E)) → Lists m.steps s l → Lists m.steps t (rest_byte l)
-    lists_after_byte l i = rest l i (λ none. let never = sym is ∙ none in cc)
+    lists_after_byte l i = drawn.rest l i (λ none. let never = sym is ∙ none in cc)
 
-    lexed_after_byte : (kind : Option Kind) → kind_of byte ≡ kind → (l : List (Result Placed E)) → Lists m.steps s l → lexed l ≡ begun_by kind place byte (λ begun. lexed_behind begun (rest_byte l))
-    lexed_after_byte kind of l i = (after_first (item (place, byte)) is l i).0 ∙ ap (λ z. begun_by z place byte (λ begun. lexed_behind begun (rest_byte l))) of
+    lexed_after_byte : (kind : Option Kind) → kind_of x.1 ≡ kind → (l : List (Result Placed E)) → Lists m.steps s l → lexed l ≡ begun_by kind x.0 x.1 (λ begun. lexed_behind begun (rest_byte l))
+    lexed_after_byte kind of l i = (after_first (item x) is l i).0 ∙ ap (λ z. begun_by z x.0 x.1 (λ begun. lexed_behind begun (rest_byte l))) of
 
-    rest_after_byte : (kind : Option Kind) → kind_of byte ≡ kind → (l : List (Result Placed E)) → Lists m.steps s l → rest_lexed l ≡ rest_of_kind kind byte (rest_byte l)
-    rest_after_byte kind of l i = (after_first (item (place, byte)) is l i).1 ∙ ap (λ z. rest_of_kind z byte (rest_byte l)) of
+    rest_after_byte : (kind : Option Kind) → kind_of x.1 ≡ kind → (l : List (Result Placed E)) → Lists m.steps s l → rest_lexed l ≡ rest_of_kind kind x.1 (rest_byte l)
+    rest_after_byte kind of l i = (after_first (item x) is l i).1 ∙ ap (λ z. rest_of_kind z x.1 (rest_byte l)) of
 
-    pub takes_sign : {o : Answered (ℕ × Token) (LexFault E)} → kind_of byte ≡ None → o ≡ result_answer (sign_at place byte) → TakesMade m lexed rest_lexed s o t
+    pub takes_sign : {o : Answered (ℕ × Token) (LexFault E)} → kind_of x.1 ≡ None → o ≡ result_answer (sign_at x.0 x.1) → TakesMade m lexed rest_lexed s o t
     takes_sign {o = o} of same = record {
-      keeps = kept_by_draws_of_stays stays;
-      lowers = lowers_then m o (lowers_as (item (place, byte)) is) (λ n b. (n, b, omega arith)) (λ f. (f, omega arith));
-      first = λ l i. first_made (sign_at place byte) (lexed l) _ (lexed_after_byte None of l i) same;
+      keeps = kept_by_draws_of_stays drawn.stays;
+      lowers = lowers_then m o (lowers_as (item x) is) (λ n b. (n, b, omega arith)) (λ f. (f, omega arith));
+      first = λ l i. first_made (sign_at x.0 x.1) (lexed l) _ (lexed_after_byte None of l i) same;
       rest = λ l i goes. subst (Lists m.steps t) (sym (rest_after_byte None of l i)) (lists_after_byte l i);
     }
 
     -- at a byte that begins a token: what follows of it is taken
-    module _ (kind : Kind) (of : kind_of byte ≡ Some kind) (begun : Option ℕ) (begins : begun ≡ with_byte kind (Some 0) byte) {v : P} {w : Result (Option ℕ) E} (stays' : Stays m t v) (taken : (l : List (Result Placed E)) → Lists m.steps t l → w ≡ value_taken kind begun l) (left : (l : List (Result Placed E)) → Lists m.steps t l → Lists m.steps v (rest_value kind begun l)) where
-      after_token : (q : Result (Option ℕ) E) → w ≡ q → (l : List (Result Placed E)) → Lists m.steps s l → AfterValue kind place q (lexed l) (rest_value kind begun (rest_byte l))
+    module _ (kind : Kind) (of : kind_of x.1 ≡ Some kind) {begun : Option ℕ} {v : P} {w : Result (Option ℕ) E} (behind : TakesRest m kind x.1 begun t w v) where
+      after_token : (q : Result (Option ℕ) E) → w ≡ q → (l : List (Result Placed E)) → Lists m.steps s l → AfterValue kind x.0 q (lexed l) (rest_value kind begun (rest_byte l))
       after_token q done l i =
           let k = rest_byte l in
-          let is_lexed : lexed l ≡ lexed_behind (Some (kind, place, begun)) k = lexed_after_byte (Some kind) of l i ∙ ap (λ b. lexed_behind (Some (kind, place, b)) k) (sym begins) in
-          subst (λ out. AfterValue kind place q out (rest_value kind begun k)) (sym is_lexed) (subst (λ z. AfterValue kind place z (lexed_behind (Some (kind, place, begun)) k) (rest_value kind begun k)) (sym (taken k (lists_after_byte l i)) ∙ done) (after_value kind place begun k))
+          let is_lexed : lexed l ≡ lexed_behind (Some (kind, x.0, begun)) k = lexed_after_byte (Some kind) of l i ∙ ap (λ b. lexed_behind (Some (kind, x.0, b)) k) (sym behind.begins) in
+          subst (λ out. AfterValue kind x.0 q out (rest_value kind begun k)) (sym is_lexed) (subst (λ z. AfterValue kind x.0 z (lexed_behind (Some (kind, x.0, begun)) k) (rest_value kind begun k)) (sym (behind.value k (lists_after_byte l i)) ∙ done) (after_value kind x.0 begun k))
 
       lists_after_token : (l : List (Result Placed E)) → Lists m.steps s l → Lists m.steps v (rest_lexed l)
-      lists_after_token l i = subst (Lists m.steps v) (sym (rest_after_byte (Some kind) of l i ∙ ap (λ b. rest_value kind b (rest_byte l)) (sym begins))) (left (rest_byte l) (lists_after_byte l i))
+      lists_after_token l i = subst (Lists m.steps v) (sym (rest_after_byte (Some kind) of l i ∙ ap (λ b. rest_value kind b (rest_byte l)) (sym behind.begins))) (behind.rest (rest_byte l) (lists_after_byte l i))
 
-      pub takes_token : {o : Answered (ℕ × Token) (LexFault E)} (value : Option ℕ) → w ≡ Ok value → o ≡ result_answer (token_at kind place value) → TakesMade m lexed rest_lexed s o v
-      takes_token {o = o} value done same = record {
-        keeps = kept_by_draws_then (kept_by_draws_of_stays stays) (kept_by_draws_of_stays stays');
-        lowers = lowers_then m o (lowers_as (item (place, byte)) is) stays'.bound stays'.remaining;
-        first = λ l i. first_made (token_at kind place value) (lexed l) _ (after_token (Ok value) done l i) same;
+      pub takes_token : {o : Answered (ℕ × Token) (LexFault E)} {value : Option ℕ} → w ≡ Ok value → o ≡ result_answer (token_at kind x.0 value) → TakesMade m lexed rest_lexed s o v
+      takes_token {o = o} {value = value} done same = record {
+        keeps = kept_by_draws_then (kept_by_draws_of_stays drawn.stays) (kept_by_draws_of_stays behind.stays);
+        lowers = lowers_then m o (lowers_as (item x) is) behind.stays.bound behind.stays.remaining;
+        first = λ l i. first_made (token_at kind x.0 value) (lexed l) _ (after_token (Ok value) done l i) same;
         rest = λ l i goes. lists_after_token l i;
       }
 
-      pub fails_in_token : (e : E) → w ≡ Err e → TakesMade m lexed rest_lexed s (Err (Source e)) v
-      fails_in_token e failed = record {
-        keeps = kept_by_draws_then (kept_by_draws_of_stays stays) (kept_by_draws_of_stays stays');
-        lowers = lowers_then m {G = ℕ × Token} (Err (Source e)) (lowers_as (item (place, byte)) is) stays'.bound stays'.remaining;
+      pub fails_in_token : {e : E} → w ≡ Err e → TakesMade m lexed rest_lexed s (Err (Source e)) v
+      fails_in_token {e = e} failed = record {
+        keeps = kept_by_draws_then (kept_by_draws_of_stays drawn.stays) (kept_by_draws_of_stays behind.stays);
+        lowers = lowers_then m {G = ℕ × Token} (Err (Source e)) (lowers_as (item x) is) behind.stays.bound behind.stays.remaining;
         first = λ l i. first_made (Err (Source e)) (lexed l) _ (after_token (Err e) failed l i) refl;
         rest = λ l i goes. lists_after_token l i;
       }

@@ -88,17 +88,31 @@ module _ {E : Type 0} where
 
 -- ---- of draws
 
-module _ {P E : Type 0} {m : Contract P Placed E} {s t : P} {r : Answered Placed E} (stays : Stays m s t) (lowers : Lowers m s r t) (value : (l : List (Result Placed E)) → Lists m.steps s l → r ≡ first_byte l) (rest : (l : List (Result Placed E)) → Lists m.steps s l → (r ≡ end → ⊥) → Lists m.steps t (rest_byte l)) where
+module _ {P E : Type 0} (m : Contract P Placed E) where
+  -- the draw of the first byte: what it returns and leaves of each list, and what it lowers
+  pub record DrawsFirst (s : P) (r : Answered Placed E) (t : P) : Type 0 where
+    pub stays : Stays m s t
+    pub lowers : Lowers m s r t
+    pub value : (l : List (Result Placed E)) → Lists m.steps s l → r ≡ first_byte l
+    pub rest : (l : List (Result Placed E)) → Lists m.steps s l → (r ≡ end → ⊥) → Lists m.steps t (rest_byte l)
+
+  -- the draws of the rest of a token that a byte at this place begins: what they return and leave of each list
+  pub record TakesRest (place : ℕ) (phase : Phase) (t : P) (w : Result (ℕ × Phase) E) (v : P) : Type 0 where
+    pub stays : Stays m t v
+    pub value : (l : List (Result Placed E)) → Lists m.steps t l → w ≡ (run_of (place, phase) l).0
+    pub rest : (l : List (Result Placed E)) → Lists m.steps t l → Lists m.steps v (run_of (place, phase) l).1
+
+module _ {P E : Type 0} {m : Contract P Placed E} {s t : P} {r : Answered Placed E} (drawn : DrawsFirst m s r t) where
   after_first : (q : Answered Placed E) → r ≡ q → (l : List (Result Placed E)) → Lists m.steps s l → AfterBlanks q (lexed l) (rest_byte l) × (rest_lexed l ≡ rest_of_first q (rest_byte l))
-  after_first q is l i = let same = sym (value l i) ∙ is in (subst (λ k. AfterBlanks k (lexed l) (rest_byte l)) same (after_blanks l), ap (λ k. rest_of_first k (rest_byte l)) same)
+  after_first q is l i = let same = sym (drawn.value l i) ∙ is in (subst (λ k. AfterBlanks k (lexed l) (rest_byte l)) same (after_blanks l), ap (λ k. rest_of_first k (rest_byte l)) same)
 
   lowers_as : (q : Answered Placed E) → r ≡ q → Lowers m s q t
-  lowers_as q is = subst (λ k. Lowers m s k t) is lowers
+  lowers_as q is = subst (λ k. Lowers m s k t) is drawn.lowers
 
   pub ends_after_blanks : r ≡ Ok None → TakesMade m lexed rest_lexed s (Ok None) t
   unfolding nth_of
   ends_after_blanks is = record {
-    keeps = kept_by_draws_of_stays stays;
+    keeps = kept_by_draws_of_stays drawn.stays;
     lowers = tt;
     first = λ l i. sym (ap (nth_of 0) (after_first (Ok None) is l i).0.0);
     rest = λ l i goes. absurd (goes refl);
@@ -106,54 +120,54 @@ module _ {P E : Type 0} {m : Contract P Placed E} {s t : P} {r : Answered Placed
 
   pub fails_in_blanks : (e : E) → r ≡ Err e → TakesMade m lexed rest_lexed s (Err (Source e)) t
   fails_in_blanks e is = record {
-    keeps = kept_by_draws_of_stays stays;
+    keeps = kept_by_draws_of_stays drawn.stays;
     lowers = lowers_as (Err e) is;
     first = λ l i. first_made (Err (Source e)) (lexed l) _ (after_first (Err e) is l i).0 refl;
-    rest = λ l i goes. subst (Lists m.steps t) (sym (after_first (Err e) is l i).1) (rest l i (λ none. let never = sym is ∙ none in cc));
+    rest = λ l i goes. subst (Lists m.steps t) (sym (after_first (Err e) is l i).1) (drawn.rest l i (λ none. let never = sym is ∙ none in cc));
   }
 
   -- at a byte: the tokens and what is left are those that it begins
-  module _ (place byte : ℕ) (is : r ≡ item (place, byte)) where
+  module _ (x : Placed) (is : r ≡ item x) where
     lists_after_byte : (l : List (Result Placed E)) → Lists m.steps s l → Lists m.steps t (rest_byte l)
-    lists_after_byte l i = rest l i (λ none. let never = sym is ∙ none in cc)
+    lists_after_byte l i = drawn.rest l i (λ none. let never = sym is ∙ none in cc)
 
-    lexed_after_byte : (begun : Option Phase) → begun_by byte ≡ begun → (l : List (Result Placed E)) → Lists m.steps s l → lexed l ≡ begun_at begun place (λ b. lexed_behind b (rest_byte l))
-    lexed_after_byte begun of l i = (after_first (item (place, byte)) is l i).0 ∙ ap (λ z. begun_at z place (λ b. lexed_behind b (rest_byte l))) of
+    lexed_after_byte : (begun : Option Phase) → begun_by x.1 ≡ begun → (l : List (Result Placed E)) → Lists m.steps s l → lexed l ≡ begun_at begun x.0 (λ b. lexed_behind b (rest_byte l))
+    lexed_after_byte begun of l i = (after_first (item x) is l i).0 ∙ ap (λ z. begun_at z x.0 (λ b. lexed_behind b (rest_byte l))) of
 
-    rest_after_byte : (begun : Option Phase) → begun_by byte ≡ begun → (l : List (Result Placed E)) → Lists m.steps s l → rest_lexed l ≡ rest_of_begun begun place (rest_byte l)
-    rest_after_byte begun of l i = (after_first (item (place, byte)) is l i).1 ∙ ap (λ z. rest_of_begun z place (rest_byte l)) of
+    rest_after_byte : (begun : Option Phase) → begun_by x.1 ≡ begun → (l : List (Result Placed E)) → Lists m.steps s l → rest_lexed l ≡ rest_of_begun begun x.0 (rest_byte l)
+    rest_after_byte begun of l i = (after_first (item x) is l i).1 ∙ ap (λ z. rest_of_begun z x.0 (rest_byte l)) of
 
-    pub fails_at_byte : begun_by byte ≡ None → TakesMade m lexed rest_lexed s (Err (Unknown place)) t
+    pub fails_at_byte : begun_by x.1 ≡ None → TakesMade m lexed rest_lexed s (Err (Unknown x.0)) t
     fails_at_byte of = record {
-      keeps = kept_by_draws_of_stays stays;
-      lowers = lowers_then m {G = Lexeme} {H = LexFault E} (Err (Unknown place)) (lowers_as (item (place, byte)) is) (λ n b. (n, b, omega arith)) (λ f. (f, omega arith));
-      first = λ l i. first_made (Err (Unknown place)) (lexed l) _ (lexed_after_byte None of l i) refl;
+      keeps = kept_by_draws_of_stays drawn.stays;
+      lowers = lowers_then m {G = Lexeme} {H = LexFault E} (Err (Unknown x.0)) (lowers_as (item x) is) (λ n b. (n, b, omega arith)) (λ f. (f, omega arith));
+      first = λ l i. first_made (Err (Unknown x.0)) (lexed l) _ (lexed_after_byte None of l i) refl;
       rest = λ l i goes. subst (Lists m.steps t) (sym (rest_after_byte None of l i)) (lists_after_byte l i);
     }
 
     -- at a byte that begins a token: what follows of it is taken
-    module _ (phase : Phase) (of : begun_by byte ≡ Some phase) {v : P} {w : Result (ℕ × Phase) E} (stays' : Stays m t v) (taken : (l : List (Result Placed E)) → Lists m.steps t l → w ≡ (run_of (place, phase) l).0) (left : (l : List (Result Placed E)) → Lists m.steps t l → Lists m.steps v (run_of (place, phase) l).1) where
-      after_token : (q : Result (ℕ × Phase) E) → w ≡ q → (l : List (Result Placed E)) → Lists m.steps s l → AfterRun place q (lexed l) (run_of (place, phase) (rest_byte l)).1
+    module _ (phase : Phase) (of : begun_by x.1 ≡ Some phase) {v : P} {w : Result (ℕ × Phase) E} (behind : TakesRest m x.0 phase t w v) where
+      after_token : (q : Result (ℕ × Phase) E) → w ≡ q → (l : List (Result Placed E)) → Lists m.steps s l → AfterRun x.0 q (lexed l) (run_of (x.0, phase) (rest_byte l)).1
       after_token q done l i =
           let k = rest_byte l in
-          let is_lexed : lexed l ≡ lexed_behind (Some (place, place, phase)) k = lexed_after_byte (Some phase) of l i in
-          subst (λ out. AfterRun place q out (run_of (place, phase) k).1) (sym is_lexed) (subst (λ z. AfterRun place z (lexed_behind (Some (place, place, phase)) k) (run_of (place, phase) k).1) (sym (taken k (lists_after_byte l i)) ∙ done) (after_run place place phase k))
+          let is_lexed : lexed l ≡ lexed_behind (Some (x.0, x.0, phase)) k = lexed_after_byte (Some phase) of l i in
+          subst (λ out. AfterRun x.0 q out (run_of (x.0, phase) k).1) (sym is_lexed) (subst (λ z. AfterRun x.0 z (lexed_behind (Some (x.0, x.0, phase)) k) (run_of (x.0, phase) k).1) (sym (behind.value k (lists_after_byte l i)) ∙ done) (after_run x.0 x.0 phase k))
 
       lists_after_token : (l : List (Result Placed E)) → Lists m.steps s l → Lists m.steps v (rest_lexed l)
-      lists_after_token l i = subst (Lists m.steps v) (sym (rest_after_byte (Some phase) of l i)) (left (rest_byte l) (lists_after_byte l i))
+      lists_after_token l i = subst (Lists m.steps v) (sym (rest_after_byte (Some phase) of l i)) (behind.rest (rest_byte l) (lists_after_byte l i))
 
-      pub takes_token : {o : Answered Lexeme (LexFault E)} (b : ℕ × Phase) → w ≡ Ok b → o ≡ result_answer (closed place b.0 b.1) → TakesMade m lexed rest_lexed s o v
-      takes_token {o = o} b done same = record {
-        keeps = kept_by_draws_then (kept_by_draws_of_stays stays) (kept_by_draws_of_stays stays');
-        lowers = lowers_then m o (lowers_as (item (place, byte)) is) stays'.bound stays'.remaining;
-        first = λ l i. first_made (closed place b.0 b.1) (lexed l) _ (after_token (Ok b) done l i) same;
+      pub takes_token : {o : Answered Lexeme (LexFault E)} {b : ℕ × Phase} → w ≡ Ok b → o ≡ result_answer (closed x.0 b.0 b.1) → TakesMade m lexed rest_lexed s o v
+      takes_token {o = o} {b = b} done same = record {
+        keeps = kept_by_draws_then (kept_by_draws_of_stays drawn.stays) (kept_by_draws_of_stays behind.stays);
+        lowers = lowers_then m o (lowers_as (item x) is) behind.stays.bound behind.stays.remaining;
+        first = λ l i. first_made (closed x.0 b.0 b.1) (lexed l) _ (after_token (Ok b) done l i) same;
         rest = λ l i goes. lists_after_token l i;
       }
 
-      pub fails_in_token : (e : E) → w ≡ Err e → TakesMade m lexed rest_lexed s (Err (Source e)) v
-      fails_in_token e failed = record {
-        keeps = kept_by_draws_then (kept_by_draws_of_stays stays) (kept_by_draws_of_stays stays');
-        lowers = lowers_then m {G = Lexeme} (Err (Source e)) (lowers_as (item (place, byte)) is) stays'.bound stays'.remaining;
+      pub fails_in_token : {e : E} → w ≡ Err e → TakesMade m lexed rest_lexed s (Err (Source e)) v
+      fails_in_token {e = e} failed = record {
+        keeps = kept_by_draws_then (kept_by_draws_of_stays drawn.stays) (kept_by_draws_of_stays behind.stays);
+        lowers = lowers_then m {G = Lexeme} (Err (Source e)) (lowers_as (item x) is) behind.stays.bound behind.stays.remaining;
         first = λ l i. first_made (Err (Source e)) (lexed l) _ (after_token (Err e) failed l i) refl;
         rest = λ l i goes. lists_after_token l i;
       }
