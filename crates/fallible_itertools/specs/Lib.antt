@@ -53,6 +53,7 @@ pub mod TakeWhileInclusive
 pub mod TupleWindows
 pub mod Tuples
 pub mod Unique
+pub mod UniqueBy
 pub mod UntilFailure
 pub mod WithPosition
 pub mod ZipEq
