@@ -1,5 +1,5 @@
 -- The items and the failures of an iterator, as values of two kinds.
-use Rattle.std.specs.Prelude.{◌≡◌, ◌≤◌, Option, Some, None, Result, Ok, Err, List, [], ◌∷◌, IfOk}
+use Rattle.std.specs.Prelude.{◌≡◌, ◌≤◌, Some, None, Result, Ok, Err, List, [], ◌∷◌, IfOk}
 use Rattle.std.specs.Iterator.{IsFinite, size}
 use Rattle.fallible_iterator.specs.Traces.{Answered}
 use Rattle.fallible_iterator.specs.BothEnds.{items_listed, failures_listed}
