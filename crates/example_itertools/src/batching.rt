@@ -1,10 +1,11 @@
-//! Callers of what yields vectors: each states the value up to an allocation failure, by one term.
+//! Callers of what allocates: each states the value up to an allocation failure, by one term.
 ghost use Rattle.std.specs.Prelude.{◌≡◌, ℕ, ◌/◌, length, List, Result, Ok, max, nat_eq};
 ghost use Rattle.fallible_iterator.specs.Lists.{counted, folded, mapped, results};
 ghost use Rattle.fallible_iterator.specs.Making.{CollectedMade, ListsMade, SameOrRefused};
 ghost use Rattle.fallible_itertools.specs.ChunkBy.{chunked_by};
 ghost use Rattle.fallible_itertools.specs.Chunks.{chunked};
 ghost use Rattle.fallible_itertools.specs.Unique.{unique_of};
+ghost use Rattle.fallible_itertools.specs.UniqueBy.{unique_by_key};
 ghost use Rattle.example_itertools.specs.declared.batching.NoBatch.{NoBatch};
 ghost use Rattle.std.specs.declared.alloc.AllocError.{AllocError};
 
@@ -128,4 +129,44 @@ pub fn different_readings(
         (counted (unique_of nat_eq (results readings.items))) result }
 {
     convert(readings.into_iter()).unique(alloc).count()
+}
+
+/// The first reading of each ten, or the first failure, up to an allocation failure.
+pub fn first_readings_of_tens(
+    alloc: Global,
+    readings: Vec<Result<u32, NoBatch>>,
+) -> Result<Vec<u32>, Fault<NoBatch>>
+    ensures { CollectedMade (λ x y. y ≡ x) (λ refused why. why ≡ NoBatch.Memory)
+        (λ xs v. v.items ≡ xs)
+        (unique_by_key nat_eq (λ x. Ok (x / 10)) (results readings.items)) result }
+{
+    convert(readings.into_iter())
+        .unique_by(alloc, |reading| Ok(*reading / 10))
+        .collect(alloc)
+}
+
+/// How many tens the readings are in, or the first failure, or an allocation failure.
+pub fn tens_of_readings(
+    alloc: Global,
+    readings: Vec<Result<u32, NoBatch>>,
+) -> Result<usize, NoBatch>
+    ensures { SameOrRefused (λ refused why. why ≡ NoBatch.Memory)
+        (counted (unique_by_key nat_eq (λ x. Ok (x / 10)) (results readings.items))) result }
+{
+    convert(readings.into_iter())
+        .unique_by(alloc, |reading| Ok(*reading / 10))
+        .count()
+}
+
+/// How many lengths the words have, or the first failure, or an allocation failure.
+pub fn lengths_of_words<'a>(
+    alloc: Global,
+    words: Vec<Result<&'a [u8], NoBatch>>,
+) -> Result<usize, NoBatch>
+    ensures { SameOrRefused (λ refused why. why ≡ NoBatch.Memory)
+        (counted (unique_by_key nat_eq (λ word. Ok (length word.now)) (results words.entry.items))) result }
+{
+    convert(words.into_iter())
+        .unique_by(alloc, |word| Ok(word.len()))
+        .count()
 }

@@ -69,6 +69,7 @@ pub mod TakeWhileInclusive
 pub mod TupleWindows
 pub mod Tuples
 pub mod Unique
+pub mod UniqueBy
 pub mod UniqueOf
 pub mod UntilFailure
 pub mod WindowHints

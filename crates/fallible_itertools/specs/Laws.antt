@@ -31,6 +31,7 @@ pub mod TakeWhileInclusive
 pub mod TupleWindows
 pub mod Tuples
 pub mod Unique
+pub mod UniqueBy
 pub mod WithPosition
 pub mod ZipEq
 pub mod ZipLongest

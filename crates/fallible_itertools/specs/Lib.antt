@@ -54,6 +54,7 @@ pub mod TakeWhileInclusive
 pub mod TupleWindows
 pub mod Tuples
 pub mod Unique
+pub mod UniqueBy
 pub mod UntilFailure
 pub mod WithPosition
 pub mod ZipEq

@@ -58,6 +58,6 @@ pub use peeking_take_while::{
 pub use positions::{law_hints_positions, law_positions};
 pub use stop_after::{law_hints_stop_after, law_stop_after};
 pub use take_while_inclusive::{law_hints_take_while_inclusive, law_take_while_inclusive};
-pub use unique::{law_hints_unique, law_unique, law_unique_of};
+pub use unique::{law_hints_unique, law_hints_unique_by, law_unique, law_unique_by, law_unique_of};
 pub use zip_eq::{law_hints_zip_eq, law_zip_eq};
 pub use zip_longest::{law_hints_zip_longest, law_zip_longest};

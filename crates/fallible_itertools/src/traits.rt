@@ -70,6 +70,7 @@ ghost use Rattle.fallible_itertools.specs.CheckedSum.{TotalDrains, totalled};
 ghost use Rattle.fallible_itertools.specs.TupleWindows.{tuple_windows_contract, tuple_windows_parts, windowed};
 ghost use Rattle.fallible_itertools.specs.Tuples.{tupled, tuples_contract, tuples_parts};
 ghost use Rattle.fallible_itertools.specs.Unique.{unique_contract, unique_of, unique_parts, unique_seen, unique_source};
+ghost use Rattle.fallible_itertools.specs.UniqueBy as unique_by;
 ghost use Rattle.fallible_itertools.specs.UntilFailure.{CollectedUntilAs, CollectsUntil, rest_failure};
 ghost use Rattle.fallible_itertools.specs.WithPosition.{positioned, with_position_contract, with_position_parts};
 ghost use Rattle.fallible_itertools.specs.ZipEq as zip_eq;
@@ -122,6 +123,7 @@ use crate::take_while_inclusive::TakeWhileInclusive;
 use crate::tuple_windows::TupleWindows;
 use crate::tuples::Tuples;
 use crate::unique::Unique;
+use crate::unique_by::UniqueBy;
 use crate::until_failure::{PushTurn, with_failure};
 use crate::with_position::WithPosition;
 use crate::zip_eq::ZipEq;
@@ -2446,6 +2448,45 @@ pub trait FallibleItertools: FallibleIterator {
         Unique {
             it: self,
             seen: HashSet::new(alloc),
+        }
+    }
+
+    /// Yields each item whose key equals none before it: the first item of each key. The closure makes the key of a reference to the item.
+    ///
+    /// Creating it draws nothing, calls nothing and allocates nothing. `next` draws up to an item whose key equals that of none that was yielded, a failure or an `Ok(None)`. It calls the closure once on each item that it draws. A set has the keys of the items that were yielded; nothing is cloned. It fails as the source does, and as the closure does. A failure parts nothing. After a failure or an `Ok(None)` the set stays.
+    ///
+    /// If the closure fails, its failure is yielded, the item is lost, and no other.
+    ///
+    /// Requires: the closure may be called on a reference to each item that may come. `next` requires what that of `unique` requires.
+    ///
+    /// Memory: if the room for a key can't be allocated, the failure converted from `AllocError` is yielded. Then the item and its key are lost, and no other: a later item with an equal key is yielded.
+    ///
+    /// ```
+    /// let readings = [Ok::<u32, AllocError>(7), Ok(150), Ok(17)];
+    /// let mut it = convert(readings.into_iter())
+    ///     .unique_by(rt.alloc(), |reading| Ok(*reading % 10));
+    /// let drawn = [it.next(), it.next(), it.next()];
+    /// assert_eq!(rt; drawn, [Ok(Some(7)), Ok(Some(150)), Ok(None)]);
+    /// ```
+    final fn unique_by<K, F>(self, alloc: Global, f: F) -> UniqueBy<Self, K, F>
+    where
+        Self::Item: Drop,
+        Self::Error: From<AllocError>,
+        K: Eq + Hash + Drop,
+        F: FnMut(&Self::Item) -> Result<K, Self::Error>,
+        requires callable { IsCallable (call_by_reference F.FnMut) (takes_by_reference F.FnMut)
+            (Self.contract.may_give self) f }
+        ensures parts { unique_by.unique_by_source result ≡ self }
+        ensures empty { IsEmpty (unique_by.unique_by_keys result) }
+        ensures closure { unique_by.unique_by_closure result ≡ f }
+        ensures lists { OverListWith (list.Acts (call_by_reference F.FnMut) f) Self.contract.steps
+            self (λ h l. ListsMade (λ x y. y ≡ x) (seen_as unique_by.unique_by_parts
+            (unique_by.unique_by_contract K.eq Self.Error.from_gives Self.contract F.FnMut)).steps
+            Self.Error.from_gives result (unique_by.unique_by_key K.eq h l)) }
+    {
+        UniqueBy {
+            it: self,
+            keying: (HashSet::new(alloc), f),
         }
     }
 }

@@ -66,6 +66,12 @@ fn half<'a>(x: &Number<'a>) -> Result<Number<'a>, TestError> {
     Ok(Number::new(x.value / 2, x.requests))
 }
 
+// The half, where the item's request is met.
+fn kept_half<'a>(x: &Number<'a>) -> Result<u32, TestError> {
+    x.requests.ask()?;
+    Ok(x.value / 2)
+}
+
 // Whether the numbers are equal.
 fn are_equal<'a>(first: &Number<'a>, second: &Number<'a>) -> Result<bool, TestError> {
     Ok(first.value == second.value)
@@ -408,6 +414,24 @@ fn intersperse_loses_no_item_where_a_clone_is_refused(rt: HostRuntime) -> Result
     for (number, expected) in (0..).zip(&INTERSPERSED) {
         let mut it = up_to_three(rt.alloc(), &r)?.intersperse(Number::new(0, &r));
         expect_refused_draw_of_asking(&rt, &r, &mut it, number, 2, expected)?;
+    }
+    Ok(())
+}
+
+// What `unique_by` of 1, 2 and 3 by their halves returns where one of the keys can't be allocated: the failure stands in the item's place, and 3 is yielded where 2 was lost. In the last row no allocation fails.
+const UNIQUE_HALVES: [[Answer<u32, TestError>; 4]; 4] = [
+    [Failure(TestError::Memory), Item(2), End, End],
+    [Item(1), Failure(TestError::Memory), Item(3), End],
+    [Item(1), Item(2), Failure(TestError::Memory), End],
+    [Item(1), Item(2), End, End],
+];
+
+#[test]
+fn unique_by_loses_the_item_whose_key_is_refused(rt: HostRuntime) -> Result<(), Fail> {
+    let r = Requests::refusing(u32::MAX);
+    for (number, expected) in (0..).zip(&UNIQUE_HALVES) {
+        let mut it = up_to_three(rt.alloc(), &r)?.unique_by(rt.alloc(), kept_half);
+        expect_refused_draw_of_asking(&rt, &r, &mut it, number, 3, expected)?;
     }
     Ok(())
 }

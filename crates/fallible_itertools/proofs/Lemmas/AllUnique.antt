@@ -27,7 +27,7 @@ module _ {A S : Type 0} (eq : A → A → Bool) where
   HasSeen set seen = (k : A) → contains eq set k ≡ is_member eq seen k
 
   module _ (equivalence : IsEquivalence eq) where
-    has_seen_more : (p q : HashSet A S) (seen : List A) (x : A) → HasSeen p seen → Updates eq p q x true → HasSeen q (x ∷ seen)
+    pub has_seen_more : (p q : HashSet A S) (seen : List A) (x : A) → HasSeen p seen → Updates eq p q x true → HasSeen q (x ∷ seen)
     has_seen_more p q seen x has updates k = updates.0 k ∙ ap (λ (b : Bool). cond b true (contains eq p k)) (equivalence.symm x k) ∙ ap (λ (b : Bool). cond (eq k x) true b) (has k) ∙ cond_or (eq k x) (is_member eq seen k)
 
     -- a turn that goes on met an item that wasn't seen

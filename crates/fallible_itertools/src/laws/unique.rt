@@ -1,4 +1,4 @@
-// The laws of the adapter that yields each item that equals none before it.
+// The laws of the adapters that yield each item that equals none before it, or whose key does.
 ghost use Rattle.std.specs.Prelude.{◌≡◌, ◌++◌, ◌∷◌, Err, List, Ok, Result, [], cond};
 ghost use Rattle.std.specs.List.{IsDistinct, find};
 ghost use Rattle.std.specs.Set.{is_member};
@@ -6,8 +6,11 @@ ghost use Rattle.fallible_iterator.specs.BothEnds.{failures_listed, items_listed
 ghost use Rattle.fallible_iterator.specs.LawForm.{TracesAre};
 ghost use Rattle.fallible_iterator.specs.SoundHints.{HintsAsSoundAs};
 ghost use Rattle.fallible_itertools.specs.Unique.{UniqueTrace, unique_of, unique_parts, unique_source};
+ghost use Rattle.fallible_itertools.specs.UniqueBy.{UniqueByTrace, unique_by_parts, unique_by_source};
+ghost use Rattle.fallible_iterator.specs.Closures.{call_by_reference};
 
 use crate::unique::Unique;
+use crate::unique_by::UniqueBy;
 use fallible_iterator::FallibleIterator;
 use std::alloc::AllocError;
 use std::hash::Hash;
@@ -46,4 +49,31 @@ where
     ensures { (s : Unique I I.Item I.Error)
         → HintsAsSoundAs ⟦<Unique<I> as FallibleIterator>⟧.contract s I.contract
         (unique_source s) }
+{}
+
+/// The answers of `UniqueBy` are the source's, without the items whose keys equal that of one that was yielded before. Each item on which the closure fails is replaced by that failure. Where the room for a key can't be allocated, the failure converted from the `AllocError` is in the item's place.
+pub fn law_unique_by<
+    I: FallibleIterator,
+    K: Eq + Hash + Drop,
+    F: FnMut(&I::Item) -> Result<K, I::Error>,
+>()
+where
+    I::Item: Drop,
+    I::Error: From<AllocError>,
+    ensures { TracesAre unique_by_parts ⟦<UniqueBy<I, K, F> as FallibleIterator>⟧.contract.steps
+        (UniqueByTrace K.eq I.Error.from_gives (call_by_reference F.FnMut) I.contract.steps) }
+{}
+
+/// Each hint of `UniqueBy` is as sound as the hint of its source that it is made of.
+pub fn law_hints_unique_by<
+    I: FallibleIterator,
+    K: Eq + Hash + Drop,
+    F: FnMut(&I::Item) -> Result<K, I::Error>,
+>()
+where
+    I::Item: Drop,
+    I::Error: From<AllocError>,
+    ensures { (s : UniqueBy I K F)
+        → HintsAsSoundAs ⟦<UniqueBy<I, K, F> as FallibleIterator>⟧.contract s I.contract
+        (unique_by_source s) }
 {}

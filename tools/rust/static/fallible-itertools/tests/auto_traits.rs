@@ -17,7 +17,7 @@ fn each_iterator_has_what_it_keeps() {
             IntersperseWith<Of<M>, ()>,
             Merge<Of<M>, ()>, Merge<Of<()>, M>, MergeBy<Of<M>, (), ()>, MergeBy<Of<()>, M, ()>, OrElse<M, ()>,
             PadUsing<M, ()>, PeekingTakeWhile<M, ()>, Positions<M, ()>, StopAfter<M>, TakeWhileInclusive<M, ()>, TupleWindows<Of<M>>,
-            Tuples<Of<M>>, Unique<Of<M>>, WithPosition<Of<M>>, ZipEq<Of<M>, (), ()>, ZipEq<Of<()>, M, ()>, ZipLongest<Of<M>, ()>,
+            Tuples<Of<M>>, Unique<Of<M>>, UniqueBy<M, (), ()>, WithPosition<Of<M>>, ZipEq<Of<M>, (), ()>, ZipEq<Of<()>, M, ()>, ZipLongest<Of<M>, ()>,
             ZipLongest<Of<()>, M>;
     }
     // The closure, and a key.
@@ -25,7 +25,7 @@ fn each_iterator_has_what_it_keeps() {
         M => ChunkBy<Of<()>, (), M>, ChunkBy<Of<()>, M, ()>, Coalesce<Of<()>, M>, DedupBy<Of<()>, M>,
             DedupByKey<Of<()>, (), M>, DedupByKey<Of<()>, M, ()>, DedupByWithCount<Of<()>, M>, InspectErr<(), M>, IntersperseWith<Of<()>, M>,
             MergeBy<Of<()>, (), M>, OrElse<(), M>, PadUsing<(), M>, PeekingTakeWhile<(), M>,
-            Positions<(), M>, TakeWhileInclusive<(), M>, ZipEq<Of<()>, (), M>;
+            Positions<(), M>, TakeWhileInclusive<(), M>, UniqueBy<(), (), M>, ZipEq<Of<()>, (), M>;
     }
     // An item in hand, and a failure that is due.
     rows! { M;
@@ -38,6 +38,6 @@ fn each_iterator_has_what_it_keeps() {
             DedupByWithCount<Source<(), u8, M>, ()>, DedupWithCount<Source<(), u8, M>>,
             WithPosition<Source<(), u8, M>>;
         Vec<M> => ChunkBy<Source<(), M>, (), ()>, Chunks<Source<(), M>>;
-        HashSet<M> => Unique<Source<(), M>>;
+        HashSet<M> => Unique<Source<(), M>>, UniqueBy<(), M, ()>;
     }
 }
