@@ -45,6 +45,7 @@ pub mod LoopsMade
 pub mod MayCome
 pub mod Merge
 pub mod MergeBy
+pub mod MergeJoinBy
 pub mod Merged
 pub mod MinMax
 pub mod OrElse
