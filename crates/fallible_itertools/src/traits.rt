@@ -1333,11 +1333,7 @@ pub trait FallibleItertools: FallibleIterator {
     /// assert_eq!(rt; it.next(), Ok(Some(EitherOrBoth::Right(4))));
     /// assert_eq!(rt; it.next(), Ok(None));
     /// ```
-    final fn merge_join_by<I, F>(
-        self,
-        other: I,
-        f: F,
-    ) -> MergeJoinBy<Self, I::IntoFallibleIter, F>
+    final fn merge_join_by<I, F>(self, other: I, f: F) -> MergeJoinBy<Self, I::IntoFallibleIter, F>
     where
         I: IntoFallibleIterator<Error = Self::Error>,
         F: FnMut(&Self::Item, &I::Item) -> Result<Ordering, Self::Error>,

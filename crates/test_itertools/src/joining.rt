@@ -158,8 +158,23 @@ fn merge_by_holds_one_item_of_each_side(rt: HostRuntime) -> Result<(), Fail> {
 
 const JOINED: [Places; 4] = [
     (
-        &[Ok(Some(1)), Err(7), Ok(Some(3)), Ok(Some(5)), END, Ok(Some(2))],
-        &[Err(8), Ok(Some(3)), Err(9), Ok(Some(4)), Ok(Some(6)), END, Ok(Some(2))],
+        &[
+            Ok(Some(1)),
+            Err(7),
+            Ok(Some(3)),
+            Ok(Some(5)),
+            END,
+            Ok(Some(2)),
+        ],
+        &[
+            Err(8),
+            Ok(Some(3)),
+            Err(9),
+            Ok(Some(4)),
+            Ok(Some(6)),
+            END,
+            Ok(Some(2)),
+        ],
         &[
             // 1 is held beside 8, and comes before 3, which is held then.
             ((0, None), &[Failure(8), Item(Left(1))]),
