@@ -46,6 +46,8 @@ pub mod LoopsMade
 pub mod MayCome
 pub mod Merge
 pub mod MergeBy
+pub mod MergeJoinBy
+pub mod MergeJoined
 pub mod Merged
 pub mod MinMax
 pub mod OrElse

@@ -18,6 +18,7 @@ pub mod IntersperseWith
 pub mod Keyed
 pub mod Merge
 pub mod MergeBy
+pub mod MergeJoinBy
 pub mod OrElse
 pub mod PadUsing
 pub mod Parted

@@ -36,6 +36,7 @@ pub mod Keyed
 pub mod Laws
 pub mod Merge
 pub mod MergeBy
+pub mod MergeJoinBy
 pub mod MinMax
 pub mod OrElse
 pub mod PadUsing

@@ -11,6 +11,7 @@ mod intersperse;
 mod lengths;
 mod merge;
 mod merge_by;
+mod merge_join_by;
 mod pad_using;
 mod peeking_take_while;
 mod positions;
@@ -51,6 +52,7 @@ pub use intersperse::{
 pub use lengths::{law_interspersed, law_joined, law_tupled, law_windowed, law_zipped_longest};
 pub use merge::{law_hints_merge, law_merge, law_merged_in_order};
 pub use merge_by::{law_hints_merge_by, law_merge_by, law_merged};
+pub use merge_join_by::{law_hints_merge_join_by, law_merge_join_by, law_merge_joined};
 pub use pad_using::{law_hints_pad_using, law_pad_using, law_padded};
 pub use peeking_take_while::{
     law_hints_peeking_take_while, law_peeking_take_while, law_rest_peeking_take_while,

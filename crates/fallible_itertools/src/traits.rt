@@ -50,6 +50,7 @@ ghost use Rattle.fallible_iterator.specs.Sources.FromFn.{call_of_none};
 ghost use Rattle.fallible_itertools.specs.Join.{JoinedAs};
 ghost use Rattle.fallible_itertools.specs.Merge.{merge_contract, merge_left, merge_left_ended, merge_left_held, merge_parts, merge_right, merge_right_ended, merge_right_held, merged_in_order};
 ghost use Rattle.fallible_itertools.specs.MergeBy as merge_by;
+ghost use Rattle.fallible_itertools.specs.MergeJoinBy as join_by;
 ghost use Rattle.fallible_itertools.specs.MinMax.{MinMaxDrains, minmaxed, or_less};
 ghost use Rattle.fallible_itertools.specs.PadUsing as pad_using;
 ghost use Rattle.fallible_itertools.specs.PositionBest.{PlaceDrains, position_greatest, position_least};
@@ -109,6 +110,7 @@ use crate::join::JoinTurn;
 use crate::keyed::Keyed;
 use crate::merge::Merge;
 use crate::merge_by::MergeBy;
+use crate::merge_join_by::MergeJoinBy;
 use crate::minmax::{MinMaxResult, MinMaxTurn, lesser_first};
 use crate::or_else::OrElse;
 use crate::pad_using::PadUsing;
@@ -1306,6 +1308,61 @@ pub trait FallibleItertools: FallibleIterator {
             I.IntoFallibleIter.contract F.FnMut)).steps result (merge_by.merged h a b)) }
     {
         MergeBy {
+            left: Holding {
+                it: self.fuse(),
+                held: None,
+            },
+            right: Holding {
+                it: other.into_fallible_iter().fuse(),
+                held: None,
+            },
+            f,
+        }
+    }
+
+    /// Joins the items of both sides in order, as a closure compares an item of each: `Less` yields this side's alone (`Left`), `Greater` the other's alone (`Right`), and `Equal` both together (`Both`). Once one side returned `Ok(None)`, the items of the other come alone, without a call.
+    ///
+    /// Creating it draws nothing. `next` draws this side once if no item of it is buffered. Then, unless that failed, it draws `other` once if no item of that is buffered. Of two items it calls the closure once, and buffers the one that isn't yielded. Each side is fused: once it returned `Ok(None)` it isn't drawn again. It fails as this iterator does, or else as `other` does, or else as the closure does. A failure of a side loses nothing: what is buffered stays, and the item of this side beside a failure of `other` is buffered. If the closure fails, its failure is yielded, and the two items that it was called on are lost. Its folds draw as `next` does. Bounds of both sides, added up, bound it.
+    ///
+    /// Requires: the closure may be called on references to two items, one that may come of each side. `next` requires that it may be called on both sides, and `Item: Drop` of both.
+    ///
+    /// ```
+    /// let ours = convert([Ok::<u32, u8>(1), Ok(3)].into_iter());
+    /// let theirs = convert([Ok(3), Ok(4)].into_iter());
+    /// let mut it = ours.merge_join_by(theirs, |x, y| Ok(x.cmp(y)));
+    /// assert_eq!(rt; it.next(), Ok(Some(EitherOrBoth::Left(1))));
+    /// assert_eq!(rt; it.next(), Ok(Some(EitherOrBoth::Both(3, 3))));
+    /// assert_eq!(rt; it.next(), Ok(Some(EitherOrBoth::Right(4))));
+    /// assert_eq!(rt; it.next(), Ok(None));
+    /// ```
+    final fn merge_join_by<I, F>(self, other: I, f: F) -> MergeJoinBy<Self, I::IntoFallibleIter, F>
+    where
+        I: IntoFallibleIterator<Error = Self::Error>,
+        F: FnMut(&Self::Item, &I::Item) -> Result<Ordering, Self::Error>,
+        requires { (right : I.IntoFallibleIter) → I.into_gives other right
+            → IsCallable (merge_by.call_on_two (join_by.call_at_both F.FnMut))
+            (λ g z. join_by.takes_at_both F.FnMut g z.0 z.1) (λ z. Self.contract.may_give self z.0
+            × I.IntoFallibleIter.contract.may_give right z.1) f }
+        ensures left { join_by.merge_join_by_left result ≡ self }
+        ensures left_ended { join_by.merge_join_by_left_ended result ≡ false }
+        ensures left_held { join_by.merge_join_by_left_held result ≡ None }
+        ensures right { I.into_gives other (join_by.merge_join_by_right result) }
+        ensures right_ended { join_by.merge_join_by_right_ended result ≡ false }
+        ensures right_held { join_by.merge_join_by_right_held result ≡ None }
+        ensures closure { join_by.merge_join_by_closure result ≡ f }
+        ensures bounded { (a b k : ℕ) → Self.contract.bound self a
+            → I.IntoFallibleIter.contract.bound (join_by.merge_join_by_right result) b → a + b ≤ k
+            → AtMost (seen_as join_by.merge_join_by_parts (join_by.merge_join_by_contract
+            Self.contract I.IntoFallibleIter.contract F.FnMut)) result k }
+        ensures lists { (h : Self.Item → I.Item → Result Ordering Self.Error)
+            → list.ActsWith (join_by.call_at_both F.FnMut) f h
+            → OverBoth Self.contract.steps self I.into_gives other
+            I.IntoFallibleIter.contract.steps
+            (λ a b. list.Lists (seen_as join_by.merge_join_by_parts
+            (join_by.merge_join_by_contract Self.contract
+            I.IntoFallibleIter.contract F.FnMut)).steps result (join_by.merge_joined h a b)) }
+    {
+        MergeJoinBy {
             left: Holding {
                 it: self.fuse(),
                 held: None,

@@ -281,6 +281,32 @@ fn zip_eq_draws_both_sides_up_to_their_ends(rt: HostRuntime) -> Result<(), Fail>
     Ok(())
 }
 
+// The items of the left and the right on which the closure is called.
+const COMPARED: [(u32, u32); 3] = [(1, 1), (1, 5), (2, 5)];
+
+const THREE_NEXTS: Calls = Calls {
+    nexts: 3,
+    ..NO_CALL
+};
+
+// 1 is joined with 1, and 5 is held beside the second 1 and the 2. At the left's end, the fourth draw, there is no call, and nothing is drawn of a side that ended.
+#[test]
+fn merge_join_by_compares_two_items_once(rt: HostRuntime) -> Result<(), Fail> {
+    let (alloc, log, beside) = (rt.alloc(), Log::new(), Log::new());
+    let right = Counted::new(scripted(alloc, [Ok(Some(1u32)), Ok(Some(5))])?, &beside);
+    let mut compared = Vec::new(alloc);
+    let mut it = one_one_two(alloc, &log)?.merge_join_by(right, |x: &u32, y: &u32| {
+        compared.push((*x, *y))?;
+        Ok(x.cmp(y))
+    });
+    expect_folded(&mut it, &log, &FOUR_BY_FOUR_DRAWS)?;
+    expect_folded(&mut it, &log, &NONE_BY_NO_FOLD)?;
+    drop(it);
+    assert_eq!(rt; compared.as_slice(), &COMPARED);
+    assert_eq!(rt; beside.take(), THREE_NEXTS);
+    Ok(())
+}
+
 // Two sides are drawn in turn, and a fold of the source would drop the item that stays next.
 #[test]
 fn adapters_of_two_sides_and_peeking_take_while_draw_one_by_one(

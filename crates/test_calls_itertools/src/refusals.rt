@@ -1,10 +1,11 @@
 // Allocation failures: clones of the adapters, most with something held, and draws that clone, each allocation failing in turn. `PeekingTakeWhile` has no clone, since it borrows.
 use fallible_iterator::Answer::{End, Failure, Item};
 use fallible_iterator::{Answer, Convert, FallibleIterator};
-use fallible_itertools::EitherOrBoth::{Both, Left};
+use fallible_itertools::EitherOrBoth::{Both, Left, Right};
 use fallible_itertools::Position::{First, Last, Middle};
 use fallible_itertools::{FallibleItertools, Position};
 use std::alloc::{AllocError, Global};
+use std::cmp::Ordering;
 use std::test::Fail;
 use std::vec::IntoIter;
 use test_support::answered::expect_answers;
@@ -270,6 +271,11 @@ fn in_order<'a>(x: &Number<'a>, y: &Number<'a>) -> Result<bool, TestError> {
     Ok(x.value <= y.value)
 }
 
+// By their values.
+fn by_value<'a>(x: &Number<'a>, y: &Number<'a>) -> Result<Ordering, TestError> {
+    Ok(x.value.cmp(&y.value))
+}
+
 // Of 7, 8 and 7 the last is left in the source, after a rejected item.
 const OF_COPIED_AND_TAKE_WHILE_INCLUSIVE: NumbersCase = Case {
     name: "Copied and TakeWhileInclusive",
@@ -307,6 +313,8 @@ const OF_INTERLEAVE: NumbersCase = Case {
 };
 
 const OF_ZIP_EQ: Asks<'static> = ("ZipEq", 4, [(2, Some(2)), NONE]);
+
+const OF_MERGE_JOIN_BY: Asks<'static> = ("MergeJoinBy", 4, [(3, Some(5)), NONE]);
 
 const OF_ZIP_LONGEST: Asks<'static> = ("ZipLongest", 4, [(3, Some(3)), NONE]);
 
@@ -348,6 +356,23 @@ fn refused_clones_of_adapters_that_hold_nothing_or_join(rt: HostRuntime) -> Resu
     let right = listed::<Number<'_>, TestError, 2>(rt.alloc(), right)?;
     let mut it = up_to_three(rt.alloc(), &r)?.interleave(right);
     expect_refused_clones_of_asking(&rt, &r, &mut it, &OF_INTERLEAVE)
+}
+
+// The right's 2 is held, and its 4 is left there, beside 2 and 3 of the left.
+#[test]
+fn refused_clones_of_merge_join_by(rt: HostRuntime) -> Result<(), Fail> {
+    let r = Requests::refusing(u32::MAX);
+    let right = [Ok(Number::new(2, &r)), Ok(Number::new(4, &r))];
+    let right = listed::<Number<'_>, TestError, 2>(rt.alloc(), right)?;
+    let mut it = up_to_three(rt.alloc(), &r)?.merge_join_by(right, by_value);
+    let expected = [
+        Item(Both(Number::new(2, &r), Number::new(2, &r))),
+        Item(Left(Number::new(3, &r))),
+        Item(Right(Number::new(4, &r))),
+        End,
+    ];
+    let first = [Item(Left(Number::new(1, &r)))];
+    expect_refused_clones_that(&rt, &r, &mut it, OF_MERGE_JOIN_BY, &first, &expected)
 }
 
 // 1 is held beside the right's failure, and 5 is left there.

@@ -9,7 +9,7 @@ use Rattle.fallible_itertools.specs.ZipLongest.{OfEach, longest, longest_rule, z
 use Rattle.fallible_itertools.specs.declared.zip_longest.EitherOrBoth.{EitherOrBoth}
 use Rattle.fallible_itertools.specs.declared.zip_longest.EitherOrBoth.TheVariants.{Both, Left, Right}
 
-of_each_more : {A B : Type 0} (P P' : A → Type 0) (Q Q' : B → Type 0) (z : EitherOrBoth A B) → ((x : A) → P' x → P x) → ((y : B) → Q' y → Q y) → OfEach P' Q' z → OfEach P Q z
+pub of_each_more : {A B : Type 0} (P P' : A → Type 0) (Q Q' : B → Type 0) (z : EitherOrBoth A B) → ((x : A) → P' x → P x) → ((y : B) → Q' y → Q y) → OfEach P' Q' z → OfEach P Q z
 of_each_more P P' Q Q' (Both x y) p q h = (p x h.0, q y h.1)
 of_each_more P P' Q Q' (Left x) p q h = p x h
 of_each_more P P' Q Q' (Right y) p q h = q y h
