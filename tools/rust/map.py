@@ -114,7 +114,7 @@ ITERTOOLS = [
     (r"traits\.rs", r"^    fn (?:all_unique|counts|counts_by|into_group_map|into_group_map_by|unique|unique_by)\b",
      r'    #[cfg(feature = "std")]\n\g<0>', 7),
     (r"lib\.rs", r"\A(?://!.*\n)+\n", HEAD + "mod errors;\n", 1),
-    (r"lib\.rs", r"^pub mod \w+;", r"#[doc(hidden)]\n\g<0>", 45),
+    (r"lib\.rs", r"^pub mod \w+;", r"#[doc(hidden)]\n\g<0>", 44),
     (r"(?:all_unique|counts|group_map|join|partition_map|until_failure)\.rs", r"\A(//.*\n\n)",
      r"\1use fallible_iterator::memory::AllocError;\n", 6),
 ]
