@@ -19,19 +19,20 @@ module _ {A : Type 0} (line : ℕ → A → List ℕ) where
     abbrev pub lines_so_far : ℕ → List ℕ
     lines_so_far k = word ++ decimal (length xs) ++ 10 ∷ lines_from line 0 (take k xs)
 
-    so_far_one_more : (k : ℕ) (d : A) → k < length xs → lines_so_far k ++ line k (get_or xs k d) ≡ lines_so_far (k + 1)
-    so_far_one_more k d below =
+    -- one line more
+    pub lines_so_far_more : (k : ℕ) (d : A) → k < length xs → lines_so_far (k + 1) ≡ lines_so_far k ++ line k (get_or xs k d)
+    lines_so_far_more k d below =
         let t = line k (get_or xs k d) in
         let lines = lines_from line 0 (take k xs) in
-        append_assoc (word ++ decimal (length xs)) (10 ∷ lines) t ∙ ap (λ u. word ++ decimal (length xs) ++ 10 ∷ u) (sym (lines_from_more xs k d below))
-
-    -- after a line
-    pub appends_line : (old now new : Option (List ℕ)) (k : ℕ) (x d : A) → k < length xs → x ≡ get_or xs k d → Appends old now (lines_so_far k) → Appends now new (line k x) → Appends old new (lines_so_far (k + 1))
-    appends_line old now new k x d below is p q = subst (λ t. Appends old new t) (ap (λ y. lines_so_far k ++ line k y) is ∙ so_far_one_more k d below) (Appends-trans old now new (lines_so_far k) (line k x) p q)
+        sym (append_assoc (word ++ decimal (length xs)) (10 ∷ lines) t ∙ ap (λ u. word ++ decimal (length xs) ++ 10 ∷ u) (sym (lines_from_more xs k d below)))
 
     -- after the last one
     pub appends_all_lines : (old new : Option (List ℕ)) (k : ℕ) → length xs ≤ k → Appends old new (lines_so_far k) → Appends old new (table_text word line xs)
     appends_all_lines old new k past p = subst (λ t. Appends old new (word ++ decimal (length xs) ++ 10 ∷ lines_from line 0 t)) (take_all k xs past) p
+
+-- a text more, by what it makes of the texts before it
+pub appends_more : {all : List ℕ} (old now new : Option (List ℕ)) (text more : List ℕ) → Appends old now text → all ≡ text ++ more → Appends now new more → Appends old new all
+appends_more old now new text more p is q = subst (Appends old new) (sym is) (Appends-trans old now new text more p q)
 
 -- a last text, after those that were written
 pub on_ok_appends_last : {T E : Type 0} (r : Result T E) (old between new : Option (List ℕ)) (text last : List ℕ) → Appends old between text → OnOk r (Appends between new last) → OnOk r (Appends old new (text ++ last))
