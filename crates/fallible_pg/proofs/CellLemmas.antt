@@ -16,18 +16,24 @@ pub finds_short : (bytes : List ℕ) → length bytes < 4 → FindsCell (first_c
 unfolding first_cell
 finds_short bytes few = rw (lt-leb 4 (length bytes) few) tt
 
-module _ (bytes tail : List ℕ) (n : ℕ) (long : 4 ≤ length bytes) (is : n ≡ u32_at bytes 0) (behind : tail ≡ drop 4 bytes) where
+-- these bytes begin with this length, and these come behind it
+pub record HasLength (bytes tail : List ℕ) (n : ℕ) : Type 0 where
+  pub long : 4 ≤ length bytes
+  pub is : n ≡ u32_at bytes 0
+  pub behind : tail ≡ drop 4 bytes
+
+module _ {bytes tail : List ℕ} {n : ℕ} (begins : HasLength bytes tail n) where
   pub finds_null : (rest : Bor (List ℕ)) → n ≡ 4294967295 → rest.now ≡ tail → FindsCell (first_cell bytes) (Some (None, rest))
   unfolding first_cell
-  finds_null rest null after = rw (le-leb 4 (length bytes) long, sym is, eq-eqb n 4294967295 null) (tt, after ∙ behind)
+  finds_null rest null after = rw (le-leb 4 (length bytes) begins.long, sym begins.is, eq-eqb n 4294967295 null) (tt, after ∙ begins.behind)
 
   pub finds_few : n ≢ 4294967295 → length tail < n → FindsCell (first_cell bytes) None
   unfolding first_cell
-  finds_few some few = rw (le-leb 4 (length bytes) long, sym is, ne_eqb n 4294967295 some, sym behind, lt-leb n (length tail) few) tt
+  finds_few some few = rw (le-leb 4 (length bytes) begins.long, sym begins.is, ne_eqb n 4294967295 some, sym begins.behind, lt-leb n (length tail) few) tt
 
   pub finds_cell : (cell rest : Bor (List ℕ)) → n ≢ 4294967295 → n ≤ length tail → cell.now ≡ take n tail → rest.now ≡ drop n tail → FindsCell (first_cell bytes) (Some (Some cell, rest))
   unfolding first_cell
-  finds_cell cell rest some enough at after = rw (le-leb 4 (length bytes) long, sym is, ne_eqb n 4294967295 some, sym behind, le-leb n (length tail) enough) (at, after)
+  finds_cell cell rest some enough at after = rw (le-leb 4 (length bytes) begins.long, sym begins.is, ne_eqb n 4294967295 some, sym begins.behind, le-leb n (length tail) enough) (at, after)
 
 -- ---- one draw
 

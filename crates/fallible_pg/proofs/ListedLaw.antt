@@ -98,7 +98,7 @@ module _ {R : Type 0} (left : R → Option (List ℕ)) (stays : Bool → R → R
     takes_fault : (fault : PgFault) (begun : List ℕ) (last : R) → (messages_parts t).1 ≡ None → GivesBytes left stays r begun last → TellsWhy left stays place begun last fault (messages_parts t).0 → TakesMade (Err fault) t (messages_of place bytes)
     takes_fault (Server m) begun last none given h = absurd h
     takes_fault (Damaged at damage) begun last none given h =
-        let is = messages_of-damage place bytes damage (size_broken left stays place bytes r known damage (messages_parts t).0 (begun, last, given, h.1)) in
+        let is = messages_of-damage place bytes damage (size_broken left stays place r known damage (messages_parts t).0 (begun, last, given, h.1)) in
         subst (TakesMade (Err (Damaged at damage)) t) (sym is) (inr (ap (λ (p : ℕ). Err (Damaged p damage)) h.0, gives_no_more t none))
     takes_fault Read begun last none given (inl h) = absurd (never last (messages_parts t).0 h.1.1)
     takes_fault Read begun last none given (inr h) = let far = h.0 in absurd (omega (arith, far, fits))
@@ -123,5 +123,5 @@ module _ {R : Type 0} (left : R → Option (List ℕ)) (stays : Bool → R → R
   gives_fewer zero s r place bytes few is known fits = absurd (omega arith)
   gives_fewer (suc n) s r place bytes few is known fits = gives_made_by_draws s (messages_of place bytes) (λ answer t step. takes_made n (gives_fewer n) r t place bytes few known fits answer (subst (λ (p : R × Option ℕ). message_step left stays p answer (messages_parts t)) is step))
 
-  pub lists_messages : (s : Messages R) (r : R) (place : ℕ) (bytes : List ℕ) → messages_parts s ≡ (r, Some place) → left r ≡ Some bytes → place + length bytes ≤ 2 ^ 63 → ListsMade HasBytes steps IsMemory s (messages_of place bytes)
-  lists_messages s r place bytes is known fits = record { runs = gives_fewer (suc (length bytes)) s r place bytes (omega arith) is known fits }
+  pub lists_messages : {r : R} {place : ℕ} {bytes : List ℕ} (s : Messages R) → messages_parts s ≡ (r, Some place) → left r ≡ Some bytes → place + length bytes ≤ 2 ^ 63 → ListsMade HasBytes steps IsMemory s (messages_of place bytes)
+  lists_messages {r = r} {place = place} {bytes = bytes} s is known fits = record { runs = gives_fewer (suc (length bytes)) s r place bytes (omega arith) is known fits }

@@ -13,7 +13,7 @@ use Rattle.fallible_pg.specs.declared.fault.Damage.TheVariants.{Length}
 use Rattle.fallible_pg.specs.declared.reading.Broken.TheVariants.{Damaged}
 
 module _ {R : Type 0} (left : R → Option (List ℕ)) (stays : Bool → R → R → Type 0) where
-  pub gives_bytes_then : (xs ys : List ℕ) (p q r : R) → GivesBytes left stays p xs q → GivesBytes left stays q ys r → GivesBytes left stays p (xs ++ ys) r
+  gives_bytes_then : (xs ys : List ℕ) (p q r : R) → GivesBytes left stays p xs q → GivesBytes left stays q ys r → GivesBytes left stays p (xs ++ ys) r
   gives_bytes_then xs ys p q r h k = folds_to_then (GivesByte left stays) xs ys p q r h k
 
   -- ---- a message
@@ -29,32 +29,38 @@ module _ {R : Type 0} (left : R → Option (List ℕ)) (stays : Bool → R → R
   breaks_in_body n begun last q Memory stated right long h = (first_size-but_last begun n (λ _. stated) right h.0, h.1)
 
   -- the first five bytes, behind none
-  pub head_read : (r p : R) (old head : List ℕ) (done : Unit {0}) → old ≡ [] → ReadsUpTo left stays r old 5 (Ok done) head p → GivesBytes left stays r head p × (length head ≡ 5)
-  head_read r p old head done none h = (subst (λ l. GivesBytes left stays r l p) (sym (h.1 ∙ ap (λ l. l ++ h.0) none)) h.2, h.3)
+  pub head_read : {old : List ℕ} (r p : R) (head : List ℕ) (done : Unit {0}) → old ≡ [] → ReadsUpTo left stays r old 5 (Ok done) head p → GivesBytes left stays r head p × (length head ≡ 5)
+  head_read r p head done none h = (subst (λ l. GivesBytes left stays r l p) (sym (h.1 ∙ ap (λ l. l ++ h.0) none)) h.2, h.3)
 
-  pub head_broken : (r q : R) (old new : List ℕ) (why : Unread) → old ≡ [] → ReadsUpTo left stays {U = Unit {0}} r old 5 (Err why) new q → ReadsMessage left stays r (Err (broken_by why)) q
-  head_broken r q old new why none h = (h.0, h.1, h.2, breaks_in_head h.0 h.1 q why (subst (λ l. StopsShort left stays 5 (length (l ++ h.0)) h.1 why q) none h.3))
+  pub head_broken : {old : List ℕ} (r q : R) (new : List ℕ) (why : Unread) → old ≡ [] → ReadsUpTo left stays {U = Unit {0}} r old 5 (Err why) new q → ReadsMessage left stays r (Err (broken_by why)) q
+  head_broken r q new why none h = (h.0, h.1, h.2, breaks_in_head h.0 h.1 q why (subst (λ l. StopsShort left stays 5 (length (l ++ h.0)) h.1 why q) none h.3))
 
-  module _ (r p : R) (head slice : List ℕ) (n : ℕ) (came : GivesBytes left stays r head p × (length head ≡ 5)) (same : slice ≡ head) (stated : n ≡ u32_at slice 1) where
-    head_states : u32_at head 1 ≡ n
-    head_states = sym (stated ∙ ap (λ l. u32_at l 1) same)
+  -- the first five bytes were read, and this length stands in them
+  pub record HasHead (r p : R) (head slice : List ℕ) (n : ℕ) : Type 0 where
+    pub came : GivesBytes left stays r head p × (length head ≡ 5)
+    pub same : slice ≡ head
+    pub stated : n ≡ u32_at slice 1
 
-    head_long : 5 ≤ length head
-    head_long = let five = came.1 in omega (arith, five)
+module _ {R : Type 0} {left : R → Option (List ℕ)} {stays : Bool → R → R → Type 0} {r p : R} {head slice : List ℕ} {n : ℕ} (begins : HasHead left stays r p head slice n) where
+  head_states : u32_at head 1 ≡ n
+  head_states = sym (begins.stated ∙ ap (λ l. u32_at l 1) begins.same)
 
-    pub wrong_length : is_length n ≡ false → ReadsMessage left stays r (Err (Damaged (Length n))) p
-    wrong_length wrong = (head, p, came.0, (first_size-wrong head n head_states head_long wrong, came.1, refl))
+  head_long : 5 ≤ length head
+  head_long = let five = begins.came.1 in omega (arith, five)
 
-    pub body_broken : (q : R) (new : List ℕ) (why : Unread) → is_length n ≡ true → ReadsUpTo left stays {U = Unit {0}} p head (n + 1) (Err why) new q → ReadsMessage left stays r (Err (broken_by why)) q
-    body_broken q new why right h =
-        (head ++ h.0, h.1, gives_bytes_then head h.0 r p h.1 came.0 h.2, breaks_in_body n (head ++ h.0) h.1 q why (u32_at-front head h.0 head_long ∙ head_states) right (let five = came.1 in omega (arith, five, length-append head h.0)) h.3)
+  pub wrong_length : is_length n ≡ false → ReadsMessage left stays r (Err (Damaged (Length n))) p
+  wrong_length wrong = (head, p, begins.came.0, (first_size-wrong head n head_states head_long wrong, begins.came.1, refl))
 
-    pub message_read : (q : R) (new : List ℕ) (done : Unit {0}) → is_length n ≡ true → ReadsUpTo left stays p head (n + 1) (Ok done) new q → GivesBytes left stays r new q × IsMessage new × (5 ≤ length new)
-    message_read q new done right h =
-        let long : 5 ≤ length new = let five = came.1 in let are = ap length h.1 in omega (arith, five, are, length-append head h.0) in
-        let states : u32_at new 1 ≡ n = ap (λ l. u32_at l 1) h.1 ∙ u32_at-front head h.0 head_long ∙ head_states in
-        let size = h.3 in (
-          subst (λ l. GivesBytes left stays r l q) (sym h.1) (gives_bytes_then head h.0 r p q came.0 h.2),
-          first_size-whole new n states long right (omega (arith, size)) ∙ ap (λ k. Ok k) (sym h.3),
-          long,
-        )
+  pub body_broken : (q : R) (new : List ℕ) (why : Unread) → is_length n ≡ true → ReadsUpTo left stays {U = Unit {0}} p head (n + 1) (Err why) new q → ReadsMessage left stays r (Err (broken_by why)) q
+  body_broken q new why right h =
+      (head ++ h.0, h.1, gives_bytes_then left stays head h.0 r p h.1 begins.came.0 h.2, breaks_in_body left stays n (head ++ h.0) h.1 q why (u32_at-front head h.0 head_long ∙ head_states) right (let five = begins.came.1 in omega (arith, five, length-append head h.0)) h.3)
+
+  pub message_read : (q : R) (new : List ℕ) (done : Unit {0}) → is_length n ≡ true → ReadsUpTo left stays p head (n + 1) (Ok done) new q → GivesBytes left stays r new q × IsMessage new × (5 ≤ length new)
+  message_read q new done right h =
+      let long : 5 ≤ length new = let five = begins.came.1 in let are = ap length h.1 in omega (arith, five, are, length-append head h.0) in
+      let states : u32_at new 1 ≡ n = ap (λ l. u32_at l 1) h.1 ∙ u32_at-front head h.0 head_long ∙ head_states in
+      let size = h.3 in (
+        subst (λ l. GivesBytes left stays r l q) (sym h.1) (gives_bytes_then left stays head h.0 r p q begins.came.0 h.2),
+        first_size-whole new n states long right (omega (arith, size)) ∙ ap (λ k. Ok k) (sym h.3),
+        long,
+      )

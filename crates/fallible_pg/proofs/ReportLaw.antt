@@ -65,15 +65,15 @@ module _ {R W : Type 0} (left : R → Option (List ℕ)) (stays : Bool → R →
       )
 
   report_by : (outcome : Result (Unit {0}) (RunFault PgInput)) (ms : List (List ℕ)) (last : R) (rest : List ℕ) → All IsPassed ms → bytes ≡ concat ms ++ rest → left last ≡ Some rest → ReadsOutcome left stays (length (concat ms)) last outcome after → WritesText left stays input after failed written now output (rows_text ms) outcome → IsReportOf (turns_of 0 bytes) written now outcome
-  report_by (Ok done) ms last rest each are at h wrote = let g = turns_last left stays (length (concat ms)) rest last at h.0 Is.Ready after h.1 in reports ms rest None each are (ap first_fault g.1) (ap turns_text g.1) wrote
-  report_by (Err (Run.Input (Server m))) ms last rest each are at h wrote = let g = turns_last left stays (length (concat ms)) rest last at (message_bytes m) Is.Refusal after h in reports ms rest (Some (refused (message_bytes m))) each are (ap first_fault g.1) (ap turns_text g.1) wrote
-  report_by (Err (Run.Input (Damaged place damage))) ms last rest each are at (is, inl h) wrote = let g = turns_last left stays (length (concat ms)) rest last at h.0 (Is.Damaged damage) after h.1 in reports ms rest (Some (damaged place damage)) each are (ap first_fault g.1 ∙ ap (λ (n : ℕ). Some (damaged n damage)) (sym is)) (ap turns_text g.1) wrote
-  report_by (Err (Run.Input (Damaged place damage))) ms last rest each are at (is, inr h) wrote = let g = turns_broken left stays (length (concat ms)) rest last at damage after h in reports ms rest (Some (damaged place damage)) each are (ap first_fault g ∙ ap (λ (n : ℕ). Some (damaged n damage)) (sym is)) (ap turns_text g) wrote
+  report_by (Ok done) ms last rest each are at h wrote = let g = turns_last left stays (length (concat ms)) last at h.0 after h.1 in reports ms rest None each are (ap first_fault g.1) (ap turns_text g.1) wrote
+  report_by (Err (Run.Input (Server m))) ms last rest each are at h wrote = let g = turns_last left stays (length (concat ms)) last at (message_bytes m) after h in reports ms rest (Some (refused (message_bytes m))) each are (ap first_fault g.1) (ap turns_text g.1) wrote
+  report_by (Err (Run.Input (Damaged place damage))) ms last rest each are at (is, inl h) wrote = let g = turns_last left stays (length (concat ms)) last at h.0 after h.1 in reports ms rest (Some (damaged place damage)) each are (ap first_fault g.1 ∙ ap (λ (n : ℕ). Some (damaged n damage)) (sym is)) (ap turns_text g.1) wrote
+  report_by (Err (Run.Input (Damaged place damage))) ms last rest each are at (is, inr h) wrote = let g = turns_broken left stays (length (concat ms)) last at damage after h in reports ms rest (Some (damaged place damage)) each are (ap first_fault g ∙ ap (λ (n : ℕ). Some (damaged n damage)) (sym is)) (ap turns_text g) wrote
   report_by (Err Run.Read) ms last rest each are at h wrote = tt
   report_by (Err Run.Memory) ms last rest each are at h wrote = tt
   report_by (Err Run.Write) ms last rest each are at h wrote = tt
 
-  pub is_report : (outcome : Result (Unit {0}) (RunFault PgInput)) → ComesTo left stays input after failed written now output outcome → IsReportOf (turns_of 0 bytes) written now outcome
-  is_report outcome c =
-      let k = known_left (left input) (left c.last) (concat c.messages) bytes known (consumes_given left stays (concat c.messages) input c.last c.given) in
-      report_by outcome c.messages c.last k.0 c.each k.2 k.1 c.reads c.writes
+pub is_report : {R W : Type 0} {left : R → Option (List ℕ)} {stays : Bool → R → R → Type 0} {failed : W → Type 0} {input after : R} {written now : Option (List ℕ)} {output : W} {bytes : List ℕ} {outcome : Result (Unit {0}) (RunFault PgInput)} → left input ≡ Some bytes → ComesTo left stays input after failed written now output outcome → IsReportOf (turns_of 0 bytes) written now outcome
+is_report {left = left} {stays = stays} {failed = failed} {input = input} {after = after} {written = written} {now = now} {output = output} {bytes = bytes} {outcome = outcome} known c =
+    let k = known_left (left input) (left c.last) (concat c.messages) bytes known (consumes_given left stays (concat c.messages) input c.last c.given) in
+    report_by left stays failed input after written now output bytes known outcome c.messages c.last k.0 c.each k.2 k.1 c.reads c.writes

@@ -53,8 +53,8 @@ first_failure (Ok cell ∷ cells) rest damage h = absurd h.0
 first_failure (Err d ∷ cells) rest damage h = refl
 
 -- what was written, and then the last of the text
-pub appends_rest : (a b c : Option (List ℕ)) (text last all : List ℕ) → Appends a b text → all ≡ text ++ last → Appends b c last → Appends a c all
-appends_rest a b c text last all before is after = subst (Appends a c) (sym is) (Appends-trans a b c text last before after)
+pub appends_rest : {all : List ℕ} (a b c : Option (List ℕ)) (text last : List ℕ) → Appends a b text → all ≡ text ++ last → Appends b c last → Appends a c all
+appends_rest a b c text last before is after = subst (Appends a c) (sym is) (Appends-trans a b c text last before after)
 
 pub appends_none : (a : Option (List ℕ)) (all : List ℕ) → all ≡ [] → Appends a a all
 appends_none a all is = subst (Appends a a) (sym is) (Appends-nil a)

@@ -33,10 +33,10 @@ module _ {R : Type 0} (left : R → Option (List ℕ)) (stays : Bool → R → R
   consumes_given [] r q h = subst (λ (z : R). Consumes (left r) (left z) []) h (Consumes-nil (left r))
   consumes_given (x ∷ xs) r q h = Consumes-trans (left r) (left h.0) (left q) (x ∷ []) xs h.1.0 (consumes_given xs h.0 q h.2)
 
-  module _ (place : ℕ) (bytes : List ℕ) (last : R) (known : left last ≡ Some bytes) where
+  module _ (place : ℕ) {bytes : List ℕ} (last : R) (known : left last ≡ Some bytes) where
     -- a message, after which nothing comes
-    pub turns_last : (m : List ℕ) (kind : Kind) (q : R) → ReadsKind left stays kind m last q → (rest : List ℕ) × (turns_of place bytes ≡ turn_by kind place m (turns_of (place + length m) rest))
-    turns_last m kind q h =
+    pub turns_last : {kind : Kind} (m : List ℕ) (q : R) → ReadsKind left stays kind m last q → (rest : List ℕ) × (turns_of place bytes ≡ turn_by kind place m (turns_of (place + length m) rest))
+    turns_last {kind = kind} m q h =
         let k = known_left (left last) (left q) m bytes known (consumes_given m last q h.1) in
         (k.0, ap (turns_of place) k.2 ∙ turns_of-message place m k.0 h.0.0 ∙ ap (λ (d : Kind). turn_by d place m (turns_of (place + length m) k.0)) h.0.1)
 
@@ -92,10 +92,10 @@ module _ {R : Type 0} (left : R → Option (List ℕ)) (stays : Bool → R → R
 
     takes_turn : (answer : Answered Row PgFault) → ReadsAnswer left stays place last answer (rows_parts t).0.0 → GoesOn place answer (rows_parts t).0.1 (rows_parts t).1 → (answer ≡ Err Memory) ⊎ TakesTurn answer t (turns_of place bytes)
     takes_turn (Ok (Some x)) h on = let g = gives_rest (row_bytes x) Is.Row h on.0 on.1 in inr (subst (TakesTurn (Ok (Some x)) t) (sym g.1) (refl, g.2))
-    takes_turn (Ok None) h on = let g = turns_last left stays place bytes last known h.0 Is.Ready (rows_parts t).0.0 h.1 in inr (subst (TakesTurn (Ok None) t) (sym g.1) refl)
+    takes_turn (Ok None) h on = let g = turns_last left stays place last known h.0 (rows_parts t).0.0 h.1 in inr (subst (TakesTurn (Ok None) t) (sym g.1) refl)
     takes_turn (Err (Server m)) h on = let g = gives_rest (message_bytes m) Is.Refusal h on.0 on.1 in inr (subst (TakesTurn (Err (Server m)) t) (sym g.1) (refl, g.2))
-    takes_turn (Err (Damaged at damage)) (is, inl h) on = let g = turns_last left stays place bytes last known h.0 (Is.Damaged damage) (rows_parts t).0.0 h.1 in inr (subst (TakesTurn (Err (Damaged at damage)) t) (sym g.1) ((is, refl), gives_none t on))
-    takes_turn (Err (Damaged at damage)) (is, inr h) on = inr (subst (TakesTurn (Err (Damaged at damage)) t) (sym (turns_broken left stays place bytes last known damage (rows_parts t).0.0 h)) ((is, refl), gives_none t on))
+    takes_turn (Err (Damaged at damage)) (is, inl h) on = let g = turns_last left stays place last known h.0 (rows_parts t).0.0 h.1 in inr (subst (TakesTurn (Err (Damaged at damage)) t) (sym g.1) ((is, refl), gives_none t on))
+    takes_turn (Err (Damaged at damage)) (is, inr h) on = inr (subst (TakesTurn (Err (Damaged at damage)) t) (sym (turns_broken left stays place last known damage (rows_parts t).0.0 h)) ((is, refl), gives_none t on))
     takes_turn (Err Read) (inl h) on = absurd (never h.1 (rows_parts t).0.0 h.3.1.1)
     takes_turn (Err Read) (inr h) on = let far = h.0 in absurd (omega (arith, far, fits))
     takes_turn (Err Memory) h on = inl refl
@@ -103,11 +103,11 @@ module _ {R : Type 0} (left : R → Option (List ℕ)) (stays : Bool → R → R
   gives_fewer : (n : ℕ) → GivesFewer n
   gives_fewer zero s r place bytes few is known fits = absurd (omega arith)
   gives_fewer (suc n) s r place bytes few is known fits = gives_by_draws s (turns_of place bytes) (λ answer t step.
-      let d = draws_bytes_of left stays (rows_parts s) (rows_parts t) r place answer is step in
+      let d = draws_bytes_of left stays (rows_parts t) r place answer is step in
       let k = known_left (left r) (left d.last) (concat d.skipped) bytes known (consumes_given left stays (concat d.skipped) r d.last d.given) in
       let long : length bytes ≡ length (concat d.skipped) + length k.0 = ap length k.2 ∙ length-append (concat d.skipped) k.0 in
       let same : turns_of place bytes ≡ turns_of (place + length (concat d.skipped)) k.0 = ap (turns_of place) k.2 ∙ turns_of-skipped place d.skipped k.0 d.each in
       subst (λ (l : List Turn). (answer ≡ Err Memory) ⊎ TakesTurn answer t l) (sym same) (takes_turn n (gives_fewer n) t (place + length (concat d.skipped)) k.0 d.last (omega (arith, long, few)) k.1 (omega (arith, long, fits)) answer d.answers d.goes_on))
 
-  pub gives_turns : (s : Rows R) (r : R) (place : ℕ) (bytes : List ℕ) → rows_parts s ≡ ((r, Some place), false) → left r ≡ Some bytes → place + length bytes ≤ 2 ^ 63 → GivesTurns steps s (turns_of place bytes)
-  gives_turns s r place bytes is known fits = gives_fewer (suc (length bytes)) s r place bytes (omega arith) is known fits
+  pub gives_turns : {r : R} {place : ℕ} {bytes : List ℕ} (s : Rows R) → rows_parts s ≡ ((r, Some place), false) → left r ≡ Some bytes → place + length bytes ≤ 2 ^ 63 → GivesTurns steps s (turns_of place bytes)
+  gives_turns {r = r} {place = place} {bytes = bytes} s is known fits = gives_fewer (suc (length bytes)) s r place bytes (omega arith) is known fits

@@ -28,4 +28,4 @@ loop-preserved g c =
 pub returns-clause-whole : goal.returns-clause-whole
 returns-clause-whole g c =
     let inv = c.loop.invariant in
-    on_ok_then _ _ c.write_bytes-2.result (λ wrote. appends_rest _ _ _ inv.text (10 ∷ []) (further_text (shows_cells c.args.cells.now)) inv.wrote (inv.all ∙ ap (λ l. inv.text ++ l) (further_none c.loop.cells.left c.loop.cells.bytes.now (search rules))) wrote) c.write_bytes-2.ensures.whole
+    on_ok_then _ _ c.write_bytes-2.result (λ wrote. appends_rest _ _ _ inv.text (10 ∷ []) inv.wrote (inv.all ∙ ap (λ l. inv.text ++ l) (further_none c.loop.cells.left c.loop.cells.bytes.now (search rules))) wrote) c.write_bytes-2.ensures.whole
