@@ -13,7 +13,7 @@ use Rattle.fallible_json.specs.declared.fault.JsonFault.{JsonFault}
 use Rattle.fallible_json.specs.declared.lexer.LexFault.{LexFault}
 use Rattle.fallible_json.specs.declared.minifying.Misplaced.{Misplaced}
 
-pub told_faulty : {f : Misplaced (LexFault Infallible)} {r : Fault (Misplaced (LexFault Infallible))} {place : ℕ} {fault : JsonFault} (text : List ℕ) → r ≡ Source f → ComesFrom (minified text (lexed (numbered 0 (items text)))) (Err r) → place ≡ fault_place text f → fault ≡ fault_at text place → minified_text text ≡ Err fault
-told_faulty {f = f} text same made is tells =
+pub told_faulty : {r : Fault (Misplaced (LexFault Infallible))} {place : ℕ} {fault : JsonFault} (text : List ℕ) (f : Misplaced (LexFault Infallible)) → r ≡ Source f → ComesFrom (minified text (lexed (numbered 0 (items text)))) (Err r) → place ≡ fault_place text f → fault ≡ fault_at text place → minified_text text ≡ Err fault
+told_faulty text f same made is tells =
     let faulty : minified text (lexed (numbered 0 (items text))) ≡ Err f = subst (λ k. ComesFrom (minified text (lexed (numbered 0 (items text)))) (Err k)) same made in
     ap (told text) faulty ∙ sym (ap (λ z. Err z) (tells ∙ ap (fault_at text) is))

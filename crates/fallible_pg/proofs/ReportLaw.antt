@@ -12,7 +12,6 @@ use Rattle.fallible_pg.proofs.TurnLaw.{known_left, consumes_given, turns_last, t
 use Rattle.fallible_pg.proofs.TurnLemmas.{turns_of-message}
 use Rattle.fallible_pg.specs.declared.printing.PgInput.{PgInput}
 use Rattle.fallible_pg.specs.declared.printing.PgInput.TheVariants.{Server, Damaged}
-use Rattle.fallible_pg.specs.declared.rows.Kind.TheVariants as Is
 use Rattle.program_io.specs.declared.fault.RunFault.{RunFault}
 use Rattle.program_io.specs.declared.fault.RunFault.TheVariants as Run
 
