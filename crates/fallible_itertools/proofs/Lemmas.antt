@@ -47,6 +47,7 @@ pub mod Merge
 pub mod MergeBy
 pub mod Merged
 pub mod MinMax
+pub mod MinMaxBy
 pub mod OrElse
 pub mod PadUsing
 pub mod Parted

@@ -36,6 +36,7 @@ pub mod Laws
 pub mod Merge
 pub mod MergeBy
 pub mod MinMax
+pub mod MinMaxBy
 pub mod OrElse
 pub mod PadUsing
 pub mod PartitionMap

@@ -39,6 +39,7 @@ pub mod laws;
 pub mod merge;
 pub mod merge_by;
 pub mod minmax;
+mod minmax_by;
 pub mod or_else;
 pub mod pad_using;
 mod parted;
