@@ -32,6 +32,13 @@ pub fn span_above_100(readings: Vec<Result<u32, u8>>) -> Result<MinMaxResult<u32
         .minmax()
 }
 
+/// The least and the greatest reading, as `minmax` finds them, by a closure that compares two.
+pub fn span_by_order(readings: Vec<Result<u32, u8>>) -> Result<MinMaxResult<u32>, u8>
+    ensures { result ≡ minmaxed nat_cmp (results readings.items) }
+{
+    convert(readings.into_iter()).minmax_by(|x: &u32, y: &u32| Ok(x.cmp(y)))
+}
+
 /// The first of the readings with the least last digit and the last of those with the greatest, or the first failure.
 pub fn span_of_last_digits(readings: Vec<Result<u32, u8>>) -> Result<MinMaxResult<u32>, u8>
     ensures { result ≡ minmaxed_by_key nat_cmp (λ x. Ok (x % 10)) (results readings.items) }
