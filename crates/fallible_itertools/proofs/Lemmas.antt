@@ -50,6 +50,7 @@ pub mod MergeJoinBy
 pub mod MergeJoined
 pub mod Merged
 pub mod MinMax
+pub mod MinMaxBy
 pub mod OrElse
 pub mod PadUsing
 pub mod Parted

@@ -38,6 +38,7 @@ pub mod Merge
 pub mod MergeBy
 pub mod MergeJoinBy
 pub mod MinMax
+pub mod MinMaxBy
 pub mod OrElse
 pub mod PadUsing
 pub mod PartitionMap

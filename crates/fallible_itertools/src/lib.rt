@@ -40,6 +40,7 @@ pub mod merge;
 pub mod merge_by;
 pub mod merge_join_by;
 pub mod minmax;
+mod minmax_by;
 pub mod or_else;
 pub mod pad_using;
 mod parted;

@@ -3,7 +3,7 @@ ghost use Rattle.std.specs.HashMap.{get, spare};
 ghost use Rattle.std.specs.HashSet.{IsEmpty};
 ghost use Rattle.std.specs.Set.{ClonesAreEqual};
 ghost use Rattle.std.specs.Prelude.{◌≡◌, ℕ, ◌+◌, ◌≤◌, List, None, Result, ◌-◌, ◌^◌, ◌⊎◌, true, Option, Ok, Err, false, Bool, Some, IfOk, ⊤, ◌<◌, vec_items};
-ghost use Rattle.std.specs.Cmp.{IsStrictWeakOrder};
+ghost use Rattle.std.specs.Cmp.{IsStrictWeakOrder, IsTotalOrder};
 ghost use Rattle.std.specs.Fn.{ComparesAs, ComputesKey};
 ghost use Rattle.std.specs.Iterator.{IsFinite};
 ghost use Rattle.std.specs.declared.cmp.Ordering.{Ordering};
@@ -52,6 +52,7 @@ ghost use Rattle.fallible_itertools.specs.Merge.{merge_contract, merge_left, mer
 ghost use Rattle.fallible_itertools.specs.MergeBy as merge_by;
 ghost use Rattle.fallible_itertools.specs.MergeJoinBy as join_by;
 ghost use Rattle.fallible_itertools.specs.MinMax.{MinMaxDrains, minmaxed, or_less};
+ghost use Rattle.fallible_itertools.specs.MinMaxBy.{MinMaxCall, MinMaxKeyCall, MinMaxKeyDrains, minmaxed_by, minmaxed_by_key, takes_beside};
 ghost use Rattle.fallible_itertools.specs.PadUsing as pad_using;
 ghost use Rattle.fallible_itertools.specs.PositionBest.{PlaceDrains, position_greatest, position_least};
 ghost use Rattle.fallible_itertools.specs.Positions.{positions_contract, positions_parts, positions_source, positions_where};
@@ -78,6 +79,7 @@ ghost use Rattle.fallible_itertools.specs.ZipEq as zip_eq;
 ghost use Rattle.fallible_itertools.specs.ZipLongest as zip_longest;
 ghost use Rattle.fallible_itertools.specs.declared.exactly_one.NotOne.TheVariants.{More};
 ghost use Rattle.fallible_itertools.specs.declared.fold_while.FoldWhile.TheVariants.{Done};
+ghost use Rattle.fallible_itertools.specs.declared.minmax.MinMaxResult.TheVariants.{NoElements};
 
 use crate::all_unique::{AllUniqueTurn, unique_or_fault};
 use crate::checked_sum::{CheckedTotal, ProductTurn, SumTurn, total_or_none};
@@ -112,6 +114,7 @@ use crate::merge::Merge;
 use crate::merge_by::MergeBy;
 use crate::merge_join_by::MergeJoinBy;
 use crate::minmax::{MinMaxResult, MinMaxTurn, lesser_first};
+use crate::minmax_by::{MinMaxByTurn, MinMaxKeyTurn, items_alone, kept_or_failure};
 use crate::or_else::OrElse;
 use crate::pad_using::PadUsing;
 use crate::parted::{Parted, without_fault};
@@ -1721,6 +1724,85 @@ pub trait FallibleItertools: FallibleIterator {
             Ok(Some(never)) => match never {},
             Err(e) => Err(e),
         }
+    }
+
+    /// Returns the first of the least items and the last of the greatest by the closure, in one pass. For one item it returns `OneElement`, for none `NoElements`.
+    ///
+    /// The closure is called on the first item and the second. From then on it is called on the least item so far and the next one. If the least isn't greater, it is called on the greatest so far and that item. An item takes the place of the least if the least is greater, and otherwise that of the greatest, unless the greatest is greater.
+    ///
+    /// It draws up to the first item on which the closure fails, the first failure or `Ok(None)`. It fails with the first failure, of this iterator or of the closure. It consumes the iterator.
+    ///
+    /// Precondition: the iterator is finite.
+    ///
+    /// Requires: `next` may be called, and the closure may be called on what is kept so far and each item that may come.
+    ///
+    /// Proof: no clause says what is left.
+    ///
+    /// ```
+    /// let pairs = [Ok::<(u32, char), u8>((3, 'a')), Ok((1, 'b')), Ok((3, 'c')), Ok((1, 'd'))];
+    /// let ends = convert(pairs.into_iter()).minmax_by(|x, y| Ok(x.0.cmp(&y.0)));
+    /// assert_eq!(rt; ends, Ok(MinMaxResult::MinMax((1, 'b'), (3, 'c'))));
+    /// ```
+    final fn minmax_by<F>(mut self, f: F) -> Result<MinMaxResult<Self::Item>, Self::Error>
+    where
+        Self::Item: Drop,
+        F: FnMut(&Self::Item, &Self::Item) -> Result<Ordering, Self::Error>,
+        requires can_next { Self.contract.can_next self }
+        requires finite { Self.contract.is_finite self }
+        requires callable { fold.CallableInFold Self.contract.steps
+            (MinMaxCall (call_at_two F.FnMut))
+            (takes_beside (call_at_two F.FnMut) (takes_at_two F.FnMut)) self f NoElements }
+        ensures folded { (left : Self)
+            × fold.FoldDrains Self.contract.steps (MinMaxCall (call_at_two F.FnMut)) (λ e d. d ≡ e)
+            self NoElements f result left }
+        ensures value { OverListWith (list.ActsWith (call_at_two F.FnMut) f) Self.contract.steps self
+            (λ h l. result ≡ minmaxed_by h l) }
+        ensures order { (cmp : Self.Item → Self.Item → Ordering) → IsTotalOrder cmp
+            → list.ActsWith (call_at_two F.FnMut) f (λ x y. Ok (cmp x y))
+            → OverList Self.contract.steps self (λ l. result ≡ minmaxed cmp l) }
+    {
+        let mut state = (MinMaxResult::NoElements, f);
+        let answer = self.drive(&mut state, &MinMaxByTurn);
+        let (kept, _) = state;
+        kept_or_failure(answer, kept)
+    }
+
+    /// Returns the first of the items with the least key and the last of those with the greatest, in one pass. For one item it returns `OneElement`, for none `NoElements`. The closure is called once on each item, in order, and returns its key.
+    ///
+    /// It draws up to the first item on which the closure fails, the first failure or `Ok(None)`. It fails with the first failure, of this iterator or of the closure. It consumes the iterator.
+    ///
+    /// Precondition: the iterator is finite.
+    ///
+    /// Requires: `next` may be called, and the closure may be called on each item that may come.
+    ///
+    /// Proof: no clause says what is left.
+    ///
+    /// ```
+    /// let words = [Ok::<&str, u8>("to"), Ok("the"), Ok("sea"), Ok("at")];
+    /// assert_eq!(rt;
+    ///     convert(words.into_iter()).minmax_by_key(|word| Ok(word.len())),
+    ///     Ok(MinMaxResult::MinMax("to", "sea"))
+    /// );
+    /// ```
+    final fn minmax_by_key<K, F>(mut self, f: F) -> Result<MinMaxResult<Self::Item>, Self::Error>
+    where
+        Self::Item: Drop,
+        K: Ord + Drop,
+        F: FnMut(&Self::Item) -> Result<K, Self::Error>,
+        requires can_next { Self.contract.can_next self }
+        requires finite { Self.contract.is_finite self }
+        requires callable { fold.CallableInFold Self.contract.steps
+            (MinMaxKeyCall K.cmp (call_by_reference F.FnMut))
+            (λ g c x. takes_by_reference F.FnMut g x) self f NoElements }
+        ensures folded { MinMaxKeyDrains K.cmp (call_by_reference F.FnMut) Self.contract.steps self f
+            result }
+        ensures value { OverListWith (list.Acts (call_by_reference F.FnMut) f) Self.contract.steps self
+            (λ h l. result ≡ minmaxed_by_key K.cmp h l) }
+    {
+        let mut state = (MinMaxResult::NoElements, f);
+        let answer = self.drive(&mut state, &MinMaxKeyTurn);
+        let (kept, _) = state;
+        kept_or_failure(answer, items_alone(kept))
     }
 
     /// Returns how often each item comes, as a map. A key is the first of equal items, its value the number of items equal to it.

@@ -541,6 +541,56 @@ fn minmax_draws_twice_and_then_folds(rt: HostRuntime) {
     assert_eq!(rt; (extremes, log.take()), EXTREMES_OF_NONE);
 }
 
+// The extremes, the pairs that the closure was called on in order, two digits each, and the calls that come for it.
+type ExtremesAsked = (Result<MinMaxResult<u32>, u32>, u32, Calls);
+
+const EXTREMES_ASKED: ExtremesAsked = (Ok(MinMax(1, 4)), 32_211_434, ONE_FOLD);
+
+const ONE_ASKED: ExtremesAsked = (Ok(MinMaxResult::OneElement(2)), 0, ONE_FOLD);
+
+// It compares the first two items, then the least with the next one, and the greatest where the least isn't greater.
+#[test]
+fn minmax_by_is_one_fold(rt: HostRuntime) {
+    let log = Log::new();
+    let mut asked: u32 = 0;
+    let compare = |x: &u32, y: &u32| {
+        asked = asked
+            .wrapping_mul(100)
+            .wrapping_add(x.wrapping_mul(10))
+            .wrapping_add(*y);
+        Ok(x.cmp(y))
+    };
+    let extremes = counted(&[Ok(3), Ok(2), Ok(1), Ok(4)], &log).minmax_by(compare);
+    assert_eq!(rt; (extremes, asked, log.take()), EXTREMES_ASKED);
+}
+
+#[test]
+fn minmax_by_compares_no_item_alone(rt: HostRuntime) {
+    let log = Log::new();
+    let mut asked: u32 = 0;
+    let compare = |x: &u32, y: &u32| {
+        asked = asked.wrapping_add(1);
+        Ok(x.cmp(y))
+    };
+    let extremes = counted(&[Ok(2)], &log).minmax_by(compare);
+    assert_eq!(rt; (extremes, asked, log.take()), ONE_ASKED);
+}
+
+const EXTREMES_KEYED: ExtremesAsked = (Ok(MinMax(1, 4)), 3_214, ONE_FOLD);
+
+// It is called once on each item, in order.
+#[test]
+fn minmax_by_key_is_one_fold(rt: HostRuntime) {
+    let log = Log::new();
+    let mut asked: u32 = 0;
+    let key = |x: &u32| {
+        asked = asked.wrapping_mul(10).wrapping_add(*x);
+        Ok(*x)
+    };
+    let extremes = counted(&[Ok(3), Ok(2), Ok(1), Ok(4)], &log).minmax_by_key(key);
+    assert_eq!(rt; (extremes, asked, log.take()), EXTREMES_KEYED);
+}
+
 type AtMostOne = (Result<Result<Option<u32>, (u32, u32)>, u32>, Calls);
 
 type ExactlyOne = (Result<Result<u32, NotOne<u32>>, u32>, Calls);

@@ -40,20 +40,20 @@ module _ {A E : Type 0} (keeps : Ordering) (by : A → A → Ordering) where
   folded_failed (x ∷ items) (Some b) e rest = folded_failed items (Some (better keeps (by b x) b x)) e rest
 
 module _ {A : Type 0} {cmp : A → A → Ordering} (o : IsTotalOrder cmp) where
-  abbrev or_less_by : A → A → Ordering
+  abbrev pub or_less_by : A → A → Ordering
   or_less_by x y = or_less (cmp x y)
 
   is_gt_reversed : (x y : A) → cmp x y ≡ Greater → is_gt (cmp y x) ≡ false
   is_gt_reversed x y e = ap is_gt (o.antisymm y x ∙ ap ordering_reverse e)
 
   -- what is kept are the least and the greatest, and the least isn't greater
-  abbrev MinMaxStep : A → A → A → Ordering → Ordering → MinMaxResult A → Type 0
+  abbrev pub MinMaxStep : A → A → A → Ordering → Ordering → MinMaxResult A → Type 0
   MinMaxStep a b x p q d = (d ≡ MinMax (better Less (or_less p) a x) (better Greater q b x)) × (is_gt (cmp (better Less (or_less p) a x) (better Greater q b x)) ≡ false)
 
   not_less_alone : (a b x : A) → is_gt (cmp a b) ≡ false → cmp a x ≡ Greater → is_gt (cmp b x) ≡ false → ⊥
   not_less_alone a b x inv p q = let h = sym (ap is_gt p) ∙ upto o a b x inv q in cc
 
-  min_max_step_of_item : (p q : Ordering) (a b x : A) → cmp a x ≡ p → cmp b x ≡ q → is_gt (cmp a b) ≡ false → MinMaxStep a b x p q (cond (is_gt p) (MinMax x b) (cond (is_gt q) (MinMax a b) (MinMax a x)))
+  pub min_max_step_of_item : (p q : Ordering) (a b x : A) → cmp a x ≡ p → cmp b x ≡ q → is_gt (cmp a b) ≡ false → MinMaxStep a b x p q (cond (is_gt p) (MinMax x b) (cond (is_gt q) (MinMax a b) (MinMax a x)))
   min_max_step_of_item Greater Greater a b x e f inv = (refl, is_gt_reversed b x f)
   min_max_step_of_item Greater Less a b x e f inv = absurd (not_less_alone a b x inv e (ap is_gt f))
   min_max_step_of_item Greater Equal a b x e f inv = absurd (not_less_alone a b x inv e (ap is_gt f))
@@ -64,7 +64,7 @@ module _ {A : Type 0} {cmp : A → A → Ordering} (o : IsTotalOrder cmp) where
   min_max_step_of_item Equal Less a b x e f inv = (refl, ap is_gt e)
   min_max_step_of_item Equal Equal a b x e f inv = (refl, ap is_gt e)
 
-  step_from_one : (p : Ordering) (a x : A) → cmp a x ≡ p → MinMaxStep a a x p p (cond (is_gt p) (MinMax x a) (MinMax a x))
+  pub step_from_one : (p : Ordering) (a x : A) → cmp a x ≡ p → MinMaxStep a a x p p (cond (is_gt p) (MinMax x a) (MinMax a x))
   step_from_one Less a x e = (refl, ap is_gt e)
   step_from_one Equal a x e = (refl, ap is_gt e)
   step_from_one Greater a x e = (refl, is_gt_reversed a x e)
