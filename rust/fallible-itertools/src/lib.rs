@@ -86,7 +86,10 @@ pub mod merge;
 #[doc(hidden)]
 pub mod merge_by;
 #[doc(hidden)]
+pub mod merge_join_by;
+#[doc(hidden)]
 pub mod minmax;
+mod minmax_by;
 #[doc(hidden)]
 pub mod or_else;
 #[doc(hidden)]
@@ -117,6 +120,9 @@ pub mod tuples;
 #[cfg(feature = "std")]
 #[doc(hidden)]
 pub mod unique;
+#[cfg(feature = "std")]
+#[doc(hidden)]
+pub mod unique_by;
 mod until_failure;
 #[doc(hidden)]
 pub mod with_position;
@@ -149,6 +155,7 @@ pub use intersperse::Intersperse;
 pub use intersperse_with::IntersperseWith;
 pub use merge::Merge;
 pub use merge_by::MergeBy;
+pub use merge_join_by::MergeJoinBy;
 pub use minmax::MinMaxResult;
 pub use or_else::OrElse;
 pub use pad_using::PadUsing;
@@ -162,6 +169,8 @@ pub use tuple_windows::TupleWindows;
 pub use tuples::Tuples;
 #[cfg(feature = "std")]
 pub use unique::Unique;
+#[cfg(feature = "std")]
+pub use unique_by::UniqueBy;
 pub use with_position::{Position, WithPosition};
 pub use zip_eq::ZipEq;
 pub use zip_longest::{EitherOrBoth, ZipLongest};

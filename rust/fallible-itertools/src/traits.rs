@@ -38,7 +38,9 @@ use crate::join::JoinTurn;
 use crate::keyed::Keyed;
 use crate::merge::Merge;
 use crate::merge_by::MergeBy;
+use crate::merge_join_by::MergeJoinBy;
 use crate::minmax::{MinMaxResult, MinMaxTurn, lesser_first};
+use crate::minmax_by::{MinMaxByTurn, MinMaxKeyTurn, items_alone, kept_or_failure};
 use crate::or_else::OrElse;
 use crate::pad_using::PadUsing;
 use crate::parted::Parted;
@@ -54,6 +56,8 @@ use crate::tuple_windows::TupleWindows;
 use crate::tuples::Tuples;
 #[cfg(feature = "std")]
 use crate::unique::Unique;
+#[cfg(feature = "std")]
+use crate::unique_by::UniqueBy;
 use crate::until_failure::{PushTurn, with_failure};
 use crate::with_position::WithPosition;
 use crate::zip_eq::ZipEq;
@@ -1505,6 +1509,70 @@ pub trait FallibleItertools: FallibleIterator + Sized {
         }
     }
 
+    /// Joins the items of both sides in order, as a closure compares an item of each: `Less` yields this side's alone (`Left`), `Greater` the other's alone (`Right`), and `Equal` both together (`Both`). Once one side returned `Ok(None)`, the items of the other come alone, without a call.
+    ///
+    /// Creating it draws nothing. `next` draws this side once if no item of it is buffered. Then, unless that failed, it draws `other` once if no item of that is buffered. Of two items it calls the closure once, and buffers the one that isn't yielded. Each side is fused: once it returned `Ok(None)` it isn't drawn again. It fails as this iterator does, or else as `other` does, or else as the closure does. A failure of a side loses nothing: what is buffered stays, and the item of this side beside a failure of `other` is buffered. If the closure fails, its failure is yielded, and the two items that it was called on are lost. Its folds draw as `next` does. Bounds of both sides, added up, bound it.
+    ///
+    /// ```
+    /// # use fallible_iterator::{FallibleIterator, convert};
+    /// # use fallible_itertools::EitherOrBoth;
+    /// # use fallible_itertools::FallibleItertools;
+    /// let ours = convert([Ok::<u32, u8>(1), Ok(3)].into_iter());
+    /// let theirs = convert([Ok(3), Ok(4)].into_iter());
+    /// let mut it = ours.merge_join_by(theirs, |x, y| Ok(x.cmp(y)));
+    /// assert_eq!(it.next(), Ok(Some(EitherOrBoth::Left(1))));
+    /// assert_eq!(it.next(), Ok(Some(EitherOrBoth::Both(3, 3))));
+    /// assert_eq!(it.next(), Ok(Some(EitherOrBoth::Right(4))));
+    /// assert_eq!(it.next(), Ok(None));
+    /// ```
+    ///
+    /// <details><summary>Contract</summary>
+    ///
+    /// As it is proved, in [these words](crate::words):
+    ///
+    /// ```text
+    /// requires { (right : I.IntoFallibleIter) → I.into_gives other right
+    ///     → IsCallable (merge_by.call_on_two (join_by.call_at_both F.FnMut))
+    ///     (λ g z. join_by.takes_at_both F.FnMut g z.0 z.1) (λ z. Self.contract.may_give self z.0
+    ///     × I.IntoFallibleIter.contract.may_give right z.1) f }
+    /// ensures left { join_by.merge_join_by_left result ≡ self }
+    /// ensures left_ended { join_by.merge_join_by_left_ended result ≡ false }
+    /// ensures left_held { join_by.merge_join_by_left_held result ≡ None }
+    /// ensures right { I.into_gives other (join_by.merge_join_by_right result) }
+    /// ensures right_ended { join_by.merge_join_by_right_ended result ≡ false }
+    /// ensures right_held { join_by.merge_join_by_right_held result ≡ None }
+    /// ensures closure { join_by.merge_join_by_closure result ≡ f }
+    /// ensures bounded { (a b k : ℕ) → Self.contract.bound self a
+    ///     → I.IntoFallibleIter.contract.bound (join_by.merge_join_by_right result) b → a + b ≤ k
+    ///     → AtMost (seen_as join_by.merge_join_by_parts (join_by.merge_join_by_contract
+    ///     Self.contract I.IntoFallibleIter.contract F.FnMut)) result k }
+    /// ensures lists { (h : Self.Item → I.Item → Result Ordering Self.Error)
+    ///     → list.ActsWith (join_by.call_at_both F.FnMut) f h
+    ///     → OverBoth Self.contract.steps self I.into_gives other
+    ///     I.IntoFallibleIter.contract.steps
+    ///     (λ a b. list.Lists (seen_as join_by.merge_join_by_parts
+    ///     (join_by.merge_join_by_contract Self.contract
+    ///     I.IntoFallibleIter.contract F.FnMut)).steps result (join_by.merge_joined h a b)) }
+    /// ```
+    /// </details>
+    fn merge_join_by<I, F>(self, other: I, f: F) -> MergeJoinBy<Self, I::IntoFallibleIter, F>
+    where
+        I: IntoFallibleIterator<Error = Self::Error>,
+        F: FnMut(&Self::Item, &I::Item) -> Result<Ordering, Self::Error>,
+    {
+        MergeJoinBy {
+            left: Holding {
+                it: self.fuse(),
+                held: None,
+            },
+            right: Holding {
+                it: other.into_fallible_iter().fuse(),
+                held: None,
+            },
+            f,
+        }
+    }
+
     /// Pairs the items of both sides by their positions, up to `Ok(None)` of both. If one side returns `Ok(None)` where the other has an item, that item stands alone.
     ///
     /// Creating it draws nothing. `next` draws this side once if no item of it is buffered. Then, unless that failed, it draws `other` once, also after an `Ok(None)` of this side. Each side is fused: once it returned `Ok(None)` it isn't drawn again. It fails as this iterator does, or else as `other` does. A failure of `other` loses nothing: the item of this side is buffered, and the next call draws `other` alone. Its folds draw as `next` does. Bounds of both sides, added up, bound it.
@@ -1921,6 +1989,98 @@ pub trait FallibleItertools: FallibleIterator + Sized {
             Ok(Some(never)) => match never {},
             Err(e) => Err(e),
         }
+    }
+
+    /// Returns the first of the least items and the last of the greatest by the closure, in one pass. For one item it returns `OneElement`, for none `NoElements`.
+    ///
+    /// The closure is called on the first item and the second. From then on it is called on the least item so far and the next one. If the least isn't greater, it is called on the greatest so far and that item. An item takes the place of the least if the least is greater, and otherwise that of the greatest, unless the greatest is greater.
+    ///
+    /// It draws up to the first item on which the closure fails, the first failure or `Ok(None)`. It fails with the first failure, of this iterator or of the closure. It consumes the iterator.
+    ///
+    /// Precondition, which is not checked: the iterator is finite.
+    ///
+    /// ```
+    /// # use fallible_iterator::{FallibleIterator, convert};
+    /// # use fallible_itertools::DoubleEndedFallibleItertools;
+    /// # use fallible_itertools::FallibleItertools;
+    /// # use fallible_itertools::MinMaxResult;
+    /// let pairs = [Ok::<(u32, char), u8>((3, 'a')), Ok((1, 'b')), Ok((3, 'c')), Ok((1, 'd'))];
+    /// let ends = convert(pairs.into_iter()).minmax_by(|x, y| Ok(x.0.cmp(&y.0)));
+    /// assert_eq!(ends, Ok(MinMaxResult::MinMax((1, 'b'), (3, 'c'))));
+    /// ```
+    ///
+    /// <details><summary>Contract</summary>
+    ///
+    /// As it is proved, in [these words](crate::words):
+    ///
+    /// ```text
+    /// requires can_next { Self.contract.can_next self }
+    /// requires finite { Self.contract.is_finite self }
+    /// requires callable { fold.CallableInFold Self.contract.steps
+    ///     (MinMaxCall (call_at_two F.FnMut))
+    ///     (takes_beside (call_at_two F.FnMut) (takes_at_two F.FnMut)) self f NoElements }
+    /// ensures folded { (left : Self)
+    ///     × fold.FoldDrains Self.contract.steps (MinMaxCall (call_at_two F.FnMut)) (λ e d. d ≡ e)
+    ///     self NoElements f result left }
+    /// ensures value { OverListWith (list.ActsWith (call_at_two F.FnMut) f) Self.contract.steps self
+    ///     (λ h l. result ≡ minmaxed_by h l) }
+    /// ensures order { (cmp : Self.Item → Self.Item → Ordering) → IsTotalOrder cmp
+    ///     → list.ActsWith (call_at_two F.FnMut) f (λ x y. Ok (cmp x y))
+    ///     → OverList Self.contract.steps self (λ l. result ≡ minmaxed cmp l) }
+    /// ```
+    /// </details>
+    fn minmax_by<F>(mut self, f: F) -> Result<MinMaxResult<Self::Item>, Self::Error>
+    where
+        F: FnMut(&Self::Item, &Self::Item) -> Result<Ordering, Self::Error>,
+    {
+        let mut state = (MinMaxResult::NoElements, f);
+        let answer = self.drive(&mut state, &MinMaxByTurn);
+        let (kept, _) = state;
+        kept_or_failure(answer, kept)
+    }
+
+    /// Returns the first of the items with the least key and the last of those with the greatest, in one pass. For one item it returns `OneElement`, for none `NoElements`. The closure is called once on each item, in order, and returns its key.
+    ///
+    /// It draws up to the first item on which the closure fails, the first failure or `Ok(None)`. It fails with the first failure, of this iterator or of the closure. It consumes the iterator.
+    ///
+    /// Precondition, which is not checked: the iterator is finite.
+    ///
+    /// ```
+    /// # use fallible_iterator::{FallibleIterator, convert};
+    /// # use fallible_itertools::DoubleEndedFallibleItertools;
+    /// # use fallible_itertools::FallibleItertools;
+    /// # use fallible_itertools::MinMaxResult;
+    /// let words = [Ok::<&str, u8>("to"), Ok("the"), Ok("sea"), Ok("at")];
+    /// assert_eq!(convert(words.into_iter()).minmax_by_key(|word| Ok(word.len())),
+    ///     Ok(MinMaxResult::MinMax("to", "sea"))
+    /// );
+    /// ```
+    ///
+    /// <details><summary>Contract</summary>
+    ///
+    /// As it is proved, in [these words](crate::words):
+    ///
+    /// ```text
+    /// requires can_next { Self.contract.can_next self }
+    /// requires finite { Self.contract.is_finite self }
+    /// requires callable { fold.CallableInFold Self.contract.steps
+    ///     (MinMaxKeyCall K.cmp (call_by_reference F.FnMut))
+    ///     (λ g c x. takes_by_reference F.FnMut g x) self f NoElements }
+    /// ensures folded { MinMaxKeyDrains K.cmp (call_by_reference F.FnMut) Self.contract.steps self f
+    ///     result }
+    /// ensures value { OverListWith (list.Acts (call_by_reference F.FnMut) f) Self.contract.steps self
+    ///     (λ h l. result ≡ minmaxed_by_key K.cmp h l) }
+    /// ```
+    /// </details>
+    fn minmax_by_key<K, F>(mut self, f: F) -> Result<MinMaxResult<Self::Item>, Self::Error>
+    where
+        K: Ord,
+        F: FnMut(&Self::Item) -> Result<K, Self::Error>,
+    {
+        let mut state = (MinMaxResult::NoElements, f);
+        let answer = self.drive(&mut state, &MinMaxKeyTurn);
+        let (kept, _) = state;
+        kept_or_failure(answer, items_alone(kept))
     }
 
     /// Returns how often each item comes, as a map. A key is the first of equal items, its value the number of items equal to it.
@@ -2812,6 +2972,51 @@ pub trait FallibleItertools: FallibleIterator + Sized {
         Unique {
             it: self,
             seen: HashSet::new(),
+        }
+    }
+
+    /// Yields each item whose key equals none before it: the first item of each key. The closure makes the key of a reference to the item.
+    ///
+    /// Creating it draws nothing, calls nothing and allocates nothing. `next` draws up to an item whose key equals that of none that was yielded, a failure or an `Ok(None)`. It calls the closure once on each item that it draws. A set has the keys of the items that were yielded; nothing is cloned. It fails as the source does, and as the closure does. A failure parts nothing. After a failure or an `Ok(None)` the set stays.
+    ///
+    /// If the closure fails, its failure is yielded, the item is lost, and no other.
+    ///
+    /// ```
+    /// # use fallible_iterator::{FallibleIterator, convert};
+    /// # use fallible_itertools::FallibleItertools;
+    /// # use fallible_itertools::PeekingNext;
+    /// let readings = [Ok::<u32, u8>(7), Ok(150), Ok(17)];
+    /// let mut it = convert(readings.into_iter())
+    ///     .unique_by(|reading| Ok(*reading % 10));
+    /// let drawn = [it.next(), it.next(), it.next()];
+    /// assert_eq!(drawn, [Ok(Some(7)), Ok(Some(150)), Ok(None)]);
+    /// ```
+    ///
+    /// <details><summary>Contract</summary>
+    ///
+    /// As it is proved, where its signature is another, in [these words](crate::words):
+    ///
+    /// ```text
+    /// requires callable { IsCallable (call_by_reference F.FnMut) (takes_by_reference F.FnMut)
+    ///     (Self.contract.may_give self) f }
+    /// ensures parts { unique_by.unique_by_source result ≡ self }
+    /// ensures empty { IsEmpty (unique_by.unique_by_keys result) }
+    /// ensures closure { unique_by.unique_by_closure result ≡ f }
+    /// ensures lists { OverListWith (list.Acts (call_by_reference F.FnMut) f) Self.contract.steps
+    ///     self (λ h l. ListsMade (λ x y. y ≡ x) (seen_as unique_by.unique_by_parts
+    ///     (unique_by.unique_by_contract K.eq Self.Error.from_gives Self.contract F.FnMut)).steps
+    ///     Self.Error.from_gives result (unique_by.unique_by_key K.eq h l)) }
+    /// ```
+    /// </details>
+    #[cfg(feature = "std")]
+    fn unique_by<K, F>(self, f: F) -> UniqueBy<Self, K, F>
+    where
+        K: Eq + Hash,
+        F: FnMut(&Self::Item) -> Result<K, Self::Error>,
+    {
+        UniqueBy {
+            it: self,
+            keying: (HashSet::new(), f),
         }
     }
 }

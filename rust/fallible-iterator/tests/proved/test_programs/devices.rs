@@ -19,6 +19,24 @@ impl Read for BrokenReader<'_> {
     }
 }
 
+// Yields its bytes, at most so many a read, and is interrupted before each read.
+pub(crate) struct PieceReader<'a> {
+    pub(crate) bytes: &'a [u8],
+    pub(crate) most: usize,
+    pub(crate) interrupted: bool,
+}
+
+impl Read for PieceReader<'_> {
+    fn read(&mut self, buf: &mut [u8]) -> io::Result<usize> {
+        self.interrupted = !self.interrupted;
+        if self.interrupted {
+            return Err(io::Error::from(ErrorKind::Interrupted));
+        }
+        let most = self.most.min(buf.len());
+        Read::read(&mut self.bytes, &mut buf[..most])
+    }
+}
+
 // Takes so many bytes, one at a time, and then fails.
 pub(crate) struct BrokenWriter {
     pub(crate) room: usize,

@@ -4,9 +4,8 @@ use fallible_iterator::memory::AllocError;
 use crate::fallible_table::report::run;
 use crate::fallible_table::table::TableFault;
 use crate::program_io::fault::{RunFault, fault_line};
-use crate::test_programs::devices::{BrokenReader, BrokenWriter};
-use std::io;
-use std::io::{ErrorKind, Read};
+use crate::test_programs::devices::{BrokenReader, BrokenWriter, PieceReader};
+use std::io::ErrorKind;
 
 // Three records: 1 to 258, 513 to 512, and 7 to 65536.
 const TABLE: [u8; 24] = [
@@ -14,24 +13,6 @@ const TABLE: [u8; 24] = [
     1, 2, 0, 0, 0, 2, 0, 0, //
     7, 0, 0, 0, 0, 0, 1, 0,
 ];
-
-// Yields its bytes, at most so many a read, and is interrupted before each read.
-struct PieceReader<'a> {
-    bytes: &'a [u8],
-    most: usize,
-    interrupted: bool,
-}
-
-impl Read for PieceReader<'_> {
-    fn read(&mut self, buf: &mut [u8]) -> io::Result<usize> {
-        self.interrupted = !self.interrupted;
-        if self.interrupted {
-            return Err(io::Error::from(ErrorKind::Interrupted));
-        }
-        let most = self.most.min(buf.len());
-        Read::read(&mut self.bytes, &mut buf[..most])
-    }
-}
 
 // What `run` returns over these bytes, where a read fails after them.
 fn run_on_broken(bytes: &[u8], kind: ErrorKind) -> Result<(), RunFault<TableFault>> {

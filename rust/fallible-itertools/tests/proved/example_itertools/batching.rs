@@ -63,3 +63,24 @@ pub fn unique_readings(readings: Vec<Result<u32, NoBatch>>) -> Result<Vec<u32>, 
 pub fn different_readings(readings: Vec<Result<u32, NoBatch>>) -> Result<usize, NoBatch> {
     convert(readings.into_iter()).unique().count()
 }
+
+/// The first reading of each ten, or the first failure, up to an allocation failure.
+pub fn first_readings_of_tens(readings: Vec<Result<u32, NoBatch>>) -> Result<Vec<u32>, NoBatch> {
+    convert(readings.into_iter())
+        .unique_by(|reading| Ok(*reading / 10))
+        .collect()
+}
+
+/// How many tens the readings are in, or the first failure, or an allocation failure.
+pub fn tens_of_readings(readings: Vec<Result<u32, NoBatch>>) -> Result<usize, NoBatch> {
+    convert(readings.into_iter())
+        .unique_by(|reading| Ok(*reading / 10))
+        .count()
+}
+
+/// How many lengths the words have, or the first failure, or an allocation failure.
+pub fn lengths_of_words<'a>(words: Vec<Result<&'a [u8], NoBatch>>) -> Result<usize, NoBatch> {
+    convert(words.into_iter())
+        .unique_by(|word| Ok(word.len()))
+        .count()
+}

@@ -14,6 +14,28 @@ pub fn span_above_100(readings: Vec<Result<u32, u8>>) -> Result<MinMaxResult<u32
         .minmax()
 }
 
+/// The least and the greatest reading, as `minmax` finds them, by a closure that compares two.
+pub fn span_by_order(readings: Vec<Result<u32, u8>>) -> Result<MinMaxResult<u32>, u8> {
+    convert(readings.into_iter()).minmax_by(|x: &u32, y: &u32| Ok(x.cmp(y)))
+}
+
+/// The first of the readings with the least last digit and the last of those with the greatest, or the first failure.
+pub fn span_of_last_digits(readings: Vec<Result<u32, u8>>) -> Result<MinMaxResult<u32>, u8> {
+    convert(readings.into_iter()).minmax_by_key(|reading: &u32| Ok(*reading % 10))
+}
+
+/// The same, by a closure that compares the last digits of two readings.
+pub fn span_by_last_digits(readings: Vec<Result<u32, u8>>) -> Result<MinMaxResult<u32>, u8> {
+    convert(readings.into_iter()).minmax_by(|x: &u32, y: &u32| Ok((*x % 10).cmp(&(*y % 10))))
+}
+
+/// The first of the shortest rows and the last of the longest, or the first failure.
+pub fn shortest_and_longest<'a>(
+    rows: Vec<Result<&'a [u8], u8>>,
+) -> Result<MinMaxResult<&'a [u8]>, u8> {
+    convert(rows.into_iter()).minmax_by_key(|row: &&[u8]| Ok(row.len()))
+}
+
 /// How many readings come before the greatest, of equal ones before the last, or the first failure.
 pub fn place_of_greatest(readings: Vec<Result<u32, u8>>) -> Result<Option<usize>, u8> {
     convert(readings.into_iter()).position_max()

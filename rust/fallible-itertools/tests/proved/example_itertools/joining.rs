@@ -67,6 +67,13 @@ pub fn nth_in_turn(
         .nth(n)
 }
 
+/// How many rows the outer join of two sorted columns of keys has, or the first failure.
+pub fn rows_joined(left: Vec<Result<u32, u8>>, right: Vec<Result<u32, u8>>) -> Result<usize, u8> {
+    convert(left.into_iter())
+        .merge_join_by(convert(right.into_iter()), |x, y| Ok(x.cmp(y)))
+        .count()
+}
+
 /// Whether two columns have the same last digits, position by position, or the first failure.
 pub fn same_last_digits(
     left: Vec<Result<u32, u8>>,

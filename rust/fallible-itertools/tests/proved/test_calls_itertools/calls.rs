@@ -158,6 +158,8 @@ fn adapters_that_answer_at_no_end_fold_by_one_fold() {
         expect_folded(&mut up_to_two, &log, &NONE_BY_NO_FOLD)?;
         let mut different = one_one_two(&log)?.unique();
         expect_folded(&mut different, &log, &TWO_BY_ONE_FOLD)?;
+        let mut different = one_one_two(&log)?.unique_by(itself);
+        expect_folded(&mut different, &log, &TWO_BY_ONE_FOLD)?;
         let mut parted = one_one_two(&log)?.intersperse(0);
         expect_folded(&mut parted, &log, &FIVE_BY_ONE_FOLD)
     }
@@ -276,6 +278,35 @@ fn zip_eq_draws_both_sides_up_to_their_ends() {
         );
         expect_folded(&mut it, &log, &NONE_BY_ONE_DRAW)?;
         assert_eq!(beside.take(), TWO_NEXTS);
+        Ok(())
+    }
+    let _ = tested();
+}
+
+// The items of the left and the right on which the closure is called.
+const COMPARED: [(u32, u32); 3] = [(1, 1), (1, 5), (2, 5)];
+
+const THREE_NEXTS: Calls = Calls {
+    nexts: 3,
+    ..NO_CALL
+};
+
+// 1 is joined with 1, and 5 is held beside the second 1 and the 2. At the left's end, the fourth draw, there is no call, and nothing is drawn of a side that ended.
+#[test]
+fn merge_join_by_compares_two_items_once() {
+    fn tested() -> Result<(), Fail> {
+        let (log, beside) = (Log::new(), Log::new());
+        let right = Counted::new(scripted([Ok(Some(1u32)), Ok(Some(5))])?, &beside);
+        let mut compared = Vec::new();
+        let mut it = one_one_two(&log)?.merge_join_by(right, |x: &u32, y: &u32| {
+            compared.push((*x, *y));
+            Ok(x.cmp(y))
+        });
+        expect_folded(&mut it, &log, &FOUR_BY_FOUR_DRAWS)?;
+        expect_folded(&mut it, &log, &NONE_BY_NO_FOLD)?;
+        drop(it);
+        assert_eq!(compared.as_slice(), &COMPARED);
+        assert_eq!(beside.take(), THREE_NEXTS);
         Ok(())
     }
     let _ = tested();
@@ -512,6 +543,56 @@ fn minmax_draws_twice_and_then_folds() {
     assert_eq!((extremes, log.take()), EXTREMES_OF_ONE);
     let extremes = counted(&[], &log).minmax();
     assert_eq!((extremes, log.take()), EXTREMES_OF_NONE);
+}
+
+// The extremes, the pairs that the closure was called on in order, two digits each, and the calls that come for it.
+type ExtremesAsked = (Result<MinMaxResult<u32>, u32>, u32, Calls);
+
+const EXTREMES_ASKED: ExtremesAsked = (Ok(MinMax(1, 4)), 32_211_434, ONE_FOLD);
+
+const ONE_ASKED: ExtremesAsked = (Ok(MinMaxResult::OneElement(2)), 0, ONE_FOLD);
+
+// It compares the first two items, then the least with the next one, and the greatest where the least isn't greater.
+#[test]
+fn minmax_by_is_one_fold() {
+    let log = Log::new();
+    let mut asked: u32 = 0;
+    let compare = |x: &u32, y: &u32| {
+        asked = asked
+            .wrapping_mul(100)
+            .wrapping_add(x.wrapping_mul(10))
+            .wrapping_add(*y);
+        Ok(x.cmp(y))
+    };
+    let extremes = counted(&[Ok(3), Ok(2), Ok(1), Ok(4)], &log).minmax_by(compare);
+    assert_eq!((extremes, asked, log.take()), EXTREMES_ASKED);
+}
+
+#[test]
+fn minmax_by_compares_no_item_alone() {
+    let log = Log::new();
+    let mut asked: u32 = 0;
+    let compare = |x: &u32, y: &u32| {
+        asked = asked.wrapping_add(1);
+        Ok(x.cmp(y))
+    };
+    let extremes = counted(&[Ok(2)], &log).minmax_by(compare);
+    assert_eq!((extremes, asked, log.take()), ONE_ASKED);
+}
+
+const EXTREMES_KEYED: ExtremesAsked = (Ok(MinMax(1, 4)), 3_214, ONE_FOLD);
+
+// It is called once on each item, in order.
+#[test]
+fn minmax_by_key_is_one_fold() {
+    let log = Log::new();
+    let mut asked: u32 = 0;
+    let key = |x: &u32| {
+        asked = asked.wrapping_mul(10).wrapping_add(*x);
+        Ok(*x)
+    };
+    let extremes = counted(&[Ok(3), Ok(2), Ok(1), Ok(4)], &log).minmax_by_key(key);
+    assert_eq!((extremes, asked, log.take()), EXTREMES_KEYED);
 }
 
 type AtMostOne = (Result<Result<Option<u32>, (u32, u32)>, u32>, Calls);

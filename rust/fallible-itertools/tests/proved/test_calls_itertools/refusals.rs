@@ -4,9 +4,10 @@ use fallible_iterator::memory::AllocError;
 use crate::test_support::answered::expect_answers;
 use fallible_iterator::Answer::{End, Failure, Item};
 use fallible_iterator::{Answer, Convert, FallibleIterator};
-use fallible_itertools::EitherOrBoth::{Both, Left};
+use fallible_itertools::EitherOrBoth::{Both, Left, Right};
 use fallible_itertools::Position::{First, Last, Middle};
 use fallible_itertools::{FallibleItertools, Position};
+use std::cmp::Ordering;
 use std::vec::IntoIter;
 
 use crate::test_support::course::Hint;
@@ -133,6 +134,8 @@ const OF_INTERLEAVE: NumbersCase = Case {
 
 const OF_ZIP_EQ: Asks<'static> = ("ZipEq", 4, [(2, Some(2)), NONE]);
 
+const OF_MERGE_JOIN_BY: Asks<'static> = ("MergeJoinBy", 4, [(3, Some(5)), NONE]);
+
 const OF_ZIP_LONGEST: Asks<'static> = ("ZipLongest", 4, [(3, Some(3)), NONE]);
 
 // What `intersperse` of 1, 2 and 3 returns where one of the separator's clones fails: the failure stands in its place, and the item after it is held. In the last row no allocation fails.
@@ -154,4 +157,12 @@ const INTERSPERSED: [[Answer<u32, TestError>; 6]; 3] = [
         End,
     ],
     [Item(1), Item(0), Item(2), Item(0), Item(3), End],
+];
+
+// What `unique_by` of 1, 2 and 3 by their halves returns where one of the keys can't be allocated: the failure stands in the item's place, and 3 is yielded where 2 was lost. In the last row no allocation fails.
+const UNIQUE_HALVES: [[Answer<u32, TestError>; 4]; 4] = [
+    [Failure(TestError::Memory), Item(2), End, End],
+    [Item(1), Failure(TestError::Memory), Item(3), End],
+    [Item(1), Item(2), Failure(TestError::Memory), End],
+    [Item(1), Item(2), End, End],
 ];

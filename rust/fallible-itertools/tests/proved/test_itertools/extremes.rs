@@ -67,6 +67,67 @@ fn both_extremes() {
     let _ = tested();
 }
 
+const BY_LAST_DIGIT: [(Numbers, Result<MinMaxResult<u32>, u32>); 7] = [
+    (&[], Ok(NoElements)),
+    (&[Ok(13)], Ok(OneElement(13))),
+    (&[Ok(13), Ok(23)], Ok(MinMax(13, 23))),
+    (&[Ok(23), Ok(12)], Ok(MinMax(12, 23))),
+    (
+        &[Ok(13), Ok(24), Ok(11), Ok(34), Ok(21), Ok(2)],
+        Ok(MinMax(11, 34)),
+    ),
+    (&[Ok(13), Err(9), Ok(11)], Err(9)),
+    (&[Ok(13), Ok(99), Ok(11), Err(9)], Err(5)),
+];
+
+#[test]
+fn both_extremes_by_a_key() {
+    fn tested() -> Result<(), Fail> {
+        for (answers, expected) in &BY_LAST_DIGIT {
+            let key = |x: &u32| if *x == 99 { Err(5) } else { Ok(*x % 10) };
+            expect_same(&numbers(answers).minmax_by_key(key), expected)?;
+        }
+        Ok(())
+    }
+    let _ = tested();
+}
+
+#[test]
+fn both_extremes_by_a_closure() {
+    fn tested() -> Result<(), Fail> {
+        for (answers, expected) in &BY_LAST_DIGIT {
+            let compare = |x: &u32, y: &u32| {
+                if *y == 99 {
+                    Err(5)
+                } else {
+                    Ok((*x % 10).cmp(&(*y % 10)))
+                }
+            };
+            expect_same(&numbers(answers).minmax_by(compare), expected)?;
+        }
+        Ok(())
+    }
+    let _ = tested();
+}
+
+// What comes after the item on which the closure failed is left.
+#[test]
+fn a_failure_of_the_closure_stops_the_draws() {
+    fn tested() -> Result<(), Fail> {
+        let mut it = numbers(&[Ok(3), Ok(1), Ok(4), Ok(2)]);
+        let failed = it
+            .by_ref()
+            .minmax_by(|_: &u32, y: &u32| if *y == 4 { Err(5) } else { Ok(Ordering::Less) });
+        expect_same(&(failed, it.next()), &(Err(5), Ok(Some(2))))?;
+        let mut it = numbers(&[Ok(3), Ok(1), Ok(4), Ok(2)]);
+        let failed = it
+            .by_ref()
+            .minmax_by_key(|x: &u32| if *x == 1 { Err(5) } else { Ok(*x) });
+        expect_same(&(failed, it.next()), &(Err(5), Ok(Some(4))))
+    }
+    let _ = tested();
+}
+
 // Where the greatest item stands, and where the least.
 type Place = Result<Option<usize>, u32>;
 

@@ -271,3 +271,53 @@ fn unique_leaves_out_what_came_before() {
     }
     let _ = tested();
 }
+
+const TENS: [Drawn; 9] = [
+    Ok(Some(11)),
+    Ok(Some(23)),
+    Ok(Some(15)),
+    Err(Number(9)),
+    Ok(Some(77)),
+    Ok(Some(29)),
+    Ok(None),
+    Ok(Some(31)),
+    Ok(Some(78)),
+];
+
+// The failures and the end part nothing: 29 is left out after them. 77 is lost, and its key isn't in the set.
+const UNIQUE_TENS: [Answer<u32, TestError>; 8] = [
+    Item(11),
+    Item(23),
+    Failure(Number(9)),
+    Failure(Number(5)),
+    End,
+    Item(31),
+    Item(78),
+    End,
+];
+
+// The key is the tens. It fails on 77.
+#[test]
+fn unique_by_leaves_out_the_items_whose_keys_came_before() {
+    fn tested() -> Result<(), Fail> {
+        let source = Script {
+            answers: TENS.to_vec().into_iter(),
+        };
+        let mut it = source.unique_by(|x: &u32| -> Result<u32, TestError> {
+            if *x == 77 {
+                Err(Number(5))
+            } else {
+                Ok(*x / 10)
+            }
+        });
+        expect_answers(&mut it, &UNIQUE_TENS)?;
+        let source = convert(Vec::from(HINTED).into_iter());
+        let mut it = source.unique_by(|x: &u32| Ok(*x));
+        expect_course(&mut it, &UNIQUE_HINTS)?;
+        let many = convert((0..402u32).map(|x| Ok::<u32, TestError>(x)));
+        let halves = many.unique_by(|x: &u32| Ok(*x / 2));
+        assert_eq!(halves.count(), Ok(201), "unique_by of 402 items");
+        Ok(())
+    }
+    let _ = tested();
+}

@@ -9,6 +9,7 @@ use fallible_iterator::Answer::{End, Failure, Item};
 use fallible_iterator::{Answer, FallibleIterator};
 use fallible_itertools::EitherOrBoth::{Both, Left, Right};
 use fallible_itertools::{EitherOrBoth, FallibleItertools};
+use std::cmp::Ordering;
 
 type Numbers = &'static [Result<u32, u32>];
 
@@ -161,6 +162,91 @@ fn merge_by_holds_one_item_of_each_side() {
         let hinted = it.size_hint();
         let _drawn = it.next();
         expect_same(&[hinted, it.size_hint()], &MERGED_HINTS)
+    }
+    let _ = tested();
+}
+
+const JOINED: [Places; 4] = [
+    (
+        &[
+            Ok(Some(1)),
+            Err(7),
+            Ok(Some(3)),
+            Ok(Some(5)),
+            END,
+            Ok(Some(2)),
+        ],
+        &[
+            Err(8),
+            Ok(Some(3)),
+            Err(9),
+            Ok(Some(4)),
+            Ok(Some(6)),
+            END,
+            Ok(Some(2)),
+        ],
+        &[
+            // 1 is held beside 8, and comes before 3, which is held then.
+            ((0, None), &[Failure(8), Item(Left(1))]),
+            // 3 stayed beside 7.
+            ((1, None), &[Failure(7), Item(Both(3, 3))]),
+            // 5 is held beside 9, and comes after 4.
+            ((0, None), &[Failure(9), Item(Right(4))]),
+            ((1, None), &[Item(Left(5))]),
+            // The left ended beside 6, so 2 isn't drawn.
+            ((1, None), &[Item(Right(6)), End]),
+            ((0, Some(0)), &[End]),
+        ],
+    ),
+    // The right ended beside 1.
+    (
+        &[Ok(Some(1)), Ok(Some(2)), END, Ok(Some(3))],
+        &[END, Ok(Some(1))],
+        &[
+            ((0, None), &[Item(Left(1)), Item(Left(2)), End]),
+            ((0, Some(0)), &[End]),
+        ],
+    ),
+    // Of equal items each joins one.
+    (
+        &[Ok(Some(1)), Ok(Some(1))],
+        &[Ok(Some(1)), Ok(Some(1)), Ok(Some(1))],
+        &[(
+            (0, None),
+            &[Item(Both(1, 1)), Item(Both(1, 1)), Item(Right(1)), End],
+        )],
+    ),
+    // The closure's failure loses the two items.
+    (
+        &[Ok(Some(50)), Ok(Some(4))],
+        &[Ok(Some(1)), Ok(Some(2)), Ok(Some(50))],
+        &[((0, None), &[Failure(99), Item(Right(2)), Failure(99), End])],
+    ),
+];
+
+// What is hinted over 1, 2 and 3, and after one draw, which holds 3.
+const JOINED_HINTS: [Hint; 2] = [(2, Some(3)), (1, Some(2))];
+
+// The closure fails on 50.
+fn order_below_fifty(x: &u32, y: &u32) -> Result<Ordering, u32> {
+    if *x == 50 || *y == 50 {
+        Err(99)
+    } else {
+        Ok(x.cmp(y))
+    }
+}
+
+#[test]
+fn merge_join_by_yields_equal_items_together() {
+    fn tested() -> Result<(), Fail> {
+        for (left, right, course) in &JOINED {
+            let mut it = script(left)?.merge_join_by(script(right)?, order_below_fifty);
+            expect_course(&mut it, course)?;
+        }
+        let mut it = numbers(&TWO).merge_join_by(numbers(&ONE), order_below_fifty);
+        let hinted = it.size_hint();
+        let _drawn = it.next();
+        expect_same(&[hinted, it.size_hint()], &JOINED_HINTS)
     }
     let _ = tested();
 }
