@@ -272,7 +272,7 @@ fn in_order<'a>(x: &Number<'a>, y: &Number<'a>) -> Result<bool, TestError> {
 }
 
 // By their values.
-fn by_value<'a>(x: &Number<'a>, y: &Number<'a>) -> Result<Ordering, TestError> {
+fn by_value<'a, 'b>(x: &Number<'a>, y: &Number<'b>) -> Result<Ordering, TestError> {
     Ok(x.value.cmp(&y.value))
 }
 

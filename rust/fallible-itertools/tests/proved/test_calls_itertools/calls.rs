@@ -283,9 +283,6 @@ fn zip_eq_draws_both_sides_up_to_their_ends() {
     let _ = tested();
 }
 
-// The items of the left and the right on which the closure is called.
-const COMPARED: [(u32, u32); 3] = [(1, 1), (1, 5), (2, 5)];
-
 const THREE_NEXTS: Calls = Calls {
     nexts: 3,
     ..NO_CALL
@@ -297,16 +294,18 @@ fn merge_join_by_compares_two_items_once() {
     fn tested() -> Result<(), Fail> {
         let (log, beside) = (Log::new(), Log::new());
         let right = Counted::new(scripted([Ok(Some(1u32)), Ok(Some(5))])?, &beside);
-        let mut compared = Vec::new();
+        let mut compared: u32 = 0;
         let mut it = one_one_two(&log)?.merge_join_by(right, |x: &u32, y: &u32| {
-            compared.push((*x, *y));
+            compared = compared
+                .wrapping_mul(100)
+                .wrapping_add(x.wrapping_mul(10))
+                .wrapping_add(*y);
             Ok(x.cmp(y))
         });
         expect_folded(&mut it, &log, &FOUR_BY_FOUR_DRAWS)?;
         expect_folded(&mut it, &log, &NONE_BY_NO_FOLD)?;
         drop(it);
-        assert_eq!(compared.as_slice(), &COMPARED);
-        assert_eq!(beside.take(), THREE_NEXTS);
+        assert_eq!((compared, beside.take()), (111_525, THREE_NEXTS));
         Ok(())
     }
     let _ = tested();
