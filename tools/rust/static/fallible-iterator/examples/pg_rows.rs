@@ -129,7 +129,7 @@ pub fn run(
 /// How a proof of identity is named, by its number.
 fn identity(number: u32) -> &'static str {
     match number {
-        2 => "Kerberos V5",
+        2 => "Kerberos",
         5 => "an MD5 password",
         7 | 8 => "GSSAPI",
         9 => "SSPI",
