@@ -253,7 +253,7 @@ pub fn above_100_from_back(
 }
 
 /// The readings of both, those of the right first, each the last one first, or the first failure from the back. The laws say what `chain` lists from the back of what both sides do.
-pub fn both_from_back(
+pub fn readings_of_both_reversed(
     alloc: Global,
     left: Vec<Result<u32, u8>>,
     right: Vec<Result<u32, u8>>,

@@ -140,7 +140,7 @@ pub fn collected_between(alloc: Global, low: u32, high: u32) -> Result<Vec<u32>,
 }
 
 /// The numbers from `low` to below `high`, each as a result, which std collects, unless an allocation fails.
-pub fn tried_between(alloc: Global, low: u32, high: u32) -> Result<Vec<u32>, AllocError>
+pub fn try_collect_between(alloc: Global, low: u32, high: u32) -> Result<Vec<u32>, AllocError>
     ensures { IfOk result (λ made. made.items ≡ unwrapped (numbers_between low high)) }
 {
     Between::new(low, high)

@@ -97,8 +97,8 @@ lists_read_stopped {S} {A} {steps} {s} {it} {n} {k} {l} parts i =
 -- ---- `or_else`, whose closure fails on `Read`
 
 module _ {S F X E : Type 0} (steps : S → Answered X RowFault → S → Type 0) (call : F → RowFault → Result (Option X) E → F → Type 0) (fails : (f g : F) (v : Result (Option X) E) → call f Read v g → (e : E) × (v ≡ Err e)) where
-  abbrev outcome_here : RowFault → Result (Option X) E → Outcome E X
-  outcome_here d v = outcome_exchanged (or_else_outcome d v)
+  abbrev outcome_of_fault : RowFault → Result (Option X) E → Outcome E X
+  outcome_of_fault d v = outcome_exchanged (or_else_outcome d v)
 
   -- none fails, with items and failures exchanged
   abbrev NoneFails : List (Answered E X) → Type 0
@@ -109,20 +109,20 @@ module _ {S F X E : Type 0} (steps : S → Answered X RowFault → S → Type 0)
   none_fails_rest None rest h = h
   none_fails_rest (Some r) rest h = h.1
 
-  failed_answer : (d : RowFault) (v : Result (Option X) E) (e : E) (rest : List (Answered E X)) → NoneFails (cons_option (outcome_answer (outcome_here d v)) rest) → v ≡ Err e → ⊥
+  failed_answer : (d : RowFault) (v : Result (Option X) E) (e : E) (rest : List (Answered E X)) → NoneFails (cons_option (outcome_answer (outcome_of_fault d v)) rest) → v ≡ Err e → ⊥
   failed_answer d (Ok (Some x)) e rest h is = absurd cc
   failed_answer d (Ok None) e rest h is = absurd cc
   failed_answer d (Err k) e rest h is = let failed = h.0 in absurd cc
 
-  asked_is_read : (d : RowFault) (v : Result (Option X) E) (f g : F) (rest : List (Answered E X)) → NoneFails (cons_option (outcome_answer (outcome_here d v)) rest) → call f d v g → failure {A = X} d ≢ failure Read
+  asked_is_read : (d : RowFault) (v : Result (Option X) E) (f g : F) (rest : List (Answered E X)) → NoneFails (cons_option (outcome_answer (outcome_of_fault d v)) rest) → call f d v g → failure {A = X} d ≢ failure Read
   asked_is_read d v f g rest h called is =
       let same : d ≡ Read = cc in
       let k = fails f g v (subst (λ (o : RowFault). call f o v g) same called) in
       failed_answer d v k.0 rest h k.1
 
-  run_source_recovered : (places : List (Place RowFault (Result (Option X) E) X)) (s t : S) (f g : F) → NoneFails (filter_map (answer_at outcome_here) places) → Calls call f (filter_map call_of places) g → Run (steps_exchanged steps) s (map source_answer places) t → Run (steps_exchanged (read_steps steps)) s (map source_answer places) t
+  run_source_recovered : (places : List (Place RowFault (Result (Option X) E) X)) (s t : S) (f g : F) → NoneFails (filter_map (answer_at outcome_of_fault) places) → Calls call f (filter_map call_of places) g → Run (steps_exchanged steps) s (map source_answer places) t → Run (steps_exchanged (read_steps steps)) s (map source_answer places) t
   run_source_recovered [] s t f g h called ran = ran
-  run_source_recovered (asked d v ∷ places) s t f g h called ran = (ran.0, (ran.1, asked_is_read d v f called.0 (filter_map (answer_at outcome_here) places) h called.1), run_source_recovered places ran.0 t called.0 g (none_fails_rest (outcome_answer (outcome_here d v)) (filter_map (answer_at outcome_here) places) h) called.2 ran.2)
+  run_source_recovered (asked d v ∷ places) s t f g h called ran = (ran.0, (ran.1, asked_is_read d v f called.0 (filter_map (answer_at outcome_of_fault) places) h called.1), run_source_recovered places ran.0 t called.0 g (none_fails_rest (outcome_answer (outcome_of_fault d v)) (filter_map (answer_at outcome_of_fault) places) h) called.2 ran.2)
   run_source_recovered (failure_at x ∷ places) s t f g h called ran = (ran.0, (ran.1, item_is_read x), run_source_recovered places ran.0 t f g h.1 called ran.2)
   run_source_recovered (end_at ∷ places) s t f g h called ran = (ran.0, (ran.1, end_is_read), run_source_recovered places ran.0 t f g h.1 called ran.2)
 

@@ -8,23 +8,23 @@ use Rattle.std.proofs.lemmas.List.{get_or-drop, length-drop, take_more}
 use Rattle.fallible_iterator.specs.Lists.{result_answer}
 use Rattle.fallible_iterator.specs.Showing.{TakesShown}
 use Rattle.fallible_iterator.specs.Traces.{Answered}
-use Rattle.example_tasks.specs.Expressions.{number_token, sign_token, with_number, tokens_behind, tokens_of, ReadsDigits}
+use Rattle.example_tasks.specs.Expressions.{number_token, sign_token, with_number, tokens_after, tokens_of, ReadsDigits}
 use Rattle.example_tasks.specs.declared.tokens.Token.{Token}
 use Rattle.example_tasks.specs.declared.tokens.TextFault.{TextFault}
 
 -- a digit belongs to those before it; another byte ends them
-tokens_behind_digit : (digits text : List ℕ) (byte : ℕ) → is_ascii_digit byte ≡ true → tokens_behind digits (byte ∷ text) ≡ tokens_behind (digits ++ byte ∷ []) text
-unfolding tokens_behind
-tokens_behind_digit digits text byte e = rw e refl
+tokens_after_digit : (digits text : List ℕ) (byte : ℕ) → is_ascii_digit byte ≡ true → tokens_after digits (byte ∷ text) ≡ tokens_after (digits ++ byte ∷ []) text
+unfolding tokens_after
+tokens_after_digit digits text byte e = rw e refl
 
-tokens_behind_sign : (digits text : List ℕ) (byte : ℕ) → is_ascii_digit byte ≡ false → tokens_behind digits (byte ∷ text) ≡ with_number digits (tokens_of (byte ∷ text))
-unfolding tokens_behind
-tokens_behind_sign digits text byte e = rw e refl
+tokens_after_sign : (digits text : List ℕ) (byte : ℕ) → is_ascii_digit byte ≡ false → tokens_after digits (byte ∷ text) ≡ with_number digits (tokens_of (byte ∷ text))
+unfolding tokens_after
+tokens_after_sign digits text byte e = rw e refl
 
-tokens_behind_all : (digits rest : List ℕ) → ((byte : ℕ) (more : List ℕ) → rest ≡ byte ∷ more → is_ascii_digit byte ≡ false) → tokens_behind digits rest ≡ with_number digits (tokens_of rest)
-unfolding tokens_behind
-tokens_behind_all digits [] none = refl
-tokens_behind_all digits (byte ∷ more) none = tokens_behind_sign digits more byte (none byte more refl)
+tokens_after_all : (digits rest : List ℕ) → ((byte : ℕ) (more : List ℕ) → rest ≡ byte ∷ more → is_ascii_digit byte ≡ false) → tokens_after digits rest ≡ with_number digits (tokens_of rest)
+unfolding tokens_after
+tokens_after_all digits [] none = refl
+tokens_after_all digits (byte ∷ more) none = tokens_after_sign digits more byte (none byte more refl)
 
 digit_is_ascii : (byte : ℕ) → is_ascii_digit byte ≡ true → IsAscii (byte ∷ [])
 digit_is_ascii byte e zero = let k = and_parts (nat_le 48 byte) (nat_le byte 57) e in omega (arith, leb-true byte 57 k.1)
@@ -36,7 +36,7 @@ reads_digits_one_more text end h l e =
     let rest : drop end text ≡ get_or text end 0 ∷ drop (end + 1) text = rw add-one (drop-cons text end 0 l) in
     record {
       fits = omega arith;
-      same = h.same ∙ ap (λ k. tokens_behind (take end text) k) rest ∙ tokens_behind_digit (take end text) (drop (end + 1) text) (get_or text end 0) e ∙ ap (λ k. tokens_behind k (drop (end + 1) text)) (sym front);
+      same = h.same ∙ ap (λ k. tokens_after (take end text) k) rest ∙ tokens_after_digit (take end text) (drop (end + 1) text) (get_or text end 0) e ∙ ap (λ k. tokens_after k (drop (end + 1) text)) (sym front);
       ascii = subst IsAscii (sym front) (IsAscii-append _ _ h.ascii (digit_is_ascii _ e));
     }
 
@@ -44,7 +44,7 @@ reads_digits_one_more text end h l e =
 pub tokens_of_read_digits : (text : List ℕ) (end : ℕ) → ReadsDigits text end → (end < length text → is_ascii_digit (get_or text end 0) ≡ false) → tokens_of text ≡ with_number (take end text) (tokens_of (drop end text))
 tokens_of_read_digits text end h stops =
     h.same
-    ∙ tokens_behind_all (take end text) (drop end text) (λ byte more e.
+    ∙ tokens_after_all (take end text) (drop end text) (λ byte more e.
     let at : get_or text end 0 ≡ byte = grind (arith, get_or-drop end text 0 0, ap (λ k. get_or k 0 0) e) in
     subst (λ (b : ℕ). is_ascii_digit b ≡ false) at (stops (omega (arith, length-drop end text, ap length e))))
 
@@ -64,13 +64,13 @@ takes_shown_first : (text rest : List ℕ) (y : Result Token TextFault) (r : Ans
 takes_shown_first text rest y r e is = subst (λ (l : List (Result Token TextFault)). TakesShown l r (tokens_of rest)) (sym e) (is, refl)
 
 pub takes_shown_sign : (text rest : List ℕ) (byte : ℕ) (r : Answered Token TextFault) → text ≡ byte ∷ rest → is_ascii_digit byte ≡ false → r ≡ result_answer (sign_token byte) → TakesShown (tokens_of text) r (tokens_of rest)
-unfolding tokens_behind
+unfolding tokens_after
 takes_shown_sign text rest byte r e sign is = takes_shown_first text rest (sign_token byte) r (ap tokens_of e ∙ rw sign refl) is
 
 pub takes_shown_number : {text : List ℕ} (rest : List ℕ) (byte end : ℕ) {r : Answered Token TextFault} → text ≡ byte ∷ rest → is_ascii_digit byte ≡ true → ReadsDigits text end → (end < length text → is_ascii_digit (get_or text end 0) ≡ false) → r ≡ result_answer (number_token (take end text)) → TakesShown (tokens_of text) r (tokens_of (drop end text))
 takes_shown_number {text = text} rest byte end {r = r} e digit h stops is = takes_shown_first text (drop end text) (number_token (take end text)) r (tokens_of_read_digits text end h stops ∙ with_number_is_token (take end text) _ (length_of_digits_positive text rest byte end e digit stops)) is
 
 pub takes_shown_end : (text : List ℕ) → length text ≡ 0 → TakesShown (tokens_of text) (Ok None) (tokens_of text)
-unfolding tokens_behind
+unfolding tokens_after
 takes_shown_end [] e = (refl, refl)
 takes_shown_end (byte ∷ text) e = absurd (omega arith)

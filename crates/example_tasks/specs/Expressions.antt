@@ -33,18 +33,18 @@ with_number [] l = l
 with_number (digit ∷ digits) l = number_token (digit ∷ digits) ∷ l
 
 -- the tokens of a text after digits that belong to it
-unfoldable pub tokens_behind : List ℕ → List ℕ → List (Result Token TextFault)
-tokens_behind digits [] = with_number digits []
-tokens_behind digits (byte ∷ text) = if is_ascii_digit byte then tokens_behind (digits ++ byte ∷ []) text else with_number digits (sign_token byte ∷ tokens_behind [] text)
+unfoldable pub tokens_after : List ℕ → List ℕ → List (Result Token TextFault)
+tokens_after digits [] = with_number digits []
+tokens_after digits (byte ∷ text) = if is_ascii_digit byte then tokens_after (digits ++ byte ∷ []) text else with_number digits (sign_token byte ∷ tokens_after [] text)
 
 -- The tokens of a text: of digits in a row one number, of each other byte its own token. A byte that is none, and a number that doesn't fit, is a failure.
 abbrev pub tokens_of : List ℕ → List (Result Token TextFault)
-tokens_of text = tokens_behind [] text
+tokens_of text = tokens_after [] text
 
 -- so many digits stand in front of a text, and the tokens of the text are those of the rest after them
 pub record ReadsDigits (text : List ℕ) (end : ℕ) : Type 0 where
   pub fits : end ≤ length text
-  pub same : tokens_of text ≡ tokens_behind (take end text) (drop end text)
+  pub same : tokens_of text ≡ tokens_after (take end text) (drop end text)
   pub ascii : IsAscii (take end text)
 
 -- ---- values

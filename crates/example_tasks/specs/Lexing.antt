@@ -76,26 +76,26 @@ module _ {E : Type 0} where
 
   -- ---- the tokens of a list
 
-  -- the tokens from a byte on that begins this kind or is a sign; `behind` makes the tokens behind it, by what is begun
+  -- the tokens from a byte on that begins this kind or is a sign; `tail` makes the tokens after it, by what is begun
   abbrev pub begun_by : Option Kind → ℕ → ℕ → (Begun → List (Result (ℕ × Token) (LexFault E))) → List (Result (ℕ × Token) (LexFault E))
-  begun_by (Some kind) place byte behind = behind (Some (kind, place, with_byte kind (Some 0) byte))
-  begun_by None place byte behind = sign_at place byte ∷ behind None
+  begun_by (Some kind) place byte tail = tail (Some (kind, place, with_byte kind (Some 0) byte))
+  begun_by None place byte tail = sign_at place byte ∷ tail None
 
   -- the same of any byte: a blank begins nothing
   abbrev pub lexed_from : ℕ → ℕ → (Begun → List (Result (ℕ × Token) (LexFault E))) → List (Result (ℕ × Token) (LexFault E))
-  lexed_from place byte behind = if is_ascii_whitespace byte then behind None else begun_by (kind_of byte) place byte behind
+  lexed_from place byte tail = if is_ascii_whitespace byte then tail None else begun_by (kind_of byte) place byte tail
 
-  -- The tokens of a list behind what is begun. A byte that belongs to it goes on with it. Another byte and the end close it. At a failure of the source it is lost.
-  unfoldable pub lexed_behind : Begun → List (Result Placed E) → List (Result (ℕ × Token) (LexFault E))
-  lexed_behind None [] = []
-  lexed_behind (Some (kind, place, value)) [] = token_at kind place value ∷ []
-  lexed_behind None (Ok (at, byte) ∷ l) = lexed_from at byte (λ b. lexed_behind b l)
-  lexed_behind (Some (kind, place, value)) (Ok (at, byte) ∷ l) = if belongs kind byte then lexed_behind (Some (kind, place, with_byte kind value byte)) l else token_at kind place value ∷ lexed_from at byte (λ b. lexed_behind b l)
-  lexed_behind begun (Err e ∷ l) = Err (Source e) ∷ lexed_behind None l
+  -- The tokens of a list after what is begun. A byte that belongs to it goes on with it. Another byte and the end close it. At a failure of the source it is lost.
+  unfoldable pub lexed_after : Begun → List (Result Placed E) → List (Result (ℕ × Token) (LexFault E))
+  lexed_after None [] = []
+  lexed_after (Some (kind, place, value)) [] = token_at kind place value ∷ []
+  lexed_after None (Ok (at, byte) ∷ l) = lexed_from at byte (λ b. lexed_after b l)
+  lexed_after (Some (kind, place, value)) (Ok (at, byte) ∷ l) = if belongs kind byte then lexed_after (Some (kind, place, with_byte kind value byte)) l else token_at kind place value ∷ lexed_from at byte (λ b. lexed_after b l)
+  lexed_after begun (Err e ∷ l) = Err (Source e) ∷ lexed_after None l
 
   -- The tokens of placed bytes, each at the place of its first byte.
   abbrev pub lexed : List (Result Placed E) → List (Result (ℕ × Token) (LexFault E))
-  lexed l = lexed_behind None l
+  lexed l = lexed_after None l
 
   -- ---- what a draw leaves
 

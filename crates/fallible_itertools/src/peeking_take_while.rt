@@ -78,7 +78,7 @@ where
             Ok(()) => {}
             Err(e) => return Err(e),
         }
-        match accepts_held(&*self, accept) {
+        match none_held_or_accepts(&*self, accept) {
             Ok(true) => self.next(),
             Ok(false) => Ok(None),
             Err(e) => match self.next() {
@@ -92,7 +92,7 @@ where
 }
 
 // What the closure returns on the buffered item, and true if none is buffered.
-fn accepts_held<I: FallibleIterator, F: FnMut(&I::Item) -> Result<bool, I::Error>>(
+fn none_held_or_accepts<I: FallibleIterator, F: FnMut(&I::Item) -> Result<bool, I::Error>>(
     it: &Peekable<I>,
     accept: &mut F,
 ) -> Result<bool, I::Error>

@@ -49,10 +49,10 @@ where
             Some(Some(e)) => Err(e),
             Some(None) => Ok(None),
             None => match self.stage.0.take() {
-                Some(before) => behind(&mut self.it, &mut self.stage.0, &mut self.stage.1, before),
+                Some(before) => position_after(&mut self.it, &mut self.stage.0, &mut self.stage.1, before),
                 None => match self.it.draw() {
                     Ok(Some(first)) => {
-                        behind(
+                        position_after(
                             &mut self.it,
                             &mut self.stage.0,
                             &mut self.stage.1,
@@ -88,7 +88,7 @@ where
 }
 
 // One draw after that item, which is yielded in any case. It is buffered no more, and no stop is due.
-fn behind<I: FallibleIterator>(
+fn position_after<I: FallibleIterator>(
     it: &mut I,
     held: &mut Option<(bool, I::Item)>,
     due: &mut Option<Option<I::Error>>,

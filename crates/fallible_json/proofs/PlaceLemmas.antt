@@ -2,17 +2,17 @@
 use Rattle.std.specs.Prelude.{◌≡◌, ℕ, suc, ◌+◌, ◌<◌, ◌≤◌, Bool, true, false, if◌then◌else◌, List, length, drop}
 use Rattle.std.proofs.Common.{arith, ap, ◌∙◌, get_or, drop-cons}
 use Rattle.std.proofs.lemmas.List.{drop_all}
-use Rattle.fallible_json.specs.Places.{after_byte, is_within, place_behind}
+use Rattle.fallible_json.specs.Places.{after_byte, is_within, place_after_bytes}
 
-pub place_behind_byte : (place : ℕ × ℕ) (bytes : List ℕ) (n : ℕ) → n < length bytes → place_behind place (drop n bytes) ≡ place_behind (after_byte place (get_or bytes n 0)) (drop (n + 1) bytes)
-unfolding place_behind
-place_behind_byte place bytes n within =
+pub place_after_one_more : (place : ℕ × ℕ) (bytes : List ℕ) (n : ℕ) → n < length bytes → place_after_bytes place (drop n bytes) ≡ place_after_bytes (after_byte place (get_or bytes n 0)) (drop (n + 1) bytes)
+unfolding place_after_bytes
+place_after_one_more place bytes n within =
     let one : suc n ≡ n + 1 = omega arith in
-    ap (place_behind place) (drop-cons bytes n 0 within) ∙ ap (λ k. place_behind (after_byte place (get_or bytes n 0)) (drop k bytes)) one
+    ap (place_after_bytes place) (drop-cons bytes n 0 within) ∙ ap (λ k. place_after_bytes (after_byte place (get_or bytes n 0)) (drop k bytes)) one
 
-pub place_behind_end : (place : ℕ × ℕ) (bytes : List ℕ) (n : ℕ) → length bytes ≤ n → place_behind place (drop n bytes) ≡ place
-unfolding place_behind
-place_behind_end place bytes n past = ap (place_behind place) (drop_all n bytes past)
+pub place_after_all : (place : ℕ × ℕ) (bytes : List ℕ) (n : ℕ) → length bytes ≤ n → place_after_bytes place (drop n bytes) ≡ place
+unfolding place_after_bytes
+place_after_all place bytes n past = ap (place_after_bytes place) (drop_all n bytes past)
 
 -- a place is at most one more after a byte
 abbrev Within : ℕ × ℕ → ℕ → Type 0

@@ -3,7 +3,7 @@ use Rattle.std.specs.Prelude.{List, [], ◌∷◌, Bool, true, false, Option, So
 use Rattle.fallible_json.specs.declared.grammar.Container.{Container}
 use Rattle.fallible_json.specs.declared.grammar.Container.TheVariants.{Array, Object}
 use Rattle.fallible_json.specs.declared.grammar.Expects.{Expects}
-use Rattle.fallible_json.specs.declared.grammar.Expects.TheVariants.{Value, ValueOrEnd, NameOrEnd, Name, Separator, Behind}
+use Rattle.fallible_json.specs.declared.grammar.Expects.TheVariants.{Value, ValueOrEnd, NameOrEnd, Name, Separator, AfterValue}
 use Rattle.fallible_json.specs.declared.grammar.Step.{Step}
 use Rattle.fallible_json.specs.declared.grammar.Step.TheVariants.{Scalar, Opens, Closes, Names, Separates, GoesOn}
 use Rattle.fallible_json.specs.declared.token.Token.{Token}
@@ -30,10 +30,10 @@ step_of Name Text = Some Names
 step_of Name token = None
 step_of Separator NameSeparator = Some Separates
 step_of Separator token = None
-step_of Behind ValueSeparator = Some GoesOn
-step_of Behind EndArray = Some (Closes Array)
-step_of Behind EndObject = Some (Closes Object)
-step_of Behind token = None
+step_of AfterValue ValueSeparator = Some GoesOn
+step_of AfterValue EndArray = Some (Closes Array)
+step_of AfterValue EndObject = Some (Closes Object)
+step_of AfterValue token = None
 
 -- what may come first in a container: a value or its end, or a name or its end
 abbrev pub first_in : Container → Expects
@@ -51,10 +51,10 @@ State = List Container × Expects
 
 -- What a step makes of the containers that are open. A container ends where it is the innermost. A comma stands in a container.
 abbrev pub taken : List Container → Step → Option State
-taken containers Scalar = Some (containers, Behind)
+taken containers Scalar = Some (containers, AfterValue)
 taken containers (Opens container) = Some (container ∷ containers, first_in container)
-taken (Array ∷ containers) (Closes Array) = Some (containers, Behind)
-taken (Object ∷ containers) (Closes Object) = Some (containers, Behind)
+taken (Array ∷ containers) (Closes Array) = Some (containers, AfterValue)
+taken (Object ∷ containers) (Closes Object) = Some (containers, AfterValue)
 taken containers (Closes container) = None
 taken containers Names = Some (containers, Separator)
 taken containers Separates = Some (containers, Value)
@@ -72,7 +72,7 @@ after_token (containers, expects) token = taken_if containers (step_of expects t
 
 -- whether the tokens so far are one JSON text: a value came, and no container is open
 abbrev pub is_whole : State → Bool
-is_whole ([], Behind) = true
+is_whole ([], AfterValue) = true
 is_whole (containers, expects) = false
 
 -- the state before the first token: a value is wanted

@@ -55,26 +55,26 @@ module _ {E : Type 0} where
 
   -- ---- the tokens of a list
 
-  -- the tokens from a byte on that begins this; `behind` makes the tokens behind it, by what is begun
+  -- the tokens from a byte on that begins this; `tail` makes the tokens after it, by what is begun
   abbrev pub begun_at : Option Phase → ℕ → (Begun → List (Result Lexeme (LexFault E))) → List (Result Lexeme (LexFault E))
-  begun_at (Some phase) place behind = behind (Some (place, place, phase))
-  begun_at None place behind = Err (Unknown place) ∷ behind None
+  begun_at (Some phase) place tail = tail (Some (place, place, phase))
+  begun_at None place tail = Err (Unknown place) ∷ tail None
 
   -- the same of any byte: a blank begins nothing
   abbrev pub lexed_from : ℕ → ℕ → (Begun → List (Result Lexeme (LexFault E))) → List (Result Lexeme (LexFault E))
-  lexed_from place byte behind = if is_blank byte then behind None else begun_at (begun_by byte) place behind
+  lexed_from place byte tail = if is_blank byte then tail None else begun_at (begun_by byte) place tail
 
-  -- The tokens of a list behind what is begun. A byte that goes on with it belongs to it. Another byte and the end close it. At a failure of the source it is lost.
-  unfoldable pub lexed_behind : Begun → List (Result Placed E) → List (Result Lexeme (LexFault E))
-  lexed_behind None [] = []
-  lexed_behind (Some (first, last, phase)) [] = closed first last phase ∷ []
-  lexed_behind None (Ok (place, byte) ∷ l) = lexed_from place byte (λ b. lexed_behind b l)
-  lexed_behind (Some (first, last, phase)) (Ok (place, byte) ∷ l) = where_goes (after phase byte) (closed first last phase ∷ lexed_from place byte (λ b. lexed_behind b l)) (λ next. lexed_behind (Some (first, place, next)) l)
-  lexed_behind begun (Err e ∷ l) = Err (Source e) ∷ lexed_behind None l
+  -- The tokens of a list after what is begun. A byte that goes on with it belongs to it. Another byte and the end close it. At a failure of the source it is lost.
+  unfoldable pub lexed_after : Begun → List (Result Placed E) → List (Result Lexeme (LexFault E))
+  lexed_after None [] = []
+  lexed_after (Some (first, last, phase)) [] = closed first last phase ∷ []
+  lexed_after None (Ok (place, byte) ∷ l) = lexed_from place byte (λ b. lexed_after b l)
+  lexed_after (Some (first, last, phase)) (Ok (place, byte) ∷ l) = where_goes (after phase byte) (closed first last phase ∷ lexed_from place byte (λ b. lexed_after b l)) (λ next. lexed_after (Some (first, place, next)) l)
+  lexed_after begun (Err e ∷ l) = Err (Source e) ∷ lexed_after None l
 
   -- The tokens of placed bytes, each with its places: the longest runs of bytes that go on with what the first of them begins.
   abbrev pub lexed : List (Result Placed E) → List (Result Lexeme (LexFault E))
-  lexed l = lexed_behind None l
+  lexed l = lexed_after None l
 
   -- ---- what a draw leaves
 

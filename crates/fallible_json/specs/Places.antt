@@ -5,15 +5,15 @@ use Rattle.std.specs.Prelude.{ℕ, ◌+◌, ◌==◌, ◌&&◌, nat_le, nat_lt, 
 abbrev pub is_within : ℕ → Bool
 is_within byte = nat_le 128 byte && nat_lt byte 192
 
--- the line and the column of what comes behind a byte that has this line and column: after a line feed the next line begins, and each other byte that begins a character is a column
+-- the line and the column of what comes after a byte that has this line and column: after a line feed the next line begins, and each other byte that begins a character is a column
 abbrev pub after_byte : ℕ × ℕ → ℕ → ℕ × ℕ
 after_byte (line, column) byte = if byte == 10 then (line + 1, 1) else if is_within byte then (line, column) else (line, column + 1)
 
--- the line and the column of what comes behind bytes of which the first has this line and column
-unfoldable pub place_behind : ℕ × ℕ → List ℕ → ℕ × ℕ
-place_behind place [] = place
-place_behind place (byte ∷ bytes) = place_behind (after_byte place byte) bytes
+-- the line and the column of what comes after bytes of which the first has this line and column
+unfoldable pub place_after_bytes : ℕ × ℕ → List ℕ → ℕ × ℕ
+place_after_bytes place [] = place
+place_after_bytes place (byte ∷ bytes) = place_after_bytes (after_byte place byte) bytes
 
 -- the line and the column of the byte that has so many before it
 abbrev pub place_of : List ℕ → ℕ → ℕ × ℕ
-place_of text byte = place_behind (1, 1) (take byte text)
+place_of text byte = place_after_bytes (1, 1) (take byte text)

@@ -46,8 +46,8 @@ fn write_unexpected<W: WriteText>(
     errors.write_text(format_args!("line {line}, column {column}: unexpected byte {byte}"))
 }
 
-// Writes a place, and a text behind it.
-fn write_behind_place<W: WriteText>(
+// Writes a place, and a text after it.
+fn write_after_place<W: WriteText>(
     line: usize,
     column: usize,
     text: &str,
@@ -72,10 +72,10 @@ impl JsonFault {
                 write_unexpected(line, column, byte, errors)
             }
             JsonFault::Ended(line, column) => {
-                write_behind_place(line, column, ": unexpected end", errors)
+                write_after_place(line, column, ": unexpected end", errors)
             }
             JsonFault::NotText(line, column) => {
-                write_behind_place(line, column, ": not UTF-8", errors)
+                write_after_place(line, column, ": not UTF-8", errors)
             }
         }
     }

@@ -25,7 +25,7 @@ pub(crate) enum Expects {
     // The separator after a name.
     Separator,
     // What comes after a value: a separator, the end of the container, or the end of the text.
-    Behind,
+    AfterValue,
 }
 
 // What a token is where it may stand.
@@ -76,9 +76,9 @@ fn step_of(expects: Expects, token: Token) -> Option<Step>
         (Expects::NameOrEnd, Token::EndObject) => Some(Step::Closes(Container::Object)),
         (Expects::Name | Expects::NameOrEnd, Token::Text) => Some(Step::Names),
         (Expects::Separator, Token::NameSeparator) => Some(Step::Separates),
-        (Expects::Behind, Token::ValueSeparator) => Some(Step::GoesOn),
-        (Expects::Behind, Token::EndArray) => Some(Step::Closes(Container::Array)),
-        (Expects::Behind, Token::EndObject) => Some(Step::Closes(Container::Object)),
+        (Expects::AfterValue, Token::ValueSeparator) => Some(Step::GoesOn),
+        (Expects::AfterValue, Token::EndArray) => Some(Step::Closes(Container::Array)),
+        (Expects::AfterValue, Token::EndObject) => Some(Step::Closes(Container::Object)),
         _ => None,
     }
 }
@@ -117,7 +117,7 @@ impl Nesting {
             (λ e. e ≢ Stop.Memory → taken (reverse self.containers.items) step ≡ None) }
     {
         match step {
-            Step::Scalar => self.expects = Expects::Behind,
+            Step::Scalar => self.expects = Expects::AfterValue,
             Step::Opens(container) => {
                 if self.containers.push(container).is_err() {
                     return Err(Stop::Memory);
@@ -133,7 +133,7 @@ impl Nesting {
                     (Container::Object, Container::Object) => {}
                     _ => return Err(Stop::Unexpected),
                 }
-                self.expects = Expects::Behind;
+                self.expects = Expects::AfterValue;
             }
             Step::Names => self.expects = Expects::Separator,
             Step::Separates => self.expects = Expects::Value,
@@ -155,7 +155,7 @@ impl Nesting {
         ensures { result ≡ is_whole (reverse self.now.containers.items, self.now.expects) }
     {
         match self.expects {
-            Expects::Behind => self.containers.is_empty(),
+            Expects::AfterValue => self.containers.is_empty(),
             _ => false,
         }
     }

@@ -1,6 +1,6 @@
 //! The line and the column of a byte of a text.
 ghost use Rattle.std.specs.Prelude.{◌≡◌, ◌<◌, ◌^◌};
-ghost use Rattle.fallible_json.specs.Places.{after_byte, is_within, place_behind, place_of};
+ghost use Rattle.fallible_json.specs.Places.{after_byte, is_within, place_after_bytes, place_of};
 
 // Whether a byte goes on with a character of UTF-8.
 fn is_within(byte: u8) -> bool
@@ -9,7 +9,7 @@ fn is_within(byte: u8) -> bool
     byte >= 128 && byte < 192
 }
 
-// The line and the column of what comes behind a byte that has these.
+// The line and the column of what comes after a byte that has these.
 fn after_byte(place: (usize, usize), byte: u8) -> (usize, usize)
     requires line { place.0 < 2 ^ 63 }
     requires column { place.1 < 2 ^ 63 }
@@ -24,9 +24,9 @@ fn after_byte(place: (usize, usize), byte: u8) -> (usize, usize)
     }
 }
 
-// The line and the column of what comes behind these bytes.
-fn place_behind(bytes: &[u8]) -> (usize, usize)
-    ensures { result ≡ place_behind (1, 1) bytes.now }
+// The line and the column of what comes after these bytes.
+fn place_after_bytes(bytes: &[u8]) -> (usize, usize)
+    ensures { result ≡ place_after_bytes (1, 1) bytes.now }
 {
     let mut place = (1, 1);
     for byte in bytes {
@@ -35,13 +35,13 @@ fn place_behind(bytes: &[u8]) -> (usize, usize)
     place
 }
 
-/// The line and the column of a byte, both from 1. A line ends after a line feed, and each character before it in its line counts one for the column. Behind the last byte they are those of a further one.
+/// The line and the column of a byte, both from 1. A line ends after a line feed, and each character before it in its line counts one for the column. After the last byte they are those of a further one.
 pub fn place_of(text: &[u8], byte: usize) -> (usize, usize)
     ensures { result ≡ place_of text.now byte }
 {
     if byte < text.len() {
-        place_behind(&text[..byte])
+        place_after_bytes(&text[..byte])
     } else {
-        place_behind(text)
+        place_after_bytes(text)
     }
 }

@@ -16,24 +16,24 @@ pub finds_short : (bytes : List ℕ) → length bytes < 4 → FindsCell (first_c
 unfolding first_cell
 finds_short bytes few = rw (lt-leb 4 (length bytes) few) tt
 
--- these bytes begin with this length, and these come behind it
+-- these bytes begin with this length, and these come after it
 pub record HasLength (bytes tail : List ℕ) (n : ℕ) : Type 0 where
   pub long : 4 ≤ length bytes
   pub is : n ≡ u32_at bytes 0
-  pub behind : tail ≡ drop 4 bytes
+  pub is_tail : tail ≡ drop 4 bytes
 
 module _ {bytes tail : List ℕ} {n : ℕ} (begins : HasLength bytes tail n) where
   pub finds_null : (rest : Bor (List ℕ)) → n ≡ 4294967295 → rest.now ≡ tail → FindsCell (first_cell bytes) (Some (None, rest))
   unfolding first_cell
-  finds_null rest null after = rw (le-leb 4 (length bytes) begins.long, sym begins.is, eq-eqb n 4294967295 null) (tt, after ∙ begins.behind)
+  finds_null rest null after = rw (le-leb 4 (length bytes) begins.long, sym begins.is, eq-eqb n 4294967295 null) (tt, after ∙ begins.is_tail)
 
   pub finds_few : n ≢ 4294967295 → length tail < n → FindsCell (first_cell bytes) None
   unfolding first_cell
-  finds_few some few = rw (le-leb 4 (length bytes) begins.long, sym begins.is, ne_eqb n 4294967295 some, sym begins.behind, lt-leb n (length tail) few) tt
+  finds_few some few = rw (le-leb 4 (length bytes) begins.long, sym begins.is, ne_eqb n 4294967295 some, sym begins.is_tail, lt-leb n (length tail) few) tt
 
   pub finds_cell : (cell rest : Bor (List ℕ)) → n ≢ 4294967295 → n ≤ length tail → cell.now ≡ take n tail → rest.now ≡ drop n tail → FindsCell (first_cell bytes) (Some (Some cell, rest))
   unfolding first_cell
-  finds_cell cell rest some enough at after = rw (le-leb 4 (length bytes) begins.long, sym begins.is, ne_eqb n 4294967295 some, sym begins.behind, le-leb n (length tail) enough) (at, after)
+  finds_cell cell rest some enough at after = rw (le-leb 4 (length bytes) begins.long, sym begins.is, ne_eqb n 4294967295 some, sym begins.is_tail, le-leb n (length tail) enough) (at, after)
 
 -- ---- one draw
 
@@ -42,10 +42,10 @@ unfolding cells_from
 takes_cell_end k [] none empty = rw none (refl, refl)
 takes_cell_end k (b ∷ bs) none empty = absurd (omega (arith, empty))
 
-pub takes_cell_behind : (k : ℕ) (bytes bytes' : List ℕ) → k ≡ 0 → 0 < length bytes → bytes' ≡ [] → TakesCell (cells_from k bytes) (Err Row) (cells_from k bytes')
+pub takes_bytes_after_cells : (k : ℕ) (bytes bytes' : List ℕ) → k ≡ 0 → 0 < length bytes → bytes' ≡ [] → TakesCell (cells_from k bytes) (Err Row) (cells_from k bytes')
 unfolding cells_from
-takes_cell_behind k [] bytes' none some empty = absurd (omega (arith, some))
-takes_cell_behind k (b ∷ bs) bytes' none some empty = rw (none, empty) (refl, refl)
+takes_bytes_after_cells k [] bytes' none some empty = absurd (omega (arith, some))
+takes_bytes_after_cells k (b ∷ bs) bytes' none some empty = rw (none, empty) (refl, refl)
 
 takes_cell_first : (k : ℕ) (found : Option (Option (List ℕ) × List ℕ)) (o : Cell) (rest : Bor (List ℕ)) → FindsCell found (Some (o, rest)) → TakesCell (cell_then found (cells_from k)) (Ok (Some o)) (cells_from k rest.now)
 takes_cell_first k None o rest h = absurd h
@@ -82,7 +82,7 @@ cells_of-short (b ∷ bs) some few = rw (lt-leb 7 (length (b ∷ bs)) few) refl
 
 pub cells_of-long : (message bytes : List ℕ) (n : ℕ) → 7 ≤ length message → n ≡ u16_at message 5 → bytes ≡ drop 7 message → cells_from n bytes ≡ cells_of message
 unfolding cells_of
-cells_of-long message bytes n long is behind = rw (le-leb 7 (length message) long, is, behind) refl
+cells_of-long message bytes n long is is_tail = rw (le-leb 7 (length message) long, is, is_tail) refl
 
 -- whether no cell is damaged, after a draw
 

@@ -4,7 +4,7 @@ use Rattle.std.specs.Prelude.{All}
 use Rattle.std.specs.List.{concat}
 use Rattle.std.proofs.lemmas.List.Elements.{All-nil, All-cons, All-head, All-tail}
 use Rattle.program_io.specs.Bytes.{GivesByte, GivesBytes}
-use Rattle.fallible_iterator.specs.Laws.Closures.{folds_to_then}
+use Rattle.fallible_iterator.specs.Laws.Closures.{folds_to_in_turn}
 use Rattle.fallible_iterator.specs.Traces.{Answered, Yields}
 use Rattle.fallible_pg.specs.Draws.{IsOfKind, ReadsAnswer, GoesOn, DrawsBytes}
 use Rattle.fallible_pg.specs.Messages.{message_bytes}
@@ -37,7 +37,7 @@ module _ {R : Type 0} (left : R → Option (List ℕ)) (stays : Bool → R → R
       let step = h.1 in
       let rest = yields_bytes ms u.0 (n + length (message_bytes m)) q (subst (λ (o : Option ℕ). Yields (message_step left stays) (u.0, o) ms q) step.2 h.2) in
       let long : (n + length (message_bytes m)) + length (concat (all_bytes ms)) ≡ n + length (message_bytes m ++ concat (all_bytes ms)) = omega (arith, length-append (message_bytes m) (concat (all_bytes ms))) in
-      (folds_to_then (GivesByte left stays) (message_bytes m) (concat (all_bytes ms)) r u.0 q.0 step.0 rest.0, rest.1 ∙ ap (λ (k : ℕ). Some k) long)
+      (folds_to_in_turn (GivesByte left stays) (message_bytes m) (concat (all_bytes ms)) r u.0 q.0 step.0 rest.0, rest.1 ∙ ap (λ (k : ℕ). Some k) long)
 
   -- the last message, by its kind
   reads_kind : (place : ℕ) (m : Message) (r : R) (q : Parts) (kind : Kind) (answer : Answered Row PgFault) (ended : Bool) → kind_of (message_bytes m) ≡ kind → GivesBytes left stays r (message_bytes m) q.0 → MadeOfKind place m kind answer ended → ReadsAnswer left stays place r answer q.0

@@ -23,18 +23,18 @@ module _ (bytes : List ℕ) (i : ℕ) (so_far : before_zero bytes ≡ take i byt
       let rest = before_zero (drop (i + 1) bytes) in
       so_far ∙ ap (λ l. take i bytes ++ before_zero l) (drop_more bytes i 0 inside) ∙ ap (λ l. take i bytes ++ l) (before_zero-other b (drop (i + 1) bytes) other) ∙ sym (append_assoc (take i bytes) (b ∷ []) rest) ∙ ap (λ l. l ++ rest) (sym (take_more bytes i 0 inside))
 
-  pub zero_here : i < length bytes → slice_index bytes i ≡ 0 → take i bytes ≡ before_zero bytes
-  zero_here inside is = sym (so_far ∙ ap (λ l. take i bytes ++ before_zero l) (drop_more bytes i 0 inside) ∙ ap (λ l. take i bytes ++ l) (before_zero-zero (slice_index bytes i) (drop (i + 1) bytes) is) ∙ append-nil (take i bytes))
+  pub takes_up_to_zero : i < length bytes → slice_index bytes i ≡ 0 → take i bytes ≡ before_zero bytes
+  takes_up_to_zero inside is = sym (so_far ∙ ap (λ l. take i bytes ++ before_zero l) (drop_more bytes i 0 inside) ∙ ap (λ l. take i bytes ++ l) (before_zero-zero (slice_index bytes i) (drop (i + 1) bytes) is) ∙ append-nil (take i bytes))
 
   pub no_zero : length bytes ≤ i → bytes ≡ before_zero bytes
-  no_zero behind = sym (so_far ∙ ap (λ l. take i bytes ++ before_zero l) (drop_of_length-le bytes behind) ∙ ap (λ l. take i bytes ++ l) before_zero-none ∙ append-nil (take i bytes) ∙ take_all i bytes behind)
+  no_zero all_read = sym (so_far ∙ ap (λ l. take i bytes ++ before_zero l) (drop_of_length-le bytes all_read) ∙ ap (λ l. take i bytes ++ l) before_zero-none ∙ append-nil (take i bytes) ∙ take_all i bytes all_read)
 
 -- ---- fields
 
-field_on : (begins : Bool) (letter b : ℕ) (bs : List ℕ) → (begins ≡ true → b ≢ letter) → field_from begins letter (b ∷ bs) ≡ field_from (b == 0) letter bs
+field_of_other_byte : (begins : Bool) (letter b : ℕ) (bs : List ℕ) → (begins ≡ true → b ≢ letter) → field_from begins letter (b ∷ bs) ≡ field_from (b == 0) letter bs
 unfolding field_from
-field_on true letter b bs other = rw (ne_eqb b letter (other refl)) refl
-field_on false letter b bs other = refl
+field_of_other_byte true letter b bs other = rw (ne_eqb b letter (other refl)) refl
+field_of_other_byte false letter b bs other = refl
 
 field_found : (letter b : ℕ) (bs : List ℕ) → b ≡ letter → field_from true letter (b ∷ bs) ≡ before_zero bs
 unfolding field_from
@@ -47,10 +47,10 @@ field_none false letter = refl
 
 module _ (fields : List ℕ) (letter i : ℕ) (begins : Bool) (so_far : field_from true letter fields ≡ field_from begins letter (drop i fields)) where
   pub field_next : i < length fields → (begins ≡ true → slice_index fields i ≢ letter) → field_from true letter fields ≡ field_from (slice_index fields i == 0) letter (drop (i + 1) fields)
-  field_next inside other = so_far ∙ ap (field_from begins letter) (drop_more fields i 0 inside) ∙ field_on begins letter (slice_index fields i) (drop (i + 1) fields) other
+  field_next inside other = so_far ∙ ap (field_from begins letter) (drop_more fields i 0 inside) ∙ field_of_other_byte begins letter (slice_index fields i) (drop (i + 1) fields) other
 
-  pub field_here : i < length fields → begins ≡ true → slice_index fields i ≡ letter → before_zero (drop (i + 1) fields) ≡ field_from true letter fields
-  field_here inside starts is = sym (so_far ∙ ap (λ (b : Bool). field_from b letter (drop i fields)) starts ∙ ap (field_from true letter) (drop_more fields i 0 inside) ∙ field_found letter (slice_index fields i) (drop (i + 1) fields) is)
+  pub field_is_text_after_letter : i < length fields → begins ≡ true → slice_index fields i ≡ letter → before_zero (drop (i + 1) fields) ≡ field_from true letter fields
+  field_is_text_after_letter inside starts is = sym (so_far ∙ ap (λ (b : Bool). field_from b letter (drop i fields)) starts ∙ ap (field_from true letter) (drop_more fields i 0 inside) ∙ field_found letter (slice_index fields i) (drop (i + 1) fields) is)
 
   pub no_field : length fields ≤ i → [] ≡ field_from true letter fields
-  no_field behind = sym (so_far ∙ ap (field_from begins letter) (drop_of_length-le fields behind) ∙ field_none begins letter)
+  no_field all_read = sym (so_far ∙ ap (field_from begins letter) (drop_of_length-le fields all_read) ∙ field_none begins letter)

@@ -55,12 +55,12 @@ messages_of-message : (place : ℕ) (m rest : List ℕ) → IsMessage m → mess
 messages_of-message place m rest is =
     let all = m ++ rest in
     let front : take (length m) all ≡ m = take_at m rest (length m) refl in
-    let behind : drop (length m) all ≡ rest = drop_at m rest (length m) refl in
+    let is_rest : drop (length m) all ≡ rest = drop_at m rest (length m) refl in
     let long = length-append m rest in
     messages_of-step place all
     ∙ ap (λ (s : Result ℕ Damage). messages_at s place all (messages_in (length all))) (first_size-message m rest is)
     ∙ ap {B = Listed} (λ l. Ok l ∷ messages_in (length all) (place + length m) (drop (length m) all)) front
-    ∙ ap {B = Listed} (λ l. Ok m ∷ l) (ap (messages_in (length all) (place + length m)) behind ∙ messages_in-alike (length all) (length rest) (place + length m) rest (omega (arith, long)) (omega arith))
+    ∙ ap {B = Listed} (λ l. Ok m ∷ l) (ap (messages_in (length all) (place + length m)) is_rest ∙ messages_in-alike (length all) (length rest) (place + length m) rest (omega (arith, long)) (omega arith))
 
 messages_of-damage : (place : ℕ) (bytes : List ℕ) (damage : Damage) → first_size bytes ≡ Err damage → messages_of place bytes ≡ Err (Damaged place damage) ∷ []
 messages_of-damage place bytes damage is = messages_of-step place bytes ∙ ap (λ (s : Result ℕ Damage). messages_at s place bytes (messages_in (length bytes))) is

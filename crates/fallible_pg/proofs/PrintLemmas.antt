@@ -7,7 +7,7 @@ use Rattle.std.proofs.KnownBytes.{Appends-nil, Appends-trans}
 use Rattle.std.proofs.lemmas.List.Elements.{All-nil, All-cons, All-append, All-head, All-tail}
 use Rattle.std.proofs.lemmas.List.Folds.{concat-append}
 use Rattle.program_io.specs.Bytes.{GivesByte, GivesBytes}
-use Rattle.fallible_iterator.specs.Laws.Closures.{folds_to_then}
+use Rattle.fallible_iterator.specs.Laws.Closures.{folds_to_in_turn}
 use Rattle.fallible_iterator.specs.Traces.{Answered, item}
 use Rattle.fallible_pg.specs.Draws.{row_bytes, IsOfKind, ReadsAnswer, DrawsBytes}
 use Rattle.fallible_pg.specs.Rows.{kind_of, rows_step}
@@ -45,7 +45,7 @@ module _ {R : Type 0} (left : R → Option (List ℕ)) (stays : Bool → R → R
   Parts = (R × Option ℕ) × Bool
 
   gives_all : (ms ns : List (List ℕ)) (p q r : R) → GivesBytes left stays p (concat ms) q → GivesBytes left stays q (concat ns) r → GivesBytes left stays p (concat (ms ++ ns)) r
-  gives_all ms ns p q r h k = subst (λ l. GivesBytes left stays p l r) (sym (concat-append ms ns)) (folds_to_then (GivesByte left stays) (concat ms) (concat ns) p q r h k)
+  gives_all ms ns p q r h k = subst (λ l. GivesBytes left stays p l r) (sym (concat-append ms ns)) (folds_to_in_turn (GivesByte left stays) (concat ms) (concat ns) p q r h k)
 
   length_all : (ms ns : List (List ℕ)) → length (concat (ms ++ ns)) ≡ length (concat ms) + length (concat ns)
   length_all ms ns = ap length (concat-append ms ns) ∙ length-append (concat ms) (concat ns)

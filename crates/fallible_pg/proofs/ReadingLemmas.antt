@@ -1,7 +1,7 @@
 -- Lemmas on bytes that were read, and on the message that they begin.
 use Rattle.std.proofs.Common.{length-take, false, true, ◌≡◌, ℕ, ◌+◌, ◌-◌, ◌≤◌, Bool, List, [], ◌++◌, length, Option, Ok, Err, refl, sym, ap, subst, ◌∙◌, arith}
 use Rattle.std.proofs.lemmas.List.{length-append}
-use Rattle.fallible_iterator.specs.Laws.Closures.{folds_to_then}
+use Rattle.fallible_iterator.specs.Laws.Closures.{folds_to_in_turn}
 use Rattle.program_io.specs.Bytes.{GivesByte, GivesBytes, StopsShort, ReadsUpTo}
 use Rattle.program_io.specs.declared.reading.Unread.{Unread}
 use Rattle.program_io.specs.declared.reading.Unread.TheVariants.{End, Failed, Memory}
@@ -14,7 +14,7 @@ use Rattle.fallible_pg.specs.declared.reading.Broken.TheVariants.{Damaged}
 
 module _ {R : Type 0} (left : R → Option (List ℕ)) (stays : Bool → R → R → Type 0) where
   gives_bytes_then : (xs ys : List ℕ) (p q r : R) → GivesBytes left stays p xs q → GivesBytes left stays q ys r → GivesBytes left stays p (xs ++ ys) r
-  gives_bytes_then xs ys p q r h k = folds_to_then (GivesByte left stays) xs ys p q r h k
+  gives_bytes_then xs ys p q r h k = folds_to_in_turn (GivesByte left stays) xs ys p q r h k
 
   -- ---- a message
 
@@ -28,7 +28,7 @@ module _ {R : Type 0} (left : R → Option (List ℕ)) (stays : Bool → R → R
   breaks_in_body n begun last q Failed stated right long h = (let few = h.0 in first_size-cut begun n stated long right (omega (arith, few)), h.1)
   breaks_in_body n begun last q Memory stated right long h = (first_size-but_last begun n (λ _. stated) right h.0, h.1)
 
-  -- the first five bytes, behind none
+  -- the first five bytes, after none
   pub head_read : {old : List ℕ} (r p : R) (head : List ℕ) (done : Unit {0}) → old ≡ [] → ReadsUpTo left stays r old 5 (Ok done) head p → GivesBytes left stays r head p × (length head ≡ 5)
   head_read r p head done none h = (subst (λ l. GivesBytes left stays r l p) (sym (h.1 ∙ ap (λ l. l ++ h.0) none)) h.2, h.3)
 

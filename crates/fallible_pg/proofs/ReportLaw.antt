@@ -55,7 +55,7 @@ fault_of_passed place (m ∷ ms) rest each =
     ∙ ap (λ (n : ℕ). first_fault (turns_of n rest)) on
 
 module _ {R W : Type 0} (left : R → Option (List ℕ)) (stays : Bool → R → R → Type 0) (failed : W → Type 0) (input after : R) (written now : Option (List ℕ)) (output : W) (bytes : List ℕ) (known : left input ≡ Some bytes) where
-  -- what comes of all the bytes, by what comes of those behind the messages that were passed
+  -- what comes of all the bytes, by what comes of those after the messages that were passed
   reports : (ms : List (List ℕ)) (rest : List ℕ) (fault : Option Turn) → All IsPassed ms → bytes ≡ concat ms ++ rest → first_fault (turns_of (length (concat ms)) rest) ≡ fault → turns_text (turns_of (length (concat ms)) rest) ≡ [] → Appends written now (rows_text ms) → ReportsTurns (turns_of 0 bytes) fault written now
   reports ms rest fault each are is none wrote =
       let from : 0 + length (concat ms) ≡ length (concat ms) = omega arith in (

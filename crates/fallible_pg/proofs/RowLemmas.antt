@@ -2,7 +2,7 @@
 use Rattle.std.proofs.Common.{◌≡◌, ℕ, ◌+◌, ◌≤◌, Bool, false, List, [], ◌∷◌, ◌++◌, Option, Some, None, Ok, refl, sym, subst, ◌∙◌, arith}
 use Rattle.std.specs.Prelude.{All}
 use Rattle.std.proofs.lemmas.List.Elements.{All-nil, All-cons, All-append}
-use Rattle.fallible_iterator.specs.Laws.Closures.{folds_to_then}
+use Rattle.fallible_iterator.specs.Laws.Closures.{folds_to_in_turn}
 use Rattle.fallible_iterator.specs.Traces.{Answered, Yields, item}
 use Rattle.fallible_pg.specs.Messages.{message_bytes}
 use Rattle.fallible_pg.specs.Reading.{message_step, place_of}
@@ -19,7 +19,7 @@ pub made_of_kind : {place at : ℕ} {found kind : Kind} (m : Message) (answer : 
 made_of_kind {place = place} {kind = kind} m answer ended is one same h = subst (λ (k : Kind). MadeOfKind place m k answer ended) (sym one ∙ is) (subst (λ (n : ℕ). MadeOfKind n m kind answer ended) same h)
 
 pub yields_more : {P A E : Type 0} (step : P → Answered A E → P → Type 0) (xs : List A) (x : A) (p q t : P) → Yields step p xs q → step q (item x) t → Yields step p (xs ++ x ∷ []) t
-yields_more step xs x p q t h k = folds_to_then (λ u y v. step u (item y) v) xs (x ∷ []) p q t h (t, k, refl)
+yields_more step xs x p q t h k = folds_to_in_turn (λ u y v. step u (item y) v) xs (x ∷ []) p q t h (t, k, refl)
 
 module _ {R : Type 0} (left : R → Option (List ℕ)) (stays : Bool → R → R → Type 0) where
   abbrev Parts : Type 0

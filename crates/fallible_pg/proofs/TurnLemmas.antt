@@ -106,12 +106,12 @@ pub turns_of-message : (place : ℕ) (m rest : List ℕ) → IsMessage m → tur
 turns_of-message place m rest is =
     let all = m ++ rest in
     let front : take (length m) all ≡ m = take_at m rest (length m) refl in
-    let behind : drop (length m) all ≡ rest = drop_at m rest (length m) refl in
+    let is_rest : drop (length m) all ≡ rest = drop_at m rest (length m) refl in
     let long = length-append m rest in
     turns_of-step place all
     ∙ ap (λ (s : Result ℕ Damage). turn_at s place all (turns_in (length all))) (first_size-message m rest is)
     ∙ ap (λ l. turn_by (kind_of l) place l (turns_in (length all) (place + length m) (drop (length m) all))) front
-    ∙ ap (turn_by (kind_of m) place m) (ap (turns_in (length all) (place + length m)) behind ∙ turns_in-alike (length all) (length rest) (place + length m) rest (omega (arith, long)) (omega arith))
+    ∙ ap (turn_by (kind_of m) place m) (ap (turns_in (length all) (place + length m)) is_rest ∙ turns_in-alike (length all) (length rest) (place + length m) rest (omega (arith, long)) (omega arith))
 
 pub turns_of-damage : (place : ℕ) (bytes : List ℕ) (damage : Damage) → first_size bytes ≡ Err damage → turns_of place bytes ≡ damaged place damage ∷ []
 turns_of-damage place bytes damage is = turns_of-step place bytes ∙ ap (λ (s : Result ℕ Damage). turn_at s place bytes (turns_in (length bytes))) is

@@ -11,7 +11,7 @@ use Rattle.fallible_pg.specs.declared.fault.Damage.TheVariants.{Row}
 abbrev pub cell_by : ℕ → List ℕ → Option (Option (List ℕ) × List ℕ)
 cell_by n rest = if n == 4294967295 then Some (None, rest) else if nat_le n (length rest) then Some (Some (take n rest), drop n rest) else None
 
--- the first cell, and the bytes after it: it comes behind four bytes that say how many it has
+-- the first cell, and the bytes after it: it comes after four bytes that say how many it has
 unfoldable pub first_cell : List ℕ → Option (Option (List ℕ) × List ℕ)
 first_cell bytes = if nat_le 4 (length bytes) then cell_by (u32_at bytes 0) (drop 4 bytes) else None
 
@@ -20,13 +20,13 @@ abbrev pub cell_then : Option (Option (List ℕ) × List ℕ) → (List ℕ → 
 cell_then (Some (cell, rest)) cells = Ok cell ∷ cells rest
 cell_then None cells = Err Row ∷ []
 
--- so many cells, up to the first damage; bytes behind the last cell are damage
+-- so many cells, up to the first damage; bytes after the last cell are damage
 unfoldable pub cells_from : ℕ → List ℕ → List (Result (Option (List ℕ)) Damage)
 cells_from zero [] = []
 cells_from zero (b ∷ bs) = Err Row ∷ []
 cells_from (suc k) bytes = cell_then (first_cell bytes) (cells_from k)
 
--- The cells of the message of a row, up to the first damage: as many as the two bytes behind its length say.
+-- The cells of the message of a row, up to the first damage: as many as the two bytes after its length say.
 unfoldable pub cells_of : List ℕ → List (Result (Option (List ℕ)) Damage)
 cells_of message = if nat_le 7 (length message) then cells_from (u16_at message 5) (drop 7 message) else Err Row ∷ []
 

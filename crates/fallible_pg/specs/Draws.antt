@@ -23,7 +23,7 @@ row_bytes row = message_bytes row.message
 abbrev pub IsOfKind : Kind → List ℕ → Type 0
 IsOfKind kind bytes = IsMessage bytes × (kind_of bytes ≡ kind)
 
--- after a row and after a refusal the next draw goes on behind it; after all else they ended
+-- after a row and after a refusal the next draw goes on after it; after all else they ended
 abbrev pub GoesOn : ℕ → Answered Row PgFault → Option ℕ → Bool → Type 0
 GoesOn place (Ok (Some row)) at ended = (at ≡ Some (place + length (row_bytes row))) × (ended ≡ false)
 GoesOn place (Err (Server m)) at ended = (at ≡ Some (place + length (message_bytes m))) × (ended ≡ false)

@@ -25,7 +25,7 @@ sent_password password = sent_text (codes "p") password
 abbrev pub sent_end : List ℕ
 sent_end = sent_message (codes "X") []
 
--- what asks for a session: version 3.0, and pairs of names and values, each with a 0 behind it, and a 0
+-- what asks for a session: version 3.0, and pairs of names and values, each with a 0 after it, and a 0
 abbrev pub startup_body : List ℕ → List ℕ → List ℕ
 startup_body user database = 0 ∷ 3 ∷ 0 ∷ 0 ∷ codes "user" ++ 0 ∷ user ++ 0 ∷ codes "database" ++ 0 ∷ database ++ 0 ∷ codes "client_encoding" ++ 0 ∷ codes "UTF8" ++ 0 ∷ 0 ∷ []
 

@@ -12,7 +12,7 @@ is_length n = nat_le 4 n && nat_le n 1073741823
 abbrev pub size_by : ℕ → List ℕ → Result ℕ Damage
 size_by n bytes = if is_length n then (if nat_le (n + 1) (length bytes) then Ok (n + 1) else Err Cut) else Err (Length n)
 
--- The size of the message that bytes begin with; or what is wrong: they are cut, or it states a length that none has. Behind its tag, one byte, a message states its length.
+-- The size of the message that bytes begin with; or what is wrong: they are cut, or it states a length that none has. After its tag, one byte, a message states its length.
 unfoldable pub first_size : List ℕ → Result ℕ Damage
 first_size bytes = if nat_le 5 (length bytes) then size_by (u32_at bytes 1) bytes else Err Cut
 

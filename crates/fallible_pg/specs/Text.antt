@@ -9,7 +9,7 @@ abbrev pub cell_text : Option (List ℕ) → List ℕ
 cell_text (Some bytes) = bytes
 cell_text None = []
 
--- the text behind the first cell: a bar before each further one, and a newline after the last
+-- the text after the first cell: a bar before each further one, and a newline after the last
 abbrev pub further_text : List (Result (Option (List ℕ)) Damage) → List ℕ
 further_text [] = 10 ∷ []
 further_text (Ok cell ∷ cells) = 124 ∷ cell_text cell ++ further_text cells

@@ -4,7 +4,7 @@ use Rattle.std.specs.Prelude.{replicate, ◌↔◌}
 use Rattle.std.proofs.lemmas.List.{length-append}
 use Rattle.std.proofs.lemmas.List.Elements.{All-nil}
 use Rattle.fallible_iterator.specs.Traces.{Answered, Run, failure, end}
-use Rattle.fallible_iterator.specs.Laws.Closures.{folds_to_then}
+use Rattle.fallible_iterator.specs.Laws.Closures.{folds_to_in_turn}
 use Rattle.fallible_iterator.proofs.Lemmas.Callers.{turns_split}
 use Rattle.program_io.specs.Bytes.{GivesByte, GivesBytes}
 use Rattle.fallible_rows.specs.Rows.{rows, row_number}
@@ -57,7 +57,7 @@ module _ {B : Type 0} (left : B → Option (List ℕ)) (stays : Bool → B → B
 
   gives_bytes_before : (r q last : B) (row closed unclosed : List ℕ) (mid : B) → GivesBytes left stays r row mid → GivesByte left stays mid 10 q → GivesBytes left stays q (closed ++ unclosed) last → GivesBytes left stays r ((row ++ 10 ∷ closed) ++ unclosed) last
   gives_bytes_before r q last row closed unclosed mid given newline others =
-      subst (λ l. GivesBytes left stays r l last) (sym (append_assoc row (10 ∷ closed) unclosed)) (folds_to_then (GivesByte left stays) row (10 ∷ (closed ++ unclosed)) r mid last given (q, newline, others))
+      subst (λ l. GivesBytes left stays r l last) (sym (append_assoc row (10 ∷ closed) unclosed)) (folds_to_in_turn (GivesByte left stays) row (10 ∷ (closed ++ unclosed)) r mid last given (q, newline, others))
 
   -- the answers of a row and of the others
   row_answers_first : (place place' : ℕ) (row bytes : List ℕ) → IsOneRow row → place' ≡ told_place (place + 1) → row_answer place row ∷ row_answers place' (rows bytes) ≡ row_answers place (rows (row ++ 10 ∷ bytes))

@@ -48,11 +48,11 @@ run_rows_seen step trace s t = traces_are_of_parts rows_parts rows_of (λ x. ref
 -- ---- one draw
 
 module _ {B : Type 0} {left : B → Option (List ℕ)} {stays : Bool → B → B → Type 0} {r q : B} (a : Ahead) {digits : Digits} {close : Close} (read : ReadsRow left stays r a.left (digits, close) q) where
-  closes_as : (c : Close) → close ≡ c → ClosesAs left stays a.left read.row read.last c q
-  closes_as c is = subst (λ (z : Close). ClosesAs left stays a.left read.row read.last z q) is read.closed
+  closes_of_same_close : (c : Close) → close ≡ c → ClosesAs left stays a.left read.row read.last c q
+  closes_of_same_close c is = subst (λ (z : Close). ClosesAs left stays a.left read.row read.last z q) is read.closed
 
   pub draws_row_by_newline : (more place : ℕ) (answer : Answered ℕ RowFault) → close ≡ Newline more → place ≡ told_place (a.place + 1) → ((bytes : List ℕ) → TellsOf digits bytes → answer ≡ row_answer a.place bytes) → DrawsRow left stays r a answer (q, Some (record { left = more; place = place }))
-  draws_row_by_newline more place answer is next answered = let c = closes_as (Newline more) is in record {
+  draws_row_by_newline more place answer is next answered = let c = closes_of_same_close (Newline more) is in record {
     row = read.row;
     one = read.one;
     last = read.last;
@@ -61,7 +61,7 @@ module _ {B : Type 0} {left : B → Option (List ℕ)} {stays : Bool → B → B
   }
 
   pub draws_row_by_end : (answer : Answered ℕ RowFault) → close ≡ End → ((bytes : List ℕ) → TellsOf digits bytes → ((bytes ≡ []) × (answer ≡ end)) ⊎ ((bytes ≢ []) × (answer ≡ row_answer a.place bytes))) → DrawsRow left stays r a answer (q, None)
-  draws_row_by_end answer is answered = let c = closes_as End is in record {
+  draws_row_by_end answer is answered = let c = closes_of_same_close End is in record {
     row = read.row;
     one = read.one;
     last = read.last;
@@ -75,5 +75,5 @@ module _ {B : Type 0} {left : B → Option (List ℕ)} {stays : Bool → B → B
     one = read.one;
     last = read.last;
     given = read.given;
-    ended = inr (inr (record { missed = closes_as Failure is; is_left = refl; answered = refl }));
+    ended = inr (inr (record { missed = closes_of_same_close Failure is; is_left = refl; answered = refl }));
   }

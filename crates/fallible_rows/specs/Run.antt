@@ -60,6 +60,6 @@ pub record NoneRefusedYet (old new : Option (List ℕ)) : Type 0 where
   pub numbers : AreNumbers (rows closed)
   pub few : length (rows closed) < row_limit
 
--- A read failed behind some first bytes, and left the reader so; or as many bytes as may be read were.
+-- A read failed after some first bytes, and left the reader so; or as many bytes as may be read were.
 abbrev pub FailsReading : {R : Type 0} → (R → Option (List ℕ)) → (Bool → R → R → Type 0) → R → R → Type 0
 FailsReading {R} left stays r q = (bytes : List ℕ) × (last : R) × Consumes (left r) (left last) bytes × ((length bytes ≡ byte_limit) ⊎ stays true last q)

@@ -14,8 +14,8 @@ use Rattle.program_io.specs.declared.reading.Unread.TheVariants.{End, Failed, Me
 
 -- ---- a buffered reader
 
-consumes_first : (unknown : Bool) (held : List ℕ) (byte : ℕ) (rest : List ℕ) (behind : Option (List ℕ)) → held ≡ byte ∷ rest → Consumes (if unknown then None else prepend_known held behind) (if unknown then None else prepend_known rest behind) (byte ∷ [])
-consumes_first true held byte rest behind is = tt
+consumes_first : (unknown : Bool) (held : List ℕ) (byte : ℕ) (rest : List ℕ) (unread : Option (List ℕ)) → held ≡ byte ∷ rest → Consumes (if unknown then None else prepend_known held unread) (if unknown then None else prepend_known rest unread) (byte ∷ [])
+consumes_first true held byte rest unread is = tt
 consumes_first false held byte rest None is = tt
 consumes_first false held byte rest (Some more) is = ap (λ l. l ++ more) is
 
@@ -41,13 +41,13 @@ module _ {R : Type 0} (remaining : R → Option (List ℕ)) where
 -- ---- a reader that is lent
 
 -- the same reference, which this stands under
-abbrev pub lent_as : {R : Type 0} → Lent R → R → Lent R
-lent_as s q = record { reader = record s.reader { now = q } }
+abbrev pub lent_with_reader : {R : Type 0} → Lent R → R → Lent R
+lent_with_reader s q = record { reader = record s.reader { now = q } }
 
 module _ {R : Type 0} (left : R → Option (List ℕ)) (stays : Bool → R → R → Type 0) where
-  pub gives_bytes_lent : (s : Lent R) (bytes : List ℕ) (q : R) → GivesBytes left stays s.reader.now bytes q → GivesBytes {R = Lent R} (λ t. left t.reader.now) (λ failed t u. (u.reader.ghost_name ≡ t.reader.ghost_name) × stays failed t.reader.now u.reader.now) s bytes (lent_as s q)
-  gives_bytes_lent s [] q h = ap (lent_as s) h
-  gives_bytes_lent s (byte ∷ bytes) q h = (lent_as s h.0, (h.1.0, (refl, h.1.1)), gives_bytes_lent (lent_as s h.0) bytes q h.2)
+  pub gives_bytes_lent : (s : Lent R) (bytes : List ℕ) (q : R) → GivesBytes left stays s.reader.now bytes q → GivesBytes {R = Lent R} (λ t. left t.reader.now) (λ failed t u. (u.reader.ghost_name ≡ t.reader.ghost_name) × stays failed t.reader.now u.reader.now) s bytes (lent_with_reader s q)
+  gives_bytes_lent s [] q h = ap (lent_with_reader s) h
+  gives_bytes_lent s (byte ∷ bytes) q h = (lent_with_reader s h.0, (h.1.0, (refl, h.1.1)), gives_bytes_lent (lent_with_reader s h.0) bytes q h.2)
 
 -- ---- bytes in memory
 

@@ -39,12 +39,12 @@ module _ {R : Type 0} (left : R → Option (List ℕ)) (stays : Bool → R → R
   StopsShort n many last Failed q = (many < n) × FailsToRead last q
   StopsShort n many last Memory q = (many ≤ n) × (q ≡ last)
 
-  -- Some bytes were read behind those that were there, at most so many; or fewer came.
+  -- Some bytes were read after those that were there, at most so many; or fewer came.
   abbrev pub ReadsSome : {U : Type 0} → R → List ℕ → ℕ → Result U Unread → List ℕ → R → Type 0
   ReadsSome r old room (Ok done) new q = (more : List ℕ) × (new ≡ old ++ more) × GivesBytes r more q × (1 ≤ length more) × (length more ≤ room)
   ReadsSome r old room (Err why) new q = (more : List ℕ) × (last : R) × GivesBytes r more last × StopsShort room (length more) last why q
 
-  -- Bytes were read behind those that were there, until they were n; or fewer came.
+  -- Bytes were read after those that were there, until they were n; or fewer came.
   abbrev pub ReadsUpTo : {U : Type 0} → R → List ℕ → ℕ → Result U Unread → List ℕ → R → Type 0
   ReadsUpTo r old n (Ok done) new q = (more : List ℕ) × (new ≡ old ++ more) × GivesBytes r more q × (length new ≡ n)
   ReadsUpTo r old n (Err why) new q = (more : List ℕ) × (last : R) × GivesBytes r more last × StopsShort n (length (old ++ more)) last why q

@@ -4,7 +4,7 @@ use fallible_iterator::Fault;
 use std::test::Fail;
 
 #[test]
-fn a_tally_refuses_behind_1000(rt: HostRuntime) -> Result<(), Fail> {
+fn a_tally_refuses_after_1000(rt: HostRuntime) -> Result<(), Fail> {
     let mut more = Vec::new(rt.alloc());
     for place in 0..1001 {
         more.push(Ok(place))?;

@@ -3,7 +3,7 @@ use example_by_hand::ascii::{Ascii, answers_in, first_line_end, line_ends};
 use example_by_hand::own::{
     Between, Countdown, Span, collected_between, even_below, even_between, even_in_loop,
     first_above_100, numbers_down, numbers_in_rounds, pairs_down, same_in_pairs, sum_down,
-    sum_down_doubled, sum_with, tried_between,
+    sum_down_doubled, sum_with, try_collect_between,
 };
 use example_by_hand::pairing::{Pairs, count_pairs, sum_of_pairs};
 use example_by_hand::retrying::Retried;
@@ -35,7 +35,7 @@ fn a_countdown_is_read_by_std_and_by_hand(rt: HostRuntime) -> Result<(), Fail> {
     assert_eq!(rt; sum_down_doubled(Countdown::new(4)), Ok(20));
     let between = collected_between(rt.alloc(), 3, 6)?;
     assert_eq!(rt; between.as_slice(), [3, 4, 5].as_slice());
-    let tried = tried_between(rt.alloc(), 3, 5)?;
+    let tried = try_collect_between(rt.alloc(), 3, 5)?;
     assert_eq!(rt; tried.as_slice(), [3, 4].as_slice());
     assert_eq!(rt; numbers_in_rounds(3, 4), Ok(12));
     Ok(())

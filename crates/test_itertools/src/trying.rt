@@ -93,7 +93,7 @@ fn searches_end_with_the_item_that_decides_or_with_either_failure() -> Result<()
     Ok(())
 }
 
-// What stands behind an end is not looked at.
+// What stands after an end is not looked at.
 #[test]
 fn try_find_ends_with_its_iterator(rt: HostRuntime) -> Result<(), Fail> {
     let mut it = script(&rt, &[Ok(Some(5)), Ok(None), Ok(Some(6))])?;

@@ -309,8 +309,8 @@ const OF_FILTER_FILTER_MAP_AND_SKIP_WHILE: NumbersCase = Case {
 };
 
 // The clone skips no more.
-const OF_SKIP_WHILE_BEHIND_ITS_FIRST_ITEM: NumbersCase = Case {
-    name: "SkipWhile behind its first item",
+const OF_SKIP_WHILE_AFTER_ITS_FIRST_ITEM: NumbersCase = Case {
+    name: "SkipWhile after its first item",
     requests: 1,
     hints: [(0, Some(3)), NONE],
     first: &[Item(2)],
@@ -335,8 +335,8 @@ const OF_TAKE_WHILE_AND_FUSE: NumbersCase = Case {
 };
 
 // The clone only ends, where the source yields 3 next.
-const OF_TAKE_WHILE_BEHIND_ITS_END: NumbersCase = Case {
-    name: "TakeWhile behind its end",
+const OF_TAKE_WHILE_AFTER_ITS_END: NumbersCase = Case {
+    name: "TakeWhile after its end",
     requests: 1,
     hints: [(0, Some(2)), NONE],
     first: &[End],
@@ -344,8 +344,8 @@ const OF_TAKE_WHILE_BEHIND_ITS_END: NumbersCase = Case {
 };
 
 // The source would go on.
-const OF_FUSE_BEHIND_ITS_END: NumbersCase = Case {
-    name: "Fuse behind its end",
+const OF_FUSE_AFTER_ITS_END: NumbersCase = Case {
+    name: "Fuse after its end",
     requests: 0,
     hints: [UNKNOWN, NONE],
     first: &[End],
@@ -361,13 +361,13 @@ fn refused_clones_of_adapters_that_leave_items_out(rt: HostRuntime) -> Result<()
         .skip_while(is_11);
     expect_refused_clones_of_numbers(&rt, &r, &mut it, &OF_FILTER_FILTER_MAP_AND_SKIP_WHILE)?;
     let mut it = Counting::new(1, 4, &r).skip_while(is_odd);
-    expect_refused_clones_of_numbers(&rt, &r, &mut it, &OF_SKIP_WHILE_BEHIND_ITS_FIRST_ITEM)?;
+    expect_refused_clones_of_numbers(&rt, &r, &mut it, &OF_SKIP_WHILE_AFTER_ITS_FIRST_ITEM)?;
     let mut it = Counting::new(1, 10, &r).take(7).skip(1).step_by(2);
     expect_refused_clones_of_numbers(&rt, &r, &mut it, &OF_TAKE_SKIP_AND_STEP_BY)?;
     let mut it = Counting::new(1, 4, &r).take_while(is_odd).fuse();
     expect_refused_clones_of_numbers(&rt, &r, &mut it, &OF_TAKE_WHILE_AND_FUSE)?;
     let mut it = Counting::new(2, 4, &r).take_while(is_odd);
-    expect_refused_clones_of_numbers(&rt, &r, &mut it, &OF_TAKE_WHILE_BEHIND_ITS_END)?;
+    expect_refused_clones_of_numbers(&rt, &r, &mut it, &OF_TAKE_WHILE_AFTER_ITS_END)?;
     let mut calls = 0u32;
     let mut it = from_fn(move || {
         calls = calls.wrapping_add(1);
@@ -377,7 +377,7 @@ fn refused_clones_of_adapters_that_leave_items_out(rt: HostRuntime) -> Result<()
         }
     })
     .fuse();
-    expect_refused_clones_of_numbers(&rt, &r, &mut it, &OF_FUSE_BEHIND_ITS_END)
+    expect_refused_clones_of_numbers(&rt, &r, &mut it, &OF_FUSE_AFTER_ITS_END)
 }
 
 // From the number up to 2.

@@ -5,7 +5,7 @@ use Rattle.fallible_contract.specs.Traces.{Answered, Yields, item}
 use Rattle.fallible_contract.specs.Contract.{Contract, AtMost, OnAnswer, KeptByDraw, KeptByDraws, Stays, Lawful}
 use Rattle.fallible_contract.specs.Ends.{Ends, from_front, from_back, LawfulEnds}
 use Rattle.fallible_contract.specs.BothEnds.{step_at}
-use Rattle.fallible_contract.specs.Laws.Contract.{kept_by_draws_after, kept_by_draws_of_stays, kept_by_draws_then, stays_after, stays_reflexive, stays_of_kept_by_draws, never_fails_after}
+use Rattle.fallible_contract.specs.Laws.Contract.{kept_by_draws_after, kept_by_draws_of_stays, kept_by_draws_transitive, stays_after, stays_reflexive, stays_of_kept_by_draws, never_fails_after}
 use Rattle.fallible_contract.specs.declared.answers.Side.{Side}
 use Rattle.fallible_contract.specs.declared.answers.Side.TheVariants.{Front, Back}
 
@@ -28,7 +28,7 @@ module _ {S A E : Type 0} {m : Contract S A E} where
 
 module _ {S A E : Type 0} {m : Contract S A E} where
   pub stays_step : {s t u : S} {r : Answered A E} → Lawful m → Stays m s t → m.steps t r u → Stays m s u
-  stays_step {s} {t} {u} {r} l p step = let g = l.kept_by_draw t r u p.can_next step in stays_of_kept_by_draws (kept_by_draws_then (kept_by_draws_of_stays p) (kept_by_draws_after g)) (λ never. never_fails_after m t u r step (p.sure never))
+  stays_step {s} {t} {u} {r} l p step = let g = l.kept_by_draw t r u p.can_next step in stays_of_kept_by_draws (kept_by_draws_transitive (kept_by_draws_of_stays p) (kept_by_draws_after g)) (λ never. never_fails_after m t u r step (p.sure never))
 
 -- ---- draws from both ends
 
@@ -40,6 +40,6 @@ module _ {S A E : Type 0} (m : Contract S A E) (e : Ends S A E) where
 
   -- from the end that is named
   pub kept_by_draws_step : LawfulEnds m e → (side : Side) (r : Answered A E) (s t u : S) → KeptByDraws (from_front m e) s t → step_at m.steps e.steps side t r u → KeptByDraws (from_front m e) s u
-  kept_by_draws_step l Front r s t u p step = kept_by_draws_then p (kept_by_draws_after (l.front.kept_by_draw t r u p.can_next step))
+  kept_by_draws_step l Front r s t u p step = kept_by_draws_transitive p (kept_by_draws_after (l.front.kept_by_draw t r u p.can_next step))
   kept_by_draws_step l Back r s t u p step = let g = l.back.kept_by_draw t r u p.can_next step in
-      let h : KeptByDraw (from_front m e) t r u = record { can_next = g.can_next; is_finite = g.is_finite; answer = on_answer_from_front t u r g.answer; may_give = g.may_give; may_fail = g.may_fail; lenders = g.lenders } in kept_by_draws_then p (kept_by_draws_after h)
+      let h : KeptByDraw (from_front m e) t r u = record { can_next = g.can_next; is_finite = g.is_finite; answer = on_answer_from_front t u r g.answer; may_give = g.may_give; may_fail = g.may_fail; lenders = g.lenders } in kept_by_draws_transitive p (kept_by_draws_after h)

@@ -61,12 +61,12 @@ holds_at_each_turn_into {steps = steps} {held = held} into holds {p = p} h = rec
 -- ---- the same, where a value is held in this way only while Q holds of it, which items keep
 
 module _ {S P A E : Type 0} (Q : P → Type 0) (steps : P → Answered A E → P → Type 0) (held : S → Answered A E → S → Type 0) (into : P → S) (holds : (p : P) (r : Answered A E) (q : P) → Q p → steps p r q → held (into p) r (into q)) (keeps_on : (p : P) (x : A) (q : P) → Q p → steps p (item x) q → Q q) where
-  run_while : (items : List A) (last : Answered A E) (p q : P) → Q p → Run steps p (map item items ++ last ∷ []) q → Run held (into p) (map item items ++ last ∷ []) (into q)
-  run_while [] last p q at w = (into w.0, holds p last w.0 at w.1, ap into w.2)
-  run_while (x ∷ items) last p q at w = (into w.0, holds p (item x) w.0 at w.1, run_while items last w.0 q (keeps_on p x w.0 at w.1) w.2)
+  run_held_while : (items : List A) (last : Answered A E) (p q : P) → Q p → Run steps p (map item items ++ last ∷ []) q → Run held (into p) (map item items ++ last ∷ []) (into q)
+  run_held_while [] last p q at w = (into w.0, holds p last w.0 at w.1, ap into w.2)
+  run_held_while (x ∷ items) last p q at w = (into w.0, holds p (item x) w.0 at w.1, run_held_while items last w.0 q (keeps_on p x w.0 at w.1) w.2)
 
   pub drained_while : {came : List A → Answered A E → Type 0} {p q : P} → Q p → Drained steps came p q → Drained held came (into p) (into q)
-  drained_while {p = p} {q = q} at w = record { items = w.items; last = w.last; ran = run_while w.items w.last p q at w.ran; at = w.at }
+  drained_while {p = p} {q = q} at w = record { items = w.items; last = w.last; ran = run_held_while w.items w.last p q at w.ran; at = w.at }
 
   yields_while : (items : List A) (p q : P) → Q p → Yields steps p items q → Yields held (into p) items (into q) × Q q
   yields_while [] p q at e = (ap into e, subst Q e at)

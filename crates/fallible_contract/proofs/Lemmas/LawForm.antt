@@ -32,22 +32,22 @@ module _ {P A E : Type 0} (D : P → List (Answered A E) → P → Type 0) (by :
   abbrev at_one_answer : P → Answered A E → P → Type 0
   at_one_answer p r q = D p (r ∷ []) q
 
-  by_answers_of_run : (trace : List (Answered A E)) (p q : P) → Run at_one_answer p trace q → D p trace q
-  by_answers_of_run [] p q e = subst (λ (z : P). D p [] z) e (by.none p)
-  by_answers_of_run (r ∷ rest) p q h = by.joins p h.0 q r rest h.1 (by_answers_of_run rest h.0 q h.2)
+  law_of_run : (trace : List (Answered A E)) (p q : P) → Run at_one_answer p trace q → D p trace q
+  law_of_run [] p q e = subst (λ (z : P). D p [] z) e (by.none p)
+  law_of_run (r ∷ rest) p q h = by.joins p h.0 q r rest h.1 (law_of_run rest h.0 q h.2)
 
   run_of_by_answers : (trace : List (Answered A E)) (p q : P) → D p trace q → Run at_one_answer p trace q
   run_of_by_answers [] p q d = by.same p q d
   run_of_by_answers (r ∷ rest) p q d = let h = by.splits p q r rest d in (h.left_by_first, h.first, run_of_by_answers rest h.left_by_first q h.others)
 
   pub runs_by_answers : (p : P) (trace : List (Answered A E)) (q : P) → Run at_one_answer p trace q ↔ D p trace q
-  runs_by_answers p trace q = (by_answers_of_run trace p q, run_of_by_answers trace p q)
+  runs_by_answers p trace q = (law_of_run trace p q, run_of_by_answers trace p q)
 
 -- Runs of a type whose values are seen by their parts, of which each names one value, are runs over the parts.
 module _ {V P A E : Type 0} (parts : V → P) (make : P → V) (made : (s : V) → make (parts s) ≡ s) (has : (p : P) → parts (make p) ≡ p) (steps : P → Answered A E → P → Type 0) where
-  run_of_parts : (trace : List (Answered A E)) (s t : V) → Run (λ u r v. steps (parts u) r (parts v)) s trace t → Run steps (parts s) trace (parts t)
-  run_of_parts [] s t e = ap parts e
-  run_of_parts (r ∷ rest) s t h = (parts h.0, h.1, run_of_parts rest h.0 t h.2)
+  run_over_parts : (trace : List (Answered A E)) (s t : V) → Run (λ u r v. steps (parts u) r (parts v)) s trace t → Run steps (parts s) trace (parts t)
+  run_over_parts [] s t e = ap parts e
+  run_over_parts (r ∷ rest) s t h = (parts h.0, h.1, run_over_parts rest h.0 t h.2)
 
   run_from_parts : (trace : List (Answered A E)) (s t : V) → Run steps (parts s) trace (parts t) → Run (λ u r v. steps (parts u) r (parts v)) s trace t
   run_from_parts [] s t e = sym (made s) ∙ ap make e ∙ made t
@@ -55,4 +55,4 @@ module _ {V P A E : Type 0} (parts : V → P) (make : P → V) (made : (s : V) �
 
   -- so a law of the runs over the parts is one of the values
   pub traces_are_of_parts : (D : P → List (Answered A E) → P → Type 0) → ((p : P) (trace : List (Answered A E)) (q : P) → Run steps p trace q ↔ D p trace q) → TracesAre parts (λ u r v. steps (parts u) r (parts v)) D
-  traces_are_of_parts D law s trace t = ((λ ran. (law (parts s) trace (parts t)).0 (run_of_parts trace s t ran)), (λ d. run_from_parts trace s t ((law (parts s) trace (parts t)).1 d)))
+  traces_are_of_parts D law s trace t = ((λ ran. (law (parts s) trace (parts t)).0 (run_over_parts trace s t ran)), (λ d. run_from_parts trace s t ((law (parts s) trace (parts t)).1 d)))

@@ -115,37 +115,37 @@ module _ {S F X D V E C R : Type 0} (steps : S → Answered X D → S → Type 0
     pub folding_takes_of_holds : (pre : F → D → Type 0) {P : C → X → Type 0} → pre f d → HoldsAtEachTurn StepOfRecovering (goes_on turns) P (s, f) c → FoldingTakes call outcome pre P (b, f) d
     folding_takes_of_holds pre can h = (can, (λ v g y called is. holds_at_first_turn (holds_each_turn_before h) (failure_to_item steps call outcome d v met.fails called y is)))
 
-    drives_to_stop_by : (v : V) (g : F) (o : Outcome X E) (z : C) (r : Answered R E) → call f d v g → outcome d v ≡ o → TurnedBy turns b o (Break r) z → DrivesOfRecovering (met.at, f) b r (t, g) z
-    drives_to_stop_by v g (Kept y) z r called is (Continue u, w, e) = absurd cc
-    drives_to_stop_by v g (Kept y) z r called is (Break why, w, e) = let same : r ≡ Ok (Some why) = cc in subst (λ a. DrivesOfRecovering (met.at, f) b a (t, g) z) (sym same) (driven_stop y (failure_to_item steps call outcome d v met.fails called y is) w)
-    drives_to_stop_by v g LeftOut z r called is w = absurd (let e = w.0 in cc)
-    drives_to_stop_by v g (Failure x) z r called is w = let same : r ≡ Err x = (let e = w.0 in cc) in subst (λ a. DrivesOfRecovering (met.at, f) b a (t, g) z) (sym same) (subst (λ k. DrivesOfRecovering (met.at, f) b (Err x) (t, g) k) (sym w.1) (driven_failure (failure_to_failure steps call outcome d v met.fails called x is)))
-    drives_to_stop_by v g End z r called is w = let same : r ≡ Ok None = (let e = w.0 in cc) in subst (λ a. DrivesOfRecovering (met.at, f) b a (t, g) z) (sym same) (subst (λ k. DrivesOfRecovering (met.at, f) b (Ok None) (t, g) k) (sym w.1) (driven_end (failure_to_end steps call outcome d v met.fails called is)))
+    drives_to_stop_after_outcome : (v : V) (g : F) (o : Outcome X E) (z : C) (r : Answered R E) → call f d v g → outcome d v ≡ o → TurnedBy turns b o (Break r) z → DrivesOfRecovering (met.at, f) b r (t, g) z
+    drives_to_stop_after_outcome v g (Kept y) z r called is (Continue u, w, e) = absurd cc
+    drives_to_stop_after_outcome v g (Kept y) z r called is (Break why, w, e) = let same : r ≡ Ok (Some why) = cc in subst (λ a. DrivesOfRecovering (met.at, f) b a (t, g) z) (sym same) (driven_stop y (failure_to_item steps call outcome d v met.fails called y is) w)
+    drives_to_stop_after_outcome v g LeftOut z r called is w = absurd (let e = w.0 in cc)
+    drives_to_stop_after_outcome v g (Failure x) z r called is w = let same : r ≡ Err x = (let e = w.0 in cc) in subst (λ a. DrivesOfRecovering (met.at, f) b a (t, g) z) (sym same) (subst (λ k. DrivesOfRecovering (met.at, f) b (Err x) (t, g) k) (sym w.1) (driven_failure (failure_to_failure steps call outcome d v met.fails called x is)))
+    drives_to_stop_after_outcome v g End z r called is w = let same : r ≡ Ok None = (let e = w.0 in cc) in subst (λ a. DrivesOfRecovering (met.at, f) b a (t, g) z) (sym same) (subst (λ k. DrivesOfRecovering (met.at, f) b (Ok None) (t, g) k) (sym w.1) (driven_end (failure_to_end steps call outcome d v met.fails called is)))
 
-    drives_on_by : (v : V) (g : F) (o : Outcome X E) (y z : C) (r : Answered R E) (q : S × F) → call f d v g → outcome d v ≡ o → TurnedBy {E = E} turns b o (Continue tt) y → DrivesOfRecovering (t, g) y r q z → DrivesOfRecovering (met.at, f) b r q z
-    drives_on_by v g (Kept x) y z r q called is (Continue u, w, e) rest = driven_after x (failure_to_item steps call outcome d v met.fails called x is) w rest
-    drives_on_by v g (Kept x) y z r q called is (Break why, w, e) rest = absurd cc
-    drives_on_by v g LeftOut y z r q called is w rest = drained_after_first (failure_left_out steps call outcome d v met.fails called is) (subst (λ k. DrivesOfRecovering (t, g) k r q z) w.1 rest)
-    drives_on_by v g (Failure x) y z r q called is w rest = absurd (let e = w.0 in cc)
-    drives_on_by v g End y z r q called is w rest = absurd (let e = w.0 in cc)
+    drives_on_after_outcome : (v : V) (g : F) (o : Outcome X E) (y z : C) (r : Answered R E) (q : S × F) → call f d v g → outcome d v ≡ o → TurnedBy {E = E} turns b o (Continue tt) y → DrivesOfRecovering (t, g) y r q z → DrivesOfRecovering (met.at, f) b r q z
+    drives_on_after_outcome v g (Kept x) y z r q called is (Continue u, w, e) rest = driven_after x (failure_to_item steps call outcome d v met.fails called x is) w rest
+    drives_on_after_outcome v g (Kept x) y z r q called is (Break why, w, e) rest = absurd cc
+    drives_on_after_outcome v g LeftOut y z r q called is w rest = drained_after_first (failure_left_out steps call outcome d v met.fails called is) (subst (λ k. DrivesOfRecovering (t, g) k r q z) w.1 rest)
+    drives_on_after_outcome v g (Failure x) y z r q called is w rest = absurd (let e = w.0 in cc)
+    drives_on_after_outcome v g End y z r q called is w rest = absurd (let e = w.0 in cc)
 
-    holds_each_turn_by : (P : C → X → Type 0) (v : V) (g : F) (o : Outcome X E) (y : C) → call f d v g → outcome d v ≡ o → TurnedBy {E = E} turns b o (Continue tt) y → HoldsAtEachTurn StepOfRecovering (goes_on turns) P (met.at, f) b → HoldsAtEachTurn StepOfRecovering (goes_on turns) P (t, g) y
-    holds_each_turn_by P v g (Kept x) y called is (Continue u, w, e) h = holds_each_turn_after h (failure_to_item steps call outcome d v met.fails called x is) w
-    holds_each_turn_by P v g (Kept x) y called is (Break why, w, e) h = absurd cc
-    holds_each_turn_by P v g LeftOut y called is w h = subst (λ k. HoldsAtEachTurn StepOfRecovering (goes_on turns) P (t, g) k) (sym w.1) (holds_each_turn_after_first (failure_left_out steps call outcome d v met.fails called is) h)
-    holds_each_turn_by P v g (Failure x) y called is w h = absurd (let e = w.0 in cc)
-    holds_each_turn_by P v g End y called is w h = absurd (let e = w.0 in cc)
+    holds_each_turn_after_outcome : (P : C → X → Type 0) (v : V) (g : F) (o : Outcome X E) (y : C) → call f d v g → outcome d v ≡ o → TurnedBy {E = E} turns b o (Continue tt) y → HoldsAtEachTurn StepOfRecovering (goes_on turns) P (met.at, f) b → HoldsAtEachTurn StepOfRecovering (goes_on turns) P (t, g) y
+    holds_each_turn_after_outcome P v g (Kept x) y called is (Continue u, w, e) h = holds_each_turn_after h (failure_to_item steps call outcome d v met.fails called x is) w
+    holds_each_turn_after_outcome P v g (Kept x) y called is (Break why, w, e) h = absurd cc
+    holds_each_turn_after_outcome P v g LeftOut y called is w h = subst (λ k. HoldsAtEachTurn StepOfRecovering (goes_on turns) P (t, g) k) (sym w.1) (holds_each_turn_after_first (failure_left_out steps call outcome d v met.fails called is) h)
+    holds_each_turn_after_outcome P v g (Failure x) y called is w h = absurd (let e = w.0 in cc)
+    holds_each_turn_after_outcome P v g End y called is w h = absurd (let e = w.0 in cc)
 
     -- the turn stops the fold
     pub drives_to_stop : {g : F} {z : C} {r : Answered R E} → FoldingTurn call outcome turns (b, f) d (Break r) (z, g) → DrivesOfRecovering (s, f) c r (t, g) z
-    drives_to_stop {g} {z} {r} w = drives_after (drives_to_stop_by w.0 g (outcome d w.0) z r w.1 refl w.2)
+    drives_to_stop {g} {z} {r} w = drives_after (drives_to_stop_after_outcome w.0 g (outcome d w.0) z r w.1 refl w.2)
 
     -- the turn goes on
     pub drives_on_after : {g : F} {y z : C} {r : Answered R E} {q : S × F} → FoldingTurn call outcome turns (b, f) d (Continue tt) (y, g) → DrivesOfRecovering (t, g) y r q z → DrivesOfRecovering (s, f) c r q z
-    drives_on_after {g} {y} {z} {r} {q} w rest = drives_after (drives_on_by w.0 g (outcome d w.0) y z r q w.1 refl w.2 rest)
+    drives_on_after {g} {y} {z} {r} {q} w rest = drives_after (drives_on_after_outcome w.0 g (outcome d w.0) y z r q w.1 refl w.2 rest)
 
     pub holds_each_turn_past_turn : {P : C → X → Type 0} {g : F} {y : C} → FoldingTurn call outcome turns (b, f) d (Continue tt) (y, g) → HoldsAtEachTurn StepOfRecovering (goes_on turns) P (s, f) c → HoldsAtEachTurn StepOfRecovering (goes_on turns) P (t, g) y
-    holds_each_turn_past_turn {P} {g} {y} w h = holds_each_turn_by P w.0 g (outcome d w.0) y w.1 refl w.2 (holds_each_turn_before h)
+    holds_each_turn_past_turn {P} {g} {y} w h = holds_each_turn_after_outcome P w.0 g (outcome d w.0) y w.1 refl w.2 (holds_each_turn_before h)
 
 -- ---- what a failure that was met leaves of the source
 

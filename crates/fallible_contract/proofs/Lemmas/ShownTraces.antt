@@ -6,14 +6,14 @@ use Rattle.fallible_contract.specs.Traces.{Answered, Run}
 use Rattle.fallible_contract.specs.ShownTraces.{answer_of, IsAnswers, IsAnswersAt, answers_of}
 use Rattle.fallible_contract.specs.Lists.{AlwaysGives, Lists}
 use Rattle.fallible_contract.specs.BothEnds.{step_at}
-use Rattle.fallible_contract.specs.Laws.Closures.{folds_to_then}
+use Rattle.fallible_contract.specs.Laws.Closures.{folds_to_in_turn}
 use Rattle.fallible_contract.specs.declared.answers.Answer.{Answer}
 use Rattle.fallible_contract.specs.declared.answers.Side.{Side}
 
 pub is_answers_one_more : {S A E : Type 0} {steps : S → Answered A E → S → Type 0} {s t u : S} {n : ℕ} {values : List (Answer A E)} {r : Answered A E} → IsAnswers steps s n values t → steps t r u → IsAnswers steps s (n + 1) (values ++ answer_of r ∷ []) u
 is_answers_one_more {s = s} {t = t} {u = u} {n = n} {r = r} p step = record {
   trace = p.trace ++ r ∷ [];
-  ran = folds_to_then _ p.trace (r ∷ []) s t u p.ran (u, step, refl);
+  ran = folds_to_in_turn _ p.trace (r ∷ []) s t u p.ran (u, step, refl);
   values_are = ap (λ l. l ++ answer_of r ∷ []) p.values_are ∙ sym (map-append answer_of p.trace (r ∷ []));
   count = length-append p.trace (r ∷ []) ∙ ap (λ k. k + 1) p.count;
 }
@@ -23,7 +23,7 @@ is_answers_one_more {s = s} {t = t} {u = u} {n = n} {r = r} p step = record {
 pub is_answers_at_one_more : {S A E : Type 0} {front back : S → Answered A E → S → Type 0} {s t u : S} {sides : List Side} {values : List (Answer A E)} (side : Side) (r : Answered A E) → IsAnswersAt front back s sides values t → step_at front back side t r u → IsAnswersAt front back s (sides ++ side ∷ []) (values ++ answer_of r ∷ []) u
 is_answers_at_one_more {s = s} {t = t} {u = u} side r p step = record {
   pairs = p.pairs ++ (side, r) ∷ [];
-  ran = folds_to_then _ p.pairs ((side, r) ∷ []) s t u p.ran (u, step, refl);
+  ran = folds_to_in_turn _ p.pairs ((side, r) ∷ []) s t u p.ran (u, step, refl);
   sides_are = map-append (λ d. d.0) p.pairs ((side, r) ∷ []) ∙ ap (λ l. l ++ side ∷ []) p.sides_are;
   values_are = ap (λ l. l ++ answer_of r ∷ []) p.values_are ∙ sym (map-append (λ d. answer_of d.1) p.pairs ((side, r) ∷ []));
 }

@@ -5,9 +5,9 @@ use Rattle.std.proofs.Common.{refl, sym, subst}
 use Rattle.fallible_contract.specs.Closures.{Reaches, IsCallable, MayAnswer}
 
 -- turns over two lists, one after the other
-pub folds_to_then : {P A : Type 0} (R : P → A → P → Type 0) (xs ys : List A) (p q r : P) → FoldsTo R p xs q → FoldsTo R q ys r → FoldsTo R p (xs ++ ys) r
-folds_to_then R [] ys p q r e w = subst (λ z. FoldsTo R z ys r) (sym e) w
-folds_to_then R (x ∷ xs) ys p q r v w = (v.0, v.1, folds_to_then R xs ys v.0 q r v.2 w)
+pub folds_to_in_turn : {P A : Type 0} (R : P → A → P → Type 0) (xs ys : List A) (p q r : P) → FoldsTo R p xs q → FoldsTo R q ys r → FoldsTo R p (xs ++ ys) r
+folds_to_in_turn R [] ys p q r e w = subst (λ z. FoldsTo R z ys r) (sym e) w
+folds_to_in_turn R (x ∷ xs) ys p q r v w = (v.0, v.1, folds_to_in_turn R xs ys v.0 q r v.2 w)
 
 folds_to_weaken : {F X R : Type 0} (call : F → X → R → F → Type 0) (P Q : X → Type 0) → ((x : X) → P x → Q x) → (made : List (X × R)) (f g : F) → FoldsTo (λ p c q. P c.0 × call p c.0 c.1 q) f made g → FoldsTo (λ p c q. Q c.0 × call p c.0 c.1 q) f made g
 folds_to_weaken call P Q h [] f g w = w
@@ -21,7 +21,7 @@ module _ {F X R : Type 0} {call : F → X → R → F → Type 0} where
   reaches_weaken {P} {Q} {f} {g} h r = record { made = r.made; by = folds_to_weaken call P Q h r.made f g r.by }
 
   pub reaches_transitive : {P : X → Type 0} {f g h : F} → Reaches call P f g → Reaches call P g h → Reaches call P f h
-  reaches_transitive {P} {f} {g} {h} r s = record { made = r.made ++ s.made; by = folds_to_then _ r.made s.made f g h r.by s.by }
+  reaches_transitive {P} {f} {g} {h} r s = record { made = r.made ++ s.made; by = folds_to_in_turn _ r.made s.made f g h r.by s.by }
 
   -- one more call, before the others
   pub reaches_from : {P : X → Type 0} {f g h : F} (x : X) (v : R) → P x → call f x v g → Reaches call P g h → Reaches call P f h

@@ -20,8 +20,8 @@ module _ {S A E : Type 0} (m : Contract S A E) where
   no_more_transitive : (s t u : S) → NoMore m s t → NoMore m t u → NoMore m s u
   no_more_transitive s t u p q n b = let j = p n b in let k = q j.0 j.1 in (k.0, k.1, omega (arith, j.2, k.2))
 
-  no_more_remains_then : (s t u : S) → NoMoreRemains m s t → NoMoreRemains m t u → NoMoreRemains m s u
-  no_more_remains_then s t u p q f = let j = p f in let k = q j.0 in (k.0, omega (arith, j.1, k.1))
+  no_more_remains_transitive : (s t u : S) → NoMoreRemains m s t → NoMoreRemains m t u → NoMoreRemains m s u
+  no_more_remains_transitive s t u p q f = let j = p f in let k = q j.0 in (k.0, omega (arith, j.1, k.1))
 
   -- what can never fail can't fail after a draw
   pub never_fails_after : (s t : S) (r : Answered A E) → m.steps s r t → NeverFails m s → NeverFails m t
@@ -47,12 +47,12 @@ module _ {S A E : Type 0} {m : Contract S A E} where
   }
 
   -- one run of draws after another
-  pub kept_by_draws_then : {s t u : S} → KeptByDraws m s t → KeptByDraws m t u → KeptByDraws m s u
-  kept_by_draws_then {s} {t} {u} p q = record {
+  pub kept_by_draws_transitive : {s t u : S} → KeptByDraws m s t → KeptByDraws m t u → KeptByDraws m s u
+  kept_by_draws_transitive {s} {t} {u} p q = record {
     can_next = q.can_next;
     is_finite = λ e. q.is_finite (p.is_finite e);
     bound = no_more_transitive m s t u p.bound q.bound;
-    remaining = no_more_remains_then m s t u p.remaining q.remaining;
+    remaining = no_more_remains_transitive m s t u p.remaining q.remaining;
     may_give = λ x h. p.may_give x (q.may_give x h);
     may_fail = λ e h. p.may_fail e (q.may_fail e h);
     lenders = q.lenders ∙ p.lenders;
@@ -63,7 +63,7 @@ module _ {S A E : Type 0} {m : Contract S A E} where
 
   pub kept_by_draws_run : Lawful m → (s : S) (trace : List (Answered A E)) (t : S) → m.can_next s → Run m.steps s trace t → KeptByDraws m s t
   kept_by_draws_run l s [] t c ran = subst (λ (u : S). KeptByDraws m s u) ran (kept_by_no_draw c)
-  kept_by_draws_run l s (r ∷ rest) t c ran = let g = l.kept_by_draw s r ran.0 c ran.1 in kept_by_draws_then (kept_by_draws_after g) (kept_by_draws_run l ran.0 rest t g.can_next ran.2)
+  kept_by_draws_run l s (r ∷ rest) t c ran = let g = l.kept_by_draw s r ran.0 c ran.1 in kept_by_draws_transitive (kept_by_draws_after g) (kept_by_draws_run l ran.0 rest t g.can_next ran.2)
 
 -- ---- draws from one end
 
@@ -76,7 +76,7 @@ module _ {S A E : Type 0} {m : Contract S A E} where
 
   -- a draw, and then those after it
   pub stays_after : {s t u : S} {r : Answered A E} → m.steps s r t → KeptByDraw m s r t → Stays m t u → Stays m s u
-  stays_after {s} {t} {u} {r} step g h = stays_of_kept_by_draws (kept_by_draws_then (kept_by_draws_after g) (kept_by_draws_of_stays h)) (λ never. h.sure (never_fails_after m s t r step never))
+  stays_after {s} {t} {u} {r} step g h = stays_of_kept_by_draws (kept_by_draws_transitive (kept_by_draws_after g) (kept_by_draws_of_stays h)) (λ never. h.sure (never_fails_after m s t r step never))
 
   pub stays_reflexive : {s : S} → m.can_next s → Stays m s s
   stays_reflexive c = stays_of_kept_by_draws (kept_by_no_draw c) (λ never. never)
@@ -92,16 +92,16 @@ module _ {S P A E : Type 0} (m : Contract P A E) (view : S → P) where
   on_answer_seen s t (Ok None) h = h
   on_answer_seen s t (Err e) h = h
 
-  kept_by_draw_seen : (s t : S) (r : Answered A E) → KeptByDraw m (view s) r (view t) → KeptByDraw (seen_as view m) s r t
-  kept_by_draw_seen s t r g = record { can_next = g.can_next; is_finite = g.is_finite; answer = on_answer_seen s t r g.answer; may_give = g.may_give; may_fail = g.may_fail; lenders = g.lenders }
+  kept_by_draw_through_view : (s t : S) (r : Answered A E) → KeptByDraw m (view s) r (view t) → KeptByDraw (seen_as view m) s r t
+  kept_by_draw_through_view s t r g = record { can_next = g.can_next; is_finite = g.is_finite; answer = on_answer_seen s t r g.answer; may_give = g.may_give; may_fail = g.may_fail; lenders = g.lenders }
 
 pub lawful_seen : {S P A E : Type 0} {m : Contract P A E} (view : S → P) → Lawful m → Lawful (seen_as view m)
-lawful_seen {m = m} view l = record { kept_by_draw = λ s r t c step. kept_by_draw_seen m view s t r (l.kept_by_draw (view s) r (view t) c step); bounded = λ s. l.bounded (view s) }
+lawful_seen {m = m} view l = record { kept_by_draw = λ s r t c step. kept_by_draw_through_view m view s t r (l.kept_by_draw (view s) r (view t) c step); bounded = λ s. l.bounded (view s) }
 
 module _ {S A E : Type 0} {m : Contract S A E} where
   on_answer_after : (s t u : S) (r : Answered A E) → KeptByDraws m s t → OnAnswer m t r u → OnAnswer m s r u
   on_answer_after s t u (Ok (Some x)) p a = (p.may_give x a.0, (λ n b. let j = p.bound n b in let k = a.1 j.0 j.1 in (k.0, k.1, omega (arith, j.2, k.2))), (λ f. let j = p.remaining f in let k = a.2 j.0 in (k.0, omega (arith, j.1, k.1))))
-  on_answer_after s t u (Ok None) p a = (no_more_transitive m s t u p.bound a.0, no_more_remains_then m s t u p.remaining a.1)
+  on_answer_after s t u (Ok None) p a = (no_more_transitive m s t u p.bound a.0, no_more_remains_transitive m s t u p.remaining a.1)
   on_answer_after s t u (Err e) p a = (p.may_fail e a.0, no_more_transitive m s t u p.bound a.1, (λ f. let j = p.remaining f in let k = a.2 j.0 in (k.0, omega (arith, j.1, k.1))))
 
   -- a draw keeps the contract also from where nothing more was to come before it

@@ -96,8 +96,8 @@ module _ {A E : Type 0} where
   first_unwrapped o (Ok x) l e = (x, cc, refl)
   first_unwrapped o (Err d) l e = absurd cc
 
-  none_of_no_items : (o : Option A) → unwrapped_answer o ≡ Ok None → o ≡ None
-  none_of_no_items o e = cc
+  none_of_unwrapped_end : (o : Option A) → unwrapped_answer o ≡ Ok None → o ≡ None
+  none_of_unwrapped_end o e = cc
 
 -- of items alone nothing is left out
 pub unwrapped_items : {A : Type 0} (E : Type 0) (l : List A) → unwrapped (items {E = E} l) ≡ l
@@ -111,4 +111,4 @@ none_unwrapped A E = refl
 
 module _ {V S A E : Type 0} (view : V → S) (steps : S → Answered A E → S → Type 0) where
   pub each_run_reads_unwrapped : (l : List (Result A E)) (s : V) → Lists steps (view s) l → EachRunFrom (λ s o t. steps (view s) (Ok o) (view t)) s (λ p. ItemsAre p (unwrapped l))
-  each_run_reads_unwrapped l s i = each_run_reads view steps unwrapped_answer unwrapped (none_unwrapped A E) first_unwrapped none_of_no_items l s i
+  each_run_reads_unwrapped l s i = each_run_reads view steps unwrapped_answer unwrapped (none_unwrapped A E) first_unwrapped none_of_unwrapped_end l s i

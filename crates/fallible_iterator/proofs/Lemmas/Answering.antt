@@ -38,11 +38,11 @@ rest_after_side Back l = reverse (rest_first (reverse l))
 module _ {A E : Type 0} where
   -- a list is empty, or has a last
   nil_or_last : (l : List (Result A E)) → (l ≡ []) ⊎ ((k : List (Result A E)) × (y : Result A E) × (l ≡ k ++ y ∷ []))
-  nil_or_last l = last_view_by (reverse l) refl
+  nil_or_last l = last_view_of_reversed (reverse l) refl
     where
-      last_view_by : (r : List (Result A E)) → reverse l ≡ r → (l ≡ []) ⊎ ((k : List (Result A E)) × (y : Result A E) × (l ≡ k ++ y ∷ []))
-      last_view_by [] e = inl (sym (reverse-reverse l) ∙ ap reverse e)
-      last_view_by (y ∷ k) e = inr (reverse k, y, sym (reverse-reverse l) ∙ ap reverse e ∙ reverse-append (y ∷ []) k)
+      last_view_of_reversed : (r : List (Result A E)) → reverse l ≡ r → (l ≡ []) ⊎ ((k : List (Result A E)) × (y : Result A E) × (l ≡ k ++ y ∷ []))
+      last_view_of_reversed [] e = inl (sym (reverse-reverse l) ∙ ap reverse e)
+      last_view_of_reversed (y ∷ k) e = inr (reverse k, y, sym (reverse-reverse l) ∙ ap reverse e ∙ reverse-append (y ∷ []) k)
 
   told-append : (a b : List (Result A E)) → told (a ++ b) ≡ told a ++ told b
   unfolding told
@@ -63,13 +63,13 @@ module _ {A E : Type 0} where
   by_sides_append_back (Back ∷ sides) a [] c few = absurd (omega (arith, few))
   by_sides_append_back (Back ∷ sides) a (x ∷ b) c few = ap (λ l. x ∷ l) (by_sides_append_back sides a b c (omega (arith, few)))
 
-  by_sides_append_front : (sides : List Side) (a b c : List (Answer A E)) → fronts sides ≤ length a → by_sides sides (a ++ c) b ≡ by_sides sides a b
+  by_sides_ignores_front_surplus : (sides : List Side) (a b c : List (Answer A E)) → fronts sides ≤ length a → by_sides sides (a ++ c) b ≡ by_sides sides a b
   unfolding by_sides
-  by_sides_append_front [] a b c few = refl
-  by_sides_append_front (Back ∷ sides) a [] c few = ap (λ l. End ∷ l) (by_sides_append_front sides a [] c (omega (arith, few)))
-  by_sides_append_front (Back ∷ sides) a (x ∷ b) c few = ap (λ l. x ∷ l) (by_sides_append_front sides a b c (omega (arith, few)))
-  by_sides_append_front (Front ∷ sides) [] b c few = absurd (omega (arith, few))
-  by_sides_append_front (Front ∷ sides) (x ∷ a) b c few = ap (λ l. x ∷ l) (by_sides_append_front sides a b c (omega (arith, few)))
+  by_sides_ignores_front_surplus [] a b c few = refl
+  by_sides_ignores_front_surplus (Back ∷ sides) a [] c few = ap (λ l. End ∷ l) (by_sides_ignores_front_surplus sides a [] c (omega (arith, few)))
+  by_sides_ignores_front_surplus (Back ∷ sides) a (x ∷ b) c few = ap (λ l. x ∷ l) (by_sides_ignores_front_surplus sides a b c (omega (arith, few)))
+  by_sides_ignores_front_surplus (Front ∷ sides) [] b c few = absurd (omega (arith, few))
+  by_sides_ignores_front_surplus (Front ∷ sides) (x ∷ a) b c few = ap (λ l. x ∷ l) (by_sides_ignores_front_surplus sides a b c (omega (arith, few)))
 
 fronts_within : (n : ℕ) (sides : List Side) → fronts (take n sides) ≤ n
 fronts_within zero sides = omega arith
@@ -113,7 +113,7 @@ module _ {A E : Type 0} where
       ap (λ n. by_sides (take n (Back ∷ sides)) (told (k ++ y ∷ [])) (told (reverse (k ++ y ∷ []))) ++ map (λ _. End) (drop n (Back ∷ sides))) len
       ∙ ap (λ b. by_sides (Back ∷ take (length k) sides) (told (k ++ y ∷ [])) (told b) ++ map (λ _. End) (drop (length k) sides)) (reverse-append k (y ∷ []))
       ∙ ap (λ a. answer_of (result_answer y) ∷ (by_sides (take (length k) sides) a (told (reverse k)) ++ map (λ _. End) (drop (length k) sides))) (told-append k (y ∷ []))
-      ∙ ap (λ b. answer_of (result_answer y) ∷ (b ++ map (λ _. End) (drop (length k) sides))) (by_sides_append_front (take (length k) sides) (told k) (told (reverse k)) (told (y ∷ [])) few)
+      ∙ ap (λ b. answer_of (result_answer y) ∷ (b ++ map (λ _. End) (drop (length k) sides))) (by_sides_ignores_front_surplus (take (length k) sides) (told k) (told (reverse k)) (told (y ∷ [])) few)
 
   drop_take_cons : (i : ℕ) (y : Result A E) (l : List (Result A E)) (m n : ℕ) → (m ≡ suc n) ⊎ ((m ≡ 0) × (n ≡ 0)) → drop (suc i) (take m (y ∷ l)) ≡ drop i (take n l)
   drop_take_cons i y l m n (inl more) = ap (λ k. drop (suc i) (take k (y ∷ l))) more

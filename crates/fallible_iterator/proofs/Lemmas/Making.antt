@@ -86,12 +86,12 @@ module _ {W P V B E : Type 0} (made : V → B → Type 0) (from : AllocError →
   next_seen : (t : W) → RefusesNext steps from (view t) → RefusesNext SeenSteps from t
   next_seen t a = λ r u w. a r (view u) w
 
-  refusal_seen : (r : Answered B E) (t : W) → AtRefusal made steps from r (view t) → AtRefusal made SeenSteps from r t
-  refusal_seen r t (inl q) = inl q
-  refusal_seen r t (inr (x, y, m, is, next)) = inr (x, y, m, is, next_seen t next)
+  at_refusal_through_view : (r : Answered B E) (t : W) → AtRefusal made steps from r (view t) → AtRefusal made SeenSteps from r t
+  at_refusal_through_view r t (inl q) = inl q
+  at_refusal_through_view r t (inr (x, y, m, is, next)) = inr (x, y, m, is, next_seen t next)
 
   answers_refusal_rest_seen : (y : Result V E) (l : List (Result V E)) (r : Answered B E) (t : W) → (GivesMade made steps from (view t) l → GivesMade made SeenSteps from t l) → AtRefusal made steps from r (view t) ⊎ (IsMadeOf made y r × GivesMade made steps from (view t) l) → AtRefusal made SeenSteps from r t ⊎ (IsMadeOf made y r × GivesMade made SeenSteps from t l)
-  answers_refusal_rest_seen y l r t later (inl q) = inl (refusal_seen r t q)
+  answers_refusal_rest_seen y l r t later (inl q) = inl (at_refusal_through_view r t q)
   answers_refusal_rest_seen y l r t later (inr k) = inr (k.0, later k.1)
 
   -- a value whose answers are those of its parts gives what they give

@@ -10,7 +10,7 @@ use Rattle.fallible_contract.specs.Lists.{Acts, AlwaysGives, Lists, folded, on_v
 use Rattle.fallible_contract.proofs.Lemmas.Lists.Passing.{lists_seen}
 use Rattle.fallible_core.specs.Cutting.TakeWhile.{cons_while, taken_while}
 use Rattle.fallible_core.specs.Filtering.SkipWhile.{cons_from, skipped_while}
-use Rattle.fallible_contract.specs.Laws.Contract.{kept_by_draws_of_stays, kept_by_draws_then, stays_reflexive, stays_of_kept_by_draws, stays_run}
+use Rattle.fallible_contract.specs.Laws.Contract.{kept_by_draws_of_stays, kept_by_draws_transitive, stays_reflexive, stays_of_kept_by_draws, stays_run}
 use Rattle.fallible_core.specs.Laws.Peeking.Peekable.{lawful_peekable}
 use Rattle.fallible_core.specs.Peeking.Peekable.{Fills, Peeks, failure_told, first_if, held_item, left_by, peekable_contract, peekable_parts, peekable_step, rest_if, taken_by}
 use Rattle.fallible_core.proofs.Lemmas.Peeking.Peekable.{stays_peek}
@@ -30,16 +30,16 @@ RefusesFirst p (Err e ∷ l) = ⊥
 
 -- one run of draws after another
 pub stays_transitive : {S A E : Type 0} {m : Contract S A E} {s t u : S} → Stays m s t → Stays m t u → Stays m s u
-stays_transitive p q = stays_of_kept_by_draws (kept_by_draws_then (kept_by_draws_of_stays p) (kept_by_draws_of_stays q)) (λ never. q.sure (p.sure never))
+stays_transitive p q = stays_of_kept_by_draws (kept_by_draws_transitive (kept_by_draws_of_stays p) (kept_by_draws_of_stays q)) (λ never. q.sure (p.sure never))
 
 -- ---- what stays of a value that is seen as its parts
 
 module _ {S P A E : Type 0} (view : S → P) (back : P → S) (same : (p : P) → view (back p) ≡ p) (m : Contract P A E) where
-  run_of_parts : (s : S) (trace : List (Answered A E)) (p : P) → Run m.steps (view s) trace p → (u : S) × Run (seen_as view m).steps s trace u × (view u ≡ p)
-  run_of_parts s [] p e = (s, refl, e)
-  run_of_parts s (r ∷ rest) p w =
+  run_over_parts : (s : S) (trace : List (Answered A E)) (p : P) → Run m.steps (view s) trace p → (u : S) × Run (seen_as view m).steps s trace u × (view u ≡ p)
+  run_over_parts s [] p e = (s, refl, e)
+  run_over_parts s (r ∷ rest) p w =
       let step : m.steps (view s) r (view (back w.0)) = subst (λ (q : P). m.steps (view s) r q) (sym (same w.0)) w.1 in
-      let k = run_of_parts (back w.0) rest p (subst (λ (q : P). Run m.steps q rest p) (sym (same w.0)) w.2) in
+      let k = run_over_parts (back w.0) rest p (subst (λ (q : P). Run m.steps q rest p) (sym (same w.0)) w.2) in
       (k.0, (back w.0, step, k.1), k.2)
 
   run_to_parts : (s : S) (trace : List (Answered A E)) (u : S) → Run (seen_as view m).steps s trace u → Run m.steps (view s) trace (view u)
@@ -51,7 +51,7 @@ module _ {S P A E : Type 0} (view : S → P) (back : P → S) (same : (p : P) �
 
   never_fails_to_parts : (s : S) → NeverFails (seen_as view m) s → NeverFails m (view s)
   never_fails_to_parts s never trace p q e ran comes_to_item_failure =
-      let k = run_of_parts s trace p ran in
+      let k = run_over_parts s trace p ran in
       never trace k.0 (back q) e k.1 (subst (λ (z : P). m.steps (view k.0) (Err e) z) (sym (same q)) (subst (λ (z : P). m.steps z (Err e) q) (sym k.2) comes_to_item_failure))
 
   stays_of_parts : (s t : S) → Stays m (view s) (view t) → Stays (seen_as view m) s t

@@ -49,14 +49,14 @@ module _ {P A E F V : Type 0} {m : Contract P A E} (l : Lawful m) (call : F → 
   lowers_searched {g = g} d = lowers_at_exit g (map item d.items) (length d.items) d.at.closure d.last d.at.exit d.ran
 
 module _ {P A E : Type 0} (m : Contract P A E) where
-  pub fewer_then : {s t v : P} → Fewer m s t → NoMore m t v → Fewer m s v
-  fewer_then f g n b = let j = f n b in let k = g j.0 j.1 in (k.0, k.1, omega (arith, j.2, k.2))
+  pub fewer_transitive : {s t v : P} → Fewer m s t → NoMore m t v → Fewer m s v
+  fewer_transitive f g n b = let j = f n b in let k = g j.0 j.1 in (k.0, k.1, omega (arith, j.2, k.2))
 
   -- nothing that comes afterwards raises it
-  pub lowers_then : {G H : Type 0} {s t v : P} (r : Answered G H) → Fewer m s t × FewerRemain m s t → NoMore m t v → NoMoreRemains m t v → Lowers m s r v
-  lowers_then (Ok (Some y)) low bound remain = (fewer_then low.0 bound, λ f. let j = low.1 f in let k = remain j.0 in (k.0, omega (arith, j.1, k.1)))
-  lowers_then (Ok None) low bound remain = tt
-  lowers_then (Err e) low bound remain = λ f. let j = low.1 f in let k = remain j.0 in (k.0, omega (arith, j.1, k.1))
+  pub lowers_transitive : {G H : Type 0} {s t v : P} (r : Answered G H) → Fewer m s t × FewerRemain m s t → NoMore m t v → NoMoreRemains m t v → Lowers m s r v
+  lowers_transitive (Ok (Some y)) low bound remain = (fewer_transitive low.0 bound, λ f. let j = low.1 f in let k = remain j.0 in (k.0, omega (arith, j.1, k.1)))
+  lowers_transitive (Ok None) low bound remain = tt
+  lowers_transitive (Err e) low bound remain = λ f. let j = low.1 f in let k = remain j.0 in (k.0, omega (arith, j.1, k.1))
 
 -- ---- the first answer, and all
 

@@ -31,9 +31,9 @@ module _ {A S : Type 0} (eq : A → A → Bool) where
     has_seen_more p q seen x has updates k = updates.0 k ∙ ap (λ (b : Bool). cond b true (contains eq p k)) (equivalence.symm x k) ∙ ap (λ (b : Bool). cond (eq k x) true b) (has k) ∙ cond_or (eq k x) (is_member eq seen k)
 
     -- a turn that goes on met an item that wasn't seen
-    went_on : (p q : HashSet A S) (seen : List A) (x : A) (b : Bool) (u : Unit {0}) → HasSeen p seen → contains eq p x ≡ b → seen_turn eq p x b (Continue u) q → (is_member eq seen x ≡ false) × HasSeen q (x ∷ seen)
-    went_on p q seen x true u has is w = absurd cc
-    went_on p q seen x false u has is w = (sym (has x) ∙ is, has_seen_more p q seen x has w)
+    unseen_where_turn_goes_on : (p q : HashSet A S) (seen : List A) (x : A) (b : Bool) (u : Unit {0}) → HasSeen p seen → contains eq p x ≡ b → seen_turn eq p x b (Continue u) q → (is_member eq seen x ≡ false) × HasSeen q (x ∷ seen)
+    unseen_where_turn_goes_on p q seen x true u has is w = absurd cc
+    unseen_where_turn_goes_on p q seen x false u has is w = (sym (has x) ∙ is, has_seen_more p q seen x has w)
 
     module _ {E : Type 0} where
       stopped_by : (p q : HashSet A S) (x : A) (b : Bool) (stop : Option AllocError) (r : Result Bool (Fault E)) → seen_turn eq p x b (Break stop) q → r ≡ unique_or_fault_of (Ok (Some stop)) → UniqueStop b r
@@ -46,7 +46,7 @@ module _ {A S : Type 0} (eq : A → A → Bool) where
       exit_by_turns [] (Ok None) seen p c d answer r has went exit is = is ∙ ap unique_or_fault_of exit.0
       exit_by_turns [] (Err e) seen p c d answer r has went exit is = is ∙ ap unique_or_fault_of exit.0
       exit_by_turns [] (Ok (Some x)) seen p c d answer r has went exit is = subst (λ (b : Bool). UniqueStop b r) (has x) (stopped_by p d x (contains eq p x) exit.0 r (subst (λ (k : HashSet A S). is_unique_turn eq k x (Break exit.0) d) (sym went) exit.1) (is ∙ ap unique_or_fault_of exit.2))
-      exit_by_turns (x ∷ items) last seen p c d answer r has went exit is = let k = went_on p went.0 seen x (contains eq p x) tt has refl went.1 in (k.0, exit_by_turns items last (x ∷ seen) went.0 c d answer r k.1 went.2 exit is)
+      exit_by_turns (x ∷ items) last seen p c d answer r has went exit is = let k = unseen_where_turn_goes_on p went.0 seen x (contains eq p x) tt has refl went.1 in (k.0, exit_by_turns items last (x ∷ seen) went.0 c d answer r k.1 went.2 exit is)
 
   pub all_unique_by_fold : (equivalence : IsEquivalence eq) {I E : Type 0} {steps : I → Answered A E → I → Type 0} {s t : I} {p d : HashSet A S} {answer : Answered (Option AllocError) E} {r : Result Bool (Fault E)} → IsEmpty p → Driven steps (is_unique_turn eq) s p answer t d → r ≡ unique_or_fault_of answer → AllUniqueDrains eq steps s r t
   all_unique_by_fold equivalence {p = p} {d = d} {answer = answer} {r = r} none w is = drained_map (λ items last h. exit_by_turns equivalence items last [] p h.carried d answer r (λ k. ap (list_any (eq k)) none) h.went h.exit is) w

@@ -19,13 +19,13 @@ use Rattle.fallible_iterator.specs.Fault.TheVariants.{Source, Memory}
 
 -- ---- counts
 
-how_many_more_by : {A : Type 0} (test : A → Bool) (items : List A) (y : A) (b : Bool) → test y ≡ b → how_many test (items ++ y ∷ []) ≡ cond b (how_many test items + 1) (how_many test items)
-how_many_more_by test [] y b is = ap (λ (c : Bool). cond c 1 0) is ∙ cond_one b
+how_many_of_one_more : {A : Type 0} (test : A → Bool) (items : List A) (y : A) (b : Bool) → test y ≡ b → how_many test (items ++ y ∷ []) ≡ cond b (how_many test items + 1) (how_many test items)
+how_many_of_one_more test [] y b is = ap (λ (c : Bool). cond c 1 0) is ∙ cond_one b
   where
     cond_one : (b : Bool) → cond b 1 0 ≡ cond b (0 + 1) 0
     cond_one true = omega arith
     cond_one false = refl
-how_many_more_by test (x ∷ items) y b is = ap (λ (n : ℕ). cond (test x) (n + 1) n) (how_many_more_by test items y b is) ∙ cond_one_more_swapped (test x) b
+how_many_of_one_more test (x ∷ items) y b is = ap (λ (n : ℕ). cond (test x) (n + 1) n) (how_many_of_one_more test items y b is) ∙ cond_one_more_swapped (test x) b
   where
     cond_one_more_swapped : (a b : Bool) → cond a (cond b (how_many test items + 1) (how_many test items) + 1) (cond b (how_many test items + 1) (how_many test items)) ≡ cond b (cond a (how_many test items + 1) (how_many test items) + 1) (cond a (how_many test items + 1) (how_many test items))
     cond_one_more_swapped true true = refl
@@ -79,8 +79,8 @@ module _ {K S : Type 0} {eq : K → K → Bool} (laws : IsEquivalence eq) (m n :
       pushed_value_is_wrapped = is ∙ ap (λ (o : Option ℕ). (unwrap_or o 0 + 1) % 2 ^ 64) (t.counted x) ∙ ap (λ (c : ℕ). (c + 1) % 2 ^ 64) (unwrap_or_0_wrapped_above_zero times_before) ∙ mod-add-mod times_before (2 ^ 64) 1
 
       by_cases : (k : K) (b : Bool) → eq x k ≡ b → cond b (Some v) (hash.get eq m k) ≡ option_map wrapped (times eq (items ++ x ∷ []) k)
-      by_cases k true e = ap Some pushed_value_is_wrapped ∙ sym (ap (option_map wrapped) (ap above_zero (how_many_more_by (eq k) items x true (laws.symm k x ∙ e) ∙ ap (λ (c : ℕ). c + 1) (how_many_alike (eq k) (eq x) (λ z. sym (laws.congr x k z e)) items)) ∙ above_zero_one_more times_before))
-      by_cases k false e = t.counted k ∙ sym (ap (λ (c : ℕ). option_map wrapped (above_zero c)) (how_many_more_by (eq k) items x false (laws.symm k x ∙ e)))
+      by_cases k true e = ap Some pushed_value_is_wrapped ∙ sym (ap (option_map wrapped) (ap above_zero (how_many_of_one_more (eq k) items x true (laws.symm k x ∙ e) ∙ ap (λ (c : ℕ). c + 1) (how_many_alike (eq k) (eq x) (λ z. sym (laws.congr x k z e)) items)) ∙ above_zero_one_more times_before))
+      by_cases k false e = t.counted k ∙ sym (ap (λ (c : ℕ). option_map wrapped (above_zero c)) (how_many_of_one_more (eq k) items x false (laws.symm k x ∙ e)))
 
 -- ---- a drain of few enough items
 

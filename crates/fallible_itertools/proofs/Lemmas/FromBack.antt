@@ -10,7 +10,7 @@ use Rattle.fallible_iterator.specs.Lists.{Acts, on_value, any_of, found, counted
 use Rattle.fallible_iterator.specs.BothEnds.{ListsBothEnds}
 use Rattle.fallible_iterator.specs.Contract.{Contract, AtMost, KeptByDraws}
 use Rattle.fallible_iterator.specs.Ends.{Ends, LawfulEnds, from_front, from_back}
-use Rattle.fallible_iterator.specs.Laws.Contract.{kept_by_draws_run, kept_by_draws_then}
+use Rattle.fallible_iterator.specs.Laws.Contract.{kept_by_draws_run, kept_by_draws_transitive}
 use Rattle.fallible_iterator.proofs.Lemmas.Contract.{number_of_at_most}
 use Rattle.fallible_iterator.proofs.Lemmas.Folds.{drained_map}
 use Rattle.fallible_iterator.proofs.Lemmas.BothEnds.{lists_both_ends_swapped, lists_first}
@@ -147,7 +147,7 @@ module _ {S A E : Type 0} {m : Contract S A E} {e : Ends S A E} (law : LawfulEnd
 
   -- and a count of what is left
   pub kept_by_draws_counted : {s t u : S} (found : Result Bool E) (r : Result (Option ℕ) E) → KeptByDraws (from_front m e) s t → CountedWhere m.steps found t r u → KeptByDraws (from_front m e) s u
-  kept_by_draws_counted {t = t} {u = u} (Ok true) r h c = kept_by_draws_then h (kept_by_draws_run law.front t (map item c.1.items ++ c.1.last ∷ []) u h.can_next c.1.ran)
+  kept_by_draws_counted {t = t} {u = u} (Ok true) r h c = kept_by_draws_transitive h (kept_by_draws_run law.front t (map item c.1.items ++ c.1.last ∷ []) u h.can_next c.1.ran)
   kept_by_draws_counted {s = s} (Ok false) r h c = subst (λ (v : S). KeptByDraws (from_front m e) s v) (sym c.1) h
   kept_by_draws_counted {s = s} (Err d) r h c = subst (λ (v : S). KeptByDraws (from_front m e) s v) (sym c.1) h
 

@@ -25,27 +25,27 @@ module _ {S Z A E : Type 0} (separates : Z → Result A E → Z → Type 0) (ste
     StepThen u i = HeldFirst separates steps u i rest t k
 
     -- one draw before the rest, where nothing is held
-    whole_drawn_then : (s u : S) (z : Z) (started : Bool) (drawn r : Answered A E) (j : Z × (Bool × Option A)) → steps s drawn u → PlacedAs separates z started drawn r j → StepThen u j → WholeOfPartingTraces s z started (r ∷ rest) t k
-    whole_drawn_then s u z started (Ok None) r j step w more = rw w.0 (then_end step (subst (StepThen u) w.1 more))
-    whole_drawn_then s u z started (Err e) r j step w more = rw w.0 (then_failure e step (subst (StepThen u) w.1 more))
-    whole_drawn_then s u z false (Ok (Some x)) r j step w more = rw w.0 (then_first_item x step (subst (StepThen u) w.1 more))
-    whole_drawn_then s u z true (Ok (Some x)) r (y, j) step w more = elim (subst (λ (i : Bool × Option A). StepThen u (y, i)) w.1 more) [
+    whole_after_draw : (s u : S) (z : Z) (started : Bool) (drawn r : Answered A E) (j : Z × (Bool × Option A)) → steps s drawn u → PlacedAs separates z started drawn r j → StepThen u j → WholeOfPartingTraces s z started (r ∷ rest) t k
+    whole_after_draw s u z started (Ok None) r j step w more = rw w.0 (then_end step (subst (StepThen u) w.1 more))
+    whole_after_draw s u z started (Err e) r j step w more = rw w.0 (then_failure e step (subst (StepThen u) w.1 more))
+    whole_after_draw s u z false (Ok (Some x)) r j step w more = rw w.0 (then_first_item x step (subst (StepThen u) w.1 more))
+    whole_after_draw s u z true (Ok (Some x)) r (y, j) step w more = elim (subst (λ (i : Bool × Option A). StepThen u (y, i)) w.1 more) [
       | inl h ↦ rw (h.0, h.1, h.2) (later_item_held x r step w.0)
       | inr h ↦ rw h.1 (then_later_item x r step w.0 h.2)
     ]
 
   -- one step before the rest
-  trace_step_then : (p u q : StateOfPartingTraces) (r : Answered A E) (rest : List (Answered A E)) → StepOfPartingTraces p r u → TraceOfPartingTraces u rest q → TraceOfPartingTraces p (r ∷ rest) q
-  trace_step_then (s, (z, (started, Some x))) (u, j) (t, k) r rest step more = inr (rest, rw step.0 refl, subst (λ (w : S). HeldFirst separates steps w (z, (started, None)) rest t k) step.1 (subst (λ (i : Z × (Bool × Option A)). HeldFirst separates steps u i rest t k) step.2 more))
-  trace_step_then (s, (z, (started, None))) (u, j) (t, k) r rest step more = whole_drawn_then t k rest s u z started step.0 r j step.1 step.2 more
+  trace_after_step : (p u q : StateOfPartingTraces) (r : Answered A E) (rest : List (Answered A E)) → StepOfPartingTraces p r u → TraceOfPartingTraces u rest q → TraceOfPartingTraces p (r ∷ rest) q
+  trace_after_step (s, (z, (started, Some x))) (u, j) (t, k) r rest step more = inr (rest, rw step.0 refl, subst (λ (w : S). HeldFirst separates steps w (z, (started, None)) rest t k) step.1 (subst (λ (i : Z × (Bool × Option A)). HeldFirst separates steps u i rest t k) step.2 more))
+  trace_after_step (s, (z, (started, None))) (u, j) (t, k) r rest step more = whole_after_draw t k rest s u z started step.0 r j step.1 step.2 more
 
-  trace_none_then : (p : StateOfPartingTraces) → TraceOfPartingTraces p [] p
-  trace_none_then (s, (z, (started, None))) = nothing_drawn
-  trace_none_then (s, (z, (started, Some x))) = inl (refl, refl, refl)
+  trace_of_none : (p : StateOfPartingTraces) → TraceOfPartingTraces p [] p
+  trace_of_none (s, (z, (started, None))) = nothing_drawn
+  trace_of_none (s, (z, (started, Some x))) = inl (refl, refl, refl)
 
   trace_of_parting_traces : (trace : List (Answered A E)) (p q : StateOfPartingTraces) → Run StepOfPartingTraces p trace q → TraceOfPartingTraces p trace q
-  trace_of_parting_traces [] p q e = subst (λ (u : StateOfPartingTraces). TraceOfPartingTraces p [] u) e (trace_none_then p)
-  trace_of_parting_traces (r ∷ rest) p q ran = trace_step_then p ran.0 q r rest ran.1 (trace_of_parting_traces rest ran.0 q ran.2)
+  trace_of_parting_traces [] p q e = subst (λ (u : StateOfPartingTraces). TraceOfPartingTraces p [] u) e (trace_of_none p)
+  trace_of_parting_traces (r ∷ rest) p q ran = trace_after_step p ran.0 q r rest ran.1 (trace_of_parting_traces rest ran.0 q ran.2)
 
   -- ---- to runs
 

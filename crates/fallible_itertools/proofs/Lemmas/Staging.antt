@@ -7,7 +7,7 @@ use Rattle.fallible_iterator.specs.Contract.{Contract, KeptByDraws, Lawful}
 use Rattle.fallible_iterator.specs.Closures.{Reaches}
 use Rattle.fallible_iterator.specs.Passing.{IfItem}
 use Rattle.fallible_iterator.specs.Folds.{HoldsAtEachTurn, goes_on, DriveExit, Driven, TurnThrough, beside, beside_names}
-use Rattle.fallible_iterator.specs.Laws.Contract.{kept_by_draws_after, kept_by_no_draw, kept_by_draws_then}
+use Rattle.fallible_iterator.specs.Laws.Contract.{kept_by_draws_after, kept_by_no_draw, kept_by_draws_transitive}
 use Rattle.fallible_iterator.specs.Laws.Closures.{reaches_reflexive, reaches_weaken, reaches_from}
 use Rattle.fallible_iterator.proofs.Lemmas.Folds.{holds_at_first_turn, holds_each_turn_after, driven_after, driven_end, driven_failure, driven_stop, fold_of_references_drives_values, names_kept}
 use Rattle.fallible_iterator.proofs.Lemmas.Folding.{drained_after_first, holds_each_turn_after_first}
@@ -204,7 +204,7 @@ module _ {S P X D B L E C R : Type 0} {m : Contract S X D} (l : Lawful m) (comes
   reached_by_items : (items : List X) (s t : S) (p q : C × P) → m.can_next s → Yields m.steps s items t → FoldsTo (goes_on (StageTurns comes meets turns)) p items q → KeptByDraws m s t × Reaches meets (MayMeet m s) p.1 q.1
   reached_by_items [] s t p q c ran went = rw (sym ran, sym went) (kept_by_no_draw c, reaches_reflexive)
   reached_by_items (x ∷ items) s t p q c ran went = let g = l.kept_by_draw s (item x) ran.0 c ran.1 in let k = kept_by_draws_after g in let met = went.1 in let rest = reached_by_items items ran.0 t went.0 q g.can_next ran.2 went.2 in
-      (kept_by_draws_then k rest.0, reaches_from (item x) met.0 (met_of_answer m s ran.0 (item x) g.answer) met.1 (reaches_weaken (met_before m s ran.0 k) rest.1))
+      (kept_by_draws_transitive k rest.0, reaches_from (item x) met.0 (met_of_answer m s ran.0 (item x) g.answer) met.1 (reaches_weaken (met_before m s ran.0 k) rest.1))
 
   met_takes : (s t : S) (p k : C × P) (a : Answered X D) → m.can_next s → TakesAll m meets takes s p.1 → HoldsThere (s, (p.1, None)) p.0 → UpTo comes meets m.steps turns Q s p a t k → MetTakes comes meets turns takes Q k a
   met_takes s t p k a c callable holds up = let r = reached_by_items up.items s up.before p k c up.ran up.went in (

@@ -76,18 +76,18 @@ module _ {S A E : Type 0} (steps : S → Answered A E → S → Type 0) where
   abbrev StepsOfWithPosition : StateOfWithPosition → Answered (Position × A) E → StateOfWithPosition → Type 0
   StepsOfWithPosition = holding_step position_asks steps
 
-  kept_at : (x : A) {r q : Position} → r ≡ q → ◌≡◌ {A = Outcome (Position × A) E} (Kept (r, x)) (Kept (q, x))
-  kept_at x is = rw is refl
+  kept_of_same_position : (x : A) {r q : Position} → r ≡ q → ◌≡◌ {A = Outcome (Position × A) E} (Kept (r, x)) (Kept (q, x))
+  kept_of_same_position x is = rw is refl
 
   -- after an item that is held
   pub step_before_item : {s u : S} {due : Option (Option E)} (p : Bool × A) (x : A) {r : Position} → steps s (item x) u → r ≡ position_before_item p.0 → due ≡ None → StepsOfWithPosition (s, (Some p, None)) (item (r, p.1)) (u, (Some (true, x), due))
-  step_before_item p x {r = r} step is none = step_item steps position_asks x (r, p.1) step (kept_at p.1 is, refl) none
+  step_before_item p x {r = r} step is none = step_item steps position_asks x (r, p.1) step (kept_of_same_position p.1 is, refl) none
 
   pub step_before_end : {s u : S} {held : Option (Bool × A)} (p : Bool × A) {r : Position} → steps s (Ok None) u → r ≡ position_before_stop p.0 → held ≡ None → StepsOfWithPosition (s, (Some p, None)) (item (r, p.1)) (u, (held, Some None))
-  step_before_end p {r = r} step is none = step_end steps position_asks step (Kept (r, p.1), (kept_at p.1 is, none), (refl, refl))
+  step_before_end p {r = r} step is none = step_end steps position_asks step (Kept (r, p.1), (kept_of_same_position p.1 is, none), (refl, refl))
 
   pub step_before_failure : {s u : S} {held : Option (Bool × A)} (p : Bool × A) (e : E) {r : Position} → steps s (Err e) u → r ≡ position_before_stop p.0 → held ≡ None → StepsOfWithPosition (s, (Some p, None)) (item (r, p.1)) (u, (held, Some (Some e)))
-  step_before_failure p e {r = r} step is none = step_failure steps position_asks e step (Kept (r, p.1), (kept_at p.1 is, none), (refl, refl))
+  step_before_failure p e {r = r} step is none = step_failure steps position_asks e step (Kept (r, p.1), (kept_of_same_position p.1 is, none), (refl, refl))
 
   -- where none is held
   pub step_of_first : {s u : S} {r : Answered (Position × A) E} {v : StateOfWithPosition} (x : A) → steps s (item x) u → StepsOfWithPosition (u, (Some (false, x), None)) r v → StepsOfWithPosition (s, (None, None)) r v

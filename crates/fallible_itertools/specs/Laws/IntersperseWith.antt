@@ -12,8 +12,8 @@ module _ {F A E : Type 0} (g : Mut F (Unit {0}) (Result A E)) where
   can_call_after f v h c called = is_callable_after (λ x p. p) (reaches_from tt v tt called reaches_reflexive) c
 
   -- the closure may be called here
-  pub can_call_here : (f : F) → CanCallOn g f → g.pre f tt
-  can_call_here f c = c.at f tt reaches_reflexive tt
+  pub call_is_allowed : (f : F) → CanCallOn g f → g.pre f tt
+  call_is_allowed f c = c.at f tt reaches_reflexive tt
 
   pub lawful_intersperse_with : {S : Type 0} {m : Contract S A E} → Lawful m → Lawful (intersperse_with_contract m g)
   lawful_intersperse_with {m = m} l = lawful_parting (CallSeparates g) (CanCallOn g) can_call_after m l

@@ -127,17 +127,17 @@ module _ {S X E : Type 0} {m : Contract S X E} {looks : S → X → S → Type 0
 -- ---- the adapter
 
 module _ {S F X E : Type 0} (m : Contract S X E) (l : Lawful m) (looks : S → X → S → Type 0) (k : LooksAhead m looks) (g : Mut F (Bor X × Unit {0}) (Result Bool E)) where
-  abbrev callable_here : (X → Type 0) → F → Type 0
-  callable_here P f = IsCallable (call_by_reference g) (takes_by_reference g) P f
+  abbrev callable_by_reference : (X → Type 0) → F → Type 0
+  callable_by_reference P f = IsCallable (call_by_reference g) (takes_by_reference g) P f
 
   abbrev PassingHere : Contract (S × F) X E
-  PassingHere = passing_contract m (call_by_reference g) callable_here take_while_outcome (λ p h. upper_alone m p.0 h)
+  PassingHere = passing_contract m (call_by_reference g) callable_by_reference take_while_outcome (λ p h. upper_alone m p.0 h)
 
   abbrev PeekingHere : Contract (S × F) X E
   PeekingHere = peeking_contract m looks g
 
   lawful_taking : Lawful PassingHere
-  lawful_taking = lawful_passing (call_by_reference g) callable_here take_while_outcome (λ p h. upper_alone m p.0 h) (λ P PeekableHere f h weak reached c. is_callable_after weak reached c) l
+  lawful_taking = lawful_passing (call_by_reference g) callable_by_reference take_while_outcome (λ p h. upper_alone m p.0 h) (λ P PeekableHere f h weak reached c. is_callable_after weak reached c) l
 
   -- what a draw keeps, whatever the steps are
   on_answer_peeking : (p q : S × F) (r : Answered X E) → OnAnswer PassingHere p r q → OnAnswer PeekingHere p r q

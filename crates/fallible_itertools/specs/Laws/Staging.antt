@@ -7,7 +7,7 @@ use Rattle.std.proofs.lemmas.Nat.{mul-le}
 use Rattle.fallible_iterator.specs.Traces.{Answered, item, failure}
 use Rattle.fallible_iterator.specs.Contract.{Contract, OnAnswer, KeptByDraw, KeptByDraws, Lawful}
 use Rattle.fallible_iterator.specs.Closures.{Reaches, MayAnswer}
-use Rattle.fallible_iterator.specs.Laws.Contract.{kept_by_draws_after, kept_by_draws_then}
+use Rattle.fallible_iterator.specs.Laws.Contract.{kept_by_draws_after, kept_by_draws_transitive}
 use Rattle.fallible_iterator.specs.Laws.Closures.{reaches_reflexive, reaches_weaken, reaches_from, may_answer_of_call, may_answer_after}
 use Rattle.fallible_itertools.specs.Staging.{Made, DrawsUpTo, yields, passes_over, due_comes, due_left, items_of, stays_of, due_total, made_total, IsStage, IsDue, IsMade, MayMeet, MayCome, TakesAll, stage_contract}
 use Rattle.fallible_iterator.specs.Passing.{IfItem}
@@ -74,8 +74,8 @@ module _ {S P X D B L E : Type 0} {m : Contract S X D} (l : Lawful m) (comes : L
     remaining = λ f. let k = remaining_after m s t a h f in (k.0, omega (arith, scaled most (size (m.remaining t)) (stays_of a) (size (m.remaining s)) k.1, (w p a made q called).1));
   }
 
-  spends_then : (i j : ℕ) (s u t : S) (p h q : P) → Spends 0 0 s p u h → Spends i j u h t q → Spends i j s p t q
-  spends_then i j s u t p h q a b = record {
+  spends_transitive : (i j : ℕ) (s u t : S) (p h q : P) → Spends 0 0 s p u h → Spends i j u h t q → Spends i j s p t q
+  spends_transitive i j s u t p h q a b = record {
     bound = λ n h. let k = a.bound n h in let e = b.bound k.0 k.1 in (e.0, e.1, omega (arith, k.2, e.2));
     remaining = λ f. let k = a.remaining f in let e = b.remaining k.0 in (e.0, omega (arith, k.1, e.1));
   }
@@ -97,9 +97,9 @@ module _ {S P X D B L E : Type 0} {m : Contract S X D} (l : Lawful m) (comes : L
   }
   came_of_draws s t p r q c (passes_over {u = u} {h = h} a step called rest) = let g = l.kept_by_draw s a u c step in let may = met_of_answer m s u a g.answer in let k = kept_by_draws_after g in
       let d = came_of_draws u t h r q g.can_next rest in record {
-        kept = kept_by_draws_then k d.kept;
+        kept = kept_by_draws_transitive k d.kept;
         reached = reaches_from a None may called (reaches_weaken (met_before m s u k) d.reached);
-        spends = spends_then _ _ s u t p h q.0 (spends_met s u p h a None g.answer called) d.spends;
+        spends = spends_transitive _ _ s u t p h q.0 (spends_met s u p h a None g.answer called) d.spends;
         may = λ z is. may_answer_after (met_before m s u k) (reaches_from a None may called reaches_reflexive) (d.may z is);
       }
 

@@ -2,7 +2,7 @@
 use Rattle.std.specs.Prelude.{List, [], ◌∷◌, ◌++◌, map}
 use Rattle.fallible_contract.specs.Traces.{Answered, Run, item}
 use Rattle.fallible_contract.specs.Folds.{Drained}
-use Rattle.fallible_contract.specs.Laws.Closures.{folds_to_then}
+use Rattle.fallible_contract.specs.Laws.Closures.{folds_to_in_turn}
 use Rattle.fallible_contract.specs.BothEnds.{step_at, RunAtEnds, from_side}
 use Rattle.fallible_contract.specs.declared.answers.Side.{Side}
 
@@ -13,8 +13,8 @@ module _ {S A E : Type 0} (front back : S → Answered A E → S → Type 0) whe
   run_at_ends_mixed side (r ∷ trace) s t ran = (ran.0, ran.1, run_at_ends_mixed side trace ran.0 t ran.2)
 
   -- draws, and then others
-  pub run_at_ends_then : (drawn others : List (Side × Answered A E)) (s t u : S) → RunAtEnds front back s drawn t → RunAtEnds front back t others u → RunAtEnds front back s (drawn ++ others) u
-  run_at_ends_then drawn others s t u first rest = folds_to_then _ drawn others s t u first rest
+  pub run_at_ends_append : (drawn others : List (Side × Answered A E)) (s t u : S) → RunAtEnds front back s drawn t → RunAtEnds front back t others u → RunAtEnds front back s (drawn ++ others) u
+  run_at_ends_append drawn others s t u first rest = folds_to_in_turn _ drawn others s t u first rest
 
   -- a fold from one end, also one that stopped: its items, and the answer that decided
   pub run_at_ends_of_fold : {came : List A → Answered A E → Type 0} {s t : S} (side : Side) (fold : Drained (step_at front back side) came s t) → RunAtEnds front back s (from_side side (map item fold.items ++ fold.last ∷ [])) t

@@ -60,8 +60,8 @@ module _ {S T A E : Type 0} {rule : A → A → Option Ordering} {left-steps : S
   pub compared_of_lists : {t : T} {r : Result (Option Ordering) E} → CompareDraws rule left-steps right-steps s t r → Lists left-steps s a → Lists right-steps t b → r ≡ compared rule a b
   compared_of_lists {t} {r} c i j = compared_after_pairs rule left-steps right-steps c.last_left c.last_right r c.left c.right c.last_round c.pairs a b s t c.equal i.runs j.runs c.left_ran c.right_ran
 
-  pub compared_of_lists_with : {O : Type 0} {into : O → T → Type 0} {other : O} {r : Result (Option Ordering) E} → ComparedWith rule into left-steps right-steps s other r → Lists left-steps s a → ((right : T) → into other right → Lists right-steps right b) → r ≡ compared rule a b
-  compared_of_lists_with c i j = compared_of_lists c.compared i (j c.right c.made)
+  pub compared_of_lists_converted : {O : Type 0} {into : O → T → Type 0} {other : O} {r : Result (Option Ordering) E} → ComparedWith rule into left-steps right-steps s other r → Lists left-steps s a → ((right : T) → into other right → Lists right-steps right b) → r ≡ compared rule a b
+  compared_of_lists_converted c i j = compared_of_lists c.compared i (j c.right c.made)
 
   pub read_as_of_lists : {O X : Type 0} {reads : Option Ordering → X} {into : O → T → Type 0} {other : O} {r : Result X E} → ReadWith rule reads into left-steps right-steps s other r → Lists left-steps s a → ((right : T) → into other right → Lists right-steps right b) → r ≡ read_as reads (compared rule a b)
-  read_as_of_lists {reads = reads} c i j = c.is ∙ ap (read_as reads) (compared_of_lists_with c.compared i j)
+  read_as_of_lists {reads = reads} c i j = c.is ∙ ap (read_as reads) (compared_of_lists_converted c.compared i j)

@@ -6,7 +6,7 @@ use Rattle.fallible_contract.specs.Traces.{Answered, end, is_end}
 use Rattle.fallible_contract.specs.Contract.{Contract, AtMost, Lawful, seen_as}
 use Rattle.fallible_contract.specs.Folds.{OverExit, CountedUp, CountDrainsOn, LastExit, LastBy}
 use Rattle.fallible_contract.specs.Searching.{WentOn, SearchDecides, SearchExit, SearchedBy, find_pick}
-use Rattle.fallible_contract.specs.Laws.Closures.{folds_to_then}
+use Rattle.fallible_contract.specs.Laws.Closures.{folds_to_in_turn}
 use Rattle.fallible_contract.proofs.Lemmas.Contract.{number_of_at_most}
 use Rattle.fallible_contract.proofs.Lemmas.BoundsRuns.{number_at_most_bound}
 use Rattle.fallible_core.specs.Joining.Chain.{chain_contract, chain_parts}
@@ -111,7 +111,7 @@ module _ {A E F : Type 0} (tests : F → A → Result Bool E → F → Type 0) w
 
   -- a search that found none, and then another from where it left the state
   pub search_joins : {f g k : F} {r : Answered A E} (xs ys : List A) (met last : Answered A E) → SearchedBy tests find_pick None f (Ok None) g xs met → SearchedBy tests find_pick None g r k ys last → (met ≡ end) × SearchedBy tests find_pick None f r k (xs ++ ys) last
-  search_joins {k = k} {r = r} xs ys met last a b = let over = search_met_end xs met a in (over.0, record { closure = b.closure; went = folds_to_then _ xs ys _ _ _ over.1 b.went; exit = exit_search_later (length ys) (length (xs ++ ys)) b.closure k last r b.exit })
+  search_joins {k = k} {r = r} xs ys met last a b = let over = search_met_end xs met a in (over.0, record { closure = b.closure; went = folds_to_in_turn _ xs ys _ _ _ over.1 b.went; exit = exit_search_later (length ys) (length (xs ++ ys)) b.closure k last r b.exit })
 
 -- ---- of the struct
 

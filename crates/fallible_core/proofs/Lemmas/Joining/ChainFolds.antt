@@ -6,7 +6,7 @@ use Rattle.std.proofs.lemmas.List.{map-append}
 use Rattle.fallible_contract.specs.Traces.{Answered, Run, Yields, NoEnd, item, end, is_end}
 use Rattle.fallible_contract.specs.Contract.{Contract, seen_as}
 use Rattle.fallible_contract.specs.Folds.{Drained, HoldsAtEachTurn, goes_on, DriveExit, DrivenBy}
-use Rattle.fallible_contract.specs.Laws.Closures.{folds_to_then}
+use Rattle.fallible_contract.specs.Laws.Closures.{folds_to_in_turn}
 use Rattle.fallible_contract.proofs.Lemmas.Folding.{drained_into, holds_at_each_turn_into}
 use Rattle.fallible_contract.proofs.Lemmas.Overriding.{holds_each_turn_seen, drained_seen}
 use Rattle.fallible_core.specs.Joining.Chain.{chain_step, chain_contract, chain_is_finite, sides_back}
@@ -70,7 +70,7 @@ module _ {A E C R : Type 0} (turns : C → A → ControlFlow R (Unit {0}) → C 
 
   -- a fold that ended, and then another from where it left the state
   pub drive_joins : {c d z : C} {r : Answered R E} (xs ys : List A) (met last : Answered A E) → DrivenBy turns c (Ok None) d xs met → DrivenBy turns d r z ys last → (met ≡ end) × DrivenBy turns c r z (xs ++ ys) last
-  drive_joins xs ys met last f b = let over = drive_met_end xs met f in (over.0, record { carried = b.carried; went = folds_to_then _ xs ys _ _ _ over.1 b.went; exit = b.exit })
+  drive_joins xs ys met last f b = let over = drive_met_end xs met f in (over.0, record { carried = b.carried; went = folds_to_in_turn _ xs ys _ _ _ over.1 b.went; exit = b.exit })
 
 -- ---- by which of its sides are drawn
 
@@ -139,7 +139,7 @@ module _ {S U A E : Type 0} (steps : S → Answered A E → S → Type 0) (other
         record {
           at = λ items v w e x ran went step.
               let rest = yields_past_first_end items first.0 t u v w x ended ran step in
-              h.at (f.items ++ items) rest.0 (t, w, SecondAlone) e x (folds_to_then _ f.items items _ _ _ (yields_both f.items s first.0 u first.1) rest.1) (folds_to_then _ f.items items _ _ _ over.1 went) rest.2;
+              h.at (f.items ++ items) rest.0 (t, w, SecondAlone) e x (folds_to_in_turn _ f.items items _ _ _ (yields_both f.items s first.0 u first.1) rest.1) (folds_to_in_turn _ f.items items _ _ _ over.1 went) rest.2;
         }
 
 -- a side that is still drawn has an end where the chain has one

@@ -36,10 +36,10 @@ module _ {S X C B E : Type 0} (outer : S → Answered X E → S → Type 0) (int
   }
 
   -- one more answer of the current inner iterator
-  more_in_hand : (s t : S) (c d : C) (hand hand' : Option C) (r : Answered B E) (trace : List (Answered B E)) → inner c r d → is_end r ≡ false → hand ≡ Some d → TraceHere s hand trace t hand' → TraceHere s (Some c) (r ∷ trace) t hand'
-  more_in_hand s t c d hand _ r _ step free e nothing_drawn = rw e (still_in_hand {trace = r ∷ []} (record { drawn = (d, step, refl); no_end = (free, tt); not_empty = λ e. absurd cc }))
-  more_in_hand s _ c d _ _ r trace step free e (still_in_hand {c = k} {d = l} u) = let same : k ≡ d = cc in still_in_hand {trace = r ∷ trace} (record { drawn = (d, step, rw (sym same) u.drawn); no_end = (free, u.no_end); not_empty = λ e. absurd cc })
-  more_in_hand s t c d hand hand' r trace step free e (outer_drawn j) = outer_drawn (joined_trace_more s t c d hand' r trace step free (rw (sym e) j))
+  trace_with_inner_answer : (s t : S) (c d : C) (hand hand' : Option C) (r : Answered B E) (trace : List (Answered B E)) → inner c r d → is_end r ≡ false → hand ≡ Some d → TraceHere s hand trace t hand' → TraceHere s (Some c) (r ∷ trace) t hand'
+  trace_with_inner_answer s t c d hand _ r _ step free e nothing_drawn = rw e (still_in_hand {trace = r ∷ []} (record { drawn = (d, step, refl); no_end = (free, tt); not_empty = λ e. absurd cc }))
+  trace_with_inner_answer s _ c d _ _ r trace step free e (still_in_hand {c = k} {d = l} u) = let same : k ≡ d = cc in still_in_hand {trace = r ∷ trace} (record { drawn = (d, step, rw (sym same) u.drawn); no_end = (free, u.no_end); not_empty = λ e. absurd cc })
+  trace_with_inner_answer s t c d hand hand' r trace step free e (outer_drawn j) = outer_drawn (joined_trace_more s t c d hand' r trace step free (rw (sym e) j))
 
   none_in_hand : (hand : Option C) (answers : List (Answered B E)) → hand ≡ None → FinishedInHand inner hand answers → answers ≡ []
   none_in_hand None answers e h = h
@@ -72,8 +72,8 @@ module _ {S X C B E : Type 0} (outer : S → Answered X E → S → Type 0) (int
 
   pub from_flattens : (s t : S) (hand hand' : Option C) (trace : List (Answered B E)) → FlattensHere s hand trace t hand' → TraceHere s hand trace t hand'
   from_flattens s _ hand _ _ done = nothing_drawn
-  from_flattens s t _ hand' _ (gives {c = c} {d = d} {trace = trace} y step f) = more_in_hand s t c d (Some d) hand' (item y) trace step refl refl (from_flattens s t (Some d) hand' trace f)
-  from_flattens s t _ hand' _ (fails {c = c} {d = d} {trace = trace} e step f) = more_in_hand s t c d (Some d) hand' (failure e) trace step refl refl (from_flattens s t (Some d) hand' trace f)
+  from_flattens s t _ hand' _ (gives {c = c} {d = d} {trace = trace} y step f) = trace_with_inner_answer s t c d (Some d) hand' (item y) trace step refl refl (from_flattens s t (Some d) hand' trace f)
+  from_flattens s t _ hand' _ (fails {c = c} {d = d} {trace = trace} e step f) = trace_with_inner_answer s t c d (Some d) hand' (failure e) trace step refl refl (from_flattens s t (Some d) hand' trace f)
   from_flattens s t _ hand' _ (finishes {c = c} {d = d} {r = r} {trace = trace} step f) = end_in_hand s t c d None hand' (r ∷ trace) step refl (λ e. cc) (from_flattens s t None hand' (r ∷ trace) f)
   from_flattens s t _ hand' _ (begins {u = u} {c = c} {r = r} {trace = trace} x step becomes f) = begins_inner s u t c (Some c) hand' x (r ∷ trace) step becomes refl (λ e. cc) (from_flattens u t (Some c) hand' (r ∷ trace) f)
   from_flattens s t _ hand' _ (outer_fails {u = u} {trace = trace} e step f) = answer_by_itself s u t None hand' (of_failure e) trace step tt (λ h. h) refl (from_flattens u t None hand' trace f)
@@ -92,24 +92,24 @@ module _ {S X C B E : Type 0} (outer : S → Answered X E → S → Type 0) (int
   -- what the first answer leaves, and the rest from there
   record FirstFlattened (s : S) (hand : Option C) (r : Answered B E) (rest : List (Answered B E)) (t : S) (hand' : Option C) : Type 0 where
     source : S
-    hand_then : Option C
-    first : FlattensHere s hand (r ∷ []) source hand_then
-    others : FlattensHere source hand_then rest t hand'
+    hand_after : Option C
+    first : FlattensHere s hand (r ∷ []) source hand_after
+    others : FlattensHere source hand_after rest t hand'
 
   flattens_first_and_rest : (s t : S) (hand hand' : Option C) (r : Answered B E) (rest : List (Answered B E)) → FlattensHere s hand (r ∷ rest) t hand' → FirstFlattened s hand r rest t hand'
-  flattens_first_and_rest s t _ hand' _ rest (gives {d = d} y step p) = record { source = s; hand_then = Some d; first = gives y step done; others = p }
-  flattens_first_and_rest s t _ hand' _ rest (fails {d = d} e step p) = record { source = s; hand_then = Some d; first = fails e step done; others = p }
-  flattens_first_and_rest s t _ hand' r rest (finishes step p) = let q = flattens_first_and_rest s t None hand' r rest p in record { source = q.source; hand_then = q.hand_then; first = finishes step q.first; others = q.others }
-  flattens_first_and_rest s t _ hand' r rest (begins {u = u} {c = c} x step becomes p) = let q = flattens_first_and_rest u t (Some c) hand' r rest p in record { source = q.source; hand_then = q.hand_then; first = begins x step becomes q.first; others = q.others }
-  flattens_first_and_rest s t _ hand' _ rest (outer_fails {u = u} e step p) = record { source = u; hand_then = None; first = outer_fails e step done; others = p }
-  flattens_first_and_rest s t _ hand' _ rest (outer_ends {u = u} step p) = record { source = u; hand_then = None; first = outer_ends step done; others = p }
+  flattens_first_and_rest s t _ hand' _ rest (gives {d = d} y step p) = record { source = s; hand_after = Some d; first = gives y step done; others = p }
+  flattens_first_and_rest s t _ hand' _ rest (fails {d = d} e step p) = record { source = s; hand_after = Some d; first = fails e step done; others = p }
+  flattens_first_and_rest s t _ hand' r rest (finishes step p) = let q = flattens_first_and_rest s t None hand' r rest p in record { source = q.source; hand_after = q.hand_after; first = finishes step q.first; others = q.others }
+  flattens_first_and_rest s t _ hand' r rest (begins {u = u} {c = c} x step becomes p) = let q = flattens_first_and_rest u t (Some c) hand' r rest p in record { source = q.source; hand_after = q.hand_after; first = begins x step becomes q.first; others = q.others }
+  flattens_first_and_rest s t _ hand' _ rest (outer_fails {u = u} e step p) = record { source = u; hand_after = None; first = outer_fails e step done; others = p }
+  flattens_first_and_rest s t _ hand' _ rest (outer_ends {u = u} step p) = record { source = u; hand_after = None; first = outer_ends step done; others = p }
 
   -- what a trace of no answers leaves
   flattens_none : (s t : S) (hand hand' : Option C) → FlattensHere s hand [] t hand' → ◌≡◌ {A = S × Option C} (s, hand) (t, hand')
   flattens_none s _ hand _ done = refl
 
   first_of_flattens_some : (s t : S) (hand hand' : Option C) (r : Answered B E) (rest : List (Answered B E)) → FirstFlattened s hand r rest t hand' → FirstOf (FlattenTrace outer into inner) (s, hand) r rest (t, hand')
-  first_of_flattens_some s t hand hand' r rest q = record { left_by_first = (q.source, q.hand_then); first = from_flattens s q.source hand q.hand_then (r ∷ []) q.first; others = from_flattens q.source t q.hand_then hand' rest q.others }
+  first_of_flattens_some s t hand hand' r rest q = record { left_by_first = (q.source, q.hand_after); first = from_flattens s q.source hand q.hand_after (r ∷ []) q.first; others = from_flattens q.source t q.hand_after hand' rest q.others }
 
   abbrev flattens_of_trace : (s t : S) (hand hand' : Option C) (trace : List (Answered B E)) → TraceHere s hand trace t hand' → FlattensHere s hand trace t hand'
   flattens_of_trace = flattens_of_flatten_trace outer into inner

@@ -78,11 +78,11 @@ module _ {T E : Type 0} (is_clone : T → T → Type 0) (is_infallible : T → T
 abbrev pub with_original : {T E : Type 0} → List (Result (Bor T) E) → List (Result (Bor T × T) E)
 with_original l = map (with_answer (λ x. x.now)) l
 
-pub passed_list_with_original : {T E : Type 0} (l : List (Result (Bor T) E)) → passed_list map_outcome (map with_clone (with_original l)) ≡ pointed_to l
+pub passed_clones_are_pointed_to : {T E : Type 0} (l : List (Result (Bor T) E)) → passed_list map_outcome (map with_clone (with_original l)) ≡ pointed_to l
 unfolding pointed_to
-passed_list_with_original [] = refl
-passed_list_with_original (Ok x ∷ l) = ap {B = List (Result _ _)} (λ k. Ok x.now ∷ k) (passed_list_with_original l)
-passed_list_with_original (Err e ∷ l) = ap {B = List (Result _ _)} (λ k. Err e ∷ k) (passed_list_with_original l)
+passed_clones_are_pointed_to [] = refl
+passed_clones_are_pointed_to (Ok x ∷ l) = ap {B = List (Result _ _)} (λ k. Ok x.now ∷ k) (passed_clones_are_pointed_to l)
+passed_clones_are_pointed_to (Err e ∷ l) = ap {B = List (Result _ _)} (λ k. Err e ∷ k) (passed_clones_are_pointed_to l)
 
 module _ {T E : Type 0} (is_clone : T → T → Type 0) (is_infallible : T → Type 0) (from : AllocError → E → Type 0) (equal : (x y : T) → is_clone x y → y ≡ x) (infallible : (x : T) → is_infallible x) where
   all_of_one_clone : (l : List (Result (Bor T) E)) → All (OneClone {E = E} is_clone is_infallible from) (items_listed (with_original l))

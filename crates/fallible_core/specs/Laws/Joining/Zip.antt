@@ -17,8 +17,8 @@ module _ {S U A B E : Type 0} (left : Contract S A E) (right : Contract U B E) w
   no_more_pairs s t u v p q n b = elim b [ inl h ↦ let k = p n h in (k.0, inl k.1, k.2) | inr h ↦ let k = q n h in (k.0, inr k.1, k.2) ]
 
   -- what remains of both sides is no more, where it is no more of either
-  no_more_remains_of_pairs : (s t : S) (u v : U) → NoMoreRemains left s t → NoMoreRemains right u v → NoMoreRemains ZipContract (s, u) (t, v)
-  no_more_remains_of_pairs s t u v p q f = let b = both_finite (left.remaining s).bounded (right.remaining u).bounded f in let j = p b.0 in let k = q b.1 in (sum_finite (left.remaining t).bounded (right.remaining v).bounded j.0 k.0, omega (arith, j.1, k.1))
+  zip_remaining_no_greater : (s t : S) (u v : U) → NoMoreRemains left s t → NoMoreRemains right u v → NoMoreRemains ZipContract (s, u) (t, v)
+  zip_remaining_no_greater s t u v p q f = let b = both_finite (left.remaining s).bounded (right.remaining u).bounded f in let j = p b.0 in let k = q b.1 in (sum_finite (left.remaining t).bounded (right.remaining v).bounded j.0 k.0, omega (arith, j.1, k.1))
 
   -- less remains of both sides at q than at p, and it is finite there, if it is finite at p
   abbrev LessRemains : S × U → S × U → Type 0
@@ -38,8 +38,8 @@ module _ {S U A B E : Type 0} (left : Contract S A E) (right : Contract U B E) w
     (λ n h. elim h [ inl h ↦ let k = a.1 n h in (k.0, inl k.1, k.2) | inr h ↦ let k = b.1 n h in (k.0, inr k.1, k.2) ]),
     less_remains_of_left s t u v a.2 (no_more_remains_after right u v (item y) b),
   )
-  on_answer_pair s t u v (Some x) (Ok None) a b = (no_more_pairs s t u v (no_more_after left s t (item x) a) b.0, no_more_remains_of_pairs s t u v (no_more_remains_after left s t (item x) a) b.1)
-  on_answer_pair s t u v None (Ok y) a b = (no_more_pairs s t u v a.0 (no_more_after right u v (Ok y) b), no_more_remains_of_pairs s t u v a.1 (no_more_remains_after right u v (Ok y) b))
+  on_answer_pair s t u v (Some x) (Ok None) a b = (no_more_pairs s t u v (no_more_after left s t (item x) a) b.0, zip_remaining_no_greater s t u v (no_more_remains_after left s t (item x) a) b.1)
+  on_answer_pair s t u v None (Ok y) a b = (no_more_pairs s t u v a.0 (no_more_after right u v (Ok y) b), zip_remaining_no_greater s t u v a.1 (no_more_remains_after right u v (Ok y) b))
 
   module _ (l : Lawful left) (k : Lawful right) where
     kept_by_draw_place : (s t : S) (u v : U) (x : ZipPlace A B E) → ZipContract.can_next (s, u) → left.steps s (left_answer x) t → right_step right.steps u x v → KeptByDraw ZipContract (s, u) (zip_answer x) (t, v)

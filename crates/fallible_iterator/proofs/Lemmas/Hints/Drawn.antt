@@ -113,16 +113,16 @@ module _ {S T A B E D : Type 0} (steps : S → Answered A E → S → Type 0) (s
     pub item_of_item : ItemOfItem
     pub end_of_end : (s t : S) → P s → steps s end t → source (view s) end (view t)
 
-  yields_at_least : ItemsOfItems → (xs : List A) (s t : S) → P s → Yields steps s xs t → (ys : List B) × Yields source (view s) ys (view t) × (length xs ≤ length ys)
-  yields_at_least f [] s t p e = ([], ap view e, omega arith)
-  yields_at_least f (x ∷ xs) s t p ran =
+  source_yields_at_least : ItemsOfItems → (xs : List A) (s t : S) → P s → Yields steps s xs t → (ys : List B) × Yields source (view s) ys (view t) × (length xs ≤ length ys)
+  source_yields_at_least f [] s t p e = ([], ap view e, omega arith)
+  source_yields_at_least f (x ∷ xs) s t p ran =
       let d = f.items_of_item s ran.0 x p ran.1 in
-      let rest = yields_at_least f xs ran.0 t d.3 ran.2 in
+      let rest = source_yields_at_least f xs ran.0 t d.3 ran.2 in
       (d.0 ++ rest.0, yields_after source d.0 rest.0 (view s) (view ran.0) (view t) d.1 rest.1, omega (arith, length-append d.0 rest.0, d.2, rest.2))
 
   -- the source's upper bound is one of the value
   pub bounds_above_of_source : ItemsOfItems → (s : S) → P s → (o : Option ℕ) → BoundsAbove source (view s) o → BoundsAbove steps s o
-  bounds_above_of_source f s p o b xs t ran = let d = yields_at_least f xs s t p ran in if_some_no_greater o (length xs) (length d.0) d.2 (b d.0 (view t) d.1)
+  bounds_above_of_source f s p o b xs t ran = let d = source_yields_at_least f xs s t p ran in if_some_no_greater o (length xs) (length d.0) d.2 (b d.0 (view t) d.1)
 
   -- so it is alone
   brackets_upper : ItemsOfItems → (s : S) → P s → (k : ℕ × Option ℕ) → Brackets source (view s) k → Brackets steps s (0, k.1)

@@ -42,8 +42,8 @@ module _ {S A E : Type 0} (steps : S → Answered A E → S → Type 0) where
   all_items_taken (x ∷ xs) s t u (Ok y ∷ l) g ran step = let d = all_items_taken xs ran.0 t u l (g (item x) ran.0 ran.1).1 ran.2 step in (d.0, omega (arith, d.1))
   all_items_taken (x ∷ xs) s t u (Err e ∷ l) g ran step = absurd (let d = (g (item x) ran.0 ran.1).0 in cc)
 
-  pub brackets_bounds : (s : S) (l : List (Result A E)) (h : ℕ × Option ℕ) → Lists steps s l → Bounds h l → Brackets steps s h
-  brackets_bounds s l h i b = record {
+  pub brackets_of_list_bounds : (s : S) (l : List (Result A E)) (h : ℕ × Option ℕ) → Lists steps s l → Bounds h l → Brackets steps s h
+  brackets_of_list_bounds s l h i b = record {
     above = λ xs t ran. if_some_no_greater h.1 (length xs) (length (items_listed l)) (length_at_most_items xs s t l i.runs ran) b.above;
     below = λ xs t u ran step. let d = all_items_taken xs s t u l i.runs ran step in let le = b.below d.0 in omega (arith, le, d.1);
   }
@@ -68,10 +68,10 @@ module _ {A E : Type 0} where
   }
 
 pub brackets_listed : {S A E : Type 0} {front back : S → Answered A E → S → Type 0} (s : S) (l : List (Result A E)) (h : ℕ × Option ℕ) → ListsBothEnds front back s l → Bounds h l → Brackets front s h
-brackets_listed {front = front} s l h i b = brackets_bounds front s l h (lists_first i) b
+brackets_listed {front = front} s l h i b = brackets_of_list_bounds front s l h (lists_first i) b
 
 pub brackets_listed_back : {S A E : Type 0} {front back : S → Answered A E → S → Type 0} (s : S) (l : List (Result A E)) (h : ℕ × Option ℕ) → ListsBothEnds front back s l → Bounds h l → Brackets back s h
-brackets_listed_back {back = back} s l h i b = brackets_bounds back s (reverse l) h (lists_from_back i) (bounds_reversed h l b)
+brackets_listed_back {back = back} s l h i b = brackets_of_list_bounds back s (reverse l) h (lists_from_back i) (bounds_reversed h l b)
 
 -- a hint that is made as said
 pub bounds_made_of : {A E : Type 0} {h k : ℕ × Option ℕ} (l : List (Result A E)) → h ≡ k → Bounds k l → Bounds h l

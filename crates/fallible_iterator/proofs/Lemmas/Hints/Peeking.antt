@@ -45,9 +45,9 @@ module _ {S A E : Type 0} (steps : S → Answered A E → S → Type 0) where
   if_some_zero o None is = tt
   if_some_zero o (Some z) is = omega arith
 
-  end_not_held : (s : S) (y : A) (q z : S × Option (Option A)) (xs : List A) → length xs ≡ 0 → Yields peeked_step (s, Some (Some y)) xs q → peeked_step q end z → ⊥
-  end_not_held s y q z [] e ran w = let d : peeked_step (s, Some (Some y)) end z = subst (λ (p : S × Option (Option A)). peeked_step p end z) (sym ran) w in let is = d.0 in cc
-  end_not_held s y q z (x ∷ xs) e ran w = omega (arith, e)
+  no_end_before_held_item : (s : S) (y : A) (q z : S × Option (Option A)) (xs : List A) → length xs ≡ 0 → Yields peeked_step (s, Some (Some y)) xs q → peeked_step q end z → ⊥
+  no_end_before_held_item s y q z [] e ran w = let d : peeked_step (s, Some (Some y)) end z = subst (λ (p : S × Option (Option A)). peeked_step p end z) (sym ran) w in let is = d.0 in cc
+  no_end_before_held_item s y q z (x ∷ xs) e ran w = omega (arith, e)
 
   brackets_item_held : (s : S) (y : A) (k h : ℕ × Option ℕ) → HintWithItem k h → Brackets steps s k → Brackets peeked_step (s, Some (Some y)) h
   brackets_item_held s y k h is b = record {
@@ -56,7 +56,7 @@ module _ {S A E : Type 0} (steps : S → Answered A E → S → Type 0) where
       | inr d ↦ subst (λ (n : ℕ). IfSome h.1 (λ m. n ≤ m)) (sym d.2) (if_some_one_more k.1 h.1 (length d.0) is.1 (b.above d.0 q.0 d.1))
     ];
     below = λ xs q z ran w. elim (held_item_is_first xs s y q ran) [
-      | inl none ↦ absurd (end_not_held s y q z xs none ran w)
+      | inl none ↦ absurd (no_end_before_held_item s y q z xs none ran w)
       | inr d ↦ let le = b.below d.0 q.0 z.0 d.1 (peeked_item_of_source q z end d.3 w).0 in omega (arith, is.0, le, d.2)
     ];
   }

@@ -82,10 +82,10 @@ module _ {S A E : Type 0} (gives : S → Option (Result A E) → S → Type 0) (
   pub runs_read_items : ItemsRead gives s l → RunsRead gives Ok s l
   runs_read_items reads p trigger from = let q = reads p trigger from in (q.0, q.1, λ k d lt. element_at_place (p.at k) k d _ (p.reads k (Ok d) lt) (q.2 k))
 
-  if_some_read : (o : Option (Result A E)) (k n : ℕ) → ((z : Result A E) → o ≡ Some z → k < n) → ((d : A) → k < n → o ≡ Some (Ok (slice_index_or l k d))) → IfSome o (λ y. HoldsAt (λ x. y ≡ Ok x) l k)
-  if_some_read None k n lt at = tt
-  if_some_read (Some y) k n lt at = λ d. let e = at d (lt y refl) in cc
+  item_at_place_if_read : (o : Option (Result A E)) (k n : ℕ) → ((z : Result A E) → o ≡ Some z → k < n) → ((d : A) → k < n → o ≡ Some (Ok (slice_index_or l k d))) → IfSome o (λ y. HoldsAt (λ x. y ≡ Ok x) l k)
+  item_at_place_if_read None k n lt at = tt
+  item_at_place_if_read (Some y) k n lt at = λ d. let e = at d (lt y refl) in cc
 
   -- and the other way round
   pub items_read_of_convert : RunsRead gives Ok s l → ItemsRead gives s l
-  items_read_of_convert reads p trigger from = let q = reads p trigger from in (q.0, q.1, λ k. if_some_read (p.at k) k p.len (λ z e. let long = p.long in let lt = index_below_length p.items k z (sym (at-is p k) ∙ e) in omega (arith, long, lt)) (λ d lt. q.2 k d lt))
+  items_read_of_convert reads p trigger from = let q = reads p trigger from in (q.0, q.1, λ k. item_at_place_if_read (p.at k) k p.len (λ z e. let long = p.long in let lt = index_below_length p.items k z (sym (at-is p k) ∙ e) in omega (arith, long, lt)) (λ d lt. q.2 k d lt))

@@ -6,8 +6,8 @@ use Rattle.fallible_iterator.proofs.taking.next_accepted.Goals as goal
 pub returns-in-Err : goal.returns-in-Err
 returns-in-Err g c = takes_if_failed g.I.FallibleIterator.contract.steps (call_by_reference g.P.FnMut) _ _ _ _ c.in-Err.ensures.filled
 
-pub accepts_held-requires : goal.accepts_held-requires
-accepts_held-requires g c x held = c.requires.callable x _ (held_item_comes g.I.FallibleIterator.contract.steps _ _ x c.in-Ok.ensures.filled held)
+pub none_held_or_accepts-requires : goal.none_held_or_accepts-requires
+none_held_or_accepts-requires g c x held = c.requires.callable x _ (held_item_comes g.I.FallibleIterator.contract.steps _ _ x c.in-Ok.ensures.filled held)
 
 pub returns-in-Ok-true : goal.returns-in-Ok-true
 returns-in-Ok-true g c = takes_if_accepted g.I.FallibleIterator.contract.steps (call_by_reference g.P.FnMut) _ _ _ _ _ _ c.in-Ok.ensures.filled (rw c.in-Ok-true.field-0-test at c.in-Ok-true.ensures) c.next.ensures
@@ -16,4 +16,4 @@ pub returns-in-Ok-false : goal.returns-in-Ok-false
 returns-in-Ok-false g c = takes_if_refused g.I.FallibleIterator.contract.steps (call_by_reference g.P.FnMut) _ _ _ _ c.in-Ok.ensures.filled (rw c.in-Ok-false.field-0-test at c.in-Ok-false.ensures)
 
 pub returns-in-Ok-next : goal.returns-in-Ok-next
-returns-in-Ok-next g c = takes_if_lost g.I.FallibleIterator.contract.steps (call_by_reference g.P.FnMut) _ _ _ _ _ _ _ c.in-Ok.ensures.filled c.in-Err-accepts_held.ensures c.next-in-Err-accepts_held.ensures
+returns-in-Ok-next g c = takes_if_lost g.I.FallibleIterator.contract.steps (call_by_reference g.P.FnMut) _ _ _ _ _ _ _ c.in-Ok.ensures.filled c.in-Err-none_held_or_accepts.ensures c.next-in-Err-none_held_or_accepts.ensures

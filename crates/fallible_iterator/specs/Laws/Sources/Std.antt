@@ -24,25 +24,25 @@ element_by_reads_item z = refl
 -- ---- draws that are each one call, whatever is required of them and whatever may come
 
 module _ {S A E Z : Type 0} (of_item : A → Z) (of_failure : E → Z) (can : S → Type 0) (gives : S → Option Z → S → Type 0) (remaining : S → Count) (Askable : S → Type 0) (Arrives : S → Answered A E → Type 0) where
-  abbrev step_here : S → Answered A E → S → Type 0
-  step_here = std_step of_item of_failure can gives remaining
+  abbrev step_of_std : S → Answered A E → S → Type 0
+  step_of_std = std_step of_item of_failure can gives remaining
 
   abbrev ContractOver : Contract S A E
   ContractOver = record (std_contract of_item of_failure can gives remaining) { can_next = Askable; may_give = λ s x. Arrives s (item x); may_fail = λ s e. Arrives s (failure e) }
 
   -- After a draw the std iterator may be drawn again, and at an end the bound doesn't rise; what is drawn was to come, and what may come after a draw was to come before it.
   record FollowsDraw : Type 0 where
-    again : (s t : S) (r : Answered A E) → Askable s → step_here s r t → Askable t
-    never_rises : (s t : S) → Askable s → step_here s (Ok None) t → IsFinite (remaining s) → size (remaining t) ≤ size (remaining s)
-    here : (s t : S) (r : Answered A E) → step_here s r t → Arrives s r
-    later : (s t : S) (r q : Answered A E) → step_here s r t → Arrives t q → Arrives s q
+    again : (s t : S) (r : Answered A E) → Askable s → step_of_std s r t → Askable t
+    never_rises : (s t : S) → Askable s → step_of_std s (Ok None) t → IsFinite (remaining s) → size (remaining t) ≤ size (remaining s)
+    here : (s t : S) (r : Answered A E) → step_of_std s r t → Arrives s r
+    later : (s t : S) (r q : Answered A E) → step_of_std s r t → Arrives t q → Arrives s q
 
-  is_finite_after : (s t : S) (r : Answered A E) → step_here s r t → IsFinite (remaining s) → IsFinite (remaining t)
+  is_finite_after : (s t : S) (r : Answered A E) → step_of_std s r t → IsFinite (remaining s) → IsFinite (remaining t)
   is_finite_after s t (Ok (Some x)) w f = (w.1.on f).1
   is_finite_after s t (Ok None) w f = w.1.rests f
   is_finite_after s t (Err e) w f = (w.1.on f).1
 
-  on_answer_of_std : FollowsDraw → (s t : S) (r : Answered A E) → Askable s → step_here s r t → OnAnswer ContractOver s r t
+  on_answer_of_std : FollowsDraw → (s t : S) (r : Answered A E) → Askable s → step_of_std s r t → OnAnswer ContractOver s r t
   on_answer_of_std l s t (Ok (Some x)) c w = (l.here s t (item x) w, (λ n b. let p = w.1.on b.0 in (size (remaining t), (p.1, omega arith), omega (arith, p.2, b.1))), (λ f. let p = w.1.on f in (p.1, p.2)))
   on_answer_of_std l s t (Err e) c w = (l.here s t (failure e) w, (λ n b. let p = w.1.on b.0 in (size (remaining t), (p.1, omega arith), omega (arith, p.2, b.1))), (λ f. let p = w.1.on f in (p.1, p.2)))
   on_answer_of_std l s t (Ok None) c w = ((λ n b. let le = l.never_rises s t c w b.0 in (size (remaining t), (w.1.rests b.0, omega arith), omega (arith, le, b.1))), (λ f. (w.1.rests f, l.never_rises s t c w f)))
@@ -98,8 +98,8 @@ module _ {S A E Z : Type 0} (of_item : A → Z) (of_failure : E → Z) (can can_
     never_rises_back = λ drawn u v ran. c.never_rises_back ((side, r) ∷ drawn) u v (t, w, ran);
   }
 
-  arrives_at_ends_here : (side : Side) (s t : S) (r : Answered A E) → step_at front_step back_step side s r t → ArrivesAtEnds s r
-  arrives_at_ends_here side s t r w = record { before = []; from = s; side = side; after = t; ran = refl; drawn = w }
+  arrives_at_ends_at_once : (side : Side) (s t : S) (r : Answered A E) → step_at front_step back_step side s r t → ArrivesAtEnds s r
+  arrives_at_ends_at_once side s t r w = record { before = []; from = s; side = side; after = t; ran = refl; drawn = w }
 
   arrives_at_ends_later : (side : Side) (s t : S) (r q : Answered A E) → step_at front_step back_step side s r t → ArrivesAtEnds t q → ArrivesAtEnds s q
   arrives_at_ends_later side s t r q w c = record { before = (side, r) ∷ c.before; from = c.from; side = c.side; after = c.after; ran = (t, w, c.ran); drawn = c.drawn }
@@ -119,10 +119,10 @@ module _ {S A E Z : Type 0} (of_item : A → Z) (of_failure : E → Z) (can can_
   arrives_at_ends_of_comes s r c = record { before = map (λ q. (Front, q)) c.before; from = c.from; side = Front; after = c.after; ran = run_at_ends_of_front c.before s c.from c.ran; drawn = c.drawn }
 
   follows_front : FollowsDraw of_item of_failure can gives remaining AskableAtBothEnds ArrivesAtEnds
-  follows_front = record { again = at_ends_after Front; never_rises = λ s t c w. c.never_rises [] s t refl w; here = arrives_at_ends_here Front; later = arrives_at_ends_later Front }
+  follows_front = record { again = at_ends_after Front; never_rises = λ s t c w. c.never_rises [] s t refl w; here = arrives_at_ends_at_once Front; later = arrives_at_ends_later Front }
 
   follows_back : FollowsDraw of_item of_failure can_back gives_back remaining AskableAtBothEnds ArrivesAtEnds
-  follows_back = record { again = at_ends_after Back; never_rises = λ s t c w. c.never_rises_back [] s t refl w; here = arrives_at_ends_here Back; later = arrives_at_ends_later Back }
+  follows_back = record { again = at_ends_after Back; never_rises = λ s t c w. c.never_rises_back [] s t refl w; here = arrives_at_ends_at_once Back; later = arrives_at_ends_later Back }
 
   pub lawful_ends_std : LawfulEnds (std_contract {A = A} {E = E} of_item of_failure can gives remaining) (std_ends of_item of_failure can can_back gives gives_back remaining)
   lawful_ends_std = record {

@@ -1,4 +1,4 @@
--- The first five bytes state the length, and the rest came behind them.
+-- The first five bytes state the length, and the rest came after them.
 use Rattle.std.proofs.Common.{rules, subst, sym, Err}
 use Rattle.fallible_pg.proofs.ReadingLemmas.{HasHead, head_read, head_broken, wrong_length, body_broken, message_read}
 use Rattle.fallible_pg.specs.Reading.{ReadsMessage}

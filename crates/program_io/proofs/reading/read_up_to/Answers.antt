@@ -1,4 +1,4 @@
--- What each read takes comes behind what came before.
+-- What each read takes comes after what came before.
 use Rattle.std.proofs.Common.{rules, ◌-◌, length, [], ◌++◌, refl, sym, ◌∙◌, ap, append_assoc, append-nil, arith}
 use Rattle.std.proofs.lemmas.List.{length-append}
 use Rattle.program_io.specs.Bytes.{GivesByte}

@@ -1,4 +1,4 @@
--- These bytes came behind those that were there.
+-- These bytes came after those that were there.
 use Rattle.std.proofs.Common.{◌≡◌, ◌≤◌, ℕ, List, ◌++◌, length}
 use Rattle.program_io.specs.Bytes.{GivesBytes}
 use Rattle.program_io.proofs.reading.read_up_to.Given as goal

@@ -1,6 +1,6 @@
 -- The loop of rounds by the order is the comparison, which finds an order.
 use Rattle.fallible_contract.proofs.Lemmas.Comparing.{end_of_either, order_never_none, compared_with_answer}
-use Rattle.fallible_contract.proofs.Lemmas.Lists.Compared.{compared_of_lists_with}
+use Rattle.fallible_contract.proofs.Lemmas.Lists.Compared.{compared_of_lists_converted}
 use Rattle.fallible_core.proofs.traits.FallibleIterator.cmp.Goals as goal
 
 pub compare-answer-requires-clause-right : goal.compare-answer-requires-clause-right
@@ -16,4 +16,4 @@ pub returns-clause-compared : goal.returns-clause-compared
 returns-clause-compared g c = compared_with_answer _ _ c.into_fallible_iter.ensures c.compare-answer.ensures c.ordered.ensures
 
 pub returns-clause-value : goal.returns-clause-value
-returns-clause-value g c a b i j = compared_of_lists_with a b (returns-clause-compared g c) i j
+returns-clause-value g c a b i j = compared_of_lists_converted a b (returns-clause-compared g c) i j

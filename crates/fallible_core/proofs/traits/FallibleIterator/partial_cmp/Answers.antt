@@ -1,6 +1,6 @@
 -- The loop of rounds is the comparison.
 use Rattle.fallible_contract.proofs.Lemmas.Comparing.{end_of_either}
-use Rattle.fallible_contract.proofs.Lemmas.Lists.Compared.{compared_of_lists_with}
+use Rattle.fallible_contract.proofs.Lemmas.Lists.Compared.{compared_of_lists_converted}
 use Rattle.fallible_core.proofs.traits.FallibleIterator.partial_cmp.Goals as goal
 
 pub compare-requires-clause-right : goal.compare-requires-clause-right
@@ -13,4 +13,4 @@ pub returns-clause-compared : goal.returns-clause-compared
 returns-clause-compared g c = record { right = _; made = c.into_fallible_iter.ensures; compared = c.compare.ensures }
 
 pub returns-clause-value : goal.returns-clause-value
-returns-clause-value g c a b i j = compared_of_lists_with a b (returns-clause-compared g c) i j
+returns-clause-value g c a b i j = compared_of_lists_converted a b (returns-clause-compared g c) i j

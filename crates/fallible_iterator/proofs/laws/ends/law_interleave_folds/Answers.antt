@@ -1,5 +1,5 @@
 -- Each answer of a run is one of a draw from that end.
-use Rattle.fallible_contract.proofs.Lemmas.BothEnds.Mixed.{run_at_ends_mixed, run_at_ends_then, run_at_ends_of_fold}
+use Rattle.fallible_contract.proofs.Lemmas.BothEnds.Mixed.{run_at_ends_mixed, run_at_ends_append, run_at_ends_of_fold}
 use Rattle.fallible_contract.specs.declared.answers.Side.TheVariants.{Front, Back}
 use Rattle.fallible_iterator.proofs.laws.ends.law_interleave_folds.Goals as goal
 
@@ -13,4 +13,4 @@ pub returns-clause-fold_back : goal.returns-clause-fold_back
 returns-clause-fold_back g c = λ s t b f r h. run_at_ends_of_fold _ _ Back h
 
 pub returns-clause-then_others : goal.returns-clause-then_others
-returns-clause-then_others g c = λ s t u drawn others first rest. run_at_ends_then _ _ drawn others s t u first rest
+returns-clause-then_others g c = λ s t u drawn others first rest. run_at_ends_append _ _ drawn others s t u first rest

@@ -13,4 +13,4 @@ pub returns-in-Ok-false : goal.returns-in-Ok-false
 returns-in-Ok-false g c = ahead_refuses g.I.FallibleIterator.contract (call_by_reference g.F.FnMut) _ _ _ _ c.in-Ok.ensures.filled (rw c.in-Ok-false.field-0-test at c.in-Ok-false.ensures)
 
 pub returns-in-Ok-next : goal.returns-in-Ok-next
-returns-in-Ok-next g c = ahead_loses g.I.FallibleIterator.contract (call_by_reference g.F.FnMut) _ _ _ _ _ _ _ c.in-Ok.ensures.filled c.in-Err-accepts_held.ensures c.next-in-Err-accepts_held.ensures
+returns-in-Ok-next g c = ahead_loses g.I.FallibleIterator.contract (call_by_reference g.F.FnMut) _ _ _ _ _ _ _ c.in-Ok.ensures.filled c.in-Err-none_held_or_accepts.ensures c.next-in-Err-none_held_or_accepts.ensures

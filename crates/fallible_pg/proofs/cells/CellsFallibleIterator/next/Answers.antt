@@ -1,12 +1,12 @@
 use Rattle.std.proofs.Common.{rules, refl, arith, ◌-◌, []}
-use Rattle.fallible_pg.proofs.CellLemmas.{takes_cell_end, takes_cell_behind, takes_cell, takes_cell_damaged}
+use Rattle.fallible_pg.proofs.CellLemmas.{takes_cell_end, takes_bytes_after_cells, takes_cell, takes_cell_damaged}
 use Rattle.fallible_pg.proofs.cells.CellsFallibleIterator.next.Goals as goal
 
 pub returns-then-is_empty : goal.returns-then-is_empty
 returns-then-is_empty c = (takes_cell_end c.args.self.now.left c.args.self.now.bytes.now c.if-self-eq0.true (search rules), search rules)
 
 pub returns-then-self-eq0 : goal.returns-then-self-eq0
-returns-then-self-eq0 c = (takes_cell_behind c.args.self.now.left c.args.self.now.bytes.now [] c.if-self-eq0.true (search rules) refl, search rules)
+returns-then-self-eq0 c = (takes_bytes_after_cells c.args.self.now.left c.args.self.now.bytes.now [] c.if-self-eq0.true (search rules) refl, search rules)
 
 pub returns-in-Some : goal.returns-in-Some
 returns-in-Some c =

@@ -1,6 +1,6 @@
 -- One draw after an item that is held.
 use Rattle.fallible_itertools.proofs.Lemmas.WithPosition.{step_before_end, step_before_failure, step_before_item}
-use Rattle.fallible_itertools.proofs.with_position.behind.Goals as goal
+use Rattle.fallible_itertools.proofs.with_position.position_after.Goals as goal
 
 pub returns-in-Ok-Some : goal.returns-in-Ok-Some
 returns-in-Ok-Some g c = step_before_item g.I.FallibleIterator.contract.steps c.args.before c.in-Ok-Some.x (rw c.in-Ok-Some.field-0-is at c.in-Ok-Some.ensures) c.before_item.ensures c.requires.none_due
