@@ -15,6 +15,7 @@ pub mod Loops
 pub mod LoopsAtEnds
 pub mod Making
 pub mod Nests
+pub mod Seen
 pub mod Sources
 pub mod Taking
 pub mod WithoutFailure

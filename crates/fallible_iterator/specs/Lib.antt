@@ -3,6 +3,7 @@ pub mod Agreement
 pub mod Answering
 pub mod Cycled
 pub mod Gathering
+pub mod Interleaved
 pub mod Laws
 pub mod Listing
 pub mod Lists

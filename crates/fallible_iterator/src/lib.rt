@@ -3,6 +3,7 @@
 //! A crate above names this one alone. The trait and its adapters are those of `fallible_core`, and what is said of them is `fallible_contract`; both are reexported, as are their specifications. The sources are this crate's own.
 #![tactic(auto)]
 
+pub mod batch;
 pub mod conversion;
 pub mod extending;
 pub mod laws;

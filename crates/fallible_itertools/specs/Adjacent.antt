@@ -25,9 +25,3 @@ IsGroup eq h (k, x ∷ xs) = (h x ≡ Ok k) × All (HasKey eq h k) xs
 -- Of two items h lets one go first than which the other is not less.
 abbrev pub LetsLessFirst : {A E : Type 0} → (A → A → Bool) → (A → A → Result Bool E) → Type 0
 LetsLessFirst {A = A} lt h = ((x y : A) → h x y ≡ Ok true → lt y x ≡ false) × ((x y : A) → h x y ≡ Ok false → lt x y ≡ false)
-
--- c has the answers of a and those of b, each in their order.
-pub data Interleaved {X : Type 0} : List X → List X → List X → Type 0 where
-  of_neither : Interleaved [] [] []
-  of_first : {a b c : List X} (x : X) → Interleaved a b c → Interleaved (x ∷ a) b (x ∷ c)
-  of_second : {a b c : List X} (y : X) → Interleaved a b c → Interleaved a (y ∷ b) (y ∷ c)

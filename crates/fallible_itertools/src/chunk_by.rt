@@ -5,9 +5,8 @@ ghost use Rattle.fallible_iterator.specs.Laws.Contract.{lawful_seen};
 ghost use Rattle.fallible_itertools.specs.ChunkBy.{chunk_by_asks, chunk_by_contract, chunk_by_parts, group_at_stop, group_by, group_held, key_takes};
 ghost use Rattle.fallible_itertools.specs.Laws.ChunkBy.{holds_chunk_by, lawful_chunk_by};
 
-use crate::batch::{alone, pushed};
 use crate::holding::{Hold, drive_holding, with_held};
-use fallible_iterator::extending::{FirstTurn, Outcome};
+use fallible_iterator::extending::{FirstTurn, Outcome, alone, pushed};
 use fallible_iterator::{FallibleIterator, Turn};
 use std::alloc::{AllocError, Global};
 

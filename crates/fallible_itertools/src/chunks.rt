@@ -7,9 +7,8 @@ ghost use Rattle.fallible_itertools.specs.Chunks.{Grows, LetsGo, batch_held, beg
 ghost use Rattle.fallible_itertools.specs.Holding.{held_one, holding_step};
 ghost use Rattle.fallible_itertools.specs.Laws.Chunks.{holds_chunks, lawful_chunks};
 
-use crate::batch::{alone, pushed};
 use crate::holding::{Hold, at_stop, drive_holding, with_held};
-use fallible_iterator::extending::Outcome;
+use fallible_iterator::extending::{Outcome, alone, pushed};
 use fallible_iterator::{FallibleIterator, Turn};
 use std::alloc::{AllocError, Global};
 

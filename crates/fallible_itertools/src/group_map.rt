@@ -1,7 +1,7 @@
 //! Each key beside its values.
 ghost use Rattle.fallible_itertools.specs.GroupMap.{GroupRefuses, IsGrouping};
 
-use crate::batch::pushed;
+use fallible_iterator::extending::pushed;
 use fallible_iterator::Collect;
 use std::alloc::{AllocError, Global};
 use std::collections::HashMap;

@@ -4,7 +4,6 @@
 #![tactic(auto)]
 
 mod all_unique;
-pub mod batch;
 pub mod checked_sum;
 pub mod chunk_by;
 pub mod chunks;

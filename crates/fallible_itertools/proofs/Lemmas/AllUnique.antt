@@ -13,27 +13,17 @@ use Rattle.fallible_iterator.specs.Lists.{Lists, rest_nth, stopped_or}
 use Rattle.fallible_iterator.proofs.Lemmas.Folds.{drained_map}
 use Rattle.fallible_iterator.proofs.Lemmas.Lists.Drawn.{RestAt, drawn_of_lists}
 use Rattle.fallible_iterator.proofs.Lemmas.Lists.Rest.{lists_rest_nth}
+use Rattle.fallible_iterator.proofs.Lemmas.Seen.{HasSeen, has_seen_more}
 use Rattle.fallible_itertools.specs.AllUnique.{AllUniqueAs, AllUniqueDrains, UniqueAs, UniqueExit, UniqueStop, are_unique, false_or, is_unique_turn, rest_repeated, rest_repeated_after, seen_turn, unique_after, unique_or_fault_of}
 use Rattle.std.specs.declared.alloc.AllocError.{AllocError}
 use Rattle.std.specs.declared.ops.ControlFlow.TheVariants.{Break, Continue}
 
-cond_or : (a b : Bool) → cond a true b ≡ (a || b)
-cond_or true b = refl
-cond_or false b = refl
-
 module _ {A S : Type 0} (eq : A → A → Bool) where
-  -- the set has an item that equals k where one of those seen does
-  abbrev HasSeen : HashSet A S → List A → Type 0
-  HasSeen set seen = (k : A) → contains eq set k ≡ is_member eq seen k
-
   module _ (equivalence : IsEquivalence eq) where
-    pub has_seen_more : (p q : HashSet A S) (seen : List A) (x : A) → HasSeen p seen → Updates eq p q x true → HasSeen q (x ∷ seen)
-    has_seen_more p q seen x has updates k = updates.0 k ∙ ap (λ (b : Bool). cond b true (contains eq p k)) (equivalence.symm x k) ∙ ap (λ (b : Bool). cond (eq k x) true b) (has k) ∙ cond_or (eq k x) (is_member eq seen k)
-
     -- a turn that goes on met an item that wasn't seen
-    unseen_where_turn_goes_on : (p q : HashSet A S) (seen : List A) (x : A) (b : Bool) (u : Unit {0}) → HasSeen p seen → contains eq p x ≡ b → seen_turn eq p x b (Continue u) q → (is_member eq seen x ≡ false) × HasSeen q (x ∷ seen)
+    unseen_where_turn_goes_on : (p q : HashSet A S) (seen : List A) (x : A) (b : Bool) (u : Unit {0}) → HasSeen eq p seen → contains eq p x ≡ b → seen_turn eq p x b (Continue u) q → (is_member eq seen x ≡ false) × HasSeen eq q (x ∷ seen)
     unseen_where_turn_goes_on p q seen x true u has is w = absurd cc
-    unseen_where_turn_goes_on p q seen x false u has is w = (sym (has x) ∙ is, has_seen_more p q seen x has w)
+    unseen_where_turn_goes_on p q seen x false u has is w = (sym (has x) ∙ is, has_seen_more eq equivalence p q seen x has w)
 
     module _ {E : Type 0} where
       stopped_by : (p q : HashSet A S) (x : A) (b : Bool) (stop : Option AllocError) (r : Result Bool (Fault E)) → seen_turn eq p x b (Break stop) q → r ≡ unique_or_fault_of (Ok (Some stop)) → UniqueStop b r
@@ -42,7 +32,7 @@ module _ {A S : Type 0} (eq : A → A → Bool) where
       stopped_by p q x false None r w is = absurd w
       stopped_by p q x false (Some a) r w is = (a, is)
 
-      exit_by_turns : (items : List A) (last : Answered A E) (seen : List A) (p c d : HashSet A S) (answer : Answered (Option AllocError) E) (r : Result Bool (Fault E)) → HasSeen p seen → FoldsTo (goes_on (is_unique_turn eq)) p items c → DriveExit (is_unique_turn eq) c last answer d → r ≡ unique_or_fault_of answer → UniqueExit eq seen items last r
+      exit_by_turns : (items : List A) (last : Answered A E) (seen : List A) (p c d : HashSet A S) (answer : Answered (Option AllocError) E) (r : Result Bool (Fault E)) → HasSeen eq p seen → FoldsTo (goes_on (is_unique_turn eq)) p items c → DriveExit (is_unique_turn eq) c last answer d → r ≡ unique_or_fault_of answer → UniqueExit eq seen items last r
       exit_by_turns [] (Ok None) seen p c d answer r has went exit is = is ∙ ap unique_or_fault_of exit.0
       exit_by_turns [] (Err e) seen p c d answer r has went exit is = is ∙ ap unique_or_fault_of exit.0
       exit_by_turns [] (Ok (Some x)) seen p c d answer r has went exit is = subst (λ (b : Bool). UniqueStop b r) (has x) (stopped_by p d x (contains eq p x) exit.0 r (subst (λ (k : HashSet A S). is_unique_turn eq k x (Break exit.0) d) (sym went) exit.1) (is ∙ ap unique_or_fault_of exit.2))

@@ -14,7 +14,7 @@ use Rattle.fallible_iterator.proofs.Lemmas.Hints.Drawn.{if_some_no_greater}
 use Rattle.fallible_iterator.proofs.Lemmas.Hints.Joining.{if_some_fitting_sum_above}
 use Rattle.fallible_iterator.proofs.Lemmas.LawForm.{traces_are_of_parts}
 use Rattle.fallible_iterator.proofs.Lemmas.Lists.ForGood.{lists_once, lists_for_good_seen}
-use Rattle.fallible_itertools.specs.Adjacent.{Interleaved, of_neither, of_first, of_second}
+use Rattle.fallible_iterator.specs.Interleaved.{Interleaved, of_neither, of_first, of_second}
 use Rattle.fallible_itertools.specs.Interleave.{InterleaveTrace, Turn, TurnsTrace, by_itself, by_other, interleave_contract, interleave_parts, interleave_step, interleaved, turn_answer, turn_draws, turns_drawn, waits_after}
 use Rattle.fallible_itertools.specs.Sides.{fused_steps}
 use Rattle.fallible_itertools.specs.declared.interleave.Interleave.{Interleave}

@@ -6,7 +6,7 @@ use Rattle.fallible_iterator.specs.BothEnds.{items_listed, failures_listed}
 use Rattle.fallible_iterator.specs.Collecting.{Collects}
 use Rattle.fallible_iterator.specs.Lists.{AlwaysGives, Lists, CollectedAs, collected}
 use Rattle.fallible_iterator.proofs.Lemmas.Lists.Drawn.{collected_of_lists}
-use Rattle.fallible_itertools.specs.Adjacent.{Interleaved, of_neither, of_first, of_second}
+use Rattle.fallible_iterator.specs.Interleaved.{Interleaved, of_neither, of_first, of_second}
 use Rattle.fallible_itertools.specs.PartitionMap.{lefts, rights, MadeOfEithers}
 use Rattle.fallible_itertools.specs.Parted.{parted_step, eithers, without_source, PartitionedFailuresAs}
 use Rattle.fallible_itertools.specs.declared.partition_map.Either.{Either}

@@ -1,5 +1,5 @@
 -- What `Unique` lists, up to an allocation failure.
-use Rattle.std.specs.Prelude.{◌≡◌, Bool, true, false, cond, ◌||◌, Result, Some, None, Ok, Err, List, [], ◌∷◌, ◌⊎◌}
+use Rattle.std.specs.Prelude.{◌≡◌, Bool, true, false, cond, Result, Some, None, Ok, Err, List, [], ◌∷◌, ◌⊎◌}
 use Rattle.std.specs.Cmp.{IsEquivalence}
 use Rattle.std.specs.HashSet.{HashSet, IsEmpty, Updates, contains}
 use Rattle.std.specs.Set.{ClonesAreEqual, is_member}
@@ -13,6 +13,7 @@ use Rattle.fallible_iterator.specs.Passing.{passing_step}
 use Rattle.fallible_iterator.specs.Laws.Passing.{Passes, done, end_passes, failure_passes, keeps, refuses, closes, leaves_out, passes_of_pass_trace, pass_trace_of_passes}
 use Rattle.fallible_iterator.proofs.Lemmas.Lists.Passing.{end_of_nil, failure_of_first}
 use Rattle.fallible_iterator.proofs.Lemmas.Making.{lists_made_seen}
+use Rattle.fallible_iterator.proofs.Lemmas.Seen.{HasSeen, cond_or}
 use Rattle.fallible_itertools.specs.Holding.{as_answered_item}
 use Rattle.fallible_itertools.specs.Unique.{first_of_equal, unique_asks, unique_by, unique_contract, unique_from, unique_of, unique_parts, unique_seen}
 use Rattle.std.specs.declared.alloc.AllocError.{AllocError}
@@ -25,16 +26,8 @@ abbrev Same : {A : Type 0} → A → A → Type 0
 Same x y = y ≡ x
 
 module _ {A E : Type 0} (S : Type 0) (eq : A → A → Bool) (equivalence : IsEquivalence eq) (is_clone : A → A → Type 0) (clones : ClonesAreEqual eq is_clone) (is_infallible : A → Type 0) (from : AllocError → E → Type 0) where
-  -- the set has an item that equals k where one of those seen does
-  abbrev HasSeen : HashSet A S → List A → Type 0
-  HasSeen set seen = (k : A) → contains eq set k ≡ is_member eq seen k
-
   clone_equal : (x copy k : A) → is_clone x copy → eq copy k ≡ eq k x
   clone_equal x copy k c = sym (equivalence.congr x copy k (clones x copy c)) ∙ equivalence.symm x k
-
-  cond_or : (a b : Bool) → cond a true b ≡ (a || b)
-  cond_or true b = refl
-  cond_or false b = refl
 
   abbrev Asks : HashSet A S → A → Outcome A E → HashSet A S → Type 0
   Asks = unique_asks eq is_clone is_infallible from
@@ -64,12 +57,12 @@ module _ {A E : Type 0} (S : Type 0) (eq : A → A → Bool) (equivalence : IsEq
 
     -- after an item of the list, what is seen and what comes then
     abbrev After : List (Result A E) → List A → Type 0
-    After l seen = (t : I) (q : HashSet A S) → AlwaysGives steps t l → HasSeen q seen → Gives (t, q) (unique_from eq seen l)
+    After l seen = (t : I) (q : HashSet A S) → AlwaysGives steps t l → HasSeen eq q seen → Gives (t, q) (unique_from eq seen l)
 
-    has_seen_more : (p q : HashSet A S) (seen : List A) (x copy : A) → HasSeen p seen → is_clone x copy → Updates eq p q copy true → HasSeen q (x ∷ seen)
+    has_seen_more : (p q : HashSet A S) (seen : List A) (x copy : A) → HasSeen eq p seen → is_clone x copy → Updates eq p q copy true → HasSeen eq q (x ∷ seen)
     has_seen_more p q seen x copy has c updates k = updates.0 k ∙ ap (λ (b : Bool). cond b true (contains eq p k)) (clone_equal x copy k c) ∙ ap (λ (b : Bool). cond (eq k x) true b) (has k) ∙ cond_or (eq k x) (is_member eq seen k)
 
-    told_kept : (l : List (Result A E)) (seen : List A) (p : HashSet A S) (x y : A) (b : Bool) (t : I) (q : HashSet A S) → HasSeen p seen → AlwaysGives steps t l → After l (x ∷ seen) → unique_by eq is_clone is_infallible from p x b (Kept y) q → Told (first_of_equal x b (unique_from eq seen l) (unique_from eq (x ∷ seen) l)) (Ok (Some y)) (t, q)
+    told_kept : (l : List (Result A E)) (seen : List A) (p : HashSet A S) (x y : A) (b : Bool) (t : I) (q : HashSet A S) → HasSeen eq p seen → AlwaysGives steps t l → After l (x ∷ seen) → unique_by eq is_clone is_infallible from p x b (Kept y) q → Told (first_of_equal x b (unique_from eq seen l) (unique_from eq (x ∷ seen) l)) (Ok (Some y)) (t, q)
     told_kept l seen p x y true t q has a later w = absurd (let is = w.0 in cc)
     told_kept l seen p x y false t q has a later w = inr (w.0, later t q a (has_seen_more p q seen x w.1.0 has w.1.1 w.1.2))
 
@@ -81,15 +74,15 @@ module _ {A E : Type 0} (S : Type 0) (eq : A → A → Bool) (equivalence : IsEq
     never_ends p x true q w = let is = w.0 in cc
     never_ends p x false q w = w
 
-    told_left_out : (l : List (Result A E)) (seen : List A) (p : HashSet A S) (x : A) (b : Bool) (u : I) (h : HashSet A S) (r : Answered A E) (t : I × HashSet A S) → HasSeen p seen → AlwaysGives steps u l → After l seen → unique_by eq is_clone is_infallible from p x b LeftOut h → StepsOfUnique (u, h) r t → Told (first_of_equal x b (unique_from eq seen l) (unique_from eq (x ∷ seen) l)) r t
-    told_left_out l seen p x true u h r t has a later w rest = told_where_gives (unique_from eq seen l) (u, h) r t (later u h a (subst (λ (s : HashSet A S). HasSeen s seen) (sym w.1) has)) rest
+    told_left_out : (l : List (Result A E)) (seen : List A) (p : HashSet A S) (x : A) (b : Bool) (u : I) (h : HashSet A S) (r : Answered A E) (t : I × HashSet A S) → HasSeen eq p seen → AlwaysGives steps u l → After l seen → unique_by eq is_clone is_infallible from p x b LeftOut h → StepsOfUnique (u, h) r t → Told (first_of_equal x b (unique_from eq seen l) (unique_from eq (x ∷ seen) l)) r t
+    told_left_out l seen p x true u h r t has a later w rest = told_where_gives (unique_from eq seen l) (u, h) r t (later u h a (subst (λ (s : HashSet A S). HasSeen eq s seen) (sym w.1) has)) rest
     told_left_out l seen p x false u h r t has a later w rest = absurd w
 
     -- a call on the list's item, by whether it was seen
-    by_member : (seen : List A) (p : HashSet A S) (x z : A) (o c : Outcome A E) (q : HashSet A S) → HasSeen p seen → z ≡ x → o ≡ c → Asks p z o q → unique_by eq is_clone is_infallible from p x (is_member eq seen x) c q
+    by_member : (seen : List A) (p : HashSet A S) (x z : A) (o c : Outcome A E) (q : HashSet A S) → HasSeen eq p seen → z ≡ x → o ≡ c → Asks p z o q → unique_by eq is_clone is_infallible from p x (is_member eq seen x) c q
     by_member seen p x z o c q has same is w = subst (λ (b : Bool). unique_by eq is_clone is_infallible from p x b c q) (has x) (subst (λ (d : Outcome A E). Asks p x d q) is (subst (λ (k : A). Asks p k o q) same w))
 
-    told_of_item : (x : A) (l : List (Result A E)) (seen : List A) (s : I) (p : HashSet A S) (r : Answered A E) (t : I) (q : HashSet A S) → AlwaysGives steps s (Ok x ∷ l) → HasSeen p seen → After l seen → After l (x ∷ seen) → OneDrawn s p r t q → Told (first_of_equal x (is_member eq seen x) (unique_from eq seen l) (unique_from eq (x ∷ seen) l)) r (t, q)
+    told_of_item : (x : A) (l : List (Result A E)) (seen : List A) (s : I) (p : HashSet A S) (r : Answered A E) (t : I) (q : HashSet A S) → AlwaysGives steps s (Ok x ∷ l) → HasSeen eq p seen → After l seen → After l (x ∷ seen) → OneDrawn s p r t q → Told (first_of_equal x (is_member eq seen x) (unique_from eq seen l) (unique_from eq (x ∷ seen) l)) r (t, q)
     told_of_item x l seen s p _ t q a has later more (end_passes step c) = absurd (let w = (a (Ok None) _ step).0 in cc)
     told_of_item x l seen s p _ t q a has later more (failure_passes e step c) = absurd (let w = (a (Err e) _ step).0 in cc)
     told_of_item x l seen s p _ t q a has later more (keeps z o y step called is done) = let w = a (Ok (Some z)) t step in told_kept l seen p x y (is_member eq seen x) t q has w.1 more (by_member seen p x z o (Kept y) q has (let k = w.0 in cc) is called)
@@ -100,7 +93,7 @@ module _ {A E : Type 0} (S : Type 0) (eq : A → A → Bool) (equivalence : IsEq
     gives_unique : (l : List (Result A E)) (seen : List A) → After l seen
     unfolding unique_from
     gives_unique [] seen = λ s p a has r t w. end_of_nil a (passes_of_pass_trace w)
-    gives_unique (Err d ∷ l) seen = λ s p a has r t w. let k = failure_of_first d l a (passes_of_pass_trace w) in inr (k.0, gives_unique l seen t.0 t.1 k.2 (subst (λ (q : HashSet A S). HasSeen q seen) (sym k.1) has))
+    gives_unique (Err d ∷ l) seen = λ s p a has r t w. let k = failure_of_first d l a (passes_of_pass_trace w) in inr (k.0, gives_unique l seen t.0 t.1 k.2 (subst (λ (q : HashSet A S). HasSeen eq q seen) (sym k.1) has))
     gives_unique (Ok x ∷ l) seen = λ s p a has. gives_where_told (first_of_equal x (is_member eq seen x) (unique_from eq seen l) (unique_from eq (x ∷ seen) l)) (s, p) (λ r t w. told_of_item x l seen s p r t.0 t.1 a has (gives_unique l seen) (gives_unique l (x ∷ seen)) (passes_of_pass_trace w))
 
 unique_from_none : {A E : Type 0} (eq : A → A → Bool) (l : List (Result A E)) → unique_from eq [] l ≡ unique_of eq l

@@ -16,10 +16,10 @@ use Rattle.fallible_iterator.specs.Passing.{passing_step}
 use Rattle.fallible_iterator.specs.Laws.Passing.{Passes, done, end_passes, failure_passes, keeps, refuses, closes, leaves_out, passes_of_pass_trace, pass_trace_of_passes}
 use Rattle.fallible_iterator.proofs.Lemmas.Lists.Passing.{end_of_nil, failure_of_first}
 use Rattle.fallible_iterator.proofs.Lemmas.Making.{lists_made_seen}
+use Rattle.fallible_iterator.proofs.Lemmas.Seen.{has_seen_more}
 use Rattle.fallible_itertools.specs.Holding.{as_answered_item}
 use Rattle.fallible_itertools.specs.Unique.{first_of_equal}
 use Rattle.fallible_itertools.specs.UniqueBy.{first_of_key, key_asks, key_at, keyed_by, unique_by_contract, unique_by_keys, unique_by_parts, unique_by_key, unique_key_from}
-use Rattle.fallible_itertools.proofs.Lemmas.AllUnique.{has_seen_more}
 use Rattle.std.specs.declared.alloc.AllocError.{AllocError}
 use Rattle.fallible_iterator.specs.Outcome.{Outcome}
 use Rattle.fallible_iterator.specs.Outcome.TheVariants.{Kept, LeftOut, Failure, End}

@@ -2,7 +2,7 @@
 ghost use Rattle.std.specs.Prelude.{◌≡◌, ◌++◌, ◌∷◌, Err, List, None, Ok, Result, Some, map};
 ghost use Rattle.fallible_iterator.specs.BothEnds.{items_listed, failures_listed};
 ghost use Rattle.fallible_iterator.specs.Lists.{items};
-ghost use Rattle.fallible_itertools.specs.Adjacent.{Interleaved};
+ghost use Rattle.fallible_iterator.specs.Interleaved.{Interleaved};
 ghost use Rattle.fallible_itertools.specs.UntilFailure.{before_failure, first_failure, rest_failure};
 
 /// Where a list has no failure, `before_failure` has all of it. Where it has one, the list is the items before it, the failure, and what comes after it.

@@ -3,7 +3,7 @@ ghost use Rattle.std.specs.Prelude.{◌≡◌, ◌++◌, [], ◌∷◌, List, Re
 ghost use Rattle.std.specs.List.{flat_map};
 ghost use Rattle.fallible_iterator.specs.LawForm.{TracesAre};
 ghost use Rattle.fallible_iterator.specs.SoundHints.{HintsAsSoundAsBoth};
-ghost use Rattle.fallible_itertools.specs.Adjacent.{Interleaved};
+ghost use Rattle.fallible_iterator.specs.Interleaved.{Interleaved};
 ghost use Rattle.fallible_itertools.specs.Interleave.{InterleaveTrace, interleave_left_fused, interleave_parts, interleave_right_fused, interleaved};
 
 use crate::interleave::Interleave;

@@ -6,7 +6,8 @@ ghost use Rattle.fallible_iterator.specs.BothEnds.{items_listed};
 ghost use Rattle.fallible_iterator.specs.LawForm.{TracesAre};
 ghost use Rattle.fallible_iterator.specs.SoundHints.{HintsAsSoundAsBoth};
 ghost use Rattle.fallible_iterator.specs.Lists.{items};
-ghost use Rattle.fallible_itertools.specs.Adjacent.{AdjacentItems, Interleaved, LetsLessFirst};
+ghost use Rattle.fallible_iterator.specs.Interleaved.{Interleaved};
+ghost use Rattle.fallible_itertools.specs.Adjacent.{AdjacentItems, LetsLessFirst};
 ghost use Rattle.fallible_itertools.specs.MergeBy.{MergeByTrace, merged, merge_by_left_fused, merge_by_parts, merge_by_right_fused};
 
 use crate::merge_by::MergeBy;
