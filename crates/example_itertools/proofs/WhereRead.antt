@@ -22,8 +22,8 @@ use Rattle.fallible_itertools.specs.OrElse.{or_else_outcome, or_else_parts, reco
 use Rattle.fallible_itertools.specs.StopAfter.{stop_after_parts, stop_after_step, stopped_after}
 use Rattle.fallible_itertools.proofs.Lemmas.OrElse.{lists_recovered}
 use Rattle.fallible_itertools.proofs.Lemmas.StopAfter.{lists_stopped}
-use Rattle.fallible_itertools.specs.declared.or_else.OrElse.{OrElse}
-use Rattle.fallible_itertools.specs.declared.stop_after.StopAfter.{StopAfter}
+use Rattle.fallible_itertools.specs.AdapterTypes.or_else.OrElse.{OrElse}
+use Rattle.fallible_itertools.specs.AdapterTypes.stop_after.StopAfter.{StopAfter}
 use Rattle.fallible_rows.specs.declared.fault.RowFault.{RowFault}
 use Rattle.fallible_rows.specs.declared.fault.RowFault.TheVariants.{Read}
 

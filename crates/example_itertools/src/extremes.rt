@@ -12,7 +12,7 @@ ghost use Rattle.fallible_itertools.specs.MinMaxBy.{minmaxed_by, minmaxed_by_key
 ghost use Rattle.fallible_itertools.specs.PartitionMap.{MadeOfEithers};
 ghost use Rattle.fallible_itertools.specs.PositionBest.{position_greatest, position_least};
 ghost use Rattle.fallible_itertools.specs.Sorted.{IsSortedByKeyOf, IsSortedByTest, IsSortedOf};
-ghost use Rattle.fallible_itertools.specs.declared.partition_map.Either.TheVariants.{Left, Right};
+ghost use Rattle.fallible_itertools.specs.ConsumerTypes.partition_map.Either.TheVariants.{Left, Right};
 
 use fallible_iterator::laws::law_back_convert;
 use fallible_iterator::{FallibleIterator, Fault, convert};

@@ -3,99 +3,17 @@
 //! Import the trait [`FallibleItertools`] to have them, and [`DoubleEndedFallibleItertools`] for those from the back.
 #![tactic(auto)]
 
-mod all_unique;
-pub mod checked_sum;
-pub mod chunk_by;
-pub mod chunks;
-pub mod cmp_by;
-pub mod coalesce;
-mod converting;
-pub mod copied;
-pub mod counts;
-pub mod dedup;
-pub mod dedup_by;
-pub mod dedup_by_key;
-pub mod dedup_by_with_count;
-pub mod dedup_with_count;
-pub mod double_ended;
-mod equal;
-pub mod err_into;
-pub mod exactly_one;
-mod find_or_last;
-mod find_position;
-pub mod fold_while;
-pub mod group_map;
-pub mod holding;
-pub mod inspect_err;
-pub mod interleave;
-pub mod intersperse;
-pub mod intersperse_with;
-mod is_sorted;
-mod is_sorted_by;
-pub mod join;
-mod keyed;
 pub mod laws;
-pub mod merge;
-pub mod merge_by;
-pub mod merge_join_by;
-pub mod minmax;
-mod minmax_by;
-pub mod or_else;
-pub mod pad_using;
-mod parted;
-pub mod partition_map;
-pub mod peeking_take_while;
-mod position_best;
-pub mod positions;
-mod sides;
-mod sorted;
-pub mod staging;
-pub mod stop_after;
-pub mod take_while_inclusive;
 pub mod traits;
-pub mod tuple_windows;
-pub mod tuples;
-pub mod unique;
-pub mod unique_by;
-mod until_failure;
-pub mod with_position;
-pub mod zip_eq;
-pub mod zip_longest;
 
-pub use checked_sum::CheckedTotal;
-pub use chunk_by::ChunkBy;
-pub use chunks::Chunks;
-pub use coalesce::Coalesce;
-pub use copied::Copied;
-pub use dedup::Dedup;
-pub use dedup_by::DedupBy;
-pub use dedup_by_key::DedupByKey;
-pub use dedup_by_with_count::DedupByWithCount;
-pub use dedup_with_count::DedupWithCount;
-pub use double_ended::DoubleEndedFallibleItertools;
-pub use err_into::ErrInto;
-pub use exactly_one::NotOne;
-pub use fold_while::FoldWhile;
-pub use inspect_err::InspectErr;
-pub use interleave::Interleave;
-pub use intersperse::Intersperse;
-pub use intersperse_with::IntersperseWith;
-pub use merge::Merge;
-pub use merge_by::MergeBy;
-pub use merge_join_by::MergeJoinBy;
-pub use minmax::MinMaxResult;
-pub use or_else::OrElse;
-pub use pad_using::PadUsing;
-pub use partition_map::Either;
-pub use peeking_take_while::{PeekingNext, PeekingTakeWhile};
-pub use positions::Positions;
-pub use stop_after::StopAfter;
-pub use take_while_inclusive::TakeWhileInclusive;
+pub use fallible_itertools_adapters::{
+    ChunkBy, Chunks, Coalesce, Copied, Dedup, DedupBy, DedupByKey, DedupByWithCount,
+    DedupWithCount, EitherOrBoth, ErrInto, InspectErr, Interleave, Intersperse, IntersperseWith,
+    Merge, MergeBy, MergeJoinBy, OrElse, PadUsing, PeekingNext, PeekingTakeWhile, Position,
+    Positions, StopAfter, TakeWhileInclusive, TupleWindows, Tuples, Unique, UniqueBy, WithPosition,
+    ZipEq, ZipLongest,
+};
+pub use fallible_itertools_consumers::{
+    CheckedTotal, DoubleEndedFallibleItertools, Either, FoldWhile, MinMaxResult, NotOne,
+};
 pub use traits::FallibleItertools;
-pub use tuple_windows::TupleWindows;
-pub use tuples::Tuples;
-pub use unique::Unique;
-pub use unique_by::UniqueBy;
-pub use with_position::{Position, WithPosition};
-pub use zip_eq::ZipEq;
-pub use zip_longest::{EitherOrBoth, ZipLongest};

@@ -22,128 +22,107 @@ ghost use Rattle.fallible_iterator.specs.OneToOne.Enumerate.{IsNumberable, enume
 ghost use Rattle.fallible_iterator.specs.OneToOne.Map.{map_contract};
 ghost use Rattle.fallible_iterator.specs.Picking.{call_at_two, takes_at_two};
 ghost use Rattle.fallible_iterator.specs.Searching as search;
-ghost use Rattle.fallible_itertools.specs.AllUnique.{AllUniqueAs, AllUniqueDrains, rest_repeated};
-ghost use Rattle.fallible_itertools.specs.ChunkBy.{MadeGroup, chunk_by_contract, chunk_by_parts, chunked_by};
-ghost use Rattle.fallible_itertools.specs.Chunks.{chunked, chunks_contract, chunks_parts};
-ghost use Rattle.fallible_itertools.specs.Coalesce as coalesce;
-ghost use Rattle.fallible_itertools.specs.CmpBy as comparing;
-ghost use Rattle.fallible_itertools.specs.Converting as trying;
-ghost use Rattle.fallible_itertools.specs.Copied.{copied_contract, copied_parts};
-ghost use Rattle.fallible_itertools.specs.Counts.{IsCountsOf};
-ghost use Rattle.fallible_itertools.specs.Dedup.{dedup_contract, dedup_parts, deduped};
-ghost use Rattle.fallible_itertools.specs.DedupBy.{dedup_by_asks, dedup_by_contract, dedup_by_parts, dedup_by_takes, deduped_by};
-ghost use Rattle.fallible_itertools.specs.DedupByKey as dedup_by_key;
-ghost use Rattle.fallible_itertools.specs.DedupByWithCount.{dedup_by_with_count_asks, dedup_by_with_count_contract, dedup_by_with_count_parts, dedup_by_with_count_takes};
-ghost use Rattle.fallible_itertools.specs.DedupWithCount.{dedup_with_count_contract, dedup_with_count_parts};
-ghost use Rattle.fallible_itertools.specs.Equal.{FirstCall, TestCall, contained, equal_to_first, equal_value, rest_contained, rest_unequal, unequal_pick, value_or_both};
-ghost use Rattle.fallible_itertools.specs.ErrInto.{err_into_contract, err_into_parts};
-ghost use Rattle.fallible_itertools.specs.ExactlyOne.{AtMostOneDrains, at_most_one_of, wanting_one};
-ghost use Rattle.fallible_itertools.specs.Holding.{MayBeAsked};
-ghost use Rattle.fallible_itertools.specs.GroupMap.{GroupRefuses, IsGroupMapOf};
-ghost use Rattle.fallible_itertools.specs.InspectErr.{inspect_err_contract, inspect_err_parts, seen_call};
-ghost use Rattle.fallible_itertools.specs.OrElse.{or_else_contract, or_else_parts, recovered};
-ghost use Rattle.fallible_itertools.specs.Interleave as interleave;
-ghost use Rattle.fallible_itertools.specs.Intersperse.{intersperse_contract, intersperse_parts, interspersed};
-ghost use Rattle.fallible_itertools.specs.IntersperseWith as intersperse_with;
-ghost use Rattle.fallible_itertools.specs.Parting.{interspersed_by};
+ghost use Rattle.fallible_itertools_consumers.specs.AllUnique.{AllUniqueAs, AllUniqueDrains, rest_repeated};
+ghost use Rattle.fallible_itertools_adapters.specs.ChunkBy.{MadeGroup, chunk_by_contract, chunk_by_parts, chunked_by};
+ghost use Rattle.fallible_itertools_adapters.specs.Chunks.{chunked, chunks_contract, chunks_parts};
+ghost use Rattle.fallible_itertools_adapters.specs.Coalesce as coalesce;
+ghost use Rattle.fallible_itertools_consumers.specs.CmpBy as comparing;
+ghost use Rattle.fallible_itertools_consumers.specs.Converting as trying;
+ghost use Rattle.fallible_itertools_adapters.specs.Copied.{copied_contract, copied_parts};
+ghost use Rattle.fallible_itertools_consumers.specs.Counts.{IsCountsOf};
+ghost use Rattle.fallible_itertools_adapters.specs.Dedup.{dedup_contract, dedup_parts, deduped};
+ghost use Rattle.fallible_itertools_adapters.specs.DedupBy.{dedup_by_asks, dedup_by_contract, dedup_by_parts, dedup_by_takes, deduped_by};
+ghost use Rattle.fallible_itertools_adapters.specs.DedupByKey as dedup_by_key;
+ghost use Rattle.fallible_itertools_adapters.specs.DedupByWithCount.{dedup_by_with_count_asks, dedup_by_with_count_contract, dedup_by_with_count_parts, dedup_by_with_count_takes};
+ghost use Rattle.fallible_itertools_adapters.specs.DedupWithCount.{dedup_with_count_contract, dedup_with_count_parts};
+ghost use Rattle.fallible_itertools_consumers.specs.Equal.{FirstCall, TestCall, contained, equal_to_first, equal_value, rest_contained, rest_unequal, unequal_pick, value_or_both};
+ghost use Rattle.fallible_itertools_adapters.specs.ErrInto.{err_into_contract, err_into_parts};
+ghost use Rattle.fallible_itertools_consumers.specs.ExactlyOne.{AtMostOneDrains, at_most_one_of, wanting_one};
+ghost use Rattle.fallible_itertools_adapters.specs.Holding.{MayBeAsked};
+ghost use Rattle.fallible_itertools_consumers.specs.GroupMap.{GroupRefuses, IsGroupMapOf};
+ghost use Rattle.fallible_itertools_adapters.specs.InspectErr.{inspect_err_contract, inspect_err_parts, seen_call};
+ghost use Rattle.fallible_itertools_adapters.specs.OrElse.{or_else_contract, or_else_parts, recovered};
+ghost use Rattle.fallible_itertools_adapters.specs.Interleave as interleave;
+ghost use Rattle.fallible_itertools_adapters.specs.Intersperse.{intersperse_contract, intersperse_parts, interspersed};
+ghost use Rattle.fallible_itertools_adapters.specs.IntersperseWith as intersperse_with;
+ghost use Rattle.fallible_itertools_adapters.specs.Parting.{interspersed_by};
 ghost use Rattle.fallible_iterator.specs.Sources.FromFn.{call_of_none};
-ghost use Rattle.fallible_itertools.specs.Join.{JoinedAs};
-ghost use Rattle.fallible_itertools.specs.Merge.{merge_contract, merge_left, merge_left_ended, merge_left_held, merge_parts, merge_right, merge_right_ended, merge_right_held, merged_in_order};
-ghost use Rattle.fallible_itertools.specs.MergeBy as merge_by;
-ghost use Rattle.fallible_itertools.specs.MergeJoinBy as join_by;
-ghost use Rattle.fallible_itertools.specs.MinMax.{MinMaxDrains, minmaxed, or_less};
-ghost use Rattle.fallible_itertools.specs.MinMaxBy.{MinMaxCall, MinMaxKeyCall, MinMaxKeyDrains, minmaxed_by, minmaxed_by_key, takes_beside};
-ghost use Rattle.fallible_itertools.specs.PadUsing as pad_using;
-ghost use Rattle.fallible_itertools.specs.PositionBest.{PlaceDrains, position_greatest, position_least};
-ghost use Rattle.fallible_itertools.specs.Positions.{positions_contract, positions_parts, positions_source, positions_where};
-ghost use Rattle.fallible_itertools.specs.RunCounts.{deduped_by_with_count, deduped_with_count};
-ghost use Rattle.fallible_itertools.specs.Parted.{PartitionedFailuresAs, parted_step, without_source};
-ghost use Rattle.fallible_itertools.specs.PartitionMap.{EitherRefused, MadeOfEithers};
-ghost use Rattle.fallible_itertools.specs.FindOrLast.{FoundOrFirst, FoundOrLast, found_or_first, found_or_last};
-ghost use Rattle.fallible_itertools.specs.FindPosition.{find_position_pick, position_found};
-ghost use Rattle.fallible_itertools.specs.IsSorted.{ItselfCall, OrderCall, in_order, in_order_by_key};
-ghost use Rattle.fallible_itertools.specs.IsSortedBy.{PairCall, in_order_by, takes_pair};
-ghost use Rattle.fallible_itertools.specs.Keyed.{keyed, keyed_contract};
-ghost use Rattle.fallible_itertools.specs.FoldWhile.{WhileCall, FoldWhileDrains, folded_while, rest_while};
-ghost use Rattle.fallible_itertools.specs.Sorted.{CollectsSorted, HasItems, IsSortedByCalls, IsSortedByComparisons, IsSortedByKeyOf, IsSortedByTest, IsSortedOf};
-ghost use Rattle.fallible_itertools.specs.StopAfter.{stop_after_contract, stop_after_items, stop_after_parts, stopped_after};
-ghost use Rattle.fallible_itertools.specs.TakeWhileInclusive as inclusive;
-ghost use Rattle.fallible_itertools.specs.CheckedSum.{TotalDrains, totalled};
-ghost use Rattle.fallible_itertools.specs.TupleWindows.{tuple_windows_contract, tuple_windows_parts, windowed};
-ghost use Rattle.fallible_itertools.specs.Tuples.{tupled, tuples_contract, tuples_parts};
-ghost use Rattle.fallible_itertools.specs.Unique.{unique_contract, unique_of, unique_parts, unique_seen, unique_source};
-ghost use Rattle.fallible_itertools.specs.UniqueBy as unique_by;
-ghost use Rattle.fallible_itertools.specs.UntilFailure.{CollectedUntilAs, CollectsUntil, rest_failure};
-ghost use Rattle.fallible_itertools.specs.WithPosition.{positioned, with_position_contract, with_position_parts};
-ghost use Rattle.fallible_itertools.specs.ZipEq as zip_eq;
-ghost use Rattle.fallible_itertools.specs.ZipLongest as zip_longest;
-ghost use Rattle.fallible_itertools.specs.declared.exactly_one.NotOne.TheVariants.{More};
-ghost use Rattle.fallible_itertools.specs.declared.fold_while.FoldWhile.TheVariants.{Done};
-ghost use Rattle.fallible_itertools.specs.declared.minmax.MinMaxResult.TheVariants.{NoElements};
+ghost use Rattle.fallible_itertools_consumers.specs.Join.{JoinedAs};
+ghost use Rattle.fallible_itertools_adapters.specs.Merge.{merge_contract, merge_left, merge_left_ended, merge_left_held, merge_parts, merge_right, merge_right_ended, merge_right_held, merged_in_order};
+ghost use Rattle.fallible_itertools_adapters.specs.MergeBy as merge_by;
+ghost use Rattle.fallible_itertools_adapters.specs.MergeJoinBy as join_by;
+ghost use Rattle.fallible_itertools_consumers.specs.MinMax.{MinMaxDrains, minmaxed, or_less};
+ghost use Rattle.fallible_itertools_consumers.specs.MinMaxBy.{MinMaxCall, MinMaxKeyCall, MinMaxKeyDrains, minmaxed_by, minmaxed_by_key, takes_beside};
+ghost use Rattle.fallible_itertools_adapters.specs.PadUsing as pad_using;
+ghost use Rattle.fallible_itertools_consumers.specs.PositionBest.{PlaceDrains, position_greatest, position_least};
+ghost use Rattle.fallible_itertools_adapters.specs.Positions.{positions_contract, positions_parts, positions_source, positions_where};
+ghost use Rattle.fallible_itertools_adapters.specs.RunCounts.{deduped_by_with_count, deduped_with_count};
+ghost use Rattle.fallible_itertools_consumers.specs.Parted.{PartitionedFailuresAs, parted_step, without_source};
+ghost use Rattle.fallible_itertools_consumers.specs.PartitionMap.{EitherRefused, MadeOfEithers};
+ghost use Rattle.fallible_itertools_consumers.specs.FindOrLast.{FoundOrFirst, FoundOrLast, found_or_first, found_or_last};
+ghost use Rattle.fallible_itertools_consumers.specs.FindPosition.{find_position_pick, position_found};
+ghost use Rattle.fallible_itertools_consumers.specs.IsSorted.{ItselfCall, OrderCall, in_order, in_order_by_key};
+ghost use Rattle.fallible_itertools_consumers.specs.IsSortedBy.{PairCall, in_order_by, takes_pair};
+ghost use Rattle.fallible_itertools_consumers.specs.Keyed.{keyed, keyed_contract};
+ghost use Rattle.fallible_itertools_consumers.specs.FoldWhile.{WhileCall, FoldWhileDrains, folded_while, rest_while};
+ghost use Rattle.fallible_itertools_consumers.specs.Sorted.{CollectsSorted, HasItems, IsSortedByCalls, IsSortedByComparisons, IsSortedByKeyOf, IsSortedByTest, IsSortedOf};
+ghost use Rattle.fallible_itertools_adapters.specs.StopAfter.{stop_after_contract, stop_after_items, stop_after_parts, stopped_after};
+ghost use Rattle.fallible_itertools_adapters.specs.TakeWhileInclusive as inclusive;
+ghost use Rattle.fallible_itertools_consumers.specs.CheckedSum.{TotalDrains, totalled};
+ghost use Rattle.fallible_itertools_adapters.specs.TupleWindows.{tuple_windows_contract, tuple_windows_parts, windowed};
+ghost use Rattle.fallible_itertools_adapters.specs.Tuples.{tupled, tuples_contract, tuples_parts};
+ghost use Rattle.fallible_itertools_adapters.specs.Unique.{unique_contract, unique_of, unique_parts, unique_seen, unique_source};
+ghost use Rattle.fallible_itertools_adapters.specs.UniqueBy as unique_by;
+ghost use Rattle.fallible_itertools_consumers.specs.UntilFailure.{CollectedUntilAs, CollectsUntil, rest_failure};
+ghost use Rattle.fallible_itertools_adapters.specs.WithPosition.{positioned, with_position_contract, with_position_parts};
+ghost use Rattle.fallible_itertools_adapters.specs.ZipEq as zip_eq;
+ghost use Rattle.fallible_itertools_adapters.specs.ZipLongest as zip_longest;
+ghost use Rattle.fallible_itertools_consumers.specs.declared.exactly_one.NotOne.TheVariants.{More};
+ghost use Rattle.fallible_itertools_consumers.specs.declared.fold_while.FoldWhile.TheVariants.{Done};
+ghost use Rattle.fallible_itertools_consumers.specs.declared.minmax.MinMaxResult.TheVariants.{NoElements};
 
-use crate::all_unique::{AllUniqueTurn, unique_or_fault};
-use crate::checked_sum::{CheckedTotal, ProductTurn, SumTurn, total_or_none};
-use crate::chunk_by::ChunkBy;
-use crate::chunks::Chunks;
-use crate::cmp_by::{CmpTurn, EqTurn, compare_by};
-use crate::coalesce::Coalesce;
-use crate::converting::converted;
-use crate::copied::Copied;
-use crate::counts::Tally;
-use crate::dedup::Dedup;
-use crate::dedup_by::DedupBy;
-use crate::dedup_by_key::DedupByKey;
-use crate::dedup_by_with_count::DedupByWithCount;
-use crate::dedup_with_count::DedupWithCount;
-use crate::equal::{AllEqualTurn, ContainsTurn, UnequalTurn, first_or_both};
-use crate::err_into::ErrInto;
-use crate::exactly_one::NotOne;
-use crate::find_or_last::{FindFirstTurn, FindLastTurn, or_kept};
-use crate::find_position::FindPositionTurn;
-use crate::fold_while::{FoldWhile, FoldWhileTurn, while_or_stop};
-use crate::group_map::GroupMap;
-use crate::inspect_err::InspectErr;
-use crate::interleave::Interleave;
-use crate::intersperse::Intersperse;
-use crate::intersperse_with::IntersperseWith;
-use crate::is_sorted::{InOrderTurn, SortedTurn};
-use crate::is_sorted_by::SortedByTurn;
-use crate::join::JoinTurn;
-use crate::keyed::Keyed;
-use crate::merge::Merge;
-use crate::merge_by::MergeBy;
-use crate::merge_join_by::MergeJoinBy;
-use crate::minmax::{MinMaxResult, MinMaxTurn, lesser_first};
-use crate::minmax_by::{MinMaxByTurn, MinMaxKeyTurn, items_alone, kept_or_failure};
-use crate::or_else::OrElse;
-use crate::pad_using::PadUsing;
-use crate::parted::{Parted, without_fault};
-use crate::partition_map::Either;
-use crate::position_best::{first_is_less, place_alone};
-use crate::positions::Positions;
-use crate::sides::Holding;
-use crate::sorted::{sorted_items, sorted_items_by, sorted_items_by_key};
-use crate::stop_after::StopAfter;
-use crate::take_while_inclusive::TakeWhileInclusive;
-use crate::tuple_windows::TupleWindows;
-use crate::tuples::Tuples;
-use crate::unique::Unique;
-use crate::unique_by::UniqueBy;
-use crate::until_failure::{PushTurn, with_failure};
-use crate::with_position::WithPosition;
-use crate::zip_eq::ZipEq;
-use crate::zip_longest::ZipLongest;
 use fallible_iterator::extending::{
     FindTest, FindTurn, ForEachTurn, PositionTurn, ReadEq, Reading, answer_or, answer_or_none,
     found, ordered,
 };
 use fallible_iterator::{Collect, FallibleIterator, Fault, IntoFallibleIterator};
+use fallible_itertools_adapters::{
+    ChunkBy, Chunks, Coalesce, Copied, Dedup, DedupBy, DedupByKey, DedupByWithCount,
+    DedupWithCount, ErrInto, InspectErr, Interleave, Intersperse, IntersperseWith, Merge, MergeBy,
+    MergeJoinBy, OrElse, PadUsing, Positions, StopAfter, TakeWhileInclusive, TupleWindows, Tuples,
+    Unique, UniqueBy, WithPosition, ZipEq, ZipLongest,
+};
+use fallible_itertools_consumers::all_unique::{AllUniqueTurn, unique_or_fault};
+use fallible_itertools_consumers::checked_sum::{
+    CheckedTotal, ProductTurn, SumTurn, total_or_none,
+};
+use fallible_itertools_consumers::cmp_by::{CmpTurn, EqTurn, compare_by};
+use fallible_itertools_consumers::converting::converted;
+use fallible_itertools_consumers::counts::Tally;
+use fallible_itertools_consumers::equal::{AllEqualTurn, ContainsTurn, UnequalTurn, first_or_both};
+use fallible_itertools_consumers::exactly_one::NotOne;
+use fallible_itertools_consumers::find_or_last::{FindFirstTurn, FindLastTurn, or_kept};
+use fallible_itertools_consumers::find_position::FindPositionTurn;
+use fallible_itertools_consumers::fold_while::{FoldWhile, FoldWhileTurn, while_or_stop};
+use fallible_itertools_consumers::group_map::GroupMap;
+use fallible_itertools_consumers::is_sorted::{InOrderTurn, SortedTurn};
+use fallible_itertools_consumers::is_sorted_by::SortedByTurn;
+use fallible_itertools_consumers::join::JoinTurn;
+use fallible_itertools_consumers::keyed::Keyed;
+use fallible_itertools_consumers::minmax::{MinMaxResult, MinMaxTurn, lesser_first};
+use fallible_itertools_consumers::minmax_by::{
+    MinMaxByTurn, MinMaxKeyTurn, items_alone, kept_or_failure,
+};
+use fallible_itertools_consumers::parted::{Parted, without_fault};
+use fallible_itertools_consumers::partition_map::Either;
+use fallible_itertools_consumers::position_best::{first_is_less, place_alone};
+use fallible_itertools_consumers::sorted::{sorted_items, sorted_items_by, sorted_items_by_key};
+use fallible_itertools_consumers::until_failure::{PushTurn, with_failure};
 use std::alloc::{AllocError, Global};
 use std::cmp::Ordering;
 use std::collections::{HashMap, HashSet};
 use std::fmt::Display;
 use std::hash::Hash;
-use std::marker::PhantomData;
 
 /// More calls on every fallible iterator.
 pub trait FallibleItertools: FallibleIterator {
@@ -186,10 +165,7 @@ pub trait FallibleItertools: FallibleIterator {
             (coalesce.coalesce_contract Self.contract F.FnMut)).steps result
             (coalesce.coalesced h l) }
     {
-        Coalesce {
-            it: self,
-            stage: ((None, f), None),
-        }
+        Coalesce::new(self, f)
     }
 
     /// Yields the first of adjacent items with equal keys. The closure returns the key, and is called once on each item.
@@ -223,10 +199,7 @@ pub trait FallibleItertools: FallibleIterator {
             (dedup_by_key.dedup_by_key_contract K.eq Self.contract F.FnMut)).steps result
             (dedup_by_key.deduped_by_key K.eq h l) }
     {
-        DedupByKey {
-            it: self,
-            stage: ((None, f), None),
-        }
+        DedupByKey::new(self, f)
     }
 
     /// Yields the first of adjacent items that the closure finds the same. The closure is called on references to the buffered item and the next one.
@@ -257,10 +230,7 @@ pub trait FallibleItertools: FallibleIterator {
             → list.Lists (seen_as dedup_by_parts (dedup_by_contract Self.contract F.FnMut)).steps
             result (deduped_by h l) }
     {
-        DedupBy {
-            it: self,
-            stage: ((None, same), None),
-        }
+        DedupBy::new(self, same)
     }
 
     /// Yields the first of adjacent equal items.
@@ -285,10 +255,7 @@ pub trait FallibleItertools: FallibleIterator {
             → list.Lists (seen_as dedup_parts (dedup_contract Self.Item.eq Self.contract)).steps
             result (deduped Self.Item.eq l) }
     {
-        Dedup {
-            it: self,
-            stage: (None, None),
-        }
+        Dedup::new(self)
     }
 
     /// Yields the first of adjacent equal items, each as `(count, item)`: beside how many they are. A count stays at `usize::MAX`.
@@ -317,10 +284,7 @@ pub trait FallibleItertools: FallibleIterator {
             (dedup_with_count_contract Self.Item.eq Self.contract)).steps result
             (deduped_with_count Self.Item.eq l) }
     {
-        DedupWithCount {
-            it: self,
-            stage: (None, None),
-        }
+        DedupWithCount::new(self)
     }
 
     /// Yields the first of adjacent items that the closure finds the same, each as `(count, item)`: beside how many they are. The closure is called on references to the buffered item and the next one. A count stays at `usize::MAX`.
@@ -353,13 +317,10 @@ pub trait FallibleItertools: FallibleIterator {
             (dedup_by_with_count_contract Self.contract F.FnMut)).steps result
             (deduped_by_with_count h l) }
     {
-        DedupByWithCount {
-            it: self,
-            stage: ((None, same), None),
-        }
+        DedupByWithCount::new(self, same)
     }
 
-    /// Yields each item with its [`Position`](crate::Position): `First`, `Middle`, `Last` or `Only`.
+    /// Yields each item with its [`Position`](Position): `First`, `Middle`, `Last` or `Only`.
     ///
     /// Creating it draws nothing. An item is buffered until another item comes, or a stop: `Ok(None)` or a failure. `next` draws once if an item is buffered, and otherwise twice, or up to a stop. The buffered item is yielded first, and is the `Last` one before a stop. The stop is what the next call returns, without a draw. After a stop nothing is buffered, and the next item is `First` or `Only`.
     ///
@@ -383,10 +344,7 @@ pub trait FallibleItertools: FallibleIterator {
             → list.Lists (seen_as with_position_parts (with_position_contract Self.contract)).steps
             result (positioned l) }
     {
-        WithPosition {
-            it: self,
-            stage: (None, None),
-        }
+        WithPosition::new(self)
     }
 
     /// Yields each two adjacent items as a pair. The later one of a pair is a clone.
@@ -416,10 +374,7 @@ pub trait FallibleItertools: FallibleIterator {
             Self.Item.is_infallible Self.Error.from_gives Self.contract)).steps result
             (windowed l) }
     {
-        TupleWindows {
-            it: self,
-            held: None,
-        }
+        TupleWindows::new(self)
     }
 
     /// Yields the items two by two, as pairs. The last of an odd number of items is in no pair.
@@ -443,10 +398,7 @@ pub trait FallibleItertools: FallibleIterator {
             → list.Lists (seen_as tuples_parts (tuples_contract Self.contract)).steps result
             (tupled l) }
     {
-        Tuples {
-            it: self,
-            held: None,
-        }
+        Tuples::new(self)
     }
 
     // ---- searches, sums and folds
@@ -1058,7 +1010,7 @@ pub trait FallibleItertools: FallibleIterator {
             (λ l. list.Lists (seen_as copied_parts (copied_contract Self.contract)).steps
             result (list.pointed_to l)) }
     {
-        Copied { it: self }
+        Copied::new(self)
     }
 
     /// Yields the items up to the first one that the predicate rejects, and that one too. Then it is exhausted.
@@ -1086,10 +1038,7 @@ pub trait FallibleItertools: FallibleIterator {
             (inclusive.inclusive_contract Self.contract P.FnMut)).steps
             result (inclusive.taken_while_inclusive h l)) }
     {
-        TakeWhileInclusive {
-            it: self,
-            stage: (predicate, None),
-        }
+        TakeWhileInclusive::new(self, predicate)
     }
 
     // ---- adapters that act on failures
@@ -1120,7 +1069,7 @@ pub trait FallibleItertools: FallibleIterator {
             (λ l. list.Lists (seen_as inspect_err_parts
             (inspect_err_contract Self.contract F.FnMut)).steps result l) }
     {
-        InspectErr { it: self, f }
+        InspectErr::new(self, f)
     }
 
     /// Converts each failure by `From`. So `chain`, `zip` and `merge` take two sources with two error types and no closure.
@@ -1146,10 +1095,7 @@ pub trait FallibleItertools: FallibleIterator {
             (err_into_contract E.from_gives Self.contract)).steps result
             (failures_mapped convert l)) }
     {
-        ErrInto {
-            it: self,
-            made: PhantomData,
-        }
+        ErrInto::new(self)
     }
 
     /// Replaces each failure by what the closure returns for it: an item, nothing or another failure.
@@ -1181,7 +1127,7 @@ pub trait FallibleItertools: FallibleIterator {
             (λ h l. list.Lists (seen_as or_else_parts
             (or_else_contract Self.contract F.FnMut)).steps result (recovered h l)) }
     {
-        OrElse { it: self, f }
+        OrElse::new(self, f)
     }
 
     /// Yields what the source yields up to its n-th failure, and that one too. Then it is exhausted.
@@ -1213,11 +1159,7 @@ pub trait FallibleItertools: FallibleIterator {
             (stop_after_contract Self.contract)).steps result (stopped_after n l)) }
     {
         let items = self.number();
-        StopAfter {
-            it: self,
-            to_fail: n,
-            items,
-        }
+        StopAfter::new(self, n, items)
     }
 
     // ---- adapters that join
@@ -1258,16 +1200,7 @@ pub trait FallibleItertools: FallibleIterator {
             Self.contract I.IntoFallibleIter.contract)).steps result
             (merged_in_order Self.Item.partial_cmp a b)) }
     {
-        Merge {
-            left: Holding {
-                it: self.fuse(),
-                held: None,
-            },
-            right: Holding {
-                it: other.into_fallible_iter().fuse(),
-                held: None,
-            },
-        }
+        Merge::new(self.fuse(), other.into_fallible_iter().fuse())
     }
 
     /// Merges the items of two sources. Of an item of this iterator and the next one of `other`, the closure returns whether the former goes first. If one side returns `Ok(None)`, the other's item is yielded without a call of the closure.
@@ -1310,17 +1243,7 @@ pub trait FallibleItertools: FallibleIterator {
             (merge_by.merge_by_contract Self.contract
             I.IntoFallibleIter.contract F.FnMut)).steps result (merge_by.merged h a b)) }
     {
-        MergeBy {
-            left: Holding {
-                it: self.fuse(),
-                held: None,
-            },
-            right: Holding {
-                it: other.into_fallible_iter().fuse(),
-                held: None,
-            },
-            f,
-        }
+        MergeBy::new(self.fuse(), other.into_fallible_iter().fuse(), f)
     }
 
     /// Joins the items of both sides in order, as a closure compares an item of each: `Less` yields this side's alone (`Left`), `Greater` the other's alone (`Right`), and `Equal` both together (`Both`). Once one side returned `Ok(None)`, the items of the other come alone, without a call.
@@ -1365,17 +1288,7 @@ pub trait FallibleItertools: FallibleIterator {
             (join_by.merge_join_by_contract Self.contract
             I.IntoFallibleIter.contract F.FnMut)).steps result (join_by.merge_joined h a b)) }
     {
-        MergeJoinBy {
-            left: Holding {
-                it: self.fuse(),
-                held: None,
-            },
-            right: Holding {
-                it: other.into_fallible_iter().fuse(),
-                held: None,
-            },
-            f,
-        }
+        MergeJoinBy::new(self.fuse(), other.into_fallible_iter().fuse(), f)
     }
 
     /// Pairs the items of both sides by their positions, up to `Ok(None)` of both. If one side returns `Ok(None)` where the other has an item, that item stands alone.
@@ -1410,13 +1323,7 @@ pub trait FallibleItertools: FallibleIterator {
             (zip_longest.zip_longest_contract Self.contract
             I.IntoFallibleIter.contract)).steps result (zip_longest.zipped_longest a b)) }
     {
-        ZipLongest {
-            left: Holding {
-                it: self.fuse(),
-                held: None,
-            },
-            right: other.into_fallible_iter().fuse(),
-        }
+        ZipLongest::new(self.fuse(), other.into_fallible_iter().fuse())
     }
 
     /// Pairs the items of both sides by their positions, up to `Ok(None)` of both, and fails where one side has more items than the other. `unequal` makes that failure.
@@ -1454,14 +1361,7 @@ pub trait FallibleItertools: FallibleIterator {
             (λ a b. list.Lists (seen_as zip_eq.zip_eq_parts (zip_eq.zip_eq_contract Self.contract
             I.IntoFallibleIter.contract F.FnMut)).steps result (zip_eq.zipped_equal e a b)) }
     {
-        ZipEq {
-            left: Holding {
-                it: self.fuse(),
-                held: None,
-            },
-            right: other.into_fallible_iter().fuse(),
-            f: unequal,
-        }
+        ZipEq::new(self.fuse(), other.into_fallible_iter().fuse(), unequal)
     }
 
     /// Yields the items of this iterator and of `other` in turn, this one's first. Once one side returned `Ok(None)`, it yields the rest of the other. A failure takes its side's turn, as an item does.
@@ -1496,11 +1396,7 @@ pub trait FallibleItertools: FallibleIterator {
             (interleave.interleave_contract Self.contract
             I.IntoFallibleIter.contract)).steps result (interleave.interleaved a b)) }
     {
-        Interleave {
-            left: self.fuse(),
-            right: other.into_fallible_iter().fuse(),
-            right_next: false,
-        }
+        Interleave::new(self.fuse(), other.into_fallible_iter().fuse())
     }
 
     /// Yields the items, and if these are fewer than n, then what the closure returns for each index of those that are missing: from the number of items up to n - 1.
@@ -1534,12 +1430,7 @@ pub trait FallibleItertools: FallibleIterator {
             (pad_using.pad_using_contract Self.contract F.FnMut)).steps result
             (pad_using.padded n h l)) }
     {
-        PadUsing {
-            it: self.fuse(),
-            next: 0,
-            end: n,
-            f,
-        }
+        PadUsing::new(self.fuse(), n, f)
     }
 
     // ---- extremes, counts, comparisons
@@ -2387,11 +2278,7 @@ pub trait FallibleItertools: FallibleIterator {
             (seen_as chunks_parts (chunks_contract Self.Error.from_gives Self.contract)).steps
             Self.Error.from_gives result (chunked n l) }
     {
-        Chunks {
-            it: self,
-            alloc,
-            stage: ((n, None), None),
-        }
+        Chunks::new(self, alloc, n)
     }
 
     /// Yields groups of adjacent items with equal keys, each with its key.
@@ -2428,11 +2315,7 @@ pub trait FallibleItertools: FallibleIterator {
             (chunk_by_contract Self.Error.from_gives K.eq F.FnMut Self.contract)).steps
             Self.Error.from_gives result (chunked_by K.eq h l) }
     {
-        ChunkBy {
-            it: self,
-            alloc,
-            stage: ((key, None), None),
-        }
+        ChunkBy::new(self, alloc, key)
     }
 
     /// Yields the items, with a clone of the separator between each two adjacent ones.
@@ -2462,10 +2345,7 @@ pub trait FallibleItertools: FallibleIterator {
             Self.Item.is_infallible Self.Error.from_gives Self.contract)).steps result
             (interspersed separator l) }
     {
-        Intersperse {
-            it: self,
-            stage: ((separator, false), None),
-        }
+        Intersperse::new(self, separator)
     }
 
     /// Yields the items, with what the closure returns between each two adjacent ones.
@@ -2517,10 +2397,7 @@ pub trait FallibleItertools: FallibleIterator {
             (intersperse_with.intersperse_with_contract Self.contract F.FnMut)).steps result
             (interspersed_by h l) }
     {
-        IntersperseWith {
-            it: self,
-            stage: ((f, false), None),
-        }
+        IntersperseWith::new(self, f)
     }
 
     /// Yields the position of each item for which the closure returns true: how many items come before it. Failures and `Ok(None)` don't count.
@@ -2550,10 +2427,7 @@ pub trait FallibleItertools: FallibleIterator {
             (seen_as enumerate_parts (enumerate_contract Self.contract)) F.FnMut)).steps result
             (positions_where h l)) }
     {
-        Positions {
-            it: self.enumerate(),
-            f,
-        }
+        Positions::new(self.enumerate(), f)
     }
 
     /// Yields each item that equals none before it: of equal items the first.
@@ -2584,10 +2458,7 @@ pub trait FallibleItertools: FallibleIterator {
             Self.Error.from_gives Self.contract)).steps Self.Error.from_gives result
             (unique_of Self.Item.eq l) }
     {
-        Unique {
-            it: self,
-            seen: HashSet::new(alloc),
-        }
+        Unique::new(self, alloc)
     }
 
     /// Yields each item whose key equals none before it: the first item of each key. The closure makes the key of a reference to the item.
@@ -2623,10 +2494,7 @@ pub trait FallibleItertools: FallibleIterator {
             (unique_by.unique_by_contract K.eq Self.Error.from_gives Self.contract F.FnMut)).steps
             Self.Error.from_gives result (unique_by.unique_by_key K.eq h l)) }
     {
-        UniqueBy {
-            it: self,
-            keying: (HashSet::new(alloc), f),
-        }
+        UniqueBy::new(self, alloc, f)
     }
 }
 

@@ -2,8 +2,8 @@
 use Rattle.std.proofs.Common.{None, sym, ◌∙◌}
 use Rattle.fallible_iterator.specs.Laws.Contract.{stays_run}
 use Rattle.fallible_iterator.proofs.Lemmas.Searching.{search_drains_of_drive}
-use Rattle.fallible_itertools.specs.Equal.{FirstCall, unequal_pick}
-use Rattle.fallible_itertools.proofs.Lemmas.Equal.{equal_value_is, rest_unequal_found, differs_before_end, fails_before_end}
+use Rattle.fallible_itertools_consumers.specs.Equal.{FirstCall, unequal_pick}
+use Rattle.fallible_itertools_consumers.proofs.Lemmas.Equal.{equal_value_is, rest_unequal_found, differs_before_end, fails_before_end}
 use Rattle.fallible_itertools.proofs.traits.FallibleItertools.all_equal_value.Goals as goal
 
 pub returns-clause-searched : goal.returns-clause-searched

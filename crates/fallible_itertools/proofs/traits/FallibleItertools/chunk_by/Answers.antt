@@ -1,7 +1,6 @@
 -- What is made of the source's list.
-use Rattle.std.proofs.Common.{refl}
-use Rattle.fallible_itertools.proofs.Lemmas.ChunkBy.{lists_up_to_refusal_chunked}
+use Rattle.fallible_itertools_adapters.proofs.Lemmas.ChunkBy.{lists_up_to_refusal_chunked}
 use Rattle.fallible_itertools.proofs.traits.FallibleItertools.chunk_by.Goals as goal
 
 pub returns-clause-lists : goal.returns-clause-lists
-returns-clause-lists g c h l a i = lists_up_to_refusal_chunked g.Self.FallibleIterator.contract g.Self.Error.From.from_gives g.K.PartialEq.eq g.F.FnMut c.args.key h a _ l refl i
+returns-clause-lists g c h l a i = lists_up_to_refusal_chunked g.Self.FallibleIterator.contract g.Self.Error.From.from_gives g.K.PartialEq.eq g.F.FnMut c.args.key h a _ l c.new.ensures i

@@ -1,7 +1,6 @@
 -- What is made of the source's list.
-use Rattle.std.proofs.Common.{refl}
-use Rattle.fallible_itertools.proofs.Lemmas.Dedup.{lists_deduped}
+use Rattle.fallible_itertools_adapters.proofs.Lemmas.Dedup.{lists_deduped}
 use Rattle.fallible_itertools.proofs.traits.FallibleItertools.dedup.Goals as goal
 
 pub returns-clause-lists : goal.returns-clause-lists
-returns-clause-lists g c l i = lists_deduped g.Self.FallibleIterator.contract g.Self.Item.PartialEq.eq _ l refl i
+returns-clause-lists g c l i = lists_deduped g.Self.FallibleIterator.contract g.Self.Item.PartialEq.eq _ l c.new.ensures i

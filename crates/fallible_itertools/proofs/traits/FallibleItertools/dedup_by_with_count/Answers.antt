@@ -1,7 +1,6 @@
 -- What is made of the source's list.
-use Rattle.std.proofs.Common.{refl}
-use Rattle.fallible_itertools.proofs.Lemmas.DedupByWithCount.{lists_deduped_by_with_count}
+use Rattle.fallible_itertools_adapters.proofs.Lemmas.DedupByWithCount.{lists_deduped_by_with_count}
 use Rattle.fallible_itertools.proofs.traits.FallibleItertools.dedup_by_with_count.Goals as goal
 
 pub returns-clause-lists : goal.returns-clause-lists
-returns-clause-lists g c h l acts i = lists_deduped_by_with_count g.Self.FallibleIterator.contract g.F.FnMut _ _ h l refl acts i
+returns-clause-lists g c h l acts i = lists_deduped_by_with_count g.Self.FallibleIterator.contract g.F.FnMut _ _ h l c.new.ensures acts i

@@ -1,7 +1,6 @@
 -- What is made of the source's list.
-use Rattle.std.proofs.Common.{refl}
-use Rattle.fallible_itertools.proofs.Lemmas.Intersperse.{lists_interspersed}
+use Rattle.fallible_itertools_adapters.proofs.Lemmas.Intersperse.{lists_interspersed}
 use Rattle.fallible_itertools.proofs.traits.FallibleItertools.intersperse.Goals as goal
 
 pub returns-clause-lists : goal.returns-clause-lists
-returns-clause-lists g c l i equal infallible = lists_interspersed g.Self.Item.Clone.is_clone g.Self.Item.Clone.is_infallible g.Self.Error.From.from_gives _ equal infallible g.Self.FallibleIterator.contract _ l refl i
+returns-clause-lists g c l i equal infallible = lists_interspersed g.Self.Item.Clone.is_clone g.Self.Item.Clone.is_infallible g.Self.Error.From.from_gives _ equal infallible g.Self.FallibleIterator.contract _ l c.new.ensures i

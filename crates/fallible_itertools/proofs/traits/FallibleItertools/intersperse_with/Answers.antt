@@ -1,10 +1,9 @@
 -- What is made of the source's list, by what the closure returns.
-use Rattle.std.proofs.Common.{refl}
-use Rattle.fallible_itertools.proofs.Lemmas.IntersperseWith.{lists_interspersed_same, lists_interspersed_shown}
+use Rattle.fallible_itertools_adapters.proofs.Lemmas.IntersperseWith.{lists_interspersed_same, lists_interspersed_shown}
 use Rattle.fallible_itertools.proofs.traits.FallibleItertools.intersperse_with.Goals as goal
 
 pub returns-clause-lists : goal.returns-clause-lists
-returns-clause-lists g c separator l i acts = lists_interspersed_same g.Self.FallibleIterator.contract g.F.FnMut _ _ l refl i separator acts
+returns-clause-lists g c separator l i acts = lists_interspersed_same g.Self.FallibleIterator.contract g.F.FnMut _ _ l c.new.ensures i separator acts
 
 pub returns-clause-shown : goal.returns-clause-shown
-returns-clause-shown g c shows h l i shown at = lists_interspersed_shown g.Self.FallibleIterator.contract g.F.FnMut _ _ l refl i shows shown h at
+returns-clause-shown g c shows h l i shown at = lists_interspersed_shown g.Self.FallibleIterator.contract g.F.FnMut _ _ l c.new.ensures i shows shown h at

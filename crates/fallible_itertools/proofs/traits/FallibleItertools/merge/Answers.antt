@@ -1,11 +1,11 @@
 -- What both sides list, merged.
 use Rattle.std.specs.Prelude.{◌+◌}
-use Rattle.std.proofs.Common.{refl, inr, arith}
-use Rattle.fallible_itertools.proofs.Lemmas.Merge.{lists_merged_in_order}
+use Rattle.std.proofs.Common.{inr, arith}
+use Rattle.fallible_itertools_adapters.proofs.Lemmas.Merge.{lists_merged_in_order}
 use Rattle.fallible_itertools.proofs.traits.FallibleItertools.merge.Goals as goal
 
 pub returns-clause-lists : goal.returns-clause-lists
-returns-clause-lists g c a b i k = lists_merged_in_order g.Self.FallibleIterator.contract g.I.IntoFallibleIter.FallibleIterator.contract g.Self.Item.PartialOrd.partial_cmp _ _ _ a b refl c.fuse.ensures.parts c.fuse-2.ensures.parts i (k _ c.into_fallible_iter.ensures)
+returns-clause-lists g c a b i k = lists_merged_in_order g.Self.FallibleIterator.contract g.I.IntoFallibleIter.FallibleIterator.contract g.Self.Item.PartialOrd.partial_cmp _ _ _ a b c.new.ensures c.fuse.ensures.parts c.fuse-2.ensures.parts i (k _ c.into_fallible_iter.ensures)
 
 pub returns-clause-bounded : goal.returns-clause-bounded
 returns-clause-bounded g c a b k x y le = inr (a + b, (a, b, rw c.fuse.ensures.parts x, y, omega arith), le)

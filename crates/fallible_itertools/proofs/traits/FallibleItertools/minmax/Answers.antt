@@ -2,7 +2,7 @@
 use Rattle.std.proofs.Common.{refl}
 use Rattle.std.specs.declared.convert.Infallible.{Infallible}
 use Rattle.fallible_iterator.proofs.Lemmas.Folds.{driven_after, driven_end, driven_failure}
-use Rattle.fallible_itertools.proofs.Lemmas.MinMax.{min_max_after_two, min_maxed_minmaxed_to_end, min_maxed_minmaxed_to_failure, minmaxed_of_lists}
+use Rattle.fallible_itertools_consumers.proofs.Lemmas.MinMax.{min_max_after_two, min_maxed_minmaxed_to_end, min_maxed_minmaxed_to_failure, minmaxed_of_lists}
 use Rattle.fallible_itertools.proofs.traits.FallibleItertools.minmax.Goals as goal
 
 pub returns-in-Ok-None-clause-minmaxed : goal.returns-in-Ok-None-clause-minmaxed

@@ -1,8 +1,8 @@
 -- The fold whose state is what is kept and the closure is the fold.
 use Rattle.fallible_iterator.specs.Picking.{call_at_two}
-use Rattle.fallible_itertools.specs.MinMaxBy.{MinMaxCall}
+use Rattle.fallible_itertools_consumers.specs.MinMaxBy.{MinMaxCall}
 use Rattle.std.proofs.Common.{◌∙◌, Ok}
-use Rattle.fallible_itertools.proofs.Lemmas.MinMaxBy.{kept_or_failure_folded, minmaxed_by_of_lists, minmaxed_by_order}
+use Rattle.fallible_itertools_consumers.proofs.Lemmas.MinMaxBy.{kept_or_failure_folded, minmaxed_by_of_lists, minmaxed_by_order}
 use Rattle.fallible_itertools.proofs.traits.FallibleItertools.minmax_by.Goals as goal
 
 pub returns-clause-folded : goal.returns-clause-folded

@@ -1,8 +1,8 @@
 -- The fold whose state is what is kept with its keys and the closure is the fold.
 use Rattle.std.proofs.Common.{◌∙◌, ap}
 use Rattle.fallible_iterator.specs.Closures.{call_by_reference}
-use Rattle.fallible_itertools.specs.MinMaxBy.{MinMaxKeyCall, kept_or_failure_of}
-use Rattle.fallible_itertools.proofs.Lemmas.MinMaxBy.{kept_or_failure_folded, keys_dropped_from_kept, minmaxed_by_key_of_lists}
+use Rattle.fallible_itertools_consumers.specs.MinMaxBy.{MinMaxKeyCall, kept_or_failure_of}
+use Rattle.fallible_itertools_consumers.proofs.Lemmas.MinMaxBy.{kept_or_failure_folded, keys_dropped_from_kept, minmaxed_by_key_of_lists}
 use Rattle.fallible_itertools.proofs.traits.FallibleItertools.minmax_by_key.Goals as goal
 
 pub returns-clause-folded : goal.returns-clause-folded

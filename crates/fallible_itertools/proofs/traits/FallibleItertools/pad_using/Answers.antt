@@ -1,10 +1,9 @@
 -- What the source lists beside the indices, by what the closure returns for those alone.
-use Rattle.std.proofs.Common.{refl}
-use Rattle.fallible_itertools.proofs.Lemmas.PadUsing.{lists_padded, is_callable_pad}
+use Rattle.fallible_itertools_adapters.proofs.Lemmas.PadUsing.{lists_padded, is_callable_pad}
 use Rattle.fallible_itertools.proofs.traits.FallibleItertools.pad_using.Goals as goal
 
 pub returns-clause-callable : goal.returns-clause-callable
 returns-clause-callable g c = is_callable_pad g.F.FnMut _ _ (λ i may. may.1) c.requires
 
 pub returns-clause-lists : goal.returns-clause-lists
-returns-clause-lists g c h l acts i = lists_padded g.Self.FallibleIterator.contract g.F.FnMut _ c.args.f c.args.n _ h l refl c.fuse.ensures.parts acts i
+returns-clause-lists g c h l acts i = lists_padded g.Self.FallibleIterator.contract g.F.FnMut _ c.args.f c.args.n _ h l c.new.ensures c.fuse.ensures.parts acts i

@@ -1,7 +1,6 @@
 -- What the source lists, up to and with the n-th failure.
-use Rattle.std.proofs.Common.{refl}
-use Rattle.fallible_itertools.proofs.Lemmas.StopAfter.{lists_stopped}
+use Rattle.fallible_itertools_adapters.proofs.Lemmas.StopAfter.{lists_stopped}
 use Rattle.fallible_itertools.proofs.traits.FallibleItertools.stop_after.Goals as goal
 
 pub returns-clause-lists : goal.returns-clause-lists
-returns-clause-lists g c l i = lists_stopped g.Self.FallibleIterator.contract _ c.args.n _ l refl i
+returns-clause-lists g c l i = lists_stopped g.Self.FallibleIterator.contract _ c.args.n _ l c.new.ensures i

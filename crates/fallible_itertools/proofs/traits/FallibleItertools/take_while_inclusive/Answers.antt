@@ -1,7 +1,6 @@
 -- What the source lists, up to and with the first item that the predicate rejects.
-use Rattle.std.proofs.Common.{refl}
-use Rattle.fallible_itertools.proofs.Lemmas.TakeWhileInclusive.{lists_inclusive}
+use Rattle.fallible_itertools_adapters.proofs.Lemmas.TakeWhileInclusive.{lists_inclusive}
 use Rattle.fallible_itertools.proofs.traits.FallibleItertools.take_while_inclusive.Goals as goal
 
 pub returns-clause-lists : goal.returns-clause-lists
-returns-clause-lists g c h l a i = lists_inclusive g.Self.FallibleIterator.contract g.P.FnMut _ c.args.predicate h l refl a i
+returns-clause-lists g c h l a i = lists_inclusive g.Self.FallibleIterator.contract g.P.FnMut _ c.args.predicate h l c.new.ensures a i

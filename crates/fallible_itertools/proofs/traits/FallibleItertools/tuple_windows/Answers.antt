@@ -1,7 +1,6 @@
 -- What is made of the source's list.
-use Rattle.std.proofs.Common.{refl}
-use Rattle.fallible_itertools.proofs.Lemmas.TupleWindows.{lists_windowed}
+use Rattle.fallible_itertools_adapters.proofs.Lemmas.TupleWindows.{lists_windowed}
 use Rattle.fallible_itertools.proofs.traits.FallibleItertools.tuple_windows.Goals as goal
 
 pub returns-clause-lists : goal.returns-clause-lists
-returns-clause-lists g c l i equal infallible = lists_windowed _ _ _ equal infallible g.Self.FallibleIterator.contract _ l refl i
+returns-clause-lists g c l i equal infallible = lists_windowed _ _ _ equal infallible g.Self.FallibleIterator.contract _ l c.new.ensures i

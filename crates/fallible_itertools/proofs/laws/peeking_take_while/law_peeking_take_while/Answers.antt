@@ -1,9 +1,0 @@
--- A run of the values is one of their parts, which the law of the parts speaks of.
-use Rattle.std.proofs.Common.{refl}
-use Rattle.fallible_iterator.proofs.Lemmas.LawForm.{traces_are_of_parts}
-use Rattle.fallible_itertools.specs.PeekingTakeWhile.{peeking_parts}
-use Rattle.fallible_itertools.proofs.Lemmas.PeekingTakeWhile.{peeking_law}
-use Rattle.fallible_itertools.proofs.laws.peeking_take_while.law_peeking_take_while.Goals as goal
-
-pub returns : goal.returns
-returns g c = traces_are_of_parts peeking_parts (λ p. record { it = p.0; accept = p.1 }) (λ s. refl) (λ p. refl) _ _ (peeking_law g.met.P.PeekingNext.looking _)

@@ -1,0 +1,76 @@
+-- Of adjacent items, by recursion.
+use Rattle.std.specs.Prelude.{◌≡◌, Result, Ok, Err, List, [], ◌∷◌, ◌++◌, ⊤, IfOk}
+use Rattle.std.proofs.Common.{refl, sym, ap, subst, ◌∙◌}
+use Rattle.fallible_iterator.specs.Fault.{Fault}
+use Rattle.fallible_iterator.specs.Lists.{CollectedAs, before, collected, items}
+use Rattle.fallible_itertools_adapters.specs.Adjacent.{Adjacent, AdjacentItems}
+
+module _ {A E : Type 0} (P : A → A → Type 0) where
+  -- P holds of x and the first of the list, where that is an item
+  abbrev pub HoldsOfNext : A → List (Result A E) → Type 0
+  HoldsOfNext x [] = ⊤
+  HoldsOfNext x (Ok y ∷ l) = P x y
+  HoldsOfNext x (Err e ∷ l) = ⊤
+
+  -- what `AdjacentItems` says, by recursion
+  abbrev pub EachNext : List (Result A E) → Type 0
+  EachNext [] = ⊤
+  EachNext (Ok x ∷ l) = HoldsOfNext x l × EachNext l
+  EachNext (Err e ∷ l) = EachNext l
+
+  of_next : (x y : A) (l after : List (Result A E)) → l ≡ Ok y ∷ after → HoldsOfNext x l → P x y
+  of_next x y [] after e h = absurd cc
+  of_next x y (Ok z ∷ l) after e h = let same : y ≡ z = cc in rw same h
+  of_next x y (Err d ∷ l) after e h = absurd cc
+
+  pub adjacent_of_next : (l : List (Result A E)) → EachNext l → AdjacentItems P l
+  adjacent_of_next [] h [] x y after e = absurd cc
+  adjacent_of_next [] h (z ∷ before) x y after e = absurd cc
+  adjacent_of_next (Ok w ∷ l) h [] x y after e = let same : x ≡ w = cc in let rest : l ≡ Ok y ∷ after = cc in rw same (of_next w y l after rest h.0)
+  adjacent_of_next (Ok w ∷ l) h (z ∷ before) x y after e = adjacent_of_next l h.1 before x y after cc
+  adjacent_of_next (Err d ∷ l) h [] x y after e = absurd cc
+  adjacent_of_next (Err d ∷ l) h (z ∷ before) x y after e = adjacent_of_next l h before x y after cc
+
+  rest_adjacent : (r : Result A E) (l : List (Result A E)) → AdjacentItems P (r ∷ l) → AdjacentItems P l
+  rest_adjacent r l h before x y after e = h (r ∷ before) x y after (ap {B = List (Result A E)} (λ k. r ∷ k) e)
+
+  next_adjacent : (x : A) (l : List (Result A E)) → AdjacentItems P (Ok x ∷ l) → HoldsOfNext x l
+  next_adjacent x [] h = tt
+  next_adjacent x (Ok y ∷ l) h = h [] x y l refl
+  next_adjacent x (Err e ∷ l) h = tt
+
+  pub next_of_adjacent : (l : List (Result A E)) → AdjacentItems P l → EachNext l
+  next_of_adjacent [] h = tt
+  next_of_adjacent (Ok x ∷ l) h = (next_adjacent x l h, next_of_adjacent l (rest_adjacent (Ok x) l h))
+  next_of_adjacent (Err e ∷ l) h = next_of_adjacent l (rest_adjacent (Err e) l h)
+
+  -- ---- of items alone
+
+  items_joined : (xs : List A) (ys : List A) → items {E = E} (xs ++ ys) ≡ items xs ++ items ys
+  unfolding items
+  items_joined [] ys = refl
+  items_joined (x ∷ xs) ys = ap {B = List (Result A E)} (λ k. Ok x ∷ k) (items_joined xs ys)
+
+  pub adjacent_of_items : (xs : List A) → AdjacentItems P (items {E = E} xs) → Adjacent P xs
+  unfolding items
+  adjacent_of_items xs h before x y after e = h (items before) x y (items after) (ap (λ k. items {E = E} k) e ∙ items_joined before (x ∷ y ∷ after))
+
+  before_is : (x : A) (r : Result (List A) E) (l : List (Result A E)) (xs : List A) → ((ys : List A) → r ≡ Ok ys → l ≡ items ys) → before x r ≡ Ok xs → Ok x ∷ l ≡ items xs
+  unfolding items
+  before_is x (Ok ys) l xs h e = let same : xs ≡ x ∷ ys = cc in rw same (ap {B = List (Result A E)} (λ k. Ok x ∷ k) (h ys refl))
+  before_is x (Err d) l xs h e = absurd cc
+
+  pub items_collected : (l : List (Result A E)) (xs : List A) → collected l ≡ Ok xs → l ≡ items xs
+  unfolding collected items
+  items_collected [] xs e = let same : xs ≡ [] = cc in rw same refl
+  items_collected (Ok x ∷ l) xs e = before_is x (collected l) l xs (λ ys is. items_collected l ys is) e
+  items_collected (Err d ∷ l) xs e = absurd cc
+
+  pub adjacent_collected : (l : List (Result A E)) (xs : List A) → collected l ≡ Ok xs → AdjacentItems P l → Adjacent P xs
+  adjacent_collected l xs e h = adjacent_of_items xs (subst (λ (k : List (Result A E)). AdjacentItems P k) (items_collected l xs e) h)
+
+-- Of a collection of what is listed, as a `Vec`.
+pub adjacent_of_collected : {A C E : Type 0} (P : A → A → Type 0) (elements : C → List A) (l : List (Result A E)) (r : Result C (Fault E)) → CollectedAs (λ xs c. elements c ≡ xs) l r → AdjacentItems P l → IfOk r (λ c. Adjacent P (elements c))
+unfolding CollectedAs
+adjacent_of_collected P elements l (Ok c) h adjacent = subst (λ xs. Adjacent P xs) (sym h.2) (adjacent_collected P l h.0 h.1 adjacent)
+adjacent_of_collected P elements l (Err e) h adjacent = tt

@@ -1,0 +1,328 @@
+-- One answer of a `Peekable` whose item is shown to the closure first; the runs of `PeekingTakeWhile`, which are the traces that its definition names; what it lists; and its hint.
+use Rattle.std.specs.Prelude.{◌≡◌, ◌≤◌, Bool, true, false, List, [], ◌∷◌, length, map, Option, Result, Some, None, Ok, Err, ◌↔◌, ◌++◌, IfSome}
+use Rattle.std.specs.List.{cons_option, filter_map}
+use Rattle.std.specs.Fn.{Mut}
+use Rattle.std.specs.Borrow.{Bor}
+use Rattle.std.proofs.Common.{refl, sym, ap, ap₂, subst, ◌∙◌, arith}
+use Rattle.fallible_iterator.specs.Contract.{Contract, seen_as}
+use Rattle.fallible_iterator.specs.Lists.{AlwaysGives, Lists, Acts, result_answer}
+use Rattle.fallible_iterator.specs.Traces.{Answered, Run, Yields, item, end}
+use Rattle.fallible_iterator.specs.Closures.{Calls, call_by_reference}
+use Rattle.fallible_iterator.specs.Passing.{Place, asked, failure_at, end_at, source_answer, call_of}
+use Rattle.fallible_iterator.specs.Cutting.TakeWhile.{cons_while, is_refused, taken_answer, taken_while}
+use Rattle.fallible_iterator.specs.Peeking.Peekable.{Fills, Peeks, failure_told, held_item, peekable_contract, peekable_parts, peekable_step}
+use Rattle.fallible_iterator.proofs.Lemmas.Lists.Passing.{lists_seen}
+use Rattle.fallible_iterator.proofs.Lemmas.Cutting.TakeWhile.{calls_cons, calls_first_and_rest}
+use Rattle.fallible_iterator.proofs.Lemmas.Hints.Drawn.{ItemsOfItems}
+use Rattle.fallible_itertools_adapters.specs.Laws.PeekingTakeWhile.{looked_at_is_next_answer, held_step}
+use Rattle.fallible_itertools_adapters.specs.PeekingTakeWhile.{AcceptsHeld, LookedAgainAt, AskedAgain, DrawsAtPlace, LeftAt, LeavesSource, LooksAhead, PeekingTrace, rest_from_item, rest_by_while, let_go, peekable_looks, peeking_contract, peeking_parts, peeking_step}
+use Rattle.fallible_iterator.specs.Peekable.{Peekable}
+use Rattle.fallible_itertools_adapters.specs.declared.peeking_take_while.PeekingTakeWhile.{PeekingTakeWhile}
+
+-- ---- one answer of a `Peekable`
+
+module _ {S F X E : Type 0} (m : Contract S X E) (call : F → X → Result Bool E → F → Type 0) where
+  abbrev AheadStep : Peekable S X E × F → Answered X E → Peekable S X E × F → Type 0
+  AheadStep = peeking_step (seen_as peekable_parts (peekable_contract m)).steps (peekable_looks m.steps) call
+
+  peekable_step_of_failed_look : (p q : S × Option (Option X)) (e : E) → Peeks m.steps p (Err e) q → peekable_step m.steps p (Err e) q
+  peekable_step_of_failed_look (s, Some h) q e w = absurd (let d = w.0 in cc)
+  peekable_step_of_failed_look (s, None) q e w = w
+
+  peekable_step_of_failure : (p u : Peekable S X E) (a : Answered X E) (e : E) → Peeks m.steps (peekable_parts p) a (peekable_parts u) → Err e ≡ failure_told a → peekable_step m.steps (peekable_parts p) (Err e) (peekable_parts u)
+  peekable_step_of_failure p u (Ok o) e peeks is = absurd cc
+  peekable_step_of_failure p u (Err d) e peeks is = let same : d ≡ e = cc in subst (λ (z : E). peekable_step m.steps (peekable_parts p) (Err z) (peekable_parts u)) same (peekable_step_of_failed_look (peekable_parts p) (peekable_parts u) d peeks)
+
+  -- the source failed, and nothing is held
+  pub ahead_fails : (p u : Peekable S X E) (f : F) (e : E) → Fills m.steps (peekable_parts p) (Err e) (peekable_parts u) → AheadStep (p, f) (Err e) (u, f)
+  ahead_fails p u f e fills = (failure_at e, peekable_step_of_failure p u fills.0 e fills.1 fills.2, refl, refl)
+
+  -- what is held was looked at
+  accepts_held_of_equal : (o h : Option X) (f g : F) (v : Result Bool E) → h ≡ o → AcceptsHeld call h f v g → AcceptsHeld call o f v g
+  accepts_held_of_equal o h f g v is a = subst (λ (z : Option X). AcceptsHeld call z f v g) is a
+
+  ahead_taken : (a : Answered X E) (p u w : Peekable S X E) (f g : F) (r : Answered X E) → Peeks m.steps (peekable_parts p) a (peekable_parts u) → Ok tt ≡ failure_told a → AcceptsHeld call (held_item u.held) f (Ok true) g → peekable_step m.steps (peekable_parts u) r (peekable_parts w) → AheadStep (p, f) r (w, g)
+  ahead_taken (Err e) p u w f g r peeks is accepts step = absurd cc
+  ahead_taken (Ok (Some x)) p u w f g r peeks is accepts step =
+      let k = looked_at_is_next_answer m.steps (peekable_parts p) (peekable_parts u) (Some x) peeks in
+      let h = held_step m.steps (peekable_parts u) (peekable_parts w) (Some x) r k.1 step in
+      (asked x (Ok true), subst (λ z. peekable_step m.steps (peekable_parts p) (item x) z) (sym h.1) k.0, (g, accepts_held_of_equal (Some x) (held_item u.held) f g (Ok true) (ap held_item k.1) accepts, refl), h.0)
+  ahead_taken (Ok None) p u w f g r peeks is accepts step =
+      let k = looked_at_is_next_answer m.steps (peekable_parts p) (peekable_parts u) None peeks in
+      let h = held_step m.steps (peekable_parts u) (peekable_parts w) None r k.1 step in
+      (end_at, subst (λ z. peekable_step m.steps (peekable_parts p) end z) (sym h.1) k.0, sym (accepts_held_of_equal None (held_item u.held) f g (Ok true) (ap held_item k.1) accepts).1, h.0)
+
+  pub ahead_takes : (p u w : Peekable S X E) (f g : F) (r : Answered X E) → Fills m.steps (peekable_parts p) (Ok tt) (peekable_parts u) → AcceptsHeld call (held_item u.held) f (Ok true) g → peekable_step m.steps (peekable_parts u) r (peekable_parts w) → AheadStep (p, f) r (w, g)
+  ahead_takes p u w f g r fills accepts step = ahead_taken fills.0 p u w f g r fills.1 fills.2 accepts step
+
+  ahead_refused : (a : Answered X E) (p u : Peekable S X E) (f g : F) → Peeks m.steps (peekable_parts p) a (peekable_parts u) → Ok tt ≡ failure_told a → AcceptsHeld call (held_item u.held) f (Ok false) g → AheadStep (p, f) end (u, g)
+  ahead_refused (Err e) p u f g peeks is accepts = absurd cc
+  ahead_refused (Ok (Some x)) p u f g peeks is accepts = let k = looked_at_is_next_answer m.steps (peekable_parts p) (peekable_parts u) (Some x) peeks in
+      (asked x (Ok false), peeks, (g, accepts_held_of_equal (Some x) (held_item u.held) f g (Ok false) (ap held_item k.1) accepts, refl), refl)
+  ahead_refused (Ok None) p u f g peeks is accepts = let k = looked_at_is_next_answer m.steps (peekable_parts p) (peekable_parts u) None peeks in
+      absurd (let e = (accepts_held_of_equal None (held_item u.held) f g (Ok false) (ap held_item k.1) accepts).0 in cc)
+
+  pub ahead_refuses : (p u : Peekable S X E) (f g : F) → Fills m.steps (peekable_parts p) (Ok tt) (peekable_parts u) → AcceptsHeld call (held_item u.held) f (Ok false) g → AheadStep (p, f) end (u, g)
+  ahead_refuses p u f g fills accepts = ahead_refused fills.0 p u f g fills.1 fills.2 accepts
+
+  ahead_lost : (a : Answered X E) (p u w : Peekable S X E) (f g : F) (e : E) (r : Answered X E) → Peeks m.steps (peekable_parts p) a (peekable_parts u) → Ok tt ≡ failure_told a → AcceptsHeld call (held_item u.held) f (Err e) g → peekable_step m.steps (peekable_parts u) r (peekable_parts w) → AheadStep (p, f) (Err e) (w, g)
+  ahead_lost (Err d) p u w f g e r peeks is accepts step = absurd cc
+  ahead_lost (Ok (Some x)) p u w f g e r peeks is accepts step =
+      let k = looked_at_is_next_answer m.steps (peekable_parts p) (peekable_parts u) (Some x) peeks in
+      let h = held_step m.steps (peekable_parts u) (peekable_parts w) (Some x) r k.1 step in
+      (asked x (Err e), subst (λ z. peekable_step m.steps (peekable_parts p) (item x) z) (sym h.1) k.0, (g, accepts_held_of_equal (Some x) (held_item u.held) f g (Err e) (ap held_item k.1) accepts, refl), refl)
+  ahead_lost (Ok None) p u w f g e r peeks is accepts step = let k = looked_at_is_next_answer m.steps (peekable_parts p) (peekable_parts u) None peeks in
+      absurd (let d = (accepts_held_of_equal None (held_item u.held) f g (Err e) (ap held_item k.1) accepts).0 in cc)
+
+  pub ahead_loses : (p u w : Peekable S X E) (f g : F) (e : E) (r : Answered X E) → Fills m.steps (peekable_parts p) (Ok tt) (peekable_parts u) → AcceptsHeld call (held_item u.held) f (Err e) g → peekable_step m.steps (peekable_parts u) r (peekable_parts w) → AheadStep (p, f) (Err e) (w, g)
+  ahead_loses p u w f g e r fills accepts step = ahead_lost fills.0 p u w f g e r fills.1 fills.2 accepts step
+
+-- ---- runs
+
+module _ {S F X E : Type 0} {m : Contract S X E} {looks : S → X → S → Type 0} (k : LooksAhead m looks) (call : F → X → Result Bool E → F → Type 0) where
+  abbrev AheadState : Type 0
+  AheadState = Place X (Result Bool E) E
+
+  abbrev StepOfPeekingTakeWhile : S × F → Answered X E → S × F → Type 0
+  StepOfPeekingTakeWhile = peeking_step m.steps looks call
+
+  abbrev TraceOfPeekingTakeWhile : S × F → List (Answered X E) → S × F → Type 0
+  TraceOfPeekingTakeWhile = PeekingTrace m.steps looks call
+
+  -- one more place in front
+  left_at_more : (z : AheadState) (places : List AheadState) (u q : S) → (q ≡ u → LeavesSource looks z u q) → LeftAt looks places u q → LeftAt looks (z ∷ places) u q
+  left_at_more z [] u q b left = b left
+  left_at_more z (w ∷ places) u q b left = left
+
+  asked_again_more : (z : AheadState) (places : List AheadState) → ((w : AheadState) → LookedAgainAt z w) → AskedAgain places → AskedAgain (z ∷ places)
+  asked_again_more z [] b again = tt
+  asked_again_more z (w ∷ places) b again = (b w, again)
+
+  -- the place takes its answer, and requires nothing of what comes after it
+  abbrev Accepts : AheadState → Type 0
+  Accepts z = (let_go z ≡ Some (source_answer z)) × ((u v : S) → v ≡ u → LeavesSource looks z u v) × ((w : AheadState) → LookedAgainAt z w)
+
+  trace_of_accepted : (z : AheadState) (p mid : S) (f g : F) (q : S × F) (trace : List (Answered X E)) → Accepts z → m.steps p (source_answer z) mid → Calls call f (filter_map call_of (z ∷ [])) g → TraceOfPeekingTakeWhile (mid, g) trace q → TraceOfPeekingTakeWhile (p, f) (taken_answer z ∷ trace) q
+  trace_of_accepted z p mid f g q trace goes step called t = record {
+    places = z ∷ t.places;
+    between = t.between;
+    drawn = subst (λ (o : Option (Answered X E)). Run m.steps p (cons_option o (filter_map let_go t.places)) t.between) (sym goes.0) (mid, step, t.drawn);
+    left = left_at_more z t.places t.between q.0 (goes.1 t.between q.0) t.left;
+    called = calls_cons m.steps call z t.places f g q.1 called t.called;
+    answers = ap (λ (l : List (Answered X E)). taken_answer z ∷ l) t.answers;
+    again = asked_again_more z t.places goes.2 t.again;
+  }
+
+  -- after a look at an item the closure is called on that item first
+  asked_after_look : (w : AheadState) (places : List AheadState) (s t u q : S) (x : X) → looks s x t → Run m.steps t (filter_map let_go (w ∷ places)) u → LeftAt looks (w ∷ places) u q → AskedAgain (w ∷ places) → (v : Result Bool E) × (w ≡ asked x v)
+  asked_after_look (asked y (Ok true)) places s t u q x look ran left again = let d = (k.next s x t (item y) ran.0 look ran.1).0 in let same : y ≡ x = cc in (Ok true, ap (λ z. asked z (Ok true)) same)
+  asked_after_look (asked y (Err e)) places s t u q x look ran left again = let d = (k.next s x t (item y) ran.0 look ran.1).0 in let same : y ≡ x = cc in (Err e, ap (λ z. asked z (Err e)) same)
+  asked_after_look (failure_at e) places s t u q x look ran left again = absurd (let d = (k.next s x t (Err e) ran.0 look ran.1).0 in cc)
+  asked_after_look end_at places s t u q x look ran left again = absurd (let d = (k.next s x t end ran.0 look ran.1).0 in cc)
+  asked_after_look (asked y (Ok false)) [] s t u q x look ran left again = let same = (k.again s x t y q look (subst (λ (v : S). looks v y q) (sym ran) left)).0 in (Ok false, ap (λ z. asked z (Ok false)) same)
+  asked_after_look (asked y (Ok false)) (w ∷ places) s t u q x look ran left again = let first = asked_after_look w places s t u q x look ran left again.1 in let is = again.0 in let same : y ≡ x = (let e = sym is.1 ∙ first.1 in cc) in (Ok false, ap (λ z. asked z (Ok false)) same)
+
+  -- what comes after a look comes from before it too
+  run_before : (r : Answered X E) (l : List (Answered X E)) (p t u : S) (x : X) → looks p x t → Run m.steps t (r ∷ l) u → Run m.steps p (r ∷ l) u
+  run_before r l p t u x look ran = let d = k.next p x t r ran.0 look ran.1 in (ran.0, subst (λ (a : Answered X E). m.steps p a ran.0) (sym d.0) d.1, ran.2)
+
+  abbrev LookedBefore : List AheadState → S → S → Type 0
+  LookedBefore places p q = (between : S) × Run m.steps p (filter_map let_go places) between × LeftAt looks places between q
+
+  before_from : (w : AheadState) (places : List AheadState) (p t u q : S) (x : X) → looks p x t → Run m.steps t (filter_map let_go (w ∷ places)) u → LeftAt looks (w ∷ places) u q → LookedBefore (w ∷ places) p q
+  before_from (asked y (Ok true)) places p t u q x look ran left = (u, run_before (item y) (filter_map let_go places) p t u x look ran, left)
+  before_from (asked y (Err e)) places p t u q x look ran left = (u, run_before (item y) (filter_map let_go places) p t u x look ran, left)
+  before_from (failure_at e) places p t u q x look ran left = (u, run_before (Err e) (filter_map let_go places) p t u x look ran, left)
+  before_from end_at places p t u q x look ran left = (u, run_before end (filter_map let_go places) p t u x look ran, left)
+  before_from (asked y (Ok false)) [] p t u q x look ran left = let d = k.again p x t y q look (subst (λ (v : S). looks v y q) (sym ran) left) in (p, refl, subst (λ (z : X). looks p z q) (sym d.0) d.1)
+  before_from (asked y (Ok false)) (w ∷ places) p t u q x look ran left = before_from w places p t u q x look ran left
+
+  -- a look at an item that is rejected, before the others
+  before_look : (places : List AheadState) (x : X) (p t q : S) → looks p x t → LookedBefore places t q → AskedAgain places → LookedBefore (asked x (Ok false) ∷ places) p q × AskedAgain (asked x (Ok false) ∷ places)
+  before_look [] x p t q look (between, ran, left) again = ((p, refl, subst (λ (v : S). looks p x v) (ran ∙ sym left) look), tt)
+  before_look (w ∷ places) x p t q look (between, ran, left) again = (before_from w places p t between q x look ran left, (asked_after_look w places p t between q x look ran left again, again))
+
+  trace_refused_first : (x : X) (p mid : S) (f g : F) (q : S × F) (trace : List (Answered X E)) → looks p x mid → Calls call f ((x, Ok false) ∷ []) g → TraceOfPeekingTakeWhile (mid, g) trace q → TraceOfPeekingTakeWhile (p, f) (end ∷ trace) q
+  trace_refused_first x p mid f g q trace look called t =
+      let b = before_look t.places x p mid q.0 look (t.between, t.drawn, t.left) t.again in
+      record {
+        places = asked x (Ok false) ∷ t.places;
+        between = b.0.0;
+        drawn = b.0.1;
+        left = b.0.2;
+        called = calls_cons m.steps call (asked x (Ok false)) t.places f g q.1 called t.called;
+        answers = ap (λ (l : List (Answered X E)). end ∷ l) t.answers;
+        again = b.1;
+      }
+
+  trace_place_first : (z : AheadState) (p mid : S) (f g : F) (q : S × F) (trace : List (Answered X E)) → DrawsAtPlace m.steps looks z p mid → Calls call f (filter_map call_of (z ∷ [])) g → TraceOfPeekingTakeWhile (mid, g) trace q → TraceOfPeekingTakeWhile (p, f) (taken_answer z ∷ trace) q
+  trace_place_first (asked x (Ok true)) p mid f g q trace d one t = trace_of_accepted (asked x (Ok true)) p mid f g q trace (refl, (λ u v e. e), λ w. tt) d one t
+  trace_place_first (asked x (Ok false)) p mid f g q trace d one t = trace_refused_first x p mid f g q trace d one t
+  trace_place_first (asked x (Err e)) p mid f g q trace d one t = trace_of_accepted (asked x (Err e)) p mid f g q trace (refl, (λ u v e. e), λ w. tt) d one t
+  trace_place_first (failure_at e) p mid f g q trace d one t = trace_of_accepted (failure_at e) p mid f g q trace (refl, (λ u v e. e), λ w. tt) d one t
+  trace_place_first end_at p mid f g q trace d one t = trace_of_accepted end_at p mid f g q trace (refl, (λ u v e. e), λ w. tt) d one t
+
+  trace_peeking : (trace : List (Answered X E)) (p q : S × F) → Run StepOfPeekingTakeWhile p trace q → TraceOfPeekingTakeWhile p trace q
+  trace_peeking [] p q e = record { places = []; between = p.0; drawn = refl; left = sym (ap (λ z. z.0) e); called = ap (λ z. z.1) e; answers = refl; again = tt }
+  trace_peeking (r ∷ rest) p q ran = let w = ran.1 in subst (λ (a : Answered X E). TraceOfPeekingTakeWhile p (a ∷ rest) q) (sym w.3) (trace_place_first w.0 p.0 ran.0.0 p.1 ran.0.1 q rest w.1 w.2 (trace_peeking rest ran.0 q ran.2))
+
+  -- ---- and back
+
+  left_at_less : (z : AheadState) (places : List AheadState) (u q : S) → (LeavesSource looks z u q → q ≡ u) → LeftAt looks (z ∷ places) u q → LeftAt looks places u q
+  left_at_less z [] u q b left = b left
+  left_at_less z (w ∷ places) u q b left = left
+
+  asked_again_less : (z : AheadState) (places : List AheadState) → AskedAgain (z ∷ places) → AskedAgain places
+  asked_again_less z [] again = tt
+  asked_again_less z (w ∷ places) again = again.1
+
+  -- the look at an item that the closure is called on, and the others from there
+  abbrev LookedAt : List AheadState → X → S → S → Type 0
+  LookedAt places x p q = (t : S) × looks p x t × LookedBefore places t q
+
+  looked_ask_first : (v : Result Bool E) (places : List AheadState) (x : X) (p u q : S) → Run m.steps p (filter_map let_go (asked x v ∷ places)) u → LeftAt looks (asked x v ∷ places) u q → AskedAgain (asked x v ∷ places) → LookedAt (asked x v ∷ places) x p q
+  looked_ask_first (Ok true) places x p u q ran left again = let d = k.first p x ran.0 ran.1 in (d.0, d.1, (u, (ran.0, d.2, ran.2), left))
+  looked_ask_first (Err e) places x p u q ran left again = let d = k.first p x ran.0 ran.1 in (d.0, d.1, (u, (ran.0, d.2, ran.2), left))
+  looked_ask_first (Ok false) [] x p u q ran left again = let look : looks p x q = subst (λ (v : S). looks v x q) (sym ran) left in (q, look, (q, refl, k.same p x q look))
+  looked_ask_first (Ok false) (w ∷ places) x p u q ran left again = let v = again.0 in
+      let Next : AheadState → Type 0 = λ z. Run m.steps p (filter_map let_go (z ∷ places)) u → LeftAt looks (z ∷ places) u q → AskedAgain (z ∷ places) → LookedAt (z ∷ places) x p q in
+      subst Next (sym v.1) (λ r l a. looked_ask_first v.0 places x p u q r l a) ran left again.1
+
+  looked_ask_next : (w : AheadState) (places : List AheadState) (x : X) (p u q : S) → LookedAgainAt (asked x (Ok false)) w → Run m.steps p (filter_map let_go (w ∷ places)) u → LeftAt looks (w ∷ places) u q → AskedAgain (w ∷ places) → LookedAt (w ∷ places) x p q
+  looked_ask_next w places x p u q v ran left again =
+      let Next : AheadState → Type 0 = λ z. Run m.steps p (filter_map let_go (z ∷ places)) u → LeftAt looks (z ∷ places) u q → AskedAgain (z ∷ places) → LookedAt (z ∷ places) x p q in
+      subst Next (sym v.1) (λ r l a. looked_ask_first v.0 places x p u q r l a) ran left again
+
+  run_from_places : (places : List AheadState) (p between : S) (f : F) (q : S × F) → Run m.steps p (filter_map let_go places) between → LeftAt looks places between q.0 → Calls call f (filter_map call_of places) q.1 → AskedAgain places → Run StepOfPeekingTakeWhile (p, f) (map taken_answer places) q
+  run_from_places [] p between f q ran left called again = ap₂ (λ (a : S) (b : F). (a, b)) (ran ∙ sym left) called
+  run_from_places (asked x (Ok true) ∷ places) p between f q ran left called again = let c = calls_first_and_rest m.steps call (asked x (Ok true)) places f q.1 called in
+      ((ran.0, c.0), (asked x (Ok true), ran.1, c.1, refl), run_from_places places ran.0 between c.0 q ran.2 (left_at_less (asked x (Ok true)) places between q.0 (λ e. e) left) c.2 (asked_again_less (asked x (Ok true)) places again))
+  run_from_places (asked x (Err e) ∷ places) p between f q ran left called again = let c = calls_first_and_rest m.steps call (asked x (Err e)) places f q.1 called in
+      ((ran.0, c.0), (asked x (Err e), ran.1, c.1, refl), run_from_places places ran.0 between c.0 q ran.2 (left_at_less (asked x (Err e)) places between q.0 (λ e. e) left) c.2 (asked_again_less (asked x (Err e)) places again))
+  run_from_places (failure_at e ∷ places) p between f q ran left called again = ((ran.0, f), (failure_at e, ran.1, refl, refl), run_from_places places ran.0 between f q ran.2 (left_at_less (failure_at e) places between q.0 (λ e. e) left) called (asked_again_less (failure_at e) places again))
+  run_from_places (end_at ∷ places) p between f q ran left called again = ((ran.0, f), (end_at, ran.1, refl, refl), run_from_places places ran.0 between f q ran.2 (left_at_less end_at places between q.0 (λ e. e) left) called (asked_again_less end_at places again))
+  run_from_places (asked x (Ok false) ∷ []) p between f q ran left called again = (q, (asked x (Ok false), subst (λ (v : S). looks v x q.0) (sym ran) left, called, refl), refl)
+  run_from_places (asked x (Ok false) ∷ w ∷ places) p between f q ran left called again =
+      let c = calls_first_and_rest m.steps call (asked x (Ok false)) (w ∷ places) f q.1 called in
+      let d = looked_ask_next w places x p between q.0 again.0 ran left again.1 in
+      ((d.0, c.0), (asked x (Ok false), d.1, c.1, refl), run_from_places (w ∷ places) d.0 d.2.0 c.0 q d.2.1 d.2.2 c.2 again.1)
+
+  run_from_peeking : (trace : List (Answered X E)) (p q : S × F) → TraceOfPeekingTakeWhile p trace q → Run StepOfPeekingTakeWhile p trace q
+  run_from_peeking trace p q t = subst (λ (l : List (Answered X E)). Run StepOfPeekingTakeWhile p l q) (sym t.answers) (run_from_places t.places p.0 t.between p.1 q t.drawn t.left t.called t.again)
+
+  pub peeking_law : (p : S × F) (trace : List (Answered X E)) (q : S × F) → Run StepOfPeekingTakeWhile p trace q ↔ TraceOfPeekingTakeWhile p trace q
+  peeking_law p trace q = (trace_peeking trace p q, run_from_peeking trace p q)
+
+-- ---- what it lists
+
+module _ {S F X E : Type 0} {m : Contract S X E} {looks : S → X → S → Type 0} (k : LooksAhead m looks) (call : F → X → Result Bool E → F → Type 0) (f : F) (h : X → Result Bool E) (acts : Acts call f h) where
+  abbrev GivesPeeking : S → F → List (Result X E) → Type 0
+  GivesPeeking p g l = AlwaysGives (peeking_step m.steps looks call) (p, g) l
+
+  -- a place has an answer that the source yields
+  source_step_of_place : (z : Place X (Result Bool E) E) (p q : S) → DrawsAtPlace m.steps looks z p q → (u : S) × m.steps p (source_answer z) u
+  source_step_of_place (asked x (Ok true)) p q d = (q, d)
+  source_step_of_place (asked x (Ok false)) p q d = k.comes p x q d
+  source_step_of_place (asked x (Err e)) p q d = (q, d)
+  source_step_of_place (failure_at e) p q d = (q, d)
+  source_step_of_place end_at p q d = (q, d)
+
+  taken_end_of_nil : (z : Place X (Result Bool E) E) (p u : S) (r : Answered X E) → AlwaysGives {A = X} m.steps p [] → m.steps p (source_answer z) u → r ≡ taken_answer z → r ≡ end
+  taken_end_of_nil (asked y v) p u r a step e = absurd (let d = a (item y) u step in cc)
+  taken_end_of_nil (failure_at d) p u r a step e = absurd (let b = a (Err d) u step in cc)
+  taken_end_of_nil end_at p u r a step e = e
+
+  failure_place_of_first : (z : Place X (Result Bool E) E) (d : E) (l : List (Result X E)) (p q : S) (g : F) → AlwaysGives m.steps p (Err d ∷ l) → DrawsAtPlace m.steps looks z p q → Calls call f (filter_map call_of (z ∷ [])) g → (z ≡ failure_at d) × AlwaysGives m.steps q l × (g ≡ f)
+  failure_place_of_first (asked y v) d l p q g a drawn called = absurd (let u = source_step_of_place (asked y v) p q drawn in let e = (a (item y) u.0 u.1).0 in cc)
+  failure_place_of_first (failure_at c) d l p q g a drawn called = let is = a (Err c) q drawn in let same : c ≡ d = (let e = is.0 in cc) in (ap (λ (e : E). failure_at e) same, is.1, sym called)
+  failure_place_of_first end_at d l p q g a drawn called = absurd (let e = (a end q drawn).0 in cc)
+
+  -- the call at an item that the list begins with
+  asked_on_listed : (x y : X) (v : Result Bool E) (g : F) → y ≡ x → Calls call f ((y, v) ∷ []) g → (◌≡◌ {A = Place X (Result Bool E) E} (asked y v) (asked x (h x))) × (g ≡ f)
+  asked_on_listed x y v g same called = let c = acts y v called.0 called.1 in (ap (λ (w : Result Bool E). asked y w) c.1 ∙ ap (λ (w : X). asked w (h w)) same, sym called.2 ∙ c.0)
+
+  item_of_first : (z : Place X (Result Bool E) E) (x : X) (l : List (Result X E)) (p q : S) (g : F) → AlwaysGives m.steps p (Ok x ∷ l) → DrawsAtPlace m.steps looks z p q → Calls call f (filter_map call_of (z ∷ [])) g → (z ≡ asked x (h x)) × (g ≡ f) × (is_refused z ≡ false → AlwaysGives m.steps q l)
+  item_of_first (asked y (Ok true)) x l p q g a drawn called = let is = a (item y) q drawn in let same : y ≡ x = (let e = is.0 in cc) in let c = asked_on_listed x y (Ok true) g same called in (c.0, c.1, λ e. is.1)
+  item_of_first (asked y (Ok false)) x l p q g a drawn called = let u = k.comes p y q drawn in let same : y ≡ x = (let e = (a (item y) u.0 u.1).0 in cc) in let c = asked_on_listed x y (Ok false) g same called in (c.0, c.1, λ e. absurd cc)
+  item_of_first (asked y (Err d)) x l p q g a drawn called = let is = a (item y) q drawn in let same : y ≡ x = (let e = is.0 in cc) in let c = asked_on_listed x y (Err d) g same called in (c.0, c.1, λ e. is.1)
+  item_of_first (failure_at c) x l p q g a drawn called = absurd (let e = (a (Err c) q drawn).0 in cc)
+  item_of_first end_at x l p q g a drawn called = absurd (let e = (a end q drawn).0 in cc)
+
+  gives_peeking_of_draws : (p : S) (g : F) (l : List (Result X E)) → g ≡ f → GivesPeeking p f l → GivesPeeking p g l
+  gives_peeking_of_draws p g l same a = subst (λ (z : F). GivesPeeking p z l) (sym same) a
+
+  gives_through_item : (x : X) (v : Result Bool E) (l rest : List (Result X E)) (p : S) → h x ≡ v → AlwaysGives m.steps p (Ok x ∷ l) → ((u : S) → AlwaysGives m.steps u l → GivesPeeking u f rest) → GivesPeeking p f (cons_while x v rest)
+  gives_through_item x (Ok true) l rest p is a then = λ r q w. let d = item_of_first w.0 x l p q.0 q.1 a w.1 w.2 in let z : w.0 ≡ asked x (Ok true) = d.0 ∙ ap (λ (v : Result Bool E). asked x v) is in
+      (w.3 ∙ ap taken_answer z, gives_peeking_of_draws q.0 q.1 rest d.1 (then q.0 (d.2 (ap is_refused z))))
+  gives_through_item x (Ok false) l rest p is a then = λ r q w. let d = item_of_first w.0 x l p q.0 q.1 a w.1 w.2 in w.3 ∙ ap taken_answer (d.0 ∙ ap (λ (v : Result Bool E). asked x v) is)
+  gives_through_item x (Err e) l rest p is a then = λ r q w. let d = item_of_first w.0 x l p q.0 q.1 a w.1 w.2 in let z : w.0 ≡ asked x (Err e) = d.0 ∙ ap (λ (v : Result Bool E). asked x v) is in
+      (w.3 ∙ ap taken_answer z, gives_peeking_of_draws q.0 q.1 rest d.1 (then q.0 (d.2 (ap is_refused z))))
+
+  gives_peeking : (l : List (Result X E)) (p : S) → AlwaysGives m.steps p l → GivesPeeking p f (taken_while h l)
+  unfolding taken_while
+  gives_peeking [] p a = λ r q w. let u = source_step_of_place w.0 p q.0 w.1 in taken_end_of_nil w.0 p u.0 r a u.1 w.3
+  gives_peeking (Ok x ∷ l) p a = gives_through_item x (h x) l (taken_while h l) p refl a (λ u b. gives_peeking l u b)
+  gives_peeking (Err e ∷ l) p a = λ r q w. let d = failure_place_of_first w.0 e l p q.0 q.1 a w.1 w.2 in (w.3 ∙ ap taken_answer d.0, gives_peeking_of_draws q.0 q.1 (taken_while h l) d.2 (gives_peeking l q.0 d.1))
+
+pub lists_peeking : {S F X E : Type 0} {m : Contract S X E} {looks : S → X → S → Type 0} (k : LooksAhead m looks) (g : Mut F (Bor X × Unit {0}) (Result Bool E)) (s : PeekingTakeWhile S F) (f : F) (h : X → Result Bool E) (l : List (Result X E)) → peeking_parts s ≡ (s.it, f) → Acts (call_by_reference g) f h → Lists m.steps s.it l
+    → Lists (seen_as peeking_parts (peeking_contract m looks g)).steps s (taken_while h l)
+lists_peeking {m = m} {looks = looks} k g s f h l parts a i = lists_seen peeking_parts (peeking_contract m looks g).steps s parts refl (gives_peeking k (call_by_reference g) f h a l s.it i.runs)
+
+-- ---- what it leaves
+
+module _ {S F X E : Type 0} {m : Contract S X E} {looks : S → X → S → Type 0} (k : LooksAhead m looks) (call : F → X → Result Bool E → F → Type 0) (f : F) (h : X → Result Bool E) (acts : Acts call f h) where
+  abbrev LeavesRest : Option (List (Result X E)) → List (Result X E) → S → S × F → Type 0
+  LeavesRest left taken s t = Run (peeking_step m.steps looks call) (s, f) (map result_answer taken ++ end ∷ []) t → IfSome left (λ l. AlwaysGives m.steps t.0 l)
+
+  -- a look leaves the list as it is
+  always_gives_looked : (x : X) (l : List (Result X E)) (s t : S) → looks s x t → AlwaysGives m.steps s (Ok x ∷ l) → AlwaysGives m.steps t (Ok x ∷ l)
+  always_gives_looked x l s t look a = λ r u step. let d = k.next s x t r u look step in (d.0, (a (item x) u d.1).1)
+
+  -- from where a place left the source and the closure
+  leaves_of_draws : (left : Option (List (Result X E))) (taken : List (Result X E)) (s : S) (g : F) (t : S × F) → g ≡ f → LeavesRest left taken s t → Run (peeking_step m.steps looks call) (s, g) (map result_answer taken ++ end ∷ []) t → IfSome left (λ l. AlwaysGives m.steps t.0 l)
+  leaves_of_draws left taken s g t same leaves ran = leaves (subst (λ (z : F). Run (peeking_step m.steps looks call) (s, z) (map result_answer taken ++ end ∷ []) t) same ran)
+
+  refused_look : (z : Place X (Result Bool E) E) (x : X) (s t : S) → z ≡ asked x (Ok false) → DrawsAtPlace m.steps looks z s t → looks s x t
+  refused_look z x s t is d = subst (λ (w : Place X (Result Bool E) E). DrawsAtPlace m.steps looks w s t) is d
+
+  leaves_rest_item : (x : X) (v : Result Bool E) (l rest : List (Result X E)) (left : Option (List (Result X E))) (s : S) (t : S × F) → h x ≡ v → AlwaysGives m.steps s (Ok x ∷ l) → ((u : S) → AlwaysGives m.steps u l → LeavesRest left rest u t) → LeavesRest (rest_from_item x v l left) (cons_while x v rest) s t
+  leaves_rest_item x (Ok true) l rest left s t is a then = λ ran. let w = ran.1 in let d = item_of_first k call f h acts w.0 x l s ran.0.0 ran.0.1 a w.1 w.2 in
+      leaves_of_draws left rest ran.0.0 ran.0.1 t d.1 (then ran.0.0 (d.2 (ap is_refused (d.0 ∙ ap (λ (v : Result Bool E). asked x v) is)))) ran.2
+  leaves_rest_item x (Err e) l rest left s t is a then = λ ran. let w = ran.1 in let d = item_of_first k call f h acts w.0 x l s ran.0.0 ran.0.1 a w.1 w.2 in
+      leaves_of_draws left rest ran.0.0 ran.0.1 t d.1 (then ran.0.0 (d.2 (ap is_refused (d.0 ∙ ap (λ (v : Result Bool E). asked x v) is)))) ran.2
+  leaves_rest_item x (Ok false) l rest left s t is a then = λ ran. let w = ran.1 in let d = item_of_first k call f h acts w.0 x l s ran.0.0 ran.0.1 a w.1 w.2 in
+      always_gives_looked x l s t.0 (subst (λ (u : S × F). looks s x u.0) ran.2 (refused_look w.0 x s ran.0.0 (d.0 ∙ ap (λ (v : Result Bool E). asked x v) is) w.1)) a
+
+  pub leaves_refused : (l : List (Result X E)) (s : S) (t : S × F) → AlwaysGives m.steps s l → LeavesRest (rest_by_while h l) (taken_while h l) s t
+  unfolding rest_by_while taken_while
+  leaves_refused [] s t a = λ ran. tt
+  leaves_refused (Ok x ∷ l) s t a = leaves_rest_item x (h x) l (taken_while h l) (rest_by_while h l) s t refl a (λ u b. leaves_refused l u t b)
+  leaves_refused (Err e ∷ l) s t a = λ ran. let w = ran.1 in let d = failure_place_of_first k call f h acts w.0 e l s ran.0.0 ran.0.1 a w.1 w.2 in
+      leaves_of_draws (rest_by_while h l) (taken_while h l) ran.0.0 ran.0.1 t d.2 (leaves_refused l ran.0.0 t d.1) ran.2
+
+-- a run of a value whose answers are those of its parts is one of these
+run_parts : {V P A E : Type 0} (view : V → P) (steps : P → Answered A E → P → Type 0) (trace : List (Answered A E)) (s t : V) → Run (λ u r v. steps (view u) r (view v)) s trace t → Run steps (view s) trace (view t)
+run_parts view steps [] s t e = ap view e
+run_parts view steps (r ∷ rest) s t w = (view w.0, w.1, run_parts view steps rest w.0 t w.2)
+
+given_listed : {S X E : Type 0} (steps : S → Answered X E → S → Type 0) (s : S) (o : Option (List (Result X E))) → IfSome o (λ l. AlwaysGives steps s l) → IfSome o (λ l. Lists steps s l)
+given_listed steps s None i = tt
+given_listed steps s (Some l) i = record { runs = i }
+
+pub lists_rest : {S F X E : Type 0} {m : Contract S X E} {looks : S → X → S → Type 0} (k : LooksAhead m looks) (g : Mut F (Bor X × Unit {0}) (Result Bool E)) (s t : PeekingTakeWhile S F) (h : X → Result Bool E) (l : List (Result X E)) → Acts (call_by_reference g) s.accept h → Lists m.steps s.it l
+    → Run (seen_as peeking_parts (peeking_contract m looks g)).steps s (map result_answer (taken_while h l) ++ end ∷ []) t → IfSome (rest_by_while h l) (λ rest. Lists m.steps t.it rest)
+lists_rest {m = m} {looks = looks} k g s t h l a i ran = given_listed m.steps t.it (rest_by_while h l) (leaves_refused k (call_by_reference g) s.accept h a l s.it (peeking_parts t) i.runs (run_parts peeking_parts (peeking_contract m looks g).steps (map result_answer (taken_while h l) ++ end ∷ []) s t ran))
+
+-- ---- its hint
+
+module _ {S F X E : Type 0} (steps : S → Answered X E → S → Type 0) (looks : S → X → S → Type 0) (call : F → X → Result Bool E → F → Type 0) where
+  yields_one_at_least : (z : Place X (Result Bool E) E) (p q : S) (y : X) → item y ≡ taken_answer z → DrawsAtPlace steps looks z p q → (xs : List X) × Yields steps p xs q × (1 ≤ length xs)
+  yields_one_at_least (asked x (Ok true)) p q y e d = (x ∷ [], (q, d, refl), omega arith)
+  yields_one_at_least (asked x (Ok false)) p q y e d = absurd cc
+  yields_one_at_least (asked x (Err c)) p q y e d = absurd cc
+  yields_one_at_least (failure_at c) p q y e d = absurd cc
+  yields_one_at_least end_at p q y e d = absurd cc
+
+  -- an item of it comes of one of the source
+  pub items_of_items_peeking : ItemsOfItems (peeking_step steps looks call) steps (λ p. p.0) (λ p. Unit {0})
+  items_of_items_peeking = record { items_of_item = λ p q y _ w. let d = yields_one_at_least w.0 p.0 q.0 y w.3 w.1 in (d.0, d.1, d.2, tt) }

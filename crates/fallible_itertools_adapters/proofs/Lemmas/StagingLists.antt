@@ -1,0 +1,145 @@
+-- What a stage lists, over a source that lists a list, by what it makes of each answer; up to an allocation failure, where one may come.
+use Rattle.std.specs.Prelude.{◌≡◌, ⊤, ◌⊎◌, Option, Some, None, Result, Ok, Err, List, [], ◌∷◌}
+use Rattle.std.proofs.Common.{refl, sym, ap, subst, inl, inr, ◌∙◌}
+use Rattle.fallible_iterator.specs.Traces.{Answered, end}
+use Rattle.fallible_iterator.specs.Lists.{AlwaysGives, result_answer}
+use Rattle.fallible_iterator.specs.Making.{AtRefusal, GivesMade, IsMadeOf}
+use Rattle.fallible_itertools_adapters.specs.Staging.{DrawsUpTo, Made, due_comes, due_left, passes_over, stage_step, yields}
+use Rattle.std.specs.declared.alloc.AllocError.{AllocError}
+
+-- an answer before a list; nothing comes after an end
+abbrev pub before_rest : {Y E : Type 0} → Answered Y E → List (Result Y E) → List (Result Y E)
+before_rest (Ok (Some y)) rest = Ok y ∷ rest
+before_rest (Ok None) rest = []
+before_rest (Err e) rest = Err e ∷ rest
+
+module _ {L Y E : Type 0} (comes : L → Option (Answered Y E)) where
+  -- what is due before a list, and what is made
+  abbrev pub due_first : Option L → List (Result Y E) → List (Result Y E)
+  due_first None rest = rest
+  due_first (Some later) rest = before_rest (due_comes (comes later)) rest
+
+  abbrev pub made_first : Made Y L E → List (Result Y E) → List (Result Y E)
+  made_first None rest = rest
+  made_first (Some (a, due)) rest = before_rest a (due_first due rest)
+
+  -- an end is due; one is made
+  abbrev EndDue : Option L → Type 0
+  EndDue None = ⊥
+  EndDue (Some later) = due_comes (comes later) ≡ end
+
+  abbrev pub EndMade : Made Y L E → Type 0
+  EndMade None = ⊥
+  EndMade (Some (a, due)) = (a ≡ end) ⊎ EndDue due
+
+  -- The list of a stage that holds a: of the answer x it makes (does a x).0, and holds (does a x).1 then.
+  abbrev pub staged : {Q X : Type 0} → (Q → Answered X E → Made Y L E × Q) → Q → List (Result X E) → List (Result Y E)
+  staged does a [] = made_first (does a end).0 []
+  staged does a (y ∷ l) = made_first (does a (result_answer y)).0 (staged does (does a (result_answer y)).1 l)
+
+module _ {Y B E : Type 0} (made : Y → B → Type 0) where
+  -- the answer is the given one, with a value that is made of the given one; and the same of what is made
+  abbrev pub IsAnswerMade : Answered Y E → Answered B E → Type 0
+  IsAnswerMade (Ok (Some z)) r = IsMadeOf made (Ok z) r
+  IsAnswerMade (Ok None) r = r ≡ end
+  IsAnswerMade (Err e) r = r ≡ Err e
+
+  abbrev pub IsMadeAs : {L : Type 0} → Made Y L E → Made B L E → Type 0
+  IsMadeAs None None = ⊤
+  IsMadeAs (Some (a, due)) (Some (r, later)) = IsAnswerMade a r × (later ≡ due)
+  IsMadeAs m n = ⊥
+
+module _ {S P X Y B L E : Type 0} (steps : S → Answered X E → S → Type 0) (comes : L → Option (Answered B E)) (meets : P → Answered X E → Made B L E → P → Type 0) (made : Y → B → Type 0) (Refuses : Answered B E → S × (P × Option L) → Type 0) where
+  abbrev State : Type 0
+  State = S × (P × Option L)
+
+  -- r is the first of the list, or `Refuses` holds of it; and so on from t
+  abbrev IsFirst : List (Result Y E) → Answered B E → State → Type 0
+  IsFirst [] r t = r ≡ end
+  IsFirst (y ∷ l) r t = Refuses r t ⊎ (IsMadeOf made y r × ((z : Answered B E) (u : State) → stage_step comes meets steps t z u → IsFirst l z u))
+
+  abbrev pub GivesUpTo : State → List (Result Y E) → Type 0
+  GivesUpTo s l = (r : Answered B E) (t : State) → stage_step comes meets steps s r t → IsFirst l r t
+
+  -- `Refuses` holds of what is made
+  abbrev pub RefusedAt : P → Made B L E → Type 0
+  RefusedAt q None = ⊥
+  RefusedAt q (Some (r, due)) = (t : S) → Refuses r (t, (q, due))
+
+  -- `At p a` says that the stage holds p as a says; `listed` says what is due, in the list.
+  module _ {Q : Type 0} (listed : L → Option (Answered Y E)) (At : P → Q → Type 0) (does : Q → Answered X E → Made Y L E × Q)
+      (due_made : (later : L) → IsAnswerMade made (due_comes (listed later)) (due_comes (comes later)))
+      (acts : (p q : P) (a : Q) (y : Result X E) (m : Made B L E) → At p a → meets p (result_answer y) m q → RefusedAt q m ⊎ (At q (does a (result_answer y)).1 × IsMadeAs made (does a (result_answer y)).0 m))
+      (ends : (p q : P) (a : Q) (m : Made B L E) → At p a → meets p end m q → EndMade listed (does a end).0 × IsMadeAs made (does a end).0 m)
+      (never_nil : (a : Q) (y : Result X E) (l : List (Result X E)) (r : Answered B E) (t : State) → Refuses r t → staged listed does a (y ∷ l) ≡ [] → ⊥) where
+    first_before : (a : Answered Y E) (r : Answered B E) (t : State) (rest : List (Result Y E)) → IsAnswerMade made a r → ((a ≡ end → ⊥) → GivesUpTo t rest) → IsFirst (before_rest a rest) r t
+    first_before (Ok (Some z)) r t rest w g = inr (w, g (λ e. cc))
+    first_before (Ok None) r t rest w g = w
+    first_before (Err e) r t rest w g = inr (w, g (λ is. cc))
+
+    none_left : (later : L) (c : Option (Answered B E)) (a : Answered Y E) → IsAnswerMade made a (due_comes c) → (a ≡ end → ⊥) → due_left later c ≡ None
+    none_left later (Some r) a w on = refl
+    none_left later None (Ok (Some z)) w on = absurd w
+    none_left later None (Ok None) w on = absurd (on refl)
+    none_left later None (Err e) w on = absurd cc
+
+    gives_due : (due : Option L) (t : S) (q : P) (rest : List (Result Y E)) → ((EndDue listed due → ⊥) → GivesUpTo (t, (q, None)) rest) → GivesUpTo (t, (q, due)) (due_first listed due rest)
+    gives_due None t q rest g = g (λ e. e)
+    gives_due (Some later) t q rest g = λ r u w. first_before (due_comes (listed later)) r u rest (subst (λ (z : Answered B E). IsAnswerMade made (due_comes (listed later)) z) (sym w.0) (due_made later)) (λ on. subst (λ (s : S). GivesUpTo (s, u.1) rest) (sym w.1) (subst (λ (k : P × Option L). GivesUpTo (t, k) rest) (sym (w.2 ∙ ap (λ (d : Option L). (q, d)) (none_left later (comes later) (due_comes (listed later)) (due_made later) on))) (g on)))
+
+    first_made : (m : Made Y L E) (r : Answered B E) (due : Option L) (t : S) (q : P) (rest : List (Result Y E)) → IsMadeAs made m (Some (r, due)) → ((EndMade listed m → ⊥) → GivesUpTo (t, (q, None)) rest) → IsFirst (made_first listed m rest) r (t, (q, due))
+    first_made None r due t q rest w g = absurd w
+    first_made (Some (a, later)) r due t q rest w g = first_before a r (t, (q, due)) (due_first listed later rest) w.0 (λ on. subst (λ (d : Option L). GivesUpTo (t, (q, d)) (due_first listed later rest)) (sym w.1) (gives_due later t q rest (λ undue. g (λ over. elim over [ inl e ↦ on e | inr e ↦ undue e ]))))
+
+    first_passed : (m : Made Y L E) (rest : List (Result Y E)) (r : Answered B E) (t : State) → IsMadeAs made m None → IsFirst rest r t → IsFirst (made_first listed m rest) r t
+    first_passed None rest r t w f = f
+    first_passed (Some (a, due)) rest r t w f = absurd w
+
+    first_refused : (l : List (Result Y E)) (r : Answered B E) (t : State) → Refuses r t → (l ≡ [] → ⊥) → IsFirst l r t
+    first_refused [] r t w some = absurd (some refl)
+    first_refused (y ∷ l) r t w some = inl w
+
+    something_made : (m : Made Y L E) → EndMade listed m → IsMadeAs made m None → ⊥
+    something_made None e w = e
+    something_made (Some (a, due)) e w = w
+
+    first_at_end : (s t : S) (p : P) (a : Q) (r : Answered B E) (q : P × Option L) → At p a → AlwaysGives steps s [] → DrawsUpTo comes meets steps s p r t q → IsFirst (staged listed does a []) r (t, q)
+    first_at_end s t p a r _ at i (yields {q = q} {due = due} x step called) = let k = ends p q a (Some (r, due)) at (rw (i x t step) at called) in first_made (does a end).0 r due t q [] k.1 (λ on. absurd (on k.0))
+    first_at_end s t p a r q at i (passes_over {u = u} {h = h} x step called rest) = let k = ends p h a None at (rw (i x u step) at called) in absurd (something_made (does a end).0 k.0 k.1)
+
+    first_at_item : (y : Result X E) (l : List (Result X E)) (s t : S) (p : P) (a : Q) (r : Answered B E) (q : P × Option L) → At p a → AlwaysGives steps s (y ∷ l) → ((u : S) (h : P) → At h (does a (result_answer y)).1 → AlwaysGives steps u l → GivesUpTo (u, (h, None)) (staged listed does (does a (result_answer y)).1 l)) → DrawsUpTo comes meets steps s p r t q → IsFirst (staged listed does a (y ∷ l)) r (t, q)
+    first_at_item y l s t p a r _ at i then (yields {q = q} {due = due} x step called) = let k = i x t step in elim (acts p q a y (Some (r, due)) at (rw k.0 at called)) [
+      | inl w ↦ first_refused (staged listed does a (y ∷ l)) r (t, (q, due)) (w t) (never_nil a y l r (t, (q, due)) (w t))
+      | inr w ↦ first_made (does a (result_answer y)).0 r due t q _ w.1 (λ on. then t q w.0 k.1)
+    ]
+    first_at_item y l s t p a r q at i then (passes_over {u = u} {h = h} x step called rest) = let k = i x u step in elim (acts p h a y None at (rw k.0 at called)) [
+      | inl w ↦ absurd w
+      | inr w ↦ first_passed (does a (result_answer y)).0 _ r (t, q) w.1 (then u h w.0 k.1 r (t, q) rest)
+    ]
+
+    pub gives_staged : (l : List (Result X E)) (s : S) (p : P) (a : Q) → At p a → AlwaysGives steps s l → GivesUpTo (s, (p, None)) (staged listed does a l)
+    gives_staged [] s p a at i = λ r t w. first_at_end s t.0 p a r t.1 at i w
+    gives_staged (y ∷ l) s p a at i = λ r t w. first_at_item y l s t.0 p a r t.1 at i (λ u h b j. gives_staged l u h (does a (result_answer y)).1 b j) w
+
+-- ---- a type each step of which is one of a stage
+
+module _ {V S P X B L E : Type 0} (view : V → S × (P × Option L)) (steps : S → Answered X E → S → Type 0) (comes : L → Option (Answered B E)) (meets : P → Answered X E → Made B L E → P → Type 0) (taken : V → Answered B E → V → Type 0) (each : (u : V) (r : Answered B E) (v : V) → taken u r v → stage_step comes meets steps (view u) r (view v)) where
+  -- nothing is refused, and each item is as it is
+  itself : (y : Result B E) (r : Answered B E) → IsMadeOf (λ z x. x ≡ z) y r → r ≡ result_answer y
+  itself (Ok z) (Ok (Some x)) w = ap (λ k. Ok (Some k)) w
+  itself (Ok z) (Ok None) w = absurd w
+  itself (Ok z) (Err e) w = absurd w
+  itself (Err d) r w = w
+
+  pub always_gives_within : (l : List (Result B E)) (v : V) → GivesUpTo steps comes meets (λ z x. x ≡ z) (λ r t. ⊥) (view v) l → AlwaysGives taken v l
+  always_gives_within [] v g = λ r t w. g r (view t) (each v r t w)
+  always_gives_within (y ∷ l) v g = λ r t w. elim (g r (view t) (each v r t w)) [ inl k ↦ absurd k | inr k ↦ (itself y r k.0, always_gives_within l t k.1) ]
+
+  module _ {Y : Type 0} (made : Y → B → Type 0) (from : AllocError → E → Type 0) where
+    at_refusal_within : (r : Answered B E) (t : V) → AtRefusal made (stage_step comes meets steps) from r (view t) → AtRefusal made taken from r t
+    at_refusal_within r t (inl w) = inl w
+    at_refusal_within r t (inr w) = inr (w.0, w.1, w.2, w.3, λ z u step. w.4 z (view u) (each t z u step))
+
+    pub gives_made_within : (l : List (Result Y E)) (v : V) → GivesUpTo steps comes meets made (AtRefusal made (stage_step comes meets steps) from) (view v) l → GivesMade made taken from v l
+    gives_made_within [] v g = λ r t w. g r (view t) (each v r t w)
+    gives_made_within (y ∷ l) v g = λ r t w. elim (g r (view t) (each v r t w)) [ inl k ↦ inl (at_refusal_within r t k) | inr k ↦ inr (k.0, gives_made_within l t k.1) ]

@@ -1,0 +1,97 @@
+-- The runs of `StopAfter` are the traces that its definition names.
+use Rattle.std.specs.Prelude.{◌≡◌, ℕ, zero, suc, ◌+◌, ◌≤◌, List, [], ◌∷◌, map, Option, Some, None, Ok, Err, ◌↔◌}
+use Rattle.std.proofs.Common.{refl, sym, ap, subst, ◌∙◌, arith}
+use Rattle.fallible_iterator.specs.Traces.{Answered, Run, item, end, items_in}
+use Rattle.fallible_iterator.specs.Contract.{Contract, seen_as}
+use Rattle.fallible_iterator.specs.Exchange.{exchanged, steps_exchanged}
+use Rattle.fallible_iterator.specs.Laws.Exchange.{exchanged_twice}
+use Rattle.fallible_iterator.specs.Lists.{AlwaysGives, Lists}
+use Rattle.fallible_iterator.specs.Cutting.Take.{take_step}
+use Rattle.fallible_iterator.specs.SoundHints.{Brackets, AsSound}
+use Rattle.fallible_iterator.proofs.Lemmas.Lists.Passing.{lists_seen}
+use Rattle.fallible_iterator.proofs.Lemmas.Cutting.Take.{take_law}
+use Rattle.fallible_iterator.proofs.Lemmas.Hints.Drawn.{as_sound_same, brackets_no_item}
+use Rattle.fallible_itertools_adapters.specs.StopAfter.{StopAfterTrace, stop_after_step, stop_after_hints, stop_after_parts, stop_after_contract, stopped_after}
+use Rattle.std.specs.declared.result.Result.{Result}
+use Rattle.fallible_itertools_adapters.specs.declared.stop_after.StopAfter.{StopAfter}
+
+module _ {S A E : Type 0} (steps : S → Answered A E → S → Type 0) where
+  abbrev State : Type 0
+  State = S × (ℕ × ℕ)
+
+  abbrev Step : State → Answered A E → State → Type 0
+  Step = stop_after_step steps
+
+  -- a step of it is one of `Take` over the source with items and failures exchanged
+  abbrev TakeStep : S × ℕ → Answered E A → S × ℕ → Type 0
+  TakeStep = take_step (steps_exchanged steps)
+
+  take_of_step : (p q : State) (r : Answered A E) → Step p r q → TakeStep (p.0, p.1.0) (exchanged r) (q.0, q.1.0) × (q.1.1 + items_in (r ∷ []) ≡ p.1.1)
+  take_of_step (s, (zero, k)) q r w = ((ap exchanged w.0, w.1, ap (λ p. p.0) w.2), rw (w.0, w.2) (omega arith))
+  take_of_step (s, (suc n, k)) q r w = ((subst (λ (a : Answered A E). steps s a q.0) (sym (exchanged_twice r)) w.0, w.1), w.2)
+
+  step_of_take : (p q : State) (r : Answered A E) → TakeStep (p.0, p.1.0) (exchanged r) (q.0, q.1.0) → q.1.1 + items_in (r ∷ []) ≡ p.1.1 → Step p r q
+  step_of_take (s, (zero, k)) (t, (j, i)) r w e = let is : r ≡ end = sym (exchanged_twice r) ∙ ap exchanged w.0 in let none : items_in (r ∷ []) ≡ 0 = ap (λ (a : Answered A E). items_in (a ∷ [])) is in let same : i ≡ k = omega (arith, e, none) in (is, w.1, rw (w.2, same) refl)
+  step_of_take (s, (suc n, k)) q r w e = (subst (λ (a : Answered A E). steps s a q.0) (exchanged_twice r) w.0, w.1, e)
+
+  first_and_rest : (r : Answered A E) (rest : List (Answered A E)) → items_in (r ∷ rest) ≡ items_in (r ∷ []) + items_in rest
+  first_and_rest (Ok (Some x)) rest = omega arith
+  first_and_rest (Ok None) rest = omega arith
+  first_and_rest (Err e) rest = omega arith
+
+  take_of_run : (trace : List (Answered A E)) (p q : State) → Run Step p trace q → Run TakeStep (p.0, p.1.0) (map exchanged trace) (q.0, q.1.0) × (q.1.1 + items_in trace ≡ p.1.1)
+  take_of_run [] p q e = (ap (λ (p : State). (p.0, p.1.0)) e, let same : p.1.1 ≡ q.1.1 = ap (λ (p : State). p.1.1) e in omega (arith, same))
+  take_of_run (r ∷ rest) p q h = let d = take_of_step p h.0 r h.1 in let k = take_of_run rest h.0 q h.2 in (((h.0.0, h.0.1.0), d.0, k.0), omega (arith, first_and_rest r rest, d.1, k.1))
+
+  run_of_take : (trace : List (Answered A E)) (p q : State) → Run TakeStep (p.0, p.1.0) (map exchanged trace) (q.0, q.1.0) → q.1.1 + items_in trace ≡ p.1.1 → Run Step p trace q
+  run_of_take [] (s, (n, k)) (t, (j, i)) e c = let same : i ≡ k = omega (arith, c) in rw (ap (λ (p : S × ℕ). p.0) e, ap (λ (p : S × ℕ). p.1) e, same) refl
+  run_of_take (r ∷ rest) p q h c = let u : State = (h.0.0, (h.0.1, q.1.1 + items_in rest)) in (u, step_of_take p u r h.1 (omega (arith, c, first_and_rest r rest)), run_of_take rest u q h.2 refl)
+
+  pub stop_after_law : (p : State) (trace : List (Answered A E)) (q : State) → Run Step p trace q ↔ StopAfterTrace steps p trace q
+  stop_after_law p trace q = let law = take_law (steps_exchanged steps) (p.0, p.1.0) (map exchanged trace) (q.0, q.1.0) in
+      ((λ h. let k = take_of_run trace p q h in (law.0 k.0, k.1)), (λ d. run_of_take trace p q (law.1 d.0) d.1))
+
+  -- ---- what it lists
+
+  abbrev GivesStopped : S → ℕ → ℕ → List (Result A E) → Type 0
+  GivesStopped s n k l = AlwaysGives Step (s, (n, k)) l
+
+  gives_stopped : (l : List (Result A E)) (s : S) (n k : ℕ) → AlwaysGives steps s l → GivesStopped s n k (stopped_after n l)
+  unfolding stopped_after
+  gives_stopped [] s zero k a = λ r t w. w.0
+  gives_stopped (y ∷ l) s zero k a = λ r t w. w.0
+  gives_stopped [] s (suc n) k a = λ r t w. a r t.0 w.0
+  gives_stopped (Ok x ∷ l) s (suc n) k a = λ r t w. let d = a r t.0 w.0 in (d.0, subst (λ (j : ℕ). GivesStopped t.0 j t.1.1 (stopped_after (suc n) l)) (let none : items_in (exchanged r ∷ []) ≡ 0 = ap (λ (q : Answered A E). items_in (exchanged q ∷ [])) d.0 in omega (arith, w.1, none)) (gives_stopped l t.0 (suc n) t.1.1 d.1))
+  gives_stopped (Err e ∷ l) s (suc n) k a = λ r t w. let d = a r t.0 w.0 in (d.0, subst (λ (j : ℕ). GivesStopped t.0 j t.1.1 (stopped_after n l)) (let one : items_in (exchanged r ∷ []) ≡ 1 = ap (λ (q : Answered A E). items_in (exchanged q ∷ [])) d.0 in omega (arith, w.1, one)) (gives_stopped l t.0 n t.1.1 d.1))
+
+  -- ---- its hint
+
+  one_of_item : (p q : State) (x : A) → 1 ≤ p.1.0 → Step p (item x) q → (y : A) × steps p.0 (item y) q.0 × (1 ≤ q.1.0)
+  one_of_item (s, (zero, k)) q x some w = absurd (omega (arith, some))
+  one_of_item (s, (suc n, k)) q x some w = (x, w.0, omega (arith, w.1))
+
+  one_of_end : (p q : State) → 1 ≤ p.1.0 → Step p end q → steps p.0 end q.0
+  one_of_end (s, (zero, k)) q some w = absurd (omega (arith, some))
+  one_of_end (s, (suc n, k)) q some w = w.0
+
+  pub as_sound_stop_after : (p : State) (h : ℕ × Option ℕ) → 1 ≤ p.1.0 → AsSound Step p h steps p.0 h
+  as_sound_stop_after p h some = as_sound_same Step steps (λ p. p.0) (λ p. 1 ≤ p.1.0) (record { item_of_item = one_of_item; end_of_end = one_of_end }) p some h
+
+  no_item_once_stopped : (p q : State) (x : A) → p.1.0 ≡ 0 → Step p (item x) q → ⊥
+  no_item_once_stopped (s, (zero, k)) q x none w = let d = w.0 in cc
+  no_item_once_stopped (s, (suc n, k)) q x none w = omega (arith, none)
+
+module _ {S A E : Type 0} (m : Contract S A E) where
+  pub hint_of_source : (p : S × (ℕ × ℕ)) (h : ℕ × Option ℕ) → 1 ≤ p.1.0 → stop_after_hints m p h → m.hints p.0 h
+  hint_of_source (s, (zero, k)) h some is = absurd (omega (arith, some))
+  hint_of_source (s, (suc n, k)) h some is = is
+
+  hint_once_stopped : (p : S × (ℕ × ℕ)) (h : ℕ × Option ℕ) → p.1.0 ≡ 0 → stop_after_hints m p h → h ≡ (0, Some 0)
+  hint_once_stopped (s, (zero, k)) h none is = is
+  hint_once_stopped (s, (suc n, k)) h none is = absurd (omega (arith, none))
+
+  pub brackets_once_stopped : (p : S × (ℕ × ℕ)) (h : ℕ × Option ℕ) → p.1.0 ≡ 0 → stop_after_hints m p h → Brackets (stop_after_step m.steps) p h
+  brackets_once_stopped p h none is = subst (λ (j : ℕ × Option ℕ). Brackets (stop_after_step m.steps) p j) (sym (hint_once_stopped p h none is)) (brackets_no_item (stop_after_step m.steps) p (λ x q w. no_item_once_stopped m.steps p q x none w))
+
+pub lists_stopped : {S A E : Type 0} {it : S} (m : Contract S A E) (s : StopAfter S) (n k : ℕ) (l : List (Result A E)) → stop_after_parts s ≡ (it, (n, k)) → Lists m.steps it l → Lists (seen_as stop_after_parts (stop_after_contract m)).steps s (stopped_after n l)
+lists_stopped {it = it} m s n k l parts i = lists_seen stop_after_parts (stop_after_step m.steps) s parts refl (gives_stopped m.steps l it n k i.runs)

@@ -1,0 +1,74 @@
+-- What `TupleWindows` lists, where a clone equals its original and never fails.
+use Rattle.std.specs.Prelude.{◌≡◌, Option, Some, None, Result, Ok, Err, List, [], ◌∷◌}
+use Rattle.std.proofs.Common.{refl, sym, ap, subst}
+use Rattle.fallible_iterator.specs.Traces.{Answered}
+use Rattle.fallible_iterator.specs.Contract.{Contract, seen_as}
+use Rattle.fallible_iterator.specs.Lists.{Lists}
+use Rattle.fallible_iterator.specs.Passing.{passing_step}
+use Rattle.fallible_iterator.specs.Laws.Passing.{leaves_out, passes_of_pass_trace, pass_trace_of_passes, pass_trace_end, pass_trace_failure}
+use Rattle.fallible_iterator.proofs.Lemmas.Lists.Passing.{passed, gives_all, lists_seen}
+use Rattle.fallible_itertools_adapters.specs.Holding.{as_answered_item}
+use Rattle.fallible_itertools_adapters.specs.TupleWindows.{window_at, windows_asks, tuple_windows_contract, tuple_windows_parts, windowed, windows_from}
+use Rattle.std.specs.declared.alloc.AllocError.{AllocError}
+use Rattle.fallible_iterator.specs.Outcome.{Outcome}
+use Rattle.fallible_iterator.specs.Outcome.TheVariants.{Kept, LeftOut, Failure, End}
+use Rattle.fallible_itertools_adapters.specs.declared.tuple_windows.TupleWindows.{TupleWindows}
+
+abbrev next_item : {A : Type 0} → Option A → A → Option A
+next_item a x = Some x
+
+module _ {A E : Type 0} where
+  abbrev window_outcome : Option A → A → Outcome (A × A) E
+  window_outcome None x = LeftOut
+  window_outcome (Some y) x = Kept (y, x)
+
+  abbrev windows_listed : Option A → List (Result A E) → List (Result (A × A) E)
+  windows_listed a l = passed as_answered_item window_outcome next_item a l
+
+  windows_listed_is_windows_from : (y : A) (l : List (Result A E)) → windows_listed (Some y) l ≡ windows_from y l
+  unfolding windows_from
+  windows_listed_is_windows_from y [] = refl
+  windows_listed_is_windows_from y (Ok x ∷ l) = ap (λ k. Ok (y, x) ∷ k) (windows_listed_is_windows_from x l)
+  windows_listed_is_windows_from y (Err e ∷ l) = ap (λ k. Err e ∷ k) (windows_listed_is_windows_from y l)
+
+  windows_listed_is_windowed : (l : List (Result A E)) → windows_listed None l ≡ windowed l
+  unfolding windowed
+  windows_listed_is_windowed [] = refl
+  windows_listed_is_windowed (Ok x ∷ l) = windows_listed_is_windows_from x l
+  windows_listed_is_windowed (Err e ∷ l) = ap (λ k. Err e ∷ k) (windows_listed_is_windowed l)
+
+module _ {A E : Type 0} (is_clone : A → A → Type 0) (is_infallible : A → Type 0) (from : AllocError → E → Type 0) (equal : (x y : A) → is_clone x y → y ≡ x) (infallible : (x : A) → is_infallible x) where
+  window_at_gives_held_and_outcome : (y x : A) (o : Outcome (A × A) E) (q : Option A) → window_at is_clone is_infallible from y x o q → (q ≡ Some x) × (o ≡ Kept (y, x))
+  window_at_gives_held_and_outcome y x (Kept both) q w = (w.2, ap {B = Outcome (A × A) E} Kept (pair_of_items both w.0 (equal x both.1 w.1)))
+    where
+      pair_of_items : (p : A × A) {a b : A} → p.0 ≡ a → p.1 ≡ b → ◌≡◌ {A = A × A} p (a, b)
+      pair_of_items (c, d) is same = rw (is, same) refl
+  window_at_gives_held_and_outcome y x LeftOut q w = absurd w
+  window_at_gives_held_and_outcome y x (Failure e) q w = absurd (w.0.0 (infallible x))
+  window_at_gives_held_and_outcome y x End q w = absurd w
+
+  asks_is_function : (a : Option A) (x : A) (o : Outcome (A × A) E) (q : Option A) → windows_asks is_clone is_infallible from a x o q → (q ≡ next_item a x) × (o ≡ window_outcome a x)
+  asks_is_function None x o q w = (w.1, w.0)
+  asks_is_function (Some y) x o q w = window_at_gives_held_and_outcome y x o q w
+
+  acts_by_next : (p a : Option A) (x : A) (o : Outcome (A × A) E) (q : Option A) → p ≡ a → windows_asks is_clone is_infallible from p x o q → (q ≡ next_item a x) × (o ≡ window_outcome a x)
+  acts_by_next p a x o q at w = asks_is_function a x o q (subst (λ k. windows_asks is_clone is_infallible from k x o q) at w)
+
+  pub lists_windowed : {S : Type 0} {it : S} (m : Contract S A E) (s : TupleWindows S A E) (l : List (Result A E)) → tuple_windows_parts s ≡ (it, None) → Lists m.steps it l → Lists (seen_as tuple_windows_parts (tuple_windows_contract is_clone is_infallible from m)).steps s (windowed l)
+  lists_windowed {it = it} m s l parts i = lists_seen tuple_windows_parts (tuple_windows_contract is_clone is_infallible from m).steps s parts (windows_listed_is_windowed l) (gives_all m.steps (windows_asks is_clone is_infallible from) as_answered_item (λ p a. p ≡ a) window_outcome next_item acts_by_next l it None None refl i.runs)
+
+-- ---- one draw where none is held
+
+module _ {S A E : Type 0} (steps : S → Answered A E → S → Type 0) (is_clone : A → A → Type 0) (is_infallible : A → Type 0) (from : AllocError → E → Type 0) where
+  abbrev StepOfTupleWindows : S × Option A → Answered (A × A) E → S × Option A → Type 0
+  StepOfTupleWindows = passing_step steps (windows_asks is_clone is_infallible from) as_answered_item
+
+  -- the first item, and then a pair
+  pub step_first_before : {s u : S} {held : Option A} {q : S × Option A} (x : A) {r : Answered (A × A) E} → None ≡ held → steps s (Ok (Some x)) u → StepOfTupleWindows (u, Some x) r q → StepOfTupleWindows (s, held) r q
+  step_first_before {s = s} {q = q} x {r = r} none step w = subst (λ (h : Option A). StepOfTupleWindows (s, h) r q) none (pass_trace_of_passes (leaves_out x LeftOut step (refl, refl) refl (passes_of_pass_trace w)))
+
+  pub step_ended_first : {s t : S} {held after : Option A} → None ≡ held → after ≡ None → steps s (Ok None) t → StepOfTupleWindows (s, held) (Ok None) (t, after)
+  step_ended_first {s = s} {t = t} {after = after} none is step = subst (λ (h : Option A). StepOfTupleWindows (s, h) (Ok None) (t, after)) none (subst (λ (h : Option A). StepOfTupleWindows (s, None) (Ok None) (t, h)) (sym is) (pass_trace_end step))
+
+  pub step_failed_first : {s t : S} {held after : Option A} {e : E} → None ≡ held → after ≡ None → steps s (Err e) t → StepOfTupleWindows (s, held) (Err e) (t, after)
+  step_failed_first {s = s} {t = t} {after = after} {e = e} none is step = subst (λ (h : Option A). StepOfTupleWindows (s, h) (Err e) (t, after)) none (subst (λ (h : Option A). StepOfTupleWindows (s, None) (Err e) (t, h)) (sym is) (pass_trace_failure step))

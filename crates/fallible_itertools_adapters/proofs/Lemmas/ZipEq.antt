@@ -1,0 +1,132 @@
+-- What `ZipEq` lists, its whole traces, and that its hints are sound.
+use Rattle.std.specs.Prelude.{ℕ, ◌≡◌, ◌+◌, ◌-◌, ◌≤◌, min, false, IfSome, List, [], ◌∷◌, map, Option, Some, None, Result, Ok, Err}
+use Rattle.std.specs.Fn.{Mut}
+use Rattle.std.proofs.Common.{refl, ap, subst, ◌∙◌, arith}
+use Rattle.fallible_iterator.specs.Contract.{Contract, seen_as}
+use Rattle.fallible_iterator.specs.Cutting.Fuse.{fuse_parts}
+use Rattle.fallible_iterator.specs.Held.{held_count}
+use Rattle.fallible_iterator.specs.Hints.{hint_smaller, smaller_bound}
+use Rattle.fallible_iterator.specs.LawForm.{TracesAre}
+use Rattle.fallible_iterator.specs.Lists.{Acts, Lists, result_answer}
+use Rattle.fallible_iterator.specs.SoundHints.{AsSoundAsBoth}
+use Rattle.fallible_iterator.specs.Sources.FromFn.{call_of_none}
+use Rattle.fallible_iterator.specs.Traces.{Answered, item, failure, end}
+use Rattle.fallible_iterator.specs.Fuse.{Fuse}
+use Rattle.fallible_iterator.proofs.Lemmas.Lists.ForGood.{lists_once, lists_for_good_seen}
+use Rattle.fallible_itertools_adapters.specs.Laws.ZipEq.{is_lawful_rule_pair}
+use Rattle.fallible_itertools_adapters.specs.Sides.{fused_steps, side_hint}
+use Rattle.fallible_itertools_adapters.specs.ZipEq.{AsksWhereAlone, ZipEqTrace, failure_or_end, one_is_alone, pair_answer, pair_or, pair_rule, takes_none, zip_eq_contract, zip_eq_parts, zipped_equal}
+use Rattle.fallible_itertools_adapters.specs.ZipLongest.{longest, zipped_longest}
+use Rattle.fallible_itertools_adapters.specs.declared.zip_eq.ZipEq.{ZipEq}
+use Rattle.fallible_itertools_adapters.specs.declared.zip_longest.EitherOrBoth.{EitherOrBoth}
+use Rattle.fallible_itertools_adapters.proofs.Lemmas.Sides.{first_answer, rest_of, EndsOnce, ListsBy, gives_for_good_of_fresh, gives_for_good_sides, GivesAsMany, TakesAsMany, both_come, both_end, side_hint_above, side_hint_below, SidesStep, traces_are_of_sides}
+use Rattle.fallible_itertools_adapters.proofs.Lemmas.ZipLongest.{lists_by_longest}
+
+module _ {A B E : Type 0} (e : E) where
+  -- the answer that a pair or an item alone becomes
+  abbrev paired : Answered (EitherOrBoth A B) E → Answered (A × B) E
+  paired (Ok (Some z)) = result_answer (pair_or e (Ok z))
+  paired (Ok None) = end
+  paired (Err d) = failure d
+
+  first_paired : (l : List (Result (EitherOrBoth A B) E)) → paired (first_answer l) ≡ first_answer (map (pair_or e) l)
+  first_paired [] = refl
+  first_paired (Ok z ∷ l) = refl
+  first_paired (Err d ∷ l) = refl
+
+  rest_paired : (l : List (Result (EitherOrBoth A B) E)) → map (pair_or e) (rest_of l) ≡ rest_of (map (pair_or e) l)
+  rest_paired [] = refl
+  rest_paired (y ∷ l) = refl
+
+  module _ {F : Type 0} (call : F → Unit {0} → E → F → Type 0) (takes : F → Type 0) (f : F) (acts : Acts call f (λ _. e)) where
+    pair_of_both : (g : F) (x : Option A) (y : Option B) (v : Option E) → AsksWhereAlone call f (one_is_alone x y) v g → (g ≡ f) × (pair_answer x y v ≡ paired (Ok (longest x y)))
+    pair_of_both g (Some x) (Some y) (Some d) m = absurd m
+    pair_of_both g (Some x) (Some y) None m = (m, refl)
+    pair_of_both g (Some x) None (Some d) m = let w = acts tt d g m in (w.0, ap Err w.1)
+    pair_of_both g (Some x) None None m = absurd m
+    pair_of_both g None (Some y) (Some d) m = let w = acts tt d g m in (w.0, ap Err w.1)
+    pair_of_both g None (Some y) None m = absurd m
+    pair_of_both g None None (Some d) m = absurd m
+    pair_of_both g None None None m = (m, refl)
+
+    lists_by_pair : ListsBy (pair_rule {A = A} {B = B} call takes) (λ g. g ≡ f) (λ a b. zipped_equal e a b)
+    unfolding zipped_equal
+    lists_by_pair = let by = lists_by_longest {A = A} {B = B} {E = E} in record {
+      left_fails = λ a b d is. let w = by.left_fails a b d is in (ap paired w.0 ∙ first_paired (zipped_longest a b), ap (map (pair_or e)) w.1 ∙ rest_paired (zipped_longest a b));
+      right_fails = λ a b x d is fails. let w = by.right_fails a b x d is fails in (ap paired w.0 ∙ first_paired (zipped_longest a b), ap (map (pair_or e)) w.1 ∙ rest_paired (zipped_longest a b));
+      both_give = λ a b x y v k g q i j d.
+          let w = by.both_give a b x y tt tt tt tt i j tt in
+          let said = pair_of_both g x y v (subst (λ (h : F). AsksWhereAlone call h (one_is_alone x y) v g) q d) in
+          (said.0, said.1 ∙ ap paired w.1 ∙ first_paired (zipped_longest a b), ap (map (pair_or e)) w.2 ∙ rest_paired (zipped_longest a b));
+    }
+
+-- ---- hints
+
+smaller_above : (a b : Option ℕ) (i j n : ℕ) → n ≤ min i j → IfSome a (λ m. i ≤ m) → IfSome b (λ m. j ≤ m) → IfSome (smaller_bound a b) (λ m. n ≤ m)
+smaller_above (Some x) (Some y) i j n few le also = omega (arith, few, le, also)
+smaller_above (Some x) None i j n few le also = omega (arith, few, le)
+smaller_above None (Some y) i j n few le also = omega (arith, few, also)
+smaller_above None None i j n few le also = tt
+
+module _ {F A B E : Type 0} (call : F → Unit {0} → E → F → Type 0) (takes : F → Type 0) where
+  failure_or_end_is_no_item : (v : Option E) (z : A × B) → failure_or_end v ≡ item z → ⊥
+  failure_or_end_is_no_item (Some e) z is = absurd cc
+  failure_or_end_is_no_item None z is = absurd cc
+
+  takes_as_many_pair : TakesAsMany (pair_rule {A = A} {B = B} call takes) min
+  takes_as_many_pair f g (Some x) (Some y) v z i j d is e k = omega arith
+  takes_as_many_pair f g (Some x) None v z i j d is e k = absurd (failure_or_end_is_no_item v z is)
+  takes_as_many_pair f g None (Some y) v z i j d is e k = absurd (failure_or_end_is_no_item v z is)
+  takes_as_many_pair f g None None v z i j d is e k = absurd (failure_or_end_is_no_item v z is)
+
+  pair_of_each : (x : Option A) (y : Option B) (v : Option E) (z : A × B) (i j : ℕ) → pair_answer x y v ≡ item z → min ((held_count x - 0) + i) ((held_count y - 0) + j) ≤ min i j + 1
+  pair_of_each (Some x) (Some y) v z i j is = omega arith
+  pair_of_each (Some x) None v z i j is = absurd (failure_or_end_is_no_item v z is)
+  pair_of_each None y v z i j is = absurd (failure_or_end_is_no_item v z is)
+
+  end_of_both : (f g : F) (x : Option A) (y : Option B) (v : Option E) → AsksWhereAlone call f (one_is_alone x y) v g → pair_answer x y v ≡ end → (x ≡ None) × (y ≡ None)
+  end_of_both f g (Some x) (Some y) v d is = absurd cc
+  end_of_both f g (Some x) None (Some e) d is = absurd cc
+  end_of_both f g (Some x) None None d is = absurd d
+  end_of_both f g None (Some y) (Some e) d is = absurd cc
+  end_of_both f g None (Some y) None d is = absurd d
+  end_of_both f g None None v d is = (refl, refl)
+
+  gives_as_many_pair : GivesAsMany (pair_rule {A = A} {B = B} call takes) min
+  gives_as_many_pair = record { item_given = λ f g x y v z i j d is. pair_of_each x y v z i j is; end_given = λ f g x y v d is. end_of_both f g x y v d is; nothing = refl }
+
+module _ {S U F A B E : Type 0} (steps : S → Answered A E → S → Type 0) (others : U → Answered B E → U → Type 0) (call : F → Unit {0} → E → F → Type 0) (takes : F → Type 0) where
+  abbrev PairSteps : (S × Option A) × (U × Option B) × F → Answered (A × B) E → (S × Option A) × (U × Option B) × F → Type 0
+  PairSteps = SidesStep steps others (pair_rule call takes)
+
+  pub as_sound_as_both_pair : EndsOnce steps → EndsOnce others → (p : (S × Option A) × (U × Option B) × F) (h g k : ℕ × Option ℕ) → h ≡ hint_smaller (side_hint p.0.1 g) (side_hint p.1.1 k) → AsSoundAsBoth PairSteps p h steps p.0.0 g others p.1.0 k
+  as_sound_as_both_pair once once_right p h g k is = rw is (record {
+    above = λ i j zs q ran.
+        let b = both_come steps others once once_right (pair_rule call takes) min (takes_as_many_pair call takes) (is_lawful_rule_pair call takes) zs p q ran in
+        let high = side_hint_above p.0.1 g b.of_left _ b.left.many (i b.left.came b.left.left b.left.ran) in
+        let also = side_hint_above p.1.1 k b.of_right _ b.right.many (j b.right.came b.right.left b.right.ran) in
+        smaller_above (side_hint p.0.1 g).1 (side_hint p.1.1 k).1 b.of_left b.of_right _ b.few high also;
+    below = λ i j zs q r ran w.
+        let b = both_end steps others (pair_rule call takes) min (gives_as_many_pair call takes) (is_lawful_rule_pair call takes) zs p q r ran w in
+        let low = side_hint_below p.0.1 g b.of_left _ (i b.left.came b.left.left b.left.last b.left.ran b.left.ended) b.left.few in
+        let also = side_hint_below p.1.1 k b.of_right _ (j b.right.came b.right.left b.right.last b.right.ran b.right.ended) b.right.few in
+        omega (arith, low, also, b.few);
+  })
+
+-- ---- what it lists
+
+module _ {S U F A B E : Type 0} (left : Contract S A E) (right : Contract U B E) (g : Mut F (Unit {0}) E) (c : ZipEq S U F A E) {p : Fuse S} {q : Fuse U} (s : S) (u : U) (f : F) (e : E) (a : List (Result A E)) (b : List (Result B E)) where
+  pub lists_zipped_equal : zip_eq_parts {B = B} c ≡ ((p, None), (q, None), f) → fuse_parts p ≡ (s, false) → fuse_parts q ≡ (u, false) → Acts (call_of_none g) f (λ _. e) → Lists left.steps s a → Lists right.steps u b → Lists (seen_as zip_eq_parts (zip_eq_contract left right g)).steps c (zipped_equal e a b)
+  lists_zipped_equal parts fresh also acts i k = lists_once _ (lists_for_good_seen zip_eq_parts (zip_eq_contract left right g).steps c parts refl (gives_for_good_sides (fused_steps left.steps) (fused_steps right.steps) (pair_rule (call_of_none g) (takes_none g)) (λ k. k ≡ f) (λ a b. zipped_equal e a b) (lists_by_pair e (call_of_none g) (takes_none g) f acts) (is_lawful_rule_pair (call_of_none g) (takes_none g)) ((p, None), (q, None), f) a b (gives_for_good_of_fresh left p s a fresh i) (gives_for_good_of_fresh right q u b also k) refl))
+
+-- ---- whole traces
+
+module _ {S U F A B E : Type 0} (steps : S → Answered A E → S → Type 0) (others : U → Answered B E → U → Type 0) (g : Mut F (Unit {0}) E) where
+  abbrev of_parts : (Fuse S × Option A) × (Fuse U × Option B) × F → ZipEq S U F A E
+  of_parts p = record { left = record { it = p.0.0; held = p.0.1 }; right = p.1.0; f = p.2 }
+
+  zip_eq_parts_of : (p : (Fuse S × Option A) × (Fuse U × Option B) × F) → p.1.1 ≡ None → zip_eq_parts (of_parts p) ≡ p
+  zip_eq_parts_of ((s, h), (u, k), f) e = rw e refl
+
+  pub zip_eq_law : TracesAre (zip_eq_parts {E = E}) (λ s r t. PairSteps (fused_steps steps) (fused_steps others) (call_of_none g) (takes_none g) (zip_eq_parts s) r (zip_eq_parts t)) (ZipEqTrace steps others g)
+  zip_eq_law = traces_are_of_sides (fused_steps steps) (fused_steps others) (pair_rule (call_of_none g) (takes_none g)) (λ x y v. refl) (zip_eq_parts {E = E}) of_parts (λ s. refl) (λ s. refl) zip_eq_parts_of

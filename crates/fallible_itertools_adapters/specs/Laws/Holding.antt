@@ -1,0 +1,156 @@
+-- The contracts of the adapters that hold are lawful where the source's is.
+use Rattle.std.specs.Prelude.{◌≡◌, ℕ, Option, Some, None, Ok, Err, List, [], ◌∷◌}
+use Rattle.std.proofs.Common.{refl, ap, arith}
+use Rattle.fallible_iterator.specs.Traces.{Answered, item, failure}
+use Rattle.fallible_iterator.specs.Contract.{Contract, KeptByDraw, Lawful}
+use Rattle.fallible_iterator.specs.Closures.{Reaches, IsCallable}
+use Rattle.fallible_iterator.specs.Laws.Closures.{reaches_reflexive, reaches_from, is_callable_after}
+use Rattle.fallible_iterator.specs.Laws.Passing.{Passes, done, end_passes, failure_passes, keeps, refuses, closes, leaves_out, passes_of_pass_trace}
+use Rattle.fallible_itertools_adapters.specs.Staging.{Made, DrawsUpTo, yields, passes_over, IsStage, IsStop, MayMeet, Weighs, due_total, items_of, stays_of, stage_contract, stage_meets, stage_step, stop_answer}
+use Rattle.fallible_itertools_adapters.specs.Laws.Staging.{kept_where_reached, lawful_stage, parts_made}
+use Rattle.fallible_itertools_adapters.specs.Holding.{asks_item, as_answered_item, BeforeStop, AnswersAfter, StopMade, MadeOfStop, MadeOfItem, HeldAfter, Holds, OrStop, due_answer, made_answers, stop_comes, holding_meets, holding_step, filling_contract, holding_contract}
+use Rattle.fallible_iterator.specs.Outcome.{Outcome}
+use Rattle.fallible_iterator.specs.Outcome.TheVariants.{Kept, LeftOut, Failure, End}
+
+-- ---- what is made, as a list
+
+-- what is due is known by its answer
+pub due_is_known_by_answer : (B : Type 0) {E : Type 0} (due later : Option (Option E)) → due_answer {B = B} due ≡ due_answer later → due ≡ later
+due_is_known_by_answer B None None e = refl
+due_is_known_by_answer B None (Some stop) e = absurd cc
+due_is_known_by_answer B (Some stop) None e = absurd cc
+due_is_known_by_answer B (Some None) (Some None) e = refl
+due_is_known_by_answer B (Some None) (Some (Some d)) e = absurd cc
+due_is_known_by_answer B (Some (Some c)) (Some None) e = absurd cc
+due_is_known_by_answer B (Some (Some c)) (Some (Some d)) e = let same : c ≡ d = cc in ap (λ x. Some (Some x)) same
+
+-- a stop is no item, whichever the items are
+stop_counts : (X B : Type 0) {E : Type 0} (stop : Option E) → (due_total {B = B} stop_comes items_of (Some stop) ≡ 0) × (due_total {B = B} stop_comes stays_of (Some stop) ≡ stays_of (stop_answer {B = X} stop)) × IsStop (stop_answer {B = B} stop)
+stop_counts X B None = (refl, refl, tt)
+stop_counts X B (Some e) = (refl, refl, tt)
+
+module _ {B E : Type 0} where
+  -- and what is made by its answers
+  pub made_is_known_by_answers : (m : Made B (Option E) E) (r : Answered B E) (due : Option (Option E)) → made_answers m ≡ r ∷ due_answer due → m ≡ Some (r, due)
+  made_is_known_by_answers None r due is = absurd cc
+  made_is_known_by_answers (Some (a, later)) r due is = let same : a ≡ r = cc in let rest : due_answer {B = B} later ≡ due_answer due = cc in parts_made same (due_is_known_by_answer B later due rest)
+
+  pub nothing_made : (m : Made B (Option E) E) → made_answers m ≡ [] → m ≡ None
+  nothing_made None is = refl
+  nothing_made (Some (a, later)) is = absurd cc
+
+  weighs_stop : (X : Type 0) (before after : ℕ) (stop : Option E) (o : Outcome B E) (made : Made B (Option E) E) → HeldAfter {X = X} before None o after → StopMade stop o (made_answers made) → Weighs stop_comes {X = X} {D = E} 1 before (stop_answer stop) made after
+  weighs_stop X before after stop (Kept y) made h m = rw (made_is_known_by_answers made (item y) (Some stop) m) (let k = stop_counts X B stop in (omega (arith, h, k.0), omega (arith, h, k.1), λ s. k.2))
+  weighs_stop X before after stop (Failure d) made h m = rw (made_is_known_by_answers made (failure d) (Some stop) m) (let k = stop_counts X B stop in (omega (arith, h, k.0), omega (arith, h, k.1), λ s. k.2))
+  weighs_stop X before after stop End made h m = rw (made_is_known_by_answers made (stop_answer stop) None m) (let k = stop_counts X B stop in let none : items_of (stop_answer {B = B} stop) ≡ 0 = k.0 in let same : stays_of (stop_answer {B = B} stop) ≡ stays_of (stop_answer {B = X} stop) = k.1 in (omega (arith, h, none), omega (arith, h, same), λ s. k.2))
+  weighs_stop X before after stop LeftOut made h m = absurd m
+
+module _ {P X B E : Type 0} (asks : P → Option X → Outcome B E → P → Type 0) where
+  module _ (held : P → ℕ) (weighs : Holds asks held) where
+    weighs_item : (p h q : P) (x : X) (o : Outcome B E) (made : Made B (Option E) E) → HeldAfter (held p) (Some x) o (held h) → MadeOfItem asks o h (made_answers made) q → Weighs stop_comes {D = E} 1 (held p) (Ok (Some x)) made (held q)
+    weighs_item p h q x (Kept y) made w m = rw (m.1, made_is_known_by_answers made (item y) None m.0) (omega (arith, w), omega (arith, w), λ s. absurd s)
+    weighs_item p h q x LeftOut made w m = rw (m.1, nothing_made made m.0) (omega (arith, w), omega (arith, w), λ s. absurd s)
+    weighs_item p h q x (Failure e) made w m = let k = weighs_stop X (held h) (held q) (Some e) m.0 made (weighs h None m.0 q m.1) m.2 in (omega (arith, k.0, w), omega (arith, k.1, w), λ s. absurd s)
+    weighs_item p h q x End made w m = absurd w
+
+    pub is_stage_holding : IsStage stop_comes (holding_meets asks) 1 held
+    is_stage_holding p (Ok (Some x)) made q w = weighs_item p w.1 q x w.0 made (weighs p (Some x) w.0 w.1 w.2) w.3
+    is_stage_holding p (Ok None) made q w = weighs_stop X (held p) (held q) None w.0 made (weighs p None w.0 q w.1) w.2
+    is_stage_holding p (Err e) made q w = weighs_stop X (held p) (held q) (Some e) w.0 made (weighs p None w.0 q w.1) w.2
+
+  -- the same of a stage that is called on items and on stops
+  abbrev pub stage_asks : P → Answered X E → Made B (Option E) E → P → Type 0
+  stage_asks = stage_meets (λ p x made q. holding_meets asks p (Ok (Some x)) made q) (λ p stop made q. holding_meets asks p (stop_answer stop) made q)
+
+  pub meets_of_stage : (p : P) (a : Answered X E) (made : Made B (Option E) E) (q : P) → stage_asks p a made q → holding_meets asks p a made q
+  meets_of_stage p (Ok (Some x)) made q w = w
+  meets_of_stage p (Ok None) made q w = w
+  meets_of_stage p (Err e) made q w = w
+
+  pub is_stage_stops : (held : P → ℕ) → Holds asks held → IsStage stop_comes stage_asks 1 held
+  is_stage_stops held weighs p a made q w = is_stage_holding held weighs p a made q (meets_of_stage p a made q w)
+
+  -- ---- one answer
+
+  made_at_stop : (h q : P) (stop : Option E) (r : Answered B E) (due : Option (Option E)) (o : Outcome B E) → asks h None o q → BeforeStop stop o r due → MadeOfStop asks stop h (made_answers (Some (r, due))) q
+  made_at_stop h q stop r due (Kept y) asked is = (Kept y, asked, rw (is.0, is.1) refl)
+  made_at_stop h q stop r due (Failure e) asked is = (Failure e, asked, rw (is.0, is.1) refl)
+  made_at_stop h q stop r due End asked is = (End, asked, rw (is.0, is.1) refl)
+  made_at_stop h q stop r due LeftOut asked is = absurd is
+
+  module _ {S : Type 0} (steps : S → Answered X E → S → Type 0) where
+    draws_of_passes : (s t : S) (p h : P) (z r : Answered B E) (q : P × Option (Option E)) → Passes steps (asks_item asks) as_answered_item s p (z ∷ []) t h → AnswersAfter asks h z r q → DrawsUpTo stop_comes (holding_meets asks) steps s p r t q
+    draws_of_passes s t p h _ r (g, due) (end_passes step done) w = yields (Ok None) step (made_at_stop h g None r due w.0 w.1 w.2)
+    draws_of_passes s t p h _ r (g, due) (failure_passes e step done) w = yields (Err e) step (made_at_stop h g (Some e) r due w.0 w.1 w.2)
+    draws_of_passes s t p h _ r q (keeps x o y step called is done) w = rw (w.0, w.1) (yields {p = p} {q = h} {r = Ok (Some y)} {due = None} (Ok (Some x)) step (Kept y, h, rw is at called, (refl, refl)))
+    draws_of_passes s t p h _ r (g, due) (refuses x o e step called is done) w = yields (Ok (Some x)) step (Failure e, h, rw is at called, made_at_stop h g (Some e) r due w.0 w.1 w.2)
+    draws_of_passes s t p h _ r (g, due) (closes x o step called is done) w = yields (Ok (Some x)) step (End, h, rw is at called, made_at_stop h g None r due w.0 w.1 w.2)
+    draws_of_passes s t p h z r q (leaves_out {u = u} {h = g} x o step called is rest) w = passes_over (Ok (Some x)) step (LeftOut, g, rw is at called, (refl, refl)) (draws_of_passes u t g h z r q rest w)
+
+    pub stage_of_holding : (p : S × (P × Option (Option E))) (r : Answered B E) (q : S × (P × Option (Option E))) → holding_step asks steps p r q → stage_step stop_comes (holding_meets asks) steps p r q
+    stage_of_holding (s, (p, Some stop)) r (t, q) w = w
+    stage_of_holding (s, (p, None)) r (t, q) w = draws_of_passes s t p w.0 w.1 r q (passes_of_pass_trace w.2) w.3
+
+  -- ---- what the adapter may be called on
+
+  -- what each call keeps is kept by what an answer makes
+  module _ (T : P → Type 0) (Q : Answered X E → Type 0) (keeps_asked : (p q : P) (asked : Option X) (o : Outcome B E) → OrStop (λ x. Q (Ok (Some x))) asked → asks p asked o q → T p → T q) where
+    after_item : (h q : P) (o : Outcome B E) (made : List (Answered B E)) → MadeOfItem asks o h made q → T h → T q
+    after_item h q (Kept y) made m t = rw m.1 t
+    after_item h q LeftOut made m t = rw m.1 t
+    after_item h q (Failure e) made m t = keeps_asked h q None m.0 tt m.1 t
+    after_item h q End made m t = keeps_asked h q None m.0 tt m.1 t
+
+    pub after_met : (p : P) (a : Answered X E) (made : Made B (Option E) E) (q : P) → Q a → T p → holding_meets asks p a made q → T q
+    after_met p (Ok (Some x)) made q given t w = after_item w.1 q w.0 (made_answers made) w.3 (keeps_asked p w.1 (Some x) w.0 given w.2 t)
+    after_met p (Ok None) made q given t w = keeps_asked p q None w.0 tt w.1 t
+    after_met p (Err e) made q given t w = keeps_asked p q None w.0 tt w.1 t
+
+  or_stop_weaker : {Q R : X → Type 0} → ((x : X) → R x → Q x) → (asked : Option X) → OrStop R asked → OrStop Q asked
+  or_stop_weaker weak (Some x) r = weak x r
+  or_stop_weaker weak None r = tt
+
+  abbrev CanAsk : (P → Option X → Type 0) → (Answered X E → Type 0) → P → Type 0
+  CanAsk pre Q h = IsCallable asks pre (OrStop (λ x. Q (Ok (Some x)))) h
+
+  can_ask_stays : (pre : P → Option X → Type 0) (Q R : Answered X E → Type 0) (p q : P) → ((a : Answered X E) → R a → Q a) → Reaches (holding_meets asks) Q p q → CanAsk pre Q p → CanAsk pre R q
+  can_ask_stays pre Q R p q weak reached c = is_callable_after (or_stop_weaker (λ x. weak (Ok (Some x)))) reaches_reflexive (kept_where_reached (CanAsk pre Q) (after_met (CanAsk pre Q) Q (λ p q asked o given called c. is_callable_after (λ x k. k) (reaches_from asked o given called reaches_reflexive) c)) reached c)
+
+-- ---- the contracts
+
+-- `can` says where the adapter may be called on each answer that may come.
+module _ {S P X B E : Type 0} {m : Contract S X E} (asks : P → Option X → Outcome B E → P → Type 0) (pre : P → Option X → Type 0) (held : P → ℕ) (hints : S × (P × Option (Option E)) → ℕ × Option ℕ → Type 0) (weighs : Holds asks held) (can : (Answered X E → Type 0) → P → Type 0) (stays : (Q R : Answered X E → Type 0) (p q : P) → ((a : Answered X E) → R a → Q a) → Reaches (holding_meets asks) Q p q → can Q p → can R q) (l : Lawful m) where
+  abbrev AsStage : Contract (S × (P × Option (Option E))) B E
+  AsStage = stage_contract m stop_comes (holding_meets asks) can 1 held hints
+
+  abbrev Filling : Contract (S × (P × Option (Option E))) B E
+  Filling = record (filling_contract m asks pre held hints) { can_next = λ p. m.can_next p.0 × can (MayMeet m p.0) p.1.0 }
+
+  kept_by_draw_filling : (p q : S × (P × Option (Option E))) (r : Answered B E) → KeptByDraw AsStage p r q → KeptByDraw Filling p r q
+  kept_by_draw_filling p q r k = record { can_next = k.can_next; is_finite = k.is_finite; answer = k.answer; may_give = k.may_give; may_fail = k.may_fail; lenders = k.lenders }
+
+  pub lawful_filling_where : Lawful Filling
+  lawful_filling_where = let stage = lawful_stage l stop_comes (holding_meets asks) can 1 held hints (is_stage_holding asks held weighs) stays in record {
+    kept_by_draw = λ p r q c step. kept_by_draw_filling p q r (stage.kept_by_draw p r q c (stage_of_holding asks m.steps p r q step));
+    bounded = stage.bounded;
+  }
+
+  -- a bound of the source, required besides, stays
+  abbrev Bounded : Contract (S × (P × Option (Option E))) B E
+  Bounded = record (holding_contract m asks pre held hints) { can_next = λ p. m.is_finite p.0 × m.can_next p.0 × can (MayMeet m p.0) p.1.0 }
+
+  kept_by_draw_bounded : (p q : S × (P × Option (Option E))) (r : Answered B E) → m.is_finite p.0 → KeptByDraw Filling p r q → KeptByDraw Bounded p r q
+  kept_by_draw_bounded p q r f k = record { can_next = (k.is_finite f, k.can_next.0, k.can_next.1); is_finite = k.is_finite; answer = k.answer; may_give = k.may_give; may_fail = k.may_fail; lenders = k.lenders }
+
+  pub lawful_holding_where : Lawful Bounded
+  lawful_holding_where = record {
+    kept_by_draw = λ p r q c step. kept_by_draw_bounded p q r c.0 (lawful_filling_where.kept_by_draw p r q (c.1, c.2) step);
+    bounded = lawful_filling_where.bounded;
+  }
+
+module _ {S P X B E : Type 0} {m : Contract S X E} (asks : P → Option X → Outcome B E → P → Type 0) (pre : P → Option X → Type 0) (held : P → ℕ) (hints : S × (P × Option (Option E)) → ℕ × Option ℕ → Type 0) (weighs : Holds asks held) (l : Lawful m) where
+  pub lawful_filling : Lawful (filling_contract m asks pre held hints)
+  lawful_filling = lawful_filling_where asks pre held hints weighs (CanAsk asks pre) (can_ask_stays asks pre) l
+
+  pub lawful_holding : Lawful (holding_contract m asks pre held hints)
+  lawful_holding = lawful_holding_where asks pre held hints weighs (CanAsk asks pre) (can_ask_stays asks pre) l

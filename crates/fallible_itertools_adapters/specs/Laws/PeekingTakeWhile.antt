@@ -1,0 +1,179 @@
+-- What looks ahead, and that the contract of `PeekingTakeWhile` is lawful where the source's is.
+use Rattle.std.specs.Prelude.{◌≡◌, [], ◌∷◌, Option, Result, Some, None, Ok, Err, Bool, true, false}
+use Rattle.std.specs.List.{filter_map}
+use Rattle.std.specs.Fn.{Mut}
+use Rattle.std.specs.Borrow.{Bor, MutBor}
+use Rattle.std.proofs.Common.{refl, sym, ap, ap₂, subst, ◌∙◌, arith, inl, inr}
+use Rattle.fallible_iterator.specs.Traces.{Answered, item, failure, end}
+use Rattle.fallible_iterator.specs.Borrowed.{borrowed}
+use Rattle.fallible_iterator.specs.Contract.{Contract, KeptByDraw, Lawful, OnAnswer, lender_and, seen_as}
+use Rattle.fallible_iterator.specs.Closures.{Calls, IsCallable, Reaches, call_by_reference, takes_by_reference}
+use Rattle.fallible_iterator.specs.Passing.{Place, asked, failure_at, end_at, call_of, passing_contract}
+use Rattle.fallible_iterator.specs.Hints.{upper_alone}
+use Rattle.fallible_iterator.specs.Laws.Closures.{is_callable_after, may_answer_after, reaches_from, reaches_reflexive}
+use Rattle.fallible_iterator.specs.Laws.Passing.{lawful_passing, pass_trace_item, pass_trace_refusal, pass_trace_end, pass_trace_failure}
+use Rattle.fallible_iterator.specs.Laws.Peeking.Peekable.{lawful_peekable}
+use Rattle.fallible_iterator.specs.Cutting.TakeWhile.{taken_answer, take_while_outcome}
+use Rattle.fallible_iterator.specs.Peeking.Peekable.{Peeks, peekable_contract, peekable_parts, peekable_step}
+use Rattle.fallible_itertools_adapters.specs.PeekingTakeWhile.{DrawsAtPlace, LooksAhead, borrowed_looks, peekable_looks, peeking_contract}
+use Rattle.fallible_iterator.specs.Peekable.{Peekable}
+
+-- ---- a `Peekable` looks ahead
+
+module _ {S X E : Type 0} (steps : S → Answered X E → S → Type 0) where
+  abbrev HeldState : Type 0
+  HeldState = S × Option (Option X)
+
+  -- what was looked at is held, and is what a draw returns
+  pub looked_at_is_next_answer : (p q : HeldState) (o : Option X) → Peeks steps p (Ok o) q → peekable_step steps p (Ok o) (q.0, None) × (q.1 ≡ Some o)
+  looked_at_is_next_answer (s, Some h) q o w = let same : o ≡ h = (let e = w.0 in cc) in ((w.0, w.1, refl), w.2 ∙ ap (λ z. Some z) (sym same))
+  looked_at_is_next_answer (s, None) q o w = ((w.0, refl), w.1)
+
+  none_held_after_draw : (p q : HeldState) (r : Answered X E) → peekable_step steps p r q → q.1 ≡ None
+  none_held_after_draw (s, Some o) q r step = step.2
+  none_held_after_draw (s, None) q r step = step.1
+
+  -- a draw of what is held
+  pub held_step : (q u : HeldState) (o : Option X) (r : Answered X E) → q.1 ≡ Some o → peekable_step steps q r u → (r ≡ Ok o) × (u ≡ (q.0, None))
+  held_step (s, Some h) u o r is w = let same : h ≡ o = cc in (w.0 ∙ ap (λ z. Ok z) same, rw (← w.1, ← w.2) refl)
+  held_step (s, None) u o r is w = absurd cc
+
+  -- a look at what is held
+  held_item_is_looked_at : (q u : HeldState) (o : Option X) (x : X) → q.1 ≡ Some o → Peeks steps q (item x) u → (o ≡ Some x) × (u ≡ q)
+  held_item_is_looked_at (s, Some h) u o x is w = let same : h ≡ o = cc in let at : h ≡ Some x = (let e = w.0 in cc) in (sym same ∙ at, rw (← w.1, ← w.2) refl)
+  held_item_is_looked_at (s, None) u o x is w = absurd cc
+
+  -- an item that a draw yields, held
+  pub peeks_looks_first : (p u : HeldState) (x : X) → peekable_step steps p (item x) u → Peeks steps p (item x) (u.0, Some (Some x))
+  peeks_looks_first (s, Some h) u x w = let same : Some x ≡ h = (let e = w.0 in cc) in (w.0, w.1, ap (λ z. Some z) same)
+  peeks_looks_first (s, None) u x w = (w.0, refl)
+
+  peeks_held_again : (q : HeldState) (o : Option X) → q.1 ≡ Some o → Peeks steps q (Ok o) q
+  peeks_held_again (s, Some h) o is = let same : h ≡ o = cc in (ap (λ z. Ok z) (sym same), refl, refl)
+  peeks_held_again (s, None) o is = absurd cc
+
+module _ {S X E : Type 0} {m : Contract S X E} (l : Lawful m) where
+  abbrev PeekableHere : Contract (S × Option (Option X)) X E
+  PeekableHere = peekable_contract m
+
+  kept_by_draw_holding_item : (s t : S) (x : X) → KeptByDraw m s (item x) t → KeptByDraw PeekableHere (s, None) end (t, Some (Some x))
+  kept_by_draw_holding_item s t x a = record {
+    can_next = a.can_next;
+    is_finite = a.is_finite;
+    answer = ((λ n b. let k = a.answer.1 b.0 b.1 in (n, (k.0, k.1, omega (arith, k.2, b.2)), omega arith)), (λ f. let j = a.answer.2 f in (j.0, omega (arith, j.1))));
+    may_give = λ y h. elim h [ inl e ↦ (let same : x ≡ y = cc in inr (subst (λ (z : X). m.may_give s z) same a.answer.0)) | inr g ↦ inr (a.may_give y g) ];
+    may_fail = a.may_fail;
+    lenders = a.lenders;
+  }
+
+  kept_by_draw_where_still : (p : S × Option (Option X)) → PeekableHere.can_next p → KeptByDraw PeekableHere p end p
+  kept_by_draw_where_still p c = record {
+    can_next = c;
+    is_finite = λ f. f;
+    answer = ((λ n b. (n, b, omega arith)), (λ f. (f, omega arith)));
+    may_give = λ y h. h;
+    may_fail = λ e h. h;
+    lenders = refl;
+  }
+
+  kept_by_draw_look : (p q : S × Option (Option X)) (x : X) → PeekableHere.can_next p → Peeks m.steps p (item x) q → KeptByDraw PeekableHere p end q
+  kept_by_draw_look (s, None) (t, held) x c w = rw w.1 (kept_by_draw_holding_item s t x (l.kept_by_draw s (item x) t c w.0))
+  kept_by_draw_look (s, Some o) (t, held) x c w = rw (w.1, w.2) (kept_by_draw_where_still (s, Some o) c)
+
+  may_give_looked : (p q : S × Option (Option X)) (x : X) → PeekableHere.can_next p → Peeks m.steps p (item x) q → PeekableHere.may_give p x
+  may_give_looked p q x c w = ((lawful_peekable l).kept_by_draw p (item x) (q.0, None) c (looked_at_is_next_answer m.steps p q (Some x) w).0).answer.0
+
+  step_of_looked : (p q u : S × Option (Option X)) (x : X) (r : Answered X E) → Peeks m.steps p (item x) q → peekable_step m.steps q r u → (r ≡ item x) × peekable_step m.steps p (item x) u
+  step_of_looked p q u x r w step = let k = looked_at_is_next_answer m.steps p q (Some x) w in let h = held_step m.steps q u (Some x) r k.1 step in (h.0, subst (λ z. peekable_step m.steps p (item x) z) (sym h.1) k.0)
+
+  second_look_same : (p q u : S × Option (Option X)) (x y : X) → Peeks m.steps p (item x) q → Peeks m.steps q (item y) u → (y ≡ x) × Peeks m.steps p (item x) u
+  second_look_same p q u x y w v = let k = looked_at_is_next_answer m.steps p q (Some x) w in let h = held_item_is_looked_at m.steps q u (Some x) y k.1 v in ((let e = h.0 in cc), subst (λ z. Peeks m.steps p (item x) z) (sym h.1) w)
+
+  on_answer_seen : (s t : Peekable S X E) → OnAnswer PeekableHere (peekable_parts s) end (peekable_parts t) → OnAnswer (seen_as peekable_parts PeekableHere) s end t
+  on_answer_seen s t h = h
+
+  -- a `Peekable` of its parts
+  abbrev of_held : S × Option (Option X) → Peekable S X E
+  of_held p = record { it = p.0; held = p.1 }
+
+  pub looks_ahead_peekable_looking : LooksAhead (seen_as peekable_parts (peekable_contract m)) (peekable_looks m.steps)
+  looks_ahead_peekable_looking = record {
+    kept = λ s x t c w. let k = kept_by_draw_look (peekable_parts s) (peekable_parts t) x c w in record { can_next = k.can_next; is_finite = k.is_finite; answer = on_answer_seen s t k.answer; may_give = k.may_give; may_fail = k.may_fail; lenders = k.lenders };
+    given = λ s x t c w. may_give_looked (peekable_parts s) (peekable_parts t) x c w;
+    comes = λ s x t w. (of_held (t.it, None), (looked_at_is_next_answer m.steps (peekable_parts s) (peekable_parts t) (Some x) w).0);
+    next = λ s x t r u w step. step_of_looked (peekable_parts s) (peekable_parts t) (peekable_parts u) x r w step;
+    again = λ s x t y u w v. second_look_same (peekable_parts s) (peekable_parts t) (peekable_parts u) x y w v;
+    first = λ s x u step. (of_held (u.it, Some (Some x)), peeks_looks_first m.steps (peekable_parts s) (peekable_parts u) x step, (refl, refl, none_held_after_draw m.steps (peekable_parts s) (peekable_parts u) (item x) step));
+    same = λ s x t w. peeks_held_again m.steps (peekable_parts t) (Some x) (looked_at_is_next_answer m.steps (peekable_parts s) (peekable_parts t) (Some x) w).1;
+  }
+
+-- ---- what is borrowed looks ahead as it does itself
+
+module _ {S X E : Type 0} {m : Contract S X E} {looks : S → X → S → Type 0} (k : LooksAhead m looks) where
+  kept_by_draw_borrowed : (s t : MutBor S) (x : X) → m.can_next s.now → borrowed_looks looks s x t → KeptByDraw (borrowed m) s end t
+  kept_by_draw_borrowed s t x c w = let a = k.kept s.now x t.now c w.0 in record { can_next = a.can_next; is_finite = a.is_finite; answer = a.answer; may_give = a.may_give; may_fail = a.may_fail; lenders = ap₂ lender_and w.1 a.lenders }
+
+  pub looks_ahead_borrowed_looking : LooksAhead (borrowed m) (borrowed_looks looks)
+  looks_ahead_borrowed_looking = record {
+    kept = λ s x t c w. kept_by_draw_borrowed s t x c w;
+    given = λ s x t c w. k.given s.now x t.now c w.0;
+    comes = λ s x t w. let d = k.comes s.now x t.now w.0 in (record s { now = d.0 }, (d.1, refl));
+    next = λ s x t r u w step. let d = k.next s.now x t.now r u.now w.0 step.0 in (d.0, (d.1, step.1 ∙ w.1));
+    again = λ s x t y u w v. let d = k.again s.now x t.now y u.now w.0 v.0 in (d.0, (d.1, v.1 ∙ w.1));
+    first = λ s x u step. let d = k.first s.now x u.now step.0 in (record s { now = d.0 }, (d.1, refl), (d.2, step.1));
+    same = λ s x t w. (k.same s.now x t.now w.0, refl);
+  }
+
+-- ---- the adapter
+
+module _ {S F X E : Type 0} (m : Contract S X E) (l : Lawful m) (looks : S → X → S → Type 0) (k : LooksAhead m looks) (g : Mut F (Bor X × Unit {0}) (Result Bool E)) where
+  abbrev callable_by_reference : (X → Type 0) → F → Type 0
+  callable_by_reference P f = IsCallable (call_by_reference g) (takes_by_reference g) P f
+
+  abbrev PassingHere : Contract (S × F) X E
+  PassingHere = passing_contract m (call_by_reference g) callable_by_reference take_while_outcome (λ p h. upper_alone m p.0 h)
+
+  abbrev PeekingHere : Contract (S × F) X E
+  PeekingHere = peeking_contract m looks g
+
+  lawful_taking : Lawful PassingHere
+  lawful_taking = lawful_passing (call_by_reference g) callable_by_reference take_while_outcome (λ p h. upper_alone m p.0 h) (λ P PeekableHere f h weak reached c. is_callable_after weak reached c) l
+
+  -- what a draw keeps, whatever the steps are
+  on_answer_peeking : (p q : S × F) (r : Answered X E) → OnAnswer PassingHere p r q → OnAnswer PeekingHere p r q
+  on_answer_peeking p q (Ok (Some x)) h = h
+  on_answer_peeking p q (Ok None) h = h
+  on_answer_peeking p q (Err e) h = h
+
+  kept_by_draw_of_passing : (p q : S × F) (r : Answered X E) → KeptByDraw PassingHere p r q → KeptByDraw PeekingHere p r q
+  kept_by_draw_of_passing p q r a = record { can_next = a.can_next; is_finite = a.is_finite; answer = on_answer_peeking p q r a.answer; may_give = a.may_give; may_fail = a.may_fail; lenders = a.lenders }
+
+  -- the one call at a place
+  call_of_place : (p q : F) (x : X) (v : Result Bool E) → Calls (call_by_reference g) p ((x, v) ∷ []) q → call_by_reference g p x v q
+  call_of_place p q x v called = subst (λ (h : F). call_by_reference g p x v h) called.2 called.1
+
+  kept_by_draw_refused : (p q : S) (f h : F) (x : X) → PeekingHere.can_next (p, f) → looks p x q → call_by_reference g f x (Ok false) h → KeptByDraw PeekingHere (p, f) end (q, h)
+  kept_by_draw_refused p q f h x c look called =
+      let a = k.kept p x q c.0 look in
+      let reached : Reaches (call_by_reference g) (m.may_give p) f h = reaches_from x (Ok false) (k.given p x q c.0 look) called reaches_reflexive in
+      record {
+        can_next = (a.can_next, is_callable_after a.may_give reached c.1);
+        is_finite = a.is_finite;
+        answer = a.answer;
+        may_give = λ y b. may_answer_after a.may_give reached b;
+        may_fail = λ e b. elim b [ inl d ↦ inl (a.may_fail e d) | inr d ↦ inr (may_answer_after a.may_give reached d) ];
+        lenders = a.lenders;
+      }
+
+  kept_by_draw_place : (z : Place X (Result Bool E) E) (p q : S) (f h : F) → PeekingHere.can_next (p, f) → DrawsAtPlace m.steps looks z p q → Calls (call_by_reference g) f (filter_map call_of (z ∷ [])) h → KeptByDraw PeekingHere (p, f) (taken_answer z) (q, h)
+  kept_by_draw_place (asked x (Ok true)) p q f h c step called = kept_by_draw_of_passing (p, f) (q, h) (item x) (lawful_taking.kept_by_draw (p, f) (item x) (q, h) c (pass_trace_item x (Ok true) x step (call_of_place f h x (Ok true) called) refl))
+  kept_by_draw_place (asked x (Ok false)) p q f h c step called = kept_by_draw_refused p q f h x c step (call_of_place f h x (Ok false) called)
+  kept_by_draw_place (asked x (Err e)) p q f h c step called = kept_by_draw_of_passing (p, f) (q, h) (Err e) (lawful_taking.kept_by_draw (p, f) (failure e) (q, h) c (pass_trace_refusal x (Err e) e step (call_of_place f h x (Err e) called) refl))
+  kept_by_draw_place (failure_at e) p q f h c step called = kept_by_draw_of_passing (p, f) (q, h) (Err e) (lawful_taking.kept_by_draw (p, f) (failure e) (q, h) c (rw (sym called) (pass_trace_failure step)))
+  kept_by_draw_place end_at p q f h c step called = kept_by_draw_of_passing (p, f) (q, h) end (lawful_taking.kept_by_draw (p, f) end (q, h) c (rw (sym called) (pass_trace_end step)))
+
+  kept_by_draw_peeking : (p : S × F) (r : Answered X E) (q : S × F) → PeekingHere.can_next p → PeekingHere.steps p r q → KeptByDraw PeekingHere p r q
+  kept_by_draw_peeking p r q c w = subst (λ (a : Answered X E). KeptByDraw PeekingHere p a q) (sym w.3) (kept_by_draw_place w.0 p.0 q.0 p.1 q.1 c w.1 w.2)
+
+pub lawful_peeking : {S F X E : Type 0} {m : Contract S X E} {looks : S → X → S → Type 0} (g : Mut F (Bor X × Unit {0}) (Result Bool E)) → Lawful m → LooksAhead m looks → Lawful (peeking_contract m looks g)
+lawful_peeking {m = m} {looks = looks} g l k = record { kept_by_draw = λ p r q c w. kept_by_draw_peeking m l looks k g p r q c w; bounded = λ p. l.bounded p.0 }

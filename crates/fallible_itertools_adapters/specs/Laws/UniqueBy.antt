@@ -1,0 +1,32 @@
+-- The contract of `UniqueBy` is lawful where the source's is.
+use Rattle.std.specs.Prelude.{Bool, Result, List, [], ◌∷◌}
+use Rattle.std.specs.Fn.{Mut}
+use Rattle.std.specs.Borrow.{Bor}
+use Rattle.std.specs.HashSet.{HashSet}
+use Rattle.std.specs.List.{FoldsTo}
+use Rattle.std.proofs.Common.{subst}
+use Rattle.fallible_iterator.specs.Contract.{Contract, Lawful}
+use Rattle.fallible_iterator.specs.Closures.{IsCallable, Reaches, call_by_reference}
+use Rattle.fallible_iterator.specs.Hints.{upper_alone}
+use Rattle.fallible_iterator.specs.Laws.Closures.{is_callable_after, reaches_from, reaches_reflexive}
+use Rattle.fallible_iterator.specs.Laws.Passing.{lawful_leaving_out}
+use Rattle.fallible_itertools_adapters.specs.Holding.{as_answered_item}
+use Rattle.fallible_itertools_adapters.specs.UniqueBy.{key_asks, key_callable, key_takes, unique_by_contract}
+use Rattle.std.specs.declared.alloc.AllocError.{AllocError}
+use Rattle.fallible_iterator.specs.Outcome.{Outcome}
+
+module _ {A K S F E : Type 0} (eq : K → K → Bool) (from : AllocError → E → Type 0) (call : F → A → Result K E → F → Type 0) {P : A → Type 0} where
+  reaches_by_calls : (made : List (A × Outcome A E)) (p q : HashSet K S × F) → FoldsTo (λ p c q. P c.0 × key_asks eq from call p c.0 c.1 q) p made q → Reaches call P p.1 q.1
+  reaches_by_calls [] p q w = subst (λ (z : HashSet K S × F). Reaches call P p.1 z.1) w reaches_reflexive
+  reaches_by_calls (c ∷ made) p q w = reaches_from c.0 w.1.1.0 w.1.0 w.1.1.1 (reaches_by_calls made w.0 q w.2)
+
+  -- what is asked on items calls the closure on these
+  pub reaches_closure : {p q : HashSet K S × F} → Reaches (key_asks eq from call) P p q → Reaches call P p.1 q.1
+  reaches_closure {p = p} {q = q} r = reaches_by_calls r.made p q r.by
+
+  -- where the closure may be called on what comes, the adapter may be called on it
+  pub is_callable_key : {takes : F → A → Type 0} {p : HashSet K S × F} → IsCallable call takes P p.1 → IsCallable (key_asks eq from call) (key_takes takes) P p
+  is_callable_key c = record { at = λ q x r may. c.at q.1 x (reaches_closure r) may }
+
+pub lawful_unique_by : {I A K S F E : Type 0} {m : Contract I A E} (eq : K → K → Bool) (from : AllocError → E → Type 0) (g : Mut F (Bor A × Unit {0}) (Result K E)) → Lawful m → Lawful (unique_by_contract {S = S} eq from m g)
+lawful_unique_by {m = m} eq from g l = lawful_leaving_out (key_asks eq from (call_by_reference g)) (key_callable g) as_answered_item (λ p h. upper_alone m p.0 h) (λ P Q p q weak reached c. is_callable_after weak (reaches_closure eq from (call_by_reference g) reached) c) l

@@ -1,0 +1,42 @@
+-- `OrElse`, by whose closure a failure becomes an item, nothing or another failure.
+use Rattle.std.specs.Prelude.{Option, Result, Ok, Err, List, [], ◌∷◌}
+use Rattle.std.specs.Fn.{Mut}
+use Rattle.fallible_iterator.specs.Traces.{Answered}
+use Rattle.fallible_iterator.specs.Contract.{Contract}
+use Rattle.fallible_iterator.specs.Closures.{call_by_value, takes_by_value}
+use Rattle.fallible_iterator.specs.Failing.{RecoveringTrace, recovering_contract}
+use Rattle.fallible_iterator.specs.Filtering.FilterMap.{filter_map_outcome, cons_some}
+use Rattle.fallible_iterator.specs.Outcome.{Outcome}
+use Rattle.fallible_itertools_adapters.specs.declared.or_else.OrElse.{OrElse}
+
+-- A failure becomes what an item becomes by `filter_map`: the item that the closure returns, nothing if it returns `None`, and a failure of it.
+abbrev pub or_else_outcome : {X D E : Type 0} → D → Result (Option X) E → Outcome X E
+or_else_outcome d v = filter_map_outcome d v
+
+-- `OrElse`: the source's trace without the failures for which the closure returns `None`, where each other failure is replaced by the item or the failure that the closure returns for it; it doesn't end in a failure that is left out.
+abbrev pub OrElseTrace : {S F X D E : Type 0} → (S → Answered X D → S → Type 0) → Mut F (D × Unit {0}) (Result (Option X) E) → S × F → List (Answered X E) → S × F → Type 0
+OrElseTrace steps g p trace q = RecoveringTrace steps (call_by_value g) or_else_outcome p trace q
+
+-- `OrElse`'s contract: the source is finite and what remains of it has a bound, and the closure may be called on each failure that may come.
+abbrev pub or_else_contract : {S F X D E : Type 0} → Contract S X D → Mut F (D × Unit {0}) (Result (Option X) E) → Contract (S × F) X E
+or_else_contract m g = recovering_contract m (call_by_value g) (takes_by_value g) or_else_outcome
+
+-- the source
+abbrev pub or_else_source : {I F : Type 0} → OrElse I F → I
+or_else_source s = s.it
+
+-- the closure
+abbrev pub or_else_closure : {I F : Type 0} → OrElse I F → F
+or_else_closure s = s.f
+
+-- the source and the closure
+abbrev pub or_else_parts : {I F : Type 0} → OrElse I F → I × F
+or_else_parts s = (or_else_source s, or_else_closure s)
+
+-- ---- what it lists
+
+-- h d in the place of each failure d: an item, nothing where h d is none, or another failure
+unfoldable pub recovered : {X D E : Type 0} → (D → Result (Option X) E) → List (Result X D) → List (Result X E)
+recovered h [] = []
+recovered h (Ok x ∷ l) = Ok x ∷ recovered h l
+recovered h (Err d ∷ l) = cons_some (h d) (recovered h l)

@@ -1,0 +1,186 @@
+-- What joins two sources and holds at most one item of each: each call draws the left and then the right, and a rule says what is made of what both yield. Each side is fused.
+use Rattle.std.specs.Prelude.{ℕ, ◌+◌, ◌≤◌, Option, Some, None, ◌≡◌, List, [], ◌∷◌, map, Ok, ◌⊎◌, ⊤}
+use Rattle.std.specs.List.{FoldsTo}
+use Rattle.std.specs.Iterator.{Count, count_add, count_map}
+use Rattle.fallible_iterator.specs.Traces.{Answered, Run, item, failure, is_end}
+use Rattle.fallible_iterator.specs.Closing.{closing_step}
+use Rattle.fallible_iterator.specs.Contract.{Contract, lenders_of_both, seen_as}
+use Rattle.fallible_iterator.specs.Cutting.Fuse.{fuse_contract, fuse_parts}
+use Rattle.fallible_iterator.specs.Held.{held_count}
+use Rattle.fallible_iterator.specs.Hints.{hint_sum}
+use Rattle.fallible_iterator.specs.Fuse.{Fuse}
+use Rattle.fallible_itertools_adapters.specs.declared.sides.Holding.{Holding}
+
+-- ---- a fused source
+
+-- one draw of a fused source: one of the source, and an end without a draw once the source returned one
+abbrev pub fused_steps : {S A E : Type 0} → (S → Answered A E → S → Type 0) → Fuse S → Answered A E → Fuse S → Type 0
+fused_steps steps s r t = closing_step steps (λ a. a) is_end (fuse_parts s) r (fuse_parts t)
+
+-- the contract of a fused source
+abbrev pub fused_contract : {S A E : Type 0} → Contract S A E → Contract (Fuse S) A E
+fused_contract m = seen_as fuse_parts (fuse_contract m)
+
+-- ---- one side
+
+-- the source
+abbrev pub holding_source : {I A : Type 0} → Holding I A → I
+holding_source s = s.it
+
+-- the item that is held, if there is one
+abbrev pub holding_held : {I A : Type 0} → Holding I A → Option A
+holding_held s = s.held
+
+-- the source, and the item that is held
+abbrev pub holding_parts : {I A : Type 0} → Holding I A → I × Option A
+holding_parts s = (holding_source s, holding_held s)
+
+-- What a side yields, if it is drawn, and the source that it leaves: the held item without a draw, and otherwise one answer that is drawn.
+abbrev pub GivesHeldFirst : {S A E : Type 0} → (S → Answered A E → S → Type 0) → S × Option A → Answered A E → S → Type 0
+GivesHeldFirst steps (s, Some x) r t = (r ≡ item x) × (t ≡ s)
+GivesHeldFirst steps (s, None) r t = steps s r t
+
+-- what a side yields, if it is drawn, or no answer, if it isn't
+abbrev pub GivesIf : {S A E : Type 0} → (S → Answered A E → S → Type 0) → S × Option A → Option (Answered A E) → S → Type 0
+GivesIf steps p (Some r) t = GivesHeldFirst steps p r t
+GivesIf steps p None t = t ≡ p.0
+
+module _ {S A E : Type 0} (m : Contract S A E) where
+  -- what remains of a side: of the source, and one more if an item is held
+  abbrev pub side_remaining : S × Option A → Count
+  side_remaining (s, Some x) = count_map (λ n. n + 1) (m.remaining s)
+  side_remaining (s, None) = m.remaining s
+
+  -- the held item may come, and what may come of the source
+  abbrev pub side_gives : S × Option A → A → Type 0
+  side_gives (s, Some x) y = (y ≡ x) ⊎ m.may_give s y
+  side_gives (s, None) y = m.may_give s y
+
+-- the hint of a side, by one of its source: one more on each bound if an item is held
+abbrev pub side_hint : {A : Type 0} → Option A → ℕ × Option ℕ → ℕ × Option ℕ
+side_hint (Some x) h = hint_sum h (1, Some 1)
+side_hint None h = h
+
+-- what a side may hint
+abbrev pub SideHints : {S A E : Type 0} → Contract S A E → S × Option A → ℕ × Option ℕ → Type 0
+SideHints m p h = (k : ℕ × Option ℕ) × m.hints p.0 k × (h ≡ side_hint p.1 k)
+
+-- ---- both sides
+
+-- What is made of what both sides yielded, an item or an end of each.
+pub record Rule (A B C E F V : Type 0) : Type 1 where
+  -- the closure f decides v of them, and is then g
+  pub decides : F → Option A → Option B → V → F → Type 0
+  -- the answer, by what was decided
+  pub answer : Option A → Option B → V → Answered C E
+  -- the left's item, where it is held for the next call
+  pub left_held : Option A → Option B → V → Option A
+  -- the right's item, where it is held for the next call
+  pub right_held : Option A → Option B → V → Option B
+  -- f may be called on items of which P and Q hold
+  pub askable : (A → Type 0) → (B → Type 0) → F → Type 0
+  -- what may come of items of which P and Q hold
+  pub gives : (A → Type 0) → (B → Type 0) → C → Type 0
+  -- f may fail so on such items
+  pub refuses : (A → Type 0) → (B → Type 0) → F → E → Type 0
+
+-- One call: a failure of the left, beside which the right isn't drawn; a failure of the right, beside an item or an end of the left; or an item or an end of each, and what was decided.
+pub data SidesPlace (A B E V : Type 0) : Type 0 where
+  left_failed : E → SidesPlace A B E V
+  right_failed : Option A → E → SidesPlace A B E V
+  both_gave : Option A → Option B → V → SidesPlace A B E V
+
+module _ {A B E V : Type 0} where
+  -- what the left yielded at a place, which is always drawn
+  abbrev pub left_gave : SidesPlace A B E V → Option (Answered A E)
+  left_gave (left_failed e) = Some (failure e)
+  left_gave (right_failed x e) = Some (Ok x)
+  left_gave (both_gave x y v) = Some (Ok x)
+
+  -- what the right yielded, if it was drawn
+  abbrev pub right_gave : SidesPlace A B E V → Option (Answered B E)
+  right_gave (left_failed e) = None
+  right_gave (right_failed x e) = Some (failure e)
+  right_gave (both_gave x y v) = Some (Ok y)
+
+module _ {A B C E F V : Type 0} (rule : Rule A B C E F V) where
+  -- the answer at a place: a failure of a side, or what the rule makes of what both yielded
+  abbrev pub place_answer : SidesPlace A B E V → Answered C E
+  place_answer (left_failed e) = failure e
+  place_answer (right_failed x e) = failure e
+  place_answer (both_gave x y v) = rule.answer x y v
+
+  -- what is held of the left after a place: the item that stood beside a failure of the right, or what the rule says
+  abbrev pub left_held_after : Option A → SidesPlace A B E V → Option A
+  left_held_after held (left_failed e) = None
+  left_held_after held (right_failed x e) = x
+  left_held_after held (both_gave x y v) = rule.left_held x y v
+
+  -- what is held of the right after a place: what was held, if the left failed, or what the rule says
+  abbrev pub right_held_after : Option B → SidesPlace A B E V → Option B
+  right_held_after held (left_failed e) = held
+  right_held_after held (right_failed x e) = None
+  right_held_after held (both_gave x y v) = rule.right_held x y v
+
+  -- the closure decides on what both yielded, and otherwise stays as it is
+  abbrev pub place_decides : F → SidesPlace A B E V → F → Type 0
+  place_decides f (left_failed e) g = g ≡ f
+  place_decides f (right_failed x e) g = g ≡ f
+  place_decides f (both_gave x y v) g = rule.decides f x y v g
+
+-- ---- over whole traces
+
+-- an answer that was drawn before others; if an item was held, or the side wasn't drawn, none was
+abbrev pub before_drawn : {A E : Type 0} → Option A → Option (Answered A E) → List (Answered A E) → List (Answered A E)
+before_drawn (Some x) gave l = l
+before_drawn None None l = l
+before_drawn None (Some r) l = r ∷ l
+
+-- what is held is what the side yields, if it is drawn
+abbrev pub IsGiven : {A E : Type 0} → Option A → Option (Answered A E) → Type 0
+IsGiven (Some x) (Some r) = r ≡ item x
+IsGiven (Some x) None = ⊤
+IsGiven None gave = ⊤
+
+module _ {A E X : Type 0} (gave : X → Option (Answered A E)) (held_after : Option A → X → Option A) where
+  -- the answers that one side drew at the places: what it yielded if nothing of it was held
+  abbrev pub drawn_at : Option A → List X → List (Answered A E)
+  drawn_at held [] = []
+  drawn_at held (x ∷ places) = before_drawn held (gave x) (drawn_at (held_after held x) places)
+
+  -- what is held before each place is yielded there, if the side is drawn, and `last` is held after the last place
+  abbrev pub HeldThrough : Option A → List X → Option A → Type 0
+  HeldThrough held [] last = last ≡ held
+  HeldThrough held (x ∷ places) last = IsGiven held (gave x) × HeldThrough (held_after held x) places last
+
+  -- one side over all places
+  pub record SideTrace {S : Type 0} (steps : S → Answered A E → S → Type 0) (p : S × Option A) (places : List X) (q : S × Option A) : Type 0 where
+    pub drawn : Run steps p.0 (drawn_at p.1 places) q.0
+    pub held : HeldThrough p.1 places q.1
+
+module _ {S U A B C E F V : Type 0} (steps : S → Answered A E → S → Type 0) (others : U → Answered B E → U → Type 0) (rule : Rule A B C E F V) where
+  -- A place for each answer. A failure of the left is returned, and the right isn't drawn. A failure of the right is returned, and the left's item is held, so that it stands at the next place too; an end of the left isn't held. Of an item or an end of each the rule makes the answer. Nothing is allocated, so no allocation fails.
+  pub record SidesTrace (p : (S × Option A) × (U × Option B) × F) (trace : List (Answered C E)) (q : (S × Option A) × (U × Option B) × F) : Type 0 where
+    pub places : List (SidesPlace A B E V)
+    pub left : SideTrace left_gave (left_held_after rule) steps p.0 places q.0
+    pub right : SideTrace right_gave (right_held_after rule) others p.1 places q.1
+    pub decided : FoldsTo (place_decides rule) p.2 places q.2
+    pub answers : trace ≡ map (place_answer rule) places
+
+  -- one answer: that of one place
+  abbrev pub sides_step : (S × Option A) × (U × Option B) × F → Answered C E → (S × Option A) × (U × Option B) × F → Type 0
+  sides_step p r q = (x : SidesPlace A B E V) × GivesIf steps p.0 (left_gave x) q.0.0 × (q.0.1 ≡ left_held_after rule p.0.1 x) × GivesIf others p.1 (right_gave x) q.1.0 × (q.1.1 ≡ right_held_after rule p.1.1 x) × place_decides rule p.2 x q.2 × (r ≡ place_answer rule x)
+
+-- The bounds of both sides and what is held of them are added up, and so is what remains.
+abbrev pub sides_contract : {S U A B C E F V : Type 0} → Contract S A E → Contract U B E → Rule A B C E F V → ((S × Option A) × (U × Option B) × F → ℕ × Option ℕ → Type 0) → Contract ((S × Option A) × (U × Option B) × F) C E
+sides_contract left right rule hints = record {
+  can_next = λ p. left.can_next p.0.0 × right.can_next p.1.0 × rule.askable (side_gives left p.0) (side_gives right p.1) p.2;
+  steps = sides_step left.steps right.steps rule;
+  bound = λ p n. (a : ℕ) × (b : ℕ) × left.bound p.0.0 a × right.bound p.1.0 b × ((a + held_count p.0.1) + (b + held_count p.1.1) ≤ n);
+  is_finite = λ p. left.is_finite p.0.0 × right.is_finite p.1.0;
+  remaining = λ p. count_add (side_remaining left p.0) (side_remaining right p.1);
+  may_give = λ p z. rule.gives (side_gives left p.0) (side_gives right p.1) z;
+  may_fail = λ p e. left.may_fail p.0.0 e ⊎ (right.may_fail p.1.0 e ⊎ rule.refuses (side_gives left p.0) (side_gives right p.1) p.2 e);
+  hints = hints;
+  lenders = λ p. lenders_of_both (left.lenders p.0.0) (right.lenders p.1.0);
+}

@@ -1,0 +1,54 @@
+-- `Tuples`, which yields the items two by two.
+use Rattle.std.specs.Prelude.{◌≡◌, ℕ, Option, Some, None, Result, Ok, Err, List, [], ◌∷◌, ⊤}
+use Rattle.fallible_iterator.specs.Traces.{Answered}
+use Rattle.fallible_iterator.specs.Contract.{Contract}
+use Rattle.fallible_iterator.specs.Hints.{hint_kept}
+use Rattle.fallible_iterator.specs.Passing.{PassTrace, passing_contract}
+use Rattle.fallible_itertools_adapters.specs.Holding.{as_answered_item}
+use Rattle.fallible_iterator.specs.Outcome.{Outcome}
+use Rattle.fallible_iterator.specs.Outcome.TheVariants.{Kept, LeftOut}
+use Rattle.fallible_itertools_adapters.specs.declared.tuples.Tuples.{Tuples}
+
+module _ {A E : Type 0} where
+  -- The first item of a pair is left out, and held then. The next one is yielded beside it, and none is held then.
+  abbrev pub tuples_asks : Option A → A → Outcome (A × A) E → Option A → Type 0
+  tuples_asks None x o q = (o ≡ LeftOut) × (q ≡ Some x)
+  tuples_asks (Some y) x o q = (o ≡ Kept (y, x)) × (q ≡ None)
+
+  -- `Tuples`: the source's trace where each second item is replaced by the pair of the one before it and itself, and the others are left out; failures and ends between two part nothing.
+  abbrev pub TuplesTrace : {S : Type 0} → (S → Answered A E → S → Type 0) → S × Option A → List (Answered (A × A) E) → S × Option A → Type 0
+  TuplesTrace steps p trace q = PassTrace steps tuples_asks as_answered_item p trace q
+
+-- how many items come before the one that completes a pair
+abbrev pub items_before_pair : {A : Type 0} → Option A → ℕ
+items_before_pair None = 1
+items_before_pair (Some y) = 0
+
+-- `Tuples`' contract: of the items of the source every second one counts in the hint. It requires no bound of the source: one draw leaves out one item at most.
+abbrev pub tuples_contract : {S A E : Type 0} → Contract S A E → Contract (S × Option A) (A × A) E
+tuples_contract m = passing_contract m tuples_asks (λ Q p. ⊤) as_answered_item (λ p h. (k : ℕ × Option ℕ) × m.hints p.0 k × (h ≡ hint_kept 1 (items_before_pair p.1) k))
+
+-- the source
+abbrev pub tuples_source : {I A E : Type 0} → Tuples I A E → I
+tuples_source s = s.it
+
+-- the item that is held, if there is one
+abbrev pub tuples_held : {I A E : Type 0} → Tuples I A E → Option A
+tuples_held s = s.held
+
+-- the source, and the item that is held
+abbrev pub tuples_parts : {I A E : Type 0} → Tuples I A E → I × Option A
+tuples_parts s = (tuples_source s, tuples_held s)
+
+-- ---- what it lists
+
+-- what `tupled` makes of the list, if this item is held before it
+unfoldable pub tupled_after : {A E : Type 0} → Option A → List (Result A E) → List (Result (A × A) E)
+tupled_after held [] = []
+tupled_after None (Ok x ∷ l) = tupled_after (Some x) l
+tupled_after (Some y) (Ok x ∷ l) = Ok (y, x) ∷ tupled_after None l
+tupled_after held (Err e ∷ l) = Err e ∷ tupled_after held l
+
+-- the items two by two, without the last of an odd number; a failure stands in its place, and parts nothing
+unfoldable pub tupled : {A E : Type 0} → List (Result A E) → List (Result (A × A) E)
+tupled l = tupled_after None l

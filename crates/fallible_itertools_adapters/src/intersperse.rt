@@ -1,0 +1,179 @@
+// The adapter that puts a separator between items.
+ghost use Rattle.std.specs.Prelude.{◌≡◌, ◌^◌, ◌-◌, min, Option, Result, ⊤, None, false};
+ghost use Rattle.fallible_iterator.specs.Contract.{seen_as};
+ghost use Rattle.fallible_iterator.specs.Laws.Contract.{lawful_seen};
+ghost use Rattle.fallible_iterator.specs.Lists.{result_answer};
+ghost use Rattle.fallible_itertools_adapters.specs.Intersperse.{CloneSeparates, intersperse_contract, intersperse_parts};
+ghost use Rattle.fallible_itertools_adapters.specs.Laws.Intersperse.{lawful_intersperse};
+ghost use Rattle.fallible_itertools_adapters.specs.Laws.Parting.{is_stage_parting};
+ghost use Rattle.fallible_itertools_adapters.specs.Parting.{fitting, intersperse_hint, interspersed_items, item_comes, parting_on_item};
+ghost use Rattle.fallible_itertools_adapters.specs.Staging.{StopPasses, made_before};
+
+use crate::staging::{Made, Stage, drive_stage, next_stage, one, one_then, stopped};
+use fallible_iterator::{FallibleIterator, Turn};
+use std::alloc::AllocError;
+
+/// The items of the source with a clone of the separator between each two adjacent ones. An item that was drawn is buffered while the separator before it is yielded.
+#[derive(Clone, Debug, Drop)]
+pub struct Intersperse<I: FallibleIterator> {
+    pub(crate) it: I,
+    // the separator and whether an item came, and the buffered item
+    pub(crate) stage: ((I::Item, bool), Option<I::Item>),
+}
+
+impl<I: FallibleIterator> Intersperse<I> {
+    /// Creates it. It draws nothing.
+    #[inline(always)]
+    pub fn new(it: I, separator: I::Item) -> Intersperse<I>
+        ensures { intersperse_parts result ≡ (it, (separator, (false, None))) }
+    {
+        Intersperse {
+            it,
+            stage: ((separator, false), None),
+        }
+    }
+}
+
+impl<I: FallibleIterator> FallibleIterator for Intersperse<I>
+where
+    I::Item: Clone + Drop,
+    I::Error: From<AllocError>,
+{
+    type Item = I::Item;
+
+    type Error = I::Error;
+
+    ghost contract = { seen_as intersperse_parts
+        (intersperse_contract I.Item.is_clone I.Item.is_infallible I.Error.from_gives
+        I.contract) };
+
+    /// Yields the buffered item without a draw, and draws once if none is buffered.
+    fn next(&mut self) -> Result<Option<I::Item>, I::Error> {
+        next_stage(&mut self.it, &mut self.stage, &SeparatorClone)
+    }
+
+    /// The turn on the buffered item, and then the source's fold, whose turn is one on what stands before the item and one on the item.
+    fn drive<C, R, K: Turn<C, I::Item, R>>(
+        &mut self,
+        state: &mut C,
+        turn: &K,
+    ) -> Result<Option<R>, I::Error> {
+        drive_stage(&mut self.it, &mut self.stage, &SeparatorClone, state, turn)
+    }
+
+    fn size_hint(&self) -> (usize, Option<usize>) {
+        hint_parting(self.it.size_hint(), &self.stage)
+    }
+
+    ghost lawful = { lawful_seen intersperse_parts
+        (lawful_intersperse I.Item.is_clone I.Item.is_infallible I.Error.from_gives I.lawful) };
+}
+
+// Each separator is a clone of the first.
+#[derive(Drop)]
+struct SeparatorClone;
+
+impl<X: Clone + Drop, E: From<AllocError>> Stage<(X, bool), X, E> for SeparatorClone {
+    type Kept = X;
+
+    type Later = X;
+
+    ghost comes = { λ _ x. item_comes x };
+
+    ghost can_meet = { λ _ p x. ⊤ };
+
+    ghost items = { λ _ p x made q. parting_on_item
+        (CloneSeparates X.is_clone X.is_infallible E.from_gives) p x made q };
+
+    ghost stops = { λ _ p stop made q. StopPasses p stop made q };
+
+    ghost most = { λ _. 2 };
+
+    ghost held = { λ _ p. 0 };
+
+    #[inline(always)]
+    fn on_item(&self, p: &mut (X, bool), item: X) -> Made<X, X, E>
+        ensures { parting_on_item (CloneSeparates X.is_clone X.is_infallible E.from_gives) p.old item
+            result p.new }
+    {
+        if p.1 {
+            match p.0.clone() {
+                Ok(copy) => separated(Ok(copy), item),
+                Err(refused) => separated(Err(E::from(refused)), item),
+            }
+        } else {
+            p.1 = true;
+            one(Ok(Some(item)))
+        }
+    }
+
+    #[inline(always)]
+    fn on_stop(&self, _p: &mut (X, bool), stop: Option<E>) -> Made<X, X, E>
+        ensures { StopPasses _p.old stop result _p.new }
+    {
+        one(stopped(stop))
+    }
+
+    #[inline(always)]
+    fn come(&self, later: X) -> (Result<Option<X>, E>, Option<X>) {
+        (Ok(Some(later)), None)
+    }
+
+    ghost is_stage = { λ _. is_stage_parting
+        (CloneSeparates X.is_clone X.is_infallible E.from_gives) };
+}
+
+/// The separator, or what making it failed with, and then the item.
+#[inline(always)]
+pub(crate) fn separated<X, E>(separator: Result<X, E>, item: X) -> Made<X, X, E>
+    ensures { result ≡ made_before (result_answer separator) item }
+{
+    match separator {
+        Ok(separator) => one_then(Ok(Some(separator)), item),
+        Err(e) => one_then(Err(e), item),
+    }
+}
+
+/// How many items come of as many of the source as the hint says.
+pub(crate) fn hint_parting<Z, X>(
+    hint: (usize, Option<usize>),
+    stage: &((Z, bool), Option<X>),
+) -> (usize, Option<usize>)
+    ensures { result ≡ intersperse_hint (stage.now.0.1, stage.now.1) hint }
+{
+    let (low, high) = hint;
+    (
+        items_at_least(low, stage),
+        high.and_then(|high| items_at_most(high, stage)),
+    )
+}
+
+// How many items come of so many items of the source, at most `usize::MAX`.
+fn items_at_least<Z, X>(low: usize, stage: &((Z, bool), Option<X>)) -> usize
+    ensures { result ≡ min (interspersed_items (stage.now.0.1, stage.now.1) low) (2 ^ 64 - 1) }
+{
+    let separators = if stage.0.1 {
+        low
+    } else {
+        low.saturating_sub(1)
+    };
+    let items = low.saturating_add(separators);
+    if stage.1.is_some() {
+        items.saturating_add(1)
+    } else {
+        items
+    }
+}
+
+// How many items come of so many items of the source, if that fits.
+fn items_at_most<Z, X>(high: usize, stage: &((Z, bool), Option<X>)) -> Option<usize>
+    ensures { result ≡ fitting (interspersed_items (stage.now.0.1, stage.now.1) high) }
+{
+    let separators = if stage.0.1 {
+        high
+    } else {
+        high.saturating_sub(1)
+    };
+    let held = if stage.1.is_some() { 1 } else { 0 };
+    high.checked_add(separators)?.checked_add(held)
+}

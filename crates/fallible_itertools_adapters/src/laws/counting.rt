@@ -1,0 +1,80 @@
+// The laws of the adapters that yield the first of adjacent items that are the same beside their number.
+ghost use Rattle.std.specs.Prelude.{◌≡◌, ◌++◌, ◌∷◌, ◌-◌, ◌^◌, Bool, List, Result, Ok, Err, length, min};
+ghost use Rattle.fallible_iterator.specs.LawForm.{TracesAre};
+ghost use Rattle.fallible_iterator.specs.Lists.{mapped};
+ghost use Rattle.fallible_iterator.specs.Picking.{call_at_two};
+ghost use Rattle.fallible_itertools_adapters.specs.ChunkBy.{chunked_by};
+ghost use Rattle.fallible_itertools_adapters.specs.Dedup.{deduped};
+ghost use Rattle.fallible_itertools_adapters.specs.DedupBy.{deduped_by};
+ghost use Rattle.fallible_itertools_adapters.specs.DedupByWithCount.{DedupByWithCountTrace, dedup_by_with_count_due, dedup_by_with_count_parts, dedup_by_with_count_source};
+ghost use Rattle.fallible_itertools_adapters.specs.DedupWithCount.{DedupWithCountTrace, dedup_with_count_due, dedup_with_count_parts, dedup_with_count_source};
+ghost use Rattle.fallible_itertools_adapters.specs.Holding.{HintsWhereHeld};
+ghost use Rattle.fallible_itertools_adapters.specs.RunCounts.{deduped_by_with_count, deduped_with_count};
+
+use crate::dedup_by_with_count::DedupByWithCount;
+use crate::dedup_with_count::DedupWithCount;
+use fallible_iterator::FallibleIterator;
+
+/// The answers of `DedupWithCount` are the stop that is due, and then the first of adjacent equal items beside their number: each stands where the next one that differs or a stop came, and each stop after what was buffered before it.
+pub fn law_dedup_with_count<I: FallibleIterator>()
+where
+    I::Item: PartialEq + Drop,
+    I::Error: Drop,
+    ensures { TracesAre dedup_with_count_parts
+        ⟦<DedupWithCount<I> as FallibleIterator>⟧.contract.steps
+        (DedupWithCountTrace I.Item.eq I.contract.steps) }
+{}
+
+/// Each item is beside the number of items of the group that it begins, as `chunked_by` makes groups of equal items; a number above `usize::MAX` is that one. Without the numbers it is what `dedup` yields. A failure parts a list: what stands before it is counted by itself, and so is what comes after it.
+pub fn law_deduped_with_count<T: PartialEq, E>()
+    ensures parts { (a : List (Result T E)) (e : E) (b : List (Result T E))
+        → deduped_with_count T.eq (a ++ Err e ∷ b)
+        ≡ deduped_with_count T.eq a ++ Err e ∷ deduped_with_count T.eq b }
+    ensures groups { (l : List (Result T E))
+        → deduped_with_count T.eq l
+        ≡ mapped (λ g. Ok (min (length g.1) (2 ^ 64 - 1), g.0))
+        (chunked_by T.eq (λ x. Ok x) l) }
+    ensures items { (l : List (Result T E))
+        → mapped (λ p. Ok p.1) (deduped_with_count T.eq l) ≡ deduped T.eq l }
+{}
+
+/// Each hint of `DedupWithCount` is as sound as the hint of its source that it is made of; if a stop is due it is sound by itself, and if that is a failure it is that of what comes after it.
+pub fn law_hints_dedup_with_count<I: FallibleIterator>()
+where
+    I::Item: PartialEq + Drop,
+    I::Error: Drop,
+    ensures { HintsWhereHeld ⟦<DedupWithCount<I> as FallibleIterator>⟧.contract dedup_with_count_due I.contract dedup_with_count_source }
+{}
+
+/// The answers of `DedupByWithCount` are the stop that is due, and then the first of adjacent items that the closure finds the same beside their number: each stands where the next one that differs or a stop came, and each stop after what was buffered before it. The closure's failure is a stop.
+pub fn law_dedup_by_with_count<
+    I: FallibleIterator,
+    F: FnMut(&I::Item, &I::Item) -> Result<bool, I::Error>,
+>()
+where
+    I::Item: Drop,
+    I::Error: Drop,
+    ensures { TracesAre dedup_by_with_count_parts
+        ⟦<DedupByWithCount<I, F> as FallibleIterator>⟧.contract.steps
+        (DedupByWithCountTrace (call_at_two F.FnMut) I.contract.steps) }
+{}
+
+/// Without the numbers it is what `dedup_by` yields. A failure parts a list: what stands before it is counted by itself, and so is what comes after it.
+pub fn law_deduped_by_with_count<T, E>()
+    ensures parts { (h : T → T → Result Bool E) (a : List (Result T E)) (e : E) (b : List (Result T E))
+        → deduped_by_with_count h (a ++ Err e ∷ b)
+        ≡ deduped_by_with_count h a ++ Err e ∷ deduped_by_with_count h b }
+    ensures items { (h : T → T → Result Bool E) (l : List (Result T E))
+        → mapped (λ p. Ok p.1) (deduped_by_with_count h l) ≡ deduped_by h l }
+{}
+
+/// Each hint of `DedupByWithCount` is as sound as the hint of its source that it is made of; if a stop is due it is sound by itself, and if that is a failure it is that of what comes after it.
+pub fn law_hints_dedup_by_with_count<
+    I: FallibleIterator,
+    F: FnMut(&I::Item, &I::Item) -> Result<bool, I::Error>,
+>()
+where
+    I::Item: Drop,
+    I::Error: Drop,
+    ensures { HintsWhereHeld ⟦<DedupByWithCount<I, F> as FallibleIterator>⟧.contract dedup_by_with_count_due I.contract dedup_by_with_count_source }
+{}

@@ -1,0 +1,79 @@
+// The laws of the adapters that yield each item that equals none before it, or whose key does.
+ghost use Rattle.std.specs.Prelude.{◌≡◌, ◌++◌, ◌∷◌, Err, List, Ok, Result, [], cond};
+ghost use Rattle.std.specs.List.{IsDistinct, find};
+ghost use Rattle.std.specs.Set.{is_member};
+ghost use Rattle.fallible_iterator.specs.BothEnds.{failures_listed, items_listed};
+ghost use Rattle.fallible_iterator.specs.LawForm.{TracesAre};
+ghost use Rattle.fallible_iterator.specs.SoundHints.{HintsAsSoundAs};
+ghost use Rattle.fallible_itertools_adapters.specs.Unique.{UniqueTrace, unique_of, unique_parts, unique_source};
+ghost use Rattle.fallible_itertools_adapters.specs.UniqueBy.{UniqueByTrace, unique_by_parts, unique_by_source};
+ghost use Rattle.fallible_iterator.specs.Closures.{call_by_reference};
+
+use crate::unique::Unique;
+use crate::unique_by::UniqueBy;
+use fallible_iterator::FallibleIterator;
+use std::alloc::AllocError;
+use std::hash::Hash;
+
+/// The answers of `Unique` are the source's, without the items that equal one that was yielded before. Where the clone of an item or the room for it can't be allocated, the failure converted from the `AllocError` is in its place.
+pub fn law_unique<I: FallibleIterator>()
+where
+    I::Item: Clone + Drop + Eq + Hash,
+    I::Error: From<AllocError>,
+    ensures { TracesAre unique_parts ⟦<Unique<I> as FallibleIterator>⟧.contract.steps
+        (UniqueTrace I.Item.eq I.Item.is_clone I.Item.is_infallible I.Error.from_gives
+        I.contract.steps) }
+{}
+
+/// An item is yielded if no item before it equals it, and each failure is, in their order: of a list with one more item or failure at its end it is that of the list, and that item or failure. So no item equals another. The first item of the list that equals any given one is still the first. The failures are the list's.
+pub fn law_unique_of<T: Eq, E>()
+    ensures distinct { (l : List (Result T E)) → IsDistinct T.eq (items_listed (unique_of T.eq l)) }
+    ensures first { (l : List (Result T E)) (x : T)
+        → find (T.eq x) (items_listed (unique_of T.eq l)) ≡ find (T.eq x) (items_listed l) }
+    ensures failures { (l : List (Result T E))
+        → failures_listed (unique_of T.eq l) ≡ failures_listed l }
+    ensures none { unique_of {E = E} T.eq [] ≡ [] }
+    ensures item_last { (l : List (Result T E)) (x : T)
+        → unique_of T.eq (l ++ Ok x ∷ [])
+        ≡ cond (is_member T.eq (items_listed l) x) (unique_of T.eq l)
+        (unique_of T.eq l ++ Ok x ∷ []) }
+    ensures failure_last { (l : List (Result T E)) (e : E)
+        → unique_of T.eq (l ++ Err e ∷ []) ≡ unique_of T.eq l ++ Err e ∷ [] }
+{}
+
+/// Each hint of `Unique` is as sound as the hint of its source that it is made of.
+pub fn law_hints_unique<I: FallibleIterator>()
+where
+    I::Item: Clone + Drop + Eq + Hash,
+    I::Error: From<AllocError>,
+    ensures { (s : Unique I I.Item I.Error)
+        → HintsAsSoundAs ⟦<Unique<I> as FallibleIterator>⟧.contract s I.contract
+        (unique_source s) }
+{}
+
+/// The answers of `UniqueBy` are the source's, without the items whose keys equal that of one that was yielded before. Each item on which the closure fails is replaced by that failure. Where the room for a key can't be allocated, the failure converted from the `AllocError` is in the item's place.
+pub fn law_unique_by<
+    I: FallibleIterator,
+    K: Eq + Hash + Drop,
+    F: FnMut(&I::Item) -> Result<K, I::Error>,
+>()
+where
+    I::Item: Drop,
+    I::Error: From<AllocError>,
+    ensures { TracesAre unique_by_parts ⟦<UniqueBy<I, K, F> as FallibleIterator>⟧.contract.steps
+        (UniqueByTrace K.eq I.Error.from_gives (call_by_reference F.FnMut) I.contract.steps) }
+{}
+
+/// Each hint of `UniqueBy` is as sound as the hint of its source that it is made of.
+pub fn law_hints_unique_by<
+    I: FallibleIterator,
+    K: Eq + Hash + Drop,
+    F: FnMut(&I::Item) -> Result<K, I::Error>,
+>()
+where
+    I::Item: Drop,
+    I::Error: From<AllocError>,
+    ensures { (s : UniqueBy I K F)
+        → HintsAsSoundAs ⟦<UniqueBy<I, K, F> as FallibleIterator>⟧.contract s I.contract
+        (unique_by_source s) }
+{}

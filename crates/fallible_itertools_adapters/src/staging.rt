@@ -1,0 +1,380 @@
+//! Adapters of one source by what each of its answers makes: nothing, or one answer and what is due after it.
+ghost use Rattle.std.specs.Prelude.{◌≡◌, ℕ, Option, Result, Some, None, Ok, Err};
+ghost use Rattle.fallible_iterator.specs.Folds.{CallableDriving, Driven, TurnThrough, beside, beside_names};
+ghost use Rattle.fallible_iterator.specs.Passing.{IfItem};
+ghost use Rattle.fallible_itertools_adapters.specs.Staging.{DueTakes, DueTold, IsStage, MadeTakes, MadeTold, Met, MetTakes, PassesNoneOver, StageTurns, TakesAll, Told, due_comes, due_left, made_before, one_made, stage_meets, stage_step, stop_answer};
+ghost use Rattle.std.specs.declared.ops.ControlFlow.TheVariants.{Break};
+
+use fallible_iterator::extending::Beside;
+use fallible_iterator::{FallibleIterator, Turn};
+use std::mem::replace;
+use std::ops::ControlFlow;
+
+/// What an answer of the source makes: nothing, or an answer, and what is due after it.
+pub type Made<B, L, E> = Option<(Result<Option<B>, E>, Option<L>)>;
+
+/// One answer.
+#[inline(always)]
+pub fn one<B, L, E>(answer: Result<Option<B>, E>) -> Made<B, L, E>
+    ensures { result ≡ one_made answer }
+{
+    Some((answer, None))
+}
+
+/// One answer, after which `later` is due.
+#[inline(always)]
+pub fn one_then<B, L, E>(answer: Result<Option<B>, E>, later: L) -> Made<B, L, E>
+    ensures { result ≡ made_before answer later }
+{
+    Some((answer, Some(later)))
+}
+
+/// A stop, `Ok(None)` or a failure, as an answer.
+#[inline(always)]
+pub fn stopped<B, E>(stop: Option<E>) -> Result<Option<B>, E>
+    ensures { result ≡ stop_answer stop }
+{
+    match stop {
+        None => Ok(None),
+        Some(e) => Err(e),
+    }
+}
+
+/// What an adapter makes of each answer of its source. It holds a `P`; the source yields `X`.
+pub trait Stage<P, X, E> {
+    /// What the adapter yields.
+    type Kept;
+
+    /// What may be due after an answer.
+    type Later;
+
+    // What is due: an answer, or none where ends come from then on.
+    ghost comes: { Self → Self.Later → Option (Result (Option Self.Kept) E) };
+
+    // Holds of what is held and of the items on which the call may be made then.
+    ghost can_meet: { Self → P → X → Type 0 };
+
+    // Holds of what was held and the item, of what is made, and of what is held then.
+    ghost items: { Self → P → X
+        → Option (Result (Option Self.Kept) E × Option Self.Later) → P → Type 0 };
+
+    // The same for a stop: an end, `None`, or a failure.
+    ghost stops: { Self → P → Option E
+        → Option (Result (Option Self.Kept) E × Option Self.Later) → P → Type 0 };
+
+    // At most how many answers an item makes.
+    ghost most: { Self → ℕ };
+
+    // How many answers are held.
+    ghost held: { Self → P → ℕ };
+
+    /// What becomes of an item.
+    fn on_item(&self, p: &mut P, item: X) -> Made<Self::Kept, Self::Later, E>
+        requires { can_meet self.now p.old item }
+        ensures { items self.now p.old item result p.new };
+
+    /// What becomes of a stop of the source: `None` is `Ok(None)`, `Some` a failure.
+    fn on_stop(&self, p: &mut P, stop: Option<E>) -> Made<Self::Kept, Self::Later, E>
+        ensures { stops self.now p.old stop result p.new };
+
+    /// The answer that was due, and what is due after it.
+    fn come(&self, later: Self::Later) -> (Result<Option<Self::Kept>, E>, Option<Self::Later>)
+        ensures { result ≡ (due_comes (comes self.now later), due_left later (comes self.now later)) };
+
+    // So many answers are made and held; a stop makes a stop.
+    ghost is_stage: { (stage : Self)
+        → IsStage (comes stage) (stage_meets (items stage) (stops stage)) (most stage)
+        (held stage) };
+}
+
+// What becomes of an answer of the source.
+#[inline(always)]
+fn made_of<P, X, E, G: Stage<P, X, E>>(
+    answer: Result<Option<X>, E>,
+    p: &mut P,
+    stage: &G,
+) -> Made<G::Kept, G::Later, E>
+    requires { IfItem (G.can_meet stage.now p.old) answer }
+    ensures { stage_meets (G.items stage.now) (G.stops stage.now) p.old answer result p.new }
+{
+    match answer {
+        Ok(Some(x)) => stage.on_item(p, x),
+        Ok(None) => stage.on_stop(p, None),
+        Err(e) => stage.on_stop(p, Some(e)),
+    }
+}
+
+// What is due from now on, where nothing was.
+#[inline(always)]
+fn put_due<L>(due: &mut Option<L>, next: Option<L>)
+    requires { due.old ≡ None }
+    ensures { due.new ≡ next }
+{
+    match replace(due, next) {
+        None => {}
+        Some(_) => unreachable!(),
+    }
+}
+
+// The caller's turn on an answer.
+#[inline(always)]
+fn tell<B, E, C, R, K: Turn<C, B, R>>(
+    answer: Result<Option<B>, E>,
+    state: &mut C,
+    turn: &K,
+) -> ControlFlow<Result<Option<R>, E>, ()>
+    requires { IfItem (K.can_turn turn.now state.old) answer }
+    ensures { Told (K.turns turn.now) state.old answer result state.new }
+{
+    match answer {
+        Ok(Some(y)) => match turn.turn(state, y) {
+            ControlFlow::Continue(()) => ControlFlow::Continue(()),
+            ControlFlow::Break(stop) => ControlFlow::Break(Ok(Some(stop))),
+        },
+        Ok(None) => ControlFlow::Break(Ok(None)),
+        Err(e) => ControlFlow::Break(Err(e)),
+    }
+}
+
+// The caller's turn on what is due. If it stops the fold, it says what is due then.
+#[inline(always)]
+fn tell_due<P, X, E, G: Stage<P, X, E>, C, R, K: Turn<C, G::Kept, R>>(
+    due: Option<G::Later>,
+    adapter: &G,
+    state: &mut C,
+    turn: &K,
+) -> ControlFlow<(Result<Option<R>, E>, Option<G::Later>), ()>
+    requires { DueTakes (K.turns turn.now) (G.comes adapter.now) (K.can_turn turn.now) state.old due }
+    ensures { DueTold (K.turns turn.now) (G.comes adapter.now) state.old due result state.new }
+{
+    match due {
+        None => ControlFlow::Continue(()),
+        Some(later) => {
+            let (answer, left) = adapter.come(later);
+            match (tell(answer, state, turn), left) {
+                (ControlFlow::Continue(()), None) => ControlFlow::Continue(()),
+                (ControlFlow::Continue(()), Some(_)) => unreachable!(),
+                (ControlFlow::Break(answer), left) => ControlFlow::Break((answer, left)),
+            }
+        }
+    }
+}
+
+// The caller's turn on what an answer of the source makes.
+#[inline(always)]
+fn tell_made<P, X, E, G: Stage<P, X, E>, C, R, K: Turn<C, G::Kept, R>>(
+    made: Made<G::Kept, G::Later, E>,
+    adapter: &G,
+    state: &mut C,
+    turn: &K,
+) -> ControlFlow<(Result<Option<R>, E>, Option<G::Later>), ()>
+    requires { MadeTakes (K.turns turn.now) (G.comes adapter.now) (K.can_turn turn.now) state.old made }
+    ensures { MadeTold (K.turns turn.now) (G.comes adapter.now) state.old made result state.new }
+{
+    match made {
+        None => ControlFlow::Continue(()),
+        Some((first, due)) => match tell(first, state, turn) {
+            ControlFlow::Continue(()) => tell_due(due, adapter, state, turn),
+            ControlFlow::Break(answer) => ControlFlow::Break((answer, due)),
+        },
+    }
+}
+
+/// One answer of an adapter that makes something of each answer of its source: what is due, without a draw, or what one draw makes.
+pub fn next_stage<I: FallibleIterator, P, G: Stage<P, I::Item, I::Error>>(
+    it: &mut I,
+    stage: &mut (P, Option<G::Later>),
+    adapter: &G,
+) -> Result<Option<G::Kept>, I::Error>
+where
+    requires can_next { I.contract.can_next it.old }
+    requires takes { TakesAll I.contract (stage_meets (G.items adapter.now) (G.stops adapter.now))
+        (G.can_meet adapter.now) it.old stage.old.0 }
+    requires makes { PassesNoneOver (stage_meets (G.items adapter.now) (G.stops adapter.now)) }
+    ensures { stage_step (G.comes adapter.now)
+        (stage_meets (G.items adapter.now) (G.stops adapter.now)) I.contract.steps
+        (it.old, stage.old) result (it.new, stage.new) }
+{
+    match stage.1.take() {
+        Some(later) => {
+            let (answer, left) = adapter.come(later);
+            put_due(&mut stage.1, left);
+            answer
+        }
+        None => match made_of(it.next(), &mut stage.0, adapter) {
+            Some((answer, next)) => {
+                put_due(&mut stage.1, next);
+                answer
+            }
+            None => unreachable!(),
+        },
+    }
+}
+
+// The turn of the source's fold. It knows nothing of what is due: nothing is, and what is due where it stops goes with what it stops with. So a compiler may keep what is held in registers.
+#[derive(Drop)]
+struct StageTurn<'a, G, K> {
+    adapter: &'a G,
+    turn: &'a K,
+}
+
+impl<'a, 'b, P, X, E, C, R, G: Stage<P, X, E>, K: Turn<C, G::Kept, R>> Turn<
+    Beside<'b, C, P>,
+    X,
+    (Result<Option<R>, E>, Option<G::Later>),
+> for StageTurn<'a, G, K> {
+    ghost can_turn = { λ k b x. MetTakes (G.comes k.adapter.now)
+        (stage_meets (G.items k.adapter.now) (G.stops k.adapter.now)) (K.turns k.turn.now)
+        (G.can_meet k.adapter.now) (K.can_turn k.turn.now) (beside b) (Ok (Some x)) };
+
+    ghost turns = { λ k b x r d. TurnThrough beside beside_names
+        (StageTurns (G.comes k.adapter.now)
+        (stage_meets (G.items k.adapter.now) (G.stops k.adapter.now)) (K.turns k.turn.now))
+        b x r d };
+
+    #[inline(always)]
+    fn turn(
+        &self,
+        state: &mut Beside<'b, C, P>,
+        item: X,
+    ) -> ControlFlow<(Result<Option<R>, E>, Option<G::Later>), ()> {
+        tell_made(
+            self.adapter.on_item(state.p, item),
+            self.adapter,
+            state.c,
+            self.turn,
+        )
+    }
+}
+
+/// The fold of such an adapter: what is due, without a draw, and then the source's fold, whose turn is the caller's on what each item makes, and then what its stop makes.
+pub fn drive_stage<
+    I: FallibleIterator,
+    P,
+    G: Stage<P, I::Item, I::Error>,
+    C,
+    R,
+    K: Turn<C, G::Kept, R>,
+>(
+    it: &mut I,
+    stage: &mut (P, Option<G::Later>),
+    adapter: &G,
+    state: &mut C,
+    turn: &K,
+) -> Result<Option<R>, I::Error>
+where
+    requires can_next { I.contract.can_next it.old }
+    requires finite { I.contract.is_finite it.old }
+    requires takes { TakesAll I.contract (stage_meets (G.items adapter.now) (G.stops adapter.now))
+        (G.can_meet adapter.now) it.old stage.old.0 }
+    requires callable { CallableDriving (stage_step (G.comes adapter.now)
+        (stage_meets (G.items adapter.now) (G.stops adapter.now)) I.contract.steps)
+        (K.turns turn.now) (K.can_turn turn.now) (it.old, stage.old) state.old }
+    ensures { Driven (stage_step (G.comes adapter.now)
+        (stage_meets (G.items adapter.now) (G.stops adapter.now)) I.contract.steps)
+        (K.turns turn.now) (it.old, stage.old) state.old result (it.new, stage.new) state.new }
+{
+    match tell_due(stage.1.take(), adapter, state, turn) {
+        ControlFlow::Break((answer, left)) => {
+            put_due(&mut stage.1, left);
+            answer
+        }
+        ControlFlow::Continue(()) => {
+            let (answer, left) = drive_undue(it, &mut stage.0, adapter, state, turn);
+            put_due(&mut stage.1, left);
+            answer
+        }
+    }
+}
+
+// The fold where nothing is due, and what is due after it.
+#[inline(always)]
+fn drive_undue<
+    I: FallibleIterator,
+    P,
+    G: Stage<P, I::Item, I::Error>,
+    C,
+    R,
+    K: Turn<C, G::Kept, R>,
+>(
+    it: &mut I,
+    held: &mut P,
+    adapter: &G,
+    state: &mut C,
+    turn: &K,
+) -> (Result<Option<R>, I::Error>, Option<G::Later>)
+where
+    requires can_next { I.contract.can_next it.old }
+    requires finite { I.contract.is_finite it.old }
+    requires takes { TakesAll I.contract (stage_meets (G.items adapter.now) (G.stops adapter.now))
+        (G.can_meet adapter.now) it.old held.old }
+    requires callable { CallableDriving (stage_step (G.comes adapter.now)
+        (stage_meets (G.items adapter.now) (G.stops adapter.now)) I.contract.steps)
+        (K.turns turn.now) (K.can_turn turn.now) (it.old, (held.old, None)) state.old }
+    ensures { Driven (stage_step (G.comes adapter.now)
+        (stage_meets (G.items adapter.now) (G.stops adapter.now)) I.contract.steps)
+        (K.turns turn.now) (it.old, (held.old, None)) state.old result.0
+        (it.new, (held.new, result.1)) state.new }
+{
+    match drive_items(it, held, adapter, state, turn) {
+        Ok(Some(told)) => told,
+        Ok(None) => at_stop(None, held, adapter, state, turn),
+        Err(e) => at_stop(Some(e), held, adapter, state, turn),
+    }
+}
+
+// The source's fold, which stops with the answer of the adapter's and what is due then.
+#[inline(always)]
+fn drive_items<
+    I: FallibleIterator,
+    P,
+    G: Stage<P, I::Item, I::Error>,
+    C,
+    R,
+    K: Turn<C, G::Kept, R>,
+>(
+    it: &mut I,
+    held: &mut P,
+    adapter: &G,
+    state: &mut C,
+    turn: &K,
+) -> Result<Option<(Result<Option<R>, I::Error>, Option<G::Later>)>, I::Error>
+where
+    requires can_next { I.contract.can_next it.old }
+    requires finite { I.contract.is_finite it.old }
+    requires callable { CallableDriving I.contract.steps
+        (StageTurns (G.comes adapter.now) (stage_meets (G.items adapter.now) (G.stops adapter.now))
+        (K.turns turn.now))
+        (λ b x. MetTakes (G.comes adapter.now)
+        (stage_meets (G.items adapter.now) (G.stops adapter.now)) (K.turns turn.now)
+        (G.can_meet adapter.now) (K.can_turn turn.now) b (Ok (Some x)))
+        it.old (state.old, held.old) }
+    ensures { Driven I.contract.steps
+        (StageTurns (G.comes adapter.now) (stage_meets (G.items adapter.now) (G.stops adapter.now))
+        (K.turns turn.now))
+        it.old (state.old, held.old) result it.new (state.new, held.new) }
+{
+    let mut both = Beside { c: state, p: held };
+    it.drive(&mut both, &StageTurn { adapter, turn })
+}
+
+// What the fold returns at a stop of its source, and what is due then.
+fn at_stop<P, X, E, G: Stage<P, X, E>, C, R, K: Turn<C, G::Kept, R>>(
+    stop: Option<E>,
+    held: &mut P,
+    adapter: &G,
+    state: &mut C,
+    turn: &K,
+) -> (Result<Option<R>, E>, Option<G::Later>)
+    requires { MetTakes (G.comes adapter.now)
+        (stage_meets (G.items adapter.now) (G.stops adapter.now)) (K.turns turn.now)
+        (G.can_meet adapter.now) (K.can_turn turn.now) (state.old, held.old) (stop_answer stop) }
+    ensures { Met (G.comes adapter.now)
+        (stage_meets (G.items adapter.now) (G.stops adapter.now)) (K.turns turn.now)
+        (state.old, held.old) (stop_answer stop) (Break result) (state.new, held.new) }
+{
+    match tell_made(adapter.on_stop(held, stop), adapter, state, turn) {
+        ControlFlow::Break(told) => told,
+        ControlFlow::Continue(()) => unreachable!(),
+    }
+}

@@ -1,0 +1,117 @@
+//! The adapter that ends after the first item that a predicate rejects.
+ghost use Rattle.std.specs.Prelude.{Result, Option, false, ◌≡◌};
+ghost use Rattle.fallible_iterator.specs.Closures.{call_by_reference, takes_by_reference};
+ghost use Rattle.fallible_iterator.specs.Contract.{seen_as};
+ghost use Rattle.fallible_iterator.specs.Laws.Contract.{lawful_seen};
+ghost use Rattle.fallible_itertools_adapters.specs.Staging.{StopPasses, ends_come};
+ghost use Rattle.fallible_itertools_adapters.specs.TakeWhileInclusive.{inclusive_contract, inclusive_on_item, inclusive_parts};
+ghost use Rattle.fallible_itertools_adapters.specs.Laws.TakeWhileInclusive.{is_stage_inclusive, lawful_inclusive};
+
+use crate::staging::{Made, Stage, drive_stage, next_stage, one, one_then, stopped};
+use fallible_iterator::{FallibleIterator, Turn};
+
+/// What the source returns up to the first item that the predicate rejects, and that one too. Then each call returns `Ok(None)`. An item on which the predicate fails is lost, and its failure is yielded; neither it nor an `Ok(None)` of the source exhausts anything.
+#[derive(Clone, Debug, Drop)]
+pub struct TakeWhileInclusive<I, P> {
+    pub(crate) it: I,
+    // the predicate, and once an item was rejected, ends without draws
+    pub(crate) stage: (P, Option<()>),
+}
+
+impl<I, P> TakeWhileInclusive<I, P> {
+    /// Creates it. It draws nothing.
+    #[inline(always)]
+    pub fn new(it: I, predicate: P) -> TakeWhileInclusive<I, P>
+        ensures { inclusive_parts result ≡ ((it, predicate), false) }
+    {
+        TakeWhileInclusive {
+            it,
+            stage: (predicate, None),
+        }
+    }
+}
+
+impl<I: FallibleIterator, P: FnMut(&I::Item) -> Result<bool, I::Error>> FallibleIterator
+    for TakeWhileInclusive<I, P>
+where
+    I::Item: Drop,
+{
+    type Item = I::Item;
+
+    type Error = I::Error;
+
+    ghost contract = { seen_as inclusive_parts (inclusive_contract I.contract P.FnMut) };
+
+    /// Draws once, and calls the predicate on an item; draws nothing once an item was rejected.
+    fn next(&mut self) -> Result<Option<I::Item>, I::Error> {
+        next_stage(&mut self.it, &mut self.stage, &InclusiveStage)
+    }
+
+    fn size_hint(&self) -> (usize, Option<usize>) {
+        if self.stage.1.is_some() {
+            (0, Some(0))
+        } else {
+            let (low, high) = self.it.size_hint();
+            (low.min(1), high)
+        }
+    }
+
+    /// The source's fold, which stops after the rejected item.
+    fn drive<C, R, K: Turn<C, I::Item, R>>(
+        &mut self,
+        state: &mut C,
+        turn: &K,
+    ) -> Result<Option<R>, I::Error> {
+        drive_stage(&mut self.it, &mut self.stage, &InclusiveStage, state, turn)
+    }
+
+    ghost lawful = { lawful_seen inclusive_parts (lawful_inclusive P.FnMut I.lawful) };
+}
+
+// Nothing is drawn after an item that the predicate rejects.
+#[derive(Drop)]
+struct InclusiveStage;
+
+impl<X: Drop, E, P: FnMut(&X) -> Result<bool, E>> Stage<P, X, E> for InclusiveStage {
+    type Kept = X;
+
+    type Later = ();
+
+    ghost comes = { λ _ later. ends_come later };
+
+    ghost can_meet = { λ _ p x. takes_by_reference P.FnMut p x };
+
+    ghost items = { λ _ p x made q. inclusive_on_item (call_by_reference P.FnMut) p x made q };
+
+    ghost stops = { λ _ p stop made q. StopPasses p stop made q };
+
+    ghost most = { λ _. 1 };
+
+    ghost held = { λ _ p. 0 };
+
+    #[inline(always)]
+    fn on_item(&self, p: &mut P, item: X) -> Made<X, (), E>
+        requires { takes_by_reference P.FnMut p.old item }
+        ensures { inclusive_on_item (call_by_reference P.FnMut) p.old item result p.new }
+    {
+        match p(&item) {
+            Ok(true) => one(Ok(Some(item))),
+            Ok(false) => one_then(Ok(Some(item)), ()),
+            Err(e) => one(Err(e)),
+        }
+    }
+
+    #[inline(always)]
+    fn on_stop(&self, _p: &mut P, stop: Option<E>) -> Made<X, (), E>
+        ensures { StopPasses _p.old stop result _p.new }
+    {
+        one(stopped(stop))
+    }
+
+    #[inline(always)]
+    fn come(&self, later: ()) -> (Result<Option<X>, E>, Option<()>) {
+        (Ok(None), Some(later))
+    }
+
+    ghost is_stage = { λ _. is_stage_inclusive (call_by_reference P.FnMut) };
+}

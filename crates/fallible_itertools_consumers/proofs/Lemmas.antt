@@ -1,0 +1,25 @@
+-- The lemmas on each consumer, by the name of its module.
+pub mod AllUnique
+pub mod AtMostOne
+pub mod CheckedSum
+pub mod CmpBy
+pub mod Conversions
+pub mod Counts
+pub mod Equal
+pub mod FindOrLast
+pub mod FindPosition
+pub mod FoldWhile
+pub mod FromBack
+pub mod GroupMap
+pub mod IsSorted
+pub mod IsSortedBy
+pub mod Join
+pub mod Joined
+pub mod Keyed
+pub mod MinMax
+pub mod MinMaxBy
+pub mod Parted
+pub mod PartitionMap
+pub mod PositionBest
+pub mod Sorted
+pub mod UntilFailure

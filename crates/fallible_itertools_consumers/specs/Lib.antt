@@ -1,0 +1,25 @@
+-- What the clauses of `src/` cite, and in `Laws` what follows from it: lemmas that the ghost members cite.
+pub mod AllUnique
+pub mod CheckedSum
+pub mod CmpBy
+pub mod Converting
+pub mod Counts
+pub mod Equal
+pub mod ExactlyOne
+pub mod FindOrLast
+pub mod FindPosition
+pub mod FoldWhile
+pub mod FromBack
+pub mod GroupMap
+pub mod IsSorted
+pub mod IsSortedBy
+pub mod Join
+pub mod Keyed
+pub mod Laws
+pub mod MinMax
+pub mod MinMaxBy
+pub mod Parted
+pub mod PartitionMap
+pub mod PositionBest
+pub mod Sorted
+pub mod UntilFailure
