@@ -21,6 +21,8 @@ pub mod DedupByKey
 pub mod DedupByWithCount
 pub mod DedupWithCount
 pub mod Deduped
+pub mod Duplicates
+pub mod DuplicatesOf
 pub mod Equal
 pub mod ErrInto
 pub mod FindOrLast
@@ -73,6 +75,7 @@ pub mod TupleWindows
 pub mod Tuples
 pub mod Unique
 pub mod UniqueBy
+pub mod UniqueByOf
 pub mod UniqueOf
 pub mod UntilFailure
 pub mod WindowHints

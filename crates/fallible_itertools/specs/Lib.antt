@@ -16,6 +16,7 @@ pub mod DedupBy
 pub mod DedupByKey
 pub mod DedupByWithCount
 pub mod DedupWithCount
+pub mod Duplicates
 pub mod Equal
 pub mod ErrInto
 pub mod ExactlyOne
