@@ -32,7 +32,8 @@ STATING = ("lists", "value", "rest", "results", "items", "repeats", "shown", "re
 OF_LIST = re.compile(r"OverList|OverBoth|Lists\b")
 BORROWS = re.compile(r"\( ?(?:alloc: Global, )?(?:&(?:mut )?self|\w+: &mut )")
 # what a word of a clause says besides the list
-SAID_OF = {"Repeats": " at each draw", "ListsMade": ", up to an allocation failure", "EachRunFrom": ", as std reads it"}
+SAID_OF = {"Repeats": " at each draw", "ListsMade": ", up to an allocation failure", "ListsUnlessRefused": ", up to an allocation failure",
+           "EachRunFrom": ", as std reads it"}
 
 
 def made_type(function):

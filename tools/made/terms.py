@@ -5,7 +5,7 @@ import re
 from made.code import split_at
 
 OVER = ("OverList", "OverListWith", "OverBoth")
-LISTING = ("Lists", "ListsForGood", "ListsMade", "Repeats", "ListsBothEnds")
+LISTING = ("Lists", "ListsForGood", "ListsMade", "ListsUnlessRefused", "Repeats", "ListsBothEnds")
 BINDER = re.compile(r"[({](?:[\w']+ )+: ")
 # premises that name the source's list, the closure's function and the conversion of failures
 NAMING = ("Lists", "ListsBothEnds", "Acts", "ActsWith", "ActsWithState", "LooksAs", "FoldsAs", "Converts")

@@ -4,6 +4,7 @@ ghost use Rattle.fallible_iterator.specs.Lists.{counted, folded, mapped, results
 ghost use Rattle.fallible_iterator.specs.Making.{CollectedMade, ListsMade, SameOrRefused};
 ghost use Rattle.fallible_itertools.specs.ChunkBy.{chunked_by};
 ghost use Rattle.fallible_itertools.specs.Chunks.{chunked};
+ghost use Rattle.fallible_itertools.specs.Duplicates.{duplicates_of};
 ghost use Rattle.fallible_itertools.specs.Unique.{unique_of};
 ghost use Rattle.fallible_itertools.specs.UniqueBy.{unique_by_key};
 ghost use Rattle.example_itertools.specs.declared.batching.NoBatch.{NoBatch};
@@ -129,6 +130,30 @@ pub fn different_readings(
         (counted (unique_of nat_eq (results readings.items))) result }
 {
     convert(readings.into_iter()).unique(alloc).count()
+}
+
+/// The readings that equal exactly one before them, or the first failure, up to an allocation failure.
+pub fn repeated_readings(
+    alloc: Global,
+    readings: Vec<Result<u32, NoBatch>>,
+) -> Result<Vec<u32>, Fault<NoBatch>>
+    ensures { CollectedMade (λ x y. y ≡ x) (λ refused why. why ≡ NoBatch.Memory)
+        (λ xs v. v.items ≡ xs) (duplicates_of nat_eq (results readings.items)) result }
+{
+    convert(readings.into_iter())
+        .duplicates(alloc)
+        .collect(alloc)
+}
+
+/// How many readings equal exactly one before them, or the first failure, or an allocation failure.
+pub fn number_of_repeated_readings(
+    alloc: Global,
+    readings: Vec<Result<u32, NoBatch>>,
+) -> Result<usize, NoBatch>
+    ensures { SameOrRefused (λ refused why. why ≡ NoBatch.Memory)
+        (counted (duplicates_of nat_eq (results readings.items))) result }
+{
+    convert(readings.into_iter()).duplicates(alloc).count()
 }
 
 /// The first reading of each ten, or the first failure, up to an allocation failure.

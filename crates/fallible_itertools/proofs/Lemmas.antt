@@ -15,6 +15,8 @@ pub use Rattle.fallible_itertools_adapters.proofs.Lemmas.DedupByKey
 pub use Rattle.fallible_itertools_adapters.proofs.Lemmas.DedupByWithCount
 pub use Rattle.fallible_itertools_adapters.proofs.Lemmas.DedupWithCount
 pub use Rattle.fallible_itertools_adapters.proofs.Lemmas.Deduped
+pub use Rattle.fallible_itertools_adapters.proofs.Lemmas.Duplicates
+pub use Rattle.fallible_itertools_adapters.proofs.Lemmas.DuplicatesOf
 pub use Rattle.fallible_itertools_adapters.proofs.Lemmas.ErrInto
 pub use Rattle.fallible_itertools_adapters.proofs.Lemmas.Groups
 pub use Rattle.fallible_itertools_adapters.proofs.Lemmas.Holding
@@ -51,6 +53,7 @@ pub use Rattle.fallible_itertools_adapters.proofs.Lemmas.TupleWindows
 pub use Rattle.fallible_itertools_adapters.proofs.Lemmas.Tuples
 pub use Rattle.fallible_itertools_adapters.proofs.Lemmas.Unique
 pub use Rattle.fallible_itertools_adapters.proofs.Lemmas.UniqueBy
+pub use Rattle.fallible_itertools_adapters.proofs.Lemmas.UniqueByOf
 pub use Rattle.fallible_itertools_adapters.proofs.Lemmas.UniqueOf
 pub use Rattle.fallible_itertools_adapters.proofs.Lemmas.WindowHints
 pub use Rattle.fallible_itertools_adapters.proofs.Lemmas.WithPosition

@@ -11,6 +11,7 @@ pub use Rattle.fallible_itertools_adapters.specs.DedupBy
 pub use Rattle.fallible_itertools_adapters.specs.DedupByKey
 pub use Rattle.fallible_itertools_adapters.specs.DedupByWithCount
 pub use Rattle.fallible_itertools_adapters.specs.DedupWithCount
+pub use Rattle.fallible_itertools_adapters.specs.Duplicates
 pub use Rattle.fallible_itertools_adapters.specs.ErrInto
 pub use Rattle.fallible_itertools_adapters.specs.Holding
 pub use Rattle.fallible_itertools_adapters.specs.InspectErr

@@ -8,10 +8,10 @@ pub mod traits;
 
 pub use fallible_itertools_adapters::{
     ChunkBy, Chunks, Coalesce, Copied, Dedup, DedupBy, DedupByKey, DedupByWithCount,
-    DedupWithCount, EitherOrBoth, ErrInto, InspectErr, Interleave, Intersperse, IntersperseWith,
-    Merge, MergeBy, MergeJoinBy, OrElse, PadUsing, PeekingNext, PeekingTakeWhile, Position,
-    Positions, StopAfter, TakeWhileInclusive, TupleWindows, Tuples, Unique, UniqueBy, WithPosition,
-    ZipEq, ZipLongest,
+    DedupWithCount, Duplicates, EitherOrBoth, ErrInto, InspectErr, Interleave, Intersperse,
+    IntersperseWith, Merge, MergeBy, MergeJoinBy, OrElse, PadUsing, PeekingNext, PeekingTakeWhile,
+    Position, Positions, StopAfter, TakeWhileInclusive, TupleWindows, Tuples, Unique, UniqueBy,
+    WithPosition, ZipEq, ZipLongest,
 };
 pub use fallible_itertools_consumers::{
     CheckedTotal, DoubleEndedFallibleItertools, Either, FoldWhile, MinMaxResult, NotOne,

@@ -1,4 +1,5 @@
 //! The extension trait of every fallible iterator.
+ghost use Rattle.std.specs.HashMap as hash;
 ghost use Rattle.std.specs.HashMap.{get, spare};
 ghost use Rattle.std.specs.HashSet.{IsEmpty};
 ghost use Rattle.std.specs.Set.{ClonesAreEqual};
@@ -35,6 +36,7 @@ ghost use Rattle.fallible_itertools_adapters.specs.DedupBy.{dedup_by_asks, dedup
 ghost use Rattle.fallible_itertools_adapters.specs.DedupByKey as dedup_by_key;
 ghost use Rattle.fallible_itertools_adapters.specs.DedupByWithCount.{dedup_by_with_count_asks, dedup_by_with_count_contract, dedup_by_with_count_parts, dedup_by_with_count_takes};
 ghost use Rattle.fallible_itertools_adapters.specs.DedupWithCount.{dedup_with_count_contract, dedup_with_count_parts};
+ghost use Rattle.fallible_itertools_adapters.specs.Duplicates.{ListsUnlessRefused, duplicates_came, duplicates_contract, duplicates_of, duplicates_parts, duplicates_source};
 ghost use Rattle.fallible_itertools_consumers.specs.Equal.{FirstCall, TestCall, contained, equal_to_first, equal_value, rest_contained, rest_unequal, unequal_pick, value_or_both};
 ghost use Rattle.fallible_itertools_adapters.specs.ErrInto.{err_into_contract, err_into_parts};
 ghost use Rattle.fallible_itertools_consumers.specs.ExactlyOne.{AtMostOneDrains, at_most_one_of, wanting_one};
@@ -88,9 +90,9 @@ use fallible_iterator::extending::{
 use fallible_iterator::{Collect, FallibleIterator, Fault, IntoFallibleIterator};
 use fallible_itertools_adapters::{
     ChunkBy, Chunks, Coalesce, Copied, Dedup, DedupBy, DedupByKey, DedupByWithCount,
-    DedupWithCount, ErrInto, InspectErr, Interleave, Intersperse, IntersperseWith, Merge, MergeBy,
-    MergeJoinBy, OrElse, PadUsing, Positions, StopAfter, TakeWhileInclusive, TupleWindows, Tuples,
-    Unique, UniqueBy, WithPosition, ZipEq, ZipLongest,
+    DedupWithCount, Duplicates, ErrInto, InspectErr, Interleave, Intersperse, IntersperseWith,
+    Merge, MergeBy, MergeJoinBy, OrElse, PadUsing, Positions, StopAfter, TakeWhileInclusive,
+    TupleWindows, Tuples, Unique, UniqueBy, WithPosition, ZipEq, ZipLongest,
 };
 use fallible_itertools_consumers::all_unique::{AllUniqueTurn, unique_or_fault};
 use fallible_itertools_consumers::checked_sum::{
@@ -2495,6 +2497,35 @@ pub trait FallibleItertools: FallibleIterator {
             Self.Error.from_gives result (unique_by.unique_by_key K.eq h l)) }
     {
         UniqueBy::new(self, alloc, f)
+    }
+
+    /// Yields each item that equals exactly one before it: of equal items the second.
+    ///
+    /// Creating it draws nothing and allocates nothing. `next` draws up to an item that equals exactly one before it, a failure or an `Ok(None)`. A map has the first of equal items, whether or not a second came; nothing is cloned. It fails as the source does, and a failure parts nothing. After a failure or an `Ok(None)` the map stays.
+    ///
+    /// Requires: nothing. `next` requires that it may be called on the source, and that the source is finite, since one call may leave many items out.
+    ///
+    /// Memory: if the room for an item that equals none before it can't be allocated, the failure converted from `AllocError` is yielded. Then the item is lost, and no other: it doesn't count as one before the later items.
+    ///
+    /// ```
+    /// let readings = [Ok::<u32, AllocError>(7), Ok(150), Ok(7), Ok(7)];
+    /// let mut it = convert(readings.into_iter()).duplicates(rt.alloc());
+    /// let drawn = [it.next(), it.next()];
+    /// assert_eq!(rt; drawn, [Ok(Some(7)), Ok(None)]);
+    /// ```
+    final fn duplicates(self, alloc: Global) -> Duplicates<Self>
+    where
+        Self::Item: Drop + Eq + Hash,
+        Self::Error: From<AllocError>,
+        ensures parts { duplicates_source result ≡ self }
+        ensures empty { hash.IsEmpty (duplicates_came result) }
+        ensures lists { (l : List (Result Self.Item Self.Error))
+            → list.Lists Self.contract.steps self l
+            → ListsUnlessRefused (seen_as duplicates_parts
+            (duplicates_contract Self.Item.eq Self.Error.from_gives Self.contract)).steps
+            Self.Error.from_gives result (duplicates_of Self.Item.eq l) }
+    {
+        Duplicates::new(self, alloc)
     }
 }
 

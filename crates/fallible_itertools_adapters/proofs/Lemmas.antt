@@ -15,6 +15,8 @@ pub mod DedupByKey
 pub mod DedupByWithCount
 pub mod DedupWithCount
 pub mod Deduped
+pub mod Duplicates
+pub mod DuplicatesOf
 pub mod ErrInto
 pub mod Groups
 pub mod Holding
@@ -51,6 +53,7 @@ pub mod TupleWindows
 pub mod Tuples
 pub mod Unique
 pub mod UniqueBy
+pub mod UniqueByOf
 pub mod UniqueOf
 pub mod WindowHints
 pub mod WithPosition

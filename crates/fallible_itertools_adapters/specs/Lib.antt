@@ -11,6 +11,7 @@ pub mod DedupBy
 pub mod DedupByKey
 pub mod DedupByWithCount
 pub mod DedupWithCount
+pub mod Duplicates
 pub mod ErrInto
 pub mod Holding
 pub mod InspectErr

@@ -91,3 +91,15 @@ module _ {A K E : Type 0} (eq : K → K → Bool) where
   -- The first item of each key, which h makes; where h fails, its failure in the item's place. Failures stay, and part nothing.
   unfoldable pub unique_by_key : (A → Result K E) → List (Result A E) → List (Result A E)
   unique_by_key h l = unique_key_from h [] l
+
+-- ---- what its law is stated by
+
+module _ {K E : Type 0} (eq : K → K → Bool) where
+  -- whether it is a key, and k equals it
+  abbrev pub is_key : K → Result K E → Bool
+  is_key k (Ok j) = eq k j
+  is_key k (Err e) = false
+
+  -- whether k equals the key of x, which h makes; if h fails on x, it has none
+  abbrev pub has_key : {A : Type 0} → (A → Result K E) → K → A → Bool
+  has_key h k x = is_key k (h x)

@@ -2,6 +2,7 @@
 
 mod copied;
 mod counting;
+mod duplicates;
 mod failing;
 mod grouping;
 mod holding;
@@ -28,6 +29,7 @@ pub use counting::{
     law_dedup_by_with_count, law_dedup_with_count, law_deduped_by_with_count,
     law_deduped_with_count, law_hints_dedup_by_with_count, law_hints_dedup_with_count,
 };
+pub use duplicates::{law_duplicates, law_duplicates_of, law_hints_duplicates};
 pub use failing::{
     law_back_err_into, law_back_inspect_err, law_back_or_else, law_err_into,
     law_hints_back_err_into, law_hints_back_inspect_err, law_hints_err_into, law_hints_inspect_err,
@@ -58,6 +60,9 @@ pub use peeking_take_while::{
 pub use positions::{law_hints_positions, law_positions};
 pub use stop_after::{law_hints_stop_after, law_stop_after};
 pub use take_while_inclusive::{law_hints_take_while_inclusive, law_take_while_inclusive};
-pub use unique::{law_hints_unique, law_hints_unique_by, law_unique, law_unique_by, law_unique_of};
+pub use unique::{
+    law_hints_unique, law_hints_unique_by, law_unique, law_unique_by, law_unique_by_of,
+    law_unique_of,
+};
 pub use zip_eq::{law_hints_zip_eq, law_zip_eq};
 pub use zip_longest::{law_hints_zip_longest, law_zip_longest};

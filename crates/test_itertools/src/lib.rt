@@ -22,6 +22,8 @@ mod many;
 #[cfg(test)]
 mod passing;
 #[cfg(test)]
+mod repeated;
+#[cfg(test)]
 mod rows;
 #[cfg(test)]
 mod stopping;

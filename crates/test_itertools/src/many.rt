@@ -91,6 +91,13 @@ fn many_are_batched_grouped_and_told_apart(rt: HostRuntime) -> Result<(), Fail> 
         .unique(rt.alloc())
         .count();
     assert_eq!(rt; apart, Ok(5_000));
+    let repeated = (0..MANY)
+        .chain(0..MANY)
+        .into_fallible()
+        .map_err(|never: Infallible| -> TestError { match never {} })
+        .duplicates(rt.alloc())
+        .count();
+    assert_eq!(rt; repeated, Ok(5_000));
     let unique = (0..MANY).into_fallible().all_unique(rt.alloc());
     assert!(rt; matches!(unique, Ok(true)));
     Ok(())

@@ -79,7 +79,7 @@ module _ {A : Type 0} (eq : A → A → Bool) (equivalence : IsEquivalence eq) w
   -- ---- what is found first
 
   -- what equals an item that is seen is seen
-  seen_equal : (q x : A) (seen : List A) → eq q x ≡ true → is_member eq seen x ≡ true → Unseen seen q → ⊥
+  pub seen_equal : (q x : A) (seen : List A) → eq q x ≡ true → is_member eq seen x ≡ true → Unseen seen q → ⊥
   seen_equal q x seen e is unseen = let k = list_any_congr equivalence q x seen e in cc
 
   find_past : (q x : A) (seen xs : List A) (b : Bool) → eq q x ≡ b → is_member eq seen x ≡ true → Unseen seen q → find (eq q) xs ≡ cond b (Some x) (find (eq q) xs)
@@ -120,13 +120,19 @@ or_with : (e m t : Bool) → (e ≡ true → m ≡ true) → (m || t) ≡ (m || 
 or_with true m t is = rw (is refl) refl
 or_with false m t is = refl
 
-abbrev seen_by : {A : Type 0} → Bool → List A → List A → List A
+pub last_or_not : {A E : Type 0} (x : A) (b c : Bool) (before : List (Result A E)) → b ≡ c → before ++ first_of_equal x b [] [] ≡ cond c before (before ++ Ok x ∷ [])
+last_or_not x true true before is = append-nil before
+last_or_not x true false before is = absurd cc
+last_or_not x false true before is = absurd cc
+last_or_not x false false before is = refl
+
+abbrev pub seen_by : {A : Type 0} → Bool → List A → List A → List A
 seen_by true same other = same
 seen_by false same other = other
 
 module _ {A E : Type 0} (eq : A → A → Bool) where
   -- the items seen after the list
-  abbrev seen_after : List A → List (Result A E) → List A
+  abbrev pub seen_after : List A → List (Result A E) → List A
   seen_after seen [] = seen
   seen_after seen (Ok x ∷ l) = seen_by (is_member eq seen x) (seen_after seen l) (seen_after (x ∷ seen) l)
   seen_after seen (Err e ∷ l) = seen_after seen l
@@ -149,12 +155,6 @@ module _ {A E : Type 0} (eq : A → A → Bool) where
   unfolding unique_of unique_from
   unique_of_none = refl
 
-  last_or_not : (x : A) (b c : Bool) (before : List (Result A E)) → b ≡ c → before ++ first_of_equal x b [] [] ≡ cond c before (before ++ Ok x ∷ [])
-  last_or_not x true true before is = append-nil before
-  last_or_not x true false before is = absurd cc
-  last_or_not x false true before is = absurd cc
-  last_or_not x false false before is = refl
-
 module _ {A : Type 0} (eq : A → A → Bool) (equivalence : IsEquivalence eq) where
   -- what equals an item that is seen is one of those
   member_where_equal : (q x : A) (seen : List A) → is_member eq seen x ≡ true → eq q x ≡ true → is_member eq seen q ≡ true
@@ -165,7 +165,7 @@ module _ {A : Type 0} (eq : A → A → Bool) (equivalence : IsEquivalence eq) w
   member_by q x seen rest same other false is in_same in_other = in_other ∙ or_moved (eq q x) (is_member eq seen q) (is_member eq rest q)
 
   -- what was seen is equal to an item that was seen before or to one of the list
-  member_after : {E : Type 0} (seen : List A) (l : List (Result A E)) (q : A) → is_member eq (seen_after eq seen l) q ≡ (is_member eq seen q || is_member eq (items_listed l) q)
+  pub member_after : {E : Type 0} (seen : List A) (l : List (Result A E)) (q : A) → is_member eq (seen_after eq seen l) q ≡ (is_member eq seen q || is_member eq (items_listed l) q)
   member_after seen [] q = or_false (is_member eq seen q)
   member_after seen (Ok x ∷ l) q = member_by q x seen (items_listed l) _ _ (is_member eq seen x) refl (member_after seen l q) (member_after (x ∷ seen) l q)
   member_after seen (Err e ∷ l) q = member_after seen l q
@@ -173,4 +173,4 @@ module _ {A : Type 0} (eq : A → A → Bool) (equivalence : IsEquivalence eq) w
   -- The last item is one more if no item before it equals it.
   pub item_last : {E : Type 0} (l : List (Result A E)) (x : A) → unique_of eq (l ++ Ok x ∷ []) ≡ cond (is_member eq (items_listed l) x) (unique_of eq l) (unique_of eq l ++ Ok x ∷ [])
   unfolding unique_of unique_from
-  item_last l x = unique_joined eq [] l (Ok x ∷ []) ∙ last_or_not eq x (is_member eq (seen_after eq [] l) x) (is_member eq (items_listed l) x) (unique_from eq [] l) (member_after [] l x)
+  item_last l x = unique_joined eq [] l (Ok x ∷ []) ∙ last_or_not x (is_member eq (seen_after eq [] l) x) (is_member eq (items_listed l) x) (unique_from eq [] l) (member_after [] l x)

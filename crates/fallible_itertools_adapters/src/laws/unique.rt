@@ -6,7 +6,8 @@ ghost use Rattle.fallible_iterator.specs.BothEnds.{failures_listed, items_listed
 ghost use Rattle.fallible_iterator.specs.LawForm.{TracesAre};
 ghost use Rattle.fallible_iterator.specs.SoundHints.{HintsAsSoundAs};
 ghost use Rattle.fallible_itertools_adapters.specs.Unique.{UniqueTrace, unique_of, unique_parts, unique_source};
-ghost use Rattle.fallible_itertools_adapters.specs.UniqueBy.{UniqueByTrace, unique_by_parts, unique_by_source};
+ghost use Rattle.fallible_iterator.specs.Lists.{mapped};
+ghost use Rattle.fallible_itertools_adapters.specs.UniqueBy.{UniqueByTrace, has_key, unique_by_key, unique_by_parts, unique_by_source};
 ghost use Rattle.fallible_iterator.specs.Closures.{call_by_reference};
 
 use crate::unique::Unique;
@@ -62,6 +63,29 @@ where
     I::Error: From<AllocError>,
     ensures { TracesAre unique_by_parts ⟦<UniqueBy<I, K, F> as FallibleIterator>⟧.contract.steps
         (UniqueByTrace K.eq I.Error.from_gives (call_by_reference F.FnMut) I.contract.steps) }
+{}
+
+/// The keys of the items that are yielded are those of the list's items, each that equals none before it, and the failures, in their order: what `unique_of` is of the list with the keys in the items' places. So no key equals another. The first item of the list that has any given key is still the first. An item on which the closure fails is replaced by that failure, and each failure stays. An item at the end of the list is yielded if its key equals none before it.
+pub fn law_unique_by_of<T, K: Eq, E>()
+    ensures keys { (h : T → Result K E) (l : List (Result T E))
+        → mapped h (unique_by_key K.eq h l) ≡ unique_of K.eq (mapped h l) }
+    ensures distinct { (h : T → Result K E) (l : List (Result T E))
+        → IsDistinct K.eq (items_listed (mapped h (unique_by_key K.eq h l))) }
+    ensures first { (h : T → Result K E) (l : List (Result T E)) (k : K)
+        → find (has_key K.eq h k) (items_listed (unique_by_key K.eq h l))
+        ≡ find (has_key K.eq h k) (items_listed l) }
+    ensures failures { (h : T → Result K E) (l : List (Result T E))
+        → failures_listed (unique_by_key K.eq h l) ≡ failures_listed (mapped h l) }
+    ensures none { (h : T → Result K E) → unique_by_key K.eq h [] ≡ [] }
+    ensures item_last { (h : T → Result K E) (l : List (Result T E)) (x : T) (k : K) → h x ≡ Ok k
+        → unique_by_key K.eq h (l ++ Ok x ∷ [])
+        ≡ cond (is_member K.eq (items_listed (mapped h l)) k) (unique_by_key K.eq h l)
+        (unique_by_key K.eq h l ++ Ok x ∷ []) }
+    ensures keyless_last { (h : T → Result K E) (l : List (Result T E)) (x : T) (e : E)
+        → h x ≡ Err e
+        → unique_by_key K.eq h (l ++ Ok x ∷ []) ≡ unique_by_key K.eq h l ++ Err e ∷ [] }
+    ensures failure_last { (h : T → Result K E) (l : List (Result T E)) (e : E)
+        → unique_by_key K.eq h (l ++ Err e ∷ []) ≡ unique_by_key K.eq h l ++ Err e ∷ [] }
 {}
 
 /// Each hint of `UniqueBy` is as sound as the hint of its source that it is made of.

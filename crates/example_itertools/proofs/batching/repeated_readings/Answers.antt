@@ -1,0 +1,7 @@
+-- What is collected are items of the list.
+use Rattle.std.proofs.Common.{rules}
+use Rattle.fallible_itertools.proofs.Lemmas.Duplicates.{collected_unless_refused}
+use Rattle.example_itertools.proofs.batching.repeated_readings.Goals as goal
+
+pub returns : goal.returns
+returns c = collected_unless_refused _ _ _ _ c.collect.ensures.collects (c.duplicates.ensures.lists _ (c.convert.ensures.results _ (search rules)))

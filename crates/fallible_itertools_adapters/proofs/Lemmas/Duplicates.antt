@@ -1,0 +1,292 @@
+-- What `Duplicates` lists, up to an allocation failure, and what `collect` and `count` make of that.
+use Rattle.std.specs.Prelude.{◌≡◌, ℕ, zero, suc, ◌+◌, Bool, true, false, cond, nat_eq, Result, Option, Some, None, Ok, Err, List, [], ◌∷◌, ◌++◌, length, map, ◌⊎◌}
+use Rattle.std.specs.Cmp.{IsEquivalence}
+use Rattle.std.specs.HashMap.{HashMap, IsEmpty, Updates, get}
+use Rattle.std.specs.List.{count_by}
+use Rattle.std.specs.Map.{lookup}
+use Rattle.std.proofs.Common.{refl, sym, ap, subst, inl, inr, ◌∙◌, arith, ne_eqb}
+use Rattle.std.proofs.lemmas.List.Sums.{sum_by-cons}
+use Rattle.fallible_iterator.specs.Traces.{Answered, Run, item, end}
+use Rattle.fallible_iterator.specs.Contract.{Contract, seen_as}
+use Rattle.fallible_iterator.specs.Collecting.{Collects}
+use Rattle.fallible_iterator.specs.Folds.{CountDrains, CountExit}
+use Rattle.fallible_iterator.specs.Lists.{AlwaysGives, Lists, before, collected, counted, one_more_than, result_answer}
+use Rattle.fallible_iterator.specs.Making.{AnswersRefusal, CollectedMade, EachMade, IsRefusal, SameOrRefused}
+use Rattle.fallible_iterator.specs.Passing.{passing_step}
+use Rattle.fallible_iterator.specs.Laws.Passing.{Passes, done, end_passes, failure_passes, keeps, refuses, closes, leaves_out, passes_of_pass_trace, pass_trace_of_passes}
+use Rattle.fallible_iterator.proofs.Lemmas.Lists.Passing.{end_of_nil, failure_of_first}
+use Rattle.fallible_iterator.proofs.Lemmas.Making.{failed_result, refused_result}
+use Rattle.fallible_itertools_adapters.specs.Holding.{as_answered_item}
+use Rattle.fallible_itertools_adapters.specs.Duplicates.{GivesUnlessRefused, ListsUnlessRefused, come_by, duplicates_asks, duplicates_came, duplicates_contract, duplicates_from, duplicates_of, duplicates_parts, kept_unless, second_of_equal}
+use Rattle.std.specs.declared.alloc.AllocError.{AllocError}
+use Rattle.fallible_iterator.specs.Fault.{Fault}
+use Rattle.fallible_iterator.specs.Fault.TheVariants.{Source, Memory}
+use Rattle.fallible_iterator.specs.Outcome.{Outcome}
+use Rattle.fallible_iterator.specs.Outcome.TheVariants.{Kept, LeftOut, Failure, End}
+use Rattle.fallible_itertools_adapters.specs.declared.duplicates.Duplicates.{Duplicates}
+
+-- ---- how many items equal one
+
+module _ {A : Type 0} where
+  pub count_cons : (p : A → Bool) (x : A) (xs : List A) (b : Bool) → p x ≡ b → count_by p (x ∷ xs) ≡ cond b 1 0 + count_by p xs
+  count_cons p x xs b is = sum_by-cons (λ y. cond (p y) 1 0) x xs ∙ ap (λ (c : Bool). cond c 1 0 + count_by p xs) is
+
+  pub count_alike : (p q : A → Bool) → ((x : A) → p x ≡ q x) → (xs : List A) → count_by p xs ≡ count_by q xs
+  count_alike p q same [] = refl
+  count_alike p q same (x ∷ xs) = count_cons p x xs (q x) (same x) ∙ ap (λ (n : ℕ). cond (q x) 1 0 + n) (count_alike p q same xs) ∙ sym (count_cons q x xs (q x) refl)
+
+-- ---- what the map has
+
+-- what it has at a key that n items equal
+abbrev mark : ℕ → Option Bool
+mark zero = None
+mark (suc zero) = Some false
+mark (suc (suc n)) = Some true
+
+module _ {A E : Type 0} (S : Type 0) (eq : A → A → Bool) (equivalence : IsEquivalence eq) (from : AllocError → E → Type 0) where
+  -- the map has what came
+  abbrev HasCome : HashMap A Bool S → List A → Type 0
+  HasCome m came = (k : A) → get eq m k ≡ mark (count_by (eq k) came)
+
+  has_come_more : (m n : HashMap A Bool S) (x : A) (v : Bool) (came : List A) → HasCome m came → Some v ≡ mark (suc (count_by (eq x) came)) → Updates eq m n x (Some v) → HasCome n (x ∷ came)
+  has_come_more m n x v came has is updates k = updates.0 k ∙ by_equal (eq x k) refl
+    where
+      by_equal : (b : Bool) → eq x k ≡ b → cond b (Some v) (get eq m k) ≡ mark (count_by (eq k) (x ∷ came))
+      by_equal true e = is ∙ ap mark (ap (λ (c : ℕ). suc c) (count_alike (eq x) (eq k) (λ z. equivalence.congr x k z e) came) ∙ omega arith ∙ sym (count_cons (eq k) x came true (equivalence.symm k x ∙ e)))
+      by_equal false e = has k ∙ ap mark (omega arith ∙ sym (count_cons (eq k) x came false (equivalence.symm k x ∙ e)))
+
+  abbrev Asks : HashMap A Bool S → A → Outcome A E → HashMap A Bool S → Type 0
+  Asks = duplicates_asks eq from
+
+  -- the outcome is an allocation failure
+  abbrev IsRefused : Outcome A E → Type 0
+  IsRefused o = (e : E) × (o ≡ Failure e) × IsRefusal from e
+
+  -- what becomes of an item that n items before it equal
+  abbrev kept_where_one : A → ℕ → Outcome A E
+  kept_where_one x n = kept_unless (cond (nat_eq n 1) false true) x
+
+  abbrev Acts : A → ℕ → List A → Outcome A E → HashMap A Bool S → Type 0
+  Acts x n came o more = IsRefused o ⊎ ((o ≡ kept_where_one x n) × HasCome more (x ∷ came))
+
+  acts_first : (m : HashMap A Bool S) (x : A) (came : List A) (o : Outcome A E) (n : HashMap A Bool S) → HasCome m came → 0 ≡ count_by (eq x) came → come_by eq from m x None o n → Acts x 0 came o n
+  acts_first m x came (Kept y) n has is w = absurd w
+  acts_first m x came LeftOut n has is w = inr (refl, has_come_more m n x false came has (ap (λ (c : ℕ). mark (suc c)) is) w)
+  acts_first m x came (Failure e) n has is w = inl (e, refl, w.0)
+  acts_first m x came End n has is w = absurd w
+
+  acts_by : (m : HashMap A Bool S) (x : A) (came : List A) (c : ℕ) (o : Outcome A E) (n : HashMap A Bool S) → HasCome m came → c ≡ count_by (eq x) came → come_by eq from m x (mark c) o n → Acts x c came o n
+  acts_by m x came zero o n has is w = acts_first m x came o n has is w
+  acts_by m x came (suc zero) o n has is w = inr (w.0, has_come_more m n x true came has (ap (λ (c : ℕ). mark (suc c)) is) w.1)
+  acts_by m x came (suc (suc c)) o n has is w = inr (w.0 ∙ sym (ap (λ (b : Bool). kept_unless (cond b false true) x) (ne_eqb (suc (suc c)) 1 (λ e. omega (arith, e)))), has_come_more m n x true came has (ap (λ (c : ℕ). mark (suc c)) is) w.1)
+
+  acts : (m : HashMap A Bool S) (x : A) (came : List A) (o : Outcome A E) (n : HashMap A Bool S) → HasCome m came → Asks m x o n → Acts x (count_by (eq x) came) came o n
+  acts m x came o n has w = acts_by m x came (count_by (eq x) came) o n has refl (subst (λ (v : Option Bool). come_by eq from m x v o n) (has x) w)
+
+  -- ---- what it yields
+
+  module _ {I : Type 0} (steps : I → Answered A E → I → Type 0) where
+    abbrev StepsOfDuplicates : I × HashMap A Bool S → Answered A E → I × HashMap A Bool S → Type 0
+    StepsOfDuplicates = passing_step steps Asks as_answered_item
+
+    abbrev Gives : I × HashMap A Bool S → List (Result A E) → Type 0
+    Gives s l = GivesUnlessRefused StepsOfDuplicates from s l
+
+    abbrev OneDrawn : I → HashMap A Bool S → Answered A E → I → HashMap A Bool S → Type 0
+    OneDrawn s p r t q = Passes steps Asks as_answered_item s p (r ∷ []) t q
+
+    -- what is known of an answer, and of what comes then
+    abbrev Told : List (Result A E) → Answered A E → I × HashMap A Bool S → Type 0
+    Told [] r t = AnswersRefusal from r ⊎ (r ≡ end)
+    Told (y ∷ l) r t = AnswersRefusal from r ⊎ ((r ≡ result_answer y) × Gives t l)
+
+    told_where_gives : (l : List (Result A E)) (s : I × HashMap A Bool S) (r : Answered A E) (t : I × HashMap A Bool S) → Gives s l → StepsOfDuplicates s r t → Told l r t
+    told_where_gives [] s r t a w = a r t w
+    told_where_gives (y ∷ l) s r t a w = a r t w
+
+    gives_where_told : (l : List (Result A E)) (s : I × HashMap A Bool S) → ((r : Answered A E) (t : I × HashMap A Bool S) → StepsOfDuplicates s r t → Told l r t) → Gives s l
+    gives_where_told [] s a = a
+    gives_where_told (y ∷ l) s a = a
+
+    told_refused : (l : List (Result A E)) (r : Answered A E) (t : I × HashMap A Bool S) → AnswersRefusal from r → Told l r t
+    told_refused [] r t is = inl is
+    told_refused (y ∷ l) r t is = inl is
+
+    -- after an item of the list, what came and what comes then
+    abbrev After : List (Result A E) → List A → Type 0
+    After l came = (t : I) (q : HashMap A Bool S) → AlwaysGives steps t l → HasCome q came → Gives (t, q) (duplicates_from eq came l)
+
+    told_kept : (x y : A) (b : Bool) (l : List (Result A E)) (t : I × HashMap A Bool S) → Kept y ≡ kept_unless {E = E} (cond b false true) x → Gives t l → Told (second_of_equal x b l) (Ok (Some y)) t
+    told_kept x y true l t is a = inr ((let same : y ≡ x = (let k = is in cc) in ap (λ z. Ok (Some z)) same), a)
+    told_kept x y false l t is a = absurd (let k = is in cc)
+
+    told_left_out : (x : A) (b : Bool) (l : List (Result A E)) (s : I × HashMap A Bool S) (r : Answered A E) (t : I × HashMap A Bool S) → LeftOut ≡ kept_unless {E = E} (cond b false true) x → Gives s l → StepsOfDuplicates s r t → Told (second_of_equal x b l) r t
+    told_left_out x true l s r t is a w = absurd (let k = is in cc)
+    told_left_out x false l s r t is a w = told_where_gives l s r t a w
+
+    never_fails : (x : A) (e : E) (b : Bool) → Failure e ≡ kept_unless (cond b false true) x → ⊥
+    never_fails x e true is = cc
+    never_fails x e false is = cc
+
+    never_ends : (x : A) (b : Bool) → End ≡ kept_unless {E = E} (cond b false true) x → ⊥
+    never_ends x true is = cc
+    never_ends x false is = cc
+
+    -- the list after x
+    abbrev FromItem : A → List A → List (Result A E) → List (Result A E)
+    FromItem x came l = second_of_equal x (nat_eq (count_by (eq x) came) 1) (duplicates_from eq (x ∷ came) l)
+
+    told_of_kept : (x y : A) (l : List (Result A E)) (came : List A) (t : I) (q : HashMap A Bool S) → AlwaysGives steps t l → After l (x ∷ came) → Acts x (count_by (eq x) came) came (Kept y) q → Told (FromItem x came l) (Ok (Some y)) (t, q)
+    told_of_kept x y l came t q a later (inl r) = absurd (let k = r.1 in cc)
+    told_of_kept x y l came t q a later (inr w) = told_kept x y (nat_eq (count_by (eq x) came) 1) (duplicates_from eq (x ∷ came) l) (t, q) w.0 (later t q a w.1)
+
+    told_of_failed : (x : A) (e : E) (l : List (Result A E)) (came : List A) (t : I) (q : HashMap A Bool S) → Acts x (count_by (eq x) came) came (Failure e) q → Told (FromItem x came l) (Err e) (t, q)
+    told_of_failed x e l came t q (inl r) = told_refused (FromItem x came l) (Err e) (t, q) (e, refl, subst (IsRefusal from) (let k = r.1 in cc) r.2)
+    told_of_failed x e l came t q (inr w) = absurd (never_fails x e (nat_eq (count_by (eq x) came) 1) w.0)
+
+    told_of_left_out : (x : A) (l : List (Result A E)) (came : List A) (u : I) (h : HashMap A Bool S) (r : Answered A E) (t : I × HashMap A Bool S) → AlwaysGives steps u l → After l (x ∷ came) → Acts x (count_by (eq x) came) came LeftOut h → StepsOfDuplicates (u, h) r t → Told (FromItem x came l) r t
+    told_of_left_out x l came u h r t a later (inl f) rest = absurd (let k = f.1 in cc)
+    told_of_left_out x l came u h r t a later (inr w) rest = told_left_out x (nat_eq (count_by (eq x) came) 1) (duplicates_from eq (x ∷ came) l) (u, h) r t w.0 (later u h a w.1) rest
+
+    ends_never : (x : A) (came : List A) (h : HashMap A Bool S) → Acts x (count_by (eq x) came) came End h → ⊥
+    ends_never x came h (inl r) = let k = r.1 in cc
+    ends_never x came h (inr w) = never_ends x (nat_eq (count_by (eq x) came) 1) w.0
+
+    -- a call on the list's item
+    by_item : (came : List A) (p : HashMap A Bool S) (x z : A) (o c : Outcome A E) (q : HashMap A Bool S) → HasCome p came → z ≡ x → o ≡ c → Asks p z o q → Acts x (count_by (eq x) came) came c q
+    by_item came p x z o c q has same is w = acts p x came c q has (subst (λ (d : Outcome A E). Asks p x d q) is (subst (λ (k : A). Asks p k o q) same w))
+
+    told_of_item : (x : A) (l : List (Result A E)) (came : List A) (s : I) (p : HashMap A Bool S) (r : Answered A E) (t : I) (q : HashMap A Bool S) → AlwaysGives steps s (Ok x ∷ l) → HasCome p came → After l (x ∷ came) → OneDrawn s p r t q → Told (FromItem x came l) r (t, q)
+    told_of_item x l came s p _ t q a has later (end_passes step c) = absurd (let w = (a (Ok None) _ step).0 in cc)
+    told_of_item x l came s p _ t q a has later (failure_passes e step c) = absurd (let w = (a (Err e) _ step).0 in cc)
+    told_of_item x l came s p _ t q a has later (keeps z o y step called is done) = let w = a (Ok (Some z)) t step in told_of_kept x y l came t q w.1 later (by_item came p x z o (Kept y) q has (let k = w.0 in cc) is called)
+    told_of_item x l came s p _ t q a has later (refuses z o e step called is done) = let w = a (Ok (Some z)) t step in told_of_failed x e l came t q (by_item came p x z o (Failure e) q has (let k = w.0 in cc) is called)
+    told_of_item x l came s p _ t q a has later (closes {h = h} z o step called is c) = let w = a (Ok (Some z)) _ step in absurd (ends_never x came h (by_item came p x z o End h has (let k = w.0 in cc) is called))
+    told_of_item x l came s p r t q a has later (leaves_out {u = u} {h = h} z o step called is rest) = let w = a (Ok (Some z)) u step in told_of_left_out x l came u h r (t, q) w.1 later (by_item came p x z o LeftOut h has (let k = w.0 in cc) is called) (pass_trace_of_passes rest)
+
+    gives_duplicates : (l : List (Result A E)) (came : List A) → After l came
+    unfolding duplicates_from
+    gives_duplicates [] came = λ s p a has r t w. inr (end_of_nil a (passes_of_pass_trace w))
+    gives_duplicates (Err d ∷ l) came = λ s p a has r t w. let k = failure_of_first d l a (passes_of_pass_trace w) in inr (k.0, gives_duplicates l came t.0 t.1 k.2 (subst (λ (q : HashMap A Bool S). HasCome q came) (sym k.1) has))
+    gives_duplicates (Ok x ∷ l) came = λ s p a has. gives_where_told (FromItem x came l) (s, p) (λ r t w. told_of_item x l came s p r t.0 t.1 a has (gives_duplicates l (x ∷ came)) (passes_of_pass_trace w))
+
+module _ {W P A E : Type 0} (from : AllocError → E → Type 0) (view : W → P) (steps : P → Answered A E → P → Type 0) where
+  -- a value whose answers are those of its parts gives what they give
+  gives_unless_refused_seen : (l : List (Result A E)) (s : W) → GivesUnlessRefused steps from (view s) l → GivesUnlessRefused (λ u r v. steps (view u) r (view v)) from s l
+  gives_unless_refused_seen [] s a = λ r t w. a r (view t) w
+  gives_unless_refused_seen (y ∷ l) s a = λ r t w. by_answer r t (λ b. gives_unless_refused_seen l t b) (a r (view t) w)
+    where
+      by_answer : (r : Answered A E) (t : W) → (GivesUnlessRefused steps from (view t) l → GivesUnlessRefused (λ u r v. steps (view u) r (view v)) from t l) → AnswersRefusal from r ⊎ ((r ≡ result_answer y) × GivesUnlessRefused steps from (view t) l) → AnswersRefusal from r ⊎ ((r ≡ result_answer y) × GivesUnlessRefused (λ u r v. steps (view u) r (view v)) from t l)
+      by_answer r t later (inl f) = inl f
+      by_answer r t later (inr k) = inr (k.0, later k.1)
+
+duplicates_from_none : {A E : Type 0} (eq : A → A → Bool) (l : List (Result A E)) → duplicates_from eq [] l ≡ duplicates_of eq l
+unfolding duplicates_of
+duplicates_from_none eq l = refl
+
+pub lists_duplicates : {I A E : Type 0} (eq : A → A → Bool) (equivalence : IsEquivalence eq) (from : AllocError → E → Type 0) (m : Contract I A E) (s : Duplicates I A E) (l : List (Result A E)) → IsEmpty (duplicates_came s) → Lists m.steps s.it l → ListsUnlessRefused (seen_as duplicates_parts (duplicates_contract eq from m)).steps from s (duplicates_of eq l)
+lists_duplicates eq equivalence from m s l none i = record {
+  runs = subst (λ k. GivesUnlessRefused (seen_as duplicates_parts (duplicates_contract eq from m)).steps from s k) (duplicates_from_none eq l)
+      (gives_unless_refused_seen from duplicates_parts (duplicates_contract eq from m).steps (duplicates_from eq [] l) s
+      (gives_duplicates _ eq equivalence from m.steps l [] s.it s.came i.runs (λ k. ap (lookup (eq k)) none)));
+}
+
+-- ---- what consumers make of it
+
+module _ {S A E : Type 0} (steps : S → Answered A E → S → Type 0) (from : AllocError → E → Type 0) where
+  -- what the list goes on with after the items, by the last answer
+  abbrev RestTold : Answered A E → List (Result A E) → Type 0
+  RestTold (Ok None) rest = rest ≡ []
+  RestTold (Err e) rest = (k : List (Result A E)) × (rest ≡ Err e ∷ k)
+  RestTold (Ok (Some y)) rest = ⊥
+
+  -- the last answer is an allocation failure, or it and the items before it are those of the list
+  abbrev DrawsTold : List (Result A E) → List A → Answered A E → Type 0
+  DrawsTold l xs last = AnswersRefusal from last ⊎ ((rest : List (Result A E)) × (l ≡ map (λ x. Ok x) xs ++ rest) × RestTold last rest)
+
+  draws_told_cons : (x : A) (l : List (Result A E)) (xs : List A) (last : Answered A E) → DrawsTold l xs last → DrawsTold (Ok x ∷ l) (x ∷ xs) last
+  draws_told_cons x l xs last (inl f) = inl f
+  draws_told_cons x l xs last (inr (rest, is, k)) = inr (rest, ap (λ j. Ok x ∷ j) is, k)
+
+  -- `last` is no item
+  abbrev IsStop : Answered A E → Type 0
+  IsStop (Ok None) = Unit {0}
+  IsStop (Err e) = Unit {0}
+  IsStop (Ok (Some y)) = ⊥
+
+  last_told : (y : Result A E) (l : List (Result A E)) (last : Answered A E) {G : Type 0} → IsStop last → AnswersRefusal from last ⊎ ((last ≡ result_answer y) × G) → DrawsTold (y ∷ l) [] last
+  last_told y l last stops (inl f) = inl f
+  last_told (Ok x) l (Ok None) stops (inr k) = absurd (let w = k.0 in cc)
+  last_told (Ok x) l (Err e) stops (inr k) = absurd (let w = k.0 in cc)
+  last_told (Err d) l (Ok None) stops (inr k) = absurd (let w = k.0 in cc)
+  last_told (Err d) l (Err e) stops (inr k) = inr (Err d ∷ l, refl, (l, (let same : e ≡ d = (let w = k.0 in cc) in ap (λ (c : E). Err c ∷ l) (sym same))))
+  last_told y l (Ok (Some x)) stops (inr k) = absurd stops
+
+  ended_told : (last : Answered A E) → AnswersRefusal from last ⊎ (last ≡ end) → DrawsTold [] [] last
+  ended_told last (inl f) = inl f
+  ended_told last (inr is) = inr ([], refl, subst (λ (r : Answered A E). RestTold r []) (sym is) refl)
+
+  item_told : (y : Result A E) (x : A) (l : List (Result A E)) (xs : List A) (last : Answered A E) {G : Type 0} → (G → DrawsTold l xs last) → AnswersRefusal from (item x) ⊎ ((item x ≡ result_answer y) × G) → DrawsTold (y ∷ l) (x ∷ xs) last
+  item_told y x l xs last later (inl f) = absurd (let w = f.1 in cc)
+  item_told (Ok z) x l xs last later (inr k) = subst (λ (w : A). DrawsTold (Ok w ∷ l) (x ∷ xs) last) (let same : x ≡ z = (let w = k.0 in cc) in same) (draws_told_cons x l xs last (later k.1))
+  item_told (Err d) x l xs last later (inr k) = absurd (let w = k.0 in cc)
+
+  no_item : (x : A) (r : Answered A E) → r ≡ item x → AnswersRefusal from r ⊎ (r ≡ end) → ⊥
+  no_item x r item_is (inl f) = let w = sym item_is ∙ f.1 in cc
+  no_item x r item_is (inr is) = let w = sym item_is ∙ is in cc
+
+  draws_told : (xs : List A) (last : Answered A E) (l : List (Result A E)) (s t : S) → IsStop last → GivesUnlessRefused steps from s l → Run steps s (map item xs ++ last ∷ []) t → DrawsTold l xs last
+  draws_told [] last [] s t stops a ran = ended_told last (a last ran.0 ran.1)
+  draws_told [] last (y ∷ l) s t stops a ran = last_told y l last stops (a last ran.0 ran.1)
+  draws_told (x ∷ xs) last [] s t stops a ran = absurd (no_item x (item x) refl (a (item x) ran.0 ran.1))
+  draws_told (x ∷ xs) last (y ∷ l) s t stops a ran = item_told y x l xs last (λ k. draws_told xs last l ran.0 t stops k ran.2) (a (item x) ran.0 ran.1)
+
+module _ {A E : Type 0} where
+  collected_all : (xs : List A) → collected {E = E} (map (λ x. Ok x) xs ++ []) ≡ Ok xs
+  unfolding collected
+  collected_all [] = refl
+  collected_all (x ∷ xs) = ap (before x) (collected_all xs)
+
+  collected_failed : (xs : List A) (e : E) (rest : List (Result A E)) → collected (map (λ x. Ok x) xs ++ Err e ∷ rest) ≡ Err e
+  unfolding collected
+  collected_failed [] e rest = refl
+  collected_failed (x ∷ xs) e rest = ap (before x) (collected_failed xs e rest)
+
+  counted_all : (xs : List A) → counted {E = E} (map (λ x. Ok x) xs ++ []) ≡ Ok (length xs)
+  unfolding counted
+  counted_all [] = refl
+  counted_all (x ∷ xs) = ap one_more_than (counted_all xs) ∙ ap (λ n. Ok n) (omega arith)
+
+  counted_failed : (xs : List A) (e : E) (rest : List (Result A E)) → counted (map (λ x. Ok x) xs ++ Err e ∷ rest) ≡ Err e
+  unfolding counted
+  counted_failed [] e rest = refl
+  counted_failed (x ∷ xs) e rest = ap one_more_than (counted_failed xs e rest)
+
+each_same : {A : Type 0} (xs : List A) → EachMade (λ x y. y ≡ x) xs xs
+each_same [] = tt
+each_same (x ∷ xs) = (refl, each_same xs)
+
+module _ {S A E : Type 0} (steps : S → Answered A E → S → Type 0) (from : AllocError → E → Type 0) where
+  collected_by : {C : Type 0} (into : List A → C → Type 0) (l : List (Result A E)) (xs : List A) (c : C) → into xs c → DrawsTold steps from l xs end → CollectedMade (λ x y. y ≡ x) from into l (Ok c)
+  collected_by into l xs c is (inl f) = absurd (let w = f.1 in cc)
+  collected_by into l xs c is (inr (rest, same, none)) = (xs, xs, ap collected (same ∙ ap (λ k. map (λ x. Ok x) xs ++ k) none) ∙ collected_all xs, each_same xs, is)
+
+  failed_by : (l : List (Result A E)) (xs : List A) (e : E) → DrawsTold steps from l xs (Err e) → (collected l ≡ Err e) ⊎ IsRefusal from e
+  failed_by l xs e (inl f) = inr (subst (IsRefusal from) (let w = f.1 in cc) f.2)
+  failed_by l xs e (inr (rest, same, k)) = inl (ap collected (same ∙ ap (λ j. map (λ x. Ok x) xs ++ j) k.1) ∙ collected_failed xs e k.0)
+
+  counted_by : (l : List (Result A E)) (xs : List A) (last : Answered A E) (r : Result ℕ E) → CountExit (length xs) last r → (IsStop steps from last → DrawsTold steps from l xs last) → SameOrRefused from (counted l) r
+  counted_by l xs (Ok (Some y)) r exit told = absurd exit
+  counted_by l xs (Ok None) r exit told = elim (told tt) [ inl f ↦ absurd (let w = f.1 in cc) | inr (rest, same, none) ↦ rw (exit, ap counted (same ∙ ap (λ k. map (λ x. Ok x) xs ++ k) none) ∙ counted_all xs) refl ]
+  counted_by l xs (Err e) r exit told = elim (told tt) [ inl f ↦ rw exit (refused_result (λ v y. y ≡ v) from (counted l) e (subst (IsRefusal from) (let w = f.1 in cc) f.2)) | inr (rest, same, k) ↦ rw exit (failed_result (λ v y. y ≡ v) from (counted l) e (ap counted (same ∙ ap (λ j. map (λ x. Ok x) xs ++ j) k.1) ∙ counted_failed xs e k.0)) ]
+
+module _ {S A E : Type 0} {steps : S → Answered A E → S → Type 0} {from : AllocError → E → Type 0} where
+  -- what `collect` returns over what lists unless an allocation fails
+  pub collected_unless_refused : {C : Type 0} (into : List A → C → Type 0) (at_making : Type 0) (at_item : C → A → Type 0) {s : S} {l : List (Result A E)} (r : Result C (Fault E)) → Collects steps into at_making at_item s r → ListsUnlessRefused steps from s l → CollectedMade (λ x y. y ≡ x) from into l r
+  collected_unless_refused into at_making at_item {s} {l} (Ok c) k i = collected_by steps from into l k.items c k.is_made (draws_told steps from k.items end l s k.after tt i.runs k.ran)
+  collected_unless_refused into at_making at_item {s} {l} (Err (Source e)) k i = failed_by steps from l k.items e (draws_told steps from k.items (Err e) l s k.after tt i.runs k.ran)
+  collected_unless_refused into at_making at_item (Err (Memory a)) k i = tt
+
+  -- what `count` returns over what lists unless an allocation fails
+  pub counted_unless_refused : {s t : S} {l : List (Result A E)} {r : Result ℕ E} → CountDrains steps s r t → ListsUnlessRefused steps from s l → SameOrRefused from (counted l) r
+  counted_unless_refused {s = s} {t = t} {l = l} {r = r} k i = counted_by steps from l k.items k.last r k.at.exit (λ stops. draws_told steps from k.items k.last l s t stops i.runs k.ran)

@@ -1,0 +1,50 @@
+// The laws of the adapter that yields an item where it comes for the second time.
+ghost use Rattle.std.specs.Prelude.{◌≡◌, ◌++◌, ◌∷◌, ◌≤◌, Decides, Err, List, Ok, Result, [], cond, nat_eq};
+ghost use Rattle.std.specs.List.{IsDistinct, count_by};
+ghost use Rattle.std.specs.Set.{is_member};
+ghost use Rattle.fallible_iterator.specs.BothEnds.{failures_listed, items_listed};
+ghost use Rattle.fallible_iterator.specs.LawForm.{TracesAre};
+ghost use Rattle.fallible_iterator.specs.SoundHints.{HintsAsSoundAs};
+ghost use Rattle.fallible_itertools_adapters.specs.Duplicates.{DuplicatesTrace, duplicates_of, duplicates_parts, duplicates_source};
+
+use crate::duplicates::Duplicates;
+use fallible_iterator::FallibleIterator;
+use std::alloc::AllocError;
+use std::hash::Hash;
+
+/// The answers of `Duplicates` are the source's, without the items that equal none before them and those that equal one that was yielded. Where the room for an item that equals none can't be allocated, the failure converted from the `AllocError` is in its place.
+pub fn law_duplicates<I: FallibleIterator>()
+where
+    I::Item: Drop + Eq + Hash,
+    I::Error: From<AllocError>,
+    ensures { TracesAre duplicates_parts ⟦<Duplicates<I> as FallibleIterator>⟧.contract.steps
+        (DuplicatesTrace I.Item.eq I.Error.from_gives I.contract.steps) }
+{}
+
+/// An item is listed exactly if two items of the list or more equal it, and no item that is listed equals another. An item at the end of the list is listed if exactly one before it equals it, and each failure is, in their order: the list with one more item or failure at its end lists that after the others.
+pub fn law_duplicates_of<T: Eq, E>()
+    ensures twice { (l : List (Result T E)) (x : T)
+        → Decides (is_member T.eq (items_listed (duplicates_of T.eq l)) x)
+        (2 ≤ count_by (T.eq x) (items_listed l)) }
+    ensures distinct { (l : List (Result T E))
+        → IsDistinct T.eq (items_listed (duplicates_of T.eq l)) }
+    ensures failures { (l : List (Result T E))
+        → failures_listed (duplicates_of T.eq l) ≡ failures_listed l }
+    ensures none { duplicates_of {E = E} T.eq [] ≡ [] }
+    ensures item_last { (l : List (Result T E)) (x : T)
+        → duplicates_of T.eq (l ++ Ok x ∷ [])
+        ≡ cond (nat_eq (count_by (T.eq x) (items_listed l)) 1)
+        (duplicates_of T.eq l ++ Ok x ∷ []) (duplicates_of T.eq l) }
+    ensures failure_last { (l : List (Result T E)) (e : E)
+        → duplicates_of T.eq (l ++ Err e ∷ []) ≡ duplicates_of T.eq l ++ Err e ∷ [] }
+{}
+
+/// Each hint of `Duplicates` is as sound as the hint of its source that it is made of.
+pub fn law_hints_duplicates<I: FallibleIterator>()
+where
+    I::Item: Drop + Eq + Hash,
+    I::Error: From<AllocError>,
+    ensures { (s : Duplicates I I.Item I.Error)
+        → HintsAsSoundAs ⟦<Duplicates<I> as FallibleIterator>⟧.contract s I.contract
+        (duplicates_source s) }
+{}
