@@ -33,7 +33,7 @@ module _ {A E : Type 0} (eq : A → A → Bool) where
   held_list_is_deduped_with_count l = held_list_is_counted_from are_equal None l
 
 pub lists_deduped_with_count : {S A E : Type 0} {it : S} (m : Contract S A E) (eq : A → A → Bool) (s : DedupWithCount S A E) (l : List (Result A E)) → dedup_with_count_parts s ≡ (it, (None, None)) → Lists m.steps it l → Lists (seen_as dedup_with_count_parts (dedup_with_count_contract eq m)).steps s (deduped_with_count eq l)
-lists_deduped_with_count {it = it} {E = E} m eq s l parts i = lists_seen dedup_with_count_parts (dedup_with_count_contract eq m).steps s parts (held_list_is_deduped_with_count eq l) (gives_held_list m.steps (dedup_with_count_asks eq) (λ p a. p ≡ a) (count_outcome (are_equal {E = E} eq)) (held_after_count (are_equal {E = E} eq)) (acts_by_next eq) l it None None refl i.runs)
+lists_deduped_with_count {E = E} {it = it} m eq s l parts i = lists_seen dedup_with_count_parts (dedup_with_count_contract eq m).steps s parts (held_list_is_deduped_with_count eq l) (gives_held_list m.steps (dedup_with_count_asks eq) (λ p a. p ≡ a) (count_outcome (are_equal {E = E} eq)) (held_after_count (are_equal {E = E} eq)) (acts_by_next eq) l it None None refl i.runs)
 
 -- ---- its hint
 

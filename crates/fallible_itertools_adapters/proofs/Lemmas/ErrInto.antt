@@ -1,5 +1,5 @@
 -- What `ErrInto` lists, and that a failure may always be converted.
-use Rattle.std.specs.Prelude.{Result, Ok, Err, List, ⊤}
+use Rattle.std.specs.Prelude.{◌≡◌, Result, Ok, Err, List, ⊤}
 use Rattle.std.proofs.Common.{refl}
 use Rattle.fallible_iterator.specs.Contract.{Contract, seen_as}
 use Rattle.fallible_iterator.specs.Failing.{TakesFailure, failures_mapped}

@@ -1,6 +1,9 @@
 -- What both sides list, in turn.
 use Rattle.std.specs.Prelude.{◌+◌}
-use Rattle.std.proofs.Common.{inr, arith}
+use Rattle.std.proofs.Common.{sym, subst, inr, arith}
+use Rattle.fallible_iterator.specs.Contract.{AtMost}
+use Rattle.fallible_iterator.specs.Cutting.Fuse.{fuse_contract, fuse_source}
+use Rattle.fallible_itertools_adapters.specs.Interleave.{interleave_contract}
 use Rattle.fallible_itertools_adapters.proofs.Lemmas.Interleave.{lists_interleaved}
 use Rattle.fallible_itertools.proofs.traits.FallibleItertools.interleave.Goals as goal
 
@@ -8,4 +11,4 @@ pub returns-clause-lists : goal.returns-clause-lists
 returns-clause-lists g c a b i k = lists_interleaved g.Self.FallibleIterator.contract g.I.IntoFallibleIter.FallibleIterator.contract _ _ _ a b c.new.ensures c.fuse.ensures.parts c.fuse-2.ensures.parts i (k _ c.into_fallible_iter.ensures)
 
 pub returns-clause-bounded : goal.returns-clause-bounded
-returns-clause-bounded g c a b k x y le = inr (a + b, (a, b, rw c.fuse.ensures.parts x, y, omega arith), le)
+returns-clause-bounded g c a b k x y le = subst (λ s. AtMost (interleave_contract g.Self.FallibleIterator.contract g.I.IntoFallibleIter.FallibleIterator.contract) s k) (sym c.new.ensures) (inr (a + b, (a, b, subst (λ p. (fuse_contract g.Self.FallibleIterator.contract).bound p a) (sym c.fuse.ensures.parts) x, subst (λ s. g.I.IntoFallibleIter.FallibleIterator.contract.bound (fuse_source s.1) b) c.new.ensures y, omega arith), le))
