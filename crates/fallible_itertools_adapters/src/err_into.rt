@@ -1,5 +1,5 @@
 //! The adapter that converts failures.
-ghost use Rattle.std.specs.Prelude.{Result, Option, ⊤, tt, ◌≡◌};
+ghost use Rattle.std.specs.Prelude.{Result, Option, ⊤, ◌≡◌};
 ghost use Rattle.fallible_iterator.specs.Contract.{seen_as};
 ghost use Rattle.fallible_iterator.specs.Ends.{from_back, ends_of, ends_seen_as};
 ghost use Rattle.fallible_iterator.specs.Laws.Contract.{lawful_seen};

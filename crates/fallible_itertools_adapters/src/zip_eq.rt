@@ -17,11 +17,11 @@ pub struct ZipEq<T: FallibleIterator, U, F> {
     pub(crate) f: F,
 }
 
-impl<T: FallibleIterator, U, F> ZipEq<T, U, F> {
+impl<T: FallibleIterator, U: FallibleIterator<Error = T::Error>, F> ZipEq<T, U, F> {
     /// Creates it. It draws nothing.
     #[inline(always)]
     pub fn new(left: Fuse<T>, right: Fuse<U>, f: F) -> ZipEq<T, U, F>
-        ensures { zip_eq_parts result ≡ ((left, None), (right, None), f) }
+        ensures { zip_eq_parts {B = U.Item} result ≡ ((left, None), (right, None), f) }
     {
         ZipEq {
             left: Holding {

@@ -1,5 +1,5 @@
 // The adapter that pairs the items of two sources up to `Ok(None)` of both.
-ghost use Rattle.std.specs.Prelude.{◌≡◌, Option, Result, None, is_some, unwrap_or, tt};
+ghost use Rattle.std.specs.Prelude.{◌≡◌, Option, Result, None, is_some, unwrap_or};
 ghost use Rattle.fallible_iterator.specs.Contract.{seen_as};
 ghost use Rattle.fallible_iterator.specs.Laws.Contract.{lawful_seen};
 ghost use Rattle.fallible_itertools_adapters.specs.ZipLongest.{both_of, hint_greater, only_left, left_of, longest, only_right, right_of, zip_longest_contract, zip_longest_parts};
@@ -156,11 +156,11 @@ pub struct ZipLongest<T: FallibleIterator, U> {
     pub(crate) right: Fuse<U>,
 }
 
-impl<T: FallibleIterator, U> ZipLongest<T, U> {
+impl<T: FallibleIterator, U: FallibleIterator<Error = T::Error>> ZipLongest<T, U> {
     /// Creates it. It draws nothing.
     #[inline(always)]
     pub fn new(left: Fuse<T>, right: Fuse<U>) -> ZipLongest<T, U>
-        ensures { zip_longest_parts result ≡ ((left, None), (right, None), tt) }
+        ensures { zip_longest_parts {B = U.Item} result ≡ ((left, None), (right, None), tt) }
     {
         ZipLongest {
             left: Holding {
