@@ -51,10 +51,10 @@ def page(crates):
     """The text of the page."""
     lines, last = [HEAD], None
     for crate, place, path in files(crates):
-        if crate != last:
+        found = list(words(path))
+        if found and crate != last:
             lines.append(f"## {crate}\n")
             last = crate
-        found = list(words(path))
         if found:
             lines.append(f"### {place}\n")
             lines.append("| Word | Sentence |\n|---|---|")

@@ -2,7 +2,7 @@
 
 from made import code
 
-CRATES = ("fallible_iterator", "fallible_itertools")
+CRATES = ("fallible_iterator", "fallible_itertools_adapters", "fallible_itertools_consumers")
 HEAD = """# Laws
 
 Each law, with what it says. A law is a function of `laws` that is called for its contract alone. `tools/pages` writes this page, and the gate compares it.

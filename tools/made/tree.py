@@ -4,7 +4,10 @@ import pathlib
 
 TOP = pathlib.Path(__file__).resolve().parent.parent.parent
 CRATES = TOP / "crates"
-LIBRARY = ("fallible_contract", "fallible_core", "fallible_iterator", "fallible_itertools")
+LIBRARY = (
+    "fallible_contract", "fallible_core", "fallible_iterator",
+    "fallible_itertools_adapters", "fallible_itertools_consumers", "fallible_itertools",
+)
 
 
 def code_of_library(crates):

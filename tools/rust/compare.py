@@ -22,11 +22,11 @@ REASONS = [
     (r"fallible_core/traits\.rs", r"FallibleIterator\.nth", "left out", "it only calls what is now `nth`"),
     (r"by_drive\.rs", r"try_fold|try_rfold|find", "new", "in each impl that writes a hidden fold, by a macro: they call it"),
     (r"errors\.rs", r"Display for NotOne\.fmt", "new", "what the error says"),
-    (r"counts\.rs", r"Collect for Tally\.empty", "left out", "`counts` makes the empty map"),
-    (r"group_map\.rs", r"Collect for GroupMap\.empty", "left out", "`into_group_map` makes the empty map"),
-    (r"parted\.rs", r"without_fault", "left out", "`partition_failures` never fails"),
-    (r"err_into\.rs", r"\w+ for ErrInto\.(clone|fmt)", "new", "what `derive_where` writes"),
-    (r"partition_map\.rs", r".*\.empty", "left out", "`partition_map` fills whatever extends"),
+    (r"fallible_itertools_consumers/counts\.rs", r"Collect for Tally\.empty", "left out", "`counts` makes the empty map"),
+    (r"fallible_itertools_consumers/group_map\.rs", r"Collect for GroupMap\.empty", "left out", "`into_group_map` makes the empty map"),
+    (r"fallible_itertools_consumers/parted\.rs", r"without_fault", "left out", "`partition_failures` never fails"),
+    (r"fallible_itertools_adapters/err_into\.rs", r"\w+ for ErrInto\.(clone|fmt)", "new", "what `derive_where` writes"),
+    (r"fallible_itertools_consumers/partition_map\.rs", r".*\.empty", "left out", "`partition_map` fills whatever extends"),
 ]
 
 

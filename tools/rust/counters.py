@@ -15,6 +15,7 @@ RULES = [
 LESS = r"\b(\w+)\s*=\s*\1\s*\.\s*one_less\s*\(\s*\)"
 MADE = r"\blet\s+(?:mut\s+)?(\w+)\s*=\s*(?:\w+|\(\s*\*\s*\w+\s*\))\s*\.\s*number\s*\(\s*\)\s*;\s*"
 TYPED = r"\b(\w+)\s*:\s*Number\s*,\s*"
+TYPED_LAST = r",\s*(\w+)\s*:\s*Number(?=\s*\))"
 # A field of a type, with the comment above it, and its counting down.
 FIELD = r"(?:\n *//[^\n]*)*\n *(?:pub(?:\(crate\))? )?\w+: Number,(?=\n)"
 IMPORTED = r"^use fallible_iterator::\{[^}\n]*(, Number)\};"
@@ -22,6 +23,7 @@ OWN_LESS = r"\bself\s*\.\s*(\w+)\s*=\s*self\s*\.\s*\1\s*\.\s*one_less\s*\(\s*\)\
 # What is cut of each name, in turn.
 CUT = [
     (TYPED, ""),
+    (TYPED_LAST, ""),
     (r",\s*Number(?=\s*[,)])", ""),
     (MADE, ""),
     (r"\blet\s+(?:mut\s+)?(NAMES)\s*=\s*(?:NAMES)\s*;\s*", ""),
@@ -35,7 +37,7 @@ CUT = [
 
 def cut(text, start, end):
     """Cuts the numbers out of a function, which stands between the two."""
-    names = {m.group(1) for pattern in (LESS, OWN_LESS, MADE, TYPED) for m in re.finditer(pattern, text.s[start:end])}
+    names = {m.group(1) for pattern in (LESS, OWN_LESS, MADE, TYPED, TYPED_LAST) for m in re.finditer(pattern, text.s[start:end])}
     for pattern, new in CUT if names else []:
         for m in reversed(list(re.compile(pattern.replace("NAMES", "|".join(sorted(names)))).finditer(text.s, start, end))):
             text.replace(m.start(), m.end(), new)

@@ -61,61 +61,69 @@ ITERATOR = [
     (r"fallible_core/traits/boxed\.rs", r"^use crate::fallible_core::traits::Fall",
      "use alloc::boxed::Box;\nuse crate::fallible_core::traits::Fall", 1),
     (r"sources/making\.rs", r"^use crate::fallible_core::FallibleIterator;\n", "", 1),
+    (r"batch\.rs", r"\A(//.*\n\n)", r"\1use alloc::vec::Vec;\n", 1),
+    (r"lib\.rs|extending\.rs", r"^pub (?:mod batch;|use crate::batch::)", r'#[cfg(feature = "alloc")]\n\g<0>', 2),
     (r"lib\.rs", r"\A(?://!.*\n)+\n",
      HEAD + "mod by_drive;\npub mod fallible_contract;\npub mod fallible_core;\npub mod memory;\n", 1),
     # What users need not see.
-    (r"lib\.rs", r"^pub mod (?!prelude)\w+;", r"#[doc(hidden)]\n\g<0>", 7),
+    (r"lib\.rs", r"^pub mod (?!prelude)\w+;", r"#[doc(hidden)]\n\g<0>", 8),
     (r"lib\.rs", r"^pub use .*(?:answers::|folds::Turn;|searching::Test;|\{Collect, Fault)", r"#[doc(hidden)]\n\g<0>", 4),
 ]
 
-GROUPS = r"(?:chunks|chunk_by)\.rs"
+ADAPTERS, CONSUMERS = r"fallible_itertools_adapters", r"fallible_itertools_consumers"
+GROUPS = ADAPTERS + r"/(?:chunks|chunk_by)\.rs"
 ITERTOOLS = [
+    # The three crates are modules of one.
+    (ADAPTERS + r"/.*", r"(?<![\w:])crate::", "crate::fallible_itertools_adapters::", ANY),
+    (CONSUMERS + r"/.*", r"(?<![\w:])crate::", "crate::fallible_itertools_consumers::", ANY),
+    (EVERY, r"(?<![\w:])(%s|%s)::" % (ADAPTERS, CONSUMERS), r"crate::\1::", ANY),
+    # Only the trait creates its adapters.
+    (ADAPTERS + r"/.*", r"^    pub fn new\(", "    pub(crate) fn new(", 29),
     # No allocator is kept.
     (GROUPS, r"^    pub\(crate\) alloc: Global,\n", "", 2),
     (GROUPS, r"^struct (Chunk\w+) \{\n    alloc: Global,\n\}", r"struct \1;", 2),
-    (r"group_map\.rs", r"^    // where .*\n    alloc: Global,\n", "", 1),
+    (CONSUMERS + r"/group_map\.rs", r"^    // where .*\n    alloc: Global,\n", "", 1),
     # Collections are filled from what `new` makes, or whatever extends.
-    (r"counts\.rs", r"^    fn empty\((?:.*\n)*?    \}\n\n", "", 1),
-    (r"group_map\.rs", r"^    fn empty\((?:.*\n)*?    \}\n\n", "", 1),
-    (r"partition_map\.rs", r"^    fn empty\((?:.*\n)*?    \}\n\n", "", 1),
+    (CONSUMERS + r"/(?:counts|group_map|partition_map)\.rs", r"^    fn empty\((?:.*\n)*?    \}\n\n", "", 3),
     # Nothing is refused, so what would be told of it goes.
-    (r"parted\.rs", r"^/// Returns the collection, or (?:.*\n)*?\}\n", "", 1),
-    (r"parted\.rs", r"^use fallible_iterator::\{FallibleIterator, Fault\};", "use fallible_iterator::FallibleIterator;", 1),
-    (r"traits\.rs", r"^use crate::parted::\{Parted, without_fault\};", "use crate::parted::Parted;", 1),
+    (CONSUMERS + r"/parted\.rs", r"^/// Returns the collection, or (?:.*\n)*?\}\n", "", 1),
+    (CONSUMERS + r"/parted\.rs", r"^use fallible_iterator::\{FallibleIterator, Fault\};", "use fallible_iterator::FallibleIterator;", 1),
+    (r"traits\.rs", r"::parted::\{Parted, without_fault\};", "::parted::Parted;", 1),
     # What no user sees.
-    (r"(?:keyed|parted)\.rs", r"^pub struct", "pub(crate) struct", 2),
+    (CONSUMERS + r"/(?:keyed|parted)\.rs", r"^pub struct", "pub(crate) struct", 2),
     # A marker that asks nothing of `E`.
-    (r"err_into\.rs", r"^ *#\[derive_where\(.*\)\]\n", "", 2),
-    (r"err_into\.rs", r"(pub\(crate\) made: PhantomData<)E>", r"\1fn() -> E>", 1),
-    (r"err_into\.rs", r"\Z", (PIECES / "err_into.rs").read_text(encoding="utf-8"), 1),
+    (ADAPTERS + r"/err_into\.rs", r"^ *#\[derive_where\(.*\)\]\n", "", 2),
+    (ADAPTERS + r"/err_into\.rs", r"(pub\(crate\) made: PhantomData<)E>", r"\1fn() -> E>", 1),
+    (ADAPTERS + r"/err_into\.rs", r"\Z", (PIECES / "err_into.rs").read_text(encoding="utf-8"), 1),
     # Without its number it can be cloned and shown.
-    (r"stop_after\.rs", r"^pub struct StopAfter<", r"#[derive(Clone, Debug)]\n\g<0>", 1),
+    (ADAPTERS + r"/stop_after\.rs", r"^pub struct StopAfter<", r"#[derive(Clone, Debug)]\n\g<0>", 1),
     # Imports.
-    (r"all_unique\.rs", r"^use fallible_iterator::\{Fault, Turn\};", "use fallible_iterator::Turn;", 1),
-    (r"sorted\.rs", r"^use fallible_iterator::Fault;", "use alloc::vec::Vec;", 1),
+    (CONSUMERS + r"/all_unique\.rs", r"^use fallible_iterator::\{Fault, Turn\};", "use fallible_iterator::Turn;", 1),
+    (CONSUMERS + r"/sorted\.rs", r"^use fallible_iterator::Fault;", "use alloc::vec::Vec;", 1),
     (r"traits\.rs", r"^use fallible_iterator::\{Collect, FallibleIterator, Fault, Into", "use fallible_iterator::"
      "fallible_contract::collecting::{CollectTurn, Extended};\nuse fallible_iterator::{FallibleIterator, Into", 1),
-    (r"join\.rs", r"^use core::fmt::Display;", "use alloc::string::String;\nuse core::fmt::{Display, Write};", 1),
+    (CONSUMERS + r"/join\.rs", r"^use core::fmt::Display;", "use alloc::string::String;\nuse core::fmt::{Display, Write};", 1),
     # The trait of the Rust crate is for types without a size too.
-    (r"(?:traits|double_ended|peeking_take_while)\.rs", r"^(pub trait \w+: \w+) \{", r"\1 + Sized {", 3),
+    (r"(?:traits|.*/double_ended|.*/peeking_take_while)\.rs", r"^(pub trait \w+: \w+) \{", r"\1 + Sized {", 3),
     # Features.
-    (r"lib\.rs", r"^pub mod (?:batch|chunk_by|chunks|join);", r'#[cfg(feature = "alloc")]\n\g<0>', 4),
-    (r"lib\.rs", r"^mod sorted;", r'#[cfg(feature = "alloc")]\n\g<0>', 1),
-    (r"lib\.rs", r"^mod (?:all_unique|keyed);", r'#[cfg(feature = "std")]\n\g<0>', 2),
-    (r"lib\.rs", r"^pub use (?:chunk_by|chunks)::", r'#[cfg(feature = "alloc")]\n\g<0>', 2),
-    (r"lib\.rs", r"^pub (?:mod (?:counts|group_map|unique|unique_by);|use unique(?:_by)?::)", r'#[cfg(feature = "std")]\n\g<0>', 6),
-    (r"(?:batch|chunk_by|chunks|group_map)\.rs", r"\A(//.*\n\n)", r"\1use alloc::vec::Vec;\n", 4),
-    (r"traits\.rs", r"^use crate::(?:chunk_by|chunks|join|sorted)::", r'#[cfg(feature = "alloc")]\n\g<0>', 4),
+    (r"fallible_\w+\.rs", r"^pub (?:mod (?:chunk_by|chunks|join|sorted);|use (?:chunk_by|chunks)::)", r'#[cfg(feature = "alloc")]\n\g<0>', 6),
+    (r"fallible_\w+\.rs", r"^pub (?:mod (?:all_unique|counts|group_map|keyed|unique|unique_by);|use unique(?:_by)?::)",
+     r'#[cfg(feature = "std")]\n\g<0>', 8),
+    (r"(?:lib|traits)\.rs", r"\bChunkBy,\s+Chunks,\s+|\bUnique,\s+UniqueBy,\s+", "", 4),
+    (r"(?:lib|traits)\.rs", r"^((?:pub )?use crate::fallible_itertools_adapters::)\{",
+     r'#[cfg(feature = "alloc")]\n\1{ChunkBy, Chunks};\n#[cfg(feature = "std")]\n\1{Unique, UniqueBy};\n\g<0>', 2),
+    (r".*/(?:chunk_by|chunks|group_map)\.rs", r"\A(//.*\n\n)", r"\1use alloc::vec::Vec;\n", 3),
+    (r"traits\.rs", r"^use crate::fallible_itertools_consumers::(?:join|sorted)::", r'#[cfg(feature = "alloc")]\n\g<0>', 2),
     (r"traits\.rs", r"^use core::fmt::Display;",
      r'#[cfg(feature = "alloc")]\nuse alloc::string::String;\n#[cfg(feature = "alloc")]\nuse alloc::vec::Vec;\n#[cfg(feature = "alloc")]\n\g<0>', 1),
-    (r"traits\.rs", r"^use (?:crate::(?:all_unique|counts|group_map|keyed|unique|unique_by)::|core::hash::|std::coll)",
-     r'#[cfg(feature = "std")]\n\g<0>', 8),
+    (r"traits\.rs", r"^use (?:crate::fallible_itertools_consumers::(?:all_unique|counts|group_map|keyed)::|core::hash::|std::coll)",
+     r'#[cfg(feature = "std")]\n\g<0>', 6),
     (r"traits\.rs", r"^    fn (?:chunks|chunk_by|join|sorted|sorted_by|sorted_by_key)\b", r'    #[cfg(feature = "alloc")]\n\g<0>', 6),
     (r"traits\.rs", r"^    fn (?:all_unique|counts|counts_by|into_group_map|into_group_map_by|unique|unique_by)\b",
      r'    #[cfg(feature = "std")]\n\g<0>', 7),
-    (r"lib\.rs", r"\A(?://!.*\n)+\n", HEAD + "mod errors;\n", 1),
-    (r"lib\.rs", r"^pub mod \w+;", r"#[doc(hidden)]\n\g<0>", 44),
-    (r"(?:all_unique|counts|group_map|join|partition_map|until_failure)\.rs", r"\A(//.*\n\n)",
+    (r"lib\.rs", r"\A(?://!.*\n)+\n", HEAD + "mod errors;\nmod fallible_itertools_adapters;\nmod fallible_itertools_consumers;\n", 1),
+    (r"lib\.rs", r"^pub mod \w+;", r"#[doc(hidden)]\n\g<0>", 1),
+    (CONSUMERS + r"/(?:all_unique|counts|group_map|join|partition_map|until_failure)\.rs", r"\A(//.*\n\n)",
      r"\1use fallible_iterator::memory::AllocError;\n", 6),
 ]
 

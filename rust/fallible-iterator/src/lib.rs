@@ -16,6 +16,9 @@ extern crate alloc;
 #[cfg(feature = "std")]
 extern crate std;
 
+#[cfg(feature = "alloc")]
+#[doc(hidden)]
+pub mod batch;
 mod by_drive;
 #[doc(hidden)]
 pub mod conversion;

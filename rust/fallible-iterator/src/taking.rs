@@ -72,7 +72,7 @@ where
         Ok(()) => {}
         Err(e) => return Err(e),
     }
-    match accepts_held(&*ahead, test) {
+    match none_held_or_accepts(&*ahead, test) {
         Ok(true) => ahead.next(),
         Ok(false) => Ok(None),
         Err(e) => match ahead.next() {
@@ -83,7 +83,7 @@ where
 }
 
 // What the test returns on the buffered item, and false if none is buffered.
-fn accepts_held<I, P>(ahead: &Peekable<I>, test: &mut P) -> Result<bool, I::Error>
+fn none_held_or_accepts<I, P>(ahead: &Peekable<I>, test: &mut P) -> Result<bool, I::Error>
 where
     I: FallibleIterator,
     P: FnMut(&I::Item) -> Result<bool, I::Error>,

@@ -1,67 +1,51 @@
 //! The extension trait of every fallible iterator.
 
-#[cfg(feature = "std")]
-use crate::all_unique::{AllUniqueTurn, unique_or_fault};
-use crate::checked_sum::{CheckedTotal, ProductTurn, SumTurn, total_or_none};
 #[cfg(feature = "alloc")]
-use crate::chunk_by::ChunkBy;
+use crate::fallible_itertools_adapters::{ChunkBy, Chunks};
+use crate::fallible_itertools_adapters::{
+    Coalesce, Copied, Dedup, DedupBy, DedupByKey, DedupByWithCount, DedupWithCount, ErrInto,
+    InspectErr, Interleave, Intersperse, IntersperseWith, Merge, MergeBy, MergeJoinBy, OrElse,
+    PadUsing, Positions, StopAfter, TakeWhileInclusive, TupleWindows, Tuples, WithPosition, ZipEq,
+    ZipLongest,
+};
+#[cfg(feature = "std")]
+use crate::fallible_itertools_adapters::{Unique, UniqueBy};
+#[cfg(feature = "std")]
+use crate::fallible_itertools_consumers::all_unique::{AllUniqueTurn, unique_or_fault};
+use crate::fallible_itertools_consumers::checked_sum::{
+    CheckedTotal, ProductTurn, SumTurn, total_or_none,
+};
+use crate::fallible_itertools_consumers::cmp_by::{CmpTurn, EqTurn, compare_by};
+use crate::fallible_itertools_consumers::converting::converted;
+#[cfg(feature = "std")]
+use crate::fallible_itertools_consumers::counts::Tally;
+use crate::fallible_itertools_consumers::equal::{
+    AllEqualTurn, ContainsTurn, UnequalTurn, first_or_both,
+};
+use crate::fallible_itertools_consumers::exactly_one::NotOne;
+use crate::fallible_itertools_consumers::find_or_last::{FindFirstTurn, FindLastTurn, or_kept};
+use crate::fallible_itertools_consumers::find_position::FindPositionTurn;
+use crate::fallible_itertools_consumers::fold_while::{FoldWhile, FoldWhileTurn, while_or_stop};
+#[cfg(feature = "std")]
+use crate::fallible_itertools_consumers::group_map::GroupMap;
+use crate::fallible_itertools_consumers::is_sorted::{InOrderTurn, SortedTurn};
+use crate::fallible_itertools_consumers::is_sorted_by::SortedByTurn;
 #[cfg(feature = "alloc")]
-use crate::chunks::Chunks;
-use crate::cmp_by::{CmpTurn, EqTurn, compare_by};
-use crate::coalesce::Coalesce;
-use crate::converting::converted;
-use crate::copied::Copied;
+use crate::fallible_itertools_consumers::join::JoinTurn;
 #[cfg(feature = "std")]
-use crate::counts::Tally;
-use crate::dedup::Dedup;
-use crate::dedup_by::DedupBy;
-use crate::dedup_by_key::DedupByKey;
-use crate::dedup_by_with_count::DedupByWithCount;
-use crate::dedup_with_count::DedupWithCount;
-use crate::equal::{AllEqualTurn, ContainsTurn, UnequalTurn, first_or_both};
-use crate::err_into::ErrInto;
-use crate::exactly_one::NotOne;
-use crate::find_or_last::{FindFirstTurn, FindLastTurn, or_kept};
-use crate::find_position::FindPositionTurn;
-use crate::fold_while::{FoldWhile, FoldWhileTurn, while_or_stop};
-#[cfg(feature = "std")]
-use crate::group_map::GroupMap;
-use crate::inspect_err::InspectErr;
-use crate::interleave::Interleave;
-use crate::intersperse::Intersperse;
-use crate::intersperse_with::IntersperseWith;
-use crate::is_sorted::{InOrderTurn, SortedTurn};
-use crate::is_sorted_by::SortedByTurn;
+use crate::fallible_itertools_consumers::keyed::Keyed;
+use crate::fallible_itertools_consumers::minmax::{MinMaxResult, MinMaxTurn, lesser_first};
+use crate::fallible_itertools_consumers::minmax_by::{
+    MinMaxByTurn, MinMaxKeyTurn, items_alone, kept_or_failure,
+};
+use crate::fallible_itertools_consumers::parted::Parted;
+use crate::fallible_itertools_consumers::partition_map::Either;
+use crate::fallible_itertools_consumers::position_best::{first_is_less, place_alone};
 #[cfg(feature = "alloc")]
-use crate::join::JoinTurn;
-#[cfg(feature = "std")]
-use crate::keyed::Keyed;
-use crate::merge::Merge;
-use crate::merge_by::MergeBy;
-use crate::merge_join_by::MergeJoinBy;
-use crate::minmax::{MinMaxResult, MinMaxTurn, lesser_first};
-use crate::minmax_by::{MinMaxByTurn, MinMaxKeyTurn, items_alone, kept_or_failure};
-use crate::or_else::OrElse;
-use crate::pad_using::PadUsing;
-use crate::parted::Parted;
-use crate::partition_map::Either;
-use crate::position_best::{first_is_less, place_alone};
-use crate::positions::Positions;
-use crate::sides::Holding;
-#[cfg(feature = "alloc")]
-use crate::sorted::{sorted_items, sorted_items_by, sorted_items_by_key};
-use crate::stop_after::StopAfter;
-use crate::take_while_inclusive::TakeWhileInclusive;
-use crate::tuple_windows::TupleWindows;
-use crate::tuples::Tuples;
-#[cfg(feature = "std")]
-use crate::unique::Unique;
-#[cfg(feature = "std")]
-use crate::unique_by::UniqueBy;
-use crate::until_failure::{PushTurn, with_failure};
-use crate::with_position::WithPosition;
-use crate::zip_eq::ZipEq;
-use crate::zip_longest::ZipLongest;
+use crate::fallible_itertools_consumers::sorted::{
+    sorted_items, sorted_items_by, sorted_items_by_key,
+};
+use crate::fallible_itertools_consumers::until_failure::{PushTurn, with_failure};
 #[cfg(feature = "alloc")]
 use alloc::string::String;
 #[cfg(feature = "alloc")]
@@ -71,7 +55,6 @@ use core::cmp::Ordering;
 use core::fmt::Display;
 #[cfg(feature = "std")]
 use core::hash::Hash;
-use core::marker::PhantomData;
 use fallible_iterator::extending::{
     FindTest, FindTurn, ForEachTurn, PositionTurn, ReadEq, Reading, answer_or, answer_or_none,
     found, ordered,
@@ -129,10 +112,7 @@ pub trait FallibleItertools: FallibleIterator + Sized {
             Self::Item,
         ) -> Result<Result<Self::Item, (Self::Item, Self::Item)>, Self::Error>,
     {
-        Coalesce {
-            it: self,
-            stage: ((None, f), None),
-        }
+        Coalesce::new(self, f)
     }
 
     /// Yields the first of adjacent items with equal keys. The closure returns the key, and is called once on each item.
@@ -173,10 +153,7 @@ pub trait FallibleItertools: FallibleIterator + Sized {
         K: PartialEq,
         F: FnMut(&Self::Item) -> Result<K, Self::Error>,
     {
-        DedupByKey {
-            it: self,
-            stage: ((None, f), None),
-        }
+        DedupByKey::new(self, f)
     }
 
     /// Yields the first of adjacent items that the closure finds the same. The closure is called on references to the buffered item and the next one.
@@ -214,10 +191,7 @@ pub trait FallibleItertools: FallibleIterator + Sized {
     where
         F: FnMut(&Self::Item, &Self::Item) -> Result<bool, Self::Error>,
     {
-        DedupBy {
-            it: self,
-            stage: ((None, same), None),
-        }
+        DedupBy::new(self, same)
     }
 
     /// Yields the first of adjacent equal items.
@@ -250,10 +224,7 @@ pub trait FallibleItertools: FallibleIterator + Sized {
     where
         Self::Item: PartialEq,
     {
-        Dedup {
-            it: self,
-            stage: (None, None),
-        }
+        Dedup::new(self)
     }
 
     /// Yields the first of adjacent equal items, each as `(count, item)`: beside how many they are. A count stays at `usize::MAX`.
@@ -289,10 +260,7 @@ pub trait FallibleItertools: FallibleIterator + Sized {
     where
         Self::Item: PartialEq,
     {
-        DedupWithCount {
-            it: self,
-            stage: (None, None),
-        }
+        DedupWithCount::new(self)
     }
 
     /// Yields the first of adjacent items that the closure finds the same, each as `(count, item)`: beside how many they are. The closure is called on references to the buffered item and the next one. A count stays at `usize::MAX`.
@@ -332,10 +300,7 @@ pub trait FallibleItertools: FallibleIterator + Sized {
     where
         F: FnMut(&Self::Item, &Self::Item) -> Result<bool, Self::Error>,
     {
-        DedupByWithCount {
-            it: self,
-            stage: ((None, same), None),
-        }
+        DedupByWithCount::new(self, same)
     }
 
     /// Yields each item with its [`Position`](crate::Position): `First`, `Middle`, `Last` or `Only`.
@@ -368,10 +333,7 @@ pub trait FallibleItertools: FallibleIterator + Sized {
     /// ```
     /// </details>
     fn with_position(self) -> WithPosition<Self> {
-        WithPosition {
-            it: self,
-            stage: (None, None),
-        }
+        WithPosition::new(self)
     }
 
     /// Yields each two adjacent items as a pair. The later one of a pair is a clone.
@@ -407,10 +369,7 @@ pub trait FallibleItertools: FallibleIterator + Sized {
     where
         Self::Item: Clone,
     {
-        TupleWindows {
-            it: self,
-            held: None,
-        }
+        TupleWindows::new(self)
     }
 
     /// Yields the items two by two, as pairs. The last of an odd number of items is in no pair.
@@ -440,10 +399,7 @@ pub trait FallibleItertools: FallibleIterator + Sized {
     /// ```
     /// </details>
     fn tuples(self) -> Tuples<Self> {
-        Tuples {
-            it: self,
-            held: None,
-        }
+        Tuples::new(self)
     }
 
     // ---- searches, sums and folds
@@ -1192,7 +1148,7 @@ pub trait FallibleItertools: FallibleIterator + Sized {
         Self: FallibleIterator<Item = &'a T>,
         T: Copy,
     {
-        Copied { it: self }
+        Copied::new(self)
     }
 
     /// Yields the items up to the first one that the predicate rejects, and that one too. Then it is exhausted.
@@ -1229,10 +1185,7 @@ pub trait FallibleItertools: FallibleIterator + Sized {
     where
         P: FnMut(&Self::Item) -> Result<bool, Self::Error>,
     {
-        TakeWhileInclusive {
-            it: self,
-            stage: (predicate, None),
-        }
+        TakeWhileInclusive::new(self, predicate)
     }
 
     // ---- adapters that act on failures
@@ -1272,7 +1225,7 @@ pub trait FallibleItertools: FallibleIterator + Sized {
     where
         F: FnMut(&Self::Error),
     {
-        InspectErr { it: self, f }
+        InspectErr::new(self, f)
     }
 
     /// Converts each failure by `From`. So `chain`, `zip` and `merge` take two sources with two error types and no closure.
@@ -1307,10 +1260,7 @@ pub trait FallibleItertools: FallibleIterator + Sized {
     where
         E: From<Self::Error>,
     {
-        ErrInto {
-            it: self,
-            made: PhantomData,
-        }
+        ErrInto::new(self)
     }
 
     /// Replaces each failure by what the closure returns for it: an item, nothing or another failure.
@@ -1350,7 +1300,7 @@ pub trait FallibleItertools: FallibleIterator + Sized {
     where
         F: FnMut(Self::Error) -> Result<Option<Self::Item>, E>,
     {
-        OrElse { it: self, f }
+        OrElse::new(self, f)
     }
 
     /// Yields what the source yields up to its n-th failure, and that one too. Then it is exhausted.
@@ -1385,10 +1335,7 @@ pub trait FallibleItertools: FallibleIterator + Sized {
     /// ```
     /// </details>
     fn stop_after(self, n: usize) -> StopAfter<Self> {
-        StopAfter {
-            it: self,
-            to_fail: n,
-        }
+        StopAfter::new(self, n)
     }
 
     // ---- adapters that join
@@ -1436,16 +1383,7 @@ pub trait FallibleItertools: FallibleIterator + Sized {
         I: IntoFallibleIterator<Item = Self::Item, Error = Self::Error>,
         Self::Item: PartialOrd,
     {
-        Merge {
-            left: Holding {
-                it: self.fuse(),
-                held: None,
-            },
-            right: Holding {
-                it: other.into_fallible_iter().fuse(),
-                held: None,
-            },
-        }
+        Merge::new(self.fuse(), other.into_fallible_iter().fuse())
     }
 
     /// Merges the items of two sources. Of an item of this iterator and the next one of `other`, the closure returns whether the former goes first. If one side returns `Ok(None)`, the other's item is yielded without a call of the closure.
@@ -1496,17 +1434,7 @@ pub trait FallibleItertools: FallibleIterator + Sized {
         I: IntoFallibleIterator<Item = Self::Item, Error = Self::Error>,
         F: FnMut(&Self::Item, &Self::Item) -> Result<bool, Self::Error>,
     {
-        MergeBy {
-            left: Holding {
-                it: self.fuse(),
-                held: None,
-            },
-            right: Holding {
-                it: other.into_fallible_iter().fuse(),
-                held: None,
-            },
-            f,
-        }
+        MergeBy::new(self.fuse(), other.into_fallible_iter().fuse(), f)
     }
 
     /// Joins the items of both sides in order, as a closure compares an item of each: `Less` yields this side's alone (`Left`), `Greater` the other's alone (`Right`), and `Equal` both together (`Both`). Once one side returned `Ok(None)`, the items of the other come alone, without a call.
@@ -1560,17 +1488,7 @@ pub trait FallibleItertools: FallibleIterator + Sized {
         I: IntoFallibleIterator<Error = Self::Error>,
         F: FnMut(&Self::Item, &I::Item) -> Result<Ordering, Self::Error>,
     {
-        MergeJoinBy {
-            left: Holding {
-                it: self.fuse(),
-                held: None,
-            },
-            right: Holding {
-                it: other.into_fallible_iter().fuse(),
-                held: None,
-            },
-            f,
-        }
+        MergeJoinBy::new(self.fuse(), other.into_fallible_iter().fuse(), f)
     }
 
     /// Pairs the items of both sides by their positions, up to `Ok(None)` of both. If one side returns `Ok(None)` where the other has an item, that item stands alone.
@@ -1614,13 +1532,7 @@ pub trait FallibleItertools: FallibleIterator + Sized {
     where
         I: IntoFallibleIterator<Error = Self::Error>,
     {
-        ZipLongest {
-            left: Holding {
-                it: self.fuse(),
-                held: None,
-            },
-            right: other.into_fallible_iter().fuse(),
-        }
+        ZipLongest::new(self.fuse(), other.into_fallible_iter().fuse())
     }
 
     /// Pairs the items of both sides by their positions, up to `Ok(None)` of both, and fails where one side has more items than the other. `unequal` makes that failure.
@@ -1666,14 +1578,7 @@ pub trait FallibleItertools: FallibleIterator + Sized {
         I: IntoFallibleIterator<Error = Self::Error>,
         F: FnMut() -> Self::Error,
     {
-        ZipEq {
-            left: Holding {
-                it: self.fuse(),
-                held: None,
-            },
-            right: other.into_fallible_iter().fuse(),
-            f: unequal,
-        }
+        ZipEq::new(self.fuse(), other.into_fallible_iter().fuse(), unequal)
     }
 
     /// Yields the items of this iterator and of `other` in turn, this one's first. Once one side returned `Ok(None)`, it yields the rest of the other. A failure takes its side's turn, as an item does.
@@ -1716,11 +1621,7 @@ pub trait FallibleItertools: FallibleIterator + Sized {
     where
         I: IntoFallibleIterator<Item = Self::Item, Error = Self::Error>,
     {
-        Interleave {
-            left: self.fuse(),
-            right: other.into_fallible_iter().fuse(),
-            right_next: false,
-        }
+        Interleave::new(self.fuse(), other.into_fallible_iter().fuse())
     }
 
     /// Yields the items, and if these are fewer than n, then what the closure returns for each index of those that are missing: from the number of items up to n - 1.
@@ -1763,12 +1664,7 @@ pub trait FallibleItertools: FallibleIterator + Sized {
     where
         F: FnMut(usize) -> Result<Self::Item, Self::Error>,
     {
-        PadUsing {
-            it: self.fuse(),
-            next: 0,
-            end: n,
-            f,
-        }
+        PadUsing::new(self.fuse(), n, f)
     }
 
     // ---- extremes, counts, comparisons
@@ -2742,10 +2638,7 @@ pub trait FallibleItertools: FallibleIterator + Sized {
     /// </details>
     #[cfg(feature = "alloc")]
     fn chunks(self, n: usize) -> Chunks<Self> {
-        Chunks {
-            it: self,
-            stage: ((n, None), None),
-        }
+        Chunks::new(self, n)
     }
 
     /// Yields groups of adjacent items with equal keys, each with its key.
@@ -2788,10 +2681,7 @@ pub trait FallibleItertools: FallibleIterator + Sized {
         K: PartialEq,
         F: FnMut(&Self::Item) -> Result<K, Self::Error>,
     {
-        ChunkBy {
-            it: self,
-            stage: ((key, None), None),
-        }
+        ChunkBy::new(self, key)
     }
 
     /// Yields the items, with a clone of the separator between each two adjacent ones.
@@ -2827,10 +2717,7 @@ pub trait FallibleItertools: FallibleIterator + Sized {
     where
         Self::Item: Clone,
     {
-        Intersperse {
-            it: self,
-            stage: ((separator, false), None),
-        }
+        Intersperse::new(self, separator)
     }
 
     /// Yields the items, with what the closure returns between each two adjacent ones.
@@ -2887,10 +2774,7 @@ pub trait FallibleItertools: FallibleIterator + Sized {
     where
         F: FnMut() -> Result<Self::Item, Self::Error>,
     {
-        IntersperseWith {
-            it: self,
-            stage: ((f, false), None),
-        }
+        IntersperseWith::new(self, f)
     }
 
     /// Yields the position of each item for which the closure returns true: how many items come before it. Failures and `Ok(None)` don't count.
@@ -2928,10 +2812,7 @@ pub trait FallibleItertools: FallibleIterator + Sized {
     where
         F: FnMut(Self::Item) -> Result<bool, Self::Error>,
     {
-        Positions {
-            it: self.enumerate(),
-            f,
-        }
+        Positions::new(self.enumerate(), f)
     }
 
     /// Yields each item that equals none before it: of equal items the first.
@@ -2969,10 +2850,7 @@ pub trait FallibleItertools: FallibleIterator + Sized {
     where
         Self::Item: Clone + Eq + Hash,
     {
-        Unique {
-            it: self,
-            seen: HashSet::new(),
-        }
+        Unique::new(self)
     }
 
     /// Yields each item whose key equals none before it: the first item of each key. The closure makes the key of a reference to the item.
@@ -3014,10 +2892,7 @@ pub trait FallibleItertools: FallibleIterator + Sized {
         K: Eq + Hash,
         F: FnMut(&Self::Item) -> Result<K, Self::Error>,
     {
-        UniqueBy {
-            it: self,
-            keying: (HashSet::new(), f),
-        }
+        UniqueBy::new(self, f)
     }
 }
 

@@ -109,7 +109,7 @@ pub fn above_100_from_back(readings: Vec<Result<u32, u8>>) -> Result<Vec<u32>, u
 }
 
 /// The readings of both, those of the right first, each the last one first, or the first failure from the back. The laws say what `chain` lists from the back of what both sides do.
-pub fn both_from_back(
+pub fn readings_of_both_reversed(
     left: Vec<Result<u32, u8>>,
     right: Vec<Result<u32, u8>>,
 ) -> Result<Vec<u32>, u8> {

@@ -97,7 +97,7 @@ pub fn sum_down_doubled(mut numbers: Countdown) -> Result<u64, u8> {
 }
 
 /// The numbers from `low` to below `high`, each as a result, which std collects, unless an allocation fails.
-pub fn tried_between(low: u32, high: u32) -> Result<Vec<u32>, AllocError> {
+pub fn try_collect_between(low: u32, high: u32) -> Result<Vec<u32>, AllocError> {
     Between::new(low, high)
         .unwrap()
         .map(|number| Ok::<_, AllocError>(number))

@@ -19,7 +19,7 @@ const TYPED: [Result<u8, u8>; 4] = [Ok(b'1'), Ok(b'2'), Ok(b'x'), Err(9)];
 const FAILING: [Reading; 3] = [Ok(101), Err(9), Ok(700)];
 
 // Two items after a 0.
-const BEHIND: [Reading; 4] = [Ok(5), Ok(0), Ok(600), Ok(501)];
+const READINGS_AFTER_FIVE: [Reading; 4] = [Ok(5), Ok(0), Ok(600), Ok(501)];
 
 #[test]
 fn loops_leave_what_comes_after() {
@@ -42,7 +42,7 @@ fn draws_leave_what_comes_after() {
         let mut it = convert(Vec::from(FAILING).into_iter());
         let drawn = (draw_all(&mut it), it.next());
         assert_eq!(drawn, (Err(9), Ok(Some(700))));
-        let mut it = convert(Vec::from(BEHIND).into_iter());
+        let mut it = convert(Vec::from(READINGS_AFTER_FIVE).into_iter());
         let last = (last_after_zero(&mut it), it.draw_back(), it.draw_back());
         assert_eq!(last, (Ok(Some(501)), Ok(Some(600)), Ok(None)));
         Ok(())

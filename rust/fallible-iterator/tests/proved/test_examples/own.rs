@@ -5,7 +5,7 @@ use crate::example_by_hand::ascii::{Ascii, answers_in, first_line_end, line_ends
 use crate::example_by_hand::own::{
     Between, Countdown, Span, even_below, even_between, even_in_loop, first_above_100,
     numbers_down, numbers_in_rounds, pairs_down, same_in_pairs, sum_down, sum_down_doubled,
-    tried_between,
+    try_collect_between,
 };
 use crate::example_by_hand::pairing::{Pairs, count_pairs, sum_of_pairs};
 use crate::example_by_hand::retrying::Retried;

@@ -58,7 +58,7 @@ fn sum_up_to_two(total: u32, x: u32) -> Result<u32, u32> {
     }
 }
 
-// Puts two digits behind the number.
+// Puts two digits after the number.
 fn append_digit(calls: &Cell<u64>, digits: u32) {
     calls.set(
         calls
@@ -68,7 +68,7 @@ fn append_digit(calls: &Cell<u64>, digits: u32) {
     );
 }
 
-// Puts the items below 5 behind one another. Beside it stand the calls in order: the test on an item x is 1x, the closure on it 2x. The test fails with 70 at 7, the closure with 40 at 4.
+// Puts the items below 5 after one another. Beside it stand the calls in order: the test on an item x is 1x, the closure on it 2x. The test fails with 70 at 7, the closure with 40 at 4.
 fn fold_below_five<I>(it: &mut Peekable<I>) -> (Result<u32, u32>, u64)
 where
     I: FallibleIterator<Item = u32, Error = u32>,
@@ -297,7 +297,7 @@ const FOLDS_IF: [Row; 6] = [
             Draws(End),
         ],
     ),
-    // an end is buffered, and nothing is drawn behind it
+    // an end is buffered, and nothing is drawn after it
     (
         &[Ok(Some(1)), Ok(None), Ok(Some(2)), Ok(None), Ok(Some(3))],
         &[

@@ -369,7 +369,7 @@ const DAMAGED: [Damaged; 32] = [
         b"byte 34: the cells of a row don't fill it\n",
         5,
     ),
-    // A cell is empty, and has bytes behind it.
+    // A cell is empty, and has bytes after it.
     (
         41,
         b"\0\0\0\0",
@@ -393,7 +393,7 @@ const DAMAGED: [Damaged; 32] = [
         b"byte 34: the cells of a row don't fill it\n",
         5,
     ),
-    // A cell is NULL, and has bytes behind it.
+    // A cell is NULL, and has bytes after it.
     (
         41,
         b"\xff\xff\xff\xff",

@@ -22,8 +22,8 @@ fn rows_go_on_after_a_refusal_and_end_at_ready() {
     let fourth = rows.next();
     assert!(matches!(&fourth, Ok(None)));
     let mut messages = rows.into_messages();
-    let behind = messages.next();
-    assert!(matches!(&behind, Ok(Some(message)) if message.tag() == b'S'));
+    let after_cut = messages.next();
+    assert!(matches!(&after_cut, Ok(Some(message)) if message.tag() == b'S'));
     let cut = messages.next();
     assert!(matches!(&cut, Err(PgFault::Damaged(30, Damage::Cut))));
     let last = messages.next();

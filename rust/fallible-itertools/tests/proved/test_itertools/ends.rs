@@ -18,13 +18,13 @@ fn at_below_three(x: &u32) -> Result<bool, u32> {
 const SIX: [Result<u32, u32>; 6] = [Ok(1), Ok(2), Err(9), Ok(3), Ok(4), Ok(5)];
 
 // What `nth_back` of 5 and of 2 and a draw from the back answer.
-const BEHIND_FOUR: [Drawn; 3] = [Err(9), Ok(None), Ok(None)];
+const REST_AFTER_FOUR: [Drawn; 3] = [Err(9), Ok(None), Ok(None)];
 
 // What the first two searches answer.
 const FAILED: [Drawn; 2] = [Err(40), Err(9)];
 
 // What the last two do.
-const BEHIND_TWO: [Drawn; 2] = [Ok(Some(1)), Ok(None)];
+const REST_AFTER_TWO: [Drawn; 2] = [Ok(Some(1)), Ok(None)];
 
 #[test]
 fn from_the_back() {
@@ -33,14 +33,14 @@ fn from_the_back() {
         assert_eq!(it.nth_back(1), Ok(Some(4)));
         expect_same(
             &[it.nth_back(5), it.nth_back(2), it.next_back()],
-            &BEHIND_FOUR,
+            &REST_AFTER_FOUR,
         )?;
         let mut it = numbers(&SIX);
         let failed = [it.rfind(at_below_three), it.rfind(at_below_three)];
         expect_same(&failed, &FAILED)?;
         assert_eq!(it.rfind(at_below_three), Ok(Some(2)));
         let found = [it.rfind(at_below_three), it.rfind(at_below_three)];
-        expect_same(&found, &BEHIND_TWO)
+        expect_same(&found, &REST_AFTER_TWO)
     }
     let _ = tested();
 }

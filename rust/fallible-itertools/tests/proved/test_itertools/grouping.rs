@@ -113,7 +113,7 @@ fn chunks_batch_items_and_end_with_a_short_one() {
     let _ = tested();
 }
 
-const BEHIND: (
+const AFTER_FIRST_DRAWS: (
     Result<Option<u32>, TestError>,
     [Result<Option<(u32, u32)>, TestError>; 2],
 ) = (Ok(Some(777)), [Ok(Some((7, 7))), Ok(Some((7, 7)))]);
@@ -127,7 +127,10 @@ fn batches_and_pairs_come_of_a_source_with_no_end() {
             .map(|batch| Ok(digits(batch)));
         let mut windows = repeat::<u32, TestError>(7).tuple_windows();
         let mut pairs = repeat::<u32, TestError>(7).tuples();
-        assert_eq!((batches.next(), [windows.next(), pairs.next()]), BEHIND);
+        assert_eq!(
+            (batches.next(), [windows.next(), pairs.next()]),
+            AFTER_FIRST_DRAWS
+        );
         Ok(())
     }
     let _ = tested();

@@ -102,7 +102,7 @@ fn searches_end_with_the_item_that_decides_or_with_either_failure() {
     let _ = tested();
 }
 
-// What stands behind an end is not looked at.
+// What stands after an end is not looked at.
 #[test]
 fn try_find_ends_with_its_iterator() {
     fn tested() -> Result<(), Fail> {

@@ -1,9 +1,6 @@
 // changed: no allocator is passed
-// proved: b4d9886d
+// proved: 8befd496
 fn chunks(self, n: usize) -> Chunks<Self>
 {
-    Chunks {
-        it: self,
-        stage: ((n, None), None),
-    }
+    Chunks::new(self, n)
 }

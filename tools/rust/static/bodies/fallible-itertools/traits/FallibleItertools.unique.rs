@@ -1,11 +1,8 @@
 // changed: no allocator is passed
-// proved: b296f6ea
+// proved: e96f8456
 fn unique(self) -> Unique<Self>
 where
     Self::Item: Clone + Eq + Hash,
 {
-    Unique {
-        it: self,
-        seen: HashSet::new(),
-    }
+    Unique::new(self)
 }

@@ -1,0 +1,141 @@
+//! The adapter that converts failures.
+
+use core::marker::PhantomData;
+use fallible_iterator::extending::{Fail, drive_back_failing, drive_failing, failed};
+use fallible_iterator::{DoubleEndedFallibleIterator, FallibleIterator, Turn};
+
+/// The source with each failure converted by `From`. Items and `Ok(None)` pass.
+#[must_use = "an iterator draws nothing until it is asked"]
+pub struct ErrInto<I, E> {
+    pub(crate) it: I,
+    pub(crate) made: PhantomData<fn() -> E>,
+}
+
+impl<I, E> ErrInto<I, E> {
+    /// Creates it. It draws nothing.
+    #[inline(always)]
+    pub(crate) fn new(it: I) -> ErrInto<I, E> {
+        ErrInto {
+            it,
+            made: PhantomData,
+        }
+    }
+}
+
+impl<I: FallibleIterator, E: From<I::Error>> FallibleIterator for ErrInto<I, E> {
+    type Item = I::Item;
+
+    type Error = E;
+
+    /// Draws once, and converts a failure.
+    fn next(&mut self) -> Result<Option<I::Item>, E> {
+        failed(
+            self.it.next(),
+            &mut (),
+            &IntoFail::<E> { made: PhantomData },
+        )
+    }
+
+    fn size_hint(&self) -> (usize, Option<usize>) {
+        self.it.size_hint()
+    }
+
+    fn drive<C, R, K: Turn<C, I::Item, R>>(
+        &mut self,
+        state: &mut C,
+        turn: &K,
+    ) -> Result<Option<R>, E> {
+        drive_failing(
+            &mut self.it,
+            &mut (),
+            &IntoFail::<E> { made: PhantomData },
+            state,
+            turn,
+        )
+    }
+
+    /// The source's count, or the failure that it met, converted.
+    fn drive_count(&mut self, number: &mut usize) -> Result<(), E> {
+        failed(
+            self.it.drive_count(number),
+            &mut (),
+            &IntoFail::<E> { made: PhantomData },
+        )
+    }
+
+    fn drive_last(&mut self) -> Result<Option<I::Item>, E> {
+        failed(
+            self.it.drive_last(),
+            &mut (),
+            &IntoFail::<E> { made: PhantomData },
+        )
+    }
+
+    fn nth(&mut self, n: usize) -> Result<Option<I::Item>, E> {
+        failed(
+            self.it.nth(n),
+            &mut (),
+            &IntoFail::<E> { made: PhantomData },
+        )
+    }
+
+    fallible_iterator::by_drive!(drive);
+}
+
+impl<I: DoubleEndedFallibleIterator, E: From<I::Error>> DoubleEndedFallibleIterator
+    for ErrInto<I, E>
+{
+    /// Draws once from the back, and converts a failure.
+    fn next_back(&mut self) -> Result<Option<I::Item>, E> {
+        failed(
+            self.it.next_back(),
+            &mut (),
+            &IntoFail::<E> { made: PhantomData },
+        )
+    }
+
+    fn drive_back<C, R, K: Turn<C, I::Item, R>>(
+        &mut self,
+        state: &mut C,
+        turn: &K,
+    ) -> Result<Option<R>, E> {
+        drive_back_failing(
+            &mut self.it,
+            &mut (),
+            &IntoFail::<E> { made: PhantomData },
+            state,
+            turn,
+        )
+    }
+
+    fallible_iterator::by_drive!(drive_back);
+}
+
+// The failure, converted.
+struct IntoFail<E> {
+    made: PhantomData<E>,
+}
+
+impl<D, E: From<D>> Fail<(), D> for IntoFail<E> {
+    type Failure = E;
+
+    #[inline(always)]
+    fn fail(&self, _state: &mut (), failure: D) -> E {
+        E::from(failure)
+    }
+}
+
+impl<I: Clone, E> Clone for ErrInto<I, E> {
+    fn clone(&self) -> Self {
+        ErrInto {
+            it: self.it.clone(),
+            made: PhantomData,
+        }
+    }
+}
+
+impl<I: core::fmt::Debug, E> core::fmt::Debug for ErrInto<I, E> {
+    fn fmt(&self, f: &mut core::fmt::Formatter<'_>) -> core::fmt::Result {
+        f.debug_struct("ErrInto").field("it", &self.it).finish()
+    }
+}

@@ -1,0 +1,100 @@
+//! The adapter that calls a closure on each failure.
+
+use fallible_iterator::extending::{Fail, drive_back_failing, drive_failing, failed};
+use fallible_iterator::{DoubleEndedFallibleIterator, FallibleIterator, Turn};
+
+/// What the source returns. The closure is called on a reference to each failure first.
+#[derive(Clone, Debug)]
+#[must_use = "an iterator draws nothing until it is asked"]
+pub struct InspectErr<I, F> {
+    pub(crate) it: I,
+    pub(crate) f: F,
+}
+
+impl<I, F> InspectErr<I, F> {
+    /// Creates it. It draws nothing.
+    #[inline(always)]
+    pub(crate) fn new(it: I, f: F) -> InspectErr<I, F> {
+        InspectErr { it, f }
+    }
+}
+
+impl<I: FallibleIterator, F: FnMut(&I::Error)> FallibleIterator for InspectErr<I, F> {
+    type Item = I::Item;
+
+    type Error = I::Error;
+
+    /// Draws once, and calls the closure if a failure came.
+    fn next(&mut self) -> Result<Option<I::Item>, I::Error> {
+        failed(self.it.next(), &mut self.f, &InspectErrFail)
+    }
+
+    fn size_hint(&self) -> (usize, Option<usize>) {
+        self.it.size_hint()
+    }
+
+    fn drive<C, R, K: Turn<C, I::Item, R>>(
+        &mut self,
+        state: &mut C,
+        turn: &K,
+    ) -> Result<Option<R>, I::Error> {
+        drive_failing(&mut self.it, &mut self.f, &InspectErrFail, state, turn)
+    }
+
+    /// The source's count. The closure is called on a failure that it met.
+    fn drive_count(&mut self, number: &mut usize) -> Result<(), I::Error> {
+        failed(self.it.drive_count(number), &mut self.f, &InspectErrFail)
+    }
+
+    fn drive_last(&mut self) -> Result<Option<I::Item>, I::Error> {
+        failed(self.it.drive_last(), &mut self.f, &InspectErrFail)
+    }
+
+    fn nth(&mut self, n: usize) -> Result<Option<I::Item>, I::Error> {
+        failed(self.it.nth(n), &mut self.f, &InspectErrFail)
+    }
+
+    fn count(self) -> Result<usize, Self::Error> {
+        let mut f = self.f;
+        failed(self.it.count(), &mut f, &InspectErrFail)
+    }
+
+    fn last(self) -> Result<Option<Self::Item>, Self::Error> {
+        let mut f = self.f;
+        failed(self.it.last(), &mut f, &InspectErrFail)
+    }
+
+    fallible_iterator::by_drive!(drive);
+}
+
+impl<I: DoubleEndedFallibleIterator, F: FnMut(&I::Error)> DoubleEndedFallibleIterator
+    for InspectErr<I, F>
+{
+    /// Draws once from the back, and calls the closure if a failure came.
+    fn next_back(&mut self) -> Result<Option<I::Item>, I::Error> {
+        failed(self.it.next_back(), &mut self.f, &InspectErrFail)
+    }
+
+    fn drive_back<C, R, K: Turn<C, I::Item, R>>(
+        &mut self,
+        state: &mut C,
+        turn: &K,
+    ) -> Result<Option<R>, I::Error> {
+        drive_back_failing(&mut self.it, &mut self.f, &InspectErrFail, state, turn)
+    }
+
+    fallible_iterator::by_drive!(drive_back);
+}
+
+// The failure itself, after the closure's call.
+struct InspectErrFail;
+
+impl<D, F: FnMut(&D)> Fail<F, D> for InspectErrFail {
+    type Failure = D;
+
+    #[inline(always)]
+    fn fail(&self, state: &mut F, failure: D) -> D {
+        state(&failure);
+        failure
+    }
+}

@@ -1,0 +1,131 @@
+// The adapter that puts a separator between items.
+
+use crate::fallible_itertools_adapters::staging::{
+    Made, Stage, drive_stage, next_stage, one, one_then, stopped,
+};
+use fallible_iterator::{FallibleIterator, Turn};
+
+/// The items of the source with a clone of the separator between each two adjacent ones. An item that was drawn is buffered while the separator before it is yielded.
+#[derive(Clone, Debug)]
+#[must_use = "an iterator draws nothing until it is asked"]
+pub struct Intersperse<I: FallibleIterator> {
+    pub(crate) it: I,
+    // the separator and whether an item came, and the buffered item
+    pub(crate) stage: ((I::Item, bool), Option<I::Item>),
+}
+
+impl<I: FallibleIterator> Intersperse<I> {
+    /// Creates it. It draws nothing.
+    #[inline(always)]
+    pub(crate) fn new(it: I, separator: I::Item) -> Intersperse<I> {
+        Intersperse {
+            it,
+            stage: ((separator, false), None),
+        }
+    }
+}
+
+impl<I: FallibleIterator> FallibleIterator for Intersperse<I>
+where
+    I::Item: Clone,
+{
+    type Item = I::Item;
+
+    type Error = I::Error;
+
+    /// Yields the buffered item without a draw, and draws once if none is buffered.
+    fn next(&mut self) -> Result<Option<I::Item>, I::Error> {
+        next_stage(&mut self.it, &mut self.stage, &SeparatorClone)
+    }
+
+    /// The turn on the buffered item, and then the source's fold, whose turn is one on what stands before the item and one on the item.
+    fn drive<C, R, K: Turn<C, I::Item, R>>(
+        &mut self,
+        state: &mut C,
+        turn: &K,
+    ) -> Result<Option<R>, I::Error> {
+        drive_stage(&mut self.it, &mut self.stage, &SeparatorClone, state, turn)
+    }
+
+    fn size_hint(&self) -> (usize, Option<usize>) {
+        hint_parting(self.it.size_hint(), &self.stage)
+    }
+
+    fallible_iterator::by_drive!(drive);
+}
+
+// Each separator is a clone of the first.
+struct SeparatorClone;
+
+impl<X: Clone, E> Stage<(X, bool), X, E> for SeparatorClone {
+    type Kept = X;
+
+    type Later = X;
+
+    #[inline(always)]
+    fn on_item(&self, p: &mut (X, bool), item: X) -> Made<X, X, E> {
+        if p.1 {
+            separated(Ok(p.0.clone()), item)
+        } else {
+            p.1 = true;
+            one(Ok(Some(item)))
+        }
+    }
+
+    #[inline(always)]
+    fn on_stop(&self, _p: &mut (X, bool), stop: Option<E>) -> Made<X, X, E> {
+        one(stopped(stop))
+    }
+
+    #[inline(always)]
+    fn come(&self, later: X) -> (Result<Option<X>, E>, Option<X>) {
+        (Ok(Some(later)), None)
+    }
+}
+
+/// The separator, or what making it failed with, and then the item.
+#[inline(always)]
+pub(crate) fn separated<X, E>(separator: Result<X, E>, item: X) -> Made<X, X, E> {
+    match separator {
+        Ok(separator) => one_then(Ok(Some(separator)), item),
+        Err(e) => one_then(Err(e), item),
+    }
+}
+
+/// How many items come of as many of the source as the hint says.
+pub(crate) fn hint_parting<Z, X>(
+    hint: (usize, Option<usize>),
+    stage: &((Z, bool), Option<X>),
+) -> (usize, Option<usize>) {
+    let (low, high) = hint;
+    (
+        items_at_least(low, stage),
+        high.and_then(|high| items_at_most(high, stage)),
+    )
+}
+
+// How many items come of so many items of the source, at most `usize::MAX`.
+fn items_at_least<Z, X>(low: usize, stage: &((Z, bool), Option<X>)) -> usize {
+    let separators = if stage.0.1 {
+        low
+    } else {
+        low.saturating_sub(1)
+    };
+    let items = low.saturating_add(separators);
+    if stage.1.is_some() {
+        items.saturating_add(1)
+    } else {
+        items
+    }
+}
+
+// How many items come of so many items of the source, if that fits.
+fn items_at_most<Z, X>(high: usize, stage: &((Z, bool), Option<X>)) -> Option<usize> {
+    let separators = if stage.0.1 {
+        high
+    } else {
+        high.saturating_sub(1)
+    };
+    let held = if stage.1.is_some() { 1 } else { 0 };
+    high.checked_add(separators)?.checked_add(held)
+}

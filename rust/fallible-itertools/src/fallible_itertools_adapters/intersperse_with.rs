@@ -1,0 +1,84 @@
+// The adapter that puts what a closure returns between items.
+
+use crate::fallible_itertools_adapters::intersperse::{hint_parting, separated};
+use crate::fallible_itertools_adapters::staging::{
+    Made, Stage, drive_stage, next_stage, one, stopped,
+};
+use fallible_iterator::{FallibleIterator, Turn};
+
+/// The items of the source with what the closure returns between each two adjacent ones. An item that was drawn is buffered while the separator before it is yielded.
+#[derive(Clone, Debug)]
+#[must_use = "an iterator draws nothing until it is asked"]
+pub struct IntersperseWith<I: FallibleIterator, F> {
+    pub(crate) it: I,
+    // the closure and whether an item came, and the buffered item
+    pub(crate) stage: ((F, bool), Option<I::Item>),
+}
+
+impl<I: FallibleIterator, F> IntersperseWith<I, F> {
+    /// Creates it. It draws nothing.
+    #[inline(always)]
+    pub(crate) fn new(it: I, f: F) -> IntersperseWith<I, F> {
+        IntersperseWith {
+            it,
+            stage: ((f, false), None),
+        }
+    }
+}
+
+impl<I: FallibleIterator, F: FnMut() -> Result<I::Item, I::Error>> FallibleIterator
+    for IntersperseWith<I, F>
+{
+    type Item = I::Item;
+
+    type Error = I::Error;
+
+    /// Yields the buffered item without a draw, and draws once if none is buffered. If what it draws is an item after the first, it calls the closure once.
+    fn next(&mut self) -> Result<Option<I::Item>, I::Error> {
+        next_stage(&mut self.it, &mut self.stage, &SeparatorCall)
+    }
+
+    /// The turn on the buffered item, and then the source's fold, whose turn is one on what stands before the item and one on the item.
+    fn drive<C, R, K: Turn<C, I::Item, R>>(
+        &mut self,
+        state: &mut C,
+        turn: &K,
+    ) -> Result<Option<R>, I::Error> {
+        drive_stage(&mut self.it, &mut self.stage, &SeparatorCall, state, turn)
+    }
+
+    fn size_hint(&self) -> (usize, Option<usize>) {
+        hint_parting(self.it.size_hint(), &self.stage)
+    }
+
+    fallible_iterator::by_drive!(drive);
+}
+
+// Each separator is what one call of the closure returns.
+struct SeparatorCall;
+
+impl<X, E, F: FnMut() -> Result<X, E>> Stage<(F, bool), X, E> for SeparatorCall {
+    type Kept = X;
+
+    type Later = X;
+
+    #[inline(always)]
+    fn on_item(&self, p: &mut (F, bool), item: X) -> Made<X, X, E> {
+        if p.1 {
+            separated((p.0)(), item)
+        } else {
+            p.1 = true;
+            one(Ok(Some(item)))
+        }
+    }
+
+    #[inline(always)]
+    fn on_stop(&self, _p: &mut (F, bool), stop: Option<E>) -> Made<X, X, E> {
+        one(stopped(stop))
+    }
+
+    #[inline(always)]
+    fn come(&self, later: X) -> (Result<Option<X>, E>, Option<X>) {
+        (Ok(Some(later)), None)
+    }
+}

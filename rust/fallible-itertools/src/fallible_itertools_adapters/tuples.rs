@@ -1,0 +1,93 @@
+//! The adapter that yields pairs of items that don't overlap.
+
+use fallible_iterator::extending::{Outcome, Pass, drive_passing, kept};
+use fallible_iterator::{FallibleIterator, Turn};
+
+/// The items two by two, as pairs: each item stands in one pair. The first of a pair is buffered until the second comes, over failures and `Ok(None)` too.
+#[derive(Clone, Debug)]
+#[must_use = "an iterator draws nothing until it is asked"]
+pub struct Tuples<I: FallibleIterator> {
+    pub(crate) it: I,
+    // the first item of a pair
+    pub(crate) held: Option<I::Item>,
+}
+
+impl<I: FallibleIterator> Tuples<I> {
+    /// Creates it. It draws nothing.
+    #[inline(always)]
+    pub(crate) fn new(it: I) -> Tuples<I> {
+        Tuples { it, held: None }
+    }
+}
+
+impl<I: FallibleIterator> FallibleIterator for Tuples<I> {
+    type Item = (I::Item, I::Item);
+
+    type Error = I::Error;
+
+    /// Draws once if an item is buffered, and otherwise until a second item, a failure or an `Ok(None)` comes.
+    fn next(&mut self) -> Result<Option<(I::Item, I::Item)>, I::Error> {
+        match self.held.take() {
+            Some(first) => completed(&mut self.it, &mut self.held, first),
+            None => match self.it.draw() {
+                Ok(Some(first)) => completed(&mut self.it, &mut self.held, first),
+                Ok(None) => Ok(None),
+                Err(e) => Err(e),
+            },
+        }
+    }
+
+    fn size_hint(&self) -> (usize, Option<usize>) {
+        let first = if self.held.is_some() { 0 } else { 1 };
+        kept(self.it.size_hint(), 1, first)
+    }
+
+    fn drive<C, R, K: Turn<C, (I::Item, I::Item), R>>(
+        &mut self,
+        state: &mut C,
+        turn: &K,
+    ) -> Result<Option<R>, I::Error> {
+        drive_passing(&mut self.it, &mut self.held, &TuplePass, state, turn)
+    }
+
+    fallible_iterator::by_drive!(drive);
+}
+
+// An item is held, or yielded beside the one that is.
+struct TuplePass;
+
+impl<X, E> Pass<Option<X>, X, E> for TuplePass {
+    type Kept = (X, X);
+
+    type Answer = Outcome<(X, X), E>;
+
+    #[inline(always)]
+    fn pass(&self, held: &mut Option<X>, item: X) -> Outcome<(X, X), E> {
+        match held.take() {
+            Some(first) => Outcome::Kept((first, item)),
+            None => {
+                *held = Some(item);
+                Outcome::LeftOut
+            }
+        }
+    }
+}
+
+// One draw after the first item of a pair.
+fn completed<I: FallibleIterator>(
+    it: &mut I,
+    held: &mut Option<I::Item>,
+    first: I::Item,
+) -> Result<Option<(I::Item, I::Item)>, I::Error> {
+    match it.next() {
+        Ok(Some(x)) => Ok(Some((first, x))),
+        Ok(None) => {
+            *held = Some(first);
+            Ok(None)
+        }
+        Err(e) => {
+            *held = Some(first);
+            Err(e)
+        }
+    }
+}

@@ -1,0 +1,82 @@
+// The adapter that yields the first item of each key.
+
+use core::hash::Hash;
+use fallible_iterator::extending::{FirstTurn, Outcome, Pass, drive_passing};
+use fallible_iterator::{FallibleIterator, Turn};
+use std::collections::HashSet;
+
+/// The first item of each key. A set has the keys of the items that were yielded.
+#[derive(Clone, Debug)]
+#[must_use = "an iterator draws nothing until it is asked"]
+pub struct UniqueBy<I, K, F>
+where
+    K: Eq + Hash,
+{
+    pub(crate) it: I,
+    // the keys of the items that were yielded, and the closure
+    pub(crate) keying: (HashSet<K>, F),
+}
+
+impl<I, K: Eq + Hash, F> UniqueBy<I, K, F> {
+    /// Creates it. It draws nothing.
+    #[inline(always)]
+    pub(crate) fn new(it: I, f: F) -> UniqueBy<I, K, F> {
+        UniqueBy {
+            it,
+            keying: (HashSet::new(), f),
+        }
+    }
+}
+
+impl<I: FallibleIterator, K: Eq + Hash, F: FnMut(&I::Item) -> Result<K, I::Error>> FallibleIterator
+    for UniqueBy<I, K, F>
+{
+    type Item = I::Item;
+
+    type Error = I::Error;
+
+    /// Draws until an item comes whose key equals none before it, or a failure or an `Ok(None)`. It calls the closure on each item.
+    fn next(&mut self) -> Result<Option<I::Item>, I::Error> {
+        self.drive(&mut (), &FirstTurn)
+    }
+
+    fn size_hint(&self) -> (usize, Option<usize>) {
+        (0, self.it.size_hint().1)
+    }
+
+    fn drive<C, R, T: Turn<C, I::Item, R>>(
+        &mut self,
+        state: &mut C,
+        turn: &T,
+    ) -> Result<Option<R>, I::Error> {
+        drive_passing(&mut self.it, &mut self.keying, &KeyPass, state, turn)
+    }
+
+    fallible_iterator::by_drive!(drive);
+}
+
+// What becomes of an item by its key.
+struct KeyPass;
+
+impl<X, E, K: Eq + Hash, F: FnMut(&X) -> Result<K, E>> Pass<(HashSet<K>, F), X, E> for KeyPass {
+    type Kept = X;
+
+    type Answer = Outcome<X, E>;
+
+    #[inline(always)]
+    fn pass(&self, state: &mut (HashSet<K>, F), item: X) -> Outcome<X, E> {
+        match (state.1)(&item) {
+            Ok(key) => first_of_key(&mut state.0, key, item),
+            Err(e) => Outcome::Failure(e),
+        }
+    }
+}
+
+// An item with its key after those before it.
+fn first_of_key<X, E, K: Eq + Hash>(keys: &mut HashSet<K>, key: K, item: X) -> Outcome<X, E> {
+    if keys.insert(key) {
+        Outcome::Kept(item)
+    } else {
+        Outcome::LeftOut
+    }
+}
