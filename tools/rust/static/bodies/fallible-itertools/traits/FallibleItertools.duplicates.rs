@@ -1,11 +1,8 @@
 // changed: no allocator is passed
-// proved: a4ac4e38
+// proved: 76001afd
 fn duplicates(self) -> Duplicates<Self>
 where
     Self::Item: Eq + Hash,
 {
-    Duplicates {
-        it: self,
-        came: HashMap::new(),
-    }
+    Duplicates::new(self)
 }
