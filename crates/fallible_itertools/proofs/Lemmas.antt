@@ -64,6 +64,7 @@ pub mod Positions
 pub mod RunCounts
 pub mod Sides
 pub mod Sorted
+pub mod SortedUnstable
 pub mod Staging
 pub mod StagingHints
 pub mod StagingLists

@@ -50,6 +50,7 @@ pub mod Positions
 pub mod RunCounts
 pub mod Sides
 pub mod Sorted
+pub mod SortedUnstable
 pub mod Staging
 pub mod StopAfter
 pub mod TakeWhileInclusive

@@ -50,6 +50,7 @@ mod position_best;
 pub mod positions;
 mod sides;
 mod sorted;
+mod sorted_unstable;
 pub mod staging;
 pub mod stop_after;
 pub mod take_while_inclusive;
