@@ -24,6 +24,8 @@ mod passing;
 #[cfg(test)]
 mod rows;
 #[cfg(test)]
+mod sorting;
+#[cfg(test)]
 mod stopping;
 #[cfg(test)]
 mod totals;
