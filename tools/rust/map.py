@@ -78,7 +78,7 @@ ITERTOOLS = [
     (CONSUMERS + r"/.*", r"(?<![\w:])crate::", "crate::fallible_itertools_consumers::", ANY),
     (EVERY, r"(?<![\w:])(%s|%s)::" % (ADAPTERS, CONSUMERS), r"crate::\1::", ANY),
     # Only the trait creates its adapters.
-    (ADAPTERS + r"/.*", r"^    pub fn new\(", "    pub(crate) fn new(", 29),
+    (ADAPTERS + r"/.*", r"^    pub fn new\(", "    pub(crate) fn new(", 30),
     # No allocator is kept.
     (GROUPS, r"^    pub\(crate\) alloc: Global,\n", "", 2),
     (GROUPS, r"^struct (Chunk\w+) \{\n    alloc: Global,\n\}", r"struct \1;", 2),
@@ -106,19 +106,19 @@ ITERTOOLS = [
     # The trait of the Rust crate is for types without a size too.
     (r"(?:traits|.*/double_ended|.*/peeking_take_while)\.rs", r"^(pub trait \w+: \w+) \{", r"\1 + Sized {", 3),
     # Features.
-    (r"fallible_\w+\.rs", r"^pub (?:mod (?:chunk_by|chunks|join|sorted);|use (?:chunk_by|chunks)::)", r'#[cfg(feature = "alloc")]\n\g<0>', 6),
+    (r"fallible_\w+\.rs", r"^pub (?:mod (?:chunk_by|chunks|join|sorted|sorted_unstable);|use (?:chunk_by|chunks)::)", r'#[cfg(feature = "alloc")]\n\g<0>', 7),
     (r"fallible_\w+\.rs", r"^pub (?:mod (?:all_unique|counts|duplicates|group_map|keyed|unique|unique_by);|use (?:duplicates|unique(?:_by)?)::)",
      r'#[cfg(feature = "std")]\n\g<0>', 10),
     (r"(?:lib|traits)\.rs", r"\bChunkBy,\s+Chunks,\s+|\bDuplicates,\s+|\bUnique,\s+UniqueBy,\s+", "", 6),
     (r"(?:lib|traits)\.rs", r"^((?:pub )?use crate::fallible_itertools_adapters::)\{",
      r'#[cfg(feature = "alloc")]\n\1{ChunkBy, Chunks};\n#[cfg(feature = "std")]\n\1{Duplicates, Unique, UniqueBy};\n\g<0>', 2),
-    (r".*/(?:chunk_by|chunks|group_map)\.rs", r"\A(//.*\n\n)", r"\1use alloc::vec::Vec;\n", 3),
-    (r"traits\.rs", r"^use crate::fallible_itertools_consumers::(?:join|sorted)::", r'#[cfg(feature = "alloc")]\n\g<0>', 2),
+    (r".*/(?:chunk_by|chunks|group_map|sorted_unstable)\.rs", r"\A(//.*\n\n)", r"\1use alloc::vec::Vec;\n", 4),
+    (r"traits\.rs", r"^use crate::fallible_itertools_consumers::(?:join::|sorted::|sorted_unstable;)", r'#[cfg(feature = "alloc")]\n\g<0>', 3),
     (r"traits\.rs", r"^use core::fmt::Display;",
      r'#[cfg(feature = "alloc")]\nuse alloc::string::String;\n#[cfg(feature = "alloc")]\nuse alloc::vec::Vec;\n#[cfg(feature = "alloc")]\n\g<0>', 1),
     (r"traits\.rs", r"^use (?:crate::fallible_itertools_consumers::(?:all_unique|counts|group_map|keyed)::|core::hash::|std::coll)",
      r'#[cfg(feature = "std")]\n\g<0>', 6),
-    (r"traits\.rs", r"^    fn (?:chunks|chunk_by|join|sorted|sorted_by|sorted_by_key)\b", r'    #[cfg(feature = "alloc")]\n\g<0>', 6),
+    (r"traits\.rs", r"^    fn (?:chunks|chunk_by|join|sorted(?:_unstable)?(?:_by|_by_key)?)\b", r'    #[cfg(feature = "alloc")]\n\g<0>', 9),
     (r"traits\.rs", r"^    fn (?:all_unique|counts|counts_by|duplicates|into_group_map|into_group_map_by|unique|unique_by)\b",
      r'    #[cfg(feature = "std")]\n\g<0>', 8),
     (r"lib\.rs", r"\A(?://!.*\n)+\n", HEAD + "mod errors;\nmod fallible_itertools_adapters;\nmod fallible_itertools_consumers;\n", 1),

@@ -12,6 +12,7 @@ ghost use Rattle.fallible_itertools.specs.MinMaxBy.{minmaxed_by, minmaxed_by_key
 ghost use Rattle.fallible_itertools.specs.PartitionMap.{MadeOfEithers};
 ghost use Rattle.fallible_itertools.specs.PositionBest.{position_greatest, position_least};
 ghost use Rattle.fallible_itertools.specs.Sorted.{IsSortedByKeyOf, IsSortedByTest, IsSortedOf};
+ghost use Rattle.fallible_itertools.specs.SortedUnstable.{HasItemsInOrder};
 ghost use Rattle.fallible_itertools.specs.ConsumerTypes.partition_map.Either.TheVariants.{Left, Right};
 
 use fallible_iterator::laws::law_back_convert;
@@ -183,6 +184,16 @@ pub fn sorted_down(alloc: Global, readings: Vec<Result<u32, u8>>) -> Result<Vec<
     ensures { CollectedAs (IsSortedByTest (λ x y. nat_lt y x)) (results readings.items) result }
 {
     convert(readings.into_iter()).sorted_by(alloc, |x: &u32, y: &u32| y.cmp(x))
+}
+
+/// The readings in order, sorted in place, or the first failure.
+pub fn readings_in_order(
+    alloc: Global,
+    readings: Vec<Result<u32, u8>>,
+) -> Result<Vec<u32>, Fault<u8>>
+    ensures { CollectedAs (HasItemsInOrder nat_cmp) (results readings.items) result }
+{
+    convert(readings.into_iter()).sorted_unstable(alloc)
 }
 
 /// The reading with n readings after it.

@@ -83,4 +83,5 @@ pub use Rattle.fallible_itertools_consumers.proofs.Lemmas.Parted
 pub use Rattle.fallible_itertools_consumers.proofs.Lemmas.PartitionMap
 pub use Rattle.fallible_itertools_consumers.proofs.Lemmas.PositionBest
 pub use Rattle.fallible_itertools_consumers.proofs.Lemmas.Sorted
+pub use Rattle.fallible_itertools_consumers.proofs.Lemmas.SortedUnstable
 pub use Rattle.fallible_itertools_consumers.proofs.Lemmas.UntilFailure

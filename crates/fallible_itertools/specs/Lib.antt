@@ -61,6 +61,7 @@ pub use Rattle.fallible_itertools_consumers.specs.Parted
 pub use Rattle.fallible_itertools_consumers.specs.PartitionMap
 pub use Rattle.fallible_itertools_consumers.specs.PositionBest
 pub use Rattle.fallible_itertools_consumers.specs.Sorted
+pub use Rattle.fallible_itertools_consumers.specs.SortedUnstable
 pub use Rattle.fallible_itertools_consumers.specs.UntilFailure
 pub use Rattle.fallible_itertools_adapters.specs.declared as AdapterTypes
 pub use Rattle.fallible_itertools_consumers.specs.declared as ConsumerTypes

@@ -68,6 +68,7 @@ ghost use Rattle.fallible_itertools_consumers.specs.IsSortedBy.{PairCall, in_ord
 ghost use Rattle.fallible_itertools_consumers.specs.Keyed.{keyed, keyed_contract};
 ghost use Rattle.fallible_itertools_consumers.specs.FoldWhile.{WhileCall, FoldWhileDrains, folded_while, rest_while};
 ghost use Rattle.fallible_itertools_consumers.specs.Sorted.{CollectsSorted, HasItems, IsSortedByCalls, IsSortedByComparisons, IsSortedByKeyOf, IsSortedByTest, IsSortedOf};
+ghost use Rattle.fallible_itertools_consumers.specs.SortedUnstable.{CollectsInPlace, HasItemsInOrder, HasItemsInOrderByCalls, HasItemsInOrderByComparisons, HasItemsInOrderByKey, HasItemsInOrderByTest};
 ghost use Rattle.fallible_itertools_adapters.specs.StopAfter.{stop_after_contract, stop_after_items, stop_after_parts, stopped_after};
 ghost use Rattle.fallible_itertools_adapters.specs.TakeWhileInclusive as inclusive;
 ghost use Rattle.fallible_itertools_consumers.specs.CheckedSum.{TotalDrains, totalled};
@@ -119,6 +120,7 @@ use fallible_itertools_consumers::parted::{Parted, without_fault};
 use fallible_itertools_consumers::partition_map::Either;
 use fallible_itertools_consumers::position_best::{first_is_less, place_alone};
 use fallible_itertools_consumers::sorted::{sorted_items, sorted_items_by, sorted_items_by_key};
+use fallible_itertools_consumers::sorted_unstable;
 use fallible_itertools_consumers::until_failure::{PushTurn, with_failure};
 use std::alloc::{AllocError, Global};
 use std::cmp::Ordering;
@@ -322,7 +324,7 @@ pub trait FallibleItertools: FallibleIterator {
         DedupByWithCount::new(self, same)
     }
 
-    /// Yields each item with its [`Position`](crate::Position): `First`, `Middle`, `Last` or `Only`.
+    /// Yields each item with its [`Position`](Position): `First`, `Middle`, `Last` or `Only`.
     ///
     /// Creating it draws nothing. An item is buffered until another item comes, or a stop: `Ok(None)` or a failure. `next` draws once if an item is buffered, and otherwise twice, or up to a stop. The buffered item is yielded first, and is the `Last` one before a stop. The stop is what the next call returns, without a draw. After a stop nothing is buffered, and the next item is `First` or `Only`.
     ///
@@ -2125,6 +2127,133 @@ pub trait FallibleItertools: FallibleIterator {
             (λ l. (e : Self.Error) → result ≡ Err (Source e) → list.collected l ≡ Err e) }
     {
         sorted_items_by_key(self.collect(alloc), f)
+    }
+
+    /// Returns the items in a `Vec`, in order. Equal items may come in any order. Sorting takes no memory beyond the `Vec`.
+    ///
+    /// It draws up to `Ok(None)` or the first failure. It fails with that failure. After `Ok(None)` it sorts. It consumes the iterator.
+    ///
+    /// Precondition: the iterator is finite.
+    ///
+    /// Requires: `next` may be called.
+    ///
+    /// Memory: that failure is a `Fault::Source`. It also stops at an item that the collection rejects, and fails with `Fault::Memory`. Sorting never fails.
+    ///
+    /// Proof: no clause says what is left.
+    ///
+    /// ```
+    /// let readings = [Ok::<u32, u8>(150), Ok(7), Ok(700)];
+    /// let sorted = convert(readings.into_iter()).sorted_unstable(rt.alloc())?;
+    /// assert_eq!(rt; sorted, vec![in rt.alloc(); 7, 150, 700]?);
+    /// ```
+    final fn sorted_unstable(self, alloc: Global) -> Result<Vec<Self::Item>, Fault<Self::Error>>
+    where
+        Self::Item: Ord + Drop,
+        requires can_next { Self.contract.can_next self }
+        requires finite { Self.contract.is_finite self }
+        ensures collects { CollectsInPlace Self.contract.steps (HasItemsInOrder Self.Item.cmp) self
+            result }
+        ensures value { OverList Self.contract.steps self
+            (λ l. list.CollectedAs (HasItemsInOrder Self.Item.cmp) l result) }
+        ensures contents { OverList Self.contract.steps self
+            (λ l. IfOk result (list.MadeOf (HasItemsInOrder Self.Item.cmp) (list.collected l))) }
+        ensures failure { OverList Self.contract.steps self
+            (λ l. (e : Self.Error) → result ≡ Err (Source e) → list.collected l ≡ Err e) }
+    {
+        sorted_unstable::items_in_order(self.collect(alloc))
+    }
+
+    /// Returns the items in a `Vec`, in the order that the closure returns for each two. Items that it finds equal may come in any order. If it compares as no order does, it returns the items in any order, each of them once; in Rust it may panic.
+    ///
+    /// Draws, errors and memory: as `sorted_unstable`. The closure doesn't fail. It is called after the last draw. It consumes the iterator.
+    ///
+    /// Precondition: the iterator is finite.
+    ///
+    /// Requires: `next` may be called, and the closure may be called on references to any two items at any time.
+    ///
+    /// Proof: no clause says what is left. It is known to be in order by a strict weak order as which the closure compares.
+    ///
+    /// ```
+    /// let readings = [Ok::<u32, u8>(150), Ok(7), Ok(700)];
+    /// let falling = convert(readings.into_iter()).sorted_unstable_by(
+    ///     rt.alloc(),
+    ///     |x: &u32, y: &u32| y.cmp(x),
+    /// )?;
+    /// assert_eq!(rt; falling, vec![in rt.alloc(); 700, 150, 7]?);
+    /// ```
+    final fn sorted_unstable_by<F>(
+        self,
+        alloc: Global,
+        f: F,
+    ) -> Result<Vec<Self::Item>, Fault<Self::Error>>
+    where
+        Self::Item: Drop,
+        F: FnMut(&Self::Item, &Self::Item) -> Ordering,
+        requires can_next { Self.contract.can_next self }
+        requires finite { Self.contract.is_finite self }
+        requires callable { F.IsAlwaysCallable f }
+        ensures collects { CollectsInPlace Self.contract.steps
+            (HasItemsInOrderByComparisons F.FnMut f) self result }
+        ensures value { (lt : Self.Item → Self.Item → Bool) → IsStrictWeakOrder lt
+            → ComparesAs F.FnMut lt f
+            → OverList Self.contract.steps self
+            (λ l. list.CollectedAs (HasItemsInOrderByTest lt) l result) }
+        ensures contents { (lt : Self.Item → Self.Item → Bool) → IsStrictWeakOrder lt
+            → ComparesAs F.FnMut lt f
+            → OverList Self.contract.steps self
+            (λ l. IfOk result (list.MadeOf (HasItemsInOrderByTest lt) (list.collected l))) }
+        ensures items { OverList Self.contract.steps self
+            (λ l. list.CollectedAs HasItems l result) }
+        ensures failure { OverList Self.contract.steps self
+            (λ l. (e : Self.Error) → result ≡ Err (Source e) → list.collected l ≡ Err e) }
+    {
+        sorted_unstable::items_in_order_by(self.collect(alloc), f)
+    }
+
+    /// Returns the items in a `Vec`, in the order of the keys that the closure returns for them. Items with equal keys may come in any order. If the closure returns other keys for an item from call to call, it returns the items in any order, each of them once; in Rust it may panic.
+    ///
+    /// Draws, errors and memory: as `sorted_unstable`. The closure doesn't fail; a key that may fail is made by `map` before. The closure is called after the last draw, on an item as often as its key is compared. It consumes the iterator.
+    ///
+    /// Precondition: the iterator is finite.
+    ///
+    /// Requires: `next` may be called, and the closure may be called on a reference to any item at any time.
+    ///
+    /// Proof: no clause says what is left.
+    ///
+    /// ```
+    /// let words = [Ok::<&str, u8>("the"), Ok("is"), Ok("calm")];
+    /// let sorted = convert(words.into_iter()).sorted_unstable_by_key(
+    ///     rt.alloc(),
+    ///     |word: &&str| word.len(),
+    /// )?;
+    /// assert_eq!(rt; sorted, vec![in rt.alloc(); "is", "the", "calm"]?);
+    /// ```
+    final fn sorted_unstable_by_key<K, F>(
+        self,
+        alloc: Global,
+        f: F,
+    ) -> Result<Vec<Self::Item>, Fault<Self::Error>>
+    where
+        Self::Item: Drop,
+        K: Ord + Drop,
+        F: FnMut(&Self::Item) -> K,
+        requires can_next { Self.contract.can_next self }
+        requires finite { Self.contract.is_finite self }
+        requires callable { F.IsAlwaysCallable f }
+        ensures collects { CollectsInPlace Self.contract.steps
+            (HasItemsInOrderByCalls F.FnMut K.cmp f) self result }
+        ensures value { (key : Self.Item → K) → ComputesKey F.FnMut key f
+            → OverList Self.contract.steps self
+            (λ l. list.CollectedAs (HasItemsInOrderByKey key K.cmp) l result) }
+        ensures contents { (key : Self.Item → K) → ComputesKey F.FnMut key f
+            → OverList Self.contract.steps self
+            (λ l. IfOk result (list.MadeOf (HasItemsInOrderByKey key K.cmp) (list.collected l))) }
+        ensures items { OverList Self.contract.steps self
+            (λ l. list.CollectedAs HasItems l result) }
+        ensures failure { OverList Self.contract.steps self
+            (λ l. (e : Self.Error) → result ≡ Err (Source e) → list.collected l ≡ Err e) }
+    {
+        sorted_unstable::items_in_order_by_key(self.collect(alloc), f)
     }
 
     /// Returns the items as `Display` shows them, with the separator between each two.

@@ -22,4 +22,5 @@ pub mod Parted
 pub mod PartitionMap
 pub mod PositionBest
 pub mod Sorted
+pub mod SortedUnstable
 pub mod UntilFailure

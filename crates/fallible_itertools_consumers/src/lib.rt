@@ -24,6 +24,7 @@ pub mod parted;
 pub mod partition_map;
 pub mod position_best;
 pub mod sorted;
+pub mod sorted_unstable;
 pub mod until_failure;
 
 pub use checked_sum::CheckedTotal;

@@ -26,6 +26,8 @@ mod repeated;
 #[cfg(test)]
 mod rows;
 #[cfg(test)]
+mod sorting;
+#[cfg(test)]
 mod stopping;
 #[cfg(test)]
 mod totals;

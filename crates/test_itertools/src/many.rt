@@ -61,6 +61,11 @@ fn many_are_sorted(rt: HostRuntime) -> Result<(), Fail> {
             Err(_) => None,
         };
         expect_length(sorted, length)?;
+        let in_place = match (0..n).into_fallible().sorted_unstable(rt.alloc()) {
+            Ok(items) => Some(items.len()),
+            Err(_) => None,
+        };
+        expect_length(in_place, length)?;
         let by_key = (0..n)
             .into_fallible()
             .sorted_by_key(rt.alloc(), |x: &u32| *x % 10);

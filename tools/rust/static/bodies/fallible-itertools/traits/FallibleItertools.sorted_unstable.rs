@@ -1,0 +1,8 @@
+// changed: no allocator is passed
+// proved: 3c80dc91
+fn sorted_unstable(self) -> Result<Vec<Self::Item>, Self::Error>
+where
+    Self::Item: Ord,
+{
+    sorted_unstable::items_in_order(self.collect())
+}

@@ -1,0 +1,11 @@
+// changed: no allocator is passed
+// proved: 8696b307
+fn sorted_unstable_by<F>(
+    self,
+    f: F,
+) -> Result<Vec<Self::Item>, Self::Error>
+where
+    F: FnMut(&Self::Item, &Self::Item) -> Ordering,
+{
+    sorted_unstable::items_in_order_by(self.collect(), f)
+}
