@@ -68,6 +68,7 @@ pub mod Staging
 pub mod StagingHints
 pub mod StagingLists
 pub mod StopAfter
+pub mod Tail
 pub mod TakeWhileInclusive
 pub mod TupleWindows
 pub mod Tuples

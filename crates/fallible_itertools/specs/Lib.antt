@@ -52,6 +52,7 @@ pub mod Sides
 pub mod Sorted
 pub mod Staging
 pub mod StopAfter
+pub mod Tail
 pub mod TakeWhileInclusive
 pub mod TupleWindows
 pub mod Tuples

@@ -52,6 +52,7 @@ mod sides;
 mod sorted;
 pub mod staging;
 pub mod stop_after;
+pub mod tail;
 pub mod take_while_inclusive;
 pub mod traits;
 pub mod tuple_windows;

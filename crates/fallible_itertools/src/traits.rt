@@ -2,6 +2,7 @@
 ghost use Rattle.std.specs.HashMap.{get, spare};
 ghost use Rattle.std.specs.HashSet.{IsEmpty};
 ghost use Rattle.std.specs.Set.{ClonesAreEqual};
+ghost use Rattle.std.specs.VecDeque.{deque_capacity, deque_items, deque_len};
 ghost use Rattle.std.specs.Prelude.{◌≡◌, ℕ, ◌+◌, ◌≤◌, List, None, Result, ◌-◌, ◌^◌, ◌⊎◌, true, Option, Ok, Err, false, Bool, Some, IfOk, ⊤, ◌<◌, vec_items};
 ghost use Rattle.std.specs.Cmp.{IsStrictWeakOrder, IsTotalOrder};
 ghost use Rattle.std.specs.Fn.{ComparesAs, ComputesKey};
@@ -67,6 +68,7 @@ ghost use Rattle.fallible_itertools.specs.Keyed.{keyed, keyed_contract};
 ghost use Rattle.fallible_itertools.specs.FoldWhile.{WhileCall, FoldWhileDrains, folded_while, rest_while};
 ghost use Rattle.fallible_itertools.specs.Sorted.{CollectsSorted, HasItems, IsSortedByCalls, IsSortedByComparisons, IsSortedByKeyOf, IsSortedByTest, IsSortedOf};
 ghost use Rattle.fallible_itertools.specs.StopAfter.{stop_after_contract, stop_after_items, stop_after_parts, stopped_after};
+ghost use Rattle.fallible_itertools.specs.Tail.{IsTailOf, TailRefuses};
 ghost use Rattle.fallible_itertools.specs.TakeWhileInclusive as inclusive;
 ghost use Rattle.fallible_itertools.specs.CheckedSum.{TotalDrains, totalled};
 ghost use Rattle.fallible_itertools.specs.TupleWindows.{tuple_windows_contract, tuple_windows_parts, windowed};
@@ -124,6 +126,7 @@ use crate::positions::Positions;
 use crate::sides::Holding;
 use crate::sorted::{sorted_items, sorted_items_by, sorted_items_by_key};
 use crate::stop_after::StopAfter;
+use crate::tail::TailTurn;
 use crate::take_while_inclusive::TakeWhileInclusive;
 use crate::tuple_windows::TupleWindows;
 use crate::tuples::Tuples;
@@ -140,7 +143,7 @@ use fallible_iterator::extending::{
 use fallible_iterator::{Collect, FallibleIterator, Fault, IntoFallibleIterator};
 use std::alloc::{AllocError, Global};
 use std::cmp::Ordering;
-use std::collections::{HashMap, HashSet};
+use std::collections::{HashMap, HashSet, VecDeque};
 use std::fmt::Display;
 use std::hash::Hash;
 use std::marker::PhantomData;
@@ -2270,6 +2273,49 @@ pub trait FallibleItertools: FallibleIterator {
         let mut state = (false, String::new(alloc));
         match self.drive(&mut state, &JoinTurn { separator }) {
             Ok(None) => Ok(state.1),
+            Ok(Some(refused)) => Err(Fault::Memory(refused)),
+            Err(e) => Err(Fault::Source(e)),
+        }
+    }
+
+    /// Returns the last `n` items in a queue, in order, or all if fewer come. It keeps at most `n` items at a time.
+    ///
+    /// It draws up to `Ok(None)` or the first failure, also if `n` is 0. It fails with that failure, and what was kept is dropped. It consumes the iterator.
+    ///
+    /// Precondition: the iterator is finite.
+    ///
+    /// Requires: `next` may be called.
+    ///
+    /// Memory: that failure is a `Fault::Source`. It also stops at an item for which an allocation failed, before `n` items were kept. Then it fails with `Fault::Memory`.
+    ///
+    /// Proof: no clause says what is left.
+    ///
+    /// ```
+    /// let readings = [Ok::<u32, u8>(150), Ok(7), Ok(700)];
+    /// let last = convert(readings.into_iter()).tail(rt.alloc(), 2)?;
+    /// assert_eq!(rt; last.into_vec(), vec![in rt.alloc(); 7, 700]?);
+    /// ```
+    final fn tail(
+        mut self,
+        alloc: Global,
+        n: usize,
+    ) -> Result<VecDeque<Self::Item>, Fault<Self::Error>>
+    where
+        Self::Item: Drop,
+        requires can_next { Self.contract.can_next self }
+        requires finite { Self.contract.is_finite self }
+        ensures collects { Collects Self.contract.steps (IsTailOf deque_items n) ⊥
+            (TailRefuses deque_len deque_capacity n) self result }
+        ensures value { OverList Self.contract.steps self
+            (λ l. list.CollectedAs (IsTailOf deque_items n) l result) }
+        ensures contents { OverList Self.contract.steps self
+            (λ l. IfOk result (list.MadeOf (IsTailOf deque_items n) (list.collected l))) }
+        ensures failure { OverList Self.contract.steps self
+            (λ l. (e : Self.Error) → result ≡ Err (Source e) → list.collected l ≡ Err e) }
+    {
+        let mut kept = VecDeque::new(alloc);
+        match self.drive(&mut kept, &TailTurn { n }) {
+            Ok(None) => Ok(kept),
             Ok(Some(refused)) => Err(Fault::Memory(refused)),
             Err(e) => Err(Fault::Source(e)),
         }
