@@ -32,6 +32,7 @@ pub mod IntersperseWith
 pub mod IsSorted
 pub mod IsSortedBy
 pub mod Join
+pub mod KSmallest
 pub mod Keyed
 pub mod Laws
 pub mod Merge

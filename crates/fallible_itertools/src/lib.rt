@@ -34,6 +34,7 @@ pub mod intersperse_with;
 mod is_sorted;
 mod is_sorted_by;
 pub mod join;
+pub mod k_smallest;
 mod keyed;
 pub mod laws;
 pub mod merge;

@@ -64,6 +64,7 @@ ghost use Rattle.fallible_itertools.specs.FindOrLast.{FoundOrFirst, FoundOrLast,
 ghost use Rattle.fallible_itertools.specs.FindPosition.{find_position_pick, position_found};
 ghost use Rattle.fallible_itertools.specs.IsSorted.{ItselfCall, OrderCall, in_order, in_order_by_key};
 ghost use Rattle.fallible_itertools.specs.IsSortedBy.{PairCall, in_order_by, takes_pair};
+ghost use Rattle.fallible_itertools.specs.KSmallest.{IsSmallestOf, SmallestRefuses};
 ghost use Rattle.fallible_itertools.specs.Keyed.{keyed, keyed_contract};
 ghost use Rattle.fallible_itertools.specs.FoldWhile.{WhileCall, FoldWhileDrains, folded_while, rest_while};
 ghost use Rattle.fallible_itertools.specs.Sorted.{CollectsSorted, HasItems, IsSortedByCalls, IsSortedByComparisons, IsSortedByKeyOf, IsSortedByTest, IsSortedOf};
@@ -111,6 +112,7 @@ use crate::intersperse_with::IntersperseWith;
 use crate::is_sorted::{InOrderTurn, SortedTurn};
 use crate::is_sorted_by::SortedByTurn;
 use crate::join::JoinTurn;
+use crate::k_smallest::SmallestTurn;
 use crate::keyed::Keyed;
 use crate::merge::Merge;
 use crate::merge_by::MergeBy;
@@ -2273,6 +2275,51 @@ pub trait FallibleItertools: FallibleIterator {
         let mut state = (false, String::new(alloc));
         match self.drive(&mut state, &JoinTurn { separator }) {
             Ok(None) => Ok(state.1),
+            Ok(Some(refused)) => Err(Fault::Memory(refused)),
+            Err(e) => Err(Fault::Source(e)),
+        }
+    }
+
+    /// Returns the `k` least items in a `Vec`, in order, or all if fewer come. Equal items keep their order, and the first of them are kept. It keeps at most `k` items at a time.
+    ///
+    /// It draws up to `Ok(None)` or the first failure, also if `k` is 0. It fails with that failure, and what was kept is dropped. It consumes the iterator.
+    ///
+    /// An item that isn't less than the last of `k` kept ones costs one comparison. Another one costs a binary search, and moves the items that stay after it.
+    ///
+    /// Precondition: the iterator is finite.
+    ///
+    /// Requires: `next` may be called.
+    ///
+    /// Memory: that failure is a `Fault::Source`. It also stops at an item for which an allocation failed, before `k` items were kept. Then it fails with `Fault::Memory`.
+    ///
+    /// Proof: no clause says what is left.
+    ///
+    /// ```
+    /// let readings = [Ok::<u32, u8>(150), Ok(7), Ok(700), Ok(50)];
+    /// let smallest = convert(readings.into_iter()).k_smallest(rt.alloc(), 2)?;
+    /// assert_eq!(rt; smallest, vec![in rt.alloc(); 7, 50]?);
+    /// ```
+    final fn k_smallest(
+        mut self,
+        alloc: Global,
+        k: usize,
+    ) -> Result<Vec<Self::Item>, Fault<Self::Error>>
+    where
+        Self::Item: Ord + Drop,
+        requires can_next { Self.contract.can_next self }
+        requires finite { Self.contract.is_finite self }
+        ensures collects { Collects Self.contract.steps (IsSmallestOf Self.Item.cmp k) ⊥
+            (SmallestRefuses k) self result }
+        ensures value { OverList Self.contract.steps self
+            (λ l. list.CollectedAs (IsSmallestOf Self.Item.cmp k) l result) }
+        ensures contents { OverList Self.contract.steps self
+            (λ l. IfOk result (list.MadeOf (IsSmallestOf Self.Item.cmp k) (list.collected l))) }
+        ensures failure { OverList Self.contract.steps self
+            (λ l. (e : Self.Error) → result ≡ Err (Source e) → list.collected l ≡ Err e) }
+    {
+        let mut kept = Vec::new(alloc);
+        match self.drive(&mut kept, &SmallestTurn { k }) {
+            Ok(None) => Ok(kept),
             Ok(Some(refused)) => Err(Fault::Memory(refused)),
             Err(e) => Err(Fault::Source(e)),
         }
