@@ -76,6 +76,7 @@ pub use Rattle.fallible_itertools_consumers.proofs.Lemmas.IsSorted
 pub use Rattle.fallible_itertools_consumers.proofs.Lemmas.IsSortedBy
 pub use Rattle.fallible_itertools_consumers.proofs.Lemmas.Join
 pub use Rattle.fallible_itertools_consumers.proofs.Lemmas.Joined
+pub use Rattle.fallible_itertools_consumers.proofs.Lemmas.KSmallest
 pub use Rattle.fallible_itertools_consumers.proofs.Lemmas.Keyed
 pub use Rattle.fallible_itertools_consumers.proofs.Lemmas.MinMax
 pub use Rattle.fallible_itertools_consumers.proofs.Lemmas.MinMaxBy
@@ -84,4 +85,5 @@ pub use Rattle.fallible_itertools_consumers.proofs.Lemmas.PartitionMap
 pub use Rattle.fallible_itertools_consumers.proofs.Lemmas.PositionBest
 pub use Rattle.fallible_itertools_consumers.proofs.Lemmas.Sorted
 pub use Rattle.fallible_itertools_consumers.proofs.Lemmas.SortedUnstable
+pub use Rattle.fallible_itertools_consumers.proofs.Lemmas.Tail
 pub use Rattle.fallible_itertools_consumers.proofs.Lemmas.UntilFailure

@@ -54,6 +54,7 @@ pub use Rattle.fallible_itertools_consumers.specs.GroupMap
 pub use Rattle.fallible_itertools_consumers.specs.IsSorted
 pub use Rattle.fallible_itertools_consumers.specs.IsSortedBy
 pub use Rattle.fallible_itertools_consumers.specs.Join
+pub use Rattle.fallible_itertools_consumers.specs.KSmallest
 pub use Rattle.fallible_itertools_consumers.specs.Keyed
 pub use Rattle.fallible_itertools_consumers.specs.MinMax
 pub use Rattle.fallible_itertools_consumers.specs.MinMaxBy
@@ -62,6 +63,7 @@ pub use Rattle.fallible_itertools_consumers.specs.PartitionMap
 pub use Rattle.fallible_itertools_consumers.specs.PositionBest
 pub use Rattle.fallible_itertools_consumers.specs.Sorted
 pub use Rattle.fallible_itertools_consumers.specs.SortedUnstable
+pub use Rattle.fallible_itertools_consumers.specs.Tail
 pub use Rattle.fallible_itertools_consumers.specs.UntilFailure
 pub use Rattle.fallible_itertools_adapters.specs.declared as AdapterTypes
 pub use Rattle.fallible_itertools_consumers.specs.declared as ConsumerTypes

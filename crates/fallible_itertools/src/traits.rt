@@ -3,6 +3,7 @@ ghost use Rattle.std.specs.HashMap as hash;
 ghost use Rattle.std.specs.HashMap.{get, spare};
 ghost use Rattle.std.specs.HashSet.{IsEmpty};
 ghost use Rattle.std.specs.Set.{ClonesAreEqual};
+ghost use Rattle.std.specs.VecDeque.{deque_capacity, deque_items, deque_len};
 ghost use Rattle.std.specs.Prelude.{◌≡◌, ℕ, ◌+◌, ◌≤◌, List, None, Result, ◌-◌, ◌^◌, ◌⊎◌, true, Option, Ok, Err, false, Bool, Some, IfOk, ⊤, ◌<◌, vec_items};
 ghost use Rattle.std.specs.Cmp.{IsStrictWeakOrder, IsTotalOrder};
 ghost use Rattle.std.specs.Fn.{ComparesAs, ComputesKey};
@@ -67,6 +68,8 @@ ghost use Rattle.fallible_itertools_consumers.specs.IsSorted.{ItselfCall, OrderC
 ghost use Rattle.fallible_itertools_consumers.specs.IsSortedBy.{PairCall, in_order_by, takes_pair};
 ghost use Rattle.fallible_itertools_consumers.specs.Keyed.{keyed, keyed_contract};
 ghost use Rattle.fallible_itertools_consumers.specs.FoldWhile.{WhileCall, FoldWhileDrains, folded_while, rest_while};
+ghost use Rattle.fallible_itertools_consumers.specs.KSmallest.{IsSmallestOf, SmallestRefuses};
+ghost use Rattle.fallible_itertools_consumers.specs.Tail.{IsTailOf, TailRefuses};
 ghost use Rattle.fallible_itertools_consumers.specs.Sorted.{CollectsSorted, HasItems, IsSortedByCalls, IsSortedByComparisons, IsSortedByKeyOf, IsSortedByTest, IsSortedOf};
 ghost use Rattle.fallible_itertools_consumers.specs.SortedUnstable.{CollectsInPlace, HasItemsInOrder, HasItemsInOrderByCalls, HasItemsInOrderByComparisons, HasItemsInOrderByKey, HasItemsInOrderByTest};
 ghost use Rattle.fallible_itertools_adapters.specs.StopAfter.{stop_after_contract, stop_after_items, stop_after_parts, stopped_after};
@@ -84,47 +87,105 @@ ghost use Rattle.fallible_itertools_consumers.specs.declared.exactly_one.NotOne.
 ghost use Rattle.fallible_itertools_consumers.specs.declared.fold_while.FoldWhile.TheVariants.{Done};
 ghost use Rattle.fallible_itertools_consumers.specs.declared.minmax.MinMaxResult.TheVariants.{NoElements};
 
-use fallible_iterator::extending::{
-    FindTest, FindTurn, ForEachTurn, PositionTurn, ReadEq, Reading, answer_or, answer_or_none,
-    found, ordered,
-};
-use fallible_iterator::{Collect, FallibleIterator, Fault, IntoFallibleIterator};
-use fallible_itertools_adapters::{
-    ChunkBy, Chunks, Coalesce, Copied, Dedup, DedupBy, DedupByKey, DedupByWithCount,
-    DedupWithCount, Duplicates, ErrInto, InspectErr, Interleave, Intersperse, IntersperseWith,
-    Merge, MergeBy, MergeJoinBy, OrElse, PadUsing, Positions, StopAfter, TakeWhileInclusive,
-    TupleWindows, Tuples, Unique, UniqueBy, WithPosition, ZipEq, ZipLongest,
-};
-use fallible_itertools_consumers::all_unique::{AllUniqueTurn, unique_or_fault};
-use fallible_itertools_consumers::checked_sum::{
-    CheckedTotal, ProductTurn, SumTurn, total_or_none,
-};
-use fallible_itertools_consumers::cmp_by::{CmpTurn, EqTurn, compare_by};
+use fallible_iterator::Collect;
+use fallible_iterator::FallibleIterator;
+use fallible_iterator::Fault;
+use fallible_iterator::IntoFallibleIterator;
+use fallible_iterator::extending::FindTest;
+use fallible_iterator::extending::FindTurn;
+use fallible_iterator::extending::ForEachTurn;
+use fallible_iterator::extending::PositionTurn;
+use fallible_iterator::extending::ReadEq;
+use fallible_iterator::extending::Reading;
+use fallible_iterator::extending::answer_or;
+use fallible_iterator::extending::answer_or_none;
+use fallible_iterator::extending::found;
+use fallible_iterator::extending::ordered;
+use fallible_itertools_adapters::ChunkBy;
+use fallible_itertools_adapters::Chunks;
+use fallible_itertools_adapters::Coalesce;
+use fallible_itertools_adapters::Copied;
+use fallible_itertools_adapters::Dedup;
+use fallible_itertools_adapters::DedupBy;
+use fallible_itertools_adapters::DedupByKey;
+use fallible_itertools_adapters::DedupByWithCount;
+use fallible_itertools_adapters::DedupWithCount;
+use fallible_itertools_adapters::Duplicates;
+use fallible_itertools_adapters::ErrInto;
+use fallible_itertools_adapters::InspectErr;
+use fallible_itertools_adapters::Interleave;
+use fallible_itertools_adapters::Intersperse;
+use fallible_itertools_adapters::IntersperseWith;
+use fallible_itertools_adapters::Merge;
+use fallible_itertools_adapters::MergeBy;
+use fallible_itertools_adapters::MergeJoinBy;
+use fallible_itertools_adapters::OrElse;
+use fallible_itertools_adapters::PadUsing;
+use fallible_itertools_adapters::Positions;
+use fallible_itertools_adapters::StopAfter;
+use fallible_itertools_adapters::TakeWhileInclusive;
+use fallible_itertools_adapters::TupleWindows;
+use fallible_itertools_adapters::Tuples;
+use fallible_itertools_adapters::Unique;
+use fallible_itertools_adapters::UniqueBy;
+use fallible_itertools_adapters::WithPosition;
+use fallible_itertools_adapters::ZipEq;
+use fallible_itertools_adapters::ZipLongest;
+use fallible_itertools_consumers::all_unique::AllUniqueTurn;
+use fallible_itertools_consumers::all_unique::unique_or_fault;
+use fallible_itertools_consumers::checked_sum::CheckedTotal;
+use fallible_itertools_consumers::checked_sum::ProductTurn;
+use fallible_itertools_consumers::checked_sum::SumTurn;
+use fallible_itertools_consumers::checked_sum::total_or_none;
+use fallible_itertools_consumers::cmp_by::CmpTurn;
+use fallible_itertools_consumers::cmp_by::EqTurn;
+use fallible_itertools_consumers::cmp_by::compare_by;
 use fallible_itertools_consumers::converting::converted;
 use fallible_itertools_consumers::counts::Tally;
-use fallible_itertools_consumers::equal::{AllEqualTurn, ContainsTurn, UnequalTurn, first_or_both};
+use fallible_itertools_consumers::equal::AllEqualTurn;
+use fallible_itertools_consumers::equal::ContainsTurn;
+use fallible_itertools_consumers::equal::UnequalTurn;
+use fallible_itertools_consumers::equal::first_or_both;
 use fallible_itertools_consumers::exactly_one::NotOne;
-use fallible_itertools_consumers::find_or_last::{FindFirstTurn, FindLastTurn, or_kept};
+use fallible_itertools_consumers::find_or_last::FindFirstTurn;
+use fallible_itertools_consumers::find_or_last::FindLastTurn;
+use fallible_itertools_consumers::find_or_last::or_kept;
 use fallible_itertools_consumers::find_position::FindPositionTurn;
-use fallible_itertools_consumers::fold_while::{FoldWhile, FoldWhileTurn, while_or_stop};
+use fallible_itertools_consumers::fold_while::FoldWhile;
+use fallible_itertools_consumers::fold_while::FoldWhileTurn;
+use fallible_itertools_consumers::fold_while::while_or_stop;
 use fallible_itertools_consumers::group_map::GroupMap;
-use fallible_itertools_consumers::is_sorted::{InOrderTurn, SortedTurn};
+use fallible_itertools_consumers::is_sorted::InOrderTurn;
+use fallible_itertools_consumers::is_sorted::SortedTurn;
 use fallible_itertools_consumers::is_sorted_by::SortedByTurn;
 use fallible_itertools_consumers::join::JoinTurn;
+use fallible_itertools_consumers::k_smallest::SmallestTurn;
 use fallible_itertools_consumers::keyed::Keyed;
-use fallible_itertools_consumers::minmax::{MinMaxResult, MinMaxTurn, lesser_first};
-use fallible_itertools_consumers::minmax_by::{
-    MinMaxByTurn, MinMaxKeyTurn, items_alone, kept_or_failure,
-};
-use fallible_itertools_consumers::parted::{Parted, without_fault};
+use fallible_itertools_consumers::minmax::MinMaxResult;
+use fallible_itertools_consumers::minmax::MinMaxTurn;
+use fallible_itertools_consumers::minmax::lesser_first;
+use fallible_itertools_consumers::minmax_by::MinMaxByTurn;
+use fallible_itertools_consumers::minmax_by::MinMaxKeyTurn;
+use fallible_itertools_consumers::minmax_by::items_alone;
+use fallible_itertools_consumers::minmax_by::kept_or_failure;
+use fallible_itertools_consumers::parted::Parted;
+use fallible_itertools_consumers::parted::without_fault;
 use fallible_itertools_consumers::partition_map::Either;
-use fallible_itertools_consumers::position_best::{first_is_less, place_alone};
-use fallible_itertools_consumers::sorted::{sorted_items, sorted_items_by, sorted_items_by_key};
+use fallible_itertools_consumers::position_best::first_is_less;
+use fallible_itertools_consumers::position_best::place_alone;
+use fallible_itertools_consumers::sorted::sorted_items;
+use fallible_itertools_consumers::sorted::sorted_items_by;
+use fallible_itertools_consumers::sorted::sorted_items_by_key;
 use fallible_itertools_consumers::sorted_unstable;
-use fallible_itertools_consumers::until_failure::{PushTurn, with_failure};
-use std::alloc::{AllocError, Global};
+use fallible_itertools_consumers::tail::TailTurn;
+use fallible_itertools_consumers::until_failure::PushTurn;
+use fallible_itertools_consumers::until_failure::with_failure;
+use std::alloc::AllocError;
+use std::alloc::Global;
 use std::cmp::Ordering;
-use std::collections::{HashMap, HashSet};
+use std::collections::HashMap;
+use std::collections::HashSet;
+use std::collections::VecDeque;
 use std::fmt::Display;
 use std::hash::Hash;
 
@@ -2292,6 +2353,94 @@ pub trait FallibleItertools: FallibleIterator {
         let mut state = (false, String::new(alloc));
         match self.drive(&mut state, &JoinTurn { separator }) {
             Ok(None) => Ok(state.1),
+            Ok(Some(refused)) => Err(Fault::Memory(refused)),
+            Err(e) => Err(Fault::Source(e)),
+        }
+    }
+
+    /// Returns the `k` least items in a `Vec`, in order, or all if fewer come. Equal items keep their order, and the first of them are kept. It keeps at most `k` items at a time.
+    ///
+    /// It draws up to `Ok(None)` or the first failure, also if `k` is 0. It fails with that failure, and what was kept is dropped. It consumes the iterator.
+    ///
+    /// An item that isn't less than the last of `k` kept ones costs one comparison. Another one costs a binary search, and moves the items that stay after it.
+    ///
+    /// Precondition: the iterator is finite.
+    ///
+    /// Requires: `next` may be called.
+    ///
+    /// Memory: that failure is a `Fault::Source`. It also stops at an item for which an allocation failed, before `k` items were kept. Then it fails with `Fault::Memory`.
+    ///
+    /// Proof: no clause says what is left.
+    ///
+    /// ```
+    /// let readings = [Ok::<u32, u8>(150), Ok(7), Ok(700), Ok(50)];
+    /// let smallest = convert(readings.into_iter()).k_smallest(rt.alloc(), 2)?;
+    /// assert_eq!(rt; smallest, vec![in rt.alloc(); 7, 50]?);
+    /// ```
+    final fn k_smallest(
+        mut self,
+        alloc: Global,
+        k: usize,
+    ) -> Result<Vec<Self::Item>, Fault<Self::Error>>
+    where
+        Self::Item: Ord + Drop,
+        requires can_next { Self.contract.can_next self }
+        requires finite { Self.contract.is_finite self }
+        ensures collects { Collects Self.contract.steps (IsSmallestOf Self.Item.cmp k) ⊥
+            (SmallestRefuses k) self result }
+        ensures value { OverList Self.contract.steps self
+            (λ l. list.CollectedAs (IsSmallestOf Self.Item.cmp k) l result) }
+        ensures contents { OverList Self.contract.steps self
+            (λ l. IfOk result (list.MadeOf (IsSmallestOf Self.Item.cmp k) (list.collected l))) }
+        ensures failure { OverList Self.contract.steps self
+            (λ l. (e : Self.Error) → result ≡ Err (Source e) → list.collected l ≡ Err e) }
+    {
+        let mut kept = Vec::new(alloc);
+        match self.drive(&mut kept, &SmallestTurn { k }) {
+            Ok(None) => Ok(kept),
+            Ok(Some(refused)) => Err(Fault::Memory(refused)),
+            Err(e) => Err(Fault::Source(e)),
+        }
+    }
+
+    /// Returns the last `n` items in a queue, in order, or all if fewer come. It keeps at most `n` items at a time.
+    ///
+    /// It draws up to `Ok(None)` or the first failure, also if `n` is 0. It fails with that failure, and what was kept is dropped. It consumes the iterator.
+    ///
+    /// Precondition: the iterator is finite.
+    ///
+    /// Requires: `next` may be called.
+    ///
+    /// Memory: that failure is a `Fault::Source`. It also stops at an item for which an allocation failed, before `n` items were kept. Then it fails with `Fault::Memory`.
+    ///
+    /// Proof: no clause says what is left.
+    ///
+    /// ```
+    /// let readings = [Ok::<u32, u8>(150), Ok(7), Ok(700)];
+    /// let last = convert(readings.into_iter()).tail(rt.alloc(), 2)?;
+    /// assert_eq!(rt; last.into_vec(), vec![in rt.alloc(); 7, 700]?);
+    /// ```
+    final fn tail(
+        mut self,
+        alloc: Global,
+        n: usize,
+    ) -> Result<VecDeque<Self::Item>, Fault<Self::Error>>
+    where
+        Self::Item: Drop,
+        requires can_next { Self.contract.can_next self }
+        requires finite { Self.contract.is_finite self }
+        ensures collects { Collects Self.contract.steps (IsTailOf deque_items n) ⊥
+            (TailRefuses deque_len deque_capacity n) self result }
+        ensures value { OverList Self.contract.steps self
+            (λ l. list.CollectedAs (IsTailOf deque_items n) l result) }
+        ensures contents { OverList Self.contract.steps self
+            (λ l. IfOk result (list.MadeOf (IsTailOf deque_items n) (list.collected l))) }
+        ensures failure { OverList Self.contract.steps self
+            (λ l. (e : Self.Error) → result ≡ Err (Source e) → list.collected l ≡ Err e) }
+    {
+        let mut kept = VecDeque::new(alloc);
+        match self.drive(&mut kept, &TailTurn { n }) {
+            Ok(None) => Ok(kept),
             Ok(Some(refused)) => Err(Fault::Memory(refused)),
             Err(e) => Err(Fault::Source(e)),
         }

@@ -15,6 +15,7 @@ pub mod IsSorted
 pub mod IsSortedBy
 pub mod Join
 pub mod Joined
+pub mod KSmallest
 pub mod Keyed
 pub mod MinMax
 pub mod MinMaxBy
@@ -23,4 +24,5 @@ pub mod PartitionMap
 pub mod PositionBest
 pub mod Sorted
 pub mod SortedUnstable
+pub mod Tail
 pub mod UntilFailure

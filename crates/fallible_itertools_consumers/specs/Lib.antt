@@ -14,6 +14,7 @@ pub mod GroupMap
 pub mod IsSorted
 pub mod IsSortedBy
 pub mod Join
+pub mod KSmallest
 pub mod Keyed
 pub mod Laws
 pub mod MinMax
@@ -23,4 +24,5 @@ pub mod PartitionMap
 pub mod PositionBest
 pub mod Sorted
 pub mod SortedUnstable
+pub mod Tail
 pub mod UntilFailure

@@ -16,6 +16,7 @@ pub mod group_map;
 pub mod is_sorted;
 pub mod is_sorted_by;
 pub mod join;
+pub mod k_smallest;
 pub mod keyed;
 pub mod laws;
 pub mod minmax;
@@ -25,6 +26,7 @@ pub mod partition_map;
 pub mod position_best;
 pub mod sorted;
 pub mod sorted_unstable;
+pub mod tail;
 pub mod until_failure;
 
 pub use checked_sum::CheckedTotal;
