@@ -2,14 +2,14 @@
 
 import re
 
-from made import belief, calls, definitions, drives
+from made import belief, calls, definitions, drives, siblings
 
 TABLE = re.compile(r"(<!-- made: ([\w ]+) -->\n).*?(\n<!-- end -->)", re.DOTALL)
 
 
 def tables(crates):
     """The text of each table, by its name."""
-    made = {**calls.tables(crates), **belief.tables(crates), **definitions.tables(crates)}
+    made = {**calls.tables(crates), **belief.tables(crates), **definitions.tables(crates), **siblings.tables(crates)}
     made |= {"types": drives.types(crates), "final calls": drives.finals(crates)}
     return {name: "\n".join(lines) for name, lines in made.items()}
 

@@ -1,0 +1,56 @@
+"""The tables of docs/ADDING.md: the goals of the adapters that it names to copy, and the lemmas that their terms cite."""
+
+import re
+
+from made.code import lines_of
+
+CRATE = "fallible_itertools"
+SIBLINGS = {
+    "terms of what passes": ["copied", "unique", "tuples", "inspect_err", "or_else"],
+    "terms of stages": ["take_while_inclusive", "intersperse"],
+    "terms of what buffers": ["dedup", "dedup_by_key", "coalesce", "chunk_by"],
+}
+CALLS = ("next", "drive", "on_item", "ask")
+HEAD = "| Goal | Lemmas | In |\n|---|---|---|"
+LEMMAS = re.compile(r"use Rattle\.fallible_iter(?:ator|tools)\.(?:proofs\.Lemmas|specs\.Laws)\.[\w.]+\.\{([^}]*)\}")
+GOAL = re.compile(r"(?:abbrev )?pub ([\w-]+) : goal\.\1")
+
+
+def goals(path):
+    """Each goal of a file of terms, with the lemmas that its term cites, in the order of their imports."""
+    text = "\n".join(lines_of(path))
+    lemmas = [name.strip() for names in LEMMAS.findall(text) for name in names.split(",")]
+    parts = GOAL.split(text)[1:]
+    for goal, term in zip(parts[::2], parts[1::2]):
+        yield goal, [name for name in lemmas if re.search(rf"(?<![\w-]){name}(?![\w-])", term)]
+
+
+def files(crates, name):
+    """The files of terms of an adapter: of its calls, and of its law and its hint's."""
+    proofs = crates / CRATE / "proofs"
+    for call in CALLS:
+        found = sorted((proofs / name).glob(f"*/{call}/Answers.antt"))
+        yield from ((f"`{call}`", path) for path in found if "DoubleEnded" not in path.parts[-3])
+    for law, said in ((f"law_{name}", "the law"), (f"law_hints_{name}", "the law of the hint")):
+        yield from ((said, path) for path in sorted(proofs.glob(f"laws/*/{law}/Answers.antt")))
+
+
+def table(crates, names):
+    """The lines of a table: those of one goal by the same lemmas together."""
+    rows = {}
+    for name in names:
+        for call, path in files(crates, name):
+            for goal, lemmas in goals(path):
+                if lemmas:
+                    rows.setdefault((f"`{goal}` of {call}", tuple(sorted(lemmas))), []).append(name)
+    return [HEAD, *(f"| {goal} | {listed(lemmas)} | {listed(dict.fromkeys(found))} |" for (goal, lemmas), found in rows.items())]
+
+
+def listed(names):
+    """Names as a cell has them."""
+    return ", ".join(f"`{name}`" for name in names)
+
+
+def tables(crates):
+    """The lines of each table, by its name."""
+    return {name: table(crates, siblings) for name, siblings in SIBLINGS.items()}
