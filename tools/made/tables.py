@@ -2,7 +2,8 @@
 
 import re
 
-from made import belief, calls, definitions, drives, siblings
+from made import belief, calls, commands, definitions, drives, siblings
+from made.tree import TOP
 
 TABLE = re.compile(r"(<!-- made: ([\w ]+) -->\n).*?(\n<!-- end -->)", re.DOTALL)
 
@@ -10,7 +11,7 @@ TABLE = re.compile(r"(<!-- made: ([\w ]+) -->\n).*?(\n<!-- end -->)", re.DOTALL)
 def tables(crates):
     """The text of each table, by its name."""
     made = {**calls.tables(crates), **belief.tables(crates), **definitions.tables(crates), **siblings.tables(crates)}
-    made |= {"types": drives.types(crates), "final calls": drives.finals(crates)}
+    made |= {"types": drives.types(crates), "final calls": drives.finals(crates), "steps of a release": commands.release(TOP)}
     return {name: "\n".join(lines) for name, lines in made.items()}
 
 
