@@ -11,6 +11,9 @@ NAMES = (
     "definitions of fallible_itertools", "definitions that types share",
 )
 STRUCT = re.compile(r"^pub struct (\w+)", re.MULTILINE)
+FIELD = re.compile(r"^  -- (.*)\n  pub (\w+) :", re.MULTILINE)
+RECORDS = {"fields of Contract": "Contract", "fields of Ends": "Ends"}
+TWO_ENDS = re.compile(r"\bDoubleEndedFallibleIterator\s+for (&mut I|\w+)")
 
 # The words of a file that say a part of a definition and are no trace.
 PARTS = {
@@ -62,6 +65,20 @@ def line(name, groups, shared):
     return f"| `{name}` | {cell(name, traces)} | {cell(name, contracts)} |"
 
 
+def fields(crates, record):
+    """The lines of the fields of a record of `fallible_contract`, which stands in the file of its name."""
+    path = crates / "fallible_contract" / "specs" / f"{record}.antt"
+    text = path.read_text(encoding="utf-8") if path.is_file() else ""
+    begun = text.partition(f"record {record} ")[2].partition("\n\n")[0]
+    return ["| Field | It says of a value |\n|---|---|", *(f"| `{name}` | {said} |" for said, name in FIELD.findall(begun))]
+
+
+def two_ends(crates):
+    """The types that have two ends, in one line."""
+    found = {name for path in code_of_library(crates) for name in TWO_ENDS.findall(path.read_text(encoding="utf-8"))}
+    return [", ".join(f"`{name}`" for name in sorted(found)) + "." if found else ""]
+
+
 def tables(crates):
     """The lines of each table, by its name."""
     types = {name for path in code_of_library(crates) for name in STRUCT.findall(path.read_text(encoding="utf-8"))}
@@ -72,4 +89,5 @@ def tables(crates):
         # of nests of adapters the traces are joined, and define none
         if found and place != "Nests":
             made[table].append(found)
-    return made
+    made |= {name: fields(crates, record) for name, record in RECORDS.items()}
+    return {**made, "types with two ends": two_ends(crates)}
