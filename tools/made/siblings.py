@@ -9,6 +9,7 @@ SIBLINGS = {
     "terms of what passes": ["copied", "unique", "tuples", "inspect_err", "or_else"],
     "terms of stages": ["take_while_inclusive", "intersperse"],
     "terms of what buffers": ["dedup", "dedup_by_key", "coalesce", "chunk_by"],
+    "terms of consumers and searches": ["checked_sum", "fold_while", "try_find"],
 }
 CALLS = ("next", "drive", "on_item", "ask")
 HEAD = "| Goal | Lemmas | In |\n|---|---|---|"
@@ -31,6 +32,7 @@ def files(crates, name):
     for call in CALLS:
         found = sorted((proofs / name).glob(f"*/{call}/Answers.antt"))
         yield from ((f"`{call}`", path) for path in found if "DoubleEnded" not in path.parts[-3])
+    yield from (("the method", path) for path in sorted(proofs.glob(f"traits/*/{name}/Answers.antt")))
     for law, said in ((f"law_{name}", "the law"), (f"law_hints_{name}", "the law of the hint")):
         yield from ((said, path) for path in sorted(proofs.glob(f"laws/*/{law}/Answers.antt")))
 
