@@ -31,7 +31,7 @@ def table_of(crate, place, types):
         return "definitions that types share"
     if crate == "fallible_iterator":
         return "definitions of sources"
-    if crate == "fallible_itertools":
+    if crate not in ("fallible_contract", "fallible_core"):
         return "definitions of fallible_itertools"
     return "definitions of adapters that join" if place.startswith("Joining/") else "definitions of adapters"
 

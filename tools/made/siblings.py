@@ -3,8 +3,8 @@
 import re
 
 from made.code import lines_of
+from made.tree import LIBRARY
 
-CRATE = "fallible_itertools"
 SIBLINGS = {
     "terms of what passes": ["copied", "unique", "tuples", "inspect_err", "or_else"],
     "terms of stages": ["take_while_inclusive", "intersperse"],
@@ -13,7 +13,7 @@ SIBLINGS = {
 }
 CALLS = ("next", "drive", "on_item", "ask")
 HEAD = "| Goal | Lemmas | In |\n|---|---|---|"
-LEMMAS = re.compile(r"use Rattle\.fallible_iter(?:ator|tools)\.(?:proofs\.Lemmas|specs\.Laws)\.[\w.]+\.\{([^}]*)\}")
+LEMMAS = re.compile(r"use Rattle\.(?!std\b)\w+\.(?:proofs\.Lemmas|specs\.Laws)\.[\w.]+\.\{([^}]*)\}")
 GOAL = re.compile(r"(?:abbrev )?pub ([\w-]+) : goal\.\1")
 
 
@@ -27,14 +27,14 @@ def goals(path):
 
 
 def files(crates, name):
-    """The files of terms of an adapter: of its calls, and of its law and its hint's."""
-    proofs = crates / CRATE / "proofs"
-    for call in CALLS:
-        found = sorted((proofs / name).glob(f"*/{call}/Answers.antt"))
-        yield from ((f"`{call}`", path) for path in found if "DoubleEnded" not in path.parts[-3])
-    yield from (("the method", path) for path in sorted(proofs.glob(f"traits/*/{name}/Answers.antt")))
-    for law, said in ((f"law_{name}", "the law"), (f"law_hints_{name}", "the law of the hint")):
-        yield from ((said, path) for path in sorted(proofs.glob(f"laws/*/{law}/Answers.antt")))
+    """The files of terms of an adapter or a consumer: of its calls, its method, its law and its hint's."""
+    places = [(f"`{call}`", f"{name}/*FallibleIterator/{call}") for call in CALLS[:2]]
+    places += [(f"`{call}`", f"{name}/*/{call}") for call in CALLS[2:]]
+    places += [("the method", f"traits/*/{name}"), ("the law", f"laws/*/law_{name}"), ("the law of the hint", f"laws/*/law_hints_{name}")]
+    for said, place in places:
+        for proofs in (crates / crate / "proofs" for crate in LIBRARY):
+            found = sorted(proofs.glob(f"{place}/Answers.antt"))
+            yield from ((said, path) for path in found if "DoubleEnded" not in path.parts[-3])
 
 
 def table(crates, names):
