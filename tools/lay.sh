@@ -3,7 +3,7 @@
 #
 #     tools/lay.sh COPY NAME..
 #
-# What the gate doesn't prove stands in release/NAME: its .rt and .antt files have .txt behind their names, since the
+# What the gate doesn't prove stands in release/NAME: its .rt and .antt files have .txt after their names, since the
 # gate refuses such a file that no crate reads, and `stands_on` names the crates below it.
 set -eu
 cd "$(dirname "$0")/.."

@@ -16,11 +16,11 @@ program="$work/copy/crates/drive_refused_memory"
 compared=0
 differ=0
 
-# What the source gives next after a refusal: the first item, or one behind it, or its end. An item is a number, or a
+# What the source gives next after a refusal: the first item, or one after it, or its end. An item is a number, or a
 # number beside another.
 first='Ok\(Some\((1|\(1, [0-9]+\))\)\)'
 later='([2-9]|1[0-9]|20)'
-behind="(Ok\(Some\(($later|\($later, [0-9]+\))\)\)|Ok\(None\))"
+after="(Ok\(Some\(($later|\($later, [0-9]+\))\)\)|Ok\(None\))"
 
 # The outcome, without the name, that is allowed where request number $2 of call $1 is refused; nothing where the
 # call makes no such request.
@@ -29,7 +29,7 @@ allowed() {
     # The makings of these ask for no memory. A refused item is lost.
     collect_vec | collect_deque | collect_btree_set | collect_hash_set | collect_btree_map | collect_hash_map | \
         partition_vec | partition_btree_set | unzip_vec_deque | unzip_hash_set_btree_set)
-        echo "memory was refused; then $behind"
+        echo "memory was refused; then $after"
         ;;
     # The makings alone ask. Where one is refused, the next one would be met: it is not tried, and nothing is drawn.
     collect_roomy)

@@ -54,11 +54,11 @@ compare 'the same, in pieces that cut records' 0 "$long_report" ''
 
 begin
 cat "$work/long" "$work/bad" | "$program" >"$work/out" 2>"$work/err" || status=$?
-compare 'a bad record behind them' 1 '' 'record 20002: the first number is above the second'
+compare 'a bad record after them' 1 '' 'record 20002: the first number is above the second'
 
 begin
 cat "$work/long" "$work/cut" | "$program" >"$work/out" 2>"$work/err" || status=$?
-compare 'a cut record behind them' 5 '' 'record 20002: cut short'
+compare 'a cut record after them' 5 '' 'record 20002: cut short'
 
 begin
 "$program" <&- >"$work/out" 2>"$work/err" || status=$?
@@ -136,10 +136,10 @@ begin
 { printf '\3\0\0\0\2\0\0\0'; yes; } | timeout 10 "$program" >"$work/out" 2>"$work/err" || status=$?
 compare 'a bad first record of an input with no end' 1 '' 'record 1: the first number is above the second'
 
-# The same behind good ones, beyond the buffer.
+# The same after good ones, beyond the buffer.
 begin
 { cat "$work/long" "$work/bad"; yes; } | timeout 10 "$program" >"$work/out" 2>"$work/err" || status=$?
-compare 'a bad record behind good ones, of an input with no end' 1 '' 'record 20002: the first number is above the second'
+compare 'a bad record after good ones, of an input with no end' 1 '' 'record 20002: the first number is above the second'
 
 echo "table runs of sum_table: $compared runs compared"
 
@@ -185,7 +185,7 @@ compare 'a byte 0xff' 1 '' 'byte 17: not UTF-8'
 
 begin
 "$program" <"$work/cut_character" >"$work/out" 2>"$work/err" || status=$?
-compare 'a character cut short, behind a bad row' 1 '' 'row 1: not a key and an amount'
+compare 'a character cut short, after a bad row' 1 '' 'row 1: not a key and an amount'
 
 begin
 "$program" <&- >"$work/out" 2>"$work/err" || status=$?

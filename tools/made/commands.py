@@ -1,7 +1,30 @@
-"""The table of commands in CONTRIBUTING.md, which names each script of `tools/` and each program of `release/`, and how scripts are named."""
+"""The tables of commands in CONTRIBUTING.md, which name each script of `tools/` and each program of `release/`, and how scripts are named."""
+
+import re
 
 # The ending of a script by the program that its first line names.
 ENDING = {"#!/usr/bin/env bash": ".sh", "#!/usr/bin/env python3": ""}
+
+STEP = re.compile(r"^(\w+)\|(tools/\S+)\|(.+)$", re.MULTILINE)
+USED = re.compile(r"\b((?:tools|release)/[\w.-]+)((?:/[\w.-]+)*\b)")
+
+
+def purpose(text):
+    """The first sentence of a script's head, up to a colon."""
+    head = " ".join(line.lstrip("# ").strip('"') for line in text.split("\n\n")[0].split("\n#\n")[0].split("\n")[1:])
+    return re.split(r"[.:] |[.:]$", head)[0].strip().replace("|", "\\|")
+
+
+def release(top):
+    """The lines of the table of what runs before a release, of the steps of `tools/before_release.sh`."""
+    lines = ["| Step | Command | What it does | With | How long |\n|---|---|---|---|---|"]
+    path = top / "tools" / "before_release.sh"
+    for step, command, time in STEP.findall(path.read_text(encoding="utf-8")) if path.is_file() else []:
+        text = (top / command).read_text(encoding="utf-8")
+        found = {name.rstrip(".") for name, below in USED.findall(text) if (top / f"{name.rstrip('.')}{below}").exists()}
+        used = sorted(found - {command})
+        lines.append(f"| {step} | `{command}` | {purpose(text)} | {', '.join(f'`{name}`' for name in used)} | {time} |")
+    return lines
 
 
 def scripts(top):

@@ -1,4 +1,4 @@
-"""The tables of docs/LAYERS.md: the calls of its source that each type makes, and the hidden call behind each other one."""
+"""The tables of docs/LAYERS.md: the calls of its source that each type makes, and the hidden call under each other one."""
 
 import re
 

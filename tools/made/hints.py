@@ -26,7 +26,7 @@ def put_in(text, values):
 
 
 def lets(text):
-    """The text behind the `let`s of a block, with their values in place of their names."""
+    """The text after the `let`s of a block, with their values in place of their names."""
     values = {}
     text = re.sub(r"\|(\w+)\| \1\b", "|n| n", text)
     found = LET.match(text)

@@ -2,14 +2,16 @@
 
 import re
 
-from made import belief, calls, drives
+from made import belief, calls, commands, definitions, drives, siblings
+from made.tree import TOP
 
 TABLE = re.compile(r"(<!-- made: ([\w ]+) -->\n).*?(\n<!-- end -->)", re.DOTALL)
 
 
 def tables(crates):
     """The text of each table, by its name."""
-    made = {**calls.tables(crates), **belief.tables(crates), "types": drives.types(crates), "final calls": drives.finals(crates)}
+    made = {**calls.tables(crates), **belief.tables(crates), **definitions.tables(crates), **siblings.tables(crates)}
+    made |= {"types": drives.types(crates), "final calls": drives.finals(crates), "steps of a release": commands.release(TOP)}
     return {name: "\n".join(lines) for name, lines in made.items()}
 
 

@@ -64,7 +64,7 @@ def impls(text, root="fallible_iterator::"):
 
 
 def renamed(path, s):
-    """A proved file with the calls' names in Rust: no hidden call stands behind `nth`, and one does behind `try_fold`."""
+    """A proved file with the calls' names in Rust: no hidden call stands under `nth`, and one does under `try_fold`."""
     if path.startswith("fallible_core/traits"):
         s = re.sub(r"\bfn (try_r?fold)\b", r"fn drive_\1", s)
     return re.sub(r"\bdrive_nth\b", "nth", s)
@@ -77,7 +77,7 @@ def of_tests(text):
 
 
 def plain_nth(text):
-    """`nth` is the call that a type writes: no hidden one stands behind it."""
+    """`nth` is the call that a type writes: no hidden one stands under it."""
     for m in reversed(list(re.finditer(r"\bdrive_nth\b", text.s))):
         text.replace(m.start(), m.end(), "nth")
 

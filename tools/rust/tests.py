@@ -69,7 +69,7 @@ def closing(s, i):
 
 
 def without_question(text, old, new):
-    """A call that Rust never refuses: no `?` behind it."""
+    """A call that Rust never refuses: no `?` after it."""
     for m in reversed(list(re.finditer(r"%s(?:::<[^()]*>)?(?=[(\[])" % re.escape(old), text.s))):
         end = closing(text.s, m.end())
         if text.s[end:end + 1] == "?":

@@ -6,6 +6,7 @@
 pub mod laws;
 pub mod traits;
 
+pub use fallible_itertools_adapters::{holding, staging};
 pub use fallible_itertools_adapters::{
     ChunkBy, Chunks, Coalesce, Copied, Dedup, DedupBy, DedupByKey, DedupByWithCount,
     DedupWithCount, Duplicates, EitherOrBoth, ErrInto, InspectErr, Interleave, Intersperse,

@@ -1,6 +1,6 @@
 //! Counts as `count_rows` does, by a loop that reads a whole row at once.
 //!
-//! It reads into a buffer of 64 KiB. What comes behind its last newline is moved to its front before the next read, so
+//! It reads into a buffer of 64 KiB. What comes after its last newline is moved to its front before the next read, so
 //! each row is read where it stands whole.
 use std::error::Error;
 use std::io::{self, ErrorKind, Read};
@@ -24,7 +24,7 @@ const BUFFER: usize = 65536;
 enum Ahead {
     /// A row that is a number, with so many digits before its newline.
     Number { digits: usize, value: u64 },
-    /// A row that may go on behind the bytes.
+    /// A row that may go on after the bytes.
     Cut,
     /// A row that is no number.
     Refused,

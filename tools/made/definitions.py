@@ -1,0 +1,93 @@
+"""The tables of docs/DEFINITIONS.md: the definition of each type over whole traces, and its contract, by their sentences."""
+
+import re
+
+from made import index
+from made.tree import code_of_library
+
+HEAD = "| {} | Its trace | Its contract |\n|---|---|---|"
+NAMES = (
+    "definitions of sources", "definitions of adapters", "definitions of adapters that join",
+    "definitions of fallible_itertools", "definitions that types share",
+)
+STRUCT = re.compile(r"^pub struct (\w+)", re.MULTILINE)
+FIELD = re.compile(r"^  -- (.*)\n  pub (\w+) :", re.MULTILINE)
+RECORDS = {"fields of Contract": "Contract", "fields of Ends": "Ends"}
+TWO_ENDS = re.compile(r"\bDoubleEndedFallibleIterator\s+for (&mut I|\w+)")
+
+# The words of a file that say a part of a definition and are no trace.
+PARTS = {
+    "ByNumber": ["KeptByNumber"],
+    "Chain": ["chain_bound"],
+    "Cycle": ["Laps"],
+    "Flatten": ["Finished", "FinishedPart", "FlattenNumber"],
+    "Peekable": ["held_of", "peekable_step_back", "Peeks", "NextIf"],
+}
+
+
+def table_of(crate, place, types):
+    """The name of the table that a file of `specs/` is in."""
+    if place.rsplit("/", 1)[-1] not in types:
+        return "definitions that types share"
+    if crate == "fallible_iterator":
+        return "definitions of sources"
+    if crate not in ("fallible_contract", "fallible_core"):
+        return "definitions of fallible_itertools"
+    return "definitions of adapters that join" if place.startswith("Joining/") else "definitions of adapters"
+
+
+def without_type(name, sentence):
+    """A sentence without the name of the type that it begins with, or of the contract that it is of."""
+    said = re.sub(rf"^`{name}`(?:: |'s? contract\.? ?(?:: |, |$|(?=\w)))", "", sentence)
+    return re.sub(r"^The contract(?:: | of `\w+`\. )", "", said)
+
+
+def cell(name, words):
+    """The sentences of words, of which the first goes without its name if it is of the type."""
+    said = []
+    for place, (word, sentence) in enumerate(words):
+        own = place == 0 and (f"`{name}`" in sentence.split(".")[0] or not sentence.startswith(("A ", "The ")))
+        shown = without_type(name, sentence).rstrip(".")
+        said += [f"{shown}." if own else f"`{word}`: {shown}."] if shown else []
+    return " ".join(said).replace("|", "\\|") or "–"
+
+
+def line(name, groups, shared):
+    """The line of a type or of what types share; none if the file has no trace or, of a type, no contract either."""
+    named = [(group[0], sentence) for group, sentence in groups]
+    traces = sorted((each for each in named if each[0].endswith("Trace")), key=lambda each: not each[1].startswith(f"`{name}`"))
+    traces += [each for each in named if each[0] in PARTS.get(name, [])]
+    contracts = sorted((each for each in named if each[0].endswith("_contract")), key=lambda each: f"`{name}`" not in each[1])
+    if not traces and (shared or not contracts):
+        return None
+    if shared:
+        return f"| `{name}` | {cell('', [('', ''), *traces])} | {cell('', [('', ''), *contracts])} |"
+    return f"| `{name}` | {cell(name, traces)} | {cell(name, contracts)} |"
+
+
+def fields(crates, record):
+    """The lines of the fields of a record of `fallible_contract`, which stands in the file of its name."""
+    path = crates / "fallible_contract" / "specs" / f"{record}.antt"
+    text = path.read_text(encoding="utf-8") if path.is_file() else ""
+    begun = text.partition(f"record {record} ")[2].partition("\n\n")[0]
+    return ["| Field | It says of a value |\n|---|---|", *(f"| `{name}` | {said} |" for said, name in FIELD.findall(begun))]
+
+
+def two_ends(crates):
+    """The types that have two ends, in one line."""
+    found = {name for path in code_of_library(crates) for name in TWO_ENDS.findall(path.read_text(encoding="utf-8"))}
+    return [", ".join(f"`{name}`" for name in sorted(found)) + "." if found else ""]
+
+
+def tables(crates):
+    """The lines of each table, by its name."""
+    types = {name for path in code_of_library(crates) for name in STRUCT.findall(path.read_text(encoding="utf-8"))}
+    made = {name: [HEAD.format("File of `specs/`" if name == NAMES[-1] else "Type")] for name in NAMES}
+    for crate, place, path in index.files(crates):
+        table = table_of(crate, place, types)
+        found = line(place.rsplit("/", 1)[-1], list(index.words(path)), table == NAMES[-1])
+        # of nests of adapters the traces are joined, and define none
+        if found and place != "Nests":
+            made[table].append(found)
+    made |= {name: fields(crates, record) for name, record in RECORDS.items()}
+    return {**made, "types with two ends": two_ends(crates)}
