@@ -113,7 +113,7 @@ ITERTOOLS = [
     (r"(?:lib|traits)\.rs", r"^((?:pub )?use crate::fallible_itertools_adapters::)\{",
      r'#[cfg(feature = "alloc")]\n\1{ChunkBy, Chunks};\n#[cfg(feature = "std")]\n\1{Duplicates, Unique, UniqueBy};\n\g<0>', 2),
     (r".*/(?:chunk_by|chunks|group_map|sorted_unstable)\.rs", r"\A(//.*\n\n)", r"\1use alloc::vec::Vec;\n", 4),
-    (r"traits\.rs", r"^use crate::fallible_itertools_consumers::(?:join::|sorted::|sorted_unstable;)", r'#[cfg(feature = "alloc")]\n\g<0>', 3),
+    (r"traits\.rs", r"^use crate::fallible_itertools_consumers::(?:join::|\{k_smallest)", r'#[cfg(feature = "alloc")]\n\g<0>', 2),
     (r"traits\.rs", r"^use core::fmt::Display;",
      r'#[cfg(feature = "alloc")]\nuse alloc::string::String;\n#[cfg(feature = "alloc")]\nuse alloc::vec::Vec;\n#[cfg(feature = "alloc")]\n\g<0>', 1),
     (r"traits\.rs", r"^use (?:crate::fallible_itertools_consumers::(?:all_unique|counts|group_map|keyed)::|core::hash::|std::coll)",

@@ -87,105 +87,46 @@ ghost use Rattle.fallible_itertools_consumers.specs.declared.exactly_one.NotOne.
 ghost use Rattle.fallible_itertools_consumers.specs.declared.fold_while.FoldWhile.TheVariants.{Done};
 ghost use Rattle.fallible_itertools_consumers.specs.declared.minmax.MinMaxResult.TheVariants.{NoElements};
 
-use fallible_iterator::Collect;
-use fallible_iterator::FallibleIterator;
-use fallible_iterator::Fault;
-use fallible_iterator::IntoFallibleIterator;
-use fallible_iterator::extending::FindTest;
-use fallible_iterator::extending::FindTurn;
-use fallible_iterator::extending::ForEachTurn;
-use fallible_iterator::extending::PositionTurn;
-use fallible_iterator::extending::ReadEq;
-use fallible_iterator::extending::Reading;
-use fallible_iterator::extending::answer_or;
-use fallible_iterator::extending::answer_or_none;
-use fallible_iterator::extending::found;
-use fallible_iterator::extending::ordered;
-use fallible_itertools_adapters::ChunkBy;
-use fallible_itertools_adapters::Chunks;
-use fallible_itertools_adapters::Coalesce;
-use fallible_itertools_adapters::Copied;
-use fallible_itertools_adapters::Dedup;
-use fallible_itertools_adapters::DedupBy;
-use fallible_itertools_adapters::DedupByKey;
-use fallible_itertools_adapters::DedupByWithCount;
-use fallible_itertools_adapters::DedupWithCount;
-use fallible_itertools_adapters::Duplicates;
-use fallible_itertools_adapters::ErrInto;
-use fallible_itertools_adapters::InspectErr;
-use fallible_itertools_adapters::Interleave;
-use fallible_itertools_adapters::Intersperse;
-use fallible_itertools_adapters::IntersperseWith;
-use fallible_itertools_adapters::Merge;
-use fallible_itertools_adapters::MergeBy;
-use fallible_itertools_adapters::MergeJoinBy;
-use fallible_itertools_adapters::OrElse;
-use fallible_itertools_adapters::PadUsing;
-use fallible_itertools_adapters::Positions;
-use fallible_itertools_adapters::StopAfter;
-use fallible_itertools_adapters::TakeWhileInclusive;
-use fallible_itertools_adapters::TupleWindows;
-use fallible_itertools_adapters::Tuples;
-use fallible_itertools_adapters::Unique;
-use fallible_itertools_adapters::UniqueBy;
-use fallible_itertools_adapters::WithPosition;
-use fallible_itertools_adapters::ZipEq;
-use fallible_itertools_adapters::ZipLongest;
-use fallible_itertools_consumers::all_unique::AllUniqueTurn;
-use fallible_itertools_consumers::all_unique::unique_or_fault;
-use fallible_itertools_consumers::checked_sum::CheckedTotal;
-use fallible_itertools_consumers::checked_sum::ProductTurn;
-use fallible_itertools_consumers::checked_sum::SumTurn;
-use fallible_itertools_consumers::checked_sum::total_or_none;
-use fallible_itertools_consumers::cmp_by::CmpTurn;
-use fallible_itertools_consumers::cmp_by::EqTurn;
-use fallible_itertools_consumers::cmp_by::compare_by;
+use fallible_iterator::extending::{
+    FindTest, FindTurn, ForEachTurn, PositionTurn, ReadEq, Reading, answer_or, answer_or_none,
+    found, ordered,
+};
+use fallible_iterator::{Collect, FallibleIterator, Fault, IntoFallibleIterator};
+use fallible_itertools_adapters::{
+    ChunkBy, Chunks, Coalesce, Copied, Dedup, DedupBy, DedupByKey, DedupByWithCount,
+    DedupWithCount, Duplicates, ErrInto, InspectErr, Interleave, Intersperse, IntersperseWith,
+    Merge, MergeBy, MergeJoinBy, OrElse, PadUsing, Positions, StopAfter, TakeWhileInclusive,
+    TupleWindows, Tuples, Unique, UniqueBy, WithPosition, ZipEq, ZipLongest,
+};
+use fallible_itertools_consumers::all_unique::{AllUniqueTurn, unique_or_fault};
+use fallible_itertools_consumers::checked_sum::{
+    CheckedTotal, ProductTurn, SumTurn, total_or_none,
+};
+use fallible_itertools_consumers::cmp_by::{CmpTurn, EqTurn, compare_by};
 use fallible_itertools_consumers::converting::converted;
 use fallible_itertools_consumers::counts::Tally;
-use fallible_itertools_consumers::equal::AllEqualTurn;
-use fallible_itertools_consumers::equal::ContainsTurn;
-use fallible_itertools_consumers::equal::UnequalTurn;
-use fallible_itertools_consumers::equal::first_or_both;
+use fallible_itertools_consumers::equal::{AllEqualTurn, ContainsTurn, UnequalTurn, first_or_both};
 use fallible_itertools_consumers::exactly_one::NotOne;
-use fallible_itertools_consumers::find_or_last::FindFirstTurn;
-use fallible_itertools_consumers::find_or_last::FindLastTurn;
-use fallible_itertools_consumers::find_or_last::or_kept;
+use fallible_itertools_consumers::find_or_last::{FindFirstTurn, FindLastTurn, or_kept};
 use fallible_itertools_consumers::find_position::FindPositionTurn;
-use fallible_itertools_consumers::fold_while::FoldWhile;
-use fallible_itertools_consumers::fold_while::FoldWhileTurn;
-use fallible_itertools_consumers::fold_while::while_or_stop;
+use fallible_itertools_consumers::fold_while::{FoldWhile, FoldWhileTurn, while_or_stop};
 use fallible_itertools_consumers::group_map::GroupMap;
-use fallible_itertools_consumers::is_sorted::InOrderTurn;
-use fallible_itertools_consumers::is_sorted::SortedTurn;
+use fallible_itertools_consumers::is_sorted::{InOrderTurn, SortedTurn};
 use fallible_itertools_consumers::is_sorted_by::SortedByTurn;
 use fallible_itertools_consumers::join::JoinTurn;
-use fallible_itertools_consumers::k_smallest::SmallestTurn;
 use fallible_itertools_consumers::keyed::Keyed;
-use fallible_itertools_consumers::minmax::MinMaxResult;
-use fallible_itertools_consumers::minmax::MinMaxTurn;
-use fallible_itertools_consumers::minmax::lesser_first;
-use fallible_itertools_consumers::minmax_by::MinMaxByTurn;
-use fallible_itertools_consumers::minmax_by::MinMaxKeyTurn;
-use fallible_itertools_consumers::minmax_by::items_alone;
-use fallible_itertools_consumers::minmax_by::kept_or_failure;
-use fallible_itertools_consumers::parted::Parted;
-use fallible_itertools_consumers::parted::without_fault;
+use fallible_itertools_consumers::minmax::{MinMaxResult, MinMaxTurn, lesser_first};
+use fallible_itertools_consumers::minmax_by::{
+    MinMaxByTurn, MinMaxKeyTurn, items_alone, kept_or_failure,
+};
+use fallible_itertools_consumers::parted::{Parted, without_fault};
 use fallible_itertools_consumers::partition_map::Either;
-use fallible_itertools_consumers::position_best::first_is_less;
-use fallible_itertools_consumers::position_best::place_alone;
-use fallible_itertools_consumers::sorted::sorted_items;
-use fallible_itertools_consumers::sorted::sorted_items_by;
-use fallible_itertools_consumers::sorted::sorted_items_by_key;
-use fallible_itertools_consumers::sorted_unstable;
-use fallible_itertools_consumers::tail::TailTurn;
-use fallible_itertools_consumers::until_failure::PushTurn;
-use fallible_itertools_consumers::until_failure::with_failure;
-use std::alloc::AllocError;
-use std::alloc::Global;
+use fallible_itertools_consumers::position_best::{first_is_less, place_alone};
+use fallible_itertools_consumers::until_failure::{PushTurn, with_failure};
+use fallible_itertools_consumers::{k_smallest, sorted, sorted_unstable, tail};
+use std::alloc::{AllocError, Global};
 use std::cmp::Ordering;
-use std::collections::HashMap;
-use std::collections::HashSet;
-use std::collections::VecDeque;
+use std::collections::{HashMap, HashSet, VecDeque};
 use std::fmt::Display;
 use std::hash::Hash;
 
@@ -2101,7 +2042,7 @@ pub trait FallibleItertools: FallibleIterator {
         ensures failure { OverList Self.contract.steps self
             (λ l. (e : Self.Error) → result ≡ Err (Source e) → list.collected l ≡ Err e) }
     {
-        sorted_items(self.collect(alloc))
+        sorted::sorted_items(self.collect(alloc))
     }
 
     /// Returns the items in a `Vec`, in the order that the closure returns for each two. Items that it finds equal keep their order. If it compares as no order does, it returns the items in any order, each of them once; in Rust it may panic.
@@ -2144,7 +2085,7 @@ pub trait FallibleItertools: FallibleIterator {
         ensures failure { OverList Self.contract.steps self
             (λ l. (e : Self.Error) → result ≡ Err (Source e) → list.collected l ≡ Err e) }
     {
-        sorted_items_by(self.collect(alloc), f)
+        sorted::sorted_items_by(self.collect(alloc), f)
     }
 
     /// Returns the items in a `Vec`, in the order of the keys that the closure returns for them. Items with equal keys keep their order. If the closure returns other keys for an item from call to call, it returns the items in any order, each of them once.
@@ -2187,7 +2128,7 @@ pub trait FallibleItertools: FallibleIterator {
         ensures failure { OverList Self.contract.steps self
             (λ l. (e : Self.Error) → result ≡ Err (Source e) → list.collected l ≡ Err e) }
     {
-        sorted_items_by_key(self.collect(alloc), f)
+        sorted::sorted_items_by_key(self.collect(alloc), f)
     }
 
     /// Returns the items in a `Vec`, in order. Equal items may come in any order. Sorting takes no memory beyond the `Vec`.
@@ -2396,7 +2337,7 @@ pub trait FallibleItertools: FallibleIterator {
             (λ l. (e : Self.Error) → result ≡ Err (Source e) → list.collected l ≡ Err e) }
     {
         let mut kept = Vec::new(alloc);
-        match self.drive(&mut kept, &SmallestTurn { k }) {
+        match self.drive(&mut kept, &k_smallest::SmallestTurn { k }) {
             Ok(None) => Ok(kept),
             Ok(Some(refused)) => Err(Fault::Memory(refused)),
             Err(e) => Err(Fault::Source(e)),
@@ -2439,7 +2380,7 @@ pub trait FallibleItertools: FallibleIterator {
             (λ l. (e : Self.Error) → result ≡ Err (Source e) → list.collected l ≡ Err e) }
     {
         let mut kept = VecDeque::new(alloc);
-        match self.drive(&mut kept, &TailTurn { n }) {
+        match self.drive(&mut kept, &tail::TailTurn { n }) {
             Ok(None) => Ok(kept),
             Ok(Some(refused)) => Err(Fault::Memory(refused)),
             Err(e) => Err(Fault::Source(e)),

@@ -1,8 +1,8 @@
 // changed: no allocator is passed
-// proved: a1b6d1d4
+// proved: 4264b76e
 fn sorted(self) -> Result<Vec<Self::Item>, Self::Error>
 where
     Self::Item: Ord,
 {
-    sorted_items(self.collect())
+    sorted::sorted_items(self.collect())
 }

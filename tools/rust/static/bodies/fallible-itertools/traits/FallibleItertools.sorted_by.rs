@@ -1,8 +1,8 @@
 // changed: no allocator is passed
-// proved: 42d02a57
+// proved: 43ef12c6
 fn sorted_by<F>(self, f: F) -> Result<Vec<Self::Item>, Self::Error>
 where
     F: FnMut(&Self::Item, &Self::Item) -> Ordering,
 {
-    sorted_items_by(self.collect(), f)
+    sorted::sorted_items_by(self.collect(), f)
 }

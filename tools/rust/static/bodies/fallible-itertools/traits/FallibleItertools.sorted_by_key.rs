@@ -1,5 +1,5 @@
 // changed: no allocator is passed
-// proved: 880238bf
+// proved: b504a4ce
 fn sorted_by_key<K, F>(
     self,
     f: F,
@@ -8,5 +8,5 @@ where
     K: Ord,
     F: FnMut(&Self::Item) -> K,
 {
-    sorted_items_by_key(self.collect(), f)
+    sorted::sorted_items_by_key(self.collect(), f)
 }
