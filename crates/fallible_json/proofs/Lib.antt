@@ -1,6 +1,11 @@
+mod BeginningLemmas
+mod FaultLemmas
 mod JsonLemmas
+mod LexemeLemmas
 mod LexingLemmas
 mod MinifyingLemmas
 mod PlaceLemmas
 mod ReadingLemmas
 mod RunLemmas
+mod TextLemmas
+mod TreeLemmas
