@@ -7,5 +7,6 @@ mod MinifyingLemmas
 mod PlaceLemmas
 mod ReadingLemmas
 mod RunLemmas
+mod SameTreeLemmas
 mod TextLemmas
 mod TreeLemmas

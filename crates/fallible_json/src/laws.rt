@@ -8,11 +8,12 @@ ghost use Rattle.fallible_json.specs.Trees.{BeginsTree, Tree, tokens_of, written
 ghost use Rattle.fallible_json.specs.declared.minifying.Misplaced.TheVariants.{Ended, Source, Unexpected};
 ghost use Rattle.fallible_json.specs.declared.token.Token.{Token};
 
-/// Tokens are one JSON text if and only if they are what is written of a tree.
+/// Tokens are one JSON text if and only if they are what is written of a tree, and of one tree alone.
 pub fn law_trees()
     ensures written { (tree : Tree) → IsJsonText (written tree) }
     ensures accepted { (tokens : List Token) → IsJsonText tokens
         → (tree : Tree) × (tokens ≡ written tree) }
+    ensures one { (a b : Tree) → written a ≡ written b → a ≡ b }
 {}
 
 /// Placed tokens come to the bytes of them all if and only if they are what is written of a tree, whatever their places.
