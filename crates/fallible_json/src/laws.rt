@@ -1,8 +1,11 @@
 //! What the words of the clauses come to, as functions whose body is empty.
 ghost use Rattle.std.specs.Prelude.{◌≡◌, ◌++◌, ◌∷◌, ℕ, Err, List, Ok, Result, []};
-ghost use Rattle.fallible_iterator.specs.Lists.{items};
+ghost use Rattle.std.specs.Str.{IsUtf8};
+ghost use Rattle.std.specs.declared.convert.Infallible.{Infallible};
+ghost use Rattle.fallible_iterator.specs.Lists.{items, numbered};
 ghost use Rattle.fallible_json.specs.Grammar.{IsJsonText};
-ghost use Rattle.fallible_json.specs.Lexing.{Lexeme};
+ghost use Rattle.fallible_json.specs.Json.{IsJson};
+ghost use Rattle.fallible_json.specs.Lexing.{Lexeme, lexed};
 ghost use Rattle.fallible_json.specs.Minifying.{bytes_of_all, minified};
 ghost use Rattle.fallible_json.specs.Trees.{BeginsTree, Tree, tokens_of, written};
 ghost use Rattle.fallible_json.specs.declared.minifying.Misplaced.TheVariants.{Ended, Source, Unexpected};
@@ -40,4 +43,15 @@ pub fn law_faults<E>()
     ensures ended { (text : List ℕ) (l : List (Result Lexeme E)) → minified text l ≡ Err Ended
         → (before : List Lexeme) × (l ≡ items before) × BeginsTree (tokens_of before)
         × ¬ ((tree : Tree) × (tokens_of before ≡ written tree)) }
+{}
+
+/// Bytes are a JSON text if and only if they are UTF-8 and their tokens are what is written of a tree. Without blanks it is the bytes of these tokens, one after the other.
+pub fn law_json()
+    ensures written { (bytes : List ℕ) (tree : Tree) (lexemes : List Lexeme) → IsUtf8 bytes
+        → lexed {E = Infallible} (numbered 0 (items bytes)) ≡ items lexemes
+        → tokens_of lexemes ≡ written tree → IsJson bytes (bytes_of_all bytes lexemes) }
+    ensures accepted { (bytes json : List ℕ) → IsJson bytes json
+        → IsUtf8 bytes × (tree : Tree) × (lexemes : List Lexeme)
+        × (lexed {E = Infallible} (numbered 0 (items bytes)) ≡ items lexemes)
+        × (tokens_of lexemes ≡ written tree) × (json ≡ bytes_of_all bytes lexemes) }
 {}
