@@ -1,6 +1,12 @@
+mod BeginningLemmas
+mod FaultLemmas
 mod JsonLemmas
+mod LexemeLemmas
 mod LexingLemmas
 mod MinifyingLemmas
 mod PlaceLemmas
 mod ReadingLemmas
 mod RunLemmas
+mod SameTreeLemmas
+mod TextLemmas
+mod TreeLemmas

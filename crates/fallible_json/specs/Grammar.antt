@@ -1,5 +1,5 @@
 -- Which tokens are one JSON text, token by token.
-use Rattle.std.specs.Prelude.{List, [], ◌∷◌, Bool, true, false, Option, Some, None}
+use Rattle.std.specs.Prelude.{◌≡◌, List, [], ◌∷◌, Bool, true, false, Option, Some, None, option_and_then, option_map}
 use Rattle.fallible_json.specs.declared.grammar.Container.{Container}
 use Rattle.fallible_json.specs.declared.grammar.Container.TheVariants.{Array, Object}
 use Rattle.fallible_json.specs.declared.grammar.Expects.{Expects}
@@ -78,3 +78,12 @@ is_whole (containers, expects) = false
 -- the state before the first token: a value is wanted
 abbrev pub begin : State
 begin = ([], Value)
+
+-- what tokens make of the state, if each may stand where it stands
+unfoldable pub after_tokens : State → List Token → Option State
+after_tokens state [] = Some state
+after_tokens state (token ∷ tokens) = option_and_then (λ next. after_tokens next tokens) (after_token state token)
+
+-- The tokens are one JSON text: each may stand where it stands, and the text may end after the last.
+abbrev pub IsJsonText : List Token → Type 0
+IsJsonText tokens = option_map is_whole (after_tokens begin tokens) ≡ Some true

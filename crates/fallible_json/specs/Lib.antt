@@ -9,3 +9,4 @@ pub mod Places
 pub mod Reading
 pub mod Report
 pub mod Tokens
+pub mod Trees

@@ -1,5 +1,5 @@
 -- The text of JSON without the blanks between its tokens, of its tokens at their places.
-use Rattle.std.specs.Prelude.{◌≡◌, ℕ, ◌+◌, ◌-◌, nat_le, nat_lt, ◌&&◌, if◌then◌else◌, Bool, true, false, Option, Some, None, Result, Ok, Err, List, [], ◌++◌, length, take, drop, ⊤}
+use Rattle.std.specs.Prelude.{◌≡◌, ℕ, ◌+◌, ◌-◌, nat_le, nat_lt, ◌&&◌, if◌then◌else◌, Bool, true, false, Option, Some, None, Result, Ok, Err, List, [], ◌∷◌, ◌++◌, length, take, drop, ⊤}
 use Rattle.std.specs.declared.alloc.Global.{Global}
 use Rattle.std.specs.declared.vec.Vec.{Vec}
 use Rattle.fallible_iterator.specs.Fault.{Fault}
@@ -13,6 +13,11 @@ use Rattle.fallible_json.specs.declared.minifying.Misplaced.TheVariants.{Source,
 -- the bytes of a text from the first to the last; none, where it has no such bytes
 abbrev pub bytes_of : List ℕ → ℕ → ℕ → List ℕ
 bytes_of text first last = if nat_le first last && nat_lt last (length text) then take (last + 1 - first) (drop first text) else []
+
+-- the bytes of tokens of a text, one after the other
+unfoldable pub bytes_of_all : List ℕ → List Lexeme → List ℕ
+bytes_of_all text [] = []
+bytes_of_all text (x ∷ xs) = bytes_of text x.0 x.1 ++ bytes_of_all text xs
 
 module _ {E : Type 0} where
   -- what a token leaves: the state after it, if it may stand there, and the text with its bytes

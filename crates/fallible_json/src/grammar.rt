@@ -1,5 +1,5 @@
 //! Which tokens may come, token by token.
-ghost use Rattle.std.specs.Prelude.{◌≡◌, ◌≢◌, MatchResult, None, Ok, Some, reverse};
+ghost use Rattle.std.specs.Prelude.{◌≡◌, ◌≢◌, MatchResult, Err, None, Ok, Some, reverse};
 ghost use Rattle.fallible_json.specs.Grammar.{after_token, first_in, is_whole, next_in, step_of, taken, value_step};
 
 use crate::token::Token;
@@ -112,9 +112,11 @@ pub(crate) struct Nesting {
 
 impl Nesting {
     fn take(mut self, step: Step) -> Result<Nesting, Stop>
-        ensures { MatchResult result
+        ensures state { MatchResult result
             (λ n. taken (reverse self.containers.items) step ≡ Some (reverse n.containers.items, n.expects))
             (λ e. e ≢ Stop.Memory → taken (reverse self.containers.items) step ≡ None) }
+        ensures memory { result ≡ Err Stop.Memory
+            → (container : Container) × (step ≡ Step.Opens container) }
     {
         match step {
             Step::Scalar => self.expects = Expects::AfterValue,
@@ -138,13 +140,10 @@ impl Nesting {
             Step::Names => self.expects = Expects::Separator,
             Step::Separates => self.expects = Expects::Value,
             Step::GoesOn => {
-                let Some(innermost) = self.containers.pop() else {
+                let Some(innermost) = self.containers.last() else {
                     return Err(Stop::Unexpected);
                 };
-                if self.containers.push(innermost).is_err() {
-                    return Err(Stop::Memory);
-                }
-                self.expects = next_in(innermost);
+                self.expects = next_in(*innermost);
             }
         }
         Ok(self)
@@ -162,11 +161,13 @@ impl Nesting {
 
     // One token more.
     pub(crate) fn after(self, token: Token) -> Result<Nesting, Stop>
-        ensures { MatchResult result
+        ensures state { MatchResult result
             (λ n. after_token (reverse self.containers.items, self.expects) token
             ≡ Some (reverse n.containers.items, n.expects))
             (λ e. e ≢ Stop.Memory
             → after_token (reverse self.containers.items, self.expects) token ≡ None) }
+        ensures memory { result ≡ Err Stop.Memory
+            → (container : Container) × (step_of self.expects token ≡ Some (Step.Opens container)) }
     {
         match step_of(self.expects, token) {
             Some(step) => self.take(step),

@@ -5,6 +5,7 @@ mod bytes;
 mod fault;
 mod grammar;
 mod json;
+pub mod laws;
 mod lexer;
 mod minifying;
 mod place;
