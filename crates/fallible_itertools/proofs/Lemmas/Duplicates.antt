@@ -187,8 +187,8 @@ duplicates_from_none eq l = refl
 pub lists_duplicates : {I A E : Type 0} (eq : A → A → Bool) (equivalence : IsEquivalence eq) (from : AllocError → E → Type 0) (m : Contract I A E) (s : Duplicates I A E) (l : List (Result A E)) → IsEmpty (duplicates_came s) → Lists m.steps s.it l → ListsUnlessRefused (seen_as duplicates_parts (duplicates_contract eq from m)).steps from s (duplicates_of eq l)
 lists_duplicates eq equivalence from m s l none i = record {
   runs = subst (λ k. GivesUnlessRefused (seen_as duplicates_parts (duplicates_contract eq from m)).steps from s k) (duplicates_from_none eq l)
-    (gives_unless_refused_seen from duplicates_parts (duplicates_contract eq from m).steps (duplicates_from eq [] l) s
-      (gives_duplicates _ eq equivalence from m.steps l [] s.it s.came i.runs (λ k. ap (lookup (eq k)) none)))
+      (gives_unless_refused_seen from duplicates_parts (duplicates_contract eq from m).steps (duplicates_from eq [] l) s
+      (gives_duplicates _ eq equivalence from m.steps l [] s.it s.came i.runs (λ k. ap (lookup (eq k)) none)));
 }
 
 -- ---- what consumers make of it
