@@ -1,6 +1,6 @@
 // The adapter that yields an item where it comes for the second time.
-ghost use Rattle.std.specs.Prelude.{◌≡◌, ⊤, Bool, Option, Result};
-ghost use Rattle.std.specs.HashMap.{IsEmpty, get};
+ghost use Rattle.std.specs.Prelude.{◌≡◌, ⊤, Option, Result};
+ghost use Rattle.std.specs.HashMap.{IsEmpty};
 ghost use Rattle.fallible_iterator.specs.Contract.{seen_as};
 ghost use Rattle.fallible_iterator.specs.Laws.Contract.{lawful_seen};
 ghost use Rattle.fallible_itertools_adapters.specs.Duplicates.{duplicates_asks, duplicates_came, duplicates_contract, duplicates_parts, duplicates_source, kept_unless};

@@ -69,19 +69,19 @@ module _ {A E : Type 0} (S : Type 0) (eq : A → A → Bool) (equivalence : IsEq
   abbrev Acts : A → ℕ → List A → Outcome A E → HashMap A Bool S → Type 0
   Acts x n came o more = IsRefused o ⊎ ((o ≡ kept_where_one x n) × HasCome more (x ∷ came))
 
-  acts_first : (m : HashMap A Bool S) (x : A) (came : List A) (o : Outcome A E) (n : HashMap A Bool S) → HasCome m came → 0 ≡ count_by (eq x) came → come_by eq from m x None o n → Acts x 0 came o n
-  acts_first m x came (Kept y) n has is w = absurd w
-  acts_first m x came LeftOut n has is w = inr (refl, has_come_more m n x false came has (ap (λ (c : ℕ). mark (suc c)) is) w)
-  acts_first m x came (Failure e) n has is w = inl (e, refl, w.0)
-  acts_first m x came End n has is w = absurd w
+  acts_where_none_equals : (m : HashMap A Bool S) (x : A) (came : List A) (o : Outcome A E) (n : HashMap A Bool S) → HasCome m came → 0 ≡ count_by (eq x) came → come_by eq from m x None o n → Acts x 0 came o n
+  acts_where_none_equals m x came (Kept y) n has is w = absurd w
+  acts_where_none_equals m x came LeftOut n has is w = inr (refl, has_come_more m n x false came has (ap (λ (c : ℕ). mark (suc c)) is) w)
+  acts_where_none_equals m x came (Failure e) n has is w = inl (e, refl, w.0)
+  acts_where_none_equals m x came End n has is w = absurd w
 
-  acts_by : (m : HashMap A Bool S) (x : A) (came : List A) (c : ℕ) (o : Outcome A E) (n : HashMap A Bool S) → HasCome m came → c ≡ count_by (eq x) came → come_by eq from m x (mark c) o n → Acts x c came o n
-  acts_by m x came zero o n has is w = acts_first m x came o n has is w
-  acts_by m x came (suc zero) o n has is w = inr (w.0, has_come_more m n x true came has (ap (λ (c : ℕ). mark (suc c)) is) w.1)
-  acts_by m x came (suc (suc c)) o n has is w = inr (w.0 ∙ sym (ap (λ (b : Bool). kept_unless (cond b false true) x) (ne_eqb (suc (suc c)) 1 (λ e. omega (arith, e)))), has_come_more m n x true came has (ap (λ (c : ℕ). mark (suc c)) is) w.1)
+  acts_where_so_many_equal : (m : HashMap A Bool S) (x : A) (came : List A) (c : ℕ) (o : Outcome A E) (n : HashMap A Bool S) → HasCome m came → c ≡ count_by (eq x) came → come_by eq from m x (mark c) o n → Acts x c came o n
+  acts_where_so_many_equal m x came zero o n has is w = acts_where_none_equals m x came o n has is w
+  acts_where_so_many_equal m x came (suc zero) o n has is w = inr (w.0, has_come_more m n x true came has (ap (λ (c : ℕ). mark (suc c)) is) w.1)
+  acts_where_so_many_equal m x came (suc (suc c)) o n has is w = inr (w.0 ∙ sym (ap (λ (b : Bool). kept_unless (cond b false true) x) (ne_eqb (suc (suc c)) 1 (λ e. omega (arith, e)))), has_come_more m n x true came has (ap (λ (c : ℕ). mark (suc c)) is) w.1)
 
   acts : (m : HashMap A Bool S) (x : A) (came : List A) (o : Outcome A E) (n : HashMap A Bool S) → HasCome m came → Asks m x o n → Acts x (count_by (eq x) came) came o n
-  acts m x came o n has w = acts_by m x came (count_by (eq x) came) o n has refl (subst (λ (v : Option Bool). come_by eq from m x v o n) (has x) w)
+  acts m x came o n has w = acts_where_so_many_equal m x came (count_by (eq x) came) o n has refl (subst (λ (v : Option Bool). come_by eq from m x v o n) (has x) w)
 
   -- ---- what it yields
 
@@ -124,13 +124,13 @@ module _ {A E : Type 0} (S : Type 0) (eq : A → A → Bool) (equivalence : IsEq
     told_left_out x true l s r t is a w = absurd (let k = is in cc)
     told_left_out x false l s r t is a w = told_where_gives l s r t a w
 
-    never_fails : (x : A) (e : E) (b : Bool) → Failure e ≡ kept_unless (cond b false true) x → ⊥
-    never_fails x e true is = cc
-    never_fails x e false is = cc
+    kept_unless_is_no_failure : (x : A) (e : E) (b : Bool) → Failure e ≡ kept_unless (cond b false true) x → ⊥
+    kept_unless_is_no_failure x e true is = cc
+    kept_unless_is_no_failure x e false is = cc
 
-    never_ends : (x : A) (b : Bool) → End ≡ kept_unless {E = E} (cond b false true) x → ⊥
-    never_ends x true is = cc
-    never_ends x false is = cc
+    kept_unless_is_no_end : (x : A) (b : Bool) → End ≡ kept_unless {E = E} (cond b false true) x → ⊥
+    kept_unless_is_no_end x true is = cc
+    kept_unless_is_no_end x false is = cc
 
     -- the list after x
     abbrev FromItem : A → List A → List (Result A E) → List (Result A E)
@@ -140,35 +140,35 @@ module _ {A E : Type 0} (S : Type 0) (eq : A → A → Bool) (equivalence : IsEq
     told_of_kept x y l came t q a later (inl r) = absurd (let k = r.1 in cc)
     told_of_kept x y l came t q a later (inr w) = told_kept x y (nat_eq (count_by (eq x) came) 1) (duplicates_from eq (x ∷ came) l) (t, q) w.0 (later t q a w.1)
 
-    told_of_failed : (x : A) (e : E) (l : List (Result A E)) (came : List A) (t : I) (q : HashMap A Bool S) → Acts x (count_by (eq x) came) came (Failure e) q → Told (FromItem x came l) (Err e) (t, q)
-    told_of_failed x e l came t q (inl r) = told_refused (FromItem x came l) (Err e) (t, q) (e, refl, subst (IsRefusal from) (let k = r.1 in cc) r.2)
-    told_of_failed x e l came t q (inr w) = absurd (never_fails x e (nat_eq (count_by (eq x) came) 1) w.0)
+    told_of_failure : (x : A) (e : E) (l : List (Result A E)) (came : List A) (t : I) (q : HashMap A Bool S) → Acts x (count_by (eq x) came) came (Failure e) q → Told (FromItem x came l) (Err e) (t, q)
+    told_of_failure x e l came t q (inl r) = told_refused (FromItem x came l) (Err e) (t, q) (e, refl, subst (IsRefusal from) (let k = r.1 in cc) r.2)
+    told_of_failure x e l came t q (inr w) = absurd (kept_unless_is_no_failure x e (nat_eq (count_by (eq x) came) 1) w.0)
 
     told_of_left_out : (x : A) (l : List (Result A E)) (came : List A) (u : I) (h : HashMap A Bool S) (r : Answered A E) (t : I × HashMap A Bool S) → AlwaysGives steps u l → After l (x ∷ came) → Acts x (count_by (eq x) came) came LeftOut h → StepsOfDuplicates (u, h) r t → Told (FromItem x came l) r t
     told_of_left_out x l came u h r t a later (inl f) rest = absurd (let k = f.1 in cc)
     told_of_left_out x l came u h r t a later (inr w) rest = told_left_out x (nat_eq (count_by (eq x) came) 1) (duplicates_from eq (x ∷ came) l) (u, h) r t w.0 (later u h a w.1) rest
 
-    ends_never : (x : A) (came : List A) (h : HashMap A Bool S) → Acts x (count_by (eq x) came) came End h → ⊥
-    ends_never x came h (inl r) = let k = r.1 in cc
-    ends_never x came h (inr w) = never_ends x (nat_eq (count_by (eq x) came) 1) w.0
+    asked_item_is_no_end : (x : A) (came : List A) (h : HashMap A Bool S) → Acts x (count_by (eq x) came) came End h → ⊥
+    asked_item_is_no_end x came h (inl r) = let k = r.1 in cc
+    asked_item_is_no_end x came h (inr w) = kept_unless_is_no_end x (nat_eq (count_by (eq x) came) 1) w.0
 
     -- a call on the list's item
-    by_item : (came : List A) (p : HashMap A Bool S) (x z : A) (o c : Outcome A E) (q : HashMap A Bool S) → HasCome p came → z ≡ x → o ≡ c → Asks p z o q → Acts x (count_by (eq x) came) came c q
-    by_item came p x z o c q has same is w = acts p x came c q has (subst (λ (d : Outcome A E). Asks p x d q) is (subst (λ (k : A). Asks p k o q) same w))
+    acts_of_asked : (came : List A) (p : HashMap A Bool S) (x z : A) (o c : Outcome A E) (q : HashMap A Bool S) → HasCome p came → z ≡ x → o ≡ c → Asks p z o q → Acts x (count_by (eq x) came) came c q
+    acts_of_asked came p x z o c q has same is w = acts p x came c q has (subst (λ (d : Outcome A E). Asks p x d q) is (subst (λ (k : A). Asks p k o q) same w))
 
-    told_of_item : (x : A) (l : List (Result A E)) (came : List A) (s : I) (p : HashMap A Bool S) (r : Answered A E) (t : I) (q : HashMap A Bool S) → AlwaysGives steps s (Ok x ∷ l) → HasCome p came → After l (x ∷ came) → OneDrawn s p r t q → Told (FromItem x came l) r (t, q)
-    told_of_item x l came s p _ t q a has later (end_passes step c) = absurd (let w = (a (Ok None) _ step).0 in cc)
-    told_of_item x l came s p _ t q a has later (failure_passes e step c) = absurd (let w = (a (Err e) _ step).0 in cc)
-    told_of_item x l came s p _ t q a has later (keeps z o y step called is done) = let w = a (Ok (Some z)) t step in told_of_kept x y l came t q w.1 later (by_item came p x z o (Kept y) q has (let k = w.0 in cc) is called)
-    told_of_item x l came s p _ t q a has later (refuses z o e step called is done) = let w = a (Ok (Some z)) t step in told_of_failed x e l came t q (by_item came p x z o (Failure e) q has (let k = w.0 in cc) is called)
-    told_of_item x l came s p _ t q a has later (closes {h = h} z o step called is c) = let w = a (Ok (Some z)) _ step in absurd (ends_never x came h (by_item came p x z o End h has (let k = w.0 in cc) is called))
-    told_of_item x l came s p r t q a has later (leaves_out {u = u} {h = h} z o step called is rest) = let w = a (Ok (Some z)) u step in told_of_left_out x l came u h r (t, q) w.1 later (by_item came p x z o LeftOut h has (let k = w.0 in cc) is called) (pass_trace_of_passes rest)
+    told_of_first_item : (x : A) (l : List (Result A E)) (came : List A) (s : I) (p : HashMap A Bool S) (r : Answered A E) (t : I) (q : HashMap A Bool S) → AlwaysGives steps s (Ok x ∷ l) → HasCome p came → After l (x ∷ came) → OneDrawn s p r t q → Told (FromItem x came l) r (t, q)
+    told_of_first_item x l came s p _ t q a has later (end_passes step c) = absurd (let w = (a (Ok None) _ step).0 in cc)
+    told_of_first_item x l came s p _ t q a has later (failure_passes e step c) = absurd (let w = (a (Err e) _ step).0 in cc)
+    told_of_first_item x l came s p _ t q a has later (keeps z o y step called is done) = let w = a (Ok (Some z)) t step in told_of_kept x y l came t q w.1 later (acts_of_asked came p x z o (Kept y) q has (let k = w.0 in cc) is called)
+    told_of_first_item x l came s p _ t q a has later (refuses z o e step called is done) = let w = a (Ok (Some z)) t step in told_of_failure x e l came t q (acts_of_asked came p x z o (Failure e) q has (let k = w.0 in cc) is called)
+    told_of_first_item x l came s p _ t q a has later (closes {h = h} z o step called is c) = let w = a (Ok (Some z)) _ step in absurd (asked_item_is_no_end x came h (acts_of_asked came p x z o End h has (let k = w.0 in cc) is called))
+    told_of_first_item x l came s p r t q a has later (leaves_out {u = u} {h = h} z o step called is rest) = let w = a (Ok (Some z)) u step in told_of_left_out x l came u h r (t, q) w.1 later (acts_of_asked came p x z o LeftOut h has (let k = w.0 in cc) is called) (pass_trace_of_passes rest)
 
     gives_duplicates : (l : List (Result A E)) (came : List A) → After l came
     unfolding duplicates_from
     gives_duplicates [] came = λ s p a has r t w. inr (end_of_nil a (passes_of_pass_trace w))
     gives_duplicates (Err d ∷ l) came = λ s p a has r t w. let k = failure_of_first d l a (passes_of_pass_trace w) in inr (k.0, gives_duplicates l came t.0 t.1 k.2 (subst (λ (q : HashMap A Bool S). HasCome q came) (sym k.1) has))
-    gives_duplicates (Ok x ∷ l) came = λ s p a has. gives_where_told (FromItem x came l) (s, p) (λ r t w. told_of_item x l came s p r t.0 t.1 a has (gives_duplicates l (x ∷ came)) (passes_of_pass_trace w))
+    gives_duplicates (Ok x ∷ l) came = λ s p a has. gives_where_told (FromItem x came l) (s, p) (λ r t w. told_of_first_item x l came s p r t.0 t.1 a has (gives_duplicates l (x ∷ came)) (passes_of_pass_trace w))
 
 module _ {W P A E : Type 0} (from : AllocError → E → Type 0) (view : W → P) (steps : P → Answered A E → P → Type 0) where
   -- a value whose answers are those of its parts gives what they give
