@@ -30,6 +30,7 @@ LEFT_OUT = [
     (r"Result<Vec<u32>, AllocError>\s*\{[^;]*\.collect\(\)\s*\}", "std refuses memory"),
     (r"\.push\([^()]*\)\.is_err", "std refuses memory"),
     (r"\breferences_and_boxes_pass", "no fold goes through a reference or a box"),
+    (r"\bvectors_that_are_sorted_are_one_fold_each", "std's `collect` draws one by one"),
     (r"=> input\.extend_from_slice", "std refuses memory"),
     (r"\.chain\(span", "`chain` of what only becomes an iterator"),
 ]

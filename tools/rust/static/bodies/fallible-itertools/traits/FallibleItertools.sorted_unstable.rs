@@ -1,5 +1,5 @@
 // changed: no allocator is passed
-// proved: 00000000
+// proved: 3c80dc91
 fn sorted_unstable(self) -> Result<Vec<Self::Item>, Self::Error>
 where
     Self::Item: Ord,

@@ -1,5 +1,5 @@
 // changed: no allocator is passed
-// proved: 00000000
+// proved: 8696b307
 fn sorted_unstable_by<F>(
     self,
     f: F,

@@ -1,5 +1,5 @@
 // changed: no allocator is passed
-// proved: 00000000
+// proved: d14b82d8
 fn sorted_unstable_by_key<K, F>(
     self,
     f: F,
