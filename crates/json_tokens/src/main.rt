@@ -1,17 +1,27 @@
-//! Reads a JSON text of RFC 8259 from standard input, and prints it without the blanks between its tokens.
+//! Reads a JSON text of RFC 8259 from the file that its word names or from standard input, and prints it without the blanks between its tokens.
 //!
-//! Where it is none, it says why on standard error, with the line and the column, and ends with status 1; with 2 where a read fails, 3 where memory runs out, and 4 where the text cannot be printed.
+//! Where it is none, it says why on standard error, with the line and the column, and ends with status 1; with 2 where a read fails, the file can't be opened, or a word is none that it takes, 3 where memory runs out, and 4 where the text cannot be printed.
 #![tactic(auto)]
 
 mod program;
 
 use program::program;
+use program_io::arguments::input_of;
 use std::process::ExitCode;
 
+const USAGE: &str = "usage: json_tokens [FILE]
+       json_tokens --help
+Reads a JSON text, and prints it without the blanks between its tokens.
+It reads one FILE at most, and standard input where FILE is - or none is given.
+A FILE whose name begins with - is given as ./-NAME.";
+
 fn main(rt: HostRuntime) -> ExitCode {
-    let mut input = rt.stdin();
     let mut output = rt.stdout();
     let mut errors = rt.stderr();
+    let mut input = match input_of(&rt, rt.stdin(), USAGE, &mut output, &mut errors) {
+        Ok(input) => input,
+        Err(status) => return ExitCode::from(status),
+    };
     match program(rt.alloc(), &mut input, &mut output, &mut errors) {
         Ok(status) | Err(status) => ExitCode::from(status),
     }
