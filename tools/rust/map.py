@@ -106,25 +106,28 @@ ITERTOOLS = [
     # The trait of the Rust crate is for types without a size too.
     (r"(?:traits|.*/double_ended|.*/peeking_take_while)\.rs", r"^(pub trait \w+: \w+) \{", r"\1 + Sized {", 3),
     # Features.
-    (r"fallible_\w+\.rs", r"^pub (?:mod (?:chunk_by|chunks|join|sorted|sorted_unstable);|use (?:chunk_by|chunks)::)", r'#[cfg(feature = "alloc")]\n\g<0>', 7),
+    (r"fallible_\w+\.rs", r"^pub (?:mod (?:chunk_by|chunks|join|k_smallest|sorted|sorted_unstable|tail);|use (?:chunk_by|chunks)::)", r'#[cfg(feature = "alloc")]\n\g<0>', 9),
     (r"fallible_\w+\.rs", r"^pub (?:mod (?:all_unique|counts|duplicates|group_map|keyed|unique|unique_by);|use (?:duplicates|unique(?:_by)?)::)",
      r'#[cfg(feature = "std")]\n\g<0>', 10),
     (r"(?:lib|traits)\.rs", r"\bChunkBy,\s+Chunks,\s+|\bDuplicates,\s+|\bUnique,\s+UniqueBy,\s+", "", 6),
     (r"(?:lib|traits)\.rs", r"^((?:pub )?use crate::fallible_itertools_adapters::)\{",
      r'#[cfg(feature = "alloc")]\n\1{ChunkBy, Chunks};\n#[cfg(feature = "std")]\n\1{Duplicates, Unique, UniqueBy};\n\g<0>', 2),
-    (r".*/(?:chunk_by|chunks|group_map|sorted_unstable)\.rs", r"\A(//.*\n\n)", r"\1use alloc::vec::Vec;\n", 4),
+    (r".*/(?:chunk_by|chunks|group_map|k_smallest|sorted_unstable)\.rs", r"\A(//.*\n\n)", r"\1use alloc::vec::Vec;\n", 5),
     (r"traits\.rs", r"^use crate::fallible_itertools_consumers::(?:join::|\{k_smallest)", r'#[cfg(feature = "alloc")]\n\g<0>', 2),
     (r"traits\.rs", r"^use core::fmt::Display;",
      r'#[cfg(feature = "alloc")]\nuse alloc::string::String;\n#[cfg(feature = "alloc")]\nuse alloc::vec::Vec;\n#[cfg(feature = "alloc")]\n\g<0>', 1),
     (r"traits\.rs", r"^use (?:crate::fallible_itertools_consumers::(?:all_unique|counts|group_map|keyed)::|core::hash::|std::coll)",
      r'#[cfg(feature = "std")]\n\g<0>', 6),
-    (r"traits\.rs", r"^    fn (?:chunks|chunk_by|join|sorted(?:_unstable)?(?:_by|_by_key)?)\b", r'    #[cfg(feature = "alloc")]\n\g<0>', 9),
+    (r"traits\.rs", r"^    fn (?:chunks|chunk_by|join|k_smallest|sorted(?:_unstable)?(?:_by|_by_key)?|tail)\b", r'    #[cfg(feature = "alloc")]\n\g<0>', 11),
     (r"traits\.rs", r"^    fn (?:all_unique|counts|counts_by|duplicates|into_group_map|into_group_map_by|unique|unique_by)\b",
      r'    #[cfg(feature = "std")]\n\g<0>', 8),
     (r"lib\.rs", r"\A(?://!.*\n)+\n", HEAD + "mod errors;\nmod fallible_itertools_adapters;\nmod fallible_itertools_consumers;\n", 1),
     (r"lib\.rs", r"^pub mod \w+;", r"#[doc(hidden)]\n\g<0>", 1),
-    (CONSUMERS + r"/(?:all_unique|counts|group_map|join|partition_map|until_failure)\.rs", r"\A(//.*\n\n)",
-     r"\1use fallible_iterator::memory::AllocError;\n", 6),
+    (r"traits\.rs", r"^use std::collections::\{HashMap, HashSet, VecDeque\};",
+     r'#[cfg(feature = "alloc")]\nuse alloc::collections::VecDeque;\nuse std::collections::{HashMap, HashSet};', 1),
+    (CONSUMERS + r"/tail\.rs", r"^use std::collections::VecDeque;", "use alloc::collections::VecDeque;", 1),
+    (CONSUMERS + r"/(?:all_unique|counts|group_map|join|k_smallest|partition_map|tail|until_failure)\.rs", r"\A(//.*\n\n)",
+     r"\1use fallible_iterator::memory::AllocError;\n", 8),
 ]
 
 # Collections of std that are made by Rust's own `collect`.

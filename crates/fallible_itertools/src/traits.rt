@@ -2359,7 +2359,7 @@ pub trait FallibleItertools: FallibleIterator {
     /// ```
     /// let readings = [Ok::<u32, u8>(150), Ok(7), Ok(700)];
     /// let last = convert(readings.into_iter()).tail(rt.alloc(), 2)?;
-    /// assert_eq!(rt; last.into_vec(), vec![in rt.alloc(); 7, 700]?);
+    /// assert_eq!(rt; (last.front(), last.back()), (Some(&7), Some(&700)));
     /// ```
     final fn tail(
         mut self,

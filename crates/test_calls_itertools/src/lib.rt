@@ -6,4 +6,6 @@ mod calls;
 #[cfg(test)]
 mod collections;
 #[cfg(test)]
+mod kept;
+#[cfg(test)]
 mod refusals;

@@ -18,6 +18,8 @@ mod interspersing;
 #[cfg(test)]
 mod joining;
 #[cfg(test)]
+mod kept;
+#[cfg(test)]
 mod many;
 #[cfg(test)]
 mod passing;
