@@ -9,7 +9,7 @@ use crate::fallible_itertools_adapters::{
     ZipLongest,
 };
 #[cfg(feature = "std")]
-use crate::fallible_itertools_adapters::{Unique, UniqueBy};
+use crate::fallible_itertools_adapters::{Duplicates, Unique, UniqueBy};
 #[cfg(feature = "std")]
 use crate::fallible_itertools_consumers::all_unique::{AllUniqueTurn, unique_or_fault};
 use crate::fallible_itertools_consumers::checked_sum::{
@@ -41,11 +41,11 @@ use crate::fallible_itertools_consumers::minmax_by::{
 use crate::fallible_itertools_consumers::parted::Parted;
 use crate::fallible_itertools_consumers::partition_map::Either;
 use crate::fallible_itertools_consumers::position_best::{first_is_less, place_alone};
-#[cfg(feature = "alloc")]
-use crate::fallible_itertools_consumers::sorted::{
-    sorted_items, sorted_items_by, sorted_items_by_key,
-};
 use crate::fallible_itertools_consumers::until_failure::{PushTurn, with_failure};
+#[cfg(feature = "alloc")]
+use crate::fallible_itertools_consumers::{k_smallest, sorted, sorted_unstable, tail};
+#[cfg(feature = "alloc")]
+use alloc::collections::VecDeque;
 #[cfg(feature = "alloc")]
 use alloc::string::String;
 #[cfg(feature = "alloc")]
@@ -303,7 +303,7 @@ pub trait FallibleItertools: FallibleIterator + Sized {
         DedupByWithCount::new(self, same)
     }
 
-    /// Yields each item with its [`Position`](crate::Position): `First`, `Middle`, `Last` or `Only`.
+    /// Yields each item with its [`Position`](Position): `First`, `Middle`, `Last` or `Only`.
     ///
     /// Creating it draws nothing. An item is buffered until another item comes, or a stop: `Ok(None)` or a failure. `next` draws once if an item is buffered, and otherwise twice, or up to a stop. The buffered item is yielded first, and is the `Last` one before a stop. The stop is what the next call returns, without a draw. After a stop nothing is buffered, and the next item is `First` or `Only`.
     ///
@@ -2362,7 +2362,7 @@ pub trait FallibleItertools: FallibleIterator + Sized {
     where
         Self::Item: Ord,
     {
-        sorted_items(self.collect())
+        sorted::sorted_items(self.collect())
     }
 
     /// Returns the items in a `Vec`, in the order that the closure returns for each two. Items that it finds equal keep their order. If it compares as no order does, it returns the items in any order, each of them once; in Rust it may panic.
@@ -2411,7 +2411,7 @@ pub trait FallibleItertools: FallibleIterator + Sized {
     where
         F: FnMut(&Self::Item, &Self::Item) -> Ordering,
     {
-        sorted_items_by(self.collect(), f)
+        sorted::sorted_items_by(self.collect(), f)
     }
 
     /// Returns the items in a `Vec`, in the order of the keys that the closure returns for them. Items with equal keys keep their order. If the closure returns other keys for an item from call to call, it returns the items in any order, each of them once.
@@ -2458,7 +2458,145 @@ pub trait FallibleItertools: FallibleIterator + Sized {
         K: Ord,
         F: FnMut(&Self::Item) -> K,
     {
-        sorted_items_by_key(self.collect(), f)
+        sorted::sorted_items_by_key(self.collect(), f)
+    }
+
+    /// Returns the items in a `Vec`, in order. Equal items may come in any order. Sorting takes no memory beyond the `Vec`.
+    ///
+    /// It draws up to `Ok(None)` or the first failure. It fails with that failure. After `Ok(None)` it sorts. It consumes the iterator.
+    ///
+    /// Precondition, which is not checked: the iterator is finite.
+    ///
+    /// ```
+    /// # use fallible_iterator::{FallibleIterator, convert};
+    /// # use fallible_itertools::DoubleEndedFallibleItertools;
+    /// # use fallible_itertools::FallibleItertools;
+    /// let readings = [Ok::<u32, u8>(150), Ok(7), Ok(700)];
+    /// let sorted = convert(readings.into_iter()).sorted_unstable()?;
+    /// assert_eq!(sorted, vec![7, 150, 700]);
+    /// # Ok::<(), u8>(())
+    /// ```
+    ///
+    /// <details><summary>Contract</summary>
+    ///
+    /// As it is proved, where its signature is another, in [these words](crate::words):
+    ///
+    /// ```text
+    /// requires can_next { Self.contract.can_next self }
+    /// requires finite { Self.contract.is_finite self }
+    /// ensures collects { CollectsInPlace Self.contract.steps (HasItemsInOrder Self.Item.cmp) self
+    ///     result }
+    /// ensures value { OverList Self.contract.steps self
+    ///     (λ l. list.CollectedAs (HasItemsInOrder Self.Item.cmp) l result) }
+    /// ensures contents { OverList Self.contract.steps self
+    ///     (λ l. IfOk result (list.MadeOf (HasItemsInOrder Self.Item.cmp) (list.collected l))) }
+    /// ensures failure { OverList Self.contract.steps self
+    ///     (λ l. (e : Self.Error) → result ≡ Err (Source e) → list.collected l ≡ Err e) }
+    /// ```
+    /// </details>
+    #[cfg(feature = "alloc")]
+    fn sorted_unstable(self) -> Result<Vec<Self::Item>, Self::Error>
+    where
+        Self::Item: Ord,
+    {
+        sorted_unstable::items_in_order(self.collect())
+    }
+
+    /// Returns the items in a `Vec`, in the order that the closure returns for each two. Items that it finds equal may come in any order. If it compares as no order does, it returns the items in any order, each of them once; in Rust it may panic.
+    ///
+    /// Draws, errors and memory: as `sorted_unstable`. The closure doesn't fail. It is called after the last draw. It consumes the iterator.
+    ///
+    /// Precondition, which is not checked: the iterator is finite.
+    ///
+    /// ```
+    /// # use fallible_iterator::{FallibleIterator, convert};
+    /// # use fallible_itertools::DoubleEndedFallibleItertools;
+    /// # use fallible_itertools::FallibleItertools;
+    /// let readings = [Ok::<u32, u8>(150), Ok(7), Ok(700)];
+    /// let falling = convert(readings.into_iter()).sorted_unstable_by(|x: &u32, y: &u32| y.cmp(x),
+    /// )?;
+    /// assert_eq!(falling, vec![700, 150, 7]);
+    /// # Ok::<(), u8>(())
+    /// ```
+    ///
+    /// <details><summary>Contract</summary>
+    ///
+    /// As it is proved, where its signature is another, in [these words](crate::words):
+    ///
+    /// ```text
+    /// requires can_next { Self.contract.can_next self }
+    /// requires finite { Self.contract.is_finite self }
+    /// requires callable { F.IsAlwaysCallable f }
+    /// ensures collects { CollectsInPlace Self.contract.steps
+    ///     (HasItemsInOrderByComparisons F.FnMut f) self result }
+    /// ensures value { (lt : Self.Item → Self.Item → Bool) → IsStrictWeakOrder lt
+    ///     → ComparesAs F.FnMut lt f
+    ///     → OverList Self.contract.steps self
+    ///     (λ l. list.CollectedAs (HasItemsInOrderByTest lt) l result) }
+    /// ensures contents { (lt : Self.Item → Self.Item → Bool) → IsStrictWeakOrder lt
+    ///     → ComparesAs F.FnMut lt f
+    ///     → OverList Self.contract.steps self
+    ///     (λ l. IfOk result (list.MadeOf (HasItemsInOrderByTest lt) (list.collected l))) }
+    /// ensures items { OverList Self.contract.steps self
+    ///     (λ l. list.CollectedAs HasItems l result) }
+    /// ensures failure { OverList Self.contract.steps self
+    ///     (λ l. (e : Self.Error) → result ≡ Err (Source e) → list.collected l ≡ Err e) }
+    /// ```
+    /// </details>
+    #[cfg(feature = "alloc")]
+    fn sorted_unstable_by<F>(self, f: F) -> Result<Vec<Self::Item>, Self::Error>
+    where
+        F: FnMut(&Self::Item, &Self::Item) -> Ordering,
+    {
+        sorted_unstable::items_in_order_by(self.collect(), f)
+    }
+
+    /// Returns the items in a `Vec`, in the order of the keys that the closure returns for them. Items with equal keys may come in any order. If the closure returns other keys for an item from call to call, it returns the items in any order, each of them once; in Rust it may panic.
+    ///
+    /// Draws, errors and memory: as `sorted_unstable`. The closure doesn't fail; a key that may fail is made by `map` before. The closure is called after the last draw, on an item as often as its key is compared. It consumes the iterator.
+    ///
+    /// Precondition, which is not checked: the iterator is finite.
+    ///
+    /// ```
+    /// # use fallible_iterator::{FallibleIterator, convert};
+    /// # use fallible_itertools::DoubleEndedFallibleItertools;
+    /// # use fallible_itertools::FallibleItertools;
+    /// let words = [Ok::<&str, u8>("the"), Ok("is"), Ok("calm")];
+    /// let sorted = convert(words.into_iter()).sorted_unstable_by_key(|word: &&str| word.len(),
+    /// )?;
+    /// assert_eq!(sorted, vec!["is", "the", "calm"]);
+    /// # Ok::<(), u8>(())
+    /// ```
+    ///
+    /// <details><summary>Contract</summary>
+    ///
+    /// As it is proved, where its signature is another, in [these words](crate::words):
+    ///
+    /// ```text
+    /// requires can_next { Self.contract.can_next self }
+    /// requires finite { Self.contract.is_finite self }
+    /// requires callable { F.IsAlwaysCallable f }
+    /// ensures collects { CollectsInPlace Self.contract.steps
+    ///     (HasItemsInOrderByCalls F.FnMut K.cmp f) self result }
+    /// ensures value { (key : Self.Item → K) → ComputesKey F.FnMut key f
+    ///     → OverList Self.contract.steps self
+    ///     (λ l. list.CollectedAs (HasItemsInOrderByKey key K.cmp) l result) }
+    /// ensures contents { (key : Self.Item → K) → ComputesKey F.FnMut key f
+    ///     → OverList Self.contract.steps self
+    ///     (λ l. IfOk result (list.MadeOf (HasItemsInOrderByKey key K.cmp) (list.collected l))) }
+    /// ensures items { OverList Self.contract.steps self
+    ///     (λ l. list.CollectedAs HasItems l result) }
+    /// ensures failure { OverList Self.contract.steps self
+    ///     (λ l. (e : Self.Error) → result ≡ Err (Source e) → list.collected l ≡ Err e) }
+    /// ```
+    /// </details>
+    #[cfg(feature = "alloc")]
+    fn sorted_unstable_by_key<K, F>(self, f: F) -> Result<Vec<Self::Item>, Self::Error>
+    where
+        K: Ord,
+        F: FnMut(&Self::Item) -> K,
+    {
+        sorted_unstable::items_in_order_by_key(self.collect(), f)
     }
 
     /// Returns the items as `Display` shows them, with the separator between each two.
@@ -2504,6 +2642,95 @@ pub trait FallibleItertools: FallibleIterator + Sized {
         let mut state = (false, String::new());
         match self.drive(&mut state, &JoinTurn { separator }) {
             Ok(None) => Ok(state.1),
+            Ok(Some(refused)) => match refused {},
+            Err(e) => Err(e),
+        }
+    }
+
+    /// Returns the `k` least items in a `Vec`, in order, or all if fewer come. Equal items keep their order, and the first of them are kept. It keeps at most `k` items at a time.
+    ///
+    /// It draws up to `Ok(None)` or the first failure, also if `k` is 0. It fails with that failure, and what was kept is dropped. It consumes the iterator.
+    ///
+    /// An item that isn't less than the last of `k` kept ones costs one comparison. Another one costs a binary search, and moves the items that stay after it.
+    ///
+    /// Precondition, which is not checked: the iterator is finite.
+    ///
+    /// ```
+    /// # use fallible_iterator::{convert};
+    /// # use fallible_itertools::FallibleItertools;
+    /// let readings = [Ok::<u32, u8>(150), Ok(7), Ok(700), Ok(50)];
+    /// let smallest = convert(readings.into_iter()).k_smallest(2)?;
+    /// assert_eq!(smallest, vec![7, 50]);
+    /// # Ok::<(), u8>(())
+    /// ```
+    ///
+    /// <details><summary>Contract</summary>
+    ///
+    /// As it is proved, in [these words](crate::words):
+    ///
+    /// ```text
+    /// requires can_next { Self.contract.can_next self }
+    /// requires finite { Self.contract.is_finite self }
+    /// ensures collects { Collects Self.contract.steps (IsSmallestOf Self.Item.cmp k) ⊥
+    ///     (SmallestRefuses k) self result }
+    /// ensures value { OverList Self.contract.steps self
+    ///     (λ l. list.CollectedAs (IsSmallestOf Self.Item.cmp k) l result) }
+    /// ensures contents { OverList Self.contract.steps self
+    ///     (λ l. IfOk result (list.MadeOf (IsSmallestOf Self.Item.cmp k) (list.collected l))) }
+    /// ensures failure { OverList Self.contract.steps self
+    ///     (λ l. (e : Self.Error) → result ≡ Err (Source e) → list.collected l ≡ Err e) }
+    /// ```
+    /// </details>
+    #[cfg(feature = "alloc")]
+    fn k_smallest(mut self, k: usize) -> Result<Vec<Self::Item>, Self::Error>
+    where
+        Self::Item: Ord,
+    {
+        let mut kept = Vec::new();
+        match self.drive(&mut kept, &k_smallest::SmallestTurn { k }) {
+            Ok(None) => Ok(kept),
+            Ok(Some(refused)) => match refused {},
+            Err(e) => Err(e),
+        }
+    }
+
+    /// Returns the last `n` items in a queue, in order, or all if fewer come. It keeps at most `n` items at a time.
+    ///
+    /// It draws up to `Ok(None)` or the first failure, also if `n` is 0. It fails with that failure, and what was kept is dropped. It consumes the iterator.
+    ///
+    /// Precondition, which is not checked: the iterator is finite.
+    ///
+    /// ```
+    /// # use fallible_iterator::{convert};
+    /// # use fallible_itertools::FallibleItertools;
+    /// let readings = [Ok::<u32, u8>(150), Ok(7), Ok(700)];
+    /// let last = convert(readings.into_iter()).tail(2)?;
+    /// assert_eq!((last.front(), last.back()), (Some(&7), Some(&700)));
+    /// # Ok::<(), u8>(())
+    /// ```
+    ///
+    /// <details><summary>Contract</summary>
+    ///
+    /// As it is proved, in [these words](crate::words):
+    ///
+    /// ```text
+    /// requires can_next { Self.contract.can_next self }
+    /// requires finite { Self.contract.is_finite self }
+    /// ensures collects { Collects Self.contract.steps (IsTailOf deque_items n) ⊥
+    ///     (TailRefuses deque_len deque_capacity n) self result }
+    /// ensures value { OverList Self.contract.steps self
+    ///     (λ l. list.CollectedAs (IsTailOf deque_items n) l result) }
+    /// ensures contents { OverList Self.contract.steps self
+    ///     (λ l. IfOk result (list.MadeOf (IsTailOf deque_items n) (list.collected l))) }
+    /// ensures failure { OverList Self.contract.steps self
+    ///     (λ l. (e : Self.Error) → result ≡ Err (Source e) → list.collected l ≡ Err e) }
+    /// ```
+    /// </details>
+    #[cfg(feature = "alloc")]
+    fn tail(mut self, n: usize) -> Result<VecDeque<Self::Item>, Self::Error> {
+        let mut kept = VecDeque::new();
+        match self.drive(&mut kept, &tail::TailTurn { n }) {
+            Ok(None) => Ok(kept),
             Ok(Some(refused)) => match refused {},
             Err(e) => Err(e),
         }
@@ -2893,6 +3120,42 @@ pub trait FallibleItertools: FallibleIterator + Sized {
         F: FnMut(&Self::Item) -> Result<K, Self::Error>,
     {
         UniqueBy::new(self, f)
+    }
+
+    /// Yields each item that equals exactly one before it: of equal items the second.
+    ///
+    /// Creating it draws nothing and allocates nothing. `next` draws up to an item that equals exactly one before it, a failure or an `Ok(None)`. A map has the first of equal items, whether or not a second came; nothing is cloned. It fails as the source does, and a failure parts nothing. After a failure or an `Ok(None)` the map stays.
+    ///
+    /// ```
+    /// # use fallible_iterator::{FallibleIterator, convert};
+    /// # use fallible_itertools::FallibleItertools;
+    /// # use fallible_itertools::PeekingNext;
+    /// let readings = [Ok::<u32, u8>(7), Ok(150), Ok(7), Ok(7)];
+    /// let mut it = convert(readings.into_iter()).duplicates();
+    /// let drawn = [it.next(), it.next()];
+    /// assert_eq!(drawn, [Ok(Some(7)), Ok(None)]);
+    /// ```
+    ///
+    /// <details><summary>Contract</summary>
+    ///
+    /// As it is proved, where its signature is another, in [these words](crate::words):
+    ///
+    /// ```text
+    /// ensures parts { duplicates_source result ≡ self }
+    /// ensures empty { hash.IsEmpty (duplicates_came result) }
+    /// ensures lists { (l : List (Result Self.Item Self.Error))
+    ///     → list.Lists Self.contract.steps self l
+    ///     → ListsUnlessRefused (seen_as duplicates_parts
+    ///     (duplicates_contract Self.Item.eq Self.Error.from_gives Self.contract)).steps
+    ///     Self.Error.from_gives result (duplicates_of Self.Item.eq l) }
+    /// ```
+    /// </details>
+    #[cfg(feature = "std")]
+    fn duplicates(self) -> Duplicates<Self>
+    where
+        Self::Item: Eq + Hash,
+    {
+        Duplicates::new(self)
     }
 }
 

@@ -4,7 +4,7 @@ mod lacking;
 
 use fallible_itertools::*;
 use lacking::*;
-use std::collections::HashSet;
+use std::collections::{HashMap, HashSet};
 
 type Of<M> = Source<M>;
 
@@ -13,7 +13,7 @@ fn each_iterator_has_what_it_keeps() {
     // The source.
     rows! { M;
         M => ChunkBy<Of<M>, (), ()>, Chunks<Of<M>>, Coalesce<Of<M>, ()>, Copied<M>, Dedup<Of<M>>, DedupBy<Of<M>, ()>,
-            DedupByKey<Of<M>, (), ()>, DedupByWithCount<Of<M>, ()>, DedupWithCount<Of<M>>, ErrInto<M, ()>, InspectErr<M, ()>, Interleave<M, ()>, Interleave<(), M>, Intersperse<Of<M>>,
+            DedupByKey<Of<M>, (), ()>, DedupByWithCount<Of<M>, ()>, DedupWithCount<Of<M>>, Duplicates<Of<M>>, ErrInto<M, ()>, InspectErr<M, ()>, Interleave<M, ()>, Interleave<(), M>, Intersperse<Of<M>>,
             IntersperseWith<Of<M>, ()>,
             Merge<Of<M>, ()>, Merge<Of<()>, M>, MergeBy<Of<M>, (), ()>, MergeBy<Of<()>, M, ()>, MergeJoinBy<Of<M>, Of<()>, ()>, MergeJoinBy<Of<()>, Of<M>, ()>, OrElse<M, ()>,
             PadUsing<M, ()>, PeekingTakeWhile<M, ()>, Positions<M, ()>, StopAfter<M>, TakeWhileInclusive<M, ()>, TupleWindows<Of<M>>,
@@ -40,5 +40,6 @@ fn each_iterator_has_what_it_keeps() {
             WithPosition<Source<(), u8, M>>;
         Vec<M> => ChunkBy<Source<(), M>, (), ()>, Chunks<Source<(), M>>;
         HashSet<M> => Unique<Source<(), M>>, UniqueBy<(), M, ()>;
+        HashMap<M, bool> => Duplicates<Source<(), M>>;
     }
 }

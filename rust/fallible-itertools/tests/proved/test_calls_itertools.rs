@@ -4,4 +4,8 @@ use fallible_iterator::memory::AllocError;
 #[cfg(test)]
 mod calls;
 #[cfg(test)]
+mod collections;
+#[cfg(test)]
+mod kept;
+#[cfg(test)]
 mod refusals;

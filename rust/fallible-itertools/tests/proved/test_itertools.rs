@@ -18,11 +18,17 @@ mod interspersing;
 #[cfg(test)]
 mod joining;
 #[cfg(test)]
+mod kept;
+#[cfg(test)]
 mod many;
 #[cfg(test)]
 mod passing;
 #[cfg(test)]
+mod repeated;
+#[cfg(test)]
 mod rows;
+#[cfg(test)]
+mod sorting;
 #[cfg(test)]
 mod stopping;
 #[cfg(test)]

@@ -64,6 +64,16 @@ pub fn different_readings(readings: Vec<Result<u32, NoBatch>>) -> Result<usize, 
     convert(readings.into_iter()).unique().count()
 }
 
+/// The readings that equal exactly one before them, or the first failure, up to an allocation failure.
+pub fn repeated_readings(readings: Vec<Result<u32, NoBatch>>) -> Result<Vec<u32>, NoBatch> {
+    convert(readings.into_iter()).duplicates().collect()
+}
+
+/// How many readings equal exactly one before them, or the first failure, or an allocation failure.
+pub fn number_of_repeated_readings(readings: Vec<Result<u32, NoBatch>>) -> Result<usize, NoBatch> {
+    convert(readings.into_iter()).duplicates().count()
+}
+
 /// The first reading of each ten, or the first failure, up to an allocation failure.
 pub fn first_readings_of_tens(readings: Vec<Result<u32, NoBatch>>) -> Result<Vec<u32>, NoBatch> {
     convert(readings.into_iter())

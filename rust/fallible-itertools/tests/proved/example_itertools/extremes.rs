@@ -110,6 +110,11 @@ pub fn sorted_down(readings: Vec<Result<u32, u8>>) -> Result<Vec<u32>, u8> {
     convert(readings.into_iter()).sorted_by(|x: &u32, y: &u32| y.cmp(x))
 }
 
+/// The readings in order, sorted in place, or the first failure.
+pub fn readings_in_order(readings: Vec<Result<u32, u8>>) -> Result<Vec<u32>, u8> {
+    convert(readings.into_iter()).sorted_unstable()
+}
+
 /// The reading with n readings after it.
 pub fn nth_last(readings: Vec<Result<u32, u8>>, n: usize) -> Result<Option<u32>, u8> {
     convert(readings.into_iter()).nth_back(n)

@@ -160,6 +160,8 @@ fn adapters_that_answer_at_no_end_fold_by_one_fold() {
         expect_folded(&mut different, &log, &TWO_BY_ONE_FOLD)?;
         let mut different = one_one_two(&log)?.unique_by(itself);
         expect_folded(&mut different, &log, &TWO_BY_ONE_FOLD)?;
+        let mut repeated = one_one_two(&log)?.duplicates();
+        expect_folded(&mut repeated, &log, &ONE_BY_ONE_FOLD)?;
         let mut parted = one_one_two(&log)?.intersperse(0);
         expect_folded(&mut parted, &log, &FIVE_BY_ONE_FOLD)
     }

@@ -3,7 +3,7 @@ use fallible_iterator::memory::AllocError;
 // No allocation fails after some items, some keys or some bytes: a body that refuses at will is proved, and is seen here.
 use crate::test_itertools::rows::expect_same;
 use crate::test_support::test_error::TestError;
-use fallible_iterator::{FallibleIterator, IteratorExt, repeat};
+use fallible_iterator::{FallibleIterator, IteratorExt, convert, repeat};
 use fallible_itertools::{Either, FallibleItertools};
 use std::convert::Infallible;
 
@@ -66,6 +66,11 @@ fn many_are_sorted() {
                 Err(_) => None,
             };
             expect_length(sorted, length)?;
+            let in_place = match (0..n).into_fallible().sorted_unstable() {
+                Ok(items) => Some(items.len()),
+                Err(_) => None,
+            };
+            expect_length(in_place, length)?;
             let by_key = (0..n).into_fallible().sorted_by_key(|x: &u32| *x % 10);
             let by_key = match by_key {
                 Ok(items) => Some(items.len()),
@@ -97,6 +102,11 @@ fn many_are_batched_grouped_and_told_apart() {
             .unique()
             .count();
         assert_eq!(apart, Ok(5_000));
+        // Each comes twice.
+        let repeated = convert((0..10_000u32).map(|x| Ok::<u32, TestError>(x / 2)))
+            .duplicates()
+            .count();
+        assert_eq!(repeated, Ok(5_000));
         let unique = (0..MANY).into_fallible().all_unique();
         assert!(matches!(unique, Ok(true)));
         Ok(())

@@ -1,0 +1,51 @@
+use crate::Fail;
+use fallible_iterator::memory::AllocError;
+// What the calls that make vectors make of their sources.
+use crate::test_support::calls::{Calls, NO_CALL, ONE_FOLD};
+use crate::test_support::counted::Log;
+use crate::test_support::counted_numbers::counted;
+use fallible_itertools::FallibleItertools;
+
+// The items, and the calls that come for them.
+type Sorted = (&'static [u32], Calls);
+
+const UP: Sorted = (&[1, 2, 3], ONE_FOLD);
+
+const DOWN: Sorted = (&[3, 2, 1], ONE_FOLD);
+
+// The items, the failures, and the calls that come for both.
+type Apart = (&'static [u32], &'static [u32], Calls);
+
+const APART: Apart = (
+    &[2, 1],
+    &[9],
+    Calls {
+        nexts: 4,
+        ..NO_CALL
+    },
+);
+
+// The items before the failure, the failure, and the calls that come for both.
+type Until = (&'static [u32], Option<u32>, Calls);
+
+const UNTIL_A_FAILURE: Until = (&[2], Some(9), ONE_FOLD);
+
+const UNTIL_THE_END: Until = (&[1], None, ONE_FOLD);
+
+// `partition_failures` draws one by one, since a failure stops a fold. A second `collect_until_failure` goes on after the failure.
+#[test]
+fn collections_around_a_failure() {
+    fn tested() -> Result<(), Fail> {
+        let log = Log::new();
+        let answers = [Ok(2), Err(9), Ok(1)];
+        let (items, failures): (Vec<u32>, Vec<u32>) = counted(&answers, &log).partition_failures();
+        assert_eq!((items.as_slice(), failures.as_slice(), log.take()), APART);
+        let mut it = counted(&answers, &log);
+        let (before, failure): (Vec<u32>, Option<u32>) = it.collect_until_failure();
+        assert_eq!((before.as_slice(), failure, log.take()), UNTIL_A_FAILURE);
+        let (after, failure): (Vec<u32>, Option<u32>) = it.collect_until_failure();
+        assert_eq!((after.as_slice(), failure, log.take()), UNTIL_THE_END);
+        Ok(())
+    }
+    let _ = tested();
+}
