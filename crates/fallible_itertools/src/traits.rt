@@ -326,7 +326,7 @@ pub trait FallibleItertools: FallibleIterator {
         DedupByWithCount::new(self, same)
     }
 
-    /// Yields each item with its [`Position`](Position): `First`, `Middle`, `Last` or `Only`.
+    /// Yields each item with its [`Position`](crate::Position): `First`, `Middle`, `Last` or `Only`.
     ///
     /// Creating it draws nothing. An item is buffered until another item comes, or a stop: `Ok(None)` or a failure. `next` draws once if an item is buffered, and otherwise twice, or up to a stop. The buffered item is yielded first, and is the `Last` one before a stop. The stop is what the next call returns, without a draw. After a stop nothing is buffered, and the next item is `First` or `Only`.
     ///
