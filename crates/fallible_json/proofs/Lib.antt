@@ -2,5 +2,4 @@ mod JsonLemmas
 mod LexingLemmas
 mod MinifyingLemmas
 mod PlaceLemmas
-mod ReadingLemmas
 mod RunLemmas

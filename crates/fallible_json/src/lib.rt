@@ -8,7 +8,6 @@ mod json;
 mod lexer;
 mod minifying;
 mod place;
-mod reading;
 mod report;
 mod token;
 
@@ -18,6 +17,5 @@ pub use json::json_of;
 pub use lexer::{LexFault, Tokens};
 pub use minifying::{Misplaced, minify};
 pub use place::place_of;
-pub use reading::ReadText;
 pub use report::run;
 pub use token::Token;
