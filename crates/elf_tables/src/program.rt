@@ -1,23 +1,24 @@
 // The program, over any input and any two outputs.
 ghost use Rattle.fallible_elf.specs.Report.{status_of, text_of};
 ghost use Rattle.program_io.specs.Endings.{EndsWith};
+ghost use Rattle.program_io.specs.Reading.{Fails};
 ghost use Rattle.elf_tables.specs.Program.{ComesTo};
 
 use fallible_elf::fault::ElfFault;
-use fallible_elf::reading::ReadFile;
 use fallible_elf::report::run;
 use program_io::ending::ended;
 use program_io::fault::RunFault;
+use program_io::reading::ReadBytes;
 use program_io::writing::WriteText;
 use std::alloc::Global;
 
 // `run` over `input`. The report is made in memory, so it is written whole, and nothing if its allocation fails.
-fn run_whole<R: ReadFile, W: WriteText>(
+fn run_whole<R: ReadBytes, W: WriteText>(
     alloc: Global,
     input: &mut R,
     output: &mut W,
 ) -> Result<(), RunFault<ElfFault>>
-    ensures { ComesTo R.left R.fails input.old input.new W.failed
+    ensures { ComesTo R.left (Fails R.left R.fails) input.old input.new W.failed
         (W.written output.old) (W.written output.new) output.new result }
 {
     let mut text = Vec::new(alloc);
@@ -41,7 +42,7 @@ fn run_whole<R: ReadFile, W: WriteText>(
 }
 
 // Runs over `input`, and tells `errors` of a fault. The status that the program ends with; an `Err` where there was a line to tell and it could not be written.
-pub(crate) fn program<R: ReadFile, W: WriteText, E: WriteText>(
+pub(crate) fn program<R: ReadBytes, W: WriteText, E: WriteText>(
     alloc: Global,
     input: &mut R,
     output: &mut W,
@@ -49,7 +50,7 @@ pub(crate) fn program<R: ReadFile, W: WriteText, E: WriteText>(
 ) -> Result<u8, u8>
     ensures { EndsWith status_of text_of
         (E.written errors.old) (E.written errors.new) (E.failed errors.new)
-        (ComesTo R.left R.fails input.old input.new W.failed
+        (ComesTo R.left (Fails R.left R.fails) input.old input.new W.failed
         (W.written output.old) (W.written output.new) output.new) result }
 {
     ended(run_whole(alloc, input, output), errors)

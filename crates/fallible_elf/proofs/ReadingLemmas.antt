@@ -1,16 +1,16 @@
 -- What the first bytes of a file say of its header.
-use Rattle.std.specs.Prelude.{◌≡◌, ℕ, ◌≤◌, List, [], ◌∷◌, ◌++◌, length, drop, slice_index, Bool, true, false, Option, Result, Ok, Err, not, nat_le, nat_eq, eqb}
+use Rattle.std.specs.Prelude.{◌≡◌, ◌⊎◌, ◌&&◌, ◌||◌, ℕ, ◌≤◌, List, [], ◌∷◌, ◌++◌, length, drop, slice_index, Bool, true, false, Option, Result, Ok, Err, not, nat_le, nat_eq, eqb}
 use Rattle.std.proofs.Common.{refl, sym, ap, subst, ◌∙◌, inl, inr, length-append, arith}
 use Rattle.std.proofs.KnownBytes.{Consumes-trans, starts_with_rest}
 use Rattle.std.proofs.lemmas.Bool.{le-leb, leb-true, and_parts, or_cases, false≢true}
 use Rattle.std.proofs.lemmas.List.{take-append-le}
 use Rattle.std.specs.Io.{StartsWith}
-use Rattle.std.specs.Io.KnownBytes.{Consumes}
+use Rattle.std.specs.Io.KnownBytes.{Consumes, IsAtEnd}
 use Rattle.std.specs.List.{starts_with}
 use lib.ListN.{get_or-append}
 use Rattle.fallible_elf.specs.Faults.{fault_at, first_fault}
 use Rattle.fallible_elf.specs.Headers.{header_checks}
-use Rattle.fallible_elf.specs.Reading.{is_decided, ReadsBegin, ReadsHead, HasHeader, HasHeaderFault}
+use Rattle.fallible_elf.specs.Reading.{is_decided, ReadsHead, HasHeader, HasHeaderFault}
 use Rattle.fallible_elf.specs.declared.fault.Damage.TheVariants.{NotElf, HeaderCut, NotWide, NotLittleEndian}
 use Rattle.fallible_elf.specs.declared.fault.ElfFault.{ElfFault}
 
@@ -62,23 +62,24 @@ fault_alike bytes rest f decided is = elim (or_cases _ _ decided) [
 ]
 
 -- what was read of a header that has a fault
-pub reads_head : (unread unread' : Option (List ℕ)) (bytes slice : List ℕ) (f : ElfFault) → ReadsBegin unread unread' bytes → slice ≡ bytes → Err f ≡ first_fault (header_checks slice) → ReadsHead unread unread' (HasHeaderFault f)
-reads_head unread unread' bytes slice f read same told =
-    let is : first_fault (header_checks bytes) ≡ Err f = sym (subst (λ s. Err f ≡ first_fault (header_checks s)) same told) in (
-      bytes,
-      read.0,
-      read.1,
-      elim read.2 [
-        | inl ended ↦ inl (ended, is)
-        | inr decided ↦ inr (λ rest. fault_alike bytes rest f decided is)
-      ],
-    )
+pub reads_head : (unread unread' : Option (List ℕ)) (bytes : List ℕ) (f : ElfFault) → Consumes unread unread' bytes → length bytes ≤ 64 → IsAtEnd unread' ⊎ (is_decided bytes ≡ true) → Err f ≡ first_fault (header_checks bytes) → ReadsHead unread unread' (HasHeaderFault f)
+reads_head unread unread' bytes f taken few end told = (
+  bytes,
+  taken,
+  few,
+  elim end [
+    | inl ended ↦ inl (ended, sym told)
+    | inr decided ↦ inr (λ rest. fault_alike bytes rest f decided (sym told))
+  ],
+)
+
+-- first bytes that are a whole header decide
+pub decided_by_64 : (bytes : List ℕ) → 64 ≤ length bytes → is_decided bytes ≡ true
+decided_by_64 bytes long = ap (λ b. b || (nat_le 4 (length bytes) && not (starts_with nat_eq bytes elf_bytes))) (le-leb 64 (length bytes) long)
 
 -- a file that was read after a header that has none
-pub has_header : (begin slice file : List ℕ) → slice ≡ begin → 64 ≤ length slice → Ok tt ≡ first_fault (header_checks slice) → StartsWith file begin → HasHeader file
-has_header begin slice file same long told starts =
-    let is : first_fault (header_checks begin) ≡ Ok tt = sym (subst (λ s. Ok tt ≡ first_fault (header_checks s)) same told) in
-    ap (λ bytes. first_fault (header_checks bytes)) (starts_with_rest file begin starts) ∙ header_alike begin (drop (length begin) file) (subst (λ s. 64 ≤ length s) same long) ∙ is
+pub has_header : (begin file : List ℕ) → 64 ≤ length begin → Ok tt ≡ first_fault (header_checks begin) → StartsWith file begin → HasHeader file
+has_header begin file long told starts = ap (λ bytes. first_fault (header_checks bytes)) (starts_with_rest file begin starts) ∙ header_alike begin (drop (length begin) file) long ∙ sym told
 
 pub consumes_file : (a b c : Option (List ℕ)) (begin file : List ℕ) → StartsWith file begin → Consumes a b begin → Consumes b c (drop (length begin) file) → Consumes a c file
 consumes_file a b c begin file starts first second = subst (Consumes a c) (sym (starts_with_rest file begin starts)) (Consumes-trans a b c _ _ first second)

@@ -1,17 +1,18 @@
 //! The sections and the address ranges of a file that a reader yields, as lines of text.
 ghost use Rattle.std.specs.Prelude.{◌≡◌, ◌≢◌, ◌⊎◌, ⊤, Err, Some, None, OnOk, OnErr};
 ghost use Rattle.std.specs.Io.KnownBytes.{Appends, Keeps};
-ghost use Rattle.program_io.specs.Reading.{ReadsAll};
+ghost use Rattle.program_io.specs.Reading.{Fails, ReadsAll};
 ghost use Rattle.fallible_elf.specs.Report.{HasTables, HasSections, Reports, ReadsFaulty, report_of, damage_text, status_of, text_of, as_run_fault};
 ghost use Rattle.fallible_elf.specs.declared.fault.ElfFault.{ElfFault};
 ghost use Rattle.std.specs.declared.io.ErrorKind.{ErrorKind};
 
 use crate::fault::{Damage, ElfFault};
 use crate::lines::{write_ranges, write_sections, write_sets};
-use crate::reading::ReadFile;
+use crate::reading::read_file;
 use crate::tables::{Tables, tables_of};
 use fallible_iterator::Fault;
 use program_io::fault::{InputFault, RunFault, fault_of_read, write_placed};
+use program_io::reading::ReadBytes;
 use program_io::writing::WriteText;
 use std::alloc::Global;
 use std::io;
@@ -72,7 +73,7 @@ pub fn report<W: WriteText>(
 }
 
 /// Reads a file up to the end of `reader`, which may be any reader of std, and writes its report to `writer`, as `report` does. It looks at the header first: at a fault of it at most 64 bytes are read. It also fails with `Read` where a read fails, and with `Memory` if the allocation for the file fails. An interrupted read is tried again. At `Read` and `Memory` nothing is written.
-pub fn run<R: ReadFile, W: WriteText>(
+pub fn run<R: ReadBytes, W: WriteText>(
     alloc: Global,
     reader: &mut R,
     writer: &mut W,
@@ -88,16 +89,16 @@ pub fn run<R: ReadFile, W: WriteText>(
     // Reading failed, and of which kind.
     ensures read { result ≡ Err RunFault.Read
         → ((kind : ErrorKind) × (kind ≢ ErrorKind.OutOfMemory)
-        × R.fails kind reader.old reader.new)
+        × Fails R.left R.fails kind reader.old reader.new)
         × Keeps (W.written writer.old) (W.written writer.new) }
 
     // An allocation failed: as the file was read, or for its tables.
     ensures memory { result ≡ Err RunFault.Memory
-        → (R.fails ErrorKind.OutOfMemory reader.old reader.new
+        → (Fails R.left R.fails ErrorKind.OutOfMemory reader.old reader.new
         ⊎ ReadsAll (R.left reader.old) (R.left reader.new) (λ _. ⊤))
         × Keeps (W.written writer.old) (W.written writer.new) }
 {
-    match reader.read_file(alloc) {
+    match read_file(reader, alloc) {
         Ok(Ok(file)) => report(alloc, file.as_slice(), writer),
         Ok(Err(fault)) => Err(RunFault::Input(fault)),
         Err(e) => Err(fault_of_read(&e)),

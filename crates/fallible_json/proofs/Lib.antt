@@ -5,7 +5,6 @@ mod LexemeLemmas
 mod LexingLemmas
 mod MinifyingLemmas
 mod PlaceLemmas
-mod ReadingLemmas
 mod RunLemmas
 mod SameTreeLemmas
 mod TextLemmas

@@ -6,7 +6,6 @@ pub mod Json
 pub mod Lexing
 pub mod Minifying
 pub mod Places
-pub mod Reading
 pub mod Report
 pub mod Tokens
 pub mod Trees

@@ -9,7 +9,6 @@ pub mod laws;
 mod lexer;
 mod minifying;
 mod place;
-mod reading;
 mod report;
 mod token;
 
@@ -19,6 +18,5 @@ pub use json::json_of;
 pub use lexer::{LexFault, Tokens};
 pub use minifying::{Misplaced, minify};
 pub use place::place_of;
-pub use reading::ReadText;
 pub use report::run;
 pub use token::Token;

@@ -3,9 +3,10 @@ use Rattle.std.specs.Prelude.{◌≡◌, ℕ, ◌+◌, ◌-◌, ◌*◌, ◌/◌
 use Rattle.std.proofs.Common.{refl, sym, ap, ◌∙◌, subst, arith, lit<, length-append, length-take-le, append_assoc, take-add}
 use Rattle.std.specs.Io.KnownBytes.{Consumes, Keeps, IsAtEnd}
 use Rattle.std.proofs.KnownBytes.{Consumes-nil, Consumes-trans, Consumes-kept}
+use Rattle.program_io.proofs.ReadingLemmas.{consumes_after}
 use Rattle.fallible_iterator.specs.Lists.{on_value}
 use Rattle.std.specs.declared.io.ErrorKind.{ErrorKind}
-use Rattle.fallible_table.specs.Report.{ReadsTable, HasFault, NoneBadYet, ReadsTotals}
+use Rattle.fallible_table.specs.Report.{ReadsTable, HasFault, NoneBadYet, ReadsTotals, YieldsMany}
 use Rattle.fallible_table.specs.Tables.{records, no_totals, totals_of}
 use Rattle.fallible_table.proofs.TotalsLemmas.{Sum, summed, totals_of_wholes, totals_joined, IsSum, is_sum_after, none_bad_in_cut}
 use Rattle.fallible_table.specs.declared.table.TableFault.{TableFault}
@@ -24,20 +25,7 @@ nothing_read unread = record { whole = []; taken = Consumes-nil unread; good = t
 
 -- a read gave bytes, which stand after those that are held
 pub so_far_after_read : {unread between unread' : Option (List ℕ)} {t : Totals} (old new : List ℕ) (held count : ℕ) → ReadSoFar unread between (take held old) t → take held new ≡ take held old → Consumes between unread' (take count (drop held new)) → ReadSoFar unread unread' (take (held + count) new) t
-so_far_after_read {unread = unread} {between = between} {unread' = unread'} old new held count h front more =
-    let bytes = take count (drop held new) in
-    let filled : take held old ++ bytes ≡ take (held + count) new = ap (λ l. l ++ bytes) (sym front) ∙ sym (take-add held count new) in
-    record {
-      whole = h.whole;
-      taken = subst (Consumes unread unread') (append_assoc h.whole (take held old) bytes ∙ ap (λ l. h.whole ++ l) filled) (Consumes-trans unread between unread' (h.whole ++ take held old) bytes h.taken more);
-      good = h.good;
-      long = h.long;
-    }
-
--- the same of what equals it
-pub so_far_of_equal : {unread unread' : Option (List ℕ)} {held left : ℕ} {buffer moved : List ℕ} {t u : Totals} → held ≡ left → buffer ≡ moved → t ≡ u → ReadSoFar unread unread' (take left moved) u → ReadSoFar unread unread' (take held buffer) t
-so_far_of_equal {unread = unread} {unread' = unread'} {left = left} {buffer = buffer} {moved = moved} {t = t} p q r h =
-    subst (λ k. ReadSoFar unread unread' (take k buffer) t) (sym p) (subst (λ l. ReadSoFar unread unread' (take left l) t) (sym q) (subst (ReadSoFar unread unread' (take left moved)) (sym r) h))
+so_far_after_read old new held count h front more = record { whole = h.whole; taken = consumes_after _ _ _ h.whole old new held count h.taken front more; good = h.good; long = h.long }
 
 -- a read failed
 pub so_far_after_failure : {unread between unread' : Option (List ℕ)} {t : Totals} (old new : List ℕ) (held : ℕ) → ReadSoFar unread between (take held old) t → take held new ≡ take held old → Keeps between unread' → ReadSoFar unread unread' (take held new) t
@@ -135,5 +123,8 @@ module _ {unread unread' : Option (List ℕ)} {buffer : List ℕ} {held : ℕ} {
   pub none_bad_yet : NoneBadYet unread unread'
   none_bad_yet = record { whole = read.so_far.whole; cut = take held buffer; taken = read.so_far.taken; totals = t; good = read.so_far.good; short = few }
 
-pub none_bad_at_first : (unread : Option (List ℕ)) → NoneBadYet unread unread
-none_bad_at_first unread = record { whole = []; cut = []; taken = Consumes-nil unread; totals = no_totals; good = totals_of_wholes 0 [] refl; short = lit< tt }
+  pub yields_many : 2 ^ 48 ≤ 8 * t.records + held → YieldsMany unread unread'
+  yields_many many =
+      let bytes = read.so_far.whole ++ take held buffer in
+      let before = read.so_far.long in
+      (bytes, read.so_far.taken, omega (arith, length-append read.so_far.whole (take held buffer), before, length-take-le held buffer read.room, many))

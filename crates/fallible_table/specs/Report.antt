@@ -1,10 +1,12 @@
 -- What a run over a table reads and writes.
-use Rattle.std.specs.Prelude.{◌≡◌, ℕ, ◌+◌, ◌*◌, ◌<◌, ◌≤◌, List, [], ◌∷◌, ◌++◌, length, Option, Result, Ok, Err, codes, decimal}
+use Rattle.std.specs.Prelude.{◌≡◌, ◌⊎◌, ℕ, ◌+◌, ◌*◌, ◌^◌, ◌<◌, ◌≤◌, List, [], ◌∷◌, ◌++◌, length, Option, Result, Ok, Err, codes, decimal}
 use Rattle.std.specs.IoError.{error_kind}
 use Rattle.std.specs.Io.KnownBytes.{Appends, Consumes, IsAtEnd}
 use Rattle.std.specs.declared.io.Error.{Error}
 use Rattle.std.specs.declared.io.ErrorKind.{ErrorKind}
+use Rattle.std.specs.declared.io.ErrorKind.TheVariants.{TimedOut}
 use Rattle.program_io.specs.Faults.{placed_text}
+use Rattle.program_io.specs.Reading.{Fails}
 use Rattle.fallible_table.specs.Tables.{totals_of}
 use Rattle.fallible_table.specs.declared.table.TableFault.{TableFault}
 use Rattle.fallible_table.specs.declared.table.TableFault.TheVariants.{Bad, Cut}
@@ -52,12 +54,21 @@ pub record NoneBadYet (unread unread' : Option (List ℕ)) : Type 0 where
   pub good : totals_of whole ≡ Ok totals
   pub short : length cut < 8
 
+-- A reader yielded so many bytes that it is read no further.
+abbrev pub YieldsMany : Option (List ℕ) → Option (List ℕ) → Type 0
+YieldsMany unread unread' = (bytes : List ℕ) × Consumes unread unread' bytes × (2 ^ 48 ≤ length bytes)
+
 module _ {R : Type 0} (left : R → Option (List ℕ)) (fails : ErrorKind → R → R → Type 0) where
+  -- Reading failed, and no record that was read is bad: a read failed, or too many bytes came, which comes to `TimedOut`.
+  pub record FailsUndecided (kind : ErrorKind) (r q : R) : Type 0 where
+    pub none_bad : NoneBadYet (left r) (left q)
+    pub failed : Fails left fails kind r q ⊎ ((kind ≡ TimedOut) × YieldsMany (left r) (left q))
+
   -- it yielded a table, which has these totals; or one with this fault; or it failed
   abbrev pub ReadsTotals : R → Result (Result Totals TableFault) Error → R → Type 0
   ReadsTotals r (Ok (Ok totals)) q = ReadsTable (left r) (left q) (Ok totals)
   ReadsTotals r (Ok (Err fault)) q = HasFault (left r) (left q) fault
-  ReadsTotals r (Err e) q = fails (error_kind e) r q
+  ReadsTotals r (Err e) q = FailsUndecided (error_kind e) r q
 
 -- the status that a program ends with
 abbrev pub status_of : TableFault → ℕ

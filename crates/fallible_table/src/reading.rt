@@ -1,13 +1,11 @@
-//! Readers of a table, which is summed up while it is read.
-ghost use Rattle.std.specs.Prelude.{◌≡◌, ◌≢◌, ◌+◌, ◌-◌, ◌%◌, ◌<◌, ◌≤◌, ℕ, List, length, take, drop, Option, IfOk, OnErr};
-ghost use Rattle.std.specs.Io.KnownBytes.{Consumes, Keeps, IsAtEnd};
-ghost use Rattle.std.specs.declared.io.ErrorKind.{ErrorKind};
-ghost use Rattle.fallible_table.specs.Report.{NoneBadYet, ReadsTotals};
+//! A table that a reader yields, which is summed up while it is read.
+ghost use Rattle.std.specs.Prelude.{◌≡◌, ◌-◌, ◌%◌, ◌≤◌, length, take, drop};
+ghost use Rattle.fallible_table.specs.Report.{ReadsTotals};
 
 use crate::table::{NO_TOTALS, TableFault, Totals, sum_up_more};
-use std::alloc::Global;
+use program_io::reading::{ReadBytes, read_after};
 use std::io;
-use std::io::{ErrorKind, Read};
+use std::io::ErrorKind;
 
 // How many bytes a record has.
 const RECORD: usize = 8;
@@ -26,26 +24,6 @@ fn end_of_read(records: u64) -> usize
     if records == 0 { RECORD } else { BUFFER }
 }
 
-// One read, which puts bytes after the first `held` ones, up to `end` at most. How many it puts there.
-fn read_after<R: Read>(
-    reader: &mut R,
-    buffer: &mut [u8],
-    held: usize,
-    end: usize,
-) -> io::Result<usize>
-    requires some { held < end }
-    requires room { end ≤ length buffer.old }
-    ensures room { length buffer.new ≡ length buffer.old }
-    ensures front { take held buffer.new ≡ take held buffer.old }
-    ensures fits { IfOk result (λ count. held + count ≤ end) }
-    ensures ok { IfOk result (λ count. Consumes (R.remaining reader.old)
-        (R.remaining reader.new) (take count (drop held buffer.new))) }
-    ensures end { IfOk result (λ count. count ≡ 0 → IsAtEnd (R.remaining reader.new)) }
-    ensures err { OnErr result (Keeps (R.remaining reader.old) (R.remaining reader.new)) }
-{
-    reader.read(&mut buffer[held..end])
-}
-
 // Moves those of the first `held` bytes that come after the whole records to the front. How many they are.
 fn keep_cut(buffer: &mut [u8], held: usize) -> usize
     requires { held ≤ length buffer.old }
@@ -59,10 +37,12 @@ fn keep_cut(buffer: &mut [u8], held: usize) -> usize
 }
 
 // Sums a table up, through the buffer, while it is read.
-fn sum_up_read<R: Read>(reader: &mut R, buffer: &mut [u8]) -> io::Result<Result<Totals, TableFault>>
+fn sum_up_read<R: ReadBytes>(
+    reader: &mut R,
+    buffer: &mut [u8],
+) -> io::Result<Result<Totals, TableFault>>
     requires { length buffer.old ≡ 65536 }
-    ensures { ReadsTotals R.remaining (λ kind s t. (kind ≢ ErrorKind.Interrupted)
-        × NoneBadYet (R.remaining s) (R.remaining t)) reader.old result reader.new }
+    ensures { ReadsTotals R.left R.fails reader.old result reader.new }
 {
     let mut totals = NO_TOTALS;
     let mut held = 0;
@@ -77,38 +57,16 @@ fn sum_up_read<R: Read>(reader: &mut R, buffer: &mut [u8]) -> io::Result<Result<
                 }
                 held = keep_cut(buffer, filled);
             }
-            Err(e) => {
-                if e.kind() != ErrorKind::Interrupted {
-                    return Err(e);
-                }
-            }
+            Err(e) => return Err(e),
         }
     }
     Err(io::Error::from(ErrorKind::TimedOut))
 }
 
-/// Something that yields a table, as every reader does.
-pub trait ReadTable {
-    // The bytes that are left, where they are known.
-    ghost left: { Self → Option (List ℕ) };
-
-    // What a failure of this kind leaves.
-    ghost fails: { ErrorKind → Self → Self → Type 0 };
-
-    /// The totals of the table up to its end, or its first fault. It reads no more once a record is bad. It fails if a read fails before, or the allocation of a buffer.
-    fn read_totals(&mut self, alloc: Global) -> io::Result<Result<Totals, TableFault>>
-        ensures { ReadsTotals left fails self.old result self.new };
-}
-
-impl<R: Read> ReadTable for R {
-    ghost left = { R.remaining };
-
-    ghost fails = { λ kind s t. (kind ≢ ErrorKind.Interrupted)
-        × NoneBadYet (R.remaining s) (R.remaining t) };
-
-    /// The first record is read alone. An interrupted read is tried again. It fails with `TimedOut` after 2 ^ 48 reads.
-    fn read_totals(&mut self, alloc: Global) -> io::Result<Result<Totals, TableFault>> {
-        let mut buffer = vec![in alloc; 0u8; BUFFER]?;
-        sum_up_read(self, buffer.as_mut_slice())
-    }
+/// The totals of the table that a reader yields, up to its end, or its first fault. The first record is read alone. It reads no more once a record is bad. It fails if a read fails before, and with `TimedOut` after 2 ^ 48 reads. An interrupted read is tried again.
+pub fn read_totals<R: ReadBytes>(reader: &mut R) -> io::Result<Result<Totals, TableFault>>
+    ensures { ReadsTotals R.left R.fails reader.old result reader.new }
+{
+    let mut buffer = [0u8; BUFFER];
+    sum_up_read(reader, &mut buffer)
 }

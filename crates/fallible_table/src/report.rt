@@ -1,15 +1,15 @@
 //! The totals of a table that a reader yields, as lines of text.
 ghost use Rattle.std.specs.Prelude.{◌≡◌, ◌≢◌, Err, OnOk, OnErr};
 ghost use Rattle.std.specs.Io.KnownBytes.{Appends, Keeps};
-ghost use Rattle.fallible_table.specs.Report.{report_of, HasFault, WritesReport, HasTotals, status_of, text_of};
+ghost use Rattle.fallible_table.specs.Report.{report_of, FailsUndecided, HasFault, WritesReport, HasTotals, status_of, text_of};
 ghost use Rattle.std.specs.declared.io.ErrorKind.{ErrorKind};
 ghost use Rattle.fallible_table.specs.declared.table.TableFault.{TableFault};
 
-use crate::reading::ReadTable;
+use crate::reading::read_totals;
 use crate::table::{TableFault, Totals};
 use program_io::fault::{InputFault, RunFault, fault_of_read, write_placed};
+use program_io::reading::ReadBytes;
 use program_io::writing::WriteText;
-use std::alloc::Global;
 use std::io;
 use std::io::ErrorKind;
 
@@ -25,11 +25,10 @@ fn write_report<W: WriteText>(totals: Totals, writer: &mut W) -> io::Result<()>
     ))
 }
 
-/// Reads a table from `reader`, which may be any reader of std, and writes its totals to `writer`. The first record is read alone, the others through a buffer. It fails with `Input` at the first record that isn't good, and reads no more then, or where the table ends within a record; with `Read` where a read fails before; with `Memory` if that is for want of memory, or the allocation of the buffer fails; and with `Write` where the writer fails. An interrupted read is tried again.
+/// Reads a table from `reader`, which may be any reader of std, and writes its totals to `writer`. The first record is read alone, the others through a buffer. It fails with `Input` at the first record that isn't good, and reads no more then, or where the table ends within a record; with `Read` where a read fails before; with `Memory` if that is for want of memory; and with `Write` where the writer fails. An interrupted read is tried again.
 ///
 /// After `Ok` and `Write`, and after `Input` of a record cut short, the reader is at its end. After a bad record it has lost at most 65,528 bytes that come after the record, and none after a first one. Only at `Ok` and `Write` may something have been written.
-pub fn run<R: ReadTable, W: WriteText>(
-    alloc: Global,
+pub fn run<R: ReadBytes, W: WriteText>(
     reader: &mut R,
     writer: &mut W,
 ) -> Result<(), RunFault<TableFault>>
@@ -42,14 +41,15 @@ pub fn run<R: ReadTable, W: WriteText>(
 
     // Reading failed, and of which kind.
     ensures read { result ≡ Err RunFault.Read → (kind : ErrorKind)
-        × (kind ≢ ErrorKind.OutOfMemory) × R.fails kind reader.old reader.new }
+        × (kind ≢ ErrorKind.OutOfMemory)
+        × FailsUndecided R.left R.fails kind reader.old reader.new }
     ensures memory { result ≡ Err RunFault.Memory
-        → R.fails ErrorKind.OutOfMemory reader.old reader.new }
+        → FailsUndecided R.left R.fails ErrorKind.OutOfMemory reader.old reader.new }
 
     ensures unwritten { result ≢ Err RunFault.Write
         → OnErr result (Keeps (W.written writer.old) (W.written writer.new)) }
 {
-    let totals = match reader.read_totals(alloc) {
+    let totals = match read_totals(reader) {
         Ok(Ok(totals)) => totals,
         Ok(Err(fault)) => return Err(RunFault::Input(fault)),
         Err(e) => return Err(fault_of_read(&e)),

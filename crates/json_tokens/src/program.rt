@@ -2,14 +2,16 @@
 ghost use Rattle.fallible_json.specs.Faults.{status_of, text_of};
 ghost use Rattle.fallible_json.specs.Report.{ComesTo};
 ghost use Rattle.program_io.specs.Endings.{EndsWith};
+ghost use Rattle.program_io.specs.Reading.{Fails};
 
-use fallible_json::{ReadText, run};
+use fallible_json::run;
 use program_io::ending::ended;
+use program_io::reading::ReadBytes;
 use program_io::writing::WriteText;
 use std::alloc::Global;
 
 // Runs over `input`, and tells `errors` of a fault. The status that the program ends with; an `Err` where there was a line to tell and it could not be written.
-pub(crate) fn program<R: ReadText, W: WriteText, E: WriteText>(
+pub(crate) fn program<R: ReadBytes, W: WriteText, E: WriteText>(
     alloc: Global,
     input: &mut R,
     output: &mut W,
@@ -17,7 +19,7 @@ pub(crate) fn program<R: ReadText, W: WriteText, E: WriteText>(
 ) -> Result<u8, u8>
     ensures { EndsWith status_of text_of
         (E.written errors.old) (E.written errors.new) (E.failed errors.new)
-        (ComesTo R.left R.fails input.old input.new W.failed
+        (ComesTo R.left (Fails R.left R.fails) input.old input.new W.failed
         (W.written output.old) (W.written output.new) output.new) result }
 {
     ended(run(alloc, input, output), errors)

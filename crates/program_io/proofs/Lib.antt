@@ -1,2 +1,2 @@
 mod NumberLemmas
-mod ReadingLemmas
+pub mod ReadingLemmas

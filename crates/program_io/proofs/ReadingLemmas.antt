@@ -1,16 +1,38 @@
--- Lemmas on bytes that readers hold in a buffer, and yield one at a time.
-use Rattle.std.proofs.Common.{Bool, true, false, ◌≡◌, ℕ, ◌+◌, List, [], ◌∷◌, ◌++◌, length, take, drop, if◌then◌else◌, ◌==◌, refl, sym, ap, subst, ◌∙◌, arith, Option, Some, None, ◌<◌, ◌≤◌, append_assoc, length-append, Err}
+-- Lemmas on bytes that readers yield.
+use Rattle.std.proofs.Common.{Bool, true, false, ◌≡◌, ℕ, ◌+◌, List, [], ◌∷◌, ◌++◌, length, take, drop, if◌then◌else◌, ◌==◌, refl, sym, ap, subst, ◌∙◌, arith, Option, Some, None, ◌<◌, ◌≤◌, append_assoc, length-append, take-add, Err}
 use Rattle.std.specs.Prelude.{⊤}
 use Rattle.std.specs.List.{FoldsTo}
 use Rattle.std.specs.Io.Buffered.{reader_buffer, reader_capacity, reader_inner}
 use Rattle.std.specs.Io.KnownBytes.{Consumes, prepend_known}
+use Rattle.std.proofs.KnownBytes.{Consumes-trans}
 use Rattle.std.proofs.lemmas.List.{drop-drop, take-append-drop, length-take}
+use Rattle.std.specs.declared.io.ErrorKind.{ErrorKind}
+use Rattle.program_io.specs.Reading.{Fails}
 use Rattle.program_io.specs.Bytes.{GivesByte, GivesBytes, StopsShort, ReadsSome, ReadsUpTo, held_bytes, buffered_left, bytes_left}
 use Rattle.program_io.specs.declared.reading.Buffered.{Buffered}
 use Rattle.program_io.specs.declared.reading.Bytes.{Bytes}
 use Rattle.program_io.specs.declared.reading.Lent.{Lent}
 use Rattle.program_io.specs.declared.reading.Unread.{Unread}
 use Rattle.program_io.specs.declared.reading.Unread.TheVariants.{End, Failed, Memory}
+
+-- ---- one read after another
+
+-- bytes that a read put after those that a buffer held
+pub consumes_after : (a b c : Option (List ℕ)) (before old new : List ℕ) (held count : ℕ) → Consumes a b (before ++ take held old) → take held new ≡ take held old → Consumes b c (take count (drop held new)) → Consumes a c (before ++ take (held + count) new)
+consumes_after a b c before old new held count first front second =
+    let bytes = take count (drop held new) in
+    let all : (before ++ take held old) ++ bytes ≡ before ++ take (held + count) new = append_assoc before (take held old) bytes ∙ ap (λ l. before ++ l) (ap (λ l. l ++ bytes) (sym front) ∙ sym (take-add held count new)) in
+    subst (Consumes a c) all (Consumes-trans a b c (before ++ take held old) bytes first second)
+
+-- a read that failed after others
+pub fails_after : {R : Type 0} (left : R → Option (List ℕ)) (fails : ErrorKind → R → R → Type 0) (kind : ErrorKind) (r p q : R) (bytes : List ℕ) → Consumes (left r) (left p) bytes → Fails left fails kind p q → Fails left fails kind r q
+fails_after left fails kind r p q bytes first later = record {
+  retried = later.retried;
+  bytes = bytes ++ later.bytes;
+  last = later.last;
+  taken = Consumes-trans (left r) (left p) (left later.last) bytes later.bytes first later.taken;
+  failed = later.failed;
+}
 
 -- ---- a buffered reader
 

@@ -1,11 +1,95 @@
-//! Readers that are read one byte at a time, and tell what they hold in a buffer.
+//! Readers: what they yield in one read, up to a newline and up to the end; and one byte at a time, with what they hold in a buffer.
 ghost use Rattle.std.specs.Prelude.{◌≡◌, ◌<◌, ◌≤◌, ℕ, Bool, false, List, [], length, take, Option, OnErr, Some, ⊤};
-ghost use Rattle.std.specs.Io.{ReadsAtMost};
-ghost use Rattle.std.specs.Io.KnownBytes.{ReadConsumes};
 ghost use Rattle.std.specs.Io.Buffered.{reader_buffer, reader_remaining};
+ghost use Rattle.std.specs.declared.io.ErrorKind.{ErrorKind};
 ghost use Rattle.program_io.specs.Bytes.{ReadsOne, ReadsSome, ReadsUpTo, GivesBytes, bytes_left, held_bytes, buffered_left};
+ghost use Rattle.program_io.specs.Reading.{Fails, ReadsOnce, ReadsAfter, ReadsLine, ReadsRest, TakesSome};
 
-use std::io::{BufRead, BufReader, Read};
+use std::alloc::Global;
+use std::io;
+use std::io::{BufRead, BufReader, ErrorKind, Read};
+
+/// Something that yields bytes, as every reader does.
+pub trait ReadBytes {
+    // The bytes that are left, where they are known.
+    ghost left: { Self → Option (List ℕ) };
+
+    // What a failure of this kind leaves.
+    ghost fails: { ErrorKind → Self → Self → Type 0 };
+
+    /// One read, which puts bytes at the front of `buf`. How many they are: 0 at the end, or if `buf` is empty. It fails if the read fails, or is interrupted, and takes no byte then.
+    fn read_once(&mut self, buf: &mut [u8]) -> io::Result<usize>
+        ensures { ReadsOnce left fails self.old result buf.new self.new };
+
+    /// The bytes `before`, and after them all that are left. It fails if a read fails, or the allocation of the bytes. An interrupted read is tried again.
+    fn read_rest(&mut self, before: &[u8], alloc: Global) -> io::Result<Vec<u8>>
+        ensures { ReadsRest left fails self.old before.now result self.new };
+}
+
+impl<R: Read> ReadBytes for R {
+    ghost left = { R.remaining };
+
+    ghost fails = { λ _ s t. TakesSome (R.remaining s) (R.remaining t) };
+
+    fn read_once(&mut self, buf: &mut [u8]) -> io::Result<usize> {
+        self.read(buf)
+    }
+
+    fn read_rest(&mut self, before: &[u8], alloc: Global) -> io::Result<Vec<u8>> {
+        let mut bytes = Vec::from_slice(alloc, before)?;
+        self.read_to_end(&mut bytes)?;
+        Ok(bytes)
+    }
+}
+
+/// Something that yields its first line alone, as every buffered reader does.
+pub trait ReadLine: ReadBytes {
+    /// The bytes up to the first newline, with it, or up to the end. It fails if a read fails, or the allocation of the bytes. An interrupted read is tried again.
+    fn read_first_line(&mut self, alloc: Global) -> io::Result<Vec<u8>>
+        ensures { ReadsLine Self.left Self.fails self.old result self.new };
+}
+
+impl<R: BufRead> ReadLine for R {
+    fn read_first_line(&mut self, alloc: Global) -> io::Result<Vec<u8>> {
+        let mut line = Vec::new(alloc);
+        self.read_until(b'\n', &mut line)?;
+        Ok(line)
+    }
+}
+
+// One read that is no interrupted one. After 2 ^ 64 - 1 of these it fails with `TimedOut`.
+fn read_retried<R: ReadBytes>(reader: &mut R, buf: &mut [u8]) -> io::Result<usize>
+    ensures { ReadsOnce R.left (Fails R.left R.fails) reader.old result buf.new reader.new }
+{
+    for _ in 0..u64::MAX {
+        match reader.read_once(buf) {
+            Ok(count) => return Ok(count),
+            Err(e) => {
+                if e.kind() != ErrorKind::Interrupted {
+                    return Err(e);
+                }
+            }
+        }
+    }
+    Err(io::Error::from(ErrorKind::TimedOut))
+}
+
+/// One read, which puts bytes after the first `held` ones of `buf`, up to `end` at most. How many they are: 0 at the end. It fails if the read fails, and takes no byte then. An interrupted read is tried again.
+///
+/// Requires that there is room for one.
+pub fn read_after<R: ReadBytes>(
+    reader: &mut R,
+    buf: &mut [u8],
+    held: usize,
+    end: usize,
+) -> io::Result<usize>
+    requires some { held < end }
+    requires room { end ≤ length buf.old }
+    ensures room { length buf.new ≡ length buf.old }
+    ensures read { ReadsAfter R.left R.fails reader.old buf.old held end result buf.new reader.new }
+{
+    read_retried(reader, &mut buf[held..end])
+}
 
 /// A read failed.
 #[derive(Debug, Drop)]
@@ -36,38 +120,13 @@ pub trait ReadByte: Drop + Sized {
         ensures { GivesBytes left stays self.old (take count (in_buffer self.old)) self.new };
 }
 
-// Something that yields some bytes at each read or fails, as every reader does.
-trait ReadSome {
-    // The bytes that are left, where they are known.
-    ghost left: { Self → Option (List ℕ) };
-
-    // What a failed read leaves.
-    ghost failed: { Self → Self → Type 0 };
-
-    // One read.
-    fn read_some(&mut self, buf: &mut [u8]) -> Result<usize, ReadFailed>
-        ensures bound { ReadsAtMost result buf.new }
-        ensures bytes { ReadConsumes (left self.old) (left self.new) result buf.new }
-        ensures failed { OnErr result (failed self.old self.new) };
-}
-
-impl<R: Read> ReadSome for R {
-    ghost left = { R.remaining };
-
-    ghost failed = { λ _ _. ⊤ };
-
-    fn read_some(&mut self, buf: &mut [u8]) -> Result<usize, ReadFailed> {
-        self.read(buf).or(Err(ReadFailed))
-    }
-}
-
 // One read, for one byte. An interrupted read fails too.
-fn byte_of<R: ReadSome>(reader: &mut R) -> Result<Option<u8>, ReadFailed>
+fn byte_of<R: ReadBytes>(reader: &mut R) -> Result<Option<u8>, ReadFailed>
     ensures one { ReadsOne R.left (λ _ _ _. ⊤) reader.old result reader.new }
-    ensures failed { OnErr result (R.failed reader.old reader.new) }
+    ensures failed { OnErr result ((kind : ErrorKind) × R.fails kind reader.old reader.new) }
 {
     let mut byte = [0u8; 1];
-    match reader.read_some(&mut byte) {
+    match reader.read_once(&mut byte) {
         Ok(0) => Ok(None),
         Ok(_) => Ok(Some(byte[0])),
         Err(_) => Err(ReadFailed),

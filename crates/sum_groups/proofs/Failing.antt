@@ -5,8 +5,8 @@ use Rattle.std.specs.Io.BufRead.{take_through}
 use Rattle.std.specs.Io.KnownBytes.{Consumes}
 use Rattle.std.specs.declared.io.ErrorKind.{ErrorKind}
 use Rattle.program_io.specs.Faults.{IsFaultOfRead}
+use Rattle.program_io.specs.Reading.{IsFirstLine}
 use Rattle.sum_groups.specs.Program.{AreRows, FailsToRead, ReadsRows}
-use Rattle.sum_groups.specs.Reading.{IsFirstLine}
 use Rattle.program_io.specs.declared.fault.RunFault.{RunFault}
 use Rattle.program_io.specs.declared.fault.RunFault.TheVariants.{Input, Read, Memory, Write}
 use Rattle.sum_groups.specs.declared.fault.GroupsFault.{GroupsFault}

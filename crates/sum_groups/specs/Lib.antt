@@ -2,4 +2,3 @@
 pub mod Faults
 pub mod Groups
 pub mod Program
-pub mod Reading

@@ -7,9 +7,8 @@ use Rattle.std.specs.declared.alloc.Global.{Global}
 use Rattle.std.specs.declared.io.ErrorKind.{ErrorKind}
 use Rattle.std.specs.declared.io.ErrorKind.TheVariants.{OutOfMemory}
 use Rattle.std.specs.declared.vec.Vec.{Vec}
-use Rattle.program_io.specs.Reading.{ReadsAll}
+use Rattle.program_io.specs.Reading.{IsFirstLine, ReadsAll}
 use Rattle.sum_groups.specs.Groups.{IsFaultOf, report_of, rows_of}
-use Rattle.sum_groups.specs.Reading.{IsFirstLine}
 use Rattle.program_io.specs.declared.fault.RunFault.{RunFault}
 use Rattle.program_io.specs.declared.fault.RunFault.TheVariants.{Input, Read, Memory, Write}
 use Rattle.sum_groups.specs.declared.fault.GroupsFault.{GroupsFault}

@@ -6,7 +6,6 @@
 mod fault;
 mod groups;
 mod program;
-mod reading;
 
 use fault::GroupsFault;
 use program::program;

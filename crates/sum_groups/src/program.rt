@@ -1,14 +1,15 @@
 // The program, over any input and any two outputs.
 ghost use Rattle.std.specs.Prelude.{MatchOption, MatchResult, vec_items};
 ghost use Rattle.program_io.specs.Endings.{EndsWith};
+ghost use Rattle.program_io.specs.Reading.{Fails};
 ghost use Rattle.sum_groups.specs.Faults.{status_of, text_of};
 ghost use Rattle.sum_groups.specs.Program.{AreRows, ComesTo, HasFault, IsNoRows, IsReportOf, ReadsRows};
 
 use crate::fault::GroupsFault;
 use crate::groups::{MakeReport, no_row_at};
-use crate::reading::ReadLines;
 use program_io::ending::ended;
 use program_io::fault::{RunFault, fault_of_read};
+use program_io::reading::ReadLine;
 use program_io::writing::WriteText;
 use std::alloc::Global;
 use std::str::from_utf8;
@@ -38,30 +39,30 @@ fn fault_of_bytes(bytes: &[u8]) -> Option<GroupsFault>
 }
 
 // The bytes of `input`, which is read up to its end only if its first line is a row.
-fn read_rows<R: ReadLines>(alloc: Global, input: &mut R) -> Result<Vec<u8>, RunFault<GroupsFault>>
-    ensures { ReadsRows R.left R.fails input.old input.new result }
+fn read_rows<R: ReadLine>(alloc: Global, input: &mut R) -> Result<Vec<u8>, RunFault<GroupsFault>>
+    ensures { ReadsRows R.left (Fails R.left R.fails) input.old input.new result }
 {
-    let mut bytes = match input.read_first_line(alloc) {
+    let line = match input.read_first_line(alloc) {
         Ok(line) => line,
         Err(e) => return Err(fault_of_read(&e)),
     };
-    match fault_of_bytes(bytes.as_slice()) {
+    match fault_of_bytes(line.as_slice()) {
         Some(fault) => Err(RunFault::Input(fault)),
-        None => match input.read_rest(&mut bytes) {
-            Ok(()) => Ok(bytes),
+        None => match input.read_rest(line.as_slice(), alloc) {
+            Ok(bytes) => Ok(bytes),
             Err(e) => Err(fault_of_read(&e)),
         },
     }
 }
 
 // Prints the report of `input`. It is made in memory, so it is written whole, and nothing if there is a fault or its allocation fails.
-fn run<M: MakeReport, R: ReadLines, W: WriteText>(
+fn run<M: MakeReport, R: ReadLine, W: WriteText>(
     alloc: Global,
     maker: &M,
     input: &mut R,
     output: &mut W,
 ) -> Result<(), RunFault<GroupsFault>>
-    ensures { ComesTo R.left R.fails input.old input.new (M.refused maker.now) W.failed
+    ensures { ComesTo R.left (Fails R.left R.fails) input.old input.new (M.refused maker.now) W.failed
         (W.written output.old) (W.written output.new) output.new result }
 {
     let bytes = match read_rows(alloc, input) {
@@ -78,7 +79,7 @@ fn run<M: MakeReport, R: ReadLines, W: WriteText>(
 }
 
 // Runs over `input`, and tells `errors` of a fault. The status that the program ends with; an `Err` where there was a line to tell and it could not be written.
-pub(crate) fn program<M: MakeReport, R: ReadLines, W: WriteText, E: WriteText>(
+pub(crate) fn program<M: MakeReport, R: ReadLine, W: WriteText, E: WriteText>(
     alloc: Global,
     maker: &M,
     input: &mut R,
@@ -87,7 +88,7 @@ pub(crate) fn program<M: MakeReport, R: ReadLines, W: WriteText, E: WriteText>(
 ) -> Result<u8, u8>
     ensures { EndsWith status_of text_of
         (E.written errors.old) (E.written errors.new) (E.failed errors.new)
-        (ComesTo R.left R.fails input.old input.new (M.refused maker.now) W.failed
+        (ComesTo R.left (Fails R.left R.fails) input.old input.new (M.refused maker.now) W.failed
         (W.written output.old) (W.written output.new) output.new) result }
 {
     ended(run(alloc, maker, input, output), errors)

@@ -23,7 +23,7 @@ fn main(rt: HostRuntime) -> ExitCode {
         Ok(input) => input,
         Err(status) => return ExitCode::from(status),
     };
-    match program(rt.alloc(), &mut input, &mut output, &mut errors) {
+    match program(&mut input, &mut output, &mut errors) {
         Ok(status) | Err(status) => ExitCode::from(status),
     }
 }

@@ -1,26 +1,24 @@
 // The program, over any input and any two outputs.
-ghost use Rattle.fallible_table.specs.Report.{status_of, text_of};
+ghost use Rattle.fallible_table.specs.Report.{FailsUndecided, status_of, text_of};
 ghost use Rattle.program_io.specs.Endings.{EndsWith};
 ghost use Rattle.sum_table.specs.Program.{ComesTo};
 
-use fallible_table::reading::ReadTable;
 use fallible_table::report::run;
 use fallible_table::table::TableFault;
 use program_io::ending::ended;
 use program_io::fault::RunFault;
+use program_io::reading::ReadBytes;
 use program_io::writing::WriteText;
-use std::alloc::Global;
 
 // `run` over `input`.
-fn run_table<R: ReadTable, W: WriteText>(
-    alloc: Global,
+fn run_table<R: ReadBytes, W: WriteText>(
     input: &mut R,
     output: &mut W,
 ) -> Result<(), RunFault<TableFault>>
-    ensures { ComesTo R.left R.fails input.old input.new W.failed
+    ensures { ComesTo R.left (FailsUndecided R.left R.fails) input.old input.new W.failed
         (W.written output.old) (W.written output.new) output.new result }
 {
-    match run(alloc, input, output) {
+    match run(input, output) {
         Ok(()) => Ok(()),
         Err(RunFault::Input(fault)) => Err(RunFault::Input(fault)),
         Err(RunFault::Read) => Err(RunFault::Read),
@@ -30,16 +28,15 @@ fn run_table<R: ReadTable, W: WriteText>(
 }
 
 // Runs over `input`, and tells `errors` of a fault. The status that the program ends with; an `Err` where there was a line to tell and it could not be written.
-pub(crate) fn program<R: ReadTable, W: WriteText, E: WriteText>(
-    alloc: Global,
+pub(crate) fn program<R: ReadBytes, W: WriteText, E: WriteText>(
     input: &mut R,
     output: &mut W,
     errors: &mut E,
 ) -> Result<u8, u8>
     ensures { EndsWith status_of text_of
         (E.written errors.old) (E.written errors.new) (E.failed errors.new)
-        (ComesTo R.left R.fails input.old input.new W.failed
+        (ComesTo R.left (FailsUndecided R.left R.fails) input.old input.new W.failed
         (W.written output.old) (W.written output.new) output.new) result }
 {
-    ended(run_table(alloc, input, output), errors)
+    ended(run_table(input, output), errors)
 }

@@ -1,15 +1,16 @@
 //! What is written of a text, and what is told of one that is no JSON. By hand, of RFC 8259 and of the README of `json_tokens`; `tools/json_runs` compares more.
 use crate::devices::{BrokenReader, BrokenWriter, PieceReader};
-use fallible_json::{JsonFault, ReadText, run};
+use fallible_json::{JsonFault, run};
 use program_io::ending::ended;
 use program_io::fault::RunFault;
+use program_io::reading::ReadBytes;
 use std::alloc::Global;
 use std::io::ErrorKind;
 use std::process::Abort;
 use std::test::Fail;
 
 // Expects this status, and these texts, of a reader.
-fn expect_of<R: ReadText>(
+fn expect_of<R: ReadBytes>(
     rt: &impl Abort,
     alloc: Global,
     reader: &mut R,

@@ -18,19 +18,19 @@ const TABLE: [u8; 24] = [
 // What `run` returns over these bytes, where a read fails after them.
 fn run_on_broken(alloc: Global, bytes: &[u8], kind: ErrorKind) -> Result<(), RunFault<TableFault>> {
     let mut reader = BrokenReader { bytes, kind };
-    run(alloc, &mut reader, &mut Vec::new(alloc))
+    run(&mut reader, &mut Vec::new(alloc))
 }
 
 fn expect_report(rt: &impl Abort, alloc: Global, mut table: &[u8], report: &[u8]) {
     let mut written = Vec::new(alloc);
-    assert_eq!(rt; run(alloc, &mut table, &mut written), Ok(()));
+    assert_eq!(rt; run(&mut table, &mut written), Ok(()));
     assert_eq!(rt; written.as_slice(), report);
 }
 
 fn expect_fault(rt: &impl Abort, alloc: Global, mut table: &[u8], fault: TableFault) {
     let mut written = Vec::new(alloc);
     assert_eq!(rt;
-        run(alloc, &mut table, &mut written),
+        run(&mut table, &mut written),
         Err(RunFault::Input(fault))
     );
     assert!(rt; written.is_empty());
@@ -56,7 +56,7 @@ fn run_in_pieces(
         interrupted: false,
     };
     let mut written = Vec::new(alloc);
-    (run(alloc, &mut reader, &mut written), written)
+    (run(&mut reader, &mut written), written)
 }
 
 // Ten thousand good records, which are more bytes than the buffer holds, and then these bytes.
@@ -129,7 +129,7 @@ fn run_answers_each_write_that_fails(rt: HostRuntime) {
         } else {
             Ok(())
         };
-        assert_eq!(rt; run(rt.alloc(), &mut table, &mut writer), wanted, "{room}");
+        assert_eq!(rt; run(&mut table, &mut writer), wanted, "{room}");
     }
 }
 

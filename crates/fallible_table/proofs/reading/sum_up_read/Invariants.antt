@@ -5,8 +5,9 @@ use Rattle.fallible_table.proofs.reading.sum_up_read.Given as goal
 
 abbrev pub invariant-loop-read : goal.invariant-loop-read
 invariant-loop-read g l = record {
-  so_far : ReadSoFar (g.R.Read.remaining l.fn.reader) (g.R.Read.remaining l.reader) (take l.held l.buffer) l.totals;
+  so_far : ReadSoFar (g.R.ReadBytes.left l.fn.reader) (g.R.ReadBytes.left l.reader) (take l.held l.buffer) l.totals;
   short : l.held < 8;
   room : length l.buffer ≡ 65536;
   few : 8 * l.totals.records + l.held ≤ 65536 * l.read;
+  many : l.read ≤ 8 * l.totals.records + l.held;
 }
