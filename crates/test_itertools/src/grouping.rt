@@ -127,7 +127,10 @@ fn batches_and_pairs_come_of_a_source_with_no_end(rt: HostRuntime) -> Result<(),
         .map(|batch| Ok(digits(batch)));
     let mut windows = repeat::<u32, TestError>(7).tuple_windows();
     let mut pairs = repeat::<u32, TestError>(7).tuples();
-    assert_eq!(rt; (batches.next(), [windows.next(), pairs.next()]), AFTER_FIRST_DRAWS);
+    assert_eq!(rt;
+        (batches.next(), [windows.next(), pairs.next()]),
+        AFTER_FIRST_DRAWS
+    );
     Ok(())
 }
 

@@ -29,10 +29,7 @@ fn expect_report(rt: &impl Abort, alloc: Global, mut table: &[u8], report: &[u8]
 
 fn expect_fault(rt: &impl Abort, alloc: Global, mut table: &[u8], fault: TableFault) {
     let mut written = Vec::new(alloc);
-    assert_eq!(rt;
-        run(&mut table, &mut written),
-        Err(RunFault::Input(fault))
-    );
+    assert_eq!(rt; run(&mut table, &mut written), Err(RunFault::Input(fault)));
     assert!(rt; written.is_empty());
 }
 
