@@ -3,8 +3,8 @@ use fallible_iterator::memory::AllocError;
 
 use crate::fallible_elf::fault::ElfFault;
 use crate::fallible_elf::header::check_header;
+use crate::program_io::reading::{ReadBytes, read_after};
 use std::io;
-use std::io::{ErrorKind, Read};
 
 // How many bytes the header has.
 const HEADER: usize = 64;
@@ -14,48 +14,31 @@ fn is_decided(begin: &[u8]) -> bool {
     begin.len() >= 64 || begin.len() >= 4 && !begin.starts_with(&[127, 69, 76, 70])
 }
 
-// Reads the first bytes, 64 at most: fewer at the end, or if the first four are not those of an ELF file. An interrupted read is tried again.
-fn read_begin<R: Read>(reader: &mut R, begin: &mut Vec<u8>) -> io::Result<()> {
-    let mut chunk = [0u8; HEADER];
-    for _ in 0..u64::MAX {
-        if is_decided(begin.as_slice()) {
-            return Ok(());
+// Reads the first bytes, 64 at most: fewer at the end, or if the first four are not those of an ELF file. How many they are.
+fn read_begin<R: ReadBytes>(reader: &mut R, begin: &mut [u8]) -> io::Result<usize> {
+    let mut count = 0;
+    for _ in 0..HEADER {
+        if is_decided(&begin[..count]) {
+            return Ok(count);
         }
-        let room = HEADER - begin.len();
-        match reader.read(&mut chunk[..room]) {
-            Ok(0) => return Ok(()),
-            Ok(count) => {
-                if Ok::<(), AllocError>(begin.extend_from_slice(&chunk[..count])).is_err() {
-                    return Err(io::Error::from(ErrorKind::OutOfMemory));
-                }
-            }
-            Err(e) => {
-                if e.kind() != ErrorKind::Interrupted {
-                    return Err(e);
-                }
-            }
+        match read_after(reader, begin, count, HEADER) {
+            Ok(0) => return Ok(count),
+            Ok(more) => count += more,
+            Err(e) => return Err(e),
         }
     }
-    Err(io::Error::from(ErrorKind::TimedOut))
+    Ok(count)
 }
 
-/// Something that yields a file, as every reader does.
-pub trait ReadFile {
-    /// The bytes up to the end, or the fault of their header. It looks at the header first: at a fault of it at most 64 bytes are read, and only the first four and what came with them where these are not those of an ELF file. It fails if a read fails, or the allocation of the bytes.
-    fn read_file(&mut self) -> io::Result<Result<Vec<u8>, ElfFault>>;
-}
-
-impl<R: Read> ReadFile for R {
-    /// An interrupted read is tried again.
-    fn read_file(&mut self) -> io::Result<Result<Vec<u8>, ElfFault>> {
-        let mut file = Vec::new();
-        read_begin(self, &mut file)?;
-        match check_header(file.as_slice()) {
-            Ok(()) => match self.read_to_end(&mut file) {
-                Ok(_) => Ok(Ok(file)),
-                Err(e) => Err(e),
-            },
-            Err(fault) => Ok(Err(fault)),
-        }
+/// The bytes of a file that a reader yields, up to the end, or the fault of their header. It looks at the header first: at a fault of it at most 64 bytes are read, and only the first four and what came with them where these are not those of an ELF file. It fails if a read fails, or the allocation of the bytes. An interrupted read is tried again.
+pub fn read_file<R: ReadBytes>(reader: &mut R) -> io::Result<Result<Vec<u8>, ElfFault>> {
+    let mut begin = [0u8; HEADER];
+    let count = read_begin(reader, &mut begin)?;
+    match check_header(&begin[..count]) {
+        Ok(()) => match reader.read_rest(&begin[..count]) {
+            Ok(file) => Ok(Ok(file)),
+            Err(e) => Err(e),
+        },
+        Err(fault) => Ok(Err(fault)),
     }
 }

@@ -3,9 +3,10 @@ use fallible_iterator::memory::AllocError;
 
 use crate::fallible_elf::fault::{Damage, ElfFault};
 use crate::fallible_elf::lines::{write_ranges, write_sections, write_sets};
-use crate::fallible_elf::reading::ReadFile;
+use crate::fallible_elf::reading::read_file;
 use crate::fallible_elf::tables::{Tables, tables_of};
 use crate::program_io::fault::{InputFault, RunFault, fault_of_read, write_placed};
+use crate::program_io::reading::ReadBytes;
 use crate::program_io::writing::WriteText;
 use fallible_iterator::Fault;
 use std::io;
@@ -44,7 +45,7 @@ pub fn report<W: WriteText>(file: &[u8], writer: &mut W) -> Result<(), RunFault<
 }
 
 /// Reads a file up to the end of `reader`, which may be any reader of std, and writes its report to `writer`, as `report` does. It looks at the header first: at a fault of it at most 64 bytes are read. It also fails with `Read` where a read fails, and with `Memory` if the allocation for the file fails. An interrupted read is tried again. At `Read` and `Memory` nothing is written.
-pub fn run<R: ReadFile, W: WriteText>(
+pub fn run<R: ReadBytes, W: WriteText>(
     reader: &mut R,
     writer: &mut W,
 ) -> Result<(), RunFault<ElfFault>>
@@ -52,7 +53,7 @@ pub fn run<R: ReadFile, W: WriteText>(
 
     // An allocation failed: as the file was read, or for its tables.
 {
-    match reader.read_file() {
+    match read_file(reader) {
         Ok(Ok(file)) => report(file.as_slice(), writer),
         Ok(Err(fault)) => Err(RunFault::Input(fault)),
         Err(e) => Err(fault_of_read(&e)),

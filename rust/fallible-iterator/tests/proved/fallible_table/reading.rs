@@ -2,8 +2,9 @@ use crate::Fail;
 use fallible_iterator::memory::AllocError;
 
 use crate::fallible_table::table::{NO_TOTALS, TableFault, Totals, sum_up_more};
+use crate::program_io::reading::{ReadBytes, read_after};
 use std::io;
-use std::io::{ErrorKind, Read};
+use std::io::ErrorKind;
 
 // How many bytes a record has.
 const RECORD: usize = 8;
@@ -19,16 +20,6 @@ fn end_of_read(records: u64) -> usize {
     if records == 0 { RECORD } else { BUFFER }
 }
 
-// One read, which puts bytes after the first `held` ones, up to `end` at most. How many it puts there.
-fn read_after<R: Read>(
-    reader: &mut R,
-    buffer: &mut [u8],
-    held: usize,
-    end: usize,
-) -> io::Result<usize> {
-    reader.read(&mut buffer[held..end])
-}
-
 // Moves those of the first `held` bytes that come after the whole records to the front. How many they are.
 fn keep_cut(buffer: &mut [u8], held: usize) -> usize {
     let cut = held % RECORD;
@@ -37,7 +28,7 @@ fn keep_cut(buffer: &mut [u8], held: usize) -> usize {
 }
 
 // Sums a table up, through the buffer, while it is read.
-fn sum_up_read<R: Read>(
+fn sum_up_read<R: ReadBytes>(
     reader: &mut R,
     buffer: &mut [u8],
 ) -> io::Result<Result<Totals, TableFault>> {
@@ -54,26 +45,14 @@ fn sum_up_read<R: Read>(
                 }
                 held = keep_cut(buffer, filled);
             }
-            Err(e) => {
-                if e.kind() != ErrorKind::Interrupted {
-                    return Err(e);
-                }
-            }
+            Err(e) => return Err(e),
         }
     }
     Err(io::Error::from(ErrorKind::TimedOut))
 }
 
-/// Something that yields a table, as every reader does.
-pub trait ReadTable {
-    /// The totals of the table up to its end, or its first fault. It reads no more once a record is bad. It fails if a read fails before, or the allocation of a buffer.
-    fn read_totals(&mut self) -> io::Result<Result<Totals, TableFault>>;
-}
-
-impl<R: Read> ReadTable for R {
-    /// The first record is read alone. An interrupted read is tried again. It fails with `TimedOut` after 2 ^ 48 reads.
-    fn read_totals(&mut self) -> io::Result<Result<Totals, TableFault>> {
-        let mut buffer = vec![0u8; BUFFER];
-        sum_up_read(self, buffer.as_mut_slice())
-    }
+/// The totals of the table that a reader yields, up to its end, or its first fault. The first record is read alone. It reads no more once a record is bad. It fails if a read fails before, and with `TimedOut` after 2 ^ 48 reads. An interrupted read is tried again.
+pub fn read_totals<R: ReadBytes>(reader: &mut R) -> io::Result<Result<Totals, TableFault>> {
+    let mut buffer = [0u8; BUFFER];
+    sum_up_read(reader, &mut buffer)
 }

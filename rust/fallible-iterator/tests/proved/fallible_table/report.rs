@@ -1,9 +1,10 @@
 use crate::Fail;
 use fallible_iterator::memory::AllocError;
 
-use crate::fallible_table::reading::ReadTable;
+use crate::fallible_table::reading::read_totals;
 use crate::fallible_table::table::{TableFault, Totals};
 use crate::program_io::fault::{InputFault, RunFault, fault_of_read, write_placed};
+use crate::program_io::reading::ReadBytes;
 use crate::program_io::writing::WriteText;
 use std::io;
 use std::io::ErrorKind;
@@ -16,16 +17,16 @@ fn write_report<W: WriteText>(totals: Totals, writer: &mut W) -> io::Result<()> 
     ))
 }
 
-/// Reads a table from `reader`, which may be any reader of std, and writes its totals to `writer`. The first record is read alone, the others through a buffer. It fails with `Input` at the first record that isn't good, and reads no more then, or where the table ends within a record; with `Read` where a read fails before; with `Memory` if that is for want of memory, or the allocation of the buffer fails; and with `Write` where the writer fails. An interrupted read is tried again.
+/// Reads a table from `reader`, which may be any reader of std, and writes its totals to `writer`. The first record is read alone, the others through a buffer. It fails with `Input` at the first record that isn't good, and reads no more then, or where the table ends within a record; with `Read` where a read fails before; with `Memory` if that is for want of memory; and with `Write` where the writer fails. An interrupted read is tried again.
 ///
 /// After `Ok` and `Write`, and after `Input` of a record cut short, the reader is at its end. After a bad record it has lost at most 65,528 bytes that come after the record, and none after a first one. Only at `Ok` and `Write` may something have been written.
-pub fn run<R: ReadTable, W: WriteText>(
+pub fn run<R: ReadBytes, W: WriteText>(
     reader: &mut R,
     writer: &mut W,
 ) -> Result<(), RunFault<TableFault>>
 // Reading failed, and of which kind.
 {
-    let totals = match reader.read_totals() {
+    let totals = match read_totals(reader) {
         Ok(Ok(totals)) => totals,
         Ok(Err(fault)) => return Err(RunFault::Input(fault)),
         Err(e) => return Err(fault_of_read(&e)),

@@ -1,7 +1,70 @@
 use crate::Fail;
 use fallible_iterator::memory::AllocError;
 
-use std::io::{BufRead, BufReader, Read};
+use std::io;
+use std::io::{BufRead, BufReader, ErrorKind, Read};
+
+/// Something that yields bytes, as every reader does.
+pub trait ReadBytes {
+    /// One read, which puts bytes at the front of `buf`. How many they are: 0 at the end, or if `buf` is empty. It fails if the read fails, or is interrupted, and takes no byte then.
+    fn read_once(&mut self, buf: &mut [u8]) -> io::Result<usize>;
+
+    /// The bytes `before`, and after them all that are left. It fails if a read fails, or the allocation of the bytes. An interrupted read is tried again.
+    fn read_rest(&mut self, before: &[u8]) -> io::Result<Vec<u8>>;
+}
+
+impl<R: Read> ReadBytes for R {
+    fn read_once(&mut self, buf: &mut [u8]) -> io::Result<usize> {
+        self.read(buf)
+    }
+
+    fn read_rest(&mut self, before: &[u8]) -> io::Result<Vec<u8>> {
+        let mut bytes = Vec::from(before);
+        self.read_to_end(&mut bytes)?;
+        Ok(bytes)
+    }
+}
+
+/// Something that yields its first line alone, as every buffered reader does.
+pub trait ReadLine: ReadBytes {
+    /// The bytes up to the first newline, with it, or up to the end. It fails if a read fails, or the allocation of the bytes. An interrupted read is tried again.
+    fn read_first_line(&mut self) -> io::Result<Vec<u8>>;
+}
+
+impl<R: BufRead> ReadLine for R {
+    fn read_first_line(&mut self) -> io::Result<Vec<u8>> {
+        let mut line = Vec::new();
+        self.read_until(b'\n', &mut line)?;
+        Ok(line)
+    }
+}
+
+// One read that is no interrupted one. After 2 ^ 64 - 1 of these it fails with `TimedOut`.
+fn read_retried<R: ReadBytes>(reader: &mut R, buf: &mut [u8]) -> io::Result<usize> {
+    for _ in 0..u64::MAX {
+        match reader.read_once(buf) {
+            Ok(count) => return Ok(count),
+            Err(e) => {
+                if e.kind() != ErrorKind::Interrupted {
+                    return Err(e);
+                }
+            }
+        }
+    }
+    Err(io::Error::from(ErrorKind::TimedOut))
+}
+
+/// One read, which puts bytes after the first `held` ones of `buf`, up to `end` at most. How many they are: 0 at the end. It fails if the read fails, and takes no byte then. An interrupted read is tried again.
+///
+/// Requires that there is room for one.
+pub fn read_after<R: ReadBytes>(
+    reader: &mut R,
+    buf: &mut [u8],
+    held: usize,
+    end: usize,
+) -> io::Result<usize> {
+    read_retried(reader, &mut buf[held..end])
+}
 
 /// A read failed.
 #[derive(Debug)]
@@ -19,22 +82,10 @@ pub trait ReadByte: Sized {
     fn consume_buffered(&mut self, count: usize);
 }
 
-// Something that yields some bytes at each read or fails, as every reader does.
-trait ReadSome {
-    // One read.
-    fn read_some(&mut self, buf: &mut [u8]) -> Result<usize, ReadFailed>;
-}
-
-impl<R: Read> ReadSome for R {
-    fn read_some(&mut self, buf: &mut [u8]) -> Result<usize, ReadFailed> {
-        self.read(buf).or(Err(ReadFailed))
-    }
-}
-
 // One read, for one byte. An interrupted read fails too.
-fn byte_of<R: ReadSome>(reader: &mut R) -> Result<Option<u8>, ReadFailed> {
+fn byte_of<R: ReadBytes>(reader: &mut R) -> Result<Option<u8>, ReadFailed> {
     let mut byte = [0u8; 1];
-    match reader.read_some(&mut byte) {
+    match reader.read_once(&mut byte) {
         Ok(0) => Ok(None),
         Ok(_) => Ok(Some(byte[0])),
         Err(_) => Err(ReadFailed),
