@@ -30,10 +30,12 @@ pub use crate::fallible_itertools_adapters::{
     Coalesce, Copied, Dedup, DedupBy, DedupByKey, DedupByWithCount, DedupWithCount, EitherOrBoth,
     ErrInto, InspectErr, Interleave, Intersperse, IntersperseWith, Merge, MergeBy, MergeJoinBy,
     OrElse, PadUsing, PeekingNext, PeekingTakeWhile, Position, Positions, StopAfter,
-    TakeWhileInclusive, TupleWindows, Tuples, WithPosition, ZipEq, ZipLongest, holding, staging,
+    TakeWhileInclusive, TupleWindows, Tuples, WithPosition, ZipEq, ZipLongest,
 };
 #[cfg(feature = "std")]
 pub use crate::fallible_itertools_adapters::{Duplicates, Unique, UniqueBy};
+#[doc(hidden)]
+pub use crate::fallible_itertools_adapters::{holding, staging};
 pub use crate::fallible_itertools_consumers::{
     CheckedTotal, DoubleEndedFallibleItertools, Either, FoldWhile, MinMaxResult, NotOne,
 };
