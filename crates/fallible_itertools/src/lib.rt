@@ -1,4 +1,4 @@
-//! More calls on every fallible iterator: items grouped, merged, paired and searched. It stands on `fallible_iterator` alone.
+//! More calls on every fallible iterator: items grouped, merged, paired and searched. Its adapters and its consumers are a crate each, which it hands on; all three stand on `fallible_iterator`.
 //!
 //! Import the trait [`FallibleItertools`] to have them, and [`DoubleEndedFallibleItertools`] for those from the back.
 #![tactic(auto)]
