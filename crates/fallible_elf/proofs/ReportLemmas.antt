@@ -80,8 +80,8 @@ module _ (bytes : List ℕ) (f : ElfFault) (has : HasHeaderFault f bytes) where
   reports_header_fault written = (has, (rw (named_sections_of_header_fault bytes f has) refl, subst (Appends written written) (sym (report_of_header_fault bytes f has)) (Appends-nil written)))
 
 -- what a header's fault says of the file
-pub reads_faulty : (unread unread' written : Option (List ℕ)) (f : ElfFault) → ReadsHead unread unread' (HasHeaderFault f) → ReadsHead unread unread' (λ bytes. HasHeaderFault f bytes × Reports bytes (Some f) written written)
-reads_faulty unread unread' written f read = (
+pub reads_head_reports_fault : (unread unread' written : Option (List ℕ)) (f : ElfFault) → ReadsHead unread unread' (HasHeaderFault f) → ReadsHead unread unread' (λ bytes. HasHeaderFault f bytes × Reports bytes (Some f) written written)
+reads_head_reports_fault unread unread' written f read = (
   read.0,
   read.1,
   read.2,
@@ -92,4 +92,4 @@ reads_faulty unread unread' written f read = (
 )
 
 pub reads_faulty_told : (unread unread' written : Option (List ℕ)) (given f : ElfFault) → ◌≡◌ {A = Result (Unit {0}) (RunFault ElfFault)} (Err (Input given)) (Err (Input f)) → ReadsHead unread unread' (HasHeaderFault given) → ReadsFaulty unread unread' f written written
-reads_faulty_told unread unread' written given f told read = let same : given ≡ f = cc in inr (subst (λ g. ReadsHead unread unread' (λ bytes. HasHeaderFault g bytes × Reports bytes (Some g) written written)) same (reads_faulty unread unread' written given read))
+reads_faulty_told unread unread' written given f told read = let same : given ≡ f = cc in inr (subst (λ g. ReadsHead unread unread' (λ bytes. HasHeaderFault g bytes × Reports bytes (Some g) written written)) same (reads_head_reports_fault unread unread' written given read))

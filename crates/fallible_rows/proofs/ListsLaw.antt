@@ -31,9 +31,9 @@ row_results_told place (row ∷ rest) =
     let rests : row_results (told_place place + 1) rest ≡ row_results (place + 1) rest = sym (row_results_told (told_place place + 1) rest) ∙ ap (λ k. row_results k rest) next ∙ row_results_told (place + 1) rest in
     ap {B = RowResults} (λ p. ok_or (row_number row) (Row p) ∷ row_results (told_place place + 1) rest) here ∙ ap {B = RowResults} (λ l. row_result place row ∷ l) rests
 
-answer_of_number_of_lists_law : (place : ℕ) (o : Option ℕ) → answer_of_number place o ≡ result_answer (ok_or o (Row (told_place place)))
-answer_of_number_of_lists_law place (Some n) = refl
-answer_of_number_of_lists_law place None = refl
+answer_of_number_is_result_answer : (place : ℕ) (o : Option ℕ) → answer_of_number place o ≡ result_answer (ok_or o (Row (told_place place)))
+answer_of_number_is_result_answer place (Some n) = refl
+answer_of_number_is_result_answer place None = refl
 
 -- what is left of known bytes
 known_bytes_left : (old new : Option (List ℕ)) (bytes known : List ℕ) → old ≡ Some known → Consumes old new bytes → (rest : List ℕ) × (new ≡ Some rest) × (known ≡ bytes ++ rest) × (IsAtEnd new → rest ≡ [])
@@ -73,14 +73,14 @@ module _ {B : Type 0} (left : B → Option (List ℕ)) (stays : Bool → B → B
         let rest : AlwaysGives allowed_step (p.0, Some e.after) (row_results e.after.place (rows k.0)) = fewer k.0 p.0 e.after (omega (arith, long)) k.1 (omega (arith, long, limit, within)) in
         let next : row_results e.after.place (rows k.0) ≡ row_results (a.place + 1) (rows k.0) = ap (λ q. row_results q (rows k.0)) e.place ∙ row_results_told (a.place + 1) (rows k.0) in
         let is : row_results a.place (rows bytes) ≡ row_result a.place d.row ∷ row_results (a.place + 1) (rows k.0) = ap (λ b. row_results a.place (rows b)) at ∙ ap (row_results a.place) (rows-row d.row k.0 d.one) in
-        subst (TakesResult answer p) (sym is) (e.answered ∙ answer_of_number_of_lists_law a.place (row_number d.row), subst (λ (o : Option Ahead). AlwaysGives allowed_step (p.0, o) (row_results (a.place + 1) (rows k.0))) (sym e.is_left) (subst (AlwaysGives allowed_step (p.0, Some e.after)) next rest))
+        subst (TakesResult answer p) (sym is) (e.answered ∙ answer_of_number_is_result_answer a.place (row_number d.row), subst (λ (o : Option Ahead). AlwaysGives allowed_step (p.0, o) (row_results (a.place + 1) (rows k.0))) (sym e.is_left) (subst (AlwaysGives allowed_step (p.0, Some e.after)) next rest))
     | inr g ↦ elim g [
       | inl e ↦
           let k = known_bytes_left (left r) (left p.0) d.row bytes tells (consumes_to_end left stays d.row r d.last p.0 d.given e.met_end) in
           let at : bytes ≡ d.row = k.2 ∙ ap (λ l. d.row ++ l) (k.3 e.met_end.1) ∙ append-nil d.row in
           elim e.answered [
             | inl m ↦ subst (TakesResult answer p) (sym (ap (λ b. row_results a.place (rows b)) (at ∙ m.0) ∙ ap (row_results a.place) rows-none)) m.1
-            | inr m ↦ subst (TakesResult answer p) (sym (ap (λ b. row_results a.place (rows b)) at ∙ ap (row_results a.place) (rows-one d.row d.one m.0))) (m.1 ∙ answer_of_number_of_lists_law a.place (row_number d.row), always_gives_nil p e.is_left)
+            | inr m ↦ subst (TakesResult answer p) (sym (ap (λ b. row_results a.place (rows b)) at ∙ ap (row_results a.place) (rows-one d.row d.one m.0))) (m.1 ∙ answer_of_number_is_result_answer a.place (row_number d.row), always_gives_nil p e.is_left)
           ]
       | inr e ↦ elim e.missed [
         | inl m ↦

@@ -105,8 +105,8 @@ IsOneRow-digits (c ∷ cs) h = All-cons (λ byte. byte ≢ 10) c cs (λ e. omega
 pub digits_value_of_short : (row : List ℕ) → AllDigits 10 row → length row ≤ 18 → digits_value 10 row < 1000000000000000000
 digits_value_of_short row h few = digits_value_short is_numeral_model_digits row 18 (is_numeral_model_digits.from row h) few
 
-pub row_number-digits : (row : List ℕ) → AllDigits 10 row → 0 < length row → length row ≤ 18 → row_number row ≡ Some (digits_value 10 row)
-row_number-digits row h some few =
+pub row_number_is_digits_value : (row : List ℕ) → AllDigits 10 row → 0 < length row → length row ≤ 18 → row_number row ≡ Some (digits_value 10 row)
+row_number_is_digits_value row h some few =
     let fits = digits_value_of_short row h few in
     row_number-number row (record { digits = h; some = omega (arith, some); few = omega (arith, few); fits = omega (arith, fits) })
 
@@ -132,7 +132,7 @@ number_ahead-is bytes n h some few l newline =
       rest = drop (n + 1) bytes;
       are = sym (take-append-drop n bytes) ∙ ap (λ r. take n bytes ++ r) (drop_more bytes n 0 l ∙ ap (λ byte. byte ∷ drop (n + 1) bytes) newline);
       one = IsOneRow-digits (take n bytes) h;
-      number = row_number-digits (take n bytes) h (omega (arith, long, some)) (omega (arith, long, few));
+      number = row_number_is_digits_value (take n bytes) h (omega (arith, long, some)) (omega (arith, long, few));
       long = long;
     }
 

@@ -35,8 +35,8 @@ module _ {S A E : Type 0} (front back : S → Answered A E → S → Type 0) whe
   takes_first_of_reversed_at_back s k h r t step = subst (λ (j : List (Result E A)). TakesFirst (λ i. ListsExchanged t (reverse i)) r j) (map-reverse exchanged_result h.0 ∙ ap reverse (sym h.1))
       (takes_first_exchanged (λ j. ListsExchanged t (reverse j)) (λ j i. (reverse j, sym (map-reverse exchanged_result j), i)) r (reverse h.0) (takes_first_back h.2 step))
 
-  pub lists_both_ends_exchanged : (s : S) (l : List (Result A E)) → ListsBothEnds front back s l → ListsBothEnds (steps_exchanged front) (steps_exchanged back) s (map exchanged_result l)
-  lists_both_ends_exchanged s l i = lists_both_ends_by_draws (steps_exchanged front) (steps_exchanged back) ListsExchanged takes_first_at_front takes_first_of_reversed_at_back s (map exchanged_result l) (l, refl, i)
+  pub lists_both_ends_of_exchanged_results : (s : S) (l : List (Result A E)) → ListsBothEnds front back s l → ListsBothEnds (steps_exchanged front) (steps_exchanged back) s (map exchanged_result l)
+  lists_both_ends_of_exchanged_results s l i = lists_both_ends_by_draws (steps_exchanged front) (steps_exchanged back) ListsExchanged takes_first_at_front takes_first_of_reversed_at_back s (map exchanged_result l) (l, refl, i)
 
 pub map_exchanged_twice : {A E : Type 0} (l : List (Result A E)) → map exchanged_result (map exchanged_result l) ≡ l
 map_exchanged_twice [] = refl

@@ -10,7 +10,7 @@ use Rattle.fallible_contract.specs.Lists.{AlwaysGives, Acts}
 use Rattle.fallible_contract.specs.BothEnds.{ListsBothEnds, items_listed, failures_listed, source_list, passed_list}
 use Rattle.fallible_contract.proofs.Lemmas.LawForm.{IsByAnswers, is_by_answers_renamed}
 use Rattle.fallible_contract.proofs.Lemmas.Passing.{passing_by_answers, pass_trace_answer}
-use Rattle.fallible_contract.proofs.Lemmas.Exchange.{always_gives_exchanged, lists_both_ends_exchanged, map_exchanged_twice}
+use Rattle.fallible_contract.proofs.Lemmas.Exchange.{always_gives_exchanged, lists_both_ends_of_exchanged_results, map_exchanged_twice}
 use Rattle.fallible_contract.proofs.Lemmas.Lists.Passing.{passed, gives_all}
 use Rattle.fallible_contract.proofs.Lemmas.BothEnds.Passing.{lists_both_ends_passed, lists_both_ends_by_function}
 use Rattle.fallible_contract.specs.declared.passing.Outcome.{Outcome}
@@ -61,14 +61,14 @@ module _ {S F X D E : Type 0} (front back : S → Answered X D → S → Type 0)
   ListsMapped l = ListsBothEnds (failing_step front call) (failing_step back call) (s, f) l
 
   lists_mapped_back : (k : List (Result E X)) (l : List (Result X E)) → map exchanged_result k ≡ l → ListsBothEnds (passing_step (steps_exchanged front) call failing_outcome) (passing_step (steps_exchanged back) call failing_outcome) (s, f) k → ListsMapped l
-  lists_mapped_back k l is i = subst (λ (j : List (Result X E)). ListsMapped j) is (lists_both_ends_exchanged (passing_step (steps_exchanged front) call failing_outcome) (passing_step (steps_exchanged back) call failing_outcome) (s, f) k i)
+  lists_mapped_back k l is i = subst (λ (j : List (Result X E)). ListsMapped j) is (lists_both_ends_of_exchanged_results (passing_step (steps_exchanged front) call failing_outcome) (passing_step (steps_exchanged back) call failing_outcome) (s, f) k i)
 
   -- the closure's answers on the failures, where it is steady on them
   pub lists_mapped_failures : (asked : List (Result X (D × E))) → Steady call f (failures_listed asked) → ListsBothEnds front back s (failures_mapped (λ c. c.0) asked) → ListsMapped (failures_mapped (λ c. c.1) asked)
   lists_mapped_failures asked steady i = lists_mapped_back _ _ (ap (map exchanged_result) (mapped_exchanged (passed_list failing_outcome) (λ c. c.1) refl (λ c k. refl) (λ x k. refl) asked) ∙ map_exchanged_twice (failures_mapped (λ c. c.1) asked))
       (lists_both_ends_passed (steps_exchanged front) (steps_exchanged back) call failing_outcome failing_never_ends (map exchanged_result asked) s f (subst (λ (c : List (D × E)). Steady call f c) (sym (items_listed_exchanged asked)) steady)
-      (subst (λ (k : List (Result D X)). ListsBothEnds (steps_exchanged front) (steps_exchanged back) s k) (sym (mapped_exchanged source_list (λ c. c.0) refl (λ c k. refl) (λ x k. refl) asked)) (lists_both_ends_exchanged front back s (failures_mapped (λ c. c.0) asked) i)))
+      (subst (λ (k : List (Result D X)). ListsBothEnds (steps_exchanged front) (steps_exchanged back) s k) (sym (mapped_exchanged source_list (λ c. c.0) refl (λ c k. refl) (λ x k. refl) asked)) (lists_both_ends_of_exchanged_results front back s (failures_mapped (λ c. c.0) asked) i)))
 
   -- the same, where it acts as a function
   pub lists_mapped_function : (h : D → E) → Acts call f h → (l : List (Result X D)) → ListsBothEnds front back s l → ListsMapped (failures_mapped h l)
-  lists_mapped_function h acts l i = lists_mapped_back _ _ (mapped_back h l) (lists_both_ends_by_function call failing_outcome failing_never_ends f h acts (steps_exchanged front) (steps_exchanged back) s (map exchanged_result l) (lists_both_ends_exchanged front back s l i))
+  lists_mapped_function h acts l i = lists_mapped_back _ _ (mapped_back h l) (lists_both_ends_by_function call failing_outcome failing_never_ends f h acts (steps_exchanged front) (steps_exchanged back) s (map exchanged_result l) (lists_both_ends_of_exchanged_results front back s l i))

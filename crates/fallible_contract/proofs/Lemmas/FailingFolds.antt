@@ -92,8 +92,8 @@ module _ {S F X D E : Type 0} {m : Contract S X D} (l : Lawful m) (call : F → 
   takes_failure_at_last [] (Err d) s t f can ran = can.1.at f d reaches_reflexive ((l.kept_by_draw s (Err d) ran.0 can.0 ran.1).answer.0)
   takes_failure_at_last (x ∷ items) last s t f can ran = let a = l.kept_by_draw s (item x) ran.0 can.0 ran.1 in takes_failure_at_last items last ran.0 t f (a.can_next, is_callable_after a.may_fail reaches_reflexive can.1) ran.2
 
-  pub takes_failure_drawn : {s t : S} {f : F} → m.can_next s × IsCallable call takes (m.may_fail s) f → (drawn : Answered X D) → m.steps s drawn t → TakesFailure takes f drawn
-  takes_failure_drawn {s = s} {t = t} {f = f} can drawn step = takes_failure_at_last [] drawn s t f can (t, step, refl)
+  pub closure_takes_drawn_failure : {s t : S} {f : F} → m.can_next s × IsCallable call takes (m.may_fail s) f → (drawn : Answered X D) → m.steps s drawn t → TakesFailure takes f drawn
+  closure_takes_drawn_failure {s = s} {t = t} {f = f} can drawn step = takes_failure_at_last [] drawn s t f can (t, step, refl)
 
   pub takes_failure_made : {C : Type 0} {came : Result C D → List X → Answered X D → Type 0} {becomes : Result C E → List X → Answered X E → Type 0} {s t : S} {f : F} {made : Result C D} → FailsLast came becomes → m.can_next s × IsCallable call takes (m.may_fail s) f → Drained m.steps (came made) s t → TakesFailure takes f made
   takes_failure_made {s = s} {t = t} {f = f} {made = made} fails can w = takes_failure_of_made takes fails w.items w.last made f w.at (takes_failure_at_last w.items w.last s t f can w.ran)

@@ -68,12 +68,12 @@ module _ {S P A E : Type 0} (Q : P → Type 0) (steps : P → Answered A E → P
   pub drained_while : {came : List A → Answered A E → Type 0} {p q : P} → Q p → Drained steps came p q → Drained held came (into p) (into q)
   drained_while {p = p} {q = q} at w = record { items = w.items; last = w.last; ran = run_held_while w.items w.last p q at w.ran; at = w.at }
 
-  yields_while : (items : List A) (p q : P) → Q p → Yields steps p items q → Yields held (into p) items (into q) × Q q
-  yields_while [] p q at e = (ap into e, subst Q e at)
-  yields_while (x ∷ items) p q at w = let rest = yields_while items w.0 q (keeps_on p x w.0 at w.1) w.2 in ((into w.0, holds p (item x) w.0 at w.1, rest.0), rest.1)
+  yields_into_while : (items : List A) (p q : P) → Q p → Yields steps p items q → Yields held (into p) items (into q) × Q q
+  yields_into_while [] p q at e = (ap into e, subst Q e at)
+  yields_into_while (x ∷ items) p q at w = let rest = yields_into_while items w.0 q (keeps_on p x w.0 at w.1) w.2 in ((into w.0, holds p (item x) w.0 at w.1, rest.0), rest.1)
 
   pub holds_each_turn_while : {C : Type 0} {goes : C → A → C → Type 0} {T : C → A → Type 0} {p : P} {c : C} → Q p → HoldsAtEachTurn held goes T (into p) c → HoldsAtEachTurn steps goes T p c
-  holds_each_turn_while {p = p} at h = record { at = λ items q u d x ran went step. let y = yields_while items p q at ran in h.at items (into q) (into u) d x y.0 went (holds q (item x) u y.1 step) }
+  holds_each_turn_while {p = p} at h = record { at = λ items q u d x ran went step. let y = yields_into_while items p q at ran in h.at items (into q) (into u) d x y.0 went (holds q (item x) u y.1 step) }
 
 -- ---- an adapter's fold through its source's
 

@@ -138,14 +138,14 @@ module _ {A E F K : Type 0} {cmp : K → K → Ordering} (o : IsTotalOrder cmp) 
 -- ---- over a list
 
 module _ {A E F : Type 0} (keeps : Ordering) (call : F → A → A → Result Ordering E → F → Type 0) {f : F} (h : A → A → Result Ordering E) (acts : ActsWith call f h) where
-  acts_with_pick : ActsWith (PickCall keeps call) f (pick_of keeps h)
-  acts_with_pick None x r g c = (c.1, c.0)
-  acts_with_pick (Some best) x (Ok b) g c = let a = acts best x (Ok c.0) g c.1 in (a.0, ap (λ z. Ok z) c.2 ∙ ap (λ (w : Result Ordering E). on_value w (λ o. Ok (Some (better keeps o best x)))) a.1)
-  acts_with_pick (Some best) x (Err e) g c = let a = acts best x (Err e) g c in (a.0, ap (λ (w : Result Ordering E). on_value w (λ o. Ok (Some (better keeps o best x)))) a.1)
+  pick_call_acts_as_pick_of : ActsWith (PickCall keeps call) f (pick_of keeps h)
+  pick_call_acts_as_pick_of None x r g c = (c.1, c.0)
+  pick_call_acts_as_pick_of (Some best) x (Ok b) g c = let a = acts best x (Ok c.0) g c.1 in (a.0, ap (λ z. Ok z) c.2 ∙ ap (λ (w : Result Ordering E). on_value w (λ o. Ok (Some (better keeps o best x)))) a.1)
+  pick_call_acts_as_pick_of (Some best) x (Err e) g c = let a = acts best x (Err e) g c in (a.0, ap (λ (w : Result Ordering E). on_value w (λ o. Ok (Some (better keeps o best x)))) a.1)
 
   pub best_by_of_lists : {S : Type 0} {steps : S → Answered A E → S → Type 0} {from : E → E → Type 0} {s t : S} {r : Result (Option A) E} → ((e d : E) → from e d → d ≡ e) → (l : List (Result A E)) → FoldDrains steps (PickCall keeps call) from s None f r t → Lists steps s l → r ≡ best_by keeps h l
   unfolding best_by
-  best_by_of_lists {from = from} same l c i = folded_of_lists (PickCall keeps call) from (λ e. e) (pick_of keeps h) f acts_with_pick same l c i
+  best_by_of_lists {from = from} same l c i = folded_of_lists (PickCall keeps call) from (λ e. e) (pick_of keeps h) f pick_call_acts_as_pick_of same l c i
 
 module _ {A E F K : Type 0} (keeps : Ordering) (cmp : K → K → Ordering) (call : F → A → Result K E → F → Type 0) {f : F} (h : A → Result K E) (acts : Acts call f h) where
   acts_with_key : ActsWith (KeyCall keeps cmp call) f (key_of keeps cmp h)

@@ -141,8 +141,8 @@ module _ {S F X D V E C R : Type 0} (steps : S → Answered X D → S → Type 0
     drives_to_stop {g} {z} {r} w = drives_after (drives_to_stop_after_outcome w.0 g (outcome d w.0) z r w.1 refl w.2)
 
     -- the turn goes on
-    pub drives_on_after : {g : F} {y z : C} {r : Answered R E} {q : S × F} → FoldingTurn call outcome turns (b, f) d (Continue tt) (y, g) → DrivesOfRecovering (t, g) y r q z → DrivesOfRecovering (s, f) c r q z
-    drives_on_after {g} {y} {z} {r} {q} w rest = drives_after (drives_on_after_outcome w.0 g (outcome d w.0) y z r q w.1 refl w.2 rest)
+    pub drives_on_after_failure : {g : F} {y z : C} {r : Answered R E} {q : S × F} → FoldingTurn call outcome turns (b, f) d (Continue tt) (y, g) → DrivesOfRecovering (t, g) y r q z → DrivesOfRecovering (s, f) c r q z
+    drives_on_after_failure {g} {y} {z} {r} {q} w rest = drives_after (drives_on_after_outcome w.0 g (outcome d w.0) y z r q w.1 refl w.2 rest)
 
     pub holds_each_turn_past_turn : {P : C → X → Type 0} {g : F} {y : C} → FoldingTurn call outcome turns (b, f) d (Continue tt) (y, g) → HoldsAtEachTurn StepOfRecovering (goes_on turns) P (s, f) c → HoldsAtEachTurn StepOfRecovering (goes_on turns) P (t, g) y
     holds_each_turn_past_turn {P} {g} {y} w h = holds_each_turn_after_outcome P w.0 g (outcome d w.0) y w.1 refl w.2 (holds_each_turn_before h)

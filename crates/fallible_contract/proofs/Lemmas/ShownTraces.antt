@@ -20,8 +20,8 @@ is_answers_one_more {s = s} {t = t} {u = u} {n = n} {r = r} p step = record {
 
 -- draws from both ends
 
-pub is_answers_at_one_more : {S A E : Type 0} {front back : S → Answered A E → S → Type 0} {s t u : S} {sides : List Side} {values : List (Answer A E)} (side : Side) (r : Answered A E) → IsAnswersAt front back s sides values t → step_at front back side t r u → IsAnswersAt front back s (sides ++ side ∷ []) (values ++ answer_of r ∷ []) u
-is_answers_at_one_more {s = s} {t = t} {u = u} side r p step = record {
+pub is_answers_at_one_draw_more : {S A E : Type 0} {front back : S → Answered A E → S → Type 0} {s t u : S} {sides : List Side} {values : List (Answer A E)} (side : Side) (r : Answered A E) → IsAnswersAt front back s sides values t → step_at front back side t r u → IsAnswersAt front back s (sides ++ side ∷ []) (values ++ answer_of r ∷ []) u
+is_answers_at_one_draw_more {s = s} {t = t} {u = u} side r p step = record {
   pairs = p.pairs ++ (side, r) ∷ [];
   ran = folds_to_in_turn _ p.pairs ((side, r) ∷ []) s t u p.ran (u, step, refl);
   sides_are = map-append (λ d. d.0) p.pairs ((side, r) ∷ []) ∙ ap (λ l. l ++ side ∷ []) p.sides_are;

@@ -13,9 +13,9 @@ module _ {S A E : Type 0} (steps : S → Answered A E → S → Type 0) where
   abbrev step_through : MutBor S → Answered A E → MutBor S → Type 0
   step_through s r t = steps s.now r t.now × (t.ghost_name ≡ s.ghost_name)
 
-  pub run_through : (trace : List (Answered A E)) (s t : MutBor S) → Run step_through s trace t → Run steps s.now trace t.now
-  run_through [] s t e = ap (λ (u : MutBor S). u.now) e
-  run_through (r ∷ rest) s t h = (h.0.now, h.1.0, run_through rest h.0 t h.2)
+  pub run_through_reference : (trace : List (Answered A E)) (s t : MutBor S) → Run step_through s trace t → Run steps s.now trace t.now
+  run_through_reference [] s t e = ap (λ (u : MutBor S). u.now) e
+  run_through_reference (r ∷ rest) s t h = (h.0.now, h.1.0, run_through_reference rest h.0 t h.2)
 
   pub run_of_borrow : (trace : List (Answered A E)) (s : MutBor S) (x : S) → Run steps s.now trace x → Run step_through s trace (record s { now = x })
   run_of_borrow [] s x e = ap (λ (y : S). record s { now = y }) e

@@ -33,8 +33,8 @@ module _ {V P A E : Type 0} (parts : V → P) (make : P → V) (made : (s : V) �
   run_at_ends_of_parts ((Back, r) ∷ rest) s t h = let e = has h.0 in (make h.0, subst (λ (p : P). back (parts s) r p) (sym e) h.1, run_at_ends_of_parts rest (make h.0) t (subst (λ (p : P). RunAtEnds front back p rest (parts t)) (sym e) h.2))
 
   -- they are draws of the parts
-  pub run_at_ends_mixed_held : (s : V) (drawn : List (Side × Answered A E)) (t : V) → RunAtEnds seen_front seen_back s drawn t ↔ RunAtEnds front back (parts s) drawn (parts t)
-  run_at_ends_mixed_held s drawn t = (run_at_ends_to_parts drawn s t, run_at_ends_of_parts drawn s t)
+  pub run_at_ends_same_on_parts : (s : V) (drawn : List (Side × Answered A E)) (t : V) → RunAtEnds seen_front seen_back s drawn t ↔ RunAtEnds front back (parts s) drawn (parts t)
+  run_at_ends_same_on_parts s drawn t = (run_at_ends_to_parts drawn s t, run_at_ends_of_parts drawn s t)
 
 -- ---- what one draw takes
 

@@ -14,7 +14,7 @@ use Rattle.fallible_core.specs.Filtering.Filter.{filter_parts, filter_contract}
 use Rattle.fallible_core.specs.Joining.Chain.{chain_step, chain_contract, chain_parts}
 use Rattle.fallible_core.specs.Joining.Zip.{ZipPlace, left_failed, both_drawn, left_answer, right_step, zip_answer, zip_contract, zip_parts, zipped}
 use Rattle.fallible_contract.proofs.Lemmas.Lists.Rest.{nth_of_0_of_lists, lists_rest_first}
-use Rattle.fallible_core.proofs.Lemmas.Borrowed.{run_through, lists_borrowed}
+use Rattle.fallible_core.proofs.Lemmas.Borrowed.{run_through_reference, lists_borrowed}
 use Rattle.fallible_core.proofs.Lemmas.Callers.{TakenRun, filtered_run, taken_run}
 use Rattle.fallible_core.specs.declared.cutting.take.Take.{Take}
 use Rattle.fallible_core.specs.declared.filtering.filter.Filter.{Filter}
@@ -60,15 +60,15 @@ module _ {A E : Type 0} where
 
 module _ {S A E : Type 0} (m : Contract S A E) where
   run_of_lender : (xs : List A) (k : ℕ) (s t : MutBor S) → TakenRun (borrowed m).steps (suc k) s xs end t → (Run m.steps s.now (map item xs ++ end ∷ []) t.now × (length xs < suc k)) ⊎ (Run m.steps s.now (map item xs) t.now × (length xs ≡ suc k))
-  run_of_lender xs k s t (inl d) = inl (run_through m.steps (map item xs ++ end ∷ []) s t d.0, d.1)
-  run_of_lender xs k s t (inr d) = inr (run_through m.steps (map item xs) s t d.0, d.2)
+  run_of_lender xs k s t (inl d) = inl (run_through_reference m.steps (map item xs ++ end ∷ []) s t d.0, d.1)
+  run_of_lender xs k s t (inr d) = inr (run_through_reference m.steps (map item xs) s t d.0, d.2)
 
 module _ {S A E : Type 0} (m : Contract S A E) (k : ℕ) (l : List (Result A E)) (it t : MutBor S) (xs : List A) where
   -- what an `nth` of k leaves, that came to an item
   always_gives_rest_nth_after_item : (o : Option A) → NthExit {A = A} {E = E} k (length xs) (Ok o) → ¬ (nth_of k l ≡ Ok None) → AlwaysGives m.steps it.now l → TakenRun (borrowed m).steps (suc k) it xs (Ok o) t → AlwaysGives m.steps t.now (rest_nth k l)
-  always_gives_rest_nth_after_item (Some y) exit no_end a (inl d) = always_gives_rest_nth_of_run m.steps (xs ++ y ∷ []) k l it.now t.now (length_one_more xs y k exit) a (subst (λ (z : List (Answered A E)). Run m.steps it.now z t.now) (map_item_last xs y) (run_through m.steps (map item xs ++ Ok (Some y) ∷ []) it t d.0))
+  always_gives_rest_nth_after_item (Some y) exit no_end a (inl d) = always_gives_rest_nth_of_run m.steps (xs ++ y ∷ []) k l it.now t.now (length_one_more xs y k exit) a (subst (λ (z : List (Answered A E)). Run m.steps it.now z t.now) (map_item_last xs y) (run_through_reference m.steps (map item xs ++ Ok (Some y) ∷ []) it t d.0))
   always_gives_rest_nth_after_item (Some y) exit no_end a (inr d) = absurd (let h = d.1 in cc)
-  always_gives_rest_nth_after_item None exit no_end a (inl d) = absurd (no_end (nth_of_is_none m.steps xs k l it.now t.now d.1 a (run_through m.steps (map item xs ++ end ∷ []) it t d.0)))
+  always_gives_rest_nth_after_item None exit no_end a (inl d) = absurd (no_end (nth_of_is_none m.steps xs k l it.now t.now d.1 a (run_through_reference m.steps (map item xs ++ end ∷ []) it t d.0)))
   always_gives_rest_nth_after_item None exit no_end a (inr d) = absurd (let all = d.2 in omega (arith, all, exit))
 
 pub last_is_end : {A B E E' F : Type 0} (call : F → B → A → Result B E' → F → Type 0) (from : E → E' → Type 0) (b : B) (f : F) (last : Answered A E) (v : B) → FoldExit call from b f last (Ok v) → last ≡ end

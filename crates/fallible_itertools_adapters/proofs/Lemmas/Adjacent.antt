@@ -23,13 +23,13 @@ module _ {A E : Type 0} (P : A → A → Type 0) where
   of_next x y (Ok z ∷ l) after e h = let same : y ≡ z = cc in rw same h
   of_next x y (Err d ∷ l) after e h = absurd cc
 
-  pub adjacent_of_next : (l : List (Result A E)) → EachNext l → AdjacentItems P l
-  adjacent_of_next [] h [] x y after e = absurd cc
-  adjacent_of_next [] h (z ∷ before) x y after e = absurd cc
-  adjacent_of_next (Ok w ∷ l) h [] x y after e = let same : x ≡ w = cc in let rest : l ≡ Ok y ∷ after = cc in rw same (of_next w y l after rest h.0)
-  adjacent_of_next (Ok w ∷ l) h (z ∷ before) x y after e = adjacent_of_next l h.1 before x y after cc
-  adjacent_of_next (Err d ∷ l) h [] x y after e = absurd cc
-  adjacent_of_next (Err d ∷ l) h (z ∷ before) x y after e = adjacent_of_next l h before x y after cc
+  pub adjacent_items_of_each_next : (l : List (Result A E)) → EachNext l → AdjacentItems P l
+  adjacent_items_of_each_next [] h [] x y after e = absurd cc
+  adjacent_items_of_each_next [] h (z ∷ before) x y after e = absurd cc
+  adjacent_items_of_each_next (Ok w ∷ l) h [] x y after e = let same : x ≡ w = cc in let rest : l ≡ Ok y ∷ after = cc in rw same (of_next w y l after rest h.0)
+  adjacent_items_of_each_next (Ok w ∷ l) h (z ∷ before) x y after e = adjacent_items_of_each_next l h.1 before x y after cc
+  adjacent_items_of_each_next (Err d ∷ l) h [] x y after e = absurd cc
+  adjacent_items_of_each_next (Err d ∷ l) h (z ∷ before) x y after e = adjacent_items_of_each_next l h before x y after cc
 
   rest_adjacent : (r : Result A E) (l : List (Result A E)) → AdjacentItems P (r ∷ l) → AdjacentItems P l
   rest_adjacent r l h before x y after e = h (r ∷ before) x y after (ap {B = List (Result A E)} (λ k. r ∷ k) e)

@@ -147,8 +147,8 @@ module _ {A K E : Type 0} (eq : K → K → Bool) (h : A → Result K E) where
   at_stop_full None full = absurd full
   at_stop_full (Some g) full = (g, refl)
 
-  answers_of_chunk_by : AnswersHeld {X = A} {B = K × List A} {E = E} (group_outcome eq h) (next_group eq h) FullGroup
-  answers_of_chunk_by = record {
+  answers_held_chunk_by : AnswersHeld {X = A} {B = K × List A} {E = E} (group_outcome eq h) (next_group eq h) FullGroup
+  answers_held_chunk_by = record {
     left_out = λ a x is. full_left_out a x (h x) is;
     at_stop = at_stop_full;
     no_end = λ a x is. group_outcome_by_is_no_end a (h x) is;
@@ -193,7 +193,7 @@ module _ {A K E : Type 0} (eq : K → K → Bool) (h : A → Result K E) where
   chunked_by_in_parts a e b = listed_parts (group_outcome eq h) (next_group eq h) None next_held_at_stop_none (λ a x is. group_outcome_by_is_no_end a (h x) is) (chunked_by eq h) listed_is_chunked_by a e b
 
 pub lists_up_to_refusal_chunked : {S F A K E : Type 0} {it : S} (m : Contract S A E) (from : AllocError → E → Type 0) (eq : K → K → Bool) (c : Mut F (Bor A × Unit {0}) (Result K E)) (f : F) (h : A → Result K E) → Acts (call_by_reference c) f h → (s : ChunkBy S K F A E) (l : List (Result A E)) → chunk_by_parts s ≡ (it, ((f, None), None)) → Lists m.steps it l → ListsMade MadeGroup (seen_as chunk_by_parts (chunk_by_contract from eq c m)).steps from s (chunked_by eq h l)
-lists_up_to_refusal_chunked {it = it} m from eq c f h acts s l parts i = lists_made_seen MadeGroup from chunk_by_parts (chunk_by_contract from eq c m).steps s _ _ _ parts (listed_is_chunked_by eq h l) (gives_held_made m.steps (chunk_by_asks from eq c) MadeGroup from (HeldAndState from eq c f h acts) (group_outcome eq h) (next_group eq h) (refuses_on_item from eq c f h acts) (at_on_stop from eq c f h acts) FullGroup (answers_of_chunk_by eq h) (made_at_stop from eq c) l it (f, None) None (refl, tt) i.runs)
+lists_up_to_refusal_chunked {it = it} m from eq c f h acts s l parts i = lists_made_seen MadeGroup from chunk_by_parts (chunk_by_contract from eq c m).steps s _ _ _ parts (listed_is_chunked_by eq h l) (gives_held_made m.steps (chunk_by_asks from eq c) MadeGroup from (HeldAndState from eq c f h acts) (group_outcome eq h) (next_group eq h) (refuses_on_item from eq c f h acts) (at_on_stop from eq c f h acts) FullGroup (answers_held_chunk_by eq h) (made_at_stop from eq c) l it (f, None) None (refl, tt) i.runs)
 
 -- ---- its hint
 

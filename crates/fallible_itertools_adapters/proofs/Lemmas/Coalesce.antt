@@ -9,7 +9,7 @@ use Rattle.fallible_iterator.proofs.Lemmas.Lists.Passing.{lists_seen}
 use Rattle.fallible_itertools_adapters.specs.Adjacent.{AdjacentItems}
 use Rattle.fallible_itertools_adapters.specs.Coalesce.{KeepsApart, OneOrBoth, coalesced_by, coalesce_asks, coalesced_at, coalesce_contract, coalesce_parts, coalesced, coalesced_from}
 use Rattle.fallible_itertools_adapters.specs.Holding.{held_beside, held_one}
-use Rattle.fallible_itertools_adapters.proofs.Lemmas.Adjacent.{EachNext, HoldsOfNext, adjacent_of_next}
+use Rattle.fallible_itertools_adapters.proofs.Lemmas.Adjacent.{EachNext, HoldsOfNext, adjacent_items_of_each_next}
 use Rattle.fallible_itertools_adapters.proofs.Lemmas.HoldingHints.{GivesHeld}
 use Rattle.fallible_itertools_adapters.proofs.Lemmas.HoldingLists.{by_outcome, held_list, listed_parts, gives_held_list}
 use Rattle.fallible_iterator.specs.Outcome.{Outcome}
@@ -122,24 +122,24 @@ module _ {A E : Type 0} (h : A → A → OneOrBoth A E) (keeps : KeepsApart h) w
   both_apart : (y x : A) (both : A × A) → h y x ≡ Ok (Err both) → Apart both.0 both.1
   both_apart y x both is = let same : both ≡ (y, x) = keeps.as_they_are y x both is in subst (λ (p : A × A). h p.0 p.1 ≡ Ok (Err (p.0, p.1))) (sym same) (subst (λ (p : A × A). h y x ≡ Ok (Err p)) same is)
 
-  each_next_differs_by_result : (y x : A) (v : OneOrBoth A E) (l : List (Result A E)) → h y x ≡ v → ((o : Option A) → EachNext Apart (coalesced_from h o l)) → EachNext Apart (coalesced_at v (λ held. coalesced_from h held l))
-  each_next_differs_by_result y x (Ok (Ok z)) l is rest = rest (Some z)
-  each_next_differs_by_result y x (Ok (Err both)) l is rest = (next_apart both.0 both.1 l (both_apart y x both is), rest (Some both.1))
-  each_next_differs_by_result y x (Err e) l is rest = rest None
+  each_next_apart_at_result : (y x : A) (v : OneOrBoth A E) (l : List (Result A E)) → h y x ≡ v → ((o : Option A) → EachNext Apart (coalesced_from h o l)) → EachNext Apart (coalesced_at v (λ held. coalesced_from h held l))
+  each_next_apart_at_result y x (Ok (Ok z)) l is rest = rest (Some z)
+  each_next_apart_at_result y x (Ok (Err both)) l is rest = (next_apart both.0 both.1 l (both_apart y x both is), rest (Some both.1))
+  each_next_apart_at_result y x (Err e) l is rest = rest None
 
   each_next_apart : (o : Option A) (l : List (Result A E)) → EachNext Apart (coalesced_from h o l)
   unfolding coalesced_from
   each_next_apart None [] = tt
   each_next_apart (Some y) [] = (tt, tt)
   each_next_apart None (Ok x ∷ l) = each_next_apart (Some x) l
-  each_next_apart (Some y) (Ok x ∷ l) = each_next_differs_by_result y x (h y x) l refl (λ o. each_next_apart o l)
+  each_next_apart (Some y) (Ok x ∷ l) = each_next_apart_at_result y x (h y x) l refl (λ o. each_next_apart o l)
   each_next_apart None (Err e ∷ l) = each_next_apart None l
   each_next_apart (Some y) (Err e ∷ l) = (tt, each_next_apart None l)
 
   -- The closure keeps each two adjacent ones apart.
   pub adjacent_coalesced_unmerged : (l : List (Result A E)) → AdjacentItems (λ x y. h x y ≡ Ok (Err (x, y))) (coalesced h l)
   unfolding coalesced
-  adjacent_coalesced_unmerged l = adjacent_of_next Apart (coalesced_from h None l) (each_next_apart None l)
+  adjacent_coalesced_unmerged l = adjacent_items_of_each_next Apart (coalesced_from h None l) (each_next_apart None l)
 
 -- ---- its hint
 

@@ -10,7 +10,7 @@ use Rattle.fallible_iterator.proofs.Lemmas.Lists.Passing.{lists_seen}
 use Rattle.fallible_itertools_adapters.specs.Adjacent.{AdjacentItems}
 use Rattle.fallible_itertools_adapters.specs.DedupBy.{found_same, dedup_by_asks, same_before, dedup_by_contract, dedup_by_parts, deduped_by, deduped_by_from}
 use Rattle.fallible_itertools_adapters.specs.Holding.{held_beside, held_one}
-use Rattle.fallible_itertools_adapters.proofs.Lemmas.Adjacent.{EachNext, HoldsOfNext, adjacent_of_next}
+use Rattle.fallible_itertools_adapters.proofs.Lemmas.Adjacent.{EachNext, HoldsOfNext, adjacent_items_of_each_next}
 use Rattle.fallible_itertools_adapters.proofs.Lemmas.HoldingHints.{GivesHeld}
 use Rattle.fallible_itertools_adapters.proofs.Lemmas.HoldingLists.{by_outcome, held_list, listed_parts, gives_held_list}
 use Rattle.fallible_iterator.specs.Outcome.{Outcome}
@@ -95,12 +95,12 @@ module _ {A E : Type 0} (h : A → A → Result Bool E) where
     dedup_by_asks_is_function None None o q w = (w.1, w.0)
     dedup_by_asks_is_function (Some y) None o q w = (w.1, w.0)
 
-    acts : (p : Option A × F) (a x : Option A) (o : Outcome A E) (q : Option A × F) → IsBesideClosure p a → dedup_by_asks call p x o q → IsBesideClosure q (held_after_dedup_by a x) × (o ≡ dedup_by_outcome a x)
-    acts p a x o q at w = dedup_by_asks_is_function a x o q (subst (λ k. dedup_by_asks call k x o q) at w)
+    acts_by_held : (p : Option A × F) (a x : Option A) (o : Outcome A E) (q : Option A × F) → IsBesideClosure p a → dedup_by_asks call p x o q → IsBesideClosure q (held_after_dedup_by a x) × (o ≡ dedup_by_outcome a x)
+    acts_by_held p a x o q at w = dedup_by_asks_is_function a x o q (subst (λ k. dedup_by_asks call k x o q) at w)
 
 pub lists_deduped_by : {S A F E : Type 0} {it : S} (m : Contract S A E) (g : Mut F (Bor A × (Bor A × Unit {0})) (Result Bool E)) (s : DedupBy S F A E) (f : F) (h : A → A → Result Bool E) (l : List (Result A E)) → dedup_by_parts s ≡ (it, ((None, f), None)) → ActsWith (call_at_two g) f h → Lists m.steps it l
     → Lists (seen_as dedup_by_parts (dedup_by_contract m g)).steps s (deduped_by h l)
-lists_deduped_by {it = it} m g s f h l parts a i = lists_seen dedup_by_parts (dedup_by_contract m g).steps s parts (held_list_is_deduped_by h l) (gives_held_list m.steps (dedup_by_asks (call_at_two g)) (IsBesideClosure h (call_at_two g) f a) (dedup_by_outcome h) (held_after_dedup_by h) (acts h (call_at_two g) f a) l it (None, f) None refl i.runs)
+lists_deduped_by {it = it} m g s f h l parts a i = lists_seen dedup_by_parts (dedup_by_contract m g).steps s parts (held_list_is_deduped_by h l) (gives_held_list m.steps (dedup_by_asks (call_at_two g)) (IsBesideClosure h (call_at_two g) f a) (dedup_by_outcome h) (held_after_dedup_by h) (acts_by_held h (call_at_two g) f a) l it (None, f) None refl i.runs)
 
 -- ---- adjacent items differ
 
@@ -120,24 +120,24 @@ module _ {A E : Type 0} (h : A → A → Result Bool E) where
   next_is_held z y (Ok x ∷ l) differ = next_by_result z y x (h y x) l differ (λ k is. next_is_held z k l is)
   next_is_held z y (Err e ∷ l) differ = differ
 
-  each_next_differs_by_result : (y x : A) (v : Result Bool E) (l : List (Result A E)) → h y x ≡ v → ((o : Option A) → EachNext FoundToDiffer (deduped_by_from h o l)) → EachNext FoundToDiffer (same_before y x v (λ held. deduped_by_from h held l))
-  each_next_differs_by_result y x (Ok true) l is rest = rest (Some y)
-  each_next_differs_by_result y x (Ok false) l is rest = (next_is_held y x l is, rest (Some x))
-  each_next_differs_by_result y x (Err e) l is rest = (tt, rest None)
+  each_next_apart_at_result : (y x : A) (v : Result Bool E) (l : List (Result A E)) → h y x ≡ v → ((o : Option A) → EachNext FoundToDiffer (deduped_by_from h o l)) → EachNext FoundToDiffer (same_before y x v (λ held. deduped_by_from h held l))
+  each_next_apart_at_result y x (Ok true) l is rest = rest (Some y)
+  each_next_apart_at_result y x (Ok false) l is rest = (next_is_held y x l is, rest (Some x))
+  each_next_apart_at_result y x (Err e) l is rest = (tt, rest None)
 
   each_next_differs : (o : Option A) (l : List (Result A E)) → EachNext FoundToDiffer (deduped_by_from h o l)
   unfolding deduped_by_from
   each_next_differs None [] = tt
   each_next_differs (Some y) [] = (tt, tt)
   each_next_differs None (Ok x ∷ l) = each_next_differs (Some x) l
-  each_next_differs (Some y) (Ok x ∷ l) = each_next_differs_by_result y x (h y x) l refl (λ o. each_next_differs o l)
+  each_next_differs (Some y) (Ok x ∷ l) = each_next_apart_at_result y x (h y x) l refl (λ o. each_next_differs o l)
   each_next_differs None (Err e ∷ l) = each_next_differs None l
   each_next_differs (Some y) (Err e ∷ l) = (tt, each_next_differs None l)
 
   -- The closure finds no item the same as the next one.
   pub deduped_by_differ : (l : List (Result A E)) → AdjacentItems (λ x y. h x y ≡ Ok false) (deduped_by h l)
   unfolding deduped_by
-  deduped_by_differ l = adjacent_of_next FoundToDiffer (deduped_by_from h None l) (each_next_differs None l)
+  deduped_by_differ l = adjacent_items_of_each_next FoundToDiffer (deduped_by_from h None l) (each_next_differs None l)
 
 -- ---- its hint
 

@@ -36,12 +36,12 @@ module _ {A E : Type 0} (h : A → A → Result Bool E) where
     asks_is_function None None o q w = (w.1, w.0)
     asks_is_function (Some p) None o q w = (w.1, w.0)
 
-    acts : (p : Option (ℕ × A) × F) (a : Option (ℕ × A)) (x : Option A) (o : Outcome (ℕ × A) E) (q : Option (ℕ × A) × F) → IsBesideClosure p a → dedup_by_with_count_asks call p x o q → IsBesideClosure q (held_after_count h a x) × (o ≡ count_outcome h a x)
-    acts p a x o q at w = asks_is_function a x o q (subst (λ k. dedup_by_with_count_asks call k x o q) at w)
+    acts_by_held : (p : Option (ℕ × A) × F) (a : Option (ℕ × A)) (x : Option A) (o : Outcome (ℕ × A) E) (q : Option (ℕ × A) × F) → IsBesideClosure p a → dedup_by_with_count_asks call p x o q → IsBesideClosure q (held_after_count h a x) × (o ≡ count_outcome h a x)
+    acts_by_held p a x o q at w = asks_is_function a x o q (subst (λ k. dedup_by_with_count_asks call k x o q) at w)
 
 pub lists_deduped_by_with_count : {S A F E : Type 0} {it : S} (m : Contract S A E) (g : Mut F (Bor A × (Bor A × Unit {0})) (Result Bool E)) (s : DedupByWithCount S F A E) (f : F) (h : A → A → Result Bool E) (l : List (Result A E)) → dedup_by_with_count_parts s ≡ (it, ((None, f), None)) → ActsWith (call_at_two g) f h → Lists m.steps it l
     → Lists (seen_as dedup_by_with_count_parts (dedup_by_with_count_contract m g)).steps s (deduped_by_with_count h l)
-lists_deduped_by_with_count {it = it} m g s f h l parts a i = lists_seen dedup_by_with_count_parts (dedup_by_with_count_contract m g).steps s parts (held_list_is_deduped_by_with_count h l) (gives_held_list m.steps (dedup_by_with_count_asks (call_at_two g)) (IsBesideClosure h (call_at_two g) f a) (count_outcome h) (held_after_count h) (acts h (call_at_two g) f a) l it (None, f) None refl i.runs)
+lists_deduped_by_with_count {it = it} m g s f h l parts a i = lists_seen dedup_by_with_count_parts (dedup_by_with_count_contract m g).steps s parts (held_list_is_deduped_by_with_count h l) (gives_held_list m.steps (dedup_by_with_count_asks (call_at_two g)) (IsBesideClosure h (call_at_two g) f a) (count_outcome h) (held_after_count h) (acts_by_held h (call_at_two g) f a) l it (None, f) None refl i.runs)
 
 -- ---- its hint
 

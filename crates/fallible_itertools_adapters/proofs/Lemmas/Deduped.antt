@@ -6,7 +6,7 @@ use Rattle.fallible_itertools_adapters.specs.Adjacent.{AdjacentItems, HaveKeys}
 use Rattle.fallible_itertools_adapters.specs.ChunkBy.{by_its_key, chunked_by, chunked_by_from, group_or}
 use Rattle.fallible_itertools_adapters.specs.Dedup.{deduped, deduped_at, dedup_before}
 use Rattle.fallible_itertools_adapters.specs.DedupByKey.{deduped_by_key, deduped_key_from, key_at, key_before}
-use Rattle.fallible_itertools_adapters.proofs.Lemmas.Adjacent.{EachNext, HoldsOfNext, adjacent_of_next}
+use Rattle.fallible_itertools_adapters.proofs.Lemmas.Adjacent.{EachNext, HoldsOfNext, adjacent_items_of_each_next}
 
 module _ {A K : Type 0} (E : Type 0) (eq : K → K → Bool) (h : A → Result K E) where
   -- two items have keys that differ
@@ -17,15 +17,15 @@ module _ {A K : Type 0} (E : Type 0) (eq : K → K → Bool) (h : A → Result K
   next_kept z p true same other d at = at
   next_kept z p false same other d at = d
 
-  next_keyed : (z x : A) (p : K × A) (v : Result K E) (rest : Option (K × A) → List (Result A E)) → Differ z p.1 → HoldsOfNext Differ z (rest (Some p)) → HoldsOfNext Differ z (key_at eq (Some p) x v rest)
-  next_keyed z x p (Ok k) rest d at = next_kept z p (eq p.0 k) (rest (Some p)) (rest (Some (k, x))) d at
-  next_keyed z x p (Err e) rest d at = d
+  next_key_differs : (z x : A) (p : K × A) (v : Result K E) (rest : Option (K × A) → List (Result A E)) → Differ z p.1 → HoldsOfNext Differ z (rest (Some p)) → HoldsOfNext Differ z (key_at eq (Some p) x v rest)
+  next_key_differs z x p (Ok k) rest d at = next_kept z p (eq p.0 k) (rest (Some p)) (rest (Some (k, x))) d at
+  next_key_differs z x p (Err e) rest d at = d
 
   -- what is held comes first
   next_held : (z : A) (p : K × A) (l : List (Result A E)) → Differ z p.1 → HoldsOfNext Differ z (deduped_key_from eq h (Some p) l)
   unfolding deduped_key_from
   next_held z p [] d = d
-  next_held z p (Ok x ∷ l) d = next_keyed z x p (h x) (λ q. deduped_key_from eq h q l) d (next_held z p l d)
+  next_held z p (Ok x ∷ l) d = next_key_differs z x p (h x) (λ q. deduped_key_from eq h q l) d (next_held z p l d)
   next_held z p (Err e ∷ l) d = d
 
   -- what is held has its key
@@ -53,7 +53,7 @@ module _ {A K : Type 0} (E : Type 0) (eq : K → K → Bool) (h : A → Result K
 
   pub keys_differ : (l : List (Result A E)) → AdjacentItems Differ (deduped_by_key eq h l)
   unfolding deduped_by_key
-  keys_differ l = adjacent_of_next Differ (deduped_by_key eq h l) (each_from None l tt)
+  keys_differ l = adjacent_items_of_each_next Differ (deduped_by_key eq h l) (each_from None l tt)
 
 -- ---- by the item itself
 

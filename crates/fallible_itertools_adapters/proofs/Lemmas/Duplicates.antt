@@ -55,8 +55,8 @@ module _ {A E : Type 0} (S : Type 0) (eq : A → A → Bool) (equivalence : IsEq
       by_equal true e = is ∙ ap mark (ap (λ (c : ℕ). suc c) (count_alike (eq x) (eq k) (λ z. equivalence.congr x k z e) came) ∙ omega arith ∙ sym (count_cons (eq k) x came true (equivalence.symm k x ∙ e)))
       by_equal false e = has k ∙ ap mark (omega arith ∙ sym (count_cons (eq k) x came false (equivalence.symm k x ∙ e)))
 
-  abbrev Asks : HashMap A Bool S → A → Outcome A E → HashMap A Bool S → Type 0
-  Asks = duplicates_asks eq from
+  abbrev CallsOfDuplicates : HashMap A Bool S → A → Outcome A E → HashMap A Bool S → Type 0
+  CallsOfDuplicates = duplicates_asks eq from
 
   -- the outcome is an allocation failure
   abbrev IsRefused : Outcome A E → Type 0
@@ -80,20 +80,20 @@ module _ {A E : Type 0} (S : Type 0) (eq : A → A → Bool) (equivalence : IsEq
   acts_where_so_many_equal m x came (suc zero) o n has is w = inr (w.0, has_come_more m n x true came has (ap (λ (c : ℕ). mark (suc c)) is) w.1)
   acts_where_so_many_equal m x came (suc (suc c)) o n has is w = inr (w.0 ∙ sym (ap (λ (b : Bool). kept_unless (cond b false true) x) (ne_eqb (suc (suc c)) 1 (λ e. omega (arith, e)))), has_come_more m n x true came has (ap (λ (c : ℕ). mark (suc c)) is) w.1)
 
-  acts : (m : HashMap A Bool S) (x : A) (came : List A) (o : Outcome A E) (n : HashMap A Bool S) → HasCome m came → Asks m x o n → Acts x (count_by (eq x) came) came o n
+  acts : (m : HashMap A Bool S) (x : A) (came : List A) (o : Outcome A E) (n : HashMap A Bool S) → HasCome m came → CallsOfDuplicates m x o n → Acts x (count_by (eq x) came) came o n
   acts m x came o n has w = acts_where_so_many_equal m x came (count_by (eq x) came) o n has refl (subst (λ (v : Option Bool). come_by eq from m x v o n) (has x) w)
 
   -- ---- what it yields
 
   module _ {I : Type 0} (steps : I → Answered A E → I → Type 0) where
     abbrev StepsOfDuplicates : I × HashMap A Bool S → Answered A E → I × HashMap A Bool S → Type 0
-    StepsOfDuplicates = passing_step steps Asks as_answered_item
+    StepsOfDuplicates = passing_step steps CallsOfDuplicates as_answered_item
 
     abbrev Gives : I × HashMap A Bool S → List (Result A E) → Type 0
     Gives s l = GivesUnlessRefused StepsOfDuplicates from s l
 
     abbrev OneDrawn : I → HashMap A Bool S → Answered A E → I → HashMap A Bool S → Type 0
-    OneDrawn s p r t q = Passes steps Asks as_answered_item s p (r ∷ []) t q
+    OneDrawn s p r t q = Passes steps CallsOfDuplicates as_answered_item s p (r ∷ []) t q
 
     -- what is known of an answer, and of what comes then
     abbrev Told : List (Result A E) → Answered A E → I × HashMap A Bool S → Type 0
@@ -153,8 +153,8 @@ module _ {A E : Type 0} (S : Type 0) (eq : A → A → Bool) (equivalence : IsEq
     asked_item_is_no_end x came h (inr w) = kept_unless_is_no_end x (nat_eq (count_by (eq x) came) 1) w.0
 
     -- a call on the list's item
-    acts_of_asked : (came : List A) (p : HashMap A Bool S) (x z : A) (o c : Outcome A E) (q : HashMap A Bool S) → HasCome p came → z ≡ x → o ≡ c → Asks p z o q → Acts x (count_by (eq x) came) came c q
-    acts_of_asked came p x z o c q has same is w = acts p x came c q has (subst (λ (d : Outcome A E). Asks p x d q) is (subst (λ (k : A). Asks p k o q) same w))
+    acts_of_asked : (came : List A) (p : HashMap A Bool S) (x z : A) (o c : Outcome A E) (q : HashMap A Bool S) → HasCome p came → z ≡ x → o ≡ c → CallsOfDuplicates p z o q → Acts x (count_by (eq x) came) came c q
+    acts_of_asked came p x z o c q has same is w = acts p x came c q has (subst (λ (d : Outcome A E). CallsOfDuplicates p x d q) is (subst (λ (k : A). CallsOfDuplicates p k o q) same w))
 
     told_of_first_item : (x : A) (l : List (Result A E)) (came : List A) (s : I) (p : HashMap A Bool S) (r : Answered A E) (t : I) (q : HashMap A Bool S) → AlwaysGives steps s (Ok x ∷ l) → HasCome p came → After l (x ∷ came) → OneDrawn s p r t q → Told (FromItem x came l) r (t, q)
     told_of_first_item x l came s p _ t q a has later (end_passes step c) = absurd (let w = (a (Ok None) _ step).0 in cc)

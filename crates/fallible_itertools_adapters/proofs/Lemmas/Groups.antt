@@ -8,7 +8,7 @@ use Rattle.fallible_iterator.specs.BothEnds.{items_listed}
 use Rattle.fallible_itertools_adapters.specs.Adjacent.{AdjacentItems, HasKey, IsGroup}
 use Rattle.fallible_itertools_adapters.specs.ChunkBy.{by_its_key, chunked_by, chunked_by_from, group_or}
 use Rattle.fallible_itertools_adapters.specs.Chunks.{batch_or, chunked, chunked_from, short_batch}
-use Rattle.fallible_itertools_adapters.proofs.Lemmas.Adjacent.{EachNext, HoldsOfNext, adjacent_of_next}
+use Rattle.fallible_itertools_adapters.proofs.Lemmas.Adjacent.{EachNext, HoldsOfNext, adjacent_items_of_each_next}
 
 module _ {A K : Type 0} (E : Type 0) (eq : K → K → Bool) (h : A → Result K E) where
   -- what comes at an item, by its key v, where g is held
@@ -28,15 +28,15 @@ module _ {A K : Type 0} (E : Type 0) (eq : K → K → Bool) (h : A → Result K
   next_or z g true more other d at = at
   next_or z g false more other d at = d
 
-  next_keyed : (z g : K × List A) (x : A) (v : Result K E) (l : List (Result A E)) → Differ z g → ((xs : List A) → HoldsOfNext Differ z (chunked_by_from eq h (Some (g.0, xs)) l)) → HoldsOfNext Differ z (chunked_at_next_item g x v l)
-  next_keyed z g x (Ok k) l d rest = next_or z g (eq g.0 k) (chunked_by_from eq h (Some (g.0, g.1 ++ x ∷ [])) l) (chunked_by_from eq h (Some (k, x ∷ [])) l) d (rest (g.1 ++ x ∷ []))
-  next_keyed z g x (Err e) l d rest = d
+  next_key_differs : (z g : K × List A) (x : A) (v : Result K E) (l : List (Result A E)) → Differ z g → ((xs : List A) → HoldsOfNext Differ z (chunked_by_from eq h (Some (g.0, xs)) l)) → HoldsOfNext Differ z (chunked_at_next_item g x v l)
+  next_key_differs z g x (Ok k) l d rest = next_or z g (eq g.0 k) (chunked_by_from eq h (Some (g.0, g.1 ++ x ∷ [])) l) (chunked_by_from eq h (Some (k, x ∷ [])) l) d (rest (g.1 ++ x ∷ []))
+  next_key_differs z g x (Err e) l d rest = d
 
   -- a group of the key that is held comes first
   next_held : (z : K × List A) (k : K) (xs : List A) (l : List (Result A E)) → eq z.0 k ≡ false → HoldsOfNext Differ z (chunked_by_from eq h (Some (k, xs)) l)
   unfolding chunked_by_from
   next_held z k xs [] d = d
-  next_held z k xs (Ok x ∷ l) d = next_keyed z (k, xs) x (h x) l d (λ ys. next_held z k ys l d)
+  next_held z k xs (Ok x ∷ l) d = next_key_differs z (k, xs) x (h x) l d (λ ys. next_held z k ys l d)
   next_held z k xs (Err e ∷ l) d = d
 
   -- of the rest, whatever is held before it
@@ -66,7 +66,7 @@ module _ {A K : Type 0} (E : Type 0) (eq : K → K → Bool) (h : A → Result K
 
   pub groups_differ : (l : List (Result A E)) → AdjacentItems Differ (chunked_by eq h l)
   unfolding chunked_by
-  groups_differ l = adjacent_of_next Differ (chunked_by eq h l) (each_from None l)
+  groups_differ l = adjacent_items_of_each_next Differ (chunked_by eq h l) (each_from None l)
 
   -- ---- what is in a group
 
@@ -92,9 +92,9 @@ module _ {A K : Type 0} (E : Type 0) (eq : K → K → Bool) (h : A → Result K
   groups_or g true more other is at_more at_other = at_more refl
   groups_or g false more other is at_more at_other = (is, at_other)
 
-  groups_begun : (x : A) (v : Result K E) (l : List (Result A E)) → h x ≡ v → GroupsOf l → Groups (chunked_at_first_item x v l)
-  groups_begun x (Ok k) l is rest = rest (Some (k, x ∷ [])) (alone k x is)
-  groups_begun x (Err e) l is rest = rest None tt
+  groups_at_first_item : (x : A) (v : Result K E) (l : List (Result A E)) → h x ≡ v → GroupsOf l → Groups (chunked_at_first_item x v l)
+  groups_at_first_item x (Ok k) l is rest = rest (Some (k, x ∷ [])) (alone k x is)
+  groups_at_first_item x (Err e) l is rest = rest None tt
 
   groups_keyed : (g : K × List A) (x : A) (v : Result K E) (l : List (Result A E)) → IsGroup eq h g → h x ≡ v → GroupsOf l → Groups (chunked_at_next_item g x v l)
   groups_keyed g x (Ok k) l held is rest = groups_or g (eq g.0 k) (chunked_by_from eq h (Some (g.0, g.1 ++ x ∷ [])) l) (chunked_by_from eq h (Some (k, x ∷ [])) l) held (λ same. rest (Some (g.0, g.1 ++ x ∷ [])) (grown g.0 g.1 x held (k, is, same))) (rest (Some (k, x ∷ [])) (alone k x is))
@@ -104,7 +104,7 @@ module _ {A K : Type 0} (E : Type 0) (eq : K → K → Bool) (h : A → Result K
   unfolding chunked_by_from
   groups_from None [] held = tt
   groups_from (Some g) [] held = (held, tt)
-  groups_from None (Ok x ∷ l) held = groups_begun x (h x) l refl (λ a k. groups_from a l k)
+  groups_from None (Ok x ∷ l) held = groups_at_first_item x (h x) l refl (λ a k. groups_from a l k)
   groups_from (Some g) (Ok x ∷ l) held = groups_keyed g x (h x) l held refl (λ a k. groups_from a l k)
   groups_from None (Err e ∷ l) held = groups_from None l tt
   groups_from (Some g) (Err e ∷ l) held = (held, groups_from None l tt)
@@ -182,4 +182,4 @@ module _ {A : Type 0} (E : Type 0) (n : ℕ) where
 
   pub chunked_full : (l : List (Result A E)) → 0 < n → AdjacentItems IsFullBefore (chunked n l)
   unfolding chunked
-  chunked_full l some = adjacent_of_next IsFullBefore (chunked n l) (full_from [] l some some)
+  chunked_full l some = adjacent_items_of_each_next IsFullBefore (chunked n l) (full_from [] l some some)

@@ -27,17 +27,17 @@ module _ {P X B E : Type 0} (asks : P → Option X → Outcome B E → P → Typ
     pub kept_at_end : (p : P) (y : B) (q : P) → asks p None (Kept y) q → Few p 0 1
     pub none_at_end : (p q : P) → asks p None End q → Few p 0 0
 
-  few_at_failure : (e : E) (o : Outcome B E) (m : Made B (Option E) E) (after before : ℕ → Type 0) → StopMade (Some e) o (made_answers m) → MadeFew stop_comes m after before
-  few_at_failure e (Kept y) m after before is = rw (made_is_known_by_answers m (item y) (Some (Some e)) is) tt
-  few_at_failure e LeftOut m after before is = absurd is
-  few_at_failure e (Failure d) m after before is = rw (made_is_known_by_answers m (failure d) (Some (Some e)) is) tt
-  few_at_failure e End m after before is = rw (made_is_known_by_answers m (failure e) None is) tt
+  made_few_at_failure : (e : E) (o : Outcome B E) (m : Made B (Option E) E) (after before : ℕ → Type 0) → StopMade (Some e) o (made_answers m) → MadeFew stop_comes m after before
+  made_few_at_failure e (Kept y) m after before is = rw (made_is_known_by_answers m (item y) (Some (Some e)) is) tt
+  made_few_at_failure e LeftOut m after before is = absurd is
+  made_few_at_failure e (Failure d) m after before is = rw (made_is_known_by_answers m (failure d) (Some (Some e)) is) tt
+  made_few_at_failure e End m after before is = rw (made_is_known_by_answers m (failure e) None is) tt
 
   module _ (held : P → ℕ) (holds : Holds asks held) (Few : P → ℕ → ℕ → Type 0) (few : KeepsFew Few) where
     few_at_item : (p : P) (x : X) (m : Made B (Option E) E) (q : P) (low : ℕ) (o : Outcome B E) (h : P) → asks p (Some x) o h → MadeOfItem asks o h (made_answers m) q → MadeFew stop_comes m (λ n. Few q (low - 1) n) (λ n. Few p low n)
     few_at_item p x m q low (Kept y) h asked is = rw (made_is_known_by_answers m (item y) None is.0) (λ n after. few.kept p x y q low n (subst (λ g. asks p (Some x) (Kept y) g) (sym is.1) asked) after)
     few_at_item p x m q low LeftOut h asked is = rw (nothing_made m is.0) (λ n after. few.left_out p x q low n (subst (λ g. asks p (Some x) LeftOut g) (sym is.1) asked) after)
-    few_at_item p x m q low (Failure e) h asked is = few_at_failure e is.0 m _ _ is.2
+    few_at_item p x m q low (Failure e) h asked is = made_few_at_failure e is.0 m _ _ is.2
     few_at_item p x m q low End h asked is = absurd (holds p (Some x) End h asked)
 
     few_at_end : (p : P) (m : Made B (Option E) E) (q : P) (o : Outcome B E) → asks p None o q → StopMade None o (made_answers m) → MadeFew stop_comes m (λ n. Few q 0 n) (λ n. Few p 0 n)
@@ -50,7 +50,7 @@ module _ {P X B E : Type 0} (asks : P → Option X → Outcome B E → P → Typ
     makes_no_fewer = record {
       at_item = λ p x m q low w. few_at_item p x m q low w.0 w.1 w.2 w.3;
       at_end = λ p m q w. few_at_end p m q w.0 w.1 w.2;
-      at_failure = λ p e m q low w. few_at_failure e w.0 m _ _ w.2;
+      at_failure = λ p e m q low w. made_few_at_failure e w.0 m _ _ w.2;
     }
 
 -- ---- where a stop is due

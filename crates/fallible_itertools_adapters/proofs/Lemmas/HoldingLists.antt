@@ -7,7 +7,7 @@ use Rattle.fallible_iterator.specs.Making.{AtRefusal, GivesMade, IsRefusal}
 use Rattle.fallible_itertools_adapters.specs.Staging.{Made, made_before, one_made, stage_step, stop_answer}
 use Rattle.fallible_itertools_adapters.specs.Holding.{MadeOfItem, MadeOfStop, StopMade, holding_meets, holding_step, made_answers, stop_comes}
 use Rattle.fallible_itertools_adapters.specs.Laws.Holding.{made_is_known_by_answers, nothing_made, stage_of_holding}
-use Rattle.fallible_itertools_adapters.proofs.Lemmas.StagingLists.{EndMade, GivesUpTo, IsAnswerMade, IsMadeAs, RefusedAt, always_gives_within, gives_made_within, gives_staged, made_first, staged}
+use Rattle.fallible_itertools_adapters.proofs.Lemmas.StagingLists.{EndMade, GivesUpTo, IsAnswerMade, IsMadeAs, RefusedAt, always_gives_within, gives_made_within, gives_staged_up_to_refusal, made_first, staged}
 use Rattle.std.specs.declared.alloc.AllocError.{AllocError}
 use Rattle.fallible_iterator.specs.Outcome.{Outcome}
 use Rattle.fallible_iterator.specs.Outcome.TheVariants.{Kept, LeftOut, Failure, End}
@@ -153,7 +153,7 @@ module _ {S P Q X Y B E : Type 0} (steps : S → Answered X E → S → Type 0) 
     end_made End = inl refl
 
     gives_held : (l : List (Result X E)) (s : S) (p : P) (a : Q) → At p a → AlwaysGives steps s l → GivesUpTo steps stop_comes (holding_meets asks) made Refuses (s, (p, None)) (held_list does next a l)
-    gives_held = gives_staged steps stop_comes (holding_meets asks) made Refuses stop_comes At (held_does does next) stop_answer_is_made acts (λ p q a m at w. (end_made (does a None), (acts_at_stop None p q a m at w).1)) never_nil
+    gives_held = gives_staged_up_to_refusal steps stop_comes (holding_meets asks) made Refuses stop_comes At (held_does does next) stop_answer_is_made acts (λ p q a m at w. (end_made (does a None), (acts_at_stop None p q a m at w).1)) never_nil
 
 -- ---- plain
 

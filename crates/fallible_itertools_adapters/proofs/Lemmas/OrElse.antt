@@ -14,7 +14,7 @@ use Rattle.fallible_iterator.specs.Outcome.TheVariants.{End}
 use Rattle.fallible_iterator.specs.Passing.{passing_step}
 use Rattle.fallible_iterator.specs.Traces.{Answered}
 use Rattle.fallible_iterator.proofs.Lemmas.BothEnds.Passing.{lists_both_ends_by_function}
-use Rattle.fallible_iterator.proofs.Lemmas.Exchange.{always_gives_exchanged, lists_both_ends_exchanged}
+use Rattle.fallible_iterator.proofs.Lemmas.Exchange.{always_gives_exchanged, lists_both_ends_of_exchanged_results}
 use Rattle.fallible_iterator.proofs.Lemmas.Lists.Passing.{passed, by_outcome, lists_seen, always_gives_passed}
 use Rattle.fallible_itertools_adapters.specs.OrElse.{or_else_contract, or_else_outcome, or_else_parts, recovered}
 use Rattle.fallible_itertools_adapters.specs.declared.or_else.OrElse.{OrElse}
@@ -49,5 +49,5 @@ failure_outcome_never_ends d (Err x) e = absurd cc
 -- from both ends
 pub lists_both_ends_recovered : {S F X D E : Type 0} (front back : S → Answered X D → S → Type 0) (g : Mut F (D × Unit {0}) (Result (Option X) E)) (s : S) (f : F) (h : D → Result (Option X) E) → Acts (call_by_value g) f h → (l : List (Result X D)) → ListsBothEnds front back s l
     → ListsBothEnds (recovering_step front (call_by_value g) or_else_outcome) (recovering_step back (call_by_value g) or_else_outcome) (s, f) (map exchanged_result (passed failure_outcome (λ (p : Unit {0}) d. h d) (λ p d. p) tt (map exchanged_result l)))
-lists_both_ends_recovered front back g s f h acts l i = lists_both_ends_exchanged (passing_step (steps_exchanged front) (call_by_value g) failure_outcome) (passing_step (steps_exchanged back) (call_by_value g) failure_outcome) (s, f) _
-    (lists_both_ends_by_function (call_by_value g) failure_outcome failure_outcome_never_ends f h acts (steps_exchanged front) (steps_exchanged back) s (map exchanged_result l) (lists_both_ends_exchanged front back s l i))
+lists_both_ends_recovered front back g s f h acts l i = lists_both_ends_of_exchanged_results (passing_step (steps_exchanged front) (call_by_value g) failure_outcome) (passing_step (steps_exchanged back) (call_by_value g) failure_outcome) (s, f) _
+    (lists_both_ends_by_function (call_by_value g) failure_outcome failure_outcome_never_ends f h acts (steps_exchanged front) (steps_exchanged back) s (map exchanged_result l) (lists_both_ends_of_exchanged_results front back s l i))

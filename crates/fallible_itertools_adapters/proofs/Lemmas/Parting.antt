@@ -6,7 +6,7 @@ use Rattle.fallible_iterator.specs.Lists.{AlwaysGives, result_answer}
 use Rattle.fallible_itertools_adapters.specs.Staging.{Made, made_before, one_made}
 use Rattle.fallible_itertools_adapters.specs.Parting.{each_after_made, interspersed_by, item_comes, parting_meets, parting_stage, parting_step}
 use Rattle.fallible_itertools_adapters.specs.Laws.Parting.{stage_of_step}
-use Rattle.fallible_itertools_adapters.proofs.Lemmas.StagingLists.{IsAnswerMade, IsMadeAs, always_gives_within, before_rest, gives_staged, staged}
+use Rattle.fallible_itertools_adapters.proofs.Lemmas.StagingLists.{IsAnswerMade, IsMadeAs, always_gives_within, before_rest, gives_staged_up_to_refusal, staged}
 
 module _ {A E : Type 0} where
   -- what is made where the separators to come are h, by whether an item came
@@ -53,4 +53,4 @@ module _ {Z A E : Type 0} (separates : Z → Result A E → Z → Type 0) (at : 
   acts k j a x m is w = acts_started k.0 a.0 a.1 j x m is.0 (subst (λ b. parting_meets separates (k.0, b) x m j) is.1 w)
 
   pub always_gives_first : {S : Type 0} (steps : S → Answered A E → S → Type 0) (l : List (Result A E)) (s : S) (z : Z) (h : ℕ → Result A E) → at z h → AlwaysGives steps s l → AlwaysGives (parting_step separates steps) (s, (z, (false, None))) (interspersed_by h l)
-  always_gives_first steps l s z h is g = subst (λ k. AlwaysGives (parting_step separates steps) (s, (z, (false, None))) k) (staged_first h l) (always_gives_within parting_stage steps item_comes (parting_meets separates) (parting_step separates steps) (stage_of_step separates steps) _ (s, (z, (false, None))) (gives_staged steps item_comes (parting_meets separates) (λ z x. x ≡ z) (λ r t. ⊥) item_comes AtSeparators parting_does (λ later. refl) (λ p q a y m at w. inr (acts p q a (result_answer y) m at w)) (λ p q a m at w. (inl refl, (acts p q a end m at w).1)) (λ a y l r t w. absurd w) l s (z, false) (h, false) (is, refl) g))
+  always_gives_first steps l s z h is g = subst (λ k. AlwaysGives (parting_step separates steps) (s, (z, (false, None))) k) (staged_first h l) (always_gives_within parting_stage steps item_comes (parting_meets separates) (parting_step separates steps) (stage_of_step separates steps) _ (s, (z, (false, None))) (gives_staged_up_to_refusal steps item_comes (parting_meets separates) (λ z x. x ≡ z) (λ r t. ⊥) item_comes AtSeparators parting_does (λ later. refl) (λ p q a y m at w. inr (acts p q a (result_answer y) m at w)) (λ p q a m at w. (inl refl, (acts p q a end m at w).1)) (λ a y l r t w. absurd w) l s (z, false) (h, false) (is, refl) g))

@@ -41,19 +41,19 @@ module _ {S F X E : Type 0} (m : Contract S X E) (call : F → X → Result Bool
   accepts_held_of_equal : (o h : Option X) (f g : F) (v : Result Bool E) → h ≡ o → AcceptsHeld call h f v g → AcceptsHeld call o f v g
   accepts_held_of_equal o h f g v is a = subst (λ (z : Option X). AcceptsHeld call z f v g) is a
 
-  ahead_taken : (a : Answered X E) (p u w : Peekable S X E) (f g : F) (r : Answered X E) → Peeks m.steps (peekable_parts p) a (peekable_parts u) → Ok tt ≡ failure_told a → AcceptsHeld call (held_item u.held) f (Ok true) g → peekable_step m.steps (peekable_parts u) r (peekable_parts w) → AheadStep (p, f) r (w, g)
-  ahead_taken (Err e) p u w f g r peeks is accepts step = absurd cc
-  ahead_taken (Ok (Some x)) p u w f g r peeks is accepts step =
+  ahead_step_of_accepted : (a : Answered X E) (p u w : Peekable S X E) (f g : F) (r : Answered X E) → Peeks m.steps (peekable_parts p) a (peekable_parts u) → Ok tt ≡ failure_told a → AcceptsHeld call (held_item u.held) f (Ok true) g → peekable_step m.steps (peekable_parts u) r (peekable_parts w) → AheadStep (p, f) r (w, g)
+  ahead_step_of_accepted (Err e) p u w f g r peeks is accepts step = absurd cc
+  ahead_step_of_accepted (Ok (Some x)) p u w f g r peeks is accepts step =
       let k = looked_at_is_next_answer m.steps (peekable_parts p) (peekable_parts u) (Some x) peeks in
       let h = held_step m.steps (peekable_parts u) (peekable_parts w) (Some x) r k.1 step in
       (asked x (Ok true), subst (λ z. peekable_step m.steps (peekable_parts p) (item x) z) (sym h.1) k.0, (g, accepts_held_of_equal (Some x) (held_item u.held) f g (Ok true) (ap held_item k.1) accepts, refl), h.0)
-  ahead_taken (Ok None) p u w f g r peeks is accepts step =
+  ahead_step_of_accepted (Ok None) p u w f g r peeks is accepts step =
       let k = looked_at_is_next_answer m.steps (peekable_parts p) (peekable_parts u) None peeks in
       let h = held_step m.steps (peekable_parts u) (peekable_parts w) None r k.1 step in
       (end_at, subst (λ z. peekable_step m.steps (peekable_parts p) end z) (sym h.1) k.0, sym (accepts_held_of_equal None (held_item u.held) f g (Ok true) (ap held_item k.1) accepts).1, h.0)
 
   pub ahead_takes : (p u w : Peekable S X E) (f g : F) (r : Answered X E) → Fills m.steps (peekable_parts p) (Ok tt) (peekable_parts u) → AcceptsHeld call (held_item u.held) f (Ok true) g → peekable_step m.steps (peekable_parts u) r (peekable_parts w) → AheadStep (p, f) r (w, g)
-  ahead_takes p u w f g r fills accepts step = ahead_taken fills.0 p u w f g r fills.1 fills.2 accepts step
+  ahead_takes p u w f g r fills accepts step = ahead_step_of_accepted fills.0 p u w f g r fills.1 fills.2 accepts step
 
   ahead_refused : (a : Answered X E) (p u : Peekable S X E) (f g : F) → Peeks m.steps (peekable_parts p) a (peekable_parts u) → Ok tt ≡ failure_told a → AcceptsHeld call (held_item u.held) f (Ok false) g → AheadStep (p, f) end (u, g)
   ahead_refused (Err e) p u f g peeks is accepts = absurd cc

@@ -206,7 +206,7 @@ module _ {S U A B C E F V : Type 0} (steps : S → Answered A E → S → Type 0
         let first = side_gives_first steps p.0 t (Ok x) a i m in
         let second = side_gives_first others p.1 u (Ok y) b k n in
         let w = by.both_give a b x y v p.2 g c first.0 second.0 d in
-        (w.1, (left_over (rule.left_held x y v) a, left_over (rule.right_held x y v) b, side_lists_after_item steps t x (rule.left_held x y v) a (lawful.left_kept x y v) first.0 first.1, side_lists_after_item others u y (rule.right_held x y v) b (lawful.right_kept x y v) second.0 second.1, w.0, w.2))
+        (w.1, (left_over (rule.left_held x y v) a, left_over (rule.right_held x y v) b, side_lists_after_item steps t x (rule.left_held x y v) a (lawful.left_held_is_none_or_given x y v) first.0 first.1, side_lists_after_item others u y (rule.right_held x y v) b (lawful.right_held_is_none_or_given x y v) second.0 second.1, w.0, w.2))
 
   together_goes : (p q : SidesState steps others rule) (r : Answered C E) (l : List (Result C E)) → ListTogether p l → SidesStep steps others rule p r q → (r ≡ first_answer l) × ListTogether q (rest_of l)
   together_goes p ((t, h), (u, k), g) r l i w = rw (w.2, w.4, w.6, ← i.5) (together_after_place p i.0 i.1 i.2 i.3 i.4 w.0 t u g w.1 w.3 w.5)
@@ -268,8 +268,8 @@ module _ {S U A B C E F V : Type 0} (steps : S → Answered A E → S → Type 0
   both_end_after_item p t u g (both_gave x y v) z k m n d is b = record {
     of_left = (held_count x - held_count (rule.left_held x y v)) + b.of_left;
     of_right = (held_count y - held_count (rule.right_held x y v)) + b.of_right;
-    left = items_then_end_from steps p.0 t x (rule.left_held x y v) b.of_left (lawful.left_kept x y v) m b.left;
-    right = items_then_end_from others p.1 u y (rule.right_held x y v) b.of_right (lawful.right_kept x y v) n b.right;
+    left = items_then_end_from steps p.0 t x (rule.left_held x y v) b.of_left (lawful.left_held_is_none_or_given x y v) m b.left;
+    right = items_then_end_from others p.1 u y (rule.right_held x y v) b.of_right (lawful.right_held_is_none_or_given x y v) n b.right;
     few = omega (arith, by.item_given p.2 g x y v z b.of_left b.of_right d is, b.few);
   }
 
@@ -347,8 +347,8 @@ module _ {S U A B C E F V : Type 0} (steps : S → Answered A E → S → Type 0
   both_come_after_item p t u g (left_failed e) z k m n d is b = absurd cc
   both_come_after_item p t u g (right_failed x e) z k m n d is b = absurd cc
   both_come_after_item p t u g (both_gave x y v) z k m n d is b =
-      let l = items_come_before_draw steps once p.0 t x (rule.left_held x y v) b.of_left (lawful.left_kept x y v) m b.left in
-      let r = items_come_before_draw others once_right p.1 u y (rule.right_held x y v) b.of_right (lawful.right_kept x y v) n b.right in
+      let l = items_come_before_draw steps once p.0 t x (rule.left_held x y v) b.of_left (lawful.left_held_is_none_or_given x y v) m b.left in
+      let r = items_come_before_draw others once_right p.1 u y (rule.right_held x y v) b.of_right (lawful.right_held_is_none_or_given x y v) n b.right in
       record {
         of_left = (held_count x - held_count (rule.left_held x y v)) + b.of_left;
         of_right = (held_count y - held_count (rule.right_held x y v)) + b.of_right;

@@ -117,9 +117,9 @@ module _ {S P X Y B L E : Type 0} (steps : S → Answered X E → S → Type 0) 
       | inr w ↦ first_passed (does a (result_answer y)).0 _ r (t, q) w.1 (then u h w.0 k.1 r (t, q) rest)
     ]
 
-    pub gives_staged : (l : List (Result X E)) (s : S) (p : P) (a : Q) → At p a → AlwaysGives steps s l → GivesUpTo (s, (p, None)) (staged listed does a l)
-    gives_staged [] s p a at i = λ r t w. first_at_end s t.0 p a r t.1 at i w
-    gives_staged (y ∷ l) s p a at i = λ r t w. first_at_item y l s t.0 p a r t.1 at i (λ u h b j. gives_staged l u h (does a (result_answer y)).1 b j) w
+    pub gives_staged_up_to_refusal : (l : List (Result X E)) (s : S) (p : P) (a : Q) → At p a → AlwaysGives steps s l → GivesUpTo (s, (p, None)) (staged listed does a l)
+    gives_staged_up_to_refusal [] s p a at i = λ r t w. first_at_end s t.0 p a r t.1 at i w
+    gives_staged_up_to_refusal (y ∷ l) s p a at i = λ r t w. first_at_item y l s t.0 p a r t.1 at i (λ u h b j. gives_staged_up_to_refusal l u h (does a (result_answer y)).1 b j) w
 
 -- ---- a type each step of which is one of a stage
 

@@ -22,7 +22,7 @@ use Rattle.fallible_itertools_adapters.specs.Laws.Staging.{made_parts, takes_whe
 use Rattle.fallible_itertools_adapters.specs.Laws.TakeWhileInclusive.{call_of_place, is_stage_inclusive}
 use Rattle.fallible_itertools_adapters.specs.TakeWhileInclusive.{cons_through, taken_while_inclusive, inclusive_answer, inclusive_made, inclusive_on_item, hint_of_first, InclusiveTrace, inclusive_parts, inclusive_contract}
 use Rattle.fallible_itertools_adapters.proofs.Lemmas.StagingHints.{MadeFew, MakesNoFewer, bounds_above_staged, bounds_below_staged, makes_one_at_most}
-use Rattle.fallible_itertools_adapters.proofs.Lemmas.StagingLists.{IsMadeAs, always_gives_within, gives_staged, made_first, staged}
+use Rattle.fallible_itertools_adapters.proofs.Lemmas.StagingLists.{IsMadeAs, always_gives_within, gives_staged_up_to_refusal, made_first, staged}
 use Rattle.fallible_itertools_adapters.specs.declared.take_while_inclusive.TakeWhileInclusive.{TakeWhileInclusive}
 
 module _ {S F X E : Type 0} (steps : S → Answered X E → S → Type 0) (call : F → X → Result Bool E → F → Type 0) where
@@ -135,7 +135,7 @@ module _ {S F X E : Type 0} (steps : S → Answered X E → S → Type 0) (call 
   staged_is_taken (Err e ∷ l) = ap (λ k. Err e ∷ k) (staged_is_taken l)
 
   gives_inclusive : (l : List (Result X E)) (s : S) → AlwaysGives steps s l → AlwaysGives (inclusive_step steps call) ((s, f), false) (taken_while_inclusive h l)
-  gives_inclusive l s g = subst (λ k. AlwaysGives (inclusive_step steps call) ((s, f), false) k) (staged_is_taken l) (always_gives_within (inclusive_staged steps call) steps ends_come (Meets steps call) (inclusive_step steps call) (stage_of_inclusive steps call) _ ((s, f), false) (gives_staged steps ends_come (Meets steps call) (λ z y. y ≡ z) (λ r t. ⊥) ends_come (λ p u. p ≡ f) inclusive_does (λ later. refl) (λ p q u y m at w. inr (inclusive_acts p q u (result_answer y) m at w)) (λ p q u m at w. (inl refl, (inclusive_acts p q u end m at w).1)) (λ u y l r t w. absurd w) l s f tt refl g))
+  gives_inclusive l s g = subst (λ k. AlwaysGives (inclusive_step steps call) ((s, f), false) k) (staged_is_taken l) (always_gives_within (inclusive_staged steps call) steps ends_come (Meets steps call) (inclusive_step steps call) (stage_of_inclusive steps call) _ ((s, f), false) (gives_staged_up_to_refusal steps ends_come (Meets steps call) (λ z y. y ≡ z) (λ r t. ⊥) ends_come (λ p u. p ≡ f) inclusive_does (λ later. refl) (λ p q u y m at w. inr (inclusive_acts p q u (result_answer y) m at w)) (λ p q u m at w. (inl refl, (inclusive_acts p q u end m at w).1)) (λ u y l r t w. absurd w) l s f tt refl g))
 
 pub lists_inclusive : {S F X E : Type 0} {it : S} (m : Contract S X E) (g : Mut F (Bor X × Unit {0}) (Result Bool E)) (s : TakeWhileInclusive S F) (f : F) (h : X → Result Bool E) (l : List (Result X E)) → inclusive_parts s ≡ ((it, f), false) → Acts (call_by_reference g) f h → Lists m.steps it l
     → Lists (seen_as inclusive_parts (inclusive_contract m g)).steps s (taken_while_inclusive h l)

@@ -29,18 +29,18 @@ module _ {A E : Type 0} (S : Type 0) (eq : A → A → Bool) (equivalence : IsEq
   clone_equal : (x copy k : A) → is_clone x copy → eq copy k ≡ eq k x
   clone_equal x copy k c = sym (equivalence.congr x copy k (clones x copy c)) ∙ equivalence.symm x k
 
-  abbrev Asks : HashSet A S → A → Outcome A E → HashSet A S → Type 0
-  Asks = unique_asks eq is_clone is_infallible from
+  abbrev CallsOfUnique : HashSet A S → A → Outcome A E → HashSet A S → Type 0
+  CallsOfUnique = unique_asks eq is_clone is_infallible from
 
   module _ {I : Type 0} (steps : I → Answered A E → I → Type 0) where
     abbrev StepsOfUnique : I × HashSet A S → Answered A E → I × HashSet A S → Type 0
-    StepsOfUnique = passing_step steps Asks as_answered_item
+    StepsOfUnique = passing_step steps CallsOfUnique as_answered_item
 
     abbrev Gives : I × HashSet A S → List (Result A E) → Type 0
     Gives s l = GivesMade Same StepsOfUnique from s l
 
     abbrev OneDrawn : I → HashSet A S → Answered A E → I → HashSet A S → Type 0
-    OneDrawn s p r t q = Passes steps Asks as_answered_item s p (r ∷ []) t q
+    OneDrawn s p r t q = Passes steps CallsOfUnique as_answered_item s p (r ∷ []) t q
 
     -- what is known of an answer, and of what comes then
     abbrev Told : List (Result A E) → Answered A E → I × HashSet A S → Type 0
@@ -79,8 +79,8 @@ module _ {A E : Type 0} (S : Type 0) (eq : A → A → Bool) (equivalence : IsEq
     told_left_out l seen p x false u h r t has a later w rest = absurd w
 
     -- a call on the list's item, by whether it was seen
-    by_member : (seen : List A) (p : HashSet A S) (x z : A) (o c : Outcome A E) (q : HashSet A S) → HasSeen eq p seen → z ≡ x → o ≡ c → Asks p z o q → unique_by eq is_clone is_infallible from p x (is_member eq seen x) c q
-    by_member seen p x z o c q has same is w = subst (λ (b : Bool). unique_by eq is_clone is_infallible from p x b c q) (has x) (subst (λ (d : Outcome A E). Asks p x d q) is (subst (λ (k : A). Asks p k o q) same w))
+    by_member : (seen : List A) (p : HashSet A S) (x z : A) (o c : Outcome A E) (q : HashSet A S) → HasSeen eq p seen → z ≡ x → o ≡ c → CallsOfUnique p z o q → unique_by eq is_clone is_infallible from p x (is_member eq seen x) c q
+    by_member seen p x z o c q has same is w = subst (λ (b : Bool). unique_by eq is_clone is_infallible from p x b c q) (has x) (subst (λ (d : Outcome A E). CallsOfUnique p x d q) is (subst (λ (k : A). CallsOfUnique p k o q) same w))
 
     told_of_item : (x : A) (l : List (Result A E)) (seen : List A) (s : I) (p : HashSet A S) (r : Answered A E) (t : I) (q : HashSet A S) → AlwaysGives steps s (Ok x ∷ l) → HasSeen eq p seen → After l seen → After l (x ∷ seen) → OneDrawn s p r t q → Told (first_of_equal x (is_member eq seen x) (unique_from eq seen l) (unique_from eq (x ∷ seen) l)) r (t, q)
     told_of_item x l seen s p _ t q a has later more (end_passes step c) = absurd (let w = (a (Ok None) _ step).0 in cc)

@@ -34,18 +34,18 @@ module _ {A K F E : Type 0} (S : Type 0) (eq : K → K → Bool) (equivalence : 
   abbrev Seen : HashSet K S × F → List K → Type 0
   Seen p seen = ((k : K) → contains eq p.0 k ≡ is_member eq seen k) × (p.1 ≡ f)
 
-  abbrev Asks : HashSet K S × F → A → Outcome A E → HashSet K S × F → Type 0
-  Asks = key_asks eq from call
+  abbrev CallsOfUniqueBy : HashSet K S × F → A → Outcome A E → HashSet K S × F → Type 0
+  CallsOfUniqueBy = key_asks eq from call
 
   module _ {I : Type 0} (steps : I → Answered A E → I → Type 0) where
     abbrev StepsOfUnique : I × (HashSet K S × F) → Answered A E → I × (HashSet K S × F) → Type 0
-    StepsOfUnique = passing_step steps Asks as_answered_item
+    StepsOfUnique = passing_step steps CallsOfUniqueBy as_answered_item
 
     abbrev Gives : I × (HashSet K S × F) → List (Result A E) → Type 0
     Gives s l = GivesMade Same StepsOfUnique from s l
 
     abbrev OneDrawn : I → HashSet K S × F → Answered A E → I → HashSet K S × F → Type 0
-    OneDrawn s p r t q = Passes steps Asks as_answered_item s p (r ∷ []) t q
+    OneDrawn s p r t q = Passes steps CallsOfUniqueBy as_answered_item s p (r ∷ []) t q
 
     -- what is known of an answer, and of what comes then
     abbrev Told : List (Result A E) → Answered A E → I × (HashSet K S × F) → Type 0
@@ -102,8 +102,8 @@ module _ {A K F E : Type 0} (S : Type 0) (eq : K → K → Bool) (equivalence : 
     told_left_out l seen p x (Ok k) u c r t has stays a later w rest = subst (λ (b : Bool). Told (first_of_equal x b (From l seen) (From l (k ∷ seen))) r t) (has.0 k) (told_after_equal l seen p x k (contains eq p.0 k) u c r t has stays a later w rest)
 
     -- a call on the list's item, by its key
-    by_key : (p : HashSet K S × F) (x z : A) (o c : Outcome A E) (q : HashSet K S × F) → p.1 ≡ f → z ≡ x → o ≡ c → Asks p z o q → (q.1 ≡ f) × keyed_by eq from p.0 x (h x) c q.0
-    by_key p x z o c q stays same is w = let v : Asks p x c q = subst (λ (d : Outcome A E). Asks p x d q) is (subst (λ (k : A). Asks p k o q) same w) in let d = acts x v.0 q.1 (subst (λ (g : F). call g x v.0 q.1) stays v.1) in (d.0, subst (λ (k : Result K E). keyed_by eq from p.0 x k c q.0) d.1 v.2)
+    by_key : (p : HashSet K S × F) (x z : A) (o c : Outcome A E) (q : HashSet K S × F) → p.1 ≡ f → z ≡ x → o ≡ c → CallsOfUniqueBy p z o q → (q.1 ≡ f) × keyed_by eq from p.0 x (h x) c q.0
+    by_key p x z o c q stays same is w = let v : CallsOfUniqueBy p x c q = subst (λ (d : Outcome A E). CallsOfUniqueBy p x d q) is (subst (λ (k : A). CallsOfUniqueBy p k o q) same w) in let d = acts x v.0 q.1 (subst (λ (g : F). call g x v.0 q.1) stays v.1) in (d.0, subst (λ (k : Result K E). keyed_by eq from p.0 x k c q.0) d.1 v.2)
 
     told_of_item : (x : A) (l : List (Result A E)) (seen : List K) (s : I) (p : HashSet K S × F) (r : Answered A E) (t : I) (q : HashSet K S × F) → AlwaysGives steps s (Ok x ∷ l) → Seen p seen → After l → OneDrawn s p r t q → Told (first_of_key eq seen x (h x) (From l)) r (t, q)
     told_of_item x l seen s p _ t q a has later (end_passes step c) = absurd (let w = (a (Ok None) _ step).0 in cc)

@@ -77,9 +77,9 @@ module _ {A K E : Type 0} (eq : K → K → Bool) (h : A → Result K E) where
   unfolding unique_by_key unique_key_from
   unique_by_failure_last l e = unique_by_joined l (Err e ∷ []) []
 
-  pub unique_by_keyless_last : (l : List (Result A E)) (x : A) (e : E) → h x ≡ Err e → unique_by_key eq h (l ++ Ok x ∷ []) ≡ unique_by_key eq h l ++ Err e ∷ []
+  pub unique_by_key_failure_last : (l : List (Result A E)) (x : A) (e : E) → h x ≡ Err e → unique_by_key eq h (l ++ Ok x ∷ []) ≡ unique_by_key eq h l ++ Err e ∷ []
   unfolding unique_by_key unique_key_from
-  unique_by_keyless_last l x e is = unique_by_joined l (Ok x ∷ []) [] ∙ ap (λ (v : Result K E). unique_key_from eq h [] l ++ first_of_key eq (seen_after eq [] (mapped h l)) x v (λ more. [])) is
+  unique_by_key_failure_last l x e is = unique_by_joined l (Ok x ∷ []) [] ∙ ap (λ (v : Result K E). unique_key_from eq h [] l ++ first_of_key eq (seen_after eq [] (mapped h l)) x v (λ more. [])) is
 
 module _ {A K E : Type 0} (eq : K → K → Bool) (equivalence : IsEquivalence eq) (h : A → Result K E) where
   pub unique_by_distinct : (l : List (Result A E)) → IsDistinct eq (items_listed (mapped h (unique_by_key eq h l)))

@@ -59,9 +59,9 @@ module _ {A E : Type 0} (is_clone : A → A → Type 0) (is_infallible : A → T
     abbrev RunTaken : List (A × A) → S × Option A → S × Option A → Type 0
     RunTaken xs p q = (ys : List A) × Yields steps p.0 ys q.0 × (length xs + left_to_begin p.1 ≡ length ys + left_to_begin q.1) × (left_to_begin q.1 ≤ left_to_begin p.1)
 
-    run_taken_of_window_hints : (xs : List (A × A)) (p q : S × Option A) → Yields StepsOfWindowHints p xs q → RunTaken xs p q
-    run_taken_of_window_hints [] p q ran = subst (λ (z : S × Option A). RunTaken [] p z) ran ([], refl, refl, omega arith)
-    run_taken_of_window_hints (x ∷ xs) p q ran = let d = taken_pair p.0 (ran.0).0 p.1 (ran.0).1 (item x) x (passes_of_pass_trace ran.1) refl in let rest = run_taken_of_window_hints xs ran.0 q ran.2 in
+    items_taken_by_pairs : (xs : List (A × A)) (p q : S × Option A) → Yields StepsOfWindowHints p xs q → RunTaken xs p q
+    items_taken_by_pairs [] p q ran = subst (λ (z : S × Option A). RunTaken [] p z) ran ([], refl, refl, omega arith)
+    items_taken_by_pairs (x ∷ xs) p q ran = let d = taken_pair p.0 (ran.0).0 p.1 (ran.0).1 (item x) x (passes_of_pass_trace ran.1) refl in let rest = items_taken_by_pairs xs ran.0 q ran.2 in
         (d.0 ++ rest.0, yields_after steps d.0 rest.0 p.0 (ran.0).0 q.0 d.1 rest.1, (let long = length-append d.0 rest.0 in let one = d.2 in let none = d.3 in let more = rest.2 in omega (arith, long, one, none, more)), (let none = d.3 in let no_more = rest.3 in omega (arith, none, no_more)))
 
     -- at an end the source ends, after one item at most, which was the first
@@ -90,11 +90,11 @@ module _ {A E : Type 0} (is_clone : A → A → Type 0) (is_infallible : A → T
       where
         windows_above : (p : S × Option A) (k : ℕ × Option ℕ) → Brackets steps p.0 k → (xs : List (A × A)) (q : S × Option A) → Yields StepsOfWindowHints p xs q → IfSome (option_map (λ u. u - left_to_begin p.1) k.1) (λ n. length xs ≤ n)
         windows_above p k b [] q ran = if_some_less_zero k.1 (left_to_begin p.1)
-        windows_above p k b (x ∷ xs) q ran = let d = taken_pair p.0 (ran.0).0 p.1 (ran.0).1 (item x) x (passes_of_pass_trace ran.1) refl in let rest = run_taken_of_window_hints xs ran.0 q ran.2 in
+        windows_above p k b (x ∷ xs) q ran = let d = taken_pair p.0 (ran.0).0 p.1 (ran.0).1 (item x) x (passes_of_pass_trace ran.1) refl in let rest = items_taken_by_pairs xs ran.0 q ran.2 in
             if_some_less k.1 (left_to_begin p.1) (length (x ∷ xs)) (length (d.0 ++ rest.0)) (let long = length-append d.0 rest.0 in let one = d.2 in let none = d.3 in let more = rest.2 in let no_more = rest.3 in omega (arith, long, one, none, more, no_more)) (b.above (d.0 ++ rest.0) q.0 (yields_after steps d.0 rest.0 p.0 (ran.0).0 q.0 d.1 rest.1))
 
         windows_below : (p : S × Option A) (k : ℕ × Option ℕ) → Brackets steps p.0 k → (xs : List (A × A)) (q u : S × Option A) → Yields StepsOfWindowHints p xs q → StepsOfWindowHints q end u → k.0 - left_to_begin p.1 ≤ length xs
-        windows_below p k b xs q u ran step = let d = run_taken_of_window_hints xs p q ran in let e = end_taken_of_window_hints q.0 u.0 q.1 u.1 end (passes_of_pass_trace step) refl in
+        windows_below p k b xs q u ran step = let d = items_taken_by_pairs xs p q ran in let e = end_taken_of_window_hints q.0 u.0 q.1 u.1 end (passes_of_pass_trace step) refl in
             let long = length-append d.0 e.0 in let low : k.0 ≤ length (d.0 ++ e.0) = b.below (d.0 ++ e.0) e.1 e.2 (yields_after steps d.0 e.0 p.0 q.0 e.1 d.1 e.3) e.4 in let many = d.2 in let few = e.5 in omega (arith, long, low, many, few)
 
   pub hints_as_sound_windows : {V S : Type 0} (view : V → S × Option A) (m : Contract S A E) (s : V) → HintsAsSoundAs (seen_as view (tuple_windows_contract is_clone is_infallible from m)) s m (view s).0

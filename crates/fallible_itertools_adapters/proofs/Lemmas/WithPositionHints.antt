@@ -5,7 +5,7 @@ use Rattle.fallible_iterator.specs.Contract.{Contract, seen_as}
 use Rattle.fallible_iterator.specs.Hints.{fitting_sum, hint_sum}
 use Rattle.fallible_itertools_adapters.specs.Holding.{HintsWhereHeld, held_one}
 use Rattle.fallible_itertools_adapters.specs.WithPosition.{position_asks, with_position_contract, with_position_due, with_position_parts, with_position_source}
-use Rattle.fallible_itertools_adapters.specs.Laws.WithPosition.{holds_with_position}
+use Rattle.fallible_itertools_adapters.specs.Laws.WithPosition.{held_count_law_with_position}
 use Rattle.fallible_itertools_adapters.proofs.Lemmas.HoldingHints.{KeepsFew, hints_where_held}
 use Rattle.fallible_itertools_adapters.proofs.Lemmas.WithPosition.{gives_held}
 use Rattle.fallible_iterator.specs.Outcome.TheVariants.{Kept, LeftOut}
@@ -41,4 +41,4 @@ module _ {S A E : Type 0} (m : Contract S A E) where
   sum_bounds it p h is = (is.0, is.1, (λ n few. rw is.2 (omega (arith, few))), ap (λ (z : ℕ × Option ℕ). z.1) is.2)
 
   pub hints_positioned : HintsWhereHeld (seen_as with_position_parts (with_position_contract m)) (with_position_due {I = S} {A = A} {E = E}) m with_position_source
-  hints_positioned = hints_where_held with_position_parts (with_position_contract m).can_next m position_asks (λ p x. ⊤) held_one holds_with_position (λ p low n. low + held_one p ≤ n) (keeps_positions A E) HintIsSumWithHeld sum_bounds
+  hints_positioned = hints_where_held with_position_parts (with_position_contract m).can_next m position_asks (λ p x. ⊤) held_one held_count_law_with_position (λ p low n. low + held_one p ≤ n) (keeps_positions A E) HintIsSumWithHeld sum_bounds

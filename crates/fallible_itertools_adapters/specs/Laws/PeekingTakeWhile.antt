@@ -44,9 +44,9 @@ module _ {S X E : Type 0} (steps : S → Answered X E → S → Type 0) where
   held_item_is_looked_at (s, None) u o x is w = absurd cc
 
   -- an item that a draw yields, held
-  pub peeks_looks_first : (p u : HeldState) (x : X) → peekable_step steps p (item x) u → Peeks steps p (item x) (u.0, Some (Some x))
-  peeks_looks_first (s, Some h) u x w = let same : Some x ≡ h = (let e = w.0 in cc) in (w.0, w.1, ap (λ z. Some z) same)
-  peeks_looks_first (s, None) u x w = (w.0, refl)
+  pub peeks_drawn_item : (p u : HeldState) (x : X) → peekable_step steps p (item x) u → Peeks steps p (item x) (u.0, Some (Some x))
+  peeks_drawn_item (s, Some h) u x w = let same : Some x ≡ h = (let e = w.0 in cc) in (w.0, w.1, ap (λ z. Some z) same)
+  peeks_drawn_item (s, None) u x w = (w.0, refl)
 
   peeks_held_again : (q : HeldState) (o : Option X) → q.1 ≡ Some o → Peeks steps q (Ok o) q
   peeks_held_again (s, Some h) o is = let same : h ≡ o = cc in (ap (λ z. Ok z) (sym same), refl, refl)
@@ -103,7 +103,7 @@ module _ {S X E : Type 0} {m : Contract S X E} (l : Lawful m) where
     comes = λ s x t w. (of_held (t.it, None), (looked_at_is_next_answer m.steps (peekable_parts s) (peekable_parts t) (Some x) w).0);
     next = λ s x t r u w step. step_of_looked (peekable_parts s) (peekable_parts t) (peekable_parts u) x r w step;
     again = λ s x t y u w v. second_look_same (peekable_parts s) (peekable_parts t) (peekable_parts u) x y w v;
-    first = λ s x u step. (of_held (u.it, Some (Some x)), peeks_looks_first m.steps (peekable_parts s) (peekable_parts u) x step, (refl, refl, none_held_after_draw m.steps (peekable_parts s) (peekable_parts u) (item x) step));
+    first = λ s x u step. (of_held (u.it, Some (Some x)), peeks_drawn_item m.steps (peekable_parts s) (peekable_parts u) x step, (refl, refl, none_held_after_draw m.steps (peekable_parts s) (peekable_parts u) (item x) step));
     same = λ s x t w. peeks_held_again m.steps (peekable_parts t) (Some x) (looked_at_is_next_answer m.steps (peekable_parts s) (peekable_parts t) (Some x) w).1;
   }
 

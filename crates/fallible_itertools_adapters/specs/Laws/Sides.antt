@@ -104,8 +104,8 @@ module _ {A B C E F V : Type 0} (rule : Rule A B C E F V) where
 
   -- What is held was yielded, and what the rule says stays so as the sides and the closure go on.
   pub record IsLawfulRule : Type 1 where
-    pub left_kept : (x : Option A) (y : Option B) (v : V) → (rule.left_held x y v ≡ None) ⊎ (rule.left_held x y v ≡ x)
-    pub right_kept : (x : Option A) (y : Option B) (v : V) → (rule.right_held x y v ≡ None) ⊎ (rule.right_held x y v ≡ y)
+    pub left_held_is_none_or_given : (x : Option A) (y : Option B) (v : V) → (rule.left_held x y v ≡ None) ⊎ (rule.left_held x y v ≡ x)
+    pub right_held_is_none_or_given : (x : Option A) (y : Option B) (v : V) → (rule.right_held x y v ≡ None) ⊎ (rule.right_held x y v ≡ y)
     pub made : (P : A → Type 0) (Q : B → Type 0) (f : F) (x : Option A) (y : Option B) (v : V) (g : F) → OfItem P x → OfItem Q y → rule.decides f x y v g → MadeBy P Q f ((held_count x - held_count (rule.left_held x y v)) + (held_count y - held_count (rule.right_held x y v))) (rule.answer x y v)
     pub askable_less : (P P' : A → Type 0) (Q Q' : B → Type 0) (f : F) → ((z : A) → P' z → P z) → ((z : B) → Q' z → Q z) → rule.askable P Q f → rule.askable P' Q' f
     pub askable_after : {P P' : A → Type 0} {Q Q' : B → Type 0} {f g : F} {x : Option A} {y : Option B} {v : V} → IsDecidedByRule P P' Q Q' f x y v g → rule.askable P Q f → rule.askable P' Q' g
@@ -170,8 +170,8 @@ module _ {S U A B C E F V : Type 0} (left : Contract S A E) (right : Contract U 
     kept_by_draw_place p t u g (both_gave x y v) c a b d =
         let h = rule.left_held x y v in
         let i = rule.right_held x y v in
-        let k = side_kept_holds left l p.0 t x h (w.left_kept x y v) c.0 a in
-        let j = side_kept_holds right m p.1 u y i (w.right_kept x y v) c.1 b in
+        let k = side_kept_holds left l p.0 t x h (w.left_held_is_none_or_given x y v) c.0 a in
+        let j = side_kept_holds right m p.1 u y i (w.right_held_is_none_or_given x y v) c.1 b in
         let n = held_count x - held_count h in
         let o = held_count y - held_count i in
         let P = (side_kept_given left l p.0 t x c.0 a).1 in

@@ -30,8 +30,8 @@ module _ {F A B E : Type 0} (call : F → Unit {0} → E → F → Type 0) (take
 
   pub is_lawful_rule_pair : IsLawfulRule (pair_rule {A = A} {B = B} call takes)
   is_lawful_rule_pair = record {
-    left_kept = λ x y e. inl refl;
-    right_kept = λ x y e. inl refl;
+    left_held_is_none_or_given = λ x y e. inl refl;
+    right_held_is_none_or_given = λ x y e. inl refl;
     made = made_by_pair;
     askable_less = λ P P' Q Q' f p q h. h;
     askable_after = λ {P} {P'} {Q} {Q'} {f} {g} {x} {y} {v} c h. is_callable_after (λ z w. w) (reaches_where_alone call f g (one_is_alone x y) v c.decided) h;

@@ -23,8 +23,8 @@ made_by_longest E P Q None None p q = tt
 module _ {A B E : Type 0} where
   pub is_lawful_rule_longest : IsLawfulRule (longest_rule {A = A} {B = B} {E = E})
   is_lawful_rule_longest = record {
-    left_kept = λ x y v. inl refl;
-    right_kept = λ x y v. inl refl;
+    left_held_is_none_or_given = λ x y v. inl refl;
+    right_held_is_none_or_given = λ x y v. inl refl;
     made = λ P Q f x y v g p q d. made_by_longest E P Q x y p q;
     askable_less = λ P P' Q Q' f p q h. tt;
     askable_after = λ c h. tt;

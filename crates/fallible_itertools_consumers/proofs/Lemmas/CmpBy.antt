@@ -47,12 +47,12 @@ pub record TurnsAs {A B E C : Type 0} (turns : C → A × B → ControlFlow (Res
   pub goes : (p : A × B) (d : C) → turns c p (Continue tt) d → (d ≡ c) × (h p.0 p.1 ≡ Ok (Some Equal))
   pub stops : (p : A × B) (r : Result (Option Ordering) E) (d : C) → turns c p (Break r) d → (h p.0 p.1 ≡ r) × ¬ (r ≡ Ok (Some Equal))
 
-on_value_decided_by : {E : Type 0} (r rest : Result (Option Ordering) E) → ¬ (r ≡ Ok (Some Equal)) → on_value r (λ o. unless_equal o rest) ≡ r
-on_value_decided_by (Err e) rest other = refl
-on_value_decided_by (Ok None) rest other = refl
-on_value_decided_by (Ok (Some Less)) rest other = refl
-on_value_decided_by (Ok (Some Equal)) rest other = absurd (other refl)
-on_value_decided_by (Ok (Some Greater)) rest other = refl
+on_value_unless_equal_where_decided : {E : Type 0} (r rest : Result (Option Ordering) E) → ¬ (r ≡ Ok (Some Equal)) → on_value r (λ o. unless_equal o rest) ≡ r
+on_value_unless_equal_where_decided (Err e) rest other = refl
+on_value_unless_equal_where_decided (Ok None) rest other = refl
+on_value_unless_equal_where_decided (Ok (Some Less)) rest other = refl
+on_value_unless_equal_where_decided (Ok (Some Equal)) rest other = absurd (other refl)
+on_value_unless_equal_where_decided (Ok (Some Greater)) rest other = refl
 
 module _ {A B E C : Type 0} (turns : C → A × B → ControlFlow (Result (Option Ordering) E) (Unit {0}) → C → Type 0) (h : A → B → Result (Option Ordering) E) (c : C) (acts : TurnsAs turns h c) where
   abbrev RightLeft : Option (Answered B E) → List (Result B E) → Type 0
@@ -71,7 +71,7 @@ module _ {A B E C : Type 0} (turns : C → A × B → ControlFlow (Result (Optio
   compared_by_at_last_round (Ok (Some x)) (Some (Err e)) r a b p q exit = exit ∙ sym (ap (λ l. compared_by h l b) p.1 ∙ ap (compared_by h (Ok x ∷ p.0)) q.1)
   compared_by_at_last_round (Ok (Some x)) (Some (Ok None)) r a b p q exit = exit ∙ sym (ap (λ l. compared_by h l b) p.1 ∙ ap (compared_by h (Ok x ∷ p.0)) q)
   compared_by_at_last_round (Ok (Some x)) (Some (Ok (Some y))) r a b p q exit = let s = acts.stops (x, y) r exit.0 exit.1 in
-      sym (ap (λ l. compared_by h l b) p.1 ∙ ap (compared_by h (Ok x ∷ p.0)) q.1 ∙ ap (λ (w : Result (Option Ordering) E). on_value w (λ o. unless_equal o (compared_by h p.0 q.0))) s.0 ∙ on_value_decided_by r (compared_by h p.0 q.0) s.1)
+      sym (ap (λ l. compared_by h l b) p.1 ∙ ap (compared_by h (Ok x ∷ p.0)) q.1 ∙ ap (λ (w : Result (Option Ordering) E). on_value w (λ o. unless_equal o (compared_by h p.0 q.0))) s.0 ∙ on_value_unless_equal_where_decided r (compared_by h p.0 q.0) s.1)
 
   right_left_of_where_drawn : {T : Type 0} (right-steps : T → Answered B E → T → Type 0) (y : Option (Answered B E)) (b : List (Result B E)) (t v : T) → AlwaysGives right-steps t b → Run right-steps t (where_drawn y) v → RightLeft y b
   right_left_of_where_drawn right-steps None b t v gives ran = refl

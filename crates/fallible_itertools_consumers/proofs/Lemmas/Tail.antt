@@ -22,7 +22,7 @@ module _ {A : Type 0} (n : ℕ) where
   tail_more items x =
       ap (λ (l : List A). tail_of n l) (sym moved)
       ∙ drop-drop (length (drop left longer) - n) left longer
-      ∙ ap (λ (k : ℕ). drop k longer) dropped
+      ∙ ap (λ (k : ℕ). drop k longer) drops_add_up
     where
       left : ℕ
       left = length items - n
@@ -33,8 +33,8 @@ module _ {A : Type 0} (n : ℕ) where
       moved : drop left longer ≡ tail_of n items ++ x ∷ []
       moved = drop-append-le left items (x ∷ []) (omega arith)
 
-      dropped : left + (length (drop left longer) - n) ≡ length longer - n
-      dropped = let h = length-drop left longer in let k = length-append items (x ∷ []) in omega (arith, h, k)
+      drops_add_up : left + (length (drop left longer) - n) ≡ length longer - n
+      drops_add_up = let h = length-drop left longer in let k = length-append items (x ∷ []) in omega (arith, h, k)
 
   -- ---- fold
 

@@ -30,11 +30,11 @@ use Rattle.std.specs.declared.cmp.Ordering.TheVariants.{Less, Equal, Greater}
 module _ {K : Type 0} (test : K → Bool) where
   is_some-find : (xs : List K) → is_some (find test xs) ≡ list_any test xs
   is_some-find [] = refl
-  is_some-find (x ∷ xs) = by_cases (test x) (is_some-find xs)
+  is_some-find (x ∷ xs) = is_some_find_cons (test x) (is_some-find xs)
     where
-      by_cases : (b : Bool) → is_some (find test xs) ≡ list_any test xs → is_some (cond b (Some x) (find test xs)) ≡ (b || list_any test xs)
-      by_cases true h = refl
-      by_cases false h = h
+      is_some_find_cons : (b : Bool) → is_some (find test xs) ≡ list_any test xs → is_some (cond b (Some x) (find test xs)) ≡ (b || list_any test xs)
+      is_some_find_cons true h = refl
+      is_some_find_cons false h = h
 
   -- what is found passes, and is among the items
   test_of_found : (xs : List K) (y : K) → find test xs ≡ Some y → test y ≡ true

@@ -64,9 +64,9 @@ module _ {S F X E : Type 0} (m : Contract S X E) (a : Mut F (Bor X × Unit {0}) 
   step_of_open_parts s t f q r (leaves_out x (Ok false) step called is rest) = absurd cc
   step_of_open_parts s t f q r (leaves_out x (Err e) step called is rest) = absurd cc
 
-  step_where_open : (p : S × (Bool × F)) (r : Answered X E) (q : S × (Bool × F)) → IsOpen p → passing_step m.steps CallsOfTakeWhileFolds take_while_outcome p r q → steps_of_take_while_folds (of_parts p) r (of_parts q)
-  step_where_open (s, (true, f)) r q unrefused step = absurd cc
-  step_where_open (s, (false, f)) r q unrefused step = step_of_open_parts s q.0 f q.1 r (passes_of_pass_trace step)
+  take_while_step_where_open : (p : S × (Bool × F)) (r : Answered X E) (q : S × (Bool × F)) → IsOpen p → passing_step m.steps CallsOfTakeWhileFolds take_while_outcome p r q → steps_of_take_while_folds (of_parts p) r (of_parts q)
+  take_while_step_where_open (s, (true, f)) r q unrefused step = absurd cc
+  take_while_step_where_open (s, (false, f)) r q unrefused step = step_of_open_parts s q.0 f q.1 r (passes_of_pass_trace step)
 
   -- and an item leaves it so
   open_after_draw : (s t : S) (p q : Bool × F) (y : X) → p.0 ≡ false → Passes m.steps CallsOfTakeWhileFolds take_while_outcome s p (item y ∷ []) t q → q.0 ≡ false
@@ -91,13 +91,13 @@ module _ {S F X E : Type 0} (m : Contract S X E) (a : Mut F (Bor X × Unit {0}) 
     module _ (unrefused : s.taking.0 ≡ false) where
       -- what becomes of one answer of the source is one draw
       pub taking_step : {t : S} (q : Bool × F) (r drawn : Answered X E) → m.steps s.it drawn t → PassAnswer CallsOfTakeWhileFolds take_while_outcome s.taking drawn r q → steps_of_take_while_folds s r (of_parts (t, q))
-      taking_step {t = t} q r drawn step h = step_where_open (s.it, s.taking) r (t, q) unrefused (pass_trace_answer drawn step h)
+      taking_step {t = t} q r drawn step h = take_while_step_where_open (s.it, s.taking) r (t, q) unrefused (pass_trace_answer drawn step h)
 
       -- where its turns may be taken, the source's may
       pub holds_each_turn_taking : {C R : Type 0} (turns : C → X → ControlFlow R (Unit {0}) → C → Type 0) {P : C → X → Type 0} {c : C} → Lawful m → m.can_next s.it → IsCallable (call_by_reference a) (takes_by_reference a) (m.may_give s.it) s.taking.1 → HoldsAtEachTurn steps_of_take_while_folds (goes_on turns) P s c
           → HoldsAtEachTurn m.steps (goes_on (FoldingTurn CallsOfTakeWhileFolds take_while_outcome turns)) (FoldingTakes CallsOfTakeWhileFolds take_while_outcome (λ p x. takes_by_reference a p.1 x) P) s.it (c, s.taking)
-      holds_each_turn_taking turns l can callable holds = holds_each_turn_through l CallsOfTakeWhileFolds take_while_outcome turns can (is_callable_beside (call_by_reference a) s.taking callable) (holds_each_turn_while IsOpen OnceOfTakeWhileFolds steps_of_take_while_folds of_parts step_where_open is_open_stays unrefused holds)
+      holds_each_turn_taking turns l can callable holds = holds_each_turn_through l CallsOfTakeWhileFolds take_while_outcome turns can (is_callable_beside (call_by_reference a) s.taking callable) (holds_each_turn_while IsOpen OnceOfTakeWhileFolds steps_of_take_while_folds of_parts take_while_step_where_open is_open_stays unrefused holds)
 
       -- and a drain of its source by the predicate's answers is one of it
       pub drained_taking : {came : List X → Answered X E → Type 0} {t : S} {q : Bool × F} → Drained OnceOfTakeWhileFolds came (s.it, s.taking) (t, q) → Drained steps_of_take_while_folds came s (of_parts (t, q))
-      drained_taking w = drained_while IsOpen OnceOfTakeWhileFolds steps_of_take_while_folds of_parts step_where_open is_open_stays unrefused w
+      drained_taking w = drained_while IsOpen OnceOfTakeWhileFolds steps_of_take_while_folds of_parts take_while_step_where_open is_open_stays unrefused w

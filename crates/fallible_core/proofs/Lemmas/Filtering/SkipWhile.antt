@@ -77,11 +77,11 @@ module _ {S F X E : Type 0} (steps : S → Answered X E → S → Type 0) (call 
   passed_after_false s t p q _ e (leaves_out x None step called is h) = absurd cc
   passed_after_false s t p q _ e (leaves_out x (Some v) step called is h) = absurd (let d = called.0 in cc)
 
-  pub run_passes : (trace : List (Answered X E)) (s t : S) (f : F) → Run steps s trace t → SkipPasses s (true, f) trace t (true, f)
-  run_passes [] s t f ran = subst (λ (u : S). SkipPasses s (true, f) [] u (true, f)) ran done
-  run_passes (Ok None ∷ rest) s t f ran = end_passes ran.1 (run_passes rest ran.0 t f ran.2)
-  run_passes (Err e ∷ rest) s t f ran = failure_passes e ran.1 (run_passes rest ran.0 t f ran.2)
-  run_passes (Ok (Some x) ∷ rest) s t f ran = keeps x None x ran.1 (refl, refl) refl (run_passes rest ran.0 t f ran.2)
+  pub skip_passes_of_run_after_false : (trace : List (Answered X E)) (s t : S) (f : F) → Run steps s trace t → SkipPasses s (true, f) trace t (true, f)
+  skip_passes_of_run_after_false [] s t f ran = subst (λ (u : S). SkipPasses s (true, f) [] u (true, f)) ran done
+  skip_passes_of_run_after_false (Ok None ∷ rest) s t f ran = end_passes ran.1 (skip_passes_of_run_after_false rest ran.0 t f ran.2)
+  skip_passes_of_run_after_false (Err e ∷ rest) s t f ran = failure_passes e ran.1 (skip_passes_of_run_after_false rest ran.0 t f ran.2)
+  skip_passes_of_run_after_false (Ok (Some x) ∷ rest) s t f ran = keeps x None x ran.1 (refl, refl) refl (skip_passes_of_run_after_false rest ran.0 t f ran.2)
 
   -- ---- before it
 
@@ -119,12 +119,12 @@ module _ {S F X E : Type 0} (steps : S → Answered X E → S → Type 0) (call 
 
   -- a left-out item before an answer
   module _ (x : X) (s u : S) (f h : F) (step : steps s (item x) u) (called : call f x (Ok true) h) where
-    left_out_first : (met : List (Place X (Result Bool E) E)) (after : List (Answered X E)) (trace : List (Answered X E)) (t : S) (q : Bool × F) → trace ≡ filter_map (answer_at asked_outcome) met ++ after → AskedUntilFalse false (asked x (Ok true) ∷ met) after q.0 → SkipPasses u (false, h) trace t q → SkipPasses s (false, f) trace t q
-    left_out_first met after (r ∷ trace) t q answers until rest = leaves_out x (Some (Ok true)) step (refl, called, refl) refl rest
-    left_out_first [] after [] t (true, k) answers until rest = absurd cc
-    left_out_first (p ∷ met) after [] t (true, k) answers until rest = absurd (ends_at_false_answered p met after until.1 (sym answers))
-    left_out_first [] after [] t (false, k) answers until rest = absurd (let some : false ≡ true = until.2 in cc)
-    left_out_first (p ∷ met) after [] t (false, k) answers until rest = absurd (answers_never_nil asked_outcome p met until.2 (sym (append-nil (filter_map (answer_at asked_outcome) (p ∷ met))) ∙ ap (λ (l : List (Answered X E)). filter_map (answer_at asked_outcome) (p ∷ met) ++ l) (sym until.1) ∙ sym answers))
+    skip_passes_after_left_out_item : (met : List (Place X (Result Bool E) E)) (after : List (Answered X E)) (trace : List (Answered X E)) (t : S) (q : Bool × F) → trace ≡ filter_map (answer_at asked_outcome) met ++ after → AskedUntilFalse false (asked x (Ok true) ∷ met) after q.0 → SkipPasses u (false, h) trace t q → SkipPasses s (false, f) trace t q
+    skip_passes_after_left_out_item met after (r ∷ trace) t q answers until rest = leaves_out x (Some (Ok true)) step (refl, called, refl) refl rest
+    skip_passes_after_left_out_item [] after [] t (true, k) answers until rest = absurd cc
+    skip_passes_after_left_out_item (p ∷ met) after [] t (true, k) answers until rest = absurd (ends_at_false_answered p met after until.1 (sym answers))
+    skip_passes_after_left_out_item [] after [] t (false, k) answers until rest = absurd (let some : false ≡ true = until.2 in cc)
+    skip_passes_after_left_out_item (p ∷ met) after [] t (false, k) answers until rest = absurd (answers_never_nil asked_outcome p met until.2 (sym (append-nil (filter_map (answer_at asked_outcome) (p ∷ met))) ∙ ap (λ (l : List (Answered X E)). filter_map (answer_at asked_outcome) (p ∷ met) ++ l) (sym until.1) ∙ sym answers))
 
   skips_passes : (met : List (Place X (Result Bool E) E)) (after : List (Answered X E)) (s t : S) (f : F) (q : Bool × F) → Run steps s (map source_answer met ++ after) t → Calls (call) f (filter_map call_of met) q.1 → AskedUntilFalse false met after q.0 → SkipPasses s (false, f) (filter_map (answer_at asked_outcome) met ++ after) t q
   skips_passes [] after s t f (true, k) ran called until = absurd until
@@ -133,8 +133,8 @@ module _ {S F X E : Type 0} (steps : S → Answered X E → S → Type 0) (call 
   skips_passes (failure_at e ∷ met) after s t f q ran called until = failure_passes e ran.1 (skips_passes met after ran.0 t f q ran.2 called (asked_until_false_tail (failure_at e) met after q.0 refl until))
   skips_passes (end_at ∷ met) after s t f q ran called until = end_passes ran.1 (skips_passes met after ran.0 t f q ran.2 called (asked_until_false_tail end_at met after q.0 refl until))
   skips_passes (asked x (Err e) ∷ met) after s t f q ran called until = refuses x (Some (Err e)) e ran.1 (refl, called.1, refl) refl (skips_passes met after ran.0 t called.0 q ran.2 called.2 (asked_until_false_tail (asked x (Err e)) met after q.0 refl until))
-  skips_passes (asked x (Ok true) ∷ met) after s t f q ran called until = left_out_first x s ran.0 f called.0 ran.1 called.1 met after (filter_map (answer_at asked_outcome) met ++ after) t q refl until (skips_passes met after ran.0 t called.0 q ran.2 called.2 (asked_until_false_tail (asked x (Ok true)) met after q.0 refl until))
-  skips_passes (asked x (Ok false) ∷ []) after s t f (true, k) ran called until = keeps x (Some (Ok false)) x ran.1 (refl, called.1, refl) refl (subst (λ (h : F). SkipPasses ran.0 (true, called.0) after t (true, h)) called.2 (run_passes after ran.0 t called.0 ran.2))
+  skips_passes (asked x (Ok true) ∷ met) after s t f q ran called until = skip_passes_after_left_out_item x s ran.0 f called.0 ran.1 called.1 met after (filter_map (answer_at asked_outcome) met ++ after) t q refl until (skips_passes met after ran.0 t called.0 q ran.2 called.2 (asked_until_false_tail (asked x (Ok true)) met after q.0 refl until))
+  skips_passes (asked x (Ok false) ∷ []) after s t f (true, k) ran called until = keeps x (Some (Ok false)) x ran.1 (refl, called.1, refl) refl (subst (λ (h : F). SkipPasses ran.0 (true, called.0) after t (true, h)) called.2 (skip_passes_of_run_after_false after ran.0 t called.0 ran.2))
   skips_passes (asked x (Ok false) ∷ p ∷ met) after s t f (true, k) ran called until = absurd (let d = until.0 in cc)
   skips_passes (asked x (Ok false) ∷ met) after s t f (false, k) ran called until = absurd (let d = until.0.0 in cc)
 
@@ -145,16 +145,16 @@ module _ {S F X E : Type 0} (steps : S → Answered X E → S → Type 0) (call 
   skip_while_trace_of_passes s t (false, f) q trace h = let k = skips_before_false s t (false, f) q trace refl h in record { met = k.met; after = k.after; drawn = k.drawn; called = k.called; answers = k.answers; until_false = k.until_false }
 
   -- what came after the first false, where it came before the trace
-  record OnlyAfter (s : S) (f : F) (trace : List (Answered X E)) (t : S) (q : Bool × F) : Type 0 where
+  record RunsAfterFalse (s : S) (f : F) (trace : List (Answered X E)) (t : S) (q : Bool × F) : Type 0 where
     ran : Run steps s trace t
     same : (true, f) ≡ q
 
-  only_after : (met : List (Place X (Result Bool E) E)) (after trace : List (Answered X E)) (s t : S) (f : F) (q : Bool × F) → Run steps s (map source_answer met ++ after) t → Calls (call) f (filter_map call_of met) q.1 → trace ≡ filter_map (answer_at asked_outcome) met ++ after → met ≡ [] → q.0 ≡ true → OnlyAfter s f trace t q
-  only_after [] after trace s t f q ran called answers none found = record { ran = subst (λ (l : List (Answered X E)). Run steps s l t) (sym answers) ran; same = ap (λ (b : Bool). (b, f)) (sym found) ∙ ap (λ (h : F). (q.0, h)) called }
-  only_after (p ∷ met) after trace s t f q ran called answers none found = absurd cc
+  runs_after_false : (met : List (Place X (Result Bool E) E)) (after trace : List (Answered X E)) (s t : S) (f : F) (q : Bool × F) → Run steps s (map source_answer met ++ after) t → Calls (call) f (filter_map call_of met) q.1 → trace ≡ filter_map (answer_at asked_outcome) met ++ after → met ≡ [] → q.0 ≡ true → RunsAfterFalse s f trace t q
+  runs_after_false [] after trace s t f q ran called answers none found = record { ran = subst (λ (l : List (Answered X E)). Run steps s l t) (sym answers) ran; same = ap (λ (b : Bool). (b, f)) (sym found) ∙ ap (λ (h : F). (q.0, h)) called }
+  runs_after_false (p ∷ met) after trace s t f q ran called answers none found = absurd cc
 
   passes_of_skip_while_trace : (s t : S) (p q : Bool × F) (trace : List (Answered X E)) → SkipWhileTrace steps call (s, p) trace (t, q) → SkipPasses s p trace t q
-  passes_of_skip_while_trace s t (true, f) q trace h = let k = only_after h.met h.after trace s t f q h.drawn h.called h.answers h.until_false.0 h.until_false.1 in subst (λ (z : Bool × F). SkipPasses s (true, f) trace t z) k.same (run_passes trace s t f k.ran)
+  passes_of_skip_while_trace s t (true, f) q trace h = let k = runs_after_false h.met h.after trace s t f q h.drawn h.called h.answers h.until_false.0 h.until_false.1 in subst (λ (z : Bool × F). SkipPasses s (true, f) trace t z) k.same (skip_passes_of_run_after_false trace s t f k.ran)
   passes_of_skip_while_trace s t (false, f) q trace h = subst (λ (l : List (Answered X E)). SkipPasses s (false, f) l t q) (sym h.answers) (skips_passes h.met h.after s t f q h.drawn h.called h.until_false)
 
 pub skip_while_law : {S F X E : Type 0} (steps : S → Answered X E → S → Type 0) (call : F → X → Result Bool E → F → Type 0) (p : S × (Bool × F)) (trace : List (Answered X E)) (q : S × (Bool × F)) → Run (λ u r v. PassTrace steps (skip_call call) skip_while_outcome u (r ∷ []) v) p trace q ↔ SkipWhileTrace steps call p trace q

@@ -10,7 +10,7 @@ use Rattle.fallible_contract.specs.Folds.{HoldsAtEachTurn, Drained}
 use Rattle.fallible_contract.specs.Laws.Passing.{Passes, done, end_passes, failure_passes, keeps, refuses, closes, leaves_out, passes_of_pass_trace, pass_trace_of_passes}
 use Rattle.fallible_contract.proofs.Lemmas.Folding.{holds_at_each_turn_into, drained_into}
 use Rattle.fallible_core.specs.Filtering.SkipWhile.{skip_call, skip_while_outcome, skip_while_contract, skip_while_parts}
-use Rattle.fallible_core.proofs.Lemmas.Filtering.SkipWhile.{passed_after_false, run_passes}
+use Rattle.fallible_core.proofs.Lemmas.Filtering.SkipWhile.{passed_after_false, skip_passes_of_run_after_false}
 use Rattle.fallible_core.specs.declared.filtering.skip_while.SkipWhile.{SkipWhile}
 
 module _ {S F X E : Type 0} (steps_of_skip_while_folds : S → Answered X E → S → Type 0) (call : F → X → Result Bool E → F → Type 0) where
@@ -39,7 +39,7 @@ module _ {S F X E : Type 0} (m : Contract S X E) (g : Mut F (Bor X × Unit {0}) 
   past_of_skip_while_folds f s = record { it = s; skipping = (true, f) }
 
   step_of_source_past : (f : F) (s t : S) (r : Answered X E) → m.steps s r t → steps_of_skip_while_folds (past_of_skip_while_folds f s) r (past_of_skip_while_folds f t)
-  step_of_source_past f s t r step = pass_trace_of_passes (run_passes m.steps (call_by_reference g) (r ∷ []) s t f (t, step, refl))
+  step_of_source_past f s t r step = pass_trace_of_passes (skip_passes_of_run_after_false m.steps (call_by_reference g) (r ∷ []) s t f (t, step, refl))
 
   pub item_is_past : (s t : SkipWhile S F) (x : X) → steps_of_skip_while_folds s (item x) t → t.skipping.0 ≡ true
   item_is_past s t x step = found_by_item m.steps (call_by_reference g) s.it t.it s.skipping t.skipping (item x ∷ []) x refl (passes_of_pass_trace step)

@@ -1,6 +1,6 @@
 -- A fold of the source up to a failure, the turn on that, and the fold from there on, is a fold of the adapter.
 use Rattle.std.proofs.Common.{arith}
-use Rattle.fallible_contract.proofs.Lemmas.Recovering.{met_failure, drives_value, holds_each_turn_source, folding_takes_of_holds, drives_to_stop, drives_on_after, holds_each_turn_past_turn, takes_met_failure, can_recover_after, size_remaining_fewer}
+use Rattle.fallible_contract.proofs.Lemmas.Recovering.{met_failure, drives_value, holds_each_turn_source, folding_takes_of_holds, drives_to_stop, drives_on_after_failure, holds_each_turn_past_turn, takes_met_failure, can_recover_after, size_remaining_fewer}
 use Rattle.fallible_core.proofs.failing.drive_recovering.Goals as goal
 
 pub drive-requires-clause-callable : goal.drive-requires-clause-callable
@@ -31,5 +31,5 @@ loop-value-preserved g c = let call = g.A.Pass.call c.args.adapter.now in let ou
       can_next = can;
       bounded = (can.0, can.0.1, omega (arith, less, same));
       callable = holds_each_turn_past_turn g.I.FallibleIterator.contract.steps call outcome turns _ met turned i.callable;
-      whole = λ r t d rest. i.whole r t d (drives_on_after g.I.FallibleIterator.contract.steps call outcome turns _ met turned rest);
+      whole = λ r t d rest. i.whole r t d (drives_on_after_failure g.I.FallibleIterator.contract.steps call outcome turns _ met turned rest);
     }

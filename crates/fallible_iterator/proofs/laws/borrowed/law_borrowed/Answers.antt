@@ -1,9 +1,9 @@
 -- Each draw from the borrow is one from the value that it points to.
-use Rattle.fallible_core.proofs.Lemmas.Borrowed.{run_through, run_of_borrow, run_in_box, run_over_box}
+use Rattle.fallible_core.proofs.Lemmas.Borrowed.{run_through_reference, run_of_borrow, run_in_box, run_over_box}
 use Rattle.fallible_iterator.proofs.laws.borrowed.law_borrowed.Goals as goal
 
 pub returns-clause-borrowed_run : goal.returns-clause-borrowed_run
-returns-clause-borrowed_run g c = λ s trace t ran. run_through _ trace s t ran
+returns-clause-borrowed_run g c = λ s trace t ran. run_through_reference _ trace s t ran
 
 pub returns-clause-run_borrowed : goal.returns-clause-run_borrowed
 returns-clause-run_borrowed g c = λ s trace x ran. run_of_borrow _ trace s x ran

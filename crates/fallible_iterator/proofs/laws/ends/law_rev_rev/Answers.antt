@@ -2,7 +2,7 @@
 use Rattle.std.proofs.Common.{refl}
 use Rattle.fallible_contract.proofs.Lemmas.LawForm.{traces_are_of_parts}
 use Rattle.fallible_contract.proofs.Lemmas.BothEnds.{lists_both_ends_seen, lists_both_ends_as_seen}
-use Rattle.fallible_iterator.proofs.Lemmas.Ends.{run_at_ends_mixed_held}
+use Rattle.fallible_iterator.proofs.Lemmas.Ends.{run_at_ends_same_on_parts}
 use Rattle.fallible_iterator.proofs.laws.ends.law_rev_rev.Goals as goal
 
 pub returns-clause-front : goal.returns-clause-front
@@ -18,4 +18,4 @@ returns-clause-lists g c = λ s l. (
 )
 
 pub returns-clause-both : goal.returns-clause-both
-returns-clause-both g c = run_at_ends_mixed_held (λ u. u.it.it) (λ p. record { it = record { it = p } }) (λ s. refl) (λ p. refl) _ _
+returns-clause-both g c = run_at_ends_same_on_parts (λ u. u.it.it) (λ p. record { it = record { it = p } }) (λ s. refl) (λ p. refl) _ _

@@ -2,7 +2,7 @@
 use Rattle.std.proofs.Common.{List, subst, arith}
 use Rattle.std.proofs.lemmas.List.{take_all, take_more}
 use Rattle.fallible_contract.proofs.Lemmas.Contract.{kept_by_draws_step}
-use Rattle.fallible_contract.proofs.Lemmas.ShownTraces.{is_answers_at_one_more}
+use Rattle.fallible_contract.proofs.Lemmas.ShownTraces.{is_answers_at_one_draw_more}
 use Rattle.fallible_contract.specs.ShownTraces.{IsAnswersAt}
 use Rattle.fallible_iterator.proofs.Lemmas.Answering.{answers_at_told}
 use Rattle.fallible_contract.specs.declared.answers.Side.{Side}
@@ -13,7 +13,7 @@ pub loop-side-preserved : goal.loop-side-preserved
 loop-side-preserved g c = let i = c.loop-side.invariant in let d = c.draw_at-answer.ensures in let e = c.push_reserved.ensures in record {
   room = omega (arith, i.room, e.capacity, e.len);
   within = rw e.len (omega arith);
-  drawn = rw (e.items, d.2, take_more c.args.sides.now c.loop-side.side-index Front c.loop-side-test.true) (is_answers_at_one_more _ d.0 i.drawn d.1);
+  drawn = rw (e.items, d.2, take_more c.args.sides.now c.loop-side.side-index Front c.loop-side-test.true) (is_answers_at_one_draw_more _ d.0 i.drawn d.1);
   kept = kept_by_draws_step _ _ g.met.I.DoubleEndedFallibleIterator.lawful_ends _ d.0 _ _ _ i.kept d.1;
 }
 

@@ -1,5 +1,5 @@
 -- Its keys are those of `unique_of`.
-use Rattle.fallible_itertools_adapters.proofs.Lemmas.UniqueByOf.{failures_of_unique_by, find_in_unique_by, keys_of_unique_by, unique_by_distinct, unique_by_failure_last, unique_by_item_last, unique_by_keyless_last, unique_by_none}
+use Rattle.fallible_itertools_adapters.proofs.Lemmas.UniqueByOf.{failures_of_unique_by, find_in_unique_by, keys_of_unique_by, unique_by_distinct, unique_by_failure_last, unique_by_item_last, unique_by_key_failure_last, unique_by_none}
 use Rattle.fallible_itertools_adapters.proofs.laws.unique.law_unique_by_of.Goals as goal
 
 pub returns-clause-keys : goal.returns-clause-keys
@@ -21,7 +21,7 @@ pub returns-clause-item_last : goal.returns-clause-item_last
 returns-clause-item_last g c h l x k is = unique_by_item_last g.K.PartialEq.eq g.met.K.Eq.laws h l x k is
 
 pub returns-clause-keyless_last : goal.returns-clause-keyless_last
-returns-clause-keyless_last g c h l x e is = unique_by_keyless_last g.K.PartialEq.eq h l x e is
+returns-clause-keyless_last g c h l x e is = unique_by_key_failure_last g.K.PartialEq.eq h l x e is
 
 pub returns-clause-failure_last : goal.returns-clause-failure_last
 returns-clause-failure_last g c h l e = unique_by_failure_last g.K.PartialEq.eq h l e
