@@ -4,7 +4,7 @@ ghost use Rattle.fallible_iterator.specs.Folds.{CallableDriving, Driven};
 ghost use Rattle.fallible_iterator.specs.Outcome.{Outcome};
 ghost use Rattle.fallible_itertools_adapters.specs.Holding.{AtStop, Holds, HintHeld, MadeOfStop, holding_contract, holding_meets, holding_step, made_answers, stop_comes};
 ghost use Rattle.fallible_itertools_adapters.specs.Staging.{stop_answer};
-ghost use Rattle.fallible_itertools_adapters.specs.Laws.Holding.{is_stage_stops};
+ghost use Rattle.fallible_itertools_adapters.specs.Laws.Holding.{is_stage_of_stage_asks};
 
 use crate::staging::{Made, Stage, drive_stage, one, one_then, stopped};
 use fallible_iterator::extending::Outcome;
@@ -85,7 +85,7 @@ impl<'a, P, X, E, A: Hold<P, X, E>> Stage<P, X, E> for HoldStage<'a, A> {
         (stopped(later), None)
     }
 
-    ghost is_stage = { λ k. is_stage_stops (A.asks k.adapter.now) (A.held k.adapter.now)
+    ghost is_stage = { λ k. is_stage_of_stage_asks (A.asks k.adapter.now) (A.held k.adapter.now)
         (A.holds k.adapter.now) };
 }
 

@@ -4,7 +4,7 @@ ghost use Rattle.fallible_iterator.specs.Contract.{seen_as};
 ghost use Rattle.fallible_iterator.specs.Laws.Contract.{lawful_seen};
 ghost use Rattle.fallible_itertools_adapters.specs.Holding.{held_one, holding_step};
 ghost use Rattle.fallible_itertools_adapters.specs.WithPosition.{position_asks, position_before_item, position_before_stop, with_position_contract, with_position_parts};
-ghost use Rattle.fallible_itertools_adapters.specs.Laws.WithPosition.{held_count_law_with_position, lawful_with_position};
+ghost use Rattle.fallible_itertools_adapters.specs.Laws.WithPosition.{position_asks_holds_held_one, lawful_with_position};
 
 use crate::holding::{Hold, drive_holding};
 use fallible_iterator::extending::{Outcome, sum};
@@ -172,7 +172,7 @@ impl<X, E> Hold<Option<(bool, X)>, X, E> for PositionHold {
 
     ghost can_stop = { λ _ p. tt };
 
-    ghost holds = { λ _. held_count_law_with_position };
+    ghost holds = { λ _. position_asks_holds_held_one };
 }
 
 // The position of an item that another item comes after.

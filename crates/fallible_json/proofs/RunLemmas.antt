@@ -5,7 +5,7 @@ use Rattle.std.proofs.Common.{refl, sym, ap, subst, ◌∙◌}
 use Rattle.fallible_iterator.specs.Traces.{Answered}
 use Rattle.fallible_iterator.specs.Lists.{Lists}
 use Rattle.fallible_iterator.proofs.Lemmas.Loops.{AnswersFromHere}
-use Rattle.fallible_iterator.proofs.Lemmas.Taking.{RefusesFirst, TookIf, answers_from_here_taking, failure_met, none_taken}
+use Rattle.fallible_iterator.proofs.Lemmas.Taking.{RefusesFirst, TookIf, answers_from_here_taking, failure_met, lists_and_answers_where_none_taken}
 use Rattle.fallible_json.specs.Lexing.{Placed, run_of, with_byte}
 use Rattle.fallible_json.specs.Tokens.{after, goes_on}
 use Rattle.fallible_json.specs.declared.token.Phase.{Phase}
@@ -40,7 +40,7 @@ module _ {S E : Type 0} {steps : S → Answered Placed E → S → Type 0} {s0 s
   -- the run ends where none is taken
   pub run_ends : r ≡ Ok None → (l : List (Result Placed E)) → Lists steps s0 l → (Ok b ≡ (run_of b0 l).0) × Lists steps t (run_of b0 l).1
   run_ends is l i =
-      let k = none_taken (λ x. goes_on b.1 x.1) here took l i is in
+      let k = lists_and_answers_where_none_taken (λ x. goes_on b.1 x.1) here took l i is in
       let same : run_of b0 l ≡ (Ok b, k.0) = k.3 ∙ run_stops b k.0 k.2 in
       (sym (ap (λ p. p.0) same), subst (Lists steps t) (sym (ap (λ p. p.1) same)) k.1)
 

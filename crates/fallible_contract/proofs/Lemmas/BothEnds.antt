@@ -10,23 +10,23 @@ use Rattle.fallible_contract.specs.Lists.{AlwaysGives, Lists}
 use Rattle.fallible_contract.specs.BothEnds.{TakesFirst, ListsBothEndsFor, ListsBothEnds}
 
 -- what holds of the rest may be weakened
-pub takes_first_weaker : {A E : Type 0} {P Q : List (Result A E) → Type 0} → ((k : List (Result A E)) → P k → Q k) → (r : Answered A E) (l : List (Result A E)) → TakesFirst P r l → TakesFirst Q r l
-takes_first_weaker weak r [] h = (h.0, weak [] h.1)
-takes_first_weaker weak r (y ∷ l) h = (h.0, weak l h.1)
+pub takes_first_by_implication : {A E : Type 0} {P Q : List (Result A E) → Type 0} → ((k : List (Result A E)) → P k → Q k) → (r : Answered A E) (l : List (Result A E)) → TakesFirst P r l → TakesFirst Q r l
+takes_first_by_implication weak r [] h = (h.0, weak [] h.1)
+takes_first_by_implication weak r (y ∷ l) h = (h.0, weak l h.1)
 
 module _ {S A E : Type 0} (front back : S → Answered A E → S → Type 0) where
-  takes_first_for_all : (r : Answered A E) (t : S) (l : List (Result A E)) (turn : List (Result A E) → List (Result A E)) → ((n : ℕ) → TakesFirst (λ k. ListsBothEndsFor front back n t (turn k)) r l) → TakesFirst (λ k. ListsBothEnds front back t (turn k)) r l
-  takes_first_for_all r t [] turn h = ((h zero).0, record { for = λ n. (h n).1 })
-  takes_first_for_all r t (y ∷ l) turn h = ((h zero).0, record { for = λ n. (h n).1 })
+  takes_first_by_every_number : (r : Answered A E) (t : S) (l : List (Result A E)) (turn : List (Result A E) → List (Result A E)) → ((n : ℕ) → TakesFirst (λ k. ListsBothEndsFor front back n t (turn k)) r l) → TakesFirst (λ k. ListsBothEnds front back t (turn k)) r l
+  takes_first_by_every_number r t [] turn h = ((h zero).0, record { for = λ n. (h n).1 })
+  takes_first_by_every_number r t (y ∷ l) turn h = ((h zero).0, record { for = λ n. (h n).1 })
 
 module _ {S A E : Type 0} {front back : S → Answered A E → S → Type 0} where
   -- a draw from the front takes the first of the list
   pub takes_first_front : {s t : S} {r : Answered A E} {l : List (Result A E)} → ListsBothEnds front back s l → front s r t → TakesFirst (λ k. ListsBothEnds front back t k) r l
-  takes_first_front {s = s} {t = t} {r = r} {l = l} i step = takes_first_for_all front back r t l (λ k. k) (λ n. (i.for (suc n)).0 r t step)
+  takes_first_front {s = s} {t = t} {r = r} {l = l} i step = takes_first_by_every_number front back r t l (λ k. k) (λ n. (i.for (suc n)).0 r t step)
 
   -- a draw from the back takes the last
   pub takes_first_back : {s t : S} {r : Answered A E} {l : List (Result A E)} → ListsBothEnds front back s l → back s r t → TakesFirst (λ k. ListsBothEnds front back t (reverse k)) r (reverse l)
-  takes_first_back {s = s} {t = t} {r = r} {l = l} i step = takes_first_for_all front back r t (reverse l) reverse (λ n. (i.for (suc n)).1 r t step)
+  takes_first_back {s = s} {t = t} {r = r} {l = l} i step = takes_first_by_every_number front back r t (reverse l) reverse (λ n. (i.for (suc n)).1 r t step)
 
 -- A relation of values and lists says that the value lists the list, where each draw takes an element and leaves what the relation relates to the rest.
 module _ {S A E : Type 0} (front back : S → Answered A E → S → Type 0) (ListedByCalls : S → List (Result A E) → Type 0)
@@ -35,8 +35,8 @@ module _ {S A E : Type 0} (front back : S → Answered A E → S → Type 0) (Li
   lists_both_ends_for_number : (n : ℕ) (s : S) (l : List (Result A E)) → ListedByCalls s l → ListsBothEndsFor front back n s l
   lists_both_ends_for_number zero s l h = tt
   lists_both_ends_for_number (suc n) s l h = (
-    (λ r t step. takes_first_weaker (λ k says. lists_both_ends_for_number n t k says) r l (at_front s l h r t step)),
-    (λ r t step. takes_first_weaker (λ k says. lists_both_ends_for_number n t (reverse k) says) r (reverse l) (at_back s l h r t step)),
+    (λ r t step. takes_first_by_implication (λ k says. lists_both_ends_for_number n t k says) r l (at_front s l h r t step)),
+    (λ r t step. takes_first_by_implication (λ k says. lists_both_ends_for_number n t (reverse k) says) r (reverse l) (at_back s l h r t step)),
   )
 
   pub lists_both_ends_by_draws : (s : S) (l : List (Result A E)) → ListedByCalls s l → ListsBothEnds front back s l
@@ -47,7 +47,7 @@ module _ {S A E : Type 0} (front back : S → Answered A E → S → Type 0) (Li
     (at_front : (s : S) (l : List (Result A E)) → ListedByCalls s l → (r : Answered A E) (t : S) → front s r t → TakesFirst (λ k. ListedByCalls t k) r l)
     (at_back : (s : S) (l : List (Result A E)) → Swapped s l → (r : Answered A E) (t : S) → back s r t → TakesFirst (λ k. Swapped t k) r l) where
   takes_first_back_reversed : (s : S) (l : List (Result A E)) → ListedByCalls s l → (r : Answered A E) (t : S) → back s r t → TakesFirst (λ k. ListedByCalls t (reverse k)) r (reverse l)
-  takes_first_back_reversed s l h r t step = takes_first_weaker (λ k says. from t k says) r (reverse l) (at_back s (reverse l) (to s l h) r t step)
+  takes_first_back_reversed s l h r t step = takes_first_by_implication (λ k says. from t k says) r (reverse l) (at_back s (reverse l) (to s l h) r t step)
 
   pub lists_both_ends_by_swapping : (s : S) (l : List (Result A E)) → ListedByCalls s l → ListsBothEnds front back s l
   lists_both_ends_by_swapping s l h = lists_both_ends_by_draws front back ListedByCalls at_front takes_first_back_reversed s l h
@@ -59,7 +59,7 @@ module _ {S A E : Type 0} {front back : S → Answered A E → S → Type 0} whe
   takes_first_reversed_front s l i r t step = subst (λ (k : List (Result A E)). TakesFirst (λ j. ListsBothEnds front back t (reverse j)) r k) (reverse-reverse l) (takes_first_back i step)
 
   takes_first_reversed_back : (s : S) (l : List (Result A E)) → ListsBothEnds front back s (reverse l) → (r : Answered A E) (t : S) → front s r t → TakesFirst (λ k. ListsBothEnds front back t (reverse (reverse k))) r (reverse l)
-  takes_first_reversed_back s l i r t step = takes_first_weaker (λ k j. subst (λ (m : List (Result A E)). ListsBothEnds front back t m) (sym (reverse-reverse k)) j) r (reverse l) (takes_first_front i step)
+  takes_first_reversed_back s l i r t step = takes_first_by_implication (λ k j. subst (λ (m : List (Result A E)). ListsBothEnds front back t m) (sym (reverse-reverse k)) j) r (reverse l) (takes_first_front i step)
 
   -- a value listed with its ends swapped lists the reverse
   pub lists_both_ends_of_reverse : {s : S} (l : List (Result A E)) → ListsBothEnds front back s (reverse l) → ListsBothEnds back front s l
@@ -87,8 +87,8 @@ lists_from_back i = lists_first (lists_both_ends_swapped i)
 module _ {V P A E : Type 0} {front back : P → Answered A E → P → Type 0} (view : V → P) (steps others : V → Answered A E → V → Type 0)
     (at_front : (u : V) (r : Answered A E) (v : V) → steps u r v → front (view u) r (view v)) (at_back : (u : V) (r : Answered A E) (v : V) → others u r v → back (view u) r (view v)) where
   -- a value each of whose draws is one of what it is seen as lists what that lists
-  pub lists_both_ends_within : {s : V} {l : List (Result A E)} → ListsBothEnds front back (view s) l → ListsBothEnds steps others s l
-  lists_both_ends_within {s = s} {l = l} i = lists_both_ends_by_draws steps others (λ u k. ListsBothEnds front back (view u) k) (λ u k j r v step. takes_first_front j (at_front u r v step)) (λ u k j r v step. takes_first_back j (at_back u r v step)) s l i
+  pub lists_both_ends_where_view_lists : {s : V} {l : List (Result A E)} → ListsBothEnds front back (view s) l → ListsBothEnds steps others s l
+  lists_both_ends_where_view_lists {s = s} {l = l} i = lists_both_ends_by_draws steps others (λ u k. ListsBothEnds front back (view u) k) (λ u k j r v step. takes_first_front j (at_front u r v step)) (λ u k j r v step. takes_first_back j (at_back u r v step)) s l i
 
 module _ {V P A E : Type 0} {steps others : V → Answered A E → V → Type 0} (view : V → P) (front back : P → Answered A E → P → Type 0)
     (at_front : (u : V) (r : Answered A E) (q : P) → front (view u) r q → (v : V) × (view v ≡ q) × steps u r v) (at_back : (u : V) (r : Answered A E) (q : P) → back (view u) r q → (v : V) × (view v ≡ q) × others u r v) where
@@ -96,18 +96,18 @@ module _ {V P A E : Type 0} {steps others : V → Answered A E → V → Type 0}
   SeenListed p l = (u : V) × (view u ≡ p) × ListsBothEnds steps others u l
 
   takes_first_seen_at_front : (p : P) (l : List (Result A E)) → SeenListed p l → (r : Answered A E) (q : P) → front p r q → TakesFirst (λ k. SeenListed q k) r l
-  takes_first_seen_at_front p l h r q step = let d = at_front h.0 r q (subst (λ (z : P). front z r q) (sym h.1) step) in takes_first_weaker {P = λ k. ListsBothEnds steps others d.0 k} {Q = λ k. SeenListed q k} (λ k j. (d.0, d.1, j)) r l (takes_first_front h.2 d.2)
+  takes_first_seen_at_front p l h r q step = let d = at_front h.0 r q (subst (λ (z : P). front z r q) (sym h.1) step) in takes_first_by_implication {P = λ k. ListsBothEnds steps others d.0 k} {Q = λ k. SeenListed q k} (λ k j. (d.0, d.1, j)) r l (takes_first_front h.2 d.2)
 
   takes_first_seen_at_back : (p : P) (l : List (Result A E)) → SeenListed p l → (r : Answered A E) (q : P) → back p r q → TakesFirst (λ k. SeenListed q (reverse k)) r (reverse l)
-  takes_first_seen_at_back p l h r q step = let d = at_back h.0 r q (subst (λ (z : P). back z r q) (sym h.1) step) in takes_first_weaker {P = λ k. ListsBothEnds steps others d.0 (reverse k)} {Q = λ k. SeenListed q (reverse k)} (λ k j. (d.0, d.1, j)) r (reverse l) (takes_first_back h.2 d.2)
+  takes_first_seen_at_back p l h r q step = let d = at_back h.0 r q (subst (λ (z : P). back z r q) (sym h.1) step) in takes_first_by_implication {P = λ k. ListsBothEnds steps others d.0 (reverse k)} {Q = λ k. SeenListed q (reverse k)} (λ k j. (d.0, d.1, j)) r (reverse l) (takes_first_back h.2 d.2)
 
   -- what a value is seen as, each of whose draws is one of the value, lists what the value lists
-  pub lists_both_ends_as_seen : {s : V} {l : List (Result A E)} → ListsBothEnds steps others s l → ListsBothEnds front back (view s) l
-  lists_both_ends_as_seen {s = s} {l = l} i = lists_both_ends_by_draws front back SeenListed takes_first_seen_at_front takes_first_seen_at_back (view s) l (s, refl, i)
+  pub lists_both_ends_at_view : {s : V} {l : List (Result A E)} → ListsBothEnds steps others s l → ListsBothEnds front back (view s) l
+  lists_both_ends_at_view {s = s} {l = l} i = lists_both_ends_by_draws front back SeenListed takes_first_seen_at_front takes_first_seen_at_back (view s) l (s, refl, i)
 
-pub lists_both_ends_seen : {V P A E : Type 0} {front back : P → Answered A E → P → Type 0} (view : V → P) {s : V} {l : List (Result A E)} → ListsBothEnds front back (view s) l → ListsBothEnds (λ u r v. front (view u) r (view v)) (λ u r v. back (view u) r (view v)) s l
-lists_both_ends_seen {front = front} {back = back} view i = lists_both_ends_within view (λ u r v. front (view u) r (view v)) (λ u r v. back (view u) r (view v)) (λ u r v step. step) (λ u r v step. step) i
+pub lists_both_ends_through_view : {V P A E : Type 0} {front back : P → Answered A E → P → Type 0} (view : V → P) {s : V} {l : List (Result A E)} → ListsBothEnds front back (view s) l → ListsBothEnds (λ u r v. front (view u) r (view v)) (λ u r v. back (view u) r (view v)) s l
+lists_both_ends_through_view {front = front} {back = back} view i = lists_both_ends_where_view_lists view (λ u r v. front (view u) r (view v)) (λ u r v. back (view u) r (view v)) (λ u r v step. step) (λ u r v step. step) i
 
 -- the same, where parts and list are known by other names
 pub lists_both_ends_of_parts : {V P A E : Type 0} {front back : P → Answered A E → P → Type 0} (view : V → P) (s : V) {p : P} {l k : List (Result A E)} → view s ≡ p → l ≡ k → ListsBothEnds front back p l → ListsBothEnds (λ u r v. front (view u) r (view v)) (λ u r v. back (view u) r (view v)) s k
-lists_both_ends_of_parts {A = A} {E = E} {front = front} {back = back} view s {p = p} {l = l} {k = k} at same i = lists_both_ends_seen view (subst (λ (q : _). ListsBothEnds front back q k) (sym at) (subst (λ (j : List (Result A E)). ListsBothEnds front back p j) same i))
+lists_both_ends_of_parts {A = A} {E = E} {front = front} {back = back} view s {p = p} {l = l} {k = k} at same i = lists_both_ends_through_view view (subst (λ (q : _). ListsBothEnds front back q k) (sym at) (subst (λ (j : List (Result A E)). ListsBothEnds front back p j) same i))

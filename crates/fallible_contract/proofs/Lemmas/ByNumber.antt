@@ -41,9 +41,9 @@ module _ {S A E : Type 0} (steps : S → Answered A E → S → Type 0) (between
   leaves_split (leaves_out x step more) = let h = leaves_split more in (h.0, h.1, leaves_out x step h.2, h.3)
 
   -- a left-out item, and then the rest
-  pub leaves_left_out_first : {s u t : S} {r : Answered A E} {trace : List (Answered A E)} {k : ℕ} (x : A) (n : ℕ) → 0 < n → steps s (item x) u → Leaves (n - 1) u (r ∷ trace) t k → Leaves n s (r ∷ trace) t k
-  leaves_left_out_first x zero some step rest = absurd (omega (arith, some))
-  leaves_left_out_first {u = u} {t = t} {r = r} {trace = trace} {k = k} x (suc j) some step rest = leaves_out x step (subst (λ (i : ℕ). Leaves i u (r ∷ trace) t k) (omega arith) rest)
+  pub leaves_after_item_left_out : {s u t : S} {r : Answered A E} {trace : List (Answered A E)} {k : ℕ} (x : A) (n : ℕ) → 0 < n → steps s (item x) u → Leaves (n - 1) u (r ∷ trace) t k → Leaves n s (r ∷ trace) t k
+  leaves_after_item_left_out x zero some step rest = absurd (omega (arith, some))
+  leaves_after_item_left_out {u = u} {t = t} {r = r} {trace = trace} {k = k} x (suc j) some step rest = leaves_out x step (subst (λ (i : ℕ). Leaves i u (r ∷ trace) t k) (omega arith) rest)
 
 -- ---- the definition by numbers
 

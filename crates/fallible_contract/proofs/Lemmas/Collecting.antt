@@ -13,13 +13,13 @@ use Rattle.std.specs.declared.alloc.AllocError.{AllocError}
 -- Turns that go on add the item to what is made; one that stops with q stops as `stops` says.
 module _ {A C R : Type 0} (made : List A → C → Type 0) (turns : C → A → ControlFlow R (Unit {0}) → C → Type 0)
     (adds : (c : C) (x : A) (d : C) → turns c x (Continue tt) d → (items : List A) → made items c → made (items ++ x ∷ []) d) where
-  made_after : (before items : List A) (c d : C) → made before c → FoldsTo (goes_on turns) c items d → made (before ++ items) d
-  made_after before [] c d h went = subst (λ e. made (before ++ []) e) went (subst (λ l. made l c) (sym (append-nil before)) h)
-  made_after before (x ∷ items) c d h went = subst (λ l. made l d) (append_assoc before (x ∷ []) items) (made_after (before ++ x ∷ []) items went.0 d (adds c x went.0 went.1 before h) went.2)
+  made_of_append : (before items : List A) (c d : C) → made before c → FoldsTo (goes_on turns) c items d → made (before ++ items) d
+  made_of_append before [] c d h went = subst (λ e. made (before ++ []) e) went (subst (λ l. made l c) (sym (append-nil before)) h)
+  made_of_append before (x ∷ items) c d h went = subst (λ l. made l d) (append_assoc before (x ∷ []) items) (made_of_append (before ++ x ∷ []) items went.0 d (adds c x went.0 went.1 before h) went.2)
 
   module _ {S E : Type 0} (steps : S → Answered A E → S → Type 0) {s t : S} {c : C} (is_empty : made [] c) where
     made_by : {r : Answered R E} {d : C} → (w : Driven steps turns s c r t d) → made w.items w.at.carried
-    made_by w = made_after [] w.items c w.at.carried is_empty w.at.went
+    made_by w = made_of_append [] w.items c w.at.carried is_empty w.at.went
 
     collects_all_at_end : (d : C) (w : Driven steps turns s c (Ok None) t d) (last : Answered A E) → Run steps s (map item w.items ++ last ∷ []) t → DriveExit turns w.at.carried last (Ok None) d → CollectsAll steps made s d
     collects_all_at_end d w (Ok None) ran e = record { items = w.items; after = t; ran = ran; is_made = subst (λ z. made w.items z) (sym e.1) (made_by w) }
@@ -61,12 +61,12 @@ module _ {S A E C : Type 0} {steps : S → Answered A E → S → Type 0} {made 
 -- ---- unzip
 
 -- one more of a mapped list
-pub map_one_more : {X Y : Type 0} (h : X → Y) (items : List X) (x : X) → map h items ++ h x ∷ [] ≡ map h (items ++ x ∷ [])
-map_one_more h [] x = refl
-map_one_more h (y ∷ items) x = ap (λ l. h y ∷ l) (map_one_more h items x)
+pub map_append_one_is_map_of_one_more : {X Y : Type 0} (h : X → Y) (items : List X) (x : X) → map h items ++ h x ∷ [] ≡ map h (items ++ x ∷ [])
+map_append_one_is_map_of_one_more h [] x = refl
+map_append_one_is_map_of_one_more h (y ∷ items) x = ap (λ l. h y ∷ l) (map_append_one_is_map_of_one_more h items x)
 
 module _ {A B C D : Type 0} (made_first : List A → C → Type 0) (made_second : List B → D → Type 0) (first_refuses : C → A → Type 0) (second_refuses : D → B → Type 0) where
   -- a turn with a pair pushes it to the pair of the collections
-  pub collect_turn_of_pair : (c : C × D) (x : A × B) (r : ControlFlow AllocError (Unit {0})) (d : C × D) → IsUnzipTurn made_first made_second first_refuses second_refuses c x r d → IsCollectTurn (MadeOfPairs made_first made_second) (PairRefused made_first made_second first_refuses second_refuses) c x r d
-  collect_turn_of_pair c x (Continue u) d w = λ items h. (subst (λ l. made_first l d.0) (map_one_more (λ p. p.0) items x) (w.0 (map (λ p. p.0) items) h.0), subst (λ l. made_second l d.1) (map_one_more (λ p. p.1) items x) (w.1 (map (λ p. p.1) items) h.1))
-  collect_turn_of_pair c x (Break a) d w = w
+  pub collect_turn_of_unzip_turn : (c : C × D) (x : A × B) (r : ControlFlow AllocError (Unit {0})) (d : C × D) → IsUnzipTurn made_first made_second first_refuses second_refuses c x r d → IsCollectTurn (MadeOfPairs made_first made_second) (PairRefused made_first made_second first_refuses second_refuses) c x r d
+  collect_turn_of_unzip_turn c x (Continue u) d w = λ items h. (subst (λ l. made_first l d.0) (map_append_one_is_map_of_one_more (λ p. p.0) items x) (w.0 (map (λ p. p.0) items) h.0), subst (λ l. made_second l d.1) (map_append_one_is_map_of_one_more (λ p. p.1) items x) (w.1 (map (λ p. p.1) items) h.1))
+  collect_turn_of_unzip_turn c x (Break a) d w = w

@@ -7,8 +7,8 @@ use Rattle.fallible_contract.specs.Closures.{IsCallable}
 use Rattle.fallible_contract.specs.Failing.{failing_step, FailingAnswer, TakesFailure}
 use Rattle.fallible_contract.specs.Folds.{Drained, HoldsAtEachTurn, DrivenBy, CountedUp, LastBy, NthExit, NthBy}
 use Rattle.fallible_contract.specs.Laws.Closures.{reaches_reflexive, is_callable_after}
-use Rattle.fallible_contract.proofs.Lemmas.Failing.{failing_trace_answered}
-use Rattle.fallible_contract.proofs.Lemmas.Folding.{holds_at_each_turn_into}
+use Rattle.fallible_contract.proofs.Lemmas.Failing.{failing_trace_of_failing_answer}
+use Rattle.fallible_contract.proofs.Lemmas.Folding.{holds_at_each_turn_of_held}
 use Rattle.std.specs.declared.ops.ControlFlow.{ControlFlow}
 
 -- ---- what a call returns, by what came
@@ -28,27 +28,27 @@ module _ {X D E C R : Type 0} (turns : C → X → ControlFlow R (Unit {0}) → 
   fails_last_drive = record { at_value = driven_by_ok_of_value; at_failure = λ made items e at. (at.exit.0, (λ f. record { carried = at.carried; went = at.went; exit = (refl, at.exit.1) })) }
 
 module _ {X D E : Type 0} where
-  count_value : (n k : ℕ) (made : Result (Unit {0}) D) (items : List X) (v : Option X) → CountedUp n made k items (Ok v) → (w : Unit {0}) × (made ≡ Ok w) × CountedUp {E = E} n (Ok w) k items (Ok v)
-  count_value n k made items None at = (tt, at.exit, record { number = at.number; exit = refl })
-  count_value n k made items (Some x) at = absurd at.exit
+  counted_up_ok_of_value : (n k : ℕ) (made : Result (Unit {0}) D) (items : List X) (v : Option X) → CountedUp n made k items (Ok v) → (w : Unit {0}) × (made ≡ Ok w) × CountedUp {E = E} n (Ok w) k items (Ok v)
+  counted_up_ok_of_value n k made items None at = (tt, at.exit, record { number = at.number; exit = refl })
+  counted_up_ok_of_value n k made items (Some x) at = absurd at.exit
 
   -- a count, from the number n to k
   pub fails_last_count : (n k : ℕ) → FailsLast (λ made. CountedUp {A = X} {E = D} n made k) (λ made. CountedUp {A = X} {E = E} n made k)
-  fails_last_count n k = record { at_value = count_value n k; at_failure = λ made items d at. (at.exit, (λ e. record { number = at.number; exit = refl })) }
+  fails_last_count n k = record { at_value = counted_up_ok_of_value n k; at_failure = λ made items d at. (at.exit, (λ e. record { number = at.number; exit = refl })) }
 
-  last_value : (made : Result (Option X) D) (items : List X) (v : Option X) → LastBy made items (Ok v) → (w : Option X) × (made ≡ Ok w) × LastBy {E = E} (Ok w) items (Ok v)
-  last_value made items None at = (_, at.exit, record { exit = refl })
-  last_value made items (Some x) at = absurd at.exit
+  last_by_ok_of_value : (made : Result (Option X) D) (items : List X) (v : Option X) → LastBy made items (Ok v) → (w : Option X) × (made ≡ Ok w) × LastBy {E = E} (Ok w) items (Ok v)
+  last_by_ok_of_value made items None at = (_, at.exit, record { exit = refl })
+  last_by_ok_of_value made items (Some x) at = absurd at.exit
 
   pub fails_last_of_last : FailsLast (LastBy {A = X} {E = D}) (LastBy {A = X} {E = E})
-  fails_last_of_last = record { at_value = last_value; at_failure = λ made items d at. (at.exit, (λ e. record { exit = refl })) }
+  fails_last_of_last = record { at_value = last_by_ok_of_value; at_failure = λ made items d at. (at.exit, (λ e. record { exit = refl })) }
 
-  nth_value : (n : ℕ) (made : Answered X D) (items : List X) (v : Option X) → NthBy n made items (Ok v) → (w : Option X) × (made ≡ Ok w) × NthBy {E = E} n (Ok w) items (Ok v)
-  nth_value n made items None at = (None, sym at.is, record { is = refl; exit = subst (NthExit n (length items)) (sym at.is) at.exit })
-  nth_value n made items (Some x) at = (Some x, sym at.is, record { is = refl; exit = subst (NthExit n (length items)) (sym at.is) at.exit })
+  nth_by_ok_of_value : (n : ℕ) (made : Answered X D) (items : List X) (v : Option X) → NthBy n made items (Ok v) → (w : Option X) × (made ≡ Ok w) × NthBy {E = E} n (Ok w) items (Ok v)
+  nth_by_ok_of_value n made items None at = (None, sym at.is, record { is = refl; exit = subst (NthExit n (length items)) (sym at.is) at.exit })
+  nth_by_ok_of_value n made items (Some x) at = (Some x, sym at.is, record { is = refl; exit = subst (NthExit n (length items)) (sym at.is) at.exit })
 
   pub fails_last_nth : (n : ℕ) → FailsLast (NthBy {A = X} {E = D} n) (NthBy {A = X} {E = E} n)
-  fails_last_nth n = record { at_value = nth_value n; at_failure = λ made items d at. (sym at.is, (λ e. record { is = refl; exit = subst (NthExit n (length items)) (sym at.is) at.exit })) }
+  fails_last_nth n = record { at_value = nth_by_ok_of_value n; at_failure = λ made items d at. (sym at.is, (λ e. record { is = refl; exit = subst (NthExit n (length items)) (sym at.is) at.exit })) }
 
 -- ---- what becomes of the last answer
 
@@ -57,28 +57,28 @@ module _ {F X C D E : Type 0} (call : F → D → E → F → Type 0) (f h : F) 
   abbrev LastBecomes : List X → Answered X D → Result C E → Type 0
   LastBecomes items last r = (answer : Answered X E) × FailingAnswer call f last answer h × becomes r items answer
 
-  becomes_of_last : (items : List X) (last : Answered X D) (made : Result C D) (r : Result C E) → came made items last → FailingAnswer call f made r h → LastBecomes items last r
-  becomes_of_last items (Ok v) made r at k = let value = fails.at_value made items v at in let j = subst (λ z. FailingAnswer call f z r h) value.1 k in
+  last_becomes_of_came : (items : List X) (last : Answered X D) (made : Result C D) (r : Result C E) → came made items last → FailingAnswer call f made r h → LastBecomes items last r
+  last_becomes_of_came items (Ok v) made r at k = let value = fails.at_value made items v at in let j = subst (λ z. FailingAnswer call f z r h) value.1 k in
       (Ok v, (refl, j.1), subst (λ z. becomes z items (Ok v)) (sym j.0) value.2)
-  becomes_of_last items (Err d) made r at k = let failure = fails.at_failure made items d at in let j = subst (λ z. FailingAnswer call f z r h) failure.0 k in
+  last_becomes_of_came items (Err d) made r at k = let failure = fails.at_failure made items d at in let j = subst (λ z. FailingAnswer call f z r h) failure.0 k in
       (Err j.0, (j.0, j.1, refl), subst (λ z. becomes z items (Err j.0)) (sym j.2) (failure.1 j.0))
 
 -- ---- draws of the source are draws of it
 
 module _ {S F X D E : Type 0} (steps : S → Answered X D → S → Type 0) (call : F → D → E → F → Type 0) where
   -- items, and what becomes of the last answer
-  run_failing_to_last : (items : List X) (last : Answered X D) (answer : Answered X E) (s t : S) (f h : F) → FailingAnswer call f last answer h → Run steps s (map item items ++ last ∷ []) t → Run (failing_step steps call) (s, f) (map item items ++ answer ∷ []) (t, h)
-  run_failing_to_last [] last answer s t f h made ran = ((t, h), failing_trace_answered steps answer last (subst (λ (u : S). steps s last u) ran.2 ran.1) made, refl)
-  run_failing_to_last (x ∷ items) last answer s t f h made ran = ((ran.0, f), failing_trace_answered steps (item x) (item x) ran.1 (refl, refl), run_failing_to_last items last answer ran.0 t f h made ran.2)
+  run_of_failing_step_to_last : (items : List X) (last : Answered X D) (answer : Answered X E) (s t : S) (f h : F) → FailingAnswer call f last answer h → Run steps s (map item items ++ last ∷ []) t → Run (failing_step steps call) (s, f) (map item items ++ answer ∷ []) (t, h)
+  run_of_failing_step_to_last [] last answer s t f h made ran = ((t, h), failing_trace_of_failing_answer steps answer last (subst (λ (u : S). steps s last u) ran.2 ran.1) made, refl)
+  run_of_failing_step_to_last (x ∷ items) last answer s t f h made ran = ((ran.0, f), failing_trace_of_failing_answer steps (item x) (item x) ran.1 (refl, refl), run_of_failing_step_to_last items last answer ran.0 t f h made ran.2)
 
-pub fails_last_drained : {S F X C D E : Type 0} {steps : S → Answered X D → S → Type 0} {call : F → D → E → F → Type 0} {s t : S} (f h : F) {came : Result C D → List X → Answered X D → Type 0} {becomes : Result C E → List X → Answered X E → Type 0} → FailsLast came becomes
+pub drained_of_failing_step_by_source : {S F X C D E : Type 0} {steps : S → Answered X D → S → Type 0} {call : F → D → E → F → Type 0} {s t : S} (f h : F) {came : Result C D → List X → Answered X D → Type 0} {becomes : Result C E → List X → Answered X E → Type 0} → FailsLast came becomes
     → {made : Result C D} {r : Result C E} → Drained steps (came made) s t → FailingAnswer call f made r h → Drained (failing_step steps call) (becomes r) (s, f) (t, h)
-fails_last_drained {steps = steps} {call = call} {s = s} {t = t} f h fails {made = made} {r = r} w k = let last = becomes_of_last call f h fails w.items w.last made r w.at k in
-    record { items = w.items; last = last.0; ran = run_failing_to_last steps call w.items w.last last.0 s t f h last.1 w.ran; at = last.2 }
+drained_of_failing_step_by_source {steps = steps} {call = call} {s = s} {t = t} f h fails {made = made} {r = r} w k = let last = last_becomes_of_came call f h fails w.items w.last made r w.at k in
+    record { items = w.items; last = last.0; ran = run_of_failing_step_to_last steps call w.items w.last last.0 s t f h last.1 w.ran; at = last.2 }
 
 -- a turn of it may be taken where one of the source may
-pub holds_each_turn_failing : {S F X D E C : Type 0} {steps : S → Answered X D → S → Type 0} {call : F → D → E → F → Type 0} {goes : C → X → C → Type 0} {P : C → X → Type 0} {s : S} {c : C} (f : F) → HoldsAtEachTurn (failing_step steps call) goes P (s, f) c → HoldsAtEachTurn steps goes P s c
-holds_each_turn_failing {steps = steps} {call = call} f holds = holds_at_each_turn_into {held = failing_step steps call} (λ u. (u, f)) (λ u x v step. failing_trace_answered steps (item x) (item x) step (refl, refl)) holds
+pub holds_each_turn_of_source_by_failing : {S F X D E C : Type 0} {steps : S → Answered X D → S → Type 0} {call : F → D → E → F → Type 0} {goes : C → X → C → Type 0} {P : C → X → Type 0} {s : S} {c : C} (f : F) → HoldsAtEachTurn (failing_step steps call) goes P (s, f) c → HoldsAtEachTurn steps goes P s c
+holds_each_turn_of_source_by_failing {steps = steps} {call = call} f holds = holds_at_each_turn_of_held {held = failing_step steps call} (λ u. (u, f)) (λ u x v step. failing_trace_of_failing_answer steps (item x) (item x) step (refl, refl)) holds
 
 -- ---- the closure may be called on the failure that was met
 

@@ -4,7 +4,7 @@ use Rattle.std.specs.List.{FoldsTo, last_or}
 use Rattle.std.proofs.Common.{refl, sym, ap, ◌∙◌, subst, arith}
 use Rattle.fallible_contract.specs.Traces.{Answered, Run, Yields, item}
 use Rattle.fallible_contract.specs.Contract.{Contract, AtMost, Lawful}
-use Rattle.fallible_contract.proofs.Lemmas.Contract.{number_of_at_most}
+use Rattle.fallible_contract.proofs.Lemmas.Contract.{bound_at_most_of_at_most}
 use Rattle.fallible_contract.specs.Folds.{Drained, OverExit, CountDrainsOn, CountExit, CountDrains, LastExit, LastDrains, HoldsAtEachTurn, went_on_with, CallableInFold, IsFoldTurn, IsFoldTurnInSlot, takes_in_slot, FoldExit, FoldDrains, goes_on, DriveExit, CallableDriving, Driven, TurnThrough}
 use Rattle.std.specs.declared.ops.ControlFlow.{ControlFlow}
 use Rattle.std.specs.declared.ops.ControlFlow.TheVariants.{Continue, Break}
@@ -14,32 +14,32 @@ module _ {S A E C : Type 0} {steps : S → Answered A E → S → Type 0} {goes 
   pub holds_at_first_turn : {s t : S} {c : C} {x : A} → HoldsAtEachTurn steps goes P s c → steps s (item x) t → P c x
   holds_at_first_turn {s} {t} {c} {x} h step = h.at [] s t c x refl refl step
 
-  pub holds_each_turn_after : {s t : S} {c d : C} {x : A} → HoldsAtEachTurn steps goes P s c → steps s (item x) t → goes c x d → HoldsAtEachTurn steps goes P t d
-  holds_each_turn_after {s} {t} {c} {d} {x} h step turn = record { at = λ items v u e y ran went stepped. h.at (x ∷ items) v u e y (t, step, ran) (d, turn, went) stepped }
+  pub holds_each_turn_after_item : {s t : S} {c d : C} {x : A} → HoldsAtEachTurn steps goes P s c → steps s (item x) t → goes c x d → HoldsAtEachTurn steps goes P t d
+  holds_each_turn_after_item {s} {t} {c} {d} {x} h step turn = record { at = λ items v u e y ran went stepped. h.at (x ∷ items) v u e y (t, step, ran) (d, turn, went) stepped }
 
   pub holds_each_turn_after_items : (items : List A) (s t : S) (c d : C) → Yields steps s items t → FoldsTo goes c items d → HoldsAtEachTurn steps goes P s c → HoldsAtEachTurn steps goes P t d
   holds_each_turn_after_items [] s t c d ran went h = subst (λ (u : S). HoldsAtEachTurn steps goes P u d) ran (subst (λ (z : C). HoldsAtEachTurn steps goes P s z) went h)
-  holds_each_turn_after_items (x ∷ items) s t c d ran went h = holds_each_turn_after_items items ran.0 t went.0 d ran.2 went.2 (holds_each_turn_after h ran.1 went.1)
+  holds_each_turn_after_items (x ∷ items) s t c d ran went h = holds_each_turn_after_items items ran.0 t went.0 d ran.2 went.2 (holds_each_turn_after_item h ran.1 went.1)
 
 -- turns that go on are those of another kind of turn
-pub folds_to_map : {C A : Type 0} {R Q : C → A → C → Type 0} → ((c : C) (x : A) (d : C) → R c x d → Q c x d) → (items : List A) (c d : C) → FoldsTo R c items d → FoldsTo Q c items d
-folds_to_map h [] c d e = e
-folds_to_map h (x ∷ items) c d w = (w.0, h c x w.0 w.1, folds_to_map h items w.0 d w.2)
+pub folds_to_by_implication : {C A : Type 0} {R Q : C → A → C → Type 0} → ((c : C) (x : A) (d : C) → R c x d → Q c x d) → (items : List A) (c d : C) → FoldsTo R c items d → FoldsTo Q c items d
+folds_to_by_implication h [] c d e = e
+folds_to_by_implication h (x ∷ items) c d w = (w.0, h c x w.0 w.1, folds_to_by_implication h items w.0 d w.2)
 
 -- what holds at each turn of one kind holds at each turn of a narrower kind
-pub holds_each_turn_map : {S A E C : Type 0} {steps : S → Answered A E → S → Type 0} {R Q : C → A → C → Type 0} {P P' : C → A → Type 0} {s : S} {c : C} → ((c : C) (x : A) (d : C) → Q c x d → R c x d) → ((c : C) (x : A) → P c x → P' c x) → HoldsAtEachTurn steps R P s c → HoldsAtEachTurn steps Q P' s c
-holds_each_turn_map {s} {c} narrow weak h = record { at = λ items t u d x ran went step. weak d x (h.at items t u d x ran (folds_to_map narrow items c d went) step) }
+pub holds_each_turn_by_implication : {S A E C : Type 0} {steps : S → Answered A E → S → Type 0} {R Q : C → A → C → Type 0} {P P' : C → A → Type 0} {s : S} {c : C} → ((c : C) (x : A) (d : C) → Q c x d → R c x d) → ((c : C) (x : A) → P c x → P' c x) → HoldsAtEachTurn steps R P s c → HoldsAtEachTurn steps Q P' s c
+holds_each_turn_by_implication {s} {c} narrow weak h = record { at = λ items t u d x ran went step. weak d x (h.at items t u d x ran (folds_to_by_implication narrow items c d went) step) }
 
 -- ---- draws up to a last answer
 
 module _ {S A E : Type 0} {steps : S → Answered A E → S → Type 0} where
   -- what came says something else
-  pub drained_map : {P Q : List A → Answered A E → Type 0} {s t : S} → ((items : List A) (last : Answered A E) → P items last → Q items last) → Drained steps P s t → Drained steps Q s t
-  drained_map h w = record { items = w.items; last = w.last; ran = w.ran; at = h w.items w.last w.at }
+  pub drained_by_implication : {P Q : List A → Answered A E → Type 0} {s t : S} → ((items : List A) (last : Answered A E) → P items last → Q items last) → Drained steps P s t → Drained steps Q s t
+  drained_by_implication h w = record { items = w.items; last = w.last; ran = w.ran; at = h w.items w.last w.at }
 
   -- an item, and then the rest
-  pub drained_of_longer : {P Q : List A → Answered A E → Type 0} {s t u : S} (x : A) → steps s (item x) t → ((items : List A) (last : Answered A E) → P items last → Q (x ∷ items) last) → Drained steps P t u → Drained steps Q s u
-  drained_of_longer {t = t} x step h w = record { items = x ∷ w.items; last = w.last; ran = (t, step, w.ran); at = h w.items w.last w.at }
+  pub drained_by_item_first : {P Q : List A → Answered A E → Type 0} {s t u : S} (x : A) → steps s (item x) t → ((items : List A) (last : Answered A E) → P items last → Q (x ∷ items) last) → Drained steps P t u → Drained steps Q s u
+  drained_by_item_first {t = t} x step h w = record { items = x ∷ w.items; last = w.last; ran = (t, step, w.ran); at = h w.items w.last w.at }
 
   -- the last answer
   pub drained_by_last : {P : List A → Answered A E → Type 0} {s t : S} (last : Answered A E) → steps s last t → P [] last → Drained steps P s t
@@ -47,8 +47,8 @@ module _ {S A E : Type 0} {steps : S → Answered A E → S → Type 0} where
 
 module _ {S A E C R : Type 0} {steps : S → Answered A E → S → Type 0} {turns : C → A → ControlFlow R (Unit {0}) → C → Type 0} where
   -- a turn that went on, and then a fold
-  pub driven_after : {s t u : S} {c d z : C} {r : Answered R E} (x : A) → steps s (item x) t → goes_on turns c x d → Driven steps turns t d r u z → Driven steps turns s c r u z
-  driven_after {d = d} x step turn rest = drained_of_longer x step (λ items last w. record { carried = w.carried; went = (d, turn, w.went); exit = w.exit }) rest
+  pub driven_by_item_first : {s t u : S} {c d z : C} {r : Answered R E} (x : A) → steps s (item x) t → goes_on turns c x d → Driven steps turns t d r u z → Driven steps turns s c r u z
+  driven_by_item_first {d = d} x step turn rest = drained_by_item_first x step (λ items last w. record { carried = w.carried; went = (d, turn, w.went); exit = w.exit }) rest
 
   -- the three last turns
   pub driven_end : {s t : S} {c : C} → steps s (Ok None) t → Driven steps turns s c (Ok None) t c
@@ -60,33 +60,33 @@ module _ {S A E C R : Type 0} {steps : S → Answered A E → S → Type 0} {tur
   pub driven_stop : {s t : S} {c d : C} {stop : R} (x : A) → steps s (item x) t → turns c x (Break stop) d → Driven steps turns s c (Ok (Some stop)) t d
   driven_stop {c = c} {stop = stop} x step turn = drained_by_last (item x) step (record { carried = c; went = refl; exit = (stop, turn, refl) })
 
-  pub driven_after_items : {r : Answered R E} {u : S} {z : C} (items : List A) (s t : S) (c d : C) → Yields steps s items t → FoldsTo (goes_on turns) c items d → Driven steps turns t d r u z → Driven steps turns s c r u z
-  driven_after_items {r} {u} {z} [] s t c d ran went h = subst (λ (v : S). Driven steps turns v c r u z) (sym ran) (subst (λ (k : C). Driven steps turns t k r u z) (sym went) h)
-  driven_after_items (x ∷ items) s t c d ran went h = driven_after x ran.1 went.1 (driven_after_items items ran.0 t went.0 d ran.2 went.2 h)
+  pub driven_by_items_first : {r : Answered R E} {u : S} {z : C} (items : List A) (s t : S) (c d : C) → Yields steps s items t → FoldsTo (goes_on turns) c items d → Driven steps turns t d r u z → Driven steps turns s c r u z
+  driven_by_items_first {r} {u} {z} [] s t c d ran went h = subst (λ (v : S). Driven steps turns v c r u z) (sym ran) (subst (λ (k : C). Driven steps turns t k r u z) (sym went) h)
+  driven_by_items_first (x ∷ items) s t c d ran went h = driven_by_item_first x ran.1 went.1 (driven_by_items_first items ran.0 t went.0 d ran.2 went.2 h)
 
 -- ---- a fold whose state holds references
 
 module _ {X N A C R : Type 0} (values : X → C) (names : X → N) (turns : C → A → ControlFlow R (Unit {0}) → C → Type 0) where
-  folds_to_through : (items : List A) (c d : X) → FoldsTo (goes_on (TurnThrough values names turns)) c items d → FoldsTo (goes_on turns) (values c) items (values d) × (names d ≡ names c)
-  folds_to_through [] c d e = (ap values e, sym (ap names e))
-  folds_to_through (x ∷ items) c d w = let rest = folds_to_through items w.0 d w.2 in ((values w.0, w.1.0, rest.0), rest.1 ∙ w.1.1)
+  folds_to_values_and_keeps_names : (items : List A) (c d : X) → FoldsTo (goes_on (TurnThrough values names turns)) c items d → FoldsTo (goes_on turns) (values c) items (values d) × (names d ≡ names c)
+  folds_to_values_and_keeps_names [] c d e = (ap values e, sym (ap names e))
+  folds_to_values_and_keeps_names (x ∷ items) c d w = let rest = folds_to_values_and_keeps_names items w.0 d w.2 in ((values w.0, w.1.0, rest.0), rest.1 ∙ w.1.1)
 
-  drive_exit_through : {E : Type 0} (last : Answered A E) (r : Answered R E) (z d : X) → DriveExit (TurnThrough values names turns) z last r d → DriveExit turns (values z) last r (values d) × (names d ≡ names z)
-  drive_exit_through (Ok None) r z d e = ((e.0, ap values e.1), ap names e.1)
-  drive_exit_through (Ok (Some x)) r z d e = ((e.0, e.1.0, e.2), e.1.1)
-  drive_exit_through (Err f) r z d e = ((e.0, ap values e.1), ap names e.1)
+  drive_exit_of_values_and_keeps_names : {E : Type 0} (last : Answered A E) (r : Answered R E) (z d : X) → DriveExit (TurnThrough values names turns) z last r d → DriveExit turns (values z) last r (values d) × (names d ≡ names z)
+  drive_exit_of_values_and_keeps_names (Ok None) r z d e = ((e.0, ap values e.1), ap names e.1)
+  drive_exit_of_values_and_keeps_names (Ok (Some x)) r z d e = ((e.0, e.1.0, e.2), e.1.1)
+  drive_exit_of_values_and_keeps_names (Err f) r z d e = ((e.0, ap values e.1), ap names e.1)
 
   module _ {S E : Type 0} {steps : S → Answered A E → S → Type 0} {s : S} {c : X} where
     -- where the turn may be taken on what the references point to, it may be taken on them
     pub callable_driving_through : {can : C → A → Type 0} → CallableDriving steps turns can s (values c) → CallableDriving steps (TurnThrough values names turns) (λ d x. can (values d) x) s c
-    callable_driving_through h = record { at = λ items t u d x ran went step. h.at items t u (values d) x ran (folds_to_through items c d went).0 step }
+    callable_driving_through h = record { at = λ items t u d x ran went step. h.at items t u (values d) x ran (folds_to_values_and_keeps_names items c d went).0 step }
 
     -- it is a fold on what the references point to, and these come back
     pub fold_of_references_drives_values : {t : S} {d : X} {r : Answered R E} → Driven steps (TurnThrough values names turns) s c r t d → Driven steps turns s (values c) r t (values d)
-    fold_of_references_drives_values {d = d} {r = r} w = drained_map (λ items last h. record { carried = values h.carried; went = (folds_to_through items c h.carried h.went).0; exit = (drive_exit_through last r h.carried d h.exit).0 }) w
+    fold_of_references_drives_values {d = d} {r = r} w = drained_by_implication (λ items last h. record { carried = values h.carried; went = (folds_to_values_and_keeps_names items c h.carried h.went).0; exit = (drive_exit_of_values_and_keeps_names last r h.carried d h.exit).0 }) w
 
     pub names_kept : {t : S} {d : X} {r : Answered R E} → Driven steps (TurnThrough values names turns) s c r t d → names d ≡ names c
-    names_kept {d = d} {r = r} w = (drive_exit_through w.last r w.at.carried d w.at.exit).1 ∙ (folds_to_through w.items c w.at.carried w.at.went).1
+    names_kept {d = d} {r = r} w = (drive_exit_of_values_and_keeps_names w.last r w.at.carried d w.at.exit).1 ∙ (folds_to_values_and_keeps_names w.items c w.at.carried w.at.went).1
 
 -- ---- `count`
 
@@ -100,17 +100,17 @@ number_counted_up (x ∷ items) n k w = let e = number_counted_up items w.0 k w.
 
 module _ {S A E : Type 0} {m : Contract S A E} where
   -- fewer items came than a bound
-  length_below : Lawful m → (s : S) (items : List A) (t u : S) (x : A) (n : ℕ) → m.can_next s → m.bound s n → Yields m.steps s items t → m.steps t (item x) u → length items < n
-  length_below l s [] t u x n c b ran step = let step' : m.steps s (item x) u = subst (λ (v : S). m.steps v (item x) u) (sym ran) step in let fewer = (l.kept_by_draw s (item x) u c step').answer.1 n b in omega (arith, fewer.2)
-  length_below l s (y ∷ items) t u x n c b ran step = let g = l.kept_by_draw s (item y) ran.0 c ran.1 in let fewer = g.answer.1 n b in let k = length_below l ran.0 items t u x fewer.0 g.can_next fewer.1 ran.2 step in omega (arith, fewer.2, k)
+  length_of_yielded_below_bound : Lawful m → (s : S) (items : List A) (t u : S) (x : A) (n : ℕ) → m.can_next s → m.bound s n → Yields m.steps s items t → m.steps t (item x) u → length items < n
+  length_of_yielded_below_bound l s [] t u x n c b ran step = let step' : m.steps s (item x) u = subst (λ (v : S). m.steps v (item x) u) (sym ran) step in let fewer = (l.kept_by_draw s (item x) u c step').answer.1 n b in omega (arith, fewer.2)
+  length_of_yielded_below_bound l s (y ∷ items) t u x n c b ran step = let g = l.kept_by_draw s (item y) ran.0 c ran.1 in let fewer = g.answer.1 n b in let k = length_of_yielded_below_bound l ran.0 items t u x fewer.0 g.can_next fewer.1 ran.2 step in omega (arith, fewer.2, k)
 
   -- so where at most n items are to come, their count fits below n at each turn
   pub holds_each_turn_below : {s : S} (n : ℕ) → Lawful m → m.can_next s → AtMost m s n → HoldsAtEachTurn m.steps goes_one_up (λ k x. k < n) s 0
-  holds_each_turn_below {s} n l c h = let b = number_of_at_most m s n h in record { at = λ items t u k x ran went step. let below = length_below l s items t u x b.0 c b.1 ran step in let e = number_counted_up items 0 k went in omega (arith, below, e, b.2) }
+  holds_each_turn_below {s} n l c h = let b = bound_at_most_of_at_most m s n h in record { at = λ items t u k x ran went step. let below = length_of_yielded_below_bound l s items t u x b.0 c b.1 ran step in let e = number_counted_up items 0 k went in omega (arith, below, e, b.2) }
 
   -- the same from k on, where at most n - k are to come
   pub holds_each_turn_below_from : {s : S} (n k : ℕ) → Lawful m → m.can_next s → AtMost m s (n - k) → HoldsAtEachTurn m.steps goes_one_up (λ j x. j < n) s k
-  holds_each_turn_below_from {s} n k l c h = let b = number_of_at_most m s (n - k) h in record { at = λ items t u j x ran went step. let below = length_below l s items t u x b.0 c b.1 ran step in let e = number_counted_up items k j went in omega (arith, below, e, b.2) }
+  holds_each_turn_below_from {s} n k l c h = let b = bound_at_most_of_at_most m s (n - k) h in record { at = λ items t u j x ran went step. let below = length_of_yielded_below_bound l s items t u x b.0 c b.1 ran step in let e = number_counted_up items k j went in omega (arith, below, e, b.2) }
 
 -- a turn of `count` and one of `last`
 abbrev CountsUp : {A R : Type 0} → ℕ → A → ControlFlow R (Unit {0}) → ℕ → Type 0
@@ -120,26 +120,26 @@ abbrev KeepsItem : {A R : Type 0} → Option A → A → ControlFlow R (Unit {0}
 KeepsItem o x r d = (r ≡ Continue tt) × (d ≡ Some x)
 
 module _ {A E : Type 0} (R : Type 0) where
-  over_ended : (last : Answered A E) (n k : ℕ) → DriveExit (CountsUp {R = R}) n last (Ok None) k → (k ≡ n) × OverExit last (Ok tt)
-  over_ended (Ok None) n k h = (h.1, refl)
-  over_ended (Ok (Some x)) n k h = absurd (let e = h.1.0 in cc)
-  over_ended (Err e) n k h = absurd (let f = h.0 in cc)
+  over_exit_at_end : (last : Answered A E) (n k : ℕ) → DriveExit (CountsUp {R = R}) n last (Ok None) k → (k ≡ n) × OverExit last (Ok tt)
+  over_exit_at_end (Ok None) n k h = (h.1, refl)
+  over_exit_at_end (Ok (Some x)) n k h = absurd (let e = h.1.0 in cc)
+  over_exit_at_end (Err e) n k h = absurd (let f = h.0 in cc)
 
-  over_failed : (last : Answered A E) (n k : ℕ) (e : E) → DriveExit (CountsUp {R = R}) n last (Err e) k → (k ≡ n) × OverExit last (Err e)
-  over_failed (Ok None) n k e h = absurd (let f = h.0 in cc)
-  over_failed (Ok (Some x)) n k e h = absurd (let f = h.1.0 in cc)
-  over_failed (Err d) n k e h = let same : e ≡ d = (let f = h.0 in cc) in (h.1, ap Err same)
+  over_exit_at_failure : (last : Answered A E) (n k : ℕ) (e : E) → DriveExit (CountsUp {R = R}) n last (Err e) k → (k ≡ n) × OverExit last (Err e)
+  over_exit_at_failure (Ok None) n k e h = absurd (let f = h.0 in cc)
+  over_exit_at_failure (Ok (Some x)) n k e h = absurd (let f = h.1.0 in cc)
+  over_exit_at_failure (Err d) n k e h = let same : e ≡ d = (let f = h.0 in cc) in (h.1, ap Err same)
 
-number_turned_up : {A : Type 0} (R : Type 0) (items : List A) (n k : ℕ) → FoldsTo (goes_on (CountsUp {R = R})) n items k → k ≡ n + length items
-number_turned_up R items n k w = number_counted_up items n k (folds_to_map (λ c x d h. h.1) items n k w)
+number_after_turns_is_plus_length : {A : Type 0} (R : Type 0) (items : List A) (n k : ℕ) → FoldsTo (goes_on (CountsUp {R = R})) n items k → k ≡ n + length items
+number_after_turns_is_plus_length R items n k w = number_counted_up items n k (folds_to_by_implication (λ c x d h. h.1) items n k w)
 
 module _ {S A E R : Type 0} {steps : S → Answered A E → S → Type 0} {s t : S} {n k : ℕ} where
   -- the fold whose state is the number counts the items on
   pub count_drains_on_ended : Driven steps (CountsUp {R = R}) s n (Ok None) t k → CountDrainsOn steps s n (Ok tt) t k
-  count_drains_on_ended w = drained_map (λ items last h. let over = over_ended R last h.carried k h.exit in record { number = over.0 ∙ number_turned_up R items n h.carried h.went; exit = over.1 }) w
+  count_drains_on_ended w = drained_by_implication (λ items last h. let over = over_exit_at_end R last h.carried k h.exit in record { number = over.0 ∙ number_after_turns_is_plus_length R items n h.carried h.went; exit = over.1 }) w
 
   pub count_drains_on_failed : {e : E} → Driven steps (CountsUp {R = R}) s n (Err e) t k → CountDrainsOn steps s n (Err e) t k
-  count_drains_on_failed {e} w = drained_map (λ items last h. let over = over_failed R last h.carried k e h.exit in record { number = over.0 ∙ number_turned_up R items n h.carried h.went; exit = over.1 }) w
+  count_drains_on_failed {e} w = drained_by_implication (λ items last h. let over = over_exit_at_failure R last h.carried k e h.exit in record { number = over.0 ∙ number_after_turns_is_plus_length R items n h.carried h.went; exit = over.1 }) w
 
 module _ {A E : Type 0} where
   count_exit_ended : (last : Answered A E) (n k : ℕ) → k ≡ 0 + n → OverExit last (Ok tt) → CountExit n last (Ok k)
@@ -155,10 +155,10 @@ module _ {A E : Type 0} where
 module _ {S A E : Type 0} {steps : S → Answered A E → S → Type 0} {s t : S} {k : ℕ} where
   -- counted on from 0, the number is the count
   pub count_drains_to_end : CountDrainsOn steps s 0 (Ok tt) t k → CountDrains steps s (Ok k) t
-  count_drains_to_end w = drained_map (λ items last h. record { exit = count_exit_ended last (length items) k h.number h.exit }) w
+  count_drains_to_end w = drained_by_implication (λ items last h. record { exit = count_exit_ended last (length items) k h.number h.exit }) w
 
   pub count_drains_to_failure : {e : E} → CountDrainsOn steps s 0 (Err e) t k → CountDrains steps s (Err e) t
-  count_drains_to_failure {e} w = drained_map (λ items last h. record { exit = count_exit_failed last (length items) e h.exit }) w
+  count_drains_to_failure {e} w = drained_by_implication (λ items last h. record { exit = count_exit_failed last (length items) e h.exit }) w
 
 -- ---- `last`
 
@@ -167,23 +167,23 @@ module _ {A : Type 0} (R : Type 0) where
   last_kept [] o p e = sym e
   last_kept (x ∷ items) o p w = last_kept items (Some x) p (subst (λ (q : Option A). FoldsTo (goes_on (KeepsItem {R = R})) q items p) w.1.1 w.2)
 
-  last_exit : {E : Type 0} (items : List A) (last : Answered A E) (o p : Option A) → o ≡ last_or None items → DriveExit (KeepsItem {R = R}) o last (Ok None) p → LastExit items last (Ok p)
-  last_exit items (Ok None) o p is h = ap Ok (h.1 ∙ is)
-  last_exit items (Ok (Some x)) o p is h = absurd (let e = h.1.0 in cc)
-  last_exit items (Err e) o p is h = absurd (let f = h.0 in cc)
+  last_exit_at_end : {E : Type 0} (items : List A) (last : Answered A E) (o p : Option A) → o ≡ last_or None items → DriveExit (KeepsItem {R = R}) o last (Ok None) p → LastExit items last (Ok p)
+  last_exit_at_end items (Ok None) o p is h = ap Ok (h.1 ∙ is)
+  last_exit_at_end items (Ok (Some x)) o p is h = absurd (let e = h.1.0 in cc)
+  last_exit_at_end items (Err e) o p is h = absurd (let f = h.0 in cc)
 
-  last_exit_failure : {E : Type 0} (items : List A) (last : Answered A E) (o p : Option A) (e : E) → DriveExit (KeepsItem {R = R}) o last (Err e) p → LastExit items last (Err e)
-  last_exit_failure items (Ok None) o p e h = absurd (let f = h.0 in cc)
-  last_exit_failure items (Ok (Some x)) o p e h = absurd (let f = h.1.0 in cc)
-  last_exit_failure items (Err d) o p e h = let same : e ≡ d = (let f = h.0 in cc) in ap Err same
+  last_exit_at_failure : {E : Type 0} (items : List A) (last : Answered A E) (o p : Option A) (e : E) → DriveExit (KeepsItem {R = R}) o last (Err e) p → LastExit items last (Err e)
+  last_exit_at_failure items (Ok None) o p e h = absurd (let f = h.0 in cc)
+  last_exit_at_failure items (Ok (Some x)) o p e h = absurd (let f = h.1.0 in cc)
+  last_exit_at_failure items (Err d) o p e h = let same : e ≡ d = (let f = h.0 in cc) in ap Err same
 
 module _ {S A E R : Type 0} {steps : S → Answered A E → S → Type 0} {s t : S} where
   -- the fold whose state is the item that came last ends with the last one
   pub last_drains_ended : {p : Option A} → Driven steps (KeepsItem {R = R}) s None (Ok None) t p → LastDrains steps s (Ok p) t
-  last_drains_ended {p} w = drained_map (λ items last h. record { exit = last_exit R items last h.carried p (last_kept R items None h.carried h.went) h.exit }) w
+  last_drains_ended {p} w = drained_by_implication (λ items last h. record { exit = last_exit_at_end R items last h.carried p (last_kept R items None h.carried h.went) h.exit }) w
 
   pub last_drains_failed : {p : Option A} {e : E} → Driven steps (KeepsItem {R = R}) s None (Err e) t p → LastDrains steps s (Err e) t
-  last_drains_failed {p} {e} w = drained_map (λ items last h. record { exit = last_exit_failure R items last h.carried p e h.exit }) w
+  last_drains_failed {p} {e} w = drained_by_implication (λ items last h. record { exit = last_exit_at_failure R items last h.carried p e h.exit }) w
 
 -- ---- folds whose state is the value and the closure
 
@@ -205,13 +205,13 @@ module _ {A E F B E' : Type 0} (call : F → B → A → Result B E' → F → T
 
   module _ {S : Type 0} {steps : S → Answered A E → S → Type 0} {s t : S} {b : B} {f : F} where
     pub fold_drains_ended : (q : B × F) → Driven steps (IsFoldTurn call) s (b, f) (Ok None) t q → FoldDrains steps call from s b f (Ok q.0) t
-    fold_drains_ended q w = drained_map (λ items last h. record { value = h.carried.0; closure = h.carried.1; went = h.went; exit = fold_exit_ended last h.carried q h.exit }) w
+    fold_drains_ended q w = drained_by_implication (λ items last h. record { value = h.carried.0; closure = h.carried.1; went = h.went; exit = fold_exit_ended last h.carried q h.exit }) w
 
     pub fold_drains_failed : (q : B × F) (e : E) (e' : E') → Driven steps (IsFoldTurn call) s (b, f) (Err e) t q → from e e' → FoldDrains steps call from s b f (Err e') t
-    fold_drains_failed q e e' w c = drained_map (λ items last h. record { value = h.carried.0; closure = h.carried.1; went = h.went; exit = fold_exit_failed last h.carried q e e' h.exit c }) w
+    fold_drains_failed q e e' w c = drained_by_implication (λ items last h. record { value = h.carried.0; closure = h.carried.1; went = h.went; exit = fold_exit_failed last h.carried q e e' h.exit c }) w
 
     pub fold_drains_stopped : (q : B × F) (e' : E') → Driven steps (IsFoldTurn call) s (b, f) (Ok (Some e')) t q → FoldDrains steps call from s b f (Err e') t
-    fold_drains_stopped q e' w = drained_map (λ items last h. record { value = h.carried.0; closure = h.carried.1; went = h.went; exit = fold_exit_stopped last h.carried q e' h.exit }) w
+    fold_drains_stopped q e' w = drained_by_implication (λ items last h. record { value = h.carried.0; closure = h.carried.1; went = h.went; exit = fold_exit_stopped last h.carried q e' h.exit }) w
 
 -- ---- the same, where the value stands in a slot, which is full before each turn
 
@@ -258,7 +258,7 @@ module _ {A E F B E' : Type 0} (call : F → B → A → Result B E' → F → T
 
   module _ {S : Type 0} {steps : S → Answered A E → S → Type 0} {s t : S} {b : B} {f : F} where
     fold_drains_by_slot : {d : Option B × F} {a : Answered E' E} {r : Result B E'} → ((last : Answered A E) (p : B × F) → DriveExit (IsFoldTurnInSlot call) (FullSlot call p) last a d → FoldExit call from p.0 p.1 last r) → Driven steps (IsFoldTurnInSlot call) s (Some b, f) a t d → FoldDrains steps call from s b f r t
-    fold_drains_by_slot {d} {a} exits w = drained_map (λ items last h. let full = slot_full_after_turns call items (b, f) h.carried h.went in record { value = full.0.0; closure = full.0.1; went = full.1; exit = exits last full.0 (subst (λ z. DriveExit (IsFoldTurnInSlot call) z last a d) (sym full.2) h.exit) }) w
+    fold_drains_by_slot {d} {a} exits w = drained_by_implication (λ items last h. let full = slot_full_after_turns call items (b, f) h.carried h.went in record { value = full.0.0; closure = full.0.1; went = full.1; exit = exits last full.0 (subst (λ z. DriveExit (IsFoldTurnInSlot call) z last a d) (sym full.2) h.exit) }) w
 
     pub fold_drains_slot_ended : (v : B) (g : F) → Driven steps (IsFoldTurnInSlot call) s (Some b, f) (Ok None) t (Some v, g) → FoldDrains steps call from s b f (Ok v) t
     fold_drains_slot_ended v g w = fold_drains_by_slot (λ last p h. fold_exit_slot_ended last p v g h) w

@@ -36,12 +36,12 @@ module _ {P A E : Type 0} (D : P → List (Answered A E) → P → Type 0) (by :
   law_of_run [] p q e = subst (λ (z : P). D p [] z) e (by.none p)
   law_of_run (r ∷ rest) p q h = by.joins p h.0 q r rest h.1 (law_of_run rest h.0 q h.2)
 
-  run_of_by_answers : (trace : List (Answered A E)) (p q : P) → D p trace q → Run at_one_answer p trace q
-  run_of_by_answers [] p q d = by.same p q d
-  run_of_by_answers (r ∷ rest) p q d = let h = by.splits p q r rest d in (h.left_by_first, h.first, run_of_by_answers rest h.left_by_first q h.others)
+  run_of_law : (trace : List (Answered A E)) (p q : P) → D p trace q → Run at_one_answer p trace q
+  run_of_law [] p q d = by.same p q d
+  run_of_law (r ∷ rest) p q d = let h = by.splits p q r rest d in (h.left_by_first, h.first, run_of_law rest h.left_by_first q h.others)
 
-  pub runs_by_answers : (p : P) (trace : List (Answered A E)) (q : P) → Run at_one_answer p trace q ↔ D p trace q
-  runs_by_answers p trace q = (law_of_run trace p q, run_of_by_answers trace p q)
+  pub run_at_one_answer_iff_law : (p : P) (trace : List (Answered A E)) (q : P) → Run at_one_answer p trace q ↔ D p trace q
+  run_at_one_answer_iff_law p trace q = (law_of_run trace p q, run_of_law trace p q)
 
 -- Runs of a type whose values are seen by their parts, of which each names one value, are runs over the parts.
 module _ {V P A E : Type 0} (parts : V → P) (make : P → V) (made : (s : V) → make (parts s) ≡ s) (has : (p : P) → parts (make p) ≡ p) (steps : P → Answered A E → P → Type 0) where

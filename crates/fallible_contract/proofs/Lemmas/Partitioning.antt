@@ -4,25 +4,25 @@ use Rattle.std.specs.List.{FoldsTo}
 use Rattle.std.proofs.Common.{refl, sym, ap, ◌∙◌, subst, inl, inr}
 use Rattle.fallible_contract.specs.Traces.{Answered}
 use Rattle.fallible_contract.specs.Folds.{HoldsAtEachTurn, goes_on, CallableDriving, Driven}
-use Rattle.fallible_contract.proofs.Lemmas.Collecting.{collects_all_gathered, fails_with_gathered, refuses_item_gathered, map_one_more}
+use Rattle.fallible_contract.proofs.Lemmas.Collecting.{collects_all_gathered, fails_with_gathered, refuses_item_gathered, map_append_one_is_map_of_one_more}
 use Rattle.fallible_contract.specs.Collecting.{answered_true, answered_false, Sides, ClosureFails, SideRefuses, IsPartitionTurn, Asks, Partitions}
 use Rattle.std.specs.declared.ops.ControlFlow.TheVariants.{Continue}
 use Rattle.fallible_contract.specs.declared.collecting.Fault.{Fault}
 use Rattle.fallible_contract.specs.declared.collecting.Fault.TheVariants.{Source, Memory}
 
-answered_true_one_more : {A : Type 0} (ps : List (A × Bool)) (x : A) (v : Bool) → cond v (answered_true ps ++ x ∷ []) (answered_true ps) ≡ answered_true (ps ++ (x, v) ∷ [])
-answered_true_one_more [] x true = refl
-answered_true_one_more [] x false = refl
-answered_true_one_more ((y, true) ∷ ps) x true = ap (λ l. y ∷ l) (answered_true_one_more ps x true)
-answered_true_one_more ((y, true) ∷ ps) x false = ap (λ l. y ∷ l) (answered_true_one_more ps x false)
-answered_true_one_more ((y, false) ∷ ps) x v = answered_true_one_more ps x v
+answered_true_of_one_more_is_cond : {A : Type 0} (ps : List (A × Bool)) (x : A) (v : Bool) → cond v (answered_true ps ++ x ∷ []) (answered_true ps) ≡ answered_true (ps ++ (x, v) ∷ [])
+answered_true_of_one_more_is_cond [] x true = refl
+answered_true_of_one_more_is_cond [] x false = refl
+answered_true_of_one_more_is_cond ((y, true) ∷ ps) x true = ap (λ l. y ∷ l) (answered_true_of_one_more_is_cond ps x true)
+answered_true_of_one_more_is_cond ((y, true) ∷ ps) x false = ap (λ l. y ∷ l) (answered_true_of_one_more_is_cond ps x false)
+answered_true_of_one_more_is_cond ((y, false) ∷ ps) x v = answered_true_of_one_more_is_cond ps x v
 
-answered_false_one_more : {A : Type 0} (ps : List (A × Bool)) (x : A) (v : Bool) → cond v (answered_false ps) (answered_false ps ++ x ∷ []) ≡ answered_false (ps ++ (x, v) ∷ [])
-answered_false_one_more [] x true = refl
-answered_false_one_more [] x false = refl
-answered_false_one_more ((y, false) ∷ ps) x true = ap (λ l. y ∷ l) (answered_false_one_more ps x true)
-answered_false_one_more ((y, false) ∷ ps) x false = ap (λ l. y ∷ l) (answered_false_one_more ps x false)
-answered_false_one_more ((y, true) ∷ ps) x v = answered_false_one_more ps x v
+answered_false_of_one_more_is_cond : {A : Type 0} (ps : List (A × Bool)) (x : A) (v : Bool) → cond v (answered_false ps) (answered_false ps ++ x ∷ []) ≡ answered_false (ps ++ (x, v) ∷ [])
+answered_false_of_one_more_is_cond [] x true = refl
+answered_false_of_one_more_is_cond [] x false = refl
+answered_false_of_one_more_is_cond ((y, false) ∷ ps) x true = ap (λ l. y ∷ l) (answered_false_of_one_more_is_cond ps x true)
+answered_false_of_one_more_is_cond ((y, false) ∷ ps) x false = ap (λ l. y ∷ l) (answered_false_of_one_more_is_cond ps x false)
+answered_false_of_one_more_is_cond ((y, true) ∷ ps) x v = answered_false_of_one_more_is_cond ps x v
 
 folds_to_one_more_call : {P Q : Type 0} (step : P → Q → P → Type 0) (f g h : P) (qs : List Q) (q : Q) → FoldsTo step f qs g → step g q h → FoldsTo step f (qs ++ q ∷ []) h
 folds_to_one_more_call step f g h [] q e w = (h, subst (λ p. step p q h) (sym e) w, refl)
@@ -32,10 +32,10 @@ module _ {A E F B : Type 0} (call : F → A → Result Bool E → F → Type 0) 
   pub sides_one_more : (c : F × (B × B)) (x : A) (d : F × (B × B)) → IsPartitionTurn call made refuses c x (Continue tt) d → (items : List A) → Sides call made f items c → Sides call made f (items ++ x ∷ []) d
   sides_one_more c x d w items h = let ps = h.answered in let v = w.0 in let both = w.2 (answered_true ps) (answered_false ps) h.made_of_true h.made_of_false in record {
     answered = ps ++ (x, v) ∷ [];
-    beside = sym (map_one_more (λ p. p.0) ps (x, v)) ∙ ap (λ l. l ++ x ∷ []) h.beside;
+    beside = sym (map_append_one_is_map_of_one_more (λ p. p.0) ps (x, v)) ∙ ap (λ l. l ++ x ∷ []) h.beside;
     called = folds_to_one_more_call (λ g p h. call g p.0 (Ok p.1) h) f c.0 d.0 ps (x, v) h.called w.1;
-    made_of_true = subst (λ l. made l d.1.0) (answered_true_one_more ps x v) both.0;
-    made_of_false = subst (λ l. made l d.1.1) (answered_false_one_more ps x v) both.1;
+    made_of_true = subst (λ l. made l d.1.0) (answered_true_of_one_more_is_cond ps x v) both.0;
+    made_of_false = subst (λ l. made l d.1.1) (answered_false_of_one_more_is_cond ps x v) both.1;
   }
 
   pub sides_of_none : (a b : B) → made [] a → made [] b → Sides call made f [] (f, (a, b))

@@ -29,12 +29,12 @@ is_answers_at_one_draw_more {s = s} {t = t} {u = u} side r p step = record {
 }
 
 module _ {S A E : Type 0} (steps : S → Answered A E → S → Type 0) where
-  map_answer_of_trace : (trace : List (Answered A E)) (l : List (Result A E)) (s t : S) → AlwaysGives steps s l → Run steps s trace t → length trace ≤ length l + 1 → map answer_of trace ≡ take (length trace) (answers_of l)
+  map_answer_of_run_is_take_of_list : (trace : List (Answered A E)) (l : List (Result A E)) (s t : S) → AlwaysGives steps s l → Run steps s trace t → length trace ≤ length l + 1 → map answer_of trace ≡ take (length trace) (answers_of l)
   unfolding answers_of
-  map_answer_of_trace [] l s t a ran within = refl
-  map_answer_of_trace (r ∷ []) [] s t a ran within = ap (λ q. answer_of q ∷ []) (a r ran.0 ran.1)
-  map_answer_of_trace (r ∷ q ∷ trace) [] s t a ran within = absurd (omega (arith, within))
-  map_answer_of_trace (r ∷ trace) (y ∷ l) s t a ran within = let h = a r ran.0 ran.1 in let rest = map_answer_of_trace trace l ran.0 t h.1 ran.2 (omega (arith, within)) in let first = ap answer_of h.0 in cc
+  map_answer_of_run_is_take_of_list [] l s t a ran within = refl
+  map_answer_of_run_is_take_of_list (r ∷ []) [] s t a ran within = ap (λ q. answer_of q ∷ []) (a r ran.0 ran.1)
+  map_answer_of_run_is_take_of_list (r ∷ q ∷ trace) [] s t a ran within = absurd (omega (arith, within))
+  map_answer_of_run_is_take_of_list (r ∷ trace) (y ∷ l) s t a ran within = let h = a r ran.0 ran.1 in let rest = map_answer_of_run_is_take_of_list trace l ran.0 t h.1 ran.2 (omega (arith, within)) in let first = ap answer_of h.0 in cc
 
-  pub answers_told : {s t : S} {n : ℕ} {values : List (Answer A E)} (l : List (Result A E)) → IsAnswers steps s n values t → n ≤ length l + 1 → Lists steps s l → values ≡ take n (answers_of l)
-  answers_told {s} {t} {n} l p within i = p.values_are ∙ map_answer_of_trace p.trace l s t i.runs p.ran (let c = p.count in omega (arith, c, within)) ∙ ap (λ (k : ℕ). take k (answers_of l)) p.count
+  pub answers_are_take_of_answers_of_list : {s t : S} {n : ℕ} {values : List (Answer A E)} (l : List (Result A E)) → IsAnswers steps s n values t → n ≤ length l + 1 → Lists steps s l → values ≡ take n (answers_of l)
+  answers_are_take_of_answers_of_list {s} {t} {n} l p within i = p.values_are ∙ map_answer_of_run_is_take_of_list p.trace l s t i.runs p.ran (let c = p.count in omega (arith, c, within)) ∙ ap (λ (k : ℕ). take k (answers_of l)) p.count

@@ -24,16 +24,16 @@ module _ {F X R : Type 0} {call : F → X → R → F → Type 0} where
   reaches_transitive {P} {f} {g} {h} r s = record { made = r.made ++ s.made; by = folds_to_in_turn _ r.made s.made f g h r.by s.by }
 
   -- one more call, before the others
-  pub reaches_from : {P : X → Type 0} {f g h : F} (x : X) (v : R) → P x → call f x v g → Reaches call P g h → Reaches call P f h
-  reaches_from {P} {f} {g} {h} x v given called r = record { made = (x, v) ∷ r.made; by = (g, (given, called), r.by) }
+  pub reaches_by_call_first : {P : X → Type 0} {f g h : F} (x : X) (v : R) → P x → call f x v g → Reaches call P g h → Reaches call P f h
+  reaches_by_call_first {P} {f} {g} {h} x v given called r = record { made = (x, v) ∷ r.made; by = (g, (given, called), r.by) }
 
   pub is_callable_after : {pre : F → X → Type 0} {P Q : X → Type 0} {f g : F} → ((x : X) → Q x → P x) → Reaches call P f g → IsCallable call pre P f → IsCallable call pre Q g
   is_callable_after h r c = record { at = λ k x s q. c.at k x (reaches_transitive r (reaches_weaken h s)) (h x q) }
 
 module _ {F X R : Type 0} {call : F → X → R → F → Type 0} {P : X → Type 0} {f : F} {Q : X → R → Type 0} where
   -- what may be returned after calls may be returned
-  pub may_answer_after : {P' : X → Type 0} {g : F} → ((x : X) → P' x → P x) → Reaches call P f g → MayAnswer call P' g Q → MayAnswer call P f Q
-  may_answer_after h r a = record { state = a.state; argument = a.argument; answer = a.answer; after = a.after; reached = reaches_transitive r (reaches_weaken h a.reached); given = h a.argument a.given; called = a.called; says = a.says }
+  pub may_answer_where_reached_may_answer : {P' : X → Type 0} {g : F} → ((x : X) → P' x → P x) → Reaches call P f g → MayAnswer call P' g Q → MayAnswer call P f Q
+  may_answer_where_reached_may_answer h r a = record { state = a.state; argument = a.argument; answer = a.answer; after = a.after; reached = reaches_transitive r (reaches_weaken h a.reached); given = h a.argument a.given; called = a.called; says = a.says }
 
   pub may_answer_of_call : (g : F) (x : X) (v : R) → P x → call f x v g → Q x v → MayAnswer call P f Q
   may_answer_of_call g x v given called says = record { state = f; argument = x; answer = v; after = g; reached = reaches_reflexive; given = given; called = called; says = says }

@@ -27,16 +27,16 @@ module _ {S A E : Type 0} (m : Contract S A E) where
   pub never_fails_after : (s t : S) (r : Answered A E) → m.steps s r t → NeverFails m s → NeverFails m t
   never_fails_after s t r step sure trace u v e ran fails = sure (r ∷ trace) u v e (t, step, ran) fails
 
-  pub never_fails_run : (s : S) (trace : List (Answered A E)) (t : S) → Run m.steps s trace t → NeverFails m s → NeverFails m t
-  never_fails_run s [] t ran never = subst (λ (u : S). NeverFails m u) ran never
-  never_fails_run s (r ∷ rest) t ran never = never_fails_run ran.0 rest t ran.2 (never_fails_after s ran.0 r ran.1 never)
+  pub never_fails_after_run : (s : S) (trace : List (Answered A E)) (t : S) → Run m.steps s trace t → NeverFails m s → NeverFails m t
+  never_fails_after_run s [] t ran never = subst (λ (u : S). NeverFails m u) ran never
+  never_fails_after_run s (r ∷ rest) t ran never = never_fails_after_run ran.0 rest t ran.2 (never_fails_after s ran.0 r ran.1 never)
 
 -- ---- draws from whichever end
 
 module _ {S A E : Type 0} {m : Contract S A E} where
   -- one draw, whatever its answer was
-  pub kept_by_draws_after : {s t : S} {r : Answered A E} → KeptByDraw m s r t → KeptByDraws m s t
-  kept_by_draws_after {s} {t} {r} g = record {
+  pub kept_by_draws_of_one_draw : {s t : S} {r : Answered A E} → KeptByDraw m s r t → KeptByDraws m s t
+  kept_by_draws_of_one_draw {s} {t} {r} g = record {
     can_next = g.can_next;
     is_finite = g.is_finite;
     bound = no_more_after m s t r g.answer;
@@ -58,12 +58,12 @@ module _ {S A E : Type 0} {m : Contract S A E} where
     lenders = q.lenders ∙ p.lenders;
   }
 
-  pub kept_by_no_draw : {s : S} → m.can_next s → KeptByDraws m s s
-  kept_by_no_draw c = record { can_next = c; is_finite = λ e. e; bound = λ n b. (n, b, omega arith); remaining = λ f. (f, omega arith); may_give = λ x p. p; may_fail = λ e p. p; lenders = refl }
+  pub kept_by_draws_of_no_draw : {s : S} → m.can_next s → KeptByDraws m s s
+  kept_by_draws_of_no_draw c = record { can_next = c; is_finite = λ e. e; bound = λ n b. (n, b, omega arith); remaining = λ f. (f, omega arith); may_give = λ x p. p; may_fail = λ e p. p; lenders = refl }
 
   pub kept_by_draws_run : Lawful m → (s : S) (trace : List (Answered A E)) (t : S) → m.can_next s → Run m.steps s trace t → KeptByDraws m s t
-  kept_by_draws_run l s [] t c ran = subst (λ (u : S). KeptByDraws m s u) ran (kept_by_no_draw c)
-  kept_by_draws_run l s (r ∷ rest) t c ran = let g = l.kept_by_draw s r ran.0 c ran.1 in kept_by_draws_transitive (kept_by_draws_after g) (kept_by_draws_run l ran.0 rest t g.can_next ran.2)
+  kept_by_draws_run l s [] t c ran = subst (λ (u : S). KeptByDraws m s u) ran (kept_by_draws_of_no_draw c)
+  kept_by_draws_run l s (r ∷ rest) t c ran = let g = l.kept_by_draw s r ran.0 c ran.1 in kept_by_draws_transitive (kept_by_draws_of_one_draw g) (kept_by_draws_run l ran.0 rest t g.can_next ran.2)
 
 -- ---- draws from one end
 
@@ -75,14 +75,14 @@ module _ {S A E : Type 0} {m : Contract S A E} where
   stays_of_kept_by_draws h sure = record { can_next = h.can_next; is_finite = h.is_finite; bound = h.bound; remaining = h.remaining; may_give = h.may_give; may_fail = h.may_fail; lenders = h.lenders; sure = sure }
 
   -- a draw, and then those after it
-  pub stays_after : {s t u : S} {r : Answered A E} → m.steps s r t → KeptByDraw m s r t → Stays m t u → Stays m s u
-  stays_after {s} {t} {u} {r} step g h = stays_of_kept_by_draws (kept_by_draws_transitive (kept_by_draws_after g) (kept_by_draws_of_stays h)) (λ never. h.sure (never_fails_after m s t r step never))
+  pub stays_by_draw_first : {s t u : S} {r : Answered A E} → m.steps s r t → KeptByDraw m s r t → Stays m t u → Stays m s u
+  stays_by_draw_first {s} {t} {u} {r} step g h = stays_of_kept_by_draws (kept_by_draws_transitive (kept_by_draws_of_one_draw g) (kept_by_draws_of_stays h)) (λ never. h.sure (never_fails_after m s t r step never))
 
   pub stays_reflexive : {s : S} → m.can_next s → Stays m s s
-  stays_reflexive c = stays_of_kept_by_draws (kept_by_no_draw c) (λ never. never)
+  stays_reflexive c = stays_of_kept_by_draws (kept_by_draws_of_no_draw c) (λ never. never)
 
   pub stays_run : Lawful m → (s : S) (trace : List (Answered A E)) (t : S) → m.can_next s → Run m.steps s trace t → Stays m s t
-  stays_run l s trace t c ran = stays_of_kept_by_draws (kept_by_draws_run l s trace t c ran) (never_fails_run m s trace t ran)
+  stays_run l s trace t c ran = stays_of_kept_by_draws (kept_by_draws_run l s trace t c ran) (never_fails_after_run m s trace t ran)
 
 -- ---- a type whose values are seen as those of another
 
@@ -105,8 +105,8 @@ module _ {S A E : Type 0} {m : Contract S A E} where
   on_answer_after s t u (Err e) p a = (p.may_fail e a.0, no_more_transitive m s t u p.bound a.1, (λ f. let j = p.remaining f in let k = a.2 j.0 in (k.0, omega (arith, j.1, k.1))))
 
   -- a draw keeps the contract also from where nothing more was to come before it
-  pub kept_by_draw_after : {s t u : S} {r : Answered A E} → KeptByDraws m s t → KeptByDraw m t r u → KeptByDraw m s r u
-  kept_by_draw_after {s} {t} {u} {r} p g = record {
+  pub kept_by_draw_from_before_draws : {s t u : S} {r : Answered A E} → KeptByDraws m s t → KeptByDraw m t r u → KeptByDraw m s r u
+  kept_by_draw_from_before_draws {s} {t} {u} {r} p g = record {
     can_next = g.can_next;
     is_finite = λ e. g.is_finite (p.is_finite e);
     answer = on_answer_after s t u r p g.answer;

@@ -5,7 +5,7 @@ use Rattle.fallible_contract.specs.Contract.{Contract, Lawful, seen_as}
 use Rattle.fallible_contract.specs.Ends.{Ends, from_front, from_back, ends_of, ends_seen_as, LawfulEnds}
 use Rattle.fallible_contract.specs.Passing.{passing_contract, leaving_out_contract}
 use Rattle.fallible_contract.specs.Laws.Contract.{lawful_seen}
-use Rattle.fallible_contract.specs.Laws.Closures.{reaches_reflexive, may_answer_after}
+use Rattle.fallible_contract.specs.Laws.Closures.{reaches_reflexive, may_answer_where_reached_may_answer}
 use Rattle.fallible_contract.specs.Laws.Passing.{StaysCallable, lawful_passing, lawful_leaving_out}
 use Rattle.fallible_contract.specs.declared.passing.Outcome.{Outcome}
 
@@ -43,17 +43,17 @@ lawful_ends_swapped l = record {
 
 module _ {S F X R B E : Type 0} {m : Contract S X E} {e : Ends S X E} (call : F → X → R → F → Type 0) (callable : (X → Type 0) → F → Type 0) (outcome : X → R → Outcome B E) (hints : S × F → ℕ × Option ℕ → Type 0) (after : StaysCallable call callable) (l : LawfulEnds m e) where
   -- what may come from the front may come from either end
-  gives_passing : (p : S × F) (y : B) → (passing_contract m call callable outcome hints).may_give p y → (passing_contract (from_back m e) call callable outcome hints).may_give p y
-  gives_passing p y h = may_answer_after (l.may_give p.0) reaches_reflexive h
+  may_give_from_back_of_passing : (p : S × F) (y : B) → (passing_contract m call callable outcome hints).may_give p y → (passing_contract (from_back m e) call callable outcome hints).may_give p y
+  may_give_from_back_of_passing p y h = may_answer_where_reached_may_answer (l.may_give p.0) reaches_reflexive h
 
-  fails_passing : (p : S × F) (d : E) → (passing_contract m call callable outcome hints).may_fail p d → (passing_contract (from_back m e) call callable outcome hints).may_fail p d
-  fails_passing p d h = elim h [ inl b ↦ inl (l.may_fail p.0 d b) | inr b ↦ inr (may_answer_after (l.may_give p.0) reaches_reflexive b) ]
+  may_fail_from_back_of_passing : (p : S × F) (d : E) → (passing_contract m call callable outcome hints).may_fail p d → (passing_contract (from_back m e) call callable outcome hints).may_fail p d
+  may_fail_from_back_of_passing p d h = elim h [ inl b ↦ inl (l.may_fail p.0 d b) | inr b ↦ inr (may_answer_where_reached_may_answer (l.may_give p.0) reaches_reflexive b) ]
 
   pub lawful_ends_passing : LawfulEnds (passing_contract m call callable outcome hints) (ends_of (passing_contract (from_back m e) call callable outcome hints))
   lawful_ends_passing = record {
     front_can = λ p c. (l.front_can p.0 c.0, after (e.may_give p.0) (m.may_give p.0) p.1 p.1 (l.may_give p.0) reaches_reflexive c.1);
-    may_give = gives_passing;
-    may_fail = fails_passing;
+    may_give = may_give_from_back_of_passing;
+    may_fail = may_fail_from_back_of_passing;
     front = lawful_passing call callable outcome hints after l.front;
     back = lawful_passing call callable outcome hints after l.back;
   }
@@ -61,8 +61,8 @@ module _ {S F X R B E : Type 0} {m : Contract S X E} {e : Ends S X E} (call : F 
   pub lawful_ends_leaving_out : LawfulEnds (leaving_out_contract m call callable outcome hints) (ends_of (leaving_out_contract (from_back m e) call callable outcome hints))
   lawful_ends_leaving_out = record {
     front_can = λ p c. (c.0, (l.front_can p.0 c.1.0, after (e.may_give p.0) (m.may_give p.0) p.1 p.1 (l.may_give p.0) reaches_reflexive c.1.1));
-    may_give = gives_passing;
-    may_fail = fails_passing;
+    may_give = may_give_from_back_of_passing;
+    may_fail = may_fail_from_back_of_passing;
     front = lawful_leaving_out call callable outcome hints after l.front;
     back = lawful_leaving_out call callable outcome hints after l.back;
   }

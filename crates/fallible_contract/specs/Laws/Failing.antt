@@ -8,7 +8,7 @@ use Rattle.fallible_contract.specs.Closures.{Reaches, IsCallable}
 use Rattle.fallible_contract.specs.Ends.{Ends, from_back, ends_of, LawfulEnds}
 use Rattle.fallible_contract.specs.Exchange.{exchanged, steps_exchanged}
 use Rattle.fallible_contract.specs.Failing.{failing_outcome, FailingTrace, FailingAnswer, failing_contract, exchanged_contract, outcome_exchanged, recovering_contract}
-use Rattle.fallible_contract.specs.Laws.Closures.{reaches_reflexive, reaches_from, is_callable_after, may_answer_of_call, may_answer_after}
+use Rattle.fallible_contract.specs.Laws.Closures.{reaches_reflexive, reaches_by_call_first, is_callable_after, may_answer_of_call, may_answer_where_reached_may_answer}
 use Rattle.fallible_contract.specs.Laws.Exchange.{exchanged_twice}
 use Rattle.fallible_contract.specs.Laws.Passing.{Passes, done, end_passes, failure_passes, keeps, refuses, closes, leaves_out, passes_of_pass_trace, lawful_leaving_out}
 use Rattle.fallible_contract.specs.declared.passing.Outcome.{Outcome}
@@ -18,37 +18,37 @@ module _ {S F X D E : Type 0} (steps : S → Answered X D → S → Type 0) (cal
   abbrev DrawnOnce : S → F → Answered X E → S → F → Type 0
   DrawnOnce s f r t g = (drawn : Answered X D) × steps s drawn t × FailingAnswer call f drawn r g
 
-  drawn_once_passed : (s t : S) (f g : F) (r : Answered E X) → Passes (steps_exchanged steps) call failing_outcome s f (r ∷ []) t g → DrawnOnce s f (exchanged r) t g
-  drawn_once_passed s t f _ _ (end_passes step done) = (Ok None, step, (refl, refl))
-  drawn_once_passed s t f _ _ (failure_passes x step done) = (Ok (Some x), step, (refl, refl))
-  drawn_once_passed s t f g _ (keeps d e y step called is done) = (Err d, step, (e, called, (let same : e ≡ y = cc in ap (λ (v : E). Err v) (sym same))))
-  drawn_once_passed s t f g _ (refuses d e x step called is rest) = absurd cc
-  drawn_once_passed s t f g _ (closes d e step called is rest) = absurd cc
-  drawn_once_passed s t f g r (leaves_out d e step called is rest) = absurd cc
+  drawn_once_of_passes : (s t : S) (f g : F) (r : Answered E X) → Passes (steps_exchanged steps) call failing_outcome s f (r ∷ []) t g → DrawnOnce s f (exchanged r) t g
+  drawn_once_of_passes s t f _ _ (end_passes step done) = (Ok None, step, (refl, refl))
+  drawn_once_of_passes s t f _ _ (failure_passes x step done) = (Ok (Some x), step, (refl, refl))
+  drawn_once_of_passes s t f g _ (keeps d e y step called is done) = (Err d, step, (e, called, (let same : e ≡ y = cc in ap (λ (v : E). Err v) (sym same))))
+  drawn_once_of_passes s t f g _ (refuses d e x step called is rest) = absurd cc
+  drawn_once_of_passes s t f g _ (closes d e step called is rest) = absurd cc
+  drawn_once_of_passes s t f g r (leaves_out d e step called is rest) = absurd cc
 
   -- a trace of one answer is one draw
   pub drawn_once_of_trace : (p q : S × F) (r : Answered X E) → FailingTrace steps call p (r ∷ []) q → DrawnOnce p.0 p.1 r q.0 q.1
-  drawn_once_of_trace p q r trace = subst (λ (a : Answered X E). DrawnOnce p.0 p.1 a q.0 q.1) (exchanged_twice r) (drawn_once_passed p.0 q.0 p.1 q.1 (exchanged r) (passes_of_pass_trace trace))
+  drawn_once_of_trace p q r trace = subst (λ (a : Answered X E). DrawnOnce p.0 p.1 a q.0 q.1) (exchanged_twice r) (drawn_once_of_passes p.0 q.0 p.1 q.1 (exchanged r) (passes_of_pass_trace trace))
 
 module _ {S F X D E : Type 0} (m : Contract S X D) (l : Lawful m) (call : F → D → E → F → Type 0) (takes : F → D → Type 0) where
   abbrev FailingContract : Contract (S × F) X E
   FailingContract = failing_contract m call takes
 
-  reaches_draw : (s t : S) (f h : F) (r : Answered X E) (drawn : Answered X D) → OnAnswer m s drawn t → FailingAnswer call f drawn r h → Reaches call (m.may_fail s) f h
-  reaches_draw s t f h r (Ok v) a made = subst (λ (k : F). Reaches call (m.may_fail s) f k) (sym made.1) reaches_reflexive
-  reaches_draw s t f h r (Err d) a made = reaches_from d made.0 a.0 made.1 reaches_reflexive
+  reaches_by_failing_answer : (s t : S) (f h : F) (r : Answered X E) (drawn : Answered X D) → OnAnswer m s drawn t → FailingAnswer call f drawn r h → Reaches call (m.may_fail s) f h
+  reaches_by_failing_answer s t f h r (Ok v) a made = subst (λ (k : F). Reaches call (m.may_fail s) f k) (sym made.1) reaches_reflexive
+  reaches_by_failing_answer s t f h r (Err d) a made = reaches_by_call_first d made.0 a.0 made.1 reaches_reflexive
 
-  on_answer_draw : (s t : S) (f h : F) (r : Answered X E) (drawn : Answered X D) → OnAnswer m s drawn t → FailingAnswer call f drawn r h → OnAnswer FailingContract (s, f) r (t, h)
-  on_answer_draw s t f h r (Ok (Some x)) a made = subst (λ (q : Answered X E). OnAnswer FailingContract (s, f) q (t, h)) (sym made.0) a
-  on_answer_draw s t f h r (Ok None) a made = subst (λ (q : Answered X E). OnAnswer FailingContract (s, f) q (t, h)) (sym made.0) a
-  on_answer_draw s t f h r (Err d) a made = subst (λ (q : Answered X E). OnAnswer FailingContract (s, f) q (t, h)) (sym made.2) (may_answer_of_call h d made.0 a.0 made.1 refl, a.1, a.2)
+  on_answer_failing_of_drawn : (s t : S) (f h : F) (r : Answered X E) (drawn : Answered X D) → OnAnswer m s drawn t → FailingAnswer call f drawn r h → OnAnswer FailingContract (s, f) r (t, h)
+  on_answer_failing_of_drawn s t f h r (Ok (Some x)) a made = subst (λ (q : Answered X E). OnAnswer FailingContract (s, f) q (t, h)) (sym made.0) a
+  on_answer_failing_of_drawn s t f h r (Ok None) a made = subst (λ (q : Answered X E). OnAnswer FailingContract (s, f) q (t, h)) (sym made.0) a
+  on_answer_failing_of_drawn s t f h r (Err d) a made = subst (λ (q : Answered X E). OnAnswer FailingContract (s, f) q (t, h)) (sym made.2) (may_answer_of_call h d made.0 a.0 made.1 refl, a.1, a.2)
 
   kept_by_draw_failing : (p : S × F) (r : Answered X E) (q : S × F) → FailingContract.can_next p → FailingContract.steps p r q → KeptByDraw FailingContract p r q
   kept_by_draw_failing (s, f) r (t, h) c step =
       let d = drawn_once_of_trace m.steps call (s, f) (t, h) r step in
       let a = l.kept_by_draw s d.0 t c.0 d.1 in
-      let reached = reaches_draw s t f h r d.0 a.answer d.2 in
-      record { can_next = (a.can_next, is_callable_after a.may_fail reached c.1); is_finite = a.is_finite; answer = on_answer_draw s t f h r d.0 a.answer d.2; may_give = a.may_give; may_fail = λ e k. may_answer_after a.may_fail reached k; lenders = a.lenders }
+      let reached = reaches_by_failing_answer s t f h r d.0 a.answer d.2 in
+      record { can_next = (a.can_next, is_callable_after a.may_fail reached c.1); is_finite = a.is_finite; answer = on_answer_failing_of_drawn s t f h r d.0 a.answer d.2; may_give = a.may_give; may_fail = λ e k. may_answer_where_reached_may_answer a.may_fail reached k; lenders = a.lenders }
 
 pub lawful_failing : {S F X D E : Type 0} {m : Contract S X D} (call : F → D → E → F → Type 0) (takes : F → D → Type 0) → Lawful m → Lawful (failing_contract m call takes)
 lawful_failing {m = m} call takes l = record { kept_by_draw = kept_by_draw_failing m l call takes; bounded = λ p. l.bounded p.0 }
@@ -57,7 +57,7 @@ pub lawful_ends_failing : {S F X D E : Type 0} {m : Contract S X D} {e : Ends S 
 lawful_ends_failing call takes l = record {
   front_can = λ p c. (l.front_can p.0 c.0, is_callable_after (l.may_fail p.0) reaches_reflexive c.1);
   may_give = λ p x h. l.may_give p.0 x h;
-  may_fail = λ p d h. may_answer_after (l.may_fail p.0) reaches_reflexive h;
+  may_fail = λ p d h. may_answer_where_reached_may_answer (l.may_fail p.0) reaches_reflexive h;
   front = lawful_failing call takes l.front;
   back = lawful_failing call takes l.back;
 }
@@ -92,8 +92,8 @@ lawful_recovering {m = m} call takes outcome l = lawful_exchanged (lawful_leavin
 pub lawful_ends_recovering : {S F X D V E : Type 0} {m : Contract S X D} {e : Ends S X D} (call : F → D → V → F → Type 0) (takes : F → D → Type 0) (outcome : D → V → Outcome X E) → LawfulEnds m e → LawfulEnds (recovering_contract m call takes outcome) (ends_of (recovering_contract (from_back m e) call takes outcome))
 lawful_ends_recovering call takes outcome l = record {
   front_can = λ p c. (c.0, (l.front_can p.0 c.1.0, is_callable_after (l.may_fail p.0) reaches_reflexive c.1.1));
-  may_give = λ p x h. elim h [ inl b ↦ inl (l.may_give p.0 x b) | inr b ↦ inr (may_answer_after (l.may_fail p.0) reaches_reflexive b) ];
-  may_fail = λ p d h. may_answer_after (l.may_fail p.0) reaches_reflexive h;
+  may_give = λ p x h. elim h [ inl b ↦ inl (l.may_give p.0 x b) | inr b ↦ inr (may_answer_where_reached_may_answer (l.may_fail p.0) reaches_reflexive b) ];
+  may_fail = λ p d h. may_answer_where_reached_may_answer (l.may_fail p.0) reaches_reflexive h;
   front = lawful_recovering call takes outcome l.front;
   back = lawful_recovering call takes outcome l.back;
 }

@@ -7,7 +7,7 @@ use Rattle.fallible_contract.specs.Contract.{Contract, OnAnswer, KeptByDraw, Kep
 use Rattle.fallible_contract.specs.Lists.{AlwaysGives, Lists}
 use Rattle.fallible_contract.specs.Passing.{IfItem}
 use Rattle.fallible_contract.specs.Own.{LowersAtItem, LowersAtAnswer, bounded_by, bounded_with_failures, giving, items_and_failures_in, Gathers, MayCome, AllCome, MadeOfComing, gathering}
-use Rattle.fallible_contract.specs.Laws.Contract.{kept_by_draws_after, kept_by_draws_run}
+use Rattle.fallible_contract.specs.Laws.Contract.{kept_by_draws_of_one_draw, kept_by_draws_run}
 
 -- ---- a source of which each step says more
 
@@ -45,16 +45,16 @@ module _ {S A E : Type 0} (m : Contract S A E) (left : S → ℕ) where
   on_answer_bounded s t (Ok None) lower a = ((λ n b. (left t, omega arith, omega (arith, lower, b))), a.1)
   on_answer_bounded s t (Err e) lower a = (a.0, (λ n b. (left t, omega arith, omega (arith, lower, b))), a.2)
 
-  on_answer_with_failures : (s t : S) (r : Answered A E) → LowersAtAnswer r (left s) (left t) → OnAnswer m s r t → OnAnswer (bounded_with_failures left m) s r t
-  on_answer_with_failures s t (Ok (Some x)) lower a = (a.0, (λ n b. (left t, omega arith, omega (arith, lower, b))), (λ f. (tt, omega (arith, lower))))
-  on_answer_with_failures s t (Ok None) lower a = ((λ n b. (left t, omega arith, omega (arith, lower, b))), (λ f. (tt, omega (arith, lower))))
-  on_answer_with_failures s t (Err e) lower a = (a.0, (λ n b. (left t, omega arith, omega (arith, lower, b))), (λ f. (tt, omega (arith, lower))))
+  on_answer_bounded_with_failures : (s t : S) (r : Answered A E) → LowersAtAnswer r (left s) (left t) → OnAnswer m s r t → OnAnswer (bounded_with_failures left m) s r t
+  on_answer_bounded_with_failures s t (Ok (Some x)) lower a = (a.0, (λ n b. (left t, omega arith, omega (arith, lower, b))), (λ f. (tt, omega (arith, lower))))
+  on_answer_bounded_with_failures s t (Ok None) lower a = ((λ n b. (left t, omega arith, omega (arith, lower, b))), (λ f. (tt, omega (arith, lower))))
+  on_answer_bounded_with_failures s t (Err e) lower a = (a.0, (λ n b. (left t, omega arith, omega (arith, lower, b))), (λ f. (tt, omega (arith, lower))))
 
 pub lawful_bounded_by : {S A E : Type 0} {m : Contract S A E} (left : S → ℕ) → Lawful m → Lawful (bounded_by left m)
 lawful_bounded_by {m = m} left l = lawful_bounded m left LowersAtItem m.remaining (on_answer_bounded m left) l
 
 pub lawful_bounded_with_failures : {S A E : Type 0} {m : Contract S A E} (left : S → ℕ) → Lawful m → Lawful (bounded_with_failures left m)
-lawful_bounded_with_failures {m = m} left l = lawful_bounded m left LowersAtAnswer (λ s. at_most (left s)) (on_answer_with_failures m left) l
+lawful_bounded_with_failures {m = m} left l = lawful_bounded m left LowersAtAnswer (λ s. at_most (left s)) (on_answer_bounded_with_failures m left) l
 
 -- each lists what m does
 pub lists_bounded_by : {S A E : Type 0} (m : Contract S A E) {s : S} {l : List (Result A E)} (left : S → ℕ) → Lists m.steps s l → Lists (bounded_by left m).steps s l
@@ -98,15 +98,15 @@ items_in_at_most (Ok None ∷ rest) = let k = items_in_at_most rest in omega (ar
 items_in_at_most (Err e ∷ rest) = let k = items_in_at_most rest in omega (arith, k)
 
 module _ {P A E : Type 0} (m : Contract P A E) where
-  bound_lowered : (s t u : P) (r : Answered A E) (rest : List (Answered A E)) → OnAnswer m s r t → ((n : ℕ) → m.bound t n → (k : ℕ) × m.bound u k × (k + items_in rest ≤ n)) → (n : ℕ) → m.bound s n → (k : ℕ) × m.bound u k × (k + items_in (r ∷ rest) ≤ n)
-  bound_lowered s t u (Ok (Some x)) rest a then n b = let j = a.1 n b in let k = then j.0 j.1 in (k.0, k.1, omega (arith, j.2, k.2))
-  bound_lowered s t u (Ok None) rest a then n b = let j = a.0 n b in let k = then j.0 j.1 in (k.0, k.1, omega (arith, j.2, k.2))
-  bound_lowered s t u (Err e) rest a then n b = let j = a.1 n b in let k = then j.0 j.1 in (k.0, k.1, omega (arith, j.2, k.2))
+  bound_lowered_by_items_of_first_and_rest : (s t u : P) (r : Answered A E) (rest : List (Answered A E)) → OnAnswer m s r t → ((n : ℕ) → m.bound t n → (k : ℕ) × m.bound u k × (k + items_in rest ≤ n)) → (n : ℕ) → m.bound s n → (k : ℕ) × m.bound u k × (k + items_in (r ∷ rest) ≤ n)
+  bound_lowered_by_items_of_first_and_rest s t u (Ok (Some x)) rest a then n b = let j = a.1 n b in let k = then j.0 j.1 in (k.0, k.1, omega (arith, j.2, k.2))
+  bound_lowered_by_items_of_first_and_rest s t u (Ok None) rest a then n b = let j = a.0 n b in let k = then j.0 j.1 in (k.0, k.1, omega (arith, j.2, k.2))
+  bound_lowered_by_items_of_first_and_rest s t u (Err e) rest a then n b = let j = a.1 n b in let k = then j.0 j.1 in (k.0, k.1, omega (arith, j.2, k.2))
 
   -- each item drawn lowers each bound by one
-  pub lowers_bound : Lawful m → (s : P) (trace : List (Answered A E)) (t : P) → m.can_next s → Run m.steps s trace t → (n : ℕ) → m.bound s n → (k : ℕ) × m.bound t k × (k + items_in trace ≤ n)
-  lowers_bound l s [] t c ran n b = (n, subst (λ (u : P). m.bound u n) ran b, omega arith)
-  lowers_bound l s (r ∷ rest) t c ran n b = let g = l.kept_by_draw s r ran.0 c ran.1 in bound_lowered s ran.0 t r rest g.answer (lowers_bound l ran.0 rest t g.can_next ran.2) n b
+  pub bound_lowered_by_items_of_run : Lawful m → (s : P) (trace : List (Answered A E)) (t : P) → m.can_next s → Run m.steps s trace t → (n : ℕ) → m.bound s n → (k : ℕ) × m.bound t k × (k + items_in trace ≤ n)
+  bound_lowered_by_items_of_run l s [] t c ran n b = (n, subst (λ (u : P). m.bound u n) ran b, omega arith)
+  bound_lowered_by_items_of_run l s (r ∷ rest) t c ran n b = let g = l.kept_by_draw s r ran.0 c ran.1 in bound_lowered_by_items_of_first_and_rest s ran.0 t r rest g.answer (bound_lowered_by_items_of_run l ran.0 rest t g.can_next ran.2) n b
 
   remaining_is_finite_after : (s t u : P) (r : Answered A E) (rest : List (Answered A E)) → OnAnswer m s r t → (IsFinite (m.remaining t) → IsFinite (m.remaining u) × (size (m.remaining u) + items_and_failures_in rest ≤ size (m.remaining t))) → IsFinite (m.remaining s) → IsFinite (m.remaining u) × (size (m.remaining u) + items_and_failures_in (r ∷ rest) ≤ size (m.remaining s))
   remaining_is_finite_after s t u (Ok (Some x)) rest a then f = let j = a.2 f in let k = then j.0 in (k.0, omega (arith, j.1, k.1))
@@ -135,7 +135,7 @@ module _ {P A E : Type 0} (m : Contract P A E) where
   -- each answer that was drawn was one to come
   pub all_come_of_run : Lawful m → (s : P) (trace : List (Answered A E)) (t : P) → m.can_next s → Run m.steps s trace t → AllCome m s trace
   all_come_of_run l s [] t c ran = tt
-  all_come_of_run l s (r ∷ rest) t c ran = let g = l.kept_by_draw s r ran.0 c ran.1 in (may_come_at_draw s ran.0 r g.answer, all_come_before s ran.0 (kept_by_draws_after g) rest (all_come_of_run l ran.0 rest t g.can_next ran.2))
+  all_come_of_run l s (r ∷ rest) t c ran = let g = l.kept_by_draw s r ran.0 c ran.1 in (may_come_at_draw s ran.0 r g.answer, all_come_before s ran.0 (kept_by_draws_of_one_draw g) rest (all_come_of_run l ran.0 rest t g.can_next ran.2))
 
 -- ---- an adapter that takes several items for an answer
 
@@ -146,7 +146,7 @@ module _ {S P A E B F : Type 0} (view : S → P) (made : List (Answered A E) →
   on_answer_gathered : Lawful m → (s t : S) (r : Answered B F) → m.can_next (view s) → Gathers m.steps made (view s) r (view t) → OnAnswer GatheringHere s r t
   on_answer_gathered l s t (Ok (Some y)) c h = (
     record { taken = h.taken; coming = all_come_of_run m l (view s) h.taken (view t) c h.drawn; answers = h.answers },
-    (λ n b. let k = lowers_bound m l (view s) h.taken (view t) c h.drawn n b in (k.0, k.1, let enough = h.enough in omega (arith, k.2, enough))),
+    (λ n b. let k = bound_lowered_by_items_of_run m l (view s) h.taken (view t) c h.drawn n b in (k.0, k.1, let enough = h.enough in omega (arith, k.2, enough))),
     (λ f. let k = remaining_is_finite_of_run m l (view s) h.taken (view t) c h.drawn f in (k.0, let enough = h.enough in let most = items_in_at_most h.taken in omega (arith, k.1, enough, most))),
   )
   on_answer_gathered l s t (Ok None) c h = let k = kept_by_draws_run l (view s) h.taken (view t) c h.drawn in (k.bound, k.remaining)

@@ -7,7 +7,7 @@ use Rattle.fallible_contract.specs.Contract.{Contract, OnAnswer, KeptByDraw, Kep
 use Rattle.fallible_contract.specs.Passing.{PassTrace, passing_contract, leaving_out_contract, Place, asked, failure_at, end_at, source_answer, call_of, outcome_answer, answer_at, has_answer}
 use Rattle.fallible_contract.specs.Closures.{Calls, Reaches}
 use Rattle.fallible_contract.specs.Laws.Contract.{kept_by_draws_run}
-use Rattle.fallible_contract.specs.Laws.Closures.{reaches_reflexive, reaches_weaken, reaches_from, may_answer_of_call, may_answer_after}
+use Rattle.fallible_contract.specs.Laws.Closures.{reaches_reflexive, reaches_weaken, reaches_by_call_first, may_answer_of_call, may_answer_where_reached_may_answer}
 use Rattle.fallible_contract.specs.declared.passing.Outcome.{Outcome}
 use Rattle.fallible_contract.specs.declared.passing.Outcome.TheVariants.{Kept, LeftOut, Failure, End}
 
@@ -35,23 +35,23 @@ module _ {X R B E : Type 0} (outcome : X → R → Outcome B E) where
   last_kept_before p [] r trace e h = absurd cc
   last_kept_before p (q ∷ rest) r trace e h = h
 
-  some_nonempty : (o : Option (Answered B E)) (rest : List (Answered B E)) → IsSome o → cons_option o rest ≡ [] → ⊥
-  some_nonempty None rest h e = let h' : false ≡ true = h in cc
-  some_nonempty (Some r) rest h e = cc
+  cons_option_nonempty_of_some : (o : Option (Answered B E)) (rest : List (Answered B E)) → IsSome o → cons_option o rest ≡ [] → ⊥
+  cons_option_nonempty_of_some None rest h e = let h' : false ≡ true = h in cc
+  cons_option_nonempty_of_some (Some r) rest h e = cc
 
-  cons_nonempty : (o : Option (Answered B E)) (rest : List (Answered B E)) → (rest ≡ [] → ⊥) → cons_option o rest ≡ [] → ⊥
-  cons_nonempty None rest h e = h e
-  cons_nonempty (Some r) rest h e = cc
+  cons_option_nonempty_of_rest : (o : Option (Answered B E)) (rest : List (Answered B E)) → (rest ≡ [] → ⊥) → cons_option o rest ≡ [] → ⊥
+  cons_option_nonempty_of_rest None rest h e = h e
+  cons_option_nonempty_of_rest (Some r) rest h e = cc
 
   -- places that end kept have an answer
   pub answers_never_nil : (p : Place X R E) (rest : List (Place X R E)) → LastKept (has_answer outcome) (p ∷ rest) → filter_map (answer_at outcome) (p ∷ rest) ≡ [] → ⊥
-  answers_never_nil p [] h e = some_nonempty (answer_at outcome p) [] h e
-  answers_never_nil p (q ∷ rest) h e = cons_nonempty (answer_at outcome p) (filter_map (answer_at outcome) (q ∷ rest)) (answers_never_nil q rest h) e
+  answers_never_nil p [] h e = cons_option_nonempty_of_some (answer_at outcome p) [] h e
+  answers_never_nil p (q ∷ rest) h e = cons_option_nonempty_of_rest (answer_at outcome p) (filter_map (answer_at outcome) (q ∷ rest)) (answers_never_nil q rest h) e
 
 module _ {S F X R B E : Type 0} {steps : S → Answered X E → S → Type 0} {call : F → X → R → F → Type 0} {outcome : X → R → Outcome B E} where
-  passes_left_out : {s u t : S} {f h g : F} (x : X) (v : R) (trace : List (Answered B E)) (p : Place X R E) (rest : List (Place X R E)) → steps s (item x) u → call f x v h → outcome x v ≡ LeftOut → trace ≡ filter_map (answer_at outcome) (p ∷ rest) → LastKept (has_answer outcome) (p ∷ rest) → Passes steps call outcome u h trace t g → Passes steps call outcome s f trace t g
-  passes_left_out x v [] p rest step called is e close h = absurd (answers_never_nil outcome p rest close (sym e))
-  passes_left_out x v (r ∷ trace) p rest step called is e close h = leaves_out x v step called is h
+  passes_with_left_out_item_first : {s u t : S} {f h g : F} (x : X) (v : R) (trace : List (Answered B E)) (p : Place X R E) (rest : List (Place X R E)) → steps s (item x) u → call f x v h → outcome x v ≡ LeftOut → trace ≡ filter_map (answer_at outcome) (p ∷ rest) → LastKept (has_answer outcome) (p ∷ rest) → Passes steps call outcome u h trace t g → Passes steps call outcome s f trace t g
+  passes_with_left_out_item_first x v [] p rest step called is e close h = absurd (answers_never_nil outcome p rest close (sym e))
+  passes_with_left_out_item_first x v (r ∷ trace) p rest step called is e close h = leaves_out x v step called is h
 
   module _ {s u t : S} {f h g : F} (x : X) (v : R) (step : steps s (item x) u) (called : call f x v h) where
     last_kept_from_asked : (o : Outcome B E) → outcome x v ≡ o → (rest : List (Place X R E)) (trace : List (Answered B E)) → trace ≡ cons_option (outcome_answer o) (filter_map (answer_at outcome) rest) → LastKept (has_answer outcome) (asked x v ∷ rest)
@@ -60,7 +60,7 @@ module _ {S F X R B E : Type 0} {steps : S → Answered X E → S → Type 0} {c
     last_kept_from_asked (Failure d) is rest trace e close rests = subst (λ (l : List (Answered B E)). Passes steps call outcome s f l t g) (sym e) (refuses x v d step called is rests)
     last_kept_from_asked End is rest trace e close rests = subst (λ (l : List (Answered B E)). Passes steps call outcome s f l t g) (sym e) (closes x v step called is rests)
     last_kept_from_asked LeftOut is [] trace e close rests = absurd (let some : is_some (outcome_answer (outcome x v)) ≡ true = close in let none : is_some (outcome_answer {B = B} {E = E} LeftOut) ≡ true = subst (λ (o : Outcome B E). is_some (outcome_answer o) ≡ true) is some in cc)
-    last_kept_from_asked LeftOut is (p ∷ rest) trace e close rests = subst (λ (l : List (Answered B E)). Passes steps call outcome s f l t g) (sym e) (passes_left_out x v (filter_map (answer_at outcome) (p ∷ rest)) p rest step called is refl close rests)
+    last_kept_from_asked LeftOut is (p ∷ rest) trace e close rests = subst (λ (l : List (Answered B E)). Passes steps call outcome s f l t g) (sym e) (passes_with_left_out_item_first x v (filter_map (answer_at outcome) (p ∷ rest)) p rest step called is refl close rests)
 
   passes_from_places : (places : List (Place X R E)) (s : S) (f : F) (trace : List (Answered B E)) (t : S) (g : F) → Run steps s (map source_answer places) t → Calls call f (filter_map call_of places) g → trace ≡ filter_map (answer_at outcome) places → LastKept (has_answer outcome) places → Passes steps call outcome s f trace t g
   passes_from_places [] s f trace t g ran called e close = subst (λ (l : List (Answered B E)). Passes steps call outcome s f l t g) (sym e) (subst (λ (u : S). Passes steps call outcome s f [] u g) ran (subst (λ (h : F). Passes steps call outcome s f [] s h) called done))
@@ -97,10 +97,10 @@ module _ {S F X R B E : Type 0} (m : Contract S X E) (l : Lawful m) (call : F �
   reaches_passes s _ f _ _ c done = reaches_reflexive
   reaches_passes s t f g _ c (end_passes {u = u} step p) = let a = l.kept_by_draw s (Ok None) u c step in reaches_weaken a.may_give (reaches_passes u t f g _ a.can_next p)
   reaches_passes s t f g _ c (failure_passes {u = u} e step p) = let a = l.kept_by_draw s (Err e) u c step in reaches_weaken a.may_give (reaches_passes u t f g _ a.can_next p)
-  reaches_passes s t f g _ c (keeps {u = u} {h = h} x v y step called is p) = let a = l.kept_by_draw s (item x) u c step in reaches_from x v a.answer.0 called (reaches_weaken a.may_give (reaches_passes u t h g _ a.can_next p))
-  reaches_passes s t f g _ c (refuses {u = u} {h = h} x v e step called is p) = let a = l.kept_by_draw s (item x) u c step in reaches_from x v a.answer.0 called (reaches_weaken a.may_give (reaches_passes u t h g _ a.can_next p))
-  reaches_passes s t f g _ c (closes {u = u} {h = h} x v step called is p) = let a = l.kept_by_draw s (item x) u c step in reaches_from x v a.answer.0 called (reaches_weaken a.may_give (reaches_passes u t h g _ a.can_next p))
-  reaches_passes s t f g _ c (leaves_out {u = u} {h = h} x v step called is p) = let a = l.kept_by_draw s (item x) u c step in reaches_from x v a.answer.0 called (reaches_weaken a.may_give (reaches_passes u t h g _ a.can_next p))
+  reaches_passes s t f g _ c (keeps {u = u} {h = h} x v y step called is p) = let a = l.kept_by_draw s (item x) u c step in reaches_by_call_first x v a.answer.0 called (reaches_weaken a.may_give (reaches_passes u t h g _ a.can_next p))
+  reaches_passes s t f g _ c (refuses {u = u} {h = h} x v e step called is p) = let a = l.kept_by_draw s (item x) u c step in reaches_by_call_first x v a.answer.0 called (reaches_weaken a.may_give (reaches_passes u t h g _ a.can_next p))
+  reaches_passes s t f g _ c (closes {u = u} {h = h} x v step called is p) = let a = l.kept_by_draw s (item x) u c step in reaches_by_call_first x v a.answer.0 called (reaches_weaken a.may_give (reaches_passes u t h g _ a.can_next p))
+  reaches_passes s t f g _ c (leaves_out {u = u} {h = h} x v step called is p) = let a = l.kept_by_draw s (item x) u c step in reaches_by_call_first x v a.answer.0 called (reaches_weaken a.may_give (reaches_passes u t h g _ a.can_next p))
 
   module _ (callable : (X → Type 0) → F → Type 0) (hints : S × F → ℕ × Option ℕ → Type 0) where
     abbrev PassingContract : Contract (S × F) B E
@@ -108,9 +108,9 @@ module _ {S F X R B E : Type 0} (m : Contract S X E) (l : Lawful m) (call : F �
 
     -- a draw after a left-out item was a draw
     on_answer_after : (s u t : S) (f h g : F) (r : Answered B E) (x : X) (v : R) → KeptByDraw m s (item x) u → call f x v h → OnAnswer PassingContract (u, h) r (t, g) → OnAnswer PassingContract (s, f) r (t, g)
-    on_answer_after s u t f h g (Ok (Some y)) x v a called b = (may_answer_after a.may_give (reaches_from x v a.answer.0 called reaches_reflexive) b.0, (λ n c. let j = a.answer.1 n c in let k = b.1 j.0 j.1 in (k.0, k.1, omega (arith, j.2, k.2))), (λ e. let j = a.answer.2 e in let k = b.2 j.0 in (k.0, omega (arith, j.1, k.1))))
+    on_answer_after s u t f h g (Ok (Some y)) x v a called b = (may_answer_where_reached_may_answer a.may_give (reaches_by_call_first x v a.answer.0 called reaches_reflexive) b.0, (λ n c. let j = a.answer.1 n c in let k = b.1 j.0 j.1 in (k.0, k.1, omega (arith, j.2, k.2))), (λ e. let j = a.answer.2 e in let k = b.2 j.0 in (k.0, omega (arith, j.1, k.1))))
     on_answer_after s u t f h g (Ok None) x v a called b = ((λ n c. let j = a.answer.1 n c in let k = b.0 j.0 j.1 in (k.0, k.1, omega (arith, j.2, k.2))), (λ e. let j = a.answer.2 e in let k = b.1 j.0 in (k.0, omega (arith, j.1, k.1))))
-    on_answer_after s u t f h g (Err e) x v a called b = (elim b.0 [ inl c ↦ inl (a.may_fail e c) | inr c ↦ inr (may_answer_after a.may_give (reaches_from x v a.answer.0 called reaches_reflexive) c) ], (λ n c. let j = a.answer.1 n c in let k = b.1 j.0 j.1 in (k.0, k.1, omega (arith, j.2, k.2))), (λ d. let j = a.answer.2 d in let k = b.2 j.0 in (k.0, omega (arith, j.1, k.1))))
+    on_answer_after s u t f h g (Err e) x v a called b = (elim b.0 [ inl c ↦ inl (a.may_fail e c) | inr c ↦ inr (may_answer_where_reached_may_answer a.may_give (reaches_by_call_first x v a.answer.0 called reaches_reflexive) c) ], (λ n c. let j = a.answer.1 n c in let k = b.1 j.0 j.1 in (k.0, k.1, omega (arith, j.2, k.2))), (λ d. let j = a.answer.2 d in let k = b.2 j.0 in (k.0, omega (arith, j.1, k.1))))
 
     on_answer_passes : (s t : S) (f g : F) (r : Answered B E) → m.can_next s → PassesHere s f (r ∷ []) t g → OnAnswer PassingContract (s, f) r (t, g)
     on_answer_passes s t f g _ c (end_passes step done) = (l.kept_by_draw s (Ok None) t c step).answer
@@ -125,8 +125,8 @@ module _ {S F X R B E : Type 0} (m : Contract S X E) (l : Lawful m) (call : F �
       can_next = (a.can_next, after (m.may_give s) (m.may_give t) f g a.may_give reached c.1);
       is_finite = a.is_finite;
       answer = on_answer_passes s t f g r c.0 p;
-      may_give = λ y h. may_answer_after a.may_give reached h;
-      may_fail = λ e h. elim h [ inl b ↦ inl (a.may_fail e b) | inr b ↦ inr (may_answer_after a.may_give reached b) ];
+      may_give = λ y h. may_answer_where_reached_may_answer a.may_give reached h;
+      may_fail = λ e h. elim h [ inl b ↦ inl (a.may_fail e b) | inr b ↦ inr (may_answer_where_reached_may_answer a.may_give reached b) ];
       lenders = a.lenders;
     }
 

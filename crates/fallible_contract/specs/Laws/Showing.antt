@@ -52,13 +52,13 @@ module _ {S A E : Type 0} (shows : S → List (Result A E)) where
   }
 
 module _ {S A E : Type 0} (shows : S → List (Result A E)) where
-  never_fails_nowhere : (xs : List A) (s : S) → shows s ≡ items xs → NeverFails (listing shows) s
+  never_fails_where_shown_is_items : (xs : List A) (s : S) → shows s ≡ items xs → NeverFails (listing shows) s
   unfolding items
-  never_fails_nowhere [] s same [] t u e ran fails = let h = shown_before (shows t) (Err e) (shows u) fails in absurd (let k = ap shows ran in cc)
-  never_fails_nowhere (x ∷ xs) s same [] t u e ran fails = let h = shown_before (shows t) (Err e) (shows u) fails in absurd (let k = ap shows ran in cc)
-  never_fails_nowhere [] s same (r ∷ rest) t u e ran fails = let h = subst (λ (k : List (Result A E)). TakesShown k r (shows ran.0)) same ran.1 in never_fails_nowhere [] ran.0 h.1 rest t u e ran.2 fails
-  never_fails_nowhere (x ∷ xs) s same (r ∷ rest) t u e ran fails = let h = subst (λ (k : List (Result A E)). TakesShown k r (shows ran.0)) same ran.1 in never_fails_nowhere xs ran.0 h.1 rest t u e ran.2 fails
+  never_fails_where_shown_is_items [] s same [] t u e ran fails = let h = shown_before (shows t) (Err e) (shows u) fails in absurd (let k = ap shows ran in cc)
+  never_fails_where_shown_is_items (x ∷ xs) s same [] t u e ran fails = let h = shown_before (shows t) (Err e) (shows u) fails in absurd (let k = ap shows ran in cc)
+  never_fails_where_shown_is_items [] s same (r ∷ rest) t u e ran fails = let h = subst (λ (k : List (Result A E)). TakesShown k r (shows ran.0)) same ran.1 in never_fails_where_shown_is_items [] ran.0 h.1 rest t u e ran.2 fails
+  never_fails_where_shown_is_items (x ∷ xs) s same (r ∷ rest) t u e ran fails = let h = subst (λ (k : List (Result A E)). TakesShown k r (shows ran.0)) same ran.1 in never_fails_where_shown_is_items xs ran.0 h.1 rest t u e ran.2 fails
 
   -- a type that shows items alone never fails
   pub never_fails_shown : (s : S) (xs : List A) → shows s ≡ items xs → NeverFails (listing shows) s
-  never_fails_shown s xs same = never_fails_nowhere xs s same
+  never_fails_shown s xs same = never_fails_where_shown_is_items xs s same

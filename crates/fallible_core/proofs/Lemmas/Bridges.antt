@@ -36,35 +36,35 @@ module _ {V S A E Z : Type 0} (view : V → S) (steps : S → Answered A E → S
       (k.0, cc, k.2)
 
   -- std's none comes only where nothing is left
-  length_at_end : (more : List (Result A E)) (t u : V) → AlwaysGives steps (view t) more → gives_transposed t None u → length (shown more) ≡ 0
-  length_at_end [] t u g y = ap length nothing
-  length_at_end (r ∷ more) t u g y = absurd (let d = g (unwrapped_answer None) (view u) y in let first = element None r more d.0 in let is : None ≡ Some first.0 = first.1 in cc)
+  length_is_zero_at_end : (more : List (Result A E)) (t u : V) → AlwaysGives steps (view t) more → gives_transposed t None u → length (shown more) ≡ 0
+  length_is_zero_at_end [] t u g y = ap length nothing
+  length_is_zero_at_end (r ∷ more) t u g y = absurd (let d = g (unwrapped_answer None) (view u) y in let first = element None r more d.0 in let is : None ≡ Some first.0 = first.1 in cc)
 
-  pub each_run_reads : (l : List (Result A E)) (s : V) → Lists steps (view s) l → EachRunFrom gives_transposed s (λ p. ItemsAre p (shown l))
-  each_run_reads l s i p _ e =
+  pub each_run_reads_shown : (l : List (Result A E)) (s : V) → Lists steps (view s) l → EachRunFrom gives_transposed s (λ p. ItemsAre p (shown l))
+  each_run_reads_shown l s i p _ e =
       let t = took p in
       let k = always_gives_rest_after l p.items p.from t.0 (subst (λ (u : V). AlwaysGives steps (view u) l) (sym e) i.runs) t.1 in
-      as_is p (shown l) (lists p (λ y. y) (shown l) (shown k.0) (λ w. length_at_end k.0 t.0 (t.2 w).0 k.2 (t.2 w).1) (k.1 ∙ ap (λ j. j ++ shown k.0) (sym (map_identity p.items))))
+      as_is p (shown l) (lists p (λ y. y) (shown l) (shown k.0) (λ w. length_is_zero_at_end k.0 t.0 (t.2 w).0 k.2 (t.2 w).1) (k.1 ∙ ap (λ j. j ++ shown k.0) (sym (map_identity p.items))))
 
 -- ---- `Iterator`
 
 module _ {A E : Type 0} where
-  first_element : (o : Option (Result A E)) (y : Result A E) (l : List (Result A E)) → option_transpose o ≡ result_answer y → (z : Result A E) × (o ≡ Some z) × (y ∷ l ≡ z ∷ l)
-  first_element None (Ok x) l e = absurd cc
-  first_element None (Err d) l e = absurd cc
-  first_element (Some (Ok z)) (Ok x) l e = (Ok x, cc, refl)
-  first_element (Some (Ok z)) (Err d) l e = absurd cc
-  first_element (Some (Err z)) (Ok x) l e = absurd cc
-  first_element (Some (Err z)) (Err d) l e = (Err d, cc, refl)
+  option_is_some_of_first_element : (o : Option (Result A E)) (y : Result A E) (l : List (Result A E)) → option_transpose o ≡ result_answer y → (z : Result A E) × (o ≡ Some z) × (y ∷ l ≡ z ∷ l)
+  option_is_some_of_first_element None (Ok x) l e = absurd cc
+  option_is_some_of_first_element None (Err d) l e = absurd cc
+  option_is_some_of_first_element (Some (Ok z)) (Ok x) l e = (Ok x, cc, refl)
+  option_is_some_of_first_element (Some (Ok z)) (Err d) l e = absurd cc
+  option_is_some_of_first_element (Some (Err z)) (Ok x) l e = absurd cc
+  option_is_some_of_first_element (Some (Err z)) (Err d) l e = (Err d, cc, refl)
 
-  none_of_no_elements : (o : Option (Result A E)) → option_transpose o ≡ Ok None → o ≡ None
-  none_of_no_elements None e = refl
-  none_of_no_elements (Some (Ok z)) e = absurd cc
-  none_of_no_elements (Some (Err z)) e = absurd cc
+  option_is_none_at_end : (o : Option (Result A E)) → option_transpose o ≡ Ok None → o ≡ None
+  option_is_none_at_end None e = refl
+  option_is_none_at_end (Some (Ok z)) e = absurd cc
+  option_is_none_at_end (Some (Err z)) e = absurd cc
 
 module _ {V S A E : Type 0} (view : V → S) (steps : S → Answered A E → S → Type 0) where
   pub each_run_reads_list : (l : List (Result A E)) (s : V) → Lists steps (view s) l → EachRunFrom (λ s o t. steps (view s) (option_transpose o) (view t)) s (λ p. ItemsAre p l)
-  each_run_reads_list l s i = each_run_reads view steps option_transpose (λ k. k) refl first_element none_of_no_elements l s i
+  each_run_reads_list l s i = each_run_reads_shown view steps option_transpose (λ k. k) refl option_is_some_of_first_element option_is_none_at_end l s i
 
 -- ---- `Unwrap`
 
@@ -91,10 +91,10 @@ module _ {A E : Type 0} where
   abbrev unwrapped_answer : Option A → Answered A E
   unwrapped_answer o = Ok o
 
-  first_unwrapped : (o : Option A) (y : Result A E) (l : List (Result A E)) → unwrapped_answer o ≡ result_answer y → (z : A) × (o ≡ Some z) × (unwrapped (y ∷ l) ≡ z ∷ unwrapped l)
+  option_is_some_of_first_unwrapped : (o : Option A) (y : Result A E) (l : List (Result A E)) → unwrapped_answer o ≡ result_answer y → (z : A) × (o ≡ Some z) × (unwrapped (y ∷ l) ≡ z ∷ unwrapped l)
   unfolding unwrapped
-  first_unwrapped o (Ok x) l e = (x, cc, refl)
-  first_unwrapped o (Err d) l e = absurd cc
+  option_is_some_of_first_unwrapped o (Ok x) l e = (x, cc, refl)
+  option_is_some_of_first_unwrapped o (Err d) l e = absurd cc
 
   none_of_unwrapped_end : (o : Option A) → unwrapped_answer o ≡ Ok None → o ≡ None
   none_of_unwrapped_end o e = cc
@@ -105,10 +105,10 @@ unfolding items unwrapped
 unwrapped_items E [] = refl
 unwrapped_items E (x ∷ l) = ap {B = List _} (λ t. x ∷ t) (unwrapped_items E l)
 
-none_unwrapped : (A E : Type 0) → unwrapped {A = A} {E = E} [] ≡ []
+unwrapped_of_nil_is_nil : (A E : Type 0) → unwrapped {A = A} {E = E} [] ≡ []
 unfolding unwrapped
-none_unwrapped A E = refl
+unwrapped_of_nil_is_nil A E = refl
 
 module _ {V S A E : Type 0} (view : V → S) (steps : S → Answered A E → S → Type 0) where
   pub each_run_reads_unwrapped : (l : List (Result A E)) (s : V) → Lists steps (view s) l → EachRunFrom (λ s o t. steps (view s) (Ok o) (view t)) s (λ p. ItemsAre p (unwrapped l))
-  each_run_reads_unwrapped l s i = each_run_reads view steps unwrapped_answer unwrapped (none_unwrapped A E) first_unwrapped none_of_unwrapped_end l s i
+  each_run_reads_unwrapped l s i = each_run_reads_shown view steps unwrapped_answer unwrapped (unwrapped_of_nil_is_nil A E) option_is_some_of_first_unwrapped none_of_unwrapped_end l s i

@@ -10,8 +10,8 @@ use Rattle.fallible_contract.specs.Lists.{Acts}
 use Rattle.fallible_contract.specs.Folds.{HoldsAtEachTurn, CountExit, FoldExit, FoldDrains}
 use Rattle.fallible_contract.specs.Passing.{PassTrace}
 use Rattle.fallible_contract.specs.Laws.Passing.{Passes, done, end_passes, failure_passes, keeps, refuses, closes, leaves_out, passes_of_pass_trace}
-use Rattle.fallible_contract.proofs.Lemmas.LawForm.{runs_by_answers}
-pub use Rattle.fallible_contract.proofs.Lemmas.Lists.ForGood.{run_seen}
+use Rattle.fallible_contract.proofs.Lemmas.LawForm.{run_at_one_answer_iff_law}
+pub use Rattle.fallible_contract.proofs.Lemmas.Lists.ForGood.{run_at_view}
 use Rattle.fallible_contract.proofs.Lemmas.Folds.{holds_each_turn_below, number_counted_up}
 use Rattle.fallible_contract.proofs.Lemmas.Passing.{passing_by_answers}
 use Rattle.fallible_core.specs.Cutting.Take.{take_step, take_contract, take_parts}
@@ -119,8 +119,8 @@ module _ {S F X E : Type 0} (steps : S → Answered X E → S → Type 0) (call 
   filtered_below_left_out : (s u t : S) (x : X) (xs : List X) (last : Answered X E) → h x ≡ false → steps s (item x) u → FilteredBelow u xs last t → FilteredBelow s xs last t
   filtered_below_left_out s u t x xs last is step b = record { items = x ∷ b.items; ran = (u, step, b.ran); are = b.are ∙ ap (λ c. cond c (x ∷ filter h b.items) (filter h b.items)) (sym is) }
 
-  tested_outcome_acting : (o : Outcome X E) (f g : F) (x : X) (v : Result Bool E) → f ≡ fixed → call f x v g → tested_outcome x v ≡ o → tested_outcome x (Ok (h x)) ≡ o
-  tested_outcome_acting o f g x v at called is = ap (tested_outcome x) (sym (acts f x v g at called).1) ∙ is
+  tested_outcome_same_where_closure_acts : (o : Outcome X E) (f g : F) (x : X) (v : Result Bool E) → f ≡ fixed → call f x v g → tested_outcome x v ≡ o → tested_outcome x (Ok (h x)) ≡ o
+  tested_outcome_same_where_closure_acts o f g x v at called is = ap (tested_outcome x) (sym (acts f x v g at called).1) ∙ is
 
   filtered_below_of_passes : (xs : List X) (last : Answered X E) (s t : S) (f g : F) (trace : List (Answered X E)) → f ≡ fixed → trace ≡ map item xs ++ last ∷ [] → Passes steps call tested_outcome s f trace t g → FilteredBelow s xs last t
   filtered_below_of_passes [] last s t f g _ at e done = absurd cc
@@ -129,24 +129,24 @@ module _ {S F X E : Type 0} (steps : S → Answered X E → S → Type 0) (call 
   filtered_below_of_passes (x ∷ xs) last s t f g _ at e (end_passes step p) = absurd cc
   filtered_below_of_passes [] last s t f g _ at e (failure_passes {u = u} d step p) = filtered_below_last s u t f g (failure d) last _ e step p
   filtered_below_of_passes (x ∷ xs) last s t f g _ at e (failure_passes d step p) = absurd cc
-  filtered_below_of_passes [] last s t f g _ at e (keeps {u = u} {h = j} {trace = rest} x v y step called is p) = let k = kept_is_true x y (h x) (tested_outcome_acting (Kept y) f j x v at called is) in filtered_below_last s u t j g (item x) last rest (ap {B = List (Answered X E)} (λ (z : X). item z ∷ rest) k.1 ∙ e) step p
-  filtered_below_of_passes (z ∷ xs) last s t f g _ at e (keeps {u = u} {h = j} x v y step called is p) = let k = kept_is_true x y (h x) (tested_outcome_acting (Kept y) f j x v at called is) in filtered_below_kept s u t x z xs last k.0 (k.1 ∙ cc) step (filtered_below_of_passes xs last u t j g _ (acts f x v j at called).0 (cc) p)
-  filtered_below_of_passes xs last s t f g _ at e (refuses {h = j} x v d step called is p) = absurd (tested_never_fails x (h x) d (tested_outcome_acting (Failure d) f j x v at called is))
-  filtered_below_of_passes xs last s t f g _ at e (closes {h = j} x v step called is p) = absurd (tested_never_ends x (h x) (tested_outcome_acting End f j x v at called is))
-  filtered_below_of_passes xs last s t f g trace at e (leaves_out {u = u} {h = j} x v step called is p) = filtered_below_left_out s u t x xs last (left_out_is_false x (h x) (tested_outcome_acting LeftOut f j x v at called is)) step (filtered_below_of_passes xs last u t j g trace (acts f x v j at called).0 e p)
+  filtered_below_of_passes [] last s t f g _ at e (keeps {u = u} {h = j} {trace = rest} x v y step called is p) = let k = kept_is_true x y (h x) (tested_outcome_same_where_closure_acts (Kept y) f j x v at called is) in filtered_below_last s u t j g (item x) last rest (ap {B = List (Answered X E)} (λ (z : X). item z ∷ rest) k.1 ∙ e) step p
+  filtered_below_of_passes (z ∷ xs) last s t f g _ at e (keeps {u = u} {h = j} x v y step called is p) = let k = kept_is_true x y (h x) (tested_outcome_same_where_closure_acts (Kept y) f j x v at called is) in filtered_below_kept s u t x z xs last k.0 (k.1 ∙ cc) step (filtered_below_of_passes xs last u t j g _ (acts f x v j at called).0 (cc) p)
+  filtered_below_of_passes xs last s t f g _ at e (refuses {h = j} x v d step called is p) = absurd (tested_never_fails x (h x) d (tested_outcome_same_where_closure_acts (Failure d) f j x v at called is))
+  filtered_below_of_passes xs last s t f g _ at e (closes {h = j} x v step called is p) = absurd (tested_never_ends x (h x) (tested_outcome_same_where_closure_acts End f j x v at called is))
+  filtered_below_of_passes xs last s t f g trace at e (leaves_out {u = u} {h = j} x v step called is p) = filtered_below_left_out s u t x xs last (left_out_is_false x (h x) (tested_outcome_same_where_closure_acts LeftOut f j x v at called is)) step (filtered_below_of_passes xs last u t j g trace (acts f x v j at called).0 e p)
 
   pub filtered_below_of_run : (xs : List X) (last : Answered X E) (p q : S × F) → p.1 ≡ fixed → Run (λ p r q. PassTrace steps call tested_outcome p (r ∷ []) q) p (map item xs ++ last ∷ []) q → FilteredBelow p.0 xs last q.0
-  filtered_below_of_run xs last p q at ran = filtered_below_of_passes xs last p.0 q.0 p.1 q.1 _ at refl (passes_of_pass_trace ((runs_by_answers _ (passing_by_answers steps call tested_outcome) p _ q).0 ran))
+  filtered_below_of_run xs last p q at ran = filtered_below_of_passes xs last p.0 q.0 p.1 q.1 _ at refl (passes_of_pass_trace ((run_at_one_answer_iff_law _ (passing_by_answers steps call tested_outcome) p _ q).0 ran))
 
 -- a closure that equals one that acts as a function acts so
-closure_acts_from : {F X R : Type 0} (call : F → X → R → F → Type 0) (f : F) (h : X → R) → Acts call f h → (k : F) (x : X) (v : R) (g : F) → k ≡ f → call k x v g → (g ≡ f) × (v ≡ h x)
-closure_acts_from call f h acts k x v g e c = acts x v g (subst (λ z. call z x v g) e c)
+call_leaves_closure_and_answers_where_acts : {F X R : Type 0} (call : F → X → R → F → Type 0) (f : F) (h : X → R) → Acts call f h → (k : F) (x : X) (v : R) (g : F) → k ≡ f → call k x v g → (g ≡ f) × (v ≡ h x)
+call_leaves_closure_and_answers_where_acts call f h acts k x v g e c = acts x v g (subst (λ z. call z x v g) e c)
 
 module _ {I F X E : Type 0} (m : Contract I X E) (g : Mut F (Bor X × Unit {0}) (Result Bool E)) (h : X → Bool) (f : F) (it : I) where
   pub filtered_run : (s t : Filter I F) (xs : List X) (last : Answered X E) → Acts (call_by_reference g) f (λ x. Ok (h x)) → filter_parts s ≡ (it, f) → Run (seen_as filter_parts (filter_contract m g)).steps s (map item xs ++ last ∷ []) t → FilteredRun m.steps h it xs last t.it
   filtered_run s t xs last acts parts ran =
       let at : s.it ≡ it = ap (λ p. p.0) parts in
-      subst (λ (i : I). FilteredRun m.steps h i xs last t.it) at (filtered_below_of_run m.steps (call_by_reference g) f h (closure_acts_from (call_by_reference g) f (λ x. Ok (h x)) acts) xs last (filter_parts s) (filter_parts t) (ap (λ p. p.1) parts) (run_seen filter_parts _ (map item xs ++ last ∷ []) s t ran))
+      subst (λ (i : I). FilteredRun m.steps h i xs last t.it) at (filtered_below_of_run m.steps (call_by_reference g) f h (call_leaves_closure_and_answers_where_acts (call_by_reference g) f (λ x. Ok (h x)) acts) xs last (filter_parts s) (filter_parts t) (ap (λ p. p.1) parts) (run_at_view filter_parts _ (map item xs ++ last ∷ []) s t ran))
 
 -- ---- `Take`
 
@@ -168,4 +168,4 @@ module _ {S A E : Type 0} (steps : S → Answered A E → S → Type 0) where
       taken_run_one_more n s ran.0.0 t x xs last ran.1.0 (subst (λ (j : ℕ). TakenRun steps j ran.0.0 xs last t) one_less (taken_run_of_run xs last ran.0.1 k ran.0.0 t ran.2))
 
 pub taken_run : {I A E : Type 0} (m : Contract I A E) (n : ℕ) (it : I) (s t : Take I) (xs : List A) (last : Answered A E) → take_parts s ≡ (it, n) → Run (seen_as take_parts (take_contract m)).steps s (map item xs ++ last ∷ []) t → TakenRun m.steps n it xs last t.it
-taken_run {I = I} m n it s t xs last parts ran = taken_run_of_run m.steps xs last n t.to_take it t.it (subst (λ (p : I × ℕ). Run (take_step m.steps) p (map item xs ++ last ∷ []) (take_parts t)) parts (run_seen take_parts _ (map item xs ++ last ∷ []) s t ran))
+taken_run {I = I} m n it s t xs last parts ran = taken_run_of_run m.steps xs last n t.to_take it t.it (subst (λ (p : I × ℕ). Run (take_step m.steps) p (map item xs ++ last ∷ []) (take_parts t)) parts (run_at_view take_parts _ (map item xs ++ last ∷ []) s t ran))

@@ -18,16 +18,16 @@ use Rattle.fallible_contract.specs.declared.answers.Side.{Side}
 use Rattle.fallible_contract.specs.declared.answers.Side.TheVariants.{Front, Back}
 
 module _ {A E : Type 0} where
-  option_transpose_result_transpose : (r : Answered A E) → option_transpose (result_transpose r) ≡ r
-  option_transpose_result_transpose (Ok (Some x)) = refl
-  option_transpose_result_transpose (Ok None) = refl
-  option_transpose_result_transpose (Err e) = refl
+  option_transpose_undoes_result_transpose : (r : Answered A E) → option_transpose (result_transpose r) ≡ r
+  option_transpose_undoes_result_transpose (Ok (Some x)) = refl
+  option_transpose_undoes_result_transpose (Ok None) = refl
+  option_transpose_undoes_result_transpose (Err e) = refl
 
   -- what `convert` makes of an element is the answer that the element is
-  converted_back : (r : Answered A E) → option_transpose (std_element {A = A} {E = E} Ok Err r) ≡ r
-  converted_back (Ok (Some x)) = refl
-  converted_back (Ok None) = refl
-  converted_back (Err e) = refl
+  option_transpose_undoes_std_element : (r : Answered A E) → option_transpose (std_element {A = A} {E = E} Ok Err r) ≡ r
+  option_transpose_undoes_std_element (Ok (Some x)) = refl
+  option_transpose_undoes_std_element (Ok None) = refl
+  option_transpose_undoes_std_element (Err e) = refl
 
 -- ---- traces
 
@@ -37,11 +37,11 @@ module _ {P A E : Type 0} (steps : P → Answered A E → P → Type 0) where
 
   transposed_run_to_source : (trace : List (Answered A E)) (p q : P) → Run StepTransposed p trace q → Run steps p trace q
   transposed_run_to_source [] p q e = e
-  transposed_run_to_source (r ∷ rest) p q h = (h.0, subst (λ (z : Answered A E). steps p z h.0) (option_transpose_result_transpose r) h.1, transposed_run_to_source rest h.0 q h.2)
+  transposed_run_to_source (r ∷ rest) p q h = (h.0, subst (λ (z : Answered A E). steps p z h.0) (option_transpose_undoes_result_transpose r) h.1, transposed_run_to_source rest h.0 q h.2)
 
   transposed_run_of_source : (trace : List (Answered A E)) (p q : P) → Run steps p trace q → Run StepTransposed p trace q
   transposed_run_of_source [] p q e = e
-  transposed_run_of_source (r ∷ rest) p q h = (h.0, subst (λ (z : Answered A E). steps p z h.0) (sym (option_transpose_result_transpose r)) h.1, transposed_run_of_source rest h.0 q h.2)
+  transposed_run_of_source (r ∷ rest) p q h = (h.0, subst (λ (z : Answered A E). steps p z h.0) (sym (option_transpose_undoes_result_transpose r)) h.1, transposed_run_of_source rest h.0 q h.2)
 
   pub run_transposed_iff : (p : P) (trace : List (Answered A E)) (q : P) → Run StepTransposed p trace q ↔ Run steps p trace q
   run_transposed_iff p trace q = (transposed_run_to_source trace p q, transposed_run_of_source trace p q)
@@ -51,18 +51,18 @@ module _ {V S A E : Type 0} (view : V → S) (make : S → V) (made : (s : V) �
   abbrev ok_answer_step : V → Option A → V → Type 0
   ok_answer_step s o t = steps (view s) (Ok o) (view t)
 
-  run_of_answers : (given : List (Option A)) (s t : V) → FoldsTo ok_answer_step s given t → Run steps (view s) (map (λ o. Ok o) given) (view t)
-  run_of_answers [] s t e = ap view e
-  run_of_answers (o ∷ rest) s t h = (view h.0, h.1, run_of_answers rest h.0 t h.2)
+  run_of_folds_to_answers : (given : List (Option A)) (s t : V) → FoldsTo ok_answer_step s given t → Run steps (view s) (map (λ o. Ok o) given) (view t)
+  run_of_folds_to_answers [] s t e = ap view e
+  run_of_folds_to_answers (o ∷ rest) s t h = (view h.0, h.1, run_of_folds_to_answers rest h.0 t h.2)
 
-  folds_to_from_answers : (given : List (Option A)) (s t : V) → Run steps (view s) (map (λ o. Ok o) given) (view t) → FoldsTo ok_answer_step s given t
-  folds_to_from_answers [] s t e = sym (made s) ∙ ap make e ∙ made t
-  folds_to_from_answers (o ∷ rest) s t h =
+  folds_to_of_run_of_answers : (given : List (Option A)) (s t : V) → Run steps (view s) (map (λ o. Ok o) given) (view t) → FoldsTo ok_answer_step s given t
+  folds_to_of_run_of_answers [] s t e = sym (made s) ∙ ap make e ∙ made t
+  folds_to_of_run_of_answers (o ∷ rest) s t h =
       let at : h.0 ≡ view (make h.0) = sym (has h.0) in
-      (make h.0, subst (λ (z : S). steps (view s) (Ok o) z) at h.1, folds_to_from_answers rest (make h.0) t (subst (λ (z : S). Run steps z (map (λ q. Ok q) rest) (view t)) at h.2))
+      (make h.0, subst (λ (z : S). steps (view s) (Ok o) z) at h.1, folds_to_of_run_of_answers rest (make h.0) t (subst (λ (z : S). Run steps z (map (λ q. Ok q) rest) (view t)) at h.2))
 
-  pub folds_to_given_iff : (s : V) (given : List (Option A)) (t : V) → FoldsTo ok_answer_step s given t ↔ Run steps (view s) (map (λ o. Ok o) given) (view t)
-  folds_to_given_iff s given t = (run_of_answers given s t, folds_to_from_answers given s t)
+  pub folds_to_iff_run_of_answers : (s : V) (given : List (Option A)) (t : V) → FoldsTo ok_answer_step s given t ↔ Run steps (view s) (map (λ o. Ok o) given) (view t)
+  folds_to_iff_run_of_answers s given t = (run_of_folds_to_answers given s t, folds_to_of_run_of_answers given s t)
 
 -- ---- required by `convert`
 
@@ -81,7 +81,7 @@ module _ {V S A E : Type 0} (m : Contract S A E) (view : V → S) where
   step_converted = std_step {A = A} {E = E} Ok Err can_convert gives_converted remaining_converted
 
   source_step_of_step : (s : V) (r : Answered A E) (t : V) → step_converted s r t → m.steps (view s) r (view t)
-  source_step_of_step s r t h = subst (λ (z : Answered A E). m.steps (view s) z (view t)) (converted_back r) h.0
+  source_step_of_step s r t h = subst (λ (z : Answered A E). m.steps (view s) z (view t)) (option_transpose_undoes_std_element r) h.0
 
   source_run_of_run : (trace : List (Answered A E)) (s t : V) → Run step_converted s trace t → Run m.steps (view s) trace (view t)
   source_run_of_run [] s t e = ap view e
@@ -103,7 +103,7 @@ module _ {V S A E : Type 0} (m : Contract S A E) (view : V → S) where
   makes_progress_converted l s (Err e) t c h = let g = l.kept_by_draw (view s) (Err e) (view t) c h in record { on = λ f. let less = g.answer.2 f in (g.can_next, less.0, less.1); keeps = g.can_next; rests = λ f. tt }
 
   step_of_source_step : Lawful m → (s : V) (r : Answered A E) (t : V) → m.can_next (view s) → m.steps (view s) r (view t) → step_converted s r t
-  step_of_source_step l s r t c h = (subst (λ (z : Answered A E). m.steps (view s) z (view t)) (sym (converted_back r)) h, makes_progress_converted l s r t c h)
+  step_of_source_step l s r t c h = (subst (λ (z : Answered A E). m.steps (view s) z (view t)) (sym (option_transpose_undoes_std_element r)) h, makes_progress_converted l s r t c h)
 
   module _ (make : S → V) (made : (s : V) → make (view s) ≡ s) (has : (p : S) → view (make p) ≡ p) where
     run_of_source_run : Lawful m → (trace : List (Answered A E)) (s t : V) → m.can_next (view s) → Run m.steps (view s) trace (view t) → Run step_converted s trace t
@@ -134,15 +134,15 @@ module _ {V S A E : Type 0} {m : Contract S A E} {e : Ends S A E} (view : V → 
   abbrev back_converted : V → Answered A E → V → Type 0
   back_converted = step_converted (from_back m e) view
 
-  can_after : (drawn : List (Side × Answered A E)) (s t : V) → e.can_next (view s) → RunAtEnds front_converted back_converted s drawn t → e.can_next (view t)
-  can_after [] s t c same = subst (λ (u : V). e.can_next (view u)) same c
-  can_after ((Front, r) ∷ drawn) s t c h = can_after drawn h.0 t (l.front.kept_by_draw (view s) r (view h.0) c (source_step_of_step m view s r h.0 h.1)).can_next h.2
-  can_after ((Back, r) ∷ drawn) s t c h = can_after drawn h.0 t (l.back.kept_by_draw (view s) r (view h.0) c (source_step_of_step (from_back m e) view s r h.0 h.1)).can_next h.2
+  can_next_after_run_at_ends : (drawn : List (Side × Answered A E)) (s t : V) → e.can_next (view s) → RunAtEnds front_converted back_converted s drawn t → e.can_next (view t)
+  can_next_after_run_at_ends [] s t c same = subst (λ (u : V). e.can_next (view u)) same c
+  can_next_after_run_at_ends ((Front, r) ∷ drawn) s t c h = can_next_after_run_at_ends drawn h.0 t (l.front.kept_by_draw (view s) r (view h.0) c (source_step_of_step m view s r h.0 h.1)).can_next h.2
+  can_next_after_run_at_ends ((Back, r) ∷ drawn) s t c h = can_next_after_run_at_ends drawn h.0 t (l.back.kept_by_draw (view s) r (view h.0) c (source_step_of_step (from_back m e) view s r h.0 h.1)).can_next h.2
 
   pub is_askable_at_ends_converted : (s : V) → e.can_next (view s) → IsAskableAtEnds {A = A} {E = E} Ok Err (can_convert m view) (can_convert (from_back m e) view) (gives_converted m view) (gives_converted (from_back m e) view) (remaining_converted m view) s
   is_askable_at_ends_converted s c = record {
-    asked = λ drawn t mixed. l.front_can (view t) (can_after drawn s t c mixed);
-    asked_back = λ drawn t mixed. can_after drawn s t c mixed;
-    never_rises = λ drawn t u mixed h f. ((l.front.kept_by_draw (view t) (Ok None) (view u) (can_after drawn s t c mixed) h.0).answer.1 f).1;
-    never_rises_back = λ drawn t u mixed h f. ((l.back.kept_by_draw (view t) (Ok None) (view u) (can_after drawn s t c mixed) h.0).answer.1 f).1;
+    asked = λ drawn t mixed. l.front_can (view t) (can_next_after_run_at_ends drawn s t c mixed);
+    asked_back = λ drawn t mixed. can_next_after_run_at_ends drawn s t c mixed;
+    never_rises = λ drawn t u mixed h f. ((l.front.kept_by_draw (view t) (Ok None) (view u) (can_next_after_run_at_ends drawn s t c mixed) h.0).answer.1 f).1;
+    never_rises_back = λ drawn t u mixed h f. ((l.back.kept_by_draw (view t) (Ok None) (view u) (can_next_after_run_at_ends drawn s t c mixed) h.0).answer.1 f).1;
   }

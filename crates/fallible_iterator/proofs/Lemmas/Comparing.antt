@@ -6,32 +6,32 @@ use Rattle.std.proofs.lemmas.Bool.{true≢false}
 use Rattle.fallible_contract.specs.Comparing.{by_cmp, by_eq, equal_where, read_as, reads_eq}
 use Rattle.fallible_contract.specs.Lists.{compared, unless_equal}
 -- lemmas of `fallible_contract` on one comparison, reexported
-pub use Rattle.fallible_contract.proofs.Lemmas.Comparing.{EitherAtMost, either_at_most_begins, either_at_most_fewer, end_of_either}
+pub use Rattle.fallible_contract.proofs.Lemmas.Comparing.{EitherAtMost, either_at_most_by_bound_of_either, either_at_most_after_fewer, either_or_ends_by_one_of}
 use Rattle.std.specs.declared.cmp.Ordering.{Ordering}
 use Rattle.std.specs.declared.cmp.Ordering.TheVariants.{Less, Equal, Greater}
 
 module _ {E : Type 0} where
   -- one pair, and then the rest
-  read_as_unless_equal : (v : Bool) (o : Ordering) (p q : Result (Option Ordering) E) → v ≡ is_eq o → read_as reads_eq p ≡ read_as reads_eq q → read_as reads_eq (unless_equal (equal_where v) p) ≡ read_as reads_eq (unless_equal (Some o) q)
-  read_as_unless_equal true Less p q e same = absurd (true≢false e)
-  read_as_unless_equal true Equal p q e same = same
-  read_as_unless_equal true Greater p q e same = absurd (true≢false e)
-  read_as_unless_equal false Less p q e same = refl
-  read_as_unless_equal false Equal p q e same = absurd (true≢false (sym e))
-  read_as_unless_equal false Greater p q e same = refl
+  read_as_same_unless_equal : (v : Bool) (o : Ordering) (p q : Result (Option Ordering) E) → v ≡ is_eq o → read_as reads_eq p ≡ read_as reads_eq q → read_as reads_eq (unless_equal (equal_where v) p) ≡ read_as reads_eq (unless_equal (Some o) q)
+  read_as_same_unless_equal true Less p q e same = absurd (true≢false e)
+  read_as_same_unless_equal true Equal p q e same = same
+  read_as_same_unless_equal true Greater p q e same = absurd (true≢false e)
+  read_as_same_unless_equal false Less p q e same = refl
+  read_as_same_unless_equal false Equal p q e same = absurd (true≢false (sym e))
+  read_as_same_unless_equal false Greater p q e same = refl
 
   -- an order that was found, read as whether it is equal
-  read_as_reads_eq : (r : Result Ordering E) → read_as reads_eq (read_as (λ o. Some o) r) ≡ read_as is_eq r
-  read_as_reads_eq (Ok Less) = refl
-  read_as_reads_eq (Ok Equal) = refl
-  read_as_reads_eq (Ok Greater) = refl
-  read_as_reads_eq (Err e) = refl
+  read_as_reads_eq_is_read_as_is_eq : (r : Result Ordering E) → read_as reads_eq (read_as (λ o. Some o) r) ≡ read_as is_eq r
+  read_as_reads_eq_is_read_as_is_eq (Ok Less) = refl
+  read_as_reads_eq_is_read_as_is_eq (Ok Equal) = refl
+  read_as_reads_eq_is_read_as_is_eq (Ok Greater) = refl
+  read_as_reads_eq_is_read_as_is_eq (Err e) = refl
 
-  true_where_equal : (r : Result Ordering E) → read_as is_eq r ≡ Ok true ↔ r ≡ Ok Equal
-  true_where_equal (Ok Less) = ((λ e. absurd (let h = e in cc)), (λ e. absurd (let h = e in cc)))
-  true_where_equal (Ok Equal) = ((λ e. refl), (λ e. refl))
-  true_where_equal (Ok Greater) = ((λ e. absurd (let h = e in cc)), (λ e. absurd (let h = e in cc)))
-  true_where_equal (Err d) = ((λ e. absurd (let h = e in cc)), (λ e. absurd (let h = e in cc)))
+  reads_true_iff_equal : (r : Result Ordering E) → read_as is_eq r ≡ Ok true ↔ r ≡ Ok Equal
+  reads_true_iff_equal (Ok Less) = ((λ e. absurd (let h = e in cc)), (λ e. absurd (let h = e in cc)))
+  reads_true_iff_equal (Ok Equal) = ((λ e. refl), (λ e. refl))
+  reads_true_iff_equal (Ok Greater) = ((λ e. absurd (let h = e in cc)), (λ e. absurd (let h = e in cc)))
+  reads_true_iff_equal (Err d) = ((λ e. absurd (let h = e in cc)), (λ e. absurd (let h = e in cc)))
 
 module _ {A E : Type 0} (eq : A → A → Bool) (cmp : A → A → Ordering) (agree : (x y : A) → eq x y ≡ is_eq (cmp x y)) where
   -- where items are equal just where their order is, so are lists
@@ -42,10 +42,10 @@ module _ {A E : Type 0} (eq : A → A → Bool) (cmp : A → A → Ordering) (ag
   compared_alike_by_eq_and_cmp [] (Ok y ∷ b) = refl
   compared_alike_by_eq_and_cmp [] (Err e ∷ b) = refl
   compared_alike_by_eq_and_cmp (Ok x ∷ a) [] = refl
-  compared_alike_by_eq_and_cmp (Ok x ∷ a) (Ok y ∷ b) = read_as_unless_equal (eq x y) (cmp x y) (compared (by_eq eq) a b) (compared (by_cmp cmp) a b) (agree x y) (compared_alike_by_eq_and_cmp a b)
+  compared_alike_by_eq_and_cmp (Ok x ∷ a) (Ok y ∷ b) = read_as_same_unless_equal (eq x y) (cmp x y) (compared (by_eq eq) a b) (compared (by_cmp cmp) a b) (agree x y) (compared_alike_by_eq_and_cmp a b)
   compared_alike_by_eq_and_cmp (Ok x ∷ a) (Err e ∷ b) = refl
 
   pub eq_reads_cmp : (a b : List (Result A E)) (equal : Result Bool E) (order : Result Ordering E) → equal ≡ read_as reads_eq (compared (by_eq eq) a b) → read_as (λ o. Some o) order ≡ compared (by_cmp cmp) a b → (equal ≡ read_as is_eq order) × (equal ≡ Ok true ↔ order ≡ Ok Equal)
   eq_reads_cmp a b equal order p q =
-      let same : equal ≡ read_as is_eq order = p ∙ compared_alike_by_eq_and_cmp a b ∙ sym (ap (read_as reads_eq) q) ∙ read_as_reads_eq order in
-      (same, ((λ e. (true_where_equal order).0 (sym same ∙ e)), (λ e. same ∙ (true_where_equal order).1 e)))
+      let same : equal ≡ read_as is_eq order = p ∙ compared_alike_by_eq_and_cmp a b ∙ sym (ap (read_as reads_eq) q) ∙ read_as_reads_eq_is_read_as_is_eq order in
+      (same, ((λ e. (reads_true_iff_equal order).0 (sym same ∙ e)), (λ e. same ∙ (reads_true_iff_equal order).1 e)))

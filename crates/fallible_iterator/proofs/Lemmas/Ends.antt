@@ -72,17 +72,17 @@ module _ {A E : Type 0} where
   list_given_is_unique (x ∷ l) (y ∷ k) a = let h = a (result_answer x) l (refl, refl) in let same = result_answer_injective x y h.0 in let rest = list_given_is_unique l k h.1 in cc
 
 module _ {S A E : Type 0} (front back : S → Answered A E → S → Type 0) where
-  draws_list_one : (r : Answered A E) (t : S) (l : List (Result A E)) → TakesFirst (λ k. ListsBothEnds front back t k) r l → (k : List (Result A E)) × draws_list l r k × ListsBothEnds front back t k
-  draws_list_one r t [] w = ([], (w.0, refl), w.1)
-  draws_list_one r t (y ∷ l) w = (l, (w.0, refl), w.1)
+  draws_list_of_takes_first : (r : Answered A E) (t : S) (l : List (Result A E)) → TakesFirst (λ k. ListsBothEnds front back t k) r l → (k : List (Result A E)) × draws_list l r k × ListsBothEnds front back t k
+  draws_list_of_takes_first r t [] w = ([], (w.0, refl), w.1)
+  draws_list_of_takes_first r t (y ∷ l) w = (l, (w.0, refl), w.1)
 
-  pub draws_list_run : (trace : List (Answered A E)) (s t : S) (l : List (Result A E)) → ListsBothEnds front back s l → Run front s trace t → (k : List (Result A E)) × Run draws_list l trace k × ListsBothEnds front back t k
-  draws_list_run [] s t l i ran = (l, refl, subst (λ (u : S). ListsBothEnds front back u l) ran i)
-  draws_list_run (r ∷ trace) s t l i ran = let d = draws_list_one r ran.0 l (takes_first_front i ran.1) in let others = draws_list_run trace ran.0 t d.0 d.2 ran.2 in (others.0, (d.0, d.1, others.1), others.2)
+  pub draws_list_runs_where_front_runs : (trace : List (Answered A E)) (s t : S) (l : List (Result A E)) → ListsBothEnds front back s l → Run front s trace t → (k : List (Result A E)) × Run draws_list l trace k × ListsBothEnds front back t k
+  draws_list_runs_where_front_runs [] s t l i ran = (l, refl, subst (λ (u : S). ListsBothEnds front back u l) ran i)
+  draws_list_runs_where_front_runs (r ∷ trace) s t l i ran = let d = draws_list_of_takes_first r ran.0 l (takes_first_front i ran.1) in let others = draws_list_runs_where_front_runs trace ran.0 t d.0 d.2 ran.2 in (others.0, (d.0, d.1, others.1), others.2)
 
 module _ {S A E : Type 0} {front back : S → Answered A E → S → Type 0} {s t : S} (l : List (Result A E)) (i : ListsBothEnds front back s l) where
   lists_both_ends_of_run : (trace : List (Answered A E)) (k : List (Result A E)) → Run front s trace t → ((left : List (Result A E)) → Run draws_list l trace left → Lists draws_list left k) → ListsBothEnds front back t k
-  lists_both_ends_of_run trace k ran lists = let d = draws_list_run front back trace s t l i ran in subst (λ (j : List (Result A E)). ListsBothEnds front back t j) (list_given_is_unique d.0 k (lists d.0 d.1).runs) d.2
+  lists_both_ends_of_run trace k ran lists = let d = draws_list_runs_where_front_runs front back trace s t l i ran in subst (λ (j : List (Result A E)). ListsBothEnds front back t j) (list_given_is_unique d.0 k (lists d.0 d.1).runs) d.2
 
   pub lists_both_ends_rest_nth : {n : ℕ} {r : Answered A E} → NthDrains front s n r t → ¬ (r ≡ Ok None) → ListsBothEnds front back t (rest_nth n l)
   lists_both_ends_rest_nth {n = n} c no_end = lists_both_ends_of_run _ (rest_nth n l) c.ran (λ left ran. lists_rest_nth l (record { items = c.items; last = c.last; ran = ran; at = c.at }) (lists_itself l) no_end)

@@ -13,7 +13,7 @@ use Rattle.fallible_core.specs.Cutting.Take.{take_parts, take_contract, taken}
 use Rattle.fallible_core.specs.Filtering.Filter.{filter_parts, filter_contract}
 use Rattle.fallible_core.specs.Joining.Chain.{chain_step, chain_contract, chain_parts}
 use Rattle.fallible_core.specs.Joining.Zip.{ZipPlace, left_failed, both_drawn, left_answer, right_step, zip_answer, zip_contract, zip_parts, zipped}
-use Rattle.fallible_contract.proofs.Lemmas.Lists.Rest.{nth_of_0_of_lists, lists_rest_first}
+use Rattle.fallible_contract.proofs.Lemmas.Lists.Rest.{answer_of_lists_is_nth_of_zero, lists_rest_first}
 use Rattle.fallible_core.proofs.Lemmas.Borrowed.{run_through_reference, lists_borrowed}
 use Rattle.fallible_core.proofs.Lemmas.Callers.{TakenRun, filtered_run, taken_run}
 use Rattle.fallible_core.specs.declared.cutting.take.Take.{Take}
@@ -54,19 +54,19 @@ length_one_more : {A : Type 0} (xs : List A) (y : A) (k : ℕ) → length xs ≡
 length_one_more xs y k len = omega (arith, length-append xs (y ∷ []), len)
 
 module _ {A E : Type 0} where
-  map_item_last : (xs : List A) (y : A) → ◌≡◌ {A = List (Answered A E)} (map item xs ++ Ok (Some y) ∷ []) (map item (xs ++ y ∷ []))
-  map_item_last [] y = refl
-  map_item_last (x ∷ xs) y = ap {B = List (Answered A E)} (λ l. item x ∷ l) (map_item_last xs y)
+  map_item_appended : (xs : List A) (y : A) → ◌≡◌ {A = List (Answered A E)} (map item xs ++ Ok (Some y) ∷ []) (map item (xs ++ y ∷ []))
+  map_item_appended [] y = refl
+  map_item_appended (x ∷ xs) y = ap {B = List (Answered A E)} (λ l. item x ∷ l) (map_item_appended xs y)
 
 module _ {S A E : Type 0} (m : Contract S A E) where
-  run_of_lender : (xs : List A) (k : ℕ) (s t : MutBor S) → TakenRun (borrowed m).steps (suc k) s xs end t → (Run m.steps s.now (map item xs ++ end ∷ []) t.now × (length xs < suc k)) ⊎ (Run m.steps s.now (map item xs) t.now × (length xs ≡ suc k))
-  run_of_lender xs k s t (inl d) = inl (run_through_reference m.steps (map item xs ++ end ∷ []) s t d.0, d.1)
-  run_of_lender xs k s t (inr d) = inr (run_through_reference m.steps (map item xs) s t d.0, d.2)
+  lender_run_of_taken_run : (xs : List A) (k : ℕ) (s t : MutBor S) → TakenRun (borrowed m).steps (suc k) s xs end t → (Run m.steps s.now (map item xs ++ end ∷ []) t.now × (length xs < suc k)) ⊎ (Run m.steps s.now (map item xs) t.now × (length xs ≡ suc k))
+  lender_run_of_taken_run xs k s t (inl d) = inl (run_through_reference m.steps (map item xs ++ end ∷ []) s t d.0, d.1)
+  lender_run_of_taken_run xs k s t (inr d) = inr (run_through_reference m.steps (map item xs) s t d.0, d.2)
 
 module _ {S A E : Type 0} (m : Contract S A E) (k : ℕ) (l : List (Result A E)) (it t : MutBor S) (xs : List A) where
   -- what an `nth` of k leaves, that came to an item
   always_gives_rest_nth_after_item : (o : Option A) → NthExit {A = A} {E = E} k (length xs) (Ok o) → ¬ (nth_of k l ≡ Ok None) → AlwaysGives m.steps it.now l → TakenRun (borrowed m).steps (suc k) it xs (Ok o) t → AlwaysGives m.steps t.now (rest_nth k l)
-  always_gives_rest_nth_after_item (Some y) exit no_end a (inl d) = always_gives_rest_nth_of_run m.steps (xs ++ y ∷ []) k l it.now t.now (length_one_more xs y k exit) a (subst (λ (z : List (Answered A E)). Run m.steps it.now z t.now) (map_item_last xs y) (run_through_reference m.steps (map item xs ++ Ok (Some y) ∷ []) it t d.0))
+  always_gives_rest_nth_after_item (Some y) exit no_end a (inl d) = always_gives_rest_nth_of_run m.steps (xs ++ y ∷ []) k l it.now t.now (length_one_more xs y k exit) a (subst (λ (z : List (Answered A E)). Run m.steps it.now z t.now) (map_item_appended xs y) (run_through_reference m.steps (map item xs ++ Ok (Some y) ∷ []) it t d.0))
   always_gives_rest_nth_after_item (Some y) exit no_end a (inr d) = absurd (let h = d.1 in cc)
   always_gives_rest_nth_after_item None exit no_end a (inl d) = absurd (no_end (nth_of_is_none m.steps xs k l it.now t.now d.1 a (run_through_reference m.steps (map item xs ++ end ∷ []) it t d.0)))
   always_gives_rest_nth_after_item None exit no_end a (inr d) = absurd (let all = d.2 in omega (arith, all, exit))
@@ -95,7 +95,7 @@ module _ {S A B E E' F : Type 0} {steps : S → Answered A E → S → Type 0} {
       let m : Contract S A E = unbounded_contract steps in
       let ended : h.last ≡ end = last_is_end call from h.at.value h.at.closure h.last v h.at.exit in
       let ran : Run (lent_steps steps) s (map item h.items ++ end ∷ []) t = subst (λ (r : Answered A E). Run (lent_steps steps) s (map item h.items ++ r ∷ []) t) ended h.ran in
-      let left : Lists steps t.it.now (rest_nth k l) = record { runs = always_gives_rest_nth steps h.items k l it.now t.it.now i.runs no_end (run_of_lender m h.items k it t.it (taken_run (borrowed m) (suc k) it s t h.items end parts ran)) } in
+      let left : Lists steps t.it.now (rest_nth k l) = record { runs = always_gives_rest_nth steps h.items k l it.now t.it.now i.runs no_end (lender_run_of_taken_run m h.items k it t.it (taken_run (borrowed m) (suc k) it s t h.items end parts ran)) } in
       rw back left
 
 module _ {A E : Type 0} where
@@ -127,7 +127,7 @@ module _ {S P A E : Type 0} {steps : S → Answered A E → S → Type 0} {g : M
   lists_rest_lent_filter acts back taken parts d i no_end =
       let m : Contract S A E = unbounded_contract steps in
       let under = filtered_run (seen_as take_parts (take_contract (borrowed m))) g h p tk s t d.items end acts parts (run_to_end d) in
-      let left : Lists steps t.it.it.now (rest_nth k l) = record { runs = always_gives_rest_nth steps under.items k l it.now t.it.it.now i.runs no_end (run_of_lender m under.items k it t.it.it (taken_run (borrowed m) (suc k) it tk t.it under.items end taken under.ran)) } in
+      let left : Lists steps t.it.it.now (rest_nth k l) = record { runs = always_gives_rest_nth steps under.items k l it.now t.it.it.now i.runs no_end (lender_run_of_taken_run m under.items k it t.it.it (taken_run (borrowed m) (suc k) it tk t.it under.items end taken under.ran)) } in
       rw back left
 
 -- ---- a pair of two borrows
@@ -156,8 +156,8 @@ zip_answer_of_left_failure (left_failed d) is = cc
 zip_answer_of_left_failure (both_drawn z r) is = absurd cc
 
 -- what a step of a borrow makes of the value that it points to
-lent_step : {S A E : Type 0} (steps : S → Answered A E → S → Type 0) {it u : MutBor S} (v : MutBor S) (r : Answered A E) → u ≡ it → steps u.now r v.now → steps it.now r v.now
-lent_step steps v r same step = subst (λ (u : MutBor _). steps u.now r v.now) same step
+step_of_equal_lender : {S A E : Type 0} (steps : S → Answered A E → S → Type 0) {it u : MutBor S} (v : MutBor S) (r : Answered A E) → u ≡ it → steps u.now r v.now → steps it.now r v.now
+step_of_equal_lender steps v r same step = subst (λ (u : MutBor _). steps u.now r v.now) same step
 
 module _ {S U A B E : Type 0} {steps : S → Answered A E → S → Type 0} {others : U → Answered B E → U → Type 0} {it : MutBor S} {other : MutBor U} {s : Zip (MutBor S) (MutBor U)} (t : Zip (MutBor S) (MutBor U)) {r : Answered (A × B) E} where
   -- A draw over `zip` of two borrows returns the first pair, or the failure in its place, where the lists don't end there. A pair leaves each lender without its first.
@@ -166,22 +166,22 @@ module _ {S U A B E : Type 0} {steps : S → Answered A E → S → Type 0} {oth
   pair_lent {a = []} left right w i j no_end = absurd (no_end refl)
   pair_lent {a = Ok x ∷ a} {b = []} left right w i j no_end = absurd (no_end refl)
   pair_lent {a = Err e ∷ a} left right w i j no_end =
-      let failed : r ≡ Err e = w.3 ∙ zip_answer_of_left_failure w.0 (nth_of_0_of_lists t.left.now (Err e ∷ a) (lent_step steps t.left (left_answer w.0) left w.1.0) i) in
+      let failed : r ≡ Err e = w.3 ∙ zip_answer_of_left_failure w.0 (answer_of_lists_is_nth_of_zero t.left.now (Err e ∷ a) (step_of_equal_lender steps t.left (left_answer w.0) left w.1.0) i) in
       (failed, λ p is. absurd cc)
   pair_lent {a = Ok x ∷ a} {b = Ok y ∷ b} left right w i j no_end =
-      let of_left : steps it.now (left_answer w.0) t.left.now = lent_step steps t.left (left_answer w.0) left w.1.0 in
-      let at_left : left_answer w.0 ≡ Ok (Some x) = nth_of_0_of_lists t.left.now (Ok x ∷ a) of_left i in
+      let of_left : steps it.now (left_answer w.0) t.left.now = step_of_equal_lender steps t.left (left_answer w.0) left w.1.0 in
+      let at_left : left_answer w.0 ≡ Ok (Some x) = answer_of_lists_is_nth_of_zero t.left.now (Ok x ∷ a) of_left i in
       let d = right_drawn x (borrowed (unbounded_contract others)).steps w.0 s.right t.right at_left w.2 in
-      let of_right : others other.now d.0 t.right.now = lent_step others t.right d.0 right d.1.0 in
-      let same : d.0 ≡ Ok (Some y) = nth_of_0_of_lists t.right.now (Ok y ∷ b) of_right j in
+      let of_right : others other.now d.0 t.right.now = step_of_equal_lender others t.right d.0 right d.1.0 in
+      let same : d.0 ≡ Ok (Some y) = answer_of_lists_is_nth_of_zero t.right.now (Ok y ∷ b) of_right j in
       let pair : r ≡ Ok (Some (x, y)) = w.3 ∙ d.2 ∙ ap (paired_of_lent x) same in
       (pair, λ p is. (lists_rest_first (Ok x ∷ a) of_left i (λ e. cc), lists_rest_first (Ok y ∷ b) of_right j (λ e. cc)))
   pair_lent {a = Ok x ∷ a} {b = Err e ∷ b} left right w i j no_end =
-      let of_left : steps it.now (left_answer w.0) t.left.now = lent_step steps t.left (left_answer w.0) left w.1.0 in
-      let at_left : left_answer w.0 ≡ Ok (Some x) = nth_of_0_of_lists t.left.now (Ok x ∷ a) of_left i in
+      let of_left : steps it.now (left_answer w.0) t.left.now = step_of_equal_lender steps t.left (left_answer w.0) left w.1.0 in
+      let at_left : left_answer w.0 ≡ Ok (Some x) = answer_of_lists_is_nth_of_zero t.left.now (Ok x ∷ a) of_left i in
       let d = right_drawn x (borrowed (unbounded_contract others)).steps w.0 s.right t.right at_left w.2 in
-      let of_right : others other.now d.0 t.right.now = lent_step others t.right d.0 right d.1.0 in
-      let same : d.0 ≡ Err e = nth_of_0_of_lists t.right.now (Err e ∷ b) of_right j in
+      let of_right : others other.now d.0 t.right.now = step_of_equal_lender others t.right d.0 right d.1.0 in
+      let same : d.0 ≡ Err e = answer_of_lists_is_nth_of_zero t.right.now (Err e ∷ b) of_right j in
       let failed : r ≡ Err e = w.3 ∙ d.2 ∙ ap (paired_of_lent x) same in
       (failed, λ p is. absurd cc)
 
@@ -193,19 +193,19 @@ lent_chain_steps steps others = (seen_as chain_parts (chain_contract (borrowed (
 
 module _ {S U A E : Type 0} (steps : S → Answered A E → S → Type 0) (others : U → Answered A E → U → Type 0) where
   -- what the chain's step is of while both sides are still drawn, and the first doesn't end
-  drawn_of_first : (c d : MutBor S × MutBor U × StillDrawn) (r : Answered A E) (a : List (Result A E)) → c.2 ≡ Both → chain_step (borrowed (unbounded_contract steps)).steps (borrowed (unbounded_contract others)).steps c r d → Lists steps c.0.now a → ¬ (nth_of 0 a ≡ Ok None) → steps c.0.now r d.0.now × (d.1 ≡ c.1)
-  drawn_of_first (s, u, Both) (t, v, k) r a at (inl w) i no_end = (w.0.0, w.2)
-  drawn_of_first (s, u, Both) (t, v, k) r a at (inr w) i no_end = absurd (no_end (sym (nth_of_0_of_lists t.now a w.0.0 i)))
-  drawn_of_first (s, u, FirstAlone) d r a at w i no_end = absurd cc
-  drawn_of_first (s, u, SecondAlone) d r a at w i no_end = absurd cc
+  first_step_of_chain_where_first_gives : (c d : MutBor S × MutBor U × StillDrawn) (r : Answered A E) (a : List (Result A E)) → c.2 ≡ Both → chain_step (borrowed (unbounded_contract steps)).steps (borrowed (unbounded_contract others)).steps c r d → Lists steps c.0.now a → ¬ (nth_of 0 a ≡ Ok None) → steps c.0.now r d.0.now × (d.1 ≡ c.1)
+  first_step_of_chain_where_first_gives (s, u, Both) (t, v, k) r a at (inl w) i no_end = (w.0.0, w.2)
+  first_step_of_chain_where_first_gives (s, u, Both) (t, v, k) r a at (inr w) i no_end = absurd (no_end (sym (answer_of_lists_is_nth_of_zero t.now a w.0.0 i)))
+  first_step_of_chain_where_first_gives (s, u, FirstAlone) d r a at w i no_end = absurd cc
+  first_step_of_chain_where_first_gives (s, u, SecondAlone) d r a at w i no_end = absurd cc
 
 module _ {S U A E : Type 0} {steps : S → Answered A E → S → Type 0} {others : U → Answered A E → U → Type 0} {it : MutBor S} {other : MutBor U} {s : Chain (MutBor S) (MutBor U)} (t : Chain (MutBor S) (MutBor U)) {r : Answered A E} {a b : List (Result A E)} where
   -- A draw over `chain` of two borrows of which the first doesn't end returns its first, and leaves the first lender without it, and the second as it was.
   pub chain_lent : s.first ≡ it → s.second ≡ other → s.still_drawn ≡ Both → lent_chain_steps steps others s r t → Lists steps it.now a → Lists others other.now b → ¬ (nth_of 0 a ≡ Ok None) → (r ≡ nth_of 0 a) × Lists steps t.first.now (rest_first a) × Lists others t.second.now b
   chain_lent first second still w i j no_end =
       let listed : Lists steps s.first.now a = subst (λ (u : MutBor S). Lists steps u.now a) (sym first) i in
-      let d = drawn_of_first steps others (chain_parts s) (chain_parts t) r a still w listed no_end in
-      let is : r ≡ nth_of 0 a = nth_of_0_of_lists t.first.now a d.0 listed in
+      let d = first_step_of_chain_where_first_gives steps others (chain_parts s) (chain_parts t) r a still w listed no_end in
+      let is : r ≡ nth_of 0 a = answer_of_lists_is_nth_of_zero t.first.now a d.0 listed in
       (is, lists_rest_first a d.0 listed (λ e. no_end (sym is ∙ e)), subst (λ (u : MutBor U). Lists others u.now b) (sym (d.1 ∙ second)) j)
 
 -- what is listed of the value that a borrow left, which the lender is then

@@ -14,7 +14,7 @@ use Rattle.fallible_contract.specs.Lists.{AlwaysGives, Lists, Acts, decided, sea
 use Rattle.fallible_core.specs.Borrowed.{borrowed}
 use Rattle.fallible_core.specs.Cutting.TakeWhile.{taken_answer, is_refused, place_drawn, take_while_source, take_while_predicate, take_while_refused, take_while_parts, take_while_contract}
 use Rattle.fallible_core.proofs.Lemmas.Borrowed.{lists_borrowed}
-use Rattle.fallible_core.proofs.Lemmas.Callers.{run_seen}
+use Rattle.fallible_core.proofs.Lemmas.Callers.{run_at_view}
 use Rattle.fallible_iterator.proofs.Lemmas.Lent.{last_is_end}
 use Rattle.fallible_core.specs.declared.cutting.take_while.TakeWhile.{TakeWhile}
 
@@ -35,48 +35,48 @@ module _ {S F X E : Type 0} (steps : S → Answered X E → S → Type 0) (call 
   unfolding rest_stop
   rest_stop_after_false x l is = ap (λ (v : Result Bool E). rest_answer not v l (rest_stop not h l)) is
 
-  all_of_never_false : (n : ℕ) → searched all_pick true h n [] ≡ Ok false → ⊥
+  searched_all_of_nil_is_not_false : (n : ℕ) → searched all_pick true h n [] ≡ Ok false → ⊥
   unfolding searched
-  all_of_never_false n e = cc
+  searched_all_of_nil_is_not_false n e = cc
 
   -- the end comes at the first item that is rejected
-  always_gives_rest_at_end : (x : Place X (Result Bool E) E) (n : ℕ) (l : List (Result X E)) (s t : S) (j g : F) → j ≡ f → AlwaysGives steps s l → place_drawn steps call (s, j) x (t, g) → end ≡ taken_answer x → searched all_pick true h n l ≡ Ok false → AlwaysGives steps t (rest_stop not h l)
-  always_gives_rest_at_end (asked x (Ok true)) n l s t j g at a d is found = absurd cc
-  always_gives_rest_at_end (asked x (Err e)) n l s t j g at a d is found = absurd cc
-  always_gives_rest_at_end (failure_at e) n l s t j g at a d is found = absurd cc
-  always_gives_rest_at_end end_at n [] s t j g at a d is found = absurd (all_of_never_false n found)
-  always_gives_rest_at_end end_at n (Ok y ∷ l) s t j g at a d is found = absurd (let q = (a end t d.0).0 in cc)
-  always_gives_rest_at_end end_at n (Err y ∷ l) s t j g at a d is found = absurd (let q = (a end t d.0).0 in cc)
-  always_gives_rest_at_end (asked x (Ok false)) n [] s t j g at a d is found = absurd (all_of_never_false n found)
-  always_gives_rest_at_end (asked x (Ok false)) n (Err y ∷ l) s t j g at a d is found = absurd (let q = (a (item x) t d.0).0 in cc)
-  always_gives_rest_at_end (asked x (Ok false)) n (Ok y ∷ l) s t j g at a d is found =
+  always_gives_rest_stop_at_end : (x : Place X (Result Bool E) E) (n : ℕ) (l : List (Result X E)) (s t : S) (j g : F) → j ≡ f → AlwaysGives steps s l → place_drawn steps call (s, j) x (t, g) → end ≡ taken_answer x → searched all_pick true h n l ≡ Ok false → AlwaysGives steps t (rest_stop not h l)
+  always_gives_rest_stop_at_end (asked x (Ok true)) n l s t j g at a d is found = absurd cc
+  always_gives_rest_stop_at_end (asked x (Err e)) n l s t j g at a d is found = absurd cc
+  always_gives_rest_stop_at_end (failure_at e) n l s t j g at a d is found = absurd cc
+  always_gives_rest_stop_at_end end_at n [] s t j g at a d is found = absurd (searched_all_of_nil_is_not_false n found)
+  always_gives_rest_stop_at_end end_at n (Ok y ∷ l) s t j g at a d is found = absurd (let q = (a end t d.0).0 in cc)
+  always_gives_rest_stop_at_end end_at n (Err y ∷ l) s t j g at a d is found = absurd (let q = (a end t d.0).0 in cc)
+  always_gives_rest_stop_at_end (asked x (Ok false)) n [] s t j g at a d is found = absurd (searched_all_of_nil_is_not_false n found)
+  always_gives_rest_stop_at_end (asked x (Ok false)) n (Err y ∷ l) s t j g at a d is found = absurd (let q = (a (item x) t d.0).0 in cc)
+  always_gives_rest_stop_at_end (asked x (Ok false)) n (Ok y ∷ l) s t j g at a d is found =
       let q = a (item x) t d.0 in
       let same : x ≡ y = (let z = q.0 in cc) in
       let made : h y ≡ Ok false = (let c = (acts x (Ok false) (d.1).0 (subst (λ (k : F). call k x (Ok false) (d.1).0) at (d.1).1)).1 in cc) in
       subst (λ (k : List (Result X E)). AlwaysGives steps t k) (sym (rest_stop_after_false y l made)) q.1
 
   -- an item that is kept
-  item_is_kept : (x : Place X (Result Bool E) E) (y : X) (s t : S) (j g : F) → j ≡ f → place_drawn steps call (s, j) x (t, g) → item y ≡ taken_answer x → steps s (item y) t × (g ≡ f) × (h y ≡ Ok true) × (is_refused x ≡ false)
-  item_is_kept (asked x (Ok true)) y s t j g at d is =
+  source_item_tests_true_where_taken : (x : Place X (Result Bool E) E) (y : X) (s t : S) (j g : F) → j ≡ f → place_drawn steps call (s, j) x (t, g) → item y ≡ taken_answer x → steps s (item y) t × (g ≡ f) × (h y ≡ Ok true) × (is_refused x ≡ false)
+  source_item_tests_true_where_taken (asked x (Ok true)) y s t j g at d is =
       let same : x ≡ y = cc in
       let c = acts x (Ok true) (d.1).0 (subst (λ (k : F). call k x (Ok true) (d.1).0) at (d.1).1) in
       let last = (d.1).2 in
       (subst (λ (z : X). steps s (item z) t) same d.0, sym last ∙ c.0, (let v = c.1 in cc), refl)
-  item_is_kept (asked x (Ok false)) y s t j g at d is = absurd cc
-  item_is_kept (asked x (Err e)) y s t j g at d is = absurd cc
-  item_is_kept (failure_at e) y s t j g at d is = absurd cc
-  item_is_kept end_at y s t j g at d is = absurd cc
+  source_item_tests_true_where_taken (asked x (Ok false)) y s t j g at d is = absurd cc
+  source_item_tests_true_where_taken (asked x (Err e)) y s t j g at d is = absurd cc
+  source_item_tests_true_where_taken (failure_at e) y s t j g at d is = absurd cc
+  source_item_tests_true_where_taken end_at y s t j g at d is = absurd cc
 
   -- items that are kept, and then the end
   always_gives_rest_stop : (xs : List X) (n : ℕ) (l : List (Result X E)) (s t : S) (j g : F) (b : Bool) → j ≡ f → AlwaysGives steps s l → Run step_until_refused ((s, j), false) (map item xs ++ end ∷ []) ((t, g), b) → searched all_pick true h n l ≡ Ok false → AlwaysGives steps t (rest_stop not h l)
-  always_gives_rest_stop [] n l s t j g b at a ran found = let w = ran.1 in always_gives_rest_at_end w.0 n l s t j g at a (subst (λ (p : S × F). place_drawn steps call (s, j) w.0 p) (ap (λ (p : (S × F) × Bool). p.0) ran.2) w.1) w.2 found
-  always_gives_rest_stop (x ∷ xs) n [] s t j g b at a ran found = absurd (all_of_never_false n found)
-  always_gives_rest_stop (x ∷ xs) n (Err e ∷ l) s t j g b at a ran found = absurd (let w = ran.1 in let k = item_is_kept w.0 x s (ran.0).0.0 j (ran.0).0.1 at w.1 w.2 in let q = (a (item x) (ran.0).0.0 k.0).0 in cc)
+  always_gives_rest_stop [] n l s t j g b at a ran found = let w = ran.1 in always_gives_rest_stop_at_end w.0 n l s t j g at a (subst (λ (p : S × F). place_drawn steps call (s, j) w.0 p) (ap (λ (p : (S × F) × Bool). p.0) ran.2) w.1) w.2 found
+  always_gives_rest_stop (x ∷ xs) n [] s t j g b at a ran found = absurd (searched_all_of_nil_is_not_false n found)
+  always_gives_rest_stop (x ∷ xs) n (Err e ∷ l) s t j g b at a ran found = absurd (let w = ran.1 in let k = source_item_tests_true_where_taken w.0 x s (ran.0).0.0 j (ran.0).0.1 at w.1 w.2 in let q = (a (item x) (ran.0).0.0 k.0).0 in cc)
   always_gives_rest_stop (x ∷ xs) n (Ok y ∷ l) s t j g b at a ran found =
       let w = ran.1 in
       let u = (ran.0).0.0 in
       let i = (ran.0).0.1 in
-      let k = item_is_kept w.0 x s u j i at w.1 w.2 in
+      let k = source_item_tests_true_where_taken w.0 x s u j i at w.1 w.2 in
       let q = a (item x) u k.0 in
       let same : x ≡ y = (let z = q.0 in cc) in
       let made : h y ≡ Ok true = (let v = k.2 in cc) in
@@ -99,7 +99,7 @@ module _ {S P A E : Type 0} (steps : S → Answered A E → S → Type 0) (g : M
   unfolding all_of rest_false
   lists_rest_false_of_run xs ran i found =
       let m : Contract (MutBor S) A E = borrowed (unbounded_contract steps) in
-      let seen = subst (λ (q : (MutBor S × P) × Bool). Run (take_while_contract m g).steps q (map item xs ++ end ∷ []) (take_while_parts t)) parts (run_seen take_while_parts (take_while_contract m g).steps (map item xs ++ end ∷ []) s t ran) in
+      let seen = subst (λ (q : (MutBor S × P) × Bool). Run (take_while_contract m g).steps q (map item xs ++ end ∷ []) (take_while_parts t)) parts (run_at_view take_while_parts (take_while_contract m g).steps (map item xs ++ end ∷ []) s t ran) in
       let left = always_gives_rest_stop m.steps (call_by_reference g) p h acts xs 0 l it t.it p (take_while_predicate t) (take_while_refused t) refl (lists_borrowed (unbounded_contract steps) it l i).runs seen found in
       record { runs = always_gives_lender steps (rest_false h l) t.it left }
 

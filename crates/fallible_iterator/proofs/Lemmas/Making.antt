@@ -10,7 +10,7 @@ use Rattle.fallible_contract.specs.Collecting.{Collects}
 use Rattle.fallible_contract.specs.Passing.{passing_step}
 use Rattle.fallible_contract.specs.Laws.Passing.{Passes, done, end_passes, failure_passes, keeps, refuses, closes, leaves_out, passes_of_pass_trace}
 use Rattle.fallible_contract.specs.Lists.{AlwaysGives, Converts, Lists, before, collected, counted, folded, one_more_than}
-use Rattle.fallible_contract.proofs.Lemmas.Lists.Passing.{end_of_nil, failure_of_first}
+use Rattle.fallible_contract.proofs.Lemmas.Lists.Passing.{end_of_nil, answer_is_failure_first_in_list}
 use Rattle.fallible_core.specs.OneToOne.Map.{map_outcome, map_parts, mapped}
 use Rattle.fallible_iterator.specs.Making.{AnswersRefusal, AtRefusal, CollectedMade, EachMade, GivesMade, IsMadeOf, IsRefusal, IsToldOrRefused, ListsMade, Makes, MakesOf, MakesWith, RefusesNext, SameOrRefused}
 use Rattle.std.specs.declared.alloc.AllocError.{AllocError}
@@ -27,19 +27,19 @@ module _ {X V B E : Type 0} (made : V → B → Type 0) (from : AllocError → E
   is_made_of_kept (Err d) (Ok k) y is m = absurd m
   is_made_of_kept z (Err e) y is m = absurd (let e = is in cc)
 
-  answers_refusal_failed_made : (z : Result V E) (v : Result B E) (e : E) → map_outcome x v ≡ Failure e → IsToldOrRefused made from z v → AnswersRefusal {B = B} from (Err e) ⊎ IsMadeOf {B = B} made z (Err e)
-  answers_refusal_failed_made z (Ok k) e is m = absurd (let e = is in cc)
-  answers_refusal_failed_made (Ok w) (Err d) e is m = inl (e, refl, subst (IsRefusal from) (let same = is in cc) m)
-  answers_refusal_failed_made (Err c) (Err d) e is (inl same) = inr (let i = is in cc)
-  answers_refusal_failed_made (Err c) (Err d) e is (inr m) = inl (e, refl, subst (IsRefusal from) (let i = is in cc) m)
+  refusal_or_made_of_failure : (z : Result V E) (v : Result B E) (e : E) → map_outcome x v ≡ Failure e → IsToldOrRefused made from z v → AnswersRefusal {B = B} from (Err e) ⊎ IsMadeOf {B = B} made z (Err e)
+  refusal_or_made_of_failure z (Ok k) e is m = absurd (let e = is in cc)
+  refusal_or_made_of_failure (Ok w) (Err d) e is m = inl (e, refl, subst (IsRefusal from) (let same = is in cc) m)
+  refusal_or_made_of_failure (Err c) (Err d) e is (inl same) = inr (let i = is in cc)
+  refusal_or_made_of_failure (Err c) (Err d) e is (inr m) = inl (e, refl, subst (IsRefusal from) (let i = is in cc) m)
 
-  made_never_ends : (v : Result B E) → map_outcome x v ≡ End → ⊥
-  made_never_ends (Ok y) is = cc
-  made_never_ends (Err e) is = cc
+  map_outcome_is_never_end : (v : Result B E) → map_outcome x v ≡ End → ⊥
+  map_outcome_is_never_end (Ok y) is = cc
+  map_outcome_is_never_end (Err e) is = cc
 
-  none_left_out : (v : Result B E) → map_outcome x v ≡ LeftOut → ⊥
-  none_left_out (Ok y) is = cc
-  none_left_out (Err e) is = cc
+  map_outcome_is_never_left_out : (v : Result B E) → map_outcome x v ≡ LeftOut → ⊥
+  map_outcome_is_never_left_out (Ok y) is = cc
+  map_outcome_is_never_left_out (Err e) is = cc
 
 -- ---- what `map` lists
 
@@ -57,56 +57,56 @@ module _ {S F X V B E : Type 0} (steps : S → Answered X E → S → Type 0) (c
   abbrev AfterItem : List (Result X E) → X → Answered B E → S → F → Type 0
   AfterItem l x r t g = AnswersRefusal from r ⊎ (IsMadeOf made (h x) r × (g ≡ f) × AlwaysGives steps t l)
 
-  after_or_failed : (l : List (Result X E)) (x : X) (e : E) (t : S) (g : F) → g ≡ f → AlwaysGives steps t l → AnswersRefusal {B = B} from (Err e) ⊎ IsMadeOf made (h x) (Err e) → AfterItem l x (Err e) t g
-  after_or_failed l x e t g same a (inl r) = inl r
-  after_or_failed l x e t g same a (inr m) = inr (m, same, a)
+  after_item_of_refusal_or_made : (l : List (Result X E)) (x : X) (e : E) (t : S) (g : F) → g ≡ f → AlwaysGives steps t l → AnswersRefusal {B = B} from (Err e) ⊎ IsMadeOf made (h x) (Err e) → AfterItem l x (Err e) t g
+  after_item_of_refusal_or_made l x e t g same a (inl r) = inl r
+  after_item_of_refusal_or_made l x e t g same a (inr m) = inr (m, same, a)
 
-  after_draw_of_item : (x : X) (l : List (Result X E)) (s : S) (r : Answered B E) (t : S) (g : F) → AlwaysGives steps s (Ok x ∷ l) → OneDrawn s r t g → AfterItem l x r t g
-  after_draw_of_item x l s _ t g a (end_passes step c) = absurd (let w = (a (Ok None) _ step).0 in cc)
-  after_draw_of_item x l s _ t g a (failure_passes e step c) = absurd (let w = (a (Err e) _ step).0 in cc)
-  after_draw_of_item x l s _ t g a (keeps z v y step called is done) = let w = a (Ok (Some z)) t step in let c = told_or_refused x z v g (let q = w.0 in cc) called in inr (is_made_of_kept made from z (h x) v y is c.1, c.0, w.1)
-  after_draw_of_item x l s _ t g a (refuses z v e step called is done) = let w = a (Ok (Some z)) t step in let c = told_or_refused x z v g (let q = w.0 in cc) called in after_or_failed l x e t g c.0 w.1 (answers_refusal_failed_made made from z (h x) v e is c.1)
-  after_draw_of_item x l s _ t g a (closes z v step called is c) = absurd (made_never_ends made from z v is)
-  after_draw_of_item x l s r t g a (leaves_out z v step called is c) = absurd (none_left_out made from z v is)
+  after_item_of_one_drawn : (x : X) (l : List (Result X E)) (s : S) (r : Answered B E) (t : S) (g : F) → AlwaysGives steps s (Ok x ∷ l) → OneDrawn s r t g → AfterItem l x r t g
+  after_item_of_one_drawn x l s _ t g a (end_passes step c) = absurd (let w = (a (Ok None) _ step).0 in cc)
+  after_item_of_one_drawn x l s _ t g a (failure_passes e step c) = absurd (let w = (a (Err e) _ step).0 in cc)
+  after_item_of_one_drawn x l s _ t g a (keeps z v y step called is done) = let w = a (Ok (Some z)) t step in let c = told_or_refused x z v g (let q = w.0 in cc) called in inr (is_made_of_kept made from z (h x) v y is c.1, c.0, w.1)
+  after_item_of_one_drawn x l s _ t g a (refuses z v e step called is done) = let w = a (Ok (Some z)) t step in let c = told_or_refused x z v g (let q = w.0 in cc) called in after_item_of_refusal_or_made l x e t g c.0 w.1 (refusal_or_made_of_failure made from z (h x) v e is c.1)
+  after_item_of_one_drawn x l s _ t g a (closes z v step called is c) = absurd (map_outcome_is_never_end made from z v is)
+  after_item_of_one_drawn x l s r t g a (leaves_out z v step called is c) = absurd (map_outcome_is_never_left_out made from z v is)
 
-  answers_refusal_then_rest : (l : List (Result X E)) (x : X) (k : List (Result V E)) → ((t : S) → AlwaysGives steps t l → GivesMadeItems t f k) → (r : Answered B E) (t : S) (g : F) → AfterItem l x r t g → AtRefusal made (passing_step steps call map_outcome) from r (t, g) ⊎ (IsMadeOf made (h x) r × GivesMadeItems t g k)
-  answers_refusal_then_rest l x k later r t g (inl q) = inl (inl q)
-  answers_refusal_then_rest l x k later r t g (inr w) = inr (w.0, subst (λ (j : F). GivesMadeItems t j k) (sym w.1) (later t w.2))
+  at_refusal_or_made_after_item : (l : List (Result X E)) (x : X) (k : List (Result V E)) → ((t : S) → AlwaysGives steps t l → GivesMadeItems t f k) → (r : Answered B E) (t : S) (g : F) → AfterItem l x r t g → AtRefusal made (passing_step steps call map_outcome) from r (t, g) ⊎ (IsMadeOf made (h x) r × GivesMadeItems t g k)
+  at_refusal_or_made_after_item l x k later r t g (inl q) = inl (inl q)
+  at_refusal_or_made_after_item l x k later r t g (inr w) = inr (w.0, subst (λ (j : F). GivesMadeItems t j k) (sym w.1) (later t w.2))
 
-  gives_all_made : (l : List (Result X E)) (s : S) → AlwaysGives steps s l → GivesMadeItems s f (mapped h l)
+  gives_made_items_mapped : (l : List (Result X E)) (s : S) → AlwaysGives steps s l → GivesMadeItems s f (mapped h l)
   unfolding mapped
-  gives_all_made [] s a = λ r t w. end_of_nil a (passes_of_pass_trace w)
-  gives_all_made (Err d ∷ l) s a = λ r t w. let k = failure_of_first d l a (passes_of_pass_trace w) in inr (k.0, subst (λ (g : F). GivesMadeItems t.0 g (mapped h l)) (sym k.1) (gives_all_made l t.0 k.2))
-  gives_all_made (Ok x ∷ l) s a = λ r t w. answers_refusal_then_rest l x (mapped h l) (λ u b. gives_all_made l u b) r t.0 t.1 (after_draw_of_item x l s r t.0 t.1 a (passes_of_pass_trace w))
+  gives_made_items_mapped [] s a = λ r t w. end_of_nil a (passes_of_pass_trace w)
+  gives_made_items_mapped (Err d ∷ l) s a = λ r t w. let k = answer_is_failure_first_in_list d l a (passes_of_pass_trace w) in inr (k.0, subst (λ (g : F). GivesMadeItems t.0 g (mapped h l)) (sym k.1) (gives_made_items_mapped l t.0 k.2))
+  gives_made_items_mapped (Ok x ∷ l) s a = λ r t w. at_refusal_or_made_after_item l x (mapped h l) (λ u b. gives_made_items_mapped l u b) r t.0 t.1 (after_item_of_one_drawn x l s r t.0 t.1 a (passes_of_pass_trace w))
 
 module _ {W P V B E : Type 0} (made : V → B → Type 0) (from : AllocError → E → Type 0) (view : W → P) (steps : P → Answered B E → P → Type 0) where
   abbrev SeenSteps : W → Answered B E → W → Type 0
   SeenSteps u r v = steps (view u) r (view v)
 
-  next_seen : (t : W) → RefusesNext steps from (view t) → RefusesNext SeenSteps from t
-  next_seen t a = λ r u w. a r (view u) w
+  refuses_next_seen : (t : W) → RefusesNext steps from (view t) → RefusesNext SeenSteps from t
+  refuses_next_seen t a = λ r u w. a r (view u) w
 
   at_refusal_through_view : (r : Answered B E) (t : W) → AtRefusal made steps from r (view t) → AtRefusal made SeenSteps from r t
   at_refusal_through_view r t (inl q) = inl q
-  at_refusal_through_view r t (inr (x, y, m, is, next)) = inr (x, y, m, is, next_seen t next)
+  at_refusal_through_view r t (inr (x, y, m, is, next)) = inr (x, y, m, is, refuses_next_seen t next)
 
-  answers_refusal_rest_seen : (y : Result V E) (l : List (Result V E)) (r : Answered B E) (t : W) → (GivesMade made steps from (view t) l → GivesMade made SeenSteps from t l) → AtRefusal made steps from r (view t) ⊎ (IsMadeOf made y r × GivesMade made steps from (view t) l) → AtRefusal made SeenSteps from r t ⊎ (IsMadeOf made y r × GivesMade made SeenSteps from t l)
-  answers_refusal_rest_seen y l r t later (inl q) = inl (at_refusal_through_view r t q)
-  answers_refusal_rest_seen y l r t later (inr k) = inr (k.0, later k.1)
+  at_refusal_or_made_seen : (y : Result V E) (l : List (Result V E)) (r : Answered B E) (t : W) → (GivesMade made steps from (view t) l → GivesMade made SeenSteps from t l) → AtRefusal made steps from r (view t) ⊎ (IsMadeOf made y r × GivesMade made steps from (view t) l) → AtRefusal made SeenSteps from r t ⊎ (IsMadeOf made y r × GivesMade made SeenSteps from t l)
+  at_refusal_or_made_seen y l r t later (inl q) = inl (at_refusal_through_view r t q)
+  at_refusal_or_made_seen y l r t later (inr k) = inr (k.0, later k.1)
 
   -- a value whose answers are those of its parts gives what they give
-  pub seen_made : (l : List (Result V E)) (s : W) → GivesMade made steps from (view s) l → GivesMade made SeenSteps from s l
-  seen_made [] s a = λ r t w. a r (view t) w
-  seen_made (y ∷ l) s a = λ r t w. answers_refusal_rest_seen y l r t (λ b. seen_made l t b) (a r (view t) w)
+  pub gives_made_seen : (l : List (Result V E)) (s : W) → GivesMade made steps from (view s) l → GivesMade made SeenSteps from s l
+  gives_made_seen [] s a = λ r t w. a r (view t) w
+  gives_made_seen (y ∷ l) s a = λ r t w. at_refusal_or_made_seen y l r t (λ b. gives_made_seen l t b) (a r (view t) w)
 
   -- a value whose answers are those of its parts lists what they list
   pub lists_made_seen : (s : W) (p : P) (l k : List (Result V E)) → view s ≡ p → l ≡ k → GivesMade made steps from p l → ListsMade made SeenSteps from s k
-  lists_made_seen s p l k at same a = record { runs = seen_made k s (subst (λ (q : P). GivesMade made steps from q k) (sym at) (subst (λ (j : List (Result V E)). GivesMade made steps from p j) same a)) }
+  lists_made_seen s p l k at same a = record { runs = gives_made_seen k s (subst (λ (q : P). GivesMade made steps from q k) (sym at) (subst (λ (j : List (Result V E)). GivesMade made steps from p j) same a)) }
 
 -- `map` whose closure makes what h says lists what h makes, up to an allocation failure
 pub lists_made_by_map : {S F X V B E : Type 0} {steps : S → Answered X E → S → Type 0} {g : Mut F (X × Unit {0}) (Result B E)} {made : V → B → Type 0} {from : AllocError → E → Type 0} {it : S} {f : F} {l : List (Result X E)} {s : Map S F} (h : X → Result V E) → map_parts s ≡ (it, f) → Makes made from (call_by_value g) f h → Lists steps it l
     → ListsMade made (λ u r v. passing_step steps (call_by_value g) map_outcome (map_parts u) r (map_parts v)) from s (mapped h l)
-lists_made_by_map {steps = steps} {g = g} {made = made} {from = from} {it = it} {f = f} {l = l} {s = s} h parts makes i = lists_made_seen made from map_parts (passing_step steps (call_by_value g) map_outcome) s (it, f) _ _ parts refl (gives_all_made steps (call_by_value g) made from f h makes l it i.runs)
+lists_made_by_map {steps = steps} {g = g} {made = made} {from = from} {it = it} {f = f} {l = l} {s = s} h parts makes i = lists_made_seen made from map_parts (passing_step steps (call_by_value g) map_outcome) s (it, f) _ _ parts refl (gives_made_items_mapped steps (call_by_value g) made from f h makes l it i.runs)
 
 -- ---- what one answer of what lists made values is
 
@@ -115,11 +115,11 @@ module _ {S X B E : Type 0} (made : X → B → Type 0) (steps : S → Answered 
   abbrev AnswerTold : Result X E → Answered B E → S → Type 0 → Type 0
   AnswerTold z r t G = AtRefusal made steps from r t ⊎ (IsMadeOf made z r × G)
 
-  pub end_told : {P : Type 0} (z : Result X E) (t : S) {G : Type 0} → AnswerTold z (Ok None) t G → P
-  end_told z t (inl (inl r)) = absurd (let e = r.1 in cc)
-  end_told z t (inl (inr h)) = absurd (let e = h.3 in cc)
-  end_told (Ok x) t (inr k) = absurd k.0
-  end_told (Err d) t (inr k) = absurd (let e = k.0 in cc)
+  pub answer_told_is_never_end : {P : Type 0} (z : Result X E) (t : S) {G : Type 0} → AnswerTold z (Ok None) t G → P
+  answer_told_is_never_end z t (inl (inl r)) = absurd (let e = r.1 in cc)
+  answer_told_is_never_end z t (inl (inr h)) = absurd (let e = h.3 in cc)
+  answer_told_is_never_end (Ok x) t (inr k) = absurd k.0
+  answer_told_is_never_end (Err d) t (inr k) = absurd (let e = k.0 in cc)
 
   pub failure_told : (z : Result X E) (e : E) (t : S) {G : Type 0} → AnswerTold z (Err e) t G → IsRefusal from e ⊎ ((z ≡ Err e) × G)
   failure_told z e t (inl (inl r)) = inl (subst (IsRefusal from) (let q = r.1 in cc) r.2)
@@ -149,16 +149,16 @@ module _ {S F X Y B C E : Type 0} (steps : S → Answered B E → S → Type 0) 
   no_item_refuses : {P : Type 0} (x : B) → AnswersRefusal from (Ok (Some x)) → P
   no_item_refuses x r = absurd (let e = r.1 in cc)
 
-  refused_one : (s : S) (r : Answered C E) (t : S) (g : F) → RefusesNext steps from s → MapDrawsOne s r t g → AnswersRefusal from r
-  refused_one s _ t g a (end_passes step d) = absurd (let e = (a (Ok None) _ step).1 in cc)
-  refused_one s _ t g a (failure_passes e step d) = let k = a (Err e) _ step in (e, refl, subst (IsRefusal from) (let q = k.1 in cc) k.2)
-  refused_one s _ t g a (keeps x v y step called is d) = no_item_refuses x (a (Ok (Some x)) _ step)
-  refused_one s _ t g a (refuses x v e step called is d) = no_item_refuses x (a (Ok (Some x)) _ step)
-  refused_one s _ t g a (closes x v step called is d) = no_item_refuses x (a (Ok (Some x)) _ step)
-  refused_one s r t g a (leaves_out x v step called is d) = no_item_refuses x (a (Ok (Some x)) _ step)
+  map_answers_refusal_where_source_refuses : (s : S) (r : Answered C E) (t : S) (g : F) → RefusesNext steps from s → MapDrawsOne s r t g → AnswersRefusal from r
+  map_answers_refusal_where_source_refuses s _ t g a (end_passes step d) = absurd (let e = (a (Ok None) _ step).1 in cc)
+  map_answers_refusal_where_source_refuses s _ t g a (failure_passes e step d) = let k = a (Err e) _ step in (e, refl, subst (IsRefusal from) (let q = k.1 in cc) k.2)
+  map_answers_refusal_where_source_refuses s _ t g a (keeps x v y step called is d) = no_item_refuses x (a (Ok (Some x)) _ step)
+  map_answers_refusal_where_source_refuses s _ t g a (refuses x v e step called is d) = no_item_refuses x (a (Ok (Some x)) _ step)
+  map_answers_refusal_where_source_refuses s _ t g a (closes x v step called is d) = no_item_refuses x (a (Ok (Some x)) _ step)
+  map_answers_refusal_where_source_refuses s r t g a (leaves_out x v step called is d) = no_item_refuses x (a (Ok (Some x)) _ step)
 
   map_refuses_next : (t : S) (g : F) → g ≡ f → RefusesNext steps from t → RefusesNext MapSteps from (t, g)
-  map_refuses_next t g same a = subst (λ (j : F). RefusesNext MapSteps from (t, j)) (sym same) (λ r q w. refused_one t r q.0 q.1 a (passes_of_pass_trace w))
+  map_refuses_next t g same a = subst (λ (j : F). RefusesNext MapSteps from (t, j)) (sym same) (λ r q w. map_answers_refusal_where_source_refuses t r q.0 q.1 a (passes_of_pass_trace w))
 
   -- what the map makes of one of the list
   abbrev told_of : Result X E → Result Y E
@@ -168,46 +168,46 @@ module _ {S F X Y B C E : Type 0} (steps : S → Answered B E → S → Type 0) 
   abbrev MapRefusedOrMade : Result X E → List (Result X E) → Answered C E → S → F → Type 0
   MapRefusedOrMade z l r t g = AtRefusal made MapSteps from r (t, g) ⊎ (IsMadeOf made (told_of z) r × (g ≡ f) × GivesMade of steps from t l)
 
-  map_draw_of_failure : (z : Result X E) (l : List (Result X E)) (e : E) (t : S) → IsRefusal from e ⊎ ((z ≡ Err e) × GivesMade of steps from t l) → MapRefusedOrMade z l (Err e) t f
-  map_draw_of_failure z l e t (inl r) = inl (inl (e, refl, r))
-  map_draw_of_failure z l e t (inr k) = inr (subst (λ (w : Result X E). IsMadeOf made (told_of w) (Err e)) (sym k.0) refl, refl, k.1)
+  map_refused_or_made_of_failure : (z : Result X E) (l : List (Result X E)) (e : E) (t : S) → IsRefusal from e ⊎ ((z ≡ Err e) × GivesMade of steps from t l) → MapRefusedOrMade z l (Err e) t f
+  map_refused_or_made_of_failure z l e t (inl r) = inl (inl (e, refl, r))
+  map_refused_or_made_of_failure z l e t (inr k) = inr (subst (λ (w : Result X E). IsMadeOf made (told_of w) (Err e)) (sym k.0) refl, refl, k.1)
 
-  map_draw_of_kept : (z : Result X E) (l : List (Result X E)) (b : B) (v : Result C E) (y : C) (t : S) (g : F) → map_outcome b v ≡ Kept y → call f b v g → ItemTold of steps from z b t (GivesMade of steps from t l) → MapRefusedOrMade z l (Ok (Some y)) t g
-  map_draw_of_kept z l b v y t g is called (inl (x, m, next)) = let c = makes x b v g m called in inl (inr (h x, y, is_made_of_kept made from b (Ok (h x)) v y is c.1, refl, map_refuses_next t g c.0 next))
-  map_draw_of_kept z l b v y t g is called (inr (x, same, m, rest)) = let c = makes x b v g m called in inr (subst (λ (w : Result X E). IsMadeOf made (told_of w) (Ok (Some y))) (sym same) (is_made_of_kept made from b (Ok (h x)) v y is c.1), c.0, rest)
+  map_refused_or_made_of_kept : (z : Result X E) (l : List (Result X E)) (b : B) (v : Result C E) (y : C) (t : S) (g : F) → map_outcome b v ≡ Kept y → call f b v g → ItemTold of steps from z b t (GivesMade of steps from t l) → MapRefusedOrMade z l (Ok (Some y)) t g
+  map_refused_or_made_of_kept z l b v y t g is called (inl (x, m, next)) = let c = makes x b v g m called in inl (inr (h x, y, is_made_of_kept made from b (Ok (h x)) v y is c.1, refl, map_refuses_next t g c.0 next))
+  map_refused_or_made_of_kept z l b v y t g is called (inr (x, same, m, rest)) = let c = makes x b v g m called in inr (subst (λ (w : Result X E). IsMadeOf made (told_of w) (Ok (Some y))) (sym same) (is_made_of_kept made from b (Ok (h x)) v y is c.1), c.0, rest)
 
-  refused_by_call : (x : X) (b : B) (v : Result C E) (e : E) → map_outcome b v ≡ Failure e → IsToldOrRefused made from (Ok (h x)) v → AnswersRefusal {B = C} from (Err e)
-  refused_by_call x b v e is m = elim (answers_refusal_failed_made made from b (Ok (h x)) v e is m) [ inl r ↦ r | inr k ↦ absurd k ]
+  answers_refusal_of_failing_call : (x : X) (b : B) (v : Result C E) (e : E) → map_outcome b v ≡ Failure e → IsToldOrRefused made from (Ok (h x)) v → AnswersRefusal {B = C} from (Err e)
+  answers_refusal_of_failing_call x b v e is m = elim (refusal_or_made_of_failure made from b (Ok (h x)) v e is m) [ inl r ↦ r | inr k ↦ absurd k ]
 
-  map_draw_of_failing_call : (z : Result X E) (l : List (Result X E)) (b : B) (v : Result C E) (e : E) (t : S) (g : F) → map_outcome b v ≡ Failure e → call f b v g → ItemTold of steps from z b t (GivesMade of steps from t l) → MapRefusedOrMade z l (Err e) t g
-  map_draw_of_failing_call z l b v e t g is called (inl (x, m, next)) = inl (inl (refused_by_call x b v e is (makes x b v g m called).1))
-  map_draw_of_failing_call z l b v e t g is called (inr (x, same, m, rest)) = inl (inl (refused_by_call x b v e is (makes x b v g m called).1))
+  map_refused_or_made_of_failing_call : (z : Result X E) (l : List (Result X E)) (b : B) (v : Result C E) (e : E) (t : S) (g : F) → map_outcome b v ≡ Failure e → call f b v g → ItemTold of steps from z b t (GivesMade of steps from t l) → MapRefusedOrMade z l (Err e) t g
+  map_refused_or_made_of_failing_call z l b v e t g is called (inl (x, m, next)) = inl (inl (answers_refusal_of_failing_call x b v e is (makes x b v g m called).1))
+  map_refused_or_made_of_failing_call z l b v e t g is called (inr (x, same, m, rest)) = inl (inl (answers_refusal_of_failing_call x b v e is (makes x b v g m called).1))
 
-  map_draw_of_gives_made : (z : Result X E) (l : List (Result X E)) (s : S) (r : Answered C E) (t : S) (g : F) → GivesMade of steps from s (z ∷ l) → MapDrawsOne s r t g → MapRefusedOrMade z l r t g
-  map_draw_of_gives_made z l s _ t g a (end_passes step d) = end_told of steps from z _ (a (Ok None) _ step)
-  map_draw_of_gives_made z l s _ t g a (failure_passes e step done) = map_draw_of_failure z l e t (failure_told of steps from z e t (a (Err e) t step))
-  map_draw_of_gives_made z l s _ t g a (keeps b v y step called is done) = map_draw_of_kept z l b v y t g is called (item_told of steps from z b t (a (Ok (Some b)) t step))
-  map_draw_of_gives_made z l s _ t g a (refuses b v e step called is done) = map_draw_of_failing_call z l b v e t g is called (item_told of steps from z b t (a (Ok (Some b)) t step))
-  map_draw_of_gives_made z l s _ t g a (closes b v step called is d) = absurd (made_never_ends made from b v is)
-  map_draw_of_gives_made z l s r t g a (leaves_out b v step called is d) = absurd (none_left_out made from b v is)
+  map_refused_or_made_of_gives_made : (z : Result X E) (l : List (Result X E)) (s : S) (r : Answered C E) (t : S) (g : F) → GivesMade of steps from s (z ∷ l) → MapDrawsOne s r t g → MapRefusedOrMade z l r t g
+  map_refused_or_made_of_gives_made z l s _ t g a (end_passes step d) = answer_told_is_never_end of steps from z _ (a (Ok None) _ step)
+  map_refused_or_made_of_gives_made z l s _ t g a (failure_passes e step done) = map_refused_or_made_of_failure z l e t (failure_told of steps from z e t (a (Err e) t step))
+  map_refused_or_made_of_gives_made z l s _ t g a (keeps b v y step called is done) = map_refused_or_made_of_kept z l b v y t g is called (item_told of steps from z b t (a (Ok (Some b)) t step))
+  map_refused_or_made_of_gives_made z l s _ t g a (refuses b v e step called is done) = map_refused_or_made_of_failing_call z l b v e t g is called (item_told of steps from z b t (a (Ok (Some b)) t step))
+  map_refused_or_made_of_gives_made z l s _ t g a (closes b v step called is d) = absurd (map_outcome_is_never_end made from b v is)
+  map_refused_or_made_of_gives_made z l s r t g a (leaves_out b v step called is d) = absurd (map_outcome_is_never_left_out made from b v is)
 
   abbrev MapGivesMade : S → F → List (Result Y E) → Type 0
   MapGivesMade t g k = GivesMade made MapSteps from (t, g) k
 
-  map_gives_made_after : (z : Result X E) (l : List (Result X E)) (k : List (Result Y E)) → ((t : S) → GivesMade of steps from t l → MapGivesMade t f k) → (r : Answered C E) (t : S) (g : F) → MapRefusedOrMade z l r t g → AtRefusal made MapSteps from r (t, g) ⊎ (IsMadeOf made (told_of z) r × MapGivesMade t g k)
-  map_gives_made_after z l k later r t g (inl q) = inl q
-  map_gives_made_after z l k later r t g (inr w) = inr (w.0, subst (λ (j : F). MapGivesMade t j k) (sym w.1) (later t w.2))
+  map_at_refusal_or_gives_made : (z : Result X E) (l : List (Result X E)) (k : List (Result Y E)) → ((t : S) → GivesMade of steps from t l → MapGivesMade t f k) → (r : Answered C E) (t : S) (g : F) → MapRefusedOrMade z l r t g → AtRefusal made MapSteps from r (t, g) ⊎ (IsMadeOf made (told_of z) r × MapGivesMade t g k)
+  map_at_refusal_or_gives_made z l k later r t g (inl q) = inl q
+  map_at_refusal_or_gives_made z l k later r t g (inr w) = inr (w.0, subst (λ (j : F). MapGivesMade t j k) (sym w.1) (later t w.2))
 
-  all_of_made : (l : List (Result X E)) (s : S) → GivesMade of steps from s l → MapGivesMade s f (mapped (λ x. Ok (h x)) l)
+  map_gives_made_of_gives_made : (l : List (Result X E)) (s : S) → GivesMade of steps from s l → MapGivesMade s f (mapped (λ x. Ok (h x)) l)
   unfolding mapped
-  all_of_made [] s a = λ r t w. end_of_nil a (passes_of_pass_trace w)
-  all_of_made (Err d ∷ l) s a = λ r t w. map_gives_made_after (Err d) l (mapped (λ x. Ok (h x)) l) (λ u b. all_of_made l u b) r t.0 t.1 (map_draw_of_gives_made (Err d) l s r t.0 t.1 a (passes_of_pass_trace w))
-  all_of_made (Ok x ∷ l) s a = λ r t w. map_gives_made_after (Ok x) l (mapped (λ x. Ok (h x)) l) (λ u b. all_of_made l u b) r t.0 t.1 (map_draw_of_gives_made (Ok x) l s r t.0 t.1 a (passes_of_pass_trace w))
+  map_gives_made_of_gives_made [] s a = λ r t w. end_of_nil a (passes_of_pass_trace w)
+  map_gives_made_of_gives_made (Err d ∷ l) s a = λ r t w. map_at_refusal_or_gives_made (Err d) l (mapped (λ x. Ok (h x)) l) (λ u b. map_gives_made_of_gives_made l u b) r t.0 t.1 (map_refused_or_made_of_gives_made (Err d) l s r t.0 t.1 a (passes_of_pass_trace w))
+  map_gives_made_of_gives_made (Ok x ∷ l) s a = λ r t w. map_at_refusal_or_gives_made (Ok x) l (mapped (λ x. Ok (h x)) l) (λ u b. map_gives_made_of_gives_made l u b) r t.0 t.1 (map_refused_or_made_of_gives_made (Ok x) l s r t.0 t.1 a (passes_of_pass_trace w))
 
 -- `map` over what lists made values lists what h makes of them, up to an allocation failure
 pub made_by_map_of_made : {S F X Y B C E : Type 0} {steps : S → Answered B E → S → Type 0} {g : Mut F (B × Unit {0}) (Result C E)} {of : X → B → Type 0} {made : Y → C → Type 0} {from : AllocError → E → Type 0} {it : S} {f : F} {l : List (Result X E)} {s : Map S F} (h : X → Y) → map_parts s ≡ (it, f) → MakesOf of made from (call_by_value g) f h → ListsMade of steps from it l
     → ListsMade made (λ u r v. passing_step steps (call_by_value g) map_outcome (map_parts u) r (map_parts v)) from s (mapped (λ x. Ok (h x)) l)
-made_by_map_of_made {steps = steps} {g = g} {of = of} {made = made} {from = from} {it = it} {f = f} {l = l} {s = s} h parts makes i = lists_made_seen made from map_parts (passing_step steps (call_by_value g) map_outcome) s (it, f) _ _ parts refl (all_of_made steps (call_by_value g) of made from f h makes l it i.runs)
+made_by_map_of_made {steps = steps} {g = g} {of = of} {made = made} {from = from} {it = it} {f = f} {l = l} {s = s} h parts makes i = lists_made_seen made from map_parts (passing_step steps (call_by_value g) map_outcome) s (it, f) _ _ parts refl (map_gives_made_of_gives_made steps (call_by_value g) of made from f h makes l it i.runs)
 
 -- ---- what draws up to a last answer are made of
 
@@ -225,11 +225,11 @@ module _ {V B E : Type 0} (made : V → B → Type 0) where
     each : EachMade made values ys
     rest_is : RestTold last rest
 
-  one_before : (v : V) (y : B) (l : List (Result V E)) (ys : List B) (last : Answered B E) → made v y → DrawnMade l ys last → DrawnMade (Ok v ∷ l) (y ∷ ys) last
-  one_before v y l ys last m d = record { values = v ∷ d.values; rest = d.rest; list_is = ap (λ k. Ok v ∷ k) d.list_is; each = (m, d.each); rest_is = d.rest_is }
+  drawn_made_with_item_before : (v : V) (y : B) (l : List (Result V E)) (ys : List B) (last : Answered B E) → made v y → DrawnMade l ys last → DrawnMade (Ok v ∷ l) (y ∷ ys) last
+  drawn_made_with_item_before v y l ys last m d = record { values = v ∷ d.values; rest = d.rest; list_is = ap (λ k. Ok v ∷ k) d.list_is; each = (m, d.each); rest_is = d.rest_is }
 
-  none_before : (l : List (Result V E)) (last : Answered B E) → RestTold last l → DrawnMade l [] last
-  none_before l last is = record { values = []; rest = l; list_is = refl; each = tt; rest_is = is }
+  drawn_made_of_rest_told : (l : List (Result V E)) (last : Answered B E) → RestTold last l → DrawnMade l [] last
+  drawn_made_of_rest_told l last is = record { values = []; rest = l; list_is = refl; each = tt; rest_is = is }
 
 module _ {S V B E : Type 0} (steps : S → Answered B E → S → Type 0) (made : V → B → Type 0) (from : AllocError → E → Type 0) where
   abbrev MadeOrRefused : S → List (Result V E) → Type 0
@@ -245,27 +245,27 @@ module _ {S V B E : Type 0} (steps : S → Answered B E → S → Type 0) (made 
 
   draws_told_cons : (v : V) (y : B) (l : List (Result V E)) (ys : List B) (last : Answered B E) → made v y → DrawsTold l ys last → DrawsTold (Ok v ∷ l) (y ∷ ys) last
   draws_told_cons v y l ys last m (inl r) = inl r
-  draws_told_cons v y l ys last m (inr d) = inr (one_before made v y l ys last m d)
+  draws_told_cons v y l ys last m (inr d) = inr (drawn_made_with_item_before made v y l ys last m d)
 
-  last_failed : (z : Result V E) (e : E) (l : List (Result V E)) {G : Type 0} → IsRefusal from e ⊎ ((z ≡ Err e) × G) → DrawsTold (z ∷ l) [] (Err e)
-  last_failed z e l (inl r) = inl (e, refl, r)
-  last_failed z e l (inr k) = inr (none_before made (z ∷ l) (Err e) (l, ap (λ w. w ∷ l) k.0))
+  draws_told_of_last_failure : (z : Result V E) (e : E) (l : List (Result V E)) {G : Type 0} → IsRefusal from e ⊎ ((z ≡ Err e) × G) → DrawsTold (z ∷ l) [] (Err e)
+  draws_told_of_last_failure z e l (inl r) = inl (e, refl, r)
+  draws_told_of_last_failure z e l (inr k) = inr (drawn_made_of_rest_told made (z ∷ l) (Err e) (l, ap (λ w. w ∷ l) k.0))
 
-  last_item : (z : Result V E) (y : B) (l : List (Result V E)) (t : S) {G : Type 0} → ItemTold made steps from z y t G → DrawsTold (z ∷ l) [] (Ok (Some y))
-  last_item z y l t (inl (x, m, next)) = inr (none_before made (z ∷ l) (Ok (Some y)) (x, m))
-  last_item z y l t (inr (x, same, m, rest)) = inr (none_before made (z ∷ l) (Ok (Some y)) (x, m))
+  draws_told_of_last_item : (z : Result V E) (y : B) (l : List (Result V E)) (t : S) {G : Type 0} → ItemTold made steps from z y t G → DrawsTold (z ∷ l) [] (Ok (Some y))
+  draws_told_of_last_item z y l t (inl (x, m, next)) = inr (drawn_made_of_rest_told made (z ∷ l) (Ok (Some y)) (x, m))
+  draws_told_of_last_item z y l t (inr (x, same, m, rest)) = inr (drawn_made_of_rest_told made (z ∷ l) (Ok (Some y)) (x, m))
 
   first_item : (z : Result V E) (y : B) (l : List (Result V E)) (ys : List B) (last : Answered B E) (u t : S) → ((k : GivesMade made steps from u l) → DrawsTold l ys last) → Run steps u (map item ys ++ last ∷ []) t → ItemTold made steps from z y u (GivesMade made steps from u l) → DrawsTold (z ∷ l) (y ∷ ys) last
   first_item z y l ys last u t later ran (inl (x, m, next)) = inl (last_refused_of_refuses_next ys last u t next ran)
   first_item z y l ys last u t later ran (inr (x, same, m, rest)) = subst (λ (w : Result V E). DrawsTold (w ∷ l) (y ∷ ys) last) (sym same) (draws_told_cons x y l ys last m (later rest))
 
   last_told : (z : Result V E) (l : List (Result V E)) (last : Answered B E) (s t : S) → MadeOrRefused s (z ∷ l) → steps s last t → DrawsTold (z ∷ l) [] last
-  last_told z l (Ok None) s t a step = end_told made steps from z t (a (Ok None) t step)
-  last_told z l (Err e) s t a step = last_failed z e l (failure_told made steps from z e t (a (Err e) t step))
-  last_told z l (Ok (Some y)) s t a step = last_item z y l t (item_told made steps from z y t (a (Ok (Some y)) t step))
+  last_told z l (Ok None) s t a step = answer_told_is_never_end made steps from z t (a (Ok None) t step)
+  last_told z l (Err e) s t a step = draws_told_of_last_failure z e l (failure_told made steps from z e t (a (Err e) t step))
+  last_told z l (Ok (Some y)) s t a step = draws_told_of_last_item z y l t (item_told made steps from z y t (a (Ok (Some y)) t step))
 
   ended_told : (last : Answered B E) → last ≡ end → DrawsTold [] [] last
-  ended_told last is = inr (subst (λ (r : Answered B E). DrawnMade made [] [] r) (sym is) (none_before made [] end refl))
+  ended_told last is = inr (subst (λ (r : Answered B E). DrawnMade made [] [] r) (sym is) (drawn_made_of_rest_told made [] end refl))
 
   draws_told : (ys : List B) (last : Answered B E) (l : List (Result V E)) (s t : S) → MadeOrRefused s l → Run steps s (map item ys ++ last ∷ []) t → DrawsTold l ys last
   draws_told [] last [] s t a ran = ended_told last (a last ran.0 ran.1)
@@ -276,29 +276,29 @@ module _ {S V B E : Type 0} (steps : S → Answered B E → S → Type 0) (made 
 -- ---- what consumers make of it
 
 module _ {V E : Type 0} where
-  collected_front : (vs : List V) (rest : List (Result V E)) (ws : List V) → collected rest ≡ Ok ws → collected (map (λ v. Ok v) vs ++ rest) ≡ Ok (vs ++ ws)
+  collected_after_values : (vs : List V) (rest : List (Result V E)) (ws : List V) → collected rest ≡ Ok ws → collected (map (λ v. Ok v) vs ++ rest) ≡ Ok (vs ++ ws)
   unfolding collected
-  collected_front [] rest ws is = is
-  collected_front (v ∷ vs) rest ws is = ap (before v) (collected_front vs rest ws is)
+  collected_after_values [] rest ws is = is
+  collected_after_values (v ∷ vs) rest ws is = ap (before v) (collected_after_values vs rest ws is)
 
-  failed_front : (vs : List V) (rest : List (Result V E)) (e : E) → collected rest ≡ Err e → collected (map (λ v. Ok v) vs ++ rest) ≡ Err e
+  collected_fails_after_values : (vs : List V) (rest : List (Result V E)) (e : E) → collected rest ≡ Err e → collected (map (λ v. Ok v) vs ++ rest) ≡ Err e
   unfolding collected
-  failed_front [] rest e is = is
-  failed_front (v ∷ vs) rest e is = ap (before v) (failed_front vs rest e is)
+  collected_fails_after_values [] rest e is = is
+  collected_fails_after_values (v ∷ vs) rest e is = ap (before v) (collected_fails_after_values vs rest e is)
 
   collected_failure_first : (e : E) (l : List (Result V E)) → collected (Err e ∷ l) ≡ Err e
   unfolding collected
   collected_failure_first e l = refl
 
-  counted_front : (vs : List V) (rest : List (Result V E)) (n : ℕ) → counted rest ≡ Ok n → counted (map (λ v. Ok v) vs ++ rest) ≡ Ok (length vs + n)
+  counted_after_values : (vs : List V) (rest : List (Result V E)) (n : ℕ) → counted rest ≡ Ok n → counted (map (λ v. Ok v) vs ++ rest) ≡ Ok (length vs + n)
   unfolding counted
-  counted_front [] rest n is = is ∙ ap (λ k. Ok k) (omega arith)
-  counted_front (v ∷ vs) rest n is = ap one_more_than (counted_front vs rest n is) ∙ ap (λ k. Ok k) (omega arith)
+  counted_after_values [] rest n is = is ∙ ap (λ k. Ok k) (omega arith)
+  counted_after_values (v ∷ vs) rest n is = ap one_more_than (counted_after_values vs rest n is) ∙ ap (λ k. Ok k) (omega arith)
 
-  count_failed : (vs : List V) (rest : List (Result V E)) (e : E) → counted rest ≡ Err e → counted (map (λ v. Ok v) vs ++ rest) ≡ Err e
+  counted_fails_after_values : (vs : List V) (rest : List (Result V E)) (e : E) → counted rest ≡ Err e → counted (map (λ v. Ok v) vs ++ rest) ≡ Err e
   unfolding counted
-  count_failed [] rest e is = is
-  count_failed (v ∷ vs) rest e is = ap one_more_than (count_failed vs rest e is)
+  counted_fails_after_values [] rest e is = is
+  counted_fails_after_values (v ∷ vs) rest e is = ap one_more_than (counted_fails_after_values vs rest e is)
 
   counted_failure_first : (e : E) (l : List (Result V E)) → counted (Err e ∷ l) ≡ Err e
   unfolding counted
@@ -312,35 +312,35 @@ none_counted : (V : Type 0) {E : Type 0} → counted {A = V} {E = E} [] ≡ Ok 0
 unfolding counted
 none_counted V = refl
 
-each_length : {V B : Type 0} (made : V → B → Type 0) (vs : List V) (ys : List B) → EachMade made vs ys → length ys ≡ length vs
-each_length made [] [] m = refl
-each_length made [] (y ∷ ys) m = absurd m
-each_length made (v ∷ vs) [] m = absurd m
-each_length made (v ∷ vs) (y ∷ ys) m = let e = each_length made vs ys m.1 in omega (arith, e)
+length_equal_where_each_made : {V B : Type 0} (made : V → B → Type 0) (vs : List V) (ys : List B) → EachMade made vs ys → length ys ≡ length vs
+length_equal_where_each_made made [] [] m = refl
+length_equal_where_each_made made [] (y ∷ ys) m = absurd m
+length_equal_where_each_made made (v ∷ vs) [] m = absurd m
+length_equal_where_each_made made (v ∷ vs) (y ∷ ys) m = let e = length_equal_where_each_made made vs ys m.1 in omega (arith, e)
 
 -- an allocation failure is one whatever the given result is
-pub refused_result : {V B E : Type 0} (made : V → B → Type 0) (from : AllocError → E → Type 0) (told_or_refused : Result V E) (e : E) → IsRefusal from e → IsToldOrRefused made from told_or_refused (Err e)
-refused_result made from (Ok v) e r = r
-refused_result made from (Err d) e r = inr r
+pub told_or_refused_of_refusal : {V B E : Type 0} (made : V → B → Type 0) (from : AllocError → E → Type 0) (told_or_refused : Result V E) (e : E) → IsRefusal from e → IsToldOrRefused made from told_or_refused (Err e)
+told_or_refused_of_refusal made from (Ok v) e r = r
+told_or_refused_of_refusal made from (Err d) e r = inr r
 
-pub failed_result : {V B E : Type 0} (made : V → B → Type 0) (from : AllocError → E → Type 0) (told_or_refused : Result V E) (e : E) → told_or_refused ≡ Err e → IsToldOrRefused made from told_or_refused (Err e)
-failed_result made from told_or_refused e is = subst (λ (w : Result _ _). IsToldOrRefused made from w (Err e)) (sym is) (inl refl)
+pub told_or_refused_of_failure : {V B E : Type 0} (made : V → B → Type 0) (from : AllocError → E → Type 0) (told_or_refused : Result V E) (e : E) → told_or_refused ≡ Err e → IsToldOrRefused made from told_or_refused (Err e)
+told_or_refused_of_failure made from told_or_refused e is = subst (λ (w : Result _ _). IsToldOrRefused made from w (Err e)) (sym is) (inl refl)
 
 module _ {S V B E : Type 0} (steps : S → Answered B E → S → Type 0) (made : V → B → Type 0) (from : AllocError → E → Type 0) where
   collected_by : {C : Type 0} (into : List B → C → Type 0) (l : List (Result V E)) (ys : List B) (c : C) → into ys c → DrawsTold steps made from l ys end → CollectedMade made from into l (Ok c)
   collected_by into l ys c is (inl r) = absurd (let e = r.1 in cc)
-  collected_by into l ys c is (inr d) = (d.values ++ [], ys, ap collected d.list_is ∙ collected_front d.values d.rest [] (ap collected d.rest_is ∙ nothing_collected), subst (λ (vs : List V). EachMade made vs ys) (sym (append-nil d.values)) d.each, is)
+  collected_by into l ys c is (inr d) = (d.values ++ [], ys, ap collected d.list_is ∙ collected_after_values d.values d.rest [] (ap collected d.rest_is ∙ nothing_collected), subst (λ (vs : List V). EachMade made vs ys) (sym (append-nil d.values)) d.each, is)
 
   failed_by : (l : List (Result V E)) (ys : List B) (e : E) → DrawsTold steps made from l ys (Err e) → (collected l ≡ Err e) ⊎ IsRefusal from e
   failed_by l ys e (inl r) = inr (subst (IsRefusal from) (let q = r.1 in cc) r.2)
-  failed_by l ys e (inr d) = inl (ap collected d.list_is ∙ failed_front d.values d.rest e (ap collected d.rest_is.1 ∙ collected_failure_first e d.rest_is.0))
+  failed_by l ys e (inr d) = inl (ap collected d.list_is ∙ collected_fails_after_values d.values d.rest e (ap collected d.rest_is.1 ∙ collected_failure_first e d.rest_is.0))
 
   counted_by : (l : List (Result V E)) (ys : List B) (last : Answered B E) (r : Result ℕ E) → CountExit (length ys) last r → DrawsTold steps made from l ys last → SameOrRefused from (counted l) r
   counted_by l ys (Ok (Some y)) r exit d = absurd exit
   counted_by l ys (Ok None) r exit (inl w) = absurd (let e = w.1 in cc)
-  counted_by l ys (Ok None) r exit (inr d) = rw (exit, ap counted d.list_is ∙ counted_front d.values d.rest 0 (ap counted d.rest_is ∙ none_counted V)) (each_length made d.values ys d.each ∙ omega arith)
-  counted_by l ys (Err e) r exit (inl w) = rw exit (refused_result (λ v y. y ≡ v) from (counted l) e (subst (IsRefusal from) (let q = w.1 in cc) w.2))
-  counted_by l ys (Err e) r exit (inr d) = rw exit (failed_result (λ v y. y ≡ v) from (counted l) e (ap counted d.list_is ∙ count_failed d.values d.rest e (ap counted d.rest_is.1 ∙ counted_failure_first e d.rest_is.0)))
+  counted_by l ys (Ok None) r exit (inr d) = rw (exit, ap counted d.list_is ∙ counted_after_values d.values d.rest 0 (ap counted d.rest_is ∙ none_counted V)) (length_equal_where_each_made made d.values ys d.each ∙ omega arith)
+  counted_by l ys (Err e) r exit (inl w) = rw exit (told_or_refused_of_refusal (λ v y. y ≡ v) from (counted l) e (subst (IsRefusal from) (let q = w.1 in cc) w.2))
+  counted_by l ys (Err e) r exit (inr d) = rw exit (told_or_refused_of_failure (λ v y. y ≡ v) from (counted l) e (ap counted d.list_is ∙ counted_fails_after_values d.values d.rest e (ap counted d.rest_is.1 ∙ counted_failure_first e d.rest_is.0)))
 
 module _ {S V B E : Type 0} {steps : S → Answered B E → S → Type 0} {made : V → B → Type 0} {from : AllocError → E → Type 0} where
   -- what `collect` returns over what lists made values
@@ -359,8 +359,8 @@ module _ {X B D C E E' F : Type 0} (of : X → B → Type 0) (made : D → C →
   abbrev folded_by_values : D → List (Result X E) → Result D E'
   folded_by_values d l = folded convert (λ a x. Ok (h a x)) d l
 
-  fold_went : (x : X) (y : B) (d : D) (c : C) (q : C × F) → made d c → of x y → went_on_with call (c, f) y q → made (h d x) q.0 × (q.1 ≡ f)
-  fold_went x y d c q m n called = let k = makes d c x y (Ok q.0) q.1 m n called in (k.1, k.0)
+  made_after_one_fold_step : (x : X) (y : B) (d : D) (c : C) (q : C × F) → made d c → of x y → went_on_with call (c, f) y q → made (h d x) q.0 × (q.1 ≡ f)
+  made_after_one_fold_step x y d c q m n called = let k = makes d c x y (Ok q.0) q.1 m n called in (k.1, k.0)
 
   -- what the value is made of after calls that went on, of which the fold of the list goes on
   record FoldWentMade (vs : List X) (d : D) (q : C × F) : Type 0 where
@@ -369,15 +369,15 @@ module _ {X B D C E E' F : Type 0} (of : X → B → Type 0) (made : D → C →
     stays : q.1 ≡ f
     goes_on : (rest : List (Result X E)) → folded_by_values d (map (λ v. Ok v) vs ++ rest) ≡ folded_by_values value rest
 
-  went_before : (v : X) (vs : List X) (d : D) (q : C × F) → FoldWentMade vs (h d v) q → FoldWentMade (v ∷ vs) d q
+  fold_went_made_with_value_before : (v : X) (vs : List X) (d : D) (q : C × F) → FoldWentMade vs (h d v) q → FoldWentMade (v ∷ vs) d q
   unfolding folded
-  went_before v vs d q w = record { value = w.value; is_made = w.is_made; stays = w.stays; goes_on = w.goes_on }
+  fold_went_made_with_value_before v vs d q w = record { value = w.value; is_made = w.is_made; stays = w.stays; goes_on = w.goes_on }
 
-  all_went : (vs : List X) (ys : List B) (d : D) (c : C) (q : C × F) → EachMade of vs ys → made d c → FoldsTo {P = C × F} (went_on_with call) (c, f) ys q → FoldWentMade vs d q
-  all_went [] [] d c q each m went = subst (λ (p : C × F). FoldWentMade [] d p) went (record { value = d; is_made = m; stays = refl; goes_on = λ rest. refl })
-  all_went [] (y ∷ ys) d c q each m went = absurd each
-  all_went (v ∷ vs) [] d c q each m went = absurd each
-  all_went (v ∷ vs) (y ∷ ys) d c q each m went = let k = fold_went v y d c went.0 m each.0 went.1 in went_before v vs d q (all_went vs ys (h d v) (went.0).0 q each.1 k.0 (subst (λ (g : F). FoldsTo {P = C × F} (went_on_with call) ((went.0).0, g) ys q) k.1 went.2))
+  fold_went_made_of_each_made : (vs : List X) (ys : List B) (d : D) (c : C) (q : C × F) → EachMade of vs ys → made d c → FoldsTo {P = C × F} (went_on_with call) (c, f) ys q → FoldWentMade vs d q
+  fold_went_made_of_each_made [] [] d c q each m went = subst (λ (p : C × F). FoldWentMade [] d p) went (record { value = d; is_made = m; stays = refl; goes_on = λ rest. refl })
+  fold_went_made_of_each_made [] (y ∷ ys) d c q each m went = absurd each
+  fold_went_made_of_each_made (v ∷ vs) [] d c q each m went = absurd each
+  fold_went_made_of_each_made (v ∷ vs) (y ∷ ys) d c q each m went = let k = made_after_one_fold_step v y d c went.0 m each.0 went.1 in fold_went_made_with_value_before v vs d q (fold_went_made_of_each_made vs ys (h d v) (went.0).0 q each.1 k.0 (subst (λ (g : F). FoldsTo {P = C × F} (went_on_with call) ((went.0).0, g) ys q) k.1 went.2))
 
   fold_nil : (d : D) → folded_by_values d [] ≡ Ok d
   unfolding folded
@@ -391,13 +391,13 @@ module _ {X B D C E E' F : Type 0} (of : X → B → Type 0) (made : D → C →
     fold_made_of_exit : (l : List (Result X E)) (ys : List B) (last : Answered B E) (d : D) (c : C) (q : C × F) (r : Result C E') → made d c → FoldsTo {P = C × F} (went_on_with call) (c, f) ys q → FoldExit call converts_by q.0 q.1 last r → AnswersRefusal from last ⊎ DrawnMade of l ys last → IsToldOrRefused made from' (folded_by_values d l) r
     fold_made_of_exit l ys (Ok None) d c q r m went exit (inl w) = absurd (let e = w.1 in cc)
     fold_made_of_exit l ys (Ok (Some y)) d c q r m went exit (inl w) = absurd (let e = w.1 in cc)
-    fold_made_of_exit l ys (Err e) d c q r m went (e', by, is) (inl w) = rw is (refused_result made from' (folded_by_values d l) e' (refusals e e' (subst (IsRefusal from) (let k = w.1 in cc) w.2) by))
-    fold_made_of_exit l ys (Ok None) d c q r m went exit (inr k) = let w = all_went k.values ys d c q k.each m went in
+    fold_made_of_exit l ys (Err e) d c q r m went (e', by, is) (inl w) = rw is (told_or_refused_of_refusal made from' (folded_by_values d l) e' (refusals e e' (subst (IsRefusal from) (let k = w.1 in cc) w.2) by))
+    fold_made_of_exit l ys (Ok None) d c q r m went exit (inr k) = let w = fold_went_made_of_each_made k.values ys d c q k.each m went in
         rw (exit, ap (folded_by_values d) k.list_is ∙ w.goes_on k.rest ∙ ap (folded_by_values w.value) k.rest_is ∙ fold_nil w.value) w.is_made
-    fold_made_of_exit l ys (Err e) d c q r m went (e', by, is) (inr k) = let w = all_went k.values ys d c q k.each m went in
-        rw is (failed_result made from' (folded_by_values d l) e' (ap (folded_by_values d) k.list_is ∙ w.goes_on k.rest ∙ ap (folded_by_values w.value) k.rest_is.1 ∙ fold_failed w.value e k.rest_is.0 ∙ ap (λ z. Err z) (sym (converts e e' by))))
-    fold_made_of_exit l ys (Ok (Some y)) d c q r m went (g, e', called, is) (inr k) = let w = all_went k.values ys d c q k.each m went in
-        rw is (refused_result made from' (folded_by_values d l) e' (makes w.value q.0 k.rest_is.0 y (Err e') g w.is_made k.rest_is.1 (subst (λ (j : F). call j q.0 y (Err e') g) w.stays called)).1)
+    fold_made_of_exit l ys (Err e) d c q r m went (e', by, is) (inr k) = let w = fold_went_made_of_each_made k.values ys d c q k.each m went in
+        rw is (told_or_refused_of_failure made from' (folded_by_values d l) e' (ap (folded_by_values d) k.list_is ∙ w.goes_on k.rest ∙ ap (folded_by_values w.value) k.rest_is.1 ∙ fold_failed w.value e k.rest_is.0 ∙ ap (λ z. Err z) (sym (converts e e' by))))
+    fold_made_of_exit l ys (Ok (Some y)) d c q r m went (g, e', called, is) (inr k) = let w = fold_went_made_of_each_made k.values ys d c q k.each m went in
+        rw is (told_or_refused_of_refusal made from' (folded_by_values d l) e' (makes w.value q.0 k.rest_is.0 y (Err e') g w.is_made k.rest_is.1 (subst (λ (j : F). call j q.0 y (Err e') g) w.stays called)).1)
 
 -- What `try_fold` returns over what lists made values: a value made of the one that the list is folded to, its first failure, or an allocation failure. The failure made of an `AllocError` is one of the closure's error too.
 pub folded_made : {S X B D C E E' F : Type 0} {steps : S → Answered B E → S → Type 0} {g : Mut F (C × (B × Unit {0})) (Result C E')} {of : X → B → Type 0} {made : D → C → Type 0} {from : AllocError → E → Type 0} {from' : AllocError → E' → Type 0} {converts_by : E → E' → Type 0} {convert : E → E'} {s t : S} {f : F} {c : C} {l : List (Result X E)} {r : Result C E'} (h : D → X → D) (d : D) → FoldDrains steps (call_with g) converts_by s c f r t → made d c → MakesWith of made from' (call_with g) f h → Converts converts_by convert → ((e : E) (e' : E') → IsRefusal from e → converts_by e e' → IsRefusal from' e') → ListsMade of steps from s l → IsToldOrRefused made from' (folded convert (λ a x. Ok (h a x)) d l) r

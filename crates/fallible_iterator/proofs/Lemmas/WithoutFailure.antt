@@ -38,16 +38,16 @@ module _ {S A E : Type 0} (steps others : S → Answered A E → S → Type 0) (
 
 -- ---- `take`
 
-take_step_where_ok : {S A E : Type 0} (steps : S → Answered A E → S → Type 0) (p : S × ℕ) (r : Answered A E) (q : S × ℕ) → take_step steps p r q → IsOk r → take_step (ok_steps steps) p r q
-take_step_where_ok steps (s, zero) r (t, k) w ok = w
-take_step_where_ok steps (s, suc n) r (t, k) w ok = ((w.0, ok), w.1)
+take_step_of_ok_steps_where_ok : {S A E : Type 0} (steps : S → Answered A E → S → Type 0) (p : S × ℕ) (r : Answered A E) (q : S × ℕ) → take_step steps p r q → IsOk r → take_step (ok_steps steps) p r q
+take_step_of_ok_steps_where_ok steps (s, zero) r (t, k) w ok = w
+take_step_of_ok_steps_where_ok steps (s, suc n) r (t, k) w ok = ((w.0, ok), w.1)
 
 pub lists_where_ok_taken : {S A E : Type 0} {steps : S → Answered A E → S → Type 0} {s : Take S} {it : S} {n : ℕ} {l : List (Result A E)} → take_parts s ≡ (it, n) → ListsWhereOk steps it l → ListsWhereOk (λ (u : Take S) (r : Answered A E) (v : Take S). take_step steps (take_parts u) r (take_parts v)) s (taken n l)
 lists_where_ok_taken {S} {A} {E} {steps} {s} {it} {n} {l} parts i =
     let at : it ≡ s.it = sym (ap (λ (p : S × ℕ). p.0) parts) in
     let to_take : s.to_take ≡ n = ap (λ (p : S × ℕ). p.1) parts in
     let m : Contract S A E = unbounded_contract (ok_steps steps) in
-    lists_fewer _ _ (λ u r v w. take_step_where_ok steps (take_parts u) r (take_parts v) w.0 w.1) (taken n l) s (lists_taken m s n l (ap (λ (k : ℕ). (s.it, k)) to_take) (subst (λ (u : S). Lists (ok_steps steps) u l) at i))
+    lists_fewer _ _ (λ u r v w. take_step_of_ok_steps_where_ok steps (take_parts u) r (take_parts v) w.0 w.1) (taken n l) s (lists_taken m s n l (ap (λ (k : ℕ). (s.it, k)) to_take) (subst (λ (u : S). Lists (ok_steps steps) u l) at i))
 
 -- ---- `filter`
 
@@ -61,16 +61,16 @@ module _ {S X E : Type 0} (steps : S → Answered X E → S → Type 0) where
   all_ok_rest None rest h = h
   all_ok_rest (Some r) rest h = h.1
 
-  run_source_ok : {R : Type 0} (outcome : X → R → Outcome X E) (places : List (Place X R E)) (s t : S) → AllOk (filter_map (answer_at outcome) places) → Run steps s (map source_answer places) t → Run (ok_steps steps) s (map source_answer places) t
-  run_source_ok outcome [] s t h ran = ran
-  run_source_ok outcome (asked x v ∷ places) s t h ran = (ran.0, (ran.1, refl), run_source_ok outcome places ran.0 t (all_ok_rest (outcome_answer (outcome x v)) (filter_map (answer_at outcome) places) h) ran.2)
-  run_source_ok outcome (failure_at e ∷ places) s t h ran = absurd (let failed = h.0 in cc)
-  run_source_ok outcome (end_at ∷ places) s t h ran = (ran.0, (ran.1, refl), run_source_ok outcome places ran.0 t h.1 ran.2)
+  run_of_ok_steps_where_all_ok : {R : Type 0} (outcome : X → R → Outcome X E) (places : List (Place X R E)) (s t : S) → AllOk (filter_map (answer_at outcome) places) → Run steps s (map source_answer places) t → Run (ok_steps steps) s (map source_answer places) t
+  run_of_ok_steps_where_all_ok outcome [] s t h ran = ran
+  run_of_ok_steps_where_all_ok outcome (asked x v ∷ places) s t h ran = (ran.0, (ran.1, refl), run_of_ok_steps_where_all_ok outcome places ran.0 t (all_ok_rest (outcome_answer (outcome x v)) (filter_map (answer_at outcome) places) h) ran.2)
+  run_of_ok_steps_where_all_ok outcome (failure_at e ∷ places) s t h ran = absurd (let failed = h.0 in cc)
+  run_of_ok_steps_where_all_ok outcome (end_at ∷ places) s t h ran = (ran.0, (ran.1, refl), run_of_ok_steps_where_all_ok outcome places ran.0 t h.1 ran.2)
 
-  pass_trace_filter_ok : {F R : Type 0} (call : F → X → R → F → Type 0) (outcome : X → R → Outcome X E) (p : S × F) (r : Answered X E) (q : S × F) → PassTrace steps call outcome p (r ∷ []) q → IsOk r → PassTrace (ok_steps steps) call outcome p (r ∷ []) q
-  pass_trace_filter_ok call outcome p r q d ok = record {
+  pass_trace_of_ok_steps_where_answer_ok : {F R : Type 0} (call : F → X → R → F → Type 0) (outcome : X → R → Outcome X E) (p : S × F) (r : Answered X E) (q : S × F) → PassTrace steps call outcome p (r ∷ []) q → IsOk r → PassTrace (ok_steps steps) call outcome p (r ∷ []) q
+  pass_trace_of_ok_steps_where_answer_ok call outcome p r q d ok = record {
     places = d.places;
-    drawn = run_source_ok outcome d.places p.0 q.0 (subst AllOk d.answers (ok, tt)) d.drawn;
+    drawn = run_of_ok_steps_where_all_ok outcome d.places p.0 q.0 (subst AllOk d.answers (ok, tt)) d.drawn;
     called = d.called;
     answers = d.answers;
     last_kept = d.last_kept;
@@ -82,7 +82,7 @@ module _ {S F X E : Type 0} {steps : S → Answered X E → S → Type 0} {g : M
       let at : it ≡ s.it = sym (ap (λ (p : S × F). p.0) parts) in
       let same : s.f ≡ f = ap (λ (p : S × F). p.1) parts in
       let m : Contract S X E = unbounded_contract (ok_steps steps) in
-      lists_fewer _ _ (λ u r v w. pass_trace_filter_ok steps (call_by_reference g) tested_outcome (filter_parts u) r (filter_parts v) w.0 w.1) (filtered h l) s (lists_filtered m g s f h l (ap (λ (o : F). (s.it, o)) same) acts (subst (λ (u : S). Lists (ok_steps steps) u l) at i))
+      lists_fewer _ _ (λ u r v w. pass_trace_of_ok_steps_where_answer_ok steps (call_by_reference g) tested_outcome (filter_parts u) r (filter_parts v) w.0 w.1) (filtered h l) s (lists_filtered m g s f h l (ap (λ (o : F). (s.it, o)) same) acts (subst (λ (u : S). Lists (ok_steps steps) u l) at i))
 
 -- ---- `count`
 
@@ -91,11 +91,11 @@ module _ {S A E : Type 0} (steps : S → Answered A E → S → Type 0) where
   run_ok [] s t ran = (ran.0, (ran.1, refl), ran.2)
   run_ok (x ∷ items) s t ran = (ran.0, (ran.1, refl), run_ok items ran.0 t ran.2)
 
-  count_drains_ok : (s t : S) (items : List A) (last : Answered A E) (n : ℕ) → Run steps s (map item items ++ last ∷ []) t → CountExit (length items) last (Ok n) → CountDrains (ok_steps steps) s (Ok n) t
-  count_drains_ok s t items (Ok None) n ran exit = record { items = items; last = Ok None; ran = run_ok items s t ran; at = record { exit = exit } }
-  count_drains_ok s t items (Ok (Some x)) n ran exit = absurd exit
-  count_drains_ok s t items (Err e) n ran exit = absurd cc
+  count_drains_of_ok_steps_where_ok : (s t : S) (items : List A) (last : Answered A E) (n : ℕ) → Run steps s (map item items ++ last ∷ []) t → CountExit (length items) last (Ok n) → CountDrains (ok_steps steps) s (Ok n) t
+  count_drains_of_ok_steps_where_ok s t items (Ok None) n ran exit = record { items = items; last = Ok None; ran = run_ok items s t ran; at = record { exit = exit } }
+  count_drains_of_ok_steps_where_ok s t items (Ok (Some x)) n ran exit = absurd exit
+  count_drains_of_ok_steps_where_ok s t items (Err e) n ran exit = absurd cc
 
 pub counted_where_ok : {S A E : Type 0} {steps : S → Answered A E → S → Type 0} {s t : S} {l : List (Result A E)} (r : Result ℕ E) → CountDrains steps s r t → ListsWhereOk steps s l → IsOk r → r ≡ counted l
-counted_where_ok {steps = steps} {s = s} {t = t} {l = l} (Ok n) c i ok = counted_of_lists l (count_drains_ok steps s t c.items c.last n c.ran c.at.exit) i
+counted_where_ok {steps = steps} {s = s} {t = t} {l = l} (Ok n) c i ok = counted_of_lists l (count_drains_of_ok_steps_where_ok steps s t c.items c.last n c.ran c.at.exit) i
 counted_where_ok (Err e) c i ok = absurd cc

@@ -13,22 +13,22 @@ use Rattle.fallible_iterator.specs.ShowingEnds.{listing_ends}
 
 module _ {S A E : Type 0} (shows : S → List (Result A E)) where
   -- from the back as many are shown as from the front
-  no_more_from_back : (s t : S) → NoMore (listing (λ u. reverse (shows u))) s t → NoMore (listing shows) s t
-  no_more_from_back s t less n b = let d = less n (let e = length-reverse (shows s) in omega (arith, e, b)) in let e = length-reverse (shows t) in (d.0, (let k = d.1 in omega (arith, e, k)), d.2)
+  no_more_where_no_more_reversed : (s t : S) → NoMore (listing (λ u. reverse (shows u))) s t → NoMore (listing shows) s t
+  no_more_where_no_more_reversed s t less n b = let d = less n (let e = length-reverse (shows s) in omega (arith, e, b)) in let e = length-reverse (shows t) in (d.0, (let k = d.1 in omega (arith, e, k)), d.2)
 
-  fewer_from_back : (s t : S) → Fewer (listing (λ u. reverse (shows u))) s t → Fewer (listing shows) s t
-  fewer_from_back s t less n b = let d = less n (let e = length-reverse (shows s) in omega (arith, e, b)) in let e = length-reverse (shows t) in (d.0, (let k = d.1 in omega (arith, e, k)), d.2)
+  fewer_where_fewer_reversed : (s t : S) → Fewer (listing (λ u. reverse (shows u))) s t → Fewer (listing shows) s t
+  fewer_where_fewer_reversed s t less n b = let d = less n (let e = length-reverse (shows s) in omega (arith, e, b)) in let e = length-reverse (shows t) in (d.0, (let k = d.1 in omega (arith, e, k)), d.2)
 
-  less_remains_from_back : (s t : S) → length (reverse (shows t)) < length (reverse (shows s)) → IsFinite ((listing shows).remaining s) → IsFinite ((listing shows).remaining t) × (size ((listing shows).remaining t) < size ((listing shows).remaining s))
-  less_remains_from_back s t less f = (tt, (let d = length-reverse (shows s) in let e = length-reverse (shows t) in omega (arith, d, e, less)))
+  less_remains_where_reversed_shorter : (s t : S) → length (reverse (shows t)) < length (reverse (shows s)) → IsFinite ((listing shows).remaining s) → IsFinite ((listing shows).remaining t) × (size ((listing shows).remaining t) < size ((listing shows).remaining s))
+  less_remains_where_reversed_shorter s t less f = (tt, (let d = length-reverse (shows s) in let e = length-reverse (shows t) in omega (arith, d, e, less)))
 
-  no_more_remains_from_back : (s t : S) → length (reverse (shows t)) ≤ length (reverse (shows s)) → NoMoreRemains (listing shows) s t
-  no_more_remains_from_back s t less f = (tt, (let d = length-reverse (shows s) in let e = length-reverse (shows t) in omega (arith, d, e, less)))
+  no_more_remains_where_reversed_no_longer : (s t : S) → length (reverse (shows t)) ≤ length (reverse (shows s)) → NoMoreRemains (listing shows) s t
+  no_more_remains_where_reversed_no_longer s t less f = (tt, (let d = length-reverse (shows s) in let e = length-reverse (shows t) in omega (arith, d, e, less)))
 
   on_answer_back : (s t : S) (r : Answered A E) → OnAnswer (listing (λ u. reverse (shows u))) s r t → OnAnswer (from_back (listing shows) (listing_ends shows)) s r t
-  on_answer_back s t (Ok (Some x)) a = (tt, fewer_from_back s t a.1, less_remains_from_back s t (a.2 tt).1)
-  on_answer_back s t (Ok None) a = (no_more_from_back s t a.0, no_more_remains_from_back s t (a.1 tt).1)
-  on_answer_back s t (Err e) a = (tt, no_more_from_back s t a.1, less_remains_from_back s t (a.2 tt).1)
+  on_answer_back s t (Ok (Some x)) a = (tt, fewer_where_fewer_reversed s t a.1, less_remains_where_reversed_shorter s t (a.2 tt).1)
+  on_answer_back s t (Ok None) a = (no_more_where_no_more_reversed s t a.0, no_more_remains_where_reversed_no_longer s t (a.1 tt).1)
+  on_answer_back s t (Err e) a = (tt, no_more_where_no_more_reversed s t a.1, less_remains_where_reversed_shorter s t (a.2 tt).1)
 
   pub lawful_ends_listing : LawfulEnds (listing shows) (listing_ends shows)
   lawful_ends_listing = record {

@@ -8,7 +8,7 @@ ghost use Rattle.fallible_contract.specs.Lists.{result_answer};
 ghost use Rattle.fallible_iterator.specs.Sources.IntoFallible.{never};
 ghost use Rattle.fallible_iterator.specs.Sources.Std.{std_element, std_step};
 ghost use Rattle.fallible_iterator.specs.Sources.StdFold.{progressing, ElementTurn, lent};
-ghost use Rattle.fallible_iterator.specs.Laws.Sources.Std.{element_by_reads_item, element_by_reads_result};
+ghost use Rattle.fallible_iterator.specs.Laws.Sources.Std.{std_element_of_item_answer_is_some, std_element_of_result_answer_is_some};
 
 use fallible_contract::folds::Turn;
 use std::convert::Infallible;
@@ -47,7 +47,7 @@ impl<A, E> Element<Result<A, E>, A, E> for AsResult {
         element
     }
 
-    ghost reads = { element_by_reads_result };
+    ghost reads = { std_element_of_result_answer_is_some };
 }
 
 // Each element is an item.
@@ -66,7 +66,7 @@ impl<A> Element<A, A, Infallible> for AsItem {
         Ok(element)
     }
 
-    ghost reads = { element_by_reads_item };
+    ghost reads = { std_element_of_item_answer_is_some };
 }
 
 // A std iterator that a reference points to, each of whose calls is known besides to have made progress.

@@ -18,56 +18,56 @@ module _ {A E : Type 0} (P : A → A → Type 0) where
   EachNext (Ok x ∷ l) = HoldsOfNext x l × EachNext l
   EachNext (Err e ∷ l) = EachNext l
 
-  of_next : (x y : A) (l after : List (Result A E)) → l ≡ Ok y ∷ after → HoldsOfNext x l → P x y
-  of_next x y [] after e h = absurd cc
-  of_next x y (Ok z ∷ l) after e h = let same : y ≡ z = cc in rw same h
-  of_next x y (Err d ∷ l) after e h = absurd cc
+  property_holds_of_item_and_next : (x y : A) (l after : List (Result A E)) → l ≡ Ok y ∷ after → HoldsOfNext x l → P x y
+  property_holds_of_item_and_next x y [] after e h = absurd cc
+  property_holds_of_item_and_next x y (Ok z ∷ l) after e h = let same : y ≡ z = cc in rw same h
+  property_holds_of_item_and_next x y (Err d ∷ l) after e h = absurd cc
 
   pub adjacent_items_of_each_next : (l : List (Result A E)) → EachNext l → AdjacentItems P l
   adjacent_items_of_each_next [] h [] x y after e = absurd cc
   adjacent_items_of_each_next [] h (z ∷ before) x y after e = absurd cc
-  adjacent_items_of_each_next (Ok w ∷ l) h [] x y after e = let same : x ≡ w = cc in let rest : l ≡ Ok y ∷ after = cc in rw same (of_next w y l after rest h.0)
+  adjacent_items_of_each_next (Ok w ∷ l) h [] x y after e = let same : x ≡ w = cc in let rest : l ≡ Ok y ∷ after = cc in rw same (property_holds_of_item_and_next w y l after rest h.0)
   adjacent_items_of_each_next (Ok w ∷ l) h (z ∷ before) x y after e = adjacent_items_of_each_next l h.1 before x y after cc
   adjacent_items_of_each_next (Err d ∷ l) h [] x y after e = absurd cc
   adjacent_items_of_each_next (Err d ∷ l) h (z ∷ before) x y after e = adjacent_items_of_each_next l h before x y after cc
 
-  rest_adjacent : (r : Result A E) (l : List (Result A E)) → AdjacentItems P (r ∷ l) → AdjacentItems P l
-  rest_adjacent r l h before x y after e = h (r ∷ before) x y after (ap {B = List (Result A E)} (λ k. r ∷ k) e)
+  adjacent_items_of_rest : (r : Result A E) (l : List (Result A E)) → AdjacentItems P (r ∷ l) → AdjacentItems P l
+  adjacent_items_of_rest r l h before x y after e = h (r ∷ before) x y after (ap {B = List (Result A E)} (λ k. r ∷ k) e)
 
-  next_adjacent : (x : A) (l : List (Result A E)) → AdjacentItems P (Ok x ∷ l) → HoldsOfNext x l
-  next_adjacent x [] h = tt
-  next_adjacent x (Ok y ∷ l) h = h [] x y l refl
-  next_adjacent x (Err e ∷ l) h = tt
+  holds_of_next_of_adjacent_items : (x : A) (l : List (Result A E)) → AdjacentItems P (Ok x ∷ l) → HoldsOfNext x l
+  holds_of_next_of_adjacent_items x [] h = tt
+  holds_of_next_of_adjacent_items x (Ok y ∷ l) h = h [] x y l refl
+  holds_of_next_of_adjacent_items x (Err e ∷ l) h = tt
 
-  pub next_of_adjacent : (l : List (Result A E)) → AdjacentItems P l → EachNext l
-  next_of_adjacent [] h = tt
-  next_of_adjacent (Ok x ∷ l) h = (next_adjacent x l h, next_of_adjacent l (rest_adjacent (Ok x) l h))
-  next_of_adjacent (Err e ∷ l) h = next_of_adjacent l (rest_adjacent (Err e) l h)
+  pub each_next_of_adjacent_items : (l : List (Result A E)) → AdjacentItems P l → EachNext l
+  each_next_of_adjacent_items [] h = tt
+  each_next_of_adjacent_items (Ok x ∷ l) h = (holds_of_next_of_adjacent_items x l h, each_next_of_adjacent_items l (adjacent_items_of_rest (Ok x) l h))
+  each_next_of_adjacent_items (Err e ∷ l) h = each_next_of_adjacent_items l (adjacent_items_of_rest (Err e) l h)
 
   -- ---- of items alone
 
-  items_joined : (xs : List A) (ys : List A) → items {E = E} (xs ++ ys) ≡ items xs ++ items ys
+  items_of_joined_is_joined_of_items : (xs : List A) (ys : List A) → items {E = E} (xs ++ ys) ≡ items xs ++ items ys
   unfolding items
-  items_joined [] ys = refl
-  items_joined (x ∷ xs) ys = ap {B = List (Result A E)} (λ k. Ok x ∷ k) (items_joined xs ys)
+  items_of_joined_is_joined_of_items [] ys = refl
+  items_of_joined_is_joined_of_items (x ∷ xs) ys = ap {B = List (Result A E)} (λ k. Ok x ∷ k) (items_of_joined_is_joined_of_items xs ys)
 
   pub adjacent_of_items : (xs : List A) → AdjacentItems P (items {E = E} xs) → Adjacent P xs
   unfolding items
-  adjacent_of_items xs h before x y after e = h (items before) x y (items after) (ap (λ k. items {E = E} k) e ∙ items_joined before (x ∷ y ∷ after))
+  adjacent_of_items xs h before x y after e = h (items before) x y (items after) (ap (λ k. items {E = E} k) e ∙ items_of_joined_is_joined_of_items before (x ∷ y ∷ after))
 
-  before_is : (x : A) (r : Result (List A) E) (l : List (Result A E)) (xs : List A) → ((ys : List A) → r ≡ Ok ys → l ≡ items ys) → before x r ≡ Ok xs → Ok x ∷ l ≡ items xs
+  cons_is_items_where_before_is_ok : (x : A) (r : Result (List A) E) (l : List (Result A E)) (xs : List A) → ((ys : List A) → r ≡ Ok ys → l ≡ items ys) → before x r ≡ Ok xs → Ok x ∷ l ≡ items xs
   unfolding items
-  before_is x (Ok ys) l xs h e = let same : xs ≡ x ∷ ys = cc in rw same (ap {B = List (Result A E)} (λ k. Ok x ∷ k) (h ys refl))
-  before_is x (Err d) l xs h e = absurd cc
+  cons_is_items_where_before_is_ok x (Ok ys) l xs h e = let same : xs ≡ x ∷ ys = cc in rw same (ap {B = List (Result A E)} (λ k. Ok x ∷ k) (h ys refl))
+  cons_is_items_where_before_is_ok x (Err d) l xs h e = absurd cc
 
-  pub items_collected : (l : List (Result A E)) (xs : List A) → collected l ≡ Ok xs → l ≡ items xs
+  pub list_is_items_of_collected : (l : List (Result A E)) (xs : List A) → collected l ≡ Ok xs → l ≡ items xs
   unfolding collected items
-  items_collected [] xs e = let same : xs ≡ [] = cc in rw same refl
-  items_collected (Ok x ∷ l) xs e = before_is x (collected l) l xs (λ ys is. items_collected l ys is) e
-  items_collected (Err d ∷ l) xs e = absurd cc
+  list_is_items_of_collected [] xs e = let same : xs ≡ [] = cc in rw same refl
+  list_is_items_of_collected (Ok x ∷ l) xs e = cons_is_items_where_before_is_ok x (collected l) l xs (λ ys is. list_is_items_of_collected l ys is) e
+  list_is_items_of_collected (Err d ∷ l) xs e = absurd cc
 
   pub adjacent_collected : (l : List (Result A E)) (xs : List A) → collected l ≡ Ok xs → AdjacentItems P l → Adjacent P xs
-  adjacent_collected l xs e h = adjacent_of_items xs (subst (λ (k : List (Result A E)). AdjacentItems P k) (items_collected l xs e) h)
+  adjacent_collected l xs e h = adjacent_of_items xs (subst (λ (k : List (Result A E)). AdjacentItems P k) (list_is_items_of_collected l xs e) h)
 
 -- Of a collection of what is listed, as a `Vec`.
 pub adjacent_of_collected : {A C E : Type 0} (P : A → A → Type 0) (elements : C → List A) (l : List (Result A E)) (r : Result C (Fault E)) → CollectedAs (λ xs c. elements c ≡ xs) l r → AdjacentItems P l → IfOk r (λ c. Adjacent P (elements c))

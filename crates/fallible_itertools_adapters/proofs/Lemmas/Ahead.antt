@@ -2,7 +2,7 @@
 use Rattle.std.specs.Prelude.{◌≡◌, ℕ, ◌≤◌, ◌++◌, map, length, Option, Some, None, Ok, Err, Result, List, [], ◌∷◌}
 use Rattle.std.proofs.Common.{arith, refl, sym, ap, subst, ◌∙◌}
 use Rattle.fallible_iterator.specs.Traces.{Answered, Run, end, item, items_in}
-use Rattle.fallible_iterator.specs.Laws.Own.{lowers_bound, remaining_is_finite_of_run}
+use Rattle.fallible_iterator.specs.Laws.Own.{bound_lowered_by_items_of_run, remaining_is_finite_of_run}
 use Rattle.fallible_iterator.specs.Own.{items_and_failures_in}
 use Rattle.fallible_iterator.specs.Searching.{SearchDrains, SearchExit}
 use Rattle.fallible_iterator.specs.Contract.{Contract, Fewer, Lawful, NoMore, NoMoreRemains}
@@ -12,26 +12,26 @@ use Rattle.fallible_itertools_adapters.specs.Ahead.{FewerRemain, Lowers, making}
 -- ---- what an answer lowers
 
 module _ {A E : Type 0} where
-  some_items : (before : List (Answered A E)) (x : A) → 1 ≤ items_in (before ++ Ok (Some x) ∷ [])
-  some_items [] x = omega arith
-  some_items (Ok (Some y) ∷ before) x = omega arith
-  some_items (Ok None ∷ before) x = some_items before x
-  some_items (Err e ∷ before) x = some_items before x
+  items_in_at_least_one_by_last_item : (before : List (Answered A E)) (x : A) → 1 ≤ items_in (before ++ Ok (Some x) ∷ [])
+  items_in_at_least_one_by_last_item [] x = omega arith
+  items_in_at_least_one_by_last_item (Ok (Some y) ∷ before) x = omega arith
+  items_in_at_least_one_by_last_item (Ok None ∷ before) x = items_in_at_least_one_by_last_item before x
+  items_in_at_least_one_by_last_item (Err e ∷ before) x = items_in_at_least_one_by_last_item before x
 
-  some_answers : (before : List (Answered A E)) (last : Answered A E) → (last ≡ end → ⊥) → 1 ≤ items_and_failures_in (before ++ last ∷ [])
-  some_answers [] (Ok (Some x)) goes = omega arith
-  some_answers [] (Ok None) goes = absurd (goes refl)
-  some_answers [] (Err e) goes = omega arith
-  some_answers (Ok (Some y) ∷ before) last goes = omega arith
-  some_answers (Ok None ∷ before) last goes = some_answers before last goes
-  some_answers (Err e ∷ before) last goes = omega arith
+  items_and_failures_at_least_one_by_last : (before : List (Answered A E)) (last : Answered A E) → (last ≡ end → ⊥) → 1 ≤ items_and_failures_in (before ++ last ∷ [])
+  items_and_failures_at_least_one_by_last [] (Ok (Some x)) goes = omega arith
+  items_and_failures_at_least_one_by_last [] (Ok None) goes = absurd (goes refl)
+  items_and_failures_at_least_one_by_last [] (Err e) goes = omega arith
+  items_and_failures_at_least_one_by_last (Ok (Some y) ∷ before) last goes = omega arith
+  items_and_failures_at_least_one_by_last (Ok None ∷ before) last goes = items_and_failures_at_least_one_by_last before last goes
+  items_and_failures_at_least_one_by_last (Err e ∷ before) last goes = omega arith
 
 module _ {P A E : Type 0} {m : Contract P A E} (l : Lawful m) (s t : P) (c : m.can_next s) (before : List (Answered A E)) where
   fewer_of_run : (x : A) → Run m.steps s (before ++ Ok (Some x) ∷ []) t → Fewer m s t
-  fewer_of_run x ran n b = let k = lowers_bound m l s (before ++ Ok (Some x) ∷ []) t c ran n b in (k.0, k.1, omega (arith, k.2, some_items before x))
+  fewer_of_run x ran n b = let k = bound_lowered_by_items_of_run m l s (before ++ Ok (Some x) ∷ []) t c ran n b in (k.0, k.1, omega (arith, k.2, items_in_at_least_one_by_last_item before x))
 
   fewer_remain_of_run : (last : Answered A E) → (last ≡ end → ⊥) → Run m.steps s (before ++ last ∷ []) t → FewerRemain m s t
-  fewer_remain_of_run last goes ran f = let k = remaining_is_finite_of_run m l s (before ++ last ∷ []) t c ran f in (k.0, omega (arith, k.1, some_answers before last goes))
+  fewer_remain_of_run last goes ran f = let k = remaining_is_finite_of_run m l s (before ++ last ∷ []) t c ran f in (k.0, omega (arith, k.1, items_and_failures_at_least_one_by_last before last goes))
 
   lowers_at_item : (x : A) (r : Answered A E) → Run m.steps s (before ++ Ok (Some x) ∷ []) t → Lowers m s r t
   lowers_at_item x (Ok (Some y)) ran = (fewer_of_run x ran, fewer_remain_of_run (Ok (Some x)) (λ e. cc) ran)
@@ -70,9 +70,9 @@ module _ {B F : Type 0} where
   pub first_made : {r : Answered B F} (y : Result B F) (out rest : List (Result B F)) → out ≡ y ∷ rest → r ≡ result_answer y → r ≡ nth_of 0 out
   first_made y out rest is same = same ∙ sym (nth_of_0 y rest) ∙ ap (nth_of 0) (sym is)
 
-  never_end : (y : Result B F) → result_answer y ≡ end → ⊥
-  never_end (Ok x) is = cc
-  never_end (Err e) is = cc
+  answer_of_result_is_never_end : (y : Result B F) → result_answer y ≡ end → ⊥
+  answer_of_result_is_never_end (Ok x) is = cc
+  answer_of_result_is_never_end (Err e) is = cc
 
 -- What is left of a list has the other answers.
 abbrev pub LeavesOthers : {A E B F : Type 0} → (List (Result A E) → List (Result B F)) → (List (Result A E) → List (Result A E)) → Type 0
@@ -84,7 +84,7 @@ module _ {S P A E B F : Type 0} (view : S → P) (answers : List (Result A E) �
   always_gives_made [] s l is i = λ r t g. g.first l i ∙ ap (nth_of 0) is
   always_gives_made (y ∷ out) s l is i = λ r t g.
       let same : r ≡ result_answer y = g.first l i ∙ ap (nth_of 0) is ∙ nth_of_0 y out in
-      (same, always_gives_made out t (left l) (others l ∙ ap rest_first is) (g.rest l i (λ ends. never_end y (sym same ∙ ends))))
+      (same, always_gives_made out t (left l) (others l ∙ ap rest_first is) (g.rest l i (λ ends. answer_of_result_is_never_end y (sym same ∙ ends))))
 
   -- it lists what is made of the source's list
   pub lists_made : {s : S} {l : List (Result A E)} → Lists m.steps (view s) l → Lists (making view answers left m).steps s (answers l)

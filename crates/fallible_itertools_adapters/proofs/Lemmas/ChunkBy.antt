@@ -11,7 +11,7 @@ use Rattle.fallible_itertools_adapters.specs.ChunkBy.{Group, MadeGroup, by_its_k
 use Rattle.fallible_itertools_adapters.specs.Holding.{held_one}
 use Rattle.fallible_iterator.proofs.Lemmas.Making.{lists_made_seen}
 use Rattle.fallible_itertools_adapters.proofs.Lemmas.HoldingHints.{GivesHeld}
-use Rattle.fallible_itertools_adapters.proofs.Lemmas.HoldingLists.{AnswersHeld, IsRefused, NoFailureAndIfKept, OutcomeMade, by_outcome, gives_held_made, held_list, listed_parts}
+use Rattle.fallible_itertools_adapters.proofs.Lemmas.HoldingLists.{AnswersHeld, IsRefused, NoFailureAndIfKept, OutcomeMade, by_outcome, gives_made_of_held_list, held_list, splits_at_failure_where_is_held_list}
 use Rattle.std.specs.declared.alloc.AllocError.{AllocError}
 use Rattle.fallible_iterator.specs.Outcome.{Outcome}
 use Rattle.fallible_iterator.specs.Outcome.TheVariants.{Kept, LeftOut, Failure, End}
@@ -106,30 +106,30 @@ module _ {A K E : Type 0} (from : AllocError → E → Type 0) (eq : K → K →
     refuses_on_item p a x o q at (v, called, w) = let k = acts x v q.0 (subst (λ (z : F). call_by_reference c z x v q.0) at.0 called) in
         elim (group_by_refused_or_made p.1 a x (h x) o q.1 at.1 (subst (λ (z : Result K E). group_by from eq p.1 x z o q.1) k.1 w)) [ inl e ↦ inl e | inr d ↦ inr ((k.0, d.0), d.1) ]
 
-    held_yielded_at_stop : (g : Option (Group K A)) (a : Option (K × List A)) (o : Outcome (Group K A) E) (q : Option (Group K A)) → HeldAs g a → group_at_stop g o q → HeldAs q None × OutcomeMade MadeGroup (group_outcome eq h a None) o
-    held_yielded_at_stop None None o q same (is, at) = (subst (λ z. HeldAs z None) (sym at) tt, subst (λ (z : Outcome (Group K A) E). OutcomeMade {Y = K × List A} MadeGroup End z) (sym is) tt)
-    held_yielded_at_stop None (Some k) o q same w = absurd same
-    held_yielded_at_stop (Some g) None o q same w = absurd same
-    held_yielded_at_stop (Some g) (Some k) o q same (is, at) = (subst (λ z. HeldAs z None) (sym at) tt, subst (λ (z : Outcome (Group K A) E). OutcomeMade MadeGroup (Kept k) z) (sym is) same)
+    held_none_and_outcome_made_at_stop : (g : Option (Group K A)) (a : Option (K × List A)) (o : Outcome (Group K A) E) (q : Option (Group K A)) → HeldAs g a → group_at_stop g o q → HeldAs q None × OutcomeMade MadeGroup (group_outcome eq h a None) o
+    held_none_and_outcome_made_at_stop None None o q same (is, at) = (subst (λ z. HeldAs z None) (sym at) tt, subst (λ (z : Outcome (Group K A) E). OutcomeMade {Y = K × List A} MadeGroup End z) (sym is) tt)
+    held_none_and_outcome_made_at_stop None (Some k) o q same w = absurd same
+    held_none_and_outcome_made_at_stop (Some g) None o q same w = absurd same
+    held_none_and_outcome_made_at_stop (Some g) (Some k) o q same (is, at) = (subst (λ z. HeldAs z None) (sym at) tt, subst (λ (z : Outcome (Group K A) E). OutcomeMade MadeGroup (Kept k) z) (sym is) same)
 
     at_on_stop : (p : F × Option (Group K A)) (a : Option (K × List A)) (o : Outcome (Group K A) E) (q : F × Option (Group K A)) → HeldAndState p a → chunk_by_asks from eq c p None o q → HeldAndState q (next_group eq h a None) × OutcomeMade MadeGroup (group_outcome eq h a None) o
-    at_on_stop p a o q at w = let k = held_yielded_at_stop p.1 a o q.1 at.1 w.1 in ((w.0 ∙ at.0, k.0), k.1)
+    at_on_stop p a o q at w = let k = held_none_and_outcome_made_at_stop p.1 a o q.1 at.1 w.1 in ((w.0 ∙ at.0, k.0), k.1)
 
-group_made : {A K E : Type 0} (g : Option (Group K A)) (o : Outcome (Group K A) E) (q : Option (Group K A)) → group_at_stop g o q → NoFailureAndIfKept (λ y. (k : K × List A) × MadeGroup k y) o
-group_made (Some g) o q w = rw w.0 ((g.0, vec_items g.1), (refl, refl))
-group_made None o q w = rw w.0 tt
+no_failure_and_group_if_kept_at_stop : {A K E : Type 0} (g : Option (Group K A)) (o : Outcome (Group K A) E) (q : Option (Group K A)) → group_at_stop g o q → NoFailureAndIfKept (λ y. (k : K × List A) × MadeGroup k y) o
+no_failure_and_group_if_kept_at_stop (Some g) o q w = rw w.0 ((g.0, vec_items g.1), (refl, refl))
+no_failure_and_group_if_kept_at_stop None o q w = rw w.0 tt
 
 made_at_stop : {A K E F : Type 0} (from : AllocError → E → Type 0) (eq : K → K → Bool) (c : Mut F (Bor A × Unit {0}) (Result K E)) (p : F × Option (Group K A)) (o : Outcome (Group K A) E) (q : F × Option (Group K A)) → chunk_by_asks from eq c p None o q → NoFailureAndIfKept (λ y. (k : K × List A) × MadeGroup k y) o
-made_at_stop from eq c p o q w = group_made p.1 o q.1 w.1
+made_at_stop from eq c p o q w = no_failure_and_group_if_kept_at_stop p.1 o q.1 w.1
 
 module _ {A K E : Type 0} (eq : K → K → Bool) (h : A → Result K E) where
-  full_after_next : (g : K × List A) (x : A) (j : K) (b : Bool) → FullGroup (next_group_at g x j b)
-  full_after_next g x j true = tt
-  full_after_next g x j false = tt
+  full_group_of_next_group_at : (g : K × List A) (x : A) (j : K) (b : Bool) → FullGroup (next_group_at g x j b)
+  full_group_of_next_group_at g x j true = tt
+  full_group_of_next_group_at g x j false = tt
 
   full_left_out : (a : Option (K × List A)) (x : A) (v : Result K E) → group_outcome_by eq a v ≡ LeftOut → FullGroup (next_group_by eq a x v)
   full_left_out None x (Ok k) is = tt
-  full_left_out (Some g) x (Ok k) is = full_after_next g x k (eq g.0 k)
+  full_left_out (Some g) x (Ok k) is = full_group_of_next_group_at g x k (eq g.0 k)
   full_left_out None x (Err e) is = absurd cc
   full_left_out (Some g) x (Err e) is = absurd cc
 
@@ -164,20 +164,20 @@ module _ {A K E : Type 0} (eq : K → K → Bool) (h : A → Result K E) where
   abbrev groups_chunked_from : Option (K × List A) → List (Result A E) → List (Result (K × List A) E)
   groups_chunked_from a l = chunked_by_from eq h a l
 
-  by_outcome_begun : (x : A) (v : Result K E) (l : List (Result A E)) → ((a : Option (K × List A)) → held_groups_listed a l ≡ groups_chunked_from a l) → by_outcome (group_outcome eq h) (next_group eq h) (group_outcome_by eq None v) (next_group_by eq None x v) l ≡ by_its_key eq h None v (λ k. groups_chunked_from (Some (k, x ∷ [])) l) (groups_chunked_from None l)
-  by_outcome_begun x (Ok k) l later = later (Some (k, x ∷ []))
-  by_outcome_begun x (Err e) l later = ap (λ z. Err e ∷ z) (later None)
+  by_outcome_is_by_its_key_of_none : (x : A) (v : Result K E) (l : List (Result A E)) → ((a : Option (K × List A)) → held_groups_listed a l ≡ groups_chunked_from a l) → by_outcome (group_outcome eq h) (next_group eq h) (group_outcome_by eq None v) (next_group_by eq None x v) l ≡ by_its_key eq h None v (λ k. groups_chunked_from (Some (k, x ∷ [])) l) (groups_chunked_from None l)
+  by_outcome_is_by_its_key_of_none x (Ok k) l later = later (Some (k, x ∷ []))
+  by_outcome_is_by_its_key_of_none x (Err e) l later = ap (λ z. Err e ∷ z) (later None)
 
-  by_outcome_cons : (g : K × List A) (x : A) (v : Result K E) (l : List (Result A E)) → ((a : Option (K × List A)) → held_groups_listed a l ≡ groups_chunked_from a l) → by_outcome (group_outcome eq h) (next_group eq h) (group_outcome_by eq (Some g) v) (next_group_by eq (Some g) x v) l ≡ by_its_key eq h (Some g) v (λ j. group_or eq h g (eq g.0 j) (groups_chunked_from (Some (g.0, g.1 ++ x ∷ [])) l) (groups_chunked_from (Some (j, x ∷ [])) l)) (groups_chunked_from None l)
-  by_outcome_cons g x (Ok j) l later = by_outcome_is_group_or g x j (eq g.0 j) l _ _ (later (Some (g.0, g.1 ++ x ∷ []))) (later (Some (j, x ∷ [])))
-  by_outcome_cons g x (Err e) l later = ap (λ k. Ok g ∷ Err e ∷ k) (later None)
+  by_outcome_is_by_its_key_of_held : (g : K × List A) (x : A) (v : Result K E) (l : List (Result A E)) → ((a : Option (K × List A)) → held_groups_listed a l ≡ groups_chunked_from a l) → by_outcome (group_outcome eq h) (next_group eq h) (group_outcome_by eq (Some g) v) (next_group_by eq (Some g) x v) l ≡ by_its_key eq h (Some g) v (λ j. group_or eq h g (eq g.0 j) (groups_chunked_from (Some (g.0, g.1 ++ x ∷ [])) l) (groups_chunked_from (Some (j, x ∷ [])) l)) (groups_chunked_from None l)
+  by_outcome_is_by_its_key_of_held g x (Ok j) l later = by_outcome_is_group_or g x j (eq g.0 j) l _ _ (later (Some (g.0, g.1 ++ x ∷ []))) (later (Some (j, x ∷ [])))
+  by_outcome_is_by_its_key_of_held g x (Err e) l later = ap (λ k. Ok g ∷ Err e ∷ k) (later None)
 
   listed_is_chunked_from : (a : Option (K × List A)) (l : List (Result A E)) → held_groups_listed a l ≡ groups_chunked_from a l
   unfolding chunked_by_from
   listed_is_chunked_from None [] = refl
   listed_is_chunked_from (Some g) [] = refl
-  listed_is_chunked_from None (Ok x ∷ l) = by_outcome_begun x (h x) l (λ a. listed_is_chunked_from a l)
-  listed_is_chunked_from (Some g) (Ok x ∷ l) = by_outcome_cons g x (h x) l (λ a. listed_is_chunked_from a l)
+  listed_is_chunked_from None (Ok x ∷ l) = by_outcome_is_by_its_key_of_none x (h x) l (λ a. listed_is_chunked_from a l)
+  listed_is_chunked_from (Some g) (Ok x ∷ l) = by_outcome_is_by_its_key_of_held g x (h x) l (λ a. listed_is_chunked_from a l)
   listed_is_chunked_from None (Err e ∷ l) = ap (λ z. Err e ∷ z) (listed_is_chunked_from None l)
   listed_is_chunked_from (Some g) (Err e ∷ l) = ap (λ z. Ok g ∷ Err e ∷ z) (listed_is_chunked_from None l)
 
@@ -190,10 +190,10 @@ module _ {A K E : Type 0} (eq : K → K → Bool) (h : A → Result K E) where
 
   -- What stands before a failure is grouped by itself, and so is what comes after it.
   pub chunked_by_in_parts : (a : List (Result A E)) (e : E) (b : List (Result A E)) → chunked_by eq h (a ++ Err e ∷ b) ≡ chunked_by eq h a ++ Err e ∷ chunked_by eq h b
-  chunked_by_in_parts a e b = listed_parts (group_outcome eq h) (next_group eq h) None next_held_at_stop_none (λ a x is. group_outcome_by_is_no_end a (h x) is) (chunked_by eq h) listed_is_chunked_by a e b
+  chunked_by_in_parts a e b = splits_at_failure_where_is_held_list (group_outcome eq h) (next_group eq h) None next_held_at_stop_none (λ a x is. group_outcome_by_is_no_end a (h x) is) (chunked_by eq h) listed_is_chunked_by a e b
 
 pub lists_up_to_refusal_chunked : {S F A K E : Type 0} {it : S} (m : Contract S A E) (from : AllocError → E → Type 0) (eq : K → K → Bool) (c : Mut F (Bor A × Unit {0}) (Result K E)) (f : F) (h : A → Result K E) → Acts (call_by_reference c) f h → (s : ChunkBy S K F A E) (l : List (Result A E)) → chunk_by_parts s ≡ (it, ((f, None), None)) → Lists m.steps it l → ListsMade MadeGroup (seen_as chunk_by_parts (chunk_by_contract from eq c m)).steps from s (chunked_by eq h l)
-lists_up_to_refusal_chunked {it = it} m from eq c f h acts s l parts i = lists_made_seen MadeGroup from chunk_by_parts (chunk_by_contract from eq c m).steps s _ _ _ parts (listed_is_chunked_by eq h l) (gives_held_made m.steps (chunk_by_asks from eq c) MadeGroup from (HeldAndState from eq c f h acts) (group_outcome eq h) (next_group eq h) (refuses_on_item from eq c f h acts) (at_on_stop from eq c f h acts) FullGroup (answers_held_chunk_by eq h) (made_at_stop from eq c) l it (f, None) None (refl, tt) i.runs)
+lists_up_to_refusal_chunked {it = it} m from eq c f h acts s l parts i = lists_made_seen MadeGroup from chunk_by_parts (chunk_by_contract from eq c m).steps s _ _ _ parts (listed_is_chunked_by eq h l) (gives_made_of_held_list m.steps (chunk_by_asks from eq c) MadeGroup from (HeldAndState from eq c f h acts) (group_outcome eq h) (next_group eq h) (refuses_on_item from eq c f h acts) (at_on_stop from eq c f h acts) FullGroup (answers_held_chunk_by eq h) (made_at_stop from eq c) l it (f, None) None (refl, tt) i.runs)
 
 -- ---- its hint
 
@@ -208,9 +208,9 @@ module _ {A K E F : Type 0} (from : AllocError → E → Type 0) (eq : K → K �
   held_one_at_least_by None x (Err e) q w = absurd (let is = w.0 in cc)
   held_one_at_least_by (Some g) x (Err e) q w = absurd (let is = w.0 in cc)
 
-  held_one_none : (g q : Option (Group K A)) → group_at_stop {E = E} g End q → held_one g ≡ 0
-  held_one_none None q w = refl
-  held_one_none (Some g) q w = absurd (let is = w.0 in cc)
+  held_one_is_zero_where_stop_ends : (g q : Option (Group K A)) → group_at_stop {E = E} g End q → held_one g ≡ 0
+  held_one_is_zero_where_stop_ends None q w = refl
+  held_one_is_zero_where_stop_ends (Some g) q w = absurd (let is = w.0 in cc)
 
   pub gives_held : GivesHeld (chunk_by_asks from eq c) group_held
-  gives_held = record { left_out = λ p x q w. held_one_at_least_by p.1 x w.0 q.1 w.2; at_stop = λ p q w. held_one_none p.1 q.1 w.1 }
+  gives_held = record { left_out = λ p x q w. held_one_at_least_by p.1 x w.0 q.1 w.2; at_stop = λ p q w. held_one_is_zero_where_stop_ends p.1 q.1 w.1 }

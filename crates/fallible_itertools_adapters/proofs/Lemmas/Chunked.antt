@@ -9,23 +9,23 @@ use Rattle.fallible_itertools_adapters.specs.Chunks.{BatchesOf, BatchesUpTo, bat
 module _ {A : Type 0} (E : Type 0) (n : ℕ) where
   -- ---- the items
 
-  short_joined : (xs rest : List A) (l : List (Result (List A) E)) → batches_joined (items_listed l) ≡ rest → batches_joined (items_listed (short_batch xs l)) ≡ xs ++ rest
-  short_joined [] rest l is = is
-  short_joined (x ∷ xs) rest l is = ap (λ (k : List A). (x ∷ xs) ++ k) is
+  batches_joined_of_short_batch : (xs rest : List A) (l : List (Result (List A) E)) → batches_joined (items_listed l) ≡ rest → batches_joined (items_listed (short_batch xs l)) ≡ xs ++ rest
+  batches_joined_of_short_batch [] rest l is = is
+  batches_joined_of_short_batch (x ∷ xs) rest l is = ap (λ (k : List A). (x ∷ xs) ++ k) is
 
-  joined_or : (xs rest : List A) (b : Bool) (more other : List (Result (List A) E)) → batches_joined (items_listed more) ≡ xs ++ rest → batches_joined (items_listed other) ≡ rest → batches_joined (items_listed (batch_or xs b more other)) ≡ xs ++ rest
-  joined_or xs rest true more other is_more is_other = is_more
-  joined_or xs rest false more other is_more is_other = ap (λ (k : List A). xs ++ k) is_other
+  batches_joined_of_batch_or : (xs rest : List A) (b : Bool) (more other : List (Result (List A) E)) → batches_joined (items_listed more) ≡ xs ++ rest → batches_joined (items_listed other) ≡ rest → batches_joined (items_listed (batch_or xs b more other)) ≡ xs ++ rest
+  batches_joined_of_batch_or xs rest true more other is_more is_other = is_more
+  batches_joined_of_batch_or xs rest false more other is_more is_other = ap (λ (k : List A). xs ++ k) is_other
 
-  joined_from : (xs : List A) (l : List (Result A E)) → batches_joined (items_listed (chunked_from n xs l)) ≡ xs ++ items_listed l
+  batches_joined_of_chunked_from : (xs : List A) (l : List (Result A E)) → batches_joined (items_listed (chunked_from n xs l)) ≡ xs ++ items_listed l
   unfolding chunked_from
-  joined_from xs [] = short_joined xs [] [] refl
-  joined_from xs (Ok x ∷ l) = joined_or (xs ++ x ∷ []) (items_listed l) (ltb (length (xs ++ x ∷ [])) n) _ _ (joined_from (xs ++ x ∷ []) l) (joined_from [] l) ∙ append_assoc xs (x ∷ []) (items_listed l)
-  joined_from xs (Err e ∷ l) = short_joined xs (items_listed l) _ (joined_from [] l)
+  batches_joined_of_chunked_from xs [] = batches_joined_of_short_batch xs [] [] refl
+  batches_joined_of_chunked_from xs (Ok x ∷ l) = batches_joined_of_batch_or (xs ++ x ∷ []) (items_listed l) (ltb (length (xs ++ x ∷ [])) n) _ _ (batches_joined_of_chunked_from (xs ++ x ∷ []) l) (batches_joined_of_chunked_from [] l) ∙ append_assoc xs (x ∷ []) (items_listed l)
+  batches_joined_of_chunked_from xs (Err e ∷ l) = batches_joined_of_short_batch xs (items_listed l) _ (batches_joined_of_chunked_from [] l)
 
-  pub all_joined : (l : List (Result A E)) → batches_joined (items_listed (chunked n l)) ≡ items_listed l
+  pub batches_joined_of_chunked_is_items : (l : List (Result A E)) → batches_joined (items_listed (chunked n l)) ≡ items_listed l
   unfolding chunked
-  all_joined l = joined_from [] l
+  batches_joined_of_chunked_is_items l = batches_joined_of_chunked_from [] l
 
   -- ---- the sizes
 
@@ -74,20 +74,20 @@ module _ {A : Type 0} (E : Type 0) (n : ℕ) where
 
   -- ---- the failures
 
-  failures_listed_short : (xs : List A) (l : List (Result (List A) E)) (es : List E) → failures_listed l ≡ es → failures_listed (short_batch xs l) ≡ es
-  failures_listed_short [] l es is = is
-  failures_listed_short (x ∷ xs) l es is = is
+  failures_listed_of_short_batch : (xs : List A) (l : List (Result (List A) E)) (es : List E) → failures_listed l ≡ es → failures_listed (short_batch xs l) ≡ es
+  failures_listed_of_short_batch [] l es is = is
+  failures_listed_of_short_batch (x ∷ xs) l es is = is
 
-  failures_listed_or : (xs : List A) (b : Bool) (more other : List (Result (List A) E)) (es : List E) → failures_listed more ≡ es → failures_listed other ≡ es → failures_listed (batch_or xs b more other) ≡ es
-  failures_listed_or xs true more other es is_more is_other = is_more
-  failures_listed_or xs false more other es is_more is_other = is_other
+  failures_listed_of_batch_or : (xs : List A) (b : Bool) (more other : List (Result (List A) E)) (es : List E) → failures_listed more ≡ es → failures_listed other ≡ es → failures_listed (batch_or xs b more other) ≡ es
+  failures_listed_of_batch_or xs true more other es is_more is_other = is_more
+  failures_listed_of_batch_or xs false more other es is_more is_other = is_other
 
-  failures_listed_from : (xs : List A) (l : List (Result A E)) → failures_listed (chunked_from n xs l) ≡ failures_listed l
+  failures_listed_of_chunked_from : (xs : List A) (l : List (Result A E)) → failures_listed (chunked_from n xs l) ≡ failures_listed l
   unfolding chunked_from
-  failures_listed_from xs [] = failures_listed_short xs [] [] refl
-  failures_listed_from xs (Ok x ∷ l) = failures_listed_or (xs ++ x ∷ []) (ltb (length (xs ++ x ∷ [])) n) _ _ (failures_listed l) (failures_listed_from (xs ++ x ∷ []) l) (failures_listed_from [] l)
-  failures_listed_from xs (Err e ∷ l) = failures_listed_short xs _ (e ∷ failures_listed l) (ap (λ k. e ∷ k) (failures_listed_from [] l))
+  failures_listed_of_chunked_from xs [] = failures_listed_of_short_batch xs [] [] refl
+  failures_listed_of_chunked_from xs (Ok x ∷ l) = failures_listed_of_batch_or (xs ++ x ∷ []) (ltb (length (xs ++ x ∷ [])) n) _ _ (failures_listed l) (failures_listed_of_chunked_from (xs ++ x ∷ []) l) (failures_listed_of_chunked_from [] l)
+  failures_listed_of_chunked_from xs (Err e ∷ l) = failures_listed_of_short_batch xs _ (e ∷ failures_listed l) (ap (λ k. e ∷ k) (failures_listed_of_chunked_from [] l))
 
   pub failures_listed_stay : (l : List (Result A E)) → failures_listed (chunked n l) ≡ failures_listed l
   unfolding chunked
-  failures_listed_stay l = failures_listed_from [] l
+  failures_listed_stay l = failures_listed_of_chunked_from [] l

@@ -8,7 +8,7 @@ use Rattle.fallible_iterator.specs.Making.{ListsMade}
 use Rattle.fallible_itertools_adapters.specs.Chunks.{Grows, batch_or, chunked, chunked_from, chunks_asks, chunks_contract, chunks_parts}
 use Rattle.fallible_itertools_adapters.specs.Batch.{held_items}
 use Rattle.fallible_iterator.proofs.Lemmas.Making.{lists_made_seen}
-use Rattle.fallible_itertools_adapters.proofs.Lemmas.HoldingLists.{AnswersHeld, IsRefused, NoFailureAndIfKept, OutcomeMade, by_outcome, gives_held_made, held_list, listed_parts}
+use Rattle.fallible_itertools_adapters.proofs.Lemmas.HoldingLists.{AnswersHeld, IsRefused, NoFailureAndIfKept, OutcomeMade, by_outcome, gives_made_of_held_list, held_list, splits_at_failure_where_is_held_list}
 use Rattle.std.specs.declared.vec.Vec.{Vec}
 use Rattle.std.specs.declared.alloc.Global.{Global}
 use Rattle.std.specs.declared.alloc.AllocError.{AllocError}
@@ -18,9 +18,9 @@ use Rattle.fallible_itertools_adapters.specs.declared.chunks.Chunks.{Chunks}
 
 module _ {A E : Type 0} (from : AllocError → E → Type 0) where
   -- an item is left out if the batch has too few items with it
-  pub grown_left_out : (n : ℕ) (held left : Option (Vec A Global)) (x : A) (count : ℕ) → Grows held x left count → count < n → chunks_asks from (n, held) (Some x) LeftOut (n, left)
-  grown_left_out n held None x count grown few = absurd grown
-  grown_left_out n held (Some w) x count (grown, is) few = (w, grown, subst (λ k. k < n) is few, refl)
+  pub chunks_asks_left_out_where_grown : (n : ℕ) (held left : Option (Vec A Global)) (x : A) (count : ℕ) → Grows held x left count → count < n → chunks_asks from (n, held) (Some x) LeftOut (n, left)
+  chunks_asks_left_out_where_grown n held None x count grown few = absurd grown
+  chunks_asks_left_out_where_grown n held (Some w) x count (grown, is) few = (w, grown, subst (λ k. k < n) is few, refl)
 
 -- ---- what it lists
 
@@ -32,23 +32,23 @@ module _ {A : Type 0} where
   HeldAs (Some v) [] = ⊥
   HeldAs (Some v) (x ∷ xs) = vec_items v ≡ x ∷ xs
 
-  held_items_of_chunks : (p : Option (Vec A Global)) (a : List A) → HeldAs p a → held_items p ≡ a
-  held_items_of_chunks None [] w = refl
-  held_items_of_chunks None (x ∷ xs) w = absurd w
-  held_items_of_chunks (Some v) [] w = absurd w
-  held_items_of_chunks (Some v) (x ∷ xs) w = w
+  held_items_is_list_where_held : (p : Option (Vec A Global)) (a : List A) → HeldAs p a → held_items p ≡ a
+  held_items_is_list_where_held None [] w = refl
+  held_items_is_list_where_held None (x ∷ xs) w = absurd w
+  held_items_is_list_where_held (Some v) [] w = absurd w
+  held_items_is_list_where_held (Some v) (x ∷ xs) w = w
 
-  held_as_more : (v : Vec A Global) (a : List A) (x : A) → vec_items v ≡ a ++ x ∷ [] → HeldAs (Some v) (a ++ x ∷ [])
-  held_as_more v [] x is = is
-  held_as_more v (y ∷ a) x is = is
+  held_as_appended_items : (v : Vec A Global) (a : List A) (x : A) → vec_items v ≡ a ++ x ∷ [] → HeldAs (Some v) (a ++ x ∷ [])
+  held_as_appended_items v [] x is = is
+  held_as_appended_items v (y ∷ a) x is = is
 
   abbrev FullBatch : List A → Type 0
   FullBatch [] = ⊥
   FullBatch (x ∷ xs) = ⊤
 
-  full_more : (a : List A) (x : A) → FullBatch (a ++ x ∷ [])
-  full_more [] x = tt
-  full_more (y ∷ a) x = tt
+  full_batch_of_appended : (a : List A) (x : A) → FullBatch (a ++ x ∷ [])
+  full_batch_of_appended [] x = tt
+  full_batch_of_appended (y ∷ a) x = tt
 
   abbrev next_batch_at : List A → Bool → List A
   next_batch_at xs true = xs
@@ -77,16 +77,16 @@ module _ {A E : Type 0} (from : AllocError → E → Type 0) (n : ℕ) where
   abbrev HeldAndNumber : ℕ × Option (Vec A Global) → List A → Type 0
   HeldAndNumber p a = (p.0 ≡ n) × HeldAs p.1 a
 
-  at_acts : (a : List A) (x : A) (b : Bool) (o : Outcome (Vec A Global) E) (q : ℕ × Option (Vec A Global)) → ltb (length (a ++ x ∷ [])) n ≡ b → HeldAndNumber q (next_batch_at (a ++ x ∷ []) b) × OutcomeMade batch_made (batch_outcome_at E (a ++ x ∷ []) b) o → HeldAndNumber q (next_batch n a (Some x)) × OutcomeMade batch_made (batch_outcome n a (Some x)) o
-  at_acts a x b o q is w = rw is w
+  held_and_outcome_made_of_next_batch : (a : List A) (x : A) (b : Bool) (o : Outcome (Vec A Global) E) (q : ℕ × Option (Vec A Global)) → ltb (length (a ++ x ∷ [])) n ≡ b → HeldAndNumber q (next_batch_at (a ++ x ∷ []) b) × OutcomeMade batch_made (batch_outcome_at E (a ++ x ∷ []) b) o → HeldAndNumber q (next_batch n a (Some x)) × OutcomeMade batch_made (batch_outcome n a (Some x)) o
+  held_and_outcome_made_of_next_batch a x b o q is w = rw is w
 
   refuses_on_item : (p : ℕ × Option (Vec A Global)) (a : List A) (x : A) (o : Outcome (Vec A Global) E) (q : ℕ × Option (Vec A Global)) → HeldAndNumber p a → chunks_asks from p (Some x) o q → IsRefused from o ⊎ (HeldAndNumber q (next_batch n a (Some x)) × OutcomeMade batch_made (batch_outcome n a (Some x)) o)
-  refuses_on_item p a x (Kept w) q at (grown, full, is) = let items : vec_items w ≡ a ++ x ∷ [] = subst (λ (k : List A). vec_items w ≡ k ++ x ∷ []) (held_items_of_chunks p.1 a at.1) grown in
+  refuses_on_item p a x (Kept w) q at (grown, full, is) = let items : vec_items w ≡ a ++ x ∷ [] = subst (λ (k : List A). vec_items w ≡ k ++ x ∷ []) (held_items_is_list_where_held p.1 a at.1) grown in
       let enough : n ≤ length (a ++ x ∷ []) = subst (λ (k : List A). n ≤ length k) items (subst (λ (k : ℕ). k ≤ length (vec_items w)) at.0 full) in
-      inr (at_acts a x false (Kept w) q (le-ltb (length (a ++ x ∷ [])) n enough) (subst (λ k. HeldAndNumber k []) (sym is) (at.0, tt), items))
-  refuses_on_item p a x LeftOut q at (w, grown, few, is) = let items : vec_items w ≡ a ++ x ∷ [] = subst (λ (k : List A). vec_items w ≡ k ++ x ∷ []) (held_items_of_chunks p.1 a at.1) grown in
+      inr (held_and_outcome_made_of_next_batch a x false (Kept w) q (le-ltb (length (a ++ x ∷ [])) n enough) (subst (λ k. HeldAndNumber k []) (sym is) (at.0, tt), items))
+  refuses_on_item p a x LeftOut q at (w, grown, few, is) = let items : vec_items w ≡ a ++ x ∷ [] = subst (λ (k : List A). vec_items w ≡ k ++ x ∷ []) (held_items_is_list_where_held p.1 a at.1) grown in
       let fewer : length (a ++ x ∷ []) < n = subst (λ (k : List A). length k < n) items (subst (λ (k : ℕ). length (vec_items w) < k) at.0 few) in
-      inr (at_acts a x true LeftOut q (lt-ltb (length (a ++ x ∷ [])) n fewer) (subst (λ k. HeldAndNumber k (a ++ x ∷ [])) (sym is) (at.0, held_as_more w a x items), tt))
+      inr (held_and_outcome_made_of_next_batch a x true LeftOut q (lt-ltb (length (a ++ x ∷ [])) n fewer) (subst (λ k. HeldAndNumber k (a ++ x ∷ [])) (sym is) (at.0, held_as_appended_items w a x items), tt))
   refuses_on_item p a x (Failure e) q at w = inl (e, refl, w.0)
   refuses_on_item p a x End q at w = absurd w
 
@@ -124,9 +124,9 @@ module _ {A E : Type 0} (from : AllocError → E → Type 0) (n : ℕ) where
   at_stop_full [] full = absurd full
   at_stop_full (x ∷ xs) full = (x ∷ xs, refl)
 
-  answers_of_chunks : AnswersHeld {X = A} {B = List A} {E = E} (batch_outcome n) (next_batch n) FullBatch
-  answers_of_chunks = record {
-    left_out = λ a x is. full_left_out (a ++ x ∷ []) (ltb (length (a ++ x ∷ [])) n) (full_more a x) is;
+  answers_held_of_chunks : AnswersHeld {X = A} {B = List A} {E = E} (batch_outcome n) (next_batch n) FullBatch
+  answers_held_of_chunks = record {
+    left_out = λ a x is. full_left_out (a ++ x ∷ []) (ltb (length (a ++ x ∷ [])) n) (full_batch_of_appended a x) is;
     at_stop = at_stop_full;
     no_end = λ a x is. batch_outcome_at_is_no_end (a ++ x ∷ []) (ltb (length (a ++ x ∷ [])) n) is;
   }
@@ -152,7 +152,7 @@ module _ {A E : Type 0} (from : AllocError → E → Type 0) (n : ℕ) where
 
   -- What stands before a failure is batched by itself, and so is what comes after it.
   pub chunked_in_parts : (a : List (Result A E)) (e : E) (b : List (Result A E)) → chunked n (a ++ Err e ∷ b) ≡ chunked n a ++ Err e ∷ chunked n b
-  chunked_in_parts a e b = listed_parts (batch_outcome n) (next_batch n) [] next_held_at_stop_none (λ a x is. batch_outcome_at_is_no_end (a ++ x ∷ []) (ltb (length (a ++ x ∷ [])) n) is) (chunked n) held_list_is_chunked a e b
+  chunked_in_parts a e b = splits_at_failure_where_is_held_list (batch_outcome n) (next_batch n) [] next_held_at_stop_none (λ a x is. batch_outcome_at_is_no_end (a ++ x ∷ []) (ltb (length (a ++ x ∷ [])) n) is) (chunked n) held_list_is_chunked a e b
 
 pub lists_up_to_refusal_chunked : {S A E : Type 0} {it : S} (m : Contract S A E) (from : AllocError → E → Type 0) (n : ℕ) (s : Chunks S A E) (l : List (Result A E)) → chunks_parts s ≡ (it, ((n, None), None)) → Lists m.steps it l → ListsMade (λ xs v. vec_items v ≡ xs) (seen_as chunks_parts (chunks_contract from m)).steps from s (chunked n l)
-lists_up_to_refusal_chunked {it = it} m from n s l parts i = lists_made_seen (λ xs v. vec_items v ≡ xs) from chunks_parts (chunks_contract from m).steps s _ _ _ parts (held_list_is_chunked from n l) (gives_held_made m.steps (chunks_asks from) (λ xs v. vec_items v ≡ xs) from (HeldAndNumber from n) (batch_outcome n) (next_batch n) (refuses_on_item from n) (at_on_stop from n) FullBatch (answers_of_chunks from n) (made_at_stop from n) l it (n, None) [] (refl, tt) i.runs)
+lists_up_to_refusal_chunked {it = it} m from n s l parts i = lists_made_seen (λ xs v. vec_items v ≡ xs) from chunks_parts (chunks_contract from m).steps s _ _ _ parts (held_list_is_chunked from n l) (gives_made_of_held_list m.steps (chunks_asks from) (λ xs v. vec_items v ≡ xs) from (HeldAndNumber from n) (batch_outcome n) (next_batch n) (refuses_on_item from n) (at_on_stop from n) FullBatch (answers_held_of_chunks from n) (made_at_stop from n) l it (n, None) [] (refl, tt) i.runs)

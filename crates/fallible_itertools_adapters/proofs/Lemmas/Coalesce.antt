@@ -11,7 +11,7 @@ use Rattle.fallible_itertools_adapters.specs.Coalesce.{KeepsApart, OneOrBoth, co
 use Rattle.fallible_itertools_adapters.specs.Holding.{held_beside, held_one}
 use Rattle.fallible_itertools_adapters.proofs.Lemmas.Adjacent.{EachNext, HoldsOfNext, adjacent_items_of_each_next}
 use Rattle.fallible_itertools_adapters.proofs.Lemmas.HoldingHints.{GivesHeld}
-use Rattle.fallible_itertools_adapters.proofs.Lemmas.HoldingLists.{by_outcome, held_list, listed_parts, gives_held_list}
+use Rattle.fallible_itertools_adapters.proofs.Lemmas.HoldingLists.{by_outcome, held_list, splits_at_failure_where_is_held_list, gives_held_list}
 use Rattle.fallible_iterator.specs.Outcome.{Outcome}
 use Rattle.fallible_iterator.specs.Outcome.TheVariants.{Kept, LeftOut, Failure, End}
 use Rattle.fallible_itertools_adapters.specs.declared.coalesce.Coalesce.{Coalesce}
@@ -58,17 +58,17 @@ module _ {A E : Type 0} (h : A → A → OneOrBoth A E) where
   outcome_never_end None x is = absurd cc
   outcome_never_end (Some y) x is = held_outcome_by_is_no_end (h y x) is
 
-  by_outcome_is_coalesced_from : (v : OneOrBoth A E) (l : List (Result A E)) → ((a : Option A) → held_list held_outcome next_held a l ≡ coalesced_from h a l) → by_outcome held_outcome next_held (held_outcome_by v) (next_held_by v) l ≡ coalesced_at v (λ held. coalesced_from h held l)
-  by_outcome_is_coalesced_from (Ok (Ok z)) l rest = rest (Some z)
-  by_outcome_is_coalesced_from (Ok (Err both)) l rest = ap (λ k. Ok both.0 ∷ k) (rest (Some both.1))
-  by_outcome_is_coalesced_from (Err e) l rest = ap (λ k. Err e ∷ k) (rest None)
+  by_outcome_is_coalesced_at : (v : OneOrBoth A E) (l : List (Result A E)) → ((a : Option A) → held_list held_outcome next_held a l ≡ coalesced_from h a l) → by_outcome held_outcome next_held (held_outcome_by v) (next_held_by v) l ≡ coalesced_at v (λ held. coalesced_from h held l)
+  by_outcome_is_coalesced_at (Ok (Ok z)) l rest = rest (Some z)
+  by_outcome_is_coalesced_at (Ok (Err both)) l rest = ap (λ k. Ok both.0 ∷ k) (rest (Some both.1))
+  by_outcome_is_coalesced_at (Err e) l rest = ap (λ k. Err e ∷ k) (rest None)
 
   held_list_is_coalesced_from : (a : Option A) (l : List (Result A E)) → held_list held_outcome next_held a l ≡ coalesced_from h a l
   unfolding coalesced_from
   held_list_is_coalesced_from None [] = refl
   held_list_is_coalesced_from (Some y) [] = refl
   held_list_is_coalesced_from None (Ok x ∷ l) = held_list_is_coalesced_from (Some x) l
-  held_list_is_coalesced_from (Some y) (Ok x ∷ l) = by_outcome_is_coalesced_from (h y x) l (λ a. held_list_is_coalesced_from a l)
+  held_list_is_coalesced_from (Some y) (Ok x ∷ l) = by_outcome_is_coalesced_at (h y x) l (λ a. held_list_is_coalesced_from a l)
   held_list_is_coalesced_from None (Err e ∷ l) = ap (λ k. Err e ∷ k) (held_list_is_coalesced_from None l)
   held_list_is_coalesced_from (Some y) (Err e ∷ l) = ap (λ k. Ok y ∷ Err e ∷ k) (held_list_is_coalesced_from None l)
 
@@ -78,7 +78,7 @@ module _ {A E : Type 0} (h : A → A → OneOrBoth A E) where
 
   -- What stands before a failure is put together by itself, and so is what comes after it.
   pub coalesced_in_parts : (a : List (Result A E)) (e : E) (b : List (Result A E)) → coalesced h (a ++ Err e ∷ b) ≡ coalesced h a ++ Err e ∷ coalesced h b
-  coalesced_in_parts a e b = listed_parts held_outcome next_held None next_held_at_stop_none outcome_never_end (coalesced h) held_list_is_coalesced a e b
+  coalesced_in_parts a e b = splits_at_failure_where_is_held_list held_outcome next_held None next_held_at_stop_none outcome_never_end (coalesced h) held_list_is_coalesced a e b
 
   module _ {F : Type 0} (call : F → A → A → OneOrBoth A E → F → Type 0) (f : F) (acts_with : ActsWith call f h) where
     pair_of_parts : (q : Option A × F) {held : Option A} → q.0 ≡ held → q.1 ≡ f → q ≡ (held, f)
@@ -113,18 +113,18 @@ module _ {A E : Type 0} (h : A → A → OneOrBoth A E) (keeps : KeepsApart h) w
   next_by_result x y z (Err e) l is apart rest = tt
 
   -- what is held, or what is made of it, comes first
-  next_apart : (x y : A) (l : List (Result A E)) → Apart x y → HoldsOfNext Apart x (coalesced_from h (Some y) l)
+  holds_of_next_apart_of_coalesced_from : (x y : A) (l : List (Result A E)) → Apart x y → HoldsOfNext Apart x (coalesced_from h (Some y) l)
   unfolding coalesced_from
-  next_apart x y [] apart = apart
-  next_apart x y (Ok z ∷ l) apart = next_by_result x y z (h y z) l refl apart (λ w is. next_apart x w l is)
-  next_apart x y (Err e ∷ l) apart = apart
+  holds_of_next_apart_of_coalesced_from x y [] apart = apart
+  holds_of_next_apart_of_coalesced_from x y (Ok z ∷ l) apart = next_by_result x y z (h y z) l refl apart (λ w is. holds_of_next_apart_of_coalesced_from x w l is)
+  holds_of_next_apart_of_coalesced_from x y (Err e ∷ l) apart = apart
 
   both_apart : (y x : A) (both : A × A) → h y x ≡ Ok (Err both) → Apart both.0 both.1
   both_apart y x both is = let same : both ≡ (y, x) = keeps.as_they_are y x both is in subst (λ (p : A × A). h p.0 p.1 ≡ Ok (Err (p.0, p.1))) (sym same) (subst (λ (p : A × A). h y x ≡ Ok (Err p)) same is)
 
   each_next_apart_at_result : (y x : A) (v : OneOrBoth A E) (l : List (Result A E)) → h y x ≡ v → ((o : Option A) → EachNext Apart (coalesced_from h o l)) → EachNext Apart (coalesced_at v (λ held. coalesced_from h held l))
   each_next_apart_at_result y x (Ok (Ok z)) l is rest = rest (Some z)
-  each_next_apart_at_result y x (Ok (Err both)) l is rest = (next_apart both.0 both.1 l (both_apart y x both is), rest (Some both.1))
+  each_next_apart_at_result y x (Ok (Err both)) l is rest = (holds_of_next_apart_of_coalesced_from both.0 both.1 l (both_apart y x both is), rest (Some both.1))
   each_next_apart_at_result y x (Err e) l is rest = rest None
 
   each_next_apart : (o : Option A) (l : List (Result A E)) → EachNext Apart (coalesced_from h o l)

@@ -18,14 +18,14 @@ use Rattle.fallible_itertools_adapters.specs.declared.copied.Copied.{Copied}
 pub copied_never_ends : {T E : Type 0} (x : Bor T) (u : Unit {0}) → copied_outcome {E = E} x u ≡ End → ⊥
 copied_never_ends x u e = cc
 
-pub passed_pointed_to : {T E : Type 0} (l : List (Result (Bor T) E)) → passed copied_outcome (λ (p : Unit {0}) (x : Bor T). tt) (λ p x. p) tt l ≡ pointed_to l
+pub passed_of_copied_is_pointed_to : {T E : Type 0} (l : List (Result (Bor T) E)) → passed copied_outcome (λ (p : Unit {0}) (x : Bor T). tt) (λ p x. p) tt l ≡ pointed_to l
 unfolding pointed_to
-passed_pointed_to [] = refl
-passed_pointed_to (Ok x ∷ l) = ap (λ k. Ok x.now ∷ k) (passed_pointed_to l)
-passed_pointed_to (Err e ∷ l) = ap (λ k. Err e ∷ k) (passed_pointed_to l)
+passed_of_copied_is_pointed_to [] = refl
+passed_of_copied_is_pointed_to (Ok x ∷ l) = ap (λ k. Ok x.now ∷ k) (passed_of_copied_is_pointed_to l)
+passed_of_copied_is_pointed_to (Err e ∷ l) = ap (λ k. Err e ∷ k) (passed_of_copied_is_pointed_to l)
 
 pub lists_copied : {S T E : Type 0} {it : S} (m : Contract S (Bor T) E) (s : Copied S) (l : List (Result (Bor T) E)) → copied_parts s ≡ (it, tt) → Lists m.steps it l → Lists (seen_as copied_parts (copied_contract m)).steps s (pointed_to l)
-lists_copied {it = it} m s l parts i = lists_seen copied_parts (copied_contract m).steps s parts (passed_pointed_to l) (always_gives_passed copied_call tt (λ x. tt) (λ x v g called. (refl, refl)) m.steps copied_outcome it l i.runs)
+lists_copied {it = it} m s l parts i = lists_seen copied_parts (copied_contract m).steps s parts (passed_of_copied_is_pointed_to l) (always_gives_passed copied_call tt (λ x. tt) (λ x v g called. (refl, refl)) m.steps copied_outcome it l i.runs)
 
 -- from both ends
 pub lists_both_ends_copies : {S T E : Type 0} (front back : S → Answered (Bor T) E → S → Type 0) (l : List (Result (Bor T) E)) (s : S) → ListsBothEnds front back s l

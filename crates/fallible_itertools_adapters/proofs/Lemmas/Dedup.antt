@@ -7,7 +7,7 @@ use Rattle.fallible_iterator.proofs.Lemmas.Lists.Passing.{lists_seen}
 use Rattle.fallible_itertools_adapters.specs.Dedup.{dedup_at, dedup_asks, dedup_before, dedup_contract, dedup_parts, deduped, deduped_at}
 use Rattle.fallible_itertools_adapters.specs.Holding.{held_one}
 use Rattle.fallible_itertools_adapters.proofs.Lemmas.HoldingHints.{GivesHeld}
-use Rattle.fallible_itertools_adapters.proofs.Lemmas.HoldingLists.{by_outcome, held_list, listed_parts, gives_held_list}
+use Rattle.fallible_itertools_adapters.proofs.Lemmas.HoldingLists.{by_outcome, held_list, splits_at_failure_where_is_held_list, gives_held_list}
 use Rattle.fallible_iterator.specs.Outcome.{Outcome}
 use Rattle.fallible_iterator.specs.Outcome.TheVariants.{Kept, LeftOut, End}
 use Rattle.fallible_itertools_adapters.specs.declared.dedup.Dedup.{Dedup}
@@ -59,16 +59,16 @@ module _ {A E : Type 0} (eq : A → A → Bool) where
   outcome_never_end None x is = absurd cc
   outcome_never_end (Some y) x is = held_outcome_at_is_no_end y (eq y x) is
 
-  by_outcome_item_at : (y x : A) (b : Bool) (l : List (Result A E)) (same other : List (Result A E)) → held_list held_outcome (next_held eq) (Some y) l ≡ same → held_list held_outcome (next_held eq) (Some x) l ≡ other → by_outcome held_outcome (next_held eq) (held_outcome_at y b) (next_held_at eq y x b) l ≡ dedup_before eq y x b same other
-  by_outcome_item_at y x true l same other is_same is_other = is_same
-  by_outcome_item_at y x false l same other is_same is_other = ap (λ k. Ok y ∷ k) is_other
+  by_outcome_is_dedup_before : (y x : A) (b : Bool) (l : List (Result A E)) (same other : List (Result A E)) → held_list held_outcome (next_held eq) (Some y) l ≡ same → held_list held_outcome (next_held eq) (Some x) l ≡ other → by_outcome held_outcome (next_held eq) (held_outcome_at y b) (next_held_at eq y x b) l ≡ dedup_before eq y x b same other
+  by_outcome_is_dedup_before y x true l same other is_same is_other = is_same
+  by_outcome_is_dedup_before y x false l same other is_same is_other = ap (λ k. Ok y ∷ k) is_other
 
   held_list_is_deduped_at : (a : Option A) (l : List (Result A E)) → held_list held_outcome (next_held eq) a l ≡ deduped_at eq a l
   unfolding deduped_at
   held_list_is_deduped_at None [] = refl
   held_list_is_deduped_at (Some y) [] = refl
   held_list_is_deduped_at None (Ok x ∷ l) = held_list_is_deduped_at (Some x) l
-  held_list_is_deduped_at (Some y) (Ok x ∷ l) = by_outcome_item_at y x (eq y x) l _ _ (held_list_is_deduped_at (Some y) l) (held_list_is_deduped_at (Some x) l)
+  held_list_is_deduped_at (Some y) (Ok x ∷ l) = by_outcome_is_dedup_before y x (eq y x) l _ _ (held_list_is_deduped_at (Some y) l) (held_list_is_deduped_at (Some x) l)
   held_list_is_deduped_at None (Err e ∷ l) = ap (λ k. Err e ∷ k) (held_list_is_deduped_at None l)
   held_list_is_deduped_at (Some y) (Err e ∷ l) = ap (λ k. Ok y ∷ Err e ∷ k) (held_list_is_deduped_at None l)
 
@@ -78,7 +78,7 @@ module _ {A E : Type 0} (eq : A → A → Bool) where
 
   -- What stands before a failure is deduped by itself, and so is what comes after it.
   pub deduped_in_parts : (a : List (Result A E)) (e : E) (b : List (Result A E)) → deduped eq (a ++ Err e ∷ b) ≡ deduped eq a ++ Err e ∷ deduped eq b
-  deduped_in_parts a e b = listed_parts held_outcome (next_held eq) None (next_held_at_stop_none eq) outcome_never_end (deduped eq) held_list_is_deduped a e b
+  deduped_in_parts a e b = splits_at_failure_where_is_held_list held_outcome (next_held eq) None (next_held_at_stop_none eq) outcome_never_end (deduped eq) held_list_is_deduped a e b
 
 pub lists_deduped : {S A E : Type 0} {it : S} (m : Contract S A E) (eq : A → A → Bool) (s : Dedup S A E) (l : List (Result A E)) → dedup_parts s ≡ (it, (None, None)) → Lists m.steps it l → Lists (seen_as dedup_parts (dedup_contract eq m)).steps s (deduped eq l)
 lists_deduped {it = it} m eq s l parts i = lists_seen dedup_parts (dedup_contract eq m).steps s parts (held_list_is_deduped eq l) (gives_held_list m.steps (dedup_asks eq) (λ p a. p ≡ a) (held_outcome eq) (next_held eq) (acts_by_next eq) l it None None refl i.runs)
@@ -86,13 +86,13 @@ lists_deduped {it = it} m eq s l parts i = lists_seen dedup_parts (dedup_contrac
 -- ---- its hint
 
 module _ {A : Type 0} (E : Type 0) (eq : A → A → Bool) where
-  held_one_after_item : (y x : A) (b : Bool) (q : Option A) → dedup_at eq {E = E} y x b LeftOut q → 1 ≤ held_one q
-  held_one_after_item y x true q w = rw w.1 (omega arith)
-  held_one_after_item y x false q w = absurd (let is = w.0 in cc)
+  held_one_at_least_after_item : (y x : A) (b : Bool) (q : Option A) → dedup_at eq {E = E} y x b LeftOut q → 1 ≤ held_one q
+  held_one_at_least_after_item y x true q w = rw w.1 (omega arith)
+  held_one_at_least_after_item y x false q w = absurd (let is = w.0 in cc)
 
   held_one_where_left_out : (p : Option A) (x : A) (q : Option A) → dedup_asks eq {E = E} p (Some x) LeftOut q → 1 ≤ held_one q
   held_one_where_left_out None x q w = rw w.1 (omega arith)
-  held_one_where_left_out (Some y) x q w = held_one_after_item y x (eq y x) q w
+  held_one_where_left_out (Some y) x q w = held_one_at_least_after_item y x (eq y x) q w
 
   held_one_at_stop : (p q : Option A) → dedup_asks eq {E = E} p None End q → held_one p ≡ 0
   held_one_at_stop None q w = refl

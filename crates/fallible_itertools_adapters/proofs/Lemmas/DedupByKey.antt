@@ -11,7 +11,7 @@ use Rattle.fallible_itertools_adapters.specs.DedupByKey.{keyed_at, keyed_by, key
 use Rattle.fallible_itertools_adapters.specs.Holding.{OrStop, held_beside, held_one}
 use Rattle.fallible_itertools_adapters.proofs.Lemmas.Holding.{is_callable_beside}
 use Rattle.fallible_itertools_adapters.proofs.Lemmas.HoldingHints.{GivesHeld}
-use Rattle.fallible_itertools_adapters.proofs.Lemmas.HoldingLists.{by_outcome, held_list, listed_parts, gives_held_list}
+use Rattle.fallible_itertools_adapters.proofs.Lemmas.HoldingLists.{by_outcome, held_list, splits_at_failure_where_is_held_list, gives_held_list}
 use Rattle.fallible_iterator.specs.Outcome.{Outcome}
 use Rattle.fallible_iterator.specs.Outcome.TheVariants.{Kept, LeftOut, Failure, End}
 use Rattle.fallible_itertools_adapters.specs.declared.dedup_by_key.DedupByKey.{DedupByKey}
@@ -67,22 +67,22 @@ module _ {A K E : Type 0} (eq : K → K → Bool) where
     outcome_never_end : (a : Option (K × A)) (x : A) → held_outcome a (Some x) ≡ End → ⊥
     outcome_never_end a x is = held_outcome_by_is_no_end a x (h x) is
 
-    by_outcome_cons_before : (held this : K × A) (b : Bool) (l : List (Result A E)) → ((a : Option (K × A)) → held_list held_outcome next_held a l ≡ deduped_key_from eq h a l) → by_outcome held_outcome next_held (held_outcome_at held b) (next_held_at held this b) l ≡ key_before eq held b (deduped_key_from eq h (Some held) l) (deduped_key_from eq h (Some this) l)
-    by_outcome_cons_before held this true l rest = rest (Some held)
-    by_outcome_cons_before held this false l rest = ap (λ k. Ok held.1 ∷ k) (rest (Some this))
+    by_outcome_is_key_before : (held this : K × A) (b : Bool) (l : List (Result A E)) → ((a : Option (K × A)) → held_list held_outcome next_held a l ≡ deduped_key_from eq h a l) → by_outcome held_outcome next_held (held_outcome_at held b) (next_held_at held this b) l ≡ key_before eq held b (deduped_key_from eq h (Some held) l) (deduped_key_from eq h (Some this) l)
+    by_outcome_is_key_before held this true l rest = rest (Some held)
+    by_outcome_is_key_before held this false l rest = ap (λ k. Ok held.1 ∷ k) (rest (Some this))
 
-    by_outcome_is_keyed_from : (a : Option (K × A)) (x : A) (v : Result K E) (l : List (Result A E)) → ((a : Option (K × A)) → held_list held_outcome next_held a l ≡ deduped_key_from eq h a l) → by_outcome held_outcome next_held (held_outcome_by a x v) (next_held_by a x v) l ≡ key_at eq a x v (λ p. deduped_key_from eq h p l)
-    by_outcome_is_keyed_from None x (Err e) l rest = ap (λ k. Err e ∷ k) (rest None)
-    by_outcome_is_keyed_from (Some held) x (Err e) l rest = ap (λ k. Ok held.1 ∷ Err e ∷ k) (rest None)
-    by_outcome_is_keyed_from None x (Ok k) l rest = rest (Some (k, x))
-    by_outcome_is_keyed_from (Some held) x (Ok k) l rest = by_outcome_cons_before held (k, x) (eq held.0 k) l rest
+    by_outcome_is_key_at : (a : Option (K × A)) (x : A) (v : Result K E) (l : List (Result A E)) → ((a : Option (K × A)) → held_list held_outcome next_held a l ≡ deduped_key_from eq h a l) → by_outcome held_outcome next_held (held_outcome_by a x v) (next_held_by a x v) l ≡ key_at eq a x v (λ p. deduped_key_from eq h p l)
+    by_outcome_is_key_at None x (Err e) l rest = ap (λ k. Err e ∷ k) (rest None)
+    by_outcome_is_key_at (Some held) x (Err e) l rest = ap (λ k. Ok held.1 ∷ Err e ∷ k) (rest None)
+    by_outcome_is_key_at None x (Ok k) l rest = rest (Some (k, x))
+    by_outcome_is_key_at (Some held) x (Ok k) l rest = by_outcome_is_key_before held (k, x) (eq held.0 k) l rest
 
     held_list_is_deduped_from : (a : Option (K × A)) (l : List (Result A E)) → held_list held_outcome next_held a l ≡ deduped_key_from eq h a l
     unfolding deduped_key_from
     held_list_is_deduped_from None [] = refl
     held_list_is_deduped_from (Some held) [] = refl
-    held_list_is_deduped_from None (Ok x ∷ l) = by_outcome_is_keyed_from None x (h x) l (λ a. held_list_is_deduped_from a l)
-    held_list_is_deduped_from (Some held) (Ok x ∷ l) = by_outcome_is_keyed_from (Some held) x (h x) l (λ a. held_list_is_deduped_from a l)
+    held_list_is_deduped_from None (Ok x ∷ l) = by_outcome_is_key_at None x (h x) l (λ a. held_list_is_deduped_from a l)
+    held_list_is_deduped_from (Some held) (Ok x ∷ l) = by_outcome_is_key_at (Some held) x (h x) l (λ a. held_list_is_deduped_from a l)
     held_list_is_deduped_from None (Err e ∷ l) = ap (λ k. Err e ∷ k) (held_list_is_deduped_from None l)
     held_list_is_deduped_from (Some held) (Err e ∷ l) = ap (λ k. Ok held.1 ∷ Err e ∷ k) (held_list_is_deduped_from None l)
 
@@ -95,7 +95,7 @@ module _ {A K E : Type 0} (eq : K → K → Bool) where
 
     -- What stands before a failure is deduped by itself, and so is what comes after it.
     pub deduped_by_key_in_parts : (a : List (Result A E)) (e : E) (b : List (Result A E)) → deduped_by_key eq h (a ++ Err e ∷ b) ≡ deduped_by_key eq h a ++ Err e ∷ deduped_by_key eq h b
-    deduped_by_key_in_parts a e b = listed_parts held_outcome next_held None next_held_at_stop_none outcome_never_end (deduped_by_key eq h) held_list_is_deduped_by_key a e b
+    deduped_by_key_in_parts a e b = splits_at_failure_where_is_held_list held_outcome next_held None next_held_at_stop_none outcome_never_end (deduped_by_key eq h) held_list_is_deduped_by_key a e b
 
     module _ {F : Type 0} (call : F → A → Result K E → F → Type 0) (f : F) (acts_as : Acts call f h) where
       pair_of_parts : (q : Option (K × A) × F) {held : Option (K × A)} → q.0 ≡ held → q.1 ≡ f → q ≡ (held, f)
@@ -120,15 +120,15 @@ lists_deduped_by_key {it = it} m eq g s f h l parts a i = lists_seen dedup_by_ke
 -- ---- its hint
 
 module _ {A K F E : Type 0} (eq : K → K → Bool) (call : F → A → Result K E → F → Type 0) where
-  held_one_at_key : (held this : K × A) (b : Bool) (q : Option (K × A)) → keyed_at eq {E = E} held this b LeftOut q → 1 ≤ held_one q
-  held_one_at_key held this true q w = rw w.1 (omega arith)
-  held_one_at_key held this false q w = absurd (let is = w.0 in cc)
+  held_one_at_least_at_key : (held this : K × A) (b : Bool) (q : Option (K × A)) → keyed_at eq {E = E} held this b LeftOut q → 1 ≤ held_one q
+  held_one_at_least_at_key held this true q w = rw w.1 (omega arith)
+  held_one_at_least_at_key held this false q w = absurd (let is = w.0 in cc)
 
   held_one_where_left_out : (held : Option (K × A)) (x : A) (v : Result K E) (q : Option (K × A)) → keyed_by eq held x v LeftOut q → 1 ≤ held_one q
   held_one_where_left_out None x (Err e) q w = absurd (let is = w.0 in cc)
   held_one_where_left_out (Some held) x (Err e) q w = absurd (let is = w.0 in cc)
   held_one_where_left_out None x (Ok k) q w = rw w.1 (omega arith)
-  held_one_where_left_out (Some held) x (Ok k) q w = held_one_at_key held (k, x) (eq held.0 k) q w
+  held_one_where_left_out (Some held) x (Ok k) q w = held_one_at_least_at_key held (k, x) (eq held.0 k) q w
 
   held_beside_where_left_out : (p : Option (K × A) × F) (x : A) (q : Option (K × A) × F) → dedup_key_asks eq call p (Some x) LeftOut q → 1 ≤ held_beside q
   held_beside_where_left_out p x q w = held_one_where_left_out p.0 x w.0 q.0 w.2

@@ -14,8 +14,8 @@ use Rattle.fallible_iterator.specs.Lists.{AlwaysGives, Lists, before, collected,
 use Rattle.fallible_iterator.specs.Making.{AnswersRefusal, CollectedMade, EachMade, IsRefusal, SameOrRefused}
 use Rattle.fallible_iterator.specs.Passing.{passing_step}
 use Rattle.fallible_iterator.specs.Laws.Passing.{Passes, done, end_passes, failure_passes, keeps, refuses, closes, leaves_out, passes_of_pass_trace, pass_trace_of_passes}
-use Rattle.fallible_iterator.proofs.Lemmas.Lists.Passing.{end_of_nil, failure_of_first}
-use Rattle.fallible_iterator.proofs.Lemmas.Making.{failed_result, refused_result}
+use Rattle.fallible_iterator.proofs.Lemmas.Lists.Passing.{end_of_nil, answer_is_failure_first_in_list}
+use Rattle.fallible_iterator.proofs.Lemmas.Making.{told_or_refused_of_failure, told_or_refused_of_refusal}
 use Rattle.fallible_itertools_adapters.specs.Holding.{as_answered_item}
 use Rattle.fallible_itertools_adapters.specs.Duplicates.{GivesUnlessRefused, ListsUnlessRefused, come_by, duplicates_asks, duplicates_came, duplicates_contract, duplicates_from, duplicates_of, duplicates_parts, kept_unless, second_of_equal}
 use Rattle.std.specs.declared.alloc.AllocError.{AllocError}
@@ -31,9 +31,9 @@ module _ {A : Type 0} where
   pub count_cons : (p : A → Bool) (x : A) (xs : List A) (b : Bool) → p x ≡ b → count_by p (x ∷ xs) ≡ cond b 1 0 + count_by p xs
   count_cons p x xs b is = sum_by-cons (λ y. cond (p y) 1 0) x xs ∙ ap (λ (c : Bool). cond c 1 0 + count_by p xs) is
 
-  pub count_alike : (p q : A → Bool) → ((x : A) → p x ≡ q x) → (xs : List A) → count_by p xs ≡ count_by q xs
-  count_alike p q same [] = refl
-  count_alike p q same (x ∷ xs) = count_cons p x xs (q x) (same x) ∙ ap (λ (n : ℕ). cond (q x) 1 0 + n) (count_alike p q same xs) ∙ sym (count_cons q x xs (q x) refl)
+  pub count_by_is_same_where_tests_agree : (p q : A → Bool) → ((x : A) → p x ≡ q x) → (xs : List A) → count_by p xs ≡ count_by q xs
+  count_by_is_same_where_tests_agree p q same [] = refl
+  count_by_is_same_where_tests_agree p q same (x ∷ xs) = count_cons p x xs (q x) (same x) ∙ ap (λ (n : ℕ). cond (q x) 1 0 + n) (count_by_is_same_where_tests_agree p q same xs) ∙ sym (count_cons q x xs (q x) refl)
 
 -- ---- what the map has
 
@@ -48,12 +48,12 @@ module _ {A E : Type 0} (S : Type 0) (eq : A → A → Bool) (equivalence : IsEq
   abbrev HasCome : HashMap A Bool S → List A → Type 0
   HasCome m came = (k : A) → get eq m k ≡ mark (count_by (eq k) came)
 
-  has_come_more : (m n : HashMap A Bool S) (x : A) (v : Bool) (came : List A) → HasCome m came → Some v ≡ mark (suc (count_by (eq x) came)) → Updates eq m n x (Some v) → HasCome n (x ∷ came)
-  has_come_more m n x v came has is updates k = updates.0 k ∙ by_equal (eq x k) refl
+  has_come_after_update : (m n : HashMap A Bool S) (x : A) (v : Bool) (came : List A) → HasCome m came → Some v ≡ mark (suc (count_by (eq x) came)) → Updates eq m n x (Some v) → HasCome n (x ∷ came)
+  has_come_after_update m n x v came has is updates k = updates.0 k ∙ cond_of_marks_is_mark_of_count (eq x k) refl
     where
-      by_equal : (b : Bool) → eq x k ≡ b → cond b (Some v) (get eq m k) ≡ mark (count_by (eq k) (x ∷ came))
-      by_equal true e = is ∙ ap mark (ap (λ (c : ℕ). suc c) (count_alike (eq x) (eq k) (λ z. equivalence.congr x k z e) came) ∙ omega arith ∙ sym (count_cons (eq k) x came true (equivalence.symm k x ∙ e)))
-      by_equal false e = has k ∙ ap mark (omega arith ∙ sym (count_cons (eq k) x came false (equivalence.symm k x ∙ e)))
+      cond_of_marks_is_mark_of_count : (b : Bool) → eq x k ≡ b → cond b (Some v) (get eq m k) ≡ mark (count_by (eq k) (x ∷ came))
+      cond_of_marks_is_mark_of_count true e = is ∙ ap mark (ap (λ (c : ℕ). suc c) (count_by_is_same_where_tests_agree (eq x) (eq k) (λ z. equivalence.congr x k z e) came) ∙ omega arith ∙ sym (count_cons (eq k) x came true (equivalence.symm k x ∙ e)))
+      cond_of_marks_is_mark_of_count false e = has k ∙ ap mark (omega arith ∙ sym (count_cons (eq k) x came false (equivalence.symm k x ∙ e)))
 
   abbrev CallsOfDuplicates : HashMap A Bool S → A → Outcome A E → HashMap A Bool S → Type 0
   CallsOfDuplicates = duplicates_asks eq from
@@ -71,14 +71,14 @@ module _ {A E : Type 0} (S : Type 0) (eq : A → A → Bool) (equivalence : IsEq
 
   acts_where_none_equals : (m : HashMap A Bool S) (x : A) (came : List A) (o : Outcome A E) (n : HashMap A Bool S) → HasCome m came → 0 ≡ count_by (eq x) came → come_by eq from m x None o n → Acts x 0 came o n
   acts_where_none_equals m x came (Kept y) n has is w = absurd w
-  acts_where_none_equals m x came LeftOut n has is w = inr (refl, has_come_more m n x false came has (ap (λ (c : ℕ). mark (suc c)) is) w)
+  acts_where_none_equals m x came LeftOut n has is w = inr (refl, has_come_after_update m n x false came has (ap (λ (c : ℕ). mark (suc c)) is) w)
   acts_where_none_equals m x came (Failure e) n has is w = inl (e, refl, w.0)
   acts_where_none_equals m x came End n has is w = absurd w
 
   acts_where_so_many_equal : (m : HashMap A Bool S) (x : A) (came : List A) (c : ℕ) (o : Outcome A E) (n : HashMap A Bool S) → HasCome m came → c ≡ count_by (eq x) came → come_by eq from m x (mark c) o n → Acts x c came o n
   acts_where_so_many_equal m x came zero o n has is w = acts_where_none_equals m x came o n has is w
-  acts_where_so_many_equal m x came (suc zero) o n has is w = inr (w.0, has_come_more m n x true came has (ap (λ (c : ℕ). mark (suc c)) is) w.1)
-  acts_where_so_many_equal m x came (suc (suc c)) o n has is w = inr (w.0 ∙ sym (ap (λ (b : Bool). kept_unless (cond b false true) x) (ne_eqb (suc (suc c)) 1 (λ e. omega (arith, e)))), has_come_more m n x true came has (ap (λ (c : ℕ). mark (suc c)) is) w.1)
+  acts_where_so_many_equal m x came (suc zero) o n has is w = inr (w.0, has_come_after_update m n x true came has (ap (λ (c : ℕ). mark (suc c)) is) w.1)
+  acts_where_so_many_equal m x came (suc (suc c)) o n has is w = inr (w.0 ∙ sym (ap (λ (b : Bool). kept_unless (cond b false true) x) (ne_eqb (suc (suc c)) 1 (λ e. omega (arith, e)))), has_come_after_update m n x true came has (ap (λ (c : ℕ). mark (suc c)) is) w.1)
 
   acts : (m : HashMap A Bool S) (x : A) (came : List A) (o : Outcome A E) (n : HashMap A Bool S) → HasCome m came → CallsOfDuplicates m x o n → Acts x (count_by (eq x) came) came o n
   acts m x came o n has w = acts_where_so_many_equal m x came (count_by (eq x) came) o n has refl (subst (λ (v : Option Bool). come_by eq from m x v o n) (has x) w)
@@ -167,26 +167,26 @@ module _ {A E : Type 0} (S : Type 0) (eq : A → A → Bool) (equivalence : IsEq
     gives_duplicates : (l : List (Result A E)) (came : List A) → After l came
     unfolding duplicates_from
     gives_duplicates [] came = λ s p a has r t w. inr (end_of_nil a (passes_of_pass_trace w))
-    gives_duplicates (Err d ∷ l) came = λ s p a has r t w. let k = failure_of_first d l a (passes_of_pass_trace w) in inr (k.0, gives_duplicates l came t.0 t.1 k.2 (subst (λ (q : HashMap A Bool S). HasCome q came) (sym k.1) has))
+    gives_duplicates (Err d ∷ l) came = λ s p a has r t w. let k = answer_is_failure_first_in_list d l a (passes_of_pass_trace w) in inr (k.0, gives_duplicates l came t.0 t.1 k.2 (subst (λ (q : HashMap A Bool S). HasCome q came) (sym k.1) has))
     gives_duplicates (Ok x ∷ l) came = λ s p a has. gives_where_told (FromItem x came l) (s, p) (λ r t w. told_of_first_item x l came s p r t.0 t.1 a has (gives_duplicates l (x ∷ came)) (passes_of_pass_trace w))
 
 module _ {W P A E : Type 0} (from : AllocError → E → Type 0) (view : W → P) (steps : P → Answered A E → P → Type 0) where
   -- a value whose answers are those of its parts gives what they give
   gives_unless_refused_seen : (l : List (Result A E)) (s : W) → GivesUnlessRefused steps from (view s) l → GivesUnlessRefused (λ u r v. steps (view u) r (view v)) from s l
   gives_unless_refused_seen [] s a = λ r t w. a r (view t) w
-  gives_unless_refused_seen (y ∷ l) s a = λ r t w. by_answer r t (λ b. gives_unless_refused_seen l t b) (a r (view t) w)
+  gives_unless_refused_seen (y ∷ l) s a = λ r t w. refusal_or_gives_seen_by_answer r t (λ b. gives_unless_refused_seen l t b) (a r (view t) w)
     where
-      by_answer : (r : Answered A E) (t : W) → (GivesUnlessRefused steps from (view t) l → GivesUnlessRefused (λ u r v. steps (view u) r (view v)) from t l) → AnswersRefusal from r ⊎ ((r ≡ result_answer y) × GivesUnlessRefused steps from (view t) l) → AnswersRefusal from r ⊎ ((r ≡ result_answer y) × GivesUnlessRefused (λ u r v. steps (view u) r (view v)) from t l)
-      by_answer r t later (inl f) = inl f
-      by_answer r t later (inr k) = inr (k.0, later k.1)
+      refusal_or_gives_seen_by_answer : (r : Answered A E) (t : W) → (GivesUnlessRefused steps from (view t) l → GivesUnlessRefused (λ u r v. steps (view u) r (view v)) from t l) → AnswersRefusal from r ⊎ ((r ≡ result_answer y) × GivesUnlessRefused steps from (view t) l) → AnswersRefusal from r ⊎ ((r ≡ result_answer y) × GivesUnlessRefused (λ u r v. steps (view u) r (view v)) from t l)
+      refusal_or_gives_seen_by_answer r t later (inl f) = inl f
+      refusal_or_gives_seen_by_answer r t later (inr k) = inr (k.0, later k.1)
 
-duplicates_from_none : {A E : Type 0} (eq : A → A → Bool) (l : List (Result A E)) → duplicates_from eq [] l ≡ duplicates_of eq l
+duplicates_from_none_is_duplicates_of : {A E : Type 0} (eq : A → A → Bool) (l : List (Result A E)) → duplicates_from eq [] l ≡ duplicates_of eq l
 unfolding duplicates_of
-duplicates_from_none eq l = refl
+duplicates_from_none_is_duplicates_of eq l = refl
 
 pub lists_duplicates : {I A E : Type 0} (eq : A → A → Bool) (equivalence : IsEquivalence eq) (from : AllocError → E → Type 0) (m : Contract I A E) (s : Duplicates I A E) (l : List (Result A E)) → IsEmpty (duplicates_came s) → Lists m.steps s.it l → ListsUnlessRefused (seen_as duplicates_parts (duplicates_contract eq from m)).steps from s (duplicates_of eq l)
 lists_duplicates eq equivalence from m s l none i = record {
-  runs = subst (λ k. GivesUnlessRefused (seen_as duplicates_parts (duplicates_contract eq from m)).steps from s k) (duplicates_from_none eq l)
+  runs = subst (λ k. GivesUnlessRefused (seen_as duplicates_parts (duplicates_contract eq from m)).steps from s k) (duplicates_from_none_is_duplicates_of eq l)
       (gives_unless_refused_seen from duplicates_parts (duplicates_contract eq from m).steps (duplicates_from eq [] l) s
       (gives_duplicates _ eq equivalence from m.steps l [] s.it s.came i.runs (λ k. ap (lookup (eq k)) none)));
 }
@@ -242,43 +242,43 @@ module _ {S A E : Type 0} (steps : S → Answered A E → S → Type 0) (from : 
   draws_told (x ∷ xs) last (y ∷ l) s t stops a ran = item_told y x l xs last (λ k. draws_told xs last l ran.0 t stops k ran.2) (a (item x) ran.0 ran.1)
 
 module _ {A E : Type 0} where
-  collected_all : (xs : List A) → collected {E = E} (map (λ x. Ok x) xs ++ []) ≡ Ok xs
+  collected_where_all_ok_is_items : (xs : List A) → collected {E = E} (map (λ x. Ok x) xs ++ []) ≡ Ok xs
   unfolding collected
-  collected_all [] = refl
-  collected_all (x ∷ xs) = ap (before x) (collected_all xs)
+  collected_where_all_ok_is_items [] = refl
+  collected_where_all_ok_is_items (x ∷ xs) = ap (before x) (collected_where_all_ok_is_items xs)
 
-  collected_failed : (xs : List A) (e : E) (rest : List (Result A E)) → collected (map (λ x. Ok x) xs ++ Err e ∷ rest) ≡ Err e
+  collected_at_failure_is_failure : (xs : List A) (e : E) (rest : List (Result A E)) → collected (map (λ x. Ok x) xs ++ Err e ∷ rest) ≡ Err e
   unfolding collected
-  collected_failed [] e rest = refl
-  collected_failed (x ∷ xs) e rest = ap (before x) (collected_failed xs e rest)
+  collected_at_failure_is_failure [] e rest = refl
+  collected_at_failure_is_failure (x ∷ xs) e rest = ap (before x) (collected_at_failure_is_failure xs e rest)
 
-  counted_all : (xs : List A) → counted {E = E} (map (λ x. Ok x) xs ++ []) ≡ Ok (length xs)
+  counted_where_all_ok_is_length : (xs : List A) → counted {E = E} (map (λ x. Ok x) xs ++ []) ≡ Ok (length xs)
   unfolding counted
-  counted_all [] = refl
-  counted_all (x ∷ xs) = ap one_more_than (counted_all xs) ∙ ap (λ n. Ok n) (omega arith)
+  counted_where_all_ok_is_length [] = refl
+  counted_where_all_ok_is_length (x ∷ xs) = ap one_more_than (counted_where_all_ok_is_length xs) ∙ ap (λ n. Ok n) (omega arith)
 
-  counted_failed : (xs : List A) (e : E) (rest : List (Result A E)) → counted (map (λ x. Ok x) xs ++ Err e ∷ rest) ≡ Err e
+  counted_at_failure_is_failure : (xs : List A) (e : E) (rest : List (Result A E)) → counted (map (λ x. Ok x) xs ++ Err e ∷ rest) ≡ Err e
   unfolding counted
-  counted_failed [] e rest = refl
-  counted_failed (x ∷ xs) e rest = ap one_more_than (counted_failed xs e rest)
+  counted_at_failure_is_failure [] e rest = refl
+  counted_at_failure_is_failure (x ∷ xs) e rest = ap one_more_than (counted_at_failure_is_failure xs e rest)
 
-each_same : {A : Type 0} (xs : List A) → EachMade (λ x y. y ≡ x) xs xs
-each_same [] = tt
-each_same (x ∷ xs) = (refl, each_same xs)
+each_made_of_itself : {A : Type 0} (xs : List A) → EachMade (λ x y. y ≡ x) xs xs
+each_made_of_itself [] = tt
+each_made_of_itself (x ∷ xs) = (refl, each_made_of_itself xs)
 
 module _ {S A E : Type 0} (steps : S → Answered A E → S → Type 0) (from : AllocError → E → Type 0) where
   collected_by : {C : Type 0} (into : List A → C → Type 0) (l : List (Result A E)) (xs : List A) (c : C) → into xs c → DrawsTold steps from l xs end → CollectedMade (λ x y. y ≡ x) from into l (Ok c)
   collected_by into l xs c is (inl f) = absurd (let w = f.1 in cc)
-  collected_by into l xs c is (inr (rest, same, none)) = (xs, xs, ap collected (same ∙ ap (λ k. map (λ x. Ok x) xs ++ k) none) ∙ collected_all xs, each_same xs, is)
+  collected_by into l xs c is (inr (rest, same, none)) = (xs, xs, ap collected (same ∙ ap (λ k. map (λ x. Ok x) xs ++ k) none) ∙ collected_where_all_ok_is_items xs, each_made_of_itself xs, is)
 
   failed_by : (l : List (Result A E)) (xs : List A) (e : E) → DrawsTold steps from l xs (Err e) → (collected l ≡ Err e) ⊎ IsRefusal from e
   failed_by l xs e (inl f) = inr (subst (IsRefusal from) (let w = f.1 in cc) f.2)
-  failed_by l xs e (inr (rest, same, k)) = inl (ap collected (same ∙ ap (λ j. map (λ x. Ok x) xs ++ j) k.1) ∙ collected_failed xs e k.0)
+  failed_by l xs e (inr (rest, same, k)) = inl (ap collected (same ∙ ap (λ j. map (λ x. Ok x) xs ++ j) k.1) ∙ collected_at_failure_is_failure xs e k.0)
 
   counted_by : (l : List (Result A E)) (xs : List A) (last : Answered A E) (r : Result ℕ E) → CountExit (length xs) last r → (IsStop steps from last → DrawsTold steps from l xs last) → SameOrRefused from (counted l) r
   counted_by l xs (Ok (Some y)) r exit told = absurd exit
-  counted_by l xs (Ok None) r exit told = elim (told tt) [ inl f ↦ absurd (let w = f.1 in cc) | inr (rest, same, none) ↦ rw (exit, ap counted (same ∙ ap (λ k. map (λ x. Ok x) xs ++ k) none) ∙ counted_all xs) refl ]
-  counted_by l xs (Err e) r exit told = elim (told tt) [ inl f ↦ rw exit (refused_result (λ v y. y ≡ v) from (counted l) e (subst (IsRefusal from) (let w = f.1 in cc) f.2)) | inr (rest, same, k) ↦ rw exit (failed_result (λ v y. y ≡ v) from (counted l) e (ap counted (same ∙ ap (λ j. map (λ x. Ok x) xs ++ j) k.1) ∙ counted_failed xs e k.0)) ]
+  counted_by l xs (Ok None) r exit told = elim (told tt) [ inl f ↦ absurd (let w = f.1 in cc) | inr (rest, same, none) ↦ rw (exit, ap counted (same ∙ ap (λ k. map (λ x. Ok x) xs ++ k) none) ∙ counted_where_all_ok_is_length xs) refl ]
+  counted_by l xs (Err e) r exit told = elim (told tt) [ inl f ↦ rw exit (told_or_refused_of_refusal (λ v y. y ≡ v) from (counted l) e (subst (IsRefusal from) (let w = f.1 in cc) f.2)) | inr (rest, same, k) ↦ rw exit (told_or_refused_of_failure (λ v y. y ≡ v) from (counted l) e (ap counted (same ∙ ap (λ j. map (λ x. Ok x) xs ++ j) k.1) ∙ counted_at_failure_is_failure xs e k.0)) ]
 
 module _ {S A E : Type 0} {steps : S → Answered A E → S → Type 0} {from : AllocError → E → Type 0} where
   -- what `collect` returns over what lists unless an allocation fails

@@ -7,7 +7,7 @@ use Rattle.std.proofs.Common.{refl, sym, ap, subst, ◌∙◌, arith, eq-eqb, eq
 use Rattle.std.proofs.lemmas.List.{append-nil}
 use Rattle.fallible_iterator.specs.BothEnds.{failures_listed, items_listed}
 use Rattle.fallible_itertools_adapters.specs.Duplicates.{duplicates_from, duplicates_of, second_of_equal}
-use Rattle.fallible_itertools_adapters.proofs.Lemmas.Duplicates.{count_alike, count_cons}
+use Rattle.fallible_itertools_adapters.proofs.Lemmas.Duplicates.{count_by_is_same_where_tests_agree, count_cons}
 
 none_pass : {A : Type 0} (p : A → Bool) (xs : List A) → list_any p xs ≡ false → AllByRecursion (λ y. p y ≡ false) xs
 none_pass p [] is = tt
@@ -24,10 +24,10 @@ module _ {A E : Type 0} (eq : A → A → Bool) where
   came_after came (Ok x ∷ l) = came_after (x ∷ came) l
   came_after came (Err e ∷ l) = came_after came l
 
-  count_after : (p : A → Bool) (came : List A) (l : List (Result A E)) → count_by p (came_after came l) ≡ count_by p came + count_by p (items_listed l)
-  count_after p came [] = omega arith
-  count_after p came (Ok x ∷ l) = let a = count_after p (x ∷ came) l in let b = count_cons p x came (p x) refl in let c = count_cons p x (items_listed l) (p x) refl in omega (arith, a, b, c)
-  count_after p came (Err e ∷ l) = count_after p came l
+  count_by_of_came_after_is_sum : (p : A → Bool) (came : List A) (l : List (Result A E)) → count_by p (came_after came l) ≡ count_by p came + count_by p (items_listed l)
+  count_by_of_came_after_is_sum p came [] = omega arith
+  count_by_of_came_after_is_sum p came (Ok x ∷ l) = let a = count_by_of_came_after_is_sum p (x ∷ came) l in let b = count_cons p x came (p x) refl in let c = count_cons p x (items_listed l) (p x) refl in omega (arith, a, b, c)
+  count_by_of_came_after_is_sum p came (Err e ∷ l) = count_by_of_came_after_is_sum p came l
 
   failures_of_second : (x : A) (b : Bool) (l : List (Result A E)) → failures_listed (second_of_equal x b l) ≡ failures_listed l
   failures_of_second x true l = refl
@@ -70,7 +70,7 @@ module _ {A E : Type 0} (eq : A → A → Bool) where
   -- The last item is one more if exactly one before it equals it.
   pub duplicates_item_last : (l : List (Result A E)) (x : A) → duplicates_of eq (l ++ Ok x ∷ []) ≡ cond (nat_eq (count_by (eq x) (items_listed l)) 1) (duplicates_of eq l ++ Ok x ∷ []) (duplicates_of eq l)
   unfolding duplicates_of duplicates_from
-  duplicates_item_last l x = duplicates_joined [] l (Ok x ∷ []) ∙ last_or_not x _ _ (duplicates_from eq [] l) (ap (λ (n : ℕ). nat_eq n 1) (count_after (eq x) [] l ∙ omega arith))
+  duplicates_item_last l x = duplicates_joined [] l (Ok x ∷ []) ∙ last_or_not x _ _ (duplicates_from eq [] l) (ap (λ (n : ℕ). nat_eq n 1) (count_by_of_came_after_is_sum (eq x) [] l ∙ omega arith))
 
 module _ {A E : Type 0} (eq : A → A → Bool) (equivalence : IsEquivalence eq) where
   -- ---- which items are listed
@@ -79,32 +79,32 @@ module _ {A E : Type 0} (eq : A → A → Bool) (equivalence : IsEquivalence eq)
   abbrev IsListed : A → List A → List (Result A E) → List (Result A E) → Type 0
   IsListed q came l made = Decides (is_member eq (items_listed made) q) ((count_by (eq q) came ≤ 1) × (2 ≤ count_by (eq q) came + count_by (eq q) (items_listed l)))
 
-  listed_second : (q x : A) (came : List A) (l made : List (Result A E)) (e b : Bool) → eq q x ≡ e → nat_eq (count_by (eq x) came) 1 ≡ b → IsListed q (x ∷ came) l made → IsListed q came (Ok x ∷ l) (second_of_equal x b made)
-  listed_second q x came l made false b differs second d = by_second b
+  is_listed_of_second_of_equal : (q x : A) (came : List A) (l made : List (Result A E)) (e b : Bool) → eq q x ≡ e → nat_eq (count_by (eq x) came) 1 ≡ b → IsListed q (x ∷ came) l made → IsListed q came (Ok x ∷ l) (second_of_equal x b made)
+  is_listed_of_second_of_equal q x came l made false b differs second d = is_listed_of_second_where_unequal b
     where
       same_before : count_by (eq q) (x ∷ came) ≡ count_by (eq q) came
       same_before = count_cons (eq q) x came false differs ∙ omega arith
 
-      same_after : count_by (eq q) (x ∷ items_listed l) ≡ count_by (eq q) (items_listed l)
-      same_after = count_cons (eq q) x (items_listed l) false differs ∙ omega arith
+      count_by_is_same_after_unequal_item : count_by (eq q) (x ∷ items_listed l) ≡ count_by (eq q) (items_listed l)
+      count_by_is_same_after_unequal_item = count_cons (eq q) x (items_listed l) false differs ∙ omega arith
 
       of_rest : IsListed q came (Ok x ∷ l) made
-      of_rest = ((λ is. let w = d.0 is in (omega (arith, w.0, same_before), omega (arith, w.1, same_before, same_after))), (λ w. d.1 (omega (arith, w.0, same_before), omega (arith, w.1, same_before, same_after))))
+      of_rest = ((λ is. let w = d.0 is in (omega (arith, w.0, same_before), omega (arith, w.1, same_before, count_by_is_same_after_unequal_item))), (λ w. d.1 (omega (arith, w.0, same_before), omega (arith, w.1, same_before, count_by_is_same_after_unequal_item))))
 
-      by_second : (c : Bool) → IsListed q came (Ok x ∷ l) (second_of_equal x c made)
-      by_second true = subst (λ (e : Bool). Decides (e || is_member eq (items_listed made) q) ((count_by (eq q) came ≤ 1) × (2 ≤ count_by (eq q) came + count_by (eq q) (x ∷ items_listed l)))) (sym differs) of_rest
-      by_second false = of_rest
-  listed_second q x came l made true true same second d = ((λ is. (omega (arith, alike, one), omega (arith, alike, one, count_cons (eq q) x (items_listed l) true same))), (λ w. rw same refl))
+      is_listed_of_second_where_unequal : (c : Bool) → IsListed q came (Ok x ∷ l) (second_of_equal x c made)
+      is_listed_of_second_where_unequal true = subst (λ (e : Bool). Decides (e || is_member eq (items_listed made) q) ((count_by (eq q) came ≤ 1) × (2 ≤ count_by (eq q) came + count_by (eq q) (x ∷ items_listed l)))) (sym differs) of_rest
+      is_listed_of_second_where_unequal false = of_rest
+  is_listed_of_second_of_equal q x came l made true true same second d = ((λ is. (omega (arith, alike, one), omega (arith, alike, one, count_cons (eq q) x (items_listed l) true same))), (λ w. rw same refl))
     where
       alike : count_by (eq q) came ≡ count_by (eq x) came
-      alike = count_alike (eq q) (eq x) (λ z. equivalence.congr q x z same) came
+      alike = count_by_is_same_where_tests_agree (eq q) (eq x) (λ z. equivalence.congr q x z same) came
 
       one : count_by (eq x) came ≡ 1
       one = eqb-true (count_by (eq x) came) 1 second
-  listed_second q x came l made true false same second d = ((λ is. let w = d.0 is in (omega (arith, w.0, before), omega (arith, w.1, before, after))), (λ w. d.1 (at_most_one (count_by (eq q) came) alike w.0, omega (arith, w.1, before, after))))
+  is_listed_of_second_of_equal q x came l made true false same second d = ((λ is. let w = d.0 is in (omega (arith, w.0, before), omega (arith, w.1, before, after))), (λ w. d.1 (at_most_one (count_by (eq q) came) alike w.0, omega (arith, w.1, before, after))))
     where
       alike : count_by (eq q) came ≡ count_by (eq x) came
-      alike = count_alike (eq q) (eq x) (λ z. equivalence.congr q x z same) came
+      alike = count_by_is_same_where_tests_agree (eq q) (eq x) (λ z. equivalence.congr q x z same) came
 
       before : count_by (eq q) (x ∷ came) ≡ 1 + count_by (eq q) came
       before = count_cons (eq q) x came true same
@@ -112,39 +112,39 @@ module _ {A E : Type 0} (eq : A → A → Bool) (equivalence : IsEquivalence eq)
       after : count_by (eq q) (x ∷ items_listed l) ≡ 1 + count_by (eq q) (items_listed l)
       after = count_cons (eq q) x (items_listed l) true same
 
-      never_one : count_by (eq x) came ≡ 1 → ⊥
-      never_one is = let w = sym second ∙ eq-eqb (count_by (eq x) came) 1 is in cc
+      count_by_is_never_one : count_by (eq x) came ≡ 1 → ⊥
+      count_by_is_never_one is = let w = sym second ∙ eq-eqb (count_by (eq x) came) 1 is in cc
 
       at_most_one : (n : ℕ) → n ≡ count_by (eq x) came → count_by (eq q) came ≤ 1 → count_by (eq q) (x ∷ came) ≤ 1
       at_most_one zero is h = omega (arith, is, alike, before)
-      at_most_one (suc n) is h = absurd (never_one (omega (arith, is, alike, h)))
+      at_most_one (suc n) is h = absurd (count_by_is_never_one (omega (arith, is, alike, h)))
 
-  listed_from : (q : A) (came : List A) (l : List (Result A E)) → IsListed q came l (duplicates_from eq came l)
+  is_listed_of_duplicates_from : (q : A) (came : List A) (l : List (Result A E)) → IsListed q came l (duplicates_from eq came l)
   unfolding duplicates_from
-  listed_from q came [] = ((λ is. absurd cc), (λ w. absurd (omega (arith, w.0, w.1))))
-  listed_from q came (Ok x ∷ l) = listed_second q x came l (duplicates_from eq (x ∷ came) l) (eq q x) (nat_eq (count_by (eq x) came) 1) refl refl (listed_from q (x ∷ came) l)
-  listed_from q came (Err e ∷ l) = listed_from q came l
+  is_listed_of_duplicates_from q came [] = ((λ is. absurd cc), (λ w. absurd (omega (arith, w.0, w.1))))
+  is_listed_of_duplicates_from q came (Ok x ∷ l) = is_listed_of_second_of_equal q x came l (duplicates_from eq (x ∷ came) l) (eq q x) (nat_eq (count_by (eq x) came) 1) refl refl (is_listed_of_duplicates_from q (x ∷ came) l)
+  is_listed_of_duplicates_from q came (Err e ∷ l) = is_listed_of_duplicates_from q came l
 
   -- One equal to q is listed exactly if two items or more equal q.
   pub listed_where_twice : (l : List (Result A E)) (q : A) → Decides (is_member eq (items_listed (duplicates_of eq l)) q) (2 ≤ count_by (eq q) (items_listed l))
   unfolding duplicates_of
-  listed_where_twice l q = let d = listed_from q [] l in ((λ is. omega (arith, (d.0 is).1)), (λ h. d.1 (omega arith, omega (arith, h))))
+  listed_where_twice l q = let d = is_listed_of_duplicates_from q [] l in ((λ is. omega (arith, (d.0 is).1)), (λ h. d.1 (omega arith, omega (arith, h))))
 
   -- ---- no item is listed twice
 
-  listed_once : (x : A) (came : List A) (l : List (Result A E)) (b : Bool) → count_by (eq x) came ≡ 1 → is_member eq (items_listed (duplicates_from eq (x ∷ came) l)) x ≡ b → b ≡ false
-  listed_once x came l true is member = let w = (listed_from x (x ∷ came) l).0 member in absurd (omega (arith, w.0, is, count_cons (eq x) x came true (equivalence.refl x)))
-  listed_once x came l false is member = refl
+  not_member_of_duplicates_where_come_once : (x : A) (came : List A) (l : List (Result A E)) (b : Bool) → count_by (eq x) came ≡ 1 → is_member eq (items_listed (duplicates_from eq (x ∷ came) l)) x ≡ b → b ≡ false
+  not_member_of_duplicates_where_come_once x came l true is member = let w = (is_listed_of_duplicates_from x (x ∷ came) l).0 member in absurd (omega (arith, w.0, is, count_cons (eq x) x came true (equivalence.refl x)))
+  not_member_of_duplicates_where_come_once x came l false is member = refl
 
-  distinct_second : (x : A) (came : List A) (l : List (Result A E)) (b : Bool) → nat_eq (count_by (eq x) came) 1 ≡ b → IsDistinct eq (items_listed (duplicates_from eq (x ∷ came) l)) → IsDistinct eq (items_listed (second_of_equal x b (duplicates_from eq (x ∷ came) l)))
+  is_distinct_of_second_of_equal : (x : A) (came : List A) (l : List (Result A E)) (b : Bool) → nat_eq (count_by (eq x) came) 1 ≡ b → IsDistinct eq (items_listed (duplicates_from eq (x ∷ came) l)) → IsDistinct eq (items_listed (second_of_equal x b (duplicates_from eq (x ∷ came) l)))
   unfolding IsDistinct
-  distinct_second x came l true is d = (none_pass (eq x) (items_listed (duplicates_from eq (x ∷ came) l)) (listed_once x came l _ (eqb-true (count_by (eq x) came) 1 is) refl), d)
-  distinct_second x came l false is d = d
+  is_distinct_of_second_of_equal x came l true is d = (none_pass (eq x) (items_listed (duplicates_from eq (x ∷ came) l)) (not_member_of_duplicates_where_come_once x came l _ (eqb-true (count_by (eq x) came) 1 is) refl), d)
+  is_distinct_of_second_of_equal x came l false is d = d
 
   distinct_from : (came : List A) (l : List (Result A E)) → IsDistinct eq (items_listed (duplicates_from eq came l))
   unfolding duplicates_from IsDistinct
   distinct_from came [] = tt
-  distinct_from came (Ok x ∷ l) = distinct_second x came l (nat_eq (count_by (eq x) came) 1) refl (distinct_from (x ∷ came) l)
+  distinct_from came (Ok x ∷ l) = is_distinct_of_second_of_equal x came l (nat_eq (count_by (eq x) came) 1) refl (distinct_from (x ∷ came) l)
   distinct_from came (Err e ∷ l) = distinct_from came l
 
   pub duplicates_distinct : (l : List (Result A E)) → IsDistinct eq (items_listed (duplicates_of eq l))

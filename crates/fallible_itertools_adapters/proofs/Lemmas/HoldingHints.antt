@@ -4,13 +4,13 @@ use Rattle.std.proofs.Common.{sym, ap, subst, arith, ◌∙◌}
 use Rattle.fallible_iterator.specs.Traces.{Answered, Yields, item, failure, end}
 use Rattle.fallible_iterator.specs.Contract.{Contract, seen_as}
 use Rattle.fallible_iterator.specs.SoundHints.{BoundsAbove, BoundsBelow, Brackets, HintsAsSoundAs, SoundHints}
-use Rattle.fallible_iterator.proofs.Lemmas.Hints.Drawn.{as_sound_of_steps_within, brackets_no_item, brackets_seen}
-use Rattle.fallible_iterator.proofs.Lemmas.Hints.Joining.{if_some_fitting_sum_above}
+use Rattle.fallible_iterator.proofs.Lemmas.Hints.Drawn.{as_sound_of_steps_within, brackets_zero_where_no_item, brackets_seen}
+use Rattle.fallible_iterator.proofs.Lemmas.Hints.Joining.{if_some_fitting_sum_at_least_both}
 use Rattle.fallible_iterator.specs.Hints.{fitting_sum}
 use Rattle.fallible_itertools_adapters.specs.Staging.{Made, stage_step}
 use Rattle.fallible_itertools_adapters.specs.Holding.{HintHeld, HintUnlessEnd, HintsPastFailure, HintsWhereHeld, Holds, MadeOfItem, StopMade, filling_contract, holding_contract, holding_meets, holding_step, made_answers, one_at_least, stop_comes}
-use Rattle.fallible_itertools_adapters.specs.Laws.Holding.{is_stage_holding, made_is_known_by_answers, nothing_made, stage_of_holding}
-use Rattle.fallible_itertools_adapters.proofs.Lemmas.StagingHints.{MadeFew, MakesNoFewer, bounds_above_staged, bounds_below_staged, makes_one_at_most}
+use Rattle.fallible_itertools_adapters.specs.Laws.Holding.{is_stage_holding, made_is_known_by_answers, made_is_none_where_no_answers, stage_step_of_holding_step}
+use Rattle.fallible_itertools_adapters.proofs.Lemmas.StagingHints.{MadeFew, MakesNoFewer, bounds_above_staged, bounds_below_staged, makes_at_most_items_and_held}
 use Rattle.fallible_iterator.specs.Outcome.{Outcome}
 use Rattle.fallible_iterator.specs.Outcome.TheVariants.{Kept, LeftOut, Failure, End}
 
@@ -36,7 +36,7 @@ module _ {P X B E : Type 0} (asks : P → Option X → Outcome B E → P → Typ
   module _ (held : P → ℕ) (holds : Holds asks held) (Few : P → ℕ → ℕ → Type 0) (few : KeepsFew Few) where
     few_at_item : (p : P) (x : X) (m : Made B (Option E) E) (q : P) (low : ℕ) (o : Outcome B E) (h : P) → asks p (Some x) o h → MadeOfItem asks o h (made_answers m) q → MadeFew stop_comes m (λ n. Few q (low - 1) n) (λ n. Few p low n)
     few_at_item p x m q low (Kept y) h asked is = rw (made_is_known_by_answers m (item y) None is.0) (λ n after. few.kept p x y q low n (subst (λ g. asks p (Some x) (Kept y) g) (sym is.1) asked) after)
-    few_at_item p x m q low LeftOut h asked is = rw (nothing_made m is.0) (λ n after. few.left_out p x q low n (subst (λ g. asks p (Some x) LeftOut g) (sym is.1) asked) after)
+    few_at_item p x m q low LeftOut h asked is = rw (made_is_none_where_no_answers m is.0) (λ n after. few.left_out p x q low n (subst (λ g. asks p (Some x) LeftOut g) (sym is.1) asked) after)
     few_at_item p x m q low (Failure e) h asked is = made_few_at_failure e is.0 m _ _ is.2
     few_at_item p x m q low End h asked is = absurd (holds p (Some x) End h asked)
 
@@ -59,19 +59,19 @@ module _ {S P X B E : Type 0} (steps : S → Answered X E → S → Type 0) (ask
   abbrev StateOfHoldingHints : Type 0
   StateOfHoldingHints = S × (P × Option (Option E))
 
-  none_before_failure : (e : E) (o : Option ℕ) (xs : List B) (t : StateOfHoldingHints) → Yields (holding_step asks steps) (s, (f, Some (Some e))) xs t → IfSome o (λ n. length xs ≤ n)
-  none_before_failure e (Some n) [] t ran = omega arith
-  none_before_failure e None xs t ran = tt
-  none_before_failure e (Some n) (y ∷ xs) t ran = absurd (let k = ran.1.0 in cc)
+  yields_within_bound_where_failure_due : (e : E) (o : Option ℕ) (xs : List B) (t : StateOfHoldingHints) → Yields (holding_step asks steps) (s, (f, Some (Some e))) xs t → IfSome o (λ n. length xs ≤ n)
+  yields_within_bound_where_failure_due e (Some n) [] t ran = omega arith
+  yields_within_bound_where_failure_due e None xs t ran = tt
+  yields_within_bound_where_failure_due e (Some n) (y ∷ xs) t ran = absurd (let k = ran.1.0 in cc)
 
   no_end_past_failure : (e : E) (xs : List B) (t u : StateOfHoldingHints) → Yields (holding_step asks steps) (s, (f, Some (Some e))) xs t → holding_step asks steps t end u → ⊥
   no_end_past_failure e [] t u ran step = let w : holding_step asks steps (s, (f, Some (Some e))) end u = subst (λ (v : StateOfHoldingHints). holding_step asks steps v end u) (sym ran) step in let k = w.0 in cc
   no_end_past_failure e (y ∷ xs) t u ran step = let k = ran.1.0 in cc
 
   -- Each hint is sound there: none of an item at an end, and any at a failure, before which no item comes and no end.
-  brackets_due_sound : (stop : Option E) (Q : ℕ × Option ℕ → Type 0) (h : ℕ × Option ℕ) → HintUnlessEnd (Some stop) Q h → Brackets (holding_step asks steps) (s, (f, Some stop)) h
-  brackets_due_sound None Q h is = subst (λ (j : ℕ × Option ℕ). Brackets (holding_step asks steps) (s, (f, Some None)) j) (sym is) (brackets_no_item (holding_step asks steps) (s, (f, Some None)) (λ x t w. let k = w.0 in cc))
-  brackets_due_sound (Some e) Q h is = record { above = λ xs t ran. none_before_failure e h.1 xs t ran; below = λ xs t u ran step. absurd (no_end_past_failure e xs t u ran step) }
+  brackets_where_stop_due : (stop : Option E) (Q : ℕ × Option ℕ → Type 0) (h : ℕ × Option ℕ) → HintUnlessEnd (Some stop) Q h → Brackets (holding_step asks steps) (s, (f, Some stop)) h
+  brackets_where_stop_due None Q h is = subst (λ (j : ℕ × Option ℕ). Brackets (holding_step asks steps) (s, (f, Some None)) j) (sym is) (brackets_zero_where_no_item (holding_step asks steps) (s, (f, Some None)) (λ x t w. let k = w.0 in cc))
+  brackets_where_stop_due (Some e) Q h is = record { above = λ xs t ran. yields_within_bound_where_failure_due e h.1 xs t ran; below = λ xs t u ran step. absurd (no_end_past_failure e xs t u ran step) }
 
 -- ---- its hints
 
@@ -91,35 +91,35 @@ module _ {V S P X B E : Type 0} (view : V → S × (P × Option (Option E))) (ca
   abbrev given : V → Option (Option E) → S × (P × Option (Option E))
   given s due = ((view s).0, ((view s).1.0, due))
 
-  above_held : (it : S) (f : P) (k : ℕ × Option ℕ) → BoundsAbove m.steps it k.1 → BoundsAbove Stage (it, (f, None)) (fitting_sum k.1 (Some (held f)))
-  above_held it f k b = bounds_above_staged m.steps stop_comes (holding_meets asks) (λ p n. n + held p) (makes_one_at_most stop_comes (holding_meets asks) held (is_stage_holding asks held holds)) k.1 (fitting_sum k.1 (Some (held f))) it f None (λ n le. if_some_fitting_sum_above k.1 (Some (held f)) n (held f) (0 + (n + held f)) (omega arith) le (omega arith)) b
+  bounds_above_with_held : (it : S) (f : P) (k : ℕ × Option ℕ) → BoundsAbove m.steps it k.1 → BoundsAbove Stage (it, (f, None)) (fitting_sum k.1 (Some (held f)))
+  bounds_above_with_held it f k b = bounds_above_staged m.steps stop_comes (holding_meets asks) (λ p n. n + held p) (makes_at_most_items_and_held stop_comes (holding_meets asks) held (is_stage_holding asks held holds)) k.1 (fitting_sum k.1 (Some (held f))) it f None (λ n le. if_some_fitting_sum_at_least_both k.1 (Some (held f)) n (held f) (0 + (n + held f)) (omega arith) le (omega arith)) b
 
-  sound_undue : (s : V) → (view s).1.1 ≡ None → HintsAsSoundAs SeenWhereHeld s m (view s).0
-  sound_undue s none h is = let of = bounds (view s).0 (view s).1.0 h (subst (λ (d : Option (Option E)). hint_where_held (given s d) h) none is) in
-      let within = as_sound_of_steps_within view SeenWhereHeld.steps Stage (λ u r v w. stage_of_holding asks m.steps (view u) r (view v) w) s h in (
+  hints_as_sound_where_none_due : (s : V) → (view s).1.1 ≡ None → HintsAsSoundAs SeenWhereHeld s m (view s).0
+  hints_as_sound_where_none_due s none h is = let of = bounds (view s).0 (view s).1.0 h (subst (λ (d : Option (Option E)). hint_where_held (given s d) h) none is) in
+      let within = as_sound_of_steps_within view SeenWhereHeld.steps Stage (λ u r v w. stage_step_of_holding_step asks m.steps (view u) r (view v) w) s h in (
         of.0,
         of.1,
         record {
-          above = λ a. within.above (subst (λ (d : Option (Option E)). BoundsAbove Stage (given s d) h.1) (sym none) (subst (λ (o : Option ℕ). BoundsAbove Stage (given s None) o) (sym of.3) (above_held (view s).0 (view s).1.0 of.0 a)));
+          above = λ a. within.above (subst (λ (d : Option (Option E)). BoundsAbove Stage (given s d) h.1) (sym none) (subst (λ (o : Option ℕ). BoundsAbove Stage (given s None) o) (sym of.3) (bounds_above_with_held (view s).0 (view s).1.0 of.0 a)));
           below = λ b. within.below (subst (λ (d : Option (Option E)). BoundsBelow Stage (given s d) h.0) (sym none) (bounds_below_staged m.steps stop_comes (holding_meets asks) Few (makes_no_fewer asks held holds Few few) of.0.0 h.0 (view s).0 (view s).1.0 None of.2 b));
         },
       )
 
-  sound_due : (s : V) (stop : Option E) → (view s).1.1 ≡ Some stop → SoundHints SeenWhereHeld s
-  sound_due s stop due h is = brackets_seen view (holding_step asks m.steps) s h (subst (λ (d : Option (Option E)). Brackets (holding_step asks m.steps) (given s d) h) (sym due) (brackets_due_sound m.steps asks (view s).0 (view s).1.0 stop _ h (subst (λ (d : Option (Option E)). hint_where_held (given s d) h) due is)))
+  sound_hints_where_stop_due : (s : V) (stop : Option E) → (view s).1.1 ≡ Some stop → SoundHints SeenWhereHeld s
+  sound_hints_where_stop_due s stop due h is = brackets_seen view (holding_step asks m.steps) s h (subst (λ (d : Option (Option E)). Brackets (holding_step asks m.steps) (given s d) h) (sym due) (brackets_where_stop_due m.steps asks (view s).0 (view s).1.0 stop _ h (subst (λ (d : Option (Option E)). hint_where_held (given s d) h) due is)))
 
-  past_failure : (s : V) (e : E) → (view s).1.1 ≡ Some (Some e) → HintsPastFailure SeenWhereHeld s e
-  past_failure s e due t h step is = let w : holding_step asks m.steps (given s (Some (Some e))) (Err e) (view t) = subst (λ (d : Option (Option E)). holding_step asks m.steps (given s d) (Err e) (view t)) due step in
+  hints_past_failure_where_failure_due : (s : V) (e : E) → (view s).1.1 ≡ Some (Some e) → HintsPastFailure SeenWhereHeld s e
+  hints_past_failure_where_failure_due s e due t h step is = let w : holding_step asks m.steps (given s (Some (Some e))) (Err e) (view t) = subst (λ (d : Option (Option E)). holding_step asks m.steps (given s d) (Err e) (view t)) due step in
       subst (λ (p : S × (P × Option (Option E))). hint_where_held p h) (sym (ap (λ (z : S). (z, (view t).1)) w.1 ∙ ap (λ (z : P × Option (Option E)). ((view s).0, z)) w.2)) (subst (λ (d : Option (Option E)). hint_where_held (given s d) h) due is)
 
   pub hints_where_held : HintsWhereHeld SeenWhereHeld (λ s. (view s).1.1) m (λ s. (view s).0)
-  hints_where_held = record { none_due = sound_undue; due = sound_due; failure_due = past_failure }
+  hints_where_held = record { none_due = hints_as_sound_where_none_due; due = sound_hints_where_stop_due; failure_due = hints_past_failure_where_failure_due }
 
 -- ---- at least one, where the source has one or one is held
 
 module _ {V S P X B E : Type 0} (view : V → S × (P × Option (Option E))) (m : Contract S X E) (asks : P → Option X → Outcome B E → P → Type 0) (pre : P → Option X → Type 0) (held : P → ℕ) (holds : Holds asks held) (gives : GivesHeld asks held) where
-  keeps_one : KeepsFew asks (λ p low n. min (low + held p) 1 ≤ n)
-  keeps_one = record {
+  keeps_few_of_one_at_least : KeepsFew asks (λ p low n. min (low + held p) 1 ≤ n)
+  keeps_few_of_one_at_least = record {
     kept = λ p x y q low n asked after. omega arith;
     left_out = λ p x q low n asked after. let some = gives.left_out p x q asked in omega (arith, some, after);
     kept_at_end = λ p y q asked. omega arith;
@@ -129,12 +129,12 @@ module _ {V S P X B E : Type 0} (view : V → S × (P × Option (Option E))) (m 
   abbrev IsOne : S → P → ℕ × Option ℕ → Type 0
   IsOne s p h = (k : ℕ × Option ℕ) × m.hints s k × HintHeld (held p) k h
 
-  one_bounds : (s : S) (p : P) (h : ℕ × Option ℕ) → IsOne s p h → (k : ℕ × Option ℕ) × m.hints s k × ((n : ℕ) → min (k.0 + held p) 1 ≤ n → h.0 ≤ n) × (h.1 ≡ fitting_sum k.1 (Some (held p)))
-  one_bounds s p h is = (is.0, is.1, (λ n few. rw is.2.0 few), is.2.1)
+  source_hint_bounds_where_is_one : (s : S) (p : P) (h : ℕ × Option ℕ) → IsOne s p h → (k : ℕ × Option ℕ) × m.hints s k × ((n : ℕ) → min (k.0 + held p) 1 ≤ n → h.0 ≤ n) × (h.1 ≡ fitting_sum k.1 (Some (held p)))
+  source_hint_bounds_where_is_one s p h is = (is.0, is.1, (λ n few. rw is.2.0 few), is.2.1)
 
   -- also where the adapter has a condition of its own
-  pub hints_held_with : (can : S × (P × Option (Option E)) → Type 0) → HintsWhereHeld (seen_as view (record (holding_contract m asks pre held (one_at_least m held)) { can_next = can })) (λ s. (view s).1.1) m (λ s. (view s).0)
-  hints_held_with can = hints_where_held view can m asks pre held holds (λ p low n. min (low + held p) 1 ≤ n) keeps_one IsOne one_bounds
+  pub hints_where_held_with_can_next : (can : S × (P × Option (Option E)) → Type 0) → HintsWhereHeld (seen_as view (record (holding_contract m asks pre held (one_at_least m held)) { can_next = can })) (λ s. (view s).1.1) m (λ s. (view s).0)
+  hints_where_held_with_can_next can = hints_where_held view can m asks pre held holds (λ p low n. min (low + held p) 1 ≤ n) keeps_few_of_one_at_least IsOne source_hint_bounds_where_is_one
 
-  pub hints_held : HintsWhereHeld (seen_as view (holding_contract m asks pre held (one_at_least m held))) (λ s. (view s).1.1) m (λ s. (view s).0)
-  hints_held = hints_held_with (holding_contract m asks pre held (one_at_least m held)).can_next
+  pub hints_where_held_of_one_at_least : HintsWhereHeld (seen_as view (holding_contract m asks pre held (one_at_least m held))) (λ s. (view s).1.1) m (λ s. (view s).0)
+  hints_where_held_of_one_at_least = hints_where_held_with_can_next (holding_contract m asks pre held (one_at_least m held)).can_next

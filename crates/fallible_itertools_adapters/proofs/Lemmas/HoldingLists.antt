@@ -6,7 +6,7 @@ use Rattle.fallible_iterator.specs.Lists.{AlwaysGives, result_answer}
 use Rattle.fallible_iterator.specs.Making.{AtRefusal, GivesMade, IsRefusal}
 use Rattle.fallible_itertools_adapters.specs.Staging.{Made, made_before, one_made, stage_step, stop_answer}
 use Rattle.fallible_itertools_adapters.specs.Holding.{MadeOfItem, MadeOfStop, StopMade, holding_meets, holding_step, made_answers, stop_comes}
-use Rattle.fallible_itertools_adapters.specs.Laws.Holding.{made_is_known_by_answers, nothing_made, stage_of_holding}
+use Rattle.fallible_itertools_adapters.specs.Laws.Holding.{made_is_known_by_answers, made_is_none_where_no_answers, stage_step_of_holding_step}
 use Rattle.fallible_itertools_adapters.proofs.Lemmas.StagingLists.{EndMade, GivesUpTo, IsAnswerMade, IsMadeAs, RefusedAt, always_gives_within, gives_made_within, gives_staged_up_to_refusal, made_first, staged}
 use Rattle.std.specs.declared.alloc.AllocError.{AllocError}
 use Rattle.fallible_iterator.specs.Outcome.{Outcome}
@@ -51,27 +51,27 @@ module _ {Q X B E : Type 0} (does : Q → Option X → Outcome B E) (next : Q �
   made_first_splits_at_failure (Failure d) e rest = refl
   made_first_splits_at_failure End e rest = refl
 
-  stop_appended : (o : Outcome B E) (e : E) (a whole tail : List (Result B E)) → whole ≡ a ++ tail → made_first stop_comes (stop_made (Some e) o) whole ≡ made_first stop_comes (stop_made (Some e) o) a ++ tail
-  stop_appended (Kept y) e a whole tail is = ap (λ k. Ok y ∷ Err e ∷ k) is
-  stop_appended LeftOut e a whole tail is = ap (λ k. Err e ∷ k) is
-  stop_appended (Failure d) e a whole tail is = ap (λ k. Err d ∷ Err e ∷ k) is
-  stop_appended End e a whole tail is = ap (λ k. Err e ∷ k) is
+  made_first_of_append_at_failure : (o : Outcome B E) (e : E) (a whole tail : List (Result B E)) → whole ≡ a ++ tail → made_first stop_comes (stop_made (Some e) o) whole ≡ made_first stop_comes (stop_made (Some e) o) a ++ tail
+  made_first_of_append_at_failure (Kept y) e a whole tail is = ap (λ k. Ok y ∷ Err e ∷ k) is
+  made_first_of_append_at_failure LeftOut e a whole tail is = ap (λ k. Err e ∷ k) is
+  made_first_of_append_at_failure (Failure d) e a whole tail is = ap (λ k. Err d ∷ Err e ∷ k) is
+  made_first_of_append_at_failure End e a whole tail is = ap (λ k. Err e ∷ k) is
 
   module _ (none : Q) (settles : (a : Q) → next a None ≡ none) (no_end : (a : Q) (x : X) → does a (Some x) ≡ End → ⊥) where
-    by_outcome_parts : (o : Outcome B E) (n : Q) (l : List (Result X E)) (e : E) (k : List (Result X E)) → (o ≡ End → ⊥) → ((b : Q) → held_list b (l ++ Err e ∷ k) ≡ held_list b l ++ Err e ∷ held_list none k) → by_outcome o n (l ++ Err e ∷ k) ≡ by_outcome o n l ++ Err e ∷ held_list none k
-    by_outcome_parts (Kept y) n l e k some rest = ap (λ j. Ok y ∷ j) (rest n)
-    by_outcome_parts LeftOut n l e k some rest = rest n
-    by_outcome_parts (Failure d) n l e k some rest = stop_appended (does n None) d _ _ _ (rest (next n None))
-    by_outcome_parts End n l e k some rest = absurd (some refl)
+    by_outcome_splits_at_failure : (o : Outcome B E) (n : Q) (l : List (Result X E)) (e : E) (k : List (Result X E)) → (o ≡ End → ⊥) → ((b : Q) → held_list b (l ++ Err e ∷ k) ≡ held_list b l ++ Err e ∷ held_list none k) → by_outcome o n (l ++ Err e ∷ k) ≡ by_outcome o n l ++ Err e ∷ held_list none k
+    by_outcome_splits_at_failure (Kept y) n l e k some rest = ap (λ j. Ok y ∷ j) (rest n)
+    by_outcome_splits_at_failure LeftOut n l e k some rest = rest n
+    by_outcome_splits_at_failure (Failure d) n l e k some rest = made_first_of_append_at_failure (does n None) d _ _ _ (rest (next n None))
+    by_outcome_splits_at_failure End n l e k some rest = absurd (some refl)
 
-    held_list_parts : (a : Q) (l : List (Result X E)) (e : E) (k : List (Result X E)) → held_list a (l ++ Err e ∷ k) ≡ held_list a l ++ Err e ∷ held_list none k
-    held_list_parts a [] e k = made_first_splits_at_failure (does a None) e (held_list (next a None) k) ∙ ap (λ (n : Q). held_list a [] ++ Err e ∷ held_list n k) (settles a)
-    held_list_parts a (Ok x ∷ l) e k = by_outcome_parts (does a (Some x)) (next a (Some x)) l e k (no_end a x) (λ b. held_list_parts b l e k)
-    held_list_parts a (Err d ∷ l) e k = stop_appended (does a None) d _ _ _ (held_list_parts (next a None) l e k)
+    held_list_splits_at_failure : (a : Q) (l : List (Result X E)) (e : E) (k : List (Result X E)) → held_list a (l ++ Err e ∷ k) ≡ held_list a l ++ Err e ∷ held_list none k
+    held_list_splits_at_failure a [] e k = made_first_splits_at_failure (does a None) e (held_list (next a None) k) ∙ ap (λ (n : Q). held_list a [] ++ Err e ∷ held_list n k) (settles a)
+    held_list_splits_at_failure a (Ok x ∷ l) e k = by_outcome_splits_at_failure (does a (Some x)) (next a (Some x)) l e k (no_end a x) (λ b. held_list_splits_at_failure b l e k)
+    held_list_splits_at_failure a (Err d ∷ l) e k = made_first_of_append_at_failure (does a None) d _ _ _ (held_list_splits_at_failure (next a None) l e k)
 
     -- What stands before a failure is listed by itself, and so is what comes after it, where nothing is held.
-    pub listed_parts : (f : List (Result X E) → List (Result B E)) → ((l : List (Result X E)) → held_list none l ≡ f l) → (a : List (Result X E)) (e : E) (b : List (Result X E)) → f (a ++ Err e ∷ b) ≡ f a ++ Err e ∷ f b
-    listed_parts f is a e b = sym (is (a ++ Err e ∷ b)) ∙ held_list_parts none a e b ∙ ap (λ l. l ++ Err e ∷ held_list none b) (is a) ∙ ap (λ l. f a ++ Err e ∷ l) (is b)
+    pub splits_at_failure_where_is_held_list : (f : List (Result X E) → List (Result B E)) → ((l : List (Result X E)) → held_list none l ≡ f l) → (a : List (Result X E)) (e : E) (b : List (Result X E)) → f (a ++ Err e ∷ b) ≡ f a ++ Err e ∷ f b
+    splits_at_failure_where_is_held_list f is a e b = sym (is (a ++ Err e ∷ b)) ∙ held_list_splits_at_failure none a e b ∙ ap (λ l. l ++ Err e ∷ held_list none b) (is a) ∙ ap (λ l. f a ++ Err e ∷ l) (is b)
 
   -- ---- where something is held, something comes
 
@@ -82,25 +82,25 @@ module _ {Q X B E : Type 0} (does : Q → Option X → Outcome B E) (next : Q �
     pub no_end : (a : Q) (x : X) → does a (Some x) ≡ End → ⊥
 
   module _ (Full : Q → Type 0) (answers : AnswersHeld Full) where
-    some_before_failure : (o : Outcome B E) (e : E) (rest : List (Result B E)) → made_first stop_comes (stop_made (Some e) o) rest ≡ [] → ⊥
-    some_before_failure (Kept y) e rest none = cc
-    some_before_failure LeftOut e rest none = cc
-    some_before_failure (Failure d) e rest none = cc
-    some_before_failure End e rest none = cc
+    made_first_not_empty_at_failure : (o : Outcome B E) (e : E) (rest : List (Result B E)) → made_first stop_comes (stop_made (Some e) o) rest ≡ [] → ⊥
+    made_first_not_empty_at_failure (Kept y) e rest none = cc
+    made_first_not_empty_at_failure LeftOut e rest none = cc
+    made_first_not_empty_at_failure (Failure d) e rest none = cc
+    made_first_not_empty_at_failure End e rest none = cc
 
-    some_by : (a : Q) (x : X) (o : Outcome B E) (l : List (Result X E)) → does a (Some x) ≡ o → ((n : Q) → Full n → held_list n l ≡ [] → ⊥) → by_outcome o (next a (Some x)) l ≡ [] → ⊥
-    some_by a x (Kept y) l is later none = cc
-    some_by a x LeftOut l is later none = later (next a (Some x)) (answers.left_out a x is) none
-    some_by a x (Failure e) l is later none = some_before_failure (does (next a (Some x)) None) e _ none
-    some_by a x End l is later none = answers.no_end a x is
+    by_outcome_not_empty_where_full : (a : Q) (x : X) (o : Outcome B E) (l : List (Result X E)) → does a (Some x) ≡ o → ((n : Q) → Full n → held_list n l ≡ [] → ⊥) → by_outcome o (next a (Some x)) l ≡ [] → ⊥
+    by_outcome_not_empty_where_full a x (Kept y) l is later none = cc
+    by_outcome_not_empty_where_full a x LeftOut l is later none = later (next a (Some x)) (answers.left_out a x is) none
+    by_outcome_not_empty_where_full a x (Failure e) l is later none = made_first_not_empty_at_failure (does (next a (Some x)) None) e _ none
+    by_outcome_not_empty_where_full a x End l is later none = answers.no_end a x is
 
-    some_first : (a : Q) (y : Result X E) (l : List (Result X E)) → ((n : Q) → Full n → held_list n l ≡ [] → ⊥) → held_list a (y ∷ l) ≡ [] → ⊥
-    some_first a (Ok x) l later none = some_by a x (does a (Some x)) l refl later none
-    some_first a (Err e) l later none = some_before_failure (does a None) e _ none
+    held_list_of_cons_not_empty : (a : Q) (y : Result X E) (l : List (Result X E)) → ((n : Q) → Full n → held_list n l ≡ [] → ⊥) → held_list a (y ∷ l) ≡ [] → ⊥
+    held_list_of_cons_not_empty a (Ok x) l later none = by_outcome_not_empty_where_full a x (does a (Some x)) l refl later none
+    held_list_of_cons_not_empty a (Err e) l later none = made_first_not_empty_at_failure (does a None) e _ none
 
-    some_kept : (l : List (Result X E)) (n : Q) → Full n → held_list n l ≡ [] → ⊥
-    some_kept [] n full none = let k = answers.at_stop n full in absurd (let h : made_first stop_comes (stop_made None (Kept k.0)) [] ≡ [] = (rw k.1 at none) in cc)
-    some_kept (y ∷ l) n full none = some_first n y l (some_kept l) none
+    held_list_not_empty_where_full : (l : List (Result X E)) (n : Q) → Full n → held_list n l ≡ [] → ⊥
+    held_list_not_empty_where_full [] n full none = let k = answers.at_stop n full in absurd (let h : made_first stop_comes (stop_made None (Kept k.0)) [] ≡ [] = (rw k.1 at none) in cc)
+    held_list_not_empty_where_full (y ∷ l) n full none = held_list_of_cons_not_empty n y l (held_list_not_empty_where_full l) none
 
 -- ---- what is made, as answers
 
@@ -137,7 +137,7 @@ module _ {S P Q X Y B E : Type 0} (steps : S → Answered X E → S → Type 0) 
 
     acts_at_item : (o : Outcome Y E) (v : Outcome B E) (n : Q) (h q : P) (m : Made B (Option E) E) → At h n → OutcomeMade made o v → MadeOfItem asks v h (made_answers m) q → At q (at_item does next o n).1 × IsMadeAs made (at_item does next o n).0 m
     acts_at_item (Kept z) (Kept y) n h q m at w is = (subst (λ g. At g n) (sym is.1) at, rw (made_is_known_by_answers m (item y) None is.0) (w, refl))
-    acts_at_item LeftOut LeftOut n h q m at w is = (subst (λ g. At g n) (sym is.1) at, rw (nothing_made m is.0) tt)
+    acts_at_item LeftOut LeftOut n h q m at w is = (subst (λ g. At g n) (sym is.1) at, rw (made_is_none_where_no_answers m is.0) tt)
     acts_at_item (Failure d) (Failure e) n h q m at w is = acts_at_stop (Some d) h q n m at (subst (λ c. MadeOfStop asks (Some c) h (made_answers m) q) w is)
     acts_at_item End End n h q m at w is = acts_at_stop None h q n m at is
     acts_at_item o v n h q m at w is = absurd w
@@ -157,18 +157,18 @@ module _ {S P Q X Y B E : Type 0} (steps : S → Answered X E → S → Type 0) 
 
 -- ---- plain
 
-outcome_itself : {B E : Type 0} (o : Outcome B E) → OutcomeMade (λ z y. y ≡ z) o o
-outcome_itself (Kept y) = refl
-outcome_itself LeftOut = tt
-outcome_itself (Failure e) = refl
-outcome_itself End = tt
+outcome_made_of_itself : {B E : Type 0} (o : Outcome B E) → OutcomeMade (λ z y. y ≡ z) o o
+outcome_made_of_itself (Kept y) = refl
+outcome_made_of_itself LeftOut = tt
+outcome_made_of_itself (Failure e) = refl
+outcome_made_of_itself End = tt
 
 module _ {S P Q X B E : Type 0} (steps : S → Answered X E → S → Type 0) (asks : P → Option X → Outcome B E → P → Type 0) (At : P → Q → Type 0) (does : Q → Option X → Outcome B E) (next : Q → Option X → Q) (acts_so : (p : P) (a : Q) (x : Option X) (o : Outcome B E) (q : P) → At p a → asks p x o q → At q (next a x) × (o ≡ does a x)) where
-  acts_itself : (p : P) (a : Q) (x : Option X) (o : Outcome B E) (q : P) → At p a → asks p x o q → At q (next a x) × OutcomeMade (λ z y. y ≡ z) (does a x) o
-  acts_itself p a x o q at w = let k = acts_so p a x o q at w in (k.0, rw k.1 (outcome_itself (does a x)))
+  asked_outcome_is_does_at_next : (p : P) (a : Q) (x : Option X) (o : Outcome B E) (q : P) → At p a → asks p x o q → At q (next a x) × OutcomeMade (λ z y. y ≡ z) (does a x) o
+  asked_outcome_is_does_at_next p a x o q at w = let k = acts_so p a x o q at w in (k.0, rw k.1 (outcome_made_of_itself (does a x)))
 
   pub gives_held_list : (l : List (Result X E)) (s : S) (p : P) (a : Q) → At p a → AlwaysGives steps s l → AlwaysGives (holding_step asks steps) (s, (p, None)) (held_list does next a l)
-  gives_held_list l s p a at i = always_gives_within (λ v. v) steps stop_comes (holding_meets asks) (holding_step asks steps) (stage_of_holding asks steps) _ (s, (p, None)) (gives_held steps asks (λ z y. y ≡ z) (λ r t. ⊥) At does next (λ p a x o h at w. inr (acts_itself p a (Some x) o h at w)) (λ p a o q at w. acts_itself p a None o q at w) (λ a y l r t w. absurd w) l s p a at i)
+  gives_held_list l s p a at i = always_gives_within (λ v. v) steps stop_comes (holding_meets asks) (holding_step asks steps) (stage_step_of_holding_step asks steps) _ (s, (p, None)) (gives_held steps asks (λ z y. y ≡ z) (λ r t. ⊥) At does next (λ p a x o h at w. inr (asked_outcome_is_does_at_next p a (Some x) o h at w)) (λ p a o q at w. asked_outcome_is_does_at_next p a None o q at w) (λ a y l r t w. absurd w) l s p a at i)
 
 -- ---- made
 
@@ -202,5 +202,5 @@ module _ {S P Q X Y B E : Type 0} (steps : S → Answered X E → S → Type 0) 
   refused_after : (o : Outcome B E) (h : P) → IsRefused from o → RefusedAfter steps asks made Refuses At does next o h
   refused_after o h w m q is = let k : MadeOfItem asks (Failure w.0) h (made_answers m) q = (rw w.1 at is) in refused_at_stop w.0 k.0 m q w.2 (kept_at_stop h k.0 q k.1) k.2
 
-  pub gives_held_made : (l : List (Result X E)) (s : S) (p : P) (a : Q) → At p a → AlwaysGives steps s l → GivesMade made (holding_step asks steps) from (s, (p, None)) (held_list does next a l)
-  gives_held_made l s p a at i = gives_made_within (λ v. v) steps stop_comes (holding_meets asks) (holding_step asks steps) (stage_of_holding asks steps) made from _ (s, (p, None)) (gives_held steps asks made Refuses At does next (λ p a x o h at w. elim (on_item p a x o h at w) [ inl k ↦ inl (refused_after o h k) | inr k ↦ inr k ]) on_stop (λ a y l r t w. some_first does next Full answers a y l (some_kept does next Full answers l)) l s p a at i)
+  pub gives_made_of_held_list : (l : List (Result X E)) (s : S) (p : P) (a : Q) → At p a → AlwaysGives steps s l → GivesMade made (holding_step asks steps) from (s, (p, None)) (held_list does next a l)
+  gives_made_of_held_list l s p a at i = gives_made_within (λ v. v) steps stop_comes (holding_meets asks) (holding_step asks steps) (stage_step_of_holding_step asks steps) made from _ (s, (p, None)) (gives_held steps asks made Refuses At does next (λ p a x o h at w. elim (on_item p a x o h at w) [ inl k ↦ inl (refused_after o h k) | inr k ↦ inr k ]) on_stop (λ a y l r t w. held_list_of_cons_not_empty does next Full answers a y l (held_list_not_empty_where_full does next Full answers l)) l s p a at i)

@@ -10,15 +10,15 @@ use Rattle.fallible_iterator.specs.Lists.{GivesForGood, Lists, result_answer}
 use Rattle.fallible_iterator.specs.SoundHints.{AsSoundAsBoth}
 use Rattle.fallible_iterator.specs.Traces.{Answered, Run, Yields, item, end}
 use Rattle.fallible_iterator.specs.Fuse.{Fuse}
-use Rattle.fallible_iterator.proofs.Lemmas.Hints.Drawn.{if_some_no_greater}
-use Rattle.fallible_iterator.proofs.Lemmas.Hints.Joining.{if_some_fitting_sum_above}
+use Rattle.fallible_iterator.proofs.Lemmas.Hints.Drawn.{if_some_at_least_of_smaller}
+use Rattle.fallible_iterator.proofs.Lemmas.Hints.Joining.{if_some_fitting_sum_at_least_both}
 use Rattle.fallible_iterator.proofs.Lemmas.LawForm.{traces_are_of_parts}
 use Rattle.fallible_iterator.proofs.Lemmas.Lists.ForGood.{lists_once, lists_for_good_seen}
 use Rattle.fallible_iterator.specs.Interleaved.{Interleaved, of_neither, of_first, of_second}
 use Rattle.fallible_itertools_adapters.specs.Interleave.{InterleaveTrace, Turn, TurnsTrace, by_itself, by_other, interleave_contract, interleave_parts, interleave_step, interleaved, turn_answer, turn_draws, turns_drawn, waits_after}
 use Rattle.fallible_itertools_adapters.specs.Sides.{fused_steps}
 use Rattle.fallible_itertools_adapters.specs.declared.interleave.Interleave.{Interleave}
-use Rattle.fallible_itertools_adapters.proofs.Lemmas.Sides.{EndsOnce, ItemsCome, ItemsThenEnd, first_answer, first_for_good, gives_for_good_of_fresh, gives_for_good_of_sides, items_come_before_draw, rest_of, side_hint_above, side_hint_below}
+use Rattle.fallible_itertools_adapters.proofs.Lemmas.Sides.{EndsOnce, ItemsCome, ItemsThenEnd, first_answer, answers_first_where_gives_for_good, gives_for_good_of_fresh, gives_for_good_where_each_answers_first, items_come_before_draw, rest_of, side_hint_above, side_hint_below}
 
 -- ---- whole traces
 
@@ -38,12 +38,12 @@ module _ {S U A E : Type 0} (steps : S → Answered A E → S → Type 0) (other
   abbrev TurnStep : TurnState → Answered A E → TurnState → Type 0
   TurnStep = interleave_step steps others
 
-  trace_of_turns : (trace : List (Answered A E)) (p q : TurnState) → Run TurnStep p trace q → TurnsTrace steps others p trace q
-  trace_of_turns [] p q e = record { turns = []; left = ap (λ (z : TurnState). z.0) e; right = ap (λ (z : TurnState). z.1) e; next = sym (ap (λ (z : TurnState). z.2) e); answers = refl }
-  trace_of_turns (r ∷ rest) p q ran =
+  turns_trace_of_run : (trace : List (Answered A E)) (p q : TurnState) → Run TurnStep p trace q → TurnsTrace steps others p trace q
+  turns_trace_of_run [] p q e = record { turns = []; left = ap (λ (z : TurnState). z.0) e; right = ap (λ (z : TurnState). z.1) e; next = sym (ap (λ (z : TurnState). z.2) e); answers = refl }
+  turns_trace_of_run (r ∷ rest) p q ran =
       let m = ran.0 in
       let w = ran.1 in
-      let d = trace_of_turns rest m q ran.2 in
+      let d = turns_trace_of_run rest m q ran.2 in
       record {
         turns = w.0 ∷ d.turns;
         left = run_joined steps (turn_draws p.2 w.0) (turns_drawn (not p.2) d.turns) p.0 m.0 q.0 w.1 (subst (λ (z : Bool). Run steps m.0 (turns_drawn z d.turns) q.0) w.3 d.left);
@@ -60,7 +60,7 @@ module _ {S U A E : Type 0} (steps : S → Answered A E → S → Type 0) (other
       ((l.0, k.0, not p.2), (x, l.1, k.1, refl, refl), run_of_turns turns (l.0, k.0, not p.2) q l.2 k.2 e)
 
   turns_law : (p : TurnState) (trace : List (Answered A E)) (q : TurnState) → Run TurnStep p trace q ↔ TurnsTrace steps others p trace q
-  turns_law p trace q = (trace_of_turns trace p q, (λ d. rw d.answers (run_of_turns d.turns p q d.left d.right d.next)))
+  turns_law p trace q = (turns_trace_of_run trace p q, (λ d. rw d.answers (run_of_turns d.turns p q d.left d.right d.next)))
 
   abbrev of_parts : Fuse S × Fuse U × Bool → Interleave S U
   of_parts p = record { left = p.0; right = p.1; right_next = p.2 }
@@ -77,44 +77,44 @@ module _ {A E : Type 0} where
   by_turn false a b = interleaved a b
   by_turn true a b = interleaved b a
 
-  interleaved_with_none : (a : List (Result A E)) → interleaved a [] ≡ a
+  interleaved_with_empty_is_same : (a : List (Result A E)) → interleaved a [] ≡ a
   unfolding interleaved
-  interleaved_with_none [] = refl
-  interleaved_with_none (x ∷ a) = refl
+  interleaved_with_empty_is_same [] = refl
+  interleaved_with_empty_is_same (x ∷ a) = refl
 
   -- after an answer of the first list it is the second one's turn
-  interleaved_first : (x : Result A E) (a b : List (Result A E)) → interleaved (x ∷ a) b ≡ x ∷ interleaved b a
+  interleaved_of_cons_is_first_and_swapped : (x : Result A E) (a b : List (Result A E)) → interleaved (x ∷ a) b ≡ x ∷ interleaved b a
   unfolding interleaved
-  interleaved_first x a [] = refl
-  interleaved_first x [] (y ∷ b) = refl
-  interleaved_first x (z ∷ a) (y ∷ b) = ap {B = List (Result A E)} (λ l. x ∷ y ∷ l) (interleaved_first z a b)
+  interleaved_of_cons_is_first_and_swapped x a [] = refl
+  interleaved_of_cons_is_first_and_swapped x [] (y ∷ b) = refl
+  interleaved_of_cons_is_first_and_swapped x (z ∷ a) (y ∷ b) = ap {B = List (Result A E)} (λ l. x ∷ y ∷ l) (interleaved_of_cons_is_first_and_swapped z a b)
 
-  none_dropped : (n : ℕ) → ◌≡◌ {A = List (Result A E)} (drop n []) []
-  none_dropped zero = refl
-  none_dropped (suc n) = refl
+  drop_of_empty_is_empty : (n : ℕ) → ◌≡◌ {A = List (Result A E)} (drop n []) []
+  drop_of_empty_is_empty zero = refl
+  drop_of_empty_is_empty (suc n) = refl
 
-  none_added : (l : List (Result A E)) → l ≡ l ++ []
-  none_added [] = refl
-  none_added (x ∷ l) = ap {B = List (Result A E)} (λ k. x ∷ k) (none_added l)
+  list_is_append_of_empty : (l : List (Result A E)) → l ≡ l ++ []
+  list_is_append_of_empty [] = refl
+  list_is_append_of_empty (x ∷ l) = ap {B = List (Result A E)} (λ k. x ∷ k) (list_is_append_of_empty l)
 
-  pub interleaved_turns : (a b : List (Result A E)) → interleaved a b ≡ flat_map (λ p. p.0 ∷ p.1 ∷ []) (zip a b) ++ (drop (length b) a ++ drop (length a) b)
+  pub interleaved_is_zip_before_dropped : (a b : List (Result A E)) → interleaved a b ≡ flat_map (λ p. p.0 ∷ p.1 ∷ []) (zip a b) ++ (drop (length b) a ++ drop (length a) b)
   unfolding interleaved
-  interleaved_turns [] b = ap {B = List (Result A E)} (λ l. l ++ b) (sym (none_dropped (length b)))
-  interleaved_turns (x ∷ a) [] = none_added (x ∷ a) ∙ ap {B = List (Result A E)} (λ l. (x ∷ a) ++ l) (sym (none_dropped (length (x ∷ a))))
-  interleaved_turns (x ∷ a) (y ∷ b) = ap {B = List (Result A E)} (λ l. x ∷ y ∷ l) (interleaved_turns a b)
+  interleaved_is_zip_before_dropped [] b = ap {B = List (Result A E)} (λ l. l ++ b) (sym (drop_of_empty_is_empty (length b)))
+  interleaved_is_zip_before_dropped (x ∷ a) [] = list_is_append_of_empty (x ∷ a) ∙ ap {B = List (Result A E)} (λ l. (x ∷ a) ++ l) (sym (drop_of_empty_is_empty (length (x ∷ a))))
+  interleaved_is_zip_before_dropped (x ∷ a) (y ∷ b) = ap {B = List (Result A E)} (λ l. x ∷ y ∷ l) (interleaved_is_zip_before_dropped a b)
 
-  all_of_first : (a : List (Result A E)) → Interleaved a [] a
-  all_of_first [] = of_neither
-  all_of_first (x ∷ a) = of_first x (all_of_first a)
+  interleaved_all_of_first : (a : List (Result A E)) → Interleaved a [] a
+  interleaved_all_of_first [] = of_neither
+  interleaved_all_of_first (x ∷ a) = of_first x (interleaved_all_of_first a)
 
-  all_of_second : (b : List (Result A E)) → Interleaved [] b b
-  all_of_second [] = of_neither
-  all_of_second (y ∷ b) = of_second y (all_of_second b)
+  interleaved_all_of_second : (b : List (Result A E)) → Interleaved [] b b
+  interleaved_all_of_second [] = of_neither
+  interleaved_all_of_second (y ∷ b) = of_second y (interleaved_all_of_second b)
 
   pub interleaved_of_both : (a b : List (Result A E)) → Interleaved a b (interleaved a b)
   unfolding interleaved
-  interleaved_of_both [] b = all_of_second b
-  interleaved_of_both (x ∷ a) [] = all_of_first (x ∷ a)
+  interleaved_of_both [] b = interleaved_all_of_second b
+  interleaved_of_both (x ∷ a) [] = interleaved_all_of_first (x ∷ a)
   interleaved_of_both (x ∷ a) (y ∷ b) = of_first x (of_second y (interleaved_of_both a b))
 
 -- ---- what it lists
@@ -126,32 +126,32 @@ result_is_no_end (Err e) is = absurd cc
 
 module _ {S A E : Type 0} (steps : S → Answered A E → S → Type 0) where
   -- the one answer of a side is what stands first
-  first_of_run : (l : List (Result A E)) (s t : S) (r : Answered A E) → GivesForGood steps s l → Run steps s (r ∷ []) t → (r ≡ first_answer l) × GivesForGood steps t (rest_of l)
-  first_of_run l s t r i ran = subst (λ (u : S). (r ≡ first_answer l) × GivesForGood steps u (rest_of l)) ran.2 (first_for_good steps l s ran.0 r i ran.1)
+  first_answer_of_run : (l : List (Result A E)) (s t : S) (r : Answered A E) → GivesForGood steps s l → Run steps s (r ∷ []) t → (r ≡ first_answer l) × GivesForGood steps t (rest_of l)
+  first_answer_of_run l s t r i ran = subst (λ (u : S). (r ≡ first_answer l) × GivesForGood steps u (rest_of l)) ran.2 (answers_first_where_gives_for_good steps l s ran.0 r i ran.1)
 
-  stays_at_rest : (l : List (Result A E)) (s t : S) → GivesForGood steps s l → Run steps s [] t → GivesForGood steps t l
-  stays_at_rest l s t i ran = subst (λ (u : S). GivesForGood steps u l) ran i
+  gives_for_good_after_empty_run : (l : List (Result A E)) (s t : S) → GivesForGood steps s l → Run steps s [] t → GivesForGood steps t l
+  gives_for_good_after_empty_run l s t i ran = subst (λ (u : S). GivesForGood steps u l) ran i
 
 module _ {S U A E : Type 0} (steps : S → Answered A E → S → Type 0) (others : U → Answered A E → U → Type 0) where
   -- one turn of a side that lists a, beside one that lists b
-  turn_goes : (x : Turn A E) (s t : S) (u v : U) (a b : List (Result A E)) → GivesForGood steps s a → GivesForGood others u b → Run steps s (turn_draws false x) t → Run others u (turn_draws true x) v → (turn_answer x ≡ first_answer (interleaved a b)) × ((c : List (Result A E)) × (d : List (Result A E)) × GivesForGood steps t c × GivesForGood others v d × (interleaved d c ≡ rest_of (interleaved a b)))
+  turn_answers_first_of_interleaved : (x : Turn A E) (s t : S) (u v : U) (a b : List (Result A E)) → GivesForGood steps s a → GivesForGood others u b → Run steps s (turn_draws false x) t → Run others u (turn_draws true x) v → (turn_answer x ≡ first_answer (interleaved a b)) × ((c : List (Result A E)) × (d : List (Result A E)) × GivesForGood steps t c × GivesForGood others v d × (interleaved d c ≡ rest_of (interleaved a b)))
   unfolding interleaved
-  turn_goes (by_itself y) s t u v [] b i k m n = let no = (first_of_run steps [] s t (result_answer y) i m).0 in absurd (result_is_no_end y no)
-  turn_goes (by_itself y) s t u v (z ∷ a) b i k m n = let w = first_of_run steps (z ∷ a) s t (result_answer y) i m in let e = interleaved_first z a b in (w.0 ∙ sym (ap first_answer e), (a, b, w.1, stays_at_rest others b u v k n, sym (ap rest_of e)))
-  turn_goes (by_other r) s t u v [] b i k m n = let w = first_of_run steps [] s t end i m in let o = first_of_run others b u v r k n in (o.0, ([], rest_of b, w.1, o.1, interleaved_with_none (rest_of b)))
-  turn_goes (by_other r) s t u v (z ∷ a) b i k m n = let no = (first_of_run steps (z ∷ a) s t end i m).0 in absurd (result_is_no_end z (sym no))
+  turn_answers_first_of_interleaved (by_itself y) s t u v [] b i k m n = let no = (first_answer_of_run steps [] s t (result_answer y) i m).0 in absurd (result_is_no_end y no)
+  turn_answers_first_of_interleaved (by_itself y) s t u v (z ∷ a) b i k m n = let w = first_answer_of_run steps (z ∷ a) s t (result_answer y) i m in let e = interleaved_of_cons_is_first_and_swapped z a b in (w.0 ∙ sym (ap first_answer e), (a, b, w.1, gives_for_good_after_empty_run others b u v k n, sym (ap rest_of e)))
+  turn_answers_first_of_interleaved (by_other r) s t u v [] b i k m n = let w = first_answer_of_run steps [] s t end i m in let o = first_answer_of_run others b u v r k n in (o.0, ([], rest_of b, w.1, o.1, interleaved_with_empty_is_same (rest_of b)))
+  turn_answers_first_of_interleaved (by_other r) s t u v (z ∷ a) b i k m n = let no = (first_answer_of_run steps (z ∷ a) s t end i m).0 in absurd (result_is_no_end z (sym no))
 
   -- the sides list a and b, and this is what is listed of both at this turn
   abbrev ListInTurn : S × U × Bool → List (Result A E) → Type 0
   ListInTurn p l = (a : List (Result A E)) × (b : List (Result A E)) × GivesForGood steps p.0 a × GivesForGood others p.1 b × (by_turn p.2 a b ≡ l)
 
 module _ {S U A E : Type 0} (steps : S → Answered A E → S → Type 0) (others : U → Answered A E → U → Type 0) where
-  in_turn_goes : (p q : S × U × Bool) (r : Answered A E) (l : List (Result A E)) → ListInTurn steps others p l → interleave_step steps others p r q → (r ≡ first_answer l) × ListInTurn steps others q (rest_of l)
-  in_turn_goes (s, u, false) (t, v, c) r l i w = let d = turn_goes steps others w.0 s t u v i.0 i.1 i.2 i.3 w.1 w.2 in rw (w.3, w.4, ← i.4) (d.0, d.1)
-  in_turn_goes (s, u, true) (t, v, c) r l i w = let d = turn_goes others steps w.0 u v s t i.1 i.0 i.3 i.2 w.2 w.1 in rw (w.3, w.4, ← i.4) (d.0, (d.1.1, d.1.0, d.1.3, d.1.2, d.1.4))
+  step_in_turn_answers_first : (p q : S × U × Bool) (r : Answered A E) (l : List (Result A E)) → ListInTurn steps others p l → interleave_step steps others p r q → (r ≡ first_answer l) × ListInTurn steps others q (rest_of l)
+  step_in_turn_answers_first (s, u, false) (t, v, c) r l i w = let d = turn_answers_first_of_interleaved steps others w.0 s t u v i.0 i.1 i.2 i.3 w.1 w.2 in rw (w.3, w.4, ← i.4) (d.0, d.1)
+  step_in_turn_answers_first (s, u, true) (t, v, c) r l i w = let d = turn_answers_first_of_interleaved others steps w.0 u v s t i.1 i.0 i.3 i.2 w.2 w.1 in rw (w.3, w.4, ← i.4) (d.0, (d.1.1, d.1.0, d.1.3, d.1.2, d.1.4))
 
   gives_for_good_in_turn : (s : S) (u : U) (a b : List (Result A E)) → GivesForGood steps s a → GivesForGood others u b → GivesForGood (interleave_step steps others) (s, u, false) (interleaved a b)
-  gives_for_good_in_turn s u a b i k = gives_for_good_of_sides (interleave_step steps others) (ListInTurn steps others) (λ p q r l d w. in_turn_goes p q r l d w) (interleaved a b) (s, u, false) (a, b, i, k, refl)
+  gives_for_good_in_turn s u a b i k = gives_for_good_where_each_answers_first (interleave_step steps others) (ListInTurn steps others) (λ p q r l d w. step_in_turn_answers_first p q r l d w) (interleaved a b) (s, u, false) (a, b, i, k, refl)
 
 module _ {S U A E : Type 0} (left : Contract S A E) (right : Contract U A E) (c : Interleave S U) {p : Fuse S} {q : Fuse U} (s : S) (u : U) (a b : List (Result A E)) where
   pub lists_interleaved : interleave_parts c ≡ (p, q, false) → fuse_parts p ≡ (s, false) → fuse_parts q ≡ (u, false) → Lists left.steps s a → Lists right.steps u b → Lists (seen_as interleave_parts (interleave_contract left right)).steps c (interleaved a b)
@@ -166,25 +166,25 @@ taken false (by_other r) = 0
 taken true (by_itself y) = 0
 taken true (by_other r) = 1
 
-one_taken : {A E : Type 0} (b : Bool) (x : Turn A E) → taken b x + taken (not b) x ≡ 1
-one_taken false (by_itself y) = refl
-one_taken false (by_other r) = refl
-one_taken true (by_itself y) = refl
-one_taken true (by_other r) = refl
+taken_of_both_sides_is_one : {A E : Type 0} (b : Bool) (x : Turn A E) → taken b x + taken (not b) x ≡ 1
+taken_of_both_sides_is_one false (by_itself y) = refl
+taken_of_both_sides_is_one false (by_other r) = refl
+taken_of_both_sides_is_one true (by_itself y) = refl
+taken_of_both_sides_is_one true (by_other r) = refl
 
 module _ {S A E : Type 0} (steps : S → Answered A E → S → Type 0) where
-  items_come_first : (s t : S) (y : A) (n : ℕ) → Run steps s (item y ∷ []) t → ItemsCome steps (t, None) n → ItemsCome steps (s, None) (1 + n)
-  items_come_first s t y n ran d = record { came = y ∷ d.came; left = d.left; ran = (ran.0, ran.1, subst (λ (u : S). Yields steps u d.came d.left) (sym ran.2) d.ran); many = omega (arith, d.many) }
+  items_come_one_more_at_item : (s t : S) (y : A) (n : ℕ) → Run steps s (item y ∷ []) t → ItemsCome steps (t, None) n → ItemsCome steps (s, None) (1 + n)
+  items_come_one_more_at_item s t y n ran d = record { came = y ∷ d.came; left = d.left; ran = (ran.0, ran.1, subst (λ (u : S). Yields steps u d.came d.left) (sym ran.2) d.ran); many = omega (arith, d.many) }
 
   items_come_fewer : (p : S × Option A) (n m : ℕ) → m ≤ n → ItemsCome steps p n → ItemsCome steps p m
   items_come_fewer p n m le d = record { came = d.came; left = d.left; ran = d.ran; many = omega (arith, le, d.many) }
 
   items_come_at_turn : EndsOnce steps → (b : Bool) (x : Turn A E) (z : A) (s t : S) (n : ℕ) → turn_answer x ≡ item z → Run steps s (turn_draws b x) t → ItemsCome steps (t, None) n → ItemsCome steps (s, None) (taken b x + n)
-  items_come_at_turn once false (by_itself (Ok y)) z s t n is ran d = items_come_first s t y n ran d
+  items_come_at_turn once false (by_itself (Ok y)) z s t n is ran d = items_come_one_more_at_item s t y n ran d
   items_come_at_turn once false (by_itself (Err e)) z s t n is ran d = absurd cc
   items_come_at_turn once false (by_other r) z s t n is ran d = (items_come_before_draw steps once (s, None) ran.0 None None n (inl refl) ran.1 (subst (λ (u : S). ItemsCome steps (u, None) n) (sym ran.2) d)).0
   items_come_at_turn once true (by_itself y) z s t n is ran d = items_come_fewer (s, None) n _ (omega arith) (subst (λ (u : S). ItemsCome steps (u, None) n) (sym ran) d)
-  items_come_at_turn once true (by_other r) z s t n is ran d = items_come_first s t z n (subst (λ (a : Answered A E). Run steps s (a ∷ []) t) is ran) d
+  items_come_at_turn once true (by_other r) z s t n is ran d = items_come_one_more_at_item s t z n (subst (λ (a : Answered A E). Run steps s (a ∷ []) t) is ran) d
 
   items_end_first : (s t : S) (y : A) (n : ℕ) → Run steps s (item y ∷ []) t → ItemsThenEnd steps (t, None) n → ItemsThenEnd steps (s, None) (1 + n)
   items_end_first s t y n ran d = record { came = y ∷ d.came; left = d.left; last = d.last; ran = (ran.0, ran.1, subst (λ (u : S). Yields steps u d.came d.left) (sym ran.2) d.ran); ended = d.ended; few = omega (arith, d.few) }
@@ -222,7 +222,7 @@ module _ {S U A E : Type 0} (steps : S → Answered A E → S → Type 0) (other
       let m = ran.0 in
       let w = ran.1 in
       let d = both_come_in_turn once also zs m q ran.2 in
-      (taken p.2 w.0 + d.0, taken (not p.2) w.0 + d.1, items_come_at_turn steps once p.2 w.0 z p.0 m.0 d.0 (sym w.4) w.1 d.2, items_come_at_turn others also (not p.2) w.0 z p.1 m.1 d.1 (sym w.4) w.2 d.3, omega (arith, one_taken p.2 w.0, d.4))
+      (taken p.2 w.0 + d.0, taken (not p.2) w.0 + d.1, items_come_at_turn steps once p.2 w.0 z p.0 m.0 d.0 (sym w.4) w.1 d.2, items_come_at_turn others also (not p.2) w.0 z p.1 m.1 d.1 (sym w.4) w.2 d.3, omega (arith, taken_of_both_sides_is_one p.2 w.0, d.4))
 
   -- items and then an end come of both sides, n together at most
   abbrev BothEnd : S × U × Bool → ℕ → Type 0
@@ -234,7 +234,7 @@ module _ {S U A E : Type 0} (steps : S → Answered A E → S → Type 0) (other
       let m = ran.0 in
       let x = ran.1 in
       let d = both_end_in_turn zs m q r ran.2 w in
-      (taken p.2 x.0 + d.0, taken (not p.2) x.0 + d.1, items_end_at_turn steps p.2 x.0 z p.0 m.0 d.0 (sym x.4) x.1 d.2, items_end_at_turn others (not p.2) x.0 z p.1 m.1 d.1 (sym x.4) x.2 d.3, omega (arith, one_taken p.2 x.0, d.4))
+      (taken p.2 x.0 + d.0, taken (not p.2) x.0 + d.1, items_end_at_turn steps p.2 x.0 z p.0 m.0 d.0 (sym x.4) x.1 d.2, items_end_at_turn others (not p.2) x.0 z p.1 m.1 d.1 (sym x.4) x.2 d.3, omega (arith, taken_of_both_sides_is_one p.2 x.0, d.4))
 
   pub as_sound_as_both_interleave : EndsOnce steps → EndsOnce others → (p : S × U × Bool) (h g k : ℕ × Option ℕ) → h ≡ hint_sum g k → AsSoundAsBoth StepHere p h steps p.0 g others p.1 k
   as_sound_as_both_interleave once also p h g k is = rw is (record {
@@ -242,7 +242,7 @@ module _ {S U A E : Type 0} (steps : S → Answered A E → S → Type 0) (other
         let b = both_come_in_turn once also zs p q ran in
         let high = side_hint_above {A = A} None g b.0 _ b.2.many (i b.2.came b.2.left b.2.ran) in
         let more = side_hint_above {A = A} None k b.1 _ b.3.many (j b.3.came b.3.left b.3.ran) in
-        if_some_no_greater (hint_sum g k).1 _ (b.0 + b.1) b.4 (if_some_fitting_sum_above g.1 k.1 b.0 b.1 _ refl high more);
+        if_some_at_least_of_smaller (hint_sum g k).1 _ (b.0 + b.1) b.4 (if_some_fitting_sum_at_least_both g.1 k.1 b.0 b.1 _ refl high more);
     below = λ i j zs q r ran w.
         let b = both_end_in_turn zs p q r ran w in
         let low = side_hint_below {A = A} None g b.0 _ (i b.2.came b.2.left b.2.last b.2.ran b.2.ended) b.2.few in

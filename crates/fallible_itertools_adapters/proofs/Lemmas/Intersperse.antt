@@ -8,23 +8,23 @@ use Rattle.fallible_iterator.proofs.Lemmas.Lists.Passing.{lists_seen}
 use Rattle.fallible_itertools_adapters.specs.Parting.{each_after_made, interspersed_by}
 use Rattle.fallible_itertools_adapters.specs.Intersperse.{CloneSeparates, IntersperseTrace, intersperse_step, intersperse_contract, intersperse_parts, each_after, interspersed}
 use Rattle.fallible_itertools_adapters.specs.Laws.Intersperse.{separator_stays}
-use Rattle.fallible_itertools_adapters.proofs.Lemmas.Parting.{always_gives_first}
+use Rattle.fallible_itertools_adapters.proofs.Lemmas.Parting.{always_gives_interspersed_by}
 use Rattle.fallible_itertools_adapters.proofs.Lemmas.PartingTraces.{parting_law, stays_run}
 use Rattle.std.specs.declared.alloc.AllocError.{AllocError}
 use Rattle.fallible_itertools_adapters.specs.declared.intersperse.Intersperse.{Intersperse}
 
 -- where each separator is the same, the list is that of one
-each_after_made_by_constant : {A E : Type 0} (s : A) (l : List (Result A E)) → each_after_made (λ n. Ok s) l ≡ each_after s l
+each_after_made_by_constant_is_each_after : {A E : Type 0} (s : A) (l : List (Result A E)) → each_after_made (λ n. Ok s) l ≡ each_after s l
 unfolding each_after_made each_after
-each_after_made_by_constant s [] = refl
-each_after_made_by_constant s (Ok x ∷ l) = ap (λ k. Ok s ∷ Ok x ∷ k) (each_after_made_by_constant s l)
-each_after_made_by_constant s (Err e ∷ l) = ap (λ k. Err e ∷ k) (each_after_made_by_constant s l)
+each_after_made_by_constant_is_each_after s [] = refl
+each_after_made_by_constant_is_each_after s (Ok x ∷ l) = ap (λ k. Ok s ∷ Ok x ∷ k) (each_after_made_by_constant_is_each_after s l)
+each_after_made_by_constant_is_each_after s (Err e ∷ l) = ap (λ k. Err e ∷ k) (each_after_made_by_constant_is_each_after s l)
 
-pub interspersed_by_same : {A E : Type 0} (s : A) (l : List (Result A E)) → interspersed_by (λ n. Ok s) l ≡ interspersed s l
+pub interspersed_by_constant_is_interspersed : {A E : Type 0} (s : A) (l : List (Result A E)) → interspersed_by (λ n. Ok s) l ≡ interspersed s l
 unfolding interspersed_by interspersed
-interspersed_by_same s [] = refl
-interspersed_by_same s (Ok x ∷ l) = ap (λ k. Ok x ∷ k) (each_after_made_by_constant s l)
-interspersed_by_same s (Err e ∷ l) = ap (λ k. Err e ∷ k) (interspersed_by_same s l)
+interspersed_by_constant_is_interspersed s [] = refl
+interspersed_by_constant_is_interspersed s (Ok x ∷ l) = ap (λ k. Ok x ∷ k) (each_after_made_by_constant_is_each_after s l)
+interspersed_by_constant_is_interspersed s (Err e ∷ l) = ap (λ k. Err e ∷ k) (interspersed_by_constant_is_interspersed s l)
 
 module _ {A E : Type 0} (is_clone : A → A → Type 0) (is_infallible : A → Type 0) (from : AllocError → E → Type 0) where
   module _ (z : A) (equal : (copy : A) → is_clone z copy → copy ≡ z) (infallible : is_infallible z) where
@@ -36,11 +36,11 @@ module _ {A E : Type 0} (is_clone : A → A → Type 0) (is_infallible : A → T
     separator_answer_is_item (Ok copy) y w = (ap (λ a. Ok a) (equal copy w.0), w.1)
     separator_answer_is_item (Err e) y w = absurd (w.0.0 infallible)
 
-    separators_of_clones : (x : A) (h : ℕ → Result A E) (v : Result A E) (y : A) → AtSeparator x h → CloneSeparates is_clone is_infallible from x v y → (v ≡ h 0) × AtSeparator y (λ n. h (suc n))
-    separators_of_clones x h v y is w = let d = separator_answer_is_item v y (subst (λ (a : A). CloneSeparates is_clone is_infallible from a v y) is.0 w) in (d.0 ∙ sym (ap (λ k. k 0) is.1), (d.1, ap (λ k. λ n. k (suc n)) is.1))
+    separator_is_next_of_clones : (x : A) (h : ℕ → Result A E) (v : Result A E) (y : A) → AtSeparator x h → CloneSeparates is_clone is_infallible from x v y → (v ≡ h 0) × AtSeparator y (λ n. h (suc n))
+    separator_is_next_of_clones x h v y is w = let d = separator_answer_is_item v y (subst (λ (a : A). CloneSeparates is_clone is_infallible from a v y) is.0 w) in (d.0 ∙ sym (ap (λ k. k 0) is.1), (d.1, ap (λ k. λ n. k (suc n)) is.1))
 
   pub lists_interspersed : {S : Type 0} {it : S} (z : A) → ((copy : A) → is_clone z copy → copy ≡ z) → is_infallible z → (m : Contract S A E) (s : Intersperse S A E) (l : List (Result A E)) → intersperse_parts s ≡ (it, (z, (false, None))) → Lists m.steps it l → Lists (seen_as intersperse_parts (intersperse_contract is_clone is_infallible from m)).steps s (interspersed z l)
-  lists_interspersed {it = it} z equal infallible m s l parts i = lists_seen intersperse_parts (intersperse_contract is_clone is_infallible from m).steps s parts (interspersed_by_same z l) (always_gives_first (CloneSeparates is_clone is_infallible from) (AtSeparator z equal infallible) (separators_of_clones z equal infallible) m.steps l it z (λ n. Ok z) (refl, refl) i.runs)
+  lists_interspersed {it = it} z equal infallible m s l parts i = lists_seen intersperse_parts (intersperse_contract is_clone is_infallible from m).steps s parts (interspersed_by_constant_is_interspersed z l) (always_gives_interspersed_by (CloneSeparates is_clone is_infallible from) (AtSeparator z equal infallible) (separator_is_next_of_clones z equal infallible) m.steps l it z (λ n. Ok z) (refl, refl) i.runs)
 
   -- a run is a trace, and the separator stays
   pub intersperse_law : {S : Type 0} (steps : S → Answered A E → S → Type 0) (p : S × (A × (Bool × Option A))) (trace : List (Answered A E)) (q : S × (A × (Bool × Option A))) → Run (intersperse_step is_clone is_infallible from steps) p trace q ↔ IntersperseTrace is_clone is_infallible from steps p trace q

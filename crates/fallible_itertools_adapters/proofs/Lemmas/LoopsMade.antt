@@ -3,7 +3,7 @@ use Rattle.std.specs.Prelude.{◌≡◌, Some, None, Result, Ok, Err, List, [], 
 use Rattle.std.proofs.Common.{refl, sym, ap, subst, inl, inr, ◌∙◌}
 use Rattle.fallible_iterator.specs.Traces.{Answered}
 use Rattle.fallible_iterator.specs.Making.{GivesMade, IsRefusal, IsToldOrRefused, ListsMade, RefusesNext}
-use Rattle.fallible_iterator.proofs.Lemmas.Making.{end_told, failed_result, failure_told, item_told, refused_result}
+use Rattle.fallible_iterator.proofs.Lemmas.Making.{answer_told_is_never_end, told_or_refused_of_failure, failure_told, item_told, told_or_refused_of_refusal}
 use Rattle.std.specs.declared.alloc.AllocError.{AllocError}
 
 module _ {S X B E C R : Type 0} (made : X → B → Type 0) (steps : S → Answered B E → S → Type 0) (from : AllocError → E → Type 0) (answers : C → List (Result X E) → R) where
@@ -55,7 +55,7 @@ module _ {S X B E C R : Type 0} (made : X → B → Type 0) (steps : S → Answe
 
   whole_after_nil : {whole : R} {s t : S} {c : C} (l : List (Result X E)) → GivesMade made steps from s l → whole ≡ answers c l → steps s (Ok None) t → whole ≡ answers c []
   whole_after_nil [] gives is drawn = is
-  whole_after_nil {t = t} (z ∷ l) gives is drawn = end_told made steps from z t (gives _ _ drawn)
+  whole_after_nil {t = t} (z ∷ l) gives is drawn = answer_told_is_never_end made steps from z t (gives _ _ drawn)
 
   after_end : {whole : R} {s t : S} {c : C} → OrRefusesNext whole s c → steps s (Ok None) t → whole ≡ answers c []
   after_end (inl r) drawn = absurd (let h = (r _ _ drawn).1 in cc)
@@ -76,8 +76,8 @@ module _ {S X B E C R : Type 0} {made : X → B → Type 0} {steps : S → Answe
     whole_at_end here drawn is whole lists = after_end made steps from answers (here.at whole lists) (subst (λ z. steps s z t) is drawn)
 
 by_failure : {X E V T C : Type 0} (into : V → T → Type 0) (from : AllocError → E → Type 0) (answers : C → List (Result X E) → Result V E) (c : C) (e : E) (whole : Result V E) → ((k : List (Result X E)) → answers c (Err e ∷ k) ≡ Err e) → IsRefusal from e ⊎ ((k : List (Result X E)) × (whole ≡ answers c (Err e ∷ k))) → IsToldOrRefused into from whole (Err e)
-by_failure into from answers c e whole same (inl w) = refused_result into from whole e w
-by_failure into from answers c e whole same (inr k) = failed_result into from whole e (k.1 ∙ same k.0)
+by_failure into from answers c e whole same (inl w) = told_or_refused_of_refusal into from whole e w
+by_failure into from answers c e whole same (inr k) = told_or_refused_of_failure into from whole e (k.1 ∙ same k.0)
 
 -- If the loop returns a result, it is the given one, or an allocation failed.
 module _ {S X B E C V T : Type 0} {made : X → B → Type 0} {steps : S → Answered B E → S → Type 0} {from : AllocError → E → Type 0} {answers : C → List (Result X E) → Result V E} (into : V → T → Type 0) {s0 s t : S} {c0 c : C} {r : Answered B E} where

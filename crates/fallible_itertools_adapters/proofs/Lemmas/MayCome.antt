@@ -5,11 +5,11 @@ use Rattle.fallible_iterator.specs.Traces.{Answered, item, failure}
 use Rattle.fallible_iterator.specs.Contract.{Contract}
 use Rattle.fallible_iterator.specs.Closures.{MayAnswer, Reaches}
 use Rattle.fallible_iterator.specs.Lists.{result_answer}
-use Rattle.fallible_iterator.specs.Laws.Closures.{may_answer_after, may_answer_of_call, reaches_from, reaches_reflexive, reaches_transitive}
+use Rattle.fallible_iterator.specs.Laws.Closures.{may_answer_where_reached_may_answer, may_answer_of_call, reaches_by_call_first, reaches_reflexive, reaches_transitive}
 use Rattle.fallible_itertools_adapters.specs.Staging.{IsDue, IsMade, Made, MayCome, MayMeet, stop_answer}
 use Rattle.fallible_itertools_adapters.specs.Laws.Staging.{kept_where_reached}
 use Rattle.fallible_itertools_adapters.specs.Holding.{MadeOfItem, MayBeAsked, StopMade, holding_meets, made_answers, stop_comes}
-use Rattle.fallible_itertools_adapters.specs.Laws.Holding.{after_met, made_is_known_by_answers, nothing_made}
+use Rattle.fallible_itertools_adapters.specs.Laws.Holding.{invariant_holds_after_met, made_is_known_by_answers, made_is_none_where_no_answers}
 use Rattle.fallible_itertools_adapters.specs.Parting.{item_comes, parting_meets, parting_stage}
 use Rattle.fallible_iterator.specs.Outcome.{Outcome}
 use Rattle.fallible_iterator.specs.Outcome.TheVariants.{Kept, LeftOut, Failure, End}
@@ -24,35 +24,35 @@ module _ {S P X B E : Type 0} (m : Contract S X E) (asks : P → Option X → Ou
   OfCall s p (Err e) = m.may_fail s e ⊎ MayAnswer asks (MayBeAsked m s) p (λ asked o. o ≡ Failure e)
 
   of_call_after : (s : S) (p g : P) (r : Answered B E) → Reaches asks (MayBeAsked m s) p g → OfCall s g r → OfCall s p r
-  of_call_after s p g (Ok (Some y)) reached w = may_answer_after (λ x a. a) reached w
+  of_call_after s p g (Ok (Some y)) reached w = may_answer_where_reached_may_answer (λ x a. a) reached w
   of_call_after s p g (Ok None) reached w = tt
-  of_call_after s p g (Err e) reached w = elim w [ inl k ↦ inl k | inr k ↦ inr (may_answer_after (λ x a. a) reached k) ]
+  of_call_after s p g (Err e) reached w = elim w [ inl k ↦ inl k | inr k ↦ inr (may_answer_where_reached_may_answer (λ x a. a) reached k) ]
 
   module _ (s : S) (p : P) (r : Answered B E) where
     -- of two answers, each of which may come
-    of_either : {a b : Answered B E} → OfCall s p a → OfCall s p b → (a ≡ r) ⊎ (b ≡ r) → OfCall s p r
-    of_either one two (inl e) = subst (λ z. OfCall s p z) e one
-    of_either one two (inr e) = subst (λ z. OfCall s p z) e two
+    of_call_of_either : {a b : Answered B E} → OfCall s p a → OfCall s p b → (a ≡ r) ⊎ (b ≡ r) → OfCall s p r
+    of_call_of_either one two (inl e) = subst (λ z. OfCall s p z) e one
+    of_call_of_either one two (inr e) = subst (λ z. OfCall s p z) e two
 
-    of_stop : (stop : Option E) (g q : P) (o : Outcome B E) (made : Made B (Option E) E) → Reaches asks (MayBeAsked m s) p g → OfCall s p (stop_answer stop) → asks g None o q → StopMade stop o (made_answers made) → IsMade stop_comes r made → OfCall s p r
-    of_stop stop g q (Kept y) made reached may asked is w = of_either {a = item y} {b = stop_answer stop} (of_call_after s p g (item y) reached (may_answer_of_call q None (Kept y) tt asked refl)) may (rw (made_is_known_by_answers made (item y) (Some stop) is) at w)
-    of_stop stop g q (Failure e) made reached may asked is w = of_either {a = failure e} {b = stop_answer stop} (of_call_after s p g (failure e) reached (inr (may_answer_of_call q None (Failure e) tt asked refl))) may (rw (made_is_known_by_answers made (failure e) (Some stop) is) at w)
-    of_stop stop g q End made reached may asked is w = elim (rw (made_is_known_by_answers made (stop_answer stop) None is) at w) [ inl e ↦ subst (λ z. OfCall s p z) e may | inr k ↦ absurd k ]
-    of_stop stop g q LeftOut made reached may asked is w = absurd is
+    of_call_at_stop : (stop : Option E) (g q : P) (o : Outcome B E) (made : Made B (Option E) E) → Reaches asks (MayBeAsked m s) p g → OfCall s p (stop_answer stop) → asks g None o q → StopMade stop o (made_answers made) → IsMade stop_comes r made → OfCall s p r
+    of_call_at_stop stop g q (Kept y) made reached may asked is w = of_call_of_either {a = item y} {b = stop_answer stop} (of_call_after s p g (item y) reached (may_answer_of_call q None (Kept y) tt asked refl)) may (rw (made_is_known_by_answers made (item y) (Some stop) is) at w)
+    of_call_at_stop stop g q (Failure e) made reached may asked is w = of_call_of_either {a = failure e} {b = stop_answer stop} (of_call_after s p g (failure e) reached (inr (may_answer_of_call q None (Failure e) tt asked refl))) may (rw (made_is_known_by_answers made (failure e) (Some stop) is) at w)
+    of_call_at_stop stop g q End made reached may asked is w = elim (rw (made_is_known_by_answers made (stop_answer stop) None is) at w) [ inl e ↦ subst (λ z. OfCall s p z) e may | inr k ↦ absurd k ]
+    of_call_at_stop stop g q LeftOut made reached may asked is w = absurd is
 
     of_item : (x : X) (h q : P) (o : Outcome B E) (made : Made B (Option E) E) → m.may_give s x → asks p (Some x) o h → MadeOfItem asks o h (made_answers made) q → IsMade stop_comes r made → OfCall s p r
     of_item x h q (Kept y) made may asked is w = elim (rw (made_is_known_by_answers made (item y) None is.0) at w) [ inl e ↦ subst (λ z. OfCall s p z) e (may_answer_of_call h (Some x) (Kept y) may asked refl) | inr k ↦ absurd k ]
-    of_item x h q LeftOut made may asked is w = absurd (rw (nothing_made made is.0) at w)
-    of_item x h q (Failure e) made may asked is w = of_stop (Some e) h q is.0 made (reaches_from (Some x) (Failure e) may asked reaches_reflexive) (inr (may_answer_of_call h (Some x) (Failure e) may asked refl)) is.1 is.2 w
-    of_item x h q End made may asked is w = of_stop None h q is.0 made (reaches_from (Some x) End may asked reaches_reflexive) tt is.1 is.2 w
+    of_item x h q LeftOut made may asked is w = absurd (rw (made_is_none_where_no_answers made is.0) at w)
+    of_item x h q (Failure e) made may asked is w = of_call_at_stop (Some e) h q is.0 made (reaches_by_call_first (Some x) (Failure e) may asked reaches_reflexive) (inr (may_answer_of_call h (Some x) (Failure e) may asked refl)) is.1 is.2 w
+    of_item x h q End made may asked is w = of_call_at_stop None h q is.0 made (reaches_by_call_first (Some x) End may asked reaches_reflexive) tt is.1 is.2 w
 
-    of_met : (a : Answered X E) (made : Made B (Option E) E) (q : P) → MayMeet m s a → holding_meets asks p a made q → IsMade stop_comes r made → OfCall s p r
-    of_met (Ok (Some x)) made q may w is = of_item x w.1 q w.0 made may w.2 w.3 is
-    of_met (Ok None) made q may w is = of_stop None p q w.0 made reaches_reflexive tt w.1 w.2 is
-    of_met (Err e) made q may w is = of_stop (Some e) p q w.0 made reaches_reflexive (inl may) w.1 w.2 is
+    of_call_where_met : (a : Answered X E) (made : Made B (Option E) E) (q : P) → MayMeet m s a → holding_meets asks p a made q → IsMade stop_comes r made → OfCall s p r
+    of_call_where_met (Ok (Some x)) made q may w is = of_item x w.1 q w.0 made may w.2 w.3 is
+    of_call_where_met (Ok None) made q may w is = of_call_at_stop None p q w.0 made reaches_reflexive tt w.1 w.2 is
+    of_call_where_met (Err e) made q may w is = of_call_at_stop (Some e) p q w.0 made reaches_reflexive (inl may) w.1 w.2 is
 
-  of_call : (s : S) (p : P) (r : Answered B E) → MayAnswer (holding_meets asks) (MayMeet m s) p (λ a made. IsMade stop_comes r made) → OfCall s p r
-  of_call s p r k = of_call_after s p k.state r (kept_where_reached (λ g. Reaches asks (MayBeAsked m s) p g) (λ g a made q may t w. after_met asks (λ h. Reaches asks (MayBeAsked m s) p h) (MayMeet m s) (λ g h asked o given called t. reaches_transitive t (reaches_from asked o given called reaches_reflexive)) g a made q may t w) k.reached reaches_reflexive) (of_met s k.state r k.argument k.answer k.after k.given k.called k.says)
+  of_call_where_may_answer : (s : S) (p : P) (r : Answered B E) → MayAnswer (holding_meets asks) (MayMeet m s) p (λ a made. IsMade stop_comes r made) → OfCall s p r
+  of_call_where_may_answer s p r k = of_call_after s p k.state r (kept_where_reached (λ g. Reaches asks (MayBeAsked m s) p g) (λ g a made q may t w. invariant_holds_after_met asks (λ h. Reaches asks (MayBeAsked m s) p h) (MayMeet m s) (λ g h asked o given called t. reaches_transitive t (reaches_by_call_first asked o given called reaches_reflexive)) g a made q may t w) k.reached reaches_reflexive) (of_call_where_met s k.state r k.argument k.answer k.after k.given k.called k.says)
 
   no_item_due : (due : Option (Option E)) (y : B) → IsDue stop_comes (item y) due → ⊥
   no_item_due None y d = d
@@ -65,12 +65,12 @@ module _ {S P X B E : Type 0} (m : Contract S X E) (asks : P → Option X → Ou
   failure_due (Some (Some c)) e d = let same : c ≡ e = cc in ap (λ k. Some (Some k)) same
 
   -- An item that may come is one that a call yields.
-  pub may_give_held : (p : S × (P × Option (Option E))) (y : B) → MayCome m stop_comes (holding_meets asks) p (item y) → MayAnswer asks (MayBeAsked m p.0) p.1.0 (λ asked o. o ≡ Kept y)
-  may_give_held p y w = elim w [ inl d ↦ absurd (no_item_due p.1.1 y d) | inr k ↦ of_call p.0 p.1.0 (item y) k ]
+  pub held_item_comes_by_call : (p : S × (P × Option (Option E))) (y : B) → MayCome m stop_comes (holding_meets asks) p (item y) → MayAnswer asks (MayBeAsked m p.0) p.1.0 (λ asked o. o ≡ Kept y)
+  held_item_comes_by_call p y w = elim w [ inl d ↦ absurd (no_item_due p.1.1 y d) | inr k ↦ of_call_where_may_answer p.0 p.1.0 (item y) k ]
 
   -- A failure that may come is due, or the source may fail so, or a call.
-  pub may_fail_held : (p : S × (P × Option (Option E))) (e : E) → MayCome m stop_comes (holding_meets asks) p (failure e) → (p.1.1 ≡ Some (Some e)) ⊎ (m.may_fail p.0 e ⊎ MayAnswer asks (MayBeAsked m p.0) p.1.0 (λ asked o. o ≡ Failure e))
-  may_fail_held p e w = elim w [ inl d ↦ inl (failure_due p.1.1 e d) | inr k ↦ inr (of_call p.0 p.1.0 (failure e) k) ]
+  pub held_failure_comes_by_due_source_or_call : (p : S × (P × Option (Option E))) (e : E) → MayCome m stop_comes (holding_meets asks) p (failure e) → (p.1.1 ≡ Some (Some e)) ⊎ (m.may_fail p.0 e ⊎ MayAnswer asks (MayBeAsked m p.0) p.1.0 (λ asked o. o ≡ Failure e))
+  held_failure_comes_by_due_source_or_call p e w = elim w [ inl d ↦ inl (failure_due p.1.1 e d) | inr k ↦ inr (of_call_where_may_answer p.0 p.1.0 (failure e) k) ]
 
 -- ---- of what puts separators between items
 
@@ -86,36 +86,36 @@ module _ {S Z A E : Type 0} (m : Contract S A E) (separates : Z → Result A E �
   of_source_before s y z (Ok None) weak w = tt
   of_source_before s y z (Err e) weak w = elim w [ inl k ↦ inl k | inr k ↦ inr (weak (Err e) k) ]
 
-  of_separator : (s : S) (z : Z) (v : Result A E) → may z v → OfSource s z (result_answer v)
-  of_separator s z (Ok x) w = inr w
-  of_separator s z (Err e) w = inr w
+  of_source_where_separator_may : (s : S) (z : Z) (v : Result A E) → may z v → OfSource s z (result_answer v)
+  of_source_where_separator_may s z (Ok x) w = inr w
+  of_source_where_separator_may s z (Err e) w = inr w
 
-  of_placed : (s : S) (k j : Z × Bool) (a r : Answered A E) (made : Made A A E) → MayMeet m s a → parting_meets separates k a made j → IsMade item_comes r made → OfSource s k.0 r
-  of_placed s k j (Ok None) r made given w is = elim (rw w.0 at is) [ inl e ↦ subst (λ z. OfSource s k.0 z) e tt | inr n ↦ absurd n ]
-  of_placed s k j (Err e) r made given w is = elim (rw w.0 at is) [ inl e ↦ subst (λ z. OfSource s k.0 z) e (inl given) | inr n ↦ absurd n ]
-  of_placed s (z, false) j (Ok (Some x)) r made given w is = elim (rw w.0 at is) [ inl e ↦ subst (λ a. OfSource s z a) e (inl given) | inr n ↦ absurd n ]
-  of_placed s (z, true) j (Ok (Some x)) r made given w is = elim (rw w.2 at is) [ inl e ↦ subst (λ a. OfSource s z a) e (of_separator s z w.0 (here z w.0 j.0 w.1)) | inr e ↦ subst (λ a. OfSource s z a) e (inl given) ]
+  of_source_where_placed : (s : S) (k j : Z × Bool) (a r : Answered A E) (made : Made A A E) → MayMeet m s a → parting_meets separates k a made j → IsMade item_comes r made → OfSource s k.0 r
+  of_source_where_placed s k j (Ok None) r made given w is = elim (rw w.0 at is) [ inl e ↦ subst (λ z. OfSource s k.0 z) e tt | inr n ↦ absurd n ]
+  of_source_where_placed s k j (Err e) r made given w is = elim (rw w.0 at is) [ inl e ↦ subst (λ z. OfSource s k.0 z) e (inl given) | inr n ↦ absurd n ]
+  of_source_where_placed s (z, false) j (Ok (Some x)) r made given w is = elim (rw w.0 at is) [ inl e ↦ subst (λ a. OfSource s z a) e (inl given) | inr n ↦ absurd n ]
+  of_source_where_placed s (z, true) j (Ok (Some x)) r made given w is = elim (rw w.2 at is) [ inl e ↦ subst (λ a. OfSource s z a) e (of_source_where_separator_may s z w.0 (here z w.0 j.0 w.1)) | inr e ↦ subst (λ a. OfSource s z a) e (inl given) ]
 
-  may_before : (k j : Z × Bool) (a : Answered A E) (made : Made A A E) → parting_meets separates k a made j → (w : Result A E) → may j.0 w → may k.0 w
-  may_before k j (Ok None) made met w is = (rw met.1 at is)
-  may_before k j (Err e) made met w is = (rw met.1 at is)
-  may_before (z, false) j (Ok (Some x)) made met w is = (rw met.1 at is)
-  may_before (z, true) j (Ok (Some x)) made met w is = before z met.0 j.0 met.1 w is
+  separator_may_before_where_may_after : (k j : Z × Bool) (a : Answered A E) (made : Made A A E) → parting_meets separates k a made j → (w : Result A E) → may j.0 w → may k.0 w
+  separator_may_before_where_may_after k j (Ok None) made met w is = (rw met.1 at is)
+  separator_may_before_where_may_after k j (Err e) made met w is = (rw met.1 at is)
+  separator_may_before_where_may_after (z, false) j (Ok (Some x)) made met w is = (rw met.1 at is)
+  separator_may_before_where_may_after (z, true) j (Ok (Some x)) made met w is = before z met.0 j.0 met.1 w is
 
-  of_source : (s : S) (k : Z × Bool) (r : Answered A E) → MayAnswer (parting_meets separates) (MayMeet m s) k (λ a made. IsMade item_comes r made) → OfSource s k.0 r
-  of_source s k r w = of_source_before s w.state.0 k.0 r (kept_where_reached (λ j. (v : Result A E) → may j.0 v → may k.0 v) (λ h a made j given t met v is. t v (may_before h j a made met v is)) w.reached (λ v is. is)) (of_placed s w.state w.after w.argument r w.answer w.given w.called w.says)
+  of_source_where_may_answer : (s : S) (k : Z × Bool) (r : Answered A E) → MayAnswer (parting_meets separates) (MayMeet m s) k (λ a made. IsMade item_comes r made) → OfSource s k.0 r
+  of_source_where_may_answer s k r w = of_source_before s w.state.0 k.0 r (kept_where_reached (λ j. (v : Result A E) → may j.0 v → may k.0 v) (λ h a made j given t met v is. t v (separator_may_before_where_may_after h j a made met v is)) w.reached (λ v is. is)) (of_source_where_placed s w.state w.after w.argument r w.answer w.given w.called w.says)
 
   -- An item that may come is held, or the source may give it, or it may be a separator.
-  pub may_give_parted : (p : S × (Z × (Bool × Option A))) (x : A) → MayCome m item_comes (parting_meets separates) (parting_stage p) (item x) → (p.1.1.1 ≡ Some x) ⊎ (m.may_give p.0 x ⊎ may p.1.0 (Ok x))
-  may_give_parted p x w = elim w [ inl d ↦ inl (item_due p.1.1.1 d) | inr k ↦ inr (of_source p.0 (p.1.0, p.1.1.0) (item x) k) ]
+  pub parted_item_comes_by_due_source_or_separator : (p : S × (Z × (Bool × Option A))) (x : A) → MayCome m item_comes (parting_meets separates) (parting_stage p) (item x) → (p.1.1.1 ≡ Some x) ⊎ (m.may_give p.0 x ⊎ may p.1.0 (Ok x))
+  parted_item_comes_by_due_source_or_separator p x w = elim w [ inl d ↦ inl (due_is_item_where_is_due p.1.1.1 d) | inr k ↦ inr (of_source_where_may_answer p.0 (p.1.0, p.1.1.0) (item x) k) ]
     where
-      item_due : (due : Option A) → IsDue {E = E} item_comes (item x) due → due ≡ Some x
-      item_due None d = absurd d
-      item_due (Some y) d = let same : y ≡ x = cc in ap (λ k. Some k) same
+      due_is_item_where_is_due : (due : Option A) → IsDue {E = E} item_comes (item x) due → due ≡ Some x
+      due_is_item_where_is_due None d = absurd d
+      due_is_item_where_is_due (Some y) d = let same : y ≡ x = cc in ap (λ k. Some k) same
 
   -- The source may fail so, or making a separator.
-  pub may_fail_parted : (p : S × (Z × (Bool × Option A))) (e : E) → MayCome m item_comes (parting_meets separates) (parting_stage p) (failure e) → m.may_fail p.0 e ⊎ may p.1.0 (Err e)
-  may_fail_parted p e w = elim w [ inl d ↦ absurd (no_failure_due p.1.1.1 d) | inr k ↦ of_source p.0 (p.1.0, p.1.1.0) (failure e) k ]
+  pub parted_failure_comes_by_source_or_separator : (p : S × (Z × (Bool × Option A))) (e : E) → MayCome m item_comes (parting_meets separates) (parting_stage p) (failure e) → m.may_fail p.0 e ⊎ may p.1.0 (Err e)
+  parted_failure_comes_by_source_or_separator p e w = elim w [ inl d ↦ absurd (no_failure_due p.1.1.1 d) | inr k ↦ of_source_where_may_answer p.0 (p.1.0, p.1.1.0) (failure e) k ]
     where
       no_failure_due : (due : Option A) → IsDue {B = A} item_comes (failure e) due → ⊥
       no_failure_due None d = d

@@ -23,20 +23,20 @@ use Rattle.fallible_itertools_adapters.specs.declared.or_else.OrElse.{OrElse}
 abbrev pub failure_outcome : {X D E : Type 0} → D → Result (Option X) E → Outcome E X
 failure_outcome d v = outcome_exchanged (or_else_outcome d v)
 
-map_by_answer : {X D E : Type 0} (d : D) (v : Result (Option X) E) (l : List (Result E X)) → map exchanged_result (by_outcome (failure_outcome d v) l) ≡ cons_some v (map exchanged_result l)
-map_by_answer d (Ok (Some x)) l = refl
-map_by_answer d (Ok None) l = refl
-map_by_answer d (Err e) l = refl
+exchanged_by_outcome_is_cons_some : {X D E : Type 0} (d : D) (v : Result (Option X) E) (l : List (Result E X)) → map exchanged_result (by_outcome (failure_outcome d v) l) ≡ cons_some v (map exchanged_result l)
+exchanged_by_outcome_is_cons_some d (Ok (Some x)) l = refl
+exchanged_by_outcome_is_cons_some d (Ok None) l = refl
+exchanged_by_outcome_is_cons_some d (Err e) l = refl
 
-pub map_recovered : {X D E : Type 0} (h : D → Result (Option X) E) (l : List (Result X D)) → map exchanged_result (passed failure_outcome (λ (p : Unit {0}) d. h d) (λ p d. p) tt (map exchanged_result l)) ≡ recovered h l
+pub exchanged_passed_is_recovered : {X D E : Type 0} (h : D → Result (Option X) E) (l : List (Result X D)) → map exchanged_result (passed failure_outcome (λ (p : Unit {0}) d. h d) (λ p d. p) tt (map exchanged_result l)) ≡ recovered h l
 unfolding recovered
-map_recovered h [] = refl
-map_recovered h (Ok x ∷ l) = ap (λ k. Ok x ∷ k) (map_recovered h l)
-map_recovered h (Err d ∷ l) = map_by_answer d (h d) _ ∙ ap (λ k. cons_some (h d) k) (map_recovered h l)
+exchanged_passed_is_recovered h [] = refl
+exchanged_passed_is_recovered h (Ok x ∷ l) = ap (λ k. Ok x ∷ k) (exchanged_passed_is_recovered h l)
+exchanged_passed_is_recovered h (Err d ∷ l) = exchanged_by_outcome_is_cons_some d (h d) _ ∙ ap (λ k. cons_some (h d) k) (exchanged_passed_is_recovered h l)
 
 pub lists_recovered : {S F X D E : Type 0} {it : S} (m : Contract S X D) (g : Mut F (D × Unit {0}) (Result (Option X) E)) (s : OrElse S F) (f : F) (h : D → Result (Option X) E) (l : List (Result X D)) → or_else_parts s ≡ (it, f) → Acts (call_by_value g) f h → Lists m.steps it l
     → Lists (seen_as or_else_parts (or_else_contract m g)).steps s (recovered h l)
-lists_recovered {it = it} m g s f h l parts a i = lists_seen or_else_parts (or_else_contract m g).steps s parts (map_recovered h l)
+lists_recovered {it = it} m g s f h l parts a i = lists_seen or_else_parts (or_else_contract m g).steps s parts (exchanged_passed_is_recovered h l)
     (always_gives_exchanged (passing_step (steps_exchanged m.steps) (call_by_value g) failure_outcome) _ (it, f)
     (always_gives_passed (call_by_value g) f h a (steps_exchanged m.steps) failure_outcome it (map exchanged_result l) (always_gives_exchanged m.steps l it i.runs)))
 

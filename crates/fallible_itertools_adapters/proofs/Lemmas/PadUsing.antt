@@ -11,17 +11,17 @@ use Rattle.fallible_iterator.specs.Cutting.Fuse.{fuse_parts}
 use Rattle.fallible_iterator.specs.Lists.{Acts, GivesForGood, Lists}
 use Rattle.fallible_iterator.specs.OneToOne.Map.{map_outcome, mapped}
 use Rattle.fallible_iterator.specs.SoundHints.{Brackets, HintsAsSoundAs}
-use Rattle.fallible_iterator.specs.Laws.Closures.{reaches_from, reaches_reflexive}
-use Rattle.fallible_iterator.proofs.Lemmas.Hints.Drawn.{as_sound_as_both_seen, as_sound_same, as_sound_seen}
+use Rattle.fallible_iterator.specs.Laws.Closures.{reaches_by_call_first, reaches_reflexive}
+use Rattle.fallible_iterator.proofs.Lemmas.Hints.Drawn.{as_sound_as_both_seen, as_sound_where_one_of_one, as_sound_seen}
 use Rattle.fallible_iterator.proofs.Lemmas.Hints.Passing.{one_of_one_passing}
-use Rattle.fallible_iterator.proofs.Lemmas.Lists.ForGood.{always_gives_once, gives_for_good_seen}
+use Rattle.fallible_iterator.proofs.Lemmas.Lists.ForGood.{always_gives_of_gives_for_good, gives_for_good_seen}
 use Rattle.fallible_iterator.proofs.Lemmas.Lists.Passing.{always_gives_passed, lists_seen}
 use Rattle.fallible_iterator.proofs.Lemmas.OneToOne.Map.{leaves_none_out_of_map, map_never_ends, passed_is_mapped}
 use Rattle.fallible_itertools_adapters.specs.Laws.ZipLongest.{is_lawful_rule_longest}
 use Rattle.fallible_itertools_adapters.specs.PadUsing.{beside_index_contract, both_sides, from_index, index_step, pad_call, pad_takes, pad_using_contract, pad_using_fused, pad_using_parts, padded}
 use Rattle.fallible_itertools_adapters.specs.Sides.{fused_contract, fused_steps}
 use Rattle.fallible_itertools_adapters.specs.ZipLongest.{longest_rule, right_alone, zipped_longest}
-use Rattle.fallible_itertools_adapters.proofs.Lemmas.Sides.{EndsOnce, ends_once_fused, first_answer, gives_for_good_of_fresh, gives_for_good_of_sides, gives_for_good_sides, rest_of}
+use Rattle.fallible_itertools_adapters.proofs.Lemmas.Sides.{EndsOnce, ends_once_fused, first_answer, gives_for_good_of_fresh, gives_for_good_where_each_answers_first, gives_for_good_sides, rest_of}
 use Rattle.fallible_itertools_adapters.proofs.Lemmas.ZipLongest.{as_sound_as_both_zip_longest, lists_by_longest}
 use Rattle.fallible_itertools_adapters.specs.declared.pad_using.PadUsing.{PadUsing}
 use Rattle.fallible_itertools_adapters.specs.declared.zip_longest.EitherOrBoth.{EitherOrBoth}
@@ -38,29 +38,29 @@ module _ (E : Type 0) where
   abbrev IndexSteps : ℕ × ℕ → Answered ℕ E → ℕ × ℕ → Type 0
   IndexSteps p r q = index_step p r q
 
-  index_goes : (p q : ℕ × ℕ) (r : Answered ℕ E) (l : List (Result ℕ E)) → l ≡ indices_left p → IndexSteps p r q → (r ≡ first_answer l) × (rest_of l ≡ indices_left q)
-  index_goes p q (Ok o) l is step = elim step [
+  index_step_answers_first : (p q : ℕ × ℕ) (r : Answered ℕ E) (l : List (Result ℕ E)) → l ≡ indices_left p → IndexSteps p r q → (r ≡ first_answer l) × (rest_of l ≡ indices_left q)
+  index_step_answers_first p q (Ok o) l is step = elim step [
     | inl d ↦ let more : p.1 - p.0 ≡ suc (p.1 - suc p.0) = omega (arith, d.0) in let l_is : l ≡ Ok p.0 ∷ from_index (λ i. Ok i) (suc p.0) (p.1 - suc p.0) = is ∙ ap (from_index (λ i. Ok i) p.0) more in rw (l_is, d.1, d.2) (refl, refl)
     | inr d ↦ let none : p.1 - p.0 ≡ 0 = omega (arith, d.0) in let l_is : l ≡ [] = is ∙ ap (from_index (λ i. Ok i) p.0) none in rw (l_is, d.1, d.2) (refl, sym (ap (from_index (λ i. Ok i) p.0) none))
   ]
-  index_goes p q (Err e) l is step = absurd step
+  index_step_answers_first p q (Err e) l is step = absurd step
 
   gives_indices : (p : ℕ × ℕ) → GivesForGood IndexSteps p (indices_left p)
-  gives_indices p = gives_for_good_of_sides IndexSteps (λ q l. l ≡ indices_left q) (λ s t r l is w. index_goes s t r l is w) (indices_left p) p refl
+  gives_indices p = gives_for_good_where_each_answers_first IndexSteps (λ q l. l ≡ indices_left q) (λ s t r l is w. index_step_answers_first s t r l is w) (indices_left p) p refl
 
   end_past_indices : (p q : ℕ × ℕ) → IndexSteps p end q → (p.1 ≤ p.0) × (q ≡ p)
   end_past_indices p q step = elim step [ inl d ↦ absurd (let no = d.1 in cc) | inr d ↦ (d.0, d.2) ]
 
-  item_of_indices : (p q : ℕ × ℕ) (i : ℕ) → IndexSteps p (item i) q → (p.0 < p.1) × (q ≡ (suc p.0, p.1))
-  item_of_indices p q i step = elim step [ inl d ↦ (d.0, d.2) | inr d ↦ absurd (let no = d.1 in cc) ]
+  item_within_indices_advances : (p q : ℕ × ℕ) (i : ℕ) → IndexSteps p (item i) q → (p.0 < p.1) × (q ≡ (suc p.0, p.1))
+  item_within_indices_advances p q i step = elim step [ inl d ↦ (d.0, d.2) | inr d ↦ absurd (let no = d.1 in cc) ]
 
   ends_once_index : EndsOnce IndexSteps
-  ends_once_index p q r i w v = let e = end_past_indices p q w in let d = item_of_indices q r i v in let same : q ≡ p = e.1 in let few = e.0 in let some : p.0 < p.1 = subst (λ (z : ℕ × ℕ). z.0 < z.1) same d.0 in omega (arith, few, some)
+  ends_once_index p q r i w v = let e = end_past_indices p q w in let d = item_within_indices_advances q r i v in let same : q ≡ p = e.1 in let few = e.0 in let some : p.0 < p.1 = subst (λ (z : ℕ × ℕ). z.0 < z.1) same d.0 in omega (arith, few, some)
 
   -- each item is one of those that are left
   indices_left_after : (xs : List ℕ) (p q : ℕ × ℕ) → Yields IndexSteps p xs q → p.1 - p.0 ≡ length xs + (q.1 - q.0)
   indices_left_after [] p q ran = let same : p.1 - p.0 ≡ q.1 - q.0 = ap (λ (z : ℕ × ℕ). z.1 - z.0) ran in omega (arith, same)
-  indices_left_after (x ∷ xs) p q ran = let d = item_of_indices p ran.0 x ran.1 in let rest = indices_left_after xs ran.0 q ran.2 in let one : ran.0.1 - ran.0.0 ≡ p.1 - suc p.0 = ap (λ (z : ℕ × ℕ). z.1 - z.0) d.1 in let some = d.0 in omega (arith, rest, one, some)
+  indices_left_after (x ∷ xs) p q ran = let d = item_within_indices_advances p ran.0 x ran.1 in let rest = indices_left_after xs ran.0 q ran.2 in let one : ran.0.1 - ran.0.0 ≡ p.1 - suc p.0 = ap (λ (z : ℕ × ℕ). z.1 - z.0) d.1 in let some = d.0 in omega (arith, rest, one, some)
 
   brackets_indices : (p : ℕ × ℕ) → Brackets IndexSteps p (p.1 - p.0, Some (p.1 - p.0))
   brackets_indices p = record {
@@ -76,7 +76,7 @@ module _ {F X E : Type 0} (g : Mut F (ℕ × Unit {0}) (Result X E)) where
     closure_reached_by_index_calls [] f h e = subst (λ (k : F). Reaches (call_by_value g) Q f k) e reaches_reflexive
     closure_reached_by_index_calls ((Both x i, v) ∷ made) f h w = subst (λ (k : F). Reaches (call_by_value g) Q k h) w.1.1.1 (closure_reached_by_index_calls made w.0 h w.2)
     closure_reached_by_index_calls ((Left x, v) ∷ made) f h w = subst (λ (k : F). Reaches (call_by_value g) Q k h) w.1.1.1 (closure_reached_by_index_calls made w.0 h w.2)
-    closure_reached_by_index_calls ((Right i, v) ∷ made) f h w = reaches_from i v (of_index i w.1.0) w.1.1 (closure_reached_by_index_calls made w.0 h w.2)
+    closure_reached_by_index_calls ((Right i, v) ∷ made) f h w = reaches_by_call_first i v (of_index i w.1.0) w.1.1 (closure_reached_by_index_calls made w.0 h w.2)
 
     takes_beside : {f : F} → IsCallable (call_by_value g) (takes_by_value g) Q f → (h : F) (x : EitherOrBoth X ℕ) → Reaches (call_by_value g) Q f h → P x → pad_takes g h x
     takes_beside c h (Both x i) reached may = tt
@@ -100,10 +100,10 @@ module _ {F X E : Type 0} (g : Mut F (ℕ × Unit {0}) (Result X E)) where
   -- ---- what it lists
 
   module _ (h : ℕ → Result X E) where
-    mapped_right_alone : (i k : ℕ) → mapped (pad_value h) (map right_alone (from_index (λ j. Ok j) i k)) ≡ from_index h i k
+    mapped_right_alone_is_from_index : (i k : ℕ) → mapped (pad_value h) (map right_alone (from_index (λ j. Ok j) i k)) ≡ from_index h i k
     unfolding mapped
-    mapped_right_alone i zero = refl
-    mapped_right_alone i (suc k) = ap (λ t. h i ∷ t) (mapped_right_alone (suc i) k)
+    mapped_right_alone_is_from_index i zero = refl
+    mapped_right_alone_is_from_index i (suc k) = ap (λ t. h i ∷ t) (mapped_right_alone_is_from_index (suc i) k)
 
     -- the missing ones, by where they begin and how many they are
     abbrev missing : ℕ → ℕ → List (Result X E) → List (Result X E)
@@ -112,24 +112,24 @@ module _ {F X E : Type 0} (g : Mut F (ℕ × Unit {0}) (Result X E)) where
     none_missing : (i : ℕ) (l : List (Result X E)) → missing i zero l ≡ []
     none_missing i l = let none : zero - length (items_listed l) ≡ 0 = omega arith in ap (from_index h (i + length (items_listed l))) none
 
-    same_missing : (i k : ℕ) (l : List (Result X E)) → missing (suc i) k l ≡ from_index h (i + suc (length (items_listed l))) (suc k - suc (length (items_listed l)))
-    same_missing i k l = let n = length (items_listed l) in let first : suc i + n ≡ i + suc n = omega arith in let many : k - n ≡ suc k - suc n = omega arith in ap (λ j. from_index h j (k - n)) first ∙ ap (from_index h (i + suc n)) many
+    missing_of_suc_is_from_index : (i k : ℕ) (l : List (Result X E)) → missing (suc i) k l ≡ from_index h (i + suc (length (items_listed l))) (suc k - suc (length (items_listed l)))
+    missing_of_suc_is_from_index i k l = let n = length (items_listed l) in let first : suc i + n ≡ i + suc n = omega arith in let many : k - n ≡ suc k - suc n = omega arith in ap (λ j. from_index h j (k - n)) first ∙ ap (from_index h (i + suc n)) many
 
-    mapped_zipped : (l : List (Result X E)) (i k : ℕ) → mapped (pad_value h) (zipped_longest l (from_index (λ j. Ok j) i k)) ≡ l ++ missing i k l
+    mapped_zipped_is_list_before_missing : (l : List (Result X E)) (i k : ℕ) → mapped (pad_value h) (zipped_longest l (from_index (λ j. Ok j) i k)) ≡ l ++ missing i k l
     unfolding mapped zipped_longest
-    mapped_zipped [] i k = let first : i + 0 ≡ i = omega arith in let many : k - 0 ≡ k = omega arith in mapped_right_alone i k ∙ sym (ap (λ j. from_index h j (k - 0)) first ∙ ap (from_index h i) many)
-    mapped_zipped (Err e ∷ l) i k = ap (λ t. Err e ∷ t) (mapped_zipped l i k)
-    mapped_zipped (Ok x ∷ l) i zero = ap (λ t. Ok x ∷ t) (mapped_zipped l i zero ∙ ap (λ t. l ++ t) (none_missing i l ∙ sym (none_missing i (Ok x ∷ l))))
-    mapped_zipped (Ok x ∷ l) i (suc k) = ap (λ t. Ok x ∷ t) (mapped_zipped l (suc i) k ∙ ap (λ t. l ++ t) (same_missing i k l))
+    mapped_zipped_is_list_before_missing [] i k = let first : i + 0 ≡ i = omega arith in let many : k - 0 ≡ k = omega arith in mapped_right_alone_is_from_index i k ∙ sym (ap (λ j. from_index h j (k - 0)) first ∙ ap (from_index h i) many)
+    mapped_zipped_is_list_before_missing (Err e ∷ l) i k = ap (λ t. Err e ∷ t) (mapped_zipped_is_list_before_missing l i k)
+    mapped_zipped_is_list_before_missing (Ok x ∷ l) i zero = ap (λ t. Ok x ∷ t) (mapped_zipped_is_list_before_missing l i zero ∙ ap (λ t. l ++ t) (none_missing i l ∙ sym (none_missing i (Ok x ∷ l))))
+    mapped_zipped_is_list_before_missing (Ok x ∷ l) i (suc k) = ap (λ t. Ok x ∷ t) (mapped_zipped_is_list_before_missing l (suc i) k ∙ ap (λ t. l ++ t) (missing_of_suc_is_from_index i k l))
 
     mapped_is_padded : (n : ℕ) (l : List (Result X E)) → mapped (pad_value h) (zipped_longest l (from_index (λ j. Ok j) 0 (n - 0))) ≡ padded n h l
     unfolding padded
-    mapped_is_padded n l = let all : n - 0 ≡ n = omega arith in let first : 0 + length (items_listed l) ≡ length (items_listed l) = omega arith in ap (λ k. mapped (pad_value h) (zipped_longest l (from_index (λ j. Ok j) 0 k))) all ∙ mapped_zipped l 0 n ∙ ap (λ j. l ++ from_index h j (n - length (items_listed l))) first
+    mapped_is_padded n l = let all : n - 0 ≡ n = omega arith in let first : 0 + length (items_listed l) ≡ length (items_listed l) = omega arith in ap (λ k. mapped (pad_value h) (zipped_longest l (from_index (λ j. Ok j) 0 k))) all ∙ mapped_zipped_is_list_before_missing l 0 n ∙ ap (λ j. l ++ from_index h j (n - length (items_listed l))) first
 
 pub lists_padded : {S F A E : Type 0} {p : Fuse S} (m : Contract S A E) (g : Mut F (ℕ × Unit {0}) (Result A E)) (s : PadUsing S F) (f : F) (n : ℕ) (it : S) (h : ℕ → Result A E) (l : List (Result A E)) → pad_using_parts s ≡ ((p, (0, n)), f) → fuse_parts p ≡ (it, false) → Acts (call_by_value g) f h → Lists m.steps it l → Lists (seen_as pad_using_parts (pad_using_contract m g)).steps s (padded n h l)
 lists_padded {E = E} {p = p} m g s f n it h l parts fresh acts i =
     let sides = gives_for_good_sides (fused_steps m.steps) (IndexSteps E) longest_rule (λ u. ⊤) zipped_longest lists_by_longest is_lawful_rule_longest (both_sides (p, (0, n))) l (indices_left (0, n)) (gives_for_good_of_fresh m p it l fresh i) (gives_indices E (0, n)) tt in
-    let beside = always_gives_once (beside_index_contract m).steps (zipped_longest l (indices_left (0, n))) (p, (0, n)) (gives_for_good_seen both_sides _ (zipped_longest l (indices_left (0, n))) (p, (0, n)) sides) in
+    let beside = always_gives_of_gives_for_good (beside_index_contract m).steps (zipped_longest l (indices_left (0, n))) (p, (0, n)) (gives_for_good_seen both_sides _ (zipped_longest l (indices_left (0, n))) (p, (0, n)) sides) in
     lists_seen pad_using_parts (pad_using_contract m g).steps s parts (passed_is_mapped (pad_value g h) (zipped_longest l (indices_left (0, n))) ∙ mapped_is_padded g h n l) (always_gives_passed (pad_call g) f (pad_value g h) (acts_pad g f h acts) (beside_index_contract m).steps map_outcome (p, (0, n)) (zipped_longest l (indices_left (0, n))) beside)
 
 -- ---- its hint
@@ -139,7 +139,7 @@ hints_as_sound_pad_using {E = E} m g s h is =
     let p = pad_using_parts s in
     let both = as_sound_as_both_seen both_sides _ p.0 h (as_sound_as_both_zip_longest (fused_steps m.steps) (IndexSteps E) (ends_once_fused m.steps) (ends_once_index E) (both_sides p.0) h is.0 is.1 is.4) in
     let right : Brackets (IndexSteps E) p.0.1 is.1 = subst (λ (k : ℕ × Option ℕ). Brackets (IndexSteps E) p.0.1 k) (sym is.3) (brackets_indices E p.0.1) in
-    let through = as_sound_seen pad_using_parts _ s h (as_sound_same _ _ _ _ (one_of_one_passing (beside_index_contract m).steps (pad_call g) map_outcome leaves_none_out_of_map map_never_ends) p tt h) in
+    let through = as_sound_seen pad_using_parts _ s h (as_sound_where_one_of_one _ _ _ _ (one_of_one_passing (beside_index_contract m).steps (pad_call g) map_outcome leaves_none_out_of_map map_never_ends) p tt h) in
     (is.0, is.2, record { above = λ a. through.above (both.above a right.above); below = λ b. through.below (both.below b right.below) })
 
 -- ---- how long it is

@@ -35,17 +35,17 @@ module _ {S Z A E : Type 0} (separates : Z → Result A E → Z → Type 0) (ste
     ]
 
   -- one step before the rest
-  trace_after_step : (p u q : StateOfPartingTraces) (r : Answered A E) (rest : List (Answered A E)) → StepOfPartingTraces p r u → TraceOfPartingTraces u rest q → TraceOfPartingTraces p (r ∷ rest) q
-  trace_after_step (s, (z, (started, Some x))) (u, j) (t, k) r rest step more = inr (rest, rw step.0 refl, subst (λ (w : S). HeldFirst separates steps w (z, (started, None)) rest t k) step.1 (subst (λ (i : Z × (Bool × Option A)). HeldFirst separates steps u i rest t k) step.2 more))
-  trace_after_step (s, (z, (started, None))) (u, j) (t, k) r rest step more = whole_after_draw t k rest s u z started step.0 r j step.1 step.2 more
+  parting_trace_with_step_before : (p u q : StateOfPartingTraces) (r : Answered A E) (rest : List (Answered A E)) → StepOfPartingTraces p r u → TraceOfPartingTraces u rest q → TraceOfPartingTraces p (r ∷ rest) q
+  parting_trace_with_step_before (s, (z, (started, Some x))) (u, j) (t, k) r rest step more = inr (rest, rw step.0 refl, subst (λ (w : S). HeldFirst separates steps w (z, (started, None)) rest t k) step.1 (subst (λ (i : Z × (Bool × Option A)). HeldFirst separates steps u i rest t k) step.2 more))
+  parting_trace_with_step_before (s, (z, (started, None))) (u, j) (t, k) r rest step more = whole_after_draw t k rest s u z started step.0 r j step.1 step.2 more
 
   trace_of_none : (p : StateOfPartingTraces) → TraceOfPartingTraces p [] p
   trace_of_none (s, (z, (started, None))) = nothing_drawn
   trace_of_none (s, (z, (started, Some x))) = inl (refl, refl, refl)
 
-  trace_of_parting_traces : (trace : List (Answered A E)) (p q : StateOfPartingTraces) → Run StepOfPartingTraces p trace q → TraceOfPartingTraces p trace q
-  trace_of_parting_traces [] p q e = subst (λ (u : StateOfPartingTraces). TraceOfPartingTraces p [] u) e (trace_of_none p)
-  trace_of_parting_traces (r ∷ rest) p q ran = trace_after_step p ran.0 q r rest ran.1 (trace_of_parting_traces rest ran.0 q ran.2)
+  parting_trace_of_run : (trace : List (Answered A E)) (p q : StateOfPartingTraces) → Run StepOfPartingTraces p trace q → TraceOfPartingTraces p trace q
+  parting_trace_of_run [] p q e = subst (λ (u : StateOfPartingTraces). TraceOfPartingTraces p [] u) e (trace_of_none p)
+  parting_trace_of_run (r ∷ rest) p q ran = parting_trace_with_step_before p ran.0 q r rest ran.1 (parting_trace_of_run rest ran.0 q ran.2)
 
   -- ---- to runs
 
@@ -65,7 +65,7 @@ module _ {S Z A E : Type 0} (separates : Z → Result A E → Z → Type 0) (ste
   ]
 
   pub parting_law : (p : StateOfPartingTraces) (trace : List (Answered A E)) (q : StateOfPartingTraces) → Run StepOfPartingTraces p trace q ↔ TraceOfPartingTraces p trace q
-  parting_law p trace q = (trace_of_parting_traces trace p q, run_of_parting_trace p q trace)
+  parting_law p trace q = (parting_trace_of_run trace p q, run_of_parting_trace p q trace)
 
   -- ---- what separators are made from, where that stays the same
 

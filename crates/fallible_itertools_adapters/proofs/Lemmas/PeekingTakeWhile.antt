@@ -55,27 +55,27 @@ module _ {S F X E : Type 0} (m : Contract S X E) (call : F → X → Result Bool
   pub ahead_takes : (p u w : Peekable S X E) (f g : F) (r : Answered X E) → Fills m.steps (peekable_parts p) (Ok tt) (peekable_parts u) → AcceptsHeld call (held_item u.held) f (Ok true) g → peekable_step m.steps (peekable_parts u) r (peekable_parts w) → AheadStep (p, f) r (w, g)
   ahead_takes p u w f g r fills accepts step = ahead_step_of_accepted fills.0 p u w f g r fills.1 fills.2 accepts step
 
-  ahead_refused : (a : Answered X E) (p u : Peekable S X E) (f g : F) → Peeks m.steps (peekable_parts p) a (peekable_parts u) → Ok tt ≡ failure_told a → AcceptsHeld call (held_item u.held) f (Ok false) g → AheadStep (p, f) end (u, g)
-  ahead_refused (Err e) p u f g peeks is accepts = absurd cc
-  ahead_refused (Ok (Some x)) p u f g peeks is accepts = let k = looked_at_is_next_answer m.steps (peekable_parts p) (peekable_parts u) (Some x) peeks in
+  ahead_ends_where_refused_by_peek : (a : Answered X E) (p u : Peekable S X E) (f g : F) → Peeks m.steps (peekable_parts p) a (peekable_parts u) → Ok tt ≡ failure_told a → AcceptsHeld call (held_item u.held) f (Ok false) g → AheadStep (p, f) end (u, g)
+  ahead_ends_where_refused_by_peek (Err e) p u f g peeks is accepts = absurd cc
+  ahead_ends_where_refused_by_peek (Ok (Some x)) p u f g peeks is accepts = let k = looked_at_is_next_answer m.steps (peekable_parts p) (peekable_parts u) (Some x) peeks in
       (asked x (Ok false), peeks, (g, accepts_held_of_equal (Some x) (held_item u.held) f g (Ok false) (ap held_item k.1) accepts, refl), refl)
-  ahead_refused (Ok None) p u f g peeks is accepts = let k = looked_at_is_next_answer m.steps (peekable_parts p) (peekable_parts u) None peeks in
+  ahead_ends_where_refused_by_peek (Ok None) p u f g peeks is accepts = let k = looked_at_is_next_answer m.steps (peekable_parts p) (peekable_parts u) None peeks in
       absurd (let e = (accepts_held_of_equal None (held_item u.held) f g (Ok false) (ap held_item k.1) accepts).0 in cc)
 
-  pub ahead_refuses : (p u : Peekable S X E) (f g : F) → Fills m.steps (peekable_parts p) (Ok tt) (peekable_parts u) → AcceptsHeld call (held_item u.held) f (Ok false) g → AheadStep (p, f) end (u, g)
-  ahead_refuses p u f g fills accepts = ahead_refused fills.0 p u f g fills.1 fills.2 accepts
+  pub ahead_ends_where_refused : (p u : Peekable S X E) (f g : F) → Fills m.steps (peekable_parts p) (Ok tt) (peekable_parts u) → AcceptsHeld call (held_item u.held) f (Ok false) g → AheadStep (p, f) end (u, g)
+  ahead_ends_where_refused p u f g fills accepts = ahead_ends_where_refused_by_peek fills.0 p u f g fills.1 fills.2 accepts
 
-  ahead_lost : (a : Answered X E) (p u w : Peekable S X E) (f g : F) (e : E) (r : Answered X E) → Peeks m.steps (peekable_parts p) a (peekable_parts u) → Ok tt ≡ failure_told a → AcceptsHeld call (held_item u.held) f (Err e) g → peekable_step m.steps (peekable_parts u) r (peekable_parts w) → AheadStep (p, f) (Err e) (w, g)
-  ahead_lost (Err d) p u w f g e r peeks is accepts step = absurd cc
-  ahead_lost (Ok (Some x)) p u w f g e r peeks is accepts step =
+  ahead_fails_where_accept_fails_by_peek : (a : Answered X E) (p u w : Peekable S X E) (f g : F) (e : E) (r : Answered X E) → Peeks m.steps (peekable_parts p) a (peekable_parts u) → Ok tt ≡ failure_told a → AcceptsHeld call (held_item u.held) f (Err e) g → peekable_step m.steps (peekable_parts u) r (peekable_parts w) → AheadStep (p, f) (Err e) (w, g)
+  ahead_fails_where_accept_fails_by_peek (Err d) p u w f g e r peeks is accepts step = absurd cc
+  ahead_fails_where_accept_fails_by_peek (Ok (Some x)) p u w f g e r peeks is accepts step =
       let k = looked_at_is_next_answer m.steps (peekable_parts p) (peekable_parts u) (Some x) peeks in
       let h = held_step m.steps (peekable_parts u) (peekable_parts w) (Some x) r k.1 step in
       (asked x (Err e), subst (λ z. peekable_step m.steps (peekable_parts p) (item x) z) (sym h.1) k.0, (g, accepts_held_of_equal (Some x) (held_item u.held) f g (Err e) (ap held_item k.1) accepts, refl), refl)
-  ahead_lost (Ok None) p u w f g e r peeks is accepts step = let k = looked_at_is_next_answer m.steps (peekable_parts p) (peekable_parts u) None peeks in
+  ahead_fails_where_accept_fails_by_peek (Ok None) p u w f g e r peeks is accepts step = let k = looked_at_is_next_answer m.steps (peekable_parts p) (peekable_parts u) None peeks in
       absurd (let d = (accepts_held_of_equal None (held_item u.held) f g (Err e) (ap held_item k.1) accepts).0 in cc)
 
-  pub ahead_loses : (p u w : Peekable S X E) (f g : F) (e : E) (r : Answered X E) → Fills m.steps (peekable_parts p) (Ok tt) (peekable_parts u) → AcceptsHeld call (held_item u.held) f (Err e) g → peekable_step m.steps (peekable_parts u) r (peekable_parts w) → AheadStep (p, f) (Err e) (w, g)
-  ahead_loses p u w f g e r fills accepts step = ahead_lost fills.0 p u w f g e r fills.1 fills.2 accepts step
+  pub ahead_fails_where_accept_fails : (p u w : Peekable S X E) (f g : F) (e : E) (r : Answered X E) → Fills m.steps (peekable_parts p) (Ok tt) (peekable_parts u) → AcceptsHeld call (held_item u.held) f (Err e) g → peekable_step m.steps (peekable_parts u) r (peekable_parts w) → AheadStep (p, f) (Err e) (w, g)
+  ahead_fails_where_accept_fails p u w f g e r fills accepts step = ahead_fails_where_accept_fails_by_peek fills.0 p u w f g e r fills.1 fills.2 accepts step
 
 -- ---- runs
 
@@ -90,13 +90,13 @@ module _ {S F X E : Type 0} {m : Contract S X E} {looks : S → X → S → Type
   TraceOfPeekingTakeWhile = PeekingTrace m.steps looks call
 
   -- one more place in front
-  left_at_more : (z : AheadState) (places : List AheadState) (u q : S) → (q ≡ u → LeavesSource looks z u q) → LeftAt looks places u q → LeftAt looks (z ∷ places) u q
-  left_at_more z [] u q b left = b left
-  left_at_more z (w ∷ places) u q b left = left
+  left_at_of_cons : (z : AheadState) (places : List AheadState) (u q : S) → (q ≡ u → LeavesSource looks z u q) → LeftAt looks places u q → LeftAt looks (z ∷ places) u q
+  left_at_of_cons z [] u q b left = b left
+  left_at_of_cons z (w ∷ places) u q b left = left
 
-  asked_again_more : (z : AheadState) (places : List AheadState) → ((w : AheadState) → LookedAgainAt z w) → AskedAgain places → AskedAgain (z ∷ places)
-  asked_again_more z [] b again = tt
-  asked_again_more z (w ∷ places) b again = (b w, again)
+  asked_again_of_cons : (z : AheadState) (places : List AheadState) → ((w : AheadState) → LookedAgainAt z w) → AskedAgain places → AskedAgain (z ∷ places)
+  asked_again_of_cons z [] b again = tt
+  asked_again_of_cons z (w ∷ places) b again = (b w, again)
 
   -- the place takes its answer, and requires nothing of what comes after it
   abbrev Accepts : AheadState → Type 0
@@ -107,10 +107,10 @@ module _ {S F X E : Type 0} {m : Contract S X E} {looks : S → X → S → Type
     places = z ∷ t.places;
     between = t.between;
     drawn = subst (λ (o : Option (Answered X E)). Run m.steps p (cons_option o (filter_map let_go t.places)) t.between) (sym goes.0) (mid, step, t.drawn);
-    left = left_at_more z t.places t.between q.0 (goes.1 t.between q.0) t.left;
+    left = left_at_of_cons z t.places t.between q.0 (goes.1 t.between q.0) t.left;
     called = calls_cons m.steps call z t.places f g q.1 called t.called;
     answers = ap (λ (l : List (Answered X E)). taken_answer z ∷ l) t.answers;
-    again = asked_again_more z t.places goes.2 t.again;
+    again = asked_again_of_cons z t.places goes.2 t.again;
   }
 
   -- after a look at an item the closure is called on that item first
@@ -123,28 +123,28 @@ module _ {S F X E : Type 0} {m : Contract S X E} {looks : S → X → S → Type
   asked_after_look (asked y (Ok false)) (w ∷ places) s t u q x look ran left again = let first = asked_after_look w places s t u q x look ran left again.1 in let is = again.0 in let same : y ≡ x = (let e = sym is.1 ∙ first.1 in cc) in (Ok false, ap (λ z. asked z (Ok false)) same)
 
   -- what comes after a look comes from before it too
-  run_before : (r : Answered X E) (l : List (Answered X E)) (p t u : S) (x : X) → looks p x t → Run m.steps t (r ∷ l) u → Run m.steps p (r ∷ l) u
-  run_before r l p t u x look ran = let d = k.next p x t r ran.0 look ran.1 in (ran.0, subst (λ (a : Answered X E). m.steps p a ran.0) (sym d.0) d.1, ran.2)
+  run_from_before_look : (r : Answered X E) (l : List (Answered X E)) (p t u : S) (x : X) → looks p x t → Run m.steps t (r ∷ l) u → Run m.steps p (r ∷ l) u
+  run_from_before_look r l p t u x look ran = let d = k.next p x t r ran.0 look ran.1 in (ran.0, subst (λ (a : Answered X E). m.steps p a ran.0) (sym d.0) d.1, ran.2)
 
   abbrev LookedBefore : List AheadState → S → S → Type 0
   LookedBefore places p q = (between : S) × Run m.steps p (filter_map let_go places) between × LeftAt looks places between q
 
-  before_from : (w : AheadState) (places : List AheadState) (p t u q : S) (x : X) → looks p x t → Run m.steps t (filter_map let_go (w ∷ places)) u → LeftAt looks (w ∷ places) u q → LookedBefore (w ∷ places) p q
-  before_from (asked y (Ok true)) places p t u q x look ran left = (u, run_before (item y) (filter_map let_go places) p t u x look ran, left)
-  before_from (asked y (Err e)) places p t u q x look ran left = (u, run_before (item y) (filter_map let_go places) p t u x look ran, left)
-  before_from (failure_at e) places p t u q x look ran left = (u, run_before (Err e) (filter_map let_go places) p t u x look ran, left)
-  before_from end_at places p t u q x look ran left = (u, run_before end (filter_map let_go places) p t u x look ran, left)
-  before_from (asked y (Ok false)) [] p t u q x look ran left = let d = k.again p x t y q look (subst (λ (v : S). looks v y q) (sym ran) left) in (p, refl, subst (λ (z : X). looks p z q) (sym d.0) d.1)
-  before_from (asked y (Ok false)) (w ∷ places) p t u q x look ran left = before_from w places p t u q x look ran left
+  looked_before_of_run_after_look : (w : AheadState) (places : List AheadState) (p t u q : S) (x : X) → looks p x t → Run m.steps t (filter_map let_go (w ∷ places)) u → LeftAt looks (w ∷ places) u q → LookedBefore (w ∷ places) p q
+  looked_before_of_run_after_look (asked y (Ok true)) places p t u q x look ran left = (u, run_from_before_look (item y) (filter_map let_go places) p t u x look ran, left)
+  looked_before_of_run_after_look (asked y (Err e)) places p t u q x look ran left = (u, run_from_before_look (item y) (filter_map let_go places) p t u x look ran, left)
+  looked_before_of_run_after_look (failure_at e) places p t u q x look ran left = (u, run_from_before_look (Err e) (filter_map let_go places) p t u x look ran, left)
+  looked_before_of_run_after_look end_at places p t u q x look ran left = (u, run_from_before_look end (filter_map let_go places) p t u x look ran, left)
+  looked_before_of_run_after_look (asked y (Ok false)) [] p t u q x look ran left = let d = k.again p x t y q look (subst (λ (v : S). looks v y q) (sym ran) left) in (p, refl, subst (λ (z : X). looks p z q) (sym d.0) d.1)
+  looked_before_of_run_after_look (asked y (Ok false)) (w ∷ places) p t u q x look ran left = looked_before_of_run_after_look w places p t u q x look ran left
 
   -- a look at an item that is rejected, before the others
-  before_look : (places : List AheadState) (x : X) (p t q : S) → looks p x t → LookedBefore places t q → AskedAgain places → LookedBefore (asked x (Ok false) ∷ places) p q × AskedAgain (asked x (Ok false) ∷ places)
-  before_look [] x p t q look (between, ran, left) again = ((p, refl, subst (λ (v : S). looks p x v) (ran ∙ sym left) look), tt)
-  before_look (w ∷ places) x p t q look (between, ran, left) again = (before_from w places p t between q x look ran left, (asked_after_look w places p t between q x look ran left again, again))
+  looked_before_and_asked_again_with_refused : (places : List AheadState) (x : X) (p t q : S) → looks p x t → LookedBefore places t q → AskedAgain places → LookedBefore (asked x (Ok false) ∷ places) p q × AskedAgain (asked x (Ok false) ∷ places)
+  looked_before_and_asked_again_with_refused [] x p t q look (between, ran, left) again = ((p, refl, subst (λ (v : S). looks p x v) (ran ∙ sym left) look), tt)
+  looked_before_and_asked_again_with_refused (w ∷ places) x p t q look (between, ran, left) again = (looked_before_of_run_after_look w places p t between q x look ran left, (asked_after_look w places p t between q x look ran left again, again))
 
-  trace_refused_first : (x : X) (p mid : S) (f g : F) (q : S × F) (trace : List (Answered X E)) → looks p x mid → Calls call f ((x, Ok false) ∷ []) g → TraceOfPeekingTakeWhile (mid, g) trace q → TraceOfPeekingTakeWhile (p, f) (end ∷ trace) q
-  trace_refused_first x p mid f g q trace look called t =
-      let b = before_look t.places x p mid q.0 look (t.between, t.drawn, t.left) t.again in
+  trace_with_refused_look_before : (x : X) (p mid : S) (f g : F) (q : S × F) (trace : List (Answered X E)) → looks p x mid → Calls call f ((x, Ok false) ∷ []) g → TraceOfPeekingTakeWhile (mid, g) trace q → TraceOfPeekingTakeWhile (p, f) (end ∷ trace) q
+  trace_with_refused_look_before x p mid f g q trace look called t =
+      let b = looked_before_and_asked_again_with_refused t.places x p mid q.0 look (t.between, t.drawn, t.left) t.again in
       record {
         places = asked x (Ok false) ∷ t.places;
         between = b.0.0;
@@ -157,61 +157,61 @@ module _ {S F X E : Type 0} {m : Contract S X E} {looks : S → X → S → Type
 
   trace_place_first : (z : AheadState) (p mid : S) (f g : F) (q : S × F) (trace : List (Answered X E)) → DrawsAtPlace m.steps looks z p mid → Calls call f (filter_map call_of (z ∷ [])) g → TraceOfPeekingTakeWhile (mid, g) trace q → TraceOfPeekingTakeWhile (p, f) (taken_answer z ∷ trace) q
   trace_place_first (asked x (Ok true)) p mid f g q trace d one t = trace_of_accepted (asked x (Ok true)) p mid f g q trace (refl, (λ u v e. e), λ w. tt) d one t
-  trace_place_first (asked x (Ok false)) p mid f g q trace d one t = trace_refused_first x p mid f g q trace d one t
+  trace_place_first (asked x (Ok false)) p mid f g q trace d one t = trace_with_refused_look_before x p mid f g q trace d one t
   trace_place_first (asked x (Err e)) p mid f g q trace d one t = trace_of_accepted (asked x (Err e)) p mid f g q trace (refl, (λ u v e. e), λ w. tt) d one t
   trace_place_first (failure_at e) p mid f g q trace d one t = trace_of_accepted (failure_at e) p mid f g q trace (refl, (λ u v e. e), λ w. tt) d one t
   trace_place_first end_at p mid f g q trace d one t = trace_of_accepted end_at p mid f g q trace (refl, (λ u v e. e), λ w. tt) d one t
 
-  trace_peeking : (trace : List (Answered X E)) (p q : S × F) → Run StepOfPeekingTakeWhile p trace q → TraceOfPeekingTakeWhile p trace q
-  trace_peeking [] p q e = record { places = []; between = p.0; drawn = refl; left = sym (ap (λ z. z.0) e); called = ap (λ z. z.1) e; answers = refl; again = tt }
-  trace_peeking (r ∷ rest) p q ran = let w = ran.1 in subst (λ (a : Answered X E). TraceOfPeekingTakeWhile p (a ∷ rest) q) (sym w.3) (trace_place_first w.0 p.0 ran.0.0 p.1 ran.0.1 q rest w.1 w.2 (trace_peeking rest ran.0 q ran.2))
+  peeking_trace_of_run : (trace : List (Answered X E)) (p q : S × F) → Run StepOfPeekingTakeWhile p trace q → TraceOfPeekingTakeWhile p trace q
+  peeking_trace_of_run [] p q e = record { places = []; between = p.0; drawn = refl; left = sym (ap (λ z. z.0) e); called = ap (λ z. z.1) e; answers = refl; again = tt }
+  peeking_trace_of_run (r ∷ rest) p q ran = let w = ran.1 in subst (λ (a : Answered X E). TraceOfPeekingTakeWhile p (a ∷ rest) q) (sym w.3) (trace_place_first w.0 p.0 ran.0.0 p.1 ran.0.1 q rest w.1 w.2 (peeking_trace_of_run rest ran.0 q ran.2))
 
   -- ---- and back
 
-  left_at_less : (z : AheadState) (places : List AheadState) (u q : S) → (LeavesSource looks z u q → q ≡ u) → LeftAt looks (z ∷ places) u q → LeftAt looks places u q
-  left_at_less z [] u q b left = b left
-  left_at_less z (w ∷ places) u q b left = left
+  left_at_of_rest : (z : AheadState) (places : List AheadState) (u q : S) → (LeavesSource looks z u q → q ≡ u) → LeftAt looks (z ∷ places) u q → LeftAt looks places u q
+  left_at_of_rest z [] u q b left = b left
+  left_at_of_rest z (w ∷ places) u q b left = left
 
-  asked_again_less : (z : AheadState) (places : List AheadState) → AskedAgain (z ∷ places) → AskedAgain places
-  asked_again_less z [] again = tt
-  asked_again_less z (w ∷ places) again = again.1
+  asked_again_of_rest : (z : AheadState) (places : List AheadState) → AskedAgain (z ∷ places) → AskedAgain places
+  asked_again_of_rest z [] again = tt
+  asked_again_of_rest z (w ∷ places) again = again.1
 
   -- the look at an item that the closure is called on, and the others from there
   abbrev LookedAt : List AheadState → X → S → S → Type 0
   LookedAt places x p q = (t : S) × looks p x t × LookedBefore places t q
 
-  looked_ask_first : (v : Result Bool E) (places : List AheadState) (x : X) (p u q : S) → Run m.steps p (filter_map let_go (asked x v ∷ places)) u → LeftAt looks (asked x v ∷ places) u q → AskedAgain (asked x v ∷ places) → LookedAt (asked x v ∷ places) x p q
-  looked_ask_first (Ok true) places x p u q ran left again = let d = k.first p x ran.0 ran.1 in (d.0, d.1, (u, (ran.0, d.2, ran.2), left))
-  looked_ask_first (Err e) places x p u q ran left again = let d = k.first p x ran.0 ran.1 in (d.0, d.1, (u, (ran.0, d.2, ran.2), left))
-  looked_ask_first (Ok false) [] x p u q ran left again = let look : looks p x q = subst (λ (v : S). looks v x q) (sym ran) left in (q, look, (q, refl, k.same p x q look))
-  looked_ask_first (Ok false) (w ∷ places) x p u q ran left again = let v = again.0 in
+  looked_at_first_asked : (v : Result Bool E) (places : List AheadState) (x : X) (p u q : S) → Run m.steps p (filter_map let_go (asked x v ∷ places)) u → LeftAt looks (asked x v ∷ places) u q → AskedAgain (asked x v ∷ places) → LookedAt (asked x v ∷ places) x p q
+  looked_at_first_asked (Ok true) places x p u q ran left again = let d = k.first p x ran.0 ran.1 in (d.0, d.1, (u, (ran.0, d.2, ran.2), left))
+  looked_at_first_asked (Err e) places x p u q ran left again = let d = k.first p x ran.0 ran.1 in (d.0, d.1, (u, (ran.0, d.2, ran.2), left))
+  looked_at_first_asked (Ok false) [] x p u q ran left again = let look : looks p x q = subst (λ (v : S). looks v x q) (sym ran) left in (q, look, (q, refl, k.same p x q look))
+  looked_at_first_asked (Ok false) (w ∷ places) x p u q ran left again = let v = again.0 in
       let Next : AheadState → Type 0 = λ z. Run m.steps p (filter_map let_go (z ∷ places)) u → LeftAt looks (z ∷ places) u q → AskedAgain (z ∷ places) → LookedAt (z ∷ places) x p q in
-      subst Next (sym v.1) (λ r l a. looked_ask_first v.0 places x p u q r l a) ran left again.1
+      subst Next (sym v.1) (λ r l a. looked_at_first_asked v.0 places x p u q r l a) ran left again.1
 
-  looked_ask_next : (w : AheadState) (places : List AheadState) (x : X) (p u q : S) → LookedAgainAt (asked x (Ok false)) w → Run m.steps p (filter_map let_go (w ∷ places)) u → LeftAt looks (w ∷ places) u q → AskedAgain (w ∷ places) → LookedAt (w ∷ places) x p q
-  looked_ask_next w places x p u q v ran left again =
+  looked_at_next_asked : (w : AheadState) (places : List AheadState) (x : X) (p u q : S) → LookedAgainAt (asked x (Ok false)) w → Run m.steps p (filter_map let_go (w ∷ places)) u → LeftAt looks (w ∷ places) u q → AskedAgain (w ∷ places) → LookedAt (w ∷ places) x p q
+  looked_at_next_asked w places x p u q v ran left again =
       let Next : AheadState → Type 0 = λ z. Run m.steps p (filter_map let_go (z ∷ places)) u → LeftAt looks (z ∷ places) u q → AskedAgain (z ∷ places) → LookedAt (z ∷ places) x p q in
-      subst Next (sym v.1) (λ r l a. looked_ask_first v.0 places x p u q r l a) ran left again
+      subst Next (sym v.1) (λ r l a. looked_at_first_asked v.0 places x p u q r l a) ran left again
 
   run_from_places : (places : List AheadState) (p between : S) (f : F) (q : S × F) → Run m.steps p (filter_map let_go places) between → LeftAt looks places between q.0 → Calls call f (filter_map call_of places) q.1 → AskedAgain places → Run StepOfPeekingTakeWhile (p, f) (map taken_answer places) q
   run_from_places [] p between f q ran left called again = ap₂ (λ (a : S) (b : F). (a, b)) (ran ∙ sym left) called
   run_from_places (asked x (Ok true) ∷ places) p between f q ran left called again = let c = calls_first_and_rest m.steps call (asked x (Ok true)) places f q.1 called in
-      ((ran.0, c.0), (asked x (Ok true), ran.1, c.1, refl), run_from_places places ran.0 between c.0 q ran.2 (left_at_less (asked x (Ok true)) places between q.0 (λ e. e) left) c.2 (asked_again_less (asked x (Ok true)) places again))
+      ((ran.0, c.0), (asked x (Ok true), ran.1, c.1, refl), run_from_places places ran.0 between c.0 q ran.2 (left_at_of_rest (asked x (Ok true)) places between q.0 (λ e. e) left) c.2 (asked_again_of_rest (asked x (Ok true)) places again))
   run_from_places (asked x (Err e) ∷ places) p between f q ran left called again = let c = calls_first_and_rest m.steps call (asked x (Err e)) places f q.1 called in
-      ((ran.0, c.0), (asked x (Err e), ran.1, c.1, refl), run_from_places places ran.0 between c.0 q ran.2 (left_at_less (asked x (Err e)) places between q.0 (λ e. e) left) c.2 (asked_again_less (asked x (Err e)) places again))
-  run_from_places (failure_at e ∷ places) p between f q ran left called again = ((ran.0, f), (failure_at e, ran.1, refl, refl), run_from_places places ran.0 between f q ran.2 (left_at_less (failure_at e) places between q.0 (λ e. e) left) called (asked_again_less (failure_at e) places again))
-  run_from_places (end_at ∷ places) p between f q ran left called again = ((ran.0, f), (end_at, ran.1, refl, refl), run_from_places places ran.0 between f q ran.2 (left_at_less end_at places between q.0 (λ e. e) left) called (asked_again_less end_at places again))
+      ((ran.0, c.0), (asked x (Err e), ran.1, c.1, refl), run_from_places places ran.0 between c.0 q ran.2 (left_at_of_rest (asked x (Err e)) places between q.0 (λ e. e) left) c.2 (asked_again_of_rest (asked x (Err e)) places again))
+  run_from_places (failure_at e ∷ places) p between f q ran left called again = ((ran.0, f), (failure_at e, ran.1, refl, refl), run_from_places places ran.0 between f q ran.2 (left_at_of_rest (failure_at e) places between q.0 (λ e. e) left) called (asked_again_of_rest (failure_at e) places again))
+  run_from_places (end_at ∷ places) p between f q ran left called again = ((ran.0, f), (end_at, ran.1, refl, refl), run_from_places places ran.0 between f q ran.2 (left_at_of_rest end_at places between q.0 (λ e. e) left) called (asked_again_of_rest end_at places again))
   run_from_places (asked x (Ok false) ∷ []) p between f q ran left called again = (q, (asked x (Ok false), subst (λ (v : S). looks v x q.0) (sym ran) left, called, refl), refl)
   run_from_places (asked x (Ok false) ∷ w ∷ places) p between f q ran left called again =
       let c = calls_first_and_rest m.steps call (asked x (Ok false)) (w ∷ places) f q.1 called in
-      let d = looked_ask_next w places x p between q.0 again.0 ran left again.1 in
+      let d = looked_at_next_asked w places x p between q.0 again.0 ran left again.1 in
       ((d.0, c.0), (asked x (Ok false), d.1, c.1, refl), run_from_places (w ∷ places) d.0 d.2.0 c.0 q d.2.1 d.2.2 c.2 again.1)
 
-  run_from_peeking : (trace : List (Answered X E)) (p q : S × F) → TraceOfPeekingTakeWhile p trace q → Run StepOfPeekingTakeWhile p trace q
-  run_from_peeking trace p q t = subst (λ (l : List (Answered X E)). Run StepOfPeekingTakeWhile p l q) (sym t.answers) (run_from_places t.places p.0 t.between p.1 q t.drawn t.left t.called t.again)
+  peeking_run_of_trace : (trace : List (Answered X E)) (p q : S × F) → TraceOfPeekingTakeWhile p trace q → Run StepOfPeekingTakeWhile p trace q
+  peeking_run_of_trace trace p q t = subst (λ (l : List (Answered X E)). Run StepOfPeekingTakeWhile p l q) (sym t.answers) (run_from_places t.places p.0 t.between p.1 q t.drawn t.left t.called t.again)
 
   pub peeking_law : (p : S × F) (trace : List (Answered X E)) (q : S × F) → Run StepOfPeekingTakeWhile p trace q ↔ TraceOfPeekingTakeWhile p trace q
-  peeking_law p trace q = (trace_peeking trace p q, run_from_peeking trace p q)
+  peeking_law p trace q = (peeking_trace_of_run trace p q, peeking_run_of_trace trace p q)
 
 -- ---- what it lists
 
@@ -238,31 +238,31 @@ module _ {S F X E : Type 0} {m : Contract S X E} {looks : S → X → S → Type
   failure_place_of_first end_at d l p q g a drawn called = absurd (let e = (a end q drawn).0 in cc)
 
   -- the call at an item that the list begins with
-  asked_on_listed : (x y : X) (v : Result Bool E) (g : F) → y ≡ x → Calls call f ((y, v) ∷ []) g → (◌≡◌ {A = Place X (Result Bool E) E} (asked y v) (asked x (h x))) × (g ≡ f)
-  asked_on_listed x y v g same called = let c = acts y v called.0 called.1 in (ap (λ (w : Result Bool E). asked y w) c.1 ∙ ap (λ (w : X). asked w (h w)) same, sym called.2 ∙ c.0)
+  asked_place_is_of_function : (x y : X) (v : Result Bool E) (g : F) → y ≡ x → Calls call f ((y, v) ∷ []) g → (◌≡◌ {A = Place X (Result Bool E) E} (asked y v) (asked x (h x))) × (g ≡ f)
+  asked_place_is_of_function x y v g same called = let c = acts y v called.0 called.1 in (ap (λ (w : Result Bool E). asked y w) c.1 ∙ ap (λ (w : X). asked w (h w)) same, sym called.2 ∙ c.0)
 
-  item_of_first : (z : Place X (Result Bool E) E) (x : X) (l : List (Result X E)) (p q : S) (g : F) → AlwaysGives m.steps p (Ok x ∷ l) → DrawsAtPlace m.steps looks z p q → Calls call f (filter_map call_of (z ∷ [])) g → (z ≡ asked x (h x)) × (g ≡ f) × (is_refused z ≡ false → AlwaysGives m.steps q l)
-  item_of_first (asked y (Ok true)) x l p q g a drawn called = let is = a (item y) q drawn in let same : y ≡ x = (let e = is.0 in cc) in let c = asked_on_listed x y (Ok true) g same called in (c.0, c.1, λ e. is.1)
-  item_of_first (asked y (Ok false)) x l p q g a drawn called = let u = k.comes p y q drawn in let same : y ≡ x = (let e = (a (item y) u.0 u.1).0 in cc) in let c = asked_on_listed x y (Ok false) g same called in (c.0, c.1, λ e. absurd cc)
-  item_of_first (asked y (Err d)) x l p q g a drawn called = let is = a (item y) q drawn in let same : y ≡ x = (let e = is.0 in cc) in let c = asked_on_listed x y (Err d) g same called in (c.0, c.1, λ e. is.1)
-  item_of_first (failure_at c) x l p q g a drawn called = absurd (let e = (a (Err c) q drawn).0 in cc)
-  item_of_first end_at x l p q g a drawn called = absurd (let e = (a end q drawn).0 in cc)
+  asked_place_of_first_item : (z : Place X (Result Bool E) E) (x : X) (l : List (Result X E)) (p q : S) (g : F) → AlwaysGives m.steps p (Ok x ∷ l) → DrawsAtPlace m.steps looks z p q → Calls call f (filter_map call_of (z ∷ [])) g → (z ≡ asked x (h x)) × (g ≡ f) × (is_refused z ≡ false → AlwaysGives m.steps q l)
+  asked_place_of_first_item (asked y (Ok true)) x l p q g a drawn called = let is = a (item y) q drawn in let same : y ≡ x = (let e = is.0 in cc) in let c = asked_place_is_of_function x y (Ok true) g same called in (c.0, c.1, λ e. is.1)
+  asked_place_of_first_item (asked y (Ok false)) x l p q g a drawn called = let u = k.comes p y q drawn in let same : y ≡ x = (let e = (a (item y) u.0 u.1).0 in cc) in let c = asked_place_is_of_function x y (Ok false) g same called in (c.0, c.1, λ e. absurd cc)
+  asked_place_of_first_item (asked y (Err d)) x l p q g a drawn called = let is = a (item y) q drawn in let same : y ≡ x = (let e = is.0 in cc) in let c = asked_place_is_of_function x y (Err d) g same called in (c.0, c.1, λ e. is.1)
+  asked_place_of_first_item (failure_at c) x l p q g a drawn called = absurd (let e = (a (Err c) q drawn).0 in cc)
+  asked_place_of_first_item end_at x l p q g a drawn called = absurd (let e = (a end q drawn).0 in cc)
 
-  gives_peeking_of_draws : (p : S) (g : F) (l : List (Result X E)) → g ≡ f → GivesPeeking p f l → GivesPeeking p g l
-  gives_peeking_of_draws p g l same a = subst (λ (z : F). GivesPeeking p z l) (sym same) a
+  gives_peeking_of_equal_closure : (p : S) (g : F) (l : List (Result X E)) → g ≡ f → GivesPeeking p f l → GivesPeeking p g l
+  gives_peeking_of_equal_closure p g l same a = subst (λ (z : F). GivesPeeking p z l) (sym same) a
 
-  gives_through_item : (x : X) (v : Result Bool E) (l rest : List (Result X E)) (p : S) → h x ≡ v → AlwaysGives m.steps p (Ok x ∷ l) → ((u : S) → AlwaysGives m.steps u l → GivesPeeking u f rest) → GivesPeeking p f (cons_while x v rest)
-  gives_through_item x (Ok true) l rest p is a then = λ r q w. let d = item_of_first w.0 x l p q.0 q.1 a w.1 w.2 in let z : w.0 ≡ asked x (Ok true) = d.0 ∙ ap (λ (v : Result Bool E). asked x v) is in
-      (w.3 ∙ ap taken_answer z, gives_peeking_of_draws q.0 q.1 rest d.1 (then q.0 (d.2 (ap is_refused z))))
-  gives_through_item x (Ok false) l rest p is a then = λ r q w. let d = item_of_first w.0 x l p q.0 q.1 a w.1 w.2 in w.3 ∙ ap taken_answer (d.0 ∙ ap (λ (v : Result Bool E). asked x v) is)
-  gives_through_item x (Err e) l rest p is a then = λ r q w. let d = item_of_first w.0 x l p q.0 q.1 a w.1 w.2 in let z : w.0 ≡ asked x (Err e) = d.0 ∙ ap (λ (v : Result Bool E). asked x v) is in
-      (w.3 ∙ ap taken_answer z, gives_peeking_of_draws q.0 q.1 rest d.1 (then q.0 (d.2 (ap is_refused z))))
+  gives_peeking_cons_while : (x : X) (v : Result Bool E) (l rest : List (Result X E)) (p : S) → h x ≡ v → AlwaysGives m.steps p (Ok x ∷ l) → ((u : S) → AlwaysGives m.steps u l → GivesPeeking u f rest) → GivesPeeking p f (cons_while x v rest)
+  gives_peeking_cons_while x (Ok true) l rest p is a then = λ r q w. let d = asked_place_of_first_item w.0 x l p q.0 q.1 a w.1 w.2 in let z : w.0 ≡ asked x (Ok true) = d.0 ∙ ap (λ (v : Result Bool E). asked x v) is in
+      (w.3 ∙ ap taken_answer z, gives_peeking_of_equal_closure q.0 q.1 rest d.1 (then q.0 (d.2 (ap is_refused z))))
+  gives_peeking_cons_while x (Ok false) l rest p is a then = λ r q w. let d = asked_place_of_first_item w.0 x l p q.0 q.1 a w.1 w.2 in w.3 ∙ ap taken_answer (d.0 ∙ ap (λ (v : Result Bool E). asked x v) is)
+  gives_peeking_cons_while x (Err e) l rest p is a then = λ r q w. let d = asked_place_of_first_item w.0 x l p q.0 q.1 a w.1 w.2 in let z : w.0 ≡ asked x (Err e) = d.0 ∙ ap (λ (v : Result Bool E). asked x v) is in
+      (w.3 ∙ ap taken_answer z, gives_peeking_of_equal_closure q.0 q.1 rest d.1 (then q.0 (d.2 (ap is_refused z))))
 
   gives_peeking : (l : List (Result X E)) (p : S) → AlwaysGives m.steps p l → GivesPeeking p f (taken_while h l)
   unfolding taken_while
   gives_peeking [] p a = λ r q w. let u = source_step_of_place w.0 p q.0 w.1 in taken_end_of_nil w.0 p u.0 r a u.1 w.3
-  gives_peeking (Ok x ∷ l) p a = gives_through_item x (h x) l (taken_while h l) p refl a (λ u b. gives_peeking l u b)
-  gives_peeking (Err e ∷ l) p a = λ r q w. let d = failure_place_of_first w.0 e l p q.0 q.1 a w.1 w.2 in (w.3 ∙ ap taken_answer d.0, gives_peeking_of_draws q.0 q.1 (taken_while h l) d.2 (gives_peeking l q.0 d.1))
+  gives_peeking (Ok x ∷ l) p a = gives_peeking_cons_while x (h x) l (taken_while h l) p refl a (λ u b. gives_peeking l u b)
+  gives_peeking (Err e ∷ l) p a = λ r q w. let d = failure_place_of_first w.0 e l p q.0 q.1 a w.1 w.2 in (w.3 ∙ ap taken_answer d.0, gives_peeking_of_equal_closure q.0 q.1 (taken_while h l) d.2 (gives_peeking l q.0 d.1))
 
 pub lists_peeking : {S F X E : Type 0} {m : Contract S X E} {looks : S → X → S → Type 0} (k : LooksAhead m looks) (g : Mut F (Bor X × Unit {0}) (Result Bool E)) (s : PeekingTakeWhile S F) (f : F) (h : X → Result Bool E) (l : List (Result X E)) → peeking_parts s ≡ (s.it, f) → Acts (call_by_reference g) f h → Lists m.steps s.it l
     → Lists (seen_as peeking_parts (peeking_contract m looks g)).steps s (taken_while h l)
@@ -279,39 +279,39 @@ module _ {S F X E : Type 0} {m : Contract S X E} {looks : S → X → S → Type
   always_gives_looked x l s t look a = λ r u step. let d = k.next s x t r u look step in (d.0, (a (item x) u d.1).1)
 
   -- from where a place left the source and the closure
-  leaves_of_draws : (left : Option (List (Result X E))) (taken : List (Result X E)) (s : S) (g : F) (t : S × F) → g ≡ f → LeavesRest left taken s t → Run (peeking_step m.steps looks call) (s, g) (map result_answer taken ++ end ∷ []) t → IfSome left (λ l. AlwaysGives m.steps t.0 l)
-  leaves_of_draws left taken s g t same leaves ran = leaves (subst (λ (z : F). Run (peeking_step m.steps looks call) (s, z) (map result_answer taken ++ end ∷ []) t) same ran)
+  always_gives_left_where_leaves_rest : (left : Option (List (Result X E))) (taken : List (Result X E)) (s : S) (g : F) (t : S × F) → g ≡ f → LeavesRest left taken s t → Run (peeking_step m.steps looks call) (s, g) (map result_answer taken ++ end ∷ []) t → IfSome left (λ l. AlwaysGives m.steps t.0 l)
+  always_gives_left_where_leaves_rest left taken s g t same leaves ran = leaves (subst (λ (z : F). Run (peeking_step m.steps looks call) (s, z) (map result_answer taken ++ end ∷ []) t) same ran)
 
-  refused_look : (z : Place X (Result Bool E) E) (x : X) (s t : S) → z ≡ asked x (Ok false) → DrawsAtPlace m.steps looks z s t → looks s x t
-  refused_look z x s t is d = subst (λ (w : Place X (Result Bool E) E). DrawsAtPlace m.steps looks w s t) is d
+  looks_at_refused_place : (z : Place X (Result Bool E) E) (x : X) (s t : S) → z ≡ asked x (Ok false) → DrawsAtPlace m.steps looks z s t → looks s x t
+  looks_at_refused_place z x s t is d = subst (λ (w : Place X (Result Bool E) E). DrawsAtPlace m.steps looks w s t) is d
 
   leaves_rest_item : (x : X) (v : Result Bool E) (l rest : List (Result X E)) (left : Option (List (Result X E))) (s : S) (t : S × F) → h x ≡ v → AlwaysGives m.steps s (Ok x ∷ l) → ((u : S) → AlwaysGives m.steps u l → LeavesRest left rest u t) → LeavesRest (rest_from_item x v l left) (cons_while x v rest) s t
-  leaves_rest_item x (Ok true) l rest left s t is a then = λ ran. let w = ran.1 in let d = item_of_first k call f h acts w.0 x l s ran.0.0 ran.0.1 a w.1 w.2 in
-      leaves_of_draws left rest ran.0.0 ran.0.1 t d.1 (then ran.0.0 (d.2 (ap is_refused (d.0 ∙ ap (λ (v : Result Bool E). asked x v) is)))) ran.2
-  leaves_rest_item x (Err e) l rest left s t is a then = λ ran. let w = ran.1 in let d = item_of_first k call f h acts w.0 x l s ran.0.0 ran.0.1 a w.1 w.2 in
-      leaves_of_draws left rest ran.0.0 ran.0.1 t d.1 (then ran.0.0 (d.2 (ap is_refused (d.0 ∙ ap (λ (v : Result Bool E). asked x v) is)))) ran.2
-  leaves_rest_item x (Ok false) l rest left s t is a then = λ ran. let w = ran.1 in let d = item_of_first k call f h acts w.0 x l s ran.0.0 ran.0.1 a w.1 w.2 in
-      always_gives_looked x l s t.0 (subst (λ (u : S × F). looks s x u.0) ran.2 (refused_look w.0 x s ran.0.0 (d.0 ∙ ap (λ (v : Result Bool E). asked x v) is) w.1)) a
+  leaves_rest_item x (Ok true) l rest left s t is a then = λ ran. let w = ran.1 in let d = asked_place_of_first_item k call f h acts w.0 x l s ran.0.0 ran.0.1 a w.1 w.2 in
+      always_gives_left_where_leaves_rest left rest ran.0.0 ran.0.1 t d.1 (then ran.0.0 (d.2 (ap is_refused (d.0 ∙ ap (λ (v : Result Bool E). asked x v) is)))) ran.2
+  leaves_rest_item x (Err e) l rest left s t is a then = λ ran. let w = ran.1 in let d = asked_place_of_first_item k call f h acts w.0 x l s ran.0.0 ran.0.1 a w.1 w.2 in
+      always_gives_left_where_leaves_rest left rest ran.0.0 ran.0.1 t d.1 (then ran.0.0 (d.2 (ap is_refused (d.0 ∙ ap (λ (v : Result Bool E). asked x v) is)))) ran.2
+  leaves_rest_item x (Ok false) l rest left s t is a then = λ ran. let w = ran.1 in let d = asked_place_of_first_item k call f h acts w.0 x l s ran.0.0 ran.0.1 a w.1 w.2 in
+      always_gives_looked x l s t.0 (subst (λ (u : S × F). looks s x u.0) ran.2 (looks_at_refused_place w.0 x s ran.0.0 (d.0 ∙ ap (λ (v : Result Bool E). asked x v) is) w.1)) a
 
-  pub leaves_refused : (l : List (Result X E)) (s : S) (t : S × F) → AlwaysGives m.steps s l → LeavesRest (rest_by_while h l) (taken_while h l) s t
+  pub leaves_rest_of_taken_while : (l : List (Result X E)) (s : S) (t : S × F) → AlwaysGives m.steps s l → LeavesRest (rest_by_while h l) (taken_while h l) s t
   unfolding rest_by_while taken_while
-  leaves_refused [] s t a = λ ran. tt
-  leaves_refused (Ok x ∷ l) s t a = leaves_rest_item x (h x) l (taken_while h l) (rest_by_while h l) s t refl a (λ u b. leaves_refused l u t b)
-  leaves_refused (Err e ∷ l) s t a = λ ran. let w = ran.1 in let d = failure_place_of_first k call f h acts w.0 e l s ran.0.0 ran.0.1 a w.1 w.2 in
-      leaves_of_draws (rest_by_while h l) (taken_while h l) ran.0.0 ran.0.1 t d.2 (leaves_refused l ran.0.0 t d.1) ran.2
+  leaves_rest_of_taken_while [] s t a = λ ran. tt
+  leaves_rest_of_taken_while (Ok x ∷ l) s t a = leaves_rest_item x (h x) l (taken_while h l) (rest_by_while h l) s t refl a (λ u b. leaves_rest_of_taken_while l u t b)
+  leaves_rest_of_taken_while (Err e ∷ l) s t a = λ ran. let w = ran.1 in let d = failure_place_of_first k call f h acts w.0 e l s ran.0.0 ran.0.1 a w.1 w.2 in
+      always_gives_left_where_leaves_rest (rest_by_while h l) (taken_while h l) ran.0.0 ran.0.1 t d.2 (leaves_rest_of_taken_while l ran.0.0 t d.1) ran.2
 
 -- a run of a value whose answers are those of its parts is one of these
-run_parts : {V P A E : Type 0} (view : V → P) (steps : P → Answered A E → P → Type 0) (trace : List (Answered A E)) (s t : V) → Run (λ u r v. steps (view u) r (view v)) s trace t → Run steps (view s) trace (view t)
-run_parts view steps [] s t e = ap view e
-run_parts view steps (r ∷ rest) s t w = (view w.0, w.1, run_parts view steps rest w.0 t w.2)
+run_of_viewed : {V P A E : Type 0} (view : V → P) (steps : P → Answered A E → P → Type 0) (trace : List (Answered A E)) (s t : V) → Run (λ u r v. steps (view u) r (view v)) s trace t → Run steps (view s) trace (view t)
+run_of_viewed view steps [] s t e = ap view e
+run_of_viewed view steps (r ∷ rest) s t w = (view w.0, w.1, run_of_viewed view steps rest w.0 t w.2)
 
-given_listed : {S X E : Type 0} (steps : S → Answered X E → S → Type 0) (s : S) (o : Option (List (Result X E))) → IfSome o (λ l. AlwaysGives steps s l) → IfSome o (λ l. Lists steps s l)
-given_listed steps s None i = tt
-given_listed steps s (Some l) i = record { runs = i }
+if_some_lists_where_always_gives : {S X E : Type 0} (steps : S → Answered X E → S → Type 0) (s : S) (o : Option (List (Result X E))) → IfSome o (λ l. AlwaysGives steps s l) → IfSome o (λ l. Lists steps s l)
+if_some_lists_where_always_gives steps s None i = tt
+if_some_lists_where_always_gives steps s (Some l) i = record { runs = i }
 
 pub lists_rest : {S F X E : Type 0} {m : Contract S X E} {looks : S → X → S → Type 0} (k : LooksAhead m looks) (g : Mut F (Bor X × Unit {0}) (Result Bool E)) (s t : PeekingTakeWhile S F) (h : X → Result Bool E) (l : List (Result X E)) → Acts (call_by_reference g) s.accept h → Lists m.steps s.it l
     → Run (seen_as peeking_parts (peeking_contract m looks g)).steps s (map result_answer (taken_while h l) ++ end ∷ []) t → IfSome (rest_by_while h l) (λ rest. Lists m.steps t.it rest)
-lists_rest {m = m} {looks = looks} k g s t h l a i ran = given_listed m.steps t.it (rest_by_while h l) (leaves_refused k (call_by_reference g) s.accept h a l s.it (peeking_parts t) i.runs (run_parts peeking_parts (peeking_contract m looks g).steps (map result_answer (taken_while h l) ++ end ∷ []) s t ran))
+lists_rest {m = m} {looks = looks} k g s t h l a i ran = if_some_lists_where_always_gives m.steps t.it (rest_by_while h l) (leaves_rest_of_taken_while k (call_by_reference g) s.accept h a l s.it (peeking_parts t) i.runs (run_of_viewed peeking_parts (peeking_contract m looks g).steps (map result_answer (taken_while h l) ++ end ∷ []) s t ran))
 
 -- ---- its hint
 

@@ -5,7 +5,7 @@ use Rattle.fallible_iterator.specs.Lists.{mapped}
 use Rattle.fallible_itertools_adapters.specs.DedupBy.{deduped_by, deduped_by_from, same_before}
 use Rattle.fallible_itertools_adapters.specs.Holding.{held_one}
 use Rattle.fallible_itertools_adapters.specs.RunCounts.{counted_before, counted_from, counted_same, deduped_by_with_count, one_more}
-use Rattle.fallible_itertools_adapters.proofs.Lemmas.HoldingLists.{by_outcome, held_list, listed_parts}
+use Rattle.fallible_itertools_adapters.proofs.Lemmas.HoldingLists.{by_outcome, held_list, splits_at_failure_where_is_held_list}
 use Rattle.fallible_iterator.specs.Outcome.{Outcome}
 use Rattle.fallible_iterator.specs.Outcome.TheVariants.{Kept, LeftOut, Failure, End}
 
@@ -47,14 +47,14 @@ module _ {A E : Type 0} (h : A → A → Result Bool E) where
   none_held_after_end None = refl
   none_held_after_end (Some p) = refl
 
-  no_end_by : (p : ℕ × A) (v : Result Bool E) → outcome_of_counted p v ≡ End → ⊥
-  no_end_by p (Ok true) is = absurd cc
-  no_end_by p (Ok false) is = absurd cc
-  no_end_by p (Err e) is = absurd cc
+  outcome_of_counted_never_ends : (p : ℕ × A) (v : Result Bool E) → outcome_of_counted p v ≡ End → ⊥
+  outcome_of_counted_never_ends p (Ok true) is = absurd cc
+  outcome_of_counted_never_ends p (Ok false) is = absurd cc
+  outcome_of_counted_never_ends p (Err e) is = absurd cc
 
   count_outcome_never_end : (a : Option (ℕ × A)) (x : A) → count_outcome a (Some x) ≡ End → ⊥
   count_outcome_never_end None x is = absurd cc
-  count_outcome_never_end (Some p) x is = no_end_by p (h p.1 x) is
+  count_outcome_never_end (Some p) x is = outcome_of_counted_never_ends p (h p.1 x) is
 
   by_outcome_of_counted : (p : ℕ × A) (x : A) (v : Result Bool E) (l : List (Result A E)) → ((a : Option (ℕ × A)) → held_list count_outcome held_after_count a l ≡ counted_from h a l) → by_outcome count_outcome held_after_count (outcome_of_counted p v) (held_after_counted p x v) l ≡ counted_before p x v (λ held. counted_from h held l)
   by_outcome_of_counted p x (Ok true) l rest = rest (Some (one_more p.0, p.1))
@@ -72,7 +72,7 @@ module _ {A E : Type 0} (h : A → A → Result Bool E) where
 
   -- What stands before a failure is counted by itself, and so is what comes after it.
   pub counted_in_parts : (a : List (Result A E)) (e : E) (b : List (Result A E)) → counted_from h None (a ++ Err e ∷ b) ≡ counted_from h None a ++ Err e ∷ counted_from h None b
-  counted_in_parts a e b = listed_parts count_outcome held_after_count None none_held_after_end count_outcome_never_end (counted_from h None) (held_list_is_counted_from None) a e b
+  counted_in_parts a e b = splits_at_failure_where_is_held_list count_outcome held_after_count None none_held_after_end count_outcome_never_end (counted_from h None) (held_list_is_counted_from None) a e b
 
   -- ---- without the numbers
 
@@ -84,25 +84,25 @@ module _ {A E : Type 0} (h : A → A → Result Bool E) where
   item_held None = None
   item_held (Some p) = Some p.1
 
-  uncounted_before : (p : ℕ × A) (x : A) (v : Result Bool E) (l : List (Result A E)) → ((a : Option (ℕ × A)) → uncounted (counted_from h a l) ≡ deduped_by_from h (item_held a) l) → uncounted (counted_before p x v (λ held. counted_from h held l)) ≡ same_before p.1 x v (λ held. deduped_by_from h held l)
+  uncounted_before_is_same_before : (p : ℕ × A) (x : A) (v : Result Bool E) (l : List (Result A E)) → ((a : Option (ℕ × A)) → uncounted (counted_from h a l) ≡ deduped_by_from h (item_held a) l) → uncounted (counted_before p x v (λ held. counted_from h held l)) ≡ same_before p.1 x v (λ held. deduped_by_from h held l)
   unfolding mapped
-  uncounted_before p x (Ok true) l rest = rest (Some (one_more p.0, p.1))
-  uncounted_before p x (Ok false) l rest = ap (λ k. Ok p.1 ∷ k) (rest (Some (1, x)))
-  uncounted_before p x (Err e) l rest = ap (λ k. Ok p.1 ∷ Err e ∷ k) (rest None)
+  uncounted_before_is_same_before p x (Ok true) l rest = rest (Some (one_more p.0, p.1))
+  uncounted_before_is_same_before p x (Ok false) l rest = ap (λ k. Ok p.1 ∷ k) (rest (Some (1, x)))
+  uncounted_before_is_same_before p x (Err e) l rest = ap (λ k. Ok p.1 ∷ Err e ∷ k) (rest None)
 
-  uncounted_from : (a : Option (ℕ × A)) (l : List (Result A E)) → uncounted (counted_from h a l) ≡ deduped_by_from h (item_held a) l
+  uncounted_from_is_deduped_by_from : (a : Option (ℕ × A)) (l : List (Result A E)) → uncounted (counted_from h a l) ≡ deduped_by_from h (item_held a) l
   unfolding mapped counted_from deduped_by_from
-  uncounted_from None [] = refl
-  uncounted_from (Some p) [] = refl
-  uncounted_from None (Ok x ∷ l) = uncounted_from (Some (1, x)) l
-  uncounted_from (Some p) (Ok x ∷ l) = uncounted_before p x (h p.1 x) l (λ a. uncounted_from a l)
-  uncounted_from None (Err e ∷ l) = ap (λ k. Err e ∷ k) (uncounted_from None l)
-  uncounted_from (Some p) (Err e ∷ l) = ap (λ k. Ok p.1 ∷ Err e ∷ k) (uncounted_from None l)
+  uncounted_from_is_deduped_by_from None [] = refl
+  uncounted_from_is_deduped_by_from (Some p) [] = refl
+  uncounted_from_is_deduped_by_from None (Ok x ∷ l) = uncounted_from_is_deduped_by_from (Some (1, x)) l
+  uncounted_from_is_deduped_by_from (Some p) (Ok x ∷ l) = uncounted_before_is_same_before p x (h p.1 x) l (λ a. uncounted_from_is_deduped_by_from a l)
+  uncounted_from_is_deduped_by_from None (Err e ∷ l) = ap (λ k. Err e ∷ k) (uncounted_from_is_deduped_by_from None l)
+  uncounted_from_is_deduped_by_from (Some p) (Err e ∷ l) = ap (λ k. Ok p.1 ∷ Err e ∷ k) (uncounted_from_is_deduped_by_from None l)
 
   -- Without the numbers it is what `deduped_by` lists.
   pub deduped_by_of_counted : (l : List (Result A E)) → mapped (λ p. Ok p.1) (counted_from h None l) ≡ deduped_by h l
   unfolding deduped_by
-  deduped_by_of_counted l = uncounted_from None l
+  deduped_by_of_counted l = uncounted_from_is_deduped_by_from None l
 
   -- The same of the word that callers have.
   pub deduped_by_with_count_in_parts : (a : List (Result A E)) (e : E) (b : List (Result A E)) → deduped_by_with_count h (a ++ Err e ∷ b) ≡ deduped_by_with_count h a ++ Err e ∷ deduped_by_with_count h b

@@ -12,24 +12,24 @@ use Rattle.fallible_iterator.specs.Hints.{fitting_sum}
 use Rattle.fallible_iterator.specs.LawForm.{TracesAre}
 use Rattle.fallible_iterator.specs.Lists.{GivesForGood, Lists, result_answer}
 use Rattle.fallible_iterator.proofs.Lemmas.Cutting.Fuse.{lists_for_good_fused}
-use Rattle.fallible_iterator.proofs.Lemmas.Hints.Drawn.{if_some_no_greater}
-use Rattle.fallible_iterator.proofs.Lemmas.Hints.Joining.{if_some_fitting_sum_above}
+use Rattle.fallible_iterator.proofs.Lemmas.Hints.Drawn.{if_some_at_least_of_smaller}
+use Rattle.fallible_iterator.proofs.Lemmas.Hints.Joining.{if_some_fitting_sum_at_least_both}
 use Rattle.fallible_iterator.specs.Fuse.{Fuse}
 use Rattle.fallible_itertools_adapters.specs.Sides.{fused_steps, side_gives, side_hint, GivesHeldFirst, GivesIf, Rule, SidesPlace, left_failed, right_failed, both_gave, left_gave, right_gave, left_held_after, right_held_after, place_answer, place_decides, drawn_at, before_drawn, IsGiven, SideTrace, SidesTrace, sides_step}
-use Rattle.fallible_itertools_adapters.specs.Laws.Sides.{IsLawfulRule, side_kept_given}
+use Rattle.fallible_itertools_adapters.specs.Laws.Sides.{IsLawfulRule, side_kept_and_of_item_where_given}
 
 -- a result that is a failure, and which
-pub failure_of_gives_if : {X E : Type 0} (r : Result X E) (e : E) → IsErrAnd r (λ d. d ≡ e) → r ≡ Err e
-failure_of_gives_if (Ok x) e h = absurd h
-failure_of_gives_if (Err d) e h = ap Err h
+pub failure_where_is_err_and : {X E : Type 0} (r : Result X E) (e : E) → IsErrAnd r (λ d. d ≡ e) → r ≡ Err e
+failure_where_is_err_and (Ok x) e h = absurd h
+failure_where_is_err_and (Err d) e h = ap Err h
 
 -- what a side yielded, known as another value
-pub gives_gave_item : {S A E : Type 0} (steps : S → Answered A E → S → Type 0) (p : S × Option A) (t : S) {x y : Option A} → x ≡ y → GivesHeldFirst steps p (Ok x) t → GivesHeldFirst steps p (Ok y) t
-gives_gave_item steps p t same g = subst (λ (z : _). GivesHeldFirst steps p (Ok z) t) same g
+pub gives_held_first_of_equal_item : {S A E : Type 0} (steps : S → Answered A E → S → Type 0) (p : S × Option A) (t : S) {x y : Option A} → x ≡ y → GivesHeldFirst steps p (Ok x) t → GivesHeldFirst steps p (Ok y) t
+gives_held_first_of_equal_item steps p t same g = subst (λ (z : _). GivesHeldFirst steps p (Ok z) t) same g
 
 -- an item that a side yielded is one that might come
-pub item_may_come : {S A E : Type 0} (m : Contract S A E) → Lawful m → (p : S × Option A) (t : S) {x : Option A} {y : A} → m.can_next p.0 → x ≡ Some y → GivesHeldFirst m.steps p (Ok x) t → side_gives m p y
-item_may_come m l p t {y = y} c same g = (side_kept_given m l p t (Some y) c (gives_gave_item m.steps p t same g)).1
+pub side_gives_where_given_held_first : {S A E : Type 0} (m : Contract S A E) → Lawful m → (p : S × Option A) (t : S) {x : Option A} {y : A} → m.can_next p.0 → x ≡ Some y → GivesHeldFirst m.steps p (Ok x) t → side_gives m p y
+side_gives_where_given_held_first m l p t {y = y} c same g = (side_kept_and_of_item_where_given m l p t (Some y) c (gives_held_first_of_equal_item m.steps p t same g)).1
 
 module _ {S U A B C E F V : Type 0} (steps : S → Answered A E → S → Type 0) (others : U → Answered B E → U → Type 0) (rule : Rule A B C E F V) where
   abbrev pub SidesState : Type 0
@@ -42,19 +42,19 @@ module _ {S U A B C E F V : Type 0} (steps : S → Answered A E → S → Type 0
 
 module _ {A E X S : Type 0} (gave : X → Option (Answered A E)) (held_after : Option A → X → Option A) (steps : S → Answered A E → S → Type 0) where
   -- one place before others
-  run_drawn_first : (h : Option A) (o : Option (Answered A E)) (s m t : S) (rest : List (Answered A E)) → GivesIf steps (s, h) o m → Run steps m rest t → Run steps s (before_drawn h o rest) t
-  run_drawn_first (Some x) (Some r) s m t rest g ran = subst (λ (z : S). Run steps z rest t) g.1 ran
-  run_drawn_first (Some x) None s m t rest g ran = subst (λ (z : S). Run steps z rest t) g ran
-  run_drawn_first None None s m t rest g ran = subst (λ (z : S). Run steps z rest t) g ran
-  run_drawn_first None (Some r) s m t rest g ran = (m, g, ran)
+  run_with_before_drawn : (h : Option A) (o : Option (Answered A E)) (s m t : S) (rest : List (Answered A E)) → GivesIf steps (s, h) o m → Run steps m rest t → Run steps s (before_drawn h o rest) t
+  run_with_before_drawn (Some x) (Some r) s m t rest g ran = subst (λ (z : S). Run steps z rest t) g.1 ran
+  run_with_before_drawn (Some x) None s m t rest g ran = subst (λ (z : S). Run steps z rest t) g ran
+  run_with_before_drawn None None s m t rest g ran = subst (λ (z : S). Run steps z rest t) g ran
+  run_with_before_drawn None (Some r) s m t rest g ran = (m, g, ran)
 
   is_given_first : (h : Option A) (o : Option (Answered A E)) (s m : S) → GivesIf steps (s, h) o m → IsGiven h o
   is_given_first (Some x) (Some r) s m g = g.0
   is_given_first (Some x) None s m g = tt
   is_given_first None o s m g = tt
 
-  pub side_trace_first : (p q : S × Option A) (m : S) (x : X) (places : List X) → GivesIf steps p (gave x) m → SideTrace gave held_after steps (m, held_after p.1 x) places q → SideTrace gave held_after steps p (x ∷ places) q
-  side_trace_first p q m x places g d = record { drawn = run_drawn_first p.1 (gave x) p.0 m q.0 (drawn_at gave held_after (held_after p.1 x) places) g d.drawn; held = (is_given_first p.1 (gave x) p.0 m g, d.held) }
+  pub side_trace_with_place_before : (p q : S × Option A) (m : S) (x : X) (places : List X) → GivesIf steps p (gave x) m → SideTrace gave held_after steps (m, held_after p.1 x) places q → SideTrace gave held_after steps p (x ∷ places) q
+  side_trace_with_place_before p q m x places g d = record { drawn = run_with_before_drawn p.1 (gave x) p.0 m q.0 (drawn_at gave held_after (held_after p.1 x) places) g d.drawn; held = (is_given_first p.1 (gave x) p.0 m g, d.held) }
 
   -- a first place and the others
   run_first_and_rest : (h : Option A) (o : Option (Answered A E)) (s t : S) (rest : List (Answered A E)) → IsGiven h o → Run steps s (before_drawn h o rest) t → (m : S) × GivesIf steps (s, h) o m × Run steps m rest t
@@ -63,8 +63,8 @@ module _ {A E X S : Type 0} (gave : X → Option (Answered A E)) (held_after : O
   run_first_and_rest None None s t rest is ran = (s, refl, ran)
   run_first_and_rest None (Some r) s t rest is ran = (ran.0, ran.1, ran.2)
 
-  pub side_rest : (p q : S × Option A) (x : X) (places : List X) → SideTrace gave held_after steps p (x ∷ places) q → (m : S) × GivesIf steps p (gave x) m × SideTrace gave held_after steps (m, held_after p.1 x) places q
-  side_rest p q x places d = let f = run_first_and_rest p.1 (gave x) p.0 q.0 (drawn_at gave held_after (held_after p.1 x) places) d.held.0 d.drawn in (f.0, f.1, record { drawn = f.2; held = d.held.1 })
+  pub side_trace_first_and_rest : (p q : S × Option A) (x : X) (places : List X) → SideTrace gave held_after steps p (x ∷ places) q → (m : S) × GivesIf steps p (gave x) m × SideTrace gave held_after steps (m, held_after p.1 x) places q
+  side_trace_first_and_rest p q x places d = let f = run_first_and_rest p.1 (gave x) p.0 q.0 (drawn_at gave held_after (held_after p.1 x) places) d.held.0 d.drawn in (f.0, f.1, record { drawn = f.2; held = d.held.1 })
 
 -- ---- whole traces: both sides
 
@@ -75,25 +75,25 @@ module _ {S U A B C E F V : Type 0} (steps : S → Answered A E → S → Type 0
   trace_place_first : (x : SidesPlace A B E V) (p m q : SidesState steps others rule) (rest : List (Answered C E)) → GivesIf steps p.0 (left_gave x) m.0.0 → m.0.1 ≡ left_held_after rule p.0.1 x → GivesIf others p.1 (right_gave x) m.1.0 → m.1.1 ≡ right_held_after rule p.1.1 x → place_decides rule p.2 x m.2 → TraceOfSides m rest q → TraceOfSides p (place_answer rule x ∷ rest) q
   trace_place_first x p ((s, h), (u, k), f) q rest a e b i c d = record {
     places = x ∷ d.places;
-    left = side_trace_first left_gave (left_held_after rule) steps p.0 q.0 s x d.places a (subst (λ (z : Option A). SideTrace left_gave (left_held_after rule) steps (s, z) d.places q.0) e d.left);
-    right = side_trace_first right_gave (right_held_after rule) others p.1 q.1 u x d.places b (subst (λ (z : Option B). SideTrace right_gave (right_held_after rule) others (u, z) d.places q.1) i d.right);
+    left = side_trace_with_place_before left_gave (left_held_after rule) steps p.0 q.0 s x d.places a (subst (λ (z : Option A). SideTrace left_gave (left_held_after rule) steps (s, z) d.places q.0) e d.left);
+    right = side_trace_with_place_before right_gave (right_held_after rule) others p.1 q.1 u x d.places b (subst (λ (z : Option B). SideTrace right_gave (right_held_after rule) others (u, z) d.places q.1) i d.right);
     decided = (f, c, d.decided);
     answers = ap {B = List (Answered C E)} (λ l. place_answer rule x ∷ l) d.answers;
   }
 
-  trace_places : (trace : List (Answered C E)) (p q : SidesState steps others rule) → Run (SidesStep steps others rule) p trace q → TraceOfSides p trace q
-  trace_places [] p q e = record { places = []; left = record { drawn = ap (λ (z : SidesState steps others rule). z.0.0) e; held = ap (λ (z : SidesState steps others rule). z.0.1) (sym e) }; right = record { drawn = ap (λ (z : SidesState steps others rule). z.1.0) e; held = ap (λ (z : SidesState steps others rule). z.1.1) (sym e) }; decided = ap (λ (z : SidesState steps others rule). z.2) e; answers = refl }
-  trace_places (r ∷ rest) p q ran = let w = ran.1 in rw w.6 (trace_place_first w.0 p ran.0 q rest w.1 w.2 w.3 w.4 w.5 (trace_places rest ran.0 q ran.2))
+  sides_trace_of_run : (trace : List (Answered C E)) (p q : SidesState steps others rule) → Run (SidesStep steps others rule) p trace q → TraceOfSides p trace q
+  sides_trace_of_run [] p q e = record { places = []; left = record { drawn = ap (λ (z : SidesState steps others rule). z.0.0) e; held = ap (λ (z : SidesState steps others rule). z.0.1) (sym e) }; right = record { drawn = ap (λ (z : SidesState steps others rule). z.1.0) e; held = ap (λ (z : SidesState steps others rule). z.1.1) (sym e) }; decided = ap (λ (z : SidesState steps others rule). z.2) e; answers = refl }
+  sides_trace_of_run (r ∷ rest) p q ran = let w = ran.1 in rw w.6 (trace_place_first w.0 p ran.0 q rest w.1 w.2 w.3 w.4 w.5 (sides_trace_of_run rest ran.0 q ran.2))
 
   run_from_places : (places : List (SidesPlace A B E V)) (p q : SidesState steps others rule) → SideTrace left_gave (left_held_after rule) steps p.0 places q.0 → SideTrace right_gave (right_held_after rule) others p.1 places q.1 → FoldsTo (place_decides rule) p.2 places q.2 → Run (SidesStep steps others rule) p (map (place_answer rule) places) q
   run_from_places [] ((s, h), (u, k), f) ((t, i), (v, j), g) a b c = rw (a.drawn, a.held, b.drawn, b.held, c) refl
   run_from_places (x ∷ places) p q a b c =
-      let m = side_rest left_gave (left_held_after rule) steps p.0 q.0 x places a in
-      let n = side_rest right_gave (right_held_after rule) others p.1 q.1 x places b in
+      let m = side_trace_first_and_rest left_gave (left_held_after rule) steps p.0 q.0 x places a in
+      let n = side_trace_first_and_rest right_gave (right_held_after rule) others p.1 q.1 x places b in
       (((m.0, left_held_after rule p.0.1 x), (n.0, right_held_after rule p.1.1 x), c.0), (x, m.1, refl, n.1, refl, c.1, refl), run_from_places places ((m.0, left_held_after rule p.0.1 x), (n.0, right_held_after rule p.1.1 x), c.0) q m.2 n.2 c.2)
 
   pub sides_law : (p : SidesState steps others rule) (trace : List (Answered C E)) (q : SidesState steps others rule) → Run (SidesStep steps others rule) p trace q ↔ TraceOfSides p trace q
-  sides_law p trace q = (trace_places trace p q, (λ d. rw d.answers (run_from_places d.places p q d.left d.right d.decided)))
+  sides_law p trace q = (sides_trace_of_run trace p q, (λ d. rw d.answers (run_from_places d.places p q d.left d.right d.decided)))
 
 -- ---- whole traces: values of which nothing is held of the right
 
@@ -106,19 +106,19 @@ module _ {S U A B C E F V Z : Type 0} (steps : S → Answered A E → S → Type
   right_held_none_after h (right_failed x e) is = refl
   right_held_none_after h (both_gave x y v) is = none x y v
 
-  run_of_sides : (trace : List (Answered C E)) (s t : Z) → Run SeenStep s trace t → Run (SidesStep steps others rule) (parts s) trace (parts t)
-  run_of_sides [] s t e = ap parts e
-  run_of_sides (r ∷ rest) s t ran = (parts ran.0, ran.1, run_of_sides rest ran.0 t ran.2)
+  sides_run_of_seen_run : (trace : List (Answered C E)) (s t : Z) → Run SeenStep s trace t → Run (SidesStep steps others rule) (parts s) trace (parts t)
+  sides_run_of_seen_run [] s t e = ap parts e
+  sides_run_of_seen_run (r ∷ rest) s t ran = (parts ran.0, ran.1, sides_run_of_seen_run rest ran.0 t ran.2)
 
-  run_from_sides : (trace : List (Answered C E)) (s t : Z) → Run (SidesStep steps others rule) (parts s) trace (parts t) → Run SeenStep s trace t
-  run_from_sides [] s t e = sym (made s) ∙ ap make e ∙ made t
-  run_from_sides (r ∷ rest) s t ran =
+  seen_run_of_sides_run : (trace : List (Answered C E)) (s t : Z) → Run (SidesStep steps others rule) (parts s) trace (parts t) → Run SeenStep s trace t
+  seen_run_of_sides_run [] s t e = sym (made s) ∙ ap make e ∙ made t
+  seen_run_of_sides_run (r ∷ rest) s t ran =
       let w = ran.1 in
       let same = has ran.0 (w.4 ∙ right_held_none_after (parts s).1.1 w.0 (free s)) in
-      (make ran.0, subst (λ (p : SidesState steps others rule). SidesStep steps others rule (parts s) r p) (sym same) w, run_from_sides rest (make ran.0) t (subst (λ (p : SidesState steps others rule). Run (SidesStep steps others rule) p rest (parts t)) (sym same) ran.2))
+      (make ran.0, subst (λ (p : SidesState steps others rule). SidesStep steps others rule (parts s) r p) (sym same) w, seen_run_of_sides_run rest (make ran.0) t (subst (λ (p : SidesState steps others rule). Run (SidesStep steps others rule) p rest (parts t)) (sym same) ran.2))
 
   pub traces_are_of_sides : TracesAre parts SeenStep (SidesTrace steps others rule)
-  traces_are_of_sides s trace t = let law = sides_law steps others rule (parts s) trace (parts t) in ((λ ran. law.0 (run_of_sides trace s t ran)), (λ d. run_from_sides trace s t (law.1 d)))
+  traces_are_of_sides s trace t = let law = sides_law steps others rule (parts s) trace (parts t) in ((λ ran. law.0 (sides_run_of_seen_run trace s t ran)), (λ d. seen_run_of_sides_run trace s t (law.1 d)))
 
 -- ---- what it lists
 
@@ -134,9 +134,9 @@ rest_of (y ∷ l) = l
 
 module _ {S A E : Type 0} (steps : S → Answered A E → S → Type 0) where
   -- a draw returns what stands first, and leaves what lists the rest and is fused
-  pub first_for_good : (l : List (Result A E)) (s t : S) (r : Answered A E) → GivesForGood steps s l → steps s r t → (r ≡ first_answer l) × GivesForGood steps t (rest_of l)
-  first_for_good [] s t r i w = (i.each [] s t r refl w, record { each = λ trace u v a ran k. i.each (r ∷ trace) u v a (t, w, ran) k })
-  first_for_good (y ∷ l) s t r i w = i r t w
+  pub answers_first_where_gives_for_good : (l : List (Result A E)) (s t : S) (r : Answered A E) → GivesForGood steps s l → steps s r t → (r ≡ first_answer l) × GivesForGood steps t (rest_of l)
+  answers_first_where_gives_for_good [] s t r i w = (i.each [] s t r refl w, record { each = λ trace u v a ran k. i.each (r ∷ trace) u v a (t, w, ran) k })
+  answers_first_where_gives_for_good (y ∷ l) s t r i w = i r t w
 
   module _ (R : S → List (Result A E) → Type 0) (goes : (s t : S) (r : Answered A E) (l : List (Result A E)) → R s l → steps s r t → (r ≡ first_answer l) × R t (rest_of l)) where
     end_after_fused_end : (trace : List (Answered A E)) (s t u : S) (r : Answered A E) → R s [] → Run steps s trace t → steps t r u → r ≡ end
@@ -144,9 +144,9 @@ module _ {S A E : Type 0} (steps : S → Answered A E → S → Type 0) where
     end_after_fused_end (a ∷ trace) s t u r i ran w = end_after_fused_end trace ran.0 t u r (goes s ran.0 a [] i ran.1).1 ran.2 w
 
     -- what lists so at each draw is fused
-    pub gives_for_good_of_sides : (l : List (Result A E)) (s : S) → R s l → GivesForGood steps s l
-    gives_for_good_of_sides [] s i = record { each = λ trace t u r ran w. end_after_fused_end trace s t u r i ran w }
-    gives_for_good_of_sides (y ∷ l) s i = λ r t w. let d = goes s t r (y ∷ l) i w in (d.0, gives_for_good_of_sides l t d.1)
+    pub gives_for_good_where_each_answers_first : (l : List (Result A E)) (s : S) → R s l → GivesForGood steps s l
+    gives_for_good_where_each_answers_first [] s i = record { each = λ trace t u r ran w. end_after_fused_end trace s t u r i ran w }
+    gives_for_good_where_each_answers_first (y ∷ l) s i = λ r t w. let d = goes s t r (y ∷ l) i w in (d.0, gives_for_good_where_each_answers_first l t d.1)
 
 -- what a source lists, its fused source lists, and then ends alone
 pub gives_for_good_of_fresh : {S A E : Type 0} (m : Contract S A E) (f : Fuse S) (s : S) (l : List (Result A E)) → fuse_parts f ≡ (s, false) → Lists m.steps s l → GivesForGood (fused_steps m.steps) f l
@@ -163,7 +163,7 @@ module _ {S A E : Type 0} (steps : S → Answered A E → S → Type 0) where
   -- a side yields what stands first
   pub side_gives_first : (p : S × Option A) (t : S) (r : Answered A E) (l : List (Result A E)) → SideLists steps p l → GivesHeldFirst steps p r t → (r ≡ first_answer l) × GivesForGood steps t (rest_of l)
   side_gives_first (s, Some x) t r l i g = rw i.1 (g.0, subst (λ (z : S). GivesForGood steps z i.0) (sym g.1) i.2)
-  side_gives_first (s, None) t r l i g = first_for_good steps l s t r i g
+  side_gives_first (s, None) t r l i g = answers_first_where_gives_for_good steps l s t r i g
 
 -- ---- what both sides list together
 
@@ -208,11 +208,11 @@ module _ {S U A B C E F V : Type 0} (steps : S → Answered A E → S → Type 0
         let w = by.both_give a b x y v p.2 g c first.0 second.0 d in
         (w.1, (left_over (rule.left_held x y v) a, left_over (rule.right_held x y v) b, side_lists_after_item steps t x (rule.left_held x y v) a (lawful.left_held_is_none_or_given x y v) first.0 first.1, side_lists_after_item others u y (rule.right_held x y v) b (lawful.right_held_is_none_or_given x y v) second.0 second.1, w.0, w.2))
 
-  together_goes : (p q : SidesState steps others rule) (r : Answered C E) (l : List (Result C E)) → ListTogether p l → SidesStep steps others rule p r q → (r ≡ first_answer l) × ListTogether q (rest_of l)
-  together_goes p ((t, h), (u, k), g) r l i w = rw (w.2, w.4, w.6, ← i.5) (together_after_place p i.0 i.1 i.2 i.3 i.4 w.0 t u g w.1 w.3 w.5)
+  step_together_answers_first : (p q : SidesState steps others rule) (r : Answered C E) (l : List (Result C E)) → ListTogether p l → SidesStep steps others rule p r q → (r ≡ first_answer l) × ListTogether q (rest_of l)
+  step_together_answers_first p ((t, h), (u, k), g) r l i w = rw (w.2, w.4, w.6, ← i.5) (together_after_place p i.0 i.1 i.2 i.3 i.4 w.0 t u g w.1 w.3 w.5)
 
   pub gives_for_good_sides : (p : SidesState steps others rule) (a : List (Result A E)) (b : List (Result B E)) → SideLists steps p.0 a → SideLists others p.1 b → Q p.2 → GivesForGood (SidesStep steps others rule) p (W a b)
-  gives_for_good_sides p a b i k c = gives_for_good_of_sides (SidesStep steps others rule) ListTogether (λ s t r l d w. together_goes s t r l d w) (W a b) p (a, b, i, k, c, refl)
+  gives_for_good_sides p a b i k c = gives_for_good_where_each_answers_first (SidesStep steps others rule) ListTogether (λ s t r l d w. step_together_answers_first s t r l d w) (W a b) p (a, b, i, k, c, refl)
 
 -- ---- hints
 
@@ -273,13 +273,13 @@ module _ {S U A B C E F V : Type 0} (steps : S → Answered A E → S → Type 0
     few = omega (arith, by.item_given p.2 g x y v z b.of_left b.of_right d is, b.few);
   }
 
-  both_end_first : (p q : SidesState steps others rule) (z : C) (k : ℕ) → SidesStep steps others rule p (item z) q → BothEnd q k → BothEnd p (k + 1)
-  both_end_first p ((t, h), (u, i), g) z k w b = both_end_after_item p t u g w.0 z k w.1 w.3 w.5 (sym w.6) (subst (λ (e : Option A). BothEnd ((t, e), (u, right_held_after rule p.1.1 w.0), g) k) w.2 (subst (λ (e : Option B). BothEnd ((t, h), (u, e), g) k) w.4 b))
+  both_end_one_more_at_item : (p q : SidesState steps others rule) (z : C) (k : ℕ) → SidesStep steps others rule p (item z) q → BothEnd q k → BothEnd p (k + 1)
+  both_end_one_more_at_item p ((t, h), (u, i), g) z k w b = both_end_after_item p t u g w.0 z k w.1 w.3 w.5 (sym w.6) (subst (λ (e : Option A). BothEnd ((t, e), (u, right_held_after rule p.1.1 w.0), g) k) w.2 (subst (λ (e : Option B). BothEnd ((t, h), (u, e), g) k) w.4 b))
 
   -- a run of items and then an end
   pub both_end : (zs : List C) (p q r : SidesState steps others rule) → Yields (SidesStep steps others rule) p zs q → SidesStep steps others rule q end r → BothEnd p (length zs)
   both_end [] p q ((t, h), (u, k), g) ran w = subst (λ (z : SidesState steps others rule). BothEnd z 0) (sym ran) (both_end_at_end q t u g w.0 w.1 w.3 w.5 (sym w.6))
-  both_end (z ∷ zs) p q r ran w = let b = both_end_first p ran.0 z (length zs) ran.1 (both_end zs ran.0 q r ran.2 w) in record { of_left = b.of_left; of_right = b.of_right; left = b.left; right = b.right; few = omega (arith, b.few) }
+  both_end (z ∷ zs) p q r ran w = let b = both_end_one_more_at_item p ran.0 z (length zs) ran.1 (both_end zs ran.0 q r ran.2 w) in record { of_left = b.of_left; of_right = b.of_right; left = b.left; right = b.right; few = omega (arith, b.few) }
 
 -- a lower bound of a side's source bounds what the side yields
 pub side_hint_below : {A : Type 0} (h : Option A) (g : ℕ × Option ℕ) (n j : ℕ) → g.0 ≤ j → j + held_count h ≤ n → (side_hint h g).0 ≤ n
@@ -288,8 +288,8 @@ side_hint_below None g n j le few = omega (arith, le, few)
 
 -- an upper bound too
 pub side_hint_above : {A : Type 0} (h : Option A) (g : ℕ × Option ℕ) (n j : ℕ) → n ≤ j + held_count h → IfSome g.1 (λ m. j ≤ m) → IfSome (side_hint h g).1 (λ m. n ≤ m)
-side_hint_above (Some x) g n j few le = if_some_no_greater (fitting_sum g.1 (Some 1)) n (j + 1) few (if_some_fitting_sum_above g.1 (Some 1) j 1 (j + 1) refl le (omega arith))
-side_hint_above None g n j few le = if_some_no_greater g.1 n j (omega (arith, few)) le
+side_hint_above (Some x) g n j few le = if_some_at_least_of_smaller (fitting_sum g.1 (Some 1)) n (j + 1) few (if_some_fitting_sum_at_least_both g.1 (Some 1) j 1 (j + 1) refl le (omega arith))
+side_hint_above None g n j few le = if_some_at_least_of_smaller g.1 n j (omega (arith, few)) le
 
 -- ---- items that come of a fused side
 
@@ -297,14 +297,14 @@ side_hint_above None g n j few le = if_some_no_greater g.1 n j (omega (arith, fe
 abbrev pub EndsOnce : {S A E : Type 0} → (S → Answered A E → S → Type 0) → Type 0
 EndsOnce {S = S} {A = A} steps = (s t u : S) (x : A) → steps s end t → steps t (item x) u → ⊥
 
-ends_once_closed : {S A E : Type 0} (steps : S → Answered A E → S → Type 0) (p q r : S × Bool) (x : A) → closing_step steps (λ a. a) is_end p end q → closing_step steps (λ a. a) is_end q (item x) r → ⊥
-ends_once_closed steps (s, true) (t, true) r x w v = let no = v.0 in cc
-ends_once_closed steps (s, true) (t, false) r x w v = let no = w.2 in cc
-ends_once_closed steps (s, false) (t, true) r x w v = let no = v.0 in cc
-ends_once_closed steps (s, false) (t, false) r x w v = let end_is : end ≡ w.0 = w.2 in let no : false ≡ is_end w.0 = w.3 in cc
+no_item_after_closing_end : {S A E : Type 0} (steps : S → Answered A E → S → Type 0) (p q r : S × Bool) (x : A) → closing_step steps (λ a. a) is_end p end q → closing_step steps (λ a. a) is_end q (item x) r → ⊥
+no_item_after_closing_end steps (s, true) (t, true) r x w v = let no = v.0 in cc
+no_item_after_closing_end steps (s, true) (t, false) r x w v = let no = w.2 in cc
+no_item_after_closing_end steps (s, false) (t, true) r x w v = let no = v.0 in cc
+no_item_after_closing_end steps (s, false) (t, false) r x w v = let end_is : end ≡ w.0 = w.2 in let no : false ≡ is_end w.0 = w.3 in cc
 
 pub ends_once_fused : {S A E : Type 0} (steps : S → Answered A E → S → Type 0) → EndsOnce (fused_steps steps)
-ends_once_fused steps s t u x w v = ends_once_closed steps (fuse_parts s) (fuse_parts t) (fuse_parts u) x w v
+ends_once_fused steps s t u x w v = no_item_after_closing_end steps (fuse_parts s) (fuse_parts t) (fuse_parts u) x w v
 
 -- From the side come items, and they and its held item are n at least.
 pub record ItemsCome {S A E : Type 0} (steps : S → Answered A E → S → Type 0) (p : S × Option A) (n : ℕ) : Type 0 where
@@ -357,10 +357,10 @@ module _ {S U A B C E F V : Type 0} (steps : S → Answered A E → S → Type 0
         few = omega (arith, by p.2 g x y v z b.of_left b.of_right d is l.1 r.1, b.few);
       }
 
-  both_come_first : (p q : SidesState steps others rule) (z : C) (k : ℕ) → SidesStep steps others rule p (item z) q → BothCome q k → BothCome p (k + 1)
-  both_come_first p ((t, h), (u, i), g) z k w b = both_come_after_item p t u g w.0 z k w.1 w.3 w.5 (sym w.6) (subst (λ (e : Option A). BothCome ((t, e), (u, right_held_after rule p.1.1 w.0), g) k) w.2 (subst (λ (e : Option B). BothCome ((t, h), (u, e), g) k) w.4 b))
+  both_come_one_more_at_item : (p q : SidesState steps others rule) (z : C) (k : ℕ) → SidesStep steps others rule p (item z) q → BothCome q k → BothCome p (k + 1)
+  both_come_one_more_at_item p ((t, h), (u, i), g) z k w b = both_come_after_item p t u g w.0 z k w.1 w.3 w.5 (sym w.6) (subst (λ (e : Option A). BothCome ((t, e), (u, right_held_after rule p.1.1 w.0), g) k) w.2 (subst (λ (e : Option B). BothCome ((t, h), (u, e), g) k) w.4 b))
 
   -- a run of items
   pub both_come : (zs : List C) (p q : SidesState steps others rule) → Yields (SidesStep steps others rule) p zs q → BothCome p (length zs)
   both_come [] p q ran = record { of_left = 0; of_right = 0; left = record { came = []; left = p.0.0; ran = refl; many = omega arith }; right = record { came = []; left = p.1.0; ran = refl; many = omega arith }; few = omega arith }
-  both_come (z ∷ zs) p q ran = let b = both_come_first p ran.0 z (length zs) ran.1 (both_come zs ran.0 q ran.2) in record { of_left = b.of_left; of_right = b.of_right; left = b.left; right = b.right; few = omega (arith, b.few) }
+  both_come (z ∷ zs) p q ran = let b = both_come_one_more_at_item p ran.0 z (length zs) ran.1 (both_come zs ran.0 q ran.2) in record { of_left = b.of_left; of_right = b.of_right; left = b.left; right = b.right; few = omega (arith, b.few) }

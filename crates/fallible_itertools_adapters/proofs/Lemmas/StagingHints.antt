@@ -3,9 +3,9 @@ use Rattle.std.specs.Prelude.{◌≡◌, ℕ, suc, ◌+◌, ◌-◌, ◌≤◌, 
 use Rattle.std.proofs.Common.{refl, sym, ap, subst, arith, ◌∙◌}
 use Rattle.fallible_iterator.specs.Traces.{Answered, Yields, item, failure, end}
 use Rattle.fallible_iterator.specs.SoundHints.{BoundsAbove, BoundsBelow}
-use Rattle.fallible_iterator.proofs.Lemmas.Hints.Drawn.{if_some_no_greater}
+use Rattle.fallible_iterator.proofs.Lemmas.Hints.Drawn.{if_some_at_least_of_smaller}
 use Rattle.fallible_itertools_adapters.specs.Staging.{DrawsUpTo, EndsInStop, IsStage, IsStop, Made, due_comes, due_left, due_total, items_of, made_total, passes_over, stage_step, yields}
-use Rattle.fallible_itertools_adapters.specs.Laws.Staging.{nothing_left}
+use Rattle.fallible_itertools_adapters.specs.Laws.Staging.{due_total_of_due_left_is_zero}
 
 module _ {B L E : Type 0} (comes : L → Option (Answered B E)) where
   -- What holds of the number of answers after what is due, or what is made, and before; before an end alone, and nothing is said of a failure.
@@ -24,10 +24,10 @@ module _ {B L E : Type 0} (comes : L → Option (Answered B E)) where
   MadeFew (Some (Ok None, due)) after before = before 0
   MadeFew (Some (Err e, due)) after before = ⊤
 
-pub none_of_stop : {X E : Type 0} (a : Answered X E) → IsStop a → items_of a ≡ 0
-none_of_stop (Ok (Some x)) stop = absurd stop
-none_of_stop (Ok None) stop = refl
-none_of_stop (Err e) stop = refl
+pub no_items_of_stop : {X E : Type 0} (a : Answered X E) → IsStop a → items_of a ≡ 0
+no_items_of_stop (Ok (Some x)) stop = absurd stop
+no_items_of_stop (Ok None) stop = refl
+no_items_of_stop (Err e) stop = refl
 
 module _ {P X B L E : Type 0} (comes : L → Option (Answered B E)) (meets : P → Answered X E → Made B L E → P → Type 0) where
   -- At most `most p n` items come of n items of the source, if p is held; a stop makes a stop.
@@ -42,10 +42,10 @@ module _ {P X B L E : Type 0} (comes : L → Option (Answered B E)) (meets : P �
     pub at_failure : (p : P) (e : E) (m : Made B L E) (q : P) (low : ℕ) → meets p (failure e) m q → MadeFew comes m (λ n. Few q 0 n) (λ n. Few p low n)
 
   -- where an item makes at most one, what comes is at most that and what is held
-  pub makes_one_at_most : (held : P → ℕ) → IsStage comes meets 1 held → MakesAtMost (λ p n. n + held p)
-  makes_one_at_most held stage = record {
+  pub makes_at_most_items_and_held : (held : P → ℕ) → IsStage comes meets 1 held → MakesAtMost (λ p n. n + held p)
+  makes_at_most_items_and_held held stage = record {
     at_item = λ p x m q n w. let k = stage p (item x) m q w in omega (arith, k.0);
-    at_stop = λ p a m q stop w. let k = stage p a m q w in let none = none_of_stop a stop in (omega (arith, k.0, none), k.2 stop);
+    at_stop = λ p a m q stop w. let k = stage p a m q w in let none = no_items_of_stop a stop in (omega (arith, k.0, none), k.2 stop);
   }
 
 module _ {S P X B L E : Type 0} (steps : S → Answered X E → S → Type 0) (comes : L → Option (Answered B E)) (meets : P → Answered X E → Made B L E → P → Type 0) where
@@ -66,33 +66,33 @@ module _ {S P X B L E : Type 0} (steps : S → Answered X E → S → Type 0) (c
     no_item_after_due_stop y (Some later) [] s q t stop ran = refl
     no_item_after_due_stop y (Some later) (z ∷ ys) s q t stop ran = absurd (rw (sym ran.1.0) at stop)
 
-    drawn_last : (y : B) (due : Option L) (ys : List B) (s v : S) (p q : P) (t : State) → (made_total comes items_of (Some (item y, due)) ≤ most p 0) × EndsInStop comes (Some (item y, due)) → Yields Steps (v, (q, due)) ys t → Drawn s p (length ys + 1)
-    drawn_last y due ys s v p q t few ran = let none = no_item_after_due_stop y due ys v q t few.1 ran in ([], s, refl, omega (arith, few.0, none))
+    drawn_where_made_ends_in_stop : (y : B) (due : Option L) (ys : List B) (s v : S) (p q : P) (t : State) → (made_total comes items_of (Some (item y, due)) ≤ most p 0) × EndsInStop comes (Some (item y, due)) → Yields Steps (v, (q, due)) ys t → Drawn s p (length ys + 1)
+    drawn_where_made_ends_in_stop y due ys s v p q t few ran = let none = no_item_after_due_stop y due ys v q t few.1 ran in ([], s, refl, omega (arith, few.0, none))
 
-    drawn_first : (a : Answered X E) (y : B) (due : Option L) (ys : List B) (s v : S) (p q : P) (t : State) → steps s a v → meets p a (Some (item y, due)) q → Yields Steps (v, (q, due)) ys t → ((xs : List X) × (u : S) × Yields steps v xs u × (length ys ≤ due_total comes items_of due + most q (length xs))) → Drawn s p (length ys + 1)
-    drawn_first (Ok (Some x)) y due ys s v p q t step called ran k = let few = makes.at_item p x (Some (item y, due)) q (length k.0) called in (x ∷ k.0, k.1, (v, step, k.2), omega (arith, few, k.3))
-    drawn_first (Ok None) y due ys s v p q t step called ran k = drawn_last y due ys s v p q t (makes.at_stop p end (Some (item y, due)) q tt called) ran
-    drawn_first (Err e) y due ys s v p q t step called ran k = drawn_last y due ys s v p q t (makes.at_stop p (failure e) (Some (item y, due)) q tt called) ran
+    drawn_where_first_makes_item : (a : Answered X E) (y : B) (due : Option L) (ys : List B) (s v : S) (p q : P) (t : State) → steps s a v → meets p a (Some (item y, due)) q → Yields Steps (v, (q, due)) ys t → ((xs : List X) × (u : S) × Yields steps v xs u × (length ys ≤ due_total comes items_of due + most q (length xs))) → Drawn s p (length ys + 1)
+    drawn_where_first_makes_item (Ok (Some x)) y due ys s v p q t step called ran k = let few = makes.at_item p x (Some (item y, due)) q (length k.0) called in (x ∷ k.0, k.1, (v, step, k.2), omega (arith, few, k.3))
+    drawn_where_first_makes_item (Ok None) y due ys s v p q t step called ran k = drawn_where_made_ends_in_stop y due ys s v p q t (makes.at_stop p end (Some (item y, due)) q tt called) ran
+    drawn_where_first_makes_item (Err e) y due ys s v p q t step called ran k = drawn_where_made_ends_in_stop y due ys s v p q t (makes.at_stop p (failure e) (Some (item y, due)) q tt called) ran
 
-    drawn_over : (a : Answered X E) (s u : S) (p h : P) (n : ℕ) → steps s a u → meets p a None h → Drawn u h n → Drawn s p n
-    drawn_over (Ok (Some x)) s u p h n step called k = let few = makes.at_item p x None h (length k.0) called in (x ∷ k.0, k.1, (u, step, k.2), omega (arith, few, k.3))
-    drawn_over (Ok None) s u p h n step called k = absurd (makes.at_stop p end None h tt called).1
-    drawn_over (Err e) s u p h n step called k = absurd (makes.at_stop p (failure e) None h tt called).1
+    drawn_where_first_makes_none : (a : Answered X E) (s u : S) (p h : P) (n : ℕ) → steps s a u → meets p a None h → Drawn u h n → Drawn s p n
+    drawn_where_first_makes_none (Ok (Some x)) s u p h n step called k = let few = makes.at_item p x None h (length k.0) called in (x ∷ k.0, k.1, (u, step, k.2), omega (arith, few, k.3))
+    drawn_where_first_makes_none (Ok None) s u p h n step called k = absurd (makes.at_stop p end None h tt called).1
+    drawn_where_first_makes_none (Err e) s u p h n step called k = absurd (makes.at_stop p (failure e) None h tt called).1
 
-    drawn_up_to : (y : B) (r : Answered B E) (ys : List B) (s v : S) (p : P) (q : P × Option L) (t : State) → r ≡ item y → DrawsUpTo comes meets steps s p r v q → Yields Steps (v, q) ys t → ((xs : List X) × (u : S) × Yields steps v xs u × (length ys ≤ due_total comes items_of q.1 + most q.0 (length xs))) → Drawn s p (length ys + 1)
-    drawn_up_to y r ys s v p _ t is (yields {q = q} {due = due} a step called) ran k = drawn_first a y due ys s v p q t step (rw is at called) ran k
-    drawn_up_to y r ys s v p q t is (passes_over {u = u} {h = h} a step called rest) ran k = drawn_over a s u p h (length ys + 1) step called (drawn_up_to y r ys u v h q t is rest ran k)
+    drawn_where_draws_up_to_item : (y : B) (r : Answered B E) (ys : List B) (s v : S) (p : P) (q : P × Option L) (t : State) → r ≡ item y → DrawsUpTo comes meets steps s p r v q → Yields Steps (v, q) ys t → ((xs : List X) × (u : S) × Yields steps v xs u × (length ys ≤ due_total comes items_of q.1 + most q.0 (length xs))) → Drawn s p (length ys + 1)
+    drawn_where_draws_up_to_item y r ys s v p _ t is (yields {q = q} {due = due} a step called) ran k = drawn_where_first_makes_item a y due ys s v p q t step (rw is at called) ran k
+    drawn_where_draws_up_to_item y r ys s v p q t is (passes_over {u = u} {h = h} a step called rest) ran k = drawn_where_first_makes_none a s u p h (length ys + 1) step called (drawn_where_draws_up_to_item y r ys u v h q t is rest ran k)
 
     -- items of the source of which the items of a run come
-    drawn_run : (ys : List B) (s : S) (p : P) (due : Option L) (t : State) → Yields Steps (s, (p, due)) ys t → (xs : List X) × (u : S) × Yields steps s xs u × (length ys ≤ due_total comes items_of due + most p (length xs))
-    drawn_run [] s p due t ran = ([], s, refl, omega arith)
-    drawn_run (y ∷ ys) s p None t ran = let v = ran.0 in let k = drawn_up_to y (item y) ys s v.0 p v.1 t refl ran.1 ran.2 (drawn_run ys v.0 v.1.0 v.1.1 t ran.2) in (k.0, k.1, k.2, omega (arith, k.3))
-    drawn_run (y ∷ ys) s p (Some later) t ran = let w = ran.1 in let k = drawn_run ys s p (due_left later (comes later)) t (subst (λ (z : S). Yields Steps (z, (p, due_left later (comes later))) ys t) w.1 (subst (λ (z : P × Option L). Yields Steps (ran.0.0, z) ys t) w.2 ran.2)) in
-        let none = nothing_left comes later (comes later) refl in let one : items_of (due_comes (comes later)) ≡ 1 = ap items_of (sym w.0) in (k.0, k.1, k.2, omega (arith, k.3, none.0, one))
+    length_bounded_by_source_items : (ys : List B) (s : S) (p : P) (due : Option L) (t : State) → Yields Steps (s, (p, due)) ys t → (xs : List X) × (u : S) × Yields steps s xs u × (length ys ≤ due_total comes items_of due + most p (length xs))
+    length_bounded_by_source_items [] s p due t ran = ([], s, refl, omega arith)
+    length_bounded_by_source_items (y ∷ ys) s p None t ran = let v = ran.0 in let k = drawn_where_draws_up_to_item y (item y) ys s v.0 p v.1 t refl ran.1 ran.2 (length_bounded_by_source_items ys v.0 v.1.0 v.1.1 t ran.2) in (k.0, k.1, k.2, omega (arith, k.3))
+    length_bounded_by_source_items (y ∷ ys) s p (Some later) t ran = let w = ran.1 in let k = length_bounded_by_source_items ys s p (due_left later (comes later)) t (subst (λ (z : S). Yields Steps (z, (p, due_left later (comes later))) ys t) w.1 (subst (λ (z : P × Option L). Yields Steps (ran.0.0, z) ys t) w.2 ran.2)) in
+        let none = due_total_of_due_left_is_zero comes later (comes later) refl in let one : items_of (due_comes (comes later)) ≡ 1 = ap items_of (sym w.0) in (k.0, k.1, k.2, omega (arith, k.3, none.0, one))
 
     -- A bound of the source bounds what comes of it and of what is due.
     pub bounds_above_staged : (k o : Option ℕ) (s : S) (p : P) (due : Option L) → ((n : ℕ) → IfSome k (λ j. n ≤ j) → IfSome o (λ j. due_total comes items_of due + most p n ≤ j)) → BoundsAbove steps s k → BoundsAbove Steps (s, (p, due)) o
-    bounds_above_staged k o s p due more above = λ ys t ran. let d = drawn_run ys s p due t ran in if_some_no_greater o (length ys) (due_total comes items_of due + most p (length d.0)) d.3 (more (length d.0) (above d.0 d.1 d.2))
+    bounds_above_staged k o s p due more above = λ ys t ran. let d = length_bounded_by_source_items ys s p due t ran in if_some_at_least_of_smaller o (length ys) (due_total comes items_of due + most p (length d.0)) d.3 (more (length d.0) (above d.0 d.1 d.2))
 
   -- ---- below
 
@@ -106,20 +106,20 @@ module _ {S P X B L E : Type 0} (steps : S → Answered X E → S → Type 0) (c
     few_at_end s t p r _ low is (yields {q = q} {due = due} a step called) b = (lower_bound_after_answer a s t p q (Some (end, due)) low step b (rw is at called)).2
     few_at_end s t p r q low is (passes_over {u = u} {h = h} a step called rest) b = let k = lower_bound_after_answer a s u p h None low step b called in k.2 0 (few_at_end u t h r q k.0 is rest k.1)
 
-    few_drawn : (y : B) (n : ℕ) (s t : S) (p : P) (r : Answered B E) (q : P × Option L) (low : ℕ) → r ≡ item y → DrawsUpTo comes meets steps s p r t q → BoundsBelow steps s low → ((j : ℕ) (F : ℕ → Type 0) → BoundsBelow steps t j → DueFew comes q.1 (λ k. Few q.0 j k) F → F n) → Few p low (suc n)
-    few_drawn y n s t p r _ low is (yields {q = q} {due = due} a step called) b then = let k = lower_bound_after_answer a s t p q (Some (item y, due)) low step b (rw is at called) in then k.0 (λ i. Few p low (suc i)) k.1 k.2
-    few_drawn y n s t p r q low is (passes_over {u = u} {h = h} a step called rest) b then = let k = lower_bound_after_answer a s u p h None low step b called in k.2 (suc n) (few_drawn y n u t h r q k.0 is rest k.1 then)
+    few_at_item_drawn : (y : B) (n : ℕ) (s t : S) (p : P) (r : Answered B E) (q : P × Option L) (low : ℕ) → r ≡ item y → DrawsUpTo comes meets steps s p r t q → BoundsBelow steps s low → ((j : ℕ) (F : ℕ → Type 0) → BoundsBelow steps t j → DueFew comes q.1 (λ k. Few q.0 j k) F → F n) → Few p low (suc n)
+    few_at_item_drawn y n s t p r _ low is (yields {q = q} {due = due} a step called) b then = let k = lower_bound_after_answer a s t p q (Some (item y, due)) low step b (rw is at called) in then k.0 (λ i. Few p low (suc i)) k.1 k.2
+    few_at_item_drawn y n s t p r q low is (passes_over {u = u} {h = h} a step called rest) b then = let k = lower_bound_after_answer a s u p h None low step b called in k.2 (suc n) (few_at_item_drawn y n u t h r q k.0 is rest k.1 then)
 
-    left_none : (later : L) (c : Option (Answered B E)) (y : B) → item y ≡ due_comes c → due_left later c ≡ None
-    left_none later (Some r) y is = refl
-    left_none later None y is = absurd cc
+    none_due_left_where_item_comes : (later : L) (c : Option (Answered B E)) (y : B) → item y ≡ due_comes c → due_left later c ≡ None
+    none_due_left_where_item_comes later (Some r) y is = refl
+    none_due_left_where_item_comes later None y is = absurd cc
 
-    few_run : (ys : List B) (s : S) (p : P) (due : Option L) (t u : State) (low : ℕ) (F : ℕ → Type 0) → Yields Steps (s, (p, due)) ys t → Steps t end u → BoundsBelow steps s low → DueFew comes due (λ n. Few p low n) F → F (length ys)
-    few_run [] s p None t u low F ran last b f = let w : Steps (s, (p, None)) end u = subst (λ (z : State). Steps z end u) (sym ran) last in f 0 (few_at_end s u.0 p end u.1 low refl w b)
-    few_run [] s p (Some later) t u low F ran last b f = let w : Steps (s, (p, Some later)) end u = subst (λ (z : State). Steps z end u) (sym ran) last in (rw (sym w.0) at f)
-    few_run (y ∷ ys) s p None t u low F ran last b f = let v = ran.0 in f (suc (length ys)) (few_drawn y (length ys) s v.0 p (item y) v.1 low refl ran.1 b (λ j G bj g. few_run ys v.0 v.1.0 v.1.1 t u j G ran.2 last bj g))
-    few_run (y ∷ ys) s p (Some later) t u low F ran last b f = let w = ran.1 in let rest : Yields Steps (s, (p, None)) ys t = subst (λ (z : S). Yields Steps (z, (p, None)) ys t) w.1 (subst (λ (z : P × Option L). Yields Steps (ran.0.0, z) ys t) (w.2 ∙ ap (λ (d : Option L). (p, d)) (left_none later (comes later) y w.0)) ran.2) in
-        let g : (n : ℕ) → Few p low n → F (suc n) = (rw (sym w.0) at f) in g (length ys) (few_run ys s p None t u low (λ n. Few p low n) rest last b (λ n k. k))
+    due_few_holds_at_length_of_run : (ys : List B) (s : S) (p : P) (due : Option L) (t u : State) (low : ℕ) (F : ℕ → Type 0) → Yields Steps (s, (p, due)) ys t → Steps t end u → BoundsBelow steps s low → DueFew comes due (λ n. Few p low n) F → F (length ys)
+    due_few_holds_at_length_of_run [] s p None t u low F ran last b f = let w : Steps (s, (p, None)) end u = subst (λ (z : State). Steps z end u) (sym ran) last in f 0 (few_at_end s u.0 p end u.1 low refl w b)
+    due_few_holds_at_length_of_run [] s p (Some later) t u low F ran last b f = let w : Steps (s, (p, Some later)) end u = subst (λ (z : State). Steps z end u) (sym ran) last in (rw (sym w.0) at f)
+    due_few_holds_at_length_of_run (y ∷ ys) s p None t u low F ran last b f = let v = ran.0 in f (suc (length ys)) (few_at_item_drawn y (length ys) s v.0 p (item y) v.1 low refl ran.1 b (λ j G bj g. due_few_holds_at_length_of_run ys v.0 v.1.0 v.1.1 t u j G ran.2 last bj g))
+    due_few_holds_at_length_of_run (y ∷ ys) s p (Some later) t u low F ran last b f = let w = ran.1 in let rest : Yields Steps (s, (p, None)) ys t = subst (λ (z : S). Yields Steps (z, (p, None)) ys t) w.1 (subst (λ (z : P × Option L). Yields Steps (ran.0.0, z) ys t) (w.2 ∙ ap (λ (d : Option L). (p, d)) (none_due_left_where_item_comes later (comes later) y w.0)) ran.2) in
+        let g : (n : ℕ) → Few p low n → F (suc n) = (rw (sym w.0) at f) in g (length ys) (due_few_holds_at_length_of_run ys s p None t u low (λ n. Few p low n) rest last b (λ n k. k))
 
     pub bounds_below_staged : (low least : ℕ) (s : S) (p : P) (due : Option L) → DueFew comes due (λ n. Few p low n) (λ n. least ≤ n) → BoundsBelow steps s low → BoundsBelow Steps (s, (p, due)) least
-    bounds_below_staged low least s p due more below = λ ys t u ran last. few_run ys s p due t u low (λ n. least ≤ n) ran last below more
+    bounds_below_staged low least s p due more below = λ ys t u ran last. due_few_holds_at_length_of_run ys s p due t u low (λ n. least ≤ n) ran last below more

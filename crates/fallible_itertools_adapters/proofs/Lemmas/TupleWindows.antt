@@ -39,10 +39,10 @@ module _ {A E : Type 0} where
 
 module _ {A E : Type 0} (is_clone : A → A → Type 0) (is_infallible : A → Type 0) (from : AllocError → E → Type 0) (equal : (x y : A) → is_clone x y → y ≡ x) (infallible : (x : A) → is_infallible x) where
   window_at_gives_held_and_outcome : (y x : A) (o : Outcome (A × A) E) (q : Option A) → window_at is_clone is_infallible from y x o q → (q ≡ Some x) × (o ≡ Kept (y, x))
-  window_at_gives_held_and_outcome y x (Kept both) q w = (w.2, ap {B = Outcome (A × A) E} Kept (pair_of_items both w.0 (equal x both.1 w.1)))
+  window_at_gives_held_and_outcome y x (Kept both) q w = (w.2, ap {B = Outcome (A × A) E} Kept (pair_is_its_two_items both w.0 (equal x both.1 w.1)))
     where
-      pair_of_items : (p : A × A) {a b : A} → p.0 ≡ a → p.1 ≡ b → ◌≡◌ {A = A × A} p (a, b)
-      pair_of_items (c, d) is same = rw (is, same) refl
+      pair_is_its_two_items : (p : A × A) {a b : A} → p.0 ≡ a → p.1 ≡ b → ◌≡◌ {A = A × A} p (a, b)
+      pair_is_its_two_items (c, d) is same = rw (is, same) refl
   window_at_gives_held_and_outcome y x LeftOut q w = absurd w
   window_at_gives_held_and_outcome y x (Failure e) q w = absurd (w.0.0 (infallible x))
   window_at_gives_held_and_outcome y x End q w = absurd w
@@ -64,11 +64,11 @@ module _ {S A E : Type 0} (steps : S → Answered A E → S → Type 0) (is_clon
   StepOfTupleWindows = passing_step steps (windows_asks is_clone is_infallible from) as_answered_item
 
   -- the first item, and then a pair
-  pub step_first_before : {s u : S} {held : Option A} {q : S × Option A} (x : A) {r : Answered (A × A) E} → None ≡ held → steps s (Ok (Some x)) u → StepOfTupleWindows (u, Some x) r q → StepOfTupleWindows (s, held) r q
-  step_first_before {s = s} {q = q} x {r = r} none step w = subst (λ (h : Option A). StepOfTupleWindows (s, h) r q) none (pass_trace_of_passes (leaves_out x LeftOut step (refl, refl) refl (passes_of_pass_trace w)))
+  pub window_step_after_first_item : {s u : S} {held : Option A} {q : S × Option A} (x : A) {r : Answered (A × A) E} → None ≡ held → steps s (Ok (Some x)) u → StepOfTupleWindows (u, Some x) r q → StepOfTupleWindows (s, held) r q
+  window_step_after_first_item {s = s} {q = q} x {r = r} none step w = subst (λ (h : Option A). StepOfTupleWindows (s, h) r q) none (pass_trace_of_passes (leaves_out x LeftOut step (refl, refl) refl (passes_of_pass_trace w)))
 
-  pub step_ended_first : {s t : S} {held after : Option A} → None ≡ held → after ≡ None → steps s (Ok None) t → StepOfTupleWindows (s, held) (Ok None) (t, after)
-  step_ended_first {s = s} {t = t} {after = after} none is step = subst (λ (h : Option A). StepOfTupleWindows (s, h) (Ok None) (t, after)) none (subst (λ (h : Option A). StepOfTupleWindows (s, None) (Ok None) (t, h)) (sym is) (pass_trace_end step))
+  pub window_step_ends_where_none_held : {s t : S} {held after : Option A} → None ≡ held → after ≡ None → steps s (Ok None) t → StepOfTupleWindows (s, held) (Ok None) (t, after)
+  window_step_ends_where_none_held {s = s} {t = t} {after = after} none is step = subst (λ (h : Option A). StepOfTupleWindows (s, h) (Ok None) (t, after)) none (subst (λ (h : Option A). StepOfTupleWindows (s, None) (Ok None) (t, h)) (sym is) (pass_trace_end step))
 
-  pub step_failed_first : {s t : S} {held after : Option A} {e : E} → None ≡ held → after ≡ None → steps s (Err e) t → StepOfTupleWindows (s, held) (Err e) (t, after)
-  step_failed_first {s = s} {t = t} {after = after} {e = e} none is step = subst (λ (h : Option A). StepOfTupleWindows (s, h) (Err e) (t, after)) none (subst (λ (h : Option A). StepOfTupleWindows (s, None) (Err e) (t, h)) (sym is) (pass_trace_failure step))
+  pub window_step_fails_where_none_held : {s t : S} {held after : Option A} {e : E} → None ≡ held → after ≡ None → steps s (Err e) t → StepOfTupleWindows (s, held) (Err e) (t, after)
+  window_step_fails_where_none_held {s = s} {t = t} {after = after} {e = e} none is step = subst (λ (h : Option A). StepOfTupleWindows (s, h) (Err e) (t, after)) none (subst (λ (h : Option A). StepOfTupleWindows (s, None) (Err e) (t, h)) (sym is) (pass_trace_failure step))

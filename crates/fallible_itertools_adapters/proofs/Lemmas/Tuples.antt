@@ -12,7 +12,7 @@ use Rattle.fallible_iterator.proofs.Lemmas.ByNumber.{Leaves}
 use Rattle.fallible_iterator.proofs.Lemmas.ByNumber as by_number
 use Rattle.fallible_iterator.proofs.Lemmas.Cutting.ByNumber.{leaves_one}
 use Rattle.fallible_iterator.proofs.Lemmas.Hints.ByNumber.{brackets_kept}
-use Rattle.fallible_iterator.proofs.Lemmas.Hints.Drawn.{OneOfOne, as_sound, as_sound_seen, brackets_same}
+use Rattle.fallible_iterator.proofs.Lemmas.Hints.Drawn.{OneOfOne, as_sound_of_brackets, as_sound_seen, brackets_where_one_of_one}
 use Rattle.fallible_iterator.proofs.Lemmas.Lists.Passing.{passed, gives_all, lists_seen}
 use Rattle.fallible_itertools_adapters.specs.Holding.{as_answered_item}
 use Rattle.fallible_itertools_adapters.specs.Tuples.{items_before_pair, tupled, tupled_after, tuples_asks, tuples_contract, tuples_parts}
@@ -33,21 +33,21 @@ module _ {A E : Type 0} where
   acts_by_held None a x o q at w = rw (sym at) (w.1, w.0)
   acts_by_held (Some y) a x o q at w = rw (sym at) (w.1, w.0)
 
-  passed_is_tupled : (held : Option A) (l : List (Result A E)) → passed as_answered_item pair_outcome held_after held l ≡ tupled_after held l
+  passed_is_tupled_after_held : (held : Option A) (l : List (Result A E)) → passed as_answered_item pair_outcome held_after held l ≡ tupled_after held l
   unfolding tupled_after
-  passed_is_tupled None [] = refl
-  passed_is_tupled (Some y) [] = refl
-  passed_is_tupled None (Ok x ∷ l) = passed_is_tupled (Some x) l
-  passed_is_tupled (Some y) (Ok x ∷ l) = ap (λ k. Ok (y, x) ∷ k) (passed_is_tupled None l)
-  passed_is_tupled None (Err e ∷ l) = ap (λ k. Err e ∷ k) (passed_is_tupled None l)
-  passed_is_tupled (Some y) (Err e ∷ l) = ap (λ k. Err e ∷ k) (passed_is_tupled (Some y) l)
+  passed_is_tupled_after_held None [] = refl
+  passed_is_tupled_after_held (Some y) [] = refl
+  passed_is_tupled_after_held None (Ok x ∷ l) = passed_is_tupled_after_held (Some x) l
+  passed_is_tupled_after_held (Some y) (Ok x ∷ l) = ap (λ k. Ok (y, x) ∷ k) (passed_is_tupled_after_held None l)
+  passed_is_tupled_after_held None (Err e ∷ l) = ap (λ k. Err e ∷ k) (passed_is_tupled_after_held None l)
+  passed_is_tupled_after_held (Some y) (Err e ∷ l) = ap (λ k. Err e ∷ k) (passed_is_tupled_after_held (Some y) l)
 
-  passed_is_tupled_of_all : (l : List (Result A E)) → passed as_answered_item pair_outcome held_after None l ≡ tupled l
+  passed_is_tupled_where_none_held : (l : List (Result A E)) → passed as_answered_item pair_outcome held_after None l ≡ tupled l
   unfolding tupled
-  passed_is_tupled_of_all l = passed_is_tupled None l
+  passed_is_tupled_where_none_held l = passed_is_tupled_after_held None l
 
   pub lists_tupled : {S : Type 0} {it : S} (m : Contract S A E) (s : Tuples S A E) (l : List (Result A E)) → tuples_parts s ≡ (it, None) → Lists m.steps it l → Lists (seen_as tuples_parts (tuples_contract m)).steps s (tupled l)
-  lists_tupled {it = it} m s l parts i = lists_seen tuples_parts (tuples_contract m).steps s parts (passed_is_tupled_of_all l) (gives_all m.steps tuples_asks as_answered_item (λ p a. p ≡ a) pair_outcome held_after acts_by_held l it None None refl i.runs)
+  lists_tupled {it = it} m s l parts i = lists_seen tuples_parts (tuples_contract m).steps s parts (passed_is_tupled_where_none_held l) (gives_all m.steps tuples_asks as_answered_item (λ p a. p ≡ a) pair_outcome held_after acts_by_held l it None None refl i.runs)
 
 -- ---- one draw where none is held
 
@@ -56,14 +56,14 @@ module _ {S A E : Type 0} (steps : S → Answered A E → S → Type 0) where
   StepOfTuples = passing_step steps tuples_asks as_answered_item
 
   -- the first item, and then what comes after it
-  pub tuple_begun : {s u : S} {held : Option A} {q : S × Option A} (x : A) {r : Answered (A × A) E} → None ≡ held → steps s (Ok (Some x)) u → StepOfTuples (u, Some x) r q → StepOfTuples (s, held) r q
-  tuple_begun {s = s} {q = q} x {r = r} none step w = subst (λ (h : Option A). StepOfTuples (s, h) r q) none (pass_trace_of_passes (leaves_out x LeftOut step (refl, refl) refl (passes_of_pass_trace w)))
+  pub tuple_step_after_first_item : {s u : S} {held : Option A} {q : S × Option A} (x : A) {r : Answered (A × A) E} → None ≡ held → steps s (Ok (Some x)) u → StepOfTuples (u, Some x) r q → StepOfTuples (s, held) r q
+  tuple_step_after_first_item {s = s} {q = q} x {r = r} none step w = subst (λ (h : Option A). StepOfTuples (s, h) r q) none (pass_trace_of_passes (leaves_out x LeftOut step (refl, refl) refl (passes_of_pass_trace w)))
 
-  pub tuple_ended : {s t : S} {held after : Option A} → None ≡ held → after ≡ None → steps s (Ok None) t → StepOfTuples (s, held) (Ok None) (t, after)
-  tuple_ended {s = s} {t = t} none is step = rw is (subst (λ (h : Option A). StepOfTuples (s, h) (Ok None) (t, None)) none (pass_trace_end step))
+  pub tuple_step_ends_where_none_held : {s t : S} {held after : Option A} → None ≡ held → after ≡ None → steps s (Ok None) t → StepOfTuples (s, held) (Ok None) (t, after)
+  tuple_step_ends_where_none_held {s = s} {t = t} none is step = rw is (subst (λ (h : Option A). StepOfTuples (s, h) (Ok None) (t, None)) none (pass_trace_end step))
 
-  pub tuple_failed : {s t : S} {held after : Option A} {e : E} → None ≡ held → after ≡ None → steps s (Err e) t → StepOfTuples (s, held) (Err e) (t, after)
-  tuple_failed {s = s} {t = t} {e = e} none is step = rw is (subst (λ (h : Option A). StepOfTuples (s, h) (Err e) (t, None)) none (pass_trace_failure step))
+  pub tuple_step_fails_where_none_held : {s t : S} {held after : Option A} {e : E} → None ≡ held → after ≡ None → steps s (Err e) t → StepOfTuples (s, held) (Err e) (t, after)
+  tuple_step_fails_where_none_held {s = s} {t = t} {e = e} none is step = rw is (subst (λ (h : Option A). StepOfTuples (s, h) (Err e) (t, None)) none (pass_trace_failure step))
 
   -- ---- its draws are those of what keeps every second item
 
@@ -72,13 +72,13 @@ module _ {S A E : Type 0} (steps : S → Answered A E → S → Type 0) where
   second (Ok None) = end
   second (Err e) = failure e
 
-  yields_second : (p q : Option A) (x : A) (o : Outcome (A × A) E) (y : A × A) → tuples_asks p x o q → o ≡ Kept y → (items_before_pair p ≡ 0) × (y.1 ≡ x) × (items_before_pair q ≡ 1)
-  yields_second None q x o y w is = absurd (let same = w.0 in cc)
-  yields_second (Some z) q x o y w is = (refl, (let same = w.0 in cc), rw w.1 refl)
+  items_before_pair_and_second_of_kept : (p q : Option A) (x : A) (o : Outcome (A × A) E) (y : A × A) → tuples_asks p x o q → o ≡ Kept y → (items_before_pair p ≡ 0) × (y.1 ≡ x) × (items_before_pair q ≡ 1)
+  items_before_pair_and_second_of_kept None q x o y w is = absurd (let same = w.0 in cc)
+  items_before_pair_and_second_of_kept (Some z) q x o y w is = (refl, (let same = w.0 in cc), rw w.1 refl)
 
-  holds_first : (p q : Option A) (x : A) (o : Outcome (A × A) E) → tuples_asks p x o q → o ≡ LeftOut → suc (items_before_pair q) ≡ items_before_pair p
-  holds_first None q x o w is = rw w.1 refl
-  holds_first (Some z) q x o w is = absurd (let same = w.0 in cc)
+  items_before_pair_falls_where_left_out : (p q : Option A) (x : A) (o : Outcome (A × A) E) → tuples_asks p x o q → o ≡ LeftOut → suc (items_before_pair q) ≡ items_before_pair p
+  items_before_pair_falls_where_left_out None q x o w is = rw w.1 refl
+  items_before_pair_falls_where_left_out (Some z) q x o w is = absurd (let same = w.0 in cc)
 
   never_fails : (p q : Option A) (x : A) (o : Outcome (A × A) E) (e : E) → tuples_asks p x o q → o ≡ Failure e → ⊥
   never_fails None q x o e w is = let same = w.0 in cc
@@ -91,10 +91,10 @@ module _ {S A E : Type 0} (steps : S → Answered A E → S → Type 0) where
   leaves_of_passes : (s t : S) (p q : Option A) (r : Answered (A × A) E) → Passes steps tuples_asks as_answered_item s p (r ∷ []) t q → Leaves steps 1 (items_before_pair p) s (second r ∷ []) t (items_before_pair q)
   leaves_of_passes s t p q _ (end_passes step done) = by_number.keeps_end step by_number.none
   leaves_of_passes s t p q _ (failure_passes e step done) = by_number.keeps_failure e step by_number.none
-  leaves_of_passes s t p q _ (keeps x o y step called out done) = let k = yields_second p q x o y called out in rw (k.0, k.1, k.2) (by_number.keeps_item x step by_number.none)
+  leaves_of_passes s t p q _ (keeps x o y step called out done) = let k = items_before_pair_and_second_of_kept p q x o y called out in rw (k.0, k.1, k.2) (by_number.keeps_item x step by_number.none)
   leaves_of_passes s t p q _ (refuses {h = h} x o e step called out rest) = absurd (never_fails p h x o e called out)
   leaves_of_passes s t p q _ (closes {h = h} x o step called out rest) = absurd (never_ends p h x o called out)
-  leaves_of_passes s t p q r (leaves_out {u = u} {h = h} x o step called out rest) = subst (λ (j : ℕ). Leaves steps 1 j s (second r ∷ []) t (items_before_pair q)) (holds_first p h x o called out) (by_number.leaves_out x step (leaves_of_passes u t h q r rest))
+  leaves_of_passes s t p q r (leaves_out {u = u} {h = h} x o step called out rest) = subst (λ (j : ℕ). Leaves steps 1 j s (second r ∷ []) t (items_before_pair q)) (items_before_pair_falls_where_left_out p h x o called out) (by_number.leaves_out x step (leaves_of_passes u t h q r rest))
 
   one_of_one_tuples : OneOfOne StepOfTuples (leaves_one steps 1) (λ p. (p.0, items_before_pair p.1)) (λ p. ⊤)
   one_of_one_tuples = record {
@@ -106,4 +106,4 @@ pub hints_as_sound_tuples : {V S A E : Type 0} (view : V → S × Option A) (m :
 hints_as_sound_tuples view m s h is =
     let p = view s in
     let n = items_before_pair p.1 in
-    (is.0, is.1, as_sound_seen view (StepOfTuples m.steps) s h (as_sound (StepOfTuples m.steps) m.steps p p.0 (kept_of 1 n) (λ o. option_map (kept_of 1 n) o) (λ k b. brackets_same (StepOfTuples m.steps) (leaves_one m.steps 1) (λ q. (q.0, items_before_pair q.1)) (λ q. ⊤) (one_of_one_tuples m.steps) p tt (hint_kept 1 n k) (brackets_kept m.steps 1 p.0 n k b)) h is.0 is.2))
+    (is.0, is.1, as_sound_seen view (StepOfTuples m.steps) s h (as_sound_of_brackets (StepOfTuples m.steps) m.steps p p.0 (kept_of 1 n) (λ o. option_map (kept_of 1 n) o) (λ k b. brackets_where_one_of_one (StepOfTuples m.steps) (leaves_one m.steps 1) (λ q. (q.0, items_before_pair q.1)) (λ q. ⊤) (one_of_one_tuples m.steps) p tt (hint_kept 1 n k) (brackets_kept m.steps 1 p.0 n k b)) h is.0 is.2))

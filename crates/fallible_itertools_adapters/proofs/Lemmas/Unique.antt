@@ -11,9 +11,9 @@ use Rattle.fallible_iterator.specs.Lists.{AlwaysGives, Lists}
 use Rattle.fallible_iterator.specs.Making.{AtRefusal, GivesMade, IsMadeOf, ListsMade}
 use Rattle.fallible_iterator.specs.Passing.{passing_step}
 use Rattle.fallible_iterator.specs.Laws.Passing.{Passes, done, end_passes, failure_passes, keeps, refuses, closes, leaves_out, passes_of_pass_trace, pass_trace_of_passes}
-use Rattle.fallible_iterator.proofs.Lemmas.Lists.Passing.{end_of_nil, failure_of_first}
+use Rattle.fallible_iterator.proofs.Lemmas.Lists.Passing.{end_of_nil, answer_is_failure_first_in_list}
 use Rattle.fallible_iterator.proofs.Lemmas.Making.{lists_made_seen}
-use Rattle.fallible_iterator.proofs.Lemmas.Seen.{HasSeen, cond_or}
+use Rattle.fallible_iterator.proofs.Lemmas.Seen.{HasSeen, cond_true_is_or}
 use Rattle.fallible_itertools_adapters.specs.Holding.{as_answered_item}
 use Rattle.fallible_itertools_adapters.specs.Unique.{first_of_equal, unique_asks, unique_by, unique_contract, unique_from, unique_of, unique_parts, unique_seen}
 use Rattle.std.specs.declared.alloc.AllocError.{AllocError}
@@ -26,8 +26,8 @@ abbrev Same : {A : Type 0} → A → A → Type 0
 Same x y = y ≡ x
 
 module _ {A E : Type 0} (S : Type 0) (eq : A → A → Bool) (equivalence : IsEquivalence eq) (is_clone : A → A → Type 0) (clones : ClonesAreEqual eq is_clone) (is_infallible : A → Type 0) (from : AllocError → E → Type 0) where
-  clone_equal : (x copy k : A) → is_clone x copy → eq copy k ≡ eq k x
-  clone_equal x copy k c = sym (equivalence.congr x copy k (clones x copy c)) ∙ equivalence.symm x k
+  eq_of_clone_is_eq_of_original : (x copy k : A) → is_clone x copy → eq copy k ≡ eq k x
+  eq_of_clone_is_eq_of_original x copy k c = sym (equivalence.congr x copy k (clones x copy c)) ∙ equivalence.symm x k
 
   abbrev CallsOfUnique : HashSet A S → A → Outcome A E → HashSet A S → Type 0
   CallsOfUnique = unique_asks eq is_clone is_infallible from
@@ -60,7 +60,7 @@ module _ {A E : Type 0} (S : Type 0) (eq : A → A → Bool) (equivalence : IsEq
     After l seen = (t : I) (q : HashSet A S) → AlwaysGives steps t l → HasSeen eq q seen → Gives (t, q) (unique_from eq seen l)
 
     has_seen_more : (p q : HashSet A S) (seen : List A) (x copy : A) → HasSeen eq p seen → is_clone x copy → Updates eq p q copy true → HasSeen eq q (x ∷ seen)
-    has_seen_more p q seen x copy has c updates k = updates.0 k ∙ ap (λ (b : Bool). cond b true (contains eq p k)) (clone_equal x copy k c) ∙ ap (λ (b : Bool). cond (eq k x) true b) (has k) ∙ cond_or (eq k x) (is_member eq seen k)
+    has_seen_more p q seen x copy has c updates k = updates.0 k ∙ ap (λ (b : Bool). cond b true (contains eq p k)) (eq_of_clone_is_eq_of_original x copy k c) ∙ ap (λ (b : Bool). cond (eq k x) true b) (has k) ∙ cond_true_is_or (eq k x) (is_member eq seen k)
 
     told_kept : (l : List (Result A E)) (seen : List A) (p : HashSet A S) (x y : A) (b : Bool) (t : I) (q : HashSet A S) → HasSeen eq p seen → AlwaysGives steps t l → After l (x ∷ seen) → unique_by eq is_clone is_infallible from p x b (Kept y) q → Told (first_of_equal x b (unique_from eq seen l) (unique_from eq (x ∷ seen) l)) (Ok (Some y)) (t, q)
     told_kept l seen p x y true t q has a later w = absurd (let is = w.0 in cc)
@@ -79,26 +79,26 @@ module _ {A E : Type 0} (S : Type 0) (eq : A → A → Bool) (equivalence : IsEq
     told_left_out l seen p x false u h r t has a later w rest = absurd w
 
     -- a call on the list's item, by whether it was seen
-    by_member : (seen : List A) (p : HashSet A S) (x z : A) (o c : Outcome A E) (q : HashSet A S) → HasSeen eq p seen → z ≡ x → o ≡ c → CallsOfUnique p z o q → unique_by eq is_clone is_infallible from p x (is_member eq seen x) c q
-    by_member seen p x z o c q has same is w = subst (λ (b : Bool). unique_by eq is_clone is_infallible from p x b c q) (has x) (subst (λ (d : Outcome A E). CallsOfUnique p x d q) is (subst (λ (k : A). CallsOfUnique p k o q) same w))
+    unique_by_member_where_called : (seen : List A) (p : HashSet A S) (x z : A) (o c : Outcome A E) (q : HashSet A S) → HasSeen eq p seen → z ≡ x → o ≡ c → CallsOfUnique p z o q → unique_by eq is_clone is_infallible from p x (is_member eq seen x) c q
+    unique_by_member_where_called seen p x z o c q has same is w = subst (λ (b : Bool). unique_by eq is_clone is_infallible from p x b c q) (has x) (subst (λ (d : Outcome A E). CallsOfUnique p x d q) is (subst (λ (k : A). CallsOfUnique p k o q) same w))
 
     told_of_item : (x : A) (l : List (Result A E)) (seen : List A) (s : I) (p : HashSet A S) (r : Answered A E) (t : I) (q : HashSet A S) → AlwaysGives steps s (Ok x ∷ l) → HasSeen eq p seen → After l seen → After l (x ∷ seen) → OneDrawn s p r t q → Told (first_of_equal x (is_member eq seen x) (unique_from eq seen l) (unique_from eq (x ∷ seen) l)) r (t, q)
     told_of_item x l seen s p _ t q a has later more (end_passes step c) = absurd (let w = (a (Ok None) _ step).0 in cc)
     told_of_item x l seen s p _ t q a has later more (failure_passes e step c) = absurd (let w = (a (Err e) _ step).0 in cc)
-    told_of_item x l seen s p _ t q a has later more (keeps z o y step called is done) = let w = a (Ok (Some z)) t step in told_kept l seen p x y (is_member eq seen x) t q has w.1 more (by_member seen p x z o (Kept y) q has (let k = w.0 in cc) is called)
-    told_of_item x l seen s p _ t q a has later more (refuses z o e step called is done) = let w = a (Ok (Some z)) t step in told_failed (unique_from eq seen l) (unique_from eq (x ∷ seen) l) p x e (is_member eq seen x) t q (by_member seen p x z o (Failure e) q has (let k = w.0 in cc) is called)
-    told_of_item x l seen s p _ t q a has later more (closes {h = h} z o step called is c) = let w = a (Ok (Some z)) _ step in absurd (never_ends p x (is_member eq seen x) h (by_member seen p x z o End h has (let k = w.0 in cc) is called))
-    told_of_item x l seen s p r t q a has later more (leaves_out {u = u} {h = h} z o step called is rest) = let w = a (Ok (Some z)) u step in told_left_out l seen p x (is_member eq seen x) u h r (t, q) has w.1 later (by_member seen p x z o LeftOut h has (let k = w.0 in cc) is called) (pass_trace_of_passes rest)
+    told_of_item x l seen s p _ t q a has later more (keeps z o y step called is done) = let w = a (Ok (Some z)) t step in told_kept l seen p x y (is_member eq seen x) t q has w.1 more (unique_by_member_where_called seen p x z o (Kept y) q has (let k = w.0 in cc) is called)
+    told_of_item x l seen s p _ t q a has later more (refuses z o e step called is done) = let w = a (Ok (Some z)) t step in told_failed (unique_from eq seen l) (unique_from eq (x ∷ seen) l) p x e (is_member eq seen x) t q (unique_by_member_where_called seen p x z o (Failure e) q has (let k = w.0 in cc) is called)
+    told_of_item x l seen s p _ t q a has later more (closes {h = h} z o step called is c) = let w = a (Ok (Some z)) _ step in absurd (never_ends p x (is_member eq seen x) h (unique_by_member_where_called seen p x z o End h has (let k = w.0 in cc) is called))
+    told_of_item x l seen s p r t q a has later more (leaves_out {u = u} {h = h} z o step called is rest) = let w = a (Ok (Some z)) u step in told_left_out l seen p x (is_member eq seen x) u h r (t, q) has w.1 later (unique_by_member_where_called seen p x z o LeftOut h has (let k = w.0 in cc) is called) (pass_trace_of_passes rest)
 
     gives_unique : (l : List (Result A E)) (seen : List A) → After l seen
     unfolding unique_from
     gives_unique [] seen = λ s p a has r t w. end_of_nil a (passes_of_pass_trace w)
-    gives_unique (Err d ∷ l) seen = λ s p a has r t w. let k = failure_of_first d l a (passes_of_pass_trace w) in inr (k.0, gives_unique l seen t.0 t.1 k.2 (subst (λ (q : HashSet A S). HasSeen eq q seen) (sym k.1) has))
+    gives_unique (Err d ∷ l) seen = λ s p a has r t w. let k = answer_is_failure_first_in_list d l a (passes_of_pass_trace w) in inr (k.0, gives_unique l seen t.0 t.1 k.2 (subst (λ (q : HashSet A S). HasSeen eq q seen) (sym k.1) has))
     gives_unique (Ok x ∷ l) seen = λ s p a has. gives_where_told (first_of_equal x (is_member eq seen x) (unique_from eq seen l) (unique_from eq (x ∷ seen) l)) (s, p) (λ r t w. told_of_item x l seen s p r t.0 t.1 a has (gives_unique l seen) (gives_unique l (x ∷ seen)) (passes_of_pass_trace w))
 
-unique_from_none : {A E : Type 0} (eq : A → A → Bool) (l : List (Result A E)) → unique_from eq [] l ≡ unique_of eq l
+unique_from_none_is_unique_of : {A E : Type 0} (eq : A → A → Bool) (l : List (Result A E)) → unique_from eq [] l ≡ unique_of eq l
 unfolding unique_of
-unique_from_none eq l = refl
+unique_from_none_is_unique_of eq l = refl
 
 pub lists_unique : {I A E : Type 0} (eq : A → A → Bool) (equivalence : IsEquivalence eq) (is_clone : A → A → Type 0) (clones : ClonesAreEqual eq is_clone) (is_infallible : A → Type 0) (from : AllocError → E → Type 0) (m : Contract I A E) (s : Unique I A E) (l : List (Result A E)) → IsEmpty (unique_seen s) → Lists m.steps s.it l → ListsMade Same (seen_as unique_parts (unique_contract eq is_clone is_infallible from m)).steps from s (unique_of eq l)
-lists_unique eq equivalence is_clone clones is_infallible from m s l none i = lists_made_seen Same from unique_parts (unique_contract eq is_clone is_infallible from m).steps s (s.it, s.seen) (unique_from eq [] l) (unique_of eq l) refl (unique_from_none eq l) (gives_unique _ eq equivalence is_clone clones is_infallible from m.steps l [] s.it s.seen i.runs (λ k. ap (list_any (eq k)) none))
+lists_unique eq equivalence is_clone clones is_infallible from m s l none i = lists_made_seen Same from unique_parts (unique_contract eq is_clone is_infallible from m).steps s (s.it, s.seen) (unique_from eq [] l) (unique_of eq l) refl (unique_from_none_is_unique_of eq l) (gives_unique _ eq equivalence is_clone clones is_infallible from m.steps l [] s.it s.seen i.runs (λ k. ap (list_any (eq k)) none))

@@ -14,7 +14,7 @@ use Rattle.fallible_iterator.specs.Lists.{Acts, AlwaysGives, Lists}
 use Rattle.fallible_iterator.specs.Making.{AtRefusal, GivesMade, IsMadeOf, ListsMade}
 use Rattle.fallible_iterator.specs.Passing.{passing_step}
 use Rattle.fallible_iterator.specs.Laws.Passing.{Passes, done, end_passes, failure_passes, keeps, refuses, closes, leaves_out, passes_of_pass_trace, pass_trace_of_passes}
-use Rattle.fallible_iterator.proofs.Lemmas.Lists.Passing.{end_of_nil, failure_of_first}
+use Rattle.fallible_iterator.proofs.Lemmas.Lists.Passing.{end_of_nil, answer_is_failure_first_in_list}
 use Rattle.fallible_iterator.proofs.Lemmas.Making.{lists_made_seen}
 use Rattle.fallible_iterator.proofs.Lemmas.Seen.{has_seen_more}
 use Rattle.fallible_itertools_adapters.specs.Holding.{as_answered_item}
@@ -68,13 +68,13 @@ module _ {A K F E : Type 0} (S : Type 0) (eq : K → K → Bool) (equivalence : 
     abbrev After : List (Result A E) → Type 0
     After l = (seen : List K) (t : I) (q : HashSet K S × F) → AlwaysGives steps t l → Seen q seen → Gives (t, q) (From l seen)
 
-    told_first : (l : List (Result A E)) (seen : List K) (p : HashSet K S × F) (x y : A) (k : K) (b : Bool) (t : I) (q : HashSet K S × F) → Seen p seen → q.1 ≡ f → AlwaysGives steps t l → After l → key_at eq from p.0 x k b (Kept y) q.0 → Told (first_of_equal x b (From l seen) (From l (k ∷ seen))) (Ok (Some y)) (t, q)
-    told_first l seen p x y k true t q has stays a later w = absurd (let is = w.0 in cc)
-    told_first l seen p x y k false t q has stays a later w = inr (w.0, later (k ∷ seen) t q a (has_seen_more eq equivalence p.0 q.0 seen k has.0 w.1, stays))
+    told_item_where_key_is_kept : (l : List (Result A E)) (seen : List K) (p : HashSet K S × F) (x y : A) (k : K) (b : Bool) (t : I) (q : HashSet K S × F) → Seen p seen → q.1 ≡ f → AlwaysGives steps t l → After l → key_at eq from p.0 x k b (Kept y) q.0 → Told (first_of_equal x b (From l seen) (From l (k ∷ seen))) (Ok (Some y)) (t, q)
+    told_item_where_key_is_kept l seen p x y k true t q has stays a later w = absurd (let is = w.0 in cc)
+    told_item_where_key_is_kept l seen p x y k false t q has stays a later w = inr (w.0, later (k ∷ seen) t q a (has_seen_more eq equivalence p.0 q.0 seen k has.0 w.1, stays))
 
     told_kept : (l : List (Result A E)) (seen : List K) (p : HashSet K S × F) (x y : A) (v : Result K E) (t : I) (q : HashSet K S × F) → Seen p seen → q.1 ≡ f → AlwaysGives steps t l → After l → keyed_by eq from p.0 x v (Kept y) q.0 → Told (first_of_key eq seen x v (From l)) (Ok (Some y)) (t, q)
     told_kept l seen p x y (Err d) t q has stays a later w = absurd (let is = w.0 in cc)
-    told_kept l seen p x y (Ok k) t q has stays a later w = subst (λ (b : Bool). Told (first_of_equal x b (From l seen) (From l (k ∷ seen))) (Ok (Some y)) (t, q)) (has.0 k) (told_first l seen p x y k (contains eq p.0 k) t q has stays a later w)
+    told_kept l seen p x y (Ok k) t q has stays a later w = subst (λ (b : Bool). Told (first_of_equal x b (From l seen) (From l (k ∷ seen))) (Ok (Some y)) (t, q)) (has.0 k) (told_item_where_key_is_kept l seen p x y k (contains eq p.0 k) t q has stays a later w)
 
     told_refused : (l j : List (Result A E)) (p : HashSet K S × F) (x : A) (k : K) (e : E) (b c : Bool) (t : I) (q : HashSet K S × F) → b ≡ c → key_at eq from p.0 x k b (Failure e) q.0 → Told (first_of_equal x c l j) (Err e) (t, q)
     told_refused l j p x k e true c t q is w = absurd (let k = w.0 in cc)
@@ -93,13 +93,13 @@ module _ {A K F E : Type 0} (S : Type 0) (eq : K → K → Bool) (equivalence : 
     never_ends p q x (Err d) w = let is = w.0 in cc
     never_ends p q x (Ok k) w = key_never_ends p q x k (contains eq p k) w
 
-    told_after_equal : (l : List (Result A E)) (seen : List K) (p : HashSet K S × F) (x : A) (k : K) (b : Bool) (u : I) (c : HashSet K S × F) (r : Answered A E) (t : I × (HashSet K S × F)) → Seen p seen → c.1 ≡ f → AlwaysGives steps u l → After l → key_at eq from p.0 x k b LeftOut c.0 → StepsOfUnique (u, c) r t → Told (first_of_equal x b (From l seen) (From l (k ∷ seen))) r t
-    told_after_equal l seen p x k true u c r t has stays a later w rest = told_where_gives (From l seen) (u, c) r t (later seen u c a (subst (λ (s : HashSet K S). (k : K) → contains eq s k ≡ is_member eq seen k) (sym w.1) has.0, stays)) rest
-    told_after_equal l seen p x k false u c r t has stays a later w rest = absurd w
+    told_rest_where_key_left_out : (l : List (Result A E)) (seen : List K) (p : HashSet K S × F) (x : A) (k : K) (b : Bool) (u : I) (c : HashSet K S × F) (r : Answered A E) (t : I × (HashSet K S × F)) → Seen p seen → c.1 ≡ f → AlwaysGives steps u l → After l → key_at eq from p.0 x k b LeftOut c.0 → StepsOfUnique (u, c) r t → Told (first_of_equal x b (From l seen) (From l (k ∷ seen))) r t
+    told_rest_where_key_left_out l seen p x k true u c r t has stays a later w rest = told_where_gives (From l seen) (u, c) r t (later seen u c a (subst (λ (s : HashSet K S). (k : K) → contains eq s k ≡ is_member eq seen k) (sym w.1) has.0, stays)) rest
+    told_rest_where_key_left_out l seen p x k false u c r t has stays a later w rest = absurd w
 
     told_left_out : (l : List (Result A E)) (seen : List K) (p : HashSet K S × F) (x : A) (v : Result K E) (u : I) (c : HashSet K S × F) (r : Answered A E) (t : I × (HashSet K S × F)) → Seen p seen → c.1 ≡ f → AlwaysGives steps u l → After l → keyed_by eq from p.0 x v LeftOut c.0 → StepsOfUnique (u, c) r t → Told (first_of_key eq seen x v (From l)) r t
     told_left_out l seen p x (Err d) u c r t has stays a later w rest = absurd (let is = w.0 in cc)
-    told_left_out l seen p x (Ok k) u c r t has stays a later w rest = subst (λ (b : Bool). Told (first_of_equal x b (From l seen) (From l (k ∷ seen))) r t) (has.0 k) (told_after_equal l seen p x k (contains eq p.0 k) u c r t has stays a later w rest)
+    told_left_out l seen p x (Ok k) u c r t has stays a later w rest = subst (λ (b : Bool). Told (first_of_equal x b (From l seen) (From l (k ∷ seen))) r t) (has.0 k) (told_rest_where_key_left_out l seen p x k (contains eq p.0 k) u c r t has stays a later w rest)
 
     -- a call on the list's item, by its key
     by_key : (p : HashSet K S × F) (x z : A) (o c : Outcome A E) (q : HashSet K S × F) → p.1 ≡ f → z ≡ x → o ≡ c → CallsOfUniqueBy p z o q → (q.1 ≡ f) × keyed_by eq from p.0 x (h x) c q.0
@@ -116,12 +116,12 @@ module _ {A K F E : Type 0} (S : Type 0) (eq : K → K → Bool) (equivalence : 
     gives_first_of_keys : (l : List (Result A E)) → After l
     unfolding unique_key_from
     gives_first_of_keys [] = λ seen s p a has r t w. end_of_nil a (passes_of_pass_trace w)
-    gives_first_of_keys (Err d ∷ l) = λ seen s p a has r t w. let k = failure_of_first d l a (passes_of_pass_trace w) in inr (k.0, gives_first_of_keys l seen t.0 t.1 k.2 (subst (λ (q : HashSet K S × F). Seen q seen) (sym k.1) has))
+    gives_first_of_keys (Err d ∷ l) = λ seen s p a has r t w. let k = answer_is_failure_first_in_list d l a (passes_of_pass_trace w) in inr (k.0, gives_first_of_keys l seen t.0 t.1 k.2 (subst (λ (q : HashSet K S × F). Seen q seen) (sym k.1) has))
     gives_first_of_keys (Ok x ∷ l) = λ seen s p a has. gives_where_told (first_of_key eq seen x (h x) (From l)) (s, p) (λ r t w. told_of_item x l seen s p r t.0 t.1 a has (gives_first_of_keys l) (passes_of_pass_trace w))
 
-unique_key_from_none : {A K E : Type 0} (eq : K → K → Bool) (h : A → Result K E) (l : List (Result A E)) → unique_key_from eq h [] l ≡ unique_by_key eq h l
+unique_key_from_none_is_unique_by_key : {A K E : Type 0} (eq : K → K → Bool) (h : A → Result K E) (l : List (Result A E)) → unique_key_from eq h [] l ≡ unique_by_key eq h l
 unfolding unique_by_key
-unique_key_from_none eq h l = refl
+unique_key_from_none_is_unique_by_key eq h l = refl
 
 pub lists_unique_by_key : {I A K F E : Type 0} (eq : K → K → Bool) (equivalence : IsEquivalence eq) (from : AllocError → E → Type 0) (m : Contract I A E) (g : Mut F (Bor A × Unit {0}) (Result K E)) (s : UniqueBy I K F) (f : F) (h : A → Result K E) (l : List (Result A E)) → IsEmpty (unique_by_keys s) → s.keying.1 ≡ f → Acts (call_by_reference g) f h → Lists m.steps s.it l → ListsMade Same (seen_as unique_by_parts (unique_by_contract eq from m g)).steps from s (unique_by_key eq h l)
-lists_unique_by_key eq equivalence from m g s f h l none is acts i = lists_made_seen Same from unique_by_parts (unique_by_contract eq from m g).steps s (s.it, s.keying) (unique_key_from eq h [] l) (unique_by_key eq h l) refl (unique_key_from_none eq h l) (gives_first_of_keys _ eq equivalence from (call_by_reference g) f h acts m.steps l [] s.it s.keying i.runs ((λ k. ap (list_any (eq k)) none), is))
+lists_unique_by_key eq equivalence from m g s f h l none is acts i = lists_made_seen Same from unique_by_parts (unique_by_contract eq from m g).steps s (s.it, s.keying) (unique_key_from eq h [] l) (unique_by_key eq h l) refl (unique_key_from_none_is_unique_by_key eq h l) (gives_first_of_keys _ eq equivalence from (call_by_reference g) f h acts m.steps l [] s.it s.keying i.runs ((λ k. ap (list_any (eq k)) none), is))

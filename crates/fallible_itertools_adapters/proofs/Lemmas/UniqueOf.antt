@@ -51,15 +51,15 @@ module _ {A : Type 0} (eq : A → A → Bool) (equivalence : IsEquivalence eq) w
   all_differ_first x seen [] all = tt
   all_differ_first x seen (y ∷ xs) all = (unseen_differs_from_first x y seen all.0, all_differ_first x seen xs all.1)
 
-  unseen_by : {E : Type 0} (x : A) (seen : List A) (b : Bool) (same other : List (Result A E)) → is_member eq seen x ≡ b → AllByRecursion (Unseen seen) (items_listed same) → AllByRecursion (Unseen (x ∷ seen)) (items_listed other) → AllByRecursion (Unseen seen) (items_listed (first_of_equal x b same other))
-  unseen_by x seen true same other is all more = all
-  unseen_by x seen false same other is all more = (is, all_unseen_rest x seen (items_listed other) more)
+  all_unseen_in_first_of_equal : {E : Type 0} (x : A) (seen : List A) (b : Bool) (same other : List (Result A E)) → is_member eq seen x ≡ b → AllByRecursion (Unseen seen) (items_listed same) → AllByRecursion (Unseen (x ∷ seen)) (items_listed other) → AllByRecursion (Unseen seen) (items_listed (first_of_equal x b same other))
+  all_unseen_in_first_of_equal x seen true same other is all more = all
+  all_unseen_in_first_of_equal x seen false same other is all more = (is, all_unseen_rest x seen (items_listed other) more)
 
-  all_unseen : {E : Type 0} (seen : List A) (l : List (Result A E)) → AllByRecursion (Unseen seen) (items_listed (unique_from eq seen l))
+  all_unseen_in_unique_from : {E : Type 0} (seen : List A) (l : List (Result A E)) → AllByRecursion (Unseen seen) (items_listed (unique_from eq seen l))
   unfolding unique_from
-  all_unseen seen [] = tt
-  all_unseen seen (Ok x ∷ l) = unseen_by x seen (is_member eq seen x) (unique_from eq seen l) (unique_from eq (x ∷ seen) l) refl (all_unseen seen l) (all_unseen (x ∷ seen) l)
-  all_unseen seen (Err e ∷ l) = all_unseen seen l
+  all_unseen_in_unique_from seen [] = tt
+  all_unseen_in_unique_from seen (Ok x ∷ l) = all_unseen_in_first_of_equal x seen (is_member eq seen x) (unique_from eq seen l) (unique_from eq (x ∷ seen) l) refl (all_unseen_in_unique_from seen l) (all_unseen_in_unique_from (x ∷ seen) l)
+  all_unseen_in_unique_from seen (Err e ∷ l) = all_unseen_in_unique_from seen l
 
   distinct_first_of_equal : {E : Type 0} (x : A) (seen : List A) (b : Bool) (same other : List (Result A E)) → IsDistinct eq (items_listed same) → AllByRecursion (Unseen (x ∷ seen)) (items_listed other) → IsDistinct eq (items_listed other) → IsDistinct eq (items_listed (first_of_equal x b same other))
   unfolding IsDistinct
@@ -69,7 +69,7 @@ module _ {A : Type 0} (eq : A → A → Bool) (equivalence : IsEquivalence eq) w
   distinct_from : {E : Type 0} (seen : List A) (l : List (Result A E)) → IsDistinct eq (items_listed (unique_from eq seen l))
   unfolding unique_from IsDistinct
   distinct_from seen [] = tt
-  distinct_from seen (Ok x ∷ l) = distinct_first_of_equal x seen (is_member eq seen x) (unique_from eq seen l) (unique_from eq (x ∷ seen) l) (distinct_from seen l) (all_unseen (x ∷ seen) l) (distinct_from (x ∷ seen) l)
+  distinct_from seen (Ok x ∷ l) = distinct_first_of_equal x seen (is_member eq seen x) (unique_from eq seen l) (unique_from eq (x ∷ seen) l) (distinct_from seen l) (all_unseen_in_unique_from (x ∷ seen) l) (distinct_from (x ∷ seen) l)
   distinct_from seen (Err e ∷ l) = distinct_from seen l
 
   pub unique_distinct : {E : Type 0} (l : List (Result A E)) → IsDistinct eq (items_listed (unique_of eq l))
@@ -79,30 +79,30 @@ module _ {A : Type 0} (eq : A → A → Bool) (equivalence : IsEquivalence eq) w
   -- ---- what is found first
 
   -- what equals an item that is seen is seen
-  pub seen_equal : (q x : A) (seen : List A) → eq q x ≡ true → is_member eq seen x ≡ true → Unseen seen q → ⊥
-  seen_equal q x seen e is unseen = let k = list_any_congr equivalence q x seen e in cc
+  pub equal_to_seen_is_not_unseen : (q x : A) (seen : List A) → eq q x ≡ true → is_member eq seen x ≡ true → Unseen seen q → ⊥
+  equal_to_seen_is_not_unseen q x seen e is unseen = let k = list_any_congr equivalence q x seen e in cc
 
   find_past : (q x : A) (seen xs : List A) (b : Bool) → eq q x ≡ b → is_member eq seen x ≡ true → Unseen seen q → find (eq q) xs ≡ cond b (Some x) (find (eq q) xs)
-  find_past q x seen xs true e is unseen = absurd (seen_equal q x seen e is unseen)
+  find_past q x seen xs true e is unseen = absurd (equal_to_seen_is_not_unseen q x seen e is unseen)
   find_past q x seen xs false e is unseen = refl
 
-  find_at_first : (q x : A) (seen xs ys : List A) (b : Bool) → eq q x ≡ b → Unseen seen q → (Unseen (x ∷ seen) q → find (eq q) xs ≡ find (eq q) ys) → cond b (Some x) (find (eq q) xs) ≡ cond b (Some x) (find (eq q) ys)
-  find_at_first q x seen xs ys true e unseen more = refl
-  find_at_first q x seen xs ys false e unseen more = more (ap (λ (a : Bool). a || is_member eq seen q) e ∙ unseen)
+  found_first_or_rest_agrees : (q x : A) (seen xs ys : List A) (b : Bool) → eq q x ≡ b → Unseen seen q → (Unseen (x ∷ seen) q → find (eq q) xs ≡ find (eq q) ys) → cond b (Some x) (find (eq q) xs) ≡ cond b (Some x) (find (eq q) ys)
+  found_first_or_rest_agrees q x seen xs ys true e unseen more = refl
+  found_first_or_rest_agrees q x seen xs ys false e unseen more = more (ap (λ (a : Bool). a || is_member eq seen q) e ∙ unseen)
 
   find_in_first_of_equal : {E : Type 0} (q x : A) (seen : List A) (b : Bool) (same other l : List (Result A E)) → is_member eq seen x ≡ b → Unseen seen q → find (eq q) (items_listed same) ≡ find (eq q) (items_listed l) → (Unseen (x ∷ seen) q → find (eq q) (items_listed other) ≡ find (eq q) (items_listed l)) → find (eq q) (items_listed (first_of_equal x b same other)) ≡ cond (eq q x) (Some x) (find (eq q) (items_listed l))
   find_in_first_of_equal q x seen true same other l is unseen found more = found ∙ find_past q x seen (items_listed l) (eq q x) refl is unseen
-  find_in_first_of_equal q x seen false same other l is unseen found more = find_at_first q x seen (items_listed other) (items_listed l) (eq q x) refl unseen more
+  find_in_first_of_equal q x seen false same other l is unseen found more = found_first_or_rest_agrees q x seen (items_listed other) (items_listed l) (eq q x) refl unseen more
 
-  find_from : {E : Type 0} (seen : List A) (l : List (Result A E)) (q : A) → Unseen seen q → find (eq q) (items_listed (unique_from eq seen l)) ≡ find (eq q) (items_listed l)
+  find_in_unique_from : {E : Type 0} (seen : List A) (l : List (Result A E)) (q : A) → Unseen seen q → find (eq q) (items_listed (unique_from eq seen l)) ≡ find (eq q) (items_listed l)
   unfolding unique_from
-  find_from seen [] q unseen = refl
-  find_from seen (Ok x ∷ l) q unseen = find_in_first_of_equal q x seen (is_member eq seen x) (unique_from eq seen l) (unique_from eq (x ∷ seen) l) l refl unseen (find_from seen l q unseen) (λ more. find_from (x ∷ seen) l q more)
-  find_from seen (Err e ∷ l) q unseen = find_from seen l q unseen
+  find_in_unique_from seen [] q unseen = refl
+  find_in_unique_from seen (Ok x ∷ l) q unseen = find_in_first_of_equal q x seen (is_member eq seen x) (unique_from eq seen l) (unique_from eq (x ∷ seen) l) l refl unseen (find_in_unique_from seen l q unseen) (λ more. find_in_unique_from (x ∷ seen) l q more)
+  find_in_unique_from seen (Err e ∷ l) q unseen = find_in_unique_from seen l q unseen
 
   pub find_in_unique : {E : Type 0} (l : List (Result A E)) (q : A) → find (eq q) (items_listed (unique_of eq l)) ≡ find (eq q) (items_listed l)
   unfolding unique_of
-  find_in_unique l q = find_from [] l q refl
+  find_in_unique l q = find_in_unique_from [] l q refl
 
 -- ---- what comes last
 
@@ -110,15 +110,15 @@ or_false : (a : Bool) → a ≡ (a || false)
 or_false true = refl
 or_false false = refl
 
-or_moved : (a b c : Bool) → ((a || b) || c) ≡ (b || (a || c))
-or_moved true true c = refl
-or_moved true false c = refl
-or_moved false true c = refl
-or_moved false false c = refl
+or_swaps_first_two : (a b c : Bool) → ((a || b) || c) ≡ (b || (a || c))
+or_swaps_first_two true true c = refl
+or_swaps_first_two true false c = refl
+or_swaps_first_two false true c = refl
+or_swaps_first_two false false c = refl
 
-or_with : (e m t : Bool) → (e ≡ true → m ≡ true) → (m || t) ≡ (m || (e || t))
-or_with true m t is = rw (is refl) refl
-or_with false m t is = refl
+or_absorbs_what_implies_it : (e m t : Bool) → (e ≡ true → m ≡ true) → (m || t) ≡ (m || (e || t))
+or_absorbs_what_implies_it true m t is = rw (is refl) refl
+or_absorbs_what_implies_it false m t is = refl
 
 pub last_or_not : {A E : Type 0} (x : A) (b c : Bool) (before : List (Result A E)) → b ≡ c → before ++ first_of_equal x b [] [] ≡ cond c before (before ++ Ok x ∷ [])
 last_or_not x true true before is = append-nil before
@@ -141,36 +141,36 @@ module _ {A E : Type 0} (eq : A → A → Bool) where
   joined_first_of_equal x true same other same_left other_left r same_seen other_seen is_same is_other = is_same
   joined_first_of_equal x false same other same_left other_left r same_seen other_seen is_same is_other = ap {B = List (Result A E)} (λ k. Ok x ∷ k) is_other
 
-  unique_joined : (seen : List A) (l r : List (Result A E)) → unique_from eq seen (l ++ r) ≡ unique_from eq seen l ++ unique_from eq (seen_after seen l) r
+  unique_from_of_joined_is_joined : (seen : List A) (l r : List (Result A E)) → unique_from eq seen (l ++ r) ≡ unique_from eq seen l ++ unique_from eq (seen_after seen l) r
   unfolding unique_from
-  unique_joined seen [] r = refl
-  unique_joined seen (Ok x ∷ l) r = joined_first_of_equal x (is_member eq seen x) _ _ _ _ r _ _ (unique_joined seen l r) (unique_joined (x ∷ seen) l r)
-  unique_joined seen (Err e ∷ l) r = ap {B = List (Result A E)} (λ k. Err e ∷ k) (unique_joined seen l r)
+  unique_from_of_joined_is_joined seen [] r = refl
+  unique_from_of_joined_is_joined seen (Ok x ∷ l) r = joined_first_of_equal x (is_member eq seen x) _ _ _ _ r _ _ (unique_from_of_joined_is_joined seen l r) (unique_from_of_joined_is_joined (x ∷ seen) l r)
+  unique_from_of_joined_is_joined seen (Err e ∷ l) r = ap {B = List (Result A E)} (λ k. Err e ∷ k) (unique_from_of_joined_is_joined seen l r)
 
   pub failure_last : (l : List (Result A E)) (e : E) → unique_of eq (l ++ Err e ∷ []) ≡ unique_of eq l ++ Err e ∷ []
   unfolding unique_of unique_from
-  failure_last l e = unique_joined [] l (Err e ∷ [])
+  failure_last l e = unique_from_of_joined_is_joined [] l (Err e ∷ [])
 
-  pub unique_of_none : unique_of {A = A} {E = E} eq [] ≡ []
+  pub unique_of_empty_is_empty : unique_of {A = A} {E = E} eq [] ≡ []
   unfolding unique_of unique_from
-  unique_of_none = refl
+  unique_of_empty_is_empty = refl
 
 module _ {A : Type 0} (eq : A → A → Bool) (equivalence : IsEquivalence eq) where
   -- what equals an item that is seen is one of those
   member_where_equal : (q x : A) (seen : List A) → is_member eq seen x ≡ true → eq q x ≡ true → is_member eq seen q ≡ true
   member_where_equal q x seen is e = let k = list_any_congr equivalence q x seen e in cc
 
-  member_by : (q x : A) (seen rest same other : List A) (b : Bool) → is_member eq seen x ≡ b → is_member eq same q ≡ (is_member eq seen q || is_member eq rest q) → is_member eq other q ≡ ((eq q x || is_member eq seen q) || is_member eq rest q) → is_member eq (seen_by b same other) q ≡ (is_member eq seen q || (eq q x || is_member eq rest q))
-  member_by q x seen rest same other true is in_same in_other = in_same ∙ or_with (eq q x) (is_member eq seen q) (is_member eq rest q) (λ e. member_where_equal q x seen is e)
-  member_by q x seen rest same other false is in_same in_other = in_other ∙ or_moved (eq q x) (is_member eq seen q) (is_member eq rest q)
+  member_of_seen_by_is_or : (q x : A) (seen rest same other : List A) (b : Bool) → is_member eq seen x ≡ b → is_member eq same q ≡ (is_member eq seen q || is_member eq rest q) → is_member eq other q ≡ ((eq q x || is_member eq seen q) || is_member eq rest q) → is_member eq (seen_by b same other) q ≡ (is_member eq seen q || (eq q x || is_member eq rest q))
+  member_of_seen_by_is_or q x seen rest same other true is in_same in_other = in_same ∙ or_absorbs_what_implies_it (eq q x) (is_member eq seen q) (is_member eq rest q) (λ e. member_where_equal q x seen is e)
+  member_of_seen_by_is_or q x seen rest same other false is in_same in_other = in_other ∙ or_swaps_first_two (eq q x) (is_member eq seen q) (is_member eq rest q)
 
   -- what was seen is equal to an item that was seen before or to one of the list
-  pub member_after : {E : Type 0} (seen : List A) (l : List (Result A E)) (q : A) → is_member eq (seen_after eq seen l) q ≡ (is_member eq seen q || is_member eq (items_listed l) q)
-  member_after seen [] q = or_false (is_member eq seen q)
-  member_after seen (Ok x ∷ l) q = member_by q x seen (items_listed l) _ _ (is_member eq seen x) refl (member_after seen l q) (member_after (x ∷ seen) l q)
-  member_after seen (Err e ∷ l) q = member_after seen l q
+  pub member_of_seen_after_is_or : {E : Type 0} (seen : List A) (l : List (Result A E)) (q : A) → is_member eq (seen_after eq seen l) q ≡ (is_member eq seen q || is_member eq (items_listed l) q)
+  member_of_seen_after_is_or seen [] q = or_false (is_member eq seen q)
+  member_of_seen_after_is_or seen (Ok x ∷ l) q = member_of_seen_by_is_or q x seen (items_listed l) _ _ (is_member eq seen x) refl (member_of_seen_after_is_or seen l q) (member_of_seen_after_is_or (x ∷ seen) l q)
+  member_of_seen_after_is_or seen (Err e ∷ l) q = member_of_seen_after_is_or seen l q
 
   -- The last item is one more if no item before it equals it.
   pub item_last : {E : Type 0} (l : List (Result A E)) (x : A) → unique_of eq (l ++ Ok x ∷ []) ≡ cond (is_member eq (items_listed l) x) (unique_of eq l) (unique_of eq l ++ Ok x ∷ [])
   unfolding unique_of unique_from
-  item_last l x = unique_joined eq [] l (Ok x ∷ []) ∙ last_or_not x (is_member eq (seen_after eq [] l) x) (is_member eq (items_listed l) x) (unique_from eq [] l) (member_after [] l x)
+  item_last l x = unique_from_of_joined_is_joined eq [] l (Ok x ∷ []) ∙ last_or_not x (is_member eq (seen_after eq [] l) x) (is_member eq (items_listed l) x) (unique_from eq [] l) (member_of_seen_after_is_or [] l x)

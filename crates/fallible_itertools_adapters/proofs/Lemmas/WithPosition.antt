@@ -8,8 +8,8 @@ use Rattle.fallible_iterator.proofs.Lemmas.Lists.Passing.{lists_seen}
 use Rattle.fallible_itertools_adapters.specs.Holding.{held_one, holding_step}
 use Rattle.fallible_itertools_adapters.specs.WithPosition.{position_asks, position_before_item, position_before_stop, positioned, positioned_at, with_position_contract, with_position_parts}
 use Rattle.fallible_itertools_adapters.proofs.Lemmas.HoldingHints.{GivesHeld}
-use Rattle.fallible_itertools_adapters.proofs.Lemmas.HoldingLists.{held_list, listed_parts, gives_held_list}
-use Rattle.fallible_itertools_adapters.proofs.Lemmas.HoldingTraces.{step_item, step_end, step_failure, step_left_before}
+use Rattle.fallible_itertools_adapters.proofs.Lemmas.HoldingLists.{held_list, splits_at_failure_where_is_held_list, gives_held_list}
+use Rattle.fallible_itertools_adapters.proofs.Lemmas.HoldingTraces.{step_item, step_end, step_failure, step_with_left_out_before}
 use Rattle.fallible_iterator.specs.Outcome.{Outcome}
 use Rattle.fallible_iterator.specs.Outcome.TheVariants.{Kept, LeftOut, End}
 use Rattle.fallible_itertools_adapters.specs.declared.with_position.Position.{Position}
@@ -62,7 +62,7 @@ module _ {A E : Type 0} where
 
   -- What stands before a failure is positioned by itself, and so is what comes after it.
   pub positioned_in_parts : (a : List (Result A E)) (e : E) (b : List (Result A E)) → positioned (a ++ Err e ∷ b) ≡ positioned a ++ Err e ∷ positioned b
-  positioned_in_parts a e b = listed_parts held_outcome next_held None next_held_at_stop_none outcome_never_end positioned held_list_is_positioned a e b
+  positioned_in_parts a e b = splits_at_failure_where_is_held_list held_outcome next_held None next_held_at_stop_none outcome_never_end positioned held_list_is_positioned a e b
 
 pub lists_positioned : {S A E : Type 0} {it : S} (m : Contract S A E) (s : WithPosition S A E) (l : List (Result A E)) → with_position_parts s ≡ (it, (None, None)) → Lists m.steps it l → Lists (seen_as with_position_parts (with_position_contract m)).steps s (positioned l)
 lists_positioned {it = it} m s l parts i = lists_seen with_position_parts (with_position_contract m).steps s parts (held_list_is_positioned l) (gives_held_list m.steps position_asks (λ p a. p ≡ a) held_outcome next_held acts_by_next l it None None refl i.runs)
@@ -80,56 +80,56 @@ module _ {S A E : Type 0} (steps : S → Answered A E → S → Type 0) where
   kept_of_same_position x is = rw is refl
 
   -- after an item that is held
-  pub step_before_item : {s u : S} {due : Option (Option E)} (p : Bool × A) (x : A) {r : Position} → steps s (item x) u → r ≡ position_before_item p.0 → due ≡ None → StepsOfWithPosition (s, (Some p, None)) (item (r, p.1)) (u, (Some (true, x), due))
-  step_before_item p x {r = r} step is none = step_item steps position_asks x (r, p.1) step (kept_of_same_position p.1 is, refl) none
+  pub step_gives_held_before_item : {s u : S} {due : Option (Option E)} (p : Bool × A) (x : A) {r : Position} → steps s (item x) u → r ≡ position_before_item p.0 → due ≡ None → StepsOfWithPosition (s, (Some p, None)) (item (r, p.1)) (u, (Some (true, x), due))
+  step_gives_held_before_item p x {r = r} step is none = step_item steps position_asks x (r, p.1) step (kept_of_same_position p.1 is, refl) none
 
-  pub step_before_end : {s u : S} {held : Option (Bool × A)} (p : Bool × A) {r : Position} → steps s (Ok None) u → r ≡ position_before_stop p.0 → held ≡ None → StepsOfWithPosition (s, (Some p, None)) (item (r, p.1)) (u, (held, Some None))
-  step_before_end p {r = r} step is none = step_end steps position_asks step (Kept (r, p.1), (kept_of_same_position p.1 is, none), (refl, refl))
+  pub step_gives_held_before_end : {s u : S} {held : Option (Bool × A)} (p : Bool × A) {r : Position} → steps s (Ok None) u → r ≡ position_before_stop p.0 → held ≡ None → StepsOfWithPosition (s, (Some p, None)) (item (r, p.1)) (u, (held, Some None))
+  step_gives_held_before_end p {r = r} step is none = step_end steps position_asks step (Kept (r, p.1), (kept_of_same_position p.1 is, none), (refl, refl))
 
-  pub step_before_failure : {s u : S} {held : Option (Bool × A)} (p : Bool × A) (e : E) {r : Position} → steps s (Err e) u → r ≡ position_before_stop p.0 → held ≡ None → StepsOfWithPosition (s, (Some p, None)) (item (r, p.1)) (u, (held, Some (Some e)))
-  step_before_failure p e {r = r} step is none = step_failure steps position_asks e step (Kept (r, p.1), (kept_of_same_position p.1 is, none), (refl, refl))
+  pub step_gives_held_before_failure : {s u : S} {held : Option (Bool × A)} (p : Bool × A) (e : E) {r : Position} → steps s (Err e) u → r ≡ position_before_stop p.0 → held ≡ None → StepsOfWithPosition (s, (Some p, None)) (item (r, p.1)) (u, (held, Some (Some e)))
+  step_gives_held_before_failure p e {r = r} step is none = step_failure steps position_asks e step (Kept (r, p.1), (kept_of_same_position p.1 is, none), (refl, refl))
 
   -- where none is held
-  pub step_of_first : {s u : S} {r : Answered (Position × A) E} {v : StateOfWithPosition} (x : A) → steps s (item x) u → StepsOfWithPosition (u, (Some (false, x), None)) r v → StepsOfWithPosition (s, (None, None)) r v
-  step_of_first {s = s} {u = u} {r = r} {v = v} x step w = step_left_before steps position_asks s u None (Some (false, x)) x r v step (refl, refl) w
+  pub position_step_after_first_item : {s u : S} {r : Answered (Position × A) E} {v : StateOfWithPosition} (x : A) → steps s (item x) u → StepsOfWithPosition (u, (Some (false, x), None)) r v → StepsOfWithPosition (s, (None, None)) r v
+  position_step_after_first_item {s = s} {u = u} {r = r} {v = v} x step w = step_with_left_out_before steps position_asks s u None (Some (false, x)) x r v step (refl, refl) w
 
-  pub step_of_end : {s t : S} {held : Option (Bool × A)} {due : Option (Option E)} → held ≡ None → due ≡ None → steps s (Ok None) t → StepsOfWithPosition (s, (None, None)) (Ok None) (t, (held, due))
-  step_of_end none undue step = step_end steps position_asks step (End, (refl, none), (refl, undue))
+  pub position_step_ends_where_none_held : {s t : S} {held : Option (Bool × A)} {due : Option (Option E)} → held ≡ None → due ≡ None → steps s (Ok None) t → StepsOfWithPosition (s, (None, None)) (Ok None) (t, (held, due))
+  position_step_ends_where_none_held none undue step = step_end steps position_asks step (End, (refl, none), (refl, undue))
 
-  pub step_of_failure : {s t : S} {held : Option (Bool × A)} {due : Option (Option E)} (e : E) → held ≡ None → due ≡ None → steps s (Err e) t → StepsOfWithPosition (s, (None, None)) (Err e) (t, (held, due))
-  step_of_failure e none undue step = step_failure steps position_asks e step (End, (refl, none), (refl, undue))
+  pub position_step_fails_where_none_held : {s t : S} {held : Option (Bool × A)} {due : Option (Option E)} (e : E) → held ≡ None → due ≡ None → steps s (Err e) t → StepsOfWithPosition (s, (None, None)) (Err e) (t, (held, due))
+  position_step_fails_where_none_held e none undue step = step_failure steps position_asks e step (End, (refl, none), (refl, undue))
 
   -- what is held, if it is known
-  pub step_where_held : {s : S} {p held : Option (Bool × A)} {due : Option (Option E)} {r : Answered (Position × A) E} {v : StateOfWithPosition} → p ≡ held → None ≡ due → StepsOfWithPosition (s, (p, None)) r v → StepsOfWithPosition (s, (held, due)) r v
-  step_where_held {s = s} {p = p} {due = due} {r = r} {v = v} is none w = subst (λ (h : Option (Bool × A)). StepsOfWithPosition (s, (h, due)) r v) is (subst (λ (d : Option (Option E)). StepsOfWithPosition (s, (p, d)) r v) none w)
+  pub step_of_equal_held_and_no_due : {s : S} {p held : Option (Bool × A)} {due : Option (Option E)} {r : Answered (Position × A) E} {v : StateOfWithPosition} → p ≡ held → None ≡ due → StepsOfWithPosition (s, (p, None)) r v → StepsOfWithPosition (s, (held, due)) r v
+  step_of_equal_held_and_no_due {s = s} {p = p} {due = due} {r = r} {v = v} is none w = subst (λ (h : Option (Bool × A)). StepsOfWithPosition (s, (h, due)) r v) is (subst (λ (d : Option (Option E)). StepsOfWithPosition (s, (p, d)) r v) none w)
 
 -- ---- what the list is
 
 module _ {A E : Type 0} where
-  later_positioned : (z : A) (a : List A) (y : A) → positioned_at {E = E} (Some (true, z)) (map (λ x. Ok x) a ++ Ok y ∷ []) ≡ map (λ x. Ok (Middle, x)) (z ∷ a) ++ Ok (Last, y) ∷ []
+  positioned_of_later_is_middles_to_last : (z : A) (a : List A) (y : A) → positioned_at {E = E} (Some (true, z)) (map (λ x. Ok x) a ++ Ok y ∷ []) ≡ map (λ x. Ok (Middle, x)) (z ∷ a) ++ Ok (Last, y) ∷ []
   unfolding positioned_at
-  later_positioned z [] y = refl
-  later_positioned z (x ∷ a) y = ap (λ k. Ok (Middle, z) ∷ k) (later_positioned x a y)
+  positioned_of_later_is_middles_to_last z [] y = refl
+  positioned_of_later_is_middles_to_last z (x ∷ a) y = ap (λ k. Ok (Middle, z) ∷ k) (positioned_of_later_is_middles_to_last x a y)
 
-  first_positioned : (z : A) (a : List A) (y : A) → positioned_at {E = E} (Some (false, z)) (map (λ x. Ok x) a ++ Ok y ∷ []) ≡ Ok (First, z) ∷ map (λ x. Ok (Middle, x)) a ++ Ok (Last, y) ∷ []
+  positioned_of_first_is_first_to_last : (z : A) (a : List A) (y : A) → positioned_at {E = E} (Some (false, z)) (map (λ x. Ok x) a ++ Ok y ∷ []) ≡ Ok (First, z) ∷ map (λ x. Ok (Middle, x)) a ++ Ok (Last, y) ∷ []
   unfolding positioned_at
-  first_positioned z [] y = refl
-  first_positioned z (x ∷ a) y = ap (λ k. Ok (First, z) ∷ k) (later_positioned x a y)
+  positioned_of_first_is_first_to_last z [] y = refl
+  positioned_of_first_is_first_to_last z (x ∷ a) y = ap (λ k. Ok (First, z) ∷ k) (positioned_of_later_is_middles_to_last x a y)
 
   -- of two items or more the first is `First`, the last `Last`, and each between them `Middle`
-  pub several_positioned : (x : A) (a : List A) (y : A) → positioned {E = E} (Ok x ∷ map (λ z. Ok z) a ++ Ok y ∷ []) ≡ Ok (First, x) ∷ map (λ z. Ok (Middle, z)) a ++ Ok (Last, y) ∷ []
+  pub positioned_of_several_is_first_to_last : (x : A) (a : List A) (y : A) → positioned {E = E} (Ok x ∷ map (λ z. Ok z) a ++ Ok y ∷ []) ≡ Ok (First, x) ∷ map (λ z. Ok (Middle, z)) a ++ Ok (Last, y) ∷ []
   unfolding positioned positioned_at
-  several_positioned x a y = first_positioned x a y
+  positioned_of_several_is_first_to_last x a y = positioned_of_first_is_first_to_last x a y
 
   -- nothing is made of nothing
-  pub none_positioned : positioned {A = A} {E = E} [] ≡ []
+  pub positioned_of_empty_is_empty : positioned {A = A} {E = E} [] ≡ []
   unfolding positioned positioned_at
-  none_positioned = refl
+  positioned_of_empty_is_empty = refl
 
   -- one item alone is `Only`
-  pub one_positioned : (x : A) → positioned {E = E} (Ok x ∷ []) ≡ Ok (Only, x) ∷ []
+  pub positioned_of_one_is_only : (x : A) → positioned {E = E} (Ok x ∷ []) ≡ Ok (Only, x) ∷ []
   unfolding positioned positioned_at
-  one_positioned x = refl
+  positioned_of_one_is_only x = refl
 
 -- ---- its hint
 

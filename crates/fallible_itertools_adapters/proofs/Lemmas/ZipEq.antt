@@ -29,35 +29,35 @@ module _ {A B E : Type 0} (e : E) where
   paired (Ok None) = end
   paired (Err d) = failure d
 
-  first_paired : (l : List (Result (EitherOrBoth A B) E)) → paired (first_answer l) ≡ first_answer (map (pair_or e) l)
-  first_paired [] = refl
-  first_paired (Ok z ∷ l) = refl
-  first_paired (Err d ∷ l) = refl
+  paired_first_is_first_of_paired : (l : List (Result (EitherOrBoth A B) E)) → paired (first_answer l) ≡ first_answer (map (pair_or e) l)
+  paired_first_is_first_of_paired [] = refl
+  paired_first_is_first_of_paired (Ok z ∷ l) = refl
+  paired_first_is_first_of_paired (Err d ∷ l) = refl
 
-  rest_paired : (l : List (Result (EitherOrBoth A B) E)) → map (pair_or e) (rest_of l) ≡ rest_of (map (pair_or e) l)
-  rest_paired [] = refl
-  rest_paired (y ∷ l) = refl
+  paired_rest_is_rest_of_paired : (l : List (Result (EitherOrBoth A B) E)) → map (pair_or e) (rest_of l) ≡ rest_of (map (pair_or e) l)
+  paired_rest_is_rest_of_paired [] = refl
+  paired_rest_is_rest_of_paired (y ∷ l) = refl
 
   module _ {F : Type 0} (call : F → Unit {0} → E → F → Type 0) (takes : F → Type 0) (f : F) (acts : Acts call f (λ _. e)) where
-    pair_of_both : (g : F) (x : Option A) (y : Option B) (v : Option E) → AsksWhereAlone call f (one_is_alone x y) v g → (g ≡ f) × (pair_answer x y v ≡ paired (Ok (longest x y)))
-    pair_of_both g (Some x) (Some y) (Some d) m = absurd m
-    pair_of_both g (Some x) (Some y) None m = (m, refl)
-    pair_of_both g (Some x) None (Some d) m = let w = acts tt d g m in (w.0, ap Err w.1)
-    pair_of_both g (Some x) None None m = absurd m
-    pair_of_both g None (Some y) (Some d) m = let w = acts tt d g m in (w.0, ap Err w.1)
-    pair_of_both g None (Some y) None m = absurd m
-    pair_of_both g None None (Some d) m = absurd m
-    pair_of_both g None None None m = (m, refl)
+    pair_answer_is_paired_longest : (g : F) (x : Option A) (y : Option B) (v : Option E) → AsksWhereAlone call f (one_is_alone x y) v g → (g ≡ f) × (pair_answer x y v ≡ paired (Ok (longest x y)))
+    pair_answer_is_paired_longest g (Some x) (Some y) (Some d) m = absurd m
+    pair_answer_is_paired_longest g (Some x) (Some y) None m = (m, refl)
+    pair_answer_is_paired_longest g (Some x) None (Some d) m = let w = acts tt d g m in (w.0, ap Err w.1)
+    pair_answer_is_paired_longest g (Some x) None None m = absurd m
+    pair_answer_is_paired_longest g None (Some y) (Some d) m = let w = acts tt d g m in (w.0, ap Err w.1)
+    pair_answer_is_paired_longest g None (Some y) None m = absurd m
+    pair_answer_is_paired_longest g None None (Some d) m = absurd m
+    pair_answer_is_paired_longest g None None None m = (m, refl)
 
     lists_by_pair : ListsBy (pair_rule {A = A} {B = B} call takes) (λ g. g ≡ f) (λ a b. zipped_equal e a b)
     unfolding zipped_equal
     lists_by_pair = let by = lists_by_longest {A = A} {B = B} {E = E} in record {
-      left_fails = λ a b d is. let w = by.left_fails a b d is in (ap paired w.0 ∙ first_paired (zipped_longest a b), ap (map (pair_or e)) w.1 ∙ rest_paired (zipped_longest a b));
-      right_fails = λ a b x d is fails. let w = by.right_fails a b x d is fails in (ap paired w.0 ∙ first_paired (zipped_longest a b), ap (map (pair_or e)) w.1 ∙ rest_paired (zipped_longest a b));
+      left_fails = λ a b d is. let w = by.left_fails a b d is in (ap paired w.0 ∙ paired_first_is_first_of_paired (zipped_longest a b), ap (map (pair_or e)) w.1 ∙ paired_rest_is_rest_of_paired (zipped_longest a b));
+      right_fails = λ a b x d is fails. let w = by.right_fails a b x d is fails in (ap paired w.0 ∙ paired_first_is_first_of_paired (zipped_longest a b), ap (map (pair_or e)) w.1 ∙ paired_rest_is_rest_of_paired (zipped_longest a b));
       both_give = λ a b x y v k g q i j d.
           let w = by.both_give a b x y tt tt tt tt i j tt in
-          let said = pair_of_both g x y v (subst (λ (h : F). AsksWhereAlone call h (one_is_alone x y) v g) q d) in
-          (said.0, said.1 ∙ ap paired w.1 ∙ first_paired (zipped_longest a b), ap (map (pair_or e)) w.2 ∙ rest_paired (zipped_longest a b));
+          let said = pair_answer_is_paired_longest g x y v (subst (λ (h : F). AsksWhereAlone call h (one_is_alone x y) v g) q d) in
+          (said.0, said.1 ∙ ap paired w.1 ∙ paired_first_is_first_of_paired (zipped_longest a b), ap (map (pair_or e)) w.2 ∙ paired_rest_is_rest_of_paired (zipped_longest a b));
     }
 
 -- ---- hints
@@ -79,10 +79,10 @@ module _ {F A B E : Type 0} (call : F → Unit {0} → E → F → Type 0) (take
   takes_as_many_pair f g None (Some y) v z i j d is e k = absurd (failure_or_end_is_no_item v z is)
   takes_as_many_pair f g None None v z i j d is e k = absurd (failure_or_end_is_no_item v z is)
 
-  pair_of_each : (x : Option A) (y : Option B) (v : Option E) (z : A × B) (i j : ℕ) → pair_answer x y v ≡ item z → min ((held_count x - 0) + i) ((held_count y - 0) + j) ≤ min i j + 1
-  pair_of_each (Some x) (Some y) v z i j is = omega arith
-  pair_of_each (Some x) None v z i j is = absurd (failure_or_end_is_no_item v z is)
-  pair_of_each None y v z i j is = absurd (failure_or_end_is_no_item v z is)
+  min_falls_by_one_at_most_at_pair : (x : Option A) (y : Option B) (v : Option E) (z : A × B) (i j : ℕ) → pair_answer x y v ≡ item z → min ((held_count x - 0) + i) ((held_count y - 0) + j) ≤ min i j + 1
+  min_falls_by_one_at_most_at_pair (Some x) (Some y) v z i j is = omega arith
+  min_falls_by_one_at_most_at_pair (Some x) None v z i j is = absurd (failure_or_end_is_no_item v z is)
+  min_falls_by_one_at_most_at_pair None y v z i j is = absurd (failure_or_end_is_no_item v z is)
 
   end_of_both : (f g : F) (x : Option A) (y : Option B) (v : Option E) → AsksWhereAlone call f (one_is_alone x y) v g → pair_answer x y v ≡ end → (x ≡ None) × (y ≡ None)
   end_of_both f g (Some x) (Some y) v d is = absurd cc
@@ -93,7 +93,7 @@ module _ {F A B E : Type 0} (call : F → Unit {0} → E → F → Type 0) (take
   end_of_both f g None None v d is = (refl, refl)
 
   gives_as_many_pair : GivesAsMany (pair_rule {A = A} {B = B} call takes) min
-  gives_as_many_pair = record { item_given = λ f g x y v z i j d is. pair_of_each x y v z i j is; end_given = λ f g x y v d is. end_of_both f g x y v d is; nothing = refl }
+  gives_as_many_pair = record { item_given = λ f g x y v z i j d is. min_falls_by_one_at_most_at_pair x y v z i j is; end_given = λ f g x y v d is. end_of_both f g x y v d is; nothing = refl }
 
 module _ {S U F A B E : Type 0} (steps : S → Answered A E → S → Type 0) (others : U → Answered B E → U → Type 0) (call : F → Unit {0} → E → F → Type 0) (takes : F → Type 0) where
   abbrev PairSteps : (S × Option A) × (U × Option B) × F → Answered (A × B) E → (S × Option A) × (U × Option B) × F → Type 0
@@ -125,8 +125,8 @@ module _ {S U F A B E : Type 0} (steps : S → Answered A E → S → Type 0) (o
   abbrev of_parts : (Fuse S × Option A) × (Fuse U × Option B) × F → ZipEq S U F A E
   of_parts p = record { left = record { it = p.0.0; held = p.0.1 }; right = p.1.0; f = p.2 }
 
-  zip_eq_parts_of : (p : (Fuse S × Option A) × (Fuse U × Option B) × F) → p.1.1 ≡ None → zip_eq_parts (of_parts p) ≡ p
-  zip_eq_parts_of ((s, h), (u, k), f) e = rw e refl
+  zip_eq_parts_of_of_parts_is_itself : (p : (Fuse S × Option A) × (Fuse U × Option B) × F) → p.1.1 ≡ None → zip_eq_parts (of_parts p) ≡ p
+  zip_eq_parts_of_of_parts_is_itself ((s, h), (u, k), f) e = rw e refl
 
   pub zip_eq_law : TracesAre (zip_eq_parts {E = E}) (λ s r t. PairSteps (fused_steps steps) (fused_steps others) (call_of_none g) (takes_none g) (zip_eq_parts s) r (zip_eq_parts t)) (ZipEqTrace steps others g)
-  zip_eq_law = traces_are_of_sides (fused_steps steps) (fused_steps others) (pair_rule (call_of_none g) (takes_none g)) (λ x y v. refl) (zip_eq_parts {E = E}) of_parts (λ s. refl) (λ s. refl) zip_eq_parts_of
+  zip_eq_law = traces_are_of_sides (fused_steps steps) (fused_steps others) (pair_rule (call_of_none g) (takes_none g)) (λ x y v. refl) (zip_eq_parts {E = E}) of_parts (λ s. refl) (λ s. refl) zip_eq_parts_of_of_parts_is_itself

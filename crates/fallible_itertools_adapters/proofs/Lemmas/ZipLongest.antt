@@ -17,38 +17,38 @@ use Rattle.fallible_itertools_adapters.proofs.Lemmas.Sides.{first_answer, rest_o
 use Rattle.fallible_itertools_adapters.specs.declared.zip_longest.EitherOrBoth.{EitherOrBoth}
 use Rattle.fallible_itertools_adapters.specs.declared.zip_longest.ZipLongest.{ZipLongest}
 
-one_of_each : {A B : Type 0} (x : Option A) (y : Option B) (i j : ℕ) → max ((held_count x - 0) + i) ((held_count y - 0) + j) ≤ max i j + 1
-one_of_each (Some x) (Some y) i j = omega arith
-one_of_each (Some x) None i j = omega arith
-one_of_each None (Some y) i j = omega arith
-one_of_each None None i j = omega arith
+max_falls_by_one_at_most : {A B : Type 0} (x : Option A) (y : Option B) (i j : ℕ) → max ((held_count x - 0) + i) ((held_count y - 0) + j) ≤ max i j + 1
+max_falls_by_one_at_most (Some x) (Some y) i j = omega arith
+max_falls_by_one_at_most (Some x) None i j = omega arith
+max_falls_by_one_at_most None (Some y) i j = omega arith
+max_falls_by_one_at_most None None i j = omega arith
 
 -- where each side that still has items gives one, the greater number of them goes down
-longest_takes_one : {A B C : Type 0} (x : Option A) (y : Option B) (i j : ℕ) (z : C) → IfEnded x i → IfEnded y j → (x ≡ None → y ≡ None → ⊥) → max i j + 1 ≤ max ((held_count x - 0) + i) ((held_count y - 0) + j)
-longest_takes_one (Some x) (Some y) i j z e k some = omega arith
-longest_takes_one (Some x) None i j z e k some = omega (arith, k)
-longest_takes_one None (Some y) i j z e k some = omega (arith, e)
-longest_takes_one None None i j z e k some = absurd (some refl refl)
+max_falls_by_one_at_least : {A B C : Type 0} (x : Option A) (y : Option B) (i j : ℕ) (z : C) → IfEnded x i → IfEnded y j → (x ≡ None → y ≡ None → ⊥) → max i j + 1 ≤ max ((held_count x - 0) + i) ((held_count y - 0) + j)
+max_falls_by_one_at_least (Some x) (Some y) i j z e k some = omega arith
+max_falls_by_one_at_least (Some x) None i j z e k some = omega (arith, k)
+max_falls_by_one_at_least None (Some y) i j z e k some = omega (arith, e)
+max_falls_by_one_at_least None None i j z e k some = absurd (some refl refl)
 
-greater_above : (a b : Option ℕ) (i j n : ℕ) → n ≤ max i j → IfSome a (λ m. i ≤ m) → IfSome b (λ m. j ≤ m) → IfSome (greater_bound a b) (λ m. n ≤ m)
-greater_above (Some x) (Some y) i j n few le also = omega (arith, few, le, also)
-greater_above (Some x) None i j n few le also = tt
-greater_above None b i j n few le also = tt
+greater_bound_is_above_max : (a b : Option ℕ) (i j n : ℕ) → n ≤ max i j → IfSome a (λ m. i ≤ m) → IfSome b (λ m. j ≤ m) → IfSome (greater_bound a b) (λ m. n ≤ m)
+greater_bound_is_above_max (Some x) (Some y) i j n few le also = omega (arith, few, le, also)
+greater_bound_is_above_max (Some x) None i j n few le also = tt
+greater_bound_is_above_max None b i j n few le also = tt
 
 module _ {A B E : Type 0} where
-  zipped_longest_left_failure : (a : List (Result A E)) (b : List (Result B E)) (e : E) → failure e ≡ first_answer a → (failure e ≡ first_answer (zipped_longest a b)) × (zipped_longest (rest_of a) b ≡ rest_of (zipped_longest a b))
+  zipped_longest_fails_where_left_fails : (a : List (Result A E)) (b : List (Result B E)) (e : E) → failure e ≡ first_answer a → (failure e ≡ first_answer (zipped_longest a b)) × (zipped_longest (rest_of a) b ≡ rest_of (zipped_longest a b))
   unfolding zipped_longest
-  zipped_longest_left_failure [] b e is = absurd cc
-  zipped_longest_left_failure (Ok x ∷ a) b e is = absurd cc
-  zipped_longest_left_failure (Err d ∷ a) b e is = let same : e ≡ d = cc in (ap Err same, refl)
+  zipped_longest_fails_where_left_fails [] b e is = absurd cc
+  zipped_longest_fails_where_left_fails (Ok x ∷ a) b e is = absurd cc
+  zipped_longest_fails_where_left_fails (Err d ∷ a) b e is = let same : e ≡ d = cc in (ap Err same, refl)
 
-  zipped_longest_right_failure : (a : List (Result A E)) (b : List (Result B E)) (x : Option A) (e : E) → Ok x ≡ first_answer a → failure e ≡ first_answer b → (failure e ≡ first_answer (zipped_longest a b)) × (zipped_longest (left_over x a) (rest_of b) ≡ rest_of (zipped_longest a b))
+  zipped_longest_fails_where_right_fails : (a : List (Result A E)) (b : List (Result B E)) (x : Option A) (e : E) → Ok x ≡ first_answer a → failure e ≡ first_answer b → (failure e ≡ first_answer (zipped_longest a b)) × (zipped_longest (left_over x a) (rest_of b) ≡ rest_of (zipped_longest a b))
   unfolding zipped_longest
-  zipped_longest_right_failure a [] x e is fails = absurd cc
-  zipped_longest_right_failure a (Ok y ∷ b) x e is fails = absurd cc
-  zipped_longest_right_failure [] (Err d ∷ b) x e is fails = let no : x ≡ None = cc in let same : e ≡ d = cc in rw no (ap Err same, refl)
-  zipped_longest_right_failure (Ok y ∷ a) (Err d ∷ b) x e is fails = let here : x ≡ Some y = cc in let same : e ≡ d = cc in rw here (ap Err same, refl)
-  zipped_longest_right_failure (Err c ∷ a) (Err d ∷ b) x e is fails = absurd cc
+  zipped_longest_fails_where_right_fails a [] x e is fails = absurd cc
+  zipped_longest_fails_where_right_fails a (Ok y ∷ b) x e is fails = absurd cc
+  zipped_longest_fails_where_right_fails [] (Err d ∷ b) x e is fails = let no : x ≡ None = cc in let same : e ≡ d = cc in rw no (ap Err same, refl)
+  zipped_longest_fails_where_right_fails (Ok y ∷ a) (Err d ∷ b) x e is fails = let here : x ≡ Some y = cc in let same : e ≡ d = cc in rw here (ap Err same, refl)
+  zipped_longest_fails_where_right_fails (Err c ∷ a) (Err d ∷ b) x e is fails = absurd cc
 
   zipped_longest_of_both : (a : List (Result A E)) (b : List (Result B E)) (x : Option A) (y : Option B) → Ok x ≡ first_answer a → Ok y ≡ first_answer b → (Ok (longest x y) ≡ first_answer (zipped_longest a b)) × (zipped_longest (rest_of a) (rest_of b) ≡ rest_of (zipped_longest a b))
   unfolding zipped_longest
@@ -61,7 +61,7 @@ module _ {A B E : Type 0} where
   zipped_longest_of_both (Ok z ∷ a) (Ok w ∷ b) x y i k = let m : x ≡ Some z = cc in let n : y ≡ Some w = cc in rw (m, n) (refl, refl)
 
   pub lists_by_longest : ListsBy (longest_rule {A = A} {B = B} {E = E}) (λ f. ⊤) zipped_longest
-  lists_by_longest = record { left_fails = zipped_longest_left_failure; right_fails = zipped_longest_right_failure; both_give = λ a b x y v f g q i k d. let w = zipped_longest_of_both a b x y i k in (tt, w.0, w.1) }
+  lists_by_longest = record { left_fails = zipped_longest_fails_where_left_fails; right_fails = zipped_longest_fails_where_right_fails; both_give = λ a b x y v f g q i k d. let w = zipped_longest_of_both a b x y i k in (tt, w.0, w.1) }
 
   -- ---- hints
 
@@ -71,16 +71,16 @@ module _ {A B E : Type 0} where
   end_of_both None (Some y) is = absurd cc
   end_of_both None None is = (refl, refl)
 
-  item_of_one : (x : Option A) (y : Option B) (z : EitherOrBoth A B) → ◌≡◌ {A = Answered (EitherOrBoth A B) E} (Ok (longest x y)) (item z) → x ≡ None → y ≡ None → ⊥
-  item_of_one (Some x) y z is e k = absurd cc
-  item_of_one None (Some y) z is e k = absurd cc
-  item_of_one None None z is e k = absurd cc
+  no_longest_item_where_both_none : (x : Option A) (y : Option B) (z : EitherOrBoth A B) → ◌≡◌ {A = Answered (EitherOrBoth A B) E} (Ok (longest x y)) (item z) → x ≡ None → y ≡ None → ⊥
+  no_longest_item_where_both_none (Some x) y z is e k = absurd cc
+  no_longest_item_where_both_none None (Some y) z is e k = absurd cc
+  no_longest_item_where_both_none None None z is e k = absurd cc
 
   takes_as_many_longest : TakesAsMany (longest_rule {A = A} {B = B} {E = E}) max
-  takes_as_many_longest f g x y v z i j d is e k = longest_takes_one x y i j z e k (item_of_one x y z is)
+  takes_as_many_longest f g x y v z i j d is e k = max_falls_by_one_at_least x y i j z e k (no_longest_item_where_both_none x y z is)
 
   gives_as_many_longest : GivesAsMany (longest_rule {A = A} {B = B} {E = E}) max
-  gives_as_many_longest = record { item_given = λ f g x y v z i j d is. one_of_each x y i j; end_given = λ f g x y v d is. end_of_both x y is; nothing = refl }
+  gives_as_many_longest = record { item_given = λ f g x y v z i j d is. max_falls_by_one_at_most x y i j; end_given = λ f g x y v d is. end_of_both x y is; nothing = refl }
 
 module _ {S U A B E : Type 0} (steps : S → Answered A E → S → Type 0) (others : U → Answered B E → U → Type 0) where
   abbrev ZippedSteps : (S × Option A) × (U × Option B) × Unit {0} → Answered (EitherOrBoth A B) E → (S × Option A) × (U × Option B) × Unit {0} → Type 0
@@ -92,7 +92,7 @@ module _ {S U A B E : Type 0} (steps : S → Answered A E → S → Type 0) (oth
         let b = both_come steps others once once_right longest_rule max takes_as_many_longest is_lawful_rule_longest zs p q ran in
         let high = side_hint_above p.0.1 g b.of_left _ b.left.many (i b.left.came b.left.left b.left.ran) in
         let also = side_hint_above p.1.1 k b.of_right _ b.right.many (j b.right.came b.right.left b.right.ran) in
-        greater_above (side_hint p.0.1 g).1 (side_hint p.1.1 k).1 b.of_left b.of_right _ b.few high also;
+        greater_bound_is_above_max (side_hint p.0.1 g).1 (side_hint p.1.1 k).1 b.of_left b.of_right _ b.few high also;
     below = λ i j zs q r ran w.
         let b = both_end steps others longest_rule max gives_as_many_longest is_lawful_rule_longest zs p q r ran w in
         let low = side_hint_below p.0.1 g b.of_left _ (i b.left.came b.left.left b.left.last b.left.ran b.left.ended) b.left.few in
@@ -115,8 +115,8 @@ module _ {S U A B E : Type 0} (steps : S → Answered A E → S → Type 0) (oth
   abbrev of_parts : SidesHere → ZipLongest S U A E
   of_parts p = record { left = record { it = p.0.0; held = p.0.1 }; right = p.1.0 }
 
-  zip_longest_parts_of : (p : SidesHere) → p.1.1 ≡ None → zip_longest_parts (of_parts p) ≡ p
-  zip_longest_parts_of ((s, h), (u, k), f) e = rw e refl
+  zip_longest_parts_of_of_parts_is_itself : (p : SidesHere) → p.1.1 ≡ None → zip_longest_parts (of_parts p) ≡ p
+  zip_longest_parts_of_of_parts_is_itself ((s, h), (u, k), f) e = rw e refl
 
   pub zip_longest_law : TracesAre (zip_longest_parts {E = E}) (λ s r t. ZippedSteps (fused_steps steps) (fused_steps others) (zip_longest_parts s) r (zip_longest_parts t)) (ZipLongestTrace steps others)
-  zip_longest_law = traces_are_of_sides (fused_steps steps) (fused_steps others) longest_rule (λ x y v. refl) (zip_longest_parts {E = E}) of_parts (λ s. refl) (λ s. refl) zip_longest_parts_of
+  zip_longest_law = traces_are_of_sides (fused_steps steps) (fused_steps others) longest_rule (λ x y v. refl) (zip_longest_parts {E = E}) of_parts (λ s. refl) (λ s. refl) zip_longest_parts_of_of_parts_is_itself

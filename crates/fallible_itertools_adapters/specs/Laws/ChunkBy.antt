@@ -6,11 +6,11 @@ use Rattle.std.specs.List.{FoldsTo}
 use Rattle.std.proofs.Common.{ap, subst, sym, arith}
 use Rattle.fallible_iterator.specs.Contract.{Contract, Lawful}
 use Rattle.fallible_iterator.specs.Closures.{IsCallable, Reaches, call_by_reference, takes_by_reference}
-use Rattle.fallible_iterator.specs.Laws.Closures.{is_callable_after, reaches_reflexive, reaches_from}
+use Rattle.fallible_iterator.specs.Laws.Closures.{is_callable_after, reaches_reflexive, reaches_by_call_first}
 use Rattle.fallible_iterator.specs.Traces.{Answered}
 use Rattle.fallible_itertools_adapters.specs.Holding.{Holds, HeldAfter, MayBeAsked, OrStop, held_one, holding_meets, one_at_least}
 use Rattle.fallible_itertools_adapters.specs.ChunkBy.{Group, group_at, group_begun, group_grown, group_by, group_at_stop, group_held, chunk_by_asks, chunk_by_contract, key_takes}
-use Rattle.fallible_itertools_adapters.specs.Laws.Holding.{after_met, lawful_holding_where}
+use Rattle.fallible_itertools_adapters.specs.Laws.Holding.{invariant_holds_after_met, lawful_holding_where}
 use Rattle.fallible_itertools_adapters.specs.Laws.Staging.{kept_where_reached}
 use Rattle.fallible_iterator.specs.Outcome.{Outcome}
 use Rattle.fallible_iterator.specs.Outcome.TheVariants.{Kept, LeftOut, Failure, End}
@@ -55,13 +55,13 @@ module _ {A K E : Type 0} (from : AllocError → E → Type 0) (eq : K → K →
     AskedOf P p c q = OrStop P c.0 × chunk_by_asks from eq g p c.0 c.1 q
 
     -- what the adapter was called on called the closure on items alone
-    reaches_keys : (P : A → Type 0) (made : List (Option A × Outcome (Group K A) E)) (p q : F × Option (Group K A)) → FoldsTo (AskedOf P) p made q → Reaches (call_by_reference g) P p.0 q.0
-    reaches_keys P [] p q w = subst (λ (f : F). Reaches (call_by_reference g) P p.0 f) (ap (λ (k : F × Option (Group K A)). k.0) w) reaches_reflexive
-    reaches_keys P ((Some x, o) ∷ made) p q w = let k = w.1.1 in reaches_from x k.0 w.1.0 k.1 (reaches_keys P made w.0 q w.2)
-    reaches_keys P ((None, o) ∷ made) p q w = let k = w.1.1 in subst (λ (f : F). Reaches (call_by_reference g) P f q.0) k.0 (reaches_keys P made w.0 q w.2)
+    closure_reaches_where_asked_of_items : (P : A → Type 0) (made : List (Option A × Outcome (Group K A) E)) (p q : F × Option (Group K A)) → FoldsTo (AskedOf P) p made q → Reaches (call_by_reference g) P p.0 q.0
+    closure_reaches_where_asked_of_items P [] p q w = subst (λ (f : F). Reaches (call_by_reference g) P p.0 f) (ap (λ (k : F × Option (Group K A)). k.0) w) reaches_reflexive
+    closure_reaches_where_asked_of_items P ((Some x, o) ∷ made) p q w = let k = w.1.1 in reaches_by_call_first x k.0 w.1.0 k.1 (closure_reaches_where_asked_of_items P made w.0 q w.2)
+    closure_reaches_where_asked_of_items P ((None, o) ∷ made) p q w = let k = w.1.1 in subst (λ (f : F). Reaches (call_by_reference g) P f q.0) k.0 (closure_reaches_where_asked_of_items P made w.0 q w.2)
 
     key_takes_asked : (P : A → Type 0) (p q : F × Option (Group K A)) (asked : Option A) → IsCallable (call_by_reference g) (takes_by_reference g) P p.0 → Reaches (chunk_by_asks from eq g) (OrStop P) p q → OrStop P asked → key_takes g q asked
-    key_takes_asked P p q (Some x) c r may = c.at q.0 x (reaches_keys P r.made p q r.by) may
+    key_takes_asked P p q (Some x) c r may = c.at q.0 x (closure_reaches_where_asked_of_items P r.made p q r.by) may
     key_takes_asked P p q None c r may = tt
 
     -- if the closure may be called on what comes, the adapter may be
@@ -69,15 +69,15 @@ module _ {A K E : Type 0} (from : AllocError → E → Type 0) (eq : K → K →
     is_callable_asked m s p c = record { at = λ q asked r may. key_takes_asked (m.may_give s) p q asked c r may }
 
     -- where the closure may be called on what comes, it may be after what an answer makes
-    keys_asked : (P : A → Type 0) (p q : F × Option (Group K A)) (asked : Option A) (o : Outcome (Group K A) E) → OrStop P asked → chunk_by_asks from eq g p asked o q → IsCallable (call_by_reference g) (takes_by_reference g) P p.0 → IsCallable (call_by_reference g) (takes_by_reference g) P q.0
-    keys_asked P p q (Some x) o given w c = is_callable_after (λ y k. k) (reaches_from x w.0 given w.1 reaches_reflexive) c
-    keys_asked P p q None o given w c = subst (λ (f : F). IsCallable (call_by_reference g) (takes_by_reference g) P f) (sym w.0) c
+    keys_callable_after_asked : (P : A → Type 0) (p q : F × Option (Group K A)) (asked : Option A) (o : Outcome (Group K A) E) → OrStop P asked → chunk_by_asks from eq g p asked o q → IsCallable (call_by_reference g) (takes_by_reference g) P p.0 → IsCallable (call_by_reference g) (takes_by_reference g) P q.0
+    keys_callable_after_asked P p q (Some x) o given w c = is_callable_after (λ y k. k) (reaches_by_call_first x w.0 given w.1 reaches_reflexive) c
+    keys_callable_after_asked P p q None o given w c = subst (λ (f : F). IsCallable (call_by_reference g) (takes_by_reference g) P f) (sym w.0) c
 
     abbrev KeysCallable : (Answered A E → Type 0) → F × Option (Group K A) → Type 0
     KeysCallable Q p = IsCallable (call_by_reference g) (takes_by_reference g) (λ x. Q (Ok (Some x))) p.0
 
     keys_stay : (Q R : Answered A E → Type 0) (p q : F × Option (Group K A)) → ((a : Answered A E) → R a → Q a) → Reaches (holding_meets (chunk_by_asks from eq g)) Q p q → KeysCallable Q p → KeysCallable R q
-    keys_stay Q R p q weak reached c = is_callable_after (λ x. weak (Ok (Some x))) reaches_reflexive (kept_where_reached (KeysCallable Q) (after_met (chunk_by_asks from eq g) (KeysCallable Q) Q (keys_asked (λ x. Q (Ok (Some x))))) reached c)
+    keys_stay Q R p q weak reached c = is_callable_after (λ x. weak (Ok (Some x))) reaches_reflexive (kept_where_reached (KeysCallable Q) (invariant_holds_after_met (chunk_by_asks from eq g) (KeysCallable Q) Q (keys_callable_after_asked (λ x. Q (Ok (Some x))))) reached c)
 
     pub lawful_chunk_by : {S : Type 0} {m : Contract S A E} → Lawful m → Lawful (chunk_by_contract from eq g m)
     lawful_chunk_by {m = m} l = lawful_holding_where (chunk_by_asks from eq g) (key_takes g) group_held (one_at_least m group_held) holds_chunk_by KeysCallable keys_stay l

@@ -11,14 +11,14 @@ use Rattle.fallible_itertools_adapters.specs.Laws.Holding.{lawful_holding}
 use Rattle.fallible_iterator.specs.Outcome.{Outcome}
 
 module _ {A F E : Type 0} (call : F → A → A → Result Bool E → F → Type 0) where
-  holds_found : (y x : A) (v : Result Bool E) (o : Outcome A E) (q : Option A) → found_same y x v o q → HeldAfter 1 (Some x) o (held_one q)
-  holds_found y x (Ok true) o q (is, at) = rw (is, at) (omega arith)
-  holds_found y x (Ok false) o q (is, at) = rw (is, at) (omega arith)
-  holds_found y x (Err e) o q (is, at) = rw (is, at) (omega arith)
+  held_after_of_found_same : (y x : A) (v : Result Bool E) (o : Outcome A E) (q : Option A) → found_same y x v o q → HeldAfter 1 (Some x) o (held_one q)
+  held_after_of_found_same y x (Ok true) o q (is, at) = rw (is, at) (omega arith)
+  held_after_of_found_same y x (Ok false) o q (is, at) = rw (is, at) (omega arith)
+  held_after_of_found_same y x (Err e) o q (is, at) = rw (is, at) (omega arith)
 
   pub holds_dedup_by : Holds {E = E} (dedup_by_asks call) held_beside
   holds_dedup_by (None, f) (Some x) o q (is, at) = rw (is, at) (omega arith)
-  holds_dedup_by (Some y, f) (Some x) o q w = holds_found y x w.0 o q.0 w.2
+  holds_dedup_by (Some y, f) (Some x) o q w = held_after_of_found_same y x w.0 o q.0 w.2
   holds_dedup_by (None, f) None o q (is, at) = rw (is, at) (omega arith)
   holds_dedup_by (Some y, f) None o q (is, at) = rw (is, at) (omega arith)
 

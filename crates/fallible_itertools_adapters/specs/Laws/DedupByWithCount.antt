@@ -7,13 +7,13 @@ use Rattle.fallible_iterator.specs.Contract.{Contract, Lawful}
 use Rattle.fallible_iterator.specs.Picking.{call_at_two, takes_at_two}
 use Rattle.fallible_itertools_adapters.specs.Holding.{Holds, held_beside, one_at_least}
 use Rattle.fallible_itertools_adapters.specs.DedupByWithCount.{dedup_by_with_count_asks, dedup_by_with_count_contract, dedup_by_with_count_takes}
-use Rattle.fallible_itertools_adapters.specs.Laws.DedupWithCount.{holds_counted}
+use Rattle.fallible_itertools_adapters.specs.Laws.DedupWithCount.{held_after_of_counted_same}
 use Rattle.fallible_itertools_adapters.specs.Laws.Holding.{lawful_holding}
 
 module _ {A F E : Type 0} (call : F → A → A → Result Bool E → F → Type 0) where
   pub holds_dedup_by_with_count : Holds {E = E} (dedup_by_with_count_asks call) held_beside
   holds_dedup_by_with_count (None, f) (Some x) o q (is, at) = rw (is, at) (omega arith)
-  holds_dedup_by_with_count (Some p, f) (Some x) o q w = holds_counted p x w.0 o q.0 w.2
+  holds_dedup_by_with_count (Some p, f) (Some x) o q w = held_after_of_counted_same p x w.0 o q.0 w.2
   holds_dedup_by_with_count (None, f) None o q (is, at) = rw (is, at) (omega arith)
   holds_dedup_by_with_count (Some p, f) None o q (is, at) = rw (is, at) (omega arith)
 

@@ -8,15 +8,15 @@ use Rattle.fallible_itertools_adapters.specs.RunCounts.{counted_same}
 use Rattle.fallible_itertools_adapters.specs.Laws.Holding.{lawful_holding}
 use Rattle.fallible_iterator.specs.Outcome.{Outcome}
 
-pub holds_counted : {A E : Type 0} (p : ℕ × A) (x : A) (v : Result Bool E) (o : Outcome (ℕ × A) E) (q : Option (ℕ × A)) → counted_same p x v o q → HeldAfter 1 (Some x) o (held_one q)
-holds_counted p x (Ok true) o q (is, at) = rw (is, at) (omega arith)
-holds_counted p x (Ok false) o q (is, at) = rw (is, at) (omega arith)
-holds_counted p x (Err e) o q (is, at) = rw (is, at) (omega arith)
+pub held_after_of_counted_same : {A E : Type 0} (p : ℕ × A) (x : A) (v : Result Bool E) (o : Outcome (ℕ × A) E) (q : Option (ℕ × A)) → counted_same p x v o q → HeldAfter 1 (Some x) o (held_one q)
+held_after_of_counted_same p x (Ok true) o q (is, at) = rw (is, at) (omega arith)
+held_after_of_counted_same p x (Ok false) o q (is, at) = rw (is, at) (omega arith)
+held_after_of_counted_same p x (Err e) o q (is, at) = rw (is, at) (omega arith)
 
 module _ {A E : Type 0} (eq : A → A → Bool) where
   pub holds_dedup_with_count : Holds {E = E} (dedup_with_count_asks eq) held_one
   holds_dedup_with_count None (Some x) o q (is, at) = rw (is, at) (omega arith)
-  holds_dedup_with_count (Some p) (Some x) o q w = holds_counted p x (Ok (eq p.1 x)) o q w
+  holds_dedup_with_count (Some p) (Some x) o q w = held_after_of_counted_same p x (Ok (eq p.1 x)) o q w
   holds_dedup_with_count None None o q (is, at) = rw (is, at) (omega arith)
   holds_dedup_with_count (Some p) None o q (is, at) = rw (is, at) (omega arith)
 

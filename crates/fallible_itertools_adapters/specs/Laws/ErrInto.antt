@@ -10,12 +10,12 @@ use Rattle.fallible_itertools_adapters.specs.ErrInto.{convert_call, err_into_con
 
 module _ {D E : Type 0} (from : D → E → Type 0) where
   -- a conversion may be made of any failure
-  pub always_converts : {P : D → Type 0} {u : Unit {0}} → IsCallable (convert_call from) (λ v d. ⊤) P u
-  always_converts = record { at = λ v d reached given. tt }
+  pub convert_call_is_callable : {P : D → Type 0} {u : Unit {0}} → IsCallable (convert_call from) (λ v d. ⊤) P u
+  convert_call_is_callable = record { at = λ v d reached given. tt }
 
   module _ {S X : Type 0} where
     kept_by_draw_converted : (m : Contract S X D) → Lawful (failing_contract m (convert_call from) (λ u d. ⊤)) → (p : S × Unit {0}) (r : Answered X E) (q : S × Unit {0}) → m.can_next p.0 → (err_into_contract from m).steps p r q → KeptByDraw (err_into_contract from m) p r q
-    kept_by_draw_converted m l p r q can step = let k = l.kept_by_draw p r q (can, always_converts) step in record { can_next = k.can_next.0; is_finite = k.is_finite; answer = k.answer; may_give = k.may_give; may_fail = k.may_fail; lenders = k.lenders }
+    kept_by_draw_converted m l p r q can step = let k = l.kept_by_draw p r q (can, convert_call_is_callable) step in record { can_next = k.can_next.0; is_finite = k.is_finite; answer = k.answer; may_give = k.may_give; may_fail = k.may_fail; lenders = k.lenders }
 
     pub lawful_err_into : {m : Contract S X D} → Lawful m → Lawful (err_into_contract from m)
     lawful_err_into {m = m} l = let f = lawful_failing (convert_call from) (λ u d. ⊤) l in record { kept_by_draw = kept_by_draw_converted m f; bounded = f.bounded }

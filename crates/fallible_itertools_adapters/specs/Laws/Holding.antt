@@ -4,10 +4,10 @@ use Rattle.std.proofs.Common.{refl, ap, arith}
 use Rattle.fallible_iterator.specs.Traces.{Answered, item, failure}
 use Rattle.fallible_iterator.specs.Contract.{Contract, KeptByDraw, Lawful}
 use Rattle.fallible_iterator.specs.Closures.{Reaches, IsCallable}
-use Rattle.fallible_iterator.specs.Laws.Closures.{reaches_reflexive, reaches_from, is_callable_after}
+use Rattle.fallible_iterator.specs.Laws.Closures.{reaches_reflexive, reaches_by_call_first, is_callable_after}
 use Rattle.fallible_iterator.specs.Laws.Passing.{Passes, done, end_passes, failure_passes, keeps, refuses, closes, leaves_out, passes_of_pass_trace}
 use Rattle.fallible_itertools_adapters.specs.Staging.{Made, DrawsUpTo, yields, passes_over, IsStage, IsStop, MayMeet, Weighs, due_total, items_of, stays_of, stage_contract, stage_meets, stage_step, stop_answer}
-use Rattle.fallible_itertools_adapters.specs.Laws.Staging.{kept_where_reached, lawful_stage, parts_made}
+use Rattle.fallible_itertools_adapters.specs.Laws.Staging.{kept_where_reached, lawful_stage, made_equal_where_parts_equal}
 use Rattle.fallible_itertools_adapters.specs.Holding.{asks_item, as_answered_item, BeforeStop, AnswersAfter, StopMade, MadeOfStop, MadeOfItem, HeldAfter, Holds, OrStop, due_answer, made_answers, stop_comes, holding_meets, holding_step, filling_contract, holding_contract}
 use Rattle.fallible_iterator.specs.Outcome.{Outcome}
 use Rattle.fallible_iterator.specs.Outcome.TheVariants.{Kept, LeftOut, Failure, End}
@@ -25,31 +25,31 @@ due_is_known_by_answer B (Some (Some c)) (Some None) e = absurd cc
 due_is_known_by_answer B (Some (Some c)) (Some (Some d)) e = let same : c ≡ d = cc in ap (λ x. Some (Some x)) same
 
 -- a stop is no item, whichever the items are
-stop_counts : (X B : Type 0) {E : Type 0} (stop : Option E) → (due_total {B = B} stop_comes items_of (Some stop) ≡ 0) × (due_total {B = B} stop_comes stays_of (Some stop) ≡ stays_of (stop_answer {B = X} stop)) × IsStop (stop_answer {B = B} stop)
-stop_counts X B None = (refl, refl, tt)
-stop_counts X B (Some e) = (refl, refl, tt)
+due_stop_has_no_items_and_is_stop : (X B : Type 0) {E : Type 0} (stop : Option E) → (due_total {B = B} stop_comes items_of (Some stop) ≡ 0) × (due_total {B = B} stop_comes stays_of (Some stop) ≡ stays_of (stop_answer {B = X} stop)) × IsStop (stop_answer {B = B} stop)
+due_stop_has_no_items_and_is_stop X B None = (refl, refl, tt)
+due_stop_has_no_items_and_is_stop X B (Some e) = (refl, refl, tt)
 
 module _ {B E : Type 0} where
   -- and what is made by its answers
   pub made_is_known_by_answers : (m : Made B (Option E) E) (r : Answered B E) (due : Option (Option E)) → made_answers m ≡ r ∷ due_answer due → m ≡ Some (r, due)
   made_is_known_by_answers None r due is = absurd cc
-  made_is_known_by_answers (Some (a, later)) r due is = let same : a ≡ r = cc in let rest : due_answer {B = B} later ≡ due_answer due = cc in parts_made same (due_is_known_by_answer B later due rest)
+  made_is_known_by_answers (Some (a, later)) r due is = let same : a ≡ r = cc in let rest : due_answer {B = B} later ≡ due_answer due = cc in made_equal_where_parts_equal same (due_is_known_by_answer B later due rest)
 
-  pub nothing_made : (m : Made B (Option E) E) → made_answers m ≡ [] → m ≡ None
-  nothing_made None is = refl
-  nothing_made (Some (a, later)) is = absurd cc
+  pub made_is_none_where_no_answers : (m : Made B (Option E) E) → made_answers m ≡ [] → m ≡ None
+  made_is_none_where_no_answers None is = refl
+  made_is_none_where_no_answers (Some (a, later)) is = absurd cc
 
   weighs_stop : (X : Type 0) (before after : ℕ) (stop : Option E) (o : Outcome B E) (made : Made B (Option E) E) → HeldAfter {X = X} before None o after → StopMade stop o (made_answers made) → Weighs stop_comes {X = X} {D = E} 1 before (stop_answer stop) made after
-  weighs_stop X before after stop (Kept y) made h m = rw (made_is_known_by_answers made (item y) (Some stop) m) (let k = stop_counts X B stop in (omega (arith, h, k.0), omega (arith, h, k.1), λ s. k.2))
-  weighs_stop X before after stop (Failure d) made h m = rw (made_is_known_by_answers made (failure d) (Some stop) m) (let k = stop_counts X B stop in (omega (arith, h, k.0), omega (arith, h, k.1), λ s. k.2))
-  weighs_stop X before after stop End made h m = rw (made_is_known_by_answers made (stop_answer stop) None m) (let k = stop_counts X B stop in let none : items_of (stop_answer {B = B} stop) ≡ 0 = k.0 in let same : stays_of (stop_answer {B = B} stop) ≡ stays_of (stop_answer {B = X} stop) = k.1 in (omega (arith, h, none), omega (arith, h, same), λ s. k.2))
+  weighs_stop X before after stop (Kept y) made h m = rw (made_is_known_by_answers made (item y) (Some stop) m) (let k = due_stop_has_no_items_and_is_stop X B stop in (omega (arith, h, k.0), omega (arith, h, k.1), λ s. k.2))
+  weighs_stop X before after stop (Failure d) made h m = rw (made_is_known_by_answers made (failure d) (Some stop) m) (let k = due_stop_has_no_items_and_is_stop X B stop in (omega (arith, h, k.0), omega (arith, h, k.1), λ s. k.2))
+  weighs_stop X before after stop End made h m = rw (made_is_known_by_answers made (stop_answer stop) None m) (let k = due_stop_has_no_items_and_is_stop X B stop in let none : items_of (stop_answer {B = B} stop) ≡ 0 = k.0 in let same : stays_of (stop_answer {B = B} stop) ≡ stays_of (stop_answer {B = X} stop) = k.1 in (omega (arith, h, none), omega (arith, h, same), λ s. k.2))
   weighs_stop X before after stop LeftOut made h m = absurd m
 
 module _ {P X B E : Type 0} (asks : P → Option X → Outcome B E → P → Type 0) where
   module _ (held : P → ℕ) (weighs : Holds asks held) where
     weighs_item : (p h q : P) (x : X) (o : Outcome B E) (made : Made B (Option E) E) → HeldAfter (held p) (Some x) o (held h) → MadeOfItem asks o h (made_answers made) q → Weighs stop_comes {D = E} 1 (held p) (Ok (Some x)) made (held q)
     weighs_item p h q x (Kept y) made w m = rw (m.1, made_is_known_by_answers made (item y) None m.0) (omega (arith, w), omega (arith, w), λ s. absurd s)
-    weighs_item p h q x LeftOut made w m = rw (m.1, nothing_made made m.0) (omega (arith, w), omega (arith, w), λ s. absurd s)
+    weighs_item p h q x LeftOut made w m = rw (m.1, made_is_none_where_no_answers made m.0) (omega (arith, w), omega (arith, w), λ s. absurd s)
     weighs_item p h q x (Failure e) made w m = let k = weighs_stop X (held h) (held q) (Some e) m.0 made (weighs h None m.0 q m.1) m.2 in (omega (arith, k.0, w), omega (arith, k.1, w), λ s. absurd s)
     weighs_item p h q x End made w m = absurd w
 
@@ -62,13 +62,13 @@ module _ {P X B E : Type 0} (asks : P → Option X → Outcome B E → P → Typ
   abbrev pub stage_asks : P → Answered X E → Made B (Option E) E → P → Type 0
   stage_asks = stage_meets (λ p x made q. holding_meets asks p (Ok (Some x)) made q) (λ p stop made q. holding_meets asks p (stop_answer stop) made q)
 
-  pub meets_of_stage : (p : P) (a : Answered X E) (made : Made B (Option E) E) (q : P) → stage_asks p a made q → holding_meets asks p a made q
-  meets_of_stage p (Ok (Some x)) made q w = w
-  meets_of_stage p (Ok None) made q w = w
-  meets_of_stage p (Err e) made q w = w
+  pub holding_meets_of_stage_asks : (p : P) (a : Answered X E) (made : Made B (Option E) E) (q : P) → stage_asks p a made q → holding_meets asks p a made q
+  holding_meets_of_stage_asks p (Ok (Some x)) made q w = w
+  holding_meets_of_stage_asks p (Ok None) made q w = w
+  holding_meets_of_stage_asks p (Err e) made q w = w
 
-  pub is_stage_stops : (held : P → ℕ) → Holds asks held → IsStage stop_comes stage_asks 1 held
-  is_stage_stops held weighs p a made q w = is_stage_holding held weighs p a made q (meets_of_stage p a made q w)
+  pub is_stage_of_stage_asks : (held : P → ℕ) → Holds asks held → IsStage stop_comes stage_asks 1 held
+  is_stage_of_stage_asks held weighs p a made q w = is_stage_holding held weighs p a made q (holding_meets_of_stage_asks p a made q w)
 
   -- ---- one answer
 
@@ -87,9 +87,9 @@ module _ {P X B E : Type 0} (asks : P → Option X → Outcome B E → P → Typ
     draws_of_passes s t p h _ r (g, due) (closes x o step called is done) w = yields (Ok (Some x)) step (End, h, rw is at called, made_at_stop h g None r due w.0 w.1 w.2)
     draws_of_passes s t p h z r q (leaves_out {u = u} {h = g} x o step called is rest) w = passes_over (Ok (Some x)) step (LeftOut, g, rw is at called, (refl, refl)) (draws_of_passes u t g h z r q rest w)
 
-    pub stage_of_holding : (p : S × (P × Option (Option E))) (r : Answered B E) (q : S × (P × Option (Option E))) → holding_step asks steps p r q → stage_step stop_comes (holding_meets asks) steps p r q
-    stage_of_holding (s, (p, Some stop)) r (t, q) w = w
-    stage_of_holding (s, (p, None)) r (t, q) w = draws_of_passes s t p w.0 w.1 r q (passes_of_pass_trace w.2) w.3
+    pub stage_step_of_holding_step : (p : S × (P × Option (Option E))) (r : Answered B E) (q : S × (P × Option (Option E))) → holding_step asks steps p r q → stage_step stop_comes (holding_meets asks) steps p r q
+    stage_step_of_holding_step (s, (p, Some stop)) r (t, q) w = w
+    stage_step_of_holding_step (s, (p, None)) r (t, q) w = draws_of_passes s t p w.0 w.1 r q (passes_of_pass_trace w.2) w.3
 
   -- ---- what the adapter may be called on
 
@@ -101,10 +101,10 @@ module _ {P X B E : Type 0} (asks : P → Option X → Outcome B E → P → Typ
     after_item h q (Failure e) made m t = keeps_asked h q None m.0 tt m.1 t
     after_item h q End made m t = keeps_asked h q None m.0 tt m.1 t
 
-    pub after_met : (p : P) (a : Answered X E) (made : Made B (Option E) E) (q : P) → Q a → T p → holding_meets asks p a made q → T q
-    after_met p (Ok (Some x)) made q given t w = after_item w.1 q w.0 (made_answers made) w.3 (keeps_asked p w.1 (Some x) w.0 given w.2 t)
-    after_met p (Ok None) made q given t w = keeps_asked p q None w.0 tt w.1 t
-    after_met p (Err e) made q given t w = keeps_asked p q None w.0 tt w.1 t
+    pub invariant_holds_after_met : (p : P) (a : Answered X E) (made : Made B (Option E) E) (q : P) → Q a → T p → holding_meets asks p a made q → T q
+    invariant_holds_after_met p (Ok (Some x)) made q given t w = after_item w.1 q w.0 (made_answers made) w.3 (keeps_asked p w.1 (Some x) w.0 given w.2 t)
+    invariant_holds_after_met p (Ok None) made q given t w = keeps_asked p q None w.0 tt w.1 t
+    invariant_holds_after_met p (Err e) made q given t w = keeps_asked p q None w.0 tt w.1 t
 
   or_stop_weaker : {Q R : X → Type 0} → ((x : X) → R x → Q x) → (asked : Option X) → OrStop R asked → OrStop Q asked
   or_stop_weaker weak (Some x) r = weak x r
@@ -114,7 +114,7 @@ module _ {P X B E : Type 0} (asks : P → Option X → Outcome B E → P → Typ
   CanAsk pre Q h = IsCallable asks pre (OrStop (λ x. Q (Ok (Some x)))) h
 
   can_ask_stays : (pre : P → Option X → Type 0) (Q R : Answered X E → Type 0) (p q : P) → ((a : Answered X E) → R a → Q a) → Reaches (holding_meets asks) Q p q → CanAsk pre Q p → CanAsk pre R q
-  can_ask_stays pre Q R p q weak reached c = is_callable_after (or_stop_weaker (λ x. weak (Ok (Some x)))) reaches_reflexive (kept_where_reached (CanAsk pre Q) (after_met (CanAsk pre Q) Q (λ p q asked o given called c. is_callable_after (λ x k. k) (reaches_from asked o given called reaches_reflexive) c)) reached c)
+  can_ask_stays pre Q R p q weak reached c = is_callable_after (or_stop_weaker (λ x. weak (Ok (Some x)))) reaches_reflexive (kept_where_reached (CanAsk pre Q) (invariant_holds_after_met (CanAsk pre Q) Q (λ p q asked o given called c. is_callable_after (λ x k. k) (reaches_by_call_first asked o given called reaches_reflexive) c)) reached c)
 
 -- ---- the contracts
 
@@ -131,7 +131,7 @@ module _ {S P X B E : Type 0} {m : Contract S X E} (asks : P → Option X → Ou
 
   pub lawful_filling_where : Lawful Filling
   lawful_filling_where = let stage = lawful_stage l stop_comes (holding_meets asks) can 1 held hints (is_stage_holding asks held weighs) stays in record {
-    kept_by_draw = λ p r q c step. kept_by_draw_filling p q r (stage.kept_by_draw p r q c (stage_of_holding asks m.steps p r q step));
+    kept_by_draw = λ p r q c step. kept_by_draw_filling p q r (stage.kept_by_draw p r q c (stage_step_of_holding_step asks m.steps p r q step));
     bounded = stage.bounded;
   }
 

@@ -2,7 +2,7 @@
 use Rattle.std.specs.Prelude.{◌+◌, [], ◌∷◌, Bool, true, false, not, Some, None, Ok, Err}
 use Rattle.std.proofs.Common.{arith, inl, inr, refl, subst, ap₂}
 use Rattle.fallible_iterator.specs.Contract.{Contract, KeptByDraw, Lawful, OnAnswer, lenders_of_both}
-use Rattle.fallible_iterator.specs.Laws.Joining.Chain.{both_finite, sum_finite}
+use Rattle.fallible_iterator.specs.Laws.Joining.Chain.{both_true_where_cond_true, cond_true_where_both_true}
 use Rattle.fallible_iterator.specs.Lists.{result_answer}
 use Rattle.fallible_iterator.specs.Traces.{Answered, Run, end}
 use Rattle.fallible_itertools_adapters.specs.Interleave.{Turn, by_itself, by_other, interleave_contract, turn_answer, turn_draws, turns_contract}
@@ -11,8 +11,8 @@ use Rattle.fallible_itertools_adapters.specs.Sides.{fused_contract}
 
 module _ {S A E : Type 0} (m : Contract S A E) (l : Lawful m) where
   -- a source that isn't drawn stays, as at an end that leaves it as it is
-  kept_at_rest : (s : S) → m.can_next s → KeptByDraw m s end s
-  kept_at_rest s c = record { can_next = c; is_finite = λ h. h; answer = ((λ n b. (n, b, omega arith)), (λ f. (f, omega arith))); may_give = λ x h. h; may_fail = λ e h. h; lenders = refl }
+  kept_by_draw_at_rest : (s : S) → m.can_next s → KeptByDraw m s end s
+  kept_by_draw_at_rest s c = record { can_next = c; is_finite = λ h. h; answer = ((λ n b. (n, b, omega arith)), (λ f. (f, omega arith))); may_give = λ x h. h; may_fail = λ e h. h; lenders = refl }
 
   kept_by_draw_of_one : (s t : S) (r : Answered A E) → m.can_next s → Run m.steps s (r ∷ []) t → KeptByDraw m s r t
   kept_by_draw_of_one s t r c ran = subst (λ (u : S). KeptByDraw m s r u) ran.2 (l.kept_by_draw s r ran.0 c ran.1)
@@ -27,16 +27,16 @@ module _ {S U A E : Type 0} (left : Contract S A E) (right : Contract U A E) whe
     on_answer_of_left (Ok (Some x)) h k = (
       inl h.0,
       (λ n w. let i = h.1 w.0 w.2 in let j = k.0 w.1 w.3 in (i.0 + j.0, (i.0, j.0, i.1, j.1, omega arith), omega (arith, i.2, j.2, w.4))),
-      (λ f. let e = both_finite (left.remaining s).bounded (right.remaining u).bounded f in let i = h.2 e.0 in let j = k.1 e.1 in (sum_finite (left.remaining t).bounded (right.remaining v).bounded i.0 j.0, omega (arith, i.1, j.1))),
+      (λ f. let e = both_true_where_cond_true (left.remaining s).bounded (right.remaining u).bounded f in let i = h.2 e.0 in let j = k.1 e.1 in (cond_true_where_both_true (left.remaining t).bounded (right.remaining v).bounded i.0 j.0, omega (arith, i.1, j.1))),
     )
     on_answer_of_left (Ok None) h k = (
       (λ n w. let i = h.0 w.0 w.2 in let j = k.0 w.1 w.3 in (i.0 + j.0, (i.0, j.0, i.1, j.1, omega arith), omega (arith, i.2, j.2, w.4))),
-      (λ f. let e = both_finite (left.remaining s).bounded (right.remaining u).bounded f in let i = h.1 e.0 in let j = k.1 e.1 in (sum_finite (left.remaining t).bounded (right.remaining v).bounded i.0 j.0, omega (arith, i.1, j.1))),
+      (λ f. let e = both_true_where_cond_true (left.remaining s).bounded (right.remaining u).bounded f in let i = h.1 e.0 in let j = k.1 e.1 in (cond_true_where_both_true (left.remaining t).bounded (right.remaining v).bounded i.0 j.0, omega (arith, i.1, j.1))),
     )
     on_answer_of_left (Err d) h k = (
       inl h.0,
       (λ n w. let i = h.1 w.0 w.2 in let j = k.0 w.1 w.3 in (i.0 + j.0, (i.0, j.0, i.1, j.1, omega arith), omega (arith, i.2, j.2, w.4))),
-      (λ f. let e = both_finite (left.remaining s).bounded (right.remaining u).bounded f in let i = h.2 e.0 in let j = k.1 e.1 in (sum_finite (left.remaining t).bounded (right.remaining v).bounded i.0 j.0, omega (arith, i.1, j.1))),
+      (λ f. let e = both_true_where_cond_true (left.remaining s).bounded (right.remaining u).bounded f in let i = h.2 e.0 in let j = k.1 e.1 in (cond_true_where_both_true (left.remaining t).bounded (right.remaining v).bounded i.0 j.0, omega (arith, i.1, j.1))),
     )
 
     -- an answer of the right, beside an end of the left
@@ -44,16 +44,16 @@ module _ {S U A E : Type 0} (left : Contract S A E) (right : Contract U A E) whe
     on_answer_of_right (Ok (Some x)) h k = (
       inr k.0,
       (λ n w. let i = h.0 w.0 w.2 in let j = k.1 w.1 w.3 in (i.0 + j.0, (i.0, j.0, i.1, j.1, omega arith), omega (arith, i.2, j.2, w.4))),
-      (λ f. let e = both_finite (left.remaining s).bounded (right.remaining u).bounded f in let i = h.1 e.0 in let j = k.2 e.1 in (sum_finite (left.remaining t).bounded (right.remaining v).bounded i.0 j.0, omega (arith, i.1, j.1))),
+      (λ f. let e = both_true_where_cond_true (left.remaining s).bounded (right.remaining u).bounded f in let i = h.1 e.0 in let j = k.2 e.1 in (cond_true_where_both_true (left.remaining t).bounded (right.remaining v).bounded i.0 j.0, omega (arith, i.1, j.1))),
     )
     on_answer_of_right (Ok None) h k = (
       (λ n w. let i = h.0 w.0 w.2 in let j = k.0 w.1 w.3 in (i.0 + j.0, (i.0, j.0, i.1, j.1, omega arith), omega (arith, i.2, j.2, w.4))),
-      (λ f. let e = both_finite (left.remaining s).bounded (right.remaining u).bounded f in let i = h.1 e.0 in let j = k.1 e.1 in (sum_finite (left.remaining t).bounded (right.remaining v).bounded i.0 j.0, omega (arith, i.1, j.1))),
+      (λ f. let e = both_true_where_cond_true (left.remaining s).bounded (right.remaining u).bounded f in let i = h.1 e.0 in let j = k.1 e.1 in (cond_true_where_both_true (left.remaining t).bounded (right.remaining v).bounded i.0 j.0, omega (arith, i.1, j.1))),
     )
     on_answer_of_right (Err d) h k = (
       inr k.0,
       (λ n w. let i = h.0 w.0 w.2 in let j = k.1 w.1 w.3 in (i.0 + j.0, (i.0, j.0, i.1, j.1, omega arith), omega (arith, i.2, j.2, w.4))),
-      (λ f. let e = both_finite (left.remaining s).bounded (right.remaining u).bounded f in let i = h.1 e.0 in let j = k.2 e.1 in (sum_finite (left.remaining t).bounded (right.remaining v).bounded i.0 j.0, omega (arith, i.1, j.1))),
+      (λ f. let e = both_true_where_cond_true (left.remaining s).bounded (right.remaining u).bounded f in let i = h.1 e.0 in let j = k.2 e.1 in (cond_true_where_both_true (left.remaining t).bounded (right.remaining v).bounded i.0 j.0, omega (arith, i.1, j.1))),
     )
 
     -- each side goes on, and the answer is of one of them
@@ -75,9 +75,9 @@ module _ {S U A E : Type 0} (left : Contract S A E) (right : Contract U A E) whe
 
   module _ (l : Lawful left) (k : Lawful right) where
     kept_by_turn : (s t : S) (u v : U) (b c : Bool) (x : Turn A E) → TurnsHere.can_next (s, u, b) → Run left.steps s (turn_draws b x) t → Run right.steps u (turn_draws (not b) x) v → KeptByDraw TurnsHere (s, u, b) (turn_answer x) (t, v, c)
-    kept_by_turn s t u v false c (by_itself y) can a d = kept_by_left s t u v false c (result_answer y) (kept_by_draw_of_one left l s t (result_answer y) can.0 a) (subst (λ (w : U). KeptByDraw right u end w) d (kept_at_rest right k u can.1))
+    kept_by_turn s t u v false c (by_itself y) can a d = kept_by_left s t u v false c (result_answer y) (kept_by_draw_of_one left l s t (result_answer y) can.0 a) (subst (λ (w : U). KeptByDraw right u end w) d (kept_by_draw_at_rest right k u can.1))
     kept_by_turn s t u v false c (by_other r) can a d = kept_by_right s t u v false c r (kept_by_draw_of_one left l s t end can.0 a) (kept_by_draw_of_one right k u v r can.1 d)
-    kept_by_turn s t u v true c (by_itself y) can a d = kept_by_right s t u v true c (result_answer y) (subst (λ (w : S). KeptByDraw left s end w) a (kept_at_rest left l s can.0)) (kept_by_draw_of_one right k u v (result_answer y) can.1 d)
+    kept_by_turn s t u v true c (by_itself y) can a d = kept_by_right s t u v true c (result_answer y) (subst (λ (w : S). KeptByDraw left s end w) a (kept_by_draw_at_rest left l s can.0)) (kept_by_draw_of_one right k u v (result_answer y) can.1 d)
     kept_by_turn s t u v true c (by_other r) can a d = kept_by_left s t u v true c r (kept_by_draw_of_one left l s t r can.0 a) (kept_by_draw_of_one right k u v end can.1 d)
 
     lawful_turns : Lawful TurnsHere

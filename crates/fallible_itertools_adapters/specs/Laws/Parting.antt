@@ -6,7 +6,7 @@ use Rattle.fallible_iterator.specs.Contract.{Contract, KeptByDraw, Lawful}
 use Rattle.fallible_iterator.specs.Lists.{result_answer}
 use Rattle.fallible_iterator.specs.Laws.Contract.{lawful_seen}
 use Rattle.fallible_itertools_adapters.specs.Staging.{Made, yields, passes_over, IsStage, PassesNoneOver, TakesAll, Weighs, made_before, stage_step}
-use Rattle.fallible_itertools_adapters.specs.Laws.Staging.{kept_where_reached, lawful_stage, made_parts, parts_made, takes_where_reached}
+use Rattle.fallible_itertools_adapters.specs.Laws.Staging.{kept_where_reached, lawful_stage, parts_equal_where_made_equal, made_equal_where_parts_equal, takes_where_reached}
 use Rattle.fallible_itertools_adapters.specs.Parting.{Separated, PlacedAs, item_comes, parting_contract, parting_hints, parting_meets, parting_stage, parting_step}
 
 weighs_separated : {A E : Type 0} (x : A) (v : Result A E) → Weighs item_comes {X = A} {D = E} 2 0 (Ok (Some x)) (made_before (result_answer v) x) 0
@@ -28,37 +28,37 @@ module _ {Z A E : Type 0} (separates : Z → Result A E → Z → Type 0) where
 
   -- ---- one answer, by what is drawn
 
-  separated_so : (z y : Z) (v : Result A E) → separates z v y → Separated separates z (result_answer v) y
-  separated_so z y (Ok s) w = w
-  separated_so z y (Err e) w = w
+  separated_where_separates : (z y : Z) (v : Result A E) → separates z v y → Separated separates z (result_answer v) y
+  separated_where_separates z y (Ok s) w = w
+  separated_where_separates z y (Err e) w = w
 
-  placed_so : (z : Z) (b : Bool) (a r : Answered A E) (k : Z × Bool) (due : Option A) → parting_meets separates (z, b) a (Some (r, due)) k → PlacedAs separates z b a r (k.0, (k.1, due))
-  placed_so z b (Ok None) r k due w = let made = made_parts w.0 in (made.0, rw (w.1, made.1) refl)
-  placed_so z b (Err d) r k due w = let made = made_parts w.0 in (made.0, rw (w.1, made.1) refl)
-  placed_so z false (Ok (Some x)) r k due w = let made = made_parts w.0 in (made.0, rw (w.1, made.1) refl)
-  placed_so z true (Ok (Some x)) r (y, b) due w = let made = made_parts w.2 in (rw made.0 (separated_so z y w.0 w.1), rw (w.3, made.1) refl)
+  placed_where_met : (z : Z) (b : Bool) (a r : Answered A E) (k : Z × Bool) (due : Option A) → parting_meets separates (z, b) a (Some (r, due)) k → PlacedAs separates z b a r (k.0, (k.1, due))
+  placed_where_met z b (Ok None) r k due w = let made = parts_equal_where_made_equal w.0 in (made.0, rw (w.1, made.1) refl)
+  placed_where_met z b (Err d) r k due w = let made = parts_equal_where_made_equal w.0 in (made.0, rw (w.1, made.1) refl)
+  placed_where_met z false (Ok (Some x)) r k due w = let made = parts_equal_where_made_equal w.0 in (made.0, rw (w.1, made.1) refl)
+  placed_where_met z true (Ok (Some x)) r (y, b) due w = let made = parts_equal_where_made_equal w.2 in (rw made.0 (separated_where_separates z y w.0 w.1), rw (w.3, made.1) refl)
 
-  separator_of : (z y : Z) (r : Answered A E) → Separated separates z r y → (v : Result A E) × separates z v y × (r ≡ result_answer v)
-  separator_of z y (Ok (Some s)) w = (Ok s, w, refl)
-  separator_of z y (Ok None) w = absurd w
-  separator_of z y (Err e) w = (Err e, w, refl)
+  separates_where_separated : (z y : Z) (r : Answered A E) → Separated separates z r y → (v : Result A E) × separates z v y × (r ≡ result_answer v)
+  separates_where_separated z y (Ok (Some s)) w = (Ok s, w, refl)
+  separates_where_separated z y (Ok None) w = absurd w
+  separates_where_separated z y (Err e) w = (Err e, w, refl)
 
-  met_so : (z : Z) (b : Bool) (a r : Answered A E) (k : Z × Bool) (due : Option A) → PlacedAs separates z b a r (k.0, (k.1, due)) → parting_meets separates (z, b) a (Some (r, due)) k
-  met_so z b (Ok None) r k due w = (parts_made w.0 (ap (λ i. i.1.1) w.1), ap (λ i. (i.0, i.1.0)) w.1)
-  met_so z b (Err d) r k due w = (parts_made w.0 (ap (λ i. i.1.1) w.1), ap (λ i. (i.0, i.1.0)) w.1)
-  met_so z false (Ok (Some x)) r k due w = (parts_made w.0 (ap (λ i. i.1.1) w.1), ap (λ i. (i.0, i.1.0)) w.1)
-  met_so z true (Ok (Some x)) r k due w = let v = separator_of z k.0 r w.0 in (v.0, v.1, parts_made v.2 (ap (λ i. i.1) w.1), ap (λ i. i.0) w.1)
+  met_where_placed : (z : Z) (b : Bool) (a r : Answered A E) (k : Z × Bool) (due : Option A) → PlacedAs separates z b a r (k.0, (k.1, due)) → parting_meets separates (z, b) a (Some (r, due)) k
+  met_where_placed z b (Ok None) r k due w = (made_equal_where_parts_equal w.0 (ap (λ i. i.1.1) w.1), ap (λ i. (i.0, i.1.0)) w.1)
+  met_where_placed z b (Err d) r k due w = (made_equal_where_parts_equal w.0 (ap (λ i. i.1.1) w.1), ap (λ i. (i.0, i.1.0)) w.1)
+  met_where_placed z false (Ok (Some x)) r k due w = (made_equal_where_parts_equal w.0 (ap (λ i. i.1.1) w.1), ap (λ i. (i.0, i.1.0)) w.1)
+  met_where_placed z true (Ok (Some x)) r k due w = let v = separates_where_separated z k.0 r w.0 in (v.0, v.1, made_equal_where_parts_equal v.2 (ap (λ i. i.1) w.1), ap (λ i. i.0) w.1)
 
   module _ {S : Type 0} (steps : S → Answered A E → S → Type 0) where
     -- a step of the stage, where what is made of each answer is drawn at once
-    pub step_of_stage : (p : S × ((Z × Bool) × Option A)) (r : Answered A E) (q : S × ((Z × Bool) × Option A)) → stage_step item_comes (parting_meets separates) steps p r q → parting_step separates steps (p.0, (p.1.0.0, (p.1.0.1, p.1.1))) r (q.0, (q.1.0.0, (q.1.0.1, q.1.1)))
-    step_of_stage (s, (k, Some x)) r (t, j) w = (w.0, w.1, rw w.2 refl)
-    step_of_stage (s, ((z, b), None)) r (t, _) (yields {q = j} {due = due} a step called) = (a, step, placed_so z b a r j due called)
-    step_of_stage (s, (k, None)) r (t, j) (passes_over {h = h} a step called rest) = absurd (parting_passes_none k a h called)
+    pub parting_step_of_stage_step : (p : S × ((Z × Bool) × Option A)) (r : Answered A E) (q : S × ((Z × Bool) × Option A)) → stage_step item_comes (parting_meets separates) steps p r q → parting_step separates steps (p.0, (p.1.0.0, (p.1.0.1, p.1.1))) r (q.0, (q.1.0.0, (q.1.0.1, q.1.1)))
+    parting_step_of_stage_step (s, (k, Some x)) r (t, j) w = (w.0, w.1, rw w.2 refl)
+    parting_step_of_stage_step (s, ((z, b), None)) r (t, _) (yields {q = j} {due = due} a step called) = (a, step, placed_where_met z b a r j due called)
+    parting_step_of_stage_step (s, (k, None)) r (t, j) (passes_over {h = h} a step called rest) = absurd (parting_passes_none k a h called)
 
-    pub stage_of_step : (p : S × (Z × (Bool × Option A))) (r : Answered A E) (q : S × (Z × (Bool × Option A))) → parting_step separates steps p r q → stage_step item_comes (parting_meets separates) steps (parting_stage p) r (parting_stage q)
-    stage_of_step (s, (z, (b, Some x))) r (t, k) w = (w.0, w.1, rw w.2 refl)
-    stage_of_step (s, (z, (b, None))) r (t, (y, (c, due))) w = yields w.0 w.1 (met_so z b w.0 r (y, c) due w.2)
+    pub stage_step_of_parting_step : (p : S × (Z × (Bool × Option A))) (r : Answered A E) (q : S × (Z × (Bool × Option A))) → parting_step separates steps p r q → stage_step item_comes (parting_meets separates) steps (parting_stage p) r (parting_stage q)
+    stage_step_of_parting_step (s, (z, (b, Some x))) r (t, k) w = (w.0, w.1, rw w.2 refl)
+    stage_step_of_parting_step (s, (z, (b, None))) r (t, (y, (c, due))) w = yields w.0 w.1 (met_where_placed z b w.0 r (y, c) due w.2)
 
   module _ (can : Z → Type 0) (can_stays : (z : Z) (v : Result A E) (y : Z) → can z → separates z v y → can y) where
     can_separate_after_answer : (k : Z × Bool) (a : Answered A E) (made : Made A A E) (j : Z × Bool) → can k.0 → parting_meets separates k a made j → can j.0
@@ -83,6 +83,6 @@ module _ {Z A E : Type 0} (separates : Z → Result A E → Z → Type 0) where
 
       pub lawful_parting : Lawful m → Lawful (parting_contract separates can m)
       lawful_parting l = let stage : Lawful Stage = lawful_seen parting_stage (lawful_stage l item_comes (parting_meets separates) (λ _ k. can k.0) 2 (λ _. 0) (parting_hints m) is_stage_parting (λ Q R p q weak reached c. kept_where_reached (λ h. can h.0) (λ p a made q given. can_separate_after_answer p a made q) reached c)) in record {
-        kept_by_draw = λ p r q c step. kept_by_draw_parting p r q (stage.kept_by_draw p r q c (stage_of_step m.steps p r q step));
+        kept_by_draw = λ p r q c step. kept_by_draw_parting p r q (stage.kept_by_draw p r q c (stage_step_of_parting_step m.steps p r q step));
         bounded = stage.bounded;
       }

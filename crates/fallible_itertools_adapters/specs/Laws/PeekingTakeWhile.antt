@@ -10,7 +10,7 @@ use Rattle.fallible_iterator.specs.Contract.{Contract, KeptByDraw, Lawful, OnAns
 use Rattle.fallible_iterator.specs.Closures.{Calls, IsCallable, Reaches, call_by_reference, takes_by_reference}
 use Rattle.fallible_iterator.specs.Passing.{Place, asked, failure_at, end_at, call_of, passing_contract}
 use Rattle.fallible_iterator.specs.Hints.{upper_alone}
-use Rattle.fallible_iterator.specs.Laws.Closures.{is_callable_after, may_answer_after, reaches_from, reaches_reflexive}
+use Rattle.fallible_iterator.specs.Laws.Closures.{is_callable_after, may_answer_where_reached_may_answer, reaches_by_call_first, reaches_reflexive}
 use Rattle.fallible_iterator.specs.Laws.Passing.{lawful_passing, pass_trace_item, pass_trace_refusal, pass_trace_end, pass_trace_failure}
 use Rattle.fallible_iterator.specs.Laws.Peeking.Peekable.{lawful_peekable}
 use Rattle.fallible_iterator.specs.Cutting.TakeWhile.{taken_answer, take_while_outcome}
@@ -83,8 +83,8 @@ module _ {S X E : Type 0} {m : Contract S X E} (l : Lawful m) where
   may_give_looked : (p q : S × Option (Option X)) (x : X) → PeekableHere.can_next p → Peeks m.steps p (item x) q → PeekableHere.may_give p x
   may_give_looked p q x c w = ((lawful_peekable l).kept_by_draw p (item x) (q.0, None) c (looked_at_is_next_answer m.steps p q (Some x) w).0).answer.0
 
-  step_of_looked : (p q u : S × Option (Option X)) (x : X) (r : Answered X E) → Peeks m.steps p (item x) q → peekable_step m.steps q r u → (r ≡ item x) × peekable_step m.steps p (item x) u
-  step_of_looked p q u x r w step = let k = looked_at_is_next_answer m.steps p q (Some x) w in let h = held_step m.steps q u (Some x) r k.1 step in (h.0, subst (λ z. peekable_step m.steps p (item x) z) (sym h.1) k.0)
+  step_gives_looked_item : (p q u : S × Option (Option X)) (x : X) (r : Answered X E) → Peeks m.steps p (item x) q → peekable_step m.steps q r u → (r ≡ item x) × peekable_step m.steps p (item x) u
+  step_gives_looked_item p q u x r w step = let k = looked_at_is_next_answer m.steps p q (Some x) w in let h = held_step m.steps q u (Some x) r k.1 step in (h.0, subst (λ z. peekable_step m.steps p (item x) z) (sym h.1) k.0)
 
   second_look_same : (p q u : S × Option (Option X)) (x y : X) → Peeks m.steps p (item x) q → Peeks m.steps q (item y) u → (y ≡ x) × Peeks m.steps p (item x) u
   second_look_same p q u x y w v = let k = looked_at_is_next_answer m.steps p q (Some x) w in let h = held_item_is_looked_at m.steps q u (Some x) y k.1 v in ((let e = h.0 in cc), subst (λ z. Peeks m.steps p (item x) z) (sym h.1) w)
@@ -101,7 +101,7 @@ module _ {S X E : Type 0} {m : Contract S X E} (l : Lawful m) where
     kept = λ s x t c w. let k = kept_by_draw_look (peekable_parts s) (peekable_parts t) x c w in record { can_next = k.can_next; is_finite = k.is_finite; answer = on_answer_seen s t k.answer; may_give = k.may_give; may_fail = k.may_fail; lenders = k.lenders };
     given = λ s x t c w. may_give_looked (peekable_parts s) (peekable_parts t) x c w;
     comes = λ s x t w. (of_held (t.it, None), (looked_at_is_next_answer m.steps (peekable_parts s) (peekable_parts t) (Some x) w).0);
-    next = λ s x t r u w step. step_of_looked (peekable_parts s) (peekable_parts t) (peekable_parts u) x r w step;
+    next = λ s x t r u w step. step_gives_looked_item (peekable_parts s) (peekable_parts t) (peekable_parts u) x r w step;
     again = λ s x t y u w v. second_look_same (peekable_parts s) (peekable_parts t) (peekable_parts u) x y w v;
     first = λ s x u step. (of_held (u.it, Some (Some x)), peeks_drawn_item m.steps (peekable_parts s) (peekable_parts u) x step, (refl, refl, none_held_after_draw m.steps (peekable_parts s) (peekable_parts u) (item x) step));
     same = λ s x t w. peeks_held_again m.steps (peekable_parts t) (Some x) (looked_at_is_next_answer m.steps (peekable_parts s) (peekable_parts t) (Some x) w).1;
@@ -155,13 +155,13 @@ module _ {S F X E : Type 0} (m : Contract S X E) (l : Lawful m) (looks : S → X
   kept_by_draw_refused : (p q : S) (f h : F) (x : X) → PeekingHere.can_next (p, f) → looks p x q → call_by_reference g f x (Ok false) h → KeptByDraw PeekingHere (p, f) end (q, h)
   kept_by_draw_refused p q f h x c look called =
       let a = k.kept p x q c.0 look in
-      let reached : Reaches (call_by_reference g) (m.may_give p) f h = reaches_from x (Ok false) (k.given p x q c.0 look) called reaches_reflexive in
+      let reached : Reaches (call_by_reference g) (m.may_give p) f h = reaches_by_call_first x (Ok false) (k.given p x q c.0 look) called reaches_reflexive in
       record {
         can_next = (a.can_next, is_callable_after a.may_give reached c.1);
         is_finite = a.is_finite;
         answer = a.answer;
-        may_give = λ y b. may_answer_after a.may_give reached b;
-        may_fail = λ e b. elim b [ inl d ↦ inl (a.may_fail e d) | inr d ↦ inr (may_answer_after a.may_give reached d) ];
+        may_give = λ y b. may_answer_where_reached_may_answer a.may_give reached b;
+        may_fail = λ e b. elim b [ inl d ↦ inl (a.may_fail e d) | inr d ↦ inr (may_answer_where_reached_may_answer a.may_give reached d) ];
         lenders = a.lenders;
       }
 

@@ -9,7 +9,7 @@ use Rattle.fallible_iterator.specs.Held.{held_count}
 use Rattle.fallible_iterator.specs.Laws.Contract.{lawful_seen}
 use Rattle.fallible_iterator.specs.Laws.Cutting.Fuse.{lawful_fuse}
 use Rattle.fallible_itertools_adapters.specs.Sides.{fused_contract, GivesHeldFirst, GivesIf, side_remaining, side_gives, Rule, SidesPlace, left_failed, right_failed, both_gave, left_gave, right_gave, left_held_after, right_held_after, place_answer, place_decides, sides_contract}
-use Rattle.fallible_iterator.specs.Laws.Joining.Chain.{both_finite, sum_finite}
+use Rattle.fallible_iterator.specs.Laws.Joining.Chain.{both_true_where_cond_true, cond_true_where_both_true}
 
 -- ---- a fused source
 
@@ -43,8 +43,8 @@ module _ {S A E : Type 0} (m : Contract S A E) where
   side_kept_fewer_let_go p q k le = record { can_next = k.can_next; is_finite = k.is_finite; bound = λ n b. let a = k.bound n b in (a.0, a.1, omega (arith, a.2, le)); remaining = λ f. let a = k.remaining f in (a.0, omega (arith, a.1, le)); gives = k.gives; fails = k.fails; lenders = k.lenders }
 
   -- a side that isn't drawn stays
-  pub side_kept_stays : (p : S × Option A) → m.can_next p.0 → SideKept p p 0 0
-  side_kept_stays p c = record { can_next = c; is_finite = λ h. h; bound = λ n b. (n, b, omega arith); remaining = λ f. (f, omega arith); gives = λ y h. h; fails = λ e h. h; lenders = refl }
+  pub side_kept_where_it_stays : (p : S × Option A) → m.can_next p.0 → SideKept p p 0 0
+  side_kept_where_it_stays p c = record { can_next = c; is_finite = λ h. h; bound = λ n b. (n, b, omega arith); remaining = λ f. (f, omega arith); gives = λ y h. h; fails = λ e h. h; lenders = refl }
 
   -- a side yields its held item
   side_kept_held_given : (s : S) (x : A) → m.can_next s → SideKept (s, Some x) (s, None) 1 1
@@ -61,16 +61,16 @@ module _ {S A E : Type 0} (m : Contract S A E) where
     side_kept_failure_drawn s t e c step = let a = l.kept_by_draw s (failure e) t c step in record { can_next = a.can_next; is_finite = a.is_finite; bound = λ n b. let k = a.answer.1 b.0 b.1 in (k.0, (k.0, k.1, omega arith), omega (arith, k.2, b.2)); remaining = λ f. let j = a.answer.2 f in (j.0, omega (arith, j.1)); gives = a.may_give; fails = a.may_fail; lenders = a.lenders }
 
     -- a side fails, which holds nothing then
-    pub side_kept_fails : (p : S × Option A) (t : S) (e : E) → m.can_next p.0 → GivesHeldFirst m.steps p (failure e) t → SideKept p (t, None) 0 1 × m.may_fail p.0 e
-    side_kept_fails (s, Some x) t e c g = absurd (let no = g.0 in cc)
-    side_kept_fails (s, None) t e c g = (side_kept_failure_drawn s t e c g, (l.kept_by_draw s (failure e) t c g).answer.0)
+    pub side_kept_and_may_fail_where_fails : (p : S × Option A) (t : S) (e : E) → m.can_next p.0 → GivesHeldFirst m.steps p (failure e) t → SideKept p (t, None) 0 1 × m.may_fail p.0 e
+    side_kept_and_may_fail_where_fails (s, Some x) t e c g = absurd (let no = g.0 in cc)
+    side_kept_and_may_fail_where_fails (s, None) t e c g = (side_kept_failure_drawn s t e c g, (l.kept_by_draw s (failure e) t c g).answer.0)
 
     -- a side yields an item or an end, and holds nothing then
-    pub side_kept_given : (p : S × Option A) (t : S) (x : Option A) → m.can_next p.0 → GivesHeldFirst m.steps p (Ok x) t → SideKept p (t, None) (held_count x) (held_count x) × OfItem (side_gives m p) x
-    side_kept_given (s, Some y) t (Some x) c g = let same : x ≡ y = (let e = g.0 in cc) in (subst (λ (u : S). SideKept (s, Some y) (u, None) 1 1) (sym g.1) (side_kept_held_given s y c), inl same)
-    side_kept_given (s, Some y) t None c g = absurd (let no = g.0 in cc)
-    side_kept_given (s, None) t (Some x) c g = (side_kept_item_drawn s t x c g, (l.kept_by_draw s (item x) t c g).answer.0)
-    side_kept_given (s, None) t None c g = (side_kept_end_drawn s t c g, tt)
+    pub side_kept_and_of_item_where_given : (p : S × Option A) (t : S) (x : Option A) → m.can_next p.0 → GivesHeldFirst m.steps p (Ok x) t → SideKept p (t, None) (held_count x) (held_count x) × OfItem (side_gives m p) x
+    side_kept_and_of_item_where_given (s, Some y) t (Some x) c g = let same : x ≡ y = (let e = g.0 in cc) in (subst (λ (u : S). SideKept (s, Some y) (u, None) 1 1) (sym g.1) (side_kept_held_given s y c), inl same)
+    side_kept_and_of_item_where_given (s, Some y) t None c g = absurd (let no = g.0 in cc)
+    side_kept_and_of_item_where_given (s, None) t (Some x) c g = (side_kept_item_drawn s t x c g, (l.kept_by_draw s (item x) t c g).answer.0)
+    side_kept_and_of_item_where_given (s, None) t None c g = (side_kept_end_drawn s t c g, tt)
 
     -- what was yielded is held again
     side_kept_held_again : (p : S × Option A) (t : S) (x : Option A) → SideKept p (t, None) (held_count x) (held_count x) → OfItem (side_gives m p) x → SideKept p (t, x) 0 0
@@ -78,11 +78,11 @@ module _ {S A E : Type 0} (m : Contract S A E) where
     side_kept_held_again p t (Some x) k g = record { can_next = k.can_next; is_finite = k.is_finite; bound = λ n b. let j = k.bound n b in (j.1.0 + 1, (j.1.0, j.1.1, omega arith), omega (arith, j.1.2, j.2)); remaining = λ f. let j = k.remaining f in (j.0, omega (arith, j.1)); gives = λ y h. elim h [ inl e ↦ subst (λ (z : A). side_gives m p z) (sym e) g | inr h ↦ k.gives y h ]; fails = k.fails; lenders = k.lenders }
 
     pub side_kept_puts_back : (p : S × Option A) (t : S) (x : Option A) → m.can_next p.0 → GivesHeldFirst m.steps p (Ok x) t → SideKept p (t, x) 0 0
-    side_kept_puts_back p t x c g = let k = side_kept_given p t x c g in side_kept_held_again p t x k.0 k.1
+    side_kept_puts_back p t x c g = let k = side_kept_and_of_item_where_given p t x c g in side_kept_held_again p t x k.0 k.1
 
     -- what was yielded is held again, or dropped
     pub side_kept_holds : (p : S × Option A) (t : S) (x h : Option A) → (h ≡ None) ⊎ (h ≡ x) → m.can_next p.0 → GivesHeldFirst m.steps p (Ok x) t → SideKept p (t, h) (held_count x - held_count h) (held_count x - held_count h)
-    side_kept_holds p t x h (inl e) c g = rw e (side_kept_fewer_let_go p (t, None) (side_kept_given p t x c g).0 (omega arith))
+    side_kept_holds p t x h (inl e) c g = rw e (side_kept_fewer_let_go p (t, None) (side_kept_and_of_item_where_given p t x c g).0 (omega arith))
     side_kept_holds p t x h (inr e) c g = rw e (side_kept_fewer_let_go p (t, x) (side_kept_puts_back p t x c g) (omega arith))
 
 -- ---- both sides
@@ -135,15 +135,15 @@ module _ {S U A B C E F V : Type 0} (left : Contract S A E) (right : Contract U 
         (x.0 + y.0, (x.1.0, y.1.0, x.1.1, y.1.1, omega (arith, x.1.2, y.1.2)), omega (arith, x.2, y.2, h.4))
 
     remaining_is_finite_after : IsFinite (SidesHere.remaining p) → IsFinite (SidesHere.remaining q) × (size (SidesHere.remaining q) + (d + k) ≤ size (SidesHere.remaining p))
-    remaining_is_finite_after f = let both = both_finite (side_remaining left p.0).bounded (side_remaining right p.1).bounded f in let x = a.remaining both.0 in let y = b.remaining both.1 in (sum_finite (side_remaining left q.0).bounded (side_remaining right q.1).bounded x.0 y.0, omega (arith, x.1, y.1))
+    remaining_is_finite_after f = let both = both_true_where_cond_true (side_remaining left p.0).bounded (side_remaining right p.1).bounded f in let x = a.remaining both.0 in let y = b.remaining both.1 in (cond_true_where_both_true (side_remaining left q.0).bounded (side_remaining right q.1).bounded x.0 y.0, omega (arith, x.1, y.1))
 
     on_answer_of_sides : (r : Answered C E) → OwedFor p r (i + j) (d + k) → OnAnswer SidesHere p r q
     on_answer_of_sides (Ok (Some z)) o = (o.0, (λ n h. let m = bound_after n h in (m.0, m.1, omega (arith, m.2, o.1))), (λ f. let m = remaining_is_finite_after f in (m.0, omega (arith, m.1, o.2))))
     on_answer_of_sides (Ok None) o = ((λ n h. let m = bound_after n h in (m.0, m.1, omega (arith, m.2))), (λ f. let m = remaining_is_finite_after f in (m.0, omega (arith, m.1))))
     on_answer_of_sides (Err e) o = (o.0, (λ n h. let m = bound_after n h in (m.0, m.1, omega (arith, m.2))), (λ f. let m = remaining_is_finite_after f in (m.0, omega (arith, m.1, o.1))))
 
-    pub kept_by_draw_of_both : IsLawfulRule rule → (r : Answered C E) → OwedFor p r (i + j) (d + k) → rule.askable (side_gives left q.0) (side_gives right q.1) q.2 → ((e : E) → rule.refuses (side_gives left q.0) (side_gives right q.1) q.2 e → rule.refuses (side_gives left p.0) (side_gives right p.1) p.2 e) → KeptByDraw SidesHere p r q
-    kept_by_draw_of_both w r o askable refuses = record {
+    pub kept_by_draw_where_both_sides_kept : IsLawfulRule rule → (r : Answered C E) → OwedFor p r (i + j) (d + k) → rule.askable (side_gives left q.0) (side_gives right q.1) q.2 → ((e : E) → rule.refuses (side_gives left q.0) (side_gives right q.1) q.2 e → rule.refuses (side_gives left p.0) (side_gives right p.1) p.2 e) → KeptByDraw SidesHere p r q
+    kept_by_draw_where_both_sides_kept w r o askable refuses = record {
       can_next = (a.can_next, b.can_next, askable);
       is_finite = λ h. (a.is_finite h.0, b.is_finite h.1);
       answer = on_answer_of_sides r o;
@@ -154,19 +154,19 @@ module _ {S U A B C E F V : Type 0} (left : Contract S A E) (right : Contract U 
 
   module _ (l : Lawful left) (m : Lawful right) (w : IsLawfulRule rule) where
     -- what the rule makes is owed
-    owed_by_rule : (p : SidesState) (n : ℕ) (r : Answered C E) → MadeBy rule (side_gives left p.0) (side_gives right p.1) p.2 n r → OwedFor p r n n
-    owed_by_rule p n (Ok (Some z)) o = (o.0, o.1, o.1)
-    owed_by_rule p n (Ok None) o = tt
-    owed_by_rule p n (Err e) o = (inr (inr o.0), o.1)
+    owed_for_where_made_by_rule : (p : SidesState) (n : ℕ) (r : Answered C E) → MadeBy rule (side_gives left p.0) (side_gives right p.1) p.2 n r → OwedFor p r n n
+    owed_for_where_made_by_rule p n (Ok (Some z)) o = (o.0, o.1, o.1)
+    owed_for_where_made_by_rule p n (Ok None) o = tt
+    owed_for_where_made_by_rule p n (Err e) o = (inr (inr o.0), o.1)
 
     kept_by_draw_place : (p : SidesState) (t : S) (u : U) (g : F) (x : SidesPlace A B E V) → SidesHere.can_next p → GivesIf left.steps p.0 (left_gave x) t → GivesIf right.steps p.1 (right_gave x) u → place_decides rule p.2 x g → KeptByDraw SidesHere p (place_answer rule x) ((t, left_held_after rule p.0.1 x), (u, right_held_after rule p.1.1 x), g)
     kept_by_draw_place p t u g (left_failed e) c a b d =
-        let k = side_kept_fails left l p.0 t e c.0 a in
-        rw (b, d) (kept_by_draw_of_both p ((t, None), p.1, p.2) 0 1 0 0 k.0 (side_kept_stays right p.1 c.1) w (failure e) (inl k.1, omega arith) (w.askable_less (side_gives left p.0) (side_gives left (t, None)) (side_gives right p.1) (side_gives right p.1) p.2 k.0.gives (λ z h. h) c.2) (λ e h. w.refuses_more (side_gives left p.0) (side_gives left (t, None)) (side_gives right p.1) (side_gives right p.1) p.2 e k.0.gives (λ z h. h) h))
+        let k = side_kept_and_may_fail_where_fails left l p.0 t e c.0 a in
+        rw (b, d) (kept_by_draw_where_both_sides_kept p ((t, None), p.1, p.2) 0 1 0 0 k.0 (side_kept_where_it_stays right p.1 c.1) w (failure e) (inl k.1, omega arith) (w.askable_less (side_gives left p.0) (side_gives left (t, None)) (side_gives right p.1) (side_gives right p.1) p.2 k.0.gives (λ z h. h) c.2) (λ e h. w.refuses_more (side_gives left p.0) (side_gives left (t, None)) (side_gives right p.1) (side_gives right p.1) p.2 e k.0.gives (λ z h. h) h))
     kept_by_draw_place p t u g (right_failed x e) c a b d =
         let k = side_kept_puts_back left l p.0 t x c.0 a in
-        let j = side_kept_fails right m p.1 u e c.1 b in
-        rw d (kept_by_draw_of_both p ((t, x), (u, None), p.2) 0 0 0 1 k j.0 w (failure e) (inr (inl j.1), omega arith) (w.askable_less (side_gives left p.0) (side_gives left (t, x)) (side_gives right p.1) (side_gives right (u, None)) p.2 k.gives j.0.gives c.2) (λ e h. w.refuses_more (side_gives left p.0) (side_gives left (t, x)) (side_gives right p.1) (side_gives right (u, None)) p.2 e k.gives j.0.gives h))
+        let j = side_kept_and_may_fail_where_fails right m p.1 u e c.1 b in
+        rw d (kept_by_draw_where_both_sides_kept p ((t, x), (u, None), p.2) 0 0 0 1 k j.0 w (failure e) (inr (inl j.1), omega arith) (w.askable_less (side_gives left p.0) (side_gives left (t, x)) (side_gives right p.1) (side_gives right (u, None)) p.2 k.gives j.0.gives c.2) (λ e h. w.refuses_more (side_gives left p.0) (side_gives left (t, x)) (side_gives right p.1) (side_gives right (u, None)) p.2 e k.gives j.0.gives h))
     kept_by_draw_place p t u g (both_gave x y v) c a b d =
         let h = rule.left_held x y v in
         let i = rule.right_held x y v in
@@ -174,10 +174,10 @@ module _ {S U A B C E F V : Type 0} (left : Contract S A E) (right : Contract U 
         let j = side_kept_holds right m p.1 u y i (w.right_held_is_none_or_given x y v) c.1 b in
         let n = held_count x - held_count h in
         let o = held_count y - held_count i in
-        let P = (side_kept_given left l p.0 t x c.0 a).1 in
-        let Q = (side_kept_given right m p.1 u y c.1 b).1 in
+        let P = (side_kept_and_of_item_where_given left l p.0 t x c.0 a).1 in
+        let Q = (side_kept_and_of_item_where_given right m p.1 u y c.1 b).1 in
         let decided : IsDecidedByRule rule (side_gives left p.0) (side_gives left (t, h)) (side_gives right p.1) (side_gives right (u, i)) p.2 x y v g = record { left_less = k.gives; right_less = j.gives; left_allowed = P; right_allowed = Q; decided = d } in
-        kept_by_draw_of_both p ((t, h), (u, i), g) n n o o k j w (rule.answer x y v) (owed_by_rule p (n + o) (rule.answer x y v) (w.made (side_gives left p.0) (side_gives right p.1) p.2 x y v g P Q d)) (w.askable_after decided c.2) (w.refuses_before decided)
+        kept_by_draw_where_both_sides_kept p ((t, h), (u, i), g) n n o o k j w (rule.answer x y v) (owed_for_where_made_by_rule p (n + o) (rule.answer x y v) (w.made (side_gives left p.0) (side_gives right p.1) p.2 x y v g P Q d)) (w.askable_after decided c.2) (w.refuses_before decided)
 
     kept_by_draw_sides : (p : SidesState) (r : Answered C E) (q : SidesState) → SidesHere.can_next p → SidesHere.steps p r q → KeptByDraw SidesHere p r q
     kept_by_draw_sides p r ((t, h), (u, k), g) c step = rw (step.2, step.4, step.6) (kept_by_draw_place p t u g step.0 c step.1 step.3 step.5)

@@ -11,8 +11,8 @@ module _ {S A E : Type 0} (m : Contract S A E) where
   StopAfterContract = stop_after_contract m
 
   -- the bound that is at most k, after an answer
-  bound_within : (s : S) (k : ℕ) → AtMost m s k → (n : ℕ) × m.bound s n × (n ≤ k)
-  bound_within s k b = elim b [ inl h ↦ (k, h, omega arith) | inr h ↦ h ]
+  bound_within_where_at_most : (s : S) (k : ℕ) → AtMost m s k → (n : ℕ) × m.bound s n × (n ≤ k)
+  bound_within_where_at_most s k b = elim b [ inl h ↦ (k, h, omega arith) | inr h ↦ h ]
 
   within_after : (s t : S) (r : Answered A E) (k i : ℕ) → i + items_in (r ∷ []) ≡ k → (n : ℕ) × m.bound s n × (n ≤ k) → OnAnswer m s r t → AtMost m t i
   within_after s t (Ok (Some x)) k i e b a = let d = a.1 b.0 b.1 in inr (d.0, d.1, omega (arith, e, b.2, d.2))
@@ -30,7 +30,7 @@ module _ {S A E : Type 0} (m : Contract S A E) where
   kept_by_draw_stop_after : Lawful m → (p : S × (ℕ × ℕ)) (r : Answered A E) (q : S × (ℕ × ℕ)) → StopAfterContract.can_next p → StopAfterContract.steps p r q → KeptByDraw StopAfterContract p r q
   kept_by_draw_stop_after l (s, (zero, k)) r (t, left) c step = rw (step.0, step.1, step.2) (kept_by_draw_over s k c)
   kept_by_draw_stop_after l (s, (suc n, k)) r (t, left) c step = let a = l.kept_by_draw s r t c.0 step.0 in record {
-    can_next = (a.can_next, within_after s t r k left.1 step.2 (bound_within s k c.1) a.answer);
+    can_next = (a.can_next, within_after s t r k left.1 step.2 (bound_within_where_at_most s k c.1) a.answer);
     is_finite = a.is_finite;
     answer = on_answer_stop_after s t r n k left.0 left.1 step.1 step.2 a.answer;
     may_give = a.may_give;

@@ -39,12 +39,12 @@ lawful_inclusive {m = m} g l = lawful_closing (place_drawn m.steps (call_by_refe
 
 -- ---- what each answer of the source makes
 
-weighs_made : {X E : Type 0} (x : X) (v : Result Bool E) → Weighs ends_come {X = X} {D = E} 1 0 (Ok (Some x)) (inclusive_made x v) 0
-weighs_made x (Ok true) = (omega arith, omega arith, λ s. absurd s)
-weighs_made x (Ok false) = (omega arith, omega arith, λ s. absurd s)
-weighs_made x (Err e) = (omega arith, omega arith, λ s. absurd s)
+weighs_of_inclusive_made : {X E : Type 0} (x : X) (v : Result Bool E) → Weighs ends_come {X = X} {D = E} 1 0 (Ok (Some x)) (inclusive_made x v) 0
+weighs_of_inclusive_made x (Ok true) = (omega arith, omega arith, λ s. absurd s)
+weighs_of_inclusive_made x (Ok false) = (omega arith, omega arith, λ s. absurd s)
+weighs_of_inclusive_made x (Err e) = (omega arith, omega arith, λ s. absurd s)
 
 pub is_stage_inclusive : {F X E : Type 0} (call : F → X → Result Bool E → F → Type 0) → IsStage ends_come (stage_meets (inclusive_on_item call) StopPasses) 1 (λ _. 0)
-is_stage_inclusive call f (Ok (Some x)) made h w = rw w.2 (weighs_made x w.0)
+is_stage_inclusive call f (Ok (Some x)) made h w = rw w.2 (weighs_of_inclusive_made x w.0)
 is_stage_inclusive call f (Ok None) made h w = rw w.0 (omega arith, omega arith, λ s. tt)
 is_stage_inclusive call f (Err e) made h w = rw w.0 (omega arith, omega arith, λ s. tt)

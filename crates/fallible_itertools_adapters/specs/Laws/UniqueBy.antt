@@ -8,7 +8,7 @@ use Rattle.std.proofs.Common.{subst}
 use Rattle.fallible_iterator.specs.Contract.{Contract, Lawful}
 use Rattle.fallible_iterator.specs.Closures.{IsCallable, Reaches, call_by_reference}
 use Rattle.fallible_iterator.specs.Hints.{upper_alone}
-use Rattle.fallible_iterator.specs.Laws.Closures.{is_callable_after, reaches_from, reaches_reflexive}
+use Rattle.fallible_iterator.specs.Laws.Closures.{is_callable_after, reaches_by_call_first, reaches_reflexive}
 use Rattle.fallible_iterator.specs.Laws.Passing.{lawful_leaving_out}
 use Rattle.fallible_itertools_adapters.specs.Holding.{as_answered_item}
 use Rattle.fallible_itertools_adapters.specs.UniqueBy.{key_asks, key_callable, key_takes, unique_by_contract}
@@ -18,7 +18,7 @@ use Rattle.fallible_iterator.specs.Outcome.{Outcome}
 module _ {A K S F E : Type 0} (eq : K → K → Bool) (from : AllocError → E → Type 0) (call : F → A → Result K E → F → Type 0) {P : A → Type 0} where
   reaches_by_calls : (made : List (A × Outcome A E)) (p q : HashSet K S × F) → FoldsTo (λ p c q. P c.0 × key_asks eq from call p c.0 c.1 q) p made q → Reaches call P p.1 q.1
   reaches_by_calls [] p q w = subst (λ (z : HashSet K S × F). Reaches call P p.1 z.1) w reaches_reflexive
-  reaches_by_calls (c ∷ made) p q w = reaches_from c.0 w.1.1.0 w.1.0 w.1.1.1 (reaches_by_calls made w.0 q w.2)
+  reaches_by_calls (c ∷ made) p q w = reaches_by_call_first c.0 w.1.1.0 w.1.0 w.1.1.1 (reaches_by_calls made w.0 q w.2)
 
   -- what is asked on items calls the closure on these
   pub reaches_closure : {p q : HashSet K S × F} → Reaches (key_asks eq from call) P p q → Reaches call P p.1 q.1

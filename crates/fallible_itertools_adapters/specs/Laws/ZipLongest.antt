@@ -9,26 +9,26 @@ use Rattle.fallible_itertools_adapters.specs.ZipLongest.{OfEach, longest, longes
 use Rattle.fallible_itertools_adapters.specs.declared.zip_longest.EitherOrBoth.{EitherOrBoth}
 use Rattle.fallible_itertools_adapters.specs.declared.zip_longest.EitherOrBoth.TheVariants.{Both, Left, Right}
 
-pub of_each_more : {A B : Type 0} (P P' : A → Type 0) (Q Q' : B → Type 0) (z : EitherOrBoth A B) → ((x : A) → P' x → P x) → ((y : B) → Q' y → Q y) → OfEach P' Q' z → OfEach P Q z
-of_each_more P P' Q Q' (Both x y) p q h = (p x h.0, q y h.1)
-of_each_more P P' Q Q' (Left x) p q h = p x h
-of_each_more P P' Q Q' (Right y) p q h = q y h
+pub of_each_where_each_implies : {A B : Type 0} (P P' : A → Type 0) (Q Q' : B → Type 0) (z : EitherOrBoth A B) → ((x : A) → P' x → P x) → ((y : B) → Q' y → Q y) → OfEach P' Q' z → OfEach P Q z
+of_each_where_each_implies P P' Q Q' (Both x y) p q h = (p x h.0, q y h.1)
+of_each_where_each_implies P P' Q Q' (Left x) p q h = p x h
+of_each_where_each_implies P P' Q Q' (Right y) p q h = q y h
 
-made_by_longest : {A B : Type 0} (E : Type 0) (P : A → Type 0) (Q : B → Type 0) (x : Option A) (y : Option B) → OfItem P x → OfItem Q y → MadeBy (longest_rule {A = A} {B = B} {E = E}) P Q tt ((held_count x - 0) + (held_count y - 0)) (Ok (longest x y))
-made_by_longest E P Q (Some x) (Some y) p q = ((p, q), omega arith)
-made_by_longest E P Q (Some x) None p q = (p, omega arith)
-made_by_longest E P Q None (Some y) p q = (q, omega arith)
-made_by_longest E P Q None None p q = tt
+made_by_longest_rule : {A B : Type 0} (E : Type 0) (P : A → Type 0) (Q : B → Type 0) (x : Option A) (y : Option B) → OfItem P x → OfItem Q y → MadeBy (longest_rule {A = A} {B = B} {E = E}) P Q tt ((held_count x - 0) + (held_count y - 0)) (Ok (longest x y))
+made_by_longest_rule E P Q (Some x) (Some y) p q = ((p, q), omega arith)
+made_by_longest_rule E P Q (Some x) None p q = (p, omega arith)
+made_by_longest_rule E P Q None (Some y) p q = (q, omega arith)
+made_by_longest_rule E P Q None None p q = tt
 
 module _ {A B E : Type 0} where
   pub is_lawful_rule_longest : IsLawfulRule (longest_rule {A = A} {B = B} {E = E})
   is_lawful_rule_longest = record {
     left_held_is_none_or_given = λ x y v. inl refl;
     right_held_is_none_or_given = λ x y v. inl refl;
-    made = λ P Q f x y v g p q d. made_by_longest E P Q x y p q;
+    made = λ P Q f x y v g p q d. made_by_longest_rule E P Q x y p q;
     askable_less = λ P P' Q Q' f p q h. tt;
     askable_after = λ c h. tt;
-    gives_more = of_each_more;
+    gives_more = of_each_where_each_implies;
     refuses_more = λ P P' Q Q' f e p q h. h;
     refuses_before = λ c e h. h;
   }

@@ -11,12 +11,12 @@ use Rattle.fallible_itertools_consumers.specs.ExactlyOne.{AtMostOneExit, AtMostO
 
 module _ {S A E : Type 0} {steps : S → Answered A E → S → Type 0} {s t : S} where
   -- the first draw decides
-  pub at_most_one_draw : {r : Result (Result (Option A) (A × A)) E} (last : Answered A E) → steps s last t → AtMostOneExit [] last r → AtMostOneDrains steps s r t
-  at_most_one_draw last step exit = drained_by_last last step (record { exit = exit })
+  pub at_most_one_drains_by_one_draw : {r : Result (Result (Option A) (A × A)) E} (last : Answered A E) → steps s last t → AtMostOneExit [] last r → AtMostOneDrains steps s r t
+  at_most_one_drains_by_one_draw last step exit = drained_by_last last step (record { exit = exit })
 
   -- the second does
-  pub at_most_one_two_draws : (u : S) {r : Result (Result (Option A) (A × A)) E} (x : A) (last : Answered A E) → steps s (item x) u → steps u last t → AtMostOneExit (x ∷ []) last r → AtMostOneDrains steps s r t
-  at_most_one_two_draws u x last first second exit = record { items = x ∷ []; last = last; ran = (u, first, (t, second, refl)); at = record { exit = exit } }
+  pub at_most_one_drains_by_two_draws : (u : S) {r : Result (Result (Option A) (A × A)) E} (x : A) (last : Answered A E) → steps s (item x) u → steps u last t → AtMostOneExit (x ∷ []) last r → AtMostOneDrains steps s r t
+  at_most_one_drains_by_two_draws u x last first second exit = record { items = x ∷ []; last = last; ran = (u, first, (t, second, refl)); at = record { exit = exit } }
 
 -- ---- over a list
 
@@ -32,14 +32,14 @@ module _ {A E : Type 0} where
   at_most_one_of_after_items (x ∷ y ∷ items) last r rest left exit = absurd exit
 
   -- the last answer, where it is no end, is the one that `nth(1)` would have
-  nth_exit_second_or_failure : (items : List A) (last : Answered A E) (r : Result (Result (Option A) (A × A)) E) → ¬ (last ≡ Ok None) → AtMostOneExit items last r → NthExit {A = A} {E = E} 1 (length items) last
-  nth_exit_second_or_failure [] (Ok None) r no_end exit = absurd (no_end refl)
-  nth_exit_second_or_failure [] (Ok (Some x)) r no_end exit = absurd exit
-  nth_exit_second_or_failure [] (Err e) r no_end exit = omega arith
-  nth_exit_second_or_failure (x ∷ []) (Ok None) r no_end exit = absurd (no_end refl)
-  nth_exit_second_or_failure (x ∷ []) (Ok (Some y)) r no_end exit = omega arith
-  nth_exit_second_or_failure (x ∷ []) (Err e) r no_end exit = omega arith
-  nth_exit_second_or_failure (x ∷ y ∷ items) last r no_end exit = absurd exit
+  nth_exit_of_second_where_not_ended : (items : List A) (last : Answered A E) (r : Result (Result (Option A) (A × A)) E) → ¬ (last ≡ Ok None) → AtMostOneExit items last r → NthExit {A = A} {E = E} 1 (length items) last
+  nth_exit_of_second_where_not_ended [] (Ok None) r no_end exit = absurd (no_end refl)
+  nth_exit_of_second_where_not_ended [] (Ok (Some x)) r no_end exit = absurd exit
+  nth_exit_of_second_where_not_ended [] (Err e) r no_end exit = omega arith
+  nth_exit_of_second_where_not_ended (x ∷ []) (Ok None) r no_end exit = absurd (no_end refl)
+  nth_exit_of_second_where_not_ended (x ∷ []) (Ok (Some y)) r no_end exit = omega arith
+  nth_exit_of_second_where_not_ended (x ∷ []) (Err e) r no_end exit = omega arith
+  nth_exit_of_second_where_not_ended (x ∷ y ∷ items) last r no_end exit = absurd exit
 
   no_end_drawn : (items : List A) (last : Answered A E) (r : Result (Result (Option A) (A × A)) E) → ((o : Option A) → ¬ (r ≡ Ok (Ok o))) → AtMostOneExit items last r → ¬ (last ≡ Ok None)
   no_end_drawn [] (Ok None) r other exit is = other None exit
@@ -58,5 +58,5 @@ module _ {S A E : Type 0} {steps : S → Answered A E → S → Type 0} {s t : S
   pub lists_rest_after_two : {r : Result (Result (Option A) (A × A)) E} (l : List (Result A E)) → AtMostOneDrains steps s r t → Lists steps s l → ((o : Option A) → ¬ (r ≡ Ok (Ok o))) → Lists steps t (rest_nth 1 l)
   lists_rest_after_two {r = r} l c i other =
       let no_end = no_end_drawn c.items c.last r other c.at.exit in
-      let c' : NthDrains steps s 1 c.last t = record { items = c.items; last = c.last; ran = c.ran; at = record { is = refl; exit = nth_exit_second_or_failure c.items c.last r no_end c.at.exit } } in
+      let c' : NthDrains steps s 1 c.last t = record { items = c.items; last = c.last; ran = c.ran; at = record { is = refl; exit = nth_exit_of_second_where_not_ended c.items c.last r no_end c.at.exit } } in
       lists_rest_nth l c' i no_end

@@ -25,8 +25,8 @@ module _ {S T A B E C : Type 0} {left-steps : S → Answered A E → S → Type 
     callable_in_rounds_after u v d x y h step next turn = record { at = λ pairs u' v' w z e p yields given went. h.at ((x, y) ∷ pairs) u' v' w z e p (u, step, yields) (v, next, given) (d, turn, went) }
 
   module _ {turns : C → A × B → ControlFlow (Result (Option Ordering) E) (Unit {0}) → C → Type 0} where
-    pub compare_by_draws_after : (u : S) (v : T) (d : C) (x : A) (y : B) {r : Result (Option Ordering) E} → left-steps s (item x) u → right-steps t (item y) v → goes_on turns c (x, y) d → CompareByDraws turns left-steps right-steps u v d r → CompareByDraws turns left-steps right-steps s t c r
-    compare_by_draws_after u v d x y step next turn rest = record { pairs = (x, y) ∷ rest.pairs; state = rest.state; went = (d, turn, rest.went); last_left = rest.last_left; last_right = rest.last_right; left = rest.left; right = rest.right; left_ran = (u, step, rest.left_ran); right_ran = (v, next, rest.right_ran); exit = rest.exit }
+    pub compare_by_draws_where_round_goes_on : (u : S) (v : T) (d : C) (x : A) (y : B) {r : Result (Option Ordering) E} → left-steps s (item x) u → right-steps t (item y) v → goes_on turns c (x, y) d → CompareByDraws turns left-steps right-steps u v d r → CompareByDraws turns left-steps right-steps s t c r
+    compare_by_draws_where_round_goes_on u v d x y step next turn rest = record { pairs = (x, y) ∷ rest.pairs; state = rest.state; went = (d, turn, rest.went); last_left = rest.last_left; last_right = rest.last_right; left = rest.left; right = rest.right; left_ran = (u, step, rest.left_ran); right_ran = (v, next, rest.right_ran); exit = rest.exit }
 
     -- a left failure, after which the right isn't drawn
     pub compare_by_draws_left_failure : (u : S) (e : E) → left-steps s (Err e) u → CompareByDraws turns left-steps right-steps s t c (Err e)
@@ -47,12 +47,12 @@ pub record TurnsAs {A B E C : Type 0} (turns : C → A × B → ControlFlow (Res
   pub goes : (p : A × B) (d : C) → turns c p (Continue tt) d → (d ≡ c) × (h p.0 p.1 ≡ Ok (Some Equal))
   pub stops : (p : A × B) (r : Result (Option Ordering) E) (d : C) → turns c p (Break r) d → (h p.0 p.1 ≡ r) × ¬ (r ≡ Ok (Some Equal))
 
-on_value_unless_equal_where_decided : {E : Type 0} (r rest : Result (Option Ordering) E) → ¬ (r ≡ Ok (Some Equal)) → on_value r (λ o. unless_equal o rest) ≡ r
-on_value_unless_equal_where_decided (Err e) rest other = refl
-on_value_unless_equal_where_decided (Ok None) rest other = refl
-on_value_unless_equal_where_decided (Ok (Some Less)) rest other = refl
-on_value_unless_equal_where_decided (Ok (Some Equal)) rest other = absurd (other refl)
-on_value_unless_equal_where_decided (Ok (Some Greater)) rest other = refl
+unless_equal_is_same_where_decided : {E : Type 0} (r rest : Result (Option Ordering) E) → ¬ (r ≡ Ok (Some Equal)) → on_value r (λ o. unless_equal o rest) ≡ r
+unless_equal_is_same_where_decided (Err e) rest other = refl
+unless_equal_is_same_where_decided (Ok None) rest other = refl
+unless_equal_is_same_where_decided (Ok (Some Less)) rest other = refl
+unless_equal_is_same_where_decided (Ok (Some Equal)) rest other = absurd (other refl)
+unless_equal_is_same_where_decided (Ok (Some Greater)) rest other = refl
 
 module _ {A B E C : Type 0} (turns : C → A × B → ControlFlow (Result (Option Ordering) E) (Unit {0}) → C → Type 0) (h : A → B → Result (Option Ordering) E) (c : C) (acts : TurnsAs turns h c) where
   abbrev RightLeft : Option (Answered B E) → List (Result B E) → Type 0
@@ -71,7 +71,7 @@ module _ {A B E C : Type 0} (turns : C → A × B → ControlFlow (Result (Optio
   compared_by_at_last_round (Ok (Some x)) (Some (Err e)) r a b p q exit = exit ∙ sym (ap (λ l. compared_by h l b) p.1 ∙ ap (compared_by h (Ok x ∷ p.0)) q.1)
   compared_by_at_last_round (Ok (Some x)) (Some (Ok None)) r a b p q exit = exit ∙ sym (ap (λ l. compared_by h l b) p.1 ∙ ap (compared_by h (Ok x ∷ p.0)) q)
   compared_by_at_last_round (Ok (Some x)) (Some (Ok (Some y))) r a b p q exit = let s = acts.stops (x, y) r exit.0 exit.1 in
-      sym (ap (λ l. compared_by h l b) p.1 ∙ ap (compared_by h (Ok x ∷ p.0)) q.1 ∙ ap (λ (w : Result (Option Ordering) E). on_value w (λ o. unless_equal o (compared_by h p.0 q.0))) s.0 ∙ on_value_unless_equal_where_decided r (compared_by h p.0 q.0) s.1)
+      sym (ap (λ l. compared_by h l b) p.1 ∙ ap (compared_by h (Ok x ∷ p.0)) q.1 ∙ ap (λ (w : Result (Option Ordering) E). on_value w (λ o. unless_equal o (compared_by h p.0 q.0))) s.0 ∙ unless_equal_is_same_where_decided r (compared_by h p.0 q.0) s.1)
 
   right_left_of_where_drawn : {T : Type 0} (right-steps : T → Answered B E → T → Type 0) (y : Option (Answered B E)) (b : List (Result B E)) (t v : T) → AlwaysGives right-steps t b → Run right-steps t (where_drawn y) v → RightLeft y b
   right_left_of_where_drawn right-steps None b t v gives ran = refl
@@ -96,31 +96,31 @@ module _ {S T O A B E C : Type 0} {turns : C → A × B → ControlFlow (Result 
 -- ---- the turns of `cmp_by` and `eq_by`
 
 module _ {F A B E : Type 0} {f : F} where
-  pub turns_as_cmp_acts : (call : F → A → B → Result Ordering E → F → Type 0) (h : A → B → Result Ordering E) → ActsWith call f h → TurnsAs (IsCmpTurn call) (λ x y. read_as (λ o. Some o) (h x y)) f
-  turns_as_cmp_acts call h acts = record {
+  pub turns_as_of_cmp_where_acts : (call : F → A → B → Result Ordering E → F → Type 0) (h : A → B → Result Ordering E) → ActsWith call f h → TurnsAs (IsCmpTurn call) (λ x y. read_as (λ o. Some o) (h x y)) f
+  turns_as_of_cmp_where_acts call h acts = record {
     goes = λ p d w. let a = acts p.0 p.1 (Ok Equal) d w in (a.0, ap (read_as (λ o. Some o)) (sym a.1));
-    stops = λ p r d w. stops_of_cmp p r d w;
+    stops = λ p r d w. answers_and_not_equal_where_cmp_stops p r d w;
   }
     where
-      stops_of_cmp : (p : A × B) (r : Result (Option Ordering) E) (d : F) → IsCmpTurn call f p (Break r) d → (read_as (λ o. Some o) (h p.0 p.1) ≡ r) × ¬ (r ≡ Ok (Some Equal))
-      stops_of_cmp p (Ok None) d w = absurd w
-      stops_of_cmp p (Ok (Some o)) d w = (ap (read_as (λ q. Some q)) (sym (acts p.0 p.1 (Ok o) d w.0).1), λ e. w.1 (let q = e in cc))
-      stops_of_cmp p (Err e) d w = (ap (read_as (λ q. Some q)) (sym (acts p.0 p.1 (Err e) d w).1), λ q. cc)
+      answers_and_not_equal_where_cmp_stops : (p : A × B) (r : Result (Option Ordering) E) (d : F) → IsCmpTurn call f p (Break r) d → (read_as (λ o. Some o) (h p.0 p.1) ≡ r) × ¬ (r ≡ Ok (Some Equal))
+      answers_and_not_equal_where_cmp_stops p (Ok None) d w = absurd w
+      answers_and_not_equal_where_cmp_stops p (Ok (Some o)) d w = (ap (read_as (λ q. Some q)) (sym (acts p.0 p.1 (Ok o) d w.0).1), λ e. w.1 (let q = e in cc))
+      answers_and_not_equal_where_cmp_stops p (Err e) d w = (ap (read_as (λ q. Some q)) (sym (acts p.0 p.1 (Err e) d w).1), λ q. cc)
 
-  pub turns_as_eq_acts : (call : F → A → B → Result Bool E → F → Type 0) (h : A → B → Result Bool E) → ActsWith call f h → TurnsAs (IsEqTurn call) (λ x y. read_as equal_where (h x y)) f
-  turns_as_eq_acts call h acts = record {
+  pub turns_as_of_eq_where_acts : (call : F → A → B → Result Bool E → F → Type 0) (h : A → B → Result Bool E) → ActsWith call f h → TurnsAs (IsEqTurn call) (λ x y. read_as equal_where (h x y)) f
+  turns_as_of_eq_where_acts call h acts = record {
     goes = λ p d w. let a = acts p.0 p.1 (Ok true) d w in (a.0, ap (read_as equal_where) (sym a.1));
-    stops = λ p r d w. stops_of_eq p r d w;
+    stops = λ p r d w. answers_and_not_equal_where_eq_stops p r d w;
   }
     where
-      stops_of_eq : (p : A × B) (r : Result (Option Ordering) E) (d : F) → IsEqTurn call f p (Break r) d → (read_as equal_where (h p.0 p.1) ≡ r) × ¬ (r ≡ Ok (Some Equal))
-      stops_of_eq p (Ok None) d w = (ap (read_as equal_where) (sym (acts p.0 p.1 (Ok false) d w).1), λ q. cc)
-      stops_of_eq p (Ok (Some o)) d w = absurd w
-      stops_of_eq p (Err e) d w = (ap (read_as equal_where) (sym (acts p.0 p.1 (Err e) d w).1), λ q. cc)
+      answers_and_not_equal_where_eq_stops : (p : A × B) (r : Result (Option Ordering) E) (d : F) → IsEqTurn call f p (Break r) d → (read_as equal_where (h p.0 p.1) ≡ r) × ¬ (r ≡ Ok (Some Equal))
+      answers_and_not_equal_where_eq_stops p (Ok None) d w = (ap (read_as equal_where) (sym (acts p.0 p.1 (Ok false) d w).1), λ q. cc)
+      answers_and_not_equal_where_eq_stops p (Ok (Some o)) d w = absurd w
+      answers_and_not_equal_where_eq_stops p (Err e) d w = (ap (read_as equal_where) (sym (acts p.0 p.1 (Err e) d w).1), λ q. cc)
 
 -- `cmp_by` finds an order
-pub cmp_by_always_ordered : {S T F A B E : Type 0} (call : F → A → B → Result Ordering E → F → Type 0) {left-steps : S → Answered A E → S → Type 0} {right-steps : T → Answered B E → T → Type 0} {s : S} {t : T} {f : F} (r : Result (Option Ordering) E) → CompareByDraws (IsCmpTurn call) left-steps right-steps s t f r → ¬ (r ≡ Ok None)
-cmp_by_always_ordered {F = F} {A = A} {B = B} {E = E} call r c is = last_turn_round_never_none c.state c.last_left c.last_right (subst (λ q. LastTurnRound (IsCmpTurn call) c.state c.last_left c.last_right q) is c.exit)
+pub cmp_by_never_answers_none : {S T F A B E : Type 0} (call : F → A → B → Result Ordering E → F → Type 0) {left-steps : S → Answered A E → S → Type 0} {right-steps : T → Answered B E → T → Type 0} {s : S} {t : T} {f : F} (r : Result (Option Ordering) E) → CompareByDraws (IsCmpTurn call) left-steps right-steps s t f r → ¬ (r ≡ Ok None)
+cmp_by_never_answers_none {F = F} {A = A} {B = B} {E = E} call r c is = last_turn_round_never_none c.state c.last_left c.last_right (subst (λ q. LastTurnRound (IsCmpTurn call) c.state c.last_left c.last_right q) is c.exit)
   where
     last_turn_round_never_none : (d : F) (x : Answered A E) (y : Option (Answered B E)) → LastTurnRound (IsCmpTurn call) d x y (Ok None) → ⊥
     last_turn_round_never_none d (Err e) None exit = cc

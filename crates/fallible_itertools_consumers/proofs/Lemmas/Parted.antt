@@ -29,10 +29,10 @@ module _ {A E : Type 0} where
   abbrev all_items : List (Either A E) → List (Result (Either A E) Infallible)
   all_items vs = map (λ v. Ok v) vs
 
-  collected_all_items : (vs : List (Either A E)) → collected (all_items vs) ≡ Ok vs
+  collected_of_all_items_is_ok : (vs : List (Either A E)) → collected (all_items vs) ≡ Ok vs
   unfolding collected
-  collected_all_items [] = refl
-  collected_all_items (v ∷ vs) = rw (collected_all_items vs) refl
+  collected_of_all_items_is_ok [] = refl
+  collected_of_all_items_is_ok (v ∷ vs) = rw (collected_of_all_items_is_ok vs) refl
 
   module _ {S : Type 0} (steps : S → Answered A E → S → Type 0) where
     gives_end_parted : (s : S) → AlwaysGives steps s [] → (r : Answered (Either A E) Infallible) (t : S) → parted_step steps s r t → r ≡ Ok None
@@ -62,7 +62,7 @@ module _ {A E : Type 0} where
       partitioned_of_collected : (l : List (Result A E)) (r : Result (C × D) AllocError) → CollectedAs (MadeOfEithers made_items made_failures) (all_items (eithers l)) (without_source r) → PartitionedFailuresAs made_items made_failures l r
       unfolding CollectedAs PartitionedFailuresAs
       partitioned_of_collected l (Err a) h = tt
-      partitioned_of_collected l (Ok p) h = let same : h.0 ≡ eithers l = (let e = h.1 in let f = collected_all_items (eithers l) in cc) in
+      partitioned_of_collected l (Ok p) h = let same : h.0 ≡ eithers l = (let e = h.1 in let f = collected_of_all_items_is_ok (eithers l) in cc) in
           let m = subst (λ (vs : List (Either A E)). MadeOfEithers made_items made_failures vs p) same h.2 in
           (subst (λ (xs : List A). made_items xs p.0) (lefts_are_items l) m.0, subst (λ (es : List E). made_failures es p.1) (rights_are_failures l) m.1)
 

@@ -6,7 +6,7 @@ use Rattle.fallible_iterator.specs.Collecting.{Collects}
 use Rattle.fallible_iterator.specs.Fault.{Fault}
 use Rattle.fallible_iterator.specs.Fault.TheVariants.{Source, Memory}
 use Rattle.fallible_iterator.specs.Traces.{Answered, item, end, failure}
-use Rattle.fallible_iterator.proofs.Lemmas.Callers.{run_seen}
+use Rattle.fallible_iterator.proofs.Lemmas.Callers.{run_at_view}
 use Rattle.fallible_itertools_consumers.specs.PartitionMap.{lefts, rights, MadeOfEithers, EitherRefused}
 use Rattle.fallible_itertools_consumers.specs.declared.partition_map.Either.{Either}
 use Rattle.fallible_itertools_consumers.specs.declared.partition_map.Either.TheVariants.{Left, Right}
@@ -40,10 +40,10 @@ module _ {A B : Type 0} where
 module _ {S P A E : Type 0} (view : S → P) (steps : P → Answered A E → P → Type 0) where
   module _ {C : Type 0} (made : List A → C → Type 0) (empty_refuses : Type 0) (refuses : C → A → Type 0) (s : S) where
     collects_of_view : (r : Result C (Fault E)) → Collects (λ u r v. steps (view u) r (view v)) made empty_refuses refuses s r → Collects steps made empty_refuses refuses (view s) r
-    collects_of_view (Ok c) h = record { items = h.items; after = view h.after; ran = run_seen view steps (map item h.items ++ end ∷ []) s h.after h.ran; is_made = h.is_made }
-    collects_of_view (Err (Source e)) h = record { items = h.items; collection = h.collection; after = view h.after; ran = run_seen view steps (map item h.items ++ failure e ∷ []) s h.after h.ran; is_made = h.is_made }
+    collects_of_view (Ok c) h = record { items = h.items; after = view h.after; ran = run_at_view view steps (map item h.items ++ end ∷ []) s h.after h.ran; is_made = h.is_made }
+    collects_of_view (Err (Source e)) h = record { items = h.items; collection = h.collection; after = view h.after; ran = run_at_view view steps (map item h.items ++ failure e ∷ []) s h.after h.ran; is_made = h.is_made }
     collects_of_view (Err (Memory a)) (inl refused) = inl refused
-    collects_of_view (Err (Memory a)) (inr h) = inr (record { items = h.items; refused = h.refused; collection = h.collection; after = view h.after; ran = run_seen view steps (map item h.items ++ item h.refused ∷ []) s h.after h.ran; is_made = h.is_made; refuses_it = h.refuses_it })
+    collects_of_view (Err (Memory a)) (inr h) = inr (record { items = h.items; refused = h.refused; collection = h.collection; after = view h.after; ran = run_at_view view steps (map item h.items ++ item h.refused ∷ []) s h.after h.ran; is_made = h.is_made; refuses_it = h.refuses_it })
 
-    pub collects_seen : {p : P} → view s ≡ p → (r : Result C (Fault E)) → Collects (λ u r v. steps (view u) r (view v)) made empty_refuses refuses s r → Collects steps made empty_refuses refuses p r
-    collects_seen at r h = subst (λ q. Collects steps made empty_refuses refuses q r) at (collects_of_view r h)
+    pub collects_of_view_where_view_is_known : {p : P} → view s ≡ p → (r : Result C (Fault E)) → Collects (λ u r v. steps (view u) r (view v)) made empty_refuses refuses s r → Collects steps made empty_refuses refuses p r
+    collects_of_view_where_view_is_known at r h = subst (λ q. Collects steps made empty_refuses refuses q r) at (collects_of_view r h)

@@ -14,12 +14,12 @@ module _ {A : Type 0} (n : ℕ) where
   length_tail_within : (items : List A) → length (tail_of n items) ≤ n
   length_tail_within items = let h = length-drop (length items - n) items in omega (arith, h)
 
-  tail_of_none : tail_of {A = A} n [] ≡ []
-  tail_of_none = subst (λ (k : ℕ). drop {A = A} k [] ≡ []) (let e : 0 ≡ 0 - n = omega arith in e) refl
+  tail_of_empty_is_empty : tail_of {A = A} n [] ≡ []
+  tail_of_empty_is_empty = subst (λ (k : ℕ). drop {A = A} k [] ≡ []) (let e : 0 ≡ 0 - n = omega arith in e) refl
 
   -- the last n of one item more are among the last n and that item
-  pub tail_more : (items : List A) (x : A) → tail_of n (tail_of n items ++ x ∷ []) ≡ tail_of n (items ++ x ∷ [])
-  tail_more items x =
+  pub tail_of_pushed_is_tail_of_tail_pushed : (items : List A) (x : A) → tail_of n (tail_of n items ++ x ∷ []) ≡ tail_of n (items ++ x ∷ [])
+  tail_of_pushed_is_tail_of_tail_pushed items x =
       ap (λ (l : List A). tail_of n l) (sym moved)
       ∙ drop-drop (length (drop left longer) - n) left longer
       ∙ ap (λ (k : ℕ). drop k longer) drops_add_up
@@ -43,10 +43,10 @@ module _ {A : Type 0} (n : ℕ) where
     kept_more q x p turned items is =
         turned (subst (λ (l : List A). length l ≤ n) (sym is) (length_tail_within items))
         ∙ ap (λ (l : List A). tail_of n (l ++ x ∷ [])) is
-        ∙ tail_more items x
+        ∙ tail_of_pushed_is_tail_of_tail_pushed items x
 
     none_kept : (q : Q) → items_of q ≡ [] → IsTailOf items_of n [] q
-    none_kept q is_empty = is_empty ∙ sym tail_of_none
+    none_kept q is_empty = is_empty ∙ sym tail_of_empty_is_empty
 
     module _ {S E : Type 0} {steps : S → Answered A E → S → Type 0} {s t : S} {q p : Q} (is_empty : items_of q ≡ []) where
       pub collects_all_tail : Driven steps (IsTailTurn len capacity n items_of) s q (Ok None) t p → CollectsAll steps (IsTailOf items_of n) s p

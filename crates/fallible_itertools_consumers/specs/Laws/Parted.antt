@@ -10,16 +10,16 @@ use Rattle.fallible_itertools_consumers.specs.declared.partition_map.Either.TheV
 use Rattle.std.specs.declared.convert.Infallible.{Infallible}
 
 module _ {S A E : Type 0} (m : Contract S A E) (l : Lawful m) where
-  may_come_kept : {P P' : A → Type 0} {Q Q' : E → Type 0} → ((x : A) → P x → P' x) → ((e : E) → Q e → Q' e) → (v : Either A E) → EitherMayCome P Q v → EitherMayCome P' Q' v
-  may_come_kept p q (Left x) h = p x h
-  may_come_kept p q (Right e) h = q e h
+  either_may_come_where_each_implies : {P P' : A → Type 0} {Q Q' : E → Type 0} → ((x : A) → P x → P' x) → ((e : E) → Q e → Q' e) → (v : Either A E) → EitherMayCome P Q v → EitherMayCome P' Q' v
+  either_may_come_where_each_implies p q (Left x) h = p x h
+  either_may_come_where_each_implies p q (Right e) h = q e h
 
   kept_by_draw_parted : (s : S) (r : Answered (Either A E) Infallible) (t : S) → m.can_next s → (parted_contract m).steps s r t → KeptByDraw (parted_contract m) s r t
   kept_by_draw_parted s (Ok (Some (Left x))) t can step = let k = l.kept_by_draw s (Ok (Some x)) t can step in record {
     can_next = k.can_next;
     is_finite = λ f. (k.answer.2 f).0;
     answer = (k.answer.0, λ n b. (size (m.remaining t), ((k.answer.2 b.0).0, omega arith), let d = (k.answer.2 b.0).1 in let e = b.1 in omega (arith, d, e)), λ f. k.answer.2 f);
-    may_give = may_come_kept k.may_give k.may_fail;
+    may_give = either_may_come_where_each_implies k.may_give k.may_fail;
     may_fail = λ e h. h;
     lenders = k.lenders;
   }
@@ -27,7 +27,7 @@ module _ {S A E : Type 0} (m : Contract S A E) (l : Lawful m) where
     can_next = k.can_next;
     is_finite = λ f. (k.answer.2 f).0;
     answer = (k.answer.0, λ n b. (size (m.remaining t), ((k.answer.2 b.0).0, omega arith), let d = (k.answer.2 b.0).1 in let e = b.1 in omega (arith, d, e)), λ f. k.answer.2 f);
-    may_give = may_come_kept k.may_give k.may_fail;
+    may_give = either_may_come_where_each_implies k.may_give k.may_fail;
     may_fail = λ e h. h;
     lenders = k.lenders;
   }
@@ -35,7 +35,7 @@ module _ {S A E : Type 0} (m : Contract S A E) (l : Lawful m) where
     can_next = k.can_next;
     is_finite = λ f. (k.answer.1 f).0;
     answer = (λ n b. (size (m.remaining t), ((k.answer.1 b.0).0, omega arith), let d = (k.answer.1 b.0).1 in let e = b.1 in omega (arith, d, e)), λ f. k.answer.1 f);
-    may_give = may_come_kept k.may_give k.may_fail;
+    may_give = either_may_come_where_each_implies k.may_give k.may_fail;
     may_fail = λ e h. h;
     lenders = k.lenders;
   }

@@ -21,13 +21,13 @@ pub map-reverse : {X Y : Type 0} (h : X → Y) (xs : List X) → map h (reverse 
 map-reverse h [] = refl
 map-reverse h (x ∷ xs) = ap (map h) (reverse-append (x ∷ []) xs) ∙ map-append h (reverse xs) (x ∷ []) ∙ ap (λ l. l ++ h x ∷ []) (map-reverse h xs) ∙ sym (reverse-append (h x ∷ []) (map h xs))
 
-cons_reversed : {Y : Type 0} (o : Option Y) (ys : List Y) → reverse ys ++ cons_option o [] ≡ reverse (cons_option o ys)
-cons_reversed None ys = append-nil (reverse ys)
-cons_reversed (Some y) ys = sym (reverse-append (y ∷ []) ys)
+reverse_of_cons_option_is_append : {Y : Type 0} (o : Option Y) (ys : List Y) → reverse ys ++ cons_option o [] ≡ reverse (cons_option o ys)
+reverse_of_cons_option_is_append None ys = append-nil (reverse ys)
+reverse_of_cons_option_is_append (Some y) ys = sym (reverse-append (y ∷ []) ys)
 
 pub filter_map-reverse : {X Y : Type 0} (h : X → Option Y) (xs : List X) → filter_map h (reverse xs) ≡ reverse (filter_map h xs)
 filter_map-reverse h [] = refl
-filter_map-reverse h (x ∷ xs) = ap (filter_map h) (reverse-append (x ∷ []) xs) ∙ filter_map-append h (reverse xs) (x ∷ []) ∙ ap (λ l. l ++ cons_option (h x) []) (filter_map-reverse h xs) ∙ cons_reversed (h x) (filter_map h xs)
+filter_map-reverse h (x ∷ xs) = ap (filter_map h) (reverse-append (x ∷ []) xs) ∙ filter_map-append h (reverse xs) (x ∷ []) ∙ ap (λ l. l ++ cons_option (h x) []) (filter_map-reverse h xs) ∙ reverse_of_cons_option_is_append (h x) (filter_map h xs)
 
 pub All-reverse : {X : Type 0} (P : X → Type 0) (xs : List X) → All P xs → All P (reverse xs)
 All-reverse P [] a = a
@@ -47,11 +47,11 @@ module _ {F X R : Type 0} (call : F → X → R → F → Type 0) where
   pub steady_rest : (c : X × R) (pairs : List (X × R)) (f : F) → Steady call f (c ∷ pairs) → Steady call f pairs
   steady_rest c pairs f steady = λ made p q w. All-tail (GivesAt p q) c pairs (steady made p q w)
 
-  pub steady_answer : (c : X × R) (pairs : List (X × R)) (f g : F) (v : R) → Steady call f (c ∷ pairs) → call f c.0 v g → v ≡ c.1
-  steady_answer c pairs f g v steady called = All-head (GivesAt f g) c pairs (steady [] f g refl) v called
+  pub answer_of_steady_call_is_paired : (c : X × R) (pairs : List (X × R)) (f g : F) (v : R) → Steady call f (c ∷ pairs) → call f c.0 v g → v ≡ c.1
+  answer_of_steady_call_is_paired c pairs f g v steady called = All-head (GivesAt f g) c pairs (steady [] f g refl) v called
 
-  pub steady_none : (f : F) → Steady call f []
-  steady_none f = λ made p q w. All-nil (GivesAt p q)
+  pub steady_of_nil : (f : F) → Steady call f []
+  steady_of_nil f = λ made p q w. All-nil (GivesAt p q)
 
   pub steady_reversed : (pairs : List (X × R)) (f : F) → Steady call f pairs → Steady call f (reverse pairs)
   steady_reversed pairs f steady = λ made p q w. All-reverse (GivesAt p q) pairs (steady made p q w)
@@ -73,13 +73,13 @@ module _ {S F X R B E : Type 0} (front back : S → Answered X E → S → Type 
     listed : ListsBothEnds front back u (source_list others)
     steady : Steady call g (items_listed others)
 
-  listed_after_first_call : (asked : List (Result (X × R) E)) (s u : S) (f g : F) (x : X) (v : R) → ListsBothEnds front back s (source_list asked) → Steady call f (items_listed asked) → front s (item x) u → call f x v g → AskedFirst asked x v u g
-  listed_after_first_call [] s u f g x v i k step called = absurd (let e = (takes_first_front i step).0 in cc)
-  listed_after_first_call (Err e ∷ asked) s u f g x v i k step called = absurd (let e = (takes_first_front i step).0 in cc)
-  listed_after_first_call (Ok c ∷ asked) s u f g x v i k step called =
+  asked_first_after_call : (asked : List (Result (X × R) E)) (s u : S) (f g : F) (x : X) (v : R) → ListsBothEnds front back s (source_list asked) → Steady call f (items_listed asked) → front s (item x) u → call f x v g → AskedFirst asked x v u g
+  asked_first_after_call [] s u f g x v i k step called = absurd (let e = (takes_first_front i step).0 in cc)
+  asked_first_after_call (Err e ∷ asked) s u f g x v i k step called = absurd (let e = (takes_first_front i step).0 in cc)
+  asked_first_after_call (Ok c ∷ asked) s u f g x v i k step called =
       let h = takes_first_front i step in
       let same : x ≡ c.0 = (let e = h.0 in cc) in
-      let answer = steady_answer call c (items_listed asked) f g v k (subst (λ (z : X). call f z v g) same called) in
+      let answer = answer_of_steady_call_is_paired call c (items_listed asked) f g v k (subst (λ (z : X). call f z v g) same called) in
       record {
         others = asked;
         list_is = ap (λ (w : R). cons_option (outcome_listed (outcome c.0 w)) (passed_list outcome asked)) (sym answer) ∙ ap (λ (z : X). cons_option (outcome_listed (outcome z v)) (passed_list outcome asked)) (sym same);
@@ -87,31 +87,31 @@ module _ {S F X R B E : Type 0} (front back : S → Answered X E → S → Type 
         steady = steady_after_call call (items_listed asked) f g x v (steady_rest call c (items_listed asked) f k) called;
       }
 
-  says_of_passed_list : (asked : List (Result (X × R) E)) (s : S) (f : F) → ListsBothEnds front back s (source_list asked) → Steady call f (items_listed asked) → ListedByCalls (s, f) (passed_list outcome asked)
-  says_of_passed_list asked s f i k = record { asked = asked; list_is = refl; listed = i; steady = k }
+  listed_by_calls_of_passed_list : (asked : List (Result (X × R) E)) (s : S) (f : F) → ListsBothEnds front back s (source_list asked) → Steady call f (items_listed asked) → ListedByCalls (s, f) (passed_list outcome asked)
+  listed_by_calls_of_passed_list asked s f i k = record { asked = asked; list_is = refl; listed = i; steady = k }
 
-  takes_first_end : (asked : List (Result (X × R) E)) (s u : S) (f : F) → ListsBothEnds front back s (source_list asked) → front s end u → TakesFirst (λ l. ListedByCalls (u, f) l) end (passed_list outcome asked)
-  takes_first_end [] s u f i step = (refl, says_of_passed_list [] u f (takes_first_front i step).1 (steady_none call f))
-  takes_first_end (Ok c ∷ asked) s u f i step = absurd (let e = (takes_first_front i step).0 in cc)
-  takes_first_end (Err e ∷ asked) s u f i step = absurd (let e = (takes_first_front i step).0 in cc)
+  takes_first_of_passed_at_end : (asked : List (Result (X × R) E)) (s u : S) (f : F) → ListsBothEnds front back s (source_list asked) → front s end u → TakesFirst (λ l. ListedByCalls (u, f) l) end (passed_list outcome asked)
+  takes_first_of_passed_at_end [] s u f i step = (refl, listed_by_calls_of_passed_list [] u f (takes_first_front i step).1 (steady_of_nil call f))
+  takes_first_of_passed_at_end (Ok c ∷ asked) s u f i step = absurd (let e = (takes_first_front i step).0 in cc)
+  takes_first_of_passed_at_end (Err e ∷ asked) s u f i step = absurd (let e = (takes_first_front i step).0 in cc)
 
-  takes_first_failure : (asked : List (Result (X × R) E)) (s u : S) (f : F) (d : E) → ListsBothEnds front back s (source_list asked) → Steady call f (items_listed asked) → front s (Err d) u → TakesFirst (λ l. ListedByCalls (u, f) l) (Err d) (passed_list outcome asked)
-  takes_first_failure [] s u f d i k step = absurd (let e = (takes_first_front i step).0 in cc)
-  takes_first_failure (Ok c ∷ asked) s u f d i k step = absurd (let e = (takes_first_front i step).0 in cc)
-  takes_first_failure (Err e ∷ asked) s u f d i k step = let h = takes_first_front i step in let same : d ≡ e = (let q = h.0 in cc) in (ap (λ (z : E). Err z) same, says_of_passed_list asked u f h.1 k)
+  takes_first_of_passed_at_failure : (asked : List (Result (X × R) E)) (s u : S) (f : F) (d : E) → ListsBothEnds front back s (source_list asked) → Steady call f (items_listed asked) → front s (Err d) u → TakesFirst (λ l. ListedByCalls (u, f) l) (Err d) (passed_list outcome asked)
+  takes_first_of_passed_at_failure [] s u f d i k step = absurd (let e = (takes_first_front i step).0 in cc)
+  takes_first_of_passed_at_failure (Ok c ∷ asked) s u f d i k step = absurd (let e = (takes_first_front i step).0 in cc)
+  takes_first_of_passed_at_failure (Err e ∷ asked) s u f d i k step = let h = takes_first_front i step in let same : d ≡ e = (let q = h.0 in cc) in (ap (λ (z : E). Err z) same, listed_by_calls_of_passed_list asked u f h.1 k)
 
   -- the answer that an outcome is takes the first of the list
-  takes_first_outcome : (asked : List (Result (X × R) E)) (u : S) (g : F) (x : X) (v : R) (y : Result B E) (r : Answered B E) → AskedFirst asked x v u g → outcome_listed (outcome x v) ≡ Some y → ((k : List (Result B E)) → ListedByCalls (u, g) k → TakesFirst (λ l. ListedByCalls (u, g) l) r (y ∷ k)) → TakesFirst (λ l. ListedByCalls (u, g) l) r (passed_list outcome asked)
-  takes_first_outcome asked u g x v y r a is taken = subst (λ (l : List (Result B E)). TakesFirst (λ l. ListedByCalls (u, g) l) r l) (sym (a.list_is ∙ ap (λ (o : Option (Result B E)). cons_option o (passed_list outcome a.others)) is)) (taken (passed_list outcome a.others) (says_of_passed_list a.others u g a.listed a.steady))
+  takes_first_of_passed_by_outcome : (asked : List (Result (X × R) E)) (u : S) (g : F) (x : X) (v : R) (y : Result B E) (r : Answered B E) → AskedFirst asked x v u g → outcome_listed (outcome x v) ≡ Some y → ((k : List (Result B E)) → ListedByCalls (u, g) k → TakesFirst (λ l. ListedByCalls (u, g) l) r (y ∷ k)) → TakesFirst (λ l. ListedByCalls (u, g) l) r (passed_list outcome asked)
+  takes_first_of_passed_by_outcome asked u g x v y r a is taken = subst (λ (l : List (Result B E)). TakesFirst (λ l. ListedByCalls (u, g) l) r l) (sym (a.list_is ∙ ap (λ (o : Option (Result B E)). cons_option o (passed_list outcome a.others)) is)) (taken (passed_list outcome a.others) (listed_by_calls_of_passed_list a.others u g a.listed a.steady))
 
   pub takes_first_of_passed : (asked : List (Result (X × R) E)) (s t : S) (f g : F) (r : Answered B E) → ListsBothEnds front back s (source_list asked) → Steady call f (items_listed asked) → Passes front call outcome s f (r ∷ []) t g → TakesFirst (λ l. ListedByCalls (t, g) l) r (passed_list outcome asked)
-  takes_first_of_passed asked s t f g _ i k (end_passes step done) = takes_first_end asked s t f i step
-  takes_first_of_passed asked s t f g _ i k (failure_passes e step done) = takes_first_failure asked s t f e i k step
-  takes_first_of_passed asked s t f g _ i k (keeps x v y step called is done) = takes_first_outcome asked t g x v (Ok y) (item y) (listed_after_first_call asked s t f g x v i k step called) (ap outcome_listed is) (λ l h. (refl, h))
-  takes_first_of_passed asked s t f g _ i k (refuses x v e step called is done) = takes_first_outcome asked t g x v (Err e) (Err e) (listed_after_first_call asked s t f g x v i k step called) (ap outcome_listed is) (λ l h. (refl, h))
+  takes_first_of_passed asked s t f g _ i k (end_passes step done) = takes_first_of_passed_at_end asked s t f i step
+  takes_first_of_passed asked s t f g _ i k (failure_passes e step done) = takes_first_of_passed_at_failure asked s t f e i k step
+  takes_first_of_passed asked s t f g _ i k (keeps x v y step called is done) = takes_first_of_passed_by_outcome asked t g x v (Ok y) (item y) (asked_first_after_call asked s t f g x v i k step called) (ap outcome_listed is) (λ l h. (refl, h))
+  takes_first_of_passed asked s t f g _ i k (refuses x v e step called is done) = takes_first_of_passed_by_outcome asked t g x v (Err e) (Err e) (asked_first_after_call asked s t f g x v i k step called) (ap outcome_listed is) (λ l h. (refl, h))
   takes_first_of_passed asked s t f g _ i k (closes x v step called is done) = absurd (never_ends x v is)
   takes_first_of_passed asked s t f g r i k (leaves_out {u = u} {h = h} x v step called is rest) =
-      let a = listed_after_first_call asked s u f h x v i k step called in
+      let a = asked_first_after_call asked s u f h x v i k step called in
       let same : passed_list outcome asked ≡ passed_list outcome a.others = a.list_is ∙ ap (λ (o : Outcome B E). cons_option (outcome_listed o) (passed_list outcome a.others)) is in
       subst (λ (l : List (Result B E)). TakesFirst (λ l. ListedByCalls (t, g) l) r l) (sym same) (takes_first_of_passed a.others u t h g r a.listed a.steady rest)
 
@@ -121,8 +121,8 @@ module _ {S F X R B E : Type 0} (front back : S → Answered X E → S → Type 
   abbrev SaysBoth : S × F → List (Result B E) → Type 0
   SaysBoth = ListedByCalls front back call outcome never_ends
 
-  says_both_swapped : (p : S × F) (l : List (Result B E)) → ListedByCalls back front call outcome never_ends p l → SaysBoth p (reverse l)
-  says_both_swapped p l a = record {
+  says_both_of_reverse : (p : S × F) (l : List (Result B E)) → ListedByCalls back front call outcome never_ends p l → SaysBoth p (reverse l)
+  says_both_of_reverse p l a = record {
     asked = reverse a.asked;
     list_is = ap reverse a.list_is ∙ sym (filter_map-reverse (passed_result outcome) a.asked);
     listed = subst (λ (k : List (Result X E)). ListsBothEnds front back p.0 k) (sym (map-reverse source_result a.asked)) (lists_both_ends_swapped a.listed);
@@ -135,7 +135,7 @@ module _ {S F X R B E : Type 0} (front back : S → Answered X E → S → Type 
 module _ {S F X R B E : Type 0} (front back : S → Answered X E → S → Type 0) (call : F → X → R → F → Type 0) (outcome : X → R → Outcome B E) (never_ends : (x : X) (v : R) → outcome x v ≡ End → ⊥) where
   -- The source lists what it was called on, and the closure returns the answers beside the items, in whatever state: the adapter lists what becomes of them.
   pub lists_both_ends_passed : (asked : List (Result (X × R) E)) (s : S) (f : F) → Steady call f (items_listed asked) → ListsBothEnds front back s (source_list asked) → ListsBothEnds (passing_step front call outcome) (passing_step back call outcome) (s, f) (passed_list outcome asked)
-  lists_both_ends_passed asked s f steady i = lists_both_ends_by_swapping (passing_step front call outcome) (passing_step back call outcome) (ListedByCalls front back call outcome never_ends) (ListedByCalls back front call outcome never_ends) (says_both_swapped back front call outcome never_ends) (says_both_swapped front back call outcome never_ends) (takes_first_passed_front front back call outcome never_ends) (takes_first_passed_front back front call outcome never_ends) (s, f) (passed_list outcome asked) (record { asked = asked; list_is = refl; listed = i; steady = steady })
+  lists_both_ends_passed asked s f steady i = lists_both_ends_by_swapping (passing_step front call outcome) (passing_step back call outcome) (ListedByCalls front back call outcome never_ends) (ListedByCalls back front call outcome never_ends) (says_both_of_reverse back front call outcome never_ends) (says_both_of_reverse front back call outcome never_ends) (takes_first_passed_front front back call outcome never_ends) (takes_first_passed_front back front call outcome never_ends) (s, f) (passed_list outcome asked) (record { asked = asked; list_is = refl; listed = i; steady = steady })
 
 -- ---- a closure that acts as a function
 
@@ -144,10 +144,10 @@ abbrev pub with_answer : {X R E : Type 0} → (X → R) → Result X E → Resul
 with_answer h (Ok x) = Ok (x, h x)
 with_answer h (Err e) = Err e
 
-pub source_list_with_answer : {X R E : Type 0} (h : X → R) (l : List (Result X E)) → source_list (map (with_answer h) l) ≡ l
-source_list_with_answer h [] = refl
-source_list_with_answer h (Ok x ∷ l) = ap {B = List (Result _ _)} (λ k. Ok x ∷ k) (source_list_with_answer h l)
-source_list_with_answer h (Err e ∷ l) = ap {B = List (Result _ _)} (λ k. Err e ∷ k) (source_list_with_answer h l)
+pub source_list_of_with_answer_is_same : {X R E : Type 0} (h : X → R) (l : List (Result X E)) → source_list (map (with_answer h) l) ≡ l
+source_list_of_with_answer_is_same h [] = refl
+source_list_of_with_answer_is_same h (Ok x ∷ l) = ap {B = List (Result _ _)} (λ k. Ok x ∷ k) (source_list_of_with_answer_is_same h l)
+source_list_of_with_answer_is_same h (Err e ∷ l) = ap {B = List (Result _ _)} (λ k. Err e ∷ k) (source_list_of_with_answer_is_same h l)
 
 module _ {F X R : Type 0} (call : F → X → R → F → Type 0) (f : F) (h : X → R) (acts : Acts call f h) where
   -- calls leave it as it is
@@ -155,30 +155,30 @@ module _ {F X R : Type 0} (call : F → X → R → F → Type 0) (f : F) (h : X
   closure_stays_of_calls [] p w = sym w
   closure_stays_of_calls (c ∷ made) p w = closure_stays_of_calls made p (subst (λ (g : F). Calls call g made p) (acts c.0 c.1 w.0 w.1).0 w.2)
 
-  all_given_with_answer : {E : Type 0} (q : F) (l : List (Result X E)) → All (GivesAt call f q) (items_listed (map (with_answer h) l))
-  all_given_with_answer q [] = All-nil (GivesAt call f q)
-  all_given_with_answer q (Ok x ∷ l) = All-cons (GivesAt call f q) (x, h x) (items_listed (map (with_answer h) l)) (λ r called. (acts x r q called).1) (all_given_with_answer q l)
-  all_given_with_answer q (Err e ∷ l) = all_given_with_answer q l
+  all_give_at_closure_by_function : {E : Type 0} (q : F) (l : List (Result X E)) → All (GivesAt call f q) (items_listed (map (with_answer h) l))
+  all_give_at_closure_by_function q [] = All-nil (GivesAt call f q)
+  all_give_at_closure_by_function q (Ok x ∷ l) = All-cons (GivesAt call f q) (x, h x) (items_listed (map (with_answer h) l)) (λ r called. (acts x r q called).1) (all_give_at_closure_by_function q l)
+  all_give_at_closure_by_function q (Err e ∷ l) = all_give_at_closure_by_function q l
 
   steady_with_answer : {E : Type 0} (l : List (Result X E)) → Steady call f (items_listed (map (with_answer h) l))
-  steady_with_answer l = λ made p q w. subst (λ (g : F). All (GivesAt call g q) (items_listed (map (with_answer h) l))) (sym (closure_stays_of_calls made p w)) (all_given_with_answer q l)
+  steady_with_answer l = λ made p q w. subst (λ (g : F). All (GivesAt call g q) (items_listed (map (with_answer h) l))) (sym (closure_stays_of_calls made p w)) (all_give_at_closure_by_function q l)
 
 module _ {X R B E : Type 0} (outcome : X → R → Outcome B E) (never_ends : (x : X) (v : R) → outcome x v ≡ End → ⊥) (h : X → R) where
-  cons_option_outcome : (o : Outcome B E) → (o ≡ End → ⊥) → (l : List (Result B E)) → cons_option (outcome_listed o) l ≡ by_outcome o l
-  cons_option_outcome (Kept y) not_end l = refl
-  cons_option_outcome LeftOut not_end l = refl
-  cons_option_outcome (Failure e) not_end l = refl
-  cons_option_outcome End not_end l = absurd (not_end refl)
+  cons_option_of_outcome_is_by_outcome : (o : Outcome B E) → (o ≡ End → ⊥) → (l : List (Result B E)) → cons_option (outcome_listed o) l ≡ by_outcome o l
+  cons_option_of_outcome_is_by_outcome (Kept y) not_end l = refl
+  cons_option_of_outcome_is_by_outcome LeftOut not_end l = refl
+  cons_option_of_outcome_is_by_outcome (Failure e) not_end l = refl
+  cons_option_of_outcome_is_by_outcome End not_end l = absurd (not_end refl)
 
   -- what is listed where the answers stand beside the items, is what passes
-  pub passed_list_with_answer : (l : List (Result X E)) → passed_list outcome (map (with_answer h) l) ≡ passed outcome (λ (p : Unit {0}) x. h x) (λ p x. p) tt l
-  passed_list_with_answer [] = refl
-  passed_list_with_answer (Ok x ∷ l) = ap (cons_option (outcome_listed (outcome x (h x)))) (passed_list_with_answer l) ∙ cons_option_outcome (outcome x (h x)) (never_ends x (h x)) _
-  passed_list_with_answer (Err e ∷ l) = ap {B = List (Result B E)} (λ k. Err e ∷ k) (passed_list_with_answer l)
+  pub passed_list_of_with_answer_is_passed : (l : List (Result X E)) → passed_list outcome (map (with_answer h) l) ≡ passed outcome (λ (p : Unit {0}) x. h x) (λ p x. p) tt l
+  passed_list_of_with_answer_is_passed [] = refl
+  passed_list_of_with_answer_is_passed (Ok x ∷ l) = ap (cons_option (outcome_listed (outcome x (h x)))) (passed_list_of_with_answer_is_passed l) ∙ cons_option_of_outcome_is_by_outcome (outcome x (h x)) (never_ends x (h x)) _
+  passed_list_of_with_answer_is_passed (Err e ∷ l) = ap {B = List (Result B E)} (λ k. Err e ∷ k) (passed_list_of_with_answer_is_passed l)
 
 module _ {F X R B E : Type 0} (call : F → X → R → F → Type 0) (outcome : X → R → Outcome B E) (never_ends : (x : X) (v : R) → outcome x v ≡ End → ⊥) (f : F) (h : X → R) (acts : Acts call f h) where
   -- what an adapter lists whose closure acts as a function
   pub lists_both_ends_by_function : {S : Type 0} (front back : S → Answered X E → S → Type 0) (s : S) (l : List (Result X E)) → ListsBothEnds front back s l
       → ListsBothEnds (passing_step front call outcome) (passing_step back call outcome) (s, f) (passed outcome (λ (p : Unit {0}) x. h x) (λ p x. p) tt l)
-  lists_both_ends_by_function front back s l i = subst (λ (k : List (Result B E)). ListsBothEnds (passing_step front call outcome) (passing_step back call outcome) (s, f) k) (passed_list_with_answer outcome never_ends h l)
-      (lists_both_ends_passed front back call outcome never_ends (map (with_answer h) l) s f (steady_with_answer call f h acts l) (subst (λ (k : List (Result X E)). ListsBothEnds front back s k) (sym (source_list_with_answer h l)) i))
+  lists_both_ends_by_function front back s l i = subst (λ (k : List (Result B E)). ListsBothEnds (passing_step front call outcome) (passing_step back call outcome) (s, f) k) (passed_list_of_with_answer_is_passed outcome never_ends h l)
+      (lists_both_ends_passed front back call outcome never_ends (map (with_answer h) l) s f (steady_with_answer call f h acts l) (subst (λ (k : List (Result X E)). ListsBothEnds front back s k) (sym (source_list_of_with_answer_is_same h l)) i))

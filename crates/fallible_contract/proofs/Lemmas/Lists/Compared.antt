@@ -16,11 +16,11 @@ always_gives_rest_after_item steps (Err y ∷ l) s u x a w = absurd (let h = (a 
 always_gives_rest_after_item steps (Ok y ∷ l) s u x a w = let h = a (Ok (Some x)) u w in (l, (let q = h.0 in cc), h.1)
 
 module _ {A E : Type 0} (rule : A → A → Option Ordering) where
-  unless_equal_other : (o : Option Ordering) (rest : Result (Option Ordering) E) → ¬ (o ≡ Some Equal) → unless_equal o rest ≡ Ok o
-  unless_equal_other None rest h = refl
-  unless_equal_other (Some Less) rest h = refl
-  unless_equal_other (Some Equal) rest h = absurd (h refl)
-  unless_equal_other (Some Greater) rest h = refl
+  unless_equal_is_ok_where_not_equal : (o : Option Ordering) (rest : Result (Option Ordering) E) → ¬ (o ≡ Some Equal) → unless_equal o rest ≡ Ok o
+  unless_equal_is_ok_where_not_equal None rest h = refl
+  unless_equal_is_ok_where_not_equal (Some Less) rest h = refl
+  unless_equal_is_ok_where_not_equal (Some Equal) rest h = absurd (h refl)
+  unless_equal_is_ok_where_not_equal (Some Greater) rest h = refl
 
   -- what is left of the second list at the last round
   abbrev pub RightLeft : Option (Answered A E) → List (Result A E) → Type 0
@@ -38,7 +38,7 @@ module _ {A E : Type 0} (rule : A → A → Option Ordering) where
   compared_at_last_round (Ok None) (Some (Ok (Some y))) r a b p q exit = exit ∙ sym (ap (λ l. compared rule l b) p ∙ ap (compared rule []) q.1)
   compared_at_last_round (Ok (Some x)) (Some (Err e)) r a b p q exit = exit ∙ sym (ap (λ l. compared rule l b) p.1 ∙ ap (compared rule (Ok x ∷ p.0)) q.1)
   compared_at_last_round (Ok (Some x)) (Some (Ok None)) r a b p q exit = exit ∙ sym (ap (λ l. compared rule l b) p.1 ∙ ap (compared rule (Ok x ∷ p.0)) q)
-  compared_at_last_round (Ok (Some x)) (Some (Ok (Some y))) r a b p q exit = exit.0 ∙ sym (ap (λ l. compared rule l b) p.1 ∙ ap (compared rule (Ok x ∷ p.0)) q.1 ∙ unless_equal_other (rule x y) (compared rule p.0 q.0) exit.1)
+  compared_at_last_round (Ok (Some x)) (Some (Ok (Some y))) r a b p q exit = exit.0 ∙ sym (ap (λ l. compared rule l b) p.1 ∙ ap (compared rule (Ok x ∷ p.0)) q.1 ∙ unless_equal_is_ok_where_not_equal (rule x y) (compared rule p.0 q.0) exit.1)
 
   module _ {T : Type 0} (right-steps : T → Answered A E → T → Type 0) where
     pub right_left_of_where_drawn : (y : Option (Answered A E)) (b : List (Result A E)) (t v : T) → AlwaysGives right-steps t b → Run right-steps t (where_drawn y) v → RightLeft y b

@@ -71,17 +71,17 @@ module _ {A E : Type 0} where
   collected_items [] = refl
   collected_items (x ∷ items) = ap (before x) (collected_items items)
 
-  collected_failure : (items : List A) (rest : List (Result A E)) (e : E) → collected (map (λ x. Ok x) items ++ Err e ∷ rest) ≡ Err e
+  collected_is_failure_after_items : (items : List A) (rest : List (Result A E)) (e : E) → collected (map (λ x. Ok x) items ++ Err e ∷ rest) ≡ Err e
   unfolding collected
-  collected_failure [] rest e = refl
-  collected_failure (x ∷ items) rest e = ap (before x) (collected_failure items rest e)
+  collected_is_failure_after_items [] rest e = refl
+  collected_is_failure_after_items (x ∷ items) rest e = ap (before x) (collected_is_failure_after_items items rest e)
 
 module _ {S A E C : Type 0} {steps : S → Answered A E → S → Type 0} (made : List A → C → Type 0) (empty_refuses : Type 0) (refuses : C → A → Type 0) {s : S} where
   collected_by : (r : Result C (Fault E)) (l : List (Result A E)) → Collects steps made empty_refuses refuses s r → Lists steps s l → CollectedBy made l r
   collected_by (Ok c) l k i = let d = drawn_of_lists steps k.items (Ok None) l s k.after i.runs k.ran in
       (k.items, ap collected d.list_is ∙ ap (λ (rest : _). collected (map (λ x. Ok x) k.items ++ rest)) d.rest_is ∙ collected_items k.items, k.is_made)
   collected_by (Err (Source e)) l k i = let d = drawn_of_lists steps k.items (Err e) l s k.after i.runs k.ran in
-      ap collected d.list_is ∙ ap (λ (rest : _). collected (map (λ x. Ok x) k.items ++ rest)) d.rest_is.1 ∙ collected_failure k.items d.rest_is.0 e
+      ap collected d.list_is ∙ ap (λ (rest : _). collected (map (λ x. Ok x) k.items ++ rest)) d.rest_is.1 ∙ collected_is_failure_after_items k.items d.rest_is.0 e
   collected_by (Err (Memory a)) l k i = tt
 
   pub collected_of_lists : (r : Result C (Fault E)) (l : List (Result A E)) → Collects steps made empty_refuses refuses s r → Lists steps s l → CollectedAs made l r
@@ -128,7 +128,7 @@ module _ {A E : Type 0} where
   last_of_exit : (items : List A) (last : Answered A E) (r : Result (Option A) E) (l rest : List (Result A E)) → l ≡ map (λ x. Ok x) items ++ rest → RestAt last rest → LastExit items last r → r ≡ last_of l
   unfolding last_of
   last_of_exit items (Ok None) r l rest is rest_is exit = exit ∙ sym (ap (λ (w : Result (List A) E). on_value w (λ xs. Ok (last_or None xs))) (ap collected is ∙ ap (λ (k : List (Result A E)). collected (map (λ x. Ok x) items ++ k)) rest_is ∙ collected_items items))
-  last_of_exit items (Err e) r l rest is rest_is exit = exit ∙ sym (ap (λ (w : Result (List A) E). on_value w (λ xs. Ok (last_or None xs))) (ap collected is ∙ ap (λ (k : List (Result A E)). collected (map (λ x. Ok x) items ++ k)) rest_is.1 ∙ collected_failure items rest_is.0 e))
+  last_of_exit items (Err e) r l rest is rest_is exit = exit ∙ sym (ap (λ (w : Result (List A) E). on_value w (λ xs. Ok (last_or None xs))) (ap collected is ∙ ap (λ (k : List (Result A E)). collected (map (λ x. Ok x) items ++ k)) rest_is.1 ∙ collected_is_failure_after_items items rest_is.0 e))
   last_of_exit items (Ok (Some x)) r l rest is rest_is exit = absurd exit
 
 pub last_of_lists : {S A E : Type 0} {steps : S → Answered A E → S → Type 0} {s t : S} {r : Result (Option A) E} (l : List (Result A E)) → LastDrains steps s r t → Lists steps s l → r ≡ last_of l
@@ -143,21 +143,21 @@ module _ {A E : Type 0} where
   nth_of_after_items (x ∷ items) rest zero k e = absurd (omega (arith, e))
   nth_of_after_items (x ∷ items) rest (suc n) k e = nth_of_after_items items rest n k (omega (arith, e))
 
-  nth_of_failure : (n : ℕ) (e : E) (l : List (Result A E)) → nth_of n (Err e ∷ l) ≡ Err e
+  nth_of_failure_first_is_failure : (n : ℕ) (e : E) (l : List (Result A E)) → nth_of n (Err e ∷ l) ≡ Err e
   unfolding nth_of
-  nth_of_failure zero e l = refl
-  nth_of_failure (suc n) e l = refl
+  nth_of_failure_first_is_failure zero e l = refl
+  nth_of_failure_first_is_failure (suc n) e l = refl
 
-  nth_of_rest : (n skipped : ℕ) (r : Answered A E) (rest : List (Result A E)) → NthExit n skipped r → RestAt r rest → (k : ℕ) × (n ≡ skipped + k) × (nth_of k rest ≡ r)
+  nth_of_rest_is_answer : (n skipped : ℕ) (r : Answered A E) (rest : List (Result A E)) → NthExit n skipped r → RestAt r rest → (k : ℕ) × (n ≡ skipped + k) × (nth_of k rest ≡ r)
   unfolding nth_of
-  nth_of_rest n skipped (Ok (Some x)) rest exit rest_is = (0, omega (arith, exit), ap (nth_of 0) rest_is.1)
-  nth_of_rest n skipped (Ok None) rest exit rest_is = (n - skipped, omega (arith, exit), ap (nth_of (n - skipped)) rest_is)
-  nth_of_rest n skipped (Err e) rest exit rest_is = (n - skipped, omega (arith, exit), ap (nth_of (n - skipped)) rest_is.1 ∙ nth_of_failure (n - skipped) e rest_is.0)
+  nth_of_rest_is_answer n skipped (Ok (Some x)) rest exit rest_is = (0, omega (arith, exit), ap (nth_of 0) rest_is.1)
+  nth_of_rest_is_answer n skipped (Ok None) rest exit rest_is = (n - skipped, omega (arith, exit), ap (nth_of (n - skipped)) rest_is)
+  nth_of_rest_is_answer n skipped (Err e) rest exit rest_is = (n - skipped, omega (arith, exit), ap (nth_of (n - skipped)) rest_is.1 ∙ nth_of_failure_first_is_failure (n - skipped) e rest_is.0)
 
 pub nth_of_lists : {S A E : Type 0} {steps : S → Answered A E → S → Type 0} {s t : S} {n : ℕ} {r : Answered A E} (l : List (Result A E)) → NthDrains steps s n r t → Lists steps s l → r ≡ nth_of n l
 nth_of_lists {steps = steps} {s = s} {t = t} {n = n} {r = r} l c i =
     let d = drawn_of_lists steps c.items r l s t i.runs (subst (λ (q : Answered _ _). Run steps s (map item c.items ++ q ∷ []) t) c.at.is c.ran) in
-    let h = nth_of_rest n (length c.items) r d.rest c.at.exit d.rest_is in
+    let h = nth_of_rest_is_answer n (length c.items) r d.rest c.at.exit d.rest_is in
     sym (ap (nth_of n) d.list_is ∙ nth_of_after_items c.items d.rest n h.0 h.1 ∙ h.2)
 
 -- ---- try_fold and fold
@@ -173,11 +173,11 @@ module _ {A E F B E' : Type 0} (call : F → B → A → Result B E' → F → T
       let d = folded_after_items items rest (went.0).0 v g others in
       (d.0, ap (λ (w : Result B E'). on_value w (λ c. folded convert h c (map (λ x. Ok x) items ++ rest))) (sym a.1) ∙ d.1)
 
-  folded_rest : (last : Answered A E) (v : B) (r : Result B E') (rest : List (Result A E)) → FoldExit call from v f last r → RestAt last rest → r ≡ folded convert h v rest
+  fold_exit_is_folded_of_rest : (last : Answered A E) (v : B) (r : Result B E') (rest : List (Result A E)) → FoldExit call from v f last r → RestAt last rest → r ≡ folded convert h v rest
   unfolding folded
-  folded_rest (Ok None) v r rest exit rest_is = exit ∙ sym (ap (folded convert h v) rest_is)
-  folded_rest (Err e) v r rest exit rest_is = exit.2 ∙ ap (λ (k : E'). Err k) (converts e exit.0 exit.1) ∙ sym (ap (folded convert h v) rest_is.1)
-  folded_rest (Ok (Some x)) v r rest exit rest_is =
+  fold_exit_is_folded_of_rest (Ok None) v r rest exit rest_is = exit ∙ sym (ap (folded convert h v) rest_is)
+  fold_exit_is_folded_of_rest (Err e) v r rest exit rest_is = exit.2 ∙ ap (λ (k : E'). Err k) (converts e exit.0 exit.1) ∙ sym (ap (folded convert h v) rest_is.1)
+  fold_exit_is_folded_of_rest (Ok (Some x)) v r rest exit rest_is =
       let a = acts v x (Err exit.1) exit.0 exit.2 in
       exit.3 ∙ ap (λ (w : Result B E'). on_value w (λ c. folded convert h c rest_is.0)) a.1 ∙ sym (ap (folded convert h v) rest_is.1)
 
@@ -185,7 +185,7 @@ module _ {A E F B E' : Type 0} (call : F → B → A → Result B E' → F → T
   folded_of_lists {steps = steps} {s = s} {t = t} {b = b} {r = r} l c i =
       let d = drawn_of_lists steps c.items c.last l s t i.runs c.ran in
       let p = folded_after_items c.items d.rest b c.at.value c.at.closure c.at.went in
-      folded_rest c.last c.at.value r d.rest (subst (λ (g : F). FoldExit call from c.at.value g c.last r) p.0 c.at.exit) d.rest_is ∙ sym (ap (folded convert h b) d.list_is ∙ p.1)
+      fold_exit_is_folded_of_rest c.last c.at.value r d.rest (subst (λ (g : F). FoldExit call from c.at.value g c.last r) p.0 c.at.exit) d.rest_is ∙ sym (ap (folded convert h b) d.list_is ∙ p.1)
 
 -- ---- a fold from the first item on
 

@@ -38,11 +38,11 @@ module _ {S A E : Type 0} (steps : S → Answered A E → S → Type 0) where
 
 -- ---- one draw
 
-pub nth_of_0_of_lists : {S A E : Type 0} {steps : S → Answered A E → S → Type 0} {s : S} {r : Answered A E} (t : S) (l : List (Result A E)) → steps s r t → Lists steps s l → r ≡ nth_of 0 l
+pub answer_of_lists_is_nth_of_zero : {S A E : Type 0} {steps : S → Answered A E → S → Type 0} {s : S} {r : Answered A E} (t : S) (l : List (Result A E)) → steps s r t → Lists steps s l → r ≡ nth_of 0 l
 unfolding nth_of
-nth_of_0_of_lists {r = r} t [] step i = i.runs r t step
-nth_of_0_of_lists {r = r} t (Ok x ∷ l) step i = (i.runs r t step).0
-nth_of_0_of_lists {r = r} t (Err e ∷ l) step i = (i.runs r t step).0
+answer_of_lists_is_nth_of_zero {r = r} t [] step i = i.runs r t step
+answer_of_lists_is_nth_of_zero {r = r} t (Ok x ∷ l) step i = (i.runs r t step).0
+answer_of_lists_is_nth_of_zero {r = r} t (Err e ∷ l) step i = (i.runs r t step).0
 
 pub lists_rest_first : {S A E : Type 0} {steps : S → Answered A E → S → Type 0} {s t : S} {r : Answered A E} (l : List (Result A E)) → steps s r t → Lists steps s l → ¬ (r ≡ Ok None) → Lists steps t (rest_first l)
 unfolding rest_first
@@ -58,16 +58,16 @@ module _ {S A E : Type 0} (steps : S → Answered A E → S → Type 0) where
   rest_nth_after_items (x ∷ items) rest zero k e = absurd (omega (arith, e))
   rest_nth_after_items (x ∷ items) rest (suc n) k e = rest_nth_after_items items rest n k (omega (arith, e))
 
-  rest_nth_failure : (n : ℕ) (e : E) (l : List (Result A E)) → rest_nth n (Err e ∷ l) ≡ l
+  rest_nth_of_failure_first_is_rest : (n : ℕ) (e : E) (l : List (Result A E)) → rest_nth n (Err e ∷ l) ≡ l
   unfolding rest_nth
-  rest_nth_failure zero e l = refl
-  rest_nth_failure (suc n) e l = refl
+  rest_nth_of_failure_first_is_rest zero e l = refl
+  rest_nth_of_failure_first_is_rest (suc n) e l = refl
 
   gives_rest_nth : (n skipped : ℕ) (r : Answered A E) (rest : List (Result A E)) (t : S) → NthExit n skipped r → ¬ (r ≡ Ok None) → GivesAfter steps t r rest → (k : ℕ) × (n ≡ skipped + k) × AlwaysGives steps t (rest_nth k rest)
   unfolding rest_nth
   gives_rest_nth n skipped (Ok (Some x)) rest t exit no_end given = (0, omega (arith, exit), subst (λ (l : List (Result A E)). AlwaysGives steps t (rest_nth 0 l)) (sym given.1) given.2)
   gives_rest_nth n skipped (Ok None) rest t exit no_end given = absurd (no_end refl)
-  gives_rest_nth n skipped (Err e) rest t exit no_end given = (n - skipped, omega (arith, exit), subst (λ (l : List (Result A E)). AlwaysGives steps t l) (sym (ap (rest_nth (n - skipped)) given.1 ∙ rest_nth_failure (n - skipped) e given.0)) given.2)
+  gives_rest_nth n skipped (Err e) rest t exit no_end given = (n - skipped, omega (arith, exit), subst (λ (l : List (Result A E)). AlwaysGives steps t l) (sym (ap (rest_nth (n - skipped)) given.1 ∙ rest_nth_of_failure_first_is_rest (n - skipped) e given.0)) given.2)
 
 pub lists_rest_nth : {S A E : Type 0} {steps : S → Answered A E → S → Type 0} {s t : S} {n : ℕ} {r : Answered A E} (l : List (Result A E)) → NthDrains steps s n r t → Lists steps s l → ¬ (r ≡ Ok None) → Lists steps t (rest_nth n l)
 lists_rest_nth {steps = steps} {s = s} {t = t} {n = n} {r = r} l c i no_end =
@@ -95,14 +95,14 @@ module _ {A E F V R : Type 0} (call : F → A → Result V E → F → Type 0) (
   rest_stop_item n x (Ok z) g l d = let a = acts x (Ok d.0) g d.1 in ap (λ (w : Result V E). rest_answer stops w l (rest_stop stops h l)) (sym a.1) ∙ ap (λ (b : Bool). stopped_or b l (rest_stop stops h l)) (sym (fits n x d.0) ∙ ap is_some d.2)
   rest_stop_item n x (Err e) g l d = let a = acts x (Err e) g d in ap (λ (w : Result V E). rest_answer stops w l (rest_stop stops h l)) (sym a.1)
 
-  rest_stop_failure : (e : E) (l : List (Result A E)) → rest_stop stops h (Err e ∷ l) ≡ l
+  rest_stop_of_failure_first_is_rest : (e : E) (l : List (Result A E)) → rest_stop stops h (Err e ∷ l) ≡ l
   unfolding rest_stop
-  rest_stop_failure e l = refl
+  rest_stop_of_failure_first_is_rest e l = refl
 
   module _ {S : Type 0} (steps : S → Answered A E → S → Type 0) where
     always_gives_rest_stop : (last : Answered A E) (n : ℕ) (r : Result R E) (g : F) (rest : List (Result A E)) (t : S) → SearchExit call pick none n f last r g → ¬ (r ≡ Ok none) → GivesAfter steps t last rest → AlwaysGives steps t (rest_stop stops h rest)
     always_gives_rest_stop (Ok None) n r g rest t exit no_end given = absurd (no_end exit.0)
-    always_gives_rest_stop (Err e) n r g rest t exit no_end given = subst (λ (l : List (Result A E)). AlwaysGives steps t l) (sym (ap (rest_stop stops h) given.1 ∙ rest_stop_failure e given.0)) given.2
+    always_gives_rest_stop (Err e) n r g rest t exit no_end given = subst (λ (l : List (Result A E)). AlwaysGives steps t l) (sym (ap (rest_stop stops h) given.1 ∙ rest_stop_of_failure_first_is_rest e given.0)) given.2
     always_gives_rest_stop (Ok (Some x)) n r g rest t exit no_end given = subst (λ (l : List (Result A E)). AlwaysGives steps t l) (sym (ap (rest_stop stops h) given.1 ∙ rest_stop_item n x r g given.0 exit)) given.2
 
     lists_rest_stop : {s t : S} {g : F} {r : Result R E} (l : List (Result A E)) → SearchDrains call pick steps none s f r t g → Lists steps s l → ¬ (r ≡ Ok none) → Lists steps t (rest_stop stops h l)
@@ -113,46 +113,46 @@ module _ {A E F V R : Type 0} (call : F → A → Result V E → F → Type 0) (
         record { runs = subst (λ (m : List (Result A E)). AlwaysGives steps t m) (sym (ap (rest_stop stops h) d.list_is ∙ p.1)) given }
 
 -- each search stops at what it picks
-is_some_all_pick : {A : Type 0} (n : ℕ) (x : A) (v : Bool) → is_some (all_pick n x v) ≡ not v
-is_some_all_pick n x true = refl
-is_some_all_pick n x false = refl
+is_some_of_all_pick_is_not_answer : {A : Type 0} (n : ℕ) (x : A) (v : Bool) → is_some (all_pick n x v) ≡ not v
+is_some_of_all_pick_is_not_answer n x true = refl
+is_some_of_all_pick_is_not_answer n x false = refl
 
-pub is_some_any_pick : {A : Type 0} (n : ℕ) (x : A) (v : Bool) → is_some (any_pick n x v) ≡ v
-is_some_any_pick n x true = refl
-is_some_any_pick n x false = refl
+pub is_some_of_any_pick_is_answer : {A : Type 0} (n : ℕ) (x : A) (v : Bool) → is_some (any_pick n x v) ≡ v
+is_some_of_any_pick_is_answer n x true = refl
+is_some_of_any_pick_is_answer n x false = refl
 
-pub is_some_find_pick : {A : Type 0} (n : ℕ) (x : A) (v : Bool) → is_some (find_pick n x v) ≡ v
-is_some_find_pick n x true = refl
-is_some_find_pick n x false = refl
+pub is_some_of_find_pick_is_answer : {A : Type 0} (n : ℕ) (x : A) (v : Bool) → is_some (find_pick n x v) ≡ v
+is_some_of_find_pick_is_answer n x true = refl
+is_some_of_find_pick_is_answer n x false = refl
 
-is_some_find_map_pick : {A B : Type 0} (n : ℕ) (x : A) (v : Option B) → is_some (find_map_pick n x v) ≡ is_some v
-is_some_find_map_pick n x (Some y) = refl
-is_some_find_map_pick n x None = refl
+is_some_of_find_map_pick_is_of_answer : {A B : Type 0} (n : ℕ) (x : A) (v : Option B) → is_some (find_map_pick n x v) ≡ is_some v
+is_some_of_find_map_pick_is_of_answer n x (Some y) = refl
+is_some_of_find_map_pick_is_of_answer n x None = refl
 
-pub is_some_position_pick : {A : Type 0} (n : ℕ) (x : A) (v : Bool) → is_some (position_pick n x v) ≡ v
-is_some_position_pick n x true = refl
-is_some_position_pick n x false = refl
+pub is_some_of_position_pick_is_answer : {A : Type 0} (n : ℕ) (x : A) (v : Bool) → is_some (position_pick n x v) ≡ v
+is_some_of_position_pick_is_answer n x true = refl
+is_some_of_position_pick_is_answer n x false = refl
 
 module _ {S A E F : Type 0} {steps : S → Answered A E → S → Type 0} {s t : S} {f g : F} (l : List (Result A E)) (i : Lists steps s l) where
   pub lists_rest_all : {call : F → A → Result Bool E → F → Type 0} (h : A → Result Bool E) {r : Result Bool E} → Acts call f h → SearchDrains call all_pick steps true s f r t g → ¬ (r ≡ Ok true) → Lists steps t (rest_false h l)
   unfolding rest_false
-  lists_rest_all {call = call} h acts d no_end = lists_rest_stop call all_pick true not is_some_all_pick h f acts steps l d i no_end
+  lists_rest_all {call = call} h acts d no_end = lists_rest_stop call all_pick true not is_some_of_all_pick_is_not_answer h f acts steps l d i no_end
 
   pub lists_rest_any : {call : F → A → Result Bool E → F → Type 0} (h : A → Result Bool E) {r : Result Bool E} → Acts call f h → SearchDrains call any_pick steps false s f r t g → ¬ (r ≡ Ok false) → Lists steps t (rest_true h l)
   unfolding rest_true
-  lists_rest_any {call = call} h acts d no_end = lists_rest_stop call any_pick false (λ v. v) is_some_any_pick h f acts steps l d i no_end
+  lists_rest_any {call = call} h acts d no_end = lists_rest_stop call any_pick false (λ v. v) is_some_of_any_pick_is_answer h f acts steps l d i no_end
 
   pub lists_rest_find : {call : F → A → Result Bool E → F → Type 0} (h : A → Result Bool E) {r : Result (Option A) E} → Acts call f h → SearchDrains call find_pick steps None s f r t g → ¬ (r ≡ Ok None) → Lists steps t (rest_true h l)
   unfolding rest_true
-  lists_rest_find {call = call} h acts d no_end = lists_rest_stop call find_pick None (λ v. v) is_some_find_pick h f acts steps l d i no_end
+  lists_rest_find {call = call} h acts d no_end = lists_rest_stop call find_pick None (λ v. v) is_some_of_find_pick_is_answer h f acts steps l d i no_end
 
   pub lists_rest_find_map : {B : Type 0} {call : F → A → Result (Option B) E → F → Type 0} (h : A → Result (Option B) E) {r : Result (Option B) E} → Acts call f h → SearchDrains call find_map_pick steps None s f r t g → ¬ (r ≡ Ok None) → Lists steps t (rest_value h l)
   unfolding rest_value
-  lists_rest_find_map {call = call} h acts d no_end = lists_rest_stop call find_map_pick None is_some is_some_find_map_pick h f acts steps l d i no_end
+  lists_rest_find_map {call = call} h acts d no_end = lists_rest_stop call find_map_pick None is_some is_some_of_find_map_pick_is_of_answer h f acts steps l d i no_end
 
   pub lists_rest_place : {call : F → A → Result Bool E → F → Type 0} (h : A → Result Bool E) {r : Result (Option ℕ) E} → Acts call f h → SearchDrains call position_pick steps None s f r t g → ¬ (r ≡ Ok None) → Lists steps t (rest_true h l)
   unfolding rest_true
-  lists_rest_place {call = call} h acts d no_end = lists_rest_stop call position_pick None (λ v. v) is_some_position_pick h f acts steps l d i no_end
+  lists_rest_place {call = call} h acts d no_end = lists_rest_stop call position_pick None (λ v. v) is_some_of_position_pick_is_answer h f acts steps l d i no_end
 
 -- ---- try_fold
 
@@ -167,19 +167,19 @@ module _ {A E F B E' : Type 0} (call : F → B → A → Result B E' → F → T
       let all : List (Result A E) = map (λ y. Ok y) items ++ rest in
       (d.0, ap (λ (w : Result B E'). rest_failed w all (λ c. rest_fold h c all)) (sym a.1) ∙ d.1)
 
-  pub rest_fold_failure : (b : B) (e : E) (l : List (Result A E)) → rest_fold h b (Err e ∷ l) ≡ l
+  pub rest_fold_of_failure_first_is_rest : (b : B) (e : E) (l : List (Result A E)) → rest_fold h b (Err e ∷ l) ≡ l
   unfolding rest_fold
-  rest_fold_failure b e l = refl
+  rest_fold_of_failure_first_is_rest b e l = refl
 
-  pub rest_fold_item : (b : B) (x : A) (e : E') (g : F) (l : List (Result A E)) → call f b x (Err e) g → rest_fold h b (Ok x ∷ l) ≡ l
+  pub rest_fold_where_call_fails_is_rest : (b : B) (x : A) (e : E') (g : F) (l : List (Result A E)) → call f b x (Err e) g → rest_fold h b (Ok x ∷ l) ≡ l
   unfolding rest_fold
-  rest_fold_item b x e g l called = ap (λ (w : Result B E'). rest_failed w l (λ c. rest_fold h c l)) (sym (acts b x (Err e) g called).1)
+  rest_fold_where_call_fails_is_rest b x e g l called = ap (λ (w : Result B E'). rest_failed w l (λ c. rest_fold h c l)) (sym (acts b x (Err e) g called).1)
 
   module _ {S : Type 0} (steps : S → Answered A E → S → Type 0) where
     always_gives_rest_fold : (last : Answered A E) (v : B) (d : E') (rest : List (Result A E)) (t : S) → FoldExit call from v f last (Err d) → GivesAfter steps t last rest → AlwaysGives steps t (rest_fold h v rest)
     always_gives_rest_fold (Ok None) v d rest t exit given = absurd cc
-    always_gives_rest_fold (Err e) v d rest t exit given = subst (λ (l : List (Result A E)). AlwaysGives steps t l) (sym (ap (rest_fold h v) given.1 ∙ rest_fold_failure v e given.0)) given.2
-    always_gives_rest_fold (Ok (Some x)) v d rest t exit given = subst (λ (l : List (Result A E)). AlwaysGives steps t l) (sym (ap (rest_fold h v) given.1 ∙ rest_fold_item v x exit.1 exit.0 given.0 exit.2)) given.2
+    always_gives_rest_fold (Err e) v d rest t exit given = subst (λ (l : List (Result A E)). AlwaysGives steps t l) (sym (ap (rest_fold h v) given.1 ∙ rest_fold_of_failure_first_is_rest v e given.0)) given.2
+    always_gives_rest_fold (Ok (Some x)) v d rest t exit given = subst (λ (l : List (Result A E)). AlwaysGives steps t l) (sym (ap (rest_fold h v) given.1 ∙ rest_fold_where_call_fails_is_rest v x exit.1 exit.0 given.0 exit.2)) given.2
 
     pub lists_rest_fold : {s t : S} {b : B} {r : Result B E'} (l : List (Result A E)) → FoldDrains steps call from s b f r t → Lists steps s l → (d : E') → r ≡ Err d → Lists steps t (rest_fold h b l)
     lists_rest_fold {s = s} {t = t} {b = b} {r = r} l c i e is =

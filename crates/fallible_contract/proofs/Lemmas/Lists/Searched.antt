@@ -23,17 +23,17 @@ module _ {A E F V R : Type 0} (call : F → A → Result V E → F → Type 0) (
   decided_item_is_searched n x (Ok z) g l d = let a = acts x (Ok d.0) g d.1 in sym (ap (λ (w : Result V E). decided (pick n x) w (searched pick none h (n + 1) l)) (sym a.1) ∙ ap (λ (w : Option R). picked_or w (searched pick none h (n + 1) l)) d.2)
   decided_item_is_searched n x (Err e) g l d = let a = acts x (Err e) g d in ap (λ (w : Result V E). decided (pick n x) w (searched pick none h (n + 1) l)) a.1
 
-  searched_rest : (last : Answered A E) (n : ℕ) (r : Result R E) (g : F) (rest : List (Result A E)) → SearchExit call pick none n f last r g → RestAt last rest → r ≡ searched pick none h n rest
+  search_exit_is_searched_of_rest : (last : Answered A E) (n : ℕ) (r : Result R E) (g : F) (rest : List (Result A E)) → SearchExit call pick none n f last r g → RestAt last rest → r ≡ searched pick none h n rest
   unfolding searched
-  searched_rest (Ok None) n r g rest exit rest_is = exit.0 ∙ sym (ap (searched pick none h n) rest_is)
-  searched_rest (Err e) n r g rest exit rest_is = exit.0 ∙ sym (ap (searched pick none h n) rest_is.1)
-  searched_rest (Ok (Some x)) n r g rest exit rest_is = decided_item_is_searched n x r g rest_is.0 exit ∙ sym (ap (searched pick none h n) rest_is.1)
+  search_exit_is_searched_of_rest (Ok None) n r g rest exit rest_is = exit.0 ∙ sym (ap (searched pick none h n) rest_is)
+  search_exit_is_searched_of_rest (Err e) n r g rest exit rest_is = exit.0 ∙ sym (ap (searched pick none h n) rest_is.1)
+  search_exit_is_searched_of_rest (Ok (Some x)) n r g rest exit rest_is = decided_item_is_searched n x r g rest_is.0 exit ∙ sym (ap (searched pick none h n) rest_is.1)
 
   pub searched_of_lists : {S : Type 0} {steps : S → Answered A E → S → Type 0} {s t : S} {g : F} {r : Result R E} (l : List (Result A E)) → SearchDrains call pick steps none s f r t g → Lists steps s l → r ≡ searched pick none h 0 l
   searched_of_lists {steps = steps} {s = s} {t = t} {g = g} {r = r} l c i =
       let d = drawn_of_lists steps c.items c.last l s t i.runs c.ran in
       let p = searched_after_items c.items d.rest 0 c.at.closure c.at.went in
-      searched_rest c.last (length c.items) r g d.rest (subst (λ (k : F). SearchExit call pick none (length c.items) k c.last r g) p.0 c.at.exit) d.rest_is ∙ ap (λ k. searched pick none h k d.rest) (omega arith) ∙ sym (ap (searched pick none h 0) d.list_is ∙ p.1)
+      search_exit_is_searched_of_rest c.last (length c.items) r g d.rest (subst (λ (k : F). SearchExit call pick none (length c.items) k c.last r g) p.0 c.at.exit) d.rest_is ∙ ap (λ k. searched pick none h k d.rest) (omega arith) ∙ sym (ap (searched pick none h 0) d.list_is ∙ p.1)
 
 module _ {S A E F : Type 0} {steps : S → Answered A E → S → Type 0} {s t : S} {f g : F} (l : List (Result A E)) (i : Lists steps s l) where
   pub all_of_lists : {call : F → A → Result Bool E → F → Type 0} (h : A → Result Bool E) {r : Result Bool E} → Acts call f h → SearchDrains call all_pick steps true s f r t g → r ≡ all_of h l

@@ -4,7 +4,7 @@ use Rattle.std.proofs.Common.{refl, subst}
 use Rattle.fallible_contract.specs.Traces.{Answered, item, end}
 use Rattle.fallible_contract.specs.Lists.{AlwaysGives}
 use Rattle.fallible_contract.proofs.Lemmas.ByNumber.{Leaves, keeps_item, keeps_end, keeps_failure, leaves_out, leaves_nil_same}
-use Rattle.fallible_contract.proofs.Lemmas.Lists.Passing.{always_gives_if}
+use Rattle.fallible_contract.proofs.Lemmas.Lists.Passing.{always_gives_by_each_step}
 use Rattle.fallible_core.specs.Cutting.StepBy.{stepped}
 
 module _ {S A E : Type 0} (steps : S → Answered A E → S → Type 0) (between : ℕ) where
@@ -43,4 +43,4 @@ module _ {S A E : Type 0} (steps : S → Answered A E → S → Type 0) (between
   always_gives_stepped [] n s g = λ r q w. leaves_one_end n s r q.0 q.1 g w
   always_gives_stepped (Err d ∷ l) n s g = λ r q w. let h = leaves_one_failure d l n s r q.0 q.1 g w in (h.0, subst (λ (k : ℕ). AlwaysGives leaves_one (q.0, k) (stepped between n l)) h.2 (always_gives_stepped l n q.0 h.1))
   always_gives_stepped (Ok x ∷ l) zero s g = λ r q w. let h = leaves_one_item x l s r q.0 q.1 g w in (h.0, subst (λ (k : ℕ). AlwaysGives leaves_one (q.0, k) (stepped between between l)) h.2 (always_gives_stepped l between q.0 h.1))
-  always_gives_stepped (Ok x ∷ l) (suc j) s g = always_gives_if leaves_one (stepped between j l) (s, suc j) (λ r q w. let h = leaves_after_item x l j s r q.0 q.1 g w in ((h.0, j), h.1, always_gives_stepped l j h.0 h.2))
+  always_gives_stepped (Ok x ∷ l) (suc j) s g = always_gives_by_each_step leaves_one (stepped between j l) (s, suc j) (λ r q w. let h = leaves_after_item x l j s r q.0 q.1 g w in ((h.0, j), h.1, always_gives_stepped l j h.0 h.2))

@@ -6,7 +6,7 @@ use Rattle.fallible_contract.specs.Traces.{Answered, Run}
 use Rattle.fallible_contract.specs.Contract.{Contract, seen_as}
 use Rattle.fallible_contract.specs.Lists.{AlwaysGives, Lists}
 use Rattle.fallible_contract.proofs.Lemmas.Lists.Passing.{lists_seen}
-use Rattle.fallible_contract.proofs.Lemmas.LawForm.{IsByAnswers, runs_by_answers}
+use Rattle.fallible_contract.proofs.Lemmas.LawForm.{IsByAnswers, run_at_one_answer_iff_law}
 use Rattle.fallible_contract.proofs.Lemmas.ByNumber.{Fits, Leaves, none, keeps_item, keeps_end, keeps_failure, leaves_nil_same, leaves_first_and_others, leaves_split, kept_by_number_of_leaves, leaves_of_kept_by_number}
 use Rattle.fallible_core.specs.Cutting.Skip.{SkipTrace, skip_step, skip_parts, skip_contract, skipped}
 use Rattle.fallible_core.specs.Cutting.StepBy.{stepped}
@@ -38,22 +38,22 @@ module _ {S A E : Type 0} (steps : S → Answered A E → S → Type 0) where
   pub leaves_plain_draw : {s t : S} (n : ℕ) (r : Answered A E) → n ≤ 0 → steps s r t → Leaves steps 0 n s (r ∷ []) t n
   leaves_plain_draw {s} {t} n r none_left step = let at : n ≡ 0 = omega (arith, none_left) in rw at (leaves_one_draw r step)
 
-  skip_trace_nothing : (p q : S × ℕ) → SkipTrace steps p [] q ↔ (p ≡ q)
-  skip_trace_nothing (s, n) (t, k) = (
+  skip_trace_of_nil_is_equality : (p q : S × ℕ) → SkipTrace steps p [] q ↔ (p ≡ q)
+  skip_trace_of_nil_is_equality (s, n) (t, k) = (
     (λ d. let h = leaves_nil_same steps 0 (leaves_of_skip_trace {p = (s, n)} {q = (t, k)} d) in rw (h.0, h.1) refl),
     (λ e. skip_trace_of_leaves {p = (s, n)} {q = (t, k)} (let h : s ≡ t = ap (λ z. z.0) e in let i : n ≡ k = ap (λ z. z.1) e in rw (h, i) none)),
   )
 
-  skip_by_answers : IsByAnswers (SkipTrace steps)
-  skip_by_answers = record {
-    none = λ p. (skip_trace_nothing p p).1 refl;
-    same = λ p q d. (skip_trace_nothing p q).0 d;
+  skip_trace_is_by_answers : IsByAnswers (SkipTrace steps)
+  skip_trace_is_by_answers = record {
+    none = λ p. (skip_trace_of_nil_is_equality p p).1 refl;
+    same = λ p q d. (skip_trace_of_nil_is_equality p q).0 d;
     joins = λ p u q r rest d e. skip_trace_of_leaves {p = p} {q = q} (leaves_first_and_others steps 0 (leaves_of_skip_trace {p = p} {q = u} d) (leaves_of_skip_trace {p = u} {q = q} e));
     splits = λ p q r rest d. let h = leaves_split steps 0 (leaves_of_skip_trace {p = p} {q = q} d) in record { left_by_first = (h.0, h.1); first = skip_trace_of_leaves {p = p} {q = (h.0, h.1)} h.2; others = skip_trace_of_leaves {p = (h.0, h.1)} {q = q} h.3 };
   }
 
   pub skip_law : (p : S × ℕ) (trace : List (Answered A E)) (q : S × ℕ) → Run (skip_step steps) p trace q ↔ SkipTrace steps p trace q
-  skip_law = runs_by_answers (SkipTrace steps) skip_by_answers
+  skip_law = run_at_one_answer_iff_law (SkipTrace steps) skip_trace_is_by_answers
 
 -- ---- what it lists
 

@@ -19,32 +19,32 @@ module _ {A E : Type 0} where
   abbrev PrefixesBelow : List (Answered A E) → ℕ → Type 0
   PrefixesBelow trace n = (prefix : List (Answered A E)) (r : Answered A E) (rest : List (Answered A E)) → trace ≡ prefix ++ r ∷ rest → items_in prefix < n
 
-  prefixes_nil : (n : ℕ) → PrefixesBelow [] n
-  prefixes_nil n [] r rest e = absurd cc
-  prefixes_nil n (x ∷ prefix) r rest e = absurd cc
+  prefixes_below_of_nil : (n : ℕ) → PrefixesBelow [] n
+  prefixes_below_of_nil n [] r rest e = absurd cc
+  prefixes_below_of_nil n (x ∷ prefix) r rest e = absurd cc
 
-  prefixes_first : (r : Answered A E) (trace : List (Answered A E)) (n j : ℕ) → j + items_in (r ∷ []) ≡ suc n → PrefixesBelow trace j → PrefixesBelow (r ∷ trace) (suc n)
-  prefixes_first r trace n j c h [] q rest e = omega arith
-  prefixes_first r trace n j c h (x ∷ prefix) q rest e = let below = h prefix q rest cc in let same : x ≡ r = cc in rw same (omega (arith, items_in_first_and_rest r prefix, below, c))
+  prefixes_below_of_first_and_rest : (r : Answered A E) (trace : List (Answered A E)) (n j : ℕ) → j + items_in (r ∷ []) ≡ suc n → PrefixesBelow trace j → PrefixesBelow (r ∷ trace) (suc n)
+  prefixes_below_of_first_and_rest r trace n j c h [] q rest e = omega arith
+  prefixes_below_of_first_and_rest r trace n j c h (x ∷ prefix) q rest e = let below = h prefix q rest cc in let same : x ≡ r = cc in rw same (omega (arith, items_in_first_and_rest r prefix, below, c))
 
-  prefixes_rest : (r : Answered A E) (trace : List (Answered A E)) (n j : ℕ) → j + items_in (r ∷ []) ≡ n → PrefixesBelow (r ∷ trace) n → PrefixesBelow trace j
-  prefixes_rest r trace n j c h prefix q rest e = let below = h (r ∷ prefix) q rest (ap {B = List (Answered A E)} (λ l. r ∷ l) e) in omega (arith, items_in_first_and_rest r prefix, below, c)
+  prefixes_below_of_rest : (r : Answered A E) (trace : List (Answered A E)) (n j : ℕ) → j + items_in (r ∷ []) ≡ n → PrefixesBelow (r ∷ trace) n → PrefixesBelow trace j
+  prefixes_below_of_rest r trace n j c h prefix q rest e = let below = h (r ∷ prefix) q rest (ap {B = List (Answered A E)} (λ l. r ∷ l) e) in omega (arith, items_in_first_and_rest r prefix, below, c)
 
 module _ {S A E : Type 0} (steps : S → Answered A E → S → Type 0) where
   -- an end without a draw more, where nothing is left to take
   take_trace_once_all_taken : (source : List (Answered A E)) (ends : ℕ) (s : S) (rest : List (Answered A E)) (t : S) (k : ℕ) → Run steps s source t → rest ≡ source ++ replicate ends end → PrefixesBelow source 0 → k + items_in source ≡ 0 → TakeTrace steps (s, 0) (end ∷ rest) (t, k)
-  take_trace_once_all_taken [] ends s rest t k ran e prefixes c = record { source_trace = []; ends = suc ends; drawn = ran; answers = ap {B = List (Answered A E)} (λ l. end ∷ l) e; prefixes = prefixes_nil 0; at_most = omega arith; over = λ h. refl; remaining = c }
+  take_trace_once_all_taken [] ends s rest t k ran e prefixes c = record { source_trace = []; ends = suc ends; drawn = ran; answers = ap {B = List (Answered A E)} (λ l. end ∷ l) e; prefixes = prefixes_below_of_nil 0; at_most = omega arith; over = λ h. refl; remaining = c }
   take_trace_once_all_taken (r ∷ source) ends s rest t k ran e prefixes c = absurd (let h = prefixes [] r source refl in omega (arith, h))
 
   take_trace_of_run : (trace : List (Answered A E)) (s : S) (n : ℕ) (t : S) (k : ℕ) → Run (take_step steps) (s, n) trace (t, k) → TakeTrace steps (s, n) trace (t, k)
-  take_trace_of_run [] s n t k e = let same : n ≡ k = ap (λ p. p.1) e in record { source_trace = []; ends = 0; drawn = ap (λ p. p.0) e; answers = refl; prefixes = prefixes_nil n; at_most = omega arith; over = λ h. absurd (omega arith); remaining = omega (arith, same) }
+  take_trace_of_run [] s n t k e = let same : n ≡ k = ap (λ p. p.1) e in record { source_trace = []; ends = 0; drawn = ap (λ p. p.0) e; answers = refl; prefixes = prefixes_below_of_nil n; at_most = omega arith; over = λ h. absurd (omega arith); remaining = omega (arith, same) }
   take_trace_of_run (r ∷ rest) s zero t k h = let p : TakeTrace steps (s, 0) rest (t, k) = take_trace_of_run rest s 0 t k (rw (h.1.1, h.1.2) at h.2) in rw h.1.0 (take_trace_once_all_taken p.source_trace p.ends s rest t k p.drawn p.answers p.prefixes p.remaining)
   take_trace_of_run (r ∷ rest) s (suc n) t k h = let p : TakeTrace steps (h.0.0, h.0.1) rest (t, k) = take_trace_of_run rest h.0.0 h.0.1 t k h.2 in record {
     source_trace = r ∷ p.source_trace;
     ends = p.ends;
     drawn = (h.0.0, h.1.0, p.drawn);
     answers = ap {B = List (Answered A E)} (λ l. r ∷ l) p.answers;
-    prefixes = prefixes_first r p.source_trace n h.0.1 h.1.1 p.prefixes;
+    prefixes = prefixes_below_of_first_and_rest r p.source_trace n h.0.1 h.1.1 p.prefixes;
     at_most = omega (arith, items_in_first_and_rest r p.source_trace, p.at_most, h.1.1);
     over = λ some. let all = p.over some in omega (arith, items_in_first_and_rest r p.source_trace, all, h.1.1);
     remaining = omega (arith, items_in_first_and_rest r p.source_trace, p.remaining, h.1.1);
@@ -64,7 +64,7 @@ module _ {S A E : Type 0} (steps : S → Answered A E → S → Type 0) where
   take_run_of_source_run (r ∷ source) ends s (suc n) t k ran prefixes over c =
       let j : ℕ = k + items_in source in
       let here : j + items_in (r ∷ []) ≡ suc n = omega (arith, items_in_first_and_rest r source, c) in
-      ((ran.0, j), (ran.1, here), take_run_of_source_run source ends ran.0 j t k ran.2 (prefixes_rest r source (suc n) j here prefixes) (λ some. let all = over some in omega (arith, items_in_first_and_rest r source, all, here)) refl)
+      ((ran.0, j), (ran.1, here), take_run_of_source_run source ends ran.0 j t k ran.2 (prefixes_below_of_rest r source (suc n) j here prefixes) (λ some. let all = over some in omega (arith, items_in_first_and_rest r source, all, here)) refl)
 
   pub take_law : (p : S × ℕ) (trace : List (Answered A E)) (q : S × ℕ) → Run (take_step steps) p trace q ↔ TakeTrace steps p trace q
   take_law p trace q = (take_trace_of_run trace p.0 p.1 q.0 q.1, (λ d. rw d.answers (take_run_of_source_run d.source_trace d.ends p.0 p.1 q.0 q.1 d.drawn d.prefixes d.over d.remaining)))

@@ -11,7 +11,7 @@ use Rattle.fallible_contract.specs.Traces.{Answered, Run}
 use Rattle.fallible_contract.specs.Closures.{Calls, call_by_reference}
 use Rattle.fallible_contract.specs.Passing.{LeavesNoneOut, Place, asked, failure_at, end_at, source_answer, call_of, passing_step}
 use Rattle.fallible_contract.specs.Closing.{closing_step}
-use Rattle.fallible_contract.proofs.Lemmas.Closing.{closing_law}
+use Rattle.fallible_contract.proofs.Lemmas.Closing.{closing_folds_iff_drawn_to_close}
 use Rattle.fallible_core.specs.Cutting.TakeWhile.{cons_while, taken_while, take_while_outcome, taken_answer, is_refused, TakeWhileTrace, place_drawn, take_while_parts, take_while_contract}
 use Rattle.fallible_core.specs.declared.cutting.take_while.TakeWhile.{TakeWhile}
 
@@ -31,17 +31,17 @@ module _ {S F X R E : Type 0} (steps : S → Answered X E → S → Type 0) (cal
   abbrev pub DrawnAndCalled : List (Place X R E) → S → F → S → F → Type 0
   DrawnAndCalled places s f t g = Run steps s (map source_answer places) t × Calls call f (filter_map call_of places) g
 
-  pub both_of_folds_to : (places : List (Place X R E)) (s : S) (f : F) (t : S) (g : F) → FoldsTo (place_drawn steps call) (s, f) places (t, g) → DrawnAndCalled places s f t g
-  both_of_folds_to [] s f t g e = (ap (λ p. p.0) e, ap (λ p. p.1) e)
-  both_of_folds_to (x ∷ places) s f t g h = let b = both_of_folds_to places h.0.0 h.0.1 t g h.2 in ((h.0.0, h.1.0, b.0), calls_cons x places f h.0.1 g h.1.1 b.1)
+  pub drawn_and_called_of_folds_to : (places : List (Place X R E)) (s : S) (f : F) (t : S) (g : F) → FoldsTo (place_drawn steps call) (s, f) places (t, g) → DrawnAndCalled places s f t g
+  drawn_and_called_of_folds_to [] s f t g e = (ap (λ p. p.0) e, ap (λ p. p.1) e)
+  drawn_and_called_of_folds_to (x ∷ places) s f t g h = let b = drawn_and_called_of_folds_to places h.0.0 h.0.1 t g h.2 in ((h.0.0, h.1.0, b.0), calls_cons x places f h.0.1 g h.1.1 b.1)
 
-  pub folds_to_of_both : (places : List (Place X R E)) (s : S) (f : F) (t : S) (g : F) → DrawnAndCalled places s f t g → FoldsTo (place_drawn steps call) (s, f) places (t, g)
-  folds_to_of_both [] s f t g b = rw (b.0, b.1) refl
-  folds_to_of_both (x ∷ places) s f t g b = let c = calls_first_and_rest x places f g b.1 in (((b.0).0, c.0), ((b.0).1, c.1), folds_to_of_both places (b.0).0 c.0 t g ((b.0).2, c.2))
+  pub folds_to_of_drawn_and_called : (places : List (Place X R E)) (s : S) (f : F) (t : S) (g : F) → DrawnAndCalled places s f t g → FoldsTo (place_drawn steps call) (s, f) places (t, g)
+  folds_to_of_drawn_and_called [] s f t g b = rw (b.0, b.1) refl
+  folds_to_of_drawn_and_called (x ∷ places) s f t g b = let c = calls_first_and_rest x places f g b.1 in (((b.0).0, c.0), ((b.0).1, c.1), folds_to_of_drawn_and_called places (b.0).0 c.0 t g ((b.0).2, c.2))
 
 pub take_while_law : {S F X E : Type 0} (steps : S → Answered X E → S → Type 0) (call : F → X → Result Bool E → F → Type 0) (p : (S × F) × Bool) (trace : List (Answered X E)) (q : (S × F) × Bool) → FoldsTo (closing_step (place_drawn steps call) taken_answer is_refused) p trace q ↔ TakeWhileTrace steps call p trace q
-take_while_law steps call p trace q = let law = closing_law (place_drawn steps call) taken_answer is_refused p.0 p.1 trace q.0 q.1 in
-    ((λ h. let d = law.0 h in let both = both_of_folds_to steps call d.0 (p.0).0 (p.0).1 (q.0).0 (q.0).1 d.1 in record { places = d.0; drawn = both.0; called = both.1; cut = d.2 }), (λ h. law.1 (h.places, folds_to_of_both steps call h.places (p.0).0 (p.0).1 (q.0).0 (q.0).1 (h.drawn, h.called), h.cut)))
+take_while_law steps call p trace q = let law = closing_folds_iff_drawn_to_close (place_drawn steps call) taken_answer is_refused p.0 p.1 trace q.0 q.1 in
+    ((λ h. let d = law.0 h in let both = drawn_and_called_of_folds_to steps call d.0 (p.0).0 (p.0).1 (q.0).0 (q.0).1 d.1 in record { places = d.0; drawn = both.0; called = both.1; cut = d.2 }), (λ h. law.1 (h.places, folds_to_of_drawn_and_called steps call h.places (p.0).0 (p.0).1 (q.0).0 (q.0).1 (h.drawn, h.called), h.cut)))
 
 -- ---- what it lists
 
@@ -61,28 +61,28 @@ module _ {S F X E : Type 0} (steps : S → Answered X E → S → Type 0) (call 
   once_drawn_of_pass end_at p q r d e = record { places = end_at ∷ []; drawn = (q.0, d.0, refl); called = d.1; answers = ap (λ k. k ∷ []) e; last_kept = refl }
 
   -- what isn't an end is no rejection
-  is_refused_not : (x : Place X (Result Bool E) E) (y : Result X E) → taken_answer x ≡ result_answer y → is_refused x ≡ false
-  is_refused_not (asked x (Ok true)) y e = refl
-  is_refused_not (asked x (Ok false)) (Ok y) e = absurd cc
-  is_refused_not (asked x (Ok false)) (Err c) e = absurd cc
-  is_refused_not (asked x (Err c)) y e = refl
-  is_refused_not (failure_at c) y e = refl
-  is_refused_not end_at y e = refl
+  is_refused_is_false_of_taken_result : (x : Place X (Result Bool E) E) (y : Result X E) → taken_answer x ≡ result_answer y → is_refused x ≡ false
+  is_refused_is_false_of_taken_result (asked x (Ok true)) y e = refl
+  is_refused_is_false_of_taken_result (asked x (Ok false)) (Ok y) e = absurd cc
+  is_refused_is_false_of_taken_result (asked x (Ok false)) (Err c) e = absurd cc
+  is_refused_is_false_of_taken_result (asked x (Err c)) y e = refl
+  is_refused_is_false_of_taken_result (failure_at c) y e = refl
+  is_refused_is_false_of_taken_result end_at y e = refl
 
   always_gives_until_refused : (l : List (Result X E)) (p : S × F) → AlwaysGives once_drawn p l → AlwaysGives step_until_refused (p, false) l
   always_gives_until_refused [] p a = λ r t w. a r t.0 (once_drawn_of_pass w.0 p t.0 r w.1 w.2)
   always_gives_until_refused (y ∷ l) p a = λ r t w. let d = a r t.0 (once_drawn_of_pass w.0 p t.0 r w.1 w.2) in
-      (d.0, subst (λ (b : Bool). AlwaysGives step_until_refused (t.0, b) l) (sym (w.3 ∙ is_refused_not w.0 y (sym w.2 ∙ d.0))) (always_gives_until_refused l t.0 d.1))
+      (d.0, subst (λ (b : Bool). AlwaysGives step_until_refused (t.0, b) l) (sym (w.3 ∙ is_refused_is_false_of_taken_result w.0 y (sym w.2 ∙ d.0))) (always_gives_until_refused l t.0 d.1))
 
-by_outcome_of_take_while : {X E : Type 0} (x : X) (v : Result Bool E) (l : List (Result X E)) → by_outcome (take_while_outcome x v) l ≡ cons_while x v l
-by_outcome_of_take_while x (Ok true) l = refl
-by_outcome_of_take_while x (Ok false) l = refl
-by_outcome_of_take_while x (Err e) l = refl
+by_outcome_of_take_while_is_cons_while : {X E : Type 0} (x : X) (v : Result Bool E) (l : List (Result X E)) → by_outcome (take_while_outcome x v) l ≡ cons_while x v l
+by_outcome_of_take_while_is_cons_while x (Ok true) l = refl
+by_outcome_of_take_while_is_cons_while x (Ok false) l = refl
+by_outcome_of_take_while_is_cons_while x (Err e) l = refl
 
 passed_is_taken_while : {X E : Type 0} (h : X → Result Bool E) (l : List (Result X E)) → passed take_while_outcome (λ (p : Unit {0}) x. h x) (λ p x. p) tt l ≡ taken_while h l
 unfolding taken_while
 passed_is_taken_while h [] = refl
-passed_is_taken_while h (Ok x ∷ l) = by_outcome_of_take_while x (h x) _ ∙ ap (λ t. cons_while x (h x) t) (passed_is_taken_while h l)
+passed_is_taken_while h (Ok x ∷ l) = by_outcome_of_take_while_is_cons_while x (h x) _ ∙ ap (λ t. cons_while x (h x) t) (passed_is_taken_while h l)
 passed_is_taken_while h (Err e ∷ l) = ap (λ t. Err e ∷ t) (passed_is_taken_while h l)
 
 pub lists_taken_while : {S F X E : Type 0} (m : Contract S X E) (g : Mut F (Bor X × Unit {0}) (Result Bool E)) (s : TakeWhile S F) (f : F) (h : X → Result Bool E) (l : List (Result X E)) → take_while_parts s ≡ ((s.it, f), false) → Acts (call_by_reference g) f h → Lists m.steps s.it l

@@ -11,7 +11,7 @@ use Rattle.fallible_contract.specs.Folds.{Drained, HoldsAtEachTurn, goes_on}
 use Rattle.fallible_contract.specs.Folding.{FoldingTurn, FoldingTakes}
 use Rattle.fallible_contract.specs.Passing.{asked, failure_at, end_at, PassAnswer, passing_step}
 use Rattle.fallible_contract.specs.Laws.Passing.{Passes, done, end_passes, failure_passes, keeps, refuses, closes, leaves_out, passes_of_pass_trace}
-use Rattle.fallible_contract.proofs.Lemmas.Folding.{holds_each_turn_while, drained_while, holds_each_turn_through}
+use Rattle.fallible_contract.proofs.Lemmas.Folding.{holds_each_turn_of_held_while_kept, drained_of_holder_while_kept, holds_each_turn_of_source_fold}
 use Rattle.fallible_contract.proofs.Lemmas.Passing.{pass_trace_answer}
 use Rattle.fallible_core.specs.Cutting.TakeWhile.{take_while_outcome, refusing_call, take_while_contract, take_while_parts}
 use Rattle.std.specs.declared.ops.ControlFlow.{ControlFlow}
@@ -82,22 +82,22 @@ module _ {S F X E : Type 0} (m : Contract S X E) (a : Mut F (Bor X × Unit {0}) 
 
   module _ (s : TakeWhile S F) where
     -- where an item was rejected, an end without a draw
-    refused_step : s.taking.0 ≡ true → steps_of_take_while_folds s (Ok None) s
-    refused_step is = subst (λ (b : Bool). steps_of_take_while_folds (of_parts (s.it, (b, s.taking.1))) (Ok None) (of_parts (s.it, (b, s.taking.1)))) (sym is) (refl, refl, refl)
+    step_ends_where_refused : s.taking.0 ≡ true → steps_of_take_while_folds s (Ok None) s
+    step_ends_where_refused is = subst (λ (b : Bool). steps_of_take_while_folds (of_parts (s.it, (b, s.taking.1))) (Ok None) (of_parts (s.it, (b, s.taking.1)))) (sym is) (refl, refl, refl)
 
     pub drained_refused : {came : List X → Answered X E → Type 0} → s.taking.0 ≡ true → came [] (Ok None) → Drained steps_of_take_while_folds came s s
-    drained_refused is at = record { items = []; last = Ok None; ran = (s, refused_step is, refl); at = at }
+    drained_refused is at = record { items = []; last = Ok None; ran = (s, step_ends_where_refused is, refl); at = at }
 
     module _ (unrefused : s.taking.0 ≡ false) where
       -- what becomes of one answer of the source is one draw
-      pub taking_step : {t : S} (q : Bool × F) (r drawn : Answered X E) → m.steps s.it drawn t → PassAnswer CallsOfTakeWhileFolds take_while_outcome s.taking drawn r q → steps_of_take_while_folds s r (of_parts (t, q))
-      taking_step {t = t} q r drawn step h = take_while_step_where_open (s.it, s.taking) r (t, q) unrefused (pass_trace_answer drawn step h)
+      pub step_of_drawn_where_taking : {t : S} (q : Bool × F) (r drawn : Answered X E) → m.steps s.it drawn t → PassAnswer CallsOfTakeWhileFolds take_while_outcome s.taking drawn r q → steps_of_take_while_folds s r (of_parts (t, q))
+      step_of_drawn_where_taking {t = t} q r drawn step h = take_while_step_where_open (s.it, s.taking) r (t, q) unrefused (pass_trace_answer drawn step h)
 
       -- where its turns may be taken, the source's may
       pub holds_each_turn_taking : {C R : Type 0} (turns : C → X → ControlFlow R (Unit {0}) → C → Type 0) {P : C → X → Type 0} {c : C} → Lawful m → m.can_next s.it → IsCallable (call_by_reference a) (takes_by_reference a) (m.may_give s.it) s.taking.1 → HoldsAtEachTurn steps_of_take_while_folds (goes_on turns) P s c
           → HoldsAtEachTurn m.steps (goes_on (FoldingTurn CallsOfTakeWhileFolds take_while_outcome turns)) (FoldingTakes CallsOfTakeWhileFolds take_while_outcome (λ p x. takes_by_reference a p.1 x) P) s.it (c, s.taking)
-      holds_each_turn_taking turns l can callable holds = holds_each_turn_through l CallsOfTakeWhileFolds take_while_outcome turns can (is_callable_beside (call_by_reference a) s.taking callable) (holds_each_turn_while IsOpen OnceOfTakeWhileFolds steps_of_take_while_folds of_parts take_while_step_where_open is_open_stays unrefused holds)
+      holds_each_turn_taking turns l can callable holds = holds_each_turn_of_source_fold l CallsOfTakeWhileFolds take_while_outcome turns can (is_callable_beside (call_by_reference a) s.taking callable) (holds_each_turn_of_held_while_kept IsOpen OnceOfTakeWhileFolds steps_of_take_while_folds of_parts take_while_step_where_open is_open_stays unrefused holds)
 
       -- and a drain of its source by the predicate's answers is one of it
       pub drained_taking : {came : List X → Answered X E → Type 0} {t : S} {q : Bool × F} → Drained OnceOfTakeWhileFolds came (s.it, s.taking) (t, q) → Drained steps_of_take_while_folds came s (of_parts (t, q))
-      drained_taking w = drained_while IsOpen OnceOfTakeWhileFolds steps_of_take_while_folds of_parts take_while_step_where_open is_open_stays unrefused w
+      drained_taking w = drained_of_holder_while_kept IsOpen OnceOfTakeWhileFolds steps_of_take_while_folds of_parts take_while_step_where_open is_open_stays unrefused w

@@ -17,15 +17,15 @@ tested_never_ends x (Ok true) e = absurd cc
 tested_never_ends x (Ok false) e = absurd cc
 tested_never_ends x (Err d) e = absurd cc
 
-by_outcome_of_tested : {X E : Type 0} (x : X) (v : Result Bool E) (l : List (Result X E)) → by_outcome (tested_outcome x v) l ≡ cons_if x v l
-by_outcome_of_tested x (Ok true) l = refl
-by_outcome_of_tested x (Ok false) l = refl
-by_outcome_of_tested x (Err e) l = refl
+by_outcome_of_tested_is_cons_if : {X E : Type 0} (x : X) (v : Result Bool E) (l : List (Result X E)) → by_outcome (tested_outcome x v) l ≡ cons_if x v l
+by_outcome_of_tested_is_cons_if x (Ok true) l = refl
+by_outcome_of_tested_is_cons_if x (Ok false) l = refl
+by_outcome_of_tested_is_cons_if x (Err e) l = refl
 
 pub passed_is_filtered : {X E : Type 0} (h : X → Result Bool E) (l : List (Result X E)) → passed tested_outcome (λ (p : Unit {0}) x. h x) (λ p x. p) tt l ≡ filtered h l
 unfolding filtered
 passed_is_filtered h [] = refl
-passed_is_filtered h (Ok x ∷ l) = by_outcome_of_tested x (h x) _ ∙ ap (λ t. cons_if x (h x) t) (passed_is_filtered h l)
+passed_is_filtered h (Ok x ∷ l) = by_outcome_of_tested_is_cons_if x (h x) _ ∙ ap (λ t. cons_if x (h x) t) (passed_is_filtered h l)
 passed_is_filtered h (Err e ∷ l) = ap (λ t. Err e ∷ t) (passed_is_filtered h l)
 
 pub lists_filtered : {S F X E : Type 0} (m : Contract S X E) (g : Mut F (Bor X × Unit {0}) (Result Bool E)) (s : Filter S F) (f : F) (h : X → Result Bool E) (l : List (Result X E)) → filter_parts s ≡ (s.it, f) → Acts (call_by_reference g) f h → Lists m.steps s.it l

@@ -16,15 +16,15 @@ filter_map_never_ends x (Ok (Some y)) e = absurd cc
 filter_map_never_ends x (Ok None) e = absurd cc
 filter_map_never_ends x (Err d) e = absurd cc
 
-by_outcome_of_filter_map : {X B E : Type 0} (x : X) (v : Result (Option B) E) (l : List (Result B E)) → by_outcome (filter_map_outcome x v) l ≡ cons_some v l
-by_outcome_of_filter_map x (Ok (Some y)) l = refl
-by_outcome_of_filter_map x (Ok None) l = refl
-by_outcome_of_filter_map x (Err e) l = refl
+by_outcome_of_filter_map_is_cons_some : {X B E : Type 0} (x : X) (v : Result (Option B) E) (l : List (Result B E)) → by_outcome (filter_map_outcome x v) l ≡ cons_some v l
+by_outcome_of_filter_map_is_cons_some x (Ok (Some y)) l = refl
+by_outcome_of_filter_map_is_cons_some x (Ok None) l = refl
+by_outcome_of_filter_map_is_cons_some x (Err e) l = refl
 
 pub passed_is_filter_mapped : {X B E : Type 0} (h : X → Result (Option B) E) (l : List (Result X E)) → passed filter_map_outcome (λ (p : Unit {0}) x. h x) (λ p x. p) tt l ≡ filter_mapped h l
 unfolding filter_mapped
 passed_is_filter_mapped h [] = refl
-passed_is_filter_mapped h (Ok x ∷ l) = by_outcome_of_filter_map x (h x) _ ∙ ap (λ t. cons_some (h x) t) (passed_is_filter_mapped h l)
+passed_is_filter_mapped h (Ok x ∷ l) = by_outcome_of_filter_map_is_cons_some x (h x) _ ∙ ap (λ t. cons_some (h x) t) (passed_is_filter_mapped h l)
 passed_is_filter_mapped h (Err e ∷ l) = ap (λ t. Err e ∷ t) (passed_is_filter_mapped h l)
 
 pub lists_filter_mapped : {S F X B E : Type 0} (m : Contract S X E) (g : Mut F (X × Unit {0}) (Result (Option B) E)) (s : FilterMap S F) (f : F) (h : X → Result (Option B) E) (l : List (Result X E)) → filter_map_parts s ≡ (s.it, f) → Acts (call_by_value g) f h → Lists m.steps s.it l

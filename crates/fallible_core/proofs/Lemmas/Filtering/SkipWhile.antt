@@ -10,7 +10,7 @@ use Rattle.fallible_contract.specs.Contract.{Contract, seen_as}
 use Rattle.fallible_contract.specs.Lists.{Lists, Acts}
 use Rattle.fallible_contract.proofs.Lemmas.Lists.Passing.{passed, by_outcome, gives_all, lists_seen}
 use Rattle.fallible_contract.specs.Passing.{PassTrace, Place, asked, failure_at, end_at, source_answer, call_of, answer_at}
-use Rattle.fallible_contract.proofs.Lemmas.LawForm.{runs_by_answers}
+use Rattle.fallible_contract.proofs.Lemmas.LawForm.{run_at_one_answer_iff_law}
 use Rattle.fallible_contract.proofs.Lemmas.Passing.{passing_by_answers}
 use Rattle.fallible_contract.specs.Laws.Passing.{Passes, done, end_passes, failure_passes, keeps, refuses, closes, leaves_out, last_kept_tail, last_kept_cons, last_kept_before, answers_never_nil, passes_of_pass_trace, pass_trace_of_passes}
 use Rattle.fallible_core.specs.Filtering.SkipWhile.{cons_from, skipped_while, skip_call, skip_while_outcome, skip_while_parts, skip_while_contract, answers_false, false_at, EndsAtFalse, asked_outcome, AskedUntilFalse, SkipWhileTrace}
@@ -41,17 +41,17 @@ module _ {X E : Type 0} where
   asked_until_false_tail p met after false e h = (h.0.1, h.1, last_kept_tail asked_outcome p met h.2)
 
   -- places that end at a false have an answer
-  ends_at_false_answered : (p : Place X (Result Bool E) E) (rest : List (Place X (Result Bool E) E)) (after : List (Answered X E)) → EndsAtFalse (p ∷ rest) → filter_map (answer_at asked_outcome) (p ∷ rest) ++ after ≡ [] → ⊥
-  ends_at_false_answered (failure_at e) [] after h d = cc
-  ends_at_false_answered end_at [] after h d = cc
-  ends_at_false_answered (asked x (Ok false)) [] after h d = cc
-  ends_at_false_answered (asked x (Ok true)) [] after h d = cc
-  ends_at_false_answered (asked x (Err e)) [] after h d = cc
-  ends_at_false_answered (failure_at e) (q ∷ rest) after h d = cc
-  ends_at_false_answered end_at (q ∷ rest) after h d = cc
-  ends_at_false_answered (asked x (Ok false)) (q ∷ rest) after h d = cc
-  ends_at_false_answered (asked x (Ok true)) (q ∷ rest) after h d = ends_at_false_answered q rest after h.1 d
-  ends_at_false_answered (asked x (Err e)) (q ∷ rest) after h d = cc
+  answers_never_nil_where_ends_at_false : (p : Place X (Result Bool E) E) (rest : List (Place X (Result Bool E) E)) (after : List (Answered X E)) → EndsAtFalse (p ∷ rest) → filter_map (answer_at asked_outcome) (p ∷ rest) ++ after ≡ [] → ⊥
+  answers_never_nil_where_ends_at_false (failure_at e) [] after h d = cc
+  answers_never_nil_where_ends_at_false end_at [] after h d = cc
+  answers_never_nil_where_ends_at_false (asked x (Ok false)) [] after h d = cc
+  answers_never_nil_where_ends_at_false (asked x (Ok true)) [] after h d = cc
+  answers_never_nil_where_ends_at_false (asked x (Err e)) [] after h d = cc
+  answers_never_nil_where_ends_at_false (failure_at e) (q ∷ rest) after h d = cc
+  answers_never_nil_where_ends_at_false end_at (q ∷ rest) after h d = cc
+  answers_never_nil_where_ends_at_false (asked x (Ok false)) (q ∷ rest) after h d = cc
+  answers_never_nil_where_ends_at_false (asked x (Ok true)) (q ∷ rest) after h d = answers_never_nil_where_ends_at_false q rest after h.1 d
+  answers_never_nil_where_ends_at_false (asked x (Err e)) (q ∷ rest) after h d = cc
 
 module _ {S F X E : Type 0} (steps : S → Answered X E → S → Type 0) (call : F → X → Result Bool E → F → Type 0) where
   abbrev SkipPasses : S → Bool × F → List (Answered X E) → S → Bool × F → Type 0
@@ -63,19 +63,19 @@ module _ {S F X E : Type 0} (steps : S → Answered X E → S → Type 0) (call 
     pub ran : Run steps s trace t
     pub same : q ≡ p
 
-  pub passed_after_false : (s t : S) (p q : Bool × F) (trace : List (Answered X E)) → p.0 ≡ true → SkipPasses s p trace t q → RunsWithoutCalls s p trace t q
-  passed_after_false s _ p _ _ e done = record { ran = refl; same = refl }
-  passed_after_false s t p q _ e (end_passes {u = u} {trace = rest} step h) = let k = passed_after_false u t p q rest e h in record { ran = (u, step, k.ran); same = k.same }
-  passed_after_false s t p q _ e (failure_passes {u = u} {trace = rest} d step h) = let k = passed_after_false u t p q rest e h in record { ran = (u, step, k.ran); same = k.same }
-  passed_after_false s t p q _ e (keeps {u = u} {h = j} {trace = rest} x None y step called is h) = let k = passed_after_false u t j q rest (ap (λ (z : Bool × F). z.0) called.1 ∙ e) h in
+  pub runs_without_calls_after_false : (s t : S) (p q : Bool × F) (trace : List (Answered X E)) → p.0 ≡ true → SkipPasses s p trace t q → RunsWithoutCalls s p trace t q
+  runs_without_calls_after_false s _ p _ _ e done = record { ran = refl; same = refl }
+  runs_without_calls_after_false s t p q _ e (end_passes {u = u} {trace = rest} step h) = let k = runs_without_calls_after_false u t p q rest e h in record { ran = (u, step, k.ran); same = k.same }
+  runs_without_calls_after_false s t p q _ e (failure_passes {u = u} {trace = rest} d step h) = let k = runs_without_calls_after_false u t p q rest e h in record { ran = (u, step, k.ran); same = k.same }
+  runs_without_calls_after_false s t p q _ e (keeps {u = u} {h = j} {trace = rest} x None y step called is h) = let k = runs_without_calls_after_false u t j q rest (ap (λ (z : Bool × F). z.0) called.1 ∙ e) h in
       let same : x ≡ y = cc in record { ran = (u, subst (λ (z : X). steps s (item z) u) same step, k.ran); same = k.same ∙ called.1 }
-  passed_after_false s t p q _ e (keeps x (Some v) y step called is h) = absurd (let d = called.0 in cc)
-  passed_after_false s t p q _ e (refuses x None d step called is h) = absurd cc
-  passed_after_false s t p q _ e (refuses x (Some v) d step called is h) = absurd (let c = called.0 in cc)
-  passed_after_false s t p q _ e (closes x None step called is h) = absurd cc
-  passed_after_false s t p q _ e (closes x (Some v) step called is h) = absurd (let d = called.0 in cc)
-  passed_after_false s t p q _ e (leaves_out x None step called is h) = absurd cc
-  passed_after_false s t p q _ e (leaves_out x (Some v) step called is h) = absurd (let d = called.0 in cc)
+  runs_without_calls_after_false s t p q _ e (keeps x (Some v) y step called is h) = absurd (let d = called.0 in cc)
+  runs_without_calls_after_false s t p q _ e (refuses x None d step called is h) = absurd cc
+  runs_without_calls_after_false s t p q _ e (refuses x (Some v) d step called is h) = absurd (let c = called.0 in cc)
+  runs_without_calls_after_false s t p q _ e (closes x None step called is h) = absurd cc
+  runs_without_calls_after_false s t p q _ e (closes x (Some v) step called is h) = absurd (let d = called.0 in cc)
+  runs_without_calls_after_false s t p q _ e (leaves_out x None step called is h) = absurd cc
+  runs_without_calls_after_false s t p q _ e (leaves_out x (Some v) step called is h) = absurd (let d = called.0 in cc)
 
   pub skip_passes_of_run_after_false : (trace : List (Answered X E)) (s t : S) (f : F) → Run steps s trace t → SkipPasses s (true, f) trace t (true, f)
   skip_passes_of_run_after_false [] s t f ran = subst (λ (u : S). SkipPasses s (true, f) [] u (true, f)) ran done
@@ -98,7 +98,7 @@ module _ {S F X E : Type 0} (steps : S → Answered X E → S → Type 0) (call 
   skips_before_false s t p q _ e (end_passes {u = u} {trace = rest} step h) = let k = skips_before_false u t p q rest e h in record { met = end_at ∷ k.met; after = k.after; drawn = (u, step, k.drawn); called = k.called; answers = ap (λ (l : List (Answered X E)). Ok None ∷ l) k.answers; until_false = asked_until_false_cons end_at k.met k.after q.0 refl refl k.until_false }
   skips_before_false s t p q _ e (failure_passes {u = u} {trace = rest} d step h) = let k = skips_before_false u t p q rest e h in record { met = failure_at d ∷ k.met; after = k.after; drawn = (u, step, k.drawn); called = k.called; answers = ap (λ (l : List (Answered X E)). Err d ∷ l) k.answers; until_false = asked_until_false_cons (failure_at d) k.met k.after q.0 refl refl k.until_false }
   skips_before_false s t p q _ e (keeps x None y step called is h) = absurd (let d = called.0 in cc)
-  skips_before_false s t p q _ e (keeps {u = u} {h = j} {trace = rest} x (Some (Ok false)) y step called is h) = let k = passed_after_false u t j q rest called.2 h in let same : x ≡ y = cc in
+  skips_before_false s t p q _ e (keeps {u = u} {h = j} {trace = rest} x (Some (Ok false)) y step called is h) = let k = runs_without_calls_after_false u t j q rest called.2 h in let same : x ≡ y = cc in
       record { met = asked x (Ok false) ∷ []; after = rest; drawn = (u, step, k.ran); called = (j.1, called.1, ap (λ (z : Bool × F). z.1) (sym k.same)); answers = ap (λ (z : X). item z ∷ rest) (sym same); until_false = subst (λ (b : Bool). AskedUntilFalse false (asked x (Ok false) ∷ []) rest b) (sym (ap (λ (z : Bool × F). z.0) k.same ∙ called.2)) refl }
   skips_before_false s t p q _ e (keeps x (Some (Ok true)) y step called is h) = absurd cc
   skips_before_false s t p q _ e (keeps x (Some (Err d)) y step called is h) = absurd cc
@@ -122,26 +122,26 @@ module _ {S F X E : Type 0} (steps : S → Answered X E → S → Type 0) (call 
     skip_passes_after_left_out_item : (met : List (Place X (Result Bool E) E)) (after : List (Answered X E)) (trace : List (Answered X E)) (t : S) (q : Bool × F) → trace ≡ filter_map (answer_at asked_outcome) met ++ after → AskedUntilFalse false (asked x (Ok true) ∷ met) after q.0 → SkipPasses u (false, h) trace t q → SkipPasses s (false, f) trace t q
     skip_passes_after_left_out_item met after (r ∷ trace) t q answers until rest = leaves_out x (Some (Ok true)) step (refl, called, refl) refl rest
     skip_passes_after_left_out_item [] after [] t (true, k) answers until rest = absurd cc
-    skip_passes_after_left_out_item (p ∷ met) after [] t (true, k) answers until rest = absurd (ends_at_false_answered p met after until.1 (sym answers))
+    skip_passes_after_left_out_item (p ∷ met) after [] t (true, k) answers until rest = absurd (answers_never_nil_where_ends_at_false p met after until.1 (sym answers))
     skip_passes_after_left_out_item [] after [] t (false, k) answers until rest = absurd (let some : false ≡ true = until.2 in cc)
     skip_passes_after_left_out_item (p ∷ met) after [] t (false, k) answers until rest = absurd (answers_never_nil asked_outcome p met until.2 (sym (append-nil (filter_map (answer_at asked_outcome) (p ∷ met))) ∙ ap (λ (l : List (Answered X E)). filter_map (answer_at asked_outcome) (p ∷ met) ++ l) (sym until.1) ∙ sym answers))
 
-  skips_passes : (met : List (Place X (Result Bool E) E)) (after : List (Answered X E)) (s t : S) (f : F) (q : Bool × F) → Run steps s (map source_answer met ++ after) t → Calls (call) f (filter_map call_of met) q.1 → AskedUntilFalse false met after q.0 → SkipPasses s (false, f) (filter_map (answer_at asked_outcome) met ++ after) t q
-  skips_passes [] after s t f (true, k) ran called until = absurd until
-  skips_passes [] after s t f (false, k) ran called until = let none = until.1 in let here : Run steps s [] t = subst (λ (l : List (Answered X E)). Run steps s l t) none ran in
+  skip_passes_of_run_before_false : (met : List (Place X (Result Bool E) E)) (after : List (Answered X E)) (s t : S) (f : F) (q : Bool × F) → Run steps s (map source_answer met ++ after) t → Calls (call) f (filter_map call_of met) q.1 → AskedUntilFalse false met after q.0 → SkipPasses s (false, f) (filter_map (answer_at asked_outcome) met ++ after) t q
+  skip_passes_of_run_before_false [] after s t f (true, k) ran called until = absurd until
+  skip_passes_of_run_before_false [] after s t f (false, k) ran called until = let none = until.1 in let here : Run steps s [] t = subst (λ (l : List (Answered X E)). Run steps s l t) none ran in
       subst (λ (l : List (Answered X E)). SkipPasses s (false, f) l t (false, k)) (sym none) (subst (λ (u : S). SkipPasses s (false, f) [] u (false, k)) here (subst (λ (h : F). SkipPasses s (false, f) [] s (false, h)) called done))
-  skips_passes (failure_at e ∷ met) after s t f q ran called until = failure_passes e ran.1 (skips_passes met after ran.0 t f q ran.2 called (asked_until_false_tail (failure_at e) met after q.0 refl until))
-  skips_passes (end_at ∷ met) after s t f q ran called until = end_passes ran.1 (skips_passes met after ran.0 t f q ran.2 called (asked_until_false_tail end_at met after q.0 refl until))
-  skips_passes (asked x (Err e) ∷ met) after s t f q ran called until = refuses x (Some (Err e)) e ran.1 (refl, called.1, refl) refl (skips_passes met after ran.0 t called.0 q ran.2 called.2 (asked_until_false_tail (asked x (Err e)) met after q.0 refl until))
-  skips_passes (asked x (Ok true) ∷ met) after s t f q ran called until = skip_passes_after_left_out_item x s ran.0 f called.0 ran.1 called.1 met after (filter_map (answer_at asked_outcome) met ++ after) t q refl until (skips_passes met after ran.0 t called.0 q ran.2 called.2 (asked_until_false_tail (asked x (Ok true)) met after q.0 refl until))
-  skips_passes (asked x (Ok false) ∷ []) after s t f (true, k) ran called until = keeps x (Some (Ok false)) x ran.1 (refl, called.1, refl) refl (subst (λ (h : F). SkipPasses ran.0 (true, called.0) after t (true, h)) called.2 (skip_passes_of_run_after_false after ran.0 t called.0 ran.2))
-  skips_passes (asked x (Ok false) ∷ p ∷ met) after s t f (true, k) ran called until = absurd (let d = until.0 in cc)
-  skips_passes (asked x (Ok false) ∷ met) after s t f (false, k) ran called until = absurd (let d = until.0.0 in cc)
+  skip_passes_of_run_before_false (failure_at e ∷ met) after s t f q ran called until = failure_passes e ran.1 (skip_passes_of_run_before_false met after ran.0 t f q ran.2 called (asked_until_false_tail (failure_at e) met after q.0 refl until))
+  skip_passes_of_run_before_false (end_at ∷ met) after s t f q ran called until = end_passes ran.1 (skip_passes_of_run_before_false met after ran.0 t f q ran.2 called (asked_until_false_tail end_at met after q.0 refl until))
+  skip_passes_of_run_before_false (asked x (Err e) ∷ met) after s t f q ran called until = refuses x (Some (Err e)) e ran.1 (refl, called.1, refl) refl (skip_passes_of_run_before_false met after ran.0 t called.0 q ran.2 called.2 (asked_until_false_tail (asked x (Err e)) met after q.0 refl until))
+  skip_passes_of_run_before_false (asked x (Ok true) ∷ met) after s t f q ran called until = skip_passes_after_left_out_item x s ran.0 f called.0 ran.1 called.1 met after (filter_map (answer_at asked_outcome) met ++ after) t q refl until (skip_passes_of_run_before_false met after ran.0 t called.0 q ran.2 called.2 (asked_until_false_tail (asked x (Ok true)) met after q.0 refl until))
+  skip_passes_of_run_before_false (asked x (Ok false) ∷ []) after s t f (true, k) ran called until = keeps x (Some (Ok false)) x ran.1 (refl, called.1, refl) refl (subst (λ (h : F). SkipPasses ran.0 (true, called.0) after t (true, h)) called.2 (skip_passes_of_run_after_false after ran.0 t called.0 ran.2))
+  skip_passes_of_run_before_false (asked x (Ok false) ∷ p ∷ met) after s t f (true, k) ran called until = absurd (let d = until.0 in cc)
+  skip_passes_of_run_before_false (asked x (Ok false) ∷ met) after s t f (false, k) ran called until = absurd (let d = until.0.0 in cc)
 
   -- ---- both ways
 
   skip_while_trace_of_passes : (s t : S) (p q : Bool × F) (trace : List (Answered X E)) → SkipPasses s p trace t q → SkipWhileTrace steps call (s, p) trace (t, q)
-  skip_while_trace_of_passes s t (true, f) q trace h = let k = passed_after_false s t (true, f) q trace refl h in record { met = []; after = trace; drawn = k.ran; called = ap (λ (z : Bool × F). z.1) (sym k.same); answers = refl; until_false = (refl, ap (λ (z : Bool × F). z.0) k.same) }
+  skip_while_trace_of_passes s t (true, f) q trace h = let k = runs_without_calls_after_false s t (true, f) q trace refl h in record { met = []; after = trace; drawn = k.ran; called = ap (λ (z : Bool × F). z.1) (sym k.same); answers = refl; until_false = (refl, ap (λ (z : Bool × F). z.0) k.same) }
   skip_while_trace_of_passes s t (false, f) q trace h = let k = skips_before_false s t (false, f) q trace refl h in record { met = k.met; after = k.after; drawn = k.drawn; called = k.called; answers = k.answers; until_false = k.until_false }
 
   -- what came after the first false, where it came before the trace
@@ -155,10 +155,10 @@ module _ {S F X E : Type 0} (steps : S → Answered X E → S → Type 0) (call 
 
   passes_of_skip_while_trace : (s t : S) (p q : Bool × F) (trace : List (Answered X E)) → SkipWhileTrace steps call (s, p) trace (t, q) → SkipPasses s p trace t q
   passes_of_skip_while_trace s t (true, f) q trace h = let k = runs_after_false h.met h.after trace s t f q h.drawn h.called h.answers h.until_false.0 h.until_false.1 in subst (λ (z : Bool × F). SkipPasses s (true, f) trace t z) k.same (skip_passes_of_run_after_false trace s t f k.ran)
-  passes_of_skip_while_trace s t (false, f) q trace h = subst (λ (l : List (Answered X E)). SkipPasses s (false, f) l t q) (sym h.answers) (skips_passes h.met h.after s t f q h.drawn h.called h.until_false)
+  passes_of_skip_while_trace s t (false, f) q trace h = subst (λ (l : List (Answered X E)). SkipPasses s (false, f) l t q) (sym h.answers) (skip_passes_of_run_before_false h.met h.after s t f q h.drawn h.called h.until_false)
 
 pub skip_while_law : {S F X E : Type 0} (steps : S → Answered X E → S → Type 0) (call : F → X → Result Bool E → F → Type 0) (p : S × (Bool × F)) (trace : List (Answered X E)) (q : S × (Bool × F)) → Run (λ u r v. PassTrace steps (skip_call call) skip_while_outcome u (r ∷ []) v) p trace q ↔ SkipWhileTrace steps call p trace q
-skip_while_law steps call p trace q = let law = runs_by_answers (PassTrace steps (skip_call call) skip_while_outcome) (passing_by_answers steps (skip_call call) skip_while_outcome) p trace q in
+skip_while_law steps call p trace q = let law = run_at_one_answer_iff_law (PassTrace steps (skip_call call) skip_while_outcome) (passing_by_answers steps (skip_call call) skip_while_outcome) p trace q in
     ((λ ran. skip_while_trace_of_passes steps call p.0 q.0 p.1 q.1 trace (passes_of_pass_trace (law.0 ran))), (λ d. law.1 (pass_trace_of_passes (passes_of_skip_while_trace steps call p.0 q.0 p.1 q.1 trace d))))
 
 -- ---- what it lists
@@ -176,31 +176,31 @@ module _ {X E : Type 0} (h : X → Result Bool E) where
   abbrev listed_of_flag : Bool → List (Result X E) → List (Result X E)
   listed_of_flag b l = passed skip_while_outcome (asked_by h) (flag_after h) b l
 
-  listed_true : (l : List (Result X E)) → listed_of_flag true l ≡ l
-  listed_true [] = refl
-  listed_true (Ok x ∷ l) = ap (λ k. Ok x ∷ k) (listed_true l)
-  listed_true (Err e ∷ l) = ap (λ k. Err e ∷ k) (listed_true l)
+  listed_of_true_is_list : (l : List (Result X E)) → listed_of_flag true l ≡ l
+  listed_of_true_is_list [] = refl
+  listed_of_true_is_list (Ok x ∷ l) = ap (λ k. Ok x ∷ k) (listed_of_true_is_list l)
+  listed_of_true_is_list (Err e ∷ l) = ap (λ k. Err e ∷ k) (listed_of_true_is_list l)
 
-  by_outcome_first_listed : (x : X) (v : Result Bool E) (l skipped : List (Result X E)) (rest : Bool → List (Result X E)) → rest true ≡ l → rest false ≡ skipped → by_outcome (skip_while_outcome x (Some v)) (rest (answers_false v)) ≡ cons_from x v l skipped
-  by_outcome_first_listed x (Ok false) l skipped rest all some = ap (λ k. Ok x ∷ k) all
-  by_outcome_first_listed x (Ok true) l skipped rest all some = some
-  by_outcome_first_listed x (Err e) l skipped rest all some = ap (λ k. Err e ∷ k) some
+  by_outcome_of_skip_while_is_cons_from : (x : X) (v : Result Bool E) (l skipped : List (Result X E)) (rest : Bool → List (Result X E)) → rest true ≡ l → rest false ≡ skipped → by_outcome (skip_while_outcome x (Some v)) (rest (answers_false v)) ≡ cons_from x v l skipped
+  by_outcome_of_skip_while_is_cons_from x (Ok false) l skipped rest all some = ap (λ k. Ok x ∷ k) all
+  by_outcome_of_skip_while_is_cons_from x (Ok true) l skipped rest all some = some
+  by_outcome_of_skip_while_is_cons_from x (Err e) l skipped rest all some = ap (λ k. Err e ∷ k) some
 
   listed_is_skipped_while : (l : List (Result X E)) → listed_of_flag false l ≡ skipped_while h l
   unfolding skipped_while
   listed_is_skipped_while [] = refl
-  listed_is_skipped_while (Ok x ∷ l) = by_outcome_first_listed x (h x) l (skipped_while h l) (λ b. listed_of_flag b l) (listed_true l) (listed_is_skipped_while l)
+  listed_is_skipped_while (Ok x ∷ l) = by_outcome_of_skip_while_is_cons_from x (h x) l (skipped_while h l) (λ b. listed_of_flag b l) (listed_of_true_is_list l) (listed_is_skipped_while l)
   listed_is_skipped_while (Err e ∷ l) = ap (λ k. Err e ∷ k) (listed_is_skipped_while l)
 
 module _ {F X E : Type 0} (call : F → X → Result Bool E → F → Type 0) (f : F) (h : X → Result Bool E) (acts : Acts call f h) where
-  acts_until_false : (p : Bool × F) (b : Bool) (x : X) (v : Option (Result Bool E)) (q : Bool × F) → p ≡ (b, f) → skip_call call p x v q → (q ≡ (flag_after h b x, f)) × (v ≡ asked_by h b x)
-  acts_until_false p true x None q e c = (c.1 ∙ e, refl)
-  acts_until_false p false x None q e c = absurd (let at : p.0 ≡ false = ap (λ z. z.0) e in let found = c.0 in cc)
-  acts_until_false p true x (Some v) q e c = absurd (let at : p.0 ≡ true = ap (λ z. z.0) e in let unfound = c.0 in cc)
-  acts_until_false p false x (Some v) q e c = let a = acts x v q.1 (subst (λ (z : F). call z x v q.1) (ap (λ z. z.1) e) c.1) in
+  skip_call_flag_and_answer_where_acts : (p : Bool × F) (b : Bool) (x : X) (v : Option (Result Bool E)) (q : Bool × F) → p ≡ (b, f) → skip_call call p x v q → (q ≡ (flag_after h b x, f)) × (v ≡ asked_by h b x)
+  skip_call_flag_and_answer_where_acts p true x None q e c = (c.1 ∙ e, refl)
+  skip_call_flag_and_answer_where_acts p false x None q e c = absurd (let at : p.0 ≡ false = ap (λ z. z.0) e in let found = c.0 in cc)
+  skip_call_flag_and_answer_where_acts p true x (Some v) q e c = absurd (let at : p.0 ≡ true = ap (λ z. z.0) e in let unfound = c.0 in cc)
+  skip_call_flag_and_answer_where_acts p false x (Some v) q e c = let a = acts x v q.1 (subst (λ (z : F). call z x v q.1) (ap (λ z. z.1) e) c.1) in
       (ap (λ (b : Bool). (b, q.1)) (c.2 ∙ ap answers_false a.1) ∙ ap (λ (k : F). (answers_false (h x), k)) a.0, ap Some a.1)
 
 pub lists_skipped_while : {S F X E : Type 0} (m : Contract S X E) (g : Mut F (Bor X × Unit {0}) (Result Bool E)) (s : SkipWhile S F) (f : F) (h : X → Result Bool E) (l : List (Result X E)) → skip_while_parts s ≡ (s.it, (false, f)) → Acts (call_by_reference g) f h → Lists m.steps s.it l
     → Lists (seen_as skip_while_parts (skip_while_contract m g)).steps s (skipped_while h l)
 lists_skipped_while {F = F} m g s f h l parts a i = lists_seen skip_while_parts (skip_while_contract m g).steps s parts (listed_is_skipped_while h l)
-    (gives_all m.steps (skip_call (call_by_reference g)) skip_while_outcome (λ (p : Bool × F) b. p ≡ (b, f)) (asked_by h) (flag_after h) (acts_until_false (call_by_reference g) f h a) l s.it (false, f) false refl i.runs)
+    (gives_all m.steps (skip_call (call_by_reference g)) skip_while_outcome (λ (p : Bool × F) b. p ≡ (b, f)) (asked_by h) (flag_after h) (skip_call_flag_and_answer_where_acts (call_by_reference g) f h a) l s.it (false, f) false refl i.runs)

@@ -14,31 +14,31 @@ module _ {S U A E : Type 0} (steps : S → Answered A E → S → Type 0) (other
   abbrev StepOfChain : S × U × StillDrawn → Answered A E → S × U × StillDrawn → Type 0
   StepOfChain = chain_step steps others
 
-  chain_trace_to_first : (trace : List (Answered A E)) (s : S) (u : U) (t : S) (v : U) (after : StillDrawn) → Run StepOfChain (s, u, FirstAlone) trace (t, v, after) → ChainTrace steps others (s, u, FirstAlone) (trace) (t, v, after)
-  chain_trace_to_first [] s u t v after e = (ap (λ p. p.0) e, sym (ap (λ p. p.1) e), sym (ap (λ p. p.2) e))
-  chain_trace_to_first (r ∷ rest) s u t v after h = let p = chain_trace_to_first rest h.0.0 u t v after (rw (h.1.1, h.1.2) at h.2) in ((h.0.0, h.1.0, p.0), p.1, p.2)
+  chain_trace_of_run_of_first_alone : (trace : List (Answered A E)) (s : S) (u : U) (t : S) (v : U) (after : StillDrawn) → Run StepOfChain (s, u, FirstAlone) trace (t, v, after) → ChainTrace steps others (s, u, FirstAlone) (trace) (t, v, after)
+  chain_trace_of_run_of_first_alone [] s u t v after e = (ap (λ p. p.0) e, sym (ap (λ p. p.1) e), sym (ap (λ p. p.2) e))
+  chain_trace_of_run_of_first_alone (r ∷ rest) s u t v after h = let p = chain_trace_of_run_of_first_alone rest h.0.0 u t v after (rw (h.1.1, h.1.2) at h.2) in ((h.0.0, h.1.0, p.0), p.1, p.2)
 
-  chain_trace_to_second : (trace : List (Answered A E)) (s : S) (u : U) (t : S) (v : U) (after : StillDrawn) → Run StepOfChain (s, u, SecondAlone) trace (t, v, after) → ChainTrace steps others (s, u, SecondAlone) (trace) (t, v, after)
-  chain_trace_to_second [] s u t v after e = (ap (λ p. p.1) e, sym (ap (λ p. p.0) e), sym (ap (λ p. p.2) e))
-  chain_trace_to_second (r ∷ rest) s u t v after h = let p = chain_trace_to_second rest s h.0.1 t v after (rw (h.1.1, h.1.2) at h.2) in ((h.0.1, h.1.0, p.0), p.1, p.2)
+  chain_trace_of_run_of_second_alone : (trace : List (Answered A E)) (s : S) (u : U) (t : S) (v : U) (after : StillDrawn) → Run StepOfChain (s, u, SecondAlone) trace (t, v, after) → ChainTrace steps others (s, u, SecondAlone) (trace) (t, v, after)
+  chain_trace_of_run_of_second_alone [] s u t v after e = (ap (λ p. p.1) e, sym (ap (λ p. p.0) e), sym (ap (λ p. p.2) e))
+  chain_trace_of_run_of_second_alone (r ∷ rest) s u t v after h = let p = chain_trace_of_run_of_second_alone rest s h.0.1 t v after (rw (h.1.1, h.1.2) at h.2) in ((h.0.1, h.1.0, p.0), p.1, p.2)
 
   -- an answer of the first before those of a trace
-  chain_trace_first : (s x t : S) (u v : U) (after : StillDrawn) (r : Answered A E) (rest : List (Answered A E)) → steps s r x → is_end r ≡ false → ChainTrace steps others (x, u, Both) (rest) (t, v, after) → ChainTrace steps others (s, u, Both) (r ∷ rest) (t, v, after)
-  chain_trace_first s x t u v after r rest step e (inl p) = inl ((x, step, p.0), (e, p.1), p.2, p.3)
-  chain_trace_first s x t u v after r rest step e (inr p) = let j = p.0 in inr (
+  chain_trace_with_answer_of_first : (s x t : S) (u v : U) (after : StillDrawn) (r : Answered A E) (rest : List (Answered A E)) → steps s r x → is_end r ≡ false → ChainTrace steps others (x, u, Both) (rest) (t, v, after) → ChainTrace steps others (s, u, Both) (r ∷ rest) (t, v, after)
+  chain_trace_with_answer_of_first s x t u v after r rest step e (inl p) = inl ((x, step, p.0), (e, p.1), p.2, p.3)
+  chain_trace_with_answer_of_first s x t u v after r rest step e (inr p) = let j = p.0 in inr (
     record { before_end = r ∷ j.before_end; second_trace = j.second_trace; first_drawn = (x, step, j.first_drawn); no_end = (e, j.no_end); second_drawn = j.second_drawn; not_empty = j.not_empty; answers = ap {B = List (Answered A E)} (λ l. r ∷ l) j.answers },
     p.1,
   )
 
   -- the first's end, and then answers of the second
-  joined_trace_end_first : (s x t : S) (u y v : U) (r : Answered A E) (rest : List (Answered A E)) → steps s end x → others u r y → Run others y rest v → t ≡ x → JoinedTrace steps others s u (r ∷ rest) t v
-  joined_trace_end_first s x t u y v r rest met step ran e = record { before_end = []; second_trace = r ∷ rest; first_drawn = (x, met, sym e); no_end = tt; second_drawn = (y, step, ran); not_empty = λ d. absurd cc; answers = refl }
+  joined_trace_where_first_ends : (s x t : S) (u y v : U) (r : Answered A E) (rest : List (Answered A E)) → steps s end x → others u r y → Run others y rest v → t ≡ x → JoinedTrace steps others s u (r ∷ rest) t v
+  joined_trace_where_first_ends s x t u y v r rest met step ran e = record { before_end = []; second_trace = r ∷ rest; first_drawn = (x, met, sym e); no_end = tt; second_drawn = (y, step, ran); not_empty = λ d. absurd cc; answers = refl }
 
-  chain_trace_to_both : (trace : List (Answered A E)) (s : S) (u : U) (t : S) (v : U) (after : StillDrawn) → Run StepOfChain (s, u, Both) trace (t, v, after) → ChainTrace steps others (s, u, Both) (trace) (t, v, after)
-  chain_trace_to_both [] s u t v after e = inl (ap (λ p. p.0) e, tt, sym (ap (λ p. p.1) e), sym (ap (λ p. p.2) e))
-  chain_trace_to_both (r ∷ rest) s u t v after h = elim h.1 [
-    | inl step ↦ chain_trace_first s h.0.0 t u v after r rest step.0 step.1 (chain_trace_to_both rest h.0.0 u t v after (rw (step.2, step.3) at h.2))
-    | inr step ↦ let p = chain_trace_to_second rest h.0.0 h.0.1 t v after (rw step.2 at h.2) in inr (joined_trace_end_first s h.0.0 t u h.0.1 v r rest step.0 step.1 p.0 p.1, p.2)
+  chain_trace_of_run_of_both : (trace : List (Answered A E)) (s : S) (u : U) (t : S) (v : U) (after : StillDrawn) → Run StepOfChain (s, u, Both) trace (t, v, after) → ChainTrace steps others (s, u, Both) (trace) (t, v, after)
+  chain_trace_of_run_of_both [] s u t v after e = inl (ap (λ p. p.0) e, tt, sym (ap (λ p. p.1) e), sym (ap (λ p. p.2) e))
+  chain_trace_of_run_of_both (r ∷ rest) s u t v after h = elim h.1 [
+    | inl step ↦ chain_trace_with_answer_of_first s h.0.0 t u v after r rest step.0 step.1 (chain_trace_of_run_of_both rest h.0.0 u t v after (rw (step.2, step.3) at h.2))
+    | inr step ↦ let p = chain_trace_of_run_of_second_alone rest h.0.0 h.0.1 t v after (rw step.2 at h.2) in inr (joined_trace_where_first_ends s h.0.0 t u h.0.1 v r rest step.0 step.1 p.0 p.1, p.2)
   ]
 
   pub run_from_first : (trace : List (Answered A E)) (s : S) (u : U) (t : S) → Run steps s trace t → Run StepOfChain (s, u, FirstAlone) trace (t, u, FirstAlone)
@@ -58,14 +58,14 @@ module _ {S U A E : Type 0} (steps : S → Answered A E → S → Type 0) (other
   run_from_joined [] (r ∷ rest) s u t v ran no_end second some = rw⁻¹ ran.2 ((ran.0, second.0, SecondAlone), inr (ran.1, second.1, refl), run_from_second rest ran.0 second.0 v second.2)
   run_from_joined (r ∷ before) trace s u t v ran no_end second some = ((ran.0, u, Both), inl (ran.1, no_end.0, refl, refl), run_from_joined before trace ran.0 u t v ran.2 no_end.1 second some)
 
-  run_of_joined_trace : (trace : List (Answered A E)) (s : S) (u : U) (t : S) (v : U) (after : StillDrawn) → ChainTrace steps others (s, u, Both) (trace) (t, v, after) → Run StepOfChain (s, u, Both) trace (t, v, after)
-  run_of_joined_trace trace s u t v after (inl p) = rw (p.2, p.3) (run_from_both trace s u t p.0 p.1)
-  run_of_joined_trace trace s u t v after (inr p) = let j = p.0 in rw (j.answers, p.1) (run_from_joined j.before_end j.second_trace s u t v j.first_drawn j.no_end j.second_drawn j.not_empty)
+  chain_run_of_chain_trace_of_both : (trace : List (Answered A E)) (s : S) (u : U) (t : S) (v : U) (after : StillDrawn) → ChainTrace steps others (s, u, Both) (trace) (t, v, after) → Run StepOfChain (s, u, Both) trace (t, v, after)
+  chain_run_of_chain_trace_of_both trace s u t v after (inl p) = rw (p.2, p.3) (run_from_both trace s u t p.0 p.1)
+  chain_run_of_chain_trace_of_both trace s u t v after (inr p) = let j = p.0 in rw (j.answers, p.1) (run_from_joined j.before_end j.second_trace s u t v j.first_drawn j.no_end j.second_drawn j.not_empty)
 
   pub chain_law : (p : S × U × StillDrawn) (trace : List (Answered A E)) (q : S × U × StillDrawn) → Run StepOfChain p trace q ↔ ChainTrace steps others p trace q
-  chain_law (s, u, Both) trace (t, v, after) = (chain_trace_to_both trace s u t v after, run_of_joined_trace trace s u t v after)
-  chain_law (s, u, FirstAlone) trace (t, v, after) = (chain_trace_to_first trace s u t v after, (λ p. rw (p.1, p.2) (run_from_first trace s u t p.0)))
-  chain_law (s, u, SecondAlone) trace (t, v, after) = (chain_trace_to_second trace s u t v after, (λ p. rw (p.1, p.2) (run_from_second trace s u v p.0)))
+  chain_law (s, u, Both) trace (t, v, after) = (chain_trace_of_run_of_both trace s u t v after, chain_run_of_chain_trace_of_both trace s u t v after)
+  chain_law (s, u, FirstAlone) trace (t, v, after) = (chain_trace_of_run_of_first_alone trace s u t v after, (λ p. rw (p.1, p.2) (run_from_first trace s u t p.0)))
+  chain_law (s, u, SecondAlone) trace (t, v, after) = (chain_trace_of_run_of_second_alone trace s u t v after, (λ p. rw (p.1, p.2) (run_from_second trace s u v p.0)))
 
 -- ---- values and their parts, from the front and from the back
 
@@ -96,21 +96,21 @@ module _ {S U A E : Type 0} (steps : S → Answered A E → S → Type 0) (other
   abbrev GivesInChain : S → U → StillDrawn → List (Result A E) → Type 0
   GivesInChain s u drawn l = AlwaysGives (chain_step steps others) (s, u, drawn) l
 
-  gives_second : (b : List (Result A E)) (s : S) (u : U) → AlwaysGives others u b → GivesInChain s u SecondAlone b
-  gives_second [] s u g = λ r q w. g r q.1 w.0
-  gives_second (y ∷ b) s u g = λ r q w. let d = g r q.1 w.0 in (d.0, subst (λ (k : StillDrawn). GivesInChain q.0 q.1 k b) (sym w.2) (gives_second b q.0 q.1 d.1))
+  gives_second_where_second_alone : (b : List (Result A E)) (s : S) (u : U) → AlwaysGives others u b → GivesInChain s u SecondAlone b
+  gives_second_where_second_alone [] s u g = λ r q w. g r q.1 w.0
+  gives_second_where_second_alone (y ∷ b) s u g = λ r q w. let d = g r q.1 w.0 in (d.0, subst (λ (k : StillDrawn). GivesInChain q.0 q.1 k b) (sym w.2) (gives_second_where_second_alone b q.0 q.1 d.1))
 
   -- one draw at the first's end
-  gives_ended : (b : List (Result A E)) (s : S) (u : U) → AlwaysGives {A = A} {E = E} steps s [] → AlwaysGives others u b → GivesInChain s u Both b
-  gives_ended [] s u f g = λ r q w. elim w [ inl p ↦ f r q.0 p.0 | inr p ↦ g r q.1 p.1 ]
-  gives_ended (y ∷ b) s u f g = λ r q w. elim w [
+  gives_second_where_first_ended : (b : List (Result A E)) (s : S) (u : U) → AlwaysGives {A = A} {E = E} steps s [] → AlwaysGives others u b → GivesInChain s u Both b
+  gives_second_where_first_ended [] s u f g = λ r q w. elim w [ inl p ↦ f r q.0 p.0 | inr p ↦ g r q.1 p.1 ]
+  gives_second_where_first_ended (y ∷ b) s u f g = λ r q w. elim w [
     | inl p ↦ absurd (let e = f r q.0 p.0 in let no : is_end r ≡ false = p.1 in let yes : is_end r ≡ true = ap is_end e in cc)
-    | inr p ↦ let d = g r q.1 p.1 in (d.0, subst (λ (k : StillDrawn). GivesInChain q.0 q.1 k b) (sym p.2) (gives_second b q.0 q.1 d.1))
+    | inr p ↦ let d = g r q.1 p.1 in (d.0, subst (λ (k : StillDrawn). GivesInChain q.0 q.1 k b) (sym p.2) (gives_second_where_second_alone b q.0 q.1 d.1))
   ]
 
   gives_chained : (a b : List (Result A E)) (s : S) (u : U) → AlwaysGives steps s a → AlwaysGives others u b → GivesInChain s u Both (chained a b)
   unfolding chained
-  gives_chained [] b s u f g = gives_ended b s u f g
+  gives_chained [] b s u f g = gives_second_where_first_ended b s u f g
   gives_chained (y ∷ a) b s u f g = λ r q w. elim w [
     | inl p ↦ let d = f r q.0 p.0 in (d.0, rw (p.2, p.3) (gives_chained a b q.0 u d.1 g))
     | inr p ↦ absurd (item_not_end y (f end q.0 p.0).0)

@@ -7,7 +7,7 @@ use Rattle.fallible_contract.specs.Traces.{Answered, Run, Yields, NoEnd, item, e
 use Rattle.fallible_contract.specs.Contract.{Contract, seen_as}
 use Rattle.fallible_contract.specs.Folds.{Drained, HoldsAtEachTurn, goes_on, DriveExit, DrivenBy}
 use Rattle.fallible_contract.specs.Laws.Closures.{folds_to_in_turn}
-use Rattle.fallible_contract.proofs.Lemmas.Folding.{drained_into, holds_at_each_turn_into}
+use Rattle.fallible_contract.proofs.Lemmas.Folding.{drained_of_holder, holds_at_each_turn_of_held}
 use Rattle.fallible_contract.proofs.Lemmas.Overriding.{holds_each_turn_seen, drained_seen}
 use Rattle.fallible_core.specs.Joining.Chain.{chain_step, chain_contract, chain_is_finite, sides_back}
 use Rattle.fallible_core.proofs.Lemmas.Joining.Chain.{run_from_both, run_from_joined}
@@ -25,10 +25,10 @@ pub both_not_second : {d : StillDrawn} → d ≡ Both → d ≡ SecondAlone → 
 both_not_second is second = absurd cc
 
 -- from the back the second comes first
-pub second_drawn_back : (d : StillDrawn) → (d ≡ FirstAlone → ⊥) → sides_back d ≡ SecondAlone → ⊥
-second_drawn_back Both first e = absurd cc
-second_drawn_back FirstAlone first e = first refl
-second_drawn_back SecondAlone first e = absurd cc
+pub sides_back_is_never_second_alone : (d : StillDrawn) → (d ≡ FirstAlone → ⊥) → sides_back d ≡ SecondAlone → ⊥
+sides_back_is_never_second_alone Both first e = absurd cc
+sides_back_is_never_second_alone FirstAlone first e = first refl
+sides_back_is_never_second_alone SecondAlone first e = absurd cc
 
 -- items and a last answer that isn't an end
 items_and_last_no_end : {A E : Type 0} (items : List A) (last : Answered A E) → is_end last ≡ false → NoEnd (map item items ++ last ∷ [])
@@ -51,22 +51,22 @@ yields_first steps (x ∷ items) last s t ran = let h = yields_first steps items
 -- ---- what came to a fold
 
 module _ {A E C R : Type 0} (turns : C → A → ControlFlow R (Unit {0}) → C → Type 0) where
-  exit_at_end : (z d : C) (last : Answered A E) → DriveExit turns z last (Ok None) d → (last ≡ end) × (z ≡ d)
-  exit_at_end z d (Ok None) h = (refl, sym h.1)
-  exit_at_end z d (Err e) h = absurd (let f = h.0 in cc)
-  exit_at_end z d (Ok (Some x)) h = absurd (let f = h.2 in cc)
+  last_is_end_of_drive_exit : (z d : C) (last : Answered A E) → DriveExit turns z last (Ok None) d → (last ≡ end) × (z ≡ d)
+  last_is_end_of_drive_exit z d (Ok None) h = (refl, sym h.1)
+  last_is_end_of_drive_exit z d (Err e) h = absurd (let f = h.0 in cc)
+  last_is_end_of_drive_exit z d (Ok (Some x)) h = absurd (let f = h.2 in cc)
 
-  is_end_of_drive_exit : (z d : C) (last : Answered A E) (r : Answered R E) → (r ≡ Ok None → ⊥) → DriveExit turns z last r d → is_end last ≡ false
-  is_end_of_drive_exit z d (Ok None) r other h = absurd (other h.0)
-  is_end_of_drive_exit z d (Err e) r other h = refl
-  is_end_of_drive_exit z d (Ok (Some x)) r other h = refl
+  last_is_not_end_of_drive_exit : (z d : C) (last : Answered A E) (r : Answered R E) → (r ≡ Ok None → ⊥) → DriveExit turns z last r d → is_end last ≡ false
+  last_is_not_end_of_drive_exit z d (Ok None) r other h = absurd (other h.0)
+  last_is_not_end_of_drive_exit z d (Err e) r other h = refl
+  last_is_not_end_of_drive_exit z d (Ok (Some x)) r other h = refl
 
   -- a fold that ended met an end, and its turns went on up to there; otherwise it met none
   pub drive_met_end : {c d : C} (items : List A) (last : Answered A E) → DrivenBy turns c (Ok None) d items last → (last ≡ end) × FoldsTo (goes_on turns) c items d
-  drive_met_end {c} {d} items last h = let over = exit_at_end h.carried d last h.exit in (over.0, subst (λ (z : C). FoldsTo (goes_on turns) c items z) over.1 h.went)
+  drive_met_end {c} {d} items last h = let over = last_is_end_of_drive_exit h.carried d last h.exit in (over.0, subst (λ (z : C). FoldsTo (goes_on turns) c items z) over.1 h.went)
 
-  pub is_end_of_drive : {c d : C} {r : Answered R E} → (r ≡ Ok None → ⊥) → (items : List A) (last : Answered A E) → DrivenBy turns c r d items last → is_end last ≡ false
-  is_end_of_drive {d = d} {r = r} other items last h = is_end_of_drive_exit h.carried d last r other h.exit
+  pub last_is_not_end_of_drive : {c d : C} {r : Answered R E} → (r ≡ Ok None → ⊥) → (items : List A) (last : Answered A E) → DrivenBy turns c r d items last → is_end last ≡ false
+  last_is_not_end_of_drive {d = d} {r = r} other items last h = last_is_not_end_of_drive_exit h.carried d last r other h.exit
 
   -- a fold that ended, and then another from where it left the state
   pub drive_joins : {c d z : C} {r : Answered R E} (xs ys : List A) (met last : Answered A E) → DrivenBy turns c (Ok None) d xs met → DrivenBy turns d r z ys last → (met ≡ end) × DrivenBy turns c r z (xs ++ ys) last
@@ -101,18 +101,18 @@ module _ {S U A E : Type 0} (steps : S → Answered A E → S → Type 0) (other
   module _ {came : List A → Answered A E → Type 0} where
     -- draws of a side that is drawn are draws of the chain
     drained_first_alone : {s t : S} (u : U) → Drained steps came s t → Drained StepOfChainFolds came (s, u, FirstAlone) (t, u, FirstAlone)
-    drained_first_alone u h = drained_into (λ (z : S). (z, u, FirstAlone)) (λ p r q step. (step, refl, refl)) h
+    drained_first_alone u h = drained_of_holder (λ (z : S). (z, u, FirstAlone)) (λ p r q step. (step, refl, refl)) h
 
     drained_second_alone : {u v : U} (s : S) → Drained others came u v → Drained StepOfChainFolds came (s, u, SecondAlone) (s, v, SecondAlone)
-    drained_second_alone s h = drained_into (λ (z : U). (s, z, SecondAlone)) (λ p r q step. (step, refl, refl)) h
+    drained_second_alone s h = drained_of_holder (λ (z : U). (s, z, SecondAlone)) (λ p r q step. (step, refl, refl)) h
 
     -- those of the first that met no end
-    drained_both : {s t : S} (u : U) → ((items : List A) (last : Answered A E) → came items last → is_end last ≡ false) → Drained steps came s t → Drained StepOfChainFolds came (s, u, Both) (t, u, Both)
-    drained_both {s} {t} u other h = record { items = h.items; last = h.last; ran = run_from_both steps others (map item h.items ++ h.last ∷ []) s u t h.ran (items_and_last_no_end h.items h.last (other h.items h.last h.at)); at = h.at }
+    drained_both_where_not_ended : {s t : S} (u : U) → ((items : List A) (last : Answered A E) → came items last → is_end last ≡ false) → Drained steps came s t → Drained StepOfChainFolds came (s, u, Both) (t, u, Both)
+    drained_both_where_not_ended {s} {t} u other h = record { items = h.items; last = h.last; ran = run_from_both steps others (map item h.items ++ h.last ∷ []) s u t h.ran (items_and_last_no_end h.items h.last (other h.items h.last h.at)); at = h.at }
 
     -- those of the first that met its end, and then those of the second
-    drained_of_both : {before after : List A → Answered A E → Type 0} {s t : S} {u v : U} → ((xs ys : List A) (met last : Answered A E) → before xs met → after ys last → (met ≡ end) × came (xs ++ ys) last) → Drained steps before s t → Drained others after u v → Drained StepOfChainFolds came (s, u, Both) (t, v, SecondAlone)
-    drained_of_both {s = s} {t = t} {u = u} {v = v} joins f b = let over = joins f.items b.items f.last b.last f.at b.at in record {
+    drained_both_where_joined : {before after : List A → Answered A E → Type 0} {s t : S} {u v : U} → ((xs ys : List A) (met last : Answered A E) → before xs met → after ys last → (met ≡ end) × came (xs ++ ys) last) → Drained steps before s t → Drained others after u v → Drained StepOfChainFolds came (s, u, Both) (t, v, SecondAlone)
+    drained_both_where_joined {s = s} {t = t} {u = u} {v = v} joins f b = let over = joins f.items b.items f.last b.last f.at b.at in record {
       items = f.items ++ b.items;
       last = b.last;
       ran = run_of_both f.items b.items b.last s t u v (subst (λ (r : Answered A E). Run steps s (map item f.items ++ r ∷ []) t) over.0 f.ran) b.ran;
@@ -122,13 +122,13 @@ module _ {S U A E : Type 0} (steps : S → Answered A E → S → Type 0) (other
   module _ {C : Type 0} {on : C → A → C → Type 0} {P : C → A → Type 0} {s : S} {u : U} {c : C} where
     -- what holds at each turn over the chain holds at each turn over the side that is drawn
     holds_each_turn_first_alone : HoldsAtEachTurn StepOfChainFolds on P (s, u, FirstAlone) c → HoldsAtEachTurn steps on P s c
-    holds_each_turn_first_alone h = holds_at_each_turn_into (λ (z : S). (z, u, FirstAlone)) (λ p x q step. (step, refl, refl)) h
+    holds_each_turn_first_alone h = holds_at_each_turn_of_held (λ (z : S). (z, u, FirstAlone)) (λ p x q step. (step, refl, refl)) h
 
     holds_each_turn_second_alone : HoldsAtEachTurn StepOfChainFolds on P (s, u, SecondAlone) c → HoldsAtEachTurn others on P u c
-    holds_each_turn_second_alone h = holds_at_each_turn_into (λ (z : U). (s, z, SecondAlone)) (λ p x q step. (step, refl, refl)) h
+    holds_each_turn_second_alone h = holds_at_each_turn_of_held (λ (z : U). (s, z, SecondAlone)) (λ p x q step. (step, refl, refl)) h
 
     holds_each_turn_both : HoldsAtEachTurn StepOfChainFolds on P (s, u, Both) c → HoldsAtEachTurn steps on P s c
-    holds_each_turn_both h = holds_at_each_turn_into (λ (z : S). (z, u, Both)) (λ p x q step. inl (step, refl, refl, refl)) h
+    holds_each_turn_both h = holds_at_each_turn_of_held (λ (z : S). (z, u, Both)) (λ p x q step. inl (step, refl, refl, refl)) h
 
     -- and after draws of the first that met its end, at each turn over the second
     holds_each_turn_past_first_end : {before : List A → Answered A E → Type 0} {t : S} {d : C} → ((items : List A) (met : Answered A E) → before items met → (met ≡ end) × FoldsTo on c items d) → Drained steps before s t → HoldsAtEachTurn StepOfChainFolds on P (s, u, Both) c → HoldsAtEachTurn others on P u d
@@ -196,10 +196,10 @@ module _ {V S U A E : Type 0} (view : V → S × U × StillDrawn) (make : S × U
     drained_chain_first drawn kept now other h = by_cases (view s).2 refl
       where
         by_cases : (d : StillDrawn) → (view s).2 ≡ d → Drained ChainStep came s w
-        by_cases Both is = drained_parts (ap (λ (d : StillDrawn). ((view s).0, (view s).1, d)) is) (ap₂ (λ (u : U) (d : StillDrawn). ((view w).0, u, d)) kept (now ∙ is)) (drained_both first.steps second.steps (view s).1 other h)
+        by_cases Both is = drained_parts (ap (λ (d : StillDrawn). ((view s).0, (view s).1, d)) is) (ap₂ (λ (u : U) (d : StillDrawn). ((view w).0, u, d)) kept (now ∙ is)) (drained_both_where_not_ended first.steps second.steps (view s).1 other h)
         by_cases FirstAlone is = drained_chain_first_alone is kept (now ∙ is) h
         by_cases SecondAlone is = absurd (drawn is)
 
     -- draws of the first that met its end, and then draws of the second
     pub drained_chain_both : {before after : List A → Answered A E → Type 0} → (view s).2 ≡ Both → (view w).2 ≡ SecondAlone → ((xs ys : List A) (met last : Answered A E) → before xs met → after ys last → (met ≡ end) × came (xs ++ ys) last) → Drained first.steps before (view s).0 (view w).0 → Drained second.steps after (view s).1 (view w).1 → Drained ChainStep came s w
-    drained_chain_both is now joins f b = drained_parts (ap (λ (d : StillDrawn). ((view s).0, (view s).1, d)) is) (ap (λ (d : StillDrawn). ((view w).0, (view w).1, d)) now) (drained_of_both first.steps second.steps joins f b)
+    drained_chain_both is now joins f b = drained_parts (ap (λ (d : StillDrawn). ((view s).0, (view s).1, d)) is) (ap (λ (d : StillDrawn). ((view w).0, (view w).1, d)) now) (drained_both_where_joined first.steps second.steps joins f b)

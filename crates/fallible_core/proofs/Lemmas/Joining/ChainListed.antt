@@ -14,9 +14,9 @@ use Rattle.fallible_core.specs.declared.joining.chain.StillDrawn.TheVariants.{Bo
 abbrev pub chain_step_back : {S U A E : Type 0} → (S → Answered A E → S → Type 0) → (U → Answered A E → U → Type 0) → S × U × StillDrawn → Answered A E → S × U × StillDrawn → Type 0
 chain_step_back first_second second_second p r q = chain_step second_second first_second (chain_back p) r (chain_back q)
 
-result_no_end : {A E : Type 0} (y : Result A E) (r : Answered A E) → r ≡ result_answer y → r ≡ end → ⊥
-result_no_end (Ok x) r e d = absurd cc
-result_no_end (Err x) r e d = absurd cc
+end_is_no_result_answer : {A E : Type 0} (y : Result A E) (r : Answered A E) → r ≡ result_answer y → r ≡ end → ⊥
+end_is_no_result_answer (Ok x) r e d = absurd cc
+end_is_no_result_answer (Err x) r e d = absurd cc
 
 module _ {S U A E : Type 0} (steps back : S → Answered A E → S → Type 0) (others others_back : U → Answered A E → U → Type 0) where
   -- what a chain of these parts lists
@@ -33,7 +33,7 @@ module _ {S U A E : Type 0} (steps back : S → Answered A E → S → Type 0) (
   -- an answer of the second, in the draw that met the first's end
   takes_first_at_end : (s t : S) (v : U) (r : Answered A E) (a b : List (Result A E)) → TakesFirst (λ k. ListsBothEnds steps back t k) end a → TakesFirst (λ k. ListsBothEnds others others_back v k) r b → TakesFirst (λ k. ChainLists (t, v, SecondAlone) k) r (a ++ b)
   takes_first_at_end s t v r [] b h j = j
-  takes_first_at_end s t v r (y ∷ a) b h j = absurd (result_no_end y end h.0 refl)
+  takes_first_at_end s t v r (y ∷ a) b h j = absurd (end_is_no_result_answer y end h.0 refl)
 
   takes_first_of_chain : (p : S × U × StillDrawn) (l : List (Result A E)) → ChainLists p l → (r : Answered A E) (q : S × U × StillDrawn) → chain_step steps others p r q → TakesFirst (λ k. ChainLists q k) r l
   takes_first_of_chain (s, u, Both) l h r (t, v, left) (inl step) = rw (step.3, step.2, h.2) (takes_first_before_end t u r h.0 h.1 step.1 (takes_first_front h.3 step.0) h.4)

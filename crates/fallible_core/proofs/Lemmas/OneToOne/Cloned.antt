@@ -8,7 +8,7 @@ use Rattle.fallible_contract.specs.Traces.{Answered}
 use Rattle.fallible_contract.specs.Passing.{passing_step}
 use Rattle.fallible_contract.specs.Lists.{Lists}
 use Rattle.fallible_contract.specs.BothEnds.{ListsBothEnds, items_listed, source_list, passed_list}
-use Rattle.fallible_contract.proofs.Lemmas.BothEnds.Passing.{GivesAt, with_answer, source_list_with_answer, lists_both_ends_passed}
+use Rattle.fallible_contract.proofs.Lemmas.BothEnds.Passing.{GivesAt, with_answer, source_list_of_with_answer_is_same, lists_both_ends_passed}
 use Rattle.fallible_contract.proofs.Lemmas.Lists.Passing.{passed, gives_all, lists_seen}
 use Rattle.fallible_core.specs.OneToOne.Map.{map_outcome, mapped}
 use Rattle.fallible_core.specs.OneToOne.Cloned.{cloned_call, cloned_parts, cloned_contract, pointed_to}
@@ -38,16 +38,16 @@ abbrev pub with_clone : {T E : Type 0} → Result (Bor T × T) E → Result (Bor
 with_clone (Ok c) = Ok (c.0, Ok c.1)
 with_clone (Err e) = Err e
 
-source_list_with_clone : {T E : Type 0} (asked : List (Result (Bor T × T) E)) → source_list (map with_clone asked) ≡ source_list asked
-source_list_with_clone [] = refl
-source_list_with_clone (Ok c ∷ asked) = ap {B = List (Result (Bor _) _)} (λ k. Ok c.0 ∷ k) (source_list_with_clone asked)
-source_list_with_clone (Err e ∷ asked) = ap {B = List (Result (Bor _) _)} (λ k. Err e ∷ k) (source_list_with_clone asked)
+source_list_with_clone_is_source_list : {T E : Type 0} (asked : List (Result (Bor T × T) E)) → source_list (map with_clone asked) ≡ source_list asked
+source_list_with_clone_is_source_list [] = refl
+source_list_with_clone_is_source_list (Ok c ∷ asked) = ap {B = List (Result (Bor _) _)} (λ k. Ok c.0 ∷ k) (source_list_with_clone_is_source_list asked)
+source_list_with_clone_is_source_list (Err e ∷ asked) = ap {B = List (Result (Bor _) _)} (λ k. Err e ∷ k) (source_list_with_clone_is_source_list asked)
 
-pub passed_list_with_clone : {T E : Type 0} (asked : List (Result (Bor T × T) E)) → passed_list map_outcome (map with_clone asked) ≡ mapped (λ c. Ok c.1) asked
+pub passed_list_with_clone_is_mapped : {T E : Type 0} (asked : List (Result (Bor T × T) E)) → passed_list map_outcome (map with_clone asked) ≡ mapped (λ c. Ok c.1) asked
 unfolding mapped
-passed_list_with_clone [] = refl
-passed_list_with_clone (Ok c ∷ asked) = ap {B = List (Result _ _)} (λ k. Ok c.1 ∷ k) (passed_list_with_clone asked)
-passed_list_with_clone (Err e ∷ asked) = ap {B = List (Result _ _)} (λ k. Err e ∷ k) (passed_list_with_clone asked)
+passed_list_with_clone_is_mapped [] = refl
+passed_list_with_clone_is_mapped (Ok c ∷ asked) = ap {B = List (Result _ _)} (λ k. Ok c.1 ∷ k) (passed_list_with_clone_is_mapped asked)
+passed_list_with_clone_is_mapped (Err e ∷ asked) = ap {B = List (Result _ _)} (λ k. Err e ∷ k) (passed_list_with_clone_is_mapped asked)
 
 module _ {T E : Type 0} (is_clone : T → T → Type 0) (is_infallible : T → Type 0) (from : AllocError → E → Type 0) where
   -- the one clone of the item, which never fails
@@ -55,11 +55,11 @@ module _ {T E : Type 0} (is_clone : T → T → Type 0) (is_infallible : T → T
   OneClone c = is_infallible c.0.now × ((y : T) → is_clone c.0.now y → y ≡ c.1)
 
   gives_at_clone : (c : Bor T × T) (p q : Unit {0}) → OneClone c → GivesAt (cloned_call is_clone is_infallible from) p q (c.0, Ok c.1)
-  gives_at_clone c p q one = λ r called. answer_of_one_clone r called
+  gives_at_clone c p q one = λ r called. cloned_call_answer_is_clone r called
     where
-      answer_of_one_clone : (r : Result T E) → cloned_call is_clone is_infallible from p c.0 r q → r ≡ Ok c.1
-      answer_of_one_clone (Ok y) called = ap (λ (z : T). Ok z) (one.1 y called)
-      answer_of_one_clone (Err e) called = absurd (called.0 one.0)
+      cloned_call_answer_is_clone : (r : Result T E) → cloned_call is_clone is_infallible from p c.0 r q → r ≡ Ok c.1
+      cloned_call_answer_is_clone (Ok y) called = ap (λ (z : T). Ok z) (one.1 y called)
+      cloned_call_answer_is_clone (Err e) called = absurd (called.0 one.0)
 
   all_clones_given : (asked : List (Result (Bor T × T) E)) (p q : Unit {0}) → All OneClone (items_listed asked) → All (GivesAt (cloned_call is_clone is_infallible from) p q) (items_listed (map with_clone asked))
   all_clones_given [] p q all = All-nil (GivesAt (cloned_call is_clone is_infallible from) p q)
@@ -70,7 +70,7 @@ module _ {T E : Type 0} (is_clone : T → T → Type 0) (is_infallible : T → T
   pub lists_both_ends_clones : {S : Type 0} (front back : S → Answered (Bor T) E → S → Type 0) (asked : List (Result (Bor T × T) E)) (s : S) → All OneClone (items_listed asked) → ListsBothEnds front back s (source_list asked)
       → ListsBothEnds (passing_step front (cloned_call is_clone is_infallible from) map_outcome) (passing_step back (cloned_call is_clone is_infallible from) map_outcome) (s, tt) (passed_list map_outcome (map with_clone asked))
   lists_both_ends_clones front back asked s all i = lists_both_ends_passed front back (cloned_call is_clone is_infallible from) map_outcome map_never_ends (map with_clone asked) s tt
-      (λ made p q w. all_clones_given asked p q all) (subst (λ (l : List (Result (Bor T) E)). ListsBothEnds front back s l) (sym (source_list_with_clone asked)) i)
+      (λ made p q w. all_clones_given asked p q all) (subst (λ (l : List (Result (Bor T) E)). ListsBothEnds front back s l) (sym (source_list_with_clone_is_source_list asked)) i)
 
 -- ---- where a clone equals its original
 
@@ -85,11 +85,11 @@ passed_clones_are_pointed_to (Ok x ∷ l) = ap {B = List (Result _ _)} (λ k. Ok
 passed_clones_are_pointed_to (Err e ∷ l) = ap {B = List (Result _ _)} (λ k. Err e ∷ k) (passed_clones_are_pointed_to l)
 
 module _ {T E : Type 0} (is_clone : T → T → Type 0) (is_infallible : T → Type 0) (from : AllocError → E → Type 0) (equal : (x y : T) → is_clone x y → y ≡ x) (infallible : (x : T) → is_infallible x) where
-  all_of_one_clone : (l : List (Result (Bor T) E)) → All (OneClone {E = E} is_clone is_infallible from) (items_listed (with_original l))
-  all_of_one_clone [] = All-nil (OneClone {E = E} is_clone is_infallible from)
-  all_of_one_clone (Ok x ∷ l) = All-cons (OneClone {E = E} is_clone is_infallible from) (x, x.now) (items_listed (with_original l)) (infallible x.now, λ y called. equal x.now y called) (all_of_one_clone l)
-  all_of_one_clone (Err e ∷ l) = all_of_one_clone l
+  items_with_original_are_one_clone : (l : List (Result (Bor T) E)) → All (OneClone {E = E} is_clone is_infallible from) (items_listed (with_original l))
+  items_with_original_are_one_clone [] = All-nil (OneClone {E = E} is_clone is_infallible from)
+  items_with_original_are_one_clone (Ok x ∷ l) = All-cons (OneClone {E = E} is_clone is_infallible from) (x, x.now) (items_listed (with_original l)) (infallible x.now, λ y called. equal x.now y called) (items_with_original_are_one_clone l)
+  items_with_original_are_one_clone (Err e ∷ l) = items_with_original_are_one_clone l
 
   pub lists_both_ends_originals : {S : Type 0} (front back : S → Answered (Bor T) E → S → Type 0) (l : List (Result (Bor T) E)) (s : S) → ListsBothEnds front back s l
       → ListsBothEnds (passing_step front (cloned_call is_clone is_infallible from) map_outcome) (passing_step back (cloned_call is_clone is_infallible from) map_outcome) (s, tt) (passed_list map_outcome (map with_clone (with_original l)))
-  lists_both_ends_originals front back l s i = lists_both_ends_clones is_clone is_infallible from front back (with_original l) s (all_of_one_clone l) (subst (λ (k : List (Result (Bor T) E)). ListsBothEnds front back s k) (sym (source_list_with_answer (λ x. x.now) l)) i)
+  lists_both_ends_originals front back l s i = lists_both_ends_clones is_clone is_infallible from front back (with_original l) s (items_with_original_are_one_clone l) (subst (λ (k : List (Result (Bor T) E)). ListsBothEnds front back s k) (sym (source_list_of_with_answer_is_same (λ x. x.now) l)) i)

@@ -31,25 +31,25 @@ pub numbered_step_of_passing : {S A E : Type 0} {steps : S → Answered A E → 
 numbered_step_of_passing {steps = steps} p r q step = numbered_step_of_pass steps p.0 q.0 p.1 q.1 r (passes_of_pass_trace step)
 
 -- an item that comes may be counted
-pub drawn_numbered : {S A E : Type 0} {m : Contract S A E} {s t : S} {n : ℕ} → Lawful m → IsNumberable m s n → (drawn : Answered A E) → m.steps s drawn t → IfItem (λ x. number_takes n x) drawn
-drawn_numbered {s = s} {t = t} l can (Ok (Some x)) step = let fewer = (l.kept_by_draw s (item x) t can.can_next step).answer.1 can.bound can.bounds in let fits = can.fits in omega (arith, fewer.2, fits)
-drawn_numbered l can (Ok None) step = tt
-drawn_numbered l can (Err e) step = tt
+pub number_takes_drawn_item : {S A E : Type 0} {m : Contract S A E} {s t : S} {n : ℕ} → Lawful m → IsNumberable m s n → (drawn : Answered A E) → m.steps s drawn t → IfItem (λ x. number_takes n x) drawn
+number_takes_drawn_item {s = s} {t = t} l can (Ok (Some x)) step = let fewer = (l.kept_by_draw s (item x) t can.can_next step).answer.1 can.bound can.bounds in let fits = can.fits in omega (arith, fewer.2, fits)
+number_takes_drawn_item l can (Ok None) step = tt
+number_takes_drawn_item l can (Err e) step = tt
 
 -- ---- where the source's turn may be taken
 
 module _ {S A E C R : Type 0} {m : Contract S A E} (l : Lawful m) (turns : C → ℕ × A → ControlFlow R (Unit {0}) → C → Type 0) where
   -- each turn that goes on counts one item
-  counts_along : (items : List A) (p q : C × ℕ) (j : ℕ) → FoldsTo (goes_on (FoldingTurn {E = E} number_call number_outcome turns)) p items q → (k : ℕ) × FoldsTo (λ (i : ℕ) (x : A) (n : ℕ). n ≡ i + 1) j items k × (q.1 + j ≡ p.1 + k)
-  counts_along [] p q j w = let same : p.1 ≡ q.1 = ap (λ z. z.1) w in (j, refl, omega (arith, same))
-  counts_along (x ∷ items) p q j w = let turned = w.1 in let up : w.0.1 ≡ p.1 + 1 = turned.1.1 in
-      let rest = counts_along items w.0 q (j + 1) w.2 in (rest.0, (j + 1, refl, rest.1), omega (arith, up, rest.2))
+  count_folds_and_rises_with_number : (items : List A) (p q : C × ℕ) (j : ℕ) → FoldsTo (goes_on (FoldingTurn {E = E} number_call number_outcome turns)) p items q → (k : ℕ) × FoldsTo (λ (i : ℕ) (x : A) (n : ℕ). n ≡ i + 1) j items k × (q.1 + j ≡ p.1 + k)
+  count_folds_and_rises_with_number [] p q j w = let same : p.1 ≡ q.1 = ap (λ z. z.1) w in (j, refl, omega (arith, same))
+  count_folds_and_rises_with_number (x ∷ items) p q j w = let turned = w.1 in let up : w.0.1 ≡ p.1 + 1 = turned.1.1 in
+      let rest = count_folds_and_rises_with_number items w.0 q (j + 1) w.2 in (rest.0, (j + 1, refl, rest.1), omega (arith, up, rest.2))
 
   -- The numbers of all items to come fit, so each item may be counted, and the caller's turn be taken on it and its number.
   pub holds_each_turn_numbered : {P : C → ℕ × A → Type 0} {s : S} {n : ℕ} {c : C} → IsNumberable m s n → HoldsAtEachTurn (passing_step m.steps number_call number_outcome) (goes_on turns) P (s, n) c
       → HoldsAtEachTurn m.steps (goes_on (FoldingTurn {E = E} number_call number_outcome turns)) (FoldingTakes {E = E} number_call number_outcome number_takes P) s (c, n)
   holds_each_turn_numbered {P = P} {s = s} {n = n} {c = c} can holds = takes_where_reached number_call number_outcome turns (λ k x. number_takes k x)
-      (λ items t u p x ran went step. let k = counts_along items (c, n) p 0 went in let below = (holds_each_turn_below {m = m} can.bound l can.can_next (inl can.bounds)).at items t u k.0 x ran k.1 step in let fits = can.fits in omega (arith, below, k.2, fits)) holds
+      (λ items t u p x ran went step. let k = count_folds_and_rises_with_number items (c, n) p 0 went in let below = (holds_each_turn_below {m = m} can.bound l can.can_next (inl can.bounds)).at items t u k.0 x ran k.1 step in let fits = can.fits in omega (arith, below, k.2, fits)) holds
 
 -- ---- `count`
 
@@ -71,14 +71,14 @@ module _ {S A E : Type 0} (steps : S → Answered A E → S → Type 0) where
       ((ran.0, n + 1), enumerate_trace_item x ran.1, subst (λ (k : ℕ). Run (numbered_step steps) (ran.0, n + 1) (map item (beside_numbers (n + 1) items) ++ answer ∷ []) (t, k)) same (run_numbered items last answer ran.0 t (n + 1) then ran.2))
 
   -- an end or a failure is the same of it
-  over_numbered : (last : Answered A E) (r : Result (Unit {0}) E) → OverExit last r → (answer : Answered (ℕ × A) E) × OverExit answer r × ((u v : S) (k : ℕ) → steps u last v → numbered_step steps (u, k) answer (v, k))
-  over_numbered (Ok None) r exit = (Ok None, exit, (λ u v k step. enumerate_trace_end step))
-  over_numbered (Err e) r exit = (Err e, exit, (λ u v k step. enumerate_trace_failure step))
-  over_numbered (Ok (Some x)) r exit = absurd exit
+  over_exit_of_numbered_answer : (last : Answered A E) (r : Result (Unit {0}) E) → OverExit last r → (answer : Answered (ℕ × A) E) × OverExit answer r × ((u v : S) (k : ℕ) → steps u last v → numbered_step steps (u, k) answer (v, k))
+  over_exit_of_numbered_answer (Ok None) r exit = (Ok None, exit, (λ u v k step. enumerate_trace_end step))
+  over_exit_of_numbered_answer (Err e) r exit = (Err e, exit, (λ u v k step. enumerate_trace_failure step))
+  over_exit_of_numbered_answer (Ok (Some x)) r exit = absurd exit
 
 -- the source's count is one of `Enumerate`, whose own number goes up by as much
 pub count_drains_on_numbered : {S A E : Type 0} {steps : S → Answered A E → S → Type 0} {s t : S} {n i k : ℕ} {r : Result (Unit {0}) E} → CountDrainsOn steps s i r t k → CountDrainsOn (numbered_step steps) (s, n) i r (t, n + (k - i)) k
-count_drains_on_numbered {steps = steps} {s = s} {t = t} {n = n} {i = i} {k = k} {r = r} w = let last = over_numbered steps w.last r w.at.exit in let up = w.at.number in
+count_drains_on_numbered {steps = steps} {s = s} {t = t} {n = n} {i = i} {k = k} {r = r} w = let last = over_exit_of_numbered_answer steps w.last r w.at.exit in let up = w.at.number in
     let same : n + length w.items ≡ n + (k - i) = omega (arith, up) in record {
       items = beside_numbers n w.items;
       last = last.0;

@@ -17,14 +17,14 @@ pub inspect_never_ends : {X E : Type 0} (x : X) (v : Result (Unit {0}) E) → in
 inspect_never_ends x (Ok u) e = absurd cc
 inspect_never_ends x (Err d) e = absurd cc
 
-by_outcome_of_inspect : {X E : Type 0} (x : X) (v : Result (Unit {0}) E) (l : List (Result X E)) → by_outcome (inspect_outcome x v) l ≡ once_seen x v ∷ l
-by_outcome_of_inspect x (Ok u) l = refl
-by_outcome_of_inspect x (Err e) l = refl
+by_outcome_of_inspect_is_once_seen : {X E : Type 0} (x : X) (v : Result (Unit {0}) E) (l : List (Result X E)) → by_outcome (inspect_outcome x v) l ≡ once_seen x v ∷ l
+by_outcome_of_inspect_is_once_seen x (Ok u) l = refl
+by_outcome_of_inspect_is_once_seen x (Err e) l = refl
 
 pub passed_is_inspected : {X E : Type 0} (h : X → Result (Unit {0}) E) (l : List (Result X E)) → passed inspect_outcome (λ (p : Unit {0}) x. h x) (λ p x. p) tt l ≡ inspected h l
 unfolding inspected
 passed_is_inspected h [] = refl
-passed_is_inspected h (Ok x ∷ l) = by_outcome_of_inspect x (h x) _ ∙ ap (λ t. once_seen x (h x) ∷ t) (passed_is_inspected h l)
+passed_is_inspected h (Ok x ∷ l) = by_outcome_of_inspect_is_once_seen x (h x) _ ∙ ap (λ t. once_seen x (h x) ∷ t) (passed_is_inspected h l)
 passed_is_inspected h (Err e ∷ l) = ap (λ t. Err e ∷ t) (passed_is_inspected h l)
 
 pub lists_inspected : {S F X E : Type 0} (m : Contract S X E) (g : Mut F (Bor X × Unit {0}) (Result (Unit {0}) E)) (s : Inspect S F) (f : F) (h : X → Result (Unit {0}) E) (l : List (Result X E)) → inspect_parts s ≡ (s.it, f) → Acts (call_by_reference g) f h → Lists m.steps s.it l

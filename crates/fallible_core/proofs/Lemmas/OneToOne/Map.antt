@@ -16,14 +16,14 @@ pub map_never_ends : {X B E : Type 0} (x : X) (v : Result B E) → map_outcome x
 map_never_ends x (Ok y) e = absurd cc
 map_never_ends x (Err d) e = absurd cc
 
-by_outcome_of_map : {X B E : Type 0} (x : X) (y : Result B E) (l : List (Result B E)) → by_outcome (map_outcome x y) l ≡ y ∷ l
-by_outcome_of_map x (Ok y) l = refl
-by_outcome_of_map x (Err e) l = refl
+by_outcome_of_map_is_cons : {X B E : Type 0} (x : X) (y : Result B E) (l : List (Result B E)) → by_outcome (map_outcome x y) l ≡ y ∷ l
+by_outcome_of_map_is_cons x (Ok y) l = refl
+by_outcome_of_map_is_cons x (Err e) l = refl
 
 pub passed_is_mapped : {X B E : Type 0} (h : X → Result B E) (l : List (Result X E)) → passed map_outcome (λ (p : Unit {0}) x. h x) (λ p x. p) tt l ≡ mapped h l
 unfolding mapped
 passed_is_mapped h [] = refl
-passed_is_mapped h (Ok x ∷ l) = by_outcome_of_map x (h x) _ ∙ ap (λ t. h x ∷ t) (passed_is_mapped h l)
+passed_is_mapped h (Ok x ∷ l) = by_outcome_of_map_is_cons x (h x) _ ∙ ap (λ t. h x ∷ t) (passed_is_mapped h l)
 passed_is_mapped h (Err e ∷ l) = ap (λ t. Err e ∷ t) (passed_is_mapped h l)
 
 pub lists_mapped : {S F X B E : Type 0} (m : Contract S X E) (g : Mut F (X × Unit {0}) (Result B E)) (s : Map S F) (f : F) (h : X → Result B E) (l : List (Result X E)) → map_parts s ≡ (s.it, f) → Acts (call_by_value g) f h → Lists m.steps s.it l

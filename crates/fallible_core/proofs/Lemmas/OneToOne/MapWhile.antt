@@ -8,13 +8,13 @@ use Rattle.fallible_contract.specs.Lists.{Lists, Acts}
 use Rattle.fallible_contract.proofs.Lemmas.Lists.Passing.{passed, lists_seen, always_gives_passed}
 use Rattle.fallible_core.specs.OneToOne.Scan.{cons_or_end, scan_outcome}
 use Rattle.fallible_core.specs.OneToOne.MapWhile.{map_while_parts, map_while_contract, mapped_while}
-use Rattle.fallible_core.proofs.Lemmas.OneToOne.Scan.{by_outcome_of_scan}
+use Rattle.fallible_core.proofs.Lemmas.OneToOne.Scan.{by_outcome_of_scan_is_cons_or_end}
 use Rattle.fallible_core.specs.declared.one_to_one.map_while.MapWhile.{MapWhile}
 
 passed_is_mapped_while : {X B E : Type 0} (h : X → Result (Option B) E) (l : List (Result X E)) → passed scan_outcome (λ (p : Unit {0}) x. h x) (λ p x. p) tt l ≡ mapped_while h l
 unfolding mapped_while
 passed_is_mapped_while h [] = refl
-passed_is_mapped_while h (Ok x ∷ l) = by_outcome_of_scan x (h x) _ ∙ ap (λ t. cons_or_end (h x) t) (passed_is_mapped_while h l)
+passed_is_mapped_while h (Ok x ∷ l) = by_outcome_of_scan_is_cons_or_end x (h x) _ ∙ ap (λ t. cons_or_end (h x) t) (passed_is_mapped_while h l)
 passed_is_mapped_while h (Err e ∷ l) = ap (λ t. Err e ∷ t) (passed_is_mapped_while h l)
 
 pub lists_mapped_while : {S F X B E : Type 0} (m : Contract S X E) (g : Mut F (X × Unit {0}) (Result (Option B) E)) (s : MapWhile S F) (f : F) (h : X → Result (Option B) E) (l : List (Result X E)) → map_while_parts s ≡ (s.it, f) → Acts (call_by_value g) f h → Lists m.steps s.it l

@@ -10,13 +10,13 @@ use Rattle.fallible_core.specs.declared.joining.chain.StillDrawn.{StillDrawn}
 use Rattle.fallible_core.specs.declared.joining.chain.StillDrawn.TheVariants.{Both, FirstAlone, SecondAlone}
 
 -- a sum of counts is finite where both are
-pub both_finite : (a b : Bool) → T (cond a b false) → T a × T b
-both_finite true b h = (tt, h)
-both_finite false b h = absurd h
+pub both_true_where_cond_true : (a b : Bool) → T (cond a b false) → T a × T b
+both_true_where_cond_true true b h = (tt, h)
+both_true_where_cond_true false b h = absurd h
 
-pub sum_finite : (a b : Bool) → T a → T b → T (cond a b false)
-sum_finite true b h k = k
-sum_finite false b h k = absurd h
+pub cond_true_where_both_true : (a b : Bool) → T a → T b → T (cond a b false)
+cond_true_where_both_true true b h k = k
+cond_true_where_both_true false b h k = absurd h
 
 module _ {S U A E : Type 0} (first : Contract S A E) (second : Contract U A E) where
   abbrev ChainContract : Contract (S × U × StillDrawn) A E
@@ -37,13 +37,13 @@ module _ {S U A E : Type 0} (first : Contract S A E) (second : Contract U A E) w
   on_answer_before_end s t u (Ok (Some x)) e a = (
     inl a.0,
     (λ n h. let k = a.1 h.0 h.2 in (k.0 + h.1, (k.0, h.1, k.1, h.3, omega arith), omega (arith, k.2, h.4))),
-    (λ f. let b = both_finite (first.remaining s).bounded (second.remaining u).bounded f in let k = a.2 b.0 in (sum_finite (first.remaining t).bounded (second.remaining u).bounded k.0 b.1, omega (arith, k.1))),
+    (λ f. let b = both_true_where_cond_true (first.remaining s).bounded (second.remaining u).bounded f in let k = a.2 b.0 in (cond_true_where_both_true (first.remaining t).bounded (second.remaining u).bounded k.0 b.1, omega (arith, k.1))),
   )
   on_answer_before_end s t u (Ok None) e a = absurd cc
   on_answer_before_end s t u (Err d) e a = (
     inl a.0,
     (λ n h. let k = a.1 h.0 h.2 in (k.0 + h.1, (k.0, h.1, k.1, h.3, omega arith), omega (arith, k.2, h.4))),
-    (λ f. let b = both_finite (first.remaining s).bounded (second.remaining u).bounded f in let k = a.2 b.0 in (sum_finite (first.remaining t).bounded (second.remaining u).bounded k.0 b.1, omega (arith, k.1))),
+    (λ f. let b = both_true_where_cond_true (first.remaining s).bounded (second.remaining u).bounded f in let k = a.2 b.0 in (cond_true_where_both_true (first.remaining t).bounded (second.remaining u).bounded k.0 b.1, omega (arith, k.1))),
   )
 
   -- an answer of the second, in the draw that met the first's end
@@ -51,16 +51,16 @@ module _ {S U A E : Type 0} (first : Contract S A E) (second : Contract U A E) w
   on_answer_at_end s t u v (Ok (Some x)) a = (
     inr a.0,
     (λ n h. let k = a.1 h.1 h.3 in (k.0, k.1, omega (arith, k.2, h.4))),
-    (λ f. let b = both_finite (first.remaining s).bounded (second.remaining u).bounded f in let k = a.2 b.1 in (k.0, omega (arith, k.1))),
+    (λ f. let b = both_true_where_cond_true (first.remaining s).bounded (second.remaining u).bounded f in let k = a.2 b.1 in (k.0, omega (arith, k.1))),
   )
   on_answer_at_end s t u v (Ok None) a = (
     (λ n h. let k = a.0 h.1 h.3 in (k.0, k.1, omega (arith, k.2, h.4))),
-    (λ f. let b = both_finite (first.remaining s).bounded (second.remaining u).bounded f in let k = a.1 b.1 in (k.0, omega (arith, k.1))),
+    (λ f. let b = both_true_where_cond_true (first.remaining s).bounded (second.remaining u).bounded f in let k = a.1 b.1 in (k.0, omega (arith, k.1))),
   )
   on_answer_at_end s t u v (Err e) a = (
     inr a.0,
     (λ n h. let k = a.1 h.1 h.3 in (k.0, k.1, omega (arith, k.2, h.4))),
-    (λ f. let b = both_finite (first.remaining s).bounded (second.remaining u).bounded f in let k = a.2 b.1 in (k.0, omega (arith, k.1))),
+    (λ f. let b = both_true_where_cond_true (first.remaining s).bounded (second.remaining u).bounded f in let k = a.2 b.1 in (k.0, omega (arith, k.1))),
   )
 
   module _ (l : Lawful first) (k : Lawful second) where
@@ -110,74 +110,74 @@ lawful_chain {first = first} {second = second} l k = record { kept_by_draw = kep
 -- ---- the second end
 
 -- what may come from the sides may come from more of them
-may_come_more : {S U X : Type 0} {P P' : S → X → Type 0} {Q Q' : U → X → Type 0} → ((s : S) (x : X) → P s x → P' s x) → ((u : U) (x : X) → Q u x → Q' u x) → (p : S × U × StillDrawn) (x : X) → chain_may_come P Q p x → chain_may_come P' Q' p x
-may_come_more f g (s, u, Both) x h = elim h [ inl a ↦ inl (f s x a) | inr b ↦ inr (g u x b) ]
-may_come_more f g (s, u, FirstAlone) x h = f s x h
-may_come_more f g (s, u, SecondAlone) x h = g u x h
+chain_may_come_by_each_part : {S U X : Type 0} {P P' : S → X → Type 0} {Q Q' : U → X → Type 0} → ((s : S) (x : X) → P s x → P' s x) → ((u : U) (x : X) → Q u x → Q' u x) → (p : S × U × StillDrawn) (x : X) → chain_may_come P Q p x → chain_may_come P' Q' p x
+chain_may_come_by_each_part f g (s, u, Both) x h = elim h [ inl a ↦ inl (f s x a) | inr b ↦ inr (g u x b) ]
+chain_may_come_by_each_part f g (s, u, FirstAlone) x h = f s x h
+chain_may_come_by_each_part f g (s, u, SecondAlone) x h = g u x h
 
 -- what may come from the sides swapped is what may come from the sides
-may_come_back : {S U X : Type 0} (P : S → X → Type 0) (Q : U → X → Type 0) (p : S × U × StillDrawn) (x : X) → chain_may_come P Q p x ↔ chain_may_come Q P (chain_back p) x
-may_come_back P Q (s, u, Both) x = ((λ h. elim h [ inl a ↦ inr a | inr b ↦ inl b ]), (λ h. elim h [ inl b ↦ inr b | inr a ↦ inl a ]))
-may_come_back P Q (s, u, FirstAlone) x = ((λ h. h), (λ h. h))
-may_come_back P Q (s, u, SecondAlone) x = ((λ h. h), (λ h. h))
+chain_may_come_iff_chain_back : {S U X : Type 0} (P : S → X → Type 0) (Q : U → X → Type 0) (p : S × U × StillDrawn) (x : X) → chain_may_come P Q p x ↔ chain_may_come Q P (chain_back p) x
+chain_may_come_iff_chain_back P Q (s, u, Both) x = ((λ h. elim h [ inl a ↦ inr a | inr b ↦ inl b ]), (λ h. elim h [ inl b ↦ inr b | inr a ↦ inl a ]))
+chain_may_come_iff_chain_back P Q (s, u, FirstAlone) x = ((λ h. h), (λ h. h))
+chain_may_come_iff_chain_back P Q (s, u, SecondAlone) x = ((λ h. h), (λ h. h))
 
 module _ {S U A E : Type 0} (first : Contract S A E) (second : Contract U A E) where
   -- What else is said of the sides is said of them swapped.
-  bound_back : (p : S × U × StillDrawn) (n : ℕ) → (ChainContract first second).bound p n ↔ (ChainContract second first).bound (chain_back p) n
-  bound_back (s, u, Both) n = ((λ h. (h.1, h.0, h.3, h.2, omega (arith, h.4))), (λ h. (h.1, h.0, h.3, h.2, omega (arith, h.4))))
-  bound_back (s, u, FirstAlone) n = ((λ h. h), (λ h. h))
-  bound_back (s, u, SecondAlone) n = ((λ h. h), (λ h. h))
+  bound_iff_bound_of_chain_back : (p : S × U × StillDrawn) (n : ℕ) → (ChainContract first second).bound p n ↔ (ChainContract second first).bound (chain_back p) n
+  bound_iff_bound_of_chain_back (s, u, Both) n = ((λ h. (h.1, h.0, h.3, h.2, omega (arith, h.4))), (λ h. (h.1, h.0, h.3, h.2, omega (arith, h.4))))
+  bound_iff_bound_of_chain_back (s, u, FirstAlone) n = ((λ h. h), (λ h. h))
+  bound_iff_bound_of_chain_back (s, u, SecondAlone) n = ((λ h. h), (λ h. h))
 
-  is_finite_back : (p : S × U × StillDrawn) → (ChainContract first second).is_finite p ↔ (ChainContract second first).is_finite (chain_back p)
-  is_finite_back (s, u, Both) = ((λ h. (h.1, h.0)), (λ h. (h.1, h.0)))
-  is_finite_back (s, u, FirstAlone) = ((λ h. h), (λ h. h))
-  is_finite_back (s, u, SecondAlone) = ((λ h. h), (λ h. h))
+  is_finite_iff_chain_back_is_finite : (p : S × U × StillDrawn) → (ChainContract first second).is_finite p ↔ (ChainContract second first).is_finite (chain_back p)
+  is_finite_iff_chain_back_is_finite (s, u, Both) = ((λ h. (h.1, h.0)), (λ h. (h.1, h.0)))
+  is_finite_iff_chain_back_is_finite (s, u, FirstAlone) = ((λ h. h), (λ h. h))
+  is_finite_iff_chain_back_is_finite (s, u, SecondAlone) = ((λ h. h), (λ h. h))
 
-  remaining_is_finite_back : (p : S × U × StillDrawn) → IsFinite ((ChainContract first second).remaining p) ↔ IsFinite ((ChainContract second first).remaining (chain_back p))
-  remaining_is_finite_back (s, u, Both) = (
-    (λ h. let b = both_finite (first.remaining s).bounded (second.remaining u).bounded h in sum_finite (second.remaining u).bounded (first.remaining s).bounded b.1 b.0),
-    (λ h. let b = both_finite (second.remaining u).bounded (first.remaining s).bounded h in sum_finite (first.remaining s).bounded (second.remaining u).bounded b.1 b.0),
+  remaining_is_finite_iff_of_chain_back : (p : S × U × StillDrawn) → IsFinite ((ChainContract first second).remaining p) ↔ IsFinite ((ChainContract second first).remaining (chain_back p))
+  remaining_is_finite_iff_of_chain_back (s, u, Both) = (
+    (λ h. let b = both_true_where_cond_true (first.remaining s).bounded (second.remaining u).bounded h in cond_true_where_both_true (second.remaining u).bounded (first.remaining s).bounded b.1 b.0),
+    (λ h. let b = both_true_where_cond_true (second.remaining u).bounded (first.remaining s).bounded h in cond_true_where_both_true (first.remaining s).bounded (second.remaining u).bounded b.1 b.0),
   )
-  remaining_is_finite_back (s, u, FirstAlone) = ((λ h. h), (λ h. h))
-  remaining_is_finite_back (s, u, SecondAlone) = ((λ h. h), (λ h. h))
+  remaining_is_finite_iff_of_chain_back (s, u, FirstAlone) = ((λ h. h), (λ h. h))
+  remaining_is_finite_iff_of_chain_back (s, u, SecondAlone) = ((λ h. h), (λ h. h))
 
-  size_back : (p : S × U × StillDrawn) → size ((ChainContract first second).remaining p) ≡ size ((ChainContract second first).remaining (chain_back p))
-  size_back (s, u, Both) = omega arith
-  size_back (s, u, FirstAlone) = refl
-  size_back (s, u, SecondAlone) = refl
+  size_of_remaining_is_size_of_chain_back : (p : S × U × StillDrawn) → size ((ChainContract first second).remaining p) ≡ size ((ChainContract second first).remaining (chain_back p))
+  size_of_remaining_is_size_of_chain_back (s, u, Both) = omega arith
+  size_of_remaining_is_size_of_chain_back (s, u, FirstAlone) = refl
+  size_of_remaining_is_size_of_chain_back (s, u, SecondAlone) = refl
 
   on_answer_back : (p : S × U × StillDrawn) (r : Answered A E) (q : S × U × StillDrawn) → OnAnswer (ChainContract second first) (chain_back p) r (chain_back q) → OnAnswer (ChainContract first second) p r q
   on_answer_back p (Ok (Some x)) q a = (
-    (may_come_back first.may_give second.may_give p x).1 a.0,
-    (λ n h. let k = a.1 n ((bound_back p n).0 h) in (k.0, (bound_back q k.0).1 k.1, k.2)),
-    (λ f. let k = a.2 ((remaining_is_finite_back p).0 f) in ((remaining_is_finite_back q).1 k.0, omega (arith, k.1, size_back p, size_back q))),
+    (chain_may_come_iff_chain_back first.may_give second.may_give p x).1 a.0,
+    (λ n h. let k = a.1 n ((bound_iff_bound_of_chain_back p n).0 h) in (k.0, (bound_iff_bound_of_chain_back q k.0).1 k.1, k.2)),
+    (λ f. let k = a.2 ((remaining_is_finite_iff_of_chain_back p).0 f) in ((remaining_is_finite_iff_of_chain_back q).1 k.0, omega (arith, k.1, size_of_remaining_is_size_of_chain_back p, size_of_remaining_is_size_of_chain_back q))),
   )
   on_answer_back p (Ok None) q a = (
-    (λ n h. let k = a.0 n ((bound_back p n).0 h) in (k.0, (bound_back q k.0).1 k.1, k.2)),
-    (λ f. let k = a.1 ((remaining_is_finite_back p).0 f) in ((remaining_is_finite_back q).1 k.0, omega (arith, k.1, size_back p, size_back q))),
+    (λ n h. let k = a.0 n ((bound_iff_bound_of_chain_back p n).0 h) in (k.0, (bound_iff_bound_of_chain_back q k.0).1 k.1, k.2)),
+    (λ f. let k = a.1 ((remaining_is_finite_iff_of_chain_back p).0 f) in ((remaining_is_finite_iff_of_chain_back q).1 k.0, omega (arith, k.1, size_of_remaining_is_size_of_chain_back p, size_of_remaining_is_size_of_chain_back q))),
   )
   on_answer_back p (Err e) q a = (
-    (may_come_back first.may_fail second.may_fail p e).1 a.0,
-    (λ n h. let k = a.1 n ((bound_back p n).0 h) in (k.0, (bound_back q k.0).1 k.1, k.2)),
-    (λ f. let k = a.2 ((remaining_is_finite_back p).0 f) in ((remaining_is_finite_back q).1 k.0, omega (arith, k.1, size_back p, size_back q))),
+    (chain_may_come_iff_chain_back first.may_fail second.may_fail p e).1 a.0,
+    (λ n h. let k = a.1 n ((bound_iff_bound_of_chain_back p n).0 h) in (k.0, (bound_iff_bound_of_chain_back q k.0).1 k.1, k.2)),
+    (λ f. let k = a.2 ((remaining_is_finite_iff_of_chain_back p).0 f) in ((remaining_is_finite_iff_of_chain_back q).1 k.0, omega (arith, k.1, size_of_remaining_is_size_of_chain_back p, size_of_remaining_is_size_of_chain_back q))),
   )
 
   -- A draw that goes, seen from the back, goes, whatever the steps are.
   kept_by_draw_back : (steps : S × U × StillDrawn → Answered A E → S × U × StillDrawn → Type 0) (p : S × U × StillDrawn) (r : Answered A E) (q : S × U × StillDrawn) → KeptByDraw (ChainContract second first) (chain_back p) r (chain_back q) → KeptByDraw (record (ChainContract first second) { steps = steps }) p r q
   kept_by_draw_back steps p r q g = record {
     can_next = (g.can_next.1, g.can_next.0);
-    is_finite = λ h. (is_finite_back q).1 (g.is_finite ((is_finite_back p).0 h));
+    is_finite = λ h. (is_finite_iff_chain_back_is_finite q).1 (g.is_finite ((is_finite_iff_chain_back_is_finite p).0 h));
     answer = on_answer_back p r q g.answer;
-    may_give = λ x h. (may_come_back first.may_give second.may_give p x).1 (g.may_give x ((may_come_back first.may_give second.may_give q x).0 h));
-    may_fail = λ e h. (may_come_back first.may_fail second.may_fail p e).1 (g.may_fail e ((may_come_back first.may_fail second.may_fail q e).0 h));
+    may_give = λ x h. (chain_may_come_iff_chain_back first.may_give second.may_give p x).1 (g.may_give x ((chain_may_come_iff_chain_back first.may_give second.may_give q x).0 h));
+    may_fail = λ e h. (chain_may_come_iff_chain_back first.may_fail second.may_fail p e).1 (g.may_fail e ((chain_may_come_iff_chain_back first.may_fail second.may_fail q e).0 h));
     lenders = let e = g.lenders in ap₂ lenders_of_both (cc) (cc);
   }
 
 pub lawful_ends_chain : {S U A E : Type 0} {first : Contract S A E} {f : Ends S A E} {second : Contract U A E} {e : Ends U A E} → LawfulEnds first f → LawfulEnds second e → LawfulEnds (chain_contract first second) (chain_ends f e)
 lawful_ends_chain {first = first} {f = f} {second = second} {e = e} l k = record {
   front_can = λ p c. (l.front_can p.0 c.0, k.front_can p.1 c.1);
-  may_give = may_come_more l.may_give k.may_give;
-  may_fail = may_come_more l.may_fail k.may_fail;
+  may_give = chain_may_come_by_each_part l.may_give k.may_give;
+  may_fail = chain_may_come_by_each_part l.may_fail k.may_fail;
   front = lawful_chain l.front k.front;
   back = record {
     kept_by_draw = λ p r q c step. kept_by_draw_back (from_back first f) (from_back second e) (chain_ends f e).steps p r q ((lawful_chain k.back l.back).kept_by_draw (chain_back p) r (chain_back q) (c.1, c.0) step);

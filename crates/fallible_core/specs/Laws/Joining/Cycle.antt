@@ -3,7 +3,7 @@ use Rattle.std.specs.Prelude.{Some, None, Ok, Err, ⊤}
 use Rattle.std.proofs.Common.{refl, inl, inr}
 use Rattle.fallible_contract.specs.Traces.{Answered, end}
 use Rattle.fallible_contract.specs.Contract.{Contract, OnAnswer, KeptByDraw, Lawful}
-use Rattle.fallible_contract.specs.Laws.BoundsRuns.{bounds_fewer, bounds_failure, bounds_end, bound_stays}
+use Rattle.fallible_contract.specs.Laws.BoundsRuns.{bounds_runs_by_fewer_after_item, bounds_runs_by_no_more_after_failure, bounds_runs_by_no_more_after_end, bound_stays}
 use Rattle.fallible_core.specs.Joining.Cycle.{CycleAnswer, cycle_contract}
 use Rattle.std.specs.declared.alloc.AllocError.{AllocError}
 
@@ -18,19 +18,19 @@ module _ {S A E : Type 0} (is_clone : S → S → Type 0) (is_infallible : S →
   CameBefore p (Err e) = CycleContract.may_fail p e
 
   on_answer_of_came : (p q : S × S) (r : Answered A E) → CycleContract.steps p r q → CameBefore p r → OnAnswer CycleContract p r q
-  on_answer_of_came p q (Ok (Some x)) step came = (came, (λ n b. bounds_fewer {steps = CycleContract.steps} x step b), (λ f. absurd f))
-  on_answer_of_came p q (Ok None) step came = ((λ n b. bounds_end {steps = CycleContract.steps} step b), (λ f. absurd f))
-  on_answer_of_came p q (Err e) step came = (came, (λ n b. bounds_failure {steps = CycleContract.steps} e step b), (λ f. absurd f))
+  on_answer_of_came p q (Ok (Some x)) step came = (came, (λ n b. bounds_runs_by_fewer_after_item {steps = CycleContract.steps} x step b), (λ f. absurd f))
+  on_answer_of_came p q (Ok None) step came = ((λ n b. bounds_runs_by_no_more_after_end {steps = CycleContract.steps} step b), (λ f. absurd f))
+  on_answer_of_came p q (Err e) step came = (came, (λ n b. bounds_runs_by_no_more_after_failure {steps = CycleContract.steps} e step b), (λ f. absurd f))
 
-  came_from_run : (s t k : S) (r : Answered A E) → OnAnswer m s r t → CameBefore (s, k) r
-  came_from_run s t k (Ok (Some x)) a = inl a.0
-  came_from_run s t k (Ok None) a = tt
-  came_from_run s t k (Err e) a = inl a.0
+  came_before_of_source_answer : (s t k : S) (r : Answered A E) → OnAnswer m s r t → CameBefore (s, k) r
+  came_before_of_source_answer s t k (Ok (Some x)) a = inl a.0
+  came_before_of_source_answer s t k (Ok None) a = tt
+  came_before_of_source_answer s t k (Err e) a = inl a.0
 
-  came_from_clone : (s t k c : S) (r : Answered A E) → is_clone k c → OnAnswer m c r t → CameBefore (s, k) r
-  came_from_clone s t k c (Ok (Some x)) is a = inr (c, is, a.0)
-  came_from_clone s t k c (Ok None) is a = tt
-  came_from_clone s t k c (Err e) is a = inr (inl (c, is, a.0))
+  came_before_of_clone_answer : (s t k c : S) (r : Answered A E) → is_clone k c → OnAnswer m c r t → CameBefore (s, k) r
+  came_before_of_clone_answer s t k c (Ok (Some x)) is a = inr (c, is, a.0)
+  came_before_of_clone_answer s t k c (Ok None) is a = tt
+  came_before_of_clone_answer s t k c (Err e) is a = inr (inl (c, is, a.0))
 
   -- with what the answer and what is left have to do with the source, a draw keeps the contract
   kept_by_draw_of_came : (s t k : S) (r : Answered A E) → CycleContract.can_next (s, k) → m.can_next t → CycleContract.steps (s, k) r (t, k) → CameBefore (s, k) r → ((x : A) → m.may_give t x → CycleContract.may_give (s, k) x) → ((e : E) → m.may_fail t e → CycleContract.may_fail (s, k) e) → KeptByDraw CycleContract (s, k) r (t, k)
@@ -45,9 +45,9 @@ module _ {S A E : Type 0} (is_clone : S → S → Type 0) (is_infallible : S →
 
   kept_by_draw_cycle : Lawful m → (s t k : S) (r : Answered A E) → CycleContract.can_next (s, k) → CycleAnswer is_clone is_infallible from m.steps k s r t → KeptByDraw CycleContract (s, k) r (t, k)
   kept_by_draw_cycle l s t k r c h = elim h [
-    | inl d ↦ (let a = l.kept_by_draw s r t c.0 d.0 in kept_by_draw_of_came s t k r c a.can_next (refl, inl d) (came_from_run s t k r a.answer) (λ x g. inl (a.may_give x g)) (λ e g. inl (a.may_fail e g)))
+    | inl d ↦ (let a = l.kept_by_draw s r t c.0 d.0 in kept_by_draw_of_came s t k r c a.can_next (refl, inl d) (came_before_of_source_answer s t k r a.answer) (λ x g. inl (a.may_give x g)) (λ e g. inl (a.may_fail e g)))
     | inr i ↦ elim i [
-      | inl d ↦ (let a = l.kept_by_draw d.1 r t (c.1 d.1 d.3) d.4 in kept_by_draw_of_came s t k r c a.can_next (refl, inr (inl d)) (came_from_clone s t k d.1 r d.3 a.answer) (λ x g. inr (d.1, d.3, a.may_give x g)) (λ e g. inr (inl (d.1, d.3, a.may_fail e g))))
+      | inl d ↦ (let a = l.kept_by_draw d.1 r t (c.1 d.1 d.3) d.4 in kept_by_draw_of_came s t k r c a.can_next (refl, inr (inl d)) (came_before_of_clone_answer s t k d.1 r d.3 a.answer) (λ x g. inr (d.1, d.3, a.may_give x g)) (λ e g. inr (inl (d.1, d.3, a.may_fail e g))))
       | inr d ↦ (let a = l.kept_by_draw s end t c.0 d.1 in kept_by_draw_of_came s t k r c a.can_next (refl, inr (inr d)) (rw d.2 (inr (inr d.3))) (λ x g. inl (a.may_give x g)) (λ e g. inl (a.may_fail e g)))
     ]
   ]

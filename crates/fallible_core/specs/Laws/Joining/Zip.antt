@@ -6,7 +6,7 @@ use Rattle.fallible_contract.specs.Traces.{Answered, item, failure}
 use Rattle.fallible_contract.specs.Contract.{Contract, NoMore, NoMoreRemains, OnAnswer, KeptByDraw, Lawful, lenders_of_both}
 use Rattle.fallible_contract.specs.Laws.Contract.{no_more_after, no_more_remains_after}
 use Rattle.fallible_core.specs.Joining.Zip.{ZipPlace, left_failed, both_drawn, left_answer, zip_answer, right_step, zip_contract}
-use Rattle.fallible_core.specs.Laws.Joining.Chain.{both_finite, sum_finite}
+use Rattle.fallible_core.specs.Laws.Joining.Chain.{both_true_where_cond_true, cond_true_where_both_true}
 
 module _ {S U A B E : Type 0} (left : Contract S A E) (right : Contract U B E) where
   abbrev ZipContract : Contract (S × U) (A × B) E
@@ -18,17 +18,17 @@ module _ {S U A B E : Type 0} (left : Contract S A E) (right : Contract U B E) w
 
   -- what remains of both sides is no more, where it is no more of either
   zip_remaining_no_greater : (s t : S) (u v : U) → NoMoreRemains left s t → NoMoreRemains right u v → NoMoreRemains ZipContract (s, u) (t, v)
-  zip_remaining_no_greater s t u v p q f = let b = both_finite (left.remaining s).bounded (right.remaining u).bounded f in let j = p b.0 in let k = q b.1 in (sum_finite (left.remaining t).bounded (right.remaining v).bounded j.0 k.0, omega (arith, j.1, k.1))
+  zip_remaining_no_greater s t u v p q f = let b = both_true_where_cond_true (left.remaining s).bounded (right.remaining u).bounded f in let j = p b.0 in let k = q b.1 in (cond_true_where_both_true (left.remaining t).bounded (right.remaining v).bounded j.0 k.0, omega (arith, j.1, k.1))
 
   -- less remains of both sides at q than at p, and it is finite there, if it is finite at p
   abbrev LessRemains : S × U → S × U → Type 0
   LessRemains p q = IsFinite (ZipContract.remaining p) → IsFinite (ZipContract.remaining q) × (size (ZipContract.remaining q) < size (ZipContract.remaining p))
 
   less_remains_of_left : (s t : S) (u v : U) → (IsFinite (left.remaining s) → IsFinite (left.remaining t) × (size (left.remaining t) < size (left.remaining s))) → NoMoreRemains right u v → LessRemains (s, u) (t, v)
-  less_remains_of_left s t u v p q f = let b = both_finite (left.remaining s).bounded (right.remaining u).bounded f in let j = p b.0 in let k = q b.1 in (sum_finite (left.remaining t).bounded (right.remaining v).bounded j.0 k.0, omega (arith, j.1, k.1))
+  less_remains_of_left s t u v p q f = let b = both_true_where_cond_true (left.remaining s).bounded (right.remaining u).bounded f in let j = p b.0 in let k = q b.1 in (cond_true_where_both_true (left.remaining t).bounded (right.remaining v).bounded j.0 k.0, omega (arith, j.1, k.1))
 
   less_remains_of_right : (s t : S) (u v : U) → NoMoreRemains left s t → (IsFinite (right.remaining u) → IsFinite (right.remaining v) × (size (right.remaining v) < size (right.remaining u))) → LessRemains (s, u) (t, v)
-  less_remains_of_right s t u v p q f = let b = both_finite (left.remaining s).bounded (right.remaining u).bounded f in let j = p b.0 in let k = q b.1 in (sum_finite (left.remaining t).bounded (right.remaining v).bounded j.0 k.0, omega (arith, j.1, k.1))
+  less_remains_of_right s t u v p q f = let b = both_true_where_cond_true (left.remaining s).bounded (right.remaining u).bounded f in let j = p b.0 in let k = q b.1 in (cond_true_where_both_true (left.remaining t).bounded (right.remaining v).bounded j.0 k.0, omega (arith, j.1, k.1))
 
   -- an answer of the left and one of the right
   on_answer_pair : (s t : S) (u v : U) (x : Option A) (r : Answered B E) → OnAnswer left s (Ok x) t → OnAnswer right u r v → OnAnswer ZipContract (s, u) (zip_answer (both_drawn x r)) (t, v)

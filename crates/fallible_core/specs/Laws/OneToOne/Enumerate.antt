@@ -13,14 +13,14 @@ module _ {S A E : Type 0} (steps : S → Answered A E → S → Type 0) where
     numbered_end : {s u t : S} {n k : ℕ} {trace : List (Answered (ℕ × A) E)} → steps s (Ok None) u → NumberedTrace u n trace t k → NumberedTrace s n (Ok None ∷ trace) t k
     numbered_failure : {s u t : S} {n k : ℕ} {trace : List (Answered (ℕ × A) E)} (e : E) → steps s (Err e) u → NumberedTrace u n trace t k → NumberedTrace s n (Err e ∷ trace) t k
 
-  numbered_from_source : (source : List (Answered A E)) (s t : S) (n k : ℕ) → Run steps s source t → k ≡ n + items_in source → NumberedTrace s n (numbered_from n source) t k
-  numbered_from_source [] s t n k ran number_after = subst (λ (u : S). NumberedTrace s n [] u k) ran (let same : n ≡ k = omega (arith, number_after) in subst (λ (j : ℕ). NumberedTrace s n [] s j) same numbered_none)
-  numbered_from_source (Ok (Some x) ∷ rest) s t n k ran number_after = numbered_item x ran.1 (numbered_from_source rest ran.0 t (n + 1) k ran.2 (omega (arith, number_after)))
-  numbered_from_source (Ok None ∷ rest) s t n k ran number_after = numbered_end ran.1 (numbered_from_source rest ran.0 t n k ran.2 number_after)
-  numbered_from_source (Err e ∷ rest) s t n k ran number_after = numbered_failure e ran.1 (numbered_from_source rest ran.0 t n k ran.2 number_after)
+  numbered_trace_of_source_run : (source : List (Answered A E)) (s t : S) (n k : ℕ) → Run steps s source t → k ≡ n + items_in source → NumberedTrace s n (numbered_from n source) t k
+  numbered_trace_of_source_run [] s t n k ran number_after = subst (λ (u : S). NumberedTrace s n [] u k) ran (let same : n ≡ k = omega (arith, number_after) in subst (λ (j : ℕ). NumberedTrace s n [] s j) same numbered_none)
+  numbered_trace_of_source_run (Ok (Some x) ∷ rest) s t n k ran number_after = numbered_item x ran.1 (numbered_trace_of_source_run rest ran.0 t (n + 1) k ran.2 (omega (arith, number_after)))
+  numbered_trace_of_source_run (Ok None ∷ rest) s t n k ran number_after = numbered_end ran.1 (numbered_trace_of_source_run rest ran.0 t n k ran.2 number_after)
+  numbered_trace_of_source_run (Err e ∷ rest) s t n k ran number_after = numbered_failure e ran.1 (numbered_trace_of_source_run rest ran.0 t n k ran.2 number_after)
 
-  pub numbered_of_trace : (s t : S) (n k : ℕ) (trace : List (Answered (ℕ × A) E)) → EnumerateTrace steps (s, n) trace (t, k) → NumberedTrace s n trace t k
-  numbered_of_trace s t n k trace p = subst (λ (l : List (Answered (ℕ × A) E)). NumberedTrace s n l t k) (sym p.answers) (numbered_from_source p.source_trace s t n k p.drawn p.number_after)
+  pub numbered_trace_of_enumerate_trace : (s t : S) (n k : ℕ) (trace : List (Answered (ℕ × A) E)) → EnumerateTrace steps (s, n) trace (t, k) → NumberedTrace s n trace t k
+  numbered_trace_of_enumerate_trace s t n k trace p = subst (λ (l : List (Answered (ℕ × A) E)). NumberedTrace s n l t k) (sym p.answers) (numbered_trace_of_source_run p.source_trace s t n k p.drawn p.number_after)
 
 module _ {S A E : Type 0} (m : Contract S A E) (l : Lawful m) where
   abbrev EnumerateContract : Contract (S × ℕ) (ℕ × A) E
@@ -53,7 +53,7 @@ module _ {S A E : Type 0} (m : Contract S A E) (l : Lawful m) where
   }
 
   kept_by_draw_enumerate : (p : S × ℕ) (r : Answered (ℕ × A) E) (q : S × ℕ) → EnumerateContract.can_next p → EnumerateContract.steps p r q → KeptByDraw EnumerateContract p r q
-  kept_by_draw_enumerate (s, n) r (t, k) c step = kept_by_draw_numbered s t n k r c (numbered_of_trace m.steps s t n k (r ∷ []) step)
+  kept_by_draw_enumerate (s, n) r (t, k) c step = kept_by_draw_numbered s t n k r c (numbered_trace_of_enumerate_trace m.steps s t n k (r ∷ []) step)
 
 pub lawful_enumerate : {S A E : Type 0} {m : Contract S A E} → Lawful m → Lawful (enumerate_contract m)
 lawful_enumerate {m = m} l = record { kept_by_draw = kept_by_draw_enumerate m l; bounded = λ p. l.bounded p.0 }

@@ -71,17 +71,17 @@ module _ {S A E : Type 0} (m : Contract S A E) (e : Ends S A E) where
     lenders = a.lenders;
   }
 
-  on_answer_before : (s t : S) (x : A) (r : Answered A E) → IsNoEnd r → OnAnswer SourceBack s r t → OnAnswer PeekableBack (s, Some (Some x)) r (t, Some (Some x))
-  on_answer_before s t x (Ok (Some y)) goes_on a = (inr a.0, (λ n b. let k = a.1 b.0 b.1 in (k.0 + 1, (k.0, k.1, omega arith), omega (arith, k.2, b.2))), (λ f. let j = a.2 f in (j.0, omega (arith, j.1))))
-  on_answer_before s t x (Ok None) goes_on a = absurd goes_on
-  on_answer_before s t x (Err d) goes_on a = (a.0, (λ n b. let k = a.1 b.0 b.1 in (k.0 + 1, (k.0, k.1, omega arith), omega (arith, k.2, b.2))), (λ f. let j = a.2 f in (j.0, omega (arith, j.1))))
+  on_answer_before_held_last : (s t : S) (x : A) (r : Answered A E) → IsNoEnd r → OnAnswer SourceBack s r t → OnAnswer PeekableBack (s, Some (Some x)) r (t, Some (Some x))
+  on_answer_before_held_last s t x (Ok (Some y)) goes_on a = (inr a.0, (λ n b. let k = a.1 b.0 b.1 in (k.0 + 1, (k.0, k.1, omega arith), omega (arith, k.2, b.2))), (λ f. let j = a.2 f in (j.0, omega (arith, j.1))))
+  on_answer_before_held_last s t x (Ok None) goes_on a = absurd goes_on
+  on_answer_before_held_last s t x (Err d) goes_on a = (a.0, (λ n b. let k = a.1 b.0 b.1 in (k.0 + 1, (k.0, k.1, omega arith), omega (arith, k.2, b.2))), (λ f. let j = a.2 f in (j.0, omega (arith, j.1))))
 
   -- before that the source's answers come, and the item stays held
-  kept_by_draw_before : (s t : S) (x : A) (r : Answered A E) → IsNoEnd r → KeptByDraw SourceBack s r t → KeptByDraw PeekableBack (s, Some (Some x)) r (t, Some (Some x))
-  kept_by_draw_before s t x r goes_on a = record {
+  kept_by_draw_before_held_last : (s t : S) (x : A) (r : Answered A E) → IsNoEnd r → KeptByDraw SourceBack s r t → KeptByDraw PeekableBack (s, Some (Some x)) r (t, Some (Some x))
+  kept_by_draw_before_held_last s t x r goes_on a = record {
     can_next = a.can_next;
     is_finite = a.is_finite;
-    answer = on_answer_before s t x r goes_on a.answer;
+    answer = on_answer_before_held_last s t x r goes_on a.answer;
     may_give = λ y h. elim h [ inl d ↦ inl d | inr g ↦ inr (a.may_give y g) ];
     may_fail = a.may_fail;
     lenders = a.lenders;
@@ -112,7 +112,7 @@ module _ {S A E : Type 0} (m : Contract S A E) (e : Ends S A E) where
   kept_by_draw_back : Lawful SourceBack → (p : S × Option (Option A)) (r : Answered A E) (q : S × Option (Option A)) → e.can_next p.0 → peekable_step_back e.steps p r q → KeptByDraw PeekableBack p r q
   kept_by_draw_back l (s, Some (Some x)) r (t, held) c step = elim step [
     | inl d ↦ rw (d.1, d.2) (kept_by_draw_last s t x (l.kept_by_draw s end t c d.0))
-    | inr d ↦ rw d.2 (kept_by_draw_before s t x r d.1 (l.kept_by_draw s r t c d.0))
+    | inr d ↦ rw d.2 (kept_by_draw_before_held_last s t x r d.1 (l.kept_by_draw s r t c d.0))
   ]
   kept_by_draw_back l (s, Some None) r (t, held) c step = rw (step.0, step.1, step.2) (kept_by_draw_ended s c)
   kept_by_draw_back l (s, None) r (t, held) c step = rw step.1 (kept_by_draw_bare s t r (l.kept_by_draw s r t c step.0))

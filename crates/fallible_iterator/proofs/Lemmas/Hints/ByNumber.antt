@@ -10,9 +10,9 @@ use Rattle.fallible_core.proofs.Lemmas.Cutting.ByNumber.{leaves_one}
 use Rattle.fallible_core.specs.Cutting.Skip.{skip_step}
 use Rattle.fallible_core.specs.Cutting.StepBy.{step_by_step}
 use Rattle.fallible_core.proofs.Lemmas.Cutting.Skip.{leaves_of_skip_trace}
-use Rattle.fallible_core.proofs.Lemmas.Cutting.StepBy.{steps_of_step_by_trace}
+use Rattle.fallible_core.proofs.Lemmas.Cutting.StepBy.{step_by_leaves_of_step_by_trace}
 use Rattle.fallible_iterator.specs.SoundHints.{Brackets, AsSound}
-use Rattle.fallible_iterator.proofs.Lemmas.Hints.Drawn.{as_sound, OneOfOne, yields_after, pair_of_parts, brackets_within, brackets_same}
+use Rattle.fallible_iterator.proofs.Lemmas.Hints.Drawn.{as_sound_of_brackets, OneOfOne, yields_appended_of_two_yields, pair_of_parts, brackets_of_brackets_at_view, brackets_where_one_of_one}
 
 -- ---- numbers
 
@@ -26,9 +26,9 @@ abbrev to_skip_after_kept : ℕ → ℕ → ℕ → ℕ
 to_skip_after_kept between r zero = r
 to_skip_after_kept between r (suc m) = between
 
-drawn_for_steps : (between m : ℕ) → drawn_for between between m ≡ m * (between + 1)
-drawn_for_steps between zero = omega arith
-drawn_for_steps between (suc m) = omega arith
+drawn_for_steps_is_product : (between m : ℕ) → drawn_for between between m ≡ m * (between + 1)
+drawn_for_steps_is_product between zero = omega arith
+drawn_for_steps_is_product between (suc m) = omega arith
 
 to_skip_after_steps : (between m : ℕ) → to_skip_after_kept between between m ≡ between
 to_skip_after_steps between zero = refl
@@ -44,8 +44,8 @@ kept_of_at_least between r (suc m) u le =
     let steps : m ≤ (u - 1 - r) / (between + 1) = (le-div_iff_mul-le some).1 rest in
     rw (lt-leb u r past) (omega (arith, steps))
 
-kept_of_some : (between r m b : ℕ) → b ≤ r + 1 + m * (between + 1) + between → kept_of between r b ≤ suc m
-kept_of_some between r m b le = elim (cases_lt r b) [
+kept_of_at_most_one_more : (between r m b : ℕ) → b ≤ r + 1 + m * (between + 1) + between → kept_of between r b ≤ suc m
+kept_of_at_most_one_more between r m b le = elim (cases_lt r b) [
   | inl past ↦
       let rest : b - 1 - r < suc m * (between + 1) = omega (arith, le, past) in
       let some : 0 < between + 1 = omega arith in
@@ -57,42 +57,42 @@ kept_of_some between r m b le = elim (cases_lt r b) [
 -- and no more, where no more than are left out next came after them
 kept_of_at_most : (between r m b j : ℕ) → b ≤ drawn_for between r m + j → j ≤ to_skip_after_kept between r m → kept_of between r b ≤ m
 kept_of_at_most between r zero b j le few = rw (le-leb b r (omega (arith, le, few))) (omega arith)
-kept_of_at_most between r (suc m) b j le few = kept_of_some between r m b (omega (arith, le, few))
+kept_of_at_most between r (suc m) b j le few = kept_of_at_most_one_more between r m b (omega (arith, le, few))
 
 -- ---- runs
 
 module _ {S A E : Type 0} (steps : S → Answered A E → S → Type 0) (between : ℕ) where
   -- an item is the one after those that are left out
-  item_left : (j k : ℕ) (s t : S) (y : A) → Leaves steps between j s (item y ∷ []) t k → (xs : List A) × Yields steps s xs t × (length xs ≡ j + 1) × (k ≡ between)
-  item_left zero k s t _ (keeps_item {u = u} x step last) = let z = leaves_nil_same steps between last in (x ∷ [], (u, step, z.0), omega arith, sym z.1)
-  item_left (suc j) k s t y (leaves_out {u = u} x step rest) = let d = item_left j k u t y rest in (x ∷ d.0, (u, step, d.1), omega (arith, d.2), d.3)
+  source_yields_where_item_left : (j k : ℕ) (s t : S) (y : A) → Leaves steps between j s (item y ∷ []) t k → (xs : List A) × Yields steps s xs t × (length xs ≡ j + 1) × (k ≡ between)
+  source_yields_where_item_left zero k s t _ (keeps_item {u = u} x step last) = let z = leaves_nil_same steps between last in (x ∷ [], (u, step, z.0), omega arith, sym z.1)
+  source_yields_where_item_left (suc j) k s t y (leaves_out {u = u} x step rest) = let d = source_yields_where_item_left j k u t y rest in (x ∷ d.0, (u, step, d.1), omega (arith, d.2), d.3)
 
   -- an end is one after no more than those
-  end_left : (j k : ℕ) (s t : S) → Leaves steps between j s (end ∷ []) t k → (xs : List A) × (u : S) × Yields steps s xs u × steps u end t × (length xs ≤ j)
-  end_left j k s t (keeps_end step last) = let z = leaves_nil_same steps between last in ([], s, refl, subst (λ (v : S). steps s end v) z.0 step, omega arith)
-  end_left (suc j) k s t (leaves_out {u = u} x step rest) = let d = end_left j k u t rest in (x ∷ d.0, d.1, (u, step, d.2), d.3, omega (arith, d.4))
+  source_ends_where_end_left : (j k : ℕ) (s t : S) → Leaves steps between j s (end ∷ []) t k → (xs : List A) × (u : S) × Yields steps s xs u × steps u end t × (length xs ≤ j)
+  source_ends_where_end_left j k s t (keeps_end step last) = let z = leaves_nil_same steps between last in ([], s, refl, subst (λ (v : S). steps s end v) z.0 step, omega arith)
+  source_ends_where_end_left (suc j) k s t (leaves_out {u = u} x step rest) = let d = source_ends_where_end_left j k u t rest in (x ∷ d.0, d.1, (u, step, d.2), d.3, omega (arith, d.4))
 
   source_yields : (ys : List A) (s : S) (j : ℕ) (q : S × ℕ) → Yields (leaves_one steps between) (s, j) ys q → (xs : List A) × Yields steps s xs q.0 × (length xs ≡ drawn_for between j (length ys)) × (q.1 ≡ to_skip_after_kept between j (length ys))
   source_yields [] s j q e = ([], ap (λ (p : S × ℕ). p.0) e, refl, sym (ap (λ (p : S × ℕ). p.1) e))
   source_yields (y ∷ ys) s j q ran =
-      let d = item_left j ran.0.1 s ran.0.0 y ran.1 in
+      let d = source_yields_where_item_left j ran.0.1 s ran.0.0 y ran.1 in
       let rest = source_yields ys ran.0.0 ran.0.1 q ran.2 in
       let next : length rest.0 ≡ drawn_for between between (length ys) = subst (λ (i : ℕ). length rest.0 ≡ drawn_for between i (length ys)) d.3 rest.2 in
       let now : q.1 ≡ to_skip_after_kept between between (length ys) = subst (λ (i : ℕ). q.1 ≡ to_skip_after_kept between i (length ys)) d.3 rest.3 in
-      (d.0 ++ rest.0, yields_after steps d.0 rest.0 s ran.0.0 q.0 d.1 rest.1, omega (arith, length-append d.0 rest.0, d.2, next, drawn_for_steps between (length ys)), cc (to_skip_after_steps between (length ys)))
+      (d.0 ++ rest.0, yields_appended_of_two_yields steps d.0 rest.0 s ran.0.0 q.0 d.1 rest.1, omega (arith, length-append d.0 rest.0, d.2, next, drawn_for_steps_is_product between (length ys)), cc (to_skip_after_steps between (length ys)))
 
   -- runs and ends of such an adapter, as those of its source
-  if_some_kept_of : (o : Option ℕ) (r m n : ℕ) → n ≡ drawn_for between r m → IfSome o (λ u. n ≤ u) → IfSome (option_map (kept_of between r) o) (λ u. m ≤ u)
-  if_some_kept_of None r m n same h = tt
-  if_some_kept_of (Some u) r m n same h = kept_of_at_least between r m u (omega (arith, same, h))
+  kept_of_upper_bound_at_least : (o : Option ℕ) (r m n : ℕ) → n ≡ drawn_for between r m → IfSome o (λ u. n ≤ u) → IfSome (option_map (kept_of between r) o) (λ u. m ≤ u)
+  kept_of_upper_bound_at_least None r m n same h = tt
+  kept_of_upper_bound_at_least (Some u) r m n same h = kept_of_at_least between r m u (omega (arith, same, h))
 
   pub brackets_kept : (s : S) (r : ℕ) (k : ℕ × Option ℕ) → Brackets steps s k → Brackets (leaves_one steps between) (s, r) (hint_kept between r k)
   brackets_kept s r k b = record {
-    above = λ ys q ran. let d = source_yields ys s r q ran in if_some_kept_of k.1 r (length ys) (length d.0) d.2 (b.above d.0 q.0 d.1);
+    above = λ ys q ran. let d = source_yields ys s r q ran in kept_of_upper_bound_at_least k.1 r (length ys) (length d.0) d.2 (b.above d.0 q.0 d.1);
     below = λ ys q z ran w.
         let d = source_yields ys s r q ran in
-        let e = end_left q.1 z.1 q.0 z.0 w in
-        let le = b.below (d.0 ++ e.0) e.1 z.0 (yields_after steps d.0 e.0 s q.0 e.1 d.1 e.2) e.3 in
+        let e = source_ends_where_end_left q.1 z.1 q.0 z.0 w in
+        let le = b.below (d.0 ++ e.0) e.1 z.0 (yields_appended_of_two_yields steps d.0 e.0 s q.0 e.1 d.1 e.2) e.3 in
         let few : length e.0 ≤ to_skip_after_kept between r (length ys) = subst (λ (i : ℕ). length e.0 ≤ i) d.3 e.4 in
         kept_of_at_most between r (length ys) k.0 (length e.0) (omega (arith, length-append d.0 e.0, d.2, le)) few;
   }
@@ -105,27 +105,27 @@ kept_of_zero_is_difference n b = elim (cases_lt n b) [
   | inr few ↦ rw (le-leb b n few) (omega (arith, few))
 ]
 
-less_upper : (n : ℕ) (o : Option ℕ) → option_map (kept_of 0 n) o ≡ option_map (λ u. u - n) o
-less_upper n None = refl
-less_upper n (Some u) = ap {B = Option ℕ} (λ z. Some z) (kept_of_zero_is_difference n u)
+mapped_kept_of_zero_is_difference : (n : ℕ) (o : Option ℕ) → option_map (kept_of 0 n) o ≡ option_map (λ u. u - n) o
+mapped_kept_of_zero_is_difference n None = refl
+mapped_kept_of_zero_is_difference n (Some u) = ap {B = Option ℕ} (λ z. Some z) (kept_of_zero_is_difference n u)
 
 module _ {S A E : Type 0} (steps : S → Answered A E → S → Type 0) where
   pub brackets_skip : (p : S × ℕ) (k : ℕ × Option ℕ) → Brackets steps p.0 k → Brackets (skip_step steps) p (hint_less p.1 k)
-  brackets_skip p k b = subst (λ (h : ℕ × Option ℕ). Brackets (skip_step steps) p h) (pair_of_parts (kept_of_zero_is_difference p.1 k.0) (less_upper p.1 k.1)) (brackets_within (λ q. q) (skip_step steps) (leaves_one steps 0) (λ u r v w. leaves_of_skip_trace steps {p = u} {q = v} w) p (hint_kept 0 p.1 k) (brackets_kept steps 0 p.0 p.1 k b))
+  brackets_skip p k b = subst (λ (h : ℕ × Option ℕ). Brackets (skip_step steps) p h) (pair_of_parts (kept_of_zero_is_difference p.1 k.0) (mapped_kept_of_zero_is_difference p.1 k.1)) (brackets_of_brackets_at_view (λ q. q) (skip_step steps) (leaves_one steps 0) (λ u r v w. leaves_of_skip_trace steps {p = u} {q = v} w) p (hint_kept 0 p.1 k) (brackets_kept steps 0 p.0 p.1 k b))
 
   pub as_sound_skip : (p : S × ℕ) (h k : ℕ × Option ℕ) → h ≡ hint_less p.1 k → AsSound (skip_step steps) p h steps p.0 k
-  as_sound_skip p h k is = as_sound (skip_step steps) steps p p.0 (λ i. i - p.1) (λ o. option_map (λ u. u - p.1) o) (λ j b. brackets_skip p j b) h k is
+  as_sound_skip p h k is = as_sound_of_brackets (skip_step steps) steps p p.0 (λ i. i - p.1) (λ o. option_map (λ u. u - p.1) o) (λ j b. brackets_skip p j b) h k is
 
   -- ---- `StepBy`
 
   one_of_one_by_steps : (between : ℕ) → OneOfOne (step_by_step steps) (leaves_one steps between) (λ p. (p.0, (p.1).1)) (λ p. (p.1).0 ≡ between)
   one_of_one_by_steps between = record {
-    item_of_item = λ p q x e w. let d = steps_of_step_by_trace steps {p = p} {q = q} w in (x, subst (λ (b : ℕ). Leaves steps b (p.1).1 p.0 (item x ∷ []) q.0 (q.1).1) e d.0, d.1 ∙ e);
-    end_of_end = λ p q e w. let d = steps_of_step_by_trace steps {p = p} {q = q} w in subst (λ (b : ℕ). Leaves steps b (p.1).1 p.0 (end ∷ []) q.0 (q.1).1) e d.0;
+    item_of_item = λ p q x e w. let d = step_by_leaves_of_step_by_trace steps {p = p} {q = q} w in (x, subst (λ (b : ℕ). Leaves steps b (p.1).1 p.0 (item x ∷ []) q.0 (q.1).1) e d.0, d.1 ∙ e);
+    end_of_end = λ p q e w. let d = step_by_leaves_of_step_by_trace steps {p = p} {q = q} w in subst (λ (b : ℕ). Leaves steps b (p.1).1 p.0 (end ∷ []) q.0 (q.1).1) e d.0;
   }
 
   pub brackets_step : (p : S × (ℕ × ℕ)) (k : ℕ × Option ℕ) → Brackets steps p.0 k → Brackets (step_by_step steps) p (hint_kept (p.1).0 (p.1).1 k)
-  brackets_step p k b = brackets_same (step_by_step steps) (leaves_one steps (p.1).0) (λ q. (q.0, (q.1).1)) (λ q. (q.1).0 ≡ (p.1).0) (one_of_one_by_steps (p.1).0) p refl (hint_kept (p.1).0 (p.1).1 k) (brackets_kept steps (p.1).0 p.0 (p.1).1 k b)
+  brackets_step p k b = brackets_where_one_of_one (step_by_step steps) (leaves_one steps (p.1).0) (λ q. (q.0, (q.1).1)) (λ q. (q.1).0 ≡ (p.1).0) (one_of_one_by_steps (p.1).0) p refl (hint_kept (p.1).0 (p.1).1 k) (brackets_kept steps (p.1).0 p.0 (p.1).1 k b)
 
   pub as_sound_step : (p : S × (ℕ × ℕ)) (h k : ℕ × Option ℕ) → h ≡ hint_kept (p.1).0 (p.1).1 k → AsSound (step_by_step steps) p h steps p.0 k
-  as_sound_step p h k is = as_sound (step_by_step steps) steps p p.0 (kept_of (p.1).0 (p.1).1) (λ o. option_map (kept_of (p.1).0 (p.1).1) o) (λ j b. brackets_step p j b) h k is
+  as_sound_step p h k is = as_sound_of_brackets (step_by_step steps) steps p p.0 (kept_of (p.1).0 (p.1).1) (λ o. option_map (kept_of (p.1).0 (p.1).1) o) (λ j b. brackets_step p j b) h k is

@@ -8,18 +8,18 @@ use Rattle.fallible_contract.specs.Passing.{Place, asked, failure_at, end_at, so
 use Rattle.fallible_core.specs.Cutting.Take.{take_step}
 use Rattle.fallible_core.specs.Cutting.TakeWhile.{taken_answer, is_refused, place_drawn}
 use Rattle.fallible_iterator.specs.SoundHints.{Brackets, AsSound}
-use Rattle.fallible_iterator.proofs.Lemmas.Hints.Drawn.{as_sound, ItemsOfItems, OneOfOne, brackets_no_item}
+use Rattle.fallible_iterator.proofs.Lemmas.Hints.Drawn.{as_sound_of_brackets, ItemsOfItems, OneOfOne, brackets_zero_where_no_item}
 
 -- ---- what is closed
 
 module _ {P : Type 0} (hints : P → ℕ × Option ℕ → Type 0) where
-  hint_of_closed_fuse : (p : P × Bool) (h : ℕ × Option ℕ) → p.1 ≡ true → closing_hints hints p h → h ≡ (0, Some 0)
-  hint_of_closed_fuse (p, true) h e is = is
-  hint_of_closed_fuse (p, false) h e is = absurd cc
+  hint_of_closed_fuse_is_zero : (p : P × Bool) (h : ℕ × Option ℕ) → p.1 ≡ true → closing_hints hints p h → h ≡ (0, Some 0)
+  hint_of_closed_fuse_is_zero (p, true) h e is = is
+  hint_of_closed_fuse_is_zero (p, false) h e is = absurd cc
 
-  pub hint_of_open_fuse : (p : P × Bool) (h : ℕ × Option ℕ) → p.1 ≡ false → closing_hints hints p h → hints p.0 h
-  hint_of_open_fuse (p, true) h e is = absurd cc
-  hint_of_open_fuse (p, false) h e is = is
+  pub hint_of_open_fuse_is_source_hint : (p : P × Bool) (h : ℕ × Option ℕ) → p.1 ≡ false → closing_hints hints p h → hints p.0 h
+  hint_of_open_fuse_is_source_hint (p, true) h e is = absurd cc
+  hint_of_open_fuse_is_source_hint (p, false) h e is = is
 
 module _ {P Q B E : Type 0} (draws : P → Q → P → Type 0) (answer : Q → Answered B E) (closes : Q → Bool) where
   abbrev closing_of_draws : P × Bool → Answered B E → P × Bool → Type 0
@@ -31,7 +31,7 @@ module _ {P Q B E : Type 0} (draws : P → Q → P → Type 0) (answer : Q → A
 
   -- nothing comes once it is closed
   pub brackets_closed : (hints : P → ℕ × Option ℕ → Type 0) (p : P × Bool) (h : ℕ × Option ℕ) → p.1 ≡ true → closing_hints hints p h → Brackets closing_of_draws p h
-  brackets_closed hints p h e is = subst (λ (k : ℕ × Option ℕ). Brackets closing_of_draws p k) (sym (hint_of_closed_fuse hints p h e is)) (brackets_no_item closing_of_draws p (λ y q w. no_item_closed p q y e w))
+  brackets_closed hints p h e is = subst (λ (k : ℕ × Option ℕ). Brackets closing_of_draws p k) (sym (hint_of_closed_fuse_is_zero hints p h e is)) (brackets_zero_where_no_item closing_of_draws p (λ y q w. no_item_closed p q y e w))
 
 -- ---- `Fuse`
 
@@ -39,16 +39,16 @@ module _ {S A E : Type 0} (steps : S → Answered A E → S → Type 0) where
   abbrev pub fuse_step : S × Bool → Answered A E → S × Bool → Type 0
   fuse_step = closing_step steps (λ r. r) is_end
 
-  fused_item : (p q : S × Bool) (x : A) → p.1 ≡ false → fuse_step p (item x) q → (y : A) × steps p.0 (item y) q.0 × (q.1 ≡ false)
-  fused_item (s, true) q x e w = absurd cc
-  fused_item (s, false) q x e w = (x, subst (λ (r : Answered A E). steps s r q.0) (sym w.2) w.1, w.3 ∙ ap is_end (sym w.2))
+  source_gives_item_where_open_fuse_gives : (p q : S × Bool) (x : A) → p.1 ≡ false → fuse_step p (item x) q → (y : A) × steps p.0 (item y) q.0 × (q.1 ≡ false)
+  source_gives_item_where_open_fuse_gives (s, true) q x e w = absurd cc
+  source_gives_item_where_open_fuse_gives (s, false) q x e w = (x, subst (λ (r : Answered A E). steps s r q.0) (sym w.2) w.1, w.3 ∙ ap is_end (sym w.2))
 
-  fused_end : (p q : S × Bool) → p.1 ≡ false → fuse_step p end q → steps p.0 end q.0
-  fused_end (s, true) q e w = absurd cc
-  fused_end (s, false) q e w = subst (λ (r : Answered A E). steps s r q.0) (sym w.2) w.1
+  source_ends_where_open_fuse_ends : (p q : S × Bool) → p.1 ≡ false → fuse_step p end q → steps p.0 end q.0
+  source_ends_where_open_fuse_ends (s, true) q e w = absurd cc
+  source_ends_where_open_fuse_ends (s, false) q e w = subst (λ (r : Answered A E). steps s r q.0) (sym w.2) w.1
 
   pub one_of_one_fuse : OneOfOne fuse_step steps (λ p. p.0) (λ p. p.1 ≡ false)
-  one_of_one_fuse = record { item_of_item = λ p q x e w. fused_item p q x e w; end_of_end = λ p q e w. fused_end p q e w }
+  one_of_one_fuse = record { item_of_item = λ p q x e w. source_gives_item_where_open_fuse_gives p q x e w; end_of_end = λ p q e w. source_ends_where_open_fuse_ends p q e w }
 
 -- ---- `TakeWhile`
 
@@ -56,44 +56,44 @@ module _ {S F X E : Type 0} (steps : S → Answered X E → S → Type 0) (call 
   abbrev pub take_while_step : (S × F) × Bool → Answered X E → (S × F) × Bool → Type 0
   take_while_step = closing_step (place_drawn steps call) taken_answer is_refused
 
-  accepted_is_item : (x : Place X (Result Bool E) E) (y : X) → item y ≡ taken_answer x → (z : X) × (source_answer x ≡ item z) × (is_refused x ≡ false)
-  accepted_is_item (asked z (Ok true)) y e = (z, refl, refl)
-  accepted_is_item (asked z (Ok false)) y e = absurd cc
-  accepted_is_item (asked z (Err d)) y e = absurd cc
-  accepted_is_item (failure_at d) y e = absurd cc
-  accepted_is_item end_at y e = absurd cc
+  source_answer_is_item_where_item_taken : (x : Place X (Result Bool E) E) (y : X) → item y ≡ taken_answer x → (z : X) × (source_answer x ≡ item z) × (is_refused x ≡ false)
+  source_answer_is_item_where_item_taken (asked z (Ok true)) y e = (z, refl, refl)
+  source_answer_is_item_where_item_taken (asked z (Ok false)) y e = absurd cc
+  source_answer_is_item_where_item_taken (asked z (Err d)) y e = absurd cc
+  source_answer_is_item_where_item_taken (failure_at d) y e = absurd cc
+  source_answer_is_item_where_item_taken end_at y e = absurd cc
 
-  taken_item : (p q : (S × F) × Bool) (y : X) → p.1 ≡ false → take_while_step p (item y) q → (xs : List X) × Yields steps (p.0).0 xs (q.0).0 × (1 ≤ length xs) × (q.1 ≡ false)
-  taken_item (p, true) q y e w = absurd cc
-  taken_item (p, false) q y e w = let d = accepted_is_item w.0 y w.2 in (d.0 ∷ [], ((q.0).0, subst (λ (r : Answered X E). steps p.0 r (q.0).0) d.1 w.1.0, refl), omega arith, w.3 ∙ d.2)
+  source_yields_where_item_taken : (p q : (S × F) × Bool) (y : X) → p.1 ≡ false → take_while_step p (item y) q → (xs : List X) × Yields steps (p.0).0 xs (q.0).0 × (1 ≤ length xs) × (q.1 ≡ false)
+  source_yields_where_item_taken (p, true) q y e w = absurd cc
+  source_yields_where_item_taken (p, false) q y e w = let d = source_answer_is_item_where_item_taken w.0 y w.2 in (d.0 ∷ [], ((q.0).0, subst (λ (r : Answered X E). steps p.0 r (q.0).0) d.1 w.1.0, refl), omega arith, w.3 ∙ d.2)
 
   pub items_of_items_take_while : ItemsOfItems take_while_step steps (λ p. (p.0).0) (λ p. p.1 ≡ false)
-  items_of_items_take_while = record { items_of_item = λ p q y e w. taken_item p q y e w }
+  items_of_items_take_while = record { items_of_item = λ p q y e w. source_yields_where_item_taken p q y e w }
 
 -- ---- `Take`
 
 module _ {S A E : Type 0} (steps : S → Answered A E → S → Type 0) where
-  yields_take : (xs : List A) (s : S) (n : ℕ) (q : S × ℕ) → Yields (take_step steps) (s, n) xs q → Yields steps s xs q.0 × (q.1 + length xs ≡ n)
-  yields_take [] s n q e = let left : n ≡ q.1 = ap (λ (p : S × ℕ). p.1) e in (ap (λ (p : S × ℕ). p.0) e, omega (arith, left))
-  yields_take (x ∷ xs) s zero q ran = absurd (let e = ran.1.0 in cc)
-  yields_take (x ∷ xs) s (suc n) q ran = let rest = yields_take xs ran.0.0 ran.0.1 q ran.2 in ((ran.0.0, ran.1.0, rest.0), omega (arith, ran.1.1, rest.1))
+  source_yields_where_take_yields : (xs : List A) (s : S) (n : ℕ) (q : S × ℕ) → Yields (take_step steps) (s, n) xs q → Yields steps s xs q.0 × (q.1 + length xs ≡ n)
+  source_yields_where_take_yields [] s n q e = let left : n ≡ q.1 = ap (λ (p : S × ℕ). p.1) e in (ap (λ (p : S × ℕ). p.0) e, omega (arith, left))
+  source_yields_where_take_yields (x ∷ xs) s zero q ran = absurd (let e = ran.1.0 in cc)
+  source_yields_where_take_yields (x ∷ xs) s (suc n) q ran = let rest = source_yields_where_take_yields xs ran.0.0 ran.0.1 q ran.2 in ((ran.0.0, ran.1.0, rest.0), omega (arith, ran.1.1, rest.1))
 
-  end_or_full : (t : S) (n : ℕ) (q : S × ℕ) → take_step steps (t, n) end q → (n ≡ 0) ⊎ steps t end q.0
-  end_or_full t zero q w = inl refl
-  end_or_full t (suc n) q w = inr w.0
+  none_to_take_or_source_ends : (t : S) (n : ℕ) (q : S × ℕ) → take_step steps (t, n) end q → (n ≡ 0) ⊎ steps t end q.0
+  none_to_take_or_source_ends t zero q w = inl refl
+  none_to_take_or_source_ends t (suc n) q w = inr w.0
 
-  at_most_both : (o : Option ℕ) (n i : ℕ) → i ≤ n → IfSome o (λ u. i ≤ u) → IfSome (option_map (λ u. min u n) o) (λ u. i ≤ u)
-  at_most_both None n i le h = tt
-  at_most_both (Some u) n i le h = omega (arith, le, h)
+  at_most_min_where_at_most_both : (o : Option ℕ) (n i : ℕ) → i ≤ n → IfSome o (λ u. i ≤ u) → IfSome (option_map (λ u. min u n) o) (λ u. i ≤ u)
+  at_most_min_where_at_most_both None n i le h = tt
+  at_most_min_where_at_most_both (Some u) n i le h = omega (arith, le, h)
 
   pub brackets_take : (p : S × ℕ) (k : ℕ × Option ℕ) → Brackets steps p.0 k → Brackets (take_step steps) p (hint_up_to p.1 k)
   brackets_take (s, n) k b = record {
-    above = λ xs q ran. let d = yields_take xs s n q ran in at_most_both k.1 n (length xs) (omega (arith, d.1)) (b.above xs q.0 d.0);
-    below = λ xs q z ran w. let d = yields_take xs s n q ran in elim (end_or_full q.0 q.1 z w) [
+    above = λ xs q ran. let d = source_yields_where_take_yields xs s n q ran in at_most_min_where_at_most_both k.1 n (length xs) (omega (arith, d.1)) (b.above xs q.0 d.0);
+    below = λ xs q z ran w. let d = source_yields_where_take_yields xs s n q ran in elim (none_to_take_or_source_ends q.0 q.1 z w) [
       | inl full ↦ omega (arith, d.1, full)
       | inr closing_of_draws ↦ let le = b.below xs q.0 z.0 d.0 closing_of_draws in omega (arith, le)
     ];
   }
 
   pub as_sound_take : (p : S × ℕ) (h k : ℕ × Option ℕ) → h ≡ hint_up_to p.1 k → AsSound (take_step steps) p h steps p.0 k
-  as_sound_take p h k is = as_sound (take_step steps) steps p p.0 (λ i. min i p.1) (λ o. option_map (λ u. min u p.1) o) (λ j b. brackets_take p j b) h k is
+  as_sound_take p h k is = as_sound_of_brackets (take_step steps) steps p p.0 (λ i. min i p.1) (λ o. option_map (λ u. min u p.1) o) (λ j b. brackets_take p j b) h k is

@@ -15,12 +15,12 @@ module _ {S F X R B E : Type 0} (steps : S → Answered X E → S → Type 0) (c
   passing_step p r q = PassTrace steps call outcome p (r ∷ []) q
 
   -- an item comes of one that was kept, after those that were left out
-  item_of_items : (s t : S) (f g : F) (y : B) → Passes steps call outcome s f (item y ∷ []) t g → (xs : List X) × Yields steps s xs t × (1 ≤ length xs)
-  item_of_items s t f g _ (keeps x v y step called is done) = (x ∷ [], (t, step, refl), omega arith)
-  item_of_items s t f g y (leaves_out {u = u} {h = h} x v step called is rest) = let d = item_of_items u t h g y rest in (x ∷ d.0, (u, step, d.1), omega (arith, d.2))
+  source_yields_items_of_passed_item : (s t : S) (f g : F) (y : B) → Passes steps call outcome s f (item y ∷ []) t g → (xs : List X) × Yields steps s xs t × (1 ≤ length xs)
+  source_yields_items_of_passed_item s t f g _ (keeps x v y step called is done) = (x ∷ [], (t, step, refl), omega arith)
+  source_yields_items_of_passed_item s t f g y (leaves_out {u = u} {h = h} x v step called is rest) = let d = source_yields_items_of_passed_item u t h g y rest in (x ∷ d.0, (u, step, d.1), omega (arith, d.2))
 
   pub items_of_items_passing : ItemsOfItems passing_step steps (λ p. p.0) (λ p. ⊤)
-  items_of_items_passing = record { items_of_item = λ p q y _ step. let d = item_of_items p.0 q.0 p.1 q.1 y (passes_of_pass_trace step) in (d.0, d.1, d.2, tt) }
+  items_of_items_passing = record { items_of_item = λ p q y _ step. let d = source_yields_items_of_passed_item p.0 q.0 p.1 q.1 y (passes_of_pass_trace step) in (d.0, d.1, d.2, tt) }
 
   module _ (leaves_none_out : LeavesNoneOut outcome) (never_ends : (x : X) (v : R) → outcome x v ≡ End → ⊥) where
     item_of_item : (s t : S) (f g : F) (y : B) → Passes steps call outcome s f (item y ∷ []) t g → (x : X) × steps s (item x) t

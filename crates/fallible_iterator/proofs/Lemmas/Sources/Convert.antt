@@ -43,10 +43,10 @@ module _ {A E : Type 0} where
   answer_of_first_result (Ok None) (Ok y) e = absurd cc
   answer_of_first_result (Ok None) (Err y) e = absurd cc
 
-  pub none_converted : (r : Answered A E) → std_element {A = A} {E = E} Ok Err r ≡ None → r ≡ Ok None
-  none_converted (Ok (Some x)) e = absurd cc
-  none_converted (Ok None) e = refl
-  none_converted (Err d) e = absurd cc
+  pub answer_is_end_where_no_element : (r : Answered A E) → std_element {A = A} {E = E} Ok Err r ≡ None → r ≡ Ok None
+  answer_is_end_where_no_element (Ok (Some x)) e = absurd cc
+  answer_is_end_where_no_element (Ok None) e = refl
+  answer_is_end_where_no_element (Err d) e = absurd cc
 
 module _ {S A E : Type 0} (can : S → Type 0) (gives : S → Option (Result A E) → S → Type 0) (remaining : S → Count) (s : Convert S) where
   pub lists_results : (l : List (Result A E)) → RunsRead gives (λ y. y) s.it l → Lists (seen_as convert_parts (convert_contract can gives remaining)).steps s (results l)

@@ -18,12 +18,12 @@ module _ {S A E : Type 0} (same : (s t : S) → s ≡ t) where
   empty_trace_of_run [] s t h = (0, refl)
   empty_trace_of_run (r ∷ rest) s t h = let n = empty_trace_of_run rest h.0 t h.2 in (suc n.0, (λ i. h.1 i ∷ n.1 i))
 
-  run_from_empty : (n : ℕ) (trace : List (Answered A E)) (s t : S) → trace ≡ replicate n end → Run ends_only s trace t
-  run_from_empty zero trace s t e = subst (λ l. Run ends_only s l t) (sym e) (same s t)
-  run_from_empty (suc n) trace s t e = subst (λ l. Run ends_only s l t) (sym e) (s, refl, run_from_empty n (replicate n end) s t refl)
+  run_of_ends_replicated : (n : ℕ) (trace : List (Answered A E)) (s t : S) → trace ≡ replicate n end → Run ends_only s trace t
+  run_of_ends_replicated zero trace s t e = subst (λ l. Run ends_only s l t) (sym e) (same s t)
+  run_of_ends_replicated (suc n) trace s t e = subst (λ l. Run ends_only s l t) (sym e) (s, refl, run_of_ends_replicated n (replicate n end) s t refl)
 
-  pub empty_runs : (trace : List (Answered A E)) (s t : S) → Run ends_only s trace t ↔ EmptyTrace trace
-  empty_runs trace s t = (empty_trace_of_run trace s t, (λ p. run_from_empty p.0 trace s t p.1))
+  pub runs_are_empty_traces : (trace : List (Answered A E)) (s t : S) → Run ends_only s trace t ↔ EmptyTrace trace
+  runs_are_empty_traces trace s t = (empty_trace_of_run trace s t, (λ p. run_of_ends_replicated p.0 trace s t p.1))
 
 -- ---- what it lists
 

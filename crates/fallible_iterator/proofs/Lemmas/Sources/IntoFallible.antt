@@ -13,19 +13,19 @@ use Rattle.fallible_iterator.proofs.Lemmas.Sources.Convert.{map_is_items, items_
 use Rattle.std.specs.declared.convert.Infallible.{Infallible}
 use Rattle.fallible_iterator.specs.declared.sources.into_fallible.IntoFallible.{IntoFallible}
 
-pub item_answered : {A : Type 0} (r : Answered A Infallible) (x : A) → std_element (λ y. y) never r ≡ Some x → r ≡ result_answer (Ok x)
-item_answered (Ok (Some y)) x e = cc
-item_answered (Ok None) x e = absurd cc
-item_answered (Err d) x e = elim d [ ]
+pub answer_is_item_where_element_given : {A : Type 0} (r : Answered A Infallible) (x : A) → std_element (λ y. y) never r ≡ Some x → r ≡ result_answer (Ok x)
+answer_is_item_where_element_given (Ok (Some y)) x e = cc
+answer_is_item_where_element_given (Ok None) x e = absurd cc
+answer_is_item_where_element_given (Err d) x e = elim d [ ]
 
-pub none_given : {A : Type 0} (r : Answered A Infallible) → std_element (λ y. y) never r ≡ None → r ≡ Ok None
-none_given (Ok (Some y)) e = absurd cc
-none_given (Ok None) e = refl
-none_given (Err d) e = elim d [ ]
+pub answer_is_end_where_none_given : {A : Type 0} (r : Answered A Infallible) → std_element (λ y. y) never r ≡ None → r ≡ Ok None
+answer_is_end_where_none_given (Ok (Some y)) e = absurd cc
+answer_is_end_where_none_given (Ok None) e = refl
+answer_is_end_where_none_given (Err d) e = elim d [ ]
 
 module _ {S A : Type 0} (can : S → Type 0) (gives : S → Option A → S → Type 0) (remaining : S → Count) (s : IntoFallible S) where
   pub lists_elements : (l : List A) → RunsRead gives (λ x. x) s.it l → Lists (seen_as into_fallible_parts (into_fallible_contract can gives remaining)).steps s (items l)
-  lists_elements l reads = lists_seen into_fallible_parts (into_fallible_contract can gives remaining).steps s refl (map_is_items l) (gives_read (λ x. x) never can gives remaining (λ x. x) (λ x. Ok x) item_answered l s.it reads)
+  lists_elements l reads = lists_seen into_fallible_parts (into_fallible_contract can gives remaining).steps s refl (map_is_items l) (gives_read (λ x. x) never can gives remaining (λ x. x) (λ x. Ok x) answer_is_item_where_element_given l s.it reads)
 
   -- from the back
   pub lists_elements_back : (l : List A) → RunsReadBack gives (λ x. x) s.it l → Lists (seen_as into_fallible_parts (into_fallible_contract can gives remaining)).steps s (reversed (items l))

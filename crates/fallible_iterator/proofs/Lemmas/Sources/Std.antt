@@ -14,12 +14,12 @@ module _ {S A E Z : Type 0} (of_item : A → Z) (of_failure : E → Z) (can : S 
   std_trace_of_run [] s t h = h
   std_trace_of_run (r ∷ rest) s t h = (h.0, h.1, std_trace_of_run rest h.0 t h.2)
 
-  run_from_std : (trace : List (Answered A E)) (s t : S) → StdTrace of_item of_failure can gives remaining s trace t → Run (std_step of_item of_failure can gives remaining) s trace t
-  run_from_std [] s t h = h
-  run_from_std (r ∷ rest) s t h = (h.0, h.1, run_from_std rest h.0 t h.2)
+  run_of_std_trace : (trace : List (Answered A E)) (s t : S) → StdTrace of_item of_failure can gives remaining s trace t → Run (std_step of_item of_failure can gives remaining) s trace t
+  run_of_std_trace [] s t h = h
+  run_of_std_trace (r ∷ rest) s t h = (h.0, h.1, run_of_std_trace rest h.0 t h.2)
 
-  pub std_runs : (s : S) (trace : List (Answered A E)) (t : S) → Run (std_step of_item of_failure can gives remaining) s trace t ↔ StdTrace of_item of_failure can gives remaining s trace t
-  std_runs s trace t = (std_trace_of_run trace s t, run_from_std trace s t)
+  pub runs_are_std_traces : (s : S) (trace : List (Answered A E)) (t : S) → Run (std_step of_item of_failure can gives remaining) s trace t ↔ StdTrace of_item of_failure can gives remaining s trace t
+  runs_are_std_traces s trace t = (std_trace_of_run trace s t, run_of_std_trace trace s t)
 
 -- ---- what it lists
 
@@ -34,11 +34,11 @@ module _ {S Z X : Type 0} (gives : S → Option Z → S → Type 0) (h : X → Z
   reads_no_item : (s t : S) (z : Z) → RunsRead gives h s [] → gives s (Some z) t → ⊥
   reads_no_item s t z reads w = let few : 1 ≤ 0 = (reads (one_call s t z w) (seen 1) refl).0 in omega (arith, few)
 
-  reads_some_absurd : (s t : S) (x : X) (l : List X) → RunsRead gives h s (x ∷ l) → gives s None t → ⊥
-  reads_some_absurd s t x l reads w = let all : 0 ≡ suc (length l) = (reads (no_more_calls s t w) (seen 0) refl).1 refl in omega (arith, all)
+  reads_no_end_before_item : (s t : S) (x : X) (l : List X) → RunsRead gives h s (x ∷ l) → gives s None t → ⊥
+  reads_no_end_before_item s t x l reads w = let all : 0 ≡ suc (length l) = (reads (no_more_calls s t w) (seen 0) refl).1 refl in omega (arith, all)
 
-  first_read : (s t : S) (z : Z) (x : X) (l : List X) → RunsRead gives h s (x ∷ l) → gives s (Some z) t → z ≡ h x
-  first_read s t z x l reads w = let at_0 : Some z ≡ Some (h x) = (reads (one_call s t z w) (seen 1) refl).2 0 x (omega arith) in cc
+  first_read_is_mapped_first : (s t : S) (z : Z) (x : X) (l : List X) → RunsRead gives h s (x ∷ l) → gives s (Some z) t → z ≡ h x
+  first_read_is_mapped_first s t z x l reads w = let at_0 : Some z ≡ Some (h x) = (reads (one_call s t z w) (seen 1) refl).2 0 x (omega arith) in cc
 
   -- what is read after the first call
   runs_read_rest : (s t : S) (z : Z) (x : X) (l : List X) → RunsRead gives h s (x ∷ l) → gives s (Some z) t → RunsRead gives h t l
@@ -52,20 +52,20 @@ module _ {S A E Z X : Type 0} (of_item : A → Z) (of_failure : E → Z) (can : 
   abbrev GivesRead : S → List (Result A E) → Type 0
   GivesRead s l = AlwaysGives (std_step of_item of_failure can gives remaining) s l
 
-  end_of_no_runs : (r : Answered A E) (s t : S) → RunsRead gives h s [] → gives s (std_element of_item of_failure r) t → r ≡ Ok None
-  end_of_no_runs (Ok (Some x)) s t reads w = absurd (reads_no_item gives h s t (of_item x) reads w)
-  end_of_no_runs (Err e) s t reads w = absurd (reads_no_item gives h s t (of_failure e) reads w)
-  end_of_no_runs (Ok None) s t reads w = refl
+  answer_is_end_where_none_read : (r : Answered A E) (s t : S) → RunsRead gives h s [] → gives s (std_element of_item of_failure r) t → r ≡ Ok None
+  answer_is_end_where_none_read (Ok (Some x)) s t reads w = absurd (reads_no_item gives h s t (of_item x) reads w)
+  answer_is_end_where_none_read (Err e) s t reads w = absurd (reads_no_item gives h s t (of_failure e) reads w)
+  answer_is_end_where_none_read (Ok None) s t reads w = refl
 
   -- one call at an element
-  pub result_of_call : (r : Answered A E) (s t : S) (x : X) (l : List X) → RunsRead gives h s (x ∷ l) → gives s (std_element of_item of_failure r) t → (r ≡ result_answer (to x)) × RunsRead gives h t l
-  result_of_call (Ok (Some y)) s t x l reads w = (back (Ok (Some y)) x (ap Some (first_read gives h s t (of_item y) x l reads w)), runs_read_rest gives h s t (of_item y) x l reads w)
-  result_of_call (Err e) s t x l reads w = (back (Err e) x (ap Some (first_read gives h s t (of_failure e) x l reads w)), runs_read_rest gives h s t (of_failure e) x l reads w)
-  result_of_call (Ok None) s t x l reads w = absurd (reads_some_absurd gives h s t x l reads w)
+  pub answer_is_first_and_rest_is_read : (r : Answered A E) (s t : S) (x : X) (l : List X) → RunsRead gives h s (x ∷ l) → gives s (std_element of_item of_failure r) t → (r ≡ result_answer (to x)) × RunsRead gives h t l
+  answer_is_first_and_rest_is_read (Ok (Some y)) s t x l reads w = (back (Ok (Some y)) x (ap Some (first_read_is_mapped_first gives h s t (of_item y) x l reads w)), runs_read_rest gives h s t (of_item y) x l reads w)
+  answer_is_first_and_rest_is_read (Err e) s t x l reads w = (back (Err e) x (ap Some (first_read_is_mapped_first gives h s t (of_failure e) x l reads w)), runs_read_rest gives h s t (of_failure e) x l reads w)
+  answer_is_first_and_rest_is_read (Ok None) s t x l reads w = absurd (reads_no_end_before_item gives h s t x l reads w)
 
   pub gives_read : (l : List X) (s : S) → RunsRead gives h s l → GivesRead s (map to l)
-  gives_read [] s reads = λ r t w. end_of_no_runs r s t reads w.0
-  gives_read (x ∷ l) s reads = λ r t w. let d = result_of_call r s t x l reads w.0 in (d.0, gives_read l t d.1)
+  gives_read [] s reads = λ r t w. answer_is_end_where_none_read r s t reads w.0
+  gives_read (x ∷ l) s reads = λ r t w. let d = answer_is_first_and_rest_is_read r s t x l reads w.0 in (d.0, gives_read l t d.1)
 
 -- runs with the same items read the same list
 pub runs_read_alike : {S T X Z : Type 0} (gives : S → Option Z → S → Type 0) (others : T → Option Z → T → Type 0) (h : X → Z) (s : S) (t : T) (l : List X) → runs.EachRunFrom others t (λ p. runs.SomeRun gives s (λ q. runs.IsIdenticalRun p q)) → RunsRead gives h s l → RunsRead others h t l

@@ -18,14 +18,14 @@ module _ {X Z : Type 0} (h : X → Z) where
   read_at_place (x ∷ l) zero z e = (omega arith, λ d. sym (same_Some (h x) z e))
   read_at_place (x ∷ l) (suc k) z e = let r = read_at_place l k z e in (omega (arith, r.0), r.1)
 
-  length_past_all : (l : List X) (k : ℕ) → None ≡ slice_get (map h l) k → length l ≤ k
-  length_past_all [] k e = omega arith
-  length_past_all (x ∷ l) zero e = absurd (none-some (h x) e)
-  length_past_all (x ∷ l) (suc k) e = omega (arith, length_past_all l k e)
+  length_at_most_place_where_none : (l : List X) (k : ℕ) → None ≡ slice_get (map h l) k → length l ≤ k
+  length_at_most_place_where_none [] k e = omega arith
+  length_at_most_place_where_none (x ∷ l) zero e = absurd (none-some (h x) e)
+  length_at_most_place_where_none (x ∷ l) (suc k) e = omega (arith, length_at_most_place_where_none l k e)
 
-length_at_most : (n m : ℕ) → ((k : ℕ) → k < n → k < m) → n ≤ m
-length_at_most zero m f = omega arith
-length_at_most (suc n) m f = omega (arith, f n (omega arith))
+at_most_where_all_below_are_below : (n m : ℕ) → ((k : ℕ) → k < n → k < m) → n ≤ m
+at_most_where_all_below_are_below zero m f = omega arith
+at_most_where_all_below_are_below (suc n) m f = omega (arith, f n (omega arith))
 
 module _ {S Z : Type 0} (gives : S → Option Z → S → Type 0) where
   -- what came at a place of the calls' results, and the calls up to it
@@ -47,9 +47,9 @@ module _ {S X Z : Type 0} {gives : S → Option Z → S → Type 0} (h : X → Z
       let u = (took p).0 in
       let ran : Yields gives s p.items u = subst (λ r. Yields gives r p.items u) from (took p).1 in
       let some : p.len ≡ length p.items = p.long in
-      let few : length p.items ≤ length l = length_at_most (length p.items) (length l) (λ k lt. (element_at_turn p.items u k ran lt).0) in (
+      let few : length p.items ≤ length l = at_most_where_all_below_are_below (length p.items) (length l) (λ k lt. (element_at_turn p.items u k ran lt).0) in (
         omega (arith, some, few),
-        (λ whole. let last = (took p).2 whole in let all : length l ≤ length p.items = length_past_all h l (length p.items) (nth_from_yields_List None last.0 (length p.items) (p.items, (u, ran, last.1), omega arith) yields) in omega (arith, some, few, all)),
+        (λ whole. let last = (took p).2 whole in let all : length l ≤ length p.items = length_at_most_place_where_none h l (length p.items) (nth_from_yields_List None last.0 (length p.items) (p.items, (u, ran, last.1), omega arith) yields) in omega (arith, some, few, all)),
         (λ k d lt. at-is p k ∙ (element_at_turn p.items u k ran (omega (arith, some, lt))).1 d),
       )
 

@@ -9,7 +9,7 @@ use Rattle.std.proofs.Common.{refl, sym, subst, ap, ◌∙◌}
 use Rattle.fallible_contract.specs.Traces.{Answered}
 use Rattle.fallible_contract.specs.Lists.{result_answer}
 use Rattle.fallible_contract.specs.Folds.{HoldsAtEachTurn, goes_on, Driven}
-use Rattle.fallible_contract.proofs.Lemmas.Folds.{holds_at_first_turn, holds_each_turn_after, driven_after, driven_end, driven_failure, driven_stop, fold_of_references_drives_values, names_kept}
+use Rattle.fallible_contract.proofs.Lemmas.Folds.{holds_at_first_turn, holds_each_turn_after_item, driven_by_item_first, driven_end, driven_failure, driven_stop, fold_of_references_drives_values, names_kept}
 use Rattle.fallible_iterator.specs.Sources.Std.{std_step, std_element}
 use Rattle.fallible_iterator.specs.Sources.StdFold.{progressing, ElementTurn, answer_of, state_left, lent}
 use Rattle.std.specs.declared.ops.ControlFlow.{ControlFlow}
@@ -17,9 +17,9 @@ use Rattle.std.specs.declared.ops.ControlFlow.TheVariants.{Continue, Break}
 use Rattle.fallible_iterator.specs.declared.sources.std_fold.Progressing.{Progressing}
 
 -- what is made of what `?` yields
-result_of_err : {C X : Type 0} (r : Result C X) (x : X) → IsErrAnd r (λ y. y ≡ x) → r ≡ Err x
-result_of_err (Ok c) x h = absurd h
-result_of_err (Err y) x h = ap Err h
+result_is_err_of_is_err_and : {C X : Type 0} (r : Result C X) (x : X) → IsErrAnd r (λ y. y ≡ x) → r ≡ Err x
+result_is_err_of_is_err_and (Ok c) x h = absurd h
+result_is_err_of_is_err_and (Err y) x h = ap Err h
 
 -- ---- the calls
 
@@ -77,7 +77,7 @@ module _ {S A E Z F C R : Type 0} (of_item : A → Z) (of_failure : E → Z) (re
   driven_to_end c s t None r w is = subst (λ (y : Result C (C × Answered R E)). Driven StepOfStdFold turns s.it.now c (answer_of y) t.it.now (state_left y)) (sym is) (driven_end (w.0, w.1))
   driven_to_end c s t (Some z) r w (v, h, d, called, broke, is) =
       let turn : ElementTurn turns c (read z) (Err d.0) = subst (λ (y : Result C (C × Answered R E)). ElementTurn turns c (read z) y) broke (turned c z v h called).1 in
-      subst (λ (y : Result C (C × Answered R E)). Driven StepOfStdFold turns s.it.now c (answer_of y) t.it.now (state_left y)) (sym (result_of_err r d.0 is.1)) (driven_to_stop c s t z (read z) d.0 refl w turn)
+      subst (λ (y : Result C (C × Answered R E)). Driven StepOfStdFold turns s.it.now c (answer_of y) t.it.now (state_left y)) (sym (result_is_err_of_is_err_and r d.0 is.1)) (driven_to_stop c s t z (read z) d.0 refl w turn)
 
   -- the calls before it returned items on which the turns went on
   module _ (o : Option Z) (t u : Progressing S) (a : C) (h : F) (r : Result C (C × Answered R E)) (w : ElementCall t o u) (is : LastOfStd h a o r) where
@@ -89,7 +89,7 @@ module _ {S A E Z F C R : Type 0} (of_item : A → Z) (of_failure : E → Z) (re
     driven_of_std_fold (z ∷ xs) s c y went =
         let on = element_turn_went_on c went.0.1 z went.0.0 went.1 in
         let item_on = item_of_element_turn c went.0.1 (read z) on.1 in
-        driven_after item_on.0 (step_of_result s y.0 z (Ok item_on.0) item_on.1 y.1) item_on.2
+        driven_by_item_first item_on.0 (step_of_result s y.0 z (Ok item_on.0) item_on.1 y.1) item_on.2
         (driven_of_std_fold xs y.0 went.0.1 y.2 (subst (λ (k : F). FoldsTo TurnOnElement (k, went.0.1) xs (h, a)) on.0 went.2))
 
   -- what std says of its fold
@@ -112,14 +112,14 @@ module _ {S A E Z F C R : Type 0} (of_item : A → Z) (of_failure : E → Z) (re
     takes_at_element (y ∷ xs) s t u c q z h ran went w =
         let on = element_turn_went_on c went.0.1 y went.0.0 went.1 in
         let item_on = item_of_element_turn c went.0.1 (read y) on.1 in
-        takes_at_element xs ran.0 t u went.0.1 q z (holds_each_turn_after h (step_of_result s ran.0 y (Ok item_on.0) item_on.1 ran.1) item_on.2) ran.2 (subst (λ (k : F). FoldsTo TurnOnElement (k, went.0.1) xs q) on.0 went.2) w
+        takes_at_element xs ran.0 t u went.0.1 q z (holds_each_turn_after_item h (step_of_result s ran.0 y (Ok item_on.0) item_on.1 ran.1) item_on.2) ran.2 (subst (λ (k : F). FoldsTo TurnOnElement (k, went.0.1) xs q) on.0 went.2) w
 
     pub callable_in_std_fold : {s : Progressing S} {c : C} → HoldsAtEachTurn StepOfStdFold (goes_on turns) can_turn s.it.now c → CallableInTryFold ElementCall g (λ r b. r ≡ result_from_control_flow b) s f c
     callable_in_std_fold {s} {c} h = record { at = λ xs t q z u ran went w. takes_at_element xs s t u c q z h ran went w }
 
   -- a fold through std's keeps the reference
-  pub keeps_lent : {s : Progressing S} {c : C} {r : Result C (C × Answered R E)} (u : Progressing S) → StdFolds s c r u → u.it.ghost_name ≡ s.it.ghost_name
-  keeps_lent {s} u (xs, o, h, a, (t, y, w), went, is) = w.2 ∙ name_kept can gives remaining xs s t y
+  pub lent_name_kept_by_std_fold : {s : Progressing S} {c : C} {r : Result C (C × Answered R E)} (u : Progressing S) → StdFolds s c r u → u.it.ghost_name ≡ s.it.ghost_name
+  lent_name_kept_by_std_fold {s} u (xs, o, h, a, (t, y, w), went, is) = w.2 ∙ name_kept can gives remaining xs s t y
 
 -- what the reference that came back points to, once it is known to be the one that was lent
 pub driven_lent : {S A E C R : Type 0} {steps : S → Answered A E → S → Type 0} {turns : C → A → ControlFlow R (Unit {0}) → C → Type 0} {s t : S} {b d : MutBor C} {r : Answered R E} (c : C) → Driven steps (lent turns) s b r t d → (d.ghost_name ≡ b.ghost_name → c ≡ d.now) → Driven steps turns s b.now r t c

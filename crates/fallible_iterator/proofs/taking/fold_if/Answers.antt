@@ -3,7 +3,7 @@ use Rattle.std.proofs.Common.{rules}
 use Rattle.fallible_contract.specs.Closures.{call_by_reference, takes_by_reference}
 use Rattle.fallible_contract.specs.Folds.{call_with, takes_with}
 use Rattle.fallible_core.specs.Peeking.Peekable.{peekable_parts}
-use Rattle.fallible_iterator.proofs.Lemmas.Taking.{callable_after_accepted, counts_down_accepted, fold_if_after, fold_if_ends, fold_if_fails, fold_if_stops, folded_if_of_lists, lists_rest_fold_if, stays_fold_if, takes_accepted, testable_on_next}
+use Rattle.fallible_iterator.proofs.Lemmas.Taking.{callable_after_accepted, counts_down_accepted, fold_if_with_accepted_item_before, fold_if_ends, fold_if_fails, fold_if_stops, folded_if_of_lists, lists_rest_fold_if, stays_fold_if, takes_accepted, testable_on_next}
 use Rattle.fallible_iterator.proofs.taking.fold_if.Goals as goal
 
 pub next_accepted-requires-clause-callable : goal.next_accepted-requires-clause-callable
@@ -22,7 +22,7 @@ pub loop-left-preserved : goal.loop-left-preserved
 loop-left-preserved g c = record {
   counts = counts_down_accepted g.met.I.FallibleIterator.lawful _ _ c.in-Some.x c.loop-left.invariant.counts (search rules) c.next_accepted.ensures c.one_less-left.ensures;
   callable = callable_after_accepted g.I.FallibleIterator.contract.steps (call_by_reference g.P.FnMut) (call_with g.F.FnMut) (takes_by_reference g.P.FnMut) (takes_with g.F.FnMut) c.in-Some.x c.loop-left.invariant.callable (search rules) c.next_accepted.ensures c.in_ok-value.ensures;
-  whole = λ r t rest. c.loop-left.invariant.whole r t (fold_if_after g.I.FallibleIterator.contract.steps (call_by_reference g.P.FnMut) (call_with g.F.FnMut) c.in-Some.x (search rules) c.next_accepted.ensures c.in_ok-value.ensures rest);
+  whole = λ r t rest. c.loop-left.invariant.whole r t (fold_if_with_accepted_item_before g.I.FallibleIterator.contract.steps (call_by_reference g.P.FnMut) (call_with g.F.FnMut) c.in-Some.x (search rules) c.next_accepted.ensures c.in_ok-value.ensures rest);
 }
 
 pub returns-clause-folded : goal.returns-clause-folded

@@ -14,12 +14,12 @@ use Rattle.fallible_contract.specs.declared.answers.Side.TheVariants.{Front, Bac
 
 -- ---- the answer that an element is comes from that element
 
-pub element_by_reads_result : {A E : Type 0} (z : Result A E) → std_element {A = A} {E = E} Ok Err (result_answer z) ≡ Some z
-element_by_reads_result (Ok x) = refl
-element_by_reads_result (Err e) = refl
+pub std_element_of_result_answer_is_some : {A E : Type 0} (z : Result A E) → std_element {A = A} {E = E} Ok Err (result_answer z) ≡ Some z
+std_element_of_result_answer_is_some (Ok x) = refl
+std_element_of_result_answer_is_some (Err e) = refl
 
-pub element_by_reads_item : {A : Type 0} (z : A) → std_element {A = A} (λ x. x) never (result_answer (Ok z)) ≡ Some z
-element_by_reads_item z = refl
+pub std_element_of_item_answer_is_some : {A : Type 0} (z : A) → std_element {A = A} (λ x. x) never (result_answer (Ok z)) ≡ Some z
+std_element_of_item_answer_is_some z = refl
 
 -- ---- draws that are each one call, whatever is required of them and whatever may come
 
@@ -47,8 +47,8 @@ module _ {S A E Z : Type 0} (of_item : A → Z) (of_failure : E → Z) (can : S 
   on_answer_of_std l s t (Err e) c w = (l.here s t (failure e) w, (λ n b. let p = w.1.on b.0 in (size (remaining t), (p.1, omega arith), omega (arith, p.2, b.1))), (λ f. let p = w.1.on f in (p.1, p.2)))
   on_answer_of_std l s t (Ok None) c w = ((λ n b. let le = l.never_rises s t c w b.0 in (size (remaining t), (w.1.rests b.0, omega arith), omega (arith, le, b.1))), (λ f. (w.1.rests f, l.never_rises s t c w f)))
 
-  lawful_over : FollowsDraw → Lawful ContractOver
-  lawful_over l = record {
+  lawful_contract_over_by_follows_draw : FollowsDraw → Lawful ContractOver
+  lawful_contract_over_by_follows_draw l = record {
     kept_by_draw = λ s r t c w. record {
       can_next = l.again s t r c w;
       is_finite = is_finite_after s t r w;
@@ -72,7 +72,7 @@ module _ {S A E Z : Type 0} (of_item : A → Z) (of_failure : E → Z) (can : S 
   }
 
   pub lawful_std : Lawful (std_contract {A = A} {E = E} of_item of_failure can gives remaining)
-  lawful_std = lawful_over of_item of_failure can gives remaining (IsAskable of_item of_failure can gives remaining) (Comes of_item of_failure can gives remaining) follows_draw_of_front
+  lawful_std = lawful_contract_over_by_follows_draw of_item of_failure can gives remaining (IsAskable of_item of_failure can gives remaining) (Comes of_item of_failure can gives remaining) follows_draw_of_front
 
 -- ---- from both ends
 
@@ -90,8 +90,8 @@ module _ {S A E Z : Type 0} (of_item : A → Z) (of_failure : E → Z) (can can_
   ArrivesAtEnds = ComesAtEnds of_item of_failure can can_back gives gives_back remaining
 
   -- a draw from one end, before all others
-  at_ends_after : (side : Side) (s t : S) (r : Answered A E) → AskableAtBothEnds s → step_at front_step back_step side s r t → AskableAtBothEnds t
-  at_ends_after side s t r c w = record {
+  askable_at_both_ends_after_step : (side : Side) (s t : S) (r : Answered A E) → AskableAtBothEnds s → step_at front_step back_step side s r t → AskableAtBothEnds t
+  askable_at_both_ends_after_step side s t r c w = record {
     asked = λ drawn u ran. c.asked ((side, r) ∷ drawn) u (t, w, ran);
     asked_back = λ drawn u ran. c.asked_back ((side, r) ∷ drawn) u (t, w, ran);
     never_rises = λ drawn u v ran. c.never_rises ((side, r) ∷ drawn) u v (t, w, ran);
@@ -118,17 +118,17 @@ module _ {S A E Z : Type 0} (of_item : A → Z) (of_failure : E → Z) (can can_
   arrives_at_ends_of_comes : (s : S) (r : Answered A E) → Comes of_item of_failure can gives remaining s r → ArrivesAtEnds s r
   arrives_at_ends_of_comes s r c = record { before = map (λ q. (Front, q)) c.before; from = c.from; side = Front; after = c.after; ran = run_at_ends_of_front c.before s c.from c.ran; drawn = c.drawn }
 
-  follows_front : FollowsDraw of_item of_failure can gives remaining AskableAtBothEnds ArrivesAtEnds
-  follows_front = record { again = at_ends_after Front; never_rises = λ s t c w. c.never_rises [] s t refl w; here = arrives_at_ends_at_once Front; later = arrives_at_ends_later Front }
+  follows_draw_at_both_ends_front : FollowsDraw of_item of_failure can gives remaining AskableAtBothEnds ArrivesAtEnds
+  follows_draw_at_both_ends_front = record { again = askable_at_both_ends_after_step Front; never_rises = λ s t c w. c.never_rises [] s t refl w; here = arrives_at_ends_at_once Front; later = arrives_at_ends_later Front }
 
-  follows_back : FollowsDraw of_item of_failure can_back gives_back remaining AskableAtBothEnds ArrivesAtEnds
-  follows_back = record { again = at_ends_after Back; never_rises = λ s t c w. c.never_rises_back [] s t refl w; here = arrives_at_ends_at_once Back; later = arrives_at_ends_later Back }
+  follows_draw_at_both_ends_back : FollowsDraw of_item of_failure can_back gives_back remaining AskableAtBothEnds ArrivesAtEnds
+  follows_draw_at_both_ends_back = record { again = askable_at_both_ends_after_step Back; never_rises = λ s t c w. c.never_rises_back [] s t refl w; here = arrives_at_ends_at_once Back; later = arrives_at_ends_later Back }
 
   pub lawful_ends_std : LawfulEnds (std_contract {A = A} {E = E} of_item of_failure can gives remaining) (std_ends of_item of_failure can can_back gives gives_back remaining)
   lawful_ends_std = record {
     front_can = is_askable_of_at_ends;
     may_give = λ s x. arrives_at_ends_of_comes s (item x);
     may_fail = λ s e. arrives_at_ends_of_comes s (failure e);
-    front = lawful_over of_item of_failure can gives remaining AskableAtBothEnds ArrivesAtEnds follows_front;
-    back = lawful_over of_item of_failure can_back gives_back remaining AskableAtBothEnds ArrivesAtEnds follows_back;
+    front = lawful_contract_over_by_follows_draw of_item of_failure can gives remaining AskableAtBothEnds ArrivesAtEnds follows_draw_at_both_ends_front;
+    back = lawful_contract_over_by_follows_draw of_item of_failure can_back gives_back remaining AskableAtBothEnds ArrivesAtEnds follows_draw_at_both_ends_back;
   }

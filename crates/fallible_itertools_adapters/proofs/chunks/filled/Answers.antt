@@ -1,6 +1,6 @@
 -- One draw at each turn, and an answer by it.
 use Rattle.fallible_itertools_adapters.specs.Chunks.{chunks_asks}
-use Rattle.fallible_itertools_adapters.proofs.Lemmas.HoldingTraces.{step_item, step_refused, step_end, step_failure, step_left_before}
+use Rattle.fallible_itertools_adapters.proofs.Lemmas.HoldingTraces.{step_item, step_refused, step_end, step_failure, step_with_left_out_before}
 use Rattle.fallible_itertools_adapters.proofs.chunks.filled.Goals as goal
 
 pub returns-in-Kept : goal.returns-in-Kept
@@ -10,7 +10,7 @@ pub loop-x-preserved : goal.loop-x-preserved
 loop-x-preserved g c = record {
   undue = c.loop-x.invariant.undue;
   can_next = c.draw.ensures.stays.can_next;
-  whole = λ r q w. c.loop-x.invariant.whole r q (step_left_before g.I.FallibleIterator.contract.steps (chunks_asks g.I.Error.From.from_gives) _ _ _ _ c.in-Ok-Some.x r q (rw c.in-Ok-Some.field-0-is at c.in-Ok-Some.ensures.drawn) c.in-LeftOut.ensures w);
+  whole = λ r q w. c.loop-x.invariant.whole r q (step_with_left_out_before g.I.FallibleIterator.contract.steps (chunks_asks g.I.Error.From.from_gives) _ _ _ _ c.in-Ok-Some.x r q (rw c.in-Ok-Some.field-0-is at c.in-Ok-Some.ensures.drawn) c.in-LeftOut.ensures w);
 }
 
 pub returns-in-Failure : goal.returns-in-Failure

@@ -1,11 +1,11 @@
 -- One place, by what the source gave and which index is left.
 use Rattle.std.proofs.Common.{refl, Some, None}
 use Rattle.fallible_itertools_adapters.specs.Sides.{left_failed, both_gave}
-use Rattle.fallible_itertools_adapters.proofs.Lemmas.Sides.{failure_of_gives_if}
+use Rattle.fallible_itertools_adapters.proofs.Lemmas.Sides.{failure_where_is_err_and}
 use Rattle.fallible_itertools_adapters.proofs.pad_using.beside_index.Goals as goal
 
 pub returns-in_err-x : goal.returns-in_err-x
-returns-in_err-x g c = (left_failed c.in_err-x.field-0.0, c.in_err-x.ensures, refl, refl, refl, refl, failure_of_gives_if c.from_residual.result c.in_err-x.field-0.0 c.from_residual.ensures.1)
+returns-in_err-x g c = (left_failed c.in_err-x.field-0.0, c.in_err-x.ensures, refl, refl, refl, refl, failure_where_is_err_and c.from_residual.result c.in_err-x.field-0.0 c.from_residual.ensures.1)
 
 pub returns-in-Some-next_index : goal.returns-in-Some-next_index
 returns-in-Some-next_index g c = (both_gave (Some c.in-Some.x) (Some c.in-Some-next_index.i) tt, rw c.in-Some.is at c.in_ok-x.ensures, refl, c.in-Some-next_index.ensures, refl, tt, refl)

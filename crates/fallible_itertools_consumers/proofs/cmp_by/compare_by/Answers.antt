@@ -1,14 +1,14 @@
 -- Each round goes before the comparison from there on.
 use Rattle.std.proofs.Common.{refl, Ok, Err, Some, None}
-use Rattle.fallible_iterator.proofs.Lemmas.Comparing.{either_at_most_begins, either_at_most_fewer}
-use Rattle.fallible_itertools_consumers.proofs.Lemmas.CmpBy.{callable_at_first_round, callable_in_rounds_after, compare_by_draws_after, compare_by_draws_left_failure, compare_by_draws_last_round, last_turn_round_right_failure}
+use Rattle.fallible_iterator.proofs.Lemmas.Comparing.{either_at_most_by_bound_of_either, either_at_most_after_fewer}
+use Rattle.fallible_itertools_consumers.proofs.Lemmas.CmpBy.{callable_at_first_round, callable_in_rounds_after, compare_by_draws_where_round_goes_on, compare_by_draws_left_failure, compare_by_draws_last_round, last_turn_round_right_failure}
 use Rattle.fallible_itertools_consumers.proofs.cmp_by.compare_by.Goals as goal
 
 pub loop-x-init : goal.loop-x-init
 loop-x-init g c = rw (c.number_of_either-left.ensures.left, c.number_of_either-left.ensures.right) (record {
   can_left = c.requires.left;
   can_right = c.requires.right;
-  bounded = either_at_most_begins g.L.FallibleIterator.contract g.R.FallibleIterator.contract _ _ _ c.number_of_either-left.ensures.number;
+  bounded = either_at_most_by_bound_of_either g.L.FallibleIterator.contract g.R.FallibleIterator.contract _ _ _ c.number_of_either-left.ensures.number;
   callable = c.requires.callable;
   whole = λ r h. h;
 })
@@ -41,7 +41,7 @@ loop-x-preserved g c =
     let went = g.met.R.FallibleIterator.lawful.kept_by_draw _ _ _ c.loop-x.invariant.can_right next in record {
       can_left = goes.can_next;
       can_right = went.can_next;
-      bounded = either_at_most_fewer g.L.FallibleIterator.contract g.R.FallibleIterator.contract _ _ _ _ _ _ goes.answer.1 went.answer.1 c.one_less-count.ensures c.loop-x.invariant.bounded;
+      bounded = either_at_most_after_fewer g.L.FallibleIterator.contract g.R.FallibleIterator.contract _ _ _ _ _ _ goes.answer.1 went.answer.1 c.one_less-count.ensures c.loop-x.invariant.bounded;
       callable = callable_in_rounds_after _ _ _ _ _ c.loop-x.invariant.callable step next c.in-Continue.ensures;
-      whole = λ r rest. c.loop-x.invariant.whole r (compare_by_draws_after _ _ _ _ _ step next c.in-Continue.ensures rest);
+      whole = λ r rest. c.loop-x.invariant.whole r (compare_by_draws_where_round_goes_on _ _ _ _ _ step next c.in-Continue.ensures rest);
     }

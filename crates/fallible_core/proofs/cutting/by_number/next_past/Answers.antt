@@ -1,6 +1,6 @@
 -- Each left-out item goes before what follows.
 use Rattle.std.proofs.Common.{arith}
-use Rattle.fallible_contract.proofs.Lemmas.ByNumber.{none, keeps_end, keeps_failure, leaves_left_out_first}
+use Rattle.fallible_contract.proofs.Lemmas.ByNumber.{none, keeps_end, keeps_failure, leaves_after_item_left_out}
 use Rattle.fallible_core.proofs.Lemmas.Cutting.Skip.{skip_trace_of_leaves, leaves_plain_draw}
 use Rattle.fallible_core.proofs.cutting.by_number.next_past.Goals as goal
 
@@ -15,6 +15,6 @@ returns-in-Err g c = skip_trace_of_leaves _ {p = (c.args.it.now, c.args.to_skip.
 
 pub loop-x-preserved : goal.loop-x-preserved
 loop-x-preserved g c = let i = c.loop-x.invariant in let step = rw c.in-Ok-Some.field-0-is at c.in-Ok-Some.ensures in record {
-  whole = λ r t k rest. i.whole r t k (leaves_left_out_first _ _ c.in-Ok-Some.x c.loop-x.to_skip (omega (arith, c.if-to_skip-eq0.false)) step rest);
+  whole = λ r t k rest. i.whole r t k (leaves_after_item_left_out _ _ c.in-Ok-Some.x c.loop-x.to_skip (omega (arith, c.if-to_skip-eq0.false)) step rest);
   can_next = (g.met.I.FallibleIterator.lawful.kept_by_draw _ _ _ i.can_next step).can_next;
 }

@@ -1,5 +1,5 @@
 -- The loop of rounds by the order is the comparison, which finds an order.
-use Rattle.fallible_contract.proofs.Lemmas.Comparing.{end_of_either, order_never_none, compared_with_answer}
+use Rattle.fallible_contract.proofs.Lemmas.Comparing.{either_or_ends_by_one_of, order_never_none, compared_with_by_compare_draws}
 use Rattle.fallible_contract.proofs.Lemmas.Lists.Compared.{compared_of_lists_converted}
 use Rattle.fallible_core.proofs.traits.FallibleIterator.cmp.Goals as goal
 
@@ -7,13 +7,13 @@ pub compare-answer-requires-clause-right : goal.compare-answer-requires-clause-r
 compare-answer-requires-clause-right g c = c.requires.right _ c.into_fallible_iter.ensures
 
 pub compare-answer-requires-clause-finite : goal.compare-answer-requires-clause-finite
-compare-answer-requires-clause-finite g c = end_of_either _ _ _ c.into_fallible_iter.ensures c.requires.finite
+compare-answer-requires-clause-finite g c = either_or_ends_by_one_of _ _ _ c.into_fallible_iter.ensures c.requires.finite
 
 pub ordered-requires : goal.ordered-requires
 ordered-requires g c = order_never_none g.Self.Item.Ord.cmp c.compare-answer.ensures
 
 pub returns-clause-compared : goal.returns-clause-compared
-returns-clause-compared g c = compared_with_answer _ _ c.into_fallible_iter.ensures c.compare-answer.ensures c.ordered.ensures
+returns-clause-compared g c = compared_with_by_compare_draws _ _ c.into_fallible_iter.ensures c.compare-answer.ensures c.ordered.ensures
 
 pub returns-clause-value : goal.returns-clause-value
 returns-clause-value g c a b i j = compared_of_lists_converted a b (returns-clause-compared g c) i j

@@ -1,6 +1,6 @@
 -- Each turn goes before the fold from there on.
 use Rattle.std.proofs.Common.{arith}
-use Rattle.fallible_contract.proofs.Lemmas.Folds.{holds_at_first_turn, holds_each_turn_after, driven_after, driven_end, driven_failure, driven_stop}
+use Rattle.fallible_contract.proofs.Lemmas.Folds.{holds_at_first_turn, holds_each_turn_after_item, driven_by_item_first, driven_end, driven_failure, driven_stop}
 use Rattle.fallible_core.proofs.traits.FallibleIterator.drive.Goals as goal
 
 pub turn-requires : goal.turn-requires
@@ -22,6 +22,6 @@ loop-x-preserved g c = let step = rw c.in-Ok-Some.field-0-is at c.in-Ok-Some.ens
     let fewer = goes.answer.1 b.0 b.1 in record {
       can_next = goes.can_next;
       bounded = (fewer.0, fewer.1, omega (arith, fewer.2, b.2));
-      callable = holds_each_turn_after c.loop-x.invariant.callable step c.in-Continue.ensures;
-      whole = λ r t d rest. c.loop-x.invariant.whole r t d (driven_after _ step c.in-Continue.ensures rest);
+      callable = holds_each_turn_after_item c.loop-x.invariant.callable step c.in-Continue.ensures;
+      whole = λ r t d rest. c.loop-x.invariant.whole r t d (driven_by_item_first _ step c.in-Continue.ensures rest);
     }

@@ -1,6 +1,6 @@
 -- Each skipped item goes before what is left of the call.
 use Rattle.std.proofs.Common.{arith}
-use Rattle.fallible_contract.proofs.Lemmas.Nth.{nth_drains_after, nth_drains_at_once, nth_drains_next}
+use Rattle.fallible_contract.proofs.Lemmas.Nth.{nth_drains_after_item, nth_drains_at_once, nth_drains_where_number_is_zero}
 use Rattle.fallible_core.proofs.traits.FallibleIterator.drive_nth.Goals as goal
 
 pub loop-left-init : goal.loop-left-init
@@ -8,7 +8,7 @@ loop-left-init g c = record { whole = λ r t h. h; can_next = c.requires }
 
 pub loop-left-preserved : goal.loop-left-preserved
 loop-left-preserved g c = let i = c.loop-left.invariant in let step = rw c.in-Ok-Some.field-0-is at c.in-Ok-Some.ensures in record {
-  whole = λ r t rest. i.whole r t (nth_drains_after _ _ _ (omega arith) step rest);
+  whole = λ r t rest. i.whole r t (nth_drains_after_item _ _ _ (omega arith) step rest);
   can_next = (g.met.Self.FallibleIterator.lawful.kept_by_draw _ _ _ i.can_next step).can_next;
 }
 
@@ -19,4 +19,4 @@ pub returns-in-Err : goal.returns-in-Err
 returns-in-Err g c = c.loop-left.invariant.whole _ _ (nth_drains_at_once _ (omega arith) c.in-Err.ensures)
 
 pub returns : goal.returns
-returns g c = c.loop-left.invariant.whole _ _ (nth_drains_next c.loop-left.left c.next-2.result c.loop-left-test.false c.next-2.ensures)
+returns g c = c.loop-left.invariant.whole _ _ (nth_drains_where_number_is_zero c.loop-left.left c.next-2.result c.loop-left-test.false c.next-2.ensures)

@@ -1,5 +1,5 @@
 -- The loop of rounds is the comparison.
-use Rattle.fallible_contract.proofs.Lemmas.Comparing.{end_of_either}
+use Rattle.fallible_contract.proofs.Lemmas.Comparing.{either_or_ends_by_one_of}
 use Rattle.fallible_contract.proofs.Lemmas.Lists.Compared.{compared_of_lists_converted}
 use Rattle.fallible_core.proofs.traits.FallibleIterator.partial_cmp.Goals as goal
 
@@ -7,7 +7,7 @@ pub compare-requires-clause-right : goal.compare-requires-clause-right
 compare-requires-clause-right g c = c.requires.right _ c.into_fallible_iter.ensures
 
 pub compare-requires-clause-finite : goal.compare-requires-clause-finite
-compare-requires-clause-finite g c = end_of_either _ _ _ c.into_fallible_iter.ensures c.requires.finite
+compare-requires-clause-finite g c = either_or_ends_by_one_of _ _ _ c.into_fallible_iter.ensures c.requires.finite
 
 pub returns-clause-compared : goal.returns-clause-compared
 returns-clause-compared g c = record { right = _; made = c.into_fallible_iter.ensures; compared = c.compare.ensures }

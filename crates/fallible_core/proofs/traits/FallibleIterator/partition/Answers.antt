@@ -2,7 +2,7 @@
 use Rattle.std.specs.Prelude.{Ok, Err}
 use Rattle.fallible_contract.specs.Closures.{call_by_reference, takes_by_reference}
 use Rattle.fallible_contract.proofs.Lemmas.Partitioning.{callable_driving_partition, partitions_ended, partitions_failed, partitions_stopped}
-use Rattle.fallible_contract.proofs.Lemmas.Lists.Partitioned.{partitioned_of_lists, made_of_partitioned, failure_partitioned, partitioned_as_refused}
+use Rattle.fallible_contract.proofs.Lemmas.Lists.Partitioned.{partitioned_of_lists, made_of_partitioned, partitioned_is_failure_of_source, partitioned_as_refused}
 use Rattle.fallible_contract.specs.declared.collecting.Fault.TheVariants.{Source}
 use Rattle.fallible_core.proofs.traits.FallibleIterator.partition.Goals as goal
 
@@ -37,7 +37,7 @@ pub returns-in-Ok-None-clause-contents : goal.returns-in-Ok-None-clause-contents
 returns-in-Ok-None-clause-contents g c h l acts i = made_of_partitioned g.B.Collect.made h l _ (returns-in-Ok-None-clause-value g c h l acts i)
 
 pub returns-clause-failure : goal.returns-clause-failure
-returns-clause-failure g c h l acts i e is = failure_partitioned g.B.Collect.made h l (returns-clause-value g c h l acts i) is
+returns-clause-failure g c h l acts i e is = partitioned_is_failure_of_source g.B.Collect.made h l (returns-clause-value g c h l acts i) is
 
 pub returns-in-Ok-Some-clause-failure : goal.returns-in-Ok-Some-clause-failure
-returns-in-Ok-Some-clause-failure g c h l acts i e is = failure_partitioned g.B.Collect.made h l (returns-in-Ok-Some-clause-value g c h l acts i) is
+returns-in-Ok-Some-clause-failure g c h l acts i e is = partitioned_is_failure_of_source g.B.Collect.made h l (returns-in-Ok-Some-clause-value g c h l acts i) is

@@ -1,10 +1,10 @@
 -- Each answer of a run is one of a draw from that end.
-use Rattle.fallible_contract.proofs.Lemmas.BothEnds.Mixed.{run_at_ends_mixed, run_at_ends_append, run_at_ends_of_fold}
+use Rattle.fallible_contract.proofs.Lemmas.BothEnds.Mixed.{run_at_ends_of_one_side, run_at_ends_append, run_at_ends_of_fold}
 use Rattle.fallible_contract.specs.declared.answers.Side.TheVariants.{Front, Back}
 use Rattle.fallible_iterator.proofs.laws.ends.law_interleave_folds.Goals as goal
 
 pub returns-clause-run : goal.returns-clause-run
-returns-clause-run g c = λ side s t trace ran. run_at_ends_mixed _ _ side trace s t ran
+returns-clause-run g c = λ side s t trace ran. run_at_ends_of_one_side _ _ side trace s t ran
 
 pub returns-clause-fold : goal.returns-clause-fold
 returns-clause-fold g c = λ s t b f r h. run_at_ends_of_fold _ _ Front h

@@ -2,9 +2,9 @@
 use Rattle.std.proofs.Common.{refl}
 use Rattle.fallible_contract.specs.Closures.{call_by_value}
 use Rattle.fallible_contract.proofs.Lemmas.Failing.{failing_by_answers}
-use Rattle.fallible_contract.proofs.Lemmas.LawForm.{traces_are_of_parts, runs_by_answers}
+use Rattle.fallible_contract.proofs.Lemmas.LawForm.{traces_are_of_parts, run_at_one_answer_iff_law}
 use Rattle.fallible_core.specs.OneToOne.MapErr.{map_err_parts}
 use Rattle.fallible_iterator.proofs.laws.one_to_one.law_map_err.Goals as goal
 
 pub returns : goal.returns
-returns g c = traces_are_of_parts map_err_parts (λ p. record { it = p.0; f = p.1 }) (λ s. refl) (λ p. refl) _ _ (runs_by_answers _ (failing_by_answers g.I.FallibleIterator.contract.steps (call_by_value g.F.FnMut)))
+returns g c = traces_are_of_parts map_err_parts (λ p. record { it = p.0; f = p.1 }) (λ s. refl) (λ p. refl) _ _ (run_at_one_answer_iff_law _ (failing_by_answers g.I.FallibleIterator.contract.steps (call_by_value g.F.FnMut)))

@@ -2,12 +2,12 @@
 use Rattle.std.proofs.Common.{refl}
 use Rattle.fallible_contract.proofs.Lemmas.LawForm.{traces_are_of_parts}
 use Rattle.fallible_iterator.specs.Sources.Convert.{convert_parts}
-use Rattle.fallible_iterator.proofs.Lemmas.Sources.Std.{std_runs}
+use Rattle.fallible_iterator.proofs.Lemmas.Sources.Std.{runs_are_std_traces}
 use Rattle.fallible_iterator.proofs.Lemmas.Sources.Convert.{lists_results_back, lists_items_back}
 use Rattle.fallible_iterator.proofs.laws.sources.law_back_convert.Goals as goal
 
 pub returns-clause-trace : goal.returns-clause-trace
-returns-clause-trace g c = traces_are_of_parts convert_parts (λ p. record { it = p }) (λ s. refl) (λ p. refl) _ _ (std_runs _ _ _ _ _)
+returns-clause-trace g c = traces_are_of_parts convert_parts (λ p. record { it = p }) (λ s. refl) (λ p. refl) _ _ (runs_are_std_traces _ _ _ _ _)
 
 pub returns-clause-results_back : goal.returns-clause-results_back
 returns-clause-results_back g c s l reads = let i = g.I.DoubleEndedIterator in lists_results_back i.can_next_back i.next_back_gives g.I.Iterator.remaining s l reads

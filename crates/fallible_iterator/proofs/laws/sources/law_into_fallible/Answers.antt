@@ -2,8 +2,8 @@
 use Rattle.std.proofs.Common.{refl}
 use Rattle.fallible_contract.proofs.Lemmas.LawForm.{traces_are_of_parts}
 use Rattle.fallible_iterator.specs.Sources.IntoFallible.{into_fallible_parts}
-use Rattle.fallible_iterator.proofs.Lemmas.Sources.Std.{std_runs}
+use Rattle.fallible_iterator.proofs.Lemmas.Sources.Std.{runs_are_std_traces}
 use Rattle.fallible_iterator.proofs.laws.sources.law_into_fallible.Goals as goal
 
 pub returns : goal.returns
-returns g c = traces_are_of_parts into_fallible_parts (λ p. record { it = p }) (λ s. refl) (λ p. refl) _ _ (std_runs _ _ _ _ _)
+returns g c = traces_are_of_parts into_fallible_parts (λ p. record { it = p }) (λ s. refl) (λ p. refl) _ _ (runs_are_std_traces _ _ _ _ _)

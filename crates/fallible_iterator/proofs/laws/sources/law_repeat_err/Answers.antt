@@ -2,8 +2,8 @@
 use Rattle.std.proofs.Common.{refl}
 use Rattle.fallible_contract.proofs.Lemmas.LawForm.{traces_are_of_parts}
 use Rattle.fallible_iterator.specs.Sources.RepeatErr.{repeat_err_parts, RepeatErrAnswer}
-use Rattle.fallible_iterator.proofs.Lemmas.Sources.Repeat.{again_runs}
+use Rattle.fallible_iterator.proofs.Lemmas.Sources.Repeat.{run_again_is_all_such_answers}
 use Rattle.fallible_iterator.proofs.laws.sources.law_repeat_err.Goals as goal
 
 pub returns : goal.returns
-returns g c = traces_are_of_parts repeat_err_parts (λ p. record { item_type = record {}; error = p }) (λ s. refl) (λ p. refl) _ _ (again_runs (RepeatErrAnswer g.E.Clone.is_clone g.E.Clone.is_infallible g.E.From.from_gives))
+returns g c = traces_are_of_parts repeat_err_parts (λ p. record { item_type = record {}; error = p }) (λ s. refl) (λ p. refl) _ _ (run_again_is_all_such_answers (RepeatErrAnswer g.E.Clone.is_clone g.E.Clone.is_infallible g.E.From.from_gives))

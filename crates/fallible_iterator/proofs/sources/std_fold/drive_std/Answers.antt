@@ -3,7 +3,7 @@ use Rattle.std.proofs.Common.{rules}
 use Rattle.std.specs.Borrow.{MutBor}
 use Rattle.fallible_contract.proofs.Lemmas.Folds.{callable_driving_through}
 use Rattle.fallible_iterator.specs.Sources.StdFold.{lent}
-use Rattle.fallible_iterator.proofs.Lemmas.Sources.StdFold.{callable_in_std_fold, driven_by_std, driven_of_equal_left, driven_lent, keeps_lent}
+use Rattle.fallible_iterator.proofs.Lemmas.Sources.StdFold.{callable_in_std_fold, driven_by_std, driven_of_equal_left, driven_lent, lent_name_kept_by_std_fold}
 use Rattle.fallible_iterator.proofs.sources.std_fold.drive_std.Goals as goal
 
 pub try_fold-requires-clause-callable : goal.try_fold-requires-clause-callable
@@ -12,10 +12,10 @@ try_fold-requires-clause-callable g c = callable_in_std_fold g.M.Element.of_item
 
 pub returns-in-Ok : goal.returns-in-Ok
 returns-in-Ok g c =
-    let name = keeps_lent g.M.Element.of_item g.M.Element.of_failure g.M.Element.read g.met.M.Element.reads g.I.Iterator.can_next g.I.Iterator.next_gives g.I.Iterator.remaining _ _ (lent (g.K.Turn.turns c.args.turn.now)) (λ d z r h p. search rules) c.try_fold.new.self c.try_fold.ensures.ran in
+    let name = lent_name_kept_by_std_fold g.M.Element.of_item g.M.Element.of_failure g.M.Element.read g.met.M.Element.reads g.I.Iterator.can_next g.I.Iterator.next_gives g.I.Iterator.remaining _ _ (lent (g.K.Turn.turns c.args.turn.now)) (λ d z r h p. search rules) c.try_fold.new.self c.try_fold.ensures.ran in
     driven_of_equal_left (search (rules, name)) (driven_lent {turns = g.K.Turn.turns c.args.turn.now} _ (driven_by_std g.M.Element.of_item g.M.Element.of_failure g.M.Element.read g.met.M.Element.reads g.I.Iterator.can_next g.I.Iterator.next_gives g.I.Iterator.remaining _ _ (lent (g.K.Turn.turns c.args.turn.now)) (λ d z r h p. search rules) c.try_fold.new.self c.in-Ok.ensures.ran) (λ same. search rules))
 
 pub returns-in-Err : goal.returns-in-Err
 returns-in-Err g c =
-    let name = keeps_lent g.M.Element.of_item g.M.Element.of_failure g.M.Element.read g.met.M.Element.reads g.I.Iterator.can_next g.I.Iterator.next_gives g.I.Iterator.remaining _ _ (lent (g.K.Turn.turns c.args.turn.now)) (λ d z r h p. search rules) c.try_fold.new.self c.try_fold.ensures.ran in
+    let name = lent_name_kept_by_std_fold g.M.Element.of_item g.M.Element.of_failure g.M.Element.read g.met.M.Element.reads g.I.Iterator.can_next g.I.Iterator.next_gives g.I.Iterator.remaining _ _ (lent (g.K.Turn.turns c.args.turn.now)) (λ d z r h p. search rules) c.try_fold.new.self c.try_fold.ensures.ran in
     driven_of_equal_left (search (rules, name)) (driven_lent {turns = g.K.Turn.turns c.args.turn.now} _ (driven_by_std g.M.Element.of_item g.M.Element.of_failure g.M.Element.read g.met.M.Element.reads g.I.Iterator.can_next g.I.Iterator.next_gives g.I.Iterator.remaining _ _ (lent (g.K.Turn.turns c.args.turn.now)) (λ d z r h p. search rules) c.try_fold.new.self c.in-Err.ensures.ran) (λ same. search rules))

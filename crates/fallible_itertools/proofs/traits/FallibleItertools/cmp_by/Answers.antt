@@ -1,25 +1,25 @@
 -- The loop of rounds by the closure's orders is the comparison, which finds an order.
 use Rattle.fallible_iterator.specs.Folds.{call_with}
-use Rattle.fallible_iterator.proofs.Lemmas.Comparing.{end_of_either}
+use Rattle.fallible_iterator.proofs.Lemmas.Comparing.{either_or_ends_by_one_of}
 use Rattle.fallible_itertools_consumers.specs.CmpBy.{ordered_by}
-use Rattle.fallible_itertools_consumers.proofs.Lemmas.CmpBy.{cmp_by_always_ordered, turns_as_cmp_acts, compared_by_of_lists}
+use Rattle.fallible_itertools_consumers.proofs.Lemmas.CmpBy.{cmp_by_never_answers_none, turns_as_of_cmp_where_acts, compared_by_of_lists}
 use Rattle.fallible_itertools.proofs.traits.FallibleItertools.cmp_by.Goals as goal
 
 pub compare_by-answer-requires-clause-right : goal.compare_by-answer-requires-clause-right
 compare_by-answer-requires-clause-right g c = c.requires.right _ c.into_fallible_iter.ensures
 
 pub compare_by-answer-requires-clause-finite : goal.compare_by-answer-requires-clause-finite
-compare_by-answer-requires-clause-finite g c = end_of_either _ _ _ c.into_fallible_iter.ensures c.requires.finite
+compare_by-answer-requires-clause-finite g c = either_or_ends_by_one_of _ _ _ c.into_fallible_iter.ensures c.requires.finite
 
 pub compare_by-answer-requires-clause-callable : goal.compare_by-answer-requires-clause-callable
 compare_by-answer-requires-clause-callable g c = c.requires.callable _ c.into_fallible_iter.ensures
 
 pub ordered-requires : goal.ordered-requires
-ordered-requires g c = cmp_by_always_ordered (call_with g.F.FnMut) _ c.compare_by-answer.ensures
+ordered-requires g c = cmp_by_never_answers_none (call_with g.F.FnMut) _ c.compare_by-answer.ensures
 
 pub returns-clause-compared : goal.returns-clause-compared
 returns-clause-compared g c = rw c.ordered.ensures (record { right = _; made = c.into_fallible_iter.ensures; compared = c.compare_by-answer.ensures })
 
 pub returns-clause-value : goal.returns-clause-value
 unfolding ordered_by
-returns-clause-value g c h acts a b i j = compared_by_of_lists _ (turns_as_cmp_acts (call_with g.F.FnMut) h acts) a b (returns-clause-compared g c) i j
+returns-clause-value g c h acts a b i j = compared_by_of_lists _ (turns_as_of_cmp_where_acts (call_with g.F.FnMut) h acts) a b (returns-clause-compared g c) i j

@@ -4,7 +4,7 @@ use Rattle.fallible_iterator.specs.Searching.{any_pick}
 use Rattle.fallible_iterator.specs.Laws.Contract.{stays_run}
 use Rattle.fallible_iterator.proofs.Lemmas.Searching.{search_drains_of_drive}
 use Rattle.fallible_itertools_consumers.specs.Equal.{TestCall}
-use Rattle.fallible_itertools_consumers.proofs.Lemmas.Equal.{contained_of_search_drains, rest_contained_is}
+use Rattle.fallible_itertools_consumers.proofs.Lemmas.Equal.{contained_of_search_drains, lists_rest_contained}
 use Rattle.fallible_itertools.proofs.traits.FallibleItertools.contains.Goals as goal
 
 pub returns-clause-searched : goal.returns-clause-searched
@@ -14,7 +14,7 @@ pub returns-clause-value : goal.returns-clause-value
 returns-clause-value g c l i = contained_of_search_drains g.Self.Item.PartialEq.eq _ l i (returns-clause-searched g c)
 
 pub returns-clause-rest : goal.returns-clause-rest
-returns-clause-rest g c l i no_end = rest_contained_is g.Self.Item.PartialEq.eq _ l i (returns-clause-searched g c) no_end
+returns-clause-rest g c l i no_end = lists_rest_contained g.Self.Item.PartialEq.eq _ l i (returns-clause-searched g c) no_end
 
 pub returns-clause-stays : goal.returns-clause-stays
 returns-clause-stays g c = stays_run g.met.Self.FallibleIterator.lawful _ _ _ c.requires.can_next c.drive.ensures.ran

@@ -2,22 +2,22 @@
 use Rattle.std.proofs.Common.{None}
 use Rattle.fallible_iterator.specs.Closures.{call_by_reference}
 use Rattle.fallible_iterator.specs.Laws.Contract.{stays_run}
-use Rattle.fallible_iterator.proofs.Lemmas.Searching.{search_drains_placed, holds_each_turn_placed}
+use Rattle.fallible_iterator.proofs.Lemmas.Searching.{search_drains_of_position_drive, holds_each_turn_with_count_below_bound}
 use Rattle.fallible_itertools_consumers.specs.FindPosition.{find_position_pick}
-use Rattle.fallible_itertools_consumers.proofs.Lemmas.FindPosition.{position_found_of_lists, lists_rest_found}
+use Rattle.fallible_itertools_consumers.proofs.Lemmas.FindPosition.{position_found_of_lists, lists_rest_true_where_found}
 use Rattle.fallible_itertools.proofs.traits.FallibleItertools.find_position.Goals as goal
 
 pub drive-requires-clause-callable : goal.drive-requires-clause-callable
-drive-requires-clause-callable g c = holds_each_turn_placed (call_by_reference g.F.FnMut) find_position_pick _ g.met.Self.FallibleIterator.lawful c.requires.can_next c.requires.fits c.requires.callable
+drive-requires-clause-callable g c = holds_each_turn_with_count_below_bound (call_by_reference g.F.FnMut) find_position_pick _ g.met.Self.FallibleIterator.lawful c.requires.can_next c.requires.fits c.requires.callable
 
 pub returns-clause-searched : goal.returns-clause-searched
-returns-clause-searched g c = (_, search_drains_placed {call = call_by_reference g.F.FnMut} {pick = find_position_pick} None (λ p x r q w. w) c.drive.ensures c.answer_or_none.ensures)
+returns-clause-searched g c = (_, search_drains_of_position_drive {call = call_by_reference g.F.FnMut} {pick = find_position_pick} None (λ p x r q w. w) c.drive.ensures c.answer_or_none.ensures)
 
 pub returns-clause-value : goal.returns-clause-value
 returns-clause-value g c h l acts i = position_found_of_lists (call_by_reference g.F.FnMut) h acts l i (returns-clause-searched g c).1
 
 pub returns-clause-rest : goal.returns-clause-rest
-returns-clause-rest g c h l acts i no_end = lists_rest_found (call_by_reference g.F.FnMut) h acts l i (returns-clause-searched g c).1 no_end
+returns-clause-rest g c h l acts i no_end = lists_rest_true_where_found (call_by_reference g.F.FnMut) h acts l i (returns-clause-searched g c).1 no_end
 
 pub returns-clause-stays : goal.returns-clause-stays
 returns-clause-stays g c = stays_run g.met.Self.FallibleIterator.lawful _ _ _ c.requires.can_next c.drive.ensures.ran

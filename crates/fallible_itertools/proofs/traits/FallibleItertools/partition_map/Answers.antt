@@ -1,14 +1,14 @@
 -- What `collect` makes of the mapped iterator.
 use Rattle.std.proofs.Common.{subst, sym}
 use Rattle.fallible_iterator.specs.OneToOne.Map.{map_parts, map_contract}
-use Rattle.fallible_itertools_consumers.proofs.Lemmas.PartitionMap.{collects_seen}
+use Rattle.fallible_itertools_consumers.proofs.Lemmas.PartitionMap.{collects_of_view_where_view_is_known}
 use Rattle.fallible_itertools.proofs.traits.FallibleItertools.partition_map.Goals as goal
 
 pub collect-requires-clause-can_next : goal.collect-requires-clause-can_next
 collect-requires-clause-can_next g c = subst (map_contract g.Self.FallibleIterator.contract g.F.FnMut).can_next (sym c.map.ensures.parts) (c.requires.can_next, c.requires.callable)
 
 pub returns-clause-collects : goal.returns-clause-collects
-returns-clause-collects g c = collects_seen map_parts (map_contract g.Self.FallibleIterator.contract g.F.FnMut).steps _ _ _ _ c.map.ensures.parts c.collect.result c.collect.ensures.collects
+returns-clause-collects g c = collects_of_view_where_view_is_known map_parts (map_contract g.Self.FallibleIterator.contract g.F.FnMut).steps _ _ _ _ c.map.ensures.parts c.collect.result c.collect.ensures.collects
 
 pub returns-clause-value : goal.returns-clause-value
 returns-clause-value g c h l acts i = c.collect.ensures.value _ (c.map.ensures.lists h l acts i)

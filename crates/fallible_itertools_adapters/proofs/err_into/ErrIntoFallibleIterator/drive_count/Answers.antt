@@ -1,6 +1,6 @@
 -- The source's, and the conversion where it met a failure.
-use Rattle.fallible_iterator.proofs.Lemmas.FailingFolds.{fails_last_count, fails_last_drained}
-use Rattle.fallible_iterator.proofs.Lemmas.Folding.{drained_into}
+use Rattle.fallible_iterator.proofs.Lemmas.FailingFolds.{fails_last_count, drained_of_failing_step_by_source}
+use Rattle.fallible_iterator.proofs.Lemmas.Folding.{drained_of_holder}
 use Rattle.fallible_itertools_adapters.proofs.Lemmas.ErrInto.{takes_each_failure}
 use Rattle.fallible_itertools_adapters.proofs.err_into.ErrIntoFallibleIterator.drive_count.Goals as goal
 
@@ -8,4 +8,4 @@ pub failed-requires : goal.failed-requires
 failed-requires g c = takes_each_failure _ _
 
 pub returns : goal.returns
-returns g c = drained_into (λ p. record { it = p.0; made = record {} }) (λ p r q step. step) (fails_last_drained _ _ (fails_last_count _ _) c.drive_count.ensures c.failed.ensures)
+returns g c = drained_of_holder (λ p. record { it = p.0; made = record {} }) (λ p r q step. step) (drained_of_failing_step_by_source _ _ (fails_last_count _ _) c.drive_count.ensures c.failed.ensures)

@@ -1,20 +1,20 @@
 -- By the list, with the group that is held before it.
 use Rattle.fallible_itertools_adapters.proofs.Lemmas.ChunkBy.{chunked_by_in_parts}
-use Rattle.fallible_itertools_adapters.proofs.Lemmas.ChunkedBy.{parts_all_joined}
-use Rattle.fallible_itertools_adapters.proofs.Lemmas.Groups.{all_groups, chunked_by_of_lost, groups_differ}
+use Rattle.fallible_itertools_adapters.proofs.Lemmas.ChunkedBy.{items_of_groups_of_chunked_by_are_items}
+use Rattle.fallible_itertools_adapters.proofs.Lemmas.Groups.{items_of_chunked_by_are_groups, chunked_by_of_failed_key_is_of_failure, adjacent_groups_differ}
 use Rattle.fallible_itertools_adapters.proofs.laws.grouping.law_chunked_by.Goals as goal
 
 pub returns-clause-items : goal.returns-clause-items
-returns-clause-items g c key l = parts_all_joined _ g.K.PartialEq.eq key l
+returns-clause-items g c key l = items_of_groups_of_chunked_by_are_items _ g.K.PartialEq.eq key l
 
 pub returns-clause-groups : goal.returns-clause-groups
-returns-clause-groups g c h l = all_groups _ g.K.PartialEq.eq h l
+returns-clause-groups g c h l = items_of_chunked_by_are_groups _ g.K.PartialEq.eq h l
 
 pub returns-clause-adjacent : goal.returns-clause-adjacent
-returns-clause-adjacent g c h l = groups_differ _ g.K.PartialEq.eq h l
+returns-clause-adjacent g c h l = adjacent_groups_differ _ g.K.PartialEq.eq h l
 
 pub returns-clause-lost : goal.returns-clause-lost
-returns-clause-lost g c h a x e b is = chunked_by_of_lost _ g.K.PartialEq.eq h a x e b is
+returns-clause-lost g c h a x e b is = chunked_by_of_failed_key_is_of_failure _ g.K.PartialEq.eq h a x e b is
 
 pub returns-clause-parts : goal.returns-clause-parts
 returns-clause-parts g c h a e b = chunked_by_in_parts g.K.PartialEq.eq h a e b

@@ -2,14 +2,14 @@
 use Rattle.std.specs.Prelude.{◌≡◌, false, Ok}
 use Rattle.std.proofs.Common.{refl}
 use Rattle.fallible_iterator.specs.BothEnds.{item_listed}
-use Rattle.fallible_itertools_adapters.proofs.Lemmas.Merged.{merged_adjacent, merged_interleaved, merged_permutes, merged_sorted, merged_stable}
+use Rattle.fallible_itertools_adapters.proofs.Lemmas.Merged.{adjacent_items_of_merged, merged_interleaved, merged_permutes, merged_sorted, merged_stable}
 use Rattle.fallible_itertools_adapters.proofs.laws.merge_by.law_merged.Goals as goal
 
 pub returns-clause-sorted : goal.returns-clause-sorted
 returns-clause-sorted g c lt goes lets xs ys first second = merged_sorted _ lt goes lets xs ys first second
 
 pub returns-clause-adjacent : goal.returns-clause-adjacent
-returns-clause-adjacent g c lt h lets a b first second = merged_adjacent (λ x y. lt y x ≡ false) h lets.0 lets.1 a b first second
+returns-clause-adjacent g c lt h lets a b first second = adjacent_items_of_merged (λ x y. lt y x ≡ false) h lets.0 lets.1 a b first second
 
 pub returns-clause-items : goal.returns-clause-items
 returns-clause-items g c goes a b = merged_permutes item_listed goes a b

@@ -1,6 +1,6 @@
 -- By both lists, of which the first answer of one is taken, or that of both.
 use Rattle.std.specs.Prelude.{◌≡◌, true}
-use Rattle.fallible_itertools_adapters.proofs.Lemmas.MergeJoined.{failures_of_merge_joined, lefts_of_merge_joined, merge_joined_adjacent, merge_joined_pairs_equal, rights_of_merge_joined}
+use Rattle.fallible_itertools_adapters.proofs.Lemmas.MergeJoined.{failures_of_merge_joined, lefts_of_merge_joined, adjacent_items_of_merge_joined, merge_joined_pairs_equal, rights_of_merge_joined}
 use Rattle.fallible_itertools_adapters.proofs.laws.merge_join_by.law_merge_joined.Goals as goal
 
 pub returns-clause-pairs : goal.returns-clause-pairs
@@ -16,4 +16,4 @@ pub returns-clause-failures : goal.returns-clause-failures
 returns-clause-failures g c order a b = failures_of_merge_joined order a b
 
 pub returns-clause-adjacent : goal.returns-clause-adjacent
-returns-clause-adjacent g c before k j h joins a b first second = merge_joined_adjacent (λ x y. before x y ≡ true) k j h joins a b first second
+returns-clause-adjacent g c before k j h joins a b first second = adjacent_items_of_merge_joined (λ x y. before x y ≡ true) k j h joins a b first second

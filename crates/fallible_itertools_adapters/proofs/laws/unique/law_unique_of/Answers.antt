@@ -1,5 +1,5 @@
 -- What was kept is seen, and is found first.
-use Rattle.fallible_itertools_adapters.proofs.Lemmas.UniqueOf.{failure_last, failures_of_unique, find_in_unique, item_last, unique_distinct, unique_of_none}
+use Rattle.fallible_itertools_adapters.proofs.Lemmas.UniqueOf.{failure_last, failures_of_unique, find_in_unique, item_last, unique_distinct, unique_of_empty_is_empty}
 use Rattle.fallible_itertools_adapters.proofs.laws.unique.law_unique_of.Goals as goal
 
 pub returns-clause-distinct : goal.returns-clause-distinct
@@ -12,7 +12,7 @@ pub returns-clause-failures : goal.returns-clause-failures
 returns-clause-failures g c l = failures_of_unique g.T.PartialEq.eq l
 
 pub returns-clause-none : goal.returns-clause-none
-returns-clause-none g c = unique_of_none g.T.PartialEq.eq
+returns-clause-none g c = unique_of_empty_is_empty g.T.PartialEq.eq
 
 pub returns-clause-item_last : goal.returns-clause-item_last
 returns-clause-item_last g c l x = item_last g.T.PartialEq.eq g.met.T.Eq.laws l x

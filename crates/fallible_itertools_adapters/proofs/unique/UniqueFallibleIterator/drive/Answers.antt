@@ -1,11 +1,11 @@
 -- The fold of what lets items pass.
-use Rattle.fallible_iterator.proofs.Lemmas.Folding.{holds_at_each_turn_into, drained_into, takes_where_always_callable}
+use Rattle.fallible_iterator.proofs.Lemmas.Folding.{holds_at_each_turn_of_held, drained_of_holder, takes_where_always_callable}
 use Rattle.fallible_itertools_adapters.specs.Holding.{as_answered_item}
 use Rattle.fallible_itertools_adapters.specs.Unique.{unique_asks}
 use Rattle.fallible_itertools_adapters.proofs.unique.UniqueFallibleIterator.drive.Goals as goal
 
 pub drive_passing-requires-clause-callable : goal.drive_passing-requires-clause-callable
-drive_passing-requires-clause-callable g c = takes_where_always_callable (unique_asks _ _ _ _) as_answered_item (g.K.Turn.turns c.args.turn.now) (λ p x. tt) (holds_at_each_turn_into (λ p. record { it = p.0; seen = p.1 }) (λ p x q step. step) c.requires.callable)
+drive_passing-requires-clause-callable g c = takes_where_always_callable (unique_asks _ _ _ _) as_answered_item (g.K.Turn.turns c.args.turn.now) (λ p x. tt) (holds_at_each_turn_of_held (λ p. record { it = p.0; seen = p.1 }) (λ p x q step. step) c.requires.callable)
 
 pub returns : goal.returns
-returns g c = drained_into (λ p. record { it = p.0; seen = p.1 }) (λ p r q step. step) c.drive_passing.ensures
+returns g c = drained_of_holder (λ p. record { it = p.0; seen = p.1 }) (λ p r q step. step) c.drive_passing.ensures

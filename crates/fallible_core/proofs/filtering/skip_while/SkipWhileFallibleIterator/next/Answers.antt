@@ -1,5 +1,5 @@
 -- The search that stops at the first item kept or failed is the trace of one answer; once the predicate returned false, so is one of the source.
-use Rattle.fallible_contract.proofs.Lemmas.Passing.{callable_in_search_of_passes, pass_trace_search}
+use Rattle.fallible_contract.proofs.Lemmas.Passing.{callable_in_search_of_passes, pass_trace_of_search_drains}
 use Rattle.fallible_core.specs.Filtering.SkipWhile.{skip_while_outcome}
 use Rattle.fallible_core.proofs.Lemmas.Filtering.SkipWhileFolds.{step_of_source_skipping}
 use Rattle.fallible_core.proofs.filtering.skip_while.SkipWhileFallibleIterator.next.Goals as goal
@@ -11,4 +11,4 @@ pub returns-then-self : goal.returns-then-self
 returns-then-self g c = step_of_source_skipping g.I.FallibleIterator.contract g.P.FnMut {s = c.args.self.now} c.if-self.true c.next.ensures
 
 pub returns-else-self : goal.returns-else-self
-returns-else-self g c = pass_trace_search {outcome = skip_while_outcome} c.drive_find.ensures
+returns-else-self g c = pass_trace_of_search_drains {outcome = skip_while_outcome} c.drive_find.ensures

@@ -2,7 +2,7 @@
 use Rattle.std.proofs.Common.{refl}
 use Rattle.fallible_core.specs.Joining.Chain.{chain_parts}
 use Rattle.fallible_core.proofs.Lemmas.Joining.Chain.{of_parts}
-use Rattle.fallible_core.proofs.Lemmas.Joining.ChainFolds.{still_drawn_is_both, first_is_finite, second_is_finite, drive_met_end, is_end_of_drive, drive_joins, holds_each_turn_second_by_itself, holds_each_turn_first, holds_each_turn_second, drained_chain_second_alone, drained_chain_first_alone, drained_chain_first, drained_chain_both}
+use Rattle.fallible_core.proofs.Lemmas.Joining.ChainFolds.{still_drawn_is_both, first_is_finite, second_is_finite, drive_met_end, last_is_not_end_of_drive, drive_joins, holds_each_turn_second_by_itself, holds_each_turn_first, holds_each_turn_second, drained_chain_second_alone, drained_chain_first_alone, drained_chain_first, drained_chain_both}
 use Rattle.fallible_core.proofs.joining.chain.ChainFallibleIterator.drive.Goals as goal
 
 pub drive-requires-clause-callable : goal.drive-requires-clause-callable
@@ -26,7 +26,7 @@ pub returns-in-SecondAlone : goal.returns-in-SecondAlone
 returns-in-SecondAlone g c = drained_chain_second_alone chain_parts of_parts (λ p. refl) g.T.FallibleIterator.contract g.U.FallibleIterator.contract c.in-SecondAlone.is refl c.in-SecondAlone.is c.drive.ensures
 
 pub returns-in-Ok-Some : goal.returns-in-Ok-Some
-returns-in-Ok-Some g c = drained_chain_first chain_parts of_parts (λ p. refl) g.T.FallibleIterator.contract g.U.FallibleIterator.contract c.in_default.not-SecondAlone refl refl (is_end_of_drive (g.K.Turn.turns c.args.turn.now) (λ e. absurd cc)) (rw c.in-Ok-Some.field-0-is at c.in-Ok-Some.ensures)
+returns-in-Ok-Some g c = drained_chain_first chain_parts of_parts (λ p. refl) g.T.FallibleIterator.contract g.U.FallibleIterator.contract c.in_default.not-SecondAlone refl refl (last_is_not_end_of_drive (g.K.Turn.turns c.args.turn.now) (λ e. absurd cc)) (rw c.in-Ok-Some.field-0-is at c.in-Ok-Some.ensures)
 
 pub returns-in-FirstAlone : goal.returns-in-FirstAlone
 returns-in-FirstAlone g c = drained_chain_first_alone chain_parts of_parts (λ p. refl) g.T.FallibleIterator.contract g.U.FallibleIterator.contract c.in-FirstAlone.is refl c.in-FirstAlone.is (rw c.in-Ok-None.field-0-is at c.in-Ok-None.ensures)
@@ -35,4 +35,4 @@ pub returns-in_default-still_drawn : goal.returns-in_default-still_drawn
 returns-in_default-still_drawn g c = drained_chain_both chain_parts of_parts (λ p. refl) g.T.FallibleIterator.contract g.U.FallibleIterator.contract (still_drawn_is_both _ c.in_default.not-SecondAlone c.in_default-still_drawn.not-FirstAlone) refl (drive_joins (g.K.Turn.turns c.args.turn.now)) (rw c.in-Ok-None.field-0-is at c.in-Ok-None.ensures) c.drive-in_default-still_drawn.ensures
 
 pub returns-in-Err : goal.returns-in-Err
-returns-in-Err g c = drained_chain_first chain_parts of_parts (λ p. refl) g.T.FallibleIterator.contract g.U.FallibleIterator.contract c.in_default.not-SecondAlone refl refl (is_end_of_drive (g.K.Turn.turns c.args.turn.now) (λ e. absurd cc)) c.in-Err.ensures
+returns-in-Err g c = drained_chain_first chain_parts of_parts (λ p. refl) g.T.FallibleIterator.contract g.U.FallibleIterator.contract c.in_default.not-SecondAlone refl refl (last_is_not_end_of_drive (g.K.Turn.turns c.args.turn.now) (λ e. absurd cc)) c.in-Err.ensures

@@ -1,10 +1,10 @@
 -- One answer of the source, and what the closure makes of it, are the trace of one answer.
-use Rattle.fallible_contract.proofs.Lemmas.Passing.{pass_trace_answer, if_item_taken}
+use Rattle.fallible_contract.proofs.Lemmas.Passing.{pass_trace_answer, if_item_where_callable}
 use Rattle.fallible_core.proofs.Lemmas.OneToOne.Inspect.{leaves_none_out_of_inspect}
 use Rattle.fallible_core.proofs.one_to_one.inspect.InspectFallibleIterator.next.Goals as goal
 
 pub passed-requires-clause-takes : goal.passed-requires-clause-takes
-passed-requires-clause-takes g c = if_item_taken g.met.I.FallibleIterator.lawful c.requires.0 _ c.next.ensures c.requires.1
+passed-requires-clause-takes g c = if_item_where_callable g.met.I.FallibleIterator.lawful c.requires.0 _ c.next.ensures c.requires.1
 
 pub passed-requires-clause-answers : goal.passed-requires-clause-answers
 passed-requires-clause-answers g c = leaves_none_out_of_inspect

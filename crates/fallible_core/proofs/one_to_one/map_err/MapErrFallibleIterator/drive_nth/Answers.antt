@@ -1,11 +1,11 @@
 -- The source's `nth`, and the call where it met a failure.
 use Rattle.fallible_contract.specs.Closures.{call_by_value, takes_by_value}
-use Rattle.fallible_contract.proofs.Lemmas.FailingFolds.{fails_last_nth, fails_last_drained, takes_failure_made}
-use Rattle.fallible_contract.proofs.Lemmas.Folding.{drained_into}
+use Rattle.fallible_contract.proofs.Lemmas.FailingFolds.{fails_last_nth, drained_of_failing_step_by_source, takes_failure_made}
+use Rattle.fallible_contract.proofs.Lemmas.Folding.{drained_of_holder}
 use Rattle.fallible_core.proofs.one_to_one.map_err.MapErrFallibleIterator.drive_nth.Goals as goal
 
 pub failed-requires : goal.failed-requires
 failed-requires g c = takes_failure_made g.met.I.FallibleIterator.lawful (call_by_value g.F.FnMut) (takes_by_value g.F.FnMut) (fails_last_nth c.args.n) c.requires c.drive_nth.ensures
 
 pub returns : goal.returns
-returns g c = drained_into (λ p. record { it = p.0; f = p.1 }) (λ p r q step. step) (fails_last_drained _ _ (fails_last_nth c.args.n) c.drive_nth.ensures c.failed.ensures)
+returns g c = drained_of_holder (λ p. record { it = p.0; f = p.1 }) (λ p r q step. step) (drained_of_failing_step_by_source _ _ (fails_last_nth c.args.n) c.drive_nth.ensures c.failed.ensures)

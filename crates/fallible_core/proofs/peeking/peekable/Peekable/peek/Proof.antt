@@ -41,7 +41,7 @@ use Rattle.fallible_contract.specs.Contract as draws
 use Rattle.fallible_contract.specs.Clauses.{OverList}
 use Rattle.fallible_contract.specs.Lists.{Lists, nth_of}
 use Rattle.fallible_core.specs.Peeking.Peekable.{peekable_parts, peekable_held, peekable_contract, seen, held_item, held_of, failure_told, rest_look, Fills, Peeks}
-use Rattle.fallible_core.proofs.Lemmas.Peeking.Peekable.{peeks_joined}
+use Rattle.fallible_core.proofs.Lemmas.Peeking.Peekable.{peeks_seen_after_fill}
 use Rattle.fallible_core.specs.contracts.peeking.peekable.Peekable.{the_row}
 use Rattle.fallible_core.specs.contracts.peeking.peekable.Peekable.peek as f
 use Rattle.fallible_core.specs.contracts.peeking.peekable.Peekable.fill as f₁
@@ -138,7 +138,7 @@ peek_spec 𝓤 𝓛 𝓜 𝓡 wired I X E L L' L'' g d d' d'' m m' m'' =
     await ! tt $ pick ! (λ x. split ! $ split ! $ split ! $ move ! (2 ∷ []) $ peeks ! Answer (Is Answer) (shows 𝓛 Answer) x (v₃ ∷ []) (λ is₃.
     lands_as ! refl refl ((answer_laws.lawful 𝓛).typed x (v₃ ∷ []) is₃).0 $
     move ! (3 ∷ []) $ pick ! (λ ws₃. split ! $ drop ! $ heard ! _ (λ joins.
-    let peeked = peeks_joined g.contract.steps (peekable_parts r.now) (peekable_parts ws.0) u h x fills copied joins in
+    let peeked = peeks_seen_after_fill g.contract.steps (peekable_parts r.now) (peekable_parts ws.0) u h x fills copied joins in
     -- [the answer; κ's token; the other tokens; what the reference ends as]
     move ! (3 ∷ []) $ use1 𝓛 (‵ (follows_so R R r.ghost_name none (λ _ _. ⊤) (λ w. Peeks g.contract.steps (peekable_parts r.now) (seen x) (peekable_parts w) × draws.Stays (peekable_contract g.contract) (peekable_parts r.now) (peekable_parts w))))
     (said_less 𝓛 R.Denot R.Denot R.coded.code R.coded.code r.ghost_name none (λ _ _. ⊤) (λ w. w ≡ ws.0) (λ w. Peeks g.contract.steps (peekable_parts r.now) (seen x) (peekable_parts w) × draws.Stays (peekable_contract g.contract) (peekable_parts r.now) (peekable_parts w))

@@ -1,11 +1,11 @@
 -- One answer takes what stands at its end.
-use Rattle.fallible_core.proofs.Lemmas.RestAtEnds.{rest_at_front}
+use Rattle.fallible_core.proofs.Lemmas.RestAtEnds.{answers_first_and_lists_rest_at_front}
 use Rattle.fallible_contract.specs.Laws.Contract.{stays_reflexive}
 use Rattle.fallible_contract.proofs.Lemmas.Contract.{stays_step}
 use Rattle.fallible_core.proofs.traits.double_ended.DoubleEndedFallibleIterator.draw_front.Goals as goal
 
 pub returns-clause-rest : goal.returns-clause-rest
-returns-clause-rest g c l i = rest_at_front l i c.next.ensures
+returns-clause-rest g c l i = answers_first_and_lists_rest_at_front l i c.next.ensures
 
 pub returns-clause-stays : goal.returns-clause-stays
 returns-clause-stays g c = stays_step g.met.Self.DoubleEndedFallibleIterator.lawful_ends.front (stays_reflexive c.requires) c.next.ensures

@@ -1,12 +1,12 @@
 -- Until the end was met the answers are the source's, and from then on they are ends.
 use Rattle.fallible_contract.specs.Traces.{is_end}
 use Rattle.fallible_core.specs.Cutting.Fuse.{fuse_parts}
-use Rattle.fallible_iterator.proofs.Lemmas.Hints.Drawn.{brackets_seen, as_sound_same, as_sound_seen}
-use Rattle.fallible_iterator.proofs.Lemmas.Hints.Cutting.{one_of_one_fuse, hint_of_open_fuse, brackets_closed}
+use Rattle.fallible_iterator.proofs.Lemmas.Hints.Drawn.{brackets_seen, as_sound_where_one_of_one, as_sound_seen}
+use Rattle.fallible_iterator.proofs.Lemmas.Hints.Cutting.{one_of_one_fuse, hint_of_open_fuse_is_source_hint, brackets_closed}
 use Rattle.fallible_iterator.proofs.laws.hints.cutting.law_hints_fuse.Goals as goal
 
 pub returns-clause-open : goal.returns-clause-open
-returns-clause-open g c = λ s e h is. (h, hint_of_open_fuse g.I.FallibleIterator.contract.hints (fuse_parts s) h e is, as_sound_seen fuse_parts _ s h (as_sound_same _ _ _ _ (one_of_one_fuse g.I.FallibleIterator.contract.steps) (fuse_parts s) e h))
+returns-clause-open g c = λ s e h is. (h, hint_of_open_fuse_is_source_hint g.I.FallibleIterator.contract.hints (fuse_parts s) h e is, as_sound_seen fuse_parts _ s h (as_sound_where_one_of_one _ _ _ _ (one_of_one_fuse g.I.FallibleIterator.contract.steps) (fuse_parts s) e h))
 
 pub returns-clause-closed : goal.returns-clause-closed
 returns-clause-closed g c = λ s e h is. brackets_seen fuse_parts _ s h (brackets_closed g.I.FallibleIterator.contract.steps (λ r. r) is_end g.I.FallibleIterator.contract.hints (fuse_parts s) h e is)
