@@ -23,9 +23,9 @@ module _ {S F X E : Type 0} (steps : S → Answered X E → S → Type 0) (call 
   step_until_refused = closing_step (place_drawn steps call) taken_answer is_refused
 
   -- what the search goes on over, and what it decides
-  searched_all_of_rest : (n : ℕ) (x : X) (l : List (Result X E)) → h x ≡ Ok true → searched all_pick true h n (Ok x ∷ l) ≡ Ok false → searched all_pick true h (n + 1) l ≡ Ok false
+  search_of_rest_finds_false : (n : ℕ) (x : X) (l : List (Result X E)) → h x ≡ Ok true → searched all_pick true h n (Ok x ∷ l) ≡ Ok false → searched all_pick true h (n + 1) l ≡ Ok false
   unfolding searched
-  searched_all_of_rest n x l is found = sym (ap (λ (v : Result Bool E). decided (all_pick n x) v (searched all_pick true h (n + 1) l)) is) ∙ found
+  search_of_rest_finds_false n x l is found = sym (ap (λ (v : Result Bool E). decided (all_pick n x) v (searched all_pick true h (n + 1) l)) is) ∙ found
 
   rest_stop_past_true : (x : X) (l : List (Result X E)) → h x ≡ Ok true → rest_stop not h (Ok x ∷ l) ≡ rest_stop not h l
   unfolding rest_stop
@@ -82,7 +82,7 @@ module _ {S F X E : Type 0} (steps : S → Answered X E → S → Type 0) (call 
       let made : h y ≡ Ok true = (let v = k.2 in cc) in
       let open_still : (ran.0).1 ≡ false = w.3 ∙ k.3 in
       subst (λ (m : List (Result X E)). AlwaysGives steps t m) (sym (rest_stop_past_true y l made))
-      (always_gives_rest_stop xs (n + 1) l u t i g b k.1 q.1 (subst (λ (c : Bool). Run step_until_refused ((u, i), c) (map item xs ++ end ∷ []) ((t, g), b)) open_still ran.2) (searched_all_of_rest n y l made found))
+      (always_gives_rest_stop xs (n + 1) l u t i g b k.1 q.1 (subst (λ (c : Bool). Run step_until_refused ((u, i), c) (map item xs ++ end ∷ []) ((t, g), b)) open_still ran.2) (search_of_rest_finds_false n y l made found))
 
 -- the steps of `take_while` of a borrow of what steps so
 abbrev pub until_steps : {S P A E : Type 0} → (S → Answered A E → S → Type 0) → Mut P (Bor A × Unit {0}) (Result Bool E) → TakeWhile (MutBor S) P → Answered A E → TakeWhile (MutBor S) P → Type 0

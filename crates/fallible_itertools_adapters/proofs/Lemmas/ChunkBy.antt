@@ -112,8 +112,8 @@ module _ {A K E : Type 0} (from : AllocError → E → Type 0) (eq : K → K →
     held_none_and_outcome_made_at_stop (Some g) None o q same w = absurd same
     held_none_and_outcome_made_at_stop (Some g) (Some k) o q same (is, at) = (subst (λ z. HeldAs z None) (sym at) tt, subst (λ (z : Outcome (Group K A) E). OutcomeMade MadeGroup (Kept k) z) (sym is) same)
 
-    at_on_stop : (p : F × Option (Group K A)) (a : Option (K × List A)) (o : Outcome (Group K A) E) (q : F × Option (Group K A)) → HeldAndState p a → chunk_by_asks from eq c p None o q → HeldAndState q (next_group eq h a None) × OutcomeMade MadeGroup (group_outcome eq h a None) o
-    at_on_stop p a o q at w = let k = held_none_and_outcome_made_at_stop p.1 a o q.1 at.1 w.1 in ((w.0 ∙ at.0, k.0), k.1)
+    held_and_made_at_stop : (p : F × Option (Group K A)) (a : Option (K × List A)) (o : Outcome (Group K A) E) (q : F × Option (Group K A)) → HeldAndState p a → chunk_by_asks from eq c p None o q → HeldAndState q (next_group eq h a None) × OutcomeMade MadeGroup (group_outcome eq h a None) o
+    held_and_made_at_stop p a o q at w = let k = held_none_and_outcome_made_at_stop p.1 a o q.1 at.1 w.1 in ((w.0 ∙ at.0, k.0), k.1)
 
 no_failure_and_group_if_kept_at_stop : {A K E : Type 0} (g : Option (Group K A)) (o : Outcome (Group K A) E) (q : Option (Group K A)) → group_at_stop g o q → NoFailureAndIfKept (λ y. (k : K × List A) × MadeGroup k y) o
 no_failure_and_group_if_kept_at_stop (Some g) o q w = rw w.0 ((g.0, vec_items g.1), (refl, refl))
@@ -193,7 +193,7 @@ module _ {A K E : Type 0} (eq : K → K → Bool) (h : A → Result K E) where
   chunked_by_in_parts a e b = splits_at_failure_where_is_held_list (group_outcome eq h) (next_group eq h) None next_held_at_stop_none (λ a x is. group_outcome_by_is_no_end a (h x) is) (chunked_by eq h) listed_is_chunked_by a e b
 
 pub lists_up_to_refusal_chunked : {S F A K E : Type 0} {it : S} (m : Contract S A E) (from : AllocError → E → Type 0) (eq : K → K → Bool) (c : Mut F (Bor A × Unit {0}) (Result K E)) (f : F) (h : A → Result K E) → Acts (call_by_reference c) f h → (s : ChunkBy S K F A E) (l : List (Result A E)) → chunk_by_parts s ≡ (it, ((f, None), None)) → Lists m.steps it l → ListsMade MadeGroup (seen_as chunk_by_parts (chunk_by_contract from eq c m)).steps from s (chunked_by eq h l)
-lists_up_to_refusal_chunked {it = it} m from eq c f h acts s l parts i = lists_made_seen MadeGroup from chunk_by_parts (chunk_by_contract from eq c m).steps s _ _ _ parts (listed_is_chunked_by eq h l) (gives_made_of_held_list m.steps (chunk_by_asks from eq c) MadeGroup from (HeldAndState from eq c f h acts) (group_outcome eq h) (next_group eq h) (refuses_on_item from eq c f h acts) (at_on_stop from eq c f h acts) FullGroup (answers_held_chunk_by eq h) (made_at_stop from eq c) l it (f, None) None (refl, tt) i.runs)
+lists_up_to_refusal_chunked {it = it} m from eq c f h acts s l parts i = lists_made_seen MadeGroup from chunk_by_parts (chunk_by_contract from eq c m).steps s _ _ _ parts (listed_is_chunked_by eq h l) (gives_made_of_held_list m.steps (chunk_by_asks from eq c) MadeGroup from (HeldAndState from eq c f h acts) (group_outcome eq h) (next_group eq h) (refuses_on_item from eq c f h acts) (held_and_made_at_stop from eq c f h acts) FullGroup (answers_held_chunk_by eq h) (made_at_stop from eq c) l it (f, None) None (refl, tt) i.runs)
 
 -- ---- its hint
 

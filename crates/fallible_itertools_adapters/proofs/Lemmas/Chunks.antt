@@ -100,11 +100,11 @@ module _ {A E : Type 0} (from : AllocError → E → Type 0) (n : ℕ) where
   outcome_made_none_at_end None (x ∷ xs) h is = absurd h
   outcome_made_none_at_end (Some v) a h is = absurd cc
 
-  at_on_stop : (p : ℕ × Option (Vec A Global)) (a : List A) (o : Outcome (Vec A Global) E) (q : ℕ × Option (Vec A Global)) → HeldAndNumber p a → chunks_asks from p None o q → HeldAndNumber q (next_batch n a None) × OutcomeMade batch_made (batch_outcome n a None) o
-  at_on_stop p a (Kept w) q at (held, is) = (subst (λ k. HeldAndNumber k []) (sym is) (at.0, tt), outcome_made_held_at_end p.1 a w at.1 held)
-  at_on_stop p a LeftOut q at w = absurd w
-  at_on_stop p a (Failure e) q at w = absurd w
-  at_on_stop p a End q at (none, is) = (subst (λ k. HeldAndNumber k []) (sym is) (at.0, subst (λ k. HeldAs k []) (sym none) tt), outcome_made_none_at_end p.1 a at.1 none)
+  held_and_made_at_stop : (p : ℕ × Option (Vec A Global)) (a : List A) (o : Outcome (Vec A Global) E) (q : ℕ × Option (Vec A Global)) → HeldAndNumber p a → chunks_asks from p None o q → HeldAndNumber q (next_batch n a None) × OutcomeMade batch_made (batch_outcome n a None) o
+  held_and_made_at_stop p a (Kept w) q at (held, is) = (subst (λ k. HeldAndNumber k []) (sym is) (at.0, tt), outcome_made_held_at_end p.1 a w at.1 held)
+  held_and_made_at_stop p a LeftOut q at w = absurd w
+  held_and_made_at_stop p a (Failure e) q at w = absurd w
+  held_and_made_at_stop p a End q at (none, is) = (subst (λ k. HeldAndNumber k []) (sym is) (at.0, subst (λ k. HeldAs k []) (sym none) tt), outcome_made_none_at_end p.1 a at.1 none)
 
   made_at_stop : (p : ℕ × Option (Vec A Global)) (o : Outcome (Vec A Global) E) (q : ℕ × Option (Vec A Global)) → chunks_asks from p None o q → NoFailureAndIfKept (λ v. (xs : List A) × batch_made xs v) o
   made_at_stop p (Kept w) q h = (vec_items w, refl)
@@ -155,4 +155,4 @@ module _ {A E : Type 0} (from : AllocError → E → Type 0) (n : ℕ) where
   chunked_in_parts a e b = splits_at_failure_where_is_held_list (batch_outcome n) (next_batch n) [] next_held_at_stop_none (λ a x is. batch_outcome_at_is_no_end (a ++ x ∷ []) (ltb (length (a ++ x ∷ [])) n) is) (chunked n) held_list_is_chunked a e b
 
 pub lists_up_to_refusal_chunked : {S A E : Type 0} {it : S} (m : Contract S A E) (from : AllocError → E → Type 0) (n : ℕ) (s : Chunks S A E) (l : List (Result A E)) → chunks_parts s ≡ (it, ((n, None), None)) → Lists m.steps it l → ListsMade (λ xs v. vec_items v ≡ xs) (seen_as chunks_parts (chunks_contract from m)).steps from s (chunked n l)
-lists_up_to_refusal_chunked {it = it} m from n s l parts i = lists_made_seen (λ xs v. vec_items v ≡ xs) from chunks_parts (chunks_contract from m).steps s _ _ _ parts (held_list_is_chunked from n l) (gives_made_of_held_list m.steps (chunks_asks from) (λ xs v. vec_items v ≡ xs) from (HeldAndNumber from n) (batch_outcome n) (next_batch n) (refuses_on_item from n) (at_on_stop from n) FullBatch (answers_held_of_chunks from n) (made_at_stop from n) l it (n, None) [] (refl, tt) i.runs)
+lists_up_to_refusal_chunked {it = it} m from n s l parts i = lists_made_seen (λ xs v. vec_items v ≡ xs) from chunks_parts (chunks_contract from m).steps s _ _ _ parts (held_list_is_chunked from n l) (gives_made_of_held_list m.steps (chunks_asks from) (λ xs v. vec_items v ≡ xs) from (HeldAndNumber from n) (batch_outcome n) (next_batch n) (refuses_on_item from n) (held_and_made_at_stop from n) FullBatch (answers_held_of_chunks from n) (made_at_stop from n) l it (n, None) [] (refl, tt) i.runs)

@@ -18,7 +18,7 @@ use Rattle.fallible_iterator.specs.Interleaved.{Interleaved, of_neither, of_firs
 use Rattle.fallible_itertools_adapters.specs.Interleave.{InterleaveTrace, Turn, TurnsTrace, by_itself, by_other, interleave_contract, interleave_parts, interleave_step, interleaved, turn_answer, turn_draws, turns_drawn, waits_after}
 use Rattle.fallible_itertools_adapters.specs.Sides.{fused_steps}
 use Rattle.fallible_itertools_adapters.specs.declared.interleave.Interleave.{Interleave}
-use Rattle.fallible_itertools_adapters.proofs.Lemmas.Sides.{EndsOnce, ItemsCome, ItemsThenEnd, first_answer, answers_first_where_gives_for_good, gives_for_good_of_fresh, gives_for_good_where_each_answers_first, items_come_before_draw, rest_of, side_hint_above, side_hint_below}
+use Rattle.fallible_itertools_adapters.proofs.Lemmas.Sides.{NoItemAfterEnd, ItemsCome, ItemsThenEnd, first_answer, answers_first_where_gives_for_good, gives_for_good_of_fresh, gives_for_good_where_each_answers_first, items_come_before_draw, rest_of, side_hint_above, side_hint_below}
 
 -- ---- whole traces
 
@@ -179,7 +179,7 @@ module _ {S A E : Type 0} (steps : S → Answered A E → S → Type 0) where
   items_come_fewer : (p : S × Option A) (n m : ℕ) → m ≤ n → ItemsCome steps p n → ItemsCome steps p m
   items_come_fewer p n m le d = record { came = d.came; left = d.left; ran = d.ran; many = omega (arith, le, d.many) }
 
-  items_come_at_turn : EndsOnce steps → (b : Bool) (x : Turn A E) (z : A) (s t : S) (n : ℕ) → turn_answer x ≡ item z → Run steps s (turn_draws b x) t → ItemsCome steps (t, None) n → ItemsCome steps (s, None) (taken b x + n)
+  items_come_at_turn : NoItemAfterEnd steps → (b : Bool) (x : Turn A E) (z : A) (s t : S) (n : ℕ) → turn_answer x ≡ item z → Run steps s (turn_draws b x) t → ItemsCome steps (t, None) n → ItemsCome steps (s, None) (taken b x + n)
   items_come_at_turn once false (by_itself (Ok y)) z s t n is ran d = items_come_one_more_at_item s t y n ran d
   items_come_at_turn once false (by_itself (Err e)) z s t n is ran d = absurd cc
   items_come_at_turn once false (by_other r) z s t n is ran d = (items_come_before_draw steps once (s, None) ran.0 None None n (inl refl) ran.1 (subst (λ (u : S). ItemsCome steps (u, None) n) (sym ran.2) d)).0
@@ -216,7 +216,7 @@ module _ {S U A E : Type 0} (steps : S → Answered A E → S → Type 0) (other
   abbrev BothCome : S × U × Bool → ℕ → Type 0
   BothCome p n = (i : ℕ) × (j : ℕ) × ItemsCome steps (p.0, None) i × ItemsCome others (p.1, None) j × (n ≤ i + j)
 
-  both_come_in_turn : EndsOnce steps → EndsOnce others → (zs : List A) (p q : S × U × Bool) → Yields StepHere p zs q → BothCome p (length zs)
+  both_come_in_turn : NoItemAfterEnd steps → NoItemAfterEnd others → (zs : List A) (p q : S × U × Bool) → Yields StepHere p zs q → BothCome p (length zs)
   both_come_in_turn once also [] p q ran = (0, 0, record { came = []; left = p.0; ran = refl; many = omega arith }, record { came = []; left = p.1; ran = refl; many = omega arith }, omega arith)
   both_come_in_turn once also (z ∷ zs) p q ran =
       let m = ran.0 in
@@ -236,7 +236,7 @@ module _ {S U A E : Type 0} (steps : S → Answered A E → S → Type 0) (other
       let d = both_end_in_turn zs m q r ran.2 w in
       (taken p.2 x.0 + d.0, taken (not p.2) x.0 + d.1, items_end_at_turn steps p.2 x.0 z p.0 m.0 d.0 (sym x.4) x.1 d.2, items_end_at_turn others (not p.2) x.0 z p.1 m.1 d.1 (sym x.4) x.2 d.3, omega (arith, taken_of_both_sides_is_one p.2 x.0, d.4))
 
-  pub as_sound_as_both_interleave : EndsOnce steps → EndsOnce others → (p : S × U × Bool) (h g k : ℕ × Option ℕ) → h ≡ hint_sum g k → AsSoundAsBoth StepHere p h steps p.0 g others p.1 k
+  pub as_sound_as_both_interleave : NoItemAfterEnd steps → NoItemAfterEnd others → (p : S × U × Bool) (h g k : ℕ × Option ℕ) → h ≡ hint_sum g k → AsSoundAsBoth StepHere p h steps p.0 g others p.1 k
   as_sound_as_both_interleave once also p h g k is = rw is (record {
     above = λ i j zs q ran.
         let b = both_come_in_turn once also zs p q ran in

@@ -21,7 +21,7 @@ use Rattle.fallible_itertools_adapters.specs.Laws.ZipLongest.{is_lawful_rule_lon
 use Rattle.fallible_itertools_adapters.specs.PadUsing.{beside_index_contract, both_sides, from_index, index_step, pad_call, pad_takes, pad_using_contract, pad_using_fused, pad_using_parts, padded}
 use Rattle.fallible_itertools_adapters.specs.Sides.{fused_contract, fused_steps}
 use Rattle.fallible_itertools_adapters.specs.ZipLongest.{longest_rule, right_alone, zipped_longest}
-use Rattle.fallible_itertools_adapters.proofs.Lemmas.Sides.{EndsOnce, ends_once_fused, first_answer, gives_for_good_of_fresh, gives_for_good_where_each_answers_first, gives_for_good_sides, rest_of}
+use Rattle.fallible_itertools_adapters.proofs.Lemmas.Sides.{NoItemAfterEnd, no_item_after_end_of_fused, first_answer, gives_for_good_of_fresh, gives_for_good_where_each_answers_first, gives_for_good_sides, rest_of}
 use Rattle.fallible_itertools_adapters.proofs.Lemmas.ZipLongest.{as_sound_as_both_zip_longest, lists_by_longest}
 use Rattle.fallible_itertools_adapters.specs.declared.pad_using.PadUsing.{PadUsing}
 use Rattle.fallible_itertools_adapters.specs.declared.zip_longest.EitherOrBoth.{EitherOrBoth}
@@ -54,8 +54,8 @@ module _ (E : Type 0) where
   item_within_indices_advances : (p q : ℕ × ℕ) (i : ℕ) → IndexSteps p (item i) q → (p.0 < p.1) × (q ≡ (suc p.0, p.1))
   item_within_indices_advances p q i step = elim step [ inl d ↦ (d.0, d.2) | inr d ↦ absurd (let no = d.1 in cc) ]
 
-  ends_once_index : EndsOnce IndexSteps
-  ends_once_index p q r i w v = let e = end_past_indices p q w in let d = item_within_indices_advances q r i v in let same : q ≡ p = e.1 in let few = e.0 in let some : p.0 < p.1 = subst (λ (z : ℕ × ℕ). z.0 < z.1) same d.0 in omega (arith, few, some)
+  no_item_after_end_of_indices : NoItemAfterEnd IndexSteps
+  no_item_after_end_of_indices p q r i w v = let e = end_past_indices p q w in let d = item_within_indices_advances q r i v in let same : q ≡ p = e.1 in let few = e.0 in let some : p.0 < p.1 = subst (λ (z : ℕ × ℕ). z.0 < z.1) same d.0 in omega (arith, few, some)
 
   -- each item is one of those that are left
   indices_left_after : (xs : List ℕ) (p q : ℕ × ℕ) → Yields IndexSteps p xs q → p.1 - p.0 ≡ length xs + (q.1 - q.0)
@@ -137,7 +137,7 @@ lists_padded {E = E} {p = p} m g s f n it h l parts fresh acts i =
 pub hints_as_sound_pad_using : {S F A E : Type 0} (m : Contract S A E) (g : Mut F (ℕ × Unit {0}) (Result A E)) (s : PadUsing S F) → HintsAsSoundAs (seen_as pad_using_parts (pad_using_contract m g)) s (fused_contract m) (pad_using_fused s)
 hints_as_sound_pad_using {E = E} m g s h is =
     let p = pad_using_parts s in
-    let both = as_sound_as_both_seen both_sides _ p.0 h (as_sound_as_both_zip_longest (fused_steps m.steps) (IndexSteps E) (ends_once_fused m.steps) (ends_once_index E) (both_sides p.0) h is.0 is.1 is.4) in
+    let both = as_sound_as_both_seen both_sides _ p.0 h (as_sound_as_both_zip_longest (fused_steps m.steps) (IndexSteps E) (no_item_after_end_of_fused m.steps) (no_item_after_end_of_indices E) (both_sides p.0) h is.0 is.1 is.4) in
     let right : Brackets (IndexSteps E) p.0.1 is.1 = subst (λ (k : ℕ × Option ℕ). Brackets (IndexSteps E) p.0.1 k) (sym is.3) (brackets_indices E p.0.1) in
     let through = as_sound_seen pad_using_parts _ s h (as_sound_where_one_of_one _ _ _ _ (one_of_one_passing (beside_index_contract m).steps (pad_call g) map_outcome leaves_none_out_of_map map_never_ends) p tt h) in
     (is.0, is.2, record { above = λ a. through.above (both.above a right.above); below = λ b. through.below (both.below b right.below) })

@@ -294,8 +294,8 @@ side_hint_above None g n j few le = if_some_at_least_of_smaller g.1 n j (omega (
 -- ---- items that come of a fused side
 
 -- Once a draw returned an end, none returns an item.
-abbrev pub EndsOnce : {S A E : Type 0} → (S → Answered A E → S → Type 0) → Type 0
-EndsOnce {S = S} {A = A} steps = (s t u : S) (x : A) → steps s end t → steps t (item x) u → ⊥
+abbrev pub NoItemAfterEnd : {S A E : Type 0} → (S → Answered A E → S → Type 0) → Type 0
+NoItemAfterEnd {S = S} {A = A} steps = (s t u : S) (x : A) → steps s end t → steps t (item x) u → ⊥
 
 no_item_after_closing_end : {S A E : Type 0} (steps : S → Answered A E → S → Type 0) (p q r : S × Bool) (x : A) → closing_step steps (λ a. a) is_end p end q → closing_step steps (λ a. a) is_end q (item x) r → ⊥
 no_item_after_closing_end steps (s, true) (t, true) r x w v = let no = v.0 in cc
@@ -303,8 +303,8 @@ no_item_after_closing_end steps (s, true) (t, false) r x w v = let no = w.2 in c
 no_item_after_closing_end steps (s, false) (t, true) r x w v = let no = v.0 in cc
 no_item_after_closing_end steps (s, false) (t, false) r x w v = let end_is : end ≡ w.0 = w.2 in let no : false ≡ is_end w.0 = w.3 in cc
 
-pub ends_once_fused : {S A E : Type 0} (steps : S → Answered A E → S → Type 0) → EndsOnce (fused_steps steps)
-ends_once_fused steps s t u x w v = no_item_after_closing_end steps (fuse_parts s) (fuse_parts t) (fuse_parts u) x w v
+pub no_item_after_end_of_fused : {S A E : Type 0} (steps : S → Answered A E → S → Type 0) → NoItemAfterEnd (fused_steps steps)
+no_item_after_end_of_fused steps s t u x w v = no_item_after_closing_end steps (fuse_parts s) (fuse_parts t) (fuse_parts u) x w v
 
 -- From the side come items, and they and its held item are n at least.
 pub record ItemsCome {S A E : Type 0} (steps : S → Answered A E → S → Type 0) (p : S × Option A) (n : ℕ) : Type 0 where
@@ -318,7 +318,7 @@ abbrev pub IfEnded : {A : Type 0} → Option A → ℕ → Type 0
 IfEnded (Some x) n = ⊤
 IfEnded None n = n ≡ 0
 
-module _ {S A E : Type 0} (steps : S → Answered A E → S → Type 0) (once : EndsOnce steps) where
+module _ {S A E : Type 0} (steps : S → Answered A E → S → Type 0) (once : NoItemAfterEnd steps) where
   none_after_end : (s t u : S) (xs : List A) → steps s end t → Yields steps t xs u → length xs ≤ 0
   none_after_end s t u [] w ran = omega arith
   none_after_end s t u (x ∷ xs) w ran = absurd (once s t ran.0 x w ran.1)
@@ -334,7 +334,7 @@ module _ {S A E : Type 0} (steps : S → Answered A E → S → Type 0) (once : 
 abbrev pub TakesAsMany : {A B C E F V : Type 0} → Rule A B C E F V → (ℕ → ℕ → ℕ) → Type 0
 TakesAsMany {A} {B} {C} {E} {F} {V} rule many = (f g : F) (x : Option A) (y : Option B) (v : V) (z : C) (i j : ℕ) → rule.decides f x y v g → rule.answer x y v ≡ item z → IfEnded x i → IfEnded y j → many i j + 1 ≤ many ((held_count x - held_count (rule.left_held x y v)) + i) ((held_count y - held_count (rule.right_held x y v)) + j)
 
-module _ {S U A B C E F V : Type 0} (steps : S → Answered A E → S → Type 0) (others : U → Answered B E → U → Type 0) (once : EndsOnce steps) (once_right : EndsOnce others) (rule : Rule A B C E F V) (many : ℕ → ℕ → ℕ) (by : TakesAsMany rule many) (lawful : IsLawfulRule rule) where
+module _ {S U A B C E F V : Type 0} (steps : S → Answered A E → S → Type 0) (others : U → Answered B E → U → Type 0) (once : NoItemAfterEnd steps) (once_right : NoItemAfterEnd others) (rule : Rule A B C E F V) (many : ℕ → ℕ → ℕ) (by : TakesAsMany rule many) (lawful : IsLawfulRule rule) where
   -- Items come of both sides, and they make n at least.
   pub record BothCome (p : SidesState steps others rule) (n : ℕ) : Type 0 where
     pub of_left : ℕ

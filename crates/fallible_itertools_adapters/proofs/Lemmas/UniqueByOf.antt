@@ -96,9 +96,9 @@ module _ {A K E : Type 0} (eq : K → K → Bool) (equivalence : IsEquivalence e
   abbrev Unseen : List K → K → Type 0
   Unseen keys k = is_member eq keys k ≡ false
 
-  find_past : (q : K) (x : A) (k : K) (keys : List K) (xs : List A) (b : Bool) → eq q k ≡ b → is_member eq keys k ≡ true → Unseen keys q → find (has_key eq h q) xs ≡ cond b (Some x) (find (has_key eq h q) xs)
-  find_past q x k keys xs true e is unseen = absurd (equal_to_seen_is_not_unseen eq equivalence q k keys e is unseen)
-  find_past q x k keys xs false e is unseen = refl
+  find_is_same_past_seen_key : (q : K) (x : A) (k : K) (keys : List K) (xs : List A) (b : Bool) → eq q k ≡ b → is_member eq keys k ≡ true → Unseen keys q → find (has_key eq h q) xs ≡ cond b (Some x) (find (has_key eq h q) xs)
+  find_is_same_past_seen_key q x k keys xs true e is unseen = absurd (equal_to_seen_is_not_unseen eq equivalence q k keys e is unseen)
+  find_is_same_past_seen_key q x k keys xs false e is unseen = refl
 
   found_first_or_rest_agrees_by_key : (q : K) (x : A) (k : K) (keys : List K) (xs ys : List A) (b : Bool) → eq q k ≡ b → Unseen keys q → (Unseen (k ∷ keys) q → find (has_key eq h q) xs ≡ find (has_key eq h q) ys) → cond b (Some x) (find (has_key eq h q) xs) ≡ cond b (Some x) (find (has_key eq h q) ys)
   found_first_or_rest_agrees_by_key q x k keys xs ys true e unseen more = refl
@@ -109,7 +109,7 @@ module _ {A K E : Type 0} (eq : K → K → Bool) (equivalence : IsEquivalence e
   FoundFrom q x l v made = find (has_key eq h q) (items_listed made) ≡ cond (is_key eq q v) (Some x) (find (has_key eq h q) (items_listed l))
 
   found_from_first_of_equal : (q : K) (x : A) (k : K) (keys : List K) (l same other : List (Result A E)) (b : Bool) → h x ≡ Ok k → is_member eq keys k ≡ b → Unseen keys q → find (has_key eq h q) (items_listed same) ≡ find (has_key eq h q) (items_listed l) → (Unseen (k ∷ keys) q → find (has_key eq h q) (items_listed other) ≡ find (has_key eq h q) (items_listed l)) → FoundFrom q x l (Ok k) (first_of_equal x b same other)
-  found_from_first_of_equal q x k keys l same other true has is unseen found more = found ∙ find_past q x k keys (items_listed l) (eq q k) refl is unseen
+  found_from_first_of_equal q x k keys l same other true has is unseen found more = found ∙ find_is_same_past_seen_key q x k keys (items_listed l) (eq q k) refl is unseen
   found_from_first_of_equal q x k keys l same other false has is unseen found more = ap (λ (v : Result K E). cond (is_key eq q v) (Some x) (find (has_key eq h q) (items_listed other))) has ∙ found_first_or_rest_agrees_by_key q x k keys (items_listed other) (items_listed l) (eq q k) refl unseen more
 
   found_from_first_of_key : (q : K) (x : A) (keys : List K) (l : List (Result A E)) (v : Result K E) → h x ≡ v → Unseen keys q → ((more : List K) → Unseen more q → find (has_key eq h q) (items_listed (unique_key_from eq h more l)) ≡ find (has_key eq h q) (items_listed l)) → FoundFrom q x l v (first_of_key eq keys x v (λ more. unique_key_from eq h more l))

@@ -82,16 +82,16 @@ module _ {A : Type 0} (eq : A → A → Bool) (equivalence : IsEquivalence eq) w
   pub equal_to_seen_is_not_unseen : (q x : A) (seen : List A) → eq q x ≡ true → is_member eq seen x ≡ true → Unseen seen q → ⊥
   equal_to_seen_is_not_unseen q x seen e is unseen = let k = list_any_congr equivalence q x seen e in cc
 
-  find_past : (q x : A) (seen xs : List A) (b : Bool) → eq q x ≡ b → is_member eq seen x ≡ true → Unseen seen q → find (eq q) xs ≡ cond b (Some x) (find (eq q) xs)
-  find_past q x seen xs true e is unseen = absurd (equal_to_seen_is_not_unseen q x seen e is unseen)
-  find_past q x seen xs false e is unseen = refl
+  find_is_same_past_seen_item : (q x : A) (seen xs : List A) (b : Bool) → eq q x ≡ b → is_member eq seen x ≡ true → Unseen seen q → find (eq q) xs ≡ cond b (Some x) (find (eq q) xs)
+  find_is_same_past_seen_item q x seen xs true e is unseen = absurd (equal_to_seen_is_not_unseen q x seen e is unseen)
+  find_is_same_past_seen_item q x seen xs false e is unseen = refl
 
   found_first_or_rest_agrees : (q x : A) (seen xs ys : List A) (b : Bool) → eq q x ≡ b → Unseen seen q → (Unseen (x ∷ seen) q → find (eq q) xs ≡ find (eq q) ys) → cond b (Some x) (find (eq q) xs) ≡ cond b (Some x) (find (eq q) ys)
   found_first_or_rest_agrees q x seen xs ys true e unseen more = refl
   found_first_or_rest_agrees q x seen xs ys false e unseen more = more (ap (λ (a : Bool). a || is_member eq seen q) e ∙ unseen)
 
   find_in_first_of_equal : {E : Type 0} (q x : A) (seen : List A) (b : Bool) (same other l : List (Result A E)) → is_member eq seen x ≡ b → Unseen seen q → find (eq q) (items_listed same) ≡ find (eq q) (items_listed l) → (Unseen (x ∷ seen) q → find (eq q) (items_listed other) ≡ find (eq q) (items_listed l)) → find (eq q) (items_listed (first_of_equal x b same other)) ≡ cond (eq q x) (Some x) (find (eq q) (items_listed l))
-  find_in_first_of_equal q x seen true same other l is unseen found more = found ∙ find_past q x seen (items_listed l) (eq q x) refl is unseen
+  find_in_first_of_equal q x seen true same other l is unseen found more = found ∙ find_is_same_past_seen_item q x seen (items_listed l) (eq q x) refl is unseen
   find_in_first_of_equal q x seen false same other l is unseen found more = found_first_or_rest_agrees q x seen (items_listed other) (items_listed l) (eq q x) refl unseen more
 
   find_in_unique_from : {E : Type 0} (seen : List A) (l : List (Result A E)) (q : A) → Unseen seen q → find (eq q) (items_listed (unique_from eq seen l)) ≡ find (eq q) (items_listed l)

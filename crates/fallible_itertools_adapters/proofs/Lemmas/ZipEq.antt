@@ -19,7 +19,7 @@ use Rattle.fallible_itertools_adapters.specs.ZipEq.{AsksWhereAlone, ZipEqTrace, 
 use Rattle.fallible_itertools_adapters.specs.ZipLongest.{longest, zipped_longest}
 use Rattle.fallible_itertools_adapters.specs.declared.zip_eq.ZipEq.{ZipEq}
 use Rattle.fallible_itertools_adapters.specs.declared.zip_longest.EitherOrBoth.{EitherOrBoth}
-use Rattle.fallible_itertools_adapters.proofs.Lemmas.Sides.{first_answer, rest_of, EndsOnce, ListsBy, gives_for_good_of_fresh, gives_for_good_sides, GivesAsMany, TakesAsMany, both_come, both_end, side_hint_above, side_hint_below, SidesStep, traces_are_of_sides}
+use Rattle.fallible_itertools_adapters.proofs.Lemmas.Sides.{first_answer, rest_of, NoItemAfterEnd, ListsBy, gives_for_good_of_fresh, gives_for_good_sides, GivesAsMany, TakesAsMany, both_come, both_end, side_hint_above, side_hint_below, SidesStep, traces_are_of_sides}
 use Rattle.fallible_itertools_adapters.proofs.Lemmas.ZipLongest.{lists_by_longest}
 
 module _ {A B E : Type 0} (e : E) where
@@ -99,7 +99,7 @@ module _ {S U F A B E : Type 0} (steps : S → Answered A E → S → Type 0) (o
   abbrev PairSteps : (S × Option A) × (U × Option B) × F → Answered (A × B) E → (S × Option A) × (U × Option B) × F → Type 0
   PairSteps = SidesStep steps others (pair_rule call takes)
 
-  pub as_sound_as_both_pair : EndsOnce steps → EndsOnce others → (p : (S × Option A) × (U × Option B) × F) (h g k : ℕ × Option ℕ) → h ≡ hint_smaller (side_hint p.0.1 g) (side_hint p.1.1 k) → AsSoundAsBoth PairSteps p h steps p.0.0 g others p.1.0 k
+  pub as_sound_as_both_pair : NoItemAfterEnd steps → NoItemAfterEnd others → (p : (S × Option A) × (U × Option B) × F) (h g k : ℕ × Option ℕ) → h ≡ hint_smaller (side_hint p.0.1 g) (side_hint p.1.1 k) → AsSoundAsBoth PairSteps p h steps p.0.0 g others p.1.0 k
   as_sound_as_both_pair once once_right p h g k is = rw is (record {
     above = λ i j zs q ran.
         let b = both_come steps others once once_right (pair_rule call takes) min (takes_as_many_pair call takes) (is_lawful_rule_pair call takes) zs p q ran in

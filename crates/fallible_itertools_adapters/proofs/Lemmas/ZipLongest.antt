@@ -13,7 +13,7 @@ use Rattle.fallible_iterator.specs.Fuse.{Fuse}
 use Rattle.fallible_itertools_adapters.specs.Sides.{fused_steps, side_hint}
 use Rattle.fallible_itertools_adapters.specs.ZipLongest.{greater_bound, hint_greater, longest, longest_rule, zip_longest_parts, zip_longest_contract, ZipLongestTrace, zipped_longest}
 use Rattle.fallible_itertools_adapters.specs.Laws.ZipLongest.{is_lawful_rule_longest}
-use Rattle.fallible_itertools_adapters.proofs.Lemmas.Sides.{first_answer, rest_of, left_over, EndsOnce, IfEnded, ListsBy, gives_for_good_of_fresh, gives_for_good_sides, GivesAsMany, TakesAsMany, both_come, both_end, side_hint_above, side_hint_below, SidesStep, traces_are_of_sides}
+use Rattle.fallible_itertools_adapters.proofs.Lemmas.Sides.{first_answer, rest_of, left_over, NoItemAfterEnd, IfEnded, ListsBy, gives_for_good_of_fresh, gives_for_good_sides, GivesAsMany, TakesAsMany, both_come, both_end, side_hint_above, side_hint_below, SidesStep, traces_are_of_sides}
 use Rattle.fallible_itertools_adapters.specs.declared.zip_longest.EitherOrBoth.{EitherOrBoth}
 use Rattle.fallible_itertools_adapters.specs.declared.zip_longest.ZipLongest.{ZipLongest}
 
@@ -86,7 +86,7 @@ module _ {S U A B E : Type 0} (steps : S → Answered A E → S → Type 0) (oth
   abbrev ZippedSteps : (S × Option A) × (U × Option B) × Unit {0} → Answered (EitherOrBoth A B) E → (S × Option A) × (U × Option B) × Unit {0} → Type 0
   ZippedSteps = SidesStep steps others (longest_rule {A = A} {B = B} {E = E})
 
-  pub as_sound_as_both_zip_longest : EndsOnce steps → EndsOnce others → (p : (S × Option A) × (U × Option B) × Unit {0}) (h g k : ℕ × Option ℕ) → h ≡ hint_greater (side_hint p.0.1 g) (side_hint p.1.1 k) → AsSoundAsBoth ZippedSteps p h steps p.0.0 g others p.1.0 k
+  pub as_sound_as_both_zip_longest : NoItemAfterEnd steps → NoItemAfterEnd others → (p : (S × Option A) × (U × Option B) × Unit {0}) (h g k : ℕ × Option ℕ) → h ≡ hint_greater (side_hint p.0.1 g) (side_hint p.1.1 k) → AsSoundAsBoth ZippedSteps p h steps p.0.0 g others p.1.0 k
   as_sound_as_both_zip_longest once once_right p h g k is = rw is (record {
     above = λ i j zs q ran.
         let b = both_come steps others once once_right longest_rule max takes_as_many_longest is_lawful_rule_longest zs p q ran in

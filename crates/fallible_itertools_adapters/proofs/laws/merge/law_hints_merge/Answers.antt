@@ -3,8 +3,8 @@ use Rattle.std.specs.Prelude.{⊤}
 use Rattle.fallible_iterator.proofs.Lemmas.Hints.Drawn.{as_sound_as_both_seen}
 use Rattle.fallible_itertools_adapters.specs.Merge.{merge_parts, says_in_order}
 use Rattle.fallible_itertools_adapters.proofs.Lemmas.MergeBy.{as_sound_as_both_merge}
-use Rattle.fallible_itertools_adapters.proofs.Lemmas.Sides.{ends_once_fused}
+use Rattle.fallible_itertools_adapters.proofs.Lemmas.Sides.{no_item_after_end_of_fused}
 use Rattle.fallible_itertools_adapters.proofs.laws.merge.law_hints_merge.Goals as goal
 
 pub returns : goal.returns
-returns g c = λ s h is. (is.0, is.1, is.2, is.3, as_sound_as_both_seen merge_parts _ s h (as_sound_as_both_merge _ _ (says_in_order g.T.Item.PartialOrd.partial_cmp) (λ f x y. ⊤) (ends_once_fused g.T.FallibleIterator.contract.steps) (ends_once_fused g.U.FallibleIterator.contract.steps) (merge_parts s) h is.0 is.1 is.4))
+returns g c = λ s h is. (is.0, is.1, is.2, is.3, as_sound_as_both_seen merge_parts _ s h (as_sound_as_both_merge _ _ (says_in_order g.T.Item.PartialOrd.partial_cmp) (λ f x y. ⊤) (no_item_after_end_of_fused g.T.FallibleIterator.contract.steps) (no_item_after_end_of_fused g.U.FallibleIterator.contract.steps) (merge_parts s) h is.0 is.1 is.4))
