@@ -1,4 +1,4 @@
-//! Uses of `fallible_iterator` that a reader recognises: a binary table, sorted sources, rows of a client, pages, lines, tokens. Each states what it computes as far as the contracts of the calls allow.
+//! Uses of `fallible_iterator` that a reader recognises: sorted sources, rows of a client, pages, lines, a lexer, sums of tokens. Each states what it computes as far as the contracts of the calls allow.
 #![tactic(auto)]
 
 pub mod client;
