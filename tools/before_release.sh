@@ -14,7 +14,7 @@ cd "$(dirname "$0")/.."
 steps() {
     cat <<'END'
 version|tools/version.sh|at once
-edits|tools/release_edits.sh|13 to 48 s an edit, and the proof of each crate that has some
+edits|tools/edits --release|an hour, and the proof of each crate that has some
 pairs|tools/release_pairs.sh|three builds of minutes each
 devices|tools/closed_devices.sh|a minute, once count_rows is proved
 tables|tools/table_runs.sh|a minute, once sum_table and sum_groups are proved
@@ -47,7 +47,9 @@ while IFS='|' read -r name command _ <&3; do
     [ $# -eq 0 ] || [[ " $* " = *" $name "* ]] || continue
     echo "== $name: $command"
     SECONDS=0
-    if "$command" </dev/null; then
+    # (a command may have words after its name)
+    # shellcheck disable=SC2086
+    if $command </dev/null; then
         passed=$((passed + 1))
         echo "== $name: passed, $SECONDS s"
     else

@@ -1,19 +1,29 @@
 #!/usr/bin/env bash
-# Copies the files of the working tree, without what git ignores, to COPY, and lays the crates of release/ that are named into it:
+# Copies the files of the working tree, without what git ignores, to COPY, and lays the crates that are named into it:
 #
 #     tools/lay.sh COPY NAME..
 #
-# What the gate doesn't prove stands in release/NAME: its .rt and .antt files have .txt after their names, since the
-# gate refuses such a file that no crate reads, and `stands_on` names the crates below it.
+# `tests` stands for all crates of tests/.
+#
+# What the gate doesn't prove stands in release/NAME or tests/NAME: its .rt and .antt files have .txt after their names, since
+# the gate refuses such a file that no crate reads, and `stands_on` names the crates below it.
 set -eu
 cd "$(dirname "$0")/.."
 copy=$1
+names=()
 shift
 git ls-files -z --cached --others --exclude-standard |
     tar --null --files-from=- --ignore-failed-read -c 2>/dev/null | tar -x -C "$copy"
 for name in "$@"; do
+    if [ "$name" = tests ]; then
+        names+=($(ls "$copy/tests"))
+    else
+        names+=("$name")
+    fi
+done
+for name in "${names[@]}"; do
     laid="$copy/crates/$name"
-    mv "$copy/release/$name" "$laid"
+    mv "$copy/$([ -d "$copy/tests/$name" ] && echo tests || echo release)/$name" "$laid"
     find "$laid" -name '*.txt' | while IFS= read -r file; do
         mv "$file" "${file%.txt}"
     done

@@ -1,25 +1,31 @@
 #!/usr/bin/env bash
 # Runs every test and every program of the repository without a proof, by `rt try`, and says a line for each crate, as
 # '7 of 26: test_examples: 9 passed, 0 failed'. It is no gate: what it passes is tested, and not proved. With names it runs
-# these crates alone. The last line is 'N passed, M failed'; the status is 0 where none failed. A test and a program have
-# ten minutes each, so that a busy machine fails none.
+# these crates alone; `tests` stands for those of tests/. The last line is 'N passed, M failed'; the status is 0 where none
+# failed. A test and a program have ten minutes each, so that a busy machine fails none.
 #
-# A program passes where it prints what its file `stdout` says of what its file `stdin` has.
+# A crate with tests passes where as many pass as its files have. A program passes where it prints what its file `stdout`
+# says of what its file `stdin` has.
 set -u
 cd "$(dirname "$0")/.."
 work=$(mktemp -d)
 trap 'rm -rf "$work"' EXIT
 mkdir "$work/copy" "$work/said" "$work/done"
-tools/lay.sh "$work/copy" examples scripts drive_refused_memory fallible_speed elf_walk || exit 1
+tools/lay.sh "$work/copy" tests examples scripts drive_refused_memory fallible_speed elf_walk || exit 1
 
 # Runs the tests of the crate $1, or its program, and says a line.
 run_crate() {
     local crate="$work/copy/crates/$1" said="$work/said/$1" status=0
     cd "$crate" || return
-    if grep -rqs '#\[test\]' src; then
+    local tests
+    tests=$(grep -rhE '^ *#\[test\]' src | wc -l)
+    if [ "$tests" -gt 0 ]; then
         rt try --test --seconds 600 >"$said" 2>&1 || status=$?
         sed -nE 's/^test result: \w+\. ([0-9]+) passed; ([0-9]+) failed.*/'"$1"': \1 passed, \2 failed/p' "$said" >"$said.line"
-        [ -s "$said.line" ] || echo "$1: 0 passed, 1 failed" >"$said.line"
+        if [ ! -s "$said.line" ] || grep -q ' 0 failed' "$said.line" && [ "$(cat "$said.line")" != "$1: $tests passed, 0 failed" ]; then
+            echo "$1 has $tests tests, and ran others:" >>"$said"
+            echo "$1: 0 passed, 1 failed" >"$said.line"
+        fi
     else
         rt try --steps 1 --seconds 600 <"$( [ -f stdin ] && echo stdin || echo /dev/null )" >"$said" 2>"$said.told" || status=$?
         if [ "$status" = 0 ] && cmp -s "$said" stdout; then
@@ -36,7 +42,14 @@ run_crate() {
 export -f run_crate
 export work
 
-names=("$@")
+names=()
+for name in "$@"; do
+    if [ "$name" = tests ]; then
+        names+=($(ls tests))
+    else
+        names+=("$name")
+    fi
+done
 if [ $# -eq 0 ]; then
     # The programs first, since some run for long.
     mapfile -t names < <(cd "$work/copy/crates" && ls -S */src/main.rt | cut -d/ -f1; cd "$work/copy/crates" && grep -rl '#\[test\]' */src | cut -d/ -f1 | sort -u)

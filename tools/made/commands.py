@@ -5,7 +5,7 @@ import re
 # The ending of a script by the program that its first line names.
 ENDING = {"#!/usr/bin/env bash": ".sh", "#!/usr/bin/env python3": ""}
 
-STEP = re.compile(r"^(\w+)\|(tools/\S+)\|(.+)$", re.MULTILINE)
+STEP = re.compile(r"^(\w+)\|(tools/[^|\n]+)\|(.+)$", re.MULTILINE)
 USED = re.compile(r"\b((?:tools|release)/[\w.-]+)((?:/[\w.-]+)*\b)")
 
 
@@ -20,9 +20,9 @@ def release(top):
     lines = ["| Step | Command | What it does | With | How long |\n|---|---|---|---|---|"]
     path = top / "tools" / "before_release.sh"
     for step, command, time in STEP.findall(path.read_text(encoding="utf-8")) if path.is_file() else []:
-        text = (top / command).read_text(encoding="utf-8")
+        text = (top / command.split()[0]).read_text(encoding="utf-8")
         found = {name.rstrip(".") for name, below in USED.findall(text) if (top / f"{name.rstrip('.')}{below}").exists()}
-        used = sorted(found - {command})
+        used = sorted(found - {command.split()[0]})
         lines.append(f"| {step} | `{command}` | {purpose(text)} | {', '.join(f'`{name}`' for name in used)} | {time} |")
     return lines
 

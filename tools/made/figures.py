@@ -19,13 +19,13 @@ def figures(crates):
     rows = list(callers(crates))
     laws = list((crates / "fallible_iterator" / "src" / "laws").rglob("*.rt"))
     return {
-        "edits": len(list(crates.glob("*/must-fail/*.edit"))),
+        "edits": len(list(crates.glob("*/gate-edits/*.edit"))),
         "release edits": len(list(crates.glob("*/release-edits/*.edit"))),
         "callers": len(rows),
         "callers with no proof": sum(1 for row in rows if not row[4]),
         "callers with a law": sum(1 for row in rows if row[5]),
         "laws": count_of(r"pub fn law_", laws),
-        "tests": count_of(r"\s*#\[test\]", crates.glob("*/src/**/*.rt")),
+        "tests": count_of(r"\s*#\[test\]", [*crates.glob("*/src/**/*.rt"), *(crates.parent / "tests").glob("*/src/**/*.rt.txt")]),
     }
 
 

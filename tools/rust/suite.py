@@ -19,6 +19,8 @@ SUITES = {
         "fallible_scripts", "test_calls_itertools",
     ],
 }
+# Where they are. The files of those in `tests` end in .rt.txt.
+FOLDERS = ("crates", "tests")
 # Modules that are left out: a program's words and files come by Rattle's own runtime, tallies stand on fallible_itertools, and fallible_json fails where memory is refused.
 MODULES_LEFT_OUT = {"program_io/arguments.rs", "test_rows/tallies.rs", "test_programs/json_texts.rs"}
 # Items that are left out, with those that use them: a pattern of their text, and why.
@@ -38,11 +40,11 @@ LEFT_OUT = [
 
 def modules(top, crate, count):
     """The suite's files by path. `count` gets how many tests there are, and are left out for each reason."""
-    files, crates = {}, [x for x in SUITES[crate] if (top / "crates" / x / "src").is_dir()]
+    files, crates = {}, [x for x in SUITES[crate] if any((top / f / x / "src").is_dir() for f in FOLDERS)]
     for source in crates:
-        src = top / "crates" / source / "src"
-        for path in sorted(src.rglob("*.rt")):
-            rel = path.relative_to(src).with_suffix(".rs")
+        src = next(top / f / source / "src" for f in FOLDERS if (top / f / source / "src").is_dir())
+        for path in sorted([*src.rglob("*.rt"), *src.rglob("*.rt.txt")]):
+            rel = (path.parent / path.name.split(".")[0]).relative_to(src).with_suffix(".rs")
             rel = source + ".rs" if str(rel) == "lib.rs" else "%s/%s" % (source, rel)
             text = read(path, str(path.relative_to(top)))
             if rel in MODULES_LEFT_OUT:

@@ -1,6 +1,0 @@
--- The calls so far keep what draws keep.
-use Rattle.fallible_iterator.specs.Contract.{KeptByDraws}
-use Rattle.test_adapters.proofs.one_to_one.expect_numbered.Given as goal
-
-abbrev pub invariant-loop-call : goal.invariant-loop-call
-invariant-loop-call g l = KeptByDraws g.I.FallibleIterator.contract l.fn.it l.it
