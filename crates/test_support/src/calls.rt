@@ -11,11 +11,11 @@ pub struct Calls {
     pub folds: u32,
     /// of `drive_back`
     pub rfolds: u32,
-    /// of `drive_count`
+    /// of `drive_to` for `count`
     pub counts: u32,
-    /// of `drive_last`
+    /// of `drive_to` for `last`
     pub lasts: u32,
-    /// of `drive_nth`
+    /// of `drive_to` for `nth`
     pub nths: u32,
     /// of `drive_find`
     pub finds: u32,

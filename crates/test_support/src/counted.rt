@@ -6,7 +6,7 @@ ghost use Rattle.fallible_iterator.specs.Laws.Contract.{lawful_seen};
 ghost use Rattle.fallible_iterator.specs.Laws.Ends.{lawful_ends_seen};
 
 use crate::calls::Calls;
-use fallible_iterator::{DoubleEndedFallibleIterator, FallibleIterator, Test, Turn};
+use fallible_iterator::{DoubleEndedFallibleIterator, FallibleIterator, Goal, Test, Turn};
 use std::cell::Cell;
 
 /// How often each call came from outside. A call that types override counts as the one that callers make of it.
@@ -20,11 +20,11 @@ pub struct Log {
     pub folds: Cell<u32>,
     /// of `drive_back`, through which `try_rfold` and `rfold` go
     pub rfolds: Cell<u32>,
-    /// of `drive_count`, through which `count` goes
+    /// of `drive_to` for `count`
     pub counts: Cell<u32>,
-    /// of `drive_last`, through which `last` goes
+    /// of `drive_to` for `last`
     pub lasts: Cell<u32>,
-    /// of `drive_nth`, through which `nth` goes
+    /// of `drive_to` for `nth`
     pub nths: Cell<u32>,
     /// of `drive_find`, through which `find` goes
     pub finds: Cell<u32>,
@@ -120,28 +120,16 @@ impl<'a, I: FallibleIterator> FallibleIterator for Counted<'a, I> {
         self.it.drive(state, turn)
     }
 
-    fn drive_count(&mut self, number: &mut usize) -> Result<(), I::Error>
+    fn drive_to(&mut self, goal: &mut Goal<I::Item>) -> Result<Option<I::Item>, I::Error>
     where
         I::Item: Drop,
     {
-        add(&self.log.counts);
-        self.it.drive_count(number)
-    }
-
-    fn drive_last(&mut self) -> Result<Option<I::Item>, I::Error>
-    where
-        I::Item: Drop,
-    {
-        add(&self.log.lasts);
-        self.it.drive_last()
-    }
-
-    fn drive_nth(&mut self, n: usize) -> Result<Option<I::Item>, I::Error>
-    where
-        I::Item: Drop,
-    {
-        add(&self.log.nths);
-        self.it.drive_nth(n)
+        match goal {
+            Goal::Count(_) => add(&self.log.counts),
+            Goal::Last(_) => add(&self.log.lasts),
+            Goal::Nth(_) => add(&self.log.nths),
+        }
+        self.it.drive_to(goal)
     }
 
     fn drive_find<C, K: Test<C, I::Item, I::Error>>(

@@ -10,6 +10,7 @@ ghost use Rattle.fallible_core.specs.Laws.Joining.Chain.{lawful_chain, lawful_en
 use crate::traits::FallibleIterator;
 use crate::traits::double_ended::DoubleEndedFallibleIterator;
 use fallible_contract::folds::Turn;
+use fallible_contract::goals::Goal;
 use fallible_contract::hints::sum;
 use fallible_contract::searching::Test;
 
@@ -88,8 +89,8 @@ impl<T: FallibleIterator, U: FallibleIterator<Item = T::Item, Error = T::Error>>
         }
     }
 
-    /// The first's count, and after its `Ok(None)`, in the same call, the second's, into one number.
-    fn drive_count(&mut self, number: &mut usize) -> Result<(), T::Error>
+    /// What the first makes of the goal, and after its `Ok(None)`, in the same call, what the second makes of it; if one side alone is drawn, what that side does.
+    fn drive_to(&mut self, goal: &mut Goal<T::Item>) -> Result<Option<T::Item>, T::Error>
     where
         T::Item: Drop,
     {
@@ -99,42 +100,18 @@ impl<T: FallibleIterator, U: FallibleIterator<Item = T::Item, Error = T::Error>>
             still_drawn,
         } = self;
         match still_drawn {
-            StillDrawn::Both => match first.drive_count(number) {
-                Ok(()) => {
-                    *still_drawn = StillDrawn::SecondAlone;
-                    second.drive_count(number)
-                }
-                Err(e) => Err(e),
-            },
-            StillDrawn::FirstAlone => first.drive_count(number),
-            StillDrawn::SecondAlone => second.drive_count(number),
-        }
-    }
-
-    /// The second's last item, or the first's if it has none. If the first fails, the second isn't drawn.
-    fn drive_last(&mut self) -> Result<Option<T::Item>, T::Error>
-    where
-        T::Item: Drop,
-    {
-        let Chain {
-            first,
-            second,
-            still_drawn,
-        } = self;
-        match still_drawn {
-            StillDrawn::Both => match first.drive_last() {
-                Ok(before) => {
-                    *still_drawn = StillDrawn::SecondAlone;
-                    match second.drive_last() {
-                        Ok(Some(x)) => Ok(Some(x)),
-                        Ok(None) => Ok(before),
-                        Err(e) => Err(e),
+            StillDrawn::SecondAlone => second.drive_to(goal),
+            _ => match first.drive_to(goal) {
+                Ok(Some(x)) => Ok(Some(x)),
+                Ok(None) => match still_drawn {
+                    StillDrawn::FirstAlone => Ok(None),
+                    _ => {
+                        *still_drawn = StillDrawn::SecondAlone;
+                        second.drive_to(goal)
                     }
-                }
+                },
                 Err(e) => Err(e),
             },
-            StillDrawn::FirstAlone => first.drive_last(),
-            StillDrawn::SecondAlone => second.drive_last(),
         }
     }
 
