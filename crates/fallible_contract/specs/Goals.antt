@@ -3,7 +3,7 @@ use Rattle.std.specs.Prelude.{◌≡◌, ℕ, ◌+◌, ◌-◌, ◌^◌, ⊤, Op
 use Rattle.fallible_contract.specs.Contract.{Contract, AtMost}
 use Rattle.fallible_contract.specs.Folds.{IsNthTurn}
 use Rattle.std.specs.declared.ops.ControlFlow.{ControlFlow}
-use Rattle.std.specs.declared.ops.ControlFlow.TheVariants.{Continue, Break}
+use Rattle.std.specs.declared.ops.ControlFlow.TheVariants.{Continue}
 use Rattle.fallible_contract.specs.declared.goals.Goal.{Goal}
 use Rattle.fallible_contract.specs.declared.goals.Goal.TheVariants.{Count, Last, Nth}
 

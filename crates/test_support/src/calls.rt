@@ -11,11 +11,11 @@ pub struct Calls {
     pub folds: u32,
     /// of `drive_back`
     pub rfolds: u32,
-    /// of `drive_to` for `count`
+    /// of `count`
     pub counts: u32,
-    /// of `drive_to` for `last`
+    /// of `last`
     pub lasts: u32,
-    /// of `drive_to` for `nth`
+    /// of `nth`
     pub nths: u32,
     /// of `drive_find`
     pub finds: u32,

@@ -20,11 +20,11 @@ pub struct Log {
     pub folds: Cell<u32>,
     /// of `drive_back`, through which `try_rfold` and `rfold` go
     pub rfolds: Cell<u32>,
-    /// of `drive_to` for `count`
+    /// of `count`
     pub counts: Cell<u32>,
-    /// of `drive_to` for `last`
+    /// of `last`
     pub lasts: Cell<u32>,
-    /// of `drive_to` for `nth`
+    /// of `nth`
     pub nths: Cell<u32>,
     /// of `drive_find`, through which `find` goes
     pub finds: Cell<u32>,

@@ -1,7 +1,7 @@
 -- A fold whose state is a goal is the fold of the call that the goal asks for.
-use Rattle.std.specs.Prelude.{◌≡◌, ℕ, ◌+◌, ◌≤◌, length, List, [], ◌∷◌, Option, Some, None, Ok, Err, Result}
+use Rattle.std.specs.Prelude.{◌≡◌, ℕ, ◌+◌, ◌≤◌, length, List, [], ◌∷◌, Option, Some, None, Ok, Err}
 use Rattle.std.specs.List.{FoldsTo}
-use Rattle.std.proofs.Common.{refl, sym, ap, subst, ◌∙◌, arith}
+use Rattle.std.proofs.Common.{refl, sym, ap, subst, arith}
 use Rattle.fallible_contract.specs.Traces.{Answered}
 use Rattle.fallible_contract.specs.Folds.{OverExit, CountDrainsOn, LastDrains, NthDrains, IsNthTurn, DriveExit, Driven, goes_on}
 use Rattle.fallible_contract.specs.Goals.{goal_turns, IsCountTurn, IsLastTurn}

@@ -82,50 +82,6 @@ impl<T: FallibleIterator, U: FallibleIterator<Item = T::Item, Error = T::Error>>
         }
     }
 
-    /// The first's count, and after its `Ok(None)`, in the same call, the second's, into one number.
-    fn drive_count(&mut self, number: &mut usize) -> Result<(), T::Error> {
-        let Chain {
-            first,
-            second,
-            still_drawn,
-        } = self;
-        match still_drawn {
-            StillDrawn::Both => match first.drive_count(number) {
-                Ok(()) => {
-                    *still_drawn = StillDrawn::SecondAlone;
-                    second.drive_count(number)
-                }
-                Err(e) => Err(e),
-            },
-            StillDrawn::FirstAlone => first.drive_count(number),
-            StillDrawn::SecondAlone => second.drive_count(number),
-        }
-    }
-
-    /// The second's last item, or the first's if it has none. If the first fails, the second isn't drawn.
-    fn drive_last(&mut self) -> Result<Option<T::Item>, T::Error> {
-        let Chain {
-            first,
-            second,
-            still_drawn,
-        } = self;
-        match still_drawn {
-            StillDrawn::Both => match first.drive_last() {
-                Ok(before) => {
-                    *still_drawn = StillDrawn::SecondAlone;
-                    match second.drive_last() {
-                        Ok(Some(x)) => Ok(Some(x)),
-                        Ok(None) => Ok(before),
-                        Err(e) => Err(e),
-                    }
-                }
-                Err(e) => Err(e),
-            },
-            StillDrawn::FirstAlone => first.drive_last(),
-            StillDrawn::SecondAlone => second.drive_last(),
-        }
-    }
-
     /// The first's search, and if it found none, in the same call, the second's; if one side alone is drawn, that side's.
     fn drive_find<C, K: Test<C, T::Item, T::Error>>(
         &mut self,

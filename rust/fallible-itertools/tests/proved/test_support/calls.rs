@@ -12,9 +12,9 @@ pub struct Calls {
     pub folds: u32,
     /// of `drive_back`
     pub rfolds: u32,
-    /// of `drive_count`
+    /// of `count`
     pub counts: u32,
-    /// of `drive_last`
+    /// of `last`
     pub lasts: u32,
     /// of `nth`
     pub nths: u32,

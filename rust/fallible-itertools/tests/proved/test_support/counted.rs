@@ -15,11 +15,11 @@ pub struct Log {
     pub folds: Cell<u32>,
     /// of `drive_back`, through which `try_rfold` and `rfold` go
     pub rfolds: Cell<u32>,
-    /// of `drive_count`, through which `count` goes
+    /// of `count`
     pub counts: Cell<u32>,
-    /// of `drive_last`, through which `last` goes
+    /// of `last`
     pub lasts: Cell<u32>,
-    /// of `nth`, through which `nth` goes
+    /// of `nth`
     pub nths: Cell<u32>,
     /// of `drive_find`, through which `find` goes
     pub finds: Cell<u32>,
@@ -110,14 +110,14 @@ impl<'a, I: FallibleIterator> FallibleIterator for Counted<'a, I> {
         self.it.drive(state, turn)
     }
 
-    fn drive_count(&mut self, number: &mut usize) -> Result<(), I::Error> {
+    fn count(self) -> Result<usize, I::Error> {
         add(&self.log.counts);
-        self.it.drive_count(number)
+        self.it.count()
     }
 
-    fn drive_last(&mut self) -> Result<Option<I::Item>, I::Error> {
+    fn last(self) -> Result<Option<I::Item>, I::Error> {
         add(&self.log.lasts);
-        self.it.drive_last()
+        self.it.last()
     }
 
     fn nth(&mut self, n: usize) -> Result<Option<I::Item>, I::Error> {
