@@ -21,7 +21,7 @@ REASONS = [
     (r"fallible_core/traits\.rs", r"From for Stop\.from", "new", "why a caller's fold stopped"),
     (r".*", r"FallibleIterator(?: for .*)?\.drive_to", "left out", "`count`, `last` and `nth` are calls of their own"),
     (r"fallible_core/goals\.rs", r"count_on", "left out", "`count`, `last` and `nth` are calls of their own"),
-    (r"by_drive\.rs", r"try_fold|try_rfold|find", "new", "in each impl that writes a hidden fold, by a macro: they call it"),
+    (r"by_drive\.rs", r"try_fold|try_rfold", "new", "in each impl that writes a hidden fold, by a macro: they call it"),
     (r"errors\.rs", r"Display for NotOne\.fmt", "new", "what the error says"),
     (r"fallible_itertools_consumers/counts\.rs", r"Collect for Tally\.empty", "left out", "`counts` makes the empty map"),
     (r"fallible_itertools_consumers/group_map\.rs", r"Collect for GroupMap\.empty", "left out", "`into_group_map` makes the empty map"),

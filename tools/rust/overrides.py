@@ -15,7 +15,7 @@ PROVED = """
     fn drive_try_%sfold%s
 """
 # The hidden folds, for which a type that writes one gets the call that goes by it: the macro of `by_drive.rs`.
-FOLDS = ("drive", "drive_back", "drive_find")
+FOLDS = ("drive", "drive_back")
 IMPL = re.compile(r"^impl\b[^{;]*?\b(?:DoubleEnded)?FallibleIterator\s+for (\w+)?[^{]*\{", re.M)
 
 
@@ -53,8 +53,8 @@ def proved(crate, files):
         folds(ends, "r_back")
 
 
-# What `drive_to` alone needs, by crate.
-GOALS = {
+# What no body needs any more, by crate.
+UNUSED = {
     "fallible-iterator": [
         (r"fallible_co(?:ntract|re)\.rs", r"^(?:pub )?mod goals;\n", "", 2),
         (r"lib\.rs", r"^pub use fallible_contract::goals::Goal;\n", "", 1),
@@ -62,6 +62,7 @@ GOALS = {
         (r"fallible_core/one_to_one/enumerate\.rs", r"^use crate::goals::count_on;\n", "", 1),
         (r"fallible_core/(?:filtering/.*|one_to_one/enumerate)\.rs", r"(?<=folds::\{)LastTurn, ", "", 3),
         (r"fallible_core/filtering/.*\.rs", r"(?<=folds::\{)NthTurn, ", "", 2),
+        (r"fallible_core/filtering/skip_while\.rs", r"\{FindTurn, Test, found\}", "Test", 1),
     ],
     "fallible-itertools": [(r"fallible_itertools_adapters/.*\.rs", r"\bGoal, ", "", 2)],
 }
@@ -69,13 +70,13 @@ GOALS = {
 
 def asked_apart(crate, files):
     """In Rust `count`, `last` and `nth` are three calls that a type may write, and no `drive_to` stands under them: what they have
-    of it stands in `bodies`."""
+    of it stands in `bodies`. So does what goes by a `find` of the source's own."""
     for text in files.values():
         for f in reversed([f for f in functions(text.s) if f.name == "drive_to"]):
             away(text, f)
     if crate == "fallible-iterator":
         drop_files("overrides", files, ["fallible_contract/goals.rs", "fallible_core/goals.rs"])
-    apply("overrides", files, GOALS[crate])
+    apply("overrides", files, UNUSED[crate])
 
 
 def impls(text, root="fallible_iterator::"):

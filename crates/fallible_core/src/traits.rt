@@ -67,7 +67,7 @@ use fallible_contract::folds::{CountTurn, LastTurn, ReduceTurn, TryFoldTurn, Tur
 use fallible_contract::goals::Goal;
 use fallible_contract::picking::without_key;
 use fallible_contract::searching::{
-    AllTurn, AnyTurn, FindMapTurn, FindTest, FindTurn, ForEachTurn, PositionTurn, Test, answer_or,
+    AllTurn, AnyTurn, FindMapTurn, FindTest, FindTurn, ForEachTurn, PositionTurn, answer_or,
     answer_or_none, found,
 };
 use std::alloc::{AllocError, Global};
@@ -414,24 +414,6 @@ pub trait FallibleIterator: Drop + Sized {
             Ok(Some(e)) => Err(e),
             Err(e) => Err(e),
         }
-    }
-
-    /// For types that override searches: draws until the test accepts an item or fails on it, or a failure or `Ok(None)` comes. `find` goes through it, which a caller uses.
-    fn drive_find<C, K: Test<C, Self::Item, Self::Error>>(
-        &mut self,
-        state: &mut C,
-        test: &K,
-    ) -> Result<Option<Self::Item>, Self::Error>
-    where
-        Self::Item: Drop,
-        requires can_next { contract.can_next self.old }
-        requires finite { contract.is_finite self.old }
-        requires callable { search.CallableInSearch (K.tests test.now) search.find_pick
-            contract.steps (K.can_test test.now) self.old state.old }
-        ensures { search.SearchDrains (K.tests test.now) search.find_pick contract.steps None
-            self.old state.old result self.new state.new }
-    {
-        found(self.drive(state, &FindTurn { test }))
     }
 
     // What the other functions know of a draw: see `KeptByDraw`.
@@ -1313,7 +1295,7 @@ pub trait FallibleIterator: Drop + Sized {
         ensures stays { Stays contract self.old self.new }
     {
         let mut f = f;
-        self.drive_find(&mut f, &FindTest)
+        found(self.drive(&mut f, &FindTurn { test: &FindTest }))
     }
 
     /// Returns the first value that the closure returns for the items in order; `Ok(None)` if there is none. The closure is called once on each item drawn.

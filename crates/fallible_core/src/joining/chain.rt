@@ -12,7 +12,6 @@ use crate::traits::double_ended::DoubleEndedFallibleIterator;
 use fallible_contract::folds::Turn;
 use fallible_contract::goals::Goal;
 use fallible_contract::hints::sum;
-use fallible_contract::searching::Test;
 
 // Which sides of a `Chain` are still drawn: `SecondAlone` once a draw from the front of the first returned `Ok(None)`, and `FirstAlone` once a draw from the back of the second did.
 #[derive(Clone, Debug, Drop)]
@@ -108,36 +107,6 @@ impl<T: FallibleIterator, U: FallibleIterator<Item = T::Item, Error = T::Error>>
                     _ => {
                         *still_drawn = StillDrawn::SecondAlone;
                         second.drive_to(goal)
-                    }
-                },
-                Err(e) => Err(e),
-            },
-        }
-    }
-
-    /// The first's search, and if it found none, in the same call, the second's; if one side alone is drawn, that side's.
-    fn drive_find<C, K: Test<C, T::Item, T::Error>>(
-        &mut self,
-        state: &mut C,
-        test: &K,
-    ) -> Result<Option<T::Item>, T::Error>
-    where
-        T::Item: Drop,
-    {
-        let Chain {
-            first,
-            second,
-            still_drawn,
-        } = self;
-        match still_drawn {
-            StillDrawn::SecondAlone => second.drive_find(state, test),
-            _ => match first.drive_find(state, test) {
-                Ok(Some(x)) => Ok(Some(x)),
-                Ok(None) => match still_drawn {
-                    StillDrawn::FirstAlone => Ok(None),
-                    _ => {
-                        *still_drawn = StillDrawn::SecondAlone;
-                        second.drive_find(state, test)
                     }
                 },
                 Err(e) => Err(e),

@@ -13,7 +13,7 @@ use crate::fallible_contract::comparing::{
 use crate::fallible_contract::folds::{CountTurn, LastTurn, ReduceTurn, TryFoldTurn, Turn};
 use crate::fallible_contract::picking::without_key;
 use crate::fallible_contract::searching::{
-    AllTurn, AnyTurn, FindMapTurn, FindTest, FindTurn, ForEachTurn, PositionTurn, Test, answer_or,
+    AllTurn, AnyTurn, FindMapTurn, FindTest, FindTurn, ForEachTurn, PositionTurn, answer_or,
     answer_or_none, found,
 };
 use crate::fallible_core::bridges::{Iterator, Unwrap};
@@ -388,33 +388,6 @@ pub trait FallibleIterator {
             Ok(Some(e)) => Err(e),
             Err(e) => Err(e),
         }
-    }
-
-    /// For types that override searches: draws until the test accepts an item or fails on it, or a failure or `Ok(None)` comes. `find` goes through it, which a caller uses.
-    ///
-    /// <details><summary>Contract</summary>
-    ///
-    /// As it is proved, in [these words](crate::words):
-    ///
-    /// ```text
-    /// requires can_next { contract.can_next self.old }
-    /// requires finite { contract.is_finite self.old }
-    /// requires callable { search.CallableInSearch (K.tests test.now) search.find_pick
-    ///     contract.steps (K.can_test test.now) self.old state.old }
-    /// ensures { search.SearchDrains (K.tests test.now) search.find_pick contract.steps None
-    ///     self.old state.old result self.new state.new }
-    /// ```
-    /// </details>
-    #[doc(hidden)]
-    fn drive_find<C, K: Test<C, Self::Item, Self::Error>>(
-        &mut self,
-        state: &mut C,
-        test: &K,
-    ) -> Result<Option<Self::Item>, Self::Error>
-    where
-        Self: Sized,
-    {
-        self.find(|x| test.test(state, x))
     }
 
     /// Yields what the closure returns for each item.
