@@ -5,7 +5,7 @@ import re
 from made import code
 from made.tree import code_of_library
 
-HIDDEN = ("drive", "drive_back", "drive_find", "drive_count", "drive_last", "drive_nth")
+HIDDEN = ("drive", "drive_back", "drive_to")
 CALLED = re.compile(r"(?:(\(\*\*self\)|[\w.]+?)\.)?\b([a-z_]\w*)(?:::<[^()]*>)?\(")
 DRAWS = {"next": "a draw", "draw": "a draw", "next_back": "a draw from the back"}
 STD = {"try_fold": "std's `try_fold`", "try_rfold": "std's `try_rfold`"}

@@ -4,7 +4,8 @@ place of the proved one. Its head says how it differs and why, and of which prov
     // changed: it goes by std's sort
     // proved: 113c42c6
 
-A new method of an `impl` names it instead: `// in: FallibleIterator for Chain`."""
+A new method of an `impl` names it instead: `// in: FallibleIterator for Chain`. What a body has of another proved one it names
+too: `// of: drive_to 113c42c6`."""
 import hashlib
 import re
 from collections import namedtuple
@@ -13,8 +14,8 @@ from pathlib import Path
 from source import Refused, code, functions
 
 FOLDER = Path(__file__).parent / "static/bodies"
-Body = namedtuple("Body", "place path name how why of text")
-HEAD = re.compile(r"// (changed|new): (.+)\n(?:// (proved|in): (.+)\n)?")
+Body = namedtuple("Body", "place path name how why of other text")
+HEAD = re.compile(r"// (changed|new): (.+)\n(?:// (proved|in): (.+)\n)?(?:// of: (\w+) (\w+)\n)?")
 
 
 def every(crate):
@@ -25,7 +26,7 @@ def every(crate):
         head = HEAD.match(s)
         if not head or (head[1] == "changed") != (head[3] == "proved"):
             raise Refused("%s:1: bodies: a head is `// changed: WHY` and `// proved: DIGEST`, or `// new: WHY`" % place)
-        yield Body(place, "%s.rs" % file.parent.relative_to(folder), file.stem, head[1], head[2], head[4], s[head.end():])
+        yield Body(place, "%s.rs" % file.parent.relative_to(folder), file.stem, head[1], head[2], head[4], head.group(5, 6), s[head.end():])
 
 
 def digest(text):
@@ -38,6 +39,23 @@ def short(f):
     return re.sub(r"[^\w.]", "", "%s.%s" % (f.label.split(" for ")[-1], f.name) if f.label else f.name)
 
 
+def known(body, text, f, line, wanted):
+    """Refuses a proved text that is another than the one in a head. `line` is that of the head, where `%s` is its digest."""
+    proved = digest(text.s[f.start:f.end])
+    if proved != wanted:
+        raise Refused("%s: bodies: `%s` is another than that for which %s stands: see that it still does the same, and "
+                      "write `// %s` there" % (text.at(f.start), short(f), body.place, line % proved))
+
+
+def of_other(body, text, label):
+    """Looks at the other proved text that a body has something of."""
+    name, wanted = body.other
+    found = [f for f in functions(text.s) if f.label == label and f.name == name]
+    if len(found) != 1:
+        raise Refused("%s:1: bodies: `%s` stands %d times in %s of %s" % (body.place, name, len(found), label, text.place))
+    known(body, text, found[0], "of: %s %%s" % name, wanted)
+
+
 def put(body, text):
     """Puts one body into its file."""
     found = [f for f in functions(text.s) if short(f) == body.name]
@@ -47,15 +65,17 @@ def put(body, text):
     new = re.sub(r"^(?=.)", "    " * inside, body.text.rstrip("\n"), flags=re.M).lstrip(" ")
     if found:
         f = found[0]
-        proved = digest(text.s[f.start:f.end])
-        if body.how == "changed" and proved != body.of:
-            raise Refused("%s: bodies: `%s` is another than that for which %s stands: see that it still does the same, and "
-                          "write `// proved: %s` there" % (text.at(f.start), body.name, body.place, proved))
+        if body.how == "changed":
+            known(body, text, f, "proved: %s", body.of)
+        if body.other[0]:
+            of_other(body, text, f.label)
         text.replace(f.start, f.end, new)
         return
     beside = [f for f in functions(text.s) if f.label == body.of]
     if not beside:
         raise Refused("%s:1: bodies: %s has no `impl %s`" % (body.place, text.place, body.of))
+    if body.other[0]:
+        of_other(body, text, body.of)
     text.replace(beside[-1].end, beside[-1].end, "\n\n    " + new)
 
 

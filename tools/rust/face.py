@@ -41,7 +41,7 @@ RULES = [
     (FLAT_MAP, r"\Z", (PIECES / "flat_map.rs").read_text(), 1),
 ]
 # The methods that need no size.
-UNSIZED = {"next", "next_back", "size_hint", "nth", "drive_nth"}
+UNSIZED = {"next", "next_back", "size_hint", "nth"}
 
 
 def sized(text):

@@ -3,7 +3,7 @@ Rust type may write, and a type that writes a hidden call gets the call that goe
 import re
 from pathlib import Path
 
-from rules import apply
+from rules import apply, drop_files
 from source import Refused, after_braces, functions
 
 TRAIT, ENDS = r"fallible_core/traits\.rs", r"fallible_core/traits/double_ended\.rs"
@@ -15,7 +15,7 @@ PROVED = """
     fn drive_try_%sfold%s
 """
 # The hidden folds, for which a type that writes one gets the call that goes by it: the macro of `by_drive.rs`.
-FOLDS = ("drive", "drive_back", "drive_find")
+FOLDS = ("drive", "drive_back")
 IMPL = re.compile(r"^impl\b[^{;]*?\b(?:DoubleEnded)?FallibleIterator\s+for (\w+)?[^{]*\{", re.M)
 
 
@@ -27,11 +27,15 @@ def method(text, name):
     return found[0]
 
 
-def cut(text, name):
-    """Takes a method away, with its comment and its attributes."""
-    f = method(text, name)
+def away(text, f):
+    """Takes a function away, with its comment and its attributes."""
     start = f.docs[0] if f.docs[0] != f.docs[1] else text.s.rfind("\n\n", 0, f.start) + 2
     text.replace(start, f.end + 2, "")
+
+
+def cut(text, name):
+    """Takes a method of the trait away."""
+    away(text, method(text, name))
 
 
 def folds(text, back):
@@ -47,11 +51,32 @@ def proved(crate, files):
         text, ends = files["fallible_core/traits.rs"], files["fallible_core/traits/double_ended.rs"]
         folds(text, "")
         folds(ends, "r_back")
-        nth, skipping = method(text, "nth"), method(text, "drive_nth")
-        text.replace(nth.open, nth.end, text.s[skipping.open:skipping.end])
-        cut(text, "drive_nth")
+
+
+# What no body needs any more, by crate.
+UNUSED = {
+    "fallible-iterator": [
+        (r"fallible_co(?:ntract|re)\.rs", r"^(?:pub )?mod goals;\n", "", 2),
+        (r"lib\.rs", r"^pub use fallible_contract::goals::Goal;\n", "", 1),
+        (r"fallible_core/.*\.rs", r"^use fallible_contract::goals::Goal;\n", "", 9),
+        (r"fallible_core/one_to_one/enumerate\.rs", r"^use crate::goals::count_on;\n", "", 1),
+        (r"fallible_core/(?:filtering/.*|one_to_one/enumerate)\.rs", r"(?<=folds::\{)LastTurn, ", "", 3),
+        (r"fallible_core/filtering/.*\.rs", r"(?<=folds::\{)NthTurn, ", "", 2),
+        (r"fallible_core/filtering/skip_while\.rs", r"\{FindTurn, Test, found\}", "Test", 1),
+    ],
+    "fallible-itertools": [(r"fallible_itertools_adapters/.*\.rs", r"\bGoal, ", "", 2)],
+}
+
+
+def asked_apart(crate, files):
+    """In Rust `count`, `last` and `nth` are three calls that a type may write, and no `drive_to` stands under them: what they have
+    of it stands in `bodies`. So does what goes by a `find` of the source's own."""
     for text in files.values():
-        plain_nth(text)
+        for f in reversed([f for f in functions(text.s) if f.name == "drive_to"]):
+            away(text, f)
+    if crate == "fallible-iterator":
+        drop_files("overrides", files, ["fallible_contract/goals.rs", "fallible_core/goals.rs"])
+    apply("overrides", files, UNUSED[crate])
 
 
 def impls(text, root="fallible_iterator::"):
@@ -64,22 +89,42 @@ def impls(text, root="fallible_iterator::"):
 
 
 def renamed(path, s):
-    """A proved file with the calls' names in Rust: no hidden call stands under `nth`, and one does under `try_fold`."""
+    """A proved file with the calls' names in Rust: a hidden call stands under `try_fold`."""
     if path.startswith("fallible_core/traits"):
         s = re.sub(r"\bfn (try_r?fold)\b", r"fn drive_\1", s)
-    return re.sub(r"\bdrive_nth\b", "nth", s)
+    return s
+
+
+# A `drive_to` of a test's type, which counts the calls and hands the goal on.
+COUNTING = re.compile(
+    r"    fn drive_to\(&mut self, goal: &mut Goal<(.*)>\) -> Result<.*, (.*)> \{\n        match goal \{\n"
+    r" *Goal::Count\(_\) => (.*),\n *Goal::Last\(_\) => (.*),\n *Goal::Nth\(_\) => (.*),\n        \}\n"
+    r"        (.*)\.drive_to\(goal\)\n    \}\n")
+COUNTED = r"""    fn count(self) -> Result<usize, \2> {
+        \3;
+        \6.count()
+    }
+
+    fn last(self) -> Result<Option<\1>, \2> {
+        \4;
+        \6.last()
+    }
+
+    fn nth(&mut self, n: usize) -> Result<Option<\1>, \2> {
+        \5;
+        \6.nth(n)
+    }
+"""
 
 
 def of_tests(text):
     """What the types of callers and tests get that write hidden calls."""
     impls(text)
-    plain_nth(text)
-
-
-def plain_nth(text):
-    """`nth` is the call that a type writes: no hidden one stands under it."""
-    for m in reversed(list(re.finditer(r"\bdrive_nth\b", text.s))):
-        text.replace(m.start(), m.end(), "nth")
+    for m in reversed(list(COUNTING.finditer(text.s))):
+        text.replace(m.start(), m.end(), m.expand(COUNTED))
+        text.cut_all(r"\bGoal, ")
+    if re.search(r"\bdrive_to\(", text.s):
+        raise Refused("%s: overrides: a `drive_to` that doesn't hand its goal on" % text.at(text.s.index("drive_to(")))
 
 
 def to_rust(crate, files):

@@ -11,6 +11,7 @@ pub mod Failing
 pub mod FailingFolds
 pub mod Folding
 pub mod Folds
+pub mod Goals
 pub mod Held
 pub mod LawForm
 pub mod Lists

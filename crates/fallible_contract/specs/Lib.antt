@@ -12,6 +12,7 @@ pub mod Exchange
 pub mod Failing
 pub mod Folding
 pub mod Folds
+pub mod Goals
 pub mod Held
 pub mod Hints
 pub mod LawForm

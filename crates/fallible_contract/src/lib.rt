@@ -6,6 +6,7 @@ pub mod collecting;
 pub mod comparing;
 pub mod failing;
 pub mod folds;
+pub mod goals;
 pub mod hints;
 pub mod passing;
 pub mod picking;

@@ -7,6 +7,7 @@ pub mod cutting;
 pub mod ends;
 pub mod failing;
 pub mod filtering;
+mod goals;
 pub mod joining;
 pub mod number;
 pub mod one_to_one;

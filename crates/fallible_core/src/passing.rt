@@ -4,8 +4,9 @@ ghost use Rattle.std.specs.Int.{from_bool};
 ghost use Rattle.std.specs.declared.convert.Infallible.{Infallible};
 ghost use Rattle.fallible_contract.specs.Folding.{FoldingTakes, FoldingTurn};
 ghost use Rattle.fallible_contract.specs.Folds.{CallableDriving, Driven, TurnThrough, beside, beside_names};
+ghost use Rattle.fallible_contract.specs.Goals.{IsCountTurn};
 ghost use Rattle.fallible_contract.specs.Passing.{passing_step};
-ghost use Rattle.fallible_core.specs.Filtering.Filter.{CountsOne, DrawingTurn};
+ghost use Rattle.fallible_core.specs.Filtering.Filter.{DrawingTurn};
 
 use crate::traits::FallibleIterator;
 use crate::traits::double_ended::DoubleEndedFallibleIterator;
@@ -99,12 +100,12 @@ where
     requires can_next { I.contract.can_next it.old }
     requires finite { I.contract.is_finite it.old }
     requires callable { CallableDriving I.contract.steps
-        (FoldingTurn (A.call adapter.now) (A.outcome adapter.now) (CountsOne {R = Infallible}))
+        (FoldingTurn (A.call adapter.now) (A.outcome adapter.now) (IsCountTurn {R = Infallible}))
         (FoldingTakes (A.call adapter.now) (A.outcome adapter.now)
         (A.can_pass adapter.now) (λ n _. n < 2 ^ 64 - 1))
         it.old (number.old, p.old) }
     ensures { Driven (passing_step I.contract.steps (A.call adapter.now) (A.outcome adapter.now))
-        (CountsOne {R = Infallible}) (it.old, p.old) number.old result (it.new, p.new) number.new }
+        (IsCountTurn {R = Infallible}) (it.old, p.old) number.old result (it.new, p.new) number.new }
 {
     let mut both = Beside { c: number, p };
     let answer = it.drive(&mut both, &PassCountTurn { adapter });
@@ -127,7 +128,7 @@ where
         (A.can_pass k.adapter.now) (λ n _. n < 2 ^ 64 - 1) (beside b) x };
 
     ghost turns = { λ k b x r d. TurnThrough beside beside_names
-        (FoldingTurn (A.call k.adapter.now) (A.outcome k.adapter.now) CountsOne)
+        (FoldingTurn (A.call k.adapter.now) (A.outcome k.adapter.now) IsCountTurn)
         b x r d };
 
     #[inline(always)]

@@ -11,6 +11,7 @@ ghost use Rattle.fallible_contract.specs.Picking as pick;
 ghost use Rattle.fallible_contract.specs.Searching as search;
 ghost use Rattle.fallible_contract.specs.Failing.{failures_mapped};
 ghost use Rattle.fallible_contract.specs.Folds as fold;
+ghost use Rattle.fallible_contract.specs.Goals.{Reachable, goal_turns};
 ghost use Rattle.fallible_core.specs.OneToOne.Enumerate.{IsNumberable, enumerate_parts, enumerate_contract, numbered};
 ghost use Rattle.fallible_core.specs.Filtering.SkipWhile as skip_while;
 ghost use Rattle.fallible_core.specs.OneToOne.Scan as scan;
@@ -63,9 +64,10 @@ use fallible_contract::comparing::{
     ByCmp, ByEq, ByPartialCmp, ReadEq, ReadGe, ReadGt, ReadLe, ReadLt, ReadNe, ordered,
 };
 use fallible_contract::folds::{CountTurn, LastTurn, ReduceTurn, TryFoldTurn, Turn};
+use fallible_contract::goals::Goal;
 use fallible_contract::picking::without_key;
 use fallible_contract::searching::{
-    AllTurn, AnyTurn, FindMapTurn, FindTest, FindTurn, ForEachTurn, PositionTurn, Test, answer_or,
+    AllTurn, AnyTurn, FindMapTurn, FindTest, FindTurn, ForEachTurn, PositionTurn, answer_or,
     answer_or_none, found,
 };
 use std::alloc::{AllocError, Global};
@@ -172,18 +174,37 @@ pub trait FallibleIterator: Drop + Sized {
         }
     }
 
-    /// For types that override it: draws up to `Ok(None)` or the first failure, and adds one to `number` for each item, also for those before a failure. `count` goes through it. A caller uses `count`.
-    fn drive_count(&mut self, number: &mut usize) -> Result<(), Self::Error>
+    /// For types that override `count`, `last` or `nth`: draws until `Ok(None)`, a failure or the item that the goal asks for. The goal goes on at each item, also before a failure. These three calls go through it, which a caller uses.
+    fn drive_to(&mut self, goal: &mut Goal<Self::Item>) -> Result<Option<Self::Item>, Self::Error>
     where
         Self::Item: Drop,
         requires can_next { contract.can_next self.old }
-        requires fits { AtMost contract self.old (2 ^ 64 - 1 - number.old) }
-        ensures { fold.CountDrainsOn contract.steps self.old number.old result self.new number.new }
+        requires reachable { Reachable contract self.old goal.old }
+        ensures { fold.Driven contract.steps goal_turns self.old goal.old result
+            self.new goal.new }
     {
-        match self.drive(number, &CountTurn) {
-            Ok(None) => Ok(()),
-            Ok(Some(never)) => match never {},
-            Err(e) => Err(e),
+        match goal {
+            Goal::Count(number) => match self.drive(number, &CountTurn) {
+                Ok(None) => Ok(None),
+                Ok(Some(never)) => match never {},
+                Err(e) => Err(e),
+            },
+            Goal::Last(item) => match self.drive(item, &LastTurn) {
+                Ok(None) => Ok(None),
+                Ok(Some(never)) => match never {},
+                Err(e) => Err(e),
+            },
+            Goal::Nth(left) => {
+                while 0 < *left {
+                    match self.next() {
+                        Ok(Some(_)) => {}
+                        Ok(None) => return Ok(None),
+                        Err(e) => return Err(e),
+                    }
+                    *left -= 1;
+                }
+                self.next()
+            }
         }
     }
 
@@ -212,25 +233,12 @@ pub trait FallibleIterator: Drop + Sized {
         ensures counted { (after : Self) × fold.CountDrains contract.steps self result after }
         ensures value { OverList contract.steps self (λ l. result ≡ list.counted l) }
     {
-        let mut number = 0;
-        match self.drive_count(&mut number) {
-            Ok(()) => Ok(number),
-            Err(e) => Err(e),
-        }
-    }
-
-    /// For types that override it: `last`, without what it says of a list. A caller uses `last`.
-    fn drive_last(&mut self) -> Result<Option<Self::Item>, Self::Error>
-    where
-        Self::Item: Drop,
-        requires can_next { contract.can_next self.old }
-        requires finite { contract.is_finite self.old }
-        ensures { fold.LastDrains contract.steps self.old result self.new }
-    {
-        let mut last = None;
-        match self.drive(&mut last, &LastTurn) {
-            Ok(None) => Ok(last),
-            Ok(Some(never)) => match never {},
+        let mut goal = Goal::Count(0);
+        match self.drive_to(&mut goal) {
+            Ok(_) => match goal {
+                Goal::Count(number) => Ok(number),
+                _ => unreachable!(),
+            },
             Err(e) => Err(e),
         }
     }
@@ -258,26 +266,14 @@ pub trait FallibleIterator: Drop + Sized {
         ensures last { (after : Self) × fold.LastDrains contract.steps self result after }
         ensures value { OverList contract.steps self (λ l. result ≡ list.last_of l) }
     {
-        self.drive_last()
-    }
-
-    /// For types that override it: `nth`, without what it says of a list and of what is left.
-    fn drive_nth(&mut self, n: usize) -> Result<Option<Self::Item>, Self::Error>
-    where
-        Self::Item: Drop,
-        requires { contract.can_next self.old }
-        ensures { fold.NthDrains contract.steps self.old n result self.new }
-    {
-        let mut left = n;
-        while 0 < left {
-            match self.next() {
-                Ok(Some(_)) => {}
-                Ok(None) => return Ok(None),
-                Err(e) => return Err(e),
-            }
-            left -= 1;
+        let mut goal = Goal::Last(None);
+        match self.drive_to(&mut goal) {
+            Ok(_) => match goal {
+                Goal::Last(item) => Ok(item),
+                _ => unreachable!(),
+            },
+            Err(e) => Err(e),
         }
-        self.next()
     }
 
     /// Returns the item with n items before it; `Ok(None)` if the iterator ends first.
@@ -301,7 +297,8 @@ pub trait FallibleIterator: Drop + Sized {
             (λ l. ¬ (result ≡ Ok None) → list.Lists contract.steps self.new (list.rest_nth n l)) }
         ensures stays { Stays contract self.old self.new }
     {
-        self.drive_nth(n)
+        let mut goal = Goal::Nth(n);
+        self.drive_to(&mut goal)
     }
 
     /// Calls the closure on the value so far and each item in order, and returns the last value at `Ok(None)`.
@@ -417,24 +414,6 @@ pub trait FallibleIterator: Drop + Sized {
             Ok(Some(e)) => Err(e),
             Err(e) => Err(e),
         }
-    }
-
-    /// For types that override searches: draws until the test accepts an item or fails on it, or a failure or `Ok(None)` comes. `find` goes through it, which a caller uses.
-    fn drive_find<C, K: Test<C, Self::Item, Self::Error>>(
-        &mut self,
-        state: &mut C,
-        test: &K,
-    ) -> Result<Option<Self::Item>, Self::Error>
-    where
-        Self::Item: Drop,
-        requires can_next { contract.can_next self.old }
-        requires finite { contract.is_finite self.old }
-        requires callable { search.CallableInSearch (K.tests test.now) search.find_pick
-            contract.steps (K.can_test test.now) self.old state.old }
-        ensures { search.SearchDrains (K.tests test.now) search.find_pick contract.steps None
-            self.old state.old result self.new state.new }
-    {
-        found(self.drive(state, &FindTurn { test }))
     }
 
     // What the other functions know of a draw: see `KeptByDraw`.
@@ -1316,7 +1295,7 @@ pub trait FallibleIterator: Drop + Sized {
         ensures stays { Stays contract self.old self.new }
     {
         let mut f = f;
-        self.drive_find(&mut f, &FindTest)
+        found(self.drive(&mut f, &FindTurn { test: &FindTest }))
     }
 
     /// Returns the first value that the closure returns for the items in order; `Ok(None)` if there is none. The closure is called once on each item drawn.

@@ -31,6 +31,7 @@ pub use Rattle.fallible_contract.proofs.Lemmas.Failing
 pub use Rattle.fallible_contract.proofs.Lemmas.FailingFolds
 pub use Rattle.fallible_contract.proofs.Lemmas.Folding
 pub use Rattle.fallible_contract.proofs.Lemmas.Folds
+pub use Rattle.fallible_contract.proofs.Lemmas.Goals
 pub use Rattle.fallible_contract.proofs.Lemmas.Held
 pub use Rattle.fallible_contract.proofs.Lemmas.LawForm
 pub use Rattle.fallible_contract.proofs.Lemmas.Lists

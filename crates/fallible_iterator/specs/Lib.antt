@@ -26,6 +26,7 @@ pub use Rattle.fallible_contract.specs.Exchange
 pub use Rattle.fallible_contract.specs.Failing
 pub use Rattle.fallible_contract.specs.Folding
 pub use Rattle.fallible_contract.specs.Folds
+pub use Rattle.fallible_contract.specs.Goals
 pub use Rattle.fallible_contract.specs.Held
 pub use Rattle.fallible_contract.specs.Hints
 pub use Rattle.fallible_contract.specs.LawForm
@@ -49,6 +50,7 @@ pub use Rattle.fallible_core.specs.Peeking
 pub use Rattle.fallible_contract.specs.declared.answers.Side
 pub use Rattle.fallible_contract.specs.declared.collecting.Fault
 pub use Rattle.fallible_contract.specs.declared.folds.Beside
+pub use Rattle.fallible_contract.specs.declared.goals.Goal
 pub use Rattle.fallible_contract.specs.declared.passing.Outcome
 pub use Rattle.fallible_core.specs.declared.bridges.iterator.Iterator
 pub use Rattle.fallible_core.specs.declared.bridges.unwrap.Unwrap

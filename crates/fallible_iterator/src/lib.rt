@@ -14,6 +14,7 @@ pub mod taking;
 pub use conversion::IteratorExt;
 pub use fallible_contract::answers::{Answer, Side};
 pub use fallible_contract::folds::Turn;
+pub use fallible_contract::goals::Goal;
 pub use fallible_contract::searching::Test;
 pub use fallible_contract::{Collect, Fault};
 pub use fallible_core::number::Number;

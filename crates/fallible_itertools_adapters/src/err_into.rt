@@ -8,7 +8,7 @@ ghost use Rattle.fallible_itertools_adapters.specs.ErrInto.{convert_call, err_in
 ghost use Rattle.fallible_itertools_adapters.specs.Laws.ErrInto.{lawful_err_into, lawful_ends_err_into};
 
 use fallible_iterator::extending::{Fail, drive_back_failing, drive_failing, failed};
-use fallible_iterator::{DoubleEndedFallibleIterator, FallibleIterator, Turn};
+use fallible_iterator::{DoubleEndedFallibleIterator, FallibleIterator, Goal, Turn};
 use std::marker::PhantomData;
 
 /// The source with each failure converted by `From`. Items and `Ok(None)` pass.
@@ -67,35 +67,13 @@ impl<I: FallibleIterator, E: From<I::Error>> FallibleIterator for ErrInto<I, E> 
         )
     }
 
-    /// The source's count, or the failure that it met, converted.
-    fn drive_count(&mut self, number: &mut usize) -> Result<(), E>
+    /// What the source makes of the goal, or the failure that it met, converted.
+    fn drive_to(&mut self, goal: &mut Goal<I::Item>) -> Result<Option<I::Item>, E>
     where
         I::Item: Drop,
     {
         failed(
-            self.it.drive_count(number),
-            &mut (),
-            &IntoFail::<E> { made: PhantomData },
-        )
-    }
-
-    fn drive_last(&mut self) -> Result<Option<I::Item>, E>
-    where
-        I::Item: Drop,
-    {
-        failed(
-            self.it.drive_last(),
-            &mut (),
-            &IntoFail::<E> { made: PhantomData },
-        )
-    }
-
-    fn drive_nth(&mut self, n: usize) -> Result<Option<I::Item>, E>
-    where
-        I::Item: Drop,
-    {
-        failed(
-            self.it.drive_nth(n),
+            self.it.drive_to(goal),
             &mut (),
             &IntoFail::<E> { made: PhantomData },
         )

@@ -9,7 +9,7 @@ ghost use Rattle.fallible_itertools_adapters.specs.InspectErr.{inspect_err_contr
 ghost use Rattle.fallible_itertools_adapters.specs.Laws.InspectErr.{lawful_inspect_err, lawful_ends_inspect_err};
 
 use fallible_iterator::extending::{Fail, drive_back_failing, drive_failing, failed};
-use fallible_iterator::{DoubleEndedFallibleIterator, FallibleIterator, Turn};
+use fallible_iterator::{DoubleEndedFallibleIterator, FallibleIterator, Goal, Turn};
 
 /// What the source returns. The closure is called on a reference to each failure first.
 #[derive(Clone, Debug, Drop)]
@@ -52,26 +52,12 @@ impl<I: FallibleIterator, F: FnMut(&I::Error)> FallibleIterator for InspectErr<I
         drive_failing(&mut self.it, &mut self.f, &InspectErrFail, state, turn)
     }
 
-    /// The source's count. The closure is called on a failure that it met.
-    fn drive_count(&mut self, number: &mut usize) -> Result<(), I::Error>
+    /// What the source makes of the goal. The closure is called on a failure that it met.
+    fn drive_to(&mut self, goal: &mut Goal<I::Item>) -> Result<Option<I::Item>, I::Error>
     where
         I::Item: Drop,
     {
-        failed(self.it.drive_count(number), &mut self.f, &InspectErrFail)
-    }
-
-    fn drive_last(&mut self) -> Result<Option<I::Item>, I::Error>
-    where
-        I::Item: Drop,
-    {
-        failed(self.it.drive_last(), &mut self.f, &InspectErrFail)
-    }
-
-    fn drive_nth(&mut self, n: usize) -> Result<Option<I::Item>, I::Error>
-    where
-        I::Item: Drop,
-    {
-        failed(self.it.drive_nth(n), &mut self.f, &InspectErrFail)
+        failed(self.it.drive_to(goal), &mut self.f, &InspectErrFail)
     }
 
     ghost lawful = { lawful_seen inspect_err_parts (lawful_inspect_err F.FnMut I.lawful) };

@@ -2,9 +2,8 @@
 use fallible_iterator::{FallibleIterator, convert};
 use std::test::Fail;
 use test_support::calls::{
-    Calls, ONE_COUNT, ONE_FIND, ONE_FOLD, ONE_FOLD_ONE_FIND, ONE_LAST, ONE_NEXT_ONE_FIND,
-    ONE_NEXT_ONE_FOLD, ONE_NTH, THREE_FOLDS, TWO_COUNTS, TWO_FOLDS, TWO_LASTS, TWO_NEXTS_ONE_FOLD,
-    TWO_NTHS,
+    Calls, ONE_COUNT, ONE_FOLD, ONE_LAST, ONE_NEXT_ONE_FOLD, ONE_NTH, THREE_FOLDS, TWO_COUNTS,
+    TWO_FOLDS, TWO_LASTS, TWO_NEXTS_ONE_FOLD, TWO_NTHS,
 };
 use test_support::closures::{add_up, hundred_more, is_even, tens_of_even};
 use test_support::counted::{Counted, Log};
@@ -140,11 +139,11 @@ const SKIP: [Step<'static>; 2] = [
     (Sum, Ok(Some(9)), &[THREE_FOLDS]),
 ];
 
-const SKIP_WHILE_FOLDED: [Step<'static>; 1] = [(Sum, Ok(Some(4)), &[ONE_FOLD_ONE_FIND])];
+const SKIP_WHILE_FOLDED: [Step<'static>; 1] = [(Sum, Ok(Some(4)), &[TWO_FOLDS])];
 // It draws by a `find`. Once the predicate was false, it draws its source.
 const SKIP_WHILE_DRAWN: [Step<'static>; 2] = [
-    (Next, Ok(Some(3)), &[ONE_FIND]),
-    (Next, Ok(Some(4)), &[ONE_NEXT_ONE_FIND]),
+    (Next, Ok(Some(3)), &[ONE_FOLD]),
+    (Next, Ok(Some(4)), &[ONE_NEXT_ONE_FOLD]),
 ];
 
 #[test]

@@ -6,7 +6,7 @@ use std::alloc::{AllocError, Global};
 use std::convert::Infallible;
 use std::test::Fail;
 use test_support::calls::{
-    Calls, NO_CALL, ONE_COUNT, ONE_FIND, ONE_FOLD, ONE_LAST, ONE_NEXT, ONE_NEXT_ONE_FOLD, TWO_FOLDS,
+    Calls, NO_CALL, ONE_COUNT, ONE_FOLD, ONE_LAST, ONE_NEXT, ONE_NEXT_ONE_FOLD, TWO_FOLDS,
 };
 use test_support::counted::{Counted, Log};
 use test_support::counted_numbers::counted;
@@ -42,7 +42,7 @@ const CHAIN_COUNTED: (Result<usize, Infallible>, [Calls; 2]) = (Ok(3), [ONE_COUN
 
 const CHAIN_LAST: LastStep<'static> = (Ok(Some(3)), &[ONE_LAST, ONE_LAST]);
 
-const CHAIN_SEARCHED: [Step<'static>; 1] = [(Find(3), Ok(Some(3)), &[ONE_FIND, ONE_FIND])];
+const CHAIN_SEARCHED: [Step<'static>; 1] = [(Find(3), Ok(Some(3)), &[ONE_FOLD, ONE_FOLD])];
 
 #[test]
 fn chain_counts_searches_and_takes_the_last_of_each_side_once(rt: HostRuntime) -> Result<(), Fail> {

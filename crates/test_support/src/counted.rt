@@ -6,7 +6,7 @@ ghost use Rattle.fallible_iterator.specs.Laws.Contract.{lawful_seen};
 ghost use Rattle.fallible_iterator.specs.Laws.Ends.{lawful_ends_seen};
 
 use crate::calls::Calls;
-use fallible_iterator::{DoubleEndedFallibleIterator, FallibleIterator, Test, Turn};
+use fallible_iterator::{DoubleEndedFallibleIterator, FallibleIterator, Goal, Turn};
 use std::cell::Cell;
 
 /// How often each call came from outside. A call that types override counts as the one that callers make of it.
@@ -16,18 +16,16 @@ pub struct Log {
     pub nexts: Cell<u32>,
     /// of `next_back`
     pub next_backs: Cell<u32>,
-    /// of `drive`, through which `try_fold` and `fold` go
+    /// of `drive`, through which `try_fold`, `fold` and `find` go
     pub folds: Cell<u32>,
     /// of `drive_back`, through which `try_rfold` and `rfold` go
     pub rfolds: Cell<u32>,
-    /// of `drive_count`, through which `count` goes
+    /// of `count`
     pub counts: Cell<u32>,
-    /// of `drive_last`, through which `last` goes
+    /// of `last`
     pub lasts: Cell<u32>,
-    /// of `drive_nth`, through which `nth` goes
+    /// of `nth`
     pub nths: Cell<u32>,
-    /// of `drive_find`, through which `find` goes
-    pub finds: Cell<u32>,
 }
 
 impl Log {
@@ -41,7 +39,6 @@ impl Log {
             counts: Cell::new(0),
             lasts: Cell::new(0),
             nths: Cell::new(0),
-            finds: Cell::new(0),
         }
     }
 
@@ -55,7 +52,6 @@ impl Log {
             counts: self.counts.get(),
             lasts: self.lasts.get(),
             nths: self.nths.get(),
-            finds: self.finds.get(),
         }
     }
 
@@ -69,7 +65,6 @@ impl Log {
             counts: self.counts.replace(0),
             lasts: self.lasts.replace(0),
             nths: self.nths.replace(0),
-            finds: self.finds.replace(0),
         }
     }
 }
@@ -120,40 +115,16 @@ impl<'a, I: FallibleIterator> FallibleIterator for Counted<'a, I> {
         self.it.drive(state, turn)
     }
 
-    fn drive_count(&mut self, number: &mut usize) -> Result<(), I::Error>
+    fn drive_to(&mut self, goal: &mut Goal<I::Item>) -> Result<Option<I::Item>, I::Error>
     where
         I::Item: Drop,
     {
-        add(&self.log.counts);
-        self.it.drive_count(number)
-    }
-
-    fn drive_last(&mut self) -> Result<Option<I::Item>, I::Error>
-    where
-        I::Item: Drop,
-    {
-        add(&self.log.lasts);
-        self.it.drive_last()
-    }
-
-    fn drive_nth(&mut self, n: usize) -> Result<Option<I::Item>, I::Error>
-    where
-        I::Item: Drop,
-    {
-        add(&self.log.nths);
-        self.it.drive_nth(n)
-    }
-
-    fn drive_find<C, K: Test<C, I::Item, I::Error>>(
-        &mut self,
-        state: &mut C,
-        test: &K,
-    ) -> Result<Option<I::Item>, I::Error>
-    where
-        I::Item: Drop,
-    {
-        add(&self.log.finds);
-        self.it.drive_find(state, test)
+        match goal {
+            Goal::Count(_) => add(&self.log.counts),
+            Goal::Last(_) => add(&self.log.lasts),
+            Goal::Nth(_) => add(&self.log.nths),
+        }
+        self.it.drive_to(goal)
     }
 
     ghost lawful = { lawful_seen (λ s. s.it) I.lawful };

@@ -24,13 +24,4 @@ macro_rules! by_drive {
             self.drive_try_rfold(init, f)
         }
     };
-    (drive_find) => {
-        fn find<Search>(&mut self, f: Search) -> Result<Option<Self::Item>, Self::Error>
-        where
-            Search: FnMut(&Self::Item) -> Result<bool, Self::Error>,
-        {
-            let mut f = f;
-            self.drive_find(&mut f, &$crate::fallible_contract::searching::FindTest)
-        }
-    };
 }

@@ -1,11 +1,11 @@
--- What a call of the source returns, and the call of the closure where it met a failure, are what that call of an adapter whose closure is called on failures returns: so of a fold, a count, a last item and an `nth`.
-use Rattle.std.specs.Prelude.{◌≡◌, ℕ, length, List, [], ◌∷◌, ◌++◌, map, Option, Result, Some, None, Ok, Err}
+-- What a call of the source returns, and the call of the closure where it met a failure, are what that call of an adapter whose closure is called on failures returns: so of a fold.
+use Rattle.std.specs.Prelude.{◌≡◌, List, [], ◌∷◌, ◌++◌, map, Option, Result, Some, None, Ok, Err}
 use Rattle.std.proofs.Common.{refl, sym, subst}
 use Rattle.fallible_contract.specs.Traces.{Answered, Run, item}
 use Rattle.fallible_contract.specs.Contract.{Contract, Lawful}
 use Rattle.fallible_contract.specs.Closures.{IsCallable}
 use Rattle.fallible_contract.specs.Failing.{failing_step, FailingAnswer, TakesFailure}
-use Rattle.fallible_contract.specs.Folds.{Drained, HoldsAtEachTurn, DrivenBy, CountedUp, LastBy, NthExit, NthBy}
+use Rattle.fallible_contract.specs.Folds.{Drained, HoldsAtEachTurn, DrivenBy}
 use Rattle.fallible_contract.specs.Laws.Closures.{reaches_reflexive, is_callable_after}
 use Rattle.fallible_contract.proofs.Lemmas.Failing.{failing_trace_of_failing_answer}
 use Rattle.fallible_contract.proofs.Lemmas.Folding.{holds_at_each_turn_of_held}
@@ -26,29 +26,6 @@ module _ {X D E C R : Type 0} (turns : C → X → ControlFlow R (Unit {0}) → 
   -- a fold, from the state c to d
   pub fails_last_drive : FailsLast (λ made. DrivenBy {E = D} turns c made d) (λ made. DrivenBy {E = E} turns c made d)
   fails_last_drive = record { at_value = driven_by_ok_of_value; at_failure = λ made items e at. (at.exit.0, (λ f. record { carried = at.carried; went = at.went; exit = (refl, at.exit.1) })) }
-
-module _ {X D E : Type 0} where
-  counted_up_ok_of_value : (n k : ℕ) (made : Result (Unit {0}) D) (items : List X) (v : Option X) → CountedUp n made k items (Ok v) → (w : Unit {0}) × (made ≡ Ok w) × CountedUp {E = E} n (Ok w) k items (Ok v)
-  counted_up_ok_of_value n k made items None at = (tt, at.exit, record { number = at.number; exit = refl })
-  counted_up_ok_of_value n k made items (Some x) at = absurd at.exit
-
-  -- a count, from the number n to k
-  pub fails_last_count : (n k : ℕ) → FailsLast (λ made. CountedUp {A = X} {E = D} n made k) (λ made. CountedUp {A = X} {E = E} n made k)
-  fails_last_count n k = record { at_value = counted_up_ok_of_value n k; at_failure = λ made items d at. (at.exit, (λ e. record { number = at.number; exit = refl })) }
-
-  last_by_ok_of_value : (made : Result (Option X) D) (items : List X) (v : Option X) → LastBy made items (Ok v) → (w : Option X) × (made ≡ Ok w) × LastBy {E = E} (Ok w) items (Ok v)
-  last_by_ok_of_value made items None at = (_, at.exit, record { exit = refl })
-  last_by_ok_of_value made items (Some x) at = absurd at.exit
-
-  pub fails_last_of_last : FailsLast (LastBy {A = X} {E = D}) (LastBy {A = X} {E = E})
-  fails_last_of_last = record { at_value = last_by_ok_of_value; at_failure = λ made items d at. (at.exit, (λ e. record { exit = refl })) }
-
-  nth_by_ok_of_value : (n : ℕ) (made : Answered X D) (items : List X) (v : Option X) → NthBy n made items (Ok v) → (w : Option X) × (made ≡ Ok w) × NthBy {E = E} n (Ok w) items (Ok v)
-  nth_by_ok_of_value n made items None at = (None, sym at.is, record { is = refl; exit = subst (NthExit n (length items)) (sym at.is) at.exit })
-  nth_by_ok_of_value n made items (Some x) at = (Some x, sym at.is, record { is = refl; exit = subst (NthExit n (length items)) (sym at.is) at.exit })
-
-  pub fails_last_nth : (n : ℕ) → FailsLast (NthBy {A = X} {E = D} n) (NthBy {A = X} {E = E} n)
-  fails_last_nth n = record { at_value = nth_by_ok_of_value n; at_failure = λ made items d at. (sym at.is, (λ e. record { is = refl; exit = subst (NthExit n (length items)) (sym at.is) at.exit })) }
 
 -- ---- what becomes of the last answer
 

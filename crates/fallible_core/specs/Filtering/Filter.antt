@@ -1,5 +1,5 @@
 -- `Filter`, which leaves out the items that a predicate rejects.
-use Rattle.std.specs.Prelude.{◌≡◌, ◌+◌, ℕ, Result, Ok, Err, List, Bool, true, false, [], ◌∷◌}
+use Rattle.std.specs.Prelude.{◌≡◌, Result, Ok, Err, List, Bool, true, false, [], ◌∷◌}
 use Rattle.std.specs.Fn.{Mut}
 use Rattle.std.specs.Borrow.{Bor}
 use Rattle.fallible_contract.specs.Traces.{Answered}
@@ -10,7 +10,7 @@ use Rattle.fallible_contract.specs.Folding.{FoldingTurn}
 pub use Rattle.fallible_contract.specs.Passing.{tested_outcome}
 use Rattle.fallible_contract.specs.Hints.{upper_alone}
 use Rattle.std.specs.declared.ops.ControlFlow.{ControlFlow}
-use Rattle.std.specs.declared.ops.ControlFlow.TheVariants.{Continue, Break}
+use Rattle.std.specs.declared.ops.ControlFlow.TheVariants.{Break}
 use Rattle.fallible_contract.specs.declared.passing.Outcome.{Outcome}
 use Rattle.fallible_core.specs.declared.filtering.filter.Filter.{Filter}
 
@@ -43,12 +43,6 @@ StopsWithItem u y r v = r ≡ Break y
 -- the source's turn of a draw, whose state is the closure: one call of it, and what stays in the item's place stops the draw
 abbrev pub DrawingTurn : {F X V B E : Type 0} → (F → X → V → F → Type 0) → (X → V → Outcome B E) → F → X → ControlFlow (Answered B E) (Unit {0}) → F → Type 0
 DrawingTurn call outcome f x r g = FoldingTurn call outcome StopsWithItem (tt, f) x r (tt, g)
-
--- ---- its count, through the source's own fold
-
--- a turn goes on, with one more
-abbrev pub CountsOne : {A R : Type 0} → ℕ → A → ControlFlow R (Unit {0}) → ℕ → Type 0
-CountsOne n x r k = (r ≡ Continue tt) × (k ≡ n + 1)
 
 -- ---- what it lists
 

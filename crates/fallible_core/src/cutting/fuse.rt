@@ -7,6 +7,7 @@ ghost use Rattle.fallible_core.specs.Laws.Cutting.Fuse.{lawful_fuse};
 
 use crate::traits::FallibleIterator;
 use fallible_contract::folds::Turn;
+use fallible_contract::goals::Goal;
 
 /// What the source yields up to its first `Ok(None)`. From there on each call returns `Ok(None)`. A failure exhausts nothing.
 #[derive(Clone, Debug, Drop)]
@@ -64,25 +65,8 @@ impl<I: FallibleIterator> FallibleIterator for Fuse<I> {
         }
     }
 
-    /// The source's count, and no item once it returned `Ok(None)`.
-    fn drive_count(&mut self, number: &mut usize) -> Result<(), I::Error>
-    where
-        I::Item: Drop,
-    {
-        let Fuse { it, ended } = self;
-        if *ended {
-            return Ok(());
-        }
-        match it.drive_count(number) {
-            Ok(()) => {
-                *ended = true;
-                Ok(())
-            }
-            Err(e) => Err(e),
-        }
-    }
-
-    fn drive_last(&mut self) -> Result<Option<I::Item>, I::Error>
+    /// What the source makes of the goal, and nothing once it returned `Ok(None)`. That exhausts the adapter; a failure doesn't.
+    fn drive_to(&mut self, goal: &mut Goal<I::Item>) -> Result<Option<I::Item>, I::Error>
     where
         I::Item: Drop,
     {
@@ -90,25 +74,7 @@ impl<I: FallibleIterator> FallibleIterator for Fuse<I> {
         if *ended {
             return Ok(None);
         }
-        match it.drive_last() {
-            Ok(last) => {
-                *ended = true;
-                Ok(last)
-            }
-            Err(e) => Err(e),
-        }
-    }
-
-    /// The source's `nth`. Its `Ok(None)` exhausts the adapter; a failure doesn't.
-    fn drive_nth(&mut self, n: usize) -> Result<Option<I::Item>, I::Error>
-    where
-        I::Item: Drop,
-    {
-        let Fuse { it, ended } = self;
-        if *ended {
-            return Ok(None);
-        }
-        match it.drive_nth(n) {
+        match it.drive_to(goal) {
             Ok(Some(x)) => Ok(Some(x)),
             Ok(None) => {
                 *ended = true;

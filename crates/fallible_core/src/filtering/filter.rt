@@ -11,7 +11,8 @@ ghost use Rattle.fallible_core.specs.Laws.Filtering.Filter.{lawful_filter, lawfu
 use crate::passing::{PassDrawTurn, drive_back_passing, drive_count_passing, drive_passing};
 use crate::traits::FallibleIterator;
 use crate::traits::double_ended::DoubleEndedFallibleIterator;
-use fallible_contract::folds::{Turn, answer_within};
+use fallible_contract::folds::{LastTurn, NthTurn, Turn, answer_within};
+use fallible_contract::goals::Goal;
 use fallible_contract::passing::{Outcome, Pass};
 
 /// The items for which the predicate returns true. An item on which it fails is lost, and its failure is yielded.
@@ -52,12 +53,22 @@ where
         drive_passing(&mut self.it, &mut self.f, &FilterPass, state, turn)
     }
 
-    /// One fold of the source, which adds one for each item that is kept.
-    fn drive_count(&mut self, number: &mut usize) -> Result<(), I::Error> {
-        match drive_count_passing(&mut self.it, &mut self.f, &FilterPass, number) {
-            Ok(None) => Ok(()),
-            Ok(Some(never)) => match never {},
-            Err(e) => Err(e),
+    /// One fold of the source. A count adds one for each item that is kept.
+    fn drive_to(&mut self, goal: &mut Goal<I::Item>) -> Result<Option<I::Item>, I::Error> {
+        match goal {
+            Goal::Count(number) => {
+                match drive_count_passing(&mut self.it, &mut self.f, &FilterPass, number) {
+                    Ok(None) => Ok(None),
+                    Ok(Some(never)) => match never {},
+                    Err(e) => Err(e),
+                }
+            }
+            Goal::Last(item) => match self.drive(item, &LastTurn) {
+                Ok(None) => Ok(None),
+                Ok(Some(never)) => match never {},
+                Err(e) => Err(e),
+            },
+            Goal::Nth(left) => self.drive(left, &NthTurn),
         }
     }
 

@@ -11,7 +11,8 @@ ghost use Rattle.fallible_core.specs.Laws.Filtering.FilterMap.{lawful_filter_map
 use crate::passing::{drive_back_passing, drive_count_passing, drive_passing};
 use crate::traits::FallibleIterator;
 use crate::traits::double_ended::DoubleEndedFallibleIterator;
-use fallible_contract::folds::{Turn, answer_within};
+use fallible_contract::folds::{LastTurn, NthTurn, Turn, answer_within};
+use fallible_contract::goals::Goal;
 use fallible_contract::passing::{Outcome, Pass};
 use fallible_contract::searching::FindMapTurn;
 
@@ -47,15 +48,25 @@ impl<I: FallibleIterator, B, F: FnMut(I::Item) -> Result<Option<B>, I::Error>> F
         drive_passing(&mut self.it, &mut self.f, &FilterMapPass, state, turn)
     }
 
-    /// One fold of the source, which adds one for each item for which the closure returns a value.
-    fn drive_count(&mut self, number: &mut usize) -> Result<(), I::Error>
+    /// One fold of the source. A count adds one for each item for which the closure returns a value.
+    fn drive_to(&mut self, goal: &mut Goal<B>) -> Result<Option<B>, I::Error>
     where
         B: Drop,
     {
-        match drive_count_passing(&mut self.it, &mut self.f, &FilterMapPass, number) {
-            Ok(None) => Ok(()),
-            Ok(Some(never)) => match never {},
-            Err(e) => Err(e),
+        match goal {
+            Goal::Count(number) => {
+                match drive_count_passing(&mut self.it, &mut self.f, &FilterMapPass, number) {
+                    Ok(None) => Ok(None),
+                    Ok(Some(never)) => match never {},
+                    Err(e) => Err(e),
+                }
+            }
+            Goal::Last(item) => match self.drive(item, &LastTurn) {
+                Ok(None) => Ok(None),
+                Ok(Some(never)) => match never {},
+                Err(e) => Err(e),
+            },
+            Goal::Nth(left) => self.drive(left, &NthTurn),
         }
     }
 

@@ -9,7 +9,7 @@ ghost use Rattle.fallible_core.specs.Laws.Filtering.SkipWhile.{lawful_skip_while
 
 use crate::traits::FallibleIterator;
 use fallible_contract::folds::Turn;
-use fallible_contract::searching::Test;
+use fallible_contract::searching::{FindTurn, Test, found};
 use std::ops::ControlFlow;
 
 /// The items from the first one on for which the predicate returns false. The predicate is called up to that item and never after it; an item on which it fails is lost, and its failure is yielded.
@@ -36,7 +36,10 @@ where
         if self.skipping.0 {
             self.it.next()
         } else {
-            self.it.drive_find(&mut self.skipping, &SkipWhileTest)
+            let turn = FindTurn {
+                test: &SkipWhileTest,
+            };
+            found(self.it.drive(&mut self.skipping, &turn))
         }
     }
 

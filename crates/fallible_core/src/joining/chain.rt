@@ -10,8 +10,8 @@ ghost use Rattle.fallible_core.specs.Laws.Joining.Chain.{lawful_chain, lawful_en
 use crate::traits::FallibleIterator;
 use crate::traits::double_ended::DoubleEndedFallibleIterator;
 use fallible_contract::folds::Turn;
+use fallible_contract::goals::Goal;
 use fallible_contract::hints::sum;
-use fallible_contract::searching::Test;
 
 // Which sides of a `Chain` are still drawn: `SecondAlone` once a draw from the front of the first returned `Ok(None)`, and `FirstAlone` once a draw from the back of the second did.
 #[derive(Clone, Debug, Drop)]
@@ -88,8 +88,8 @@ impl<T: FallibleIterator, U: FallibleIterator<Item = T::Item, Error = T::Error>>
         }
     }
 
-    /// The first's count, and after its `Ok(None)`, in the same call, the second's, into one number.
-    fn drive_count(&mut self, number: &mut usize) -> Result<(), T::Error>
+    /// What the first makes of the goal, and after its `Ok(None)`, in the same call, what the second makes of it; if one side alone is drawn, what that side does.
+    fn drive_to(&mut self, goal: &mut Goal<T::Item>) -> Result<Option<T::Item>, T::Error>
     where
         T::Item: Drop,
     {
@@ -99,68 +99,14 @@ impl<T: FallibleIterator, U: FallibleIterator<Item = T::Item, Error = T::Error>>
             still_drawn,
         } = self;
         match still_drawn {
-            StillDrawn::Both => match first.drive_count(number) {
-                Ok(()) => {
-                    *still_drawn = StillDrawn::SecondAlone;
-                    second.drive_count(number)
-                }
-                Err(e) => Err(e),
-            },
-            StillDrawn::FirstAlone => first.drive_count(number),
-            StillDrawn::SecondAlone => second.drive_count(number),
-        }
-    }
-
-    /// The second's last item, or the first's if it has none. If the first fails, the second isn't drawn.
-    fn drive_last(&mut self) -> Result<Option<T::Item>, T::Error>
-    where
-        T::Item: Drop,
-    {
-        let Chain {
-            first,
-            second,
-            still_drawn,
-        } = self;
-        match still_drawn {
-            StillDrawn::Both => match first.drive_last() {
-                Ok(before) => {
-                    *still_drawn = StillDrawn::SecondAlone;
-                    match second.drive_last() {
-                        Ok(Some(x)) => Ok(Some(x)),
-                        Ok(None) => Ok(before),
-                        Err(e) => Err(e),
-                    }
-                }
-                Err(e) => Err(e),
-            },
-            StillDrawn::FirstAlone => first.drive_last(),
-            StillDrawn::SecondAlone => second.drive_last(),
-        }
-    }
-
-    /// The first's search, and if it found none, in the same call, the second's; if one side alone is drawn, that side's.
-    fn drive_find<C, K: Test<C, T::Item, T::Error>>(
-        &mut self,
-        state: &mut C,
-        test: &K,
-    ) -> Result<Option<T::Item>, T::Error>
-    where
-        T::Item: Drop,
-    {
-        let Chain {
-            first,
-            second,
-            still_drawn,
-        } = self;
-        match still_drawn {
-            StillDrawn::SecondAlone => second.drive_find(state, test),
-            _ => match first.drive_find(state, test) {
+            StillDrawn::SecondAlone => second.drive_to(goal),
+            _ => match first.drive_to(goal) {
                 Ok(Some(x)) => Ok(Some(x)),
                 Ok(None) => match still_drawn {
                     StillDrawn::FirstAlone => Ok(None),
                     _ => {
                         *still_drawn = StillDrawn::SecondAlone;
-                        second.drive_find(state, test)
+                        second.drive_to(goal)
                     }
                 },
                 Err(e) => Err(e),

@@ -5,9 +5,11 @@ ghost use Rattle.fallible_contract.specs.Laws.Contract.{lawful_seen};
 ghost use Rattle.fallible_core.specs.OneToOne.Enumerate.{enumerate_contract, enumerate_parts, number_call, number_outcome, number_takes};
 ghost use Rattle.fallible_core.specs.Laws.OneToOne.Enumerate.{lawful_enumerate};
 
+use crate::goals::count_on;
 use crate::passing::drive_passing;
 use crate::traits::FallibleIterator;
-use fallible_contract::folds::{NthTurn, Turn};
+use fallible_contract::folds::{LastTurn, NthTurn, Turn};
+use fallible_contract::goals::Goal;
 use fallible_contract::passing::{Outcome, Pass, passed};
 
 /// Each item with the number of items before it. Failures and `Ok(None)` pass, and don't count.
@@ -45,18 +47,28 @@ where
         drive_passing(&mut self.it, &mut self.count, &EnumeratePass, state, turn)
     }
 
-    /// The source's count. Its own number goes up by as much, also before a failure.
-    fn drive_count(&mut self, number: &mut usize) -> Result<(), I::Error> {
-        let before = *number;
-        let counted = self.it.drive_count(number);
-        self.count += *number - before;
-        counted
-    }
-
-    /// One fold of the source, which counts each item.
-    fn drive_nth(&mut self, n: usize) -> Result<Option<(usize, I::Item)>, I::Error> {
-        let mut left = n;
-        self.drive(&mut left, &NthTurn)
+    /// A count is the source's. Its own number goes up by as much, also before a failure. The others are one fold of the source, which counts each item.
+    fn drive_to(
+        &mut self,
+        goal: &mut Goal<(usize, I::Item)>,
+    ) -> Result<Option<(usize, I::Item)>, I::Error> {
+        match goal {
+            Goal::Count(number) => {
+                let before = *number;
+                let counted = count_on(&mut self.it, number);
+                self.count += *number - before;
+                match counted {
+                    Ok(()) => Ok(None),
+                    Err(e) => Err(e),
+                }
+            }
+            Goal::Last(item) => match self.drive(item, &LastTurn) {
+                Ok(None) => Ok(None),
+                Ok(Some(never)) => match never {},
+                Err(e) => Err(e),
+            },
+            Goal::Nth(left) => self.drive(left, &NthTurn),
+        }
     }
 
     ghost lawful = { lawful_seen enumerate_parts (lawful_enumerate I.lawful) };

@@ -13,6 +13,7 @@ use crate::traits::FallibleIterator;
 use crate::traits::double_ended::DoubleEndedFallibleIterator;
 use fallible_contract::failing::{Fail, failed};
 use fallible_contract::folds::Turn;
+use fallible_contract::goals::Goal;
 
 /// The source with each failure replaced by what the closure returns for it. Items and `Ok(None)` pass.
 #[derive(Clone, Debug, Drop)]
@@ -45,26 +46,12 @@ impl<I: FallibleIterator, B, F: FnMut(I::Error) -> B> FallibleIterator for MapEr
         drive_failing(&mut self.it, &mut self.f, &MapErrFail, state, turn)
     }
 
-    /// The source's count, or what the closure returns for the failure that it met.
-    fn drive_count(&mut self, number: &mut usize) -> Result<(), B>
+    /// What the source makes of the goal, or what the closure returns for the failure that it met.
+    fn drive_to(&mut self, goal: &mut Goal<I::Item>) -> Result<Option<I::Item>, B>
     where
         I::Item: Drop,
     {
-        failed(self.it.drive_count(number), &mut self.f, &MapErrFail)
-    }
-
-    fn drive_last(&mut self) -> Result<Option<I::Item>, B>
-    where
-        I::Item: Drop,
-    {
-        failed(self.it.drive_last(), &mut self.f, &MapErrFail)
-    }
-
-    fn drive_nth(&mut self, n: usize) -> Result<Option<I::Item>, B>
-    where
-        I::Item: Drop,
-    {
-        failed(self.it.drive_nth(n), &mut self.f, &MapErrFail)
+        failed(self.it.drive_to(goal), &mut self.f, &MapErrFail)
     }
 
     ghost lawful = { lawful_seen map_err_parts (lawful_map_err F.FnMut I.lawful) };

@@ -7,6 +7,7 @@ ghost use Rattle.fallible_core.specs.Laws.Borrowed.{lawful_borrowed, lawful_ends
 use crate::traits::FallibleIterator;
 use crate::traits::double_ended::DoubleEndedFallibleIterator;
 use fallible_contract::folds::Turn;
+use fallible_contract::goals::Goal;
 
 impl<I: FallibleIterator> FallibleIterator for &mut I {
     type Item = I::Item;
@@ -31,11 +32,11 @@ impl<I: FallibleIterator> FallibleIterator for &mut I {
         (**self).drive(state, turn)
     }
 
-    fn drive_nth(&mut self, n: usize) -> Result<Option<I::Item>, I::Error>
+    fn drive_to(&mut self, goal: &mut Goal<I::Item>) -> Result<Option<I::Item>, I::Error>
     where
         I::Item: Drop,
     {
-        (**self).drive_nth(n)
+        (**self).drive_to(goal)
     }
 
     ghost lawful = { lawful_borrowed I.lawful };

@@ -8,6 +8,7 @@ ghost use Rattle.fallible_contract.specs.Laws.Ends.{lawful_ends_seen};
 use crate::traits::FallibleIterator;
 use crate::traits::double_ended::DoubleEndedFallibleIterator;
 use fallible_contract::folds::Turn;
+use fallible_contract::goals::Goal;
 
 impl<I: FallibleIterator> FallibleIterator for Box<I> {
     type Item = I::Item;
@@ -32,11 +33,11 @@ impl<I: FallibleIterator> FallibleIterator for Box<I> {
         (**self).drive(state, turn)
     }
 
-    fn drive_nth(&mut self, n: usize) -> Result<Option<I::Item>, I::Error>
+    fn drive_to(&mut self, goal: &mut Goal<I::Item>) -> Result<Option<I::Item>, I::Error>
     where
         I::Item: Drop,
     {
-        (**self).drive_nth(n)
+        (**self).drive_to(goal)
     }
 
     ghost lawful = { lawful_seen (λ s. s.value) I.lawful };

@@ -13,7 +13,7 @@ use crate::fallible_contract::comparing::{
 use crate::fallible_contract::folds::{CountTurn, LastTurn, ReduceTurn, TryFoldTurn, Turn};
 use crate::fallible_contract::picking::without_key;
 use crate::fallible_contract::searching::{
-    AllTurn, AnyTurn, FindMapTurn, FindTest, FindTurn, ForEachTurn, PositionTurn, Test, answer_or,
+    AllTurn, AnyTurn, FindMapTurn, FindTest, FindTurn, ForEachTurn, PositionTurn, answer_or,
     answer_or_none, found,
 };
 use crate::fallible_core::bridges::{Iterator, Unwrap};
@@ -145,30 +145,6 @@ pub trait FallibleIterator {
         }
     }
 
-    /// For types that override it: draws up to `Ok(None)` or the first failure, and adds one to `number` for each item, also for those before a failure. `count` goes through it. A caller uses `count`.
-    ///
-    /// <details><summary>Contract</summary>
-    ///
-    /// As it is proved, in [these words](crate::words):
-    ///
-    /// ```text
-    /// requires can_next { contract.can_next self.old }
-    /// requires fits { AtMost contract self.old (2 ^ 64 - 1 - number.old) }
-    /// ensures { fold.CountDrainsOn contract.steps self.old number.old result self.new number.new }
-    /// ```
-    /// </details>
-    #[doc(hidden)]
-    fn drive_count(&mut self, number: &mut usize) -> Result<(), Self::Error>
-    where
-        Self: Sized,
-    {
-        match self.drive(number, &CountTurn) {
-            Ok(None) => Ok(()),
-            Ok(Some(never)) => match never {},
-            Err(e) => Err(e),
-        }
-    }
-
     /// Returns the number of items up to `Ok(None)`.
     ///
     /// It draws up to `Ok(None)` or the first failure. It fails with that failure. It consumes the iterator.
@@ -200,32 +176,8 @@ pub trait FallibleIterator {
         Self: Sized,
     {
         let mut number = 0;
-        match self.drive_count(&mut number) {
-            Ok(()) => Ok(number),
-            Err(e) => Err(e),
-        }
-    }
-
-    /// For types that override it: `last`, without what it says of a list. A caller uses `last`.
-    ///
-    /// <details><summary>Contract</summary>
-    ///
-    /// As it is proved, in [these words](crate::words):
-    ///
-    /// ```text
-    /// requires can_next { contract.can_next self.old }
-    /// requires finite { contract.is_finite self.old }
-    /// ensures { fold.LastDrains contract.steps self.old result self.new }
-    /// ```
-    /// </details>
-    #[doc(hidden)]
-    fn drive_last(&mut self) -> Result<Option<Self::Item>, Self::Error>
-    where
-        Self: Sized,
-    {
-        let mut last = None;
-        match self.drive(&mut last, &LastTurn) {
-            Ok(None) => Ok(last),
+        match self.drive(&mut number, &CountTurn) {
+            Ok(None) => Ok(number),
             Ok(Some(never)) => match never {},
             Err(e) => Err(e),
         }
@@ -261,7 +213,12 @@ pub trait FallibleIterator {
     where
         Self: Sized,
     {
-        self.drive_last()
+        let mut last = None;
+        match self.drive(&mut last, &LastTurn) {
+            Ok(None) => Ok(last),
+            Ok(Some(never)) => match never {},
+            Err(e) => Err(e),
+        }
     }
 
     /// Returns the item with n items before it; `Ok(None)` if the iterator ends first.
@@ -431,33 +388,6 @@ pub trait FallibleIterator {
             Ok(Some(e)) => Err(e),
             Err(e) => Err(e),
         }
-    }
-
-    /// For types that override searches: draws until the test accepts an item or fails on it, or a failure or `Ok(None)` comes. `find` goes through it, which a caller uses.
-    ///
-    /// <details><summary>Contract</summary>
-    ///
-    /// As it is proved, in [these words](crate::words):
-    ///
-    /// ```text
-    /// requires can_next { contract.can_next self.old }
-    /// requires finite { contract.is_finite self.old }
-    /// requires callable { search.CallableInSearch (K.tests test.now) search.find_pick
-    ///     contract.steps (K.can_test test.now) self.old state.old }
-    /// ensures { search.SearchDrains (K.tests test.now) search.find_pick contract.steps None
-    ///     self.old state.old result self.new state.new }
-    /// ```
-    /// </details>
-    #[doc(hidden)]
-    fn drive_find<C, K: Test<C, Self::Item, Self::Error>>(
-        &mut self,
-        state: &mut C,
-        test: &K,
-    ) -> Result<Option<Self::Item>, Self::Error>
-    where
-        Self: Sized,
-    {
-        self.find(|x| test.test(state, x))
     }
 
     /// Yields what the closure returns for each item.

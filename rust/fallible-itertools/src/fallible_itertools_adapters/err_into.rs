@@ -54,18 +54,17 @@ impl<I: FallibleIterator, E: From<I::Error>> FallibleIterator for ErrInto<I, E> 
         )
     }
 
-    /// The source's count, or the failure that it met, converted.
-    fn drive_count(&mut self, number: &mut usize) -> Result<(), E> {
+    fn count(self) -> Result<usize, E> {
         failed(
-            self.it.drive_count(number),
+            self.it.count(),
             &mut (),
             &IntoFail::<E> { made: PhantomData },
         )
     }
 
-    fn drive_last(&mut self) -> Result<Option<I::Item>, E> {
+    fn last(self) -> Result<Option<I::Item>, E> {
         failed(
-            self.it.drive_last(),
+            self.it.last(),
             &mut (),
             &IntoFail::<E> { made: PhantomData },
         )

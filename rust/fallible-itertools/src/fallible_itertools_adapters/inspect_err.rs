@@ -41,19 +41,6 @@ impl<I: FallibleIterator, F: FnMut(&I::Error)> FallibleIterator for InspectErr<I
         drive_failing(&mut self.it, &mut self.f, &InspectErrFail, state, turn)
     }
 
-    /// The source's count. The closure is called on a failure that it met.
-    fn drive_count(&mut self, number: &mut usize) -> Result<(), I::Error> {
-        failed(self.it.drive_count(number), &mut self.f, &InspectErrFail)
-    }
-
-    fn drive_last(&mut self) -> Result<Option<I::Item>, I::Error> {
-        failed(self.it.drive_last(), &mut self.f, &InspectErrFail)
-    }
-
-    fn nth(&mut self, n: usize) -> Result<Option<I::Item>, I::Error> {
-        failed(self.it.nth(n), &mut self.f, &InspectErrFail)
-    }
-
     fn count(self) -> Result<usize, Self::Error> {
         let mut f = self.f;
         failed(self.it.count(), &mut f, &InspectErrFail)
@@ -62,6 +49,10 @@ impl<I: FallibleIterator, F: FnMut(&I::Error)> FallibleIterator for InspectErr<I
     fn last(self) -> Result<Option<Self::Item>, Self::Error> {
         let mut f = self.f;
         failed(self.it.last(), &mut f, &InspectErrFail)
+    }
+
+    fn nth(&mut self, n: usize) -> Result<Option<I::Item>, I::Error> {
+        failed(self.it.nth(n), &mut self.f, &InspectErrFail)
     }
 
     fallible_iterator::by_drive!(drive);

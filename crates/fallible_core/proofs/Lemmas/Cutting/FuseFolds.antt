@@ -1,10 +1,10 @@
--- A drain of the source is one of `Fuse`, which the source's end closes: its fold, its count, its last item and its `nth`.
-use Rattle.std.specs.Prelude.{◌≡◌, ℕ, Bool, true, false, Option, List, [], ◌∷◌, ◌++◌, map, Result, Some, None, Ok, Err}
+-- A fold of the source is one of `Fuse`, which the source's end closes.
+use Rattle.std.specs.Prelude.{◌≡◌, Bool, true, false, Option, List, [], ◌∷◌, ◌++◌, map, Result, Some, None, Ok, Err}
 use Rattle.std.proofs.Common.{refl, sym, ap, subst, ◌∙◌}
 use Rattle.fallible_contract.specs.Traces.{Answered, Run, item, is_end}
 use Rattle.fallible_contract.specs.Closing.{closing_step}
 use Rattle.fallible_contract.specs.Contract.{Contract, seen_as}
-use Rattle.fallible_contract.specs.Folds.{Drained, HoldsAtEachTurn, DriveExit, Driven, OverExit, CountDrainsOn, LastExit, LastDrains, NthDrains}
+use Rattle.fallible_contract.specs.Folds.{Drained, HoldsAtEachTurn, DriveExit, Driven}
 use Rattle.fallible_contract.proofs.Lemmas.Folding.{holds_at_each_turn_of_held, drained_of_holder}
 use Rattle.fallible_core.specs.Cutting.Fuse.{fuse_parts, fuse_contract}
 use Rattle.std.specs.declared.ops.ControlFlow.{ControlFlow}
@@ -15,21 +15,6 @@ is_end_same_by_drive_exit : {C A E R : Type 0} (turns : C → A → ControlFlow 
 is_end_same_by_drive_exit turns c (Ok None) r d at = ap is_end at.0
 is_end_same_by_drive_exit turns c (Err e) r d at = ap is_end at.0
 is_end_same_by_drive_exit turns c (Ok (Some x)) r d at = ap is_end at.2
-
--- a count and a last item are found where the last answer is an end
-abbrev pub is_ok_result : {C E : Type 0} → Result C E → Bool
-is_ok_result (Ok v) = true
-is_ok_result (Err e) = false
-
-is_ok_result_is_is_end_by_over_exit : {A E : Type 0} (last : Answered A E) (r : Result (Unit {0}) E) → OverExit last r → is_ok_result r ≡ is_end last
-is_ok_result_is_is_end_by_over_exit (Ok None) r h = ap is_ok_result h
-is_ok_result_is_is_end_by_over_exit (Err e) r h = ap is_ok_result h
-is_ok_result_is_is_end_by_over_exit (Ok (Some x)) r h = absurd h
-
-is_ok_result_is_is_end_by_last_exit : {A E : Type 0} (items : List A) (last : Answered A E) (r : Result (Option A) E) → LastExit items last r → is_ok_result r ≡ is_end last
-is_ok_result_is_is_end_by_last_exit items (Ok None) r h = ap is_ok_result h
-is_ok_result_is_is_end_by_last_exit items (Err e) r h = ap is_ok_result h
-is_ok_result_is_is_end_by_last_exit items (Ok (Some x)) r h = absurd h
 
 module _ {S A E : Type 0} (steps_of_fuse_folds : S → Answered A E → S → Type 0) where
   -- items leave it open
@@ -57,15 +42,6 @@ module _ {S A E : Type 0} (m : Contract S A E) (s : Fuse S) where
 
   pub driven_open : {C R : Type 0} {turns : C → A → ControlFlow R (Unit {0}) → C → Type 0} {t : S} {c d : C} {r : Answered R E} (closed : Bool) → s.ended ≡ false → closed ≡ is_end r → Driven m.steps turns s.it c r t d → Driven steps_of_fuse_folds turns s c r (record { it = t; ended = closed }) d
   driven_open {turns = turns} {d = d} {r = r} closed is met w = drained_open closed is w (met ∙ is_end_same_by_drive_exit turns w.at.carried w.last r d w.at.exit)
-
-  pub nth_drains_open : {n : ℕ} {r : Answered A E} {t : S} (closed : Bool) → s.ended ≡ false → closed ≡ is_end r → NthDrains m.steps s.it n r t → NthDrains steps_of_fuse_folds s n r (record { it = t; ended = closed })
-  nth_drains_open closed is met w = drained_open closed is w (met ∙ sym (ap is_end w.at.is))
-
-  pub count_drains_on_open : {n k : ℕ} {r : Result (Unit {0}) E} {t : S} (closed : Bool) → s.ended ≡ false → closed ≡ is_ok_result r → CountDrainsOn m.steps s.it n r t k → CountDrainsOn steps_of_fuse_folds s n r (record { it = t; ended = closed }) k
-  count_drains_on_open {r = r} closed is met w = drained_open closed is w (met ∙ is_ok_result_is_is_end_by_over_exit w.last r w.at.exit)
-
-  pub last_drains_open : {r : Result (Option A) E} {t : S} (closed : Bool) → s.ended ≡ false → closed ≡ is_ok_result r → LastDrains m.steps s.it r t → LastDrains steps_of_fuse_folds s r (record { it = t; ended = closed })
-  last_drains_open {r = r} closed is met w = drained_open closed is w (met ∙ is_ok_result_is_is_end_by_last_exit w.items w.last r w.at.exit)
 
   -- where it is closed, a drain is an end without a draw
   step_ends_where_closed : s.ended ≡ true → steps_of_fuse_folds s (Ok None) s

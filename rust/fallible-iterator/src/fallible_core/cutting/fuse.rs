@@ -59,36 +59,20 @@ impl<I: FallibleIterator> FallibleIterator for Fuse<I> {
         }
     }
 
-    /// The source's count, and no item once it returned `Ok(None)`.
-    fn drive_count(&mut self, number: &mut usize) -> Result<(), I::Error> {
-        let Fuse { it, ended } = self;
-        if *ended {
-            return Ok(());
+    fn count(self) -> Result<usize, Self::Error> {
+        if self.ended {
+            return Ok(0);
         }
-        match it.drive_count(number) {
-            Ok(()) => {
-                *ended = true;
-                Ok(())
-            }
-            Err(e) => Err(e),
-        }
+        self.it.count()
     }
 
-    fn drive_last(&mut self) -> Result<Option<I::Item>, I::Error> {
-        let Fuse { it, ended } = self;
-        if *ended {
+    fn last(self) -> Result<Option<Self::Item>, Self::Error> {
+        if self.ended {
             return Ok(None);
         }
-        match it.drive_last() {
-            Ok(last) => {
-                *ended = true;
-                Ok(last)
-            }
-            Err(e) => Err(e),
-        }
+        self.it.last()
     }
 
-    /// The source's `nth`. Its `Ok(None)` exhausts the adapter; a failure doesn't.
     fn nth(&mut self, n: usize) -> Result<Option<I::Item>, I::Error> {
         let Fuse { it, ended } = self;
         if *ended {
@@ -102,20 +86,6 @@ impl<I: FallibleIterator> FallibleIterator for Fuse<I> {
             }
             Err(e) => Err(e),
         }
-    }
-
-    fn count(self) -> Result<usize, Self::Error> {
-        if self.ended {
-            return Ok(0);
-        }
-        self.it.count()
-    }
-
-    fn last(self) -> Result<Option<Self::Item>, Self::Error> {
-        if self.ended {
-            return Ok(None);
-        }
-        self.it.last()
     }
 
     crate::by_drive!(drive);

@@ -44,10 +44,10 @@ impl<I: FallibleIterator, F: FnMut(&I::Item) -> Result<bool, I::Error>> Fallible
         drive_passing(&mut self.it, &mut self.f, &FilterPass, state, turn)
     }
 
-    /// One fold of the source, which adds one for each item that is kept.
-    fn drive_count(&mut self, number: &mut usize) -> Result<(), I::Error> {
-        match drive_count_passing(&mut self.it, &mut self.f, &FilterPass, number) {
-            Ok(None) => Ok(()),
+    fn count(mut self) -> Result<usize, I::Error> {
+        let mut number = 0;
+        match drive_count_passing(&mut self.it, &mut self.f, &FilterPass, &mut number) {
+            Ok(None) => Ok(number),
             Ok(Some(never)) => match never {},
             Err(e) => Err(e),
         }

@@ -40,10 +40,10 @@ impl<I: FallibleIterator, B, F: FnMut(I::Item) -> Result<Option<B>, I::Error>> F
         drive_passing(&mut self.it, &mut self.f, &FilterMapPass, state, turn)
     }
 
-    /// One fold of the source, which adds one for each item for which the closure returns a value.
-    fn drive_count(&mut self, number: &mut usize) -> Result<(), I::Error> {
-        match drive_count_passing(&mut self.it, &mut self.f, &FilterMapPass, number) {
-            Ok(None) => Ok(()),
+    fn count(mut self) -> Result<usize, I::Error> {
+        let mut number = 0;
+        match drive_count_passing(&mut self.it, &mut self.f, &FilterMapPass, &mut number) {
+            Ok(None) => Ok(number),
             Ok(Some(never)) => match never {},
             Err(e) => Err(e),
         }

@@ -26,7 +26,8 @@ impl<I: FallibleIterator, P: FnMut(&I::Item) -> Result<bool, I::Error>> Fallible
         if self.skipping.0 {
             self.it.next()
         } else {
-            self.it.drive_find(&mut self.skipping, &SkipWhileTest)
+            let skipping = &mut self.skipping;
+            self.it.find(|x| SkipWhileTest.test(skipping, x))
         }
     }
 

@@ -2,7 +2,6 @@
 
 use crate::fallible_contract::folds::Turn;
 use crate::fallible_contract::hints::sum;
-use crate::fallible_contract::searching::Test;
 use crate::fallible_core::traits::FallibleIterator;
 use crate::fallible_core::traits::double_ended::DoubleEndedFallibleIterator;
 
@@ -82,82 +81,37 @@ impl<T: FallibleIterator, U: FallibleIterator<Item = T::Item, Error = T::Error>>
         }
     }
 
-    /// The first's count, and after its `Ok(None)`, in the same call, the second's, into one number.
-    fn drive_count(&mut self, number: &mut usize) -> Result<(), T::Error> {
-        let Chain {
-            first,
-            second,
-            still_drawn,
-        } = self;
-        match still_drawn {
-            StillDrawn::Both => match first.drive_count(number) {
-                Ok(()) => {
-                    *still_drawn = StillDrawn::SecondAlone;
-                    second.drive_count(number)
-                }
-                Err(e) => Err(e),
-            },
-            StillDrawn::FirstAlone => first.drive_count(number),
-            StillDrawn::SecondAlone => second.drive_count(number),
-        }
-    }
-
-    /// The second's last item, or the first's if it has none. If the first fails, the second isn't drawn.
-    fn drive_last(&mut self) -> Result<Option<T::Item>, T::Error> {
-        let Chain {
-            first,
-            second,
-            still_drawn,
-        } = self;
-        match still_drawn {
-            StillDrawn::Both => match first.drive_last() {
-                Ok(before) => {
-                    *still_drawn = StillDrawn::SecondAlone;
-                    match second.drive_last() {
-                        Ok(Some(x)) => Ok(Some(x)),
-                        Ok(None) => Ok(before),
-                        Err(e) => Err(e),
-                    }
-                }
-                Err(e) => Err(e),
-            },
-            StillDrawn::FirstAlone => first.drive_last(),
-            StillDrawn::SecondAlone => second.drive_last(),
-        }
-    }
-
-    /// The first's search, and if it found none, in the same call, the second's; if one side alone is drawn, that side's.
-    fn drive_find<C, K: Test<C, T::Item, T::Error>>(
-        &mut self,
-        state: &mut C,
-        test: &K,
-    ) -> Result<Option<T::Item>, T::Error> {
-        let Chain {
-            first,
-            second,
-            still_drawn,
-        } = self;
-        match still_drawn {
-            StillDrawn::SecondAlone => second.drive_find(state, test),
-            _ => match first.drive_find(state, test) {
-                Ok(Some(x)) => Ok(Some(x)),
-                Ok(None) => match still_drawn {
-                    StillDrawn::FirstAlone => Ok(None),
-                    _ => {
-                        *still_drawn = StillDrawn::SecondAlone;
-                        second.drive_find(state, test)
-                    }
-                },
-                Err(e) => Err(e),
-            },
-        }
-    }
-
     fn count(self) -> Result<usize, Self::Error> {
         match self.still_drawn {
             StillDrawn::Both => Ok(self.first.count()? + self.second.count()?),
             StillDrawn::FirstAlone => self.first.count(),
             StillDrawn::SecondAlone => self.second.count(),
+        }
+    }
+
+    fn find<F>(&mut self, f: F) -> Result<Option<T::Item>, T::Error>
+    where
+        F: FnMut(&T::Item) -> Result<bool, T::Error>,
+    {
+        let mut f = f;
+        let Chain {
+            first,
+            second,
+            still_drawn,
+        } = self;
+        match still_drawn {
+            StillDrawn::SecondAlone => second.find(f),
+            _ => match first.find(&mut f) {
+                Ok(Some(x)) => Ok(Some(x)),
+                Ok(None) => match still_drawn {
+                    StillDrawn::FirstAlone => Ok(None),
+                    _ => {
+                        *still_drawn = StillDrawn::SecondAlone;
+                        second.find(f)
+                    }
+                },
+                Err(e) => Err(e),
+            },
         }
     }
 
@@ -173,8 +127,6 @@ impl<T: FallibleIterator, U: FallibleIterator<Item = T::Item, Error = T::Error>>
     }
 
     crate::by_drive!(drive);
-
-    crate::by_drive!(drive_find);
 }
 
 impl<

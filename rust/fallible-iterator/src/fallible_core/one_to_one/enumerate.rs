@@ -37,22 +37,13 @@ impl<I: FallibleIterator> FallibleIterator for Enumerate<I> {
         drive_passing(&mut self.it, &mut self.count, &EnumeratePass, state, turn)
     }
 
-    /// The source's count. Its own number goes up by as much, also before a failure.
-    fn drive_count(&mut self, number: &mut usize) -> Result<(), I::Error> {
-        let before = *number;
-        let counted = self.it.drive_count(number);
-        self.count += *number - before;
-        counted
+    fn count(self) -> Result<usize, Self::Error> {
+        self.it.count()
     }
 
-    /// One fold of the source, which counts each item.
     fn nth(&mut self, n: usize) -> Result<Option<(usize, I::Item)>, I::Error> {
         let mut left = n;
         self.drive(&mut left, &NthTurn)
-    }
-
-    fn count(self) -> Result<usize, Self::Error> {
-        self.it.count()
     }
 
     crate::by_drive!(drive);

@@ -37,19 +37,6 @@ impl<I: FallibleIterator, B, F: FnMut(I::Error) -> B> FallibleIterator for MapEr
         drive_failing(&mut self.it, &mut self.f, &MapErrFail, state, turn)
     }
 
-    /// The source's count, or what the closure returns for the failure that it met.
-    fn drive_count(&mut self, number: &mut usize) -> Result<(), B> {
-        failed(self.it.drive_count(number), &mut self.f, &MapErrFail)
-    }
-
-    fn drive_last(&mut self) -> Result<Option<I::Item>, B> {
-        failed(self.it.drive_last(), &mut self.f, &MapErrFail)
-    }
-
-    fn nth(&mut self, n: usize) -> Result<Option<I::Item>, B> {
-        failed(self.it.nth(n), &mut self.f, &MapErrFail)
-    }
-
     fn count(self) -> Result<usize, Self::Error> {
         let mut f = self.f;
         failed(self.it.count(), &mut f, &MapErrFail)
@@ -58,6 +45,10 @@ impl<I: FallibleIterator, B, F: FnMut(I::Error) -> B> FallibleIterator for MapEr
     fn last(self) -> Result<Option<Self::Item>, Self::Error> {
         let mut f = self.f;
         failed(self.it.last(), &mut f, &MapErrFail)
+    }
+
+    fn nth(&mut self, n: usize) -> Result<Option<I::Item>, B> {
+        failed(self.it.nth(n), &mut self.f, &MapErrFail)
     }
 
     crate::by_drive!(drive);

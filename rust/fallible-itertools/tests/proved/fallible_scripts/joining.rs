@@ -3,7 +3,7 @@ use fallible_iterator::memory::AllocError;
 // Folds across several sources go through each one's own.
 
 use crate::test_support::calls::{
-    Calls, NO_CALL, ONE_COUNT, ONE_FIND, ONE_FOLD, ONE_LAST, ONE_NEXT, ONE_NEXT_ONE_FOLD, TWO_FOLDS,
+    Calls, NO_CALL, ONE_COUNT, ONE_FOLD, ONE_LAST, ONE_NEXT, ONE_NEXT_ONE_FOLD, TWO_FOLDS,
 };
 use crate::test_support::counted::{Counted, Log};
 use crate::test_support::counted_numbers::counted;
@@ -44,7 +44,7 @@ const CHAIN_COUNTED: (Result<usize, Infallible>, [Calls; 2]) = (Ok(3), [ONE_COUN
 
 const CHAIN_LAST: LastStep<'static> = (Ok(Some(3)), &[ONE_LAST, ONE_LAST]);
 
-const CHAIN_SEARCHED: [Step<'static>; 1] = [(Find(3), Ok(Some(3)), &[ONE_FIND, ONE_FIND])];
+const CHAIN_SEARCHED: [Step<'static>; 1] = [(Find(3), Ok(Some(3)), &[ONE_FOLD, ONE_FOLD])];
 
 #[test]
 fn chain_counts_searches_and_takes_the_last_of_each_side_once() {

@@ -12,14 +12,12 @@ pub struct Calls {
     pub folds: u32,
     /// of `drive_back`
     pub rfolds: u32,
-    /// of `drive_count`
+    /// of `count`
     pub counts: u32,
-    /// of `drive_last`
+    /// of `last`
     pub lasts: u32,
     /// of `nth`
     pub nths: u32,
-    /// of `drive_find`
-    pub finds: u32,
 }
 
 /// No call.
@@ -31,7 +29,6 @@ pub const NO_CALL: Calls = Calls {
     counts: 0,
     lasts: 0,
     nths: 0,
-    finds: 0,
 };
 
 /// One `next`.
@@ -61,12 +58,6 @@ pub const TWO_FOLDS: Calls = Calls {
 /// Three folds.
 pub const THREE_FOLDS: Calls = Calls {
     folds: 3,
-    ..NO_CALL
-};
-
-/// One `find`.
-pub const ONE_FIND: Calls = Calls {
-    finds: 1,
     ..NO_CALL
 };
 
@@ -110,18 +101,6 @@ pub const ONE_NEXT_ONE_FOLD: Calls = Calls {
 pub const TWO_NEXTS_ONE_FOLD: Calls = Calls {
     nexts: 2,
     ..ONE_FOLD
-};
-
-/// One fold and one `find`.
-pub const ONE_FOLD_ONE_FIND: Calls = Calls {
-    finds: 1,
-    ..ONE_FOLD
-};
-
-/// One `next` and one `find`.
-pub const ONE_NEXT_ONE_FIND: Calls = Calls {
-    finds: 1,
-    ..ONE_NEXT
 };
 
 /// One fold from the back.

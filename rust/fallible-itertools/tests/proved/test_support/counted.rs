@@ -2,7 +2,7 @@ use crate::Fail;
 use fallible_iterator::memory::AllocError;
 
 use crate::test_support::calls::Calls;
-use fallible_iterator::{DoubleEndedFallibleIterator, FallibleIterator, Test, Turn};
+use fallible_iterator::{DoubleEndedFallibleIterator, FallibleIterator, Turn};
 use std::cell::Cell;
 
 /// How often each call came from outside. A call that types override counts as the one that callers make of it.
@@ -11,18 +11,16 @@ pub struct Log {
     pub nexts: Cell<u32>,
     /// of `next_back`
     pub next_backs: Cell<u32>,
-    /// of `drive`, through which `try_fold` and `fold` go
+    /// of `drive`, through which `try_fold`, `fold` and `find` go
     pub folds: Cell<u32>,
     /// of `drive_back`, through which `try_rfold` and `rfold` go
     pub rfolds: Cell<u32>,
-    /// of `drive_count`, through which `count` goes
+    /// of `count`
     pub counts: Cell<u32>,
-    /// of `drive_last`, through which `last` goes
+    /// of `last`
     pub lasts: Cell<u32>,
-    /// of `nth`, through which `nth` goes
+    /// of `nth`
     pub nths: Cell<u32>,
-    /// of `drive_find`, through which `find` goes
-    pub finds: Cell<u32>,
 }
 
 impl Log {
@@ -36,7 +34,6 @@ impl Log {
             counts: Cell::new(0),
             lasts: Cell::new(0),
             nths: Cell::new(0),
-            finds: Cell::new(0),
         }
     }
 
@@ -50,7 +47,6 @@ impl Log {
             counts: self.counts.get(),
             lasts: self.lasts.get(),
             nths: self.nths.get(),
-            finds: self.finds.get(),
         }
     }
 
@@ -64,7 +60,6 @@ impl Log {
             counts: self.counts.replace(0),
             lasts: self.lasts.replace(0),
             nths: self.nths.replace(0),
-            finds: self.finds.replace(0),
         }
     }
 }
@@ -110,14 +105,14 @@ impl<'a, I: FallibleIterator> FallibleIterator for Counted<'a, I> {
         self.it.drive(state, turn)
     }
 
-    fn drive_count(&mut self, number: &mut usize) -> Result<(), I::Error> {
+    fn count(self) -> Result<usize, I::Error> {
         add(&self.log.counts);
-        self.it.drive_count(number)
+        self.it.count()
     }
 
-    fn drive_last(&mut self) -> Result<Option<I::Item>, I::Error> {
+    fn last(self) -> Result<Option<I::Item>, I::Error> {
         add(&self.log.lasts);
-        self.it.drive_last()
+        self.it.last()
     }
 
     fn nth(&mut self, n: usize) -> Result<Option<I::Item>, I::Error> {
@@ -125,18 +120,7 @@ impl<'a, I: FallibleIterator> FallibleIterator for Counted<'a, I> {
         self.it.nth(n)
     }
 
-    fn drive_find<C, K: Test<C, I::Item, I::Error>>(
-        &mut self,
-        state: &mut C,
-        test: &K,
-    ) -> Result<Option<I::Item>, I::Error> {
-        add(&self.log.finds);
-        self.it.drive_find(state, test)
-    }
-
     fallible_iterator::by_drive!(drive);
-
-    fallible_iterator::by_drive!(drive_find);
 }
 
 impl<'a, I: DoubleEndedFallibleIterator> DoubleEndedFallibleIterator for Counted<'a, I> {

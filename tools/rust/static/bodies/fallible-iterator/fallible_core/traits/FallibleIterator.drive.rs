@@ -1,4 +1,4 @@
-// changed: by the type's own `try_fold`, `try_rfold` or `find`
+// changed: by the type's own `try_fold` or `try_rfold`
 // proved: 7dbdca37
 fn drive<C, R, K: Turn<C, Self::Item, R>>(
     &mut self,

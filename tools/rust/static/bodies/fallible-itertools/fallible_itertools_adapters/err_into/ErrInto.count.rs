@@ -1,0 +1,9 @@
+// new: by the source's own, as the original's
+// in: FallibleIterator for ErrInto
+fn count(self) -> Result<usize, E> {
+    failed(
+        self.it.count(),
+        &mut (),
+        &IntoFail::<E> { made: PhantomData },
+    )
+}
