@@ -58,6 +58,19 @@ class Refusals(unittest.TestCase):
         self.refused(CORE + "joining/cycle.rt:", "is another than that for which", "Cycle.next.rs")
         self.assertFalse(self.out.exists())
 
+    def test_another_proved_body_that_one_has_something_of(self):
+        self.edit(CORE + "traits.rt", "*left -= 1;", "*left -= 2;")
+        self.refused(CORE + "traits.rt:", "`FallibleIterator.drive_to` is another than that for which", "write `// of: drive_to ")
+        self.edit(CORE + "traits.rt", "*left -= 2;", "*left -= 1;")
+        self.edit(CORE + "joining/chain.rt", "Ok(None) => match still_drawn {", "Ok(None) => match *still_drawn {")
+        self.refused(CORE + "joining/chain.rt:", "`Chain.drive` is another than that for which", "Chain.find.rs")
+        self.assertFalse(self.out.exists())
+
+    def test_a_goal_of_a_test_is_not_handed_on(self):
+        self.edit("crates/test_support/src/counted.rt", "self.it.drive_to(goal)", "self.it.drive_to(&mut *goal)")
+        self.refused("crates/test_support/src/counted.rt:", "a `drive_to` that doesn't hand its goal on")
+        self.assertFalse(self.out.exists())
+
     def test_a_method_stands_twice(self):
         self.edit(CORE + "ends/rev.rt", "fn size_hint(&self)", "fn next(&self)")
         self.refused(CORE + "ends/rev.rt:", "`next` is written twice")
