@@ -1,38 +1,58 @@
 """Where the code makes an allocation failure, and whether each is an allocator's own."""
 
 import dataclasses
+import functools
 import re
 
 from made.code import end_of
 from refusals.source import arms, bare, functions, is_call
 
-# What says that there was no memory: std's error, a variant of that name, and std's kinds.
-VARIANT = r"(?:Memory|OutOfMemory|NoMemory)"
-MADE = re.compile(
-    rf"(?P<value>\bAllocError\b(?!\s*::))|(?P<of>\bAllocError\s*::\s*\w+)|(?P<failed>\bAllocFailed\b)"
-    rf"|(?P<generic>\b(?:[A-Z]|(?:\w+::)Error)\s*::\s*from\b)|(?P<variant>\b\w+\s*::\s*{VARIANT}\b)"
-)
-SAYS = re.compile(rf"\b{VARIANT}\b")
+# What says that there was no memory, beside std's error: variants of these names, and those that a conversion of it makes.
+VARIANTS = ("Memory", "OutOfMemory", "NoMemory")
 NAMED = re.compile(r"\s*\(\s*([a-z_]\w*)\s*\)")
 # What a pattern binds to its own name where a call answers with a refusal.
 BINDS = re.compile(r"(?:Err|Ok\(Some|Ok\(Some\(Some|Err\(Fault::Memory|Fault::Memory)\((\w+)\)+")
-TYPES = re.compile(r"::<[^;{}()]*?>(?=\()|\blet [^=;]*?:[^=;]*=|\|[^|;{}]*\||\bas \w+")
+TYPES = re.compile(r"::<[^;{}()]*?>(?=\()|\blet [^=;]*?:[^=;]*=|(?<!\|)\|(?!\|)[^|;{}]*(?<!\|)\|(?!\|)|\bas \w+")
 # An `Err` of these calls of std is a refusal whatever it has.
 FOR_MEMORY_ALONE = re.compile(r"Buf(?:Reader|Writer)::new\(")
 MARK = re.compile(r"\s*// No memory: (?:\S+\s+){3}")
 CONDITION = re.compile(r"\bif\s+(?P<not>!\s*)?(?P<called>[^{}]*?)\s*\{\s*(?:return\s+)?$")
 # Calls that may fail for want of memory or for another reason: which of the two it was is told.
 TELLING = re.compile(r"(?:\benv::args|\.read_rest|\.read_first_line)\(")
-TOLD = re.compile(rf"{TELLING.pattern}|\.kind\(\)|\b{VARIANT}\b")
 KEEPS = re.compile(r"\bfault_of_read\(&(\w+)\)|\b(\w+)\.kind\(\)|\bErr\((\w+)\)")
 ROOM = re.compile(r"\b(with_capacity|with_capacity_in|try_reserve|reserve|reserve_exact|allocate)\(([^()]*(?:\([^()]*\))?[^()]*)\)")
 FILLED = re.compile(r"\bvec!\[in \w+;[^;\]]*;([^\]]*)\]")
 ALIASES = re.compile(r"\bAllocError\s+as\b|\btype\s+\w+[^=;]*=[^;]*\bAllocError\s*;|\bimpl\b[^{;]*\bfor\s+AllocError\b")
-FIELD = re.compile(r"\bstruct\b[^{};]*\{[^}]*\bAllocError\b[^}]*\}")
-CONVERSION = re.compile(r"\bimpl\b[^{;]*\bFrom<Alloc(?:Error|Failed<[^>]*>)>[^{;]*\{")
+FIELD = re.compile(r"\bstruct\b[^{};]*(?:\{[^}]*\bAllocError\b[^}]*\}|\([^;]*\bAllocError\b[^;]*;)")
+CONVERSION = re.compile(r"\bimpl(?:<[^{}()]*?>)?\s+From<Alloc(?:Error|Failed<[^>]*>)>\s+for\b[^{;]*\{")
 
 # A caller's collection that rejects items by its contract, as an example of one.
 EXCEPTED = {("crates/example_chains/src/collecting.rt", "push_one")}
+
+
+@functools.lru_cache(maxsize=None)
+def making(variants):
+    """What finds an expression that may make a failure, where no memory is said by these variants; what finds one of their names; and what finds one that isn't made in a function."""
+    variant = f"(?:{'|'.join(variants)})"
+    made = re.compile(
+        r"(?P<value>\bAllocError\b(?!\s*::))|(?P<of>\bAllocError\s*::\s*\w+)|(?P<failed>\bAllocFailed\b)"
+        rf"|(?P<generic>\b(?:[A-Z]|(?:\w+::)Error)\s*::\s*from\b)|(?P<variant>(?:\w+(?:::<[^<>]*>)?\s*::\s*)*\b{variant}\b)"
+    )
+    outside = re.compile(rf"\b(?:const|static)\s+\w+\s*:[^;]*=[^;]*\b(?:AllocError|{variant})\b|\buse\b[^;]*\b{variant}\s+as\b|\bmacro_rules!")
+    return made, re.compile(rf"\b{variant}\b"), outside
+
+
+@functools.lru_cache(maxsize=None)
+def converted(text):
+    """The variants that the conversions of std's error make in a text."""
+    text = bare(text)
+    bodies = [text[found.end():end_of(text, found.end() - 1)] for found in CONVERSION.finditer(text)]
+    return {variant for body in bodies for variant in re.findall(r"\b[A-Z]\w*::([A-Z]\w*)\b", body)}
+
+
+def variants_of(texts):
+    """The variants that say that there was no memory: those of plain names, and those that the conversions of std's error make."""
+    return tuple(sorted(set(VARIANTS).union(*map(converted, texts))))
 
 
 @dataclasses.dataclass
@@ -51,8 +71,9 @@ class Finding:
 class Reading:
     """A file as it is read for the failures that it makes."""
 
-    def __init__(self, name, text):
+    def __init__(self, name, text, variants=VARIANTS):
         self.name, self.lines, self.text = name, text.splitlines(), bare(text)
+        self.making, self.says, self.outside = making(variants)
         self.found, self.made, self.reasons = [], 0, 0
 
     def line(self, place):
@@ -76,6 +97,8 @@ class Reading:
         """Reads the whole file."""
         for found in ALIASES.finditer(self.text):
             self.tell(found.start(), "-", "AllocError has another name, or gets a call of its own")
+        for found in self.outside.finditer(self.text):
+            self.tell(found.start(), "-", "a failure is made, or renamed, outside of a function")
         for found in FIELD.finditer(self.text):
             self.tell(found.start(), "-", "a field keeps an AllocError for later")
         for function in functions(self.text):
@@ -86,9 +109,10 @@ class Reading:
     def read_function(self, function):
         """Reads a function for what it makes, for what it hides, and for how much it asks for."""
         body = self.text[function.first:function.last]
-        its = list(arms(self.text, function.first, function.last)) if MADE.search(body) or TOLD.search(body) else []
+        told = any(pattern.search(body) for pattern in (self.making, TELLING, KEEPS))
+        its = list(arms(self.text, function.first, function.last)) if told else []
         hidden = [(found.start(), found.end()) for found in TYPES.finditer(body)]
-        for found in MADE.finditer(body):
+        for found in self.making.finditer(body):
             place = function.first + found.start()
             in_type = any(first <= found.start() < last for first, last in hidden)
             in_pattern = any(arm.place <= place < arm.place + len(arm.pattern) for arm in its) or self.in_pattern(place)
@@ -152,7 +176,7 @@ class Reading:
         if arm.pattern == "Err(_)" and FOR_MEMORY_ALONE.match(arm.matched):
             return True
         inner = re.fullmatch(r"Err\((.*)\)", arm.pattern)
-        return all(SAYS.search(part) for part in (inner.group(1) if inner else arm.pattern).split("|"))
+        return all(self.says.search(part) for part in (inner.group(1) if inner else arm.pattern).split("|"))
 
     def judge_reason(self, function, place, found, arm):
         """Tells of a failure that no answer is at hand for, unless its reason is given and it stands right after a call."""
@@ -201,7 +225,7 @@ class Reading:
         """Tells of a want of memory that is told as something else."""
         for arm in its:
             body = self.text[arm.first:arm.last].strip()
-            if "OutOfMemory" in arm.pattern and (arm.guard or not re.fullmatch(rf"(?:Err\()?\w+::{VARIANT}\)?", body)):
+            if "OutOfMemory" in arm.pattern and (arm.guard or not re.fullmatch(rf"(?:Err\()?\w+::{self.says.pattern}\)?", body)):
                 self.tell(arm.place, function.name, "want of memory is told as something else")
             if arm.pattern.startswith("Err(") and TELLING.search(arm.matched):
                 name = arm.pattern.removeprefix("Err(").removesuffix(")")
