@@ -32,7 +32,8 @@ EXCEPTED = {("crates/example_chains/src/collecting.rt", "push_one")}
 
 @functools.lru_cache(maxsize=None)
 def making(variants):
-    """What finds an expression that may make a failure, where no memory is said by these variants; what finds one of their names; and what finds one that isn't made in a function."""
+    """Three searches, where these variants say that there was no memory: for what may make a failure, for a variant's name, and
+    for one that is made outside of a function."""
     variant = f"(?:{'|'.join(variants)})"
     made = re.compile(
         r"(?P<value>\bAllocError\b(?!\s*::))|(?P<of>\bAllocError\s*::\s*\w+)|(?P<failed>\bAllocFailed\b)"
@@ -145,18 +146,22 @@ class Reading:
         elif found.group("variant") and name != "_" and name is not None:
             if not self.is_own(arm, name, place):
                 self.tell(place, function.name, f"{found.group()}({name}) is of no call's answer")
-        elif not (found.group("variant") and self.answers(arm)):
+        elif not (found.group("variant") and (self.answers(arm) or self.is_mapped(place, after))):
             self.judge_reason(function, place, found, arm)
 
     def judge_conversion(self, function, place, found, arm, name):
         """Tells of a conversion of something that no call answered with."""
-        if name is None and re.search(r"\)\s*\.map_err\($", self.text[:place]):
+        if self.is_mapped(place, self.text[place + len(found.group()):]):
             return
         # of a type parameter only what an arm of a refusal binds is of interest
         if found.group("generic") and (name is None or "AllocError" not in self.text):
             return
         if not self.is_own(arm, name, place):
             self.tell(place, function.name, f"{' '.join(found.group().split())}({name or ''}) is of no call's answer")
+
+    def is_mapped(self, place, after):
+        """Whether a call's failure is handed to what stands at a place, as in `.map_err(AllocError::from)`."""
+        return re.search(r"\)\s*\.map_err\($", self.text[max(0, place - 40):place]) is not None and after.startswith(")")
 
     def is_own(self, arm, name, place):
         """Whether a name is what the arm bound of a call's answer, and nothing else since."""
@@ -168,6 +173,10 @@ class Reading:
     def is_answer(self, arm):
         """Whether a match is of one call, or of a name, as of a parameter."""
         return is_call(arm.matched) or re.fullmatch(r"\w+", arm.matched) is not None
+
+    def is_failure(self, arm):
+        """Whether an arm is that of a call's failure, or of its `None`."""
+        return self.is_answer(arm) and re.match(r"(?:Err\(|None$|\w+::)", arm.pattern) is not None
 
     def answers(self, arm):
         """Whether the arm's own pattern says that there was no memory, and nothing else."""
@@ -188,7 +197,7 @@ class Reading:
             plain = is_call(called.removesuffix(".is_err()")) and (called.endswith(".is_err()") or tests.group("not"))
             at = inside + tests.start()
         else:
-            plain = arm is not None and not arm.guard and self.is_answer(arm) and not self.is_tested(arm, place)
+            plain = arm is not None and not arm.guard and self.is_failure(arm) and not self.is_tested(arm, place)
             at = arm.place if arm else place
         if not plain:
             self.tell(place, function.name, f"{what} is made of nothing")
