@@ -11,7 +11,7 @@ cd "$(dirname "$0")/.."
 work=$(mktemp -d)
 trap 'rm -rf "$work"' EXIT
 mkdir "$work/copy" "$work/said" "$work/done"
-tools/lay.sh "$work/copy" tests examples scripts drive_refused_memory fallible_speed elf_walk || exit 1
+tools/lay.sh "$work/copy" tests examples scripts drive_refused_memory many_items fallible_speed elf_walk || exit 1
 
 # Runs the tests of the crate $1, or its program, and says a line.
 run_crate() {

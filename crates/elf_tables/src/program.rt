@@ -37,6 +37,7 @@ fn run_whole<R: ReadBytes, W: WriteText>(
             }
         }
         Err(RunFault::Read) => Err(RunFault::Read),
+        // No memory: writing to a vector fails only if an allocation does.
         Err(RunFault::Memory | RunFault::Write) => Err(RunFault::Memory),
     }
 }

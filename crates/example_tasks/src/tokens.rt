@@ -193,6 +193,7 @@ impl Calculation {
                 self.is_begun = false;
             }
             (Token::Open, true) => {
+                // No memory: a push fails only if an allocation does.
                 if self.outside.push(self.level).is_err() {
                     return Err(TextFault::Memory);
                 }

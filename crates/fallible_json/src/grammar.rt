@@ -121,6 +121,7 @@ impl Nesting {
         match step {
             Step::Scalar => self.expects = Expects::AfterValue,
             Step::Opens(container) => {
+                // No memory: a push fails only if an allocation does.
                 if self.containers.push(container).is_err() {
                     return Err(Stop::Memory);
                 }

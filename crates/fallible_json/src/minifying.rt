@@ -74,8 +74,10 @@ where
         nesting = match nesting.after(token) {
             Ok(after) => after,
             Err(Stop::Unexpected) => return Err(Fault::Source(Misplaced::Unexpected(first))),
+            // No memory: an allocation failed in `after`, and its fault doesn't keep the error.
             Err(Stop::Memory) => return Err(Fault::Memory(AllocError)),
         };
+        // No memory: adding bytes to a vector fails only if an allocation does.
         if json.extend_from_slice(bytes_of(text, first, last)).is_err() {
             return Err(Fault::Memory(AllocError));
         }

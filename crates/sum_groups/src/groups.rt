@@ -143,6 +143,7 @@ fn print_line(
 {
     match write_line(&mut report, name, rows) {
         Ok(()) => Ok(report),
+        // No memory: writing to a vector fails only if an allocation does.
         Err(_) => Err(RunFault::Memory),
     }
 }
@@ -203,6 +204,7 @@ fn fault_of(text: &str) -> RunFault<GroupsFault>
 {
     match no_row_at(text) {
         Some(place) => RunFault::Input(GroupsFault::NoRow(place)),
+        // No memory: it is asked only where an allocation failed.
         None => RunFault::Memory,
     }
 }
@@ -230,6 +232,7 @@ impl MakeReport for Global {
         };
         match print_both(*self, rows.as_slice()) {
             Ok(report) => Ok(report),
+            // No memory: the rows don't fail, so printing fails only if an allocation does.
             Err(_) => Err(RunFault::Memory),
         }
     }
