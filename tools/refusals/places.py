@@ -19,7 +19,7 @@ MARK = re.compile(r"\s*// No memory: (?:\S+\s+){3}")
 CONDITION = re.compile(r"\bif\s+(?P<not>!\s*)?(?P<called>[^{}]*?)\s*\{\s*(?:return\s+)?$")
 # Calls that may fail for want of memory or for another reason: which of the two it was is told.
 TELLING = re.compile(r"(?:\benv::args|\.read_rest|\.read_first_line)\(")
-KEEPS = re.compile(r"\bfault_of_read\(&(\w+)\)|\b(\w+)\.kind\(\)|\bErr\((\w+)\)")
+KEEPS = re.compile(r"\bfault_of_\w+\(&(\w+)\)|\b(\w+)\.kind\(\)|\bErr\((\w+)\)")
 ROOM = re.compile(r"\b(with_capacity|with_capacity_in|try_reserve|reserve|reserve_exact|allocate)\(([^()]*(?:\([^()]*\))?[^()]*)\)")
 FILLED = re.compile(r"\bvec!\[in \w+;[^;\]]*;([^\]]*)\]")
 ALIASES = re.compile(r"\bAllocError\s+as\b|\btype\s+\w+[^=;]*=[^;]*\bAllocError\s*;|\bimpl\b[^{;]*\bfor\s+AllocError\b")
@@ -241,9 +241,10 @@ class Reading:
                 kept = [used for found in KEEPS.findall(body) for used in found if used]
                 if name not in kept:
                     self.tell(arm.place, function.name, f"whether {arm.matched} had no memory is lost")
+        # a kind of std's that becomes a fault
         matched = {}
         for arm in its:
-            if arm.matched.endswith(".kind()"):
+            if arm.matched.endswith(".kind()") and "Fault" in function.head:
                 matched.setdefault(arm.matched, []).append(arm)
         for expression, those in matched.items():
             if not any("OutOfMemory" in arm.pattern for arm in those):
