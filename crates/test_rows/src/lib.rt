@@ -7,3 +7,5 @@ mod devices;
 mod examples;
 #[cfg(test)]
 mod tallies;
+#[cfg(test)]
+mod values;
