@@ -1,5 +1,5 @@
 //! What chains of calls compute.
-ghost use Rattle.std.specs.Prelude.{◌≡◌, ◌+◌, ◌*◌, ◌/◌, ◌%◌, ◌^◌, ◌<◌, [], ◌∷◌, List, Result, Ok, Err, Option, Some, None, nat_lt, if◌then◌else◌, ◌-◌};
+ghost use Rattle.std.specs.Prelude.{◌≡◌, ◌+◌, ◌*◌, ◌/◌, ◌%◌, ◌^◌, ◌<◌, [], ◌∷◌, List, Result, Ok, Err, Option, Some, None, nat_lt, if◌then◌else◌, ◌-◌, nat_eq, length};
 ghost use Rattle.fallible_iterator.specs.Lists.{mapped_while, items, results, counted, nth_of, folded, collected, CollectedAs, Lists, mapped, filtered, taken, numbered, skipped_while, taken_while, zipped, scanned, chained, inspected, found, stepped, filter_mapped};
 
 use fallible_iterator::{FallibleIterator, Fault, convert, empty, once, once_err};
@@ -183,6 +183,20 @@ pub fn products(left: &[u32], right: &[u32]) -> Result<u64, u8>
                 u64::from(pair.0) * u64::from(pair.1),
             )),
         )
+}
+
+/// At how many positions two columns have texts of the same length, or the first failure of the left. The texts of each column are borrowed for a time of its own.
+pub fn same_lengths<'a, 'b>(
+    left: Vec<Result<&'a [u8], u8>>,
+    right: Vec<&'b [u8]>,
+) -> Result<usize, u8>
+    ensures { result ≡ counted (filtered (λ p. Ok (nat_eq (length p.0.now) (length p.1.now)))
+        (zipped (results left.entry.items) (items right.entry.items))) }
+{
+    convert(left.into_iter())
+        .zip(convert(right.into_iter().map(Ok)))
+        .filter(|texts| Ok(texts.0.len() == texts.1.len()))
+        .count()
 }
 
 /// The readings above 100 with their places, from the first one that is above 10 on and up to the first one that is 0.

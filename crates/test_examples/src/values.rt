@@ -6,7 +6,7 @@ use example_by_hand::drawing::{
 use example_by_hand::idioms::{ending_for_good, room_for};
 use example_by_hand::parsing::takes;
 use example_chains::computing::{
-    excesses, fold_of_none, inspected_up_to_100, required_above_100, sum_of_tenths,
+    excesses, fold_of_none, inspected_up_to_100, required_above_100, same_lengths, sum_of_tenths,
 };
 use example_chains::consuming::{
     check_up_to_100, greatest_by_digits, half_of_first_above_100, least_by_digits,
@@ -81,6 +81,13 @@ fn chains_compute(rt: HostRuntime) -> Result<(), Fail> {
     let (two, forty) = (2, 40);
     let pointers = Vec::from_array(alloc, [Ok(&two), Ok(&forty)])?;
     assert_eq!(rt; sum_of_clones(pointers), Ok(42));
+    let left: [Result<&[u8], u8>; 3] = [Ok(b"fern"), Ok(b"moss"), Ok(b"")];
+    let right: [&[u8]; 4] = [b"oak", b"pine", b"", b"yew"];
+    let same = same_lengths(
+        Vec::from_array(alloc, left)?,
+        Vec::from_array(alloc, right)?,
+    );
+    assert_eq!(rt; same, Ok(2));
     assert_eq!(rt; failure_of(AllocError), Err(AllocError));
     Ok(())
 }
