@@ -10,7 +10,7 @@ OWNER = re.compile(r"^(?:pub )?(impl|trait)\b", re.MULTILINE)
 TYPE = re.compile(r"FallibleIterator for (&mut I|\w+)")
 RENAMED = re.compile(r"^ghost use [\w.]+ as (\w+);", re.MULTILINE)
 FIELD = re.compile(r"^\s*(?:pub(?:\(crate\))? )?(\w+): ")
-CLOSING = {"(": ")", "[": "]", "{": "}"}
+BRACKETS = {opening: re.compile(rf"[\{opening}\{closing}]") for opening, closing in ("()", "[]", "{}")}
 
 
 @dataclasses.dataclass
@@ -26,6 +26,7 @@ class Function:
     body: str
     comment: str
     renamed: tuple
+    head: str
 
     @property
     def in_trait(self):
@@ -57,13 +58,10 @@ def without_comments(text):
 def end_of(text, at):
     """The place after the bracket that closes the one at a place."""
     depth, opening = 0, text[at]
-    for place in range(at, len(text)):
-        if text[place] == opening:
-            depth += 1
-        elif text[place] == CLOSING[opening]:
-            depth -= 1
-            if depth == 0:
-                return place + 1
+    for found in BRACKETS[opening].finditer(text, at):
+        depth += 1 if found.group() == opening else -1
+        if depth == 0:
+            return found.end()
     raise ValueError(f"nothing closes the {opening} at {at}")
 
 
@@ -122,6 +120,15 @@ def head(text, at):
     return parameters, returned, clauses, place
 
 
+def without_clauses(text):
+    """The text of a head without its clauses, in one line."""
+    kept, place = [], 0
+    while clause := CLAUSE.search(text, place):
+        kept.append(text[place:clause.start()])
+        place = end_of(text, clause.end() - 1)
+    return joined(" ".join([*kept, text[place:]]))
+
+
 def functions(path):
     """The functions of a file."""
     return functions_of(path.read_text(encoding="utf-8"))
@@ -138,7 +145,8 @@ def functions_of(whole):
         owner = next((header for first, last, header in around if first < named.start() < last), "")
         comment = comment_above(lines, text.count("\n", 0, named.start()))
         public = bool(named.group(1)) or owner.startswith(("trait", "pub trait"))
-        found.append(Function(named.group(2), public, owner, parameters, returned, clauses, body, comment, renamed))
+        bare = without_clauses(text[named.end():begin])
+        found.append(Function(named.group(2), public, owner, parameters, returned, clauses, body, comment, renamed, bare))
     return found
 
 

@@ -21,8 +21,8 @@ SUITES = {
 }
 # Where they are. The files of those in `tests` end in .rt.txt.
 FOLDERS = ("crates", "tests")
-# Modules that are left out: a program's words and files come by Rattle's own runtime, tallies stand on fallible_itertools, and fallible_json fails where memory is refused.
-MODULES_LEFT_OUT = {"program_io/arguments.rs", "test_rows/tallies.rs", "test_programs/json_texts.rs"}
+# Modules that are left out: a program's words and files come by Rattle's own runtime, tallies and values of test_rows stand on fallible_itertools, and fallible_json fails where memory is refused.
+MODULES_LEFT_OUT = {"program_io/arguments.rs", "test_rows/tallies.rs", "test_rows/values.rs", "test_programs/json_texts.rs"}
 # Items that are left out, with those that use them: a pattern of their text, and why.
 LEFT_OUT = [
     (r"\bFault::Memory\b|\bAllocError\)|-> AllocError|\bexpect_refused\b", "memory is refused"),

@@ -1,5 +1,5 @@
 //! Draws from the back.
-ghost use Rattle.std.specs.Prelude.{eqb, ◌*◌, nat_lt, not, reverse, ◌≡◌, ℕ, ◌+◌, ◌++◌, ◌%◌, ◌^◌, [], ◌∷◌, List, Result, Ok, Err, IfOk, Option, Some, None};
+ghost use Rattle.std.specs.Prelude.{eqb, ◌*◌, nat_lt, not, reverse, ◌≡◌, ℕ, ◌+◌, ◌++◌, ◌%◌, ◌^◌, [], ◌∷◌, List, Result, Ok, Err, IfOk, Option, Some, None, if◌then◌else◌};
 ghost use Rattle.std.specs.Vec.Iter.{into_iter_items};
 ghost use Rattle.fallible_iterator.specs.Side.{Side};
 ghost use Rattle.fallible_iterator.specs.Traces.{Answered};
@@ -88,6 +88,19 @@ pub fn sum_from_back(readings: Vec<Result<u32, u8>>) -> Result<u64, u8>
     convert(readings.into_iter()).rfold(
         0,
         |sum: u64, reading: u32| Ok(sum.wrapping_add(u64::from(reading))),
+    )
+}
+
+/// The sum of the readings, drawn from the back, or the failure that comes first: the code 7 where the sum reaches 2 ^ 32.
+pub fn checked_sum_from_back(readings: Vec<Result<u32, u8>>) -> Result<u32, u8>
+    ensures { result ≡ folded (λ e. e)
+        (λ s x. if nat_lt (s + x) (2 ^ 32) then Ok (s + x) else Err 7) 0
+        (reversed (results readings.items)) }
+{
+    law_back_convert::<u32, u8, std::vec::IntoIter<Result<u32, u8>, Global>>();
+    convert(readings.into_iter()).try_rfold(
+        0,
+        |sum: u32, reading: u32| sum.checked_add(reading).ok_or(7u8),
     )
 }
 

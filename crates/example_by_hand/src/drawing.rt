@@ -1,9 +1,9 @@
 //! Draws by hand.
 ghost use Rattle.std.specs.Prelude.{◌≡◌, ◌+◌, ◌*◌, ◌%◌, ◌^◌, ℕ, List, [], ◌∷◌, Result, Option, Ok, Err, Some, None, false, min, nat_lt};
-ghost use Rattle.fallible_iterator.specs.Lists.{Lists, rest_first, rest_nth, chained, filtered, first_if, folded, items, look_of, mapped, nth_of, on_value, results, taken, taken_while, zipped};
+ghost use Rattle.fallible_iterator.specs.Lists.{Lists, rest_first, rest_nth, chained, filtered, first_if, folded, items, look_of, mapped, nth_of, on_value, results, taken, taken_while, zipped, rest_look};
 
 use fallible_iterator::laws::{law_next, law_peek};
-use fallible_iterator::{FallibleIterator, convert};
+use fallible_iterator::{FallibleIterator, Peekable, convert};
 
 /// The third of the doubled readings above 100 among the first ten, or the failure of a draw before. No clause says what it returns if there are fewer than two.
 pub fn third_draw(readings: Vec<Result<u32, u8>>) -> Result<Option<u64>, u8>
@@ -140,6 +140,47 @@ where
         .try_fold(0, |sum: u32, x: u32| Ok(sum.wrapping_add(x)))
 }
 
+/// The sum of the first three items, modulo 2 ^ 32, or the first failure among them. `by_ref` lends the iterator; no clause says what it leaves.
+pub fn sum_of_three<I: FallibleIterator<Item = u32>>(it: &mut I) -> Result<u32, I::Error>
+where
+    requires { I.contract.can_next it.old }
+    ensures { (l : List (Result ℕ I.Error)) → Lists I.contract.steps it.old l
+        → result ≡ folded (λ e. e) (λ s x. Ok ((s + x) % 2 ^ 32)) 0 (taken 3 l) }
+{
+    it.by_ref()
+        .take(3)
+        .try_fold(0, |sum: u32, x: u32| Ok(sum.wrapping_add(x)))
+}
+
+/// The sum of the first two items of a source that is lent, and lent on to a function that borrows what it is given.
+pub fn sum_of_two_lent_twice<I: FallibleIterator<Item = u32>>(it: &mut I) -> Result<u32, I::Error>
+where
+    requires { I.contract.can_next it.old }
+    ensures { (l : List (Result ℕ I.Error)) → Lists I.contract.steps it.old l
+        → result ≡ folded (λ e. e) (λ s x. Ok ((s + x) % 2 ^ 32)) 0 (taken 2 l) }
+{
+    let mut lent = it.by_ref();
+    sum_of_two(&mut lent)
+}
+
+/// The sum of the products of two sources, position by position, modulo 2 ^ 64, or the failure that comes first. Each is lent for a time of its own.
+pub fn sum_of_products<'a, 'b, I, J>(left: &'a mut I, right: &'b mut J) -> Result<u64, I::Error>
+where
+    I: FallibleIterator<Item = u32>,
+    J: FallibleIterator<Item = u32, Error = I::Error>,
+    requires left { I.contract.can_next left.old }
+    requires right { J.contract.can_next right.old }
+    requires finite { I.contract.is_finite left.old }
+    ensures { (a : List (Result ℕ I.Error)) (b : List ℕ) → Lists I.contract.steps left.old a
+        → Lists J.contract.steps right.old (items b)
+        → result ≡ folded (λ e. e) (λ s p. Ok ((s + p.0 * p.1) % 2 ^ 64)) 0 (zipped a (items b)) }
+{
+    left.zip(right).fold(
+        0,
+        |sum: u64, pair: (u32, u32)| Ok(sum.wrapping_add(u64::from(pair.0) * u64::from(pair.1))),
+    )
+}
+
 /// The sum of the first two readings above 100, and the one after them, or the first failure among the three. No clause says what it returns if there are fewer than two.
 pub fn two_and_the_next(readings: Vec<Result<u32, u8>>) -> Result<(u32, Option<u32>), u8>
     ensures value { let l : List (Result ℕ ℕ) = filtered (λ r. Ok (nat_lt 100 r))
@@ -257,4 +298,49 @@ where
         Some(first) => Ok(*first > 100),
         None => Ok(false),
     }
+}
+
+/// The first item, in whose place a 0 is buffered, or a failure in its place; `None` if there is none. The law says what `peek_mut` returns.
+pub fn first_cleared<I: FallibleIterator<Item = u32>>(
+    ahead: &mut Peekable<I>,
+) -> Result<Option<u32>, I::Error>
+where
+    requires { ⟦<Peekable<I> as FallibleIterator>⟧.contract.can_next ahead.old }
+    ensures { (l : List (Result ℕ I.Error))
+        → Lists ⟦<Peekable<I> as FallibleIterator>⟧.contract.steps ahead.old l
+        → result ≡ nth_of 0 l }
+{
+    law_peek::<I>();
+    let Some(first) = ahead.peek_mut()? else {
+        return Ok(None);
+    };
+    let item = *first;
+    *first = 0;
+    Ok(Some(item))
+}
+
+/// Whether the next item is above 100, or a failure in its place; `None` if there is none. The item is buffered first, then looked at, and stays.
+pub fn next_above_100<I: FallibleIterator<Item = u32>>(
+    ahead: &mut Peekable<I>,
+) -> Result<Option<bool>, I::Error>
+where
+    requires { ⟦<Peekable<I> as FallibleIterator>⟧.contract.can_next ahead.old }
+    ensures some { (l : List (Result ℕ I.Error)) (x : ℕ)
+        → Lists ⟦<Peekable<I> as FallibleIterator>⟧.contract.steps ahead.old l
+        → nth_of 0 l ≡ Ok (Some x) → result ≡ Ok (Some (nat_lt 100 x)) }
+    ensures none { (l : List (Result ℕ I.Error))
+        → Lists ⟦<Peekable<I> as FallibleIterator>⟧.contract.steps ahead.old l
+        → nth_of 0 l ≡ Ok None → result ≡ Ok None }
+    ensures fails { (l : List (Result ℕ I.Error)) (e : I.Error)
+        → Lists ⟦<Peekable<I> as FallibleIterator>⟧.contract.steps ahead.old l
+        → nth_of 0 l ≡ Err e → result ≡ Err e }
+    ensures rest { (l : List (Result ℕ I.Error))
+        → Lists ⟦<Peekable<I> as FallibleIterator>⟧.contract.steps ahead.old l
+        → Lists ⟦<Peekable<I> as FallibleIterator>⟧.contract.steps ahead.new (rest_look l) }
+{
+    ahead.fill()?;
+    let Some(item) = ahead.held() else {
+        return Ok(None);
+    };
+    Ok(Some(*item > 100))
 }

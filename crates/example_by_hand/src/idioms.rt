@@ -1,11 +1,11 @@
 //! Idioms of Rust, over fallible iterators.
-ghost use Rattle.std.specs.Prelude.{◌≡◌, ◌+◌, ◌%◌, ◌^◌, ℕ, Bool, List, Option, Result, Some, None, Ok, Err};
+ghost use Rattle.std.specs.Prelude.{◌≡◌, ◌+◌, ◌%◌, ◌^◌, ℕ, Bool, List, Option, Result, Some, None, Ok, Err, min};
 ghost use Rattle.fallible_iterator.specs.Closures.{IsCallable, call_by_reference, takes_by_reference};
 ghost use Rattle.fallible_iterator.specs.Filtering.Filter.{filter_parts};
-ghost use Rattle.fallible_iterator.specs.Lists.{Acts, Lists, failures_mapped, rest_first, filtered, folded, nth_of, results, skipped, taken};
+ghost use Rattle.fallible_iterator.specs.Lists.{Acts, Lists, failures_mapped, rest_first, filtered, folded, nth_of, results, skipped, taken, ListsForGood};
 ghost use Rattle.example_by_hand.specs.declared.idioms.NoRow.{NoRow};
 
-use fallible_iterator::{FallibleIterator, Filter, Skip, Take, convert};
+use fallible_iterator::{FallibleIterator, Filter, Fuse, Skip, Take, convert};
 
 // The sum and one more number, modulo 2 ^ 64.
 fn add(sum: u64, x: u32) -> Result<u64, u8>
@@ -146,6 +146,22 @@ where
         → Lists ⟦<Filter<I, F> as FallibleIterator>⟧.contract.steps result (filtered h l) }
 {
     it.filter(keep)
+}
+
+/// The items, and `Ok(None)` at each draw after the first one: a source for code that draws on.
+pub fn ending_for_good<I: FallibleIterator>(it: I) -> Fuse<I>
+    ensures { (l : List (Result I.Item I.Error)) → Lists I.contract.steps it l
+        → ListsForGood ⟦<Fuse<I> as FallibleIterator>⟧.contract.steps result l }
+{
+    it.fuse()
+}
+
+/// How many items a vector for all of an iterator's should have room for, up to 1024: as many as its hint says that come at least.
+pub fn room_for<I: FallibleIterator>(it: &I) -> usize
+    ensures { (hint : ℕ × Option ℕ) × I.contract.hints it.now hint × (result ≡ min hint.0 1024) }
+{
+    let (least, _) = it.size_hint();
+    least.min(1024)
 }
 
 // The sum of a number and the items, modulo 2 ^ 64, or the first failure.

@@ -1,16 +1,16 @@
 //! The idioms of parsers: how many of each kind, a sum or why there is none, and what comes after the items that were added up.
-ghost use Rattle.std.specs.Prelude.{◌≡◌, ◌+◌, ◌%◌, ◌^◌, ℕ, length, List, Result, Ok, Err, Option, IfOk, false, nat_lt, if◌then◌else◌};
+ghost use Rattle.std.specs.Prelude.{◌≡◌, ◌+◌, ◌%◌, ◌^◌, ℕ, length, List, Result, Ok, Err, Option, IfOk, false, nat_lt, if◌then◌else◌, nat_eq, is_some};
 ghost use Rattle.std.specs.Fmt.{decimal};
 ghost use Rattle.std.specs.String.{string_bytes};
 ghost use Rattle.fallible_iterator.specs.Fault.{Fault};
-ghost use Rattle.fallible_iterator.specs.Lists.{Lists, all_of, rest_false, folded, mapped, nth_of, numbered, on_value, partitioned, results, taken_while};
+ghost use Rattle.fallible_iterator.specs.Lists.{Lists, all_of, rest_false, folded, mapped, nth_of, numbered, on_value, partitioned, results, taken_while, first_if, rest_if};
 ghost use Rattle.fallible_iterator.specs.Making.{CollectedMade};
 ghost use Rattle.example_by_hand.specs.Full.{SideFull};
 ghost use Rattle.example_by_hand.specs.declared.parsing.NoSum.{NoSum};
 ghost use Rattle.example_by_hand.specs.declared.parsing.NoText.{NoText};
 ghost use Rattle.std.specs.declared.alloc.AllocError.{AllocError};
 
-use fallible_iterator::{FallibleIterator, Fault, convert};
+use fallible_iterator::{FallibleIterator, Fault, Peekable, convert};
 use std::alloc::{AllocError, Global};
 
 /// How many of the readings are above 100, and how many are not, or the first failure, unless an allocation fails. That may be only if a vector of one side is full when a reading comes to it.
@@ -141,4 +141,22 @@ where
 {
     let sum = sum_below_ten(&mut tokens)?;
     Ok((sum, tokens.draw()?))
+}
+
+/// Whether the next item is this one, which is taken then. Another item stays, and so does an `Ok(None)`; or a failure in its place.
+pub fn takes<I: FallibleIterator<Item = u8>>(
+    ahead: &mut Peekable<I>,
+    expected: u8,
+) -> Result<bool, I::Error>
+where
+    requires { ⟦<Peekable<I> as FallibleIterator>⟧.contract.can_next ahead.old }
+    ensures value { (l : List (Result ℕ I.Error))
+        → Lists ⟦<Peekable<I> as FallibleIterator>⟧.contract.steps ahead.old l
+        → result ≡ on_value (first_if (λ x. nat_eq x expected) l) (λ taken. Ok (is_some taken)) }
+    ensures rest { (l : List (Result ℕ I.Error))
+        → Lists ⟦<Peekable<I> as FallibleIterator>⟧.contract.steps ahead.old l
+        → Lists ⟦<Peekable<I> as FallibleIterator>⟧.contract.steps ahead.new
+        (rest_if (λ x. nat_eq x expected) l) }
+{
+    Ok(ahead.next_if_eq(&expected)?.is_some())
 }

@@ -1,8 +1,8 @@
 //! What chains of calls compute.
-ghost use Rattle.std.specs.Prelude.{◌≡◌, ◌+◌, ◌*◌, ◌/◌, ◌%◌, ◌^◌, ◌<◌, [], ◌∷◌, List, Result, Ok, Err, Option, Some, None, nat_lt, if◌then◌else◌};
-ghost use Rattle.fallible_iterator.specs.Lists.{mapped_while, items, results, counted, nth_of, folded, collected, CollectedAs, Lists, mapped, filtered, taken, numbered, skipped_while, taken_while, zipped, scanned, chained};
+ghost use Rattle.std.specs.Prelude.{◌≡◌, ◌+◌, ◌*◌, ◌/◌, ◌%◌, ◌^◌, ◌<◌, [], ◌∷◌, List, Result, Ok, Err, Option, Some, None, nat_lt, if◌then◌else◌, ◌-◌, nat_eq, length};
+ghost use Rattle.fallible_iterator.specs.Lists.{mapped_while, items, results, counted, nth_of, folded, collected, CollectedAs, Lists, mapped, filtered, taken, numbered, skipped_while, taken_while, zipped, scanned, chained, inspected, found, stepped, filter_mapped};
 
-use fallible_iterator::{FallibleIterator, Fault, convert, once};
+use fallible_iterator::{FallibleIterator, Fault, convert, empty, once, once_err};
 use std::alloc::Global;
 
 /// How many of the numbers are above 100.
@@ -35,11 +35,31 @@ pub fn all_up_to_100(readings: Vec<Result<u32, u8>>) -> Result<usize, u8>
         .count()
 }
 
+/// The same count and the same failures. Each reading is only looked at.
+pub fn inspected_up_to_100(readings: Vec<Result<u32, u8>>) -> Result<usize, u8>
+    ensures { result ≡ counted
+        (inspected (λ x. if nat_lt 100 x then Err 7 else Ok tt) (results readings.items)) }
+{
+    convert(readings.into_iter())
+        .inspect(|reading: &u32| if *reading > 100 { Err(7) } else { Ok(()) })
+        .count()
+}
+
 /// The sum of one item.
 pub fn fold_of_one(item: u32) -> Result<u64, u8>
     ensures { result ≡ folded (λ e. e) (λ s x. Ok ((s + x) % 2 ^ 64)) 0 (Ok item ∷ []) }
 {
     once::<u32, u8>(item).fold(
+        0,
+        |sum: u64, item: u32| Ok(sum.wrapping_add(u64::from(item))),
+    )
+}
+
+/// The sum of no items.
+pub fn fold_of_none() -> Result<u64, u8>
+    ensures { result ≡ folded (λ e. e) (λ s x. Ok ((s + x) % 2 ^ 64)) 0 [] }
+{
+    empty::<u32, u8>().fold(
         0,
         |sum: u64, item: u32| Ok(sum.wrapping_add(u64::from(item))),
     )
@@ -73,6 +93,42 @@ pub fn fourth_above_100(readings: Vec<Result<u32, u8>>) -> Result<Option<u32>, u
     convert(readings.into_iter())
         .filter(|reading| Ok(*reading > 100))
         .nth(3)
+}
+
+/// The first reading above 100, or the failure that comes before: the code 7 if there is no such reading.
+pub fn required_above_100(readings: Vec<Result<u32, u8>>) -> Result<Option<u32>, u8>
+    ensures { result ≡ found (λ x. Ok (nat_lt 100 x))
+        (chained (results readings.items) (Err 7 ∷ [])) }
+{
+    convert(readings.into_iter())
+        .chain(once_err(7))
+        .find(|reading| Ok(*reading > 100))
+}
+
+/// The sum of each tenth reading, from the first on, modulo 2 ^ 64, or the first failure.
+pub fn sum_of_tenths(readings: Vec<Result<u32, u8>>) -> Result<u64, u8>
+    ensures { result ≡ folded (λ e. e) (λ s x. Ok ((s + x) % 2 ^ 64)) 0
+        (stepped 9 0 (results readings.items)) }
+{
+    convert(readings.into_iter()).step_by(10).fold(
+        0,
+        |sum: u64, reading: u32| Ok(sum.wrapping_add(u64::from(reading))),
+    )
+}
+
+/// How much each reading above 100 is above it, unless an allocation fails.
+pub fn excesses(alloc: Global, readings: Vec<Result<u32, u8>>) -> Result<Vec<u32>, Fault<u8>>
+    ensures { CollectedAs (λ xs v. v.items ≡ xs)
+        (filter_mapped (λ x. Ok (if nat_lt 100 x then Some (x - 100) else None))
+        (results readings.items)) result }
+{
+    convert(readings.into_iter())
+        .filter_map(|reading: u32| Ok(if reading > 100 {
+            Some(reading - 100)
+        } else {
+            None
+        }))
+        .collect(alloc)
 }
 
 /// The readings above 100, unless an allocation fails.
@@ -127,6 +183,20 @@ pub fn products(left: &[u32], right: &[u32]) -> Result<u64, u8>
                 u64::from(pair.0) * u64::from(pair.1),
             )),
         )
+}
+
+/// At how many positions two columns have texts of the same length, or the first failure of the left. The texts of each column are borrowed for a time of its own.
+pub fn same_lengths<'a, 'b>(
+    left: Vec<Result<&'a [u8], u8>>,
+    right: Vec<&'b [u8]>,
+) -> Result<usize, u8>
+    ensures { result ≡ counted (filtered (λ p. Ok (nat_eq (length p.0.now) (length p.1.now)))
+        (zipped (results left.entry.items) (items right.entry.items))) }
+{
+    convert(left.into_iter())
+        .zip(convert(right.into_iter().map(Ok)))
+        .filter(|texts| Ok(texts.0.len() == texts.1.len()))
+        .count()
 }
 
 /// The readings above 100 with their places, from the first one that is above 10 on and up to the first one that is 0.

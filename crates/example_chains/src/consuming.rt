@@ -1,8 +1,9 @@
 //! What searches find, and which item is the best.
-ghost use Rattle.std.specs.Prelude.{◌≡◌, ◌+◌, ◌*◌, ◌%◌, ◌^◌, ℕ, Result, Ok, Err, IfOk, Option, length, map, nat_lt};
+ghost use Rattle.std.specs.Prelude.{◌≡◌, ◌+◌, ◌*◌, ◌%◌, ◌^◌, ℕ, Result, Ok, Err, IfOk, Option, length, map, nat_lt, ◌/◌, if◌then◌else◌, Some, None};
 ghost use Rattle.std.specs.Ordering.{nat_cmp};
 ghost use Rattle.fallible_iterator.specs.Fault.{Fault};
-ghost use Rattle.fallible_iterator.specs.Lists.{results, all_of, any_of, collected, last_of, on_value, reduced, greatest, least, PartitionedAs, UnzippedAs, mapped, filtered, numbered, skipped, taken};
+ghost use Rattle.fallible_iterator.specs.Lists.{results, all_of, any_of, collected, last_of, on_value, reduced, greatest, least, PartitionedAs, UnzippedAs, mapped, filtered, numbered, skipped, taken, find_mapped, each_done, best_by, best_by_key};
+ghost use Rattle.std.specs.declared.cmp.Ordering.TheVariants.{Greater, Less};
 
 use fallible_iterator::{FallibleIterator, Fault, convert};
 use std::alloc::Global;
@@ -24,6 +25,30 @@ pub fn any_above_100(readings: Vec<Result<u32, u8>>) -> Result<bool, u8>
     convert(readings.into_iter())
         .skip(1)
         .any(|reading| Ok(reading > 100))
+}
+
+/// Half of the first reading above 100, or the failure that comes first; `None` if there is no such reading.
+pub fn half_of_first_above_100(readings: Vec<Result<u32, u8>>) -> Result<Option<u32>, u8>
+    ensures { result ≡ find_mapped (λ x. Ok (if nat_lt 100 x then Some (x / 2) else None))
+        (results readings.items) }
+{
+    convert(readings.into_iter()).find_map(|reading: u32| Ok(if reading > 100 {
+        Some(reading / 2)
+    } else {
+        None
+    }))
+}
+
+/// Nothing, if no reading is above 100, and otherwise the failure that comes first: the code 7 for a reading above 100.
+pub fn check_up_to_100(readings: Vec<Result<u32, u8>>) -> Result<(), u8>
+    ensures { result ≡ each_done (λ x. if nat_lt 100 x then Err 7 else Ok tt)
+        (results readings.items) }
+{
+    convert(readings.into_iter()).for_each(|reading: u32| if reading > 100 {
+        Err(7)
+    } else {
+        Ok(())
+    })
 }
 
 /// The sum of the readings modulo 2 ^ 32, or the first failure; `None` if there is no reading.
@@ -54,6 +79,36 @@ pub fn least_double_above_1000(readings: Vec<Result<u32, u8>>) -> Result<Option<
         .map(|reading| Ok(u64::from(reading) * 2))
         .filter(|double| Ok(*double > 1000))
         .min()
+}
+
+/// The last of the readings with the greatest last digit, or the first failure.
+pub fn with_greatest_digit(readings: Vec<Result<u32, u8>>) -> Result<Option<u32>, u8>
+    ensures { result ≡ best_by_key Greater nat_cmp (λ x. Ok (x % 10)) (results readings.items) }
+{
+    convert(readings.into_iter()).max_by_key(|reading: &u32| Ok(*reading % 10))
+}
+
+/// The last of the readings with the least last digit, or the first failure.
+pub fn with_least_digit(readings: Vec<Result<u32, u8>>) -> Result<Option<u32>, u8>
+    ensures { result ≡ best_by_key Less nat_cmp (λ x. Ok (x % 10)) (results readings.items) }
+{
+    convert(readings.into_iter()).min_by_key(|reading: &u32| Ok(*reading % 10))
+}
+
+/// The reading that `with_greatest_digit` finds, by a closure that compares two.
+pub fn greatest_by_digits(readings: Vec<Result<u32, u8>>) -> Result<Option<u32>, u8>
+    ensures { result ≡ best_by Greater (λ x y. Ok (nat_cmp (x % 10) (y % 10)))
+        (results readings.items) }
+{
+    convert(readings.into_iter()).max_by(|x: &u32, y: &u32| Ok((*x % 10).cmp(&(*y % 10))))
+}
+
+/// The reading that `with_least_digit` finds, by a closure that compares two.
+pub fn least_by_digits(readings: Vec<Result<u32, u8>>) -> Result<Option<u32>, u8>
+    ensures { result ≡ best_by Less (λ x y. Ok (nat_cmp (x % 10) (y % 10)))
+        (results readings.items) }
+{
+    convert(readings.into_iter()).min_by(|x: &u32, y: &u32| Ok((*x % 10).cmp(&(*y % 10))))
 }
 
 /// The last of the first ten readings that are above 100, if there is one, or the failure that comes first.

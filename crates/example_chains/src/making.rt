@@ -1,14 +1,14 @@
 //! What a closure yields, what draws leave, what is buffered, rounds, and runs one after the other.
-ghost use Rattle.std.specs.Prelude.{◌≡◌, ℕ, ◌+◌, ◌-◌, ◌%◌, ◌^◌, ◌≤◌, length, drop, List, Option, Result, Ok, IfOk, nat_lt};
+ghost use Rattle.std.specs.Prelude.{◌≡◌, ℕ, ◌+◌, ◌-◌, ◌%◌, ◌^◌, ◌≤◌, length, drop, List, Option, Result, Ok, IfOk, nat_lt, Err};
 ghost use Rattle.std.specs.Vec.Iter.{into_iter_items};
 ghost use Rattle.fallible_iterator.specs.Showing.{TakesShown};
-ghost use Rattle.fallible_iterator.specs.Lists.{Lists, counted, cycled, filtered, flattened, folded, items, mapped, results, taken};
+ghost use Rattle.fallible_iterator.specs.Lists.{Lists, counted, cycled, filtered, flattened, folded, items, mapped, results, taken, pointed_to};
 ghost use Rattle.fallible_iterator.specs.Contract.{AtMost};
 ghost use Rattle.example_chains.specs.Runs.{below, numbers};
 ghost use Rattle.fallible_iterator.specs.Peeking.Peekable.{held_then, peekable_held, peekable_source};
 
 use fallible_iterator::laws::{answers, law_cycle_taken, law_flat_map_finite, law_peekable};
-use fallible_iterator::{FallibleIterator, IteratorExt, Peekable, convert, from_fn};
+use fallible_iterator::{FallibleIterator, IteratorExt, Peekable, convert, from_fn, repeat_err};
 use std::alloc::{AllocError, Global};
 use std::convert::Infallible;
 
@@ -79,4 +79,23 @@ pub fn hundreds(readings: Vec<Result<u32, Infallible>>) -> Result<u64, Infallibl
     let joined = convert(readings.into_iter()).flat_map(|_| Ok((0u32..100).into_fallible()));
     law_flat_map_finite(&joined, 100);
     joined.fold(0, |sum: u64, _| Ok(sum.wrapping_add(1)))
+}
+
+/// The sum of what the readings point to, which is cloned, modulo 2 ^ 64, or the first failure. An allocation failure of a clone would be one of the readings' own.
+pub fn sum_of_clones(readings: Vec<Result<&u32, AllocError>>) -> Result<u64, AllocError>
+    ensures { result ≡ folded (λ e. e) (λ s x. Ok ((s + x) % 2 ^ 64)) 0
+        (pointed_to (results readings.entry.items)) }
+{
+    convert(readings.into_iter()).cloned().fold(
+        0,
+        |sum: u64, reading: u32| Ok(sum.wrapping_add(u64::from(reading))),
+    )
+}
+
+/// What the first draw returns of a source that always fails: a clone of the failure, unless that fails to allocate.
+pub fn failure_of<E: Clone + From<AllocError>>(error: E) -> Result<Option<u32>, E>
+    ensures { E.is_infallible error → ((e : E) → E.is_clone error e → e ≡ error)
+        → result ≡ Err error }
+{
+    repeat_err::<u32, E>(error).next()
 }

@@ -1,7 +1,7 @@
 //! Ranges, drained.
-ghost use Rattle.std.specs.Prelude.{◌≡◌, ◌+◌, ◌%◌, ◌^◌, Ok, IfOk, nat_lt};
+ghost use Rattle.std.specs.Prelude.{◌≡◌, ◌+◌, ◌%◌, ◌^◌, Ok, IfOk, nat_lt, eqb};
 ghost use Rattle.std.specs.List.{range_with_len};
-ghost use Rattle.fallible_iterator.specs.Lists.{items, results, counted, folded, CollectedAs, taken, mapped, filtered, flattened};
+ghost use Rattle.fallible_iterator.specs.Lists.{items, results, counted, folded, CollectedAs, taken, mapped, filtered, flattened, found, reversed};
 ghost use Rattle.example_chains.specs.Runs.{below, numbers};
 
 use fallible_iterator::{FallibleIterator, Fault, IteratorExt, convert};
@@ -17,6 +17,16 @@ pub fn sum_below(end: u32) -> Result<u64, Infallible>
         0,
         |sum: u64, number: u32| Ok(sum.wrapping_add(u64::from(number))),
     )
+}
+
+/// The greatest number below `end` that leaves 3 if it is divided by 10, if there is one.
+pub fn greatest_with_three(end: u32) -> Result<Option<u32>, Infallible>
+    ensures { result ≡ found (λ x. Ok (eqb (x % 10) 3)) (reversed (items (range_with_len 0 end))) }
+{
+    (0..end)
+        .into_fallible()
+        .rev()
+        .find(|number: &u32| Ok(*number % 10 == 3))
 }
 
 /// How many of the numbers below `end` are above 100, counted over a clone, and then their sum, modulo 2 ^ 64, of the original; or an allocation failure for the clone.

@@ -1,21 +1,26 @@
 //! Callers of what is in `fallible_itertools` about extremes, counts, comparisons and the second end, with what they compute.
-ghost use Rattle.std.specs.Prelude.{◌≡◌, ◌-◌, ◌%◌, if◌then◌else◌, length, Ok, nat_eq, nat_lt};
+ghost use Rattle.std.specs.Prelude.{◌≡◌, ◌-◌, ◌%◌, if◌then◌else◌, length, Ok, nat_eq, nat_lt, codes, List, Result, Option, None, Err, ℕ, is_some};
 ghost use Rattle.std.specs.Ordering.{nat_cmp};
 ghost use Rattle.fallible_iterator.specs.Clauses.{OverList};
-ghost use Rattle.fallible_iterator.specs.Lists.{CollectedAs, filtered, found, mapped, nth_of, results, reversed, taken};
+ghost use Rattle.fallible_iterator.specs.Lists.{CollectedAs, filtered, found, mapped, nth_of, results, reversed, taken, on_value, Lists};
 ghost use Rattle.fallible_itertools.specs.Counts.{IsCountsOf};
-ghost use Rattle.fallible_itertools.specs.ExactlyOne.{at_most_one_of, wanting_one};
+ghost use Rattle.fallible_itertools.specs.ExactlyOne.{at_most_one_of, wanting_one, first_two};
 ghost use Rattle.fallible_itertools.specs.GroupMap.{IsGroupMapOf};
 ghost use Rattle.fallible_itertools.specs.Keyed.{keyed};
-ghost use Rattle.fallible_itertools.specs.MinMax.{minmaxed};
+ghost use Rattle.fallible_itertools.specs.MinMax.{minmaxed, least_and_greatest};
 ghost use Rattle.fallible_itertools.specs.MinMaxBy.{minmaxed_by, minmaxed_by_key};
 ghost use Rattle.fallible_itertools.specs.PartitionMap.{MadeOfEithers};
 ghost use Rattle.fallible_itertools.specs.PositionBest.{position_greatest, position_least};
 ghost use Rattle.fallible_itertools.specs.Sorted.{IsSortedByKeyOf, IsSortedByTest, IsSortedOf};
-ghost use Rattle.fallible_itertools.specs.SortedUnstable.{HasItemsInOrder};
+ghost use Rattle.fallible_itertools.specs.SortedUnstable.{HasItemsInOrder, HasItemsInOrderByKey, HasItemsInOrderByTest};
+ghost use Rattle.fallible_itertools.specs.ConsumerTypes.exactly_one.NotOne.{NotOne};
 ghost use Rattle.fallible_itertools.specs.ConsumerTypes.partition_map.Either.TheVariants.{Left, Right};
+ghost use Rattle.fallible_itertools.specs.FromBack.{last_position_in};
+ghost use Rattle.fallible_itertools.specs.Join.{joined};
+ghost use Rattle.std.specs.Fmt.{decimal};
+ghost use Rattle.std.specs.String.{string_bytes};
 
-use fallible_iterator::laws::law_back_convert;
+use fallible_iterator::laws::{law_back_convert, law_listed_vec};
 use fallible_iterator::{FallibleIterator, Fault, convert};
 use fallible_itertools::{
     DoubleEndedFallibleItertools, Either, FallibleItertools, MinMaxResult, NotOne,
@@ -52,6 +57,14 @@ pub fn span_by_last_digits(readings: Vec<Result<u32, u8>>) -> Result<MinMaxResul
     ensures { result ≡ minmaxed_by (λ x y. Ok (nat_cmp (x % 10) (y % 10))) (results readings.items) }
 {
     convert(readings.into_iter()).minmax_by(|x: &u32, y: &u32| Ok((*x % 10).cmp(&(*y % 10))))
+}
+
+/// The least and the greatest reading, which are one and the same if there is one; `None` if there is none. Or the first failure.
+pub fn bounds_of(readings: Vec<Result<u32, u8>>) -> Result<Option<(u32, u32)>, u8>
+    ensures { result ≡ on_value (minmaxed nat_cmp (results readings.items))
+        (λ found. Ok (least_and_greatest found)) }
+{
+    Ok(convert(readings.into_iter()).minmax()?.into_option())
 }
 
 /// The first of the shortest rows and the last of the longest, or the first failure.
@@ -96,6 +109,33 @@ where
         (λ l. result ≡ wanting_one (at_most_one_of (taken 10 l))) }
 {
     it.take(10).exactly_one()
+}
+
+/// The first two items, if there are two; `None` if there is one or none. Or the failure that comes before.
+pub fn two_if_several<I: FallibleIterator<Item = u32>>(
+    mut it: I,
+) -> Result<Option<(u32, u32)>, I::Error>
+where
+    requires { I.contract.can_next it }
+    ensures one { (l : List (Result ℕ I.Error)) (x : ℕ) → Lists I.contract.steps it l
+        → wanting_one (at_most_one_of l) ≡ Ok (Ok x) → result ≡ Ok None }
+    ensures not_one { (l : List (Result ℕ I.Error)) (not_one : NotOne ℕ)
+        → Lists I.contract.steps it l
+        → wanting_one (at_most_one_of l) ≡ Ok (Err not_one) → result ≡ Ok (first_two not_one) }
+    ensures fails { (l : List (Result ℕ I.Error)) (e : I.Error) → Lists I.contract.steps it l
+        → wanting_one (at_most_one_of l) ≡ Err e → result ≡ Err e }
+{
+    match it.exactly_one()? {
+        Ok(_) => Ok(None),
+        Err(not_one) => Ok(not_one.into_items()),
+    }
+}
+
+/// Whether there is no only item because there are several.
+pub fn is_ambiguous(not_one: &NotOne<u32>) -> bool
+    ensures { result ≡ is_some (first_two not_one.now) }
+{
+    not_one.is_more()
 }
 
 /// How often each of the readings comes.
@@ -196,6 +236,33 @@ pub fn readings_in_order(
     convert(readings.into_iter()).sorted_unstable(alloc)
 }
 
+/// The readings in the order of their last digits, where those with the same one stand in any order, or the first failure. They are sorted in place.
+pub fn by_last_digit_in_place(
+    alloc: Global,
+    readings: Vec<Result<u32, u8>>,
+) -> Result<Vec<u32>, Fault<u8>>
+    ensures { CollectedAs (HasItemsInOrderByKey (λ x. x % 10) nat_cmp) (results readings.items)
+        result }
+{
+    convert(readings.into_iter()).sorted_unstable_by_key(alloc, |reading: &u32| *reading % 10)
+}
+
+/// The readings from the greatest down, or the first failure. They are sorted in place.
+pub fn down_in_place(alloc: Global, readings: Vec<Result<u32, u8>>) -> Result<Vec<u32>, Fault<u8>>
+    ensures { CollectedAs (HasItemsInOrderByTest (λ x y. nat_lt y x)) (results readings.items)
+        result }
+{
+    convert(readings.into_iter()).sorted_unstable_by(alloc, |x: &u32, y: &u32| y.cmp(x))
+}
+
+/// The readings in one text, with a comma and a blank between each two, or the first failure.
+pub fn listed_in_text(alloc: Global, readings: Vec<Result<u32, u8>>) -> Result<String, Fault<u8>>
+    ensures { CollectedAs (λ xs text. string_bytes text ≡ joined decimal (codes ", ") xs)
+        (results readings.items) result }
+{
+    convert(readings.into_iter()).join(alloc, ", ")
+}
+
 /// The reading with n readings after it.
 pub fn nth_last(readings: Vec<Result<u32, u8>>, n: usize) -> Result<Option<u32>, u8>
     ensures { result ≡ nth_of n (reversed (results readings.items)) }
@@ -210,4 +277,12 @@ pub fn last_above_100(readings: Vec<Result<u32, u8>>) -> Result<Option<u32>, u8>
 {
     law_back_convert::<u32, u8, std::vec::IntoIter<Result<u32, u8>, Global>>();
     convert(readings.into_iter()).rfind(|reading| Ok(*reading > 100))
+}
+
+/// How many readings come before the last one above 100; `None` if there is no such reading. Or the failure that comes first: from the back up to that one, and then from the front.
+pub fn place_of_last_above_100(readings: Vec<Result<u32, u8>>) -> Result<Option<usize>, u8>
+    ensures { result ≡ last_position_in (λ x. Ok (nat_lt 100 x)) (results readings.items) }
+{
+    law_listed_vec::<u32, u8>();
+    convert(readings.into_iter()).rposition(|reading| Ok(reading > 100))
 }

@@ -1,9 +1,9 @@
 //! Callers of the adapters that join: each states what it computes, and the contracts of the calls prove it.
 ghost use Rattle.std.specs.Ordering.{nat_cmp};
-ghost use Rattle.std.specs.Prelude.{◌≡◌, ◌%◌, ◌/◌, Ok, nat_eq, nat_le};
-ghost use Rattle.fallible_iterator.specs.Comparing.{by_cmp};
+ghost use Rattle.std.specs.Prelude.{◌≡◌, ◌%◌, ◌/◌, Ok, nat_eq, nat_le, Some};
+ghost use Rattle.fallible_iterator.specs.Comparing.{by_cmp, read_as};
 ghost use Rattle.fallible_iterator.specs.Lists.{counted, last_of, nth_of, results};
-ghost use Rattle.fallible_itertools.specs.CmpBy.{equal_by};
+ghost use Rattle.fallible_itertools.specs.CmpBy.{equal_by, ordered_by};
 ghost use Rattle.fallible_itertools.specs.DedupBy.{deduped_by};
 ghost use Rattle.fallible_itertools.specs.Interleave.{interleaved};
 ghost use Rattle.fallible_itertools.specs.Merge.{merged_in_order};
@@ -15,6 +15,7 @@ ghost use Rattle.fallible_itertools.specs.ZipLongest.{zipped_longest};
 
 use fallible_iterator::{FallibleIterator, convert};
 use fallible_itertools::FallibleItertools;
+use std::cmp::Ordering;
 
 /// How many positions two columns have, each filled by one of them at least, or the first failure.
 pub fn places_of_both(left: Vec<Result<u32, u8>>, right: Vec<Result<u32, u8>>) -> Result<usize, u8>
@@ -106,4 +107,18 @@ pub fn same_last_digits(left: Vec<Result<u32, u8>>, right: Vec<Result<u32, u8>>)
         (results left.items) (results right.items) }
 {
     convert(left.into_iter()).eq_by(convert(right.into_iter()), |x, y| Ok(x % 10 == y % 10))
+}
+
+/// How two columns compare by their last digits, position by position, or the first failure.
+pub fn order_of_last_digits(
+    left: Vec<Result<u32, u8>>,
+    right: Vec<Result<u32, u8>>,
+) -> Result<Ordering, u8>
+    ensures { read_as (λ o. Some o) result ≡ ordered_by (λ x y. Ok (nat_cmp (x % 10) (y % 10)))
+        (results left.items) (results right.items) }
+{
+    convert(left.into_iter()).cmp_by(
+        convert(right.into_iter()),
+        |x, y| Ok((x % 10).cmp(&(y % 10))),
+    )
 }

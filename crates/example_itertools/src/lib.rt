@@ -11,6 +11,7 @@ pub mod kept;
 pub mod ordering;
 pub mod passing;
 pub mod reading;
+pub mod rows;
 pub mod settings;
 pub mod stopping;
 pub mod totals;

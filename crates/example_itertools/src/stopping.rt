@@ -2,7 +2,7 @@
 ghost use Rattle.std.specs.Prelude.{◌≡◌, true, nat_eq, ◌+◌, ◌%◌, ◌^◌, ℕ, eqb, List, Result, Ok, Err, if◌then◌else◌, nat_lt};
 ghost use Rattle.std.specs.Ordering.{nat_cmp};
 ghost use Rattle.fallible_iterator.specs.Comparing.{by_cmp};
-ghost use Rattle.fallible_iterator.specs.Lists.{Lists, filtered, last_of, nth_of, results};
+ghost use Rattle.fallible_iterator.specs.Lists.{Lists, filtered, last_of, nth_of, results, on_value};
 ghost use Rattle.fallible_itertools.specs.AllUnique.{AllUniqueAs};
 ghost use Rattle.fallible_itertools.specs.Equal.{contained, equal_to_first, equal_value, rest_contained};
 ghost use Rattle.fallible_itertools.specs.FindOrLast.{found_or_first, found_or_last};
@@ -10,7 +10,7 @@ ghost use Rattle.fallible_itertools.specs.FindPosition.{position_found};
 ghost use Rattle.fallible_itertools.specs.Positions.{positions_where};
 ghost use Rattle.fallible_itertools.specs.IsSortedBy.{in_order_by};
 ghost use Rattle.fallible_itertools.specs.IsSorted.{in_order, in_order_by_key};
-ghost use Rattle.fallible_itertools.specs.FoldWhile.{rest_while, folded_while};
+ghost use Rattle.fallible_itertools.specs.FoldWhile.{rest_while, folded_while, value_of, is_done_at};
 ghost use Rattle.fallible_itertools.specs.ConsumerTypes.fold_while.FoldWhile.TheVariants.{Continue, Done};
 
 use fallible_iterator::{FallibleIterator, Fault, convert};
@@ -32,6 +32,24 @@ pub fn sum_up_to_zero(readings: Vec<Result<u32, u8>>) -> Result<FoldWhile<u32>, 
             Ok(FoldWhile::Continue(sum.wrapping_add(reading)))
         },
     )
+}
+
+/// The sum of the readings up to the first 0, if there is one, modulo 2 ^ 32, or the first failure before.
+pub fn sum_before_zero(readings: Vec<Result<u32, u8>>) -> Result<u32, u8>
+    ensures { result ≡ on_value (folded_while
+        (λ s x. if eqb x 0 then Ok (Done s) else Ok (Continue ((s + x) % 2 ^ 32))) 0
+        (results readings.items)) (λ sum. Ok (value_of sum)) }
+{
+    Ok(sum_up_to_zero(readings)?.into_inner())
+}
+
+/// Whether a reading is 0, or the first failure before.
+pub fn sums_up_to_zero(readings: Vec<Result<u32, u8>>) -> Result<bool, u8>
+    ensures { result ≡ on_value (folded_while
+        (λ s x. if eqb x 0 then Ok (Done s) else Ok (Continue ((s + x) % 2 ^ 32))) 0
+        (results readings.items)) (λ sum. Ok (is_done_at sum)) }
+{
+    Ok(sum_up_to_zero(readings)?.is_done())
 }
 
 /// The item after the first 0, or the first failure; `None` if there is no 0.

@@ -13,3 +13,5 @@ mod leaving;
 mod own;
 #[cfg(test)]
 mod reading;
+#[cfg(test)]
+mod values;

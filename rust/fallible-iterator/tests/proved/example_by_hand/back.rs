@@ -43,6 +43,13 @@ pub fn sum_from_back(readings: Vec<Result<u32, u8>>) -> Result<u64, u8> {
     })
 }
 
+/// The sum of the readings, drawn from the back, or the failure that comes first: the code 7 where the sum reaches 2 ^ 32.
+pub fn checked_sum_from_back(readings: Vec<Result<u32, u8>>) -> Result<u32, u8> {
+    convert(readings.into_iter()).try_rfold(0, |sum: u32, reading: u32| {
+        sum.checked_add(reading).ok_or(7u8)
+    })
+}
+
 /// What three draws return, the first of which is from the front.
 pub fn three_answers(readings: Vec<Result<u32, u8>>) -> Result<Vec<Answer<u32, u8>>, AllocError> {
     let mut it = convert(readings.into_iter());

@@ -1,7 +1,7 @@
 use crate::Fail;
 use fallible_iterator::memory::AllocError;
 
-use fallible_iterator::{FallibleIterator, convert};
+use fallible_iterator::{FallibleIterator, Peekable, convert};
 
 /// The third of the doubled readings above 100 among the first ten, or the failure of a draw before. No clause says what it returns if there are fewer than two.
 pub fn third_draw(readings: Vec<Result<u32, u8>>) -> Result<Option<u64>, u8> {
@@ -72,6 +72,30 @@ pub fn sum_of_two<I: FallibleIterator<Item = u32>>(it: &mut I) -> Result<u32, I:
         .try_fold(0, |sum: u32, x: u32| Ok(sum.wrapping_add(x)))
 }
 
+/// The sum of the first three items, modulo 2 ^ 32, or the first failure among them. `by_ref` lends the iterator; no clause says what it leaves.
+pub fn sum_of_three<I: FallibleIterator<Item = u32>>(it: &mut I) -> Result<u32, I::Error> {
+    it.by_ref()
+        .take(3)
+        .try_fold(0, |sum: u32, x: u32| Ok(sum.wrapping_add(x)))
+}
+
+/// The sum of the first two items of a source that is lent, and lent on to a function that borrows what it is given.
+pub fn sum_of_two_lent_twice<I: FallibleIterator<Item = u32>>(it: &mut I) -> Result<u32, I::Error> {
+    let mut lent = it.by_ref();
+    sum_of_two(&mut lent)
+}
+
+/// The sum of the products of two sources, position by position, modulo 2 ^ 64, or the failure that comes first. Each is lent for a time of its own.
+pub fn sum_of_products<'a, 'b, I, J>(left: &'a mut I, right: &'b mut J) -> Result<u64, I::Error>
+where
+    I: FallibleIterator<Item = u32>,
+    J: FallibleIterator<Item = u32, Error = I::Error>,
+{
+    left.zip(right).fold(0, |sum: u64, pair: (u32, u32)| {
+        Ok(sum.wrapping_add(u64::from(pair.0) * u64::from(pair.1)))
+    })
+}
+
 /// The sum of the first two readings above 100, and the one after them, or the first failure among the three. No clause says what it returns if there are fewer than two.
 pub fn two_and_the_next(readings: Vec<Result<u32, u8>>) -> Result<(u32, Option<u32>), u8> {
     let mut above = convert(readings.into_iter()).filter(|reading| Ok(*reading > 100));
@@ -131,4 +155,27 @@ pub fn begins_above_100<I: FallibleIterator<Item = u32>>(it: I) -> Result<bool, 
         Some(first) => Ok(*first > 100),
         None => Ok(false),
     }
+}
+
+/// The first item, in whose place a 0 is buffered, or a failure in its place; `None` if there is none. The law says what `peek_mut` returns.
+pub fn first_cleared<I: FallibleIterator<Item = u32>>(
+    ahead: &mut Peekable<I>,
+) -> Result<Option<u32>, I::Error> {
+    let Some(first) = ahead.peek_mut()? else {
+        return Ok(None);
+    };
+    let item = *first;
+    *first = 0;
+    Ok(Some(item))
+}
+
+/// Whether the next item is above 100, or a failure in its place; `None` if there is none. The item is buffered first, then looked at, and stays.
+pub fn next_above_100<I: FallibleIterator<Item = u32>>(
+    ahead: &mut Peekable<I>,
+) -> Result<Option<bool>, I::Error> {
+    ahead.fill()?;
+    let Some(item) = ahead.held() else {
+        return Ok(None);
+    };
+    Ok(Some(*item > 100))
 }

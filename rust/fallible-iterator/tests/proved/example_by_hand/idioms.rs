@@ -1,7 +1,7 @@
 use crate::Fail;
 use fallible_iterator::memory::AllocError;
 
-use fallible_iterator::{FallibleIterator, Filter, Skip, Take, convert};
+use fallible_iterator::{FallibleIterator, Filter, Fuse, Skip, Take, convert};
 
 // The sum and one more number, modulo 2 ^ 64.
 fn add(sum: u64, x: u32) -> Result<u64, u8> {
@@ -78,6 +78,17 @@ where
     F: FnMut(&I::Item) -> Result<bool, I::Error>,
 {
     it.filter(keep)
+}
+
+/// The items, and `Ok(None)` at each draw after the first one: a source for code that draws on.
+pub fn ending_for_good<I: FallibleIterator>(it: I) -> Fuse<I> {
+    it.fuse()
+}
+
+/// How many items a vector for all of an iterator's should have room for, up to 1024: as many as its hint says that come at least.
+pub fn room_for<I: FallibleIterator>(it: &I) -> usize {
+    let (least, _) = it.size_hint();
+    least.min(1024)
 }
 
 // The sum of a number and the items, modulo 2 ^ 64, or the first failure.

@@ -1,7 +1,7 @@
 use crate::Fail;
 use fallible_iterator::memory::AllocError;
 
-use fallible_iterator::{FallibleIterator, convert};
+use fallible_iterator::{FallibleIterator, Peekable, convert};
 
 /// How many of the readings are above 100, and how many are not, or the first failure, unless an allocation fails. That may be only if a vector of one side is full when a reading comes to it.
 pub fn how_many_each(readings: Vec<Result<u32, u8>>) -> Result<(usize, usize), u8> {
@@ -70,4 +70,12 @@ pub fn sum_and_next<I: FallibleIterator<Item = u32>>(
 ) -> Result<(u64, Option<u32>), I::Error> {
     let sum = sum_below_ten(&mut tokens)?;
     Ok((sum, tokens.draw()?))
+}
+
+/// Whether the next item is this one, which is taken then. Another item stays, and so does an `Ok(None)`; or a failure in its place.
+pub fn takes<I: FallibleIterator<Item = u8>>(
+    ahead: &mut Peekable<I>,
+    expected: u8,
+) -> Result<bool, I::Error> {
+    Ok(ahead.next_if_eq(&expected)?.is_some())
 }

@@ -1,7 +1,7 @@
 use crate::Fail;
 use fallible_iterator::memory::AllocError;
 
-use fallible_iterator::{FallibleIterator, convert, once};
+use fallible_iterator::{FallibleIterator, convert, empty, once, once_err};
 
 /// How many of the numbers are above 100.
 pub fn above_100(numbers: &[u32]) -> Result<usize, u8> {
@@ -25,9 +25,23 @@ pub fn all_up_to_100(readings: Vec<Result<u32, u8>>) -> Result<usize, u8> {
         .count()
 }
 
+/// The same count and the same failures. Each reading is only looked at.
+pub fn inspected_up_to_100(readings: Vec<Result<u32, u8>>) -> Result<usize, u8> {
+    convert(readings.into_iter())
+        .inspect(|reading: &u32| if *reading > 100 { Err(7) } else { Ok(()) })
+        .count()
+}
+
 /// The sum of one item.
 pub fn fold_of_one(item: u32) -> Result<u64, u8> {
     once::<u32, u8>(item).fold(0, |sum: u64, item: u32| {
+        Ok(sum.wrapping_add(u64::from(item)))
+    })
+}
+
+/// The sum of no items.
+pub fn fold_of_none() -> Result<u64, u8> {
+    empty::<u32, u8>().fold(0, |sum: u64, item: u32| {
         Ok(sum.wrapping_add(u64::from(item)))
     })
 }
@@ -51,6 +65,35 @@ pub fn fourth_above_100(readings: Vec<Result<u32, u8>>) -> Result<Option<u32>, u
     convert(readings.into_iter())
         .filter(|reading| Ok(*reading > 100))
         .nth(3)
+}
+
+/// The first reading above 100, or the failure that comes before: the code 7 if there is no such reading.
+pub fn required_above_100(readings: Vec<Result<u32, u8>>) -> Result<Option<u32>, u8> {
+    convert(readings.into_iter())
+        .chain(once_err(7))
+        .find(|reading| Ok(*reading > 100))
+}
+
+/// The sum of each tenth reading, from the first on, modulo 2 ^ 64, or the first failure.
+pub fn sum_of_tenths(readings: Vec<Result<u32, u8>>) -> Result<u64, u8> {
+    convert(readings.into_iter())
+        .step_by(10)
+        .fold(0, |sum: u64, reading: u32| {
+            Ok(sum.wrapping_add(u64::from(reading)))
+        })
+}
+
+/// How much each reading above 100 is above it, unless an allocation fails.
+pub fn excesses(readings: Vec<Result<u32, u8>>) -> Result<Vec<u32>, u8> {
+    convert(readings.into_iter())
+        .filter_map(|reading: u32| {
+            Ok(if reading > 100 {
+                Some(reading - 100)
+            } else {
+                None
+            })
+        })
+        .collect()
 }
 
 /// The readings above 100, unless an allocation fails.
@@ -84,6 +127,17 @@ pub fn products(left: &[u32], right: &[u32]) -> Result<u64, u8> {
         .fold(0, |sum: u64, pair: (u32, u32)| {
             Ok(sum.wrapping_add(u64::from(pair.0) * u64::from(pair.1)))
         })
+}
+
+/// At how many positions two columns have texts of the same length, or the first failure of the left. The texts of each column are borrowed for a time of its own.
+pub fn same_lengths<'a, 'b>(
+    left: Vec<Result<&'a [u8], u8>>,
+    right: Vec<&'b [u8]>,
+) -> Result<usize, u8> {
+    convert(left.into_iter())
+        .zip(convert(right.into_iter().map(Ok)))
+        .filter(|texts| Ok(texts.0.len() == texts.1.len()))
+        .count()
 }
 
 /// The readings above 100 with their places, from the first one that is above 10 on and up to the first one that is 0.

@@ -17,6 +17,23 @@ pub fn any_above_100(readings: Vec<Result<u32, u8>>) -> Result<bool, u8> {
         .any(|reading| Ok(reading > 100))
 }
 
+/// Half of the first reading above 100, or the failure that comes first; `None` if there is no such reading.
+pub fn half_of_first_above_100(readings: Vec<Result<u32, u8>>) -> Result<Option<u32>, u8> {
+    convert(readings.into_iter()).find_map(|reading: u32| {
+        Ok(if reading > 100 {
+            Some(reading / 2)
+        } else {
+            None
+        })
+    })
+}
+
+/// Nothing, if no reading is above 100, and otherwise the failure that comes first: the code 7 for a reading above 100.
+pub fn check_up_to_100(readings: Vec<Result<u32, u8>>) -> Result<(), u8> {
+    convert(readings.into_iter())
+        .for_each(|reading: u32| if reading > 100 { Err(7) } else { Ok(()) })
+}
+
 /// The sum of the readings modulo 2 ^ 32, or the first failure; `None` if there is no reading.
 pub fn sum_if_any(readings: Vec<Result<u32, u8>>) -> Result<Option<u32>, u8> {
     convert(readings.into_iter()).reduce(|sum, reading| Ok(sum.wrapping_add(reading)))
@@ -36,6 +53,26 @@ pub fn least_double_above_1000(readings: Vec<Result<u32, u8>>) -> Result<Option<
         .map(|reading| Ok(u64::from(reading) * 2))
         .filter(|double| Ok(*double > 1000))
         .min()
+}
+
+/// The last of the readings with the greatest last digit, or the first failure.
+pub fn with_greatest_digit(readings: Vec<Result<u32, u8>>) -> Result<Option<u32>, u8> {
+    convert(readings.into_iter()).max_by_key(|reading: &u32| Ok(*reading % 10))
+}
+
+/// The last of the readings with the least last digit, or the first failure.
+pub fn with_least_digit(readings: Vec<Result<u32, u8>>) -> Result<Option<u32>, u8> {
+    convert(readings.into_iter()).min_by_key(|reading: &u32| Ok(*reading % 10))
+}
+
+/// The reading that `with_greatest_digit` finds, by a closure that compares two.
+pub fn greatest_by_digits(readings: Vec<Result<u32, u8>>) -> Result<Option<u32>, u8> {
+    convert(readings.into_iter()).max_by(|x: &u32, y: &u32| Ok((*x % 10).cmp(&(*y % 10))))
+}
+
+/// The reading that `with_least_digit` finds, by a closure that compares two.
+pub fn least_by_digits(readings: Vec<Result<u32, u8>>) -> Result<Option<u32>, u8> {
+    convert(readings.into_iter()).min_by(|x: &u32, y: &u32| Ok((*x % 10).cmp(&(*y % 10))))
 }
 
 /// The last of the first ten readings that are above 100, if there is one, or the failure that comes first.

@@ -2,7 +2,7 @@ use crate::Fail;
 use fallible_iterator::memory::AllocError;
 
 use crate::laws::answers;
-use fallible_iterator::{FallibleIterator, IteratorExt, Peekable, convert, from_fn};
+use fallible_iterator::{FallibleIterator, IteratorExt, Peekable, convert, from_fn, repeat_err};
 use std::convert::Infallible;
 
 /// How many of the first ten readings, which a closure returns one by one, are above 100.
@@ -45,4 +45,18 @@ where
 pub fn hundreds(readings: Vec<Result<u32, Infallible>>) -> Result<u64, Infallible> {
     let joined = convert(readings.into_iter()).flat_map(|_| Ok((0u32..100).into_fallible()));
     joined.fold(0, |sum: u64, _| Ok(sum.wrapping_add(1)))
+}
+
+/// The sum of what the readings point to, which is cloned, modulo 2 ^ 64, or the first failure. An allocation failure of a clone would be one of the readings' own.
+pub fn sum_of_clones(readings: Vec<Result<&u32, AllocError>>) -> Result<u64, AllocError> {
+    convert(readings.into_iter())
+        .cloned()
+        .fold(0, |sum: u64, reading: u32| {
+            Ok(sum.wrapping_add(u64::from(reading)))
+        })
+}
+
+/// What the first draw returns of a source that always fails: a clone of the failure, unless that fails to allocate.
+pub fn failure_of<E: Clone>(error: E) -> Result<Option<u32>, E> {
+    repeat_err::<u32, E>(error).next()
 }

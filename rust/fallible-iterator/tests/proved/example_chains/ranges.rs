@@ -11,6 +11,14 @@ pub fn sum_below(end: u32) -> Result<u64, Infallible> {
     })
 }
 
+/// The greatest number below `end` that leaves 3 if it is divided by 10, if there is one.
+pub fn greatest_with_three(end: u32) -> Result<Option<u32>, Infallible> {
+    (0..end)
+        .into_fallible()
+        .rev()
+        .find(|number: &u32| Ok(*number % 10 == 3))
+}
+
 /// How many of the numbers below `end` are above 100, counted over a clone, and then their sum, modulo 2 ^ 64, of the original; or an allocation failure for the clone.
 pub fn count_and_sum(
     end: u32,

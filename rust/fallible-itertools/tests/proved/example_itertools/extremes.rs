@@ -29,6 +29,11 @@ pub fn span_by_last_digits(readings: Vec<Result<u32, u8>>) -> Result<MinMaxResul
     convert(readings.into_iter()).minmax_by(|x: &u32, y: &u32| Ok((*x % 10).cmp(&(*y % 10))))
 }
 
+/// The least and the greatest reading, which are one and the same if there is one; `None` if there is none. Or the first failure.
+pub fn bounds_of(readings: Vec<Result<u32, u8>>) -> Result<Option<(u32, u32)>, u8> {
+    Ok(convert(readings.into_iter()).minmax()?.into_option())
+}
+
 /// The first of the shortest rows and the last of the longest, or the first failure.
 pub fn shortest_and_longest<'a>(
     rows: Vec<Result<&'a [u8], u8>>,
@@ -60,6 +65,21 @@ pub fn only_of_ten<I: FallibleIterator>(
     it: I,
 ) -> Result<Result<I::Item, NotOne<I::Item>>, I::Error> {
     it.take(10).exactly_one()
+}
+
+/// The first two items, if there are two; `None` if there is one or none. Or the failure that comes before.
+pub fn two_if_several<I: FallibleIterator<Item = u32>>(
+    mut it: I,
+) -> Result<Option<(u32, u32)>, I::Error> {
+    match it.exactly_one()? {
+        Ok(_) => Ok(None),
+        Err(not_one) => Ok(not_one.into_items()),
+    }
+}
+
+/// Whether there is no only item because there are several.
+pub fn is_ambiguous(not_one: &NotOne<u32>) -> bool {
+    not_one.is_more()
 }
 
 /// How often each of the readings comes.
@@ -115,6 +135,21 @@ pub fn readings_in_order(readings: Vec<Result<u32, u8>>) -> Result<Vec<u32>, u8>
     convert(readings.into_iter()).sorted_unstable()
 }
 
+/// The readings in the order of their last digits, where those with the same one stand in any order, or the first failure. They are sorted in place.
+pub fn by_last_digit_in_place(readings: Vec<Result<u32, u8>>) -> Result<Vec<u32>, u8> {
+    convert(readings.into_iter()).sorted_unstable_by_key(|reading: &u32| *reading % 10)
+}
+
+/// The readings from the greatest down, or the first failure. They are sorted in place.
+pub fn down_in_place(readings: Vec<Result<u32, u8>>) -> Result<Vec<u32>, u8> {
+    convert(readings.into_iter()).sorted_unstable_by(|x: &u32, y: &u32| y.cmp(x))
+}
+
+/// The readings in one text, with a comma and a blank between each two, or the first failure.
+pub fn listed_in_text(readings: Vec<Result<u32, u8>>) -> Result<String, u8> {
+    convert(readings.into_iter()).join(", ")
+}
+
 /// The reading with n readings after it.
 pub fn nth_last(readings: Vec<Result<u32, u8>>, n: usize) -> Result<Option<u32>, u8> {
     convert(readings.into_iter()).nth_back(n)
@@ -123,4 +158,9 @@ pub fn nth_last(readings: Vec<Result<u32, u8>>, n: usize) -> Result<Option<u32>,
 /// The last reading above 100.
 pub fn last_above_100(readings: Vec<Result<u32, u8>>) -> Result<Option<u32>, u8> {
     convert(readings.into_iter()).rfind(|reading| Ok(*reading > 100))
+}
+
+/// How many readings come before the last one above 100; `None` if there is no such reading. Or the failure that comes first: from the back up to that one, and then from the front.
+pub fn place_of_last_above_100(readings: Vec<Result<u32, u8>>) -> Result<Option<usize>, u8> {
+    convert(readings.into_iter()).rposition(|reading| Ok(reading > 100))
 }

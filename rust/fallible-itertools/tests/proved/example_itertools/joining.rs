@@ -3,6 +3,7 @@ use fallible_iterator::memory::AllocError;
 
 use fallible_iterator::{FallibleIterator, convert};
 use fallible_itertools::FallibleItertools;
+use std::cmp::Ordering;
 
 /// How many positions two columns have, each filled by one of them at least, or the first failure.
 pub fn places_of_both(
@@ -80,4 +81,14 @@ pub fn same_last_digits(
     right: Vec<Result<u32, u8>>,
 ) -> Result<bool, u8> {
     convert(left.into_iter()).eq_by(convert(right.into_iter()), |x, y| Ok(x % 10 == y % 10))
+}
+
+/// How two columns compare by their last digits, position by position, or the first failure.
+pub fn order_of_last_digits(
+    left: Vec<Result<u32, u8>>,
+    right: Vec<Result<u32, u8>>,
+) -> Result<Ordering, u8> {
+    convert(left.into_iter()).cmp_by(convert(right.into_iter()), |x, y| {
+        Ok((x % 10).cmp(&(y % 10)))
+    })
 }

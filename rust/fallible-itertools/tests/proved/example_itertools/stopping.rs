@@ -16,6 +16,16 @@ pub fn sum_up_to_zero(readings: Vec<Result<u32, u8>>) -> Result<FoldWhile<u32>, 
     })
 }
 
+/// The sum of the readings up to the first 0, if there is one, modulo 2 ^ 32, or the first failure before.
+pub fn sum_before_zero(readings: Vec<Result<u32, u8>>) -> Result<u32, u8> {
+    Ok(sum_up_to_zero(readings)?.into_inner())
+}
+
+/// Whether a reading is 0, or the first failure before.
+pub fn sums_up_to_zero(readings: Vec<Result<u32, u8>>) -> Result<bool, u8> {
+    Ok(sum_up_to_zero(readings)?.is_done())
+}
+
 /// The item after the first 0, or the first failure; `None` if there is no 0.
 pub fn item_after_zero<I: FallibleIterator<Item = u32>>(
     mut it: I,
