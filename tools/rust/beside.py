@@ -11,6 +11,7 @@ from collections import defaultdict
 from pathlib import Path
 
 from examples import use_names
+from page import HIDDEN
 from rules import ANY, apply
 from source import Refused, Text, after_braces, code, functions
 
@@ -21,6 +22,8 @@ NAMES = {"drive": "fold_by", "drive_back": "fold_back_by"}
 TRAITS = {"fold_by": "Drive", "fold_back_by": "DriveBack"}
 IMPL = re.compile(r"^impl\b[^{;]*?\s((?:DoubleEnded)?FallibleIterator\s+for\s)[^{]*\{", re.M)
 MEMORY = (Path(__file__).parent / "static/fallible-iterator/src/memory.rs").read_text(encoding="utf-8")
+# What the second crate takes of the first: each version of the original has it.
+PUBLIC = {"DoubleEndedFallibleIterator", "Enumerate", "FallibleIterator", "Fuse", "IntoFallibleIterator", "Peekable"}
 # What a module of `base` needs to be there.
 NEEDS = {name: '#[cfg(feature = "alloc")]\n' for name in ("batch", "gathering")}
 
@@ -183,6 +186,16 @@ def imported(text, outside):
             text.replace(first.start(), first.start(), "use crate::base::drive::%s;\n" % trait)
 
 
+def checked(text):
+    """Refuses a file that names more of the crate below than each version of that shows."""
+    for m in re.finditer(r"^(?:pub )?use (fallible_iterator::[^;]*);", text.s, re.M):
+        for path in use_names(re.sub(r"\s+", " ", m.group())):
+            if path.removeprefix("fallible_iterator::") not in PUBLIC:
+                raise Refused("%s: beside: not each crate below shows `%s`" % (text.at(m.start()), path))
+    for m in re.finditer(r"\.(%s)\(" % HIDDEN.pattern, text.s):
+        raise Refused("%s: beside: `%s` is hidden below" % (text.at(m.start()), m.group(1)))
+
+
 PIECES = Path(__file__).parent / "static/pieces"
 
 
@@ -237,6 +250,8 @@ def to_rust(crate, files, proved, why, first):
     for text in files.values():
         imported(text, outside)
     files.update(made)
+    for text in files.values():
+        checked(text)
 
 
 # What the tests name of the first crate that no page shows, and what only it has.

@@ -26,8 +26,7 @@ class Refusals(unittest.TestCase):
             shutil.copytree(path, self.tree / path.relative_to(TOP))
         shutil.copy(TOP / "LICENSE", self.tree)
         (self.tree / "docs").mkdir()
-        for page in ("CALLING.md", "INDEX.md"):
-            shutil.copy(TOP / "docs" / page, self.tree / "docs")
+        shutil.copy(TOP / "docs/CALLING.md", self.tree / "docs")
 
     def tearDown(self):
         shutil.rmtree(self.folder)
@@ -110,6 +109,21 @@ class Refusals(unittest.TestCase):
                          ("In a proof,", "Memory;"), ("Memory;", "It requires that")):
             self.edit(CORE + "traits.rt", "    /// %s `next` may be called." % old, "    /// %s `next` may be called." % new)
             self.refused(CORE + "traits.rt:%d: docs: %s `next` may" % (line, new), "begins with `Requires:`")
+        self.assertFalse(self.out.exists())
+
+    def test_a_fold_names_what_the_trait_has(self):
+        self.edit("crates/fallible_itertools_adapters/src/positions.rt", "Result<Option<R>, I::Error> {\n        drive_passing(",
+                  "Result<Option<R>, Self::Error> {\n        drive_passing(")
+        self.refused("crates/fallible_itertools_adapters/src/positions.rt:", "beside: a fold names what the trait has")
+        self.assertFalse(self.out.exists())
+
+    def test_the_second_crate_goes_by_what_is_hidden(self):
+        path, old = "crates/fallible_itertools_consumers/src/cmp_by.rt", "use fallible_iterator::{FallibleIterator, Turn};"
+        self.edit(path, old, "use fallible_iterator::{FallibleIterator, Turn, fold_if};")
+        self.refused(path + ":", "beside: not each crate below shows `fallible_iterator::fold_if`")
+        self.edit(path, ", fold_if", "")
+        self.edit(path, "match left.next()", "match left.draw_front()")
+        self.refused(path + ":", "beside: `draw_front` is hidden below")
         self.assertFalse(self.out.exists())
 
     def test_an_example_stands_nowhere(self):
