@@ -33,9 +33,8 @@ def own_apt(work, suite):
     os.environ["APT_CONFIG"] = str(folder / "apt.conf")
 
 
-def unpacked(packages, into):
-    """Downloads the packages and unpacks them into a folder."""
-    for package in packages:
-        told(["apt-get", "download", package], cwd=into)
-    for file in sorted(into.glob("*.deb")):
+def unpacked(packages, files, into):
+    """Downloads the packages into one folder, and unpacks them into another."""
+    told(["apt-get", "download", *packages], cwd=files)
+    for file in sorted(files.glob("*.deb")):
         told(["dpkg-deb", "-x", file, into])

@@ -30,7 +30,10 @@ macro_rules! calls {
         };
         macro_rules! say {
             ($call:literal, $made:expr) => {
-                say($call, format!("{:?}", $made.map_err(|e| $shown(e))))
+                say!($call, $made, |e| $shown(e))
+            };
+            ($call:literal, $made:expr, $told:expr) => {
+                say($call, format!("{:?}", $made.map_err($told)))
             };
         }
         say!("coalesce", all!($rows.coalesce(|a, b| Ok(if a == b { Ok(a + b) } else { Err((a, b)) }))));
@@ -70,6 +73,8 @@ macro_rules! calls {
         say!("merge_by", all!($rows.merge_by(few(), |a, b| Ok(a <= b))));
         say!("merge_join_by", all!($rows.merge_join_by(few(), |a, b| Ok(a.cmp(b)))));
         say!("zip_longest", all!($rows.zip_longest(few())));
+        let other = || convert([2i64, 5, 5, 9].into_iter().map(Ok));
+        say!("zip_eq", all!($rows.map_err(Some).zip_eq(other(), || None)).map_err(|e| e.map_or("unequal".to_string(), |e| $shown(e))), |e| e);
         say!("interleave", all!($rows.interleave(few())));
         say!("pad_using", all!($rows.pad_using(9, |n| Ok(n as i64))));
         say!("at_most_one", $rows.at_most_one());

@@ -1,8 +1,9 @@
 //! The adapter that converts failures.
 
+use crate::base::Turn;
+use crate::base::{Fail, drive_back_failing, drive_failing, failed};
 use core::marker::PhantomData;
-use fallible_iterator::extending::{Fail, drive_back_failing, drive_failing, failed};
-use fallible_iterator::{DoubleEndedFallibleIterator, FallibleIterator, Turn};
+use fallible_iterator::{DoubleEndedFallibleIterator, FallibleIterator};
 
 /// The source with each failure converted by `From`. Items and `Ok(None)` pass.
 #[must_use = "an iterator draws nothing until it is asked"]
@@ -19,6 +20,24 @@ impl<I, E> ErrInto<I, E> {
             it,
             made: PhantomData,
         }
+    }
+}
+
+// The fold by turns, by which `try_fold` goes.
+impl<I: FallibleIterator, E: From<I::Error>> ErrInto<I, E> {
+    #[inline(always)]
+    fn fold_by<C, R, K: Turn<C, I::Item, R>>(
+        &mut self,
+        state: &mut C,
+        turn: &K,
+    ) -> Result<Option<R>, E> {
+        drive_failing(
+            &mut self.it,
+            &mut (),
+            &IntoFail::<E> { made: PhantomData },
+            state,
+            turn,
+        )
     }
 }
 
@@ -40,37 +59,6 @@ impl<I: FallibleIterator, E: From<I::Error>> FallibleIterator for ErrInto<I, E> 
         self.it.size_hint()
     }
 
-    fn drive<C, R, K: Turn<C, I::Item, R>>(
-        &mut self,
-        state: &mut C,
-        turn: &K,
-    ) -> Result<Option<R>, E> {
-        drive_failing(
-            &mut self.it,
-            &mut (),
-            &IntoFail::<E> { made: PhantomData },
-            state,
-            turn,
-        )
-    }
-
-    /// The source's count, or the failure that it met, converted.
-    fn drive_count(&mut self, number: &mut usize) -> Result<(), E> {
-        failed(
-            self.it.drive_count(number),
-            &mut (),
-            &IntoFail::<E> { made: PhantomData },
-        )
-    }
-
-    fn drive_last(&mut self) -> Result<Option<I::Item>, E> {
-        failed(
-            self.it.drive_last(),
-            &mut (),
-            &IntoFail::<E> { made: PhantomData },
-        )
-    }
-
     fn nth(&mut self, n: usize) -> Result<Option<I::Item>, E> {
         failed(
             self.it.nth(n),
@@ -79,7 +67,41 @@ impl<I: FallibleIterator, E: From<I::Error>> FallibleIterator for ErrInto<I, E> 
         )
     }
 
-    fallible_iterator::by_drive!(drive);
+    fn count(self) -> Result<usize, E> {
+        failed(
+            self.it.count(),
+            &mut (),
+            &IntoFail::<E> { made: PhantomData },
+        )
+    }
+
+    fn last(self) -> Result<Option<I::Item>, E> {
+        failed(
+            self.it.last(),
+            &mut (),
+            &IntoFail::<E> { made: PhantomData },
+        )
+    }
+
+    crate::base::by_drive!(drive);
+}
+
+// The fold by turns, by which `try_fold` goes.
+impl<I: DoubleEndedFallibleIterator, E: From<I::Error>> ErrInto<I, E> {
+    #[inline(always)]
+    fn fold_back_by<C, R, K: Turn<C, I::Item, R>>(
+        &mut self,
+        state: &mut C,
+        turn: &K,
+    ) -> Result<Option<R>, E> {
+        drive_back_failing(
+            &mut self.it,
+            &mut (),
+            &IntoFail::<E> { made: PhantomData },
+            state,
+            turn,
+        )
+    }
 }
 
 impl<I: DoubleEndedFallibleIterator, E: From<I::Error>> DoubleEndedFallibleIterator
@@ -94,21 +116,7 @@ impl<I: DoubleEndedFallibleIterator, E: From<I::Error>> DoubleEndedFallibleItera
         )
     }
 
-    fn drive_back<C, R, K: Turn<C, I::Item, R>>(
-        &mut self,
-        state: &mut C,
-        turn: &K,
-    ) -> Result<Option<R>, E> {
-        drive_back_failing(
-            &mut self.it,
-            &mut (),
-            &IntoFail::<E> { made: PhantomData },
-            state,
-            turn,
-        )
-    }
-
-    fallible_iterator::by_drive!(drive_back);
+    crate::base::by_drive!(drive_back);
 }
 
 // The failure, converted.

@@ -1,5 +1,5 @@
 use crate::Fail;
-use fallible_iterator::memory::AllocError;
+use crate::base::AllocError;
 
 use std::io;
 use std::io::{BufRead, BufReader, ErrorKind, Read};

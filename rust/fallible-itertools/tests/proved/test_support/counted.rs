@@ -1,8 +1,8 @@
 use crate::Fail;
-use fallible_iterator::memory::AllocError;
+use crate::base::AllocError;
 
 use crate::test_support::calls::Calls;
-use fallible_iterator::{DoubleEndedFallibleIterator, FallibleIterator, Test, Turn};
+use fallible_iterator::{DoubleEndedFallibleIterator, FallibleIterator};
 use std::cell::Cell;
 
 /// How often each call came from outside. A call that types override counts as the one that callers make of it.
@@ -101,23 +101,23 @@ impl<'a, I: FallibleIterator> FallibleIterator for Counted<'a, I> {
         self.it.size_hint()
     }
 
-    fn drive<C, R, K: Turn<C, I::Item, R>>(
-        &mut self,
-        state: &mut C,
-        turn: &K,
-    ) -> Result<Option<R>, I::Error> {
+    fn try_fold<Value, Failed, Step>(&mut self, init: Value, f: Step) -> Result<Value, Failed>
+    where
+        Failed: From<I::Error>,
+        Step: FnMut(Value, I::Item) -> Result<Value, Failed>,
+    {
         add(&self.log.folds);
-        self.it.drive(state, turn)
+        self.it.try_fold(init, f)
     }
 
-    fn drive_count(&mut self, number: &mut usize) -> Result<(), I::Error> {
+    fn count(self) -> Result<usize, I::Error> {
         add(&self.log.counts);
-        self.it.drive_count(number)
+        self.it.count()
     }
 
-    fn drive_last(&mut self) -> Result<Option<I::Item>, I::Error> {
+    fn last(self) -> Result<Option<I::Item>, I::Error> {
         add(&self.log.lasts);
-        self.it.drive_last()
+        self.it.last()
     }
 
     fn nth(&mut self, n: usize) -> Result<Option<I::Item>, I::Error> {
@@ -125,18 +125,13 @@ impl<'a, I: FallibleIterator> FallibleIterator for Counted<'a, I> {
         self.it.nth(n)
     }
 
-    fn drive_find<C, K: Test<C, I::Item, I::Error>>(
-        &mut self,
-        state: &mut C,
-        test: &K,
-    ) -> Result<Option<I::Item>, I::Error> {
+    fn find<Search>(&mut self, f: Search) -> Result<Option<I::Item>, I::Error>
+    where
+        Search: FnMut(&I::Item) -> Result<bool, I::Error>,
+    {
         add(&self.log.finds);
-        self.it.drive_find(state, test)
+        self.it.find(f)
     }
-
-    fallible_iterator::by_drive!(drive);
-
-    fallible_iterator::by_drive!(drive_find);
 }
 
 impl<'a, I: DoubleEndedFallibleIterator> DoubleEndedFallibleIterator for Counted<'a, I> {
@@ -145,14 +140,12 @@ impl<'a, I: DoubleEndedFallibleIterator> DoubleEndedFallibleIterator for Counted
         self.it.next_back()
     }
 
-    fn drive_back<C, R, K: Turn<C, I::Item, R>>(
-        &mut self,
-        state: &mut C,
-        turn: &K,
-    ) -> Result<Option<R>, I::Error> {
+    fn try_rfold<Value, Failed, Step>(&mut self, init: Value, f: Step) -> Result<Value, Failed>
+    where
+        Failed: From<I::Error>,
+        Step: FnMut(Value, I::Item) -> Result<Value, Failed>,
+    {
         add(&self.log.rfolds);
-        self.it.drive_back(state, turn)
+        self.it.try_rfold(init, f)
     }
-
-    fallible_iterator::by_drive!(drive_back);
 }
