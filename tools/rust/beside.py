@@ -28,6 +28,32 @@ PUBLIC = {"DoubleEndedFallibleIterator", "Enumerate", "FallibleIterator", "Fuse"
 NEEDS = {name: '#[cfg(feature = "alloc")]\n' for name in ("batch", "gathering")}
 
 
+# A fold that lets items pass, and what the adapter's `try_fold` is then: through the source's, with the value handed on.
+PASSING = re.compile(r"fn drive(_back)?<[^{]*\{\s*drive(?:_back)?_passing\(\s*([^;{}]*?),\s*state,\s*turn,?\s*\)\s*\}")
+PLAIN = """#[inline(always)]
+    fn try_%sfold<Value, Failed, Step>(&mut self, init: Value, f: Step) -> Result<Value, Failed>
+    where
+        Failed: From<Self::Error>,
+        Step: FnMut(Value, Self::Item) -> Result<Value, Failed>,
+    {
+        crate::fallible_core::passing::try_%sfold_passing(%s, init, f)
+    }"""
+
+
+def plainly(text):
+    """Has `try_fold` of a type go by a plain one, where there is one: its own, or its source's with what becomes of an item."""
+    for m in reversed(list(IMPL.finditer(text.s))):
+        end = after_braces(text.s, m.end() - 1)
+        inner = text.s[m.end():end]
+        passing = PASSING.search(inner)
+        macro = re.search(r"\S*by_drive!\(drive(?:_back)?\);", inner)
+        if not macro or not passing and not re.search(r"\bfn try_r?fold\b", inner):
+            continue
+        r = "r" if passing and passing.group(1) else ""
+        new = PLAIN % (r, r, passing.group(2)) if passing else ""
+        text.replace(m.end() + macro.start(), m.end() + macro.end(), new)
+
+
 def named(text):
     """Names the calls of hidden parts as they are beside the published crate."""
     for pattern, new in [(r"\.draw\(\)", ".next()"), *(
@@ -228,6 +254,9 @@ def to_rust(crate, files, proved, why, first):
     """Has the second crate stand on what the first shows. `first` has what may come along of the first, as it is there, as it
     is proved, and which bodies are others: for the first crate it is filled."""
     if crate == "fallible-iterator":
+        for text in files.values():
+            plainly(text)
+        apply("beside", files, [(r"fallible_core/passing\.rs", r"\Z", piece("fold_passing"), 1)])
         for path, text in files.items():
             if CARRIED.fullmatch(path):
                 first[path] = (text, proved[path], {key: body for key, body in why.items() if key[0] == path})
