@@ -7,51 +7,19 @@ is one crate over the original and over this repository's.
 - What the adapters and consumers are made of comes along from the first crate, as the private module `base`: each item that
   one of them names, and what it is made of."""
 import re
-from collections import defaultdict
 from pathlib import Path
 
+import carried
 from examples import use_names
 from page import HIDDEN
-from rules import ANY, apply
-from source import Refused, Text, after_braces, code, functions
+from rules import apply
+from source import Refused, Text, after_braces, functions
 
-# The files of the first crate that may come along, and those with the traits, which the crate below shows.
-CARRIED = re.compile(r"fallible_contract/\w+\.rs|fallible_core/(?:failing|passing)\.rs|batch\.rs|memory\.rs")
-SHOWN = re.compile(r"fallible_core::traits(?:::double_ended)?::((?:DoubleEnded)?FallibleIterator)\b")
 NAMES = {"drive": "fold_by", "drive_back": "fold_back_by"}
 TRAITS = {"fold_by": "Drive", "fold_back_by": "DriveBack"}
 IMPL = re.compile(r"^impl\b[^{;]*?\s((?:DoubleEnded)?FallibleIterator\s+for\s)[^{]*\{", re.M)
-MEMORY = (Path(__file__).parent / "static/fallible-iterator/src/memory.rs").read_text(encoding="utf-8")
 # What the second crate takes of the first: each version of the original has it.
 PUBLIC = {"DoubleEndedFallibleIterator", "Enumerate", "FallibleIterator", "Fuse", "IntoFallibleIterator", "Peekable"}
-# What a module of `base` needs to be there.
-NEEDS = {name: '#[cfg(feature = "alloc")]\n' for name in ("batch", "gathering")}
-
-
-# A fold that lets items pass, and what the adapter's `try_fold` is then: through the source's, with the value handed on.
-PASSING = re.compile(r"fn drive(_back)?<[^{]*\{\s*drive(?:_back)?_passing\(\s*([^;{}]*?),\s*state,\s*turn,?\s*\)\s*\}")
-PLAIN = """#[inline(always)]
-    fn try_%sfold<Value, Failed, Step>(&mut self, init: Value, f: Step) -> Result<Value, Failed>
-    where
-        Failed: From<Self::Error>,
-        Step: FnMut(Value, Self::Item) -> Result<Value, Failed>,
-    {
-        crate::fallible_core::passing::try_%sfold_passing(%s, init, f)
-    }"""
-
-
-def plainly(text):
-    """Has `try_fold` of a type go by a plain one, where there is one: its own, or its source's with what becomes of an item."""
-    for m in reversed(list(IMPL.finditer(text.s))):
-        end = after_braces(text.s, m.end() - 1)
-        inner = text.s[m.end():end]
-        passing = PASSING.search(inner)
-        macro = re.search(r"\S*by_drive!\(drive(?:_back)?\);", inner)
-        if not macro or not passing and not re.search(r"\bfn try_r?fold\b", inner):
-            continue
-        r = "r" if passing and passing.group(1) else ""
-        new = PLAIN % (r, r, passing.group(2)) if passing else ""
-        text.replace(m.end() + macro.start(), m.end() + macro.end(), new)
 
 
 def named(text):
@@ -81,7 +49,8 @@ def moved(text, inline):
 
 
 def hidden(text):
-    """Cuts the hidden calls that an adapter writes besides its folds: no crate below has them."""
+    """Cuts the hidden calls that an adapter writes besides its folds, and what goes by them: no crate below has them."""
+    text.cut_all(r"\n\n    fallible_iterator::by_drive!\((?!drive\)|drive_back\))\w+\);")
     for m in reversed(list(IMPL.finditer(text.s))):
         end = after_braces(text.s, m.end() - 1)
         for f in reversed(functions(text.s)):
@@ -97,99 +66,6 @@ def renamed(crate, path, s):
     named(text)
     moved(text, "")
     return text.s
-
-
-def blocks(s):
-    """The items of a file, each with its comment: its name, none for the head and an `impl`, the words of the `impl`'s own
-    head and its text."""
-    for block in re.split(r"\n\n(?=\S)", s.rstrip("\n")):
-        own = re.sub(r"^(?://.*|#\[.*\])\n", "", block, flags=re.M)
-        item = re.match(r"(?:pub(?:\([^)]*\))? )?(?:struct|enum|trait|type|fn|const) (\w+)", own)
-        head = re.match(r"impl\b[^{]*", own)
-        yield item.group(1) if item else None, head.group() if head else None, block
-
-
-def label(head):
-    """The names of the trait and of the type of an `impl`."""
-    ends = [x.split("<")[0].split("::")[-1].strip("& \n") for x in re.sub(r"^impl<.*?>\s(?=\w)", "", head, flags=re.S).split(" for ")]
-    return {re.sub(r"^.*\b(\w+)$", r"\1", x, flags=re.S) for x in ends}
-
-
-def closed(files, wanted):
-    """The items of `files` that are wanted, with what they are made of, by path."""
-    homes = {name: path for path, s in files.items() for name, _, _ in blocks(s) if name}
-    kept, more = set(wanted), True
-    while more:
-        before = len(kept)
-        for path, s in files.items():
-            here = {x.split("::")[-1] for x in use_names(s)} | {n for n, p in homes.items() if p == path}
-            for name, head, block in blocks(s):
-                if stays(name, head, kept, homes):
-                    kept |= {x for x in code(block) if x in homes and x in here}
-        more = len(kept) > before
-    return kept, homes
-
-
-def stays(name, head, kept, homes):
-    """Whether an item, or an `impl` of items, is one of those that are kept."""
-    return name in kept or bool(head) and bool(label(head) & set(homes)) and label(head) & set(homes) <= kept
-
-
-def fewer(s, kept, homes, heads=None):
-    """A file with the items that are kept alone, and the imports that these use. `heads` are the labels of its `impl`s, if
-    not all are wanted."""
-    found = list(blocks(s))
-    stay = [block for name, head, block in found
-            if stays(name, head, kept, homes) and not (head and heads is not None and label(head) not in heads)]
-    words = {x for block in stay for x in code(block)}
-    uses = sorted(p for p in use_names(s) if p.split("::")[-1] in words)
-    return "\n\n".join([found[0][2].split("\n")[0], "\n".join("use %s;" % p for p in uses), *stay]) + "\n"
-
-
-def paths(s):
-    """A file's paths as they are within `base`."""
-    s = SHOWN.sub(r"FALLIBLE::\1", s)
-    return re.sub(r"\bcrate::(fallible_\w+|batch|memory)::", r"crate::base::\1::", s).replace("crate::FALLIBLE::", "fallible_iterator::")
-
-
-def modules(there):
-    """The files that name the modules of `base`, and the items that other files of the crate name."""
-    folders = defaultdict(list)
-    for path in there:
-        folders["/".join(path.split("/")[:-1])].append(path.split("/")[-1].removesuffix(".rs"))
-    return folders
-
-
-def base(files, proved, why, first):
-    """The module `base`: what the files name of the first crate, and what that is made of. `proved` and `why` get what stands
-    of it in the first crate's."""
-    carried = {path: paths(text.s) for path, (text, *_) in first.items()}
-    homes = closed(carried, ())[1]
-    outside = {name for text in files.values() for p in use_names(text.s)
-               if p.startswith("fallible_iterator::") and (name := p.split("::")[-1]) in homes}
-    kept, homes = closed(carried, outside | {"TryFoldTurn", "Turn"})
-    out = {}
-    for path, s in carried.items():
-        if path != "memory.rs" and any(homes[name] == path for name in kept):
-            text = Text(first[path][0].place, fewer(s, kept, homes))
-            named(text)
-            out["base/" + path] = text
-            there = {frozenset(label(head)) for _, head, _ in blocks(s) if head}
-            proved["base/" + path] = fewer(first[path][1], kept, homes, there)
-            why.update((("base/" + path, name), body) for (_, name), body in first[path][2].items() if name in kept)
-    for folder in ("fallible_contract", "fallible_core"):
-        stems = sorted(p.split("/")[-1][:-3] for p in out if p.startswith("base/%s/" % folder))
-        out["base/%s.rs" % folder] = Text("", "//! What comes along of `%s`.\n\n%s" % (
-            folder, "".join("pub mod %s;\n" % stem for stem in stems)))
-    shown = defaultdict(list)
-    for name in sorted(outside):
-        shown[homes[name][:-3].replace("/", "::")].append(name)
-    lines = ["//! What the adapters and the consumers are made of, over what any `fallible-iterator` shows.\n"]
-    stems = sorted({"by_drive", "drive", "gathering", "memory", *(p.split("/")[1].removesuffix(".rs") for p in out)})
-    lines += ["%spub mod %s;" % (NEEDS.get(stem, ""), stem) for stem in stems] + [""]
-    lines += ["%spub use self::%s::{%s};" % (NEEDS.get(path, ""), path, ", ".join(names)) for path, names in sorted(shown.items())]
-    out["base.rs"] = Text("", "\n".join(lines) + "\npub(crate) use self::by_drive::by_drive;\n")
-    return out, outside
 
 
 def imported(text, outside):
@@ -251,16 +127,9 @@ RULES = [
 
 
 def to_rust(crate, files, proved, why, first):
-    """Has the second crate stand on what the first shows. `first` has what may come along of the first, as it is there, as it
-    is proved, and which bodies are others: for the first crate it is filled."""
+    """Has the second crate stand on what the first shows. `first` has what may come along of that: for the first it is filled."""
     if crate == "fallible-iterator":
-        for text in files.values():
-            plainly(text)
-        apply("beside", files, [(r"fallible_core/passing\.rs", r"\Z", piece("fold_passing"), 1)])
-        for path, text in files.items():
-            if CARRIED.fullmatch(path):
-                first[path] = (text, proved[path], {key: body for key, body in why.items() if key[0] == path})
-        first["memory.rs"] = (Text("memory.rs", MEMORY), "", {})
+        carried.fill(first, files, proved, why)
         apply("beside", files, [(r"fallible_core/peeking/peekable\.rs", r"\Z", piece("holds_ends"), 1)])
         return
     for text in files.values():
@@ -272,7 +141,9 @@ def to_rust(crate, files, proved, why, first):
         head, _, call = name.rpartition(".")
         if call in NAMES:
             why[path, head + "." + NAMES[call]] = why.pop((path, name))
-    made, outside = base(files, proved, why, first)
+    made, outside = carried.base(files, proved, why, first)
+    for text in made.values():
+        named(text)
     for path, text in made.items():
         if path.startswith("base/fallible_core/"):
             imported(text, ())
@@ -281,44 +152,3 @@ def to_rust(crate, files, proved, why, first):
     files.update(made)
     for text in files.values():
         checked(text)
-
-
-# What the tests name of the first crate that no page shows, and what only it has.
-TESTED = {"AllocError", "Answer", "Fault", "Side"}
-SOURCES = """use fallible_iterator::{Convert, convert};
-use std::convert::Infallible;
-use std::iter::{Map, Repeat};"""
-LACKING = [
-    # What the original has not. The lines of a text are fused.
-    (r"test_itertools/failing\.rs", r"\.map_while\((\w+)\)", r".scan((), |_: &mut (), x| \1(x))", 2),
-    (r"example_itertools/settings\.rs", r"\bconvert_fused\b", "convert", 2),
-    # Its source of counted calls is that of `pieces`, which writes what the original's types may.
-    (r"test_support/counted\.rs", r"^use fallible_iterator::\{[^}]*\};",
-     "use fallible_iterator::{DoubleEndedFallibleIterator, FallibleIterator};", 1),
-    (r".*", r"\.draw(?:_front)?\(\)", ".next()", ANY),
-    (r".*", r"\.draw_back\(\)", ".next_back()", ANY),
-    (r".*", r"\bfallible_iterator::(?:fallible_core|fallible_contract::answers|memory)::", "fallible_iterator::", ANY),
-]
-
-
-def suite(out, first):
-    """Has the tests of the second crate run over any first one: they bring what only tests name of it."""
-    prefix = "tests/proved/"
-    files = {path.removeprefix(prefix): Text(path, s) for path, s in out.items()}
-    apply("beside", files, LACKING)
-    carried = {path: paths(text.s) for path, (text, *_) in first.items()}
-    kept, homes = closed(carried, TESTED)
-    head, items = ["//! What these tests name that no page of `fallible-iterator` shows, or not of each version.", SOURCES], []
-    for path, s in carried.items():
-        items += [block for name, label_, block in blocks(s) if stays(name, label_, TESTED, homes)]
-    files["base.rs"] = Text("", "\n\n".join([*head, (PIECES / "sources.rs").read_text(encoding="utf-8").rstrip("\n"), *items]) + "\n")
-    start = files["test_support/counted.rs"].s.index("\nimpl<'a, I: FallibleIterator>")
-    text = files["test_support/counted.rs"]
-    text.replace(start, len(text.s), "\n" + (PIECES / "counted.rs").read_text(encoding="utf-8"))
-    for path, text in files.items():
-        for m in reversed(list(re.finditer(r"^use fallible_iterator::(Answer|Side)::", text.s, re.M))):
-            text.replace(m.start(), m.end(), "use crate::base::%s::" % m.group(1))
-        imported(text, TESTED | {"IteratorExt", "repeat"})
-    main = files["main.rs"]
-    main.replace(len(main.s), len(main.s), "mod base;\n")
-    return {prefix + path: text.s for path, text in files.items()}

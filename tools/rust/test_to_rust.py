@@ -145,6 +145,13 @@ class Refusals(unittest.TestCase):
         readme.write_text("changed")
         self.assertEqual(self.run_it()[0], 0)
         self.assertEqual(readme.read_text(), written)
+        left = self.out / "fallible-iterator/src/left/over.rs"
+        left.parent.mkdir()
+        left.write_text("of a run before")
+        marker = self.out / ".written_by_to_rust"
+        marker.write_text(marker.read_text() + "\nfallible-iterator/src/left/over.rs")
+        self.assertEqual(self.run_it()[0], 0)
+        self.assertFalse(left.parent.exists())
         (self.out / "fallible-iterator/letter").write_text("mine")
         self.refused("holds fallible-iterator/letter")
         self.assertEqual((self.out / "fallible-iterator/letter").read_text(), "mine")
