@@ -108,7 +108,7 @@ def piece(name):
 
 ADAPTERS, CONSUMERS, INLINE = "fallible_itertools_adapters", "fallible_itertools_consumers", "#[inline(always)]\n    "
 RULES = [
-    # Folds that are inlined whole, else each item of an adapter that buffers takes 6 to 14 instructions more.
+    # Folds that are inlined whole, so that one of an adapter that buffers is a single loop.
     (ADAPTERS + r"/(?:holding|staging)\.rs", r"^(?:pub )?fn (?:drive_holding|drive_stage|at_stop)\b", r"#[inline(always)]\n\g<0>", 4),
     # The body of `peeking_take_while` goes by `peek`.
     (ADAPTERS + r"/peeking_take_while\.rs", r"^// What the closure returns on the buffered item(?:.*\n)*?\}\n\n", "", 1),
