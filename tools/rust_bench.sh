@@ -4,8 +4,8 @@
 #     tools/rust_bench.sh [chains|calls|all [MADE_FOLDER [ORIGINAL_FOLDER]]]
 #
 # `chains` are those of release/rust-bench, over our fallible-iterator, over the original, and beside a loop written by hand.
-# `calls` are those of our fallible-itertools in release/rust-bench-itertools, beside those of itertools, which has them over
-# items that can't fail. MADE_FOLDER is what tools/to_rust wrote, else rust/. ORIGINAL_FOLDER is that of the original;
+# `calls` are those of our fallible-itertools in release/rust-bench-itertools, over ours and over the original, beside those of
+# itertools, which has them over items that can't fail. MADE_FOLDER is what tools/to_rust wrote, else rust/. ORIGINAL_FOLDER is that of the original;
 # without it, and for itertools, Debian's packages are taken, from /usr/share/cargo/registry, or fetched by apt and not
 # installed. It prints the instructions for each number, by a fold and by `next`: those of 200,000 numbers less those of
 # none, by valgrind's callgrind. The status is 1 where an answer differs.
@@ -85,28 +85,39 @@ chains() {
     done < <("$ours" names)
 }
 
+# Lays the bench of the calls in the folder $1, over the fallible-iterator of the folder $2.
+lay_calls() {
+    mkdir "$1"
+    cp -r "$2" "$1/fallible-iterator"
+    cp -r "$made/fallible-itertools" "$1"
+    cp -r "$itertools" "$1/itertools"
+    cp -r "$either" "$1/either"
+    build "$1" rust-bench-itertools
+}
+
 calls() {
-    mkdir "$work/calls"
-    cp -r "$made/fallible-iterator" "$made/fallible-itertools" "$work/calls"
-    local itertools either bench=$work/calls/bench name wanted line way
+    local itertools either ours=$work/calls/bench beside=$work/beside/bench name wanted line way bench
+    original=${original:-$(source_of fallible-iterator)}
     itertools=$(source_of itertools)
     either=$(source_of either)
-    cp -r "$itertools" "$work/calls/itertools"
-    cp -r "$either" "$work/calls/either"
-    build "$work/calls" rust-bench-itertools
-    echo "$(rustc --version); itertools $(version_of "$itertools")"
+    lay_calls "$work/calls" "$made/fallible-iterator"
+    lay_calls "$work/beside" "$original"
+    echo "$(rustc --version); itertools $(version_of "$itertools"); the original: $(version_of "$original")"
     echo
-    echo '| Call | By a fold: ours | `itertools` | By `next`: ours | `itertools` |'
-    echo '|---|---|---|---|---|'
+    echo '| Call | By a fold: ours | Over the original | `itertools` | By `next`: ours | Over the original | `itertools` |'
+    echo '|---|---|---|---|---|---|---|'
     while read -r name; do
-        wanted=$("$bench" theirs-fold "$name" 1000)
+        wanted=$("$ours" theirs-fold "$name" 1000)
         line="| $name |"
-        for way in ours-fold theirs-fold ours-next theirs-next; do
-            compare "$wanted" "$bench" $way "$name"
-            line="$line $(printf %.1f "$(figure "$bench" $way "$name")") |"
+        for way in fold next; do
+            for bench in "$ours ours-$way" "$beside ours-$way" "$ours theirs-$way"; do
+                # A word each: the executable and the way.
+                compare "$wanted" $bench "$name"
+                line="$line $(printf %.1f "$(figure $bench "$name")") |"
+            done
         done
         echo "$line"
-    done < <("$bench" names)
+    done < <("$ours" names)
 }
 
 [ "$what" = calls ] || chains

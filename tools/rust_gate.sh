@@ -1,6 +1,6 @@
 #!/usr/bin/env bash
 # Makes both Rust crates, compares them with those in rust/, builds them in each set of features with no warning, lints and
-# documents them with none, and runs their tests and doc tests.
+# documents them with none, runs their tests and doc tests, and has the second stand beside the original.
 set -eu
 cd "$(dirname "$0")/.."
 if ! command -v cargo > /dev/null || ! command -v rustfmt > /dev/null; then
@@ -41,6 +41,9 @@ quietly cargo fmt --all --check --manifest-path "$folder/out/Cargo.toml"
 quietly cargo clippy "${both[@]}" --all-targets
 quietly cargo doc "${both[@]}" --no-deps
 quietly cargo test "${both[@]}"
+quietly cargo package --offline --no-verify --allow-dirty --quiet --manifest-path "${crates[0]}"
 awk '/^test result/ { n += $4 } END { print "rust: " n " tests and doc tests pass" }' "$folder/log"
 tail -n 3 "$folder/said" | head -n 2
+# Status 3: the originals couldn't be fetched, which it has said.
+tools/rust_beside --quick "$folder/out" || [ $? = 3 ]
 rustc --version

@@ -28,6 +28,17 @@ REASONS = [
     (r"fallible_itertools_consumers/parted\.rs", r"without_fault", "left out", "`partition_failures` never fails"),
     (r"fallible_itertools_adapters/err_into\.rs", r"\w+ for ErrInto\.(clone|fmt)", "new", "what `derive_where` writes"),
     (r"fallible_itertools_consumers/partition_map\.rs", r".*\.empty", "left out", "`partition_map` fills whatever extends"),
+    (r".*", r"\w+ for \w+\.try_r?fold", "new", "by the source's own, with what becomes of each item"),
+    (r"fallible_core/passing\.rs", r"From for PassStop\.from|step_on_passed|passed_value|try_r?fold_passing", "new",
+     "`try_fold` of the adapters that let items pass"),
+    (r"base/drive\.rs", r".*", "new", "the fold of any iterator by its `try_fold`, in place of the hidden `drive`"),
+    (r"base/gathering\.rs", r".*", "new", "the fold that the proved `collect` is, into a `Vec`"),
+    (r"base/by_drive\.rs", r".*", "new", "in each impl of a type with a fold of its own, by a macro: they call that"),
+    (r"base/fallible_contract/collecting\.rs", r"Collect for Extended\.push_one", "new",
+     "the calls that fill collections fill whatever extends"),
+    (r"fallible_itertools_consumers/cmp_by\.rs", r"compare_by", "changed", "`number_of_either` hands on the two that it got"),
+    (r"fallible_itertools_adapters/peeking_take_while\.rs", r"none_held_or_accepts", "left out",
+     "`next_accepted` of `Peekable` goes by `peek`"),
 ]
 
 

@@ -12,11 +12,11 @@ SUITES = {
         "test_support", "example_chains", "example_by_hand", "fallible_vectors",
         "test_adapters", "test_joining", "test_consumers",
         "test_examples", "program_io", "example_tasks", "fallible_table", "fallible_elf", "fallible_pg",
-        "test_programs", "fallible_rows", "test_rows",
+        "test_programs", "fallible_rows", "test_rows", "fallible_scripts",
     ],
     "fallible-itertools": [
         "test_support", "program_io", "fallible_rows", "example_itertools", "test_itertools",
-        "fallible_scripts", "test_calls_itertools",
+        "test_calls_itertools",
     ],
 }
 # Where they are. The files of those in `tests` end in .rt.txt.
@@ -32,7 +32,6 @@ LEFT_OUT = [
     (r"Result<Vec<u32>, AllocError>\s*\{[^;]*\.collect\(\)\s*\}", "std refuses memory"),
     (r"\.push\([^()]*\)\.is_err", "std refuses memory"),
     (r"\breferences_and_boxes_pass", "no fold goes through a reference or a box"),
-    (r"\bvectors_that_are_sorted_are_one_fold_each", "std's `collect` draws one by one"),
     (r"=> input\.extend_from_slice", "std refuses memory"),
     (r"\.chain\(span", "`chain` of what only becomes an iterator"),
 ]

@@ -26,8 +26,7 @@ class Refusals(unittest.TestCase):
             shutil.copytree(path, self.tree / path.relative_to(TOP))
         shutil.copy(TOP / "LICENSE", self.tree)
         (self.tree / "docs").mkdir()
-        for page in ("CALLING.md", "INDEX.md"):
-            shutil.copy(TOP / "docs" / page, self.tree / "docs")
+        shutil.copy(TOP / "docs/CALLING.md", self.tree / "docs")
 
     def tearDown(self):
         shutil.rmtree(self.folder)
@@ -125,6 +124,21 @@ class Refusals(unittest.TestCase):
             self.refused(CORE + "traits.rt:%d: docs: %s `next` may" % (line, new), "begins with `Requires:`")
         self.assertFalse(self.out.exists())
 
+    def test_a_fold_names_what_the_trait_has(self):
+        self.edit("crates/fallible_itertools_adapters/src/positions.rt", "Result<Option<R>, I::Error> {\n        drive_passing(",
+                  "Result<Option<R>, Self::Error> {\n        drive_passing(")
+        self.refused("crates/fallible_itertools_adapters/src/positions.rt:", "beside: a fold names what the trait has")
+        self.assertFalse(self.out.exists())
+
+    def test_the_second_crate_goes_by_what_is_hidden(self):
+        path, old = "crates/fallible_itertools_consumers/src/cmp_by.rt", "use fallible_iterator::{FallibleIterator, Turn};"
+        self.edit(path, old, "use fallible_iterator::{FallibleIterator, Turn, fold_if};")
+        self.refused(path + ":", "beside: not each crate below shows `fallible_iterator::fold_if`")
+        self.edit(path, ", fold_if", "")
+        self.edit(path, "match left.next()", "match left.draw_front()")
+        self.refused(path + ":", "beside: `draw_front` is hidden below")
+        self.assertFalse(self.out.exists())
+
     def test_an_example_stands_nowhere(self):
         self.edit(CORE + "peeking/peek.rt", "    /// assert_eq!(", "    /// assert_ne!(")
         self.refused(CORE + "peeking/peek.rt:", "no file of release/examples/src has these lines")
@@ -144,6 +158,13 @@ class Refusals(unittest.TestCase):
         readme.write_text("changed")
         self.assertEqual(self.run_it()[0], 0)
         self.assertEqual(readme.read_text(), written)
+        left = self.out / "fallible-iterator/src/left/over.rs"
+        left.parent.mkdir()
+        left.write_text("of a run before")
+        marker = self.out / ".written_by_to_rust"
+        marker.write_text(marker.read_text() + "\nfallible-iterator/src/left/over.rs")
+        self.assertEqual(self.run_it()[0], 0)
+        self.assertFalse(left.parent.exists())
         (self.out / "fallible-iterator/letter").write_text("mine")
         self.refused("holds fallible-iterator/letter")
         self.assertEqual((self.out / "fallible-iterator/letter").read_text(), "mine")

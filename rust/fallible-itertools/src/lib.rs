@@ -16,11 +16,11 @@ extern crate alloc;
 #[cfg(feature = "std")]
 extern crate std;
 
+mod base;
 mod errors;
 mod fallible_itertools_adapters;
 mod fallible_itertools_consumers;
-#[doc(hidden)]
-pub mod traits;
+mod traits;
 #[cfg(doc)]
 pub mod words;
 
@@ -34,8 +34,6 @@ pub use crate::fallible_itertools_adapters::{
 };
 #[cfg(feature = "std")]
 pub use crate::fallible_itertools_adapters::{Duplicates, Unique, UniqueBy};
-#[doc(hidden)]
-pub use crate::fallible_itertools_adapters::{holding, staging};
 pub use crate::fallible_itertools_consumers::{
     CheckedTotal, DoubleEndedFallibleItertools, Either, FoldWhile, MinMaxResult, NotOne,
 };

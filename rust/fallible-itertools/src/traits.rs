@@ -1,5 +1,13 @@
 //! The extension trait of every fallible iterator.
 
+use crate::base::drive::Drive;
+#[cfg(feature = "alloc")]
+use crate::base::gathering::gathered;
+use crate::base::{CollectTurn, Extended};
+use crate::base::{
+    FindTest, FindTurn, ForEachTurn, PositionTurn, ReadEq, Reading, answer_or, answer_or_none,
+    found, ordered,
+};
 #[cfg(feature = "alloc")]
 use crate::fallible_itertools_adapters::{ChunkBy, Chunks};
 use crate::fallible_itertools_adapters::{
@@ -55,11 +63,6 @@ use core::cmp::Ordering;
 use core::fmt::Display;
 #[cfg(feature = "std")]
 use core::hash::Hash;
-use fallible_iterator::extending::{
-    FindTest, FindTurn, ForEachTurn, PositionTurn, ReadEq, Reading, answer_or, answer_or_none,
-    found, ordered,
-};
-use fallible_iterator::fallible_contract::collecting::{CollectTurn, Extended};
 use fallible_iterator::{FallibleIterator, IntoFallibleIterator};
 #[cfg(feature = "std")]
 use std::collections::{HashMap, HashSet};
@@ -452,7 +455,7 @@ pub trait FallibleItertools: FallibleIterator + Sized {
         F: FnMut(Self::Item) -> Result<(), E>,
     {
         let mut f = f;
-        answer_or(converted(self.drive(&mut f, &ForEachTurn)), ())
+        answer_or(converted(self.fold_by(&mut f, &ForEachTurn)), ())
     }
 
     /// Returns the first item on which the predicate returns true. The predicate fails with an error of its own.
@@ -506,7 +509,9 @@ pub trait FallibleItertools: FallibleIterator + Sized {
         F: FnMut(&Self::Item) -> Result<bool, E>,
     {
         let mut f = f;
-        found(converted(self.drive(&mut f, &FindTurn { test: &FindTest })))
+        found(converted(
+            self.fold_by(&mut f, &FindTurn { test: &FindTest }),
+        ))
     }
 
     /// Returns the position of the first item on which the predicate returns true. The predicate fails with an error of its own.
@@ -559,7 +564,7 @@ pub trait FallibleItertools: FallibleIterator + Sized {
         E: From<Self::Error>,
         F: FnMut(Self::Item) -> Result<bool, E>,
     {
-        answer_or_none(converted(self.drive(&mut (0, f), &PositionTurn)))
+        answer_or_none(converted(self.fold_by(&mut (0, f), &PositionTurn)))
     }
 
     /// Returns whether an item equals the wanted one.
@@ -599,7 +604,7 @@ pub trait FallibleItertools: FallibleIterator + Sized {
     where
         Self::Item: PartialEq,
     {
-        answer_or(self.drive(&mut (), &ContainsTurn { wanted }), false)
+        answer_or(self.fold_by(&mut (), &ContainsTurn { wanted }), false)
     }
 
     /// Returns whether the first item equals each later one; true if there is no item.
@@ -638,7 +643,7 @@ pub trait FallibleItertools: FallibleIterator + Sized {
     where
         Self::Item: PartialEq,
     {
-        answer_or(self.drive(&mut None, &AllEqualTurn), true)
+        answer_or(self.fold_by(&mut None, &AllEqualTurn), true)
     }
 
     /// Returns whether no two items are equal; true if there is no item.
@@ -682,7 +687,7 @@ pub trait FallibleItertools: FallibleIterator + Sized {
         Self::Item: Eq + Hash,
     {
         let mut seen = HashSet::new();
-        let answer = self.drive(&mut seen, &AllUniqueTurn);
+        let answer = self.fold_by(&mut seen, &AllUniqueTurn);
         unique_or_fault(answer)
     }
 
@@ -730,7 +735,7 @@ pub trait FallibleItertools: FallibleIterator + Sized {
         Self::Item: PartialEq,
     {
         let mut first = None;
-        let found = answer_or_none(self.drive(&mut first, &UnequalTurn));
+        let found = answer_or_none(self.fold_by(&mut first, &UnequalTurn));
         first_or_both(first, found)
     }
 
@@ -772,7 +777,7 @@ pub trait FallibleItertools: FallibleIterator + Sized {
     where
         F: FnMut(&Self::Item) -> Result<bool, Self::Error>,
     {
-        answer_or_none(self.drive(&mut (0, f), &FindPositionTurn))
+        answer_or_none(self.fold_by(&mut (0, f), &FindPositionTurn))
     }
 
     /// Returns the first item on which the predicate returns true, or the last item if there is none; `Ok(None)` if there is no item.
@@ -816,7 +821,7 @@ pub trait FallibleItertools: FallibleIterator + Sized {
         F: FnMut(&Self::Item) -> Result<bool, Self::Error>,
     {
         let mut state = (None, f);
-        let answer = self.drive(&mut state, &FindLastTurn);
+        let answer = self.fold_by(&mut state, &FindLastTurn);
         let (last, _) = state;
         or_kept(answer_or_none(answer), last)
     }
@@ -860,7 +865,7 @@ pub trait FallibleItertools: FallibleIterator + Sized {
         F: FnMut(&Self::Item) -> Result<bool, Self::Error>,
     {
         let mut state = (None, f);
-        let answer = self.drive(&mut state, &FindFirstTurn);
+        let answer = self.fold_by(&mut state, &FindFirstTurn);
         let (first, _) = state;
         or_kept(answer_or_none(answer), first)
     }
@@ -899,7 +904,7 @@ pub trait FallibleItertools: FallibleIterator + Sized {
         Self::Item: CheckedTotal,
     {
         let mut sum = Self::Item::zero();
-        let answer = self.drive(&mut sum, &SumTurn);
+        let answer = self.fold_by(&mut sum, &SumTurn);
         total_or_none(answer, sum)
     }
 
@@ -936,7 +941,7 @@ pub trait FallibleItertools: FallibleIterator + Sized {
         Self::Item: CheckedTotal,
     {
         let mut product = Self::Item::one();
-        let answer = self.drive(&mut product, &ProductTurn);
+        let answer = self.fold_by(&mut product, &ProductTurn);
         total_or_none(answer, product)
     }
 
@@ -990,7 +995,7 @@ pub trait FallibleItertools: FallibleIterator + Sized {
         F: FnMut(B, Self::Item) -> Result<FoldWhile<B>, Self::Error>,
     {
         let mut state = (Some(init), f);
-        let answer = self.drive(&mut state, &FoldWhileTurn);
+        let answer = self.fold_by(&mut state, &FoldWhileTurn);
         let (value, _) = state;
         while_or_stop(answer, value)
     }
@@ -1035,7 +1040,7 @@ pub trait FallibleItertools: FallibleIterator + Sized {
         F: FnMut(Self::Item) -> Result<K, Self::Error>,
     {
         let mut state = (None, f);
-        answer_or(self.drive(&mut state, &SortedTurn), true)
+        answer_or(self.fold_by(&mut state, &SortedTurn), true)
     }
 
     /// Returns whether the closure returns true for each two adjacent items. It is called on references to an item and the next one.
@@ -1074,7 +1079,7 @@ pub trait FallibleItertools: FallibleIterator + Sized {
         F: FnMut(&Self::Item, &Self::Item) -> Result<bool, Self::Error>,
     {
         let mut state = (None, f);
-        answer_or(self.drive(&mut state, &SortedByTurn), true)
+        answer_or(self.fold_by(&mut state, &SortedByTurn), true)
     }
 
     /// Returns whether no item is less than the one before it. An item that can't be compared with the one before it counts as less.
@@ -1113,7 +1118,7 @@ pub trait FallibleItertools: FallibleIterator + Sized {
     where
         Self::Item: PartialOrd,
     {
-        answer_or(self.drive(&mut (None, ()), &InOrderTurn), true)
+        answer_or(self.fold_by(&mut (None, ()), &InOrderTurn), true)
     }
 
     // ---- adapters that let results pass
@@ -1704,12 +1709,12 @@ pub trait FallibleItertools: FallibleIterator + Sized {
     fn at_most_one(
         &mut self,
     ) -> Result<Result<Option<Self::Item>, (Self::Item, Self::Item)>, Self::Error> {
-        let first = match self.draw() {
+        let first = match self.next() {
             Ok(Some(first)) => first,
             Ok(None) => return Ok(Ok(None)),
             Err(e) => return Err(e),
         };
-        match self.draw() {
+        match self.next() {
             Ok(Some(second)) => Ok(Err((first, second))),
             Ok(None) => Ok(Ok(Some(first))),
             Err(e) => Err(e),
@@ -1869,18 +1874,18 @@ pub trait FallibleItertools: FallibleIterator + Sized {
     where
         Self::Item: Ord,
     {
-        let first = match self.draw() {
+        let first = match self.next() {
             Ok(Some(first)) => first,
             Ok(None) => return Ok(MinMaxResult::NoElements),
             Err(e) => return Err(e),
         };
-        let second = match self.draw() {
+        let second = match self.next() {
             Ok(Some(second)) => second,
             Ok(None) => return Ok(MinMaxResult::OneElement(first)),
             Err(e) => return Err(e),
         };
         let mut both = lesser_first(first, second);
-        match self.drive(&mut both, &MinMaxTurn) {
+        match self.fold_by(&mut both, &MinMaxTurn) {
             Ok(None) => Ok(MinMaxResult::MinMax(both.0, both.1)),
             Ok(Some(never)) => match never {},
             Err(e) => Err(e),
@@ -1930,7 +1935,7 @@ pub trait FallibleItertools: FallibleIterator + Sized {
         F: FnMut(&Self::Item, &Self::Item) -> Result<Ordering, Self::Error>,
     {
         let mut state = (MinMaxResult::NoElements, f);
-        let answer = self.drive(&mut state, &MinMaxByTurn);
+        let answer = self.fold_by(&mut state, &MinMaxByTurn);
         let (kept, _) = state;
         kept_or_failure(answer, kept)
     }
@@ -1974,7 +1979,7 @@ pub trait FallibleItertools: FallibleIterator + Sized {
         F: FnMut(&Self::Item) -> Result<K, Self::Error>,
     {
         let mut state = (MinMaxResult::NoElements, f);
-        let answer = self.drive(&mut state, &MinMaxKeyTurn);
+        let answer = self.fold_by(&mut state, &MinMaxKeyTurn);
         let (kept, _) = state;
         kept_or_failure(answer, items_alone(kept))
     }
@@ -2022,7 +2027,7 @@ pub trait FallibleItertools: FallibleIterator + Sized {
         let mut made = Tally {
             counts: HashMap::new(),
         };
-        match self.drive(&mut made, &CollectTurn) {
+        match self.fold_by(&mut made, &CollectTurn) {
             Ok(None) => Ok(made.counts),
             Ok(Some(refused)) => match refused {},
             Err(e) => Err(e),
@@ -2120,7 +2125,7 @@ pub trait FallibleItertools: FallibleIterator + Sized {
         let mut made = GroupMap {
             groups: HashMap::new(),
         };
-        match self.drive(&mut made, &CollectTurn) {
+        match self.fold_by(&mut made, &CollectTurn) {
             Ok(None) => Ok(made.groups),
             Ok(Some(refused)) => match refused {},
             Err(e) => Err(e),
@@ -2167,7 +2172,7 @@ pub trait FallibleItertools: FallibleIterator + Sized {
         C: Default + Extend<Self::Item>,
     {
         let mut made = Extended(C::default());
-        let answer = self.drive(&mut made, &PushTurn);
+        let answer = self.fold_by(&mut made, &PushTurn);
         match with_failure(answer, made) {
             Ok((made, failure)) => (made.0, failure),
             Err(refused) => match refused {},
@@ -2274,7 +2279,7 @@ pub trait FallibleItertools: FallibleIterator + Sized {
         F: FnMut(Self::Item) -> Result<Either<A, B>, Self::Error>,
     {
         let mut sides = (Extended(L::default()), Extended(R::default()));
-        match self.map(f).drive(&mut sides, &CollectTurn) {
+        match self.map(f).fold_by(&mut sides, &CollectTurn) {
             Ok(None) => Ok((sides.0.0, sides.1.0)),
             Ok(Some(refused)) => match refused {},
             Err(e) => Err(e),
@@ -2317,7 +2322,7 @@ pub trait FallibleItertools: FallibleIterator + Sized {
         D: Default + Extend<Self::Error>,
     {
         let mut both = (Extended(C::default()), Extended(D::default()));
-        match (Parted { it: self }).drive(&mut both, &CollectTurn) {
+        match (Parted { it: self }).fold_by(&mut both, &CollectTurn) {
             Ok(None) => (both.0.0, both.1.0),
             Ok(Some(refused)) => match refused {},
             Err(never) => match never {},
@@ -2362,7 +2367,7 @@ pub trait FallibleItertools: FallibleIterator + Sized {
     where
         Self::Item: Ord,
     {
-        sorted::sorted_items(self.collect())
+        sorted::sorted_items(gathered(self))
     }
 
     /// Returns the items in a `Vec`, in the order that the closure returns for each two. Items that it finds equal keep their order. If it compares as no order does, it returns the items in any order, each of them once; in Rust it may panic.
@@ -2411,7 +2416,7 @@ pub trait FallibleItertools: FallibleIterator + Sized {
     where
         F: FnMut(&Self::Item, &Self::Item) -> Ordering,
     {
-        sorted::sorted_items_by(self.collect(), f)
+        sorted::sorted_items_by(gathered(self), f)
     }
 
     /// Returns the items in a `Vec`, in the order of the keys that the closure returns for them. Items with equal keys keep their order. If the closure returns other keys for an item from call to call, it returns the items in any order, each of them once.
@@ -2458,7 +2463,7 @@ pub trait FallibleItertools: FallibleIterator + Sized {
         K: Ord,
         F: FnMut(&Self::Item) -> K,
     {
-        sorted::sorted_items_by_key(self.collect(), f)
+        sorted::sorted_items_by_key(gathered(self), f)
     }
 
     /// Returns the items in a `Vec`, in order. Equal items may come in any order. Sorting takes no memory beyond the `Vec`.
@@ -2499,7 +2504,7 @@ pub trait FallibleItertools: FallibleIterator + Sized {
     where
         Self::Item: Ord,
     {
-        sorted_unstable::items_in_order(self.collect())
+        sorted_unstable::items_in_order(gathered(self))
     }
 
     /// Returns the items in a `Vec`, in the order that the closure returns for each two. Items that it finds equal may come in any order. If it compares as no order does, it returns the items in any order, each of them once; in Rust it may panic.
@@ -2548,7 +2553,7 @@ pub trait FallibleItertools: FallibleIterator + Sized {
     where
         F: FnMut(&Self::Item, &Self::Item) -> Ordering,
     {
-        sorted_unstable::items_in_order_by(self.collect(), f)
+        sorted_unstable::items_in_order_by(gathered(self), f)
     }
 
     /// Returns the items in a `Vec`, in the order of the keys that the closure returns for them. Items with equal keys may come in any order. If the closure returns other keys for an item from call to call, it returns the items in any order, each of them once; in Rust it may panic.
@@ -2596,7 +2601,7 @@ pub trait FallibleItertools: FallibleIterator + Sized {
         K: Ord,
         F: FnMut(&Self::Item) -> K,
     {
-        sorted_unstable::items_in_order_by_key(self.collect(), f)
+        sorted_unstable::items_in_order_by_key(gathered(self), f)
     }
 
     /// Returns the items as `Display` shows them, with the separator between each two.
@@ -2640,7 +2645,7 @@ pub trait FallibleItertools: FallibleIterator + Sized {
         Self::Item: Display,
     {
         let mut state = (false, String::new());
-        match self.drive(&mut state, &JoinTurn { separator }) {
+        match self.fold_by(&mut state, &JoinTurn { separator }) {
             Ok(None) => Ok(state.1),
             Ok(Some(refused)) => match refused {},
             Err(e) => Err(e),
@@ -2687,7 +2692,7 @@ pub trait FallibleItertools: FallibleIterator + Sized {
         Self::Item: Ord,
     {
         let mut kept = Vec::new();
-        match self.drive(&mut kept, &k_smallest::SmallestTurn { k }) {
+        match self.fold_by(&mut kept, &k_smallest::SmallestTurn { k }) {
             Ok(None) => Ok(kept),
             Ok(Some(refused)) => match refused {},
             Err(e) => Err(e),
@@ -2729,7 +2734,7 @@ pub trait FallibleItertools: FallibleIterator + Sized {
     #[cfg(feature = "alloc")]
     fn tail(mut self, n: usize) -> Result<VecDeque<Self::Item>, Self::Error> {
         let mut kept = VecDeque::new();
-        match self.drive(&mut kept, &tail::TailTurn { n }) {
+        match self.fold_by(&mut kept, &tail::TailTurn { n }) {
             Ok(None) => Ok(kept),
             Ok(Some(refused)) => match refused {},
             Err(e) => Err(e),

@@ -30,7 +30,17 @@ impl<T, E, I: core::iter::Iterator<Item = Result<T, E>>> FallibleIterator for Co
         drive_std(&mut self.it, &AsResult, state, turn)
     }
 
-    crate::by_drive!(drive);
+    #[inline(always)]
+    fn try_fold<Value, Failed, Step>(&mut self, init: Value, mut f: Step) -> Result<Value, Failed>
+    where
+        Failed: From<E>,
+        Step: FnMut(Value, T) -> Result<Value, Failed>,
+    {
+        self.it.try_fold(init, |value, element| match element {
+            Ok(item) => f(value, item),
+            Err(e) => Err(Failed::from(e)),
+        })
+    }
 }
 
 impl<T, E, I: core::iter::DoubleEndedIterator<Item = Result<T, E>>> DoubleEndedFallibleIterator
@@ -50,7 +60,17 @@ impl<T, E, I: core::iter::DoubleEndedIterator<Item = Result<T, E>>> DoubleEndedF
         drive_back_std(&mut self.it, &AsResult, state, turn)
     }
 
-    crate::by_drive!(drive_back);
+    #[inline(always)]
+    fn try_rfold<Value, Failed, Step>(&mut self, init: Value, mut f: Step) -> Result<Value, Failed>
+    where
+        Failed: From<E>,
+        Step: FnMut(Value, T) -> Result<Value, Failed>,
+    {
+        self.it.try_rfold(init, |value, element| match element {
+            Ok(item) => f(value, item),
+            Err(e) => Err(Failed::from(e)),
+        })
+    }
 }
 
 // `rev` of the trait, which also says what a double-ended std iterator lists from the back.

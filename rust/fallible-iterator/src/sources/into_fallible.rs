@@ -35,7 +35,14 @@ impl<T, I: core::iter::Iterator<Item = T>> FallibleIterator for IntoFallible<I> 
         drive_std(&mut self.it, &AsItem, state, turn)
     }
 
-    crate::by_drive!(drive);
+    #[inline(always)]
+    fn try_fold<Value, Failed, Step>(&mut self, init: Value, f: Step) -> Result<Value, Failed>
+    where
+        Failed: From<Infallible>,
+        Step: FnMut(Value, T) -> Result<Value, Failed>,
+    {
+        self.it.try_fold(init, f)
+    }
 }
 
 impl<T, I: core::iter::DoubleEndedIterator<Item = T>> DoubleEndedFallibleIterator
@@ -55,7 +62,14 @@ impl<T, I: core::iter::DoubleEndedIterator<Item = T>> DoubleEndedFallibleIterato
         drive_back_std(&mut self.it, &AsItem, state, turn)
     }
 
-    crate::by_drive!(drive_back);
+    #[inline(always)]
+    fn try_rfold<Value, Failed, Step>(&mut self, init: Value, f: Step) -> Result<Value, Failed>
+    where
+        Failed: From<Infallible>,
+        Step: FnMut(Value, T) -> Result<Value, Failed>,
+    {
+        self.it.try_rfold(init, f)
+    }
 }
 
 // `rev` of the trait, which also says what a double-ended std iterator lists from the back.

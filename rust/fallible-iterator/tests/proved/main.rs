@@ -22,6 +22,7 @@ mod example_tasks;
 mod fallible_elf;
 mod fallible_pg;
 mod fallible_rows;
+mod fallible_scripts;
 mod fallible_table;
 mod fallible_vectors;
 mod laws;

@@ -1,9 +1,10 @@
 // The adapter that yields groups of adjacent items with equal keys.
 
+use crate::base::Turn;
+use crate::base::{FirstTurn, Outcome, alone, pushed};
 use crate::fallible_itertools_adapters::holding::{Hold, drive_holding, with_held};
 use alloc::vec::Vec;
-use fallible_iterator::extending::{FirstTurn, Outcome, alone, pushed};
-use fallible_iterator::{FallibleIterator, Turn};
+use fallible_iterator::FallibleIterator;
 
 /// Groups of adjacent items with equal keys, each with its key. A group is buffered until an item with another key comes, or a stop: `Ok(None)` or a failure, which the next call returns. The closure's failure is a stop. Then the item is lost, and no other.
 #[derive(Clone, Debug)]
@@ -25,6 +26,21 @@ impl<I: FallibleIterator, K, F> ChunkBy<I, K, F> {
     }
 }
 
+// The fold by turns, by which `try_fold` goes.
+impl<I: FallibleIterator, K: PartialEq, F: FnMut(&I::Item) -> Result<K, I::Error>>
+    ChunkBy<I, K, F>
+{
+    #[inline(always)]
+    fn fold_by<C, R, T: Turn<C, (K, Vec<I::Item>), R>>(
+        &mut self,
+        state: &mut C,
+        turn: &T,
+    ) -> Result<Option<R>, I::Error> {
+        let adapter = ChunkByHold;
+        drive_holding(&mut self.it, &mut self.stage, &adapter, state, turn)
+    }
+}
+
 impl<I: FallibleIterator, K: PartialEq, F: FnMut(&I::Item) -> Result<K, I::Error>> FallibleIterator
     for ChunkBy<I, K, F>
 {
@@ -34,7 +50,7 @@ impl<I: FallibleIterator, K: PartialEq, F: FnMut(&I::Item) -> Result<K, I::Error
 
     /// Returns the stop that is due, without a draw. Otherwise it draws until an item has another key than the buffered group, or a stop comes.
     fn next(&mut self) -> Result<Option<(K, Vec<I::Item>)>, I::Error> {
-        self.drive(&mut (), &FirstTurn)
+        self.fold_by(&mut (), &FirstTurn)
     }
 
     fn size_hint(&self) -> (usize, Option<usize>) {
@@ -44,16 +60,7 @@ impl<I: FallibleIterator, K: PartialEq, F: FnMut(&I::Item) -> Result<K, I::Error
         }
     }
 
-    fn drive<C, R, T: Turn<C, (K, Vec<I::Item>), R>>(
-        &mut self,
-        state: &mut C,
-        turn: &T,
-    ) -> Result<Option<R>, I::Error> {
-        let adapter = ChunkByHold;
-        drive_holding(&mut self.it, &mut self.stage, &adapter, state, turn)
-    }
-
-    fallible_iterator::by_drive!(drive);
+    crate::base::by_drive!(drive);
 }
 
 // What becomes of an item after the buffered group.

@@ -1,9 +1,10 @@
 // The adapter that yields batches of items.
 
+use crate::base::Turn;
+use crate::base::{Outcome, alone, pushed};
 use crate::fallible_itertools_adapters::holding::{Hold, at_stop, drive_holding, with_held};
 use alloc::vec::Vec;
-use fallible_iterator::extending::{Outcome, alone, pushed};
-use fallible_iterator::{FallibleIterator, Turn};
+use fallible_iterator::FallibleIterator;
 
 /// Batches of n items. A batch before a stop may have fewer. A batch is buffered until it has n items, or a stop comes: `Ok(None)` or a failure, which the next call returns.
 #[derive(Clone, Debug)]
@@ -22,6 +23,19 @@ impl<I: FallibleIterator> Chunks<I> {
             it,
             stage: ((n, None), None),
         }
+    }
+}
+
+// The fold by turns, by which `try_fold` goes.
+impl<I: FallibleIterator> Chunks<I> {
+    #[inline(always)]
+    fn fold_by<C, R, K: Turn<C, Vec<I::Item>, R>>(
+        &mut self,
+        state: &mut C,
+        turn: &K,
+    ) -> Result<Option<R>, I::Error> {
+        let adapter = ChunksHold;
+        drive_holding(&mut self.it, &mut self.stage, &adapter, state, turn)
     }
 }
 
@@ -53,16 +67,7 @@ impl<I: FallibleIterator> FallibleIterator for Chunks<I> {
         }
     }
 
-    fn drive<C, R, K: Turn<C, Vec<I::Item>, R>>(
-        &mut self,
-        state: &mut C,
-        turn: &K,
-    ) -> Result<Option<R>, I::Error> {
-        let adapter = ChunksHold;
-        drive_holding(&mut self.it, &mut self.stage, &adapter, state, turn)
-    }
-
-    fallible_iterator::by_drive!(drive);
+    crate::base::by_drive!(drive);
 }
 
 // Draws until a batch is full or a stop comes: at most as often as a batch has items. No stop is due.
@@ -73,7 +78,7 @@ fn filled<I: FallibleIterator>(
     adapter: &ChunksHold,
 ) -> Result<Option<Vec<I::Item>>, I::Error> {
     loop {
-        match it.draw() {
+        match it.next() {
             Ok(Some(x)) => match adapter.ask(batch, Some(x)) {
                 Outcome::Kept(whole) => return Ok(Some(whole)),
                 Outcome::LeftOut => {}

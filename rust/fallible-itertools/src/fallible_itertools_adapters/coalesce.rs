@@ -1,8 +1,9 @@
 // The adapter that merges adjacent items.
 
+use crate::base::Turn;
+use crate::base::{FirstTurn, Outcome};
 use crate::fallible_itertools_adapters::holding::{Hold, drive_holding, with_held};
-use fallible_iterator::extending::{FirstTurn, Outcome};
-use fallible_iterator::{FallibleIterator, Turn};
+use fallible_iterator::FallibleIterator;
 
 /// Adjacent items, merged where the closure makes one of two. The item merged so far is buffered until the closure keeps two apart, or a stop comes: `Ok(None)` or a failure, which the next call returns.
 #[derive(Clone, Debug)]
@@ -24,6 +25,22 @@ impl<I: FallibleIterator, F> Coalesce<I, F> {
     }
 }
 
+// The fold by turns, by which `try_fold` goes.
+impl<
+    I: FallibleIterator,
+    F: FnMut(I::Item, I::Item) -> Result<Result<I::Item, (I::Item, I::Item)>, I::Error>,
+> Coalesce<I, F>
+{
+    #[inline(always)]
+    fn fold_by<C, R, K: Turn<C, I::Item, R>>(
+        &mut self,
+        state: &mut C,
+        turn: &K,
+    ) -> Result<Option<R>, I::Error> {
+        drive_holding(&mut self.it, &mut self.stage, &CoalesceHold, state, turn)
+    }
+}
+
 impl<
     I: FallibleIterator,
     F: FnMut(I::Item, I::Item) -> Result<Result<I::Item, (I::Item, I::Item)>, I::Error>,
@@ -35,7 +52,7 @@ impl<
 
     /// Returns the stop that is due, without a draw. Otherwise it draws until the closure keeps two items apart, or a stop comes.
     fn next(&mut self) -> Result<Option<I::Item>, I::Error> {
-        self.drive(&mut (), &FirstTurn)
+        self.fold_by(&mut (), &FirstTurn)
     }
 
     fn size_hint(&self) -> (usize, Option<usize>) {
@@ -45,15 +62,7 @@ impl<
         }
     }
 
-    fn drive<C, R, K: Turn<C, I::Item, R>>(
-        &mut self,
-        state: &mut C,
-        turn: &K,
-    ) -> Result<Option<R>, I::Error> {
-        drive_holding(&mut self.it, &mut self.stage, &CoalesceHold, state, turn)
-    }
-
-    fallible_iterator::by_drive!(drive);
+    crate::base::by_drive!(drive);
 }
 
 // What the closure makes of the buffered item and the next one.

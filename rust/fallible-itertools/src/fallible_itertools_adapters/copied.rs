@@ -1,7 +1,8 @@
 //! The adapter that copies what each item points to.
 
-use fallible_iterator::extending::{Outcome, Pass, drive_back_passing, drive_passing, passed};
-use fallible_iterator::{DoubleEndedFallibleIterator, FallibleIterator, Turn};
+use crate::base::Turn;
+use crate::base::{Outcome, Pass, drive_back_passing, drive_passing, passed};
+use fallible_iterator::{DoubleEndedFallibleIterator, FallibleIterator};
 
 /// A copy of what each item points to. Failures and `Ok(None)` pass.
 #[derive(Clone, Debug)]
@@ -15,6 +16,18 @@ impl<I> Copied<I> {
     #[inline(always)]
     pub(crate) fn new(it: I) -> Copied<I> {
         Copied { it }
+    }
+}
+
+// The fold by turns, by which `try_fold` goes.
+impl<'a, T: Copy + 'a, I: FallibleIterator<Item = &'a T>> Copied<I> {
+    #[inline(always)]
+    fn fold_by<C, R, K: Turn<C, T, R>>(
+        &mut self,
+        state: &mut C,
+        turn: &K,
+    ) -> Result<Option<R>, I::Error> {
+        drive_passing(&mut self.it, &mut (), &CopyPass, state, turn)
     }
 }
 
@@ -32,15 +45,19 @@ impl<'a, T: Copy + 'a, I: FallibleIterator<Item = &'a T>> FallibleIterator for C
         self.it.size_hint()
     }
 
-    fn drive<C, R, K: Turn<C, T, R>>(
+    crate::base::by_drive!(drive);
+}
+
+// The fold by turns, by which `try_fold` goes.
+impl<'a, T: Copy + 'a, I: DoubleEndedFallibleIterator<Item = &'a T>> Copied<I> {
+    #[inline(always)]
+    fn fold_back_by<C, R, K: Turn<C, T, R>>(
         &mut self,
         state: &mut C,
         turn: &K,
     ) -> Result<Option<R>, I::Error> {
-        drive_passing(&mut self.it, &mut (), &CopyPass, state, turn)
+        drive_back_passing(&mut self.it, &mut (), &CopyPass, state, turn)
     }
-
-    fallible_iterator::by_drive!(drive);
 }
 
 impl<'a, T: Copy + 'a, I: DoubleEndedFallibleIterator<Item = &'a T>> DoubleEndedFallibleIterator
@@ -51,15 +68,7 @@ impl<'a, T: Copy + 'a, I: DoubleEndedFallibleIterator<Item = &'a T>> DoubleEnded
         passed(self.it.next_back(), &mut (), &CopyPass)
     }
 
-    fn drive_back<C, R, K: Turn<C, T, R>>(
-        &mut self,
-        state: &mut C,
-        turn: &K,
-    ) -> Result<Option<R>, I::Error> {
-        drive_back_passing(&mut self.it, &mut (), &CopyPass, state, turn)
-    }
-
-    fallible_iterator::by_drive!(drive_back);
+    crate::base::by_drive!(drive_back);
 }
 
 // A copy of what an item points to. It keeps no state.

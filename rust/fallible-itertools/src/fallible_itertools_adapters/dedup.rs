@@ -1,9 +1,10 @@
 // The adapter that yields the first of adjacent equal items.
 
+use crate::base::Outcome;
+use crate::base::Turn;
 use crate::fallible_itertools_adapters::holding::{Hold, at_stop, drive_holding, with_held};
 use crate::fallible_itertools_adapters::staging::stopped;
-use fallible_iterator::extending::Outcome;
-use fallible_iterator::{FallibleIterator, Turn};
+use fallible_iterator::FallibleIterator;
 
 /// The first of adjacent equal items. It is buffered until an item that differs comes, or a stop: `Ok(None)` or a failure, which the next call returns.
 #[derive(Clone, Debug)]
@@ -22,6 +23,21 @@ impl<I: FallibleIterator> Dedup<I> {
             it,
             stage: (None, None),
         }
+    }
+}
+
+// The fold by turns, by which `try_fold` goes.
+impl<I: FallibleIterator> Dedup<I>
+where
+    I::Item: PartialEq,
+{
+    #[inline(always)]
+    fn fold_by<C, R, K: Turn<C, I::Item, R>>(
+        &mut self,
+        state: &mut C,
+        turn: &K,
+    ) -> Result<Option<R>, I::Error> {
+        drive_holding(&mut self.it, &mut self.stage, &DedupHold, state, turn)
     }
 }
 
@@ -48,15 +64,7 @@ where
         }
     }
 
-    fn drive<C, R, K: Turn<C, I::Item, R>>(
-        &mut self,
-        state: &mut C,
-        turn: &K,
-    ) -> Result<Option<R>, I::Error> {
-        drive_holding(&mut self.it, &mut self.stage, &DedupHold, state, turn)
-    }
-
-    fallible_iterator::by_drive!(drive);
+    crate::base::by_drive!(drive);
 }
 
 // Draws until an item differs from the buffered one, or a stop comes. No stop is due. What is buffered stands in a local, so that a compiler keeps it in a register.
@@ -70,7 +78,7 @@ where
 {
     let mut first = held.take();
     loop {
-        match it.draw() {
+        match it.next() {
             Ok(Some(x)) => match DedupHold.ask(&mut first, Some(x)) {
                 Outcome::Kept(y) => {
                     *held = first;

@@ -1,8 +1,9 @@
 // The adapter that yields the first of adjacent items with equal keys.
 
+use crate::base::Turn;
+use crate::base::{FirstTurn, Outcome};
 use crate::fallible_itertools_adapters::holding::{Hold, drive_holding, with_held};
-use fallible_iterator::extending::{FirstTurn, Outcome};
-use fallible_iterator::{FallibleIterator, Turn};
+use fallible_iterator::FallibleIterator;
 
 /// The first of adjacent items with equal keys. It is buffered, with its key, until an item with another key comes, or a stop, which the next call returns.
 #[derive(Clone, Debug)]
@@ -24,6 +25,20 @@ impl<I: FallibleIterator, K, F> DedupByKey<I, K, F> {
     }
 }
 
+// The fold by turns, by which `try_fold` goes.
+impl<I: FallibleIterator, K: PartialEq, F: FnMut(&I::Item) -> Result<K, I::Error>>
+    DedupByKey<I, K, F>
+{
+    #[inline(always)]
+    fn fold_by<C, R, T: Turn<C, I::Item, R>>(
+        &mut self,
+        state: &mut C,
+        turn: &T,
+    ) -> Result<Option<R>, I::Error> {
+        drive_holding(&mut self.it, &mut self.stage, &KeyHold, state, turn)
+    }
+}
+
 impl<I: FallibleIterator, K: PartialEq, F: FnMut(&I::Item) -> Result<K, I::Error>> FallibleIterator
     for DedupByKey<I, K, F>
 {
@@ -33,7 +48,7 @@ impl<I: FallibleIterator, K: PartialEq, F: FnMut(&I::Item) -> Result<K, I::Error
 
     /// Returns the stop that is due, without a draw. Otherwise it draws until an item has another key than the buffered one, or a stop comes.
     fn next(&mut self) -> Result<Option<I::Item>, I::Error> {
-        self.drive(&mut (), &FirstTurn)
+        self.fold_by(&mut (), &FirstTurn)
     }
 
     fn size_hint(&self) -> (usize, Option<usize>) {
@@ -43,15 +58,7 @@ impl<I: FallibleIterator, K: PartialEq, F: FnMut(&I::Item) -> Result<K, I::Error
         }
     }
 
-    fn drive<C, R, T: Turn<C, I::Item, R>>(
-        &mut self,
-        state: &mut C,
-        turn: &T,
-    ) -> Result<Option<R>, I::Error> {
-        drive_holding(&mut self.it, &mut self.stage, &KeyHold, state, turn)
-    }
-
-    fallible_iterator::by_drive!(drive);
+    crate::base::by_drive!(drive);
 }
 
 // What becomes of an item by its key.

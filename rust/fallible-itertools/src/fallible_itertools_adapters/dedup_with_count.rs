@@ -1,8 +1,9 @@
 //! The adapter that yields the first of adjacent equal items beside their number.
 
+use crate::base::Turn;
+use crate::base::{FirstTurn, Outcome};
 use crate::fallible_itertools_adapters::holding::{Hold, drive_holding, with_held};
-use fallible_iterator::extending::{FirstTurn, Outcome};
-use fallible_iterator::{FallibleIterator, Turn};
+use fallible_iterator::FallibleIterator;
 
 /// The first of adjacent equal items beside their number. It is buffered until an item that differs comes, or a stop: `Ok(None)` or a failure, which the next call returns.
 #[derive(Clone, Debug)]
@@ -24,6 +25,21 @@ impl<I: FallibleIterator> DedupWithCount<I> {
     }
 }
 
+// The fold by turns, by which `try_fold` goes.
+impl<I: FallibleIterator> DedupWithCount<I>
+where
+    I::Item: PartialEq,
+{
+    #[inline(always)]
+    fn fold_by<C, R, K: Turn<C, (usize, I::Item), R>>(
+        &mut self,
+        state: &mut C,
+        turn: &K,
+    ) -> Result<Option<R>, I::Error> {
+        drive_holding(&mut self.it, &mut self.stage, &EqualHold, state, turn)
+    }
+}
+
 impl<I: FallibleIterator> FallibleIterator for DedupWithCount<I>
 where
     I::Item: PartialEq,
@@ -34,7 +50,7 @@ where
 
     /// Returns the stop that is due, without a draw. Otherwise it draws until an item differs from the buffered one, or a stop comes.
     fn next(&mut self) -> Result<Option<(usize, I::Item)>, I::Error> {
-        self.drive(&mut (), &FirstTurn)
+        self.fold_by(&mut (), &FirstTurn)
     }
 
     fn size_hint(&self) -> (usize, Option<usize>) {
@@ -44,15 +60,7 @@ where
         }
     }
 
-    fn drive<C, R, K: Turn<C, (usize, I::Item), R>>(
-        &mut self,
-        state: &mut C,
-        turn: &K,
-    ) -> Result<Option<R>, I::Error> {
-        drive_holding(&mut self.it, &mut self.stage, &EqualHold, state, turn)
-    }
-
-    fallible_iterator::by_drive!(drive);
+    crate::base::by_drive!(drive);
 }
 
 // What becomes of an item after the buffered one.

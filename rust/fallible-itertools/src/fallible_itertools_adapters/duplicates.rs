@@ -1,8 +1,9 @@
 // The adapter that yields an item where it comes for the second time.
 
+use crate::base::Turn;
+use crate::base::{FirstTurn, Outcome, Pass, drive_passing};
 use core::hash::Hash;
-use fallible_iterator::extending::{FirstTurn, Outcome, Pass, drive_passing};
-use fallible_iterator::{FallibleIterator, Turn};
+use fallible_iterator::FallibleIterator;
 use std::collections::HashMap;
 
 /// Of equal items the second. A map has the first of equal items, and whether the second was yielded.
@@ -31,6 +32,21 @@ where
     }
 }
 
+// The fold by turns, by which `try_fold` goes.
+impl<I: FallibleIterator> Duplicates<I>
+where
+    I::Item: Eq + Hash,
+{
+    #[inline(always)]
+    fn fold_by<C, R, K: Turn<C, I::Item, R>>(
+        &mut self,
+        state: &mut C,
+        turn: &K,
+    ) -> Result<Option<R>, I::Error> {
+        drive_passing(&mut self.it, &mut self.came, &SecondPass, state, turn)
+    }
+}
+
 impl<I: FallibleIterator> FallibleIterator for Duplicates<I>
 where
     I::Item: Eq + Hash,
@@ -41,22 +57,14 @@ where
 
     /// Draws until an item comes that equals exactly one before it, or a failure or an `Ok(None)`.
     fn next(&mut self) -> Result<Option<I::Item>, I::Error> {
-        self.drive(&mut (), &FirstTurn)
+        self.fold_by(&mut (), &FirstTurn)
     }
 
     fn size_hint(&self) -> (usize, Option<usize>) {
         (0, self.it.size_hint().1)
     }
 
-    fn drive<C, R, K: Turn<C, I::Item, R>>(
-        &mut self,
-        state: &mut C,
-        turn: &K,
-    ) -> Result<Option<R>, I::Error> {
-        drive_passing(&mut self.it, &mut self.came, &SecondPass, state, turn)
-    }
-
-    fallible_iterator::by_drive!(drive);
+    crate::base::by_drive!(drive);
 }
 
 // An item after those before it.

@@ -1,8 +1,9 @@
 //! The adapter that converts failures.
 
+use crate::base::Turn;
+use crate::base::{Fail, drive_back_failing, drive_failing, failed};
 use core::marker::PhantomData;
-use fallible_iterator::extending::{Fail, drive_back_failing, drive_failing, failed};
-use fallible_iterator::{DoubleEndedFallibleIterator, FallibleIterator, Turn};
+use fallible_iterator::{DoubleEndedFallibleIterator, FallibleIterator};
 
 /// The source with each failure converted by `From`. Items and `Ok(None)` pass.
 #[must_use = "an iterator draws nothing until it is asked"]
@@ -22,6 +23,24 @@ impl<I, E> ErrInto<I, E> {
     }
 }
 
+// The fold by turns, by which `try_fold` goes.
+impl<I: FallibleIterator, E: From<I::Error>> ErrInto<I, E> {
+    #[inline(always)]
+    fn fold_by<C, R, K: Turn<C, I::Item, R>>(
+        &mut self,
+        state: &mut C,
+        turn: &K,
+    ) -> Result<Option<R>, E> {
+        drive_failing(
+            &mut self.it,
+            &mut (),
+            &IntoFail::<E> { made: PhantomData },
+            state,
+            turn,
+        )
+    }
+}
+
 impl<I: FallibleIterator, E: From<I::Error>> FallibleIterator for ErrInto<I, E> {
     type Item = I::Item;
 
@@ -38,20 +57,6 @@ impl<I: FallibleIterator, E: From<I::Error>> FallibleIterator for ErrInto<I, E> 
 
     fn size_hint(&self) -> (usize, Option<usize>) {
         self.it.size_hint()
-    }
-
-    fn drive<C, R, K: Turn<C, I::Item, R>>(
-        &mut self,
-        state: &mut C,
-        turn: &K,
-    ) -> Result<Option<R>, E> {
-        drive_failing(
-            &mut self.it,
-            &mut (),
-            &IntoFail::<E> { made: PhantomData },
-            state,
-            turn,
-        )
     }
 
     fn count(self) -> Result<usize, E> {
@@ -78,7 +83,25 @@ impl<I: FallibleIterator, E: From<I::Error>> FallibleIterator for ErrInto<I, E> 
         )
     }
 
-    fallible_iterator::by_drive!(drive);
+    crate::base::by_drive!(drive);
+}
+
+// The fold by turns, by which `try_fold` goes.
+impl<I: DoubleEndedFallibleIterator, E: From<I::Error>> ErrInto<I, E> {
+    #[inline(always)]
+    fn fold_back_by<C, R, K: Turn<C, I::Item, R>>(
+        &mut self,
+        state: &mut C,
+        turn: &K,
+    ) -> Result<Option<R>, E> {
+        drive_back_failing(
+            &mut self.it,
+            &mut (),
+            &IntoFail::<E> { made: PhantomData },
+            state,
+            turn,
+        )
+    }
 }
 
 impl<I: DoubleEndedFallibleIterator, E: From<I::Error>> DoubleEndedFallibleIterator
@@ -93,21 +116,7 @@ impl<I: DoubleEndedFallibleIterator, E: From<I::Error>> DoubleEndedFallibleItera
         )
     }
 
-    fn drive_back<C, R, K: Turn<C, I::Item, R>>(
-        &mut self,
-        state: &mut C,
-        turn: &K,
-    ) -> Result<Option<R>, E> {
-        drive_back_failing(
-            &mut self.it,
-            &mut (),
-            &IntoFail::<E> { made: PhantomData },
-            state,
-            turn,
-        )
-    }
-
-    fallible_iterator::by_drive!(drive_back);
+    crate::base::by_drive!(drive_back);
 }
 
 // The failure, converted.

@@ -1,10 +1,11 @@
 //! The fold of the adapters that buffer what they drew, through their sources' own.
 
+use crate::base::Outcome;
+use crate::base::Turn;
 use crate::fallible_itertools_adapters::staging::{
     Made, Stage, drive_stage, one, one_then, stopped,
 };
-use fallible_iterator::extending::Outcome;
-use fallible_iterator::{FallibleIterator, Turn};
+use fallible_iterator::FallibleIterator;
 
 /// What an adapter that buffers does with an item, `Some`, or with a stop of its source, `None`: it says what becomes of it.
 pub trait Hold<P, X, E> {
@@ -86,6 +87,7 @@ fn made_at_stop<P, X, E, A: Hold<P, X, E>>(
 ///     (K.turns turn.now) (it.old, stage.old) state.old result (it.new, stage.new) state.new }
 /// ```
 /// </details>
+#[inline(always)]
 pub fn drive_holding<
     I: FallibleIterator,
     P,
@@ -115,6 +117,7 @@ pub fn drive_holding<
 /// ensures { AtStop (A.asks adapter.now) holds.old stop result (holds.new, due.new) }
 /// ```
 /// </details>
+#[inline(always)]
 pub fn at_stop<P, X, E, A: Hold<P, X, E>>(
     stop: Option<E>,
     holds: &mut P,

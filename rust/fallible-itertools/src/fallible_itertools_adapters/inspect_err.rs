@@ -1,7 +1,8 @@
 //! The adapter that calls a closure on each failure.
 
-use fallible_iterator::extending::{Fail, drive_back_failing, drive_failing, failed};
-use fallible_iterator::{DoubleEndedFallibleIterator, FallibleIterator, Turn};
+use crate::base::Turn;
+use crate::base::{Fail, drive_back_failing, drive_failing, failed};
+use fallible_iterator::{DoubleEndedFallibleIterator, FallibleIterator};
 
 /// What the source returns. The closure is called on a reference to each failure first.
 #[derive(Clone, Debug)]
@@ -19,6 +20,18 @@ impl<I, F> InspectErr<I, F> {
     }
 }
 
+// The fold by turns, by which `try_fold` goes.
+impl<I: FallibleIterator, F: FnMut(&I::Error)> InspectErr<I, F> {
+    #[inline(always)]
+    fn fold_by<C, R, K: Turn<C, I::Item, R>>(
+        &mut self,
+        state: &mut C,
+        turn: &K,
+    ) -> Result<Option<R>, I::Error> {
+        drive_failing(&mut self.it, &mut self.f, &InspectErrFail, state, turn)
+    }
+}
+
 impl<I: FallibleIterator, F: FnMut(&I::Error)> FallibleIterator for InspectErr<I, F> {
     type Item = I::Item;
 
@@ -31,14 +44,6 @@ impl<I: FallibleIterator, F: FnMut(&I::Error)> FallibleIterator for InspectErr<I
 
     fn size_hint(&self) -> (usize, Option<usize>) {
         self.it.size_hint()
-    }
-
-    fn drive<C, R, K: Turn<C, I::Item, R>>(
-        &mut self,
-        state: &mut C,
-        turn: &K,
-    ) -> Result<Option<R>, I::Error> {
-        drive_failing(&mut self.it, &mut self.f, &InspectErrFail, state, turn)
     }
 
     fn count(self) -> Result<usize, Self::Error> {
@@ -55,7 +60,19 @@ impl<I: FallibleIterator, F: FnMut(&I::Error)> FallibleIterator for InspectErr<I
         failed(self.it.nth(n), &mut self.f, &InspectErrFail)
     }
 
-    fallible_iterator::by_drive!(drive);
+    crate::base::by_drive!(drive);
+}
+
+// The fold by turns, by which `try_fold` goes.
+impl<I: DoubleEndedFallibleIterator, F: FnMut(&I::Error)> InspectErr<I, F> {
+    #[inline(always)]
+    fn fold_back_by<C, R, K: Turn<C, I::Item, R>>(
+        &mut self,
+        state: &mut C,
+        turn: &K,
+    ) -> Result<Option<R>, I::Error> {
+        drive_back_failing(&mut self.it, &mut self.f, &InspectErrFail, state, turn)
+    }
 }
 
 impl<I: DoubleEndedFallibleIterator, F: FnMut(&I::Error)> DoubleEndedFallibleIterator
@@ -66,15 +83,7 @@ impl<I: DoubleEndedFallibleIterator, F: FnMut(&I::Error)> DoubleEndedFallibleIte
         failed(self.it.next_back(), &mut self.f, &InspectErrFail)
     }
 
-    fn drive_back<C, R, K: Turn<C, I::Item, R>>(
-        &mut self,
-        state: &mut C,
-        turn: &K,
-    ) -> Result<Option<R>, I::Error> {
-        drive_back_failing(&mut self.it, &mut self.f, &InspectErrFail, state, turn)
-    }
-
-    fallible_iterator::by_drive!(drive_back);
+    crate::base::by_drive!(drive_back);
 }
 
 // The failure itself, after the closure's call.

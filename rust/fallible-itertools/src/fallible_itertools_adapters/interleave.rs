@@ -1,6 +1,6 @@
 //! The adapter that yields the items of two sources in turn.
 
-use fallible_iterator::extending::sum;
+use crate::base::sum;
 use fallible_iterator::{FallibleIterator, Fuse};
 
 /// What two sources yield in turn, each fused, and the rest of the one that yields more. A failure takes its side's turn, as an item does.

@@ -1,9 +1,10 @@
 // The adapter that puts a separator between items.
 
+use crate::base::Turn;
 use crate::fallible_itertools_adapters::staging::{
     Made, Stage, drive_stage, next_stage, one, one_then, stopped,
 };
-use fallible_iterator::{FallibleIterator, Turn};
+use fallible_iterator::FallibleIterator;
 
 /// The items of the source with a clone of the separator between each two adjacent ones. An item that was drawn is buffered while the separator before it is yielded.
 #[derive(Clone, Debug)]
@@ -25,6 +26,21 @@ impl<I: FallibleIterator> Intersperse<I> {
     }
 }
 
+// The fold by turns, by which `try_fold` goes.
+impl<I: FallibleIterator> Intersperse<I>
+where
+    I::Item: Clone,
+{
+    #[inline(always)]
+    fn fold_by<C, R, K: Turn<C, I::Item, R>>(
+        &mut self,
+        state: &mut C,
+        turn: &K,
+    ) -> Result<Option<R>, I::Error> {
+        drive_stage(&mut self.it, &mut self.stage, &SeparatorClone, state, turn)
+    }
+}
+
 impl<I: FallibleIterator> FallibleIterator for Intersperse<I>
 where
     I::Item: Clone,
@@ -38,20 +54,11 @@ where
         next_stage(&mut self.it, &mut self.stage, &SeparatorClone)
     }
 
-    /// The turn on the buffered item, and then the source's fold, whose turn is one on what stands before the item and one on the item.
-    fn drive<C, R, K: Turn<C, I::Item, R>>(
-        &mut self,
-        state: &mut C,
-        turn: &K,
-    ) -> Result<Option<R>, I::Error> {
-        drive_stage(&mut self.it, &mut self.stage, &SeparatorClone, state, turn)
-    }
-
     fn size_hint(&self) -> (usize, Option<usize>) {
         hint_parting(self.it.size_hint(), &self.stage)
     }
 
-    fallible_iterator::by_drive!(drive);
+    crate::base::by_drive!(drive);
 }
 
 // Each separator is a clone of the first.

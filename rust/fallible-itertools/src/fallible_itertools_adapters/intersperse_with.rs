@@ -1,10 +1,11 @@
 // The adapter that puts what a closure returns between items.
 
+use crate::base::Turn;
 use crate::fallible_itertools_adapters::intersperse::{hint_parting, separated};
 use crate::fallible_itertools_adapters::staging::{
     Made, Stage, drive_stage, next_stage, one, stopped,
 };
-use fallible_iterator::{FallibleIterator, Turn};
+use fallible_iterator::FallibleIterator;
 
 /// The items of the source with what the closure returns between each two adjacent ones. An item that was drawn is buffered while the separator before it is yielded.
 #[derive(Clone, Debug)]
@@ -26,6 +27,18 @@ impl<I: FallibleIterator, F> IntersperseWith<I, F> {
     }
 }
 
+// The fold by turns, by which `try_fold` goes.
+impl<I: FallibleIterator, F: FnMut() -> Result<I::Item, I::Error>> IntersperseWith<I, F> {
+    #[inline(always)]
+    fn fold_by<C, R, K: Turn<C, I::Item, R>>(
+        &mut self,
+        state: &mut C,
+        turn: &K,
+    ) -> Result<Option<R>, I::Error> {
+        drive_stage(&mut self.it, &mut self.stage, &SeparatorCall, state, turn)
+    }
+}
+
 impl<I: FallibleIterator, F: FnMut() -> Result<I::Item, I::Error>> FallibleIterator
     for IntersperseWith<I, F>
 {
@@ -38,20 +51,11 @@ impl<I: FallibleIterator, F: FnMut() -> Result<I::Item, I::Error>> FallibleItera
         next_stage(&mut self.it, &mut self.stage, &SeparatorCall)
     }
 
-    /// The turn on the buffered item, and then the source's fold, whose turn is one on what stands before the item and one on the item.
-    fn drive<C, R, K: Turn<C, I::Item, R>>(
-        &mut self,
-        state: &mut C,
-        turn: &K,
-    ) -> Result<Option<R>, I::Error> {
-        drive_stage(&mut self.it, &mut self.stage, &SeparatorCall, state, turn)
-    }
-
     fn size_hint(&self) -> (usize, Option<usize>) {
         hint_parting(self.it.size_hint(), &self.stage)
     }
 
-    fallible_iterator::by_drive!(drive);
+    crate::base::by_drive!(drive);
 }
 
 // Each separator is what one call of the closure returns.

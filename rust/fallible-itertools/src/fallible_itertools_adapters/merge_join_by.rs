@@ -1,9 +1,9 @@
 //! The adapter that joins the items of two sources in order, as a closure compares them.
 
+use crate::base::sum;
 use crate::fallible_itertools_adapters::sides::Holding;
 use crate::fallible_itertools_adapters::zip_longest::{EitherOrBoth, greater};
 use core::cmp::Ordering;
-use fallible_iterator::extending::sum;
 use fallible_iterator::{FallibleIterator, Fuse};
 
 /// The items of two sources, each fused, in order. A closure compares an item of each: `Less` yields the left's alone, `Greater` the right's alone, and `Equal` both. A failure of a side is yielded, and loses nothing that is buffered. If the closure fails, its failure is yielded, and the two items are lost.

@@ -1,9 +1,8 @@
 //! The adapter that replaces failures: by an item, nothing or another failure.
 
-use fallible_iterator::extending::{
-    FirstTurn, Outcome, Pass, drive_back_recovering, drive_recovering,
-};
-use fallible_iterator::{DoubleEndedFallibleIterator, FallibleIterator, Turn};
+use crate::base::Turn;
+use crate::base::{FirstTurn, Outcome, Pass, drive_back_recovering, drive_recovering};
+use fallible_iterator::{DoubleEndedFallibleIterator, FallibleIterator};
 
 /// What the source returns, with each failure replaced by what the closure returns for it: an item, nothing or another failure. Items and `Ok(None)` pass.
 #[derive(Clone, Debug)]
@@ -21,6 +20,18 @@ impl<I, F> OrElse<I, F> {
     }
 }
 
+// The fold by turns, by which `try_fold` goes.
+impl<I: FallibleIterator, E, F: FnMut(I::Error) -> Result<Option<I::Item>, E>> OrElse<I, F> {
+    #[inline(always)]
+    fn fold_by<C, R, K: Turn<C, I::Item, R>>(
+        &mut self,
+        state: &mut C,
+        turn: &K,
+    ) -> Result<Option<R>, E> {
+        drive_recovering(&mut self.it, &mut self.f, &OrElsePass, state, turn)
+    }
+}
+
 impl<I: FallibleIterator, E, F: FnMut(I::Error) -> Result<Option<I::Item>, E>> FallibleIterator
     for OrElse<I, F>
 {
@@ -30,22 +41,28 @@ impl<I: FallibleIterator, E, F: FnMut(I::Error) -> Result<Option<I::Item>, E>> F
 
     /// Draws until an item or an `Ok(None)` comes, or a failure for which the closure returns an item or fails.
     fn next(&mut self) -> Result<Option<I::Item>, E> {
-        self.drive(&mut (), &FirstTurn)
+        self.fold_by(&mut (), &FirstTurn)
     }
 
     fn size_hint(&self) -> (usize, Option<usize>) {
         (0, None)
     }
 
-    fn drive<C, R, K: Turn<C, I::Item, R>>(
+    crate::base::by_drive!(drive);
+}
+
+// The fold by turns, by which `try_fold` goes.
+impl<I: DoubleEndedFallibleIterator, E, F: FnMut(I::Error) -> Result<Option<I::Item>, E>>
+    OrElse<I, F>
+{
+    #[inline(always)]
+    fn fold_back_by<C, R, K: Turn<C, I::Item, R>>(
         &mut self,
         state: &mut C,
         turn: &K,
     ) -> Result<Option<R>, E> {
-        drive_recovering(&mut self.it, &mut self.f, &OrElsePass, state, turn)
+        drive_back_recovering(&mut self.it, &mut self.f, &OrElsePass, state, turn)
     }
-
-    fallible_iterator::by_drive!(drive);
 }
 
 impl<I: DoubleEndedFallibleIterator, E, F: FnMut(I::Error) -> Result<Option<I::Item>, E>>
@@ -53,18 +70,10 @@ impl<I: DoubleEndedFallibleIterator, E, F: FnMut(I::Error) -> Result<Option<I::I
 {
     /// Draws from the back until an item or an `Ok(None)` comes, or a failure for which the closure returns an item or fails.
     fn next_back(&mut self) -> Result<Option<I::Item>, E> {
-        self.drive_back(&mut (), &FirstTurn)
+        self.fold_back_by(&mut (), &FirstTurn)
     }
 
-    fn drive_back<C, R, K: Turn<C, I::Item, R>>(
-        &mut self,
-        state: &mut C,
-        turn: &K,
-    ) -> Result<Option<R>, E> {
-        drive_back_recovering(&mut self.it, &mut self.f, &OrElsePass, state, turn)
-    }
-
-    fallible_iterator::by_drive!(drive_back);
+    crate::base::by_drive!(drive_back);
 }
 
 // What becomes of a failure by the closure's result.

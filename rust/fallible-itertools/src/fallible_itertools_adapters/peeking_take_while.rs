@@ -68,11 +68,13 @@ impl<I: FallibleIterator> PeekingNext for Peekable<I> {
     where
         F: FnMut(&I::Item) -> Result<bool, I::Error>,
     {
-        match self.fill() {
-            Ok(()) => {}
+        let accepted = match self.peek() {
+            Ok(Some(item)) => accept(item),
+            // The original holds no end: a `next` would draw again.
+            Ok(None) => Ok(Peekable::<I>::HOLDS_ENDS),
             Err(e) => return Err(e),
-        }
-        match none_held_or_accepts(&*self, accept) {
+        };
+        match accepted {
             Ok(true) => self.next(),
             Ok(false) => Ok(None),
             Err(e) => match self.next() {
@@ -80,17 +82,6 @@ impl<I: FallibleIterator> PeekingNext for Peekable<I> {
                 Err(_) => unreachable!(),
             },
         }
-    }
-}
-
-// What the closure returns on the buffered item, and true if none is buffered.
-fn none_held_or_accepts<I: FallibleIterator, F: FnMut(&I::Item) -> Result<bool, I::Error>>(
-    it: &Peekable<I>,
-    accept: &mut F,
-) -> Result<bool, I::Error> {
-    match it.held() {
-        Some(item) => accept(item),
-        None => Ok(true),
     }
 }
 
@@ -127,3 +118,11 @@ impl<P: PeekingNext, F: FnMut(&P::Item) -> Result<bool, P::Error>> FallibleItera
         (0, self.it.size_hint().1)
     }
 }
+
+// Whether `peek` holds the end that it drew. What a `Peekable` says of itself goes before this, which is of the original's.
+#[allow(dead_code)]
+trait HoldsEnds {
+    const HOLDS_ENDS: bool = false;
+}
+
+impl<I: FallibleIterator> HoldsEnds for Peekable<I> {}

@@ -1,7 +1,8 @@
 //! The adapter that yields the positions of the items for which its closure returns true.
 
-use fallible_iterator::extending::{FirstTurn, Outcome, Pass, drive_passing};
-use fallible_iterator::{Enumerate, FallibleIterator, Turn};
+use crate::base::Turn;
+use crate::base::{FirstTurn, Outcome, Pass, drive_passing};
+use fallible_iterator::{Enumerate, FallibleIterator};
 
 /// The positions of the items for which the closure returns true. Each item counts, also one on which the closure fails; its failure is yielded.
 #[derive(Clone, Debug)]
@@ -19,6 +20,18 @@ impl<I, F> Positions<I, F> {
     }
 }
 
+// The fold by turns, by which `try_fold` goes.
+impl<I: FallibleIterator, F: FnMut(I::Item) -> Result<bool, I::Error>> Positions<I, F> {
+    #[inline(always)]
+    fn fold_by<C, R, K: Turn<C, usize, R>>(
+        &mut self,
+        state: &mut C,
+        turn: &K,
+    ) -> Result<Option<R>, I::Error> {
+        drive_passing(&mut self.it, &mut self.f, &PositionsPass, state, turn)
+    }
+}
+
 impl<I: FallibleIterator, F: FnMut(I::Item) -> Result<bool, I::Error>> FallibleIterator
     for Positions<I, F>
 {
@@ -28,22 +41,14 @@ impl<I: FallibleIterator, F: FnMut(I::Item) -> Result<bool, I::Error>> FallibleI
 
     /// Draws until the closure returns true, or a failure or an `Ok(None)` comes. It calls the closure on each item.
     fn next(&mut self) -> Result<Option<usize>, I::Error> {
-        self.drive(&mut (), &FirstTurn)
+        self.fold_by(&mut (), &FirstTurn)
     }
 
     fn size_hint(&self) -> (usize, Option<usize>) {
         (0, self.it.size_hint().1)
     }
 
-    fn drive<C, R, K: Turn<C, usize, R>>(
-        &mut self,
-        state: &mut C,
-        turn: &K,
-    ) -> Result<Option<R>, I::Error> {
-        drive_passing(&mut self.it, &mut self.f, &PositionsPass, state, turn)
-    }
-
-    fallible_iterator::by_drive!(drive);
+    crate::base::by_drive!(drive);
 }
 
 // What becomes of an item beside its position, by the closure's result.

@@ -1,7 +1,7 @@
 // A side of what joins two sources, fuses each and buffers at most one item of each.
 
+use crate::base::sum;
 use fallible_iterator::FallibleIterator;
-use fallible_iterator::extending::sum;
 
 // A source, and its buffered item, if there is one.
 #[derive(Clone, Debug)]

@@ -1,9 +1,11 @@
 //! Adapters of one source by what each of its answers makes: nothing, or one answer and what is due after it.
 
+use crate::base::Beside;
+use crate::base::Turn;
+use crate::base::drive::Drive;
 use core::mem::replace;
 use core::ops::ControlFlow;
-use fallible_iterator::extending::Beside;
-use fallible_iterator::{FallibleIterator, Turn};
+use fallible_iterator::FallibleIterator;
 
 /// What an answer of the source makes: nothing, or an answer, and what is due after it.
 pub type Made<B, L, E> = Option<(Result<Option<B>, E>, Option<L>)>;
@@ -260,6 +262,7 @@ impl<'a, 'b, P, X, E, C, R, G: Stage<P, X, E>, K: Turn<C, G::Kept, R>>
 ///     (K.turns turn.now) (it.old, stage.old) state.old result (it.new, stage.new) state.new }
 /// ```
 /// </details>
+#[inline(always)]
 pub fn drive_stage<
     I: FallibleIterator,
     P,
@@ -327,10 +330,11 @@ fn drive_items<
     turn: &K,
 ) -> Result<Option<(Result<Option<R>, I::Error>, Option<G::Later>)>, I::Error> {
     let mut both = Beside { c: state, p: held };
-    it.drive(&mut both, &StageTurn { adapter, turn })
+    it.fold_by(&mut both, &StageTurn { adapter, turn })
 }
 
 // What the fold returns at a stop of its source, and what is due then.
+#[inline(always)]
 fn at_stop<P, X, E, G: Stage<P, X, E>, C, R, K: Turn<C, G::Kept, R>>(
     stop: Option<E>,
     held: &mut P,

@@ -1,9 +1,10 @@
 //! The adapter that ends after the first item that a predicate rejects.
 
+use crate::base::Turn;
 use crate::fallible_itertools_adapters::staging::{
     Made, Stage, drive_stage, next_stage, one, one_then, stopped,
 };
-use fallible_iterator::{FallibleIterator, Turn};
+use fallible_iterator::FallibleIterator;
 
 /// What the source returns up to the first item that the predicate rejects, and that one too. Then each call returns `Ok(None)`. An item on which the predicate fails is lost, and its failure is yielded; neither it nor an `Ok(None)` of the source exhausts anything.
 #[derive(Clone, Debug)]
@@ -22,6 +23,18 @@ impl<I, P> TakeWhileInclusive<I, P> {
             it,
             stage: (predicate, None),
         }
+    }
+}
+
+// The fold by turns, by which `try_fold` goes.
+impl<I: FallibleIterator, P: FnMut(&I::Item) -> Result<bool, I::Error>> TakeWhileInclusive<I, P> {
+    #[inline(always)]
+    fn fold_by<C, R, K: Turn<C, I::Item, R>>(
+        &mut self,
+        state: &mut C,
+        turn: &K,
+    ) -> Result<Option<R>, I::Error> {
+        drive_stage(&mut self.it, &mut self.stage, &InclusiveStage, state, turn)
     }
 }
 
@@ -46,16 +59,7 @@ impl<I: FallibleIterator, P: FnMut(&I::Item) -> Result<bool, I::Error>> Fallible
         }
     }
 
-    /// The source's fold, which stops after the rejected item.
-    fn drive<C, R, K: Turn<C, I::Item, R>>(
-        &mut self,
-        state: &mut C,
-        turn: &K,
-    ) -> Result<Option<R>, I::Error> {
-        drive_stage(&mut self.it, &mut self.stage, &InclusiveStage, state, turn)
-    }
-
-    fallible_iterator::by_drive!(drive);
+    crate::base::by_drive!(drive);
 }
 
 // Nothing is drawn after an item that the predicate rejects.

@@ -1,7 +1,8 @@
 // The adapter that yields each two adjacent items.
 
-use fallible_iterator::extending::{Outcome, Pass, drive_passing};
-use fallible_iterator::{FallibleIterator, Turn};
+use crate::base::Turn;
+use crate::base::{Outcome, Pass, drive_passing};
+use fallible_iterator::FallibleIterator;
 
 /// Each two adjacent items, as pairs. The last item is buffered, and the pair has a clone of it.
 #[derive(Clone, Debug)]
@@ -20,6 +21,21 @@ impl<I: FallibleIterator> TupleWindows<I> {
     }
 }
 
+// The fold by turns, by which `try_fold` goes.
+impl<I: FallibleIterator> TupleWindows<I>
+where
+    I::Item: Clone,
+{
+    #[inline(always)]
+    fn fold_by<C, R, K: Turn<C, (I::Item, I::Item), R>>(
+        &mut self,
+        state: &mut C,
+        turn: &K,
+    ) -> Result<Option<R>, I::Error> {
+        drive_passing(&mut self.it, &mut self.held, &WindowPass, state, turn)
+    }
+}
+
 impl<I: FallibleIterator> FallibleIterator for TupleWindows<I>
 where
     I::Item: Clone,
@@ -32,7 +48,7 @@ where
     fn next(&mut self) -> Result<Option<(I::Item, I::Item)>, I::Error> {
         match self.held.take() {
             Some(before) => pair_with_next(&mut self.it, &mut self.held, before),
-            None => match self.it.draw() {
+            None => match self.it.next() {
                 Ok(Some(first)) => pair_with_next(&mut self.it, &mut self.held, first),
                 Ok(None) => Ok(None),
                 Err(e) => Err(e),
@@ -52,15 +68,7 @@ where
         }
     }
 
-    fn drive<C, R, K: Turn<C, (I::Item, I::Item), R>>(
-        &mut self,
-        state: &mut C,
-        turn: &K,
-    ) -> Result<Option<R>, I::Error> {
-        drive_passing(&mut self.it, &mut self.held, &WindowPass, state, turn)
-    }
-
-    fallible_iterator::by_drive!(drive);
+    crate::base::by_drive!(drive);
 }
 
 // An item after the one before it.

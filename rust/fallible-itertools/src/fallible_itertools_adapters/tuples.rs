@@ -1,7 +1,8 @@
 //! The adapter that yields pairs of items that don't overlap.
 
-use fallible_iterator::extending::{Outcome, Pass, drive_passing, kept};
-use fallible_iterator::{FallibleIterator, Turn};
+use crate::base::Turn;
+use crate::base::{Outcome, Pass, drive_passing, kept};
+use fallible_iterator::FallibleIterator;
 
 /// The items two by two, as pairs: each item stands in one pair. The first of a pair is buffered until the second comes, over failures and `Ok(None)` too.
 #[derive(Clone, Debug)]
@@ -20,6 +21,18 @@ impl<I: FallibleIterator> Tuples<I> {
     }
 }
 
+// The fold by turns, by which `try_fold` goes.
+impl<I: FallibleIterator> Tuples<I> {
+    #[inline(always)]
+    fn fold_by<C, R, K: Turn<C, (I::Item, I::Item), R>>(
+        &mut self,
+        state: &mut C,
+        turn: &K,
+    ) -> Result<Option<R>, I::Error> {
+        drive_passing(&mut self.it, &mut self.held, &TuplePass, state, turn)
+    }
+}
+
 impl<I: FallibleIterator> FallibleIterator for Tuples<I> {
     type Item = (I::Item, I::Item);
 
@@ -29,7 +42,7 @@ impl<I: FallibleIterator> FallibleIterator for Tuples<I> {
     fn next(&mut self) -> Result<Option<(I::Item, I::Item)>, I::Error> {
         match self.held.take() {
             Some(first) => completed(&mut self.it, &mut self.held, first),
-            None => match self.it.draw() {
+            None => match self.it.next() {
                 Ok(Some(first)) => completed(&mut self.it, &mut self.held, first),
                 Ok(None) => Ok(None),
                 Err(e) => Err(e),
@@ -42,15 +55,7 @@ impl<I: FallibleIterator> FallibleIterator for Tuples<I> {
         kept(self.it.size_hint(), 1, first)
     }
 
-    fn drive<C, R, K: Turn<C, (I::Item, I::Item), R>>(
-        &mut self,
-        state: &mut C,
-        turn: &K,
-    ) -> Result<Option<R>, I::Error> {
-        drive_passing(&mut self.it, &mut self.held, &TuplePass, state, turn)
-    }
-
-    fallible_iterator::by_drive!(drive);
+    crate::base::by_drive!(drive);
 }
 
 // An item is held, or yielded beside the one that is.

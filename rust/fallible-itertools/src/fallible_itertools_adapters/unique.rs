@@ -1,8 +1,9 @@
 // The adapter that yields each item that equals none before it.
 
+use crate::base::Turn;
+use crate::base::{FirstTurn, Outcome, Pass, drive_passing};
 use core::hash::Hash;
-use fallible_iterator::extending::{FirstTurn, Outcome, Pass, drive_passing};
-use fallible_iterator::{FallibleIterator, Turn};
+use fallible_iterator::FallibleIterator;
 use std::collections::HashSet;
 
 /// Of equal items the first. A set has a clone of each item that was yielded.
@@ -31,6 +32,21 @@ where
     }
 }
 
+// The fold by turns, by which `try_fold` goes.
+impl<I: FallibleIterator> Unique<I>
+where
+    I::Item: Clone + Eq + Hash,
+{
+    #[inline(always)]
+    fn fold_by<C, R, K: Turn<C, I::Item, R>>(
+        &mut self,
+        state: &mut C,
+        turn: &K,
+    ) -> Result<Option<R>, I::Error> {
+        drive_passing(&mut self.it, &mut self.seen, &UniquePass, state, turn)
+    }
+}
+
 impl<I: FallibleIterator> FallibleIterator for Unique<I>
 where
     I::Item: Clone + Eq + Hash,
@@ -41,22 +57,14 @@ where
 
     /// Draws until an item comes that equals none before it, or a failure or an `Ok(None)`.
     fn next(&mut self) -> Result<Option<I::Item>, I::Error> {
-        self.drive(&mut (), &FirstTurn)
+        self.fold_by(&mut (), &FirstTurn)
     }
 
     fn size_hint(&self) -> (usize, Option<usize>) {
         (0, self.it.size_hint().1)
     }
 
-    fn drive<C, R, K: Turn<C, I::Item, R>>(
-        &mut self,
-        state: &mut C,
-        turn: &K,
-    ) -> Result<Option<R>, I::Error> {
-        drive_passing(&mut self.it, &mut self.seen, &UniquePass, state, turn)
-    }
-
-    fallible_iterator::by_drive!(drive);
+    crate::base::by_drive!(drive);
 }
 
 // An item after those before it.

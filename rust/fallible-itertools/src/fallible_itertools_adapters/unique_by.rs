@@ -1,8 +1,9 @@
 // The adapter that yields the first item of each key.
 
+use crate::base::Turn;
+use crate::base::{FirstTurn, Outcome, Pass, drive_passing};
 use core::hash::Hash;
-use fallible_iterator::extending::{FirstTurn, Outcome, Pass, drive_passing};
-use fallible_iterator::{FallibleIterator, Turn};
+use fallible_iterator::FallibleIterator;
 use std::collections::HashSet;
 
 /// The first item of each key. A set has the keys of the items that were yielded.
@@ -28,6 +29,20 @@ impl<I, K: Eq + Hash, F> UniqueBy<I, K, F> {
     }
 }
 
+// The fold by turns, by which `try_fold` goes.
+impl<I: FallibleIterator, K: Eq + Hash, F: FnMut(&I::Item) -> Result<K, I::Error>>
+    UniqueBy<I, K, F>
+{
+    #[inline(always)]
+    fn fold_by<C, R, T: Turn<C, I::Item, R>>(
+        &mut self,
+        state: &mut C,
+        turn: &T,
+    ) -> Result<Option<R>, I::Error> {
+        drive_passing(&mut self.it, &mut self.keying, &KeyPass, state, turn)
+    }
+}
+
 impl<I: FallibleIterator, K: Eq + Hash, F: FnMut(&I::Item) -> Result<K, I::Error>> FallibleIterator
     for UniqueBy<I, K, F>
 {
@@ -37,22 +52,14 @@ impl<I: FallibleIterator, K: Eq + Hash, F: FnMut(&I::Item) -> Result<K, I::Error
 
     /// Draws until an item comes whose key equals none before it, or a failure or an `Ok(None)`. It calls the closure on each item.
     fn next(&mut self) -> Result<Option<I::Item>, I::Error> {
-        self.drive(&mut (), &FirstTurn)
+        self.fold_by(&mut (), &FirstTurn)
     }
 
     fn size_hint(&self) -> (usize, Option<usize>) {
         (0, self.it.size_hint().1)
     }
 
-    fn drive<C, R, T: Turn<C, I::Item, R>>(
-        &mut self,
-        state: &mut C,
-        turn: &T,
-    ) -> Result<Option<R>, I::Error> {
-        drive_passing(&mut self.it, &mut self.keying, &KeyPass, state, turn)
-    }
-
-    fallible_iterator::by_drive!(drive);
+    crate::base::by_drive!(drive);
 }
 
 // What becomes of an item by its key.

@@ -1,9 +1,10 @@
 // The adapter that yields each item with its position.
 
+use crate::base::Turn;
+use crate::base::{Outcome, sum};
 use crate::fallible_itertools_adapters::holding::{Hold, drive_holding};
 use core::mem;
-use fallible_iterator::extending::{Outcome, sum};
-use fallible_iterator::{FallibleIterator, Turn};
+use fallible_iterator::FallibleIterator;
 
 /// Where an item stands among the items between two stops. A stop is `Ok(None)` or a failure.
 #[derive(Clone, Copy, Debug, PartialEq, Eq)]
@@ -38,6 +39,18 @@ impl<I: FallibleIterator> WithPosition<I> {
     }
 }
 
+// The fold by turns, by which `try_fold` goes.
+impl<I: FallibleIterator> WithPosition<I> {
+    #[inline(always)]
+    fn fold_by<C, R, K: Turn<C, (Position, I::Item), R>>(
+        &mut self,
+        state: &mut C,
+        turn: &K,
+    ) -> Result<Option<R>, I::Error> {
+        drive_holding(&mut self.it, &mut self.stage, &PositionHold, state, turn)
+    }
+}
+
 impl<I: FallibleIterator> FallibleIterator for WithPosition<I> {
     type Item = (Position, I::Item);
 
@@ -52,7 +65,7 @@ impl<I: FallibleIterator> FallibleIterator for WithPosition<I> {
                 Some(before) => {
                     position_after(&mut self.it, &mut self.stage.0, &mut self.stage.1, before)
                 }
-                None => match self.it.draw() {
+                None => match self.it.next() {
                     Ok(Some(first)) => position_after(
                         &mut self.it,
                         &mut self.stage.0,
@@ -76,15 +89,7 @@ impl<I: FallibleIterator> FallibleIterator for WithPosition<I> {
         }
     }
 
-    fn drive<C, R, K: Turn<C, (Position, I::Item), R>>(
-        &mut self,
-        state: &mut C,
-        turn: &K,
-    ) -> Result<Option<R>, I::Error> {
-        drive_holding(&mut self.it, &mut self.stage, &PositionHold, state, turn)
-    }
-
-    fallible_iterator::by_drive!(drive);
+    crate::base::by_drive!(drive);
 }
 
 // One draw after that item, which is yielded in any case. It is buffered no more, and no stop is due.

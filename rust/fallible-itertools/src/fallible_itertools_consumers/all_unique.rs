@@ -1,9 +1,9 @@
 //! Whether no two items are equal.
 
+use crate::base::AllocError;
+use crate::base::Turn;
 use core::hash::Hash;
 use core::ops::ControlFlow;
-use fallible_iterator::Turn;
-use fallible_iterator::memory::AllocError;
 use std::collections::HashSet;
 
 /// The turn of `all_unique`, whose state is the set of the items so far: it stops at an item that equals one of them.

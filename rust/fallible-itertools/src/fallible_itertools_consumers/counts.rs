@@ -1,8 +1,8 @@
 //! How often each item comes.
 
+use crate::base::AllocError;
+use crate::base::Collect;
 use core::hash::Hash;
-use fallible_iterator::Collect;
-use fallible_iterator::memory::AllocError;
 use std::collections::HashMap;
 
 /// A map from each item to the number of times that it was pushed: a collection that `collect` makes. A number wraps at `usize::MAX`.

@@ -1,6 +1,8 @@
 //! The extension trait of every double-ended fallible iterator.
 
-use fallible_iterator::extending::{AnyTurn, CountTurn, FindTest, FindTurn, answer_or, found};
+use crate::base::drive::Drive;
+use crate::base::drive::DriveBack;
+use crate::base::{AnyTurn, CountTurn, FindTest, FindTurn, answer_or, found};
 use fallible_iterator::{DoubleEndedFallibleIterator, FallibleIterator};
 
 // Skips n items from the back, and draws once more.
@@ -29,7 +31,7 @@ where
         return Ok(None);
     }
     let mut number = 0;
-    match it.drive(&mut number, &CountTurn) {
+    match it.fold_by(&mut number, &CountTurn) {
         Ok(None) => Ok(Some(number)),
         Ok(Some(never)) => match never {},
         Err(e) => Err(e),
@@ -113,7 +115,7 @@ pub trait DoubleEndedFallibleItertools: DoubleEndedFallibleIterator + Sized {
         F: FnMut(&Self::Item) -> Result<bool, Self::Error>,
     {
         let mut f = f;
-        found(self.drive_back(&mut f, &FindTurn { test: &FindTest }))
+        found(self.fold_back_by(&mut f, &FindTurn { test: &FindTest }))
     }
 
     /// Returns how many items come before the last one on which the predicate returns true; `Ok(None)` if there is none.
@@ -156,7 +158,7 @@ pub trait DoubleEndedFallibleItertools: DoubleEndedFallibleIterator + Sized {
         F: FnMut(Self::Item) -> Result<bool, Self::Error>,
     {
         let mut f = f;
-        let found = answer_or(self.drive_back(&mut f, &AnyTurn), false);
+        let found = answer_or(self.fold_back_by(&mut f, &AnyTurn), false);
         number_left_if(self, found)
     }
 }

@@ -1,10 +1,10 @@
 //! Each key beside its values.
 
+use crate::base::AllocError;
+use crate::base::Collect;
+use crate::base::pushed;
 use alloc::vec::Vec;
 use core::hash::Hash;
-use fallible_iterator::Collect;
-use fallible_iterator::extending::pushed;
-use fallible_iterator::memory::AllocError;
 use std::collections::HashMap;
 
 /// A map from each key of the pairs pushed to a `Vec` of its values, in order: a collection that `collect` makes.

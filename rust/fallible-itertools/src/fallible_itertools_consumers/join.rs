@@ -1,10 +1,10 @@
 //! A text of the items that can be shown.
 
+use crate::base::AllocError;
+use crate::base::Turn;
 use alloc::string::String;
 use core::fmt::{Display, Write};
 use core::ops::ControlFlow;
-use fallible_iterator::Turn;
-use fallible_iterator::memory::AllocError;
 
 // Appends the separator, if an item stands before it, and then the item.
 fn append<T: Display>(

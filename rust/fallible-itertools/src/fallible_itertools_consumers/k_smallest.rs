@@ -1,9 +1,9 @@
 //! The least items, in order.
 
+use crate::base::AllocError;
+use crate::base::Turn;
 use alloc::vec::Vec;
 use core::ops::ControlFlow;
-use fallible_iterator::Turn;
-use fallible_iterator::memory::AllocError;
 
 // Where the item goes in order: after the items that aren't greater. It compares it with the last one first.
 fn place_of<A: Ord>(items: &[A], item: &A) -> usize {

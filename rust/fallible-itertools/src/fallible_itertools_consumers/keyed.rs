@@ -1,7 +1,8 @@
 //! Items beside the keys that a closure makes of them.
 
-use fallible_iterator::extending::{Outcome, Pass, drive_passing, passed};
-use fallible_iterator::{FallibleIterator, Turn};
+use crate::base::Turn;
+use crate::base::{Outcome, Pass, drive_passing, passed};
+use fallible_iterator::FallibleIterator;
 
 /// Each item of the source beside the key that the closure makes of it. An item on which the closure fails is lost, and its failure is yielded.
 pub(crate) struct Keyed<I, F> {
@@ -9,6 +10,18 @@ pub(crate) struct Keyed<I, F> {
     pub it: I,
     /// the closure
     pub f: F,
+}
+
+// The fold by turns, by which `try_fold` goes.
+impl<I: FallibleIterator, K, F: FnMut(&I::Item) -> Result<K, I::Error>> Keyed<I, F> {
+    #[inline(always)]
+    fn fold_by<C, R, T: Turn<C, (K, I::Item), R>>(
+        &mut self,
+        state: &mut C,
+        turn: &T,
+    ) -> Result<Option<R>, I::Error> {
+        drive_passing(&mut self.it, &mut self.f, &KeyPass, state, turn)
+    }
 }
 
 impl<I: FallibleIterator, K, F: FnMut(&I::Item) -> Result<K, I::Error>> FallibleIterator
@@ -27,15 +40,7 @@ impl<I: FallibleIterator, K, F: FnMut(&I::Item) -> Result<K, I::Error>> Fallible
         self.it.size_hint()
     }
 
-    fn drive<C, R, T: Turn<C, (K, I::Item), R>>(
-        &mut self,
-        state: &mut C,
-        turn: &T,
-    ) -> Result<Option<R>, I::Error> {
-        drive_passing(&mut self.it, &mut self.f, &KeyPass, state, turn)
-    }
-
-    fallible_iterator::by_drive!(drive);
+    crate::base::by_drive!(drive);
 }
 
 // What becomes of an item by the closure's result.

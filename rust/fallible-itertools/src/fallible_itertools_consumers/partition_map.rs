@@ -1,7 +1,7 @@
 //! Values that go to one of two collections.
 
-use fallible_iterator::Collect;
-use fallible_iterator::memory::AllocError;
+use crate::base::AllocError;
+use crate::base::Collect;
 
 /// A value of the left or of the right.
 #[derive(Clone, Copy, Debug, PartialEq, Eq)]

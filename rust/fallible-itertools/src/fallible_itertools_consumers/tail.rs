@@ -1,9 +1,9 @@
 //! The last items, in a queue.
 
+use crate::base::AllocError;
+use crate::base::Turn;
 use alloc::collections::VecDeque;
 use core::ops::ControlFlow;
-use fallible_iterator::Turn;
-use fallible_iterator::memory::AllocError;
 
 // Puts the item at the end.
 #[inline(always)]

@@ -1,8 +1,8 @@
 //! A collection of what came before the first failure.
 
+use crate::base::AllocError;
+use crate::base::{Collect, Turn};
 use core::ops::ControlFlow;
-use fallible_iterator::memory::AllocError;
-use fallible_iterator::{Collect, Turn};
 
 /// The turn of `collect_until_failure`, whose state is the collection. It stops if that rejects an item.
 pub struct PushTurn;

@@ -1,8 +1,8 @@
 use crate::Fail;
-use fallible_iterator::memory::AllocError;
+use crate::base::AllocError;
 
-use fallible_iterator::fallible_contract::answers::{Answer, Side};
-use fallible_iterator::fallible_core::{DoubleEndedFallibleIterator, FallibleIterator};
+use crate::base::{Answer, Side};
+use fallible_iterator::{DoubleEndedFallibleIterator, FallibleIterator};
 
 /// Returns the answers of `n` draws, in order.
 ///

@@ -16,9 +16,9 @@ impl<E: std::fmt::Debug> From<E> for Fail {
     }
 }
 
+mod base;
 mod example_itertools;
 mod fallible_rows;
-mod fallible_scripts;
 mod laws;
 mod program_io;
 mod test_calls_itertools;

@@ -53,7 +53,20 @@ impl<I: FallibleIterator, F: FnMut(&I::Item) -> Result<bool, I::Error>> Fallible
         }
     }
 
-    crate::by_drive!(drive);
+    #[inline(always)]
+    fn try_fold<Value, Failed, Step>(&mut self, init: Value, f: Step) -> Result<Value, Failed>
+    where
+        Failed: From<Self::Error>,
+        Step: FnMut(Value, Self::Item) -> Result<Value, Failed>,
+    {
+        crate::fallible_core::passing::try_fold_passing(
+            &mut self.it,
+            &mut self.f,
+            &FilterPass,
+            init,
+            f,
+        )
+    }
 }
 
 impl<I: DoubleEndedFallibleIterator, F: FnMut(&I::Item) -> Result<bool, I::Error>>
@@ -76,7 +89,20 @@ impl<I: DoubleEndedFallibleIterator, F: FnMut(&I::Item) -> Result<bool, I::Error
         drive_back_passing(&mut self.it, &mut self.f, &FilterPass, state, turn)
     }
 
-    crate::by_drive!(drive_back);
+    #[inline(always)]
+    fn try_rfold<Value, Failed, Step>(&mut self, init: Value, f: Step) -> Result<Value, Failed>
+    where
+        Failed: From<Self::Error>,
+        Step: FnMut(Value, Self::Item) -> Result<Value, Failed>,
+    {
+        crate::fallible_core::passing::try_rfold_passing(
+            &mut self.it,
+            &mut self.f,
+            &FilterPass,
+            init,
+            f,
+        )
+    }
 }
 
 // What becomes of an item by the predicate's result.

@@ -49,7 +49,20 @@ impl<I: FallibleIterator, B, F: FnMut(I::Item) -> Result<Option<B>, I::Error>> F
         }
     }
 
-    crate::by_drive!(drive);
+    #[inline(always)]
+    fn try_fold<Value, Failed, Step>(&mut self, init: Value, f: Step) -> Result<Value, Failed>
+    where
+        Failed: From<Self::Error>,
+        Step: FnMut(Value, Self::Item) -> Result<Value, Failed>,
+    {
+        crate::fallible_core::passing::try_fold_passing(
+            &mut self.it,
+            &mut self.f,
+            &FilterMapPass,
+            init,
+            f,
+        )
+    }
 }
 
 impl<I: DoubleEndedFallibleIterator, B, F: FnMut(I::Item) -> Result<Option<B>, I::Error>>
@@ -69,7 +82,20 @@ impl<I: DoubleEndedFallibleIterator, B, F: FnMut(I::Item) -> Result<Option<B>, I
         drive_back_passing(&mut self.it, &mut self.f, &FilterMapPass, state, turn)
     }
 
-    crate::by_drive!(drive_back);
+    #[inline(always)]
+    fn try_rfold<Value, Failed, Step>(&mut self, init: Value, f: Step) -> Result<Value, Failed>
+    where
+        Failed: From<Self::Error>,
+        Step: FnMut(Value, Self::Item) -> Result<Value, Failed>,
+    {
+        crate::fallible_core::passing::try_rfold_passing(
+            &mut self.it,
+            &mut self.f,
+            &FilterMapPass,
+            init,
+            f,
+        )
+    }
 }
 
 // What becomes of an item by the closure's result.

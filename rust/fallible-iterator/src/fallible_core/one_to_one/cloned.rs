@@ -36,7 +36,14 @@ impl<'a, T: Clone + 'a, I: FallibleIterator<Item = &'a T>> FallibleIterator for 
         drive_passing(&mut self.it, &mut (), &ClonePass, state, turn)
     }
 
-    crate::by_drive!(drive);
+    #[inline(always)]
+    fn try_fold<Value, Failed, Step>(&mut self, init: Value, f: Step) -> Result<Value, Failed>
+    where
+        Failed: From<Self::Error>,
+        Step: FnMut(Value, Self::Item) -> Result<Value, Failed>,
+    {
+        crate::fallible_core::passing::try_fold_passing(&mut self.it, &mut (), &ClonePass, init, f)
+    }
 }
 
 impl<'a, T: Clone + 'a, I: DoubleEndedFallibleIterator<Item = &'a T>> DoubleEndedFallibleIterator
@@ -56,7 +63,14 @@ impl<'a, T: Clone + 'a, I: DoubleEndedFallibleIterator<Item = &'a T>> DoubleEnde
         drive_back_passing(&mut self.it, &mut (), &ClonePass, state, turn)
     }
 
-    crate::by_drive!(drive_back);
+    #[inline(always)]
+    fn try_rfold<Value, Failed, Step>(&mut self, init: Value, f: Step) -> Result<Value, Failed>
+    where
+        Failed: From<Self::Error>,
+        Step: FnMut(Value, Self::Item) -> Result<Value, Failed>,
+    {
+        crate::fallible_core::passing::try_rfold_passing(&mut self.it, &mut (), &ClonePass, init, f)
+    }
 }
 
 // A clone of what an item points to. It keeps no state.

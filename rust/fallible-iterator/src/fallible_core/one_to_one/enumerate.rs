@@ -46,7 +46,20 @@ impl<I: FallibleIterator> FallibleIterator for Enumerate<I> {
         self.drive(&mut left, &NthTurn)
     }
 
-    crate::by_drive!(drive);
+    #[inline(always)]
+    fn try_fold<Value, Failed, Step>(&mut self, init: Value, f: Step) -> Result<Value, Failed>
+    where
+        Failed: From<Self::Error>,
+        Step: FnMut(Value, Self::Item) -> Result<Value, Failed>,
+    {
+        crate::fallible_core::passing::try_fold_passing(
+            &mut self.it,
+            &mut self.count,
+            &EnumeratePass,
+            init,
+            f,
+        )
+    }
 }
 
 // An item with its number. Its state is the number of the next item.

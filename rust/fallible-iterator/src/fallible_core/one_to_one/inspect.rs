@@ -39,7 +39,20 @@ impl<I: FallibleIterator, F: FnMut(&I::Item) -> Result<(), I::Error>> FallibleIt
         drive_passing(&mut self.it, &mut self.f, &InspectPass, state, turn)
     }
 
-    crate::by_drive!(drive);
+    #[inline(always)]
+    fn try_fold<Value, Failed, Step>(&mut self, init: Value, f: Step) -> Result<Value, Failed>
+    where
+        Failed: From<Self::Error>,
+        Step: FnMut(Value, Self::Item) -> Result<Value, Failed>,
+    {
+        crate::fallible_core::passing::try_fold_passing(
+            &mut self.it,
+            &mut self.f,
+            &InspectPass,
+            init,
+            f,
+        )
+    }
 }
 
 impl<I: DoubleEndedFallibleIterator, F: FnMut(&I::Item) -> Result<(), I::Error>>
@@ -59,7 +72,20 @@ impl<I: DoubleEndedFallibleIterator, F: FnMut(&I::Item) -> Result<(), I::Error>>
         drive_back_passing(&mut self.it, &mut self.f, &InspectPass, state, turn)
     }
 
-    crate::by_drive!(drive_back);
+    #[inline(always)]
+    fn try_rfold<Value, Failed, Step>(&mut self, init: Value, f: Step) -> Result<Value, Failed>
+    where
+        Failed: From<Self::Error>,
+        Step: FnMut(Value, Self::Item) -> Result<Value, Failed>,
+    {
+        crate::fallible_core::passing::try_rfold_passing(
+            &mut self.it,
+            &mut self.f,
+            &InspectPass,
+            init,
+            f,
+        )
+    }
 }
 
 // What becomes of an item after the closure's call.

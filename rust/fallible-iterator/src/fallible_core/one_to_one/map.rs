@@ -48,7 +48,20 @@ impl<I: FallibleIterator, B, F: FnMut(I::Item) -> Result<B, I::Error>> FallibleI
         drive_passing(&mut self.it, &mut self.f, &MapPass, state, turn)
     }
 
-    crate::by_drive!(drive);
+    #[inline(always)]
+    fn try_fold<Value, Failed, Step>(&mut self, init: Value, f: Step) -> Result<Value, Failed>
+    where
+        Failed: From<Self::Error>,
+        Step: FnMut(Value, Self::Item) -> Result<Value, Failed>,
+    {
+        crate::fallible_core::passing::try_fold_passing(
+            &mut self.it,
+            &mut self.f,
+            &MapPass,
+            init,
+            f,
+        )
+    }
 }
 
 impl<I: DoubleEndedFallibleIterator, B, F: FnMut(I::Item) -> Result<B, I::Error>>
@@ -68,7 +81,20 @@ impl<I: DoubleEndedFallibleIterator, B, F: FnMut(I::Item) -> Result<B, I::Error>
         drive_back_passing(&mut self.it, &mut self.f, &MapPass, state, turn)
     }
 
-    crate::by_drive!(drive_back);
+    #[inline(always)]
+    fn try_rfold<Value, Failed, Step>(&mut self, init: Value, f: Step) -> Result<Value, Failed>
+    where
+        Failed: From<Self::Error>,
+        Step: FnMut(Value, Self::Item) -> Result<Value, Failed>,
+    {
+        crate::fallible_core::passing::try_rfold_passing(
+            &mut self.it,
+            &mut self.f,
+            &MapPass,
+            init,
+            f,
+        )
+    }
 }
 
 // What the closure makes of an item.

@@ -38,7 +38,20 @@ impl<I: FallibleIterator, B, F: FnMut(I::Item) -> Result<Option<B>, I::Error>> F
         drive_passing(&mut self.it, &mut self.f, &MapWhilePass, state, turn)
     }
 
-    crate::by_drive!(drive);
+    #[inline(always)]
+    fn try_fold<Value, Failed, Step>(&mut self, init: Value, f: Step) -> Result<Value, Failed>
+    where
+        Failed: From<Self::Error>,
+        Step: FnMut(Value, Self::Item) -> Result<Value, Failed>,
+    {
+        crate::fallible_core::passing::try_fold_passing(
+            &mut self.it,
+            &mut self.f,
+            &MapWhilePass,
+            init,
+            f,
+        )
+    }
 }
 
 // What the closure makes of an item.

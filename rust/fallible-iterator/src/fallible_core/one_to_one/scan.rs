@@ -39,7 +39,20 @@ impl<I: FallibleIterator, St, B, F: FnMut(&mut St, I::Item) -> Result<Option<B>,
         drive_passing(&mut self.it, &mut self.scanning, &ScanPass, state, turn)
     }
 
-    crate::by_drive!(drive);
+    #[inline(always)]
+    fn try_fold<Value, Failed, Step>(&mut self, init: Value, f: Step) -> Result<Value, Failed>
+    where
+        Failed: From<Self::Error>,
+        Step: FnMut(Value, Self::Item) -> Result<Value, Failed>,
+    {
+        crate::fallible_core::passing::try_fold_passing(
+            &mut self.it,
+            &mut self.scanning,
+            &ScanPass,
+            init,
+            f,
+        )
+    }
 }
 
 // What the closure makes of the state and an item.

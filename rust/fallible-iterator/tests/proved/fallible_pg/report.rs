@@ -39,6 +39,7 @@ pub fn print_rows<R: ReadByte, W: WriteText>(
     for _ in 0..u64::MAX {
         match rows.next() {
             Ok(Some(row)) => {
+                // No memory: writing to a vector fails only if an allocation does.
                 if !text_of_row(&row, &mut text) {
                     return Err(RunFault::Memory);
                 }

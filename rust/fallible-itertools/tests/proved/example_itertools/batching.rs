@@ -1,5 +1,5 @@
 use crate::Fail;
-use fallible_iterator::memory::AllocError;
+use crate::base::AllocError;
 
 use fallible_iterator::{FallibleIterator, convert};
 use fallible_itertools::FallibleItertools;
@@ -48,7 +48,7 @@ where
     I: FallibleIterator<Item = Vec<u32>, Error = NoBatch>,
 {
     let mut most: usize = 0;
-    while let Some(batch) = batches.draw()? {
+    while let Some(batch) = batches.next()? {
         most = most.max(batch.len());
     }
     Ok(most)

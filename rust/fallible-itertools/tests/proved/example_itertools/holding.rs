@@ -1,5 +1,5 @@
 use crate::Fail;
-use fallible_iterator::memory::AllocError;
+use crate::base::AllocError;
 
 use fallible_iterator::{FallibleIterator, convert};
 use fallible_itertools::{FallibleItertools, Position};
@@ -27,7 +27,7 @@ pub fn changes_of<I: FallibleIterator<Item = u32>>(it: I) -> Result<u64, I::Erro
 /// How many changes come after the first; if a failure comes first, those after it.
 pub fn changes_after_first(readings: Vec<Result<u32, u8>>) -> Result<usize, u8> {
     let mut it = convert(readings.into_iter()).dedup();
-    match it.draw() {
+    match it.next() {
         Ok(Some(_)) => it.count(),
         Ok(None) => Ok(0),
         Err(_) => it.count(),
@@ -53,7 +53,7 @@ pub fn changes_of_tens(readings: Vec<Result<u32, u8>>) -> Result<usize, u8> {
 /// The first reading with the number of readings that follow each other and are equal to it, itself counted, or the first failure.
 pub fn first_run(readings: Vec<Result<u32, u8>>) -> Result<Option<(usize, u32)>, u8> {
     let mut it = convert(readings.into_iter()).dedup_with_count();
-    it.draw()
+    it.next()
 }
 
 /// How many readings come in runs of two equal ones or more, each run once, or the first failure.
@@ -68,7 +68,7 @@ pub fn repeated_runs(readings: Vec<Result<u32, u8>>) -> Result<usize, u8> {
 pub fn first_run_of_tens(readings: Vec<Result<u32, u8>>) -> Result<Option<(usize, u32)>, u8> {
     let mut it = convert(readings.into_iter())
         .dedup_by_with_count(|first, second| Ok(*first / 10 == *second / 10));
-    it.draw()
+    it.next()
 }
 
 /// How many readings are left if each that is below the one before it is merged with that, or the first failure.
@@ -110,7 +110,7 @@ pub fn points(coordinates: Vec<Result<u32, u8>>) -> Result<usize, u8> {
 /// The first item with its position, over any iterator, also over one that never ends, such as the rows of a reader: `next` draws twice at most.
 pub fn first_placed<I: FallibleIterator>(it: I) -> Result<Option<(Position, I::Item)>, I::Error> {
     let mut it = it.with_position();
-    it.draw()
+    it.next()
 }
 
 // Whether a comma comes after the item.

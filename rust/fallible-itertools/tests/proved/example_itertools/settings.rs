@@ -1,8 +1,8 @@
 use crate::Fail;
-use fallible_iterator::memory::AllocError;
+use crate::base::AllocError;
 
 use crate::program_io::numbers::number_of;
-use fallible_iterator::{FallibleIterator, convert_fused};
+use fallible_iterator::{FallibleIterator, convert};
 use fallible_itertools::FallibleItertools;
 use std::io::Read;
 use std::str::from_utf8;
@@ -101,9 +101,7 @@ pub fn settings_in<I: FallibleIterator<Item = Setting, Error = BadLine>>(
 
 /// What the lines of a text say, and how many of them are bad.
 pub fn settings_of(text: &str) -> Result<(Settings, u32), NoSettings> {
-    settings_in(convert_fused(
-        text.lines().map(|line: &str| setting_of(line)),
-    ))
+    settings_in(convert(text.lines().map(|line: &str| setting_of(line))))
 }
 
 /// What the lines of a reader say, and how many of them are bad. It reads up to the end.

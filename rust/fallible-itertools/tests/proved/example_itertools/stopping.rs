@@ -1,5 +1,5 @@
 use crate::Fail;
-use fallible_iterator::memory::AllocError;
+use crate::base::AllocError;
 
 use fallible_iterator::{FallibleIterator, convert};
 use fallible_itertools::{FallibleItertools, FoldWhile};
@@ -38,7 +38,7 @@ pub fn item_after_zero<I: FallibleIterator<Item = u32>>(
         }
     })?;
     match sum {
-        FoldWhile::Done(_) => it.draw(),
+        FoldWhile::Done(_) => it.next(),
         FoldWhile::Continue(_) => Ok(None),
     }
 }
@@ -90,7 +90,7 @@ pub fn has_zero(readings: Vec<Result<u32, u8>>) -> Result<bool, u8> {
 pub fn after_zero(readings: Vec<Result<u32, u8>>) -> Result<Option<u32>, u8> {
     let mut it = convert(readings.into_iter());
     if it.contains(&0)? {
-        it.draw()
+        it.next()
     } else {
         Ok(None)
     }

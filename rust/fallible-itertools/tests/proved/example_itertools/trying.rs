@@ -1,5 +1,5 @@
 use crate::Fail;
-use fallible_iterator::memory::AllocError;
+use crate::base::AllocError;
 
 use fallible_iterator::{FallibleIterator, convert};
 use fallible_itertools::FallibleItertools;
@@ -69,7 +69,7 @@ pub fn after_seven<I: FallibleIterator<Item = u32, Error = u8>>(
         }
     })?;
     match found {
-        Some(_) => Ok(it.draw()?),
+        Some(_) => Ok(it.next()?),
         None => Ok(None),
     }
 }

@@ -1,5 +1,5 @@
 use crate::Fail;
-use fallible_iterator::memory::AllocError;
+use crate::base::AllocError;
 
 use crate::program_io::fault::{InputFault, write_placed};
 use crate::program_io::writing::WriteText;

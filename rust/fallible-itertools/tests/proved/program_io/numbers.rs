@@ -1,5 +1,5 @@
 use crate::Fail;
-use fallible_iterator::memory::AllocError;
+use crate::base::AllocError;
 
 /// The number below 2 ^ 64 that a text writes in decimal digits, if it writes one. A plus may stand first.
 pub fn number_of(text: &str) -> Option<u64> {

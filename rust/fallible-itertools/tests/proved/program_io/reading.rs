@@ -1,5 +1,5 @@
 use crate::Fail;
-use fallible_iterator::memory::AllocError;
+use crate::base::AllocError;
 
 use std::io;
 use std::io::{BufRead, BufReader, ErrorKind, Read};
@@ -212,6 +212,7 @@ fn read_some<R: ReadByte>(reader: &mut R, bytes: &mut Vec<u8>, room: usize) -> R
     let held = reader.buffered();
     let count = held.len().min(room);
     if count > 0 {
+        // No memory: adding bytes to a vector fails only if an allocation does.
         if Ok::<(), AllocError>(bytes.extend_from_slice(&held[..count])).is_err() {
             return Err(Unread::Memory);
         }
@@ -221,6 +222,7 @@ fn read_some<R: ReadByte>(reader: &mut R, bytes: &mut Vec<u8>, room: usize) -> R
     match reader.read_byte() {
         Ok(Some(byte)) => match Ok::<(), AllocError>(bytes.push(byte)) {
             Ok(()) => Ok(()),
+            // No memory: a push fails only if an allocation does.
             Err(_) => Err(Unread::Memory),
         },
         Ok(None) => Err(Unread::End),

@@ -1,5 +1,5 @@
 use crate::Fail;
-use fallible_iterator::memory::AllocError;
+use crate::base::AllocError;
 // What the calls of `fallible_itertools` make of their sources.
 
 use crate::test_support::calls::{

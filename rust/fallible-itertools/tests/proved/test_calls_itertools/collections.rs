@@ -1,5 +1,5 @@
 use crate::Fail;
-use fallible_iterator::memory::AllocError;
+use crate::base::AllocError;
 // What the calls that make vectors make of their sources.
 use crate::test_support::calls::{Calls, NO_CALL, ONE_FOLD};
 use crate::test_support::counted::Log;
@@ -12,6 +12,20 @@ type Sorted = (&'static [u32], Calls);
 const UP: Sorted = (&[1, 2, 3], ONE_FOLD);
 
 const DOWN: Sorted = (&[3, 2, 1], ONE_FOLD);
+
+#[test]
+fn vectors_that_are_sorted_are_one_fold_each() {
+    fn tested() -> Result<(), Fail> {
+        let log = Log::new();
+        let answers = [Ok(2), Ok(3), Ok(1)];
+        let down = counted(&answers, &log).sorted_by(|x: &u32, y: &u32| y.cmp(x))?;
+        assert_eq!((down.as_slice(), log.take()), DOWN);
+        let up = counted(&answers, &log).sorted_unstable()?;
+        assert_eq!((up.as_slice(), log.take()), UP);
+        Ok(())
+    }
+    let _ = tested();
+}
 
 // The items, the failures, and the calls that come for both.
 type Apart = (&'static [u32], &'static [u32], Calls);

@@ -1,5 +1,5 @@
 use crate::Fail;
-use fallible_iterator::memory::AllocError;
+use crate::base::AllocError;
 // What `tail` and `k_smallest` make of their source.
 use crate::test_support::calls::{Calls, ONE_FOLD};
 use crate::test_support::counted::Log;

@@ -1,9 +1,10 @@
 use crate::Fail;
-use fallible_iterator::memory::AllocError;
+use crate::base::AllocError;
 // Allocation failures: clones of the adapters, most with something held, and draws that clone, each allocation failing in turn. `PeekingTakeWhile` has no clone, since it borrows.
+use crate::base::Answer;
+use crate::base::Answer::{End, Failure, Item};
 use crate::test_support::answered::expect_answers;
-use fallible_iterator::Answer::{End, Failure, Item};
-use fallible_iterator::{Answer, Convert, FallibleIterator};
+use fallible_iterator::{Convert, FallibleIterator};
 use fallible_itertools::EitherOrBoth::{Both, Left, Right};
 use fallible_itertools::Position::{First, Last, Middle};
 use fallible_itertools::{FallibleItertools, Position};

@@ -1,13 +1,14 @@
 use crate::Fail;
-use fallible_iterator::memory::AllocError;
+use crate::base::AllocError;
 // Items and failures apart, failures converted, and calls by a closure.
+use crate::base::Answer::{End, Failure, Item};
+use crate::base::Side::{Back, Front};
+use crate::base::{Answer, Side};
 use crate::test_itertools::rows::{Drawn, END, expect_same, script};
 use crate::test_support::course::Hint;
 use crate::test_support::expected_numbers::{expect_hinted_numbers, expect_numbers_at};
 use crate::test_support::numbers::numbers;
-use fallible_iterator::Answer::{End, Failure, Item};
-use fallible_iterator::Side::{Back, Front};
-use fallible_iterator::{Answer, FallibleIterator, Side};
+use fallible_iterator::FallibleIterator;
 use fallible_itertools::FallibleItertools;
 
 type Numbers = &'static [Result<u32, u32>];
@@ -197,7 +198,7 @@ fn positions_count_all_items() {
         for (answers, expected) in &PLACES {
             let mut it = numbers(answers).positions(is_odd);
             let hint = it.size_hint();
-            let drawn = [it.draw(), it.draw(), it.draw(), it.draw()];
+            let drawn = [it.next(), it.next(), it.next(), it.next()];
             let number = numbers(answers).positions(is_odd).count();
             expect_same(&(hint, drawn, number), expected)?;
         }

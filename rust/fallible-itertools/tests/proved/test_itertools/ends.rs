@@ -1,5 +1,5 @@
 use crate::Fail;
-use fallible_iterator::memory::AllocError;
+use crate::base::AllocError;
 // Calls from the back of what has two ends.
 use crate::test_itertools::rows::{Drawn, expect_same};
 use crate::test_support::numbers::numbers;

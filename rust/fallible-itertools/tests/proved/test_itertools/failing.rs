@@ -1,15 +1,16 @@
 use crate::Fail;
-use fallible_iterator::memory::AllocError;
+use crate::base::AllocError;
 // The adapters that act on failures. The source goes on after a failure and after an end.
+use crate::base::Answer::{End, Failure, Item};
+use crate::base::Side::{Back, Front};
+use crate::base::{Answer, Side};
 use crate::test_itertools::rows::{Drawn, END, expect_same, folded_after, script};
 use crate::test_support::course::Hint;
 use crate::test_support::expected_numbers::{
     expect_hinted_numbers, expect_numbers, expect_numbers_at,
 };
 use crate::test_support::numbers::numbers;
-use fallible_iterator::Answer::{End, Failure, Item};
-use fallible_iterator::Side::{Back, Front};
-use fallible_iterator::{Answer, FallibleIterator, Side};
+use fallible_iterator::FallibleIterator;
 use fallible_itertools::FallibleItertools;
 
 // An item in the place of a failure, nothing in that of 8, and a failure of 70 in that of 7.
@@ -65,7 +66,7 @@ const HINTED: [(Hint, &[Answer<u32, u32>]); 2] = [((0, None), &[Item(1)]), ((0, 
 fn or_else_puts_items_failures_and_nothing_in_the_place_of_failures() {
     fn tested() -> Result<(), Fail> {
         for (drawn, expected) in &RECOVERED {
-            let mut source = numbers(&FAULTY).map_while(end_at_zero);
+            let mut source = numbers(&FAULTY).scan((), |_: &mut (), x| end_at_zero(x));
             let mut it = (&mut source).or_else(recover);
             let folded = folded_after(&mut it, drawn)?;
             expect_same(&(folded, source.next()), expected)?;
@@ -198,7 +199,7 @@ fn inspect_err_shows_each_failure_once() {
     fn tested() -> Result<(), Fail> {
         for ((drawn, expected), digits) in &SHOWN {
             let mut shown: u32 = 0;
-            let mut source = numbers(&FAULTY).map_while(end_at_zero);
+            let mut source = numbers(&FAULTY).scan((), |_: &mut (), x| end_at_zero(x));
             let mut it = (&mut source).inspect_err(|e: &u32| show(&mut shown, *e));
             let folded = folded_after(&mut it, drawn)?;
             expect_same(&(folded, source.next()), expected)?;

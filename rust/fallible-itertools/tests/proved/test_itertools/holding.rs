@@ -1,14 +1,15 @@
 use crate::Fail;
-use fallible_iterator::memory::AllocError;
+use crate::base::AllocError;
 // The adapters that hold. The source goes on after an end.
+use crate::base::Answer;
+use crate::base::Answer::{End, Failure, Item};
 use crate::test_itertools::rows::{Drawn, END, Folded, expect_same, folded_after, script};
 use crate::test_support::course::Hint;
 use crate::test_support::expected_numbers::expect_hinted_numbers;
 use crate::test_support::numbers::numbers;
 use crate::test_support::scripted::Script;
 use crate::test_support::test_error::TestError::{self, Number};
-use fallible_iterator::Answer::{End, Failure, Item};
-use fallible_iterator::{Answer, FallibleIterator};
+use fallible_iterator::FallibleIterator;
 use fallible_itertools::{FallibleItertools, Position};
 
 const EQUAL: [Drawn; 8] = [

@@ -1,14 +1,15 @@
 use crate::Fail;
-use fallible_iterator::memory::AllocError;
+use crate::base::AllocError;
 // `intersperse` and `intersperse_with`. The source goes on after an end.
+use crate::base::Answer;
+use crate::base::Answer::{End, Failure, Item};
 use crate::test_itertools::rows::expect_same;
 use crate::test_support::answered::expect_answers;
 use crate::test_support::course::{Hint, expect_course};
 use crate::test_support::listed::listed;
 use crate::test_support::scripted::scripted;
 use crate::test_support::test_error::TestError;
-use fallible_iterator::Answer::{End, Failure, Item};
-use fallible_iterator::{Answer, FallibleIterator, convert};
+use fallible_iterator::{FallibleIterator, convert};
 use fallible_itertools::FallibleItertools;
 use std::cell::Cell;
 

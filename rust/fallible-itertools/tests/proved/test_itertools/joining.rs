@@ -1,12 +1,13 @@
 use crate::Fail;
-use fallible_iterator::memory::AllocError;
+use crate::base::AllocError;
 // The adapters that join.
+use crate::base::Answer;
+use crate::base::Answer::{End, Failure, Item};
 use crate::test_itertools::rows::{Drawn, END, expect_same, script};
 use crate::test_support::course::{Hint, expect_course};
 use crate::test_support::expected_numbers::expect_hinted_numbers;
 use crate::test_support::numbers::numbers;
-use fallible_iterator::Answer::{End, Failure, Item};
-use fallible_iterator::{Answer, FallibleIterator};
+use fallible_iterator::FallibleIterator;
 use fallible_itertools::EitherOrBoth::{Both, Left, Right};
 use fallible_itertools::{EitherOrBoth, FallibleItertools};
 use std::cmp::Ordering;

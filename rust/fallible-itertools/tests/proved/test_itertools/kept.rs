@@ -1,9 +1,9 @@
 use crate::Fail;
-use fallible_iterator::memory::AllocError;
+use crate::base::AllocError;
 // The last items, and the least.
+use crate::base::IteratorExt;
 use crate::test_itertools::rows::expect_same;
 use crate::test_support::numbers::numbers;
-use fallible_iterator::IteratorExt;
 use fallible_itertools::FallibleItertools;
 
 type Numbers = &'static [Result<u32, u32>];

@@ -1,9 +1,10 @@
 use crate::Fail;
-use fallible_iterator::memory::AllocError;
+use crate::base::AllocError;
 // No allocation fails after some items, some keys or some bytes: a body that refuses at will is proved, and is seen here.
+use crate::base::{IteratorExt, repeat};
 use crate::test_itertools::rows::expect_same;
 use crate::test_support::test_error::TestError;
-use fallible_iterator::{FallibleIterator, IteratorExt, convert, repeat};
+use fallible_iterator::{FallibleIterator, convert};
 use fallible_itertools::{Either, FallibleItertools};
 use std::convert::Infallible;
 

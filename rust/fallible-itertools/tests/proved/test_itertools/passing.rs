@@ -1,14 +1,15 @@
 use crate::Fail;
-use fallible_iterator::memory::AllocError;
+use crate::base::AllocError;
 // The adapters that let items pass.
+use crate::base::Answer::{End, Failure, Item};
+use crate::base::Side::{Back, Front};
+use crate::base::{Answer, Side};
 use crate::test_itertools::rows::{Drawn, END, Folded, expect_same, folded_after, script};
 use crate::test_support::closures::append_digit;
 use crate::test_support::course::Hint;
 use crate::test_support::expected_numbers::{expect_hinted_numbers, expect_numbers_at};
 use crate::test_support::numbers::numbers;
-use fallible_iterator::Answer::{End, Failure, Item};
-use fallible_iterator::Side::{Back, Front};
-use fallible_iterator::{Answer, FallibleIterator, Side, convert};
+use fallible_iterator::{FallibleIterator, convert};
 use fallible_itertools::{FallibleItertools, PeekingNext};
 
 const POINTING: [Result<&u32, u32>; 4] = [Ok(&1), Err(9), Ok(&2), Ok(&3)];

@@ -1,12 +1,13 @@
 use crate::Fail;
-use fallible_iterator::memory::AllocError;
+use crate::base::AllocError;
 // The second of equal items.
+use crate::base::Answer;
+use crate::base::Answer::{End, Failure, Item};
 use crate::test_support::answered::expect_answers;
 use crate::test_support::course::{Hint, expect_course};
 use crate::test_support::scripted::Script;
 use crate::test_support::test_error::TestError::{self, Number};
-use fallible_iterator::Answer::{End, Failure, Item};
-use fallible_iterator::{Answer, FallibleIterator, convert};
+use fallible_iterator::{FallibleIterator, convert};
 use fallible_itertools::FallibleItertools;
 
 type Drawn = Result<Option<u32>, TestError>;

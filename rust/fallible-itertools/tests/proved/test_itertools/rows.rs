@@ -1,11 +1,12 @@
 use crate::Fail;
-use fallible_iterator::memory::AllocError;
+use crate::base::AllocError;
 // One call for a nest: it draws, folds and compares.
 
+use crate::base::Answer;
 use crate::test_support::closures::append_digit;
 use crate::test_support::expected_numbers::expect_numbers;
 use crate::test_support::scripted::Script;
-use fallible_iterator::{Answer, FallibleIterator};
+use fallible_iterator::FallibleIterator;
 use std::fmt::Debug;
 
 /// What a draw returns.

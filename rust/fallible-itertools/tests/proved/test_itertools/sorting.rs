@@ -1,9 +1,9 @@
 use crate::Fail;
-use fallible_iterator::memory::AllocError;
+use crate::base::AllocError;
 // Items that are sorted in place.
+use crate::base::Fault;
 use crate::test_itertools::rows::expect_same;
 use crate::test_support::numbers::numbers;
-use fallible_iterator::Fault;
 use fallible_itertools::FallibleItertools;
 
 // The items of a vector, which has four at most.

@@ -1,5 +1,5 @@
 use crate::Fail;
-use fallible_iterator::memory::AllocError;
+use crate::base::AllocError;
 // Folds stop where they are done, sorted items and keys at the first that goes down, and searches where they find; the next draw goes on after it.
 
 use crate::test_itertools::rows::{Drawn, END, expect_same};

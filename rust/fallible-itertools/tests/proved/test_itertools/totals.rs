@@ -1,5 +1,5 @@
 use crate::Fail;
-use fallible_iterator::memory::AllocError;
+use crate::base::AllocError;
 // Sums and products stop at the first item with which they don't fit, and the next draw goes on after it.
 
 use crate::test_itertools::rows::{Drawn, expect_same};

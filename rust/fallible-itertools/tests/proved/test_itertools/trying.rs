@@ -1,5 +1,5 @@
 use crate::Fail;
-use fallible_iterator::memory::AllocError;
+use crate::base::AllocError;
 // Searches whose closure fails with an error of its own end with the item that decides, and the next draw goes on after it.
 
 use crate::test_itertools::rows::{Drawn, expect_same, script};

@@ -1,8 +1,9 @@
 use crate::Fail;
-use fallible_iterator::memory::AllocError;
+use crate::base::AllocError;
 
+use crate::base::{Answer, Side};
 use crate::laws::{answers, answers_at};
-use fallible_iterator::{Answer, DoubleEndedFallibleIterator, FallibleIterator, Side};
+use fallible_iterator::{DoubleEndedFallibleIterator, FallibleIterator};
 use std::fmt::Debug;
 
 /// Draws as often as there are answers expected, and fails the test where others come.

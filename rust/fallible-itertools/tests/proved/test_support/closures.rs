@@ -1,5 +1,5 @@
 use crate::Fail;
-use fallible_iterator::memory::AllocError;
+use crate::base::AllocError;
 
 /// The items as digits, each after those that came before.
 pub fn append_digit(digits: u32, x: u32) -> Result<u32, u32> {

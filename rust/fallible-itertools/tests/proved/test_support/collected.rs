@@ -1,6 +1,6 @@
 use crate::Fail;
-use fallible_iterator::Fault;
-use fallible_iterator::memory::AllocError;
+use crate::base::AllocError;
+use crate::base::Fault;
 use std::fmt::Debug;
 
 /// Fails the test where anything else than a `Vec` of these items was made.

@@ -1,8 +1,8 @@
 use crate::Fail;
-use fallible_iterator::memory::AllocError;
+use crate::base::AllocError;
 
 use crate::test_support::calls::Calls;
-use fallible_iterator::{DoubleEndedFallibleIterator, FallibleIterator, Turn};
+use fallible_iterator::{DoubleEndedFallibleIterator, FallibleIterator};
 use std::cell::Cell;
 
 /// How often each call came from outside. A call that types override counts as the one that callers make of it.
@@ -96,13 +96,13 @@ impl<'a, I: FallibleIterator> FallibleIterator for Counted<'a, I> {
         self.it.size_hint()
     }
 
-    fn drive<C, R, K: Turn<C, I::Item, R>>(
-        &mut self,
-        state: &mut C,
-        turn: &K,
-    ) -> Result<Option<R>, I::Error> {
+    fn try_fold<Value, Failed, Step>(&mut self, init: Value, f: Step) -> Result<Value, Failed>
+    where
+        Failed: From<I::Error>,
+        Step: FnMut(Value, I::Item) -> Result<Value, Failed>,
+    {
         add(&self.log.folds);
-        self.it.drive(state, turn)
+        self.it.try_fold(init, f)
     }
 
     fn count(self) -> Result<usize, I::Error> {
@@ -120,7 +120,13 @@ impl<'a, I: FallibleIterator> FallibleIterator for Counted<'a, I> {
         self.it.nth(n)
     }
 
-    fallible_iterator::by_drive!(drive);
+    fn find<Search>(&mut self, f: Search) -> Result<Option<I::Item>, I::Error>
+    where
+        Search: FnMut(&I::Item) -> Result<bool, I::Error>,
+    {
+        add(&self.log.finds);
+        self.it.find(f)
+    }
 }
 
 impl<'a, I: DoubleEndedFallibleIterator> DoubleEndedFallibleIterator for Counted<'a, I> {
@@ -129,14 +135,12 @@ impl<'a, I: DoubleEndedFallibleIterator> DoubleEndedFallibleIterator for Counted
         self.it.next_back()
     }
 
-    fn drive_back<C, R, K: Turn<C, I::Item, R>>(
-        &mut self,
-        state: &mut C,
-        turn: &K,
-    ) -> Result<Option<R>, I::Error> {
+    fn try_rfold<Value, Failed, Step>(&mut self, init: Value, f: Step) -> Result<Value, Failed>
+    where
+        Failed: From<I::Error>,
+        Step: FnMut(Value, I::Item) -> Result<Value, Failed>,
+    {
         add(&self.log.rfolds);
-        self.it.drive_back(state, turn)
+        self.it.try_rfold(init, f)
     }
-
-    fallible_iterator::by_drive!(drive_back);
 }

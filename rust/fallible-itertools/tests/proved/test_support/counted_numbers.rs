@@ -1,5 +1,5 @@
 use crate::Fail;
-use fallible_iterator::memory::AllocError;
+use crate::base::AllocError;
 
 use crate::test_support::counted::{Counted, Log};
 use crate::test_support::numbers::numbers;

@@ -1,8 +1,9 @@
 use crate::Fail;
-use fallible_iterator::memory::AllocError;
+use crate::base::AllocError;
 
+use crate::base::Answer;
 use crate::test_support::answered::expect_answers;
-use fallible_iterator::{Answer, FallibleIterator};
+use fallible_iterator::FallibleIterator;
 use std::fmt::Debug;
 
 /// What is hinted.

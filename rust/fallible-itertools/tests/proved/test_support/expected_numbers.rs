@@ -1,9 +1,10 @@
 use crate::Fail;
-use fallible_iterator::memory::AllocError;
+use crate::base::AllocError;
 
+use crate::base::{Answer, Side};
 use crate::test_support::answered::{expect_answers, expect_answers_at};
 use crate::test_support::course::{Hint, expect_course};
-use fallible_iterator::{Answer, DoubleEndedFallibleIterator, FallibleIterator, Side};
+use fallible_iterator::{DoubleEndedFallibleIterator, FallibleIterator};
 
 /// Draws as often as there are answers expected, and fails the test where others come.
 pub fn expect_numbers<I: FallibleIterator<Item = u32, Error = u32>>(

@@ -1,5 +1,5 @@
 use crate::Fail;
-use fallible_iterator::memory::AllocError;
+use crate::base::AllocError;
 
 use fallible_iterator::{Convert, DoubleEndedFallibleIterator, FallibleIterator, convert};
 use std::vec::IntoIter;

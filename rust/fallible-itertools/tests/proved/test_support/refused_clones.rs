@@ -1,13 +1,14 @@
 use crate::Fail;
-use fallible_iterator::memory::AllocError;
+use crate::base::AllocError;
 
 use crate::test_support::answered::expect_answers;
 
 use crate::test_support::course::Hint;
 
+use crate::base::Answer;
 use crate::laws::answers;
 use crate::test_support::test_error::TestError;
-use fallible_iterator::{Answer, FallibleIterator};
+use fallible_iterator::FallibleIterator;
 use std::fmt::Debug;
 
 /// What a value that is cloned hints, allocates and returns.

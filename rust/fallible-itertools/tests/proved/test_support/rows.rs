@@ -1,5 +1,5 @@
 use crate::Fail;
-use fallible_iterator::memory::AllocError;
+use crate::base::AllocError;
 use std::fmt::Debug;
 
 /// Fails the test at the first row whose two values differ: what was returned, and what is expected.

@@ -1,5 +1,5 @@
 use crate::Fail;
-use fallible_iterator::memory::AllocError;
+use crate::base::AllocError;
 
 use crate::test_support::calls::Calls;
 use crate::test_support::closures::{add_up, add_up_to_three, append_digit, stop, stop_with_item};
@@ -45,7 +45,7 @@ pub type LastStep<'a> = (Answered, &'a [Calls]);
 // Does the call.
 fn done<I: FallibleIterator<Item = u32, Error = u32>>(it: &mut I, call: Do) -> Answered {
     match call {
-        Do::Next => it.draw(),
+        Do::Next => it.next(),
         Do::Nth(n) => it.nth(n),
         Do::Find(item) => it.find(|x: &u32| Ok(*x == item)),
         Do::Sum => Ok(Some(it.try_fold(0, add_up)?)),

@@ -1,5 +1,5 @@
 use crate::Fail;
-use fallible_iterator::memory::AllocError;
+use crate::base::AllocError;
 
 use crate::test_support::calls::Calls;
 use crate::test_support::closures::{add_up, append_digit, stop_with_item};
@@ -33,8 +33,8 @@ fn done<I: DoubleEndedFallibleIterator<Item = u32, Error = u32>>(
     call: DoBack,
 ) -> Answered {
     match call {
-        DoBack::Next => it.draw_front(),
-        DoBack::NextBack => it.draw_back(),
+        DoBack::Next => it.next(),
+        DoBack::NextBack => it.next_back(),
         DoBack::SumBack => Ok(Some(it.try_rfold(0, add_up)?)),
         DoBack::DigitsBack => Ok(Some(it.try_rfold(0, append_digit)?)),
         DoBack::StopBack => Ok(Some(it.try_rfold(0, stop_with_item)?)),

@@ -1,5 +1,5 @@
 use crate::Fail;
-use fallible_iterator::memory::AllocError;
+use crate::base::AllocError;
 
 /// A number, or want of memory.
 #[derive(Clone, Debug, PartialEq, Eq)]

@@ -1,3 +1,3 @@
 use crate::Fail;
-use fallible_iterator::memory::AllocError;
+use crate::base::AllocError;
 use std::cell::Cell;

@@ -1,8 +1,8 @@
-// changed: no allocator is passed
+// changed: the fold of the proved `collect`, into an empty `Vec`
 // proved: 4264b76e
 fn sorted(self) -> Result<Vec<Self::Item>, Self::Error>
 where
     Self::Item: Ord,
 {
-    sorted::sorted_items(self.collect())
+    sorted::sorted_items(gathered(self))
 }

@@ -1,4 +1,4 @@
-// changed: no allocator is passed
+// changed: the fold of the proved `collect`, into an empty `Vec`
 // proved: b504a4ce
 fn sorted_by_key<K, F>(
     self,
@@ -8,5 +8,5 @@ where
     K: Ord,
     F: FnMut(&Self::Item) -> K,
 {
-    sorted::sorted_items_by_key(self.collect(), f)
+    sorted::sorted_items_by_key(gathered(self), f)
 }

@@ -1,4 +1,4 @@
-// changed: no allocator is passed
+// changed: the fold of the proved `collect`, into an empty `Vec`
 // proved: 8696b307
 fn sorted_unstable_by<F>(
     self,
@@ -7,5 +7,5 @@ fn sorted_unstable_by<F>(
 where
     F: FnMut(&Self::Item, &Self::Item) -> Ordering,
 {
-    sorted_unstable::items_in_order_by(self.collect(), f)
+    sorted_unstable::items_in_order_by(gathered(self), f)
 }

@@ -1,4 +1,4 @@
-// changed: no allocator is passed
+// changed: the fold of the proved `collect`, into an empty `Vec`
 // proved: d14b82d8
 fn sorted_unstable_by_key<K, F>(
     self,
@@ -8,5 +8,5 @@ where
     K: Ord,
     F: FnMut(&Self::Item) -> K,
 {
-    sorted_unstable::items_in_order_by_key(self.collect(), f)
+    sorted_unstable::items_in_order_by_key(gathered(self), f)
 }

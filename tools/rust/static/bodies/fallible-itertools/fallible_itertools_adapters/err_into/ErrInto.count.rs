@@ -1,9 +1,5 @@
-// new: by the source's own, as the original's
+// new: by the source's own
 // in: FallibleIterator for ErrInto
 fn count(self) -> Result<usize, E> {
-    failed(
-        self.it.count(),
-        &mut (),
-        &IntoFail::<E> { made: PhantomData },
-    )
+    failed(self.it.count(), &mut (), &IntoFail::<E> { made: PhantomData })
 }

@@ -1,4 +1,4 @@
-// new: by the source's own, as the original's
+// new: by the source's own
 // in: FallibleIterator for InspectErr
 fn last(self) -> Result<Option<Self::Item>, Self::Error> {
     let mut f = self.f;

@@ -1,0 +1,4 @@
+//! What comes along of `fallible_core`.
+
+pub mod failing;
+pub mod passing;

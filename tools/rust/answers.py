@@ -1,0 +1,83 @@
+"""The program `release/scripts` as Rust: it drives each adapter by every script of at most four answers, and compares each call's
+answers, draws and leftovers with a rule over whole lists."""
+import re
+
+from rules import ANY, apply
+from source import Text, read
+import tests
+
+SCRIPTS = "release/scripts"
+ERASED = [
+    # Nothing is made by an allocator, nor is one refused.
+    (r".*", r"\b(?:given|run)\.alloc(?:, )?", "", ANY),
+    (r".*", r"\.into_vec\(\)", ".into()", ANY),
+    (r".*", r",\s*\)", ")", ANY),
+    (r".*", r"(println!\([^;]*?\))\?;", r"\1;", ANY),
+    (r".*", r"^(    println!\([^;]*?\))\n\}", r"\1;\n    Ok(())\n}", ANY),
+    (r"(?!main).*", r"\A((?://!.*\n)+\n?)", r"\1use crate::AllocError;\n", ANY),
+    (r"main\.rs", r"^mod script;\n", r"""\g<0>
+/// What no allocation returns.
+#[derive(Debug, Clone, Copy, PartialEq, Eq)]
+pub enum AllocError {}
+
+impl From<AllocError> for io::Error {
+    fn from(refused: AllocError) -> io::Error {
+        match refused {}
+    }
+}
+""", 1),
+]
+# What the original has not, and what is driven over it: what is of `fallible_itertools`.
+PUBLISHED = [
+    (r".*", r"\.draw\(\)", ".next()", ANY),
+    (r".*", r"\.draw_back\(\)", ".next_back()", ANY),
+    (r".*", r"\.peek_copied\(\)", ".peek().map(|item| item.copied())", 2),
+    (r".*", r"\.map_while\(\|x: u32\|", ".scan((), |_: &mut (), x: u32|", 1),
+    (r".*", r", Fault\b|\bFault, ", "", ANY),
+    (r"peeking\.rs", r"^ *let _ = nest\.next_if\(.*\);\n", "", 1),
+    (r"peeking\.rs", r", fold_if\}", "}", 1),
+    (r"peeking\.rs", r"^    fold_if\($(?:.*\n)*?(?=\}$)", "    let _ = (ahead, &mut calls, accepts, folds);\n    Ok(0)\n", 1),
+    (r"main\.rs", r"^    drive_(?:one_to_one|cutting|joining|nests|from_back|rows|consumers)\(&mut total\)\?;\n", "", 7),
+    (r"main\.rs", r"^    drive::<(?:Over<)?filtering::(?!Places)\w+>*\(total\)(?:\?;|$)\n", "", 4),
+    (r"main\.rs", r"^(    drive::<filtering::PlacesByCalls>\(total\))\?;$", r"\1", 1),
+]
+MANIFEST = """[package]
+name = "answers"
+version = "0.0.0"
+edition = "2021"
+
+[dependencies]
+fallible-iterator = "*"
+fallible-itertools = { path = "%s", features = ["std"] }
+
+[patch.crates-io]
+fallible-iterator = { path = "%s" }
+
+[workspace]
+"""
+
+
+def program(top, below, above, published):
+    """The program's files by path, over the crate of the folder `below` and our second of `above`. `published` says whether
+    the first is the original."""
+    files = {}
+    for path in sorted((top / SCRIPTS / "src").glob("*.rt.txt")):
+        text = read(path, "%s/src/%s" % (SCRIPTS, path.name))
+        text.cut_all(r"^ *///.*\n *pub alloc: Global,\n")
+        tests.as_rust(text)
+        files[path.name.replace(".rt.txt", ".rs")] = text
+    apply("answers", files, ERASED + PUBLISHED * published)
+    return {"Cargo.toml": MANIFEST % (above, below), **{"src/" + name: text.s for name, text in files.items()}}
+
+
+def wanted(top, published):
+    """What the program prints: all of what the proved one prints, or of that what it drives over the original."""
+    lines = (top / SCRIPTS / "stdout").read_text(encoding="utf-8").splitlines()
+    if not published:
+        return lines
+    first = next(k for k, line in enumerate(lines) if line.startswith("copied of map"))
+    last = next(k for k, line in enumerate(lines) if line.startswith("rev over"))
+    kept = [line for line in lines if line.startswith("positions")] + lines[first:last] + [
+        line for line in lines if line.startswith(("comparisons", "searches"))]
+    cases = sum(int(re.search(r"(\d+) cases", line).group(1)) for line in kept)
+    return kept + ["in all: %d cases, 0 mismatches" % cases]

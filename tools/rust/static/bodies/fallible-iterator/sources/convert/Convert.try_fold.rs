@@ -1,0 +1,13 @@
+// new: by the std iterator's own
+// in: FallibleIterator for Convert
+#[inline(always)]
+fn try_fold<Value, Failed, Step>(&mut self, init: Value, mut f: Step) -> Result<Value, Failed>
+where
+    Failed: From<E>,
+    Step: FnMut(Value, T) -> Result<Value, Failed>,
+{
+    self.it.try_fold(init, |value, element| match element {
+        Ok(item) => f(value, item),
+        Err(e) => Err(Failed::from(e)),
+    })
+}

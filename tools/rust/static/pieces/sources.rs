@@ -1,0 +1,14 @@
+/// Sources that the original has from 0.3 on.
+pub trait IteratorExt: Iterator + Sized {
+    /// Each element is an item.
+    fn into_fallible(self) -> Convert<Map<Self, fn(Self::Item) -> Result<Self::Item, Infallible>>> {
+        convert(self.map(Ok))
+    }
+}
+
+impl<I: Iterator> IteratorExt for I {}
+
+/// Yields clones of an item, without an end.
+pub fn repeat<T: Clone, E: Clone>(item: T) -> Convert<Repeat<Result<T, E>>> {
+    convert(std::iter::repeat(Ok(item)))
+}
