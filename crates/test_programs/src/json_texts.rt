@@ -21,7 +21,7 @@ fn expect_of<R: ReadBytes>(
     let mut output = Vec::new(alloc);
     let mut errors = Vec::new(alloc);
     let outcome = run(alloc, reader, &mut output);
-    assert_eq!(rt; ended(outcome, &mut errors), Ok(status));
+    assert_eq!(rt; ended(outcome, None, &mut errors), Ok(status));
     assert_eq!(rt; output.as_slice(), json);
     assert_eq!(rt; errors.as_slice(), told);
 }

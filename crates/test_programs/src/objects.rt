@@ -521,11 +521,11 @@ fn names_together(rt: HostRuntime) {
 
 fn expect_line(rt: &impl Abort, alloc: Global, fault: RunFault<ElfFault>, line: &[u8], status: u8) {
     let mut written = Vec::new(alloc);
-    assert_eq!(rt; fault_line(&fault, &mut written), Ok(status));
+    assert_eq!(rt; fault_line(&fault, None, &mut written), Ok(status));
     assert_eq!(rt; written.as_slice(), line);
     for room in 0..line.len() {
         let mut writer = BrokenWriter { room };
-        assert_eq!(rt; fault_line(&fault, &mut writer), Err(status));
+        assert_eq!(rt; fault_line(&fault, None, &mut writer), Err(status));
     }
 }
 

@@ -24,7 +24,7 @@ fn expect_of<R: ReadByte>(
     let mut errors = Vec::new(alloc);
     let mut rows = Rows::new(Messages::new(alloc, reader));
     let outcome = print_rows(alloc, &mut rows, &mut output);
-    assert_eq!(rt; ended(outcome, &mut errors), Ok(status));
+    assert_eq!(rt; ended(outcome, None, &mut errors), Ok(status));
     assert_eq!(rt; output.as_slice(), text);
     assert_eq!(rt; errors.as_slice(), told);
 }
@@ -175,7 +175,7 @@ fn each_failed_write_is_told(rt: HostRuntime) {
         let mut errors = Vec::new(rt.alloc());
         let mut rows = Rows::new(Messages::new(rt.alloc(), bytes));
         let outcome = print_rows(rt.alloc(), &mut rows, &mut output);
-        assert_eq!(rt; ended(outcome, &mut errors), Ok(status));
+        assert_eq!(rt; ended(outcome, None, &mut errors), Ok(status));
         assert_eq!(rt; errors.as_slice(), told);
     }
 }
