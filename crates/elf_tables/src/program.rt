@@ -37,7 +37,9 @@ fn run_whole<R: ReadBytes, W: WriteText>(
             }
         }
         Err(RunFault::Read) => Err(RunFault::Read),
-        Err(RunFault::Memory | RunFault::Write) => Err(RunFault::Memory),
+        Err(RunFault::Memory) => Err(RunFault::Memory),
+        // The text is in memory, so writing it fails for want of that.
+        Err(RunFault::Write) => Err(RunFault::Memory),
     }
 }
 
