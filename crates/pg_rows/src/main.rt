@@ -1,12 +1,12 @@
 //! Reads what a PostgreSQL server sent after a query, from the file that its word names or from standard input, and prints the rows as `psql -A -t` does, each as it comes.
 //!
-//! At the first fault it says why on standard error, and ends with status 1 where the server refused a statement, 2 where a read fails, the file can't be opened, or a word is none that it takes, 3 where memory runs out, 4 where the rows cannot be printed, 5 at damage, 6 where the bytes are cut, and 7 at COPY and the extended protocol, which aren't read.
+//! At the first fault it says why on standard error, and ends with status 1 where the server refused a statement, 2 where a read fails, the file can't be opened, or a word is none that it takes, 3 where memory runs out, 4 where the rows cannot be printed, 5 at damage, 6 where the bytes are cut, and 7 at what isn't read: COPY, the extended protocol, a session's start, and what comes after the message that says the server is ready.
 #![tactic(auto)]
 
 mod program;
 
-use fallible_pg::{Messages, PgInput, Rows};
-use program::program;
+use fallible_pg::{Messages, Rows};
+use program::{WholeFault, program};
 use program_io::arguments::{Given, input_of};
 use program_io::ending::ended;
 use program_io::fault::RunFault;
@@ -39,7 +39,7 @@ fn main(rt: HostRuntime) -> ExitCode {
                 &mut errors,
             )
         }
-        Err(_) => ended::<PgInput, _>(Err(RunFault::Memory), None, &mut errors),
+        Err(_) => ended::<WholeFault, _>(Err(RunFault::Memory), None, &mut errors),
     };
     match ended {
         Ok(status) | Err(status) => ExitCode::from(status),

@@ -69,9 +69,25 @@ fn a_refusal_is_told(rt: HostRuntime) -> Result<(), Fail> {
     let alloc = rt.alloc();
     let whole =
         b"D\0\0\0\x0b\0\x01\0\0\0\x011E\0\0\0\x2cSERROR\0VERROR\0C22012\0Mdivision by zero\0\0Z\0\0\0\x05I";
-    expect(&rt, alloc, whole, 1, b"1\n", b"ERROR:  division by zero\n")?;
-    expect(&rt, alloc, b"E\0\0\0\x04", 1, b"", b":  \n")?;
-    expect(&rt, alloc, b"E\0\0\0\x08MSno", 1, b"", b":  Sno\n")
+    expect(
+        &rt,
+        alloc,
+        whole,
+        1,
+        b"1\n",
+        b"ERROR:  22012: division by zero\n",
+    )?;
+    expect(&rt, alloc, b"E\0\0\0\x04", 1, b"", b":  : \n")?;
+    expect(&rt, alloc, b"E\0\0\0\x08MSno", 1, b"", b":  : Sno\n")?;
+    let further = b"E\0\0\0\x23SERROR\0CP0001\0Mfern\0Dd1\nd2\0Hh\0\0";
+    expect(
+        &rt,
+        alloc,
+        further,
+        1,
+        b"",
+        b"ERROR:  P0001: fern\nDETAIL:  d1\nd2\nHINT:  h\n",
+    )
 }
 
 #[test]
