@@ -87,11 +87,11 @@ compare 'all closed' 2 '' ''
 
 # The words that it is given.
 usage='usage: sum_table [FILE]
-       sum_table --help
+       sum_table -h | --help
 Reads a table, records of two numbers of four bytes each, the least byte first,
 and prints the number of records and the sum of each column.
 It reads one FILE at most, and standard input where FILE is - or none is given.
-A FILE whose name begins with - is given as ./-NAME.'
+A FILE whose name begins with - is given after --, or as ./-NAME.'
 
 begin
 "$program" "$work/good" </dev/null >"$work/out" 2>"$work/err" || status=$?
@@ -103,11 +103,19 @@ compare 'standard input by -' 0 "$report" ''
 
 begin
 "$program" "$work/missing" <"$work/good" >"$work/out" 2>"$work/err" || status=$?
-compare 'a file that is not there' 2 '' "cannot open $work/missing"
+compare 'a file that is not there' 2 '' "cannot open $work/missing: no such file"
 
 begin
 "$program" / <"$work/good" >"$work/out" 2>"$work/err" || status=$?
-compare 'a folder' 2 '' 'read failed'
+compare 'a folder' 2 '' 'cannot open /: a folder'
+
+begin
+"$program" "$work/cut" <"$work/good" >"$work/out" 2>"$work/err" || status=$?
+compare 'a file with a cut record' 5 '' "$work/cut: record 2: cut short"
+
+begin
+"$program" -- "$work/good" </dev/null >"$work/out" 2>"$work/err" || status=$?
+compare 'a file after --' 0 "$report" ''
 
 begin
 "$program" --help <"$work/good" >"$work/out" 2>"$work/err" || status=$?

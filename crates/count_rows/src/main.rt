@@ -23,9 +23,10 @@ fn main(rt: HostRuntime) -> ExitCode {
             rt.alloc(),
             &mut Buffered::new(reader),
             &mut output,
+            None,
             &mut errors,
         ),
-        Err(_) => ended::<BadRow, _>(Err(RunFault::Memory), &mut errors),
+        Err(_) => ended::<BadRow, _>(Err(RunFault::Memory), None, &mut errors),
     };
     match ended {
         Ok(status) | Err(status) => ExitCode::from(status),

@@ -5,7 +5,10 @@ use Rattle.std.proofs.lemmas.Bool.{eqb-true, eq-eqb, both_ways}
 use Rattle.std.proofs.KnownBytes.{Appends-nil}
 use Rattle.std.specs.Io.KnownBytes.{Appends}
 use Rattle.program_io.specs.Reading.{ReadsAll}
-use Rattle.fallible_elf.proofs.HeaderFaults.{report_of_header_fault}
+use Rattle.fallible_elf.proofs.HeaderFaults.{named_sections_of_header_fault, report_of_header_fault}
+use Rattle.fallible_elf.specs.Faults.{first_fault}
+use Rattle.fallible_elf.specs.Headers.{header_checks}
+use Rattle.fallible_elf.specs.Reading.{HasHeader}
 use Rattle.fallible_elf.specs.Report.{named_sections, report_with, report_of, HasSections, Reports, ReadsFaulty}
 use Rattle.fallible_elf.specs.Text.{text_where}
 use Rattle.fallible_elf.specs.declared.fault.ElfFault.{ElfFault}
@@ -19,6 +22,16 @@ nothing (x ∷ xs) n b long e t = let none : n ≡ 0 = eqb-true n 0 (sym e ∙ t
 
 pub something : (text : List ℕ) (n : ℕ) (b : Bool) → length text ≡ n → b ≡ eqb n 0 → b ≡ false → text ≡ [] → ⊥
 something text n b long e f none = both_ways b f (e ∙ eq-eqb n 0 (sym long ∙ ap length none))
+
+-- ---- a header
+
+header_by : (bytes : List ℕ) (r : Result (Unit {0}) ElfFault) → first_fault (header_checks bytes) ≡ r → HasSections bytes → HasHeader bytes
+header_by bytes (Ok done) is has = is
+header_by bytes (Err f) is has = absurd (let e : ◌≡◌ {A = Result (List Section) ElfFault} (Err f) (Ok has.0) = sym (named_sections_of_header_fault bytes f is) ∙ has.1 in cc)
+
+-- a file that has sections has a header without a fault
+pub with_header : (unread unread' : Option (List ℕ)) → ReadsAll unread unread' HasSections → ReadsAll unread unread' HasHeader
+with_header unread unread' all = (all.0, all.1, all.2, header_by all.0 _ refl all.3)
 
 -- ---- a report in memory
 

@@ -6,24 +6,36 @@
 mod program;
 
 use program::program;
-use program_io::arguments::input_of;
+use program_io::arguments::{Given, input_of};
 use std::process::ExitCode;
 
 const USAGE: &str = "usage: elf_tables [FILE]
-       elf_tables --help
+       elf_tables -h | --help
 Reads an ELF file of 64 bits, whose numbers begin with their least byte,
 and prints its sections and its address ranges.
 It reads one FILE at most, and standard input where FILE is - or none is given.
-A FILE whose name begins with - is given as ./-NAME.";
+A FILE whose name begins with - is given after --, or as ./-NAME.";
 
 fn main(rt: HostRuntime) -> ExitCode {
     let mut output = rt.stdout();
     let mut errors = rt.stderr();
-    let mut input = match input_of(&rt, rt.stdin(), USAGE, &mut output, &mut errors) {
-        Ok(input) => input,
+    let Given { mut input, name } = match input_of(
+        &rt,
+        rt.stdin(),
+        USAGE,
+        &mut output,
+        &mut errors,
+    ) {
+        Ok(given) => given,
         Err(status) => return ExitCode::from(status),
     };
-    match program(rt.alloc(), &mut input, &mut output, &mut errors) {
+    match program(
+        rt.alloc(),
+        &mut input,
+        &mut output,
+        name.as_deref(),
+        &mut errors,
+    ) {
         Ok(status) | Err(status) => ExitCode::from(status),
     }
 }

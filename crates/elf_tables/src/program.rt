@@ -37,22 +37,24 @@ fn run_whole<R: ReadBytes, W: WriteText>(
             }
         }
         Err(RunFault::Read) => Err(RunFault::Read),
+        Err(RunFault::Memory) => Err(RunFault::Memory),
         // No memory: writing to a vector fails only if an allocation does.
-        Err(RunFault::Memory | RunFault::Write) => Err(RunFault::Memory),
+        Err(RunFault::Write) => Err(RunFault::Memory),
     }
 }
 
-// Runs over `input`, and tells `errors` of a fault. The status that the program ends with; an `Err` where there was a line to tell and it could not be written.
+// Runs over `input`, and tells `errors` of a fault, with the name of the input where that has one. The status that the program ends with; an `Err` where there was a line to tell and it could not be written.
 pub(crate) fn program<R: ReadBytes, W: WriteText, E: WriteText>(
     alloc: Global,
     input: &mut R,
     output: &mut W,
+    name: Option<&str>,
     errors: &mut E,
 ) -> Result<u8, u8>
-    ensures { EndsWith status_of text_of
+    ensures { EndsWith status_of text_of name.entry
         (E.written errors.old) (E.written errors.new) (E.failed errors.new)
         (ComesTo R.left (Fails R.left R.fails) input.old input.new W.failed
         (W.written output.old) (W.written output.new) output.new) result }
 {
-    ended(run_whole(alloc, input, output), errors)
+    ended(run_whole(alloc, input, output), name, errors)
 }

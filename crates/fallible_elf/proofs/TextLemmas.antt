@@ -1,5 +1,5 @@
 -- Lines that a loop writes, one after the other.
-use Rattle.std.specs.Prelude.{◌≡◌, ℕ, suc, ◌+◌, ◌<◌, ◌≤◌, List, [], ◌∷◌, ◌++◌, length, take, decimal, Option, Result, Ok, Err, OnOk}
+use Rattle.std.specs.Prelude.{◌≡◌, ℕ, suc, ◌+◌, ◌<◌, ◌≤◌, List, [], ◌∷◌, ◌++◌, length, take, decimal, Option}
 use Rattle.std.proofs.Common.{sym, ap, subst, ◌∙◌, append_assoc, append-nil, get_or, arith}
 use Rattle.std.proofs.KnownBytes.{Appends-trans}
 use Rattle.std.proofs.lemmas.List.{take_more, take_all, length-take-le}
@@ -33,8 +33,3 @@ module _ {A : Type 0} (line : ℕ → A → List ℕ) where
 -- a text more, by what it makes of the texts before it
 pub appends_more : {all : List ℕ} (old now new : Option (List ℕ)) (text more : List ℕ) → Appends old now text → all ≡ text ++ more → Appends now new more → Appends old new all
 appends_more old now new text more p is q = subst (Appends old new) (sym is) (Appends-trans old now new text more p q)
-
--- a last text, after those that were written
-pub on_ok_appends_last : {T E : Type 0} (r : Result T E) (old between new : Option (List ℕ)) (text last : List ℕ) → Appends old between text → OnOk r (Appends between new last) → OnOk r (Appends old new (text ++ last))
-on_ok_appends_last (Ok x) old between new text last p q = Appends-trans old between new text last p q
-on_ok_appends_last (Err e) old between new text last p q = tt

@@ -1,45 +1,13 @@
 //! The lines of sections, sets and ranges.
-ghost use Rattle.std.specs.Prelude.{◌≡◌, ◌<◌, length, OnOk, OnErr};
-ghost use Rattle.std.specs.Char.{digit_char};
-ghost use Rattle.std.specs.Char.Escape.{escape_ascii};
+ghost use Rattle.std.specs.Prelude.{OnOk, OnErr};
 ghost use Rattle.std.specs.Io.KnownBytes.{Appends};
 ghost use Rattle.fallible_elf.specs.Text.{shown, section_type, section_extent, section_line, set_line, range_line, sections_text, sets_text, ranges_text};
 
 use crate::names::name_or_none;
 use crate::section::Section;
 use crate::set::{Range, Set};
-use program_io::writing::WriteText;
+use program_io::writing::{WriteText, write_escaped};
 use std::io;
-
-// The digit of a number below 16.
-fn digit_of(number: u8) -> u8
-    requires { number < 16 }
-    ensures { result ≡ digit_char number }
-{
-    if number < 10 {
-        48 + number
-    } else {
-        87 + number
-    }
-}
-
-// Writes a byte of a name.
-fn write_byte<W: WriteText>(byte: u8, writer: &mut W) -> io::Result<()>
-    ensures text { OnOk result
-        (Appends (W.written writer.old) (W.written writer.new) (escape_ascii byte)) }
-    ensures failed { OnErr result (W.failed writer.new) }
-{
-    match byte {
-        b'\t' => writer.write_bytes(b"\\t"),
-        b'\r' => writer.write_bytes(b"\\r"),
-        b'\n' => writer.write_bytes(b"\\n"),
-        b'\'' => writer.write_bytes(b"\\'"),
-        b'"' => writer.write_bytes(b"\\\""),
-        b'\\' => writer.write_bytes(b"\\\\"),
-        32..=126 => writer.write_bytes(&[byte]),
-        _ => writer.write_bytes(&[b'\\', b'x', digit_of(byte / 16), digit_of(byte % 16)]),
-    }
-}
 
 // Writes a name.
 fn write_name<W: WriteText>(name: &[u8], writer: &mut W) -> io::Result<()>
@@ -48,7 +16,7 @@ fn write_name<W: WriteText>(name: &[u8], writer: &mut W) -> io::Result<()>
     ensures failed { OnErr result (W.failed writer.new) }
 {
     for byte in name {
-        write_byte(*byte, writer)?;
+        write_escaped(*byte, writer)?;
     }
     Ok(())
 }

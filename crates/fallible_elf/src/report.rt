@@ -1,7 +1,8 @@
 //! The sections and the address ranges of a file that a reader yields, as lines of text.
-ghost use Rattle.std.specs.Prelude.{◌≡◌, ◌≢◌, ◌⊎◌, ⊤, Err, Some, None, OnOk, OnErr};
+ghost use Rattle.std.specs.Prelude.{◌≡◌, ◌≢◌, ◌⊎◌, Err, Some, None, OnOk, OnErr};
 ghost use Rattle.std.specs.Io.KnownBytes.{Appends, Keeps};
 ghost use Rattle.program_io.specs.Reading.{Fails, ReadsAll};
+ghost use Rattle.fallible_elf.specs.Reading.{HasHeader};
 ghost use Rattle.fallible_elf.specs.Report.{HasTables, HasSections, Reports, ReadsFaulty, report_of, damage_text, status_of, text_of, as_run_fault};
 ghost use Rattle.fallible_elf.specs.declared.fault.ElfFault.{ElfFault};
 ghost use Rattle.std.specs.declared.io.ErrorKind.{ErrorKind};
@@ -92,10 +93,10 @@ pub fn run<R: ReadBytes, W: WriteText>(
         × Fails R.left R.fails kind reader.old reader.new)
         × Keeps (W.written writer.old) (W.written writer.new) }
 
-    // An allocation failed: as the file was read, or for its tables.
+    // An allocation failed: as the file was read, or for the tables of a file whose header has no fault.
     ensures memory { result ≡ Err RunFault.Memory
         → (Fails R.left R.fails ErrorKind.OutOfMemory reader.old reader.new
-        ⊎ ReadsAll (R.left reader.old) (R.left reader.new) (λ _. ⊤))
+        ⊎ ReadsAll (R.left reader.old) (R.left reader.new) HasHeader)
         × Keeps (W.written writer.old) (W.written writer.new) }
 {
     match read_file(reader, alloc) {

@@ -21,9 +21,14 @@ field_from false letter (b ∷ bs) = field_from (b == 0) letter bs
 abbrev pub field : ℕ → List ℕ → List ℕ
 field letter fields = field_from true letter fields
 
--- what the server tells: how severe it is, and the message
+-- a further line, where the server tells a field: a newline, the field's name and the field
+abbrev pub further_line : List ℕ → List ℕ → List ℕ
+further_line name [] = []
+further_line name (b ∷ bs) = codes "\n" ++ name ++ codes ":  " ++ (b ∷ bs)
+
+-- what the server tells: how severe it is, the SQLSTATE and the message; and on a line each the detail and the hint, where there are some
 abbrev pub refusal_text : List ℕ → List ℕ
-refusal_text fields = field 83 fields ++ codes ":  " ++ field 77 fields
+refusal_text fields = field 83 fields ++ codes ":  " ++ field 67 fields ++ codes ": " ++ field 77 fields ++ further_line (codes "DETAIL") (field 68 fields) ++ further_line (codes "HINT") (field 72 fields)
 
 -- whether the tag is one of COPY
 abbrev pub is_copy : ℕ → Bool
@@ -33,14 +38,28 @@ is_copy tag = tag == 71 || tag == 72 || tag == 87 || tag == 99 || tag == 100
 abbrev pub is_extended : ℕ → Bool
 is_extended tag = tag == 49 || tag == 50 || tag == 51 || tag == 110 || tag == 115 || tag == 116
 
+-- whether the tag is one of a session's start: what the server asks for, R, the key by which a query is cancelled, K, or the version that it speaks, v
+abbrev pub is_start : ℕ → Bool
+is_start tag = tag == 82 || tag == 75 || tag == 118
+
+-- whether the tag is that of what a function's call returns, V
+abbrev pub is_call : ℕ → Bool
+is_call tag = tag == 86
+
+-- whether a message with this tag is known, and isn't read
+abbrev pub is_known : ℕ → Bool
+is_known tag = is_copy tag || is_extended tag || is_start tag || is_call tag
+
 -- the status of a tag that isn't read
 abbrev pub tag_status : ℕ → ℕ
-tag_status tag = if is_copy tag || is_extended tag then 7 else 5
+tag_status tag = if is_known tag then 7 else 5
 
 -- what is told of a tag that isn't read
 abbrev pub tag_text : ℕ → List ℕ
 tag_text tag = if is_copy tag then codes "COPY isn't read"
     else if is_extended tag then codes "the extended protocol isn't read"
+    else if is_start tag then codes "a session's start isn't read"
+    else if is_call tag then codes "a function's call isn't read"
     else codes "a message has the unknown tag " ++ decimal tag
 
 -- the status of a damage: 6 where the bytes were cut, 7 where they are of a kind that isn't read, else 5

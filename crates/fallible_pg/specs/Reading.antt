@@ -1,9 +1,9 @@
 -- What reading a message takes of a reader.
-use Rattle.std.specs.Prelude.{◌≡◌, ℕ, ◌+◌, ◌-◌, ◌^◌, ◌<◌, ◌⊎◌, Bool, List, [], length, take, Option, Some, None, Result, Ok, Err}
+use Rattle.std.specs.Prelude.{◌≡◌, ℕ, ◌+◌, ◌-◌, ◌^◌, ◌<◌, ◌⊎◌, Bool, true, false, List, [], length, take, Option, Some, None, Result, Ok, Err}
 use Rattle.program_io.specs.declared.reading.Unread.{Unread}
 use Rattle.program_io.specs.declared.reading.Unread.TheVariants as Short
 use Rattle.fallible_iterator.specs.Traces.{Answered, end}
-use Rattle.program_io.specs.Bytes.{GivesBytes, GivesEnd, FailsToRead}
+use Rattle.program_io.specs.Bytes.{GivesByte, GivesBytes, GivesEnd, FailsToRead}
 use Rattle.fallible_pg.specs.Messages.{message_bytes}
 use Rattle.fallible_pg.specs.Sizes.{first_size, IsMessage}
 use Rattle.fallible_pg.specs.declared.fault.Damage.TheVariants.{Cut, Length}
@@ -68,3 +68,11 @@ module _ {R : Type 0} (left : R → Option (List ℕ)) (stays : Bool → R → R
   abbrev pub message_step : R × Option ℕ → Answered Message PgFault → R × Option ℕ → Type 0
   message_step (r, Some place) answer p = DrawsMessage r place answer p
   message_step (r, None) answer p = (answer ≡ end) × (p ≡ (r, None))
+
+  -- ---- the end of the input
+
+  -- Whether the input is at its end was asked, by one read: it is; a byte came, which is lost; or the read failed.
+  abbrev pub AsksForEnd : {E : Type 0} → R → Result Bool E → R → Type 0
+  AsksForEnd r (Ok true) q = GivesEnd left stays r q
+  AsksForEnd r (Ok false) q = (byte : ℕ) × GivesByte left stays r byte q
+  AsksForEnd r (Err e) q = FailsToRead left stays r q

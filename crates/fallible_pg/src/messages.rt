@@ -6,13 +6,13 @@ ghost use Rattle.fallible_iterator.specs.Laws.BoundsRuns.{lawful_unbounded};
 ghost use Rattle.fallible_iterator.specs.Making.{ListsMade};
 ghost use Rattle.program_io.specs.Bytes.{NoReadFails};
 ghost use Rattle.fallible_pg.specs.Listed.{messages_of, HasBytes, IsMemory};
-ghost use Rattle.fallible_pg.specs.Reading.{messages_parts, message_step, place_of};
+ghost use Rattle.fallible_pg.specs.Reading.{AsksForEnd, messages_parts, message_step, place_of};
 
 use crate::fault::PgFault;
 use crate::message::Message;
 use crate::reading::{Broken, read_message};
 use fallible_iterator::FallibleIterator;
-use program_io::reading::ReadByte;
+use program_io::reading::{ReadByte, ReadFailed};
 use std::alloc::Global;
 
 /// The messages of a reader, as a server sends them: each is its tag, its length and its body.
@@ -53,6 +53,18 @@ impl<R: ReadByte> Messages<R> {
         ensures { result ≡ place_of (messages_parts self.now).1 }
     {
         self.place.unwrap_or(0)
+    }
+
+    // Whether the reader is at its end. It reads a byte, which is lost.
+    pub(crate) fn is_at_end(&mut self) -> Result<bool, ReadFailed>
+        ensures { AsksForEnd R.left R.stays
+            (messages_parts self.old).0 result (messages_parts self.new).0 }
+    {
+        match self.reader.read_byte() {
+            Ok(None) => Ok(true),
+            Ok(Some(_)) => Ok(false),
+            Err(failed) => Err(failed),
+        }
     }
 }
 

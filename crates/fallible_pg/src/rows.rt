@@ -5,7 +5,7 @@ ghost use Rattle.fallible_iterator.specs.Laws.Contract.{lawful_seen};
 ghost use Rattle.fallible_iterator.specs.Laws.BoundsRuns.{lawful_unbounded};
 ghost use Rattle.fallible_pg.specs.Cells.{shows_cells, cells_of};
 ghost use Rattle.fallible_pg.specs.Messages.{message_bytes};
-ghost use Rattle.fallible_pg.specs.Reading.{messages_parts, place_of};
+ghost use Rattle.fallible_pg.specs.Reading.{AsksForEnd, messages_parts, place_of};
 ghost use Rattle.fallible_pg.specs.Rows.{kind_of, is_skipped, rows_parts, rows_step};
 
 use crate::cells::{Cells, is_row};
@@ -13,7 +13,7 @@ use crate::fault::{Damage, PgFault};
 use crate::message::Message;
 use crate::messages::Messages;
 use fallible_iterator::FallibleIterator;
-use program_io::reading::ReadByte;
+use program_io::reading::{ReadByte, ReadFailed};
 
 /// A row, whose cells are undamaged.
 #[derive(Debug, Drop)]
@@ -109,6 +109,14 @@ impl<R: ReadByte> Rows<R> {
         ensures { result ≡ place_of (rows_parts self.now).0.1 }
     {
         self.messages.place()
+    }
+
+    /// Whether nothing comes after what was read: whether the reader is at its end. It reads a byte, which is lost.
+    pub fn is_at_end(&mut self) -> Result<bool, ReadFailed>
+        ensures { AsksForEnd R.left R.stays
+            (rows_parts self.old).0.0 result (rows_parts self.new).0.0 }
+    {
+        self.messages.is_at_end()
     }
 
     /// The messages that come after what was read.

@@ -6,23 +6,35 @@
 mod program;
 
 use program::program;
-use program_io::arguments::input_of;
+use program_io::arguments::{Given, input_of};
 use std::process::ExitCode;
 
 const USAGE: &str = "usage: json_tokens [FILE]
-       json_tokens --help
+       json_tokens -h | --help
 Reads a JSON text, and prints it without the blanks between its tokens.
 It reads one FILE at most, and standard input where FILE is - or none is given.
-A FILE whose name begins with - is given as ./-NAME.";
+A FILE whose name begins with - is given after --, or as ./-NAME.";
 
 fn main(rt: HostRuntime) -> ExitCode {
     let mut output = rt.stdout();
     let mut errors = rt.stderr();
-    let mut input = match input_of(&rt, rt.stdin(), USAGE, &mut output, &mut errors) {
-        Ok(input) => input,
+    let Given { mut input, name } = match input_of(
+        &rt,
+        rt.stdin(),
+        USAGE,
+        &mut output,
+        &mut errors,
+    ) {
+        Ok(given) => given,
         Err(status) => return ExitCode::from(status),
     };
-    match program(rt.alloc(), &mut input, &mut output, &mut errors) {
+    match program(
+        rt.alloc(),
+        &mut input,
+        &mut output,
+        name.as_deref(),
+        &mut errors,
+    ) {
         Ok(status) | Err(status) => ExitCode::from(status),
     }
 }

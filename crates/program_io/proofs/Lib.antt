@@ -1,2 +1,3 @@
 mod NumberLemmas
 pub mod ReadingLemmas
+pub mod WritingLemmas

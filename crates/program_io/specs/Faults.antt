@@ -1,7 +1,9 @@
 -- Why a run fails, and what is told of it.
-use Rattle.std.specs.Prelude.{◌≡◌, ◌≢◌, ℕ, List, [], ◌∷◌, ◌++◌, codes, decimal}
+use Rattle.std.specs.Prelude.{◌≡◌, ◌≢◌, ℕ, List, [], ◌∷◌, ◌++◌, Option, Some, None, codes, decimal}
+use Rattle.std.specs.Borrow.{Bor}
 use Rattle.std.specs.declared.io.ErrorKind.{ErrorKind}
 use Rattle.std.specs.declared.io.ErrorKind.TheVariants.{OutOfMemory}
+use Rattle.program_io.specs.Showing.{shown}
 use Rattle.program_io.specs.declared.fault.RunFault.{RunFault}
 use Rattle.program_io.specs.declared.fault.RunFault.TheVariants.{Input, Read, Memory, Write}
 
@@ -26,9 +28,21 @@ text_of text Read = codes "read failed"
 text_of text Memory = codes "no memory"
 text_of text Write = codes "write failed"
 
+-- what stands in front of a line for the name of an input: the name as it is shown, and a colon; nothing, where it has no name
+abbrev pub name_text : Option (Bor (List ℕ)) → List ℕ
+name_text (Some name) = shown name.now ++ codes ": "
+name_text None = []
+
+-- what stands in front of the line of a fault: the name of the input at a fault of it and at a failed read
+abbrev pub front_of : {F : Type 0} → Option (Bor (List ℕ)) → RunFault F → List ℕ
+front_of name (Input fault) = name_text name
+front_of name Read = name_text name
+front_of name Memory = []
+front_of name Write = []
+
 -- the line, with its newline
-abbrev pub line_of : {F : Type 0} → (F → List ℕ) → RunFault F → List ℕ
-line_of text fault = text_of text fault ++ 10 ∷ []
+abbrev pub line_of : {F : Type 0} → (F → List ℕ) → Option (Bor (List ℕ)) → RunFault F → List ℕ
+line_of text name fault = front_of name fault ++ text_of text fault ++ 10 ∷ []
 
 -- the text that tells what is wrong at a place of the input, without its newline
 abbrev pub placed_text : List ℕ → ℕ → List ℕ → List ℕ

@@ -5,3 +5,4 @@ pub mod Endings
 pub mod Faults
 pub mod Numbers
 pub mod Reading
+pub mod Showing

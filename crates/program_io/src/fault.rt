@@ -2,9 +2,9 @@
 ghost use Rattle.std.specs.Prelude.{◌≡◌, ◌∷◌, ◌++◌, [], ℕ, List, MatchResult, OnErr, OnOk};
 ghost use Rattle.std.specs.IoError.{error_kind};
 ghost use Rattle.std.specs.Io.KnownBytes.{Appends};
-ghost use Rattle.program_io.specs.Faults.{IsFaultOfRead, line_of, placed_text, status_of};
+ghost use Rattle.program_io.specs.Faults.{IsFaultOfRead, front_of, line_of, name_text, placed_text, status_of, text_of};
 
-use crate::writing::WriteText;
+use crate::writing::{WriteText, write_shown};
 use std::alloc::AllocError;
 use std::io;
 use std::io::ErrorKind;
@@ -89,10 +89,22 @@ impl<F: InputFault> RunFault<F> {
         }
     }
 
-    // Writes the line that tells of it.
-    fn write_whole_line<W: WriteText>(&self, errors: &mut W) -> io::Result<()>
+    // Writes what stands in front of the line that tells of it: the name of the input, where it has one, at a fault of it and at a failed read.
+    fn write_front<W: WriteText>(&self, name: Option<&str>, errors: &mut W) -> io::Result<()>
+        ensures front { OnOk result (Appends (W.written errors.old) (W.written errors.new)
+            (front_of name.entry self.now)) }
+        ensures failed { OnErr result (W.failed errors.new) }
+    {
+        match self {
+            RunFault::Input(_) | RunFault::Read => write_name(name, errors),
+            RunFault::Memory | RunFault::Write => Ok(()),
+        }
+    }
+
+    // Writes the line that tells of it, with no name.
+    fn write_rest<W: WriteText>(&self, errors: &mut W) -> io::Result<()>
         ensures line { OnOk result (Appends (W.written errors.old) (W.written errors.new)
-            (line_of F.text self.now)) }
+            (text_of F.text self.now ++ 10 ∷ [])) }
         ensures failed { OnErr result (W.failed errors.new) }
     {
         match self {
@@ -102,23 +114,47 @@ impl<F: InputFault> RunFault<F> {
             RunFault::Write => errors.write_text("write failed\n"),
         }
     }
+
+    // Writes the line that tells of it.
+    fn write_whole_line<W: WriteText>(&self, name: Option<&str>, errors: &mut W) -> io::Result<()>
+        ensures line { OnOk result (Appends (W.written errors.old) (W.written errors.new)
+            (line_of F.text name.entry self.now)) }
+        ensures failed { OnErr result (W.failed errors.new) }
+    {
+        self.write_front(name, errors)?;
+        self.write_rest(errors)
+    }
 }
 
-/// Writes the one line that tells of `fault` to `errors`, and returns the status that a program ends with after it: that of the input's fault, 2 for `Read`, 3 for `Memory`, 4 for `Write`.
+// Writes the name of an input that has one, and a colon.
+fn write_name<W: WriteText>(name: Option<&str>, errors: &mut W) -> io::Result<()>
+    ensures name { OnOk result
+        (Appends (W.written errors.old) (W.written errors.new) (name_text name.entry)) }
+    ensures failed { OnErr result (W.failed errors.new) }
+{
+    let Some(name) = name else {
+        return Ok(());
+    };
+    write_shown(name, errors)?;
+    errors.write_bytes(b": ")
+}
+
+/// Writes the one line that tells of `fault` to `errors`, and returns the status that a program ends with after it: that of the input's fault, 2 for `Read`, 3 for `Memory`, 4 for `Write`. The name of the input, where it has one, stands in front at `Input` and `Read`.
 ///
 /// `Ok` of the status where that line and nothing else was written, and `Err` of the same status where it could not be, and part of it may have been. It allocates nothing.
 pub fn fault_line<F: InputFault, W: WriteText>(
     fault: &RunFault<F>,
+    name: Option<&str>,
     errors: &mut W,
 ) -> Result<u8, u8>
     ensures status { MatchResult result (λ status. status ≡ status_of F.status fault.now)
         (λ status. status ≡ status_of F.status fault.now) }
     ensures line { OnOk result
-        (Appends (W.written errors.old) (W.written errors.new) (line_of F.text fault.now)) }
+        (Appends (W.written errors.old) (W.written errors.new) (line_of F.text name.entry fault.now)) }
     ensures failed { OnErr result (W.failed errors.new) }
 {
     let status = fault.exit_status();
-    match fault.write_whole_line(errors) {
+    match fault.write_whole_line(name, errors) {
         Ok(()) => Ok(status),
         Err(_) => Err(status),
     }

@@ -9,30 +9,37 @@ mod program;
 
 use fault::GroupsFault;
 use program::program;
-use program_io::arguments::input_of;
+use program_io::arguments::{Given, input_of};
 use program_io::ending::ended;
 use program_io::fault::RunFault;
 use std::io::BufReader;
 use std::process::ExitCode;
 
 const USAGE: &str = "usage: sum_groups [FILE]
-       sum_groups --help
+       sum_groups -h | --help
 Reads rows `key,amount`, sorted by key, and prints a line for each group of rows
 with one key, and then for each three rows: the key, the number of rows, and the
 sum of their amounts.
 It reads one FILE at most, and standard input where FILE is - or none is given.
-A FILE whose name begins with - is given as ./-NAME.";
+A FILE whose name begins with - is given after --, or as ./-NAME.";
 
 fn main(rt: HostRuntime) -> ExitCode {
     let mut output = rt.stdout();
     let mut errors = rt.stderr();
-    let input = match input_of(&rt, rt.stdin(), USAGE, &mut output, &mut errors) {
-        Ok(input) => input,
+    let Given { input, name } = match input_of(&rt, rt.stdin(), USAGE, &mut output, &mut errors) {
+        Ok(given) => given,
         Err(status) => return ExitCode::from(status),
     };
     let ended = match BufReader::new(rt.alloc(), input) {
-        Ok(mut rows) => program(rt.alloc(), &rt.alloc(), &mut rows, &mut output, &mut errors),
-        Err(_) => ended::<GroupsFault, _>(Err(RunFault::Memory), &mut errors),
+        Ok(mut rows) => program(
+            rt.alloc(),
+            &rt.alloc(),
+            &mut rows,
+            &mut output,
+            name.as_deref(),
+            &mut errors,
+        ),
+        Err(_) => ended::<GroupsFault, _>(Err(RunFault::Memory), None, &mut errors),
     };
     match ended {
         Ok(status) | Err(status) => ExitCode::from(status),

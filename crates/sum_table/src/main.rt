@@ -6,24 +6,30 @@
 mod program;
 
 use program::program;
-use program_io::arguments::input_of;
+use program_io::arguments::{Given, input_of};
 use std::process::ExitCode;
 
 const USAGE: &str = "usage: sum_table [FILE]
-       sum_table --help
+       sum_table -h | --help
 Reads a table, records of two numbers of four bytes each, the least byte first,
 and prints the number of records and the sum of each column.
 It reads one FILE at most, and standard input where FILE is - or none is given.
-A FILE whose name begins with - is given as ./-NAME.";
+A FILE whose name begins with - is given after --, or as ./-NAME.";
 
 fn main(rt: HostRuntime) -> ExitCode {
     let mut output = rt.stdout();
     let mut errors = rt.stderr();
-    let mut input = match input_of(&rt, rt.stdin(), USAGE, &mut output, &mut errors) {
-        Ok(input) => input,
+    let Given { mut input, name } = match input_of(
+        &rt,
+        rt.stdin(),
+        USAGE,
+        &mut output,
+        &mut errors,
+    ) {
+        Ok(given) => given,
         Err(status) => return ExitCode::from(status),
     };
-    match program(&mut input, &mut output, &mut errors) {
+    match program(&mut input, &mut output, name.as_deref(), &mut errors) {
         Ok(status) | Err(status) => ExitCode::from(status),
     }
 }
