@@ -100,64 +100,61 @@ const UNEXPECTED: [Row; 46] = [
     ),
     (b"\x0b1", b"line 1, column 1: unexpected byte 11\n"),
     (b"1\0", b"line 1, column 2: unexpected byte 0\n"),
-    (b"'a'", b"line 1, column 1: unexpected byte 39\n"),
-    (b"[1] // a", b"line 1, column 5: unexpected byte 47\n"),
-    (b"[NaN]", b"line 1, column 2: unexpected byte 78\n"),
-    (b"True", b"line 1, column 1: unexpected byte 84\n"),
-    (b"+1", b"line 1, column 1: unexpected byte 43\n"),
-    (b".5", b"line 1, column 1: unexpected byte 46\n"),
+    (b"'a'", b"line 1, column 1: unexpected '''\n"),
+    (b"[1] // a", b"line 1, column 5: unexpected '/'\n"),
+    (b"[NaN]", b"line 1, column 2: unexpected 'N'\n"),
+    (b"True", b"line 1, column 1: unexpected 'T'\n"),
+    (b"+1", b"line 1, column 1: unexpected '+'\n"),
+    (b".5", b"line 1, column 1: unexpected '.'\n"),
     // Numbers.
-    (b"01", b"line 1, column 2: unexpected byte 49\n"),
-    (b"-01", b"line 1, column 3: unexpected byte 49\n"),
-    (b"0x1", b"line 1, column 2: unexpected byte 120\n"),
-    (b"1e5.0", b"line 1, column 4: unexpected byte 46\n"),
-    (b"--1", b"line 1, column 2: unexpected byte 45\n"),
-    (b"[1.]", b"line 1, column 4: unexpected byte 93\n"),
-    (b"1.e2", b"line 1, column 3: unexpected byte 101\n"),
-    (b"[1e]", b"line 1, column 4: unexpected byte 93\n"),
-    (b"1e+-2", b"line 1, column 4: unexpected byte 45\n"),
+    (b"01", b"line 1, column 2: unexpected '1'\n"),
+    (b"-01", b"line 1, column 3: unexpected '1'\n"),
+    (b"0x1", b"line 1, column 2: unexpected 'x'\n"),
+    (b"1e5.0", b"line 1, column 4: unexpected '.'\n"),
+    (b"--1", b"line 1, column 2: unexpected '-'\n"),
+    (b"[1.]", b"line 1, column 4: unexpected ']'\n"),
+    (b"1.e2", b"line 1, column 3: unexpected 'e'\n"),
+    (b"[1e]", b"line 1, column 4: unexpected ']'\n"),
+    (b"1e+-2", b"line 1, column 4: unexpected '-'\n"),
     // Literals.
-    (b"[1 tru]", b"line 1, column 7: unexpected byte 93\n"),
-    (b"nulL", b"line 1, column 4: unexpected byte 76\n"),
-    (b"falsefalse", b"line 1, column 6: unexpected byte 102\n"),
+    (b"[1 tru]", b"line 1, column 7: unexpected ']'\n"),
+    (b"nulL", b"line 1, column 4: unexpected 'L'\n"),
+    (b"falsefalse", b"line 1, column 6: unexpected 'f'\n"),
     // Strings: what is no escape, and bytes below 32.
-    (b"\"\\x\"", b"line 1, column 3: unexpected byte 120\n"),
-    (b"\"\\u12g4\"", b"line 1, column 6: unexpected byte 103\n"),
-    (b"\"\\u123\"", b"line 1, column 7: unexpected byte 34\n"),
+    (b"\"\\x\"", b"line 1, column 3: unexpected 'x'\n"),
+    (b"\"\\u12g4\"", b"line 1, column 6: unexpected 'g'\n"),
+    (b"\"\\u123\"", b"line 1, column 7: unexpected '\"'\n"),
     (b"\"a\n\"", b"line 1, column 3: unexpected byte 10\n"),
     (b"[\"\x1f\"]", b"line 1, column 3: unexpected byte 31\n"),
     (b"\"\\\t\"", b"line 1, column 3: unexpected byte 9\n"),
     // Commas.
-    (b"[1,]", b"line 1, column 4: unexpected byte 93\n"),
-    (b"{\"a\":1,}", b"line 1, column 8: unexpected byte 125\n"),
-    (b"[,1]", b"line 1, column 2: unexpected byte 44\n"),
-    (b"[1,,2]", b"line 1, column 4: unexpected byte 44\n"),
+    (b"[1,]", b"line 1, column 4: unexpected ']'\n"),
+    (b"{\"a\":1,}", b"line 1, column 8: unexpected '}'\n"),
+    (b"[,1]", b"line 1, column 2: unexpected ','\n"),
+    (b"[1,,2]", b"line 1, column 4: unexpected ','\n"),
     // A second value, in each place.
-    (b"1 2", b"line 1, column 3: unexpected byte 50\n"),
-    (b"[] []", b"line 1, column 4: unexpected byte 91\n"),
-    (b"[1 \"a\"]", b"line 1, column 4: unexpected byte 34\n"),
-    (
-        b"{\"a\":1 \"b\":2}",
-        b"line 1, column 8: unexpected byte 34\n",
-    ),
+    (b"1 2", b"line 1, column 3: unexpected '2'\n"),
+    (b"[] []", b"line 1, column 4: unexpected '['\n"),
+    (b"[1 \"a\"]", b"line 1, column 4: unexpected '\"'\n"),
+    (b"{\"a\":1 \"b\":2}", b"line 1, column 8: unexpected '\"'\n"),
     // Containers, names and colons.
-    (b"]", b"line 1, column 1: unexpected byte 93\n"),
-    (b"[1}", b"line 1, column 3: unexpected byte 125\n"),
-    (b"{\"a\":1]", b"line 1, column 7: unexpected byte 93\n"),
-    (b"{1:2}", b"line 1, column 2: unexpected byte 49\n"),
-    (b"{\"a\",1}", b"line 1, column 5: unexpected byte 44\n"),
-    (b"\"a\":1", b"line 1, column 4: unexpected byte 58\n"),
+    (b"]", b"line 1, column 1: unexpected ']'\n"),
+    (b"[1}", b"line 1, column 3: unexpected '}'\n"),
+    (b"{\"a\":1]", b"line 1, column 7: unexpected ']'\n"),
+    (b"{1:2}", b"line 1, column 2: unexpected '1'\n"),
+    (b"{\"a\",1}", b"line 1, column 5: unexpected ','\n"),
+    (b"\"a\":1", b"line 1, column 4: unexpected ':'\n"),
     // A later line, a carriage return, and characters of more bytes than one.
-    (b"[1,\n 2 3]", b"line 2, column 4: unexpected byte 51\n"),
-    (b"1\r\n\n\r2", b"line 3, column 2: unexpected byte 50\n"),
+    (b"[1,\n 2 3]", b"line 2, column 4: unexpected '3'\n"),
+    (b"1\r\n\n\r2", b"line 3, column 2: unexpected '2'\n"),
     (
         b"[\"\xc3\xbc\xe6\x97\xa5\xf0\x9f\xa6\x80\" 1]",
-        b"line 1, column 8: unexpected byte 49\n",
+        b"line 1, column 8: unexpected '1'\n",
     ),
 ];
 
 // Where something is missing at the end, or what is no UTF-8.
-const CUT: [Row; 30] = [
+const CUT: [Row; 31] = [
     (b"", b"line 1, column 1: unexpected end\n"),
     (b" \t\n ", b"line 2, column 2: unexpected end\n"),
     (b"-", b"line 1, column 2: unexpected end\n"),
@@ -185,7 +182,7 @@ const CUT: [Row; 30] = [
     (b"{\"a\":", b"line 1, column 6: unexpected end\n"),
     (b"{\"a\":1 ", b"line 1, column 8: unexpected end\n"),
     (b"{\"a\":1,", b"line 1, column 8: unexpected end\n"),
-    // A byte that stands in no text, a form too long, a surrogate, one above the last character, and a cut one. A fault before it is not told.
+    // A byte that stands in no text, a form too long, a surrogate, one above the last character, and a cut one.
     (b"\xff", b"line 1, column 1: not UTF-8\n"),
     (b"\"\xc0\xaf\"", b"line 1, column 2: not UTF-8\n"),
     (
@@ -194,7 +191,9 @@ const CUT: [Row; 30] = [
     ),
     (b"\"\xf4\x90\x80\x80\"", b"line 1, column 2: not UTF-8\n"),
     (b"\"a\xf0\x9f\xa6", b"line 1, column 3: not UTF-8\n"),
-    (b"] \x80", b"line 1, column 3: not UTF-8\n"),
+    (b"[\x80", b"line 1, column 2: not UTF-8\n"),
+    // The first fault is told, whatever comes after it.
+    (b"] \x80", b"line 1, column 1: unexpected ']'\n"),
 ];
 
 fn expect_told(rt: &impl Abort, alloc: Global, rows: &[Row]) {
