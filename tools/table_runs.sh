@@ -154,8 +154,10 @@ echo "table runs of sum_table: $compared runs compared"
 build sum_groups
 # Rows that end as on Windows, with a plus and with no newline at the end.
 printf '7,10\r\n7,+20\r\n+8,1' >"$work/rows"
-groups='7: 2 rows, 30
+groups='groups
+7: 2 rows, 30
 8: 1 rows, 1
+batches
 7: 3 rows, 31'
 printf '7,10\n7;20\n8\n' >"$work/no_row"
 printf '7,10\n\n8,1\n' >"$work/empty_line"
@@ -173,7 +175,8 @@ compare 'rows in pieces' 0 "$groups" ''
 
 begin
 "$program" <"$work/none" >"$work/out" 2>"$work/err" || status=$?
-compare 'no row' 0 '' ''
+compare 'no row' 0 'groups
+batches' ''
 
 begin
 "$program" <"$work/no_row" >"$work/out" 2>"$work/err" || status=$?

@@ -1,5 +1,5 @@
 -- What is wrong with a text that is no JSON, and what is told of it.
-use Rattle.std.specs.Prelude.{ℕ, nat_lt, if◌then◌else◌, List, length, slice_index, ◌++◌, codes, decimal}
+use Rattle.std.specs.Prelude.{ℕ, nat_le, nat_lt, ◌&&◌, Bool, [], ◌∷◌, if◌then◌else◌, List, length, slice_index, ◌++◌, codes, decimal}
 use Rattle.fallible_json.specs.Places.{place_of}
 use Rattle.fallible_json.specs.declared.fault.JsonFault.{JsonFault}
 use Rattle.fallible_json.specs.declared.fault.JsonFault.TheVariants.{Unexpected, Ended, NotText}
@@ -12,8 +12,16 @@ fault_at text place = let p = place_of text place in if nat_lt place (length tex
 abbrev pub status_of : JsonFault → ℕ
 status_of fault = 1
 
+-- whether a byte is a character of ASCII that is printed
+abbrev pub is_printed : ℕ → Bool
+is_printed byte = nat_le 32 byte && nat_lt byte 127
+
+-- a byte as it is told: itself between quotes, if it is printed, or else its number
+abbrev pub byte_text : ℕ → List ℕ
+byte_text byte = if is_printed byte then 39 ∷ byte ∷ 39 ∷ [] else codes "byte " ++ decimal byte
+
 -- the text of the line that tells a fault, without its newline
 abbrev pub text_of : JsonFault → List ℕ
-text_of (Unexpected line column byte) = codes "line " ++ decimal line ++ codes ", column " ++ decimal column ++ codes ": unexpected byte " ++ decimal byte
+text_of (Unexpected line column byte) = codes "line " ++ decimal line ++ codes ", column " ++ decimal column ++ codes ": unexpected " ++ byte_text byte
 text_of (Ended line column) = codes "line " ++ decimal line ++ codes ", column " ++ decimal column ++ codes ": unexpected end"
 text_of (NotText line column) = codes "line " ++ decimal line ++ codes ", column " ++ decimal column ++ codes ": not UTF-8"

@@ -1,5 +1,5 @@
 -- A JSON text without blanks, of its bytes.
-use Rattle.std.specs.Prelude.{◌≡◌, ℕ, ◌+◌, nat_lt, if◌then◌else◌, ⊤, List, length, Result, Ok, Err}
+use Rattle.std.specs.Prelude.{◌≡◌, ◌⊎◌, ℕ, ◌+◌, nat_lt, if◌then◌else◌, ⊤, List, length, take, Result, Ok, Err}
 use Rattle.std.specs.Str.{IsUtf8, IsValidUpTo}
 use Rattle.std.specs.declared.alloc.Global.{Global}
 use Rattle.std.specs.declared.convert.Infallible.{Infallible}
@@ -12,7 +12,7 @@ use Rattle.fallible_json.specs.Lexing.{lexed}
 use Rattle.fallible_json.specs.Minifying.{minified}
 use Rattle.fallible_json.specs.Places.{place_of}
 use Rattle.fallible_json.specs.declared.fault.JsonFault.{JsonFault}
-use Rattle.fallible_json.specs.declared.fault.JsonFault.TheVariants.{NotText}
+use Rattle.fallible_json.specs.declared.fault.JsonFault.TheVariants.{Unexpected, Ended, NotText}
 use Rattle.fallible_json.specs.declared.lexer.LexFault.{LexFault}
 use Rattle.fallible_json.specs.declared.lexer.LexFault.TheVariants as lexer
 use Rattle.fallible_json.specs.declared.minifying.Misplaced.{Misplaced}
@@ -39,10 +39,24 @@ minified_text text = told text (minified text (lexed (numbered 0 (items text))))
 abbrev pub IsJson : List ℕ → List ℕ → Type 0
 IsJson bytes json = IsUtf8 bytes × (minified_text bytes ≡ Ok json)
 
--- The bytes are UTF-8, and this is the first fault for which they are no JSON text; or they are no UTF-8, and this tells where the longest front ends that is.
+-- the fault at a byte that is no UTF-8
+abbrev pub not_text_at : ℕ × ℕ → JsonFault
+not_text_at (line, column) = NotText line column
+
+-- a fault of a byte of a text, or otherwise another fault: the text without blanks, and a fault of its end, say nothing of the bytes after it
+abbrev pub unexpected_or : JsonFault → Result (List ℕ) JsonFault → JsonFault
+unexpected_or other (Err (Unexpected line column byte)) = Unexpected line column byte
+unexpected_or other (Err (Ended line column)) = other
+unexpected_or other (Err (NotText line column)) = other
+unexpected_or other (Ok json) = other
+
+-- the first fault of bytes that are UTF-8 up to a place, and no further: that of a byte before it, or otherwise that place
+abbrev pub fault_before : List ℕ → ℕ → JsonFault
+fault_before bytes place = unexpected_or (not_text_at (place_of bytes place)) (minified_text (take place bytes))
+
+-- The bytes are UTF-8, and this is the first fault for which they are no JSON text; or they are no UTF-8, and this is their first fault.
 abbrev pub HasFault : List ℕ → JsonFault → Type 0
-HasFault bytes (NotText line column) = ¬ (IsUtf8 bytes) × ((place : ℕ) × IsValidUpTo bytes place × ((line, column) ≡ place_of bytes place))
-HasFault bytes fault = IsUtf8 bytes × (minified_text bytes ≡ Err fault)
+HasFault bytes fault = (IsUtf8 bytes × (minified_text bytes ≡ Err fault)) ⊎ (¬ (IsUtf8 bytes) × ((place : ℕ) × IsValidUpTo bytes place × (fault ≡ fault_before bytes place)))
 
 -- The text without blanks was made, or the bytes have this fault; want of memory says nothing.
 abbrev pub MakesJson : List ℕ → Result (Vec ℕ Global) (Fault JsonFault) → Type 0

@@ -1,7 +1,7 @@
 //! What is wrong with a text that is no JSON, and how that is told.
 ghost use Rattle.std.specs.Prelude.{◌≡◌, ◌++◌, OnErr, OnOk, codes, decimal};
 ghost use Rattle.std.specs.Io.KnownBytes.{Appends};
-ghost use Rattle.fallible_json.specs.Faults.{fault_at, status_of, text_of};
+ghost use Rattle.fallible_json.specs.Faults.{byte_text, fault_at, status_of, text_of};
 
 use crate::place::place_of;
 use program_io::fault::InputFault;
@@ -31,6 +31,19 @@ pub(crate) fn fault_at(text: &[u8], place: usize) -> JsonFault
     }
 }
 
+// Writes a byte: itself between quotes, if it is a character of ASCII that is printed, or else its number.
+fn write_byte<W: WriteText>(byte: u8, errors: &mut W) -> io::Result<()>
+    ensures text { OnOk result
+        (Appends (W.written errors.old) (W.written errors.new) (byte_text byte)) }
+    ensures failed { OnErr result (W.failed errors.new) }
+{
+    if 32 <= byte && byte < 127 {
+        errors.write_bytes(&[b'\'', byte, b'\''])
+    } else {
+        errors.write_text(format_args!("byte {byte}"))
+    }
+}
+
 // Writes that a byte may not stand at a place.
 fn write_unexpected<W: WriteText>(
     line: usize,
@@ -40,10 +53,11 @@ fn write_unexpected<W: WriteText>(
 ) -> io::Result<()>
     ensures text { OnOk result (Appends (W.written errors.old) (W.written errors.new)
         (codes "line " ++ decimal line ++ codes ", column " ++ decimal column
-        ++ codes ": unexpected byte " ++ decimal byte)) }
+        ++ codes ": unexpected " ++ byte_text byte)) }
     ensures failed { OnErr result (W.failed errors.new) }
 {
-    errors.write_text(format_args!("line {line}, column {column}: unexpected byte {byte}"))
+    write_after_place(line, column, ": unexpected ", errors)?;
+    write_byte(byte, errors)
 }
 
 // Writes a place, and a text after it.

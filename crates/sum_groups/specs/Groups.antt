@@ -1,6 +1,5 @@
 -- What lines of rows say, and what is printed of rows.
-use Rattle.std.specs.Prelude.{◌≡◌, ℕ, ◌+◌, ◌%◌, ◌^◌, Bool, ◌==◌, nat_eq, nat_lt, if◌then◌else◌, List, [], ◌∷◌, ◌++◌, length, map, Option, Some, None, Result, Ok, Err, codes, decimal}
-use Rattle.std.specs.Option.{ok_or}
+use Rattle.std.specs.Prelude.{◌≡◌, ℕ, ◌+◌, ◌%◌, ◌^◌, Bool, ◌==◌, nat_eq, nat_le, nat_lt, if◌then◌else◌, List, [], ◌∷◌, ◌++◌, length, map, filter, take, Option, Some, None, Result, Ok, Err, codes, decimal}
 use Rattle.std.specs.List.{before_first, after_first, position_or_len}
 use Rattle.std.specs.Str.Lines.{lines}
 use Rattle.fallible_iterator.specs.Lists.{collected, items, mapped, on_value, scanned}
@@ -13,8 +12,11 @@ use Rattle.std.specs.declared.convert.Infallible.{Infallible}
 use Rattle.sum_groups.specs.declared.groups.Row.{Row}
 use Rattle.program_io.specs.declared.fault.RunFault.{RunFault}
 use Rattle.program_io.specs.declared.fault.RunFault.TheVariants.{Input, Read, Memory, Write}
+use Rattle.sum_groups.specs.declared.fault.BadRow.{BadRow}
 use Rattle.sum_groups.specs.declared.fault.GroupsFault.{GroupsFault}
-use Rattle.sum_groups.specs.declared.fault.GroupsFault.TheVariants.{NotText, NoRow}
+use Rattle.sum_groups.specs.declared.fault.GroupsFault.TheVariants as Is
+use Rattle.sum_groups.specs.declared.fault.Wrong.{Wrong}
+use Rattle.sum_groups.specs.declared.fault.Wrong.TheVariants.{NoRow, Unsorted}
 
 -- ---- rows
 
@@ -34,17 +36,46 @@ row_of text = if nat_lt (position_or_len is_comma text) (length text)
     then row_with (number_of (before_first is_comma text)) (number_of (after_first is_comma text))
     else None
 
--- the row, or the place of a line that is none
-abbrev pub row_at : ℕ → Option Row → Result Row ℕ
-row_at place found = ok_or found place
+-- a line that is wrong, at a place
+abbrev pub bad_at : ℕ → Wrong → Result (Option Row) BadRow
+bad_at place wrong = Err (record { place = place; wrong = wrong })
 
--- the rows that were found, and for each line that is none its place; places count from 1 on
-abbrev pub rows_in : List (Result (Option Row) ℕ) → List (Result Row ℕ)
-rows_in found = scanned (λ before row. let place = (before + 1) % 2 ^ 64 in (on_value (row_at place row) (λ r. Ok (Some r)), place)) 0 found
+-- what a line is after so many lines, the last row of which has a key: the row that was found, or what is wrong with it
+abbrev pub row_after : ℕ × ℕ → Option Row → Result (Option Row) BadRow
+row_after (lines, key) None = bad_at ((lines + 1) % 2 ^ 64) NoRow
+row_after (lines, key) (Some row) = if nat_lt row.key key then bad_at ((lines + 1) % 2 ^ 64) Unsorted else Ok (Some row)
 
--- the rows that the lines of a text are, or the place of the first line that is none
-abbrev pub rows_of : List ℕ → Result (List Row) ℕ
+-- how many lines there are with this one, and the key of the last row
+abbrev pub reached : ℕ × ℕ → Option Row → ℕ × ℕ
+reached (lines, key) None = ((lines + 1) % 2 ^ 64, key)
+reached (lines, key) (Some row) = ((lines + 1) % 2 ^ 64, row.key)
+
+-- the rows that were found, in order, and for each line that is none, or whose key is below that of the row before, what is wrong; places count from 1 on
+abbrev pub rows_in : List (Result (Option Row) BadRow) → List (Result Row BadRow)
+rows_in found = scanned (λ before row. (row_after before row, reached before row)) (0, 0) found
+
+-- the rows that the lines of a text are, or the first line that is wrong
+abbrev pub rows_of : List ℕ → Result (List Row) BadRow
 rows_of text = collected (rows_in (items (map row_of (lines text))))
+
+-- ---- bytes that are no text
+
+-- whether a byte ends a line
+abbrev pub is_newline : ℕ → Bool
+is_newline b = b == 10
+
+-- how many lines end within bytes
+abbrev pub ended_lines : List ℕ → ℕ
+ended_lines bytes = length (filter is_newline bytes)
+
+-- the first fault of bytes that are no UTF-8 at a place, by how many lines end before it and what these come to: a line that is wrong and ends before the place, or otherwise that place
+abbrev pub first_fault : ℕ → ℕ → Result (List Row) BadRow → GroupsFault
+first_fault place ended (Ok rows) = Is.NotText place
+first_fault place ended (Err bad) = if nat_le bad.place ended then Is.Row bad else Is.NotText place
+
+-- the first fault of bytes that are no UTF-8 at a place
+abbrev pub fault_before : List ℕ → ℕ → GroupsFault
+fault_before bytes place = first_fault place (ended_lines (take place bytes)) (rows_of (take place bytes))
 
 -- ---- lines
 
@@ -89,14 +120,14 @@ batch_line rows = line_of (first_key rows) rows
 abbrev pub batches_text : List Row → List ℕ
 batches_text rows = text_of batch_line (chunked {E = AllocError} 3 (items rows))
 
--- the groups, and then the batches
+-- the groups, and then the batches, each under a heading
 abbrev pub report_of : List Row → List ℕ
-report_of rows = groups_text rows ++ batches_text rows
+report_of rows = codes "groups\n" ++ groups_text rows ++ codes "batches\n" ++ batches_text rows
 
--- What a fault says of a text whose report could not be made: that the line at this place is the first that is no row, or that its lines are rows, and the memory for them or their report was refused.
+-- What a fault says of a text whose report could not be made: that this line is the first that is wrong, or that its lines are rows, and the memory for them or their report was refused.
 abbrev pub IsFaultOf : (List ℕ → Type 0) → List ℕ → RunFault GroupsFault → Type 0
-IsFaultOf refused text (Input (NotText place)) = ⊥
-IsFaultOf refused text (Input (NoRow place)) = rows_of text ≡ Err place
+IsFaultOf refused text (Input (Is.NotText place)) = ⊥
+IsFaultOf refused text (Input (Is.Row bad)) = rows_of text ≡ Err bad
 IsFaultOf refused text Read = ⊥
 IsFaultOf refused text Memory = ((rows : List Row) × (rows_of text ≡ Ok rows)) × refused text
 IsFaultOf refused text Write = ⊥

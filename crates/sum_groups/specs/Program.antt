@@ -8,11 +8,11 @@ use Rattle.std.specs.declared.io.ErrorKind.{ErrorKind}
 use Rattle.std.specs.declared.io.ErrorKind.TheVariants.{OutOfMemory}
 use Rattle.std.specs.declared.vec.Vec.{Vec}
 use Rattle.program_io.specs.Reading.{IsFirstLine, ReadsAll}
-use Rattle.sum_groups.specs.Groups.{IsFaultOf, report_of, rows_of}
+use Rattle.sum_groups.specs.Groups.{IsFaultOf, fault_before, report_of, rows_of}
 use Rattle.program_io.specs.declared.fault.RunFault.{RunFault}
 use Rattle.program_io.specs.declared.fault.RunFault.TheVariants.{Input, Read, Memory, Write}
 use Rattle.sum_groups.specs.declared.fault.GroupsFault.{GroupsFault}
-use Rattle.sum_groups.specs.declared.fault.GroupsFault.TheVariants.{NotText, NoRow}
+use Rattle.sum_groups.specs.declared.fault.GroupsFault.TheVariants as Is
 use Rattle.sum_groups.specs.declared.groups.Row.{Row}
 
 -- The bytes are UTF-8, and these are the rows that their lines are.
@@ -23,22 +23,22 @@ AreRowsOf bytes rows = IsUtf8 bytes × (rows_of bytes ≡ Ok rows)
 abbrev pub AreRows : List ℕ → Type 0
 AreRows bytes = (rows : List Row) × AreRowsOf bytes rows
 
--- The bytes are UTF-8, and the line at this place is the first that is no row.
-abbrev pub HasNoRowAt : List ℕ → ℕ → Type 0
-HasNoRowAt bytes place = IsUtf8 bytes × (rows_of bytes ≡ Err place)
+-- What a fault says of bytes that are UTF-8: this line is the first that is wrong.
+abbrev pub IsBadRow : List ℕ → GroupsFault → Type 0
+IsBadRow bytes (Is.NotText place) = ⊥
+IsBadRow bytes (Is.Row bad) = rows_of bytes ≡ Err bad
 
--- The bytes are no UTF-8, and those before this place are the longest front that is.
-abbrev pub IsNoTextAt : List ℕ → ℕ → Type 0
-IsNoTextAt bytes place = ¬ (IsUtf8 bytes) × IsValidUpTo bytes place
+-- The bytes are no UTF-8 from a place on, and this is their first fault: the first line that is wrong, if it ends before that place, or otherwise that place.
+abbrev pub IsNoText : List ℕ → GroupsFault → Type 0
+IsNoText bytes fault = ¬ (IsUtf8 bytes) × ((place : ℕ) × IsValidUpTo bytes place × (fault ≡ fault_before bytes place))
 
--- What a fault says of bytes whose lines are no rows: where they are no UTF-8, or that the line at this place is the first that is no row.
+-- What a fault says of bytes: they are UTF-8, and this line is the first that is wrong; or they are no UTF-8, and this is their first fault.
 abbrev pub IsNoRows : List ℕ → GroupsFault → Type 0
-IsNoRows bytes (NotText place) = IsNoTextAt bytes place
-IsNoRows bytes (NoRow place) = HasNoRowAt bytes place
+IsNoRows bytes fault = (IsUtf8 bytes × IsBadRow bytes fault) ⊎ IsNoText bytes fault
 
--- What a fault says of bytes whose report could not be made: where they are no UTF-8, or what it says of the text that they are.
+-- What a fault says of bytes whose report could not be made: the first fault that they have, or what it says of the text that they are.
 abbrev pub HasFault : (List ℕ → Type 0) → List ℕ → RunFault GroupsFault → Type 0
-HasFault refused bytes (Input (NotText place)) = IsNoTextAt bytes place
+HasFault refused bytes (Input fault) = IsNoRows bytes fault
 HasFault refused bytes fault = IsUtf8 bytes × IsFaultOf refused bytes fault
 
 -- These bytes are the report of the rows that the bytes are.
@@ -65,8 +65,7 @@ module _ {R : Type 0} (left : R → Option (List ℕ)) (fails : ErrorKind → R 
   -- What the input comes to, once it is read: its bytes, of which the first line is a row; the fault of that line, and nothing after it was read; or a read failed, for want of memory or else.
   abbrev pub ReadsRows : Result (Vec ℕ Global) (RunFault GroupsFault) → Type 0
   ReadsRows (Ok bytes) = BeginsWithRow × ReadsAllWhere (λ read. read ≡ bytes.items)
-  ReadsRows (Err (Input (NotText place))) = ReadsLineWhere (λ line. IsNoTextAt line place)
-  ReadsRows (Err (Input (NoRow place))) = ReadsLineWhere (λ line. HasNoRowAt line place)
+  ReadsRows (Err (Input fault)) = ReadsLineWhere (λ line. IsNoRows line fault)
   ReadsRows (Err Read) = (kind : ErrorKind) × (kind ≢ OutOfMemory) × FailsToRead kind
   ReadsRows (Err Memory) = FailsToRead OutOfMemory
   ReadsRows (Err Write) = ⊥
@@ -76,11 +75,10 @@ module _ {R : Type 0} (left : R → Option (List ℕ)) (fails : ErrorKind → R 
   IsFaulty Holds = ReadsLineWhere Holds ⊎ (BeginsWithRow × ReadsAllWhere Holds)
 
   module _ {W : Type 0} (refused : List ℕ → Type 0) (failed : W → Type 0) (written written' : Option (List ℕ)) (output' : W) where
-    -- What an outcome says of the input, and of what was written: that its lines are rows, and their report was written and nothing else; that it is no UTF-8 at this place; that the line at this place is the first that is no row; that reading failed, for want of memory or else; that its lines are rows, and there was no memory for them or their report; or that its lines are rows, and writing failed.
+    -- What an outcome says of the input, and of what was written: that its lines are rows, and their report was written and nothing else; that it has this fault first; that reading failed, for want of memory or else; that its lines are rows, and there was no memory for them or their report; or that its lines are rows, and writing failed.
     abbrev pub ComesTo : {T : Type 0} → Result T (RunFault GroupsFault) → Type 0
     ComesTo (Ok done) = ReadsAllWhere (λ bytes. (rows : List Row) × AreRowsOf bytes rows × Appends written written' (report_of rows))
-    ComesTo (Err (Input (NotText place))) = IsFaulty (λ bytes. IsNoTextAt bytes place) × Keeps written written'
-    ComesTo (Err (Input (NoRow place))) = IsFaulty (λ bytes. HasNoRowAt bytes place) × Keeps written written'
+    ComesTo (Err (Input fault)) = IsFaulty (λ bytes. IsNoRows bytes fault) × Keeps written written'
     ComesTo (Err Read) = ((kind : ErrorKind) × (kind ≢ OutOfMemory) × FailsToRead kind) × Keeps written written'
     ComesTo (Err Memory) = (FailsToRead OutOfMemory ⊎ ReadsAllWhere (λ bytes. AreRows bytes × refused bytes)) × Keeps written written'
     ComesTo (Err Write) = ReadsAllWhere (λ bytes. (rows : List Row) × AreRowsOf bytes rows) × failed output'

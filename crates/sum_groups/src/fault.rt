@@ -1,17 +1,47 @@
 // What is wrong with rows, and how that is told.
-ghost use Rattle.sum_groups.specs.Faults.{status_of, text_of};
+ghost use Rattle.std.specs.Prelude.{◌≡◌};
+ghost use Rattle.sum_groups.specs.Faults.{status_of, text_of, wrong_text};
 
 use program_io::fault::{InputFault, write_placed};
 use program_io::writing::WriteText;
 use std::io;
 
+// What is wrong with a line.
+#[derive(Clone, Copy, Debug)]
+pub(crate) enum Wrong {
+    // It is no key and amount.
+    NoRow,
+    // Its key is below that of the row before.
+    Unsorted,
+}
+
+impl Wrong {
+    // What is told of it.
+    fn text(self) -> &'static str
+        ensures { result.now ≡ wrong_text self }
+    {
+        match self {
+            Wrong::NoRow => "not a key and an amount",
+            Wrong::Unsorted => "the key is below the one before",
+        }
+    }
+}
+
+// A line that is wrong.
+#[derive(Clone, Copy, Debug)]
+pub(crate) struct BadRow {
+    // its place, from 1
+    pub place: u64,
+    pub wrong: Wrong,
+}
+
 // Why the input is no rows.
-#[derive(Clone, Copy, Debug, Drop)]
+#[derive(Clone, Copy, Debug)]
 pub(crate) enum GroupsFault {
     // it is no UTF-8 at the byte of this place, from 0
     NotText(usize),
-    // the row at this place, from 1, is no key and amount
-    NoRow(u64),
+    // a line is no row, or out of order
+    Row(BadRow),
 }
 
 impl InputFault for GroupsFault {
@@ -29,9 +59,7 @@ impl InputFault for GroupsFault {
             GroupsFault::NotText(place) => {
                 write_placed("byte", *place as u64, "not UTF-8", errors)
             }
-            GroupsFault::NoRow(place) => {
-                write_placed("row", *place, "not a key and an amount", errors)
-            }
+            GroupsFault::Row(bad) => write_placed("row", bad.place, bad.wrong.text(), errors),
         }
     }
 }

@@ -1,16 +1,17 @@
-// The rows of lines, and their groups and batches, each printed as a line.
+// The rows of lines, in order, and their groups and batches, each printed as a line.
 ghost use Rattle.std.specs.Prelude.{◌≡◌, ◌++◌, ◌+◌, ◌%◌, ◌^◌, ℕ, List, Option, Result, Some, Ok, Err, IfOk, MatchOption, MatchResult, OnErr, OnOk, map, vec_items, ⊤};
 ghost use Rattle.std.specs.Io.KnownBytes.{Appends};
 ghost use Rattle.std.specs.Str.Lines.{lines};
 ghost use Rattle.fallible_iterator.specs.Lists.{Lists, collected, items, last_of, on_value};
-ghost use Rattle.sum_groups.specs.Groups.{IsFaultOf, batches_text, first_key, groups_text, line_of, report_of, row_at, row_of, rows_in, rows_of, sum_of};
+ghost use Rattle.sum_groups.specs.Groups.{IsFaultOf, batches_text, ended_lines, first_fault, first_key, groups_text, line_of, reached, report_of, row_after, row_of, rows_in, rows_of, sum_of};
 ghost use Rattle.std.specs.declared.vec.Vec.{Vec};
 ghost use Rattle.std.specs.declared.alloc.Global.{Global};
 ghost use Rattle.fallible_iterator.specs.declared.Fault.TheVariants.{Source};
 ghost use Rattle.program_io.specs.declared.fault.RunFault.TheVariants.{Memory};
+ghost use Rattle.sum_groups.specs.declared.fault.BadRow.{BadRow};
 ghost use Rattle.sum_groups.specs.declared.groups.Row.{Row};
 
-use crate::fault::GroupsFault;
+use crate::fault::{BadRow, GroupsFault, Wrong};
 use fallible_iterator::{FallibleIterator, Fault, convert, convert_fused};
 use fallible_itertools::FallibleItertools;
 use program_io::fault::RunFault;
@@ -41,48 +42,63 @@ fn row_of(line: &str) -> Option<Row>
     }
 }
 
-// Counts a line, and returns the row that it is; or its place, if none was found there.
-fn row_at(place: &mut u64, found: Option<Row>) -> Result<Option<Row>, u64>
-    ensures place { place.new ≡ (place.old + 1) % 2 ^ 64 }
-    ensures row { result ≡ on_value (row_at place.new found) (λ row. Ok (Some row)) }
+// Counts a line, keeps the key of the row that it is, and returns the row; or what is wrong, if none was found there, or its key is below that of the row before.
+fn row_at(before: &mut (u64, u64), found: Option<Row>) -> Result<Option<Row>, BadRow>
+    ensures reached { before.new ≡ reached before.old found }
+    ensures row { result ≡ row_after before.old found }
 {
-    *place = place.wrapping_add(1);
-    Ok(Some(found.ok_or(*place)?))
+    let (lines, key) = *before;
+    let place = lines.wrapping_add(1);
+    let Some(row) = found else {
+        *before = (place, key);
+        return Err(BadRow {
+            place,
+            wrong: Wrong::NoRow,
+        });
+    };
+    *before = (place, row.key);
+    if row.key < key {
+        return Err(BadRow {
+            place,
+            wrong: Wrong::Unsorted,
+        });
+    }
+    Ok(Some(row))
 }
 
-// The rows that were found, or the place of the first line that is none.
-fn rows_found<I: FallibleIterator<Item = Option<Row>, Error = u64>>(
+// The rows that were found, or the first line that is wrong.
+fn rows_found<I: FallibleIterator<Item = Option<Row>, Error = BadRow>>(
     alloc: Global,
     found: I,
-) -> Result<Vec<Row>, Fault<u64>>
+) -> Result<Vec<Row>, Fault<BadRow>>
 where
     requires can_next { I.contract.can_next found }
     requires finite { I.contract.is_finite found }
-    ensures ok { (l : List (Result (Option Row) ℕ)) → Lists I.contract.steps found l
+    ensures ok { (l : List (Result (Option Row) BadRow)) → Lists I.contract.steps found l
         → (rows : Vec Row Global) → result ≡ Ok rows → collected (rows_in l) ≡ Ok rows.items }
-    ensures fault { (l : List (Result (Option Row) ℕ)) → Lists I.contract.steps found l
-        → (place : ℕ) → result ≡ Err (Source place) → collected (rows_in l) ≡ Err place }
+    ensures fault { (l : List (Result (Option Row) BadRow)) → Lists I.contract.steps found l
+        → (bad : BadRow) → result ≡ Err (Source bad) → collected (rows_in l) ≡ Err bad }
 {
-    found.scan(0, row_at).collect(alloc)
+    found.scan((0, 0), row_at).collect(alloc)
 }
 
-// The last of the rows that were found, or the place of the first line that is none.
-fn last_found<I: FallibleIterator<Item = Option<Row>, Error = u64>>(
+// The last of the rows that were found, or the first line that is wrong.
+fn last_found<I: FallibleIterator<Item = Option<Row>, Error = BadRow>>(
     found: I,
-) -> Result<Option<Row>, u64>
+) -> Result<Option<Row>, BadRow>
 where
     requires can_next { I.contract.can_next found }
     requires finite { I.contract.is_finite found }
-    ensures { (l : List (Result (Option Row) ℕ)) → Lists I.contract.steps found l
+    ensures { (l : List (Result (Option Row) BadRow)) → Lists I.contract.steps found l
         → result ≡ last_of (rows_in l) }
 {
-    found.scan(0, row_at).last()
+    found.scan((0, 0), row_at).last()
 }
 
-// The rows that the lines of a text are, or the place of the first that is none.
-fn rows_of(alloc: Global, text: &str) -> Result<Vec<Row>, Fault<u64>>
+// The rows that the lines of a text are, or the first line that is wrong.
+fn rows_of(alloc: Global, text: &str) -> Result<Vec<Row>, Fault<BadRow>>
     ensures ok { (rows : Vec Row Global) → result ≡ Ok rows → rows_of text.now ≡ Ok rows.items }
-    ensures fault { (place : ℕ) → result ≡ Err (Source place) → rows_of text.now ≡ Err place }
+    ensures fault { (bad : BadRow) → result ≡ Err (Source bad) → rows_of text.now ≡ Err bad }
 {
     rows_found(
         alloc,
@@ -90,21 +106,44 @@ fn rows_of(alloc: Global, text: &str) -> Result<Vec<Row>, Fault<u64>>
     )
 }
 
-// The last of the rows that the lines of a text are, or the place of the first that is none. It allocates nothing.
-fn last_row(text: &str) -> Result<Option<Row>, u64>
+// The last of the rows that the lines of a text are, or the first line that is wrong. It allocates nothing.
+fn last_row(text: &str) -> Result<Option<Row>, BadRow>
     ensures { result ≡ last_of (rows_in (items (map row_of (lines text.now)))) }
 {
     last_found(convert_fused(text.lines().map(|line: &str| Ok(row_of(line)))))
 }
 
-// The place of the first line of a text that is no row, if there is one. It allocates nothing.
-pub(crate) fn no_row_at(text: &str) -> Option<u64>
+// The first line of a text that is wrong, if there is one. It allocates nothing.
+pub(crate) fn bad_row_of(text: &str) -> Option<BadRow>
     ensures { MatchOption result ((rows : List Row) × (rows_of text.now ≡ Ok rows))
-        (λ place. rows_of text.now ≡ Err place) }
+        (λ bad. rows_of text.now ≡ Err bad) }
 {
     match last_row(text) {
         Ok(_) => None,
-        Err(place) => Some(place),
+        Err(bad) => Some(bad),
+    }
+}
+
+// How many lines end within bytes.
+fn ended_lines(bytes: &[u8]) -> u64
+    ensures { result ≡ ended_lines bytes.now }
+{
+    let mut count: u64 = 0;
+    for byte in bytes {
+        if *byte == b'\n' {
+            count += 1;
+        }
+    }
+    count
+}
+
+// The first fault of bytes that are no UTF-8, by the front that is: a line that is wrong and ends before the place where the front does, or that place. It allocates nothing.
+pub(crate) fn fault_before(front: &str, place: usize) -> GroupsFault
+    ensures { result ≡ first_fault place (ended_lines front.now) (rows_of front.now) }
+{
+    match bad_row_of(front) {
+        Some(bad) if bad.place <= ended_lines(front.as_bytes()) => GroupsFault::Row(bad),
+        _ => GroupsFault::NotText(place),
     }
 }
 
@@ -190,20 +229,22 @@ fn first_key(rows: &[Row]) -> u64
     }
 }
 
-// The groups and then the batches of rows.
+// The groups and then the batches of rows, each under a heading.
 fn print_both(alloc: Global, rows: &[Row]) -> Result<Vec<u8>, RunFault<GroupsFault>>
     ensures { IfOk result (λ printed. vec_items printed ≡ report_of rows.now) }
 {
-    let groups = print_groups(alloc, Vec::new(alloc), rows)?;
+    let heading = Vec::from_slice(alloc, b"groups\n")?;
+    let mut groups = print_groups(alloc, heading, rows)?;
+    groups.extend_from_slice(b"batches\n")?;
     print_batches(alloc, groups, rows)
 }
 
-// Why a text has no report, where memory was refused: the first line that is no row, or otherwise that.
+// Why a text has no report, where memory was refused: the first line that is wrong, or otherwise that.
 fn fault_of(text: &str) -> RunFault<GroupsFault>
     ensures { IsFaultOf (λ _. ⊤) text.now result }
 {
-    match no_row_at(text) {
-        Some(place) => RunFault::Input(GroupsFault::NoRow(place)),
+    match bad_row_of(text) {
+        Some(bad) => RunFault::Input(GroupsFault::Row(bad)),
         // No memory: it is asked only where an allocation failed.
         None => RunFault::Memory,
     }
@@ -214,7 +255,7 @@ pub(crate) trait MakeReport {
     // It was refused the memory for the rows of a text, or for their report.
     ghost refused: { Self → List ℕ → Type 0 };
 
-    // The report of the rows that the lines of a text are, or the fault of the first line that is none.
+    // The report of the rows that the lines of a text are, or the first line that is wrong.
     fn report_of(&self, text: &str) -> Result<Vec<u8>, RunFault<GroupsFault>>
         ensures { MatchResult result (λ report. (rows : List Row) × (rows_of text.now ≡ Ok rows)
             × (vec_items report ≡ report_of rows)) (IsFaultOf (refused self.now) text.now) };
@@ -227,7 +268,7 @@ impl MakeReport for Global {
     fn report_of(&self, text: &str) -> Result<Vec<u8>, RunFault<GroupsFault>> {
         let rows = match rows_of(*self, text) {
             Ok(rows) => rows,
-            Err(Fault::Source(place)) => return Err(RunFault::Input(GroupsFault::NoRow(place))),
+            Err(Fault::Source(bad)) => return Err(RunFault::Input(GroupsFault::Row(bad))),
             Err(Fault::Memory(_)) => return Err(fault_of(text)),
         };
         match print_both(*self, rows.as_slice()) {

@@ -1,6 +1,6 @@
-//! Reads rows `key,amount`, which are sorted by key, from the file that its word names or from standard input. It prints one line a group of rows with one key: the key, how many rows it has, and the sum of their amounts, or `too large` where that doesn't fit. Then come the same rows in batches of three, each with the key of its first row.
+//! Reads rows `key,amount`, which are sorted by key, from the file that its word names or from standard input. It prints one line a group of rows with one key: the key, how many rows it has, and the sum of their amounts, or `too large` where that doesn't fit. Then come the same rows in batches of three, each with the key of its first row. Both have a heading.
 //!
-//! Where that cannot be told, it says why on standard error, and prints nothing. It ends with status 1 at a row that is none, of which it tells the place, and at a byte that is no UTF-8; with 2 where a read fails, the file can't be opened, or a word is none that it takes, 3 where memory runs out, and 4 where the report can't be printed. It reads the rest only if the first line is a row.
+//! Where that cannot be told, it says why on standard error, and prints nothing. It ends with status 1 at the first fault: a line that is no row or whose key is below the one before, of which it tells the place, or a byte that is no UTF-8; with 2 where a read fails, the file can't be opened, or a word is none that it takes, 3 where memory runs out, and 4 where the report can't be printed. It reads the rest only if the first line is a row.
 #![tactic(auto)]
 
 mod fault;

@@ -1,18 +1,32 @@
 // The program, over any input and any two outputs.
-ghost use Rattle.std.specs.Prelude.{MatchOption, MatchResult, vec_items};
+ghost use Rattle.std.specs.Prelude.{◌≡◌, MatchOption, MatchResult, vec_items};
+ghost use Rattle.std.specs.Str.{IsValidUpTo};
 ghost use Rattle.program_io.specs.Endings.{EndsWith};
 ghost use Rattle.program_io.specs.Reading.{Fails};
 ghost use Rattle.sum_groups.specs.Faults.{status_of, text_of};
+ghost use Rattle.sum_groups.specs.Groups.{fault_before};
 ghost use Rattle.sum_groups.specs.Program.{AreRows, ComesTo, HasFault, IsNoRows, IsReportOf, ReadsRows};
 
 use crate::fault::GroupsFault;
-use crate::groups::{MakeReport, no_row_at};
+use crate::groups::{MakeReport, bad_row_of, fault_before};
 use program_io::ending::ended;
 use program_io::fault::{RunFault, fault_of_read};
 use program_io::reading::ReadLine;
 use program_io::writing::WriteText;
 use std::alloc::Global;
 use std::str::from_utf8;
+
+// The first fault of bytes that are UTF-8 up to a place, and no further. It allocates nothing.
+fn fault_of_front(bytes: &[u8], place: usize) -> GroupsFault
+    requires { IsValidUpTo bytes.now place }
+    ensures { result ≡ fault_before bytes.now place }
+{
+    match from_utf8(&bytes[..place]) {
+        Ok(front) => fault_before(front, place),
+        // Not reached: the front is UTF-8.
+        Err(_) => GroupsFault::NotText(place),
+    }
+}
 
 // The report of the rows that bytes are, or their fault.
 fn report_of_bytes<M: MakeReport>(maker: &M, bytes: &[u8]) -> Result<Vec<u8>, RunFault<GroupsFault>>
@@ -21,7 +35,7 @@ fn report_of_bytes<M: MakeReport>(maker: &M, bytes: &[u8]) -> Result<Vec<u8>, Ru
 {
     match from_utf8(bytes) {
         Ok(text) => maker.report_of(text),
-        Err(e) => Err(RunFault::Input(GroupsFault::NotText(e.valid_up_to()))),
+        Err(e) => Err(RunFault::Input(fault_of_front(bytes, e.valid_up_to()))),
     }
 }
 
@@ -30,11 +44,11 @@ fn fault_of_bytes(bytes: &[u8]) -> Option<GroupsFault>
     ensures { MatchOption result (AreRows bytes.now) (IsNoRows bytes.now) }
 {
     match from_utf8(bytes) {
-        Ok(text) => match no_row_at(text) {
-            Some(place) => Some(GroupsFault::NoRow(place)),
+        Ok(text) => match bad_row_of(text) {
+            Some(bad) => Some(GroupsFault::Row(bad)),
             None => None,
         },
-        Err(e) => Some(GroupsFault::NotText(e.valid_up_to())),
+        Err(e) => Some(fault_of_front(bytes, e.valid_up_to())),
     }
 }
 

@@ -143,7 +143,7 @@ pub fn told(stopped: Result<(), Stopped>, errors: &mut impl Write) -> u8 {
     let (status, line) = match stopped {
         Ok(()) => return 0,
         Err(Stopped::Run(fault)) => {
-            return match ended(Err(fault), errors) {
+            return match ended(Err(fault), None, errors) {
                 Ok(status) | Err(status) => status,
             };
         }
@@ -258,9 +258,9 @@ mod tests {
                 format!("the server asks for SASL, as SCRAM-SHA-256 (request 10), {only}\n"),
             ),
             (
-                b"E\0\0\0\x10SFATAL\0Mno\0\0".to_vec(),
+                b"E\0\0\0\x17SFATAL\0C28000\0Mno\0\0".to_vec(),
                 1,
-                "FATAL:  no\n".into(),
+                "FATAL:  28000: no\n".into(),
             ),
             (
                 b"D\0\0\0\x04".to_vec(),

@@ -4,36 +4,13 @@ use fallible_iterator::memory::AllocError;
 use crate::fallible_elf::names::name_or_none;
 use crate::fallible_elf::section::Section;
 use crate::fallible_elf::set::{Range, Set};
-use crate::program_io::writing::WriteText;
+use crate::program_io::writing::{WriteText, write_escaped};
 use std::io;
-
-// The digit of a number below 16.
-fn digit_of(number: u8) -> u8 {
-    if number < 10 {
-        48 + number
-    } else {
-        87 + number
-    }
-}
-
-// Writes a byte of a name.
-fn write_byte<W: WriteText>(byte: u8, writer: &mut W) -> io::Result<()> {
-    match byte {
-        b'\t' => writer.write_bytes(b"\\t"),
-        b'\r' => writer.write_bytes(b"\\r"),
-        b'\n' => writer.write_bytes(b"\\n"),
-        b'\'' => writer.write_bytes(b"\\'"),
-        b'"' => writer.write_bytes(b"\\\""),
-        b'\\' => writer.write_bytes(b"\\\\"),
-        32..=126 => writer.write_bytes(&[byte]),
-        _ => writer.write_bytes(&[b'\\', b'x', digit_of(byte / 16), digit_of(byte % 16)]),
-    }
-}
 
 // Writes a name.
 fn write_name<W: WriteText>(name: &[u8], writer: &mut W) -> io::Result<()> {
     for byte in name {
-        write_byte(*byte, writer)?;
+        write_escaped(*byte, writer)?;
     }
     Ok(())
 }

@@ -51,7 +51,7 @@ pub fn run<R: ReadBytes, W: WriteText>(
 ) -> Result<(), RunFault<ElfFault>>
 // Reading failed, and of which kind.
 
-    // An allocation failed: as the file was read, or for its tables.
+    // An allocation failed: as the file was read, or for the tables of a file whose header has no fault.
 {
     match read_file(reader) {
         Ok(Ok(file)) => report(file.as_slice(), writer),

@@ -4,7 +4,7 @@ use fallible_iterator::memory::AllocError;
 use crate::fallible_pg::fault::PgFault;
 use crate::fallible_pg::message::Message;
 use crate::fallible_pg::reading::{Broken, read_message};
-use crate::program_io::reading::ReadByte;
+use crate::program_io::reading::{ReadByte, ReadFailed};
 use fallible_iterator::FallibleIterator;
 
 /// The messages of a reader, as a server sends them: each is its tag, its length and its body.
@@ -33,6 +33,15 @@ impl<R: ReadByte> Messages<R> {
     // How many bytes were read; 0 once no message can be found.
     pub(crate) fn place(&self) -> u64 {
         self.place.unwrap_or(0)
+    }
+
+    // Whether the reader is at its end. It reads a byte, which is lost.
+    pub(crate) fn is_at_end(&mut self) -> Result<bool, ReadFailed> {
+        match self.reader.read_byte() {
+            Ok(None) => Ok(true),
+            Ok(Some(_)) => Ok(false),
+            Err(failed) => Err(failed),
+        }
     }
 }
 

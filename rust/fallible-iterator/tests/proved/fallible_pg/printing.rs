@@ -49,12 +49,27 @@ fn is_extended(tag: u8) -> bool {
     tag == b'1' || tag == b'2' || tag == b'3' || tag == b'n' || tag == b's' || tag == b't'
 }
 
+// Whether the tag is one of a session's start: what the server asks for, the key by which a query is cancelled, or the version that it speaks.
+fn is_start(tag: u8) -> bool {
+    tag == b'R' || tag == b'K' || tag == b'v'
+}
+
+// Whether the tag is that of what a function's call returns.
+fn is_call(tag: u8) -> bool {
+    tag == b'V'
+}
+
+// Whether a message with this tag is known, and isn't read.
+fn is_known(tag: u8) -> bool {
+    is_copy(tag) || is_extended(tag) || is_start(tag) || is_call(tag)
+}
+
 // The status of a damage.
 fn damage_status(damage: Damage) -> u8 {
     match damage {
         Damage::Cut => 6,
         Damage::Tag(tag) => {
-            if is_copy(tag) || is_extended(tag) {
+            if is_known(tag) {
                 7
             } else {
                 5
@@ -64,11 +79,29 @@ fn damage_status(damage: Damage) -> u8 {
     }
 }
 
-// Writes what the server tells.
-fn write_refusal<W: WriteText>(fields: &[u8], errors: &mut W) -> io::Result<()> {
+// Writes a further line of a refusal, under a name, where the server tells it.
+fn write_further<W: WriteText>(name: &str, field: &[u8], errors: &mut W) -> io::Result<()> {
+    if field.is_empty() {
+        return Ok(());
+    }
+    errors.write_text(format_args!("\n{name}:  "))?;
+    errors.write_bytes(field)
+}
+
+// Writes how severe a refusal is, and its SQLSTATE.
+fn write_severity<W: WriteText>(fields: &[u8], errors: &mut W) -> io::Result<()> {
     errors.write_bytes(field(b'S', fields))?;
     errors.write_text(":  ")?;
-    errors.write_bytes(field(b'M', fields))
+    errors.write_bytes(field(b'C', fields))
+}
+
+// Writes what the server tells.
+fn write_refusal<W: WriteText>(fields: &[u8], errors: &mut W) -> io::Result<()> {
+    write_severity(fields, errors)?;
+    errors.write_text(": ")?;
+    errors.write_bytes(field(b'M', fields))?;
+    write_further("DETAIL", field(b'D', fields), errors)?;
+    write_further("HINT", field(b'H', fields), errors)
 }
 
 // Writes what is told of a tag.
@@ -78,6 +111,12 @@ fn write_tag<W: WriteText>(tag: u8, errors: &mut W) -> io::Result<()> {
     }
     if is_extended(tag) {
         return errors.write_text("the extended protocol isn't read");
+    }
+    if is_start(tag) {
+        return errors.write_text("a session's start isn't read");
+    }
+    if is_call(tag) {
+        return errors.write_text("a function's call isn't read");
     }
     errors.write_text(format_args!("a message has the unknown tag {tag}"))
 }

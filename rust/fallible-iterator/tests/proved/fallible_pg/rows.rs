@@ -5,7 +5,7 @@ use crate::fallible_pg::cells::{Cells, is_row};
 use crate::fallible_pg::fault::{Damage, PgFault};
 use crate::fallible_pg::message::Message;
 use crate::fallible_pg::messages::Messages;
-use crate::program_io::reading::ReadByte;
+use crate::program_io::reading::{ReadByte, ReadFailed};
 use fallible_iterator::FallibleIterator;
 
 /// A row, whose cells are undamaged.
@@ -88,6 +88,11 @@ impl<R: ReadByte> Rows<R> {
     /// How many bytes of messages were read; 0 once no message can be found.
     pub fn place(&self) -> u64 {
         self.messages.place()
+    }
+
+    /// Whether nothing comes after what was read: whether the reader is at its end. It reads a byte, which is lost.
+    pub fn is_at_end(&mut self) -> Result<bool, ReadFailed> {
+        self.messages.is_at_end()
     }
 
     /// The messages that come after what was read.

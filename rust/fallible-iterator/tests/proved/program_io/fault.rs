@@ -1,7 +1,7 @@
 use crate::Fail;
 use fallible_iterator::memory::AllocError;
 
-use crate::program_io::writing::WriteText;
+use crate::program_io::writing::{WriteText, write_shown};
 use std::io;
 use std::io::ErrorKind;
 
@@ -56,8 +56,16 @@ impl<F: InputFault> RunFault<F> {
         }
     }
 
-    // Writes the line that tells of it.
-    fn write_whole_line<W: WriteText>(&self, errors: &mut W) -> io::Result<()> {
+    // Writes what stands in front of the line that tells of it: the name of the input, where it has one, at a fault of it and at a failed read.
+    fn write_front<W: WriteText>(&self, name: Option<&str>, errors: &mut W) -> io::Result<()> {
+        match self {
+            RunFault::Input(_) | RunFault::Read => write_name(name, errors),
+            RunFault::Memory | RunFault::Write => Ok(()),
+        }
+    }
+
+    // Writes the line that tells of it, with no name.
+    fn write_rest<W: WriteText>(&self, errors: &mut W) -> io::Result<()> {
         match self {
             RunFault::Input(fault) => fault.write_line(errors),
             RunFault::Read => errors.write_text("read failed\n"),
@@ -65,17 +73,33 @@ impl<F: InputFault> RunFault<F> {
             RunFault::Write => errors.write_text("write failed\n"),
         }
     }
+
+    // Writes the line that tells of it.
+    fn write_whole_line<W: WriteText>(&self, name: Option<&str>, errors: &mut W) -> io::Result<()> {
+        self.write_front(name, errors)?;
+        self.write_rest(errors)
+    }
 }
 
-/// Writes the one line that tells of `fault` to `errors`, and returns the status that a program ends with after it: that of the input's fault, 2 for `Read`, 3 for `Memory`, 4 for `Write`.
+// Writes the name of an input that has one, and a colon.
+fn write_name<W: WriteText>(name: Option<&str>, errors: &mut W) -> io::Result<()> {
+    let Some(name) = name else {
+        return Ok(());
+    };
+    write_shown(name, errors)?;
+    errors.write_bytes(b": ")
+}
+
+/// Writes the one line that tells of `fault` to `errors`, and returns the status that a program ends with after it: that of the input's fault, 2 for `Read`, 3 for `Memory`, 4 for `Write`. The name of the input, where it has one, stands in front at `Input` and `Read`.
 ///
 /// `Ok` of the status where that line and nothing else was written, and `Err` of the same status where it could not be, and part of it may have been. It allocates nothing.
 pub fn fault_line<F: InputFault, W: WriteText>(
     fault: &RunFault<F>,
+    name: Option<&str>,
     errors: &mut W,
 ) -> Result<u8, u8> {
     let status = fault.exit_status();
-    match fault.write_whole_line(errors) {
+    match fault.write_whole_line(name, errors) {
         Ok(()) => Ok(status),
         Err(_) => Err(status),
     }

@@ -525,11 +525,11 @@ fn names_together() {
 
 fn expect_line(fault: RunFault<ElfFault>, line: &[u8], status: u8) {
     let mut written = Vec::new();
-    assert_eq!(fault_line(&fault, &mut written), Ok(status));
+    assert_eq!(fault_line(&fault, None, &mut written), Ok(status));
     assert_eq!(written.as_slice(), line);
     for room in 0..line.len() {
         let mut writer = BrokenWriter { room };
-        assert_eq!(fault_line(&fault, &mut writer), Err(status));
+        assert_eq!(fault_line(&fault, None, &mut writer), Err(status));
     }
 }
 

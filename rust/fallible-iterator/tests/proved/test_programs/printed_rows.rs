@@ -15,7 +15,7 @@ fn expect_of<R: ReadByte>(reader: R, status: u8, text: &[u8], told: &[u8]) {
     let mut errors = Vec::new();
     let mut rows = Rows::new(Messages::new(reader));
     let outcome = print_rows(&mut rows, &mut output);
-    assert_eq!(ended(outcome, &mut errors), Ok(status));
+    assert_eq!(ended(outcome, None, &mut errors), Ok(status));
     assert_eq!(output.as_slice(), text);
     assert_eq!(errors.as_slice(), told);
 }
@@ -58,9 +58,16 @@ fn a_refusal_is_told() {
     fn tested() -> Result<(), Fail> {
         let whole =
         b"D\0\0\0\x0b\0\x01\0\0\0\x011E\0\0\0\x2cSERROR\0VERROR\0C22012\0Mdivision by zero\0\0Z\0\0\0\x05I";
-        expect(whole, 1, b"1\n", b"ERROR:  division by zero\n")?;
-        expect(b"E\0\0\0\x04", 1, b"", b":  \n")?;
-        expect(b"E\0\0\0\x08MSno", 1, b"", b":  Sno\n")
+        expect(whole, 1, b"1\n", b"ERROR:  22012: division by zero\n")?;
+        expect(b"E\0\0\0\x04", 1, b"", b":  : \n")?;
+        expect(b"E\0\0\0\x08MSno", 1, b"", b":  : Sno\n")?;
+        let further = b"E\0\0\0\x23SERROR\0CP0001\0Mfern\0Dd1\nd2\0Hh\0\0";
+        expect(
+            further,
+            1,
+            b"",
+            b"ERROR:  P0001: fern\nDETAIL:  d1\nd2\nHINT:  h\n",
+        )
     }
     let _ = tested();
 }
@@ -162,7 +169,7 @@ fn each_failed_write_is_told() {
         let mut errors = Vec::new();
         let mut rows = Rows::new(Messages::new(bytes));
         let outcome = print_rows(&mut rows, &mut output);
-        assert_eq!(ended(outcome, &mut errors), Ok(status));
+        assert_eq!(ended(outcome, None, &mut errors), Ok(status));
         assert_eq!(errors.as_slice(), told);
     }
 }

@@ -69,35 +69,35 @@ const RECORDED: [Recorded; 17] = [
     (
         b"T\0\0\0!\0\x01?column?\0\0\0\0\0\0\0\0\0\0\x17\0\x04\xff\xff\xff\xff\0\0D\0\0\0\x0b\0\x01\0\0\0\x011C\0\0\0\x0dSELECT 1\0E\0\0\0ASERROR\0VERROR\0C22012\0Mdivision by zero\0Fint.c\0L869\0Rint4div\0\0Z\0\0\0\x05I",
         b"1\n",
-        b"ERROR:  division by zero\n",
+        b"ERROR:  22012: division by zero\n",
         1,
     ),
     // `select 1/(2-g) from generate_series(1,3) g`
     (
         b"T\0\0\0!\0\x01?column?\0\0\0\0\0\0\0\0\0\0\x17\0\x04\xff\xff\xff\xff\0\0D\0\0\0\x0b\0\x01\0\0\0\x011E\0\0\0ASERROR\0VERROR\0C22012\0Mdivision by zero\0Fint.c\0L869\0Rint4div\0\0Z\0\0\0\x05I",
         b"1\n",
-        b"ERROR:  division by zero\n",
+        b"ERROR:  22012: division by zero\n",
         1,
     ),
     // `insert into nosuch values (1)`
     (
         b"E\0\0\0iSERROR\0VERROR\0C42P01\0Mrelation \"nosuch\" does not exist\0P13\0Fparse_relation.c\0L1392\0RparserOpenTable\0\0Z\0\0\0\x05I",
         b"",
-        b"ERROR:  relation \"nosuch\" does not exist\n",
+        b"ERROR:  42P01: relation \"nosuch\" does not exist\n",
         1,
     ),
     // `selec 1`
     (
         b"E\0\0\0]SERROR\0VERROR\0C42601\0Msyntax error at or near \"selec\"\0P1\0Fscan.l\0L1188\0Rscanner_yyerror\0\0Z\0\0\0\x05I",
         b"",
-        b"ERROR:  syntax error at or near \"selec\"\n",
+        b"ERROR:  42601: syntax error at or near \"selec\"\n",
         1,
     ),
     // `select 'é'::int`
     (
         b"E\0\0\0jSERROR\0VERROR\0C22P02\0Minvalid input syntax for type integer: \"\xc3\xa9\"\0P8\0Fnumutils.c\0L232\0Rpg_strtoint32\0\0Z\0\0\0\x05I",
         b"",
-        b"ERROR:  invalid input syntax for type integer: \"\xc3\xa9\"\n",
+        b"ERROR:  22P02: invalid input syntax for type integer: \"\xc3\xa9\"\n",
         1,
     ),
     // `select 1; copy (select 2) to stdout`
@@ -118,7 +118,7 @@ const RECORDED: [Recorded; 17] = [
     (
         b"T\0\0\0!\0\x01?column?\0\0\0\0\0\0\0\0\0\0\x19\xff\xff\xff\xff\xff\xff\0\0D\0\0\0\x0b\0\x01\0\0\0\x01xC\0\0\0\x0dSELECT 1\0T\0\0\0-\0\x01pg_terminate_backend\0\0\0\0\0\0\0\0\0\0\x10\0\x01\xff\xff\xff\xff\0\0D\0\0\0\x0b\0\x01\0\0\0\x01tE\0\0\0tSFATAL\0VFATAL\0C57P01\0Mterminating connection due to administrator command\0Fpostgres.c\0L3211\0RProcessInterrupts\0\0",
         b"x\nt\n",
-        b"FATAL:  terminating connection due to administrator command\n",
+        b"FATAL:  57P01: terminating connection due to administrator command\n",
         1,
     ),
 ];
@@ -230,7 +230,7 @@ fn damaged(place: usize, bytes: &[u8]) -> Result<Vec<u8>, Fail> {
 type Damaged = (usize, &'static [u8], &'static [u8], &'static [u8], u8);
 
 // Rows begin at 34 and 121, and the end at 212.
-const DAMAGED: [Damaged; 32] = [
+const DAMAGED: [Damaged; 34] = [
     // The first message is a row, whose cells don't fit.
     (
         0,
@@ -244,13 +244,17 @@ const DAMAGED: [Damaged; 32] = [
     // The first message is the end.
     (0, b"Z", b"", b"", 0),
     // The first message is a refusal without a severity.
-    (0, b"E", b"", b":  \n", 1),
+    (0, b"E", b"", b":  : \n", 1),
+    // Its tag is that of a session's start.
+    (0, b"R", b"", b"byte 0: a session's start isn't read\n", 7),
+    // Its tag is that of what a function's call returns.
+    (0, b"V", b"", b"byte 0: a function's call isn't read\n", 7),
     // Its tag is unknown.
     (
         0,
-        b"R",
+        b"x",
         b"",
-        b"byte 0: a message has the unknown tag 82\n",
+        b"byte 0: a message has the unknown tag 120\n",
         5,
     ),
     // Its tag is 0.

@@ -144,11 +144,11 @@ fn fault_line_tells_each_fault() {
         (RunFault::Write, b"write failed\n".as_slice(), 4),
     ] {
         let mut written = Vec::new();
-        assert_eq!(fault_line(&fault, &mut written), Ok(status));
+        assert_eq!(fault_line(&fault, None, &mut written), Ok(status));
         assert_eq!(written.as_slice(), line);
         for room in 0..line.len() {
             let mut writer = BrokenWriter { room };
-            assert_eq!(fault_line(&fault, &mut writer), Err(status));
+            assert_eq!(fault_line(&fault, None, &mut writer), Err(status));
         }
     }
 }

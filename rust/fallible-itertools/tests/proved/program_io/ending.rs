@@ -4,13 +4,14 @@ use crate::base::AllocError;
 use crate::program_io::fault::{InputFault, RunFault, fault_line};
 use crate::program_io::writing::WriteText;
 
-/// Ends a program: the status of its run's outcome, 0 or that of its fault, of which it tells `errors`. The status is an `Err` where there was a line to tell and it could not be written.
+/// Ends a program: the status of its run's outcome, 0 or that of its fault, of which it tells `errors`, with the name of its input where that has one. The status is an `Err` where there was a line to tell and it could not be written.
 pub fn ended<F: InputFault, E: WriteText>(
     outcome: Result<(), RunFault<F>>,
+    name: Option<&str>,
     errors: &mut E,
 ) -> Result<u8, u8> {
     match outcome {
         Ok(()) => Ok(0),
-        Err(fault) => fault_line(&fault, errors),
+        Err(fault) => fault_line(&fault, name, errors),
     }
 }

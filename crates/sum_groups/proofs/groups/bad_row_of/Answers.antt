@@ -1,7 +1,7 @@
 -- The last of a list's items is told where each is an item, and otherwise the first failure.
 use Rattle.std.proofs.Common.{◌≡◌, Result, Ok, Err, refl, sym, ap}
 use Rattle.fallible_iterator.specs.Lists.{last_of, on_value}
-use Rattle.sum_groups.proofs.groups.no_row_at.Goals as goal
+use Rattle.sum_groups.proofs.groups.bad_row_of.Goals as goal
 
 all_found : {A B E : Type 0} (r : Result A E) (f : A → B) (x : B) → on_value r (λ a. Ok (f a)) ≡ Ok x → (a : A) × (r ≡ Ok a)
 all_found (Ok a) f x is = (a, refl)
