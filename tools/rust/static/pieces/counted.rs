@@ -35,14 +35,6 @@ impl<'a, I: FallibleIterator> FallibleIterator for Counted<'a, I> {
         add(&self.log.nths);
         self.it.nth(n)
     }
-
-    fn find<Search>(&mut self, f: Search) -> Result<Option<I::Item>, I::Error>
-    where
-        Search: FnMut(&I::Item) -> Result<bool, I::Error>,
-    {
-        add(&self.log.finds);
-        self.it.find(f)
-    }
 }
 
 impl<'a, I: DoubleEndedFallibleIterator> DoubleEndedFallibleIterator for Counted<'a, I> {
