@@ -13,7 +13,6 @@ pub mod Folding
 pub mod Folds
 pub mod Goals
 pub mod Held
-pub mod LawForm
 pub mod Lists
 pub mod Nth
 pub mod Overriding

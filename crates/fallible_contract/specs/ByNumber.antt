@@ -1,6 +1,6 @@
 -- Adapters that keep items by their numbers.
 use Rattle.std.specs.Prelude.{◌≡◌, ℕ, ◌+◌, List, [], ◌∷◌, map, filter, Option, Some, None, Ok, Err, Bool, true}
-use Rattle.fallible_contract.specs.Traces.{Answered, Run, LastKept, items_in}
+use Rattle.fallible_contract.specs.Traces.{Answered, Run, first_of, LastKept, items_in}
 
 -- Each answer with its item's number. The items are numbered from k on; failures and ends have no number.
 abbrev pub with_numbers : {A E : Type 0} → ℕ → List (Answered A E) → List (Option ℕ × Answered A E)
@@ -25,3 +25,7 @@ pub record KeptByNumber {S A E : Type 0} (keeps : ℕ → Bool) (to_skip_after :
   pub answers : trace ≡ kept keeps (with_numbers 1 source_trace)
   pub last_kept : LastKept (is_kept keeps) (with_numbers 1 source_trace)
   pub remaining : to_skip ≡ to_skip_after (items_in source_trace)
+
+-- its definition over all that the source returns
+abbrev pub keeps_all : {S A E : Type 0} → (ℕ → Bool) → (ℕ → ℕ) → (S → List (Answered A E) → S → Type 0) → S → List (Answered A E) → S → ℕ → Type 0
+keeps_all {A = A} {E = E} keeps to_skip_after traces s trace t to_skip = (l : List (Answered A E)) × traces s l t × KeptByNumber keeps to_skip_after first_of l trace [] to_skip

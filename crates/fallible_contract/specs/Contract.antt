@@ -34,6 +34,8 @@ pub record Contract (S A E : Type 0) : Type 1 where
   pub hints : S → ℕ × Option ℕ → Type 0
   -- the names of the references that it draws through, which every draw keeps; those of inner iterators, which come and go, are not among them
   pub lenders : S → Lenders
+  -- the definition of what it returns: draws may return these answers and leave that
+  pub traces : S → List (Answered A E) → S → Type 0
 
 module _ {S A E : Type 0} (m : Contract S A E) where
   -- at most k items are still to come of s: k is a bound of it, or one that is no greater is
@@ -96,8 +98,9 @@ module _ {S A E : Type 0} (m : Contract S A E) where
   pub record Lawful : Type 0 where
     pub kept_by_draw : (s : S) (r : Answered A E) (t : S) → m.can_next s → m.steps s r t → KeptByDraw s r t
     pub bounded : (s : S) → m.is_finite s ↔ ((n : ℕ) × m.bound s n)
+    pub traced : (s : S) (trace : List (Answered A E)) (t : S) → Run m.steps s trace t ↔ m.traces s trace t
 
--- the contract of a type whose values are seen as those of another, as those of a struct by its parts
+-- the contract of a type whose values are seen as those of another
 abbrev pub seen_as : {S P A E : Type 0} → (S → P) → Contract P A E → Contract S A E
 seen_as view m = record {
   can_next = λ s. m.can_next (view s);
@@ -109,7 +112,18 @@ seen_as view m = record {
   may_fail = λ s e. m.may_fail (view s) e;
   hints = λ s h. m.hints (view s) h;
   lenders = λ s. m.lenders (view s);
+  traces = λ s trace t. Run (λ u r v. m.steps (view u) r (view v)) s trace t;
 }
+
+-- Each value of P is seen of just one value of S.
+pub record Inverse {S P : Type 0} (view : S → P) : Type 0 where
+  pub make : P → S
+  pub made : (s : S) → make (view s) ≡ s
+  pub has : (p : P) → view (make p) ≡ p
+
+-- the contract of a struct by its parts: its definition is that of the parts
+abbrev pub parts_as : {S P A E : Type 0} → (S → P) → Contract P A E → Contract S A E
+parts_as parts m = record (seen_as parts m) { traces = λ s trace t. m.traces (parts s) trace (parts t) }
 
 -- The contract of a type that says how it steps and how many items are left at most, and nothing else.
 abbrev pub counted_contract : {S A E : Type 0} → (S → Answered A E → S → Type 0) → (S → ℕ) → Contract S A E
@@ -123,6 +137,7 @@ counted_contract steps left = record {
   may_fail = λ _ _. ⊤;
   hints = λ _ h. h ≡ (0, None);
   lenders = λ _. no_lenders;
+  traces = λ s trace t. Run steps s trace t;
 }
 
 -- The contract of a type that says how it steps, and nothing else: it has a bound only where its runs do.
@@ -137,4 +152,5 @@ unbounded_contract steps = record {
   may_fail = λ _ _. ⊤;
   hints = λ _ h. h ≡ (0, None);
   lenders = λ _. no_lenders;
+  traces = λ s trace t. Run steps s trace t;
 }

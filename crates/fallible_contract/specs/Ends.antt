@@ -1,6 +1,6 @@
 -- The second end of a fallible iterator.
-use Rattle.std.specs.Prelude.{⊤}
-use Rattle.fallible_contract.specs.Traces.{Answered}
+use Rattle.std.specs.Prelude.{⊤, List}
+use Rattle.fallible_contract.specs.Traces.{Answered, Run}
 use Rattle.fallible_contract.specs.Contract.{Contract, Lawful}
 
 -- What the contract of a type with two ends says besides. A bound, hints and names are those of the first end, and hold whichever end is drawn from.
@@ -13,6 +13,8 @@ pub record Ends (S A E : Type 0) : Type 1 where
   pub may_give : S → A → Type 0
   -- the failure may still come, from one end or the other
   pub may_fail : S → E → Type 0
+  -- the definition of what it returns from the back
+  pub traces : S → List (Answered A E) → S → Type 0
 
 module _ {S A E : Type 0} (m : Contract S A E) (e : Ends S A E) where
   -- the contract of draws from the front, where draws from the back are made as well
@@ -21,11 +23,11 @@ module _ {S A E : Type 0} (m : Contract S A E) (e : Ends S A E) where
 
   -- the contract of draws from the back
   abbrev pub from_back : Contract S A E
-  from_back = record m { can_next = e.can_next; steps = e.steps; may_give = e.may_give; may_fail = e.may_fail }
+  from_back = record m { can_next = e.can_next; steps = e.steps; may_give = e.may_give; may_fail = e.may_fail; traces = e.traces }
 
 -- the second end whose draws are those of a contract
 abbrev pub ends_of : {S A E : Type 0} → Contract S A E → Ends S A E
-ends_of m = record { can_next = m.can_next; steps = m.steps; may_give = m.may_give; may_fail = m.may_fail }
+ends_of m = record { can_next = m.can_next; steps = m.steps; may_give = m.may_give; may_fail = m.may_fail; traces = m.traces }
 
 -- the second end of a type whose values are seen as those of another
 abbrev pub ends_seen_as : {S P A E : Type 0} → (S → P) → Ends P A E → Ends S A E
@@ -34,7 +36,12 @@ ends_seen_as view e = record {
   steps = λ s r t. e.steps (view s) r (view t);
   may_give = λ s x. e.may_give (view s) x;
   may_fail = λ s x. e.may_fail (view s) x;
+  traces = λ s trace t. Run (λ u r v. e.steps (view u) r (view v)) s trace t;
 }
+
+-- the second end of a struct by its parts
+abbrev pub ends_parts_as : {S P A E : Type 0} → (S → P) → Ends P A E → Ends S A E
+ends_parts_as parts e = record (ends_seen_as parts e) { traces = λ s trace t. e.traces (parts s) trace (parts t) }
 
 -- What each type with two ends proves: what may be drawn from both ends may be drawn from the front, what may come from the front may come from either end, and draws from either end keep the contract.
 pub record LawfulEnds {S A E : Type 0} (m : Contract S A E) (e : Ends S A E) : Type 0 where
@@ -51,4 +58,5 @@ counted_ends steps = record {
   steps = steps;
   may_give = λ _ _. ⊤;
   may_fail = λ _ _. ⊤;
+  traces = λ s trace t. Run steps s trace t;
 }

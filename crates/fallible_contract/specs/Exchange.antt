@@ -1,5 +1,5 @@
 -- Items and failures exchanged: so an adapter that calls its closure on failures is one that calls it on items.
-use Rattle.std.specs.Prelude.{Result, Some, None, Ok, Err}
+use Rattle.std.specs.Prelude.{Result, Some, None, Ok, Err, List, map}
 use Rattle.fallible_contract.specs.Traces.{Answered}
 
 -- an answer with its item as a failure and its failure as an item
@@ -16,3 +16,7 @@ exchanged_result (Err e) = Ok e
 -- a step, with the item of its answer as a failure and the failure as an item
 abbrev pub steps_exchanged : {S A E : Type 0} → (S → Answered A E → S → Type 0) → S → Answered E A → S → Type 0
 steps_exchanged steps s r t = steps s (exchanged r) t
+
+-- a definition of whole traces, with the items of the answers as failures and the failures as items
+abbrev pub traces_exchanged : {S A E : Type 0} → (S → List (Answered A E) → S → Type 0) → S → List (Answered E A) → S → Type 0
+traces_exchanged traces s trace t = traces s (map exchanged trace) t

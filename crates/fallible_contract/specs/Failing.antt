@@ -4,8 +4,8 @@ use Rattle.std.specs.Iterator.{IsFinite, size}
 use Rattle.fallible_contract.specs.Traces.{Answered}
 use Rattle.fallible_contract.specs.Contract.{Contract}
 use Rattle.fallible_contract.specs.Closures.{IsCallable, MayAnswer}
-use Rattle.fallible_contract.specs.Exchange.{exchanged, steps_exchanged}
-use Rattle.fallible_contract.specs.Passing.{PassTrace, leaving_out_contract}
+use Rattle.fallible_contract.specs.Exchange.{exchanged, steps_exchanged, traces_exchanged}
+use Rattle.fallible_contract.specs.Passing.{PassTrace, passes_all, leaving_out_contract}
 use Rattle.fallible_contract.specs.declared.passing.Outcome.{Outcome}
 use Rattle.fallible_contract.specs.declared.passing.Outcome.TheVariants.{Kept, LeftOut, Failure, End}
 
@@ -23,6 +23,10 @@ FailingTrace steps call p trace q = PassTrace (steps_exchanged steps) call faili
 abbrev pub failing_step : {S F X D E : Type 0} → (S → Answered X D → S → Type 0) → (F → D → E → F → Type 0) → S × F → Answered X E → S × F → Type 0
 failing_step steps call p r q = FailingTrace steps call p (r ∷ []) q
 
+-- its definition over all that its source returns
+abbrev pub replaces_all : {S F X D E : Type 0} → (S → List (Answered X D) → S → Type 0) → (F → D → E → F → Type 0) → S × F → List (Answered X E) → S × F → Type 0
+replaces_all traces call p trace q = passes_all (traces_exchanged traces) call failing_outcome p (map exchanged trace) q
+
 -- The contract of an adapter that replaces failures: the closure may be called on each failure that may come, in each state that such calls bring it to; all else is the source's.
 abbrev pub failing_contract : {S F X D E : Type 0} → Contract S X D → (F → D → E → F → Type 0) → (F → D → Type 0) → Contract (S × F) X E
 failing_contract m call takes = record {
@@ -35,6 +39,7 @@ failing_contract m call takes = record {
   may_fail = λ p e. MayAnswer call (m.may_fail p.0) p.1 (λ d v. v ≡ e);
   hints = λ p h. m.hints p.0 h;
   lenders = λ p. m.lenders p.0;
+  traces = replaces_all m.traces call;
 }
 
 -- What an adapter that replaces failures makes of one answer of its source, or of the result of a call on its source: a failure becomes what the closure returns for it; all else passes, without a call.
@@ -67,6 +72,7 @@ exchanged_contract m = record {
   may_fail = λ s x. m.may_give s x;
   hints = λ s h. m.hints s h;
   lenders = λ s. m.lenders s;
+  traces = traces_exchanged m.traces;
 }
 
 -- an outcome with item and failure exchanged

@@ -7,6 +7,7 @@ pub mod ByNumber
 pub mod Ends
 pub mod Exchange
 pub mod Failing
+pub mod LawForm
 pub mod Own
 pub mod Passing
 pub mod Showing

@@ -1,7 +1,7 @@
 -- Adapters that let the items of one source pass: a closure is called on each item, and by its result the item is kept as another, left out, or replaced by a failure or an end.
 use Rattle.std.specs.Prelude.{◌≡◌, ℕ, Option, Result, Some, Ok, Err, List, [], ◌∷◌, map, None, is_some, IsSome, Bool, true, false, ⊤, ◌⊎◌}
 use Rattle.std.specs.List.{filter_map}
-use Rattle.fallible_contract.specs.Traces.{LastKept, Answered, Run, item, failure, end}
+use Rattle.fallible_contract.specs.Traces.{first_of, LastKept, Answered, Run, item, failure, end}
 use Rattle.fallible_contract.specs.Contract.{Contract}
 use Rattle.fallible_contract.specs.Closures.{Calls, MayAnswer}
 use Rattle.fallible_contract.specs.declared.passing.Outcome.{Outcome}
@@ -51,6 +51,10 @@ pub record PassTrace {S F X R B E : Type 0} (steps : S → Answered X E → S �
   pub answers : trace ≡ filter_map (answer_at outcome) places
   pub last_kept : LastKept (has_answer outcome) places
 
+-- The adapter's definition over all that its source returns: there is a list that the source may return, of which the definition makes the trace.
+abbrev pub passes_all : {S F X R B E : Type 0} → (S → List (Answered X E) → S → Type 0) → (F → X → R → F → Type 0) → (X → R → Outcome B E) → S × F → List (Answered B E) → S × F → Type 0
+passes_all {X = X} {E = E} traces call outcome p trace q = (drawn : List (Answered X E)) × traces p.0 drawn q.0 × PassTrace first_of call outcome (drawn, p.1) trace ([], q.1)
+
 -- The contract of an adapter that lets items pass. It steps as its trace of one answer says. An item of it is what the closure may make of one that the source may yield, and a failure of it one of the source's or the closure's.
 abbrev pub passing_contract : {S F X R B E : Type 0} → Contract S X E → (F → X → R → F → Type 0) → ((X → Type 0) → F → Type 0) → (X → R → Outcome B E) → (S × F → ℕ × Option ℕ → Type 0) → Contract (S × F) B E
 passing_contract m call callable outcome hints = record {
@@ -63,6 +67,7 @@ passing_contract m call callable outcome hints = record {
   may_fail = λ p e. m.may_fail p.0 e ⊎ MayAnswer call (m.may_give p.0) p.1 (λ x v. outcome x v ≡ Failure e);
   hints = hints;
   lenders = λ p. m.lenders p.0;
+  traces = passes_all m.traces call outcome;
 }
 
 -- The contract of one that leaves items out. Its condition: one of the source, and a bound of it, since one draw may leave many items out.

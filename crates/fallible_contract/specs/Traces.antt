@@ -30,6 +30,10 @@ NoEnd (r ∷ rest) = (is_end r ≡ false) × NoEnd rest
 abbrev pub Run : {S A E : Type 0} → (S → Answered A E → S → Type 0) → S → List (Answered A E) → S → Type 0
 Run steps s trace t = FoldsTo steps s trace t
 
+-- A list of answers as a source: a draw takes its first. An adapter's definition over these steps, from a list to the empty one, is what it makes of that list.
+abbrev pub first_of : {A E : Type 0} → List (Answered A E) → Answered A E → List (Answered A E) → Type 0
+first_of l r rest = l ≡ r ∷ rest
+
 -- From s, draws can yield the items xs and nothing else, and leave t.
 abbrev pub Yields : {S A E : Type 0} → (S → Answered A E → S → Type 0) → S → List A → S → Type 0
 Yields steps s xs t = FoldsTo (λ u x v. steps u (item x) v) s xs t

@@ -1,6 +1,6 @@
 -- Adapters that step and hint in their own way, and of which all else is said as of their source.
 use Rattle.std.specs.Prelude.{ℕ, Option}
-use Rattle.fallible_contract.specs.Traces.{Answered}
+use Rattle.fallible_contract.specs.Traces.{Answered, Run}
 use Rattle.fallible_contract.specs.Contract.{Contract}
 
 -- the contract of an adapter that steps and hints in its own way, and of which all else is said as of its source
@@ -15,4 +15,5 @@ with_steps_contract m steps hints = record {
   may_fail = λ p e. m.may_fail p.0 e;
   hints = hints;
   lenders = λ p. m.lenders p.0;
+  traces = λ p trace q. Run steps p trace q;
 }

@@ -5,56 +5,15 @@ use Rattle.std.proofs.Common.{refl, sym, subst}
 use Rattle.fallible_contract.specs.Traces.{Answered, Run, Yields, item}
 use Rattle.fallible_contract.specs.Contract.{Contract, Lawful}
 use Rattle.fallible_contract.specs.Closures.{Reaches, IsCallable}
-use Rattle.fallible_contract.proofs.Lemmas.LawForm.{FirstOf, IsByAnswers}
 use Rattle.fallible_contract.proofs.Lemmas.Contract.{may_give_of_item_after_yields}
 use Rattle.fallible_contract.specs.Laws.Closures.{reaches_reflexive, reaches_weaken, reaches_by_call_first}
 use Rattle.fallible_contract.specs.Folds.{HoldsAtEachTurn}
 use Rattle.fallible_contract.proofs.Lemmas.Folds.{folds_to_by_implication, holds_each_turn_by_implication}
 use Rattle.fallible_contract.specs.Passing.{ItemPassed, LeavesNoneOut, PassTest, PassAnswer, IfItem, outcome_answer, PassTrace}
 use Rattle.fallible_contract.specs.Searching.{WentOn, SearchDecides, SearchExit, CallableInSearch, SearchDrains, find_pick}
-use Rattle.fallible_contract.specs.Laws.Passing.{Passes, done, end_passes, failure_passes, keeps, refuses, closes, leaves_out, passes_of_pass_trace, pass_trace_of_passes}
+use Rattle.fallible_contract.specs.Laws.Passing.{Passes, done, end_passes, failure_passes, keeps, refuses, closes, leaves_out, pass_trace_of_passes}
 use Rattle.fallible_contract.specs.declared.passing.Outcome.{Outcome}
 use Rattle.fallible_contract.specs.declared.passing.Outcome.TheVariants.{Kept, LeftOut, Failure, End}
-
--- ---- a whole trace is its answers, one draw after another
-
-module _ {S F X R B E : Type 0} (steps : S → Answered X E → S → Type 0) (call : F → X → R → F → Type 0) (outcome : X → R → Outcome B E) where
-  passes_cons : (s u t : S) (f h g : F) (r : Answered B E) (rest : List (Answered B E)) → Passes steps call outcome s f (r ∷ []) u h → Passes steps call outcome u h rest t g → Passes steps call outcome s f (r ∷ rest) t g
-  passes_cons s u t f h g _ rest (end_passes step done) q = end_passes step q
-  passes_cons s u t f h g _ rest (failure_passes e step done) q = failure_passes e step q
-  passes_cons s u t f h g _ rest (keeps x v y step called is done) q = keeps x v y step called is q
-  passes_cons s u t f h g _ rest (refuses x v e step called is done) q = refuses x v e step called is q
-  passes_cons s u t f h g _ rest (closes x v step called is done) q = closes x v step called is q
-  passes_cons s u t f h g r rest (leaves_out {u = w} {h = j} x v step called is p) q = leaves_out x v step called is (passes_cons w u t j h g r rest p q)
-
-  -- what the first answer leaves, and the rest from there
-  record FirstPassed (s : S) (f : F) (r : Answered B E) (rest : List (Answered B E)) (t : S) (g : F) : Type 0 where
-    source : S
-    closure : F
-    first : Passes steps call outcome s f (r ∷ []) source closure
-    others : Passes steps call outcome source closure rest t g
-
-  first_passed_of_passes_cons : (s t : S) (f g : F) (r : Answered B E) (rest : List (Answered B E)) → Passes steps call outcome s f (r ∷ rest) t g → FirstPassed s f r rest t g
-  first_passed_of_passes_cons s t f g _ rest (end_passes {u = u} step p) = record { source = u; closure = f; first = end_passes step done; others = p }
-  first_passed_of_passes_cons s t f g _ rest (failure_passes {u = u} e step p) = record { source = u; closure = f; first = failure_passes e step done; others = p }
-  first_passed_of_passes_cons s t f g _ rest (keeps {u = u} {h = h} x v y step called is p) = record { source = u; closure = h; first = keeps x v y step called is done; others = p }
-  first_passed_of_passes_cons s t f g _ rest (refuses {u = u} {h = h} x v e step called is p) = record { source = u; closure = h; first = refuses x v e step called is done; others = p }
-  first_passed_of_passes_cons s t f g _ rest (closes {u = u} {h = h} x v step called is p) = record { source = u; closure = h; first = closes x v step called is done; others = p }
-  first_passed_of_passes_cons s t f g r rest (leaves_out {u = u} {h = h} x v step called is p) = let q = first_passed_of_passes_cons u t h g r rest p in record { source = q.source; closure = q.closure; first = leaves_out x v step called is q.first; others = q.others }
-
-  first_of_pass_trace_by_first_passed : (s t : S) (f g : F) (r : Answered B E) (rest : List (Answered B E)) → FirstPassed s f r rest t g → FirstOf (PassTrace steps call outcome) (s, f) r rest (t, g)
-  first_of_pass_trace_by_first_passed s t f g r rest q = record { left_by_first = (q.source, q.closure); first = pass_trace_of_passes q.first; others = pass_trace_of_passes q.others }
-
-  passes_nil_same : (s t : S) (f g : F) → Passes steps call outcome s f [] t g → ◌≡◌ {A = S × F} (s, f) (t, g)
-  passes_nil_same s _ f _ done = refl
-
-pub passing_by_answers : {S F X R B E : Type 0} (steps : S → Answered X E → S → Type 0) (call : F → X → R → F → Type 0) (outcome : X → R → Outcome B E) → IsByAnswers (PassTrace steps call outcome)
-passing_by_answers steps call outcome = record {
-  none = λ p. pass_trace_of_passes done;
-  same = λ p q d. passes_nil_same steps call outcome p.0 q.0 p.1 q.1 (passes_of_pass_trace d);
-  joins = λ p u q r rest d e. pass_trace_of_passes (passes_cons steps call outcome p.0 u.0 q.0 p.1 u.1 q.1 r rest (passes_of_pass_trace d) (passes_of_pass_trace e));
-  splits = λ p q r rest d. first_of_pass_trace_by_first_passed steps call outcome p.0 q.0 p.1 q.1 r rest (first_passed_of_passes_cons steps call outcome p.0 q.0 p.1 q.1 r rest (passes_of_pass_trace d));
-}
 
 -- ---- one draw as a search
 

@@ -42,4 +42,5 @@ module _ {S A E : Type 0} (steps : S → Answered A E → S → Type 0) where
       lenders = refl;
     };
     bounded = λ s. ((λ e. e), (λ p. p));
+    traced = λ _ _ _. ((λ h. h), (λ h. h));
   }

@@ -1,10 +1,11 @@
 -- A draw of an adapter that keeps items by their numbers goes as the draws of its source go.
-use Rattle.std.specs.Prelude.{◌≡◌, ℕ, ◌+◌, List, [], ◌∷◌, map, filter, cond, Option, Some, None, Ok, Err, Bool, true, false}
+use Rattle.std.specs.Prelude.{◌≡◌, ◌↔◌, ℕ, ◌+◌, List, [], ◌∷◌, map, filter, cond, Option, Some, None, Ok, Err, Bool, true, false}
 use Rattle.std.proofs.Common.{refl, subst, inl, inr}
 use Rattle.std.proofs.lemmas.Bool.{cases_Bool}
 use Rattle.fallible_contract.specs.Traces.{LastKept, Answered, Run, item, end, failure}
 use Rattle.fallible_contract.specs.Contract.{Contract, KeptByDraw, Lawful}
-use Rattle.fallible_contract.specs.ByNumber.{with_numbers, is_kept, kept, KeptByNumber}
+use Rattle.fallible_contract.specs.ByNumber.{with_numbers, is_kept, kept, KeptByNumber, keeps_all}
+use Rattle.fallible_contract.specs.Laws.LawForm.{IsTraced, run_of_whole_list, list_is_trace}
 use Rattle.fallible_contract.specs.Laws.Contract.{kept_by_draws_of_one_draw, kept_by_draw_from_before_draws}
 
 module _ {A E : Type 0} (keeps : ℕ → Bool) where
@@ -49,3 +50,10 @@ module _ {S A E : Type 0} (m : Contract S A E) (keeps : ℕ → Bool) (l : Lawfu
   -- one answer that is kept goes as a draw with that answer goes
   pub kept_by_draw_by_number : (to_skip_after : ℕ → ℕ) (s t : S) (r : Answered A E) (to_skip : ℕ) → m.can_next s → KeptByNumber keeps to_skip_after m.steps s (r ∷ []) t to_skip → KeptByDraw m s r t
   kept_by_draw_by_number to_skip_after s t r to_skip c h = kept_by_draw_of_run_to_first_kept h.source_trace 1 s t r c h.drawn h.answers h.last_kept
+
+-- The trace over the source's steps is the definition over all that the source returns.
+pub kept_over_all : {S A E : Type 0} {steps : S → Answered A E → S → Type 0} {traces : S → List (Answered A E) → S → Type 0} → IsTraced steps traces → (keeps : ℕ → Bool) (to_skip_after : ℕ → ℕ) (s : S) (trace : List (Answered A E)) (t : S) (to_skip : ℕ) → KeptByNumber keeps to_skip_after steps s trace t to_skip ↔ keeps_all keeps to_skip_after traces s trace t to_skip
+kept_over_all {S} {A} {E} {steps = steps} law keeps to_skip_after s trace t to_skip = (
+  (λ h. (h.source_trace, (law s h.source_trace t).0 h.drawn, record { source_trace = h.source_trace; drawn = run_of_whole_list h.source_trace; answers = h.answers; last_kept = h.last_kept; remaining = h.remaining })),
+  (λ (l, ran, h). record { source_trace = h.source_trace; drawn = subst (λ (k : List (Answered A E)). Run steps s k t) (list_is_trace h.source_trace l h.drawn) ((law s l t).1 ran); answers = h.answers; last_kept = h.last_kept; remaining = h.remaining }),
+)

@@ -1,8 +1,9 @@
 -- What stays after any number of draws.
-use Rattle.std.specs.Prelude.{List, [], ◌∷◌, Some, None, Ok, Err}
+use Rattle.std.specs.Prelude.{◌↔◌, List, [], ◌∷◌, Some, None, Ok, Err}
 use Rattle.std.proofs.Common.{arith, subst, refl, ◌∙◌}
 use Rattle.fallible_contract.specs.Traces.{Answered, Run}
-use Rattle.fallible_contract.specs.Contract.{Contract, NoMore, NoMoreRemains, OnAnswer, KeptByDraw, KeptByDraws, NeverFails, Stays, Lawful, seen_as}
+use Rattle.fallible_contract.specs.Contract.{Contract, NoMore, NoMoreRemains, OnAnswer, KeptByDraw, KeptByDraws, NeverFails, Stays, Lawful, Inverse, seen_as, parts_as}
+use Rattle.fallible_contract.specs.Laws.LawForm.{IsTraced, traces_are_of_parts}
 
 module _ {S A E : Type 0} (m : Contract S A E) where
   -- after any answer nothing more is to come than before
@@ -84,19 +85,45 @@ module _ {S A E : Type 0} {m : Contract S A E} where
   pub stays_run : Lawful m → (s : S) (trace : List (Answered A E)) (t : S) → m.can_next s → Run m.steps s trace t → Stays m s t
   stays_run l s trace t c ran = stays_of_kept_by_draws (kept_by_draws_run l s trace t c ran) (never_fails_after_run m s trace t ran)
 
+-- a contract lawful but for its definition is so with any that its runs are
+pub lawful_with_traces : {S A E : Type 0} {m : Contract S A E} (traces : S → List (Answered A E) → S → Type 0) → IsTraced m.steps traces → Lawful m → Lawful (record m { traces = traces })
+lawful_with_traces {S} {A} {E} {m = m} traces law l = record {
+  kept_by_draw = λ s r t c step. kept s t r (l.kept_by_draw s r t c step);
+  bounded = l.bounded;
+  traced = law;
+}
+  where
+    on_answer : (s t : S) (r : Answered A E) → OnAnswer m s r t → OnAnswer (record m { traces = traces }) s r t
+    on_answer s t (Ok (Some x)) h = h
+    on_answer s t (Ok None) h = h
+    on_answer s t (Err e) h = h
+
+    kept : (s t : S) (r : Answered A E) → KeptByDraw m s r t → KeptByDraw (record m { traces = traces }) s r t
+    kept s t r g = record { can_next = g.can_next; is_finite = g.is_finite; answer = on_answer s t r g.answer; may_give = g.may_give; may_fail = g.may_fail; lenders = g.lenders }
+
 -- ---- a type whose values are seen as those of another
 
-module _ {S P A E : Type 0} (m : Contract P A E) (view : S → P) where
-  on_answer_seen : (s t : S) (r : Answered A E) → OnAnswer m (view s) r (view t) → OnAnswer (seen_as view m) s r t
+module _ {S P A E : Type 0} (m : Contract P A E) (view : S → P) (traces : S → List (Answered A E) → S → Type 0) where
+  -- its contract with any definition of what it returns
+  abbrev Seen : Contract S A E
+  Seen = record (seen_as view m) { traces = traces }
+
+  on_answer_seen : (s t : S) (r : Answered A E) → OnAnswer m (view s) r (view t) → OnAnswer Seen s r t
   on_answer_seen s t (Ok (Some x)) h = h
   on_answer_seen s t (Ok None) h = h
   on_answer_seen s t (Err e) h = h
 
-  kept_by_draw_through_view : (s t : S) (r : Answered A E) → KeptByDraw m (view s) r (view t) → KeptByDraw (seen_as view m) s r t
+  kept_by_draw_through_view : (s t : S) (r : Answered A E) → KeptByDraw m (view s) r (view t) → KeptByDraw Seen s r t
   kept_by_draw_through_view s t r g = record { can_next = g.can_next; is_finite = g.is_finite; answer = on_answer_seen s t r g.answer; may_give = g.may_give; may_fail = g.may_fail; lenders = g.lenders }
 
+  lawful_view : ((s : S) (trace : List (Answered A E)) (t : S) → Run Seen.steps s trace t ↔ traces s trace t) → Lawful m → Lawful Seen
+  lawful_view law l = record { kept_by_draw = λ s r t c step. kept_by_draw_through_view s t r (l.kept_by_draw (view s) r (view t) c step); bounded = λ s. l.bounded (view s); traced = law }
+
 pub lawful_seen : {S P A E : Type 0} {m : Contract P A E} (view : S → P) → Lawful m → Lawful (seen_as view m)
-lawful_seen {m = m} view l = record { kept_by_draw = λ s r t c step. kept_by_draw_through_view m view s t r (l.kept_by_draw (view s) r (view t) c step); bounded = λ s. l.bounded (view s) }
+lawful_seen {m = m} view l = lawful_view m view _ (λ _ _ _. ((λ h. h), (λ h. h))) l
+
+pub lawful_parts : {S P A E : Type 0} {m : Contract P A E} {parts : S → P} → Inverse parts → Lawful m → Lawful (parts_as parts m)
+lawful_parts {m = m} {parts = parts} inverse l = lawful_view m parts _ (traces_are_of_parts parts inverse.make inverse.made inverse.has m.steps m.traces l.traced) l
 
 module _ {S A E : Type 0} {m : Contract S A E} where
   on_answer_after : (s t u : S) (r : Answered A E) → KeptByDraws m s t → OnAnswer m t r u → OnAnswer m s r u

@@ -1,10 +1,10 @@
 -- The laws of the second end.
 use Rattle.std.specs.Prelude.{ℕ, Option}
 use Rattle.std.proofs.Common.{inl, inr}
-use Rattle.fallible_contract.specs.Contract.{Contract, Lawful, seen_as}
-use Rattle.fallible_contract.specs.Ends.{Ends, from_front, from_back, ends_of, ends_seen_as, LawfulEnds}
+use Rattle.fallible_contract.specs.Contract.{Inverse, Contract, Lawful, seen_as, parts_as}
+use Rattle.fallible_contract.specs.Ends.{Ends, from_front, from_back, ends_of, ends_seen_as, ends_parts_as, LawfulEnds}
 use Rattle.fallible_contract.specs.Passing.{passing_contract, leaving_out_contract}
-use Rattle.fallible_contract.specs.Laws.Contract.{lawful_seen}
+use Rattle.fallible_contract.specs.Laws.Contract.{lawful_seen, lawful_parts}
 use Rattle.fallible_contract.specs.Laws.Closures.{reaches_reflexive, may_answer_where_reached_may_answer}
 use Rattle.fallible_contract.specs.Laws.Passing.{StaysCallable, lawful_passing, lawful_leaving_out}
 use Rattle.fallible_contract.specs.declared.passing.Outcome.{Outcome}
@@ -17,6 +17,16 @@ lawful_ends_seen view l = record {
   may_fail = λ s x h. l.may_fail (view s) x h;
   front = lawful_seen view l.front;
   back = lawful_seen view l.back;
+}
+
+-- a struct by its parts
+pub lawful_ends_parts : {S P A E : Type 0} {m : Contract P A E} {e : Ends P A E} {parts : S → P} → Inverse parts → LawfulEnds m e → LawfulEnds (parts_as parts m) (ends_parts_as parts e)
+lawful_ends_parts {parts = parts} inverse l = record {
+  front_can = λ s c. l.front_can (parts s) c;
+  may_give = λ s x h. l.may_give (parts s) x h;
+  may_fail = λ s x h. l.may_fail (parts s) x h;
+  front = lawful_parts inverse l.front;
+  back = lawful_parts inverse l.back;
 }
 
 -- a type that steps from the back as it does from the front

@@ -1,5 +1,5 @@
 -- The contracts of the adapters whose closure is called on failures are lawful where the source's is.
-use Rattle.std.specs.Prelude.{◌≡◌, [], ◌∷◌, Some, None, Ok, Err}
+use Rattle.std.specs.Prelude.{◌≡◌, List, [], ◌∷◌, map, Some, None, Ok, Err}
 use Rattle.std.proofs.Common.{refl, sym, ap, subst, arith, inl, inr}
 use Rattle.std.specs.Iterator.{IsFinite, size}
 use Rattle.fallible_contract.specs.Traces.{Answered}
@@ -7,10 +7,11 @@ use Rattle.fallible_contract.specs.Contract.{Contract, OnAnswer, KeptByDraw, Law
 use Rattle.fallible_contract.specs.Closures.{Reaches, IsCallable}
 use Rattle.fallible_contract.specs.Ends.{Ends, from_back, ends_of, LawfulEnds}
 use Rattle.fallible_contract.specs.Exchange.{exchanged, steps_exchanged}
-use Rattle.fallible_contract.specs.Failing.{failing_outcome, FailingTrace, FailingAnswer, failing_contract, exchanged_contract, outcome_exchanged, recovering_contract}
+use Rattle.fallible_contract.specs.Failing.{failing_outcome, FailingTrace, FailingAnswer, replaces_all, failing_contract, exchanged_contract, outcome_exchanged, recovering_contract}
 use Rattle.fallible_contract.specs.Laws.Closures.{reaches_reflexive, reaches_by_call_first, is_callable_after, may_answer_of_call, may_answer_where_reached_may_answer}
-use Rattle.fallible_contract.specs.Laws.Exchange.{exchanged_twice}
-use Rattle.fallible_contract.specs.Laws.Passing.{Passes, done, end_passes, failure_passes, keeps, refuses, closes, leaves_out, passes_of_pass_trace, lawful_leaving_out}
+use Rattle.fallible_contract.specs.Laws.Exchange.{exchanged_twice, exchanged_traced}
+use Rattle.fallible_contract.specs.Laws.LawForm.{IsByAnswers, is_by_answers_renamed, run_at_one_answer_iff_law, IsTraced, iff_of_two}
+use Rattle.fallible_contract.specs.Laws.Passing.{Passes, done, end_passes, failure_passes, keeps, refuses, closes, leaves_out, passes_of_pass_trace, passing_by_answers, passes_over_all, lawful_leaving_out}
 use Rattle.fallible_contract.specs.declared.passing.Outcome.{Outcome}
 
 module _ {S F X D E : Type 0} (steps : S → Answered X D → S → Type 0) (call : F → D → E → F → Type 0) where
@@ -50,8 +51,14 @@ module _ {S F X D E : Type 0} (m : Contract S X D) (l : Lawful m) (call : F → 
       let reached = reaches_by_failing_answer s t f h r d.0 a.answer d.2 in
       record { can_next = (a.can_next, is_callable_after a.may_fail reached c.1); is_finite = a.is_finite; answer = on_answer_failing_of_drawn s t f h r d.0 a.answer d.2; may_give = a.may_give; may_fail = λ e k. may_answer_where_reached_may_answer a.may_fail reached k; lenders = a.lenders }
 
+pub failing_by_answers : {S F X D E : Type 0} (steps : S → Answered X D → S → Type 0) (call : F → D → E → F → Type 0) → IsByAnswers (FailingTrace steps call)
+failing_by_answers steps call = is_by_answers_renamed exchanged (passing_by_answers (steps_exchanged steps) call failing_outcome)
+
+pub failing_traced : {S F X D E : Type 0} {steps : S → Answered X D → S → Type 0} {traces : S → List (Answered X D) → S → Type 0} → IsTraced steps traces → (call : F → D → E → F → Type 0) → IsTraced (λ p r q. FailingTrace steps call p (r ∷ []) q) (replaces_all traces call)
+failing_traced {steps = steps} law call p trace q = iff_of_two (run_at_one_answer_iff_law _ (failing_by_answers steps call) p trace q) (passes_over_all (exchanged_traced law) call failing_outcome p (map exchanged trace) q)
+
 pub lawful_failing : {S F X D E : Type 0} {m : Contract S X D} (call : F → D → E → F → Type 0) (takes : F → D → Type 0) → Lawful m → Lawful (failing_contract m call takes)
-lawful_failing {m = m} call takes l = record { kept_by_draw = kept_by_draw_failing m l call takes; bounded = λ p. l.bounded p.0 }
+lawful_failing {m = m} call takes l = record { kept_by_draw = kept_by_draw_failing m l call takes; bounded = λ p. l.bounded p.0; traced = failing_traced l.traced call }
 
 pub lawful_ends_failing : {S F X D E : Type 0} {m : Contract S X D} {e : Ends S X D} (call : F → D → E → F → Type 0) (takes : F → D → Type 0) → LawfulEnds m e → LawfulEnds (failing_contract m call takes) (ends_of (failing_contract (from_back m e) call takes))
 lawful_ends_failing call takes l = record {
@@ -82,6 +89,7 @@ pub lawful_exchanged : {S A E : Type 0} {m : Contract S A E} → Lawful m → La
 lawful_exchanged {m = m} l = record {
   kept_by_draw = λ s r t c step. kept_by_draw_exchanged m s t r (l.kept_by_draw s (exchanged r) t c step);
   bounded = λ s. ((λ f. (size (m.remaining s), (f.0, f.1, omega arith))), (λ b. (b.1.0, b.1.1)));
+  traced = exchanged_traced l.traced;
 }
 
 -- ---- where a failure may become an item

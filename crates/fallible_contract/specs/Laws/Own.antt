@@ -2,12 +2,13 @@
 use Rattle.std.specs.Prelude.{ℕ, ◌+◌, ◌≤◌, Some, None, Ok, Err, ⊤, Result, List, [], ◌∷◌}
 use Rattle.std.specs.Iterator.{Count, IsFinite, size, at_most}
 use Rattle.std.proofs.Common.{arith, subst}
-use Rattle.fallible_contract.specs.Traces.{Answered, Run, items_in}
-use Rattle.fallible_contract.specs.Contract.{Contract, OnAnswer, KeptByDraw, KeptByDraws, Lawful}
+use Rattle.fallible_contract.specs.Traces.{Answered, Run, item, items_in}
+use Rattle.fallible_contract.specs.Contract.{Contract, Fewer, OnAnswer, KeptByDraw, KeptByDraws, Lawful, Stays}
 use Rattle.fallible_contract.specs.Lists.{AlwaysGives, Lists}
 use Rattle.fallible_contract.specs.Passing.{IfItem}
-use Rattle.fallible_contract.specs.Own.{LowersAtItem, LowersAtAnswer, bounded_by, bounded_with_failures, giving, items_and_failures_in, Gathers, MayCome, AllCome, MadeOfComing, gathering}
-use Rattle.fallible_contract.specs.Laws.Contract.{kept_by_draws_of_one_draw, kept_by_draws_run}
+use Rattle.fallible_contract.specs.Own.{LowersAtItem, LowersAtAnswer, bounded_by, bounded_with_failures, giving, items_and_failures_in, Gathers, MayCome, AllCome, MadeOfComing, gathering, drawing, DrawsOn, drawing_from}
+use Rattle.fallible_contract.specs.Laws.Contract.{kept_by_draws_of_one_draw, kept_by_draws_of_stays, kept_by_draws_run, kept_by_draws_transitive}
+use Rattle.fallible_contract.specs.Laws.BoundsRuns.{lawful_unbounded}
 
 -- ---- a source of which each step says more
 
@@ -21,7 +22,7 @@ module _ {S A E : Type 0} (steps more : S → Answered A E → S → Type 0) whe
 module _ {S A E : Type 0} (m : Contract S A E) (left : S → ℕ) (lowers : Answered A E → ℕ → ℕ → Type 0) (remains : S → Count) where
   -- `bounded_by` and `bounded_with_failures`
   abbrev BoundedHere : Contract S A E
-  BoundedHere = record m { steps = λ s r t. m.steps s r t × lowers r (left s) (left t); bound = λ s n. left s ≤ n; is_finite = λ _. ⊤; remaining = remains }
+  BoundedHere = record m { steps = λ s r t. m.steps s r t × lowers r (left s) (left t); bound = λ s n. left s ≤ n; is_finite = λ _. ⊤; remaining = remains; traces = λ s trace t. Run (λ u r v. m.steps u r v × lowers r (left u) (left v)) s trace t }
 
   kept_by_draw_bounded : (s t : S) (r : Answered A E) → KeptByDraw m s r t → OnAnswer BoundedHere s r t → KeptByDraw BoundedHere s r t
   kept_by_draw_bounded s t r g answer = record {
@@ -37,6 +38,7 @@ module _ {S A E : Type 0} (m : Contract S A E) (left : S → ℕ) (lowers : Answ
   lawful_bounded answers l = record {
     kept_by_draw = λ s r t c step. let g = l.kept_by_draw s r t c step.0 in kept_by_draw_bounded s t r g (answers s t r step.1 g.answer);
     bounded = λ s. ((λ f. (left s, omega arith)), (λ n. tt));
+    traced = λ _ _ _. ((λ h. h), (λ h. h));
   }
 
 module _ {S A E : Type 0} (m : Contract S A E) (left : S → ℕ) where
@@ -82,11 +84,56 @@ module _ {S A E : Type 0} (m : Contract S A E) (P : A → Type 0) where
   }
 
 pub lawful_giving : {S A E : Type 0} {m : Contract S A E} (P : A → Type 0) → Lawful m → Lawful (giving P m)
-lawful_giving {m = m} P l = record { kept_by_draw = λ s r t c step. kept_by_draw_giving m P s t r step.1 (l.kept_by_draw s r t c step.0); bounded = l.bounded }
+lawful_giving {m = m} P l = record { kept_by_draw = λ s r t c step. kept_by_draw_giving m P s t r step.1 (l.kept_by_draw s r t c step.0); bounded = l.bounded; traced = λ _ _ _. ((λ h. h), (λ h. h)) }
 
 -- m, with what is known of its items besides, lists what m does
 pub lists_giving : {S A E : Type 0} (m : Contract S A E) {s : S} {l : List (Result A E)} (P : A → Type 0) → Lists m.steps s l → Lists (giving P m).steps s l
 lists_giving m {s = s} {l = l} P i = record { runs = always_gives_narrowed m.steps (λ _ r _. IfItem P r) s l i.runs }
+
+-- ---- a type of whose answers nothing is said
+
+pub lawful_drawing : {S A E : Type 0} (can : S → Type 0) → Lawful (drawing {A = A} {E = E} can)
+lawful_drawing can = let l = lawful_unbounded (λ s r t. can t) in record {
+  kept_by_draw = λ s r t c step. let g = l.kept_by_draw s r t tt step in record {
+    can_next = step;
+    is_finite = g.is_finite;
+    answer = g.answer;
+    may_give = g.may_give;
+    may_fail = g.may_fail;
+    lenders = g.lenders;
+  };
+  bounded = l.bounded;
+  traced = λ _ _ _. ((λ h. h), (λ h. h));
+}
+
+module _ {S P A E B F : Type 0} (view : S → P) (m : Contract P A E) where
+  on_answer_drawn_from : (s t : S) (r : Answered B F) → DrawsOn m (view s) r (view t) → OnAnswer (drawing_from view m) s r t
+  on_answer_drawn_from s t (Ok (Some y)) h = (tt, h.lowers, (λ f. absurd f))
+  on_answer_drawn_from s t (Ok None) h = (h.keeps.bound, (λ f. absurd f))
+  on_answer_drawn_from s t (Err e) h = (tt, h.keeps.bound, (λ f. absurd f))
+
+  kept_by_draw_drawn_from : (s t : S) (r : Answered B F) → m.is_finite (view s) → DrawsOn m (view s) r (view t) → KeptByDraw (drawing_from view m) s r t
+  kept_by_draw_drawn_from s t r finite h = record {
+    can_next = (h.keeps.can_next, h.keeps.is_finite finite);
+    is_finite = h.keeps.is_finite;
+    answer = on_answer_drawn_from s t r h;
+    may_give = λ y g. tt;
+    may_fail = λ f g. tt;
+    lenders = h.keeps.lenders;
+  }
+
+pub lawful_drawing_from : {S P A E B F : Type 0} {m : Contract P A E} (view : S → P) → Lawful m → Lawful (drawing_from {B = B} {F = F} view m)
+lawful_drawing_from {m = m} view l = record { kept_by_draw = λ s r t c h. kept_by_draw_drawn_from view m s t r c.1 h; bounded = λ s. l.bounded (view s); traced = λ _ _ _. ((λ h. h), (λ h. h)) }
+
+module _ {P A E B F : Type 0} {m : Contract P A E} where
+  draws_on_of_fewer : {s t : P} (r : Answered B F) → KeptByDraws m s t → Fewer m s t → DrawsOn m s r t
+  draws_on_of_fewer (Ok (Some y)) keeps fewer = record { keeps = keeps; lowers = fewer }
+  draws_on_of_fewer (Ok None) keeps fewer = record { keeps = keeps; lowers = tt }
+  draws_on_of_fewer (Err e) keeps fewer = record { keeps = keeps; lowers = tt }
+
+  -- a draw of an item, and what is drawn after it
+  pub draws_on_after_item : {s u t : P} {x : A} (r : Answered B F) → Lawful m → m.can_next s → m.steps s (item x) u → Stays m u t → DrawsOn m s r t
+  draws_on_after_item {s} {u} {t} {x} r l c step rest = let g = l.kept_by_draw s (item x) u c step in draws_on_of_fewer r (kept_by_draws_transitive (kept_by_draws_of_one_draw g) (kept_by_draws_of_stays rest)) (λ n b. let j = g.answer.1 n b in let k = rest.bound j.0 j.1 in (k.0, k.1, omega (arith, j.2, k.2)))
 
 -- ---- what several draws lower
 
@@ -170,4 +217,4 @@ module _ {S P A E B F : Type 0} (view : S → P) (made : List (Answered A E) →
   }
 
 pub lawful_gathering : {S P A E B F : Type 0} {m : Contract P A E} (view : S → P) (made : List (Answered A E) → Answered B F → Type 0) → Lawful m → Lawful (gathering view made m)
-lawful_gathering {m = m} view made l = record { kept_by_draw = λ s r t c h. kept_by_draw_gathered view made m l s t r c h; bounded = λ s. l.bounded (view s) }
+lawful_gathering {m = m} view made l = record { kept_by_draw = λ s r t c h. kept_by_draw_gathered view made m l s t r c h; bounded = λ s. l.bounded (view s); traced = λ _ _ _. ((λ h. h), (λ h. h)) }

@@ -1,12 +1,13 @@
 -- The contracts of the adapters that let items pass are lawful if the source's is.
-use Rattle.std.specs.Prelude.{ℕ, Option, Some, None, Ok, Err, ◌≡◌, List, [], ◌∷◌, map, IsSome, is_some, true, false}
+use Rattle.std.specs.Prelude.{ℕ, Option, Some, None, Ok, Err, ◌≡◌, List, [], ◌∷◌, ◌↔◌, map, IsSome, is_some, true, false}
 use Rattle.std.specs.List.{filter_map, cons_option}
 use Rattle.std.proofs.Common.{refl, sym, ap, subst, arith, inl, inr}
-use Rattle.fallible_contract.specs.Traces.{LastKept, Answered, Run, item}
+use Rattle.fallible_contract.specs.Traces.{LastKept, Answered, Run, first_of, item}
 use Rattle.fallible_contract.specs.Contract.{Contract, OnAnswer, KeptByDraw, KeptByDraws, Lawful}
-use Rattle.fallible_contract.specs.Passing.{PassTrace, passing_contract, leaving_out_contract, Place, asked, failure_at, end_at, source_answer, call_of, outcome_answer, answer_at, has_answer}
+use Rattle.fallible_contract.specs.Passing.{PassTrace, passes_all, passing_contract, leaving_out_contract, Place, asked, failure_at, end_at, source_answer, call_of, outcome_answer, answer_at, has_answer}
 use Rattle.fallible_contract.specs.Closures.{Calls, Reaches}
 use Rattle.fallible_contract.specs.Laws.Contract.{kept_by_draws_run}
+use Rattle.fallible_contract.specs.Laws.LawForm.{FirstOf, IsByAnswers, run_at_one_answer_iff_law, IsTraced, iff_of_two, run_of_whole_list, list_is_trace}
 use Rattle.fallible_contract.specs.Laws.Closures.{reaches_reflexive, reaches_weaken, reaches_by_call_first, may_answer_of_call, may_answer_where_reached_may_answer}
 use Rattle.fallible_contract.specs.declared.passing.Outcome.{Outcome}
 use Rattle.fallible_contract.specs.declared.passing.Outcome.TheVariants.{Kept, LeftOut, Failure, End}
@@ -80,6 +81,65 @@ module _ {S F X R B E : Type 0} {steps : S → Answered X E → S → Type 0} {c
   pass_trace_of_passes (closes {u = u} {h = j} x v step called is h) = let p = pass_trace_of_passes h in record { places = asked x v ∷ p.places; drawn = (u, step, p.drawn); called = (j, called, p.called); answers = rw is (ap (λ l. Ok None ∷ l) p.answers); last_kept = last_kept_cons outcome (asked x v) p.places (rw is refl) p.last_kept }
   pass_trace_of_passes (leaves_out {u = u} {h = j} {r = r} {trace = trace} x v step called is h) = let p = pass_trace_of_passes h in record { places = asked x v ∷ p.places; drawn = (u, step, p.drawn); called = (j, called, p.called); answers = rw is p.answers; last_kept = last_kept_before outcome (asked x v) p.places r trace p.answers p.last_kept }
 
+-- ---- a whole trace is its answers, one draw after another
+
+module _ {S F X R B E : Type 0} (steps : S → Answered X E → S → Type 0) (call : F → X → R → F → Type 0) (outcome : X → R → Outcome B E) where
+  passes_cons : (s u t : S) (f h g : F) (r : Answered B E) (rest : List (Answered B E)) → Passes steps call outcome s f (r ∷ []) u h → Passes steps call outcome u h rest t g → Passes steps call outcome s f (r ∷ rest) t g
+  passes_cons s u t f h g _ rest (end_passes step done) q = end_passes step q
+  passes_cons s u t f h g _ rest (failure_passes e step done) q = failure_passes e step q
+  passes_cons s u t f h g _ rest (keeps x v y step called is done) q = keeps x v y step called is q
+  passes_cons s u t f h g _ rest (refuses x v e step called is done) q = refuses x v e step called is q
+  passes_cons s u t f h g _ rest (closes x v step called is done) q = closes x v step called is q
+  passes_cons s u t f h g r rest (leaves_out {u = w} {h = j} x v step called is p) q = leaves_out x v step called is (passes_cons w u t j h g r rest p q)
+
+  -- what the first answer leaves, and the rest from there
+  record FirstPassed (s : S) (f : F) (r : Answered B E) (rest : List (Answered B E)) (t : S) (g : F) : Type 0 where
+    source : S
+    closure : F
+    first : Passes steps call outcome s f (r ∷ []) source closure
+    others : Passes steps call outcome source closure rest t g
+
+  first_passed_of_passes_cons : (s t : S) (f g : F) (r : Answered B E) (rest : List (Answered B E)) → Passes steps call outcome s f (r ∷ rest) t g → FirstPassed s f r rest t g
+  first_passed_of_passes_cons s t f g _ rest (end_passes {u = u} step p) = record { source = u; closure = f; first = end_passes step done; others = p }
+  first_passed_of_passes_cons s t f g _ rest (failure_passes {u = u} e step p) = record { source = u; closure = f; first = failure_passes e step done; others = p }
+  first_passed_of_passes_cons s t f g _ rest (keeps {u = u} {h = h} x v y step called is p) = record { source = u; closure = h; first = keeps x v y step called is done; others = p }
+  first_passed_of_passes_cons s t f g _ rest (refuses {u = u} {h = h} x v e step called is p) = record { source = u; closure = h; first = refuses x v e step called is done; others = p }
+  first_passed_of_passes_cons s t f g _ rest (closes {u = u} {h = h} x v step called is p) = record { source = u; closure = h; first = closes x v step called is done; others = p }
+  first_passed_of_passes_cons s t f g r rest (leaves_out {u = u} {h = h} x v step called is p) = let q = first_passed_of_passes_cons u t h g r rest p in record { source = q.source; closure = q.closure; first = leaves_out x v step called is q.first; others = q.others }
+
+  first_of_pass_trace_by_first_passed : (s t : S) (f g : F) (r : Answered B E) (rest : List (Answered B E)) → FirstPassed s f r rest t g → FirstOf (PassTrace steps call outcome) (s, f) r rest (t, g)
+  first_of_pass_trace_by_first_passed s t f g r rest q = record { left_by_first = (q.source, q.closure); first = pass_trace_of_passes q.first; others = pass_trace_of_passes q.others }
+
+  passes_nil_same : (s t : S) (f g : F) → Passes steps call outcome s f [] t g → ◌≡◌ {A = S × F} (s, f) (t, g)
+  passes_nil_same s _ f _ done = refl
+
+pub passing_by_answers : {S F X R B E : Type 0} (steps : S → Answered X E → S → Type 0) (call : F → X → R → F → Type 0) (outcome : X → R → Outcome B E) → IsByAnswers (PassTrace steps call outcome)
+passing_by_answers steps call outcome = record {
+  none = λ p. pass_trace_of_passes done;
+  same = λ p q d. passes_nil_same steps call outcome p.0 q.0 p.1 q.1 (passes_of_pass_trace d);
+  joins = λ p u q r rest d e. pass_trace_of_passes (passes_cons steps call outcome p.0 u.0 q.0 p.1 u.1 q.1 r rest (passes_of_pass_trace d) (passes_of_pass_trace e));
+  splits = λ p q r rest d. first_of_pass_trace_by_first_passed steps call outcome p.0 q.0 p.1 q.1 r rest (first_passed_of_passes_cons steps call outcome p.0 q.0 p.1 q.1 r rest (passes_of_pass_trace d));
+}
+
+-- ---- runs over all that the source returns
+
+module _ {S F X R B E : Type 0} (steps : S → Answered X E → S → Type 0) {call : F → X → R → F → Type 0} {outcome : X → R → Outcome B E} where
+  pass_trace_of_list : {p q : S × F} {trace : List (Answered B E)} → (h : PassTrace steps call outcome p trace q) → PassTrace first_of call outcome (map source_answer h.places, p.1) trace ([], q.1)
+  pass_trace_of_list h = record { places = h.places; drawn = run_of_whole_list (map source_answer h.places); called = h.called; answers = h.answers; last_kept = h.last_kept }
+
+  pass_trace_of_source : {p q : S × F} {l : List (Answered X E)} {trace : List (Answered B E)} → Run steps p.0 l q.0 → PassTrace first_of call outcome (l, p.1) trace ([], q.1) → PassTrace steps call outcome p trace q
+  pass_trace_of_source {p = p} {q = q} {l = l} ran h = record { places = h.places; drawn = subst (λ (k : List (Answered X E)). Run steps p.0 k q.0) (list_is_trace (map source_answer h.places) l h.drawn) ran; called = h.called; answers = h.answers; last_kept = h.last_kept }
+
+-- The trace over the source's steps is the definition over all that the source returns.
+pub passes_over_all : {S F X R B E : Type 0} {steps : S → Answered X E → S → Type 0} {traces : S → List (Answered X E) → S → Type 0} → IsTraced steps traces → (call : F → X → R → F → Type 0) (outcome : X → R → Outcome B E) (p : S × F) (trace : List (Answered B E)) (q : S × F) → PassTrace steps call outcome p trace q ↔ passes_all traces call outcome p trace q
+passes_over_all {steps = steps} law call outcome p trace q = (
+  (λ h. (map source_answer h.places, (law p.0 (map source_answer h.places) q.0).0 h.drawn, pass_trace_of_list steps h)),
+  (λ (l, ran, h). pass_trace_of_source steps ((law p.0 l q.0).1 ran) h),
+)
+
+pub passing_traced : {S F X R B E : Type 0} {steps : S → Answered X E → S → Type 0} {traces : S → List (Answered X E) → S → Type 0} → IsTraced steps traces → (call : F → X → R → F → Type 0) (outcome : X → R → Outcome B E) → IsTraced (λ p r q. PassTrace steps call outcome p (r ∷ []) q) (passes_all traces call outcome)
+passing_traced {steps = steps} law call outcome p trace q = iff_of_two (run_at_one_answer_iff_law _ (passing_by_answers steps call outcome) p trace q) (passes_over_all law call outcome p trace q)
+
 -- Calls on what comes leave callable what they were made on.
 abbrev pub StaysCallable : {F X R : Type 0} → (F → X → R → F → Type 0) → ((X → Type 0) → F → Type 0) → Type 1
 StaysCallable {F = F} {X = X} call callable = (P Q : X → Type 0) (f g : F) → ((x : X) → Q x → P x) → Reaches call P f g → callable P f → callable Q g
@@ -132,7 +192,7 @@ module _ {S F X R B E : Type 0} (m : Contract S X E) (l : Lawful m) (call : F �
 
 -- the contract is lawful if the closure stays callable after calls on what comes
 pub lawful_passing : {S F X R B E : Type 0} {m : Contract S X E} (call : F → X → R → F → Type 0) (callable : (X → Type 0) → F → Type 0) (outcome : X → R → Outcome B E) (hints : S × F → ℕ × Option ℕ → Type 0) → StaysCallable call callable → Lawful m → Lawful (passing_contract m call callable outcome hints)
-lawful_passing {m} call callable outcome hints after l = record { kept_by_draw = kept_by_draw_passing m l call outcome callable hints after; bounded = λ p. l.bounded p.0 }
+lawful_passing {m} call callable outcome hints after l = record { kept_by_draw = kept_by_draw_passing m l call outcome callable hints after; bounded = λ p. l.bounded p.0; traced = passing_traced l.traced call outcome }
 
 -- a bound of the source, required besides, stays
 module _ {S F A E : Type 0} (p : Contract (S × F) A E) (needs : S → Type 0) where
@@ -150,7 +210,7 @@ module _ {S F A E : Type 0} (p : Contract (S × F) A E) (needs : S → Type 0) w
 pub lawful_leaving_out : {S F X R B E : Type 0} {m : Contract S X E} (call : F → X → R → F → Type 0) (callable : (X → Type 0) → F → Type 0) (outcome : X → R → Outcome B E) (hints : S × F → ℕ × Option ℕ → Type 0) → StaysCallable call callable → Lawful m → Lawful (leaving_out_contract m call callable outcome hints)
 lawful_leaving_out {m = m} call callable outcome hints after l = let p = passing_contract m call callable outcome hints in
     let k : Lawful p = lawful_passing call callable outcome hints after l in
-    record { kept_by_draw = λ s r t c step. let a = k.kept_by_draw s r t c.1 step in kept_by_draw_needing p m.is_finite s t r (a.is_finite c.0) a; bounded = λ s. l.bounded s.0 }
+    record { kept_by_draw = λ s r t c step. let a = k.kept_by_draw s r t c.1 step in kept_by_draw_needing p m.is_finite s t r (a.is_finite c.0) a; bounded = λ s. l.bounded s.0; traced = k.traced }
 
 -- ---- one answer
 

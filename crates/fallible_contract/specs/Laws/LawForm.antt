@@ -1,7 +1,7 @@
 -- A definition over whole traces is met by runs of a step.
 use Rattle.std.specs.Prelude.{◌↔◌, ◌≡◌, List, [], ◌∷◌, map}
-use Rattle.std.proofs.Common.{sym, ◌∙◌, ap, subst}
-use Rattle.fallible_contract.specs.Traces.{Answered, Run}
+use Rattle.std.proofs.Common.{sym, refl, ◌∙◌, ap, subst}
+use Rattle.fallible_contract.specs.Traces.{Answered, Run, first_of}
 use Rattle.fallible_contract.specs.LawForm.{TracesAre}
 
 module _ {P A E : Type 0} (D : P → List (Answered A E) → P → Type 0) where
@@ -56,3 +56,21 @@ module _ {V P A E : Type 0} (parts : V → P) (make : P → V) (made : (s : V) �
   -- so a law of the runs over the parts is one of the values
   pub traces_are_of_parts : (D : P → List (Answered A E) → P → Type 0) → ((p : P) (trace : List (Answered A E)) (q : P) → Run steps p trace q ↔ D p trace q) → TracesAre parts (λ u r v. steps (parts u) r (parts v)) D
   traces_are_of_parts D law s trace t = ((λ ran. (law (parts s) trace (parts t)).0 (run_over_parts trace s t ran)), (λ d. run_from_parts trace s t ((law (parts s) trace (parts t)).1 d)))
+
+-- ---- what a contract's `traced` says
+
+-- the runs are the definition
+abbrev pub IsTraced : {S A E : Type 0} → (S → Answered A E → S → Type 0) → (S → List (Answered A E) → S → Type 0) → Type 0
+IsTraced {S} {A} {E} steps traces = (s : S) (trace : List (Answered A E)) (t : S) → Run steps s trace t ↔ traces s trace t
+
+-- one definition by way of another
+pub iff_of_two : {A B C : Type 0} → (A ↔ B) → (B ↔ C) → A ↔ C
+iff_of_two first second = ((λ a. second.0 (first.0 a)), (λ c. first.1 (second.1 c)))
+
+pub run_of_whole_list : {A E : Type 0} → (l : List (Answered A E)) → Run first_of l l []
+run_of_whole_list [] = refl
+run_of_whole_list (r ∷ rest) = (rest, refl, run_of_whole_list rest)
+
+pub list_is_trace : {A E : Type 0} → (trace l : List (Answered A E)) → Run first_of l trace [] → l ≡ trace
+list_is_trace [] l e = e
+list_is_trace {A} {E} (r ∷ rest) l h = h.1 ∙ ap (λ (k : List (Answered A E)). r ∷ k) (list_is_trace rest h.0 h.2)
