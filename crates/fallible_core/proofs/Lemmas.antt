@@ -8,3 +8,4 @@ pub mod Joining
 pub mod RestAtEnds
 pub mod OneToOne
 pub mod Peeking
+pub mod Refusing

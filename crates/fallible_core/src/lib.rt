@@ -8,6 +8,7 @@ pub mod ends;
 pub mod failing;
 pub mod filtering;
 mod goals;
+pub mod headline;
 pub mod joining;
 pub mod number;
 pub mod one_to_one;

@@ -2,7 +2,7 @@
 ghost use Rattle.std.specs.Prelude.{◌≡◌, true, false, ◌+◌, ◌-◌, ◌≤◌, ◌<◌, ◌^◌, List, Option, Result, Some, None, Ok, MatchResult, IfOk, ◌⊎◌, Err};
 ghost use Rattle.std.specs.Iterator.Runs.{EachRunFrom, ItemsAre};
 ghost use Rattle.fallible_contract.specs.Clauses.{OverList, OverListWith, OverBoth};
-ghost use Rattle.fallible_contract.specs.Contract.{Contract, AtMost, Lawful, Stays, NeverFails, seen_as};
+ghost use Rattle.fallible_contract.specs.Contract.{Contract, AtMost, Lawful, Stays, NeverFails, seen_as, parts_as};
 ghost use Rattle.fallible_contract.specs.Closures.{IsCallable, call_by_value, takes_by_value, call_by_reference, takes_by_reference};
 ghost use Rattle.fallible_contract.specs.Collecting as collecting;
 ghost use Rattle.fallible_contract.specs.Lists as list;
@@ -22,6 +22,7 @@ ghost use Rattle.fallible_core.specs.Filtering.FilterMap.{filter_map_parts, filt
 ghost use Rattle.fallible_core.specs.OneToOne.MapWhile.{map_while_parts, map_while_contract, mapped_while};
 ghost use Rattle.fallible_core.specs.OneToOne.MapErr.{map_err_parts, map_err_contract};
 ghost use Rattle.fallible_core.specs.OneToOne.Cloned.{cloned_parts, cloned_contract, pointed_to};
+ghost use Rattle.fallible_core.specs.Refusing.{ListsUntilRefused};
 ghost use Rattle.fallible_core.specs.Ends.Rev.{rev_parts, rev_contract};
 ghost use Rattle.fallible_core.specs.Cutting.Take.{take_parts, take_contract, taken};
 ghost use Rattle.fallible_core.specs.Cutting.TakeWhile as take_while;
@@ -441,7 +442,7 @@ pub trait FallibleIterator: Drop + Sized {
         requires { IsCallable (call_by_value F.FnMut) (takes_by_value F.FnMut) (contract.may_give self) f }
         ensures parts { map_parts result ≡ (self, f) }
         ensures lists { OverListWith (list.Acts (call_by_value F.FnMut) f) contract.steps self
-            (λ h l. list.Lists (seen_as map_parts (map_contract contract F.FnMut)).steps
+            (λ h l. list.Lists (parts_as map_parts (map_contract contract F.FnMut)).steps
             result (mapped h l)) }
     {
         Map { it: self, f }
@@ -469,7 +470,7 @@ pub trait FallibleIterator: Drop + Sized {
             (contract.may_give self) f }
         ensures parts { filter_parts result ≡ (self, f) }
         ensures lists { OverListWith (list.Acts (call_by_reference F.FnMut) f) contract.steps self
-            (λ h l. list.Lists (seen_as filter_parts (filter_contract contract F.FnMut)).steps
+            (λ h l. list.Lists (parts_as filter_parts (filter_contract contract F.FnMut)).steps
             result (filtered h l)) }
     {
         Filter { it: self, f }
@@ -488,10 +489,10 @@ pub trait FallibleIterator: Drop + Sized {
     final fn take(self, n: usize) -> Take<Self>
         ensures parts { take_parts result ≡ (self, n) }
         ensures lists { OverList contract.steps self
-            (λ l. list.Lists (seen_as take_parts (take_contract contract)).steps result
+            (λ l. list.Lists (parts_as take_parts (take_contract contract)).steps result
             (taken n l)) }
         ensures repeats { (x : Self.Item) → list.Repeats contract.steps self (Ok x)
-            → list.Lists (seen_as take_parts (take_contract contract)).steps result
+            → list.Lists (parts_as take_parts (take_contract contract)).steps result
             (list.repeated n x) }
     {
         Take {
@@ -548,9 +549,9 @@ pub trait FallibleIterator: Drop + Sized {
     final fn fuse(self) -> Fuse<Self>
         ensures parts { fuse_parts result ≡ (self, false) }
         ensures lists { OverList contract.steps self
-            (λ l. list.Lists (seen_as fuse_parts (fuse_contract contract)).steps result l) }
+            (λ l. list.Lists (parts_as fuse_parts (fuse_contract contract)).steps result l) }
         ensures for_good { OverList contract.steps self
-            (λ l. list.ListsForGood (seen_as fuse_parts (fuse_contract contract)).steps result l) }
+            (λ l. list.ListsForGood (parts_as fuse_parts (fuse_contract contract)).steps result l) }
     {
         Fuse {
             it: self,
@@ -573,7 +574,7 @@ pub trait FallibleIterator: Drop + Sized {
     final fn skip(self, n: usize) -> Skip<Self>
         ensures parts { skip_parts result ≡ (self, n) }
         ensures lists { OverList contract.steps self
-            (λ l. list.Lists (seen_as skip_parts (skip_contract contract)).steps result
+            (λ l. list.Lists (parts_as skip_parts (skip_contract contract)).steps result
             (skipped n l)) }
     {
         Skip {
@@ -634,7 +635,7 @@ pub trait FallibleIterator: Drop + Sized {
             (contract.may_give self) f }
         ensures parts { filter_map_parts result ≡ (self, f) }
         ensures lists { OverListWith (list.Acts (call_by_value F.FnMut) f) contract.steps self
-            (λ h l. list.Lists (seen_as filter_map_parts
+            (λ h l. list.Lists (parts_as filter_map_parts
             (filter_map_contract contract F.FnMut)).steps result (filter_mapped h l)) }
     {
         FilterMap { it: self, f }
@@ -663,7 +664,7 @@ pub trait FallibleIterator: Drop + Sized {
         requires { IsCallable (call_by_reference F.FnMut) (takes_by_reference F.FnMut) (contract.may_give self) f }
         ensures parts { inspect_parts result ≡ (self, f) }
         ensures lists { OverListWith (list.Acts (call_by_reference F.FnMut) f) contract.steps self
-            (λ h l. list.Lists (seen_as inspect_parts (inspect_contract contract F.FnMut)).steps
+            (λ h l. list.Lists (parts_as inspect_parts (inspect_contract contract F.FnMut)).steps
             result (inspected h l)) }
     {
         Inspect { it: self, f }
@@ -687,7 +688,7 @@ pub trait FallibleIterator: Drop + Sized {
         requires { IsCallable (call_by_value F.FnMut) (takes_by_value F.FnMut) (contract.may_fail self) f }
         ensures parts { map_err_parts result ≡ (self, f) }
         ensures lists { OverListWith (list.Acts (call_by_value F.FnMut) f) contract.steps self
-            (λ h l. list.Lists (seen_as map_err_parts (map_err_contract contract F.FnMut)).steps
+            (λ h l. list.Lists (parts_as map_err_parts (map_err_contract contract F.FnMut)).steps
             result (failures_mapped h l)) }
     {
         MapErr { it: self, f }
@@ -715,7 +716,7 @@ pub trait FallibleIterator: Drop + Sized {
         ensures parts { enumerate_parts result ≡ (self, 0) }
         ensures numberable { contract.can_next self → IsNumberable contract self 0 }
         ensures lists { OverList contract.steps self
-            (λ l. list.Lists (seen_as enumerate_parts (enumerate_contract contract)).steps
+            (λ l. list.Lists (parts_as enumerate_parts (enumerate_contract contract)).steps
             result (numbered 0 l)) }
     {
         Enumerate { it: self, count: 0 }
@@ -771,7 +772,7 @@ pub trait FallibleIterator: Drop + Sized {
         requires { IsCallable (call_by_value F.FnMut) (takes_by_value F.FnMut) (contract.may_give self) f }
         ensures parts { map_while_parts result ≡ (self, f) }
         ensures lists { OverListWith (list.Acts (call_by_value F.FnMut) f) contract.steps self
-            (λ h l. list.Lists (seen_as map_while_parts (map_while_contract contract F.FnMut)).steps
+            (λ h l. list.Lists (parts_as map_while_parts (map_while_contract contract F.FnMut)).steps
             result (mapped_while h l)) }
     {
         MapWhile { it: self, f }
@@ -821,6 +822,8 @@ pub trait FallibleIterator: Drop + Sized {
     ///
     /// Memory: if a clone can't be allocated, the failure converted from `AllocError` is yielded, and the item is lost.
     ///
+    /// Proof: where a clone may fail, clones of the list are listed up to the first allocation failure.
+    ///
     /// ```
     /// let readings = [150, 7];
     /// let mut it = convert(readings.iter().map(Ok::<&u32, AllocError>)).cloned();
@@ -835,8 +838,12 @@ pub trait FallibleIterator: Drop + Sized {
         ensures parts { cloned_parts result ≡ (self, tt) }
         ensures lists { OverList contract.steps self
             (λ l. ((x y : T) → T.is_clone x y → y ≡ x) → ((x : T) → T.is_infallible x)
-            → list.Lists (seen_as cloned_parts (cloned_contract T.is_clone T.is_infallible
+            → list.Lists (parts_as cloned_parts (cloned_contract T.is_clone T.is_infallible
             Self.Error.from_gives contract)).steps result (pointed_to l)) }
+        ensures until_refused { OverList contract.steps self
+            (λ l. ListsUntilRefused T.is_clone (parts_as cloned_parts (cloned_contract T.is_clone
+            T.is_infallible Self.Error.from_gives contract)).steps Self.Error.from_gives result
+            (pointed_to l)) }
     {
         Cloned { it: self }
     }
@@ -858,7 +865,7 @@ pub trait FallibleIterator: Drop + Sized {
         Self: DoubleEndedFallibleIterator,
         ensures parts { rev_parts result ≡ self }
         ensures lists { OverList Self.DoubleEndedFallibleIterator.ends.steps self
-            (λ l. list.Lists (seen_as rev_parts
+            (λ l. list.Lists (parts_as rev_parts
             (rev_contract contract Self.DoubleEndedFallibleIterator.ends)).steps result l) }
     {
         Rev { it: self }
@@ -1765,7 +1772,7 @@ pub trait FallibleIterator: Drop + Sized {
     final fn peekable(self) -> Peekable<Self>
         ensures parts { peekable_parts result ≡ (self, None) }
         ensures lists { OverList contract.steps self
-            (λ l. list.Lists (seen_as peekable_parts (peekable_contract contract)).steps result l) }
+            (λ l. list.Lists (parts_as peekable_parts (peekable_contract contract)).steps result l) }
     {
         Peekable {
             it: self,

@@ -4,16 +4,16 @@ use Rattle.std.specs.List.{FoldsTo}
 use Rattle.std.specs.Fn.{Mut}
 use Rattle.std.specs.Borrow.{Bor}
 use Rattle.fallible_contract.specs.Traces.{Answered, Run, item, failure, end}
-use Rattle.fallible_contract.specs.Contract.{Contract, Lawful, AtMost, seen_as}
+use Rattle.fallible_contract.specs.Contract.{Contract, Lawful, AtMost, parts_as}
 use Rattle.fallible_contract.specs.Closures.{call_by_reference}
 use Rattle.fallible_contract.specs.Lists.{Acts}
 use Rattle.fallible_contract.specs.Folds.{HoldsAtEachTurn, CountExit, FoldExit, FoldDrains}
 use Rattle.fallible_contract.specs.Passing.{PassTrace}
 use Rattle.fallible_contract.specs.Laws.Passing.{Passes, done, end_passes, failure_passes, keeps, refuses, closes, leaves_out, passes_of_pass_trace}
-use Rattle.fallible_contract.proofs.Lemmas.LawForm.{run_at_one_answer_iff_law}
+use Rattle.fallible_contract.specs.Laws.LawForm.{run_at_one_answer_iff_law}
 pub use Rattle.fallible_contract.proofs.Lemmas.Lists.ForGood.{run_at_view}
 use Rattle.fallible_contract.proofs.Lemmas.Folds.{holds_each_turn_below, number_counted_up}
-use Rattle.fallible_contract.proofs.Lemmas.Passing.{passing_by_answers}
+use Rattle.fallible_contract.specs.Laws.Passing.{passing_by_answers}
 use Rattle.fallible_core.specs.Cutting.Take.{take_step, take_contract, take_parts}
 use Rattle.fallible_core.specs.Filtering.Filter.{tested_outcome, filter_contract, filter_parts}
 use Rattle.fallible_contract.specs.declared.passing.Outcome.{Outcome}
@@ -143,7 +143,7 @@ call_leaves_closure_and_answers_where_acts : {F X R : Type 0} (call : F → X �
 call_leaves_closure_and_answers_where_acts call f h acts k x v g e c = acts x v g (subst (λ z. call z x v g) e c)
 
 module _ {I F X E : Type 0} (m : Contract I X E) (g : Mut F (Bor X × Unit {0}) (Result Bool E)) (h : X → Bool) (f : F) (it : I) where
-  pub filtered_run : (s t : Filter I F) (xs : List X) (last : Answered X E) → Acts (call_by_reference g) f (λ x. Ok (h x)) → filter_parts s ≡ (it, f) → Run (seen_as filter_parts (filter_contract m g)).steps s (map item xs ++ last ∷ []) t → FilteredRun m.steps h it xs last t.it
+  pub filtered_run : (s t : Filter I F) (xs : List X) (last : Answered X E) → Acts (call_by_reference g) f (λ x. Ok (h x)) → filter_parts s ≡ (it, f) → Run (parts_as filter_parts (filter_contract m g)).steps s (map item xs ++ last ∷ []) t → FilteredRun m.steps h it xs last t.it
   filtered_run s t xs last acts parts ran =
       let at : s.it ≡ it = ap (λ p. p.0) parts in
       subst (λ (i : I). FilteredRun m.steps h i xs last t.it) at (filtered_below_of_run m.steps (call_by_reference g) f h (call_leaves_closure_and_answers_where_acts (call_by_reference g) f (λ x. Ok (h x)) acts) xs last (filter_parts s) (filter_parts t) (ap (λ p. p.1) parts) (run_at_view filter_parts _ (map item xs ++ last ∷ []) s t ran))
@@ -167,5 +167,5 @@ module _ {S A E : Type 0} (steps : S → Answered A E → S → Type 0) where
       let one_less : ran.0.1 ≡ n = let e = ran.1.1 in omega (arith, e) in
       taken_run_one_more n s ran.0.0 t x xs last ran.1.0 (subst (λ (j : ℕ). TakenRun steps j ran.0.0 xs last t) one_less (taken_run_of_run xs last ran.0.1 k ran.0.0 t ran.2))
 
-pub taken_run : {I A E : Type 0} (m : Contract I A E) (n : ℕ) (it : I) (s t : Take I) (xs : List A) (last : Answered A E) → take_parts s ≡ (it, n) → Run (seen_as take_parts (take_contract m)).steps s (map item xs ++ last ∷ []) t → TakenRun m.steps n it xs last t.it
+pub taken_run : {I A E : Type 0} (m : Contract I A E) (n : ℕ) (it : I) (s t : Take I) (xs : List A) (last : Answered A E) → take_parts s ≡ (it, n) → Run (parts_as take_parts (take_contract m)).steps s (map item xs ++ last ∷ []) t → TakenRun m.steps n it xs last t.it
 taken_run {I = I} m n it s t xs last parts ran = taken_run_of_run m.steps xs last n t.to_take it t.it (subst (λ (p : I × ℕ). Run (take_step m.steps) p (map item xs ++ last ∷ []) (take_parts t)) parts (run_at_view take_parts _ (map item xs ++ last ∷ []) s t ran))

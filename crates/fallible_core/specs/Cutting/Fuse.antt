@@ -1,7 +1,8 @@
 -- `Fuse`, which is exhausted at the first end.
+use Rattle.std.proofs.Common.{refl}
 use Rattle.std.specs.Prelude.{List, Bool}
 use Rattle.fallible_contract.specs.Traces.{Answered, Run, is_end}
-use Rattle.fallible_contract.specs.Contract.{Contract}
+use Rattle.fallible_contract.specs.Contract.{Inverse, Contract}
 use Rattle.fallible_contract.specs.Closing.{ClosingTrace, closing_contract}
 use Rattle.fallible_core.specs.declared.cutting.fuse.Fuse.{Fuse}
 
@@ -11,9 +12,13 @@ pub record FuseTrace {S A E : Type 0} (steps : S → Answered A E → S → Type
   pub drawn : Run steps p.0 source_trace q.0
   pub cut : ClosingTrace (λ r. r) is_end p.1 source_trace trace q.1
 
+-- Its definition over all that its source returns.
+abbrev pub fuses_all : {S A E : Type 0} → (S → List (Answered A E) → S → Type 0) → S × Bool → List (Answered A E) → S × Bool → Type 0
+fuses_all {A = A} {E = E} traces p trace q = (drawn : List (Answered A E)) × traces p.0 drawn q.0 × ClosingTrace (λ r. r) is_end p.1 drawn trace q.1
+
 -- `Fuse`'s contract, with the flag whether the source's end was met.
 abbrev pub fuse_contract : {S A E : Type 0} → Contract S A E → Contract (S × Bool) A E
-fuse_contract m = closing_contract m m.steps (λ r. r) is_end
+fuse_contract m = record (closing_contract m m.steps (λ r. r) is_end) { traces = fuses_all m.traces }
 
 -- the source
 abbrev pub fuse_source : {I : Type 0} → Fuse I → I
@@ -26,3 +31,7 @@ fuse_ended s = s.ended
 -- the source, and whether its end was met
 abbrev pub fuse_parts : {I : Type 0} → Fuse I → I × Bool
 fuse_parts s = (fuse_source s, fuse_ended s)
+
+-- and back
+pub fuse_made : {I : Type 0} → Inverse (fuse_parts {I = I})
+fuse_made = record { make = λ p. record { it = p.0; ended = p.1 }; made = λ s. refl; has = λ p. refl }

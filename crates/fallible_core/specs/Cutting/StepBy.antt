@@ -1,8 +1,9 @@
 -- `StepBy`, which keeps one item at each step.
+use Rattle.std.proofs.Common.{refl}
 use Rattle.std.specs.Prelude.{ℕ, zero, suc, Bool, Option, ◌≡◌, ◌+◌, ◌-◌, ◌%◌, ltb, leb, eqb, cond, ◌&&◌, List, [], ◌∷◌, ⊤, Result, Ok, Err}
 use Rattle.fallible_contract.specs.Traces.{Answered}
-use Rattle.fallible_contract.specs.Contract.{Contract}
-use Rattle.fallible_contract.specs.ByNumber.{KeptByNumber}
+use Rattle.fallible_contract.specs.Contract.{Inverse, Contract}
+use Rattle.fallible_contract.specs.ByNumber.{KeptByNumber, keeps_all}
 use Rattle.fallible_contract.specs.WithSteps.{with_steps_contract}
 use Rattle.fallible_contract.specs.Hints.{hint_kept}
 use Rattle.fallible_contract.specs.declared.passing.Outcome.{Outcome}
@@ -25,6 +26,10 @@ step_by_to_skip s = s.to_skip
 abbrev pub step_by_parts : {I : Type 0} → StepBy I → I × (ℕ × ℕ)
 step_by_parts s = (step_by_source s, (step_by_between s, step_by_to_skip s))
 
+-- and back
+pub step_by_made : {I : Type 0} → Inverse (step_by_parts {I = I})
+step_by_made = record { make = λ p. record { it = p.0; between = p.1.0; to_skip = p.1.1 }; made = λ s. refl; has = λ p. refl }
+
 -- whether the item with number k is kept, where r are left out at first: k is r + 1 plus a multiple of the step
 abbrev pub keeps_at_steps : ℕ → ℕ → ℕ → Bool
 keeps_at_steps between r k = ltb r k && eqb ((k - 1 - r) % (between + 1)) 0
@@ -41,9 +46,13 @@ StepByTrace steps p trace q = KeptByNumber (keeps_at_steps (p.1).0 (p.1).1) (to_
 abbrev pub step_by_step : {S A E : Type 0} → (S → Answered A E → S → Type 0) → S × (ℕ × ℕ) → Answered A E → S × (ℕ × ℕ) → Type 0
 step_by_step steps p r q = StepByTrace steps p (r ∷ []) q
 
+-- its definition over all that its source returns
+abbrev pub steps_all : {S A E : Type 0} → (S → List (Answered A E) → S → Type 0) → S × (ℕ × ℕ) → List (Answered A E) → S × (ℕ × ℕ) → Type 0
+steps_all traces p trace q = keeps_all (keeps_at_steps (p.1).0 (p.1).1) (to_skip_after (p.1).0 (p.1).1) traces p.0 trace q.0 (q.1).1 × ((q.1).0 ≡ (p.1).0)
+
 -- `StepBy`'s contract: that of its source but for the step and the hint.
 abbrev pub step_by_contract : {S A E : Type 0} → Contract S A E → Contract (S × (ℕ × ℕ)) A E
-step_by_contract m = with_steps_contract m (step_by_step m.steps) (λ p h. (k : ℕ × Option ℕ) × m.hints p.0 k × (h ≡ hint_kept (p.1).0 (p.1).1 k))
+step_by_contract m = record (with_steps_contract m (step_by_step m.steps) (λ p h. (k : ℕ × Option ℕ) × m.hints p.0 k × (h ≡ hint_kept (p.1).0 (p.1).1 k))) { traces = steps_all m.traces }
 
 -- ---- its fold, through the source's own
 

@@ -1,10 +1,11 @@
 -- `TakeWhile`, which is exhausted at the first item that a predicate rejects.
+use Rattle.std.proofs.Common.{refl}
 use Rattle.std.specs.Prelude.{◌≡◌, List, [], ◌∷◌, map, Result, Ok, Err, Bool, true, false}
 use Rattle.std.specs.List.{filter_map}
 use Rattle.std.specs.Fn.{Mut}
 use Rattle.std.specs.Borrow.{Bor}
-use Rattle.fallible_contract.specs.Traces.{Answered, Run, item, failure, end}
-use Rattle.fallible_contract.specs.Contract.{Contract}
+use Rattle.fallible_contract.specs.Traces.{Answered, Run, first_of, item, failure, end}
+use Rattle.fallible_contract.specs.Contract.{Inverse, Contract}
 use Rattle.fallible_contract.specs.Closures.{Calls, IsCallable, call_by_reference, takes_by_reference}
 use Rattle.fallible_contract.specs.Passing.{Place, asked, failure_at, end_at, source_answer, call_of, passing_contract}
 use Rattle.fallible_contract.specs.Hints.{upper_alone}
@@ -42,13 +43,17 @@ pub record TakeWhileTrace {S F X E : Type 0} (steps : S → Answered X E → S �
   pub called : Calls call (p.0).1 (filter_map call_of places) (q.0).1
   pub cut : ClosingTrace taken_answer is_refused p.1 places trace q.1
 
+-- its definition over all that its source returns
+abbrev pub takes_while_all : {S F X E : Type 0} → (S → List (Answered X E) → S → Type 0) → (F → X → Result Bool E → F → Type 0) → (S × F) × Bool → List (Answered X E) → (S × F) × Bool → Type 0
+takes_while_all {X = X} {E = E} traces call p trace q = (l : List (Answered X E)) × traces (p.0).0 l (q.0).0 × TakeWhileTrace first_of call ((l, (p.0).1), p.1) trace (([], (q.0).1), q.1)
+
 -- one draw, with a call of the predicate on an item
 abbrev pub place_drawn : {S F X R E : Type 0} → (S → Answered X E → S → Type 0) → (F → X → R → F → Type 0) → S × F → Place X R E → S × F → Type 0
 place_drawn steps call p x q = steps p.0 (source_answer x) q.0 × Calls call p.1 (filter_map call_of (x ∷ [])) q.1
 
 -- `TakeWhile`'s contract, with the flag whether an item was rejected: the predicate may be called on each item that may come, and until then the hint has the source's upper bound alone.
 abbrev pub take_while_contract : {S F X E : Type 0} → Contract S X E → Mut F (Bor X × Unit {0}) (Result Bool E) → Contract ((S × F) × Bool) X E
-take_while_contract m g = closing_contract (passing_contract m (call_by_reference g) (λ P f. IsCallable (call_by_reference g) (takes_by_reference g) P f) take_while_outcome (λ p h. upper_alone m p.0 h)) (place_drawn m.steps (call_by_reference g)) taken_answer is_refused
+take_while_contract m g = record (closing_contract (passing_contract m (call_by_reference g) (λ P f. IsCallable (call_by_reference g) (takes_by_reference g) P f) take_while_outcome (λ p h. upper_alone m p.0 h)) (place_drawn m.steps (call_by_reference g)) taken_answer is_refused) { traces = takes_while_all m.traces (call_by_reference g) }
 
 -- the source
 abbrev pub take_while_source : {I P : Type 0} → TakeWhile I P → I
@@ -65,6 +70,10 @@ take_while_refused s = s.taking.0
 -- the source and the predicate, and whether an item was rejected
 abbrev pub take_while_parts : {I P : Type 0} → TakeWhile I P → (I × P) × Bool
 take_while_parts s = ((take_while_source s, take_while_predicate s), take_while_refused s)
+
+-- and back
+pub take_while_made : {I P : Type 0} → Inverse (take_while_parts {I = I} {P = P})
+take_while_made = record { make = λ p. record { it = p.0.0; taking = (p.1, p.0.1) }; made = λ s. refl; has = λ p. refl }
 
 -- ---- its fold, through the source's own
 

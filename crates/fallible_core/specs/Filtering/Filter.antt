@@ -1,9 +1,10 @@
 -- `Filter`, which leaves out the items that a predicate rejects.
-use Rattle.std.specs.Prelude.{◌≡◌, Result, Ok, Err, List, Bool, true, false, [], ◌∷◌}
+use Rattle.std.proofs.Common.{refl}
+use Rattle.std.specs.Prelude.{◌≡◌, ◌+◌, ℕ, Result, Ok, Err, List, Bool, true, false, [], ◌∷◌}
 use Rattle.std.specs.Fn.{Mut}
 use Rattle.std.specs.Borrow.{Bor}
 use Rattle.fallible_contract.specs.Traces.{Answered}
-use Rattle.fallible_contract.specs.Contract.{Contract}
+use Rattle.fallible_contract.specs.Contract.{Inverse, Contract}
 use Rattle.fallible_contract.specs.Closures.{call_by_reference, takes_by_reference, IsCallable}
 use Rattle.fallible_contract.specs.Passing.{PassTrace, leaving_out_contract}
 use Rattle.fallible_contract.specs.Folding.{FoldingTurn}
@@ -33,6 +34,10 @@ filter_predicate s = s.f
 -- the source, and the predicate
 abbrev pub filter_parts : {I F : Type 0} → Filter I F → I × F
 filter_parts s = (filter_source s, filter_predicate s)
+
+-- and back
+pub filter_made : {I F : Type 0} → Inverse (filter_parts {I = I} {F = F})
+filter_made = record { make = λ p. record { it = p.0; f = p.1 }; made = λ s. refl; has = λ p. refl }
 
 -- ---- its draw, through the source's own fold
 

@@ -1,8 +1,9 @@
 -- `FilterMap`, which leaves out the items for which its closure returns `None`.
+use Rattle.std.proofs.Common.{refl}
 use Rattle.std.specs.Prelude.{Option, Result, Some, Ok, Err, List, None, [], ◌∷◌}
 use Rattle.std.specs.Fn.{Mut}
 use Rattle.fallible_contract.specs.Traces.{Answered}
-use Rattle.fallible_contract.specs.Contract.{Contract}
+use Rattle.fallible_contract.specs.Contract.{Inverse, Contract}
 use Rattle.fallible_contract.specs.Closures.{call_by_value, takes_by_value, IsCallable}
 use Rattle.fallible_contract.specs.Passing.{PassTrace, leaving_out_contract}
 use Rattle.fallible_contract.specs.Hints.{upper_alone}
@@ -35,6 +36,10 @@ filter_map_closure s = s.f
 -- the source, and the closure
 abbrev pub filter_map_parts : {I F : Type 0} → FilterMap I F → I × F
 filter_map_parts s = (filter_map_source s, filter_map_closure s)
+
+-- and back
+pub filter_map_made : {I F : Type 0} → Inverse (filter_map_parts {I = I} {F = F})
+filter_map_made = record { make = λ p. record { it = p.0; f = p.1 }; made = λ s. refl; has = λ p. refl }
 
 -- ---- what it lists
 

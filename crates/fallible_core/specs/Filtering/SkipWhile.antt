@@ -1,10 +1,11 @@
 -- `SkipWhile`, which skips items up to the first one that a predicate rejects.
+use Rattle.std.proofs.Common.{refl}
 use Rattle.std.specs.Prelude.{◌≡◌, List, Option, Some, None, ℕ, ⊤, Result, Ok, Err, [], ◌∷◌, ◌++◌, map, Bool, true, false, MatchBool}
 use Rattle.std.specs.Fn.{Mut}
 use Rattle.std.specs.Borrow.{Bor}
 use Rattle.std.specs.List.{filter_map}
 use Rattle.fallible_contract.specs.Traces.{Answered, Run, LastKept}
-use Rattle.fallible_contract.specs.Contract.{Contract}
+use Rattle.fallible_contract.specs.Contract.{Inverse, Contract}
 use Rattle.fallible_contract.specs.Closures.{Calls, IsCallable, call_by_reference, takes_by_reference}
 use Rattle.fallible_contract.specs.Passing.{Place, asked, failure_at, end_at, source_answer, call_of, answer_at, leaving_out_contract, has_answer}
 use Rattle.fallible_contract.specs.Hints.{upper_alone}
@@ -93,6 +94,10 @@ skip_while_predicate s = s.skipping.1
 -- the source, and whether the predicate returned false beside the predicate
 abbrev pub skip_while_parts : {I P : Type 0} → SkipWhile I P → I × (Bool × P)
 skip_while_parts s = (skip_while_source s, s.skipping)
+
+-- and back
+pub skip_while_made : {I P : Type 0} → Inverse (skip_while_parts {I = I} {P = P})
+skip_while_made = record { make = λ p. record { it = p.0; skipping = p.1 }; made = λ s. refl; has = λ p. refl }
 
 -- ---- what it lists
 

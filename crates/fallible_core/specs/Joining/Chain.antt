@@ -1,8 +1,9 @@
 -- `Chain`: one source's answers up to its first end, and then those of another.
+use Rattle.std.proofs.Common.{refl}
 use Rattle.std.specs.Prelude.{◌≡◌, ◌≢◌, ℕ, ◌+◌, ◌≤◌, false, List, [], ◌∷◌, ◌++◌, Option, ◌⊎◌, Result}
 use Rattle.std.specs.Iterator.{Count, count_add}
-use Rattle.fallible_contract.specs.Traces.{Answered, Run, end, is_end, NoEnd}
-use Rattle.fallible_contract.specs.Contract.{Contract, lenders_of_both}
+use Rattle.fallible_contract.specs.Traces.{Answered, Run, first_of, end, is_end, NoEnd}
+use Rattle.fallible_contract.specs.Contract.{Inverse, Contract, lenders_of_both}
 use Rattle.fallible_contract.specs.Ends.{Ends}
 use Rattle.fallible_contract.specs.Hints.{hint_sum}
 use Rattle.fallible_core.specs.declared.joining.chain.StillDrawn.{StillDrawn}
@@ -31,6 +32,10 @@ module _ {S U A E : Type 0} (steps : S → Answered A E → S → Type 0) (other
   chain_step (s, u, Both) r q = (steps s r q.0 × (is_end r ≡ false) × (q.1 ≡ u) × (q.2 ≡ Both)) ⊎ (steps s end q.0 × others u r q.1 × (q.2 ≡ SecondAlone))
   chain_step (s, u, FirstAlone) r q = steps s r q.0 × (q.1 ≡ u) × (q.2 ≡ FirstAlone)
   chain_step (s, u, SecondAlone) r q = others u r q.1 × (q.0 ≡ s) × (q.2 ≡ SecondAlone)
+
+-- Its definition over all that both sources return.
+abbrev pub chains_all : {S U A E : Type 0} → (S → List (Answered A E) → S → Type 0) → (U → List (Answered A E) → U → Type 0) → S × U × StillDrawn → List (Answered A E) → S × U × StillDrawn → Type 0
+chains_all {A = A} {E = E} traces others p trace q = (l : List (Answered A E)) × (k : List (Answered A E)) × traces p.0 l q.0 × others p.1 k q.1 × ChainTrace first_of first_of (l, k, p.2) trace ([], [], q.2)
 
 -- what may still come is what may come of a side that is still drawn
 abbrev pub chain_may_come : {S U X : Type 0} → (S → X → Type 0) → (U → X → Type 0) → S × U × StillDrawn → X → Type 0
@@ -72,6 +77,7 @@ module _ {S U A E : Type 0} (first : Contract S A E) (second : Contract U A E) w
     may_fail = chain_may_come first.may_fail second.may_fail;
     hints = chain_hints;
     lenders = λ p. lenders_of_both (first.lenders p.0) (second.lenders p.1);
+    traces = chains_all first.traces second.traces;
   }
 
 -- Seen from the back, the sides are swapped.
@@ -90,6 +96,7 @@ chain_ends f e = record {
   steps = λ p r q. chain_step e.steps f.steps (chain_back p) r (chain_back q);
   may_give = chain_may_come f.may_give e.may_give;
   may_fail = chain_may_come f.may_fail e.may_fail;
+  traces = λ p trace q. chains_all e.traces f.traces (chain_back p) trace (chain_back q);
 }
 
 -- the first side
@@ -107,6 +114,10 @@ chain_still_drawn s = s.still_drawn
 -- the first, the second, and which of them are still drawn
 abbrev pub chain_parts : {T U : Type 0} → Chain T U → T × U × StillDrawn
 chain_parts s = (chain_first s, chain_second s, chain_still_drawn s)
+
+-- and back
+pub chain_made : {T U : Type 0} → Inverse (chain_parts {T = T} {U = U})
+chain_made = record { make = λ p. record { first = p.0; second = p.1; still_drawn = p.2 }; made = λ s. refl; has = λ p. refl }
 
 -- ---- what it lists
 

@@ -1,7 +1,8 @@
 -- `Cycle`: a run, and at its end a fresh clone of the kept source as the next run.
+use Rattle.std.proofs.Common.{refl}
 use Rattle.std.specs.Prelude.{◌≡◌, ℕ, List, [], ◌∷◌, ◌++◌, Option, false, ◌⊎◌}
 use Rattle.fallible_contract.specs.Traces.{Answered, Run, failure, end, is_end, NoEnd}
-use Rattle.fallible_contract.specs.Contract.{Contract, unbounded_contract}
+use Rattle.fallible_contract.specs.Contract.{Inverse, Contract, unbounded_contract}
 use Rattle.fallible_contract.specs.Refusals.{RefusedAs}
 use Rattle.fallible_contract.specs.Hints.{cycle_hint}
 use Rattle.std.specs.declared.alloc.AllocError.{AllocError}
@@ -49,3 +50,7 @@ cycle_kept s = s.kept
 -- the current run, and the kept source
 abbrev pub cycle_parts : {I : Type 0} → Cycle I → I × I
 cycle_parts s = (cycle_source s, cycle_kept s)
+
+-- and back
+pub cycle_made : {I : Type 0} → Inverse (cycle_parts {I = I})
+cycle_made = record { make = λ p. record { it = p.0; kept = p.1 }; made = λ s. refl; has = λ p. refl }

@@ -1,10 +1,11 @@
 -- `Flatten`: each item of an outer source becomes an inner iterator, and the answers of these are joined.
+use Rattle.std.proofs.Common.{refl}
 use Rattle.std.specs.Prelude.{◌≡◌, ◌≢◌, ℕ, ◌+◌, ◌*◌, IsSomeAnd, ◌≤◌, List, [], ◌∷◌, ◌++◌, map, Option, Result, Some, None, Ok, Err, IfSome, ⊤, ◌⊎◌}
 use Rattle.std.specs.List.{flat_map}
 use Rattle.std.specs.Iterator.{endless}
 use Rattle.fallible_contract.specs.Lists.{Lists}
 use Rattle.fallible_contract.specs.Traces.{Answered, Run, item, failure, end, NoEnd}
-use Rattle.fallible_contract.specs.Contract.{Contract}
+use Rattle.fallible_contract.specs.Contract.{Inverse, Contract}
 use Rattle.fallible_contract.specs.Folds.{CallableDriving, Driven}
 use Rattle.fallible_core.specs.Joining.Chain.{chained}
 use Rattle.std.specs.declared.ops.ControlFlow.{ControlFlow}
@@ -131,6 +132,7 @@ module _ {S X C B E : Type 0} (m : Contract S X E) (into : X → C → Type 0) (
     may_fail = λ p e. m.may_fail p.0 e ⊎ (IsSomeAnd p.1 (λ c. inner.may_fail c e) ⊎ SomeInner (λ c. inner.may_fail c e) p.0);
     hints = λ p h. h ≡ (0, None);
     lenders = λ p. m.lenders p.0;
+    traces = λ p trace q. Run (λ u r v. FlattenTrace m.steps into inner.steps u (r ∷ []) v) p trace q;
   }
 
 -- ---- a fold, as one of the outer source
@@ -156,6 +158,10 @@ flatten_inner s = s.in_hand
 -- the outer source, and the current inner iterator
 abbrev pub flatten_parts : {I J : Type 0} → Flatten I J → I × Option J
 flatten_parts s = (flatten_source s, flatten_inner s)
+
+-- and back
+pub flatten_made : {I J : Type 0} → Inverse (flatten_parts {I = I} {J = J})
+flatten_made = record { make = λ p. record { it = p.0; in_hand = p.1 }; made = λ s. refl; has = λ p. refl }
 
 -- ---- what it lists
 

@@ -1,9 +1,10 @@
 -- `Zip`: the pairs of two sources' items, place by place.
+use Rattle.std.proofs.Common.{refl}
 use Rattle.std.specs.Prelude.{ℕ, Option, Some, ◌≡◌, List, map, None, Ok, Err, ◌⊎◌, Result, [], ◌∷◌, ⊤}
 use Rattle.std.specs.List.{filter_map}
 use Rattle.std.specs.Iterator.{count_add}
-use Rattle.fallible_contract.specs.Traces.{Answered, Run, item, failure, end}
-use Rattle.fallible_contract.specs.Contract.{Contract, lenders_of_both}
+use Rattle.fallible_contract.specs.Traces.{Answered, Run, first_of, item, failure, end}
+use Rattle.fallible_contract.specs.Contract.{Inverse, Contract, lenders_of_both}
 use Rattle.fallible_contract.specs.Hints.{hint_smaller}
 use Rattle.fallible_core.specs.declared.joining.zip.Zip.{Zip}
 
@@ -18,6 +19,10 @@ zip_right s = s.right
 -- the left and the right
 abbrev pub zip_parts : {T U : Type 0} → Zip T U → T × U
 zip_parts s = (zip_left s, zip_right s)
+
+-- and back
+pub zip_made : {T U : Type 0} → Inverse (zip_parts {T = T} {U = U})
+zip_made = record { make = λ p. record { left = p.0; right = p.1 }; made = λ s. refl; has = λ p. refl }
 
 -- One place of two traces: a failure of the left, beside which the right has no answer; or an item or an end of the left, and an answer of the right.
 pub data ZipPlace (A B E : Type 0) : Type 0 where
@@ -49,6 +54,10 @@ pub record ZipTrace {S U A B E : Type 0} (steps : S → Answered A E → S → T
   pub right_drawn : Run others p.1 (filter_map right_answer places) q.1
   pub answers : trace ≡ map zip_answer places
 
+-- its definition over all that both sources return
+abbrev pub zips_all : {S U A B E : Type 0} → (S → List (Answered A E) → S → Type 0) → (U → List (Answered B E) → U → Type 0) → S × U → List (Answered (A × B) E) → S × U → Type 0
+zips_all {A = A} {B = B} {E = E} traces others p trace q = (l : List (Answered A E)) × (k : List (Answered B E)) × traces p.0 l q.0 × others p.1 k q.1 × ZipTrace first_of first_of (l, k) trace ([], [])
+
 -- the right is drawn if it has an answer at the place, and otherwise stays as it is
 abbrev pub right_step : {U A B E : Type 0} → (U → Answered B E → U → Type 0) → U → ZipPlace A B E → U → Type 0
 right_step others u (left_failed e) v = v ≡ u
@@ -70,6 +79,7 @@ zip_contract left right = record {
   may_fail = λ p e. left.may_fail p.0 e ⊎ right.may_fail p.1 e;
   hints = λ p h. (g : ℕ × Option ℕ) × (k : ℕ × Option ℕ) × left.hints p.0 g × right.hints p.1 k × (h ≡ hint_smaller g k);
   lenders = λ p. lenders_of_both (left.lenders p.0) (right.lenders p.1);
+  traces = zips_all left.traces right.traces;
 }
 
 -- ---- what it lists

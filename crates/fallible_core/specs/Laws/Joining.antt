@@ -1,5 +1,6 @@
 -- Lemmas that the ghost members of such types cite: one file a type.
 pub mod Chain
+pub mod ChainTraces
 pub mod Cycle
 pub mod FlatMap
 pub mod Flatten

@@ -1,8 +1,9 @@
 -- `Cloned`, which clones what each item points to.
+use Rattle.std.proofs.Common.{refl}
 use Rattle.std.specs.Prelude.{⊤, Result, Ok, Err, List, [], ◌∷◌}
 use Rattle.std.specs.Borrow.{Bor}
 use Rattle.fallible_contract.specs.Traces.{Answered}
-use Rattle.fallible_contract.specs.Contract.{Contract}
+use Rattle.fallible_contract.specs.Contract.{Inverse, Contract}
 use Rattle.fallible_contract.specs.Refusals.{RefusedAs}
 use Rattle.fallible_contract.specs.Passing.{PassTrace, passing_contract}
 use Rattle.fallible_core.specs.OneToOne.Map.{map_outcome}
@@ -30,6 +31,10 @@ cloned_source s = s.it
 -- the source, and nothing else
 abbrev pub cloned_parts : {I : Type 0} → Cloned I → I × Unit {0}
 cloned_parts s = (cloned_source s, tt)
+
+-- and back
+pub cloned_made : {I : Type 0} → Inverse (cloned_parts {I = I})
+cloned_made = record { make = λ p. record { it = p.0 }; made = λ s. refl; has = λ p. refl }
 
 -- ---- what it lists
 

@@ -1,7 +1,8 @@
 -- `Enumerate`, which numbers the items.
+use Rattle.std.proofs.Common.{refl}
 use Rattle.std.specs.Prelude.{◌≡◌, ℕ, ◌+◌, ◌-◌, ◌^◌, ◌≤◌, ◌<◌, List, [], ◌∷◌, Some, None, Ok, Err, Result}
-use Rattle.fallible_contract.specs.Traces.{Answered, Run, item, failure, end, items_in}
-use Rattle.fallible_contract.specs.Contract.{Contract}
+use Rattle.fallible_contract.specs.Traces.{Answered, Run, first_of, item, failure, end, items_in}
+use Rattle.fallible_contract.specs.Contract.{Inverse, Contract}
 use Rattle.fallible_contract.specs.declared.passing.Outcome.{Outcome}
 use Rattle.fallible_contract.specs.declared.passing.Outcome.TheVariants.{Kept}
 use Rattle.fallible_core.specs.declared.one_to_one.enumerate.Enumerate.{Enumerate}
@@ -19,6 +20,10 @@ pub record EnumerateTrace {S A E : Type 0} (steps : S → Answered A E → S →
   pub drawn : Run steps p.0 source_trace q.0
   pub answers : trace ≡ numbered_from p.1 source_trace
   pub number_after : q.1 ≡ p.1 + items_in source_trace
+
+-- its definition over all that its source returns
+abbrev pub numbers_all : {S A E : Type 0} → (S → List (Answered A E) → S → Type 0) → S × ℕ → List (Answered (ℕ × A) E) → S × ℕ → Type 0
+numbers_all {A = A} {E = E} traces p trace q = (l : List (Answered A E)) × traces p.0 l q.0 × EnumerateTrace first_of (l, p.1) trace ([], q.1)
 
 -- The source may be drawn from, and the numbers from n on of all items to come fit a `usize`.
 pub record IsNumberable {S A E : Type 0} (m : Contract S A E) (s : S) (n : ℕ) : Type 0 where
@@ -39,6 +44,7 @@ enumerate_contract m = record {
   may_fail = λ p e. m.may_fail p.0 e;
   hints = λ p h. m.hints p.0 h;
   lenders = λ p. m.lenders p.0;
+  traces = numbers_all m.traces;
 }
 
 -- the source
@@ -52,6 +58,10 @@ enumerate_count s = s.count
 -- the source, and the number of the next item
 abbrev pub enumerate_parts : {I : Type 0} → Enumerate I → I × ℕ
 enumerate_parts s = (enumerate_source s, enumerate_count s)
+
+-- and back
+pub enumerate_made : {I : Type 0} → Inverse (enumerate_parts {I = I})
+enumerate_made = record { make = λ p. record { it = p.0; count = p.1 }; made = λ s. refl; has = λ p. refl }
 
 -- ---- its fold, through the source's own
 

@@ -1,9 +1,10 @@
 -- `Inspect`, whose closure sees each item.
+use Rattle.std.proofs.Common.{refl}
 use Rattle.std.specs.Prelude.{Result, Ok, Err, List, [], ◌∷◌}
 use Rattle.std.specs.Fn.{Mut}
 use Rattle.std.specs.Borrow.{Bor}
 use Rattle.fallible_contract.specs.Traces.{Answered}
-use Rattle.fallible_contract.specs.Contract.{Contract}
+use Rattle.fallible_contract.specs.Contract.{Inverse, Contract}
 use Rattle.fallible_contract.specs.Closures.{call_by_reference, takes_by_reference, IsCallable}
 use Rattle.fallible_contract.specs.Passing.{PassTrace, passing_contract}
 use Rattle.fallible_contract.specs.declared.passing.Outcome.{Outcome}
@@ -34,6 +35,10 @@ inspect_closure s = s.f
 -- the source, and the closure
 abbrev pub inspect_parts : {I F : Type 0} → Inspect I F → I × F
 inspect_parts s = (inspect_source s, inspect_closure s)
+
+-- and back
+pub inspect_made : {I F : Type 0} → Inverse (inspect_parts {I = I} {F = F})
+inspect_made = record { make = λ p. record { it = p.0; f = p.1 }; made = λ s. refl; has = λ p. refl }
 
 -- ---- what it lists
 

@@ -1,8 +1,9 @@
 -- `Map`, whose closure is called on each item.
+use Rattle.std.proofs.Common.{refl}
 use Rattle.std.specs.Prelude.{Result, Ok, Err, List, [], ◌∷◌}
 use Rattle.std.specs.Fn.{Mut}
 use Rattle.fallible_contract.specs.Traces.{Answered}
-use Rattle.fallible_contract.specs.Contract.{Contract}
+use Rattle.fallible_contract.specs.Contract.{Inverse, Contract}
 use Rattle.fallible_contract.specs.Closures.{call_by_value, takes_by_value, IsCallable}
 use Rattle.fallible_contract.specs.Passing.{PassTrace, passing_contract}
 use Rattle.fallible_contract.specs.declared.passing.Outcome.{Outcome}
@@ -33,6 +34,10 @@ map_closure s = s.f
 -- the source, and the closure
 abbrev pub map_parts : {I F : Type 0} → Map I F → I × F
 map_parts s = (map_source s, map_closure s)
+
+-- and back
+pub map_made : {I F : Type 0} → Inverse (map_parts {I = I} {F = F})
+map_made = record { make = λ p. record { it = p.0; f = p.1 }; made = λ s. refl; has = λ p. refl }
 
 -- ---- what it lists
 

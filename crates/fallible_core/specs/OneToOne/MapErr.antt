@@ -1,8 +1,9 @@
 -- `MapErr`, whose closure is called on failures.
+use Rattle.std.proofs.Common.{refl}
 use Rattle.std.specs.Prelude.{List}
 use Rattle.std.specs.Fn.{Mut}
 use Rattle.fallible_contract.specs.Traces.{Answered}
-use Rattle.fallible_contract.specs.Contract.{Contract}
+use Rattle.fallible_contract.specs.Contract.{Inverse, Contract}
 use Rattle.fallible_contract.specs.Closures.{call_by_value, takes_by_value}
 use Rattle.fallible_contract.specs.Failing.{FailingTrace, failing_contract}
 use Rattle.fallible_core.specs.declared.one_to_one.map_err.MapErr.{MapErr}
@@ -26,3 +27,7 @@ map_err_closure s = s.f
 -- the source and the closure
 abbrev pub map_err_parts : {I F : Type 0} → MapErr I F → I × F
 map_err_parts s = (map_err_source s, map_err_closure s)
+
+-- and back
+pub map_err_made : {I F : Type 0} → Inverse (map_err_parts {I = I} {F = F})
+map_err_made = record { make = λ p. record { it = p.0; f = p.1 }; made = λ s. refl; has = λ p. refl }

@@ -1,8 +1,9 @@
 -- `MapWhile`, which maps each item, and ends where its closure returns `None`.
+use Rattle.std.proofs.Common.{refl}
 use Rattle.std.specs.Prelude.{Option, Result, Ok, Err, List, [], ◌∷◌}
 use Rattle.std.specs.Fn.{Mut}
 use Rattle.fallible_contract.specs.Closures.{call_by_value, takes_by_value, IsCallable}
-use Rattle.fallible_contract.specs.Contract.{Contract}
+use Rattle.fallible_contract.specs.Contract.{Inverse, Contract}
 use Rattle.fallible_contract.specs.Hints.{upper_alone}
 use Rattle.fallible_contract.specs.Passing.{PassTrace, passing_contract}
 use Rattle.fallible_contract.specs.Traces.{Answered}
@@ -28,6 +29,10 @@ map_while_closure s = s.f
 -- the source, and the closure
 abbrev pub map_while_parts : {I F : Type 0} → MapWhile I F → I × F
 map_while_parts s = (map_while_source s, map_while_closure s)
+
+-- and back
+pub map_while_made : {I F : Type 0} → Inverse (map_while_parts {I = I} {F = F})
+map_while_made = record { make = λ p. record { it = p.0; f = p.1 }; made = λ s. refl; has = λ p. refl }
 
 -- the value of h x in the place of each item x, up to the first item for which h x is none; where h x is a failure, that failure in the place of x
 unfoldable pub mapped_while : {X B E : Type 0} → (X → Result (Option B) E) → List (Result X E) → List (Result B E)

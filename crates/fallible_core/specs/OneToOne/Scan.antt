@@ -1,9 +1,10 @@
 -- `Scan`, whose closure is called on a state and each item.
+use Rattle.std.proofs.Common.{refl}
 use Rattle.std.specs.Prelude.{Option, Result, Some, None, Ok, Err, List, [], ◌∷◌}
 use Rattle.std.specs.Fn.{Mut, TakesWithState, CalledWithState}
 use Rattle.std.specs.Borrow.{MutBor}
 use Rattle.fallible_contract.specs.Traces.{Answered}
-use Rattle.fallible_contract.specs.Contract.{Contract}
+use Rattle.fallible_contract.specs.Contract.{Inverse, Contract}
 use Rattle.fallible_contract.specs.Hints.{upper_alone}
 use Rattle.fallible_contract.specs.Closures.{IsCallable}
 use Rattle.fallible_contract.specs.Passing.{PassTrace, passing_contract}
@@ -48,6 +49,10 @@ scan_closure s = s.scanning.1
 -- the source, and the state beside the closure
 abbrev pub scan_parts : {I T F : Type 0} → Scan I T F → I × (T × F)
 scan_parts s = (scan_source s, s.scanning)
+
+-- and back
+pub scan_made : {I T F : Type 0} → Inverse (scan_parts {I = I} {T = T} {F = F})
+scan_made = record { make = λ p. record { it = p.0; scanning = p.1 }; made = λ s. refl; has = λ p. refl }
 
 -- ---- what it lists
 

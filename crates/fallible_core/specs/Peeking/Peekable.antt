@@ -1,10 +1,11 @@
 -- `Peekable`, which looks one answer ahead and holds it.
+use Rattle.std.proofs.Common.{refl}
 use Rattle.std.specs.Prelude.{ℕ, Bool, Option, Some, ◌≡◌, ◌+◌, ◌≤◌, List, [], ◌∷◌, ◌++◌, Result, None, Ok, Err, true, false, ⊤, ◌⊎◌}
 use Rattle.std.specs.Iterator.{count_map}
 use Rattle.std.specs.Fn.{Shared, FnReturnsAt}
 use Rattle.std.specs.Borrow.{Bor, MutBor}
-use Rattle.fallible_contract.specs.Traces.{Answered, Run, item, failure, end}
-use Rattle.fallible_contract.specs.Contract.{Contract}
+use Rattle.fallible_contract.specs.Traces.{Answered, Run, first_of, item, failure, end}
+use Rattle.fallible_contract.specs.Contract.{Inverse, Contract}
 use Rattle.fallible_contract.specs.Ends.{Ends}
 use Rattle.fallible_contract.specs.Hints.{HintWithItem}
 use Rattle.fallible_core.specs.declared.peeking.peekable.Peekable.{Peekable}
@@ -20,6 +21,10 @@ peekable_held s = s.held
 -- the source, and the answer that was looked at
 abbrev pub peekable_parts : {I A E : Type 0} → Peekable I A E → I × Option (Option A)
 peekable_parts s = (peekable_source s, peekable_held s)
+
+-- and back
+pub peekable_made : {I A E : Type 0} → Inverse (peekable_parts {I = I} {A = A} {E = E})
+peekable_made = record { make = λ p. record { it = p.0; held = p.1 }; made = λ s. refl; has = λ p. refl }
 
 -- the answer that is held, an item or an end, if there is one
 abbrev pub held_answers : {A E : Type 0} → Option (Option A) → List (Answered A E)
@@ -42,6 +47,10 @@ pub record HeldAndDrawn {S A E : Type 0} (steps : S → Answered A E → S → T
 -- `Peekable`: the held answer, if there is one, and then the source's trace, and nothing is held then; if there are no answers, nothing changes. The parts are the source and what is held.
 abbrev pub PeekableTrace : {S A E : Type 0} → (S → Answered A E → S → Type 0) → S × Option (Option A) → List (Answered A E) → S × Option (Option A) → Type 0
 PeekableTrace steps p trace q = ((trace ≡ []) × (q ≡ p)) ⊎ HeldAndDrawn steps p trace q
+
+-- its definition over all that its source returns
+abbrev pub peeks_all : {S A E : Type 0} → (S → List (Answered A E) → S → Type 0) → S × Option (Option A) → List (Answered A E) → S × Option (Option A) → Type 0
+peeks_all {A = A} {E = E} traces p trace q = ((trace ≡ []) × (q ≡ p)) ⊎ ((l : List (Answered A E)) × traces p.0 l q.0 × HeldAndDrawn first_of (l, p.1) trace ([], q.1))
 
 -- One answer: the held one without a draw, and otherwise the source's.
 abbrev pub peekable_step : {S A E : Type 0} → (S → Answered A E → S → Type 0) → S × Option (Option A) → Answered A E → S × Option (Option A) → Type 0
@@ -72,6 +81,7 @@ peekable_contract m = record {
   may_fail = λ p e. m.may_fail p.0 e;
   hints = peekable_hints m;
   lenders = λ p. m.lenders p.0;
+  traces = peeks_all m.traces;
 }
 
 -- ---- the second end
@@ -95,6 +105,7 @@ peekable_ends e = record {
   steps = peekable_step_back e.steps;
   may_give = λ p x. (p.1 ≡ Some (Some x)) ⊎ e.may_give p.0 x;
   may_fail = λ p d. e.may_fail p.0 d;
+  traces = λ p trace q. Run (peekable_step_back e.steps) p trace q;
 }
 
 -- ---- looking ahead

@@ -1,8 +1,8 @@
 // The adapter that is exhausted at the first `Ok(None)`.
 ghost use Rattle.std.specs.Prelude.{Result, Option};
-ghost use Rattle.fallible_contract.specs.Contract.{seen_as};
-ghost use Rattle.fallible_contract.specs.Laws.Contract.{lawful_seen};
-ghost use Rattle.fallible_core.specs.Cutting.Fuse.{fuse_contract, fuse_parts};
+ghost use Rattle.fallible_contract.specs.Contract.{parts_as};
+ghost use Rattle.fallible_contract.specs.Laws.Contract.{lawful_parts};
+ghost use Rattle.fallible_core.specs.Cutting.Fuse.{fuse_contract, fuse_made, fuse_parts};
 ghost use Rattle.fallible_core.specs.Laws.Cutting.Fuse.{lawful_fuse};
 
 use crate::traits::FallibleIterator;
@@ -22,7 +22,7 @@ impl<I: FallibleIterator> FallibleIterator for Fuse<I> {
 
     type Error = I::Error;
 
-    ghost contract = { seen_as fuse_parts (fuse_contract I.contract) };
+    ghost contract = { parts_as fuse_parts (fuse_contract I.contract) };
 
     /// Draws once, and nothing once the source returned `Ok(None)`.
     fn next(&mut self) -> Result<Option<I::Item>, I::Error> {
@@ -84,5 +84,5 @@ impl<I: FallibleIterator> FallibleIterator for Fuse<I> {
         }
     }
 
-    ghost lawful = { lawful_seen fuse_parts (lawful_fuse I.lawful) };
+    ghost lawful = { lawful_parts fuse_made (lawful_fuse I.lawful) };
 }

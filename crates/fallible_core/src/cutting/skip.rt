@@ -1,8 +1,8 @@
 // The adapter that skips the first items.
 ghost use Rattle.std.specs.Prelude.{Result, Option};
-ghost use Rattle.fallible_contract.specs.Contract.{seen_as};
-ghost use Rattle.fallible_contract.specs.Laws.Contract.{lawful_seen};
-ghost use Rattle.fallible_core.specs.Cutting.Skip.{skip_contract, skip_parts};
+ghost use Rattle.fallible_contract.specs.Contract.{parts_as};
+ghost use Rattle.fallible_contract.specs.Laws.Contract.{lawful_parts};
+ghost use Rattle.fallible_core.specs.Cutting.Skip.{skip_contract, skip_made, skip_parts};
 ghost use Rattle.fallible_core.specs.Laws.Cutting.Skip.{lawful_skip};
 
 use crate::cutting::by_number::next_past;
@@ -27,7 +27,7 @@ where
 
     type Error = I::Error;
 
-    ghost contract = { seen_as skip_parts (skip_contract I.contract) };
+    ghost contract = { parts_as skip_parts (skip_contract I.contract) };
 
     /// Draws the items that are still to be skipped, and then once more. A failure or an `Ok(None)` among them is returned, and the rest of them is skipped from the next call on.
     fn next(&mut self) -> Result<Option<I::Item>, I::Error> {
@@ -54,5 +54,5 @@ where
         }
     }
 
-    ghost lawful = { lawful_seen skip_parts (lawful_skip I.lawful) };
+    ghost lawful = { lawful_parts skip_made (lawful_skip I.lawful) };
 }

@@ -1,8 +1,8 @@
 // The adapter that keeps every k-th item.
 ghost use Rattle.std.specs.Prelude.{Result, Option};
-ghost use Rattle.fallible_contract.specs.Contract.{seen_as};
-ghost use Rattle.fallible_contract.specs.Laws.Contract.{lawful_seen};
-ghost use Rattle.fallible_core.specs.Cutting.StepBy.{step_by_contract, step_by_parts, count_call, count_outcome, count_takes};
+ghost use Rattle.fallible_contract.specs.Contract.{parts_as};
+ghost use Rattle.fallible_contract.specs.Laws.Contract.{lawful_parts};
+ghost use Rattle.fallible_core.specs.Cutting.StepBy.{step_by_contract, step_by_made, step_by_parts, count_call, count_outcome, count_takes};
 ghost use Rattle.fallible_core.specs.Laws.Cutting.StepBy.{lawful_step_by};
 
 use crate::cutting::by_number::next_past;
@@ -30,7 +30,7 @@ where
 
     type Error = I::Error;
 
-    ghost contract = { seen_as step_by_parts (step_by_contract I.contract) };
+    ghost contract = { parts_as step_by_parts (step_by_contract I.contract) };
 
     /// Draws the items that are left out next, and then once more. A failure or an `Ok(None)` among them is returned, and the rest of them is left out from the next call on.
     fn next(&mut self) -> Result<Option<I::Item>, I::Error> {
@@ -60,7 +60,7 @@ where
         drive_passing(&mut self.it, &mut self.to_skip, &adapter, state, turn)
     }
 
-    ghost lawful = { lawful_seen step_by_parts (lawful_step_by I.lawful) };
+    ghost lawful = { lawful_parts step_by_made (lawful_step_by I.lawful) };
 }
 
 // An item that is left out lowers what is left, and the one after them is kept. The state is how many are left out next.

@@ -1,8 +1,8 @@
 // The adapter that ends after a number of items.
 ghost use Rattle.std.specs.Prelude.{Result, Option};
-ghost use Rattle.fallible_contract.specs.Contract.{seen_as};
-ghost use Rattle.fallible_contract.specs.Laws.Contract.{lawful_seen};
-ghost use Rattle.fallible_core.specs.Cutting.Take.{take_contract, take_parts};
+ghost use Rattle.fallible_contract.specs.Contract.{parts_as};
+ghost use Rattle.fallible_contract.specs.Laws.Contract.{lawful_parts};
+ghost use Rattle.fallible_core.specs.Cutting.Take.{take_contract, take_made, take_parts};
 ghost use Rattle.fallible_core.specs.Laws.Cutting.Take.{lawful_take};
 
 use crate::traits::FallibleIterator;
@@ -21,7 +21,7 @@ impl<I: FallibleIterator> FallibleIterator for Take<I> {
 
     type Error = I::Error;
 
-    ghost contract = { seen_as take_parts (take_contract I.contract) };
+    ghost contract = { parts_as take_parts (take_contract I.contract) };
 
     /// Draws once, and nothing if no item is left to take.
     fn next(&mut self) -> Result<Option<I::Item>, I::Error> {
@@ -41,5 +41,5 @@ impl<I: FallibleIterator> FallibleIterator for Take<I> {
         up_to(self.it.size_hint(), self.to_take)
     }
 
-    ghost lawful = { lawful_seen take_parts (lawful_take I.lawful) };
+    ghost lawful = { lawful_parts take_made (lawful_take I.lawful) };
 }

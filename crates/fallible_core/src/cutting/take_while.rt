@@ -1,9 +1,9 @@
 // The adapter that ends at the first item that a predicate rejects.
 ghost use Rattle.std.specs.Prelude.{Result, Option};
-ghost use Rattle.fallible_contract.specs.Contract.{seen_as};
+ghost use Rattle.fallible_contract.specs.Contract.{parts_as};
 ghost use Rattle.fallible_contract.specs.Closures.{call_by_reference, takes_by_reference};
-ghost use Rattle.fallible_contract.specs.Laws.Contract.{lawful_seen};
-ghost use Rattle.fallible_core.specs.Cutting.TakeWhile.{refusing_call, take_while_contract, take_while_outcome, take_while_parts};
+ghost use Rattle.fallible_contract.specs.Laws.Contract.{lawful_parts};
+ghost use Rattle.fallible_core.specs.Cutting.TakeWhile.{refusing_call, take_while_contract, take_while_outcome, take_while_made, take_while_parts};
 ghost use Rattle.fallible_core.specs.Laws.Cutting.TakeWhile.{lawful_take_while};
 
 use crate::passing::drive_passing;
@@ -28,7 +28,7 @@ where
 
     type Error = I::Error;
 
-    ghost contract = { seen_as take_while_parts (take_while_contract I.contract P.FnMut) };
+    ghost contract = { parts_as take_while_parts (take_while_contract I.contract P.FnMut) };
 
     /// Draws once, and calls the predicate on an item; draws nothing once an item was rejected.
     fn next(&mut self) -> Result<Option<I::Item>, I::Error> {
@@ -57,7 +57,7 @@ where
         drive_passing(&mut self.it, &mut self.taking, &TakeWhilePass, state, turn)
     }
 
-    ghost lawful = { lawful_seen take_while_parts (lawful_take_while P.FnMut I.lawful) };
+    ghost lawful = { lawful_parts take_while_made (lawful_take_while P.FnMut I.lawful) };
 }
 
 // An item that the predicate accepts; at one that it rejects the call returns `Ok(None)`. The flag beside the predicate says whether it rejected one.

@@ -1,10 +1,10 @@
 // The adapter that swaps the ends.
 ghost use Rattle.std.specs.Prelude.{Result, Option};
-ghost use Rattle.fallible_contract.specs.Contract.{seen_as};
-ghost use Rattle.fallible_contract.specs.Ends.{from_front, ends_of, ends_seen_as};
-ghost use Rattle.fallible_contract.specs.Laws.Contract.{lawful_seen};
-ghost use Rattle.fallible_contract.specs.Laws.Ends.{lawful_ends_seen, lawful_ends_swapped};
-ghost use Rattle.fallible_core.specs.Ends.Rev.{rev_contract, rev_parts};
+ghost use Rattle.fallible_contract.specs.Contract.{parts_as};
+ghost use Rattle.fallible_contract.specs.Ends.{from_front, ends_of, ends_parts_as};
+ghost use Rattle.fallible_contract.specs.Laws.Contract.{lawful_parts};
+ghost use Rattle.fallible_contract.specs.Laws.Ends.{lawful_ends_parts, lawful_ends_swapped};
+ghost use Rattle.fallible_core.specs.Ends.Rev.{rev_contract, rev_made, rev_parts};
 
 use crate::traits::FallibleIterator;
 use crate::traits::double_ended::DoubleEndedFallibleIterator;
@@ -21,7 +21,7 @@ impl<I: DoubleEndedFallibleIterator> FallibleIterator for Rev<I> {
 
     type Error = I::Error;
 
-    ghost contract = { seen_as rev_parts (rev_contract I.contract I.ends) };
+    ghost contract = { parts_as rev_parts (rev_contract I.contract I.ends) };
 
     /// Draws the source once from the back.
     fn next(&mut self) -> Result<Option<I::Item>, I::Error> {
@@ -40,11 +40,11 @@ impl<I: DoubleEndedFallibleIterator> FallibleIterator for Rev<I> {
         self.it.drive_back(state, turn)
     }
 
-    ghost lawful = { lawful_seen rev_parts I.lawful_ends.back };
+    ghost lawful = { lawful_parts rev_made I.lawful_ends.back };
 }
 
 impl<I: DoubleEndedFallibleIterator> DoubleEndedFallibleIterator for Rev<I> {
-    ghost ends = { ends_seen_as rev_parts (ends_of (from_front I.contract I.ends)) };
+    ghost ends = { ends_parts_as rev_parts (ends_of (from_front I.contract I.ends)) };
 
     /// Draws the source once from the front.
     fn next_back(&mut self) -> Result<Option<I::Item>, I::Error> {
@@ -59,5 +59,5 @@ impl<I: DoubleEndedFallibleIterator> DoubleEndedFallibleIterator for Rev<I> {
         self.it.drive(state, turn)
     }
 
-    ghost lawful_ends = { lawful_ends_seen rev_parts (lawful_ends_swapped I.lawful_ends) };
+    ghost lawful_ends = { lawful_ends_parts rev_made (lawful_ends_swapped I.lawful_ends) };
 }

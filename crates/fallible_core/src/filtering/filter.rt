@@ -1,11 +1,11 @@
 // The adapter that leaves out the items that a predicate rejects.
 ghost use Rattle.std.specs.Prelude.{Result, Option};
-ghost use Rattle.fallible_contract.specs.Contract.{seen_as};
+ghost use Rattle.fallible_contract.specs.Contract.{parts_as};
 ghost use Rattle.fallible_contract.specs.Closures.{call_by_reference, takes_by_reference};
-ghost use Rattle.fallible_contract.specs.Ends.{from_back, ends_of, ends_seen_as};
-ghost use Rattle.fallible_contract.specs.Laws.Contract.{lawful_seen};
-ghost use Rattle.fallible_contract.specs.Laws.Ends.{lawful_ends_seen};
-ghost use Rattle.fallible_core.specs.Filtering.Filter.{tested_outcome, filter_contract, filter_parts};
+ghost use Rattle.fallible_contract.specs.Ends.{from_back, ends_of, ends_parts_as};
+ghost use Rattle.fallible_contract.specs.Laws.Contract.{lawful_parts};
+ghost use Rattle.fallible_contract.specs.Laws.Ends.{lawful_ends_parts};
+ghost use Rattle.fallible_core.specs.Filtering.Filter.{tested_outcome, filter_contract, filter_made, filter_parts};
 ghost use Rattle.fallible_core.specs.Laws.Filtering.Filter.{lawful_filter, lawful_ends_filter};
 
 use crate::passing::{PassDrawTurn, drive_back_passing, drive_count_passing, drive_passing};
@@ -31,7 +31,7 @@ where
 
     type Error = I::Error;
 
-    ghost contract = { seen_as filter_parts (filter_contract I.contract F.FnMut) };
+    ghost contract = { parts_as filter_parts (filter_contract I.contract F.FnMut) };
 
     /// Draws until an item is kept, or a failure or `Ok(None)` comes. It calls the predicate on each item.
     fn next(&mut self) -> Result<Option<I::Item>, I::Error> {
@@ -72,7 +72,7 @@ where
         }
     }
 
-    ghost lawful = { lawful_seen filter_parts (lawful_filter F.FnMut I.lawful) };
+    ghost lawful = { lawful_parts filter_made (lawful_filter F.FnMut I.lawful) };
 }
 
 impl<
@@ -82,7 +82,7 @@ impl<
 where
     I::Item: Drop,
 {
-    ghost ends = { ends_seen_as filter_parts
+    ghost ends = { ends_parts_as filter_parts
         (ends_of (filter_contract (from_back I.contract I.ends) F.FnMut)) };
 
     /// Draws from the back until an item is kept, or a failure or `Ok(None)` comes. It calls the predicate on each item.
@@ -101,8 +101,8 @@ where
         drive_back_passing(&mut self.it, &mut self.f, &FilterPass, state, turn)
     }
 
-    ghost lawful_ends = { lawful_ends_seen
-        filter_parts (lawful_ends_filter F.FnMut I.lawful_ends) };
+    ghost lawful_ends = { lawful_ends_parts
+        filter_made (lawful_ends_filter F.FnMut I.lawful_ends) };
 }
 
 // What becomes of an item by the predicate's result.

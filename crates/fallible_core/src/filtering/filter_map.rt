@@ -1,11 +1,11 @@
 // The adapter that leaves out the items for which its closure returns `None`.
 ghost use Rattle.std.specs.Prelude.{Result, Option};
-ghost use Rattle.fallible_contract.specs.Contract.{seen_as};
+ghost use Rattle.fallible_contract.specs.Contract.{parts_as};
 ghost use Rattle.fallible_contract.specs.Closures.{call_by_value, takes_by_value};
-ghost use Rattle.fallible_contract.specs.Ends.{from_back, ends_of, ends_seen_as};
-ghost use Rattle.fallible_contract.specs.Laws.Contract.{lawful_seen};
-ghost use Rattle.fallible_contract.specs.Laws.Ends.{lawful_ends_seen};
-ghost use Rattle.fallible_core.specs.Filtering.FilterMap.{filter_map_outcome, filter_map_contract, filter_map_parts};
+ghost use Rattle.fallible_contract.specs.Ends.{from_back, ends_of, ends_parts_as};
+ghost use Rattle.fallible_contract.specs.Laws.Contract.{lawful_parts};
+ghost use Rattle.fallible_contract.specs.Laws.Ends.{lawful_ends_parts};
+ghost use Rattle.fallible_core.specs.Filtering.FilterMap.{filter_map_outcome, filter_map_contract, filter_map_made, filter_map_parts};
 ghost use Rattle.fallible_core.specs.Laws.Filtering.FilterMap.{lawful_filter_map, lawful_ends_filter_map};
 
 use crate::passing::{drive_back_passing, drive_count_passing, drive_passing};
@@ -29,7 +29,7 @@ impl<I: FallibleIterator, B, F: FnMut(I::Item) -> Result<Option<B>, I::Error>> F
 
     type Error = I::Error;
 
-    ghost contract = { seen_as filter_map_parts (filter_map_contract I.contract F.FnMut) };
+    ghost contract = { parts_as filter_map_parts (filter_map_contract I.contract F.FnMut) };
 
     /// Draws until the closure returns a value, or a failure or `Ok(None)` comes. It calls the closure on each item.
     fn next(&mut self) -> Result<Option<B>, I::Error> {
@@ -70,7 +70,7 @@ impl<I: FallibleIterator, B, F: FnMut(I::Item) -> Result<Option<B>, I::Error>> F
         }
     }
 
-    ghost lawful = { lawful_seen filter_map_parts (lawful_filter_map F.FnMut I.lawful) };
+    ghost lawful = { lawful_parts filter_map_made (lawful_filter_map F.FnMut I.lawful) };
 }
 
 impl<
@@ -78,7 +78,7 @@ impl<
     B,
     F: FnMut(I::Item) -> Result<Option<B>, I::Error>,
 > DoubleEndedFallibleIterator for FilterMap<I, F> {
-    ghost ends = { ends_seen_as filter_map_parts
+    ghost ends = { ends_parts_as filter_map_parts
         (ends_of (filter_map_contract (from_back I.contract I.ends) F.FnMut)) };
 
     /// Draws from the back until the closure returns a value, or a failure or `Ok(None)` comes. It calls the closure on each item.
@@ -94,7 +94,7 @@ impl<
         drive_back_passing(&mut self.it, &mut self.f, &FilterMapPass, state, turn)
     }
 
-    ghost lawful_ends = { lawful_ends_seen filter_map_parts
+    ghost lawful_ends = { lawful_ends_parts filter_map_made
         (lawful_ends_filter_map F.FnMut I.lawful_ends) };
 }
 

@@ -1,10 +1,10 @@
 // The adapter that skips items up to the first one that a predicate rejects.
 ghost use Rattle.std.specs.Prelude.{Some, Result, Option};
 ghost use Rattle.fallible_contract.specs.Closures.{call_by_reference, takes_by_reference};
-ghost use Rattle.fallible_contract.specs.Contract.{seen_as};
+ghost use Rattle.fallible_contract.specs.Contract.{parts_as};
 ghost use Rattle.fallible_contract.specs.Passing.{PassTest};
-ghost use Rattle.fallible_contract.specs.Laws.Contract.{lawful_seen};
-ghost use Rattle.fallible_core.specs.Filtering.SkipWhile.{skip_call, skip_takes, skip_while_outcome, skip_while_contract, skip_while_parts};
+ghost use Rattle.fallible_contract.specs.Laws.Contract.{lawful_parts};
+ghost use Rattle.fallible_core.specs.Filtering.SkipWhile.{skip_call, skip_takes, skip_while_outcome, skip_while_contract, skip_while_made, skip_while_parts};
 ghost use Rattle.fallible_core.specs.Laws.Filtering.SkipWhile.{lawful_skip_while};
 
 use crate::traits::FallibleIterator;
@@ -29,7 +29,7 @@ where
 
     type Error = I::Error;
 
-    ghost contract = { seen_as skip_while_parts (skip_while_contract I.contract P.FnMut) };
+    ghost contract = { parts_as skip_while_parts (skip_while_contract I.contract P.FnMut) };
 
     /// Draws until an item is kept, or a failure or `Ok(None)` comes. It calls the predicate on each item until it first returned false. From then on it draws once.
     fn next(&mut self) -> Result<Option<I::Item>, I::Error> {
@@ -67,7 +67,7 @@ where
         }
     }
 
-    ghost lawful = { lawful_seen skip_while_parts (lawful_skip_while P.FnMut I.lawful) };
+    ghost lawful = { lawful_parts skip_while_made (lawful_skip_while P.FnMut I.lawful) };
 }
 
 // The test of the search in `next`, whose state is the flag beside the predicate: it accepts an item once the predicate returned false, or if it does so for this one.

@@ -1,10 +1,10 @@
 // The adapter that draws one source up to its first `Ok(None)`, and then another.
 ghost use Rattle.std.specs.Prelude.{◌≡◌, Result, Option};
-ghost use Rattle.fallible_contract.specs.Contract.{seen_as};
-ghost use Rattle.fallible_contract.specs.Ends.{ends_seen_as};
-ghost use Rattle.fallible_contract.specs.Laws.Contract.{lawful_seen};
-ghost use Rattle.fallible_contract.specs.Laws.Ends.{lawful_ends_seen};
-ghost use Rattle.fallible_core.specs.Joining.Chain.{chain_contract, chain_ends, chain_parts};
+ghost use Rattle.fallible_contract.specs.Contract.{parts_as};
+ghost use Rattle.fallible_contract.specs.Ends.{ends_parts_as};
+ghost use Rattle.fallible_contract.specs.Laws.Contract.{lawful_parts};
+ghost use Rattle.fallible_contract.specs.Laws.Ends.{lawful_ends_parts};
+ghost use Rattle.fallible_core.specs.Joining.Chain.{chain_contract, chain_ends, chain_made, chain_parts};
 ghost use Rattle.fallible_core.specs.Laws.Joining.Chain.{lawful_chain, lawful_ends_chain};
 
 use crate::traits::FallibleIterator;
@@ -35,7 +35,7 @@ impl<T: FallibleIterator, U: FallibleIterator<Item = T::Item, Error = T::Error>>
 
     type Error = T::Error;
 
-    ghost contract = { seen_as chain_parts (chain_contract T.contract U.contract) };
+    ghost contract = { parts_as chain_parts (chain_contract T.contract U.contract) };
 
     /// While both sides are drawn it draws the first once. If that is its first `Ok(None)`, it draws the second once in the same call, which alone is drawn from then on. A failure changes no side. If one side alone is drawn, it draws that side once.
     fn next(&mut self) -> Result<Option<T::Item>, T::Error> {
@@ -114,14 +114,14 @@ impl<T: FallibleIterator, U: FallibleIterator<Item = T::Item, Error = T::Error>>
         }
     }
 
-    ghost lawful = { lawful_seen chain_parts (lawful_chain T.lawful U.lawful) };
+    ghost lawful = { lawful_parts chain_made (lawful_chain T.lawful U.lawful) };
 }
 
 impl<
     T: DoubleEndedFallibleIterator,
     U: DoubleEndedFallibleIterator<Item = T::Item, Error = T::Error>,
 > DoubleEndedFallibleIterator for Chain<T, U> {
-    ghost ends = { ends_seen_as chain_parts (chain_ends T.ends U.ends) };
+    ghost ends = { ends_parts_as chain_parts (chain_ends T.ends U.ends) };
 
     /// While both sides are drawn it draws the second once from the back. If that is its first `Ok(None)`, it draws the first once from the back in the same call, which alone is drawn from then on, from either end. A failure changes no side. If one side alone is drawn, it draws that side once from the back.
     fn next_back(&mut self) -> Result<Option<T::Item>, T::Error> {
@@ -166,6 +166,6 @@ impl<
         }
     }
 
-    ghost lawful_ends = { lawful_ends_seen chain_parts
+    ghost lawful_ends = { lawful_ends_parts chain_made
         (lawful_ends_chain T.lawful_ends U.lawful_ends) };
 }

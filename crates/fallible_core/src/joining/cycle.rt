@@ -1,8 +1,8 @@
 // The adapter that starts anew at each `Ok(None)`.
 ghost use Rattle.std.specs.Prelude.{Result, Option};
-ghost use Rattle.fallible_contract.specs.Contract.{seen_as};
-ghost use Rattle.fallible_contract.specs.Laws.Contract.{lawful_seen};
-ghost use Rattle.fallible_core.specs.Joining.Cycle.{cycle_contract, cycle_parts};
+ghost use Rattle.fallible_contract.specs.Contract.{parts_as};
+ghost use Rattle.fallible_contract.specs.Laws.Contract.{lawful_parts};
+ghost use Rattle.fallible_core.specs.Joining.Cycle.{cycle_contract, cycle_made, cycle_parts};
 ghost use Rattle.fallible_core.specs.Laws.Joining.Cycle.{lawful_cycle};
 
 use crate::traits::FallibleIterator;
@@ -25,7 +25,7 @@ where
 
     type Error = I::Error;
 
-    ghost contract = { seen_as cycle_parts
+    ghost contract = { parts_as cycle_parts
         (cycle_contract I.is_clone I.is_infallible I.Error.from_gives I.contract) };
 
     /// Draws the current run once. At `Ok(None)` it clones the kept source. The clone is the current run then, and is drawn once, whatever comes. The kept source stays in each case.
@@ -56,6 +56,6 @@ where
         }
     }
 
-    ghost lawful = { lawful_seen cycle_parts
+    ghost lawful = { lawful_parts cycle_made
         (lawful_cycle I.is_clone I.is_infallible I.Error.from_gives I.lawful) };
 }

@@ -1,8 +1,8 @@
 // The adapter that yields what the inner iterators yield which a closure makes.
 ghost use Rattle.std.specs.Prelude.{Option, Result};
-ghost use Rattle.fallible_contract.specs.Contract.{seen_as};
-ghost use Rattle.fallible_contract.specs.Laws.Contract.{lawful_seen};
-ghost use Rattle.fallible_core.specs.Joining.FlatMap.{flat_map_contract, flat_map_parts};
+ghost use Rattle.fallible_contract.specs.Contract.{parts_as};
+ghost use Rattle.fallible_contract.specs.Laws.Contract.{lawful_parts};
+ghost use Rattle.fallible_core.specs.Joining.FlatMap.{flat_map_contract, flat_map_made, flat_map_parts};
 ghost use Rattle.fallible_core.specs.Laws.Joining.FlatMap.{lawful_flat_map};
 
 use crate::joining::flatten::{drive_joined, next_joined};
@@ -32,7 +32,7 @@ impl<
 
     type Error = U::Error;
 
-    ghost contract = { seen_as flat_map_parts
+    ghost contract = { parts_as flat_map_parts
         (flat_map_contract I.contract F.FnMut U.into_gives U.IntoFallibleIter.contract) };
 
     /// Draws as `Flatten` does, and calls the closure once on each item that it draws.
@@ -53,6 +53,6 @@ impl<
         drive_joined(&mut self.it, &mut self.in_hand, state, turn)
     }
 
-    ghost lawful = { lawful_seen flat_map_parts
+    ghost lawful = { lawful_parts flat_map_made
         (lawful_flat_map F.FnMut I.lawful U.into_gives U.IntoFallibleIter.lawful) };
 }

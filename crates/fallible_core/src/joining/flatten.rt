@@ -1,9 +1,9 @@
 // The adapter that yields what inner iterators yield.
 ghost use Rattle.std.specs.Prelude.{◌≡◌, ℕ, [], ◌∷◌, None, Ok, List, Option, Result};
-ghost use Rattle.fallible_contract.specs.Contract.{seen_as};
+ghost use Rattle.fallible_contract.specs.Contract.{parts_as};
 ghost use Rattle.fallible_contract.specs.Folds.{CallableDriving, Driven, TurnThrough, beside, beside_names};
-ghost use Rattle.fallible_contract.specs.Laws.Contract.{lawful_seen};
-ghost use Rattle.fallible_core.specs.Joining.Flatten.{FlattenTrace, flatten_contract, JoiningTakes, IsFlattenTurn, flatten_parts};
+ghost use Rattle.fallible_contract.specs.Laws.Contract.{lawful_parts};
+ghost use Rattle.fallible_core.specs.Joining.Flatten.{FlattenTrace, flatten_contract, JoiningTakes, IsFlattenTurn, flatten_made, flatten_parts};
 ghost use Rattle.fallible_core.specs.Laws.Joining.Flatten.{lawful_flatten};
 
 use crate::traits::FallibleIterator;
@@ -27,7 +27,7 @@ impl<U: IntoFallibleIterator, I: FallibleIterator<Item = U, Error = U::Error>> F
 
     type Error = U::Error;
 
-    ghost contract = { seen_as flatten_parts
+    ghost contract = { parts_as flatten_parts
         (flatten_contract I.contract U.into_gives U.IntoFallibleIter.contract) };
 
     /// Draws the current inner iterator. If there is none or it ended, it draws the outer source until an item becomes an inner iterator that does not end at once, or a failure or `Ok(None)` comes.
@@ -50,7 +50,7 @@ impl<U: IntoFallibleIterator, I: FallibleIterator<Item = U, Error = U::Error>> F
         drive_joined(&mut self.it, &mut self.in_hand, state, turn)
     }
 
-    ghost lawful = { lawful_seen flatten_parts
+    ghost lawful = { lawful_parts flatten_made
         (lawful_flatten _ I.lawful U.into_gives _ U.IntoFallibleIter.lawful) };
 }
 

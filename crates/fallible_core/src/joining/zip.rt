@@ -1,8 +1,8 @@
 // The adapter that pairs the items of two sources.
 ghost use Rattle.std.specs.Prelude.{◌≡◌, Result, Option};
-ghost use Rattle.fallible_contract.specs.Contract.{seen_as};
-ghost use Rattle.fallible_contract.specs.Laws.Contract.{lawful_seen};
-ghost use Rattle.fallible_core.specs.Joining.Zip.{zip_contract, zip_parts};
+ghost use Rattle.fallible_contract.specs.Contract.{parts_as};
+ghost use Rattle.fallible_contract.specs.Laws.Contract.{lawful_parts};
+ghost use Rattle.fallible_core.specs.Joining.Zip.{zip_contract, zip_made, zip_parts};
 ghost use Rattle.fallible_core.specs.Laws.Joining.Zip.{lawful_zip};
 
 use crate::traits::FallibleIterator;
@@ -24,7 +24,7 @@ where
 
     type Error = T::Error;
 
-    ghost contract = { seen_as zip_parts (zip_contract T.contract U.contract) };
+    ghost contract = { parts_as zip_parts (zip_contract T.contract U.contract) };
 
     /// Draws the left once, and then, unless that failed, the right once.
     fn next(&mut self) -> Result<Option<(T::Item, U::Item)>, T::Error> {
@@ -41,5 +41,5 @@ where
         smaller(self.left.size_hint(), self.right.size_hint())
     }
 
-    ghost lawful = { lawful_seen zip_parts (lawful_zip T.lawful U.lawful) };
+    ghost lawful = { lawful_parts zip_made (lawful_zip T.lawful U.lawful) };
 }

@@ -1,11 +1,11 @@
 // The adapter that clones what each item points to.
 ghost use Rattle.std.specs.Prelude.{⊤, Some, Result, Option};
-ghost use Rattle.fallible_contract.specs.Contract.{seen_as};
-ghost use Rattle.fallible_contract.specs.Ends.{from_back, ends_of, ends_seen_as};
-ghost use Rattle.fallible_contract.specs.Laws.Contract.{lawful_seen};
-ghost use Rattle.fallible_contract.specs.Laws.Ends.{lawful_ends_seen};
+ghost use Rattle.fallible_contract.specs.Contract.{parts_as};
+ghost use Rattle.fallible_contract.specs.Ends.{from_back, ends_of, ends_parts_as};
+ghost use Rattle.fallible_contract.specs.Laws.Contract.{lawful_parts};
+ghost use Rattle.fallible_contract.specs.Laws.Ends.{lawful_ends_parts};
 ghost use Rattle.fallible_core.specs.OneToOne.Map.{map_outcome};
-ghost use Rattle.fallible_core.specs.OneToOne.Cloned.{cloned_call, cloned_contract, cloned_parts};
+ghost use Rattle.fallible_core.specs.OneToOne.Cloned.{cloned_call, cloned_contract, cloned_made, cloned_parts};
 ghost use Rattle.fallible_core.specs.Laws.OneToOne.Cloned.{lawful_cloned, lawful_ends_cloned};
 
 use crate::passing::{drive_back_passing, drive_passing};
@@ -31,7 +31,7 @@ where
 
     type Error = I::Error;
 
-    ghost contract = { seen_as cloned_parts (cloned_contract T.is_clone T.is_infallible
+    ghost contract = { parts_as cloned_parts (cloned_contract T.is_clone T.is_infallible
         I.Error.from_gives I.contract) };
 
     /// Draws once, and returns a clone of what the item points to.
@@ -51,7 +51,7 @@ where
         drive_passing(&mut self.it, &mut (), &ClonePass, state, turn)
     }
 
-    ghost lawful = { lawful_seen cloned_parts
+    ghost lawful = { lawful_parts cloned_made
         (lawful_cloned T.is_clone T.is_infallible I.Error.from_gives I.lawful) };
 }
 
@@ -60,7 +60,7 @@ impl<'a, T: Clone + 'a, I: DoubleEndedFallibleIterator<Item = &'a T>> DoubleEnde
 where
     I::Error: From<AllocError>,
 {
-    ghost ends = { ends_seen_as cloned_parts (ends_of (cloned_contract T.is_clone T.is_infallible
+    ghost ends = { ends_parts_as cloned_parts (ends_of (cloned_contract T.is_clone T.is_infallible
         I.Error.from_gives (from_back I.contract I.ends))) };
 
     /// Draws once from the back, and returns a clone of what the item points to.
@@ -76,7 +76,7 @@ where
         drive_back_passing(&mut self.it, &mut (), &ClonePass, state, turn)
     }
 
-    ghost lawful_ends = { lawful_ends_seen cloned_parts
+    ghost lawful_ends = { lawful_ends_parts cloned_made
         (lawful_ends_cloned T.is_clone T.is_infallible I.Error.from_gives I.lawful_ends) };
 }
 

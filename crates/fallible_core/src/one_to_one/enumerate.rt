@@ -1,8 +1,8 @@
 // The adapter that numbers the items.
 ghost use Rattle.std.specs.Prelude.{Some, Result, Option};
-ghost use Rattle.fallible_contract.specs.Contract.{seen_as};
-ghost use Rattle.fallible_contract.specs.Laws.Contract.{lawful_seen};
-ghost use Rattle.fallible_core.specs.OneToOne.Enumerate.{enumerate_contract, enumerate_parts, number_call, number_outcome, number_takes};
+ghost use Rattle.fallible_contract.specs.Contract.{parts_as};
+ghost use Rattle.fallible_contract.specs.Laws.Contract.{lawful_parts};
+ghost use Rattle.fallible_core.specs.OneToOne.Enumerate.{enumerate_contract, enumerate_made, enumerate_parts, number_call, number_outcome, number_takes};
 ghost use Rattle.fallible_core.specs.Laws.OneToOne.Enumerate.{lawful_enumerate};
 
 use crate::goals::count_on;
@@ -27,7 +27,7 @@ where
 
     type Error = I::Error;
 
-    ghost contract = { seen_as enumerate_parts (enumerate_contract I.contract) };
+    ghost contract = { parts_as enumerate_parts (enumerate_contract I.contract) };
 
     /// Draws once, and counts an item.
     fn next(&mut self) -> Result<Option<(usize, I::Item)>, I::Error> {
@@ -71,7 +71,7 @@ where
         }
     }
 
-    ghost lawful = { lawful_seen enumerate_parts (lawful_enumerate I.lawful) };
+    ghost lawful = { lawful_parts enumerate_made (lawful_enumerate I.lawful) };
 }
 
 // An item with its number. Its state is the number of the next item.

@@ -1,11 +1,11 @@
 // The adapter that calls a closure on a reference to each item.
 ghost use Rattle.std.specs.Prelude.{Some, Result, Option};
-ghost use Rattle.fallible_contract.specs.Contract.{seen_as};
+ghost use Rattle.fallible_contract.specs.Contract.{parts_as};
 ghost use Rattle.fallible_contract.specs.Closures.{call_by_reference, takes_by_reference};
-ghost use Rattle.fallible_contract.specs.Ends.{from_back, ends_of, ends_seen_as};
-ghost use Rattle.fallible_contract.specs.Laws.Contract.{lawful_seen};
-ghost use Rattle.fallible_contract.specs.Laws.Ends.{lawful_ends_seen};
-ghost use Rattle.fallible_core.specs.OneToOne.Inspect.{inspect_contract, inspect_outcome, inspect_parts};
+ghost use Rattle.fallible_contract.specs.Ends.{from_back, ends_of, ends_parts_as};
+ghost use Rattle.fallible_contract.specs.Laws.Contract.{lawful_parts};
+ghost use Rattle.fallible_contract.specs.Laws.Ends.{lawful_ends_parts};
+ghost use Rattle.fallible_core.specs.OneToOne.Inspect.{inspect_contract, inspect_outcome, inspect_made, inspect_parts};
 ghost use Rattle.fallible_core.specs.Laws.OneToOne.Inspect.{lawful_inspect, lawful_ends_inspect};
 
 use crate::passing::{drive_back_passing, drive_passing};
@@ -30,7 +30,7 @@ where
 
     type Error = I::Error;
 
-    ghost contract = { seen_as inspect_parts (inspect_contract I.contract F.FnMut) };
+    ghost contract = { parts_as inspect_parts (inspect_contract I.contract F.FnMut) };
 
     /// Draws once, and calls the closure on an item.
     fn next(&mut self) -> Result<Option<I::Item>, I::Error> {
@@ -49,7 +49,7 @@ where
         drive_passing(&mut self.it, &mut self.f, &InspectPass, state, turn)
     }
 
-    ghost lawful = { lawful_seen inspect_parts (lawful_inspect F.FnMut I.lawful) };
+    ghost lawful = { lawful_parts inspect_made (lawful_inspect F.FnMut I.lawful) };
 }
 
 impl<
@@ -59,7 +59,7 @@ impl<
 where
     I::Item: Drop,
 {
-    ghost ends = { ends_seen_as inspect_parts
+    ghost ends = { ends_parts_as inspect_parts
         (ends_of (inspect_contract (from_back I.contract I.ends) F.FnMut)) };
 
     /// Draws once from the back, and calls the closure on an item.
@@ -75,7 +75,7 @@ where
         drive_back_passing(&mut self.it, &mut self.f, &InspectPass, state, turn)
     }
 
-    ghost lawful_ends = { lawful_ends_seen inspect_parts
+    ghost lawful_ends = { lawful_ends_parts inspect_made
         (lawful_ends_inspect F.FnMut I.lawful_ends) };
 }
 

@@ -1,11 +1,11 @@
 // The adapter that calls a closure on each item.
 ghost use Rattle.std.specs.Prelude.{Some, Result, Option};
-ghost use Rattle.fallible_contract.specs.Contract.{seen_as};
+ghost use Rattle.fallible_contract.specs.Contract.{parts_as};
 ghost use Rattle.fallible_contract.specs.Closures.{call_by_value, takes_by_value};
-ghost use Rattle.fallible_contract.specs.Ends.{from_back, ends_of, ends_seen_as};
-ghost use Rattle.fallible_contract.specs.Laws.Contract.{lawful_seen};
-ghost use Rattle.fallible_contract.specs.Laws.Ends.{lawful_ends_seen};
-ghost use Rattle.fallible_core.specs.OneToOne.Map.{map_contract, map_outcome, map_parts};
+ghost use Rattle.fallible_contract.specs.Ends.{from_back, ends_of, ends_parts_as};
+ghost use Rattle.fallible_contract.specs.Laws.Contract.{lawful_parts};
+ghost use Rattle.fallible_contract.specs.Laws.Ends.{lawful_ends_parts};
+ghost use Rattle.fallible_core.specs.OneToOne.Map.{map_contract, map_outcome, map_made, map_parts};
 ghost use Rattle.fallible_core.specs.Laws.OneToOne.Map.{lawful_map, lawful_ends_map};
 
 use crate::passing::{drive_back_passing, drive_passing};
@@ -36,7 +36,7 @@ impl<I: FallibleIterator, B, F: FnMut(I::Item) -> Result<B, I::Error>> FallibleI
 
     type Error = I::Error;
 
-    ghost contract = { seen_as map_parts (map_contract I.contract F.FnMut) };
+    ghost contract = { parts_as map_parts (map_contract I.contract F.FnMut) };
 
     /// Draws once, and calls the closure on an item.
     fn next(&mut self) -> Result<Option<B>, I::Error> {
@@ -55,7 +55,7 @@ impl<I: FallibleIterator, B, F: FnMut(I::Item) -> Result<B, I::Error>> FallibleI
         drive_passing(&mut self.it, &mut self.f, &MapPass, state, turn)
     }
 
-    ghost lawful = { lawful_seen map_parts (lawful_map F.FnMut I.lawful) };
+    ghost lawful = { lawful_parts map_made (lawful_map F.FnMut I.lawful) };
 }
 
 impl<
@@ -63,7 +63,7 @@ impl<
     B,
     F: FnMut(I::Item) -> Result<B, I::Error>,
 > DoubleEndedFallibleIterator for Map<I, F> {
-    ghost ends = { ends_seen_as map_parts
+    ghost ends = { ends_parts_as map_parts
         (ends_of (map_contract (from_back I.contract I.ends) F.FnMut)) };
 
     /// Draws once from the back, and calls the closure on an item.
@@ -79,7 +79,7 @@ impl<
         drive_back_passing(&mut self.it, &mut self.f, &MapPass, state, turn)
     }
 
-    ghost lawful_ends = { lawful_ends_seen map_parts (lawful_ends_map F.FnMut I.lawful_ends) };
+    ghost lawful_ends = { lawful_ends_parts map_made (lawful_ends_map F.FnMut I.lawful_ends) };
 }
 
 // What the closure makes of an item.

@@ -1,11 +1,11 @@
 // The adapter that calls a closure on each failure.
 ghost use Rattle.std.specs.Prelude.{Result, Option};
-ghost use Rattle.fallible_contract.specs.Contract.{seen_as};
+ghost use Rattle.fallible_contract.specs.Contract.{parts_as};
 ghost use Rattle.fallible_contract.specs.Closures.{call_by_value, takes_by_value};
-ghost use Rattle.fallible_contract.specs.Ends.{from_back, ends_of, ends_seen_as};
-ghost use Rattle.fallible_contract.specs.Laws.Contract.{lawful_seen};
-ghost use Rattle.fallible_contract.specs.Laws.Ends.{lawful_ends_seen};
-ghost use Rattle.fallible_core.specs.OneToOne.MapErr.{map_err_contract, map_err_parts};
+ghost use Rattle.fallible_contract.specs.Ends.{from_back, ends_of, ends_parts_as};
+ghost use Rattle.fallible_contract.specs.Laws.Contract.{lawful_parts};
+ghost use Rattle.fallible_contract.specs.Laws.Ends.{lawful_ends_parts};
+ghost use Rattle.fallible_core.specs.OneToOne.MapErr.{map_err_contract, map_err_made, map_err_parts};
 ghost use Rattle.fallible_core.specs.Laws.OneToOne.MapErr.{lawful_map_err, lawful_ends_map_err};
 
 use crate::failing::{drive_back_failing, drive_failing};
@@ -27,7 +27,7 @@ impl<I: FallibleIterator, B, F: FnMut(I::Error) -> B> FallibleIterator for MapEr
 
     type Error = B;
 
-    ghost contract = { seen_as map_err_parts (map_err_contract I.contract F.FnMut) };
+    ghost contract = { parts_as map_err_parts (map_err_contract I.contract F.FnMut) };
 
     /// Draws once, and calls the closure if a failure came.
     fn next(&mut self) -> Result<Option<I::Item>, B> {
@@ -54,12 +54,12 @@ impl<I: FallibleIterator, B, F: FnMut(I::Error) -> B> FallibleIterator for MapEr
         failed(self.it.drive_to(goal), &mut self.f, &MapErrFail)
     }
 
-    ghost lawful = { lawful_seen map_err_parts (lawful_map_err F.FnMut I.lawful) };
+    ghost lawful = { lawful_parts map_err_made (lawful_map_err F.FnMut I.lawful) };
 }
 
 impl<I: DoubleEndedFallibleIterator, B, F: FnMut(I::Error) -> B> DoubleEndedFallibleIterator
     for MapErr<I, F> {
-    ghost ends = { ends_seen_as map_err_parts
+    ghost ends = { ends_parts_as map_err_parts
         (ends_of (map_err_contract (from_back I.contract I.ends) F.FnMut)) };
 
     /// Draws once from the back, and calls the closure if a failure came.
@@ -75,7 +75,7 @@ impl<I: DoubleEndedFallibleIterator, B, F: FnMut(I::Error) -> B> DoubleEndedFall
         drive_back_failing(&mut self.it, &mut self.f, &MapErrFail, state, turn)
     }
 
-    ghost lawful_ends = { lawful_ends_seen map_err_parts
+    ghost lawful_ends = { lawful_ends_parts map_err_made
         (lawful_ends_map_err F.FnMut I.lawful_ends) };
 }
 

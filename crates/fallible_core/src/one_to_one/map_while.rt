@@ -1,9 +1,9 @@
 // The adapter that maps each item, and returns `Ok(None)` where its closure returns `None`.
-ghost use Rattle.fallible_contract.specs.Contract.{seen_as};
+ghost use Rattle.fallible_contract.specs.Contract.{parts_as};
 ghost use Rattle.fallible_contract.specs.Closures.{call_by_value, takes_by_value};
-ghost use Rattle.fallible_contract.specs.Laws.Contract.{lawful_seen};
+ghost use Rattle.fallible_contract.specs.Laws.Contract.{lawful_parts};
 ghost use Rattle.fallible_core.specs.OneToOne.Scan.{scan_outcome};
-ghost use Rattle.fallible_core.specs.OneToOne.MapWhile.{map_while_contract, map_while_parts};
+ghost use Rattle.fallible_core.specs.OneToOne.MapWhile.{map_while_contract, map_while_made, map_while_parts};
 ghost use Rattle.fallible_core.specs.Laws.OneToOne.MapWhile.{lawful_map_while};
 
 use crate::passing::drive_passing;
@@ -24,7 +24,7 @@ impl<I: FallibleIterator, B, F: FnMut(I::Item) -> Result<Option<B>, I::Error>> F
 
     type Error = I::Error;
 
-    ghost contract = { seen_as map_while_parts (map_while_contract I.contract F.FnMut) };
+    ghost contract = { parts_as map_while_parts (map_while_contract I.contract F.FnMut) };
 
     /// Draws once, and calls the closure on an item.
     fn next(&mut self) -> Result<Option<B>, I::Error> {
@@ -43,7 +43,7 @@ impl<I: FallibleIterator, B, F: FnMut(I::Item) -> Result<Option<B>, I::Error>> F
         drive_passing(&mut self.it, &mut self.f, &MapWhilePass, state, turn)
     }
 
-    ghost lawful = { lawful_seen map_while_parts (lawful_map_while F.FnMut I.lawful) };
+    ghost lawful = { lawful_parts map_while_made (lawful_map_while F.FnMut I.lawful) };
 }
 
 // What the closure makes of an item.

@@ -1,8 +1,8 @@
 // The adapter that calls a closure on a state and each item.
 ghost use Rattle.std.specs.Prelude.{Some, Result, Option};
-ghost use Rattle.fallible_contract.specs.Contract.{seen_as};
-ghost use Rattle.fallible_contract.specs.Laws.Contract.{lawful_seen};
-ghost use Rattle.fallible_core.specs.OneToOne.Scan.{scan_call, scan_takes, scan_outcome, scan_contract, scan_parts};
+ghost use Rattle.fallible_contract.specs.Contract.{parts_as};
+ghost use Rattle.fallible_contract.specs.Laws.Contract.{lawful_parts};
+ghost use Rattle.fallible_core.specs.OneToOne.Scan.{scan_call, scan_takes, scan_outcome, scan_contract, scan_made, scan_parts};
 ghost use Rattle.fallible_core.specs.Laws.OneToOne.Scan.{lawful_scan};
 
 use crate::passing::drive_passing;
@@ -28,7 +28,7 @@ impl<
 
     type Error = I::Error;
 
-    ghost contract = { seen_as scan_parts (scan_contract I.contract F.FnMut) };
+    ghost contract = { parts_as scan_parts (scan_contract I.contract F.FnMut) };
 
     /// Draws once, and calls the closure on an item.
     fn next(&mut self) -> Result<Option<B>, I::Error> {
@@ -47,7 +47,7 @@ impl<
         drive_passing(&mut self.it, &mut self.scanning, &ScanPass, state, turn)
     }
 
-    ghost lawful = { lawful_seen scan_parts (lawful_scan F.FnMut I.lawful) };
+    ghost lawful = { lawful_parts scan_made (lawful_scan F.FnMut I.lawful) };
 }
 
 // What the closure makes of the state and an item.

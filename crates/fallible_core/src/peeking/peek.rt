@@ -4,7 +4,7 @@ ghost use Rattle.std.specs.Option.{option_copied_mut};
 ghost use Rattle.std.specs.Borrow.{sem, follows_so, LendsIf};
 ghost use mathlib.Core.Option.{none};
 ghost use Rattle.fallible_contract.specs.Clauses.{OverList, OverListWith};
-ghost use Rattle.fallible_contract.specs.Contract.{Stays, seen_as};
+ghost use Rattle.fallible_contract.specs.Contract.{Stays, parts_as};
 ghost use Rattle.fallible_contract.specs.Lists.{Lists, nth_of};
 ghost use Rattle.fallible_core.specs.Peeking.Peekable.{peekable_contract, seen, seen_mut, held_item, held_of, failure_told, with_held, changed_first, Fills, Peeks, Looks, IsTestable, peekable_parts, peekable_held, LooksAs, rest_look, look_of};
 ghost use Rattle.fallible_core.specs.contracts.peeking.peekable.Peekable.{the_row};
@@ -97,9 +97,9 @@ where
         ensures looked { Looks I.contract.steps F.Fn f
             (peekable_parts self.old) result (peekable_parts self.new) }
         ensures lists { OverListWith (LooksAs F.Fn f)
-            (seen_as peekable_parts (peekable_contract I.contract)).steps self.old
+            (parts_as peekable_parts (peekable_contract I.contract)).steps self.old
             (λ h l. (result ≡ look_of h l)
-            × Lists (seen_as peekable_parts (peekable_contract I.contract)).steps
+            × Lists (parts_as peekable_parts (peekable_contract I.contract)).steps
             self.new (rest_look l)) }
         ensures stays { Stays (peekable_contract I.contract)
             (peekable_parts self.old) (peekable_parts self.new) }
@@ -131,9 +131,9 @@ where
         ensures peeked { Peeks I.contract.steps
             (peekable_parts self.old) result (peekable_parts self.new) }
         ensures lists { OverList
-            (seen_as peekable_parts (peekable_contract I.contract)).steps self.old
+            (parts_as peekable_parts (peekable_contract I.contract)).steps self.old
             (λ l. (result ≡ nth_of 0 l)
-            × Lists (seen_as peekable_parts (peekable_contract I.contract)).steps
+            × Lists (parts_as peekable_parts (peekable_contract I.contract)).steps
             self.new (rest_look l)) }
         ensures stays { Stays (peekable_contract I.contract)
             (peekable_parts self.old) (peekable_parts self.new) }
@@ -163,10 +163,10 @@ where
         ensures stays { Stays (peekable_contract I.contract)
             (peekable_parts self.old) (peekable_parts self.new) }
         ensures lists { OverList
-            (seen_as peekable_parts (peekable_contract I.contract)).steps self.old
+            (parts_as peekable_parts (peekable_contract I.contract)).steps self.old
             (λ l. (result ≡ failure_told (nth_of 0 l))
             × (peekable_held self.new ≡ held_of (nth_of 0 l))
-            × Lists (seen_as peekable_parts (peekable_contract I.contract)).steps
+            × Lists (parts_as peekable_parts (peekable_contract I.contract)).steps
             self.new (rest_look l)) }
     {
         match self.held {
@@ -233,9 +233,9 @@ where
         ensures* writes_back { sem 𝓛 (LendsIf (the_row I.row I.Item.row I.Error.row) I.Item.row
             self.entry result (with_held self.old) self.old) }
         ensures lists { OverList
-            (seen_as peekable_parts (peekable_contract I.contract)).steps self.old
+            (parts_as peekable_parts (peekable_contract I.contract)).steps self.old
             (λ l. (x w : I.Item) → held_item (peekable_held self.old) ≡ Some x
-            → Lists (seen_as peekable_parts (peekable_contract I.contract)).steps
+            → Lists (parts_as peekable_parts (peekable_contract I.contract)).steps
             (with_held self.old w) (changed_first w l)) }
     {
         match self.held.as_mut() {

@@ -1,12 +1,12 @@
 // The adapter that looks ahead.
 ghost use Rattle.std.specs.Prelude.{◌≡◌, Result, Option};
 ghost use Rattle.fallible_contract.specs.Clauses.{OverList, OverListWith};
-ghost use Rattle.fallible_contract.specs.Contract.{seen_as, Fewer, Stays};
+ghost use Rattle.fallible_contract.specs.Contract.{parts_as, Fewer, Stays};
 ghost use Rattle.fallible_contract.specs.Lists.{Lists};
-ghost use Rattle.fallible_contract.specs.Ends.{ends_seen_as};
-ghost use Rattle.fallible_contract.specs.Laws.Contract.{lawful_seen};
-ghost use Rattle.fallible_contract.specs.Laws.Ends.{lawful_ends_seen};
-ghost use Rattle.fallible_core.specs.Peeking.Peekable.{peekable_contract, peekable_ends, NextIf, TestedBy, IsTestable, peekable_parts, LooksAs, first_if, rest_if};
+ghost use Rattle.fallible_contract.specs.Ends.{ends_parts_as};
+ghost use Rattle.fallible_contract.specs.Laws.Contract.{lawful_parts};
+ghost use Rattle.fallible_contract.specs.Laws.Ends.{lawful_ends_parts};
+ghost use Rattle.fallible_core.specs.Peeking.Peekable.{peekable_contract, peekable_ends, NextIf, TestedBy, IsTestable, peekable_made, peekable_parts, LooksAs, first_if, rest_if};
 ghost use Rattle.fallible_core.specs.Laws.Peeking.Peekable.{lawful_peekable, lawful_ends_peekable};
 
 use crate::traits::FallibleIterator;
@@ -31,7 +31,7 @@ where
 
     type Error = I::Error;
 
-    ghost contract = { seen_as peekable_parts (peekable_contract I.contract) };
+    ghost contract = { parts_as peekable_parts (peekable_contract I.contract) };
 
     /// Returns what is buffered without a draw, and draws once if nothing is.
     fn next(&mut self) -> Result<Option<I::Item>, I::Error> {
@@ -65,14 +65,14 @@ where
         }
     }
 
-    ghost lawful = { lawful_seen peekable_parts (lawful_peekable I.lawful) };
+    ghost lawful = { lawful_parts peekable_made (lawful_peekable I.lawful) };
 }
 
 impl<I: DoubleEndedFallibleIterator> DoubleEndedFallibleIterator for Peekable<I>
 where
     I::Item: Drop,
 {
-    ghost ends = { ends_seen_as peekable_parts (peekable_ends I.ends) };
+    ghost ends = { ends_parts_as peekable_parts (peekable_ends I.ends) };
 
     /// Draws the source once from the back, and at its end there returns the buffered item, in whose place an `Ok(None)` is buffered. A buffered `Ok(None)` is returned without a draw, and stays buffered.
     ///
@@ -100,7 +100,7 @@ where
         }
     }
 
-    ghost lawful_ends = { lawful_ends_seen peekable_parts (lawful_ends_peekable I.lawful_ends) };
+    ghost lawful_ends = { lawful_ends_parts peekable_made (lawful_ends_peekable I.lawful_ends) };
 }
 
 impl<I: FallibleIterator> Peekable<I>
@@ -129,9 +129,9 @@ where
         ensures taken { NextIf I.contract.steps (TestedBy F.Fn f)
             (peekable_parts self.old) result (peekable_parts self.new) }
         ensures lists { OverListWith (LooksAs F.Fn f)
-            (seen_as peekable_parts (peekable_contract I.contract)).steps self.old
+            (parts_as peekable_parts (peekable_contract I.contract)).steps self.old
             (λ h l. (result ≡ first_if h l)
-            × Lists (seen_as peekable_parts (peekable_contract I.contract)).steps
+            × Lists (parts_as peekable_parts (peekable_contract I.contract)).steps
             self.new (rest_if h l)) }
         ensures stays { Stays (peekable_contract I.contract)
             (peekable_parts self.old) (peekable_parts self.new) }
@@ -175,9 +175,9 @@ where
         ensures taken { NextIf I.contract.steps (λ x b. b ≡ I.Item.eq x expected.now)
             (peekable_parts self.old) result (peekable_parts self.new) }
         ensures lists { OverList
-            (seen_as peekable_parts (peekable_contract I.contract)).steps self.old
+            (parts_as peekable_parts (peekable_contract I.contract)).steps self.old
             (λ l. (result ≡ first_if (λ x. I.Item.eq x expected.now) l)
-            × Lists (seen_as peekable_parts (peekable_contract I.contract)).steps self.new
+            × Lists (parts_as peekable_parts (peekable_contract I.contract)).steps self.new
             (rest_if (λ x. I.Item.eq x expected.now) l)) }
         ensures stays { Stays (peekable_contract I.contract)
             (peekable_parts self.old) (peekable_parts self.new) }

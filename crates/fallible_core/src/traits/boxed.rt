@@ -1,9 +1,8 @@
 // A fallible iterator in a `Box` behaves as the iterator itself.
 ghost use Rattle.std.specs.Prelude.{Result, Option};
-ghost use Rattle.fallible_contract.specs.Contract.{seen_as};
-ghost use Rattle.fallible_contract.specs.Ends.{ends_seen_as};
-ghost use Rattle.fallible_contract.specs.Laws.Contract.{lawful_seen};
-ghost use Rattle.fallible_contract.specs.Laws.Ends.{lawful_ends_seen};
+ghost use Rattle.fallible_contract.specs.Ends.{from_back, ends_of};
+ghost use Rattle.fallible_core.specs.Borrowed.{boxed};
+ghost use Rattle.fallible_core.specs.Laws.Borrowed.{lawful_boxed, lawful_ends_boxed};
 
 use crate::traits::FallibleIterator;
 use crate::traits::double_ended::DoubleEndedFallibleIterator;
@@ -15,7 +14,7 @@ impl<I: FallibleIterator> FallibleIterator for Box<I> {
 
     type Error = I::Error;
 
-    ghost contract = { seen_as (λ s. s.value) I.contract };
+    ghost contract = { boxed I.contract };
 
     fn next(&mut self) -> Result<Option<I::Item>, I::Error> {
         (**self).next()
@@ -40,11 +39,11 @@ impl<I: FallibleIterator> FallibleIterator for Box<I> {
         (**self).drive_to(goal)
     }
 
-    ghost lawful = { lawful_seen (λ s. s.value) I.lawful };
+    ghost lawful = { lawful_boxed I.lawful };
 }
 
 impl<I: DoubleEndedFallibleIterator> DoubleEndedFallibleIterator for Box<I> {
-    ghost ends = { ends_seen_as (λ s. s.value) I.ends };
+    ghost ends = { ends_of (boxed (from_back I.contract I.ends)) };
 
     fn next_back(&mut self) -> Result<Option<I::Item>, I::Error> {
         (**self).next_back()
@@ -58,5 +57,5 @@ impl<I: DoubleEndedFallibleIterator> DoubleEndedFallibleIterator for Box<I> {
         (**self).drive_back(state, turn)
     }
 
-    ghost lawful_ends = { lawful_ends_seen (λ s. s.value) I.lawful_ends };
+    ghost lawful_ends = { lawful_ends_boxed I.lawful_ends };
 }

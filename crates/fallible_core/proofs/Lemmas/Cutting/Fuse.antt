@@ -2,7 +2,7 @@
 use Rattle.std.specs.Prelude.{◌≡◌, Bool, true, false, List, [], ◌∷◌, Result, Ok, Err, ◌↔◌}
 use Rattle.std.specs.List.{FoldsTo}
 use Rattle.std.proofs.Common.{refl, sym, ap, subst, ◌∙◌}
-use Rattle.fallible_contract.specs.Contract.{Contract, seen_as}
+use Rattle.fallible_contract.specs.Contract.{Contract, parts_as}
 use Rattle.fallible_contract.specs.Lists.{AlwaysGives, Lists, GivesForGood, ListsForGood, result_answer}
 use Rattle.fallible_contract.proofs.Lemmas.Lists.Passing.{lists_seen}
 use Rattle.fallible_contract.proofs.Lemmas.Lists.ForGood.{lists_for_good_seen}
@@ -29,7 +29,7 @@ module _ {S A E : Type 0} (steps : S → Answered A E → S → Type 0) where
   always_gives_fused [] s a = λ r t w. w.2 ∙ a w.0 t.0 w.1
   always_gives_fused (y ∷ l) s a = λ r t w. let d = a w.0 t.0 w.1 in (w.2 ∙ d.0, subst (λ (b : Bool). AlwaysGives fused_step (t.0, b) l) (sym (w.3 ∙ ap is_end d.0 ∙ result_answer_is_not_end y)) (always_gives_fused l t.0 d.1))
 
-pub lists_fused : {S A E : Type 0} (m : Contract S A E) (s : Fuse S) (l : List (Result A E)) → fuse_parts s ≡ (s.it, false) → Lists m.steps s.it l → Lists (seen_as fuse_parts (fuse_contract m)).steps s l
+pub lists_fused : {S A E : Type 0} (m : Contract S A E) (s : Fuse S) (l : List (Result A E)) → fuse_parts s ≡ (s.it, false) → Lists m.steps s.it l → Lists (parts_as fuse_parts (fuse_contract m)).steps s l
 lists_fused m s l parts i = lists_seen fuse_parts (fuse_contract m).steps s parts refl (always_gives_fused m.steps l s.it i.runs)
 
 -- ---- what it lists, fused
@@ -51,5 +51,5 @@ module _ {S A E : Type 0} (steps : S → Answered A E → S → Type 0) where
   gives_for_good_fused [] s a = record { each = λ trace t u r ran w. ends_after_run_where_source_empty trace s t u r a ran w }
   gives_for_good_fused (y ∷ l) s a = λ r t w. let d = a w.0 t.0 w.1 in (w.2 ∙ d.0, subst (λ (b : Bool). GivesForGood (fused_step steps) (t.0, b) l) (sym (w.3 ∙ ap is_end d.0 ∙ result_answer_is_not_end y)) (gives_for_good_fused l t.0 d.1))
 
-pub lists_for_good_fused : {S A E : Type 0} (m : Contract S A E) (s : Fuse S) (l : List (Result A E)) → fuse_parts s ≡ (s.it, false) → Lists m.steps s.it l → ListsForGood (seen_as fuse_parts (fuse_contract m)).steps s l
+pub lists_for_good_fused : {S A E : Type 0} (m : Contract S A E) (s : Fuse S) (l : List (Result A E)) → fuse_parts s ≡ (s.it, false) → Lists m.steps s.it l → ListsForGood (parts_as fuse_parts (fuse_contract m)).steps s l
 lists_for_good_fused m s l parts i = lists_for_good_seen fuse_parts (fuse_contract m).steps s parts refl (gives_for_good_fused m.steps l s.it i.runs)

@@ -1,9 +1,9 @@
 -- A fold of the source is one of `Fuse`, which the source's end closes.
-use Rattle.std.specs.Prelude.{◌≡◌, Bool, true, false, Option, List, [], ◌∷◌, ◌++◌, map, Result, Some, None, Ok, Err}
+use Rattle.std.specs.Prelude.{◌≡◌, Bool, true, false, List, [], ◌∷◌, ◌++◌, map, Some, None, Ok, Err}
 use Rattle.std.proofs.Common.{refl, sym, ap, subst, ◌∙◌}
 use Rattle.fallible_contract.specs.Traces.{Answered, Run, item, is_end}
 use Rattle.fallible_contract.specs.Closing.{closing_step}
-use Rattle.fallible_contract.specs.Contract.{Contract, seen_as}
+use Rattle.fallible_contract.specs.Contract.{Contract, parts_as}
 use Rattle.fallible_contract.specs.Folds.{Drained, HoldsAtEachTurn, DriveExit, Driven}
 use Rattle.fallible_contract.proofs.Lemmas.Folding.{holds_at_each_turn_of_held, drained_of_holder}
 use Rattle.fallible_core.specs.Cutting.Fuse.{fuse_parts, fuse_contract}
@@ -29,7 +29,7 @@ module _ {S A E : Type 0} (steps_of_fuse_folds : S → Answered A E → S → Ty
 
 module _ {S A E : Type 0} (m : Contract S A E) (s : Fuse S) where
   abbrev steps_of_fuse_folds : Fuse S → Answered A E → Fuse S → Type 0
-  steps_of_fuse_folds = (seen_as fuse_parts (fuse_contract m)).steps
+  steps_of_fuse_folds = (parts_as fuse_parts (fuse_contract m)).steps
 
   -- what holds at each turn of it, where it is open, holds at each of the source
   pub holds_each_turn_open : {C : Type 0} {goes_on : C → A → C → Type 0} {P : C → A → Type 0} {c : C} → s.ended ≡ false → HoldsAtEachTurn steps_of_fuse_folds goes_on P s c → HoldsAtEachTurn m.steps goes_on P s.it c

@@ -3,57 +3,16 @@ use Rattle.std.specs.Prelude.{◌≡◌, ℕ, zero, suc, ◌+◌, ◌-◌, ◌�
 use Rattle.std.proofs.Common.{refl, ap, arith}
 use Rattle.std.proofs.lemmas.Bool.{lt-ltb, le-ltb}
 use Rattle.fallible_contract.specs.Traces.{Answered, Run}
-use Rattle.fallible_contract.specs.Contract.{Contract, seen_as}
+use Rattle.fallible_contract.specs.Contract.{Contract, parts_as}
 use Rattle.fallible_contract.specs.Lists.{AlwaysGives, Lists}
 use Rattle.fallible_contract.proofs.Lemmas.Lists.Passing.{lists_seen}
-use Rattle.fallible_contract.proofs.Lemmas.LawForm.{IsByAnswers, run_at_one_answer_iff_law}
+use Rattle.fallible_contract.specs.Laws.LawForm.{IsByAnswers, run_at_one_answer_iff_law}
 use Rattle.fallible_contract.proofs.Lemmas.ByNumber.{Fits, Leaves, none, keeps_item, keeps_end, keeps_failure, leaves_nil_same, leaves_first_and_others, leaves_split, kept_by_number_of_leaves, leaves_of_kept_by_number}
 use Rattle.fallible_core.specs.Cutting.Skip.{SkipTrace, skip_step, skip_parts, skip_contract, skipped}
 use Rattle.fallible_core.specs.Cutting.StepBy.{stepped}
 use Rattle.fallible_core.proofs.Lemmas.Cutting.ByNumber.{leaves_one, always_gives_stepped}
 use Rattle.fallible_core.specs.declared.cutting.skip.Skip.{Skip}
-
--- the items up to the n-th are left out
-fits_skip : (n : ℕ) → Fits (λ k. ltb n k) 0 (λ k. n - k) (λ j k. j ≡ n + 1 - k)
-fits_skip n = record {
-  kept = λ k f. (lt-ltb n k (omega (arith, f)), omega (arith, f));
-  left_out = λ j k f. (le-ltb n k (omega (arith, f)), omega (arith, f));
-  after = λ j k f. omega (arith, f);
-}
-
-module _ {S A E : Type 0} (steps : S → Answered A E → S → Type 0) where
-  -- the definition, built from the first draw on
-  pub leaves_of_skip_trace : {p q : S × ℕ} {trace : List (Answered A E)} → SkipTrace steps p trace q → Leaves steps 0 p.1 p.0 trace q.0 q.1
-  leaves_of_skip_trace {p} d = leaves_of_kept_by_number steps (fits_skip p.1) (omega arith) d
-
-  pub skip_trace_of_leaves : {p q : S × ℕ} {trace : List (Answered A E)} → Leaves steps 0 p.1 p.0 trace q.0 q.1 → SkipTrace steps p trace q
-  skip_trace_of_leaves {p} h = kept_by_number_of_leaves steps (fits_skip p.1) (omega arith) h
-
-  leaves_one_draw : {s t : S} (r : Answered A E) → steps s r t → Leaves steps 0 0 s (r ∷ []) t 0
-  leaves_one_draw (Ok (Some x)) step = keeps_item x step none
-  leaves_one_draw (Ok None) step = keeps_end step none
-  leaves_one_draw (Err e) step = keeps_failure e step none
-
-  -- one draw, where no item is left to leave out
-  pub leaves_plain_draw : {s t : S} (n : ℕ) (r : Answered A E) → n ≤ 0 → steps s r t → Leaves steps 0 n s (r ∷ []) t n
-  leaves_plain_draw {s} {t} n r none_left step = let at : n ≡ 0 = omega (arith, none_left) in rw at (leaves_one_draw r step)
-
-  skip_trace_of_nil_is_equality : (p q : S × ℕ) → SkipTrace steps p [] q ↔ (p ≡ q)
-  skip_trace_of_nil_is_equality (s, n) (t, k) = (
-    (λ d. let h = leaves_nil_same steps 0 (leaves_of_skip_trace {p = (s, n)} {q = (t, k)} d) in rw (h.0, h.1) refl),
-    (λ e. skip_trace_of_leaves {p = (s, n)} {q = (t, k)} (let h : s ≡ t = ap (λ z. z.0) e in let i : n ≡ k = ap (λ z. z.1) e in rw (h, i) none)),
-  )
-
-  skip_trace_is_by_answers : IsByAnswers (SkipTrace steps)
-  skip_trace_is_by_answers = record {
-    none = λ p. (skip_trace_of_nil_is_equality p p).1 refl;
-    same = λ p q d. (skip_trace_of_nil_is_equality p q).0 d;
-    joins = λ p u q r rest d e. skip_trace_of_leaves {p = p} {q = q} (leaves_first_and_others steps 0 (leaves_of_skip_trace {p = p} {q = u} d) (leaves_of_skip_trace {p = u} {q = q} e));
-    splits = λ p q r rest d. let h = leaves_split steps 0 (leaves_of_skip_trace {p = p} {q = q} d) in record { left_by_first = (h.0, h.1); first = skip_trace_of_leaves {p = p} {q = (h.0, h.1)} h.2; others = skip_trace_of_leaves {p = (h.0, h.1)} {q = q} h.3 };
-  }
-
-  pub skip_law : (p : S × ℕ) (trace : List (Answered A E)) (q : S × ℕ) → Run (skip_step steps) p trace q ↔ SkipTrace steps p trace q
-  skip_law = run_at_one_answer_iff_law (SkipTrace steps) skip_trace_is_by_answers
+use Rattle.fallible_core.specs.Laws.Cutting.Skip.{leaves_of_skip_trace}
 
 -- ---- what it lists
 
@@ -68,5 +27,5 @@ always_gives_skipped : {S A E : Type 0} (steps : S → Answered A E → S → Ty
 always_gives_skipped steps [] p g = λ r q w. g r q (leaves_of_skip_trace steps {p = p} {q = q} w)
 always_gives_skipped steps (y ∷ l) p g = λ r q w. let d = g r q (leaves_of_skip_trace steps {p = p} {q = q} w) in (d.0, always_gives_skipped steps l q d.1)
 
-pub lists_skipped : {S A E : Type 0} (m : Contract S A E) (s : Skip S) (n : ℕ) (l : List (Result A E)) → skip_parts s ≡ (s.it, n) → Lists m.steps s.it l → Lists (seen_as skip_parts (skip_contract m)).steps s (skipped n l)
+pub lists_skipped : {S A E : Type 0} (m : Contract S A E) (s : Skip S) (n : ℕ) (l : List (Result A E)) → skip_parts s ≡ (s.it, n) → Lists m.steps s.it l → Lists (parts_as skip_parts (skip_contract m)).steps s (skipped n l)
 lists_skipped m s n l parts i = lists_seen skip_parts (skip_step m.steps) s parts (stepped_by_one_is_skipped l n) (always_gives_skipped m.steps (stepped 0 n l) (s.it, n) (always_gives_stepped m.steps 0 l n s.it i.runs))

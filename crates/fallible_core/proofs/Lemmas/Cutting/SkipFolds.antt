@@ -3,13 +3,13 @@ use Rattle.std.specs.Prelude.{◌≡◌, ℕ, ◌+◌, List, [], ◌∷◌, ◌+
 use Rattle.std.specs.List.{FoldsTo}
 use Rattle.std.proofs.Common.{refl, sym, subst, ◌∙◌, arith}
 use Rattle.fallible_contract.specs.Traces.{Answered, Run, item}
-use Rattle.fallible_contract.specs.Contract.{Contract, seen_as}
+use Rattle.fallible_contract.specs.Contract.{Contract, parts_as}
 use Rattle.fallible_contract.specs.Folds.{HoldsAtEachTurn, goes_on, DriveExit, Driven, IsNthTurn}
 use Rattle.fallible_contract.proofs.Lemmas.ByNumber.{Leaves, none, keeps_item, keeps_end, keeps_failure, leaves_out, leaves_after_item_left_out, leaves_from_equal, leaves_nil_same}
 use Rattle.fallible_contract.proofs.Lemmas.Folding.{holds_at_each_turn_of_held, drained_of_holder}
 use Rattle.fallible_contract.proofs.Lemmas.Folds.{holds_each_turn_after_item, driven_by_item_first}
 use Rattle.fallible_core.specs.Cutting.Skip.{skip_parts, skip_step, skip_contract}
-use Rattle.fallible_core.proofs.Lemmas.Cutting.Skip.{leaves_of_skip_trace, skip_trace_of_leaves, leaves_plain_draw}
+use Rattle.fallible_core.specs.Laws.Cutting.Skip.{leaves_of_skip_trace, skip_trace_of_leaves, leaves_plain_draw}
 use Rattle.std.specs.declared.ops.ControlFlow.{ControlFlow}
 use Rattle.fallible_core.specs.declared.cutting.skip.Skip.{Skip}
 
@@ -42,7 +42,7 @@ module _ {S A E : Type 0} (steps : S → Answered A E → S → Type 0) where
   skip_step_of_driven_to_nth {s} {t} {n} {k} {r} w = skip_trace_of_leaves steps {p = (s, n)} {q = (t, k)} (leaves_reached w.items w.last n w.at.carried k r s t w.at.went w.ran w.at.exit)
 
 abbrev contract_of_skip : {S A E : Type 0} → Contract S A E → Contract (Skip S) A E
-contract_of_skip m = seen_as skip_parts (skip_contract m)
+contract_of_skip m = parts_as skip_parts (skip_contract m)
 
 -- nothing is left to leave out
 abbrev none_to_skip : {S : Type 0} → S → Skip S

@@ -6,7 +6,7 @@ use Rattle.fallible_contract.specs.Passing.{passing_step}
 use Rattle.fallible_contract.specs.Laws.Passing.{Passes, done, end_passes, failure_passes, keeps, refuses, closes, leaves_out, passes_of_pass_trace}
 use Rattle.fallible_contract.proofs.Lemmas.ByNumber.{Leaves, none, keeps_item, keeps_end, keeps_failure, leaves_after_item_left_out}
 use Rattle.fallible_core.specs.Cutting.StepBy.{step_by_step, to_skip_next, count_call, count_outcome}
-use Rattle.fallible_core.proofs.Lemmas.Cutting.StepBy.{step_by_trace_of_leaves}
+use Rattle.fallible_core.specs.Laws.Cutting.StepBy.{step_by_trace_of_leaves}
 use Rattle.fallible_contract.specs.declared.passing.Outcome.TheVariants.{Kept}
 
 module _ {S A E : Type 0} (steps : S → Answered A E → S → Type 0) (between : ℕ) where

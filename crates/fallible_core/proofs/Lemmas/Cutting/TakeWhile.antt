@@ -4,7 +4,7 @@ use Rattle.std.specs.List.{FoldsTo, filter_map}
 use Rattle.std.specs.Fn.{Mut}
 use Rattle.std.specs.Borrow.{Bor}
 use Rattle.std.proofs.Common.{refl, sym, ap, subst, ◌∙◌}
-use Rattle.fallible_contract.specs.Contract.{Contract, seen_as}
+use Rattle.fallible_contract.specs.Contract.{Contract, parts_as}
 use Rattle.fallible_contract.specs.Lists.{AlwaysGives, Lists, Acts, result_answer}
 use Rattle.fallible_contract.proofs.Lemmas.Lists.Passing.{passed, by_outcome, lists_seen, always_gives_passed}
 use Rattle.fallible_contract.specs.Traces.{Answered, Run}
@@ -14,34 +14,6 @@ use Rattle.fallible_contract.specs.Closing.{closing_step}
 use Rattle.fallible_contract.proofs.Lemmas.Closing.{closing_folds_iff_drawn_to_close}
 use Rattle.fallible_core.specs.Cutting.TakeWhile.{cons_while, taken_while, take_while_outcome, taken_answer, is_refused, TakeWhileTrace, place_drawn, take_while_parts, take_while_contract}
 use Rattle.fallible_core.specs.declared.cutting.take_while.TakeWhile.{TakeWhile}
-
-module _ {S F X R E : Type 0} (steps : S → Answered X E → S → Type 0) (call : F → X → R → F → Type 0) where
-  -- the call at a first place, and those at the others
-  pub calls_cons : (x : Place X R E) (places : List (Place X R E)) (f h g : F) → Calls call f (filter_map call_of (x ∷ [])) h → Calls call h (filter_map call_of places) g → Calls call f (filter_map call_of (x ∷ places)) g
-  calls_cons (asked x v) places f h g one rest = (one.0, one.1, subst (λ (k : F). Calls call k (filter_map call_of places) g) (sym one.2) rest)
-  calls_cons (failure_at e) places f h g one rest = subst (λ (k : F). Calls call k (filter_map call_of places) g) (sym one) rest
-  calls_cons end_at places f h g one rest = subst (λ (k : F). Calls call k (filter_map call_of places) g) (sym one) rest
-
-  pub calls_first_and_rest : (x : Place X R E) (places : List (Place X R E)) (f g : F) → Calls call f (filter_map call_of (x ∷ places)) g → (h : F) × Calls call f (filter_map call_of (x ∷ [])) h × Calls call h (filter_map call_of places) g
-  calls_first_and_rest (asked x v) places f g c = (c.0, (c.0, c.1, refl), c.2)
-  calls_first_and_rest (failure_at e) places f g c = (f, refl, c)
-  calls_first_and_rest end_at places f g c = (f, refl, c)
-
-  -- the draws from the source, and the calls at their places
-  abbrev pub DrawnAndCalled : List (Place X R E) → S → F → S → F → Type 0
-  DrawnAndCalled places s f t g = Run steps s (map source_answer places) t × Calls call f (filter_map call_of places) g
-
-  pub drawn_and_called_of_folds_to : (places : List (Place X R E)) (s : S) (f : F) (t : S) (g : F) → FoldsTo (place_drawn steps call) (s, f) places (t, g) → DrawnAndCalled places s f t g
-  drawn_and_called_of_folds_to [] s f t g e = (ap (λ p. p.0) e, ap (λ p. p.1) e)
-  drawn_and_called_of_folds_to (x ∷ places) s f t g h = let b = drawn_and_called_of_folds_to places h.0.0 h.0.1 t g h.2 in ((h.0.0, h.1.0, b.0), calls_cons x places f h.0.1 g h.1.1 b.1)
-
-  pub folds_to_of_drawn_and_called : (places : List (Place X R E)) (s : S) (f : F) (t : S) (g : F) → DrawnAndCalled places s f t g → FoldsTo (place_drawn steps call) (s, f) places (t, g)
-  folds_to_of_drawn_and_called [] s f t g b = rw (b.0, b.1) refl
-  folds_to_of_drawn_and_called (x ∷ places) s f t g b = let c = calls_first_and_rest x places f g b.1 in (((b.0).0, c.0), ((b.0).1, c.1), folds_to_of_drawn_and_called places (b.0).0 c.0 t g ((b.0).2, c.2))
-
-pub take_while_law : {S F X E : Type 0} (steps : S → Answered X E → S → Type 0) (call : F → X → Result Bool E → F → Type 0) (p : (S × F) × Bool) (trace : List (Answered X E)) (q : (S × F) × Bool) → FoldsTo (closing_step (place_drawn steps call) taken_answer is_refused) p trace q ↔ TakeWhileTrace steps call p trace q
-take_while_law steps call p trace q = let law = closing_folds_iff_drawn_to_close (place_drawn steps call) taken_answer is_refused p.0 p.1 trace q.0 q.1 in
-    ((λ h. let d = law.0 h in let both = drawn_and_called_of_folds_to steps call d.0 (p.0).0 (p.0).1 (q.0).0 (q.0).1 d.1 in record { places = d.0; drawn = both.0; called = both.1; cut = d.2 }), (λ h. law.1 (h.places, folds_to_of_drawn_and_called steps call h.places (p.0).0 (p.0).1 (q.0).0 (q.0).1 (h.drawn, h.called), h.cut)))
 
 -- ---- what it lists
 
@@ -86,7 +58,7 @@ passed_is_taken_while h (Ok x ∷ l) = by_outcome_of_take_while_is_cons_while x 
 passed_is_taken_while h (Err e ∷ l) = ap (λ t. Err e ∷ t) (passed_is_taken_while h l)
 
 pub lists_taken_while : {S F X E : Type 0} (m : Contract S X E) (g : Mut F (Bor X × Unit {0}) (Result Bool E)) (s : TakeWhile S F) (f : F) (h : X → Result Bool E) (l : List (Result X E)) → take_while_parts s ≡ ((s.it, f), false) → Acts (call_by_reference g) f h → Lists m.steps s.it l
-    → Lists (seen_as take_while_parts (take_while_contract m g)).steps s (taken_while h l)
+    → Lists (parts_as take_while_parts (take_while_contract m g)).steps s (taken_while h l)
 lists_taken_while m g s f h l parts a i = lists_seen take_while_parts (take_while_contract m g).steps s parts (passed_is_taken_while h l)
     (always_gives_until_refused m.steps (call_by_reference g) _ (s.it, f) (always_gives_passed (call_by_reference g) f h a m.steps take_while_outcome s.it l i.runs))
 

@@ -6,7 +6,7 @@ use Rattle.std.specs.Borrow.{Bor}
 use Rattle.std.proofs.Common.{refl, sym, ap, subst, ◌∙◌}
 use Rattle.fallible_contract.specs.Traces.{Answered, item}
 use Rattle.fallible_contract.specs.Closures.{IsCallable, call_by_reference, takes_by_reference}
-use Rattle.fallible_contract.specs.Contract.{Contract, Lawful, seen_as}
+use Rattle.fallible_contract.specs.Contract.{Contract, Lawful, parts_as}
 use Rattle.fallible_contract.specs.Folds.{Drained, HoldsAtEachTurn, goes_on}
 use Rattle.fallible_contract.specs.Folding.{FoldingTurn, FoldingTakes}
 use Rattle.fallible_contract.specs.Passing.{asked, failure_at, end_at, PassAnswer, passing_step}
@@ -31,7 +31,7 @@ module _ {F X E : Type 0} (call : F → X → Result Bool E → F → Type 0) wh
 
 module _ {S F X E : Type 0} (m : Contract S X E) (a : Mut F (Bor X × Unit {0}) (Result Bool E)) where
   abbrev steps_of_take_while_folds : TakeWhile S F → Answered X E → TakeWhile S F → Type 0
-  steps_of_take_while_folds = (seen_as take_while_parts (take_while_contract m a)).steps
+  steps_of_take_while_folds = (parts_as take_while_parts (take_while_contract m a)).steps
 
   abbrev CallsOfTakeWhileFolds : Bool × F → X → Result Bool E → Bool × F → Type 0
   CallsOfTakeWhileFolds = refusing_call (call_by_reference a)

@@ -3,7 +3,7 @@ use Rattle.std.specs.Prelude.{◌≡◌, Result, Ok, Err, List, [], ◌∷◌, B
 use Rattle.std.proofs.Common.{refl, ap, ◌∙◌}
 use Rattle.std.specs.Fn.{Mut}
 use Rattle.std.specs.Borrow.{Bor}
-use Rattle.fallible_contract.specs.Contract.{Contract, seen_as}
+use Rattle.fallible_contract.specs.Contract.{Contract, parts_as}
 use Rattle.fallible_contract.specs.Closures.{call_by_reference}
 use Rattle.fallible_contract.specs.Lists.{Lists, Acts}
 use Rattle.fallible_contract.proofs.Lemmas.Lists.Passing.{passed, by_outcome, lists_seen, always_gives_passed}
@@ -29,5 +29,5 @@ passed_is_filtered h (Ok x ∷ l) = by_outcome_of_tested_is_cons_if x (h x) _ �
 passed_is_filtered h (Err e ∷ l) = ap (λ t. Err e ∷ t) (passed_is_filtered h l)
 
 pub lists_filtered : {S F X E : Type 0} (m : Contract S X E) (g : Mut F (Bor X × Unit {0}) (Result Bool E)) (s : Filter S F) (f : F) (h : X → Result Bool E) (l : List (Result X E)) → filter_parts s ≡ (s.it, f) → Acts (call_by_reference g) f h → Lists m.steps s.it l
-    → Lists (seen_as filter_parts (filter_contract m g)).steps s (filtered h l)
+    → Lists (parts_as filter_parts (filter_contract m g)).steps s (filtered h l)
 lists_filtered m g s f h l parts a i = lists_seen filter_parts (filter_contract m g).steps s parts (passed_is_filtered h l) (always_gives_passed (call_by_reference g) f h a m.steps tested_outcome s.it l i.runs)

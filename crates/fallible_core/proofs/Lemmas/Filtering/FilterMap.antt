@@ -2,7 +2,7 @@
 use Rattle.std.specs.Prelude.{◌≡◌, Option, Result, Ok, Err, List, [], ◌∷◌, Some, None}
 use Rattle.std.proofs.Common.{refl, ap, ◌∙◌}
 use Rattle.std.specs.Fn.{Mut}
-use Rattle.fallible_contract.specs.Contract.{Contract, seen_as}
+use Rattle.fallible_contract.specs.Contract.{Contract, parts_as}
 use Rattle.fallible_contract.specs.Closures.{call_by_value}
 use Rattle.fallible_contract.specs.Lists.{Lists, Acts}
 use Rattle.fallible_contract.proofs.Lemmas.Lists.Passing.{passed, by_outcome, lists_seen, always_gives_passed}
@@ -28,5 +28,5 @@ passed_is_filter_mapped h (Ok x ∷ l) = by_outcome_of_filter_map_is_cons_some x
 passed_is_filter_mapped h (Err e ∷ l) = ap (λ t. Err e ∷ t) (passed_is_filter_mapped h l)
 
 pub lists_filter_mapped : {S F X B E : Type 0} (m : Contract S X E) (g : Mut F (X × Unit {0}) (Result (Option B) E)) (s : FilterMap S F) (f : F) (h : X → Result (Option B) E) (l : List (Result X E)) → filter_map_parts s ≡ (s.it, f) → Acts (call_by_value g) f h → Lists m.steps s.it l
-    → Lists (seen_as filter_map_parts (filter_map_contract m g)).steps s (filter_mapped h l)
+    → Lists (parts_as filter_map_parts (filter_map_contract m g)).steps s (filter_mapped h l)
 lists_filter_mapped m g s f h l parts a i = lists_seen filter_map_parts (filter_map_contract m g).steps s parts (passed_is_filter_mapped h l) (always_gives_passed (call_by_value g) f h a m.steps filter_map_outcome s.it l i.runs)

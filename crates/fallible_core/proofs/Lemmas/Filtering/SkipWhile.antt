@@ -6,12 +6,12 @@ use Rattle.std.specs.Fn.{Mut}
 use Rattle.std.specs.Borrow.{Bor}
 use Rattle.fallible_contract.specs.Traces.{Answered, Run, item}
 use Rattle.fallible_contract.specs.Closures.{Calls, call_by_reference}
-use Rattle.fallible_contract.specs.Contract.{Contract, seen_as}
+use Rattle.fallible_contract.specs.Contract.{Contract, parts_as}
 use Rattle.fallible_contract.specs.Lists.{Lists, Acts}
 use Rattle.fallible_contract.proofs.Lemmas.Lists.Passing.{passed, by_outcome, gives_all, lists_seen}
 use Rattle.fallible_contract.specs.Passing.{PassTrace, Place, asked, failure_at, end_at, source_answer, call_of, answer_at}
-use Rattle.fallible_contract.proofs.Lemmas.LawForm.{run_at_one_answer_iff_law}
-use Rattle.fallible_contract.proofs.Lemmas.Passing.{passing_by_answers}
+use Rattle.fallible_contract.specs.Laws.LawForm.{run_at_one_answer_iff_law}
+use Rattle.fallible_contract.specs.Laws.Passing.{passing_by_answers}
 use Rattle.fallible_contract.specs.Laws.Passing.{Passes, done, end_passes, failure_passes, keeps, refuses, closes, leaves_out, last_kept_tail, last_kept_cons, last_kept_before, answers_never_nil, passes_of_pass_trace, pass_trace_of_passes}
 use Rattle.fallible_core.specs.Filtering.SkipWhile.{cons_from, skipped_while, skip_call, skip_while_outcome, skip_while_parts, skip_while_contract, answers_false, false_at, EndsAtFalse, asked_outcome, AskedUntilFalse, SkipWhileTrace}
 use Rattle.fallible_core.specs.declared.filtering.skip_while.SkipWhile.{SkipWhile}
@@ -201,6 +201,6 @@ module _ {F X E : Type 0} (call : F → X → Result Bool E → F → Type 0) (f
       (ap (λ (b : Bool). (b, q.1)) (c.2 ∙ ap answers_false a.1) ∙ ap (λ (k : F). (answers_false (h x), k)) a.0, ap Some a.1)
 
 pub lists_skipped_while : {S F X E : Type 0} (m : Contract S X E) (g : Mut F (Bor X × Unit {0}) (Result Bool E)) (s : SkipWhile S F) (f : F) (h : X → Result Bool E) (l : List (Result X E)) → skip_while_parts s ≡ (s.it, (false, f)) → Acts (call_by_reference g) f h → Lists m.steps s.it l
-    → Lists (seen_as skip_while_parts (skip_while_contract m g)).steps s (skipped_while h l)
+    → Lists (parts_as skip_while_parts (skip_while_contract m g)).steps s (skipped_while h l)
 lists_skipped_while {F = F} m g s f h l parts a i = lists_seen skip_while_parts (skip_while_contract m g).steps s parts (listed_is_skipped_while h l)
     (gives_all m.steps (skip_call (call_by_reference g)) skip_while_outcome (λ (p : Bool × F) b. p ≡ (b, f)) (asked_by h) (flag_after h) (skip_call_flag_and_answer_where_acts (call_by_reference g) f h a) l s.it (false, f) false refl i.runs)

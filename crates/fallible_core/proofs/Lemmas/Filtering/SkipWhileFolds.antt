@@ -5,7 +5,7 @@ use Rattle.std.specs.Borrow.{Bor}
 use Rattle.std.proofs.Common.{refl, ap, subst, sym, ◌∙◌}
 use Rattle.fallible_contract.specs.Traces.{Answered, item}
 use Rattle.fallible_contract.specs.Closures.{call_by_reference}
-use Rattle.fallible_contract.specs.Contract.{Contract, seen_as}
+use Rattle.fallible_contract.specs.Contract.{Contract, parts_as}
 use Rattle.fallible_contract.specs.Folds.{HoldsAtEachTurn, Drained}
 use Rattle.fallible_contract.specs.Laws.Passing.{Passes, done, end_passes, failure_passes, keeps, refuses, closes, leaves_out, passes_of_pass_trace, pass_trace_of_passes}
 use Rattle.fallible_contract.proofs.Lemmas.Folding.{holds_at_each_turn_of_held, drained_of_holder}
@@ -32,7 +32,7 @@ module _ {S F X E : Type 0} (steps_of_skip_while_folds : S → Answered X E → 
 
 module _ {S F X E : Type 0} (m : Contract S X E) (g : Mut F (Bor X × Unit {0}) (Result Bool E)) where
   abbrev steps_of_skip_while_folds : SkipWhile S F → Answered X E → SkipWhile S F → Type 0
-  steps_of_skip_while_folds = (seen_as skip_while_parts (skip_while_contract m g)).steps
+  steps_of_skip_while_folds = (parts_as skip_while_parts (skip_while_contract m g)).steps
 
   -- the predicate has returned false
   abbrev past_of_skip_while_folds : F → S → SkipWhile S F

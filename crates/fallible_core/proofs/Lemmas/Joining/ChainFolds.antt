@@ -10,7 +10,7 @@ use Rattle.fallible_contract.specs.Laws.Closures.{folds_to_in_turn}
 use Rattle.fallible_contract.proofs.Lemmas.Folding.{drained_of_holder, holds_at_each_turn_of_held}
 use Rattle.fallible_contract.proofs.Lemmas.Overriding.{holds_each_turn_seen, drained_seen}
 use Rattle.fallible_core.specs.Joining.Chain.{chain_step, chain_contract, chain_is_finite, sides_back}
-use Rattle.fallible_core.proofs.Lemmas.Joining.Chain.{run_from_both, run_from_joined}
+use Rattle.fallible_core.specs.Laws.Joining.ChainTraces.{run_from_both, run_from_joined}
 use Rattle.std.specs.declared.ops.ControlFlow.{ControlFlow}
 use Rattle.fallible_core.specs.declared.joining.chain.StillDrawn.{StillDrawn}
 use Rattle.fallible_core.specs.declared.joining.chain.StillDrawn.TheVariants.{Both, FirstAlone, SecondAlone}

@@ -7,7 +7,7 @@ use Rattle.fallible_contract.specs.Traces.{Answered, item, failure, end, is_end}
 use Rattle.fallible_contract.specs.Contract.{Contract, seen_as}
 use Rattle.fallible_contract.specs.Lists.{AlwaysGives, Lists, result_answer}
 use Rattle.fallible_contract.proofs.Lemmas.Lists.Passing.{always_gives_by_each_step, lists_seen}
-use Rattle.fallible_contract.proofs.Lemmas.LawForm.{FirstOf, IsByAnswers}
+use Rattle.fallible_contract.specs.Laws.LawForm.{FirstOf, IsByAnswers}
 use Rattle.fallible_core.specs.Joining.Flatten.{EachLists, flattened, flatten_contract, FlattenTrace, Part, of_inner, of_failure, of_end, outer_answer, part_answers, Finished, FinishedPart, LastPart, FinishedInHand, JoinedTrace, FlattenAnswers, nothing_drawn, still_in_hand, outer_drawn}
 use Rattle.fallible_core.specs.Joining.Chain.{chained}
 use Rattle.fallible_core.proofs.Lemmas.Joining.Chain.{item_not_end}

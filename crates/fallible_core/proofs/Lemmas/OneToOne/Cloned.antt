@@ -1,9 +1,9 @@
--- What `Cloned` lists, where a clone equals its original and never fails; and from both ends also where each item has one clone alone.
+-- What `Cloned` lists, where a clone equals its original and never fails; until one fails, where it may; and from both ends also where each item has one clone alone.
 use Rattle.std.specs.Prelude.{◌≡◌, Result, Ok, Err, List, [], ◌∷◌, map, All}
 use Rattle.std.proofs.lemmas.List.Elements.{All-nil, All-cons, All-head, All-tail}
 use Rattle.std.specs.Borrow.{Bor}
 use Rattle.std.proofs.Common.{refl, sym, ap, subst}
-use Rattle.fallible_contract.specs.Contract.{Contract, seen_as}
+use Rattle.fallible_contract.specs.Contract.{Contract, parts_as}
 use Rattle.fallible_contract.specs.Traces.{Answered}
 use Rattle.fallible_contract.specs.Passing.{passing_step}
 use Rattle.fallible_contract.specs.Lists.{Lists}
@@ -12,8 +12,12 @@ use Rattle.fallible_contract.proofs.Lemmas.BothEnds.Passing.{GivesAt, with_answe
 use Rattle.fallible_contract.proofs.Lemmas.Lists.Passing.{passed, gives_all, lists_seen}
 use Rattle.fallible_core.specs.OneToOne.Map.{map_outcome, mapped}
 use Rattle.fallible_core.specs.OneToOne.Cloned.{cloned_call, cloned_parts, cloned_contract, pointed_to}
+use Rattle.fallible_core.specs.Refusing.{ListsUntilRefused}
+use Rattle.fallible_core.proofs.Lemmas.Refusing.{IsOutcomeOrRefused, gives_passed_until_refused, lists_until_refused_seen}
 use Rattle.fallible_core.proofs.Lemmas.OneToOne.Map.{map_never_ends}
 use Rattle.std.specs.declared.alloc.AllocError.{AllocError}
+use Rattle.fallible_contract.specs.declared.passing.Outcome.{Outcome}
+use Rattle.fallible_contract.specs.declared.passing.Outcome.TheVariants.{Kept}
 use Rattle.fallible_core.specs.declared.one_to_one.cloned.Cloned.{Cloned}
 
 passed_is_pointed_to : {T E : Type 0} (l : List (Result (Bor T) E)) → passed map_outcome (λ (p : Unit {0}) (x : Bor T). Ok x.now) (λ p x. p) tt l ≡ pointed_to l
@@ -27,9 +31,26 @@ module _ {T E : Type 0} (is_clone : T → T → Type 0) (is_infallible : T → T
   clone_is_value x (Ok y) c = ap (λ (z : T). Ok z) (equal x.now y c)
   clone_is_value x (Err e) c = absurd (c.0 (infallible x.now))
 
-  pub lists_pointed_to : {S : Type 0} (m : Contract S (Bor T) E) (s : Cloned S) (l : List (Result (Bor T) E)) → Lists m.steps s.it l → Lists (seen_as cloned_parts (cloned_contract is_clone is_infallible from m)).steps s (pointed_to l)
+  pub lists_pointed_to : {S : Type 0} (m : Contract S (Bor T) E) (s : Cloned S) (l : List (Result (Bor T) E)) → Lists m.steps s.it l → Lists (parts_as cloned_parts (cloned_contract is_clone is_infallible from m)).steps s (pointed_to l)
   lists_pointed_to m s l i = lists_seen cloned_parts (cloned_contract is_clone is_infallible from m).steps s refl (passed_is_pointed_to l)
       (gives_all m.steps (cloned_call is_clone is_infallible from) map_outcome (λ (f p : Unit {0}). Unit {0}) (λ p x. Ok x.now) (λ p x. p) (λ f p x v g at c. (tt, clone_is_value x v c)) l s.it tt tt tt i.runs)
+
+-- ---- where a clone may fail
+
+told_is_pointed_to : {T E : Type 0} (l : List (Result (Bor T) E)) → passed (λ (x : Bor T) (o : Outcome T E). o) (λ (p : Unit {0}) x. Kept x.now) (λ p x. p) tt l ≡ pointed_to l
+unfolding pointed_to
+told_is_pointed_to [] = refl
+told_is_pointed_to (Ok x ∷ l) = ap (λ k. Ok x.now ∷ k) (told_is_pointed_to l)
+told_is_pointed_to (Err e ∷ l) = ap (λ k. Err e ∷ k) (told_is_pointed_to l)
+
+module _ {T E : Type 0} (is_clone : T → T → Type 0) (is_infallible : T → Type 0) (from : AllocError → E → Type 0) where
+  clone_or_refusal : (x : Bor T) (v : Result T E) → cloned_call is_clone is_infallible from tt x v tt → IsOutcomeOrRefused is_clone from (Kept x.now) (map_outcome x v)
+  clone_or_refusal x (Ok y) c = c
+  clone_or_refusal x (Err e) c = c.1
+
+  pub lists_pointed_to_until_refused : {S : Type 0} (m : Contract S (Bor T) E) (s : Cloned S) (l : List (Result (Bor T) E)) → Lists m.steps s.it l → ListsUntilRefused is_clone (parts_as cloned_parts (cloned_contract is_clone is_infallible from m)).steps from s (pointed_to l)
+  lists_pointed_to_until_refused m s l i = lists_until_refused_seen is_clone from cloned_parts (cloned_contract is_clone is_infallible from m).steps s refl (told_is_pointed_to l)
+      (gives_passed_until_refused is_clone from m.steps (cloned_call is_clone is_infallible from) map_outcome (λ (f p : Unit {0}). Unit {0}) (λ p x. Kept x.now) (λ p x. p) (λ f p x v g at c. (tt, clone_or_refusal x v c)) l s.it tt tt tt i.runs)
 
 -- ---- from both ends
 

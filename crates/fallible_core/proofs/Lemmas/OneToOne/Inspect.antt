@@ -3,7 +3,7 @@ use Rattle.std.specs.Prelude.{◌≡◌, Result, Ok, Err, List, [], ◌∷◌}
 use Rattle.std.proofs.Common.{refl, ap, ◌∙◌}
 use Rattle.std.specs.Fn.{Mut}
 use Rattle.std.specs.Borrow.{Bor}
-use Rattle.fallible_contract.specs.Contract.{Contract, seen_as}
+use Rattle.fallible_contract.specs.Contract.{Contract, parts_as}
 use Rattle.fallible_contract.specs.Closures.{call_by_reference}
 use Rattle.fallible_contract.specs.Passing.{LeavesNoneOut}
 use Rattle.fallible_contract.specs.Lists.{Lists, Acts}
@@ -28,7 +28,7 @@ passed_is_inspected h (Ok x ∷ l) = by_outcome_of_inspect_is_once_seen x (h x) 
 passed_is_inspected h (Err e ∷ l) = ap (λ t. Err e ∷ t) (passed_is_inspected h l)
 
 pub lists_inspected : {S F X E : Type 0} (m : Contract S X E) (g : Mut F (Bor X × Unit {0}) (Result (Unit {0}) E)) (s : Inspect S F) (f : F) (h : X → Result (Unit {0}) E) (l : List (Result X E)) → inspect_parts s ≡ (s.it, f) → Acts (call_by_reference g) f h → Lists m.steps s.it l
-    → Lists (seen_as inspect_parts (inspect_contract m g)).steps s (inspected h l)
+    → Lists (parts_as inspect_parts (inspect_contract m g)).steps s (inspected h l)
 lists_inspected m g s f h l parts a i = lists_seen inspect_parts (inspect_contract m g).steps s parts (passed_is_inspected h l) (always_gives_passed (call_by_reference g) f h a m.steps inspect_outcome s.it l i.runs)
 
 -- it leaves nothing out

@@ -2,7 +2,7 @@
 use Rattle.std.specs.Prelude.{◌≡◌, Result, Ok, Err, List, [], ◌∷◌}
 use Rattle.std.proofs.Common.{refl, ap, ◌∙◌}
 use Rattle.std.specs.Fn.{Mut}
-use Rattle.fallible_contract.specs.Contract.{Contract, seen_as}
+use Rattle.fallible_contract.specs.Contract.{Contract, parts_as}
 use Rattle.fallible_contract.specs.Closures.{call_by_value}
 use Rattle.fallible_contract.specs.Passing.{LeavesNoneOut}
 use Rattle.fallible_contract.specs.Lists.{Lists, Acts}
@@ -27,7 +27,7 @@ passed_is_mapped h (Ok x ∷ l) = by_outcome_of_map_is_cons x (h x) _ ∙ ap (λ
 passed_is_mapped h (Err e ∷ l) = ap (λ t. Err e ∷ t) (passed_is_mapped h l)
 
 pub lists_mapped : {S F X B E : Type 0} (m : Contract S X E) (g : Mut F (X × Unit {0}) (Result B E)) (s : Map S F) (f : F) (h : X → Result B E) (l : List (Result X E)) → map_parts s ≡ (s.it, f) → Acts (call_by_value g) f h → Lists m.steps s.it l
-    → Lists (seen_as map_parts (map_contract m g)).steps s (mapped h l)
+    → Lists (parts_as map_parts (map_contract m g)).steps s (mapped h l)
 lists_mapped m g s f h l parts a i = lists_seen map_parts (map_contract m g).steps s parts (passed_is_mapped h l) (always_gives_passed (call_by_value g) f h a m.steps map_outcome s.it l i.runs)
 
 -- it leaves nothing out

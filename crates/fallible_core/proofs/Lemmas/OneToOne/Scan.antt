@@ -3,7 +3,7 @@ use Rattle.std.specs.Prelude.{◌≡◌, List, [], ◌∷◌, Option, Result, So
 use Rattle.std.proofs.Common.{refl, ap, subst, ◌∙◌}
 use Rattle.std.specs.Fn.{Mut}
 use Rattle.std.specs.Borrow.{MutBor}
-use Rattle.fallible_contract.specs.Contract.{Contract, seen_as}
+use Rattle.fallible_contract.specs.Contract.{Contract, parts_as}
 use Rattle.fallible_contract.specs.Lists.{Lists, ActsWithState}
 use Rattle.fallible_contract.specs.Passing.{LeavesNoneOut}
 use Rattle.fallible_contract.proofs.Lemmas.Lists.Passing.{passed, by_outcome, gives_all, lists_seen}
@@ -27,7 +27,7 @@ module _ {F T X R : Type 0} (call : T × F → X → R → T × F → Type 0) (f
   call_gives_next_of_state p t x v q e c = acts t x v q (subst (λ (z : T × F). call z x v q) e c)
 
 pub lists_scanned : {S F T X B E : Type 0} (m : Contract S X E) (g : Mut F (MutBor T × (X × Unit {0})) (Result (Option B) E × (MutBor T × Unit {0}))) (s : Scan S T F) (t : T) (f : F) (next : T → X → Result (Option B) E × T) (l : List (Result X E)) → scan_parts s ≡ (s.it, (t, f)) → ActsWithState (scan_call g) f next → Lists m.steps s.it l
-    → Lists (seen_as scan_parts (scan_contract m g)).steps s (scanned next t l)
+    → Lists (parts_as scan_parts (scan_contract m g)).steps s (scanned next t l)
 lists_scanned {F = F} {T = T} m g s t f next l parts a i = lists_seen scan_parts (scan_contract m g).steps s parts (passed_is_scanned next t l)
     (gives_all m.steps (scan_call g) scan_outcome (λ (p : T × F) u. p ≡ (u, f)) (λ u x. (next u x).0) (λ u x. (next u x).1) (call_gives_next_of_state (scan_call g) f next a) l s.it (t, f) t refl i.runs)
 

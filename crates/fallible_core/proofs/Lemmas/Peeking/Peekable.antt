@@ -5,7 +5,7 @@ use Rattle.std.specs.Borrow.{Bor, MutBor}
 use Rattle.std.specs.Fn.{Shared, FnReturnsAt}
 use Rattle.std.proofs.Common.{refl, sym, ap, subst, arith, inl, inr}
 use Rattle.fallible_contract.specs.Traces.{Answered, Run, item, end}
-use Rattle.fallible_contract.specs.Contract.{Contract, KeptByDraw, NeverFails, Stays, Lawful, seen_as}
+use Rattle.fallible_contract.specs.Contract.{Contract, KeptByDraw, NeverFails, Stays, Lawful, parts_as}
 use Rattle.fallible_contract.specs.Lists.{AlwaysGives, Lists}
 use Rattle.fallible_contract.proofs.Lemmas.Lists.Passing.{lists_seen}
 use Rattle.fallible_contract.specs.Laws.Contract.{stays_by_draw_first, stays_reflexive}
@@ -124,33 +124,6 @@ module _ {S A E : Type 0} (steps : S → Answered A E → S → Type 0) where
   pub fills_without_change_where_held : (p : S × Option (Option A)) (o : Option A) → p.1 ≡ Some o → Fills steps p (Ok tt) p
   fills_without_change_where_held (s, held) o e = rw e (Ok o, (refl, refl, refl), refl)
 
--- ---- runs
-
-module _ {S A E : Type 0} (steps : S → Answered A E → S → Type 0) where
-  -- with nothing held they are the source's
-  source_run_of_run : (trace : List (Answered A E)) (s : S) (q : S × Option (Option A)) → Run (peekable_step steps) (s, None) trace q → Run steps s trace q.0 × (q.1 ≡ None)
-  source_run_of_run [] s q e = (ap (λ p. p.0) e, sym (ap (λ p. p.1) e))
-  source_run_of_run (r ∷ rest) s q h = let k = source_run_of_run rest h.0.0 q (rw h.1.1 at h.2) in ((h.0.0, h.1.0, k.0), k.1)
-
-  run_of_source_run : (trace : List (Answered A E)) (s t : S) → Run steps s trace t → Run (peekable_step steps) (s, None) trace (t, None)
-  run_of_source_run [] s t e = ap (λ (u : S). (u, None)) e
-  run_of_source_run (r ∷ rest) s t h = ((h.0, None), (h.1, refl), run_of_source_run rest h.0 t h.2)
-
-  peekable_trace_of_run : (trace : List (Answered A E)) (p q : S × Option (Option A)) → Run (peekable_step steps) p trace q → PeekableTrace steps p trace q
-  peekable_trace_of_run trace (s, None) q h = let k = source_run_of_run trace s q h in inr record { source_trace = trace; drawn = k.0; answers = refl; let_go = k.1 }
-  peekable_trace_of_run [] (s, Some o) q e = inl (refl, sym e)
-  peekable_trace_of_run (r ∷ rest) (s, Some o) q h = let k = source_run_of_run rest s q (rw (h.1.1, h.1.2) at h.2) in inr record { source_trace = rest; drawn = k.0; answers = rw h.1.0 refl; let_go = k.1 }
-
-  run_of_held_answers : (source : List (Answered A E)) (p : S × Option (Option A)) (t : S) → Run steps p.0 source t → Run (peekable_step steps) p (held_answers p.1 ++ source) (t, None)
-  run_of_held_answers source (s, None) t ran = run_of_source_run source s t ran
-  run_of_held_answers source (s, Some o) t ran = ((s, None), (refl, refl, refl), run_of_source_run source s t ran)
-
-  run_of_peekable_trace : (trace : List (Answered A E)) (p q : S × Option (Option A)) → PeekableTrace steps p trace q → Run (peekable_step steps) p trace q
-  run_of_peekable_trace trace p (t, held) d = elim d [ inl e ↦ rw (e.0, e.1) refl | inr a ↦ rw (a.answers, a.let_go) (run_of_held_answers a.source_trace p t a.drawn) ]
-
-  pub peekable_law : (p : S × Option (Option A)) (trace : List (Answered A E)) (q : S × Option (Option A)) → Run (peekable_step steps) p trace q ↔ PeekableTrace steps p trace q
-  peekable_law p trace q = (peekable_trace_of_run trace p q, run_of_peekable_trace trace p q)
-
 -- ---- one test for another
 
 module _ {S A E : Type 0} (steps : S → Answered A E → S → Type 0) (test test' : A → Bool → Type 0) (same : (x : A) (b : Bool) → test x b → test' x b) where
@@ -179,7 +152,7 @@ always_gives_peekable : {S A E : Type 0} (steps : S → Answered A E → S → T
 always_gives_peekable steps [] s g = λ r q w. g r q.0 w.0
 always_gives_peekable {A = A} steps (y ∷ l) s g = λ r q w. let d = g r q.0 w.0 in (d.0, subst (λ (held : Option (Option A)). AlwaysGives (peekable_step steps) (q.0, held) l) (sym w.1) (always_gives_peekable steps l q.0 d.1))
 
-pub lists_peekable : {S A E : Type 0} (m : Contract S A E) (s : Peekable S A E) (l : List (Result A E)) → peekable_parts s ≡ (s.it, None) → Lists m.steps s.it l → Lists (seen_as peekable_parts (peekable_contract m)).steps s l
+pub lists_peekable : {S A E : Type 0} (m : Contract S A E) (s : Peekable S A E) (l : List (Result A E)) → peekable_parts s ≡ (s.it, None) → Lists m.steps s.it l → Lists (parts_as peekable_parts (peekable_contract m)).steps s l
 lists_peekable m s l parts i = lists_seen peekable_parts (peekable_step m.steps) s parts refl (always_gives_peekable m.steps l s.it i.runs)
 
 always_gives_held : {S A E : Type 0} (steps : S → Answered A E → S → Type 0) (held : Option (Option A)) (l : List (Result A E)) (s : S) → AlwaysGives steps s l → AlwaysGives (peekable_step steps) (s, held) (held_then held l)
@@ -187,5 +160,5 @@ always_gives_held {S} {A} {E} steps (Some (Some x)) l s g = λ r q w. (w.0, subs
 always_gives_held steps (Some None) l s g = λ r q w. w.0
 always_gives_held steps None l s g = always_gives_peekable steps l s g
 
-pub lists_held : {S A E : Type 0} (m : Contract S A E) (s : Peekable S A E) (l : List (Result A E)) → Lists m.steps s.it l → Lists (seen_as peekable_parts (peekable_contract m)).steps s (held_then s.held l)
+pub lists_held : {S A E : Type 0} (m : Contract S A E) (s : Peekable S A E) (l : List (Result A E)) → Lists m.steps s.it l → Lists (parts_as peekable_parts (peekable_contract m)).steps s (held_then s.held l)
 lists_held m s l i = lists_seen peekable_parts (peekable_step m.steps) s refl refl (always_gives_held m.steps s.held l s.it i.runs)

@@ -2,7 +2,7 @@
 use Rattle.std.specs.Prelude.{◌≡◌, Option, Some, None, Ok, List, []}
 use Rattle.std.proofs.Common.{refl, sym, subst}
 use Rattle.fallible_contract.specs.Traces.{Answered}
-use Rattle.fallible_contract.specs.Contract.{Contract, seen_as}
+use Rattle.fallible_contract.specs.Contract.{Contract, parts_as}
 use Rattle.fallible_contract.specs.Folds.{Drained, HoldsAtEachTurn, goes_on, Driven}
 use Rattle.fallible_contract.proofs.Lemmas.Folding.{holds_at_each_turn_of_held, drained_of_holder}
 use Rattle.fallible_contract.proofs.Lemmas.Folds.{holds_at_first_turn, holds_each_turn_after_item, driven_by_item_first, driven_stop}
@@ -13,7 +13,7 @@ use Rattle.fallible_core.specs.declared.peeking.peekable.Peekable.{Peekable}
 
 module _ {S A E : Type 0} (m : Contract S A E) (s : Peekable S A E) where
   abbrev steps_of_peekable_folds : Peekable S A E → Answered A E → Peekable S A E → Type 0
-  steps_of_peekable_folds = (seen_as peekable_parts (peekable_contract m)).steps
+  steps_of_peekable_folds = (parts_as peekable_parts (peekable_contract m)).steps
 
   -- the source of it, with this held
   abbrev with_held : Option (Option A) → Peekable S A E

@@ -4,7 +4,7 @@ use Rattle.std.proofs.Common.{refl, sym, ap, subst, ◌∙◌, inl, inr}
 use Rattle.std.specs.Fn.{Shared}
 use Rattle.std.specs.Borrow.{Bor}
 use Rattle.fallible_contract.specs.Traces.{Answered, item}
-use Rattle.fallible_contract.specs.Contract.{Contract, seen_as}
+use Rattle.fallible_contract.specs.Contract.{Contract, parts_as}
 use Rattle.fallible_contract.specs.Lists.{AlwaysGives, Lists, nth_of}
 use Rattle.fallible_contract.proofs.Lemmas.Lists.Passing.{lists_seen}
 use Rattle.fallible_core.specs.Peeking.Peekable.{peekable_source, peekable_parts, peekable_step, peekable_contract, held_of, held_item, with_held, failure_told, Fills, Peeks, Looks, LooksAt, LooksAs, TakenIf, NextIf, rest_look, changed_first, look_of, first_if, rest_if}
@@ -80,24 +80,24 @@ module _ {S A E : Type 0} (steps : S → Answered A E → S → Type 0) where
   taken_if_answers_first_if test h acts (Ok None) r p q (Err y ∷ l) is given w = absurd cc
   taken_if_answers_first_if test h acts (Err e) r p q (Err y ∷ l) is given w = (w.0 ∙ is, subst (λ (z : S × Option (Option A)). AlwaysGives StepOfPeekableLists z l) (sym w.1) given)
 
-module _ {S A E : Type 0} (m : Contract S A E) (s t : Peekable S A E) (l : List (Result A E)) (i : Lists (seen_as peekable_parts (peekable_contract m)).steps s l) where
+module _ {S A E : Type 0} (m : Contract S A E) (s t : Peekable S A E) (l : List (Result A E)) (i : Lists (parts_as peekable_parts (peekable_contract m)).steps s l) where
   always_gives_of_lists : AlwaysGives (peekable_step m.steps) (peekable_parts s) l
   always_gives_of_lists = always_gives_parts peekable_parts (λ p. record { it = p.0; held = p.1 }) (λ p. refl) (peekable_step m.steps) l s i.runs
 
-  pub peek_answers_first_and_lists_rest : {r : Answered A E} → Peeks m.steps (peekable_parts s) r (peekable_parts t) → (r ≡ nth_of 0 l) × Lists (seen_as peekable_parts (peekable_contract m)).steps t (rest_look l)
+  pub peek_answers_first_and_lists_rest : {r : Answered A E} → Peeks m.steps (peekable_parts s) r (peekable_parts t) → (r ≡ nth_of 0 l) × Lists (parts_as peekable_parts (peekable_contract m)).steps t (rest_look l)
   peek_answers_first_and_lists_rest {r = r} w = let d = peek_answers_nth_of_zero m.steps (peekable_parts s) (peekable_parts t) r l always_gives_of_lists w in (d.0, lists_seen peekable_parts (peekable_step m.steps) t refl refl d.1)
 
-  pub fill_holds_first_and_lists_rest : {r : Result (Unit {0}) E} → Fills m.steps (peekable_parts s) r (peekable_parts t) → (r ≡ failure_told (nth_of 0 l)) × (t.held ≡ held_of (nth_of 0 l)) × Lists (seen_as peekable_parts (peekable_contract m)).steps t (rest_look l)
+  pub fill_holds_first_and_lists_rest : {r : Result (Unit {0}) E} → Fills m.steps (peekable_parts s) r (peekable_parts t) → (r ≡ failure_told (nth_of 0 l)) × (t.held ≡ held_of (nth_of 0 l)) × Lists (parts_as peekable_parts (peekable_contract m)).steps t (rest_look l)
   fill_holds_first_and_lists_rest w = let d = peek_answers_first_and_lists_rest w.1 in (w.2 ∙ ap failure_told d.0, held_after_peek_is_held_of_answer m.steps (peekable_parts s) (peekable_parts t) w.0 w.1 ∙ ap held_of d.0, d.1)
 
   -- what is listed where the held item is changed
-  pub lists_changed_first_with_held : (x w : A) → held_item s.held ≡ Some x → Lists (seen_as peekable_parts (peekable_contract m)).steps (with_held s w) (changed_first w l)
+  pub lists_changed_first_with_held : (x w : A) → held_item s.held ≡ Some x → Lists (parts_as peekable_parts (peekable_contract m)).steps (with_held s w) (changed_first w l)
   lists_changed_first_with_held x w is = lists_seen peekable_parts (peekable_step m.steps) (with_held s w) refl refl (always_gives_changed m.steps l (peekable_source s) s.held x w is always_gives_of_lists)
 
-  pub look_answers_look_of_and_lists_rest : {F R : Type 0} {g : Shared F (Bor A × Unit {0}) R} {f : F} {r : Result (Option R) E} (h : A → R) → LooksAs g f h → Looks m.steps g f (peekable_parts s) r (peekable_parts t) → (r ≡ look_of h l) × Lists (seen_as peekable_parts (peekable_contract m)).steps t (rest_look l)
+  pub look_answers_look_of_and_lists_rest : {F R : Type 0} {g : Shared F (Bor A × Unit {0}) R} {f : F} {r : Result (Option R) E} (h : A → R) → LooksAs g f h → Looks m.steps g f (peekable_parts s) r (peekable_parts t) → (r ≡ look_of h l) × Lists (parts_as peekable_parts (peekable_contract m)).steps t (rest_look l)
   look_answers_look_of_and_lists_rest {g = g} {f = f} {r = r} h acts w = let d = peek_answers_first_and_lists_rest w.1 in (look_answers_look_of m.steps g f h acts w.0 r l d.0 w.2, d.1)
 
-  pub next_if_answers_first_if_and_lists_rest : {test : A → Bool → Type 0} {r : Answered A E} (h : A → Bool) → ((x : A) (b : Bool) → test x b → b ≡ h x) → NextIf m.steps test (peekable_parts s) r (peekable_parts t) → (r ≡ first_if h l) × Lists (seen_as peekable_parts (peekable_contract m)).steps t (rest_if h l)
+  pub next_if_answers_first_if_and_lists_rest : {test : A → Bool → Type 0} {r : Answered A E} (h : A → Bool) → ((x : A) (b : Bool) → test x b → b ≡ h x) → NextIf m.steps test (peekable_parts s) r (peekable_parts t) → (r ≡ first_if h l) × Lists (parts_as peekable_parts (peekable_contract m)).steps t (rest_if h l)
   next_if_answers_first_if_and_lists_rest {test = test} {r = r} h acts w =
       let d = peek_answers_nth_of_zero m.steps (peekable_parts s) w.after w.peeked l always_gives_of_lists w.peeks in
       let k = taken_if_answers_first_if m.steps test h acts w.peeked r w.after (peekable_parts t) l d.0 d.1 w.taken in

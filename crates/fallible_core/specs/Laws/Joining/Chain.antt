@@ -1,11 +1,13 @@
 -- The contract of `Chain` is lawful where those of both sides are.
-use Rattle.std.specs.Prelude.{◌≡◌, ℕ, ◌+◌, cond, T, Bool, true, false, Some, None, Ok, Err, ◌↔◌}
+use Rattle.std.specs.Prelude.{◌≡◌, ℕ, ◌+◌, List, cond, T, Bool, true, false, Some, None, Ok, Err, ◌↔◌}
 use Rattle.std.specs.Iterator.{IsFinite, size}
 use Rattle.std.proofs.Common.{arith, inl, inr, refl, ap₂}
 use Rattle.fallible_contract.specs.Traces.{Answered, end, is_end}
 use Rattle.fallible_contract.specs.Contract.{Contract, OnAnswer, KeptByDraw, Lawful, lenders_of_both}
 use Rattle.fallible_contract.specs.Ends.{Ends, from_back, LawfulEnds}
-use Rattle.fallible_core.specs.Joining.Chain.{chain_may_come, chain_contract, chain_back, chain_ends}
+use Rattle.fallible_contract.specs.Laws.LawForm.{traces_are_of_parts}
+use Rattle.fallible_core.specs.Laws.Joining.ChainTraces.{chain_traced, chain_back_twice}
+use Rattle.fallible_core.specs.Joining.Chain.{chains_all, chain_step, chain_may_come, chain_contract, chain_back, chain_ends}
 use Rattle.fallible_core.specs.declared.joining.chain.StillDrawn.{StillDrawn}
 use Rattle.fallible_core.specs.declared.joining.chain.StillDrawn.TheVariants.{Both, FirstAlone, SecondAlone}
 
@@ -105,7 +107,7 @@ module _ {S U A E : Type 0} (first : Contract S A E) (second : Contract U A E) w
     is_finite_iff_bound_chain (s, u, SecondAlone) = k.bounded u
 
 pub lawful_chain : {S U A E : Type 0} {first : Contract S A E} {second : Contract U A E} → Lawful first → Lawful second → Lawful (chain_contract first second)
-lawful_chain {first = first} {second = second} l k = record { kept_by_draw = kept_by_draw_chain first second l k; bounded = is_finite_iff_bound_chain first second l k }
+lawful_chain {first = first} {second = second} l k = record { kept_by_draw = kept_by_draw_chain first second l k; bounded = is_finite_iff_bound_chain first second l k; traced = chain_traced l.traced k.traced }
 
 -- ---- the second end
 
@@ -163,8 +165,8 @@ module _ {S U A E : Type 0} (first : Contract S A E) (second : Contract U A E) w
   )
 
   -- A draw that goes, seen from the back, goes, whatever the steps are.
-  kept_by_draw_back : (steps : S × U × StillDrawn → Answered A E → S × U × StillDrawn → Type 0) (p : S × U × StillDrawn) (r : Answered A E) (q : S × U × StillDrawn) → KeptByDraw (ChainContract second first) (chain_back p) r (chain_back q) → KeptByDraw (record (ChainContract first second) { steps = steps }) p r q
-  kept_by_draw_back steps p r q g = record {
+  kept_by_draw_back : (steps : S × U × StillDrawn → Answered A E → S × U × StillDrawn → Type 0) (traces : S × U × StillDrawn → List (Answered A E) → S × U × StillDrawn → Type 0) (p : S × U × StillDrawn) (r : Answered A E) (q : S × U × StillDrawn) → KeptByDraw (ChainContract second first) (chain_back p) r (chain_back q) → KeptByDraw (record (ChainContract first second) { steps = steps; traces = traces }) p r q
+  kept_by_draw_back steps traces p r q g = record {
     can_next = (g.can_next.1, g.can_next.0);
     is_finite = λ h. (is_finite_iff_chain_back_is_finite q).1 (g.is_finite ((is_finite_iff_chain_back_is_finite p).0 h));
     answer = on_answer_back p r q g.answer;
@@ -180,7 +182,8 @@ lawful_ends_chain {first = first} {f = f} {second = second} {e = e} l k = record
   may_fail = chain_may_come_by_each_part l.may_fail k.may_fail;
   front = lawful_chain l.front k.front;
   back = record {
-    kept_by_draw = λ p r q c step. kept_by_draw_back (from_back first f) (from_back second e) (chain_ends f e).steps p r q ((lawful_chain k.back l.back).kept_by_draw (chain_back p) r (chain_back q) (c.1, c.0) step);
+    kept_by_draw = λ p r q c step. kept_by_draw_back (from_back first f) (from_back second e) (chain_ends f e).steps (chain_ends f e).traces p r q ((lawful_chain k.back l.back).kept_by_draw (chain_back p) r (chain_back q) (c.1, c.0) step);
     bounded = (lawful_chain l.back k.back).bounded;
+    traced = traces_are_of_parts chain_back chain_back chain_back_twice chain_back_twice (chain_step e.steps f.steps) (chains_all e.traces f.traces) (chain_traced k.back.traced l.back.traced);
   };
 }

@@ -56,4 +56,4 @@ module _ {S A E : Type 0} (is_clone : S → S → Type 0) (is_infallible : S →
   kept_by_draw_cycle_parts l (s, k) r (t, k') c step = rw step.0 (kept_by_draw_cycle l s t k r c step.1)
 
 pub lawful_cycle : {S A E : Type 0} {m : Contract S A E} (is_clone : S → S → Type 0) (is_infallible : S → Type 0) (from : AllocError → E → Type 0) → Lawful m → Lawful (cycle_contract is_clone is_infallible from m)
-lawful_cycle {m = m} is_clone is_infallible from l = record { kept_by_draw = kept_by_draw_cycle_parts is_clone is_infallible from m l; bounded = λ p. ((λ e. e), (λ h. h)) }
+lawful_cycle {m = m} is_clone is_infallible from l = record { kept_by_draw = kept_by_draw_cycle_parts is_clone is_infallible from m l; bounded = λ p. ((λ e. e), (λ h. h)); traced = λ _ _ _. ((λ h. h), (λ h. h)) }

@@ -1,12 +1,14 @@
 -- The contract of `Zip` is lawful where those of both sides are.
-use Rattle.std.specs.Prelude.{ℕ, ◌<◌, Option, Some, None, Ok, Err, ◌↔◌}
+use Rattle.std.specs.Prelude.{ℕ, ◌<◌, Option, Some, None, Ok, Err, ◌↔◌, List, [], ◌∷◌, map}
 use Rattle.std.specs.Iterator.{IsFinite, size}
-use Rattle.std.proofs.Common.{arith, inl, inr, refl, ap₂}
-use Rattle.fallible_contract.specs.Traces.{Answered, item, failure}
+use Rattle.std.proofs.Common.{arith, inl, inr, refl, ap₂, ap, subst}
+use Rattle.fallible_contract.specs.Traces.{Answered, item, failure, Run}
 use Rattle.fallible_contract.specs.Contract.{Contract, NoMore, NoMoreRemains, OnAnswer, KeptByDraw, Lawful, lenders_of_both}
 use Rattle.fallible_contract.specs.Laws.Contract.{no_more_after, no_more_remains_after}
-use Rattle.fallible_core.specs.Joining.Zip.{ZipPlace, left_failed, both_drawn, left_answer, zip_answer, right_step, zip_contract}
+use Rattle.fallible_core.specs.Joining.Zip.{ZipPlace, left_failed, both_drawn, left_answer, zip_answer, right_step, zip_contract, right_answer, ZipTrace, zip_step, zips_all}
 use Rattle.fallible_core.specs.Laws.Joining.Chain.{both_true_where_cond_true, cond_true_where_both_true}
+use Rattle.std.specs.List.{filter_map}
+use Rattle.fallible_contract.specs.Laws.LawForm.{IsTraced, run_of_whole_list, list_is_trace}
 
 module _ {S U A B E : Type 0} (left : Contract S A E) (right : Contract U B E) where
   abbrev ZipContract : Contract (S × U) (A × B) E
@@ -69,5 +71,40 @@ module _ {S U A B E : Type 0} (left : Contract S A E) (right : Contract U B E) w
       (λ h. elim h.1 [ inl b ↦ inl ((l.bounded s).1 (h.0, b)) | inr b ↦ inr ((k.bounded u).1 (h.0, b)) ]),
     )
 
+module _ {S U A B E : Type 0} (steps : S → Answered A E → S → Type 0) (others : U → Answered B E → U → Type 0) where
+  abbrev StepOfZip : S × U → Answered (A × B) E → S × U → Type 0
+  StepOfZip = zip_step steps others
+
+  -- the right's answer at a first place, if it has one, and those at the others
+  right_run_of_step_and_rest : (x : ZipPlace A B E) (places : List (ZipPlace A B E)) (u w v : U) → right_step others u x w → Run others w (filter_map right_answer places) v → Run others u (filter_map right_answer (x ∷ places)) v
+  right_run_of_step_and_rest (left_failed e) places u w v same ran = rw same at ran
+  right_run_of_step_and_rest (both_drawn x r) places u w v step ran = (w, step, ran)
+
+  zip_trace_of_place_and_rest : (x : ZipPlace A B E) (s m t : S) (u w v : U) (rest : List (Answered (A × B) E)) → steps s (left_answer x) m → right_step others u x w → ZipTrace steps others (m, w) (rest) (t, v) → ZipTrace steps others (s, u) (zip_answer x ∷ rest) (t, v)
+  zip_trace_of_place_and_rest x s m t u w v rest step drawn p = record {
+    places = x ∷ p.places;
+    left_drawn = (m, step, p.left_drawn);
+    right_drawn = right_run_of_step_and_rest x p.places u w v drawn p.right_drawn;
+    answers = ap {B = List (Answered (A × B) E)} (λ l. zip_answer x ∷ l) p.answers;
+  }
+
+  zip_trace_of_run : (trace : List (Answered (A × B) E)) (s : S) (u : U) (t : S) (v : U) → Run StepOfZip (s, u) trace (t, v) → ZipTrace steps others (s, u) (trace) (t, v)
+  zip_trace_of_run [] s u t v e = record { places = []; left_drawn = ap (λ p. p.0) e; right_drawn = ap (λ p. p.1) e; answers = refl }
+  zip_trace_of_run (r ∷ rest) s u t v h = rw h.1.3 (zip_trace_of_place_and_rest h.1.0 s h.0.0 t u h.0.1 v rest h.1.1 h.1.2 (zip_trace_of_run rest h.0.0 h.0.1 t v h.2))
+
+  run_of_places : (places : List (ZipPlace A B E)) (s : S) (u : U) (t : S) (v : U) → Run steps s (map left_answer places) t → Run others u (filter_map right_answer places) v → Run StepOfZip (s, u) (map zip_answer places) (t, v)
+  run_of_places [] s u t v a b = rw (a, b) refl
+  run_of_places (left_failed e ∷ places) s u t v a b = ((a.0, u), (left_failed e, a.1, refl, refl), run_of_places places a.0 u t v a.2 b)
+  run_of_places (both_drawn x r ∷ places) s u t v a b = ((a.0, b.0), (both_drawn x r, a.1, b.1, refl), run_of_places places a.0 b.0 t v a.2 b.2)
+
+  pub zip_law : (p : S × U) (trace : List (Answered (A × B) E)) (q : S × U) → Run StepOfZip p trace q ↔ ZipTrace steps others p trace q
+  zip_law p trace q = (zip_trace_of_run trace p.0 p.1 q.0 q.1, (λ d. rw d.answers (run_of_places d.places p.0 p.1 q.0 q.1 d.left_drawn d.right_drawn)))
+
+pub zip_traced : {S U A B E : Type 0} {steps : S → Answered A E → S → Type 0} {others : U → Answered B E → U → Type 0} {traces : S → List (Answered A E) → S → Type 0} {other_traces : U → List (Answered B E) → U → Type 0} → IsTraced steps traces → IsTraced others other_traces → IsTraced (zip_step steps others) (zips_all traces other_traces)
+zip_traced {A = A} {B = B} {E = E} {steps = steps} {others = others} law other_law p trace q = let both = zip_law steps others p trace q in (
+  (λ ran. let h = both.0 ran in (map left_answer h.places, filter_map right_answer h.places, (law p.0 (map left_answer h.places) q.0).0 h.left_drawn, (other_law p.1 (filter_map right_answer h.places) q.1).0 h.right_drawn, record { places = h.places; left_drawn = run_of_whole_list (map left_answer h.places); right_drawn = run_of_whole_list (filter_map right_answer h.places); answers = h.answers })),
+  (λ (l, k, ran, other_ran, h). both.1 (record { places = h.places; left_drawn = subst (λ (j : List (Answered A E)). Run steps p.0 j q.0) (list_is_trace (map left_answer h.places) l h.left_drawn) ((law p.0 l q.0).1 ran); right_drawn = subst (λ (j : List (Answered B E)). Run others p.1 j q.1) (list_is_trace (filter_map right_answer h.places) k h.right_drawn) ((other_law p.1 k q.1).1 other_ran); answers = h.answers })),
+)
+
 pub lawful_zip : {S U A B E : Type 0} {left : Contract S A E} {right : Contract U B E} → Lawful left → Lawful right → Lawful (zip_contract left right)
-lawful_zip {left = left} {right = right} l k = record { kept_by_draw = kept_by_draw_zip left right l k; bounded = is_finite_iff_bound_zip left right l k }
+lawful_zip {left = left} {right = right} l k = record { kept_by_draw = kept_by_draw_zip left right l k; bounded = is_finite_iff_bound_zip left right l k; traced = zip_traced l.traced k.traced }

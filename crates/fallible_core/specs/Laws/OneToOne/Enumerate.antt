@@ -1,9 +1,10 @@
 -- The contract of `Enumerate` is lawful where the source's is.
 use Rattle.std.specs.Prelude.{◌≡◌, ℕ, ◌+◌, List, [], ◌∷◌, Some, None, Ok, Err}
-use Rattle.std.proofs.Common.{sym, subst, arith}
+use Rattle.std.proofs.Common.{sym, subst, arith, refl, ap}
 use Rattle.fallible_contract.specs.Traces.{Answered, Run, item, items_in}
 use Rattle.fallible_contract.specs.Contract.{Contract, KeptByDraw, Lawful}
-use Rattle.fallible_core.specs.OneToOne.Enumerate.{numbered_from, EnumerateTrace, enumerate_contract}
+use Rattle.fallible_core.specs.OneToOne.Enumerate.{numbered_from, EnumerateTrace, enumerate_contract, numbers_all}
+use Rattle.fallible_contract.specs.Laws.LawForm.{FirstOf, IsByAnswers, IsTraced, run_at_one_answer_iff_law, run_of_whole_list, list_is_trace}
 
 module _ {S A E : Type 0} (steps : S → Answered A E → S → Type 0) where
   -- `EnumerateTrace`, built from the first answer on
@@ -55,5 +56,42 @@ module _ {S A E : Type 0} (m : Contract S A E) (l : Lawful m) where
   kept_by_draw_enumerate : (p : S × ℕ) (r : Answered (ℕ × A) E) (q : S × ℕ) → EnumerateContract.can_next p → EnumerateContract.steps p r q → KeptByDraw EnumerateContract p r q
   kept_by_draw_enumerate (s, n) r (t, k) c step = kept_by_draw_numbered s t n k r c (numbered_trace_of_enumerate_trace m.steps s t n k (r ∷ []) step)
 
+module _ {S A E : Type 0} (steps : S → Answered A E → S → Type 0) where
+  abbrev NumberedHere : S → ℕ → List (Answered (ℕ × A) E) → S → ℕ → Type 0
+  NumberedHere = NumberedTrace steps
+
+  pub enumerate_trace_of_numbered : (s t : S) (n k : ℕ) (trace : List (Answered (ℕ × A) E)) → NumberedHere s n trace t k → EnumerateTrace steps (s, n) trace (t, k)
+  enumerate_trace_of_numbered s _ n _ _ numbered_none = record { source_trace = []; drawn = refl; answers = refl; number_after = omega arith }
+  enumerate_trace_of_numbered s t n k _ (numbered_item {u = u} {trace = trace} x step h) = let p = enumerate_trace_of_numbered u t (n + 1) k trace h in record { source_trace = item x ∷ p.source_trace; drawn = (u, step, p.drawn); answers = ap (λ (l : List (Answered (ℕ × A) E)). item (n, x) ∷ l) p.answers; number_after = omega (arith, p.number_after) }
+  enumerate_trace_of_numbered s t n k _ (numbered_end {u = u} {trace = trace} step h) = let p = enumerate_trace_of_numbered u t n k trace h in record { source_trace = Ok None ∷ p.source_trace; drawn = (u, step, p.drawn); answers = ap (λ (l : List (Answered (ℕ × A) E)). Ok None ∷ l) p.answers; number_after = p.number_after }
+  enumerate_trace_of_numbered s t n k _ (numbered_failure {u = u} {trace = trace} e step h) = let p = enumerate_trace_of_numbered u t n k trace h in record { source_trace = Err e ∷ p.source_trace; drawn = (u, step, p.drawn); answers = ap (λ (l : List (Answered (ℕ × A) E)). Err e ∷ l) p.answers; number_after = p.number_after }
+
+  same_state_where_nothing_numbered : (s t : S) (n k : ℕ) → NumberedHere s n [] t k → ◌≡◌ {A = S × ℕ} (s, n) (t, k)
+  same_state_where_nothing_numbered s _ n _ numbered_none = refl
+
+  numbered_of_first_and_rest : (s u t : S) (n j k : ℕ) (r : Answered (ℕ × A) E) (rest : List (Answered (ℕ × A) E)) → NumberedHere s n (r ∷ []) u j → NumberedHere u j rest t k → NumberedHere s n (r ∷ rest) t k
+  numbered_of_first_and_rest s u t n _ k _ rest (numbered_item x step numbered_none) q = numbered_item x step q
+  numbered_of_first_and_rest s u t n _ k _ rest (numbered_end step numbered_none) q = numbered_end step q
+  numbered_of_first_and_rest s u t n _ k _ rest (numbered_failure e step numbered_none) q = numbered_failure e step q
+
+  first_of_enumerate_trace_of_numbered : (s t : S) (n k : ℕ) (r : Answered (ℕ × A) E) (rest : List (Answered (ℕ × A) E)) → NumberedHere s n (r ∷ rest) t k → FirstOf (EnumerateTrace steps) (s, n) r rest (t, k)
+  first_of_enumerate_trace_of_numbered s t n k _ rest (numbered_item {u = u} x step q) = record { left_by_first = (u, n + 1); first = enumerate_trace_of_numbered s u n (n + 1) _ (numbered_item x step numbered_none); others = enumerate_trace_of_numbered u t (n + 1) k rest q }
+  first_of_enumerate_trace_of_numbered s t n k _ rest (numbered_end {u = u} step q) = record { left_by_first = (u, n); first = enumerate_trace_of_numbered s u n n _ (numbered_end step numbered_none); others = enumerate_trace_of_numbered u t n k rest q }
+  first_of_enumerate_trace_of_numbered s t n k _ rest (numbered_failure {u = u} e step q) = record { left_by_first = (u, n); first = enumerate_trace_of_numbered s u n n _ (numbered_failure e step numbered_none); others = enumerate_trace_of_numbered u t n k rest q }
+
+  pub enumerate_trace_is_by_answers : IsByAnswers (EnumerateTrace steps)
+  enumerate_trace_is_by_answers = record {
+    none = λ p. enumerate_trace_of_numbered p.0 p.0 p.1 p.1 [] numbered_none;
+    same = λ p q d. same_state_where_nothing_numbered p.0 q.0 p.1 q.1 (numbered_trace_of_enumerate_trace steps p.0 q.0 p.1 q.1 [] d);
+    joins = λ p u q r rest d e. enumerate_trace_of_numbered p.0 q.0 p.1 q.1 (r ∷ rest) (numbered_of_first_and_rest p.0 u.0 q.0 p.1 u.1 q.1 r rest (numbered_trace_of_enumerate_trace steps p.0 u.0 p.1 u.1 (r ∷ []) d) (numbered_trace_of_enumerate_trace steps u.0 q.0 u.1 q.1 rest e));
+    splits = λ p q r rest d. first_of_enumerate_trace_of_numbered p.0 q.0 p.1 q.1 r rest (numbered_trace_of_enumerate_trace steps p.0 q.0 p.1 q.1 (r ∷ rest) d);
+  }
+
+pub enumerate_traced : {S A E : Type 0} {steps : S → Answered A E → S → Type 0} {traces : S → List (Answered A E) → S → Type 0} → IsTraced steps traces → IsTraced (λ p r q. EnumerateTrace steps p (r ∷ []) q) (numbers_all traces)
+enumerate_traced {A = A} {E = E} {steps = steps} law p trace q = let both = run_at_one_answer_iff_law _ (enumerate_trace_is_by_answers steps) p trace q in (
+  (λ ran. let h = both.0 ran in (h.source_trace, (law p.0 h.source_trace q.0).0 h.drawn, record { source_trace = h.source_trace; drawn = run_of_whole_list h.source_trace; answers = h.answers; number_after = h.number_after })),
+  (λ (l, ran, h). both.1 (record { source_trace = h.source_trace; drawn = subst (λ (k : List (Answered A E)). Run steps p.0 k q.0) (list_is_trace h.source_trace l h.drawn) ((law p.0 l q.0).1 ran); answers = h.answers; number_after = h.number_after })),
+)
+
 pub lawful_enumerate : {S A E : Type 0} {m : Contract S A E} → Lawful m → Lawful (enumerate_contract m)
-lawful_enumerate {m = m} l = record { kept_by_draw = kept_by_draw_enumerate m l; bounded = λ p. l.bounded p.0 }
+lawful_enumerate {m = m} l = record { kept_by_draw = kept_by_draw_enumerate m l; bounded = λ p. l.bounded p.0; traced = enumerate_traced l.traced }

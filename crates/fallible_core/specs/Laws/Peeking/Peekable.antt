@@ -1,10 +1,11 @@
 -- The contract of `Peekable` is lawful where the source's is.
-use Rattle.std.specs.Prelude.{◌+◌, Option, Some, None, Ok, Err}
-use Rattle.std.proofs.Common.{refl, arith, inl, inr}
-use Rattle.fallible_contract.specs.Traces.{Answered, item, end}
+use Rattle.std.specs.Prelude.{◌+◌, Option, Some, None, Ok, Err, ◌≡◌, List, [], ◌∷◌, ◌++◌, ◌↔◌}
+use Rattle.std.proofs.Common.{refl, arith, inl, inr, sym, ap, subst}
+use Rattle.fallible_contract.specs.Traces.{Answered, item, end, Run}
 use Rattle.fallible_contract.specs.Contract.{Contract, OnAnswer, KeptByDraw, Lawful}
 use Rattle.fallible_contract.specs.Ends.{Ends, from_back, LawfulEnds}
-use Rattle.fallible_core.specs.Peeking.Peekable.{held_items, peekable_contract, IsNoEnd, peekable_step_back, peekable_ends}
+use Rattle.fallible_core.specs.Peeking.Peekable.{held_items, peekable_contract, IsNoEnd, peekable_step_back, peekable_ends, held_answers, PeekableTrace, peekable_step, peeks_all}
+use Rattle.fallible_contract.specs.Laws.LawForm.{IsTraced, run_of_whole_list, list_is_trace}
 
 module _ {S A E : Type 0} (m : Contract S A E) where
   abbrev PeekableContract : Contract (S × Option (Option A)) A E
@@ -45,9 +46,43 @@ module _ {S A E : Type 0} (m : Contract S A E) where
   kept_by_draw_peekable l (s, Some o) r (t, held) c step = rw (step.0, step.1, step.2) (kept_by_draw_held s o c)
   kept_by_draw_peekable l (s, None) r (t, held) c step = rw step.1 (kept_by_draw_drawn s t r (l.kept_by_draw s r t c step.0))
 
+-- ---- runs
+
+module _ {S A E : Type 0} (steps : S → Answered A E → S → Type 0) where
+  -- with nothing held they are the source's
+  source_run_of_run : (trace : List (Answered A E)) (s : S) (q : S × Option (Option A)) → Run (peekable_step steps) (s, None) trace q → Run steps s trace q.0 × (q.1 ≡ None)
+  source_run_of_run [] s q e = (ap (λ p. p.0) e, sym (ap (λ p. p.1) e))
+  source_run_of_run (r ∷ rest) s q h = let k = source_run_of_run rest h.0.0 q (rw h.1.1 at h.2) in ((h.0.0, h.1.0, k.0), k.1)
+
+  run_of_source_run : (trace : List (Answered A E)) (s t : S) → Run steps s trace t → Run (peekable_step steps) (s, None) trace (t, None)
+  run_of_source_run [] s t e = ap (λ (u : S). (u, None)) e
+  run_of_source_run (r ∷ rest) s t h = ((h.0, None), (h.1, refl), run_of_source_run rest h.0 t h.2)
+
+  peekable_trace_of_run : (trace : List (Answered A E)) (p q : S × Option (Option A)) → Run (peekable_step steps) p trace q → PeekableTrace steps p trace q
+  peekable_trace_of_run trace (s, None) q h = let k = source_run_of_run trace s q h in inr record { source_trace = trace; drawn = k.0; answers = refl; let_go = k.1 }
+  peekable_trace_of_run [] (s, Some o) q e = inl (refl, sym e)
+  peekable_trace_of_run (r ∷ rest) (s, Some o) q h = let k = source_run_of_run rest s q (rw (h.1.1, h.1.2) at h.2) in inr record { source_trace = rest; drawn = k.0; answers = rw h.1.0 refl; let_go = k.1 }
+
+  run_of_held_answers : (source : List (Answered A E)) (p : S × Option (Option A)) (t : S) → Run steps p.0 source t → Run (peekable_step steps) p (held_answers p.1 ++ source) (t, None)
+  run_of_held_answers source (s, None) t ran = run_of_source_run source s t ran
+  run_of_held_answers source (s, Some o) t ran = ((s, None), (refl, refl, refl), run_of_source_run source s t ran)
+
+  run_of_peekable_trace : (trace : List (Answered A E)) (p q : S × Option (Option A)) → PeekableTrace steps p trace q → Run (peekable_step steps) p trace q
+  run_of_peekable_trace trace p (t, held) d = elim d [ inl e ↦ rw (e.0, e.1) refl | inr a ↦ rw (a.answers, a.let_go) (run_of_held_answers a.source_trace p t a.drawn) ]
+
+  pub peekable_law : (p : S × Option (Option A)) (trace : List (Answered A E)) (q : S × Option (Option A)) → Run (peekable_step steps) p trace q ↔ PeekableTrace steps p trace q
+  peekable_law p trace q = (peekable_trace_of_run trace p q, run_of_peekable_trace trace p q)
+
+pub peekable_traced : {S A E : Type 0} {steps : S → Answered A E → S → Type 0} {traces : S → List (Answered A E) → S → Type 0} → IsTraced steps traces → IsTraced (peekable_step steps) (peeks_all traces)
+peekable_traced {A = A} {E = E} {steps = steps} law p trace q = let both = peekable_law steps p trace q in (
+  (λ ran. elim (both.0 ran) [ inl same ↦ inl same | inr h ↦ inr (h.source_trace, (law p.0 h.source_trace q.0).0 h.drawn, record { source_trace = h.source_trace; drawn = run_of_whole_list h.source_trace; answers = h.answers; let_go = h.let_go }) ]),
+  (λ d. both.1 (elim d [ inl same ↦ inl same | inr w ↦ (let h = w.2 in inr (record { source_trace = h.source_trace; drawn = subst (λ (k : List (Answered A E)). Run steps p.0 k q.0) (list_is_trace h.source_trace w.0 h.drawn) ((law p.0 w.0 q.0).1 w.1); answers = h.answers; let_go = h.let_go })) ])),
+)
+
 pub lawful_peekable : {S A E : Type 0} {m : Contract S A E} → Lawful m → Lawful (peekable_contract m)
 lawful_peekable {m = m} l = record {
   kept_by_draw = kept_by_draw_peekable m l;
+  traced = peekable_traced l.traced;
   bounded = λ p. ((λ e. let k = (l.bounded p.0).0 e in (k.0 + held_items p.1, (k.0, k.1, omega arith))), (λ h. (l.bounded p.0).1 ((h.1).0, (h.1).1)));
 }
 
@@ -126,5 +161,6 @@ lawful_ends_peekable {m = m} {e = e} l = record {
   back = record {
     kept_by_draw = kept_by_draw_back m e l.back;
     bounded = (lawful_peekable l.back).bounded;
+    traced = λ _ _ _. ((λ h. h), (λ h. h));
   };
 }

@@ -1,7 +1,7 @@
 -- Each left-out item goes before what follows.
 use Rattle.std.proofs.Common.{arith}
 use Rattle.fallible_contract.proofs.Lemmas.ByNumber.{none, keeps_end, keeps_failure, leaves_after_item_left_out}
-use Rattle.fallible_core.proofs.Lemmas.Cutting.Skip.{skip_trace_of_leaves, leaves_plain_draw}
+use Rattle.fallible_core.specs.Laws.Cutting.Skip.{skip_trace_of_leaves, leaves_plain_draw}
 use Rattle.fallible_core.proofs.cutting.by_number.next_past.Goals as goal
 
 pub returns-then-to_skip-eq0 : goal.returns-then-to_skip-eq0

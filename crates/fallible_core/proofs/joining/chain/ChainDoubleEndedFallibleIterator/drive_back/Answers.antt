@@ -2,7 +2,8 @@
 use Rattle.std.proofs.Common.{refl, ap}
 use Rattle.fallible_contract.specs.Ends.{from_back}
 use Rattle.fallible_core.specs.Joining.Chain.{chain_parts, sides_back}
-use Rattle.fallible_core.proofs.Lemmas.Joining.Chain.{chain_parts_back, of_parts_back, chain_back_twice}
+use Rattle.fallible_core.proofs.Lemmas.Joining.Chain.{chain_parts_back, of_parts_back}
+use Rattle.fallible_core.specs.Laws.Joining.ChainTraces.{chain_back_twice}
 use Rattle.fallible_core.proofs.Lemmas.Joining.ChainFolds.{still_drawn_is_both, sides_back_is_never_second_alone, first_is_finite, second_is_finite, drive_met_end, last_is_not_end_of_drive, drive_joins, holds_each_turn_second_by_itself, holds_each_turn_first, holds_each_turn_second, drained_chain_second_alone, drained_chain_first_alone, drained_chain_first, drained_chain_both}
 use Rattle.fallible_core.proofs.joining.chain.ChainDoubleEndedFallibleIterator.drive_back.Goals as goal
 

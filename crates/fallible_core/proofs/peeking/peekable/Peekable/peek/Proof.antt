@@ -100,7 +100,7 @@ peek_spec 𝓤 𝓛 𝓜 𝓡 wired I X E L L' L'' g d d' d'' m m' m'' =
     use2 𝓛 (raw (G₁.pre z₁)) (id⊢ 𝓤 _) $
     calls_at ! Tab G₁ (fill.met 𝓤 𝓛 𝓜 𝓡 (code.calls-fallible_core::peeking::peekable::Peekable::fill 𝓡.env wired) I X E L L' L'' g d d' d'' m m' m'') z₁ (and_then ! (get ! refl) (no_more !)) (λ v.
     use1 𝓛 (later (some (λ (u : Filled.Denot). ((‵ (flft κ₁ p.1) ⊛ tokens) ⊛ ‵ (Filled.own_val u (v ∷ []))) ⊛ some (λ (ws : R.Denot × Unit {0}). ‵ (lasts T₁ z₁.0.0 z₁.0.3 ws)
-    ⊛ raw (fact 𝓤 (Fills g.contract.steps (peekable_parts r.now) u (peekable_parts ws.0))) ⊛ raw (fact 𝓤 (draws.Stays (peekable_contract g.contract) (peekable_parts r.now) (peekable_parts ws.0))) ⊛ raw (fact 𝓤 (OverList (draws.seen_as peekable_parts (peekable_contract g.contract)).steps r.now (λ l. (u ≡ failure_told (nth_of 0 l)) × (peekable_held ws.0 ≡ held_of (nth_of 0 l)) × Lists (draws.seen_as peekable_parts (peekable_contract g.contract)).steps ws.0 (rest_look l)))))))) (id⊢ 𝓤 _) $
+    ⊛ raw (fact 𝓤 (Fills g.contract.steps (peekable_parts r.now) u (peekable_parts ws.0))) ⊛ raw (fact 𝓤 (draws.Stays (peekable_contract g.contract) (peekable_parts r.now) (peekable_parts ws.0))) ⊛ raw (fact 𝓤 (OverList (draws.parts_as peekable_parts (peekable_contract g.contract)).steps r.now (λ l. (u ≡ failure_told (nth_of 0 l)) × (peekable_held ws.0 ≡ held_of (nth_of 0 l)) × Lists (draws.parts_as peekable_parts (peekable_contract g.contract)).steps ws.0 (rest_look l)))))))) (id⊢ 𝓤 _) $
     await ! tt $ pick ! (λ u. split ! $ split ! $ split ! $ move ! (2 ∷ []) $ peeks ! Filled (Is Filled) (shows 𝓛 Filled) u (v ∷ []) (λ is₁.
     let good₁ = ((filled_laws.lawful 𝓛).typed u (v ∷ []) is₁).0 in
     lands_as ! refl refl good₁ $
