@@ -14,10 +14,10 @@ pub mod Looped
 pub mod Loops
 pub mod LoopsAtEnds
 pub mod Making
-pub mod Nests
 pub mod Seen
 pub mod Sources
 pub mod Taking
+pub mod UntilRefused
 pub mod WithoutFailure
 pub mod Words
 pub use Rattle.fallible_contract.proofs.Lemmas.BothEnds
@@ -33,7 +33,6 @@ pub use Rattle.fallible_contract.proofs.Lemmas.Folding
 pub use Rattle.fallible_contract.proofs.Lemmas.Folds
 pub use Rattle.fallible_contract.proofs.Lemmas.Goals
 pub use Rattle.fallible_contract.proofs.Lemmas.Held
-pub use Rattle.fallible_contract.proofs.Lemmas.LawForm
 pub use Rattle.fallible_contract.proofs.Lemmas.Lists
 pub use Rattle.fallible_contract.proofs.Lemmas.Nth
 pub use Rattle.fallible_contract.proofs.Lemmas.Overriding
@@ -50,4 +49,5 @@ pub use Rattle.fallible_core.proofs.Lemmas.Filtering
 pub use Rattle.fallible_core.proofs.Lemmas.Joining
 pub use Rattle.fallible_core.proofs.Lemmas.OneToOne
 pub use Rattle.fallible_core.proofs.Lemmas.Peeking
+pub use Rattle.fallible_core.proofs.Lemmas.Refusing
 pub use Rattle.fallible_core.proofs.Lemmas.RestAtEnds

@@ -1,6 +1,6 @@
 -- The contract of an adapter that makes each answer of several draws, as a part of its own says.
 use Rattle.std.specs.Prelude.{◌≡◌, List}
-use Rattle.fallible_contract.specs.Traces.{Answered, failure, item}
+use Rattle.fallible_contract.specs.Traces.{Answered, Run, failure, item}
 use Rattle.fallible_contract.specs.Contract.{Contract}
 use Rattle.fallible_contract.specs.Own.{Gathers, MadeOfComing, gathering}
 
@@ -16,4 +16,5 @@ gathering_by view key made m = record {
   may_fail = λ s f. MadeOfComing m (view s) (made (key s)) (failure f);
   hints = λ s h. (gathering view (made (key s)) m).hints s h;
   lenders = λ s. m.lenders (view s);
+  traces = λ s trace t. Run (λ u r v. Gathers m.steps (made (key u)) (view u) r (view v) × (key v ≡ key u)) s trace t;
 }

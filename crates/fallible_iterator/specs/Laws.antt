@@ -11,6 +11,7 @@ pub use Rattle.fallible_contract.specs.Laws.Contract
 pub use Rattle.fallible_contract.specs.Laws.Ends
 pub use Rattle.fallible_contract.specs.Laws.Exchange
 pub use Rattle.fallible_contract.specs.Laws.Failing
+pub use Rattle.fallible_contract.specs.Laws.LawForm
 pub use Rattle.fallible_contract.specs.Laws.Own
 pub use Rattle.fallible_contract.specs.Laws.Passing
 pub use Rattle.fallible_contract.specs.Laws.WithSteps

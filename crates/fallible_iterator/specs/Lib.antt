@@ -47,6 +47,7 @@ pub use Rattle.fallible_core.specs.Filtering
 pub use Rattle.fallible_core.specs.Joining
 pub use Rattle.fallible_core.specs.OneToOne
 pub use Rattle.fallible_core.specs.Peeking
+pub use Rattle.fallible_core.specs.Refusing
 pub use Rattle.fallible_contract.specs.declared.answers.Side
 pub use Rattle.fallible_contract.specs.declared.collecting.Fault
 pub use Rattle.fallible_contract.specs.declared.folds.Beside

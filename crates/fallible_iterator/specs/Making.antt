@@ -1,33 +1,19 @@
 -- Values that are made of items, each of which may fail to allocate.
-use Rattle.std.specs.Prelude.{◌≡◌, Some, None, Result, Ok, Err, List, [], ◌∷◌, ⊤, ◌⊎◌}
+use Rattle.std.specs.Prelude.{◌≡◌, Some, Result, Ok, Err, List, [], ◌∷◌, ⊤, ◌⊎◌}
 use Rattle.fallible_contract.specs.Traces.{Answered, end}
 use Rattle.fallible_contract.specs.Lists.{collected}
+pub use Rattle.fallible_core.specs.Refusing.{AnswersRefusal, IsMadeOf, IsRefusal}
 use Rattle.std.specs.declared.alloc.AllocError.{AllocError}
 use Rattle.fallible_contract.specs.declared.collecting.Fault.{Fault}
 use Rattle.fallible_contract.specs.declared.collecting.Fault.TheVariants.{Source, Memory}
 
--- the failure is converted from an `AllocError`
-abbrev pub IsRefusal : {E : Type 0} → (AllocError → E → Type 0) → E → Type 0
-IsRefusal from e = (a : AllocError) × from a e
-
 -- ---- what is listed up to an allocation failure
-
--- the answer is a failure that is converted from an `AllocError`
-abbrev pub AnswersRefusal : {B E : Type 0} → (AllocError → E → Type 0) → Answered B E → Type 0
-AnswersRefusal {E = E} from r = (e : E) × (r ≡ Err e) × IsRefusal from e
 
 -- whatever is drawn from s next, it is such a failure
 abbrev pub RefusesNext : {S B E : Type 0} → (S → Answered B E → S → Type 0) → (AllocError → E → Type 0) → S → Type 0
 RefusesNext {S} {B} {E} steps from s = (r : Answered B E) (t : S) → steps s r t → AnswersRefusal from r
 
 module _ {X B E : Type 0} (made : X → B → Type 0) where
-  -- the answer is the list's: a value that is made of the item, or the same failure
-  abbrev pub IsMadeOf : Result X E → Answered B E → Type 0
-  IsMadeOf (Ok x) (Ok (Some y)) = made x y
-  IsMadeOf (Ok x) (Ok None) = ⊥
-  IsMadeOf (Ok x) (Err e) = ⊥
-  IsMadeOf (Err d) r = r ≡ Err d
-
   module _ {S : Type 0} (steps : S → Answered B E → S → Type 0) (from : AllocError → E → Type 0) where
     -- The answer is an allocation failure. Or it is a buffered value, made of some x of which nothing else is said, and the next answer is an allocation failure.
     abbrev pub AtRefusal : Answered B E → S → Type 0
@@ -36,7 +22,7 @@ module _ {X B E : Type 0} (made : X → B → Type 0) where
     -- Whatever is drawn from s, the answers are those of the list, in order, with values made of its items, and then an end. That holds up to an allocation failure and what was buffered before it. What comes after an allocation failure isn't stated.
     abbrev pub GivesMade : S → List (Result X E) → Type 0
     GivesMade s [] = (r : Answered B E) (t : S) → steps s r t → r ≡ end
-    GivesMade s (y ∷ l) = (r : Answered B E) (t : S) → steps s r t → AtRefusal r t ⊎ (IsMadeOf y r × GivesMade t l)
+    GivesMade s (y ∷ l) = (r : Answered B E) (t : S) → steps s r t → AtRefusal r t ⊎ (IsMadeOf made y r × GivesMade t l)
 
     -- The answers of s, up to its first end, list l, with values made of its items; up to an allocation failure and what was buffered before it.
     pub record ListsMade (s : S) (l : List (Result X E)) : Type 0 where

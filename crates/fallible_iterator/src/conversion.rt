@@ -1,6 +1,6 @@
 //! What std iterators become.
 ghost use Rattle.std.specs.Prelude.{◌≡◌, List, Result};
-ghost use Rattle.fallible_contract.specs.Contract.{seen_as};
+ghost use Rattle.fallible_contract.specs.Contract.{parts_as};
 ghost use Rattle.fallible_contract.specs.Lists.{Lists, RunsRead, results, items};
 ghost use Rattle.fallible_iterator.specs.Sources.Convert.{convert_parts, convert_contract};
 ghost use Rattle.fallible_iterator.specs.Sources.IntoFallible.{into_fallible_parts, into_fallible_contract};
@@ -28,7 +28,7 @@ pub trait IteratorExt: std::iter::Iterator {
         Self: Sized + std::iter::Iterator<Item = Result<T, E>>,
         ensures parts { convert_parts result ≡ self }
         ensures lists { (l : List (Result T E)) → RunsRead Self.next_gives (λ y. y) self l
-            → Lists (seen_as convert_parts
+            → Lists (parts_as convert_parts
             (convert_contract Self.can_next Self.next_gives Self.remaining)).steps result
             (results l) }
     {
@@ -53,7 +53,7 @@ pub trait IteratorExt: std::iter::Iterator {
         Self: Sized + std::iter::Iterator<Item = T>,
         ensures parts { into_fallible_parts result ≡ self }
         ensures lists { (l : List T) → RunsRead Self.next_gives (λ x. x) self l
-            → Lists (seen_as into_fallible_parts
+            → Lists (parts_as into_fallible_parts
             (into_fallible_contract Self.can_next Self.next_gives Self.remaining)).steps result
             (items l) }
     {

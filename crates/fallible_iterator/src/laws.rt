@@ -28,17 +28,18 @@ pub use ends::{
     law_interleave_folds, law_interleave_nest, law_rev, law_rev_rev,
 };
 pub use fallible_contract::answers::{Answer, Side};
+pub use fallible_core::headline::{law_headline, law_headline_back};
 pub use filtering::{law_filter, law_filter_map, law_skip_while};
 pub use joining::{
-    law_chain, law_cycle, law_cycle_taken, law_flat_map, law_flat_map_finite, law_flatten,
-    law_flatten_finite, law_zip,
+    law_chain, law_cycle, law_cycle_taken, law_cycle_until_refused, law_flat_map,
+    law_flat_map_finite, law_flatten, law_flatten_finite, law_zip,
 };
 pub use listed::{
     law_listed, law_listed_borrowed, law_listed_chain, law_listed_cloned, law_listed_each,
     law_listed_filter, law_listed_filter_map, law_listed_inspect, law_listed_map,
     law_listed_map_err, law_listed_rev, law_lists_chain, law_lists_filter, law_lists_map,
 };
-pub use nests::{law_nest, law_nest_borrowed};
+pub use nests::law_nest;
 pub use one_to_one::{
     law_cloned, law_enumerate, law_inspect, law_map, law_map_err, law_map_while, law_scan,
 };

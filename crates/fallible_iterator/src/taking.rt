@@ -2,7 +2,7 @@
 ghost use Rattle.std.specs.Prelude.{◌≡◌, Option, Result, Some};
 ghost use Rattle.fallible_contract.specs.Clauses.{OverListWith};
 ghost use Rattle.fallible_contract.specs.Closures.{call_by_reference, takes_by_reference};
-ghost use Rattle.fallible_contract.specs.Contract.{Stays, seen_as};
+ghost use Rattle.fallible_contract.specs.Contract.{Stays, parts_as};
 ghost use Rattle.fallible_contract.specs.Folds.{CallableInFold, call_with, takes_with};
 ghost use Rattle.fallible_contract.specs.Lists.{Acts, Lists};
 ghost use Rattle.fallible_contract.specs.Traces.{item};
@@ -46,15 +46,15 @@ where
     ensures folded { FoldIfDrains I.contract.steps (call_by_reference P.FnMut) (call_with F.FnMut)
         (peekable_parts ahead.old) init test f result (peekable_parts ahead.new) }
     ensures value { OverListWith (Acts (call_by_reference P.FnMut) test)
-        (seen_as peekable_parts (peekable_contract I.contract)).steps ahead.old
+        (parts_as peekable_parts (peekable_contract I.contract)).steps ahead.old
         (λ p l. (h : B → I.Item → Result B I.Error) → FoldsAs (call_with F.FnMut) f p h
         → result ≡ folded_if p h init l) }
     ensures rest { OverListWith (Acts (call_by_reference P.FnMut) test)
-        (seen_as peekable_parts (peekable_contract I.contract)).steps ahead.old
+        (parts_as peekable_parts (peekable_contract I.contract)).steps ahead.old
         (λ p l. (h : B → I.Item → Result B I.Error) → FoldsAs (call_with F.FnMut) f p h
-        → Lists (seen_as peekable_parts (peekable_contract I.contract)).steps ahead.new
+        → Lists (parts_as peekable_parts (peekable_contract I.contract)).steps ahead.new
         (rest_fold_if p h init l)) }
-    ensures stays { Stays (seen_as peekable_parts (peekable_contract I.contract))
+    ensures stays { Stays (parts_as peekable_parts (peekable_contract I.contract))
         ahead.old ahead.new }
 {
     let mut test = test;

@@ -4,7 +4,7 @@ use Rattle.std.specs.Borrow.{MutBor, Bor}
 use Rattle.std.specs.Fn.{Mut}
 use Rattle.std.proofs.Common.{refl, sym, ap, subst, ◌∙◌, arith, length-append, ◌⊎◌, inl, inr}
 use Rattle.fallible_contract.specs.Traces.{Answered, Run, item, end}
-use Rattle.fallible_contract.specs.Contract.{Contract, seen_as, unbounded_contract}
+use Rattle.fallible_contract.specs.Contract.{Contract, parts_as, unbounded_contract}
 use Rattle.fallible_contract.specs.Closures.{call_by_reference}
 use Rattle.fallible_contract.specs.Folds.{FoldDrains, FoldExit, NthDrains, NthExit}
 use Rattle.fallible_contract.specs.Lists.{Acts, AlwaysGives, Lists, nth_of, on_value, rest_first, rest_nth}
@@ -82,7 +82,7 @@ run_to_end {steps = steps} {call = call} {from = from} {s = s} {t = t} {v = v} d
 
 -- the steps of `take` of a borrow of what steps so
 abbrev pub lent_steps : {S A E : Type 0} → (S → Answered A E → S → Type 0) → Take (MutBor S) → Answered A E → Take (MutBor S) → Type 0
-lent_steps steps = (seen_as take_parts (take_contract (borrowed (unbounded_contract steps)))).steps
+lent_steps steps = (parts_as take_parts (take_contract (borrowed (unbounded_contract steps)))).steps
 
 -- A borrow lists what the lender does.
 pub lists_lent : {S A E : Type 0} {steps : S → Answered A E → S → Type 0} {it : MutBor S} {l : List (Result A E)} → Lists steps it.now l → Lists (λ (s : MutBor S) (r : Answered A E) (t : MutBor S). steps s.now r t.now × (t.ghost_name ≡ s.ghost_name)) it l
@@ -119,14 +119,14 @@ module _ {S A E : Type 0} {steps : S → Answered A E → S → Type 0} {it : Mu
 
 -- the steps of `filter` over `take` of a borrow of what steps so
 abbrev pub lent_filter_steps : {S P A E : Type 0} → (S → Answered A E → S → Type 0) → Mut P (Bor A × Unit {0}) (Result Bool E) → Filter (Take (MutBor S)) P → Answered A E → Filter (Take (MutBor S)) P → Type 0
-lent_filter_steps steps g = (seen_as filter_parts (filter_contract (seen_as take_parts (take_contract (borrowed (unbounded_contract steps)))) g)).steps
+lent_filter_steps steps g = (parts_as filter_parts (filter_contract (parts_as take_parts (take_contract (borrowed (unbounded_contract steps)))) g)).steps
 
 module _ {S P A E : Type 0} {steps : S → Answered A E → S → Type 0} {g : Mut P (Bor A × Unit {0}) (Result Bool E)} {it : MutBor S} {tk : Take (MutBor S)} {p : P} {s t : Filter (Take (MutBor S)) P} {x : S} {k : ℕ} {l : List (Result A E)} {B E' F : Type 0} {call : F → B → A → Result B E' → F → Type 0} {from : E → E' → Type 0} {b v : B} {f : F} (h : A → Bool) where
   -- After a fold over `take(k + 1).filter(p)` of a borrow that came to its end, the lender lists what comes after its first k + 1 items, where it has so many.
   pub lists_rest_lent_filter : Acts (call_by_reference g) p (λ y. Ok (h y)) → x ≡ t.it.it.now → take_parts tk ≡ (it, suc k) → filter_parts s ≡ (tk, p) → FoldDrains (lent_filter_steps steps g) call from s b f (Ok v) t → Lists steps it.now l → ¬ (nth_of k l ≡ Ok None) → Lists steps x (rest_nth k l)
   lists_rest_lent_filter acts back taken parts d i no_end =
       let m : Contract S A E = unbounded_contract steps in
-      let under = filtered_run (seen_as take_parts (take_contract (borrowed m))) g h p tk s t d.items end acts parts (run_to_end d) in
+      let under = filtered_run (parts_as take_parts (take_contract (borrowed m))) g h p tk s t d.items end acts parts (run_to_end d) in
       let left : Lists steps t.it.it.now (rest_nth k l) = record { runs = always_gives_rest_nth steps under.items k l it.now t.it.it.now i.runs no_end (lender_run_of_taken_run m under.items k it t.it.it (taken_run (borrowed m) (suc k) it tk t.it under.items end taken under.ran)) } in
       rw back left
 
@@ -134,7 +134,7 @@ module _ {S P A E : Type 0} {steps : S → Answered A E → S → Type 0} {g : M
 
 -- the steps of `zip` of borrows of what steps so
 abbrev pub lent_zip_steps : {S U A B E : Type 0} → (S → Answered A E → S → Type 0) → (U → Answered B E → U → Type 0) → Zip (MutBor S) (MutBor U) → Answered (A × B) E → Zip (MutBor S) (MutBor U) → Type 0
-lent_zip_steps steps others = (seen_as zip_parts (zip_contract (borrowed (unbounded_contract steps)) (borrowed (unbounded_contract others)))).steps
+lent_zip_steps steps others = (parts_as zip_parts (zip_contract (borrowed (unbounded_contract steps)) (borrowed (unbounded_contract others)))).steps
 
 -- what an item of the left and an answer of the right make
 abbrev paired_of_lent : {A B E : Type 0} → A → Answered B E → Answered (A × B) E
@@ -189,7 +189,7 @@ module _ {S U A B E : Type 0} {steps : S → Answered A E → S → Type 0} {oth
 
 -- the steps of `chain` of borrows of what steps so
 abbrev pub lent_chain_steps : {S U A E : Type 0} → (S → Answered A E → S → Type 0) → (U → Answered A E → U → Type 0) → Chain (MutBor S) (MutBor U) → Answered A E → Chain (MutBor S) (MutBor U) → Type 0
-lent_chain_steps steps others = (seen_as chain_parts (chain_contract (borrowed (unbounded_contract steps)) (borrowed (unbounded_contract others)))).steps
+lent_chain_steps steps others = (parts_as chain_parts (chain_contract (borrowed (unbounded_contract steps)) (borrowed (unbounded_contract others)))).steps
 
 module _ {S U A E : Type 0} (steps : S → Answered A E → S → Type 0) (others : U → Answered A E → U → Type 0) where
   -- what the chain's step is of while both sides are still drawn, and the first doesn't end

@@ -4,7 +4,7 @@ use Rattle.std.specs.Borrow.{MutBor, Bor}
 use Rattle.std.specs.Fn.{Mut}
 use Rattle.std.proofs.Common.{refl, sym, ap, subst, ◌∙◌}
 use Rattle.fallible_contract.specs.Traces.{Answered, Run, item, end}
-use Rattle.fallible_contract.specs.Contract.{Contract, seen_as, unbounded_contract}
+use Rattle.fallible_contract.specs.Contract.{Contract, parts_as, unbounded_contract}
 use Rattle.fallible_contract.specs.Closures.{call_by_reference}
 use Rattle.fallible_contract.specs.Passing.{Place, asked, failure_at, end_at}
 use Rattle.fallible_contract.specs.Closing.{closing_step}
@@ -86,7 +86,7 @@ module _ {S F X E : Type 0} (steps : S → Answered X E → S → Type 0) (call 
 
 -- the steps of `take_while` of a borrow of what steps so
 abbrev pub until_steps : {S P A E : Type 0} → (S → Answered A E → S → Type 0) → Mut P (Bor A × Unit {0}) (Result Bool E) → TakeWhile (MutBor S) P → Answered A E → TakeWhile (MutBor S) P → Type 0
-until_steps steps g = (seen_as take_while_parts (take_while_contract (borrowed (unbounded_contract steps)) g)).steps
+until_steps steps g = (parts_as take_while_parts (take_while_contract (borrowed (unbounded_contract steps)) g)).steps
 
 module _ {S A E : Type 0} (steps : S → Answered A E → S → Type 0) where
   always_gives_lender : (l : List (Result A E)) (s : MutBor S) → AlwaysGives (borrowed (unbounded_contract steps)).steps s l → AlwaysGives steps s.now l

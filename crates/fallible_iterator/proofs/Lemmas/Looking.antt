@@ -2,7 +2,7 @@
 use Rattle.std.specs.Prelude.{◌≡◌, ℕ, ◌+◌, List, [], ◌∷◌, Result, Some, None, Ok, Err}
 use Rattle.std.proofs.Common.{sym, subst, arith, ◌∙◌}
 use Rattle.fallible_contract.specs.Traces.{Answered}
-use Rattle.fallible_contract.specs.Contract.{Contract, Fewer, Stays, seen_as}
+use Rattle.fallible_contract.specs.Contract.{Contract, Fewer, Stays, parts_as}
 use Rattle.fallible_contract.specs.Lists.{Lists, nth_of}
 use Rattle.fallible_core.specs.Peeking.Peekable.{rest_look, peekable_contract, peekable_parts}
 use Rattle.fallible_iterator.proofs.Lemmas.Loops.{CountsDown, AnswersFromHere}
@@ -17,7 +17,7 @@ pub counts_down_after_look : {S A E : Type 0} {m : Contract S A E} {s t : S} {le
 counts_down_after_look counts stays = let k = stays.bound counts.1.0 counts.1.1 in (stays.can_next, (k.0, k.1, (let below = k.2 in let up_to = counts.1.2 in omega arith)))
 
 -- and one less is counted after a `next_if` that took an item
-pub counts_down_taken : {S A E : Type 0} (m : Contract S A E) {s t : Peekable S A E} {left less : ℕ} → CountsDown (seen_as peekable_parts (peekable_contract m)) s left → Fewer (peekable_contract m) (peekable_parts s) (peekable_parts t) → Stays (peekable_contract m) (peekable_parts s) (peekable_parts t) → less + 1 ≡ left → CountsDown (seen_as peekable_parts (peekable_contract m)) t less
+pub counts_down_taken : {S A E : Type 0} (m : Contract S A E) {s t : Peekable S A E} {left less : ℕ} → CountsDown (parts_as peekable_parts (peekable_contract m)) s left → Fewer (peekable_contract m) (peekable_parts s) (peekable_parts t) → Stays (peekable_contract m) (peekable_parts s) (peekable_parts t) → less + 1 ≡ left → CountsDown (parts_as peekable_parts (peekable_contract m)) t less
 counts_down_taken m counts fewer stays one = let k = fewer counts.1.0 counts.1.1 in (stays.can_next, (k.0, k.1, (let below = k.2 in let up_to = counts.1.2 in omega (arith, below, up_to, one))))
 
 module _ {S A E B R : Type 0} (steps : S → Answered A E → S → Type 0) (answers : B → List (Result A E) → R) (t : S) (b : B) (r : Answered A E) where

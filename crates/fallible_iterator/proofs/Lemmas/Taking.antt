@@ -3,7 +3,7 @@ use Rattle.std.specs.Prelude.{◌≡◌, ℕ, ◌+◌, Bool, true, false, ⊤, L
 use Rattle.std.specs.List.{FoldsTo}
 use Rattle.std.proofs.Common.{refl, sym, ap, ap₂, subst, arith, ◌∙◌}
 use Rattle.fallible_contract.specs.Traces.{Answered, Run, Yields, item, end}
-use Rattle.fallible_contract.specs.Contract.{Contract, Lawful, NeverFails, Stays, seen_as}
+use Rattle.fallible_contract.specs.Contract.{Contract, Lawful, NeverFails, Stays, parts_as}
 use Rattle.fallible_contract.specs.Folds.{CallableInFold, FoldExit, went_on_with}
 use Rattle.fallible_contract.proofs.Lemmas.Folds.{holds_at_first_turn, holds_each_turn_after_item}
 use Rattle.fallible_contract.specs.Lists.{Acts, AlwaysGives, Lists, folded, on_value, rest_failed, result_answer}
@@ -35,30 +35,30 @@ stays_transitive p q = stays_of_kept_by_draws (kept_by_draws_transitive (kept_by
 -- ---- what stays of a value that is seen as its parts
 
 module _ {S P A E : Type 0} (view : S → P) (back : P → S) (same : (p : P) → view (back p) ≡ p) (m : Contract P A E) where
-  run_over_parts : (s : S) (trace : List (Answered A E)) (p : P) → Run m.steps (view s) trace p → (u : S) × Run (seen_as view m).steps s trace u × (view u ≡ p)
+  run_over_parts : (s : S) (trace : List (Answered A E)) (p : P) → Run m.steps (view s) trace p → (u : S) × Run (parts_as view m).steps s trace u × (view u ≡ p)
   run_over_parts s [] p e = (s, refl, e)
   run_over_parts s (r ∷ rest) p w =
       let step : m.steps (view s) r (view (back w.0)) = subst (λ (q : P). m.steps (view s) r q) (sym (same w.0)) w.1 in
       let k = run_over_parts (back w.0) rest p (subst (λ (q : P). Run m.steps q rest p) (sym (same w.0)) w.2) in
       (k.0, (back w.0, step, k.1), k.2)
 
-  run_to_parts : (s : S) (trace : List (Answered A E)) (u : S) → Run (seen_as view m).steps s trace u → Run m.steps (view s) trace (view u)
+  run_to_parts : (s : S) (trace : List (Answered A E)) (u : S) → Run (parts_as view m).steps s trace u → Run m.steps (view s) trace (view u)
   run_to_parts s [] u e = ap view e
   run_to_parts s (r ∷ rest) u w = (view w.0, w.1, run_to_parts w.0 rest u w.2)
 
-  never_fails_of_parts : (s : S) → NeverFails m (view s) → NeverFails (seen_as view m) s
+  never_fails_of_parts : (s : S) → NeverFails m (view s) → NeverFails (parts_as view m) s
   never_fails_of_parts s never trace t u e ran folded_if_and_rest_of_failing_call = never trace (view t) (view u) e (run_to_parts s trace t ran) folded_if_and_rest_of_failing_call
 
-  never_fails_to_parts : (s : S) → NeverFails (seen_as view m) s → NeverFails m (view s)
+  never_fails_to_parts : (s : S) → NeverFails (parts_as view m) s → NeverFails m (view s)
   never_fails_to_parts s never trace p q e ran folded_if_and_rest_of_failing_call =
       let k = run_over_parts s trace p ran in
       never trace k.0 (back q) e k.1 (subst (λ (z : P). m.steps (view k.0) (Err e) z) (sym (same q)) (subst (λ (z : P). m.steps z (Err e) q) (sym k.2) folded_if_and_rest_of_failing_call))
 
-  stays_of_parts : (s t : S) → Stays m (view s) (view t) → Stays (seen_as view m) s t
+  stays_of_parts : (s t : S) → Stays m (view s) (view t) → Stays (parts_as view m) s t
   stays_of_parts s t h = record { can_next = h.can_next; is_finite = h.is_finite; bound = h.bound; remaining = h.remaining; may_give = h.may_give; may_fail = h.may_fail; lenders = h.lenders; sure = λ never. never_fails_of_parts t (h.sure (never_fails_to_parts s never)) }
 
 -- what the calls of `Peekable` say that stays, as its contract says it
-pub stays_ahead : {S A E : Type 0} (m : Contract S A E) (s t : Peekable S A E) → Stays (peekable_contract m) (peekable_parts s) (peekable_parts t) → Stays (seen_as peekable_parts (peekable_contract m)) s t
+pub stays_ahead : {S A E : Type 0} (m : Contract S A E) (s t : Peekable S A E) → Stays (peekable_contract m) (peekable_parts s) (peekable_parts t) → Stays (parts_as peekable_parts (peekable_contract m)) s t
 stays_ahead m s t h = stays_of_parts peekable_parts (λ p. record { it = p.0; held = p.1 }) (λ p. refl) (peekable_contract m) s t h
 
 -- ---- the list before the call, by its answer
@@ -285,14 +285,14 @@ module _ {S A E P : Type 0} {m : Contract S A E} (l : Lawful m) (tests : P → A
   stays_after_look (Ok (Some x)) u t p q r s h (Ok false, tested, taken) = stays_of_equal taken.1 h
   stays_after_look (Ok (Some x)) u t p q r s h (Err e, tested, taken) = stays_transitive h (stays_on_draw u t (item x) h.can_next taken.1)
 
-  pub stays_fold_if : {F B : Type 0} {call : F → B → A → Result B E → F → Type 0} {b : B} {p : P} {f : F} {r : Result B E} (s t : Peekable S A E) → m.can_next s.it → FoldIfDrains m.steps tests call (peekable_parts s) b p f r (peekable_parts t) → Stays (seen_as peekable_parts (peekable_contract m)) s t
+  pub stays_fold_if : {F B : Type 0} {call : F → B → A → Result B E → F → Type 0} {b : B} {p : P} {f : F} {r : Result B E} (s t : Peekable S A E) → m.can_next s.it → FoldIfDrains m.steps tests call (peekable_parts s) b p f r (peekable_parts t) → Stays (parts_as peekable_parts (peekable_contract m)) s t
   stays_fold_if s t c w =
       let k = stays_on_yields w.items (peekable_parts s) w.between c w.drawn in
       let j = stays_transitive k (stays_after_peek l w.between w.takes.seen w.takes.looked k.can_next w.takes.peeks) in
       stays_ahead m s t (stays_after_look w.takes.seen w.takes.looked (peekable_parts t) w.test w.tested w.last (peekable_parts s) j w.takes.taken)
 
 -- one less is counted after an accepted item
-pub counts_down_accepted : {S A E P : Type 0} {m : Contract S A E} (l : Lawful m) {tests : P → A → Result Bool E → P → Type 0} {p q : P} {a : Answered A E} {left less : ℕ} (s t : Peekable S A E) (x : A) → CountsDown (seen_as peekable_parts (peekable_contract m)) s left → a ≡ item x → TakesIf m.steps tests (peekable_parts s) p a (peekable_parts t) q → less + 1 ≡ left → CountsDown (seen_as peekable_parts (peekable_contract m)) t less
+pub counts_down_accepted : {S A E P : Type 0} {m : Contract S A E} (l : Lawful m) {tests : P → A → Result Bool E → P → Type 0} {p q : P} {a : Answered A E} {left less : ℕ} (s t : Peekable S A E) (x : A) → CountsDown (parts_as peekable_parts (peekable_contract m)) s left → a ≡ item x → TakesIf m.steps tests (peekable_parts s) p a (peekable_parts t) q → less + 1 ≡ left → CountsDown (parts_as peekable_parts (peekable_contract m)) t less
 counts_down_accepted {m = m} l {tests = tests} {p} {q} s t x counts is w one =
     let step = (item_taken_by_test m.steps tests (subst (λ (z : Answered _ _). TakesIf m.steps tests (peekable_parts s) p z (peekable_parts t) q) is w)).0 in
     let kept = (lawful_peekable l).kept_by_draw (peekable_parts s) (item x) (peekable_parts t) counts.0 step in

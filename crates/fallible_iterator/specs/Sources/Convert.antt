@@ -4,14 +4,19 @@ use Rattle.std.specs.Iterator.{Count}
 use Rattle.std.specs.Iterator.Runs.{EachRunFrom}
 use Rattle.std.specs.List.{HoldsAt}
 use Rattle.fallible_contract.specs.Traces.{Answered}
-use Rattle.fallible_contract.specs.Contract.{Contract}
+use Rattle.fallible_contract.specs.Contract.{Contract, Inverse}
 use Rattle.fallible_contract.specs.Ends.{Ends}
 use Rattle.fallible_iterator.specs.Sources.Std.{StdTrace, std_contract, std_ends}
 use Rattle.fallible_iterator.specs.declared.sources.convert.Convert.{Convert}
+use Rattle.std.proofs.Common.{refl}
 
 -- the std iterator
 abbrev pub convert_parts : {I : Type 0} → Convert I → I
 convert_parts s = s.it
+
+-- and back
+pub convert_made : {I : Type 0} → Inverse (convert_parts {I = I})
+convert_made = record { make = λ p. record { it = p }; made = λ s. refl; has = λ p. refl }
 
 module _ {S A E : Type 0} (can : S → Type 0) (gives : S → Option (Result A E) → S → Type 0) (remaining : S → Count) where
   -- `Convert`: `Ok` is an item, `Err` a failure, none an end.

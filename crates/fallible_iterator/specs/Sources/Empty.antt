@@ -20,4 +20,5 @@ empty_contract = record {
   may_fail = λ _ _. ⊥;
   hints = λ _ h. h ≡ (0, Some 0);
   lenders = λ _. no_lenders;
+  traces = λ _ trace _. EmptyTrace trace;
 }

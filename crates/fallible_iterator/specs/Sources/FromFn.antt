@@ -4,14 +4,19 @@ use Rattle.std.specs.List.{FoldsTo}
 use Rattle.std.specs.Fn.{Called, Mut}
 use Rattle.fallible_contract.specs.Closures.{IsCallable, MayAnswer}
 use Rattle.fallible_contract.specs.Traces.{Answered, item, failure}
-use Rattle.fallible_contract.specs.Contract.{Contract, unbounded_contract}
+use Rattle.fallible_contract.specs.Contract.{Contract, unbounded_contract, Inverse}
 use Rattle.fallible_contract.specs.Lists.{AlwaysGives}
 use Rattle.fallible_contract.specs.Showing.{TakesShown}
 use Rattle.fallible_iterator.specs.declared.sources.from_fn.FromFn.{FromFn}
+use Rattle.std.proofs.Common.{refl}
 
 -- the closure
 abbrev pub from_fn_parts : {F : Type 0} → FromFn F → F
 from_fn_parts s = s.fun
+
+-- and back
+pub from_fn_made : {F : Type 0} → Inverse (from_fn_parts {F = F})
+from_fn_made = record { make = λ p. record { fun = p }; made = λ s. refl; has = λ p. refl }
 
 -- one call of the closure, which takes nothing
 abbrev pub call_of_none : {F R : Type 0} → Mut F (Unit {0}) R → F → Unit {0} → R → F → Type 0
@@ -28,6 +33,7 @@ module _ {F A E : Type 0} (g : Mut F (Unit {0}) (Answered A E)) where
     can_next = λ f. IsCallable (call_of_none g) (λ p _. g.pre p tt) (λ _. ⊤) f;
     may_give = λ f x. MayAnswer (call_of_none g) (λ _. ⊤) f (λ _ r. r ≡ item x);
     may_fail = λ f e. MayAnswer (call_of_none g) (λ _. ⊤) f (λ _ r. r ≡ failure e);
+    traces = FromFnTrace;
   }
 
 -- Called again and again, the closure returns the list's answers, in order, and then an end.

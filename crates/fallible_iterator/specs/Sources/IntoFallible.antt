@@ -2,15 +2,20 @@
 use Rattle.std.specs.Prelude.{Option, List}
 use Rattle.std.specs.Iterator.{Count}
 use Rattle.fallible_contract.specs.Traces.{Answered}
-use Rattle.fallible_contract.specs.Contract.{Contract}
+use Rattle.fallible_contract.specs.Contract.{Contract, Inverse}
 use Rattle.fallible_contract.specs.Ends.{Ends}
 use Rattle.fallible_iterator.specs.Sources.Std.{StdTrace, std_contract, std_ends}
 use Rattle.std.specs.declared.convert.Infallible.{Infallible}
 use Rattle.fallible_iterator.specs.declared.sources.into_fallible.IntoFallible.{IntoFallible}
+use Rattle.std.proofs.Common.{refl}
 
 -- the std iterator
 abbrev pub into_fallible_parts : {I : Type 0} → IntoFallible I → I
 into_fallible_parts s = s.it
+
+-- and back
+pub into_fallible_made : {I : Type 0} → Inverse (into_fallible_parts {I = I})
+into_fallible_made = record { make = λ p. record { it = p }; made = λ s. refl; has = λ p. refl }
 
 -- nothing is an `Infallible`
 abbrev pub never : {Z : Type 0} → Infallible → Z

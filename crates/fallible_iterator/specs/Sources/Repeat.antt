@@ -1,14 +1,19 @@
 -- `Repeat`: clones as items.
 use Rattle.std.specs.Prelude.{Some, ◌≡◌, List, None, Ok, Err, ◌^◌, ◌-◌, All}
 use Rattle.fallible_contract.specs.Traces.{Answered, item, failure}
-use Rattle.fallible_contract.specs.Contract.{Contract, unbounded_contract}
+use Rattle.fallible_contract.specs.Contract.{Contract, unbounded_contract, Inverse}
 use Rattle.fallible_contract.specs.Refusals.{RefusedAs}
 use Rattle.std.specs.declared.alloc.AllocError.{AllocError}
 use Rattle.fallible_iterator.specs.declared.sources.repeat.Repeat.{Repeat}
+use Rattle.std.proofs.Common.{refl}
 
 -- the value that is cloned
 abbrev pub repeat_parts : {T E : Type 0} → Repeat T E → T
 repeat_parts s = s.value
+
+-- and back
+pub repeat_made : {T E : Type 0} → Inverse (repeat_parts {T = T} {E = E})
+repeat_made = record { make = λ p. record { value = p; error_type = record {} }; made = λ s. refl; has = λ p. refl }
 
 module _ {A E : Type 0} (is_clone : A → A → Type 0) (is_infallible : A → Type 0) (from : AllocError → E → Type 0) where
   -- one answer of `Repeat`
@@ -27,4 +32,5 @@ module _ {A E : Type 0} (is_clone : A → A → Type 0) (is_infallible : A → T
     may_give = λ v x. RepeatAnswer v (item x);
     may_fail = λ v e. RepeatAnswer v (failure e);
     hints = λ _ h. h ≡ (2 ^ 64 - 1, None);
+    traces = RepeatTrace;
   }

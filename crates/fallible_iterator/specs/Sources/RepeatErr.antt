@@ -2,14 +2,19 @@
 use Rattle.std.specs.Prelude.{Some, ◌≡◌, List, Ok, Err, ⊤, ◌⊎◌, All}
 use Rattle.std.specs.Iterator.{endless}
 use Rattle.fallible_contract.specs.Traces.{Answered, failure}
-use Rattle.fallible_contract.specs.Contract.{Contract, no_lenders}
+use Rattle.fallible_contract.specs.Contract.{Contract, no_lenders, Inverse}
 use Rattle.fallible_contract.specs.Refusals.{RefusedAs}
 use Rattle.std.specs.declared.alloc.AllocError.{AllocError}
 use Rattle.fallible_iterator.specs.declared.sources.repeat_err.RepeatErr.{RepeatErr}
+use Rattle.std.proofs.Common.{refl}
 
 -- the failure that is cloned
 abbrev pub repeat_err_parts : {T E : Type 0} → RepeatErr T E → E
 repeat_err_parts s = s.error
+
+-- and back
+pub repeat_err_made : {T E : Type 0} → Inverse (repeat_err_parts {T = T} {E = E})
+repeat_err_made = record { make = λ p. record { item_type = record {}; error = p }; made = λ s. refl; has = λ p. refl }
 
 module _ {A E : Type 0} (is_clone : E → E → Type 0) (is_infallible : E → Type 0) (from : AllocError → E → Type 0) where
   -- one answer of `RepeatErr`
@@ -33,4 +38,5 @@ module _ {A E : Type 0} (is_clone : E → E → Type 0) (is_infallible : E → T
     may_fail = λ v e. RepeatErrAnswer v (failure e);
     hints = λ _ h. h ≡ (0, Some 0);
     lenders = λ _. no_lenders;
+    traces = RepeatErrTrace;
   }

@@ -1,5 +1,5 @@
 // The whole-trace laws of the adapters that join sources.
-ghost use Rattle.std.specs.Prelude.{◌≡◌, ℕ, IfSome, List, Option, Result};
+ghost use Rattle.std.specs.Prelude.{◌≡◌, ℕ, IfSome, List, ◌∷◌, Option, Result};
 ghost use Rattle.fallible_contract.specs.LawForm.{TracesAre};
 ghost use Rattle.fallible_contract.specs.Lists.{Lists, items};
 ghost use Rattle.fallible_core.specs.Cutting.Take.{take_parts};
@@ -8,6 +8,7 @@ ghost use Rattle.fallible_core.specs.Joining.Cycle.{cycle_parts, cycle_kept, cyc
 ghost use Rattle.fallible_core.specs.Joining.FlatMap.{flat_map_parts, flat_map_mapped, flat_map_source, flat_map_inner};
 ghost use Rattle.fallible_core.specs.Joining.Flatten.{flatten_parts, flatten_source, flatten_inner, FlattenTrace};
 ghost use Rattle.fallible_core.specs.Joining.Zip.{zip_parts, ZipTrace};
+ghost use Rattle.fallible_core.specs.Refusing.{ListsUntilRefused};
 ghost use Rattle.fallible_iterator.specs.Cycled.{cycled};
 
 use fallible_core::cutting::Take;
@@ -68,6 +69,23 @@ where
         → I.is_infallible kept
         → ((c : I) → I.is_clone kept c → Lists I.contract.steps c (items xs))
         → Lists ⟦<Take<Cycle<I>> as FallibleIterator>⟧.contract.steps s (cycled n xs) }
+{}
+
+/// The first n answers of a `Cycle` of items up to an allocation failure: clones of the items of one round after another. It requires that each clone of the kept source lists clones of the same items, up to such a failure, and that there is an item: over none a failed clone would stand in the place of the end.
+pub fn law_cycle_until_refused<I: FallibleIterator + Clone>()
+where
+    I::Item: Clone,
+    I::Error: From<AllocError>,
+    ensures { (s : Take (Cycle I)) (made : Cycle I) (n : ℕ) (kept : I) (x : I.Item)
+        (xs : List I.Item)
+        → take_parts s ≡ (made, n)
+        → cycle_kept made ≡ kept → I.is_clone kept (cycle_source made)
+        → ((c : I) → I.is_clone kept c
+        → ListsUntilRefused I.Item.is_clone I.contract.steps I.Error.from_gives c
+        (items (x ∷ xs)))
+        → ListsUntilRefused I.Item.is_clone
+        ⟦<Take<Cycle<I>> as FallibleIterator>⟧.contract.steps I.Error.from_gives s
+        (cycled n (x ∷ xs)) }
 {}
 
 /// A `Flatten` is finite if its outer source and the current inner iterator are, and `each` is a bound of each inner iterator that may come. So a drain of it needs no term if a caller names that number.

@@ -1,51 +1,43 @@
-// What a trace of a nest of adapters is: the laws of its types, one after another.
-ghost use Rattle.std.specs.Prelude.{List};
-ghost use Rattle.std.specs.Borrow.{MutBor};
-ghost use Rattle.fallible_contract.specs.LawForm.{TracesAre};
+// The headline of a nest of adapters, with the definition of each written out.
+ghost use Rattle.std.specs.Prelude.{Result, Option, List, ◌↔◌};
+ghost use Rattle.std.specs.Borrow.{Bor};
 ghost use Rattle.fallible_contract.specs.Traces.{Answered, Run};
-ghost use Rattle.fallible_iterator.specs.Nests.{TakeMapFilterTrace, TakeBorrowedTrace};
+ghost use Rattle.fallible_contract.specs.Closures.{call_by_value, call_by_reference};
+ghost use Rattle.fallible_contract.specs.Passing.{passes_all};
+ghost use Rattle.fallible_core.specs.OneToOne.Map.{map_outcome, map_parts};
+ghost use Rattle.fallible_core.specs.Filtering.Filter.{tested_outcome, filter_parts};
+ghost use Rattle.fallible_core.specs.Cutting.Take.{take_parts, takes_all};
+ghost use Rattle.fallible_core.specs.Cutting.Fuse.{fuse_parts, fuses_all};
+ghost use Rattle.fallible_core.specs.Joining.Chain.{chain_parts, chains_all};
 
-use super::borrowed::law_borrowed;
-use super::cutting::law_take;
-use super::filtering::law_filter;
-use super::one_to_one::law_map;
-use super::sources::law_convert;
-use crate::sources::Convert;
-use fallible_core::cutting::Take;
+use fallible_core::cutting::{Fuse, Take};
 use fallible_core::filtering::Filter;
+use fallible_core::headline::law_headline;
+use fallible_core::joining::Chain;
 use fallible_core::one_to_one::Map;
 use fallible_core::traits::FallibleIterator;
 
-/// A trace of a `Take` of a `Map` of a `Filter`, over every source, is the front, up to the n-th item, of the mapped, kept items of a trace of the source, with just the draws of that trace. A law of any other nest is the laws of its types in a row in the same way.
+/// The headline of `first.filter(p).map(f).take(n).chain(second).fuse()`, over every two sources, with the five definitions written out. Read from the inside: what `first` returns is filtered, that is mapped, that is cut, that is chained with what `second` returns, and that is fused.
 pub fn law_nest<
-    I: FallibleIterator,
-    P: FnMut(&I::Item) -> Result<bool, I::Error>,
-    F: FnMut(I::Item) -> Result<B, I::Error>,
+    T: Drop,
+    E,
+    I: FallibleIterator<Item = T, Error = E>,
+    P: FnMut(&T) -> Result<bool, E>,
+    F: FnMut(T) -> Result<B, E>,
     B,
+    U: FallibleIterator<Item = B, Error = E>,
 >()
-where
-    I::Item: Drop,
-    ensures { TracesAre (λ s. s) ⟦<Take<Map<Filter<I, P>, F>> as FallibleIterator>⟧.contract.steps
-        (TakeMapFilterTrace I.contract.steps P.FnMut F.FnMut) }
+    ensures { (s : Fuse (Chain (Take (Map (Filter I P) F)) U)) (trace : List (Answered B E))
+        (t : Fuse (Chain (Take (Map (Filter I P) F)) U))
+        → Run ⟦<Fuse<Chain<Take<Map<Filter<I, P>, F>>, U>> as FallibleIterator>⟧.contract.steps
+        s trace t
+        ↔ fuses_all (λ v chained w. chains_all (λ a cut b. takes_all (λ c mapped d. passes_all
+        (λ e kept f. passes_all I.contract.traces (call_by_reference P.FnMut) tested_outcome
+        (filter_parts e) kept (filter_parts f))
+        (call_by_value F.FnMut) map_outcome (map_parts c) mapped (map_parts d))
+        (take_parts a) cut (take_parts b))
+        U.contract.traces (chain_parts v) chained (chain_parts w))
+        (fuse_parts s) trace (fuse_parts t) }
 {
-    law_filter::<I, P>();
-    law_map::<Filter<I, P>, B, F>();
-    law_take::<Map<Filter<I, P>, F>>();
-}
-
-/// A trace of a `Take` of a borrowed `Convert` is the front, up to the n-th item, of what the std iterator yields, position by position; the lender is left with the std iterator after just those calls. The other way round any such front is a trace, which leaves the borrow the reference that it was.
-pub fn law_nest_borrowed<'a, T: 'a, E: 'a, J: std::iter::Iterator<Item = Result<T, E>> + 'a>()
-    ensures trace { (s : Take (MutBor (Convert J))) (trace : List (Answered T E))
-        (t : Take (MutBor (Convert J)))
-        → Run ⟦<Take<&'a mut Convert<J>> as FallibleIterator>⟧.contract.steps s trace t
-        → TakeBorrowedTrace J.can_next J.next_gives J.remaining s trace t }
-    ensures run { (s : Take (MutBor (Convert J))) (trace : List (Answered T E))
-        (t : Take (MutBor (Convert J)))
-        → TakeBorrowedTrace J.can_next J.next_gives J.remaining s trace t
-        → Run ⟦<Take<&'a mut Convert<J>> as FallibleIterator>⟧.contract.steps s trace
-        (record t { it = record s.it { now = t.it.now } }) }
-{
-    law_convert::<T, E, J>();
-    law_borrowed::<Convert<J>>();
-    law_take::<&'a mut Convert<J>>();
+    law_headline::<Fuse<Chain<Take<Map<Filter<I, P>, F>>, U>>>();
 }

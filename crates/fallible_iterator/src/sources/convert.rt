@@ -1,12 +1,12 @@
 // The fallible iterator of a std iterator over results.
 ghost use Rattle.std.specs.Prelude.{◌≡◌, Some, Ok, Err, List, Result, Option};
-ghost use Rattle.fallible_contract.specs.Contract.{seen_as};
-ghost use Rattle.fallible_contract.specs.Ends.{ends_seen_as};
+ghost use Rattle.fallible_contract.specs.Contract.{parts_as};
+ghost use Rattle.fallible_contract.specs.Ends.{ends_parts_as};
 ghost use Rattle.fallible_contract.specs.Lists.{Lists, RunsReadBack, results, items, reversed};
-ghost use Rattle.fallible_contract.specs.Laws.Contract.{lawful_seen};
-ghost use Rattle.fallible_contract.specs.Laws.Ends.{lawful_ends_seen};
+ghost use Rattle.fallible_contract.specs.Laws.Contract.{lawful_parts};
+ghost use Rattle.fallible_contract.specs.Laws.Ends.{lawful_ends_parts};
 ghost use Rattle.fallible_core.specs.Ends.Rev.{rev_parts};
-ghost use Rattle.fallible_iterator.specs.Sources.Convert.{convert_contract, convert_ends, convert_parts};
+ghost use Rattle.fallible_iterator.specs.Sources.Convert.{convert_contract, convert_ends, convert_made, convert_parts};
 ghost use Rattle.fallible_iterator.specs.Sources.Std.{std_element};
 ghost use Rattle.fallible_iterator.specs.Laws.Sources.Std.{lawful_std, lawful_ends_std};
 
@@ -25,7 +25,7 @@ impl<T, E, I: std::iter::Iterator<Item = Result<T, E>>> FallibleIterator for Con
 
     type Error = E;
 
-    ghost contract = { seen_as convert_parts
+    ghost contract = { parts_as convert_parts
         (convert_contract I.can_next I.next_gives I.remaining) };
 
     /// Draws the std iterator once.
@@ -41,13 +41,13 @@ impl<T, E, I: std::iter::Iterator<Item = Result<T, E>>> FallibleIterator for Con
         drive_std(&mut self.it, &AsResult, state, turn)
     }
 
-    ghost lawful = { lawful_seen convert_parts
+    ghost lawful = { lawful_parts convert_made
         (lawful_std Ok Err I.can_next I.next_gives I.remaining) };
 }
 
 impl<T, E, I: std::iter::DoubleEndedIterator<Item = Result<T, E>>> DoubleEndedFallibleIterator
     for Convert<I> {
-    ghost ends = { ends_seen_as convert_parts
+    ghost ends = { ends_parts_as convert_parts
         (convert_ends I.can_next I.can_next_back I.next_gives I.next_back_gives I.remaining) };
 
     /// Draws the std iterator once from the back.
@@ -63,7 +63,7 @@ impl<T, E, I: std::iter::DoubleEndedIterator<Item = Result<T, E>>> DoubleEndedFa
         drive_back_std(&mut self.it, &AsResult, state, turn)
     }
 
-    ghost lawful_ends = { lawful_ends_seen convert_parts
+    ghost lawful_ends = { lawful_ends_parts convert_made
         (lawful_ends_std Ok Err I.can_next I.can_next_back I.next_gives I.next_back_gives
         I.remaining) };
 }

@@ -1,4 +1,5 @@
 // The source of nothing.
+ghost use Rattle.std.proofs.Common.{refl};
 ghost use Rattle.std.specs.Prelude.{Some, Ok, Result, Option};
 ghost use Rattle.fallible_contract.specs.Ends.{ends_of};
 ghost use Rattle.fallible_contract.specs.Laws.Ends.{lawful_ends_alike};
@@ -30,7 +31,7 @@ impl<T, E> FallibleIterator for Empty<T, E> {
         (0, Some(0))
     }
 
-    ghost lawful = { lawful_empty };
+    ghost lawful = { lawful_empty (λ s t. refl) };
 }
 
 impl<T, E> DoubleEndedFallibleIterator for Empty<T, E> {
@@ -40,5 +41,5 @@ impl<T, E> DoubleEndedFallibleIterator for Empty<T, E> {
         Ok(None)
     }
 
-    ghost lawful_ends = { lawful_ends_alike lawful_empty };
+    ghost lawful_ends = { lawful_ends_alike (lawful_empty (λ s t. refl)) };
 }

@@ -1,8 +1,8 @@
 // The fallible iterator of a closure.
 ghost use Rattle.std.specs.Prelude.{Result, Option};
-ghost use Rattle.fallible_contract.specs.Contract.{seen_as};
-ghost use Rattle.fallible_contract.specs.Laws.Contract.{lawful_seen};
-ghost use Rattle.fallible_iterator.specs.Sources.FromFn.{from_fn_contract, from_fn_parts};
+ghost use Rattle.fallible_contract.specs.Contract.{parts_as};
+ghost use Rattle.fallible_contract.specs.Laws.Contract.{lawful_parts};
+ghost use Rattle.fallible_iterator.specs.Sources.FromFn.{from_fn_contract, from_fn_made, from_fn_parts};
 ghost use Rattle.fallible_iterator.specs.Laws.Sources.FromFn.{lawful_from_fn};
 
 use fallible_core::FallibleIterator;
@@ -18,7 +18,7 @@ impl<T, E, F: FnMut() -> Result<Option<T>, E>> FallibleIterator for FromFn<F> {
 
     type Error = E;
 
-    ghost contract = { seen_as from_fn_parts (from_fn_contract F.FnMut) };
+    ghost contract = { parts_as from_fn_parts (from_fn_contract F.FnMut) };
 
     /// Calls the closure once.
     fn next(&mut self) -> Result<Option<T>, E> {
@@ -29,5 +29,5 @@ impl<T, E, F: FnMut() -> Result<Option<T>, E>> FallibleIterator for FromFn<F> {
         (0, None)
     }
 
-    ghost lawful = { lawful_seen from_fn_parts (lawful_from_fn F.FnMut) };
+    ghost lawful = { lawful_parts from_fn_made (lawful_from_fn F.FnMut) };
 }

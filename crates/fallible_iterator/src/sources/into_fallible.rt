@@ -1,12 +1,12 @@
 // The fallible iterator of a std iterator over any values.
 ghost use Rattle.std.specs.Prelude.{◌≡◌, Ok, List, Result, Option};
-ghost use Rattle.fallible_contract.specs.Contract.{seen_as};
-ghost use Rattle.fallible_contract.specs.Ends.{ends_seen_as};
+ghost use Rattle.fallible_contract.specs.Contract.{parts_as};
+ghost use Rattle.fallible_contract.specs.Ends.{ends_parts_as};
 ghost use Rattle.fallible_contract.specs.Lists.{Lists, RunsRead, RunsReadBack, items, reversed};
-ghost use Rattle.fallible_contract.specs.Laws.Contract.{lawful_seen};
-ghost use Rattle.fallible_contract.specs.Laws.Ends.{lawful_ends_seen};
+ghost use Rattle.fallible_contract.specs.Laws.Contract.{lawful_parts};
+ghost use Rattle.fallible_contract.specs.Laws.Ends.{lawful_ends_parts};
 ghost use Rattle.fallible_core.specs.Ends.Rev.{rev_parts};
-ghost use Rattle.fallible_iterator.specs.Sources.IntoFallible.{into_fallible_contract, into_fallible_ends, never, into_fallible_parts};
+ghost use Rattle.fallible_iterator.specs.Sources.IntoFallible.{into_fallible_contract, into_fallible_ends, never, into_fallible_made, into_fallible_parts};
 ghost use Rattle.fallible_iterator.specs.Laws.Sources.Std.{lawful_std, lawful_ends_std};
 
 use crate::sources::std_fold::{AsItem, drive_back_std, drive_std};
@@ -25,7 +25,7 @@ impl<T, I: std::iter::Iterator<Item = T>> FallibleIterator for IntoFallible<I> {
 
     type Error = Infallible;
 
-    ghost contract = { seen_as into_fallible_parts
+    ghost contract = { parts_as into_fallible_parts
         (into_fallible_contract I.can_next I.next_gives I.remaining) };
 
     /// Draws the std iterator once.
@@ -45,13 +45,13 @@ impl<T, I: std::iter::Iterator<Item = T>> FallibleIterator for IntoFallible<I> {
         drive_std(&mut self.it, &AsItem, state, turn)
     }
 
-    ghost lawful = { lawful_seen into_fallible_parts
+    ghost lawful = { lawful_parts into_fallible_made
         (lawful_std (λ x. x) never I.can_next I.next_gives I.remaining) };
 }
 
 impl<T, I: std::iter::DoubleEndedIterator<Item = T>> DoubleEndedFallibleIterator
     for IntoFallible<I> {
-    ghost ends = { ends_seen_as into_fallible_parts
+    ghost ends = { ends_parts_as into_fallible_parts
         (into_fallible_ends I.can_next I.can_next_back I.next_gives I.next_back_gives
         I.remaining) };
 
@@ -68,7 +68,7 @@ impl<T, I: std::iter::DoubleEndedIterator<Item = T>> DoubleEndedFallibleIterator
         drive_back_std(&mut self.it, &AsItem, state, turn)
     }
 
-    ghost lawful_ends = { lawful_ends_seen into_fallible_parts
+    ghost lawful_ends = { lawful_ends_parts into_fallible_made
         (lawful_ends_std (λ x. x) never I.can_next I.can_next_back I.next_gives I.next_back_gives
         I.remaining) };
 }
@@ -119,7 +119,7 @@ impl<T, I: std::iter::Iterator<Item = T>> From<I> for IntoFallible<I> {
     fn from(it: I) -> IntoFallible<I>
         ensures parts { into_fallible_parts result ≡ it }
         ensures lists { (l : List T) → RunsRead I.next_gives (λ x. x) it l
-            → Lists (seen_as into_fallible_parts
+            → Lists (parts_as into_fallible_parts
             (into_fallible_contract I.can_next I.next_gives I.remaining)).steps result
             (items l) }
     {

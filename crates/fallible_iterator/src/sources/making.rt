@@ -1,9 +1,12 @@
 //! The functions that make sources.
-ghost use Rattle.std.specs.Prelude.{◌≡◌, false, Some, None, Ok, Err, List, [], ◌∷◌, Result, ⊤};
+ghost use Rattle.std.specs.Prelude.{◌≡◌, ℕ, false, Some, None, Ok, Err, List, [], ◌∷◌, Result, ⊤};
 ghost use Rattle.std.specs.Iterator.Adapters.{fuse_source, fuse_done};
-ghost use Rattle.fallible_contract.specs.Contract.{seen_as};
-ghost use Rattle.fallible_contract.specs.Lists.{Lists, ListsForGood, RunsRead, Repeats, results, items};
+ghost use Rattle.fallible_contract.specs.Contract.{parts_as};
+ghost use Rattle.fallible_contract.specs.Lists.{Lists, ListsForGood, RunsRead, Repeats, results, items, repeated};
 ghost use Rattle.fallible_contract.specs.Closures.{IsCallable};
+ghost use Rattle.fallible_core.specs.Cutting.Take.{take_parts, take_contract};
+ghost use Rattle.fallible_core.specs.Refusing.{ListsUntilRefused};
+ghost use Rattle.fallible_core.specs.declared.cutting.take.Take.{Take};
 ghost use Rattle.fallible_iterator.specs.Sources.Convert.{ItemsRead, convert_parts, convert_contract};
 ghost use Rattle.fallible_iterator.specs.Sources.FromFn.{from_fn_parts, from_fn_contract, call_of_none, CallsGive, CallsTakeShown};
 ghost use Rattle.fallible_iterator.specs.Sources.Once.{once_parts, once_contract};
@@ -36,10 +39,10 @@ use std::marker::PhantomData;
 pub fn convert<T, E, I: Iterator<Item = Result<T, E>>>(it: I) -> Convert<I>
     ensures parts { convert_parts result ≡ it }
     ensures results { (l : List (Result T E)) → RunsRead I.next_gives (λ y. y) it l
-        → Lists (seen_as convert_parts (convert_contract I.can_next I.next_gives I.remaining)).steps
+        → Lists (parts_as convert_parts (convert_contract I.can_next I.next_gives I.remaining)).steps
         result (results l) }
     ensures items { (l : List T) → ItemsRead I.next_gives it l
-        → Lists (seen_as convert_parts
+        → Lists (parts_as convert_parts
         (convert_contract {A = T} {E = E} I.can_next I.next_gives I.remaining)).steps result
         (items l) }
 {
@@ -73,11 +76,11 @@ pub fn convert_fused<T, E, I: Iterator<Item = Result<T, E>>>(it: I) -> Convert<F
     ensures fresh { fuse_done (convert_parts result) ≡ false }
     ensures results { (l : List (Result T E)) → RunsRead I.next_gives (λ y. y) it l
         → Lists ⟦<Convert<Fuse<I>> as FallibleIterator>⟧.contract.steps result (results l) }
-    ensures items { (l : List T) → RunsRead I.next_gives Ok it l
+    ensures items { (l : List T) → ItemsRead I.next_gives it l
         → Lists ⟦<Convert<Fuse<I>> as FallibleIterator>⟧.contract.steps result (items l) }
     ensures results_for_good { (l : List (Result T E)) → RunsRead I.next_gives (λ y. y) it l
         → ListsForGood ⟦<Convert<Fuse<I>> as FallibleIterator>⟧.contract.steps result (results l) }
-    ensures items_for_good { (l : List T) → RunsRead I.next_gives Ok it l
+    ensures items_for_good { (l : List T) → ItemsRead I.next_gives it l
         → ListsForGood ⟦<Convert<Fuse<I>> as FallibleIterator>⟧.contract.steps result (items l) }
 {
     convert(it.fuse())
@@ -93,7 +96,7 @@ pub fn convert_fused<T, E, I: Iterator<Item = Result<T, E>>>(it: I) -> Convert<F
 /// ```
 pub fn once<T, E>(value: T) -> Once<T, E>
     ensures parts { once_parts result ≡ Some value }
-    ensures lists { Lists (seen_as once_parts (once_contract {A = T} {E = E})).steps result
+    ensures lists { Lists (parts_as once_parts (once_contract {A = T} {E = E})).steps result
         (Ok value ∷ []) }
 {
     Once {
@@ -112,7 +115,7 @@ pub fn once<T, E>(value: T) -> Once<T, E>
 /// ```
 pub fn once_err<T, E>(error: E) -> OnceErr<T, E>
     ensures parts { once_err_parts result ≡ Some error }
-    ensures lists { Lists (seen_as once_err_parts (once_err_contract {A = T} {E = E})).steps result
+    ensures lists { Lists (parts_as once_err_parts (once_err_contract {A = T} {E = E})).steps result
         (Err error ∷ []) }
 {
     OnceErr {
@@ -144,9 +147,9 @@ pub fn from_fn<I, E, F: FnMut() -> Result<Option<I>, E>>(fun: F) -> FromFn<F>
     requires { IsCallable (call_of_none F.FnMut) (λ f _. F.pre f) (λ _. ⊤) fun }
     ensures parts { from_fn_parts result ≡ fun }
     ensures lists { (l : List (Result I E)) → CallsGive (call_of_none F.FnMut) fun l
-        → Lists (seen_as from_fn_parts (from_fn_contract F.FnMut)).steps result l }
+        → Lists (parts_as from_fn_parts (from_fn_contract F.FnMut)).steps result l }
     ensures shown { (shows : F → List (Result I E)) → CallsTakeShown (call_of_none F.FnMut) shows
-        → Lists (seen_as from_fn_parts (from_fn_contract F.FnMut)).steps result (shows fun) }
+        → Lists (parts_as from_fn_parts (from_fn_contract F.FnMut)).steps result (shows fun) }
 {
     FromFn { fun }
 }
@@ -174,7 +177,7 @@ pub fn empty<T, E>() -> Empty<T, E>
 ///
 /// Memory: if a clone can't be allocated, it fails with the failure converted from `AllocError`, and the next call clones the value again.
 ///
-/// Proof: it states no bound.
+/// Proof: it states no bound. Where a clone may fail, what `take` yields of it is listed up to the first allocation failure.
 ///
 /// ```
 /// let mut it = repeat::<u32, AllocError>(5);
@@ -184,8 +187,12 @@ pub fn repeat<T: Clone, E: From<AllocError>>(value: T) -> Repeat<T, E>
     ensures parts { repeat_parts result ≡ value }
     ensures repeats { T.is_infallible value → ((x : T) → T.is_clone value x → x ≡ value)
         → Repeats
-        (seen_as repeat_parts (repeat_contract T.is_clone T.is_infallible E.from_gives)).steps
+        (parts_as repeat_parts (repeat_contract T.is_clone T.is_infallible E.from_gives)).steps
         result (Ok value) }
+    ensures until_refused { (s : Take (Repeat T E)) (n : ℕ) → take_parts s ≡ (result, n)
+        → ListsUntilRefused T.is_clone
+        (parts_as take_parts (take_contract (parts_as repeat_parts (repeat_contract T.is_clone
+        T.is_infallible E.from_gives)))).steps E.from_gives s (repeated n value) }
 {
     Repeat {
         value,

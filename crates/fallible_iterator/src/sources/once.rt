@@ -1,10 +1,10 @@
 // The source of one item.
 ghost use Rattle.std.specs.Prelude.{Some, Ok, Result, Option};
-ghost use Rattle.fallible_contract.specs.Contract.{seen_as};
-ghost use Rattle.fallible_contract.specs.Ends.{ends_of, ends_seen_as};
-ghost use Rattle.fallible_contract.specs.Laws.Contract.{lawful_seen};
-ghost use Rattle.fallible_contract.specs.Laws.Ends.{lawful_ends_alike, lawful_ends_seen};
-ghost use Rattle.fallible_iterator.specs.Sources.Once.{once_contract, once_parts};
+ghost use Rattle.fallible_contract.specs.Contract.{parts_as};
+ghost use Rattle.fallible_contract.specs.Ends.{ends_of, ends_parts_as};
+ghost use Rattle.fallible_contract.specs.Laws.Contract.{lawful_parts};
+ghost use Rattle.fallible_contract.specs.Laws.Ends.{lawful_ends_alike, lawful_ends_parts};
+ghost use Rattle.fallible_iterator.specs.Sources.Once.{once_contract, once_made, once_parts};
 ghost use Rattle.fallible_iterator.specs.Laws.Sources.Once.{lawful_once};
 
 use fallible_core::{DoubleEndedFallibleIterator, FallibleIterator};
@@ -22,7 +22,7 @@ impl<T: Drop, E> FallibleIterator for Once<T, E> {
 
     type Error = E;
 
-    ghost contract = { seen_as once_parts once_contract };
+    ghost contract = { parts_as once_parts once_contract };
 
     fn next(&mut self) -> Result<Option<T>, E> {
         Ok(self.value.take())
@@ -35,15 +35,15 @@ impl<T: Drop, E> FallibleIterator for Once<T, E> {
         }
     }
 
-    ghost lawful = { lawful_seen once_parts lawful_once };
+    ghost lawful = { lawful_parts once_made lawful_once };
 }
 
 impl<T: Drop, E> DoubleEndedFallibleIterator for Once<T, E> {
-    ghost ends = { ends_seen_as once_parts (ends_of once_contract) };
+    ghost ends = { ends_parts_as once_parts (ends_of once_contract) };
 
     fn next_back(&mut self) -> Result<Option<T>, E> {
         self.next()
     }
 
-    ghost lawful_ends = { lawful_ends_seen once_parts (lawful_ends_alike lawful_once) };
+    ghost lawful_ends = { lawful_ends_parts once_made (lawful_ends_alike lawful_once) };
 }

@@ -1,10 +1,10 @@
 // The source of one failure.
 ghost use Rattle.std.specs.Prelude.{Some, Ok, Err, Result, Option};
-ghost use Rattle.fallible_contract.specs.Contract.{seen_as};
-ghost use Rattle.fallible_contract.specs.Ends.{ends_of, ends_seen_as};
-ghost use Rattle.fallible_contract.specs.Laws.Contract.{lawful_seen};
-ghost use Rattle.fallible_contract.specs.Laws.Ends.{lawful_ends_alike, lawful_ends_seen};
-ghost use Rattle.fallible_iterator.specs.Sources.OnceErr.{once_err_contract, once_err_parts};
+ghost use Rattle.fallible_contract.specs.Contract.{parts_as};
+ghost use Rattle.fallible_contract.specs.Ends.{ends_of, ends_parts_as};
+ghost use Rattle.fallible_contract.specs.Laws.Contract.{lawful_parts};
+ghost use Rattle.fallible_contract.specs.Laws.Ends.{lawful_ends_alike, lawful_ends_parts};
+ghost use Rattle.fallible_iterator.specs.Sources.OnceErr.{once_err_contract, once_err_made, once_err_parts};
 ghost use Rattle.fallible_iterator.specs.Laws.Sources.OnceErr.{lawful_once_err};
 
 use fallible_core::{DoubleEndedFallibleIterator, FallibleIterator};
@@ -22,7 +22,7 @@ impl<T, E: Drop> FallibleIterator for OnceErr<T, E> {
 
     type Error = E;
 
-    ghost contract = { seen_as once_err_parts once_err_contract };
+    ghost contract = { parts_as once_err_parts once_err_contract };
 
     fn next(&mut self) -> Result<Option<T>, E> {
         match self.error.take() {
@@ -35,15 +35,15 @@ impl<T, E: Drop> FallibleIterator for OnceErr<T, E> {
         (0, Some(0))
     }
 
-    ghost lawful = { lawful_seen once_err_parts lawful_once_err };
+    ghost lawful = { lawful_parts once_err_made lawful_once_err };
 }
 
 impl<T, E: Drop> DoubleEndedFallibleIterator for OnceErr<T, E> {
-    ghost ends = { ends_seen_as once_err_parts (ends_of once_err_contract) };
+    ghost ends = { ends_parts_as once_err_parts (ends_of once_err_contract) };
 
     fn next_back(&mut self) -> Result<Option<T>, E> {
         self.next()
     }
 
-    ghost lawful_ends = { lawful_ends_seen once_err_parts (lawful_ends_alike lawful_once_err) };
+    ghost lawful_ends = { lawful_ends_parts once_err_made (lawful_ends_alike lawful_once_err) };
 }

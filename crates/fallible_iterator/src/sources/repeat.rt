@@ -1,8 +1,8 @@
 // The source of clones as items.
 ghost use Rattle.std.specs.Prelude.{Some, Ok, Err, Result, Option};
-ghost use Rattle.fallible_contract.specs.Contract.{seen_as};
-ghost use Rattle.fallible_contract.specs.Laws.Contract.{lawful_seen};
-ghost use Rattle.fallible_iterator.specs.Sources.Repeat.{repeat_contract, repeat_parts};
+ghost use Rattle.fallible_contract.specs.Contract.{parts_as};
+ghost use Rattle.fallible_contract.specs.Laws.Contract.{lawful_parts};
+ghost use Rattle.fallible_iterator.specs.Sources.Repeat.{repeat_contract, repeat_made, repeat_parts};
 ghost use Rattle.fallible_iterator.specs.Laws.Sources.Repeat.{lawful_repeat};
 
 use fallible_core::FallibleIterator;
@@ -23,7 +23,7 @@ impl<T: Clone, E: From<AllocError>> FallibleIterator for Repeat<T, E> {
 
     type Error = E;
 
-    ghost contract = { seen_as repeat_parts
+    ghost contract = { parts_as repeat_parts
         (repeat_contract T.is_clone T.is_infallible E.from_gives) };
 
     /// Clones the value once.
@@ -38,6 +38,6 @@ impl<T: Clone, E: From<AllocError>> FallibleIterator for Repeat<T, E> {
         (usize::MAX, None)
     }
 
-    ghost lawful = { lawful_seen repeat_parts
+    ghost lawful = { lawful_parts repeat_made
         (lawful_repeat T.is_clone T.is_infallible E.from_gives) };
 }

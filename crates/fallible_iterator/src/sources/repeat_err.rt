@@ -1,8 +1,8 @@
 // The source of clones as failures.
 ghost use Rattle.std.specs.Prelude.{Some, Ok, Err, Result, Option};
-ghost use Rattle.fallible_contract.specs.Contract.{seen_as};
-ghost use Rattle.fallible_contract.specs.Laws.Contract.{lawful_seen};
-ghost use Rattle.fallible_iterator.specs.Sources.RepeatErr.{repeat_err_contract, repeat_err_parts};
+ghost use Rattle.fallible_contract.specs.Contract.{parts_as};
+ghost use Rattle.fallible_contract.specs.Laws.Contract.{lawful_parts};
+ghost use Rattle.fallible_iterator.specs.Sources.RepeatErr.{repeat_err_contract, repeat_err_made, repeat_err_parts};
 ghost use Rattle.fallible_iterator.specs.Laws.Sources.RepeatErr.{lawful_repeat_err};
 
 use fallible_core::FallibleIterator;
@@ -23,7 +23,7 @@ impl<T, E: Clone + From<AllocError>> FallibleIterator for RepeatErr<T, E> {
 
     type Error = E;
 
-    ghost contract = { seen_as repeat_err_parts
+    ghost contract = { parts_as repeat_err_parts
         (repeat_err_contract E.is_clone E.is_infallible E.from_gives) };
 
     /// Clones the error once.
@@ -38,6 +38,6 @@ impl<T, E: Clone + From<AllocError>> FallibleIterator for RepeatErr<T, E> {
         (0, Some(0))
     }
 
-    ghost lawful = { lawful_seen repeat_err_parts
+    ghost lawful = { lawful_parts repeat_err_made
         (lawful_repeat_err E.is_clone E.is_infallible E.from_gives) };
 }

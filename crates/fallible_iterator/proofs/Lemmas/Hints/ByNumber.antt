@@ -9,8 +9,8 @@ use Rattle.fallible_contract.proofs.Lemmas.ByNumber.{Leaves, leaves_nil_same, ke
 use Rattle.fallible_core.proofs.Lemmas.Cutting.ByNumber.{leaves_one}
 use Rattle.fallible_core.specs.Cutting.Skip.{skip_step}
 use Rattle.fallible_core.specs.Cutting.StepBy.{step_by_step}
-use Rattle.fallible_core.proofs.Lemmas.Cutting.Skip.{leaves_of_skip_trace}
-use Rattle.fallible_core.proofs.Lemmas.Cutting.StepBy.{step_by_leaves_of_step_by_trace}
+use Rattle.fallible_core.specs.Laws.Cutting.Skip.{leaves_of_skip_trace}
+use Rattle.fallible_core.specs.Laws.Cutting.StepBy.{step_by_leaves_of_step_by_trace}
 use Rattle.fallible_iterator.specs.SoundHints.{Brackets, AsSound}
 use Rattle.fallible_iterator.proofs.Lemmas.Hints.Drawn.{as_sound_of_brackets, OneOfOne, yields_appended_of_two_yields, pair_of_parts, brackets_of_brackets_at_view, brackets_where_one_of_one}
 

@@ -7,7 +7,7 @@ use Rattle.std.proofs.iter.runs.Lists.{none-some}
 use Rattle.std.proofs.iter.runs.Made.{at-is}
 use Rattle.std.specs.Iterator.{Count}
 use Rattle.fallible_contract.specs.Traces.{Answered}
-use Rattle.fallible_contract.specs.Contract.{seen_as}
+use Rattle.fallible_contract.specs.Contract.{parts_as}
 use Rattle.fallible_contract.specs.Lists.{Lists, RunsRead, RunsReadBack, result_answer, results, items, reversed}
 use Rattle.fallible_contract.proofs.Lemmas.Lists.Passing.{lists_seen}
 use Rattle.fallible_iterator.specs.Sources.Std.{std_element}
@@ -49,22 +49,22 @@ module _ {A E : Type 0} where
   answer_is_end_where_no_element (Err d) e = absurd cc
 
 module _ {S A E : Type 0} (can : S → Type 0) (gives : S → Option (Result A E) → S → Type 0) (remaining : S → Count) (s : Convert S) where
-  pub lists_results : (l : List (Result A E)) → RunsRead gives (λ y. y) s.it l → Lists (seen_as convert_parts (convert_contract can gives remaining)).steps s (results l)
+  pub lists_results : (l : List (Result A E)) → RunsRead gives (λ y. y) s.it l → Lists (parts_as convert_parts (convert_contract can gives remaining)).steps s (results l)
   lists_results l reads = lists_seen convert_parts (convert_contract can gives remaining).steps s refl (map_id_is_results l) (gives_read Ok Err can gives remaining (λ y. y) (λ y. y) answer_of_first_result l s.it reads)
 
-  pub lists_items : (l : List A) → RunsRead gives Ok s.it l → Lists (seen_as convert_parts (convert_contract can gives remaining)).steps s (items l)
+  pub lists_items : (l : List A) → RunsRead gives Ok s.it l → Lists (parts_as convert_parts (convert_contract can gives remaining)).steps s (items l)
   lists_items l reads = lists_seen convert_parts (convert_contract can gives remaining).steps s refl (map_is_items l) (gives_read Ok Err can gives remaining (λ x. Ok x) (λ x. Ok x) (λ r x. answer_of_first_result r (Ok x)) l s.it reads)
 
   -- the same, where the std iterator is known by another name
-  pub lists_items_of : {it : S} → convert_parts s ≡ it → (l : List A) → RunsRead gives Ok it l → Lists (seen_as convert_parts (convert_contract can gives remaining)).steps s (items l)
+  pub lists_items_of : {it : S} → convert_parts s ≡ it → (l : List A) → RunsRead gives Ok it l → Lists (parts_as convert_parts (convert_contract can gives remaining)).steps s (items l)
   lists_items_of at l reads = lists_items l (subst (λ (q : S). RunsRead gives (λ x. Ok x) q l) (sym at) reads)
 
   -- from the back
-  pub lists_results_back : (l : List (Result A E)) → RunsReadBack gives (λ y. y) s.it l → Lists (seen_as convert_parts (convert_contract can gives remaining)).steps s (reversed (results l))
-  lists_results_back l reads = subst (Lists (seen_as convert_parts (convert_contract can gives remaining)).steps s) (results_reversed l) (lists_results (reverse l) (runs_read_back gives (λ y. y) s.it l reads))
+  pub lists_results_back : (l : List (Result A E)) → RunsReadBack gives (λ y. y) s.it l → Lists (parts_as convert_parts (convert_contract can gives remaining)).steps s (reversed (results l))
+  lists_results_back l reads = subst (Lists (parts_as convert_parts (convert_contract can gives remaining)).steps s) (results_reversed l) (lists_results (reverse l) (runs_read_back gives (λ y. y) s.it l reads))
 
-  pub lists_items_back : (l : List A) → RunsReadBack gives Ok s.it l → Lists (seen_as convert_parts (convert_contract can gives remaining)).steps s (reversed (items l))
-  lists_items_back l reads = subst (Lists (seen_as convert_parts (convert_contract can gives remaining)).steps s) (items_reversed l) (lists_items (reverse l) (runs_read_back gives (λ x. Ok x) s.it l reads))
+  pub lists_items_back : (l : List A) → RunsReadBack gives Ok s.it l → Lists (parts_as convert_parts (convert_contract can gives remaining)).steps s (reversed (items l))
+  lists_items_back l reads = subst (Lists (parts_as convert_parts (convert_contract can gives remaining)).steps s) (items_reversed l) (lists_items (reverse l) (runs_read_back gives (λ x. Ok x) s.it l reads))
 
 -- ---- elements in an `Ok`
 

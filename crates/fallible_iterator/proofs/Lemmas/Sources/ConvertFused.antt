@@ -3,7 +3,7 @@ use Rattle.std.specs.Prelude.{◌≡◌, Bool, true, false, MatchBool, MatchOpti
 use Rattle.std.specs.Iterator.{Count}
 use Rattle.std.proofs.Common.{sym, ap, subst}
 use Rattle.fallible_contract.specs.Traces.{Answered, Run, end}
-use Rattle.fallible_contract.specs.Contract.{seen_as}
+use Rattle.fallible_contract.specs.Contract.{parts_as}
 use Rattle.fallible_contract.specs.Lists.{GivesForGood, ListsForGood, RunsRead, results, items, result_answer}
 use Rattle.fallible_contract.proofs.Lemmas.Lists.ForGood.{lists_for_good_seen}
 use Rattle.fallible_iterator.specs.Sources.Std.{std_step, std_element}
@@ -48,8 +48,8 @@ module _ {S V A E : Type 0} (iter : V → S) (done : V → Bool) (can : V → Ty
     gives_for_good_read (x ∷ l) s reads = λ r t w. let d = answer_is_first_and_rest_is_read Ok Err can GivesInConvertFused remaining h to back r s t x l reads w.0 in (d.0, gives_for_good_read l t d.1)
 
   module _ (s : Convert (V)) {it : V} (at : convert_parts s ≡ it) where
-    pub lists_for_good_results : (l : List (Result A E)) → RunsRead GivesInConvertFused (λ y. y) it l → ListsForGood (seen_as convert_parts (convert_contract can GivesInConvertFused remaining)).steps s (results l)
+    pub lists_for_good_results : (l : List (Result A E)) → RunsRead GivesInConvertFused (λ y. y) it l → ListsForGood (parts_as convert_parts (convert_contract can GivesInConvertFused remaining)).steps s (results l)
     lists_for_good_results l reads = lists_for_good_seen convert_parts (convert_contract can GivesInConvertFused remaining).steps s at (map_id_is_results l) (gives_for_good_read (λ y. y) (λ y. y) answer_of_first_result l it reads)
 
-    pub lists_for_good_items : (l : List A) → RunsRead GivesInConvertFused Ok it l → ListsForGood (seen_as convert_parts (convert_contract can GivesInConvertFused remaining)).steps s (items l)
+    pub lists_for_good_items : (l : List A) → RunsRead GivesInConvertFused Ok it l → ListsForGood (parts_as convert_parts (convert_contract can GivesInConvertFused remaining)).steps s (items l)
     lists_for_good_items l reads = lists_for_good_seen convert_parts (convert_contract can GivesInConvertFused remaining).steps s at (map_is_items l) (gives_for_good_read Ok (λ x. Ok x) (λ r x e. answer_of_first_result r (Ok x) e) l it reads)

@@ -3,7 +3,7 @@ use Rattle.std.specs.Prelude.{◌≡◌, Option, Some, None, Ok, Err, List, reve
 use Rattle.std.specs.Iterator.{Count}
 use Rattle.std.proofs.Common.{refl, subst}
 use Rattle.fallible_contract.specs.Traces.{Answered}
-use Rattle.fallible_contract.specs.Contract.{seen_as}
+use Rattle.fallible_contract.specs.Contract.{parts_as}
 use Rattle.fallible_contract.specs.Lists.{Lists, RunsRead, RunsReadBack, result_answer, items, reversed}
 use Rattle.fallible_contract.proofs.Lemmas.Lists.Passing.{lists_seen}
 use Rattle.fallible_iterator.specs.Sources.Std.{std_element}
@@ -24,9 +24,9 @@ answer_is_end_where_none_given (Ok None) e = refl
 answer_is_end_where_none_given (Err d) e = elim d [ ]
 
 module _ {S A : Type 0} (can : S → Type 0) (gives : S → Option A → S → Type 0) (remaining : S → Count) (s : IntoFallible S) where
-  pub lists_elements : (l : List A) → RunsRead gives (λ x. x) s.it l → Lists (seen_as into_fallible_parts (into_fallible_contract can gives remaining)).steps s (items l)
+  pub lists_elements : (l : List A) → RunsRead gives (λ x. x) s.it l → Lists (parts_as into_fallible_parts (into_fallible_contract can gives remaining)).steps s (items l)
   lists_elements l reads = lists_seen into_fallible_parts (into_fallible_contract can gives remaining).steps s refl (map_is_items l) (gives_read (λ x. x) never can gives remaining (λ x. x) (λ x. Ok x) answer_is_item_where_element_given l s.it reads)
 
   -- from the back
-  pub lists_elements_back : (l : List A) → RunsReadBack gives (λ x. x) s.it l → Lists (seen_as into_fallible_parts (into_fallible_contract can gives remaining)).steps s (reversed (items l))
-  lists_elements_back l reads = subst (Lists (seen_as into_fallible_parts (into_fallible_contract can gives remaining)).steps s) (items_reversed l) (lists_elements (reverse l) (runs_read_back gives (λ x. x) s.it l reads))
+  pub lists_elements_back : (l : List A) → RunsReadBack gives (λ x. x) s.it l → Lists (parts_as into_fallible_parts (into_fallible_contract can gives remaining)).steps s (reversed (items l))
+  lists_elements_back l reads = subst (Lists (parts_as into_fallible_parts (into_fallible_contract can gives remaining)).steps s) (items_reversed l) (lists_elements (reverse l) (runs_read_back gives (λ x. x) s.it l reads))

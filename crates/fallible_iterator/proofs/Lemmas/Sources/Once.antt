@@ -2,7 +2,7 @@
 use Rattle.std.specs.Prelude.{◌≡◌, Option, Some, None, Result, Ok, Err, List, [], ◌∷◌, reverse}
 use Rattle.std.proofs.Common.{refl, sym, ap, subst, ◌∙◌}
 use Rattle.fallible_contract.specs.Traces.{Answered, item, failure}
-use Rattle.fallible_contract.specs.Contract.{seen_as}
+use Rattle.fallible_contract.specs.Contract.{parts_as}
 use Rattle.fallible_contract.specs.Held.{once_step}
 use Rattle.fallible_contract.specs.Lists.{AlwaysGives, Lists, result_answer}
 use Rattle.fallible_contract.specs.BothEnds.{TakesFirst, ListsBothEnds}
@@ -16,10 +16,10 @@ use Rattle.fallible_iterator.specs.declared.sources.once_err.OnceErr.{OnceErr}
 always_gives_held : {A B E : Type 0} (f : B → Answered A E) (x : B) (y : Result A E) → f x ≡ result_answer y → AlwaysGives (once_step f) (Some x) (y ∷ [])
 always_gives_held {B = B} f x y e = λ r t w. (w.0 ∙ e, λ q u v. (subst (λ (z : Option B). once_step f z q u) w.1 v).0)
 
-pub lists_once : {A E : Type 0} (s : Once A E) (x : A) → once_parts s ≡ Some x → Lists (seen_as once_parts (once_contract {A = A} {E = E})).steps s (Ok x ∷ [])
+pub lists_once : {A E : Type 0} (s : Once A E) (x : A) → once_parts s ≡ Some x → Lists (parts_as once_parts (once_contract {A = A} {E = E})).steps s (Ok x ∷ [])
 lists_once {A} {E} s x parts = lists_seen once_parts (once_contract {A = A} {E = E}).steps s parts refl (always_gives_held item x (Ok x) refl)
 
-pub lists_once_err : {A E : Type 0} (s : OnceErr A E) (e : E) → once_err_parts s ≡ Some e → Lists (seen_as once_err_parts (once_err_contract {A = A} {E = E})).steps s (Err e ∷ [])
+pub lists_once_err : {A E : Type 0} (s : OnceErr A E) (e : E) → once_err_parts s ≡ Some e → Lists (parts_as once_err_parts (once_err_contract {A = A} {E = E})).steps s (Err e ∷ [])
 lists_once_err {A} {E} s e parts = lists_seen once_err_parts (once_err_contract {A = A} {E = E}).steps s parts refl (always_gives_held failure e (Err e) refl)
 
 -- ---- from both ends
@@ -46,8 +46,8 @@ module _ {V A B E : Type 0} (f : B → Answered A E) (to : B → Result A E) (sa
       (λ u k says r t step. takes_held_front (parts u) (parts t) r k says step)
       (λ u k says r t step. takes_held_back (parts u) (parts t) r k says step) s l is
 
-pub lists_both_ends_once : {A E : Type 0} (s : Once A E) (x : A) → once_parts s ≡ Some x → ListsBothEnds (seen_as once_parts (once_contract {A = A} {E = E})).steps (seen_as once_parts (once_contract {A = A} {E = E})).steps s (Ok x ∷ [])
+pub lists_both_ends_once : {A E : Type 0} (s : Once A E) (x : A) → once_parts s ≡ Some x → ListsBothEnds (parts_as once_parts (once_contract {A = A} {E = E})).steps (parts_as once_parts (once_contract {A = A} {E = E})).steps s (Ok x ∷ [])
 lists_both_ends_once {A} {E} s x parts = lists_both_ends_held {A = A} {E = E} item (λ y. Ok y) (λ y. refl) once_parts s (Ok x ∷ []) (rw parts refl)
 
-pub lists_both_ends_once_err : {A E : Type 0} (s : OnceErr A E) (e : E) → once_err_parts s ≡ Some e → ListsBothEnds (seen_as once_err_parts (once_err_contract {A = A} {E = E})).steps (seen_as once_err_parts (once_err_contract {A = A} {E = E})).steps s (Err e ∷ [])
+pub lists_both_ends_once_err : {A E : Type 0} (s : OnceErr A E) (e : E) → once_err_parts s ≡ Some e → ListsBothEnds (parts_as once_err_parts (once_err_contract {A = A} {E = E})).steps (parts_as once_err_parts (once_err_contract {A = A} {E = E})).steps s (Err e ∷ [])
 lists_both_ends_once_err {A} {E} s e parts = lists_both_ends_held {A = A} {E = E} failure (λ d. Err d) (λ d. refl) once_err_parts s (Err e ∷ []) (rw parts refl)

@@ -1,30 +1,17 @@
--- The runs of one answer again and again, and that it is the same each time.
-use Rattle.std.specs.Prelude.{◌≡◌, Some, None, Result, Ok, Err, List, [], ◌∷◌, All, ◌↔◌}
-use Rattle.std.proofs.Common.{refl, sym, subst, ap, ◌∙◌}
+-- The runs of one answer again and again, and that it is the same each time; or a clone, until one fails.
+use Rattle.std.specs.Prelude.{◌≡◌, ℕ, ◌+◌, zero, suc, ◌⊎◌, Some, None, Result, Ok, Err, List, [], ◌∷◌, All, ◌↔◌}
+use Rattle.std.proofs.Common.{refl, sym, subst, ap, inl, inr, arith, ◌∙◌}
 use Rattle.std.proofs.lemmas.List.Elements.{All-nil, All-cons, All-head, All-tail}
-use Rattle.fallible_contract.specs.Traces.{Answered, Run}
-use Rattle.fallible_contract.specs.Contract.{seen_as}
-use Rattle.fallible_contract.specs.Lists.{Repeats, result_answer}
+use Rattle.fallible_contract.specs.Traces.{Answered, Run, items_in}
+use Rattle.fallible_contract.specs.Contract.{parts_as}
+use Rattle.fallible_contract.specs.Lists.{Repeats, repeated, result_answer}
+use Rattle.fallible_core.specs.Cutting.Take.{take_contract, take_parts, take_step}
+use Rattle.fallible_core.specs.Refusing.{AnswersRefusal, GivesUntilRefused, ListsUntilRefused}
+use Rattle.fallible_core.proofs.Lemmas.Refusing.{lists_until_refused_seen}
 use Rattle.fallible_iterator.specs.Sources.Repeat.{RepeatAnswer, repeat_parts, repeat_contract}
 use Rattle.std.specs.declared.alloc.AllocError.{AllocError}
+use Rattle.fallible_core.specs.declared.cutting.take.Take.{Take}
 use Rattle.fallible_iterator.specs.declared.sources.repeat.Repeat.{Repeat}
-
--- ---- one answer again and again
-
-module _ {V A E : Type 0} (P : V → Answered A E → Type 0) where
-  abbrev answers_again : V → Answered A E → V → Type 0
-  answers_again v r w = P v r × (w ≡ v)
-
-  all_of_run_again : (trace : List (Answered A E)) (v w : V) → Run answers_again v trace w → All (P v) trace × (w ≡ v)
-  all_of_run_again [] v w h = (All-nil (P v), sym h)
-  all_of_run_again (r ∷ rest) v w h = let p = all_of_run_again rest v w (subst (λ u. Run answers_again u rest w) h.1.1 h.2) in (All-cons (P v) r rest h.1.0 p.0, p.1)
-
-  run_of_all_answers_again : (trace : List (Answered A E)) (v w : V) → All (P v) trace × (w ≡ v) → Run answers_again v trace w
-  run_of_all_answers_again [] v w h = sym h.1
-  run_of_all_answers_again (r ∷ rest) v w h = (v, (All-head (P v) r rest h.0, refl), run_of_all_answers_again rest v w (All-tail (P v) r rest h.0, h.1))
-
-  pub run_again_is_all_such_answers : (v : V) (trace : List (Answered A E)) (w : V) → Run answers_again v trace w ↔ (All (P v) trace × (w ≡ v))
-  run_again_is_all_such_answers v trace w = (all_of_run_again trace v w, run_of_all_answers_again trace v w)
 
 -- ---- the same answer each time
 
@@ -46,5 +33,32 @@ module _ {A E : Type 0} (is_clone : A → A → Type 0) (is_infallible : A → T
   repeat_answer_is_item (Ok None) p = absurd p
   repeat_answer_is_item (Err e) p = absurd (p.0 granted)
 
-  pub repeats_clones : (s : Repeat A E) → repeat_parts s ≡ v → Repeats (seen_as repeat_parts (repeat_contract is_clone is_infallible from)).steps s (Ok v)
+  pub repeats_clones : (s : Repeat A E) → repeat_parts s ≡ v → Repeats (parts_as repeat_parts (repeat_contract is_clone is_infallible from)).steps s (Ok v)
   repeats_clones s parts = repeats_seen repeat_parts (RepeatAnswer is_clone is_infallible from) s (Ok v) (λ r p. repeat_answer_is_item r (subst (λ (w : A). RepeatAnswer is_clone is_infallible from w r) parts p))
+
+-- ---- where a clone may fail
+
+module _ {A E : Type 0} (is_clone : A → A → Type 0) (is_infallible : A → Type 0) (from : AllocError → E → Type 0) where
+  abbrev RepeatSteps : Repeat A E → Answered A E → Repeat A E → Type 0
+  RepeatSteps = (parts_as repeat_parts (repeat_contract is_clone is_infallible from)).steps
+
+  -- a clone of the value, which is one item, or an allocation failure
+  clone_or_refusal : (v : A) (r : Answered A E) → RepeatAnswer is_clone is_infallible from v r → AnswersRefusal from r ⊎ ((x : A) × (r ≡ Ok (Some x)) × is_clone v x)
+  clone_or_refusal v (Ok (Some x)) p = inr (x, refl, p)
+  clone_or_refusal v (Ok None) p = absurd p
+  clone_or_refusal v (Err e) p = inl (e, refl, p.1)
+
+  gives_repeated_until_refused : (n : ℕ) (s : Repeat A E) (v : A) → repeat_parts s ≡ v → GivesUntilRefused is_clone (take_step RepeatSteps) from (s, n) (repeated n v)
+  unfolding repeated
+  gives_repeated_until_refused zero s v at = λ r t w. w.0
+  gives_repeated_until_refused (suc n) s v at = λ r t w. elim (clone_or_refusal v r (subst (λ (k : A). RepeatAnswer is_clone is_infallible from k r) at w.0.0)) [
+    | inl q ↦ inl q
+    | inr k ↦
+        let counts : t.1 + items_in (r ∷ []) ≡ suc n = w.1 in
+        let one : items_in (r ∷ []) ≡ 1 = ap (λ (q : Answered A E). items_in (q ∷ [])) k.1 in
+        inr (rw k.1 k.2, subst (λ (j : ℕ). GivesUntilRefused is_clone (take_step RepeatSteps) from (t.0, j) (repeated n v)) (let is : n ≡ t.1 = omega (arith, counts, one) in is) (gives_repeated_until_refused n t.0 v (w.0.1 ∙ at)))
+  ]
+
+  -- `take` lists clones of the value, until one fails
+  pub lists_repeated_until_refused : (s : Take (Repeat A E)) (made : Repeat A E) (n : ℕ) (v : A) → repeat_parts made ≡ v → take_parts s ≡ (made, n) → ListsUntilRefused is_clone (parts_as take_parts (take_contract (parts_as repeat_parts (repeat_contract is_clone is_infallible from)))).steps from s (repeated n v)
+  lists_repeated_until_refused s made n v at parts = lists_until_refused_seen is_clone from take_parts (take_step RepeatSteps) s parts refl (gives_repeated_until_refused n made v at)

@@ -9,18 +9,6 @@ use Rattle.fallible_contract.specs.Traces.{Answered, Run}
 use Rattle.fallible_contract.specs.Lists.{AlwaysGives, RunsRead, RunsReadBack, result_answer}
 use Rattle.fallible_iterator.specs.Sources.Std.{std_step, StdTrace, std_element}
 
-module _ {S A E Z : Type 0} (of_item : A → Z) (of_failure : E → Z) (can : S → Type 0) (gives : S → Option Z → S → Type 0) (remaining : S → Count) where
-  std_trace_of_run : (trace : List (Answered A E)) (s t : S) → Run (std_step of_item of_failure can gives remaining) s trace t → StdTrace of_item of_failure can gives remaining s trace t
-  std_trace_of_run [] s t h = h
-  std_trace_of_run (r ∷ rest) s t h = (h.0, h.1, std_trace_of_run rest h.0 t h.2)
-
-  run_of_std_trace : (trace : List (Answered A E)) (s t : S) → StdTrace of_item of_failure can gives remaining s trace t → Run (std_step of_item of_failure can gives remaining) s trace t
-  run_of_std_trace [] s t h = h
-  run_of_std_trace (r ∷ rest) s t h = (h.0, h.1, run_of_std_trace rest h.0 t h.2)
-
-  pub runs_are_std_traces : (s : S) (trace : List (Answered A E)) (t : S) → Run (std_step of_item of_failure can gives remaining) s trace t ↔ StdTrace of_item of_failure can gives remaining s trace t
-  runs_are_std_traces s trace t = (std_trace_of_run trace s t, run_of_std_trace trace s t)
-
 -- ---- what it lists
 
 module _ {S Z X : Type 0} (gives : S → Option Z → S → Type 0) (h : X → Z) where

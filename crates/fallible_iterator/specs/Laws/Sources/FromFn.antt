@@ -32,4 +32,5 @@ module _ {F A E : Type 0} (g : Mut F (Unit {0}) (Answered A E)) where
       lenders = refl;
     };
     bounded = λ f. ((λ e. e), (λ p. p));
+    traced = λ _ _ _. ((λ h. h), (λ h. h));
   }

@@ -5,6 +5,7 @@ use Rattle.fallible_contract.specs.Traces.{Answered, item, end}
 use Rattle.fallible_contract.specs.Contract.{Contract, KeptByDraw, Lawful}
 use Rattle.fallible_contract.specs.Held.{held_count, once_step}
 use Rattle.fallible_iterator.specs.Sources.Once.{once_contract}
+use Rattle.fallible_contract.proofs.Lemmas.Held.{once_run_iff_once_trace}
 
 module _ {A E : Type 0} where
   abbrev OnceContract : Contract (Option A) A E
@@ -21,4 +22,4 @@ module _ {A E : Type 0} where
   kept_by_draw_once None r w step = subst (λ (q : Answered A E). KeptByDraw OnceContract None q w) (sym step.0) (subst (λ (u : Option A). KeptByDraw OnceContract None end u) (sym step.1) kept_by_draw_once_ended)
 
   pub lawful_once : Lawful OnceContract
-  lawful_once = record { kept_by_draw = λ v r w c step. kept_by_draw_once v r w step; bounded = λ v. ((λ e. (held_count v, omega arith)), (λ p. tt)) }
+  lawful_once = record { kept_by_draw = λ v r w c step. kept_by_draw_once v r w step; bounded = λ v. ((λ e. (held_count v, omega arith)), (λ p. tt)); traced = once_run_iff_once_trace item }

@@ -1,5 +1,5 @@
 -- The contract over a std iterator is lawful, from the front and from both ends.
-use Rattle.std.specs.Prelude.{◌≡◌, Result, List, [], ◌∷◌, map, ◌≤◌, Option, Some, None, Ok, Err}
+use Rattle.std.specs.Prelude.{◌≡◌, Result, List, [], ◌∷◌, map, ◌≤◌, Option, Some, None, Ok, Err, ◌↔◌}
 use Rattle.std.specs.Iterator.{Count, IsFinite, size}
 use Rattle.std.proofs.Common.{refl, arith}
 use Rattle.fallible_contract.specs.Traces.{Answered, Run, item, failure}
@@ -8,7 +8,7 @@ use Rattle.fallible_contract.specs.Ends.{LawfulEnds}
 use Rattle.fallible_contract.specs.BothEnds.{step_at, RunAtEnds}
 use Rattle.fallible_contract.specs.Lists.{result_answer}
 use Rattle.fallible_iterator.specs.Sources.IntoFallible.{never}
-use Rattle.fallible_iterator.specs.Sources.Std.{std_element, std_step, std_contract, std_ends, IsAskable, Comes, IsAskableAtEnds, ComesAtEnds}
+use Rattle.fallible_iterator.specs.Sources.Std.{std_element, std_step, std_contract, std_ends, IsAskable, Comes, IsAskableAtEnds, ComesAtEnds, StdTrace}
 use Rattle.fallible_contract.specs.declared.answers.Side.{Side}
 use Rattle.fallible_contract.specs.declared.answers.Side.TheVariants.{Front, Back}
 
@@ -22,6 +22,18 @@ pub std_element_of_item_answer_is_some : {A : Type 0} (z : A) → std_element {A
 std_element_of_item_answer_is_some z = refl
 
 -- ---- draws that are each one call, whatever is required of them and whatever may come
+
+module _ {S A E Z : Type 0} (of_item : A → Z) (of_failure : E → Z) (can : S → Type 0) (gives : S → Option Z → S → Type 0) (remaining : S → Count) where
+  std_trace_of_run : (trace : List (Answered A E)) (s t : S) → Run (std_step of_item of_failure can gives remaining) s trace t → StdTrace of_item of_failure can gives remaining s trace t
+  std_trace_of_run [] s t h = h
+  std_trace_of_run (r ∷ rest) s t h = (h.0, h.1, std_trace_of_run rest h.0 t h.2)
+
+  run_of_std_trace : (trace : List (Answered A E)) (s t : S) → StdTrace of_item of_failure can gives remaining s trace t → Run (std_step of_item of_failure can gives remaining) s trace t
+  run_of_std_trace [] s t h = h
+  run_of_std_trace (r ∷ rest) s t h = (h.0, h.1, run_of_std_trace rest h.0 t h.2)
+
+  pub runs_are_std_traces : (s : S) (trace : List (Answered A E)) (t : S) → Run (std_step of_item of_failure can gives remaining) s trace t ↔ StdTrace of_item of_failure can gives remaining s trace t
+  runs_are_std_traces s trace t = (std_trace_of_run trace s t, run_of_std_trace trace s t)
 
 module _ {S A E Z : Type 0} (of_item : A → Z) (of_failure : E → Z) (can : S → Type 0) (gives : S → Option Z → S → Type 0) (remaining : S → Count) (Askable : S → Type 0) (Arrives : S → Answered A E → Type 0) where
   abbrev step_of_std : S → Answered A E → S → Type 0
@@ -58,6 +70,7 @@ module _ {S A E Z : Type 0} (of_item : A → Z) (of_failure : E → Z) (can : S 
       lenders = refl;
     };
     bounded = λ s. ((λ f. (size (remaining s), (f, omega arith))), (λ p. p.1.0));
+    traced = runs_are_std_traces of_item of_failure can gives remaining;
   }
 
 -- ---- from the front

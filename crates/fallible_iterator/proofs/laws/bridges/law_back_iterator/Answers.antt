@@ -1,6 +1,6 @@
 -- An element from the back is the answer that it becomes.
 use Rattle.std.proofs.Common.{refl}
-use Rattle.fallible_contract.proofs.Lemmas.LawForm.{traces_are_of_parts}
+use Rattle.fallible_contract.specs.Laws.LawForm.{traces_are_of_parts}
 use Rattle.fallible_core.specs.Bridges.Iterator.{iterator_parts}
 use Rattle.fallible_core.proofs.Lemmas.Bridges.{each_run_reads_list}
 use Rattle.fallible_iterator.proofs.Lemmas.Bridges.{run_transposed_iff, is_askable_at_ends_converted}

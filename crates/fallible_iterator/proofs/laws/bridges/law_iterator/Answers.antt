@@ -1,7 +1,7 @@
 -- An element is the answer that it becomes.
 use Rattle.std.proofs.Common.{refl, sym, ap, subst, ◌∙◌}
 use Rattle.fallible_contract.specs.Lists.{Lists}
-use Rattle.fallible_contract.proofs.Lemmas.LawForm.{traces_are_of_parts}
+use Rattle.fallible_contract.specs.Laws.LawForm.{traces_are_of_parts}
 use Rattle.fallible_contract.proofs.Lemmas.Lists.Passing.{lists_seen}
 use Rattle.fallible_core.specs.Bridges.Iterator.{iterator_parts}
 use Rattle.fallible_iterator.specs.Sources.Convert.{convert_parts}

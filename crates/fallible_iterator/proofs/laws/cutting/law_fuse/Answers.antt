@@ -1,6 +1,6 @@
 -- A run of the values is one of their parts, which the law of the parts speaks of.
 use Rattle.std.proofs.Common.{refl}
-use Rattle.fallible_contract.proofs.Lemmas.LawForm.{traces_are_of_parts}
+use Rattle.fallible_contract.specs.Laws.LawForm.{traces_are_of_parts}
 use Rattle.fallible_core.specs.Cutting.Fuse.{fuse_parts}
 use Rattle.fallible_core.proofs.Lemmas.Cutting.Fuse.{fuse_law}
 use Rattle.fallible_iterator.proofs.laws.cutting.law_fuse.Goals as goal

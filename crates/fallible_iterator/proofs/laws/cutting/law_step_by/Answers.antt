@@ -1,8 +1,8 @@
 -- A run of the values is one of their parts, which the law of the parts speaks of.
 use Rattle.std.proofs.Common.{refl}
-use Rattle.fallible_contract.proofs.Lemmas.LawForm.{traces_are_of_parts}
+use Rattle.fallible_contract.specs.Laws.LawForm.{traces_are_of_parts}
 use Rattle.fallible_core.specs.Cutting.StepBy.{step_by_parts}
-use Rattle.fallible_core.proofs.Lemmas.Cutting.StepBy.{step_by_law}
+use Rattle.fallible_core.specs.Laws.Cutting.StepBy.{step_by_law}
 use Rattle.fallible_iterator.proofs.laws.cutting.law_step_by.Goals as goal
 
 pub returns : goal.returns

@@ -1,7 +1,7 @@
 -- A run of the values is one of their parts, which is a trace, answer by answer.
 use Rattle.std.proofs.Common.{refl}
-use Rattle.fallible_contract.proofs.Lemmas.LawForm.{traces_are_of_parts, run_at_one_answer_iff_law}
-use Rattle.fallible_contract.proofs.Lemmas.Passing.{passing_by_answers}
+use Rattle.fallible_contract.specs.Laws.LawForm.{traces_are_of_parts, run_at_one_answer_iff_law}
+use Rattle.fallible_contract.specs.Laws.Passing.{passing_by_answers}
 use Rattle.fallible_core.specs.OneToOne.Cloned.{cloned_parts}
 use Rattle.fallible_iterator.proofs.laws.ends.law_back_cloned.Goals as goal
 

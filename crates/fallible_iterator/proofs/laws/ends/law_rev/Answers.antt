@@ -1,6 +1,6 @@
 -- A run of the values is one of their parts, from the other end.
 use Rattle.std.proofs.Common.{refl}
-use Rattle.fallible_contract.proofs.Lemmas.LawForm.{traces_are_of_parts}
+use Rattle.fallible_contract.specs.Laws.LawForm.{traces_are_of_parts}
 use Rattle.fallible_core.specs.Ends.Rev.{rev_parts}
 use Rattle.fallible_iterator.proofs.laws.ends.law_rev.Goals as goal
 

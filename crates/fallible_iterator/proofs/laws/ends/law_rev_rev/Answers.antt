@@ -1,6 +1,6 @@
 -- A draw of it is one of the innermost source from the same end.
 use Rattle.std.proofs.Common.{refl}
-use Rattle.fallible_contract.proofs.Lemmas.LawForm.{traces_are_of_parts}
+use Rattle.fallible_contract.specs.Laws.LawForm.{traces_are_of_parts}
 use Rattle.fallible_contract.proofs.Lemmas.BothEnds.{lists_both_ends_through_view, lists_both_ends_at_view}
 use Rattle.fallible_iterator.proofs.Lemmas.Ends.{run_at_ends_same_on_parts}
 use Rattle.fallible_iterator.proofs.laws.ends.law_rev_rev.Goals as goal

@@ -1,6 +1,6 @@
 -- From the back it is a chain of the two sources from the back, swapped.
 use Rattle.std.proofs.Common.{subst, ap, sym}
-use Rattle.fallible_contract.specs.Contract.{seen_as}
+use Rattle.fallible_contract.specs.Contract.{parts_as}
 use Rattle.fallible_contract.specs.Ends.{from_back}
 use Rattle.fallible_contract.specs.Lists.{Lists}
 use Rattle.fallible_contract.proofs.Lemmas.Lists.Passing.{always_gives_seen}
@@ -15,7 +15,7 @@ returns-clause-back g c t u a b at first second =
     let s = c.args.s.now in
     let turned = of_parts (chain_back (chain_parts s)) in
     let listed = lists_chained m k turned u b a (ap (λ p. (p.1, s.first, sides_back p.2)) at) second (subst (λ p. Lists k.steps p a) (sym (ap (λ p. p.0) at)) first) in
-    record { runs = always_gives_seen (λ v. of_parts (chain_back (chain_parts v))) (seen_as chain_parts (chain_contract m k)).steps (chained b a) s listed.runs }
+    record { runs = always_gives_seen (λ v. of_parts (chain_back (chain_parts v))) (parts_as chain_parts (chain_contract m k)).steps (chained b a) s listed.runs }
 
 pub returns-clause-both : goal.returns-clause-both
 returns-clause-both g c t u a b at first second = c.law_listed_chain.ensures.both c.args.s.now t u a b at first second

@@ -1,8 +1,8 @@
 -- A run of the values is one of their parts, which is a trace, answer by answer.
 use Rattle.std.proofs.Common.{refl}
-use Rattle.fallible_contract.proofs.Lemmas.LawForm.{traces_are_of_parts, run_at_one_answer_iff_law}
+use Rattle.fallible_contract.specs.Laws.LawForm.{traces_are_of_parts, run_at_one_answer_iff_law}
 use Rattle.fallible_core.specs.OneToOne.Enumerate.{enumerate_parts}
-use Rattle.fallible_core.proofs.Lemmas.OneToOne.Enumerate.{enumerate_trace_is_by_answers}
+use Rattle.fallible_core.specs.Laws.OneToOne.Enumerate.{enumerate_trace_is_by_answers}
 use Rattle.fallible_iterator.proofs.laws.one_to_one.law_enumerate.Goals as goal
 
 pub returns : goal.returns

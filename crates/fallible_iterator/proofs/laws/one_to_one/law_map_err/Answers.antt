@@ -1,8 +1,8 @@
 -- A run of the values is one of their parts, which is a trace, answer by answer.
 use Rattle.std.proofs.Common.{refl}
 use Rattle.fallible_contract.specs.Closures.{call_by_value}
-use Rattle.fallible_contract.proofs.Lemmas.Failing.{failing_by_answers}
-use Rattle.fallible_contract.proofs.Lemmas.LawForm.{traces_are_of_parts, run_at_one_answer_iff_law}
+use Rattle.fallible_contract.specs.Laws.Failing.{failing_by_answers}
+use Rattle.fallible_contract.specs.Laws.LawForm.{traces_are_of_parts, run_at_one_answer_iff_law}
 use Rattle.fallible_core.specs.OneToOne.MapErr.{map_err_parts}
 use Rattle.fallible_iterator.proofs.laws.one_to_one.law_map_err.Goals as goal
 

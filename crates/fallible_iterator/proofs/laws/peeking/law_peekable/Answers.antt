@@ -1,8 +1,9 @@
 -- A run of the values is one of their parts, which the law of the parts speaks of.
 use Rattle.std.proofs.Common.{refl}
-use Rattle.fallible_contract.proofs.Lemmas.LawForm.{traces_are_of_parts}
+use Rattle.fallible_contract.specs.Laws.LawForm.{traces_are_of_parts}
 use Rattle.fallible_core.specs.Peeking.Peekable.{peekable_parts}
-use Rattle.fallible_core.proofs.Lemmas.Peeking.Peekable.{peekable_law, lists_held}
+use Rattle.fallible_core.proofs.Lemmas.Peeking.Peekable.{lists_held}
+use Rattle.fallible_core.specs.Laws.Peeking.Peekable.{peekable_law}
 use Rattle.fallible_iterator.proofs.laws.peeking.law_peekable.Goals as goal
 
 pub returns-clause-traces : goal.returns-clause-traces

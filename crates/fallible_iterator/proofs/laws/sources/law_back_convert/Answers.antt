@@ -1,8 +1,8 @@
 -- A run from the back of the values is one of their parts, which the law of the parts speaks of; and what the std iterator reads from the back is what is listed.
 use Rattle.std.proofs.Common.{refl}
-use Rattle.fallible_contract.proofs.Lemmas.LawForm.{traces_are_of_parts}
+use Rattle.fallible_contract.specs.Laws.LawForm.{traces_are_of_parts}
 use Rattle.fallible_iterator.specs.Sources.Convert.{convert_parts}
-use Rattle.fallible_iterator.proofs.Lemmas.Sources.Std.{runs_are_std_traces}
+use Rattle.fallible_iterator.specs.Laws.Sources.Std.{runs_are_std_traces}
 use Rattle.fallible_iterator.proofs.Lemmas.Sources.Convert.{lists_results_back, lists_items_back}
 use Rattle.fallible_iterator.proofs.laws.sources.law_back_convert.Goals as goal
 

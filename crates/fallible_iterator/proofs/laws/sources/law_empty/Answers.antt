@@ -1,6 +1,6 @@
 -- There is one value alone.
 use Rattle.std.proofs.Common.{refl}
-use Rattle.fallible_iterator.proofs.Lemmas.Sources.Empty.{runs_are_empty_traces}
+use Rattle.fallible_iterator.specs.Laws.Sources.Empty.{runs_are_empty_traces}
 use Rattle.fallible_iterator.proofs.laws.sources.law_empty.Goals as goal
 
 pub returns : goal.returns

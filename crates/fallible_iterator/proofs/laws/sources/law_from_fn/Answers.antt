@@ -1,6 +1,6 @@
 -- A run of the struct is a run of the closure.
 use Rattle.std.proofs.Common.{refl}
-use Rattle.fallible_contract.proofs.Lemmas.LawForm.{traces_are_of_parts}
+use Rattle.fallible_contract.specs.Laws.LawForm.{traces_are_of_parts}
 use Rattle.fallible_iterator.specs.Sources.FromFn.{from_fn_parts}
 use Rattle.fallible_iterator.proofs.laws.sources.law_from_fn.Goals as goal
 

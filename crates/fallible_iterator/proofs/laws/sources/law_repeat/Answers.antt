@@ -1,8 +1,8 @@
 -- A run of the values is one of their parts, which the law of the parts speaks of.
 use Rattle.std.proofs.Common.{refl}
-use Rattle.fallible_contract.proofs.Lemmas.LawForm.{traces_are_of_parts}
+use Rattle.fallible_contract.specs.Laws.LawForm.{traces_are_of_parts}
 use Rattle.fallible_iterator.specs.Sources.Repeat.{repeat_parts, RepeatAnswer}
-use Rattle.fallible_iterator.proofs.Lemmas.Sources.Repeat.{run_again_is_all_such_answers}
+use Rattle.fallible_iterator.specs.Laws.Sources.Repeat.{run_again_is_all_such_answers}
 use Rattle.fallible_iterator.proofs.laws.sources.law_repeat.Goals as goal
 
 pub returns : goal.returns
