@@ -11,11 +11,13 @@ pub mod FindPosition
 pub mod FoldWhile
 pub mod FromBack
 pub mod GroupMap
+pub mod InOrder
 pub mod IsSorted
 pub mod IsSortedBy
 pub mod Join
 pub mod Joined
 pub mod KSmallest
+pub mod KSmallestFolds
 pub mod Keyed
 pub mod MinMax
 pub mod MinMaxBy

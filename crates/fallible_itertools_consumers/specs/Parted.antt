@@ -1,7 +1,7 @@
 -- The items and the failures of an iterator, as values of two kinds.
 use Rattle.std.specs.Prelude.{◌≡◌, ◌≤◌, Some, None, Result, Ok, Err, List, [], ◌∷◌, IfOk}
 use Rattle.std.specs.Iterator.{IsFinite, size}
-use Rattle.fallible_iterator.specs.Traces.{Answered}
+use Rattle.fallible_iterator.specs.Traces.{Answered, Run}
 use Rattle.fallible_iterator.specs.BothEnds.{items_listed, failures_listed}
 use Rattle.fallible_iterator.specs.Contract.{Contract}
 use Rattle.fallible_iterator.specs.Fault.{Fault}
@@ -43,6 +43,7 @@ parted_contract m = record {
   may_fail = λ s never. ⊥;
   hints = λ s h. h ≡ (0, None);
   lenders = λ s. m.lenders s;
+  traces = λ s trace t. Run (parted_step m.steps) s trace t;
 }
 
 -- the source

@@ -1,7 +1,7 @@
 -- Whether no two items are equal, by the fold whose state is the set of the items so far.
-use Rattle.std.specs.Prelude.{◌≡◌, ℕ, Bool, true, false, cond, ◌||◌, Option, Some, None, Result, Ok, Err, List, [], ◌∷◌, ◌++◌, length, map}
+use Rattle.std.specs.Prelude.{◌≡◌, ℕ, Bool, true, false, Option, Some, None, Result, Ok, Err, List, [], ◌∷◌, ◌++◌, length, map}
 use Rattle.std.specs.Cmp.{IsEquivalence}
-use Rattle.std.specs.HashSet.{HashSet, IsEmpty, Updates, contains}
+use Rattle.std.specs.HashSet.{HashSet, IsEmpty, contains}
 use Rattle.std.specs.Set.{is_member}
 use Rattle.std.specs.List.{FoldsTo, list_any}
 use Rattle.std.proofs.Common.{refl, sym, ap, subst, arith, ◌∙◌}

@@ -4,7 +4,7 @@ use Rattle.std.specs.List.{last_or, zip}
 use Rattle.std.proofs.Common.{refl, ap, subst, ◌∙◌}
 use Rattle.fallible_iterator.specs.Traces.{Answered, item}
 use Rattle.fallible_iterator.specs.Closures.{Calls}
-use Rattle.fallible_iterator.specs.Contract.{Contract, seen_as}
+use Rattle.fallible_iterator.specs.Contract.{Contract, parts_as}
 use Rattle.fallible_iterator.specs.Lists.{best_by, numbered}
 use Rattle.fallible_iterator.specs.OneToOne.Enumerate.{enumerate_contract, enumerate_parts}
 use Rattle.fallible_iterator.specs.Picking.{PickDrains, PickExit}
@@ -31,7 +31,7 @@ module _ {A E F : Type 0} (call : F → ℕ × A → ℕ × A → Result Orderin
   pick_exit_of_place_call bests g (Ok (Some x)) r h = absurd (comparison_never_fails g x r (last_or None bests) h)
 
   module _ {I : Type 0} (keeps : Ordering) (m : Contract I A E) where
-    pub place_drains : {s : Enumerate I} {it : I} {f : F} {found : Result (Option (ℕ × A)) E} {r : Result (Option ℕ) E} → PickDrains keeps call (seen_as enumerate_parts (enumerate_contract m)).steps s f found → enumerate_parts s ≡ (it, 0) → r ≡ place_of found → PlaceDrains keeps by m it r
+    pub place_drains : {s : Enumerate I} {it : I} {f : F} {found : Result (Option (ℕ × A)) E} {r : Result (Option ℕ) E} → PickDrains keeps call (parts_as enumerate_parts (enumerate_contract m)).steps s f found → enumerate_parts s ≡ (it, 0) → r ≡ place_of found → PlaceDrains keeps by m it r
     place_drains {s = s} {f = f} {found = found} d at is = record {
       found = found;
       picked = subst (λ (p : I × ℕ). PickDrains keeps (PlaceCall by) (enumerate_contract m).steps p tt found) at (record {

@@ -1,5 +1,5 @@
 -- The fold whose state is the last items keeps them.
-use Rattle.std.specs.Prelude.{◌≡◌, ℕ, ◌+◌, ◌-◌, ◌≤◌, List, [], ◌∷◌, ◌++◌, length, drop, Option, Some, None, Ok, Err}
+use Rattle.std.specs.Prelude.{◌≡◌, ℕ, ◌+◌, ◌-◌, ◌≤◌, List, [], ◌∷◌, ◌++◌, length, drop, Some, None, Ok, Err}
 use Rattle.std.proofs.Common.{refl, sym, ap, subst, ◌∙◌, arith}
 use Rattle.std.proofs.lemmas.List.{drop-append-le, drop-drop, length-append, length-drop}
 use Rattle.fallible_iterator.specs.Traces.{Answered}
@@ -7,7 +7,7 @@ use Rattle.fallible_iterator.specs.Folds.{Driven}
 use Rattle.fallible_iterator.specs.Collecting.{CollectsAll, FailsWith, RefusesItem}
 use Rattle.fallible_iterator.proofs.Lemmas.Collecting.{collects_all_gathered, fails_with_gathered, refuses_item_gathered}
 use Rattle.fallible_itertools_consumers.specs.Tail.{tail_of, IsTailOf, IsTailTurn, TailRefuses}
-use Rattle.std.specs.declared.ops.ControlFlow.TheVariants.{Continue, Break}
+use Rattle.std.specs.declared.ops.ControlFlow.TheVariants.{Continue}
 use Rattle.std.specs.declared.alloc.AllocError.{AllocError}
 
 module _ {A : Type 0} (n : ℕ) where
