@@ -6,6 +6,7 @@ pub use Rattle.fallible_itertools_adapters.proofs.Lemmas.Chunked
 pub use Rattle.fallible_itertools_adapters.proofs.Lemmas.ChunkedBy
 pub use Rattle.fallible_itertools_adapters.proofs.Lemmas.Chunks
 pub use Rattle.fallible_itertools_adapters.proofs.Lemmas.ChunksHints
+pub use Rattle.fallible_itertools_adapters.proofs.Lemmas.Closed
 pub use Rattle.fallible_itertools_adapters.proofs.Lemmas.Coalesce
 pub use Rattle.fallible_itertools_adapters.proofs.Lemmas.Copied
 pub use Rattle.fallible_itertools_adapters.proofs.Lemmas.CountedGroups
@@ -18,6 +19,7 @@ pub use Rattle.fallible_itertools_adapters.proofs.Lemmas.Deduped
 pub use Rattle.fallible_itertools_adapters.proofs.Lemmas.Duplicates
 pub use Rattle.fallible_itertools_adapters.proofs.Lemmas.DuplicatesOf
 pub use Rattle.fallible_itertools_adapters.proofs.Lemmas.ErrInto
+pub use Rattle.fallible_itertools_adapters.proofs.Lemmas.FuseAtFailure
 pub use Rattle.fallible_itertools_adapters.proofs.Lemmas.Groups
 pub use Rattle.fallible_itertools_adapters.proofs.Lemmas.Holding
 pub use Rattle.fallible_itertools_adapters.proofs.Lemmas.HoldingHints
@@ -56,6 +58,7 @@ pub use Rattle.fallible_itertools_adapters.proofs.Lemmas.UniqueBy
 pub use Rattle.fallible_itertools_adapters.proofs.Lemmas.UniqueByOf
 pub use Rattle.fallible_itertools_adapters.proofs.Lemmas.UniqueOf
 pub use Rattle.fallible_itertools_adapters.proofs.Lemmas.WindowHints
+pub use Rattle.fallible_itertools_adapters.proofs.Lemmas.UnlessRefused
 pub use Rattle.fallible_itertools_adapters.proofs.Lemmas.WithPosition
 pub use Rattle.fallible_itertools_adapters.proofs.Lemmas.WithPositionHints
 pub use Rattle.fallible_itertools_adapters.proofs.Lemmas.ZipEq
@@ -72,11 +75,13 @@ pub use Rattle.fallible_itertools_consumers.proofs.Lemmas.FindPosition
 pub use Rattle.fallible_itertools_consumers.proofs.Lemmas.FoldWhile
 pub use Rattle.fallible_itertools_consumers.proofs.Lemmas.FromBack
 pub use Rattle.fallible_itertools_consumers.proofs.Lemmas.GroupMap
+pub use Rattle.fallible_itertools_consumers.proofs.Lemmas.InOrder
 pub use Rattle.fallible_itertools_consumers.proofs.Lemmas.IsSorted
 pub use Rattle.fallible_itertools_consumers.proofs.Lemmas.IsSortedBy
 pub use Rattle.fallible_itertools_consumers.proofs.Lemmas.Join
 pub use Rattle.fallible_itertools_consumers.proofs.Lemmas.Joined
 pub use Rattle.fallible_itertools_consumers.proofs.Lemmas.KSmallest
+pub use Rattle.fallible_itertools_consumers.proofs.Lemmas.KSmallestFolds
 pub use Rattle.fallible_itertools_consumers.proofs.Lemmas.Keyed
 pub use Rattle.fallible_itertools_consumers.proofs.Lemmas.MinMax
 pub use Rattle.fallible_itertools_consumers.proofs.Lemmas.MinMaxBy

@@ -13,6 +13,7 @@ pub use Rattle.fallible_itertools_adapters.specs.DedupByWithCount
 pub use Rattle.fallible_itertools_adapters.specs.DedupWithCount
 pub use Rattle.fallible_itertools_adapters.specs.Duplicates
 pub use Rattle.fallible_itertools_adapters.specs.ErrInto
+pub use Rattle.fallible_itertools_adapters.specs.FuseAtFailure
 pub use Rattle.fallible_itertools_adapters.specs.Holding
 pub use Rattle.fallible_itertools_adapters.specs.InspectErr
 pub use Rattle.fallible_itertools_adapters.specs.Interleave
@@ -36,6 +37,7 @@ pub use Rattle.fallible_itertools_adapters.specs.TupleWindows
 pub use Rattle.fallible_itertools_adapters.specs.Tuples
 pub use Rattle.fallible_itertools_adapters.specs.Unique
 pub use Rattle.fallible_itertools_adapters.specs.UniqueBy
+pub use Rattle.fallible_itertools_adapters.specs.UnlessRefused
 pub use Rattle.fallible_itertools_adapters.specs.WithPosition
 pub use Rattle.fallible_itertools_adapters.specs.ZipEq
 pub use Rattle.fallible_itertools_adapters.specs.ZipLongest

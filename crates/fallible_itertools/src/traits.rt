@@ -4,22 +4,24 @@ ghost use Rattle.std.specs.HashMap.{get, spare};
 ghost use Rattle.std.specs.HashSet.{IsEmpty};
 ghost use Rattle.std.specs.Set.{ClonesAreEqual};
 ghost use Rattle.std.specs.VecDeque.{deque_capacity, deque_items, deque_len};
-ghost use Rattle.std.specs.Prelude.{◌≡◌, ℕ, ◌+◌, ◌≤◌, List, None, Result, ◌-◌, ◌^◌, ◌⊎◌, true, Option, Ok, Err, false, Bool, Some, IfOk, ⊤, ◌<◌, vec_items};
+ghost use Rattle.std.specs.Prelude.{◌≡◌, ℕ, ◌+◌, ◌≤◌, List, None, Result, ◌-◌, ◌^◌, ◌⊎◌, true, Option, Ok, Err, false, Bool, Some, IfOk, ⊤, ◌<◌, length, vec_items};
 ghost use Rattle.std.specs.Cmp.{IsStrictWeakOrder, IsTotalOrder};
 ghost use Rattle.std.specs.Fn.{ComparesAs, ComputesKey};
 ghost use Rattle.std.specs.Iterator.{IsFinite};
 ghost use Rattle.std.specs.declared.cmp.Ordering.{Ordering};
 ghost use Rattle.std.specs.declared.cmp.Ordering.TheVariants.{Greater, Less};
+ghost use Rattle.fallible_iterator.specs.BothEnds.{failures_listed};
 ghost use Rattle.fallible_iterator.specs.Clauses.{OverList, OverListWith, OverBoth};
 ghost use Rattle.fallible_iterator.specs.Closures.{IsCallable, call_by_reference, takes_by_reference, call_by_value, takes_by_value};
 ghost use Rattle.fallible_iterator.specs.Collecting.{Collects};
 ghost use Rattle.fallible_iterator.specs.Comparing.{OneIsFinite, read_as, reads_eq};
-ghost use Rattle.fallible_iterator.specs.Contract.{seen_as, AtMost, Stays};
+ghost use Rattle.fallible_iterator.specs.Contract.{seen_as, parts_as, AtMost, Stays};
 ghost use Rattle.fallible_iterator.specs.Fault.TheVariants.{Source};
 ghost use Rattle.fallible_iterator.specs.Failing.{failures_mapped};
 ghost use Rattle.fallible_iterator.specs.Folds as fold;
 ghost use Rattle.fallible_iterator.specs.Lists as list;
 ghost use Rattle.fallible_iterator.specs.Making.{ListsMade};
+ghost use Rattle.fallible_iterator.specs.Refusing.{ListsUntilRefused};
 ghost use Rattle.fallible_iterator.specs.OneToOne.Enumerate.{IsNumberable, enumerate_contract, enumerate_parts};
 ghost use Rattle.fallible_iterator.specs.OneToOne.Map.{map_contract};
 ghost use Rattle.fallible_iterator.specs.Picking.{call_at_two, takes_at_two};
@@ -37,10 +39,11 @@ ghost use Rattle.fallible_itertools_adapters.specs.DedupBy.{dedup_by_asks, dedup
 ghost use Rattle.fallible_itertools_adapters.specs.DedupByKey as dedup_by_key;
 ghost use Rattle.fallible_itertools_adapters.specs.DedupByWithCount.{dedup_by_with_count_asks, dedup_by_with_count_contract, dedup_by_with_count_parts, dedup_by_with_count_takes};
 ghost use Rattle.fallible_itertools_adapters.specs.DedupWithCount.{dedup_with_count_contract, dedup_with_count_parts};
-ghost use Rattle.fallible_itertools_adapters.specs.Duplicates.{ListsUnlessRefused, duplicates_came, duplicates_contract, duplicates_of, duplicates_parts, duplicates_source};
+ghost use Rattle.fallible_itertools_adapters.specs.Duplicates.{duplicates_came, duplicates_contract, duplicates_of, duplicates_parts, duplicates_source};
 ghost use Rattle.fallible_itertools_consumers.specs.Equal.{FirstCall, TestCall, contained, equal_to_first, equal_value, rest_contained, rest_unequal, unequal_pick, value_or_both};
 ghost use Rattle.fallible_itertools_adapters.specs.ErrInto.{err_into_contract, err_into_parts};
 ghost use Rattle.fallible_itertools_consumers.specs.ExactlyOne.{AtMostOneDrains, at_most_one_of, wanting_one};
+ghost use Rattle.fallible_itertools_adapters.specs.FuseAtFailure.{fuse_at_failure_contract, fuse_at_failure_parts, up_to_failure};
 ghost use Rattle.fallible_itertools_adapters.specs.Holding.{MayBeAsked};
 ghost use Rattle.fallible_itertools_consumers.specs.GroupMap.{GroupRefuses, IsGroupMapOf};
 ghost use Rattle.fallible_itertools_adapters.specs.InspectErr.{inspect_err_contract, inspect_err_parts, seen_call};
@@ -75,10 +78,11 @@ ghost use Rattle.fallible_itertools_consumers.specs.SortedUnstable.{CollectsInPl
 ghost use Rattle.fallible_itertools_adapters.specs.StopAfter.{stop_after_contract, stop_after_items, stop_after_parts, stopped_after};
 ghost use Rattle.fallible_itertools_adapters.specs.TakeWhileInclusive as inclusive;
 ghost use Rattle.fallible_itertools_consumers.specs.CheckedSum.{TotalDrains, totalled};
-ghost use Rattle.fallible_itertools_adapters.specs.TupleWindows.{tuple_windows_contract, tuple_windows_parts, windowed};
+ghost use Rattle.fallible_itertools_adapters.specs.TupleWindows.{HasSecondCloned, tuple_windows_contract, tuple_windows_parts, windowed};
 ghost use Rattle.fallible_itertools_adapters.specs.Tuples.{tupled, tuples_contract, tuples_parts};
 ghost use Rattle.fallible_itertools_adapters.specs.Unique.{unique_contract, unique_of, unique_parts, unique_seen, unique_source};
 ghost use Rattle.fallible_itertools_adapters.specs.UniqueBy as unique_by;
+ghost use Rattle.fallible_itertools_adapters.specs.UnlessRefused.{ListsUnlessRefused};
 ghost use Rattle.fallible_itertools_consumers.specs.UntilFailure.{CollectedUntilAs, CollectsUntil, rest_failure};
 ghost use Rattle.fallible_itertools_adapters.specs.WithPosition.{positioned, with_position_contract, with_position_parts};
 ghost use Rattle.fallible_itertools_adapters.specs.ZipEq as zip_eq;
@@ -94,9 +98,9 @@ use fallible_iterator::extending::{
 use fallible_iterator::{Collect, FallibleIterator, Fault, IntoFallibleIterator};
 use fallible_itertools_adapters::{
     ChunkBy, Chunks, Coalesce, Copied, Dedup, DedupBy, DedupByKey, DedupByWithCount,
-    DedupWithCount, Duplicates, ErrInto, InspectErr, Interleave, Intersperse, IntersperseWith,
-    Merge, MergeBy, MergeJoinBy, OrElse, PadUsing, Positions, StopAfter, TakeWhileInclusive,
-    TupleWindows, Tuples, Unique, UniqueBy, WithPosition, ZipEq, ZipLongest,
+    DedupWithCount, Duplicates, ErrInto, FuseAtFailure, InspectErr, Interleave, Intersperse,
+    IntersperseWith, Merge, MergeBy, MergeJoinBy, OrElse, PadUsing, Positions, StopAfter,
+    TakeWhileInclusive, TupleWindows, Tuples, Unique, UniqueBy, WithPosition, ZipEq, ZipLongest,
 };
 use fallible_itertools_consumers::all_unique::{AllUniqueTurn, unique_or_fault};
 use fallible_itertools_consumers::checked_sum::{
@@ -361,6 +365,8 @@ pub trait FallibleItertools: FallibleIterator {
     ///
     /// Memory: if a clone can't be allocated, the failure converted from `AllocError` is yielded in place of that pair, and the next pair begins with the later item.
     ///
+    /// Proof: where a clone may fail, pairs of an item and a clone of the next one are listed up to the first allocation failure.
+    ///
     /// ```
     /// let readings = [Ok::<u32, AllocError>(150), Ok(7), Ok(700)];
     /// let mut it = convert(readings.into_iter()).tuple_windows();
@@ -379,6 +385,12 @@ pub trait FallibleItertools: FallibleIterator {
             → list.Lists (seen_as tuple_windows_parts (tuple_windows_contract Self.Item.is_clone
             Self.Item.is_infallible Self.Error.from_gives Self.contract)).steps result
             (windowed l) }
+        ensures until_refused { (l : List (Result Self.Item Self.Error))
+            → list.Lists Self.contract.steps self l
+            → ListsUntilRefused (HasSecondCloned Self.Item.is_clone)
+            (seen_as tuple_windows_parts (tuple_windows_contract Self.Item.is_clone
+            Self.Item.is_infallible Self.Error.from_gives Self.contract)).steps
+            Self.Error.from_gives result (windowed l) }
     {
         TupleWindows::new(self)
     }
@@ -1013,7 +1025,7 @@ pub trait FallibleItertools: FallibleIterator {
         T: Copy,
         ensures parts { copied_parts result ≡ (self, tt) }
         ensures lists { OverList Self.contract.steps self
-            (λ l. list.Lists (seen_as copied_parts (copied_contract Self.contract)).steps
+            (λ l. list.Lists (parts_as copied_parts (copied_contract Self.contract)).steps
             result (list.pointed_to l)) }
     {
         Copied::new(self)
@@ -1041,6 +1053,11 @@ pub trait FallibleItertools: FallibleIterator {
         ensures refused { inclusive.inclusive_refused result ≡ false }
         ensures lists { OverListWith (list.Acts (call_by_reference P.FnMut) predicate) Self.contract.steps
             self (λ h l. list.Lists (seen_as inclusive.inclusive_parts
+            (inclusive.inclusive_contract Self.contract P.FnMut)).steps
+            result (inclusive.taken_while_inclusive h l)) }
+        ensures for_good { OverListWith (list.Acts (call_by_reference P.FnMut) predicate)
+            Self.contract.steps self (λ h l. list.all_of h l ≡ Ok false
+            → list.ListsForGood (seen_as inclusive.inclusive_parts
             (inclusive.inclusive_contract Self.contract P.FnMut)).steps
             result (inclusive.taken_while_inclusive h l)) }
     {
@@ -1072,7 +1089,7 @@ pub trait FallibleItertools: FallibleIterator {
         ensures callable { IsCallable (seen_call F.FnMut) (takes_by_reference F.FnMut)
             (Self.contract.may_fail self) f }
         ensures lists { OverList Self.contract.steps self
-            (λ l. list.Lists (seen_as inspect_err_parts
+            (λ l. list.Lists (parts_as inspect_err_parts
             (inspect_err_contract Self.contract F.FnMut)).steps result l) }
     {
         InspectErr::new(self, f)
@@ -1097,7 +1114,7 @@ pub trait FallibleItertools: FallibleIterator {
         ensures parts { err_into_parts result ≡ (self, tt) }
         ensures lists { (convert : Self.Error → E) → list.Converts E.from_gives convert
             → OverList Self.contract.steps self
-            (λ l. list.Lists (seen_as err_into_parts
+            (λ l. list.Lists (parts_as err_into_parts
             (err_into_contract E.from_gives Self.contract)).steps result
             (failures_mapped convert l)) }
     {
@@ -1130,10 +1147,34 @@ pub trait FallibleItertools: FallibleIterator {
             (Self.contract.may_fail self) f }
         ensures parts { or_else_parts result ≡ (self, f) }
         ensures lists { OverListWith (list.Acts (call_by_value F.FnMut) f) Self.contract.steps self
-            (λ h l. list.Lists (seen_as or_else_parts
+            (λ h l. list.Lists (parts_as or_else_parts
             (or_else_contract Self.contract F.FnMut)).steps result (recovered h l)) }
     {
         OrElse::new(self, f)
+    }
+
+    /// Yields what the source yields up to its first failure, and that one too. Then it is exhausted.
+    ///
+    /// Creating it draws nothing. Up to the failure `next` draws once. It fails as the source does. Items and `Ok(None)` of the source pass. After the failure it draws nothing, and each call returns `Ok(None)`.
+    ///
+    /// Requires: nothing, so the source may be endless. `next` requires that it may be called on the source.
+    ///
+    /// ```
+    /// let mut it = convert([Ok::<u32, u8>(150), Err(1), Ok(7)].into_iter()).fuse_at_failure();
+    /// let drawn = [it.next(), it.next(), it.next()];
+    /// assert_eq!(rt; drawn, [Ok(Some(150)), Err(1), Ok(None)]);
+    /// ```
+    final fn fuse_at_failure(self) -> FuseAtFailure<Self>
+        ensures parts { fuse_at_failure_parts result ≡ (self, false) }
+        ensures lists { OverList Self.contract.steps self
+            (λ l. list.Lists (seen_as fuse_at_failure_parts
+            (fuse_at_failure_contract Self.contract)).steps result (up_to_failure l)) }
+        ensures for_good { (l : List (Result Self.Item Self.Error)) (e : Self.Error)
+            → list.Lists Self.contract.steps self l → list.counted l ≡ Err e
+            → list.ListsForGood (seen_as fuse_at_failure_parts
+            (fuse_at_failure_contract Self.contract)).steps result (up_to_failure l) }
+    {
+        FuseAtFailure::new(self)
     }
 
     /// Yields what the source yields up to its n-th failure, and that one too. Then it is exhausted.
@@ -1163,6 +1204,9 @@ pub trait FallibleItertools: FallibleIterator {
         ensures lists { OverList Self.contract.steps self
             (λ l. list.Lists (seen_as stop_after_parts
             (stop_after_contract Self.contract)).steps result (stopped_after n l)) }
+        ensures for_good { (l : List (Result Self.Item Self.Error)) → list.Lists Self.contract.steps self l
+            → n ≤ length (failures_listed l) → list.ListsForGood (seen_as stop_after_parts
+            (stop_after_contract Self.contract)).steps result (stopped_after n l) }
     {
         let items = self.number();
         StopAfter::new(self, n, items)
@@ -1203,6 +1247,11 @@ pub trait FallibleItertools: FallibleIterator {
         ensures lists { OverBoth Self.contract.steps self I.into_gives other
             I.IntoFallibleIter.contract.steps
             (λ a b. list.Lists (seen_as merge_parts (merge_contract Self.Item.partial_cmp
+            Self.contract I.IntoFallibleIter.contract)).steps result
+            (merged_in_order Self.Item.partial_cmp a b)) }
+        ensures for_good { OverBoth Self.contract.steps self I.into_gives other
+            I.IntoFallibleIter.contract.steps
+            (λ a b. list.ListsForGood (seen_as merge_parts (merge_contract Self.Item.partial_cmp
             Self.contract I.IntoFallibleIter.contract)).steps result
             (merged_in_order Self.Item.partial_cmp a b)) }
     {
@@ -1246,6 +1295,13 @@ pub trait FallibleItertools: FallibleIterator {
             → OverBoth Self.contract.steps self I.into_gives other
             I.IntoFallibleIter.contract.steps
             (λ a b. list.Lists (seen_as merge_by.merge_by_parts
+            (merge_by.merge_by_contract Self.contract
+            I.IntoFallibleIter.contract F.FnMut)).steps result (merge_by.merged h a b)) }
+        ensures for_good { (h : Self.Item → Self.Item → Result Bool Self.Error)
+            → list.ActsWith (call_at_two F.FnMut) f h
+            → OverBoth Self.contract.steps self I.into_gives other
+            I.IntoFallibleIter.contract.steps
+            (λ a b. list.ListsForGood (seen_as merge_by.merge_by_parts
             (merge_by.merge_by_contract Self.contract
             I.IntoFallibleIter.contract F.FnMut)).steps result (merge_by.merged h a b)) }
     {
@@ -1293,6 +1349,13 @@ pub trait FallibleItertools: FallibleIterator {
             (λ a b. list.Lists (seen_as join_by.merge_join_by_parts
             (join_by.merge_join_by_contract Self.contract
             I.IntoFallibleIter.contract F.FnMut)).steps result (join_by.merge_joined h a b)) }
+        ensures for_good { (h : Self.Item → I.Item → Result Ordering Self.Error)
+            → list.ActsWith (join_by.call_at_both F.FnMut) f h
+            → OverBoth Self.contract.steps self I.into_gives other
+            I.IntoFallibleIter.contract.steps
+            (λ a b. list.ListsForGood (seen_as join_by.merge_join_by_parts
+            (join_by.merge_join_by_contract Self.contract
+            I.IntoFallibleIter.contract F.FnMut)).steps result (join_by.merge_joined h a b)) }
     {
         MergeJoinBy::new(self.fuse(), other.into_fallible_iter().fuse(), f)
     }
@@ -1326,6 +1389,11 @@ pub trait FallibleItertools: FallibleIterator {
         ensures lists { OverBoth Self.contract.steps self I.into_gives other
             I.IntoFallibleIter.contract.steps
             (λ a b. list.Lists (seen_as zip_longest.zip_longest_parts
+            (zip_longest.zip_longest_contract Self.contract
+            I.IntoFallibleIter.contract)).steps result (zip_longest.zipped_longest a b)) }
+        ensures for_good { OverBoth Self.contract.steps self I.into_gives other
+            I.IntoFallibleIter.contract.steps
+            (λ a b. list.ListsForGood (seen_as zip_longest.zip_longest_parts
             (zip_longest.zip_longest_contract Self.contract
             I.IntoFallibleIter.contract)).steps result (zip_longest.zipped_longest a b)) }
     {
@@ -1366,6 +1434,11 @@ pub trait FallibleItertools: FallibleIterator {
             I.IntoFallibleIter.contract.steps
             (λ a b. list.Lists (seen_as zip_eq.zip_eq_parts (zip_eq.zip_eq_contract Self.contract
             I.IntoFallibleIter.contract F.FnMut)).steps result (zip_eq.zipped_equal e a b)) }
+        ensures for_good { (e : Self.Error) → list.Acts (call_of_none F.FnMut) unequal (λ _. e)
+            → OverBoth Self.contract.steps self I.into_gives other
+            I.IntoFallibleIter.contract.steps
+            (λ a b. list.ListsForGood (seen_as zip_eq.zip_eq_parts (zip_eq.zip_eq_contract Self.contract
+            I.IntoFallibleIter.contract F.FnMut)).steps result (zip_eq.zipped_equal e a b)) }
     {
         ZipEq::new(self.fuse(), other.into_fallible_iter().fuse(), unequal)
     }
@@ -1401,6 +1474,11 @@ pub trait FallibleItertools: FallibleIterator {
             (λ a b. list.Lists (seen_as interleave.interleave_parts
             (interleave.interleave_contract Self.contract
             I.IntoFallibleIter.contract)).steps result (interleave.interleaved a b)) }
+        ensures for_good { OverBoth Self.contract.steps self I.into_gives other
+            I.IntoFallibleIter.contract.steps
+            (λ a b. list.ListsForGood (seen_as interleave.interleave_parts
+            (interleave.interleave_contract Self.contract
+            I.IntoFallibleIter.contract)).steps result (interleave.interleaved a b)) }
     {
         Interleave::new(self.fuse(), other.into_fallible_iter().fuse())
     }
@@ -1433,6 +1511,10 @@ pub trait FallibleItertools: FallibleIterator {
             (pad_using.pad_using_contract Self.contract F.FnMut)) result k }
         ensures lists { OverListWith (list.Acts (call_by_value F.FnMut) f) Self.contract.steps self
             (λ h l. list.Lists (seen_as pad_using.pad_using_parts
+            (pad_using.pad_using_contract Self.contract F.FnMut)).steps result
+            (pad_using.padded n h l)) }
+        ensures for_good { OverListWith (list.Acts (call_by_value F.FnMut) f) Self.contract.steps self
+            (λ h l. list.ListsForGood (seen_as pad_using.pad_using_parts
             (pad_using.pad_using_contract Self.contract F.FnMut)).steps result
             (pad_using.padded n h l)) }
     {
@@ -2299,17 +2381,17 @@ pub trait FallibleItertools: FallibleIterator {
         }
     }
 
-    /// Returns the `k` least items in a `Vec`, in order, or all if fewer come. Equal items keep their order, and the first of them are kept. It keeps at most `k` items at a time.
+    /// Returns the `k` least items in a `Vec`, in order, or all if fewer come. Equal items keep their order, and the first of them are kept. It keeps at most twice `k` items at a time.
     ///
     /// It draws up to `Ok(None)` or the first failure, also if `k` is 0. It fails with that failure, and what was kept is dropped. It consumes the iterator.
     ///
-    /// An item that isn't less than the last of `k` kept ones costs one comparison. Another one costs a binary search, and moves the items that stay after it.
+    /// An item that isn't less than the last of `k` kept ones costs one comparison. Another one is kept too. What is kept is sorted and cut to `k` when there are twice as many, so n items take no more than some n log `k` comparisons.
     ///
     /// Precondition: the iterator is finite.
     ///
     /// Requires: `next` may be called.
     ///
-    /// Memory: that failure is a `Fault::Source`. It also stops at an item for which an allocation failed, before `k` items were kept. Then it fails with `Fault::Memory`.
+    /// Memory: that failure is a `Fault::Source`. It also stops at an item for which an allocation failed, before `k` items were kept. Then it fails with `Fault::Memory`. An allocation that fails later it does without, and moves each item to its place by itself.
     ///
     /// Proof: no clause says what is left.
     ///
@@ -2338,7 +2420,10 @@ pub trait FallibleItertools: FallibleIterator {
     {
         let mut kept = Vec::new(alloc);
         match self.drive(&mut kept, &k_smallest::SmallestTurn { k }) {
-            Ok(None) => Ok(kept),
+            Ok(None) => {
+                k_smallest::cut(&mut kept, k);
+                Ok(kept)
+            }
             Ok(Some(refused)) => Err(Fault::Memory(refused)),
             Err(e) => Err(Fault::Source(e)),
         }
@@ -2474,9 +2559,9 @@ pub trait FallibleItertools: FallibleIterator {
     ///
     /// It fails as the source does. After a failure and after `Ok(None)` the next call draws again.
     ///
-    /// Precondition: n is not 0.
+    /// In Rust it panics if n is 0.
     ///
-    /// Requires: nothing else. `next` requires that it may be called on the source, and `Item: Drop`. It requires no bound: one call draws at most n times.
+    /// Requires: n is not 0. `next` requires that it may be called on the source, and `Item: Drop`. It requires no bound: one call draws at most n times.
     ///
     /// Memory: if an allocation fails, for the first item of a batch or for one for which the batch has no room, the failure converted from `AllocError` is a stop too: that item is lost, and no other.
     ///
@@ -2547,6 +2632,8 @@ pub trait FallibleItertools: FallibleIterator {
     ///
     /// Memory: if a clone can't be allocated, the failure converted from `AllocError` is yielded. The item is buffered then too, so none is lost.
     ///
+    /// Proof: where a clone may fail, clones of the list are listed up to the first allocation failure, if a value is a clone of itself.
+    ///
     /// ```
     /// let readings = [Ok::<u32, AllocError>(150), Ok(7)];
     /// let mut it = convert(readings.into_iter()).intersperse(0);
@@ -2565,6 +2652,13 @@ pub trait FallibleItertools: FallibleIterator {
             → list.Lists (seen_as intersperse_parts (intersperse_contract Self.Item.is_clone
             Self.Item.is_infallible Self.Error.from_gives Self.contract)).steps result
             (interspersed separator l) }
+        ensures until_refused { (l : List (Result Self.Item Self.Error))
+            → list.Lists Self.contract.steps self l
+            → ((x : Self.Item) → Self.Item.is_clone x x)
+            → ListsUntilRefused Self.Item.is_clone
+            (seen_as intersperse_parts (intersperse_contract Self.Item.is_clone
+            Self.Item.is_infallible Self.Error.from_gives Self.contract)).steps
+            Self.Error.from_gives result (interspersed separator l) }
     {
         Intersperse::new(self, separator)
     }
@@ -2644,8 +2738,8 @@ pub trait FallibleItertools: FallibleIterator {
         ensures numbers { enumerate_parts (positions_source result) ≡ (self, 0) }
         ensures numberable { Self.contract.can_next self → IsNumberable Self.contract self 0 }
         ensures lists { OverListWith (list.Acts (call_by_value F.FnMut) f) Self.contract.steps self
-            (λ h l. list.Lists (seen_as positions_parts (positions_contract
-            (seen_as enumerate_parts (enumerate_contract Self.contract)) F.FnMut)).steps result
+            (λ h l. list.Lists (parts_as positions_parts (positions_contract
+            (parts_as enumerate_parts (enumerate_contract Self.contract)) F.FnMut)).steps result
             (positions_where h l)) }
     {
         Positions::new(self.enumerate(), f)
@@ -2674,7 +2768,7 @@ pub trait FallibleItertools: FallibleIterator {
         ensures lists { (l : List (Result Self.Item Self.Error))
             → list.Lists Self.contract.steps self l
             → ClonesAreEqual Self.Item.eq Self.Item.is_clone
-            → ListsMade (λ x y. y ≡ x) (seen_as unique_parts
+            → ListsUnlessRefused ⊥ (seen_as unique_parts
             (unique_contract Self.Item.eq Self.Item.is_clone Self.Item.is_infallible
             Self.Error.from_gives Self.contract)).steps Self.Error.from_gives result
             (unique_of Self.Item.eq l) }
@@ -2711,7 +2805,7 @@ pub trait FallibleItertools: FallibleIterator {
         ensures empty { IsEmpty (unique_by.unique_by_keys result) }
         ensures closure { unique_by.unique_by_closure result ≡ f }
         ensures lists { OverListWith (list.Acts (call_by_reference F.FnMut) f) Self.contract.steps
-            self (λ h l. ListsMade (λ x y. y ≡ x) (seen_as unique_by.unique_by_parts
+            self (λ h l. ListsUnlessRefused ⊥ (seen_as unique_by.unique_by_parts
             (unique_by.unique_by_contract K.eq Self.Error.from_gives Self.contract F.FnMut)).steps
             Self.Error.from_gives result (unique_by.unique_by_key K.eq h l)) }
     {
@@ -2740,7 +2834,7 @@ pub trait FallibleItertools: FallibleIterator {
         ensures empty { hash.IsEmpty (duplicates_came result) }
         ensures lists { (l : List (Result Self.Item Self.Error))
             → list.Lists Self.contract.steps self l
-            → ListsUnlessRefused (seen_as duplicates_parts
+            → ListsUnlessRefused ⊤ (seen_as duplicates_parts
             (duplicates_contract Self.Item.eq Self.Error.from_gives Self.contract)).steps
             Self.Error.from_gives result (duplicates_of Self.Item.eq l) }
     {

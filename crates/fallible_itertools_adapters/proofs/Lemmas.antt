@@ -6,6 +6,7 @@ pub mod Chunked
 pub mod ChunkedBy
 pub mod Chunks
 pub mod ChunksHints
+pub mod Closed
 pub mod Coalesce
 pub mod Copied
 pub mod CountedGroups
@@ -18,6 +19,7 @@ pub mod Deduped
 pub mod Duplicates
 pub mod DuplicatesOf
 pub mod ErrInto
+pub mod FuseAtFailure
 pub mod Groups
 pub mod Holding
 pub mod HoldingHints
@@ -56,6 +58,7 @@ pub mod UniqueBy
 pub mod UniqueByOf
 pub mod UniqueOf
 pub mod WindowHints
+pub mod UnlessRefused
 pub mod WithPosition
 pub mod WithPositionHints
 pub mod ZipEq

@@ -1,7 +1,7 @@
 -- The contract of an adapter that looks ahead: what it yields is a function of what its source lists.
 use Rattle.std.specs.Prelude.{◌≡◌, ◌<◌, Some, None, Ok, Err, ⊤, Result, List}
 use Rattle.std.specs.Iterator.{IsFinite, size}
-use Rattle.fallible_iterator.specs.Traces.{Answered, end}
+use Rattle.fallible_iterator.specs.Traces.{Answered, Run, end}
 use Rattle.fallible_iterator.specs.Contract.{Contract, Fewer, KeptByDraws}
 use Rattle.fallible_iterator.specs.Lists.{Lists, nth_of}
 
@@ -35,4 +35,5 @@ making view answers left m = record {
   may_fail = λ _ _. ⊤;
   hints = λ _ h. h ≡ (0, None);
   lenders = λ s. m.lenders (view s);
+  traces = λ s trace t. Run (λ u r v. TakesMade m answers left (view u) r (view v)) s trace t;
 }

@@ -2,11 +2,12 @@
 use Rattle.std.specs.Prelude.{⊤, List}
 use Rattle.std.specs.Borrow.{Bor}
 use Rattle.fallible_iterator.specs.Traces.{Answered}
-use Rattle.fallible_iterator.specs.Contract.{Contract}
+use Rattle.fallible_iterator.specs.Contract.{Contract, Inverse}
 use Rattle.fallible_iterator.specs.Passing.{PassTrace, passing_contract}
 use Rattle.fallible_iterator.specs.Outcome.{Outcome}
 use Rattle.fallible_iterator.specs.Outcome.TheVariants.{Kept}
 use Rattle.fallible_itertools_adapters.specs.declared.copied.Copied.{Copied}
+use Rattle.std.proofs.Common.{refl}
 
 -- An item becomes the value that it points to; no closure is called.
 abbrev pub copied_outcome : {T E : Type 0} → Bor T → Unit {0} → Outcome T E
@@ -31,3 +32,7 @@ copied_source s = s.it
 -- the source, and nothing else
 abbrev pub copied_parts : {I : Type 0} → Copied I → I × Unit {0}
 copied_parts s = (copied_source s, tt)
+
+-- and back
+pub copied_made : {I : Type 0} → Inverse (copied_parts {I = I})
+copied_made = record { make = λ p. record { it = p.0 }; made = λ s. refl; has = λ p. refl }

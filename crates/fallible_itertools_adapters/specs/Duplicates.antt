@@ -1,14 +1,13 @@
 -- `Duplicates`, which yields each item that equals exactly one before it.
-use Rattle.std.specs.Prelude.{◌≡◌, Bool, true, false, nat_eq, Option, Some, None, Result, Ok, Err, List, [], ◌∷◌, ⊤, ◌⊎◌}
+use Rattle.std.specs.Prelude.{◌≡◌, Bool, true, false, nat_eq, Option, Some, None, Result, Ok, Err, List, [], ◌∷◌, ⊤}
 use Rattle.std.specs.HashMap.{HashMap, IsUnchanged, Updates, get, spare}
 use Rattle.std.specs.declared.hash.BuildHasherDefault.{BuildHasherDefault}
 use Rattle.std.specs.declared.hash.FoldHasher.{FoldHasher}
 use Rattle.std.specs.List.{count_by}
-use Rattle.fallible_iterator.specs.Traces.{Answered, end}
+use Rattle.fallible_iterator.specs.Traces.{Answered}
 use Rattle.fallible_iterator.specs.Contract.{Contract}
 use Rattle.fallible_iterator.specs.Hints.{upper_alone}
-use Rattle.fallible_iterator.specs.Lists.{result_answer}
-use Rattle.fallible_iterator.specs.Making.{AnswersRefusal, IsRefusal}
+use Rattle.fallible_iterator.specs.Making.{IsRefusal}
 use Rattle.fallible_iterator.specs.Passing.{PassTrace, leaving_out_contract}
 use Rattle.fallible_itertools_adapters.specs.Holding.{as_answered_item}
 use Rattle.std.specs.declared.alloc.AllocError.{AllocError}
@@ -76,13 +75,3 @@ module _ {A E : Type 0} (eq : A → A → Bool) where
   -- the items that equal exactly one before them; failures stay, and part nothing
   unfoldable pub duplicates_of : List (Result A E) → List (Result A E)
   duplicates_of l = duplicates_from [] l
-
-module _ {S A E : Type 0} (steps : S → Answered A E → S → Type 0) (from : AllocError → E → Type 0) where
-  -- Whatever is drawn from s, the answers are those of the list, in order, and then an end. An allocation failure may be in the place of any of these; what comes after it isn't stated.
-  abbrev pub GivesUnlessRefused : S → List (Result A E) → Type 0
-  GivesUnlessRefused s [] = (r : Answered A E) (t : S) → steps s r t → AnswersRefusal from r ⊎ (r ≡ end)
-  GivesUnlessRefused s (y ∷ l) = (r : Answered A E) (t : S) → steps s r t → AnswersRefusal from r ⊎ ((r ≡ result_answer y) × GivesUnlessRefused t l)
-
-  -- The answers of s, up to its first end or allocation failure, list l, or its beginning where they end with that failure.
-  pub record ListsUnlessRefused (s : S) (l : List (Result A E)) : Type 0 where
-    pub runs : GivesUnlessRefused s l

@@ -1,9 +1,10 @@
 -- `ErrInto`, by which failures are converted.
 use Rattle.std.specs.Prelude.{List, ⊤}
 use Rattle.fallible_iterator.specs.Traces.{Answered}
-use Rattle.fallible_iterator.specs.Contract.{Contract}
+use Rattle.fallible_iterator.specs.Contract.{Contract, Inverse}
 use Rattle.fallible_iterator.specs.Failing.{FailingTrace, failing_contract}
 use Rattle.fallible_itertools_adapters.specs.declared.err_into.ErrInto.{ErrInto}
+use Rattle.std.proofs.Common.{refl}
 
 -- the conversion of a failure, which holds nothing
 abbrev pub convert_call : {D E : Type 0} → (D → E → Type 0) → Unit {0} → D → E → Unit {0} → Type 0
@@ -24,3 +25,7 @@ err_into_source s = s.it
 -- the source, and nothing else
 abbrev pub err_into_parts : {I E : Type 0} → ErrInto I E → I × Unit {0}
 err_into_parts s = (err_into_source s, tt)
+
+-- and back
+pub err_into_made : {I E : Type 0} → Inverse (err_into_parts {I = I} {E = E})
+err_into_made = record { make = λ p. record { it = p.0; made = record {} }; made = λ s. refl; has = λ p. refl }

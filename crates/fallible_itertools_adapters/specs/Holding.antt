@@ -135,6 +135,7 @@ abbrev pub filling_contract : {S P X B E : Type 0} → Contract S X E → (P →
 filling_contract m asks pre held hints = record (stage_contract m stop_comes (holding_meets asks) (λ Q p. IsCallable asks pre (OrStop (λ x. Q (Ok (Some x)))) p) 1 held hints) {
   can_next = λ p. m.can_next p.0 × IsCallable asks pre (MayBeAsked m p.0) p.1.0;
   steps = λ p r q. holding_step asks m.steps p r q;
+  traces = λ p trace q. Run (λ u r v. holding_step asks m.steps u r v) p trace q;
 }
 
 -- The contract of an adapter that holds and may leave out many items: it requires a bound of the source besides.

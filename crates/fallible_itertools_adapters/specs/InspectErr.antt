@@ -3,10 +3,11 @@ use Rattle.std.specs.Prelude.{◌≡◌, List}
 use Rattle.std.specs.Fn.{Mut}
 use Rattle.std.specs.Borrow.{Bor}
 use Rattle.fallible_iterator.specs.Traces.{Answered}
-use Rattle.fallible_iterator.specs.Contract.{Contract}
+use Rattle.fallible_iterator.specs.Contract.{Contract, Inverse}
 use Rattle.fallible_iterator.specs.Closures.{call_by_reference, takes_by_reference}
 use Rattle.fallible_iterator.specs.Failing.{FailingTrace, failing_contract}
 use Rattle.fallible_itertools_adapters.specs.declared.inspect_err.InspectErr.{InspectErr}
+use Rattle.std.proofs.Common.{refl}
 
 -- one call on a reference to a failure, which stays as it is
 abbrev pub seen_call : {F D : Type 0} → Mut F (Bor D × Unit {0}) (Unit {0}) → F → D → D → F → Type 0
@@ -31,3 +32,7 @@ inspect_err_closure s = s.f
 -- the source and the closure
 abbrev pub inspect_err_parts : {I F : Type 0} → InspectErr I F → I × F
 inspect_err_parts s = (inspect_err_source s, inspect_err_closure s)
+
+-- and back
+pub inspect_err_made : {I F : Type 0} → Inverse (inspect_err_parts {I = I} {F = F})
+inspect_err_made = record { make = λ p. record { it = p.0; f = p.1 }; made = λ s. refl; has = λ p. refl }

@@ -69,6 +69,7 @@ turns_contract left right = record {
   may_fail = λ p e. left.may_fail p.0 e ⊎ right.may_fail p.1 e;
   hints = λ p h. (g : ℕ × Option ℕ) × (k : ℕ × Option ℕ) × left.hints p.0 g × right.hints p.1 k × (h ≡ hint_sum g k);
   lenders = λ p. lenders_of_both (left.lenders p.0) (right.lenders p.1);
+  traces = λ p trace q. Run (interleave_step left.steps right.steps) p trace q;
 }
 
 -- ---- the adapter

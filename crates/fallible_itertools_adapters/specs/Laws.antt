@@ -11,6 +11,7 @@ pub mod DedupByWithCount
 pub mod DedupWithCount
 pub mod Duplicates
 pub mod ErrInto
+pub mod FuseAtFailure
 pub mod Holding
 pub mod InspectErr
 pub mod Interleave

@@ -13,6 +13,7 @@ pub mod DedupByWithCount
 pub mod DedupWithCount
 pub mod Duplicates
 pub mod ErrInto
+pub mod FuseAtFailure
 pub mod Holding
 pub mod InspectErr
 pub mod Interleave
@@ -36,6 +37,7 @@ pub mod TupleWindows
 pub mod Tuples
 pub mod Unique
 pub mod UniqueBy
+pub mod UnlessRefused
 pub mod WithPosition
 pub mod ZipEq
 pub mod ZipLongest

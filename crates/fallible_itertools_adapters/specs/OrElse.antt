@@ -2,12 +2,13 @@
 use Rattle.std.specs.Prelude.{Option, Result, Ok, Err, List, [], ◌∷◌}
 use Rattle.std.specs.Fn.{Mut}
 use Rattle.fallible_iterator.specs.Traces.{Answered}
-use Rattle.fallible_iterator.specs.Contract.{Contract}
+use Rattle.fallible_iterator.specs.Contract.{Contract, Inverse}
 use Rattle.fallible_iterator.specs.Closures.{call_by_value, takes_by_value}
 use Rattle.fallible_iterator.specs.Failing.{RecoveringTrace, recovering_contract}
 use Rattle.fallible_iterator.specs.Filtering.FilterMap.{filter_map_outcome, cons_some}
 use Rattle.fallible_iterator.specs.Outcome.{Outcome}
 use Rattle.fallible_itertools_adapters.specs.declared.or_else.OrElse.{OrElse}
+use Rattle.std.proofs.Common.{refl}
 
 -- A failure becomes what an item becomes by `filter_map`: the item that the closure returns, nothing if it returns `None`, and a failure of it.
 abbrev pub or_else_outcome : {X D E : Type 0} → D → Result (Option X) E → Outcome X E
@@ -32,6 +33,10 @@ or_else_closure s = s.f
 -- the source and the closure
 abbrev pub or_else_parts : {I F : Type 0} → OrElse I F → I × F
 or_else_parts s = (or_else_source s, or_else_closure s)
+
+-- and back
+pub or_else_made : {I F : Type 0} → Inverse (or_else_parts {I = I} {F = F})
+or_else_made = record { make = λ p. record { it = p.0; f = p.1 }; made = λ s. refl; has = λ p. refl }
 
 -- ---- what it lists
 

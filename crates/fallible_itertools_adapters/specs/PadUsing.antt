@@ -3,9 +3,9 @@ use Rattle.std.specs.Prelude.{◌≡◌, ℕ, zero, suc, ◌-◌, ◌<◌, ◌�
 use Rattle.std.specs.Fn.{Mut}
 use Rattle.std.specs.Iterator.{at_most}
 use Rattle.fallible_iterator.specs.BothEnds.{items_listed}
-use Rattle.fallible_iterator.specs.Traces.{Answered}
+use Rattle.fallible_iterator.specs.Traces.{Answered, Run}
 use Rattle.fallible_iterator.specs.Closures.{IsCallable, call_by_value, takes_by_value}
-use Rattle.fallible_iterator.specs.Contract.{Contract, no_lenders, seen_as}
+use Rattle.fallible_iterator.specs.Contract.{Contract, no_lenders, seen_as, Inverse}
 use Rattle.fallible_iterator.specs.Cutting.Fuse.{fuse_ended, fuse_source}
 use Rattle.fallible_iterator.specs.OneToOne.Map.{map_outcome}
 use Rattle.fallible_iterator.specs.Passing.{PassTrace, passing_contract}
@@ -15,6 +15,7 @@ use Rattle.fallible_itertools_adapters.specs.ZipLongest.{longest_rule, zip_longe
 use Rattle.fallible_itertools_adapters.specs.declared.pad_using.PadUsing.{PadUsing}
 use Rattle.fallible_itertools_adapters.specs.declared.zip_longest.EitherOrBoth.{EitherOrBoth}
 use Rattle.fallible_itertools_adapters.specs.declared.zip_longest.EitherOrBoth.TheVariants.{Both, Left, Right}
+use Rattle.std.proofs.Common.{refl}
 
 -- ---- the indices below n
 
@@ -39,6 +40,7 @@ index_contract = record {
   may_fail = λ _ _. ⊥;
   hints = λ p h. h ≡ (p.1 - p.0, Some (p.1 - p.0));
   lenders = λ _. no_lenders;
+  traces = λ p trace q. Run index_step p trace q;
 }
 
 -- ---- the source beside them
@@ -101,6 +103,10 @@ pad_using_closure s = s.f
 -- the source beside the indices, and the closure
 abbrev pub pad_using_parts : {I F : Type 0} → PadUsing I F → (Fuse I × (ℕ × ℕ)) × F
 pad_using_parts s = ((pad_using_fused s, pad_using_indices s), pad_using_closure s)
+
+-- and back
+pub pad_using_made : {I F : Type 0} → Inverse (pad_using_parts {I = I} {F = F})
+pad_using_made = record { make = λ p. record { it = p.0.0; next = p.0.1.0; end = p.0.1.1; f = p.1 }; made = λ s. refl; has = λ p. refl }
 
 -- ---- what it lists
 

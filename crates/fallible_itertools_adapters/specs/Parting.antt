@@ -1,6 +1,6 @@
 -- Adapters that put a separator before each item but the first.
 use Rattle.std.specs.Prelude.{◌≡◌, ℕ, suc, ◌+◌, ◌-◌, ◌^◌, ◌⊎◌, min, cond, ltb, Bool, true, false, Option, Some, None, Result, Ok, Err, List, [], ◌∷◌}
-use Rattle.fallible_iterator.specs.Traces.{Answered, item, failure, end}
+use Rattle.fallible_iterator.specs.Traces.{Answered, Run, item, failure, end}
 use Rattle.fallible_iterator.specs.Contract.{Contract, seen_as}
 use Rattle.fallible_iterator.specs.Lists.{result_answer}
 use Rattle.fallible_itertools_adapters.specs.Holding.{held_one}
@@ -95,7 +95,7 @@ parting_hints m p h = (k : ℕ × Option ℕ) × m.hints p.0 k × (h ≡ intersp
 
 -- The contract: an item of the source is two to come, and a held one is one. Separators can be made where `can` holds.
 abbrev pub parting_contract : {S Z A E : Type 0} → (Z → Result A E → Z → Type 0) → (Z → Type 0) → Contract S A E → Contract (S × (Z × (Bool × Option A))) A E
-parting_contract separates can m = record (seen_as parting_stage (stage_contract m item_comes (parting_meets separates) (λ _ k. can k.0) 2 (λ _. 0) (parting_hints m))) { steps = parting_step separates m.steps }
+parting_contract separates can m = record (seen_as parting_stage (stage_contract m item_comes (parting_meets separates) (λ _ k. can k.0) 2 (λ _. 0) (parting_hints m))) { steps = parting_step separates m.steps; traces = λ p trace q. Run (parting_step separates m.steps) p trace q }
 
 -- ---- what it lists
 

@@ -2,7 +2,7 @@
 use Rattle.std.specs.Prelude.{ℕ, Bool, true, false, Option, Some, None, Result, Ok, Err, List}
 use Rattle.std.specs.Fn.{Mut}
 use Rattle.fallible_iterator.specs.Traces.{Answered}
-use Rattle.fallible_iterator.specs.Contract.{Contract}
+use Rattle.fallible_iterator.specs.Contract.{Contract, Inverse}
 use Rattle.fallible_iterator.specs.Closures.{call_by_value, takes_by_value, IsCallable}
 use Rattle.fallible_iterator.specs.Passing.{PassTrace, leaving_out_contract}
 use Rattle.fallible_iterator.specs.Hints.{upper_alone}
@@ -11,6 +11,7 @@ use Rattle.fallible_iterator.specs.Lists.{filter_mapped, numbered}
 use Rattle.fallible_iterator.specs.Outcome.{Outcome}
 use Rattle.fallible_iterator.specs.Enumerate.{Enumerate}
 use Rattle.fallible_itertools_adapters.specs.declared.positions.Positions.{Positions}
+use Rattle.std.proofs.Common.{refl}
 
 -- the position of an item for which the closure returns true, and nothing of another; or the closure's failure
 abbrev pub position_if : {E : Type 0} → ℕ → Result Bool E → Result (Option ℕ) E
@@ -50,6 +51,10 @@ positions_closure s = s.f
 -- the source, which numbers its items, and the closure
 abbrev pub positions_parts : {I F : Type 0} → Positions I F → Enumerate I × F
 positions_parts s = (positions_source s, positions_closure s)
+
+-- and back
+pub positions_made : {I F : Type 0} → Inverse (positions_parts {I = I} {F = F})
+positions_made = record { make = λ p. record { it = p.0; f = p.1 }; made = λ s. refl; has = λ p. refl }
 
 -- ---- what it lists
 

@@ -4,7 +4,7 @@ use Rattle.std.specs.List.{FoldsTo}
 use Rattle.std.specs.Iterator.{Count, count_add, count_map}
 use Rattle.fallible_iterator.specs.Traces.{Answered, Run, item, failure, is_end}
 use Rattle.fallible_iterator.specs.Closing.{closing_step}
-use Rattle.fallible_iterator.specs.Contract.{Contract, lenders_of_both, seen_as}
+use Rattle.fallible_iterator.specs.Contract.{Contract, lenders_of_both, parts_as}
 use Rattle.fallible_iterator.specs.Cutting.Fuse.{fuse_contract, fuse_parts}
 use Rattle.fallible_iterator.specs.Held.{held_count}
 use Rattle.fallible_iterator.specs.Hints.{hint_sum}
@@ -19,7 +19,7 @@ fused_steps steps s r t = closing_step steps (λ a. a) is_end (fuse_parts s) r (
 
 -- the contract of a fused source
 abbrev pub fused_contract : {S A E : Type 0} → Contract S A E → Contract (Fuse S) A E
-fused_contract m = seen_as fuse_parts (fuse_contract m)
+fused_contract m = parts_as fuse_parts (fuse_contract m)
 
 -- ---- one side
 
@@ -183,4 +183,5 @@ sides_contract left right rule hints = record {
   may_fail = λ p e. left.may_fail p.0.0 e ⊎ (right.may_fail p.1.0 e ⊎ rule.refuses (side_gives left p.0) (side_gives right p.1) p.2 e);
   hints = hints;
   lenders = λ p. lenders_of_both (left.lenders p.0.0) (right.lenders p.1.0);
+  traces = λ p trace q. Run (sides_step left.steps right.steps rule) p trace q;
 }

@@ -51,6 +51,10 @@ tuple_windows_parts s = (tuple_windows_source s, tuple_windows_held s)
 
 -- ---- what it lists
 
+-- a pair of the first of p itself and a clone of the second
+abbrev pub HasSecondCloned : {A : Type 0} → (A → A → Type 0) → A × A → A × A → Type 0
+HasSecondCloned is_clone p q = (q.0 ≡ p.0) × is_clone p.1 q.1
+
 -- an item y and the first of a list, and then each two adjacent items of the list
 unfoldable pub windows_from : {A E : Type 0} → A → List (Result A E) → List (Result (A × A) E)
 windows_from y [] = []

@@ -1,10 +1,10 @@
 //! The adapter that copies what each item points to.
 ghost use Rattle.std.specs.Prelude.{⊤, Result, Option, ◌≡◌};
-ghost use Rattle.fallible_iterator.specs.Contract.{seen_as};
-ghost use Rattle.fallible_iterator.specs.Ends.{from_back, ends_of, ends_seen_as};
-ghost use Rattle.fallible_iterator.specs.Laws.Contract.{lawful_seen};
-ghost use Rattle.fallible_iterator.specs.Laws.Ends.{lawful_ends_seen};
-ghost use Rattle.fallible_itertools_adapters.specs.Copied.{copied_call, copied_contract, copied_outcome, copied_parts};
+ghost use Rattle.fallible_iterator.specs.Contract.{parts_as};
+ghost use Rattle.fallible_iterator.specs.Ends.{from_back, ends_of, ends_parts_as};
+ghost use Rattle.fallible_iterator.specs.Laws.Contract.{lawful_parts};
+ghost use Rattle.fallible_iterator.specs.Laws.Ends.{lawful_ends_parts};
+ghost use Rattle.fallible_itertools_adapters.specs.Copied.{copied_call, copied_contract, copied_outcome, copied_made, copied_parts};
 ghost use Rattle.fallible_itertools_adapters.specs.Laws.Copied.{lawful_copied, lawful_ends_copied};
 
 use fallible_iterator::extending::{Outcome, Pass, drive_back_passing, drive_passing, passed};
@@ -31,7 +31,7 @@ impl<'a, T: Copy + 'a, I: FallibleIterator<Item = &'a T>> FallibleIterator for C
 
     type Error = I::Error;
 
-    ghost contract = { seen_as copied_parts (copied_contract I.contract) };
+    ghost contract = { parts_as copied_parts (copied_contract I.contract) };
 
     /// Draws once, and returns a copy of what the item points to.
     fn next(&mut self) -> Result<Option<T>, I::Error> {
@@ -50,12 +50,12 @@ impl<'a, T: Copy + 'a, I: FallibleIterator<Item = &'a T>> FallibleIterator for C
         drive_passing(&mut self.it, &mut (), &CopyPass, state, turn)
     }
 
-    ghost lawful = { lawful_seen copied_parts (lawful_copied I.lawful) };
+    ghost lawful = { lawful_parts copied_made (lawful_copied I.lawful) };
 }
 
 impl<'a, T: Copy + 'a, I: DoubleEndedFallibleIterator<Item = &'a T>> DoubleEndedFallibleIterator
     for Copied<I> {
-    ghost ends = { ends_seen_as copied_parts
+    ghost ends = { ends_parts_as copied_parts
         (ends_of (copied_contract (from_back I.contract I.ends))) };
 
     /// Draws once from the back, and returns a copy of what the item points to.
@@ -71,7 +71,7 @@ impl<'a, T: Copy + 'a, I: DoubleEndedFallibleIterator<Item = &'a T>> DoubleEnded
         drive_back_passing(&mut self.it, &mut (), &CopyPass, state, turn)
     }
 
-    ghost lawful_ends = { lawful_ends_seen copied_parts (lawful_ends_copied I.lawful_ends) };
+    ghost lawful_ends = { lawful_ends_parts copied_made (lawful_ends_copied I.lawful_ends) };
 }
 
 // A copy of what an item points to. It keeps no state.

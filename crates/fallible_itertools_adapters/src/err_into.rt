@@ -1,10 +1,10 @@
 //! The adapter that converts failures.
 ghost use Rattle.std.specs.Prelude.{Result, Option, ⊤, ◌≡◌};
-ghost use Rattle.fallible_iterator.specs.Contract.{seen_as};
-ghost use Rattle.fallible_iterator.specs.Ends.{from_back, ends_of, ends_seen_as};
-ghost use Rattle.fallible_iterator.specs.Laws.Contract.{lawful_seen};
-ghost use Rattle.fallible_iterator.specs.Laws.Ends.{lawful_ends_seen};
-ghost use Rattle.fallible_itertools_adapters.specs.ErrInto.{convert_call, err_into_contract, err_into_parts};
+ghost use Rattle.fallible_iterator.specs.Contract.{parts_as};
+ghost use Rattle.fallible_iterator.specs.Ends.{from_back, ends_of, ends_parts_as};
+ghost use Rattle.fallible_iterator.specs.Laws.Contract.{lawful_parts};
+ghost use Rattle.fallible_iterator.specs.Laws.Ends.{lawful_ends_parts};
+ghost use Rattle.fallible_itertools_adapters.specs.ErrInto.{convert_call, err_into_contract, err_into_made, err_into_parts};
 ghost use Rattle.fallible_itertools_adapters.specs.Laws.ErrInto.{lawful_err_into, lawful_ends_err_into};
 
 use fallible_iterator::extending::{Fail, drive_back_failing, drive_failing, failed};
@@ -38,7 +38,7 @@ impl<I: FallibleIterator, E: From<I::Error>> FallibleIterator for ErrInto<I, E> 
 
     type Error = E;
 
-    ghost contract = { seen_as err_into_parts (err_into_contract E.from_gives I.contract) };
+    ghost contract = { parts_as err_into_parts (err_into_contract E.from_gives I.contract) };
 
     /// Draws once, and converts a failure.
     fn next(&mut self) -> Result<Option<I::Item>, E> {
@@ -79,12 +79,12 @@ impl<I: FallibleIterator, E: From<I::Error>> FallibleIterator for ErrInto<I, E> 
         )
     }
 
-    ghost lawful = { lawful_seen err_into_parts (lawful_err_into E.from_gives I.lawful) };
+    ghost lawful = { lawful_parts err_into_made (lawful_err_into E.from_gives I.lawful) };
 }
 
 impl<I: DoubleEndedFallibleIterator, E: From<I::Error>> DoubleEndedFallibleIterator
     for ErrInto<I, E> {
-    ghost ends = { ends_seen_as err_into_parts
+    ghost ends = { ends_parts_as err_into_parts
         (ends_of (err_into_contract E.from_gives (from_back I.contract I.ends))) };
 
     /// Draws once from the back, and converts a failure.
@@ -110,7 +110,7 @@ impl<I: DoubleEndedFallibleIterator, E: From<I::Error>> DoubleEndedFallibleItera
         )
     }
 
-    ghost lawful_ends = { lawful_ends_seen err_into_parts
+    ghost lawful_ends = { lawful_ends_parts err_into_made
         (lawful_ends_err_into E.from_gives I.lawful_ends) };
 }
 

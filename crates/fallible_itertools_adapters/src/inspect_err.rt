@@ -1,11 +1,11 @@
 //! The adapter that calls a closure on each failure.
 ghost use Rattle.std.specs.Prelude.{Result, Option, ◌≡◌};
 ghost use Rattle.fallible_iterator.specs.Closures.{takes_by_reference};
-ghost use Rattle.fallible_iterator.specs.Contract.{seen_as};
-ghost use Rattle.fallible_iterator.specs.Ends.{from_back, ends_of, ends_seen_as};
-ghost use Rattle.fallible_iterator.specs.Laws.Contract.{lawful_seen};
-ghost use Rattle.fallible_iterator.specs.Laws.Ends.{lawful_ends_seen};
-ghost use Rattle.fallible_itertools_adapters.specs.InspectErr.{inspect_err_contract, inspect_err_parts, seen_call};
+ghost use Rattle.fallible_iterator.specs.Contract.{parts_as};
+ghost use Rattle.fallible_iterator.specs.Ends.{from_back, ends_of, ends_parts_as};
+ghost use Rattle.fallible_iterator.specs.Laws.Contract.{lawful_parts};
+ghost use Rattle.fallible_iterator.specs.Laws.Ends.{lawful_ends_parts};
+ghost use Rattle.fallible_itertools_adapters.specs.InspectErr.{inspect_err_contract, inspect_err_made, inspect_err_parts, seen_call};
 ghost use Rattle.fallible_itertools_adapters.specs.Laws.InspectErr.{lawful_inspect_err, lawful_ends_inspect_err};
 
 use fallible_iterator::extending::{Fail, drive_back_failing, drive_failing, failed};
@@ -33,7 +33,7 @@ impl<I: FallibleIterator, F: FnMut(&I::Error)> FallibleIterator for InspectErr<I
 
     type Error = I::Error;
 
-    ghost contract = { seen_as inspect_err_parts (inspect_err_contract I.contract F.FnMut) };
+    ghost contract = { parts_as inspect_err_parts (inspect_err_contract I.contract F.FnMut) };
 
     /// Draws once, and calls the closure if a failure came.
     fn next(&mut self) -> Result<Option<I::Item>, I::Error> {
@@ -60,12 +60,12 @@ impl<I: FallibleIterator, F: FnMut(&I::Error)> FallibleIterator for InspectErr<I
         failed(self.it.drive_to(goal), &mut self.f, &InspectErrFail)
     }
 
-    ghost lawful = { lawful_seen inspect_err_parts (lawful_inspect_err F.FnMut I.lawful) };
+    ghost lawful = { lawful_parts inspect_err_made (lawful_inspect_err F.FnMut I.lawful) };
 }
 
 impl<I: DoubleEndedFallibleIterator, F: FnMut(&I::Error)> DoubleEndedFallibleIterator
     for InspectErr<I, F> {
-    ghost ends = { ends_seen_as inspect_err_parts
+    ghost ends = { ends_parts_as inspect_err_parts
         (ends_of (inspect_err_contract (from_back I.contract I.ends) F.FnMut)) };
 
     /// Draws once from the back, and calls the closure if a failure came.
@@ -81,7 +81,7 @@ impl<I: DoubleEndedFallibleIterator, F: FnMut(&I::Error)> DoubleEndedFallibleIte
         drive_back_failing(&mut self.it, &mut self.f, &InspectErrFail, state, turn)
     }
 
-    ghost lawful_ends = { lawful_ends_seen inspect_err_parts
+    ghost lawful_ends = { lawful_ends_parts inspect_err_made
         (lawful_ends_inspect_err F.FnMut I.lawful_ends) };
 }
 

@@ -4,6 +4,7 @@ mod copied;
 mod counting;
 mod duplicates;
 mod failing;
+mod fuse_at_failure;
 mod grouping;
 mod holding;
 mod interleave;
@@ -36,6 +37,7 @@ pub use failing::{
     law_hints_listed_err_into, law_hints_listed_inspect_err, law_hints_or_else, law_inspect_err,
     law_listed_err_into, law_listed_inspect_err, law_listed_or_else, law_or_else,
 };
+pub use fuse_at_failure::{law_fuse_at_failure, law_hints_fuse_at_failure};
 pub use grouping::{
     law_chunk_by, law_chunked, law_chunked_by, law_chunks, law_hints_chunk_by, law_hints_chunks,
 };

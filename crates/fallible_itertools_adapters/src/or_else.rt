@@ -1,11 +1,11 @@
 //! The adapter that replaces failures: by an item, nothing or another failure.
 ghost use Rattle.std.specs.Prelude.{Result, Option, ◌≡◌};
 ghost use Rattle.fallible_iterator.specs.Closures.{call_by_value, takes_by_value};
-ghost use Rattle.fallible_iterator.specs.Contract.{seen_as};
-ghost use Rattle.fallible_iterator.specs.Ends.{from_back, ends_of, ends_seen_as};
-ghost use Rattle.fallible_iterator.specs.Laws.Contract.{lawful_seen};
-ghost use Rattle.fallible_iterator.specs.Laws.Ends.{lawful_ends_seen};
-ghost use Rattle.fallible_itertools_adapters.specs.OrElse.{or_else_contract, or_else_outcome, or_else_parts};
+ghost use Rattle.fallible_iterator.specs.Contract.{parts_as};
+ghost use Rattle.fallible_iterator.specs.Ends.{from_back, ends_of, ends_parts_as};
+ghost use Rattle.fallible_iterator.specs.Laws.Contract.{lawful_parts};
+ghost use Rattle.fallible_iterator.specs.Laws.Ends.{lawful_ends_parts};
+ghost use Rattle.fallible_itertools_adapters.specs.OrElse.{or_else_contract, or_else_outcome, or_else_made, or_else_parts};
 ghost use Rattle.fallible_itertools_adapters.specs.Laws.OrElse.{lawful_or_else, lawful_ends_or_else};
 
 use fallible_iterator::extending::{
@@ -36,7 +36,7 @@ impl<I: FallibleIterator, E, F: FnMut(I::Error) -> Result<Option<I::Item>, E>> F
 
     type Error = E;
 
-    ghost contract = { seen_as or_else_parts (or_else_contract I.contract F.FnMut) };
+    ghost contract = { parts_as or_else_parts (or_else_contract I.contract F.FnMut) };
 
     /// Draws until an item or an `Ok(None)` comes, or a failure for which the closure returns an item or fails.
     fn next(&mut self) -> Result<Option<I::Item>, E> {
@@ -56,7 +56,7 @@ impl<I: FallibleIterator, E, F: FnMut(I::Error) -> Result<Option<I::Item>, E>> F
         drive_recovering(&mut self.it, &mut self.f, &OrElsePass, left, state, turn)
     }
 
-    ghost lawful = { lawful_seen or_else_parts (lawful_or_else F.FnMut I.lawful) };
+    ghost lawful = { lawful_parts or_else_made (lawful_or_else F.FnMut I.lawful) };
 }
 
 impl<
@@ -64,7 +64,7 @@ impl<
     E,
     F: FnMut(I::Error) -> Result<Option<I::Item>, E>,
 > DoubleEndedFallibleIterator for OrElse<I, F> {
-    ghost ends = { ends_seen_as or_else_parts
+    ghost ends = { ends_parts_as or_else_parts
         (ends_of (or_else_contract (from_back I.contract I.ends) F.FnMut)) };
 
     /// Draws from the back until an item or an `Ok(None)` comes, or a failure for which the closure returns an item or fails.
@@ -81,7 +81,7 @@ impl<
         drive_back_recovering(&mut self.it, &mut self.f, &OrElsePass, left, state, turn)
     }
 
-    ghost lawful_ends = { lawful_ends_seen or_else_parts
+    ghost lawful_ends = { lawful_ends_parts or_else_made
         (lawful_ends_or_else F.FnMut I.lawful_ends) };
 }
 

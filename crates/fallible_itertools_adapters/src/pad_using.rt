@@ -1,9 +1,9 @@
 //! The adapter that yields what a closure returns for each index that no item has.
 ghost use Rattle.std.specs.Prelude.{Option, Result, ◌≡◌};
-ghost use Rattle.fallible_iterator.specs.Contract.{seen_as};
-ghost use Rattle.fallible_iterator.specs.Laws.Contract.{lawful_seen};
+ghost use Rattle.fallible_iterator.specs.Contract.{parts_as};
+ghost use Rattle.fallible_iterator.specs.Laws.Contract.{lawful_parts};
 ghost use Rattle.fallible_iterator.specs.OneToOne.Map.{map_outcome};
-ghost use Rattle.fallible_itertools_adapters.specs.PadUsing.{NextIndex, beside_index_step, pad_call, pad_takes, pad_using_contract, pad_using_parts};
+ghost use Rattle.fallible_itertools_adapters.specs.PadUsing.{NextIndex, beside_index_step, pad_call, pad_takes, pad_using_contract, pad_using_made, pad_using_parts};
 ghost use Rattle.fallible_itertools_adapters.specs.Laws.PadUsing.{lawful_pad_using};
 
 use crate::zip_longest::{EitherOrBoth, greater};
@@ -42,7 +42,7 @@ impl<I: FallibleIterator, F: FnMut(usize) -> Result<I::Item, I::Error>> Fallible
 
     type Error = I::Error;
 
-    ghost contract = { seen_as pad_using_parts (pad_using_contract I.contract F.FnMut) };
+    ghost contract = { parts_as pad_using_parts (pad_using_contract I.contract F.FnMut) };
 
     /// Draws once until the source returned `Ok(None)`. From then on it draws nothing, and calls the closure once until n items were yielded. Each fold draws so too.
     fn next(&mut self) -> Result<Option<I::Item>, I::Error> {
@@ -55,7 +55,7 @@ impl<I: FallibleIterator, F: FnMut(usize) -> Result<I::Item, I::Error>> Fallible
         greater(self.it.size_hint(), (missing, Some(missing)))
     }
 
-    ghost lawful = { lawful_seen pad_using_parts (lawful_pad_using F.FnMut I.lawful) };
+    ghost lawful = { lawful_parts pad_using_made (lawful_pad_using F.FnMut I.lawful) };
 }
 
 // An item as it is, and what the closure returns for an index alone.

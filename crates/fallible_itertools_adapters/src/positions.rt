@@ -1,11 +1,11 @@
 //! The adapter that yields the positions of the items for which its closure returns true.
 ghost use Rattle.std.specs.Prelude.{Result, Option, ◌≡◌};
 ghost use Rattle.fallible_iterator.specs.Closures.{call_by_value, takes_by_value};
-ghost use Rattle.fallible_iterator.specs.Contract.{seen_as};
-ghost use Rattle.fallible_iterator.specs.Laws.Contract.{lawful_seen};
+ghost use Rattle.fallible_iterator.specs.Contract.{seen_as, parts_as};
+ghost use Rattle.fallible_iterator.specs.Laws.Contract.{lawful_seen, lawful_parts};
 ghost use Rattle.fallible_iterator.specs.Laws.OneToOne.Enumerate.{lawful_enumerate};
-ghost use Rattle.fallible_iterator.specs.OneToOne.Enumerate.{enumerate_contract, enumerate_parts};
-ghost use Rattle.fallible_itertools_adapters.specs.Positions.{positions_contract, positions_outcome, positions_parts};
+ghost use Rattle.fallible_iterator.specs.OneToOne.Enumerate.{enumerate_contract, enumerate_made, enumerate_parts};
+ghost use Rattle.fallible_itertools_adapters.specs.Positions.{positions_contract, positions_outcome, positions_made, positions_parts};
 ghost use Rattle.fallible_itertools_adapters.specs.Laws.Positions.{lawful_positions};
 
 use fallible_iterator::extending::{FirstTurn, Outcome, Pass, drive_passing};
@@ -37,8 +37,8 @@ where
 
     type Error = I::Error;
 
-    ghost contract = { seen_as positions_parts
-        (positions_contract (seen_as enumerate_parts (enumerate_contract I.contract)) F.FnMut) };
+    ghost contract = { parts_as positions_parts
+        (positions_contract (parts_as enumerate_parts (enumerate_contract I.contract)) F.FnMut) };
 
     /// Draws until the closure returns true, or a failure or an `Ok(None)` comes. It calls the closure on each item.
     fn next(&mut self) -> Result<Option<usize>, I::Error> {
@@ -57,8 +57,8 @@ where
         drive_passing(&mut self.it, &mut self.f, &PositionsPass, state, turn)
     }
 
-    ghost lawful = { lawful_seen positions_parts
-        (lawful_positions F.FnMut (lawful_seen enumerate_parts (lawful_enumerate I.lawful))) };
+    ghost lawful = { lawful_parts positions_made
+        (lawful_positions F.FnMut (lawful_parts enumerate_made (lawful_enumerate I.lawful))) };
 }
 
 // What becomes of an item beside its position, by the closure's result.

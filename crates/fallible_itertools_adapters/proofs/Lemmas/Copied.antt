@@ -2,7 +2,7 @@
 use Rattle.std.specs.Prelude.{◌≡◌, Result, Ok, Err, List, [], ◌∷◌}
 use Rattle.std.specs.Borrow.{Bor}
 use Rattle.std.proofs.Common.{refl, ap}
-use Rattle.fallible_iterator.specs.Contract.{Contract, seen_as}
+use Rattle.fallible_iterator.specs.Contract.{Contract, parts_as}
 use Rattle.fallible_iterator.specs.Traces.{Answered}
 use Rattle.fallible_iterator.specs.Passing.{passing_step}
 use Rattle.fallible_iterator.specs.Lists.{Lists}
@@ -24,7 +24,7 @@ passed_of_copied_is_pointed_to [] = refl
 passed_of_copied_is_pointed_to (Ok x ∷ l) = ap (λ k. Ok x.now ∷ k) (passed_of_copied_is_pointed_to l)
 passed_of_copied_is_pointed_to (Err e ∷ l) = ap (λ k. Err e ∷ k) (passed_of_copied_is_pointed_to l)
 
-pub lists_copied : {S T E : Type 0} {it : S} (m : Contract S (Bor T) E) (s : Copied S) (l : List (Result (Bor T) E)) → copied_parts s ≡ (it, tt) → Lists m.steps it l → Lists (seen_as copied_parts (copied_contract m)).steps s (pointed_to l)
+pub lists_copied : {S T E : Type 0} {it : S} (m : Contract S (Bor T) E) (s : Copied S) (l : List (Result (Bor T) E)) → copied_parts s ≡ (it, tt) → Lists m.steps it l → Lists (parts_as copied_parts (copied_contract m)).steps s (pointed_to l)
 lists_copied {it = it} m s l parts i = lists_seen copied_parts (copied_contract m).steps s parts (passed_of_copied_is_pointed_to l) (always_gives_passed copied_call tt (λ x. tt) (λ x v g called. (refl, refl)) m.steps copied_outcome it l i.runs)
 
 -- from both ends

@@ -6,7 +6,7 @@ use Rattle.std.specs.Borrow.{Bor}
 use Rattle.std.proofs.Common.{refl, ap, sym, subst, ◌∙◌}
 use Rattle.fallible_iterator.specs.BothEnds.{ListsBothEnds}
 use Rattle.fallible_iterator.specs.Closures.{call_by_reference, Reaches, IsCallable}
-use Rattle.fallible_iterator.specs.Contract.{Contract, seen_as}
+use Rattle.fallible_iterator.specs.Contract.{Contract, parts_as}
 use Rattle.fallible_iterator.specs.Failing.{FailingAnswer, failing_step, failures_mapped}
 use Rattle.fallible_iterator.specs.Laws.Closures.{reaches_reflexive, reaches_by_call_first}
 use Rattle.fallible_iterator.specs.Laws.Failing.{drawn_once_of_trace}
@@ -35,7 +35,7 @@ failures_mapped_by_identity_is_same (Ok x ∷ l) = ap (λ k. Ok x ∷ k) (failur
 failures_mapped_by_identity_is_same (Err d ∷ l) = ap (λ k. Err d ∷ k) (failures_mapped_by_identity_is_same l)
 
 pub lists_inspected_failures : {S F X D : Type 0} {it : S} (m : Contract S X D) (g : Mut F (Bor D × Unit {0}) (Unit {0})) (s : InspectErr S F) (f : F) (l : List (Result X D)) → inspect_err_parts s ≡ (it, f) → Lists m.steps it l
-    → Lists (seen_as inspect_err_parts (inspect_err_contract m g)).steps s l
+    → Lists (parts_as inspect_err_parts (inspect_err_contract m g)).steps s l
 lists_inspected_failures {it = it} m g s f l parts i = lists_seen inspect_err_parts (inspect_err_contract m g).steps s parts (failures_mapped_by_identity_is_same l)
     (always_gives_failures_mapped (seen_call g) (λ k. Unit {0}) (λ d. d) (λ k d e n at called. (tt, called.1)) m.steps it f l tt i.runs)
 

@@ -6,13 +6,13 @@ use Rattle.fallible_iterator.specs.Contract.{Contract, seen_as}
 use Rattle.fallible_iterator.specs.Cutting.Fuse.{fuse_parts}
 use Rattle.fallible_iterator.specs.Hints.{hint_sum}
 use Rattle.fallible_iterator.specs.LawForm.{TracesAre}
-use Rattle.fallible_iterator.specs.Lists.{GivesForGood, Lists, result_answer}
+use Rattle.fallible_iterator.specs.Lists.{GivesForGood, Lists, result_answer, ListsForGood}
 use Rattle.fallible_iterator.specs.SoundHints.{AsSoundAsBoth}
 use Rattle.fallible_iterator.specs.Traces.{Answered, Run, Yields, item, end}
 use Rattle.fallible_iterator.specs.Fuse.{Fuse}
 use Rattle.fallible_iterator.proofs.Lemmas.Hints.Drawn.{if_some_at_least_of_smaller}
 use Rattle.fallible_iterator.proofs.Lemmas.Hints.Joining.{if_some_fitting_sum_at_least_both}
-use Rattle.fallible_iterator.proofs.Lemmas.LawForm.{traces_are_of_parts}
+use Rattle.fallible_iterator.specs.Laws.LawForm.{traces_are_of_parts}
 use Rattle.fallible_iterator.proofs.Lemmas.Lists.ForGood.{lists_once, lists_for_good_seen}
 use Rattle.fallible_iterator.specs.Interleaved.{Interleaved, of_neither, of_first, of_second}
 use Rattle.fallible_itertools_adapters.specs.Interleave.{InterleaveTrace, Turn, TurnsTrace, by_itself, by_other, interleave_contract, interleave_parts, interleave_step, interleaved, turn_answer, turn_draws, turns_drawn, waits_after}
@@ -154,8 +154,11 @@ module _ {S U A E : Type 0} (steps : S → Answered A E → S → Type 0) (other
   gives_for_good_in_turn s u a b i k = gives_for_good_where_each_answers_first (interleave_step steps others) (ListInTurn steps others) (λ p q r l d w. step_in_turn_answers_first p q r l d w) (interleaved a b) (s, u, false) (a, b, i, k, refl)
 
 module _ {S U A E : Type 0} (left : Contract S A E) (right : Contract U A E) (c : Interleave S U) {p : Fuse S} {q : Fuse U} (s : S) (u : U) (a b : List (Result A E)) where
+  pub lists_for_good_interleaved : interleave_parts c ≡ (p, q, false) → fuse_parts p ≡ (s, false) → fuse_parts q ≡ (u, false) → Lists left.steps s a → Lists right.steps u b → ListsForGood (seen_as interleave_parts (interleave_contract left right)).steps c (interleaved a b)
+  lists_for_good_interleaved parts fresh also i k = lists_for_good_seen interleave_parts (interleave_contract left right).steps c parts refl (gives_for_good_in_turn (fused_steps left.steps) (fused_steps right.steps) p q a b (gives_for_good_of_fresh left p s a fresh i) (gives_for_good_of_fresh right q u b also k))
+
   pub lists_interleaved : interleave_parts c ≡ (p, q, false) → fuse_parts p ≡ (s, false) → fuse_parts q ≡ (u, false) → Lists left.steps s a → Lists right.steps u b → Lists (seen_as interleave_parts (interleave_contract left right)).steps c (interleaved a b)
-  lists_interleaved parts fresh also i k = lists_once _ (lists_for_good_seen interleave_parts (interleave_contract left right).steps c parts refl (gives_for_good_in_turn (fused_steps left.steps) (fused_steps right.steps) p q a b (gives_for_good_of_fresh left p s a fresh i) (gives_for_good_of_fresh right q u b also k)))
+  lists_interleaved parts fresh also i k = lists_once _ (lists_for_good_interleaved parts fresh also i k)
 
 -- ---- hints
 

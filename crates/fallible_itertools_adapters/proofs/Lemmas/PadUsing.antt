@@ -1,27 +1,29 @@
 -- What `PadUsing` lists, that its closure may be called, and its hint.
-use Rattle.std.specs.Prelude.{◌≡◌, ℕ, zero, suc, ◌+◌, ◌-◌, ◌<◌, ◌≤◌, ⊤, false, max, Option, Some, Result, Ok, Err, List, [], ◌∷◌, ◌++◌, length, map}
+use Rattle.std.specs.Prelude.{◌≡◌, ℕ, zero, suc, ◌+◌, ◌-◌, ◌<◌, ◌≤◌, ⊤, false, max, Option, Some, None, Result, Ok, Err, List, [], ◌∷◌, ◌++◌, length, map}
 use Rattle.std.specs.List.{FoldsTo}
 use Rattle.std.specs.Fn.{Mut}
 use Rattle.std.proofs.Common.{refl, sym, ap, subst, ◌∙◌, arith, inl, inr, length-append}
 use Rattle.fallible_iterator.specs.BothEnds.{failures_listed, items_listed}
-use Rattle.fallible_iterator.specs.Traces.{Answered, Yields, item, end}
+use Rattle.fallible_iterator.specs.Traces.{Answered, Yields, failure, item, end}
 use Rattle.fallible_iterator.specs.Closures.{IsCallable, Reaches, call_by_value, takes_by_value}
-use Rattle.fallible_iterator.specs.Contract.{Contract, seen_as}
+use Rattle.fallible_iterator.specs.Contract.{Contract, parts_as}
 use Rattle.fallible_iterator.specs.Cutting.Fuse.{fuse_parts}
-use Rattle.fallible_iterator.specs.Lists.{Acts, GivesForGood, Lists}
+use Rattle.fallible_iterator.specs.Lists.{Acts, GivesForGood, Lists, ListsForGood, result_answer}
 use Rattle.fallible_iterator.specs.OneToOne.Map.{map_outcome, mapped}
 use Rattle.fallible_iterator.specs.SoundHints.{Brackets, HintsAsSoundAs}
 use Rattle.fallible_iterator.specs.Laws.Closures.{reaches_by_call_first, reaches_reflexive}
 use Rattle.fallible_iterator.proofs.Lemmas.Hints.Drawn.{as_sound_as_both_seen, as_sound_where_one_of_one, as_sound_seen}
 use Rattle.fallible_iterator.proofs.Lemmas.Hints.Passing.{one_of_one_passing}
-use Rattle.fallible_iterator.proofs.Lemmas.Lists.ForGood.{always_gives_of_gives_for_good, gives_for_good_seen}
-use Rattle.fallible_iterator.proofs.Lemmas.Lists.Passing.{always_gives_passed, lists_seen}
-use Rattle.fallible_iterator.proofs.Lemmas.OneToOne.Map.{leaves_none_out_of_map, map_never_ends, passed_is_mapped}
+use Rattle.fallible_iterator.specs.Outcome.TheVariants.{Kept, LeftOut, Failure, End}
+use Rattle.fallible_iterator.specs.Passing.{passing_step}
+use Rattle.fallible_iterator.specs.Laws.Passing.{Passes, done, end_passes, failure_passes, keeps, refuses, closes, leaves_out, passes_of_pass_trace}
+use Rattle.fallible_iterator.proofs.Lemmas.Lists.ForGood.{gives_for_good_seen, lists_for_good_seen, lists_once}
+use Rattle.fallible_iterator.proofs.Lemmas.OneToOne.Map.{leaves_none_out_of_map, map_never_ends}
 use Rattle.fallible_itertools_adapters.specs.Laws.ZipLongest.{is_lawful_rule_longest}
 use Rattle.fallible_itertools_adapters.specs.PadUsing.{beside_index_contract, both_sides, from_index, index_step, pad_call, pad_takes, pad_using_contract, pad_using_fused, pad_using_parts, padded}
 use Rattle.fallible_itertools_adapters.specs.Sides.{fused_contract, fused_steps}
 use Rattle.fallible_itertools_adapters.specs.ZipLongest.{longest_rule, right_alone, zipped_longest}
-use Rattle.fallible_itertools_adapters.proofs.Lemmas.Sides.{NoItemAfterEnd, no_item_after_end_of_fused, first_answer, gives_for_good_of_fresh, gives_for_good_where_each_answers_first, gives_for_good_sides, rest_of}
+use Rattle.fallible_itertools_adapters.proofs.Lemmas.Sides.{NoItemAfterEnd, no_item_after_end_of_fused, answers_first_where_gives_for_good, first_answer, gives_for_good_of_fresh, gives_for_good_where_each_answers_first, gives_for_good_sides, rest_of}
 use Rattle.fallible_itertools_adapters.proofs.Lemmas.ZipLongest.{as_sound_as_both_zip_longest, lists_by_longest}
 use Rattle.fallible_itertools_adapters.specs.declared.pad_using.PadUsing.{PadUsing}
 use Rattle.fallible_itertools_adapters.specs.declared.zip_longest.EitherOrBoth.{EitherOrBoth}
@@ -126,15 +128,83 @@ module _ {F X E : Type 0} (g : Mut F (ℕ × Unit {0}) (Result X E)) where
     unfolding padded
     mapped_is_padded n l = let all : n - 0 ≡ n = omega arith in let first : 0 + length (items_listed l) ≡ length (items_listed l) = omega arith in ap (λ k. mapped (pad_value h) (zipped_longest l (from_index (λ j. Ok j) 0 k))) all ∙ mapped_zipped_is_list_before_missing l 0 n ∙ ap (λ j. l ++ from_index h j (n - length (items_listed l))) first
 
-pub lists_padded : {S F A E : Type 0} {p : Fuse S} (m : Contract S A E) (g : Mut F (ℕ × Unit {0}) (Result A E)) (s : PadUsing S F) (f : F) (n : ℕ) (it : S) (h : ℕ → Result A E) (l : List (Result A E)) → pad_using_parts s ≡ ((p, (0, n)), f) → fuse_parts p ≡ (it, false) → Acts (call_by_value g) f h → Lists m.steps it l → Lists (seen_as pad_using_parts (pad_using_contract m g)).steps s (padded n h l)
-lists_padded {E = E} {p = p} m g s f n it h l parts fresh acts i =
+-- ---- an adapter that makes one answer of each of its source is fused where that is
+
+module _ {S F X B E : Type 0} (steps : S → Answered X E → S → Type 0) (call : F → X → Result B E → F → Type 0) (f : F) (h : X → Result B E) (acts : Acts call f h) where
+  abbrev MapSteps : S × F → Answered B E → S × F → Type 0
+  MapSteps = passing_step steps call map_outcome
+
+  -- the answer and what is left, where the source's list was k
+  abbrev AnswersFirst : Answered B E → S → F → List (Result X E) → Type 0
+  AnswersFirst r t e k = (r ≡ first_answer (mapped h k)) × ((j : List (Result X E)) × GivesForGood steps t j × (e ≡ f) × (rest_of (mapped h k) ≡ mapped h j))
+
+  first_of_end : (k : List (Result X E)) (t : S) (e : F) → end ≡ first_answer k → GivesForGood steps t (rest_of k) → e ≡ f → AnswersFirst end t e k
+  unfolding mapped
+  first_of_end [] t e is a stays = (refl, ([], a, stays, refl))
+  first_of_end (Ok x ∷ k) t e is a stays = absurd cc
+  first_of_end (Err d ∷ k) t e is a stays = absurd cc
+
+  first_of_failure : (d : E) (k : List (Result X E)) (t : S) (e : F) → failure d ≡ first_answer k → GivesForGood steps t (rest_of k) → e ≡ f → AnswersFirst (failure d) t e k
+  unfolding mapped
+  first_of_failure d [] t e is a stays = absurd cc
+  first_of_failure d (Ok x ∷ k) t e is a stays = absurd cc
+  first_of_failure d (Err c ∷ k) t e is a stays = (let same : d ≡ c = cc in ap (λ (z : E). failure {A = B} z) same, (k, a, stays, refl))
+
+  first_of_item : (z : X) (r : Answered B E) (k : List (Result X E)) (t : S) (e : F) → item z ≡ first_answer k → GivesForGood steps t (rest_of k) → e ≡ f → r ≡ result_answer (h z) → AnswersFirst r t e k
+  unfolding mapped
+  first_of_item z r [] t e is a stays made = absurd cc
+  first_of_item z r (Ok x ∷ k) t e is a stays made = let same : z ≡ x = cc in (made ∙ ap (λ (y : X). result_answer (h y)) same, (k, a, stays, refl))
+  first_of_item z r (Err c ∷ k) t e is a stays made = absurd cc
+
+  kept_of : (z : X) (v : Result B E) (y : B) → map_outcome z v ≡ Kept y → item y ≡ result_answer v
+  kept_of z (Ok w) y is = let same : w ≡ y = cc in ap (λ (k : B). item {E = E} k) (sym same)
+  kept_of z (Err d) y is = absurd cc
+
+  refused_of : (z : X) (v : Result B E) (d : E) → map_outcome z v ≡ Failure d → failure d ≡ result_answer v
+  refused_of z (Ok w) d is = absurd cc
+  refused_of z (Err c) d is = let same : c ≡ d = cc in ap (λ (k : E). failure {A = B} k) (sym same)
+
+  never_closes : (z : X) (v : Result B E) → map_outcome z v ≡ End → ⊥
+  never_closes z (Ok w) is = cc
+  never_closes z (Err c) is = cc
+
+  never_left_out : (z : X) (v : Result B E) → map_outcome z v ≡ LeftOut → ⊥
+  never_left_out z (Ok w) is = cc
+  never_left_out z (Err c) is = cc
+
+  called_on : (z : X) (v : Result B E) (g e : F) → g ≡ f → call g z v e → (e ≡ f) × (v ≡ h z)
+  called_on z v g e stays called = acts z v e (subst (λ (c : F). call c z v e) stays called)
+
+  passes_first : (k : List (Result X E)) (s : S) (g : F) (r : Answered B E) (t : S) (e : F) → GivesForGood steps s k → g ≡ f → Passes steps call map_outcome s g (r ∷ []) t e → AnswersFirst r t e k
+  passes_first k s g _ t e a stays (end_passes step done) = let d = answers_first_where_gives_for_good steps k s t end a step in first_of_end k t e d.0 d.1 stays
+  passes_first k s g _ t e a stays (failure_passes c step done) = let d = answers_first_where_gives_for_good steps k s t (failure c) a step in first_of_failure c k t e d.0 d.1 stays
+  passes_first k s g _ t e a stays (keeps z v y step called is done) = let d = answers_first_where_gives_for_good steps k s t (item z) a step in let c = called_on z v g e stays called in first_of_item z (item y) k t e d.0 d.1 c.0 (kept_of z v y is ∙ ap result_answer c.1)
+  passes_first k s g _ t e a stays (refuses z v w step called is done) = let d = answers_first_where_gives_for_good steps k s t (item z) a step in let c = called_on z v g e stays called in first_of_item z (failure w) k t e d.0 d.1 c.0 (refused_of z v w is ∙ ap result_answer c.1)
+  passes_first k s g _ t e a stays (closes z v step called is c) = absurd (never_closes z v is)
+  passes_first k s g r t e a stays (leaves_out z v step called is rest) = absurd (never_left_out z v is)
+
+  -- what the source still lists, fused
+  abbrev MapsFused : S × F → List (Result B E) → Type 0
+  MapsFused p l = (k : List (Result X E)) × GivesForGood steps p.0 k × (p.1 ≡ f) × (l ≡ mapped h k)
+
+  step_answers_first : (p q : S × F) (r : Answered B E) (l : List (Result B E)) → MapsFused p l → MapSteps p r q → (r ≡ first_answer l) × MapsFused q (rest_of l)
+  step_answers_first p q r l (k, a, stays, is) w = let d = passes_first k p.0 p.1 r q.0 q.1 a stays (passes_of_pass_trace w) in (d.0 ∙ sym (ap first_answer is), (d.1.0, d.1.1, d.1.2, ap rest_of is ∙ d.1.3))
+
+  gives_for_good_mapped : (k : List (Result X E)) (s : S) → GivesForGood steps s k → GivesForGood MapSteps (s, f) (mapped h k)
+  gives_for_good_mapped k s a = gives_for_good_where_each_answers_first MapSteps MapsFused (λ p q r l d w. step_answers_first p q r l d w) (mapped h k) (s, f) (k, a, refl, refl)
+
+pub lists_for_good_padded : {S F A E : Type 0} {p : Fuse S} (m : Contract S A E) (g : Mut F (ℕ × Unit {0}) (Result A E)) (s : PadUsing S F) (f : F) (n : ℕ) (it : S) (h : ℕ → Result A E) (l : List (Result A E)) → pad_using_parts s ≡ ((p, (0, n)), f) → fuse_parts p ≡ (it, false) → Acts (call_by_value g) f h → Lists m.steps it l → ListsForGood (parts_as pad_using_parts (pad_using_contract m g)).steps s (padded n h l)
+lists_for_good_padded {E = E} {p = p} m g s f n it h l parts fresh acts i =
     let sides = gives_for_good_sides (fused_steps m.steps) (IndexSteps E) longest_rule (λ u. ⊤) zipped_longest lists_by_longest is_lawful_rule_longest (both_sides (p, (0, n))) l (indices_left (0, n)) (gives_for_good_of_fresh m p it l fresh i) (gives_indices E (0, n)) tt in
-    let beside = always_gives_of_gives_for_good (beside_index_contract m).steps (zipped_longest l (indices_left (0, n))) (p, (0, n)) (gives_for_good_seen both_sides _ (zipped_longest l (indices_left (0, n))) (p, (0, n)) sides) in
-    lists_seen pad_using_parts (pad_using_contract m g).steps s parts (passed_is_mapped (pad_value g h) (zipped_longest l (indices_left (0, n))) ∙ mapped_is_padded g h n l) (always_gives_passed (pad_call g) f (pad_value g h) (acts_pad g f h acts) (beside_index_contract m).steps map_outcome (p, (0, n)) (zipped_longest l (indices_left (0, n))) beside)
+    let beside = gives_for_good_seen both_sides _ (zipped_longest l (indices_left (0, n))) (p, (0, n)) sides in
+    lists_for_good_seen pad_using_parts (pad_using_contract m g).steps s parts (mapped_is_padded g h n l) (gives_for_good_mapped (beside_index_contract m).steps (pad_call g) f (pad_value g h) (acts_pad g f h acts) (zipped_longest l (indices_left (0, n))) (p, (0, n)) beside)
+
+pub lists_padded : {S F A E : Type 0} {p : Fuse S} (m : Contract S A E) (g : Mut F (ℕ × Unit {0}) (Result A E)) (s : PadUsing S F) (f : F) (n : ℕ) (it : S) (h : ℕ → Result A E) (l : List (Result A E)) → pad_using_parts s ≡ ((p, (0, n)), f) → fuse_parts p ≡ (it, false) → Acts (call_by_value g) f h → Lists m.steps it l → Lists (parts_as pad_using_parts (pad_using_contract m g)).steps s (padded n h l)
+lists_padded m g s f n it h l parts fresh acts i = lists_once _ (lists_for_good_padded m g s f n it h l parts fresh acts i)
 
 -- ---- its hint
 
-pub hints_as_sound_pad_using : {S F A E : Type 0} (m : Contract S A E) (g : Mut F (ℕ × Unit {0}) (Result A E)) (s : PadUsing S F) → HintsAsSoundAs (seen_as pad_using_parts (pad_using_contract m g)) s (fused_contract m) (pad_using_fused s)
+pub hints_as_sound_pad_using : {S F A E : Type 0} (m : Contract S A E) (g : Mut F (ℕ × Unit {0}) (Result A E)) (s : PadUsing S F) → HintsAsSoundAs (parts_as pad_using_parts (pad_using_contract m g)) s (fused_contract m) (pad_using_fused s)
 hints_as_sound_pad_using {E = E} m g s h is =
     let p = pad_using_parts s in
     let both = as_sound_as_both_seen both_sides _ p.0 h (as_sound_as_both_zip_longest (fused_steps m.steps) (IndexSteps E) (no_item_after_end_of_fused m.steps) (no_item_after_end_of_indices E) (both_sides p.0) h is.0 is.1 is.4) in

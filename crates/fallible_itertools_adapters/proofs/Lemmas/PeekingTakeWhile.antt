@@ -4,7 +4,7 @@ use Rattle.std.specs.List.{cons_option, filter_map}
 use Rattle.std.specs.Fn.{Mut}
 use Rattle.std.specs.Borrow.{Bor}
 use Rattle.std.proofs.Common.{refl, sym, ap, ap₂, subst, ◌∙◌, arith}
-use Rattle.fallible_iterator.specs.Contract.{Contract, seen_as}
+use Rattle.fallible_iterator.specs.Contract.{Contract, seen_as, parts_as}
 use Rattle.fallible_iterator.specs.Lists.{AlwaysGives, Lists, Acts, result_answer}
 use Rattle.fallible_iterator.specs.Traces.{Answered, Run, Yields, item, end}
 use Rattle.fallible_iterator.specs.Closures.{Calls, call_by_reference}
@@ -12,7 +12,7 @@ use Rattle.fallible_iterator.specs.Passing.{Place, asked, failure_at, end_at, so
 use Rattle.fallible_iterator.specs.Cutting.TakeWhile.{cons_while, is_refused, taken_answer, taken_while}
 use Rattle.fallible_iterator.specs.Peeking.Peekable.{Fills, Peeks, failure_told, held_item, peekable_contract, peekable_parts, peekable_step}
 use Rattle.fallible_iterator.proofs.Lemmas.Lists.Passing.{lists_seen}
-use Rattle.fallible_iterator.proofs.Lemmas.Cutting.TakeWhile.{calls_cons, calls_first_and_rest}
+use Rattle.fallible_iterator.specs.Laws.Cutting.TakeWhile.{calls_cons, calls_first_and_rest}
 use Rattle.fallible_iterator.proofs.Lemmas.Hints.Drawn.{ItemsOfItems}
 use Rattle.fallible_itertools_adapters.specs.Laws.PeekingTakeWhile.{looked_at_is_next_answer, held_step}
 use Rattle.fallible_itertools_adapters.specs.PeekingTakeWhile.{AcceptsHeld, LookedAgainAt, AskedAgain, DrawsAtPlace, LeftAt, LeavesSource, LooksAhead, PeekingTrace, rest_from_item, rest_by_while, let_go, peekable_looks, peeking_contract, peeking_parts, peeking_step}
@@ -23,7 +23,7 @@ use Rattle.fallible_itertools_adapters.specs.declared.peeking_take_while.Peeking
 
 module _ {S F X E : Type 0} (m : Contract S X E) (call : F → X → Result Bool E → F → Type 0) where
   abbrev AheadStep : Peekable S X E × F → Answered X E → Peekable S X E × F → Type 0
-  AheadStep = peeking_step (seen_as peekable_parts (peekable_contract m)).steps (peekable_looks m.steps) call
+  AheadStep = peeking_step (parts_as peekable_parts (peekable_contract m)).steps (peekable_looks m.steps) call
 
   peekable_step_of_failed_look : (p q : S × Option (Option X)) (e : E) → Peeks m.steps p (Err e) q → peekable_step m.steps p (Err e) q
   peekable_step_of_failed_look (s, Some h) q e w = absurd (let d = w.0 in cc)

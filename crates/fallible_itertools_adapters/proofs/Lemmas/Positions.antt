@@ -2,7 +2,7 @@
 use Rattle.std.specs.Prelude.{◌≡◌, ℕ, Bool, true, false, Result, Ok, Err, List, [], ◌∷◌}
 use Rattle.std.proofs.Common.{refl, ap, ◌∙◌}
 use Rattle.std.specs.Fn.{Mut}
-use Rattle.fallible_iterator.specs.Contract.{Contract, seen_as}
+use Rattle.fallible_iterator.specs.Contract.{Contract, parts_as}
 use Rattle.fallible_iterator.specs.Closures.{call_by_value}
 use Rattle.fallible_iterator.specs.Filtering.FilterMap.{cons_some}
 use Rattle.fallible_iterator.specs.Lists.{Lists, Acts, filter_mapped, numbered}
@@ -25,6 +25,6 @@ module _ {X E : Type 0} (h : X → Result Bool E) where
 
 -- over a source that lists the items by their numbers
 pub lists_positions : {I F X E : Type 0} {it : Enumerate I} {f : F} (m : Contract (Enumerate I) (ℕ × X) E) (g : Mut F (X × Unit {0}) (Result Bool E)) (s : Positions I F) (h : X → Result Bool E) (l : List (Result X E)) → positions_parts s ≡ (it, f) → Acts (call_by_value g) f h → Lists m.steps it (numbered 0 l)
-    → Lists (seen_as positions_parts (positions_contract m g)).steps s (positions_where h l)
+    → Lists (parts_as positions_parts (positions_contract m g)).steps s (positions_where h l)
 unfolding positions_where
 lists_positions {it = it} {f = f} m g s h l parts a i = lists_seen positions_parts (positions_contract m g).steps s parts (passed_is_positions h (numbered 0 l)) (always_gives_passed (item_call g) f (λ p. h p.1) (λ p v f c. a p.1 v f c) m.steps positions_outcome it (numbered 0 l) i.runs)

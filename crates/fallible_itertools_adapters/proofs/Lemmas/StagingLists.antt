@@ -4,6 +4,7 @@ use Rattle.std.proofs.Common.{refl, sym, ap, subst, inl, inr, ◌∙◌}
 use Rattle.fallible_iterator.specs.Traces.{Answered, end}
 use Rattle.fallible_iterator.specs.Lists.{AlwaysGives, result_answer}
 use Rattle.fallible_iterator.specs.Making.{AtRefusal, GivesMade, IsMadeOf}
+use Rattle.fallible_iterator.specs.Refusing.{AnswersRefusal, GivesUntilRefused}
 use Rattle.fallible_itertools_adapters.specs.Staging.{DrawsUpTo, Made, due_comes, due_left, passes_over, stage_step, yields}
 use Rattle.std.specs.declared.alloc.AllocError.{AllocError}
 
@@ -136,6 +137,10 @@ module _ {V S P X B L E : Type 0} (view : V → S × (P × Option L)) (steps : S
   always_gives_within (y ∷ l) v g = λ r t w. elim (g r (view t) (each v r t w)) [ inl k ↦ absurd k | inr k ↦ (itself y r k.0, always_gives_within l t k.1) ]
 
   module _ {Y : Type 0} (made : Y → B → Type 0) (from : AllocError → E → Type 0) where
+    pub until_refused_within : (l : List (Result Y E)) (v : V) → GivesUpTo steps comes meets made (λ r t. AnswersRefusal from r) (view v) l → GivesUntilRefused made taken from v l
+    until_refused_within [] v g = λ r t w. g r (view t) (each v r t w)
+    until_refused_within (y ∷ l) v g = λ r t w. elim (g r (view t) (each v r t w)) [ inl k ↦ inl k | inr k ↦ inr (k.0, until_refused_within l t k.1) ]
+
     at_refusal_within : (r : Answered B E) (t : V) → AtRefusal made (stage_step comes meets steps) from r (view t) → AtRefusal made taken from r t
     at_refusal_within r t (inl w) = inl w
     at_refusal_within r t (inr w) = inr (w.0, w.1, w.2, w.3, λ z u step. w.4 z (view u) (each t z u step))

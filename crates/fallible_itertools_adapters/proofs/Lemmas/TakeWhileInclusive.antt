@@ -1,26 +1,29 @@
 -- The runs of `TakeWhileInclusive` are the traces that its definition names; what it lists; and its hint.
-use Rattle.std.specs.Prelude.{◌≡◌, ℕ, ◌+◌, ◌-◌, ◌≤◌, min, Bool, true, false, List, [], ◌∷◌, is_some, Option, Result, Some, None, Ok, Err, ◌↔◌}
+use Rattle.std.specs.Prelude.{◌≡◌, ℕ, ◌+◌, ◌-◌, ◌≤◌, min, Bool, true, false, List, [], ◌∷◌, is_some, Option, Result, Some, None, Ok, Err, ◌↔◌, ◌⊎◌}
 use Rattle.std.specs.List.{FoldsTo}
 use Rattle.std.specs.Fn.{Mut}
 use Rattle.std.specs.Borrow.{Bor}
 use Rattle.std.proofs.Common.{refl, sym, ap, subst, inl, inr, ◌∙◌, arith}
 use Rattle.fallible_iterator.specs.Contract.{Contract, seen_as}
-use Rattle.fallible_iterator.specs.Lists.{AlwaysGives, Lists, Acts, result_answer}
+use Rattle.fallible_iterator.specs.Lists.{AlwaysGives, GivesForGood, Lists, ListsForGood, Acts, all_of, decided, result_answer, searched}
 use Rattle.fallible_iterator.specs.Traces.{Answered, item, failure, end}
 use Rattle.fallible_iterator.specs.Closures.{IsCallable, call_by_reference, takes_by_reference}
 use Rattle.fallible_iterator.specs.Passing.{Place, asked, failure_at, end_at}
 use Rattle.fallible_iterator.specs.Closing.{closing_step}
+use Rattle.fallible_iterator.specs.Searching.{all_pick}
 use Rattle.fallible_iterator.specs.Cutting.TakeWhile.{is_refused, place_drawn}
 use Rattle.fallible_iterator.specs.SoundHints.{AsSound, Brackets}
 use Rattle.fallible_iterator.proofs.Lemmas.Closing.{closing_folds_iff_drawn_to_close}
+use Rattle.fallible_iterator.proofs.Lemmas.Lists.ForGood.{lists_for_good_seen}
 use Rattle.fallible_iterator.proofs.Lemmas.Lists.Passing.{lists_seen}
-use Rattle.fallible_iterator.proofs.Lemmas.Cutting.TakeWhile.{drawn_and_called_of_folds_to, folds_to_of_drawn_and_called}
+use Rattle.fallible_iterator.specs.Laws.Cutting.TakeWhile.{drawn_and_called_of_folds_to, folds_to_of_drawn_and_called}
 use Rattle.fallible_iterator.proofs.Lemmas.Hints.Drawn.{as_sound_of_brackets, brackets_of_brackets_at_view, if_some_at_least_of_smaller}
 use Rattle.fallible_iterator.specs.Laws.Closures.{reaches_reflexive, reaches_by_call_first, is_callable_after}
 use Rattle.fallible_itertools_adapters.specs.Staging.{DrawsUpTo, Made, MayMeet, PassesNoneOver, StopPasses, TakesAll, ends_come, one_made, passes_over, stage_meets, stage_step, yields}
 use Rattle.fallible_itertools_adapters.specs.Laws.Staging.{parts_equal_where_made_equal, takes_where_reached}
 use Rattle.fallible_itertools_adapters.specs.Laws.TakeWhileInclusive.{call_of_place, is_stage_inclusive}
 use Rattle.fallible_itertools_adapters.specs.TakeWhileInclusive.{cons_through, taken_while_inclusive, inclusive_answer, inclusive_made, inclusive_on_item, hint_of_first, InclusiveTrace, inclusive_parts, inclusive_contract}
+use Rattle.fallible_itertools_adapters.proofs.Lemmas.Closed.{ends_for_good_where_closed}
 use Rattle.fallible_itertools_adapters.proofs.Lemmas.StagingHints.{MadeFew, MakesNoFewer, bounds_above_staged, bounds_below_staged, makes_at_most_items_and_held}
 use Rattle.fallible_itertools_adapters.proofs.Lemmas.StagingLists.{IsMadeAs, always_gives_within, gives_staged_up_to_refusal, made_first, staged}
 use Rattle.fallible_itertools_adapters.specs.declared.take_while_inclusive.TakeWhileInclusive.{TakeWhileInclusive}
@@ -140,6 +143,53 @@ module _ {S F X E : Type 0} (steps : S → Answered X E → S → Type 0) (call 
 pub lists_inclusive : {S F X E : Type 0} {it : S} (m : Contract S X E) (g : Mut F (Bor X × Unit {0}) (Result Bool E)) (s : TakeWhileInclusive S F) (f : F) (h : X → Result Bool E) (l : List (Result X E)) → inclusive_parts s ≡ ((it, f), false) → Acts (call_by_reference g) f h → Lists m.steps it l
     → Lists (seen_as inclusive_parts (inclusive_contract m g)).steps s (taken_while_inclusive h l)
 lists_inclusive {it = it} m g s f h l parts a i = lists_seen inclusive_parts (inclusive_contract m g).steps s parts refl (gives_inclusive m.steps (call_by_reference g) f h a l it i.runs)
+
+-- ---- what it lists, fused
+
+module _ {S F X E : Type 0} (steps : S → Answered X E → S → Type 0) (call : F → X → Result Bool E → F → Type 0) (f : F) (h : X → Result Bool E) (acts : Acts call f h) where
+  abbrev InclusiveStep : (S × F) × Bool → Answered X E → (S × F) × Bool → Type 0
+  InclusiveStep = inclusive_step steps call
+
+  -- one draw, where an item is the first of the source's list
+  place_of_item : (z : Place X (Result Bool E) E) (x : X) (l : List (Result X E)) (s t : S) (g : F) → AlwaysGives steps s (Ok x ∷ l) → place_drawn steps call (s, f) z (t, g) → (z ≡ asked x (h x)) × (g ≡ f) × AlwaysGives steps t l
+  place_of_item (asked y v) x l s t g a drawn =
+      let d = a (item y) t drawn.0 in
+      let same : y ≡ x = (let k = d.0 in cc) in
+      let c = acts y v g (call_of_place call f g y v drawn.1) in
+      (ap (λ (k : X). asked k v) same ∙ ap (λ (k : Result Bool E). asked x k) (c.1 ∙ ap h same), c.0, d.1)
+  place_of_item (failure_at e) x l s t g a drawn = absurd (let k = (a (Err e) t drawn.0).0 in cc)
+  place_of_item end_at x l s t g a drawn = absurd (let k = (a (Ok None) t drawn.0).0 in cc)
+
+  -- the same, by what the predicate returns for it
+  draw_of_item : (x : X) (v : Result Bool E) (l : List (Result X E)) (s : S) (r : Answered X E) (q : (S × F) × Bool) → h x ≡ v → AlwaysGives steps s (Ok x ∷ l) → InclusiveStep ((s, f), false) r q → (r ≡ inclusive_answer (asked x v)) × (q.1 ≡ is_refused (asked x v)) × ((q.0).1 ≡ f) × AlwaysGives steps (q.0).0 l
+  draw_of_item x v l s r q is a w =
+      let d = place_of_item w.0 x l s (q.0).0 (q.0).1 a w.1 in
+      let place : w.0 ≡ asked x v = d.0 ∙ ap (λ (k : Result Bool E). asked x k) is in
+      (w.2 ∙ ap inclusive_answer place, w.3 ∙ ap is_refused place, d.1, d.2)
+
+  -- what `all_of` says of the first item where it is false
+  rejected_or_later : (v : Result Bool E) (n : ℕ) (x : X) (rest : Result Bool E) → decided (all_pick n x) v rest ≡ Ok false → (v ≡ Ok false) ⊎ ((v ≡ Ok true) × (rest ≡ Ok false))
+  rejected_or_later (Ok true) n x rest is = inr (refl, is)
+  rejected_or_later (Ok false) n x rest is = inl refl
+  rejected_or_later (Err e) n x rest is = absurd cc
+
+  gives_for_good_at_item : (x : X) (v : Result Bool E) (l k : List (Result X E)) (s : S) → h x ≡ v → AlwaysGives steps s (Ok x ∷ l) → (v ≡ Ok false) ⊎ ((v ≡ Ok true) × ((t : S) → AlwaysGives steps t l → GivesForGood InclusiveStep ((t, f), false) k)) → GivesForGood InclusiveStep ((s, f), false) (cons_through x v k)
+  gives_for_good_at_item x (Ok true) l k s is a (inl rejects) = absurd cc
+  gives_for_good_at_item x (Ok true) l k s is a (inr later) = λ r q w. let d = draw_of_item x (Ok true) l s r q is a w in (d.0, subst (λ (b : Bool). GivesForGood InclusiveStep (q.0, b) k) (sym d.1) (subst (λ (g : F). GivesForGood InclusiveStep (((q.0).0, g), false) k) (sym d.2) (later.1 (q.0).0 d.3)))
+  gives_for_good_at_item x (Ok false) l k s is a or = λ r q w. let d = draw_of_item x (Ok false) l s r q is a w in (d.0, ends_for_good_where_closed (place_drawn steps call) inclusive_answer is_refused q d.1)
+  gives_for_good_at_item x (Err e) l k s is a (inl rejects) = absurd cc
+  gives_for_good_at_item x (Err e) l k s is a (inr later) = absurd (let is_true = later.0 in cc)
+
+  gives_for_good_inclusive : (l : List (Result X E)) (n : ℕ) (s : S) → searched all_pick true h n l ≡ Ok false → AlwaysGives steps s l → GivesForGood InclusiveStep ((s, f), false) (taken_while_inclusive h l)
+  unfolding taken_while_inclusive searched
+  gives_for_good_inclusive [] n s is a = absurd cc
+  gives_for_good_inclusive (Err e ∷ l) n s is a = absurd cc
+  gives_for_good_inclusive (Ok x ∷ l) n s is a = gives_for_good_at_item x (h x) l (taken_while_inclusive h l) s refl a (elim (rejected_or_later (h x) n x (searched all_pick true h (n + 1) l) is) [ inl rejects ↦ inl rejects | inr w ↦ inr (w.0, λ t b. gives_for_good_inclusive l (n + 1) t w.1 b) ])
+
+pub lists_for_good_inclusive : {S F X E : Type 0} {it : S} (m : Contract S X E) (g : Mut F (Bor X × Unit {0}) (Result Bool E)) (s : TakeWhileInclusive S F) (f : F) (h : X → Result Bool E) (l : List (Result X E)) → inclusive_parts s ≡ ((it, f), false) → Acts (call_by_reference g) f h → Lists m.steps it l → all_of h l ≡ Ok false
+    → ListsForGood (seen_as inclusive_parts (inclusive_contract m g)).steps s (taken_while_inclusive h l)
+unfolding all_of
+lists_for_good_inclusive {it = it} m g s f h l parts a i rejects = lists_for_good_seen inclusive_parts (inclusive_contract m g).steps s parts refl (gives_for_good_inclusive m.steps (call_by_reference g) f h a l 0 it rejects i.runs)
 
 -- ---- its hint
 

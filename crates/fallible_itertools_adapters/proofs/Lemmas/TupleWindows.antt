@@ -1,14 +1,16 @@
--- What `TupleWindows` lists, where a clone equals its original and never fails.
+-- What `TupleWindows` lists, where a clone equals its original and never fails; and until one fails.
 use Rattle.std.specs.Prelude.{◌≡◌, Option, Some, None, Result, Ok, Err, List, [], ◌∷◌}
 use Rattle.std.proofs.Common.{refl, sym, ap, subst}
 use Rattle.fallible_iterator.specs.Traces.{Answered}
 use Rattle.fallible_iterator.specs.Contract.{Contract, seen_as}
 use Rattle.fallible_iterator.specs.Lists.{Lists}
 use Rattle.fallible_iterator.specs.Passing.{passing_step}
+use Rattle.fallible_iterator.specs.Refusing.{ListsUntilRefused}
 use Rattle.fallible_iterator.specs.Laws.Passing.{leaves_out, passes_of_pass_trace, pass_trace_of_passes, pass_trace_end, pass_trace_failure}
 use Rattle.fallible_iterator.proofs.Lemmas.Lists.Passing.{passed, gives_all, lists_seen}
+use Rattle.fallible_iterator.proofs.Lemmas.Refusing.{IsOutcomeOrRefused, gives_passed_until_refused, lists_until_refused_seen}
 use Rattle.fallible_itertools_adapters.specs.Holding.{as_answered_item}
-use Rattle.fallible_itertools_adapters.specs.TupleWindows.{window_at, windows_asks, tuple_windows_contract, tuple_windows_parts, windowed, windows_from}
+use Rattle.fallible_itertools_adapters.specs.TupleWindows.{HasSecondCloned, window_at, windows_asks, tuple_windows_contract, tuple_windows_parts, windowed, windows_from}
 use Rattle.std.specs.declared.alloc.AllocError.{AllocError}
 use Rattle.fallible_iterator.specs.Outcome.{Outcome}
 use Rattle.fallible_iterator.specs.Outcome.TheVariants.{Kept, LeftOut, Failure, End}
@@ -56,6 +58,26 @@ module _ {A E : Type 0} (is_clone : A → A → Type 0) (is_infallible : A → T
 
   pub lists_windowed : {S : Type 0} {it : S} (m : Contract S A E) (s : TupleWindows S A E) (l : List (Result A E)) → tuple_windows_parts s ≡ (it, None) → Lists m.steps it l → Lists (seen_as tuple_windows_parts (tuple_windows_contract is_clone is_infallible from m)).steps s (windowed l)
   lists_windowed {it = it} m s l parts i = lists_seen tuple_windows_parts (tuple_windows_contract is_clone is_infallible from m).steps s parts (windows_listed_is_windowed l) (gives_all m.steps (windows_asks is_clone is_infallible from) as_answered_item (λ p a. p ≡ a) window_outcome next_item acts_by_next l it None None refl i.runs)
+
+-- ---- where a clone may fail
+
+module _ {A E : Type 0} (is_clone : A → A → Type 0) (is_infallible : A → Type 0) (from : AllocError → E → Type 0) where
+  window_or_refusal : (y x : A) (o : Outcome (A × A) E) (q : Option A) → window_at is_clone is_infallible from y x o q → (q ≡ Some x) × IsOutcomeOrRefused (HasSecondCloned is_clone) from (Kept (y, x)) o
+  window_or_refusal y x (Kept both) q w = (w.2, (w.0, w.1))
+  window_or_refusal y x LeftOut q w = absurd w
+  window_or_refusal y x (Failure e) q w = (w.1, w.0.1)
+  window_or_refusal y x End q w = absurd w
+
+  asked_or_refused : (a : Option A) (x : A) (o : Outcome (A × A) E) (q : Option A) → windows_asks is_clone is_infallible from a x o q → (q ≡ next_item a x) × IsOutcomeOrRefused (HasSecondCloned is_clone) from (window_outcome a x) o
+  asked_or_refused None x o q w = (w.1, w.0)
+  asked_or_refused (Some y) x o q w = window_or_refusal y x o q w
+
+  acts_or_refuses : (p a : Option A) (x : A) (o : Outcome (A × A) E) (q : Option A) → p ≡ a → windows_asks is_clone is_infallible from p x o q → (q ≡ next_item a x) × IsOutcomeOrRefused (HasSecondCloned is_clone) from (window_outcome a x) (as_answered_item x o)
+  acts_or_refuses p a x o q at w = asked_or_refused a x o q (subst (λ k. windows_asks is_clone is_infallible from k x o q) at w)
+
+  pub lists_windowed_until_refused : {S : Type 0} {it : S} (m : Contract S A E) (s : TupleWindows S A E) (l : List (Result A E)) → tuple_windows_parts s ≡ (it, None) → Lists m.steps it l → ListsUntilRefused (HasSecondCloned is_clone) (seen_as tuple_windows_parts (tuple_windows_contract is_clone is_infallible from m)).steps from s (windowed l)
+  lists_windowed_until_refused {it = it} m s l parts i = lists_until_refused_seen (HasSecondCloned is_clone) from tuple_windows_parts (tuple_windows_contract is_clone is_infallible from m).steps s parts (windows_listed_is_windowed l)
+      (gives_passed_until_refused (HasSecondCloned is_clone) from m.steps (windows_asks is_clone is_infallible from) as_answered_item (λ p a. p ≡ a) window_outcome next_item acts_or_refuses l it None None refl i.runs)
 
 -- ---- one draw where none is held
 

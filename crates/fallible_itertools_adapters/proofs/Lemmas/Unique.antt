@@ -7,23 +7,20 @@ use Rattle.std.specs.List.{list_any}
 use Rattle.std.proofs.Common.{refl, sym, ap, subst, inl, inr, ◌∙◌}
 use Rattle.fallible_iterator.specs.Traces.{Answered, end}
 use Rattle.fallible_iterator.specs.Contract.{Contract, seen_as}
-use Rattle.fallible_iterator.specs.Lists.{AlwaysGives, Lists}
-use Rattle.fallible_iterator.specs.Making.{AtRefusal, GivesMade, IsMadeOf, ListsMade}
+use Rattle.fallible_iterator.specs.Lists.{AlwaysGives, Lists, result_answer}
+use Rattle.fallible_iterator.specs.Making.{AnswersRefusal}
 use Rattle.fallible_iterator.specs.Passing.{passing_step}
 use Rattle.fallible_iterator.specs.Laws.Passing.{Passes, done, end_passes, failure_passes, keeps, refuses, closes, leaves_out, passes_of_pass_trace, pass_trace_of_passes}
 use Rattle.fallible_iterator.proofs.Lemmas.Lists.Passing.{end_of_nil, answer_is_failure_first_in_list}
-use Rattle.fallible_iterator.proofs.Lemmas.Making.{lists_made_seen}
 use Rattle.fallible_iterator.proofs.Lemmas.Seen.{HasSeen, cond_true_is_or}
 use Rattle.fallible_itertools_adapters.specs.Holding.{as_answered_item}
 use Rattle.fallible_itertools_adapters.specs.Unique.{first_of_equal, unique_asks, unique_by, unique_contract, unique_from, unique_of, unique_parts, unique_seen}
+use Rattle.fallible_itertools_adapters.specs.UnlessRefused.{GivesUnlessRefused, ListsUnlessRefused}
+use Rattle.fallible_itertools_adapters.proofs.Lemmas.UnlessRefused.{gives_unless_refused_seen}
 use Rattle.std.specs.declared.alloc.AllocError.{AllocError}
 use Rattle.fallible_iterator.specs.Outcome.{Outcome}
 use Rattle.fallible_iterator.specs.Outcome.TheVariants.{Kept, LeftOut, Failure, End}
 use Rattle.fallible_itertools_adapters.specs.declared.unique.Unique.{Unique}
-
--- the item that is yielded is the list's
-abbrev Same : {A : Type 0} → A → A → Type 0
-Same x y = y ≡ x
 
 module _ {A E : Type 0} (S : Type 0) (eq : A → A → Bool) (equivalence : IsEquivalence eq) (is_clone : A → A → Type 0) (clones : ClonesAreEqual eq is_clone) (is_infallible : A → Type 0) (from : AllocError → E → Type 0) where
   eq_of_clone_is_eq_of_original : (x copy k : A) → is_clone x copy → eq copy k ≡ eq k x
@@ -37,15 +34,15 @@ module _ {A E : Type 0} (S : Type 0) (eq : A → A → Bool) (equivalence : IsEq
     StepsOfUnique = passing_step steps CallsOfUnique as_answered_item
 
     abbrev Gives : I × HashSet A S → List (Result A E) → Type 0
-    Gives s l = GivesMade Same StepsOfUnique from s l
+    Gives s l = GivesUnlessRefused ⊥ StepsOfUnique from s l
 
     abbrev OneDrawn : I → HashSet A S → Answered A E → I → HashSet A S → Type 0
     OneDrawn s p r t q = Passes steps CallsOfUnique as_answered_item s p (r ∷ []) t q
 
     -- what is known of an answer, and of what comes then
     abbrev Told : List (Result A E) → Answered A E → I × HashSet A S → Type 0
-    Told [] r t = r ≡ end
-    Told (y ∷ l) r t = AtRefusal Same StepsOfUnique from r t ⊎ (IsMadeOf Same y r × Gives t l)
+    Told [] r t = (⊥ × AnswersRefusal from r) ⊎ (r ≡ end)
+    Told (y ∷ l) r t = AnswersRefusal from r ⊎ ((r ≡ result_answer y) × Gives t l)
 
     told_where_gives : (l : List (Result A E)) (s : I × HashSet A S) (r : Answered A E) (t : I × HashSet A S) → Gives s l → StepsOfUnique s r t → Told l r t
     told_where_gives [] s r t a w = a r t w
@@ -64,11 +61,11 @@ module _ {A E : Type 0} (S : Type 0) (eq : A → A → Bool) (equivalence : IsEq
 
     told_kept : (l : List (Result A E)) (seen : List A) (p : HashSet A S) (x y : A) (b : Bool) (t : I) (q : HashSet A S) → HasSeen eq p seen → AlwaysGives steps t l → After l (x ∷ seen) → unique_by eq is_clone is_infallible from p x b (Kept y) q → Told (first_of_equal x b (unique_from eq seen l) (unique_from eq (x ∷ seen) l)) (Ok (Some y)) (t, q)
     told_kept l seen p x y true t q has a later w = absurd (let is = w.0 in cc)
-    told_kept l seen p x y false t q has a later w = inr (w.0, later t q a (has_seen_more p q seen x w.1.0 has w.1.1 w.1.2))
+    told_kept l seen p x y false t q has a later w = inr (ap (λ z. Ok (Some z)) w.0, later t q a (has_seen_more p q seen x w.1.0 has w.1.1 w.1.2))
 
     told_failed : (k : List (Result A E)) (j : List (Result A E)) (p : HashSet A S) (x : A) (e : E) (b : Bool) (t : I) (q : HashSet A S) → unique_by eq is_clone is_infallible from p x b (Failure e) q → Told (first_of_equal x b k j) (Err e) (t, q)
     told_failed k j p x e true t q w = absurd (let is = w.0 in cc)
-    told_failed k j p x e false t q w = inl (inl (e, refl, w.0))
+    told_failed k j p x e false t q w = inl (e, refl, w.0)
 
     never_ends : (p : HashSet A S) (x : A) (b : Bool) (q : HashSet A S) → unique_by eq is_clone is_infallible from p x b End q → ⊥
     never_ends p x true q w = let is = w.0 in cc
@@ -92,7 +89,7 @@ module _ {A E : Type 0} (S : Type 0) (eq : A → A → Bool) (equivalence : IsEq
 
     gives_unique : (l : List (Result A E)) (seen : List A) → After l seen
     unfolding unique_from
-    gives_unique [] seen = λ s p a has r t w. end_of_nil a (passes_of_pass_trace w)
+    gives_unique [] seen = λ s p a has r t w. inr (end_of_nil a (passes_of_pass_trace w))
     gives_unique (Err d ∷ l) seen = λ s p a has r t w. let k = answer_is_failure_first_in_list d l a (passes_of_pass_trace w) in inr (k.0, gives_unique l seen t.0 t.1 k.2 (subst (λ (q : HashSet A S). HasSeen eq q seen) (sym k.1) has))
     gives_unique (Ok x ∷ l) seen = λ s p a has. gives_where_told (first_of_equal x (is_member eq seen x) (unique_from eq seen l) (unique_from eq (x ∷ seen) l)) (s, p) (λ r t w. told_of_item x l seen s p r t.0 t.1 a has (gives_unique l seen) (gives_unique l (x ∷ seen)) (passes_of_pass_trace w))
 
@@ -100,5 +97,9 @@ unique_from_none_is_unique_of : {A E : Type 0} (eq : A → A → Bool) (l : List
 unfolding unique_of
 unique_from_none_is_unique_of eq l = refl
 
-pub lists_unique : {I A E : Type 0} (eq : A → A → Bool) (equivalence : IsEquivalence eq) (is_clone : A → A → Type 0) (clones : ClonesAreEqual eq is_clone) (is_infallible : A → Type 0) (from : AllocError → E → Type 0) (m : Contract I A E) (s : Unique I A E) (l : List (Result A E)) → IsEmpty (unique_seen s) → Lists m.steps s.it l → ListsMade Same (seen_as unique_parts (unique_contract eq is_clone is_infallible from m)).steps from s (unique_of eq l)
-lists_unique eq equivalence is_clone clones is_infallible from m s l none i = lists_made_seen Same from unique_parts (unique_contract eq is_clone is_infallible from m).steps s (s.it, s.seen) (unique_from eq [] l) (unique_of eq l) refl (unique_from_none_is_unique_of eq l) (gives_unique _ eq equivalence is_clone clones is_infallible from m.steps l [] s.it s.seen i.runs (λ k. ap (list_any (eq k)) none))
+pub lists_unique : {I A E : Type 0} (eq : A → A → Bool) (equivalence : IsEquivalence eq) (is_clone : A → A → Type 0) (clones : ClonesAreEqual eq is_clone) (is_infallible : A → Type 0) (from : AllocError → E → Type 0) (m : Contract I A E) (s : Unique I A E) (l : List (Result A E)) → IsEmpty (unique_seen s) → Lists m.steps s.it l → ListsUnlessRefused ⊥ (seen_as unique_parts (unique_contract eq is_clone is_infallible from m)).steps from s (unique_of eq l)
+lists_unique eq equivalence is_clone clones is_infallible from m s l none i = record {
+  runs = subst (λ k. GivesUnlessRefused ⊥ (seen_as unique_parts (unique_contract eq is_clone is_infallible from m)).steps from s k) (unique_from_none_is_unique_of eq l)
+      (gives_unless_refused_seen ⊥ from unique_parts (unique_contract eq is_clone is_infallible from m).steps (unique_from eq [] l) s
+      (gives_unique _ eq equivalence is_clone clones is_infallible from m.steps l [] s.it s.seen i.runs (λ k. ap (list_any (eq k)) none)));
+}

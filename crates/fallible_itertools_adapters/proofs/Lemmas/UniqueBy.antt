@@ -10,24 +10,21 @@ use Rattle.std.proofs.Common.{refl, sym, ap, subst, inl, inr}
 use Rattle.fallible_iterator.specs.Traces.{Answered, end}
 use Rattle.fallible_iterator.specs.Closures.{call_by_reference}
 use Rattle.fallible_iterator.specs.Contract.{Contract, seen_as}
-use Rattle.fallible_iterator.specs.Lists.{Acts, AlwaysGives, Lists}
-use Rattle.fallible_iterator.specs.Making.{AtRefusal, GivesMade, IsMadeOf, ListsMade}
+use Rattle.fallible_iterator.specs.Lists.{Acts, AlwaysGives, Lists, result_answer}
+use Rattle.fallible_iterator.specs.Making.{AnswersRefusal}
 use Rattle.fallible_iterator.specs.Passing.{passing_step}
 use Rattle.fallible_iterator.specs.Laws.Passing.{Passes, done, end_passes, failure_passes, keeps, refuses, closes, leaves_out, passes_of_pass_trace, pass_trace_of_passes}
 use Rattle.fallible_iterator.proofs.Lemmas.Lists.Passing.{end_of_nil, answer_is_failure_first_in_list}
-use Rattle.fallible_iterator.proofs.Lemmas.Making.{lists_made_seen}
 use Rattle.fallible_iterator.proofs.Lemmas.Seen.{has_seen_more}
 use Rattle.fallible_itertools_adapters.specs.Holding.{as_answered_item}
 use Rattle.fallible_itertools_adapters.specs.Unique.{first_of_equal}
 use Rattle.fallible_itertools_adapters.specs.UniqueBy.{first_of_key, key_asks, key_at, keyed_by, unique_by_contract, unique_by_keys, unique_by_parts, unique_by_key, unique_key_from}
+use Rattle.fallible_itertools_adapters.specs.UnlessRefused.{GivesUnlessRefused, ListsUnlessRefused}
+use Rattle.fallible_itertools_adapters.proofs.Lemmas.UnlessRefused.{gives_unless_refused_seen}
 use Rattle.std.specs.declared.alloc.AllocError.{AllocError}
 use Rattle.fallible_iterator.specs.Outcome.{Outcome}
 use Rattle.fallible_iterator.specs.Outcome.TheVariants.{Kept, LeftOut, Failure, End}
 use Rattle.fallible_itertools_adapters.specs.declared.unique_by.UniqueBy.{UniqueBy}
-
--- the item that is yielded is the list's
-abbrev Same : {A : Type 0} → A → A → Type 0
-Same x y = y ≡ x
 
 module _ {A K F E : Type 0} (S : Type 0) (eq : K → K → Bool) (equivalence : IsEquivalence eq) (from : AllocError → E → Type 0) (call : F → A → Result K E → F → Type 0) (f : F) (h : A → Result K E) (acts : Acts call f h) where
   -- The closure is as it was. The set has a key that equals k where one of those seen does.
@@ -42,15 +39,15 @@ module _ {A K F E : Type 0} (S : Type 0) (eq : K → K → Bool) (equivalence : 
     StepsOfUnique = passing_step steps CallsOfUniqueBy as_answered_item
 
     abbrev Gives : I × (HashSet K S × F) → List (Result A E) → Type 0
-    Gives s l = GivesMade Same StepsOfUnique from s l
+    Gives s l = GivesUnlessRefused ⊥ StepsOfUnique from s l
 
     abbrev OneDrawn : I → HashSet K S × F → Answered A E → I → HashSet K S × F → Type 0
     OneDrawn s p r t q = Passes steps CallsOfUniqueBy as_answered_item s p (r ∷ []) t q
 
     -- what is known of an answer, and of what comes then
     abbrev Told : List (Result A E) → Answered A E → I × (HashSet K S × F) → Type 0
-    Told [] r t = r ≡ end
-    Told (y ∷ l) r t = AtRefusal Same StepsOfUnique from r t ⊎ (IsMadeOf Same y r × Gives t l)
+    Told [] r t = (⊥ × AnswersRefusal from r) ⊎ (r ≡ end)
+    Told (y ∷ l) r t = AnswersRefusal from r ⊎ ((r ≡ result_answer y) × Gives t l)
 
     told_where_gives : (l : List (Result A E)) (s : I × (HashSet K S × F)) (r : Answered A E) (t : I × (HashSet K S × F)) → Gives s l → StepsOfUnique s r t → Told l r t
     told_where_gives [] s r t a w = a r t w
@@ -70,7 +67,7 @@ module _ {A K F E : Type 0} (S : Type 0) (eq : K → K → Bool) (equivalence : 
 
     told_item_where_key_is_kept : (l : List (Result A E)) (seen : List K) (p : HashSet K S × F) (x y : A) (k : K) (b : Bool) (t : I) (q : HashSet K S × F) → Seen p seen → q.1 ≡ f → AlwaysGives steps t l → After l → key_at eq from p.0 x k b (Kept y) q.0 → Told (first_of_equal x b (From l seen) (From l (k ∷ seen))) (Ok (Some y)) (t, q)
     told_item_where_key_is_kept l seen p x y k true t q has stays a later w = absurd (let is = w.0 in cc)
-    told_item_where_key_is_kept l seen p x y k false t q has stays a later w = inr (w.0, later (k ∷ seen) t q a (has_seen_more eq equivalence p.0 q.0 seen k has.0 w.1, stays))
+    told_item_where_key_is_kept l seen p x y k false t q has stays a later w = inr (ap (λ z. Ok (Some z)) w.0, later (k ∷ seen) t q a (has_seen_more eq equivalence p.0 q.0 seen k has.0 w.1, stays))
 
     told_kept : (l : List (Result A E)) (seen : List K) (p : HashSet K S × F) (x y : A) (v : Result K E) (t : I) (q : HashSet K S × F) → Seen p seen → q.1 ≡ f → AlwaysGives steps t l → After l → keyed_by eq from p.0 x v (Kept y) q.0 → Told (first_of_key eq seen x v (From l)) (Ok (Some y)) (t, q)
     told_kept l seen p x y (Err d) t q has stays a later w = absurd (let is = w.0 in cc)
@@ -79,7 +76,7 @@ module _ {A K F E : Type 0} (S : Type 0) (eq : K → K → Bool) (equivalence : 
     told_refused : (l j : List (Result A E)) (p : HashSet K S × F) (x : A) (k : K) (e : E) (b c : Bool) (t : I) (q : HashSet K S × F) → b ≡ c → key_at eq from p.0 x k b (Failure e) q.0 → Told (first_of_equal x c l j) (Err e) (t, q)
     told_refused l j p x k e true c t q is w = absurd (let k = w.0 in cc)
     told_refused l j p x k e false true t q is w = absurd cc
-    told_refused l j p x k e false false t q is w = inl (inl (e, refl, w.0))
+    told_refused l j p x k e false false t q is w = inl (e, refl, w.0)
 
     told_failed : (l : List (Result A E)) (seen : List K) (p : HashSet K S × F) (x : A) (e : E) (v : Result K E) (t : I) (q : HashSet K S × F) → Seen p seen → q.1 ≡ f → AlwaysGives steps t l → After l → keyed_by eq from p.0 x v (Failure e) q.0 → Told (first_of_key eq seen x v (From l)) (Err e) (t, q)
     told_failed l seen p x e (Err d) t q has stays a later w = inr (let is = w.0 in cc, later seen t q a (subst (λ (s : HashSet K S). (k : K) → contains eq s k ≡ is_member eq seen k) (sym w.1) has.0, stays))
@@ -115,7 +112,7 @@ module _ {A K F E : Type 0} (S : Type 0) (eq : K → K → Bool) (equivalence : 
 
     gives_first_of_keys : (l : List (Result A E)) → After l
     unfolding unique_key_from
-    gives_first_of_keys [] = λ seen s p a has r t w. end_of_nil a (passes_of_pass_trace w)
+    gives_first_of_keys [] = λ seen s p a has r t w. inr (end_of_nil a (passes_of_pass_trace w))
     gives_first_of_keys (Err d ∷ l) = λ seen s p a has r t w. let k = answer_is_failure_first_in_list d l a (passes_of_pass_trace w) in inr (k.0, gives_first_of_keys l seen t.0 t.1 k.2 (subst (λ (q : HashSet K S × F). Seen q seen) (sym k.1) has))
     gives_first_of_keys (Ok x ∷ l) = λ seen s p a has. gives_where_told (first_of_key eq seen x (h x) (From l)) (s, p) (λ r t w. told_of_item x l seen s p r t.0 t.1 a has (gives_first_of_keys l) (passes_of_pass_trace w))
 
@@ -123,5 +120,9 @@ unique_key_from_none_is_unique_by_key : {A K E : Type 0} (eq : K → K → Bool)
 unfolding unique_by_key
 unique_key_from_none_is_unique_by_key eq h l = refl
 
-pub lists_unique_by_key : {I A K F E : Type 0} (eq : K → K → Bool) (equivalence : IsEquivalence eq) (from : AllocError → E → Type 0) (m : Contract I A E) (g : Mut F (Bor A × Unit {0}) (Result K E)) (s : UniqueBy I K F) (f : F) (h : A → Result K E) (l : List (Result A E)) → IsEmpty (unique_by_keys s) → s.keying.1 ≡ f → Acts (call_by_reference g) f h → Lists m.steps s.it l → ListsMade Same (seen_as unique_by_parts (unique_by_contract eq from m g)).steps from s (unique_by_key eq h l)
-lists_unique_by_key eq equivalence from m g s f h l none is acts i = lists_made_seen Same from unique_by_parts (unique_by_contract eq from m g).steps s (s.it, s.keying) (unique_key_from eq h [] l) (unique_by_key eq h l) refl (unique_key_from_none_is_unique_by_key eq h l) (gives_first_of_keys _ eq equivalence from (call_by_reference g) f h acts m.steps l [] s.it s.keying i.runs ((λ k. ap (list_any (eq k)) none), is))
+pub lists_unique_by_key : {I A K F E : Type 0} (eq : K → K → Bool) (equivalence : IsEquivalence eq) (from : AllocError → E → Type 0) (m : Contract I A E) (g : Mut F (Bor A × Unit {0}) (Result K E)) (s : UniqueBy I K F) (f : F) (h : A → Result K E) (l : List (Result A E)) → IsEmpty (unique_by_keys s) → s.keying.1 ≡ f → Acts (call_by_reference g) f h → Lists m.steps s.it l → ListsUnlessRefused ⊥ (seen_as unique_by_parts (unique_by_contract eq from m g)).steps from s (unique_by_key eq h l)
+lists_unique_by_key eq equivalence from m g s f h l none is acts i = record {
+  runs = subst (λ k. GivesUnlessRefused ⊥ (seen_as unique_by_parts (unique_by_contract eq from m g)).steps from s k) (unique_key_from_none_is_unique_by_key eq h l)
+      (gives_unless_refused_seen ⊥ from unique_by_parts (unique_by_contract eq from m g).steps (unique_key_from eq h [] l) s
+      (gives_first_of_keys _ eq equivalence from (call_by_reference g) f h acts m.steps l [] s.it s.keying i.runs ((λ k. ap (list_any (eq k)) none), is)));
+}

@@ -7,7 +7,7 @@ use Rattle.fallible_iterator.specs.Cutting.Fuse.{fuse_parts}
 use Rattle.fallible_iterator.specs.Held.{held_count}
 use Rattle.fallible_iterator.specs.Hints.{hint_smaller, smaller_bound}
 use Rattle.fallible_iterator.specs.LawForm.{TracesAre}
-use Rattle.fallible_iterator.specs.Lists.{Acts, Lists, result_answer}
+use Rattle.fallible_iterator.specs.Lists.{Acts, Lists, result_answer, ListsForGood}
 use Rattle.fallible_iterator.specs.SoundHints.{AsSoundAsBoth}
 use Rattle.fallible_iterator.specs.Sources.FromFn.{call_of_none}
 use Rattle.fallible_iterator.specs.Traces.{Answered, item, failure, end}
@@ -116,8 +116,11 @@ module _ {S U F A B E : Type 0} (steps : S → Answered A E → S → Type 0) (o
 -- ---- what it lists
 
 module _ {S U F A B E : Type 0} (left : Contract S A E) (right : Contract U B E) (g : Mut F (Unit {0}) E) (c : ZipEq S U F A E) {p : Fuse S} {q : Fuse U} (s : S) (u : U) (f : F) (e : E) (a : List (Result A E)) (b : List (Result B E)) where
+  pub lists_for_good_zipped_equal : zip_eq_parts {B = B} c ≡ ((p, None), (q, None), f) → fuse_parts p ≡ (s, false) → fuse_parts q ≡ (u, false) → Acts (call_of_none g) f (λ _. e) → Lists left.steps s a → Lists right.steps u b → ListsForGood (seen_as zip_eq_parts (zip_eq_contract left right g)).steps c (zipped_equal e a b)
+  lists_for_good_zipped_equal parts fresh also acts i k = lists_for_good_seen zip_eq_parts (zip_eq_contract left right g).steps c parts refl (gives_for_good_sides (fused_steps left.steps) (fused_steps right.steps) (pair_rule (call_of_none g) (takes_none g)) (λ k. k ≡ f) (λ a b. zipped_equal e a b) (lists_by_pair e (call_of_none g) (takes_none g) f acts) (is_lawful_rule_pair (call_of_none g) (takes_none g)) ((p, None), (q, None), f) a b (gives_for_good_of_fresh left p s a fresh i) (gives_for_good_of_fresh right q u b also k) refl)
+
   pub lists_zipped_equal : zip_eq_parts {B = B} c ≡ ((p, None), (q, None), f) → fuse_parts p ≡ (s, false) → fuse_parts q ≡ (u, false) → Acts (call_of_none g) f (λ _. e) → Lists left.steps s a → Lists right.steps u b → Lists (seen_as zip_eq_parts (zip_eq_contract left right g)).steps c (zipped_equal e a b)
-  lists_zipped_equal parts fresh also acts i k = lists_once _ (lists_for_good_seen zip_eq_parts (zip_eq_contract left right g).steps c parts refl (gives_for_good_sides (fused_steps left.steps) (fused_steps right.steps) (pair_rule (call_of_none g) (takes_none g)) (λ k. k ≡ f) (λ a b. zipped_equal e a b) (lists_by_pair e (call_of_none g) (takes_none g) f acts) (is_lawful_rule_pair (call_of_none g) (takes_none g)) ((p, None), (q, None), f) a b (gives_for_good_of_fresh left p s a fresh i) (gives_for_good_of_fresh right q u b also k) refl))
+  lists_zipped_equal parts fresh also acts i k = lists_once _ (lists_for_good_zipped_equal parts fresh also acts i k)
 
 -- ---- whole traces
 

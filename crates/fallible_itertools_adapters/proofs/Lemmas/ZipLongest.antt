@@ -6,7 +6,7 @@ use Rattle.fallible_iterator.specs.LawForm.{TracesAre}
 use Rattle.fallible_iterator.specs.Contract.{Contract, seen_as}
 use Rattle.fallible_iterator.specs.Held.{held_count}
 use Rattle.fallible_iterator.specs.Cutting.Fuse.{fuse_parts}
-use Rattle.fallible_iterator.specs.Lists.{Lists}
+use Rattle.fallible_iterator.specs.Lists.{Lists, ListsForGood}
 use Rattle.fallible_iterator.specs.SoundHints.{AsSoundAsBoth}
 use Rattle.fallible_iterator.proofs.Lemmas.Lists.ForGood.{lists_once, lists_for_good_seen}
 use Rattle.fallible_iterator.specs.Fuse.{Fuse}
@@ -103,8 +103,11 @@ module _ {S U A B E : Type 0} (steps : S → Answered A E → S → Type 0) (oth
 -- ---- what it lists
 
 module _ {S U A B E : Type 0} (left : Contract S A E) (right : Contract U B E) (c : ZipLongest S U A E) {p : Fuse S} {q : Fuse U} (s : S) (u : U) (a : List (Result A E)) (b : List (Result B E)) where
+  pub lists_for_good_zipped_longest : zip_longest_parts {B = B} c ≡ ((p, None), (q, None), tt) → fuse_parts p ≡ (s, false) → fuse_parts q ≡ (u, false) → Lists left.steps s a → Lists right.steps u b → ListsForGood (seen_as zip_longest_parts (zip_longest_contract left right)).steps c (zipped_longest a b)
+  lists_for_good_zipped_longest parts fresh also i k = lists_for_good_seen zip_longest_parts (zip_longest_contract left right).steps c parts refl (gives_for_good_sides (fused_steps left.steps) (fused_steps right.steps) longest_rule (λ f. ⊤) zipped_longest lists_by_longest is_lawful_rule_longest ((p, None), (q, None), tt) a b (gives_for_good_of_fresh left p s a fresh i) (gives_for_good_of_fresh right q u b also k) tt)
+
   pub lists_zipped_longest : zip_longest_parts {B = B} c ≡ ((p, None), (q, None), tt) → fuse_parts p ≡ (s, false) → fuse_parts q ≡ (u, false) → Lists left.steps s a → Lists right.steps u b → Lists (seen_as zip_longest_parts (zip_longest_contract left right)).steps c (zipped_longest a b)
-  lists_zipped_longest parts fresh also i k = lists_once _ (lists_for_good_seen zip_longest_parts (zip_longest_contract left right).steps c parts refl (gives_for_good_sides (fused_steps left.steps) (fused_steps right.steps) longest_rule (λ f. ⊤) zipped_longest lists_by_longest is_lawful_rule_longest ((p, None), (q, None), tt) a b (gives_for_good_of_fresh left p s a fresh i) (gives_for_good_of_fresh right q u b also k) tt))
+  lists_zipped_longest parts fresh also i k = lists_once _ (lists_for_good_zipped_longest parts fresh also i k)
 
 -- ---- whole traces
 

@@ -133,6 +133,7 @@ module _ {S P X B E : Type 0} {m : Contract S X E} (asks : P → Option X → Ou
   lawful_filling_where = let stage = lawful_stage l stop_comes (holding_meets asks) can 1 held hints (is_stage_holding asks held weighs) stays in record {
     kept_by_draw = λ p r q c step. kept_by_draw_filling p q r (stage.kept_by_draw p r q c (stage_step_of_holding_step asks m.steps p r q step));
     bounded = stage.bounded;
+    traced = λ _ _ _. ((λ h. h), (λ h. h));
   }
 
   -- a bound of the source, required besides, stays
@@ -146,6 +147,7 @@ module _ {S P X B E : Type 0} {m : Contract S X E} (asks : P → Option X → Ou
   lawful_holding_where = record {
     kept_by_draw = λ p r q c step. kept_by_draw_bounded p q r c.0 (lawful_filling_where.kept_by_draw p r q (c.1, c.2) step);
     bounded = lawful_filling_where.bounded;
+    traced = λ _ _ _. ((λ h. h), (λ h. h));
   }
 
 module _ {S P X B E : Type 0} {m : Contract S X E} (asks : P → Option X → Outcome B E → P → Type 0) (pre : P → Option X → Type 0) (held : P → ℕ) (hints : S × (P × Option (Option E)) → ℕ × Option ℕ → Type 0) (weighs : Holds asks held) (l : Lawful m) where

@@ -87,6 +87,7 @@ module _ {S U A E : Type 0} (left : Contract S A E) (right : Contract U A E) whe
         (λ e. let a = (l.bounded p.0).0 e.0 in let b = (k.bounded p.1).0 e.1 in (a.0 + b.0, (a.0, b.0, a.1, b.1, omega arith))),
         (λ h. ((l.bounded p.0).1 (h.1.0, h.1.2), (k.bounded p.1).1 (h.1.1, h.1.3))),
       );
+      traced = λ _ _ _. ((λ h. h), (λ h. h));
     }
 
 pub lawful_interleave : {S U A E : Type 0} {left : Contract S A E} {right : Contract U A E} → Lawful left → Lawful right → Lawful (interleave_contract left right)

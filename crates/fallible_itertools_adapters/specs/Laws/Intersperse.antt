@@ -24,4 +24,5 @@ module _ {A E : Type 0} (is_clone : A → A → Type 0) (is_infallible : A → T
   lawful_intersperse {m = m} l = let parted = lawful_parting (CloneSeparates is_clone is_infallible from) (λ _. ⊤) (λ z v y c made. tt) m l in record {
     kept_by_draw = λ p r q c step. kept_by_draw_of_parting m p r q (parted.kept_by_draw p r q (c, tt) step);
     bounded = parted.bounded;
+    traced = λ _ _ _. ((λ h. h), (λ h. h));
   }

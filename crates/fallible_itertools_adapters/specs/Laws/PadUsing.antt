@@ -30,7 +30,7 @@ module _ {E : Type 0} where
   kept_by_draw_of_step p (Err e) q step = absurd step
 
   lawful_index : Lawful PadUsingContract
-  lawful_index = record { kept_by_draw = λ p r q c step. kept_by_draw_of_step p r q step; bounded = λ p. ((λ e. (p.1 - p.0, omega arith)), (λ b. tt)) }
+  lawful_index = record { kept_by_draw = λ p r q c step. kept_by_draw_of_step p r q step; bounded = λ p. ((λ e. (p.1 - p.0, omega arith)), (λ b. tt)); traced = λ _ _ _. ((λ h. h), (λ h. h)) }
 
 pub lawful_pad_using : {S F A E : Type 0} {m : Contract S A E} (g : Mut F (ℕ × Unit {0}) (Result A E)) → Lawful m → Lawful (pad_using_contract m g)
 lawful_pad_using {m = m} g l = lawful_passing (pad_call g) (λ P f. IsCallable (pad_call g) (pad_takes g) P f) map_outcome (λ p h. (beside_index_contract m).hints p.0 h) (λ P Q f h weak reached c. is_callable_after weak reached c) (lawful_seen both_sides (lawful_sides (fused_contract m) index_contract longest_rule (zip_longest_hints (fused_contract m) index_contract) (lawful_fused l) lawful_index is_lawful_rule_longest))

@@ -1,7 +1,7 @@
 -- The contract of an adapter that puts separators between items is lawful where the source's is.
 use Rattle.std.specs.Prelude.{◌≡◌, Bool, true, false, Option, Some, None, Result, Ok, Err}
 use Rattle.std.proofs.Common.{refl, ap, arith}
-use Rattle.fallible_iterator.specs.Traces.{Answered}
+use Rattle.fallible_iterator.specs.Traces.{Answered, Run}
 use Rattle.fallible_iterator.specs.Contract.{Contract, KeptByDraw, Lawful}
 use Rattle.fallible_iterator.specs.Lists.{result_answer}
 use Rattle.fallible_iterator.specs.Laws.Contract.{lawful_seen}
@@ -76,7 +76,7 @@ module _ {Z A E : Type 0} (separates : Z → Result A E → Z → Type 0) where
       PartingContract = parting_contract separates can m
 
       abbrev Stage : Contract (S × (Z × (Bool × Option A))) A E
-      Stage = record PartingContract { steps = λ p r q. stage_step item_comes (parting_meets separates) m.steps (parting_stage p) r (parting_stage q) }
+      Stage = record PartingContract { steps = λ p r q. stage_step item_comes (parting_meets separates) m.steps (parting_stage p) r (parting_stage q); traces = λ p trace q. Run (λ u r v. stage_step item_comes (parting_meets separates) m.steps (parting_stage u) r (parting_stage v)) p trace q }
 
       kept_by_draw_parting : (p : S × (Z × (Bool × Option A))) (r : Answered A E) (q : S × (Z × (Bool × Option A))) → KeptByDraw Stage p r q → KeptByDraw PartingContract p r q
       kept_by_draw_parting p r q k = record { can_next = k.can_next; is_finite = k.is_finite; answer = k.answer; may_give = k.may_give; may_fail = k.may_fail; lenders = k.lenders }
@@ -85,4 +85,5 @@ module _ {Z A E : Type 0} (separates : Z → Result A E → Z → Type 0) where
       lawful_parting l = let stage : Lawful Stage = lawful_seen parting_stage (lawful_stage l item_comes (parting_meets separates) (λ _ k. can k.0) 2 (λ _. 0) (parting_hints m) is_stage_parting (λ Q R p q weak reached c. kept_where_reached (λ h. can h.0) (λ p a made q given. can_separate_after_answer p a made q) reached c)) in record {
         kept_by_draw = λ p r q c step. kept_by_draw_parting p r q (stage.kept_by_draw p r q c (stage_step_of_parting_step m.steps p r q step));
         bounded = stage.bounded;
+        traced = λ _ _ _. ((λ h. h), (λ h. h));
       }

@@ -6,7 +6,7 @@ use Rattle.std.specs.Borrow.{Bor, MutBor}
 use Rattle.std.proofs.Common.{refl, sym, ap, ap₂, subst, ◌∙◌, arith, inl, inr}
 use Rattle.fallible_iterator.specs.Traces.{Answered, item, failure, end}
 use Rattle.fallible_iterator.specs.Borrowed.{borrowed}
-use Rattle.fallible_iterator.specs.Contract.{Contract, KeptByDraw, Lawful, OnAnswer, lender_and, seen_as}
+use Rattle.fallible_iterator.specs.Contract.{Contract, KeptByDraw, Lawful, OnAnswer, lender_and, parts_as}
 use Rattle.fallible_iterator.specs.Closures.{Calls, IsCallable, Reaches, call_by_reference, takes_by_reference}
 use Rattle.fallible_iterator.specs.Passing.{Place, asked, failure_at, end_at, call_of, passing_contract}
 use Rattle.fallible_iterator.specs.Hints.{upper_alone}
@@ -89,14 +89,14 @@ module _ {S X E : Type 0} {m : Contract S X E} (l : Lawful m) where
   second_look_same : (p q u : S × Option (Option X)) (x y : X) → Peeks m.steps p (item x) q → Peeks m.steps q (item y) u → (y ≡ x) × Peeks m.steps p (item x) u
   second_look_same p q u x y w v = let k = looked_at_is_next_answer m.steps p q (Some x) w in let h = held_item_is_looked_at m.steps q u (Some x) y k.1 v in ((let e = h.0 in cc), subst (λ z. Peeks m.steps p (item x) z) (sym h.1) w)
 
-  on_answer_seen : (s t : Peekable S X E) → OnAnswer PeekableHere (peekable_parts s) end (peekable_parts t) → OnAnswer (seen_as peekable_parts PeekableHere) s end t
+  on_answer_seen : (s t : Peekable S X E) → OnAnswer PeekableHere (peekable_parts s) end (peekable_parts t) → OnAnswer (parts_as peekable_parts PeekableHere) s end t
   on_answer_seen s t h = h
 
   -- a `Peekable` of its parts
   abbrev of_held : S × Option (Option X) → Peekable S X E
   of_held p = record { it = p.0; held = p.1 }
 
-  pub looks_ahead_peekable_looking : LooksAhead (seen_as peekable_parts (peekable_contract m)) (peekable_looks m.steps)
+  pub looks_ahead_peekable_looking : LooksAhead (parts_as peekable_parts (peekable_contract m)) (peekable_looks m.steps)
   looks_ahead_peekable_looking = record {
     kept = λ s x t c w. let k = kept_by_draw_look (peekable_parts s) (peekable_parts t) x c w in record { can_next = k.can_next; is_finite = k.is_finite; answer = on_answer_seen s t k.answer; may_give = k.may_give; may_fail = k.may_fail; lenders = k.lenders };
     given = λ s x t c w. may_give_looked (peekable_parts s) (peekable_parts t) x c w;
@@ -176,4 +176,4 @@ module _ {S F X E : Type 0} (m : Contract S X E) (l : Lawful m) (looks : S → X
   kept_by_draw_peeking p r q c w = subst (λ (a : Answered X E). KeptByDraw PeekingHere p a q) (sym w.3) (kept_by_draw_place w.0 p.0 q.0 p.1 q.1 c w.1 w.2)
 
 pub lawful_peeking : {S F X E : Type 0} {m : Contract S X E} {looks : S → X → S → Type 0} (g : Mut F (Bor X × Unit {0}) (Result Bool E)) → Lawful m → LooksAhead m looks → Lawful (peeking_contract m looks g)
-lawful_peeking {m = m} {looks = looks} g l k = record { kept_by_draw = λ p r q c w. kept_by_draw_peeking m l looks k g p r q c w; bounded = λ p. l.bounded p.0 }
+lawful_peeking {m = m} {looks = looks} g l k = record { kept_by_draw = λ p r q c w. kept_by_draw_peeking m l looks k g p r q c w; bounded = λ p. l.bounded p.0; traced = λ _ _ _. ((λ h. h), (λ h. h)) }

@@ -151,6 +151,7 @@ module _ {S P X D B L E : Type 0} {m : Contract S X D} (l : Lawful m) (comes : L
   lawful_stage = record {
     kept_by_draw = kept_by_draw_stage;
     bounded = λ p. ((λ e. let k = (l.bounded p.0).0 e in (most * k.0 + held p.1.0 + due_total comes items_of p.1.1, (k.0, k.1, omega arith))), (λ h. (l.bounded p.0).1 ((h.1).0, (h.1).1)));
+    traced = λ _ _ _. ((λ h. h), (λ h. h));
   }
 
 -- ---- what holds in each state

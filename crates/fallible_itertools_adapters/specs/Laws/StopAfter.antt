@@ -39,4 +39,4 @@ module _ {S A E : Type 0} (m : Contract S A E) where
   }
 
 pub lawful_stop_after : {S A E : Type 0} {m : Contract S A E} → Lawful m → Lawful (stop_after_contract m)
-lawful_stop_after {m = m} l = record { kept_by_draw = kept_by_draw_stop_after m l; bounded = λ p. l.bounded p.0 }
+lawful_stop_after {m = m} l = record { kept_by_draw = kept_by_draw_stop_after m l; bounded = λ p. l.bounded p.0; traced = λ _ _ _. ((λ h. h), (λ h. h)) }

@@ -1,5 +1,5 @@
 // The laws of the adapter that yields positions.
-ghost use Rattle.fallible_iterator.specs.Contract.{seen_as};
+ghost use Rattle.fallible_iterator.specs.Contract.{parts_as};
 ghost use Rattle.fallible_iterator.specs.LawForm.{TracesAre};
 ghost use Rattle.fallible_iterator.specs.OneToOne.Enumerate.{enumerate_contract, enumerate_parts};
 ghost use Rattle.fallible_iterator.specs.SoundHints.{HintsAsSoundAs};
@@ -13,7 +13,7 @@ pub fn law_positions<I: FallibleIterator, F: FnMut(I::Item) -> Result<bool, I::E
 where
     I::Item: Drop,
     ensures { TracesAre positions_parts ⟦<Positions<I, F> as FallibleIterator>⟧.contract.steps
-        (PositionsTrace (seen_as enumerate_parts (enumerate_contract I.contract)).steps F.FnMut) }
+        (PositionsTrace (parts_as enumerate_parts (enumerate_contract I.contract)).steps F.FnMut) }
 {}
 
 /// Each hint of `Positions` is as sound as the hint of its source that it is made of.
@@ -22,5 +22,5 @@ where
     I::Item: Drop,
     ensures { (s : Positions I F)
         → HintsAsSoundAs ⟦<Positions<I, F> as FallibleIterator>⟧.contract s
-        (seen_as enumerate_parts (enumerate_contract I.contract)) (positions_source s) }
+        (parts_as enumerate_parts (enumerate_contract I.contract)) (positions_source s) }
 {}

@@ -1,6 +1,9 @@
 -- What is made of the source's list.
-use Rattle.fallible_itertools_adapters.proofs.Lemmas.Intersperse.{lists_interspersed}
+use Rattle.fallible_itertools_adapters.proofs.Lemmas.Intersperse.{lists_interspersed, lists_interspersed_until_refused}
 use Rattle.fallible_itertools.proofs.traits.FallibleItertools.intersperse.Goals as goal
 
 pub returns-clause-lists : goal.returns-clause-lists
 returns-clause-lists g c l i equal infallible = lists_interspersed g.Self.Item.Clone.is_clone g.Self.Item.Clone.is_infallible g.Self.Error.From.from_gives _ equal infallible g.Self.FallibleIterator.contract _ l c.new.ensures i
+
+pub returns-clause-until_refused : goal.returns-clause-until_refused
+returns-clause-until_refused g c l i itself = lists_interspersed_until_refused g.Self.Item.Clone.is_clone g.Self.Item.Clone.is_infallible g.Self.Error.From.from_gives _ itself g.Self.FallibleIterator.contract _ l c.new.ensures i

@@ -3,12 +3,12 @@ use Rattle.std.specs.Prelude.{Ok, Err}
 use Rattle.std.proofs.Common.{inr}
 use Rattle.fallible_iterator.proofs.Lemmas.Lists.Drawn.{collected_of_lists, made_of_collected, collected_is_failure, collected_as_refused}
 use Rattle.fallible_itertools_consumers.specs.KSmallest.{IsSmallestOf, SmallestRefuses}
-use Rattle.fallible_itertools_consumers.proofs.Lemmas.KSmallest.{collects_all_smallest, fails_with_smallest, refuses_item_smallest}
+use Rattle.fallible_itertools_consumers.proofs.Lemmas.KSmallestFolds.{collects_all_smallest, fails_with_smallest, refuses_item_smallest}
 use Rattle.fallible_itertools.proofs.traits.FallibleItertools.k_smallest.Goals as goal
 use Rattle.fallible_iterator.specs.Fault.TheVariants.{Source}
 
 pub returns-in-Ok-None-clause-collects : goal.returns-in-Ok-None-clause-collects
-returns-in-Ok-None-clause-collects g c = collects_all_smallest g.met.Self.Item.Ord.total c.args.k c.new-kept.ensures.items (rw c.in-Ok-None.field-0-is at c.in-Ok-None.ensures)
+returns-in-Ok-None-clause-collects g c = collects_all_smallest g.met.Self.Item.Ord.total c.args.k c.new-kept.ensures.items c.cut.ensures (rw c.in-Ok-None.field-0-is at c.in-Ok-None.ensures)
 
 pub returns-in-Ok-None-clause-value : goal.returns-in-Ok-None-clause-value
 returns-in-Ok-None-clause-value g c l i = collected_of_lists (IsSmallestOf g.Self.Item.Ord.cmp c.args.k) ⊥ (SmallestRefuses c.args.k) (Ok _) l (returns-in-Ok-None-clause-collects g c) i

@@ -2,7 +2,7 @@
 use Rattle.std.proofs.Common.{refl}
 use Rattle.fallible_iterator.specs.Closures.{call_by_value}
 use Rattle.fallible_iterator.proofs.Lemmas.Failing.{recovering_by_answers}
-use Rattle.fallible_iterator.proofs.Lemmas.LawForm.{traces_are_of_parts, run_at_one_answer_iff_law}
+use Rattle.fallible_iterator.specs.Laws.LawForm.{traces_are_of_parts, run_at_one_answer_iff_law}
 use Rattle.fallible_itertools_adapters.specs.OrElse.{or_else_outcome, or_else_parts}
 use Rattle.fallible_itertools_adapters.proofs.laws.failing.law_or_else.Goals as goal
 

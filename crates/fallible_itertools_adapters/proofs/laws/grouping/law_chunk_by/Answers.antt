@@ -1,6 +1,6 @@
 -- A run of the values is one of their parts, which is a trace.
 use Rattle.std.proofs.Common.{refl}
-use Rattle.fallible_iterator.proofs.Lemmas.LawForm.{traces_are_of_parts}
+use Rattle.fallible_iterator.specs.Laws.LawForm.{traces_are_of_parts}
 use Rattle.fallible_itertools_adapters.specs.ChunkBy.{chunk_by_parts}
 use Rattle.fallible_itertools_adapters.proofs.Lemmas.HoldingTraces.{holding_law}
 use Rattle.fallible_itertools_adapters.proofs.laws.grouping.law_chunk_by.Goals as goal

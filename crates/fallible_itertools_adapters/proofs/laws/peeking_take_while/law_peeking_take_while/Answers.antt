@@ -1,6 +1,6 @@
 -- A run of the values is one of their parts, which the law of the parts speaks of.
 use Rattle.std.proofs.Common.{refl}
-use Rattle.fallible_iterator.proofs.Lemmas.LawForm.{traces_are_of_parts}
+use Rattle.fallible_iterator.specs.Laws.LawForm.{traces_are_of_parts}
 use Rattle.fallible_itertools_adapters.specs.PeekingTakeWhile.{peeking_parts}
 use Rattle.fallible_itertools_adapters.proofs.Lemmas.PeekingTakeWhile.{peeking_law}
 use Rattle.fallible_itertools_adapters.proofs.laws.peeking_take_while.law_peeking_take_while.Goals as goal

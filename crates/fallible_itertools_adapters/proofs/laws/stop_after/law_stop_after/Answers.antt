@@ -1,6 +1,6 @@
 -- A run of the values is one of their parts, which the law of the parts speaks of.
 use Rattle.std.proofs.Common.{refl}
-use Rattle.fallible_iterator.proofs.Lemmas.LawForm.{traces_are_of_parts}
+use Rattle.fallible_iterator.specs.Laws.LawForm.{traces_are_of_parts}
 use Rattle.fallible_itertools_adapters.specs.StopAfter.{stop_after_parts}
 use Rattle.fallible_itertools_adapters.proofs.Lemmas.StopAfter.{stop_after_law}
 use Rattle.fallible_itertools_adapters.proofs.laws.stop_after.law_stop_after.Goals as goal

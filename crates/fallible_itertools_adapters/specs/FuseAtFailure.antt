@@ -1,0 +1,41 @@
+-- `FuseAtFailure`, which is exhausted at the first failure.
+use Rattle.std.specs.Prelude.{List, [], ◌∷◌, Result, Ok, Err, Bool, true, false}
+use Rattle.fallible_iterator.specs.Traces.{Answered, Run}
+use Rattle.fallible_iterator.specs.Contract.{Contract}
+use Rattle.fallible_iterator.specs.Closing.{ClosingTrace, closing_contract}
+use Rattle.fallible_itertools_adapters.specs.declared.fuse_at_failure.FuseAtFailure.{FuseAtFailure}
+
+-- whether an answer is a failure
+abbrev pub is_failure : {A E : Type 0} → Answered A E → Bool
+is_failure (Ok o) = false
+is_failure (Err e) = true
+
+-- `FuseAtFailure`: the source's trace, which the source's failure closes.
+pub record FuseAtFailureTrace {S A E : Type 0} (steps : S → Answered A E → S → Type 0) (p : S × Bool) (trace : List (Answered A E)) (q : S × Bool) : Type 0 where
+  pub source_trace : List (Answered A E)
+  pub drawn : Run steps p.0 source_trace q.0
+  pub cut : ClosingTrace (λ r. r) is_failure p.1 source_trace trace q.1
+
+-- `FuseAtFailure`'s contract, with the flag whether the source failed.
+abbrev pub fuse_at_failure_contract : {S A E : Type 0} → Contract S A E → Contract (S × Bool) A E
+fuse_at_failure_contract m = closing_contract m m.steps (λ r. r) is_failure
+
+-- the source
+abbrev pub fuse_at_failure_source : {I : Type 0} → FuseAtFailure I → I
+fuse_at_failure_source s = s.it
+
+-- whether a failure was returned
+abbrev pub fuse_at_failure_failed : {I : Type 0} → FuseAtFailure I → Bool
+fuse_at_failure_failed s = s.failed
+
+-- the source, and whether it failed
+abbrev pub fuse_at_failure_parts : {I : Type 0} → FuseAtFailure I → I × Bool
+fuse_at_failure_parts s = (fuse_at_failure_source s, fuse_at_failure_failed s)
+
+-- ---- what it lists
+
+-- up to and with the first failure
+unfoldable pub up_to_failure : {X E : Type 0} → List (Result X E) → List (Result X E)
+up_to_failure [] = []
+up_to_failure (Ok x ∷ l) = Ok x ∷ up_to_failure l
+up_to_failure (Err e ∷ l) = Err e ∷ []
