@@ -47,7 +47,7 @@ after_first_and_more : (tokens more : List Token) (o : Option State) → ((state
 after_first_and_more tokens more (Some state) then = then state
 after_first_and_more tokens more None then = refl
 
-after_more : (tokens more : List Token) (state : State) → after_tokens state (tokens ++ more) ≡ option_and_then (λ next. after_tokens next more) (after_tokens state tokens)
+pub after_more : (tokens more : List Token) (state : State) → after_tokens state (tokens ++ more) ≡ option_and_then (λ next. after_tokens next more) (after_tokens state tokens)
 unfolding after_tokens
 after_more [] more state = refl
 after_more (token ∷ tokens) more state = after_first_and_more tokens more (after_token state token) (λ next. after_more tokens more next)

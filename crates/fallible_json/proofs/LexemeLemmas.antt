@@ -16,7 +16,7 @@ alive_of : (o : Option State) → option_map is_whole o ≡ Some true → (state
 alive_of (Some state) h = (state, refl, cc)
 alive_of None h = absurd cc
 
-alive_of_text : (tokens : List Token) → IsJsonText tokens → (state : State) × (after_tokens begin tokens ≡ Some state) × (is_whole state ≡ true)
+pub alive_of_text : (tokens : List Token) → IsJsonText tokens → (state : State) × (after_tokens begin tokens ≡ Some state) × (is_whole state ≡ true)
 alive_of_text tokens whole = alive_of (after_tokens begin tokens) whole
 
 with_bytes : (text json : List ℕ) (x : Lexeme) (xs : List Lexeme) → (json ++ bytes_of text x.0 x.1) ++ bytes_of_all text xs ≡ json ++ bytes_of_all text (x ∷ xs)

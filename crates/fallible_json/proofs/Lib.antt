@@ -4,8 +4,15 @@ mod JsonLemmas
 mod LexemeLemmas
 mod LexingLemmas
 mod MinifyingLemmas
+mod PartedLemmas
 mod PlaceLemmas
+mod PrintedLemmas
+mod ReadLemmas
+mod Reading
 mod RunLemmas
 mod SameTreeLemmas
+mod SpelledJsonLemmas
+mod SpelledLemmas
 mod TextLemmas
 mod TreeLemmas
+mod WantedLemmas

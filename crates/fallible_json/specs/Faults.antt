@@ -1,12 +1,14 @@
 -- What is wrong with a text that is no JSON, and what is told of it.
 use Rattle.std.specs.Prelude.{ℕ, nat_le, nat_lt, ◌&&◌, Bool, [], ◌∷◌, if◌then◌else◌, List, length, slice_index, ◌++◌, codes, decimal}
 use Rattle.fallible_json.specs.Places.{place_of}
+use Rattle.fallible_json.specs.Wanted.{wanted_text}
 use Rattle.fallible_json.specs.declared.fault.JsonFault.{JsonFault}
 use Rattle.fallible_json.specs.declared.fault.JsonFault.TheVariants.{Unexpected, Ended, NotText}
+use Rattle.fallible_json.specs.declared.wanted.Wanted.{Wanted}
 
--- the fault at the byte with so many before it: that byte, with its line and column, or the end
-abbrev pub fault_at : List ℕ → ℕ → JsonFault
-fault_at text place = let p = place_of text place in if nat_lt place (length text) then Unexpected p.0 p.1 (slice_index text place) else Ended p.0 p.1
+-- the fault at the byte with so many before it: that byte, with its line and column, or the end; and what could come there
+abbrev pub fault_at : List ℕ → ℕ → Wanted → JsonFault
+fault_at text place wanted = let p = place_of text place in if nat_lt place (length text) then Unexpected p.0 p.1 (slice_index text place) wanted else Ended p.0 p.1 wanted
 
 -- the status that a program ends with
 abbrev pub status_of : JsonFault → ℕ
@@ -22,6 +24,6 @@ byte_text byte = if is_printed byte then 39 ∷ byte ∷ 39 ∷ [] else codes "b
 
 -- the text of the line that tells a fault, without its newline
 abbrev pub text_of : JsonFault → List ℕ
-text_of (Unexpected line column byte) = codes "line " ++ decimal line ++ codes ", column " ++ decimal column ++ codes ": unexpected " ++ byte_text byte
-text_of (Ended line column) = codes "line " ++ decimal line ++ codes ", column " ++ decimal column ++ codes ": unexpected end"
+text_of (Unexpected line column byte wanted) = codes "line " ++ decimal line ++ codes ", column " ++ decimal column ++ codes ": unexpected " ++ byte_text byte ++ wanted_text wanted
+text_of (Ended line column wanted) = codes "line " ++ decimal line ++ codes ", column " ++ decimal column ++ codes ": unexpected end" ++ wanted_text wanted
 text_of (NotText line column) = codes "line " ++ decimal line ++ codes ", column " ++ decimal column ++ codes ": not UTF-8"

@@ -2,10 +2,12 @@
 use Rattle.std.specs.Prelude.{ℕ, not, if◌then◌else◌, Option, Some, None, Result, Ok, Err, List, [], ◌∷◌}
 use Rattle.fallible_iterator.specs.Lists.{found, rest_true}
 use Rattle.fallible_json.specs.Tokens.{after, begun_by, is_blank, token_of}
+use Rattle.fallible_json.specs.Wanted.{wanted_in}
 use Rattle.fallible_json.specs.declared.lexer.LexFault.{LexFault}
 use Rattle.fallible_json.specs.declared.lexer.LexFault.TheVariants.{Source, Unknown, Unfinished}
 use Rattle.fallible_json.specs.declared.token.Phase.{Phase}
 use Rattle.fallible_json.specs.declared.token.Token.{Token}
+use Rattle.fallible_json.specs.declared.wanted.Wanted.{Wanted}
 
 -- a byte and its place, the place first
 abbrev pub Placed : Type 0
@@ -29,13 +31,13 @@ abbrev pub with_byte : Phase → ℕ → Phase
 with_byte phase byte = where_goes (after phase byte) phase (λ next. next)
 
 module _ {E : Type 0} where
-  -- a token at its places, or the failure of one whose last byte doesn't end it
-  abbrev pub lexeme_or : ℕ → ℕ → Option Token → Result Lexeme (LexFault E)
-  lexeme_or first last (Some token) = Ok (first, last, token)
-  lexeme_or first last None = Err (Unfinished last)
+  -- a token at its places, or the failure of one whose last byte doesn't end it, with what could come next
+  abbrev pub lexeme_or : ℕ → ℕ → Wanted → Option Token → Result Lexeme (LexFault E)
+  lexeme_or first last wanted (Some token) = Ok (first, last, token)
+  lexeme_or first last wanted None = Err (Unfinished last wanted)
 
   abbrev pub closed : ℕ → ℕ → Phase → Result Lexeme (LexFault E)
-  closed first last phase = lexeme_or first last (token_of phase)
+  closed first last phase = lexeme_or first last (wanted_in phase) (token_of phase)
 
   -- ---- what a search and a run make of a list
 

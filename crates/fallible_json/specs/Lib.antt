@@ -1,5 +1,6 @@
 -- What the clauses of `src/` cite.
 pub mod Bytes
+pub mod Expected
 pub mod Faults
 pub mod Grammar
 pub mod Json
@@ -7,5 +8,8 @@ pub mod Lexing
 pub mod Minifying
 pub mod Places
 pub mod Report
+pub mod Spelled
+pub mod Spelling
 pub mod Tokens
 pub mod Trees
+pub mod Wanted

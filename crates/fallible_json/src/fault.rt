@@ -2,32 +2,34 @@
 ghost use Rattle.std.specs.Prelude.{◌≡◌, ◌++◌, OnErr, OnOk, codes, decimal};
 ghost use Rattle.std.specs.Io.KnownBytes.{Appends};
 ghost use Rattle.fallible_json.specs.Faults.{byte_text, fault_at, status_of, text_of};
+ghost use Rattle.fallible_json.specs.Wanted.{wanted_text};
 
 use crate::place::place_of;
+use crate::wanted::Wanted;
 use program_io::fault::InputFault;
 use program_io::writing::WriteText;
 use std::io;
 
-/// Why a text is no JSON text. Each has the line and the column where that was met, both from 1.
+/// Why a text is no JSON text. Each has the line and the column where that was met, both from 1, and the first two what could come there.
 #[derive(Clone, Copy, Debug, Drop, PartialEq, Eq)]
 pub enum JsonFault {
     /// This byte may not stand there.
-    Unexpected(usize, usize, u8),
+    Unexpected(usize, usize, u8, Wanted),
     /// The text ends there.
-    Ended(usize, usize),
+    Ended(usize, usize, Wanted),
     /// What stands there is no UTF-8.
     NotText(usize, usize),
 }
 
 // The fault of the byte at a place, or of the end.
-pub(crate) fn fault_at(text: &[u8], place: usize) -> JsonFault
-    ensures { result ≡ fault_at text.now place }
+pub(crate) fn fault_at(text: &[u8], place: usize, wanted: Wanted) -> JsonFault
+    ensures { result ≡ fault_at text.now place wanted }
 {
     let (line, column) = place_of(text, place);
     if place < text.len() {
-        JsonFault::Unexpected(line, column, text[place])
+        JsonFault::Unexpected(line, column, text[place], wanted)
     } else {
-        JsonFault::Ended(line, column)
+        JsonFault::Ended(line, column, wanted)
     }
 }
 
@@ -44,20 +46,38 @@ fn write_byte<W: WriteText>(byte: u8, errors: &mut W) -> io::Result<()>
     }
 }
 
-// Writes that a byte may not stand at a place.
+// Writes that a byte may not stand at a place, and what could.
 fn write_unexpected<W: WriteText>(
     line: usize,
     column: usize,
     byte: u8,
+    wanted: Wanted,
     errors: &mut W,
 ) -> io::Result<()>
     ensures text { OnOk result (Appends (W.written errors.old) (W.written errors.new)
         (codes "line " ++ decimal line ++ codes ", column " ++ decimal column
-        ++ codes ": unexpected " ++ byte_text byte)) }
+        ++ codes ": unexpected " ++ byte_text byte ++ wanted_text wanted)) }
     ensures failed { OnErr result (W.failed errors.new) }
 {
     write_after_place(line, column, ": unexpected ", errors)?;
-    write_byte(byte, errors)
+    write_byte(byte, errors)?;
+    wanted.write(errors)
+}
+
+// Writes that a text ends at a place, and what could come there.
+fn write_ended<W: WriteText>(
+    line: usize,
+    column: usize,
+    wanted: Wanted,
+    errors: &mut W,
+) -> io::Result<()>
+    ensures text { OnOk result (Appends (W.written errors.old) (W.written errors.new)
+        (codes "line " ++ decimal line ++ codes ", column " ++ decimal column
+        ++ codes ": unexpected end" ++ wanted_text wanted)) }
+    ensures failed { OnErr result (W.failed errors.new) }
+{
+    write_after_place(line, column, ": unexpected end", errors)?;
+    wanted.write(errors)
 }
 
 // Writes a place, and a text after it.
@@ -82,12 +102,10 @@ impl JsonFault {
         ensures failed { OnErr result (W.failed errors.new) }
     {
         match *self {
-            JsonFault::Unexpected(line, column, byte) => {
-                write_unexpected(line, column, byte, errors)
+            JsonFault::Unexpected(line, column, byte, wanted) => {
+                write_unexpected(line, column, byte, wanted, errors)
             }
-            JsonFault::Ended(line, column) => {
-                write_after_place(line, column, ": unexpected end", errors)
-            }
+            JsonFault::Ended(line, column, wanted) => write_ended(line, column, wanted, errors),
             JsonFault::NotText(line, column) => {
                 write_after_place(line, column, ": not UTF-8", errors)
             }

@@ -1,8 +1,10 @@
 //! Which tokens may come, token by token.
 ghost use Rattle.std.specs.Prelude.{◌≡◌, ◌≢◌, MatchResult, Err, None, Ok, Some, reverse};
 ghost use Rattle.fallible_json.specs.Grammar.{after_token, first_in, is_whole, next_in, step_of, taken, value_step};
+ghost use Rattle.fallible_json.specs.Wanted.{wanted_of};
 
 use crate::token::Token;
+use crate::wanted::Wanted;
 
 // What encloses values.
 #[derive(Clone, Copy, PartialEq, Eq)]
@@ -157,6 +159,24 @@ impl Nesting {
         match self.expects {
             Expects::AfterValue => self.containers.is_empty(),
             _ => false,
+        }
+    }
+
+    // The tokens that may come.
+    pub(crate) fn wanted(&self) -> Wanted
+        ensures { result ≡ wanted_of (reverse self.now.containers.items, self.now.expects) }
+    {
+        match self.expects {
+            Expects::Value => Wanted::Value,
+            Expects::ValueOrEnd => Wanted::ValueOrEnd,
+            Expects::NameOrEnd => Wanted::NameOrEnd,
+            Expects::Name => Wanted::Name,
+            Expects::Separator => Wanted::Colon,
+            Expects::AfterValue => match self.containers.last() {
+                Some(Container::Array) => Wanted::CommaOrBracket,
+                Some(Container::Object) => Wanted::CommaOrBrace,
+                None => Wanted::End,
+            },
         }
     }
 

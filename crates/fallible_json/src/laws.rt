@@ -3,13 +3,17 @@ ghost use Rattle.std.specs.Prelude.{◌≡◌, ◌++◌, ◌∷◌, ℕ, Err, Li
 ghost use Rattle.std.specs.Str.{IsUtf8};
 ghost use Rattle.std.specs.declared.convert.Infallible.{Infallible};
 ghost use Rattle.fallible_iterator.specs.Lists.{items, numbered};
+ghost use Rattle.fallible_json.specs.Expected.{GoOnWith};
 ghost use Rattle.fallible_json.specs.Grammar.{IsJsonText};
 ghost use Rattle.fallible_json.specs.Json.{IsJson};
 ghost use Rattle.fallible_json.specs.Lexing.{Lexeme, lexed};
-ghost use Rattle.fallible_json.specs.Minifying.{bytes_of_all, minified};
+ghost use Rattle.fallible_json.specs.Minifying.{bytes_of_all, minified, minified_or_wanted};
+ghost use Rattle.fallible_json.specs.Spelled.{Spell, SpellLongest, spelled};
 ghost use Rattle.fallible_json.specs.Trees.{BeginsTree, Tree, tokens_of, written};
+ghost use Rattle.fallible_json.specs.declared.minifying.Misplaced.{Misplaced};
 ghost use Rattle.fallible_json.specs.declared.minifying.Misplaced.TheVariants.{Ended, Source, Unexpected};
 ghost use Rattle.fallible_json.specs.declared.token.Token.{Token};
+ghost use Rattle.fallible_json.specs.declared.wanted.Wanted.{Wanted};
 
 /// Tokens are one JSON text if and only if they are what is written of a tree, and of one tree alone.
 pub fn law_trees()
@@ -54,4 +58,48 @@ pub fn law_json()
         → IsUtf8 bytes × (tree : Tree) × (lexemes : List Lexeme)
         × (lexed {E = Infallible} (numbered 0 (items bytes)) ≡ items lexemes)
         × (tokens_of lexemes ≡ written tree) × (json ≡ bytes_of_all bytes lexemes) }
+{}
+
+/// Bytes are read as tokens without a failure if and only if by the rules of RFC 8259 they are these tokens at their places, with blanks between, and each token is as long as can be.
+pub fn law_lexed<E>()
+    ensures read { (bytes : List ℕ) (lexemes : List Lexeme)
+        → lexed {E = E} (numbered 0 (items bytes)) ≡ items lexemes → SpellLongest bytes lexemes }
+    ensures spelled { (bytes : List ℕ) (lexemes : List Lexeme) → SpellLongest bytes lexemes
+        → lexed {E = E} (numbered 0 (items bytes)) ≡ items lexemes }
+{}
+
+/// Bytes are a JSON text if and only if they are UTF-8 and by the rules of RFC 8259 they are tokens with blanks between, and the tokens are what is written of a tree.
+pub fn law_spelled()
+    ensures written { (bytes : List ℕ) (tree : Tree) (lexemes : List Lexeme) → IsUtf8 bytes
+        → Spell bytes lexemes → tokens_of lexemes ≡ written tree
+        → IsJson bytes (bytes_of_all bytes lexemes) }
+    ensures accepted { (bytes json : List ℕ) → IsJson bytes json
+        → IsUtf8 bytes × (tree : Tree) × (lexemes : List Lexeme) × Spell bytes lexemes
+        × (tokens_of lexemes ≡ written tree) × (json ≡ bytes_of_all bytes lexemes) }
+{}
+
+/// A JSON text without its blanks is a JSON text that has none, with the same tokens, and each of these has the same bytes.
+pub fn law_printed()
+    ensures again { (bytes json : List ℕ) → IsJson bytes json → IsJson json json }
+    ensures tokens { (bytes json : List ℕ) → IsJson bytes json
+        → (lexemes printed : List Lexeme)
+        × (lexed {E = Infallible} (numbered 0 (items bytes)) ≡ items lexemes)
+        × (lexed {E = Infallible} (numbered 0 (items json)) ≡ items printed)
+        × (spelled json printed ≡ spelled bytes lexemes) }
+{}
+
+/// What is told to be expected at the first fault of placed tokens are the tokens with which those before it begin a tree, and no others.
+pub fn law_wanted<E>()
+    ensures source { (text : List ℕ) (before : List Lexeme) (e : E) (rest : List (Result Lexeme E))
+        (fault : Misplaced E) (wanted : Wanted)
+        → minified_or_wanted text (items before ++ Err e ∷ rest) ≡ Err (fault, wanted)
+        → BeginsTree (tokens_of before) → GoOnWith (tokens_of before) wanted }
+    ensures unexpected { (text : List ℕ) (before : List Lexeme) (x : Lexeme)
+        (rest : List (Result Lexeme E)) (fault : Misplaced E) (wanted : Wanted)
+        → minified_or_wanted text (items before ++ Ok x ∷ rest) ≡ Err (fault, wanted)
+        → BeginsTree (tokens_of before) → ¬ (BeginsTree (tokens_of before ++ x.2 ∷ []))
+        → GoOnWith (tokens_of before) wanted }
+    ensures ended { (text : List ℕ) (before : List Lexeme) (fault : Misplaced E) (wanted : Wanted)
+        → minified_or_wanted text (items before) ≡ Err (fault, wanted)
+        → BeginsTree (tokens_of before) → GoOnWith (tokens_of before) wanted }
 {}

@@ -1,15 +1,16 @@
 //! The tokens of any iterator of bytes that come with their places, read by looking one byte ahead.
 ghost use Rattle.std.specs.Prelude.{◌≡◌, ℕ, List, None, Ok, Result};
 ghost use Rattle.fallible_iterator.specs.Contract.{Stays};
-ghost use Rattle.fallible_iterator.specs.Laws.Contract.{lawful_seen};
+ghost use Rattle.fallible_iterator.specs.Laws.Contract.{lawful_parts};
 ghost use Rattle.fallible_iterator.specs.Laws.Peeking.Peekable.{lawful_peekable};
 ghost use Rattle.fallible_iterator.specs.Lists.{Lists, result_answer};
-ghost use Rattle.fallible_iterator.specs.Peeking.Peekable.{peekable_parts};
+ghost use Rattle.fallible_iterator.specs.Peeking.Peekable.{peekable_made, peekable_parts};
 ghost use Rattle.fallible_itertools.specs.Ahead.{Lowers, making};
 ghost use Rattle.fallible_itertools.specs.Laws.Ahead.{lawful_making};
 ghost use Rattle.fallible_json.specs.Lexing.{Placed, closed, first_byte, lexed, rest_byte, rest_lexed, run_of, with_byte};
 
 use crate::token::{Phase, Token, after, begun_by, goes_on, is_blank, token_of};
+use crate::wanted::{Wanted, wanted_in};
 use fallible_iterator::{FallibleIterator, Peekable};
 
 /// Why a token could not be read.
@@ -19,8 +20,8 @@ pub enum LexFault<E> {
     Source(E),
     /// At this place stands a byte that begins no token.
     Unknown(usize),
-    /// The byte at this place is the last so far of a token, and none that goes on with it comes after it.
-    Unfinished(usize),
+    /// The byte at this place is the last so far of a token, and none that goes on with it comes after it: one of these.
+    Unfinished(usize, Wanted),
 }
 
 // The token with a byte that goes on with it.
@@ -43,7 +44,7 @@ fn closed<E>(
 {
     match token_of(phase) {
         Some(token) => Ok(Some((first, last, token))),
-        None => Err(LexFault::Unfinished(last)),
+        None => Err(LexFault::Unfinished(last, wanted_in(phase))),
     }
 }
 
@@ -141,7 +142,7 @@ impl<I: FallibleIterator<Item = (usize, u8)>> FallibleIterator for Tokens<I> {
     }
 
     ghost lawful = { lawful_making (λ s. s.ahead) lexed rest_lexed
-        (lawful_seen peekable_parts (lawful_peekable I.lawful)) };
+        (lawful_parts peekable_made (lawful_peekable I.lawful)) };
 }
 
 impl<I: FallibleIterator<Item = (usize, u8)>> Tokens<I> {

@@ -11,12 +11,14 @@ mod minifying;
 mod place;
 mod report;
 mod token;
+mod wanted;
 
 pub use bytes::PlacedBytes;
 pub use fault::JsonFault;
-pub use json::json_of;
+pub use json::MakeJson;
 pub use lexer::{LexFault, Tokens};
 pub use minifying::{Misplaced, minify};
 pub use place::place_of;
 pub use report::run;
 pub use token::Token;
+pub use wanted::Wanted;

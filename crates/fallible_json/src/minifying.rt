@@ -2,10 +2,11 @@
 ghost use Rattle.std.specs.Prelude.{◌≡◌, List, Result};
 ghost use Rattle.fallible_iterator.specs.Lists.{Lists};
 ghost use Rattle.fallible_json.specs.Lexing.{Lexeme};
-ghost use Rattle.fallible_json.specs.Minifying.{ComesFrom, bytes_of, ended, minified};
+ghost use Rattle.fallible_json.specs.Minifying.{ComesFrom, bytes_of, ended, minified_or_wanted, with_wanted};
 
 use crate::grammar::{Expects, Nesting, Stop};
 use crate::token::Token;
+use crate::wanted::Wanted;
 use fallible_iterator::{FallibleIterator, Fault};
 use std::alloc::{AllocError, Global};
 
@@ -32,31 +33,35 @@ fn bytes_of(text: &[u8], first: usize, last: usize) -> &[u8]
 }
 
 // The text, if the tokens were one JSON text.
-fn ended<E>(is_whole: bool, json: Vec<u8>) -> Result<Vec<u8>, Fault<Misplaced<E>>>
-    ensures { ComesFrom (ended is_whole json.items) result }
+fn ended<E>(
+    is_whole: bool,
+    wanted: Wanted,
+    json: Vec<u8>,
+) -> Result<Vec<u8>, Fault<(Misplaced<E>, Wanted)>>
+    ensures { ComesFrom (with_wanted wanted (ended is_whole json.items)) result }
 {
     if is_whole {
         Ok(json)
     } else {
-        Err(Fault::Source(Misplaced::Ended))
+        Err(Fault::Source((Misplaced::Ended, wanted)))
     }
 }
 
 /// The bytes of tokens of a text, one after the other, if the tokens are one JSON text of RFC 8259. The tokens come with the places of their first and last bytes in the text; one that has no such bytes adds none.
 ///
-/// It draws up to `Ok(None)` or the first fault, which is returned: the source's failure, the first token that may not stand where it stands, or the end where a token is missing. It doesn't recurse: the containers that are open are a vector. It fails with `Fault::Memory` if an allocation fails.
+/// It draws up to `Ok(None)` or the first fault, which is returned: the source's failure, the first token that may not stand where it stands, or the end where a token is missing; and with it the tokens that could come there. It doesn't recurse: the containers that are open are a vector. It fails with `Fault::Memory` if an allocation fails.
 ///
 /// Requires that `next` may be called on the source, and that it is finite.
 pub fn minify<I: FallibleIterator<Item = (usize, usize, Token)>>(
     alloc: Global,
     text: &[u8],
     mut tokens: I,
-) -> Result<Vec<u8>, Fault<Misplaced<I::Error>>>
+) -> Result<Vec<u8>, Fault<(Misplaced<I::Error>, Wanted)>>
 where
     requires can_next { I.contract.can_next tokens }
     requires finite { I.contract.is_finite tokens }
     ensures { (l : List (Result Lexeme I.Error)) → Lists I.contract.steps tokens l
-        → ComesFrom (minified text.now l) result }
+        → ComesFrom (minified_or_wanted text.now l) result }
 {
     let mut left = tokens.number();
     let mut nesting = Nesting {
@@ -65,15 +70,18 @@ where
     };
     let mut json = Vec::new(alloc);
     loop {
+        let wanted = nesting.wanted();
         let (first, last, token) = match tokens.draw() {
             Ok(Some(next)) => next,
-            Ok(None) => return ended(nesting.is_whole(), json),
-            Err(e) => return Err(Fault::Source(Misplaced::Source(e))),
+            Ok(None) => return ended(nesting.is_whole(), wanted, json),
+            Err(e) => return Err(Fault::Source((Misplaced::Source(e), wanted))),
         };
         left = left.one_less();
         nesting = match nesting.after(token) {
             Ok(after) => after,
-            Err(Stop::Unexpected) => return Err(Fault::Source(Misplaced::Unexpected(first))),
+            Err(Stop::Unexpected) => {
+                return Err(Fault::Source((Misplaced::Unexpected(first), wanted)));
+            }
             // No memory: an allocation failed in `after`, and its fault doesn't keep the error.
             Err(Stop::Memory) => return Err(Fault::Memory(AllocError)),
         };

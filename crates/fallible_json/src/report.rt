@@ -1,34 +1,49 @@
 //! The JSON text that a reader yields, without blanks.
+ghost use Rattle.std.specs.Prelude.{◌∷◌, ◌++◌, [], OnErr, OnOk};
+ghost use Rattle.std.specs.Io.KnownBytes.{Appends};
 ghost use Rattle.fallible_json.specs.Report.{ComesTo};
 ghost use Rattle.program_io.specs.Reading.{Fails};
 
 use crate::fault::JsonFault;
-use crate::json::json_of;
+use crate::json::MakeJson;
 use fallible_iterator::Fault;
 use program_io::fault::{RunFault, fault_of_read};
 use program_io::reading::ReadBytes;
 use program_io::writing::WriteText;
 use std::alloc::Global;
+use std::io;
 
-/// Reads a text up to the end of `reader`, which may be any reader of std, and writes it to `writer` without the blanks between its tokens, if it is a JSON text. It fails with `Input` and the text's first fault, with `Read` where a read fails, with `Memory` if that is for want of memory or an allocation fails, and with `Write` where the writer fails. An interrupted read is tried again. Only at `Ok` and `Write` may something have been written.
-pub fn run<R: ReadBytes, W: WriteText>(
+// Writes a text, and a newline.
+fn write_line<W: WriteText>(json: &[u8], writer: &mut W) -> io::Result<()>
+    ensures text { OnOk result (Appends (W.written writer.old) (W.written writer.new)
+        (json.now ++ 10 ∷ [])) }
+    ensures failed { OnErr result (W.failed writer.new) }
+{
+    writer.write_bytes(json)?;
+    writer.write_bytes(b"\n")
+}
+
+/// Reads a text up to the end of `reader`, which may be any reader of std, and writes it to `writer` without the blanks between its tokens, and a newline, if it is a JSON text. It fails with `Input` and the text's first fault, with `Read` where a read fails, with `Memory` if that is for want of memory or `maker` has none for the text without blanks, and with `Write` where the writer fails. An interrupted read is tried again. Only at `Ok` and `Write` may something have been written.
+pub fn run<M: MakeJson, R: ReadBytes, W: WriteText>(
     alloc: Global,
+    maker: &M,
     reader: &mut R,
     writer: &mut W,
 ) -> Result<(), RunFault<JsonFault>>
-    ensures { ComesTo R.left (Fails R.left R.fails) reader.old reader.new W.failed
+    ensures { ComesTo R.left (Fails R.left R.fails) reader.old reader.new
+        (M.refused maker.now) W.failed
         (W.written writer.old) (W.written writer.new) writer.new result }
 {
     let text = match reader.read_rest(b"", alloc) {
         Ok(text) => text,
         Err(e) => return Err(fault_of_read(&e)),
     };
-    let json = match json_of(alloc, text.as_slice()) {
+    let json = match maker.json_of(text.as_slice()) {
         Ok(json) => json,
         Err(Fault::Source(fault)) => return Err(RunFault::Input(fault)),
         Err(Fault::Memory(_)) => return Err(RunFault::Memory),
     };
-    match writer.write_bytes(json.as_slice()) {
+    match write_line(json.as_slice(), writer) {
         Ok(()) => Ok(()),
         Err(_) => Err(RunFault::Write),
     }

@@ -1,4 +1,4 @@
-//! Reads a JSON text of RFC 8259 from the file that its word names or from standard input, and prints it without the blanks between its tokens.
+//! Reads a JSON text of RFC 8259 from the file that its word names or from standard input, and prints it without the blanks between its tokens, and a newline.
 //!
 //! Where it is none, it says why on standard error, with the line and the column, and ends with status 1; with 2 where a read fails, the file can't be opened, or a word is none that it takes, 3 where memory runs out, and 4 where the text cannot be printed.
 #![tactic(auto)]
@@ -11,7 +11,8 @@ use std::process::ExitCode;
 
 const USAGE: &str = "usage: json_tokens [FILE]
        json_tokens -h | --help
-Reads a JSON text, and prints it without the blanks between its tokens.
+Reads a JSON text, and prints it without the blanks between its tokens, and a
+newline.
 It reads one FILE at most, and standard input where FILE is - or none is given.
 A FILE whose name begins with - is given after --, or as ./-NAME.";
 
@@ -30,6 +31,7 @@ fn main(rt: HostRuntime) -> ExitCode {
     };
     match program(
         rt.alloc(),
+        &rt.alloc(),
         &mut input,
         &mut output,
         name.as_deref(),

@@ -4,15 +4,16 @@ ghost use Rattle.fallible_json.specs.Report.{ComesTo};
 ghost use Rattle.program_io.specs.Endings.{EndsWith};
 ghost use Rattle.program_io.specs.Reading.{Fails};
 
-use fallible_json::run;
+use fallible_json::{MakeJson, run};
 use program_io::ending::ended;
 use program_io::reading::ReadBytes;
 use program_io::writing::WriteText;
 use std::alloc::Global;
 
 // Runs over `input`, and tells `errors` of a fault, with the name of the input where that has one. The status that the program ends with; an `Err` where there was a line to tell and it could not be written.
-pub(crate) fn program<R: ReadBytes, W: WriteText, E: WriteText>(
+pub(crate) fn program<M: MakeJson, R: ReadBytes, W: WriteText, E: WriteText>(
     alloc: Global,
+    maker: &M,
     input: &mut R,
     output: &mut W,
     name: Option<&str>,
@@ -20,8 +21,8 @@ pub(crate) fn program<R: ReadBytes, W: WriteText, E: WriteText>(
 ) -> Result<u8, u8>
     ensures { EndsWith status_of text_of name.entry
         (E.written errors.old) (E.written errors.new) (E.failed errors.new)
-        (ComesTo R.left (Fails R.left R.fails) input.old input.new W.failed
+        (ComesTo R.left (Fails R.left R.fails) input.old input.new (M.refused maker.now) W.failed
         (W.written output.old) (W.written output.new) output.new) result }
 {
-    ended(run(alloc, input, output), name, errors)
+    ended(run(alloc, maker, input, output), name, errors)
 }
