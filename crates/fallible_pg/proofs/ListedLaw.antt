@@ -67,9 +67,9 @@ messages_of-damage place bytes damage is = messages_of-step place bytes ∙ ap (
 
 -- ---- draws
 
-module _ {R : Type 0} (left : R → Option (List ℕ)) (stays : Bool → R → R → Type 0) (never : NoReadFails stays) where
+module _ {R : Type 0} (left : R → Option (List ℕ)) (stays : Bool → R → R → Type 0) (no_room : List ℕ → Type 0) (never : NoReadFails stays) where
   abbrev steps : Messages R → Answered Message PgFault → Messages R → Type 0
-  steps s answer t = message_step left stays (messages_parts s) answer (messages_parts t)
+  steps s answer t = message_step left stays no_room (messages_parts s) answer (messages_parts t)
 
   abbrev Refuses : Answered Message PgFault → Messages R → Type 0
   Refuses answer t = AtRefusal HasBytes steps IsMemory answer t
@@ -88,17 +88,17 @@ module _ {R : Type 0} (left : R → Option (List ℕ)) (stays : Bool → R → R
 
   -- after a fault nothing is given
   gives_no_more : (t : Messages R) → (messages_parts t).1 ≡ None → Gives t []
-  gives_no_more t is answer u h = (subst (λ (o : Option ℕ). message_step left stays ((messages_parts t).0, o) answer (messages_parts u)) is h).0
+  gives_no_more t is answer u h = (subst (λ (o : Option ℕ). message_step left stays no_room ((messages_parts t).0, o) answer (messages_parts u)) is h).0
 
   -- what is given of fewer than n bytes
   abbrev GivesFewer : ℕ → Type 0
   GivesFewer n = (s : Messages R) (r : R) (place : ℕ) (bytes : List ℕ) → length bytes < n → messages_parts s ≡ (r, Some place) → left r ≡ Some bytes → place + length bytes ≤ 2 ^ 63 → Gives s (messages_of place bytes)
 
   module _ (n : ℕ) (fewer : GivesFewer n) (r : R) (t : Messages R) (place : ℕ) (bytes : List ℕ) (few : length bytes < suc n) (known : left r ≡ Some bytes) (fits : place + length bytes ≤ 2 ^ 63) where
-    takes_fault : (fault : PgFault) (begun : List ℕ) (last : R) → (messages_parts t).1 ≡ None → GivesBytes left stays r begun last → TellsWhy left stays place begun last fault (messages_parts t).0 → TakesMade (Err fault) t (messages_of place bytes)
+    takes_fault : (fault : PgFault) (begun : List ℕ) (last : R) → (messages_parts t).1 ≡ None → GivesBytes left stays r begun last → TellsWhy left stays no_room place begun last fault (messages_parts t).0 → TakesMade (Err fault) t (messages_of place bytes)
     takes_fault (Server m) begun last none given h = absurd h
     takes_fault (Damaged at damage) begun last none given h =
-        let is = messages_of-damage place bytes damage (size_broken left stays place r known damage (messages_parts t).0 (begun, last, given, h.1)) in
+        let is = messages_of-damage place bytes damage (size_broken left stays no_room place r known damage (messages_parts t).0 (begun, last, given, h.1)) in
         subst (TakesMade (Err (Damaged at damage)) t) (sym is) (inr (ap (λ (p : ℕ). Err (Damaged p damage)) h.0, gives_no_more t none))
     takes_fault Read begun last none given (inl h) = absurd (never last (messages_parts t).0 h.1.1)
     takes_fault Read begun last none given (inr h) = let far = h.0 in absurd (omega (arith, far, fits))
@@ -108,7 +108,7 @@ module _ {R : Type 0} (left : R → Option (List ℕ)) (stays : Bool → R → R
         refused (Ok k) = inl (inl (Memory, refl, (record {}, refl)))
         refused (Err damage) = inl (inl (Memory, refl, (record {}, refl)))
 
-    takes_made : (answer : Answered Message PgFault) → message_step left stays (r, Some place) answer (messages_parts t) → TakesMade answer t (messages_of place bytes)
+    takes_made : (answer : Answered Message PgFault) → message_step left stays no_room (r, Some place) answer (messages_parts t) → TakesMade answer t (messages_of place bytes)
     takes_made (Ok (Some m)) h =
         let k = known_left (left r) (left (messages_parts t).0) (message_bytes m) bytes known (consumes_given left stays (message_bytes m) r (messages_parts t).0 h.0) in
         let five = m.long in
@@ -121,7 +121,7 @@ module _ {R : Type 0} (left : R → Option (List ℕ)) (stays : Bool → R → R
 
   gives_fewer : (n : ℕ) → GivesFewer n
   gives_fewer zero s r place bytes few is known fits = absurd (omega arith)
-  gives_fewer (suc n) s r place bytes few is known fits = gives_made_by_draws s (messages_of place bytes) (λ answer t step. takes_made n (gives_fewer n) r t place bytes few known fits answer (subst (λ (p : R × Option ℕ). message_step left stays p answer (messages_parts t)) is step))
+  gives_fewer (suc n) s r place bytes few is known fits = gives_made_by_draws s (messages_of place bytes) (λ answer t step. takes_made n (gives_fewer n) r t place bytes few known fits answer (subst (λ (p : R × Option ℕ). message_step left stays no_room p answer (messages_parts t)) is step))
 
   pub lists_messages : {r : R} {place : ℕ} {bytes : List ℕ} (s : Messages R) → messages_parts s ≡ (r, Some place) → left r ≡ Some bytes → place + length bytes ≤ 2 ^ 63 → ListsMade HasBytes steps IsMemory s (messages_of place bytes)
   lists_messages {r = r} {place = place} {bytes = bytes} s is known fits = record { runs = gives_fewer (suc (length bytes)) s r place bytes (omega arith) is known fits }

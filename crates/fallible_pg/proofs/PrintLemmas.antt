@@ -9,36 +9,58 @@ use Rattle.std.proofs.lemmas.List.Folds.{concat-append}
 use Rattle.program_io.specs.Bytes.{GivesByte, GivesBytes}
 use Rattle.fallible_iterator.specs.Laws.Closures.{folds_to_in_turn}
 use Rattle.fallible_iterator.specs.Traces.{Answered, item}
-use Rattle.fallible_pg.specs.Draws.{row_bytes, IsOfKind, ReadsAnswer, DrawsBytes}
+use Rattle.fallible_pg.specs.Draws.{row_bytes, reply_bytes, reply_kind, IsOfKind, ReadsAnswer, DrawsBytes}
 use Rattle.fallible_pg.specs.Rows.{kind_of, rows_step}
-use Rattle.fallible_pg.specs.Text.{row_text}
+use Rattle.fallible_pg.specs.Messages.{message_bytes}
 use Rattle.fallible_pg.proofs.DrawLemmas.{draws_bytes_of}
 use Rattle.fallible_pg.specs.declared.fault.PgFault.{PgFault}
 use Rattle.fallible_pg.specs.declared.fault.PgFault.TheVariants.{Server, Damaged, Read, Memory}
 use Rattle.fallible_pg.specs.declared.rows.Kind.{Kind}
 use Rattle.fallible_pg.specs.declared.rows.Kind.TheVariants as Is
-use Rattle.fallible_pg.specs.declared.rows.Row.{Row}
+use Rattle.fallible_pg.specs.declared.rows.Reply.{Reply}
+use Rattle.fallible_pg.specs.declared.rows.Reply.TheVariants as Came
 use Rattle.program_io.specs.declared.fault.RunFault.{RunFault}
 use Rattle.program_io.specs.declared.fault.RunFault.TheVariants as Run
-use Rattle.fallible_pg.specs.Report.{as_run_fault, text_by, rows_text, IsPassed, ReadsOutcome, WritesText, ComesTo}
+use Rattle.fallible_pg.specs.Report.{as_run_fault, text_by, told_by, made_text, rows_text, notices_text, IsPassed, ReadsOutcome, WritesTexts, PutsReply, ComesTo}
 use Rattle.fallible_pg.specs.declared.printing.PgInput.{PgInput}
 
--- ---- the text
+-- ---- the texts
 
-rows_text-append : (ms ns : List (List ℕ)) → rows_text (ms ++ ns) ≡ rows_text ms ++ rows_text ns
-rows_text-append [] ns = refl
-rows_text-append (m ∷ ms) ns = ap (λ l. text_by (kind_of m) m ++ l) (rows_text-append ms ns) ∙ sym (append_assoc (text_by (kind_of m) m) (rows_text ms) (rows_text ns))
+made_text-append : (by : Kind → List ℕ → List ℕ) (ms ns : List (List ℕ)) → made_text by (ms ++ ns) ≡ made_text by ms ++ made_text by ns
+made_text-append by [] ns = refl
+made_text-append by (m ∷ ms) ns = ap (λ l. by (kind_of m) m ++ l) (made_text-append by ms ns) ∙ sym (append_assoc (by (kind_of m) m) (made_text by ms) (made_text by ns))
 
-rows_text-skipped : (ms : List (List ℕ)) → All (IsOfKind Is.Skipped) ms → rows_text ms ≡ []
-rows_text-skipped [] h = refl
-rows_text-skipped (m ∷ ms) h = ap (λ (k : Kind). text_by k m ++ rows_text ms) (All-head (IsOfKind Is.Skipped) m ms h).1 ∙ rows_text-skipped ms (All-tail (IsOfKind Is.Skipped) m ms h)
+-- nothing is made of messages that are skipped
+abbrev NoneOfSkipped : (Kind → List ℕ → List ℕ) → Type 0
+NoneOfSkipped by = (m : List ℕ) → by Is.Skipped m ≡ []
 
-rows_text-row : (m : List ℕ) → kind_of m ≡ Is.Row → rows_text (m ∷ []) ≡ row_text m
-rows_text-row m is = append-nil (text_by (kind_of m) m) ∙ ap (λ (k : Kind). text_by k m) is
+made_text-skipped : (by : Kind → List ℕ → List ℕ) → NoneOfSkipped by → (ms : List (List ℕ)) → All (IsOfKind Is.Skipped) ms → made_text by ms ≡ []
+made_text-skipped by none [] h = refl
+made_text-skipped by none (m ∷ ms) h = ap (λ (k : Kind). by k m ++ made_text by ms) (All-head (IsOfKind Is.Skipped) m ms h).1 ∙ ap (λ l. l ++ made_text by ms) (none m) ∙ made_text-skipped by none ms (All-tail (IsOfKind Is.Skipped) m ms h)
+
+-- after messages that are skipped
+made_text-after : (by : Kind → List ℕ → List ℕ) → NoneOfSkipped by → (ms ns : List (List ℕ)) → All (IsOfKind Is.Skipped) ns → made_text by (ms ++ ns) ≡ made_text by ms
+made_text-after by none ms ns h = made_text-append by ms ns ∙ ap (λ l. made_text by ms ++ l) (made_text-skipped by none ns h) ∙ append-nil (made_text by ms)
+
+-- with one message more, of a kind
+made_text-with : (by : Kind → List ℕ → List ℕ) → NoneOfSkipped by → (ms ns : List (List ℕ)) (m : List ℕ) {kind : Kind} → All (IsOfKind Is.Skipped) ns → kind_of m ≡ kind → made_text by (ms ++ (ns ++ m ∷ [])) ≡ made_text by ms ++ by kind m
+made_text-with by none ms ns m h is =
+    made_text-append by ms (ns ++ m ∷ [])
+    ∙ ap (λ l. made_text by ms ++ l) (made_text-append by ns (m ∷ []) ∙ ap (λ l. l ++ made_text by (m ∷ [])) (made_text-skipped by none ns h) ∙ append-nil (by (kind_of m) m) ∙ ap (λ (k : Kind). by k m) is)
 
 passed_skipped : (ms : List (List ℕ)) → All (IsOfKind Is.Skipped) ms → All IsPassed ms
 passed_skipped [] h = All-nil IsPassed
-passed_skipped (m ∷ ms) h = All-cons IsPassed m ms (inr (All-head (IsOfKind Is.Skipped) m ms h)) (passed_skipped ms (All-tail (IsOfKind Is.Skipped) m ms h))
+passed_skipped (m ∷ ms) h = All-cons IsPassed m ms (inr (inr (All-head (IsOfKind Is.Skipped) m ms h))) (passed_skipped ms (All-tail (IsOfKind Is.Skipped) m ms h))
+
+-- ---- replies
+
+passed_reply : (reply : Reply) → IsOfKind (reply_kind reply) (reply_bytes reply) → IsPassed (reply_bytes reply)
+passed_reply (Came.Row row) h = inl h
+passed_reply (Came.Notice m) h = inr (inl h)
+
+long_reply : (reply : Reply) → 5 ≤ length (reply_bytes reply)
+long_reply (Came.Row row) = row.message.long
+long_reply (Came.Notice m) = m.long
 
 module _ {R : Type 0} (left : R → Option (List ℕ)) (stays : Bool → R → R → Type 0) where
   abbrev Parts : Type 0
@@ -50,39 +72,41 @@ module _ {R : Type 0} (left : R → Option (List ℕ)) (stays : Bool → R → R
   length_all : (ms ns : List (List ℕ)) → length (concat (ms ++ ns)) ≡ length (concat ms) + length (concat ns)
   length_all ms ns = ap length (concat-append ms ns) ∙ length-append (concat ms) (concat ns)
 
-  -- messages that are rows or skipped were read, and the text of these rows was written; so many draws made it
-  pub record Printed (r : R) (p : Parts) (written written' : Option (List ℕ)) (n : ℕ) : Type 0 where
+  -- messages that are rows, notices or skipped were read, and the text of these rows was written and that of these notices told; so many draws made it
+  pub record Printed (r : R) (p : Parts) (written written' told told' : Option (List ℕ)) (n : ℕ) : Type 0 where
     pub messages : List (List ℕ)
     pub each : All IsPassed messages
     pub given : GivesBytes left stays r (concat messages) p.0.0
     pub goes_on : p ≡ ((p.0.0, Some (length (concat messages))), false)
     pub wrote : Appends written written' (rows_text messages)
+    pub tells : Appends told told' (notices_text messages)
     pub many : 5 * n ≤ length (concat messages)
 
-  pub printed_first : (r : R) (p : Parts) (written : Option (List ℕ)) → p ≡ ((r, Some 0), false) → Printed r p written written 0
-  printed_first r p written is = record {
+  pub printed_first : (r : R) (p : Parts) (written told : Option (List ℕ)) → p ≡ ((r, Some 0), false) → Printed r p written written told told 0
+  printed_first r p written told is = record {
     messages = [];
     each = All-nil IsPassed;
     given = sym (ap (λ (u : Parts). u.0.0) is);
     goes_on = is ∙ ap (λ (t : R). ((t, Some 0), false)) (sym (ap (λ (u : Parts). u.0.0) is));
     wrote = Appends-nil written;
+    tells = Appends-nil told;
     many = omega arith;
   }
 
-  -- the text was written, where the outcome tells no failed write
-  writes_text : {W : Type 0} (failed : W → Type 0) (r q : R) (written written' : Option (List ℕ)) (output' : W) (outcome : Result (Unit {0}) (RunFault PgInput)) (text : List ℕ) → (outcome ≡ Err Run.Write → ⊥) → Appends written written' text → WritesText left stays r q failed written written' output' text outcome
-  writes_text failed r q written written' output' (Ok done) text other h = h
-  writes_text failed r q written written' output' (Err (Run.Input fault)) text other h = h
-  writes_text failed r q written written' output' (Err Run.Read) text other h = h
-  writes_text failed r q written written' output' (Err Run.Memory) text other h = h
-  writes_text failed r q written written' output' (Err Run.Write) text other h = absurd (other refl)
+-- the texts were written, where the outcome tells no failed write
+writes_texts : {W E : Type 0} (failed : W → Type 0) (written written' : Option (List ℕ)) (output' : W) (unheard : E → Type 0) (told told' : Option (List ℕ)) (errors' : E) (outcome : Result (Unit {0}) (RunFault PgInput)) (text line : List ℕ) → (outcome ≡ Err Run.Write → ⊥) → Appends written written' text → Appends told told' line → WritesTexts failed written written' output' unheard told told' errors' text line outcome
+writes_texts failed written written' output' unheard told told' errors' (Ok done) text line other h k = (h, k)
+writes_texts failed written written' output' unheard told told' errors' (Err (Run.Input fault)) text line other h k = (h, k)
+writes_texts failed written written' output' unheard told told' errors' (Err Run.Read) text line other h k = (h, k)
+writes_texts failed written written' output' unheard told told' errors' (Err Run.Memory) text line other h k = (h, k)
+writes_texts failed written written' output' unheard told told' errors' (Err Run.Write) text line other h k = absurd (other refl)
 
-  -- what a failure says of the input, its outcome says
-  pub reads_fault_outcome : (fault : PgFault) (place : ℕ) (t q : R) → ReadsAnswer left stays place t (Err fault) q → ReadsOutcome left stays {T = Unit {0}} place t (Err (as_run_fault fault)) q
-  reads_fault_outcome (Server m) place t q h = h
-  reads_fault_outcome (Damaged at damage) place t q h = h
-  reads_fault_outcome Read place t q h = h
-  reads_fault_outcome Memory place t q h = inl h
+-- what a failure says of the input, its outcome says
+pub reads_fault_outcome : {R : Type 0} (left : R → Option (List ℕ)) (stays : Bool → R → R → Type 0) (no_room unheld : List ℕ → Type 0) (fault : PgFault) (place : ℕ) (t q : R) → ReadsAnswer left stays no_room place t (Err fault) q → ReadsOutcome left stays no_room unheld {T = Unit {0}} place t (Err (as_run_fault fault)) q
+reads_fault_outcome left stays no_room unheld (Server m) place t q h = h
+reads_fault_outcome left stays no_room unheld (Damaged at damage) place t q h = h
+reads_fault_outcome left stays no_room unheld Read place t q h = h
+reads_fault_outcome left stays no_room unheld Memory place t q h = inl h
 
 -- and it tells no failed write
 pub no_fault_writes : (fault : PgFault) → ◌≡◌ {A = Result (Unit {0}) (RunFault PgInput)} (Err (as_run_fault fault)) (Err Run.Write) → ⊥
@@ -91,66 +115,75 @@ no_fault_writes (Damaged at damage) e = cc
 no_fault_writes Read e = cc
 no_fault_writes Memory e = cc
 
-module _ {R : Type 0} {left : R → Option (List ℕ)} {stays : Bool → R → R → Type 0} {r : R} {p : (R × Option ℕ) × Bool} {written written' : Option (List ℕ)} {n : ℕ} (q : (R × Option ℕ) × Bool) (before : Printed left stays r p written written' n) where
-  -- a row was drawn
-  module _ (row : Row) (step : rows_step left stays p (item row) q) where
-    abbrev drawn : DrawsBytes left stays (length (concat before.messages)) p.0.0 (item row) q.0 q.1
-    drawn = draws_bytes_of left stays q p.0.0 (length (concat before.messages)) (item row) before.goes_on step
+module _ {R : Type 0} {left : R → Option (List ℕ)} {stays : Bool → R → R → Type 0} (no_room : List ℕ → Type 0) {r : R} {p : (R × Option ℕ) × Bool} {written written' told told' : Option (List ℕ)} {n : ℕ} (q : (R × Option ℕ) × Bool) (before : Printed left stays r p written written' told told' n) where
+  -- a row or a notice was drawn
+  module _ (reply : Reply) (step : rows_step left stays no_room p (item reply) q) where
+    abbrev drawn : DrawsBytes left stays no_room (length (concat before.messages)) p.0.0 (item reply) q.0 q.1
+    drawn = draws_bytes_of left stays no_room q p.0.0 (length (concat before.messages)) (item reply) before.goes_on step
 
-    abbrev with_row : List (List ℕ)
-    with_row = drawn.skipped ++ row_bytes row ∷ []
+    abbrev last_bytes : List ℕ
+    last_bytes = reply_bytes reply
 
-    given_row : GivesBytes left stays r (concat (before.messages ++ with_row)) q.0.0
-    given_row = gives_all left stays before.messages with_row r p.0.0 q.0.0 before.given (gives_all left stays drawn.skipped (row_bytes row ∷ []) p.0.0 drawn.last q.0.0 drawn.given (subst (λ l. GivesBytes left stays drawn.last l q.0.0) (sym (append-nil (row_bytes row))) drawn.answers.1))
+    abbrev with_reply : List (List ℕ)
+    with_reply = drawn.skipped ++ last_bytes ∷ []
 
-    each_row : All IsPassed (before.messages ++ with_row)
-    each_row = All-append IsPassed before.messages with_row before.each (All-append IsPassed drawn.skipped (row_bytes row ∷ []) (passed_skipped drawn.skipped drawn.each) (All-cons IsPassed (row_bytes row) [] (inl drawn.answers.0) (All-nil IsPassed)))
+    given_reply : GivesBytes left stays r (concat (before.messages ++ with_reply)) q.0.0
+    given_reply = gives_all left stays before.messages with_reply r p.0.0 q.0.0 before.given (gives_all left stays drawn.skipped (last_bytes ∷ []) p.0.0 drawn.last q.0.0 drawn.given (subst (λ l. GivesBytes left stays drawn.last l q.0.0) (sym (append-nil last_bytes)) drawn.answers.1))
 
-    text_row : rows_text (before.messages ++ with_row) ≡ rows_text before.messages ++ row_text (row_bytes row)
-    text_row = rows_text-append before.messages with_row ∙ ap (λ l. rows_text before.messages ++ l) (rows_text-append drawn.skipped (row_bytes row ∷ []) ∙ ap (λ l. l ++ rows_text (row_bytes row ∷ [])) (rows_text-skipped drawn.skipped drawn.each) ∙ rows_text-row (row_bytes row) drawn.answers.0.1)
+    each_reply : All IsPassed (before.messages ++ with_reply)
+    each_reply = All-append IsPassed before.messages with_reply before.each (All-append IsPassed drawn.skipped (last_bytes ∷ []) (passed_skipped drawn.skipped drawn.each) (All-cons IsPassed last_bytes [] (passed_reply reply drawn.answers.0) (All-nil IsPassed)))
 
-    long_row : length (concat (before.messages ++ with_row)) ≡ (length (concat before.messages) + length (concat drawn.skipped)) + length (row_bytes row)
-    long_row = let one = length_all left stays drawn.skipped (row_bytes row ∷ []) in let whole = length_all left stays before.messages with_row in let last : length (concat (row_bytes row ∷ [])) ≡ length (row_bytes row) = ap length (append-nil (row_bytes row)) in omega (arith, one, whole, last)
+    long_all : length (concat (before.messages ++ with_reply)) ≡ (length (concat before.messages) + length (concat drawn.skipped)) + length last_bytes
+    long_all = let one = length_all left stays drawn.skipped (last_bytes ∷ []) in let whole = length_all left stays before.messages with_reply in let last : length (concat (last_bytes ∷ [])) ≡ length last_bytes = ap length (append-nil last_bytes) in omega (arith, one, whole, last)
 
-    pub printed_row : (written'' : Option (List ℕ)) → Appends written' written'' (row_text (row_bytes row)) → Printed left stays r q written written'' (n + 1)
-    printed_row written'' wrote = record {
-      messages = before.messages ++ with_row;
-      each = each_row;
-      given = given_row;
-      goes_on = ap (λ (o : Option ℕ). ((q.0.0, o), q.1)) (drawn.goes_on.0 ∙ ap (λ (k : ℕ). Some k) (sym long_row)) ∙ ap (λ (b : Bool). ((q.0.0, Some (length (concat (before.messages ++ with_row)))), b)) drawn.goes_on.1;
-      wrote = subst (Appends written written'') (sym text_row) (Appends-trans written written' written'' (rows_text before.messages) (row_text (row_bytes row)) before.wrote wrote);
-      many = let many = before.many in let five = row.message.long in let all = long_row in omega (arith, many, five, all);
+    text_with : (by : Kind → List ℕ → List ℕ) → NoneOfSkipped by → made_text by (before.messages ++ with_reply) ≡ made_text by before.messages ++ by (reply_kind reply) last_bytes
+    text_with by none = made_text-with by none before.messages drawn.skipped last_bytes drawn.each drawn.answers.0.1
+
+    pub printed_reply : (written'' told'' : Option (List ℕ)) → Appends written' written'' (text_by (reply_kind reply) (reply_bytes reply)) → Appends told' told'' (told_by (reply_kind reply) (reply_bytes reply)) → Printed left stays r q written written'' told told'' (n + 1)
+    printed_reply written'' told'' wrote tells = record {
+      messages = before.messages ++ with_reply;
+      each = each_reply;
+      given = given_reply;
+      goes_on = ap (λ (o : Option ℕ). ((q.0.0, o), q.1)) (drawn.goes_on.0 ∙ ap (λ (k : ℕ). Some k) (sym long_all)) ∙ ap (λ (b : Bool). ((q.0.0, Some (length (concat (before.messages ++ with_reply)))), b)) drawn.goes_on.1;
+      wrote = subst (Appends written written'') (sym (text_with text_by (λ m. refl))) (Appends-trans written written' written'' (rows_text before.messages) (text_by (reply_kind reply) last_bytes) before.wrote wrote);
+      tells = subst (Appends told told'') (sym (text_with told_by (λ m. refl))) (Appends-trans told told' told'' (notices_text before.messages) (told_by (reply_kind reply) last_bytes) before.tells tells);
+      many = let many = before.many in let five = long_reply reply in let all = long_all in omega (arith, many, five, all);
     }
 
-    -- and it could not be written
-    pub comes_to_write : {W : Type 0} (failed : W → Type 0) (written'' : Option (List ℕ)) (output' : W) → failed output' → ComesTo left stays r q.0.0 failed written written'' output' {T = Unit {0}} (Err Run.Write)
-    comes_to_write failed written'' output' h = record { messages = before.messages ++ with_row; each = each_row; last = q.0.0; given = given_row; reads = refl; writes = h }
+  module _ (unheld : List ℕ → Type 0) {W E : Type 0} (failed : W → Type 0) (written'' : Option (List ℕ)) (output' : W) (unheard : E → Type 0) (told'' : Option (List ℕ)) (errors' : E) where
+    abbrev Comes : Result (Unit {0}) (RunFault PgInput) → Type 0
+    Comes outcome = ComesTo left stays no_room unheld r q.0.0 failed written written'' output' unheard told told'' errors' outcome
 
-  -- a row was drawn, and its text had no room
-  pub comes_to_memory : {W : Type 0} (failed : W → Type 0) (output' : W) (row : Row) (step : rows_step left stays p (item row) q) → ComesTo left stays r q.0.0 failed written written' output' {T = Unit {0}} (Err Run.Memory)
-  comes_to_memory failed output' row step =
-      let drawn = draws_bytes_of left stays q p.0.0 (length (concat before.messages)) (item row) before.goes_on step in
-      let text : rows_text (before.messages ++ drawn.skipped) ≡ rows_text before.messages = rows_text-append before.messages drawn.skipped ∙ ap (λ l. rows_text before.messages ++ l) (rows_text-skipped drawn.skipped drawn.each) ∙ append-nil (rows_text before.messages) in
-      record {
-        messages = before.messages ++ drawn.skipped;
-        each = All-append IsPassed before.messages drawn.skipped before.each (passed_skipped drawn.skipped drawn.each);
-        last = drawn.last;
-        given = gives_all left stays before.messages drawn.skipped r p.0.0 drawn.last before.given drawn.given;
-        reads = inr (row_bytes row, drawn.answers);
-        writes = subst (Appends written written') (sym text) before.wrote;
-      }
+    abbrev Writes : List ℕ → List ℕ → Result (Unit {0}) (RunFault PgInput) → Type 0
+    Writes text line outcome = WritesTexts failed written written'' output' unheard told told'' errors' text line outcome
 
-  -- an end or a failure was drawn
-  module _ {W : Type 0} (failed : W → Type 0) (output' : W) (answer : Answered Row PgFault) {outcome : Result (Unit {0}) (RunFault PgInput)} (step : rows_step left stays p answer q) where
-    pub comes_to : (outcome ≡ Err Run.Write → ⊥) → ((place : ℕ) (t : R) → ReadsAnswer left stays place t answer q.0.0 → ReadsOutcome left stays place t outcome q.0.0) → ComesTo left stays r q.0.0 failed written written' output' outcome
-    comes_to other reads =
-        let drawn = draws_bytes_of left stays q p.0.0 (length (concat before.messages)) answer before.goes_on step in
-        let text : rows_text (before.messages ++ drawn.skipped) ≡ rows_text before.messages = rows_text-append before.messages drawn.skipped ∙ ap (λ l. rows_text before.messages ++ l) (rows_text-skipped drawn.skipped drawn.each) ∙ append-nil (rows_text before.messages) in
+    -- messages that are skipped were passed before an answer
+    pub comes_to_after : (answer : Answered Reply PgFault) (outcome : Result (Unit {0}) (RunFault PgInput)) (step : rows_step left stays no_room p answer q) → ((place : ℕ) (t : R) → ReadsAnswer left stays no_room place t answer q.0.0 → ReadsOutcome left stays no_room unheld place t outcome q.0.0) → ((text line : List ℕ) → Appends written written' text → Appends told told' line → Writes text line outcome) → Comes outcome
+    comes_to_after answer outcome step reads writes =
+        let drawn = draws_bytes_of left stays no_room q p.0.0 (length (concat before.messages)) answer before.goes_on step in
+        let text = made_text-after text_by (λ m. refl) before.messages drawn.skipped drawn.each in
+        let line = made_text-after told_by (λ m. refl) before.messages drawn.skipped drawn.each in
         record {
           messages = before.messages ++ drawn.skipped;
           each = All-append IsPassed before.messages drawn.skipped before.each (passed_skipped drawn.skipped drawn.each);
           last = drawn.last;
           given = gives_all left stays before.messages drawn.skipped r p.0.0 drawn.last before.given drawn.given;
-          reads = subst (λ (k : ℕ). ReadsOutcome left stays k drawn.last outcome q.0.0) (sym (length_all left stays before.messages drawn.skipped)) (reads _ drawn.last drawn.answers);
-          writes = writes_text left stays failed r q.0.0 written written' output' outcome _ other (subst (Appends written written') (sym text) before.wrote);
+          reads = subst (λ (k : ℕ). ReadsOutcome left stays no_room unheld k drawn.last outcome q.0.0) (sym (length_all left stays before.messages drawn.skipped)) (reads _ drawn.last drawn.answers);
+          writes = writes _ _ (subst (Appends written written') (sym text) before.wrote) (subst (Appends told told') (sym line) before.tells);
         }
+
+    -- a row or a notice was drawn, and it could not be printed or told
+    pub comes_to_put : (reply : Reply) (fault : RunFault PgInput) → rows_step left stays no_room p (item reply) q → PutsReply failed written' written'' output' unheard told' told'' errors' unheld reply (Err fault) → Comes (Err fault)
+    comes_to_put (Came.Row row) Run.Memory step h = comes_to_after (item (Came.Row row)) (Err Run.Memory) step (λ place t reads. inr (row_bytes row, reads, h.0)) (λ text line wrote tells. (subst (λ (o : Option (List ℕ)). Appends written o text) (sym h.1) wrote, subst (λ (o : Option (List ℕ)). Appends told o line) (sym h.2) tells))
+    comes_to_put (Came.Row row) Run.Write step h = comes_to_after (item (Came.Row row)) (Err Run.Write) step (λ place t reads. (row_bytes row, inl reads)) (λ text line wrote tells. inl (h.0, subst (λ (o : Option (List ℕ)). Appends told o line) (sym h.1) tells))
+    comes_to_put (Came.Row row) Run.Read step h = absurd h
+    comes_to_put (Came.Row row) (Run.Input fault) step h = absurd h
+    comes_to_put (Came.Notice m) Run.Write step h = comes_to_after (item (Came.Notice m)) (Err Run.Write) step (λ place t reads. (message_bytes m, inr reads)) (λ text line wrote tells. inr (subst (λ (o : Option (List ℕ)). Appends written o text) (sym h.0) wrote, h.1))
+    comes_to_put (Came.Notice m) Run.Memory step h = absurd h
+    comes_to_put (Came.Notice m) Run.Read step h = absurd h
+    comes_to_put (Came.Notice m) (Run.Input fault) step h = absurd h
+
+  module _ (unheld : List ℕ → Type 0) {W E : Type 0} (failed : W → Type 0) (output' : W) (unheard : E → Type 0) (errors' : E) where
+    -- an end or a failure was drawn
+    pub comes_to : (answer : Answered Reply PgFault) {outcome : Result (Unit {0}) (RunFault PgInput)} → rows_step left stays no_room p answer q → (outcome ≡ Err Run.Write → ⊥) → ((place : ℕ) (t : R) → ReadsAnswer left stays no_room place t answer q.0.0 → ReadsOutcome left stays no_room unheld place t outcome q.0.0) → ComesTo left stays no_room unheld r q.0.0 failed written written' output' unheard told told' errors' outcome
+    comes_to answer {outcome = outcome} step other reads = comes_to_after unheld failed written' output' unheard told' errors' answer outcome step reads (λ text line wrote tells. writes_texts failed written written' output' unheard told told' errors' outcome text line other wrote tells)

@@ -19,7 +19,8 @@ use Rattle.fallible_pg.specs.declared.fault.PgFault.TheVariants.{Server, Damaged
 use Rattle.fallible_pg.specs.declared.reading.Broken.TheVariants as Why
 use Rattle.fallible_pg.specs.declared.rows.Kind.{Kind}
 use Rattle.fallible_pg.specs.declared.rows.Kind.TheVariants as Is
-use Rattle.fallible_pg.specs.declared.rows.Row.{Row}
+use Rattle.fallible_pg.specs.declared.rows.Reply.{Reply}
+use Rattle.fallible_pg.specs.declared.rows.Reply.TheVariants as Came
 use Rattle.fallible_pg.specs.declared.rows.Rows.{Rows}
 
 -- what is left of known bytes
@@ -40,38 +41,39 @@ module _ {R : Type 0} (left : R → Option (List ℕ)) (stays : Bool → R → R
         let k = known_left (left last) (left q) m bytes known (consumes_given m last q h.1) in
         (k.0, ap (turns_of place) k.2 ∙ turns_of-message place m k.0 h.0.0 ∙ ap (λ (d : Kind). turn_by d place m (turns_of (place + length m) k.0)) h.0.1)
 
-    -- first bytes of a message that is damaged
-    pub size_broken : (damage : Damage) (q : R) → Breaks left stays (Why.Damaged damage) last q → first_size bytes ≡ Err damage
-    size_broken What.Cut q (begun, broke, given, h) =
-        let k = known_left (left last) (left broke) begun bytes known (consumes_given begun last broke given) in
-        let j = known_left (left broke) (left q) [] k.0 k.1 h.1.0 in
-        let none : k.0 ≡ [] = j.2 ∙ j.3 h.1.1 in
-        ap first_size (k.2 ∙ ap (λ l. begun ++ l) none ∙ append-nil begun) ∙ h.0
-    size_broken (What.Length k) q (begun, broke, given, h) =
-        let j = known_left (left last) (left broke) begun bytes known (consumes_given begun last broke given) in
-        ap first_size j.2 ∙ first_size-length begun j.0 k h.1 h.0
-    size_broken (What.Tag k) q (begun, broke, given, h) = absurd h
-    size_broken What.Row q (begun, broke, given, h) = absurd h
+module _ {R : Type 0} (left : R → Option (List ℕ)) (stays : Bool → R → R → Type 0) (no_room : List ℕ → Type 0) (place : ℕ) {bytes : List ℕ} (last : R) (known : left last ≡ Some bytes) where
+  -- first bytes of a message that is damaged
+  pub size_broken : (damage : Damage) (q : R) → Breaks left stays no_room (Why.Damaged damage) last q → first_size bytes ≡ Err damage
+  size_broken What.Cut q (begun, broke, given, h) =
+      let k = known_left (left last) (left broke) begun bytes known (consumes_given left stays begun last broke given) in
+      let j = known_left (left broke) (left q) [] k.0 k.1 h.1.0 in
+      let none : k.0 ≡ [] = j.2 ∙ j.3 h.1.1 in
+      ap first_size (k.2 ∙ ap (λ l. begun ++ l) none ∙ append-nil begun) ∙ h.0
+  size_broken (What.Length k) q (begun, broke, given, h) =
+      let j = known_left (left last) (left broke) begun bytes known (consumes_given left stays begun last broke given) in
+      ap first_size j.2 ∙ first_size-length begun j.0 k h.1 h.0
+  size_broken (What.Tag k) q (begun, broke, given, h) = absurd h
+  size_broken What.Row q (begun, broke, given, h) = absurd h
 
-    pub turns_broken : (damage : Damage) (q : R) → Breaks left stays (Why.Damaged damage) last q → turns_of place bytes ≡ damaged place damage ∷ []
-    turns_broken damage q h = turns_of-damage place bytes damage (size_broken damage q h)
+  pub turns_broken : (damage : Damage) (q : R) → Breaks left stays no_room (Why.Damaged damage) last q → turns_of place bytes ≡ damaged place damage ∷ []
+  turns_broken damage q h = turns_of-damage place bytes damage (size_broken damage q h)
 
-module _ {R : Type 0} (left : R → Option (List ℕ)) (stays : Bool → R → R → Type 0) (never : NoReadFails stays) where
-  abbrev steps : Rows R → Answered Row PgFault → Rows R → Type 0
-  steps s answer t = rows_step left stays (rows_parts s) answer (rows_parts t)
+module _ {R : Type 0} (left : R → Option (List ℕ)) (stays : Bool → R → R → Type 0) (no_room : List ℕ → Type 0) (never : NoReadFails stays) where
+  abbrev steps : Rows R → Answered Reply PgFault → Rows R → Type 0
+  steps s answer t = rows_step left stays no_room (rows_parts s) answer (rows_parts t)
 
   -- one draw of what comes
-  abbrev TakesTurn : Answered Row PgFault → Rows R → List Turn → Type 0
+  abbrev TakesTurn : Answered Reply PgFault → Rows R → List Turn → Type 0
   TakesTurn answer t [] = answer ≡ end
   TakesTurn answer t (turn ∷ turns) = AnswersTurn turn answer × GivesTurns steps t turns
 
-  gives_by_draws : (s : Rows R) (l : List Turn) → ((answer : Answered Row PgFault) (t : Rows R) → steps s answer t → (answer ≡ Err Memory) ⊎ TakesTurn answer t l) → GivesTurns steps s l
+  gives_by_draws : (s : Rows R) (l : List Turn) → ((answer : Answered Reply PgFault) (t : Rows R) → steps s answer t → (answer ≡ Err Memory) ⊎ TakesTurn answer t l) → GivesTurns steps s l
   gives_by_draws s [] h = h
   gives_by_draws s (turn ∷ turns) h = h
 
   -- rows that ended give nothing
   gives_none : (t : Rows R) → (rows_parts t).1 ≡ true → GivesTurns steps t []
-  gives_none t is answer u h = inr (subst (λ (b : Bool). rows_step left stays ((rows_parts t).0, b) answer (rows_parts u)) is h).0
+  gives_none t is answer u h = inr (subst (λ (b : Bool). rows_step left stays no_room ((rows_parts t).0, b) answer (rows_parts u)) is h).0
 
   -- what comes of fewer than n bytes
   abbrev GivesFewer : ℕ → Type 0
@@ -90,12 +92,13 @@ module _ {R : Type 0} (left : R → Option (List ℕ)) (stays : Bool → R → R
           fewer t (rows_parts t).0.0 (place + length m) k.0 (omega (arith, long, five, few)) is k.1 (omega (arith, long, fits)),
         )
 
-    takes_turn : (answer : Answered Row PgFault) → ReadsAnswer left stays place last answer (rows_parts t).0.0 → GoesOn place answer (rows_parts t).0.1 (rows_parts t).1 → (answer ≡ Err Memory) ⊎ TakesTurn answer t (turns_of place bytes)
-    takes_turn (Ok (Some x)) h on = let g = gives_rest (row_bytes x) Is.Row h on.0 on.1 in inr (subst (TakesTurn (Ok (Some x)) t) (sym g.1) (refl, g.2))
+    takes_turn : (answer : Answered Reply PgFault) → ReadsAnswer left stays no_room place last answer (rows_parts t).0.0 → GoesOn place answer (rows_parts t).0.1 (rows_parts t).1 → (answer ≡ Err Memory) ⊎ TakesTurn answer t (turns_of place bytes)
+    takes_turn (Ok (Some (Came.Row x))) h on = let g = gives_rest (row_bytes x) Is.Row h on.0 on.1 in inr (subst (TakesTurn (Ok (Some (Came.Row x))) t) (sym g.1) (refl, g.2))
+    takes_turn (Ok (Some (Came.Notice m))) h on = let g = gives_rest (message_bytes m) Is.Notice h on.0 on.1 in inr (subst (TakesTurn (Ok (Some (Came.Notice m))) t) (sym g.1) (refl, g.2))
     takes_turn (Ok None) h on = let g = turns_last left stays place last known h.0 (rows_parts t).0.0 h.1 in inr (subst (TakesTurn (Ok None) t) (sym g.1) refl)
     takes_turn (Err (Server m)) h on = let g = gives_rest (message_bytes m) Is.Refusal h on.0 on.1 in inr (subst (TakesTurn (Err (Server m)) t) (sym g.1) (refl, g.2))
     takes_turn (Err (Damaged at damage)) (is, inl h) on = let g = turns_last left stays place last known h.0 (rows_parts t).0.0 h.1 in inr (subst (TakesTurn (Err (Damaged at damage)) t) (sym g.1) ((is, refl), gives_none t on))
-    takes_turn (Err (Damaged at damage)) (is, inr h) on = inr (subst (TakesTurn (Err (Damaged at damage)) t) (sym (turns_broken left stays place last known damage (rows_parts t).0.0 h)) ((is, refl), gives_none t on))
+    takes_turn (Err (Damaged at damage)) (is, inr h) on = inr (subst (TakesTurn (Err (Damaged at damage)) t) (sym (turns_broken left stays no_room place last known damage (rows_parts t).0.0 h)) ((is, refl), gives_none t on))
     takes_turn (Err Read) (inl h) on = absurd (never h.1 (rows_parts t).0.0 h.3.1.1)
     takes_turn (Err Read) (inr h) on = let far = h.0 in absurd (omega (arith, far, fits))
     takes_turn (Err Memory) h on = inl refl
@@ -103,7 +106,7 @@ module _ {R : Type 0} (left : R → Option (List ℕ)) (stays : Bool → R → R
   gives_fewer : (n : ℕ) → GivesFewer n
   gives_fewer zero s r place bytes few is known fits = absurd (omega arith)
   gives_fewer (suc n) s r place bytes few is known fits = gives_by_draws s (turns_of place bytes) (λ answer t step.
-      let d = draws_bytes_of left stays (rows_parts t) r place answer is step in
+      let d = draws_bytes_of left stays no_room (rows_parts t) r place answer is step in
       let k = known_left (left r) (left d.last) (concat d.skipped) bytes known (consumes_given left stays (concat d.skipped) r d.last d.given) in
       let long : length bytes ≡ length (concat d.skipped) + length k.0 = ap length k.2 ∙ length-append (concat d.skipped) k.0 in
       let same : turns_of place bytes ≡ turns_of (place + length (concat d.skipped)) k.0 = ap (turns_of place) k.2 ∙ turns_of-skipped place d.skipped k.0 d.each in

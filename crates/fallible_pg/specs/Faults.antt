@@ -26,9 +26,13 @@ abbrev pub further_line : List ℕ → List ℕ → List ℕ
 further_line name [] = []
 further_line name (b ∷ bs) = codes "\n" ++ name ++ codes ":  " ++ (b ∷ bs)
 
--- what the server tells: how severe it is, the SQLSTATE and the message; and on a line each the detail and the hint, where there are some
+-- what the server tells by a refusal or a notice: how severe it is, the SQLSTATE and the message; and on a line each the detail and the hint, where there are some
 abbrev pub refusal_text : List ℕ → List ℕ
 refusal_text fields = field 83 fields ++ codes ":  " ++ field 67 fields ++ codes ": " ++ field 77 fields ++ further_line (codes "DETAIL") (field 68 fields) ++ further_line (codes "HINT") (field 72 fields)
+
+-- the lines that are told of a notice, by its message, with the last newline
+abbrev pub notice_text : List ℕ → List ℕ
+notice_text message = refusal_text (drop 5 message) ++ 10 ∷ []
 
 -- whether the tag is one of COPY
 abbrev pub is_copy : ℕ → Bool

@@ -33,7 +33,7 @@ broken_by Short.Memory = Why.Memory
 abbrev pub but_last : List ℕ → List ℕ
 but_last bytes = take (length bytes - 1) bytes
 
-module _ {R : Type 0} (left : R → Option (List ℕ)) (stays : Bool → R → R → Type 0) where
+module _ {R : Type 0} (left : R → Option (List ℕ)) (stays : Bool → R → R → Type 0) (no_room : List ℕ → Type 0) where
   -- ---- one message
 
   -- Why a message that begins with these bytes wasn't read: the end was met before its last byte; it states a length that none has; a read failed; or room was refused for these bytes, the last of which is at most its last.
@@ -42,7 +42,7 @@ module _ {R : Type 0} (left : R → Option (List ℕ)) (stays : Bool → R → R
   BreaksOff begun last (Why.Damaged (Length n)) q = (first_size begun ≡ Err (Length n)) × (length begun ≡ 5) × (q ≡ last)
   BreaksOff begun last (Why.Damaged damage) q = ⊥
   BreaksOff begun last Why.Read q = (first_size begun ≡ Err Cut) × FailsToRead left stays last q
-  BreaksOff begun last Why.Memory q = (first_size (but_last begun) ≡ Err Cut) × (q ≡ last)
+  BreaksOff begun last Why.Memory q = (first_size (but_last begun) ≡ Err Cut) × no_room begun × (q ≡ last)
 
   -- One message was read, and no byte after it; or reading it broke off.
   abbrev pub ReadsMessage : R → Result Message Broken → R → Type 0
@@ -69,8 +69,9 @@ module _ {R : Type 0} (left : R → Option (List ℕ)) (stays : Bool → R → R
   message_step (r, Some place) answer p = DrawsMessage r place answer p
   message_step (r, None) answer p = (answer ≡ end) × (p ≡ (r, None))
 
-  -- ---- the end of the input
+-- ---- the end of the input
 
+module _ {R : Type 0} (left : R → Option (List ℕ)) (stays : Bool → R → R → Type 0) where
   -- Whether the input is at its end was asked, by one read: it is; a byte came, which is lost; or the read failed.
   abbrev pub AsksForEnd : {E : Type 0} → R → Result Bool E → R → Type 0
   AsksForEnd r (Ok true) q = GivesEnd left stays r q

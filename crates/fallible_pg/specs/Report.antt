@@ -5,16 +5,19 @@ use Rattle.std.specs.Io.KnownBytes.{Appends}
 use Rattle.program_io.specs.Bytes.{GivesBytes}
 use Rattle.program_io.specs.declared.fault.RunFault.{RunFault}
 use Rattle.program_io.specs.declared.fault.RunFault.TheVariants.{Input, Read, Memory, Write}
-use Rattle.fallible_pg.specs.Draws.{IsOfKind, ReadsKind, Breaks}
+use Rattle.fallible_pg.specs.Draws.{row_bytes, reply_bytes, reply_kind, IsOfKind, ReadsKind, Breaks}
+use Rattle.fallible_pg.specs.Faults.{notice_text}
 use Rattle.fallible_pg.specs.Messages.{message_bytes}
 use Rattle.fallible_pg.specs.Rows.{kind_of}
 use Rattle.fallible_pg.specs.Text.{row_text}
-use Rattle.fallible_pg.specs.Turns.{Turn, row, refused, damaged}
+use Rattle.fallible_pg.specs.Turns.{Turn, row, notice, refused, damaged}
 use Rattle.fallible_pg.specs.declared.fault.PgFault.{PgFault}
 use Rattle.fallible_pg.specs.declared.fault.PgFault.TheVariants as Why
 use Rattle.fallible_pg.specs.declared.reading.Broken.TheVariants as Broke
 use Rattle.fallible_pg.specs.declared.rows.Kind.{Kind}
 use Rattle.fallible_pg.specs.declared.rows.Kind.TheVariants as Is
+use Rattle.fallible_pg.specs.declared.rows.Reply.{Reply}
+use Rattle.fallible_pg.specs.declared.rows.Reply.TheVariants as Came
 use Rattle.fallible_pg.specs.declared.printing.PgInput.{PgInput}
 use Rattle.fallible_pg.specs.declared.printing.PgInput.TheVariants.{Server, Damaged}
 
@@ -30,39 +33,62 @@ abbrev pub text_by : Kind → List ℕ → List ℕ
 text_by Is.Row message = row_text message
 text_by kind message = []
 
+-- what is told of a message of a kind: the text of a notice
+abbrev pub told_by : Kind → List ℕ → List ℕ
+told_by Is.Notice message = notice_text message
+told_by kind message = []
+
+-- what is made of messages by their kinds, one after another
+abbrev pub made_text : (Kind → List ℕ → List ℕ) → List (List ℕ) → List ℕ
+made_text by [] = []
+made_text by (message ∷ messages) = by (kind_of message) message ++ made_text by messages
+
 -- the text of the rows among messages
 abbrev pub rows_text : List (List ℕ) → List ℕ
-rows_text [] = []
-rows_text (message ∷ messages) = text_by (kind_of message) message ++ rows_text messages
+rows_text messages = made_text text_by messages
 
--- the message is a row, or one that is skipped
+-- the text of the notices among messages
+abbrev pub notices_text : List (List ℕ) → List ℕ
+notices_text messages = made_text told_by messages
+
+-- the message is a row, a notice, or one that is skipped
 abbrev pub IsPassed : List ℕ → Type 0
-IsPassed message = IsOfKind Is.Row message ⊎ IsOfKind Is.Skipped message
+IsPassed message = IsOfKind Is.Row message ⊎ (IsOfKind Is.Notice message ⊎ IsOfKind Is.Skipped message)
 
-module _ {R : Type 0} (left : R → Option (List ℕ)) (stays : Bool → R → R → Type 0) where
-  -- What was read at a place, by the outcome: the message that says the server is ready; its refusal; a damaged message, or such first bytes of one as tell the damage; the first bytes of a message, up to a read that failed, or to where there was no memory; a row whose text had no memory; nothing, where a write failed. After 2 ^ 63 bytes nothing is read.
+module _ {W E : Type 0} (failed : W → Type 0) (written written' : Option (List ℕ)) (output' : W) (unheard : E → Type 0) (told told' : Option (List ℕ)) (errors' : E) where
+  -- One text was printed and the other told, and nothing else; or printing a row failed, or telling a notice.
+  abbrev pub WritesTexts : {T : Type 0} → List ℕ → List ℕ → Result T (RunFault PgInput) → Type 0
+  WritesTexts text line (Err Write) = (failed output' × Appends told told' line) ⊎ (Appends written written' text × unheard errors')
+  WritesTexts text line outcome = Appends written written' text × Appends told told' line
+
+  -- A row was printed, or a notice told; or there was no room for the text of the row, printing it failed, or telling the notice.
+  abbrev pub PutsReply : (List ℕ → Type 0) → Reply → Result (Unit {0}) (RunFault PgInput) → Type 0
+  PutsReply unheld reply (Ok done) = Appends written written' (text_by (reply_kind reply) (reply_bytes reply)) × Appends told told' (told_by (reply_kind reply) (reply_bytes reply))
+  PutsReply unheld (Came.Row x) (Err Memory) = unheld (row_bytes x) × (written' ≡ written) × (told' ≡ told)
+  PutsReply unheld (Came.Row x) (Err Write) = failed output' × (told' ≡ told)
+  PutsReply unheld (Came.Notice m) (Err Write) = (written' ≡ written) × unheard errors'
+  PutsReply unheld reply (Err fault) = ⊥
+
+-- over a reader that may refuse room for some bytes, and a buffer that may have none for the text of some row
+module _ {R : Type 0} (left : R → Option (List ℕ)) (stays : Bool → R → R → Type 0) (no_room unheld : List ℕ → Type 0) where
+  -- What was read at a place, by the outcome: the message that says the server is ready; its refusal; a damaged message, or such first bytes of one as tell the damage; the first bytes of a message, up to a read that failed, or to where room was refused for them; a row for whose text the buffer had no room; a row or a notice whose write failed. After 2 ^ 63 bytes nothing is read.
   abbrev pub ReadsOutcome : {T : Type 0} → ℕ → R → Result T (RunFault PgInput) → R → Type 0
   ReadsOutcome place r (Ok done) q = (bytes : List ℕ) × ReadsKind left stays Is.Ready bytes r q
   ReadsOutcome place r (Err (Input (Server m))) q = ReadsKind left stays Is.Refusal (message_bytes m) r q
-  ReadsOutcome place r (Err (Input (Damaged at damage))) q = (at ≡ place) × (((bytes : List ℕ) × ReadsKind left stays (Is.Damaged damage) bytes r q) ⊎ Breaks left stays (Broke.Damaged damage) r q)
-  ReadsOutcome place r (Err Read) q = Breaks left stays Broke.Read r q ⊎ ((2 ^ 63 < place) × (q ≡ r))
-  ReadsOutcome place r (Err Memory) q = Breaks left stays Broke.Memory r q ⊎ ((bytes : List ℕ) × ReadsKind left stays Is.Row bytes r q)
-  ReadsOutcome place r (Err Write) q = q ≡ r
+  ReadsOutcome place r (Err (Input (Damaged at damage))) q = (at ≡ place) × (((bytes : List ℕ) × ReadsKind left stays (Is.Damaged damage) bytes r q) ⊎ Breaks left stays no_room (Broke.Damaged damage) r q)
+  ReadsOutcome place r (Err Read) q = Breaks left stays no_room Broke.Read r q ⊎ ((2 ^ 63 < place) × (q ≡ r))
+  ReadsOutcome place r (Err Memory) q = Breaks left stays no_room Broke.Memory r q ⊎ ((bytes : List ℕ) × ReadsKind left stays Is.Row bytes r q × unheld bytes)
+  ReadsOutcome place r (Err Write) q = (bytes : List ℕ) × (ReadsKind left stays Is.Row bytes r q ⊎ ReadsKind left stays Is.Notice bytes r q)
 
-  module _ {W : Type 0} (input input' : R) (failed : W → Type 0) (written written' : Option (List ℕ)) (output' : W) where
-    -- the text was written, and nothing else; or writing failed
-    abbrev pub WritesText : {T : Type 0} → List ℕ → Result T (RunFault PgInput) → Type 0
-    WritesText text (Err Write) = failed output'
-    WritesText text outcome = Appends written written' text
-
-    -- An outcome: the input gave messages that are rows or skipped, then what the outcome says; and the text of these rows was written, and nothing else, or writing failed.
+  module _ {W E : Type 0} (input input' : R) (failed : W → Type 0) (written written' : Option (List ℕ)) (output' : W) (unheard : E → Type 0) (told told' : Option (List ℕ)) (errors' : E) where
+    -- An outcome: the input gave messages that are rows, notices or skipped, then what the outcome says; and the text of these rows was written, and that of these notices told, and nothing else, or writing failed.
     pub record ComesTo {T : Type 0} (outcome : Result T (RunFault PgInput)) : Type 0 where
       pub messages : List (List ℕ)
       pub each : All IsPassed messages
       pub last : R
       pub given : GivesBytes left stays input (concat messages) last
       pub reads : ReadsOutcome (length (concat messages)) last outcome input'
-      pub writes : WritesText (rows_text messages) outcome
+      pub writes : WritesTexts failed written written' output' unheard told told' errors' (rows_text messages) (notices_text messages) outcome
 
 -- ---- over known bytes
 
@@ -70,13 +96,23 @@ module _ {R : Type 0} (left : R → Option (List ℕ)) (stays : Bool → R → R
 abbrev pub turns_text : List Turn → List ℕ
 turns_text [] = []
 turns_text (row message ∷ turns) = row_text message ++ turns_text turns
+turns_text (notice message ∷ turns) = turns_text turns
 turns_text (refused message ∷ turns) = []
 turns_text (damaged place damage ∷ turns) = []
+
+-- that of the notices up to there
+abbrev pub turns_told : List Turn → List ℕ
+turns_told [] = []
+turns_told (row message ∷ turns) = turns_told turns
+turns_told (notice message ∷ turns) = notice_text message ++ turns_told turns
+turns_told (refused message ∷ turns) = []
+turns_told (damaged place damage ∷ turns) = []
 
 -- the first refusal or damage of what comes, where there is one
 abbrev pub first_fault : List Turn → Option Turn
 first_fault [] = None
 first_fault (row message ∷ turns) = first_fault turns
+first_fault (notice message ∷ turns) = first_fault turns
 first_fault (refused message ∷ turns) = Some (refused message)
 first_fault (damaged place damage ∷ turns) = Some (damaged place damage)
 
@@ -85,14 +121,15 @@ abbrev pub turn_of : PgInput → Turn
 turn_of (Server message) = refused (message_bytes message)
 turn_of (Damaged place damage) = damaged place damage
 
--- What comes has this fault first, and its text was written, and nothing else.
-abbrev pub ReportsTurns : List Turn → Option Turn → Option (List ℕ) → Option (List ℕ) → Type 0
-ReportsTurns turns fault written written' = (first_fault turns ≡ fault) × Appends written written' (turns_text turns)
+module _ (turns : List Turn) (written written' told told' : Option (List ℕ)) where
+  -- What comes has this fault first, and the text of its rows was written and that of its notices told, and nothing else.
+  abbrev pub ReportsTurns : Option Turn → Type 0
+  ReportsTurns fault = (first_fault turns ≡ fault) × Appends written written' (turns_text turns) × Appends told told' (turns_told turns)
 
--- An outcome tells the first fault of what comes, and its text was written, unless a read, an allocation or a write failed.
-abbrev pub IsReportOf : {T : Type 0} → List Turn → Option (List ℕ) → Option (List ℕ) → Result T (RunFault PgInput) → Type 0
-IsReportOf turns written written' (Ok done) = ReportsTurns turns None written written'
-IsReportOf turns written written' (Err (Input fault)) = ReportsTurns turns (Some (turn_of fault)) written written'
-IsReportOf turns written written' (Err Read) = Unit {0}
-IsReportOf turns written written' (Err Memory) = Unit {0}
-IsReportOf turns written written' (Err Write) = Unit {0}
+  -- An outcome tells the first fault of what comes, and its texts were written, unless a read, an allocation or a write failed.
+  abbrev pub IsReportOf : {T : Type 0} → Result T (RunFault PgInput) → Type 0
+  IsReportOf (Ok done) = ReportsTurns None
+  IsReportOf (Err (Input fault)) = ReportsTurns (Some (turn_of fault))
+  IsReportOf (Err Read) = Unit {0}
+  IsReportOf (Err Memory) = Unit {0}
+  IsReportOf (Err Write) = Unit {0}

@@ -10,9 +10,9 @@ ghost use Rattle.fallible_pg.specs.Reading.{AsksForEnd, messages_parts, message_
 
 use crate::fault::PgFault;
 use crate::message::Message;
-use crate::reading::{Broken, read_message};
+use crate::reading::{Broken, ReadMessage};
 use fallible_iterator::FallibleIterator;
-use program_io::reading::{ReadByte, ReadFailed};
+use program_io::reading::ReadFailed;
 use std::alloc::Global;
 
 /// The messages of a reader, as a server sends them: each is its tag, its length and its body.
@@ -31,14 +31,14 @@ pub struct Messages<R> {
 // After so many bytes nothing more is read.
 const MAX_PLACE: u64 = 0x8000_0000_0000_0000;
 
-impl<R: ReadByte> Messages<R> {
+impl<R: ReadMessage> Messages<R> {
     /// The messages of this reader. It reads nothing.
     pub fn new(alloc: Global, reader: R) -> Messages<R>
         ensures parts { messages_parts result ≡ (reader, Some 0) }
         ensures lists { (bytes : List ℕ) → NoReadFails R.stays → R.left reader ≡ Some bytes
             → length bytes ≤ 2 ^ 63
             → ListsMade HasBytes
-            (seen_as messages_parts (unbounded_contract (message_step R.left R.stays))).steps
+            (seen_as messages_parts (unbounded_contract (message_step R.left R.stays R.no_room))).steps
             IsMemory result (messages_of 0 bytes) }
     {
         Messages {
@@ -68,12 +68,12 @@ impl<R: ReadByte> Messages<R> {
     }
 }
 
-impl<R: ReadByte> FallibleIterator for Messages<R> {
+impl<R: ReadMessage> FallibleIterator for Messages<R> {
     type Item = Message;
 
     type Error = PgFault;
 
-    ghost contract = { seen_as messages_parts (unbounded_contract (message_step R.left R.stays)) };
+    ghost contract = { seen_as messages_parts (unbounded_contract (message_step R.left R.stays R.no_room)) };
 
     fn next(&mut self) -> Result<Option<Message>, PgFault> {
         let Some(place) = self.place.take() else {
@@ -82,7 +82,7 @@ impl<R: ReadByte> FallibleIterator for Messages<R> {
         if place > MAX_PLACE {
             return Err(PgFault::Read);
         }
-        match read_message(self.alloc, &mut self.reader) {
+        match self.reader.read_message(self.alloc) {
             Ok(message) => {
                 self.place = Some(place + message.bytes().len() as u64);
                 Ok(Some(message))
@@ -97,5 +97,5 @@ impl<R: ReadByte> FallibleIterator for Messages<R> {
         (0, None)
     }
 
-    ghost lawful = { lawful_seen messages_parts (lawful_unbounded (message_step R.left R.stays)) };
+    ghost lawful = { lawful_seen messages_parts (lawful_unbounded (message_step R.left R.stays R.no_room)) };
 }

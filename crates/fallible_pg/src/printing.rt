@@ -1,7 +1,8 @@
-//! What is told of rows that have a fault.
+//! What is told of rows that have a fault, and of notices.
 ghost use Rattle.std.specs.Prelude.{◌≡◌, ◌++◌, OnOk, OnErr, codes};
 ghost use Rattle.std.specs.Io.KnownBytes.{Appends};
-ghost use Rattle.fallible_pg.specs.Faults.{status_of, text_of, field, before_zero, further_line, refusal_text, is_call, is_copy, is_extended, is_known, is_start, tag_status, tag_text, damage_status, damage_text};
+ghost use Rattle.fallible_pg.specs.Messages.{message_bytes};
+ghost use Rattle.fallible_pg.specs.Faults.{status_of, text_of, notice_text, field, before_zero, further_line, refusal_text, is_call, is_copy, is_extended, is_known, is_start, tag_status, tag_text, damage_status, damage_text};
 
 use crate::fault::Damage;
 use crate::message::Message;
@@ -115,7 +116,7 @@ fn write_severity<W: WriteText>(fields: &[u8], errors: &mut W) -> io::Result<()>
     errors.write_bytes(field(b'C', fields))
 }
 
-// Writes what the server tells.
+// Writes what the server tells by a refusal or a notice.
 fn write_refusal<W: WriteText>(fields: &[u8], errors: &mut W) -> io::Result<()>
     ensures line { OnOk result (Appends (W.written errors.old) (W.written errors.new)
         (refusal_text fields.now)) }
@@ -126,6 +127,16 @@ fn write_refusal<W: WriteText>(fields: &[u8], errors: &mut W) -> io::Result<()>
     errors.write_bytes(field(b'M', fields))?;
     write_further("DETAIL", field(b'D', fields), errors)?;
     write_further("HINT", field(b'H', fields), errors)
+}
+
+// Writes the lines that are told of a notice.
+pub(crate) fn write_notice<W: WriteText>(notice: &Message, errors: &mut W) -> io::Result<()>
+    ensures line { OnOk result (Appends (W.written errors.old) (W.written errors.new)
+        (notice_text (message_bytes notice.now))) }
+    ensures failed { OnErr result (W.failed errors.new) }
+{
+    write_refusal(notice.body(), errors)?;
+    errors.write_bytes(b"\n")
 }
 
 // Writes what is told of a tag.

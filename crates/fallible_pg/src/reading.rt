@@ -1,5 +1,5 @@
 //! Reading a message.
-ghost use Rattle.std.specs.Prelude.{◌≡◌};
+ghost use Rattle.std.specs.Prelude.{◌≡◌, ℕ, List, ⊤};
 ghost use Rattle.fallible_pg.specs.Sizes.{is_length};
 ghost use Rattle.fallible_pg.specs.Reading.{ReadsMessage, broken_by};
 
@@ -41,9 +41,28 @@ fn is_length(n: u32) -> bool
     4 <= n && n <= MAX_LENGTH
 }
 
+/// Something that yields messages, as every reader does.
+pub trait ReadMessage: ReadByte {
+    // It had no room for these bytes, the first of a message.
+    ghost no_room: { List ℕ → Type 0 };
+
+    /// One message. No byte after it is read, and room is taken for what has come alone, whatever length is stated. It fails if what came is damaged, if a read fails, and if an allocation does.
+    fn read_message(&mut self, alloc: Global) -> Result<Message, Broken>
+        ensures { ReadsMessage Self.left Self.stays no_room self.old result self.new };
+}
+
+impl<R: ReadByte> ReadMessage for R {
+    // Std says of no request that it is granted.
+    ghost no_room = { λ _. ⊤ };
+
+    fn read_message(&mut self, alloc: Global) -> Result<Message, Broken> {
+        read_message(alloc, self)
+    }
+}
+
 // Reads one message, and no byte after it.
-pub(crate) fn read_message<R: ReadByte>(alloc: Global, reader: &mut R) -> Result<Message, Broken>
-    ensures { ReadsMessage R.left R.stays reader.old result reader.new }
+fn read_message<R: ReadByte>(alloc: Global, reader: &mut R) -> Result<Message, Broken>
+    ensures { ReadsMessage R.left R.stays (λ _. ⊤) reader.old result reader.new }
 {
     let mut bytes = Vec::new(alloc);
     match read_up_to(reader, &mut bytes, 5) {

@@ -1,19 +1,16 @@
-//! Prints rows.
-ghost use Rattle.std.specs.Prelude.{◌≡◌, Some, true, false};
-ghost use Rattle.fallible_pg.specs.Messages.{message_bytes};
-ghost use Rattle.fallible_pg.specs.Text.{row_text};
-ghost use Rattle.fallible_pg.specs.Report.{ComesTo, as_run_fault};
+//! Prints rows, and tells of notices.
+ghost use Rattle.std.specs.Prelude.{◌≡◌, Some, false};
+ghost use Rattle.fallible_pg.specs.Report.{ComesTo, PutsReply, as_run_fault};
 ghost use Rattle.fallible_pg.specs.Rows.{rows_parts};
 
 use crate::fault::{Damage, PgFault};
-use crate::printing::PgInput;
-use crate::rows::{Row, Rows};
-use crate::text::write_row;
+use crate::printing::{PgInput, write_notice};
+use crate::reading::ReadMessage;
+use crate::rows::{Reply, Rows};
+use crate::text::HoldText;
 use fallible_iterator::FallibleIterator;
 use program_io::fault::RunFault;
-use program_io::reading::ReadByte;
 use program_io::writing::WriteText;
-use std::alloc::Global;
 
 // What a fault of rows is for the run.
 fn run_fault(fault: PgFault) -> RunFault<PgInput>
@@ -27,41 +24,58 @@ fn run_fault(fault: PgFault) -> RunFault<PgInput>
     }
 }
 
-// Puts the text of a row in place of what the buffer has. Whether it had room.
-fn text_of_row(row: &Row, text: &mut Vec<u8>) -> bool
-    ensures { result ≡ true → text.new.items ≡ row_text (message_bytes row.now.message) }
+// Prints a row, by one write, or tells of a notice.
+fn put_reply<T: HoldText, W: WriteText, E: WriteText>(
+    reply: &Reply,
+    text: &mut T,
+    output: &mut W,
+    errors: &mut E,
+) -> Result<(), RunFault<PgInput>>
+    ensures { PutsReply W.failed (W.written output.old) (W.written output.new) output.new
+        E.failed (E.written errors.old) (E.written errors.new) errors.new
+        T.no_room reply.now result }
 {
-    text.clear();
-    write_row(row, text).is_ok()
+    match reply {
+        Reply::Row(row) => {
+            // No memory: a buffer refuses a row only for want of room.
+            if !text.hold_row(row) {
+                return Err(RunFault::Memory);
+            }
+            match output.write_bytes(text.held()) {
+                Ok(()) => Ok(()),
+                Err(_) => Err(RunFault::Write),
+            }
+        }
+        Reply::Notice(notice) => match write_notice(notice, errors) {
+            Ok(()) => Ok(()),
+            Err(_) => Err(RunFault::Write),
+        },
+    }
 }
 
-/// Prints the rows up to the first fault, each as it comes and by one write, as `write_row` does.
+/// Prints the rows up to the first fault, and tells `errors` of the notices, each as it comes. A row is written as `write_row` does, by one write. `text` is the buffer that each is put into first, in the place of what it holds.
 ///
-/// It fails with `Input` at the server's refusal and at damage; with `Read` where a read fails, or after 2 ^ 63 bytes; with `Memory` where a message or the text of a row has no room; with `Write` where the writer fails. Only at `Write` may something have been written that is not whole rows.
+/// It fails with `Input` at the server's refusal and at damage; with `Read` where a read fails, or after 2 ^ 63 bytes; with `Memory` where there is no room for a message, or in `text` for that of a row; with `Write` where a writer fails. Only at `Write` may something have been written that is not whole rows.
 ///
 /// Requires that no row was drawn.
-pub fn print_rows<R: ReadByte, W: WriteText>(
-    alloc: Global,
+pub fn print_rows<R: ReadMessage, T: HoldText, W: WriteText, E: WriteText>(
     rows: &mut Rows<R>,
+    text: &mut T,
     output: &mut W,
+    errors: &mut E,
 ) -> Result<(), RunFault<PgInput>>
     requires { rows_parts rows.old ≡ (((rows_parts rows.old).0.0, Some 0), false) }
-    ensures { ComesTo R.left R.stays (rows_parts rows.old).0.0 (rows_parts rows.new).0.0 W.failed
-        (W.written output.old) (W.written output.new) output.new result }
+    ensures { ComesTo R.left R.stays R.no_room T.no_room
+        (rows_parts rows.old).0.0 (rows_parts rows.new).0.0 W.failed
+        (W.written output.old) (W.written output.new) output.new E.failed
+        (E.written errors.old) (E.written errors.new) errors.new result }
 {
-    let mut text = Vec::new(alloc);
     for _ in 0..u64::MAX {
         match rows.next() {
-            Ok(Some(row)) => {
-                // No memory: writing to a vector fails only if an allocation does.
-                if !text_of_row(&row, &mut text) {
-                    return Err(RunFault::Memory);
-                }
-                match output.write_bytes(text.as_slice()) {
-                    Ok(()) => {}
-                    Err(_) => return Err(RunFault::Write),
-                }
-            }
+            Ok(Some(reply)) => match put_reply(&reply, text, output, errors) {
+                Ok(()) => {}
+                Err(fault) => return Err(fault),
+            },
             Ok(None) => return Ok(()),
             Err(fault) => return Err(run_fault(fault)),
         }

@@ -6,14 +6,15 @@ ghost use Rattle.fallible_iterator.specs.Laws.BoundsRuns.{lawful_unbounded};
 ghost use Rattle.fallible_pg.specs.Cells.{shows_cells, cells_of};
 ghost use Rattle.fallible_pg.specs.Messages.{message_bytes};
 ghost use Rattle.fallible_pg.specs.Reading.{AsksForEnd, messages_parts, place_of};
-ghost use Rattle.fallible_pg.specs.Rows.{kind_of, is_skipped, rows_parts, rows_step};
+ghost use Rattle.fallible_pg.specs.Rows.{kind_of, is_skipped, row_in, rows_parts, rows_step};
 
 use crate::cells::{Cells, is_row};
 use crate::fault::{Damage, PgFault};
 use crate::message::Message;
 use crate::messages::Messages;
+use crate::reading::ReadMessage;
 use fallible_iterator::FallibleIterator;
-use program_io::reading::{ReadByte, ReadFailed};
+use program_io::reading::ReadFailed;
 
 /// A row, whose cells are undamaged.
 #[derive(Debug, Drop)]
@@ -37,9 +38,30 @@ impl Row {
     }
 }
 
-/// The rows of the results of a query, over the messages that come after it.
+/// What the results of a query bring.
+#[derive(Debug, Drop)]
+pub enum Reply {
+    /// A row.
+    Row(Row),
+    /// A notice of the server, by its message.
+    Notice(Message),
+}
+
+impl Reply {
+    /// The row that it is, if it is one.
+    pub fn into_row(self) -> Option<Row>
+        ensures { result ≡ row_in self }
+    {
+        match self {
+            Reply::Row(row) => Some(row),
+            Reply::Notice(_) => None,
+        }
+    }
+}
+
+/// The rows of the results of a query, over the messages that come after it, and the notices of the server between them.
 ///
-/// A draw passes the messages that are no row: the description of rows, the end of a statement, a notice and such. It reads the bytes of these and of the one that decides, and none of the next. A refusal of the server is the failure `Server`, and the next draw goes on. Where the server is ready for the next query the rows end, and `into_messages` returns the messages after that. A row whose cells don't fill it, a message of a tag that isn't read, and each fault of the messages is a failure after which each call returns `Ok(None)` and reads no more.
+/// A draw passes the other messages: the description of rows, the end of a statement and such. It reads the bytes of these and of the one that decides, and none of the next. A refusal of the server is the failure `Server`, and the next draw goes on. Where the server is ready for the next query the rows end, and `into_messages` returns the messages after that. A row whose cells don't fill it, a message of a tag that isn't read, and each fault of the messages is a failure after which each call returns `Ok(None)` and reads no more.
 ///
 /// Over a reader that tells its bytes they are a function of these (`law_turns`). It states no bound, so it is drained through `take`.
 #[derive(Drop)]
@@ -53,6 +75,8 @@ pub struct Rows<R> {
 pub enum Kind {
     /// A row.
     Row,
+    /// A notice of the server.
+    Notice,
     /// Passed over.
     Skipped,
     /// The server refuses a statement.
@@ -63,11 +87,11 @@ pub enum Kind {
     Damaged(Damage),
 }
 
-// Whether messages with this tag are skipped: the description of rows, the end of a statement, an empty statement, a notice, a parameter, a notification.
+// Whether messages with this tag are skipped: the description of rows, the end of a statement, an empty statement, a parameter, a notification.
 fn is_skipped(tag: u8) -> bool
     ensures { result ≡ is_skipped tag }
 {
-    tag == b'T' || tag == b'C' || tag == b'I' || tag == b'N' || tag == b'S' || tag == b'A'
+    tag == b'T' || tag == b'C' || tag == b'I' || tag == b'S' || tag == b'A'
 }
 
 // What a message is to one who reads rows.
@@ -84,6 +108,8 @@ fn kind_of(message: &Message) -> Kind
         }
     } else if is_skipped(tag) {
         Kind::Skipped
+    } else if tag == b'N' {
+        Kind::Notice
     } else if tag == b'E' {
         Kind::Refusal
     } else if tag == b'Z' {
@@ -93,7 +119,7 @@ fn kind_of(message: &Message) -> Kind
     }
 }
 
-impl<R: ReadByte> Rows<R> {
+impl<R: ReadMessage> Rows<R> {
     /// The rows that these messages bring. It reads nothing.
     pub fn new(messages: Messages<R>) -> Rows<R>
         ensures { rows_parts result ≡ (messages_parts messages, false) }
@@ -127,14 +153,14 @@ impl<R: ReadByte> Rows<R> {
     }
 }
 
-impl<R: ReadByte> FallibleIterator for Rows<R> {
-    type Item = Row;
+impl<R: ReadMessage> FallibleIterator for Rows<R> {
+    type Item = Reply;
 
     type Error = PgFault;
 
-    ghost contract = { seen_as rows_parts (unbounded_contract (rows_step R.left R.stays)) };
+    ghost contract = { seen_as rows_parts (unbounded_contract (rows_step R.left R.stays R.no_room)) };
 
-    fn next(&mut self) -> Result<Option<Row>, PgFault> {
+    fn next(&mut self) -> Result<Option<Reply>, PgFault> {
         if self.ended {
             return Ok(None);
         }
@@ -145,7 +171,11 @@ impl<R: ReadByte> FallibleIterator for Rows<R> {
                 Ok(Some(message)) => match kind_of(&message) {
                     Kind::Row => {
                         self.ended = false;
-                        return Ok(Some(Row { message }));
+                        return Ok(Some(Reply::Row(Row { message })));
+                    }
+                    Kind::Notice => {
+                        self.ended = false;
+                        return Ok(Some(Reply::Notice(message)));
                     }
                     Kind::Skipped => {}
                     Kind::Refusal => {
@@ -167,5 +197,5 @@ impl<R: ReadByte> FallibleIterator for Rows<R> {
         (0, None)
     }
 
-    ghost lawful = { lawful_seen rows_parts (lawful_unbounded (rows_step R.left R.stays)) };
+    ghost lawful = { lawful_seen rows_parts (lawful_unbounded (rows_step R.left R.stays R.no_room)) };
 }

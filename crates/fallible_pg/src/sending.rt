@@ -1,8 +1,8 @@
 //! What a client sends.
-ghost use Rattle.std.specs.Prelude.{◌≡◌, ◌<◌, ◌++◌, length, IfOk, MatchResult, vec_items};
+ghost use Rattle.std.specs.Prelude.{◌≡◌, ◌<◌, ◌≤◌, ◌+◌, ◌++◌, length, MatchResult, vec_items};
 ghost use Rattle.fallible_pg.specs.Messages.{message_bytes};
 ghost use Rattle.fallible_pg.specs.Sent.{request_of, request_by, sent_message, sent_text, sent_query, sent_password, sent_end, sent_startup};
-ghost use Rattle.fallible_pg.specs.declared.sending.Unsent.TheVariants.{Long};
+ghost use Rattle.fallible_pg.specs.declared.sending.Unsent.TheVariants.{Long, Memory};
 
 use crate::message::Message;
 use crate::numbers::u32_at;
@@ -33,7 +33,8 @@ const MAX_BODY: usize = 0x3fff_fffb;
 
 // A tag, if there is one, the length and the body.
 fn message_of(alloc: Global, tag: &[u8], body: &[u8]) -> Result<Vec<u8>, Unsent>
-    ensures { MatchResult result (λ sent. vec_items sent ≡ sent_message tag.now body.now)
+    ensures { MatchResult result
+        (λ sent. (vec_items sent ≡ sent_message tag.now body.now) × (length body.now ≤ 1073741819))
         (λ why. why ≡ Long → 1073741819 < length body.now) }
 {
     if body.len() > MAX_BODY {
@@ -48,7 +49,8 @@ fn message_of(alloc: Global, tag: &[u8], body: &[u8]) -> Result<Vec<u8>, Unsent>
 
 // A message of a tag and one text.
 fn text_message(alloc: Global, tag: &[u8], text: &[u8]) -> Result<Vec<u8>, Unsent>
-    ensures { MatchResult result (λ sent. vec_items sent ≡ sent_text tag.now text.now)
+    ensures { MatchResult result
+        (λ sent. (vec_items sent ≡ sent_text tag.now text.now) × (length text.now ≤ 1073741818))
         (λ why. why ≡ Long → 1073741818 < length text.now) }
 {
     let mut body = Vec::new(alloc);
@@ -59,7 +61,8 @@ fn text_message(alloc: Global, tag: &[u8], text: &[u8]) -> Result<Vec<u8>, Unsen
 
 /// A query. It fails with `Long` only above 1,073,741,818 bytes.
 pub fn query_message(alloc: Global, query: &str) -> Result<Vec<u8>, Unsent>
-    ensures { MatchResult result (λ sent. vec_items sent ≡ sent_query query.now)
+    ensures { MatchResult result
+        (λ sent. (vec_items sent ≡ sent_query query.now) × (length query.now ≤ 1073741818))
         (λ why. why ≡ Long → 1073741818 < length query.now) }
 {
     text_message(alloc, b"Q", query.as_bytes())
@@ -67,22 +70,25 @@ pub fn query_message(alloc: Global, query: &str) -> Result<Vec<u8>, Unsent>
 
 /// A password in clear text. It fails with `Long` only above 1,073,741,818 bytes.
 pub fn password_message(alloc: Global, password: &str) -> Result<Vec<u8>, Unsent>
-    ensures { MatchResult result (λ sent. vec_items sent ≡ sent_password password.now)
+    ensures { MatchResult result
+        (λ sent. (vec_items sent ≡ sent_password password.now) × (length password.now ≤ 1073741818))
         (λ why. why ≡ Long → 1073741818 < length password.now) }
 {
     text_message(alloc, b"p", password.as_bytes())
 }
 
-/// The end of a session.
+/// The end of a session. It never fails with `Long`.
 pub fn terminate_message(alloc: Global) -> Result<Vec<u8>, Unsent>
-    ensures { IfOk result (λ sent. vec_items sent ≡ sent_end) }
+    ensures { MatchResult result (λ sent. vec_items sent ≡ sent_end) (λ why. why ≡ Memory) }
 {
     message_of(alloc, b"X", &[])
 }
 
-/// What asks for a session of a user with a database. A name with a 0 in it is read otherwise than it is meant.
+/// What asks for a session of a user with a database. It fails with `Long` only if both names together have more than 1,073,741,777 bytes. A name with a 0 in it is read otherwise than it is meant.
 pub fn startup_message(alloc: Global, user: &str, database: &str) -> Result<Vec<u8>, Unsent>
-    ensures { IfOk result (λ sent. vec_items sent ≡ sent_startup user.now database.now) }
+    ensures { MatchResult result (λ sent. (vec_items sent ≡ sent_startup user.now database.now)
+        × (length user.now + length database.now ≤ 1073741777))
+        (λ why. why ≡ Long → 1073741777 < length user.now + length database.now) }
 {
     let mut body = Vec::new(alloc);
     body.extend_from_slice(b"\0\x03\0\0user\0")?;

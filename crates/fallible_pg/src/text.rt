@@ -1,5 +1,5 @@
 //! Rows as text.
-ghost use Rattle.std.specs.Prelude.{◌≡◌, ◌∷◌, OnOk, OnErr};
+ghost use Rattle.std.specs.Prelude.{◌≡◌, ◌∷◌, ℕ, List, OnOk, OnErr, true, false, vec_items, ⊤};
 ghost use Rattle.std.specs.Io.KnownBytes.{Appends};
 ghost use Rattle.fallible_pg.specs.Cells.{shows_cells};
 ghost use Rattle.fallible_pg.specs.Messages.{message_bytes};
@@ -65,5 +65,39 @@ pub fn write_row<W: WriteText>(row: &Row, writer: &mut W) -> io::Result<()>
         },
         Ok(None) => Ok(()),
         Err(_) => Ok(()),
+    }
+}
+
+/// A buffer for the text of a row.
+pub trait HoldText {
+    // The text that it holds.
+    ghost held: { Self → List ℕ };
+
+    // It had no room for the text of the row whose message this is.
+    ghost no_room: { List ℕ → Type 0 };
+
+    /// Puts the text of a row, as `write_row` writes it, in the place of what it holds. Whether there was room.
+    fn hold_row(&mut self, row: &Row) -> bool
+        ensures text { result ≡ true → held self.new ≡ row_text (message_bytes row.now.message) }
+        ensures no_room { result ≡ false → no_room (message_bytes row.now.message) };
+
+    /// The text that it holds.
+    fn held(&self) -> &[u8]
+        ensures { result.now ≡ held self.now };
+}
+
+impl HoldText for Vec<u8> {
+    ghost held = { vec_items };
+
+    // Std says of no request that it is granted.
+    ghost no_room = { λ _. ⊤ };
+
+    fn hold_row(&mut self, row: &Row) -> bool {
+        self.clear();
+        write_row(row, self).is_ok()
+    }
+
+    fn held(&self) -> &[u8] {
+        self.as_slice()
     }
 }

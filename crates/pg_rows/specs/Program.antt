@@ -19,12 +19,12 @@ abbrev pub text_of : WholeFault → List ℕ
 text_of (Within fault) = OfRows.text_of fault
 text_of More = codes "more comes after the server is ready"
 
-module _ {R W : Type 0} (left : R → Option (List ℕ)) (stays : Bool → R → R → Type 0) (input input' : R) (failed : W → Type 0) (written written' : Option (List ℕ)) (output' : W) where
-  -- rows were printed so, up to here
+module _ {R W E : Type 0} (left : R → Option (List ℕ)) (stays : Bool → R → R → Type 0) (no_room unheld : List ℕ → Type 0) (input input' : R) (failed : W → Type 0) (written written' : Option (List ℕ)) (output' : W) (unheard : E → Type 0) (told told' : Option (List ℕ)) (errors' : E) where
+  -- rows were printed and notices told so, up to here
   abbrev pub Prints : R → Result (Unit {0}) (RunFault PgInput) → Type 0
-  Prints middle outcome = Rows.ComesTo left stays input middle failed written written' output' outcome
+  Prints middle outcome = Rows.ComesTo left stays no_room unheld input middle failed written written' output' unheard told told' errors' outcome
 
-  -- What an outcome says of the input, and of what was written: that the rows were printed up to where the server is ready, and nothing comes after that; that they were printed up to a fault of theirs; that something comes after; that a read failed, for the rows or after them; that there was no memory; or that writing failed.
+  -- What an outcome says of the input, and of what was written: that the rows were printed up to where the server is ready, and nothing comes after that; that they were printed up to a fault of theirs; that something comes after; that a read failed, for the rows or after them; that there was no room for a message or for the text of a row; or that writing a row or telling a notice failed.
   abbrev pub ComesTo : Result (Unit {0}) (RunFault WholeFault) → Type 0
   ComesTo (Ok done) = (middle : R) × Prints middle (Ok done) × GivesEnd left stays middle input'
   ComesTo (Err (Input (Within fault))) = Prints input' (Err (Input fault))

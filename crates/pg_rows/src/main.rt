@@ -1,6 +1,6 @@
-//! Reads what a PostgreSQL server sent after a query, from the file that its word names or from standard input, and prints the rows as `psql -A -t` does, each as it comes.
+//! Reads what a PostgreSQL server sent after a query, from the file that its word names or from standard input, and prints the rows as `psql -A -t` does, each as it comes. It tells of the notices on standard error.
 //!
-//! At the first fault it says why on standard error, and ends with status 1 where the server refused a statement, 2 where a read fails, the file can't be opened, or a word is none that it takes, 3 where memory runs out, 4 where the rows cannot be printed, 5 at damage, 6 where the bytes are cut, and 7 at what isn't read: COPY, the extended protocol, a session's start, and what comes after the message that says the server is ready.
+//! At the first fault it says why on standard error, and ends with status 1 where the server refused a statement, 2 where a read fails, the file can't be opened, or a word is none that it takes, 3 where memory runs out, 4 where the rows cannot be printed or the notices told, 5 at damage, 6 where the bytes are cut, and 7 at what isn't read: COPY, the extended protocol, a session's start, and what comes after the message that says the server is ready.
 #![tactic(auto)]
 
 mod program;
@@ -31,9 +31,10 @@ fn main(rt: HostRuntime) -> ExitCode {
     let ended = match BufReader::new(rt.alloc(), input) {
         Ok(reader) => {
             let mut rows = Rows::new(Messages::new(rt.alloc(), Buffered::new(reader)));
+            let mut text = Vec::new(rt.alloc());
             program(
-                rt.alloc(),
                 &mut rows,
+                &mut text,
                 &mut output,
                 name.as_deref(),
                 &mut errors,

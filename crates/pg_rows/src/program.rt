@@ -4,12 +4,10 @@ ghost use Rattle.fallible_pg.specs.Rows.{rows_parts};
 ghost use Rattle.pg_rows.specs.Program.{ComesTo, status_of, text_of};
 ghost use Rattle.program_io.specs.Endings.{EndsWith};
 
-use fallible_pg::{PgInput, Rows, print_rows};
+use fallible_pg::{HoldText, PgInput, ReadMessage, Rows, print_rows};
 use program_io::ending::ended;
 use program_io::fault::{InputFault, RunFault};
-use program_io::reading::ReadByte;
 use program_io::writing::WriteText;
-use std::alloc::Global;
 use std::io;
 
 // What is wrong with an input.
@@ -42,17 +40,20 @@ impl InputFault for WholeFault {
     }
 }
 
-// Prints the rows, and sees that nothing comes after them.
-fn print_whole<R: ReadByte, W: WriteText>(
-    alloc: Global,
+// Prints the rows, tells `errors` of the notices, and sees that nothing comes after them.
+fn print_whole<R: ReadMessage, T: HoldText, W: WriteText, E: WriteText>(
     rows: &mut Rows<R>,
+    text: &mut T,
     output: &mut W,
+    errors: &mut E,
 ) -> Result<(), RunFault<WholeFault>>
     requires { rows_parts rows.old ≡ (((rows_parts rows.old).0.0, Some 0), false) }
-    ensures { ComesTo R.left R.stays (rows_parts rows.old).0.0 (rows_parts rows.new).0.0 W.failed
-        (W.written output.old) (W.written output.new) output.new result }
+    ensures { ComesTo R.left R.stays R.no_room T.no_room
+        (rows_parts rows.old).0.0 (rows_parts rows.new).0.0 W.failed
+        (W.written output.old) (W.written output.new) output.new E.failed
+        (E.written errors.old) (E.written errors.new) errors.new result }
 {
-    match print_rows(alloc, rows, output) {
+    match print_rows(rows, text, output, errors) {
         Ok(()) => {}
         Err(RunFault::Input(fault)) => return Err(RunFault::Input(WholeFault::Within(fault))),
         Err(RunFault::Read) => return Err(RunFault::Read),
@@ -66,19 +67,22 @@ fn print_whole<R: ReadByte, W: WriteText>(
     }
 }
 
-// Runs over `rows`, and tells `errors` of a fault, with the name of the input where that has one. The status that the program ends with; an `Err` where there was a line to tell and it could not be written.
-pub(crate) fn program<R: ReadByte, W: WriteText, E: WriteText>(
-    alloc: Global,
+// Runs over `rows`, and tells `errors` of the notices and of a fault, with the name of the input where that has one. The status that the program ends with; an `Err` where there was a line to tell and it could not be written.
+pub(crate) fn program<R: ReadMessage, T: HoldText, W: WriteText, E: WriteText>(
     rows: &mut Rows<R>,
+    text: &mut T,
     output: &mut W,
     name: Option<&str>,
     errors: &mut E,
 ) -> Result<u8, u8>
     requires { rows_parts rows.old ≡ (((rows_parts rows.old).0.0, Some 0), false) }
-    ensures { EndsWith status_of text_of name.entry
-        (E.written errors.old) (E.written errors.new) (E.failed errors.new)
-        (ComesTo R.left R.stays (rows_parts rows.old).0.0 (rows_parts rows.new).0.0 W.failed
-        (W.written output.old) (W.written output.new) output.new) result }
+    // The notices were told by then.
+    ensures { (heard : E) × EndsWith status_of text_of name.entry
+        (E.written heard) (E.written errors.new) (E.failed errors.new)
+        (ComesTo R.left R.stays R.no_room T.no_room
+        (rows_parts rows.old).0.0 (rows_parts rows.new).0.0 W.failed
+        (W.written output.old) (W.written output.new) output.new E.failed
+        (E.written errors.old) (E.written heard) heard) result }
 {
-    ended(print_whole(alloc, rows, output), name, errors)
+    ended(print_whole(rows, text, output, errors), name, errors)
 }

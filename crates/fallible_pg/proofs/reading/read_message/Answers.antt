@@ -1,12 +1,12 @@
 -- The first five bytes state the length, and the rest came after them.
 use Rattle.std.proofs.Common.{rules, subst, sym, Err}
-use Rattle.fallible_pg.proofs.ReadingLemmas.{HasHead, head_read, head_broken, wrong_length, body_broken, message_read}
+use Rattle.fallible_pg.proofs.ReadingLemmas.{HasHead, head_read, head_broken, wrong_length, body_broken, message_read, unsaid}
 use Rattle.fallible_pg.specs.Reading.{ReadsMessage}
 use Rattle.fallible_pg.specs.declared.reading.Broken.{Broken}
 use Rattle.fallible_pg.proofs.reading.read_message.Goals as goal
 
 pub returns-in-Err : goal.returns-in-Err
-returns-in-Err g c = subst (λ (why : Broken). ReadsMessage g.R.ReadByte.left g.R.ReadByte.stays c.args.reader.now (Err why) c.read_up_to.new.reader) (sym c.broken_by.ensures) (head_broken g.R.ReadByte.left g.R.ReadByte.stays c.args.reader.now c.read_up_to.new.reader c.read_up_to.new.bytes.items c.in-Err.why c.new-bytes.ensures.items c.in-Err.ensures)
+returns-in-Err g c = subst (λ (why : Broken). ReadsMessage g.R.ReadByte.left g.R.ReadByte.stays unsaid c.args.reader.now (Err why) c.read_up_to.new.reader) (sym c.broken_by.ensures) (head_broken g.R.ReadByte.left g.R.ReadByte.stays c.args.reader.now c.read_up_to.new.reader c.read_up_to.new.bytes.items c.in-Err.why c.new-bytes.ensures.items c.in-Err.ensures)
 
 pub returns-then-not-is_length : goal.returns-then-not-is_length
 returns-then-not-is_length g c =
@@ -43,4 +43,4 @@ returns-in-Err-read_up_to g c =
       same = c.as_slice.ensures.value;
       stated = c.u32_at-stated.ensures;
     } in
-    subst (λ (why : Broken). ReadsMessage g.R.ReadByte.left g.R.ReadByte.stays c.args.reader.now (Err why) c.read_up_to-2.new.reader) (sym c.broken_by-in-Err-read_up_to.ensures) (body_broken head c.read_up_to-2.new.reader c.read_up_to-2.new.bytes.items c.in-Err-read_up_to.why (search rules) c.in-Err-read_up_to.ensures)
+    subst (λ (why : Broken). ReadsMessage g.R.ReadByte.left g.R.ReadByte.stays unsaid c.args.reader.now (Err why) c.read_up_to-2.new.reader) (sym c.broken_by-in-Err-read_up_to.ensures) (body_broken head c.read_up_to-2.new.reader c.read_up_to-2.new.bytes.items c.in-Err-read_up_to.why (search rules) c.in-Err-read_up_to.ensures)

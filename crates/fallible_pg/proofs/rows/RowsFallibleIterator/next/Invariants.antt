@@ -12,6 +12,6 @@ invariant-loop g l = record {
   ended : l.self.ended ≡ true;
   skipped : List Message;
   each : All IsSkipped skipped;
-  passed : Yields (message_step g.R.ReadByte.left g.R.ReadByte.stays) (messages_parts l.fn.self.messages) skipped (messages_parts l.self.messages);
+  passed : Yields (message_step g.R.ReadByte.left g.R.ReadByte.stays g.R.ReadMessage.no_room) (messages_parts l.fn.self.messages) skipped (messages_parts l.self.messages);
   many : 5 * l.counter ≤ place_of (messages_parts l.self.messages).1;
 }
