@@ -6,7 +6,7 @@ use std::test::Fail;
 use test_support::calls::{Calls, ONE_FOLD, ONE_NEXT_ONE_FOLD, TWO_FOLDS};
 use test_support::counted::{Counted, Log};
 use test_support::counted_numbers::counted;
-use test_support::numbers::numbers;
+use test_support::number_list::listed_numbers;
 use test_support::steps::expect_calls;
 
 // A call of a nest of numbered items.
@@ -112,6 +112,6 @@ const ENDED: [Step<'static>; 2] = [
 fn enumerate_nth_counts_what_came_before_an_end() -> Result<(), Fail> {
     let log = Log::new();
     let answers = [Ok(1), Ok(2), Ok(9), Ok(3)];
-    let it = numbers(&answers).scan((), end_above_five);
+    let it = listed_numbers(&answers).scan((), end_above_five);
     expect_numbered(&mut Counted::new(it, &log).enumerate(), &log, &ENDED)
 }

@@ -2,7 +2,7 @@
 use fallible_iterator::{FallibleIterator, IteratorExt, convert, once_err};
 use std::alloc::AllocError;
 use std::test::Fail;
-use test_support::numbers::numbers;
+use test_support::number_list::listed_numbers;
 use test_support::scripted::Script;
 
 // Fails the test where three draws of the std iterator over it yield other elements, or where it hints at anything.
@@ -38,7 +38,7 @@ const FAILING_SECOND: [Result<u32, u32>; 3] = [Ok(1), Err(2), Ok(3)];
 
 #[test]
 fn iterator_gives_each_failure_as_an_element(rt: HostRuntime) -> Result<(), Fail> {
-    expect_elements(numbers(&ONE_AND_A_FAILURE), &THEIR_ELEMENTS)?;
+    expect_elements(listed_numbers(&ONE_AND_A_FAILURE), &THEIR_ELEMENTS)?;
     expect_elements(once_err(4), &A_FAILURE_AND_ENDS)?;
     // It draws again after an end.
     let source = Script {
@@ -46,7 +46,7 @@ fn iterator_gives_each_failure_as_an_element(rt: HostRuntime) -> Result<(), Fail
     };
     expect_elements(source, &AN_END_BETWEEN)?;
     // It has two ends and a clone.
-    let mut it = numbers(&FAILING_SECOND).iterator();
+    let mut it = listed_numbers(&FAILING_SECOND).iterator();
     let mut clone = it.clone()?;
     assert_eq!(rt;
         [it.next(), it.next_back(), it.next_back(), it.next()],
@@ -60,13 +60,15 @@ fn iterator_gives_each_failure_as_an_element(rt: HostRuntime) -> Result<(), Fail
 fn unwrap_gives_the_items_draws_again_after_an_end_and_has_a_clone(
     rt: HostRuntime,
 ) -> Result<(), Fail> {
-    let items: [u32; 4] = [0, 1, 2, 3];
-    let it = convert(items.iter().copied().map(|x| Ok::<u32, u32>(x))).unwrap();
-    assert_eq!(rt; it.size_hint(), (0, None));
-    let made: Vec<u32> = it
-        .map(|x| Ok::<u32, AllocError>(x))
-        .try_collect(rt.alloc())?;
-    assert_eq!(rt; made.as_slice(), [0, 1, 2, 3].as_slice());
+    {
+        let items: [u32; 4] = [0, 1, 2, 3];
+        let it = convert(items.iter().copied().map(|x| Ok::<u32, u32>(x))).unwrap();
+        assert_eq!(rt; it.size_hint(), (0, None));
+        let made: Vec<u32> = it
+            .map(|x| Ok::<u32, AllocError>(x))
+            .try_collect(rt.alloc())?;
+        assert_eq!(rt; made.as_slice(), [0, 1, 2, 3].as_slice());
+    }
     let items: [u32; 1] = [5];
     let mut it = items.iter().copied().into_fallible().unwrap();
     let mut clone = it.clone()?;

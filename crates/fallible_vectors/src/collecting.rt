@@ -9,14 +9,14 @@ use std::test::Fail;
 use test_support::closures::{even_thirds, ten_more_of_even};
 use test_support::collected::{expect_collected, expect_refused, expect_source_fault};
 use test_support::listed::listed;
-use test_support::numbers::numbers;
+use test_support::number_list::listed_numbers;
 
 // What `collect` through a reference makes of the answers, and what the next draw returns.
 fn collected(
     alloc: Global,
     answers: &[Result<u32, u32>],
 ) -> (Result<Vec<u32>, Fault<u32>>, Result<Option<u32>, u32>) {
-    let mut it = numbers(answers);
+    let mut it = listed_numbers(answers);
     (it.by_ref().collect(alloc), it.next())
 }
 
@@ -66,17 +66,23 @@ const TEN_MORE_OF_EVEN: [(&[Result<u32, u32>], Made); 2] = [
 fn collect_over_an_adapter_makes_its_items_or_fails_as_it_does(
     rt: HostRuntime,
 ) -> Result<(), Fail> {
-    let it = numbers(&UP_TO_FOUR).map(|x: u32| Ok(x.wrapping_mul(2)));
-    expect_collects(&rt, it, DOUBLED)?;
+    {
+        let it = listed_numbers(&UP_TO_FOUR).map(|x: u32| Ok(x.wrapping_mul(2)));
+        expect_collects(&rt, it, DOUBLED)?;
+    }
     for (more, given, made) in &WITH_GREATER_FAILURES {
-        let it = numbers(given).map_err(|e: u32| e.wrapping_add(*more));
+        let it = listed_numbers(given).map_err(|e: u32| e.wrapping_add(*more));
         expect_collects(&rt, it, *made)?;
     }
     for (given, made) in &EVEN_THIRDS {
-        expect_collects(&rt, numbers(given).filter(even_thirds), *made)?;
+        expect_collects(&rt, listed_numbers(given).filter(even_thirds), *made)?;
     }
     for (given, made) in &TEN_MORE_OF_EVEN {
-        expect_collects(&rt, numbers(given).filter_map(ten_more_of_even), *made)?;
+        expect_collects(
+            &rt,
+            listed_numbers(given).filter_map(ten_more_of_even),
+            *made,
+        )?;
     }
     Ok(())
 }
@@ -187,7 +193,7 @@ fn collect_draws_no_more_after_a_failure_or_a_refusal(rt: HostRuntime) -> Result
         expect_source_fault(made, 1)?;
         assert_eq!(rt; next, Ok(Some(2)));
     }
-    let mut it = numbers(&ONE_TO_THREE);
+    let mut it = listed_numbers(&ONE_TO_THREE);
     expect_refused(it.by_ref().collect::<Hungry>(rt.alloc()))?;
     assert_eq!(rt; it.next(), Ok(Some(2)));
     Ok(())
@@ -198,7 +204,7 @@ fn collect_takes_no_room_ahead_and_counts_into_a_counter(rt: HostRuntime) -> Res
     // A `Vec` grows with its items, by a factor: for five of them it has nowhere near 1,000 places.
     let (made, _) = collected(rt.alloc(), &UP_TO_FOUR);
     assert!(rt; made.expect(&rt, "a collection").capacity() < 1_000);
-    let made = numbers(&ONE_TO_THREE).collect::<Total>(rt.alloc());
+    let made = listed_numbers(&ONE_TO_THREE).collect::<Total>(rt.alloc());
     assert_eq!(rt; made.expect(&rt, "a collection").count, 3);
     // A failure becomes a fault of the source.
     expect_source_fault::<(), u32>(Err(Fault::from(7)), 7)

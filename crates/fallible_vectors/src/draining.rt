@@ -5,7 +5,7 @@ use fallible_iterator::{Collect, FallibleIterator};
 use std::alloc::{AllocError, Global};
 use std::test::Fail;
 use test_support::collected::expect_refused;
-use test_support::numbers::numbers;
+use test_support::number_list::listed_numbers;
 
 // The sum, which fails with an item above 4.
 fn low_sum(sum: u32, x: u32) -> Result<u32, u32> {
@@ -50,16 +50,20 @@ const ONE_AND_TWO: [Result<u32, u32>; 2] = [Ok(1), Ok(2)];
 
 #[test]
 fn count_fold_and_collect_draw_nothing_after_what_decides(rt: HostRuntime) -> Result<(), Fail> {
-    let mut it = numbers(&FAILING_SECOND);
-    assert_eq!(rt; (it.by_ref().count(), it.next()), (Err(2), Ok(Some(3))));
+    {
+        let mut it = listed_numbers(&FAILING_SECOND);
+        assert_eq!(rt; (it.by_ref().count(), it.next()), (Err(2), Ok(Some(3))));
+    }
     // Its closure fails.
-    let mut it = numbers(&ABOVE_FOUR_SECOND);
-    assert_eq!(rt;
-        (it.by_ref().fold(0, low_sum), it.next()),
-        (Err(5), Ok(Some(3)))
-    );
+    {
+        let mut it = listed_numbers(&ABOVE_FOUR_SECOND);
+        assert_eq!(rt;
+            (it.by_ref().fold(0, low_sum), it.next()),
+            (Err(5), Ok(Some(3)))
+        );
+    }
     // The allocation of its collection fails.
-    let mut it = numbers(&ONE_AND_TWO);
+    let mut it = listed_numbers(&ONE_AND_TWO);
     expect_refused(it.by_ref().collect::<Greedy>(rt.alloc()))?;
     assert_eq!(rt; it.next(), Ok(Some(1)));
     Ok(())

@@ -4,7 +4,7 @@ ghost use Rattle.fallible_iterator.specs.Laws.Contract.{lawful_seen};
 
 use fallible_iterator::{FallibleIterator, Turn};
 use std::cell::Cell;
-use test_support::numbers::numbers;
+use test_support::number_list::listed_numbers;
 
 // Numbers from a source, and how often their fold was called.
 #[derive(Drop)]
@@ -57,7 +57,7 @@ const FAILING_SECOND: [Result<u32, u32>; 3] = [Ok(1), Err(7), Ok(2)];
 fn folds_go_through_its_own_fold(rt: HostRuntime) {
     let folds = Cell::new(0);
     let mut watched = Watched {
-        it: numbers(&POWERS_OF_TWO),
+        it: listed_numbers(&POWERS_OF_TWO),
         folds: &folds,
     };
     let stopped = watched.try_fold(0, up_to_a_power);
@@ -66,7 +66,7 @@ fn folds_go_through_its_own_fold(rt: HostRuntime) {
     // It fails as its source.
     folds.set(0);
     let watched = Watched {
-        it: numbers(&FAILING_SECOND),
+        it: listed_numbers(&FAILING_SECOND),
         folds: &folds,
     };
     let failed = watched.fold(0, |sum, x| Ok(x.wrapping_add(sum)));

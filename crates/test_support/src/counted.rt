@@ -55,6 +55,21 @@ impl Log {
         }
     }
 
+    /// One more `count`.
+    pub fn add_count(&self) {
+        add(&self.counts);
+    }
+
+    /// One more `last`.
+    pub fn add_last(&self) {
+        add(&self.lasts);
+    }
+
+    /// One more `nth`.
+    pub fn add_nth(&self) {
+        add(&self.nths);
+    }
+
     /// The numbers so far, and no call from here on.
     pub fn take(&self) -> Calls {
         Calls {
@@ -86,7 +101,7 @@ impl<'a, I> Counted<'a, I> {
 }
 
 // One more.
-fn add(number: &Cell<u32>) {
+pub(crate) fn add(number: &Cell<u32>) {
     number.set(number.get().wrapping_add(1));
 }
 
@@ -120,9 +135,9 @@ impl<'a, I: FallibleIterator> FallibleIterator for Counted<'a, I> {
         I::Item: Drop,
     {
         match goal {
-            Goal::Count(_) => add(&self.log.counts),
-            Goal::Last(_) => add(&self.log.lasts),
-            Goal::Nth(_) => add(&self.log.nths),
+            Goal::Count(_) => self.log.add_count(),
+            Goal::Last(_) => self.log.add_last(),
+            Goal::Nth(_) => self.log.add_nth(),
         }
         self.it.drive_to(goal)
     }

@@ -1,23 +1,82 @@
 //! A source of numbers whose calls are counted.
-ghost use Rattle.std.specs.Prelude.{◌^◌, ◌-◌};
+ghost use Rattle.std.proofs.Common.{rules};
+ghost use Rattle.fallible_iterator.specs.Contract.{seen_as};
+ghost use Rattle.fallible_iterator.specs.Ends.{ends_seen_as};
 
-use crate::counted::{Counted, Log};
-use crate::numbers::numbers;
-use fallible_iterator::{Convert, DoubleEndedFallibleIterator, FallibleIterator};
-use std::iter::Copied;
-use std::slice::Iter;
+use crate::counted::{Log, add};
+use crate::number_list::{NumberList, listed_numbers};
+use fallible_iterator::{DoubleEndedFallibleIterator, FallibleIterator, Goal, Turn};
 
-/// A source over listed answers, whose calls are counted.
-pub type Numbers<'a> = Counted<'a, Convert<Copied<Iter<'a, Result<u32, u32>>>>>;
+/// Yields answers in a slice, and adds to its log what `Counted` adds. It has no type parameters.
+#[derive(Clone, Drop)]
+pub struct CountedNumbers<'a> {
+    it: NumberList<'a>,
+    log: &'a Log,
+}
+
+impl<'a> FallibleIterator for CountedNumbers<'a> {
+    type Item = u32;
+
+    type Error = u32;
+
+    ghost contract = { seen_as (λ s. s.it)
+        ⟦<NumberList<'a> as FallibleIterator>⟧.contract };
+
+    fn next(&mut self) -> Result<Option<u32>, u32> {
+        add(&self.log.nexts);
+        self.it.next()
+    }
+
+    fn size_hint(&self) -> (usize, Option<usize>) {
+        self.it.size_hint()
+    }
+
+    fn drive<C, R, K: Turn<C, u32, R>>(
+        &mut self,
+        state: &mut C,
+        turn: &K,
+    ) -> Result<Option<R>, u32> {
+        add(&self.log.folds);
+        self.it.drive(state, turn)
+    }
+
+    fn drive_to(&mut self, goal: &mut Goal<u32>) -> Result<Option<u32>, u32> {
+        match goal {
+            Goal::Count(_) => self.log.add_count(),
+            Goal::Last(_) => self.log.add_last(),
+            Goal::Nth(_) => self.log.add_nth(),
+        }
+        self.it.drive_to(goal)
+    }
+
+    ghost lawful = { Prim.search rules };
+}
+
+impl<'a> DoubleEndedFallibleIterator for CountedNumbers<'a> {
+    ghost ends = { ends_seen_as (λ s. s.it)
+        ⟦<NumberList<'a> as DoubleEndedFallibleIterator>⟧.ends };
+
+    fn next_back(&mut self) -> Result<Option<u32>, u32> {
+        add(&self.log.next_backs);
+        self.it.next_back()
+    }
+
+    fn drive_back<C, R, K: Turn<C, u32, R>>(
+        &mut self,
+        state: &mut C,
+        turn: &K,
+    ) -> Result<Option<R>, u32> {
+        add(&self.log.rfolds);
+        self.it.drive_back(state, turn)
+    }
+
+    ghost lawful_ends = { Prim.search rules };
+}
 
 /// Yields the answers, and adds its calls to `log`.
-pub fn counted<'a>(answers: &'a [Result<u32, u32>], log: &'a Log) -> Numbers<'a>
-    ensures can_next { ⟦<Counted<'a, Convert<Copied<Iter<'a, Result<u32, u32>>>>> as FallibleIterator>⟧.contract.can_next
-        result }
-    ensures ends { ⟦<Counted<'a, Convert<Copied<Iter<'a, Result<u32, u32>>>>> as DoubleEndedFallibleIterator>⟧.ends.can_next
-        result }
-    ensures finite { ⟦<Counted<'a, Convert<Copied<Iter<'a, Result<u32, u32>>>>> as FallibleIterator>⟧.contract.bound
-        result (2 ^ 64 - 1) }
-{
-    Counted::new(numbers(answers), log)
+pub fn counted<'a>(answers: &'a [Result<u32, u32>], log: &'a Log) -> CountedNumbers<'a> {
+    CountedNumbers {
+        it: listed_numbers(answers),
+        log,
+    }
 }

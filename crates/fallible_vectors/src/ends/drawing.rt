@@ -8,7 +8,7 @@ use test_support::answered::expect_answers_at;
 use test_support::course::Hint;
 use test_support::expected_numbers::{expect_hinted_numbers, expect_numbers_at};
 use test_support::listed::listed;
-use test_support::numbers::numbers;
+use test_support::number_list::listed_numbers;
 
 fn ten_times(x: u32) -> Result<u32, u32> {
     Ok(x.wrapping_mul(10))
@@ -43,11 +43,15 @@ const INSPECTED: [Answer<u32, u32>; 4] = [Failure(30), Item(1), Item(2), End];
 
 #[test]
 fn map_filter_and_inspect_from_both_ends(rt: HostRuntime) -> Result<(), Fail> {
-    let mut it = numbers(&FAILING_SECOND).map(ten_times);
-    expect_numbers_at(&rt, &mut it, &MAPPED_SIDES, &MAPPED)?;
-    let mut it = numbers(&ONE_TO_FIVE).filter(is_odd);
-    expect_numbers_at(&rt, &mut it, &FILTERED_SIDES, &FILTERED)?;
-    let mut it = numbers(&ONE_TO_THREE).inspect(but_three);
+    {
+        let mut it = listed_numbers(&FAILING_SECOND).map(ten_times);
+        expect_numbers_at(&rt, &mut it, &MAPPED_SIDES, &MAPPED)?;
+    }
+    {
+        let mut it = listed_numbers(&ONE_TO_FIVE).filter(is_odd);
+        expect_numbers_at(&rt, &mut it, &FILTERED_SIDES, &FILTERED)?;
+    }
+    let mut it = listed_numbers(&ONE_TO_THREE).inspect(but_three);
     expect_numbers_at(&rt, &mut it, &INSPECTED_SIDES, &INSPECTED)
 }
 
@@ -102,7 +106,7 @@ fn chain_hints_what_both_ends_left_and_goes_on_after_a_failure(
     rt: HostRuntime,
 ) -> Result<(), Fail> {
     for (first, second, sides, answers) in &CHAINED {
-        let mut it = numbers(first).chain(numbers(second));
+        let mut it = listed_numbers(first).chain(listed_numbers(second));
         expect_numbers_at(&rt, &mut it, sides, answers)?;
         expect_hinted_numbers(&rt, &mut it, &AN_END)?;
     }

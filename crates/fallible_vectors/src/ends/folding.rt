@@ -5,7 +5,7 @@ use fallible_iterator::{Answer, DoubleEndedFallibleIterator, FallibleIterator, S
 use std::test::Fail;
 use test_support::closures::{add_up, append_digit};
 use test_support::expected_numbers::expect_numbers_at;
-use test_support::numbers::numbers;
+use test_support::number_list::listed_numbers;
 
 fn is_odd(x: &u32) -> Result<bool, u32> {
     Ok(*x % 2 == 1)
@@ -16,10 +16,10 @@ const UP_TO_FIVE: [Result<u32, u32>; 5] = [Ok(1), Ok(2), Ok(3), Ok(4), Ok(5)];
 #[test]
 fn rfold_meets_the_last_item_first(rt: HostRuntime) {
     let answers = [Ok(1), Ok(2), Ok(3)];
-    let it = numbers(&answers);
+    let it = listed_numbers(&answers);
     assert_eq!(rt; it.rfold(0, append_digit), Ok(321));
     // It meets what a filter keeps.
-    let odd = numbers(&UP_TO_FIVE).filter(is_odd);
+    let odd = listed_numbers(&UP_TO_FIVE).filter(is_odd);
     assert_eq!(rt; odd.rfold(0, append_digit), Ok(531));
 }
 
@@ -56,11 +56,13 @@ const THREE_AND_ONE: [Answer<u32, u32>; 2] = [Item(3), Item(1)];
 
 #[test]
 fn try_rfold_stops_and_leaves_both_ends(rt: HostRuntime) -> Result<(), Fail> {
-    let mut it = numbers(&UP_TO_FOUR).map(ten_times);
-    assert_eq!(rt; it.try_rfold(0, sum_up_to_thirty), Err(7));
-    expect_numbers_at(&rt, &mut it, &BACK_AND_TWICE_FRONT, &BELOW_THIRTY)?;
+    {
+        let mut it = listed_numbers(&UP_TO_FOUR).map(ten_times);
+        assert_eq!(rt; it.try_rfold(0, sum_up_to_thirty), Err(7));
+        expect_numbers_at(&rt, &mut it, &BACK_AND_TWICE_FRONT, &BELOW_THIRTY)?;
+    }
     // Stopped in the second of a chain, it goes on there.
-    let mut it = numbers(&ONE_AND_TWO).chain(numbers(&THREE_AND_FOUR));
+    let mut it = listed_numbers(&ONE_AND_TWO).chain(listed_numbers(&THREE_AND_FOUR));
     assert_eq!(rt; it.try_rfold(0, stop), Err(7));
     expect_numbers_at(&rt, &mut it, &BACK_AND_FRONT, &THREE_AND_ONE)
 }
@@ -68,7 +70,7 @@ fn try_rfold_stops_and_leaves_both_ends(rt: HostRuntime) -> Result<(), Fail> {
 #[test]
 fn try_rfold_fails_with_the_last_failure(rt: HostRuntime) {
     let answers = [Ok(1), Err(2), Ok(3), Ok(4)];
-    let mut it = numbers(&answers);
+    let mut it = listed_numbers(&answers);
     let failed: Result<u32, u32> = it.try_rfold(0, add_up);
     assert_eq!(rt; failed, Err(2));
     assert_eq!(rt; it.next_back(), Ok(Some(1)));

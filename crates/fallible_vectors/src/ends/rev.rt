@@ -10,6 +10,7 @@ use std::test::Fail;
 use test_support::closures::{even_thirds, ten_more_of_even};
 use test_support::collected::{expect_collected, expect_source_fault};
 use test_support::expected_numbers::{expect_numbers, expect_numbers_at};
+use test_support::number_list::listed_numbers;
 use test_support::numbers::numbers;
 
 // What is collected: the items, or the failure of the source.
@@ -40,17 +41,17 @@ const SEVEN_TO_ZERO: Made = Ok(&[7, 6, 5, 4, 3, 2, 1, 0]);
 
 #[test]
 fn rev_of_a_chain_is_the_back_s_and_then_the_front_s(rt: HostRuntime) -> Result<(), Fail> {
-    let it = numbers(&UP_TO_THREE).chain(numbers(&FOUR_TO_SEVEN));
+    let it = listed_numbers(&UP_TO_THREE).chain(listed_numbers(&FOUR_TO_SEVEN));
     expect_collected_back(&rt, it, SEVEN_TO_ZERO)
 }
 
 #[test]
 fn rev_of_sources_of_one_answer_and_none(rt: HostRuntime) -> Result<(), Fail> {
-    let at_the_back = numbers(&UP_TO_THREE).chain(once(4));
+    let at_the_back = listed_numbers(&UP_TO_THREE).chain(once(4));
     expect_collected_back(&rt, at_the_back, Ok(&[4, 3, 2, 1, 0]))?;
     expect_collected_back(
         &rt,
-        once(4).chain(numbers(&UP_TO_THREE)),
+        once(4).chain(listed_numbers(&UP_TO_THREE)),
         Ok(&[3, 2, 1, 0, 4]),
     )?;
     expect_collected_back(&rt, once_err(4).chain(empty()), Err(4))?;
@@ -118,7 +119,7 @@ const EVEN_THIRDS: [(&[Result<u32, u32>], Made); 2] = [
 #[test]
 fn filter_from_back_keeps_the_same_or_fails_at_the_last_odd(rt: HostRuntime) -> Result<(), Fail> {
     for (given, made) in &EVEN_THIRDS {
-        expect_collected_back(&rt, numbers(given).filter(even_thirds), *made)?;
+        expect_collected_back(&rt, listed_numbers(given).filter(even_thirds), *made)?;
     }
     Ok(())
 }
@@ -132,7 +133,11 @@ const TEN_MORE_OF_EVEN: [(&[Result<u32, u32>], Made); 2] = [
 #[test]
 fn filter_map_from_back_gives_what_is_made_or_fails_at_5(rt: HostRuntime) -> Result<(), Fail> {
     for (given, made) in &TEN_MORE_OF_EVEN {
-        expect_collected_back(&rt, numbers(given).filter_map(ten_more_of_even), *made)?;
+        expect_collected_back(
+            &rt,
+            listed_numbers(given).filter_map(ten_more_of_even),
+            *made,
+        )?;
     }
     Ok(())
 }
@@ -179,8 +184,12 @@ const DOUBLED_BUT_TWO_FROM_BACK: [Answer<u32, u32>; 3] = [Item(8), Item(6), Fail
 
 #[test]
 fn map_from_back_and_where_it_fails_at_2(rt: HostRuntime) -> Result<(), Fail> {
-    expect_collected_back(&rt, numbers(&UP_TO_FOUR).map(doubled), DOUBLED_FROM_BACK)?;
-    let mut it = numbers(&UP_TO_FOUR).map(doubled_but_two);
+    expect_collected_back(
+        &rt,
+        listed_numbers(&UP_TO_FOUR).map(doubled),
+        DOUBLED_FROM_BACK,
+    )?;
+    let mut it = listed_numbers(&UP_TO_FOUR).map(doubled_but_two);
     let mut clone = it.clone()?.rev();
     expect_numbers(&rt, &mut it, &DOUBLED_BUT_TWO)?;
     expect_numbers(&rt, &mut clone, &DOUBLED_BUT_TWO_FROM_BACK)
@@ -192,7 +201,7 @@ fn same(e: u32) -> u32 {
 
 #[test]
 fn map_err_from_back_fails_with_3(rt: HostRuntime) -> Result<(), Fail> {
-    expect_collected_back(&rt, numbers(&FAILING_TWICE).map_err(same), Err(3))
+    expect_collected_back(&rt, listed_numbers(&FAILING_TWICE).map_err(same), Err(3))
 }
 
 #[test]
