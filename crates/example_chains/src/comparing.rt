@@ -2,7 +2,7 @@
 ghost use Rattle.std.specs.Prelude.{◌≡◌, ℕ, ◌+◌, ◌*◌, ◌%◌, ◌^◌, List, Result, Ok, Some, length, nat_lt, nat_eq};
 ghost use Rattle.std.specs.Ordering.{nat_cmp};
 ghost use Rattle.fallible_iterator.specs.Comparing.{by_cmp, by_eq, read_as, reads_eq, reads_ge, reads_gt, reads_le, reads_lt, reads_ne};
-ghost use Rattle.fallible_iterator.specs.Contract.{seen_as};
+ghost use Rattle.fallible_iterator.specs.Contract.{parts_as};
 ghost use Rattle.fallible_iterator.specs.Peeking.Peekable.{peekable_contract, peekable_parts};
 ghost use Rattle.fallible_iterator.specs.Lists.{Lists, results, compared, mapped, filtered, repeated, skipped, taken};
 ghost use Rattle.example_chains.specs.Rises.{risen};
@@ -173,7 +173,7 @@ where
     requires can_next { (peekable_contract J.contract).can_next (peekable_parts ahead) }
     requires finite { (peekable_contract J.contract).is_finite (peekable_parts ahead) }
     ensures { (l : List (Result ℕ J.Error))
-        → Lists (seen_as peekable_parts (peekable_contract J.contract)).steps ahead l
+        → Lists (parts_as peekable_parts (peekable_contract J.contract)).steps ahead l
         → result ≡ risen l }
 {
     let mut left = ahead.number();

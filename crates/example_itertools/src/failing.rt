@@ -1,10 +1,11 @@
 //! Callers of the adapters that act on failures.
-ghost use Rattle.std.specs.Prelude.{◌≡◌, ℕ, ◌+◌, ◌-◌, ◌%◌, ◌^◌, List, None, Ok, Result, Some, nat_lt};
+ghost use Rattle.std.specs.Prelude.{◌≡◌, ℕ, ◌+◌, ◌-◌, ◌%◌, ◌^◌, Err, List, None, Ok, Result, Some, nat_lt};
 ghost use Rattle.std.specs.Iterator.{UpTo};
 ghost use Rattle.fallible_iterator.specs.Closures.{IsCallable, call_by_reference, takes_by_reference};
 ghost use Rattle.fallible_iterator.specs.Contract.{AtMost};
 ghost use Rattle.fallible_iterator.specs.Failing.{failures_mapped};
-ghost use Rattle.fallible_iterator.specs.Lists.{Lists, counted, filtered, folded, mapped, on_value, results, taken};
+ghost use Rattle.fallible_iterator.specs.Lists.{Lists, ListsForGood, counted, filtered, folded, mapped, nth_of, on_value, results, taken};
+ghost use Rattle.fallible_itertools.specs.FuseAtFailure.{up_to_failure};
 ghost use Rattle.fallible_itertools.specs.OrElse.{recovered};
 ghost use Rattle.fallible_itertools.specs.Parted.{PartitionedFailuresAs};
 ghost use Rattle.fallible_itertools.specs.StopAfter.{stopped_after};
@@ -13,7 +14,7 @@ ghost use Rattle.example_itertools.specs.declared.failing.NoCount.{NoCount};
 ghost use Rattle.example_itertools.specs.Rows.{below_hundred, row_more, with_row};
 
 use fallible_iterator::{FallibleIterator, convert};
-use fallible_itertools::FallibleItertools;
+use fallible_itertools::{FallibleItertools, FuseAtFailure};
 use std::alloc::{AllocError, Global};
 
 /// A hundred rows are bad.
@@ -106,6 +107,22 @@ where
         .fold(0, |sum: u64, row: u32| Ok(sum.wrapping_add(u64::from(row))))
 }
 
+/// How many of the first 1000 rows are good. It gives up at the hundredth bad one, and draws no more. No more items come than `usize::MAX`, by which a count fits.
+pub fn good_of_thousand<I: FallibleIterator<Item = u32>>(rows: I) -> Result<usize, I::Error>
+where
+    I::Error: Drop,
+    requires { I.contract.can_next rows }
+    ensures { (l : List (Result ℕ I.Error)) → Lists I.contract.steps rows l
+        → result ≡ counted (taken (2 ^ 64 - 1)
+        (recovered (λ _. Ok None) (stopped_after 100 (taken 1000 l)))) }
+{
+    rows.take(1000)
+        .stop_after(100)
+        .or_else(|_: I::Error| Ok(None))
+        .take(usize::MAX)
+        .count()
+}
+
 /// The sum of the good ones among the first `most` rows, modulo 2 ^ 64, and the number of bad ones among them. It gives up at the hundredth bad one, and draws no more. The rows may come of a reader, which has no bound.
 pub fn tally_good<I: FallibleIterator<Item = u64>>(
     rows: I,
@@ -136,6 +153,31 @@ where
     } else {
         Err(TooManyBad)
     }
+}
+
+/// The rows up to the first bad one, and why it is bad: a source for code that draws on. The rows may come of a reader, which has no bound.
+pub fn ending_at_bad<I: FallibleIterator>(rows: I) -> FuseAtFailure<I>
+    ensures lists { (l : List (Result I.Item I.Error)) → Lists I.contract.steps rows l
+        → Lists ⟦<FuseAtFailure<I> as FallibleIterator>⟧.contract.steps result
+        (up_to_failure l) }
+    ensures for_good { (l : List (Result I.Item I.Error)) (e : I.Error)
+        → Lists I.contract.steps rows l → counted l ≡ Err e
+        → ListsForGood ⟦<FuseAtFailure<I> as FallibleIterator>⟧.contract.steps result
+        (up_to_failure l) }
+{
+    rows.fuse_at_failure()
+}
+
+/// The second row, or why one before it is bad. The rows may come of a reader, which has no bound.
+pub fn second_row_up_to_bad<I: FallibleIterator<Item = u32>>(
+    rows: I,
+) -> Result<Option<u32>, I::Error>
+where
+    requires { I.contract.can_next rows }
+    ensures { (l : List (Result ℕ I.Error)) → Lists I.contract.steps rows l
+        → result ≡ nth_of 1 (up_to_failure l) }
+{
+    rows.fuse_at_failure().nth(1)
 }
 
 /// The readings above 100 before the first failure, and that failure, if one came.

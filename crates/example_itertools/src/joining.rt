@@ -1,8 +1,8 @@
 //! Callers of the adapters that join: each states what it computes, and the contracts of the calls prove it.
 ghost use Rattle.std.specs.Ordering.{nat_cmp};
-ghost use Rattle.std.specs.Prelude.{◌≡◌, ◌%◌, ◌/◌, Ok, nat_eq, nat_le, Some};
+ghost use Rattle.std.specs.Prelude.{◌≡◌, ◌%◌, ◌/◌, List, Ok, Result, nat_eq, nat_le, Some};
 ghost use Rattle.fallible_iterator.specs.Comparing.{by_cmp, read_as};
-ghost use Rattle.fallible_iterator.specs.Lists.{counted, last_of, nth_of, results};
+ghost use Rattle.fallible_iterator.specs.Lists.{Lists, ListsForGood, counted, last_of, nth_of, results};
 ghost use Rattle.fallible_itertools.specs.CmpBy.{equal_by, ordered_by};
 ghost use Rattle.fallible_itertools.specs.DedupBy.{deduped_by};
 ghost use Rattle.fallible_itertools.specs.Interleave.{interleaved};
@@ -14,7 +14,7 @@ ghost use Rattle.fallible_itertools.specs.ZipEq.{zipped_equal};
 ghost use Rattle.fallible_itertools.specs.ZipLongest.{zipped_longest};
 
 use fallible_iterator::{FallibleIterator, convert};
-use fallible_itertools::FallibleItertools;
+use fallible_itertools::{FallibleItertools, Interleave};
 use std::cmp::Ordering;
 
 /// How many positions two columns have, each filled by one of them at least, or the first failure.
@@ -89,6 +89,19 @@ pub fn nth_in_turn(
     convert(left.into_iter())
         .interleave(convert(right.into_iter()))
         .nth(n)
+}
+
+/// Two columns that are read in turn, and `Ok(None)` at each draw after the first one: a source for code that draws on.
+pub fn in_turn_for_good<I: FallibleIterator, J: FallibleIterator<Item = I::Item, Error = I::Error>>(
+    left: I,
+    right: J,
+) -> Interleave<I, J>
+    ensures { (a b : List (Result I.Item I.Error)) → Lists I.contract.steps left a
+        → Lists J.contract.steps right b
+        → ListsForGood ⟦<Interleave<I, J> as FallibleIterator>⟧.contract.steps result
+        (interleaved a b) }
+{
+    left.interleave(right)
 }
 
 /// How many rows the outer join of two sorted columns of keys has, or the first failure.

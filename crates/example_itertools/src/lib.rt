@@ -2,6 +2,7 @@
 #![tactic(auto)]
 
 pub mod batching;
+pub mod cloning;
 pub mod extremes;
 pub mod failing;
 pub mod holding;

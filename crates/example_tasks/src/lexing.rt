@@ -1,10 +1,10 @@
 //! A lexer over any iterator of bytes: numbers, words and signs, read by looking one byte ahead.
 ghost use Rattle.std.specs.Prelude.{◌≡◌, ◌-◌, ◌^◌, ℕ, List, None, Ok, Result};
 ghost use Rattle.fallible_iterator.specs.Contract.{AtMost, Stays};
-ghost use Rattle.fallible_iterator.specs.Laws.Contract.{lawful_seen};
+ghost use Rattle.fallible_iterator.specs.Laws.Contract.{lawful_parts};
 ghost use Rattle.fallible_iterator.specs.Laws.Peeking.Peekable.{lawful_peekable};
 ghost use Rattle.fallible_iterator.specs.Lists.{CollectedAs, Lists, numbered, result_answer};
-ghost use Rattle.fallible_iterator.specs.Peeking.Peekable.{peekable_parts};
+ghost use Rattle.fallible_iterator.specs.Peeking.Peekable.{peekable_made, peekable_parts};
 ghost use Rattle.fallible_itertools.specs.Ahead.{Lowers, making};
 ghost use Rattle.fallible_itertools.specs.Laws.Ahead.{lawful_making};
 ghost use Rattle.example_tasks.specs.Lexing.{Placed, belongs, first_byte, kind_of, lexed, rest_byte, rest_lexed, rest_value, sign_at, token_at, value_taken, with_byte};
@@ -179,7 +179,7 @@ impl<I: FallibleIterator<Item = (usize, u8)>> FallibleIterator for Lexer<I> {
     }
 
     ghost lawful = { lawful_making (λ s. s.ahead) lexed rest_lexed
-        (lawful_seen peekable_parts (lawful_peekable I.lawful)) };
+        (lawful_parts peekable_made (lawful_peekable I.lawful)) };
 }
 
 impl<I: FallibleIterator<Item = (usize, u8)>> Lexer<I> {

@@ -1,6 +1,6 @@
 //! Two sorted sources, merged.
 ghost use Rattle.std.specs.Prelude.{◌≡◌, ℕ, List, Result, Ok, None};
-ghost use Rattle.fallible_iterator.specs.Contract.{KeptByDraws, seen_as};
+ghost use Rattle.fallible_iterator.specs.Contract.{KeptByDraws, parts_as};
 ghost use Rattle.fallible_iterator.specs.Lists.{Lists, rest_first, nth_of};
 ghost use Rattle.fallible_iterator.specs.Peeking.Peekable.{peekable_contract, peekable_parts};
 ghost use Rattle.example_tasks.specs.Merging.{ListBoth, merged};
@@ -20,15 +20,15 @@ where
     requires left { (peekable_contract I.contract).can_next (peekable_parts left.old) }
     requires right { (peekable_contract J.contract).can_next (peekable_parts right.old) }
     ensures value { (a b : List (Result ℕ I.Error))
-        → Lists (seen_as peekable_parts (peekable_contract I.contract)).steps left.old a
-        → Lists (seen_as peekable_parts (peekable_contract J.contract)).steps right.old b
+        → Lists (parts_as peekable_parts (peekable_contract I.contract)).steps left.old a
+        → Lists (parts_as peekable_parts (peekable_contract J.contract)).steps right.old b
         → result ≡ nth_of 0 (merged a b) }
     ensures rest { (a b : List (Result ℕ I.Error))
-        → Lists (seen_as peekable_parts (peekable_contract I.contract)).steps left.old a
-        → Lists (seen_as peekable_parts (peekable_contract J.contract)).steps right.old b
+        → Lists (parts_as peekable_parts (peekable_contract I.contract)).steps left.old a
+        → Lists (parts_as peekable_parts (peekable_contract J.contract)).steps right.old b
         → ¬ (result ≡ Ok None)
-        → ListBoth (seen_as peekable_parts (peekable_contract I.contract)).steps
-        (seen_as peekable_parts (peekable_contract J.contract)).steps
+        → ListBoth (parts_as peekable_parts (peekable_contract I.contract)).steps
+        (parts_as peekable_parts (peekable_contract J.contract)).steps
         left.new right.new (rest_first (merged a b)) }
     ensures left { KeptByDraws (peekable_contract I.contract)
         (peekable_parts left.old) (peekable_parts left.new) }

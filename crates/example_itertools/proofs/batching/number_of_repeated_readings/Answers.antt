@@ -1,6 +1,6 @@
 -- The number is that of the list.
 use Rattle.std.proofs.Common.{rules}
-use Rattle.fallible_itertools.proofs.Lemmas.Duplicates.{counted_unless_refused}
+use Rattle.fallible_itertools.proofs.Lemmas.UnlessRefused.{counted_unless_refused}
 use Rattle.example_itertools.proofs.batching.number_of_repeated_readings.Goals as goal
 
 pub returns : goal.returns

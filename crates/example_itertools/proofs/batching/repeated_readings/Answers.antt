@@ -1,6 +1,6 @@
 -- What is collected are items of the list.
 use Rattle.std.proofs.Common.{rules}
-use Rattle.fallible_itertools.proofs.Lemmas.Duplicates.{collected_unless_refused}
+use Rattle.fallible_itertools.proofs.Lemmas.UnlessRefused.{collected_unless_refused}
 use Rattle.example_itertools.proofs.batching.repeated_readings.Goals as goal
 
 pub returns : goal.returns

@@ -1,5 +1,5 @@
 -- It lists what is made of the bytes.
-use Rattle.fallible_iterator.specs.Contract.{seen_as}
+use Rattle.fallible_iterator.specs.Contract.{parts_as}
 use Rattle.fallible_iterator.specs.Peeking.Peekable.{peekable_contract, peekable_parts}
 use Rattle.example_tasks.specs.Lexing.{lexed, rest_lexed}
 use Rattle.fallible_itertools.proofs.Lemmas.Ahead.{lists_made}
@@ -7,4 +7,4 @@ use Rattle.example_tasks.proofs.LexingLemmas.{lexed_others}
 use Rattle.example_tasks.proofs.lexing.Lexer.new.Goals as goal
 
 pub returns-clause-lists : goal.returns-clause-lists
-returns-clause-lists g c = λ l i. lists_made (λ s. s.ahead) lexed rest_lexed lexed_others (seen_as peekable_parts (peekable_contract g.I.FallibleIterator.contract)) (c.peekable.ensures.lists l i)
+returns-clause-lists g c = λ l i. lists_made (λ s. s.ahead) lexed rest_lexed lexed_others (parts_as peekable_parts (peekable_contract g.I.FallibleIterator.contract)) (c.peekable.ensures.lists l i)
