@@ -4,7 +4,7 @@ use Rattle.std.specs.Fn.{Mut}
 use Rattle.std.specs.Borrow.{Bor}
 use Rattle.std.proofs.lemmas.List.Sums.{length-filter}
 use Rattle.fallible_iterator.specs.Traces.{Answered, Run, item, end}
-use Rattle.fallible_iterator.specs.Contract.{Contract, seen_as, unbounded_contract}
+use Rattle.fallible_iterator.specs.Contract.{Contract, seen_as, parts_as, unbounded_contract}
 use Rattle.fallible_iterator.specs.Closures.{call_by_reference}
 use Rattle.fallible_iterator.specs.Lists.{Acts}
 use Rattle.fallible_iterator.specs.Cutting.Take.{take_contract, take_parts}
@@ -38,9 +38,9 @@ module _ {B : Type 0} {left : B → Option (List ℕ)} {stays : Bool → B → B
   reads_rows trace t ran = reads_rows_of_run left stays trace r a (rows_parts t) placed (subst (λ (p : B × Option Ahead). Run (row_step left stays) p trace (rows_parts t)) begins (run_at_view rows_parts (row_step left stays) trace begin t ran))
 
   pub chain_reads : {F : Type 0} {g : Mut F (Bor ℕ × Unit {0}) (Result Bool RowFault)} {s : Filter (Take (Rows B)) F} {first : Take (Rows B)} {f : F} {n : ℕ} {last : Answered ℕ RowFault} (t : Filter (Take (Rows B)) F) (xs : List ℕ) → Acts (call_by_reference g) f (λ x. Ok (is_above_100 x)) → filter_parts s ≡ (first, f) → take_parts first ≡ (begin, n)
-      → Run (seen_as filter_parts (filter_contract (seen_as take_parts (take_contract (row_contract left stays))) g)).steps s (map item xs ++ last ∷ []) t → ChainReads left stays r a n (length xs) last (rows_parts t.it.it)
+      → Run (parts_as filter_parts (filter_contract (parts_as take_parts (take_contract (row_contract left stays))) g)).steps s (map item xs ++ last ∷ []) t → ChainReads left stays r a n (length xs) last (rows_parts t.it.it)
   chain_reads {g = g} {s = s} {first = first} {f = f} {n = n} {last = last} t xs acts at_filter at_take ran =
-      let b = filtered_run (seen_as take_parts (take_contract (row_contract left stays))) g is_above_100 f first s t xs last acts at_filter ran in
+      let b = filtered_run (parts_as take_parts (take_contract (row_contract left stays))) g is_above_100 f first s t xs last acts at_filter ran in
       record {
         items = b.items;
         reads = elim (taken_run (row_contract left stays) n begin first t.it b.items last at_take b.ran) [

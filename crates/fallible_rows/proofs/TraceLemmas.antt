@@ -4,7 +4,7 @@ use Rattle.std.proofs.lemmas.List.{take_at, length_push}
 use Rattle.std.proofs.lemmas.List.Elements.{All-nil, All-cons, All-append}
 use Rattle.fallible_iterator.specs.Traces.{Answered, Run, failure, end}
 use Rattle.fallible_iterator.proofs.Lemmas.Callers.{turns_split}
-use Rattle.fallible_iterator.proofs.Lemmas.LawForm.{traces_are_of_parts}
+use Rattle.fallible_iterator.specs.Laws.LawForm.{traces_are_of_parts}
 use Rattle.fallible_rows.specs.Digits.{TellsOf, HasNumberAhead, ClosesAs, ReadsRow}
 use Rattle.program_io.specs.Bytes.{GivesByte, GivesBytes}
 use Rattle.fallible_rows.specs.RowTraces.{rows_parts, told_place, row_answer, IsOneRow, DrawsRow}

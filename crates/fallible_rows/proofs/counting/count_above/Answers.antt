@@ -1,9 +1,9 @@
 -- What the chain's rows returned is what was read, and the reader is the one that was lent.
 use Rattle.std.proofs.Common.{rules, tests, ◌≡◌, ◌-◌, ◌^◌, sym, subst, refl, lit≤}
-use Rattle.fallible_iterator.specs.Laws.Contract.{lawful_seen}
+use Rattle.fallible_iterator.specs.Laws.Contract.{lawful_seen, lawful_parts}
 use Rattle.fallible_iterator.specs.Laws.BoundsRuns.{lawful_unbounded}
-use Rattle.fallible_iterator.specs.Cutting.Take.{take_parts}
-use Rattle.fallible_iterator.specs.Filtering.Filter.{filter_parts}
+use Rattle.fallible_iterator.specs.Cutting.Take.{take_made, take_parts}
+use Rattle.fallible_iterator.specs.Filtering.Filter.{filter_made, filter_parts}
 use Rattle.fallible_iterator.specs.Laws.Cutting.Take.{lawful_take}
 use Rattle.fallible_iterator.specs.Laws.Filtering.Filter.{lawful_filter}
 use Rattle.fallible_iterator.proofs.Lemmas.Callers.{count_exit_of_folded, holds_each_turn_counting}
@@ -18,7 +18,7 @@ use Rattle.fallible_rows.proofs.counting.count_above.Goals as goal
 use Rattle.program_io.specs.declared.reading.Lent.{Lent}
 
 pub try_fold-requires-clause-callable : goal.try_fold-requires-clause-callable
-try_fold-requires-clause-callable g c = holds_each_turn_counting (2 ^ 64 - 1) (λ p x q h. search rules) (λ p x h. search rules) (lawful_seen filter_parts (lawful_filter _ (lawful_seen take_parts (lawful_take (lawful_seen rows_parts (lawful_unbounded (row_step _ _))))))) (search (rules, tests)) (search (rules, tests))
+try_fold-requires-clause-callable g c = holds_each_turn_counting (2 ^ 64 - 1) (λ p x q h. search rules) (λ p x h. search rules) (lawful_parts filter_made (lawful_filter _ (lawful_parts take_made (lawful_take (lawful_seen rows_parts (lawful_unbounded (row_step _ _))))))) (search (rules, tests)) (search (rules, tests))
 
 pub returns-clause-counts : goal.returns-clause-counts
 returns-clause-counts g c =
