@@ -116,6 +116,7 @@ RULES = [
     # What hands on the two that it got, beside a number.
     (CONSUMERS + r"/cmp_by\.rs", r"^use fallible_iterator::extending::number_of_either;\n", "", 1),
     (CONSUMERS + r"/cmp_by\.rs", r"\bnumber_of_either(?=\(left, right\))", "", 1),
+    (r"traits\.rs", r"^use crate::fallible_itertools_consumers::parted::", "use crate::base::drive::whole;\n\\g<0>", 1),
     # `collect` into a `Vec` is a fold of one's own.
     (r"traits\.rs", r"^#\[cfg\(feature = \"alloc\"\)\]\n(?=use core::fmt::Display;)",
      '#[cfg(feature = "alloc")]\nuse crate::base::gathering::gathered;\n\\g<0>', 1),

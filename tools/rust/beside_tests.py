@@ -12,7 +12,7 @@ PIECES = Path(__file__).parent / "static/pieces"
 TESTED = {"AllocError", "Answer", "Fault", "Side"}
 SOURCES = """use fallible_iterator::{Convert, convert};
 use std::convert::Infallible;
-use std::iter::{Map, Repeat};"""
+use std::iter::Map;"""
 LACKING = [
     # What the original has not. The lines of a text are fused.
     (r"test_itertools/failing\.rs", r"\.map_while\((\w+)\)", r".scan((), |_: &mut (), x| \1(x))", 2),
@@ -40,6 +40,10 @@ def suite(out, first):
     start = files["test_support/counted.rs"].s.index("\nimpl<'a, I: FallibleIterator>")
     text = files["test_support/counted.rs"]
     text.replace(start, len(text.s), "\n" + (PIECES / "counted.rs").read_text(encoding="utf-8"))
+    # So the numbers whose calls are counted are such a source too.
+    text = files["test_support/counted_numbers.rs"]
+    start = text.s.index("\nuse crate::test_support::") + 1
+    text.replace(start, len(text.s), (PIECES / "counted_numbers.rs").read_text(encoding="utf-8"))
     for path, text in files.items():
         for m in reversed(list(re.finditer(r"^use fallible_iterator::(Answer|Side)::", text.s, re.M))):
             text.replace(m.start(), m.end(), "use crate::base::%s::" % m.group(1))

@@ -49,6 +49,7 @@ ITERATOR = [
     (r"(?!fallible_core/traits/b).*", r"^( *)(?:pub(?:\(crate\))? )?fn drive(?:_back)?(?:_passing|_std)?<[^;{]*\{",
      r"\1#[inline(always)]\n\g<0>", 37),
     # What Rust writes otherwise.
+    (r"fallible_core/bridges/unwrap\.rs", r"^    /// Returns `\(0, None\)`, as `Iterator`\.$", "    /// Returns 0 and the source's upper bound.", 1),
     (r"fallible_core/one_to_one/map\.rs", r"fn fmt<W: fmt::Write>\(&self, f: &mut fmt::Formatter<W>\)",
      "fn fmt(&self, f: &mut fmt::Formatter<'_>)", 1),
     (r"fallible_core/bridges/unwrap\.rs", r"(core::iter::Iterator for Unwrap<I>) \{",
@@ -78,7 +79,7 @@ ITERTOOLS = [
     (CONSUMERS + r"/.*", r"(?<![\w:])crate::", "crate::fallible_itertools_consumers::", ANY),
     (EVERY, r"(?<![\w:])(%s|%s)::" % (ADAPTERS, CONSUMERS), r"crate::\1::", ANY),
     # Only the trait creates its adapters.
-    (ADAPTERS + r"/.*", r"^    pub fn new\(", "    pub(crate) fn new(", 30),
+    (ADAPTERS + r"/.*", r"^    pub fn new\(", "    pub(crate) fn new(", 31),
     # No allocator is kept.
     (GROUPS, r"^    pub\(crate\) alloc: Global,\n", "", 2),
     (GROUPS, r"^struct (Chunk\w+) \{\n    alloc: Global,\n\}", r"struct \1;", 2),
@@ -89,6 +90,7 @@ ITERTOOLS = [
     (CONSUMERS + r"/parted\.rs", r"^/// Returns the collection, or (?:.*\n)*?\}\n", "", 1),
     (CONSUMERS + r"/parted\.rs", r"^use fallible_iterator::\{FallibleIterator, Fault\};", "use fallible_iterator::FallibleIterator;", 1),
     (r"traits\.rs", r"::parted::\{Parted, without_fault\};", "::parted::Parted;", 1),
+    (CONSUMERS + r"/k_smallest\.rs", r"^// (?:Where the item|Inserts the|Moves the|Sorts the items in|Cuts what is kept, and)(?:.*\n)*?\}\n\n", "", 5),
     # What no user sees.
     (CONSUMERS + r"/(?:keyed|parted)\.rs", r"^pub struct", "pub(crate) struct", 2),
     # A marker that asks nothing of `E`.

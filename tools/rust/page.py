@@ -4,7 +4,7 @@ import re
 from source import functions
 
 # Calls that types of the library and proofs use.
-HIDDEN = re.compile(r"drive\w*|draw\w*|fill|held|look")
+HIDDEN = re.compile(r"drive\w*|draw\w*|fill|held(?:_mut)?|look")
 ITERATES = re.compile(r"^impl\b[^{;]*?\b(?:Fallible|core::iter::)Iterator\s+for (\w+)", re.M)
 MUST_USE = '#[must_use = "an iterator draws nothing until it is asked"]\n'
 

@@ -31,10 +31,7 @@ class Text:
 
     def __init__(self, place, s):
         self.place, self.s = place, s
-        self.lines, line = [], 1
-        for c in s:
-            self.lines.append(line)
-            line += c == "\n"
+        self.lines = [k for k, line in enumerate(s.split("\n"), 1) for _ in range(len(line) + 1)][:-1]
 
     def at(self, i):
         """The source's file and line at the i-th character."""
@@ -116,16 +113,20 @@ def ghost_end(s, i):
 @lru_cache(maxsize=None)
 def tokens(s):
     """The tokens, where a clause and a ghost item are one each."""
-    i, found = 0, []
-    while i < len(s):
-        m = TOKEN.match(s, i)
-        kind, end = m.lastgroup, m.end()
-        if kind == "word" and CLAUSE.match(s, i):
-            kind, end = "clause", after_braces(s, i)
-        elif kind == "word" and m.group() == "ghost" and GHOST.match(s, i):
-            kind, end = "ghost", ghost_end(s, i)
-        found.append(Token(kind, s[i:end], i, end))
-        i = end
+    i, found, new = 0, [], tuple.__new__
+    while i is not None:
+        begun, i = i, None
+        for m in TOKEN.finditer(s, begun):
+            kind, text, start, end = m.lastgroup, m.group(), m.start(), m.end()
+            if kind == "word" and text in ("requires", "ensures") and CLAUSE.match(s, start):
+                kind, i = "clause", after_braces(s, start)
+            elif text == "ghost" and GHOST.match(s, start):
+                kind, i = "ghost", ghost_end(s, start)
+            if i is not None:
+                # What follows begins behind the item, wherever a token of it would end.
+                found.append(Token(kind, s[start:i], start, i))
+                break
+            found.append(new(Token, (kind, text, start, end)))
     return found
 
 

@@ -1,5 +1,6 @@
 """The repository's own tests as the Rust crates' integration tests."""
 import re
+from functools import lru_cache
 from pathlib import Path
 
 import tests
@@ -60,18 +61,30 @@ def modules(top, crate, count):
     return out
 
 
+@lru_cache(maxsize=None)
+def named(s):
+    """The names that a text imports."""
+    return tuple(use_names(s))
+
+
+@lru_cache(maxsize=None)
+def used_words(s):
+    """A text without its comments, and the words that it has."""
+    code = re.sub(r"//.*", "", s)
+    return code, frozenset(re.findall(r"\w+", code))
+
+
 def leave_out(files, count):
     """Leaves out what has no place in Rust, and what uses it, with its imports."""
-    gone, more = {}, True
+    gone, more, stems = {}, True, {path: Path(path).stem for path in files}
     while more:
         more = False
         for path, items in files.items():
-            imported = " ".join(use_names("\n\n".join(item.text for item in items)))
+            imported = " ".join(named("\n\n".join(item.text for item in items)))
             for item in [x for x in items if x.kind]:
-                code = re.sub(r"//.*", "", item.text[item.head:])
-                words = set(re.findall(r"\w+", code))
+                code, words = used_words(item.text[item.head:])
                 used = [of for (at, name), of in sorted(gone.items()) if name in words
-                        and (at == path or "%s::%s" % (Path(at).stem, name) in imported)]
+                        and (at == path or "%s::%s" % (stems[at], name) in imported)]
                 why = next((w for p, w in LEFT_OUT if re.search(p, code)), used[0] if used else None)
                 if why:
                     more = True

@@ -15,6 +15,8 @@ TOP = Path(__file__).resolve().parent.parent.parent
 LOADER = SourceFileLoader("to_rust", str(TOP / "tools/to_rust"))
 TO_RUST = module_from_spec(spec_from_loader("to_rust", LOADER))
 LOADER.exec_module(TO_RUST)
+# The layout says nothing of what is refused, and the gate lays out what it compares.
+TO_RUST.formatted = lambda files: files
 CORE = "crates/fallible_core/src/"
 
 

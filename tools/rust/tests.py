@@ -1,12 +1,13 @@
 """The repository's callers and tests as Rust: erased, and without allocators and the runtime."""
 import re
 from collections import namedtuple
+from functools import lru_cache
 from pathlib import Path
 
 import counters
 import erase
 import overrides
-from source import functions, label_of, tokens
+from source import Text, functions, label_of, tokens
 
 FAIL = (Path(__file__).parent / "static/pieces/fail.rs").read_text(encoding="utf-8")
 # A top-level item: what it is, its name or that of the type whose `impl` it is, its text and where its head begins.
@@ -18,6 +19,8 @@ PLAIN = [
     # An allocation whose failure is handed on.
     (r"\bmatch (vec!\[in .*\]) \{\s*Ok\((\w+)\) => \2,\s*Err\((\w+)\) => return Err\(Fault::Memory\(\3\)\),\s*\}", r"\1?"),
     (r"^use std::(?:alloc|test|process)::.*;\n", ""),
+    (r"^[ \t]*///.*\n[ \t]*pub alloc: Global,\n", ""),
+    (r", alloc(?= \})", ""),
     (r"^([ \t]*)(?:alloc: Global|rt: &?HostRuntime|rt: &impl \w+),\n", ""),
     (r"\b(?:alloc: Global|rt: &?HostRuntime|rt: &impl \w+)(?:, )?", ""),
     (r"\b(assert|assert_eq|assert_ne|panic|println)!\(\s*&?rt;\s*", r"\1!("),
@@ -46,6 +49,8 @@ PLAIN = [
     (r"\.try_collect\(\)", ".collect::<Result<Vec<_>, _>>()"),
     (r"\bif (\w+\.extend_from_slice\([^()]*\))\.is_err\(\)", r"if Ok::<(), AllocError>(\1).is_err()"),
     (r"\bmatch ((?:self\.)?\w+\.push\([^()]*\)) \{", r"match Ok::<(), AllocError>(\1) {"),
+    # The hint of `unwrap` over four items.
+    (r"(\.unwrap\(\);\n *assert_eq!\(it\.size_hint\(\), \(0, )None\)", r"\1Some(4))"),
 ]
 # Calls that may be refused in Rattle: the name, its name in Rust.
 NEVER_REFUSED = [
@@ -117,6 +122,17 @@ def as_rust(text):
 
 def items(text):
     """The items of a file as Rust. What is none, as imports, has no kind."""
+    return list(parts(text.place, text.s))
+
+
+@lru_cache(maxsize=None)
+def parts(place, s):
+    """The items of a file that is at `place`: both crates have some files, and each test of the script has nearly all."""
+    return tuple(split(Text(place, s)))
+
+
+def split(text):
+    """Yields them."""
     as_rust(text)
     s = re.sub(r"^//!.*\n|^#!\[.*\]\n", "", text.s, flags=re.M)
     for block in re.split(r"\n\n(?=[^\s}])", s):

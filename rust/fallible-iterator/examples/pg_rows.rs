@@ -1,4 +1,4 @@
-//! Sends a query to a PostgreSQL server, and prints the rows as `psql -A -t` does, each as it comes.
+//! Sends a query to a PostgreSQL server, and prints the rows as `psql -A -t` does, each as it comes. It tells of the query's notices on standard error.
 //!
 //!     pg_rows ADDRESS USER DATABASE QUERY
 //!
@@ -108,19 +108,21 @@ pub fn start(
         })
 }
 
-/// Prints the rows of the session's query, and ends the session.
+/// Prints the rows of the session's query, tells `errors` of its notices, and ends the session.
 pub fn run(
     mut reader: impl ReadByte,
     writer: &mut impl Write,
     session: &Session,
     output: &mut impl Write,
+    errors: &mut impl Write,
 ) -> Result<(), Stopped> {
     let lent = Lent {
         reader: &mut reader,
     };
     start(lent, writer, session)?;
     send(writer, query_message(session.query))?;
-    let printed = print_rows(&mut Rows::new(Messages::new(reader)), output);
+    let mut rows = Rows::new(Messages::new(reader));
+    let printed = print_rows(&mut rows, &mut Vec::new(), output, errors);
     // The server ends the session too where the connection is closed.
     let _ = send(writer, terminate_message());
     printed.map_err(Stopped::Run)
@@ -167,7 +169,14 @@ pub fn told(stopped: Result<(), Stopped>, errors: &mut impl Write) -> u8 {
 }
 
 fn main() -> ExitCode {
-    let words: Vec<String> = std::env::args().skip(1).collect();
+    let words = std::env::args_os().skip(1).map(|word| word.into_string());
+    let words = match words.collect::<Result<Vec<String>, _>>() {
+        Ok(words) => words,
+        Err(word) => {
+            eprintln!("{word:?} is no UTF-8");
+            return ExitCode::from(2);
+        }
+    };
     let [address, user, database, query] = &words[..] else {
         eprintln!("usage: pg_rows ADDRESS USER DATABASE QUERY");
         return ExitCode::from(2);
@@ -182,8 +191,15 @@ fn main() -> ExitCode {
     match TcpStream::connect(address) {
         Ok(stream) => {
             let reader = Buffered::new(BufReader::new(&stream));
-            let stopped = run(reader, &mut &stream, &session, &mut stdout().lock());
-            ExitCode::from(told(stopped, &mut stderr()))
+            let mut errors = stderr();
+            let stopped = run(
+                reader,
+                &mut &stream,
+                &session,
+                &mut stdout().lock(),
+                &mut errors,
+            );
+            ExitCode::from(told(stopped, &mut errors))
         }
         Err(error) => {
             eprintln!("{address}: {error}");
@@ -215,7 +231,8 @@ mod tests {
     fn run_of(received: &[&[u8]], session: &Session) -> (u8, Vec<u8>, String, String) {
         let (mut sent, mut output, mut errors) = (Vec::new(), Vec::new(), Vec::new());
         let received = received.concat();
-        let stopped = run(Bytes::new(&received), &mut sent, session, &mut output);
+        let reader = Bytes::new(&received);
+        let stopped = run(reader, &mut sent, session, &mut output, &mut errors);
         let status = told(stopped, &mut errors);
         let text = |bytes| String::from_utf8(bytes).unwrap();
         (status, sent, text(output), text(errors))
@@ -240,6 +257,15 @@ mod tests {
         let found = run_of(&[NOTHING_MORE, passed, READY, READY], &SESSION);
         let sent = [STARTUP, b"Q\0\0\0\x0bselect\0", b"X\0\0\0\x04"].concat();
         assert_eq!(found, (0, sent, "".into(), "".into()));
+    }
+
+    #[test]
+    fn notices_of_the_query_are_told() {
+        let notice = b"N\0\0\0\x18SNOTICE\0C00000\0Mhi\0\0";
+        let found = run_of(&[NOTHING_MORE, READY, notice, ROWS, READY], &SESSION);
+        let (status, _, printed, line) = found;
+        assert_eq!((status, &printed[..]), (0, "1\n|é\n"));
+        assert_eq!(line, "NOTICE:  00000: hi\n");
     }
 
     #[test]
@@ -318,9 +344,9 @@ mod tests {
             sent
         });
         let stream = TcpStream::connect(address).unwrap();
-        let mut output = Vec::new();
+        let (mut output, mut errors) = (Vec::new(), Vec::new());
         let reader = Buffered::new(BufReader::new(&stream));
-        run(reader, &mut &stream, &SESSION, &mut output).unwrap();
+        run(reader, &mut &stream, &SESSION, &mut output, &mut errors).unwrap();
         drop(stream);
         assert_eq!(output, "1\n|é\n".as_bytes());
         let sent = [STARTUP, b"Q\0\0\0\x0bselect\0", b"X\0\0\0\x04"].concat();

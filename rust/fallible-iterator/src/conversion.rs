@@ -24,7 +24,7 @@ pub trait IteratorExt: core::iter::Iterator {
     /// ```text
     /// ensures parts { convert_parts result ≡ self }
     /// ensures lists { (l : List (Result T E)) → RunsRead Self.next_gives (λ y. y) self l
-    ///     → Lists (seen_as convert_parts
+    ///     → Lists (parts_as convert_parts
     ///     (convert_contract Self.can_next Self.next_gives Self.remaining)).steps result
     ///     (results l) }
     /// ```
@@ -55,7 +55,7 @@ pub trait IteratorExt: core::iter::Iterator {
     /// ```text
     /// ensures parts { into_fallible_parts result ≡ self }
     /// ensures lists { (l : List T) → RunsRead Self.next_gives (λ x. x) self l
-    ///     → Lists (seen_as into_fallible_parts
+    ///     → Lists (parts_as into_fallible_parts
     ///     (into_fallible_contract Self.can_next Self.next_gives Self.remaining)).steps result
     ///     (items l) }
     /// ```

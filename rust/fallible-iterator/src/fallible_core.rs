@@ -6,6 +6,7 @@ pub mod cutting;
 pub mod ends;
 pub mod failing;
 pub mod filtering;
+pub mod headline;
 pub mod joining;
 pub mod one_to_one;
 pub mod passing;

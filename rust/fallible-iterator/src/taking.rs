@@ -35,15 +35,15 @@ use crate::fallible_core::{FallibleIterator, Peekable};
 /// ensures folded { FoldIfDrains I.contract.steps (call_by_reference P.FnMut) (call_with F.FnMut)
 ///     (peekable_parts ahead.old) init test f result (peekable_parts ahead.new) }
 /// ensures value { OverListWith (Acts (call_by_reference P.FnMut) test)
-///     (seen_as peekable_parts (peekable_contract I.contract)).steps ahead.old
+///     (parts_as peekable_parts (peekable_contract I.contract)).steps ahead.old
 ///     (λ p l. (h : B → I.Item → Result B I.Error) → FoldsAs (call_with F.FnMut) f p h
 ///     → result ≡ folded_if p h init l) }
 /// ensures rest { OverListWith (Acts (call_by_reference P.FnMut) test)
-///     (seen_as peekable_parts (peekable_contract I.contract)).steps ahead.old
+///     (parts_as peekable_parts (peekable_contract I.contract)).steps ahead.old
 ///     (λ p l. (h : B → I.Item → Result B I.Error) → FoldsAs (call_with F.FnMut) f p h
-///     → Lists (seen_as peekable_parts (peekable_contract I.contract)).steps ahead.new
+///     → Lists (parts_as peekable_parts (peekable_contract I.contract)).steps ahead.new
 ///     (rest_fold_if p h init l)) }
-/// ensures stays { Stays (seen_as peekable_parts (peekable_contract I.contract))
+/// ensures stays { Stays (parts_as peekable_parts (peekable_contract I.contract))
 ///     ahead.old ahead.new }
 /// ```
 /// </details>

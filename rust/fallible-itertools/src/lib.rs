@@ -28,8 +28,8 @@ pub mod words;
 pub use crate::fallible_itertools_adapters::{ChunkBy, Chunks};
 pub use crate::fallible_itertools_adapters::{
     Coalesce, Copied, Dedup, DedupBy, DedupByKey, DedupByWithCount, DedupWithCount, EitherOrBoth,
-    ErrInto, InspectErr, Interleave, Intersperse, IntersperseWith, Merge, MergeBy, MergeJoinBy,
-    OrElse, PadUsing, PeekingNext, PeekingTakeWhile, Position, Positions, StopAfter,
+    ErrInto, FuseAtFailure, InspectErr, Interleave, Intersperse, IntersperseWith, Merge, MergeBy,
+    MergeJoinBy, OrElse, PadUsing, PeekingNext, PeekingTakeWhile, Position, Positions, StopAfter,
     TakeWhileInclusive, TupleWindows, Tuples, WithPosition, ZipEq, ZipLongest,
 };
 #[cfg(feature = "std")]

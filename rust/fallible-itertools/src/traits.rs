@@ -1,6 +1,7 @@
 //! The extension trait of every fallible iterator.
 
 use crate::base::drive::Drive;
+use crate::base::drive::whole;
 #[cfg(feature = "alloc")]
 use crate::base::gathering::gathered;
 use crate::base::{CollectTurn, Extended};
@@ -12,9 +13,9 @@ use crate::base::{
 use crate::fallible_itertools_adapters::{ChunkBy, Chunks};
 use crate::fallible_itertools_adapters::{
     Coalesce, Copied, Dedup, DedupBy, DedupByKey, DedupByWithCount, DedupWithCount, ErrInto,
-    InspectErr, Interleave, Intersperse, IntersperseWith, Merge, MergeBy, MergeJoinBy, OrElse,
-    PadUsing, Positions, StopAfter, TakeWhileInclusive, TupleWindows, Tuples, WithPosition, ZipEq,
-    ZipLongest,
+    FuseAtFailure, InspectErr, Interleave, Intersperse, IntersperseWith, Merge, MergeBy,
+    MergeJoinBy, OrElse, PadUsing, Positions, StopAfter, TakeWhileInclusive, TupleWindows, Tuples,
+    WithPosition, ZipEq, ZipLongest,
 };
 #[cfg(feature = "std")]
 use crate::fallible_itertools_adapters::{Duplicates, Unique, UniqueBy};
@@ -366,6 +367,12 @@ pub trait FallibleItertools: FallibleIterator + Sized {
     ///     → list.Lists (seen_as tuple_windows_parts (tuple_windows_contract Self.Item.is_clone
     ///     Self.Item.is_infallible Self.Error.from_gives Self.contract)).steps result
     ///     (windowed l) }
+    /// ensures until_refused { (l : List (Result Self.Item Self.Error))
+    ///     → list.Lists Self.contract.steps self l
+    ///     → ListsUntilRefused (HasSecondCloned Self.Item.is_clone)
+    ///     (seen_as tuple_windows_parts (tuple_windows_contract Self.Item.is_clone
+    ///     Self.Item.is_infallible Self.Error.from_gives Self.contract)).steps
+    ///     Self.Error.from_gives result (windowed l) }
     /// ```
     /// </details>
     fn tuple_windows(self) -> TupleWindows<Self>
@@ -1144,7 +1151,7 @@ pub trait FallibleItertools: FallibleIterator + Sized {
     /// ```text
     /// ensures parts { copied_parts result ≡ (self, tt) }
     /// ensures lists { OverList Self.contract.steps self
-    ///     (λ l. list.Lists (seen_as copied_parts (copied_contract Self.contract)).steps
+    ///     (λ l. list.Lists (parts_as copied_parts (copied_contract Self.contract)).steps
     ///     result (list.pointed_to l)) }
     /// ```
     /// </details>
@@ -1182,6 +1189,11 @@ pub trait FallibleItertools: FallibleIterator + Sized {
     /// ensures refused { inclusive.inclusive_refused result ≡ false }
     /// ensures lists { OverListWith (list.Acts (call_by_reference P.FnMut) predicate) Self.contract.steps
     ///     self (λ h l. list.Lists (seen_as inclusive.inclusive_parts
+    ///     (inclusive.inclusive_contract Self.contract P.FnMut)).steps
+    ///     result (inclusive.taken_while_inclusive h l)) }
+    /// ensures for_good { OverListWith (list.Acts (call_by_reference P.FnMut) predicate)
+    ///     Self.contract.steps self (λ h l. list.all_of h l ≡ Ok false
+    ///     → list.ListsForGood (seen_as inclusive.inclusive_parts
     ///     (inclusive.inclusive_contract Self.contract P.FnMut)).steps
     ///     result (inclusive.taken_while_inclusive h l)) }
     /// ```
@@ -1222,7 +1234,7 @@ pub trait FallibleItertools: FallibleIterator + Sized {
     /// ensures callable { IsCallable (seen_call F.FnMut) (takes_by_reference F.FnMut)
     ///     (Self.contract.may_fail self) f }
     /// ensures lists { OverList Self.contract.steps self
-    ///     (λ l. list.Lists (seen_as inspect_err_parts
+    ///     (λ l. list.Lists (parts_as inspect_err_parts
     ///     (inspect_err_contract Self.contract F.FnMut)).steps result l) }
     /// ```
     /// </details>
@@ -1256,7 +1268,7 @@ pub trait FallibleItertools: FallibleIterator + Sized {
     /// ensures parts { err_into_parts result ≡ (self, tt) }
     /// ensures lists { (convert : Self.Error → E) → list.Converts E.from_gives convert
     ///     → OverList Self.contract.steps self
-    ///     (λ l. list.Lists (seen_as err_into_parts
+    ///     (λ l. list.Lists (parts_as err_into_parts
     ///     (err_into_contract E.from_gives Self.contract)).steps result
     ///     (failures_mapped convert l)) }
     /// ```
@@ -1297,7 +1309,7 @@ pub trait FallibleItertools: FallibleIterator + Sized {
     ///     (Self.contract.may_fail self) f }
     /// ensures parts { or_else_parts result ≡ (self, f) }
     /// ensures lists { OverListWith (list.Acts (call_by_value F.FnMut) f) Self.contract.steps self
-    ///     (λ h l. list.Lists (seen_as or_else_parts
+    ///     (λ h l. list.Lists (parts_as or_else_parts
     ///     (or_else_contract Self.contract F.FnMut)).steps result (recovered h l)) }
     /// ```
     /// </details>
@@ -1306,6 +1318,38 @@ pub trait FallibleItertools: FallibleIterator + Sized {
         F: FnMut(Self::Error) -> Result<Option<Self::Item>, E>,
     {
         OrElse::new(self, f)
+    }
+
+    /// Yields what the source yields up to its first failure, and that one too. Then it is exhausted.
+    ///
+    /// Creating it draws nothing. Up to the failure `next` draws once. It fails as the source does. Items and `Ok(None)` of the source pass. After the failure it draws nothing, and each call returns `Ok(None)`.
+    ///
+    /// ```
+    /// # use fallible_iterator::{FallibleIterator, convert};
+    /// # use fallible_itertools::FallibleItertools;
+    /// # use fallible_itertools::PeekingNext;
+    /// let mut it = convert([Ok::<u32, u8>(150), Err(1), Ok(7)].into_iter()).fuse_at_failure();
+    /// let drawn = [it.next(), it.next(), it.next()];
+    /// assert_eq!(drawn, [Ok(Some(150)), Err(1), Ok(None)]);
+    /// ```
+    ///
+    /// <details><summary>Contract</summary>
+    ///
+    /// As it is proved, in [these words](crate::words):
+    ///
+    /// ```text
+    /// ensures parts { fuse_at_failure_parts result ≡ (self, false) }
+    /// ensures lists { OverList Self.contract.steps self
+    ///     (λ l. list.Lists (seen_as fuse_at_failure_parts
+    ///     (fuse_at_failure_contract Self.contract)).steps result (up_to_failure l)) }
+    /// ensures for_good { (l : List (Result Self.Item Self.Error)) (e : Self.Error)
+    ///     → list.Lists Self.contract.steps self l → list.counted l ≡ Err e
+    ///     → list.ListsForGood (seen_as fuse_at_failure_parts
+    ///     (fuse_at_failure_contract Self.contract)).steps result (up_to_failure l) }
+    /// ```
+    /// </details>
+    fn fuse_at_failure(self) -> FuseAtFailure<Self> {
+        FuseAtFailure::new(self)
     }
 
     /// Yields what the source yields up to its n-th failure, and that one too. Then it is exhausted.
@@ -1337,6 +1381,9 @@ pub trait FallibleItertools: FallibleIterator + Sized {
     /// ensures lists { OverList Self.contract.steps self
     ///     (λ l. list.Lists (seen_as stop_after_parts
     ///     (stop_after_contract Self.contract)).steps result (stopped_after n l)) }
+    /// ensures for_good { (l : List (Result Self.Item Self.Error)) → list.Lists Self.contract.steps self l
+    ///     → n ≤ length (failures_listed l) → list.ListsForGood (seen_as stop_after_parts
+    ///     (stop_after_contract Self.contract)).steps result (stopped_after n l) }
     /// ```
     /// </details>
     fn stop_after(self, n: usize) -> StopAfter<Self> {
@@ -1379,6 +1426,11 @@ pub trait FallibleItertools: FallibleIterator + Sized {
     /// ensures lists { OverBoth Self.contract.steps self I.into_gives other
     ///     I.IntoFallibleIter.contract.steps
     ///     (λ a b. list.Lists (seen_as merge_parts (merge_contract Self.Item.partial_cmp
+    ///     Self.contract I.IntoFallibleIter.contract)).steps result
+    ///     (merged_in_order Self.Item.partial_cmp a b)) }
+    /// ensures for_good { OverBoth Self.contract.steps self I.into_gives other
+    ///     I.IntoFallibleIter.contract.steps
+    ///     (λ a b. list.ListsForGood (seen_as merge_parts (merge_contract Self.Item.partial_cmp
     ///     Self.contract I.IntoFallibleIter.contract)).steps result
     ///     (merged_in_order Self.Item.partial_cmp a b)) }
     /// ```
@@ -1430,6 +1482,13 @@ pub trait FallibleItertools: FallibleIterator + Sized {
     ///     → OverBoth Self.contract.steps self I.into_gives other
     ///     I.IntoFallibleIter.contract.steps
     ///     (λ a b. list.Lists (seen_as merge_by.merge_by_parts
+    ///     (merge_by.merge_by_contract Self.contract
+    ///     I.IntoFallibleIter.contract F.FnMut)).steps result (merge_by.merged h a b)) }
+    /// ensures for_good { (h : Self.Item → Self.Item → Result Bool Self.Error)
+    ///     → list.ActsWith (call_at_two F.FnMut) f h
+    ///     → OverBoth Self.contract.steps self I.into_gives other
+    ///     I.IntoFallibleIter.contract.steps
+    ///     (λ a b. list.ListsForGood (seen_as merge_by.merge_by_parts
     ///     (merge_by.merge_by_contract Self.contract
     ///     I.IntoFallibleIter.contract F.FnMut)).steps result (merge_by.merged h a b)) }
     /// ```
@@ -1486,6 +1545,13 @@ pub trait FallibleItertools: FallibleIterator + Sized {
     ///     (λ a b. list.Lists (seen_as join_by.merge_join_by_parts
     ///     (join_by.merge_join_by_contract Self.contract
     ///     I.IntoFallibleIter.contract F.FnMut)).steps result (join_by.merge_joined h a b)) }
+    /// ensures for_good { (h : Self.Item → I.Item → Result Ordering Self.Error)
+    ///     → list.ActsWith (join_by.call_at_both F.FnMut) f h
+    ///     → OverBoth Self.contract.steps self I.into_gives other
+    ///     I.IntoFallibleIter.contract.steps
+    ///     (λ a b. list.ListsForGood (seen_as join_by.merge_join_by_parts
+    ///     (join_by.merge_join_by_contract Self.contract
+    ///     I.IntoFallibleIter.contract F.FnMut)).steps result (join_by.merge_joined h a b)) }
     /// ```
     /// </details>
     fn merge_join_by<I, F>(self, other: I, f: F) -> MergeJoinBy<Self, I::IntoFallibleIter, F>
@@ -1529,6 +1595,11 @@ pub trait FallibleItertools: FallibleIterator + Sized {
     /// ensures lists { OverBoth Self.contract.steps self I.into_gives other
     ///     I.IntoFallibleIter.contract.steps
     ///     (λ a b. list.Lists (seen_as zip_longest.zip_longest_parts
+    ///     (zip_longest.zip_longest_contract Self.contract
+    ///     I.IntoFallibleIter.contract)).steps result (zip_longest.zipped_longest a b)) }
+    /// ensures for_good { OverBoth Self.contract.steps self I.into_gives other
+    ///     I.IntoFallibleIter.contract.steps
+    ///     (λ a b. list.ListsForGood (seen_as zip_longest.zip_longest_parts
     ///     (zip_longest.zip_longest_contract Self.contract
     ///     I.IntoFallibleIter.contract)).steps result (zip_longest.zipped_longest a b)) }
     /// ```
@@ -1576,6 +1647,11 @@ pub trait FallibleItertools: FallibleIterator + Sized {
     ///     I.IntoFallibleIter.contract.steps
     ///     (λ a b. list.Lists (seen_as zip_eq.zip_eq_parts (zip_eq.zip_eq_contract Self.contract
     ///     I.IntoFallibleIter.contract F.FnMut)).steps result (zip_eq.zipped_equal e a b)) }
+    /// ensures for_good { (e : Self.Error) → list.Acts (call_of_none F.FnMut) unequal (λ _. e)
+    ///     → OverBoth Self.contract.steps self I.into_gives other
+    ///     I.IntoFallibleIter.contract.steps
+    ///     (λ a b. list.ListsForGood (seen_as zip_eq.zip_eq_parts (zip_eq.zip_eq_contract Self.contract
+    ///     I.IntoFallibleIter.contract F.FnMut)).steps result (zip_eq.zipped_equal e a b)) }
     /// ```
     /// </details>
     fn zip_eq<I, F>(self, other: I, unequal: F) -> ZipEq<Self, I::IntoFallibleIter, F>
@@ -1620,6 +1696,11 @@ pub trait FallibleItertools: FallibleIterator + Sized {
     ///     (λ a b. list.Lists (seen_as interleave.interleave_parts
     ///     (interleave.interleave_contract Self.contract
     ///     I.IntoFallibleIter.contract)).steps result (interleave.interleaved a b)) }
+    /// ensures for_good { OverBoth Self.contract.steps self I.into_gives other
+    ///     I.IntoFallibleIter.contract.steps
+    ///     (λ a b. list.ListsForGood (seen_as interleave.interleave_parts
+    ///     (interleave.interleave_contract Self.contract
+    ///     I.IntoFallibleIter.contract)).steps result (interleave.interleaved a b)) }
     /// ```
     /// </details>
     fn interleave<I>(self, other: I) -> Interleave<Self, I::IntoFallibleIter>
@@ -1661,6 +1742,10 @@ pub trait FallibleItertools: FallibleIterator + Sized {
     ///     (pad_using.pad_using_contract Self.contract F.FnMut)) result k }
     /// ensures lists { OverListWith (list.Acts (call_by_value F.FnMut) f) Self.contract.steps self
     ///     (λ h l. list.Lists (seen_as pad_using.pad_using_parts
+    ///     (pad_using.pad_using_contract Self.contract F.FnMut)).steps result
+    ///     (pad_using.padded n h l)) }
+    /// ensures for_good { OverListWith (list.Acts (call_by_value F.FnMut) f) Self.contract.steps self
+    ///     (λ h l. list.ListsForGood (seen_as pad_using.pad_using_parts
     ///     (pad_using.pad_using_contract Self.contract F.FnMut)).steps result
     ///     (pad_using.padded n h l)) }
     /// ```
@@ -2027,11 +2112,8 @@ pub trait FallibleItertools: FallibleIterator + Sized {
         let mut made = Tally {
             counts: HashMap::new(),
         };
-        match self.fold_by(&mut made, &CollectTurn) {
-            Ok(None) => Ok(made.counts),
-            Ok(Some(refused)) => match refused {},
-            Err(e) => Err(e),
-        }
+        whole(self.fold_by(&mut made, &CollectTurn))?;
+        Ok(made.counts)
     }
 
     /// Returns how often each key comes that the closure makes of the items, as a map. A key of the map is the first of equal ones.
@@ -2125,11 +2207,8 @@ pub trait FallibleItertools: FallibleIterator + Sized {
         let mut made = GroupMap {
             groups: HashMap::new(),
         };
-        match self.fold_by(&mut made, &CollectTurn) {
-            Ok(None) => Ok(made.groups),
-            Ok(Some(refused)) => match refused {},
-            Err(e) => Err(e),
-        }
+        whole(self.fold_by(&mut made, &CollectTurn))?;
+        Ok(made.groups)
     }
 
     /// Returns a collection of the items before the first failure, and that failure if one came.
@@ -2279,11 +2358,8 @@ pub trait FallibleItertools: FallibleIterator + Sized {
         F: FnMut(Self::Item) -> Result<Either<A, B>, Self::Error>,
     {
         let mut sides = (Extended(L::default()), Extended(R::default()));
-        match self.map(f).fold_by(&mut sides, &CollectTurn) {
-            Ok(None) => Ok((sides.0.0, sides.1.0)),
-            Ok(Some(refused)) => match refused {},
-            Err(e) => Err(e),
-        }
+        whole(self.map(f).fold_by(&mut sides, &CollectTurn))?;
+        Ok((sides.0.0, sides.1.0))
     }
 
     /// Returns two collections: of the items, and of the failures, each in order. Of equal values they keep what `collect` keeps.
@@ -2322,9 +2398,8 @@ pub trait FallibleItertools: FallibleIterator + Sized {
         D: Default + Extend<Self::Error>,
     {
         let mut both = (Extended(C::default()), Extended(D::default()));
-        match (Parted { it: self }).fold_by(&mut both, &CollectTurn) {
-            Ok(None) => (both.0.0, both.1.0),
-            Ok(Some(refused)) => match refused {},
+        match whole((Parted { it: self }).fold_by(&mut both, &CollectTurn)) {
+            Ok(()) => (both.0.0, both.1.0),
             Err(never) => match never {},
         }
     }
@@ -2645,18 +2720,15 @@ pub trait FallibleItertools: FallibleIterator + Sized {
         Self::Item: Display,
     {
         let mut state = (false, String::new());
-        match self.fold_by(&mut state, &JoinTurn { separator }) {
-            Ok(None) => Ok(state.1),
-            Ok(Some(refused)) => match refused {},
-            Err(e) => Err(e),
-        }
+        whole(self.fold_by(&mut state, &JoinTurn { separator }))?;
+        Ok(state.1)
     }
 
-    /// Returns the `k` least items in a `Vec`, in order, or all if fewer come. Equal items keep their order, and the first of them are kept. It keeps at most `k` items at a time.
+    /// Returns the `k` least items in a `Vec`, in order, or all if fewer come. Equal items keep their order, and the first of them are kept. It keeps at most twice `k` items at a time.
     ///
     /// It draws up to `Ok(None)` or the first failure, also if `k` is 0. It fails with that failure, and what was kept is dropped. It consumes the iterator.
     ///
-    /// An item that isn't less than the last of `k` kept ones costs one comparison. Another one costs a binary search, and moves the items that stay after it.
+    /// An item that isn't less than the last of `k` kept ones costs one comparison. Another one is kept too. What is kept is sorted and cut to `k` when there are twice as many, so n items take no more than some n log `k` comparisons.
     ///
     /// Precondition, which is not checked: the iterator is finite.
     ///
@@ -2692,11 +2764,9 @@ pub trait FallibleItertools: FallibleIterator + Sized {
         Self::Item: Ord,
     {
         let mut kept = Vec::new();
-        match self.fold_by(&mut kept, &k_smallest::SmallestTurn { k }) {
-            Ok(None) => Ok(kept),
-            Ok(Some(refused)) => match refused {},
-            Err(e) => Err(e),
-        }
+        whole(self.fold_by(&mut kept, &k_smallest::SmallestTurn { k }))?;
+        k_smallest::cut(&mut kept, k);
+        Ok(kept)
     }
 
     /// Returns the last `n` items in a queue, in order, or all if fewer come. It keeps at most `n` items at a time.
@@ -2734,11 +2804,8 @@ pub trait FallibleItertools: FallibleIterator + Sized {
     #[cfg(feature = "alloc")]
     fn tail(mut self, n: usize) -> Result<VecDeque<Self::Item>, Self::Error> {
         let mut kept = VecDeque::new();
-        match self.fold_by(&mut kept, &tail::TailTurn { n }) {
-            Ok(None) => Ok(kept),
-            Ok(Some(refused)) => match refused {},
-            Err(e) => Err(e),
-        }
+        whole(self.fold_by(&mut kept, &tail::TailTurn { n }))?;
+        Ok(kept)
     }
 
     /// Compares two iterators by the closure, which is called on the two items of each round. The first two that aren't equal decide. If there are none, the side that ends alone is less.
@@ -2841,7 +2908,7 @@ pub trait FallibleItertools: FallibleIterator + Sized {
     ///
     /// It fails as the source does. After a failure and after `Ok(None)` the next call draws again.
     ///
-    /// Precondition, which is not checked: n is not 0.
+    /// In Rust it panics if n is 0.
     ///
     /// ```
     /// # use fallible_iterator::{FallibleIterator, convert};
@@ -2943,6 +3010,13 @@ pub trait FallibleItertools: FallibleIterator + Sized {
     ///     → list.Lists (seen_as intersperse_parts (intersperse_contract Self.Item.is_clone
     ///     Self.Item.is_infallible Self.Error.from_gives Self.contract)).steps result
     ///     (interspersed separator l) }
+    /// ensures until_refused { (l : List (Result Self.Item Self.Error))
+    ///     → list.Lists Self.contract.steps self l
+    ///     → ((x : Self.Item) → Self.Item.is_clone x x)
+    ///     → ListsUntilRefused Self.Item.is_clone
+    ///     (seen_as intersperse_parts (intersperse_contract Self.Item.is_clone
+    ///     Self.Item.is_infallible Self.Error.from_gives Self.contract)).steps
+    ///     Self.Error.from_gives result (interspersed separator l) }
     /// ```
     /// </details>
     fn intersperse(self, separator: Self::Item) -> Intersperse<Self>
@@ -3035,8 +3109,8 @@ pub trait FallibleItertools: FallibleIterator + Sized {
     /// ensures numbers { enumerate_parts (positions_source result) ≡ (self, 0) }
     /// ensures numberable { Self.contract.can_next self → IsNumberable Self.contract self 0 }
     /// ensures lists { OverListWith (list.Acts (call_by_value F.FnMut) f) Self.contract.steps self
-    ///     (λ h l. list.Lists (seen_as positions_parts (positions_contract
-    ///     (seen_as enumerate_parts (enumerate_contract Self.contract)) F.FnMut)).steps result
+    ///     (λ h l. list.Lists (parts_as positions_parts (positions_contract
+    ///     (parts_as enumerate_parts (enumerate_contract Self.contract)) F.FnMut)).steps result
     ///     (positions_where h l)) }
     /// ```
     /// </details>
@@ -3071,7 +3145,7 @@ pub trait FallibleItertools: FallibleIterator + Sized {
     /// ensures lists { (l : List (Result Self.Item Self.Error))
     ///     → list.Lists Self.contract.steps self l
     ///     → ClonesAreEqual Self.Item.eq Self.Item.is_clone
-    ///     → ListsMade (λ x y. y ≡ x) (seen_as unique_parts
+    ///     → ListsUnlessRefused ⊥ (seen_as unique_parts
     ///     (unique_contract Self.Item.eq Self.Item.is_clone Self.Item.is_infallible
     ///     Self.Error.from_gives Self.contract)).steps Self.Error.from_gives result
     ///     (unique_of Self.Item.eq l) }
@@ -3113,7 +3187,7 @@ pub trait FallibleItertools: FallibleIterator + Sized {
     /// ensures empty { IsEmpty (unique_by.unique_by_keys result) }
     /// ensures closure { unique_by.unique_by_closure result ≡ f }
     /// ensures lists { OverListWith (list.Acts (call_by_reference F.FnMut) f) Self.contract.steps
-    ///     self (λ h l. ListsMade (λ x y. y ≡ x) (seen_as unique_by.unique_by_parts
+    ///     self (λ h l. ListsUnlessRefused ⊥ (seen_as unique_by.unique_by_parts
     ///     (unique_by.unique_by_contract K.eq Self.Error.from_gives Self.contract F.FnMut)).steps
     ///     Self.Error.from_gives result (unique_by.unique_by_key K.eq h l)) }
     /// ```
@@ -3150,7 +3224,7 @@ pub trait FallibleItertools: FallibleIterator + Sized {
     /// ensures empty { hash.IsEmpty (duplicates_came result) }
     /// ensures lists { (l : List (Result Self.Item Self.Error))
     ///     → list.Lists Self.contract.steps self l
-    ///     → ListsUnlessRefused (seen_as duplicates_parts
+    ///     → ListsUnlessRefused ⊤ (seen_as duplicates_parts
     ///     (duplicates_contract Self.Item.eq Self.Error.from_gives Self.contract)).steps
     ///     Self.Error.from_gives result (duplicates_of Self.Item.eq l) }
     /// ```

@@ -414,7 +414,7 @@ pub trait FallibleIterator {
     /// requires { IsCallable (call_by_value F.FnMut) (takes_by_value F.FnMut) (contract.may_give self) f }
     /// ensures parts { map_parts result ≡ (self, f) }
     /// ensures lists { OverListWith (list.Acts (call_by_value F.FnMut) f) contract.steps self
-    ///     (λ h l. list.Lists (seen_as map_parts (map_contract contract F.FnMut)).steps
+    ///     (λ h l. list.Lists (parts_as map_parts (map_contract contract F.FnMut)).steps
     ///     result (mapped h l)) }
     /// ```
     /// </details>
@@ -450,7 +450,7 @@ pub trait FallibleIterator {
     ///     (contract.may_give self) f }
     /// ensures parts { filter_parts result ≡ (self, f) }
     /// ensures lists { OverListWith (list.Acts (call_by_reference F.FnMut) f) contract.steps self
-    ///     (λ h l. list.Lists (seen_as filter_parts (filter_contract contract F.FnMut)).steps
+    ///     (λ h l. list.Lists (parts_as filter_parts (filter_contract contract F.FnMut)).steps
     ///     result (filtered h l)) }
     /// ```
     /// </details>
@@ -481,10 +481,10 @@ pub trait FallibleIterator {
     /// ```text
     /// ensures parts { take_parts result ≡ (self, n) }
     /// ensures lists { OverList contract.steps self
-    ///     (λ l. list.Lists (seen_as take_parts (take_contract contract)).steps result
+    ///     (λ l. list.Lists (parts_as take_parts (take_contract contract)).steps result
     ///     (taken n l)) }
     /// ensures repeats { (x : Self.Item) → list.Repeats contract.steps self (Ok x)
-    ///     → list.Lists (seen_as take_parts (take_contract contract)).steps result
+    ///     → list.Lists (parts_as take_parts (take_contract contract)).steps result
     ///     (list.repeated n x) }
     /// ```
     /// </details>
@@ -560,9 +560,9 @@ pub trait FallibleIterator {
     /// ```text
     /// ensures parts { fuse_parts result ≡ (self, false) }
     /// ensures lists { OverList contract.steps self
-    ///     (λ l. list.Lists (seen_as fuse_parts (fuse_contract contract)).steps result l) }
+    ///     (λ l. list.Lists (parts_as fuse_parts (fuse_contract contract)).steps result l) }
     /// ensures for_good { OverList contract.steps self
-    ///     (λ l. list.ListsForGood (seen_as fuse_parts (fuse_contract contract)).steps result l) }
+    ///     (λ l. list.ListsForGood (parts_as fuse_parts (fuse_contract contract)).steps result l) }
     /// ```
     /// </details>
     fn fuse(self) -> Fuse<Self>
@@ -594,7 +594,7 @@ pub trait FallibleIterator {
     /// ```text
     /// ensures parts { skip_parts result ≡ (self, n) }
     /// ensures lists { OverList contract.steps self
-    ///     (λ l. list.Lists (seen_as skip_parts (skip_contract contract)).steps result
+    ///     (λ l. list.Lists (parts_as skip_parts (skip_contract contract)).steps result
     ///     (skipped n l)) }
     /// ```
     /// </details>
@@ -672,7 +672,7 @@ pub trait FallibleIterator {
     ///     (contract.may_give self) f }
     /// ensures parts { filter_map_parts result ≡ (self, f) }
     /// ensures lists { OverListWith (list.Acts (call_by_value F.FnMut) f) contract.steps self
-    ///     (λ h l. list.Lists (seen_as filter_map_parts
+    ///     (λ h l. list.Lists (parts_as filter_map_parts
     ///     (filter_map_contract contract F.FnMut)).steps result (filter_mapped h l)) }
     /// ```
     /// </details>
@@ -709,7 +709,7 @@ pub trait FallibleIterator {
     /// requires { IsCallable (call_by_reference F.FnMut) (takes_by_reference F.FnMut) (contract.may_give self) f }
     /// ensures parts { inspect_parts result ≡ (self, f) }
     /// ensures lists { OverListWith (list.Acts (call_by_reference F.FnMut) f) contract.steps self
-    ///     (λ h l. list.Lists (seen_as inspect_parts (inspect_contract contract F.FnMut)).steps
+    ///     (λ h l. list.Lists (parts_as inspect_parts (inspect_contract contract F.FnMut)).steps
     ///     result (inspected h l)) }
     /// ```
     /// </details>
@@ -741,7 +741,7 @@ pub trait FallibleIterator {
     /// requires { IsCallable (call_by_value F.FnMut) (takes_by_value F.FnMut) (contract.may_fail self) f }
     /// ensures parts { map_err_parts result ≡ (self, f) }
     /// ensures lists { OverListWith (list.Acts (call_by_value F.FnMut) f) contract.steps self
-    ///     (λ h l. list.Lists (seen_as map_err_parts (map_err_contract contract F.FnMut)).steps
+    ///     (λ h l. list.Lists (parts_as map_err_parts (map_err_contract contract F.FnMut)).steps
     ///     result (failures_mapped h l)) }
     /// ```
     /// </details>
@@ -778,7 +778,7 @@ pub trait FallibleIterator {
     /// ensures parts { enumerate_parts result ≡ (self, 0) }
     /// ensures numberable { contract.can_next self → IsNumberable contract self 0 }
     /// ensures lists { OverList contract.steps self
-    ///     (λ l. list.Lists (seen_as enumerate_parts (enumerate_contract contract)).steps
+    ///     (λ l. list.Lists (parts_as enumerate_parts (enumerate_contract contract)).steps
     ///     result (numbered 0 l)) }
     /// ```
     /// </details>
@@ -851,7 +851,7 @@ pub trait FallibleIterator {
     /// requires { IsCallable (call_by_value F.FnMut) (takes_by_value F.FnMut) (contract.may_give self) f }
     /// ensures parts { map_while_parts result ≡ (self, f) }
     /// ensures lists { OverListWith (list.Acts (call_by_value F.FnMut) f) contract.steps self
-    ///     (λ h l. list.Lists (seen_as map_while_parts (map_while_contract contract F.FnMut)).steps
+    ///     (λ h l. list.Lists (parts_as map_while_parts (map_while_contract contract F.FnMut)).steps
     ///     result (mapped_while h l)) }
     /// ```
     /// </details>
@@ -928,8 +928,12 @@ pub trait FallibleIterator {
     /// ensures parts { cloned_parts result ≡ (self, tt) }
     /// ensures lists { OverList contract.steps self
     ///     (λ l. ((x y : T) → T.is_clone x y → y ≡ x) → ((x : T) → T.is_infallible x)
-    ///     → list.Lists (seen_as cloned_parts (cloned_contract T.is_clone T.is_infallible
+    ///     → list.Lists (parts_as cloned_parts (cloned_contract T.is_clone T.is_infallible
     ///     Self.Error.from_gives contract)).steps result (pointed_to l)) }
+    /// ensures until_refused { OverList contract.steps self
+    ///     (λ l. ListsUntilRefused T.is_clone (parts_as cloned_parts (cloned_contract T.is_clone
+    ///     T.is_infallible Self.Error.from_gives contract)).steps Self.Error.from_gives result
+    ///     (pointed_to l)) }
     /// ```
     /// </details>
     fn cloned<'a, T: 'a>(self) -> Cloned<Self>
@@ -960,7 +964,7 @@ pub trait FallibleIterator {
     /// ```text
     /// ensures parts { rev_parts result ≡ self }
     /// ensures lists { OverList Self.DoubleEndedFallibleIterator.ends.steps self
-    ///     (λ l. list.Lists (seen_as rev_parts
+    ///     (λ l. list.Lists (parts_as rev_parts
     ///     (rev_contract contract Self.DoubleEndedFallibleIterator.ends)).steps result l) }
     /// ```
     /// </details>
@@ -2073,7 +2077,7 @@ pub trait FallibleIterator {
     /// ```text
     /// ensures parts { peekable_parts result ≡ (self, None) }
     /// ensures lists { OverList contract.steps self
-    ///     (λ l. list.Lists (seen_as peekable_parts (peekable_contract contract)).steps result l) }
+    ///     (λ l. list.Lists (parts_as peekable_parts (peekable_contract contract)).steps result l) }
     /// ```
     /// </details>
     fn peekable(self) -> Peekable<Self>

@@ -24,10 +24,10 @@ use core::marker::PhantomData;
 /// ```text
 /// ensures parts { convert_parts result ≡ it }
 /// ensures results { (l : List (Result T E)) → RunsRead I.next_gives (λ y. y) it l
-///     → Lists (seen_as convert_parts (convert_contract I.can_next I.next_gives I.remaining)).steps
+///     → Lists (parts_as convert_parts (convert_contract I.can_next I.next_gives I.remaining)).steps
 ///     result (results l) }
 /// ensures items { (l : List T) → ItemsRead I.next_gives it l
-///     → Lists (seen_as convert_parts
+///     → Lists (parts_as convert_parts
 ///     (convert_contract {A = T} {E = E} I.can_next I.next_gives I.remaining)).steps result
 ///     (items l) }
 /// ```
@@ -67,11 +67,11 @@ pub fn convert<T, E, I: Iterator<Item = Result<T, E>>>(it: I) -> Convert<I> {
 /// ensures fresh { fuse_done (convert_parts result) ≡ false }
 /// ensures results { (l : List (Result T E)) → RunsRead I.next_gives (λ y. y) it l
 ///     → Lists ⟦<Convert<Fuse<I>> as FallibleIterator>⟧.contract.steps result (results l) }
-/// ensures items { (l : List T) → RunsRead I.next_gives Ok it l
+/// ensures items { (l : List T) → ItemsRead I.next_gives it l
 ///     → Lists ⟦<Convert<Fuse<I>> as FallibleIterator>⟧.contract.steps result (items l) }
 /// ensures results_for_good { (l : List (Result T E)) → RunsRead I.next_gives (λ y. y) it l
 ///     → ListsForGood ⟦<Convert<Fuse<I>> as FallibleIterator>⟧.contract.steps result (results l) }
-/// ensures items_for_good { (l : List T) → RunsRead I.next_gives Ok it l
+/// ensures items_for_good { (l : List T) → ItemsRead I.next_gives it l
 ///     → ListsForGood ⟦<Convert<Fuse<I>> as FallibleIterator>⟧.contract.steps result (items l) }
 /// ```
 /// </details>
@@ -95,7 +95,7 @@ pub fn convert_fused<T, E, I: Iterator<Item = Result<T, E>>>(it: I) -> Convert<F
 ///
 /// ```text
 /// ensures parts { once_parts result ≡ Some value }
-/// ensures lists { Lists (seen_as once_parts (once_contract {A = T} {E = E})).steps result
+/// ensures lists { Lists (parts_as once_parts (once_contract {A = T} {E = E})).steps result
 ///     (Ok value ∷ []) }
 /// ```
 /// </details>
@@ -122,7 +122,7 @@ pub fn once<T, E>(value: T) -> Once<T, E> {
 ///
 /// ```text
 /// ensures parts { once_err_parts result ≡ Some error }
-/// ensures lists { Lists (seen_as once_err_parts (once_err_contract {A = T} {E = E})).steps result
+/// ensures lists { Lists (parts_as once_err_parts (once_err_contract {A = T} {E = E})).steps result
 ///     (Err error ∷ []) }
 /// ```
 /// </details>
@@ -157,9 +157,9 @@ pub fn once_err<T, E>(error: E) -> OnceErr<T, E> {
 /// requires { IsCallable (call_of_none F.FnMut) (λ f _. F.pre f) (λ _. ⊤) fun }
 /// ensures parts { from_fn_parts result ≡ fun }
 /// ensures lists { (l : List (Result I E)) → CallsGive (call_of_none F.FnMut) fun l
-///     → Lists (seen_as from_fn_parts (from_fn_contract F.FnMut)).steps result l }
+///     → Lists (parts_as from_fn_parts (from_fn_contract F.FnMut)).steps result l }
 /// ensures shown { (shows : F → List (Result I E)) → CallsTakeShown (call_of_none F.FnMut) shows
-///     → Lists (seen_as from_fn_parts (from_fn_contract F.FnMut)).steps result (shows fun) }
+///     → Lists (parts_as from_fn_parts (from_fn_contract F.FnMut)).steps result (shows fun) }
 /// ```
 /// </details>
 pub fn from_fn<I, E, F: FnMut() -> Result<Option<I>, E>>(fun: F) -> FromFn<F> {
@@ -209,8 +209,12 @@ pub fn empty<T, E>() -> Empty<T, E> {
 /// ensures parts { repeat_parts result ≡ value }
 /// ensures repeats { T.is_infallible value → ((x : T) → T.is_clone value x → x ≡ value)
 ///     → Repeats
-///     (seen_as repeat_parts (repeat_contract T.is_clone T.is_infallible E.from_gives)).steps
+///     (parts_as repeat_parts (repeat_contract T.is_clone T.is_infallible E.from_gives)).steps
 ///     result (Ok value) }
+/// ensures until_refused { (s : Take (Repeat T E)) (n : ℕ) → take_parts s ≡ (result, n)
+///     → ListsUntilRefused T.is_clone
+///     (parts_as take_parts (take_contract (parts_as repeat_parts (repeat_contract T.is_clone
+///     T.is_infallible E.from_gives)))).steps E.from_gives s (repeated n value) }
 /// ```
 /// </details>
 pub fn repeat<T: Clone, E>(value: T) -> Repeat<T, E> {

@@ -8,5 +8,6 @@ pub mod generic;
 pub mod lexing;
 pub mod lines;
 pub mod merging;
+pub mod nesting;
 pub mod pages;
 pub mod tokens;

@@ -18,11 +18,11 @@ pub use fault::{Damage, PgFault};
 pub use message::Message;
 pub use messages::Messages;
 pub use printing::PgInput;
-pub use reading::Broken;
+pub use reading::{Broken, ReadMessage};
 pub use report::print_rows;
-pub use rows::{Kind, Row, Rows};
+pub use rows::{Kind, Reply, Row, Rows};
 pub use sending::{
     Request, Unsent, password_message, query_message, request_of, startup_message,
     terminate_message,
 };
-pub use text::write_row;
+pub use text::{HoldText, write_row};

@@ -19,6 +19,7 @@ impl<I: FallibleIterator> Chunks<I> {
     /// Creates it. It draws nothing.
     #[inline(always)]
     pub(crate) fn new(it: I, n: usize) -> Chunks<I> {
+        assert!(n != 0);
         Chunks {
             it,
             stage: ((n, None), None),

@@ -15,7 +15,7 @@ pub struct Tally<K: Eq + Hash> {
 impl<K: Eq + Hash> Collect<K> for Tally<K> {
     fn push_one(&mut self, item: K) -> Result<(), AllocError> {
         if let Some(count) = self.counts.get_mut(&item) {
-            *count = count.wrapping_add(1);
+            *count = count.saturating_add(1);
             return Ok(());
         }
         self.counts.insert(item, 1);

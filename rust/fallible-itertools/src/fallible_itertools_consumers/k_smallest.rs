@@ -5,40 +5,57 @@ use crate::base::Turn;
 use alloc::vec::Vec;
 use core::ops::ControlFlow;
 
-// Where the item goes in order: after the items that aren't greater. It compares it with the last one first.
-fn place_of<A: Ord>(items: &[A], item: &A) -> usize {
-    if let Some(last) = items.last() {
-        if !item.cmp(last).is_lt() {
-            return items.len();
-        }
-    }
-    items.partition_point(|kept: &A| !item.cmp(kept).is_lt())
+// Sorts the items. Equal ones keep their order.
+fn sort_all<A: Ord>(items: &mut [A]) {
+    items.sort();
 }
 
-// Inserts the item.
-fn put_in_place<A>(items: &mut Vec<A>, place: usize, item: A) -> Result<(), AllocError> {
-    items.insert(place, item);
+/// Leaves the k least of the items, in order.
+///
+/// <details><summary>Contract</summary>
+///
+/// As it is proved, in [these words](crate::words):
+///
+/// ```text
+/// ensures { items.new.items ≡ take k (in_order (less_by A.cmp) items.old.items) }
+/// ```
+/// </details>
+pub fn cut<A: Ord>(items: &mut Vec<A>, k: usize) {
+    sort_all(items);
+    items.truncate(k);
+}
+
+// Cuts what is kept when there are k, and when there are twice as many.
+fn tidy<A: Ord>(items: &mut Vec<A>, k: usize) {
+    let len = items.len();
+    if len == k || (len > k && len - k >= k) {
+        cut(items, k);
+    }
+}
+
+// Whether there are k, and the item isn't less than the last of the first k.
+fn is_beyond<A: Ord>(items: &[A], k: usize, item: &A) -> bool {
+    if items.len() < k {
+        return false;
+    }
+    if k == 0 {
+        return true;
+    }
+    !item.cmp(&items[k - 1]).is_lt()
+}
+
+// Keeps the item if it may be one of the k least. Fewer than twice k are kept. Of k or more the first k are in order, and the others came later.
+fn keep_least<A: Ord>(items: &mut Vec<A>, k: usize, item: A) -> Result<(), AllocError> {
+    if !is_beyond(items, k, &item) {
+        items.push(item);
+        tidy(items, k);
+    }
     Ok(())
 }
 
-// Puts the item in order among at most k. If there are k, the last of these and the item is dropped.
-fn keep_least<A: Ord>(items: &mut Vec<A>, k: usize, item: A) -> Result<(), AllocError> {
-    let place = place_of(items.as_slice(), &item);
-    if items.len() < k {
-        return put_in_place(items, place, item);
-    }
-    if place == items.len() {
-        return Ok(());
-    }
-    match items.pop() {
-        Some(_) => put_in_place(items, place, item),
-        None => Ok(()),
-    }
-}
-
-/// The turn of `k_smallest`, whose state is the least items so far, in order.
+/// The turn of `k_smallest`, whose state has the least items so far.
 pub struct SmallestTurn {
-    /// how many items are kept at most
+    /// how many items are wanted
     pub k: usize,
 }
 

@@ -2,7 +2,7 @@
 
 use fallible_iterator::{Convert, convert};
 use std::convert::Infallible;
-use std::iter::{Map, Repeat};
+use std::iter::Map;
 
 /// Sources that the original has from 0.3 on.
 pub trait IteratorExt: Iterator + Sized {
@@ -15,8 +15,8 @@ pub trait IteratorExt: Iterator + Sized {
 impl<I: Iterator> IteratorExt for I {}
 
 /// Yields clones of an item, without an end.
-pub fn repeat<T: Clone, E: Clone>(item: T) -> Convert<Repeat<Result<T, E>>> {
-    convert(std::iter::repeat(Ok(item)))
+pub fn repeat<T: Clone, E>(item: T) -> Convert<impl Iterator<Item = Result<T, E>> + Clone> {
+    convert(std::iter::repeat_with(move || Ok(item.clone())))
 }
 
 /// What one draw returned.

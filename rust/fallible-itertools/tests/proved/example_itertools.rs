@@ -2,6 +2,7 @@ use crate::Fail;
 use crate::base::AllocError;
 
 pub mod batching;
+pub mod cloning;
 pub mod extremes;
 pub mod failing;
 pub mod holding;

@@ -12,6 +12,7 @@ pub mod counting;
 pub mod course;
 pub mod expected_numbers;
 pub mod listed;
+pub mod number_list;
 pub mod numbers;
 pub mod refused_clones;
 pub mod requests;

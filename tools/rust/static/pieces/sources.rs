@@ -9,6 +9,6 @@ pub trait IteratorExt: Iterator + Sized {
 impl<I: Iterator> IteratorExt for I {}
 
 /// Yields clones of an item, without an end.
-pub fn repeat<T: Clone, E: Clone>(item: T) -> Convert<Repeat<Result<T, E>>> {
-    convert(std::iter::repeat(Ok(item)))
+pub fn repeat<T: Clone, E>(item: T) -> Convert<impl Iterator<Item = Result<T, E>> + Clone> {
+    convert(std::iter::repeat_with(move || Ok(item.clone())))
 }

@@ -20,8 +20,8 @@ where
         self.it.next().unwrap()
     }
 
-    /// Returns `(0, None)`, as `Iterator`.
+    /// Returns 0 and the source's upper bound.
     fn size_hint(&self) -> (usize, Option<usize>) {
-        (0, None)
+        (0, self.it.size_hint().1)
     }
 }

@@ -92,9 +92,9 @@ impl<I: FallibleIterator> Peekable<I> {
     /// ensures looked { Looks I.contract.steps F.Fn f
     ///     (peekable_parts self.old) result (peekable_parts self.new) }
     /// ensures lists { OverListWith (LooksAs F.Fn f)
-    ///     (seen_as peekable_parts (peekable_contract I.contract)).steps self.old
+    ///     (parts_as peekable_parts (peekable_contract I.contract)).steps self.old
     ///     (λ h l. (result ≡ look_of h l)
-    ///     × Lists (seen_as peekable_parts (peekable_contract I.contract)).steps
+    ///     × Lists (parts_as peekable_parts (peekable_contract I.contract)).steps
     ///     self.new (rest_look l)) }
     /// ensures stays { Stays (peekable_contract I.contract)
     ///     (peekable_parts self.old) (peekable_parts self.new) }
@@ -129,9 +129,9 @@ impl<I: FallibleIterator> Peekable<I> {
     /// ensures peeked { Peeks I.contract.steps
     ///     (peekable_parts self.old) result (peekable_parts self.new) }
     /// ensures lists { OverList
-    ///     (seen_as peekable_parts (peekable_contract I.contract)).steps self.old
+    ///     (parts_as peekable_parts (peekable_contract I.contract)).steps self.old
     ///     (λ l. (result ≡ nth_of 0 l)
-    ///     × Lists (seen_as peekable_parts (peekable_contract I.contract)).steps
+    ///     × Lists (parts_as peekable_parts (peekable_contract I.contract)).steps
     ///     self.new (rest_look l)) }
     /// ensures stays { Stays (peekable_contract I.contract)
     ///     (peekable_parts self.old) (peekable_parts self.new) }
@@ -167,10 +167,10 @@ impl<I: FallibleIterator> Peekable<I> {
     /// ensures stays { Stays (peekable_contract I.contract)
     ///     (peekable_parts self.old) (peekable_parts self.new) }
     /// ensures lists { OverList
-    ///     (seen_as peekable_parts (peekable_contract I.contract)).steps self.old
+    ///     (parts_as peekable_parts (peekable_contract I.contract)).steps self.old
     ///     (λ l. (result ≡ failure_told (nth_of 0 l))
     ///     × (peekable_held self.new ≡ held_of (nth_of 0 l))
-    ///     × Lists (seen_as peekable_parts (peekable_contract I.contract)).steps
+    ///     × Lists (parts_as peekable_parts (peekable_contract I.contract)).steps
     ///     self.new (rest_look l)) }
     /// ```
     /// </details>
@@ -245,12 +245,13 @@ impl<I: FallibleIterator> Peekable<I> {
     /// ensures* writes_back { sem 𝓛 (LendsIf (the_row I.row I.Item.row I.Error.row) I.Item.row
     ///     self.entry result (with_held self.old) self.old) }
     /// ensures lists { OverList
-    ///     (seen_as peekable_parts (peekable_contract I.contract)).steps self.old
+    ///     (parts_as peekable_parts (peekable_contract I.contract)).steps self.old
     ///     (λ l. (x w : I.Item) → held_item (peekable_held self.old) ≡ Some x
-    ///     → Lists (seen_as peekable_parts (peekable_contract I.contract)).steps
+    ///     → Lists (parts_as peekable_parts (peekable_contract I.contract)).steps
     ///     (with_held self.old w) (changed_first w l)) }
     /// ```
     /// </details>
+    #[doc(hidden)]
     pub fn held_mut(&mut self) -> Option<&mut I::Item> {
         match self.held.as_mut() {
             Some(answer) => answer.as_mut(),

@@ -109,9 +109,9 @@ impl<I: FallibleIterator> Peekable<I> {
     /// ensures taken { NextIf I.contract.steps (TestedBy F.Fn f)
     ///     (peekable_parts self.old) result (peekable_parts self.new) }
     /// ensures lists { OverListWith (LooksAs F.Fn f)
-    ///     (seen_as peekable_parts (peekable_contract I.contract)).steps self.old
+    ///     (parts_as peekable_parts (peekable_contract I.contract)).steps self.old
     ///     (λ h l. (result ≡ first_if h l)
-    ///     × Lists (seen_as peekable_parts (peekable_contract I.contract)).steps
+    ///     × Lists (parts_as peekable_parts (peekable_contract I.contract)).steps
     ///     self.new (rest_if h l)) }
     /// ensures stays { Stays (peekable_contract I.contract)
     ///     (peekable_parts self.old) (peekable_parts self.new) }
@@ -121,19 +121,9 @@ impl<I: FallibleIterator> Peekable<I> {
     /// ```
     /// </details>
     pub fn next_if(&mut self, f: impl Fn(&I::Item) -> bool) -> Result<Option<I::Item>, I::Error> {
-        match self.next() {
-            Ok(Some(x)) => {
-                if f(&x) {
-                    Ok(Some(x))
-                } else {
-                    self.held = Some(Some(x));
-                    Ok(None)
-                }
-            }
-            Ok(None) => {
-                self.held = Some(None);
-                Ok(None)
-            }
+        match self.peek() {
+            Ok(Some(x)) if f(x) => self.next(),
+            Ok(_) => Ok(None),
             Err(e) => Err(e),
         }
     }
@@ -159,9 +149,9 @@ impl<I: FallibleIterator> Peekable<I> {
     /// ensures taken { NextIf I.contract.steps (λ x b. b ≡ I.Item.eq x expected.now)
     ///     (peekable_parts self.old) result (peekable_parts self.new) }
     /// ensures lists { OverList
-    ///     (seen_as peekable_parts (peekable_contract I.contract)).steps self.old
+    ///     (parts_as peekable_parts (peekable_contract I.contract)).steps self.old
     ///     (λ l. (result ≡ first_if (λ x. I.Item.eq x expected.now) l)
-    ///     × Lists (seen_as peekable_parts (peekable_contract I.contract)).steps self.new
+    ///     × Lists (parts_as peekable_parts (peekable_contract I.contract)).steps self.new
     ///     (rest_if (λ x. I.Item.eq x expected.now) l)) }
     /// ensures stays { Stays (peekable_contract I.contract)
     ///     (peekable_parts self.old) (peekable_parts self.new) }

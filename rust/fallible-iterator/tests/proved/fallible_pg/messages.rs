@@ -3,8 +3,8 @@ use fallible_iterator::memory::AllocError;
 
 use crate::fallible_pg::fault::PgFault;
 use crate::fallible_pg::message::Message;
-use crate::fallible_pg::reading::{Broken, read_message};
-use crate::program_io::reading::{ReadByte, ReadFailed};
+use crate::fallible_pg::reading::{Broken, ReadMessage};
+use crate::program_io::reading::ReadFailed;
 use fallible_iterator::FallibleIterator;
 
 /// The messages of a reader, as a server sends them: each is its tag, its length and its body.
@@ -21,7 +21,7 @@ pub struct Messages<R> {
 // After so many bytes nothing more is read.
 const MAX_PLACE: u64 = 0x8000_0000_0000_0000;
 
-impl<R: ReadByte> Messages<R> {
+impl<R: ReadMessage> Messages<R> {
     /// The messages of this reader. It reads nothing.
     pub fn new(reader: R) -> Messages<R> {
         Messages {
@@ -45,7 +45,7 @@ impl<R: ReadByte> Messages<R> {
     }
 }
 
-impl<R: ReadByte> FallibleIterator for Messages<R> {
+impl<R: ReadMessage> FallibleIterator for Messages<R> {
     type Item = Message;
 
     type Error = PgFault;
@@ -57,7 +57,7 @@ impl<R: ReadByte> FallibleIterator for Messages<R> {
         if place > MAX_PLACE {
             return Err(PgFault::Read);
         }
-        match read_message(&mut self.reader) {
+        match self.reader.read_message() {
             Ok(message) => {
                 self.place = Some(place + message.bytes().len() as u64);
                 Ok(Some(message))

@@ -95,13 +95,19 @@ fn write_severity<W: WriteText>(fields: &[u8], errors: &mut W) -> io::Result<()>
     errors.write_bytes(field(b'C', fields))
 }
 
-// Writes what the server tells.
+// Writes what the server tells by a refusal or a notice.
 fn write_refusal<W: WriteText>(fields: &[u8], errors: &mut W) -> io::Result<()> {
     write_severity(fields, errors)?;
     errors.write_text(": ")?;
     errors.write_bytes(field(b'M', fields))?;
     write_further("DETAIL", field(b'D', fields), errors)?;
     write_further("HINT", field(b'H', fields), errors)
+}
+
+// Writes the lines that are told of a notice.
+pub(crate) fn write_notice<W: WriteText>(notice: &Message, errors: &mut W) -> io::Result<()> {
+    write_refusal(notice.body(), errors)?;
+    errors.write_bytes(b"\n")
 }
 
 // Writes what is told of a tag.

@@ -34,8 +34,20 @@ fn is_length(n: u32) -> bool {
     4 <= n && n <= MAX_LENGTH
 }
 
+/// Something that yields messages, as every reader does.
+pub trait ReadMessage: ReadByte {
+    /// One message. No byte after it is read, and room is taken for what has come alone, whatever length is stated. It fails if what came is damaged, if a read fails, and if an allocation does.
+    fn read_message(&mut self) -> Result<Message, Broken>;
+}
+
+impl<R: ReadByte> ReadMessage for R {
+    fn read_message(&mut self) -> Result<Message, Broken> {
+        read_message(self)
+    }
+}
+
 // Reads one message, and no byte after it.
-pub(crate) fn read_message<R: ReadByte>(reader: &mut R) -> Result<Message, Broken> {
+fn read_message<R: ReadByte>(reader: &mut R) -> Result<Message, Broken> {
     let mut bytes = Vec::new();
     match read_up_to(reader, &mut bytes, 5) {
         Ok(()) => {}

@@ -2,11 +2,11 @@ use crate::Fail;
 use fallible_iterator::memory::AllocError;
 
 use crate::fallible_pg::fault::{Damage, PgFault};
-use crate::fallible_pg::printing::PgInput;
-use crate::fallible_pg::rows::{Row, Rows};
-use crate::fallible_pg::text::write_row;
+use crate::fallible_pg::printing::{PgInput, write_notice};
+use crate::fallible_pg::reading::ReadMessage;
+use crate::fallible_pg::rows::{Reply, Rows};
+use crate::fallible_pg::text::HoldText;
 use crate::program_io::fault::RunFault;
-use crate::program_io::reading::ReadByte;
 use crate::program_io::writing::WriteText;
 use fallible_iterator::FallibleIterator;
 
@@ -20,34 +20,48 @@ fn run_fault(fault: PgFault) -> RunFault<PgInput> {
     }
 }
 
-// Puts the text of a row in place of what the buffer has. Whether it had room.
-fn text_of_row(row: &Row, text: &mut Vec<u8>) -> bool {
-    text.clear();
-    write_row(row, text).is_ok()
+// Prints a row, by one write, or tells of a notice.
+fn put_reply<T: HoldText, W: WriteText, E: WriteText>(
+    reply: &Reply,
+    text: &mut T,
+    output: &mut W,
+    errors: &mut E,
+) -> Result<(), RunFault<PgInput>> {
+    match reply {
+        Reply::Row(row) => {
+            // No memory: a buffer refuses a row only for want of room.
+            if !text.hold_row(row) {
+                return Err(RunFault::Memory);
+            }
+            match output.write_bytes(text.held()) {
+                Ok(()) => Ok(()),
+                Err(_) => Err(RunFault::Write),
+            }
+        }
+        Reply::Notice(notice) => match write_notice(notice, errors) {
+            Ok(()) => Ok(()),
+            Err(_) => Err(RunFault::Write),
+        },
+    }
 }
 
-/// Prints the rows up to the first fault, each as it comes and by one write, as `write_row` does.
+/// Prints the rows up to the first fault, and tells `errors` of the notices, each as it comes. A row is written as `write_row` does, by one write. `text` is the buffer that each is put into first, in the place of what it holds.
 ///
-/// It fails with `Input` at the server's refusal and at damage; with `Read` where a read fails, or after 2 ^ 63 bytes; with `Memory` where a message or the text of a row has no room; with `Write` where the writer fails. Only at `Write` may something have been written that is not whole rows.
+/// It fails with `Input` at the server's refusal and at damage; with `Read` where a read fails, or after 2 ^ 63 bytes; with `Memory` where there is no room for a message, or in `text` for that of a row; with `Write` where a writer fails. Only at `Write` may something have been written that is not whole rows.
 ///
 /// Requires that no row was drawn.
-pub fn print_rows<R: ReadByte, W: WriteText>(
+pub fn print_rows<R: ReadMessage, T: HoldText, W: WriteText, E: WriteText>(
     rows: &mut Rows<R>,
+    text: &mut T,
     output: &mut W,
+    errors: &mut E,
 ) -> Result<(), RunFault<PgInput>> {
-    let mut text = Vec::new();
     for _ in 0..u64::MAX {
         match rows.next() {
-            Ok(Some(row)) => {
-                // No memory: writing to a vector fails only if an allocation does.
-                if !text_of_row(&row, &mut text) {
-                    return Err(RunFault::Memory);
-                }
-                match output.write_bytes(text.as_slice()) {
-                    Ok(()) => {}
-                    Err(_) => return Err(RunFault::Write),
-                }
-            }
+            Ok(Some(reply)) => match put_reply(&reply, text, output, errors) {
+                Ok(()) => {}
+                Err(fault) => return Err(fault),
+            },
             Ok(None) => return Ok(()),
             Err(fault) => return Err(run_fault(fault)),
         }

@@ -5,7 +5,8 @@ use crate::fallible_pg::cells::{Cells, is_row};
 use crate::fallible_pg::fault::{Damage, PgFault};
 use crate::fallible_pg::message::Message;
 use crate::fallible_pg::messages::Messages;
-use crate::program_io::reading::{ReadByte, ReadFailed};
+use crate::fallible_pg::reading::ReadMessage;
+use crate::program_io::reading::ReadFailed;
 use fallible_iterator::FallibleIterator;
 
 /// A row, whose cells are undamaged.
@@ -26,9 +27,28 @@ impl Row {
     }
 }
 
-/// The rows of the results of a query, over the messages that come after it.
+/// What the results of a query bring.
+#[derive(Debug)]
+pub enum Reply {
+    /// A row.
+    Row(Row),
+    /// A notice of the server, by its message.
+    Notice(Message),
+}
+
+impl Reply {
+    /// The row that it is, if it is one.
+    pub fn into_row(self) -> Option<Row> {
+        match self {
+            Reply::Row(row) => Some(row),
+            Reply::Notice(_) => None,
+        }
+    }
+}
+
+/// The rows of the results of a query, over the messages that come after it, and the notices of the server between them.
 ///
-/// A draw passes the messages that are no row: the description of rows, the end of a statement, a notice and such. It reads the bytes of these and of the one that decides, and none of the next. A refusal of the server is the failure `Server`, and the next draw goes on. Where the server is ready for the next query the rows end, and `into_messages` returns the messages after that. A row whose cells don't fill it, a message of a tag that isn't read, and each fault of the messages is a failure after which each call returns `Ok(None)` and reads no more.
+/// A draw passes the other messages: the description of rows, the end of a statement and such. It reads the bytes of these and of the one that decides, and none of the next. A refusal of the server is the failure `Server`, and the next draw goes on. Where the server is ready for the next query the rows end, and `into_messages` returns the messages after that. A row whose cells don't fill it, a message of a tag that isn't read, and each fault of the messages is a failure after which each call returns `Ok(None)` and reads no more.
 ///
 /// Over a reader that tells its bytes they are a function of these (`law_turns`). It states no bound, so it is drained through `take`.
 pub struct Rows<R> {
@@ -41,6 +61,8 @@ pub struct Rows<R> {
 pub enum Kind {
     /// A row.
     Row,
+    /// A notice of the server.
+    Notice,
     /// Passed over.
     Skipped,
     /// The server refuses a statement.
@@ -51,9 +73,9 @@ pub enum Kind {
     Damaged(Damage),
 }
 
-// Whether messages with this tag are skipped: the description of rows, the end of a statement, an empty statement, a notice, a parameter, a notification.
+// Whether messages with this tag are skipped: the description of rows, the end of a statement, an empty statement, a parameter, a notification.
 fn is_skipped(tag: u8) -> bool {
-    tag == b'T' || tag == b'C' || tag == b'I' || tag == b'N' || tag == b'S' || tag == b'A'
+    tag == b'T' || tag == b'C' || tag == b'I' || tag == b'S' || tag == b'A'
 }
 
 // What a message is to one who reads rows.
@@ -67,6 +89,8 @@ fn kind_of(message: &Message) -> Kind {
         }
     } else if is_skipped(tag) {
         Kind::Skipped
+    } else if tag == b'N' {
+        Kind::Notice
     } else if tag == b'E' {
         Kind::Refusal
     } else if tag == b'Z' {
@@ -76,7 +100,7 @@ fn kind_of(message: &Message) -> Kind {
     }
 }
 
-impl<R: ReadByte> Rows<R> {
+impl<R: ReadMessage> Rows<R> {
     /// The rows that these messages bring. It reads nothing.
     pub fn new(messages: Messages<R>) -> Rows<R> {
         Rows {
@@ -101,12 +125,12 @@ impl<R: ReadByte> Rows<R> {
     }
 }
 
-impl<R: ReadByte> FallibleIterator for Rows<R> {
-    type Item = Row;
+impl<R: ReadMessage> FallibleIterator for Rows<R> {
+    type Item = Reply;
 
     type Error = PgFault;
 
-    fn next(&mut self) -> Result<Option<Row>, PgFault> {
+    fn next(&mut self) -> Result<Option<Reply>, PgFault> {
         if self.ended {
             return Ok(None);
         }
@@ -117,7 +141,11 @@ impl<R: ReadByte> FallibleIterator for Rows<R> {
                 Ok(Some(message)) => match kind_of(&message) {
                     Kind::Row => {
                         self.ended = false;
-                        return Ok(Some(Row { message }));
+                        return Ok(Some(Reply::Row(Row { message })));
+                    }
+                    Kind::Notice => {
+                        self.ended = false;
+                        return Ok(Some(Reply::Notice(message)));
                     }
                     Kind::Skipped => {}
                     Kind::Refusal => {

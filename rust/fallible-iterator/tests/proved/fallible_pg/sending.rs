@@ -46,12 +46,12 @@ pub fn password_message(password: &str) -> Result<Vec<u8>, Unsent> {
     text_message(b"p", password.as_bytes())
 }
 
-/// The end of a session.
+/// The end of a session. It never fails with `Long`.
 pub fn terminate_message() -> Result<Vec<u8>, Unsent> {
     message_of(b"X", &[])
 }
 
-/// What asks for a session of a user with a database. A name with a 0 in it is read otherwise than it is meant.
+/// What asks for a session of a user with a database. It fails with `Long` only if both names together have more than 1,073,741,777 bytes. A name with a 0 in it is read otherwise than it is meant.
 pub fn startup_message(user: &str, database: &str) -> Result<Vec<u8>, Unsent> {
     let mut body = Vec::new();
     body.extend_from_slice(b"\0\x03\0\0user\0");

@@ -49,3 +49,23 @@ pub fn write_row<W: WriteText>(row: &Row, writer: &mut W) -> io::Result<()> {
         Err(_) => Ok(()),
     }
 }
+
+/// A buffer for the text of a row.
+pub trait HoldText {
+    /// Puts the text of a row, as `write_row` writes it, in the place of what it holds. Whether there was room.
+    fn hold_row(&mut self, row: &Row) -> bool;
+
+    /// The text that it holds.
+    fn held(&self) -> &[u8];
+}
+
+impl HoldText for Vec<u8> {
+    fn hold_row(&mut self, row: &Row) -> bool {
+        self.clear();
+        write_row(row, self).is_ok()
+    }
+
+    fn held(&self) -> &[u8] {
+        self.as_slice()
+    }
+}

@@ -76,10 +76,14 @@ fn filter_and_filter_map_draw_and_fold_from_back_by_folds() {
     fn tested() -> Result<(), Fail> {
         let log = Log::new();
         let answers = [Ok(1), Ok(2), Ok(3), Ok(4)];
-        let mut it = counted(&answers, &log).filter(is_even);
-        expect_steps_back(&mut it, &[&log], &FILTER_DRAWN)?;
-        let mut it = counted(&answers, &log).filter(is_even);
-        expect_steps_back(&mut it, &[&log], &FILTER_FOLDED)?;
+        {
+            let mut it = counted(&answers, &log).filter(is_even);
+            expect_steps_back(&mut it, &[&log], &FILTER_DRAWN)?;
+        }
+        {
+            let mut it = counted(&answers, &log).filter(is_even);
+            expect_steps_back(&mut it, &[&log], &FILTER_FOLDED)?;
+        }
         let log = Log::new();
         let mut it = counted(&answers, &log).filter_map(tens_of_even);
         expect_steps_back(&mut it, &[&log], &FILTER_MAP)
@@ -126,10 +130,12 @@ const CLONED: (Result<u32, TestError>, Calls) = (Err(TestError::Number(2)), ONE_
 #[test]
 fn inspect_map_err_and_cloned_fold_from_back_by_one_fold() {
     fn tested() -> Result<(), Fail> {
-        let log = Log::new();
-        let answers = [Ok(1), Ok(2), Ok(3)];
-        let mut it = counted(&answers, &log).inspect(look).map_err(hundred_more);
-        expect_steps_back(&mut it, &[&log], &INSPECT_MAP_ERR)?;
+        {
+            let log = Log::new();
+            let answers = [Ok(1), Ok(2), Ok(3)];
+            let mut it = counted(&answers, &log).inspect(look).map_err(hundred_more);
+            expect_steps_back(&mut it, &[&log], &INSPECT_MAP_ERR)?;
+        }
         let log = Log::new();
         let numbers = [1, 2];
         let it = convert(numbers.iter().map(|x| Ok::<&u32, TestError>(x)));

@@ -46,19 +46,23 @@ const CLONED: (Result<u32, TestError>, Calls) = (Ok(3), ONE_FOLD);
 #[test]
 fn map_inspect_map_while_and_cloned_fold_by_one_fold() {
     fn tested() -> Result<(), Fail> {
-        let log = Log::new();
         let answers = [Ok(1), Ok(2), Ok(3), Ok(4)];
-        expect_steps(&mut counted(&answers, &log).map(ten_times), &[&log], &MAP)?;
-        let log = Log::new();
+        {
+            let log = Log::new();
+            let mut it = counted(&answers, &log).map(ten_times);
+            expect_steps(&mut it, &[&log], &MAP)?;
+        }
         let answers = [Ok(1), Ok(2), Ok(3)];
-        expect_steps(
-            &mut counted(&answers, &log).inspect(look),
-            &[&log],
-            &INSPECT,
-        )?;
-        let log = Log::new();
-        let mut it = counted(&answers, &log).map_while(end_above_two);
-        expect_steps(&mut it, &[&log], &MAP_WHILE)?;
+        {
+            let log = Log::new();
+            let mut it = counted(&answers, &log).inspect(look);
+            expect_steps(&mut it, &[&log], &INSPECT)?;
+        }
+        {
+            let log = Log::new();
+            let mut it = counted(&answers, &log).map_while(end_above_two);
+            expect_steps(&mut it, &[&log], &MAP_WHILE)?;
+        }
         let log = Log::new();
         let numbers = [1, 2];
         let it = convert(numbers.iter().map(|x| Ok::<&u32, TestError>(x)));
@@ -102,15 +106,18 @@ const FILTER_FOLDED: [Step<'static>; 1] = [(Sum, Ok(Some(6)), &[ONE_FOLD])];
 #[test]
 fn filter_and_filter_map_draw_and_fold_by_folds() {
     fn tested() -> Result<(), Fail> {
-        let log = Log::new();
         let answers = [Ok(1), Ok(2), Ok(3), Ok(4)];
-        let mut it = counted(&answers, &log).filter(is_even);
-        expect_steps(&mut it, &[&log], &FILTER_DRAWN)?;
+        {
+            let log = Log::new();
+            let mut it = counted(&answers, &log).filter(is_even);
+            expect_steps(&mut it, &[&log], &FILTER_DRAWN)?;
+        }
+        {
+            let log = Log::new();
+            let mut it = counted(&answers, &log).filter(is_even);
+            expect_steps(&mut it, &[&log], &FILTER_FOLDED)?;
+        }
         let log = Log::new();
-        let mut it = counted(&answers, &log).filter(is_even);
-        expect_steps(&mut it, &[&log], &FILTER_FOLDED)?;
-        let log = Log::new();
-        let answers = [Ok(1), Ok(2), Ok(3), Ok(4)];
         let mut it = counted(&answers, &log).filter_map(tens_of_even);
         assert_eq!(it.draw(), Ok(Some(20)));
         assert_eq!(it.try_fold(0, add_up), Ok(40));
@@ -162,13 +169,18 @@ const SKIP_WHILE_DRAWN: [Step<'static>; 2] = [
 #[test]
 fn skip_and_skip_while_fold_the_rest_by_one_fold() {
     fn tested() -> Result<(), Fail> {
-        let log = Log::new();
-        let answers = [Ok(1), Ok(2), Err(9), Ok(3), Ok(4), Ok(5)];
-        expect_steps(&mut counted(&answers, &log).skip(3), &[&log], &SKIP)?;
-        let log = Log::new();
-        let answers = [Ok(1), Ok(2), Ok(3), Ok(1)];
-        let mut it = counted(&answers, &log).skip_while(below_three);
-        expect_steps(&mut it, &[&log], &SKIP_WHILE_FOLDED)?;
+        {
+            let log = Log::new();
+            let answers = [Ok(1), Ok(2), Err(9), Ok(3), Ok(4), Ok(5)];
+            let mut it = counted(&answers, &log).skip(3);
+            expect_steps(&mut it, &[&log], &SKIP)?;
+        }
+        {
+            let log = Log::new();
+            let answers = [Ok(1), Ok(2), Ok(3), Ok(1)];
+            let mut it = counted(&answers, &log).skip_while(below_three);
+            expect_steps(&mut it, &[&log], &SKIP_WHILE_FOLDED)?;
+        }
         let log = Log::new();
         let answers = [Ok(1), Ok(2), Ok(3), Ok(4)];
         let mut it = counted(&answers, &log).skip_while(below_three);
@@ -195,14 +207,19 @@ const TAKE_WHILE: [Step<'static>; 2] = [
 #[test]
 fn peekable_step_by_and_take_while_fold_by_one_fold_and_go_on() {
     fn tested() -> Result<(), Fail> {
-        let log = Log::new();
-        let answers = [Ok(1), Ok(2), Ok(3), Ok(4)];
-        let mut it = counted(&answers, &log).peekable();
-        assert_eq!(it.peek_copied(), PEEKED);
-        expect_steps(&mut it, &[&log], &PEEKABLE)?;
-        let log = Log::new();
-        let answers = [Ok(1), Ok(2), Err(9), Ok(3), Ok(4)];
-        expect_steps(&mut counted(&answers, &log).step_by(3), &[&log], &STEP_BY)?;
+        {
+            let log = Log::new();
+            let answers = [Ok(1), Ok(2), Ok(3), Ok(4)];
+            let mut it = counted(&answers, &log).peekable();
+            assert_eq!(it.peek_copied(), PEEKED);
+            expect_steps(&mut it, &[&log], &PEEKABLE)?;
+        }
+        {
+            let log = Log::new();
+            let answers = [Ok(1), Ok(2), Err(9), Ok(3), Ok(4)];
+            let mut it = counted(&answers, &log).step_by(3);
+            expect_steps(&mut it, &[&log], &STEP_BY)?;
+        }
         let log = Log::new();
         let answers = [Ok(1), Ok(2), Ok(3), Ok(1)];
         let mut it = counted(&answers, &log).take_while(below_three);
@@ -253,10 +270,12 @@ const MAP_ERR_STOPPED: [Step<'static>; 3] = [
 #[test]
 fn map_err_passes_nth_on_and_leaves_the_caller_s_error() {
     fn tested() -> Result<(), Fail> {
-        let log = Log::new();
-        let answers = [Ok(5), Ok(6)];
-        let mut it = counted(&answers, &log).map_err(hundred_more);
-        expect_steps(&mut it, &[&log], &MAP_ERR_REACHED)?;
+        {
+            let log = Log::new();
+            let answers = [Ok(5), Ok(6)];
+            let mut it = counted(&answers, &log).map_err(hundred_more);
+            expect_steps(&mut it, &[&log], &MAP_ERR_REACHED)?;
+        }
         let log = Log::new();
         let answers = [Ok(1), Err(5), Ok(2)];
         let mut it = counted(&answers, &log).map_err(hundred_more);

@@ -7,7 +7,7 @@ use crate::test_support::calls::{
 };
 use crate::test_support::counted::{Counted, Log};
 use crate::test_support::counted_numbers::counted;
-use crate::test_support::numbers::numbers;
+use crate::test_support::number_list::listed_numbers;
 use crate::test_support::scripted::{Script, scripted};
 use crate::test_support::steps::Do::{Digits, Find, Next, Sum, SumToThree};
 use crate::test_support::steps::{Answered, LastStep, Step, expect_last, expect_steps};
@@ -28,10 +28,12 @@ const CHAIN_FAILED: [Step<'static>; 2] = [
 #[test]
 fn chain_folds_each_side_once_and_goes_on() {
     fn tested() -> Result<(), Fail> {
-        let (firsts, seconds) = (Log::new(), Log::new());
-        let (first, second) = ([Ok(1), Ok(2)], [Ok(3), Ok(4)]);
-        let mut it = counted(&first, &firsts).chain(counted(&second, &seconds));
-        expect_steps(&mut it, &[&firsts, &seconds], &CHAIN_STOPPED)?;
+        {
+            let (firsts, seconds) = (Log::new(), Log::new());
+            let (first, second) = ([Ok(1), Ok(2)], [Ok(3), Ok(4)]);
+            let mut it = counted(&first, &firsts).chain(counted(&second, &seconds));
+            expect_steps(&mut it, &[&firsts, &seconds], &CHAIN_STOPPED)?;
+        }
         let (firsts, seconds) = (Log::new(), Log::new());
         let (first, second) = ([Ok(1), Err(9), Ok(2)], [Ok(4)]);
         let mut it = counted(&first, &firsts).chain(counted(&second, &seconds));
@@ -50,11 +52,13 @@ const CHAIN_SEARCHED: [Step<'static>; 1] = [(Find(3), Ok(Some(3)), &[ONE_FOLD, O
 fn chain_counts_searches_and_takes_the_last_of_each_side_once() {
     fn tested() -> Result<(), Fail> {
         // Two ranges, whose bounds add up to one that fits.
-        let (firsts, seconds) = (Log::new(), Log::new());
-        let first = Counted::new((1u32..3).into_fallible(), &firsts);
-        let second = Counted::new((3u32..4).into_fallible(), &seconds);
-        let count = first.chain(second).count();
-        assert_eq!((count, [firsts.calls(), seconds.calls()]), CHAIN_COUNTED);
+        {
+            let (firsts, seconds) = (Log::new(), Log::new());
+            let first = Counted::new((1u32..3).into_fallible(), &firsts);
+            let second = Counted::new((3u32..4).into_fallible(), &seconds);
+            let count = first.chain(second).count();
+            assert_eq!((count, [firsts.calls(), seconds.calls()]), CHAIN_COUNTED);
+        }
         let (firsts, seconds) = (Log::new(), Log::new());
         let (first, second) = ([Ok(1), Ok(2)], [Ok(3)]);
         let it = counted(&first, &firsts).chain(counted(&second, &seconds));
@@ -150,13 +154,15 @@ const ENDED_DRAWN: [Step<'static>; 4] = [
 fn chain_under_peekable_ends_at_a_held_end() {
     fn tested() -> Result<(), Fail> {
         let first = [Ok(1)];
-        let second = scripted::<u32, u32, 2>([Ok(None), Ok(Some(3))])?;
-        let mut it = numbers(&first).chain(second).peekable();
-        assert_eq!([it.draw(), it.peek_copied()], ENDED_IN_HAND);
-        expect_steps(&mut it, &[], &ENDED_FOLDED)?;
+        {
+            let second = scripted::<u32, u32, 2>([Ok(None), Ok(Some(3))])?;
+            let mut it = listed_numbers(&first).chain(second).peekable();
+            assert_eq!([it.draw(), it.peek_copied()], ENDED_IN_HAND);
+            expect_steps(&mut it, &[], &ENDED_FOLDED)?;
+        }
         let second = scripted::<u32, u32, 2>([Ok(None), Ok(Some(3))])?;
         expect_steps(
-            &mut numbers(&first).chain(second).peekable(),
+            &mut listed_numbers(&first).chain(second).peekable(),
             &[],
             &ENDED_DRAWN,
         )

@@ -5,7 +5,7 @@ use fallible_iterator::memory::AllocError;
 use crate::test_support::calls::{Calls, ONE_FOLD, ONE_NEXT_ONE_FOLD, TWO_FOLDS};
 use crate::test_support::counted::{Counted, Log};
 use crate::test_support::counted_numbers::counted;
-use crate::test_support::numbers::numbers;
+use crate::test_support::number_list::listed_numbers;
 use crate::test_support::steps::expect_calls;
 use fallible_iterator::FallibleIterator;
 
@@ -113,7 +113,7 @@ fn enumerate_nth_counts_what_came_before_an_end() {
     fn tested() -> Result<(), Fail> {
         let log = Log::new();
         let answers = [Ok(1), Ok(2), Ok(9), Ok(3)];
-        let it = numbers(&answers).scan((), end_above_five);
+        let it = listed_numbers(&answers).scan((), end_above_five);
         expect_numbered(&mut Counted::new(it, &log).enumerate(), &log, &ENDED)
     }
     let _ = tested();

@@ -1,7 +1,7 @@
 use crate::Fail;
 use fallible_iterator::memory::AllocError;
 // The std iterators over fallible ones.
-use crate::test_support::numbers::numbers;
+use crate::test_support::number_list::listed_numbers;
 use crate::test_support::scripted::Script;
 use fallible_iterator::{FallibleIterator, IteratorExt, convert, once_err};
 
@@ -37,7 +37,7 @@ const FAILING_SECOND: [Result<u32, u32>; 3] = [Ok(1), Err(2), Ok(3)];
 #[test]
 fn iterator_gives_each_failure_as_an_element() {
     fn tested() -> Result<(), Fail> {
-        expect_elements(numbers(&ONE_AND_A_FAILURE), &THEIR_ELEMENTS)?;
+        expect_elements(listed_numbers(&ONE_AND_A_FAILURE), &THEIR_ELEMENTS)?;
         expect_elements(once_err(4), &A_FAILURE_AND_ENDS)?;
         // It draws again after an end.
         let source = Script {
@@ -45,7 +45,7 @@ fn iterator_gives_each_failure_as_an_element() {
         };
         expect_elements(source, &AN_END_BETWEEN)?;
         // It has two ends and a clone.
-        let mut it = numbers(&FAILING_SECOND).iterator();
+        let mut it = listed_numbers(&FAILING_SECOND).iterator();
         let mut clone = it.clone();
         assert_eq!(
             [it.next(), it.next_back(), it.next_back(), it.next()],
@@ -60,13 +60,15 @@ fn iterator_gives_each_failure_as_an_element() {
 #[test]
 fn unwrap_gives_the_items_draws_again_after_an_end_and_has_a_clone() {
     fn tested() -> Result<(), Fail> {
-        let items: [u32; 4] = [0, 1, 2, 3];
-        let it = convert(items.iter().copied().map(|x| Ok::<u32, u32>(x))).unwrap();
-        assert_eq!(it.size_hint(), (0, None));
-        let made: Vec<u32> = it
-            .map(|x| Ok::<u32, AllocError>(x))
-            .collect::<Result<Vec<_>, _>>()?;
-        assert_eq!(made.as_slice(), [0, 1, 2, 3].as_slice());
+        {
+            let items: [u32; 4] = [0, 1, 2, 3];
+            let it = convert(items.iter().copied().map(|x| Ok::<u32, u32>(x))).unwrap();
+            assert_eq!(it.size_hint(), (0, Some(4)));
+            let made: Vec<u32> = it
+                .map(|x| Ok::<u32, AllocError>(x))
+                .collect::<Result<Vec<_>, _>>()?;
+            assert_eq!(made.as_slice(), [0, 1, 2, 3].as_slice());
+        }
         let items: [u32; 1] = [5];
         let mut it = items.iter().copied().into_fallible().unwrap();
         let mut clone = it.clone();

@@ -5,14 +5,14 @@ use fallible_iterator::memory::AllocError;
 use crate::test_support::closures::{even_thirds, ten_more_of_even};
 use crate::test_support::collected::{expect_collected, expect_source_fault};
 use crate::test_support::listed::listed;
-use crate::test_support::numbers::numbers;
+use crate::test_support::number_list::listed_numbers;
 use fallible_iterator::{Collect, FallibleIterator, IntoFallible, IteratorExt};
 use std::convert::Infallible;
 use std::ops::Range;
 
 // What `collect` through a reference makes of the answers, and what the next draw returns.
 fn collected(answers: &[Result<u32, u32>]) -> (Result<Vec<u32>, u32>, Result<Option<u32>, u32>) {
-    let mut it = numbers(answers);
+    let mut it = listed_numbers(answers);
     (it.by_ref().collect(), it.next())
 }
 
@@ -56,17 +56,19 @@ const TEN_MORE_OF_EVEN: [(&[Result<u32, u32>], Made); 2] = [
 #[test]
 fn collect_over_an_adapter_makes_its_items_or_fails_as_it_does() {
     fn tested() -> Result<(), Fail> {
-        let it = numbers(&UP_TO_FOUR).map(|x: u32| Ok(x.wrapping_mul(2)));
-        expect_collects(it, DOUBLED)?;
+        {
+            let it = listed_numbers(&UP_TO_FOUR).map(|x: u32| Ok(x.wrapping_mul(2)));
+            expect_collects(it, DOUBLED)?;
+        }
         for (more, given, made) in &WITH_GREATER_FAILURES {
-            let it = numbers(given).map_err(|e: u32| e.wrapping_add(*more));
+            let it = listed_numbers(given).map_err(|e: u32| e.wrapping_add(*more));
             expect_collects(it, *made)?;
         }
         for (given, made) in &EVEN_THIRDS {
-            expect_collects(numbers(given).filter(even_thirds), *made)?;
+            expect_collects(listed_numbers(given).filter(even_thirds), *made)?;
         }
         for (given, made) in &TEN_MORE_OF_EVEN {
-            expect_collects(numbers(given).filter_map(ten_more_of_even), *made)?;
+            expect_collects(listed_numbers(given).filter_map(ten_more_of_even), *made)?;
         }
         Ok(())
     }

@@ -4,7 +4,7 @@ use fallible_iterator::memory::AllocError;
 
 use fallible_iterator::{Collect, FallibleIterator};
 
-use crate::test_support::numbers::numbers;
+use crate::test_support::number_list::listed_numbers;
 
 // The sum, which fails with an item above 4.
 fn low_sum(sum: u32, x: u32) -> Result<u32, u32> {

@@ -2,7 +2,7 @@ use crate::Fail;
 use fallible_iterator::memory::AllocError;
 // A fallible iterator of a user's own that writes its own fold.
 
-use crate::test_support::numbers::numbers;
+use crate::test_support::number_list::listed_numbers;
 use fallible_iterator::{FallibleIterator, Turn};
 use std::cell::Cell;
 
@@ -54,7 +54,7 @@ const FAILING_SECOND: [Result<u32, u32>; 3] = [Ok(1), Err(7), Ok(2)];
 fn folds_go_through_its_own_fold() {
     let folds = Cell::new(0);
     let mut watched = Watched {
-        it: numbers(&POWERS_OF_TWO),
+        it: listed_numbers(&POWERS_OF_TWO),
         folds: &folds,
     };
     let stopped = watched.try_fold(0, up_to_a_power);
@@ -63,7 +63,7 @@ fn folds_go_through_its_own_fold() {
     // It fails as its source.
     folds.set(0);
     let watched = Watched {
-        it: numbers(&FAILING_SECOND),
+        it: listed_numbers(&FAILING_SECOND),
         folds: &folds,
     };
     let failed = watched.fold(0, |sum, x| Ok(x.wrapping_add(sum)));

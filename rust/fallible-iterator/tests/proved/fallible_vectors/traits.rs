@@ -3,6 +3,7 @@ use fallible_iterator::memory::AllocError;
 // The trait's own methods.
 
 use crate::test_support::expected_numbers::expect_numbers;
+use crate::test_support::number_list::listed_numbers;
 use crate::test_support::numbers::numbers;
 use fallible_iterator::Answer::{End, Failure, Item};
 use fallible_iterator::{Answer, FallibleIterator, convert, once};
@@ -64,10 +65,10 @@ const AND_TWO_ENDS: [Answer<u32, u32>; 5] = [Item(1), Failure(2), Item(3), End, 
 #[test]
 fn draws_go_on_after_a_fold_that_stops_and_after_a_failure() {
     fn tested() -> Result<(), Fail> {
-        let mut it = numbers(&FAILING_LAST);
+        let mut it = listed_numbers(&FAILING_LAST);
         assert_eq!(it.try_fold(0, sum_but_two), Err(7));
         expect_numbers(&mut it, &AFTER_TWO)?;
-        let mut it = numbers(&FAILING_SECOND);
+        let mut it = listed_numbers(&FAILING_SECOND);
         expect_numbers(&mut it, &AND_TWO_ENDS)
     }
     let _ = tested();
@@ -115,10 +116,10 @@ const TWO_FIVES: [Result<u32, u32>; 3] = [Ok(5), Ok(6), Ok(5)];
 fn fold_in_a_generic_function() {
     assert_eq!(steps_taken(once::<u32, u32>(5)), Ok(1));
     for row in &STEPS_TAKEN {
-        assert_eq!((row.0, steps_taken(numbers(row.0))), *row);
+        assert_eq!((row.0, steps_taken(listed_numbers(row.0))), *row);
     }
     // It calls a method of its items' bound.
-    assert_eq!(equal_to(numbers(&TWO_FIVES), &5), Ok(2));
+    assert_eq!(equal_to(listed_numbers(&TWO_FIVES), &5), Ok(2));
 }
 
 // A line is an item.

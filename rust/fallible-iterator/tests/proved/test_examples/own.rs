@@ -2,6 +2,8 @@ use crate::Fail;
 use fallible_iterator::memory::AllocError;
 // Types of one's own that show what they list, drawn from, and under adapters.
 use crate::example_by_hand::ascii::{Ascii, answers_in, first_line_end, line_ends};
+use crate::example_by_hand::byte_lines::{ByteLines, long_lines};
+use crate::example_by_hand::merging_all::{MergedAll, even_of_all};
 use crate::example_by_hand::own::{
     Between, Countdown, Span, even_below, even_between, even_in_loop, first_above_100,
     numbers_down, numbers_in_rounds, pairs_down, same_in_pairs, sum_down, sum_down_doubled,
@@ -124,6 +126,37 @@ fn a_source_is_asked_again() {
             &mut once_each,
             &[Failure(1), Failure(2), Item(5), Failure(3)],
         )
+    }
+    let _ = tested();
+}
+
+#[test]
+fn many_sources_are_merged() {
+    fn tested() -> Result<(), Fail> {
+        let first: Vec<Result<u32, u8>> = Vec::from([Ok(1), Ok(4), Err(9), Ok(6)]);
+        let second: Vec<Result<u32, u8>> = Vec::from([Ok(2), Ok(2), Ok(5)]);
+        let sources = Vec::from([
+            convert(first.into_iter()).peekable(),
+            convert(second.into_iter()).peekable(),
+        ]);
+        let mut merged = MergedAll { sources };
+        expect_answers(
+            &mut merged,
+            &[
+                Item(1),
+                Item(2),
+                Item(2),
+                Item(4),
+                Failure(9),
+                Item(5),
+                Item(6),
+                End,
+            ],
+        )?;
+        let alone: Vec<Result<u32, u8>> = Vec::from([Ok(1), Ok(2), Ok(4)]);
+        let alone = Vec::from([convert(alone.into_iter()).peekable()]);
+        assert_eq!(even_of_all(alone, 2), Ok(1));
+        Ok(())
     }
     let _ = tested();
 }

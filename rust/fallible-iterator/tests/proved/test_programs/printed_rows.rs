@@ -14,7 +14,7 @@ fn expect_of<R: ReadByte>(reader: R, status: u8, text: &[u8], told: &[u8]) {
     let mut output = Vec::new();
     let mut errors = Vec::new();
     let mut rows = Rows::new(Messages::new(reader));
-    let outcome = print_rows(&mut rows, &mut output);
+    let outcome = print_rows(&mut rows, &mut Vec::new(), &mut output, &mut errors);
     assert_eq!(ended(outcome, None, &mut errors), Ok(status));
     assert_eq!(output.as_slice(), text);
     assert_eq!(errors.as_slice(), told);
@@ -47,7 +47,7 @@ fn rows_are_printed_up_to_ready() {
 fn what_is_no_row_is_skipped() {
     fn tested() -> Result<(), Fail> {
         let bytes =
-        b"T\0\0\0\x06\0\0N\0\0\0\x05\0S\0\0\0\x04A\0\0\0\x04D\0\0\0\x0b\0\x01\0\0\0\x011C\0\0\0\x04I\0\0\0\x04Z\0\0\0\x05I";
+        b"T\0\0\0\x06\0\0S\0\0\0\x04A\0\0\0\x04D\0\0\0\x0b\0\x01\0\0\0\x011C\0\0\0\x04I\0\0\0\x04Z\0\0\0\x05I";
         expect(bytes, 0, b"1\n", b"")
     }
     let _ = tested();
@@ -168,8 +168,43 @@ fn each_failed_write_is_told() {
         let mut output = BrokenWriter { room };
         let mut errors = Vec::new();
         let mut rows = Rows::new(Messages::new(bytes));
-        let outcome = print_rows(&mut rows, &mut output);
+        let mut text = Vec::new();
+        let outcome = print_rows(&mut rows, &mut text, &mut output, &mut errors);
         assert_eq!(ended(outcome, None, &mut errors), Ok(status));
         assert_eq!(errors.as_slice(), told);
+    }
+}
+
+// A notice, whose text is `NOTICE:  00000: hi` and a hint, and then a row.
+const NOTICE: &[u8] =
+    b"N\0\0\0\x20SNOTICE\0VNOTICE\0C00000\0Mhi\0\0D\0\0\0\x0b\0\x01\0\0\0\x011Z\0\0\0\x05I";
+
+#[test]
+fn notices_are_told() {
+    fn tested() -> Result<(), Fail> {
+        expect(NOTICE, 0, b"1\n", b"NOTICE:  00000: hi\n")?;
+        expect(b"N\0\0\0\x05\0Z\0\0\0\x05I", 0, b"", b":  : \n")?;
+        let further =
+            b"N\0\0\0\x21SWARNING\0C01000\0Mfern\0Dd\0Hh\0\0E\0\0\0\x17SERROR\0CP0001\0Mno\0\0";
+        let told = b"WARNING:  01000: fern\nDETAIL:  d\nHINT:  h\nERROR:  P0001: no\n";
+        expect(further, 1, b"", told)
+    }
+    let _ = tested();
+}
+
+#[test]
+fn a_notice_that_cannot_be_told_ends_the_rows() {
+    // The notice has 19 bytes with its newline.
+    for (room, status, text) in [(0, 4, b"".as_slice()), (18, 4, b""), (19, 0, b"1\n")] {
+        let mut output = Vec::new();
+        let mut errors = BrokenWriter { room };
+        let mut rows = Rows::new(Messages::new(NOTICE));
+        let mut text_of_row = Vec::new();
+        let outcome = print_rows(&mut rows, &mut text_of_row, &mut output, &mut errors);
+        let ended = match ended(outcome, None, &mut errors) {
+            Ok(status) | Err(status) => status,
+        };
+        assert_eq!(ended, status);
+        assert_eq!(output.as_slice(), text);
     }
 }

@@ -41,7 +41,7 @@ const RECORDED: [Recorded; 17] = [
     (
         b"N\0\0\0zSNOTICE\0VNOTICE\0C00000\0Mhello\0WPL/pgSQL function inline_code_block line 1 at RAISE\0Fpl_exec.c\0L3891\0Rexec_stmt_raise\0\0C\0\0\0\x07DO\0T\0\0\0!\0\x01?column?\0\0\0\0\0\0\0\0\0\0\x17\0\x04\xff\xff\xff\xff\0\0D\0\0\0\x0b\0\x01\0\0\0\x017C\0\0\0\x0dSELECT 1\0Z\0\0\0\x05I",
         b"7\n",
-        b"",
+        b"NOTICE:  00000: hello\n",
         0,
     ),
     // `set application_name to 'fern'; select 1`
@@ -230,7 +230,7 @@ fn damaged(place: usize, bytes: &[u8]) -> Result<Vec<u8>, Fail> {
 type Damaged = (usize, &'static [u8], &'static [u8], &'static [u8], u8);
 
 // Rows begin at 34 and 121, and the end at 212.
-const DAMAGED: [Damaged; 34] = [
+const DAMAGED: [Damaged; 35] = [
     // The first message is a row, whose cells don't fit.
     (
         0,
@@ -240,7 +240,9 @@ const DAMAGED: [Damaged; 34] = [
         5,
     ),
     // The first message is skipped all the same.
-    (0, b"N", b"1\n2|3\nx\n", b"", 0),
+    (0, b"S", b"1\n2|3\nx\n", b"", 0),
+    // It is a notice without a severity.
+    (0, b"N", b"1\n2|3\nx\n", b":  : \n", 0),
     // The first message is the end.
     (0, b"Z", b"", b"", 0),
     // The first message is a refusal without a severity.

@@ -1,6 +1,6 @@
 use crate::Fail;
 use crate::fallible_pg::{
-    Damage, Messages, PgFault, Request, Rows, password_message, query_message, request_of,
+    Damage, Messages, PgFault, Reply, Request, Rows, password_message, query_message, request_of,
     startup_message, terminate_message,
 };
 use fallible_iterator::FallibleIterator;
@@ -11,7 +11,7 @@ fn rows_go_on_after_a_refusal_and_end_at_ready() {
     let bytes = b"D\0\0\0\x0b\0\x01\0\0\0\x011E\0\0\0\x06M\0Z\0\0\0\x05IS\0\0\0\x04".as_slice();
     let mut rows = Rows::new(Messages::new(bytes));
     let first = rows.next();
-    assert!(matches!(&first, Ok(Some(row)) if row.message().bytes() == &bytes[..12]));
+    assert!(matches!(&first, Ok(Some(Reply::Row(row))) if row.message().bytes() == &bytes[..12]));
     assert_eq!(rows.place(), 12);
     let second = rows.next();
     assert!(
@@ -44,11 +44,27 @@ fn rows_end_at_damage() {
 }
 
 #[test]
+fn notices_come_between_rows() {
+    let bytes = b"D\0\0\0\x06\0\0N\0\0\0\x05\0D\0\0\0\x06\0\0Z\0\0\0\x05I".as_slice();
+    let mut rows = Rows::new(Messages::new(bytes));
+    let first = rows.next();
+    assert!(matches!(&first, Ok(Some(Reply::Row(_)))));
+    let second = rows.next();
+    assert!(matches!(&second, Ok(Some(Reply::Notice(notice))) if notice.tag() == b'N'));
+    assert_eq!(rows.place(), 13);
+    let further = rows
+        .filter_map(|reply: Reply| Ok(reply.into_row()))
+        .take(9)
+        .count();
+    assert!(matches!(&further, Ok(1)));
+}
+
+#[test]
 fn cells_are_those_of_the_row() {
     let bytes = b"D\0\0\0\x10\0\x02\0\0\0\x02ab\xff\xff\xff\xff".as_slice();
     let mut rows = Rows::new(Messages::new(bytes));
     match rows.next() {
-        Ok(Some(row)) => {
+        Ok(Some(Reply::Row(row))) => {
             let mut cells = row.cells();
             assert!(matches!(cells.next(), Ok(Some(Some(cell))) if cell == b"ab".as_slice()));
             assert!(matches!(cells.next(), Ok(Some(None))));

@@ -4,6 +4,7 @@ use fallible_iterator::memory::AllocError;
 use crate::example_tasks::evaluating::{self, Misplaced};
 use crate::example_tasks::lexing::{LexFault, Lexer};
 use crate::example_tasks::lines::{LineFault, sum_of_lines};
+use crate::example_tasks::nesting::{NestFault, Row, total_of};
 use crate::example_tasks::tokens::Token;
 use fallible_iterator::{FallibleIterator, convert};
 
@@ -53,4 +54,30 @@ fn tokens_have_places() {
     assert_eq!(tokens.next(), Ok(Some((1, Token::Number(2)))));
     assert_eq!(tokens.next(), Ok(Some((3, Token::Word(30777)))));
     assert_eq!(tokens.next(), Ok(None));
+}
+
+// The first page includes the second, which includes the third twice. Of the others one includes itself, one a page that isn't there, and one has a row that couldn't be read.
+#[test]
+fn pages_that_include_others_are_summed() {
+    fn tested() -> Result<(), Fail> {
+        let first = Vec::from([Ok(Row::Number(1)), Ok(Row::Include(1)), Ok(Row::Number(2))]);
+        let second = Vec::from([
+            Ok(Row::Number(10)),
+            Ok(Row::Include(2)),
+            Ok(Row::Include(2)),
+        ]);
+        let third = Vec::from([Ok(Row::Number(100))]);
+        let itself = Vec::from([Ok(Row::Include(3))]);
+        let missing = Vec::from([Ok(Row::Include(9)), Err(NestFault::Read)]);
+        let unread = Vec::from([Ok(Row::Number(5)), Err(NestFault::Read)]);
+        let pages = Vec::from([first, second, third, itself, missing, unread]);
+        let pages = pages.as_slice();
+        assert_eq!(total_of(pages, 0, 2), Ok(213));
+        assert_eq!(total_of(pages, 0, 1), Err(NestFault::TooDeep));
+        assert_eq!(total_of(pages, 3, 255), Err(NestFault::TooDeep));
+        assert_eq!(total_of(pages, 4, 1), Err(NestFault::Missing(9)));
+        assert_eq!(total_of(pages, 5, 0), Err(NestFault::Read));
+        Ok(())
+    }
+    let _ = tested();
 }

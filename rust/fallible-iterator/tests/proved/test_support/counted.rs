@@ -50,6 +50,21 @@ impl Log {
         }
     }
 
+    /// One more `count`.
+    pub fn add_count(&self) {
+        add(&self.counts);
+    }
+
+    /// One more `last`.
+    pub fn add_last(&self) {
+        add(&self.lasts);
+    }
+
+    /// One more `nth`.
+    pub fn add_nth(&self) {
+        add(&self.nths);
+    }
+
     /// The numbers so far, and no call from here on.
     pub fn take(&self) -> Calls {
         Calls {
@@ -78,7 +93,7 @@ impl<'a, I> Counted<'a, I> {
 }
 
 // One more.
-fn add(number: &Cell<u32>) {
+pub(crate) fn add(number: &Cell<u32>) {
     number.set(number.get().wrapping_add(1));
 }
 
@@ -106,17 +121,17 @@ impl<'a, I: FallibleIterator> FallibleIterator for Counted<'a, I> {
     }
 
     fn count(self) -> Result<usize, I::Error> {
-        add(&self.log.counts);
+        self.log.add_count();
         self.it.count()
     }
 
     fn last(self) -> Result<Option<I::Item>, I::Error> {
-        add(&self.log.lasts);
+        self.log.add_last();
         self.it.last()
     }
 
     fn nth(&mut self, n: usize) -> Result<Option<I::Item>, I::Error> {
-        add(&self.log.nths);
+        self.log.add_nth();
         self.it.nth(n)
     }
 

@@ -2,7 +2,7 @@ use crate::Fail;
 use crate::base::AllocError;
 
 use fallible_iterator::{FallibleIterator, convert};
-use fallible_itertools::FallibleItertools;
+use fallible_itertools::{FallibleItertools, FuseAtFailure};
 
 /// A hundred rows are bad.
 #[derive(Clone, Copy, Debug, PartialEq)]
@@ -64,6 +64,15 @@ pub fn sum_of_thousand<I: FallibleIterator<Item = u32>>(rows: I) -> Result<u64, 
         .fold(0, |sum: u64, row: u32| Ok(sum.wrapping_add(u64::from(row))))
 }
 
+/// How many of the first 1000 rows are good. It gives up at the hundredth bad one, and draws no more. No more items come than `usize::MAX`, by which a count fits.
+pub fn good_of_thousand<I: FallibleIterator<Item = u32>>(rows: I) -> Result<usize, I::Error> {
+    rows.take(1000)
+        .stop_after(100)
+        .or_else(|_: I::Error| Ok(None))
+        .take(usize::MAX)
+        .count()
+}
+
 /// The sum of the good ones among the first `most` rows, modulo 2 ^ 64, and the number of bad ones among them. It gives up at the hundredth bad one, and draws no more. The rows may come of a reader, which has no bound.
 pub fn tally_good<I: FallibleIterator<Item = u64>>(
     rows: I,
@@ -85,6 +94,18 @@ pub fn tally_good<I: FallibleIterator<Item = u64>>(
     } else {
         Err(TooManyBad)
     }
+}
+
+/// The rows up to the first bad one, and why it is bad: a source for code that draws on. The rows may come of a reader, which has no bound.
+pub fn ending_at_bad<I: FallibleIterator>(rows: I) -> FuseAtFailure<I> {
+    rows.fuse_at_failure()
+}
+
+/// The second row, or why one before it is bad. The rows may come of a reader, which has no bound.
+pub fn second_row_up_to_bad<I: FallibleIterator<Item = u32>>(
+    rows: I,
+) -> Result<Option<u32>, I::Error> {
+    rows.fuse_at_failure().nth(1)
 }
 
 /// The readings above 100 before the first failure, and that failure, if one came.

@@ -2,7 +2,7 @@ use crate::Fail;
 use crate::base::AllocError;
 
 use fallible_iterator::{FallibleIterator, convert};
-use fallible_itertools::FallibleItertools;
+use fallible_itertools::{FallibleItertools, Interleave};
 use std::cmp::Ordering;
 
 /// How many positions two columns have, each filled by one of them at least, or the first failure.
@@ -66,6 +66,17 @@ pub fn nth_in_turn(
     convert(left.into_iter())
         .interleave(convert(right.into_iter()))
         .nth(n)
+}
+
+/// Two columns that are read in turn, and `Ok(None)` at each draw after the first one: a source for code that draws on.
+pub fn in_turn_for_good<
+    I: FallibleIterator,
+    J: FallibleIterator<Item = I::Item, Error = I::Error>,
+>(
+    left: I,
+    right: J,
+) -> Interleave<I, J> {
+    left.interleave(right)
 }
 
 /// How many rows the outer join of two sorted columns of keys has, or the first failure.

@@ -4,7 +4,10 @@ use crate::base::AllocError;
 use crate::test_support::calls::{Calls, NO_CALL, ONE_FOLD};
 use crate::test_support::counted::Log;
 use crate::test_support::counted_numbers::counted;
+use fallible_iterator::convert;
 use fallible_itertools::FallibleItertools;
+use std::cell::Cell;
+use std::cmp::Ordering;
 
 // The items, and the calls that come for them.
 type Sorted = (&'static [u32], Calls);
@@ -25,6 +28,38 @@ fn vectors_that_are_sorted_are_one_fold_each() {
         Ok(())
     }
     let _ = tested();
+}
+
+fn compared(x: &u32, y: &u32, calls: &Cell<u32>) -> Ordering {
+    calls.set(calls.get().wrapping_add(1));
+    x.cmp(y)
+}
+
+fn key_of(x: &u32, calls: &Cell<u32>) -> u32 {
+    calls.set(calls.get().wrapping_add(1));
+    *x
+}
+
+// None of the closures that sort is called where the last draw yields a failure, and each is where it yields the end.
+#[test]
+fn closures_that_sort_are_called_after_the_last_draw() {
+    let calls = [Cell::new(0), Cell::new(0), Cell::new(0), Cell::new(0)];
+    for last in [Err(9), Ok(3)] {
+        let by = convert([Ok::<u32, u8>(2), Ok(1), last].into_iter())
+            .sorted_by(|x: &u32, y: &u32| compared(x, y, &calls[0]));
+        let by_key = convert([Ok::<u32, u8>(2), Ok(1), last].into_iter())
+            .sorted_by_key(|x: &u32| key_of(x, &calls[1]));
+        let unstable_by = convert([Ok::<u32, u8>(2), Ok(1), last].into_iter())
+            .sorted_unstable_by(|x: &u32, y: &u32| compared(x, y, &calls[2]));
+        let unstable_by_key = convert([Ok::<u32, u8>(2), Ok(1), last].into_iter())
+            .sorted_unstable_by_key(|x: &u32| key_of(x, &calls[3]));
+        for sorted in [by, by_key, unstable_by, unstable_by_key] {
+            assert_eq!(sorted.is_ok(), last.is_ok());
+        }
+        for counted in &calls {
+            assert_eq!(counted.get() > 0, last.is_ok());
+        }
+    }
 }
 
 // The items, the failures, and the calls that come for both.

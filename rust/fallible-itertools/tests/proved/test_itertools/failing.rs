@@ -133,6 +133,37 @@ fn stop_after_ends_after_the_nth_failure() {
     let _ = tested();
 }
 
+// What is drawn, and then the fold of what is left, and a draw of the source.
+const FUSED: [Folded; 3] = [
+    (&[Item(3), Failure(8), End, End], (Ok(0), END)),
+    (&[], (Err(8), END)),
+    (&[Item(3)], (Err(8), END)),
+];
+
+const HINTED_FUSED: [(Hint, &[Answer<u32, u32>]); 2] =
+    [((6, Some(6)), &[Failure(8)]), ((0, Some(0)), &[End])];
+
+// After an end the source is drawn again, and after the first failure it isn't.
+#[test]
+fn fuse_at_failure_ends_after_the_first_failure() {
+    fn tested() -> Result<(), Fail> {
+        for (drawn, expected) in &FUSED {
+            let mut source = script(&THREE_FAILURES)?;
+            let mut it = (&mut source).fuse_at_failure();
+            let folded = folded_after(&mut it, drawn)?;
+            drop(it);
+            expect_same(&(folded, source.next()), expected)?;
+        }
+        let mut source = script(&ENDS_BETWEEN)?;
+        let mut it = (&mut source).fuse_at_failure();
+        expect_numbers(&mut it, &[Item(3), End, Item(1), Failure(7), End])?;
+        expect_hinted_numbers(&mut numbers(&BOTH_ENDS).fuse_at_failure(), &HINTED_FUSED)
+    }
+    let _ = tested();
+}
+
+const ENDS_BETWEEN: [Drawn; 5] = [Ok(Some(3)), END, Ok(Some(1)), Err(7), Ok(Some(2))];
+
 // What is skipped has a bound, however many failures the source has.
 #[test]
 fn stop_after_bounds_what_or_else_skips() {

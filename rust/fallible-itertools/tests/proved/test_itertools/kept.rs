@@ -4,6 +4,7 @@ use crate::base::AllocError;
 use crate::base::IteratorExt;
 use crate::test_itertools::rows::expect_same;
 use crate::test_support::numbers::numbers;
+use fallible_iterator::FallibleIterator;
 use fallible_itertools::FallibleItertools;
 
 type Numbers = &'static [Result<u32, u32>];
@@ -58,7 +59,7 @@ fn the_last_items() {
 // The answers, a number, and so many of the items in order; or the failure.
 type Least = (Numbers, usize, Result<&'static [u32], u32>);
 
-const LEAST: [Least; 11] = [
+const LEAST: [Least; 14] = [
     (&[], 2, Ok(&[])),
     (&[Ok(5), Ok(3)], 0, Ok(&[])),
     (&[Ok(5), Ok(3), Ok(7)], 5, Ok(&[3, 5, 7])),
@@ -68,6 +69,18 @@ const LEAST: [Least; 11] = [
     (&[Ok(1), Ok(2), Ok(3), Ok(4)], 2, Ok(&[1, 2])),
     (&[Ok(4), Ok(3), Ok(2), Ok(1)], 3, Ok(&[1, 2, 3])),
     (&[Ok(7), Ok(3), Ok(7), Ok(3), Ok(7)], 3, Ok(&[3, 3, 7])),
+    // Kept items are cut to k, and others come after that.
+    (
+        &[Ok(9), Ok(8), Ok(7), Ok(6), Ok(5), Ok(1), Ok(4)],
+        2,
+        Ok(&[1, 4]),
+    ),
+    (
+        &[Ok(9), Ok(8), Ok(7), Ok(6), Ok(2), Ok(1), Ok(4), Ok(3)],
+        3,
+        Ok(&[1, 2, 3]),
+    ),
+    (&[Ok(3), Ok(2), Ok(1), Ok(5), Ok(4)], 1, Ok(&[1])),
     (&[Ok(5), Err(9), Ok(2)], 1, Err(9)),
     (&[Err(9), Err(8)], 0, Err(9)),
 ];
@@ -105,7 +118,13 @@ fn many_are_kept() {
             Ok(least) => (least.first().copied(), least.last().copied(), least.len()),
             Err(_) => return Err(Fail::new("an allocation was refused")),
         };
-        expect_same(&least, &(Some(0), Some(1_999), 2_000))
+        expect_same(&least, &(Some(0), Some(1_999), 2_000))?;
+        let falling = (0..MANY).into_fallible().map(|x| Ok(MANY - x));
+        let least = match falling.k_smallest(600) {
+            Ok(least) => (least.first().copied(), least.last().copied(), least.len()),
+            Err(_) => return Err(Fail::new("an allocation was refused")),
+        };
+        expect_same(&least, &(Some(1), Some(600), 600))
     }
     let _ = tested();
 }

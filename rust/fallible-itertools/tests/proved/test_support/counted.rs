@@ -50,6 +50,21 @@ impl Log {
         }
     }
 
+    /// One more `count`.
+    pub fn add_count(&self) {
+        add(&self.counts);
+    }
+
+    /// One more `last`.
+    pub fn add_last(&self) {
+        add(&self.lasts);
+    }
+
+    /// One more `nth`.
+    pub fn add_nth(&self) {
+        add(&self.nths);
+    }
+
     /// The numbers so far, and no call from here on.
     pub fn take(&self) -> Calls {
         Calls {
@@ -78,7 +93,7 @@ impl<'a, I> Counted<'a, I> {
 }
 
 // One more.
-fn add(number: &Cell<u32>) {
+pub(crate) fn add(number: &Cell<u32>) {
     number.set(number.get().wrapping_add(1));
 }
 

@@ -7,10 +7,10 @@ use fallible_iterator::{Convert, DoubleEndedFallibleIterator, FallibleIterator};
 use std::iter::Copied;
 use std::slice::Iter;
 
-/// A source over listed answers, whose calls are counted.
-pub type Numbers<'a> = Counted<'a, Convert<Copied<Iter<'a, Result<u32, u32>>>>>;
-
 /// Yields the answers, and adds its calls to `log`.
-pub fn counted<'a>(answers: &'a [Result<u32, u32>], log: &'a Log) -> Numbers<'a> {
+pub fn counted<'a>(
+    answers: &'a [Result<u32, u32>],
+    log: &'a Log,
+) -> Counted<'a, Convert<Copied<Iter<'a, Result<u32, u32>>>>> {
     Counted::new(numbers(answers), log)
 }

@@ -3,6 +3,7 @@ use fallible_iterator::{
     convert, empty, from_fn, once, once_err, repeat, DoubleEndedFallibleIterator, FallibleIterator,
 };
 use std::collections::{BTreeMap, BTreeSet, HashMap};
+use std::panic::{catch_unwind, AssertUnwindSafe};
 
 type Answer = Result<Option<u32>, u32>;
 
@@ -48,6 +49,15 @@ fn peek_holds_an_end() {
     assert_eq!(it.size_hint(), (0, Some(0)));
     assert_eq!(it.next_if(|_| true), Ok(None));
     assert_eq!([it.next(), it.next()], [END, item(7)]);
+}
+
+#[test]
+fn next_if_keeps_the_item_where_its_closure_panics() {
+    let source = [item(1), item(2)];
+    let mut it = script(&source).peekable();
+    let called = catch_unwind(AssertUnwindSafe(|| it.next_if(|_| panic!("a closure"))));
+    assert!(called.is_err());
+    assert_eq!(answers(&mut it, 3), [item(1), item(2), END]);
 }
 
 #[test]

@@ -13,7 +13,7 @@ fn each_iterator_has_what_it_keeps() {
     // The source.
     rows! { M;
         M => ChunkBy<Of<M>, (), ()>, Chunks<Of<M>>, Coalesce<Of<M>, ()>, Copied<M>, Dedup<Of<M>>, DedupBy<Of<M>, ()>,
-            DedupByKey<Of<M>, (), ()>, DedupByWithCount<Of<M>, ()>, DedupWithCount<Of<M>>, Duplicates<Of<M>>, ErrInto<M, ()>, InspectErr<M, ()>, Interleave<M, ()>, Interleave<(), M>, Intersperse<Of<M>>,
+            DedupByKey<Of<M>, (), ()>, DedupByWithCount<Of<M>, ()>, DedupWithCount<Of<M>>, Duplicates<Of<M>>, ErrInto<M, ()>, FuseAtFailure<M>, InspectErr<M, ()>, Interleave<M, ()>, Interleave<(), M>, Intersperse<Of<M>>,
             IntersperseWith<Of<M>, ()>,
             Merge<Of<M>, ()>, Merge<Of<()>, M>, MergeBy<Of<M>, (), ()>, MergeBy<Of<()>, M, ()>, MergeJoinBy<Of<M>, Of<()>, ()>, MergeJoinBy<Of<()>, Of<M>, ()>, OrElse<M, ()>,
             PadUsing<M, ()>, PeekingTakeWhile<M, ()>, Positions<M, ()>, StopAfter<M>, TakeWhileInclusive<M, ()>, TupleWindows<Of<M>>,

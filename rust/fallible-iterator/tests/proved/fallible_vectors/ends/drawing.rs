@@ -5,7 +5,7 @@ use crate::test_support::answered::expect_answers_at;
 use crate::test_support::course::Hint;
 use crate::test_support::expected_numbers::{expect_hinted_numbers, expect_numbers_at};
 use crate::test_support::listed::listed;
-use crate::test_support::numbers::numbers;
+use crate::test_support::number_list::listed_numbers;
 use fallible_iterator::Answer::{End, Failure, Item};
 use fallible_iterator::Side::{Back, Front};
 use fallible_iterator::{Answer, FallibleIterator, IteratorExt, Side};
@@ -45,11 +45,15 @@ const INSPECTED: [Answer<u32, u32>; 4] = [Failure(30), Item(1), Item(2), End];
 #[test]
 fn map_filter_and_inspect_from_both_ends() {
     fn tested() -> Result<(), Fail> {
-        let mut it = numbers(&FAILING_SECOND).map(ten_times);
-        expect_numbers_at(&mut it, &MAPPED_SIDES, &MAPPED)?;
-        let mut it = numbers(&ONE_TO_FIVE).filter(is_odd);
-        expect_numbers_at(&mut it, &FILTERED_SIDES, &FILTERED)?;
-        let mut it = numbers(&ONE_TO_THREE).inspect(but_three);
+        {
+            let mut it = listed_numbers(&FAILING_SECOND).map(ten_times);
+            expect_numbers_at(&mut it, &MAPPED_SIDES, &MAPPED)?;
+        }
+        {
+            let mut it = listed_numbers(&ONE_TO_FIVE).filter(is_odd);
+            expect_numbers_at(&mut it, &FILTERED_SIDES, &FILTERED)?;
+        }
+        let mut it = listed_numbers(&ONE_TO_THREE).inspect(but_three);
         expect_numbers_at(&mut it, &INSPECTED_SIDES, &INSPECTED)
     }
     let _ = tested();
@@ -108,7 +112,7 @@ const AN_END: [(Hint, &[Answer<u32, u32>]); 1] = [((0, Some(0)), &[End])];
 fn chain_hints_what_both_ends_left_and_goes_on_after_a_failure() {
     fn tested() -> Result<(), Fail> {
         for (first, second, sides, answers) in &CHAINED {
-            let mut it = numbers(first).chain(numbers(second));
+            let mut it = listed_numbers(first).chain(listed_numbers(second));
             expect_numbers_at(&mut it, sides, answers)?;
             expect_hinted_numbers(&mut it, &AN_END)?;
         }

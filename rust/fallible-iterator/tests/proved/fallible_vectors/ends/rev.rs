@@ -4,6 +4,7 @@ use fallible_iterator::memory::AllocError;
 use crate::test_support::closures::{even_thirds, ten_more_of_even};
 use crate::test_support::collected::{expect_collected, expect_source_fault};
 use crate::test_support::expected_numbers::{expect_numbers, expect_numbers_at};
+use crate::test_support::number_list::listed_numbers;
 use crate::test_support::numbers::numbers;
 use fallible_iterator::Answer::{Failure, Item};
 use fallible_iterator::Side::{Back, Front};
@@ -36,7 +37,7 @@ const SEVEN_TO_ZERO: Made = Ok(&[7, 6, 5, 4, 3, 2, 1, 0]);
 #[test]
 fn rev_of_a_chain_is_the_back_s_and_then_the_front_s() {
     fn tested() -> Result<(), Fail> {
-        let it = numbers(&UP_TO_THREE).chain(numbers(&FOUR_TO_SEVEN));
+        let it = listed_numbers(&UP_TO_THREE).chain(listed_numbers(&FOUR_TO_SEVEN));
         expect_collected_back(it, SEVEN_TO_ZERO)
     }
     let _ = tested();
@@ -45,9 +46,12 @@ fn rev_of_a_chain_is_the_back_s_and_then_the_front_s() {
 #[test]
 fn rev_of_sources_of_one_answer_and_none() {
     fn tested() -> Result<(), Fail> {
-        let at_the_back = numbers(&UP_TO_THREE).chain(once(4));
+        let at_the_back = listed_numbers(&UP_TO_THREE).chain(once(4));
         expect_collected_back(at_the_back, Ok(&[4, 3, 2, 1, 0]))?;
-        expect_collected_back(once(4).chain(numbers(&UP_TO_THREE)), Ok(&[3, 2, 1, 0, 4]))?;
+        expect_collected_back(
+            once(4).chain(listed_numbers(&UP_TO_THREE)),
+            Ok(&[3, 2, 1, 0, 4]),
+        )?;
         expect_collected_back(once_err(4).chain(empty()), Err(4))?;
         expect_collected_back(empty().chain(empty()), Ok(&[]))
     }
@@ -119,7 +123,7 @@ const EVEN_THIRDS: [(&[Result<u32, u32>], Made); 2] = [
 fn filter_from_back_keeps_the_same_or_fails_at_the_last_odd() {
     fn tested() -> Result<(), Fail> {
         for (given, made) in &EVEN_THIRDS {
-            expect_collected_back(numbers(given).filter(even_thirds), *made)?;
+            expect_collected_back(listed_numbers(given).filter(even_thirds), *made)?;
         }
         Ok(())
     }
@@ -136,7 +140,7 @@ const TEN_MORE_OF_EVEN: [(&[Result<u32, u32>], Made); 2] = [
 fn filter_map_from_back_gives_what_is_made_or_fails_at_5() {
     fn tested() -> Result<(), Fail> {
         for (given, made) in &TEN_MORE_OF_EVEN {
-            expect_collected_back(numbers(given).filter_map(ten_more_of_even), *made)?;
+            expect_collected_back(listed_numbers(given).filter_map(ten_more_of_even), *made)?;
         }
         Ok(())
     }
@@ -182,8 +186,8 @@ const DOUBLED_BUT_TWO_FROM_BACK: [Answer<u32, u32>; 3] = [Item(8), Item(6), Fail
 #[test]
 fn map_from_back_and_where_it_fails_at_2() {
     fn tested() -> Result<(), Fail> {
-        expect_collected_back(numbers(&UP_TO_FOUR).map(doubled), DOUBLED_FROM_BACK)?;
-        let mut it = numbers(&UP_TO_FOUR).map(doubled_but_two);
+        expect_collected_back(listed_numbers(&UP_TO_FOUR).map(doubled), DOUBLED_FROM_BACK)?;
+        let mut it = listed_numbers(&UP_TO_FOUR).map(doubled_but_two);
         let mut clone = it.clone().rev();
         expect_numbers(&mut it, &DOUBLED_BUT_TWO)?;
         expect_numbers(&mut clone, &DOUBLED_BUT_TWO_FROM_BACK)
@@ -198,7 +202,7 @@ fn same(e: u32) -> u32 {
 #[test]
 fn map_err_from_back_fails_with_3() {
     fn tested() -> Result<(), Fail> {
-        expect_collected_back(numbers(&FAILING_TWICE).map_err(same), Err(3))
+        expect_collected_back(listed_numbers(&FAILING_TWICE).map_err(same), Err(3))
     }
     let _ = tested();
 }

@@ -7,9 +7,6 @@ where
     let mut made = Tally {
         counts: HashMap::new(),
     };
-    match self.drive(&mut made, &CollectTurn) {
-        Ok(None) => Ok(made.counts),
-        Ok(Some(refused)) => match refused {},
-        Err(e) => Err(e),
-    }
+    whole(self.drive(&mut made, &CollectTurn))?;
+    Ok(made.counts)
 }

@@ -8,9 +8,6 @@ where
     let mut made = GroupMap {
         groups: HashMap::new(),
     };
-    match self.drive(&mut made, &CollectTurn) {
-        Ok(None) => Ok(made.groups),
-        Ok(Some(refused)) => match refused {},
-        Err(e) => Err(e),
-    }
+    whole(self.drive(&mut made, &CollectTurn))?;
+    Ok(made.groups)
 }

@@ -1,13 +1,10 @@
-// changed: no allocator is passed; a refusal has no value
+// changed: no allocator is passed; nothing is refused
 // proved: cd83cc91
 fn join(mut self, separator: &str) -> Result<String, Self::Error>
 where
     Self::Item: Display,
 {
     let mut state = (false, String::new());
-    match self.drive(&mut state, &JoinTurn { separator }) {
-        Ok(None) => Ok(state.1),
-        Ok(Some(refused)) => match refused {},
-        Err(e) => Err(e),
-    }
+    whole(self.drive(&mut state, &JoinTurn { separator }))?;
+    Ok(state.1)
 }

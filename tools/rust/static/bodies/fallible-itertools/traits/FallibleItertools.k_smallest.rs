@@ -1,13 +1,11 @@
-// changed: no allocator is passed; a refusal has no value
-// proved: 1f1b348f
+// changed: no allocator is passed; nothing is refused
+// proved: f842cf13
 fn k_smallest(mut self, k: usize) -> Result<Vec<Self::Item>, Self::Error>
 where
     Self::Item: Ord,
 {
     let mut kept = Vec::new();
-    match self.drive(&mut kept, &k_smallest::SmallestTurn { k }) {
-        Ok(None) => Ok(kept),
-        Ok(Some(refused)) => match refused {},
-        Err(e) => Err(e),
-    }
+    whole(self.drive(&mut kept, &k_smallest::SmallestTurn { k }))?;
+    k_smallest::cut(&mut kept, k);
+    Ok(kept)
 }

@@ -6,9 +6,8 @@ where
     D: Default + Extend<Self::Error>,
 {
     let mut both = (Extended(C::default()), Extended(D::default()));
-    match (Parted { it: self }).drive(&mut both, &CollectTurn) {
-        Ok(None) => (both.0.0, both.1.0),
-        Ok(Some(refused)) => match refused {},
+    match whole((Parted { it: self }).drive(&mut both, &CollectTurn)) {
+        Ok(()) => (both.0.0, both.1.0),
         Err(never) => match never {},
     }
 }

@@ -7,9 +7,6 @@ where
     F: FnMut(Self::Item) -> Result<Either<A, B>, Self::Error>,
 {
     let mut sides = (Extended(L::default()), Extended(R::default()));
-    match self.map(f).drive(&mut sides, &CollectTurn) {
-        Ok(None) => Ok((sides.0.0, sides.1.0)),
-        Ok(Some(refused)) => match refused {},
-        Err(e) => Err(e),
-    }
+    whole(self.map(f).drive(&mut sides, &CollectTurn))?;
+    Ok((sides.0.0, sides.1.0))
 }

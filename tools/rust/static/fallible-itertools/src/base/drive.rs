@@ -1,6 +1,7 @@
 //! The fold by turns of any fallible iterator, through its `try_fold`.
 
 use crate::base::fallible_contract::folds::Turn;
+use crate::base::memory::AllocError;
 use core::ops::ControlFlow;
 use fallible_iterator::{DoubleEndedFallibleIterator, FallibleIterator};
 
@@ -23,6 +24,16 @@ fn stopped<R, E>(folded: Result<(), Stop<R, E>>) -> Result<Option<R>, E> {
         Ok(()) => Ok(None),
         Err(Stop::Turn(stop)) => Ok(Some(stop)),
         Err(Stop::Failure(e)) => Err(e),
+    }
+}
+
+/// What a fold came to whose turns refuse nothing.
+#[inline(always)]
+pub fn whole<E>(folded: Result<Option<AllocError>, E>) -> Result<(), E> {
+    match folded {
+        Ok(None) => Ok(()),
+        Ok(Some(refused)) => match refused {},
+        Err(e) => Err(e),
     }
 }
 

@@ -1,6 +1,6 @@
 //! The fold that gathers items, as the proved `collect` is one. The original's 0.2 has no `collect` into a `Vec` without its feature `std`.
 
-use crate::base::drive::Drive;
+use crate::base::drive::{Drive, whole};
 use crate::base::fallible_contract::collecting::{CollectTurn, Extended};
 use alloc::vec::Vec;
 use fallible_iterator::FallibleIterator;
@@ -8,9 +8,6 @@ use fallible_iterator::FallibleIterator;
 /// The items up to the end, or the first failure.
 pub fn gathered<I: FallibleIterator>(mut it: I) -> Result<Vec<I::Item>, I::Error> {
     let mut made = Extended(Vec::new());
-    match it.fold_by(&mut made, &CollectTurn) {
-        Ok(None) => Ok(made.0),
-        Ok(Some(refused)) => match refused {},
-        Err(e) => Err(e),
-    }
+    whole(it.fold_by(&mut made, &CollectTurn))?;
+    Ok(made.0)
 }

@@ -1,7 +1,8 @@
-// changed: no allocator is passed
+// changed: no allocator is passed; `assert!(n != 0)` for what it requires
 // proved: 722b5035
 pub fn new(it: I, n: usize) -> Chunks<I>
 {
+    assert!(n != 0);
     Chunks {
         it,
         stage: ((n, None), None),

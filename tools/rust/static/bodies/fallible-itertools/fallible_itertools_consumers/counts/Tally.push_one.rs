@@ -1,8 +1,8 @@
-// changed: `insert` is never refused
+// changed: `insert` is never refused; a count stays at `usize::MAX`
 // proved: 47c0820c
 fn push_one(&mut self, item: K) -> Result<(), AllocError> {
     if let Some(count) = self.counts.get_mut(&item) {
-        *count = count.wrapping_add(1);
+        *count = count.saturating_add(1);
         return Ok(());
     }
     self.counts.insert(item, 1);

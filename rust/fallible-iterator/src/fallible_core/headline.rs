@@ -1,0 +1,30 @@
+//! The headline: one law of every source and every nest of adapters.
+
+use crate::fallible_core::traits::FallibleIterator;
+use crate::fallible_core::traits::double_ended::DoubleEndedFallibleIterator;
+
+/// For every source and every nest of adapters: calls of `next` can return a list of answers exactly if the adapters' definitions make that list of what the sources and the closures return, with exactly these draws. A type's definition is the `traces` of its contract, which speaks of those of the types that it is made of.
+///
+/// <details><summary>Contract</summary>
+///
+/// As it is proved, in [these words](crate::words):
+///
+/// ```text
+/// ensures { (s : I) (trace : List (Answered I.Item I.Error)) (t : I)
+///     → Run I.contract.steps s trace t ↔ I.contract.traces s trace t }
+/// ```
+/// </details>
+pub fn law_headline<I: FallibleIterator>() {}
+
+/// The same of calls of `next_back`.
+///
+/// <details><summary>Contract</summary>
+///
+/// As it is proved, in [these words](crate::words):
+///
+/// ```text
+/// ensures { (s : I) (trace : List (Answered I.Item I.Error)) (t : I)
+///     → Run I.ends.steps s trace t ↔ I.ends.traces s trace t }
+/// ```
+/// </details>
+pub fn law_headline_back<I: DoubleEndedFallibleIterator>() {}
