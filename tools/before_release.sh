@@ -14,6 +14,7 @@ cd "$(dirname "$0")/.."
 steps() {
     cat <<'END'
 version|tools/version.sh|at once
+names|tools/gone_names|at once
 edits|tools/edits --release|an hour, and the proof of each crate that has some
 pairs|tools/release_pairs.sh|three builds of minutes each
 devices|tools/closed_devices.sh|a minute, once count_rows is proved

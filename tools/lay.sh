@@ -6,7 +6,8 @@
 # `tests` stands for all crates of tests/.
 #
 # What the gate doesn't prove stands in release/NAME or tests/NAME: its .rt and .antt files have .txt after their names, since
-# the gate refuses such a file that no crate reads, and `stands_on` names the crates below it.
+# the gate refuses such a file that no crate reads, and `stands_on` names the crates below it. `takes` names files of crates that
+# stand in it too, each after its place.
 set -eu
 cd "$(dirname "$0")/.."
 copy=$1
@@ -29,4 +30,10 @@ for name in "${names[@]}"; do
     done
     printf '%s: %s\n' "$name" "$(cat "$laid/stands_on")" >>"$copy/crates.txt"
     rm "$laid/stands_on"
+    if [ -f "$laid/takes" ]; then
+        while read -r place file; do
+            cp "$copy/$file" "$laid/$place"
+        done <"$laid/takes"
+        rm "$laid/takes"
+    fi
 done

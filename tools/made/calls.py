@@ -33,7 +33,7 @@ OF_LIST = re.compile(r"OverList|OverBoth|Lists\b")
 BORROWS = re.compile(r"\( ?(?:alloc: Global, )?(?:&(?:mut )?self|\w+: &mut )")
 # what a word of a clause says besides the list
 SAID_OF = {"Repeats": " at each draw", "ListsMade": ", up to an allocation failure", "ListsUnlessRefused": ", up to an allocation failure",
-           "EachRunFrom": ", as std reads it"}
+           "ListsUntilRefused": ", up to an allocation failure", "EachRunFrom": ", as std reads it", "ListsForGood": ", fused"}
 
 
 def made_type(function):
@@ -96,12 +96,14 @@ class Row:
         return found
 
     def add(self, cells, reading, term, held, word=""):
-        """Adds a term with what has to hold for it."""
-        text = reading.shown(term)
-        text += f" {reading.ends}" if reading.ends else ""
-        text += SAID_OF.get(word, "")
-        text += f", where {' and '.join(held)}" if held else ""
-        if text not in cells:
+        """Adds a term with what has to hold for it. What is listed, fused, stands in the place of the same that isn't."""
+        shown = reading.shown(term)
+        shown += f" {reading.ends}" if reading.ends else ""
+        where = f", where {' and '.join(held)}" if held else ""
+        text = shown + SAID_OF.get(word, "") + where
+        if word == "ListsForGood" and shown + where in cells:
+            cells[cells.index(shown + where)] = text
+        elif text not in cells:
             cells.append(text)
 
 

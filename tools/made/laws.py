@@ -2,18 +2,22 @@
 
 from made import code
 
-CRATES = ("fallible_iterator", "fallible_itertools_adapters", "fallible_itertools_consumers")
+# The headline first.
+PLACES = (
+    ("fallible_core", "headline.rt"), ("fallible_iterator", "laws/**/*.rt"),
+    ("fallible_itertools_adapters", "laws/**/*.rt"), ("fallible_itertools_consumers", "laws/**/*.rt"),
+)
 HEAD = """# Laws
 
-Each law, with what it says. A law is a function of `laws` that is called for its contract alone. `tools/pages` writes this page, and the gate compares it.
+Each law, with what it says. A law is a function that is called for its contract alone. The first two are the headline, of every source and nest: its definition is the `traces` of its contract. `tools/pages` writes this page, and the gate compares it.
 """
 
 
 def laws(crates):
     """Each law: its crate, its file below `src`, its name and its comment."""
-    for crate in CRATES:
+    for crate, pattern in PLACES:
         top = crates / crate / "src"
-        for path in sorted(top.glob("laws/**/*.rt")):
+        for path in sorted(top.glob(pattern)):
             for function in code.functions(path):
                 if function.name.startswith("law_"):
                     yield crate, path.relative_to(top).with_suffix(""), function.name, function.comment

@@ -5,7 +5,7 @@ import re
 from made.code import split_at
 
 OVER = ("OverList", "OverListWith", "OverBoth")
-LISTING = ("Lists", "ListsForGood", "ListsMade", "ListsUnlessRefused", "Repeats", "ListsBothEnds")
+LISTING = ("Lists", "ListsForGood", "ListsMade", "ListsUnlessRefused", "ListsUntilRefused", "Repeats", "ListsBothEnds")
 BINDER = re.compile(r"[({](?:[\w']+ )+: ")
 # premises that name the source's list, the closure's function and the conversion of failures
 NAMING = ("Lists", "ListsBothEnds", "Acts", "ActsWith", "ActsWithState", "LooksAs", "FoldsAs", "Converts")
@@ -82,7 +82,9 @@ class Reading:
             self.ends = "from both ends"
         if BINDER.match(premise) or word in NAMING:
             return
-        if "is_clone" in premise or word == "ClonesAreEqual":
+        if re.search(r"is_clone (\w+) \1$", inner):
+            held.append("a value is a clone of itself")
+        elif "is_clone" in premise or word == "ClonesAreEqual":
             held.append("clones are equal")
         elif "is_infallible" in premise:
             held.append("no clone fails")

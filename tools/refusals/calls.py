@@ -9,7 +9,9 @@ FUNCTION = re.compile(r"(\bpub )?(?:final )?\bfn (\w+)")
 OWNER = re.compile(r"^(?:pub(?:\(crate\))? )?(impl|trait)\b", re.MULTILINE)
 ASKS = re.compile(r"\bAlloc\w*\b|\bGlobal\b|\bClone\b")
 COLLECTS = re.compile(r"\bCollect<.*> for (\w+)")
-DRIVER, RUNNER = "release/many_items", "tools/many_items.sh"
+DRIVER = "release/many_items"
+# The files of the program that has no library, which it takes.
+TAKES = f"{DRIVER}/takes"
 # What no program has of its own.
 SHARED = ("fallible_contract", "fallible_core", "fallible_iterator", "fallible_itertools", "program_io")
 TESTS = ("test_", "fallible_scripts", "fallible_vectors")
@@ -19,7 +21,7 @@ def texts(top):
     """The files that are read, by their names."""
     found = [
         *top.glob("crates/*/src/**/*.rt"), *top.glob(f"{DRIVER}/src/*.rt.txt"),
-        top / DRIVER / "stands_on", top / RUNNER, top / "crates.txt",
+        top / DRIVER / "stands_on", top / TAKES, top / "crates.txt",
     ]
     read = {str(path.relative_to(top)): path.read_text(encoding="utf-8") for path in sorted(found) if path.is_file()}
     return {name: text for name, text in read.items() if not name.startswith(tuple(f"crates/{test}" for test in TESTS))}
@@ -115,5 +117,5 @@ def programs(read):
         crate = found.group(1)
         of_its_own = [library for library in listed[crate].split() if library not in SHARED]
         asks = any(ASKS.search(bare(other)) for file, other in read.items() if file.startswith(f"crates/{crate}/src/"))
-        if asks and not set(of_its_own).intersection(below) and f'cd "$copy/crates/{crate}"' not in read[RUNNER]:
-            yield f"{name}: neither {RUNNER} nor {DRIVER} runs it"
+        if asks and not set(of_its_own).intersection(below) and f" crates/{crate}/src/program.rt\n" not in read[TAKES]:
+            yield f"{name}: {DRIVER} doesn't run it"

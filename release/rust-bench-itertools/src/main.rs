@@ -12,6 +12,12 @@ fn mixed(value: u64, x: u64) -> u64 {
     (value ^ x).rotate_left(7)
 }
 
+/// A number that is as likely one as another.
+fn scattered(x: u64) -> u64 {
+    let x = (x ^ (x >> 31)).wrapping_mul(0x9E37_79B9_7F4A_7C15);
+    x ^ (x >> 29)
+}
+
 /// A call's name in a table, and itself: by a fold and by `next`, ours and theirs.
 macro_rules! call {
     ($name:literal, $call:ident) => {
@@ -27,7 +33,7 @@ macro_rules! call {
     };
 }
 
-const CALLS: [(&str, [Call; 4]); 15] = [
+const CALLS: [(&str, [Call; 4]); 19] = [
     call!("dedup, runs of 4", dedup),
     call!("dedup_by_key, runs of 4", dedup_by_key),
     call!("coalesce, runs of 4", coalesce),
@@ -43,6 +49,10 @@ const CALLS: [(&str, [Call; 4]); 15] = [
     call!("checked_sum", checked_sum),
     call!("counts, 1000 keys", counts),
     call!("join", join),
+    call!("k_smallest, 100 of falling", k_smallest_100),
+    call!("k_smallest, 10000 of falling", k_smallest_10000),
+    call!("k_smallest, 100000 of falling", k_smallest_100000),
+    call!("k_smallest, 10000 of scattered", k_smallest_scattered),
 ];
 
 fn main() {

@@ -1,5 +1,5 @@
 //! The calls of `fallible-itertools`.
-use crate::mixed;
+use crate::{mixed, scattered};
 use fallible_iterator::{convert, FallibleIterator};
 use fallible_itertools::{EitherOrBoth, FallibleItertools, MinMaxResult};
 
@@ -123,4 +123,28 @@ pub fn counts<W: Way>(n: u64) -> u64 {
 pub fn join<W: Way>(n: u64) -> u64 {
     let text = numbers(n).join(", ").unwrap();
     text.bytes().fold(0, |value, x| mixed(value, u64::from(x)))
+}
+
+#[inline(never)]
+pub fn k_smallest_100<W: Way>(n: u64) -> u64 {
+    let least = numbers(n).map(move |x| Ok(n - x)).k_smallest(100).unwrap();
+    least.into_iter().fold(0, mixed)
+}
+
+#[inline(never)]
+pub fn k_smallest_10000<W: Way>(n: u64) -> u64 {
+    let least = numbers(n).map(move |x| Ok(n - x)).k_smallest(10_000).unwrap();
+    least.into_iter().fold(0, mixed)
+}
+
+#[inline(never)]
+pub fn k_smallest_100000<W: Way>(n: u64) -> u64 {
+    let least = numbers(n).map(move |x| Ok(n - x)).k_smallest(100_000).unwrap();
+    least.into_iter().fold(0, mixed)
+}
+
+#[inline(never)]
+pub fn k_smallest_scattered<W: Way>(n: u64) -> u64 {
+    let least = numbers(n).map(|x| Ok(scattered(x))).k_smallest(10_000).unwrap();
+    least.into_iter().fold(0, mixed)
 }

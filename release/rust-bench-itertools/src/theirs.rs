@@ -1,5 +1,5 @@
 //! The calls of `itertools`.
-use crate::mixed;
+use crate::{mixed, scattered};
 use itertools::{EitherOrBoth, Itertools, MinMaxResult};
 
 /// A way of draining.
@@ -117,4 +117,24 @@ pub fn counts<W: Way>(n: u64) -> u64 {
 pub fn join<W: Way>(n: u64) -> u64 {
     let text = (0..n).join(", ");
     text.bytes().fold(0, |value, x| mixed(value, u64::from(x)))
+}
+
+#[inline(never)]
+pub fn k_smallest_100<W: Way>(n: u64) -> u64 {
+    (0..n).map(move |x| n - x).k_smallest(100).fold(0, mixed)
+}
+
+#[inline(never)]
+pub fn k_smallest_10000<W: Way>(n: u64) -> u64 {
+    (0..n).map(move |x| n - x).k_smallest(10_000).fold(0, mixed)
+}
+
+#[inline(never)]
+pub fn k_smallest_100000<W: Way>(n: u64) -> u64 {
+    (0..n).map(move |x| n - x).k_smallest(100_000).fold(0, mixed)
+}
+
+#[inline(never)]
+pub fn k_smallest_scattered<W: Way>(n: u64) -> u64 {
+    (0..n).map(|x| scattered(x)).k_smallest(10_000).fold(0, mixed)
 }

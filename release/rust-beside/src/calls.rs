@@ -68,6 +68,7 @@ macro_rules! calls {
         say("inspect_err", format!("{failures} failures"));
         say!("err_into", all!($rows.err_into::<Became<_>>()).map_err(|e| e.0));
         say!("or_else", all!($rows.take(50).or_else(|e| { let _ = $shown(e); Ok::<_, std::convert::Infallible>(Some(0)) }).take(9)).map_err(|never| -> _ { match never {} }));
+        say!("fuse_at_failure", all!($rows.fuse_at_failure()));
         say!("stop_after", all!($rows.stop_after(1)));
         say!("merge", all!($rows.merge(few())));
         say!("merge_by", all!($rows.merge_by(few(), |a, b| Ok(a <= b))));
