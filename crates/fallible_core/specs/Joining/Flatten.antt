@@ -30,19 +30,21 @@ part_answers (of_inner x c answers) = answers
 part_answers (of_failure e) = failure e ∷ []
 part_answers of_end = end ∷ []
 
+-- ---- below, `outer s l t` says that draws of the outer source at s may return the answers l and leave t, and `inner c l d` says so of an inner iterator
+
 -- A finished inner iterator returned the answers, and then its end was drawn.
-pub record Finished {C B E : Type 0} (inner : C → Answered B E → C → Type 0) (c : C) (answers : List (Answered B E)) : Type 0 where
+pub record Finished {C B E : Type 0} (inner : C → List (Answered B E) → C → Type 0) (c : C) (answers : List (Answered B E)) : Type 0 where
   pub after : C
-  pub drawn : Run inner c (answers ++ end ∷ []) after
+  pub drawn : inner c (answers ++ end ∷ []) after
   pub no_end : NoEnd answers
 
 -- An unfinished inner iterator returned the answers, at least one and no end, and is then d.
-pub record Unfinished {C B E : Type 0} (inner : C → Answered B E → C → Type 0) (c : C) (answers : List (Answered B E)) (d : C) : Type 0 where
-  pub drawn : Run inner c answers d
+pub record Unfinished {C B E : Type 0} (inner : C → List (Answered B E) → C → Type 0) (c : C) (answers : List (Answered B E)) (d : C) : Type 0 where
+  pub drawn : inner c answers d
   pub no_end : NoEnd answers
   pub not_empty : answers ≢ []
 
-module _ {X C B E : Type 0} (into : X → C → Type 0) (inner : C → Answered B E → C → Type 0) where
+module _ {X C B E : Type 0} (into : X → C → Type 0) (inner : C → List (Answered B E) → C → Type 0) where
   -- a part before the last: its inner iterator is finished
   abbrev pub FinishedPart : Part X C B E → Type 0
   FinishedPart (of_inner x c answers) = into x c × Finished inner c answers
@@ -61,30 +63,34 @@ module _ {X C B E : Type 0} (into : X → C → Type 0) (inner : C → Answered 
   LastPart of_end hand = hand ≡ None
 
 -- the current inner iterator, if there is one, returned the answers and is finished
-abbrev pub FinishedInHand : {C B E : Type 0} → (C → Answered B E → C → Type 0) → Option C → List (Answered B E) → Type 0
+abbrev pub FinishedInHand : {C B E : Type 0} → (C → List (Answered B E) → C → Type 0) → Option C → List (Answered B E) → Type 0
 FinishedInHand inner (Some c) answers = Finished inner c answers
 FinishedInHand inner None answers = answers ≡ []
 
 -- The outer source was drawn. The trace joins the answers of the current inner iterator, if there was one, and a part for each answer of the outer source.
-pub record JoinedTrace {S X C B E : Type 0} (outer : S → Answered X E → S → Type 0) (into : X → C → Type 0) (inner : C → Answered B E → C → Type 0) (s : S) (hand : Option C) (trace : List (Answered B E)) (t : S) (hand' : Option C) : Type 0 where
+pub record JoinedTrace {S X C B E : Type 0} (outer : S → List (Answered X E) → S → Type 0) (into : X → C → Type 0) (inner : C → List (Answered B E) → C → Type 0) (s : S) (hand : Option C) (trace : List (Answered B E)) (t : S) (hand' : Option C) : Type 0 where
   pub in_hand : List (Answered B E)
   pub parts : List (Part X C B E)
   pub last : Part X C B E
-  pub drawn : Run outer s (map outer_answer (parts ++ last ∷ [])) t
+  pub drawn : outer s (map outer_answer (parts ++ last ∷ [])) t
   pub hand_finished : FinishedInHand inner hand in_hand
   pub finished : FinishedParts into inner parts
   pub at_last : LastPart into inner last hand'
   pub answers : trace ≡ in_hand ++ flat_map part_answers (parts ++ last ∷ [])
 
 -- The answers from an outer source at s: nothing was drawn; or the trace is that of the current inner iterator, which is unfinished; or the outer source was drawn.
-pub data FlattenAnswers {S X C B E : Type 0} (outer : S → Answered X E → S → Type 0) (into : X → C → Type 0) (inner : C → Answered B E → C → Type 0) : S → Option C → List (Answered B E) → S → Option C → Type 0 where
+pub data FlattenAnswers {S X C B E : Type 0} (outer : S → List (Answered X E) → S → Type 0) (into : X → C → Type 0) (inner : C → List (Answered B E) → C → Type 0) : S → Option C → List (Answered B E) → S → Option C → Type 0 where
   nothing_drawn : {s : S} {hand : Option C} → FlattenAnswers outer into inner s hand [] s hand
   still_in_hand : {s : S} {c d : C} {trace : List (Answered B E)} → Unfinished inner c trace d → FlattenAnswers outer into inner s (Some c) trace s (Some d)
   outer_drawn : {s t : S} {hand hand' : Option C} {trace : List (Answered B E)} → JoinedTrace outer into inner s hand trace t hand' → FlattenAnswers outer into inner s hand trace t hand'
 
+-- its definition over all that the outer source and the inner iterators return
+abbrev pub flattens_all : {S X C B E : Type 0} → (S → List (Answered X E) → S → Type 0) → (X → C → Type 0) → (C → List (Answered B E) → C → Type 0) → S × Option C → List (Answered B E) → S × Option C → Type 0
+flattens_all traces into inner_traces p trace q = FlattenAnswers traces into inner_traces p.0 p.1 trace q.0 q.1
+
 -- `Flatten`, by its parts: the outer source, and the current inner iterator.
 abbrev pub FlattenTrace : {S X C B E : Type 0} → (S → Answered X E → S → Type 0) → (X → C → Type 0) → (C → Answered B E → C → Type 0) → S × Option C → List (Answered B E) → S × Option C → Type 0
-FlattenTrace outer into inner p trace q = FlattenAnswers outer into inner p.0 p.1 trace q.0 q.1
+FlattenTrace outer into inner p trace q = flattens_all (Run outer) into (Run inner) p trace q
 
 -- ---- the contract
 
@@ -132,7 +138,7 @@ module _ {S X C B E : Type 0} (m : Contract S X E) (into : X → C → Type 0) (
     may_fail = λ p e. m.may_fail p.0 e ⊎ (IsSomeAnd p.1 (λ c. inner.may_fail c e) ⊎ SomeInner (λ c. inner.may_fail c e) p.0);
     hints = λ p h. h ≡ (0, None);
     lenders = λ p. m.lenders p.0;
-    traces = λ p trace q. Run (λ u r v. FlattenTrace m.steps into inner.steps u (r ∷ []) v) p trace q;
+    traces = flattens_all m.traces into inner.traces;
   }
 
 -- ---- a fold, as one of the outer source

@@ -4,4 +4,5 @@ pub mod ChainTraces
 pub mod Cycle
 pub mod FlatMap
 pub mod Flatten
+pub mod FlattenTraces
 pub mod Zip

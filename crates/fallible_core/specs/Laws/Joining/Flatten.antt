@@ -1,90 +1,12 @@
 -- The contract of `Flatten` is lawful where those of the outer source and of the inner iterators are.
-use Rattle.std.specs.Prelude.{◌≡◌, ◌≢◌, ℕ, ◌+◌, ◌*◌, ◌≤◌, ◌<◌, List, [], ◌∷◌, ◌++◌, map, Option, Some, None, Ok, Err, IfSome}
-use Rattle.std.specs.List.{flat_map}
-use Rattle.std.proofs.Common.{refl, sym, ap, subst, arith, inl, inr}
-use Rattle.std.proofs.lemmas.List.{append-nil}
+use Rattle.std.specs.Prelude.{ℕ, ◌+◌, ◌*◌, ◌≤◌, ◌<◌, [], ◌∷◌, Option, Some, None, Ok, Err, IfSome}
+use Rattle.std.proofs.Common.{refl, sym, arith, inl, inr}
 use Rattle.std.proofs.Math.Nat.{mul-suc, mul-le-mul_left}
-use Rattle.fallible_contract.specs.Traces.{Answered, Run, item, failure, end, NoEnd}
+use Rattle.fallible_contract.specs.Traces.{Answered, item, failure, end}
 use Rattle.fallible_contract.specs.Contract.{Contract, OnAnswer, KeptByDraw, KeptByDraws, Lawful}
 use Rattle.fallible_contract.specs.Laws.Contract.{no_more_after, kept_by_draw_from_before_draws}
-use Rattle.fallible_core.specs.Joining.Flatten.{flatten_contract, NumberInHand, SomeInner, EachInner, FlattenNumber, Part, of_inner, of_failure, of_end, outer_answer, part_answers, Finished, FinishedParts, LastPart, FinishedInHand, JoinedTrace, FlattenAnswers, nothing_drawn, still_in_hand, outer_drawn}
-
-module _ {S X C B E : Type 0} (outer : S → Answered X E → S → Type 0) (into : X → C → Type 0) (inner : C → Answered B E → C → Type 0) where
-  -- `FlattenAnswers`, built from the first answer on
-  pub data Flattens : S → Option C → List (Answered B E) → S → Option C → Type 0 where
-    done : {s : S} {hand : Option C} → Flattens s hand [] s hand
-    gives : {s t : S} {c d : C} {hand : Option C} {trace : List (Answered B E)} (y : B) → inner c (item y) d → Flattens s (Some d) trace t hand → Flattens s (Some c) (item y ∷ trace) t hand
-    fails : {s t : S} {c d : C} {hand : Option C} {trace : List (Answered B E)} (e : E) → inner c (failure e) d → Flattens s (Some d) trace t hand → Flattens s (Some c) (failure e ∷ trace) t hand
-    finishes : {s t : S} {c d : C} {hand : Option C} {r : Answered B E} {trace : List (Answered B E)} → inner c end d → Flattens s None (r ∷ trace) t hand → Flattens s (Some c) (r ∷ trace) t hand
-    begins : {s u t : S} {c : C} {hand : Option C} {r : Answered B E} {trace : List (Answered B E)} (x : X) → outer s (item x) u → into x c → Flattens u (Some c) (r ∷ trace) t hand → Flattens s None (r ∷ trace) t hand
-    outer_fails : {s u t : S} {hand : Option C} {trace : List (Answered B E)} (e : E) → outer s (failure e) u → Flattens u None trace t hand → Flattens s None (failure e ∷ trace) t hand
-    outer_ends : {s u t : S} {hand : Option C} {trace : List (Answered B E)} → outer s end u → Flattens u None trace t hand → Flattens s None (end ∷ trace) t hand
-
-module _ {S X C B E : Type 0} (outer : S → Answered X E → S → Type 0) (into : X → C → Type 0) (inner : C → Answered B E → C → Type 0) where
-  abbrev FlattensHere : S → Option C → List (Answered B E) → S → Option C → Type 0
-  FlattensHere = Flattens outer into inner
-
-  -- ---- from the definition
-
-  flattens_unfinished : (answers : List (Answered B E)) (s : S) (c d : C) → Run inner c answers d → NoEnd answers → FlattensHere s (Some c) answers s (Some d)
-  flattens_unfinished [] s c d ran free = subst (λ (k : C). FlattensHere s (Some c) [] s (Some k)) ran done
-  flattens_unfinished (Ok (Some y) ∷ rest) s c d ran free = gives y ran.1 (flattens_unfinished rest s ran.0 d ran.2 free.1)
-  flattens_unfinished (Ok None ∷ rest) s c d ran free = absurd (let e = free.0 in cc)
-  flattens_unfinished (Err e ∷ rest) s c d ran free = fails e ran.1 (flattens_unfinished rest s ran.0 d ran.2 free.1)
-
-  flattens_finished : (answers : List (Answered B E)) (s t : S) (c d : C) (hand : Option C) (r : Answered B E) (trace : List (Answered B E)) → Run inner c (answers ++ end ∷ []) d → NoEnd answers → FlattensHere s None (r ∷ trace) t hand → FlattensHere s (Some c) (answers ++ r ∷ trace) t hand
-  flattens_finished [] s t c d hand r trace ran free rest = finishes ran.1 rest
-  flattens_finished (Ok (Some y) ∷ answers) s t c d hand r trace ran free rest = gives y ran.1 (flattens_finished answers s t ran.0 d hand r trace ran.2 free.1 rest)
-  flattens_finished (Ok None ∷ answers) s t c d hand r trace ran free rest = absurd (let e = free.0 in cc)
-  flattens_finished (Err e ∷ answers) s t c d hand r trace ran free rest = fails e ran.1 (flattens_finished answers s t ran.0 d hand r trace ran.2 free.1 rest)
-
-  -- the traces of what comes after: they have an answer
-  record FlattensNonempty (s : S) (hand : Option C) (trace : List (Answered B E)) (t : S) (hand' : Option C) : Type 0 where
-    first : Answered B E
-    others : List (Answered B E)
-    is : trace ≡ first ∷ others
-    flattens : FlattensHere s hand (first ∷ others) t hand'
-
-  flattens_nonempty_of_flattens : (trace : List (Answered B E)) (s t : S) (hand hand' : Option C) → trace ≢ [] → FlattensHere s hand trace t hand' → FlattensNonempty s hand trace t hand'
-  flattens_nonempty_of_flattens [] s t hand hand' some f = absurd (some refl)
-  flattens_nonempty_of_flattens (r ∷ trace) s t hand hand' some f = record { first = r; others = trace; is = refl; flattens = f }
-
-  -- one part, and what comes after it
-  flattens_nonempty_of_part : (s u t : S) (c : C) (hand : Option C) (x : X) (trace : List (Answered B E)) → outer s (item x) u → into x c → FlattensNonempty u (Some c) trace t hand → FlattensNonempty s None trace t hand
-  flattens_nonempty_of_part s u t c hand x trace step becomes n = record { first = n.first; others = n.others; is = n.is; flattens = begins x step becomes n.flattens }
-
-  appended_not_nil : (answers : List (Answered B E)) (r : Answered B E) (trace : List (Answered B E)) → (answers ++ r ∷ trace) ≢ []
-  appended_not_nil [] r trace = λ e. absurd cc
-  appended_not_nil (q ∷ answers) r trace = λ e. absurd cc
-
-  flattens_nonempty_after_finished : (s t : S) (c : C) (hand : Option C) (answers trace : List (Answered B E)) → Finished inner c answers → FlattensNonempty s None trace t hand → FlattensNonempty s (Some c) (answers ++ trace) t hand
-  flattens_nonempty_after_finished s t c hand answers trace f n = rw n.is (flattens_nonempty_of_flattens (answers ++ n.first ∷ n.others) s t (Some c) hand (appended_not_nil answers n.first n.others) (flattens_finished answers s t c f.after hand n.first n.others f.drawn f.no_end n.flattens))
-
-  -- the last part
-  flattens_nonempty_of_last : (last : Part X C B E) (s t : S) (hand : Option C) → Run outer s (outer_answer last ∷ []) t → LastPart into inner last hand → FlattensNonempty s None (part_answers last) t hand
-  flattens_nonempty_of_last (of_inner x c answers) s t hand ran last = let u = last.1.1 in flattens_nonempty_of_part s t t c hand x answers (subst (λ (v : S). outer s (item x) v) ran.2 ran.1) last.0 (rw last.1.2 (flattens_nonempty_of_flattens answers t t (Some c) (Some last.1.0) u.not_empty (flattens_unfinished answers t c last.1.0 u.drawn u.no_end)))
-  flattens_nonempty_of_last (of_failure e) s t hand ran last = record { first = failure e; others = []; is = refl; flattens = outer_fails e ran.1 (rw (ran.2, last) done) }
-  flattens_nonempty_of_last of_end s t hand ran last = record { first = end; others = []; is = refl; flattens = outer_ends ran.1 (rw (ran.2, last) done) }
-
-  flattens_nonempty_of_parts : (parts : List (Part X C B E)) (last : Part X C B E) (s t : S) (hand : Option C) → Run outer s (map outer_answer (parts ++ last ∷ [])) t → FinishedParts into inner parts → LastPart into inner last hand → FlattensNonempty s None (flat_map part_answers (parts ++ last ∷ [])) t hand
-  flattens_nonempty_of_parts [] last s t hand ran parts_finished at_last = rw (append-nil (part_answers last)) (flattens_nonempty_of_last last s t hand ran at_last)
-  flattens_nonempty_of_parts (of_inner x c answers ∷ parts) last s t hand ran parts_finished at_last = flattens_nonempty_of_part s ran.0 t c hand x _ ran.1 parts_finished.0.0 (flattens_nonempty_after_finished ran.0 t c hand answers _ parts_finished.0.1 (flattens_nonempty_of_parts parts last ran.0 t hand ran.2 parts_finished.1 at_last))
-  flattens_nonempty_of_parts (of_failure e ∷ parts) last s t hand ran parts_finished at_last = let n = flattens_nonempty_of_parts parts last ran.0 t hand ran.2 parts_finished.1 at_last in record { first = failure e; others = n.first ∷ n.others; is = ap (λ l. failure e ∷ l) n.is; flattens = outer_fails e ran.1 n.flattens }
-  flattens_nonempty_of_parts (of_end ∷ parts) last s t hand ran parts_finished at_last = let n = flattens_nonempty_of_parts parts last ran.0 t hand ran.2 parts_finished.1 at_last in record { first = end; others = n.first ∷ n.others; is = ap (λ l. end ∷ l) n.is; flattens = outer_ends ran.1 n.flattens }
-
-  flattens_nonempty_of_hand : (s t : S) (hand hand' : Option C) (in_hand trace : List (Answered B E)) → FinishedInHand inner hand in_hand → FlattensNonempty s None trace t hand' → FlattensNonempty s hand (in_hand ++ trace) t hand'
-  flattens_nonempty_of_hand s t (Some c) hand' in_hand trace h n = flattens_nonempty_after_finished s t c hand' in_hand trace h n
-  flattens_nonempty_of_hand s t None hand' in_hand trace h n = rw h n
-
-  flattens_of_joined : (s t : S) (hand hand' : Option C) (trace : List (Answered B E)) → JoinedTrace outer into inner s hand trace t hand' → FlattensHere s hand trace t hand'
-  flattens_of_joined s t hand hand' trace j = let n = flattens_nonempty_of_hand s t hand hand' j.in_hand (flat_map part_answers (j.parts ++ j.last ∷ [])) j.hand_finished (flattens_nonempty_of_parts j.parts j.last s t hand' j.drawn j.finished j.at_last) in rw (j.answers, n.is) n.flattens
-
-  pub flattens_of_flatten_trace : (s t : S) (hand hand' : Option C) (trace : List (Answered B E)) → FlattenAnswers outer into inner s hand trace t hand' → FlattensHere s hand trace t hand'
-  flattens_of_flatten_trace s t _ _ _ nothing_drawn = done
-  flattens_of_flatten_trace s _ _ _ trace (still_in_hand {c = c} {d = d} u) = flattens_unfinished trace s c d u.drawn u.no_end
-  flattens_of_flatten_trace s t hand hand' trace (outer_drawn j) = flattens_of_joined s t hand hand' trace j
-
--- ---- the contract is lawful where those of the outer source and of the inner iterators are
+use Rattle.fallible_core.specs.Joining.Flatten.{flatten_contract, NumberInHand, SomeInner, EachInner, FlattenNumber}
+use Rattle.fallible_core.specs.Laws.Joining.FlattenTraces.{Flattens, gives, fails, finishes, begins, outer_fails, outer_ends, done, flattens_of_flatten_trace, flatten_traced}
 
 module _ {S X C B E : Type 0} (m : Contract S X E) (l : Lawful m) (into : X → C → Type 0) (inner : Contract C B E) (k : Lawful inner) where
   abbrev FlattenContract : Contract (S × Option C) B E
@@ -183,7 +105,7 @@ module _ {S X C B E : Type 0} (m : Contract S X E) (l : Lawful m) (into : X → 
   pub lawful_flatten : Lawful FlattenContract
   lawful_flatten = record {
     kept_by_draw = λ p r q can step. kept_by_draw_flattens p.0 q.0 p.1 q.1 r can (flattens_of_flatten_trace m.steps into inner.steps p.0 q.0 p.1 q.1 (r ∷ []) step);
-    traced = λ _ _ _. ((λ h. h), (λ h. h));
+    traced = flatten_traced into l.traced k.traced;
     bounded = λ p. (
       (λ e. let a = (l.bounded p.0).0 e.0 in let j = number_in_hand_where_inner_is_finite p.1 e.1 in (e.2.0 * a.0 + j.0, record { outer = a.0; each = e.2.0; in_hand = j.0; outer_is = a.1; each_is = e.2.1; in_hand_is = j.1; sum = omega arith })),
       (λ n. let b = n.1 in ((l.bounded p.0).1 (b.outer, b.outer_is), inner_is_finite_of_number p.1 b.in_hand b.in_hand_is, (b.each, b.each_is))),
