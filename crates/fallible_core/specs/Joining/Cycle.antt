@@ -9,16 +9,22 @@ use Rattle.std.specs.declared.alloc.AllocError.{AllocError}
 use Rattle.fallible_core.specs.declared.joining.cycle.Cycle.{Cycle}
 
 module _ {S A E : Type 0} (is_clone : S → S → Type 0) (is_infallible : S → Type 0) (from : AllocError → E → Type 0) where
-  module _ (steps : S → Answered A E → S → Type 0) where
-    -- Laps over the kept source k, one after another, the first over the current run. A lap is answers of one run, of which none is an end but, in the lap of a clone, perhaps the first. Each lap but the last was drawn through the end that closes it, which is not returned. Then a fresh clone of k is the run, and its first answer, whatever it is, begins the next lap; or the clone fails to allocate, the failure converted from its `AllocError` is returned, and the next lap goes on over the same run.
-    pub data Laps (k : S) : S → List (Answered A E) → S → Type 0 where
-      last_lap : (s t : S) (lap : List (Answered A E)) → NoEnd lap → Run steps s lap t → Laps k s lap t
-      then_a_clone : (s ended clone run t : S) (lap : List (Answered A E)) (first : Answered A E) (rest : List (Answered A E)) → NoEnd lap → Run steps s (lap ++ end ∷ []) ended → is_clone k clone → steps clone first run → Laps k run rest t → Laps k s (lap ++ first ∷ rest) t
-      then_a_refusal : (s ended t : S) (lap : List (Answered A E)) (e : E) (rest : List (Answered A E)) → NoEnd lap → Run steps s (lap ++ end ∷ []) ended → RefusedAs is_infallible from k e → Laps k ended rest t → Laps k s (lap ++ failure e ∷ rest) t
+  -- ---- below, `traces s l t` says that draws of a run at s may return the answers l and leave t
 
+  -- Laps over the kept source k, one after another, the first over the current run. A lap is answers of one run, of which none is an end but, in the lap of a clone, perhaps the first. Each lap but the last was drawn through the end that closes it, which is not returned. Then a fresh clone of k is the run, and its first answer, whatever it is, begins the next lap; or the clone fails to allocate, the failure converted from its `AllocError` is returned, and the next lap goes on over the same run.
+  pub data Laps (traces : S → List (Answered A E) → S → Type 0) (k : S) : S → List (Answered A E) → S → Type 0 where
+    last_lap : (s t : S) (lap : List (Answered A E)) → NoEnd lap → traces s lap t → Laps traces k s lap t
+    then_a_clone : (s ended clone run t : S) (lap : List (Answered A E)) (first : Answered A E) (rest : List (Answered A E)) → NoEnd lap → traces s (lap ++ end ∷ []) ended → is_clone k clone → traces clone (first ∷ []) run → Laps traces k run rest t → Laps traces k s (lap ++ first ∷ rest) t
+    then_a_refusal : (s ended t : S) (lap : List (Answered A E)) (e : E) (rest : List (Answered A E)) → NoEnd lap → traces s (lap ++ end ∷ []) ended → RefusedAs is_infallible from k e → Laps traces k ended rest t → Laps traces k s (lap ++ failure e ∷ rest) t
+
+  -- its definition over all that its runs return
+  abbrev pub cycles_all : (S → List (Answered A E) → S → Type 0) → S × S → List (Answered A E) → S × S → Type 0
+  cycles_all traces p trace q = (q.1 ≡ p.1) × Laps traces p.1 p.0 trace q.0
+
+  module _ (steps : S → Answered A E → S → Type 0) where
     -- `Cycle`: laps over the kept source, which stays. The parts are the current run and the kept source.
     abbrev pub CycleTrace : S × S → List (Answered A E) → S × S → Type 0
-    CycleTrace p trace q = (q.1 ≡ p.1) × Laps p.1 p.0 trace q.0
+    CycleTrace p trace q = cycles_all (Run steps) p trace q
 
     -- One answer: that of the run, if it is no end; otherwise the first answer of a fresh clone of k, or the failure converted from its `AllocError`.
     abbrev pub CycleAnswer : S → S → Answered A E → S → Type 0
@@ -37,6 +43,7 @@ module _ {S A E : Type 0} (is_clone : S → S → Type 0) (is_infallible : S →
     may_give = λ p x. m.may_give p.0 x ⊎ ((c : S) × is_clone p.1 c × m.may_give c x);
     may_fail = λ p e. m.may_fail p.0 e ⊎ ((c : S) × is_clone p.1 c × m.may_fail c e) ⊎ RefusedAs is_infallible from p.1 e;
     hints = λ p h. (k : ℕ × Option ℕ) × m.hints p.1 k × (h ≡ cycle_hint k);
+    traces = cycles_all m.traces;
   }
 
 -- the source

@@ -2,6 +2,7 @@
 pub mod Chain
 pub mod ChainTraces
 pub mod Cycle
+pub mod CycleTraces
 pub mod FlatMap
 pub mod Flatten
 pub mod FlattenTraces
