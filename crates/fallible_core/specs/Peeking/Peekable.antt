@@ -1,10 +1,10 @@
 -- `Peekable`, which looks one answer ahead and holds it.
 use Rattle.std.proofs.Common.{refl}
-use Rattle.std.specs.Prelude.{ℕ, Bool, Option, Some, ◌≡◌, ◌+◌, ◌≤◌, List, [], ◌∷◌, ◌++◌, Result, None, Ok, Err, true, false, ⊤, ◌⊎◌}
+use Rattle.std.specs.Prelude.{ℕ, Bool, Option, Some, ◌≡◌, ◌+◌, ◌≤◌, List, [], ◌∷◌, ◌++◌, replicate, Result, None, Ok, Err, true, false, ⊤, ◌⊎◌}
 use Rattle.std.specs.Iterator.{count_map}
 use Rattle.std.specs.Fn.{Shared, FnReturnsAt}
 use Rattle.std.specs.Borrow.{Bor, MutBor}
-use Rattle.fallible_contract.specs.Traces.{Answered, Run, first_of, item, failure, end}
+use Rattle.fallible_contract.specs.Traces.{Answered, Run, first_of, item, failure, end, NoEnd}
 use Rattle.fallible_contract.specs.Contract.{Inverse, Contract}
 use Rattle.fallible_contract.specs.Ends.{Ends}
 use Rattle.fallible_contract.specs.Hints.{HintWithItem}
@@ -98,6 +98,20 @@ peekable_step_back back (s, Some (Some x)) r (t, held) = (back s end t × (r ≡
 peekable_step_back back (s, Some None) r (t, held) = (r ≡ end) × (t ≡ s) × (held ≡ Some None)
 peekable_step_back back (s, None) r (t, held) = back s r t × (held ≡ None)
 
+-- The held item x came last, and then n ends: the source's trace from the back is a list without an end, and then an end, in whose place x stands.
+pub record HeldLast {S A E : Type 0} (traces : S → List (Answered A E) → S → Type 0) (s : S) (x : A) (trace : List (Answered A E)) (t : S) : Type 0 where
+  pub before_held : List (Answered A E)
+  pub n : ℕ
+  pub drawn : traces s (before_held ++ end ∷ []) t
+  pub no_end : NoEnd before_held
+  pub answers : trace ≡ before_held ++ item x ∷ replicate n end
+
+-- Its definition from the back, over all that its source returns there. With an item held, the trace is the source's up to the first end, in whose place the item comes, and from then on an end is held. With an end held, the trace is ends, without a draw. With nothing held, it is the source's.
+abbrev pub peeks_all_back : {S A E : Type 0} → (S → List (Answered A E) → S → Type 0) → S × Option (Option A) → List (Answered A E) → S × Option (Option A) → Type 0
+peeks_all_back traces (s, Some (Some x)) trace (t, held) = (traces s trace t × NoEnd trace × (held ≡ Some (Some x))) ⊎ (HeldLast traces s x trace t × (held ≡ Some None))
+peeks_all_back traces (s, Some None) trace (t, held) = ((n : ℕ) × (trace ≡ replicate n end)) × (t ≡ s) × (held ≡ Some None)
+peeks_all_back traces (s, None) trace (t, held) = traces s trace t × (held ≡ None)
+
 -- `Peekable`'s second end: a held item may come from either end.
 abbrev pub peekable_ends : {S A E : Type 0} → Ends S A E → Ends (S × Option (Option A)) A E
 peekable_ends e = record {
@@ -105,7 +119,7 @@ peekable_ends e = record {
   steps = peekable_step_back e.steps;
   may_give = λ p x. (p.1 ≡ Some (Some x)) ⊎ e.may_give p.0 x;
   may_fail = λ p d. e.may_fail p.0 d;
-  traces = λ p trace q. Run (peekable_step_back e.steps) p trace q;
+  traces = peeks_all_back e.traces;
 }
 
 -- ---- looking ahead

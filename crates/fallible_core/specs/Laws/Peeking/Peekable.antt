@@ -6,6 +6,7 @@ use Rattle.fallible_contract.specs.Contract.{Contract, OnAnswer, KeptByDraw, Law
 use Rattle.fallible_contract.specs.Ends.{Ends, from_back, LawfulEnds}
 use Rattle.fallible_core.specs.Peeking.Peekable.{held_items, peekable_contract, IsNoEnd, peekable_step_back, peekable_ends, held_answers, PeekableTrace, peekable_step, peeks_all}
 use Rattle.fallible_contract.specs.Laws.LawForm.{IsTraced, run_of_whole_list, list_is_trace}
+use Rattle.fallible_core.specs.Laws.Peeking.PeekableBack.{peekable_back_traced}
 
 module _ {S A E : Type 0} (m : Contract S A E) where
   abbrev PeekableContract : Contract (S × Option (Option A)) A E
@@ -161,6 +162,6 @@ lawful_ends_peekable {m = m} {e = e} l = record {
   back = record {
     kept_by_draw = kept_by_draw_back m e l.back;
     bounded = (lawful_peekable l.back).bounded;
-    traced = λ _ _ _. ((λ h. h), (λ h. h));
+    traced = peekable_back_traced l.back.traced;
   };
 }
