@@ -16,7 +16,7 @@ SUITES = {
         "test_programs", "fallible_rows", "test_rows", "fallible_scripts",
     ],
     "fallible-itertools": [
-        "test_support", "program_io", "fallible_rows", "example_itertools", "test_itertools",
+        "test_support", "program_io", "fallible_rows", "example_itertools", "example_consumers", "test_itertools",
         "test_calls_itertools",
     ],
 }

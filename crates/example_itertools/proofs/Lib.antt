@@ -1,2 +1,1 @@
-mod Shown
 mod WhereRead

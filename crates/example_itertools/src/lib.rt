@@ -1,19 +1,13 @@
-//! Callers of `fallible_itertools`: each states what it computes, and the contracts of the calls prove it.
+//! Callers of the adapters of `fallible_itertools`: each states what it computes, and the contracts of the calls prove it.
 #![tactic(auto)]
 
 pub mod batching;
 pub mod cloning;
-pub mod extremes;
 pub mod failing;
 pub mod holding;
 pub mod interspersing;
 pub mod joining;
-pub mod kept;
 pub mod ordering;
 pub mod passing;
 pub mod reading;
 pub mod rows;
-pub mod settings;
-pub mod stopping;
-pub mod totals;
-pub mod trying;

@@ -17,6 +17,7 @@ impl<E: std::fmt::Debug> From<E> for Fail {
 }
 
 mod base;
+mod example_consumers;
 mod example_itertools;
 mod fallible_rows;
 mod laws;

@@ -2,9 +2,9 @@
 ghost use Rattle.std.specs.Prelude.{◌≡◌, ◌≢◌, ℕ, List, Err, Result, Some};
 ghost use Rattle.std.specs.Str.{IsUtf8};
 ghost use Rattle.fallible_iterator.specs.Lists.{Lists};
-ghost use Rattle.example_itertools.specs.Settings.{setting_of, settings_in, settings_of, with_line};
-ghost use Rattle.example_itertools.specs.declared.settings.BadLine.{BadLine};
-ghost use Rattle.example_itertools.specs.declared.settings.Setting.{Setting};
+ghost use Rattle.example_consumers.specs.Settings.{setting_of, settings_in, settings_of, with_line};
+ghost use Rattle.example_consumers.specs.declared.settings.BadLine.{BadLine};
+ghost use Rattle.example_consumers.specs.declared.settings.Setting.{Setting};
 
 use fallible_iterator::{FallibleIterator, convert_fused};
 use fallible_itertools::FallibleItertools;

@@ -6,12 +6,12 @@ use Rattle.fallible_iterator.specs.Lists.{folded, mapped, on_value, results}
 use Rattle.fallible_itertools.specs.OrElse.{recovered}
 use Rattle.fallible_itertools.specs.StopAfter.{stopped_after}
 use Rattle.program_io.specs.Numbers.{number_of}
-use Rattle.example_itertools.specs.declared.settings.BadLine.{BadLine}
-use Rattle.example_itertools.specs.declared.settings.NoSettings.{NoSettings}
-use Rattle.example_itertools.specs.declared.settings.NoSettings.TheVariants.{TooManyBad}
-use Rattle.example_itertools.specs.declared.settings.Setting.{Setting}
-use Rattle.example_itertools.specs.declared.settings.Setting.TheVariants.{Width, Height}
-use Rattle.example_itertools.specs.declared.settings.Settings.{Settings}
+use Rattle.example_consumers.specs.declared.settings.BadLine.{BadLine}
+use Rattle.example_consumers.specs.declared.settings.NoSettings.{NoSettings}
+use Rattle.example_consumers.specs.declared.settings.NoSettings.TheVariants.{TooManyBad}
+use Rattle.example_consumers.specs.declared.settings.Setting.{Setting}
+use Rattle.example_consumers.specs.declared.settings.Setting.TheVariants.{Width, Height}
+use Rattle.example_consumers.specs.declared.settings.Settings.{Settings}
 
 -- whether the byte is an equals sign
 abbrev pub is_equals : ℕ → Bool

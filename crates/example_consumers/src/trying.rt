@@ -3,7 +3,7 @@ ghost use Rattle.std.specs.Prelude.{◌≡◌, ◌-◌, ◌^◌, ℕ, eqb, List,
 ghost use Rattle.fallible_iterator.specs.Contract.{AtMost};
 ghost use Rattle.fallible_iterator.specs.Lists.{Lists, filtered, nth_of, results};
 ghost use Rattle.fallible_itertools.specs.Converting.{rest_try_true, try_each_done, try_found, try_position_in};
-ghost use Rattle.example_itertools.specs.declared.trying.Trouble.{Trouble};
+ghost use Rattle.example_consumers.specs.declared.trying.Trouble.{Trouble};
 
 use fallible_iterator::{FallibleIterator, convert};
 use fallible_itertools::FallibleItertools;
@@ -18,7 +18,7 @@ pub enum Trouble {
 }
 
 impl From<u8> for Trouble {
-    ghost use Rattle.example_itertools.specs.declared.trying.Trouble.TheVariants.{Failed};
+    ghost use Rattle.example_consumers.specs.declared.trying.Trouble.TheVariants.{Failed};
 
     ghost from_gives = { λ code why. why ≡ Failed code };
 

@@ -1,0 +1,2 @@
+-- What the clauses of `src/` cite.
+pub mod Settings
