@@ -1,5 +1,5 @@
-// What is drawn from both ends, and what from the back.
-ghost use Rattle.std.specs.Prelude.{◌≡◌, ℕ, ◌++◌, ◌∷◌, [], map, reverse, Some, None, Ok, Bool, List, Option, Result};
+// What is drawn from both ends.
+ghost use Rattle.std.specs.Prelude.{◌≡◌, ℕ, ◌++◌, ◌∷◌, [], map, reverse, Some, None, Ok, Bool, List, Result};
 ghost use Rattle.fallible_contract.specs.Contract.{Stays};
 ghost use Rattle.fallible_contract.specs.Ends.{from_front};
 ghost use Rattle.fallible_contract.specs.Traces.{Answered, Run, item};
@@ -8,13 +8,8 @@ ghost use Rattle.fallible_contract.specs.LawForm.{TracesAre};
 ghost use Rattle.fallible_contract.specs.Closures.{call_by_value, call_by_reference};
 ghost use Rattle.fallible_contract.specs.Lists.{Acts, rest_nth, result_answer};
 ghost use Rattle.fallible_contract.specs.BothEnds.{ListsBothEnds, RunAtEnds, step_at, from_side, Interleaves};
-ghost use Rattle.fallible_core.specs.OneToOne.Map.{mapped, MapTrace, map_parts};
-ghost use Rattle.fallible_core.specs.Filtering.Filter.{filtered, FilterTrace, filter_parts};
-ghost use Rattle.fallible_core.specs.OneToOne.Inspect.{InspectTrace, inspect_parts};
-ghost use Rattle.fallible_core.specs.OneToOne.Cloned.{ClonedTrace, cloned_parts};
-ghost use Rattle.fallible_core.specs.OneToOne.MapErr.{MapErrTrace, map_err_parts};
-ghost use Rattle.fallible_core.specs.Filtering.FilterMap.{FilterMapTrace, filter_map_parts};
-ghost use Rattle.fallible_core.specs.Joining.Chain.{chain_back, chain_parts, ChainTrace};
+ghost use Rattle.fallible_core.specs.OneToOne.Map.{mapped, map_parts};
+ghost use Rattle.fallible_core.specs.Filtering.Filter.{filtered, filter_parts};
 ghost use Rattle.fallible_core.specs.Ends.Rev.{rev_parts};
 ghost use Rattle.fallible_iterator.specs.Listing.{DrawsInterleave, DrawsTheSame, ListsAtEachEnd, ListsTheSame};
 ghost use Rattle.fallible_contract.specs.declared.answers.Side.{Side};
@@ -22,14 +17,10 @@ ghost use Rattle.fallible_contract.specs.declared.answers.Side.TheVariants.{Fron
 
 use super::listed::{law_listed_each, law_listed_filter, law_listed_map, law_listed_rev};
 use fallible_core::ends::Rev;
-use fallible_core::filtering::{Filter, FilterMap};
-use fallible_core::joining::Chain;
-use fallible_core::one_to_one::{Cloned, Inspect, Map, MapErr};
+use fallible_core::filtering::Filter;
+use fallible_core::one_to_one::Map;
 use fallible_core::traits::FallibleIterator;
 use fallible_core::traits::double_ended::DoubleEndedFallibleIterator;
-use std::alloc::AllocError;
-
-// ---- draws from both ends
 
 /// The law of interleaving, of every type with two ends, and so of every nest of adapters: of draws from both ends of a value that lists l, what came from the front, what is left, and what came from the back, reversed, make l; and `Ok(None)` was returned only where nothing was left.
 pub fn law_interleave<I: DoubleEndedFallibleIterator>()
@@ -112,16 +103,6 @@ pub fn law_after_front<I: DoubleEndedFallibleIterator>()
         → ListsBothEnds I.contract.steps I.ends.steps t (rest_nth n l) }
 {}
 
-// ---- traces from the back
-
-/// A trace of `Rev` is one of its source from the back, and a trace of it from the back one of its source.
-pub fn law_rev<I: DoubleEndedFallibleIterator>()
-    ensures front { TracesAre rev_parts ⟦<Rev<I> as FallibleIterator>⟧.contract.steps
-        (Run I.ends.steps) }
-    ensures back { TracesAre rev_parts ⟦<Rev<I> as DoubleEndedFallibleIterator>⟧.ends.steps
-        (Run I.contract.steps) }
-{}
-
 /// A `Rev` of a `Rev` is its source: a trace of it from either end is one of its source from that end, draws of it from both ends, in any order, are draws of its source, and it lists just what its source lists.
 pub fn law_rev_rev<I: DoubleEndedFallibleIterator>()
     ensures front { TracesAre (λ s. rev_parts (rev_parts s))
@@ -136,70 +117,4 @@ pub fn law_rev_rev<I: DoubleEndedFallibleIterator>()
         (ListsBothEnds I.contract.steps I.ends.steps)
         (ListsBothEnds ⟦<Rev<Rev<I>> as FallibleIterator>⟧.contract.steps
         ⟦<Rev<Rev<I>> as DoubleEndedFallibleIterator>⟧.ends.steps) }
-{}
-
-/// From the back the answers of `Map` are the source's from the back, with the closure's result in each item's place.
-pub fn law_back_map<I: DoubleEndedFallibleIterator, B, F: FnMut(I::Item) -> Result<B, I::Error>>()
-where
-    ensures { TracesAre map_parts ⟦<Map<I, F> as DoubleEndedFallibleIterator>⟧.ends.steps
-        (MapTrace I.ends.steps F.FnMut) }
-{}
-
-/// From the back the answers of `Inspect` are the source's from the back, with the closure's failure in the place of each item on which it failed.
-pub fn law_back_inspect<
-    I: DoubleEndedFallibleIterator,
-    F: FnMut(&I::Item) -> Result<(), I::Error>,
->()
-where
-    I::Item: Drop,
-    ensures { TracesAre inspect_parts ⟦<Inspect<I, F> as DoubleEndedFallibleIterator>⟧.ends.steps
-        (InspectTrace I.ends.steps F.FnMut) }
-{}
-
-/// From the back the answers of `MapErr` are the source's from the back, with the closure's result in each failure's place.
-pub fn law_back_map_err<I: DoubleEndedFallibleIterator, B, F: FnMut(I::Error) -> B>()
-where
-    ensures { TracesAre map_err_parts ⟦<MapErr<I, F> as DoubleEndedFallibleIterator>⟧.ends.steps
-        (MapErrTrace I.ends.steps (call_by_value F.FnMut)) }
-{}
-
-/// A trace of `Chain` from the back is one from the front with the sides swapped, both drawn from the back: the second's up to its first `Ok(None)`, and from the draw that meets it on the first's.
-pub fn law_back_chain<
-    T: DoubleEndedFallibleIterator,
-    U: DoubleEndedFallibleIterator<Item = T::Item, Error = T::Error>,
->()
-    ensures { TracesAre (λ s. chain_back (chain_parts s))
-        ⟦<Chain<T, U> as DoubleEndedFallibleIterator>⟧.ends.steps
-        (ChainTrace U.ends.steps T.ends.steps) }
-{}
-
-/// From the back the answers of `Cloned` are the source's from the back, with a clone in each item's place, or the failure converted from its `AllocError`.
-pub fn law_back_cloned<'a, T: Clone + 'a, I: DoubleEndedFallibleIterator<Item = &'a T>>()
-where
-    I::Error: From<AllocError>,
-    ensures { TracesAre cloned_parts ⟦<Cloned<I> as DoubleEndedFallibleIterator>⟧.ends.steps
-        (ClonedTrace T.is_clone T.is_infallible I.Error.from_gives I.ends.steps) }
-{}
-
-/// From the back the answers of `Filter` are the source's from the back without the rejected items, with the predicate's failure in the place of each item on which it failed.
-pub fn law_back_filter<
-    I: DoubleEndedFallibleIterator,
-    F: FnMut(&I::Item) -> Result<bool, I::Error>,
->()
-where
-    I::Item: Drop,
-    ensures { TracesAre filter_parts ⟦<Filter<I, F> as DoubleEndedFallibleIterator>⟧.ends.steps
-        (FilterTrace I.ends.steps F.FnMut) }
-{}
-
-/// From the back the answers of `FilterMap` are the source's from the back without the items for which the closure returns `None`, with the closure's value or failure in each other item's place.
-pub fn law_back_filter_map<
-    I: DoubleEndedFallibleIterator,
-    B,
-    F: FnMut(I::Item) -> Result<Option<B>, I::Error>,
->()
-where
-    ensures { TracesAre filter_map_parts
-        ⟦<FilterMap<I, F> as DoubleEndedFallibleIterator>⟧.ends.steps
-        (FilterMapTrace I.ends.steps F.FnMut) }
 {}

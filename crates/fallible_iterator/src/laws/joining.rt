@@ -1,63 +1,19 @@
-// The whole-trace laws of the adapters that join sources.
+// What is finite and listed of the adapters that join inner iterators or rounds.
 ghost use Rattle.std.specs.Prelude.{◌≡◌, ℕ, IfSome, List, ◌∷◌, Option, Result};
-ghost use Rattle.fallible_contract.specs.LawForm.{TracesAre};
 ghost use Rattle.fallible_contract.specs.Lists.{Lists, items};
 ghost use Rattle.fallible_core.specs.Cutting.Take.{take_parts};
-ghost use Rattle.fallible_core.specs.Joining.Chain.{chain_parts, ChainTrace};
-ghost use Rattle.fallible_core.specs.Joining.Cycle.{cycle_parts, cycle_kept, cycle_source, CycleTrace};
-ghost use Rattle.fallible_core.specs.Joining.FlatMap.{flat_map_parts, flat_map_mapped, flat_map_source, flat_map_inner};
-ghost use Rattle.fallible_core.specs.Joining.Flatten.{flatten_parts, flatten_source, flatten_inner, FlattenTrace};
-ghost use Rattle.fallible_core.specs.Joining.Zip.{zip_parts, ZipTrace};
+ghost use Rattle.fallible_core.specs.Joining.Cycle.{cycle_kept, cycle_source};
+ghost use Rattle.fallible_core.specs.Joining.FlatMap.{flat_map_mapped, flat_map_source, flat_map_inner};
+ghost use Rattle.fallible_core.specs.Joining.Flatten.{flatten_source, flatten_inner};
 ghost use Rattle.fallible_core.specs.Refusing.{ListsUntilRefused};
 ghost use Rattle.fallible_iterator.specs.Cycled.{cycled};
 
 use fallible_core::cutting::Take;
-use fallible_core::joining::{Chain, Cycle, FlatMap, Flatten, Zip};
+use fallible_core::joining::{Cycle, FlatMap, Flatten};
 use fallible_core::one_to_one::Map;
 use fallible_core::traits::FallibleIterator;
 use fallible_core::traits::conversion::IntoFallibleIterator;
 use std::alloc::AllocError;
-
-/// A trace of `Chain` is the first's up to its first `Ok(None)`, and from the draw that meets it on the second's; if one side alone is still drawn, it is that side's.
-pub fn law_chain<T: FallibleIterator, U: FallibleIterator<Item = T::Item, Error = T::Error>>()
-    ensures { TracesAre chain_parts ⟦<Chain<T, U> as FallibleIterator>⟧.contract.steps
-        (ChainTrace T.contract.steps U.contract.steps) }
-{}
-
-/// A trace of `Zip` has an answer for each answer of the left's trace. The left's failure takes no draw of the right. Otherwise it is the right's failure, the pair of two items, or `Ok(None)`.
-pub fn law_zip<T: FallibleIterator, U: FallibleIterator<Error = T::Error>>()
-where
-    T::Item: Drop,
-    U::Item: Drop,
-    ensures { TracesAre zip_parts ⟦<Zip<T, U> as FallibleIterator>⟧.contract.steps
-        (ZipTrace T.contract.steps U.contract.steps) }
-{}
-
-/// A trace of `Flatten` joins the answers of the inner iterators, each up to its `Ok(None)`, and the outer source's failures and `Ok(None)`s. The last inner iterator stays the current one, if its `Ok(None)` was not drawn.
-pub fn law_flatten<U: IntoFallibleIterator, I: FallibleIterator<Item = U, Error = U::Error>>()
-    ensures { TracesAre flatten_parts ⟦<Flatten<I> as FallibleIterator>⟧.contract.steps
-        (FlattenTrace I.contract.steps U.into_gives U.IntoFallibleIter.contract.steps) }
-{}
-
-/// A trace of `FlatMap` is one of a `Flatten` over the `Map` of its closure.
-pub fn law_flat_map<
-    I: FallibleIterator,
-    U: IntoFallibleIterator<Error = I::Error>,
-    F: FnMut(I::Item) -> Result<U, I::Error>,
->()
-where
-    ensures { TracesAre flat_map_parts ⟦<FlatMap<I, U, F> as FallibleIterator>⟧.contract.steps
-        (FlattenTrace ⟦<Map<I, F> as FallibleIterator>⟧.contract.steps U.into_gives
-        U.IntoFallibleIter.contract.steps) }
-{}
-
-/// A trace of `Cycle` is laps: the answers of one run up to its `Ok(None)`, which is not returned, and then those of a fresh clone. If a clone fails, its failure is the answer, and the next lap goes on over the same run. The kept source stays.
-pub fn law_cycle<I: FallibleIterator + Clone>()
-where
-    I::Error: From<AllocError>,
-    ensures { TracesAre cycle_parts ⟦<Cycle<I> as FallibleIterator>⟧.contract.steps
-        (CycleTrace I.is_clone I.is_infallible I.Error.from_gives I.contract.steps) }
-{}
 
 /// The first n answers of a `Cycle` of items: those of one round after another. It requires that the clone of the kept source doesn't fail, and that each clone lists the same items.
 pub fn law_cycle_taken<I: FallibleIterator + Clone>()

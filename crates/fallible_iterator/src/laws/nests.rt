@@ -1,15 +1,17 @@
-// The headline of a nest of adapters, with the definition of each written out.
-ghost use Rattle.std.specs.Prelude.{Result, Option, List, ◌↔◌};
+// The headline of two nests of adapters, with the definition of each type written out.
+ghost use Rattle.std.specs.Prelude.{Result, Option, List, [], ◌↔◌};
 ghost use Rattle.std.specs.Borrow.{Bor};
-ghost use Rattle.fallible_contract.specs.Traces.{Answered, Run};
+ghost use Rattle.fallible_contract.specs.Traces.{Answered, Run, first_of};
 ghost use Rattle.fallible_contract.specs.Closures.{call_by_value, call_by_reference};
 ghost use Rattle.fallible_contract.specs.Passing.{passes_all};
-ghost use Rattle.fallible_core.specs.OneToOne.Map.{map_outcome, map_parts};
-ghost use Rattle.fallible_core.specs.Filtering.Filter.{tested_outcome, filter_parts};
+ghost use Rattle.fallible_core.specs.OneToOne.Map.{map_outcome, map_parts, map_source, map_closure, MapTrace};
+ghost use Rattle.fallible_core.specs.Filtering.Filter.{tested_outcome, filter_parts, filter_source, filter_predicate, FilterTrace};
 ghost use Rattle.fallible_core.specs.Cutting.Take.{take_parts, takes_all};
 ghost use Rattle.fallible_core.specs.Cutting.Fuse.{fuse_parts, fuses_all};
 ghost use Rattle.fallible_core.specs.Joining.Chain.{chain_parts, chains_all};
+ghost use Rattle.fallible_iterator.specs.Sources.Convert.{ConvertTrace, convert_parts};
 
+use crate::sources::Convert;
 use fallible_core::cutting::{Fuse, Take};
 use fallible_core::filtering::Filter;
 use fallible_core::headline::law_headline;
@@ -40,4 +42,29 @@ pub fn law_nest<
         (fuse_parts s) trace (fuse_parts t) }
 {
     law_headline::<Fuse<Chain<Take<Map<Filter<I, P>, F>>, U>>>();
+}
+
+/// The headline of `convert(it).map(f).filter(p)`, over every std iterator, with its lists written out. Read from the outside: what it returns is what `filter` makes of `made`, which is what `map` makes of `drawn`, which is what the std iterator returns.
+pub fn law_nest_of_three<
+    T,
+    E,
+    I: std::iter::Iterator<Item = Result<T, E>>,
+    B: Drop,
+    F: FnMut(T) -> Result<B, E>,
+    P: FnMut(&B) -> Result<bool, E>,
+>()
+    ensures { (s : Filter (Map (Convert I) F) P) (trace : List (Answered B E))
+        (t : Filter (Map (Convert I) F) P)
+        → Run ⟦<Filter<Map<Convert<I>, F>, P> as FallibleIterator>⟧.contract.steps s trace t
+        ↔ (made : List (Answered B E))
+        × ((drawn : List (Answered T E))
+        × ConvertTrace I.can_next I.next_gives I.remaining
+        (convert_parts (map_source (filter_source s))) drawn
+        (convert_parts (map_source (filter_source t)))
+        × MapTrace first_of F.FnMut (drawn, map_closure (filter_source s)) made
+        ([], map_closure (filter_source t)))
+        × FilterTrace first_of P.FnMut (made, filter_predicate s) trace
+        ([], filter_predicate t) }
+{
+    law_headline::<Filter<Map<Convert<I>, F>, P>>();
 }

@@ -1,20 +1,17 @@
-// The whole-trace law of the adapter that looks ahead.
+// What the adapter that looks ahead lists.
 ghost use Rattle.std.specs.Prelude.{◌≡◌, List, [], Option, Result, Some, None};
 ghost use Rattle.fallible_contract.specs.BothEnds.{ListsBothEnds};
-ghost use Rattle.fallible_contract.specs.LawForm.{TracesAre};
 ghost use Rattle.fallible_contract.specs.Lists.{Lists};
-ghost use Rattle.fallible_core.specs.Peeking.Peekable.{peekable_parts, PeekableTrace, held_then, peekable_held, peekable_source};
+ghost use Rattle.fallible_core.specs.Peeking.Peekable.{held_then, peekable_held, peekable_source};
 
 use fallible_core::peeking::Peekable;
 use fallible_core::traits::FallibleIterator;
 use fallible_core::traits::double_ended::DoubleEndedFallibleIterator;
 
-/// A trace of `Peekable` is what is buffered, an item or an `Ok(None)`, if there is something, and then the source's trace; nothing is buffered then. Without draws nothing changes. Over a source that lists l it lists l after what is buffered.
+/// Over a source that lists l `Peekable` lists l after what is buffered: an item, an `Ok(None)`, or nothing.
 pub fn law_peekable<I: FallibleIterator>()
 where
     I::Item: Drop,
-    ensures traces { TracesAre peekable_parts ⟦<Peekable<I> as FallibleIterator>⟧.contract.steps
-        (PeekableTrace I.contract.steps) }
     ensures lists { (s : Peekable I I.Item I.Error) (l : List (Result I.Item I.Error))
         → Lists I.contract.steps (peekable_source s) l
         → Lists ⟦<Peekable<I> as FallibleIterator>⟧.contract.steps s
