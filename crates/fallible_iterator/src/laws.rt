@@ -7,6 +7,7 @@ mod cutting;
 mod draws;
 mod ends;
 mod filtering;
+mod for_good;
 pub mod hints;
 mod joining;
 mod listed;
@@ -30,6 +31,7 @@ pub use ends::{
 pub use fallible_contract::answers::{Answer, Side};
 pub use fallible_core::headline::{law_headline, law_headline_back};
 pub use filtering::{law_filter, law_filter_map, law_skip_while};
+pub use for_good::{law_take_for_good, law_take_while_for_good};
 pub use joining::{
     law_chain, law_cycle, law_cycle_taken, law_cycle_until_refused, law_flat_map,
     law_flat_map_finite, law_flatten, law_flatten_finite, law_zip,
