@@ -11,7 +11,7 @@ ghost use Rattle.fallible_core.specs.Cutting.TakeWhile.{take_while_parts, take_w
 use fallible_core::cutting::{Take, TakeWhile};
 use fallible_core::traits::FallibleIterator;
 
-/// After its n-th item a `Take` returns `Ok(None)` at each call, whatever its source does. So it lists the first n items and the failures before the last of them, fused, if its source lists n items, or is fused. After an `Ok(None)` of the source that comes earlier it draws the source again.
+/// After its n-th item a `Take` returns `Ok(None)` at each call, whatever its source does. So what it lists (`taken`) is fused, if its source lists n items or is fused. After an `Ok(None)` of the source that comes earlier it draws the source again.
 pub fn law_take_for_good<I: FallibleIterator>(s: &Take<I>)
     ensures after_nth { (trace : List (Answered I.Item I.Error)) (t : Take I)
         → Run ⟦<Take<I> as FallibleIterator>⟧.contract.steps s.now trace t
@@ -26,7 +26,7 @@ pub fn law_take_for_good<I: FallibleIterator>(s: &Take<I>)
         → ListsForGood ⟦<Take<I> as FallibleIterator>⟧.contract.steps s.now (taken n l) }
 {}
 
-/// After an item that its predicate rejects a `TakeWhile` returns `Ok(None)` at each call, whatever its source does. So it lists what stands before that item, fused, if the predicate rejects an item that its source lists, or if its source is fused. After an `Ok(None)` of the source that comes earlier it draws the source again.
+/// After an item that its predicate rejects a `TakeWhile` returns `Ok(None)` at each call, whatever its source does. So what it lists (`taken_while`) is fused, if its source lists an item that the predicate rejects, or is fused. After an `Ok(None)` of the source that comes earlier it draws the source again.
 pub fn law_take_while_for_good<I: FallibleIterator, P: FnMut(&I::Item) -> Result<bool, I::Error>>(
     s: &TakeWhile<I, P>,
 )
