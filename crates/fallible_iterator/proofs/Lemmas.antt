@@ -5,6 +5,7 @@ pub mod ComparedRepeats
 pub mod Comparing
 pub mod Cycled
 pub mod Ends
+pub mod ForGood
 pub mod Gathered
 pub mod Hints
 pub mod Lent

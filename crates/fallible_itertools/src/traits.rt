@@ -626,6 +626,8 @@ pub trait FallibleItertools: FallibleIterator {
     ///
     /// Memory: that failure is a `Fault::Source`. It also stops at an item that no item before equals, if room for it can't be allocated. Then it fails with `Fault::Memory`.
     ///
+    /// Proof: at that failure the clause `searched` says that a set of just the items before has no room that is spare.
+    ///
     /// ```
     /// let mut it = convert([Ok::<u32, u8>(7), Ok(150), Ok(7), Ok(8)].into_iter());
     /// assert!(rt; !it.all_unique(rt.alloc())?);

@@ -1,6 +1,6 @@
 -- Whether no two items are equal.
 use Rattle.std.specs.Prelude.{◌≡◌, Bool, true, false, Option, Some, None, Result, Ok, Err, List, [], ◌∷◌, ⊤}
-use Rattle.std.specs.HashSet.{HashSet, Updates, contains, spare}
+use Rattle.std.specs.HashSet.{HashSet, IsFromIterResult, IsUnique, Updates, contains, spare}
 use Rattle.std.specs.Set.{is_member}
 use Rattle.fallible_iterator.specs.Traces.{Answered}
 use Rattle.fallible_iterator.specs.Fault.{Fault}
@@ -8,13 +8,15 @@ use Rattle.fallible_iterator.specs.Fault.TheVariants.{Memory, Source}
 use Rattle.fallible_iterator.specs.Folds.{Drained}
 use Rattle.fallible_iterator.specs.Lists.{stopped_or}
 use Rattle.std.specs.declared.alloc.AllocError.{AllocError}
+use Rattle.std.specs.declared.hash.BuildHasherDefault.{BuildHasherDefault}
+use Rattle.std.specs.declared.hash.FoldHasher.{FoldHasher}
 use Rattle.std.specs.declared.ops.ControlFlow.{ControlFlow}
 use Rattle.std.specs.declared.ops.ControlFlow.TheVariants.{Break, Continue}
 
 module _ {A S : Type 0} (eq : A → A → Bool) where
-  -- An item that equals none of the set's is in the set then; or the turn stops with an `AllocError`, where the set has no room that is spare.
+  -- An item that equals none of the set's is in the set then, of which no two are equal; or the turn stops with an `AllocError`, where the set has no room that is spare.
   abbrev pub unseen_turn : HashSet A S → A → ControlFlow (Option AllocError) (Unit {0}) → HashSet A S → Type 0
-  unseen_turn seen x (Continue u) more = Updates eq seen more x true
+  unseen_turn seen x (Continue u) more = Updates eq seen more x true × IsUnique eq more
   unseen_turn seen x (Break None) more = ⊥
   unseen_turn seen x (Break (Some a)) more = spare seen ≡ 0
 
@@ -36,19 +38,23 @@ unique_or_fault_of (Err e) = Err (Source e)
 
 -- ---- what it draws
 
--- The result at the item that was drawn last: false if it equals one before it, and otherwise room for it couldn't be allocated.
-abbrev pub UniqueStop : {E : Type 0} → Bool → Result Bool (Fault E) → Type 0
-UniqueStop true r = r ≡ Ok false
-UniqueStop false r = (a : AllocError) × (r ≡ Err (Memory a))
+-- A set of just the items seen has no room that is spare.
+abbrev pub HasNoneSpare : {A : Type 0} → (A → A → Bool) → List A → Type 0
+HasNoneSpare {A} eq seen = (set : HashSet A (BuildHasherDefault FoldHasher)) × IsFromIterResult eq seen set × (spare set ≡ 0)
+
+-- The result at the item that was drawn last: false if it equals one of those seen. Otherwise room for it couldn't be allocated, where the set of those seen has none that is spare.
+abbrev pub UniqueStop : {A E : Type 0} → (A → A → Bool) → List A → Bool → Result Bool (Fault E) → Type 0
+UniqueStop eq seen true r = r ≡ Ok false
+UniqueStop eq seen false r = (a : AllocError) × (r ≡ Err (Memory a)) × HasNoneSpare eq seen
 
 -- The items equal none of those seen and none before them. The result is by the last answer: true at an end; the failure; or `UniqueStop` of an item.
 abbrev pub UniqueExit : {A E : Type 0} → (A → A → Bool) → List A → List A → Answered A E → Result Bool (Fault E) → Type 0
 UniqueExit eq seen [] (Ok None) r = r ≡ Ok true
 UniqueExit eq seen [] (Err e) r = r ≡ Err (Source e)
-UniqueExit eq seen [] (Ok (Some x)) r = UniqueStop (is_member eq seen x) r
+UniqueExit eq seen [] (Ok (Some x)) r = UniqueStop eq seen (is_member eq seen x) r
 UniqueExit eq seen (x ∷ items) last r = (is_member eq seen x ≡ false) × UniqueExit eq (x ∷ seen) items last r
 
--- The draws from s up to an end, a failure, an item that equals one before it, or one that there was no room for, returned r and left t.
+-- The draws from s up to an end, a failure, an item that equals one before it, or one that there was no room for in the set of those before it, returned r and left t.
 abbrev pub AllUniqueDrains : {S A E : Type 0} → (A → A → Bool) → (S → Answered A E → S → Type 0) → S → Result Bool (Fault E) → S → Type 0
 AllUniqueDrains eq steps s r t = Drained steps (λ items last. UniqueExit eq [] items last r) s t
 

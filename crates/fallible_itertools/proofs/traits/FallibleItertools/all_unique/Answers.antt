@@ -4,7 +4,7 @@ use Rattle.fallible_itertools_consumers.proofs.Lemmas.AllUnique.{all_unique_drai
 use Rattle.fallible_itertools.proofs.traits.FallibleItertools.all_unique.Goals as goal
 
 pub returns-clause-searched : goal.returns-clause-searched
-returns-clause-searched g c = all_unique_drains_by_fold g.Self.Item.PartialEq.eq g.met.Self.Item.Eq.laws c.new-seen.ensures.empty c.drive-answer.ensures c.unique_or_fault.ensures
+returns-clause-searched g c = all_unique_drains_by_fold g.Self.Item.PartialEq.eq g.met.Self.Item.Eq.laws c.new-seen.ensures.empty c.new-seen.ensures.unique c.drive-answer.ensures c.unique_or_fault.ensures
 
 pub returns-clause-value : goal.returns-clause-value
 returns-clause-value g c l i = all_unique_of_lists g.Self.Item.PartialEq.eq l (returns-clause-searched g c) i
