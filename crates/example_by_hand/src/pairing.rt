@@ -1,12 +1,16 @@
 //! An adapter of one's own that draws two items for one.
-ghost use Rattle.std.specs.Prelude.{◌≡◌, ℕ, ◌+◌, ◌-◌, ◌%◌, ◌^◌, ◌<◌, List, Result, Ok};
+ghost use Rattle.std.specs.Prelude.{◌≡◌, ◌↔◌, ℕ, ◌+◌, ◌-◌, ◌%◌, ◌^◌, ◌<◌, List, [], Option, Result, Bool, Ok};
+ghost use Rattle.std.specs.Borrow.{Bor};
 ghost use Rattle.fallible_iterator.specs.Contract.{AtMost};
+ghost use Rattle.fallible_iterator.specs.Filtering.Filter.{FilterTrace, filter_predicate, filter_source};
 ghost use Rattle.fallible_iterator.specs.Laws.Own.{lawful_gathering};
 ghost use Rattle.fallible_iterator.specs.Lists.{Lists, counted, folded, mapped};
-ghost use Rattle.fallible_iterator.specs.Own.{gathering};
+ghost use Rattle.fallible_iterator.specs.Own.{Gathers, gathering};
+ghost use Rattle.fallible_iterator.specs.Traces.{Answered, Run, first_of};
 ghost use Rattle.example_by_hand.specs.Pairs.{MakesPair, paired};
 
-use fallible_iterator::FallibleIterator;
+use fallible_iterator::laws::law_headline;
+use fallible_iterator::{FallibleIterator, Filter, Map};
 
 /// The items two by two. The first of two is dropped if an `Ok(None)` or a failure comes after it.
 #[derive(Drop)]
@@ -85,4 +89,24 @@ where
             0,
             |sum: u64, both: u32| Ok(sum.wrapping_add(u64::from(both))),
         )
+}
+
+/// The headline of `Pairs::new(source.map(f)).filter(p)`, a nest with a type of one's own in the middle, over every source. Read from the outside: what it returns is what `filter` makes of `pairs`, and each of these is what `MakesPair` makes of one draw of the `Map` or of two.
+pub fn law_nest_around_pairs<
+    I: FallibleIterator,
+    B: Drop,
+    F: FnMut(I::Item) -> Result<B, I::Error>,
+    P: FnMut(&(B, B)) -> Result<bool, I::Error>,
+>()
+where
+    ensures { (s : Filter (Pairs (Map I F)) P) (trace : List (Answered (B × B) I.Error))
+        (t : Filter (Pairs (Map I F)) P)
+        → Run ⟦<Filter<Pairs<Map<I, F>>, P> as FallibleIterator>⟧.contract.steps s trace t
+        ↔ (pairs : List (Answered (B × B) I.Error))
+        × Run (λ u r v. Gathers ⟦<Map<I, F> as FallibleIterator>⟧.contract.steps
+        MakesPair u.it r v.it) (filter_source s) pairs (filter_source t)
+        × FilterTrace first_of P.FnMut (pairs, filter_predicate s) trace
+        ([], filter_predicate t) }
+{
+    law_headline::<Filter<Pairs<Map<I, F>>, P>>();
 }

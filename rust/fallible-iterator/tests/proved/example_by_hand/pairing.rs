@@ -1,7 +1,7 @@
 use crate::Fail;
 use fallible_iterator::memory::AllocError;
 
-use fallible_iterator::FallibleIterator;
+use fallible_iterator::{FallibleIterator, Filter, Map};
 
 /// The items two by two. The first of two is dropped if an `Ok(None)` or a failure comes after it.
 pub struct Pairs<I> {
@@ -49,4 +49,13 @@ pub fn sum_of_pairs<I: FallibleIterator<Item = u32>>(it: I) -> Result<u64, I::Er
         .fold(0, |sum: u64, both: u32| {
             Ok(sum.wrapping_add(u64::from(both)))
         })
+}
+
+/// The headline of `Pairs::new(source.map(f)).filter(p)`, a nest with a type of one's own in the middle, over every source. Read from the outside: what it returns is what `filter` makes of `pairs`, and each of these is what `MakesPair` makes of one draw of the `Map` or of two.
+pub fn law_nest_around_pairs<
+    I: FallibleIterator,
+    B,
+    F: FnMut(I::Item) -> Result<B, I::Error>,
+    P: FnMut(&(B, B)) -> Result<bool, I::Error>,
+>() {
 }
