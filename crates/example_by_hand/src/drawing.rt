@@ -2,7 +2,7 @@
 ghost use Rattle.std.specs.Prelude.{◌≡◌, ◌+◌, ◌*◌, ◌%◌, ◌^◌, ℕ, List, [], ◌∷◌, Result, Option, Ok, Err, Some, None, false, min, nat_lt};
 ghost use Rattle.fallible_iterator.specs.Lists.{Lists, rest_first, rest_nth, chained, filtered, first_if, folded, items, look_of, mapped, nth_of, on_value, results, taken, taken_while, zipped, rest_look};
 
-use fallible_iterator::laws::{law_next, law_peek};
+use fallible_iterator::laws::{law_next, law_peek, law_take_for_good, law_take_while_for_good};
 use fallible_iterator::{FallibleIterator, Peekable, convert};
 
 /// The third of the doubled readings above 100 among the first ten, or the failure of a draw before. No clause says what it returns if there are fewer than two.
@@ -343,4 +343,27 @@ where
         return Ok(None);
     };
     Ok(Some(*item > 100))
+}
+
+/// What the third draw of `take(1)` returns, if the first reading is no failure: `None`, also if more readings come. The law says that it is fused.
+pub fn drawn_past_one(readings: Vec<Result<u32, u8>>) -> Result<Option<u32>, u8>
+    ensures { (x : ℕ) (rest : List (Result ℕ ℕ)) → results readings.items ≡ Ok x ∷ rest
+        → result ≡ Ok None }
+{
+    let mut one = convert(readings.into_iter()).take(1);
+    law_take_for_good(&one);
+    let _ = one.draw();
+    let _ = one.draw();
+    one.draw()
+}
+
+/// What the second draw of the readings before the first that is at least 100 returns, if that is the first of all: `None`, also if lower ones come. The law says that they are fused.
+pub fn drawn_past_high(readings: Vec<Result<u32, u8>>) -> Result<Option<u32>, u8>
+    ensures { (x : ℕ) (rest : List (Result ℕ ℕ)) → results readings.items ≡ Ok x ∷ rest
+        → nat_lt x 100 ≡ false → result ≡ Ok None }
+{
+    let mut low = convert(readings.into_iter()).take_while(|reading| Ok(*reading < 100));
+    law_take_while_for_good(&low);
+    let _ = low.draw();
+    low.draw()
 }
