@@ -13,6 +13,7 @@ pub mod Duplicates
 pub mod ErrInto
 pub mod FuseAtFailure
 pub mod Holding
+pub mod HoldingTraces
 pub mod InspectErr
 pub mod Interleave
 pub mod Intersperse
