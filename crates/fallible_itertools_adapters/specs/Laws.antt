@@ -24,6 +24,7 @@ pub mod MergeJoinBy
 pub mod OrElse
 pub mod PadUsing
 pub mod Parting
+pub mod PartingTraces
 pub mod PeekingTakeWhile
 pub mod Positions
 pub mod Sides
