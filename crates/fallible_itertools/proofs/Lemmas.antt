@@ -41,7 +41,6 @@ pub use Rattle.fallible_itertools_adapters.proofs.Lemmas.OrElse
 pub use Rattle.fallible_itertools_adapters.proofs.Lemmas.PadUsing
 pub use Rattle.fallible_itertools_adapters.proofs.Lemmas.Parting
 pub use Rattle.fallible_itertools_adapters.proofs.Lemmas.PartingHints
-pub use Rattle.fallible_itertools_adapters.proofs.Lemmas.PartingTraces
 pub use Rattle.fallible_itertools_adapters.proofs.Lemmas.PeekingTakeWhile
 pub use Rattle.fallible_itertools_adapters.proofs.Lemmas.Positions
 pub use Rattle.fallible_itertools_adapters.proofs.Lemmas.RunCounts

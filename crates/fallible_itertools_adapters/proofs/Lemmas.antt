@@ -41,7 +41,6 @@ pub mod OrElse
 pub mod PadUsing
 pub mod Parting
 pub mod PartingHints
-pub mod PartingTraces
 pub mod PeekingTakeWhile
 pub mod Positions
 pub mod RunCounts

@@ -4,7 +4,7 @@ use Rattle.std.specs.Fn.{Mut}
 use Rattle.std.specs.Borrow.{Bor}
 use Rattle.fallible_iterator.specs.Closures.{IsCallable, call_by_reference, takes_by_reference}
 use Rattle.fallible_iterator.specs.Traces.{Answered}
-use Rattle.fallible_iterator.specs.Contract.{Contract}
+use Rattle.fallible_iterator.specs.Contract.{Contract, Inverse}
 use Rattle.fallible_itertools_adapters.specs.Batch.{Grown, NoRoom, SameHeld, IsRefusal}
 use Rattle.fallible_itertools_adapters.specs.Holding.{HoldingTrace, OrStop, holding_contract, held_one, one_at_least}
 use Rattle.fallible_iterator.specs.Outcome.{Outcome}
@@ -13,6 +13,7 @@ use Rattle.std.specs.declared.vec.Vec.{Vec}
 use Rattle.std.specs.declared.alloc.Global.{Global}
 use Rattle.std.specs.declared.alloc.AllocError.{AllocError}
 use Rattle.fallible_itertools_adapters.specs.declared.chunk_by.ChunkBy.{ChunkBy}
+use Rattle.std.proofs.Common.{refl}
 
 -- a key and the items of it that came one after another
 abbrev pub Group : Type 0 → Type 0 → Type 0
@@ -117,3 +118,7 @@ chunk_by_due s = s.stage.1
 -- the source, beside the key's closure the group that is held, and the stop that is due
 abbrev pub chunk_by_parts : {I K F A E : Type 0} → ChunkBy I K F A E → I × ((F × Option (Group K A)) × Option (Option E))
 chunk_by_parts s = (s.it, s.stage)
+
+-- and back
+pub chunk_by_made : {I K F A E : Type 0} → Inverse (chunk_by_parts {I = I} {K = K} {F = F} {A = A} {E = E})
+chunk_by_made = record { make = λ p. record { it = p.0; alloc = record { memory = record { seal = tt } }; stage = p.1 }; made = λ s. refl; has = λ p. refl }

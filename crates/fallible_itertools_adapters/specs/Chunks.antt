@@ -1,7 +1,7 @@
 -- `Chunks`, which yields batches of n items.
 use Rattle.std.specs.Prelude.{◌≡◌, ℕ, ◌+◌, ◌-◌, ◌/◌, ◌<◌, ◌≤◌, max, cond, leb, Bool, true, false, Option, Some, None, Result, Ok, Err, List, [], ◌∷◌, ◌++◌, length, ltb, ⊤, vec_items}
 use Rattle.fallible_iterator.specs.Traces.{Answered}
-use Rattle.fallible_iterator.specs.Contract.{Contract}
+use Rattle.fallible_iterator.specs.Contract.{Contract, Inverse}
 use Rattle.fallible_itertools_adapters.specs.Batch.{Grown, NoRoom, SameHeld, IsRefusal}
 use Rattle.fallible_iterator.specs.Hints.{fitting_sum}
 use Rattle.fallible_itertools_adapters.specs.Holding.{HintUnlessEnd, HoldingTrace, filling_contract, held_one}
@@ -11,6 +11,7 @@ use Rattle.std.specs.declared.vec.Vec.{Vec}
 use Rattle.std.specs.declared.alloc.Global.{Global}
 use Rattle.std.specs.declared.alloc.AllocError.{AllocError}
 use Rattle.fallible_itertools_adapters.specs.declared.chunks.Chunks.{Chunks}
+use Rattle.std.proofs.Common.{refl}
 
 -- what is held has the item after those that were, and so many items
 abbrev pub Grows : {A : Type 0} → Option (Vec A Global) → A → Option (Vec A Global) → ℕ → Type 0
@@ -113,3 +114,7 @@ chunks_due s = s.stage.1
 -- the source, beside the size the batch that is held, and the stop that is due
 abbrev pub chunks_parts : {I A E : Type 0} → Chunks I A E → I × ((ℕ × Option (Vec A Global)) × Option (Option E))
 chunks_parts s = (s.it, s.stage)
+
+-- and back
+pub chunks_made : {I A E : Type 0} → Inverse (chunks_parts {I = I} {A = A} {E = E})
+chunks_made = record { make = λ p. record { it = p.0; alloc = record { memory = record { seal = tt } }; stage = p.1 }; made = λ s. refl; has = λ p. refl }

@@ -2,12 +2,13 @@
 use Rattle.std.specs.Prelude.{◌≡◌, Option, Some, None, Result, Ok, Err, List, [], ◌∷◌, ⊤}
 use Rattle.std.specs.Fn.{Mut}
 use Rattle.fallible_iterator.specs.Traces.{Answered}
-use Rattle.fallible_iterator.specs.Contract.{Contract}
+use Rattle.fallible_iterator.specs.Contract.{Contract, Inverse}
 use Rattle.fallible_iterator.specs.Folds.{call_with, takes_with}
 use Rattle.fallible_itertools_adapters.specs.Holding.{HoldingTrace, holding_contract, held_beside, one_at_least}
 use Rattle.fallible_iterator.specs.Outcome.{Outcome}
 use Rattle.fallible_iterator.specs.Outcome.TheVariants.{Kept, LeftOut, Failure, End}
 use Rattle.fallible_itertools_adapters.specs.declared.coalesce.Coalesce.{Coalesce}
+use Rattle.std.proofs.Common.{refl}
 
 -- what a closure returns for two items: one to go on in their place, or two that stay apart; or a failure
 abbrev pub OneOrBoth : Type 0 → Type 0 → Type 0
@@ -65,6 +66,10 @@ coalesce_due s = s.stage.1
 -- the source, what is held beside the closure, and the stop that is due
 abbrev pub coalesce_parts : {I A E F : Type 0} → Coalesce I F A E → I × ((Option A × F) × Option (Option E))
 coalesce_parts s = (s.it, s.stage)
+
+-- and back
+pub coalesce_made : {I A E F : Type 0} → Inverse (coalesce_parts {I = I} {A = A} {E = E} {F = F})
+coalesce_made = record { make = λ p. record { it = p.0; stage = p.1 }; made = λ s. refl; has = λ p. refl }
 
 -- ---- what it lists
 

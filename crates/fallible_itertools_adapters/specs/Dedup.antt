@@ -1,11 +1,12 @@
 -- `Dedup`, which yields the first of adjacent equal items.
 use Rattle.std.specs.Prelude.{◌≡◌, Bool, true, false, Option, Some, None, Result, Ok, Err, List, [], ◌∷◌, ⊤}
 use Rattle.fallible_iterator.specs.Traces.{Answered}
-use Rattle.fallible_iterator.specs.Contract.{Contract}
+use Rattle.fallible_iterator.specs.Contract.{Contract, Inverse}
 use Rattle.fallible_itertools_adapters.specs.Holding.{HoldingTrace, holding_contract, held_one, one_at_least}
 use Rattle.fallible_iterator.specs.Outcome.{Outcome}
 use Rattle.fallible_iterator.specs.Outcome.TheVariants.{Kept, LeftOut, End}
 use Rattle.fallible_itertools_adapters.specs.declared.dedup.Dedup.{Dedup}
+use Rattle.std.proofs.Common.{refl}
 
 module _ {A : Type 0} (eq : A → A → Bool) where
   -- an item y is held and x comes: x is left out if it equals y, and otherwise y is yielded and x is held
@@ -55,6 +56,10 @@ dedup_source s = s.it
 -- the source, the item that is held, and the stop that is due
 abbrev pub dedup_parts : {I A E : Type 0} → Dedup I A E → I × (Option A × Option (Option E))
 dedup_parts s = (s.it, s.stage)
+
+-- and back
+pub dedup_made : {I A E : Type 0} → Inverse (dedup_parts {I = I} {A = A} {E = E})
+dedup_made = record { make = λ p. record { it = p.0; stage = p.1 }; made = λ s. refl; has = λ p. refl }
 
 -- the stop that is due, if one is
 abbrev pub dedup_due : {I A E : Type 0} → Dedup I A E → Option (Option E)

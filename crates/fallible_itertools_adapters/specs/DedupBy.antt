@@ -3,12 +3,13 @@ use Rattle.std.specs.Prelude.{◌≡◌, Bool, true, false, Option, Some, None, 
 use Rattle.std.specs.Fn.{Mut}
 use Rattle.std.specs.Borrow.{Bor}
 use Rattle.fallible_iterator.specs.Traces.{Answered}
-use Rattle.fallible_iterator.specs.Contract.{Contract}
+use Rattle.fallible_iterator.specs.Contract.{Contract, Inverse}
 use Rattle.fallible_iterator.specs.Picking.{call_at_two, takes_at_two}
 use Rattle.fallible_itertools_adapters.specs.Holding.{HoldingTrace, holding_contract, held_beside, one_at_least}
 use Rattle.fallible_iterator.specs.Outcome.{Outcome}
 use Rattle.fallible_iterator.specs.Outcome.TheVariants.{Kept, LeftOut, Failure, End}
 use Rattle.fallible_itertools_adapters.specs.declared.dedup_by.DedupBy.{DedupBy}
+use Rattle.std.proofs.Common.{refl}
 
 -- What becomes of an item x beside the item y that is held, by the closure's result: x is left out if they are the same, and otherwise y is yielded and x is held; if the closure fails, x is lost, and nothing else is.
 abbrev pub found_same : {A E : Type 0} → A → A → Result Bool E → Outcome A E → Option A → Type 0
@@ -53,6 +54,10 @@ dedup_by_due s = s.stage.1
 -- the source, what is held beside the closure, and the stop that is due
 abbrev pub dedup_by_parts : {I A E F : Type 0} → DedupBy I F A E → I × ((Option A × F) × Option (Option E))
 dedup_by_parts s = (s.it, s.stage)
+
+-- and back
+pub dedup_by_made : {I A E F : Type 0} → Inverse (dedup_by_parts {I = I} {A = A} {E = E} {F = F})
+dedup_by_made = record { make = λ p. record { it = p.0; stage = p.1 }; made = λ s. refl; has = λ p. refl }
 
 -- ---- what it lists
 

@@ -3,12 +3,13 @@ use Rattle.std.specs.Prelude.{◌≡◌, Bool, true, false, Option, Some, None, 
 use Rattle.std.specs.Fn.{Mut}
 use Rattle.std.specs.Borrow.{Bor}
 use Rattle.fallible_iterator.specs.Traces.{Answered}
-use Rattle.fallible_iterator.specs.Contract.{Contract}
+use Rattle.fallible_iterator.specs.Contract.{Contract, Inverse}
 use Rattle.fallible_iterator.specs.Closures.{call_by_reference, takes_by_reference}
 use Rattle.fallible_itertools_adapters.specs.Holding.{HoldingTrace, holding_contract, held_beside, one_at_least}
 use Rattle.fallible_iterator.specs.Outcome.{Outcome}
 use Rattle.fallible_iterator.specs.Outcome.TheVariants.{Kept, LeftOut, Failure, End}
 use Rattle.fallible_itertools_adapters.specs.declared.dedup_by_key.DedupByKey.{DedupByKey}
+use Rattle.std.proofs.Common.{refl}
 
 module _ {A K : Type 0} (eq : K → K → Bool) where
   -- an item and its key that are held, beside the next item and its key
@@ -83,3 +84,7 @@ dedup_by_key_due s = s.stage.1
 -- the source, what is held beside the closure, and the stop that is due
 abbrev pub dedup_by_key_parts : {I A E K F : Type 0} → DedupByKey I K F A E → I × ((Option (K × A) × F) × Option (Option E))
 dedup_by_key_parts s = (s.it, s.stage)
+
+-- and back
+pub dedup_by_key_made : {I A E K F : Type 0} → Inverse (dedup_by_key_parts {I = I} {A = A} {E = E} {K = K} {F = F})
+dedup_by_key_made = record { make = λ p. record { it = p.0; stage = p.1 }; made = λ s. refl; has = λ p. refl }

@@ -3,13 +3,14 @@ use Rattle.std.specs.Prelude.{◌≡◌, ℕ, Bool, Option, Some, None, Result, 
 use Rattle.std.specs.Fn.{Mut}
 use Rattle.std.specs.Borrow.{Bor}
 use Rattle.fallible_iterator.specs.Traces.{Answered}
-use Rattle.fallible_iterator.specs.Contract.{Contract}
+use Rattle.fallible_iterator.specs.Contract.{Contract, Inverse}
 use Rattle.fallible_iterator.specs.Picking.{call_at_two, takes_at_two}
 use Rattle.fallible_itertools_adapters.specs.Holding.{HoldingTrace, holding_contract, held_beside, one_at_least}
 use Rattle.fallible_itertools_adapters.specs.RunCounts.{counted_same}
 use Rattle.fallible_iterator.specs.Outcome.{Outcome}
 use Rattle.fallible_iterator.specs.Outcome.TheVariants.{Kept, LeftOut, End}
 use Rattle.fallible_itertools_adapters.specs.declared.dedup_by_with_count.DedupByWithCount.{DedupByWithCount}
+use Rattle.std.proofs.Common.{refl}
 
 module _ {A F E : Type 0} (call : F → A → A → Result Bool E → F → Type 0) where
   -- An item is held with its number beside the closure, which is called on references to it and the next one.
@@ -44,3 +45,7 @@ dedup_by_with_count_due s = s.stage.1
 -- the source, what is held beside the closure, and the stop that is due
 abbrev pub dedup_by_with_count_parts : {I A E F : Type 0} → DedupByWithCount I F A E → I × ((Option (ℕ × A) × F) × Option (Option E))
 dedup_by_with_count_parts s = (s.it, s.stage)
+
+-- and back
+pub dedup_by_with_count_made : {I A E F : Type 0} → Inverse (dedup_by_with_count_parts {I = I} {A = A} {E = E} {F = F})
+dedup_by_with_count_made = record { make = λ p. record { it = p.0; stage = p.1 }; made = λ s. refl; has = λ p. refl }

@@ -1,12 +1,13 @@
 -- `DedupWithCount`, which yields the first of adjacent equal items beside their number.
 use Rattle.std.specs.Prelude.{◌≡◌, ℕ, Bool, Option, Some, None, Ok, List, ⊤}
 use Rattle.fallible_iterator.specs.Traces.{Answered}
-use Rattle.fallible_iterator.specs.Contract.{Contract}
+use Rattle.fallible_iterator.specs.Contract.{Contract, Inverse}
 use Rattle.fallible_itertools_adapters.specs.Holding.{HoldingTrace, holding_contract, held_one, one_at_least}
 use Rattle.fallible_itertools_adapters.specs.RunCounts.{counted_same}
 use Rattle.fallible_iterator.specs.Outcome.{Outcome}
 use Rattle.fallible_iterator.specs.Outcome.TheVariants.{Kept, LeftOut, End}
 use Rattle.fallible_itertools_adapters.specs.declared.dedup_with_count.DedupWithCount.{DedupWithCount}
+use Rattle.std.proofs.Common.{refl}
 
 module _ {A : Type 0} (eq : A → A → Bool) where
   -- The first of equal items is held with their number until another one or a stop comes.
@@ -31,6 +32,10 @@ dedup_with_count_source s = s.it
 -- the source, the item that is held with its number, and the stop that is due
 abbrev pub dedup_with_count_parts : {I A E : Type 0} → DedupWithCount I A E → I × (Option (ℕ × A) × Option (Option E))
 dedup_with_count_parts s = (s.it, s.stage)
+
+-- and back
+pub dedup_with_count_made : {I A E : Type 0} → Inverse (dedup_with_count_parts {I = I} {A = A} {E = E})
+dedup_with_count_made = record { make = λ p. record { it = p.0; stage = p.1 }; made = λ s. refl; has = λ p. refl }
 
 -- the stop that is due, if one is
 abbrev pub dedup_with_count_due : {I A E : Type 0} → DedupWithCount I A E → Option (Option E)

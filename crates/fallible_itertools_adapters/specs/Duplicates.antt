@@ -5,7 +5,7 @@ use Rattle.std.specs.declared.hash.BuildHasherDefault.{BuildHasherDefault}
 use Rattle.std.specs.declared.hash.FoldHasher.{FoldHasher}
 use Rattle.std.specs.List.{count_by}
 use Rattle.fallible_iterator.specs.Traces.{Answered}
-use Rattle.fallible_iterator.specs.Contract.{Contract}
+use Rattle.fallible_iterator.specs.Contract.{Contract, Inverse}
 use Rattle.fallible_iterator.specs.Hints.{upper_alone}
 use Rattle.fallible_iterator.specs.Making.{IsRefusal}
 use Rattle.fallible_iterator.specs.Passing.{PassTrace, leaving_out_contract}
@@ -14,6 +14,7 @@ use Rattle.std.specs.declared.alloc.AllocError.{AllocError}
 use Rattle.fallible_iterator.specs.Outcome.{Outcome}
 use Rattle.fallible_iterator.specs.Outcome.TheVariants.{Kept, LeftOut, Failure, End}
 use Rattle.fallible_itertools_adapters.specs.declared.duplicates.Duplicates.{Duplicates}
+use Rattle.std.proofs.Common.{refl}
 
 -- the item is yielded, unless one that equals it was
 abbrev pub kept_unless : {A E : Type 0} → Bool → A → Outcome A E
@@ -56,6 +57,10 @@ duplicates_came s = s.came
 -- the source, and the map
 abbrev pub duplicates_parts : {I A E : Type 0} → Duplicates I A E → I × HashMap A Bool (BuildHasherDefault FoldHasher)
 duplicates_parts s = (duplicates_source s, duplicates_came s)
+
+-- and back
+pub duplicates_made : {I A E : Type 0} → Inverse (duplicates_parts {I = I} {A = A} {E = E})
+duplicates_made = record { make = λ p. record { it = p.0; came = p.1 }; made = λ s. refl; has = λ p. refl }
 
 -- ---- what it lists
 

@@ -1,7 +1,7 @@
 -- Adapters that hold what they drew until a later item or a stop decides what becomes of it. What is held is yielded first: a stop that was met then, an end or a failure, is due, and is the next answer.
 use Rattle.std.specs.Prelude.{◌≡◌, ℕ, ◌+◌, ◌≤◌, ◌<◌, min, ⊤, Option, Some, None, Ok, Err, List, [], ◌∷◌, ◌++◌, length, map}
 use Rattle.std.specs.List.{FoldsTo, flat_map}
-use Rattle.fallible_iterator.specs.Traces.{Answered, Run}
+use Rattle.fallible_iterator.specs.Traces.{Answered, Run, first_of}
 use Rattle.fallible_iterator.specs.Contract.{Contract}
 use Rattle.fallible_iterator.specs.Closures.{IsCallable}
 use Rattle.fallible_iterator.specs.Passing.{passing_step}
@@ -93,6 +93,10 @@ pub record HoldingTrace {S P X B E : Type 0} (steps : S → Answered X E → S �
   pub answers : due_answer p.1.1 ++ flat_map (λ d. d.1) draws ≡ trace ++ due_answer q.1.1
   pub last : LastMade (length (due_answer {B = B} {E = E} q.1.1)) draws
 
+-- Its definition over all that its source returns: there is a list that the source may return, of which the definition makes the trace.
+abbrev pub holds_all : {S P X B E : Type 0} → (S → List (Answered X E) → S → Type 0) → (P → Option X → Outcome B E → P → Type 0) → S × (P × Option (Option E)) → List (Answered B E) → S × (P × Option (Option E)) → Type 0
+holds_all {X = X} {E = E} traces asks p trace q = (drawn : List (Answered X E)) × traces p.0 drawn q.0 × HoldingTrace first_of asks (drawn, p.1) trace ([], q.1)
+
 -- How many answers are held, before and after the adapter was called: an item makes at most one more, none if something was returned, and no end; at a stop what is returned was held, and nothing is left out.
 abbrev pub HeldAfter : {X B E : Type 0} → ℕ → Option X → Outcome B E → ℕ → Type 0
 HeldAfter before (Some x) (Kept y) after = after ≤ before
@@ -135,7 +139,7 @@ abbrev pub filling_contract : {S P X B E : Type 0} → Contract S X E → (P →
 filling_contract m asks pre held hints = record (stage_contract m stop_comes (holding_meets asks) (λ Q p. IsCallable asks pre (OrStop (λ x. Q (Ok (Some x)))) p) 1 held hints) {
   can_next = λ p. m.can_next p.0 × IsCallable asks pre (MayBeAsked m p.0) p.1.0;
   steps = λ p r q. holding_step asks m.steps p r q;
-  traces = λ p trace q. Run (λ u r v. holding_step asks m.steps u r v) p trace q;
+  traces = holds_all m.traces asks;
 }
 
 -- The contract of an adapter that holds and may leave out many items: it requires a bound of the source besides.

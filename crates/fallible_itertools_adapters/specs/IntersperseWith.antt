@@ -3,10 +3,11 @@ use Rattle.std.specs.Prelude.{◌≡◌, ℕ, suc, Bool, Option, Result, List, �
 use Rattle.std.specs.Fn.{Mut}
 use Rattle.fallible_iterator.specs.Closures.{IsCallable}
 use Rattle.fallible_iterator.specs.Traces.{Answered}
-use Rattle.fallible_iterator.specs.Contract.{Contract}
+use Rattle.fallible_iterator.specs.Contract.{Contract, Inverse}
 use Rattle.fallible_iterator.specs.Sources.FromFn.{call_of_none}
 use Rattle.fallible_itertools_adapters.specs.Parting.{PartingTrace, parting_contract}
 use Rattle.fallible_itertools_adapters.specs.declared.intersperse_with.IntersperseWith.{IntersperseWith}
+use Rattle.std.proofs.Common.{refl}
 
 module _ {F A E : Type 0} (g : Mut F (Unit {0}) (Result A E)) where
   -- what is returned before a later item: what one call of the closure returns
@@ -44,6 +45,10 @@ intersperse_with_held s = s.stage.1
 -- the source, the closure, and whether an item came beside the one that is held
 abbrev pub intersperse_with_parts : {I A E F : Type 0} → IntersperseWith I F A E → I × (F × (Bool × Option A))
 intersperse_with_parts s = (intersperse_with_source s, (intersperse_with_closure s, (intersperse_with_started s, intersperse_with_held s)))
+
+-- and back
+pub intersperse_with_made : {I A E F : Type 0} → Inverse (intersperse_with_parts {I = I} {A = A} {E = E} {F = F})
+intersperse_with_made = record { make = λ p. record { it = p.0; stage = ((p.1.0, p.1.1.0), p.1.1.1) }; made = λ s. refl; has = λ p. refl }
 
 -- In whatever state it is, the closure's next call returns the first of what that state shows, `shows f 0`, and the calls after it return the others in order.
 abbrev pub CallsMakeShown : {F A E : Type 0} → (F → Unit {0} → Result A E → F → Type 0) → (F → ℕ → Result A E) → Type 0

@@ -13,6 +13,7 @@ pub mod Duplicates
 pub mod ErrInto
 pub mod FuseAtFailure
 pub mod Holding
+pub mod HoldingTraces
 pub mod InspectErr
 pub mod Interleave
 pub mod Intersperse
@@ -23,6 +24,7 @@ pub mod MergeJoinBy
 pub mod OrElse
 pub mod PadUsing
 pub mod Parting
+pub mod PartingTraces
 pub mod PeekingTakeWhile
 pub mod Positions
 pub mod Sides

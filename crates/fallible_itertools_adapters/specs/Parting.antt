@@ -1,6 +1,6 @@
 -- Adapters that put a separator before each item but the first.
 use Rattle.std.specs.Prelude.{◌≡◌, ℕ, suc, ◌+◌, ◌-◌, ◌^◌, ◌⊎◌, min, cond, ltb, Bool, true, false, Option, Some, None, Result, Ok, Err, List, [], ◌∷◌}
-use Rattle.fallible_iterator.specs.Traces.{Answered, Run, item, failure, end}
+use Rattle.fallible_iterator.specs.Traces.{Answered, first_of, item, failure, end}
 use Rattle.fallible_iterator.specs.Contract.{Contract, seen_as}
 use Rattle.fallible_iterator.specs.Lists.{result_answer}
 use Rattle.fallible_itertools_adapters.specs.Holding.{held_one}
@@ -32,6 +32,10 @@ module _ {Z A E : Type 0} (separates : Z → Result A E → Z → Type 0) where
     -- The held item, and then the source's trace where a separator stands before each item but the first; failures and ends between two items part nothing.
     abbrev pub PartingTrace : S × (Z × (Bool × Option A)) → List (Answered A E) → S × (Z × (Bool × Option A)) → Type 0
     PartingTrace p trace q = HeldFirst p.0 p.1 trace q.0 q.1
+
+  -- Its definition over all that its source returns: there is a list that the source may return, of which the definition makes the trace.
+  abbrev pub separates_all : {S : Type 0} → (S → List (Answered A E) → S → Type 0) → S × (Z × (Bool × Option A)) → List (Answered A E) → S × (Z × (Bool × Option A)) → Type 0
+  separates_all traces p trace q = (drawn : List (Answered A E)) × traces p.0 drawn q.0 × PartingTrace first_of (drawn, p.1) trace ([], q.1)
 
   -- what becomes of an answer that was drawn if nothing is held: what is returned, and what stands beside the source then
   abbrev pub PlacedAs : Z → Bool → Answered A E → Answered A E → Z × (Bool × Option A) → Type 0
@@ -95,7 +99,7 @@ parting_hints m p h = (k : ℕ × Option ℕ) × m.hints p.0 k × (h ≡ intersp
 
 -- The contract: an item of the source is two to come, and a held one is one. Separators can be made where `can` holds.
 abbrev pub parting_contract : {S Z A E : Type 0} → (Z → Result A E → Z → Type 0) → (Z → Type 0) → Contract S A E → Contract (S × (Z × (Bool × Option A))) A E
-parting_contract separates can m = record (seen_as parting_stage (stage_contract m item_comes (parting_meets separates) (λ _ k. can k.0) 2 (λ _. 0) (parting_hints m))) { steps = parting_step separates m.steps; traces = λ p trace q. Run (parting_step separates m.steps) p trace q }
+parting_contract separates can m = record (seen_as parting_stage (stage_contract m item_comes (parting_meets separates) (λ _ k. can k.0) 2 (λ _. 0) (parting_hints m))) { steps = parting_step separates m.steps; traces = separates_all separates m.traces }
 
 -- ---- what it lists
 

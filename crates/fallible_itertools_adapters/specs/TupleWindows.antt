@@ -1,7 +1,7 @@
 -- `TupleWindows`, which yields each two adjacent items.
 use Rattle.std.specs.Prelude.{◌≡◌, ℕ, Option, Some, None, Result, Ok, Err, List, [], ◌∷◌, ⊤}
 use Rattle.fallible_iterator.specs.Traces.{Answered}
-use Rattle.fallible_iterator.specs.Contract.{Contract}
+use Rattle.fallible_iterator.specs.Contract.{Contract, Inverse}
 use Rattle.fallible_iterator.specs.Hints.{hint_less}
 use Rattle.fallible_iterator.specs.Refusals.{RefusedAs}
 use Rattle.fallible_iterator.specs.Passing.{PassTrace, passing_contract}
@@ -10,6 +10,7 @@ use Rattle.std.specs.declared.alloc.AllocError.{AllocError}
 use Rattle.fallible_iterator.specs.Outcome.{Outcome}
 use Rattle.fallible_iterator.specs.Outcome.TheVariants.{Kept, LeftOut, Failure, End}
 use Rattle.fallible_itertools_adapters.specs.declared.tuple_windows.TupleWindows.{TupleWindows}
+use Rattle.std.proofs.Common.{refl}
 
 module _ {A E : Type 0} (is_clone : A → A → Type 0) (is_infallible : A → Type 0) (from : AllocError → E → Type 0) where
   -- an item beside the one before it: both are yielded, the later one as a clone; if that fails to allocate, the failure converted from its `AllocError` is, and the earlier one is lost. The later one is held then.
@@ -48,6 +49,10 @@ tuple_windows_held s = s.held
 -- the source, and the item that is held
 abbrev pub tuple_windows_parts : {I A E : Type 0} → TupleWindows I A E → I × Option A
 tuple_windows_parts s = (tuple_windows_source s, tuple_windows_held s)
+
+-- and back
+pub tuple_windows_made : {I A E : Type 0} → Inverse (tuple_windows_parts {I = I} {A = A} {E = E})
+tuple_windows_made = record { make = λ p. record { it = p.0; held = p.1 }; made = λ s. refl; has = λ p. refl }
 
 -- ---- what it lists
 

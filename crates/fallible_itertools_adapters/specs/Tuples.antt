@@ -1,13 +1,14 @@
 -- `Tuples`, which yields the items two by two.
 use Rattle.std.specs.Prelude.{◌≡◌, ℕ, Option, Some, None, Result, Ok, Err, List, [], ◌∷◌, ⊤}
 use Rattle.fallible_iterator.specs.Traces.{Answered}
-use Rattle.fallible_iterator.specs.Contract.{Contract}
+use Rattle.fallible_iterator.specs.Contract.{Contract, Inverse}
 use Rattle.fallible_iterator.specs.Hints.{hint_kept}
 use Rattle.fallible_iterator.specs.Passing.{PassTrace, passing_contract}
 use Rattle.fallible_itertools_adapters.specs.Holding.{as_answered_item}
 use Rattle.fallible_iterator.specs.Outcome.{Outcome}
 use Rattle.fallible_iterator.specs.Outcome.TheVariants.{Kept, LeftOut}
 use Rattle.fallible_itertools_adapters.specs.declared.tuples.Tuples.{Tuples}
+use Rattle.std.proofs.Common.{refl}
 
 module _ {A E : Type 0} where
   -- The first item of a pair is left out, and held then. The next one is yielded beside it, and none is held then.
@@ -39,6 +40,10 @@ tuples_held s = s.held
 -- the source, and the item that is held
 abbrev pub tuples_parts : {I A E : Type 0} → Tuples I A E → I × Option A
 tuples_parts s = (tuples_source s, tuples_held s)
+
+-- and back
+pub tuples_made : {I A E : Type 0} → Inverse (tuples_parts {I = I} {A = A} {E = E})
+tuples_made = record { make = λ p. record { it = p.0; held = p.1 }; made = λ s. refl; has = λ p. refl }
 
 -- ---- what it lists
 

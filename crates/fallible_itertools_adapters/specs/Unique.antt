@@ -5,7 +5,7 @@ use Rattle.std.specs.declared.hash.BuildHasherDefault.{BuildHasherDefault}
 use Rattle.std.specs.declared.hash.FoldHasher.{FoldHasher}
 use Rattle.std.specs.Set.{is_member}
 use Rattle.fallible_iterator.specs.Traces.{Answered}
-use Rattle.fallible_iterator.specs.Contract.{Contract}
+use Rattle.fallible_iterator.specs.Contract.{Contract, Inverse}
 use Rattle.fallible_iterator.specs.Hints.{upper_alone}
 use Rattle.fallible_iterator.specs.Making.{IsRefusal}
 use Rattle.fallible_iterator.specs.Passing.{PassTrace, leaving_out_contract}
@@ -14,6 +14,7 @@ use Rattle.std.specs.declared.alloc.AllocError.{AllocError}
 use Rattle.fallible_iterator.specs.Outcome.{Outcome}
 use Rattle.fallible_iterator.specs.Outcome.TheVariants.{Kept, LeftOut, Failure, End}
 use Rattle.fallible_itertools_adapters.specs.declared.unique.Unique.{Unique}
+use Rattle.std.proofs.Common.{refl}
 
 module _ {A S E : Type 0} (eq : A → A → Bool) (is_clone : A → A → Type 0) (is_infallible : A → Type 0) (from : AllocError → E → Type 0) where
   -- an allocation may fail: that of a clone of the item, or that of room for it in the set
@@ -55,6 +56,10 @@ unique_seen s = s.seen
 -- the source, and the set
 abbrev pub unique_parts : {I A E : Type 0} → Unique I A E → I × HashSet A (BuildHasherDefault FoldHasher)
 unique_parts s = (unique_source s, unique_seen s)
+
+-- and back
+pub unique_made : {I A E : Type 0} → Inverse (unique_parts {I = I} {A = A} {E = E})
+unique_made = record { make = λ p. record { it = p.0; seen = p.1 }; made = λ s. refl; has = λ p. refl }
 
 -- ---- what it lists
 

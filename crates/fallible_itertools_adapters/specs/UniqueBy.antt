@@ -7,7 +7,7 @@ use Rattle.std.specs.declared.hash.BuildHasherDefault.{BuildHasherDefault}
 use Rattle.std.specs.declared.hash.FoldHasher.{FoldHasher}
 use Rattle.std.specs.Set.{is_member}
 use Rattle.fallible_iterator.specs.Traces.{Answered}
-use Rattle.fallible_iterator.specs.Contract.{Contract}
+use Rattle.fallible_iterator.specs.Contract.{Contract, Inverse}
 use Rattle.fallible_iterator.specs.Closures.{IsCallable, call_by_reference, takes_by_reference}
 use Rattle.fallible_iterator.specs.Hints.{upper_alone}
 use Rattle.fallible_iterator.specs.Making.{IsRefusal}
@@ -18,6 +18,7 @@ use Rattle.std.specs.declared.alloc.AllocError.{AllocError}
 use Rattle.fallible_iterator.specs.Outcome.{Outcome}
 use Rattle.fallible_iterator.specs.Outcome.TheVariants.{Kept, LeftOut, Failure, End}
 use Rattle.fallible_itertools_adapters.specs.declared.unique_by.UniqueBy.{UniqueBy}
+use Rattle.std.proofs.Common.{refl}
 
 module _ {A K S E : Type 0} (eq : K → K → Bool) (from : AllocError → E → Type 0) where
   -- An item whose key equals none of the set's is yielded, and the set has the key then. If the set has no room that is spare, the allocation of it may fail: then the item is lost, and the set stays.
@@ -73,6 +74,10 @@ unique_by_closure s = s.keying.1
 -- the source, and the set beside the closure
 abbrev pub unique_by_parts : {I K F : Type 0} → UniqueBy I K F → I × (HashSet K (BuildHasherDefault FoldHasher) × F)
 unique_by_parts s = (s.it, s.keying)
+
+-- and back
+pub unique_by_made : {I K F : Type 0} → Inverse (unique_by_parts {I = I} {K = K} {F = F})
+unique_by_made = record { make = λ p. record { it = p.0; keying = p.1 }; made = λ s. refl; has = λ p. refl }
 
 -- ---- what it lists
 

@@ -1,7 +1,7 @@
 -- `WithPosition`, which yields each item with its position among the items between two stops.
 use Rattle.std.specs.Prelude.{◌≡◌, ℕ, Bool, true, false, Option, Some, None, Result, Ok, Err, List, [], ◌∷◌, ⊤}
 use Rattle.fallible_iterator.specs.Traces.{Answered}
-use Rattle.fallible_iterator.specs.Contract.{Contract}
+use Rattle.fallible_iterator.specs.Contract.{Contract, Inverse}
 use Rattle.fallible_iterator.specs.Hints.{hint_sum}
 use Rattle.fallible_itertools_adapters.specs.Holding.{HintUnlessEnd, HoldingTrace, filling_contract, held_one}
 use Rattle.fallible_iterator.specs.Outcome.{Outcome}
@@ -9,6 +9,7 @@ use Rattle.fallible_iterator.specs.Outcome.TheVariants.{Kept, LeftOut, End}
 use Rattle.fallible_itertools_adapters.specs.declared.with_position.Position.{Position}
 use Rattle.fallible_itertools_adapters.specs.declared.with_position.Position.TheVariants.{First, Middle, Last, Only}
 use Rattle.fallible_itertools_adapters.specs.declared.with_position.WithPosition.{WithPosition}
+use Rattle.std.proofs.Common.{refl}
 
 -- the position of an item that another item comes after, by whether one came before it
 abbrev pub position_before_item : Bool → Position
@@ -61,6 +62,10 @@ with_position_source s = s.it
 -- the source, the item that is held with whether one came before it, and the stop that is due
 abbrev pub with_position_parts : {I A E : Type 0} → WithPosition I A E → I × (Option (Bool × A) × Option (Option E))
 with_position_parts s = (s.it, s.stage)
+
+-- and back
+pub with_position_made : {I A E : Type 0} → Inverse (with_position_parts {I = I} {A = A} {E = E})
+with_position_made = record { make = λ p. record { it = p.0; stage = p.1 }; made = λ s. refl; has = λ p. refl }
 
 -- the stop that is due, if one is
 abbrev pub with_position_due : {I A E : Type 0} → WithPosition I A E → Option (Option E)

@@ -1,8 +1,8 @@
 // The adapter that yields groups of adjacent items with equal keys.
 ghost use Rattle.std.specs.Prelude.{Option, Result, None, ◌≡◌};
-ghost use Rattle.fallible_iterator.specs.Contract.{seen_as};
-ghost use Rattle.fallible_iterator.specs.Laws.Contract.{lawful_seen};
-ghost use Rattle.fallible_itertools_adapters.specs.ChunkBy.{chunk_by_asks, chunk_by_contract, chunk_by_parts, group_at_stop, group_by, group_held, key_takes};
+ghost use Rattle.fallible_iterator.specs.Contract.{parts_as};
+ghost use Rattle.fallible_iterator.specs.Laws.Contract.{lawful_parts};
+ghost use Rattle.fallible_itertools_adapters.specs.ChunkBy.{chunk_by_asks, chunk_by_contract, chunk_by_made, chunk_by_parts, group_at_stop, group_by, group_held, key_takes};
 ghost use Rattle.fallible_itertools_adapters.specs.Laws.ChunkBy.{holds_chunk_by, lawful_chunk_by};
 
 use crate::holding::{Hold, drive_holding, with_held};
@@ -48,7 +48,7 @@ where
 
     type Error = I::Error;
 
-    ghost contract = { seen_as chunk_by_parts
+    ghost contract = { parts_as chunk_by_parts
         (chunk_by_contract I.Error.from_gives K.eq F.FnMut I.contract) };
 
     /// Returns the stop that is due, without a draw. Otherwise it draws until an item has another key than the buffered group, or a stop comes.
@@ -72,7 +72,7 @@ where
         drive_holding(&mut self.it, &mut self.stage, &adapter, state, turn)
     }
 
-    ghost lawful = { lawful_seen chunk_by_parts
+    ghost lawful = { lawful_parts chunk_by_made
         (lawful_chunk_by I.Error.from_gives K.eq F.FnMut I.lawful) };
 }
 

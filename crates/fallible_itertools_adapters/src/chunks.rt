@@ -1,9 +1,9 @@
 // The adapter that yields batches of items.
 ghost use Rattle.std.specs.Prelude.{◌≡◌, ◌+◌, ⊤, MatchResult, None, Option, Result};
-ghost use Rattle.fallible_iterator.specs.Contract.{seen_as};
-ghost use Rattle.fallible_iterator.specs.Laws.Contract.{lawful_seen};
+ghost use Rattle.fallible_iterator.specs.Contract.{parts_as};
+ghost use Rattle.fallible_iterator.specs.Laws.Contract.{lawful_parts};
 ghost use Rattle.fallible_itertools_adapters.specs.Batch.{NoRoom, SameHeld};
-ghost use Rattle.fallible_itertools_adapters.specs.Chunks.{Grows, LetsGo, batch_held, begun, room_left, chunks_asks, chunks_contract, chunks_parts};
+ghost use Rattle.fallible_itertools_adapters.specs.Chunks.{Grows, LetsGo, batch_held, begun, room_left, chunks_asks, chunks_contract, chunks_made, chunks_parts};
 ghost use Rattle.fallible_itertools_adapters.specs.Holding.{held_one, holding_step};
 ghost use Rattle.fallible_itertools_adapters.specs.Laws.Chunks.{holds_chunks, lawful_chunks};
 
@@ -46,7 +46,7 @@ where
 
     type Error = I::Error;
 
-    ghost contract = { seen_as chunks_parts (chunks_contract I.Error.from_gives I.contract) };
+    ghost contract = { parts_as chunks_parts (chunks_contract I.Error.from_gives I.contract) };
 
     /// Returns the stop that is due, without a draw. Otherwise it draws until the batch has n items, or a stop comes.
     fn next(&mut self) -> Result<Option<Vec<I::Item>>, I::Error> {
@@ -80,7 +80,7 @@ where
         drive_holding(&mut self.it, &mut self.stage, &adapter, state, turn)
     }
 
-    ghost lawful = { lawful_seen chunks_parts (lawful_chunks I.Error.from_gives I.lawful) };
+    ghost lawful = { lawful_parts chunks_made (lawful_chunks I.Error.from_gives I.lawful) };
 }
 
 // Draws until a batch is full or a stop comes: at most as often as a batch has items. No stop is due.

@@ -1,9 +1,9 @@
 // The adapter that merges adjacent items.
 ghost use Rattle.std.specs.Prelude.{Option, Result, None, ◌≡◌};
-ghost use Rattle.fallible_iterator.specs.Contract.{seen_as};
+ghost use Rattle.fallible_iterator.specs.Contract.{parts_as};
 ghost use Rattle.fallible_iterator.specs.Folds.{call_with, takes_with};
-ghost use Rattle.fallible_iterator.specs.Laws.Contract.{lawful_seen};
-ghost use Rattle.fallible_itertools_adapters.specs.Coalesce.{coalesce_asks, coalesce_contract, coalesce_parts, coalesce_takes};
+ghost use Rattle.fallible_iterator.specs.Laws.Contract.{lawful_parts};
+ghost use Rattle.fallible_itertools_adapters.specs.Coalesce.{coalesce_asks, coalesce_contract, coalesce_made, coalesce_parts, coalesce_takes};
 ghost use Rattle.fallible_itertools_adapters.specs.Holding.{held_beside};
 ghost use Rattle.fallible_itertools_adapters.specs.Laws.Coalesce.{coalesce_takes_stop, holds_coalesce, lawful_coalesce};
 
@@ -44,7 +44,7 @@ where
 
     type Error = I::Error;
 
-    ghost contract = { seen_as coalesce_parts (coalesce_contract I.contract F.FnMut) };
+    ghost contract = { parts_as coalesce_parts (coalesce_contract I.contract F.FnMut) };
 
     /// Returns the stop that is due, without a draw. Otherwise it draws until the closure keeps two items apart, or a stop comes.
     fn next(&mut self) -> Result<Option<I::Item>, I::Error> {
@@ -66,7 +66,7 @@ where
         drive_holding(&mut self.it, &mut self.stage, &CoalesceHold, state, turn)
     }
 
-    ghost lawful = { lawful_seen coalesce_parts (lawful_coalesce F.FnMut I.lawful) };
+    ghost lawful = { lawful_parts coalesce_made (lawful_coalesce F.FnMut I.lawful) };
 }
 
 // What the closure makes of the buffered item and the next one.

@@ -1,8 +1,8 @@
 // The adapter that yields the first of adjacent equal items.
 ghost use Rattle.std.specs.Prelude.{◌≡◌, ⊤, None, Option, Result};
-ghost use Rattle.fallible_iterator.specs.Contract.{seen_as};
-ghost use Rattle.fallible_iterator.specs.Laws.Contract.{lawful_seen};
-ghost use Rattle.fallible_itertools_adapters.specs.Dedup.{dedup_asks, dedup_contract, dedup_parts};
+ghost use Rattle.fallible_iterator.specs.Contract.{parts_as};
+ghost use Rattle.fallible_iterator.specs.Laws.Contract.{lawful_parts};
+ghost use Rattle.fallible_itertools_adapters.specs.Dedup.{dedup_asks, dedup_contract, dedup_made, dedup_parts};
 ghost use Rattle.fallible_itertools_adapters.specs.Holding.{held_one, holding_step};
 ghost use Rattle.fallible_itertools_adapters.specs.Laws.Dedup.{holds_dedup, lawful_dedup};
 
@@ -41,7 +41,7 @@ where
 
     type Error = I::Error;
 
-    ghost contract = { seen_as dedup_parts (dedup_contract I.Item.eq I.contract) };
+    ghost contract = { parts_as dedup_parts (dedup_contract I.Item.eq I.contract) };
 
     /// Returns the stop that is due, without a draw. Otherwise it draws until an item differs from the buffered one, or a stop comes.
     fn next(&mut self) -> Result<Option<I::Item>, I::Error> {
@@ -66,7 +66,7 @@ where
         drive_holding(&mut self.it, &mut self.stage, &DedupHold, state, turn)
     }
 
-    ghost lawful = { lawful_seen dedup_parts (lawful_dedup I.Item.eq I.lawful) };
+    ghost lawful = { lawful_parts dedup_made (lawful_dedup I.Item.eq I.lawful) };
 }
 
 // Draws until an item differs from the buffered one, or a stop comes. No stop is due. What is buffered stands in a local, so that a compiler keeps it in a register.

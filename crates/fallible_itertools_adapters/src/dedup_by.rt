@@ -1,9 +1,9 @@
 //! The adapter that yields the first of adjacent items that a closure finds the same.
 ghost use Rattle.std.specs.Prelude.{Option, Result, None, ◌≡◌};
-ghost use Rattle.fallible_iterator.specs.Contract.{seen_as};
-ghost use Rattle.fallible_iterator.specs.Laws.Contract.{lawful_seen};
+ghost use Rattle.fallible_iterator.specs.Contract.{parts_as};
+ghost use Rattle.fallible_iterator.specs.Laws.Contract.{lawful_parts};
 ghost use Rattle.fallible_iterator.specs.Picking.{call_at_two, takes_at_two};
-ghost use Rattle.fallible_itertools_adapters.specs.DedupBy.{dedup_by_asks, dedup_by_contract, dedup_by_parts, dedup_by_takes};
+ghost use Rattle.fallible_itertools_adapters.specs.DedupBy.{dedup_by_asks, dedup_by_contract, dedup_by_made, dedup_by_parts, dedup_by_takes};
 ghost use Rattle.fallible_itertools_adapters.specs.Holding.{held_beside};
 ghost use Rattle.fallible_itertools_adapters.specs.Laws.DedupBy.{dedup_by_takes_stop, holds_dedup_by, lawful_dedup_by};
 
@@ -42,7 +42,7 @@ where
 
     type Error = I::Error;
 
-    ghost contract = { seen_as dedup_by_parts (dedup_by_contract I.contract F.FnMut) };
+    ghost contract = { parts_as dedup_by_parts (dedup_by_contract I.contract F.FnMut) };
 
     /// Returns the stop that is due, without a draw. Otherwise it draws until an item differs from the buffered one, or a stop comes.
     fn next(&mut self) -> Result<Option<I::Item>, I::Error> {
@@ -64,7 +64,7 @@ where
         drive_holding(&mut self.it, &mut self.stage, &SameHold, state, turn)
     }
 
-    ghost lawful = { lawful_seen dedup_by_parts (lawful_dedup_by F.FnMut I.lawful) };
+    ghost lawful = { lawful_parts dedup_by_made (lawful_dedup_by F.FnMut I.lawful) };
 }
 
 // What becomes of an item after the buffered one, by what the closure returns on the two.

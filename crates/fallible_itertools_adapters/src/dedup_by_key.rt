@@ -1,9 +1,9 @@
 // The adapter that yields the first of adjacent items with equal keys.
 ghost use Rattle.std.specs.Prelude.{Ok, Option, Result, None, ◌≡◌};
 ghost use Rattle.fallible_iterator.specs.Closures.{call_by_reference, takes_by_reference};
-ghost use Rattle.fallible_iterator.specs.Contract.{seen_as};
-ghost use Rattle.fallible_iterator.specs.Laws.Contract.{lawful_seen};
-ghost use Rattle.fallible_itertools_adapters.specs.DedupByKey.{dedup_by_key_contract, dedup_by_key_parts, dedup_key_asks, dedup_key_takes, keyed_by};
+ghost use Rattle.fallible_iterator.specs.Contract.{parts_as};
+ghost use Rattle.fallible_iterator.specs.Laws.Contract.{lawful_parts};
+ghost use Rattle.fallible_itertools_adapters.specs.DedupByKey.{dedup_by_key_contract, dedup_by_key_made, dedup_by_key_parts, dedup_key_asks, dedup_key_takes, keyed_by};
 ghost use Rattle.fallible_itertools_adapters.specs.Holding.{held_beside};
 ghost use Rattle.fallible_itertools_adapters.specs.Laws.DedupByKey.{holds_dedup_key, lawful_dedup_by_key};
 
@@ -45,7 +45,7 @@ where
 
     type Error = I::Error;
 
-    ghost contract = { seen_as dedup_by_key_parts (dedup_by_key_contract K.eq I.contract F.FnMut) };
+    ghost contract = { parts_as dedup_by_key_parts (dedup_by_key_contract K.eq I.contract F.FnMut) };
 
     /// Returns the stop that is due, without a draw. Otherwise it draws until an item has another key than the buffered one, or a stop comes.
     fn next(&mut self) -> Result<Option<I::Item>, I::Error> {
@@ -67,7 +67,7 @@ where
         drive_holding(&mut self.it, &mut self.stage, &KeyHold, state, turn)
     }
 
-    ghost lawful = { lawful_seen dedup_by_key_parts (lawful_dedup_by_key K.eq F.FnMut I.lawful) };
+    ghost lawful = { lawful_parts dedup_by_key_made (lawful_dedup_by_key K.eq F.FnMut I.lawful) };
 }
 
 // What becomes of an item by its key.

@@ -1,9 +1,9 @@
 //! The adapter that yields the first of adjacent items that a closure finds the same beside their number.
 ghost use Rattle.std.specs.Prelude.{Option, Result, None, ◌≡◌};
-ghost use Rattle.fallible_iterator.specs.Contract.{seen_as};
-ghost use Rattle.fallible_iterator.specs.Laws.Contract.{lawful_seen};
+ghost use Rattle.fallible_iterator.specs.Contract.{parts_as};
+ghost use Rattle.fallible_iterator.specs.Laws.Contract.{lawful_parts};
 ghost use Rattle.fallible_iterator.specs.Picking.{call_at_two, takes_at_two};
-ghost use Rattle.fallible_itertools_adapters.specs.DedupByWithCount.{dedup_by_with_count_asks, dedup_by_with_count_contract, dedup_by_with_count_parts, dedup_by_with_count_takes};
+ghost use Rattle.fallible_itertools_adapters.specs.DedupByWithCount.{dedup_by_with_count_asks, dedup_by_with_count_contract, dedup_by_with_count_made, dedup_by_with_count_parts, dedup_by_with_count_takes};
 ghost use Rattle.fallible_itertools_adapters.specs.Holding.{held_beside};
 ghost use Rattle.fallible_itertools_adapters.specs.Laws.DedupByWithCount.{dedup_by_with_count_takes_stop, holds_dedup_by_with_count, lawful_dedup_by_with_count};
 
@@ -42,7 +42,7 @@ where
 
     type Error = I::Error;
 
-    ghost contract = { seen_as dedup_by_with_count_parts
+    ghost contract = { parts_as dedup_by_with_count_parts
         (dedup_by_with_count_contract I.contract F.FnMut) };
 
     /// Returns the stop that is due, without a draw. Otherwise it draws until an item differs from the buffered one, or a stop comes.
@@ -65,7 +65,7 @@ where
         drive_holding(&mut self.it, &mut self.stage, &SameCountHold, state, turn)
     }
 
-    ghost lawful = { lawful_seen dedup_by_with_count_parts
+    ghost lawful = { lawful_parts dedup_by_with_count_made
         (lawful_dedup_by_with_count F.FnMut I.lawful) };
 }
 

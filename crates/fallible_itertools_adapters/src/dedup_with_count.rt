@@ -1,8 +1,8 @@
 //! The adapter that yields the first of adjacent equal items beside their number.
 ghost use Rattle.std.specs.Prelude.{⊤, Option, Result, None, ◌≡◌};
-ghost use Rattle.fallible_iterator.specs.Contract.{seen_as};
-ghost use Rattle.fallible_iterator.specs.Laws.Contract.{lawful_seen};
-ghost use Rattle.fallible_itertools_adapters.specs.DedupWithCount.{dedup_with_count_asks, dedup_with_count_contract, dedup_with_count_parts};
+ghost use Rattle.fallible_iterator.specs.Contract.{parts_as};
+ghost use Rattle.fallible_iterator.specs.Laws.Contract.{lawful_parts};
+ghost use Rattle.fallible_itertools_adapters.specs.DedupWithCount.{dedup_with_count_asks, dedup_with_count_contract, dedup_with_count_made, dedup_with_count_parts};
 ghost use Rattle.fallible_itertools_adapters.specs.Holding.{held_one};
 ghost use Rattle.fallible_itertools_adapters.specs.Laws.DedupWithCount.{holds_dedup_with_count, lawful_dedup_with_count};
 
@@ -40,7 +40,7 @@ where
 
     type Error = I::Error;
 
-    ghost contract = { seen_as dedup_with_count_parts (dedup_with_count_contract I.Item.eq I.contract) };
+    ghost contract = { parts_as dedup_with_count_parts (dedup_with_count_contract I.Item.eq I.contract) };
 
     /// Returns the stop that is due, without a draw. Otherwise it draws until an item differs from the buffered one, or a stop comes.
     fn next(&mut self) -> Result<Option<(usize, I::Item)>, I::Error> {
@@ -62,7 +62,7 @@ where
         drive_holding(&mut self.it, &mut self.stage, &EqualHold, state, turn)
     }
 
-    ghost lawful = { lawful_seen dedup_with_count_parts
+    ghost lawful = { lawful_parts dedup_with_count_made
         (lawful_dedup_with_count I.Item.eq I.lawful) };
 }
 

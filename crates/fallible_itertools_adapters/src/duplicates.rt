@@ -1,9 +1,9 @@
 // The adapter that yields an item where it comes for the second time.
 ghost use Rattle.std.specs.Prelude.{◌≡◌, ⊤, Option, Result};
 ghost use Rattle.std.specs.HashMap.{IsEmpty};
-ghost use Rattle.fallible_iterator.specs.Contract.{seen_as};
-ghost use Rattle.fallible_iterator.specs.Laws.Contract.{lawful_seen};
-ghost use Rattle.fallible_itertools_adapters.specs.Duplicates.{duplicates_asks, duplicates_came, duplicates_contract, duplicates_parts, duplicates_source, kept_unless};
+ghost use Rattle.fallible_iterator.specs.Contract.{parts_as};
+ghost use Rattle.fallible_iterator.specs.Laws.Contract.{lawful_parts};
+ghost use Rattle.fallible_itertools_adapters.specs.Duplicates.{duplicates_asks, duplicates_came, duplicates_contract, duplicates_made, duplicates_parts, duplicates_source, kept_unless};
 ghost use Rattle.fallible_itertools_adapters.specs.Laws.Duplicates.{lawful_duplicates};
 
 use fallible_iterator::extending::{FirstTurn, Outcome, Pass, drive_passing};
@@ -51,7 +51,7 @@ where
 
     type Error = I::Error;
 
-    ghost contract = { seen_as duplicates_parts
+    ghost contract = { parts_as duplicates_parts
         (duplicates_contract I.Item.eq I.Error.from_gives I.contract) };
 
     /// Draws until an item comes that equals exactly one before it, or a failure or an `Ok(None)`.
@@ -71,7 +71,7 @@ where
         drive_passing(&mut self.it, &mut self.came, &SecondPass, state, turn)
     }
 
-    ghost lawful = { lawful_seen duplicates_parts
+    ghost lawful = { lawful_parts duplicates_made
         (lawful_duplicates I.Item.eq I.Error.from_gives I.lawful) };
 }
 

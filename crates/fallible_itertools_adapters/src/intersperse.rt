@@ -1,9 +1,9 @@
 // The adapter that puts a separator between items.
 ghost use Rattle.std.specs.Prelude.{◌≡◌, ◌^◌, ◌-◌, min, Option, Result, ⊤, None, false};
-ghost use Rattle.fallible_iterator.specs.Contract.{seen_as};
-ghost use Rattle.fallible_iterator.specs.Laws.Contract.{lawful_seen};
+ghost use Rattle.fallible_iterator.specs.Contract.{parts_as};
+ghost use Rattle.fallible_iterator.specs.Laws.Contract.{lawful_parts};
 ghost use Rattle.fallible_iterator.specs.Lists.{result_answer};
-ghost use Rattle.fallible_itertools_adapters.specs.Intersperse.{CloneSeparates, intersperse_contract, intersperse_parts};
+ghost use Rattle.fallible_itertools_adapters.specs.Intersperse.{CloneSeparates, intersperse_contract, intersperse_made, intersperse_parts};
 ghost use Rattle.fallible_itertools_adapters.specs.Laws.Intersperse.{lawful_intersperse};
 ghost use Rattle.fallible_itertools_adapters.specs.Laws.Parting.{is_stage_parting};
 ghost use Rattle.fallible_itertools_adapters.specs.Parting.{fitting, intersperse_hint, interspersed_items, item_comes, parting_on_item};
@@ -43,7 +43,7 @@ where
 
     type Error = I::Error;
 
-    ghost contract = { seen_as intersperse_parts
+    ghost contract = { parts_as intersperse_parts
         (intersperse_contract I.Item.is_clone I.Item.is_infallible I.Error.from_gives
         I.contract) };
 
@@ -65,7 +65,7 @@ where
         hint_parting(self.it.size_hint(), &self.stage)
     }
 
-    ghost lawful = { lawful_seen intersperse_parts
+    ghost lawful = { lawful_parts intersperse_made
         (lawful_intersperse I.Item.is_clone I.Item.is_infallible I.Error.from_gives I.lawful) };
 }
 

@@ -1,8 +1,8 @@
 // The adapter that puts what a closure returns between items.
 ghost use Rattle.std.specs.Prelude.{Option, Result, None, false, ◌≡◌};
-ghost use Rattle.fallible_iterator.specs.Contract.{seen_as};
-ghost use Rattle.fallible_iterator.specs.Laws.Contract.{lawful_seen};
-ghost use Rattle.fallible_itertools_adapters.specs.IntersperseWith.{CallSeparates, CanCallOn, intersperse_with_contract, intersperse_with_parts};
+ghost use Rattle.fallible_iterator.specs.Contract.{parts_as};
+ghost use Rattle.fallible_iterator.specs.Laws.Contract.{lawful_parts};
+ghost use Rattle.fallible_itertools_adapters.specs.IntersperseWith.{CallSeparates, CanCallOn, intersperse_with_contract, intersperse_with_made, intersperse_with_parts};
 ghost use Rattle.fallible_itertools_adapters.specs.Laws.IntersperseWith.{lawful_intersperse_with};
 ghost use Rattle.fallible_itertools_adapters.specs.Laws.Parting.{is_stage_parting};
 ghost use Rattle.fallible_itertools_adapters.specs.Parting.{item_comes, parting_on_item};
@@ -42,7 +42,7 @@ where
 
     type Error = I::Error;
 
-    ghost contract = { seen_as intersperse_with_parts
+    ghost contract = { parts_as intersperse_with_parts
         (intersperse_with_contract I.contract F.FnMut) };
 
     /// Yields the buffered item without a draw, and draws once if none is buffered. If what it draws is an item after the first, it calls the closure once.
@@ -63,7 +63,7 @@ where
         hint_parting(self.it.size_hint(), &self.stage)
     }
 
-    ghost lawful = { lawful_seen intersperse_with_parts
+    ghost lawful = { lawful_parts intersperse_with_made
         (lawful_intersperse_with F.FnMut I.lawful) };
 }
 

@@ -1,10 +1,10 @@
 // The adapter that yields each two adjacent items.
 ghost use Rattle.std.specs.Prelude.{◌≡◌, ⊤, Option, Result, Some, None};
-ghost use Rattle.fallible_iterator.specs.Contract.{seen_as};
-ghost use Rattle.fallible_iterator.specs.Laws.Contract.{lawful_seen};
+ghost use Rattle.fallible_iterator.specs.Contract.{parts_as};
+ghost use Rattle.fallible_iterator.specs.Laws.Contract.{lawful_parts};
 ghost use Rattle.fallible_iterator.specs.Passing.{passing_step};
 ghost use Rattle.fallible_itertools_adapters.specs.Holding.{as_answered_item};
-ghost use Rattle.fallible_itertools_adapters.specs.TupleWindows.{tuple_windows_contract, tuple_windows_parts, window_at, windows_asks};
+ghost use Rattle.fallible_itertools_adapters.specs.TupleWindows.{tuple_windows_contract, tuple_windows_made, tuple_windows_parts, window_at, windows_asks};
 ghost use Rattle.fallible_itertools_adapters.specs.Laws.TupleWindows.{lawful_tuple_windows};
 
 use fallible_iterator::extending::{Outcome, Pass, drive_passing};
@@ -38,7 +38,7 @@ where
 
     type Error = I::Error;
 
-    ghost contract = { seen_as tuple_windows_parts
+    ghost contract = { parts_as tuple_windows_parts
         (tuple_windows_contract I.Item.is_clone I.Item.is_infallible I.Error.from_gives
         I.contract) };
 
@@ -74,7 +74,7 @@ where
         drive_passing(&mut self.it, &mut self.held, &WindowPass, state, turn)
     }
 
-    ghost lawful = { lawful_seen tuple_windows_parts
+    ghost lawful = { lawful_parts tuple_windows_made
         (lawful_tuple_windows I.Item.is_clone I.Item.is_infallible I.Error.from_gives I.lawful) };
 }
 

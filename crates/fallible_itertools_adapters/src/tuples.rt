@@ -1,10 +1,10 @@
 //! The adapter that yields pairs of items that don't overlap.
 ghost use Rattle.std.specs.Prelude.{◌≡◌, ⊤, Option, Result, Some, None};
-ghost use Rattle.fallible_iterator.specs.Contract.{seen_as};
-ghost use Rattle.fallible_iterator.specs.Laws.Contract.{lawful_seen};
+ghost use Rattle.fallible_iterator.specs.Contract.{parts_as};
+ghost use Rattle.fallible_iterator.specs.Laws.Contract.{lawful_parts};
 ghost use Rattle.fallible_iterator.specs.Passing.{passing_step};
 ghost use Rattle.fallible_itertools_adapters.specs.Holding.{as_answered_item};
-ghost use Rattle.fallible_itertools_adapters.specs.Tuples.{items_before_pair, tuples_asks, tuples_contract, tuples_parts};
+ghost use Rattle.fallible_itertools_adapters.specs.Tuples.{items_before_pair, tuples_asks, tuples_contract, tuples_made, tuples_parts};
 ghost use Rattle.fallible_itertools_adapters.specs.Laws.Tuples.{lawful_tuples};
 
 use fallible_iterator::extending::{Outcome, Pass, drive_passing, kept};
@@ -36,7 +36,7 @@ where
 
     type Error = I::Error;
 
-    ghost contract = { seen_as tuples_parts (tuples_contract I.contract) };
+    ghost contract = { parts_as tuples_parts (tuples_contract I.contract) };
 
     /// Draws once if an item is buffered, and otherwise until a second item, a failure or an `Ok(None)` comes.
     fn next(&mut self) -> Result<Option<(I::Item, I::Item)>, I::Error> {
@@ -63,7 +63,7 @@ where
         drive_passing(&mut self.it, &mut self.held, &TuplePass, state, turn)
     }
 
-    ghost lawful = { lawful_seen tuples_parts (lawful_tuples I.lawful) };
+    ghost lawful = { lawful_parts tuples_made (lawful_tuples I.lawful) };
 }
 
 // An item is held, or yielded beside the one that is.

@@ -1,9 +1,9 @@
 // The adapter that yields each item that equals none before it.
 ghost use Rattle.std.specs.Prelude.{◌≡◌, ⊤, false, Option, Result};
 ghost use Rattle.std.specs.HashSet.{IsEmpty, contains};
-ghost use Rattle.fallible_iterator.specs.Contract.{seen_as};
-ghost use Rattle.fallible_iterator.specs.Laws.Contract.{lawful_seen};
-ghost use Rattle.fallible_itertools_adapters.specs.Unique.{unique_asks, unique_contract, unique_parts, unique_seen, unique_source, unique_unseen};
+ghost use Rattle.fallible_iterator.specs.Contract.{parts_as};
+ghost use Rattle.fallible_iterator.specs.Laws.Contract.{lawful_parts};
+ghost use Rattle.fallible_itertools_adapters.specs.Unique.{unique_asks, unique_contract, unique_made, unique_parts, unique_seen, unique_source, unique_unseen};
 ghost use Rattle.fallible_itertools_adapters.specs.Laws.Unique.{lawful_unique};
 
 use fallible_iterator::extending::{FirstTurn, Outcome, Pass, drive_passing};
@@ -51,7 +51,7 @@ where
 
     type Error = I::Error;
 
-    ghost contract = { seen_as unique_parts
+    ghost contract = { parts_as unique_parts
         (unique_contract I.Item.eq I.Item.is_clone I.Item.is_infallible I.Error.from_gives
         I.contract) };
 
@@ -72,7 +72,7 @@ where
         drive_passing(&mut self.it, &mut self.seen, &UniquePass, state, turn)
     }
 
-    ghost lawful = { lawful_seen unique_parts
+    ghost lawful = { lawful_parts unique_made
         (lawful_unique I.Item.eq I.Item.is_clone I.Item.is_infallible I.Error.from_gives
         I.lawful) };
 }

@@ -2,9 +2,9 @@
 ghost use Rattle.std.specs.Prelude.{Ok, Option, Result, ◌≡◌};
 ghost use Rattle.std.specs.HashSet.{IsEmpty};
 ghost use Rattle.fallible_iterator.specs.Closures.{call_by_reference, takes_by_reference};
-ghost use Rattle.fallible_iterator.specs.Contract.{seen_as};
-ghost use Rattle.fallible_iterator.specs.Laws.Contract.{lawful_seen};
-ghost use Rattle.fallible_itertools_adapters.specs.UniqueBy.{key_asks, key_takes, keyed_by, unique_by_closure, unique_by_contract, unique_by_keys, unique_by_parts, unique_by_source};
+ghost use Rattle.fallible_iterator.specs.Contract.{parts_as};
+ghost use Rattle.fallible_iterator.specs.Laws.Contract.{lawful_parts};
+ghost use Rattle.fallible_itertools_adapters.specs.UniqueBy.{key_asks, key_takes, keyed_by, unique_by_closure, unique_by_contract, unique_by_keys, unique_by_made, unique_by_parts, unique_by_source};
 ghost use Rattle.fallible_itertools_adapters.specs.Laws.UniqueBy.{lawful_unique_by};
 
 use fallible_iterator::extending::{FirstTurn, Outcome, Pass, drive_passing};
@@ -54,7 +54,7 @@ where
 
     type Error = I::Error;
 
-    ghost contract = { seen_as unique_by_parts
+    ghost contract = { parts_as unique_by_parts
         (unique_by_contract K.eq I.Error.from_gives I.contract F.FnMut) };
 
     /// Draws until an item comes whose key equals none before it, or a failure or an `Ok(None)`. It calls the closure on each item.
@@ -74,7 +74,7 @@ where
         drive_passing(&mut self.it, &mut self.keying, &KeyPass, state, turn)
     }
 
-    ghost lawful = { lawful_seen unique_by_parts
+    ghost lawful = { lawful_parts unique_by_made
         (lawful_unique_by K.eq I.Error.from_gives F.FnMut I.lawful) };
 }
 

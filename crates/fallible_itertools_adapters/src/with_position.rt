@@ -1,9 +1,9 @@
 // The adapter that yields each item with its position.
 ghost use Rattle.std.specs.Prelude.{◌≡◌, ⊤, Bool, None, Option, Result, Some};
-ghost use Rattle.fallible_iterator.specs.Contract.{seen_as};
-ghost use Rattle.fallible_iterator.specs.Laws.Contract.{lawful_seen};
+ghost use Rattle.fallible_iterator.specs.Contract.{parts_as};
+ghost use Rattle.fallible_iterator.specs.Laws.Contract.{lawful_parts};
 ghost use Rattle.fallible_itertools_adapters.specs.Holding.{held_one, holding_step};
-ghost use Rattle.fallible_itertools_adapters.specs.WithPosition.{position_asks, position_before_item, position_before_stop, with_position_contract, with_position_parts};
+ghost use Rattle.fallible_itertools_adapters.specs.WithPosition.{position_asks, position_before_item, position_before_stop, with_position_contract, with_position_made, with_position_parts};
 ghost use Rattle.fallible_itertools_adapters.specs.Laws.WithPosition.{position_asks_holds_held_one, lawful_with_position};
 
 use crate::holding::{Hold, drive_holding};
@@ -54,7 +54,7 @@ where
 
     type Error = I::Error;
 
-    ghost contract = { seen_as with_position_parts (with_position_contract I.contract) };
+    ghost contract = { parts_as with_position_parts (with_position_contract I.contract) };
 
     /// Returns the stop that is due, without a draw. Otherwise it draws once if an item is buffered, and otherwise twice, or up to a stop.
     fn next(&mut self) -> Result<Option<(Position, I::Item)>, I::Error> {
@@ -102,7 +102,7 @@ where
         drive_holding(&mut self.it, &mut self.stage, &PositionHold, state, turn)
     }
 
-    ghost lawful = { lawful_seen with_position_parts (lawful_with_position I.lawful) };
+    ghost lawful = { lawful_parts with_position_made (lawful_with_position I.lawful) };
 }
 
 // One draw after that item, which is yielded in any case. It is buffered no more, and no stop is due.

@@ -4,7 +4,7 @@ use Rattle.std.specs.Fn.{Mut}
 use Rattle.std.specs.Borrow.{Bor}
 use Rattle.std.proofs.Common.{refl, sym, ap, subst, arith, inl, inr, ◌∙◌}
 use Rattle.fallible_iterator.specs.Closures.{call_by_reference}
-use Rattle.fallible_iterator.specs.Contract.{Contract, seen_as}
+use Rattle.fallible_iterator.specs.Contract.{Contract, parts_as}
 use Rattle.fallible_iterator.specs.Lists.{Acts, Lists}
 use Rattle.fallible_iterator.specs.Making.{ListsMade}
 use Rattle.fallible_itertools_adapters.specs.ChunkBy.{Group, MadeGroup, by_its_key, chunk_by_asks, chunk_by_contract, chunk_by_parts, chunked_by, chunked_by_from, group_at, group_at_stop, group_begun, group_by, group_grown, group_held, group_or}
@@ -192,7 +192,7 @@ module _ {A K E : Type 0} (eq : K → K → Bool) (h : A → Result K E) where
   pub chunked_by_in_parts : (a : List (Result A E)) (e : E) (b : List (Result A E)) → chunked_by eq h (a ++ Err e ∷ b) ≡ chunked_by eq h a ++ Err e ∷ chunked_by eq h b
   chunked_by_in_parts a e b = splits_at_failure_where_is_held_list (group_outcome eq h) (next_group eq h) None next_held_at_stop_none (λ a x is. group_outcome_by_is_no_end a (h x) is) (chunked_by eq h) listed_is_chunked_by a e b
 
-pub lists_up_to_refusal_chunked : {S F A K E : Type 0} {it : S} (m : Contract S A E) (from : AllocError → E → Type 0) (eq : K → K → Bool) (c : Mut F (Bor A × Unit {0}) (Result K E)) (f : F) (h : A → Result K E) → Acts (call_by_reference c) f h → (s : ChunkBy S K F A E) (l : List (Result A E)) → chunk_by_parts s ≡ (it, ((f, None), None)) → Lists m.steps it l → ListsMade MadeGroup (seen_as chunk_by_parts (chunk_by_contract from eq c m)).steps from s (chunked_by eq h l)
+pub lists_up_to_refusal_chunked : {S F A K E : Type 0} {it : S} (m : Contract S A E) (from : AllocError → E → Type 0) (eq : K → K → Bool) (c : Mut F (Bor A × Unit {0}) (Result K E)) (f : F) (h : A → Result K E) → Acts (call_by_reference c) f h → (s : ChunkBy S K F A E) (l : List (Result A E)) → chunk_by_parts s ≡ (it, ((f, None), None)) → Lists m.steps it l → ListsMade MadeGroup (parts_as chunk_by_parts (chunk_by_contract from eq c m)).steps from s (chunked_by eq h l)
 lists_up_to_refusal_chunked {it = it} m from eq c f h acts s l parts i = lists_made_seen MadeGroup from chunk_by_parts (chunk_by_contract from eq c m).steps s _ _ _ parts (listed_is_chunked_by eq h l) (gives_made_of_held_list m.steps (chunk_by_asks from eq c) MadeGroup from (HeldAndState from eq c f h acts) (group_outcome eq h) (next_group eq h) (refuses_on_item from eq c f h acts) (held_and_made_at_stop from eq c f h acts) FullGroup (answers_held_chunk_by eq h) (made_at_stop from eq c) l it (f, None) None (refl, tt) i.runs)
 
 -- ---- its hint

@@ -2,7 +2,7 @@
 use Rattle.std.specs.Prelude.{◌≡◌, ℕ, ◌≤◌, ◌<◌, Bool, true, false, ltb, Option, Some, None, Result, Ok, Err, List, [], ◌∷◌, ◌++◌, length, ⊤, ◌⊎◌, vec_items}
 use Rattle.std.proofs.Common.{refl, sym, ap, subst, inl, inr}
 use Rattle.std.proofs.lemmas.Bool.{lt-ltb, le-ltb}
-use Rattle.fallible_iterator.specs.Contract.{Contract, seen_as}
+use Rattle.fallible_iterator.specs.Contract.{Contract, parts_as}
 use Rattle.fallible_iterator.specs.Lists.{Lists}
 use Rattle.fallible_iterator.specs.Making.{ListsMade}
 use Rattle.fallible_itertools_adapters.specs.Chunks.{Grows, batch_or, chunked, chunked_from, chunks_asks, chunks_contract, chunks_parts}
@@ -154,5 +154,5 @@ module _ {A E : Type 0} (from : AllocError → E → Type 0) (n : ℕ) where
   pub chunked_in_parts : (a : List (Result A E)) (e : E) (b : List (Result A E)) → chunked n (a ++ Err e ∷ b) ≡ chunked n a ++ Err e ∷ chunked n b
   chunked_in_parts a e b = splits_at_failure_where_is_held_list (batch_outcome n) (next_batch n) [] next_held_at_stop_none (λ a x is. batch_outcome_at_is_no_end (a ++ x ∷ []) (ltb (length (a ++ x ∷ [])) n) is) (chunked n) held_list_is_chunked a e b
 
-pub lists_up_to_refusal_chunked : {S A E : Type 0} {it : S} (m : Contract S A E) (from : AllocError → E → Type 0) (n : ℕ) (s : Chunks S A E) (l : List (Result A E)) → chunks_parts s ≡ (it, ((n, None), None)) → Lists m.steps it l → ListsMade (λ xs v. vec_items v ≡ xs) (seen_as chunks_parts (chunks_contract from m)).steps from s (chunked n l)
+pub lists_up_to_refusal_chunked : {S A E : Type 0} {it : S} (m : Contract S A E) (from : AllocError → E → Type 0) (n : ℕ) (s : Chunks S A E) (l : List (Result A E)) → chunks_parts s ≡ (it, ((n, None), None)) → Lists m.steps it l → ListsMade (λ xs v. vec_items v ≡ xs) (parts_as chunks_parts (chunks_contract from m)).steps from s (chunked n l)
 lists_up_to_refusal_chunked {it = it} m from n s l parts i = lists_made_seen (λ xs v. vec_items v ≡ xs) from chunks_parts (chunks_contract from m).steps s _ _ _ parts (held_list_is_chunked from n l) (gives_made_of_held_list m.steps (chunks_asks from) (λ xs v. vec_items v ≡ xs) from (HeldAndNumber from n) (batch_outcome n) (next_batch n) (refuses_on_item from n) (held_and_made_at_stop from n) FullBatch (answers_held_of_chunks from n) (made_at_stop from n) l it (n, None) [] (refl, tt) i.runs)

@@ -3,7 +3,7 @@ use Rattle.std.specs.Prelude.{◌≡◌, ℕ, ◌+◌, ◌-◌, ◌*◌, ◌/◌
 use Rattle.std.proofs.Common.{refl, sym, ap, subst, arith, length-append, ◌∙◌}
 use Rattle.std.proofs.lemmas.Bool.{leb-false}
 use Rattle.std.proofs.Math.Nat.{div-lt_iff_lt-mul, div-le_self, suc-mul}
-use Rattle.fallible_iterator.specs.Contract.{Contract, seen_as}
+use Rattle.fallible_iterator.specs.Contract.{Contract, parts_as}
 use Rattle.fallible_itertools_adapters.specs.Chunks.{batch_held, begun, chunks_asks, chunks_contract, chunks_due, chunks_parts, chunks_source, room_left}
 use Rattle.fallible_itertools_adapters.specs.Batch.{Grown}
 use Rattle.fallible_iterator.specs.Hints.{fitting_sum}
@@ -68,5 +68,5 @@ module _ {S A E : Type 0} (m : Contract S A E) (from : AllocError → E → Type
   source_hint_bounds_where_begun : (it : S) (p : ℕ × Option (Vec A Global)) (h : ℕ × Option ℕ) → IsBegun it p h → (k : ℕ × Option ℕ) × m.hints it k × ((n : ℕ) → EnoughBegun from p.0 p.1 k.0 n → h.0 ≤ n) × (h.1 ≡ fitting_sum k.1 (Some (batch_held p)))
   source_hint_bounds_where_begun it p h is = (is.0, is.1, (λ n few. rw is.2 (held_one_and_begun_at_most from p.0 is.0.0 n p.1 few)), is.3)
 
-  pub hints_where_held_of_chunks : HintsWhereHeld (seen_as chunks_parts (chunks_contract from m)) (chunks_due {I = S} {A = A} {E = E}) m chunks_source
+  pub hints_where_held_of_chunks : HintsWhereHeld (parts_as chunks_parts (chunks_contract from m)) (chunks_due {I = S} {A = A} {E = E}) m chunks_source
   hints_where_held_of_chunks = hints_where_held chunks_parts (chunks_contract from m).can_next m (chunks_asks from) (λ p x. ⊤) batch_held (holds_chunks from) (λ p low n. EnoughBegun from p.0 p.1 low n) (keeps_few_of_chunks_asks from) IsBegun source_hint_bounds_where_begun

@@ -2,7 +2,7 @@
 use Rattle.std.specs.Prelude.{◌≡◌, ◌≤◌, Option, Some, None, Result, Ok, Err, List, [], ◌∷◌, ◌++◌}
 use Rattle.std.specs.Fn.{Mut}
 use Rattle.std.proofs.Common.{refl, sym, ap, subst, arith, ◌∙◌}
-use Rattle.fallible_iterator.specs.Contract.{Contract, seen_as}
+use Rattle.fallible_iterator.specs.Contract.{Contract, parts_as}
 use Rattle.fallible_iterator.specs.Folds.{call_with}
 use Rattle.fallible_iterator.specs.Lists.{ActsWith, Lists}
 use Rattle.fallible_iterator.proofs.Lemmas.Lists.Passing.{lists_seen}
@@ -98,7 +98,7 @@ module _ {A E : Type 0} (h : A → A → OneOrBoth A E) where
     acts_by_next p a x o q at w = asks_is_function a x o q (subst (λ k. coalesce_asks call k x o q) at w)
 
 pub lists_coalesced : {S A F E : Type 0} {it : S} (m : Contract S A E) (g : Mut F (A × (A × Unit {0})) (OneOrBoth A E)) (s : Coalesce S F A E) (f : F) (h : A → A → OneOrBoth A E) (l : List (Result A E)) → coalesce_parts s ≡ (it, ((None, f), None)) → ActsWith (call_with g) f h → Lists m.steps it l
-    → Lists (seen_as coalesce_parts (coalesce_contract m g)).steps s (coalesced h l)
+    → Lists (parts_as coalesce_parts (coalesce_contract m g)).steps s (coalesced h l)
 lists_coalesced {it = it} m g s f h l parts a i = lists_seen coalesce_parts (coalesce_contract m g).steps s parts (held_list_is_coalesced h l) (gives_held_list m.steps (coalesce_asks (call_with g)) (HeldAndClosure h (call_with g) f a) (held_outcome h) (next_held h) (acts_by_next h (call_with g) f a) l it (None, f) None refl i.runs)
 
 -- ---- adjacent ones are apart

@@ -1,7 +1,7 @@
 -- What `Dedup` lists.
 use Rattle.std.specs.Prelude.{◌≡◌, ◌≤◌, Bool, true, false, Option, Some, None, Result, Ok, Err, List, [], ◌∷◌, ◌++◌}
 use Rattle.std.proofs.Common.{refl, ap, subst, arith}
-use Rattle.fallible_iterator.specs.Contract.{Contract, seen_as}
+use Rattle.fallible_iterator.specs.Contract.{Contract, parts_as}
 use Rattle.fallible_iterator.specs.Lists.{Lists}
 use Rattle.fallible_iterator.proofs.Lemmas.Lists.Passing.{lists_seen}
 use Rattle.fallible_itertools_adapters.specs.Dedup.{dedup_at, dedup_asks, dedup_before, dedup_contract, dedup_parts, deduped, deduped_at}
@@ -80,7 +80,7 @@ module _ {A E : Type 0} (eq : A → A → Bool) where
   pub deduped_in_parts : (a : List (Result A E)) (e : E) (b : List (Result A E)) → deduped eq (a ++ Err e ∷ b) ≡ deduped eq a ++ Err e ∷ deduped eq b
   deduped_in_parts a e b = splits_at_failure_where_is_held_list held_outcome (next_held eq) None (next_held_at_stop_none eq) outcome_never_end (deduped eq) held_list_is_deduped a e b
 
-pub lists_deduped : {S A E : Type 0} {it : S} (m : Contract S A E) (eq : A → A → Bool) (s : Dedup S A E) (l : List (Result A E)) → dedup_parts s ≡ (it, (None, None)) → Lists m.steps it l → Lists (seen_as dedup_parts (dedup_contract eq m)).steps s (deduped eq l)
+pub lists_deduped : {S A E : Type 0} {it : S} (m : Contract S A E) (eq : A → A → Bool) (s : Dedup S A E) (l : List (Result A E)) → dedup_parts s ≡ (it, (None, None)) → Lists m.steps it l → Lists (parts_as dedup_parts (dedup_contract eq m)).steps s (deduped eq l)
 lists_deduped {it = it} m eq s l parts i = lists_seen dedup_parts (dedup_contract eq m).steps s parts (held_list_is_deduped eq l) (gives_held_list m.steps (dedup_asks eq) (λ p a. p ≡ a) (held_outcome eq) (next_held eq) (acts_by_next eq) l it None None refl i.runs)
 
 -- ---- its hint

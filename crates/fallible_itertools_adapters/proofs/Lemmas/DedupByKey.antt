@@ -3,7 +3,7 @@ use Rattle.std.specs.Prelude.{◌≡◌, ◌≤◌, Bool, true, false, Option, S
 use Rattle.std.specs.Fn.{Mut}
 use Rattle.std.specs.Borrow.{Bor}
 use Rattle.std.proofs.Common.{refl, ap, subst, arith, ◌∙◌}
-use Rattle.fallible_iterator.specs.Contract.{Contract, seen_as}
+use Rattle.fallible_iterator.specs.Contract.{Contract, parts_as}
 use Rattle.fallible_iterator.specs.Closures.{IsCallable, call_by_reference}
 use Rattle.fallible_iterator.specs.Lists.{Acts, Lists}
 use Rattle.fallible_iterator.proofs.Lemmas.Lists.Passing.{lists_seen}
@@ -114,7 +114,7 @@ module _ {A K E : Type 0} (eq : K → K → Bool) where
       acts_by_next p a x o q at w = asks_is_function a x o q (subst (λ k. dedup_key_asks eq call k x o q) at w)
 
 pub lists_deduped_by_key : {S A K F E : Type 0} {it : S} (m : Contract S A E) (eq : K → K → Bool) (g : Mut F (Bor A × Unit {0}) (Result K E)) (s : DedupByKey S K F A E) (f : F) (h : A → Result K E) (l : List (Result A E)) → dedup_by_key_parts s ≡ (it, ((None, f), None)) → Acts (call_by_reference g) f h → Lists m.steps it l
-    → Lists (seen_as dedup_by_key_parts (dedup_by_key_contract eq m g)).steps s (deduped_by_key eq h l)
+    → Lists (parts_as dedup_by_key_parts (dedup_by_key_contract eq m g)).steps s (deduped_by_key eq h l)
 lists_deduped_by_key {it = it} m eq g s f h l parts a i = lists_seen dedup_by_key_parts (dedup_by_key_contract eq m g).steps s parts (held_list_is_deduped_by_key eq h l) (gives_held_list m.steps (dedup_key_asks eq (call_by_reference g)) (HeldAndClosure eq h (call_by_reference g) f a) (held_outcome eq h) (next_held eq h) (acts_by_next eq h (call_by_reference g) f a) l it (None, f) None refl i.runs)
 
 -- ---- its hint

@@ -3,7 +3,7 @@ use Rattle.std.specs.Prelude.{◌≡◌, ℕ, ◌≤◌, Bool, Option, Some, Non
 use Rattle.std.specs.Fn.{Mut}
 use Rattle.std.specs.Borrow.{Bor}
 use Rattle.std.proofs.Common.{refl, ap, subst, arith, ◌∙◌}
-use Rattle.fallible_iterator.specs.Contract.{Contract, seen_as}
+use Rattle.fallible_iterator.specs.Contract.{Contract, parts_as}
 use Rattle.fallible_iterator.specs.Lists.{ActsWith, Lists}
 use Rattle.fallible_iterator.specs.Picking.{call_at_two}
 use Rattle.fallible_iterator.proofs.Lemmas.Lists.Passing.{lists_seen}
@@ -40,7 +40,7 @@ module _ {A E : Type 0} (h : A → A → Result Bool E) where
     acts_by_held p a x o q at w = asks_is_function a x o q (subst (λ k. dedup_by_with_count_asks call k x o q) at w)
 
 pub lists_deduped_by_with_count : {S A F E : Type 0} {it : S} (m : Contract S A E) (g : Mut F (Bor A × (Bor A × Unit {0})) (Result Bool E)) (s : DedupByWithCount S F A E) (f : F) (h : A → A → Result Bool E) (l : List (Result A E)) → dedup_by_with_count_parts s ≡ (it, ((None, f), None)) → ActsWith (call_at_two g) f h → Lists m.steps it l
-    → Lists (seen_as dedup_by_with_count_parts (dedup_by_with_count_contract m g)).steps s (deduped_by_with_count h l)
+    → Lists (parts_as dedup_by_with_count_parts (dedup_by_with_count_contract m g)).steps s (deduped_by_with_count h l)
 lists_deduped_by_with_count {it = it} m g s f h l parts a i = lists_seen dedup_by_with_count_parts (dedup_by_with_count_contract m g).steps s parts (held_list_is_deduped_by_with_count h l) (gives_held_list m.steps (dedup_by_with_count_asks (call_at_two g)) (IsBesideClosure h (call_at_two g) f a) (count_outcome h) (held_after_count h) (acts_by_held h (call_at_two g) f a) l it (None, f) None refl i.runs)
 
 -- ---- its hint

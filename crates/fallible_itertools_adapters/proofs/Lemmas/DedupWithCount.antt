@@ -1,7 +1,7 @@
 -- What `DedupWithCount` lists, and its hint.
 use Rattle.std.specs.Prelude.{◌≡◌, ℕ, ◌≤◌, Bool, Option, Some, None, Result, Ok, List}
 use Rattle.std.proofs.Common.{refl, subst, arith}
-use Rattle.fallible_iterator.specs.Contract.{Contract, seen_as}
+use Rattle.fallible_iterator.specs.Contract.{Contract, parts_as}
 use Rattle.fallible_iterator.specs.Lists.{Lists}
 use Rattle.fallible_iterator.proofs.Lemmas.Lists.Passing.{lists_seen}
 use Rattle.fallible_itertools_adapters.specs.DedupWithCount.{dedup_with_count_asks, dedup_with_count_contract, dedup_with_count_parts}
@@ -32,7 +32,7 @@ module _ {A E : Type 0} (eq : A → A → Bool) where
   unfolding deduped_with_count
   held_list_is_deduped_with_count l = held_list_is_counted_from are_equal None l
 
-pub lists_deduped_with_count : {S A E : Type 0} {it : S} (m : Contract S A E) (eq : A → A → Bool) (s : DedupWithCount S A E) (l : List (Result A E)) → dedup_with_count_parts s ≡ (it, (None, None)) → Lists m.steps it l → Lists (seen_as dedup_with_count_parts (dedup_with_count_contract eq m)).steps s (deduped_with_count eq l)
+pub lists_deduped_with_count : {S A E : Type 0} {it : S} (m : Contract S A E) (eq : A → A → Bool) (s : DedupWithCount S A E) (l : List (Result A E)) → dedup_with_count_parts s ≡ (it, (None, None)) → Lists m.steps it l → Lists (parts_as dedup_with_count_parts (dedup_with_count_contract eq m)).steps s (deduped_with_count eq l)
 lists_deduped_with_count {E = E} {it = it} m eq s l parts i = lists_seen dedup_with_count_parts (dedup_with_count_contract eq m).steps s parts (held_list_is_deduped_with_count eq l) (gives_held_list m.steps (dedup_with_count_asks eq) (λ p a. p ≡ a) (count_outcome (are_equal {E = E} eq)) (held_after_count (are_equal {E = E} eq)) (acts_by_next eq) l it None None refl i.runs)
 
 -- ---- its hint

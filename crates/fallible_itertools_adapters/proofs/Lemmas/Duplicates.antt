@@ -7,7 +7,7 @@ use Rattle.std.specs.Map.{lookup}
 use Rattle.std.proofs.Common.{refl, sym, ap, subst, inl, inr, ◌∙◌, arith, ne_eqb}
 use Rattle.std.proofs.lemmas.List.Sums.{sum_by-cons}
 use Rattle.fallible_iterator.specs.Traces.{Answered, end}
-use Rattle.fallible_iterator.specs.Contract.{Contract, seen_as}
+use Rattle.fallible_iterator.specs.Contract.{Contract, parts_as}
 use Rattle.fallible_iterator.specs.Lists.{AlwaysGives, Lists, result_answer}
 use Rattle.fallible_iterator.specs.Making.{AnswersRefusal, IsRefusal}
 use Rattle.fallible_iterator.specs.Passing.{passing_step}
@@ -171,9 +171,9 @@ duplicates_from_none_is_duplicates_of : {A E : Type 0} (eq : A → A → Bool) (
 unfolding duplicates_of
 duplicates_from_none_is_duplicates_of eq l = refl
 
-pub lists_duplicates : {I A E : Type 0} (eq : A → A → Bool) (equivalence : IsEquivalence eq) (from : AllocError → E → Type 0) (m : Contract I A E) (s : Duplicates I A E) (l : List (Result A E)) → IsEmpty (duplicates_came s) → Lists m.steps s.it l → ListsUnlessRefused ⊤ (seen_as duplicates_parts (duplicates_contract eq from m)).steps from s (duplicates_of eq l)
+pub lists_duplicates : {I A E : Type 0} (eq : A → A → Bool) (equivalence : IsEquivalence eq) (from : AllocError → E → Type 0) (m : Contract I A E) (s : Duplicates I A E) (l : List (Result A E)) → IsEmpty (duplicates_came s) → Lists m.steps s.it l → ListsUnlessRefused ⊤ (parts_as duplicates_parts (duplicates_contract eq from m)).steps from s (duplicates_of eq l)
 lists_duplicates eq equivalence from m s l none i = record {
-  runs = subst (λ k. GivesUnlessRefused ⊤ (seen_as duplicates_parts (duplicates_contract eq from m)).steps from s k) (duplicates_from_none_is_duplicates_of eq l)
+  runs = subst (λ k. GivesUnlessRefused ⊤ (parts_as duplicates_parts (duplicates_contract eq from m)).steps from s k) (duplicates_from_none_is_duplicates_of eq l)
       (gives_unless_refused_seen ⊤ from duplicates_parts (duplicates_contract eq from m).steps (duplicates_from eq [] l) s
       (gives_duplicates _ eq equivalence from m.steps l [] s.it s.came i.runs (λ k. ap (lookup (eq k)) none)));
 }

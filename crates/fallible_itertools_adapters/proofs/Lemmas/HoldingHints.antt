@@ -2,14 +2,15 @@
 use Rattle.std.specs.Prelude.{◌≡◌, ℕ, suc, ◌+◌, ◌-◌, ◌≤◌, min, IfSome, Option, Some, None, Err, List, [], ◌∷◌, length}
 use Rattle.std.proofs.Common.{sym, ap, subst, arith, ◌∙◌}
 use Rattle.fallible_iterator.specs.Traces.{Answered, Yields, item, failure, end}
-use Rattle.fallible_iterator.specs.Contract.{Contract, seen_as}
+use Rattle.fallible_iterator.specs.Contract.{Contract, parts_as}
 use Rattle.fallible_iterator.specs.SoundHints.{BoundsAbove, BoundsBelow, Brackets, HintsAsSoundAs, SoundHints}
 use Rattle.fallible_iterator.proofs.Lemmas.Hints.Drawn.{as_sound_of_steps_within, brackets_zero_where_no_item, brackets_seen}
 use Rattle.fallible_iterator.proofs.Lemmas.Hints.Joining.{if_some_fitting_sum_at_least_both}
 use Rattle.fallible_iterator.specs.Hints.{fitting_sum}
 use Rattle.fallible_itertools_adapters.specs.Staging.{Made, stage_step}
 use Rattle.fallible_itertools_adapters.specs.Holding.{HintHeld, HintUnlessEnd, HintsPastFailure, HintsWhereHeld, Holds, MadeOfItem, StopMade, filling_contract, holding_contract, holding_meets, holding_step, made_answers, one_at_least, stop_comes}
-use Rattle.fallible_itertools_adapters.specs.Laws.Holding.{is_stage_holding, made_is_known_by_answers, made_is_none_where_no_answers, stage_step_of_holding_step}
+use Rattle.fallible_itertools_adapters.specs.Laws.Holding.{is_stage_holding, made_is_known_by_answers, made_is_none_where_no_answers}
+use Rattle.fallible_itertools_adapters.specs.Laws.HoldingTraces.{stage_step_of_holding_step}
 use Rattle.fallible_itertools_adapters.proofs.Lemmas.StagingHints.{MadeFew, MakesNoFewer, bounds_above_staged, bounds_below_staged, makes_at_most_items_and_held}
 use Rattle.fallible_iterator.specs.Outcome.{Outcome}
 use Rattle.fallible_iterator.specs.Outcome.TheVariants.{Kept, LeftOut, Failure, End}
@@ -82,7 +83,7 @@ module _ {V S P X B E : Type 0} (view : V → S × (P × Option (Option E))) (ca
   hint_where_held (s, (p, due)) h = HintUnlessEnd due (λ j. Is s p j) h
 
   abbrev SeenWhereHeld : Contract V B E
-  SeenWhereHeld = seen_as view (record (filling_contract m asks pre held hint_where_held) { can_next = can })
+  SeenWhereHeld = parts_as view (record (filling_contract m asks pre held hint_where_held) { can_next = can })
 
   abbrev Stage : S × (P × Option (Option E)) → Answered B E → S × (P × Option (Option E)) → Type 0
   Stage = stage_step stop_comes (holding_meets asks) m.steps
@@ -133,8 +134,8 @@ module _ {V S P X B E : Type 0} (view : V → S × (P × Option (Option E))) (m 
   source_hint_bounds_where_is_one s p h is = (is.0, is.1, (λ n few. rw is.2.0 few), is.2.1)
 
   -- also where the adapter has a condition of its own
-  pub hints_where_held_with_can_next : (can : S × (P × Option (Option E)) → Type 0) → HintsWhereHeld (seen_as view (record (holding_contract m asks pre held (one_at_least m held)) { can_next = can })) (λ s. (view s).1.1) m (λ s. (view s).0)
+  pub hints_where_held_with_can_next : (can : S × (P × Option (Option E)) → Type 0) → HintsWhereHeld (parts_as view (record (holding_contract m asks pre held (one_at_least m held)) { can_next = can })) (λ s. (view s).1.1) m (λ s. (view s).0)
   hints_where_held_with_can_next can = hints_where_held view can m asks pre held holds (λ p low n. min (low + held p) 1 ≤ n) keeps_few_of_one_at_least IsOne source_hint_bounds_where_is_one
 
-  pub hints_where_held_of_one_at_least : HintsWhereHeld (seen_as view (holding_contract m asks pre held (one_at_least m held))) (λ s. (view s).1.1) m (λ s. (view s).0)
+  pub hints_where_held_of_one_at_least : HintsWhereHeld (parts_as view (holding_contract m asks pre held (one_at_least m held))) (λ s. (view s).1.1) m (λ s. (view s).0)
   hints_where_held_of_one_at_least = hints_where_held_with_can_next (holding_contract m asks pre held (one_at_least m held)).can_next

@@ -2,7 +2,7 @@
 use Rattle.std.specs.Prelude.{◌≡◌, ℕ, suc, ◌⊎◌, Bool, false, Option, None, Result, Ok, Err, List, [], ◌∷◌, ◌↔◌}
 use Rattle.std.proofs.Common.{refl, sym, ap, subst, inl, inr, ◌∙◌}
 use Rattle.fallible_iterator.specs.Traces.{Answered, Run}
-use Rattle.fallible_iterator.specs.Contract.{Contract, seen_as}
+use Rattle.fallible_iterator.specs.Contract.{Contract, parts_as}
 use Rattle.fallible_iterator.specs.Lists.{Lists, result_answer}
 use Rattle.fallible_iterator.specs.Refusing.{AnswersRefusal, IsMadeOf, ListsUntilRefused}
 use Rattle.fallible_iterator.proofs.Lemmas.Lists.Passing.{lists_seen}
@@ -11,7 +11,7 @@ use Rattle.fallible_itertools_adapters.specs.Parting.{each_after_made, intersper
 use Rattle.fallible_itertools_adapters.specs.Intersperse.{CloneSeparates, IntersperseTrace, intersperse_step, intersperse_contract, intersperse_parts, each_after, interspersed}
 use Rattle.fallible_itertools_adapters.specs.Laws.Intersperse.{separator_stays}
 use Rattle.fallible_itertools_adapters.proofs.Lemmas.Parting.{always_gives_interspersed_by, gives_interspersed_by_until_refused}
-use Rattle.fallible_itertools_adapters.proofs.Lemmas.PartingTraces.{parting_law, stays_run}
+use Rattle.fallible_itertools_adapters.specs.Laws.PartingTraces.{parting_law, stays_run}
 use Rattle.std.specs.declared.alloc.AllocError.{AllocError}
 use Rattle.fallible_itertools_adapters.specs.declared.intersperse.Intersperse.{Intersperse}
 
@@ -41,7 +41,7 @@ module _ {A E : Type 0} (is_clone : A → A → Type 0) (is_infallible : A → T
     separator_is_next_of_clones : (x : A) (h : ℕ → Result A E) (v : Result A E) (y : A) → AtSeparator z x h → CloneSeparates is_clone is_infallible from x v y → (v ≡ h 0) × AtSeparator z y (λ n. h (suc n))
     separator_is_next_of_clones x h v y is w = let d = separator_answer_is_item v y (subst (λ (a : A). CloneSeparates is_clone is_infallible from a v y) is.0 w) in (d.0 ∙ sym (ap (λ k. k 0) is.1), (d.1, ap (λ k. λ n. k (suc n)) is.1))
 
-  pub lists_interspersed : {S : Type 0} {it : S} (z : A) → ((copy : A) → is_clone z copy → copy ≡ z) → is_infallible z → (m : Contract S A E) (s : Intersperse S A E) (l : List (Result A E)) → intersperse_parts s ≡ (it, (z, (false, None))) → Lists m.steps it l → Lists (seen_as intersperse_parts (intersperse_contract is_clone is_infallible from m)).steps s (interspersed z l)
+  pub lists_interspersed : {S : Type 0} {it : S} (z : A) → ((copy : A) → is_clone z copy → copy ≡ z) → is_infallible z → (m : Contract S A E) (s : Intersperse S A E) (l : List (Result A E)) → intersperse_parts s ≡ (it, (z, (false, None))) → Lists m.steps it l → Lists (parts_as intersperse_parts (intersperse_contract is_clone is_infallible from m)).steps s (interspersed z l)
   lists_interspersed {it = it} z equal infallible m s l parts i = lists_seen intersperse_parts (intersperse_contract is_clone is_infallible from m).steps s parts (interspersed_by_constant_is_interspersed z l) (always_gives_interspersed_by (CloneSeparates is_clone is_infallible from) (AtSeparator z) (separator_is_next_of_clones z equal infallible) m.steps l it z (λ n. Ok z) (refl, refl) i.runs)
 
   -- ---- where a clone may fail
@@ -50,7 +50,7 @@ module _ {A E : Type 0} (is_clone : A → A → Type 0) (is_infallible : A → T
   clone_or_refusal z x h (Ok copy) y is w = inr (rw is.1 (rw (sym is.0) w.0), (w.1 ∙ is.0, ap (λ k. λ n. k (suc n)) is.1))
   clone_or_refusal z x h (Err e) y is w = inl (e, refl, w.0.1)
 
-  pub lists_interspersed_until_refused : {S : Type 0} {it : S} (z : A) → ((x : A) → is_clone x x) → (m : Contract S A E) (s : Intersperse S A E) (l : List (Result A E)) → intersperse_parts s ≡ (it, (z, (false, None))) → Lists m.steps it l → ListsUntilRefused is_clone (seen_as intersperse_parts (intersperse_contract is_clone is_infallible from m)).steps from s (interspersed z l)
+  pub lists_interspersed_until_refused : {S : Type 0} {it : S} (z : A) → ((x : A) → is_clone x x) → (m : Contract S A E) (s : Intersperse S A E) (l : List (Result A E)) → intersperse_parts s ≡ (it, (z, (false, None))) → Lists m.steps it l → ListsUntilRefused is_clone (parts_as intersperse_parts (intersperse_contract is_clone is_infallible from m)).steps from s (interspersed z l)
   lists_interspersed_until_refused {it = it} z itself m s l parts i = lists_until_refused_seen is_clone from intersperse_parts (intersperse_contract is_clone is_infallible from m).steps s parts (interspersed_by_constant_is_interspersed z l)
       (gives_interspersed_by_until_refused (CloneSeparates is_clone is_infallible from) (AtSeparator z) is_clone itself from (clone_or_refusal z) m.steps l it z (λ n. Ok z) (refl, refl) i.runs)
 

@@ -2,7 +2,7 @@
 use Rattle.std.specs.Prelude.{◌≡◌, ℕ, suc, ◌+◌, ◌-◌, ◌^◌, ◌≤◌, min, cond, ltb, Bool, true, false, Option, Some, None, Result, Ok, Err, IfSome}
 use Rattle.std.proofs.Common.{refl, arith}
 use Rattle.fallible_iterator.specs.Traces.{Answered, item}
-use Rattle.fallible_iterator.specs.Contract.{Contract, seen_as}
+use Rattle.fallible_iterator.specs.Contract.{Contract, parts_as}
 use Rattle.fallible_iterator.specs.Lists.{result_answer}
 use Rattle.fallible_iterator.specs.SoundHints.{Brackets, HintsAsSoundAs}
 use Rattle.fallible_iterator.proofs.Lemmas.Hints.Drawn.{as_sound_of_brackets, brackets_of_brackets_at_view}
@@ -71,5 +71,5 @@ module _ {Z A E : Type 0} (separates : Z → Result A E → Z → Type 0) where
       below = bounds_below_staged steps item_comes (parting_meets separates) (λ j low n. all_parted j low ≤ n) makes_no_fewer_than_all_parted h.0 _ s k due (due_few_of_interspersed_items k due h.0) b.below;
     }
 
-  pub hints_as_sound_parting : {V S : Type 0} (view : V → S × (Z × (Bool × Option A))) (can : Z → Type 0) (m : Contract S A E) (s : V) → HintsAsSoundAs (seen_as view (parting_contract separates can m)) s m (view s).0
+  pub hints_as_sound_parting : {V S : Type 0} (view : V → S × (Z × (Bool × Option A))) (can : Z → Type 0) (m : Contract S A E) (s : V) → HintsAsSoundAs (parts_as view (parting_contract separates can m)) s m (view s).0
   hints_as_sound_parting view can m s h is = (is.0, is.1, as_sound_of_brackets (λ u r v. parting_step separates m.steps (view u) r (view v)) m.steps s (view s).0 (λ n. min (interspersed_items (view s).1.1 n) (2 ^ 64 - 1)) (interspersed_high (view s).1.1) (λ k b. brackets_of_brackets_at_view (λ v. parting_stage (view v)) (λ u r v. parting_step separates m.steps (view u) r (view v)) (stage_step item_comes (parting_meets separates) m.steps) (λ u r v w. stage_step_of_parting_step separates m.steps (view u) r (view v) w) s _ (brackets_parted m.steps (view s).0 ((view s).1.0, (view s).1.1.0) (view s).1.1.1 k b)) h is.0 is.2)

@@ -2,7 +2,7 @@
 use Rattle.std.specs.Prelude.{◌≡◌, Option, Some, None, Result, Ok, Err, List, [], ◌∷◌}
 use Rattle.std.proofs.Common.{refl, sym, ap, subst}
 use Rattle.fallible_iterator.specs.Traces.{Answered}
-use Rattle.fallible_iterator.specs.Contract.{Contract, seen_as}
+use Rattle.fallible_iterator.specs.Contract.{Contract, parts_as}
 use Rattle.fallible_iterator.specs.Lists.{Lists}
 use Rattle.fallible_iterator.specs.Passing.{passing_step}
 use Rattle.fallible_iterator.specs.Refusing.{ListsUntilRefused}
@@ -56,7 +56,7 @@ module _ {A E : Type 0} (is_clone : A → A → Type 0) (is_infallible : A → T
   acts_by_next : (p a : Option A) (x : A) (o : Outcome (A × A) E) (q : Option A) → p ≡ a → windows_asks is_clone is_infallible from p x o q → (q ≡ next_item a x) × (o ≡ window_outcome a x)
   acts_by_next p a x o q at w = asks_is_function a x o q (subst (λ k. windows_asks is_clone is_infallible from k x o q) at w)
 
-  pub lists_windowed : {S : Type 0} {it : S} (m : Contract S A E) (s : TupleWindows S A E) (l : List (Result A E)) → tuple_windows_parts s ≡ (it, None) → Lists m.steps it l → Lists (seen_as tuple_windows_parts (tuple_windows_contract is_clone is_infallible from m)).steps s (windowed l)
+  pub lists_windowed : {S : Type 0} {it : S} (m : Contract S A E) (s : TupleWindows S A E) (l : List (Result A E)) → tuple_windows_parts s ≡ (it, None) → Lists m.steps it l → Lists (parts_as tuple_windows_parts (tuple_windows_contract is_clone is_infallible from m)).steps s (windowed l)
   lists_windowed {it = it} m s l parts i = lists_seen tuple_windows_parts (tuple_windows_contract is_clone is_infallible from m).steps s parts (windows_listed_is_windowed l) (gives_all m.steps (windows_asks is_clone is_infallible from) as_answered_item (λ p a. p ≡ a) window_outcome next_item acts_by_next l it None None refl i.runs)
 
 -- ---- where a clone may fail
@@ -75,7 +75,7 @@ module _ {A E : Type 0} (is_clone : A → A → Type 0) (is_infallible : A → T
   acts_or_refuses : (p a : Option A) (x : A) (o : Outcome (A × A) E) (q : Option A) → p ≡ a → windows_asks is_clone is_infallible from p x o q → (q ≡ next_item a x) × IsOutcomeOrRefused (HasSecondCloned is_clone) from (window_outcome a x) (as_answered_item x o)
   acts_or_refuses p a x o q at w = asked_or_refused a x o q (subst (λ k. windows_asks is_clone is_infallible from k x o q) at w)
 
-  pub lists_windowed_until_refused : {S : Type 0} {it : S} (m : Contract S A E) (s : TupleWindows S A E) (l : List (Result A E)) → tuple_windows_parts s ≡ (it, None) → Lists m.steps it l → ListsUntilRefused (HasSecondCloned is_clone) (seen_as tuple_windows_parts (tuple_windows_contract is_clone is_infallible from m)).steps from s (windowed l)
+  pub lists_windowed_until_refused : {S : Type 0} {it : S} (m : Contract S A E) (s : TupleWindows S A E) (l : List (Result A E)) → tuple_windows_parts s ≡ (it, None) → Lists m.steps it l → ListsUntilRefused (HasSecondCloned is_clone) (parts_as tuple_windows_parts (tuple_windows_contract is_clone is_infallible from m)).steps from s (windowed l)
   lists_windowed_until_refused {it = it} m s l parts i = lists_until_refused_seen (HasSecondCloned is_clone) from tuple_windows_parts (tuple_windows_contract is_clone is_infallible from m).steps s parts (windows_listed_is_windowed l)
       (gives_passed_until_refused (HasSecondCloned is_clone) from m.steps (windows_asks is_clone is_infallible from) as_answered_item (λ p a. p ≡ a) window_outcome next_item acts_or_refuses l it None None refl i.runs)
 

@@ -2,7 +2,7 @@
 use Rattle.std.specs.Prelude.{◌≡◌, ℕ, suc, Option, Some, None, Result, Ok, Err, List, [], ◌∷◌, option_map, ⊤}
 use Rattle.std.proofs.Common.{refl, sym, ap, subst}
 use Rattle.fallible_iterator.specs.Traces.{Answered, item, failure, end}
-use Rattle.fallible_iterator.specs.Contract.{Contract, seen_as}
+use Rattle.fallible_iterator.specs.Contract.{Contract, parts_as}
 use Rattle.fallible_iterator.specs.Hints.{hint_kept, kept_of}
 use Rattle.fallible_iterator.specs.Lists.{Lists}
 use Rattle.fallible_iterator.specs.Passing.{passing_step}
@@ -46,7 +46,7 @@ module _ {A E : Type 0} where
   unfolding tupled
   passed_is_tupled_where_none_held l = passed_is_tupled_after_held None l
 
-  pub lists_tupled : {S : Type 0} {it : S} (m : Contract S A E) (s : Tuples S A E) (l : List (Result A E)) → tuples_parts s ≡ (it, None) → Lists m.steps it l → Lists (seen_as tuples_parts (tuples_contract m)).steps s (tupled l)
+  pub lists_tupled : {S : Type 0} {it : S} (m : Contract S A E) (s : Tuples S A E) (l : List (Result A E)) → tuples_parts s ≡ (it, None) → Lists m.steps it l → Lists (parts_as tuples_parts (tuples_contract m)).steps s (tupled l)
   lists_tupled {it = it} m s l parts i = lists_seen tuples_parts (tuples_contract m).steps s parts (passed_is_tupled_where_none_held l) (gives_all m.steps tuples_asks as_answered_item (λ p a. p ≡ a) pair_outcome held_after acts_by_held l it None None refl i.runs)
 
 -- ---- one draw where none is held
@@ -102,7 +102,7 @@ module _ {S A E : Type 0} (steps : S → Answered A E → S → Type 0) where
     end_of_end = λ p q at w. leaves_of_passes p.0 q.0 p.1 q.1 end (passes_of_pass_trace w);
   }
 
-pub hints_as_sound_tuples : {V S A E : Type 0} (view : V → S × Option A) (m : Contract S A E) (s : V) → HintsAsSoundAs (seen_as view (tuples_contract m)) s m (view s).0
+pub hints_as_sound_tuples : {V S A E : Type 0} (view : V → S × Option A) (m : Contract S A E) (s : V) → HintsAsSoundAs (parts_as view (tuples_contract m)) s m (view s).0
 hints_as_sound_tuples view m s h is =
     let p = view s in
     let n = items_before_pair p.1 in

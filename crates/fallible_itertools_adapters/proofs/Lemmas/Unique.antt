@@ -6,7 +6,7 @@ use Rattle.std.specs.Set.{ClonesAreEqual, is_member}
 use Rattle.std.specs.List.{list_any}
 use Rattle.std.proofs.Common.{refl, sym, ap, subst, inl, inr, ◌∙◌}
 use Rattle.fallible_iterator.specs.Traces.{Answered, end}
-use Rattle.fallible_iterator.specs.Contract.{Contract, seen_as}
+use Rattle.fallible_iterator.specs.Contract.{Contract, parts_as}
 use Rattle.fallible_iterator.specs.Lists.{AlwaysGives, Lists, result_answer}
 use Rattle.fallible_iterator.specs.Making.{AnswersRefusal}
 use Rattle.fallible_iterator.specs.Passing.{passing_step}
@@ -97,9 +97,9 @@ unique_from_none_is_unique_of : {A E : Type 0} (eq : A → A → Bool) (l : List
 unfolding unique_of
 unique_from_none_is_unique_of eq l = refl
 
-pub lists_unique : {I A E : Type 0} (eq : A → A → Bool) (equivalence : IsEquivalence eq) (is_clone : A → A → Type 0) (clones : ClonesAreEqual eq is_clone) (is_infallible : A → Type 0) (from : AllocError → E → Type 0) (m : Contract I A E) (s : Unique I A E) (l : List (Result A E)) → IsEmpty (unique_seen s) → Lists m.steps s.it l → ListsUnlessRefused ⊥ (seen_as unique_parts (unique_contract eq is_clone is_infallible from m)).steps from s (unique_of eq l)
+pub lists_unique : {I A E : Type 0} (eq : A → A → Bool) (equivalence : IsEquivalence eq) (is_clone : A → A → Type 0) (clones : ClonesAreEqual eq is_clone) (is_infallible : A → Type 0) (from : AllocError → E → Type 0) (m : Contract I A E) (s : Unique I A E) (l : List (Result A E)) → IsEmpty (unique_seen s) → Lists m.steps s.it l → ListsUnlessRefused ⊥ (parts_as unique_parts (unique_contract eq is_clone is_infallible from m)).steps from s (unique_of eq l)
 lists_unique eq equivalence is_clone clones is_infallible from m s l none i = record {
-  runs = subst (λ k. GivesUnlessRefused ⊥ (seen_as unique_parts (unique_contract eq is_clone is_infallible from m)).steps from s k) (unique_from_none_is_unique_of eq l)
+  runs = subst (λ k. GivesUnlessRefused ⊥ (parts_as unique_parts (unique_contract eq is_clone is_infallible from m)).steps from s k) (unique_from_none_is_unique_of eq l)
       (gives_unless_refused_seen ⊥ from unique_parts (unique_contract eq is_clone is_infallible from m).steps (unique_from eq [] l) s
       (gives_unique _ eq equivalence is_clone clones is_infallible from m.steps l [] s.it s.seen i.runs (λ k. ap (list_any (eq k)) none)));
 }

@@ -9,7 +9,7 @@ use Rattle.std.specs.List.{list_any}
 use Rattle.std.proofs.Common.{refl, sym, ap, subst, inl, inr}
 use Rattle.fallible_iterator.specs.Traces.{Answered, end}
 use Rattle.fallible_iterator.specs.Closures.{call_by_reference}
-use Rattle.fallible_iterator.specs.Contract.{Contract, seen_as}
+use Rattle.fallible_iterator.specs.Contract.{Contract, parts_as}
 use Rattle.fallible_iterator.specs.Lists.{Acts, AlwaysGives, Lists, result_answer}
 use Rattle.fallible_iterator.specs.Making.{AnswersRefusal}
 use Rattle.fallible_iterator.specs.Passing.{passing_step}
@@ -120,9 +120,9 @@ unique_key_from_none_is_unique_by_key : {A K E : Type 0} (eq : K → K → Bool)
 unfolding unique_by_key
 unique_key_from_none_is_unique_by_key eq h l = refl
 
-pub lists_unique_by_key : {I A K F E : Type 0} (eq : K → K → Bool) (equivalence : IsEquivalence eq) (from : AllocError → E → Type 0) (m : Contract I A E) (g : Mut F (Bor A × Unit {0}) (Result K E)) (s : UniqueBy I K F) (f : F) (h : A → Result K E) (l : List (Result A E)) → IsEmpty (unique_by_keys s) → s.keying.1 ≡ f → Acts (call_by_reference g) f h → Lists m.steps s.it l → ListsUnlessRefused ⊥ (seen_as unique_by_parts (unique_by_contract eq from m g)).steps from s (unique_by_key eq h l)
+pub lists_unique_by_key : {I A K F E : Type 0} (eq : K → K → Bool) (equivalence : IsEquivalence eq) (from : AllocError → E → Type 0) (m : Contract I A E) (g : Mut F (Bor A × Unit {0}) (Result K E)) (s : UniqueBy I K F) (f : F) (h : A → Result K E) (l : List (Result A E)) → IsEmpty (unique_by_keys s) → s.keying.1 ≡ f → Acts (call_by_reference g) f h → Lists m.steps s.it l → ListsUnlessRefused ⊥ (parts_as unique_by_parts (unique_by_contract eq from m g)).steps from s (unique_by_key eq h l)
 lists_unique_by_key eq equivalence from m g s f h l none is acts i = record {
-  runs = subst (λ k. GivesUnlessRefused ⊥ (seen_as unique_by_parts (unique_by_contract eq from m g)).steps from s k) (unique_key_from_none_is_unique_by_key eq h l)
+  runs = subst (λ k. GivesUnlessRefused ⊥ (parts_as unique_by_parts (unique_by_contract eq from m g)).steps from s k) (unique_key_from_none_is_unique_by_key eq h l)
       (gives_unless_refused_seen ⊥ from unique_by_parts (unique_by_contract eq from m g).steps (unique_key_from eq h [] l) s
       (gives_first_of_keys _ eq equivalence from (call_by_reference g) f h acts m.steps l [] s.it s.keying i.runs ((λ k. ap (list_any (eq k)) none), is)));
 }

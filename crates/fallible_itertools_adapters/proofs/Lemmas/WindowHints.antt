@@ -2,7 +2,7 @@
 use Rattle.std.specs.Prelude.{◌≡◌, ℕ, ◌+◌, ◌-◌, ◌≤◌, option_map, Option, Some, None, List, [], ◌∷◌, ◌++◌, length, IfSome}
 use Rattle.std.proofs.Common.{refl, subst, arith, length-append}
 use Rattle.fallible_iterator.specs.Traces.{Answered, Yields, item, end}
-use Rattle.fallible_iterator.specs.Contract.{Contract, seen_as}
+use Rattle.fallible_iterator.specs.Contract.{Contract, parts_as}
 use Rattle.fallible_iterator.specs.Hints.{hint_less}
 use Rattle.fallible_iterator.specs.SoundHints.{Brackets, HintsAsSoundAs}
 use Rattle.fallible_iterator.specs.Passing.{passing_step}
@@ -97,5 +97,5 @@ module _ {A E : Type 0} (is_clone : A → A → Type 0) (is_infallible : A → T
         windows_bounded_below p k b xs q u ran step = let d = items_taken_by_pairs xs p q ran in let e = end_taken_of_window_hints q.0 u.0 q.1 u.1 end (passes_of_pass_trace step) refl in
             let long = length-append d.0 e.0 in let low : k.0 ≤ length (d.0 ++ e.0) = b.below (d.0 ++ e.0) e.1 e.2 (yields_appended_of_two_yields steps d.0 e.0 p.0 q.0 e.1 d.1 e.3) e.4 in let many = d.2 in let few = e.5 in omega (arith, long, low, many, few)
 
-  pub hints_as_sound_windows : {V S : Type 0} (view : V → S × Option A) (m : Contract S A E) (s : V) → HintsAsSoundAs (seen_as view (tuple_windows_contract is_clone is_infallible from m)) s m (view s).0
+  pub hints_as_sound_windows : {V S : Type 0} (view : V → S × Option A) (m : Contract S A E) (s : V) → HintsAsSoundAs (parts_as view (tuple_windows_contract is_clone is_infallible from m)) s m (view s).0
   hints_as_sound_windows view m s h is = (is.0, is.1, as_sound_seen view (StepsOfWindowHints m.steps) s h (as_sound_of_brackets (StepsOfWindowHints m.steps) m.steps (view s) (view s).0 (λ n. n - left_to_begin (view s).1) (λ o. option_map (λ u. u - left_to_begin (view s).1) o) (λ k b. brackets_windows m.steps (view s) k b) h is.0 is.2))

@@ -2,14 +2,15 @@
 use Rattle.std.specs.Prelude.{◌≡◌, ◌≤◌, Bool, true, false, Option, Some, None, Result, Ok, Err, List, [], ◌∷◌, ◌++◌, map}
 use Rattle.std.proofs.Common.{refl, ap, subst, arith}
 use Rattle.fallible_iterator.specs.Traces.{Answered, item}
-use Rattle.fallible_iterator.specs.Contract.{Contract, seen_as}
+use Rattle.fallible_iterator.specs.Contract.{Contract, parts_as}
 use Rattle.fallible_iterator.specs.Lists.{Lists}
 use Rattle.fallible_iterator.proofs.Lemmas.Lists.Passing.{lists_seen}
 use Rattle.fallible_itertools_adapters.specs.Holding.{held_one, holding_step}
 use Rattle.fallible_itertools_adapters.specs.WithPosition.{position_asks, position_before_item, position_before_stop, positioned, positioned_at, with_position_contract, with_position_parts}
 use Rattle.fallible_itertools_adapters.proofs.Lemmas.HoldingHints.{GivesHeld}
 use Rattle.fallible_itertools_adapters.proofs.Lemmas.HoldingLists.{held_list, splits_at_failure_where_is_held_list, gives_held_list}
-use Rattle.fallible_itertools_adapters.proofs.Lemmas.HoldingTraces.{step_item, step_end, step_failure, step_with_left_out_before}
+use Rattle.fallible_itertools_adapters.proofs.Lemmas.HoldingTraces.{step_item, step_end, step_failure}
+use Rattle.fallible_itertools_adapters.specs.Laws.HoldingTraces.{step_with_left_out_before}
 use Rattle.fallible_iterator.specs.Outcome.{Outcome}
 use Rattle.fallible_iterator.specs.Outcome.TheVariants.{Kept, LeftOut, End}
 use Rattle.fallible_itertools_adapters.specs.declared.with_position.Position.{Position}
@@ -64,7 +65,7 @@ module _ {A E : Type 0} where
   pub positioned_in_parts : (a : List (Result A E)) (e : E) (b : List (Result A E)) → positioned (a ++ Err e ∷ b) ≡ positioned a ++ Err e ∷ positioned b
   positioned_in_parts a e b = splits_at_failure_where_is_held_list held_outcome next_held None next_held_at_stop_none outcome_never_end positioned held_list_is_positioned a e b
 
-pub lists_positioned : {S A E : Type 0} {it : S} (m : Contract S A E) (s : WithPosition S A E) (l : List (Result A E)) → with_position_parts s ≡ (it, (None, None)) → Lists m.steps it l → Lists (seen_as with_position_parts (with_position_contract m)).steps s (positioned l)
+pub lists_positioned : {S A E : Type 0} {it : S} (m : Contract S A E) (s : WithPosition S A E) (l : List (Result A E)) → with_position_parts s ≡ (it, (None, None)) → Lists m.steps it l → Lists (parts_as with_position_parts (with_position_contract m)).steps s (positioned l)
 lists_positioned {it = it} m s l parts i = lists_seen with_position_parts (with_position_contract m).steps s parts (held_list_is_positioned l) (gives_held_list m.steps position_asks (λ p a. p ≡ a) held_outcome next_held acts_by_next l it None None refl i.runs)
 
 -- ---- one draw

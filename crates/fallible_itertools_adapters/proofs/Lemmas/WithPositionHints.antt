@@ -1,7 +1,7 @@
 -- The hint of `WithPosition`: every item of the source is yielded, and so is the one that is held.
 use Rattle.std.specs.Prelude.{◌≡◌, ℕ, suc, ◌+◌, ◌-◌, ◌≤◌, ⊤, Bool, Option, Some, None}
 use Rattle.std.proofs.Common.{refl, ap, arith}
-use Rattle.fallible_iterator.specs.Contract.{Contract, seen_as}
+use Rattle.fallible_iterator.specs.Contract.{Contract, parts_as}
 use Rattle.fallible_iterator.specs.Hints.{fitting_sum, hint_sum}
 use Rattle.fallible_itertools_adapters.specs.Holding.{HintsWhereHeld, held_one}
 use Rattle.fallible_itertools_adapters.specs.WithPosition.{position_asks, with_position_contract, with_position_due, with_position_parts, with_position_source}
@@ -40,5 +40,5 @@ module _ {S A E : Type 0} (m : Contract S A E) where
   hint_is_bounded_by_sum_with_held : (it : S) (p : Option (Bool × A)) (h : ℕ × Option ℕ) → HintIsSumWithHeld it p h → (k : ℕ × Option ℕ) × m.hints it k × ((n : ℕ) → k.0 + held_one p ≤ n → h.0 ≤ n) × (h.1 ≡ fitting_sum k.1 (Some (held_one p)))
   hint_is_bounded_by_sum_with_held it p h is = (is.0, is.1, (λ n few. rw is.2 (omega (arith, few))), ap (λ (z : ℕ × Option ℕ). z.1) is.2)
 
-  pub hints_positioned : HintsWhereHeld (seen_as with_position_parts (with_position_contract m)) (with_position_due {I = S} {A = A} {E = E}) m with_position_source
+  pub hints_positioned : HintsWhereHeld (parts_as with_position_parts (with_position_contract m)) (with_position_due {I = S} {A = A} {E = E}) m with_position_source
   hints_positioned = hints_where_held with_position_parts (with_position_contract m).can_next m position_asks (λ p x. ⊤) held_one position_asks_holds_held_one (λ p low n. low + held_one p ≤ n) (positions_keep_few A E) HintIsSumWithHeld hint_is_bounded_by_sum_with_held

@@ -1,28 +1,18 @@
 -- The contracts of the adapters that hold are lawful where the source's is.
 use Rattle.std.specs.Prelude.{◌≡◌, ℕ, Option, Some, None, Ok, Err, List, [], ◌∷◌}
-use Rattle.std.proofs.Common.{refl, ap, arith}
+use Rattle.std.proofs.Common.{refl, arith}
 use Rattle.fallible_iterator.specs.Traces.{Answered, item, failure}
 use Rattle.fallible_iterator.specs.Contract.{Contract, KeptByDraw, Lawful}
 use Rattle.fallible_iterator.specs.Closures.{Reaches, IsCallable}
 use Rattle.fallible_iterator.specs.Laws.Closures.{reaches_reflexive, reaches_by_call_first, is_callable_after}
-use Rattle.fallible_iterator.specs.Laws.Passing.{Passes, done, end_passes, failure_passes, keeps, refuses, closes, leaves_out, passes_of_pass_trace}
-use Rattle.fallible_itertools_adapters.specs.Staging.{Made, DrawsUpTo, yields, passes_over, IsStage, IsStop, MayMeet, Weighs, due_total, items_of, stays_of, stage_contract, stage_meets, stage_step, stop_answer}
+use Rattle.fallible_itertools_adapters.specs.Staging.{Made, IsStage, IsStop, MayMeet, Weighs, due_total, items_of, stays_of, stage_contract, stage_meets, stop_answer}
+use Rattle.fallible_itertools_adapters.specs.Laws.HoldingTraces.{due_is_known_by_answer, holding_traced, stage_step_of_holding_step}
 use Rattle.fallible_itertools_adapters.specs.Laws.Staging.{kept_where_reached, lawful_stage, made_equal_where_parts_equal}
-use Rattle.fallible_itertools_adapters.specs.Holding.{asks_item, as_answered_item, BeforeStop, AnswersAfter, StopMade, MadeOfStop, MadeOfItem, HeldAfter, Holds, OrStop, due_answer, made_answers, stop_comes, holding_meets, holding_step, filling_contract, holding_contract}
+use Rattle.fallible_itertools_adapters.specs.Holding.{StopMade, MadeOfItem, HeldAfter, Holds, OrStop, due_answer, made_answers, stop_comes, holding_meets, filling_contract, holding_contract}
 use Rattle.fallible_iterator.specs.Outcome.{Outcome}
 use Rattle.fallible_iterator.specs.Outcome.TheVariants.{Kept, LeftOut, Failure, End}
 
 -- ---- what is made, as a list
-
--- what is due is known by its answer
-pub due_is_known_by_answer : (B : Type 0) {E : Type 0} (due later : Option (Option E)) → due_answer {B = B} due ≡ due_answer later → due ≡ later
-due_is_known_by_answer B None None e = refl
-due_is_known_by_answer B None (Some stop) e = absurd cc
-due_is_known_by_answer B (Some stop) None e = absurd cc
-due_is_known_by_answer B (Some None) (Some None) e = refl
-due_is_known_by_answer B (Some None) (Some (Some d)) e = absurd cc
-due_is_known_by_answer B (Some (Some c)) (Some None) e = absurd cc
-due_is_known_by_answer B (Some (Some c)) (Some (Some d)) e = let same : c ≡ d = cc in ap (λ x. Some (Some x)) same
 
 -- a stop is no item, whichever the items are
 due_stop_has_no_items_and_is_stop : (X B : Type 0) {E : Type 0} (stop : Option E) → (due_total {B = B} stop_comes items_of (Some stop) ≡ 0) × (due_total {B = B} stop_comes stays_of (Some stop) ≡ stays_of (stop_answer {B = X} stop)) × IsStop (stop_answer {B = B} stop)
@@ -30,7 +20,7 @@ due_stop_has_no_items_and_is_stop X B None = (refl, refl, tt)
 due_stop_has_no_items_and_is_stop X B (Some e) = (refl, refl, tt)
 
 module _ {B E : Type 0} where
-  -- and what is made by its answers
+  -- what is made is known by its answers
   pub made_is_known_by_answers : (m : Made B (Option E) E) (r : Answered B E) (due : Option (Option E)) → made_answers m ≡ r ∷ due_answer due → m ≡ Some (r, due)
   made_is_known_by_answers None r due is = absurd cc
   made_is_known_by_answers (Some (a, later)) r due is = let same : a ≡ r = cc in let rest : due_answer {B = B} later ≡ due_answer due = cc in made_equal_where_parts_equal same (due_is_known_by_answer B later due rest)
@@ -69,27 +59,6 @@ module _ {P X B E : Type 0} (asks : P → Option X → Outcome B E → P → Typ
 
   pub is_stage_of_stage_asks : (held : P → ℕ) → Holds asks held → IsStage stop_comes stage_asks 1 held
   is_stage_of_stage_asks held weighs p a made q w = is_stage_holding held weighs p a made q (holding_meets_of_stage_asks p a made q w)
-
-  -- ---- one answer
-
-  made_at_stop : (h q : P) (stop : Option E) (r : Answered B E) (due : Option (Option E)) (o : Outcome B E) → asks h None o q → BeforeStop stop o r due → MadeOfStop asks stop h (made_answers (Some (r, due))) q
-  made_at_stop h q stop r due (Kept y) asked is = (Kept y, asked, rw (is.0, is.1) refl)
-  made_at_stop h q stop r due (Failure e) asked is = (Failure e, asked, rw (is.0, is.1) refl)
-  made_at_stop h q stop r due End asked is = (End, asked, rw (is.0, is.1) refl)
-  made_at_stop h q stop r due LeftOut asked is = absurd is
-
-  module _ {S : Type 0} (steps : S → Answered X E → S → Type 0) where
-    draws_of_passes : (s t : S) (p h : P) (z r : Answered B E) (q : P × Option (Option E)) → Passes steps (asks_item asks) as_answered_item s p (z ∷ []) t h → AnswersAfter asks h z r q → DrawsUpTo stop_comes (holding_meets asks) steps s p r t q
-    draws_of_passes s t p h _ r (g, due) (end_passes step done) w = yields (Ok None) step (made_at_stop h g None r due w.0 w.1 w.2)
-    draws_of_passes s t p h _ r (g, due) (failure_passes e step done) w = yields (Err e) step (made_at_stop h g (Some e) r due w.0 w.1 w.2)
-    draws_of_passes s t p h _ r q (keeps x o y step called is done) w = rw (w.0, w.1) (yields {p = p} {q = h} {r = Ok (Some y)} {due = None} (Ok (Some x)) step (Kept y, h, rw is at called, (refl, refl)))
-    draws_of_passes s t p h _ r (g, due) (refuses x o e step called is done) w = yields (Ok (Some x)) step (Failure e, h, rw is at called, made_at_stop h g (Some e) r due w.0 w.1 w.2)
-    draws_of_passes s t p h _ r (g, due) (closes x o step called is done) w = yields (Ok (Some x)) step (End, h, rw is at called, made_at_stop h g None r due w.0 w.1 w.2)
-    draws_of_passes s t p h z r q (leaves_out {u = u} {h = g} x o step called is rest) w = passes_over (Ok (Some x)) step (LeftOut, g, rw is at called, (refl, refl)) (draws_of_passes u t g h z r q rest w)
-
-    pub stage_step_of_holding_step : (p : S × (P × Option (Option E))) (r : Answered B E) (q : S × (P × Option (Option E))) → holding_step asks steps p r q → stage_step stop_comes (holding_meets asks) steps p r q
-    stage_step_of_holding_step (s, (p, Some stop)) r (t, q) w = w
-    stage_step_of_holding_step (s, (p, None)) r (t, q) w = draws_of_passes s t p w.0 w.1 r q (passes_of_pass_trace w.2) w.3
 
   -- ---- what the adapter may be called on
 
@@ -133,7 +102,7 @@ module _ {S P X B E : Type 0} {m : Contract S X E} (asks : P → Option X → Ou
   lawful_filling_where = let stage = lawful_stage l stop_comes (holding_meets asks) can 1 held hints (is_stage_holding asks held weighs) stays in record {
     kept_by_draw = λ p r q c step. kept_by_draw_filling p q r (stage.kept_by_draw p r q c (stage_step_of_holding_step asks m.steps p r q step));
     bounded = stage.bounded;
-    traced = λ _ _ _. ((λ h. h), (λ h. h));
+    traced = holding_traced l.traced asks;
   }
 
   -- a bound of the source, required besides, stays
@@ -147,7 +116,7 @@ module _ {S P X B E : Type 0} {m : Contract S X E} (asks : P → Option X → Ou
   lawful_holding_where = record {
     kept_by_draw = λ p r q c step. kept_by_draw_bounded p q r c.0 (lawful_filling_where.kept_by_draw p r q (c.1, c.2) step);
     bounded = lawful_filling_where.bounded;
-    traced = λ _ _ _. ((λ h. h), (λ h. h));
+    traced = lawful_filling_where.traced;
   }
 
 module _ {S P X B E : Type 0} {m : Contract S X E} (asks : P → Option X → Outcome B E → P → Type 0) (pre : P → Option X → Type 0) (held : P → ℕ) (hints : S × (P × Option (Option E)) → ℕ × Option ℕ → Type 0) (weighs : Holds asks held) (l : Lawful m) where

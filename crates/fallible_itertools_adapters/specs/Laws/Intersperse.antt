@@ -1,10 +1,12 @@
 -- The contract of `Intersperse` is lawful where the source's is.
-use Rattle.std.specs.Prelude.{◌≡◌, Bool, Option, Result, Ok, Err, ⊤}
+use Rattle.std.specs.Prelude.{◌≡◌, Bool, List, Option, Result, Ok, Err, ⊤}
 use Rattle.fallible_iterator.specs.Traces.{Answered}
 use Rattle.fallible_iterator.specs.Contract.{Contract, KeptByDraw, Lawful}
+use Rattle.fallible_iterator.specs.Laws.LawForm.{IsTraced}
 use Rattle.fallible_itertools_adapters.specs.Parting.{parting_contract}
-use Rattle.fallible_itertools_adapters.specs.Intersperse.{CloneSeparates, intersperse_contract}
+use Rattle.fallible_itertools_adapters.specs.Intersperse.{CloneSeparates, intersperse_contract, intersperse_step, intersperses_all}
 use Rattle.fallible_itertools_adapters.specs.Laws.Parting.{lawful_parting}
+use Rattle.fallible_itertools_adapters.specs.Laws.PartingTraces.{parting_traced, stays_run}
 use Rattle.std.specs.declared.alloc.AllocError.{AllocError}
 
 module _ {A E : Type 0} (is_clone : A → A → Type 0) (is_infallible : A → Type 0) (from : AllocError → E → Type 0) where
@@ -12,6 +14,13 @@ module _ {A E : Type 0} (is_clone : A → A → Type 0) (is_infallible : A → T
   pub separator_stays : (z : A) (v : Result A E) (y : A) → CloneSeparates is_clone is_infallible from z v y → y ≡ z
   separator_stays z (Ok copy) y made = made.1
   separator_stays z (Err e) y made = made.1
+
+  -- The runs are the definition over all that the source returns, and leave the separator as it is.
+  intersperse_traced : {S : Type 0} {steps : S → Answered A E → S → Type 0} {traces : S → List (Answered A E) → S → Type 0} → IsTraced steps traces → IsTraced (intersperse_step is_clone is_infallible from steps) (intersperses_all is_clone is_infallible from traces)
+  intersperse_traced {steps = steps} law p trace q = let both = parting_traced law (CloneSeparates is_clone is_infallible from) p trace q in (
+    (λ ran. let k = both.0 ran in (k.0, k.1, (stays_run (CloneSeparates is_clone is_infallible from) steps separator_stays trace p q ran, k.2))),
+    (λ (l, made, w). both.1 (l, made, w.1)),
+  )
 
   module _ {S : Type 0} (m : Contract S A E) where
     abbrev ContractWithClones : Contract (S × (A × (Bool × Option A))) A E
@@ -24,5 +33,5 @@ module _ {A E : Type 0} (is_clone : A → A → Type 0) (is_infallible : A → T
   lawful_intersperse {m = m} l = let parted = lawful_parting (CloneSeparates is_clone is_infallible from) (λ _. ⊤) (λ z v y c made. tt) m l in record {
     kept_by_draw = λ p r q c step. kept_by_draw_of_parting m p r q (parted.kept_by_draw p r q (c, tt) step);
     bounded = parted.bounded;
-    traced = λ _ _ _. ((λ h. h), (λ h. h));
+    traced = intersperse_traced l.traced;
   }

@@ -6,6 +6,7 @@ use Rattle.fallible_iterator.specs.Contract.{Contract, KeptByDraw, Lawful}
 use Rattle.fallible_iterator.specs.Lists.{result_answer}
 use Rattle.fallible_iterator.specs.Laws.Contract.{lawful_seen}
 use Rattle.fallible_itertools_adapters.specs.Staging.{Made, yields, passes_over, IsStage, PassesNoneOver, TakesAll, Weighs, made_before, stage_step}
+use Rattle.fallible_itertools_adapters.specs.Laws.PartingTraces.{parting_traced}
 use Rattle.fallible_itertools_adapters.specs.Laws.Staging.{kept_where_reached, lawful_stage, parts_equal_where_made_equal, made_equal_where_parts_equal, takes_where_reached}
 use Rattle.fallible_itertools_adapters.specs.Parting.{Separated, PlacedAs, item_comes, parting_contract, parting_hints, parting_meets, parting_stage, parting_step}
 
@@ -85,5 +86,5 @@ module _ {Z A E : Type 0} (separates : Z → Result A E → Z → Type 0) where
       lawful_parting l = let stage : Lawful Stage = lawful_seen parting_stage (lawful_stage l item_comes (parting_meets separates) (λ _ k. can k.0) 2 (λ _. 0) (parting_hints m) is_stage_parting (λ Q R p q weak reached c. kept_where_reached (λ h. can h.0) (λ p a made q given. can_separate_after_answer p a made q) reached c)) in record {
         kept_by_draw = λ p r q c step. kept_by_draw_parting p r q (stage.kept_by_draw p r q c (stage_step_of_parting_step m.steps p r q step));
         bounded = stage.bounded;
-        traced = λ _ _ _. ((λ h. h), (λ h. h));
+        traced = parting_traced l.traced separates;
       }

@@ -1,6 +1,7 @@
 -- One draw at each turn, and an answer by it.
 use Rattle.fallible_itertools_adapters.specs.Chunks.{chunks_asks}
-use Rattle.fallible_itertools_adapters.proofs.Lemmas.HoldingTraces.{step_item, step_refused, step_end, step_failure, step_with_left_out_before}
+use Rattle.fallible_itertools_adapters.proofs.Lemmas.HoldingTraces.{step_item, step_refused, step_end, step_failure}
+use Rattle.fallible_itertools_adapters.specs.Laws.HoldingTraces.{step_with_left_out_before}
 use Rattle.fallible_itertools_adapters.proofs.chunks.filled.Goals as goal
 
 pub returns-in-Kept : goal.returns-in-Kept

@@ -1,7 +1,8 @@
 -- One draw at each turn, and an answer by it.
 use Rattle.std.proofs.Common.{Ok, Some, arith}
 use Rattle.fallible_itertools_adapters.specs.Dedup.{dedup_asks}
-use Rattle.fallible_itertools_adapters.proofs.Lemmas.HoldingTraces.{step_item, step_end, step_failure, step_with_left_out_before}
+use Rattle.fallible_itertools_adapters.proofs.Lemmas.HoldingTraces.{step_item, step_end, step_failure}
+use Rattle.fallible_itertools_adapters.specs.Laws.HoldingTraces.{step_with_left_out_before}
 use Rattle.fallible_itertools_adapters.proofs.dedup.differing.Goals as goal
 
 pub returns-in-Kept : goal.returns-in-Kept

@@ -2,7 +2,7 @@
 use Rattle.std.proofs.Common.{refl}
 use Rattle.fallible_iterator.specs.Laws.LawForm.{traces_are_of_parts}
 use Rattle.fallible_itertools_adapters.specs.ChunkBy.{chunk_by_parts}
-use Rattle.fallible_itertools_adapters.proofs.Lemmas.HoldingTraces.{holding_law}
+use Rattle.fallible_itertools_adapters.specs.Laws.HoldingTraces.{holding_law}
 use Rattle.fallible_itertools_adapters.proofs.laws.grouping.law_chunk_by.Goals as goal
 
 pub returns : goal.returns

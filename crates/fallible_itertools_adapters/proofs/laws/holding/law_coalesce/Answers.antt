@@ -2,7 +2,7 @@
 use Rattle.std.proofs.Common.{refl}
 use Rattle.fallible_iterator.specs.Laws.LawForm.{traces_are_of_parts}
 use Rattle.fallible_itertools_adapters.specs.Coalesce.{coalesce_parts}
-use Rattle.fallible_itertools_adapters.proofs.Lemmas.HoldingTraces.{holding_law}
+use Rattle.fallible_itertools_adapters.specs.Laws.HoldingTraces.{holding_law}
 use Rattle.fallible_itertools_adapters.proofs.laws.holding.law_coalesce.Goals as goal
 
 pub returns : goal.returns

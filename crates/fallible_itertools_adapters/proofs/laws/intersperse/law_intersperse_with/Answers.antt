@@ -2,7 +2,7 @@
 use Rattle.std.proofs.Common.{refl}
 use Rattle.fallible_iterator.specs.Laws.LawForm.{traces_are_of_parts}
 use Rattle.fallible_itertools_adapters.specs.IntersperseWith.{CallSeparates, intersperse_with_parts}
-use Rattle.fallible_itertools_adapters.proofs.Lemmas.PartingTraces.{parting_law}
+use Rattle.fallible_itertools_adapters.specs.Laws.PartingTraces.{parting_law}
 use Rattle.fallible_itertools_adapters.proofs.laws.intersperse.law_intersperse_with.Goals as goal
 
 pub returns : goal.returns

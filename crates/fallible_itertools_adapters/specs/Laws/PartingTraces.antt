@@ -1,8 +1,9 @@
 -- The runs of an adapter that puts separators between items are the traces that its definition names.
 use Rattle.std.specs.Prelude.{◌≡◌, Bool, true, false, Option, Some, None, Result, Ok, Err, List, [], ◌∷◌, ◌↔◌}
 use Rattle.std.proofs.Common.{refl, sym, ap, subst, ◌∙◌, inl, inr}
-use Rattle.fallible_iterator.specs.Traces.{Answered, Run, item, end}
-use Rattle.fallible_itertools_adapters.specs.Parting.{PartedAnswers, nothing_drawn, then_end, then_failure, then_first_item, then_later_item, later_item_held, HeldFirst, PlacedAs, parting_step, PartingTrace}
+use Rattle.fallible_iterator.specs.Traces.{Answered, Run, first_of, item, end}
+use Rattle.fallible_iterator.specs.Laws.LawForm.{IsTraced}
+use Rattle.fallible_itertools_adapters.specs.Parting.{PartedAnswers, nothing_drawn, then_end, then_failure, then_first_item, then_later_item, later_item_held, HeldFirst, PlacedAs, parting_step, PartingTrace, separates_all}
 
 module _ {S Z A E : Type 0} (separates : Z → Result A E → Z → Type 0) (steps : S → Answered A E → S → Type 0) where
   abbrev StateOfPartingTraces : Type 0
@@ -85,3 +86,26 @@ module _ {S Z A E : Type 0} (separates : Z → Result A E → Z → Type 0) (ste
     pub stays_run : (trace : List (Answered A E)) (p q : StateOfPartingTraces) → Run StepOfPartingTraces p trace q → q.1.0 ≡ p.1.0
     stays_run [] p q e = ap (λ i. i.1.0) (sym e)
     stays_run (r ∷ rest) p q ran = stays_run rest ran.0 q ran.2 ∙ separators_kept_by_step p ran.0 r ran.1
+
+-- ---- over all that the source returns
+
+module _ {S Z A E : Type 0} (separates : Z → Result A E → Z → Type 0) (steps : S → Answered A E → S → Type 0) where
+  -- a run draws a list, and is one over that list
+  list_of_run : (trace : List (Answered A E)) (p q : S × (Z × (Bool × Option A))) → Run (parting_step separates steps) p trace q → (l : List (Answered A E)) × Run steps p.0 l q.0 × Run (parting_step separates first_of) (l, p.1) trace ([], q.1)
+  list_of_run [] p q e = ([], ap (λ k. k.0) e, ap (λ k. ([], k.1)) e)
+  list_of_run (r ∷ rest) (s, (z, (started, Some x))) q ran = let k = list_of_run rest ran.0 q ran.2 in let step = ran.1 in (k.0, subst (λ (u : S). Run steps u k.0 q.0) step.1 k.1, ((k.0, ran.0.1), (step.0, refl, step.2), k.2))
+  list_of_run (r ∷ rest) (s, (z, (started, None))) q ran = let k = list_of_run rest ran.0 q ran.2 in let step = ran.1 in (step.0 ∷ k.0, (ran.0.0, step.1, k.1), ((k.0, ran.0.1), (step.0, refl, step.2), k.2))
+
+  -- a run over a list that is drawn is one of the source
+  run_of_list : (trace l : List (Answered A E)) (s t : S) (i k : Z × (Bool × Option A)) → Run steps s l t → Run (parting_step separates first_of) (l, i) trace ([], k) → Run (parting_step separates steps) (s, i) trace (t, k)
+  run_of_list [] l s t i k ran e = let same : s ≡ t = subst (λ (j : List (Answered A E)). Run steps s j t) (ap (λ p. p.0) e) ran in rw (same, ap (λ p. p.1) e) refl
+  run_of_list (r ∷ rest) l s t (z, (started, Some x)) k ran went = let step = went.1 in ((s, went.0.1), (step.0, refl, step.2), run_of_list rest went.0.0 s t went.0.1 k (subst (λ (j : List (Answered A E)). Run steps s j t) (sym step.1) ran) went.2)
+  run_of_list (r ∷ rest) l s t (z, (started, None)) k ran went = let step = went.1 in let goes : Run steps s (step.0 ∷ went.0.0) t = subst (λ (j : List (Answered A E)). Run steps s j t) step.1 ran in
+      ((goes.0, went.0.1), (step.0, goes.1, step.2), run_of_list rest went.0.0 goes.0 t went.0.1 k goes.2 went.2)
+
+-- The runs are the definition over all that the source returns.
+pub parting_traced : {S Z A E : Type 0} {steps : S → Answered A E → S → Type 0} {traces : S → List (Answered A E) → S → Type 0} → IsTraced steps traces → (separates : Z → Result A E → Z → Type 0) → IsTraced (parting_step separates steps) (separates_all separates traces)
+parting_traced {steps = steps} law separates p trace q = (
+  (λ ran. let k = list_of_run separates steps trace p q ran in (k.0, (law p.0 k.0 q.0).0 k.1, (parting_law separates first_of (k.0, p.1) trace ([], q.1)).0 k.2)),
+  (λ (l, made, w). run_of_list separates steps trace l p.0 q.0 p.1 q.1 ((law p.0 l q.0).1 made) ((parting_law separates first_of (l, p.1) trace ([], q.1)).1 w)),
+)
