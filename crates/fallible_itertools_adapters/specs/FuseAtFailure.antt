@@ -1,7 +1,8 @@
 -- `FuseAtFailure`, which is exhausted at the first failure.
+use Rattle.std.proofs.Common.{refl}
 use Rattle.std.specs.Prelude.{List, [], ◌∷◌, Result, Ok, Err, Bool, true, false}
 use Rattle.fallible_iterator.specs.Traces.{Answered, Run}
-use Rattle.fallible_iterator.specs.Contract.{Contract}
+use Rattle.fallible_iterator.specs.Contract.{Contract, Inverse}
 use Rattle.fallible_iterator.specs.Closing.{ClosingTrace, closing_contract}
 use Rattle.fallible_itertools_adapters.specs.declared.fuse_at_failure.FuseAtFailure.{FuseAtFailure}
 
@@ -16,9 +17,13 @@ pub record FuseAtFailureTrace {S A E : Type 0} (steps : S → Answered A E → S
   pub drawn : Run steps p.0 source_trace q.0
   pub cut : ClosingTrace (λ r. r) is_failure p.1 source_trace trace q.1
 
+-- Its definition over all that its source returns.
+abbrev pub fuses_at_failure_all : {S A E : Type 0} → (S → List (Answered A E) → S → Type 0) → S × Bool → List (Answered A E) → S × Bool → Type 0
+fuses_at_failure_all {A = A} {E = E} traces p trace q = (l : List (Answered A E)) × traces p.0 l q.0 × ClosingTrace (λ r. r) is_failure p.1 l trace q.1
+
 -- `FuseAtFailure`'s contract, with the flag whether the source failed.
 abbrev pub fuse_at_failure_contract : {S A E : Type 0} → Contract S A E → Contract (S × Bool) A E
-fuse_at_failure_contract m = closing_contract m m.steps (λ r. r) is_failure
+fuse_at_failure_contract m = record (closing_contract m m.steps (λ r. r) is_failure) { traces = fuses_at_failure_all m.traces }
 
 -- the source
 abbrev pub fuse_at_failure_source : {I : Type 0} → FuseAtFailure I → I
@@ -31,6 +36,10 @@ fuse_at_failure_failed s = s.failed
 -- the source, and whether it failed
 abbrev pub fuse_at_failure_parts : {I : Type 0} → FuseAtFailure I → I × Bool
 fuse_at_failure_parts s = (fuse_at_failure_source s, fuse_at_failure_failed s)
+
+-- and back
+pub fuse_at_failure_made : {I : Type 0} → Inverse (fuse_at_failure_parts {I = I})
+fuse_at_failure_made = record { make = λ p. record { it = p.0; failed = p.1 }; made = λ s. refl; has = λ p. refl }
 
 -- ---- what it lists
 

@@ -1,11 +1,12 @@
 -- `Interleave`: the answers of two sources in turn, and the rest of the one that has more.
+use Rattle.std.proofs.Common.{refl}
 use Rattle.std.specs.Prelude.{◌≡◌, ℕ, ◌+◌, ◌≤◌, ◌⊎◌, Bool, true, false, not, Option, Result, List, [], ◌∷◌, ◌++◌, map}
 use Rattle.std.specs.Iterator.{count_add}
-use Rattle.fallible_iterator.specs.Contract.{Contract, lenders_of_both}
+use Rattle.fallible_iterator.specs.Contract.{Contract, Inverse, lenders_of_both}
 use Rattle.fallible_iterator.specs.Cutting.Fuse.{fuse_ended, fuse_source}
 use Rattle.fallible_iterator.specs.Hints.{hint_sum}
 use Rattle.fallible_iterator.specs.Lists.{result_answer}
-use Rattle.fallible_iterator.specs.Traces.{Answered, Run, end}
+use Rattle.fallible_iterator.specs.Traces.{Answered, Run, first_of, end}
 use Rattle.fallible_iterator.specs.Fuse.{Fuse}
 use Rattle.fallible_itertools_adapters.specs.Sides.{fused_contract, fused_steps}
 use Rattle.fallible_itertools_adapters.specs.declared.interleave.Interleave.{Interleave}
@@ -57,6 +58,10 @@ module _ {S U A E : Type 0} (steps : S → Answered A E → S → Type 0) (other
     pub next : q.2 ≡ waits_after p.2 turns
     pub answers : trace ≡ map turn_answer turns
 
+-- Its definition over all that both sides return.
+abbrev pub turns_all : {S U A E : Type 0} → (S → List (Answered A E) → S → Type 0) → (U → List (Answered A E) → U → Type 0) → S × U × Bool → List (Answered A E) → S × U × Bool → Type 0
+turns_all {A = A} {E = E} traces others p trace q = (l : List (Answered A E)) × (k : List (Answered A E)) × traces p.0 l q.0 × others p.1 k q.1 × TurnsTrace first_of first_of (l, k, p.2) trace ([], [], q.2)
+
 -- The contract of two sides that are drawn in turn: their bounds are added up, and so is what remains.
 abbrev pub turns_contract : {S U A E : Type 0} → Contract S A E → Contract U A E → Contract (S × U × Bool) A E
 turns_contract left right = record {
@@ -69,7 +74,7 @@ turns_contract left right = record {
   may_fail = λ p e. left.may_fail p.0 e ⊎ right.may_fail p.1 e;
   hints = λ p h. (g : ℕ × Option ℕ) × (k : ℕ × Option ℕ) × left.hints p.0 g × right.hints p.1 k × (h ≡ hint_sum g k);
   lenders = λ p. lenders_of_both (left.lenders p.0) (right.lenders p.1);
-  traces = λ p trace q. Run (interleave_step left.steps right.steps) p trace q;
+  traces = turns_all left.traces right.traces;
 }
 
 -- ---- the adapter
@@ -105,6 +110,10 @@ interleave_right_next s = s.right_next
 -- both sides, fused, and whether it is the right's turn
 abbrev pub interleave_parts : {T U : Type 0} → Interleave T U → Fuse T × Fuse U × Bool
 interleave_parts s = (interleave_left_fused s, interleave_right_fused s, interleave_right_next s)
+
+-- and back
+pub interleave_made : {T U : Type 0} → Inverse (interleave_parts {T = T} {U = U})
+interleave_made = record { make = λ p. record { left = p.0; right = p.1; right_next = p.2 }; made = λ s. refl; has = λ p. refl }
 
 -- `Interleave`: both sides are fused, and there is a turn for each answer.
 abbrev pub InterleaveTrace : {S U A E : Type 0} → (S → Answered A E → S → Type 0) → (U → Answered A E → U → Type 0) → Fuse S × Fuse U × Bool → List (Answered A E) → Fuse S × Fuse U × Bool → Type 0

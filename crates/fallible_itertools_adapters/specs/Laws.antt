@@ -22,12 +22,15 @@ pub mod Merge
 pub mod MergeBy
 pub mod MergeJoinBy
 pub mod OrElse
+pub mod OverTraces
 pub mod PadUsing
 pub mod Parting
 pub mod PartingTraces
 pub mod PeekingTakeWhile
+pub mod PeekingTraces
 pub mod Positions
 pub mod Sides
+pub mod SidesTraces
 pub mod Staging
 pub mod StopAfter
 pub mod TakeWhileInclusive

@@ -1,11 +1,11 @@
 -- `PadUsing`, which yields what a closure returns for each index that no item has.
-use Rattle.std.specs.Prelude.{◌≡◌, ℕ, zero, suc, ◌-◌, ◌<◌, ◌≤◌, ◌⊎◌, ⊤, Bool, Option, Some, None, Result, Ok, Err, List, [], ◌∷◌, ◌++◌, length}
+use Rattle.std.specs.Prelude.{◌≡◌, ℕ, zero, suc, ◌+◌, ◌-◌, ◌<◌, ◌≤◌, ◌⊎◌, ⊤, Bool, Option, Some, None, Result, Ok, Err, List, [], ◌∷◌, ◌++◌, length, replicate}
 use Rattle.std.specs.Fn.{Mut}
 use Rattle.std.specs.Iterator.{at_most}
 use Rattle.fallible_iterator.specs.BothEnds.{items_listed}
-use Rattle.fallible_iterator.specs.Traces.{Answered, Run}
+use Rattle.fallible_iterator.specs.Traces.{Answered, item, end}
 use Rattle.fallible_iterator.specs.Closures.{IsCallable, call_by_value, takes_by_value}
-use Rattle.fallible_iterator.specs.Contract.{Contract, no_lenders, seen_as, Inverse}
+use Rattle.fallible_iterator.specs.Contract.{Contract, no_lenders, parts_as, Inverse}
 use Rattle.fallible_iterator.specs.Cutting.Fuse.{fuse_ended, fuse_source}
 use Rattle.fallible_iterator.specs.OneToOne.Map.{map_outcome}
 use Rattle.fallible_iterator.specs.Passing.{PassTrace, passing_contract}
@@ -19,6 +19,11 @@ use Rattle.std.proofs.Common.{refl}
 
 -- ---- the indices below n
 
+-- h i, h (i + 1) and so on, so many
+abbrev pub from_index : {A : Type 0} → (ℕ → A) → ℕ → ℕ → List A
+from_index h i zero = []
+from_index h i (suc k) = h i ∷ from_index h (suc i) k
+
 -- the next index, if one is left; the parts are that index and n
 abbrev pub NextIndex : ℕ × ℕ → Option ℕ → ℕ × ℕ → Type 0
 NextIndex p o q = ((p.0 < p.1) × (o ≡ Some p.0) × (q ≡ (suc p.0, p.1))) ⊎ ((p.1 ≤ p.0) × (o ≡ None) × (q ≡ p))
@@ -27,6 +32,15 @@ NextIndex p o q = ((p.0 < p.1) × (o ≡ Some p.0) × (q ≡ (suc p.0, p.1))) �
 abbrev pub index_step : {E : Type 0} → ℕ × ℕ → Answered ℕ E → ℕ × ℕ → Type 0
 index_step p (Ok o) q = NextIndex p o q
 index_step p (Err e) q = ⊥
+
+-- The indices from the next one on, so many, and then ends, which come only where no index is left.
+pub record IndexTrace {E : Type 0} (p : ℕ × ℕ) (trace : List (Answered ℕ E)) (q : ℕ × ℕ) : Type 0 where
+  pub count : ℕ
+  pub ends : ℕ
+  pub answers : trace ≡ from_index (λ i. item i) p.0 count ++ replicate ends end
+  pub within : count ≤ p.1 - p.0
+  pub over : 0 < ends → p.1 - p.0 ≤ count
+  pub left : q ≡ (p.0 + count, p.1)
 
 -- the contract: it is known how many are left, and which
 abbrev pub index_contract : {E : Type 0} → Contract (ℕ × ℕ) ℕ E
@@ -40,7 +54,7 @@ index_contract = record {
   may_fail = λ _ _. ⊥;
   hints = λ p h. h ≡ (p.1 - p.0, Some (p.1 - p.0));
   lenders = λ _. no_lenders;
-  traces = λ p trace q. Run index_step p trace q;
+  traces = IndexTrace;
 }
 
 -- ---- the source beside them
@@ -53,9 +67,13 @@ both_sides p = ((p.0, None), (p.1, None), tt)
 abbrev pub beside_index_step : {S A E : Type 0} → (S → Answered A E → S → Type 0) → S × (ℕ × ℕ) → Answered (EitherOrBoth A ℕ) E → S × (ℕ × ℕ) → Type 0
 beside_index_step steps p r q = sides_step steps index_step longest_rule (both_sides p) r (both_sides q)
 
+-- nothing is held of either side
+abbrev pub BothFree : {P A U B F : Type 0} → (P × Option A) × (U × Option B) × F → Type 0
+BothFree p = (p.0.1 ≡ None) × (p.1.1 ≡ None)
+
 -- the contract of `ZipLongest` of the source, fused, and the indices
 abbrev pub beside_index_contract : {S A E : Type 0} → Contract S A E → Contract (Fuse S × (ℕ × ℕ)) (EitherOrBoth A ℕ) E
-beside_index_contract m = seen_as both_sides (sides_contract (fused_contract m) index_contract longest_rule (zip_longest_hints (fused_contract m) index_contract))
+beside_index_contract m = parts_as both_sides (sides_contract (fused_contract m) index_contract longest_rule (zip_longest_hints (fused_contract m) index_contract))
 
 -- ---- the adapter
 
@@ -109,11 +127,6 @@ pub pad_using_made : {I F : Type 0} → Inverse (pad_using_parts {I = I} {F = F}
 pad_using_made = record { make = λ p. record { it = p.0.0; next = p.0.1.0; end = p.0.1.1; f = p.1 }; made = λ s. refl; has = λ p. refl }
 
 -- ---- what it lists
-
--- h i, h (i + 1) and so on, so many
-abbrev pub from_index : {A : Type 0} → (ℕ → A) → ℕ → ℕ → List A
-from_index h i zero = []
-from_index h i (suc k) = h i ∷ from_index h (suc i) k
 
 -- The list, and then h i for each index i below n that no item has. A failure of the list counts as no item.
 unfoldable pub padded : {A E : Type 0} → ℕ → (ℕ → Result A E) → List (Result A E) → List (Result A E)

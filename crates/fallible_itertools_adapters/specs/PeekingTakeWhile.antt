@@ -1,10 +1,11 @@
 -- `PeekingTakeWhile`, which leaves the first rejected item in what it borrows, and what looks ahead so.
+use Rattle.std.proofs.Common.{refl}
 use Rattle.std.specs.Prelude.{◌≡◌, ⊤, List, [], ◌∷◌, map, Option, Result, Some, None, Ok, Err, Bool, true, false}
 use Rattle.std.specs.List.{filter_map}
 use Rattle.std.specs.Fn.{Mut}
 use Rattle.std.specs.Borrow.{Bor, MutBor}
-use Rattle.fallible_iterator.specs.Traces.{Answered, Run, item, failure, end}
-use Rattle.fallible_iterator.specs.Contract.{Contract, KeptByDraw}
+use Rattle.fallible_iterator.specs.Traces.{Answered, item, failure, end}
+use Rattle.fallible_iterator.specs.Contract.{Contract, Inverse, KeptByDraw}
 use Rattle.fallible_iterator.specs.Closures.{Calls, IsCallable, call_by_reference, takes_by_reference}
 use Rattle.fallible_iterator.specs.Passing.{Place, asked, failure_at, end_at, call_of, passing_contract}
 use Rattle.fallible_iterator.specs.Hints.{upper_alone}
@@ -82,11 +83,11 @@ module _ {S X E : Type 0} (looks : S → X → S → Type 0) where
   LeftAt (z ∷ []) u q = LeavesSource z u q
   LeftAt (z ∷ w ∷ places) u q = LeftAt (w ∷ places) u q
 
--- `PeekingTakeWhile`: the closure is called on the item of each place, and an item is replaced by the closure's failure on it, and a rejected one by an end. The answers that were taken are those of the source's draws; on a rejected item the closure is called again at the next place, and if that is the last it was looked at and stays next. The parts are the source and the closure.
-pub record PeekingTrace {S F X E : Type 0} (steps : S → Answered X E → S → Type 0) (looks : S → X → S → Type 0) (call : F → X → Result Bool E → F → Type 0) (p : S × F) (trace : List (Answered X E)) (q : S × F) : Type 0 where
+-- `PeekingTakeWhile`: the closure is called on the item of each place, and an item is replaced by the closure's failure on it, and a rejected one by an end. The answers that were taken are those of the source's draws; on a rejected item the closure is called again at the next place, and if that is the last it was looked at and stays next. The parts are the source and the closure, and `traces` says what draws of the source may return.
+pub record PeekingTrace {S F X E : Type 0} (traces : S → List (Answered X E) → S → Type 0) (looks : S → X → S → Type 0) (call : F → X → Result Bool E → F → Type 0) (p : S × F) (trace : List (Answered X E)) (q : S × F) : Type 0 where
   pub places : List (Place X (Result Bool E) E)
   pub between : S
-  pub drawn : Run steps p.0 (filter_map let_go places) between
+  pub drawn : traces p.0 (filter_map let_go places) between
   pub left : LeftAt looks places between q.0
   pub called : Calls call p.1 (filter_map call_of places) q.1
   pub answers : trace ≡ map taken_answer places
@@ -106,7 +107,7 @@ peeking_step {X = X} {E = E} steps looks call p r q = (z : Place X (Result Bool 
 
 -- The contract: the closure may be called on each item that may come, and the hint has the source's upper bound alone.
 abbrev pub peeking_contract : {S F X E : Type 0} → Contract S X E → (S → X → S → Type 0) → Mut F (Bor X × Unit {0}) (Result Bool E) → Contract (S × F) X E
-peeking_contract m looks g = record (passing_contract m (call_by_reference g) (λ P f. IsCallable (call_by_reference g) (takes_by_reference g) P f) take_while_outcome (λ p h. upper_alone m p.0 h)) { steps = peeking_step m.steps looks (call_by_reference g); traces = λ p trace q. Run (peeking_step m.steps looks (call_by_reference g)) p trace q }
+peeking_contract m looks g = record (passing_contract m (call_by_reference g) (λ P f. IsCallable (call_by_reference g) (takes_by_reference g) P f) take_while_outcome (λ p h. upper_alone m p.0 h)) { steps = peeking_step m.steps looks (call_by_reference g); traces = PeekingTrace m.traces looks (call_by_reference g) }
 
 -- the source
 abbrev pub peeking_source : {P F : Type 0} → PeekingTakeWhile P F → P
@@ -119,6 +120,10 @@ peeking_closure s = s.accept
 -- the source and the closure
 abbrev pub peeking_parts : {P F : Type 0} → PeekingTakeWhile P F → P × F
 peeking_parts s = (peeking_source s, peeking_closure s)
+
+-- and back
+pub peeking_made : {P F : Type 0} → Inverse (peeking_parts {P = P} {F = F})
+peeking_made = record { make = λ p. record { it = p.0; accept = p.1 }; made = λ s. refl; has = λ p. refl }
 
 -- ---- what it leaves
 

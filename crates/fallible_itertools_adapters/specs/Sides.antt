@@ -2,7 +2,7 @@
 use Rattle.std.specs.Prelude.{ℕ, ◌+◌, ◌≤◌, Option, Some, None, ◌≡◌, List, [], ◌∷◌, map, Ok, ◌⊎◌, ⊤}
 use Rattle.std.specs.List.{FoldsTo}
 use Rattle.std.specs.Iterator.{Count, count_add, count_map}
-use Rattle.fallible_iterator.specs.Traces.{Answered, Run, item, failure, is_end}
+use Rattle.fallible_iterator.specs.Traces.{Answered, Run, first_of, item, failure, is_end}
 use Rattle.fallible_iterator.specs.Closing.{closing_step}
 use Rattle.fallible_iterator.specs.Contract.{Contract, lenders_of_both, parts_as}
 use Rattle.fallible_iterator.specs.Cutting.Fuse.{fuse_contract, fuse_parts}
@@ -171,6 +171,14 @@ module _ {S U A B C E F V : Type 0} (steps : S → Answered A E → S → Type 0
   abbrev pub sides_step : (S × Option A) × (U × Option B) × F → Answered C E → (S × Option A) × (U × Option B) × F → Type 0
   sides_step p r q = (x : SidesPlace A B E V) × GivesIf steps p.0 (left_gave x) q.0.0 × (q.0.1 ≡ left_held_after rule p.0.1 x) × GivesIf others p.1 (right_gave x) q.1.0 × (q.1.1 ≡ right_held_after rule p.1.1 x) × place_decides rule p.2 x q.2 × (r ≡ place_answer rule x)
 
+-- nothing is held of the right
+abbrev pub RightFree : {P B U F : Type 0} → P × (U × Option B) × F → Type 0
+RightFree p = p.1.1 ≡ None
+
+-- Its definition over all that both sources return: there is a list that each of them may return, and of these the definition makes the trace.
+abbrev pub joins_all : {S U A B C E F V : Type 0} → (S → List (Answered A E) → S → Type 0) → (U → List (Answered B E) → U → Type 0) → Rule A B C E F V → (S × Option A) × (U × Option B) × F → List (Answered C E) → (S × Option A) × (U × Option B) × F → Type 0
+joins_all {A = A} {B = B} {E = E} traces others rule p trace q = (l : List (Answered A E)) × (k : List (Answered B E)) × traces p.0.0 l q.0.0 × others p.1.0 k q.1.0 × SidesTrace first_of first_of rule ((l, p.0.1), (k, p.1.1), p.2) trace (([], q.0.1), ([], q.1.1), q.2)
+
 -- The bounds of both sides and what is held of them are added up, and so is what remains.
 abbrev pub sides_contract : {S U A B C E F V : Type 0} → Contract S A E → Contract U B E → Rule A B C E F V → ((S × Option A) × (U × Option B) × F → ℕ × Option ℕ → Type 0) → Contract ((S × Option A) × (U × Option B) × F) C E
 sides_contract left right rule hints = record {
@@ -183,5 +191,5 @@ sides_contract left right rule hints = record {
   may_fail = λ p e. left.may_fail p.0.0 e ⊎ (right.may_fail p.1.0 e ⊎ rule.refuses (side_gives left p.0) (side_gives right p.1) p.2 e);
   hints = hints;
   lenders = λ p. lenders_of_both (left.lenders p.0.0) (right.lenders p.1.0);
-  traces = λ p trace q. Run (sides_step left.steps right.steps rule) p trace q;
+  traces = joins_all left.traces right.traces rule;
 }

@@ -3,7 +3,7 @@ use Rattle.std.specs.Prelude.{◌≡◌, ℕ, min, List, [], ◌∷◌, map, is_
 use Rattle.std.specs.List.{filter_map}
 use Rattle.std.specs.Fn.{Mut}
 use Rattle.std.specs.Borrow.{Bor}
-use Rattle.fallible_iterator.specs.Traces.{Answered, Run, item, failure, end}
+use Rattle.fallible_iterator.specs.Traces.{Answered, Run, first_of, item, failure, end}
 use Rattle.fallible_iterator.specs.Contract.{Contract}
 use Rattle.fallible_iterator.specs.Closures.{Calls, IsCallable, call_by_reference, takes_by_reference}
 use Rattle.fallible_iterator.specs.Passing.{Place, asked, failure_at, end_at, source_answer, call_of, passing_contract}
@@ -33,13 +33,17 @@ pub record InclusiveTrace {S F X E : Type 0} (steps : S → Answered X E → S �
   pub called : Calls call (p.0).1 (filter_map call_of places) (q.0).1
   pub cut : ClosingTrace inclusive_answer is_refused p.1 places trace q.1
 
+-- Its definition over all that its source returns.
+abbrev pub takes_inclusive_all : {S F X E : Type 0} → (S → List (Answered X E) → S → Type 0) → (F → X → Result Bool E → F → Type 0) → (S × F) × Bool → List (Answered X E) → (S × F) × Bool → Type 0
+takes_inclusive_all {X = X} {E = E} traces call p trace q = (l : List (Answered X E)) × traces (p.0).0 l (q.0).0 × InclusiveTrace first_of call ((l, (p.0).1), p.1) trace (([], (q.0).1), q.1)
+
 -- the lower bound, at most 1, and the upper bound
 abbrev pub hint_of_first : ℕ × Option ℕ → ℕ × Option ℕ
 hint_of_first k = (min k.0 1, k.1)
 
 -- `TakeWhileInclusive`'s contract, with the flag whether an item was rejected: the predicate may be called on each item that may come. Until an item was rejected the hint has the source's upper bound, and 1 below if the source has an item for certain: the first one comes, whatever the predicate says of it, or its failure.
 abbrev pub inclusive_contract : {S F X E : Type 0} → Contract S X E → Mut F (Bor X × Unit {0}) (Result Bool E) → Contract ((S × F) × Bool) X E
-inclusive_contract m g = closing_contract (passing_contract m (call_by_reference g) (λ P f. IsCallable (call_by_reference g) (takes_by_reference g) P f) inclusive_outcome (λ p h. (k : ℕ × Option ℕ) × m.hints p.0 k × (h ≡ hint_of_first k))) (place_drawn m.steps (call_by_reference g)) inclusive_answer is_refused
+inclusive_contract m g = record (closing_contract (passing_contract m (call_by_reference g) (λ P f. IsCallable (call_by_reference g) (takes_by_reference g) P f) inclusive_outcome (λ p h. (k : ℕ × Option ℕ) × m.hints p.0 k × (h ≡ hint_of_first k))) (place_drawn m.steps (call_by_reference g)) inclusive_answer is_refused) { traces = takes_inclusive_all m.traces (call_by_reference g) }
 
 -- the source
 abbrev pub inclusive_source : {I P : Type 0} → TakeWhileInclusive I P → I

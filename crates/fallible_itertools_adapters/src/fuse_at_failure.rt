@@ -1,8 +1,8 @@
 //! The adapter that is exhausted at the first failure.
 ghost use Rattle.std.specs.Prelude.{Result, Option, false, ◌≡◌};
-ghost use Rattle.fallible_iterator.specs.Contract.{seen_as};
-ghost use Rattle.fallible_iterator.specs.Laws.Contract.{lawful_seen};
-ghost use Rattle.fallible_itertools_adapters.specs.FuseAtFailure.{fuse_at_failure_contract, fuse_at_failure_parts};
+ghost use Rattle.fallible_iterator.specs.Contract.{parts_as};
+ghost use Rattle.fallible_iterator.specs.Laws.Contract.{lawful_parts};
+ghost use Rattle.fallible_itertools_adapters.specs.FuseAtFailure.{fuse_at_failure_contract, fuse_at_failure_made, fuse_at_failure_parts};
 ghost use Rattle.fallible_itertools_adapters.specs.Laws.FuseAtFailure.{lawful_fuse_at_failure};
 
 use fallible_iterator::FallibleIterator;
@@ -30,7 +30,7 @@ impl<I: FallibleIterator> FallibleIterator for FuseAtFailure<I> {
 
     type Error = I::Error;
 
-    ghost contract = { seen_as fuse_at_failure_parts (fuse_at_failure_contract I.contract) };
+    ghost contract = { parts_as fuse_at_failure_parts (fuse_at_failure_contract I.contract) };
 
     /// Draws once, and nothing after a failure.
     fn next(&mut self) -> Result<Option<I::Item>, I::Error> {
@@ -54,5 +54,5 @@ impl<I: FallibleIterator> FallibleIterator for FuseAtFailure<I> {
         }
     }
 
-    ghost lawful = { lawful_seen fuse_at_failure_parts (lawful_fuse_at_failure I.lawful) };
+    ghost lawful = { lawful_parts fuse_at_failure_made (lawful_fuse_at_failure I.lawful) };
 }

@@ -1,8 +1,8 @@
 //! The adapter that yields the items of two sources in turn.
 ghost use Rattle.std.specs.Prelude.{Option, Result, false, ◌≡◌};
-ghost use Rattle.fallible_iterator.specs.Contract.{seen_as};
-ghost use Rattle.fallible_iterator.specs.Laws.Contract.{lawful_seen};
-ghost use Rattle.fallible_itertools_adapters.specs.Interleave.{TakesTurn, interleave_contract, interleave_parts};
+ghost use Rattle.fallible_iterator.specs.Contract.{parts_as};
+ghost use Rattle.fallible_iterator.specs.Laws.Contract.{lawful_parts};
+ghost use Rattle.fallible_itertools_adapters.specs.Interleave.{TakesTurn, interleave_contract, interleave_made, interleave_parts};
 ghost use Rattle.fallible_itertools_adapters.specs.Laws.Interleave.{lawful_interleave};
 
 use fallible_iterator::extending::sum;
@@ -37,7 +37,7 @@ impl<T: FallibleIterator, U: FallibleIterator<Item = T::Item, Error = T::Error>>
 
     type Error = T::Error;
 
-    ghost contract = { seen_as interleave_parts (interleave_contract T.contract U.contract) };
+    ghost contract = { parts_as interleave_parts (interleave_contract T.contract U.contract) };
 
     /// Draws the side whose turn it is once. If that returned `Ok(None)`, it draws the other once. A side that returned `Ok(None)` isn't drawn again. Each fold draws so too.
     fn next(&mut self) -> Result<Option<T::Item>, T::Error> {
@@ -54,7 +54,7 @@ impl<T: FallibleIterator, U: FallibleIterator<Item = T::Item, Error = T::Error>>
         sum(self.left.size_hint(), self.right.size_hint())
     }
 
-    ghost lawful = { lawful_seen interleave_parts (lawful_interleave T.lawful U.lawful) };
+    ghost lawful = { lawful_parts interleave_made (lawful_interleave T.lawful U.lawful) };
 }
 
 // What the first side yields, or at its end the second.

@@ -1,8 +1,8 @@
 //! The adapter that joins the items of two sources in order, as a closure compares them.
 ghost use Rattle.std.specs.Prelude.{Option, Result, None, ◌≡◌};
-ghost use Rattle.fallible_iterator.specs.Contract.{seen_as};
-ghost use Rattle.fallible_iterator.specs.Laws.Contract.{lawful_seen};
-ghost use Rattle.fallible_itertools_adapters.specs.MergeJoinBy.{merge_join_by_contract, merge_join_by_parts};
+ghost use Rattle.fallible_iterator.specs.Contract.{parts_as};
+ghost use Rattle.fallible_iterator.specs.Laws.Contract.{lawful_parts};
+ghost use Rattle.fallible_itertools_adapters.specs.MergeJoinBy.{merge_join_by_contract, merge_join_by_made, merge_join_by_parts};
 ghost use Rattle.fallible_itertools_adapters.specs.Laws.MergeJoinBy.{lawful_merge_join_by};
 
 use crate::sides::Holding;
@@ -52,7 +52,7 @@ where
 
     type Error = T::Error;
 
-    ghost contract = { seen_as merge_join_by_parts
+    ghost contract = { parts_as merge_join_by_parts
         (merge_join_by_contract T.contract U.contract F.FnMut) };
 
     /// Of each side it takes the buffered item, or draws once, and nothing once the side returned `Ok(None)`; the right only if the left didn't fail. It calls the closure on the two items, and buffers the one that isn't yielded. Each fold draws so too.
@@ -90,6 +90,6 @@ where
         (greater(left, right).0, sum(left, right).1)
     }
 
-    ghost lawful = { lawful_seen merge_join_by_parts
+    ghost lawful = { lawful_parts merge_join_by_made
         (lawful_merge_join_by F.FnMut T.lawful U.lawful) };
 }

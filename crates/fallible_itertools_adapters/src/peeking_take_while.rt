@@ -3,11 +3,11 @@ ghost use Rattle.std.specs.Prelude.{◌≡◌, Some, Result, Option};
 ghost use Rattle.fallible_iterator.specs.Borrowed.{borrowed};
 ghost use Rattle.fallible_iterator.specs.Clauses.{OverListWith};
 ghost use Rattle.fallible_iterator.specs.Closures.{IsCallable, call_by_reference, takes_by_reference};
-ghost use Rattle.fallible_iterator.specs.Contract.{seen_as};
-ghost use Rattle.fallible_iterator.specs.Laws.Contract.{lawful_seen};
+ghost use Rattle.fallible_iterator.specs.Contract.{parts_as, seen_as};
+ghost use Rattle.fallible_iterator.specs.Laws.Contract.{lawful_parts};
 ghost use Rattle.fallible_iterator.specs.Lists.{Acts, Lists, taken_while};
 ghost use Rattle.fallible_iterator.specs.Peeking.Peekable.{held_item, peekable_held};
-ghost use Rattle.fallible_itertools_adapters.specs.PeekingTakeWhile.{AcceptsHeld, LooksAhead, borrowed_looks, peekable_looks, peeking_closure, peeking_contract, peeking_parts, peeking_source, peeking_step};
+ghost use Rattle.fallible_itertools_adapters.specs.PeekingTakeWhile.{AcceptsHeld, LooksAhead, borrowed_looks, peekable_looks, peeking_closure, peeking_contract, peeking_made, peeking_parts, peeking_source, peeking_step};
 ghost use Rattle.fallible_itertools_adapters.specs.Laws.PeekingTakeWhile.{looks_ahead_borrowed_looking, lawful_peeking, looks_ahead_peekable_looking};
 
 use fallible_iterator::{FallibleIterator, Peekable};
@@ -135,7 +135,7 @@ impl<P: PeekingNext, F: FnMut(&P::Item) -> Result<bool, P::Error>> FallibleItera
 
     type Error = P::Error;
 
-    ghost contract = { seen_as peeking_parts (peeking_contract P.contract P.looks F.FnMut) };
+    ghost contract = { parts_as peeking_parts (peeking_contract P.contract P.looks F.FnMut) };
 
     /// Draws once, and calls the closure on an item; a rejected item stays next. Folds are made of such draws: a fold of the source would drop the rejected item.
     fn next(&mut self) -> Result<Option<P::Item>, P::Error> {
@@ -146,5 +146,5 @@ impl<P: PeekingNext, F: FnMut(&P::Item) -> Result<bool, P::Error>> FallibleItera
         (0, self.it.size_hint().1)
     }
 
-    ghost lawful = { lawful_seen peeking_parts (lawful_peeking F.FnMut P.lawful P.looking) };
+    ghost lawful = { lawful_parts peeking_made (lawful_peeking F.FnMut P.lawful P.looking) };
 }

@@ -1,8 +1,8 @@
 //! The adapter that ends after a number of failures.
 ghost use Rattle.std.specs.Prelude.{Result, Option, ◌≡◌};
-ghost use Rattle.fallible_iterator.specs.Contract.{seen_as};
-ghost use Rattle.fallible_iterator.specs.Laws.Contract.{lawful_seen};
-ghost use Rattle.fallible_itertools_adapters.specs.StopAfter.{stop_after_contract, stop_after_parts};
+ghost use Rattle.fallible_iterator.specs.Contract.{parts_as};
+ghost use Rattle.fallible_iterator.specs.Laws.Contract.{lawful_parts};
+ghost use Rattle.fallible_itertools_adapters.specs.StopAfter.{stop_after_contract, stop_after_made, stop_after_parts};
 ghost use Rattle.fallible_itertools_adapters.specs.Laws.StopAfter.{lawful_stop_after};
 
 use fallible_iterator::{FallibleIterator, Number};
@@ -36,7 +36,7 @@ impl<I: FallibleIterator> FallibleIterator for StopAfter<I> {
 
     type Error = I::Error;
 
-    ghost contract = { seen_as stop_after_parts (stop_after_contract I.contract) };
+    ghost contract = { parts_as stop_after_parts (stop_after_contract I.contract) };
 
     /// Draws once, and nothing after the last failure.
     fn next(&mut self) -> Result<Option<I::Item>, I::Error> {
@@ -64,5 +64,5 @@ impl<I: FallibleIterator> FallibleIterator for StopAfter<I> {
         }
     }
 
-    ghost lawful = { lawful_seen stop_after_parts (lawful_stop_after I.lawful) };
+    ghost lawful = { lawful_parts stop_after_made (lawful_stop_after I.lawful) };
 }

@@ -1,11 +1,11 @@
 //! The adapter that ends after the first item that a predicate rejects.
 ghost use Rattle.std.specs.Prelude.{Result, Option, false, ◌≡◌};
 ghost use Rattle.fallible_iterator.specs.Closures.{call_by_reference, takes_by_reference};
-ghost use Rattle.fallible_iterator.specs.Contract.{seen_as};
-ghost use Rattle.fallible_iterator.specs.Laws.Contract.{lawful_seen};
+ghost use Rattle.fallible_iterator.specs.Contract.{parts_as};
+ghost use Rattle.fallible_iterator.specs.Laws.Contract.{lawful_parts};
 ghost use Rattle.fallible_itertools_adapters.specs.Staging.{StopPasses, ends_come};
 ghost use Rattle.fallible_itertools_adapters.specs.TakeWhileInclusive.{inclusive_contract, inclusive_on_item, inclusive_parts};
-ghost use Rattle.fallible_itertools_adapters.specs.Laws.TakeWhileInclusive.{is_stage_inclusive, lawful_inclusive};
+ghost use Rattle.fallible_itertools_adapters.specs.Laws.TakeWhileInclusive.{inclusive_parts_made, is_stage_inclusive, lawful_inclusive};
 
 use crate::staging::{Made, Stage, drive_stage, next_stage, one, one_then, stopped};
 use fallible_iterator::{FallibleIterator, Turn};
@@ -40,7 +40,7 @@ where
 
     type Error = I::Error;
 
-    ghost contract = { seen_as inclusive_parts (inclusive_contract I.contract P.FnMut) };
+    ghost contract = { parts_as inclusive_parts (inclusive_contract I.contract P.FnMut) };
 
     /// Draws once, and calls the predicate on an item; draws nothing once an item was rejected.
     fn next(&mut self) -> Result<Option<I::Item>, I::Error> {
@@ -65,7 +65,7 @@ where
         drive_stage(&mut self.it, &mut self.stage, &InclusiveStage, state, turn)
     }
 
-    ghost lawful = { lawful_seen inclusive_parts (lawful_inclusive P.FnMut I.lawful) };
+    ghost lawful = { lawful_parts inclusive_parts_made (lawful_inclusive P.FnMut I.lawful) };
 }
 
 // Nothing is drawn after an item that the predicate rejects.

@@ -1,9 +1,8 @@
 //! The adapter that pairs the items of two sources, and fails where one of them has more.
 ghost use Rattle.std.specs.Prelude.{Option, Result, None, ◌≡◌};
-ghost use Rattle.fallible_iterator.specs.Contract.{seen_as};
-ghost use Rattle.fallible_iterator.specs.Laws.Contract.{lawful_seen};
+ghost use Rattle.fallible_iterator.specs.Contract.{parts_as};
 ghost use Rattle.fallible_itertools_adapters.specs.ZipEq.{zip_eq_contract, zip_eq_parts};
-ghost use Rattle.fallible_itertools_adapters.specs.Laws.ZipEq.{lawful_zip_eq};
+ghost use Rattle.fallible_itertools_adapters.specs.Laws.ZipEq.{lawful_zip_eq_parts};
 
 use crate::sides::Holding;
 use fallible_iterator::extending::smaller;
@@ -47,7 +46,7 @@ where
 
     type Error = T::Error;
 
-    ghost contract = { seen_as zip_eq_parts (zip_eq_contract T.contract U.contract F.FnMut) };
+    ghost contract = { parts_as zip_eq_parts (zip_eq_contract T.contract U.contract F.FnMut) };
 
     /// Takes the left's buffered item, or draws the left once. Then, unless that failed, it draws the right once. A side that returned `Ok(None)` isn't drawn again. It calls the closure once if one side alone has an item. Each fold draws so too.
     fn next(&mut self) -> Result<Option<(T::Item, U::Item)>, T::Error> {
@@ -72,5 +71,5 @@ where
         smaller(self.left.hint(), self.right.size_hint())
     }
 
-    ghost lawful = { lawful_seen zip_eq_parts (lawful_zip_eq F.FnMut T.lawful U.lawful) };
+    ghost lawful = { lawful_zip_eq_parts F.FnMut T.lawful U.lawful };
 }

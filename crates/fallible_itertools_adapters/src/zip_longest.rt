@@ -1,9 +1,8 @@
 // The adapter that pairs the items of two sources up to `Ok(None)` of both.
 ghost use Rattle.std.specs.Prelude.{◌≡◌, Option, Result, None, is_some, unwrap_or};
-ghost use Rattle.fallible_iterator.specs.Contract.{seen_as};
-ghost use Rattle.fallible_iterator.specs.Laws.Contract.{lawful_seen};
+ghost use Rattle.fallible_iterator.specs.Contract.{parts_as};
 ghost use Rattle.fallible_itertools_adapters.specs.ZipLongest.{both_of, hint_greater, only_left, left_of, longest, only_right, right_of, zip_longest_contract, zip_longest_parts};
-ghost use Rattle.fallible_itertools_adapters.specs.Laws.ZipLongest.{lawful_zip_longest};
+ghost use Rattle.fallible_itertools_adapters.specs.Laws.ZipLongest.{lawful_zip_longest_parts};
 
 use crate::sides::Holding;
 use fallible_iterator::{FallibleIterator, Fuse};
@@ -182,7 +181,7 @@ where
 
     type Error = T::Error;
 
-    ghost contract = { seen_as zip_longest_parts (zip_longest_contract T.contract U.contract) };
+    ghost contract = { parts_as zip_longest_parts (zip_longest_contract T.contract U.contract) };
 
     /// Takes the left's buffered item, or draws the left once. Then, unless that failed, it draws the right once. A side that returned `Ok(None)` isn't drawn again. Each fold draws so too.
     fn next(&mut self) -> Result<Option<EitherOrBoth<T::Item, U::Item>>, T::Error> {
@@ -207,7 +206,7 @@ where
         greater(self.left.hint(), self.right.size_hint())
     }
 
-    ghost lawful = { lawful_seen zip_longest_parts (lawful_zip_longest T.lawful U.lawful) };
+    ghost lawful = { lawful_zip_longest_parts T.lawful U.lawful };
 }
 
 // The greater of two hints' bounds.

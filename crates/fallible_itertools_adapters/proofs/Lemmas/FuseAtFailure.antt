@@ -1,21 +1,16 @@
--- The runs of `FuseAtFailure` are the traces that its definition names, and what it lists.
-use Rattle.std.specs.Prelude.{◌≡◌, ℕ, Bool, true, false, List, [], ◌∷◌, Result, Ok, Err, ◌↔◌}
-use Rattle.std.specs.List.{FoldsTo}
+-- What `FuseAtFailure` lists.
+use Rattle.std.specs.Prelude.{◌≡◌, ℕ, Bool, true, false, List, [], ◌∷◌, Result, Ok, Err}
 use Rattle.std.proofs.Common.{refl, sym, ap, subst, ◌∙◌}
 use Rattle.fallible_iterator.specs.Traces.{Answered, item, end}
 use Rattle.fallible_iterator.specs.Contract.{Contract, seen_as}
 use Rattle.fallible_iterator.specs.Closing.{closing_step}
 use Rattle.fallible_iterator.specs.Lists.{AlwaysGives, GivesForGood, Lists, ListsForGood, counted, one_more_than}
-use Rattle.fallible_iterator.proofs.Lemmas.Closing.{closing_folds_iff_drawn_to_close}
 use Rattle.fallible_iterator.proofs.Lemmas.Hints.Drawn.{OneOfOne}
 use Rattle.fallible_iterator.proofs.Lemmas.Lists.ForGood.{lists_for_good_seen}
 use Rattle.fallible_iterator.proofs.Lemmas.Lists.Passing.{lists_seen}
-use Rattle.fallible_itertools_adapters.specs.FuseAtFailure.{FuseAtFailureTrace, is_failure, fuse_at_failure_contract, fuse_at_failure_parts, up_to_failure}
+use Rattle.fallible_itertools_adapters.specs.FuseAtFailure.{is_failure, fuse_at_failure_contract, fuse_at_failure_parts, up_to_failure}
 use Rattle.fallible_itertools_adapters.proofs.Lemmas.Closed.{ends_for_good_where_closed}
 use Rattle.fallible_itertools_adapters.specs.declared.fuse_at_failure.FuseAtFailure.{FuseAtFailure}
-
-pub fuse_at_failure_law : {S A E : Type 0} (steps : S → Answered A E → S → Type 0) (p : S × Bool) (trace : List (Answered A E)) (q : S × Bool) → FoldsTo (closing_step steps (λ r. r) is_failure) p trace q ↔ FuseAtFailureTrace steps p trace q
-fuse_at_failure_law steps p trace q = let law = closing_folds_iff_drawn_to_close steps (λ r. r) is_failure p.0 p.1 trace q.0 q.1 in ((λ h. let d = law.0 h in record { source_trace = d.0; drawn = d.1; cut = d.2 }), (λ h. law.1 (h.source_trace, h.drawn, h.cut)))
 
 module _ {S A E : Type 0} (steps : S → Answered A E → S → Type 0) where
   abbrev Step : S × Bool → Answered A E → S × Bool → Type 0

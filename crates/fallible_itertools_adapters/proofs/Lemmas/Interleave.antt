@@ -1,5 +1,5 @@
 -- What `Interleave` lists, its whole traces, and that its hints are sound.
-use Rattle.std.specs.Prelude.{ℕ, zero, suc, ◌≡◌, ◌+◌, ◌≤◌, ◌↔◌, Bool, true, false, not, List, [], ◌∷◌, ◌++◌, None, Option, Result, Ok, Err, drop, length, map, zip}
+use Rattle.std.specs.Prelude.{ℕ, zero, suc, ◌≡◌, ◌+◌, ◌≤◌, Bool, true, false, not, List, [], ◌∷◌, ◌++◌, None, Option, Result, Ok, Err, drop, length, zip}
 use Rattle.std.specs.List.{flat_map}
 use Rattle.std.proofs.Common.{refl, sym, ap, subst, ◌∙◌, arith, inl}
 use Rattle.fallible_iterator.specs.Contract.{Contract, seen_as}
@@ -15,59 +15,17 @@ use Rattle.fallible_iterator.proofs.Lemmas.Hints.Joining.{if_some_fitting_sum_at
 use Rattle.fallible_iterator.specs.Laws.LawForm.{traces_are_of_parts}
 use Rattle.fallible_iterator.proofs.Lemmas.Lists.ForGood.{lists_once, lists_for_good_seen}
 use Rattle.fallible_iterator.specs.Interleaved.{Interleaved, of_neither, of_first, of_second}
-use Rattle.fallible_itertools_adapters.specs.Interleave.{InterleaveTrace, Turn, TurnsTrace, by_itself, by_other, interleave_contract, interleave_parts, interleave_step, interleaved, turn_answer, turn_draws, turns_drawn, waits_after}
+use Rattle.fallible_itertools_adapters.specs.Interleave.{InterleaveTrace, Turn, by_itself, by_other, interleave_contract, interleave_made, interleave_parts, interleave_step, interleaved, turn_answer, turn_draws}
+use Rattle.fallible_itertools_adapters.specs.Laws.Interleave.{turns_law}
 use Rattle.fallible_itertools_adapters.specs.Sides.{fused_steps}
 use Rattle.fallible_itertools_adapters.specs.declared.interleave.Interleave.{Interleave}
 use Rattle.fallible_itertools_adapters.proofs.Lemmas.Sides.{NoItemAfterEnd, ItemsCome, ItemsThenEnd, first_answer, answers_first_where_gives_for_good, gives_for_good_of_fresh, gives_for_good_where_each_answers_first, items_come_before_draw, rest_of, side_hint_above, side_hint_below}
 
 -- ---- whole traces
 
-module _ {S A E : Type 0} (steps : S → Answered A E → S → Type 0) where
-  run_joined : (a b : List (Answered A E)) (s t u : S) → Run steps s a t → Run steps t b u → Run steps s (a ++ b) u
-  run_joined [] b s t u ran more = rw ran more
-  run_joined (r ∷ a) b s t u ran more = (ran.0, ran.1, run_joined a b ran.0 t u ran.2 more)
-
-  run_parted : (a b : List (Answered A E)) (s u : S) → Run steps s (a ++ b) u → (t : S) × Run steps s a t × Run steps t b u
-  run_parted [] b s u ran = (s, refl, ran)
-  run_parted (r ∷ a) b s u ran = let w = run_parted a b ran.0 u ran.2 in (w.0, (ran.0, ran.1, w.1), w.2)
-
-module _ {S U A E : Type 0} (steps : S → Answered A E → S → Type 0) (others : U → Answered A E → U → Type 0) where
-  abbrev TurnState : Type 0
-  TurnState = S × U × Bool
-
-  abbrev TurnStep : TurnState → Answered A E → TurnState → Type 0
-  TurnStep = interleave_step steps others
-
-  turns_trace_of_run : (trace : List (Answered A E)) (p q : TurnState) → Run TurnStep p trace q → TurnsTrace steps others p trace q
-  turns_trace_of_run [] p q e = record { turns = []; left = ap (λ (z : TurnState). z.0) e; right = ap (λ (z : TurnState). z.1) e; next = sym (ap (λ (z : TurnState). z.2) e); answers = refl }
-  turns_trace_of_run (r ∷ rest) p q ran =
-      let m = ran.0 in
-      let w = ran.1 in
-      let d = turns_trace_of_run rest m q ran.2 in
-      record {
-        turns = w.0 ∷ d.turns;
-        left = run_joined steps (turn_draws p.2 w.0) (turns_drawn (not p.2) d.turns) p.0 m.0 q.0 w.1 (subst (λ (z : Bool). Run steps m.0 (turns_drawn z d.turns) q.0) w.3 d.left);
-        right = run_joined others (turn_draws (not p.2) w.0) (turns_drawn (not (not p.2)) d.turns) p.1 m.1 q.1 w.2 (subst (λ (z : Bool). Run others m.1 (turns_drawn (not z) d.turns) q.1) w.3 d.right);
-        next = subst (λ (z : Bool). q.2 ≡ waits_after z d.turns) w.3 d.next;
-        answers = rw w.4 (ap {B = List (Answered A E)} (λ l. turn_answer w.0 ∷ l) d.answers);
-      }
-
-  run_of_turns : (turns : List (Turn A E)) (p q : TurnState) → Run steps p.0 (turns_drawn p.2 turns) q.0 → Run others p.1 (turns_drawn (not p.2) turns) q.1 → q.2 ≡ waits_after p.2 turns → Run TurnStep p (map turn_answer turns) q
-  run_of_turns [] (s, u, b) (t, v, c) left right e = rw (left, right, e) refl
-  run_of_turns (x ∷ turns) p q left right e =
-      let l = run_parted steps (turn_draws p.2 x) (turns_drawn (not p.2) turns) p.0 q.0 left in
-      let k = run_parted others (turn_draws (not p.2) x) (turns_drawn (not (not p.2)) turns) p.1 q.1 right in
-      ((l.0, k.0, not p.2), (x, l.1, k.1, refl, refl), run_of_turns turns (l.0, k.0, not p.2) q l.2 k.2 e)
-
-  turns_law : (p : TurnState) (trace : List (Answered A E)) (q : TurnState) → Run TurnStep p trace q ↔ TurnsTrace steps others p trace q
-  turns_law p trace q = (turns_trace_of_run trace p q, (λ d. rw d.answers (run_of_turns d.turns p q d.left d.right d.next)))
-
-  abbrev of_parts : Fuse S × Fuse U × Bool → Interleave S U
-  of_parts p = record { left = p.0; right = p.1; right_next = p.2 }
-
 module _ {S U A E : Type 0} (steps : S → Answered A E → S → Type 0) (others : U → Answered A E → U → Type 0) where
   pub interleave_law : TracesAre interleave_parts (λ s r t. interleave_step (fused_steps steps) (fused_steps others) (interleave_parts s) r (interleave_parts t)) (InterleaveTrace steps others)
-  interleave_law = traces_are_of_parts interleave_parts (of_parts steps others) (λ s. refl) (λ p. refl) (interleave_step (fused_steps steps) (fused_steps others)) (InterleaveTrace steps others) (turns_law (fused_steps steps) (fused_steps others))
+  interleave_law = traces_are_of_parts interleave_parts interleave_made.make interleave_made.made interleave_made.has (interleave_step (fused_steps steps) (fused_steps others)) (InterleaveTrace steps others) (turns_law (fused_steps steps) (fused_steps others))
 
 -- ---- the list
 

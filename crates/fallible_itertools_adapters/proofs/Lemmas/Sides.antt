@@ -1,22 +1,21 @@
--- What joins two sources and holds at most one item of each: its calls, its whole traces, and what it lists.
-use Rattle.std.specs.Prelude.{ℕ, ◌≡◌, ◌+◌, ◌-◌, ◌≤◌, ◌⊎◌, Bool, true, false, length, List, [], ◌∷◌, map, ◌↔◌, Some, None, Option, Result, Ok, Err, IfSome, ⊤}
-use Rattle.std.specs.List.{FoldsTo}
+-- What joins two sources and holds at most one item of each: its calls, and what it lists.
+use Rattle.std.specs.Prelude.{ℕ, ◌≡◌, ◌+◌, ◌-◌, ◌≤◌, ◌⊎◌, Bool, true, false, length, List, [], ◌∷◌, Some, None, Option, Result, Ok, Err, IfSome, ⊤}
 use Rattle.std.specs.Result.{IsErrAnd}
-use Rattle.std.proofs.Common.{refl, sym, ap, subst, ◌∙◌, arith, inl, inr}
+use Rattle.std.proofs.Common.{refl, sym, ap, subst, arith, inl, inr}
 use Rattle.fallible_iterator.specs.Traces.{Answered, Run, Yields, item, failure, end, is_end}
 use Rattle.fallible_iterator.specs.Closing.{closing_step}
 use Rattle.fallible_iterator.specs.Contract.{Contract, Lawful}
 use Rattle.fallible_iterator.specs.Cutting.Fuse.{fuse_parts}
 use Rattle.fallible_iterator.specs.Held.{held_count}
 use Rattle.fallible_iterator.specs.Hints.{fitting_sum}
-use Rattle.fallible_iterator.specs.LawForm.{TracesAre}
 use Rattle.fallible_iterator.specs.Lists.{GivesForGood, Lists, result_answer}
 use Rattle.fallible_iterator.proofs.Lemmas.Cutting.Fuse.{lists_for_good_fused}
 use Rattle.fallible_iterator.proofs.Lemmas.Hints.Drawn.{if_some_at_least_of_smaller}
 use Rattle.fallible_iterator.proofs.Lemmas.Hints.Joining.{if_some_fitting_sum_at_least_both}
 use Rattle.fallible_iterator.specs.Fuse.{Fuse}
-use Rattle.fallible_itertools_adapters.specs.Sides.{fused_steps, side_gives, side_hint, GivesHeldFirst, GivesIf, Rule, SidesPlace, left_failed, right_failed, both_gave, left_gave, right_gave, left_held_after, right_held_after, place_answer, place_decides, drawn_at, before_drawn, IsGiven, SideTrace, SidesTrace, sides_step}
+use Rattle.fallible_itertools_adapters.specs.Sides.{fused_steps, side_gives, side_hint, GivesHeldFirst, GivesIf, Rule, SidesPlace, left_failed, right_failed, both_gave, left_gave, right_gave, left_held_after, right_held_after, place_answer, place_decides}
 use Rattle.fallible_itertools_adapters.specs.Laws.Sides.{IsLawfulRule, side_kept_and_of_item_where_given}
+use Rattle.fallible_itertools_adapters.specs.Laws.SidesTraces.{SidesState, SidesStep}
 
 -- a result that is a failure, and which
 pub failure_where_is_err_and : {X E : Type 0} (r : Result X E) (e : E) → IsErrAnd r (λ d. d ≡ e) → r ≡ Err e
@@ -30,95 +29,6 @@ gives_held_first_of_equal_item steps p t same g = subst (λ (z : _). GivesHeldFi
 -- an item that a side yielded is one that might come
 pub side_gives_where_given_held_first : {S A E : Type 0} (m : Contract S A E) → Lawful m → (p : S × Option A) (t : S) {x : Option A} {y : A} → m.can_next p.0 → x ≡ Some y → GivesHeldFirst m.steps p (Ok x) t → side_gives m p y
 side_gives_where_given_held_first m l p t {y = y} c same g = (side_kept_and_of_item_where_given m l p t (Some y) c (gives_held_first_of_equal_item m.steps p t same g)).1
-
-module _ {S U A B C E F V : Type 0} (steps : S → Answered A E → S → Type 0) (others : U → Answered B E → U → Type 0) (rule : Rule A B C E F V) where
-  abbrev pub SidesState : Type 0
-  SidesState = (S × Option A) × (U × Option B) × F
-
-  abbrev pub SidesStep : SidesState → Answered C E → SidesState → Type 0
-  SidesStep = sides_step steps others rule
-
--- ---- whole traces: one side
-
-module _ {A E X S : Type 0} (gave : X → Option (Answered A E)) (held_after : Option A → X → Option A) (steps : S → Answered A E → S → Type 0) where
-  -- one place before others
-  run_with_before_drawn : (h : Option A) (o : Option (Answered A E)) (s m t : S) (rest : List (Answered A E)) → GivesIf steps (s, h) o m → Run steps m rest t → Run steps s (before_drawn h o rest) t
-  run_with_before_drawn (Some x) (Some r) s m t rest g ran = subst (λ (z : S). Run steps z rest t) g.1 ran
-  run_with_before_drawn (Some x) None s m t rest g ran = subst (λ (z : S). Run steps z rest t) g ran
-  run_with_before_drawn None None s m t rest g ran = subst (λ (z : S). Run steps z rest t) g ran
-  run_with_before_drawn None (Some r) s m t rest g ran = (m, g, ran)
-
-  is_given_first : (h : Option A) (o : Option (Answered A E)) (s m : S) → GivesIf steps (s, h) o m → IsGiven h o
-  is_given_first (Some x) (Some r) s m g = g.0
-  is_given_first (Some x) None s m g = tt
-  is_given_first None o s m g = tt
-
-  pub side_trace_with_place_before : (p q : S × Option A) (m : S) (x : X) (places : List X) → GivesIf steps p (gave x) m → SideTrace gave held_after steps (m, held_after p.1 x) places q → SideTrace gave held_after steps p (x ∷ places) q
-  side_trace_with_place_before p q m x places g d = record { drawn = run_with_before_drawn p.1 (gave x) p.0 m q.0 (drawn_at gave held_after (held_after p.1 x) places) g d.drawn; held = (is_given_first p.1 (gave x) p.0 m g, d.held) }
-
-  -- a first place and the others
-  run_first_and_rest : (h : Option A) (o : Option (Answered A E)) (s t : S) (rest : List (Answered A E)) → IsGiven h o → Run steps s (before_drawn h o rest) t → (m : S) × GivesIf steps (s, h) o m × Run steps m rest t
-  run_first_and_rest (Some x) (Some r) s t rest is ran = (s, (is, refl), ran)
-  run_first_and_rest (Some x) None s t rest is ran = (s, refl, ran)
-  run_first_and_rest None None s t rest is ran = (s, refl, ran)
-  run_first_and_rest None (Some r) s t rest is ran = (ran.0, ran.1, ran.2)
-
-  pub side_trace_first_and_rest : (p q : S × Option A) (x : X) (places : List X) → SideTrace gave held_after steps p (x ∷ places) q → (m : S) × GivesIf steps p (gave x) m × SideTrace gave held_after steps (m, held_after p.1 x) places q
-  side_trace_first_and_rest p q x places d = let f = run_first_and_rest p.1 (gave x) p.0 q.0 (drawn_at gave held_after (held_after p.1 x) places) d.held.0 d.drawn in (f.0, f.1, record { drawn = f.2; held = d.held.1 })
-
--- ---- whole traces: both sides
-
-module _ {S U A B C E F V : Type 0} (steps : S → Answered A E → S → Type 0) (others : U → Answered B E → U → Type 0) (rule : Rule A B C E F V) where
-  abbrev TraceOfSides : SidesState steps others rule → List (Answered C E) → SidesState steps others rule → Type 0
-  TraceOfSides = SidesTrace steps others rule
-
-  trace_place_first : (x : SidesPlace A B E V) (p m q : SidesState steps others rule) (rest : List (Answered C E)) → GivesIf steps p.0 (left_gave x) m.0.0 → m.0.1 ≡ left_held_after rule p.0.1 x → GivesIf others p.1 (right_gave x) m.1.0 → m.1.1 ≡ right_held_after rule p.1.1 x → place_decides rule p.2 x m.2 → TraceOfSides m rest q → TraceOfSides p (place_answer rule x ∷ rest) q
-  trace_place_first x p ((s, h), (u, k), f) q rest a e b i c d = record {
-    places = x ∷ d.places;
-    left = side_trace_with_place_before left_gave (left_held_after rule) steps p.0 q.0 s x d.places a (subst (λ (z : Option A). SideTrace left_gave (left_held_after rule) steps (s, z) d.places q.0) e d.left);
-    right = side_trace_with_place_before right_gave (right_held_after rule) others p.1 q.1 u x d.places b (subst (λ (z : Option B). SideTrace right_gave (right_held_after rule) others (u, z) d.places q.1) i d.right);
-    decided = (f, c, d.decided);
-    answers = ap {B = List (Answered C E)} (λ l. place_answer rule x ∷ l) d.answers;
-  }
-
-  sides_trace_of_run : (trace : List (Answered C E)) (p q : SidesState steps others rule) → Run (SidesStep steps others rule) p trace q → TraceOfSides p trace q
-  sides_trace_of_run [] p q e = record { places = []; left = record { drawn = ap (λ (z : SidesState steps others rule). z.0.0) e; held = ap (λ (z : SidesState steps others rule). z.0.1) (sym e) }; right = record { drawn = ap (λ (z : SidesState steps others rule). z.1.0) e; held = ap (λ (z : SidesState steps others rule). z.1.1) (sym e) }; decided = ap (λ (z : SidesState steps others rule). z.2) e; answers = refl }
-  sides_trace_of_run (r ∷ rest) p q ran = let w = ran.1 in rw w.6 (trace_place_first w.0 p ran.0 q rest w.1 w.2 w.3 w.4 w.5 (sides_trace_of_run rest ran.0 q ran.2))
-
-  run_from_places : (places : List (SidesPlace A B E V)) (p q : SidesState steps others rule) → SideTrace left_gave (left_held_after rule) steps p.0 places q.0 → SideTrace right_gave (right_held_after rule) others p.1 places q.1 → FoldsTo (place_decides rule) p.2 places q.2 → Run (SidesStep steps others rule) p (map (place_answer rule) places) q
-  run_from_places [] ((s, h), (u, k), f) ((t, i), (v, j), g) a b c = rw (a.drawn, a.held, b.drawn, b.held, c) refl
-  run_from_places (x ∷ places) p q a b c =
-      let m = side_trace_first_and_rest left_gave (left_held_after rule) steps p.0 q.0 x places a in
-      let n = side_trace_first_and_rest right_gave (right_held_after rule) others p.1 q.1 x places b in
-      (((m.0, left_held_after rule p.0.1 x), (n.0, right_held_after rule p.1.1 x), c.0), (x, m.1, refl, n.1, refl, c.1, refl), run_from_places places ((m.0, left_held_after rule p.0.1 x), (n.0, right_held_after rule p.1.1 x), c.0) q m.2 n.2 c.2)
-
-  pub sides_law : (p : SidesState steps others rule) (trace : List (Answered C E)) (q : SidesState steps others rule) → Run (SidesStep steps others rule) p trace q ↔ TraceOfSides p trace q
-  sides_law p trace q = (sides_trace_of_run trace p q, (λ d. rw d.answers (run_from_places d.places p q d.left d.right d.decided)))
-
--- ---- whole traces: values of which nothing is held of the right
-
-module _ {S U A B C E F V Z : Type 0} (steps : S → Answered A E → S → Type 0) (others : U → Answered B E → U → Type 0) (rule : Rule A B C E F V) (none : (x : Option A) (y : Option B) (v : V) → rule.right_held x y v ≡ None) (parts : Z → SidesState steps others rule) (make : SidesState steps others rule → Z) (made : (s : Z) → make (parts s) ≡ s) (free : (s : Z) → (parts s).1.1 ≡ None) (has : (p : SidesState steps others rule) → p.1.1 ≡ None → parts (make p) ≡ p) where
-  abbrev SeenStep : Z → Answered C E → Z → Type 0
-  SeenStep s r t = SidesStep steps others rule (parts s) r (parts t)
-
-  right_held_none_after : (h : Option B) (x : SidesPlace A B E V) → h ≡ None → right_held_after rule h x ≡ None
-  right_held_none_after h (left_failed e) is = is
-  right_held_none_after h (right_failed x e) is = refl
-  right_held_none_after h (both_gave x y v) is = none x y v
-
-  sides_run_of_seen_run : (trace : List (Answered C E)) (s t : Z) → Run SeenStep s trace t → Run (SidesStep steps others rule) (parts s) trace (parts t)
-  sides_run_of_seen_run [] s t e = ap parts e
-  sides_run_of_seen_run (r ∷ rest) s t ran = (parts ran.0, ran.1, sides_run_of_seen_run rest ran.0 t ran.2)
-
-  seen_run_of_sides_run : (trace : List (Answered C E)) (s t : Z) → Run (SidesStep steps others rule) (parts s) trace (parts t) → Run SeenStep s trace t
-  seen_run_of_sides_run [] s t e = sym (made s) ∙ ap make e ∙ made t
-  seen_run_of_sides_run (r ∷ rest) s t ran =
-      let w = ran.1 in
-      let same = has ran.0 (w.4 ∙ right_held_none_after (parts s).1.1 w.0 (free s)) in
-      (make ran.0, subst (λ (p : SidesState steps others rule). SidesStep steps others rule (parts s) r p) (sym same) w, seen_run_of_sides_run rest (make ran.0) t (subst (λ (p : SidesState steps others rule). Run (SidesStep steps others rule) p rest (parts t)) (sym same) ran.2))
-
-  pub traces_are_of_sides : TracesAre parts SeenStep (SidesTrace steps others rule)
-  traces_are_of_sides s trace t = let law = sides_law steps others rule (parts s) trace (parts t) in ((λ ran. law.0 (sides_run_of_seen_run trace s t ran)), (λ d. seen_run_of_sides_run trace s t (law.1 d)))
 
 -- ---- what it lists
 

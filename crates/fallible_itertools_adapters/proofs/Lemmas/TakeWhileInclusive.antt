@@ -1,6 +1,5 @@
--- The runs of `TakeWhileInclusive` are the traces that its definition names; what it lists; and its hint.
-use Rattle.std.specs.Prelude.{◌≡◌, ℕ, ◌+◌, ◌-◌, ◌≤◌, min, Bool, true, false, List, [], ◌∷◌, is_some, Option, Result, Some, None, Ok, Err, ◌↔◌, ◌⊎◌}
-use Rattle.std.specs.List.{FoldsTo}
+-- What `TakeWhileInclusive` lists, and its hint.
+use Rattle.std.specs.Prelude.{◌≡◌, ℕ, ◌+◌, ◌-◌, ◌≤◌, min, Bool, true, false, List, [], ◌∷◌, is_some, Option, Result, Some, None, Ok, Err, ◌⊎◌}
 use Rattle.std.specs.Fn.{Mut}
 use Rattle.std.specs.Borrow.{Bor}
 use Rattle.std.proofs.Common.{refl, sym, ap, subst, inl, inr, ◌∙◌, arith}
@@ -9,34 +8,23 @@ use Rattle.fallible_iterator.specs.Lists.{AlwaysGives, GivesForGood, Lists, List
 use Rattle.fallible_iterator.specs.Traces.{Answered, item, failure, end}
 use Rattle.fallible_iterator.specs.Closures.{IsCallable, call_by_reference, takes_by_reference}
 use Rattle.fallible_iterator.specs.Passing.{Place, asked, failure_at, end_at}
-use Rattle.fallible_iterator.specs.Closing.{closing_step}
 use Rattle.fallible_iterator.specs.Searching.{all_pick}
 use Rattle.fallible_iterator.specs.Cutting.TakeWhile.{is_refused, place_drawn}
 use Rattle.fallible_iterator.specs.SoundHints.{AsSound, Brackets}
-use Rattle.fallible_iterator.proofs.Lemmas.Closing.{closing_folds_iff_drawn_to_close}
 use Rattle.fallible_iterator.proofs.Lemmas.Lists.ForGood.{lists_for_good_seen}
 use Rattle.fallible_iterator.proofs.Lemmas.Lists.Passing.{lists_seen}
-use Rattle.fallible_iterator.specs.Laws.Cutting.TakeWhile.{drawn_and_called_of_folds_to, folds_to_of_drawn_and_called}
 use Rattle.fallible_iterator.proofs.Lemmas.Hints.Drawn.{as_sound_of_brackets, brackets_of_brackets_at_view, if_some_at_least_of_smaller}
 use Rattle.fallible_iterator.specs.Laws.Closures.{reaches_reflexive, reaches_by_call_first, is_callable_after}
 use Rattle.fallible_itertools_adapters.specs.Staging.{DrawsUpTo, Made, MayMeet, PassesNoneOver, StopPasses, TakesAll, ends_come, one_made, passes_over, stage_meets, stage_step, yields}
 use Rattle.fallible_itertools_adapters.specs.Laws.Staging.{parts_equal_where_made_equal, takes_where_reached}
-use Rattle.fallible_itertools_adapters.specs.Laws.TakeWhileInclusive.{call_of_place, is_stage_inclusive}
-use Rattle.fallible_itertools_adapters.specs.TakeWhileInclusive.{cons_through, taken_while_inclusive, inclusive_answer, inclusive_made, inclusive_on_item, hint_of_first, InclusiveTrace, inclusive_parts, inclusive_contract}
+use Rattle.fallible_itertools_adapters.specs.Laws.TakeWhileInclusive.{call_of_place, inclusive_step, is_stage_inclusive, over_where}
+use Rattle.fallible_itertools_adapters.specs.TakeWhileInclusive.{cons_through, taken_while_inclusive, inclusive_answer, inclusive_made, inclusive_on_item, hint_of_first, inclusive_parts, inclusive_contract}
 use Rattle.fallible_itertools_adapters.proofs.Lemmas.Closed.{ends_for_good_where_closed}
 use Rattle.fallible_itertools_adapters.proofs.Lemmas.StagingHints.{MadeFew, MakesNoFewer, bounds_above_staged, bounds_below_staged, makes_at_most_items_and_held}
 use Rattle.fallible_itertools_adapters.proofs.Lemmas.StagingLists.{IsMadeAs, always_gives_within, gives_staged_up_to_refusal, made_first, staged}
 use Rattle.fallible_itertools_adapters.specs.declared.take_while_inclusive.TakeWhileInclusive.{TakeWhileInclusive}
 
 module _ {S F X E : Type 0} (steps : S → Answered X E → S → Type 0) (call : F → X → Result Bool E → F → Type 0) where
-  -- one draw
-  abbrev pub inclusive_step : (S × F) × Bool → Answered X E → (S × F) × Bool → Type 0
-  inclusive_step = closing_step (place_drawn steps call) inclusive_answer is_refused
-
-  pub inclusive_law : (p : (S × F) × Bool) (trace : List (Answered X E)) (q : (S × F) × Bool) → FoldsTo inclusive_step p trace q ↔ InclusiveTrace steps call p trace q
-  inclusive_law p trace q = let law = closing_folds_iff_drawn_to_close (place_drawn steps call) inclusive_answer is_refused p.0 p.1 trace q.0 q.1 in
-      ((λ h. let d = law.0 h in let both = drawn_and_called_of_folds_to steps call d.0 (p.0).0 (p.0).1 (q.0).0 (q.0).1 d.1 in record { places = d.0; drawn = both.0; called = both.1; cut = d.2 }), (λ h. law.1 (h.places, folds_to_of_drawn_and_called steps call h.places (p.0).0 (p.0).1 (q.0).0 (q.0).1 (h.drawn, h.called), h.cut)))
-
   -- ---- a step of the stage is one draw
 
   abbrev Meets : F → Answered X E → Made X (Unit {0}) E → F → Type 0
@@ -76,19 +64,6 @@ module _ {S F X E : Type 0} (m : Contract S X E) (g : Mut F (Bor X × Unit {0}) 
 
   pub takes_inclusive : (f : F) → IsCallable (call_by_reference g) (takes_by_reference g) (m.may_give s) f → TakesAll m (stage_meets (inclusive_on_item (call_by_reference g)) StopPasses) (λ h x. takes_by_reference g h x) s f
   takes_inclusive f c = takes_where_reached m (stage_meets (inclusive_on_item (call_by_reference g)) StopPasses) (λ h x. takes_by_reference g h x) (λ h. IsCallable (call_by_reference g) (takes_by_reference g) (m.may_give s) h) s kept_callable (λ h x may k. k.at h x reaches_reflexive may) f c
-
--- whether an item was rejected says what is due
-abbrev pub over_where : Bool → Option (Unit {0})
-over_where true = Some tt
-over_where false = None
-
-pub over_where_of_is_some_is_itself : (due : Option (Unit {0})) → over_where (is_some due) ≡ due
-over_where_of_is_some_is_itself None = refl
-over_where_of_is_some_is_itself (Some u) = refl
-
-pub is_some_of_over_where_is_itself : (b : Bool) → is_some (over_where b) ≡ b
-is_some_of_over_where_is_itself true = refl
-is_some_of_over_where_is_itself false = refl
 
 -- ---- one draw is a step of the stage
 

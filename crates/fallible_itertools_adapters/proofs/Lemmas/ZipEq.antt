@@ -13,13 +13,15 @@ use Rattle.fallible_iterator.specs.Sources.FromFn.{call_of_none}
 use Rattle.fallible_iterator.specs.Traces.{Answered, item, failure, end}
 use Rattle.fallible_iterator.specs.Fuse.{Fuse}
 use Rattle.fallible_iterator.proofs.Lemmas.Lists.ForGood.{lists_once, lists_for_good_seen}
-use Rattle.fallible_itertools_adapters.specs.Laws.ZipEq.{is_lawful_rule_pair}
+use Rattle.fallible_itertools_adapters.specs.Laws.ZipEq.{zip_eq_made, is_lawful_rule_pair}
 use Rattle.fallible_itertools_adapters.specs.Sides.{fused_steps, side_hint}
 use Rattle.fallible_itertools_adapters.specs.ZipEq.{AsksWhereAlone, ZipEqTrace, failure_or_end, one_is_alone, pair_answer, pair_or, pair_rule, takes_none, zip_eq_contract, zip_eq_parts, zipped_equal}
 use Rattle.fallible_itertools_adapters.specs.ZipLongest.{longest, zipped_longest}
+use Rattle.fallible_itertools_adapters.specs.Laws.SidesTraces.{SidesStep, right_stays_free, sides_law}
+use Rattle.fallible_itertools_adapters.specs.Laws.OverTraces.{traces_are_of_parts_where}
 use Rattle.fallible_itertools_adapters.specs.declared.zip_eq.ZipEq.{ZipEq}
 use Rattle.fallible_itertools_adapters.specs.declared.zip_longest.EitherOrBoth.{EitherOrBoth}
-use Rattle.fallible_itertools_adapters.proofs.Lemmas.Sides.{first_answer, rest_of, NoItemAfterEnd, ListsBy, gives_for_good_of_fresh, gives_for_good_sides, GivesAsMany, TakesAsMany, both_come, both_end, side_hint_above, side_hint_below, SidesStep, traces_are_of_sides}
+use Rattle.fallible_itertools_adapters.proofs.Lemmas.Sides.{first_answer, rest_of, NoItemAfterEnd, ListsBy, gives_for_good_of_fresh, gives_for_good_sides, GivesAsMany, TakesAsMany, both_come, both_end, side_hint_above, side_hint_below}
 use Rattle.fallible_itertools_adapters.proofs.Lemmas.ZipLongest.{lists_by_longest}
 
 module _ {A B E : Type 0} (e : E) where
@@ -125,11 +127,5 @@ module _ {S U F A B E : Type 0} (left : Contract S A E) (right : Contract U B E)
 -- ---- whole traces
 
 module _ {S U F A B E : Type 0} (steps : S → Answered A E → S → Type 0) (others : U → Answered B E → U → Type 0) (g : Mut F (Unit {0}) E) where
-  abbrev of_parts : (Fuse S × Option A) × (Fuse U × Option B) × F → ZipEq S U F A E
-  of_parts p = record { left = record { it = p.0.0; held = p.0.1 }; right = p.1.0; f = p.2 }
-
-  zip_eq_parts_of_of_parts_is_itself : (p : (Fuse S × Option A) × (Fuse U × Option B) × F) → p.1.1 ≡ None → zip_eq_parts (of_parts p) ≡ p
-  zip_eq_parts_of_of_parts_is_itself ((s, h), (u, k), f) e = rw e refl
-
   pub zip_eq_law : TracesAre (zip_eq_parts {E = E}) (λ s r t. PairSteps (fused_steps steps) (fused_steps others) (call_of_none g) (takes_none g) (zip_eq_parts s) r (zip_eq_parts t)) (ZipEqTrace steps others g)
-  zip_eq_law = traces_are_of_sides (fused_steps steps) (fused_steps others) (pair_rule (call_of_none g) (takes_none g)) (λ x y v. refl) (zip_eq_parts {E = E}) of_parts (λ s. refl) (λ s. refl) zip_eq_parts_of_of_parts_is_itself
+  zip_eq_law = traces_are_of_parts_where zip_eq_made (PairSteps (fused_steps steps) (fused_steps others) (call_of_none g) (takes_none g)) (right_stays_free (fused_steps steps) (fused_steps others) (pair_rule (call_of_none g) (takes_none g)) (λ x y v. refl)) (ZipEqTrace steps others g) (sides_law (fused_steps steps) (fused_steps others) (pair_rule (call_of_none g) (takes_none g)))

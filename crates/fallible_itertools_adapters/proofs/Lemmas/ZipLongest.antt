@@ -12,8 +12,10 @@ use Rattle.fallible_iterator.proofs.Lemmas.Lists.ForGood.{lists_once, lists_for_
 use Rattle.fallible_iterator.specs.Fuse.{Fuse}
 use Rattle.fallible_itertools_adapters.specs.Sides.{fused_steps, side_hint}
 use Rattle.fallible_itertools_adapters.specs.ZipLongest.{greater_bound, hint_greater, longest, longest_rule, zip_longest_parts, zip_longest_contract, ZipLongestTrace, zipped_longest}
-use Rattle.fallible_itertools_adapters.specs.Laws.ZipLongest.{is_lawful_rule_longest}
-use Rattle.fallible_itertools_adapters.proofs.Lemmas.Sides.{first_answer, rest_of, left_over, NoItemAfterEnd, IfEnded, ListsBy, gives_for_good_of_fresh, gives_for_good_sides, GivesAsMany, TakesAsMany, both_come, both_end, side_hint_above, side_hint_below, SidesStep, traces_are_of_sides}
+use Rattle.fallible_itertools_adapters.specs.Laws.ZipLongest.{zip_longest_made, is_lawful_rule_longest}
+use Rattle.fallible_itertools_adapters.specs.Laws.SidesTraces.{SidesStep, right_stays_free, sides_law}
+use Rattle.fallible_itertools_adapters.specs.Laws.OverTraces.{traces_are_of_parts_where}
+use Rattle.fallible_itertools_adapters.proofs.Lemmas.Sides.{first_answer, rest_of, left_over, NoItemAfterEnd, IfEnded, ListsBy, gives_for_good_of_fresh, gives_for_good_sides, GivesAsMany, TakesAsMany, both_come, both_end, side_hint_above, side_hint_below}
 use Rattle.fallible_itertools_adapters.specs.declared.zip_longest.EitherOrBoth.{EitherOrBoth}
 use Rattle.fallible_itertools_adapters.specs.declared.zip_longest.ZipLongest.{ZipLongest}
 
@@ -112,14 +114,5 @@ module _ {S U A B E : Type 0} (left : Contract S A E) (right : Contract U B E) (
 -- ---- whole traces
 
 module _ {S U A B E : Type 0} (steps : S → Answered A E → S → Type 0) (others : U → Answered B E → U → Type 0) where
-  abbrev SidesHere : Type 0
-  SidesHere = (Fuse S × Option A) × (Fuse U × Option B) × Unit {0}
-
-  abbrev of_parts : SidesHere → ZipLongest S U A E
-  of_parts p = record { left = record { it = p.0.0; held = p.0.1 }; right = p.1.0 }
-
-  zip_longest_parts_of_of_parts_is_itself : (p : SidesHere) → p.1.1 ≡ None → zip_longest_parts (of_parts p) ≡ p
-  zip_longest_parts_of_of_parts_is_itself ((s, h), (u, k), f) e = rw e refl
-
   pub zip_longest_law : TracesAre (zip_longest_parts {E = E}) (λ s r t. ZippedSteps (fused_steps steps) (fused_steps others) (zip_longest_parts s) r (zip_longest_parts t)) (ZipLongestTrace steps others)
-  zip_longest_law = traces_are_of_sides (fused_steps steps) (fused_steps others) longest_rule (λ x y v. refl) (zip_longest_parts {E = E}) of_parts (λ s. refl) (λ s. refl) zip_longest_parts_of_of_parts_is_itself
+  zip_longest_law = traces_are_of_parts_where zip_longest_made (ZippedSteps (fused_steps steps) (fused_steps others)) (right_stays_free (fused_steps steps) (fused_steps others) longest_rule (λ x y v. refl)) (ZipLongestTrace steps others) (sides_law (fused_steps steps) (fused_steps others) longest_rule)

@@ -8,6 +8,7 @@ use Rattle.fallible_iterator.specs.Cutting.Fuse.{fuse_made, fuse_parts}
 use Rattle.fallible_iterator.specs.Held.{held_count}
 use Rattle.fallible_iterator.specs.Laws.Contract.{lawful_parts}
 use Rattle.fallible_iterator.specs.Laws.Cutting.Fuse.{lawful_fuse}
+use Rattle.fallible_itertools_adapters.specs.Laws.SidesTraces.{sides_traced}
 use Rattle.fallible_itertools_adapters.specs.Sides.{fused_contract, GivesHeldFirst, GivesIf, side_remaining, side_gives, Rule, SidesPlace, left_failed, right_failed, both_gave, left_gave, right_gave, left_held_after, right_held_after, place_answer, place_decides, sides_contract}
 use Rattle.fallible_iterator.specs.Laws.Joining.Chain.{both_true_where_cond_true, cond_true_where_both_true}
 
@@ -189,5 +190,5 @@ module _ {S U A B C E F V : Type 0} (left : Contract S A E) (right : Contract U 
         (λ e. let a = (l.bounded p.0.0).0 e.0 in let b = (m.bounded p.1.0).0 e.1 in ((a.0 + held_count p.0.1) + (b.0 + held_count p.1.1), (a.0, b.0, a.1, b.1, omega arith))),
         (λ h. ((l.bounded p.0.0).1 (h.1.0, h.1.2), (m.bounded p.1.0).1 (h.1.1, h.1.3))),
       );
-      traced = λ _ _ _. ((λ h. h), (λ h. h));
+      traced = sides_traced l.traced m.traced rule;
     }

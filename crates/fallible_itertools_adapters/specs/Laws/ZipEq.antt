@@ -1,15 +1,19 @@
 -- The contract of `ZipEq` is lawful where those of both sides are.
-use Rattle.std.specs.Prelude.{◌+◌, ◌-◌, Bool, true, false, Option, Some, None, ⊤}
+use Rattle.std.specs.Prelude.{◌≡◌, ◌+◌, ◌-◌, Bool, true, false, Option, Some, None, ⊤}
 use Rattle.std.specs.Fn.{Mut}
 use Rattle.std.proofs.Common.{refl, sym, subst, arith, inl}
 use Rattle.fallible_iterator.specs.Closures.{Reaches}
-use Rattle.fallible_iterator.specs.Contract.{Contract, Lawful}
+use Rattle.fallible_iterator.specs.Contract.{Contract, Lawful, parts_as}
 use Rattle.fallible_iterator.specs.Held.{held_count}
 use Rattle.fallible_iterator.specs.Laws.Closures.{reaches_reflexive, reaches_by_call_first, is_callable_after, may_answer_of_call, may_answer_where_reached_may_answer}
 use Rattle.fallible_iterator.specs.Sources.FromFn.{call_of_none}
+use Rattle.fallible_iterator.specs.Fuse.{Fuse}
 use Rattle.fallible_itertools_adapters.specs.Laws.Sides.{OfItem, MadeBy, IsLawfulRule, lawful_fused, lawful_sides}
-use Rattle.fallible_itertools_adapters.specs.Sides.{fused_contract}
-use Rattle.fallible_itertools_adapters.specs.ZipEq.{AsksWhereAlone, one_is_alone, pair_answer, pair_rule, takes_none, zip_eq_contract, zip_eq_hints}
+use Rattle.fallible_itertools_adapters.specs.Laws.OverTraces.{InverseWhere, lawful_parts_where}
+use Rattle.fallible_itertools_adapters.specs.Laws.SidesTraces.{right_stays_free}
+use Rattle.fallible_itertools_adapters.specs.Sides.{RightFree, fused_contract}
+use Rattle.fallible_itertools_adapters.specs.ZipEq.{AsksWhereAlone, one_is_alone, pair_answer, pair_rule, takes_none, zip_eq_contract, zip_eq_hints, zip_eq_parts}
+use Rattle.fallible_itertools_adapters.specs.declared.zip_eq.ZipEq.{ZipEq}
 
 module _ {F E : Type 0} (call : F → Unit {0} → E → F → Type 0) where
   reaches_where_alone : (f g : F) (alone : Bool) (e : Option E) → AsksWhereAlone call f alone e g → Reaches call (λ _. ⊤) f g
@@ -42,3 +46,18 @@ module _ {F A B E : Type 0} (call : F → Unit {0} → E → F → Type 0) (take
 
 pub lawful_zip_eq : {S U F A B E : Type 0} {left : Contract S A E} {right : Contract U B E} (g : Mut F (Unit {0}) E) → Lawful left → Lawful right → Lawful (zip_eq_contract left right g)
 lawful_zip_eq {left = left} {right = right} g l k = lawful_sides (fused_contract left) (fused_contract right) (pair_rule (call_of_none g) (takes_none g)) (zip_eq_hints (fused_contract left) (fused_contract right)) (lawful_fused l) (lawful_fused k) (is_lawful_rule_pair (call_of_none g) (takes_none g))
+
+-- ---- the values are the parts of which nothing is held of the right
+
+module _ {T U F A B : Type 0} (E : Type 0) where
+  abbrev of_parts : (Fuse T × Option A) × (Fuse U × Option B) × F → ZipEq T U F A E
+  of_parts p = record { left = record { it = p.0.0; held = p.0.1 }; right = p.1.0; f = p.2 }
+
+  parts_of_made : (p : (Fuse T × Option A) × (Fuse U × Option B) × F) → RightFree p → zip_eq_parts (of_parts p) ≡ p
+  parts_of_made ((s, h), (u, k), f) e = rw e refl
+
+pub zip_eq_made : {T U F A E B : Type 0} → InverseWhere (zip_eq_parts {T = T} {U = U} {F = F} {A = A} {E = E} {B = B}) (λ p. RightFree p)
+zip_eq_made {E = E} = record { make = of_parts E; made = λ s. refl; has = parts_of_made E; holds = λ s. refl }
+
+pub lawful_zip_eq_parts : {S U F A B E : Type 0} {left : Contract S A E} {right : Contract U B E} (g : Mut F (Unit {0}) E) → Lawful left → Lawful right → Lawful (parts_as (zip_eq_parts {A = A} {E = E}) (zip_eq_contract left right g))
+lawful_zip_eq_parts {left = left} {right = right} g l k = lawful_parts_where zip_eq_made (right_stays_free (fused_contract left).steps (fused_contract right).steps (pair_rule (call_of_none g) (takes_none g)) (λ x y v. refl)) (lawful_zip_eq g l k)

@@ -15,7 +15,7 @@ pub fn law_peeking_take_while<P: PeekingNext, F: FnMut(&P::Item) -> Result<bool,
 where
     ensures { TracesAre peeking_parts
         ⟦<PeekingTakeWhile<P, F> as FallibleIterator>⟧.contract.steps
-        (PeekingTrace P.contract.steps P.looks (call_by_reference F.FnMut)) }
+        (PeekingTrace (Run P.contract.steps) P.looks (call_by_reference F.FnMut)) }
 {}
 
 /// Each hint of `PeekingTakeWhile` is as sound as the hint of its source that it is made of.

@@ -2,7 +2,7 @@
 use Rattle.std.proofs.Common.{refl}
 use Rattle.fallible_iterator.specs.Laws.LawForm.{traces_are_of_parts}
 use Rattle.fallible_itertools_adapters.specs.FuseAtFailure.{fuse_at_failure_parts}
-use Rattle.fallible_itertools_adapters.proofs.Lemmas.FuseAtFailure.{fuse_at_failure_law}
+use Rattle.fallible_itertools_adapters.specs.Laws.FuseAtFailure.{fuse_at_failure_law}
 use Rattle.fallible_itertools_adapters.proofs.laws.fuse_at_failure.law_fuse_at_failure.Goals as goal
 
 pub returns : goal.returns
