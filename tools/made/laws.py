@@ -5,8 +5,7 @@ from made import code
 # The headline first.
 PLACES = (
     ("fallible_core", "headline.rt"), ("fallible_iterator", "laws/**/*.rt"),
-    ("fallible_itertools", "laws/**/*.rt"), ("fallible_itertools_adapters", "laws/**/*.rt"),
-    ("fallible_itertools_consumers", "laws/**/*.rt"),
+    ("fallible_itertools_adapters", "laws/**/*.rt"), ("fallible_itertools_consumers", "laws/**/*.rt"),
 )
 HEAD = """# Laws
 

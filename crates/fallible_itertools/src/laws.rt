@@ -99,6 +99,7 @@ pub use fallible_itertools_adapters::laws::law_with_position;
 pub use fallible_itertools_adapters::laws::law_zip_eq;
 pub use fallible_itertools_adapters::laws::law_zip_longest;
 pub use fallible_itertools_adapters::laws::law_zipped_longest;
+pub use fallible_itertools_adapters::laws::nests::law_nest_of_six;
 pub use fallible_itertools_consumers::laws::law_joined;
 pub use fallible_itertools_consumers::laws::law_partition_failures;
 pub use fallible_itertools_consumers::laws::law_until_failure;

@@ -13,6 +13,7 @@ mod lengths;
 mod merge;
 mod merge_by;
 mod merge_join_by;
+pub mod nests;
 mod pad_using;
 mod peeking_take_while;
 mod positions;
