@@ -1,105 +1,23 @@
 //! What a trace of each adapter is, and that hints are sound, as functions whose body is empty or calls other laws.
-pub use fallible_itertools_adapters::laws::law_back_copied;
-pub use fallible_itertools_adapters::laws::law_back_err_into;
-pub use fallible_itertools_adapters::laws::law_back_inspect_err;
-pub use fallible_itertools_adapters::laws::law_back_or_else;
-pub use fallible_itertools_adapters::laws::law_chunk_by;
-pub use fallible_itertools_adapters::laws::law_chunked;
-pub use fallible_itertools_adapters::laws::law_chunked_by;
-pub use fallible_itertools_adapters::laws::law_chunks;
-pub use fallible_itertools_adapters::laws::law_coalesce;
-pub use fallible_itertools_adapters::laws::law_coalesced;
-pub use fallible_itertools_adapters::laws::law_copied;
-pub use fallible_itertools_adapters::laws::law_dedup;
-pub use fallible_itertools_adapters::laws::law_dedup_by;
-pub use fallible_itertools_adapters::laws::law_dedup_by_key;
-pub use fallible_itertools_adapters::laws::law_dedup_by_with_count;
-pub use fallible_itertools_adapters::laws::law_dedup_with_count;
-pub use fallible_itertools_adapters::laws::law_deduped;
-pub use fallible_itertools_adapters::laws::law_deduped_by;
-pub use fallible_itertools_adapters::laws::law_deduped_by_key;
-pub use fallible_itertools_adapters::laws::law_deduped_by_with_count;
-pub use fallible_itertools_adapters::laws::law_deduped_with_count;
-pub use fallible_itertools_adapters::laws::law_duplicates;
-pub use fallible_itertools_adapters::laws::law_duplicates_of;
-pub use fallible_itertools_adapters::laws::law_err_into;
-pub use fallible_itertools_adapters::laws::law_fuse_at_failure;
-pub use fallible_itertools_adapters::laws::law_hints_back_copied;
-pub use fallible_itertools_adapters::laws::law_hints_back_err_into;
-pub use fallible_itertools_adapters::laws::law_hints_back_inspect_err;
-pub use fallible_itertools_adapters::laws::law_hints_chunk_by;
-pub use fallible_itertools_adapters::laws::law_hints_chunks;
-pub use fallible_itertools_adapters::laws::law_hints_coalesce;
-pub use fallible_itertools_adapters::laws::law_hints_copied;
-pub use fallible_itertools_adapters::laws::law_hints_dedup;
-pub use fallible_itertools_adapters::laws::law_hints_dedup_by;
-pub use fallible_itertools_adapters::laws::law_hints_dedup_by_key;
-pub use fallible_itertools_adapters::laws::law_hints_dedup_by_with_count;
-pub use fallible_itertools_adapters::laws::law_hints_dedup_with_count;
-pub use fallible_itertools_adapters::laws::law_hints_duplicates;
-pub use fallible_itertools_adapters::laws::law_hints_err_into;
-pub use fallible_itertools_adapters::laws::law_hints_fuse_at_failure;
-pub use fallible_itertools_adapters::laws::law_hints_inspect_err;
-pub use fallible_itertools_adapters::laws::law_hints_interleave;
-pub use fallible_itertools_adapters::laws::law_hints_intersperse;
-pub use fallible_itertools_adapters::laws::law_hints_intersperse_with;
-pub use fallible_itertools_adapters::laws::law_hints_listed_copied;
-pub use fallible_itertools_adapters::laws::law_hints_listed_err_into;
-pub use fallible_itertools_adapters::laws::law_hints_listed_inspect_err;
-pub use fallible_itertools_adapters::laws::law_hints_merge;
-pub use fallible_itertools_adapters::laws::law_hints_merge_by;
-pub use fallible_itertools_adapters::laws::law_hints_merge_join_by;
-pub use fallible_itertools_adapters::laws::law_hints_or_else;
-pub use fallible_itertools_adapters::laws::law_hints_pad_using;
-pub use fallible_itertools_adapters::laws::law_hints_peeking_take_while;
-pub use fallible_itertools_adapters::laws::law_hints_positions;
-pub use fallible_itertools_adapters::laws::law_hints_stop_after;
-pub use fallible_itertools_adapters::laws::law_hints_take_while_inclusive;
-pub use fallible_itertools_adapters::laws::law_hints_tuple_windows;
-pub use fallible_itertools_adapters::laws::law_hints_tuples;
-pub use fallible_itertools_adapters::laws::law_hints_unique;
-pub use fallible_itertools_adapters::laws::law_hints_unique_by;
-pub use fallible_itertools_adapters::laws::law_hints_with_position;
-pub use fallible_itertools_adapters::laws::law_hints_zip_eq;
-pub use fallible_itertools_adapters::laws::law_hints_zip_longest;
-pub use fallible_itertools_adapters::laws::law_inspect_err;
-pub use fallible_itertools_adapters::laws::law_interleave;
-pub use fallible_itertools_adapters::laws::law_interleaved;
-pub use fallible_itertools_adapters::laws::law_intersperse;
-pub use fallible_itertools_adapters::laws::law_intersperse_with;
-pub use fallible_itertools_adapters::laws::law_interspersed;
-pub use fallible_itertools_adapters::laws::law_listed_copied;
-pub use fallible_itertools_adapters::laws::law_listed_err_into;
-pub use fallible_itertools_adapters::laws::law_listed_inspect_err;
-pub use fallible_itertools_adapters::laws::law_listed_or_else;
-pub use fallible_itertools_adapters::laws::law_merge;
-pub use fallible_itertools_adapters::laws::law_merge_by;
-pub use fallible_itertools_adapters::laws::law_merge_join_by;
-pub use fallible_itertools_adapters::laws::law_merge_joined;
-pub use fallible_itertools_adapters::laws::law_merged;
-pub use fallible_itertools_adapters::laws::law_merged_in_order;
-pub use fallible_itertools_adapters::laws::law_or_else;
-pub use fallible_itertools_adapters::laws::law_pad_using;
-pub use fallible_itertools_adapters::laws::law_padded;
-pub use fallible_itertools_adapters::laws::law_peeking_take_while;
-pub use fallible_itertools_adapters::laws::law_positioned;
-pub use fallible_itertools_adapters::laws::law_positions;
-pub use fallible_itertools_adapters::laws::law_rest_peeking_take_while;
-pub use fallible_itertools_adapters::laws::law_stop_after;
-pub use fallible_itertools_adapters::laws::law_take_while_inclusive;
-pub use fallible_itertools_adapters::laws::law_tuple_windows;
-pub use fallible_itertools_adapters::laws::law_tupled;
-pub use fallible_itertools_adapters::laws::law_tuples;
-pub use fallible_itertools_adapters::laws::law_unique;
-pub use fallible_itertools_adapters::laws::law_unique_by;
-pub use fallible_itertools_adapters::laws::law_unique_by_of;
-pub use fallible_itertools_adapters::laws::law_unique_of;
-pub use fallible_itertools_adapters::laws::law_windowed;
-pub use fallible_itertools_adapters::laws::law_with_position;
-pub use fallible_itertools_adapters::laws::law_zip_eq;
-pub use fallible_itertools_adapters::laws::law_zip_longest;
-pub use fallible_itertools_adapters::laws::law_zipped_longest;
 pub use fallible_itertools_adapters::laws::nests::law_nest_of_six;
-pub use fallible_itertools_consumers::laws::law_joined;
-pub use fallible_itertools_consumers::laws::law_partition_failures;
-pub use fallible_itertools_consumers::laws::law_until_failure;
+pub use fallible_itertools_adapters::laws::{
+    law_chunked, law_chunked_by, law_coalesced, law_deduped, law_deduped_by, law_deduped_by_key,
+    law_deduped_by_with_count, law_deduped_with_count, law_duplicates_of, law_hints_back_copied,
+    law_hints_back_err_into, law_hints_back_inspect_err, law_hints_chunk_by, law_hints_chunks,
+    law_hints_coalesce, law_hints_copied, law_hints_dedup, law_hints_dedup_by,
+    law_hints_dedup_by_key, law_hints_dedup_by_with_count, law_hints_dedup_with_count,
+    law_hints_duplicates, law_hints_err_into, law_hints_fuse_at_failure, law_hints_inspect_err,
+    law_hints_interleave, law_hints_intersperse, law_hints_intersperse_with,
+    law_hints_listed_copied, law_hints_listed_err_into, law_hints_listed_inspect_err,
+    law_hints_merge, law_hints_merge_by, law_hints_merge_join_by, law_hints_or_else,
+    law_hints_pad_using, law_hints_peeking_take_while, law_hints_positions, law_hints_stop_after,
+    law_hints_take_while_inclusive, law_hints_tuple_windows, law_hints_tuples, law_hints_unique,
+    law_hints_unique_by, law_hints_with_position, law_hints_zip_eq, law_hints_zip_longest,
+    law_interleaved, law_interspersed, law_listed_copied, law_listed_err_into,
+    law_listed_inspect_err, law_listed_or_else, law_merge_joined, law_merged, law_merged_in_order,
+    law_padded, law_positioned, law_rest_peeking_take_while, law_tupled, law_unique_by_of,
+    law_unique_of, law_windowed, law_zipped_longest,
+};
+pub use fallible_itertools_consumers::laws::{
+    law_joined, law_partition_failures, law_until_failure,
+};

@@ -24,48 +24,36 @@ mod zip_eq;
 mod zip_longest;
 
 pub use copied::{
-    law_back_copied, law_copied, law_hints_back_copied, law_hints_copied, law_hints_listed_copied,
-    law_listed_copied,
+    law_hints_back_copied, law_hints_copied, law_hints_listed_copied, law_listed_copied,
 };
 pub use counting::{
-    law_dedup_by_with_count, law_dedup_with_count, law_deduped_by_with_count,
-    law_deduped_with_count, law_hints_dedup_by_with_count, law_hints_dedup_with_count,
+    law_deduped_by_with_count, law_deduped_with_count, law_hints_dedup_by_with_count,
+    law_hints_dedup_with_count,
 };
-pub use duplicates::{law_duplicates, law_duplicates_of, law_hints_duplicates};
+pub use duplicates::{law_duplicates_of, law_hints_duplicates};
 pub use failing::{
-    law_back_err_into, law_back_inspect_err, law_back_or_else, law_err_into,
     law_hints_back_err_into, law_hints_back_inspect_err, law_hints_err_into, law_hints_inspect_err,
-    law_hints_listed_err_into, law_hints_listed_inspect_err, law_hints_or_else, law_inspect_err,
-    law_listed_err_into, law_listed_inspect_err, law_listed_or_else, law_or_else,
+    law_hints_listed_err_into, law_hints_listed_inspect_err, law_hints_or_else,
+    law_listed_err_into, law_listed_inspect_err, law_listed_or_else,
 };
-pub use fuse_at_failure::{law_fuse_at_failure, law_hints_fuse_at_failure};
-pub use grouping::{
-    law_chunk_by, law_chunked, law_chunked_by, law_chunks, law_hints_chunk_by, law_hints_chunks,
-};
+pub use fuse_at_failure::law_hints_fuse_at_failure;
+pub use grouping::{law_chunked, law_chunked_by, law_hints_chunk_by, law_hints_chunks};
 pub use holding::{
-    law_coalesce, law_coalesced, law_dedup, law_dedup_by, law_dedup_by_key, law_deduped,
-    law_deduped_by, law_deduped_by_key, law_hints_coalesce, law_hints_dedup, law_hints_dedup_by,
-    law_hints_dedup_by_key, law_hints_tuple_windows, law_hints_tuples, law_hints_with_position,
-    law_positioned, law_tuple_windows, law_tuples, law_with_position,
+    law_coalesced, law_deduped, law_deduped_by, law_deduped_by_key, law_hints_coalesce,
+    law_hints_dedup, law_hints_dedup_by, law_hints_dedup_by_key, law_hints_tuple_windows,
+    law_hints_tuples, law_hints_with_position, law_positioned,
 };
-pub use interleave::{law_hints_interleave, law_interleave, law_interleaved};
-pub use intersperse::{
-    law_hints_intersperse, law_hints_intersperse_with, law_intersperse, law_intersperse_with,
-};
+pub use interleave::{law_hints_interleave, law_interleaved};
+pub use intersperse::{law_hints_intersperse, law_hints_intersperse_with};
 pub use lengths::{law_interspersed, law_tupled, law_windowed, law_zipped_longest};
-pub use merge::{law_hints_merge, law_merge, law_merged_in_order};
-pub use merge_by::{law_hints_merge_by, law_merge_by, law_merged};
-pub use merge_join_by::{law_hints_merge_join_by, law_merge_join_by, law_merge_joined};
-pub use pad_using::{law_hints_pad_using, law_pad_using, law_padded};
-pub use peeking_take_while::{
-    law_hints_peeking_take_while, law_peeking_take_while, law_rest_peeking_take_while,
-};
-pub use positions::{law_hints_positions, law_positions};
-pub use stop_after::{law_hints_stop_after, law_stop_after};
-pub use take_while_inclusive::{law_hints_take_while_inclusive, law_take_while_inclusive};
-pub use unique::{
-    law_hints_unique, law_hints_unique_by, law_unique, law_unique_by, law_unique_by_of,
-    law_unique_of,
-};
-pub use zip_eq::{law_hints_zip_eq, law_zip_eq};
-pub use zip_longest::{law_hints_zip_longest, law_zip_longest};
+pub use merge::{law_hints_merge, law_merged_in_order};
+pub use merge_by::{law_hints_merge_by, law_merged};
+pub use merge_join_by::{law_hints_merge_join_by, law_merge_joined};
+pub use pad_using::{law_hints_pad_using, law_padded};
+pub use peeking_take_while::{law_hints_peeking_take_while, law_rest_peeking_take_while};
+pub use positions::law_hints_positions;
+pub use stop_after::law_hints_stop_after;
+pub use take_while_inclusive::law_hints_take_while_inclusive;
+pub use unique::{law_hints_unique, law_hints_unique_by, law_unique_by_of, law_unique_of};
+pub use zip_eq::law_hints_zip_eq;
+pub use zip_longest::law_hints_zip_longest;

@@ -3,27 +3,12 @@ ghost use Rattle.std.specs.Prelude.{List, Result};
 ghost use Rattle.std.specs.Borrow.{Bor};
 ghost use Rattle.fallible_iterator.specs.BothEnds.{ListsBothEnds};
 ghost use Rattle.fallible_iterator.specs.Ends.{from_back};
-ghost use Rattle.fallible_iterator.specs.LawForm.{TracesAre};
 ghost use Rattle.fallible_iterator.specs.Lists.{pointed_to};
 ghost use Rattle.fallible_iterator.specs.SoundHints.{KeepsBounds, HintsAsSoundAs};
-ghost use Rattle.fallible_itertools_adapters.specs.Copied.{CopiedTrace, copied_parts, copied_source};
+ghost use Rattle.fallible_itertools_adapters.specs.Copied.{copied_source};
 
 use crate::copied::Copied;
 use fallible_iterator::{DoubleEndedFallibleIterator, FallibleIterator};
-
-/// The answers of `Copied` are the source's, with the value that each item points to in its place.
-pub fn law_copied<'a, T: Copy + 'a, I: FallibleIterator<Item = &'a T>>()
-where
-    ensures { TracesAre copied_parts ⟦<Copied<I> as FallibleIterator>⟧.contract.steps
-        (CopiedTrace I.contract.steps) }
-{}
-
-/// From the back the answers of `Copied` are the source's from the back, with the value that each item points to in its place.
-pub fn law_back_copied<'a, T: Copy + 'a, I: DoubleEndedFallibleIterator<Item = &'a T>>()
-where
-    ensures { TracesAre copied_parts ⟦<Copied<I> as DoubleEndedFallibleIterator>⟧.ends.steps
-        (CopiedTrace I.ends.steps) }
-{}
 
 /// Each hint of `Copied` is as sound as the hint of its source that it is made of.
 pub fn law_hints_copied<'a, T: Copy + 'a, I: FallibleIterator<Item = &'a T>>()

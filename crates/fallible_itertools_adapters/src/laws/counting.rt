@@ -1,29 +1,17 @@
 // The laws of the adapters that yield the first of adjacent items that are the same beside their number.
 ghost use Rattle.std.specs.Prelude.{◌≡◌, ◌++◌, ◌∷◌, ◌-◌, ◌^◌, Bool, List, Result, Ok, Err, length, min};
-ghost use Rattle.fallible_iterator.specs.LawForm.{TracesAre};
 ghost use Rattle.fallible_iterator.specs.Lists.{mapped};
-ghost use Rattle.fallible_iterator.specs.Picking.{call_at_two};
 ghost use Rattle.fallible_itertools_adapters.specs.ChunkBy.{chunked_by};
 ghost use Rattle.fallible_itertools_adapters.specs.Dedup.{deduped};
 ghost use Rattle.fallible_itertools_adapters.specs.DedupBy.{deduped_by};
-ghost use Rattle.fallible_itertools_adapters.specs.DedupByWithCount.{DedupByWithCountTrace, dedup_by_with_count_due, dedup_by_with_count_parts, dedup_by_with_count_source};
-ghost use Rattle.fallible_itertools_adapters.specs.DedupWithCount.{DedupWithCountTrace, dedup_with_count_due, dedup_with_count_parts, dedup_with_count_source};
+ghost use Rattle.fallible_itertools_adapters.specs.DedupByWithCount.{dedup_by_with_count_due, dedup_by_with_count_source};
+ghost use Rattle.fallible_itertools_adapters.specs.DedupWithCount.{dedup_with_count_due, dedup_with_count_source};
 ghost use Rattle.fallible_itertools_adapters.specs.Holding.{HintsWhereHeld};
 ghost use Rattle.fallible_itertools_adapters.specs.RunCounts.{deduped_by_with_count, deduped_with_count};
 
 use crate::dedup_by_with_count::DedupByWithCount;
 use crate::dedup_with_count::DedupWithCount;
 use fallible_iterator::FallibleIterator;
-
-/// The answers of `DedupWithCount` are the stop that is due, and then the first of adjacent equal items beside their number: each stands where the next one that differs or a stop came, and each stop after what was buffered before it.
-pub fn law_dedup_with_count<I: FallibleIterator>()
-where
-    I::Item: PartialEq + Drop,
-    I::Error: Drop,
-    ensures { TracesAre dedup_with_count_parts
-        ⟦<DedupWithCount<I> as FallibleIterator>⟧.contract.steps
-        (DedupWithCountTrace I.Item.eq I.contract.steps) }
-{}
 
 /// Each item is beside the number of items of the group that it begins, as `chunked_by` makes groups of equal items; a number above `usize::MAX` is that one. Without the numbers it is what `dedup` yields. A failure parts a list: what stands before it is counted by itself, and so is what comes after it.
 pub fn law_deduped_with_count<T: PartialEq, E>()
@@ -44,19 +32,6 @@ where
     I::Item: PartialEq + Drop,
     I::Error: Drop,
     ensures { HintsWhereHeld ⟦<DedupWithCount<I> as FallibleIterator>⟧.contract dedup_with_count_due I.contract dedup_with_count_source }
-{}
-
-/// The answers of `DedupByWithCount` are the stop that is due, and then the first of adjacent items that the closure finds the same beside their number: each stands where the next one that differs or a stop came, and each stop after what was buffered before it. The closure's failure is a stop.
-pub fn law_dedup_by_with_count<
-    I: FallibleIterator,
-    F: FnMut(&I::Item, &I::Item) -> Result<bool, I::Error>,
->()
-where
-    I::Item: Drop,
-    I::Error: Drop,
-    ensures { TracesAre dedup_by_with_count_parts
-        ⟦<DedupByWithCount<I, F> as FallibleIterator>⟧.contract.steps
-        (DedupByWithCountTrace (call_at_two F.FnMut) I.contract.steps) }
 {}
 
 /// Without the numbers it is what `dedup_by` yields. A failure parts a list: what stands before it is counted by itself, and so is what comes after it.

@@ -3,23 +3,13 @@ ghost use Rattle.std.specs.Prelude.{◌≡◌, ◌++◌, ◌∷◌, ◌≤◌, D
 ghost use Rattle.std.specs.List.{IsDistinct, count_by};
 ghost use Rattle.std.specs.Set.{is_member};
 ghost use Rattle.fallible_iterator.specs.BothEnds.{failures_listed, items_listed};
-ghost use Rattle.fallible_iterator.specs.LawForm.{TracesAre};
 ghost use Rattle.fallible_iterator.specs.SoundHints.{HintsAsSoundAs};
-ghost use Rattle.fallible_itertools_adapters.specs.Duplicates.{DuplicatesTrace, duplicates_of, duplicates_parts, duplicates_source};
+ghost use Rattle.fallible_itertools_adapters.specs.Duplicates.{duplicates_of, duplicates_source};
 
 use crate::duplicates::Duplicates;
 use fallible_iterator::FallibleIterator;
 use std::alloc::AllocError;
 use std::hash::Hash;
-
-/// The answers of `Duplicates` are the source's, without the items that equal none before them and those that equal one that was yielded. Where the room for an item that equals none can't be allocated, the failure converted from the `AllocError` is in its place.
-pub fn law_duplicates<I: FallibleIterator>()
-where
-    I::Item: Drop + Eq + Hash,
-    I::Error: From<AllocError>,
-    ensures { TracesAre duplicates_parts ⟦<Duplicates<I> as FallibleIterator>⟧.contract.steps
-        (DuplicatesTrace I.Item.eq I.Error.from_gives I.contract.steps) }
-{}
 
 /// An item is listed exactly if two items of the list or more equal it, and no item that is listed equals another. An item at the end of the list is listed if exactly one before it equals it, and each failure is, in their order: the list with one more item or failure at its end lists that after the others.
 pub fn law_duplicates_of<T: Eq, E>()

@@ -3,13 +3,12 @@ ghost use Rattle.std.specs.Prelude.{List, Result, Option};
 ghost use Rattle.fallible_iterator.specs.BothEnds.{ListsBothEnds};
 ghost use Rattle.fallible_iterator.specs.Closures.{call_by_value};
 ghost use Rattle.fallible_iterator.specs.Ends.{from_back};
-ghost use Rattle.fallible_iterator.specs.LawForm.{TracesAre};
 ghost use Rattle.fallible_iterator.specs.Failing.{failures_mapped};
 ghost use Rattle.fallible_iterator.specs.Lists.{Acts, Converts};
 ghost use Rattle.fallible_iterator.specs.SoundHints.{KeepsBounds, HintsAsSoundAs, SoundHints};
-ghost use Rattle.fallible_itertools_adapters.specs.ErrInto.{ErrIntoTrace, err_into_parts, err_into_source};
-ghost use Rattle.fallible_itertools_adapters.specs.InspectErr.{InspectErrTrace, inspect_err_parts, inspect_err_source};
-ghost use Rattle.fallible_itertools_adapters.specs.OrElse.{OrElseTrace, or_else_closure, or_else_parts, or_else_source, recovered};
+ghost use Rattle.fallible_itertools_adapters.specs.ErrInto.{err_into_source};
+ghost use Rattle.fallible_itertools_adapters.specs.InspectErr.{inspect_err_source};
+ghost use Rattle.fallible_itertools_adapters.specs.OrElse.{or_else_closure, or_else_source, recovered};
 
 use crate::err_into::ErrInto;
 use crate::inspect_err::InspectErr;
@@ -17,22 +16,6 @@ use crate::or_else::OrElse;
 use fallible_iterator::{DoubleEndedFallibleIterator, FallibleIterator};
 
 // ---- `InspectErr`
-
-/// The answers of `InspectErr` are the source's, and its closure is called on a reference to each failure, in order.
-pub fn law_inspect_err<I: FallibleIterator, F: FnMut(&I::Error)>()
-where
-    ensures { TracesAre inspect_err_parts
-        ⟦<InspectErr<I, F> as FallibleIterator>⟧.contract.steps
-        (InspectErrTrace I.contract.steps F.FnMut) }
-{}
-
-/// From the back the answers of `InspectErr` are the source's from the back, and its closure is called on a reference to each failure, in order.
-pub fn law_back_inspect_err<I: DoubleEndedFallibleIterator, F: FnMut(&I::Error)>()
-where
-    ensures { TracesAre inspect_err_parts
-        ⟦<InspectErr<I, F> as DoubleEndedFallibleIterator>⟧.ends.steps
-        (InspectErrTrace I.ends.steps F.FnMut) }
-{}
 
 /// Each hint of `InspectErr` is as sound as the hint of its source that it is made of.
 pub fn law_hints_inspect_err<I: FallibleIterator, F: FnMut(&I::Error)>()
@@ -69,20 +52,6 @@ where
 {}
 
 // ---- `ErrInto`
-
-/// The answers of `ErrInto` are the source's, each failure replaced by what it is converted to.
-pub fn law_err_into<I: FallibleIterator, E: From<I::Error>>()
-where
-    ensures { TracesAre err_into_parts ⟦<ErrInto<I, E> as FallibleIterator>⟧.contract.steps
-        (ErrIntoTrace E.from_gives I.contract.steps) }
-{}
-
-/// From the back the answers of `ErrInto` are the source's from the back, each failure replaced by what it is converted to.
-pub fn law_back_err_into<I: DoubleEndedFallibleIterator, E: From<I::Error>>()
-where
-    ensures { TracesAre err_into_parts ⟦<ErrInto<I, E> as DoubleEndedFallibleIterator>⟧.ends.steps
-        (ErrIntoTrace E.from_gives I.ends.steps) }
-{}
 
 /// Each hint of `ErrInto` is as sound as the hint of its source that it is made of.
 pub fn law_hints_err_into<I: FallibleIterator, E: From<I::Error>>()
@@ -121,25 +90,6 @@ where
 {}
 
 // ---- `OrElse`
-
-/// The answers of `OrElse` are the source's, each failure replaced by the item or the failure that the closure returns for it, or left out.
-pub fn law_or_else<I: FallibleIterator, E, F: FnMut(I::Error) -> Result<Option<I::Item>, E>>()
-where
-    ensures { TracesAre or_else_parts ⟦<OrElse<I, F> as FallibleIterator>⟧.contract.steps
-        (OrElseTrace I.contract.steps F.FnMut) }
-{}
-
-/// From the back the answers of `OrElse` are the source's from the back, each failure replaced by the item or the failure that the closure returns for it, or left out.
-pub fn law_back_or_else<
-    I: DoubleEndedFallibleIterator,
-    E,
-    F: FnMut(I::Error) -> Result<Option<I::Item>, E>,
->()
-where
-    ensures { TracesAre or_else_parts
-        ⟦<OrElse<I, F> as DoubleEndedFallibleIterator>⟧.ends.steps
-        (OrElseTrace I.ends.steps F.FnMut) }
-{}
 
 /// Each hint of `OrElse` is sound: it says that at least 0 items come.
 pub fn law_hints_or_else<I: FallibleIterator, E, F: FnMut(I::Error) -> Result<Option<I::Item>, E>>()

@@ -1,18 +1,10 @@
 // The laws of the adapter that is exhausted at the first failure.
 ghost use Rattle.std.specs.Prelude.{◌≡◌, true, false};
-ghost use Rattle.fallible_iterator.specs.LawForm.{TracesAre};
 ghost use Rattle.fallible_iterator.specs.SoundHints.{HintsAsSoundAs, SoundHints};
-ghost use Rattle.fallible_itertools_adapters.specs.FuseAtFailure.{FuseAtFailureTrace, fuse_at_failure_failed, fuse_at_failure_parts, fuse_at_failure_source};
+ghost use Rattle.fallible_itertools_adapters.specs.FuseAtFailure.{fuse_at_failure_failed, fuse_at_failure_source};
 
 use crate::fuse_at_failure::FuseAtFailure;
 use fallible_iterator::FallibleIterator;
-
-/// A trace of `FuseAtFailure` is the source's up to its first failure, and with it. Then each call returns `Ok(None)` without a draw.
-pub fn law_fuse_at_failure<I: FallibleIterator>()
-    ensures { TracesAre fuse_at_failure_parts
-        ⟦<FuseAtFailure<I> as FallibleIterator>⟧.contract.steps
-        (FuseAtFailureTrace I.contract.steps) }
-{}
 
 /// Until the source failed each hint of `FuseAtFailure` is as sound as the source's; from then on each is sound by itself.
 pub fn law_hints_fuse_at_failure<I: FallibleIterator>()

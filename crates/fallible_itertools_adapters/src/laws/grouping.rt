@@ -1,26 +1,16 @@
 // The laws of the adapters that yield groups of items.
 ghost use Rattle.std.specs.Prelude.{◌≡◌, ℕ, ◌<◌, ◌++◌, ◌∷◌, false, List, Ok, Err, Result, All, length, map};
 ghost use Rattle.fallible_iterator.specs.BothEnds.{items_listed, failures_listed};
-ghost use Rattle.fallible_iterator.specs.LawForm.{TracesAre};
 ghost use Rattle.fallible_iterator.specs.Lists.{items};
 ghost use Rattle.fallible_itertools_adapters.specs.Adjacent.{AdjacentItems, IsGroup};
-ghost use Rattle.fallible_itertools_adapters.specs.ChunkBy.{ChunkByTrace, chunk_by_due, chunk_by_parts, chunk_by_source, chunked_by};
-ghost use Rattle.fallible_itertools_adapters.specs.Chunks.{BatchesOf, BatchesUpTo, ChunksTrace, chunked, chunks_due, chunks_parts, chunks_source, batches_joined};
+ghost use Rattle.fallible_itertools_adapters.specs.ChunkBy.{chunk_by_due, chunk_by_source, chunked_by};
+ghost use Rattle.fallible_itertools_adapters.specs.Chunks.{BatchesOf, BatchesUpTo, chunked, chunks_due, chunks_source, batches_joined};
 ghost use Rattle.fallible_itertools_adapters.specs.Holding.{HintsWhereHeld};
 
 use crate::chunk_by::ChunkBy;
 use crate::chunks::Chunks;
 use fallible_iterator::FallibleIterator;
 use std::alloc::AllocError;
-
-/// The answers of `Chunks` are the stop that is due, and then the source's in batches: each batch stands where its last item or a stop came, and each stop after the batch that was buffered before it. A failed allocation is a stop.
-pub fn law_chunks<I: FallibleIterator>()
-where
-    I::Item: Drop,
-    I::Error: Drop + From<AllocError>,
-    ensures { TracesAre chunks_parts ⟦<Chunks<I> as FallibleIterator>⟧.contract.steps
-        (ChunksTrace I.Error.from_gives I.contract.steps) }
-{}
 
 /// The batches of a list joined are its items, each batch has some and at most n, and the failures are the list's. What stands before a failure is batched by itself, and so is what comes after it. A batch that another one follows has n items. If nothing fails, each batch but the last has n items.
 pub fn law_chunked<T, E>()
@@ -44,17 +34,6 @@ where
     I::Item: Drop,
     I::Error: Drop + From<AllocError>,
     ensures { HintsWhereHeld ⟦<Chunks<I> as FallibleIterator>⟧.contract chunks_due I.contract chunks_source }
-{}
-
-/// The answers of `ChunkBy` are the stop that is due, and then the source's in groups of equal keys: each group stands where the next key differs or a stop came, and each stop after the group that was buffered before it. The closure's failure and a failed allocation are stops.
-pub fn law_chunk_by<I: FallibleIterator, K, F>()
-where
-    K: PartialEq + Drop,
-    F: FnMut(&I::Item) -> Result<K, I::Error>,
-    I::Item: Drop,
-    I::Error: Drop + From<AllocError>,
-    ensures { TracesAre chunk_by_parts ⟦<ChunkBy<I, K, F> as FallibleIterator>⟧.contract.steps
-        (ChunkByTrace I.Error.from_gives K.eq F.FnMut I.contract.steps) }
 {}
 
 /// The groups of a list joined are its items, if each item has a key. The key of a group is that of its first item, and those of its other items equal it. The keys of adjacent groups differ, unless a failure stands between. An item whose key fails is that failure in its place. What stands before a failure is grouped by itself, and so is what comes after it.

@@ -1,21 +1,17 @@
 // The laws of the adapters that buffer.
 ghost use Rattle.std.specs.Prelude.{◌≡◌, ◌++◌, ◌∷◌, Bool, false, List, Result, Ok, Err, [], map};
-ghost use Rattle.fallible_iterator.specs.LawForm.{TracesAre};
 ghost use Rattle.fallible_iterator.specs.SoundHints.{HintsAsSoundAs};
-ghost use Rattle.fallible_iterator.specs.Closures.{call_by_reference};
-ghost use Rattle.fallible_iterator.specs.Folds.{call_with};
 ghost use Rattle.fallible_iterator.specs.Lists.{filter_mapped, items, nth_of};
-ghost use Rattle.fallible_iterator.specs.Picking.{call_at_two};
 ghost use Rattle.fallible_itertools_adapters.specs.Adjacent.{AdjacentItems, HaveKeys};
 ghost use Rattle.fallible_itertools_adapters.specs.ChunkBy.{chunked_by};
-ghost use Rattle.fallible_itertools_adapters.specs.Coalesce.{CoalesceTrace, KeepsApart, OneOrBoth, coalesce_due, coalesce_parts, coalesce_source, coalesced};
-ghost use Rattle.fallible_itertools_adapters.specs.DedupBy.{DedupByTrace, dedup_by_due, dedup_by_parts, dedup_by_source, deduped_by};
-ghost use Rattle.fallible_itertools_adapters.specs.DedupByKey.{DedupByKeyTrace, dedup_by_key_due, dedup_by_key_parts, dedup_by_key_source, deduped_by_key};
-ghost use Rattle.fallible_itertools_adapters.specs.Dedup.{DedupTrace, dedup_due, dedup_parts, dedup_source, deduped};
+ghost use Rattle.fallible_itertools_adapters.specs.Coalesce.{KeepsApart, OneOrBoth, coalesce_due, coalesce_source, coalesced};
+ghost use Rattle.fallible_itertools_adapters.specs.DedupBy.{dedup_by_due, dedup_by_source, deduped_by};
+ghost use Rattle.fallible_itertools_adapters.specs.DedupByKey.{dedup_by_key_due, dedup_by_key_source, deduped_by_key};
+ghost use Rattle.fallible_itertools_adapters.specs.Dedup.{dedup_due, dedup_source, deduped};
 ghost use Rattle.fallible_itertools_adapters.specs.Holding.{HintsWhereHeld};
-ghost use Rattle.fallible_itertools_adapters.specs.TupleWindows.{TupleWindowsTrace, tuple_windows_parts, tuple_windows_source};
-ghost use Rattle.fallible_itertools_adapters.specs.Tuples.{TuplesTrace, tuples_parts, tuples_source};
-ghost use Rattle.fallible_itertools_adapters.specs.WithPosition.{WithPositionTrace, positioned, with_position_due, with_position_parts, with_position_source};
+ghost use Rattle.fallible_itertools_adapters.specs.TupleWindows.{tuple_windows_source};
+ghost use Rattle.fallible_itertools_adapters.specs.Tuples.{tuples_source};
+ghost use Rattle.fallible_itertools_adapters.specs.WithPosition.{positioned, with_position_due, with_position_source};
 ghost use Rattle.fallible_itertools_adapters.specs.declared.with_position.Position.TheVariants.{First, Last, Middle, Only};
 
 use crate::coalesce::Coalesce;
@@ -27,15 +23,6 @@ use crate::tuples::Tuples;
 use crate::with_position::WithPosition;
 use fallible_iterator::FallibleIterator;
 use std::alloc::AllocError;
-
-/// The answers of `Dedup` are the stop that is due, and then the first of adjacent equal items: each stands where the next one that differs or a stop came, and each stop after what was buffered before it.
-pub fn law_dedup<I: FallibleIterator>()
-where
-    I::Item: PartialEq + Drop,
-    I::Error: Drop,
-    ensures { TracesAre dedup_parts ⟦<Dedup<I> as FallibleIterator>⟧.contract.steps
-        (DedupTrace I.Item.eq I.contract.steps) }
-{}
 
 /// No item equals the next one, unless a failure stands between. Each item is its own key, as `deduped_by_key` has it. A failure parts a list: what stands before it is deduped by itself, and so is what comes after it.
 pub fn law_deduped<T: PartialEq, E>()
@@ -53,18 +40,6 @@ where
     I::Item: PartialEq + Drop,
     I::Error: Drop,
     ensures { HintsWhereHeld ⟦<Dedup<I> as FallibleIterator>⟧.contract dedup_due I.contract dedup_source }
-{}
-
-/// The answers of `Coalesce` are the stop that is due, and then adjacent items merged: each stands where the next one that isn't merged with it or a stop came, and each stop after what was buffered before it. The closure's failure is a stop.
-pub fn law_coalesce<
-    I: FallibleIterator,
-    F: FnMut(I::Item, I::Item) -> Result<Result<I::Item, (I::Item, I::Item)>, I::Error>,
->()
-where
-    I::Item: Drop,
-    I::Error: Drop,
-    ensures { TracesAre coalesce_parts ⟦<Coalesce<I, F> as FallibleIterator>⟧.contract.steps
-        (CoalesceTrace (call_with F.FnMut) I.contract.steps) }
 {}
 
 /// A failure parts a list: what stands before it is merged by itself, and so is what comes after it. The closure keeps each two adjacent results apart, if it hands what it keeps apart back as it is, and what it makes of the second of two and a later item is still apart from the first; unless a failure stands between.
@@ -86,15 +61,6 @@ where
     ensures { HintsWhereHeld ⟦<Coalesce<I, F> as FallibleIterator>⟧.contract coalesce_due I.contract coalesce_source }
 {}
 
-/// The answers of `DedupBy` are the stop that is due, and then the first of adjacent items that the closure finds the same: each stands where the next one that differs or a stop came, and each stop after what was buffered before it. The closure's failure is a stop.
-pub fn law_dedup_by<I: FallibleIterator, F: FnMut(&I::Item, &I::Item) -> Result<bool, I::Error>>()
-where
-    I::Item: Drop,
-    I::Error: Drop,
-    ensures { TracesAre dedup_by_parts ⟦<DedupBy<I, F> as FallibleIterator>⟧.contract.steps
-        (DedupByTrace (call_at_two F.FnMut) I.contract.steps) }
-{}
-
 /// A failure parts a list: what stands before it is deduped by itself, and so is what comes after it. The closure finds that each item differs from the next one, unless a failure stands between.
 pub fn law_deduped_by<T, E>()
     ensures parts { (h : T → T → Result Bool E) (a : List (Result T E)) (e : E) (b : List (Result T E))
@@ -112,20 +78,6 @@ where
     I::Item: Drop,
     I::Error: Drop,
     ensures { HintsWhereHeld ⟦<DedupBy<I, F> as FallibleIterator>⟧.contract dedup_by_due I.contract dedup_by_source }
-{}
-
-/// The answers of `DedupByKey` are the stop that is due, and then the first of adjacent items with equal keys: each stands where the next one that differs or a stop came, and each stop after what was buffered before it. The closure's failure is a stop.
-pub fn law_dedup_by_key<
-    I: FallibleIterator,
-    K: PartialEq + Drop,
-    F: FnMut(&I::Item) -> Result<K, I::Error>,
->()
-where
-    I::Item: Drop,
-    I::Error: Drop,
-    ensures { TracesAre dedup_by_key_parts
-        ⟦<DedupByKey<I, K, F> as FallibleIterator>⟧.contract.steps
-        (DedupByKeyTrace K.eq (call_by_reference F.FnMut) I.contract.steps) }
 {}
 
 /// The key of no item equals that of the next one, unless a failure stands between. The items are the first ones of the groups that `chunked_by` makes. A failure parts a list: what stands before it is deduped by itself, and so is what comes after it.
@@ -152,17 +104,6 @@ where
     ensures { HintsWhereHeld ⟦<DedupByKey<I, K, F> as FallibleIterator>⟧.contract dedup_by_key_due I.contract dedup_by_key_source }
 {}
 
-/// The answers of `TupleWindows` are the source's, where each item but the first is replaced by the pair of the one before it and itself, or by the failure converted from the `AllocError` of its clone. The one before it is the last item that the source yielded, also after such a failure.
-pub fn law_tuple_windows<I: FallibleIterator>()
-where
-    I::Item: Clone + Drop,
-    I::Error: From<AllocError>,
-    ensures { TracesAre tuple_windows_parts
-        ⟦<TupleWindows<I> as FallibleIterator>⟧.contract.steps
-        (TupleWindowsTrace I.Item.is_clone I.Item.is_infallible I.Error.from_gives
-        I.contract.steps) }
-{}
-
 /// Each hint of `TupleWindows` is as sound as the hint of its source that it is made of.
 pub fn law_hints_tuple_windows<I: FallibleIterator>()
 where
@@ -173,14 +114,6 @@ where
         (tuple_windows_source s) }
 {}
 
-/// The answers of `Tuples` are the source's, where each second item is replaced by the pair of the one before it and itself, and the others are left out.
-pub fn law_tuples<I: FallibleIterator>()
-where
-    I::Item: Drop,
-    ensures { TracesAre tuples_parts ⟦<Tuples<I> as FallibleIterator>⟧.contract.steps
-        (TuplesTrace I.contract.steps) }
-{}
-
 /// Each hint of `Tuples` is as sound as the hint of its source that it is made of.
 pub fn law_hints_tuples<I: FallibleIterator>()
 where
@@ -188,15 +121,6 @@ where
     ensures { (s : Tuples I I.Item I.Error)
         → HintsAsSoundAs ⟦<Tuples<I> as FallibleIterator>⟧.contract s I.contract
         (tuples_source s) }
-{}
-
-/// The answers of `WithPosition` are the stop that is due, and then the items, each with its position: each stands where the next one or a stop came, and each stop after what was buffered before it.
-pub fn law_with_position<I: FallibleIterator>()
-where
-    I::Item: Drop,
-    I::Error: Drop,
-    ensures { TracesAre with_position_parts
-        ⟦<WithPosition<I> as FallibleIterator>⟧.contract.steps (WithPositionTrace I.contract.steps) }
 {}
 
 /// Nothing is made of an empty list. An item alone is `Only`. Of several items the first is `First`, the last is `Last`, and the others are `Middle`. A failure parts a list: the items before it have their positions by themselves, and so do those after it.

@@ -1,20 +1,12 @@
 // The laws of `Interleave`.
 ghost use Rattle.std.specs.Prelude.{◌≡◌, ◌++◌, [], ◌∷◌, List, Result, drop, length, zip};
 ghost use Rattle.std.specs.List.{flat_map};
-ghost use Rattle.fallible_iterator.specs.LawForm.{TracesAre};
 ghost use Rattle.fallible_iterator.specs.SoundHints.{HintsAsSoundAsBoth};
 ghost use Rattle.fallible_iterator.specs.Interleaved.{Interleaved};
-ghost use Rattle.fallible_itertools_adapters.specs.Interleave.{InterleaveTrace, interleave_left_fused, interleave_parts, interleave_right_fused, interleaved};
+ghost use Rattle.fallible_itertools_adapters.specs.Interleave.{interleave_left_fused, interleave_right_fused, interleaved};
 
 use crate::interleave::Interleave;
 use fallible_iterator::{FallibleIterator, Fuse};
-
-/// A trace of `Interleave` has an answer for each turn, and the sides take turns. Each side is fused, as by `fuse`. The answer is the item or the failure of the side whose turn it is. At that side's `Ok(None)` it is the other side's answer.
-pub fn law_interleave<T: FallibleIterator, U: FallibleIterator<Item = T::Item, Error = T::Error>>()
-where
-    ensures { TracesAre interleave_parts ⟦<Interleave<T, U> as FallibleIterator>⟧.contract.steps
-        (InterleaveTrace T.contract.steps U.contract.steps) }
-{}
 
 /// `interleaved` takes both lists two by two, the first list's before the second's, and then the rest of the longer one. So it has the answers of both, each list's in their order.
 pub fn law_interleaved<T, E>()

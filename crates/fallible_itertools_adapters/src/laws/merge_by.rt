@@ -3,27 +3,14 @@ ghost use Rattle.std.specs.Cmp.{IsStrictWeakOrder};
 ghost use Rattle.std.specs.List.Sorted.{IsStableBy};
 ghost use Rattle.std.specs.Prelude.{◌≡◌, ◌++◌, Bool, false, List, Ok, Result, IsPermutation, IsSortedBy, not};
 ghost use Rattle.fallible_iterator.specs.BothEnds.{items_listed};
-ghost use Rattle.fallible_iterator.specs.LawForm.{TracesAre};
 ghost use Rattle.fallible_iterator.specs.SoundHints.{HintsAsSoundAsBoth};
 ghost use Rattle.fallible_iterator.specs.Lists.{items};
 ghost use Rattle.fallible_iterator.specs.Interleaved.{Interleaved};
 ghost use Rattle.fallible_itertools_adapters.specs.Adjacent.{AdjacentItems, LetsLessFirst};
-ghost use Rattle.fallible_itertools_adapters.specs.MergeBy.{MergeByTrace, merged, merge_by_left_fused, merge_by_parts, merge_by_right_fused};
+ghost use Rattle.fallible_itertools_adapters.specs.MergeBy.{merged, merge_by_left_fused, merge_by_right_fused};
 
 use crate::merge_by::MergeBy;
 use fallible_iterator::{FallibleIterator, Fuse};
-
-/// A trace of `MergeBy` has an answer for each position. Each side is fused, as by `fuse`. The left's failure takes no draw of the right, whose buffered item stays. After the right's failure the left's item stands at the next position too. Otherwise the answer is the first of two items by the closure, which buffers the other, or the closure's failure, an item alone, or `Ok(None)`.
-pub fn law_merge_by<
-    T: FallibleIterator,
-    U: FallibleIterator<Item = T::Item, Error = T::Error>,
-    F: FnMut(&T::Item, &T::Item) -> Result<bool, T::Error>,
->()
-where
-    T::Item: Drop,
-    ensures { TracesAre merge_by_parts ⟦<MergeBy<T, U, F> as FallibleIterator>⟧.contract.steps
-        (MergeByTrace T.contract.steps U.contract.steps F.FnMut) }
-{}
 
 /// Two sorted lists make a sorted list, if the closure never lets an item go first than which the other is less. So it is between failures, too. If the closure never fails, the merged list has the items of both, and the answers of each list in their order. If the left's item goes first unless the right's is less, of equal items those of the left come first, and those of one side in their order.
 pub fn law_merged<T, E>()

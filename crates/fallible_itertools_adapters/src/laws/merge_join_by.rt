@@ -3,28 +3,14 @@ ghost use Rattle.std.specs.List.{filter_map};
 ghost use Rattle.std.specs.Prelude.{◌≡◌, ◌++◌, All, Bool, true, IsPermutation, List, Ok, Result};
 ghost use Rattle.std.specs.declared.cmp.Ordering.{Ordering};
 ghost use Rattle.fallible_iterator.specs.BothEnds.{failures_listed, items_listed};
-ghost use Rattle.fallible_iterator.specs.LawForm.{TracesAre};
 ghost use Rattle.fallible_iterator.specs.SoundHints.{HintsAsSoundAsBoth};
 ghost use Rattle.fallible_itertools_adapters.specs.Adjacent.{AdjacentItems};
-ghost use Rattle.fallible_itertools_adapters.specs.MergeJoinBy.{JoinsByKeys, MergeJoinByTrace, PairsEqual, key_of_either, merge_join_by_left_fused, merge_join_by_parts, merge_join_by_right_fused, merge_joined};
+ghost use Rattle.fallible_itertools_adapters.specs.MergeJoinBy.{JoinsByKeys, PairsEqual, key_of_either, merge_join_by_left_fused, merge_join_by_right_fused, merge_joined};
 ghost use Rattle.fallible_itertools_adapters.specs.ZipLongest.{left_of, right_of};
 
 use crate::merge_join_by::MergeJoinBy;
 use fallible_iterator::{FallibleIterator, Fuse};
 use std::cmp::Ordering;
-
-/// A trace of `MergeJoinBy` has an answer for each position. Each side is fused, as by `fuse`. The left's failure takes no draw of the right, whose buffered item stays. After the right's failure the left's item stands at the next position too. Otherwise the answer is, by the closure, the first of two items, which buffers the other, or both, or the closure's failure; an item alone; or `Ok(None)`.
-pub fn law_merge_join_by<
-    T: FallibleIterator,
-    U: FallibleIterator<Error = T::Error>,
-    F: FnMut(&T::Item, &U::Item) -> Result<Ordering, T::Error>,
->()
-where
-    T::Item: Drop,
-    U::Item: Drop,
-    ensures { TracesAre merge_join_by_parts ⟦<MergeJoinBy<T, U, F> as FallibleIterator>⟧.contract.steps
-        (MergeJoinByTrace T.contract.steps U.contract.steps F.FnMut) }
-{}
 
 /// Two items stand together only where the closure returns `Equal`. If the closure never fails, the left's items of the joined list are those of the first list, and the right's those of the second, each in their order; and the failures are those of both. If the keys of adjacent items of both lists are in an order, and the closure compares items by their keys in that order, so are the keys of adjacent items of the joined list. So two sorted lists make a sorted list, and two strictly sorted ones a strictly sorted list.
 pub fn law_merge_joined<A, B, K, E>()

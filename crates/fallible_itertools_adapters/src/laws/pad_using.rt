@@ -1,19 +1,11 @@
 // The laws of `PadUsing`.
 ghost use Rattle.std.specs.Prelude.{◌≡◌, ℕ, ◌+◌, ◌-◌, ◌++◌, List, Ok, Result, length, max};
 ghost use Rattle.fallible_iterator.specs.BothEnds.{failures_listed, items_listed};
-ghost use Rattle.fallible_iterator.specs.LawForm.{TracesAre};
 ghost use Rattle.fallible_iterator.specs.SoundHints.{HintsAsSoundAs};
-ghost use Rattle.fallible_itertools_adapters.specs.PadUsing.{PadUsingTrace, from_index, pad_using_fused, pad_using_parts, padded};
+ghost use Rattle.fallible_itertools_adapters.specs.PadUsing.{from_index, pad_using_fused, padded};
 
 use crate::pad_using::PadUsing;
 use fallible_iterator::{FallibleIterator, Fuse};
-
-/// The answers of `PadUsing` are those of `ZipLongest` of the source and the indices below n: each item as it is, and in the place of an index alone what one call of the closure on it returns.
-pub fn law_pad_using<I: FallibleIterator, F: FnMut(usize) -> Result<I::Item, I::Error>>()
-where
-    ensures { TracesAre pad_using_parts ⟦<PadUsing<I, F> as FallibleIterator>⟧.contract.steps
-        (PadUsingTrace I.contract F.FnMut) }
-{}
 
 /// `padded` makes at least n items, if the closure never fails: first those of the list, in order.
 pub fn law_padded<T, E>()

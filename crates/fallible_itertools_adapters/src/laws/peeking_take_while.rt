@@ -1,22 +1,13 @@
 // The laws of the adapter that leaves the first rejected item in the iterator that it borrows.
 ghost use Rattle.std.specs.Prelude.{[], ◌∷◌, ◌++◌, Bool, IfSome, List, Result, map};
 ghost use Rattle.fallible_iterator.specs.Closures.{call_by_reference};
-ghost use Rattle.fallible_iterator.specs.LawForm.{TracesAre};
 ghost use Rattle.fallible_iterator.specs.Lists.{Acts, Lists, result_answer, taken_while};
 ghost use Rattle.fallible_iterator.specs.SoundHints.{HintsAsSoundAs};
 ghost use Rattle.fallible_iterator.specs.Traces.{Run, end};
-ghost use Rattle.fallible_itertools_adapters.specs.PeekingTakeWhile.{PeekingTrace, rest_by_while, peeking_closure, peeking_parts, peeking_source};
+ghost use Rattle.fallible_itertools_adapters.specs.PeekingTakeWhile.{rest_by_while, peeking_closure, peeking_source};
 
 use crate::peeking_take_while::{PeekingNext, PeekingTakeWhile};
 use fallible_iterator::FallibleIterator;
-
-/// A trace of `PeekingTakeWhile` is the source's, with the closure's failure in the place of each item on which it failed, and `Ok(None)` in the place of each item that it rejects. The closure is called on that item again at the next position. An item rejected at the last position stays next in the source.
-pub fn law_peeking_take_while<P: PeekingNext, F: FnMut(&P::Item) -> Result<bool, P::Error>>()
-where
-    ensures { TracesAre peeking_parts
-        ⟦<PeekingTakeWhile<P, F> as FallibleIterator>⟧.contract.steps
-        (PeekingTrace (Run P.contract.steps) P.looks (call_by_reference F.FnMut)) }
-{}
 
 /// Each hint of `PeekingTakeWhile` is as sound as the hint of its source that it is made of.
 pub fn law_hints_peeking_take_while<P: PeekingNext, F: FnMut(&P::Item) -> Result<bool, P::Error>>()

@@ -1,17 +1,10 @@
 // The laws of the adapter that ends after a number of failures.
 ghost use Rattle.std.specs.Prelude.{◌≡◌, ◌<◌};
-ghost use Rattle.fallible_iterator.specs.LawForm.{TracesAre};
 ghost use Rattle.fallible_iterator.specs.SoundHints.{HintsAsSoundAs, SoundHints};
-ghost use Rattle.fallible_itertools_adapters.specs.StopAfter.{StopAfterTrace, stop_after_parts, stop_after_source, stop_after_to_fail};
+ghost use Rattle.fallible_itertools_adapters.specs.StopAfter.{stop_after_source, stop_after_to_fail};
 
 use crate::stop_after::StopAfter;
 use fallible_iterator::FallibleIterator;
-
-/// A trace of `StopAfter` is the source's until it has n failures. Then each call returns `Ok(None)` without a draw.
-pub fn law_stop_after<I: FallibleIterator>()
-    ensures { TracesAre stop_after_parts ⟦<StopAfter<I> as FallibleIterator>⟧.contract.steps
-        (StopAfterTrace I.contract.steps) }
-{}
 
 /// Until the n-th failure each hint of `StopAfter` is as sound as the source's; from then on each is sound by itself.
 pub fn law_hints_stop_after<I: FallibleIterator>()

@@ -3,28 +3,16 @@ ghost use Rattle.std.specs.Prelude.{◌≡◌, ◌++◌, ◌∷◌, Err, List, O
 ghost use Rattle.std.specs.List.{IsDistinct, find};
 ghost use Rattle.std.specs.Set.{is_member};
 ghost use Rattle.fallible_iterator.specs.BothEnds.{failures_listed, items_listed};
-ghost use Rattle.fallible_iterator.specs.LawForm.{TracesAre};
 ghost use Rattle.fallible_iterator.specs.SoundHints.{HintsAsSoundAs};
-ghost use Rattle.fallible_itertools_adapters.specs.Unique.{UniqueTrace, unique_of, unique_parts, unique_source};
+ghost use Rattle.fallible_itertools_adapters.specs.Unique.{unique_of, unique_source};
 ghost use Rattle.fallible_iterator.specs.Lists.{mapped};
-ghost use Rattle.fallible_itertools_adapters.specs.UniqueBy.{UniqueByTrace, has_key, unique_by_key, unique_by_parts, unique_by_source};
-ghost use Rattle.fallible_iterator.specs.Closures.{call_by_reference};
+ghost use Rattle.fallible_itertools_adapters.specs.UniqueBy.{has_key, unique_by_key, unique_by_source};
 
 use crate::unique::Unique;
 use crate::unique_by::UniqueBy;
 use fallible_iterator::FallibleIterator;
 use std::alloc::AllocError;
 use std::hash::Hash;
-
-/// The answers of `Unique` are the source's, without the items that equal one that was yielded before. Where the clone of an item or the room for it can't be allocated, the failure converted from the `AllocError` is in its place.
-pub fn law_unique<I: FallibleIterator>()
-where
-    I::Item: Clone + Drop + Eq + Hash,
-    I::Error: From<AllocError>,
-    ensures { TracesAre unique_parts ⟦<Unique<I> as FallibleIterator>⟧.contract.steps
-        (UniqueTrace I.Item.eq I.Item.is_clone I.Item.is_infallible I.Error.from_gives
-        I.contract.steps) }
-{}
 
 /// An item is yielded if no item before it equals it, and each failure is, in their order: of a list with one more item or failure at its end it is that of the list, and that item or failure. So no item equals another. The first item of the list that equals any given one is still the first. The failures are the list's.
 pub fn law_unique_of<T: Eq, E>()
@@ -50,19 +38,6 @@ where
     ensures { (s : Unique I I.Item I.Error)
         → HintsAsSoundAs ⟦<Unique<I> as FallibleIterator>⟧.contract s I.contract
         (unique_source s) }
-{}
-
-/// The answers of `UniqueBy` are the source's, without the items whose keys equal that of one that was yielded before. Each item on which the closure fails is replaced by that failure. Where the room for a key can't be allocated, the failure converted from the `AllocError` is in the item's place.
-pub fn law_unique_by<
-    I: FallibleIterator,
-    K: Eq + Hash + Drop,
-    F: FnMut(&I::Item) -> Result<K, I::Error>,
->()
-where
-    I::Item: Drop,
-    I::Error: From<AllocError>,
-    ensures { TracesAre unique_by_parts ⟦<UniqueBy<I, K, F> as FallibleIterator>⟧.contract.steps
-        (UniqueByTrace K.eq I.Error.from_gives (call_by_reference F.FnMut) I.contract.steps) }
 {}
 
 /// The keys of the items that are yielded are those of the list's items, each that equals none before it, and the failures, in their order: what `unique_of` is of the list with the keys in the items' places. So no key equals another. The first item of the list that has any given key is still the first. An item on which the closure fails is replaced by that failure, and each failure stays. An item at the end of the list is yielded if its key equals none before it.

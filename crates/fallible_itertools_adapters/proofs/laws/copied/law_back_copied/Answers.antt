@@ -1,9 +1,0 @@
--- A run of the values is one of their parts, which is a trace, answer by answer.
-use Rattle.std.proofs.Common.{refl}
-use Rattle.fallible_iterator.specs.Laws.LawForm.{traces_are_of_parts, run_at_one_answer_iff_law}
-use Rattle.fallible_iterator.specs.Laws.Passing.{passing_by_answers}
-use Rattle.fallible_itertools_adapters.specs.Copied.{copied_parts}
-use Rattle.fallible_itertools_adapters.proofs.laws.copied.law_back_copied.Goals as goal
-
-pub returns : goal.returns
-returns g c = traces_are_of_parts copied_parts (λ p. record { it = p.0 }) (λ s. refl) (λ p. refl) _ _ (run_at_one_answer_iff_law _ (passing_by_answers _ _ _))
