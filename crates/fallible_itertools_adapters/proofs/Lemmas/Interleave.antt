@@ -5,27 +5,18 @@ use Rattle.std.proofs.Common.{refl, sym, ap, subst, ◌∙◌, arith, inl}
 use Rattle.fallible_iterator.specs.Contract.{Contract, seen_as}
 use Rattle.fallible_iterator.specs.Cutting.Fuse.{fuse_parts}
 use Rattle.fallible_iterator.specs.Hints.{hint_sum}
-use Rattle.fallible_iterator.specs.LawForm.{TracesAre}
 use Rattle.fallible_iterator.specs.Lists.{GivesForGood, Lists, result_answer, ListsForGood}
 use Rattle.fallible_iterator.specs.SoundHints.{AsSoundAsBoth}
 use Rattle.fallible_iterator.specs.Traces.{Answered, Run, Yields, item, end}
 use Rattle.fallible_iterator.specs.Fuse.{Fuse}
 use Rattle.fallible_iterator.proofs.Lemmas.Hints.Drawn.{if_some_at_least_of_smaller}
 use Rattle.fallible_iterator.proofs.Lemmas.Hints.Joining.{if_some_fitting_sum_at_least_both}
-use Rattle.fallible_iterator.specs.Laws.LawForm.{traces_are_of_parts}
 use Rattle.fallible_iterator.proofs.Lemmas.Lists.ForGood.{lists_once, lists_for_good_seen}
 use Rattle.fallible_iterator.specs.Interleaved.{Interleaved, of_neither, of_first, of_second}
-use Rattle.fallible_itertools_adapters.specs.Interleave.{InterleaveTrace, Turn, by_itself, by_other, interleave_contract, interleave_made, interleave_parts, interleave_step, interleaved, turn_answer, turn_draws}
-use Rattle.fallible_itertools_adapters.specs.Laws.Interleave.{turns_law}
+use Rattle.fallible_itertools_adapters.specs.Interleave.{Turn, by_itself, by_other, interleave_contract, interleave_parts, interleave_step, interleaved, turn_answer, turn_draws}
 use Rattle.fallible_itertools_adapters.specs.Sides.{fused_steps}
 use Rattle.fallible_itertools_adapters.specs.declared.interleave.Interleave.{Interleave}
 use Rattle.fallible_itertools_adapters.proofs.Lemmas.Sides.{NoItemAfterEnd, ItemsCome, ItemsThenEnd, first_answer, answers_first_where_gives_for_good, gives_for_good_of_fresh, gives_for_good_where_each_answers_first, items_come_before_draw, rest_of, side_hint_above, side_hint_below}
-
--- ---- whole traces
-
-module _ {S U A E : Type 0} (steps : S → Answered A E → S → Type 0) (others : U → Answered A E → U → Type 0) where
-  pub interleave_law : TracesAre interleave_parts (λ s r t. interleave_step (fused_steps steps) (fused_steps others) (interleave_parts s) r (interleave_parts t)) (InterleaveTrace steps others)
-  interleave_law = traces_are_of_parts interleave_parts interleave_made.make interleave_made.made interleave_made.has (interleave_step (fused_steps steps) (fused_steps others)) (InterleaveTrace steps others) (turns_law (fused_steps steps) (fused_steps others))
 
 -- ---- the list
 

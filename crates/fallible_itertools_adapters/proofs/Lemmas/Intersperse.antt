@@ -1,17 +1,14 @@
 -- What `Intersperse` lists, where a clone of the separator equals it and never fails; and until one fails.
-use Rattle.std.specs.Prelude.{◌≡◌, ℕ, suc, ◌⊎◌, Bool, false, Option, None, Result, Ok, Err, List, [], ◌∷◌, ◌↔◌}
+use Rattle.std.specs.Prelude.{◌≡◌, ℕ, suc, ◌⊎◌, false, None, Result, Ok, Err, List, [], ◌∷◌}
 use Rattle.std.proofs.Common.{refl, sym, ap, subst, inl, inr, ◌∙◌}
-use Rattle.fallible_iterator.specs.Traces.{Answered, Run}
 use Rattle.fallible_iterator.specs.Contract.{Contract, parts_as}
 use Rattle.fallible_iterator.specs.Lists.{Lists, result_answer}
 use Rattle.fallible_iterator.specs.Refusing.{AnswersRefusal, IsMadeOf, ListsUntilRefused}
 use Rattle.fallible_iterator.proofs.Lemmas.Lists.Passing.{lists_seen}
 use Rattle.fallible_iterator.proofs.Lemmas.Refusing.{lists_until_refused_seen}
 use Rattle.fallible_itertools_adapters.specs.Parting.{each_after_made, interspersed_by}
-use Rattle.fallible_itertools_adapters.specs.Intersperse.{CloneSeparates, IntersperseTrace, intersperse_step, intersperse_contract, intersperse_parts, each_after, interspersed}
-use Rattle.fallible_itertools_adapters.specs.Laws.Intersperse.{separator_stays}
+use Rattle.fallible_itertools_adapters.specs.Intersperse.{CloneSeparates, intersperse_contract, intersperse_parts, each_after, interspersed}
 use Rattle.fallible_itertools_adapters.proofs.Lemmas.Parting.{always_gives_interspersed_by, gives_interspersed_by_until_refused}
-use Rattle.fallible_itertools_adapters.specs.Laws.PartingTraces.{parting_law, stays_run}
 use Rattle.std.specs.declared.alloc.AllocError.{AllocError}
 use Rattle.fallible_itertools_adapters.specs.declared.intersperse.Intersperse.{Intersperse}
 
@@ -53,7 +50,3 @@ module _ {A E : Type 0} (is_clone : A → A → Type 0) (is_infallible : A → T
   pub lists_interspersed_until_refused : {S : Type 0} {it : S} (z : A) → ((x : A) → is_clone x x) → (m : Contract S A E) (s : Intersperse S A E) (l : List (Result A E)) → intersperse_parts s ≡ (it, (z, (false, None))) → Lists m.steps it l → ListsUntilRefused is_clone (parts_as intersperse_parts (intersperse_contract is_clone is_infallible from m)).steps from s (interspersed z l)
   lists_interspersed_until_refused {it = it} z itself m s l parts i = lists_until_refused_seen is_clone from intersperse_parts (intersperse_contract is_clone is_infallible from m).steps s parts (interspersed_by_constant_is_interspersed z l)
       (gives_interspersed_by_until_refused (CloneSeparates is_clone is_infallible from) (AtSeparator z) is_clone itself from (clone_or_refusal z) m.steps l it z (λ n. Ok z) (refl, refl) i.runs)
-
-  -- a run is a trace, and the separator stays
-  pub intersperse_law : {S : Type 0} (steps : S → Answered A E → S → Type 0) (p : S × (A × (Bool × Option A))) (trace : List (Answered A E)) (q : S × (A × (Bool × Option A))) → Run (intersperse_step is_clone is_infallible from steps) p trace q ↔ IntersperseTrace is_clone is_infallible from steps p trace q
-  intersperse_law steps p trace q = ((λ ran. (stays_run (CloneSeparates is_clone is_infallible from) steps (separator_stays is_clone is_infallible from) trace p q ran, (parting_law (CloneSeparates is_clone is_infallible from) steps p trace q).0 ran)), (λ w. (parting_law (CloneSeparates is_clone is_infallible from) steps p trace q).1 w.1))

@@ -6,19 +6,17 @@ use Rattle.fallible_iterator.specs.Contract.{Contract, seen_as}
 use Rattle.fallible_iterator.specs.Cutting.Fuse.{fuse_parts}
 use Rattle.fallible_iterator.specs.Held.{held_count}
 use Rattle.fallible_iterator.specs.Hints.{hint_smaller, smaller_bound}
-use Rattle.fallible_iterator.specs.LawForm.{TracesAre}
 use Rattle.fallible_iterator.specs.Lists.{Acts, Lists, result_answer, ListsForGood}
 use Rattle.fallible_iterator.specs.SoundHints.{AsSoundAsBoth}
 use Rattle.fallible_iterator.specs.Sources.FromFn.{call_of_none}
 use Rattle.fallible_iterator.specs.Traces.{Answered, item, failure, end}
 use Rattle.fallible_iterator.specs.Fuse.{Fuse}
 use Rattle.fallible_iterator.proofs.Lemmas.Lists.ForGood.{lists_once, lists_for_good_seen}
-use Rattle.fallible_itertools_adapters.specs.Laws.ZipEq.{zip_eq_made, is_lawful_rule_pair}
+use Rattle.fallible_itertools_adapters.specs.Laws.ZipEq.{is_lawful_rule_pair}
 use Rattle.fallible_itertools_adapters.specs.Sides.{fused_steps, side_hint}
-use Rattle.fallible_itertools_adapters.specs.ZipEq.{AsksWhereAlone, ZipEqTrace, failure_or_end, one_is_alone, pair_answer, pair_or, pair_rule, takes_none, zip_eq_contract, zip_eq_parts, zipped_equal}
+use Rattle.fallible_itertools_adapters.specs.ZipEq.{AsksWhereAlone, failure_or_end, one_is_alone, pair_answer, pair_or, pair_rule, takes_none, zip_eq_contract, zip_eq_parts, zipped_equal}
 use Rattle.fallible_itertools_adapters.specs.ZipLongest.{longest, zipped_longest}
-use Rattle.fallible_itertools_adapters.specs.Laws.SidesTraces.{SidesStep, right_stays_free, sides_law}
-use Rattle.fallible_itertools_adapters.specs.Laws.OverTraces.{traces_are_of_parts_where}
+use Rattle.fallible_itertools_adapters.specs.Laws.SidesTraces.{SidesStep}
 use Rattle.fallible_itertools_adapters.specs.declared.zip_eq.ZipEq.{ZipEq}
 use Rattle.fallible_itertools_adapters.specs.declared.zip_longest.EitherOrBoth.{EitherOrBoth}
 use Rattle.fallible_itertools_adapters.proofs.Lemmas.Sides.{first_answer, rest_of, NoItemAfterEnd, ListsBy, gives_for_good_of_fresh, gives_for_good_sides, GivesAsMany, TakesAsMany, both_come, both_end, side_hint_above, side_hint_below}
@@ -123,9 +121,3 @@ module _ {S U F A B E : Type 0} (left : Contract S A E) (right : Contract U B E)
 
   pub lists_zipped_equal : zip_eq_parts {B = B} c ≡ ((p, None), (q, None), f) → fuse_parts p ≡ (s, false) → fuse_parts q ≡ (u, false) → Acts (call_of_none g) f (λ _. e) → Lists left.steps s a → Lists right.steps u b → Lists (seen_as zip_eq_parts (zip_eq_contract left right g)).steps c (zipped_equal e a b)
   lists_zipped_equal parts fresh also acts i k = lists_once _ (lists_for_good_zipped_equal parts fresh also acts i k)
-
--- ---- whole traces
-
-module _ {S U F A B E : Type 0} (steps : S → Answered A E → S → Type 0) (others : U → Answered B E → U → Type 0) (g : Mut F (Unit {0}) E) where
-  pub zip_eq_law : TracesAre (zip_eq_parts {E = E}) (λ s r t. PairSteps (fused_steps steps) (fused_steps others) (call_of_none g) (takes_none g) (zip_eq_parts s) r (zip_eq_parts t)) (ZipEqTrace steps others g)
-  zip_eq_law = traces_are_of_parts_where zip_eq_made (PairSteps (fused_steps steps) (fused_steps others) (call_of_none g) (takes_none g)) (right_stays_free (fused_steps steps) (fused_steps others) (pair_rule (call_of_none g) (takes_none g)) (λ x y v. refl)) (ZipEqTrace steps others g) (sides_law (fused_steps steps) (fused_steps others) (pair_rule (call_of_none g) (takes_none g)))

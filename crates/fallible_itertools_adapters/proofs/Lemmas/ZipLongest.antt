@@ -2,7 +2,6 @@
 use Rattle.std.specs.Prelude.{ℕ, ◌≡◌, ◌+◌, ◌-◌, ◌≤◌, max, false, IfSome, List, [], ◌∷◌, Option, Some, None, Result, Ok, Err, ⊤}
 use Rattle.std.proofs.Common.{refl, ap, arith}
 use Rattle.fallible_iterator.specs.Traces.{Answered, item, failure, end}
-use Rattle.fallible_iterator.specs.LawForm.{TracesAre}
 use Rattle.fallible_iterator.specs.Contract.{Contract, seen_as}
 use Rattle.fallible_iterator.specs.Held.{held_count}
 use Rattle.fallible_iterator.specs.Cutting.Fuse.{fuse_parts}
@@ -11,10 +10,9 @@ use Rattle.fallible_iterator.specs.SoundHints.{AsSoundAsBoth}
 use Rattle.fallible_iterator.proofs.Lemmas.Lists.ForGood.{lists_once, lists_for_good_seen}
 use Rattle.fallible_iterator.specs.Fuse.{Fuse}
 use Rattle.fallible_itertools_adapters.specs.Sides.{fused_steps, side_hint}
-use Rattle.fallible_itertools_adapters.specs.ZipLongest.{greater_bound, hint_greater, longest, longest_rule, zip_longest_parts, zip_longest_contract, ZipLongestTrace, zipped_longest}
-use Rattle.fallible_itertools_adapters.specs.Laws.ZipLongest.{zip_longest_made, is_lawful_rule_longest}
-use Rattle.fallible_itertools_adapters.specs.Laws.SidesTraces.{SidesStep, right_stays_free, sides_law}
-use Rattle.fallible_itertools_adapters.specs.Laws.OverTraces.{traces_are_of_parts_where}
+use Rattle.fallible_itertools_adapters.specs.ZipLongest.{greater_bound, hint_greater, longest, longest_rule, zip_longest_parts, zip_longest_contract, zipped_longest}
+use Rattle.fallible_itertools_adapters.specs.Laws.ZipLongest.{is_lawful_rule_longest}
+use Rattle.fallible_itertools_adapters.specs.Laws.SidesTraces.{SidesStep}
 use Rattle.fallible_itertools_adapters.proofs.Lemmas.Sides.{first_answer, rest_of, left_over, NoItemAfterEnd, IfEnded, ListsBy, gives_for_good_of_fresh, gives_for_good_sides, GivesAsMany, TakesAsMany, both_come, both_end, side_hint_above, side_hint_below}
 use Rattle.fallible_itertools_adapters.specs.declared.zip_longest.EitherOrBoth.{EitherOrBoth}
 use Rattle.fallible_itertools_adapters.specs.declared.zip_longest.ZipLongest.{ZipLongest}
@@ -110,9 +108,3 @@ module _ {S U A B E : Type 0} (left : Contract S A E) (right : Contract U B E) (
 
   pub lists_zipped_longest : zip_longest_parts {B = B} c ≡ ((p, None), (q, None), tt) → fuse_parts p ≡ (s, false) → fuse_parts q ≡ (u, false) → Lists left.steps s a → Lists right.steps u b → Lists (seen_as zip_longest_parts (zip_longest_contract left right)).steps c (zipped_longest a b)
   lists_zipped_longest parts fresh also i k = lists_once _ (lists_for_good_zipped_longest parts fresh also i k)
-
--- ---- whole traces
-
-module _ {S U A B E : Type 0} (steps : S → Answered A E → S → Type 0) (others : U → Answered B E → U → Type 0) where
-  pub zip_longest_law : TracesAre (zip_longest_parts {E = E}) (λ s r t. ZippedSteps (fused_steps steps) (fused_steps others) (zip_longest_parts s) r (zip_longest_parts t)) (ZipLongestTrace steps others)
-  zip_longest_law = traces_are_of_parts_where zip_longest_made (ZippedSteps (fused_steps steps) (fused_steps others)) (right_stays_free (fused_steps steps) (fused_steps others) longest_rule (λ x y v. refl)) (ZipLongestTrace steps others) (sides_law (fused_steps steps) (fused_steps others) longest_rule)

@@ -4,7 +4,7 @@ use Rattle.std.specs.Iterator.{IsFinite, size}
 use Rattle.std.proofs.Common.{refl, sym, subst, ap₂, arith, inl, inr}
 use Rattle.fallible_iterator.specs.Traces.{Answered, item, failure, end}
 use Rattle.fallible_iterator.specs.Contract.{Contract, OnAnswer, KeptByDraw, Lawful, lenders_of_both}
-use Rattle.fallible_iterator.specs.Cutting.Fuse.{fuse_made, fuse_parts}
+use Rattle.fallible_iterator.specs.Cutting.Fuse.{fuse_made}
 use Rattle.fallible_iterator.specs.Held.{held_count}
 use Rattle.fallible_iterator.specs.Laws.Contract.{lawful_parts}
 use Rattle.fallible_iterator.specs.Laws.Cutting.Fuse.{lawful_fuse}
