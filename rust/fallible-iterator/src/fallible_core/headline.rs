@@ -3,7 +3,7 @@
 use crate::fallible_core::traits::FallibleIterator;
 use crate::fallible_core::traits::double_ended::DoubleEndedFallibleIterator;
 
-/// For every source and every nest of adapters: calls of `next` can return a list of answers exactly if the adapters' definitions make that list of what the sources and the closures return, with exactly these draws. A type's definition is the `traces` of its contract, which speaks of those of the types that it is made of. The `traces` of a type without a definition here are its runs; then its own law has its definition.
+/// For every source and every nest of adapters: calls of `next` can return a list of answers exactly if the adapters' definitions make that list of what the sources and the closures return, with exactly these draws. A type's definition is the `traces` of its contract, which speaks of those of the types that it is made of. The `traces` of a type that states no definition, as your own need not, are its runs.
 ///
 /// <details><summary>Contract</summary>
 ///

@@ -179,3 +179,18 @@ pub fn next_above_100<I: FallibleIterator<Item = u32>>(
     };
     Ok(Some(*item > 100))
 }
+
+/// What the third draw of `take(1)` returns, if the first reading is no failure: `None`, also if more readings come. The law says that it is fused.
+pub fn drawn_past_one(readings: Vec<Result<u32, u8>>) -> Result<Option<u32>, u8> {
+    let mut one = convert(readings.into_iter()).take(1);
+    let _ = one.draw();
+    let _ = one.draw();
+    one.draw()
+}
+
+/// What the second draw of the readings before the first that is at least 100 returns, if that is the first of all: `None`, also if lower ones come. The law says that they are fused.
+pub fn drawn_past_high(readings: Vec<Result<u32, u8>>) -> Result<Option<u32>, u8> {
+    let mut low = convert(readings.into_iter()).take_while(|reading| Ok(*reading < 100));
+    let _ = low.draw();
+    low.draw()
+}
