@@ -45,12 +45,12 @@ module _ {S F X E : Type 0} (steps : S → Answered X E → S → Type 0) (call 
   made_is_answer_and_due_at_place x (Ok false) r due e z is = let made = parts_equal_where_made_equal e in rw is (made.0, rw made.1 refl)
   made_is_answer_and_due_at_place x (Err d) r due e z is = let made = parts_equal_where_made_equal e in rw is (made.0, rw made.1 refl)
 
-  inclusive_step_where_drawn_and_met : (s t : S) (f h : F) (a r : Answered X E) (due : Option (Unit {0})) → steps s a t → Meets f a (Some (r, due)) h → inclusive_step ((s, f), false) r ((t, h), is_some due)
+  inclusive_step_where_drawn_and_met : (s t : S) (f h : F) (a r : Answered X E) (due : Option (Unit {0})) → steps s a t → Meets f a (Some (r, due)) h → inclusive_step steps call ((s, f), false) r ((t, h), is_some due)
   inclusive_step_where_drawn_and_met s t f h (Ok (Some x)) r due step w = let at = made_is_answer_and_due_at_place x w.0 r due w.2 (asked x w.0) refl in (asked x w.0, (step, (h, w.1, refl)), at.0, at.1)
   inclusive_step_where_drawn_and_met s t f h (Ok None) r due step w = let made = parts_equal_where_made_equal w.0 in (end_at, (step, sym w.1), made.0, rw made.1 refl)
   inclusive_step_where_drawn_and_met s t f h (Err d) r due step w = let made = parts_equal_where_made_equal w.0 in (failure_at d, (step, sym w.1), made.0, rw made.1 refl)
 
-  pub inclusive_step_of_stage_step : (p : S × (F × Option (Unit {0}))) (r : Answered X E) (q : S × (F × Option (Unit {0}))) → stage_step ends_come Meets steps p r q → inclusive_step ((p.0, p.1.0), is_some p.1.1) r ((q.0, q.1.0), is_some q.1.1)
+  pub inclusive_step_of_stage_step : (p : S × (F × Option (Unit {0}))) (r : Answered X E) (q : S × (F × Option (Unit {0}))) → stage_step ends_come Meets steps p r q → inclusive_step steps call ((p.0, p.1.0), is_some p.1.1) r ((q.0, q.1.0), is_some q.1.1)
   inclusive_step_of_stage_step (s, (f, Some u)) r (t, k) w = (w.0, rw (w.1, w.2) refl, rw w.2 refl)
   inclusive_step_of_stage_step (s, (f, None)) r (t, _) (yields {q = h} {due = due} a step called) = inclusive_step_where_drawn_and_met s t f h a r due step called
   inclusive_step_of_stage_step (s, (f, None)) r (t, k) (passes_over {h = h} a step called rest) = absurd (inclusive_passes_none f a h called)
