@@ -1,7 +1,8 @@
 #!/usr/bin/env python3
-"""What to_rust refuses: each time it says where and why, and writes nothing."""
+"""What to_rust refuses: each time it says where and why, and writes nothing. And what a page has of the code."""
 import contextlib
 import io
+import re
 import shutil
 import sys
 import tempfile
@@ -170,6 +171,20 @@ class Refusals(unittest.TestCase):
         (self.out / "fallible-iterator/letter").write_text("mine")
         self.refused("holds fallible-iterator/letter")
         self.assertEqual((self.out / "fallible-iterator/letter").read_text(), "mine")
+
+    def test_the_page_names_what_is_there(self):
+        self.assertEqual(self.run_it()[0], 0)
+        page = (self.out / "fallible-itertools/README.md").read_text()
+        words = {word for path in self.out.glob("*/src/**/*.rs") for word in re.findall(r"\w+", path.read_text())}
+        traits = (self.out / "fallible-itertools/src/traits.rs").read_text().split("\n")
+        for feature in ("alloc", "std"):
+            listed = re.search(r"^\| `%s`.*? \| (.*) \|$" % feature, page, re.M).group(1)
+            calls = [re.match(r" *fn (\w+)", below).group(1) for line, below in zip(traits, traits[1:])
+                     if line.strip() == '#[cfg(feature = "%s")]' % feature and below.startswith("    fn ")]
+            self.assertEqual(sorted(re.findall(r"`(\w+)`", listed)), sorted(calls + ["alloc"] * (feature == "std")))
+        here = [row.split(" | ")[1] for row in page.split("| Looked for |")[1].split("\n\n")[0].split("\n")[2:]]
+        named = re.findall(r"\b[a-z]\w*[^\W_]\b", " ".join(re.findall(r"`([^`]*)`", " ".join(here))))
+        self.assertEqual([name for name in named if name not in words], [])
 
     def test_a_link_leads_out(self):
         self.out.mkdir()
