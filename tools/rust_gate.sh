@@ -1,5 +1,5 @@
 #!/usr/bin/env bash
-# Makes both Rust crates, compares them with those in rust/, builds them in each set of features with no warning, lints and
+# Makes both Rust crates with the repository's own tests, compares them with those in rust/, which have none of these, builds them in each set of features with no warning, lints and
 # documents them with none, runs their tests and doc tests, and has the second stand beside the original.
 set -eu
 cd "$(dirname "$0")/.."
@@ -19,13 +19,15 @@ quietly() {
 }
 
 quietly python3 tools/rust/test_to_rust.py
-tools/to_rust "$folder/out" > "$folder/said"
+tools/to_rust --tests "$folder/out" > "$folder/said"
 head -n -5 "$folder/said" > "$folder/table"
 if ! sed -n '/<!-- to_rust --table -->/,/<!-- end -->/p' docs/RUST.md | sed '1d;$d' | cmp -s - "$folder/table"; then
     echo "rust: the table of docs/RUST.md is not what tools/to_rust --table prints" >&2
     exit 1
 fi
-if ! diff -rq -x target -x Cargo.lock rust "$folder/out" >&2; then
+grep -v '/tests/proved/' "$folder/out/.written_by_to_rust" > "$folder/listed"
+if ! diff -rq -x target -x Cargo.lock -x .written_by_to_rust -x proved rust "$folder/out" >&2 \
+    || ! cmp "$folder/listed" rust/.written_by_to_rust >&2; then
     echo "rust: rust/ is not what tools/to_rust writes; this mends it: tools/to_rust rust" >&2
     exit 1
 fi

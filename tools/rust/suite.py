@@ -20,6 +20,10 @@ SUITES = {
         "test_calls_itertools",
     ],
 }
+# What the proved tests of each Rust crate need.
+FEATURES = {"fallible-iterator": "alloc", "fallible-itertools": "std"}
+# The crates of which each example of `fallible-iterator` has modules.
+EXAMPLES = {"pg_rows": ("fallible_pg", "program_io")}
 # Where they are. The files of those in `tests` end in .rt.txt.
 FOLDERS = ("crates", "tests")
 # Modules that are left out: a program's words and files come by Rattle's own runtime, tallies and values of test_rows stand on fallible_itertools, and fallible_json fails where memory is refused.
@@ -57,7 +61,7 @@ def modules(top, crate, count):
     files["laws.rs"] = list(tests.items(read(traces, str(traces.relative_to(top)))))
     leave_out(files, count)
     out = {"tests/proved/" + path: module(path, blocks, count) for path, blocks in files.items()}
-    out["tests/proved/main.rs"] = MAIN + "".join("mod %s;\n" % m for m in ["laws", *crates])
+    out["tests/proved/main.rs"] = MAIN % FEATURES[crate] + "".join("mod %s;\n" % m for m in ["laws", *crates])
     return out
 
 
@@ -107,10 +111,17 @@ def fewer(use, gone):
 
 
 MAIN = """//! The tests of the proved libraries, erased in the same way.
+#![cfg(feature = "%%s")]
 #![allow(dead_code, unused, clippy::all)]
 
 %s
 """ % tests.FAIL
+
+
+def examples(modules):
+    """The modules that examples have, by path."""
+    return {"examples/%s/%s" % (name, path): s for name, crates in EXAMPLES.items() for at, s in modules.items()
+            for path in [at.removeprefix("tests/proved/")] if re.split(r"[/.]", path)[0] in crates}
 
 
 def module(path, blocks, count):

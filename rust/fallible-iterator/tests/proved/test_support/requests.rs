@@ -1,3 +1,0 @@
-use crate::Fail;
-use fallible_iterator::memory::AllocError;
-use std::cell::Cell;

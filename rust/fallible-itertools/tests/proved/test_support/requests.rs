@@ -1,3 +1,0 @@
-use crate::Fail;
-use crate::base::AllocError;
-use std::cell::Cell;
