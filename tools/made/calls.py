@@ -138,13 +138,19 @@ def table(name, crates, of_types):
     return [HEADS[wanted], *rows]
 
 
+def types_made(name, crates, of_types):
+    """The calls of a table of adapters, each with the type that it makes."""
+    found = [function for file in TABLES[name][1] if (crates / file).is_file() for function in code.functions(crates / file)]
+    return [(function.name, made_type(function)) for function in found if kind(function, of_types) == "adapter"]
+
+
 def tables(crates):
     """Each table of calls, and the functions that the hints name, by its name."""
     files = code_of_library(crates)
     of_types = hints.hints(files)
     made = {name: table(name, crates, of_types) for name in TABLES}
-    shown = [line for name, (wanted, _) in TABLES.items() if wanted == "adapter" for line in made[name][1:]]
+    shown = [made_by for name, (wanted, _) in TABLES.items() if wanted == "adapter" for made_by in types_made(name, crates, of_types)]
     sentences = {word: said for _, _, path in index.files(crates) for group, said in index.words(path) for word in group}
-    legend = hints.legend([line.rsplit(" | ", 1)[1] for line in shown], files, sentences)
+    legend = hints.legend(shown, of_types, files, sentences)
     made["hints"] = ["| In a hint | What it is |\n|---|---|", *legend]
     return made

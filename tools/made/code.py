@@ -9,6 +9,7 @@ CLAUSE = re.compile(r"\b(ensures|requires)(?: (\w+))?\s*\{")
 OWNER = re.compile(r"^(?:pub )?(impl|trait)\b", re.MULTILINE)
 TYPE = re.compile(r"FallibleIterator for (&mut I|\w+)")
 RENAMED = re.compile(r"^ghost use [\w.]+ as (\w+);", re.MULTILINE)
+STRUCT = re.compile(r"^(?:pub(?:\(crate\))? )?struct (\w+)")
 FIELD = re.compile(r"^\s*(?:pub(?:\(crate\))? )?(\w+): ")
 BRACKETS = {opening: re.compile(rf"[\{opening}\{closing}]") for opening, closing in ("()", "[]", "{}")}
 
@@ -151,12 +152,13 @@ def functions_of(whole):
 
 
 def field_comments(path):
-    """The comment above each field of a file's structs, by the field's name."""
-    comments, above = {}, ""
+    """The comment above each field of a file's structs that has one, by the struct's name and the field's."""
+    comments, above, struct = {}, "", ""
     for line in lines_of(path):
-        named = FIELD.match(line)
+        begun, named = STRUCT.match(line), FIELD.match(line)
+        struct = begun.group(1) if begun else struct
         if named and above:
-            comments.setdefault(named.group(1), above)
+            comments.setdefault(struct, {}).setdefault(named.group(1), above)
         above = line.strip()[2:].strip() if line.strip().startswith("// ") else ""
     return comments
 

@@ -6,6 +6,35 @@ from made import code
 
 # the fields that hold a second source
 SECOND = ("second", "right")
+# Private code in the hint of a type, and what a caller calls it. A word that is no field has its sentence in WORDS.
+DUE, SIDES = ("`stage.1` is `Some(None)`", "an end is due"), [("left.hint()", "and_held((L, U))")]
+SAID = {
+    "Chain": [("`still_drawn` is `Both`", "both are drawn"), ("`still_drawn` is `FirstAlone`", "the first alone is drawn"),
+              ("`still_drawn` is `SecondAlone`", "the second alone is drawn")],
+    "Peekable": [("`held` is `Some(Some(_))`", "an item is held"), ("`held` is `Some(None)`", "an end is held")],
+    "Once": [("`value` is `Some(_)`", "the item is still to come")],
+    "StopAfter": [("`to_fail == 0`", "n failures came")],
+    "TakeWhileInclusive": [("`is_held`", "an item was rejected")],
+    "Tuples": [("1, first", "1, 1 - held")],
+    "PadUsing": [("end.saturating_sub(next)", "missing")],
+    "Chunks": [("stage.0.0, stage.0.1", "n, batch"), DUE],
+    **{name: [DUE] for name in ("ChunkBy", "Coalesce", "Dedup", "DedupBy", "DedupByKey", "DedupByWithCount", "DedupWithCount",
+                                "WithPosition")},
+    **{name: SIDES for name in ("ZipEq", "ZipLongest")},
+    **{name: [*SIDES, ("right.hint()", "and_held((M, V))")] for name in ("Merge", "MergeBy", "MergeJoinBy")},
+    **{name: [("hint_parting((L, U), stage)", "separated((L, U))")] for name in ("Intersperse", "IntersperseWith")},
+}
+WORDS = {
+    "and_held": ("and_held(hint)", "one more on each bound if an item of that side is buffered"),
+    "separated": ("separated(hint)", "Each bound b as b items with a separator before each but the first of all, and the buffered item. "
+                  "The lower one is at most `usize::MAX`; an upper one that doesn't fit is `None`."),
+    "is_held": ("is_held", "whether an item, a batch or a group is buffered"),
+    "held": ("held", "1 if an item is buffered, else 0"),
+    "batch": ("batch", "the buffered batch, if there is one"),
+    "missing": ("missing", "how many items are still to come up to n"),
+}
+# What needs no sentence: the bounds, the call's argument, and what is std's.
+PLAIN = {"L", "U", "M", "V", "b", "n", "usize", "MAX", "Some", "None", "Ok", "min", "map", "saturating_sub"}
 LET = re.compile(r"let (\w+|\([\w, ]+\)) = ")
 
 
@@ -104,15 +133,26 @@ def arms(matched, text, comments):
     return last + found
 
 
+def said_of(name, cell):
+    """The cell of a type with what a caller calls its private parts."""
+    for shown, said in SAID.get(name, []):
+        if shown not in cell:
+            raise ValueError(f"{name}: its hint hasn't the {shown} that tools/made/hints.py has a word for")
+        cell = cell.replace(shown, said)
+    return cell
+
+
 def hints(files):
     """The hint of each type with a `size_hint`, as a cell."""
     of_types = {}
     for path in files:
+        comments = code.field_comments(path)
         for function in code.functions(path):
             owner = re.search(r"Iterator for (&mut I|\w+)", function.owner)
             if owner and function.name == "size_hint":
-                found = cases(function.body, code.field_comments(path))
-                of_types[owner.group(1)] = "; ".join(f"`{shown}` {said}".strip() for said, shown in found)
+                name = owner.group(1)
+                found = cases(function.body, comments.get(name, {}))
+                of_types[name] = said_of(name, "; ".join(f"`{shown}` {said}".strip() for said, shown in found))
     return of_types
 
 
@@ -123,17 +163,40 @@ def sentence(function, sentences):
     return next((sentences[word] for word in words if word in sentences), function.comment)
 
 
-def legend(shown, files, sentences):
-    """The functions and the fields that the hints name, each with its sentence."""
-    text, rows = " ".join(shown), {}
-    called, named = set(re.findall(r"\b(\w+)\(", text)), set(re.findall(r"\b(\w+)\b(?!\()", text))
+def names_of(cell):
+    """The names in the code of a hint."""
+    return set(re.findall(r"[^\W\d]\w*", " ".join(re.findall(r"`([^`]*)`", cell))))
+
+
+def fields_named(shown, of_types, comments):
+    """The fields that the hints of types show, each with its comment, and with the call's name where those of two types differ."""
+    told = {}
+    for call, name in shown:
+        for field in sorted(names_of(of_types[name]) & set(comments.get(name, {})) - set(WORDS)):
+            told.setdefault(field, {}).setdefault(comments[name][field], []).append(call)
+    for field, said in told.items():
+        for comment, callers in said.items():
+            of = " of " + ", ".join(f"`{call}`" for call in callers)
+            yield f"`{field}`{of if len(said) > 1 else ''}", comment
+
+
+def legend(shown, of_types, files, sentences):
+    """The functions, the words and the fields that the hints name, each with its sentence. `shown` are the calls, each with its type."""
+    rows, comments = {}, {}
+    for path in files:
+        comments.update(code.field_comments(path))
+    named = set().union(*(names_of(of_types[name]) for _, name in shown))
+    called = named - set(WORDS)
     for path in files:
         for function in code.functions(path):
             if function.is_helper and function.name in called and "usize" in function.returned and function.comment:
                 given = ", ".join(code.arguments(function.parameters))
                 rows.setdefault(f"{function.name}({given})", sentence(function, sentences))
-    for path in files:
-        for field, comment in code.field_comments(path).items():
-            if field in named and any(function.name == "size_hint" for function in code.functions(path)):
-                rows.setdefault(field, comment)
-    return [f"| `{name}` | {comment} |" for name, comment in rows.items()]
+    told = {row.split("(")[0] for row in rows}
+    for call, name in shown:
+        for word in sorted(names_of(of_types[name]) - PLAIN - told - set(WORDS) - set(comments.get(name, {}))):
+            raise ValueError(f"{call}: no sentence says what {word} in its hint is")
+    rows = {f"`{name}`": comment for name, comment in rows.items()}
+    rows.update((f"`{written}`", said) for word, (written, said) in WORDS.items() if word in named)
+    rows.update(fields_named(shown, of_types, comments))
+    return [f"| {name} | {comment} |" for name, comment in rows.items()]
