@@ -18,11 +18,15 @@ TWO_ENDS = re.compile(r"\bDoubleEndedFallibleIterator\s+for (&mut I|\w+)")
 # The words of a file that say a part of a definition and are no trace.
 PARTS = {
     "ByNumber": ["KeptByNumber"],
-    "Chain": ["chain_bound"],
     "Cycle": ["Laps"],
-    "Flatten": ["Finished", "FinishedPart", "FlattenNumber"],
+    "Flatten": ["Finished", "FinishedPart"],
     "Peekable": ["held_of", "peekable_step_back", "Peeks", "NextIf"],
+    "Staging": ["DrawsUpTo", "stage_step"],
 }
+# Those that say a part of a contract.
+OF_CONTRACTS = {"Chain": ["chain_bound"], "Flatten": ["FlattenNumber"]}
+# How a sentence begins that can't be read by itself.
+FRAGMENT = re.compile(r"(?:with|which|by|and) ")
 
 
 def table_of(crate, place, types):
@@ -58,8 +62,12 @@ def line(name, groups, shared):
     traces = sorted((each for each in named if each[0].endswith("Trace")), key=lambda each: not each[1].startswith(f"`{name}`"))
     traces += [each for each in named if each[0] in PARTS.get(name, [])]
     contracts = sorted((each for each in named if each[0].endswith("_contract")), key=lambda each: f"`{name}`" not in each[1])
+    contracts += [each for each in named if each[0] in OF_CONTRACTS.get(name, [])]
     if not traces and (shared or not contracts):
         return None
+    for said in (cell(name, words) for words in (traces, contracts) if not shared and words):
+        if FRAGMENT.match(said):
+            raise ValueError(f"{name}: the sentence {said!r} of its definition can't be read by itself")
     if shared:
         return f"| `{name}` | {cell('', [('', ''), *traces])} | {cell('', [('', ''), *contracts])} |"
     return f"| `{name}` | {cell(name, traces)} | {cell(name, contracts)} |"
@@ -86,6 +94,9 @@ def tables(crates):
     for crate, place, path in index.files(crates):
         table = table_of(crate, place, types)
         found = line(place.rsplit("/", 1)[-1], list(index.words(path)), table == NAMES[-1])
+        trace = found.split(" | ")[1] if found else "–"
+        if trace != "–" and any(row.split(" | ")[1] == trace for row in made[table]):
+            raise ValueError(f"{place.rsplit('/', 1)[-1]}: its trace has the sentence of another's: {trace}")
         # of nests of adapters the traces are joined, and define none
         if found and place != "Nests":
             made[table].append(found)

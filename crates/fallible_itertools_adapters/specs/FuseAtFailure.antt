@@ -21,7 +21,7 @@ pub record FuseAtFailureTrace {S A E : Type 0} (steps : S → Answered A E → S
 abbrev pub fuses_at_failure_all : {S A E : Type 0} → (S → List (Answered A E) → S → Type 0) → S × Bool → List (Answered A E) → S × Bool → Type 0
 fuses_at_failure_all {A = A} {E = E} traces p trace q = (l : List (Answered A E)) × traces p.0 l q.0 × ClosingTrace (λ r. r) is_failure p.1 l trace q.1
 
--- `FuseAtFailure`'s contract, with the flag whether the source failed.
+-- `FuseAtFailure`'s contract: that of its source but for the step and the hint, which the source's failure closes.
 abbrev pub fuse_at_failure_contract : {S A E : Type 0} → Contract S A E → Contract (S × Bool) A E
 fuse_at_failure_contract m = record (closing_contract m m.steps (λ r. r) is_failure) { traces = fuses_at_failure_all m.traces }
 

@@ -94,7 +94,7 @@ module _ {F X E : Type 0} (g : Mut F (ℕ × Unit {0}) (Result X E)) where
 abbrev pub PadUsingTrace : {S F A E : Type 0} → Contract S A E → Mut F (ℕ × Unit {0}) (Result A E) → (Fuse S × (ℕ × ℕ)) × F → List (Answered A E) → (Fuse S × (ℕ × ℕ)) × F → Type 0
 PadUsingTrace m g p trace q = PassTrace (beside_index_contract m).steps (pad_call g) map_outcome p trace q
 
--- `PadUsing`'s contract, with the hint of `ZipLongest`.
+-- `PadUsing`'s contract: the closure may be called on an index alone, and the hint is that of `ZipLongest` of the source and the indices.
 abbrev pub pad_using_contract : {S F A E : Type 0} → Contract S A E → Mut F (ℕ × Unit {0}) (Result A E) → Contract ((Fuse S × (ℕ × ℕ)) × F) A E
 pad_using_contract m g = passing_contract (beside_index_contract m) (pad_call g) (λ P f. IsCallable (pad_call g) (pad_takes g) P f) map_outcome (λ p h. (beside_index_contract m).hints p.0 h)
 

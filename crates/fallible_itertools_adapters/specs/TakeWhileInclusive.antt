@@ -41,7 +41,7 @@ takes_inclusive_all {X = X} {E = E} traces call p trace q = (l : List (Answered 
 abbrev pub hint_of_first : ℕ × Option ℕ → ℕ × Option ℕ
 hint_of_first k = (min k.0 1, k.1)
 
--- `TakeWhileInclusive`'s contract, with the flag whether an item was rejected: the predicate may be called on each item that may come. Until an item was rejected the hint has the source's upper bound, and 1 below if the source has an item for certain: the first one comes, whatever the predicate says of it, or its failure.
+-- `TakeWhileInclusive`'s contract: the predicate may be called on each item that may come. Until an item was rejected the hint has the source's upper bound, and 1 below if the source has an item for certain: the first one comes, whatever the predicate says of it, or its failure.
 abbrev pub inclusive_contract : {S F X E : Type 0} → Contract S X E → Mut F (Bor X × Unit {0}) (Result Bool E) → Contract ((S × F) × Bool) X E
 inclusive_contract m g = record (closing_contract (passing_contract m (call_by_reference g) (λ P f. IsCallable (call_by_reference g) (takes_by_reference g) P f) inclusive_outcome (λ p h. (k : ℕ × Option ℕ) × m.hints p.0 k × (h ≡ hint_of_first k))) (place_drawn m.steps (call_by_reference g)) inclusive_answer is_refused) { traces = takes_inclusive_all m.traces (call_by_reference g) }
 

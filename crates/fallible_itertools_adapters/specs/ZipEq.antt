@@ -94,7 +94,7 @@ pair_rule call takes = record {
 abbrev pub takes_none : {F E : Type 0} → Mut F (Unit {0}) E → F → Type 0
 takes_none g f = g.pre f tt
 
--- `ZipEq`: both sides are fused, and there is a place for each answer, by its rule; the left's item beside a failure of the right stands at the next place too.
+-- `ZipEq`: both sides are fused, and there is a place for each answer: the pair of two items, or what the closure returns, as the failure of an item that is alone. One side's failure is yielded alone, and the left's item beside one of the right stands at the next place too.
 abbrev pub ZipEqTrace : {S U F A B E : Type 0} → (S → Answered A E → S → Type 0) → (U → Answered B E → U → Type 0) → Mut F (Unit {0}) E → (Fuse S × Option A) × (Fuse U × Option B) × F → List (Answered (A × B) E) → (Fuse S × Option A) × (Fuse U × Option B) × F → Type 0
 ZipEqTrace steps others g p trace q = SidesTrace (fused_steps steps) (fused_steps others) (pair_rule (call_of_none g) (takes_none g)) p trace q
 
@@ -102,7 +102,7 @@ ZipEqTrace steps others g p trace q = SidesTrace (fused_steps steps) (fused_step
 abbrev pub zip_eq_hints : {S U F A B E : Type 0} → Contract S A E → Contract U B E → (S × Option A) × (U × Option B) × F → ℕ × Option ℕ → Type 0
 zip_eq_hints left right p h = (g : ℕ × Option ℕ) × (k : ℕ × Option ℕ) × left.hints p.0.0 g × right.hints p.1.0 k × (h ≡ hint_smaller (side_hint p.0.1 g) (side_hint p.1.1 k))
 
--- `ZipEq`'s contract, by its rule.
+-- `ZipEq`'s contract: its hint has the smaller bounds of both sides.
 abbrev pub zip_eq_contract : {S U F A B E : Type 0} → Contract S A E → Contract U B E → Mut F (Unit {0}) E → Contract ((Fuse S × Option A) × (Fuse U × Option B) × F) (A × B) E
 zip_eq_contract left right g = sides_contract (fused_contract left) (fused_contract right) (pair_rule (call_of_none g) (takes_none g)) (zip_eq_hints (fused_contract left) (fused_contract right))
 

@@ -96,7 +96,7 @@ longest_rule = record {
   refuses = λ P Q f e. ⊥;
 }
 
--- `ZipLongest`: both sides are fused, and there is a place for each answer, by its rule; the left's item beside a failure of the right stands at the next place too.
+-- `ZipLongest`: both sides are fused, and there is a place for each answer: the items of both sides, or of the one that has one. One side's failure is yielded alone, and the left's item beside one of the right stands at the next place too.
 abbrev pub ZipLongestTrace : {S U A B E : Type 0} → (S → Answered A E → S → Type 0) → (U → Answered B E → U → Type 0) → (Fuse S × Option A) × (Fuse U × Option B) × Unit {0} → List (Answered (EitherOrBoth A B) E) → (Fuse S × Option A) × (Fuse U × Option B) × Unit {0} → Type 0
 ZipLongestTrace steps others p trace q = SidesTrace (fused_steps steps) (fused_steps others) longest_rule p trace q
 
@@ -114,7 +114,7 @@ hint_greater g k = (max g.0 k.0, greater_bound g.1 k.1)
 abbrev pub zip_longest_hints : {S U A B E : Type 0} → Contract S A E → Contract U B E → (S × Option A) × (U × Option B) × Unit {0} → ℕ × Option ℕ → Type 0
 zip_longest_hints left right p h = (g : ℕ × Option ℕ) × (k : ℕ × Option ℕ) × left.hints p.0.0 g × right.hints p.1.0 k × (h ≡ hint_greater (side_hint p.0.1 g) (side_hint p.1.1 k))
 
--- `ZipLongest`'s contract, by its rule.
+-- `ZipLongest`'s contract: its hint has the greater bounds of both sides.
 abbrev pub zip_longest_contract : {S U A B E : Type 0} → Contract S A E → Contract U B E → Contract ((Fuse S × Option A) × (Fuse U × Option B) × Unit {0}) (EitherOrBoth A B) E
 zip_longest_contract left right = sides_contract (fused_contract left) (fused_contract right) longest_rule (zip_longest_hints (fused_contract left) (fused_contract right))
 

@@ -14,7 +14,7 @@ abbrev pub keyed_outcome : {X K E : Type 0} → X → Result K E → Outcome (K 
 keyed_outcome x (Ok k) = Kept (k, x)
 keyed_outcome x (Err e) = Failure e
 
--- The contract, with the source's hint.
+-- The contract has the source's hint.
 abbrev pub keyed_contract : {S F X K E : Type 0} → Contract S X E → Mut F (Bor X × Unit {0}) (Result K E) → Contract (S × F) (K × X) E
 keyed_contract m g = passing_contract m (call_by_reference g) (λ P f. IsCallable (call_by_reference g) (takes_by_reference g) P f) keyed_outcome (λ p h. m.hints p.0 h)
 

@@ -16,7 +16,7 @@ pub record FuseTrace {S A E : Type 0} (steps : S → Answered A E → S → Type
 abbrev pub fuses_all : {S A E : Type 0} → (S → List (Answered A E) → S → Type 0) → S × Bool → List (Answered A E) → S × Bool → Type 0
 fuses_all {A = A} {E = E} traces p trace q = (drawn : List (Answered A E)) × traces p.0 drawn q.0 × ClosingTrace (λ r. r) is_end p.1 drawn trace q.1
 
--- `Fuse`'s contract, with the flag whether the source's end was met.
+-- `Fuse`'s contract: that of its source but for the step and the hint, which the source's end closes.
 abbrev pub fuse_contract : {S A E : Type 0} → Contract S A E → Contract (S × Bool) A E
 fuse_contract m = record (closing_contract m m.steps (λ r. r) is_end) { traces = fuses_all m.traces }
 

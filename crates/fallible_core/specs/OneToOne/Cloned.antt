@@ -20,7 +20,7 @@ module _ {T E : Type 0} (is_clone : T → T → Type 0) (is_infallible : T → T
   abbrev pub ClonedTrace : {S : Type 0} → (S → Answered (Bor T) E → S → Type 0) → S × Unit {0} → List (Answered T E) → S × Unit {0} → Type 0
   ClonedTrace steps p trace q = PassTrace steps cloned_call map_outcome p trace q
 
-  -- `Cloned`'s contract, which requires nothing of a call
+  -- `Cloned`'s contract. It requires nothing more than the source, and has the source's hint.
   abbrev pub cloned_contract : {S : Type 0} → Contract S (Bor T) E → Contract (S × Unit {0}) T E
   cloned_contract m = passing_contract m cloned_call (λ P u. ⊤) map_outcome (λ p h. m.hints p.0 h)
 

@@ -20,7 +20,7 @@ inspect_outcome x (Err e) = Failure e
 abbrev pub InspectTrace : {S F X E : Type 0} → (S → Answered X E → S → Type 0) → Mut F (Bor X × Unit {0}) (Result (Unit {0}) E) → S × F → List (Answered X E) → S × F → Type 0
 InspectTrace steps g p trace q = PassTrace steps (call_by_reference g) inspect_outcome p trace q
 
--- `Inspect`'s contract, with the source's hint.
+-- `Inspect`'s contract: the closure may be called on each item that may come, and its hint is the source's.
 abbrev pub inspect_contract : {S F X E : Type 0} → Contract S X E → Mut F (Bor X × Unit {0}) (Result (Unit {0}) E) → Contract (S × F) X E
 inspect_contract m g = passing_contract m (call_by_reference g) (λ P f. IsCallable (call_by_reference g) (takes_by_reference g) P f) inspect_outcome (λ p h. m.hints p.0 h)
 

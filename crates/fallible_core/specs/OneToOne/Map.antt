@@ -19,7 +19,7 @@ map_outcome x (Err e) = Failure e
 abbrev pub MapTrace : {S F X B E : Type 0} → (S → Answered X E → S → Type 0) → Mut F (X × Unit {0}) (Result B E) → S × F → List (Answered B E) → S × F → Type 0
 MapTrace steps g p trace q = PassTrace steps (call_by_value g) map_outcome p trace q
 
--- `Map`'s contract, with the source's hint.
+-- `Map`'s contract: the closure may be called on each item that may come, and its hint is the source's.
 abbrev pub map_contract : {S F X B E : Type 0} → Contract S X E → Mut F (X × Unit {0}) (Result B E) → Contract (S × F) B E
 map_contract m g = passing_contract m (call_by_value g) (λ P f. IsCallable (call_by_value g) (takes_by_value g) P f) map_outcome (λ p h. m.hints p.0 h)
 
