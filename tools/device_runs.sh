@@ -1,19 +1,30 @@
-# What closed_devices.sh and table_runs.sh share. They source it at the top of the repository: it makes the folder $work,
-# and counts the runs in $compared and those that are not as wanted in $differ.
+# What closed_devices.sh and table_runs.sh share. They source it at the top of the repository: it takes their words
+# `--program FILE`, makes the folder $work, and counts the runs in $compared and those that are not as wanted in $differ.
+given=()
+while [ "${1-}" = --program ]; do
+    given+=("$(realpath "$2")")
+    shift 2
+done
 work=$(mktemp -d)
 trap 'rm -rf "$work"' EXIT
 compared=0
 differ=0
 
-# Proves and builds the program $1, where that is not done yet, and begins to count its runs.
+# Takes the given file that has the name of the program $1, or proves and builds that program, where that is not done yet;
+# and begins to count its runs.
 build() {
+    compared=0
+    for program in "${given[@]}"; do
+        if [ "$(basename "$program")" = "$1" ]; then
+            return
+        fi
+    done
     (cd "crates/$1" && rt run) </dev/null >"$work/built" 2>&1 || {
         cat "$work/built"
         echo "$1 is not built"
         exit 1
     }
     program=$PWD/crates/$1/out/$1
-    compared=0
 }
 
 # Begins a run.

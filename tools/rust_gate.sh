@@ -21,7 +21,7 @@ quietly() {
 quietly python3 tools/rust/test_to_rust.py
 tools/to_rust --tests "$folder/out" > "$folder/said"
 head -n -5 "$folder/said" > "$folder/table"
-if ! sed -n '/<!-- to_rust --table -->/,/<!-- end -->/p' docs/RUST.md | sed '1d;$d' | cmp -s - "$folder/table"; then
+if ! sed -n '/<!-- made by to_rust --table -->/,/<!-- end -->/p' docs/RUST.md | sed '1d;$d' | cmp -s - "$folder/table"; then
     echo "rust: the table of docs/RUST.md is not what tools/to_rust --table prints" >&2
     exit 1
 fi
