@@ -95,6 +95,14 @@ def table(clause, words):
     return ["| Word | File of `specs/` | Lines | Names |\n|---|---|---|---|", *rows, f"| in all {len(rows)} | | {count} | |"]
 
 
+def size(crates, file, wanted, clauses):
+    """How many words there are to read for clauses of a function, and how many lines they have."""
+    words = Words(crates)
+    found = [function for function in code.functions(crates / file) if function.name == wanted] if (crates / file).is_file() else []
+    read = chain(" ".join(stated(function, clauses) for function in found), words)
+    return len(read), sum(not line.lstrip().startswith("--") for word, of in read for line in words.of_files[of][word])
+
+
 def tables(crates):
     """The table of each clause."""
     words, made = Words(crates), {}
