@@ -47,7 +47,7 @@ zip_answer (both_drawn (Some x) (Ok (Some y))) = item (x, y)
 zip_answer (both_drawn (Some x) (Ok None)) = end
 zip_answer (both_drawn None (Ok y)) = end
 
--- `Zip`: the right's trace has one answer for each answer of the left's that isn't a failure, and the zip's trace has one for each answer of the left's.
+-- `Zip`: for each answer the left is drawn, and the right too, unless the left failed. The answer is the failure that was met, the pair of two items, or else an end.
 pub record ZipTrace {S U A B E : Type 0} (steps : S → Answered A E → S → Type 0) (others : U → Answered B E → U → Type 0) (p : S × U) (trace : List (Answered (A × B) E)) (q : S × U) : Type 0 where
   pub places : List (ZipPlace A B E)
   pub left_drawn : Run steps p.0 (map left_answer places) q.0
