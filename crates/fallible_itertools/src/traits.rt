@@ -120,9 +120,7 @@ use fallible_itertools_consumers::is_sorted_by::SortedByTurn;
 use fallible_itertools_consumers::join::JoinTurn;
 use fallible_itertools_consumers::keyed::Keyed;
 use fallible_itertools_consumers::minmax::{MinMaxResult, MinMaxTurn, lesser_first};
-use fallible_itertools_consumers::minmax_by::{
-    MinMaxByTurn, MinMaxKeyTurn, items_alone, kept_or_failure,
-};
+use fallible_itertools_consumers::minmax_by::{find_both_by, find_both_by_key};
 use fallible_itertools_consumers::parted::{Parted, without_fault};
 use fallible_itertools_consumers::partition_map::Either;
 use fallible_itertools_consumers::position_best::{first_is_less, place_alone};
@@ -1724,7 +1722,7 @@ pub trait FallibleItertools: FallibleIterator {
     /// let ends = convert(pairs.into_iter()).minmax_by(|x, y| Ok(x.0.cmp(&y.0)));
     /// assert_eq!(rt; ends, Ok(MinMaxResult::MinMax((1, 'b'), (3, 'c'))));
     /// ```
-    final fn minmax_by<F>(mut self, f: F) -> Result<MinMaxResult<Self::Item>, Self::Error>
+    final fn minmax_by<F>(self, f: F) -> Result<MinMaxResult<Self::Item>, Self::Error>
     where
         Self::Item: Drop,
         F: FnMut(&Self::Item, &Self::Item) -> Result<Ordering, Self::Error>,
@@ -1742,10 +1740,7 @@ pub trait FallibleItertools: FallibleIterator {
             → list.ActsWith (call_at_two F.FnMut) f (λ x y. Ok (cmp x y))
             → OverList Self.contract.steps self (λ l. result ≡ minmaxed cmp l) }
     {
-        let mut state = (MinMaxResult::NoElements, f);
-        let answer = self.drive(&mut state, &MinMaxByTurn);
-        let (kept, _) = state;
-        kept_or_failure(answer, kept)
+        find_both_by(self, f)
     }
 
     /// Returns the first of the items with the least key and the last of those with the greatest, in one pass. For one item it returns `OneElement`, for none `NoElements`. The closure is called once on each item, in order, and returns its key.
@@ -1765,7 +1760,7 @@ pub trait FallibleItertools: FallibleIterator {
     ///     Ok(MinMaxResult::MinMax("to", "sea"))
     /// );
     /// ```
-    final fn minmax_by_key<K, F>(mut self, f: F) -> Result<MinMaxResult<Self::Item>, Self::Error>
+    final fn minmax_by_key<K, F>(self, f: F) -> Result<MinMaxResult<Self::Item>, Self::Error>
     where
         Self::Item: Drop,
         K: Ord + Drop,
@@ -1780,10 +1775,7 @@ pub trait FallibleItertools: FallibleIterator {
         ensures value { OverListWith (list.Acts (call_by_reference F.FnMut) f) Self.contract.steps self
             (λ h l. result ≡ minmaxed_by_key K.cmp h l) }
     {
-        let mut state = (MinMaxResult::NoElements, f);
-        let answer = self.drive(&mut state, &MinMaxKeyTurn);
-        let (kept, _) = state;
-        kept_or_failure(answer, items_alone(kept))
+        find_both_by_key(self, f)
     }
 
     /// Returns how often each item comes, as a map. A key is the first of equal items, its value the number of items equal to it.

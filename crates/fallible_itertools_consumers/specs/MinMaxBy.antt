@@ -2,11 +2,12 @@
 use Rattle.std.specs.Prelude.{◌≡◌, false, cond, List, Some, None, Result, Ok, Err, ⊤}
 use Rattle.std.specs.Ordering.{is_gt}
 use Rattle.fallible_iterator.specs.Traces.{Answered}
-use Rattle.fallible_iterator.specs.Folds.{FoldDrains}
+use Rattle.fallible_iterator.specs.Folds.{FoldDrains, IsFoldTurn, TurnThrough}
 use Rattle.fallible_iterator.specs.Lists.{on_value, folded}
 use Rattle.fallible_itertools_consumers.specs.Keyed.{keyed}
 use Rattle.fallible_itertools_consumers.specs.MinMax.{with_item, minmaxed}
 use Rattle.std.specs.declared.cmp.Ordering.{Ordering}
+use Rattle.std.specs.declared.ops.ControlFlow.{ControlFlow}
 use Rattle.fallible_itertools_consumers.specs.declared.minmax.MinMaxResult.{MinMaxResult}
 use Rattle.fallible_itertools_consumers.specs.declared.minmax.MinMaxResult.TheVariants.{NoElements, OneElement, MinMax}
 
@@ -36,11 +37,19 @@ module _ {A E F : Type 0} (call : F → A → A → Result Ordering E → F → 
   takes_beside takes f (OneElement a) x = takes f a x
   takes_beside takes f (MinMax a b) x = takes f a x × ((o : Ordering) (g : F) → call f a x (Ok o) g → is_gt o ≡ false → takes g b x)
 
--- what the call returns, from what its fold returned and what was kept
-abbrev pub kept_or_failure_of : {C E : Type 0} → Answered E E → C → Result C E
-kept_or_failure_of (Ok None) kept = Ok kept
-kept_or_failure_of (Ok (Some e)) kept = Err e
-kept_or_failure_of (Err e) kept = Err e
+-- the lesser and the greater of two items as what is kept, or the failure
+abbrev pub both_or_failure : {A E : Type 0} → Result (A × A) E → Result (MinMaxResult A) E
+both_or_failure (Ok p) = Ok (MinMax p.0 p.1)
+both_or_failure (Err e) = Err e
+
+-- the least item and the greatest as what is kept, or the failure
+abbrev pub widened_or_failure : {A E : Type 0} → A → A → Result (Unit {0}) E → Result (MinMaxResult A) E
+widened_or_failure a b (Ok u) = Ok (MinMax a b)
+widened_or_failure a b (Err e) = Err e
+
+-- One turn of the fold, whose state is the least item and the greatest, and the closure: one call on what is kept and the item.
+abbrev pub WidensBothBy : {A B E F : Type 0} → (F → MinMaxResult B → A → Result (MinMaxResult B) E → F → Type 0) → (B × B) × F → A → ControlFlow E (Unit {0}) → (B × B) × F → Type 0
+WidensBothBy call p x r q = TurnThrough (λ b. (MinMax b.0.0 b.0.1, b.1)) (λ b. tt {0}) (IsFoldTurn call) p x r q
 
 -- ---- by a key
 

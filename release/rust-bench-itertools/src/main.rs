@@ -33,7 +33,7 @@ macro_rules! call {
     };
 }
 
-const CALLS: [(&str, [Call; 4]); 19] = [
+const CALLS: [(&str, [Call; 4]); 25] = [
     call!("dedup, runs of 4", dedup),
     call!("dedup_by_key, runs of 4", dedup_by_key),
     call!("coalesce, runs of 4", coalesce),
@@ -44,15 +44,21 @@ const CALLS: [(&str, [Call; 4]); 19] = [
     call!("intersperse", intersperse),
     call!("merge_by", merge_by),
     call!("zip_longest", zip_longest),
+    call!("pad_using, half missing", pad_using),
     call!("take_while_inclusive", take_while_inclusive),
     call!("minmax", minmax),
+    call!("minmax_by", minmax_by),
+    call!("minmax_by_key", minmax_by_key),
+    call!("position_max", position_max),
     call!("checked_sum", checked_sum),
     call!("counts, 1000 keys", counts),
     call!("join", join),
     call!("k_smallest, 100 of falling", k_smallest_100),
     call!("k_smallest, 10000 of falling", k_smallest_10000),
     call!("k_smallest, 100000 of falling", k_smallest_100000),
-    call!("k_smallest, 10000 of scattered", k_smallest_scattered),
+    call!("k_smallest, 100 of scattered", k_smallest_scattered_100),
+    call!("k_smallest, 1000 of scattered", k_smallest_scattered_1000),
+    call!("k_smallest, 10000 of scattered", k_smallest_scattered_10000),
 ];
 
 fn main() {

@@ -95,6 +95,11 @@ pub fn zip_longest<W: Way>(n: u64) -> u64 {
 }
 
 #[inline(never)]
+pub fn pad_using<W: Way>(n: u64) -> u64 {
+    W::drained(numbers(n / 2).pad_using(n as usize, |index| Ok(index as u64)))
+}
+
+#[inline(never)]
 pub fn take_while_inclusive<W: Way>(n: u64) -> u64 {
     W::drained(numbers(n).take_while_inclusive(|x| Ok(*x < u64::MAX)))
 }
@@ -106,6 +111,29 @@ pub fn minmax<W: Way>(n: u64) -> u64 {
         MinMaxResult::OneElement(x) => x,
         MinMaxResult::MinMax(x, y) => x ^ y,
     }
+}
+
+#[inline(never)]
+pub fn minmax_by<W: Way>(n: u64) -> u64 {
+    match numbers(n).map(|x| Ok(scattered(x + 1))).minmax_by(|x, y| Ok(x.cmp(y))).unwrap() {
+        MinMaxResult::NoElements => 0,
+        MinMaxResult::OneElement(x) => x,
+        MinMaxResult::MinMax(x, y) => x ^ y,
+    }
+}
+
+#[inline(never)]
+pub fn minmax_by_key<W: Way>(n: u64) -> u64 {
+    match numbers(n).minmax_by_key(|x| Ok(scattered(*x + 1))).unwrap() {
+        MinMaxResult::NoElements => 0,
+        MinMaxResult::OneElement(x) => x,
+        MinMaxResult::MinMax(x, y) => x ^ y,
+    }
+}
+
+#[inline(never)]
+pub fn position_max<W: Way>(n: u64) -> u64 {
+    numbers(n).map(|x| Ok(scattered(x + 1))).position_max().unwrap().map_or(0, |place| place as u64)
 }
 
 #[inline(never)]
@@ -144,7 +172,19 @@ pub fn k_smallest_100000<W: Way>(n: u64) -> u64 {
 }
 
 #[inline(never)]
-pub fn k_smallest_scattered<W: Way>(n: u64) -> u64 {
+pub fn k_smallest_scattered_100<W: Way>(n: u64) -> u64 {
+    let least = numbers(n).map(|x| Ok(scattered(x))).k_smallest(100).unwrap();
+    least.into_iter().fold(0, mixed)
+}
+
+#[inline(never)]
+pub fn k_smallest_scattered_1000<W: Way>(n: u64) -> u64 {
+    let least = numbers(n).map(|x| Ok(scattered(x))).k_smallest(1000).unwrap();
+    least.into_iter().fold(0, mixed)
+}
+
+#[inline(never)]
+pub fn k_smallest_scattered_10000<W: Way>(n: u64) -> u64 {
     let least = numbers(n).map(|x| Ok(scattered(x))).k_smallest(10_000).unwrap();
     least.into_iter().fold(0, mixed)
 }

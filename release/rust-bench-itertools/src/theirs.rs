@@ -81,6 +81,11 @@ pub fn zip_longest<W: Way>(n: u64) -> u64 {
     }))
 }
 
+#[inline(never)]
+pub fn pad_using<W: Way>(n: u64) -> u64 {
+    W::drained((0..n / 2).pad_using(n as usize, |index| index as u64))
+}
+
 // This `itertools` has none: std's `take_while` with a flag.
 #[inline(never)]
 pub fn take_while_inclusive<W: Way>(n: u64) -> u64 {
@@ -99,6 +104,29 @@ pub fn minmax<W: Way>(n: u64) -> u64 {
         MinMaxResult::OneElement(x) => x,
         MinMaxResult::MinMax(x, y) => x ^ y,
     }
+}
+
+#[inline(never)]
+pub fn minmax_by<W: Way>(n: u64) -> u64 {
+    match (0..n).map(|x| scattered(x + 1)).minmax_by(|x, y| x.cmp(y)) {
+        MinMaxResult::NoElements => 0,
+        MinMaxResult::OneElement(x) => x,
+        MinMaxResult::MinMax(x, y) => x ^ y,
+    }
+}
+
+#[inline(never)]
+pub fn minmax_by_key<W: Way>(n: u64) -> u64 {
+    match (0..n).minmax_by_key(|x| scattered(*x + 1)) {
+        MinMaxResult::NoElements => 0,
+        MinMaxResult::OneElement(x) => x,
+        MinMaxResult::MinMax(x, y) => x ^ y,
+    }
+}
+
+#[inline(never)]
+pub fn position_max<W: Way>(n: u64) -> u64 {
+    (0..n).map(|x| scattered(x + 1)).position_max().map_or(0, |place| place as u64)
 }
 
 // `itertools` has none: std's `try_fold`.
@@ -135,6 +163,16 @@ pub fn k_smallest_100000<W: Way>(n: u64) -> u64 {
 }
 
 #[inline(never)]
-pub fn k_smallest_scattered<W: Way>(n: u64) -> u64 {
+pub fn k_smallest_scattered_100<W: Way>(n: u64) -> u64 {
+    (0..n).map(|x| scattered(x)).k_smallest(100).fold(0, mixed)
+}
+
+#[inline(never)]
+pub fn k_smallest_scattered_1000<W: Way>(n: u64) -> u64 {
+    (0..n).map(|x| scattered(x)).k_smallest(1000).fold(0, mixed)
+}
+
+#[inline(never)]
+pub fn k_smallest_scattered_10000<W: Way>(n: u64) -> u64 {
     (0..n).map(|x| scattered(x)).k_smallest(10_000).fold(0, mixed)
 }

@@ -44,9 +44,7 @@ use crate::fallible_itertools_consumers::join::JoinTurn;
 #[cfg(feature = "std")]
 use crate::fallible_itertools_consumers::keyed::Keyed;
 use crate::fallible_itertools_consumers::minmax::{MinMaxResult, MinMaxTurn, lesser_first};
-use crate::fallible_itertools_consumers::minmax_by::{
-    MinMaxByTurn, MinMaxKeyTurn, items_alone, kept_or_failure,
-};
+use crate::fallible_itertools_consumers::minmax_by::{find_both_by, find_both_by_key};
 use crate::fallible_itertools_consumers::parted::Parted;
 use crate::fallible_itertools_consumers::partition_map::Either;
 use crate::fallible_itertools_consumers::position_best::{first_is_less, place_alone};
@@ -2015,14 +2013,11 @@ pub trait FallibleItertools: FallibleIterator + Sized {
     ///     → OverList Self.contract.steps self (λ l. result ≡ minmaxed cmp l) }
     /// ```
     /// </details>
-    fn minmax_by<F>(mut self, f: F) -> Result<MinMaxResult<Self::Item>, Self::Error>
+    fn minmax_by<F>(self, f: F) -> Result<MinMaxResult<Self::Item>, Self::Error>
     where
         F: FnMut(&Self::Item, &Self::Item) -> Result<Ordering, Self::Error>,
     {
-        let mut state = (MinMaxResult::NoElements, f);
-        let answer = self.fold_by(&mut state, &MinMaxByTurn);
-        let (kept, _) = state;
-        kept_or_failure(answer, kept)
+        find_both_by(self, f)
     }
 
     /// Returns the first of the items with the least key and the last of those with the greatest, in one pass. For one item it returns `OneElement`, for none `NoElements`. The closure is called once on each item, in order, and returns its key.
@@ -2058,15 +2053,12 @@ pub trait FallibleItertools: FallibleIterator + Sized {
     ///     (λ h l. result ≡ minmaxed_by_key K.cmp h l) }
     /// ```
     /// </details>
-    fn minmax_by_key<K, F>(mut self, f: F) -> Result<MinMaxResult<Self::Item>, Self::Error>
+    fn minmax_by_key<K, F>(self, f: F) -> Result<MinMaxResult<Self::Item>, Self::Error>
     where
         K: Ord,
         F: FnMut(&Self::Item) -> Result<K, Self::Error>,
     {
-        let mut state = (MinMaxResult::NoElements, f);
-        let answer = self.fold_by(&mut state, &MinMaxKeyTurn);
-        let (kept, _) = state;
-        kept_or_failure(answer, items_alone(kept))
+        find_both_by_key(self, f)
     }
 
     /// Returns how often each item comes, as a map. A key is the first of equal items, its value the number of items equal to it.

@@ -4,14 +4,14 @@ use Rattle.std.specs.Cmp.{IsTotalOrder}
 use Rattle.std.specs.Ordering.{is_gt}
 use Rattle.std.proofs.Common.{refl, sym, ap, subst, ◌∙◌}
 use Rattle.fallible_iterator.specs.Traces.{Answered}
-use Rattle.fallible_iterator.specs.Folds.{IsFoldTurn, Driven, FoldDrains}
+use Rattle.fallible_iterator.specs.Folds.{CallableDriving, CallableInFold, IsFoldTurn, Driven, FoldDrains}
 use Rattle.fallible_iterator.specs.Lists.{Lists, Acts, ActsWith, on_value, folded, pick_of, greatest, best_by}
 use Rattle.fallible_iterator.specs.Picking.{better}
-use Rattle.fallible_iterator.proofs.Lemmas.Folds.{fold_drains_ended, fold_drains_failed, fold_drains_stopped}
+use Rattle.fallible_iterator.proofs.Lemmas.Folds.{callable_driving_through, driven_by_item_first, driven_end, driven_failure, driven_stop, fold_drains_ended, fold_drains_failed, fold_drains_stopped, fold_of_references_drives_values, holds_at_first_turn, holds_each_turn_after_item}
 use Rattle.fallible_iterator.proofs.Lemmas.Lists.Drawn.{folded_of_lists}
 use Rattle.fallible_itertools_consumers.specs.Keyed.{with_key, keyed}
 use Rattle.fallible_itertools_consumers.specs.MinMax.{with_item, or_less, first_least, both_of, minmaxed}
-use Rattle.fallible_itertools_consumers.specs.MinMaxBy.{two_in_order, greatest_in_order, AfterLeast, MinMaxCall, with_item_by, minmaxed_by, with_keyed, MinMaxKeyCall, MinMaxKeyDrains, kept_or_failure_of, without_keys, minmaxed_by_key}
+use Rattle.fallible_itertools_consumers.specs.MinMaxBy.{two_in_order, greatest_in_order, AfterLeast, MinMaxCall, WidensBothBy, with_item_by, minmaxed_by, with_keyed, MinMaxKeyCall, MinMaxKeyDrains, without_keys, minmaxed_by_key}
 use Rattle.fallible_itertools_consumers.proofs.Lemmas.MinMax.{min_max_step_of_item, min_max_step_of_item_from_one}
 use Rattle.std.specs.declared.cmp.Ordering.{Ordering}
 use Rattle.std.specs.declared.cmp.Ordering.TheVariants.{Less, Greater}
@@ -103,15 +103,45 @@ module _ {A : Type 0} {cmp : A → A → Ordering} (o : IsTotalOrder cmp) (E : T
 
 -- ---- the fold
 
-pub fold_drains_kept_or_failure : {S A E F C : Type 0} (call : F → C → A → Result C E → F → Type 0) {steps : S → Answered A E → S → Type 0} {s t : S} {c : C} {f : F} (answer : Answered E E) (q : C × F) → Driven steps (IsFoldTurn call) s (c, f) answer t q → FoldDrains steps call (λ e d. d ≡ e) s c f (kept_or_failure_of answer q.0) t
-fold_drains_kept_or_failure call (Ok None) q w = fold_drains_ended call (λ e d. d ≡ e) q w
-fold_drains_kept_or_failure call (Ok (Some e)) q w = fold_drains_stopped call (λ e d. d ≡ e) q e w
-fold_drains_kept_or_failure call (Err e) q w = fold_drains_failed call (λ e d. d ≡ e) q e e w refl
+module _ {S A B E F : Type 0} (call : F → MinMaxResult B → A → Result (MinMaxResult B) E → F → Type 0) {steps : S → Answered A E → S → Type 0} {s v : S} {f g : F} (u : S) (x : A) {c : MinMaxResult B} (first : steps s (Ok (Some x)) u) (called : call f NoElements x (Ok c) g) where
+  -- one draw, and then the end or a failure
+  pub fold_drains_at_end_after_draw : steps u (Ok None) v → FoldDrains steps call (λ e d. d ≡ e) s NoElements f (Ok c) v
+  fold_drains_at_end_after_draw ended = fold_drains_ended call (λ e d. d ≡ e) (c, g) (driven_by_item_first x first called (driven_end ended))
 
-pub without_keys_moves_out_of_kept_or_failure : {A E K : Type 0} (answer : Answered E E) (c : MinMaxResult (K × A)) → ◌≡◌ {A = Result (MinMaxResult A) E} (kept_or_failure_of answer (without_keys c)) (on_value (kept_or_failure_of answer c) (λ d. Ok (without_keys d)))
-without_keys_moves_out_of_kept_or_failure (Ok None) c = refl
-without_keys_moves_out_of_kept_or_failure (Ok (Some e)) c = refl
-without_keys_moves_out_of_kept_or_failure (Err e) c = refl
+  pub fold_drains_at_failure_after_draw : {e : E} → steps u (Err e) v → FoldDrains steps call (λ e d. d ≡ e) s NoElements f (Err e) v
+  fold_drains_at_failure_after_draw {e = e} failed = fold_drains_failed call (λ e d. d ≡ e) (c, g) e e (driven_by_item_first x first called (driven_failure failed)) refl
+
+  module _ (y : A) (second : steps u (Ok (Some y)) v) {h : F} where
+    -- two draws, and a failure of the closure at the second
+    pub fold_drains_where_second_call_fails : {e : E} → call g c y (Err e) h → FoldDrains steps call (λ e d. d ≡ e) s NoElements f (Err e) v
+    fold_drains_where_second_call_fails {e = e} fails = fold_drains_stopped call (λ e d. d ≡ e) (c, h) e (driven_by_item_first x first called (driven_stop y second fails))
+
+    -- two draws, and then a fold whose state is the least item and the greatest, and the closure
+    module _ {t : S} {p : B × B} {q : (B × B) × F} (called_again : call g c y (Ok (MinMax p.0 p.1)) h) where
+      driven_after_two_draws : {r : Answered E E} → Driven steps (WidensBothBy call) v (p, h) r t q → Driven steps (IsFoldTurn call) s (NoElements, f) r t (MinMax q.0.0 q.0.1, q.1)
+      driven_after_two_draws w = driven_by_item_first x first called (driven_by_item_first y second called_again (fold_of_references_drives_values (λ b. (MinMax b.0.0 b.0.1, b.1)) (λ b. tt {0}) (IsFoldTurn call) w))
+
+      pub fold_drains_ended_after_two_draws : Driven steps (WidensBothBy call) v (p, h) (Ok None) t q → FoldDrains steps call (λ e d. d ≡ e) s NoElements f (Ok (MinMax q.0.0 q.0.1)) t
+      fold_drains_ended_after_two_draws w = fold_drains_ended call (λ e d. d ≡ e) (MinMax q.0.0 q.0.1, q.1) (driven_after_two_draws w)
+
+      pub fold_drains_stopped_after_two_draws : {e : E} → Driven steps (WidensBothBy call) v (p, h) (Ok (Some e)) t q → FoldDrains steps call (λ e d. d ≡ e) s NoElements f (Err e) t
+      fold_drains_stopped_after_two_draws {e = e} w = fold_drains_stopped call (λ e d. d ≡ e) (MinMax q.0.0 q.0.1, q.1) e (driven_after_two_draws w)
+
+      pub fold_drains_failed_after_two_draws : {e : E} → Driven steps (WidensBothBy call) v (p, h) (Err e) t q → FoldDrains steps call (λ e d. d ≡ e) s NoElements f (Err e) t
+      fold_drains_failed_after_two_draws {e = e} w = fold_drains_failed call (λ e d. d ≡ e) (MinMax q.0.0 q.0.1, q.1) e e (driven_after_two_draws w) refl
+
+-- where the closure may be called on what is kept and each item that may come
+module _ {S A B E F : Type 0} (call : F → MinMaxResult B → A → Result (MinMaxResult B) E → F → Type 0) (takes : F → MinMaxResult B → A → Type 0) {steps : S → Answered A E → S → Type 0} {s u : S} {f g : F} (callable : CallableInFold steps call takes s f NoElements) (x : A) {c : MinMaxResult B} (first : steps s (Ok (Some x)) u) (called : call f NoElements x (Ok c) g) where
+  callable_after_draw : CallableInFold steps call takes u g c
+  callable_after_draw = holds_each_turn_after_item {d = (c, g)} callable first called
+
+  -- it may be called at the second one
+  pub takes_second_item : {v : S} (y : A) → steps u (Ok (Some y)) v → takes g c y
+  takes_second_item y second = holds_at_first_turn callable_after_draw second
+
+  -- and in the fold after the second one
+  pub callable_after_two_draws : {v : S} (y : A) → steps u (Ok (Some y)) v → {h : F} {p : B × B} → call g c y (Ok (MinMax p.0 p.1)) h → CallableDriving steps (WidensBothBy call) (λ q z. takes q.1 (MinMax q.0.0 q.0.1) z) v (p, h)
+  callable_after_two_draws y second {h = h} {p = p} called_again = callable_driving_through (λ b. (MinMax b.0.0 b.0.1, b.1)) (λ b. tt {0}) (IsFoldTurn call) {c = (p, h)} {can = λ q z. takes q.1 q.0 z} (holds_each_turn_after_item {d = (MinMax p.0 p.1, h)} callable_after_draw second called_again)
 
 -- ---- by a key
 
