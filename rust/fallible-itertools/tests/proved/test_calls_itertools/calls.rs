@@ -549,13 +549,13 @@ fn minmax_draws_twice_and_then_folds() {
 // The extremes, the pairs that the closure was called on in order, two digits each, and the calls that come for it.
 type ExtremesAsked = (Result<MinMaxResult<u32>, u32>, u32, Calls);
 
-const EXTREMES_ASKED: ExtremesAsked = (Ok(MinMax(1, 4)), 32_211_434, ONE_FOLD);
+const EXTREMES_ASKED: ExtremesAsked = (Ok(MinMax(1, 4)), 32_211_434, TWO_NEXTS_ONE_FOLD);
 
-const ONE_ASKED: ExtremesAsked = (Ok(MinMaxResult::OneElement(2)), 0, ONE_FOLD);
+const ONE_ASKED: ExtremesAsked = (Ok(MinMaxResult::OneElement(2)), 0, TWO_NEXTS);
 
 // It compares the first two items, then the least with the next one, and the greatest where the least isn't greater.
 #[test]
-fn minmax_by_is_one_fold() {
+fn minmax_by_draws_twice_and_then_folds() {
     let log = Log::new();
     let mut asked: u32 = 0;
     let compare = |x: &u32, y: &u32| {
@@ -581,11 +581,11 @@ fn minmax_by_compares_no_item_alone() {
     assert_eq!((extremes, asked, log.take()), ONE_ASKED);
 }
 
-const EXTREMES_KEYED: ExtremesAsked = (Ok(MinMax(1, 4)), 3_214, ONE_FOLD);
+const EXTREMES_KEYED: ExtremesAsked = (Ok(MinMax(1, 4)), 3_214, TWO_NEXTS_ONE_FOLD);
 
 // It is called once on each item, in order.
 #[test]
-fn minmax_by_key_is_one_fold() {
+fn minmax_by_key_draws_twice_and_then_folds() {
     let log = Log::new();
     let mut asked: u32 = 0;
     let key = |x: &u32| {
