@@ -45,7 +45,9 @@ pub use holding::{
 };
 pub use interleave::{law_hints_interleave, law_interleaved};
 pub use intersperse::{law_hints_intersperse, law_hints_intersperse_with};
-pub use lengths::{law_interspersed, law_tupled, law_windowed, law_zipped_longest};
+pub use lengths::{
+    law_interspersed, law_interspersed_by, law_tupled, law_windowed, law_zipped_longest,
+};
 pub use merge::{law_hints_merge, law_merged_in_order};
 pub use merge_by::{law_hints_merge_by, law_merged};
 pub use merge_join_by::{law_hints_merge_join_by, law_merge_joined};

@@ -7,7 +7,9 @@ ghost use Rattle.fallible_itertools_adapters.specs.Staging.{StopPasses, ends_com
 ghost use Rattle.fallible_itertools_adapters.specs.TakeWhileInclusive.{inclusive_contract, inclusive_on_item, inclusive_parts};
 ghost use Rattle.fallible_itertools_adapters.specs.Laws.TakeWhileInclusive.{inclusive_parts_made, is_stage_inclusive, lawful_inclusive};
 
-use crate::staging::{Made, Stage, drive_stage, next_stage, one, one_then, stopped};
+use crate::staging::{
+    AnswerAndDue, Made, Stage, Stop, drive_stage, next_stage, one, one_then, stopped,
+};
 use fallible_iterator::{FallibleIterator, Turn};
 
 /// What the source returns up to the first item that the predicate rejects, and that one too. Then each call returns `Ok(None)`. An item on which the predicate fails is lost, and its failure is yielded; neither it nor an `Ok(None)` of the source exhausts anything.
@@ -75,7 +77,7 @@ struct InclusiveStage;
 impl<X: Drop, E, P: FnMut(&X) -> Result<bool, E>> Stage<P, X, E> for InclusiveStage {
     type Kept = X;
 
-    type Later = ();
+    type Due = ();
 
     ghost comes = { λ _ later. ends_come later };
 
@@ -102,15 +104,15 @@ impl<X: Drop, E, P: FnMut(&X) -> Result<bool, E>> Stage<P, X, E> for InclusiveSt
     }
 
     #[inline(always)]
-    fn on_stop(&self, _p: &mut P, stop: Option<E>) -> Made<X, (), E>
+    fn on_stop(&self, _p: &mut P, stop: Stop<E>) -> Made<X, (), E>
         ensures { StopPasses _p.old stop result _p.new }
     {
         one(stopped(stop))
     }
 
     #[inline(always)]
-    fn come(&self, later: ()) -> (Result<Option<X>, E>, Option<()>) {
-        (Ok(None), Some(later))
+    fn answer_due(&self, due: ()) -> AnswerAndDue<X, (), E> {
+        (Ok(None), Some(due))
     }
 
     ghost is_stage = { λ _. is_stage_inclusive (call_by_reference P.FnMut) };

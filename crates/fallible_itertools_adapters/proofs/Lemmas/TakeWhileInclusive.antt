@@ -15,13 +15,14 @@ use Rattle.fallible_iterator.proofs.Lemmas.Lists.ForGood.{lists_for_good_seen}
 use Rattle.fallible_iterator.proofs.Lemmas.Lists.Passing.{lists_seen}
 use Rattle.fallible_iterator.proofs.Lemmas.Hints.Drawn.{as_sound_of_brackets, brackets_of_brackets_at_view, if_some_at_least_of_smaller}
 use Rattle.fallible_iterator.specs.Laws.Closures.{reaches_reflexive, reaches_by_call_first, is_callable_after}
+use Rattle.fallible_itertools_adapters.specs.Staged.{made_first, staged}
 use Rattle.fallible_itertools_adapters.specs.Staging.{DrawsUpTo, Made, MayMeet, PassesNoneOver, StopPasses, TakesAll, ends_come, one_made, passes_over, stage_meets, stage_step, yields}
 use Rattle.fallible_itertools_adapters.specs.Laws.Staging.{parts_equal_where_made_equal, takes_where_reached}
 use Rattle.fallible_itertools_adapters.specs.Laws.TakeWhileInclusive.{call_of_place, inclusive_step, is_stage_inclusive, over_where}
 use Rattle.fallible_itertools_adapters.specs.TakeWhileInclusive.{cons_through, taken_while_inclusive, inclusive_answer, inclusive_made, inclusive_on_item, hint_of_first, inclusive_parts, inclusive_contract}
 use Rattle.fallible_itertools_adapters.proofs.Lemmas.Closed.{ends_for_good_where_closed}
 use Rattle.fallible_itertools_adapters.proofs.Lemmas.StagingHints.{MadeFew, MakesNoFewer, bounds_above_staged, bounds_below_staged, makes_at_most_items_and_held}
-use Rattle.fallible_itertools_adapters.proofs.Lemmas.StagingLists.{IsMadeAs, always_gives_within, gives_staged_up_to_refusal, made_first, staged}
+use Rattle.fallible_itertools_adapters.proofs.Lemmas.StagingLists.{IsMadeAs, always_gives_within, gives_staged_up_to_refusal}
 use Rattle.fallible_itertools_adapters.specs.declared.take_while_inclusive.TakeWhileInclusive.{TakeWhileInclusive}
 
 module _ {S F X E : Type 0} (steps : S → Answered X E → S → Type 0) (call : F → X → Result Bool E → F → Type 0) where
