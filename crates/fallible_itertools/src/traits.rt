@@ -1049,17 +1049,15 @@ pub trait FallibleItertools: FallibleIterator {
         P: FnMut(&Self::Item) -> Result<bool, Self::Error>,
         requires { IsCallable (call_by_reference P.FnMut) (takes_by_reference P.FnMut)
             (Self.contract.may_give self) predicate }
-        ensures source { inclusive.inclusive_source result ≡ self }
-        ensures predicate { inclusive.inclusive_predicate result ≡ predicate }
-        ensures refused { inclusive.inclusive_refused result ≡ false }
+        ensures parts { inclusive.inclusive_parts result ≡ (self, ((tt, predicate), None)) }
         ensures lists { OverListWith (list.Acts (call_by_reference P.FnMut) predicate) Self.contract.steps
             self (λ h l. list.Lists (seen_as inclusive.inclusive_parts
-            (inclusive.inclusive_contract Self.contract P.FnMut)).steps
+            (inclusive.inclusive_contract P.FnMut Self.contract)).steps
             result (inclusive.taken_while_inclusive h l)) }
         ensures for_good { OverListWith (list.Acts (call_by_reference P.FnMut) predicate)
             Self.contract.steps self (λ h l. list.all_of h l ≡ Ok false
             → list.ListsForGood (seen_as inclusive.inclusive_parts
-            (inclusive.inclusive_contract Self.contract P.FnMut)).steps
+            (inclusive.inclusive_contract P.FnMut Self.contract)).steps
             result (inclusive.taken_while_inclusive h l)) }
     {
         TakeWhileInclusive::new(self, predicate)

@@ -1,13 +1,13 @@
 -- Adapters that put a separator before each item but the first; here `Intersperse`, whose separators are clones.
 use Rattle.std.specs.Prelude.{◌≡◌, ℕ, suc, ◌+◌, ◌-◌, ◌^◌, min, cond, ltb, Bool, true, false, Option, Some, None, Result, Ok, Err, List}
-use Rattle.fallible_iterator.specs.Traces.{item, failure}
+use Rattle.fallible_iterator.specs.Traces.{Answered, item}
 use Rattle.fallible_iterator.specs.Contract.{Contract, Inverse}
 use Rattle.fallible_iterator.specs.Lists.{result_answer}
 use Rattle.fallible_iterator.specs.Refusals.{RefusedAs}
 use Rattle.fallible_itertools_adapters.specs.Holding.{held_one}
-use Rattle.fallible_itertools_adapters.specs.Plan.{HintPlan, Making, Plan, calls, makes, none_held, passes, plan_contract}
+use Rattle.fallible_itertools_adapters.specs.Plan.{HintPlan, Making, Plan, calls, makes, none_held, passes, plan_contract, plan_meets}
 use Rattle.fallible_itertools_adapters.specs.Staged.{plan_does, staged}
-use Rattle.fallible_itertools_adapters.specs.Staging.{item_comes, made_before, one_made}
+use Rattle.fallible_itertools_adapters.specs.Staging.{StagedTrace, item_comes, made_before, one_made}
 use Rattle.std.specs.declared.alloc.AllocError.{AllocError}
 use Rattle.fallible_itertools_adapters.specs.declared.intersperse.Intersperse.{Intersperse}
 use Rattle.std.proofs.Common.{refl}
@@ -59,7 +59,11 @@ module _ {A E : Type 0} (is_clone : A → A → Type 0) (is_infallible : A → T
   separator_cloned separator u (Ok copy) after = is_clone separator copy × (after ≡ separator)
   separator_cloned separator u (Err e) after = RefusedAs is_infallible from separator e × (after ≡ separator)
 
-  -- `Intersperse`: before each item but the first a clone of the separator. The parts are the source, whether an item came, the separator, and the item that is due.
+  -- `Intersperse`: the item that is due, and then the source's trace with a clone of the separator before each item but the first; failures and ends between two items part nothing. The parts are the source, whether an item came beside the separator, and the item that is due.
+  abbrev pub IntersperseTrace : {S : Type 0} → (S → List (Answered A E) → S → Type 0) → S × ((Bool × A) × Option A) → List (Answered A E) → S × ((Bool × A) × Option A) → Type 0
+  IntersperseTrace traces p trace q = StagedTrace traces item_comes (plan_meets separator_cloned intersperse_plan passes) p trace q
+
+  -- `Intersperse`'s contract: an item of the source is two to come.
   abbrev pub intersperse_contract : {S : Type 0} → Contract S A E → Contract (S × ((Bool × A) × Option A)) A E
   intersperse_contract m = plan_contract m item_comes separator_cloned intersperse_plan passes 2 none_held intersperse_hints
 

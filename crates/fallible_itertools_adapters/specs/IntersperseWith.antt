@@ -1,11 +1,12 @@
 -- `IntersperseWith`, which puts what a closure returns between each two adjacent items.
-use Rattle.std.specs.Prelude.{◌≡◌, ℕ, suc, Bool, Option, Result}
+use Rattle.std.specs.Prelude.{◌≡◌, ℕ, suc, Bool, List, Option, Result}
 use Rattle.std.specs.Fn.{Mut}
+use Rattle.fallible_iterator.specs.Traces.{Answered}
 use Rattle.fallible_iterator.specs.Contract.{Contract, Inverse}
 use Rattle.fallible_iterator.specs.Sources.FromFn.{call_of_none}
 use Rattle.fallible_itertools_adapters.specs.Intersperse.{intersperse_hints, intersperse_plan}
-use Rattle.fallible_itertools_adapters.specs.Plan.{closure_contract, none_held, passes}
-use Rattle.fallible_itertools_adapters.specs.Staging.{item_comes}
+use Rattle.fallible_itertools_adapters.specs.Plan.{closure_contract, none_held, passes, plan_meets}
+use Rattle.fallible_itertools_adapters.specs.Staging.{StagedTrace, item_comes}
 use Rattle.fallible_itertools_adapters.specs.declared.intersperse_with.IntersperseWith.{IntersperseWith}
 use Rattle.std.proofs.Common.{refl}
 
@@ -14,7 +15,11 @@ module _ {F A E : Type 0} (g : Mut F (Unit {0}) (Result A E)) where
   abbrev pub takes_none : F → Unit {0} → Type 0
   takes_none f u = g.pre f tt
 
-  -- `IntersperseWith`: before each item but the first what one call of the closure returns. The parts are the source, whether an item came, the closure, and the item that is due.
+  -- `IntersperseWith`: the item that is due, and then the source's trace with what one call of the closure returns before each item but the first; failures and ends between two items part nothing. The parts are the source, whether an item came beside the closure, and the item that is due.
+  abbrev pub IntersperseWithTrace : {S : Type 0} → (S → List (Answered A E) → S → Type 0) → S × ((Bool × F) × Option A) → List (Answered A E) → S × ((Bool × F) × Option A) → Type 0
+  IntersperseWithTrace traces p trace q = StagedTrace traces item_comes (plan_meets (call_of_none g) intersperse_plan passes) p trace q
+
+  -- `IntersperseWith`'s contract: an item of the source is two to come. The closure may be called wherever items that may come bring it.
   abbrev pub intersperse_with_contract : {S : Type 0} → Contract S A E → Contract (S × ((Bool × F) × Option A)) A E
   intersperse_with_contract m = closure_contract m item_comes (call_of_none g) takes_none intersperse_plan passes 2 none_held intersperse_hints
 

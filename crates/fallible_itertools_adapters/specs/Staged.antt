@@ -28,6 +28,10 @@ module _ {L Y E : Type 0} (comes : L → Option (Answered Y E)) where
 
 -- ---- where what is called acts as a function
 
+-- a function, as what acts so and stays so
+abbrev pub as_function : {Q R : Type 0} → (Q → R) → Unit {0} → Q → R × Unit {0}
+as_function g z q = (g q, z)
+
 -- what is made, with z beside what is held
 abbrev pub beside_state : {H Z B L E : Type 0} → Z → Making H B L E → Making (H × Z) B L E
 beside_state z t = (t.0, (t.1, z))

@@ -1,13 +1,13 @@
 -- What an adapter by functions lists, where what it calls acts as a function says; up to an allocation failure, where one may come.
 use Rattle.std.specs.Prelude.{◌≡◌, ⊤, ◌⊎◌, Option, Some, None, Result, Ok, Err, List, [], ◌∷◌}
 use Rattle.std.proofs.Common.{refl, sym, subst, inl, inr}
-use Rattle.fallible_iterator.specs.Traces.{Answered, end}
-use Rattle.fallible_iterator.specs.Lists.{AlwaysGives, result_answer}
+use Rattle.fallible_iterator.specs.Traces.{Answered, Run, end}
+use Rattle.fallible_iterator.specs.Lists.{AlwaysGives, EndsForGood, result_answer}
 use Rattle.fallible_iterator.specs.Refusing.{AnswersRefusal, GivesUntilRefused}
 use Rattle.fallible_iterator.proofs.Lemmas.UntilRefused.{always_of_until_refused}
 use Rattle.fallible_itertools_adapters.specs.Plan.{Follows, Makes, Making, Plan, calls, makes, plan_meets}
 use Rattle.fallible_itertools_adapters.specs.Staged.{followed, plan_does, staged}
-use Rattle.fallible_itertools_adapters.specs.Staging.{Made, due_comes, stage_step}
+use Rattle.fallible_itertools_adapters.specs.Staging.{Made, due_comes, ends_come, stage_step}
 use Rattle.fallible_itertools_adapters.proofs.Lemmas.StagingLists.{EndMade, IsAnswerMade, IsMadeAs, RefusedAt, gives_staged_up_to_refusal, until_refused_within}
 use Rattle.std.specs.declared.alloc.AllocError.{AllocError}
 
@@ -20,6 +20,21 @@ module _ {B E : Type 0} (of : B → B → Type 0) (itself : (y : B) → of y y) 
   made_as_itself : {L : Type 0} (m : Made B L E) → IsMadeAs of m m
   made_as_itself None = tt
   made_as_itself (Some (a, due)) = (answer_made_of_itself a, refl)
+
+-- ---- where ends are due
+
+module _ {S P X D B E : Type 0} (meets : P → Answered X D → Made B (Unit {0}) E → P → Type 0) (steps : S → Answered X D → S → Type 0) where
+  abbrev EndsSteps : S × (P × Option (Unit {0})) → Answered B E → S × (P × Option (Unit {0})) → Type 0
+  EndsSteps = stage_step ends_come meets steps
+
+  same_after_run : (trace : List (Answered B E)) (s : S) (p : P) (t : S × (P × Option (Unit {0}))) → Run EndsSteps (s, (p, Some tt)) trace t → t ≡ (s, (p, Some tt))
+  same_after_run [] s p t ran = sym ran
+  same_after_run (r ∷ rest) s p t ran = same_after_run rest s p t (subst (λ (z : S). Run EndsSteps (z, (p, Some tt)) rest t) ran.1.1 (subst (λ (k : P × Option (Unit {0})). Run EndsSteps (ran.0.0, k) rest t) ran.1.2 ran.2))
+
+  pub ends_for_good_where_ends_due : (s : S) (p : P) (over : Unit {0}) → EndsForGood EndsSteps (s, (p, Some over))
+  ends_for_good_where_ends_due s p over = record { each = λ trace t u r ran w. (subst (λ z. EndsSteps z r u) (same_after_run trace s p t ran) w).0 }
+
+-- ---- by plans
 
 -- `At f z` says that what is called is f where it acts by z. A call then returns what `Same` says of (acts z q).0, or what `Refused` holds of.
 module _ {S F Z H Q R X B L E : Type 0} (steps : S → Answered X E → S → Type 0) (comes : L → Option (Answered B E)) (call : F → Q → R → F → Type 0) (plan : H → X → Plan Q R (Making H B L E)) (stops : H → Option E → Making H B L E) (acts : Z → Q → R × Z) where
