@@ -49,7 +49,7 @@ ghost use Rattle.fallible_itertools_consumers.specs.GroupMap.{GroupRefuses, IsGr
 ghost use Rattle.fallible_itertools_adapters.specs.InspectErr.{inspect_err_contract, inspect_err_parts, seen_call};
 ghost use Rattle.fallible_itertools_adapters.specs.OrElse.{or_else_contract, or_else_parts, recovered};
 ghost use Rattle.fallible_itertools_adapters.specs.Interleave as interleave;
-ghost use Rattle.fallible_itertools_adapters.specs.Intersperse.{intersperse_contract, intersperse_parts, intersperse_plan, interspersed, interspersed_by};
+ghost use Rattle.fallible_itertools_adapters.specs.Intersperse.{intersperse_contract, intersperse_parts, interspersed, interspersed_by};
 ghost use Rattle.fallible_itertools_adapters.specs.IntersperseWith as intersperse_with;
 ghost use Rattle.fallible_iterator.specs.Sources.FromFn.{call_of_none};
 ghost use Rattle.fallible_itertools_consumers.specs.Join.{JoinedAs};

@@ -8,7 +8,9 @@ ghost use Rattle.fallible_itertools_adapters.specs.Laws.Intersperse.{is_stage_in
 ghost use Rattle.fallible_itertools_adapters.specs.Plan.{none_held, passes, plan_item, plan_stop};
 ghost use Rattle.fallible_itertools_adapters.specs.Staging.{item_comes, made_before};
 
-use crate::staging::{AnswerAndDue, Made, Stage, Stop, drive_stage, next_stage, one, one_then, stopped};
+use crate::staging::{
+    AnswerAndDue, Made, Stage, Stop, drive_stage, next_stage, one, one_then, stopped,
+};
 use fallible_iterator::{FallibleIterator, Turn};
 use std::alloc::AllocError;
 

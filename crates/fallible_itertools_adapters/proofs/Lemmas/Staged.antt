@@ -5,7 +5,7 @@ use Rattle.fallible_iterator.specs.Traces.{Answered, Run, end}
 use Rattle.fallible_iterator.specs.Lists.{AlwaysGives, EndsForGood, result_answer}
 use Rattle.fallible_iterator.specs.Refusing.{AnswersRefusal, GivesUntilRefused}
 use Rattle.fallible_iterator.proofs.Lemmas.UntilRefused.{always_of_until_refused}
-use Rattle.fallible_itertools_adapters.specs.Plan.{Follows, Makes, Making, Plan, calls, makes, plan_meets}
+use Rattle.fallible_itertools_adapters.specs.Plan.{Follows, Making, Plan, calls, makes, plan_meets}
 use Rattle.fallible_itertools_adapters.specs.Staged.{followed, plan_does, staged}
 use Rattle.fallible_itertools_adapters.specs.Staging.{Made, due_comes, ends_come, stage_step}
 use Rattle.fallible_itertools_adapters.proofs.Lemmas.StagingLists.{EndMade, IsAnswerMade, IsMadeAs, RefusedAt, gives_staged_up_to_refusal, until_refused_within}

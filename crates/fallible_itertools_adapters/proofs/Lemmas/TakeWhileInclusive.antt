@@ -1,23 +1,22 @@
 -- What `TakeWhileInclusive` lists, and its hint.
-use Rattle.std.specs.Prelude.{◌≡◌, ℕ, suc, ◌+◌, ◌-◌, ◌≤◌, min, Bool, true, false, IfSome, List, [], ◌∷◌, is_some, Option, Result, Some, None, Ok, Err, ◌⊎◌}
+use Rattle.std.specs.Prelude.{◌≡◌, ℕ, suc, ◌+◌, ◌-◌, ◌≤◌, min, Bool, true, false, List, [], ◌∷◌, is_some, Option, Result, Some, None, Ok, Err, ◌⊎◌}
 use Rattle.std.specs.Fn.{Mut}
 use Rattle.std.specs.Borrow.{Bor}
 use Rattle.std.proofs.Common.{refl, sym, ap, subst, inl, inr, ◌∙◌, arith}
 use Rattle.fallible_iterator.specs.Contract.{Contract, parts_as, seen_as}
 use Rattle.fallible_iterator.specs.Lists.{Acts, AlwaysGives, GivesForGood, Lists, ListsForGood, all_of, decided, searched}
-use Rattle.fallible_iterator.specs.Traces.{Answered, item, failure, end}
-use Rattle.fallible_iterator.specs.Closures.{call_by_reference, takes_by_reference}
+use Rattle.fallible_iterator.specs.Traces.{Answered, item}
+use Rattle.fallible_iterator.specs.Closures.{call_by_reference}
 use Rattle.fallible_iterator.specs.Searching.{all_pick}
 use Rattle.fallible_iterator.specs.SoundHints.{Brackets, HintsAsSoundAs, SoundHints}
 use Rattle.fallible_iterator.proofs.Lemmas.Lists.ForGood.{lists_for_good_seen}
 use Rattle.fallible_iterator.proofs.Lemmas.Lists.Passing.{lists_seen}
 use Rattle.fallible_iterator.proofs.Lemmas.Hints.Drawn.{brackets_seen, brackets_zero_where_no_item, if_some_at_least_of_smaller}
-use Rattle.fallible_itertools_adapters.specs.Laws.Plan.{Always}
 use Rattle.fallible_itertools_adapters.specs.Laws.Staging.{parts_equal_where_made_equal}
 use Rattle.fallible_itertools_adapters.specs.Plan.{HintBy, none_held, passes, plan_hint, plan_meets}
 use Rattle.fallible_itertools_adapters.specs.Staged.{as_function, made_first, plan_does, staged}
 use Rattle.fallible_itertools_adapters.specs.Staging.{DrawsUpTo, EndsInStop, Made, due_total, ends_come, items_of, made_total, passes_over, stage_contract, stage_step, yields}
-use Rattle.fallible_itertools_adapters.specs.TakeWhileInclusive.{hint_of_first, inclusive_by, inclusive_contract, inclusive_hint, inclusive_parts, inclusive_plan, taken_while_inclusive}
+use Rattle.fallible_itertools_adapters.specs.TakeWhileInclusive.{inclusive_by, inclusive_contract, inclusive_hint, inclusive_parts, inclusive_plan, taken_while_inclusive}
 use Rattle.fallible_itertools_adapters.proofs.Lemmas.PlanHints.{PlanMakes, hints_as_sound_plan}
 use Rattle.fallible_itertools_adapters.proofs.Lemmas.Staged.{ends_for_good_where_ends_due, gives_plan}
 use Rattle.fallible_itertools_adapters.proofs.Lemmas.StagingHints.{DueFew, MadeFew}

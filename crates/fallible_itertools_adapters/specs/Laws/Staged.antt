@@ -1,5 +1,5 @@
 -- The runs of a stage are its traces: one law of all stages, over what the source's law says.
-use Rattle.std.specs.Prelude.{◌≡◌, List, [], ◌∷◌, map, Option, Some, None, ◌↔◌}
+use Rattle.std.specs.Prelude.{List, [], ◌∷◌, map, Option, Some, None}
 use Rattle.std.specs.List.{FoldsTo}
 use Rattle.std.proofs.Common.{refl, sym, subst}
 use Rattle.fallible_iterator.specs.Traces.{Answered, Run}
