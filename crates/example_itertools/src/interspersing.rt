@@ -1,8 +1,7 @@
 //! Callers of `intersperse` and `intersperse_with`.
 ghost use Rattle.std.specs.Prelude.{◌≡◌, ◌+◌, ◌*◌, ◌%◌, ◌^◌, Ok};
 ghost use Rattle.fallible_iterator.specs.Lists.{counted, folded, results};
-ghost use Rattle.fallible_itertools.specs.Intersperse.{interspersed};
-ghost use Rattle.fallible_itertools.specs.Parting.{interspersed_by};
+ghost use Rattle.fallible_itertools.specs.Intersperse.{interspersed, interspersed_by};
 
 use fallible_iterator::{FallibleIterator, convert};
 use fallible_itertools::FallibleItertools;

@@ -28,7 +28,6 @@ pub use Rattle.fallible_itertools_adapters.proofs.Lemmas.HoldingTraces
 pub use Rattle.fallible_itertools_adapters.proofs.Lemmas.InspectErr
 pub use Rattle.fallible_itertools_adapters.proofs.Lemmas.Interleave
 pub use Rattle.fallible_itertools_adapters.proofs.Lemmas.Intersperse
-pub use Rattle.fallible_itertools_adapters.proofs.Lemmas.IntersperseWith
 pub use Rattle.fallible_itertools_adapters.proofs.Lemmas.Lengths
 pub use Rattle.fallible_itertools_adapters.proofs.Lemmas.LoopsMade
 pub use Rattle.fallible_itertools_adapters.proofs.Lemmas.MayCome
@@ -39,12 +38,13 @@ pub use Rattle.fallible_itertools_adapters.proofs.Lemmas.MergeJoined
 pub use Rattle.fallible_itertools_adapters.proofs.Lemmas.Merged
 pub use Rattle.fallible_itertools_adapters.proofs.Lemmas.OrElse
 pub use Rattle.fallible_itertools_adapters.proofs.Lemmas.PadUsing
-pub use Rattle.fallible_itertools_adapters.proofs.Lemmas.Parting
-pub use Rattle.fallible_itertools_adapters.proofs.Lemmas.PartingHints
 pub use Rattle.fallible_itertools_adapters.proofs.Lemmas.PeekingTakeWhile
+pub use Rattle.fallible_itertools_adapters.proofs.Lemmas.Plan
+pub use Rattle.fallible_itertools_adapters.proofs.Lemmas.PlanHints
 pub use Rattle.fallible_itertools_adapters.proofs.Lemmas.Positions
 pub use Rattle.fallible_itertools_adapters.proofs.Lemmas.RunCounts
 pub use Rattle.fallible_itertools_adapters.proofs.Lemmas.Sides
+pub use Rattle.fallible_itertools_adapters.proofs.Lemmas.Staged
 pub use Rattle.fallible_itertools_adapters.proofs.Lemmas.Staging
 pub use Rattle.fallible_itertools_adapters.proofs.Lemmas.StagingHints
 pub use Rattle.fallible_itertools_adapters.proofs.Lemmas.StagingLists

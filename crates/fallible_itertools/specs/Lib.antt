@@ -25,11 +25,12 @@ pub use Rattle.fallible_itertools_adapters.specs.MergeBy
 pub use Rattle.fallible_itertools_adapters.specs.MergeJoinBy
 pub use Rattle.fallible_itertools_adapters.specs.OrElse
 pub use Rattle.fallible_itertools_adapters.specs.PadUsing
-pub use Rattle.fallible_itertools_adapters.specs.Parting
 pub use Rattle.fallible_itertools_adapters.specs.PeekingTakeWhile
+pub use Rattle.fallible_itertools_adapters.specs.Plan
 pub use Rattle.fallible_itertools_adapters.specs.Positions
 pub use Rattle.fallible_itertools_adapters.specs.RunCounts
 pub use Rattle.fallible_itertools_adapters.specs.Sides
+pub use Rattle.fallible_itertools_adapters.specs.Staged
 pub use Rattle.fallible_itertools_adapters.specs.Staging
 pub use Rattle.fallible_itertools_adapters.specs.StopAfter
 pub use Rattle.fallible_itertools_adapters.specs.TakeWhileInclusive

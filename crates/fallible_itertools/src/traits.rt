@@ -49,9 +49,8 @@ ghost use Rattle.fallible_itertools_consumers.specs.GroupMap.{GroupRefuses, IsGr
 ghost use Rattle.fallible_itertools_adapters.specs.InspectErr.{inspect_err_contract, inspect_err_parts, seen_call};
 ghost use Rattle.fallible_itertools_adapters.specs.OrElse.{or_else_contract, or_else_parts, recovered};
 ghost use Rattle.fallible_itertools_adapters.specs.Interleave as interleave;
-ghost use Rattle.fallible_itertools_adapters.specs.Intersperse.{intersperse_contract, intersperse_parts, interspersed};
+ghost use Rattle.fallible_itertools_adapters.specs.Intersperse.{intersperse_contract, intersperse_parts, interspersed, interspersed_by};
 ghost use Rattle.fallible_itertools_adapters.specs.IntersperseWith as intersperse_with;
-ghost use Rattle.fallible_itertools_adapters.specs.Parting.{interspersed_by};
 ghost use Rattle.fallible_iterator.specs.Sources.FromFn.{call_of_none};
 ghost use Rattle.fallible_itertools_consumers.specs.Join.{JoinedAs};
 ghost use Rattle.fallible_itertools_adapters.specs.Merge.{merge_contract, merge_left, merge_left_ended, merge_left_held, merge_parts, merge_right, merge_right_ended, merge_right_held, merged_in_order};
@@ -1048,17 +1047,15 @@ pub trait FallibleItertools: FallibleIterator {
         P: FnMut(&Self::Item) -> Result<bool, Self::Error>,
         requires { IsCallable (call_by_reference P.FnMut) (takes_by_reference P.FnMut)
             (Self.contract.may_give self) predicate }
-        ensures source { inclusive.inclusive_source result ≡ self }
-        ensures predicate { inclusive.inclusive_predicate result ≡ predicate }
-        ensures refused { inclusive.inclusive_refused result ≡ false }
+        ensures parts { inclusive.inclusive_parts result ≡ (self, ((tt, predicate), None)) }
         ensures lists { OverListWith (list.Acts (call_by_reference P.FnMut) predicate) Self.contract.steps
             self (λ h l. list.Lists (seen_as inclusive.inclusive_parts
-            (inclusive.inclusive_contract Self.contract P.FnMut)).steps
+            (inclusive.inclusive_contract P.FnMut Self.contract)).steps
             result (inclusive.taken_while_inclusive h l)) }
         ensures for_good { OverListWith (list.Acts (call_by_reference P.FnMut) predicate)
             Self.contract.steps self (λ h l. list.all_of h l ≡ Ok false
             → list.ListsForGood (seen_as inclusive.inclusive_parts
-            (inclusive.inclusive_contract Self.contract P.FnMut)).steps
+            (inclusive.inclusive_contract P.FnMut Self.contract)).steps
             result (inclusive.taken_while_inclusive h l)) }
     {
         TakeWhileInclusive::new(self, predicate)
@@ -2638,7 +2635,7 @@ pub trait FallibleItertools: FallibleIterator {
     where
         Self::Item: Clone + Drop,
         Self::Error: From<AllocError>,
-        ensures parts { intersperse_parts result ≡ (self, (separator, (false, None))) }
+        ensures parts { intersperse_parts result ≡ (self, ((false, separator), None)) }
         ensures lists { (l : List (Result Self.Item Self.Error))
             → list.Lists Self.contract.steps self l
             → ((copy : Self.Item) → Self.Item.is_clone separator copy → copy ≡ separator)
@@ -2690,12 +2687,12 @@ pub trait FallibleItertools: FallibleIterator {
         F: FnMut() -> Result<Self::Item, Self::Error>,
         requires callable { IsCallable (call_of_none F.FnMut) (λ g _. F.pre g) (λ _. ⊤) f }
         ensures parts { intersperse_with.intersperse_with_parts result
-            ≡ (self, (f, (false, None))) }
+            ≡ (self, ((false, f), None)) }
         ensures lists { (separator : Self.Item) → (l : List (Result Self.Item Self.Error))
             → list.Lists Self.contract.steps self l
             → list.Acts (call_of_none F.FnMut) f (λ _. Ok separator)
             → list.Lists (seen_as intersperse_with.intersperse_with_parts
-            (intersperse_with.intersperse_with_contract Self.contract F.FnMut)).steps result
+            (intersperse_with.intersperse_with_contract F.FnMut Self.contract)).steps result
             (interspersed separator l) }
         ensures shown { (shows : F → ℕ → Result Self.Item Self.Error)
             → (h : ℕ → Result Self.Item Self.Error) → (l : List (Result Self.Item Self.Error))
@@ -2703,7 +2700,7 @@ pub trait FallibleItertools: FallibleIterator {
             → intersperse_with.CallsMakeShown (call_of_none F.FnMut) shows
             → ((n : ℕ) → shows f n ≡ h n)
             → list.Lists (seen_as intersperse_with.intersperse_with_parts
-            (intersperse_with.intersperse_with_contract Self.contract F.FnMut)).steps result
+            (intersperse_with.intersperse_with_contract F.FnMut Self.contract)).steps result
             (interspersed_by h l) }
     {
         IntersperseWith::new(self, f)

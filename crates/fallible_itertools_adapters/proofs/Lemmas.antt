@@ -28,7 +28,6 @@ pub mod HoldingTraces
 pub mod InspectErr
 pub mod Interleave
 pub mod Intersperse
-pub mod IntersperseWith
 pub mod Lengths
 pub mod LoopsMade
 pub mod MayCome
@@ -39,12 +38,13 @@ pub mod MergeJoined
 pub mod Merged
 pub mod OrElse
 pub mod PadUsing
-pub mod Parting
-pub mod PartingHints
 pub mod PeekingTakeWhile
+pub mod Plan
+pub mod PlanHints
 pub mod Positions
 pub mod RunCounts
 pub mod Sides
+pub mod Staged
 pub mod Staging
 pub mod StagingHints
 pub mod StagingLists

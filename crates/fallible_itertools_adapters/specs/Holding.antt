@@ -7,7 +7,7 @@ use Rattle.fallible_iterator.specs.Closures.{IsCallable}
 use Rattle.fallible_iterator.specs.Passing.{passing_step}
 use Rattle.fallible_iterator.specs.Hints.{fitting_sum}
 use Rattle.fallible_iterator.specs.SoundHints.{HintsAsSoundAs, SoundHints}
-use Rattle.fallible_itertools_adapters.specs.Staging.{Made, stage_contract, stop_answer}
+use Rattle.fallible_itertools_adapters.specs.Staging.{Made, stage_contract, stop_answer, stop_comes}
 use Rattle.fallible_iterator.specs.Outcome.{Outcome}
 use Rattle.fallible_iterator.specs.Outcome.TheVariants.{Kept, LeftOut, Failure, End}
 
@@ -125,10 +125,6 @@ MayBeAsked m s asked = OrStop (m.may_give s) asked
 abbrev pub made_answers : {B E : Type 0} → Made B (Option E) E → List (Answered B E)
 made_answers None = []
 made_answers (Some (a, due)) = a ∷ due_answer due
-
--- the stop that is due comes
-abbrev pub stop_comes : {B E : Type 0} → Option E → Option (Answered B E)
-stop_comes stop = Some (stop_answer stop)
 
 -- What an answer of the source makes, as a stage: `DrawMade` of its answers.
 abbrev pub holding_meets : {P X B E : Type 0} → (P → Option X → Outcome B E → P → Type 0) → P → Answered X E → Made B (Option E) E → P → Type 0

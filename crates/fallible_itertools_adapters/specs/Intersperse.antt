@@ -1,72 +1,94 @@
--- `Intersperse`, which puts a clone of a separator between each two adjacent items.
-use Rattle.std.specs.Prelude.{◌≡◌, Bool, Option, Result, Ok, Err, List, [], ◌∷◌, ⊤}
-use Rattle.fallible_iterator.specs.Traces.{Answered, first_of}
+-- Adapters that put a separator before each item but the first; here `Intersperse`, whose separators are clones.
+use Rattle.std.specs.Prelude.{◌≡◌, ℕ, suc, ◌+◌, ◌-◌, ◌^◌, min, cond, ltb, Bool, true, false, Option, Some, None, Result, Ok, Err, List}
+use Rattle.fallible_iterator.specs.Traces.{Answered, item}
 use Rattle.fallible_iterator.specs.Contract.{Contract, Inverse}
+use Rattle.fallible_iterator.specs.Lists.{result_answer}
 use Rattle.fallible_iterator.specs.Refusals.{RefusedAs}
-use Rattle.fallible_itertools_adapters.specs.Parting.{PartingTrace, parting_step, parting_contract}
+use Rattle.fallible_itertools_adapters.specs.Holding.{held_one}
+use Rattle.fallible_itertools_adapters.specs.Plan.{HintPlan, Making, Plan, calls, makes, none_held, passes, plan_contract, plan_meets}
+use Rattle.fallible_itertools_adapters.specs.Staged.{plan_does, staged}
+use Rattle.fallible_itertools_adapters.specs.Staging.{StagedTrace, item_comes, made_before, one_made}
 use Rattle.std.specs.declared.alloc.AllocError.{AllocError}
 use Rattle.fallible_itertools_adapters.specs.declared.intersperse.Intersperse.{Intersperse}
 use Rattle.std.proofs.Common.{refl}
 
+-- ---- what each item makes
+
+-- the separator, or what making it failed with, and then the item is due
+abbrev pub separated_by : {A E : Type 0} → A → Result A E → Making Bool A A E
+separated_by x v = (made_before (result_answer v) x, true)
+
+-- Whether an item came is held. The first item is yielded; before each later one a separator is made.
+abbrev pub intersperse_plan : {A E : Type 0} → Bool → A → Plan (Unit {0}) (Result A E) (Making Bool A A E)
+intersperse_plan false x = makes (one_made (item x), true)
+intersperse_plan true x = calls tt (separated_by x)
+
+-- ---- its hint
+
+-- how many items have nothing before them: the first one, while none came
+abbrev pub unparted : Bool → ℕ
+unparted false = 1
+unparted true = 0
+
+-- how many items come of n items of the source: these, a separator before each but the first, and the buffered one
+abbrev pub interspersed_items : {A : Type 0} → Bool → Option A → ℕ → ℕ
+interspersed_items came due n = n + (n - unparted came) + held_one due
+
+-- a number, where it fits a `usize`
+abbrev pub fitting : ℕ → Option ℕ
+fitting n = cond (ltb n (2 ^ 64)) (Some n) None
+
+-- the upper bound, where it fits a `usize`
+abbrev pub interspersed_high : {A : Type 0} → Bool → Option A → Option ℕ → Option ℕ
+interspersed_high came due (Some high) = fitting (interspersed_items came due high)
+interspersed_high came due None = None
+
+-- How many items come of as many of the source as each bound says. The lower bound is at most `usize::MAX`; there is no upper one where it doesn't fit.
+abbrev pub intersperse_hint : {A : Type 0} → Bool → Option A → ℕ × Option ℕ → ℕ × Option ℕ
+intersperse_hint came due h = (min (interspersed_items came due h.0) (2 ^ 64 - 1), interspersed_high came due h.1)
+
+-- it is made of the source's
+abbrev pub intersperse_hints : {A : Type 0} → Bool → Option A → HintPlan
+intersperse_hints came due = calls tt (intersperse_hint came due)
+
+-- ---- `Intersperse`
+
 module _ {A E : Type 0} (is_clone : A → A → Type 0) (is_infallible : A → Type 0) (from : AllocError → E → Type 0) where
-  -- what is returned before a later item: a clone of the separator, which stays itself, or the failure converted from its `AllocError`
-  abbrev pub CloneSeparates : A → Result A E → A → Type 0
-  CloneSeparates separator (Ok copy) after = is_clone separator copy × (after ≡ separator)
-  CloneSeparates separator (Err e) after = RefusedAs is_infallible from separator e × (after ≡ separator)
+  -- a clone of the separator, which stays itself, or the failure converted from its `AllocError`
+  abbrev pub separator_cloned : A → Unit {0} → Result A E → A → Type 0
+  separator_cloned separator u (Ok copy) after = is_clone separator copy × (after ≡ separator)
+  separator_cloned separator u (Err e) after = RefusedAs is_infallible from separator e × (after ≡ separator)
 
-  -- `Intersperse`: the held item, and then the source's trace where a clone of the separator stands before each item but the first; failures and ends between two items part nothing. The parts are the source, the separator, which stays, and whether an item came beside the one that is held.
-  abbrev pub IntersperseTrace : {S : Type 0} → (S → Answered A E → S → Type 0) → S × (A × (Bool × Option A)) → List (Answered A E) → S × (A × (Bool × Option A)) → Type 0
-  IntersperseTrace steps p trace q = (q.1.0 ≡ p.1.0) × PartingTrace CloneSeparates steps p trace q
+  -- `Intersperse`: the item that is due, and then the source's trace with a clone of the separator before each item but the first; failures and ends between two items part nothing. The parts are the source, whether an item came beside the separator, and the item that is due.
+  abbrev pub IntersperseTrace : {S : Type 0} → (S → List (Answered A E) → S → Type 0) → S × ((Bool × A) × Option A) → List (Answered A E) → S × ((Bool × A) × Option A) → Type 0
+  IntersperseTrace traces p trace q = StagedTrace traces item_comes (plan_meets separator_cloned intersperse_plan passes) p trace q
 
-  -- Its definition over all that its source returns.
-  abbrev pub intersperses_all : {S : Type 0} → (S → List (Answered A E) → S → Type 0) → S × (A × (Bool × Option A)) → List (Answered A E) → S × (A × (Bool × Option A)) → Type 0
-  intersperses_all traces p trace q = (drawn : List (Answered A E)) × traces p.0 drawn q.0 × IntersperseTrace first_of (drawn, p.1) trace ([], q.1)
-
-  -- One answer: the held item without a draw, and otherwise what becomes of one answer of the source.
-  abbrev pub intersperse_step : {S : Type 0} → (S → Answered A E → S → Type 0) → S × (A × (Bool × Option A)) → Answered A E → S × (A × (Bool × Option A)) → Type 0
-  intersperse_step steps p r q = parting_step CloneSeparates steps p r q
-
--- `Intersperse`'s contract: an item of the source is two to come, and a held one is one.
-abbrev pub intersperse_contract : {S A E : Type 0} → (A → A → Type 0) → (A → Type 0) → (AllocError → E → Type 0) → Contract S A E → Contract (S × (A × (Bool × Option A))) A E
-intersperse_contract is_clone is_infallible from m = record (parting_contract (CloneSeparates is_clone is_infallible from) (λ _. ⊤) m) {
-  can_next = λ p. m.can_next p.0;
-  traces = intersperses_all is_clone is_infallible from m.traces;
-}
+  -- `Intersperse`'s contract: an item of the source is two to come.
+  abbrev pub intersperse_contract : {S : Type 0} → Contract S A E → Contract (S × ((Bool × A) × Option A)) A E
+  intersperse_contract m = plan_contract m item_comes separator_cloned intersperse_plan passes 2 none_held intersperse_hints
 
 -- the source
 abbrev pub intersperse_source : {I A E : Type 0} → Intersperse I A E → I
 intersperse_source s = s.it
 
--- the separator
-abbrev pub intersperse_separator : {I A E : Type 0} → Intersperse I A E → A
-intersperse_separator s = s.stage.0.0
-
--- whether an item came
-abbrev pub intersperse_started : {I A E : Type 0} → Intersperse I A E → Bool
-intersperse_started s = s.stage.0.1
-
--- the item that is held, if there is one
-abbrev pub intersperse_held : {I A E : Type 0} → Intersperse I A E → Option A
-intersperse_held s = s.stage.1
-
--- the source, the separator, and whether an item came beside the one that is held
-abbrev pub intersperse_parts : {I A E : Type 0} → Intersperse I A E → I × (A × (Bool × Option A))
-intersperse_parts s = (intersperse_source s, (intersperse_separator s, (intersperse_started s, intersperse_held s)))
+-- the source, whether an item came beside the separator, and the item that is due
+abbrev pub intersperse_parts : {I A E : Type 0} → Intersperse I A E → I × ((Bool × A) × Option A)
+intersperse_parts s = (intersperse_source s, s.stage)
 
 -- and back
 pub intersperse_made : {I A E : Type 0} → Inverse (intersperse_parts {I = I} {A = A} {E = E})
-intersperse_made = record { make = λ p. record { it = p.0; stage = ((p.1.0, p.1.1.0), p.1.1.1) }; made = λ s. refl; has = λ p. refl }
+intersperse_made = record { make = λ p. record { it = p.0; stage = p.1 }; made = λ s. refl; has = λ p. refl }
 
 -- ---- what it lists
 
--- a list with an item s before each item of it
-unfoldable pub each_after : {A E : Type 0} → A → List (Result A E) → List (Result A E)
-each_after s [] = []
-each_after s (Ok x ∷ l) = Ok s ∷ Ok x ∷ each_after s l
-each_after s (Err e ∷ l) = Err e ∷ each_after s l
+-- the next of the separators h 0, h 1 and so on
+abbrev pub next_separator : {A E : Type 0} → (ℕ → Result A E) → Unit {0} → Result A E × (ℕ → Result A E)
+next_separator h u = (h 0, λ n. h (suc n))
 
--- a list with an item s between each two adjacent items of it; a failure stands in its place, and parts nothing
+-- A list with a separator between each two adjacent items of it: h 0, h 1 and so on, each an item or a failure. A failure of the list stands in its place, and parts nothing.
+unfoldable pub interspersed_by : {A E : Type 0} → (ℕ → Result A E) → List (Result A E) → List (Result A E)
+interspersed_by h l = staged item_comes (plan_does next_separator intersperse_plan passes) (false, h) l
+
+-- a list with an item s between each two adjacent items of it
 unfoldable pub interspersed : {A E : Type 0} → A → List (Result A E) → List (Result A E)
-interspersed s [] = []
-interspersed s (Ok x ∷ l) = Ok x ∷ each_after s l
-interspersed s (Err e ∷ l) = Err e ∷ interspersed s l
+interspersed s l = interspersed_by (λ n. Ok s) l

@@ -25,11 +25,12 @@ pub mod MergeBy
 pub mod MergeJoinBy
 pub mod OrElse
 pub mod PadUsing
-pub mod Parting
 pub mod PeekingTakeWhile
+pub mod Plan
 pub mod Positions
 pub mod RunCounts
 pub mod Sides
+pub mod Staged
 pub mod Staging
 pub mod StopAfter
 pub mod TakeWhileInclusive

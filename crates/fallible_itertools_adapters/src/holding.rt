@@ -2,11 +2,11 @@
 ghost use Rattle.std.specs.Prelude.{◌≡◌, ℕ, if◌then◌else◌, Option, Result, Some, None, Ok, ⊤};
 ghost use Rattle.fallible_iterator.specs.Folds.{CallableDriving, Driven};
 ghost use Rattle.fallible_iterator.specs.Outcome.{Outcome};
-ghost use Rattle.fallible_itertools_adapters.specs.Holding.{AtStop, Holds, HintHeld, MadeOfStop, holding_contract, holding_meets, holding_step, made_answers, stop_comes};
-ghost use Rattle.fallible_itertools_adapters.specs.Staging.{stop_answer};
+ghost use Rattle.fallible_itertools_adapters.specs.Holding.{AtStop, Holds, HintHeld, MadeOfStop, holding_contract, holding_meets, holding_step, made_answers};
+ghost use Rattle.fallible_itertools_adapters.specs.Staging.{stop_answer, stop_comes};
 ghost use Rattle.fallible_itertools_adapters.specs.Laws.Holding.{is_stage_of_stage_asks};
 
-use crate::staging::{Made, Stage, drive_stage, one, one_then, stopped};
+use crate::staging::{AnswerAndDue, Made, Stage, Stop, drive_stage, one, one_then, stopped};
 use fallible_iterator::extending::Outcome;
 use fallible_iterator::{FallibleIterator, Turn};
 
@@ -45,7 +45,7 @@ struct HoldStage<'a, A> {
 impl<'a, P, X, E, A: Hold<P, X, E>> Stage<P, X, E> for HoldStage<'a, A> {
     type Kept = A::Kept;
 
-    type Later = Option<E>;
+    type Due = Stop<E>;
 
     ghost comes = { λ _ stop. stop_comes stop };
 
@@ -61,7 +61,7 @@ impl<'a, P, X, E, A: Hold<P, X, E>> Stage<P, X, E> for HoldStage<'a, A> {
     ghost held = { λ k p. A.held k.adapter.now p };
 
     #[inline(always)]
-    fn on_item(&self, p: &mut P, item: X) -> Made<A::Kept, Option<E>, E>
+    fn on_item(&self, p: &mut P, item: X) -> Made<A::Kept, Stop<E>, E>
         requires { A.can_ask self.now.adapter.now p.old (Some item) }
         ensures { holding_meets (A.asks self.now.adapter.now) p.old (Ok (Some item)) result p.new }
     {
@@ -74,15 +74,15 @@ impl<'a, P, X, E, A: Hold<P, X, E>> Stage<P, X, E> for HoldStage<'a, A> {
     }
 
     #[inline(always)]
-    fn on_stop(&self, p: &mut P, stop: Option<E>) -> Made<A::Kept, Option<E>, E>
+    fn on_stop(&self, p: &mut P, stop: Stop<E>) -> Made<A::Kept, Stop<E>, E>
         ensures { holding_meets (A.asks self.now.adapter.now) p.old (stop_answer stop) result p.new }
     {
         made_at_stop(stop, p, self.adapter)
     }
 
     #[inline(always)]
-    fn come(&self, later: Option<E>) -> (Result<Option<A::Kept>, E>, Option<Option<E>>) {
-        (stopped(later), None)
+    fn answer_due(&self, due: Stop<E>) -> AnswerAndDue<A::Kept, Stop<E>, E> {
+        (stopped(due), None)
     }
 
     ghost is_stage = { λ k. is_stage_of_stage_asks (A.asks k.adapter.now) (A.held k.adapter.now)
@@ -92,10 +92,10 @@ impl<'a, P, X, E, A: Hold<P, X, E>> Stage<P, X, E> for HoldStage<'a, A> {
 // What a stop makes: what is buffered, and then the stop is due; or the stop itself.
 #[inline(always)]
 fn made_at_stop<P, X, E, A: Hold<P, X, E>>(
-    stop: Option<E>,
+    stop: Stop<E>,
     holds: &mut P,
     adapter: &A,
-) -> Made<A::Kept, Option<E>, E>
+) -> Made<A::Kept, Stop<E>, E>
     ensures { MadeOfStop (A.asks adapter.now) stop holds.old (made_answers result) holds.new }
 {
     match adapter.ask(holds, None) {
@@ -116,7 +116,7 @@ pub fn drive_holding<
     K: Turn<C, A::Kept, R>,
 >(
     it: &mut I,
-    stage: &mut (P, Option<Option<I::Error>>),
+    stage: &mut (P, Option<Stop<I::Error>>),
     adapter: &A,
     state: &mut C,
     turn: &K,
@@ -134,9 +134,9 @@ where
 
 /// What one call returns at a stop: what is buffered, and then the stop is due; or the stop itself if nothing is yielded.
 pub fn at_stop<P, X, E: Drop, A: Hold<P, X, E>>(
-    stop: Option<E>,
+    stop: Stop<E>,
     holds: &mut P,
-    due: &mut Option<Option<E>>,
+    due: &mut Option<Stop<E>>,
     adapter: &A,
 ) -> Result<Option<A::Kept>, E>
 where

@@ -3,13 +3,14 @@ ghost use Rattle.std.specs.Prelude.{◌≡◌, ◌^◌, ◌-◌, min, Option, Re
 ghost use Rattle.fallible_iterator.specs.Contract.{parts_as};
 ghost use Rattle.fallible_iterator.specs.Laws.Contract.{lawful_parts};
 ghost use Rattle.fallible_iterator.specs.Lists.{result_answer};
-ghost use Rattle.fallible_itertools_adapters.specs.Intersperse.{CloneSeparates, intersperse_contract, intersperse_made, intersperse_parts};
-ghost use Rattle.fallible_itertools_adapters.specs.Laws.Intersperse.{lawful_intersperse};
-ghost use Rattle.fallible_itertools_adapters.specs.Laws.Parting.{is_stage_parting};
-ghost use Rattle.fallible_itertools_adapters.specs.Parting.{fitting, intersperse_hint, interspersed_items, item_comes, parting_on_item};
-ghost use Rattle.fallible_itertools_adapters.specs.Staging.{StopPasses, made_before};
+ghost use Rattle.fallible_itertools_adapters.specs.Intersperse.{fitting, intersperse_contract, intersperse_hint, intersperse_made, intersperse_parts, intersperse_plan, interspersed_items, separator_cloned};
+ghost use Rattle.fallible_itertools_adapters.specs.Laws.Intersperse.{is_stage_intersperse, lawful_intersperse};
+ghost use Rattle.fallible_itertools_adapters.specs.Plan.{none_held, passes, plan_item, plan_stop};
+ghost use Rattle.fallible_itertools_adapters.specs.Staging.{item_comes, made_before};
 
-use crate::staging::{Made, Stage, drive_stage, next_stage, one, one_then, stopped};
+use crate::staging::{
+    AnswerAndDue, Made, Stage, Stop, drive_stage, next_stage, one, one_then, stopped,
+};
 use fallible_iterator::{FallibleIterator, Turn};
 use std::alloc::AllocError;
 
@@ -17,19 +18,19 @@ use std::alloc::AllocError;
 #[derive(Clone, Debug, Drop)]
 pub struct Intersperse<I: FallibleIterator> {
     pub(crate) it: I,
-    // the separator and whether an item came, and the buffered item
-    pub(crate) stage: ((I::Item, bool), Option<I::Item>),
+    // whether an item came and the separator, and the buffered item
+    pub(crate) stage: ((bool, I::Item), Option<I::Item>),
 }
 
 impl<I: FallibleIterator> Intersperse<I> {
     /// Creates it. It draws nothing.
     #[inline(always)]
     pub fn new(it: I, separator: I::Item) -> Intersperse<I>
-        ensures { intersperse_parts result ≡ (it, (separator, (false, None))) }
+        ensures { intersperse_parts result ≡ (it, ((false, separator), None)) }
     {
         Intersperse {
             it,
-            stage: ((separator, false), None),
+            stage: ((false, separator), None),
         }
     }
 }
@@ -73,54 +74,57 @@ where
 #[derive(Drop)]
 struct SeparatorClone;
 
-impl<X: Clone + Drop, E: From<AllocError>> Stage<(X, bool), X, E> for SeparatorClone {
+impl<X: Clone + Drop, E: From<AllocError>> Stage<(bool, X), X, E> for SeparatorClone {
     type Kept = X;
 
-    type Later = X;
+    type Due = X;
 
     ghost comes = { λ _ x. item_comes x };
 
     ghost can_meet = { λ _ p x. ⊤ };
 
-    ghost items = { λ _ p x made q. parting_on_item
-        (CloneSeparates X.is_clone X.is_infallible E.from_gives) p x made q };
+    ghost items = { λ _ p x made q. plan_item
+        (separator_cloned X.is_clone X.is_infallible E.from_gives) intersperse_plan passes p x made q };
 
-    ghost stops = { λ _ p stop made q. StopPasses p stop made q };
+    ghost stops = { λ _ p stop made q. plan_stop
+        (separator_cloned X.is_clone X.is_infallible E.from_gives) intersperse_plan passes p stop made
+        q };
 
     ghost most = { λ _. 2 };
 
-    ghost held = { λ _ p. 0 };
+    ghost held = { λ _ p. none_held p.0 };
 
     #[inline(always)]
-    fn on_item(&self, p: &mut (X, bool), item: X) -> Made<X, X, E>
-        ensures { parting_on_item (CloneSeparates X.is_clone X.is_infallible E.from_gives) p.old item
-            result p.new }
+    fn on_item(&self, p: &mut (bool, X), item: X) -> Made<X, X, E>
+        ensures { plan_item (separator_cloned X.is_clone X.is_infallible E.from_gives) intersperse_plan
+            passes p.old item result p.new }
     {
-        if p.1 {
-            match p.0.clone() {
+        if p.0 {
+            match p.1.clone() {
                 Ok(copy) => separated(Ok(copy), item),
                 Err(refused) => separated(Err(E::from(refused)), item),
             }
         } else {
-            p.1 = true;
+            p.0 = true;
             one(Ok(Some(item)))
         }
     }
 
     #[inline(always)]
-    fn on_stop(&self, _p: &mut (X, bool), stop: Option<E>) -> Made<X, X, E>
-        ensures { StopPasses _p.old stop result _p.new }
+    fn on_stop(&self, _p: &mut (bool, X), stop: Stop<E>) -> Made<X, X, E>
+        ensures { plan_stop (separator_cloned X.is_clone X.is_infallible E.from_gives) intersperse_plan
+            passes _p.old stop result _p.new }
     {
         one(stopped(stop))
     }
 
     #[inline(always)]
-    fn come(&self, later: X) -> (Result<Option<X>, E>, Option<X>) {
-        (Ok(Some(later)), None)
+    fn answer_due(&self, due: X) -> AnswerAndDue<X, X, E> {
+        (Ok(Some(due)), None)
     }
 
-    ghost is_stage = { λ _. is_stage_parting
-        (CloneSeparates X.is_clone X.is_infallible E.from_gives) };
+    ghost is_stage = { λ _. is_stage_intersperse
+        (separator_cloned X.is_clone X.is_infallible E.from_gives) };
 }
 
 /// The separator, or what making it failed with, and then the item.
@@ -137,9 +141,9 @@ pub(crate) fn separated<X, E>(separator: Result<X, E>, item: X) -> Made<X, X, E>
 /// How many items come of as many of the source as the hint says.
 pub(crate) fn hint_parting<Z, X>(
     hint: (usize, Option<usize>),
-    stage: &((Z, bool), Option<X>),
+    stage: &((bool, Z), Option<X>),
 ) -> (usize, Option<usize>)
-    ensures { result ≡ intersperse_hint (stage.now.0.1, stage.now.1) hint }
+    ensures { result ≡ intersperse_hint stage.now.0.0 stage.now.1 hint }
 {
     let (low, high) = hint;
     (
@@ -149,10 +153,10 @@ pub(crate) fn hint_parting<Z, X>(
 }
 
 // How many items come of so many items of the source, at most `usize::MAX`.
-fn items_at_least<Z, X>(low: usize, stage: &((Z, bool), Option<X>)) -> usize
-    ensures { result ≡ min (interspersed_items (stage.now.0.1, stage.now.1) low) (2 ^ 64 - 1) }
+fn items_at_least<Z, X>(low: usize, stage: &((bool, Z), Option<X>)) -> usize
+    ensures { result ≡ min (interspersed_items stage.now.0.0 stage.now.1 low) (2 ^ 64 - 1) }
 {
-    let separators = if stage.0.1 {
+    let separators = if stage.0.0 {
         low
     } else {
         low.saturating_sub(1)
@@ -166,10 +170,10 @@ fn items_at_least<Z, X>(low: usize, stage: &((Z, bool), Option<X>)) -> usize
 }
 
 // How many items come of so many items of the source, if that fits.
-fn items_at_most<Z, X>(high: usize, stage: &((Z, bool), Option<X>)) -> Option<usize>
-    ensures { result ≡ fitting (interspersed_items (stage.now.0.1, stage.now.1) high) }
+fn items_at_most<Z, X>(high: usize, stage: &((bool, Z), Option<X>)) -> Option<usize>
+    ensures { result ≡ fitting (interspersed_items stage.now.0.0 stage.now.1 high) }
 {
-    let separators = if stage.0.1 {
+    let separators = if stage.0.0 {
         high
     } else {
         high.saturating_sub(1)

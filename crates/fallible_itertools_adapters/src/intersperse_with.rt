@@ -2,33 +2,34 @@
 ghost use Rattle.std.specs.Prelude.{Option, Result, None, false, ◌≡◌};
 ghost use Rattle.fallible_iterator.specs.Contract.{parts_as};
 ghost use Rattle.fallible_iterator.specs.Laws.Contract.{lawful_parts};
-ghost use Rattle.fallible_itertools_adapters.specs.IntersperseWith.{CallSeparates, CanCallOn, intersperse_with_contract, intersperse_with_made, intersperse_with_parts};
-ghost use Rattle.fallible_itertools_adapters.specs.Laws.IntersperseWith.{lawful_intersperse_with};
-ghost use Rattle.fallible_itertools_adapters.specs.Laws.Parting.{is_stage_parting};
-ghost use Rattle.fallible_itertools_adapters.specs.Parting.{item_comes, parting_on_item};
-ghost use Rattle.fallible_itertools_adapters.specs.Staging.{StopPasses};
+ghost use Rattle.fallible_iterator.specs.Sources.FromFn.{call_of_none};
+ghost use Rattle.fallible_itertools_adapters.specs.Intersperse.{intersperse_plan};
+ghost use Rattle.fallible_itertools_adapters.specs.IntersperseWith.{intersperse_with_contract, intersperse_with_made, intersperse_with_parts, takes_none};
+ghost use Rattle.fallible_itertools_adapters.specs.Laws.Intersperse.{is_stage_intersperse, lawful_intersperse_with};
+ghost use Rattle.fallible_itertools_adapters.specs.Plan.{none_held, passes, plan_item, plan_stop, plan_takes};
+ghost use Rattle.fallible_itertools_adapters.specs.Staging.{item_comes};
 
 use crate::intersperse::{hint_parting, separated};
-use crate::staging::{Made, Stage, drive_stage, next_stage, one, stopped};
+use crate::staging::{AnswerAndDue, Made, Stage, Stop, drive_stage, next_stage, one, stopped};
 use fallible_iterator::{FallibleIterator, Turn};
 
 /// The items of the source with what the closure returns between each two adjacent ones. An item that was drawn is buffered while the separator before it is yielded.
 #[derive(Clone, Debug, Drop)]
 pub struct IntersperseWith<I: FallibleIterator, F> {
     pub(crate) it: I,
-    // the closure and whether an item came, and the buffered item
-    pub(crate) stage: ((F, bool), Option<I::Item>),
+    // whether an item came and the closure, and the buffered item
+    pub(crate) stage: ((bool, F), Option<I::Item>),
 }
 
 impl<I: FallibleIterator, F> IntersperseWith<I, F> {
     /// Creates it. It draws nothing.
     #[inline(always)]
     pub fn new(it: I, f: F) -> IntersperseWith<I, F>
-        ensures { intersperse_with_parts result ≡ (it, (f, (false, None))) }
+        ensures { intersperse_with_parts result ≡ (it, ((false, f), None)) }
     {
         IntersperseWith {
             it,
-            stage: ((f, false), None),
+            stage: ((false, f), None),
         }
     }
 }
@@ -43,7 +44,7 @@ where
     type Error = I::Error;
 
     ghost contract = { parts_as intersperse_with_parts
-        (intersperse_with_contract I.contract F.FnMut) };
+        (intersperse_with_contract F.FnMut I.contract) };
 
     /// Yields the buffered item without a draw, and draws once if none is buffered. If what it draws is an item after the first, it calls the closure once.
     fn next(&mut self) -> Result<Option<I::Item>, I::Error> {
@@ -71,47 +72,49 @@ where
 #[derive(Drop)]
 struct SeparatorCall;
 
-impl<X, E, F: FnMut() -> Result<X, E>> Stage<(F, bool), X, E> for SeparatorCall {
+impl<X, E, F: FnMut() -> Result<X, E>> Stage<(bool, F), X, E> for SeparatorCall {
     type Kept = X;
 
-    type Later = X;
+    type Due = X;
 
     ghost comes = { λ _ x. item_comes x };
 
-    ghost can_meet = { λ _ p x. CanCallOn F.FnMut p.0 };
+    ghost can_meet = { λ _ p x. plan_takes (takes_none F.FnMut) (intersperse_plan {E = E}) p x };
 
-    ghost items = { λ _ p x made q. parting_on_item (CallSeparates F.FnMut) p x made q };
+    ghost items = { λ _ p x made q. plan_item (call_of_none F.FnMut) intersperse_plan passes p x made
+        q };
 
-    ghost stops = { λ _ p stop made q. StopPasses p stop made q };
+    ghost stops = { λ _ p stop made q. plan_stop (call_of_none F.FnMut) intersperse_plan passes p stop
+        made q };
 
     ghost most = { λ _. 2 };
 
-    ghost held = { λ _ p. 0 };
+    ghost held = { λ _ p. none_held p.0 };
 
     #[inline(always)]
-    fn on_item(&self, p: &mut (F, bool), item: X) -> Made<X, X, E>
-        requires { CanCallOn F.FnMut p.old.0 }
-        ensures { parting_on_item (CallSeparates F.FnMut) p.old item result p.new }
+    fn on_item(&self, p: &mut (bool, F), item: X) -> Made<X, X, E>
+        requires { plan_takes (takes_none F.FnMut) (intersperse_plan {E = E}) p.old item }
+        ensures { plan_item (call_of_none F.FnMut) intersperse_plan passes p.old item result p.new }
     {
-        if p.1 {
-            separated((p.0)(), item)
+        if p.0 {
+            separated((p.1)(), item)
         } else {
-            p.1 = true;
+            p.0 = true;
             one(Ok(Some(item)))
         }
     }
 
     #[inline(always)]
-    fn on_stop(&self, _p: &mut (F, bool), stop: Option<E>) -> Made<X, X, E>
-        ensures { StopPasses _p.old stop result _p.new }
+    fn on_stop(&self, _p: &mut (bool, F), stop: Stop<E>) -> Made<X, X, E>
+        ensures { plan_stop (call_of_none F.FnMut) intersperse_plan passes _p.old stop result _p.new }
     {
         one(stopped(stop))
     }
 
     #[inline(always)]
-    fn come(&self, later: X) -> (Result<Option<X>, E>, Option<X>) {
-        (Ok(Some(later)), None)
+    fn answer_due(&self, due: X) -> AnswerAndDue<X, X, E> {
+        (Ok(Some(due)), None)
     }
 
-    ghost is_stage = { λ _. is_stage_parting (CallSeparates F.FnMut) };
+    ghost is_stage = { λ _. is_stage_intersperse (call_of_none F.FnMut) };
 }

@@ -45,7 +45,9 @@ pub use holding::{
 };
 pub use interleave::{law_hints_interleave, law_interleaved};
 pub use intersperse::{law_hints_intersperse, law_hints_intersperse_with};
-pub use lengths::{law_interspersed, law_tupled, law_windowed, law_zipped_longest};
+pub use lengths::{
+    law_interspersed, law_interspersed_by, law_tupled, law_windowed, law_zipped_longest,
+};
 pub use merge::{law_hints_merge, law_merged_in_order};
 pub use merge_by::{law_hints_merge_by, law_merged};
 pub use merge_join_by::{law_hints_merge_join_by, law_merge_joined};
@@ -53,7 +55,7 @@ pub use pad_using::{law_hints_pad_using, law_padded};
 pub use peeking_take_while::{law_hints_peeking_take_while, law_rest_peeking_take_while};
 pub use positions::law_hints_positions;
 pub use stop_after::law_hints_stop_after;
-pub use take_while_inclusive::law_hints_take_while_inclusive;
+pub use take_while_inclusive::{law_hints_take_while_inclusive, law_taken_while_inclusive};
 pub use unique::{law_hints_unique, law_hints_unique_by, law_unique_by_of, law_unique_of};
 pub use zip_eq::law_hints_zip_eq;
 pub use zip_longest::law_hints_zip_longest;

@@ -10,28 +10,34 @@ use fallible_iterator::{FallibleIterator, Turn};
 use std::mem::replace;
 use std::ops::ControlFlow;
 
+/// A stop of the source: `None` is `Ok(None)`, `Some` a failure.
+pub type Stop<E> = Option<E>;
+
+/// An answer, and what is due after it.
+pub type AnswerAndDue<B, D, E> = (Result<Option<B>, E>, Option<D>);
+
 /// What an answer of the source makes: nothing, or an answer, and what is due after it.
-pub type Made<B, L, E> = Option<(Result<Option<B>, E>, Option<L>)>;
+pub type Made<B, D, E> = Option<AnswerAndDue<B, D, E>>;
 
 /// One answer.
 #[inline(always)]
-pub fn one<B, L, E>(answer: Result<Option<B>, E>) -> Made<B, L, E>
+pub fn one<B, D, E>(answer: Result<Option<B>, E>) -> Made<B, D, E>
     ensures { result ≡ one_made answer }
 {
     Some((answer, None))
 }
 
-/// One answer, after which `later` is due.
+/// One answer, after which `due` is due.
 #[inline(always)]
-pub fn one_then<B, L, E>(answer: Result<Option<B>, E>, later: L) -> Made<B, L, E>
-    ensures { result ≡ made_before answer later }
+pub fn one_then<B, D, E>(answer: Result<Option<B>, E>, due: D) -> Made<B, D, E>
+    ensures { result ≡ made_before answer due }
 {
-    Some((answer, Some(later)))
+    Some((answer, Some(due)))
 }
 
-/// A stop, `Ok(None)` or a failure, as an answer.
+/// A stop as an answer.
 #[inline(always)]
-pub fn stopped<B, E>(stop: Option<E>) -> Result<Option<B>, E>
+pub fn stopped<B, E>(stop: Stop<E>) -> Result<Option<B>, E>
     ensures { result ≡ stop_answer stop }
 {
     match stop {
@@ -46,21 +52,21 @@ pub trait Stage<P, X, E> {
     type Kept;
 
     /// What may be due after an answer.
-    type Later;
+    type Due;
 
     // What is due: an answer, or none where ends come from then on.
-    ghost comes: { Self → Self.Later → Option (Result (Option Self.Kept) E) };
+    ghost comes: { Self → Self.Due → Option (Result (Option Self.Kept) E) };
 
     // Holds of what is held and of the items on which the call may be made then.
     ghost can_meet: { Self → P → X → Type 0 };
 
     // Holds of what was held and the item, of what is made, and of what is held then.
     ghost items: { Self → P → X
-        → Option (Result (Option Self.Kept) E × Option Self.Later) → P → Type 0 };
+        → Option (Result (Option Self.Kept) E × Option Self.Due) → P → Type 0 };
 
     // The same for a stop: an end, `None`, or a failure.
     ghost stops: { Self → P → Option E
-        → Option (Result (Option Self.Kept) E × Option Self.Later) → P → Type 0 };
+        → Option (Result (Option Self.Kept) E × Option Self.Due) → P → Type 0 };
 
     // At most how many answers an item makes.
     ghost most: { Self → ℕ };
@@ -69,17 +75,17 @@ pub trait Stage<P, X, E> {
     ghost held: { Self → P → ℕ };
 
     /// What becomes of an item.
-    fn on_item(&self, p: &mut P, item: X) -> Made<Self::Kept, Self::Later, E>
+    fn on_item(&self, p: &mut P, item: X) -> Made<Self::Kept, Self::Due, E>
         requires { can_meet self.now p.old item }
         ensures { items self.now p.old item result p.new };
 
-    /// What becomes of a stop of the source: `None` is `Ok(None)`, `Some` a failure.
-    fn on_stop(&self, p: &mut P, stop: Option<E>) -> Made<Self::Kept, Self::Later, E>
+    /// What becomes of a stop of the source.
+    fn on_stop(&self, p: &mut P, stop: Stop<E>) -> Made<Self::Kept, Self::Due, E>
         ensures { stops self.now p.old stop result p.new };
 
     /// The answer that was due, and what is due after it.
-    fn come(&self, later: Self::Later) -> (Result<Option<Self::Kept>, E>, Option<Self::Later>)
-        ensures { result ≡ (due_comes (comes self.now later), due_left later (comes self.now later)) };
+    fn answer_due(&self, due: Self::Due) -> AnswerAndDue<Self::Kept, Self::Due, E>
+        ensures { result ≡ (due_comes (comes self.now due), due_left due (comes self.now due)) };
 
     // So many answers are made and held; a stop makes a stop.
     ghost is_stage: { (stage : Self)
@@ -93,7 +99,7 @@ fn made_of<P, X, E, G: Stage<P, X, E>>(
     answer: Result<Option<X>, E>,
     p: &mut P,
     stage: &G,
-) -> Made<G::Kept, G::Later, E>
+) -> Made<G::Kept, G::Due, E>
     requires { IfItem (G.can_meet stage.now p.old) answer }
     ensures { stage_meets (G.items stage.now) (G.stops stage.now) p.old answer result p.new }
 {
@@ -106,7 +112,7 @@ fn made_of<P, X, E, G: Stage<P, X, E>>(
 
 // What is due from now on, where nothing was.
 #[inline(always)]
-fn put_due<L>(due: &mut Option<L>, next: Option<L>)
+fn put_due<D>(due: &mut Option<D>, next: Option<D>)
     requires { due.old ≡ None }
     ensures { due.new ≡ next }
 {
@@ -139,18 +145,18 @@ fn tell<B, E, C, R, K: Turn<C, B, R>>(
 // The caller's turn on what is due. If it stops the fold, it says what is due then.
 #[inline(always)]
 fn tell_due<P, X, E, G: Stage<P, X, E>, C, R, K: Turn<C, G::Kept, R>>(
-    due: Option<G::Later>,
+    due: Option<G::Due>,
     adapter: &G,
     state: &mut C,
     turn: &K,
-) -> ControlFlow<(Result<Option<R>, E>, Option<G::Later>), ()>
+) -> ControlFlow<AnswerAndDue<R, G::Due, E>, ()>
     requires { DueTakes (K.turns turn.now) (G.comes adapter.now) (K.can_turn turn.now) state.old due }
     ensures { DueTold (K.turns turn.now) (G.comes adapter.now) state.old due result state.new }
 {
     match due {
         None => ControlFlow::Continue(()),
-        Some(later) => {
-            let (answer, left) = adapter.come(later);
+        Some(due) => {
+            let (answer, left) = adapter.answer_due(due);
             match (tell(answer, state, turn), left) {
                 (ControlFlow::Continue(()), None) => ControlFlow::Continue(()),
                 (ControlFlow::Continue(()), Some(_)) => unreachable!(),
@@ -163,11 +169,11 @@ fn tell_due<P, X, E, G: Stage<P, X, E>, C, R, K: Turn<C, G::Kept, R>>(
 // The caller's turn on what an answer of the source makes.
 #[inline(always)]
 fn tell_made<P, X, E, G: Stage<P, X, E>, C, R, K: Turn<C, G::Kept, R>>(
-    made: Made<G::Kept, G::Later, E>,
+    made: Made<G::Kept, G::Due, E>,
     adapter: &G,
     state: &mut C,
     turn: &K,
-) -> ControlFlow<(Result<Option<R>, E>, Option<G::Later>), ()>
+) -> ControlFlow<AnswerAndDue<R, G::Due, E>, ()>
     requires { MadeTakes (K.turns turn.now) (G.comes adapter.now) (K.can_turn turn.now) state.old made }
     ensures { MadeTold (K.turns turn.now) (G.comes adapter.now) state.old made result state.new }
 {
@@ -183,7 +189,7 @@ fn tell_made<P, X, E, G: Stage<P, X, E>, C, R, K: Turn<C, G::Kept, R>>(
 /// One answer of an adapter that makes something of each answer of its source: what is due, without a draw, or what one draw makes.
 pub fn next_stage<I: FallibleIterator, P, G: Stage<P, I::Item, I::Error>>(
     it: &mut I,
-    stage: &mut (P, Option<G::Later>),
+    stage: &mut (P, Option<G::Due>),
     adapter: &G,
 ) -> Result<Option<G::Kept>, I::Error>
 where
@@ -196,8 +202,8 @@ where
         (it.old, stage.old) result (it.new, stage.new) }
 {
     match stage.1.take() {
-        Some(later) => {
-            let (answer, left) = adapter.come(later);
+        Some(due) => {
+            let (answer, left) = adapter.answer_due(due);
             put_due(&mut stage.1, left);
             answer
         }
@@ -221,7 +227,7 @@ struct StageTurn<'a, G, K> {
 impl<'a, 'b, P, X, E, C, R, G: Stage<P, X, E>, K: Turn<C, G::Kept, R>> Turn<
     Beside<'b, C, P>,
     X,
-    (Result<Option<R>, E>, Option<G::Later>),
+    AnswerAndDue<R, G::Due, E>,
 > for StageTurn<'a, G, K> {
     ghost can_turn = { λ k b x. MetTakes (G.comes k.adapter.now)
         (stage_meets (G.items k.adapter.now) (G.stops k.adapter.now)) (K.turns k.turn.now)
@@ -237,7 +243,7 @@ impl<'a, 'b, P, X, E, C, R, G: Stage<P, X, E>, K: Turn<C, G::Kept, R>> Turn<
         &self,
         state: &mut Beside<'b, C, P>,
         item: X,
-    ) -> ControlFlow<(Result<Option<R>, E>, Option<G::Later>), ()> {
+    ) -> ControlFlow<AnswerAndDue<R, G::Due, E>, ()> {
         tell_made(
             self.adapter.on_item(state.p, item),
             self.adapter,
@@ -257,7 +263,7 @@ pub fn drive_stage<
     K: Turn<C, G::Kept, R>,
 >(
     it: &mut I,
-    stage: &mut (P, Option<G::Later>),
+    stage: &mut (P, Option<G::Due>),
     adapter: &G,
     state: &mut C,
     turn: &K,
@@ -302,7 +308,7 @@ fn drive_undue<
     adapter: &G,
     state: &mut C,
     turn: &K,
-) -> (Result<Option<R>, I::Error>, Option<G::Later>)
+) -> AnswerAndDue<R, G::Due, I::Error>
 where
     requires can_next { I.contract.can_next it.old }
     requires finite { I.contract.is_finite it.old }
@@ -338,7 +344,7 @@ fn drive_items<
     adapter: &G,
     state: &mut C,
     turn: &K,
-) -> Result<Option<(Result<Option<R>, I::Error>, Option<G::Later>)>, I::Error>
+) -> Result<Option<AnswerAndDue<R, G::Due, I::Error>>, I::Error>
 where
     requires can_next { I.contract.can_next it.old }
     requires finite { I.contract.is_finite it.old }
@@ -360,12 +366,12 @@ where
 
 // What the fold returns at a stop of its source, and what is due then.
 fn at_stop<P, X, E, G: Stage<P, X, E>, C, R, K: Turn<C, G::Kept, R>>(
-    stop: Option<E>,
+    stop: Stop<E>,
     held: &mut P,
     adapter: &G,
     state: &mut C,
     turn: &K,
-) -> (Result<Option<R>, E>, Option<G::Later>)
+) -> AnswerAndDue<R, G::Due, E>
     requires { MetTakes (G.comes adapter.now)
         (stage_meets (G.items adapter.now) (G.stops adapter.now)) (K.turns turn.now)
         (G.can_meet adapter.now) (K.can_turn turn.now) (state.old, held.old) (stop_answer stop) }

@@ -1,13 +1,16 @@
 //! The adapter that ends after the first item that a predicate rejects.
-ghost use Rattle.std.specs.Prelude.{Result, Option, false, ◌≡◌};
+ghost use Rattle.std.specs.Prelude.{Result, Option, None, ◌≡◌};
 ghost use Rattle.fallible_iterator.specs.Closures.{call_by_reference, takes_by_reference};
 ghost use Rattle.fallible_iterator.specs.Contract.{parts_as};
 ghost use Rattle.fallible_iterator.specs.Laws.Contract.{lawful_parts};
-ghost use Rattle.fallible_itertools_adapters.specs.Staging.{StopPasses, ends_come};
-ghost use Rattle.fallible_itertools_adapters.specs.TakeWhileInclusive.{inclusive_contract, inclusive_on_item, inclusive_parts};
-ghost use Rattle.fallible_itertools_adapters.specs.Laws.TakeWhileInclusive.{inclusive_parts_made, is_stage_inclusive, lawful_inclusive};
+ghost use Rattle.fallible_itertools_adapters.specs.Laws.TakeWhileInclusive.{is_stage_inclusive, lawful_inclusive};
+ghost use Rattle.fallible_itertools_adapters.specs.Plan.{none_held, passes, plan_item, plan_stop, plan_takes};
+ghost use Rattle.fallible_itertools_adapters.specs.Staging.{ends_come};
+ghost use Rattle.fallible_itertools_adapters.specs.TakeWhileInclusive.{inclusive_contract, inclusive_made, inclusive_parts, inclusive_plan};
 
-use crate::staging::{Made, Stage, drive_stage, next_stage, one, one_then, stopped};
+use crate::staging::{
+    AnswerAndDue, Made, Stage, Stop, drive_stage, next_stage, one, one_then, stopped,
+};
 use fallible_iterator::{FallibleIterator, Turn};
 
 /// What the source returns up to the first item that the predicate rejects, and that one too. Then each call returns `Ok(None)`. An item on which the predicate fails is lost, and its failure is yielded; neither it nor an `Ok(None)` of the source exhausts anything.
@@ -15,18 +18,18 @@ use fallible_iterator::{FallibleIterator, Turn};
 pub struct TakeWhileInclusive<I, P> {
     pub(crate) it: I,
     // the predicate, and once an item was rejected, ends without draws
-    pub(crate) stage: (P, Option<()>),
+    pub(crate) stage: (((), P), Option<()>),
 }
 
 impl<I, P> TakeWhileInclusive<I, P> {
     /// Creates it. It draws nothing.
     #[inline(always)]
     pub fn new(it: I, predicate: P) -> TakeWhileInclusive<I, P>
-        ensures { inclusive_parts result ≡ ((it, predicate), false) }
+        ensures { inclusive_parts result ≡ (it, ((tt, predicate), None)) }
     {
         TakeWhileInclusive {
             it,
-            stage: (predicate, None),
+            stage: (((), predicate), None),
         }
     }
 }
@@ -40,7 +43,7 @@ where
 
     type Error = I::Error;
 
-    ghost contract = { parts_as inclusive_parts (inclusive_contract I.contract P.FnMut) };
+    ghost contract = { parts_as inclusive_parts (inclusive_contract P.FnMut I.contract) };
 
     /// Draws once, and calls the predicate on an item; draws nothing once an item was rejected.
     fn next(&mut self) -> Result<Option<I::Item>, I::Error> {
@@ -65,36 +68,38 @@ where
         drive_stage(&mut self.it, &mut self.stage, &InclusiveStage, state, turn)
     }
 
-    ghost lawful = { lawful_parts inclusive_parts_made (lawful_inclusive P.FnMut I.lawful) };
+    ghost lawful = { lawful_parts inclusive_made (lawful_inclusive P.FnMut I.lawful) };
 }
 
 // Nothing is drawn after an item that the predicate rejects.
 #[derive(Drop)]
 struct InclusiveStage;
 
-impl<X: Drop, E, P: FnMut(&X) -> Result<bool, E>> Stage<P, X, E> for InclusiveStage {
+impl<X: Drop, E, P: FnMut(&X) -> Result<bool, E>> Stage<((), P), X, E> for InclusiveStage {
     type Kept = X;
 
-    type Later = ();
+    type Due = ();
 
-    ghost comes = { λ _ later. ends_come later };
+    ghost comes = { λ _ due. ends_come due };
 
-    ghost can_meet = { λ _ p x. takes_by_reference P.FnMut p x };
+    ghost can_meet = { λ _ p x. plan_takes (takes_by_reference P.FnMut) (inclusive_plan {E = E}) p x };
 
-    ghost items = { λ _ p x made q. inclusive_on_item (call_by_reference P.FnMut) p x made q };
+    ghost items = { λ _ p x made q. plan_item (call_by_reference P.FnMut) inclusive_plan passes p x
+        made q };
 
-    ghost stops = { λ _ p stop made q. StopPasses p stop made q };
+    ghost stops = { λ _ p stop made q. plan_stop (call_by_reference P.FnMut) inclusive_plan passes p
+        stop made q };
 
     ghost most = { λ _. 1 };
 
-    ghost held = { λ _ p. 0 };
+    ghost held = { λ _ p. none_held p.0 };
 
     #[inline(always)]
-    fn on_item(&self, p: &mut P, item: X) -> Made<X, (), E>
-        requires { takes_by_reference P.FnMut p.old item }
-        ensures { inclusive_on_item (call_by_reference P.FnMut) p.old item result p.new }
+    fn on_item(&self, p: &mut ((), P), item: X) -> Made<X, (), E>
+        requires { plan_takes (takes_by_reference P.FnMut) (inclusive_plan {E = E}) p.old item }
+        ensures { plan_item (call_by_reference P.FnMut) inclusive_plan passes p.old item result p.new }
     {
-        match p(&item) {
+        match (p.1)(&item) {
             Ok(true) => one(Ok(Some(item))),
             Ok(false) => one_then(Ok(Some(item)), ()),
             Err(e) => one(Err(e)),
@@ -102,15 +107,15 @@ impl<X: Drop, E, P: FnMut(&X) -> Result<bool, E>> Stage<P, X, E> for InclusiveSt
     }
 
     #[inline(always)]
-    fn on_stop(&self, _p: &mut P, stop: Option<E>) -> Made<X, (), E>
-        ensures { StopPasses _p.old stop result _p.new }
+    fn on_stop(&self, _p: &mut ((), P), stop: Stop<E>) -> Made<X, (), E>
+        ensures { plan_stop (call_by_reference P.FnMut) inclusive_plan passes _p.old stop result _p.new }
     {
         one(stopped(stop))
     }
 
     #[inline(always)]
-    fn come(&self, later: ()) -> (Result<Option<X>, E>, Option<()>) {
-        (Ok(None), Some(later))
+    fn answer_due(&self, due: ()) -> AnswerAndDue<X, (), E> {
+        (Ok(None), Some(due))
     }
 
     ghost is_stage = { λ _. is_stage_inclusive (call_by_reference P.FnMut) };

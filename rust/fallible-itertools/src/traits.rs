@@ -1182,17 +1182,15 @@ pub trait FallibleItertools: FallibleIterator + Sized {
     /// ```text
     /// requires { IsCallable (call_by_reference P.FnMut) (takes_by_reference P.FnMut)
     ///     (Self.contract.may_give self) predicate }
-    /// ensures source { inclusive.inclusive_source result ≡ self }
-    /// ensures predicate { inclusive.inclusive_predicate result ≡ predicate }
-    /// ensures refused { inclusive.inclusive_refused result ≡ false }
+    /// ensures parts { inclusive.inclusive_parts result ≡ (self, ((tt, predicate), None)) }
     /// ensures lists { OverListWith (list.Acts (call_by_reference P.FnMut) predicate) Self.contract.steps
     ///     self (λ h l. list.Lists (seen_as inclusive.inclusive_parts
-    ///     (inclusive.inclusive_contract Self.contract P.FnMut)).steps
+    ///     (inclusive.inclusive_contract P.FnMut Self.contract)).steps
     ///     result (inclusive.taken_while_inclusive h l)) }
     /// ensures for_good { OverListWith (list.Acts (call_by_reference P.FnMut) predicate)
     ///     Self.contract.steps self (λ h l. list.all_of h l ≡ Ok false
     ///     → list.ListsForGood (seen_as inclusive.inclusive_parts
-    ///     (inclusive.inclusive_contract Self.contract P.FnMut)).steps
+    ///     (inclusive.inclusive_contract P.FnMut Self.contract)).steps
     ///     result (inclusive.taken_while_inclusive h l)) }
     /// ```
     /// </details>
@@ -2994,7 +2992,7 @@ pub trait FallibleItertools: FallibleIterator + Sized {
     /// As it is proved, in [these words](crate::words):
     ///
     /// ```text
-    /// ensures parts { intersperse_parts result ≡ (self, (separator, (false, None))) }
+    /// ensures parts { intersperse_parts result ≡ (self, ((false, separator), None)) }
     /// ensures lists { (l : List (Result Self.Item Self.Error))
     ///     → list.Lists Self.contract.steps self l
     ///     → ((copy : Self.Item) → Self.Item.is_clone separator copy → copy ≡ separator)
@@ -3051,12 +3049,12 @@ pub trait FallibleItertools: FallibleIterator + Sized {
     /// ```text
     /// requires callable { IsCallable (call_of_none F.FnMut) (λ g _. F.pre g) (λ _. ⊤) f }
     /// ensures parts { intersperse_with.intersperse_with_parts result
-    ///     ≡ (self, (f, (false, None))) }
+    ///     ≡ (self, ((false, f), None)) }
     /// ensures lists { (separator : Self.Item) → (l : List (Result Self.Item Self.Error))
     ///     → list.Lists Self.contract.steps self l
     ///     → list.Acts (call_of_none F.FnMut) f (λ _. Ok separator)
     ///     → list.Lists (seen_as intersperse_with.intersperse_with_parts
-    ///     (intersperse_with.intersperse_with_contract Self.contract F.FnMut)).steps result
+    ///     (intersperse_with.intersperse_with_contract F.FnMut Self.contract)).steps result
     ///     (interspersed separator l) }
     /// ensures shown { (shows : F → ℕ → Result Self.Item Self.Error)
     ///     → (h : ℕ → Result Self.Item Self.Error) → (l : List (Result Self.Item Self.Error))
@@ -3064,7 +3062,7 @@ pub trait FallibleItertools: FallibleIterator + Sized {
     ///     → intersperse_with.CallsMakeShown (call_of_none F.FnMut) shows
     ///     → ((n : ℕ) → shows f n ≡ h n)
     ///     → list.Lists (seen_as intersperse_with.intersperse_with_parts
-    ///     (intersperse_with.intersperse_with_contract Self.contract F.FnMut)).steps result
+    ///     (intersperse_with.intersperse_with_contract F.FnMut Self.contract)).steps result
     ///     (interspersed_by h l) }
     /// ```
     /// </details>

@@ -6,10 +6,10 @@ use Rattle.fallible_iterator.specs.Traces.{Answered}
 use Rattle.fallible_iterator.specs.Closures.{Reaches, IsCallable}
 use Rattle.fallible_iterator.specs.Contract.{Contract}
 use Rattle.fallible_iterator.specs.Laws.Closures.{reaches_reflexive, reaches_by_call_first, is_callable_after}
-use Rattle.fallible_itertools_adapters.specs.Holding.{due_answer, holding_step, stop_comes, MayBeAsked, OrStop}
+use Rattle.fallible_itertools_adapters.specs.Holding.{due_answer, holding_step, MayBeAsked, OrStop}
 use Rattle.fallible_itertools_adapters.specs.Laws.Holding.{invariant_holds_after_met, holding_meets_of_stage_asks, stage_asks}
 use Rattle.fallible_itertools_adapters.specs.Laws.HoldingTraces.{due_is_known_by_answer, first_made, step_with_left_out_before}
-use Rattle.fallible_itertools_adapters.specs.Staging.{DrawsUpTo, MayMeet, TakesAll, passes_over, stage_step, yields}
+use Rattle.fallible_itertools_adapters.specs.Staging.{DrawsUpTo, MayMeet, TakesAll, passes_over, stage_step, yields, stop_comes}
 use Rattle.fallible_itertools_adapters.specs.Laws.Staging.{takes_where_reached}
 use Rattle.fallible_iterator.specs.Outcome.{Outcome}
 

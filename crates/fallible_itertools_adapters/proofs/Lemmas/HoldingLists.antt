@@ -4,11 +4,12 @@ use Rattle.std.proofs.Common.{refl, sym, ap, subst, inl, inr, ◌∙◌}
 use Rattle.fallible_iterator.specs.Traces.{Answered, item, failure}
 use Rattle.fallible_iterator.specs.Lists.{AlwaysGives, result_answer}
 use Rattle.fallible_iterator.specs.Making.{AtRefusal, GivesMade, IsRefusal}
-use Rattle.fallible_itertools_adapters.specs.Staging.{Made, made_before, one_made, stage_step, stop_answer}
-use Rattle.fallible_itertools_adapters.specs.Holding.{MadeOfItem, MadeOfStop, StopMade, holding_meets, holding_step, made_answers, stop_comes}
+use Rattle.fallible_itertools_adapters.specs.Staged.{made_first, staged}
+use Rattle.fallible_itertools_adapters.specs.Staging.{Made, made_before, one_made, stage_step, stop_answer, stop_comes}
+use Rattle.fallible_itertools_adapters.specs.Holding.{MadeOfItem, MadeOfStop, StopMade, holding_meets, holding_step, made_answers}
 use Rattle.fallible_itertools_adapters.specs.Laws.Holding.{made_is_known_by_answers, made_is_none_where_no_answers}
 use Rattle.fallible_itertools_adapters.specs.Laws.HoldingTraces.{stage_step_of_holding_step}
-use Rattle.fallible_itertools_adapters.proofs.Lemmas.StagingLists.{EndMade, GivesUpTo, IsAnswerMade, IsMadeAs, RefusedAt, always_gives_within, gives_made_within, gives_staged_up_to_refusal, made_first, staged}
+use Rattle.fallible_itertools_adapters.proofs.Lemmas.StagingLists.{EndMade, GivesUpTo, IsAnswerMade, IsMadeAs, RefusedAt, always_gives_within, gives_made_within, gives_staged_up_to_refusal}
 use Rattle.std.specs.declared.alloc.AllocError.{AllocError}
 use Rattle.fallible_iterator.specs.Outcome.{Outcome}
 use Rattle.fallible_iterator.specs.Outcome.TheVariants.{Kept, LeftOut, Failure, End}

@@ -1,52 +1,192 @@
--- What `Intersperse` lists, where a clone of the separator equals it and never fails; and until one fails.
-use Rattle.std.specs.Prelude.{◌≡◌, ℕ, suc, ◌⊎◌, false, None, Result, Ok, Err, List, [], ◌∷◌}
-use Rattle.std.proofs.Common.{refl, sym, ap, subst, inl, inr, ◌∙◌}
+-- What `Intersperse` and `IntersperseWith` list, and their hint.
+use Rattle.std.specs.Prelude.{◌≡◌, ℕ, suc, ◌+◌, ◌-◌, ◌^◌, ◌≤◌, ◌⊎◌, min, cond, ltb, Bool, true, false, Option, Some, None, Result, Ok, Err, IfSome, List, [], ◌∷◌, drop}
+use Rattle.std.specs.Fn.{Mut}
+use Rattle.std.proofs.Common.{refl, sym, ap, subst, inl, inr, arith, ◌∙◌}
+use Rattle.fallible_iterator.specs.Traces.{Answered}
 use Rattle.fallible_iterator.specs.Contract.{Contract, parts_as}
-use Rattle.fallible_iterator.specs.Lists.{Lists, result_answer}
+use Rattle.fallible_iterator.specs.Lists.{Acts, Lists, result_answer}
 use Rattle.fallible_iterator.specs.Refusing.{AnswersRefusal, IsMadeOf, ListsUntilRefused}
+use Rattle.fallible_iterator.specs.SoundHints.{HintsAsSoundAs}
+use Rattle.fallible_iterator.specs.Sources.FromFn.{call_of_none}
 use Rattle.fallible_iterator.proofs.Lemmas.Lists.Passing.{lists_seen}
 use Rattle.fallible_iterator.proofs.Lemmas.Refusing.{lists_until_refused_seen}
-use Rattle.fallible_itertools_adapters.specs.Parting.{each_after_made, interspersed_by}
-use Rattle.fallible_itertools_adapters.specs.Intersperse.{CloneSeparates, intersperse_contract, intersperse_parts, each_after, interspersed}
-use Rattle.fallible_itertools_adapters.proofs.Lemmas.Parting.{always_gives_interspersed_by, gives_interspersed_by_until_refused}
+use Rattle.fallible_itertools_adapters.specs.Intersperse.{fitting, intersperse_contract, intersperse_hints, intersperse_parts, intersperse_plan, interspersed, interspersed_by, interspersed_high, interspersed_items, next_separator, separated_by, separator_cloned, unparted}
+use Rattle.fallible_itertools_adapters.specs.IntersperseWith.{CallsMakeShown, intersperse_with_contract, intersperse_with_parts}
+use Rattle.fallible_itertools_adapters.specs.Laws.Plan.{Always}
+use Rattle.fallible_itertools_adapters.specs.Plan.{none_held, passes, plan_hint, plan_meets}
+use Rattle.fallible_itertools_adapters.specs.Staged.{before_rest, plan_does, staged}
+use Rattle.fallible_itertools_adapters.specs.Staging.{EndsInStop, due_total, item_comes, items_of, made_total, stage_contract}
+use Rattle.fallible_itertools_adapters.proofs.Lemmas.PlanHints.{PlanMakes, hints_as_sound_plan}
+use Rattle.fallible_itertools_adapters.proofs.Lemmas.Staged.{MakesSame, gives_plan, gives_plan_until_refused}
+use Rattle.fallible_itertools_adapters.proofs.Lemmas.StagingHints.{DueFew, MadeFew}
+use Rattle.fallible_itertools_adapters.proofs.Lemmas.StagingLists.{IsAnswerMade}
 use Rattle.std.specs.declared.alloc.AllocError.{AllocError}
 use Rattle.fallible_itertools_adapters.specs.declared.intersperse.Intersperse.{Intersperse}
+use Rattle.fallible_itertools_adapters.specs.declared.intersperse_with.IntersperseWith.{IntersperseWith}
 
--- where each separator is the same, the list is that of one
-each_after_made_by_constant_is_each_after : {A E : Type 0} (s : A) (l : List (Result A E)) → each_after_made (λ n. Ok s) l ≡ each_after s l
-unfolding each_after_made each_after
-each_after_made_by_constant_is_each_after s [] = refl
-each_after_made_by_constant_is_each_after s (Ok x ∷ l) = ap (λ k. Ok s ∷ Ok x ∷ k) (each_after_made_by_constant_is_each_after s l)
-each_after_made_by_constant_is_each_after s (Err e ∷ l) = ap (λ k. Err e ∷ k) (each_after_made_by_constant_is_each_after s l)
+module _ {A E : Type 0} where
+  pub before_rest_of_result_is_cons : (v : Result A E) (rest : List (Result A E)) → before_rest (result_answer v) rest ≡ v ∷ rest
+  before_rest_of_result_is_cons (Ok x) rest = refl
+  before_rest_of_result_is_cons (Err e) rest = refl
 
-pub interspersed_by_constant_is_interspersed : {A E : Type 0} (s : A) (l : List (Result A E)) → interspersed_by (λ n. Ok s) l ≡ interspersed s l
-unfolding interspersed_by interspersed
-interspersed_by_constant_is_interspersed s [] = refl
-interspersed_by_constant_is_interspersed s (Ok x ∷ l) = ap (λ k. Ok x ∷ k) (each_after_made_by_constant_is_each_after s l)
-interspersed_by_constant_is_interspersed s (Err e ∷ l) = ap (λ k. Err e ∷ k) (interspersed_by_constant_is_interspersed s l)
+  -- a list over an item or a failure isn't empty
+  interspersed_is_never_nil : (came : Bool) (h : ℕ → Result A E) (y : Result A E) (l : List (Result A E)) → staged item_comes (plan_does next_separator intersperse_plan passes) (came, h) (y ∷ l) ≡ [] → ⊥
+  interspersed_is_never_nil false h (Ok x) l is = cc
+  interspersed_is_never_nil true h (Ok x) l is = let k = sym (before_rest_of_result_is_cons (h 0) _) ∙ is in cc
+  interspersed_is_never_nil came h (Err e) l is = cc
+
+  -- ---- its equations
+
+  pub interspersed_by_of_two : (h : ℕ → Result A E) (x y : A) (l : List (Result A E)) → interspersed_by h (Ok x ∷ Ok y ∷ l) ≡ Ok x ∷ h 0 ∷ interspersed_by (λ n. h (suc n)) (Ok y ∷ l)
+  unfolding interspersed_by
+  interspersed_by_of_two h x y l = ap (λ k. Ok x ∷ k) (before_rest_of_result_is_cons (h 0) _)
+
+  pub interspersed_by_past_failure : (h : ℕ → Result A E) (x : A) (e : E) (l : List (Result A E)) → interspersed_by h (Ok x ∷ Err e ∷ l) ≡ Ok x ∷ Err e ∷ drop 1 (interspersed_by h (Ok x ∷ l))
+  unfolding interspersed_by
+  interspersed_by_past_failure h x e l = refl
+
+  pub interspersed_by_of_one : (h : ℕ → Result A E) (x : A) → interspersed_by h (Ok x ∷ []) ≡ Ok x ∷ []
+  unfolding interspersed_by
+  interspersed_by_of_one h x = refl
+
+  pub interspersed_by_of_failure : (h : ℕ → Result A E) (e : E) (l : List (Result A E)) → interspersed_by h (Err e ∷ l) ≡ Err e ∷ interspersed_by h l
+  unfolding interspersed_by
+  interspersed_by_of_failure h e l = refl
+
+  pub interspersed_by_of_none : (h : ℕ → Result A E) → interspersed_by h [] ≡ []
+  unfolding interspersed_by
+  interspersed_by_of_none h = refl
+
+  pub interspersed_is_by_constant : (s : A) (l : List (Result A E)) → interspersed s l ≡ interspersed_by (λ n. Ok s) l
+  unfolding interspersed
+  interspersed_is_by_constant s l = refl
+
+-- ---- `Intersperse`
 
 -- y is the separator z, and each one made from it is z
 abbrev AtSeparator : {A E : Type 0} → A → A → (ℕ → Result A E) → Type 0
 AtSeparator z y h = (y ≡ z) × (h ≡ (λ n. Ok z))
 
 module _ {A E : Type 0} (is_clone : A → A → Type 0) (is_infallible : A → Type 0) (from : AllocError → E → Type 0) where
+  abbrev Clones : A → Unit {0} → Result A E → A → Type 0
+  Clones = separator_cloned is_clone is_infallible from
+
   module _ (z : A) (equal : (copy : A) → is_clone z copy → copy ≡ z) (infallible : is_infallible z) where
-    separator_answer_is_item : (v : Result A E) (y : A) → CloneSeparates is_clone is_infallible from z v y → (v ≡ Ok z) × (y ≡ z)
+    separator_answer_is_item : (v : Result A E) (y : A) → Clones z tt v y → (v ≡ Ok z) × (y ≡ z)
     separator_answer_is_item (Ok copy) y w = (ap (λ a. Ok a) (equal copy w.0), w.1)
     separator_answer_is_item (Err e) y w = absurd (w.0.0 infallible)
 
-    separator_is_next_of_clones : (x : A) (h : ℕ → Result A E) (v : Result A E) (y : A) → AtSeparator z x h → CloneSeparates is_clone is_infallible from x v y → (v ≡ h 0) × AtSeparator z y (λ n. h (suc n))
-    separator_is_next_of_clones x h v y is w = let d = separator_answer_is_item v y (subst (λ (a : A). CloneSeparates is_clone is_infallible from a v y) is.0 w) in (d.0 ∙ sym (ap (λ k. k 0) is.1), (d.1, ap (λ k. λ n. k (suc n)) is.1))
+    separator_is_next_of_clones : (x : A) (h : ℕ → Result A E) (u : Unit {0}) (v : Result A E) (y : A) → AtSeparator z x h → Clones x u v y → (v ≡ (next_separator h u).0) × AtSeparator z y (next_separator h u).1
+    separator_is_next_of_clones x h u v y is w = let d = separator_answer_is_item v y (subst (λ (a : A). Clones a u v y) is.0 w) in (d.0 ∙ sym (ap (λ k. k 0) is.1), (d.1, ap (λ k. λ n. k (suc n)) is.1))
 
-  pub lists_interspersed : {S : Type 0} {it : S} (z : A) → ((copy : A) → is_clone z copy → copy ≡ z) → is_infallible z → (m : Contract S A E) (s : Intersperse S A E) (l : List (Result A E)) → intersperse_parts s ≡ (it, (z, (false, None))) → Lists m.steps it l → Lists (parts_as intersperse_parts (intersperse_contract is_clone is_infallible from m)).steps s (interspersed z l)
-  lists_interspersed {it = it} z equal infallible m s l parts i = lists_seen intersperse_parts (intersperse_contract is_clone is_infallible from m).steps s parts (interspersed_by_constant_is_interspersed z l) (always_gives_interspersed_by (CloneSeparates is_clone is_infallible from) (AtSeparator z) (separator_is_next_of_clones z equal infallible) m.steps l it z (λ n. Ok z) (refl, refl) i.runs)
+  pub lists_interspersed : {S : Type 0} {it : S} (z : A) → ((copy : A) → is_clone z copy → copy ≡ z) → is_infallible z → (m : Contract S A E) (s : Intersperse S A E) (l : List (Result A E)) → intersperse_parts s ≡ (it, ((false, z), None)) → Lists m.steps it l → Lists (parts_as intersperse_parts (intersperse_contract is_clone is_infallible from m)).steps s (interspersed z l)
+  unfolding interspersed interspersed_by
+  lists_interspersed {it = it} z equal infallible m s l parts i = lists_seen intersperse_parts (intersperse_contract is_clone is_infallible from m).steps s parts refl (gives_plan m.steps item_comes Clones intersperse_plan passes next_separator (AtSeparator z) (separator_is_next_of_clones z equal infallible) (λ came. inl refl) l it false z (λ n. Ok z) (refl, refl) i.runs)
 
   -- ---- where a clone may fail
 
-  clone_or_refusal : (z x : A) (h : ℕ → Result A E) (v : Result A E) (y : A) → AtSeparator z x h → CloneSeparates is_clone is_infallible from x v y → AnswersRefusal {B = A} from (result_answer v) ⊎ (IsMadeOf is_clone (h 0) (result_answer v) × AtSeparator z y (λ n. h (suc n)))
-  clone_or_refusal z x h (Ok copy) y is w = inr (rw is.1 (rw (sym is.0) w.0), (w.1 ∙ is.0, ap (λ k. λ n. k (suc n)) is.1))
-  clone_or_refusal z x h (Err e) y is w = inl (e, refl, w.0.1)
+  -- v may stand for w; v is an allocation failure
+  abbrev SameOf : Result A E → Result A E → Type 0
+  SameOf w v = IsMadeOf is_clone w (result_answer v)
 
-  pub lists_interspersed_until_refused : {S : Type 0} {it : S} (z : A) → ((x : A) → is_clone x x) → (m : Contract S A E) (s : Intersperse S A E) (l : List (Result A E)) → intersperse_parts s ≡ (it, (z, (false, None))) → Lists m.steps it l → ListsUntilRefused is_clone (parts_as intersperse_parts (intersperse_contract is_clone is_infallible from m)).steps from s (interspersed z l)
-  lists_interspersed_until_refused {it = it} z itself m s l parts i = lists_until_refused_seen is_clone from intersperse_parts (intersperse_contract is_clone is_infallible from m).steps s parts (interspersed_by_constant_is_interspersed z l)
-      (gives_interspersed_by_until_refused (CloneSeparates is_clone is_infallible from) (AtSeparator z) is_clone itself from (clone_or_refusal z) m.steps l it z (λ n. Ok z) (refl, refl) i.runs)
+  abbrev RefusedClone : Result A E → Type 0
+  RefusedClone v = AnswersRefusal {B = A} from (result_answer v)
+
+  clone_or_refusal : (z x : A) (h : ℕ → Result A E) (u : Unit {0}) (v : Result A E) (y : A) → AtSeparator z x h → Clones x u v y → RefusedClone v ⊎ (SameOf (next_separator h u).0 v × AtSeparator z y (next_separator h u).1)
+  clone_or_refusal z x h u (Ok copy) y is w = inr (rw is.1 (rw (sym is.0) w.0), (w.1 ∙ is.0, ap (λ k. λ n. k (suc n)) is.1))
+  clone_or_refusal z x h u (Err e) y is w = inl (e, refl, w.0.1)
+
+  answer_made_of_result : (w : Result A E) (r : Answered A E) → IsMadeOf is_clone w r → IsAnswerMade is_clone (result_answer w) r
+  answer_made_of_result (Ok x) r m = m
+  answer_made_of_result (Err e) r m = m
+
+  module _ {S : Type 0} (steps : S → Answered A E → S → Type 0) (itself : (x : A) → is_clone x x) (z : A) where
+    clones_make_same : (came : Bool) (x : A) → MakesSame steps item_comes Clones intersperse_plan passes next_separator is_clone itself from (AtSeparator z) SameOf RefusedClone (clone_or_refusal z) (intersperse_plan came x)
+    clones_make_same false x = tt
+    clones_make_same true x = ((λ v q. q), (λ w v same. ((answer_made_of_result w (result_answer v) same, refl), refl)))
+
+  pub lists_interspersed_until_refused : {S : Type 0} {it : S} (z : A) → ((x : A) → is_clone x x) → (m : Contract S A E) (s : Intersperse S A E) (l : List (Result A E)) → intersperse_parts s ≡ (it, ((false, z), None)) → Lists m.steps it l → ListsUntilRefused is_clone (parts_as intersperse_parts (intersperse_contract is_clone is_infallible from m)).steps from s (interspersed z l)
+  unfolding interspersed interspersed_by
+  lists_interspersed_until_refused {it = it} z itself m s l parts i = lists_until_refused_seen is_clone from intersperse_parts (intersperse_contract is_clone is_infallible from m).steps s parts refl
+      (gives_plan_until_refused m.steps item_comes Clones intersperse_plan passes next_separator is_clone itself from (AtSeparator z) SameOf RefusedClone (clone_or_refusal z) (clones_make_same m.steps itself z) (λ came. inl refl) (λ came h y k r no. interspersed_is_never_nil came h y k) l it false z (λ n. Ok z) (refl, refl) i.runs)
+
+-- ---- `IntersperseWith`
+
+module _ {S F A E : Type 0} (m : Contract S A E) (g : Mut F (Unit {0}) (Result A E)) (s : IntersperseWith S F A E) {it : S} (f : F) (l : List (Result A E)) (parts : intersperse_with_parts s ≡ (it, ((false, f), None))) (i : Lists m.steps it l) where
+  module _ (At : F → (ℕ → Result A E) → Type 0) (does : (p : F) (h : ℕ → Result A E) (u : Unit {0}) (v : Result A E) (q : F) → At p h → call_of_none g p u v q → (v ≡ (next_separator h u).0) × At q (next_separator h u).1) where
+    lists_interspersed_by : (h : ℕ → Result A E) → At f h → Lists (parts_as intersperse_with_parts (intersperse_with_contract g m)).steps s (interspersed_by h l)
+    unfolding interspersed_by
+    lists_interspersed_by h at = lists_seen intersperse_with_parts (intersperse_with_contract g m).steps s parts refl (gives_plan m.steps item_comes (call_of_none g) intersperse_plan passes next_separator At does (λ came. inl refl) l it false f h at i.runs)
+
+  -- what the closure's state shows
+  pub lists_interspersed_shown : (shows : F → ℕ → Result A E) → CallsMakeShown (call_of_none g) shows → (h : ℕ → Result A E) → ((n : ℕ) → shows f n ≡ h n) → Lists (parts_as intersperse_with_parts (intersperse_with_contract g m)).steps s (interspersed_by h l)
+  lists_interspersed_shown shows shown h at = lists_interspersed_by (λ p k. (n : ℕ) → shows p n ≡ k n) (λ p k u v q is called. let d = shown p v q called in (d.0 ∙ is 0, λ n. d.1 n ∙ is (suc n))) h at
+
+  -- where the closure is as it was, and returns z
+  pub lists_interspersed_same : (z : A) → Acts (call_of_none g) f (λ _. Ok z) → Lists (parts_as intersperse_with_parts (intersperse_with_contract g m)).steps s (interspersed z l)
+  unfolding interspersed
+  lists_interspersed_same z acts = lists_interspersed_by (λ p k. (p ≡ f) × (k ≡ (λ n. Ok z))) (λ p k u v q is called. let d = acts u v q (subst (λ (c : F). call_of_none g c u v q) is.0 called) in (d.1 ∙ sym (ap (λ k. k 0) is.1), (d.0, ap (λ k. λ n. k (suc n)) is.1))) (λ n. Ok z) (refl, refl)
+
+-- ---- the hint
+
+-- more items come of more
+interspersed_items_grow : {A : Type 0} (came : Bool) (due : Option A) (i j : ℕ) → i ≤ j → interspersed_items came due i ≤ interspersed_items came due j
+interspersed_items_grow came due i j le = omega (arith, le)
+
+-- what fits is itself
+fitting_above : (n i : ℕ) → i ≤ n → IfSome (fitting n) (λ m. i ≤ m)
+fitting_above n i le = cond_some_above (ltb n (2 ^ 64))
+  where
+    cond_some_above : (b : Bool) → IfSome (cond b (Some n) None) (λ m. i ≤ m)
+    cond_some_above true = le
+    cond_some_above false = tt
+
+-- how many items come of n items of the source, where none is due
+abbrev all_parted : Bool → ℕ → ℕ
+all_parted came n = n + (n - unparted came)
+
+module _ (A E : Type 0) where
+  separated_few : (x : A) (v : Result A E) (low : ℕ) → MadeFew item_comes (separated_by x v).0 (λ n. (low - 1) + ((low - 1) - 0) ≤ n) (λ n. low + (low - 0) ≤ n)
+  separated_few x (Ok s) low = λ n after. omega (arith, after)
+  separated_few x (Err e) low = tt
+
+  separated_at_most : (x : A) (v : Result A E) (n : ℕ) → made_total item_comes items_of (separated_by x v).0 + (n + (n - 0)) ≤ suc n + (suc n - 0)
+  separated_at_most x (Ok s) n = omega arith
+  separated_at_most x (Err e) n = omega arith
+
+  intersperse_at_most : (came : Bool) (x : A) (n : ℕ) → Always (λ t. made_total {E = E} item_comes items_of t.0 + all_parted t.1 n ≤ all_parted came (suc n)) (intersperse_plan came x)
+  intersperse_at_most false x n = omega arith
+  intersperse_at_most true x n = λ v. separated_at_most x v n
+
+  intersperse_no_fewer : (came : Bool) (x : A) (low : ℕ) → Always (λ t. MadeFew {E = E} item_comes t.0 (λ n. all_parted t.1 (low - 1) ≤ n) (λ n. all_parted came low ≤ n)) (intersperse_plan came x)
+  intersperse_no_fewer false x low = λ n after. omega (arith, after)
+  intersperse_no_fewer true x low = λ v. separated_few x v low
+
+  stop_at_most : (came : Bool) (stop : Option E) → (made_total item_comes items_of (passes {B = A} came stop).0 ≤ all_parted came 0) × EndsInStop item_comes (passes {B = A} came stop).0
+  stop_at_most came None = (omega arith, tt)
+  stop_at_most came (Some e) = (omega arith, tt)
+
+  module _ {F : Type 0} (call : F → Unit {0} → Result A E → F → Type 0) where
+    intersperse_makes : PlanMakes item_comes call intersperse_plan passes all_parted (λ came low n. all_parted came low ≤ n)
+    intersperse_makes = record {
+      at_most = intersperse_at_most;
+      at_most_at_stop = stop_at_most;
+      no_fewer = intersperse_no_fewer;
+      no_fewer_at_end = λ came. omega arith;
+      no_fewer_at_failure = λ came e low. tt;
+    }
+
+    due_total_above : (came : Bool) (due : Option A) (j : ℕ) → due_total {E = E} item_comes items_of due + all_parted came j ≤ interspersed_items came due j
+    due_total_above came None j = omega arith
+    due_total_above came (Some x) j = omega arith
+
+    interspersed_high_above : (came : Bool) (due : Option A) (o : Option ℕ) (j : ℕ) → IfSome o (λ n. j ≤ n) → IfSome (interspersed_high came due o) (λ n. due_total {E = E} item_comes items_of due + all_parted came j ≤ n)
+    interspersed_high_above came due None j h = tt
+    interspersed_high_above came due (Some n) j h = fitting_above (interspersed_items came due n) _ (let more = interspersed_items_grow came due j n h in let le = due_total_above came due j in omega (arith, le, more))
+
+    interspersed_low_below : (came : Bool) (due : Option A) (low : ℕ) → DueFew {E = E} item_comes due (λ n. all_parted came low ≤ n) (λ n. min (interspersed_items came due low) (2 ^ 64 - 1) ≤ n)
+    interspersed_low_below came None low = λ n after. omega (arith, after)
+    interspersed_low_below came (Some x) low = λ n after. omega (arith, after)
+
+    pub hints_as_sound_interspersed : {V S : Type 0} (view : V → S × ((Bool × F) × Option A)) (m : Contract S A E) (can : (Answered A E → Type 0) → Bool × F → Type 0) (s : V) → HintsAsSoundAs (parts_as view (stage_contract m item_comes (plan_meets call intersperse_plan passes) can 2 (λ p. none_held p.0) (plan_hint m intersperse_hints))) s m (view s).0
+    hints_as_sound_interspersed view m can s = hints_as_sound_plan item_comes call intersperse_plan passes all_parted (λ came low n. all_parted came low ≤ n) intersperse_makes (λ came due n. min (interspersed_items came due n) (2 ^ 64 - 1)) interspersed_high interspersed_high_above interspersed_low_below view m can 2 (λ p. none_held p.0) intersperse_hints s refl

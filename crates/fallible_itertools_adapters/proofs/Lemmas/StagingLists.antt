@@ -5,25 +5,11 @@ use Rattle.fallible_iterator.specs.Traces.{Answered, end}
 use Rattle.fallible_iterator.specs.Lists.{AlwaysGives, result_answer}
 use Rattle.fallible_iterator.specs.Making.{AtRefusal, GivesMade, IsMadeOf}
 use Rattle.fallible_iterator.specs.Refusing.{AnswersRefusal, GivesUntilRefused}
+use Rattle.fallible_itertools_adapters.specs.Staged.{before_rest, due_first, made_first, staged}
 use Rattle.fallible_itertools_adapters.specs.Staging.{DrawsUpTo, Made, due_comes, due_left, passes_over, stage_step, yields}
 use Rattle.std.specs.declared.alloc.AllocError.{AllocError}
 
--- an answer before a list; nothing comes after an end
-abbrev pub before_rest : {Y E : Type 0} → Answered Y E → List (Result Y E) → List (Result Y E)
-before_rest (Ok (Some y)) rest = Ok y ∷ rest
-before_rest (Ok None) rest = []
-before_rest (Err e) rest = Err e ∷ rest
-
 module _ {L Y E : Type 0} (comes : L → Option (Answered Y E)) where
-  -- what is due before a list, and what is made
-  abbrev pub due_first : Option L → List (Result Y E) → List (Result Y E)
-  due_first None rest = rest
-  due_first (Some later) rest = before_rest (due_comes (comes later)) rest
-
-  abbrev pub made_first : Made Y L E → List (Result Y E) → List (Result Y E)
-  made_first None rest = rest
-  made_first (Some (a, due)) rest = before_rest a (due_first due rest)
-
   -- an end is due; one is made
   abbrev EndDue : Option L → Type 0
   EndDue None = ⊥
@@ -32,11 +18,6 @@ module _ {L Y E : Type 0} (comes : L → Option (Answered Y E)) where
   abbrev pub EndMade : Made Y L E → Type 0
   EndMade None = ⊥
   EndMade (Some (a, due)) = (a ≡ end) ⊎ EndDue due
-
-  -- The list of a stage that holds a: of the answer x it makes (does a x).0, and holds (does a x).1 then.
-  abbrev pub staged : {Q X : Type 0} → (Q → Answered X E → Made Y L E × Q) → Q → List (Result X E) → List (Result Y E)
-  staged does a [] = made_first (does a end).0 []
-  staged does a (y ∷ l) = made_first (does a (result_answer y)).0 (staged does (does a (result_answer y)).1 l)
 
 module _ {Y B E : Type 0} (made : Y → B → Type 0) where
   -- the answer is the given one, with a value that is made of the given one; and the same of what is made

@@ -5,10 +5,10 @@ use Rattle.fallible_iterator.specs.Traces.{Answered, item, failure}
 use Rattle.fallible_iterator.specs.Contract.{Contract, KeptByDraw, Lawful}
 use Rattle.fallible_iterator.specs.Closures.{Reaches, IsCallable}
 use Rattle.fallible_iterator.specs.Laws.Closures.{reaches_reflexive, reaches_by_call_first, is_callable_after}
-use Rattle.fallible_itertools_adapters.specs.Staging.{Made, IsStage, IsStop, MayMeet, Weighs, due_total, items_of, stays_of, stage_contract, stage_meets, stop_answer}
+use Rattle.fallible_itertools_adapters.specs.Staging.{Made, IsStage, IsStop, MayMeet, Weighs, due_total, items_of, stays_of, stage_contract, stage_meets, stop_answer, stop_comes}
 use Rattle.fallible_itertools_adapters.specs.Laws.HoldingTraces.{due_is_known_by_answer, holding_traced, stage_step_of_holding_step}
 use Rattle.fallible_itertools_adapters.specs.Laws.Staging.{kept_where_reached, lawful_stage, made_equal_where_parts_equal}
-use Rattle.fallible_itertools_adapters.specs.Holding.{StopMade, MadeOfItem, HeldAfter, Holds, OrStop, due_answer, made_answers, stop_comes, holding_meets, filling_contract, holding_contract}
+use Rattle.fallible_itertools_adapters.specs.Holding.{StopMade, MadeOfItem, HeldAfter, Holds, OrStop, due_answer, made_answers, holding_meets, filling_contract, holding_contract}
 use Rattle.fallible_iterator.specs.Outcome.{Outcome}
 use Rattle.fallible_iterator.specs.Outcome.TheVariants.{Kept, LeftOut, Failure, End}
 

@@ -6,8 +6,8 @@ use Rattle.std.proofs.lemmas.List.{append-nil}
 use Rattle.fallible_iterator.specs.Traces.{Answered, Run, item}
 use Rattle.fallible_iterator.specs.Laws.LawForm.{IsTraced, iff_of_two, run_of_whole_list, list_is_trace}
 use Rattle.fallible_iterator.specs.Laws.Passing.{Passes, done, end_passes, failure_passes, keeps, refuses, closes, leaves_out, passes_of_pass_trace, pass_trace_of_passes, pass_trace_item, pass_trace_refusal, pass_trace_end, pass_trace_failure, pass_trace_closing}
-use Rattle.fallible_itertools_adapters.specs.Holding.{due_answer, asks_item, as_answered_item, AnswersAfter, BeforeStop, holding_step, StopMade, MadeOfStop, MadeOfItem, DrawMade, LastMade, HoldingTrace, holds_all, holding_meets, made_answers, stop_comes}
-use Rattle.fallible_itertools_adapters.specs.Staging.{DrawsUpTo, passes_over, stage_step, stop_answer, yields}
+use Rattle.fallible_itertools_adapters.specs.Holding.{due_answer, asks_item, as_answered_item, AnswersAfter, BeforeStop, holding_step, StopMade, MadeOfStop, MadeOfItem, DrawMade, LastMade, HoldingTrace, holds_all, holding_meets, made_answers}
+use Rattle.fallible_itertools_adapters.specs.Staging.{DrawsUpTo, passes_over, stage_step, stop_answer, yields, stop_comes}
 use Rattle.fallible_iterator.specs.Outcome.{Outcome}
 use Rattle.fallible_iterator.specs.Outcome.TheVariants.{Kept, LeftOut, Failure, End}
 

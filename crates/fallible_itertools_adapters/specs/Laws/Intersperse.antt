@@ -1,37 +1,30 @@
--- The contract of `Intersperse` is lawful where the source's is.
-use Rattle.std.specs.Prelude.{◌≡◌, Bool, List, Option, Result, Ok, Err, ⊤}
-use Rattle.fallible_iterator.specs.Traces.{Answered}
-use Rattle.fallible_iterator.specs.Contract.{Contract, KeptByDraw, Lawful}
-use Rattle.fallible_iterator.specs.Laws.LawForm.{IsTraced}
-use Rattle.fallible_itertools_adapters.specs.Parting.{parting_contract}
-use Rattle.fallible_itertools_adapters.specs.Intersperse.{CloneSeparates, intersperse_contract, intersperse_step, intersperses_all}
-use Rattle.fallible_itertools_adapters.specs.Laws.Parting.{lawful_parting}
-use Rattle.fallible_itertools_adapters.specs.Laws.PartingTraces.{parting_traced, stays_run}
+-- The contracts of `Intersperse` and `IntersperseWith` are lawful where the source's is.
+use Rattle.std.specs.Prelude.{Bool, true, false, Result, Ok, Err}
+use Rattle.std.specs.Fn.{Mut}
+use Rattle.std.proofs.Common.{arith}
+use Rattle.fallible_iterator.specs.Contract.{Contract, Lawful}
+use Rattle.fallible_iterator.specs.Sources.FromFn.{call_of_none}
+use Rattle.fallible_itertools_adapters.specs.Intersperse.{intersperse_contract, intersperse_hints, intersperse_plan, separated_by, separator_cloned}
+use Rattle.fallible_itertools_adapters.specs.IntersperseWith.{intersperse_with_contract, takes_none}
+use Rattle.fallible_itertools_adapters.specs.Laws.Plan.{Always, ItemWeighs, is_stage_plan, lawful_closure, lawful_plan, passes_weighs}
+use Rattle.fallible_itertools_adapters.specs.Plan.{none_held, passes, plan_meets}
+use Rattle.fallible_itertools_adapters.specs.Staging.{IsStage, item_comes}
 use Rattle.std.specs.declared.alloc.AllocError.{AllocError}
 
-module _ {A E : Type 0} (is_clone : A → A → Type 0) (is_infallible : A → Type 0) (from : AllocError → E → Type 0) where
-  -- a clone leaves the separator as it is
-  pub separator_stays : (z : A) (v : Result A E) (y : A) → CloneSeparates is_clone is_infallible from z v y → y ≡ z
-  separator_stays z (Ok copy) y made = made.1
-  separator_stays z (Err e) y made = made.1
+module _ {A : Type 0} (E : Type 0) where
+  separated_weighs : (x : A) (v : Result A E) → ItemWeighs item_comes 2 none_held true (separated_by x v)
+  separated_weighs x (Ok s) = (omega arith, omega arith)
+  separated_weighs x (Err e) = (omega arith, omega arith)
 
-  -- The runs are the definition over all that the source returns, and leave the separator as it is.
-  intersperse_traced : {S : Type 0} {steps : S → Answered A E → S → Type 0} {traces : S → List (Answered A E) → S → Type 0} → IsTraced steps traces → IsTraced (intersperse_step is_clone is_infallible from steps) (intersperses_all is_clone is_infallible from traces)
-  intersperse_traced {steps = steps} law p trace q = let both = parting_traced law (CloneSeparates is_clone is_infallible from) p trace q in (
-    (λ ran. let k = both.0 ran in (k.0, k.1, (stays_run (CloneSeparates is_clone is_infallible from) steps separator_stays trace p q ran, k.2))),
-    (λ (l, made, w). both.1 (l, made, w.1)),
-  )
+  intersperse_weighs : (came : Bool) (x : A) → Always (λ t. ItemWeighs {E = E} item_comes 2 none_held came t) (intersperse_plan came x)
+  intersperse_weighs false x = (omega arith, omega arith)
+  intersperse_weighs true x = λ v. separated_weighs x v
 
-  module _ {S : Type 0} (m : Contract S A E) where
-    abbrev ContractWithClones : Contract (S × (A × (Bool × Option A))) A E
-    ContractWithClones = parting_contract (CloneSeparates is_clone is_infallible from) (λ _. ⊤) m
+pub is_stage_intersperse : {F A E : Type 0} (call : F → Unit {0} → Result A E → F → Type 0) → IsStage item_comes (plan_meets call intersperse_plan passes) 2 (λ p. none_held p.0)
+is_stage_intersperse {E = E} call = is_stage_plan item_comes 2 none_held call intersperse_plan passes (intersperse_weighs E) (passes_weighs item_comes 2 (omega arith))
 
-    kept_by_draw_of_parting : (p : S × (A × (Bool × Option A))) (r : Answered A E) (q : S × (A × (Bool × Option A))) → KeptByDraw ContractWithClones p r q → KeptByDraw (intersperse_contract is_clone is_infallible from m) p r q
-    kept_by_draw_of_parting p r q k = record { can_next = k.can_next.0; is_finite = k.is_finite; answer = k.answer; may_give = k.may_give; may_fail = k.may_fail; lenders = k.lenders }
+pub lawful_intersperse : {S A E : Type 0} (is_clone : A → A → Type 0) (is_infallible : A → Type 0) (from : AllocError → E → Type 0) {m : Contract S A E} → Lawful m → Lawful (intersperse_contract is_clone is_infallible from m)
+lawful_intersperse is_clone is_infallible from l = let call = separator_cloned is_clone is_infallible from in lawful_plan l item_comes call intersperse_plan passes 2 none_held intersperse_hints (is_stage_intersperse call)
 
-  pub lawful_intersperse : {S : Type 0} {m : Contract S A E} → Lawful m → Lawful (intersperse_contract is_clone is_infallible from m)
-  lawful_intersperse {m = m} l = let parted = lawful_parting (CloneSeparates is_clone is_infallible from) (λ _. ⊤) (λ z v y c made. tt) m l in record {
-    kept_by_draw = λ p r q c step. kept_by_draw_of_parting m p r q (parted.kept_by_draw p r q (c, tt) step);
-    bounded = parted.bounded;
-    traced = intersperse_traced l.traced;
-  }
+pub lawful_intersperse_with : {S F A E : Type 0} (g : Mut F (Unit {0}) (Result A E)) {m : Contract S A E} → Lawful m → Lawful (intersperse_with_contract g m)
+lawful_intersperse_with g l = lawful_closure l item_comes (call_of_none g) intersperse_plan passes 2 none_held intersperse_hints (is_stage_intersperse (call_of_none g)) (takes_none g)

@@ -11,6 +11,7 @@ use Rattle.fallible_iterator.specs.Laws.Contract.{kept_by_draws_of_one_draw, kep
 use Rattle.fallible_iterator.specs.Laws.Closures.{reaches_reflexive, reaches_weaken, reaches_by_call_first, may_answer_of_call, may_answer_where_reached_may_answer}
 use Rattle.fallible_itertools_adapters.specs.Staging.{Made, DrawsUpTo, yields, passes_over, due_comes, due_left, items_of, stays_of, due_total, made_total, IsStage, IsDue, IsMade, MayMeet, MayCome, TakesAll, stage_contract}
 use Rattle.fallible_iterator.specs.Passing.{IfItem}
+use Rattle.fallible_itertools_adapters.specs.Laws.Staged.{stage_traced}
 
 scaled_parts_within_scaled_whole : (c k i n : ℕ) → k + i ≤ n → c * k + c * i ≤ c * n
 scaled_parts_within_scaled_whole c k i n le = let e = mul-le c (k + i) c n (omega arith) le in omega (arith, e)
@@ -151,7 +152,7 @@ module _ {S P X D B L E : Type 0} {m : Contract S X D} (l : Lawful m) (comes : L
   lawful_stage = record {
     kept_by_draw = kept_by_draw_stage;
     bounded = λ p. ((λ e. let k = (l.bounded p.0).0 e in (most * k.0 + held p.1.0 + due_total comes items_of p.1.1, (k.0, k.1, omega arith))), (λ h. (l.bounded p.0).1 ((h.1).0, (h.1).1)));
-    traced = λ _ _ _. ((λ h. h), (λ h. h));
+    traced = stage_traced comes meets m.steps l.traced;
   }
 
 -- ---- what holds in each state

@@ -1,9 +1,9 @@
 // The laws of the list words: how long what they make is, and what stands at each position.
-ghost use Rattle.std.specs.Prelude.{◌≡◌, ℕ, ◌+◌, ◌-◌, ◌*◌, ◌/◌, ◌++◌, [], ◌∷◌, List, Ok, Option, Result, IsPermutation, drop, length, max, option_map, take, zip};
+ghost use Rattle.std.specs.Prelude.{◌≡◌, ℕ, suc, ◌+◌, ◌-◌, ◌*◌, ◌/◌, ◌++◌, [], ◌∷◌, List, Ok, Err, Option, Result, IsPermutation, drop, length, max, option_map, take, zip};
 ghost use Rattle.std.specs.List.{flat_map};
 ghost use Rattle.fallible_iterator.specs.BothEnds.{items_listed, failures_listed};
 ghost use Rattle.fallible_iterator.specs.Lists.{nth_of, on_value};
-ghost use Rattle.fallible_itertools_adapters.specs.Intersperse.{interspersed};
+ghost use Rattle.fallible_itertools_adapters.specs.Intersperse.{interspersed, interspersed_by};
 ghost use Rattle.fallible_itertools_adapters.specs.TupleWindows.{windowed};
 ghost use Rattle.fallible_itertools_adapters.specs.Tuples.{tupled};
 ghost use Rattle.fallible_itertools_adapters.specs.ZipLongest.{longest, zipped_longest};
@@ -19,6 +19,22 @@ pub fn law_interspersed<T, E>()
         ≡ on_value (nth_of (k + 1) l) (λ o. Ok (option_map (λ _. s) o)) }
     ensures failures { (s : T) (l : List (Result T E))
         → failures_listed (interspersed s l) ≡ failures_listed l }
+{}
+
+/// Between each two adjacent items stands the next of the separators h 0, h 1 and so on, and `interspersed s` has s each time. Nothing is made of an empty list, and an item alone is itself. A failure stands in its place, and parts nothing.
+pub fn law_interspersed_by<T, E>()
+    ensures two { (h : ℕ → Result T E) (x : T) (y : T) (l : List (Result T E))
+        → interspersed_by h (Ok x ∷ Ok y ∷ l)
+        ≡ Ok x ∷ h 0 ∷ interspersed_by (λ n. h (suc n)) (Ok y ∷ l) }
+    ensures past_failure { (h : ℕ → Result T E) (x : T) (e : E) (l : List (Result T E))
+        → interspersed_by h (Ok x ∷ Err e ∷ l)
+        ≡ Ok x ∷ Err e ∷ drop 1 (interspersed_by h (Ok x ∷ l)) }
+    ensures failure { (h : ℕ → Result T E) (e : E) (l : List (Result T E))
+        → interspersed_by h (Err e ∷ l) ≡ Err e ∷ interspersed_by h l }
+    ensures one { (h : ℕ → Result T E) (x : T) → interspersed_by h (Ok x ∷ []) ≡ Ok x ∷ [] }
+    ensures none { (h : ℕ → Result T E) → interspersed_by h [] ≡ [] }
+    ensures constant { (s : T) (l : List (Result T E))
+        → interspersed s l ≡ interspersed_by (λ _. Ok s) l }
 {}
 
 /// `windowed` makes n - 1 pairs of n items, and none of none: each item but the last, with the next one. The failures are the list's.

@@ -3,7 +3,7 @@
 use crate::base::Outcome;
 use crate::base::Turn;
 use crate::fallible_itertools_adapters::staging::{
-    Made, Stage, drive_stage, one, one_then, stopped,
+    AnswerAndDue, Made, Stage, Stop, drive_stage, one, one_then, stopped,
 };
 use fallible_iterator::FallibleIterator;
 
@@ -34,10 +34,10 @@ struct HoldStage<'a, A> {
 impl<'a, P, X, E, A: Hold<P, X, E>> Stage<P, X, E> for HoldStage<'a, A> {
     type Kept = A::Kept;
 
-    type Later = Option<E>;
+    type Due = Stop<E>;
 
     #[inline(always)]
-    fn on_item(&self, p: &mut P, item: X) -> Made<A::Kept, Option<E>, E> {
+    fn on_item(&self, p: &mut P, item: X) -> Made<A::Kept, Stop<E>, E> {
         match self.adapter.ask(p, Some(item)) {
             Outcome::Kept(y) => one(Ok(Some(y))),
             Outcome::LeftOut => None,
@@ -47,23 +47,23 @@ impl<'a, P, X, E, A: Hold<P, X, E>> Stage<P, X, E> for HoldStage<'a, A> {
     }
 
     #[inline(always)]
-    fn on_stop(&self, p: &mut P, stop: Option<E>) -> Made<A::Kept, Option<E>, E> {
+    fn on_stop(&self, p: &mut P, stop: Stop<E>) -> Made<A::Kept, Stop<E>, E> {
         made_at_stop(stop, p, self.adapter)
     }
 
     #[inline(always)]
-    fn come(&self, later: Option<E>) -> (Result<Option<A::Kept>, E>, Option<Option<E>>) {
-        (stopped(later), None)
+    fn answer_due(&self, due: Stop<E>) -> AnswerAndDue<A::Kept, Stop<E>, E> {
+        (stopped(due), None)
     }
 }
 
 // What a stop makes: what is buffered, and then the stop is due; or the stop itself.
 #[inline(always)]
 fn made_at_stop<P, X, E, A: Hold<P, X, E>>(
-    stop: Option<E>,
+    stop: Stop<E>,
     holds: &mut P,
     adapter: &A,
-) -> Made<A::Kept, Option<E>, E> {
+) -> Made<A::Kept, Stop<E>, E> {
     match adapter.ask(holds, None) {
         Outcome::Kept(y) => one_then(Ok(Some(y)), stop),
         Outcome::LeftOut => unreachable!(),
@@ -97,7 +97,7 @@ pub fn drive_holding<
     K: Turn<C, A::Kept, R>,
 >(
     it: &mut I,
-    stage: &mut (P, Option<Option<I::Error>>),
+    stage: &mut (P, Option<Stop<I::Error>>),
     adapter: &A,
     state: &mut C,
     turn: &K,
@@ -119,9 +119,9 @@ pub fn drive_holding<
 /// </details>
 #[inline(always)]
 pub fn at_stop<P, X, E, A: Hold<P, X, E>>(
-    stop: Option<E>,
+    stop: Stop<E>,
     holds: &mut P,
-    due: &mut Option<Option<E>>,
+    due: &mut Option<Stop<E>>,
     adapter: &A,
 ) -> Result<Option<A::Kept>, E> {
     match made_at_stop(stop, holds, adapter) {

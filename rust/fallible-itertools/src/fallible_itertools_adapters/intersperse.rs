@@ -2,7 +2,7 @@
 
 use crate::base::Turn;
 use crate::fallible_itertools_adapters::staging::{
-    Made, Stage, drive_stage, next_stage, one, one_then, stopped,
+    AnswerAndDue, Made, Stage, Stop, drive_stage, next_stage, one, one_then, stopped,
 };
 use fallible_iterator::FallibleIterator;
 
@@ -11,8 +11,8 @@ use fallible_iterator::FallibleIterator;
 #[must_use = "an iterator draws nothing until it is asked"]
 pub struct Intersperse<I: FallibleIterator> {
     pub(crate) it: I,
-    // the separator and whether an item came, and the buffered item
-    pub(crate) stage: ((I::Item, bool), Option<I::Item>),
+    // whether an item came and the separator, and the buffered item
+    pub(crate) stage: ((bool, I::Item), Option<I::Item>),
 }
 
 impl<I: FallibleIterator> Intersperse<I> {
@@ -21,7 +21,7 @@ impl<I: FallibleIterator> Intersperse<I> {
     pub(crate) fn new(it: I, separator: I::Item) -> Intersperse<I> {
         Intersperse {
             it,
-            stage: ((separator, false), None),
+            stage: ((false, separator), None),
         }
     }
 }
@@ -64,29 +64,29 @@ where
 // Each separator is a clone of the first.
 struct SeparatorClone;
 
-impl<X: Clone, E> Stage<(X, bool), X, E> for SeparatorClone {
+impl<X: Clone, E> Stage<(bool, X), X, E> for SeparatorClone {
     type Kept = X;
 
-    type Later = X;
+    type Due = X;
 
     #[inline(always)]
-    fn on_item(&self, p: &mut (X, bool), item: X) -> Made<X, X, E> {
-        if p.1 {
-            separated(Ok(p.0.clone()), item)
+    fn on_item(&self, p: &mut (bool, X), item: X) -> Made<X, X, E> {
+        if p.0 {
+            separated(Ok(p.1.clone()), item)
         } else {
-            p.1 = true;
+            p.0 = true;
             one(Ok(Some(item)))
         }
     }
 
     #[inline(always)]
-    fn on_stop(&self, _p: &mut (X, bool), stop: Option<E>) -> Made<X, X, E> {
+    fn on_stop(&self, _p: &mut (bool, X), stop: Stop<E>) -> Made<X, X, E> {
         one(stopped(stop))
     }
 
     #[inline(always)]
-    fn come(&self, later: X) -> (Result<Option<X>, E>, Option<X>) {
-        (Ok(Some(later)), None)
+    fn answer_due(&self, due: X) -> AnswerAndDue<X, X, E> {
+        (Ok(Some(due)), None)
     }
 }
 
@@ -102,7 +102,7 @@ pub(crate) fn separated<X, E>(separator: Result<X, E>, item: X) -> Made<X, X, E>
 /// How many items come of as many of the source as the hint says.
 pub(crate) fn hint_parting<Z, X>(
     hint: (usize, Option<usize>),
-    stage: &((Z, bool), Option<X>),
+    stage: &((bool, Z), Option<X>),
 ) -> (usize, Option<usize>) {
     let (low, high) = hint;
     (
@@ -112,8 +112,8 @@ pub(crate) fn hint_parting<Z, X>(
 }
 
 // How many items come of so many items of the source, at most `usize::MAX`.
-fn items_at_least<Z, X>(low: usize, stage: &((Z, bool), Option<X>)) -> usize {
-    let separators = if stage.0.1 {
+fn items_at_least<Z, X>(low: usize, stage: &((bool, Z), Option<X>)) -> usize {
+    let separators = if stage.0.0 {
         low
     } else {
         low.saturating_sub(1)
@@ -127,8 +127,8 @@ fn items_at_least<Z, X>(low: usize, stage: &((Z, bool), Option<X>)) -> usize {
 }
 
 // How many items come of so many items of the source, if that fits.
-fn items_at_most<Z, X>(high: usize, stage: &((Z, bool), Option<X>)) -> Option<usize> {
-    let separators = if stage.0.1 {
+fn items_at_most<Z, X>(high: usize, stage: &((bool, Z), Option<X>)) -> Option<usize> {
+    let separators = if stage.0.0 {
         high
     } else {
         high.saturating_sub(1)

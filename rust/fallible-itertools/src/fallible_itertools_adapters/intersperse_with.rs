@@ -3,7 +3,7 @@
 use crate::base::Turn;
 use crate::fallible_itertools_adapters::intersperse::{hint_parting, separated};
 use crate::fallible_itertools_adapters::staging::{
-    Made, Stage, drive_stage, next_stage, one, stopped,
+    AnswerAndDue, Made, Stage, Stop, drive_stage, next_stage, one, stopped,
 };
 use fallible_iterator::FallibleIterator;
 
@@ -12,8 +12,8 @@ use fallible_iterator::FallibleIterator;
 #[must_use = "an iterator draws nothing until it is asked"]
 pub struct IntersperseWith<I: FallibleIterator, F> {
     pub(crate) it: I,
-    // the closure and whether an item came, and the buffered item
-    pub(crate) stage: ((F, bool), Option<I::Item>),
+    // whether an item came and the closure, and the buffered item
+    pub(crate) stage: ((bool, F), Option<I::Item>),
 }
 
 impl<I: FallibleIterator, F> IntersperseWith<I, F> {
@@ -22,7 +22,7 @@ impl<I: FallibleIterator, F> IntersperseWith<I, F> {
     pub(crate) fn new(it: I, f: F) -> IntersperseWith<I, F> {
         IntersperseWith {
             it,
-            stage: ((f, false), None),
+            stage: ((false, f), None),
         }
     }
 }
@@ -61,28 +61,28 @@ impl<I: FallibleIterator, F: FnMut() -> Result<I::Item, I::Error>> FallibleItera
 // Each separator is what one call of the closure returns.
 struct SeparatorCall;
 
-impl<X, E, F: FnMut() -> Result<X, E>> Stage<(F, bool), X, E> for SeparatorCall {
+impl<X, E, F: FnMut() -> Result<X, E>> Stage<(bool, F), X, E> for SeparatorCall {
     type Kept = X;
 
-    type Later = X;
+    type Due = X;
 
     #[inline(always)]
-    fn on_item(&self, p: &mut (F, bool), item: X) -> Made<X, X, E> {
-        if p.1 {
-            separated((p.0)(), item)
+    fn on_item(&self, p: &mut (bool, F), item: X) -> Made<X, X, E> {
+        if p.0 {
+            separated((p.1)(), item)
         } else {
-            p.1 = true;
+            p.0 = true;
             one(Ok(Some(item)))
         }
     }
 
     #[inline(always)]
-    fn on_stop(&self, _p: &mut (F, bool), stop: Option<E>) -> Made<X, X, E> {
+    fn on_stop(&self, _p: &mut (bool, F), stop: Stop<E>) -> Made<X, X, E> {
         one(stopped(stop))
     }
 
     #[inline(always)]
-    fn come(&self, later: X) -> (Result<Option<X>, E>, Option<X>) {
-        (Ok(Some(later)), None)
+    fn answer_due(&self, due: X) -> AnswerAndDue<X, X, E> {
+        (Ok(Some(due)), None)
     }
 }

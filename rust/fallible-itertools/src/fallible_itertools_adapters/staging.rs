@@ -7,8 +7,14 @@ use core::mem::replace;
 use core::ops::ControlFlow;
 use fallible_iterator::FallibleIterator;
 
+/// A stop of the source: `None` is `Ok(None)`, `Some` a failure.
+pub type Stop<E> = Option<E>;
+
+/// An answer, and what is due after it.
+pub type AnswerAndDue<B, D, E> = (Result<Option<B>, E>, Option<D>);
+
 /// What an answer of the source makes: nothing, or an answer, and what is due after it.
-pub type Made<B, L, E> = Option<(Result<Option<B>, E>, Option<L>)>;
+pub type Made<B, D, E> = Option<AnswerAndDue<B, D, E>>;
 
 /// One answer.
 ///
@@ -21,26 +27,26 @@ pub type Made<B, L, E> = Option<(Result<Option<B>, E>, Option<L>)>;
 /// ```
 /// </details>
 #[inline(always)]
-pub fn one<B, L, E>(answer: Result<Option<B>, E>) -> Made<B, L, E> {
+pub fn one<B, D, E>(answer: Result<Option<B>, E>) -> Made<B, D, E> {
     Some((answer, None))
 }
 
-/// One answer, after which `later` is due.
+/// One answer, after which `due` is due.
 ///
 /// <details><summary>Contract</summary>
 ///
 /// As it is proved, in [these words](crate::words):
 ///
 /// ```text
-/// ensures { result ≡ made_before answer later }
+/// ensures { result ≡ made_before answer due }
 /// ```
 /// </details>
 #[inline(always)]
-pub fn one_then<B, L, E>(answer: Result<Option<B>, E>, later: L) -> Made<B, L, E> {
-    Some((answer, Some(later)))
+pub fn one_then<B, D, E>(answer: Result<Option<B>, E>, due: D) -> Made<B, D, E> {
+    Some((answer, Some(due)))
 }
 
-/// A stop, `Ok(None)` or a failure, as an answer.
+/// A stop as an answer.
 ///
 /// <details><summary>Contract</summary>
 ///
@@ -51,7 +57,7 @@ pub fn one_then<B, L, E>(answer: Result<Option<B>, E>, later: L) -> Made<B, L, E
 /// ```
 /// </details>
 #[inline(always)]
-pub fn stopped<B, E>(stop: Option<E>) -> Result<Option<B>, E> {
+pub fn stopped<B, E>(stop: Stop<E>) -> Result<Option<B>, E> {
     match stop {
         None => Ok(None),
         Some(e) => Err(e),
@@ -64,7 +70,7 @@ pub trait Stage<P, X, E> {
     type Kept;
 
     /// What may be due after an answer.
-    type Later;
+    type Due;
 
     /// What becomes of an item.
     ///
@@ -77,9 +83,9 @@ pub trait Stage<P, X, E> {
     /// ensures { items self.now p.old item result p.new }
     /// ```
     /// </details>
-    fn on_item(&self, p: &mut P, item: X) -> Made<Self::Kept, Self::Later, E>;
+    fn on_item(&self, p: &mut P, item: X) -> Made<Self::Kept, Self::Due, E>;
 
-    /// What becomes of a stop of the source: `None` is `Ok(None)`, `Some` a failure.
+    /// What becomes of a stop of the source.
     ///
     /// <details><summary>Contract</summary>
     ///
@@ -89,7 +95,7 @@ pub trait Stage<P, X, E> {
     /// ensures { stops self.now p.old stop result p.new }
     /// ```
     /// </details>
-    fn on_stop(&self, p: &mut P, stop: Option<E>) -> Made<Self::Kept, Self::Later, E>;
+    fn on_stop(&self, p: &mut P, stop: Stop<E>) -> Made<Self::Kept, Self::Due, E>;
 
     /// The answer that was due, and what is due after it.
     ///
@@ -98,10 +104,10 @@ pub trait Stage<P, X, E> {
     /// As it is proved, in [these words](crate::words):
     ///
     /// ```text
-    /// ensures { result ≡ (due_comes (comes self.now later), due_left later (comes self.now later)) }
+    /// ensures { result ≡ (due_comes (comes self.now due), due_left due (comes self.now due)) }
     /// ```
     /// </details>
-    fn come(&self, later: Self::Later) -> (Result<Option<Self::Kept>, E>, Option<Self::Later>);
+    fn answer_due(&self, due: Self::Due) -> AnswerAndDue<Self::Kept, Self::Due, E>;
 }
 
 // What becomes of an answer of the source.
@@ -110,7 +116,7 @@ fn made_of<P, X, E, G: Stage<P, X, E>>(
     answer: Result<Option<X>, E>,
     p: &mut P,
     stage: &G,
-) -> Made<G::Kept, G::Later, E> {
+) -> Made<G::Kept, G::Due, E> {
     match answer {
         Ok(Some(x)) => stage.on_item(p, x),
         Ok(None) => stage.on_stop(p, None),
@@ -120,7 +126,7 @@ fn made_of<P, X, E, G: Stage<P, X, E>>(
 
 // What is due from now on, where nothing was.
 #[inline(always)]
-fn put_due<L>(due: &mut Option<L>, next: Option<L>) {
+fn put_due<D>(due: &mut Option<D>, next: Option<D>) {
     match replace(due, next) {
         None => {}
         Some(_) => unreachable!(),
@@ -147,15 +153,15 @@ fn tell<B, E, C, R, K: Turn<C, B, R>>(
 // The caller's turn on what is due. If it stops the fold, it says what is due then.
 #[inline(always)]
 fn tell_due<P, X, E, G: Stage<P, X, E>, C, R, K: Turn<C, G::Kept, R>>(
-    due: Option<G::Later>,
+    due: Option<G::Due>,
     adapter: &G,
     state: &mut C,
     turn: &K,
-) -> ControlFlow<(Result<Option<R>, E>, Option<G::Later>), ()> {
+) -> ControlFlow<AnswerAndDue<R, G::Due, E>, ()> {
     match due {
         None => ControlFlow::Continue(()),
-        Some(later) => {
-            let (answer, left) = adapter.come(later);
+        Some(due) => {
+            let (answer, left) = adapter.answer_due(due);
             match (tell(answer, state, turn), left) {
                 (ControlFlow::Continue(()), None) => ControlFlow::Continue(()),
                 (ControlFlow::Continue(()), Some(_)) => unreachable!(),
@@ -168,11 +174,11 @@ fn tell_due<P, X, E, G: Stage<P, X, E>, C, R, K: Turn<C, G::Kept, R>>(
 // The caller's turn on what an answer of the source makes.
 #[inline(always)]
 fn tell_made<P, X, E, G: Stage<P, X, E>, C, R, K: Turn<C, G::Kept, R>>(
-    made: Made<G::Kept, G::Later, E>,
+    made: Made<G::Kept, G::Due, E>,
     adapter: &G,
     state: &mut C,
     turn: &K,
-) -> ControlFlow<(Result<Option<R>, E>, Option<G::Later>), ()> {
+) -> ControlFlow<AnswerAndDue<R, G::Due, E>, ()> {
     match made {
         None => ControlFlow::Continue(()),
         Some((first, due)) => match tell(first, state, turn) {
@@ -200,12 +206,12 @@ fn tell_made<P, X, E, G: Stage<P, X, E>, C, R, K: Turn<C, G::Kept, R>>(
 /// </details>
 pub fn next_stage<I: FallibleIterator, P, G: Stage<P, I::Item, I::Error>>(
     it: &mut I,
-    stage: &mut (P, Option<G::Later>),
+    stage: &mut (P, Option<G::Due>),
     adapter: &G,
 ) -> Result<Option<G::Kept>, I::Error> {
     match stage.1.take() {
-        Some(later) => {
-            let (answer, left) = adapter.come(later);
+        Some(due) => {
+            let (answer, left) = adapter.answer_due(due);
             put_due(&mut stage.1, left);
             answer
         }
@@ -226,14 +232,14 @@ struct StageTurn<'a, G, K> {
 }
 
 impl<'a, 'b, P, X, E, C, R, G: Stage<P, X, E>, K: Turn<C, G::Kept, R>>
-    Turn<Beside<'b, C, P>, X, (Result<Option<R>, E>, Option<G::Later>)> for StageTurn<'a, G, K>
+    Turn<Beside<'b, C, P>, X, AnswerAndDue<R, G::Due, E>> for StageTurn<'a, G, K>
 {
     #[inline(always)]
     fn turn(
         &self,
         state: &mut Beside<'b, C, P>,
         item: X,
-    ) -> ControlFlow<(Result<Option<R>, E>, Option<G::Later>), ()> {
+    ) -> ControlFlow<AnswerAndDue<R, G::Due, E>, ()> {
         tell_made(
             self.adapter.on_item(state.p, item),
             self.adapter,
@@ -272,7 +278,7 @@ pub fn drive_stage<
     K: Turn<C, G::Kept, R>,
 >(
     it: &mut I,
-    stage: &mut (P, Option<G::Later>),
+    stage: &mut (P, Option<G::Due>),
     adapter: &G,
     state: &mut C,
     turn: &K,
@@ -305,7 +311,7 @@ fn drive_undue<
     adapter: &G,
     state: &mut C,
     turn: &K,
-) -> (Result<Option<R>, I::Error>, Option<G::Later>) {
+) -> AnswerAndDue<R, G::Due, I::Error> {
     match drive_items(it, held, adapter, state, turn) {
         Ok(Some(told)) => told,
         Ok(None) => at_stop(None, held, adapter, state, turn),
@@ -328,7 +334,7 @@ fn drive_items<
     adapter: &G,
     state: &mut C,
     turn: &K,
-) -> Result<Option<(Result<Option<R>, I::Error>, Option<G::Later>)>, I::Error> {
+) -> Result<Option<AnswerAndDue<R, G::Due, I::Error>>, I::Error> {
     let mut both = Beside { c: state, p: held };
     it.fold_by(&mut both, &StageTurn { adapter, turn })
 }
@@ -336,12 +342,12 @@ fn drive_items<
 // What the fold returns at a stop of its source, and what is due then.
 #[inline(always)]
 fn at_stop<P, X, E, G: Stage<P, X, E>, C, R, K: Turn<C, G::Kept, R>>(
-    stop: Option<E>,
+    stop: Stop<E>,
     held: &mut P,
     adapter: &G,
     state: &mut C,
     turn: &K,
-) -> (Result<Option<R>, E>, Option<G::Later>) {
+) -> AnswerAndDue<R, G::Due, E> {
     match tell_made(adapter.on_stop(held, stop), adapter, state, turn) {
         ControlFlow::Break(told) => told,
         ControlFlow::Continue(()) => unreachable!(),

@@ -2,7 +2,7 @@
 
 use crate::base::Turn;
 use crate::fallible_itertools_adapters::staging::{
-    Made, Stage, drive_stage, next_stage, one, one_then, stopped,
+    AnswerAndDue, Made, Stage, Stop, drive_stage, next_stage, one, one_then, stopped,
 };
 use fallible_iterator::FallibleIterator;
 
@@ -12,7 +12,7 @@ use fallible_iterator::FallibleIterator;
 pub struct TakeWhileInclusive<I, P> {
     pub(crate) it: I,
     // the predicate, and once an item was rejected, ends without draws
-    pub(crate) stage: (P, Option<()>),
+    pub(crate) stage: (((), P), Option<()>),
 }
 
 impl<I, P> TakeWhileInclusive<I, P> {
@@ -21,7 +21,7 @@ impl<I, P> TakeWhileInclusive<I, P> {
     pub(crate) fn new(it: I, predicate: P) -> TakeWhileInclusive<I, P> {
         TakeWhileInclusive {
             it,
-            stage: (predicate, None),
+            stage: (((), predicate), None),
         }
     }
 }
@@ -65,14 +65,14 @@ impl<I: FallibleIterator, P: FnMut(&I::Item) -> Result<bool, I::Error>> Fallible
 // Nothing is drawn after an item that the predicate rejects.
 struct InclusiveStage;
 
-impl<X, E, P: FnMut(&X) -> Result<bool, E>> Stage<P, X, E> for InclusiveStage {
+impl<X, E, P: FnMut(&X) -> Result<bool, E>> Stage<((), P), X, E> for InclusiveStage {
     type Kept = X;
 
-    type Later = ();
+    type Due = ();
 
     #[inline(always)]
-    fn on_item(&self, p: &mut P, item: X) -> Made<X, (), E> {
-        match p(&item) {
+    fn on_item(&self, p: &mut ((), P), item: X) -> Made<X, (), E> {
+        match (p.1)(&item) {
             Ok(true) => one(Ok(Some(item))),
             Ok(false) => one_then(Ok(Some(item)), ()),
             Err(e) => one(Err(e)),
@@ -80,12 +80,12 @@ impl<X, E, P: FnMut(&X) -> Result<bool, E>> Stage<P, X, E> for InclusiveStage {
     }
 
     #[inline(always)]
-    fn on_stop(&self, _p: &mut P, stop: Option<E>) -> Made<X, (), E> {
+    fn on_stop(&self, _p: &mut ((), P), stop: Stop<E>) -> Made<X, (), E> {
         one(stopped(stop))
     }
 
     #[inline(always)]
-    fn come(&self, later: ()) -> (Result<Option<X>, E>, Option<()>) {
-        (Ok(None), Some(later))
+    fn answer_due(&self, due: ()) -> AnswerAndDue<X, (), E> {
+        (Ok(None), Some(due))
     }
 }

@@ -1,5 +1,5 @@
 -- What is made of the source's list, by what the closure returns.
-use Rattle.fallible_itertools_adapters.proofs.Lemmas.IntersperseWith.{lists_interspersed_same, lists_interspersed_shown}
+use Rattle.fallible_itertools_adapters.proofs.Lemmas.Intersperse.{lists_interspersed_same, lists_interspersed_shown}
 use Rattle.fallible_itertools.proofs.traits.FallibleItertools.intersperse_with.Goals as goal
 
 pub returns-clause-lists : goal.returns-clause-lists

@@ -1,10 +1,10 @@
 // changed: a clone is never refused
-// proved: 373b700d
-fn on_item(&self, p: &mut (X, bool), item: X) -> Made<X, X, E> {
-    if p.1 {
-        separated(Ok(p.0.clone()), item)
+// proved: da07f54f
+fn on_item(&self, p: &mut (bool, X), item: X) -> Made<X, X, E> {
+    if p.0 {
+        separated(Ok(p.1.clone()), item)
     } else {
-        p.1 = true;
+        p.0 = true;
         one(Ok(Some(item)))
     }
 }

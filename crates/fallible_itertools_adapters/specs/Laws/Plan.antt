@@ -1,0 +1,57 @@
+-- The contracts of adapters by functions are lawful where the source's is: what is made weighs no more than what was held and drawn.
+use Rattle.std.specs.Prelude.{ℕ, ◌+◌, ◌*◌, ◌≤◌, ⊤, Option, Some, None, Ok, Err}
+use Rattle.std.proofs.Common.{arith}
+use Rattle.fallible_iterator.specs.Traces.{Answered}
+use Rattle.fallible_iterator.specs.Contract.{Contract, Lawful}
+use Rattle.fallible_iterator.specs.Laws.Closures.{is_callable_after}
+use Rattle.fallible_iterator.specs.Passing.{IfItem}
+use Rattle.fallible_itertools_adapters.specs.Staging.{EndsInStop, IsStage, Made, items_of, made_total, stays_of}
+use Rattle.fallible_itertools_adapters.specs.Laws.Staging.{lawful_stage}
+use Rattle.fallible_itertools_adapters.specs.Plan.{Follows, HintPlan, Makes, Making, Plan, calls, closure_contract, makes, passes, plan_can, plan_contract, plan_hint, plan_meets, plan_takes}
+
+-- P holds of what comes of a plan, whatever the call returns
+abbrev pub Always : {Q R T : Type 0} → (T → Type 0) → Plan Q R T → Type 0
+Always P (makes t) = P t
+Always {R = R} P (calls q by) = (v : R) → P (by v)
+
+pub always_of_follows : {F Q R H B L E : Type 0} (call : F → Q → R → F → Type 0) (P : Making H B L E → Type 0) (plan : Plan Q R (Making H B L E)) (f : F) (made : Made B L E) (k : H) (g : F) → Follows call plan f made k g → Always P plan → (t : Making H B L E) × Makes t made k × P t
+always_of_follows call P (makes t) f made k g w is = (t, w.0, is)
+always_of_follows call P (calls q by) f made k g w is = (by w.0, w.2, is w.0)
+
+-- how many failures a stop is
+abbrev pub failures_of : {E : Type 0} → Option E → ℕ
+failures_of None = 0
+failures_of (Some e) = 1
+
+module _ {L B E : Type 0} (comes : L → Option (Answered B E)) (most : ℕ) {H : Type 0} (held : H → ℕ) where
+  -- An item makes at most `most` answers beyond what was held and isn't any more; a stop makes no item beyond that, and a stop last.
+  abbrev pub ItemWeighs : H → Making H B L E → Type 0
+  ItemWeighs h t = (made_total comes items_of t.0 + held t.1 ≤ held h + most) × (made_total comes stays_of t.0 + held t.1 ≤ held h + most)
+
+  abbrev pub StopWeighs : H → Option E → Making H B L E → Type 0
+  StopWeighs h stop t = (made_total comes items_of t.0 + held t.1 ≤ held h) × (made_total comes stays_of t.0 + held t.1 ≤ held h + most * failures_of stop) × EndsInStop comes t.0
+
+  item_made_weighs : (h : H) (t : Making H B L E) (made : Made B L E) (k : H) → Makes t made k → ItemWeighs h t → (made_total comes items_of made + held k ≤ held h + most * 1) × (made_total comes stays_of made + held k ≤ held h + most * 1) × (⊥ → EndsInStop comes made)
+  item_made_weighs h t made k w g = rw (w.0, w.1) (omega (arith, g.0), omega (arith, g.1), λ s. absurd s)
+
+  stop_made_weighs : (h : H) (stop : Option E) (t : Making H B L E) (made : Made B L E) (k : H) → Makes t made k → StopWeighs h stop t → (made_total comes items_of made + held k ≤ held h + most * 0) × (made_total comes stays_of made + held k ≤ held h + most * failures_of stop) × (⊤ → EndsInStop comes made)
+  stop_made_weighs h stop t made k w g = rw (w.0, w.1) (omega (arith, g.0), g.1, λ s. g.2)
+
+  pub is_stage_plan : {F Q R X : Type 0} (call : F → Q → R → F → Type 0) (plan : H → X → Plan Q R (Making H B L E)) (stops : H → Option E → Making H B L E) → ((h : H) (x : X) → Always (λ t. ItemWeighs h t) (plan h x)) → ((h : H) (stop : Option E) → StopWeighs h stop (stops h stop)) → IsStage comes (plan_meets call plan stops) most (λ (p : H × F). held p.0)
+  is_stage_plan call plan stops at_item at_stop p (Ok (Some x)) made k w = let t = always_of_follows call (λ t. ItemWeighs p.0 t) (plan p.0 x) p.1 made k.0 k.1 w (at_item p.0 x) in item_made_weighs p.0 t.0 made k.0 t.1 t.2
+  is_stage_plan call plan stops at_item at_stop p (Ok None) made k w = stop_made_weighs p.0 None (stops p.0 None) made k.0 w.0 (at_stop p.0 None)
+  is_stage_plan call plan stops at_item at_stop p (Err e) made k w = stop_made_weighs p.0 (Some e) (stops p.0 (Some e)) made k.0 w.0 (at_stop p.0 (Some e))
+
+-- a stop that passes
+pub passes_weighs : {L B E H : Type 0} (comes : L → Option (Answered B E)) (most : ℕ) → 1 ≤ most → (h : H) (stop : Option E) → StopWeighs comes most (λ (k : H). 0) h stop (passes h stop)
+passes_weighs comes most some h None = (omega arith, omega arith, tt)
+passes_weighs comes most some h (Some e) = (omega arith, omega (arith, some), tt)
+
+-- ---- lawful
+
+module _ {S H F Q R X B L E : Type 0} {m : Contract S X E} (l : Lawful m) (comes : L → Option (Answered B E)) (call : F → Q → R → F → Type 0) (plan : H → X → Plan Q R (Making H B L E)) (stops : H → Option E → Making H B L E) (most : ℕ) (held : H → ℕ) (hint : H → Option L → HintPlan) (is : IsStage comes (plan_meets call plan stops) most (λ (p : H × F). held p.0)) where
+  pub lawful_plan : Lawful (plan_contract m comes call plan stops most held hint)
+  lawful_plan = lawful_stage l comes (plan_meets call plan stops) (λ P p. ⊤) most (λ p. held p.0) (plan_hint m hint) is (λ P K p q weak reached c. tt)
+
+  pub lawful_closure : (takes : F → Q → Type 0) → Lawful (closure_contract m comes call takes plan stops most held hint)
+  lawful_closure takes = lawful_stage l comes (plan_meets call plan stops) (plan_can call plan stops takes) most (λ p. held p.0) (plan_hint m hint) is (λ P K p q weak reached c. is_callable_after {pre = λ r a. IfItem (plan_takes takes plan r) a} weak reached c)
