@@ -18,6 +18,7 @@ pub mod InspectErr
 pub mod Interleave
 pub mod Intersperse
 pub mod IntersperseWith
+pub mod Listed
 pub mod Merge
 pub mod MergeBy
 pub mod MergeJoinBy
