@@ -14,6 +14,8 @@ STRUCT = re.compile(r"^pub struct (\w+)", re.MULTILINE)
 FIELD = re.compile(r"^  -- (.*)\n  pub (\w+) :", re.MULTILINE)
 RECORDS = {"fields of Contract": "Contract", "fields of Ends": "Ends"}
 TWO_ENDS = re.compile(r"\bDoubleEndedFallibleIterator\s+for (&mut I|\w+)")
+# What a type lists from both ends is said before its block of `Listed`.
+LISTED = re.compile(r"^/// ([^\n]+)\nimpl\b[^{]*?\bListed\s+for (&mut I|\w+)", re.MULTILINE)
 
 # The words of a file that say a part of a definition and are no trace.
 PARTS = {
@@ -82,9 +84,11 @@ def fields(crates, record):
 
 
 def two_ends(crates):
-    """The types that have two ends, in one line."""
-    found = {name for path in code_of_library(crates) for name in TWO_ENDS.findall(path.read_text(encoding="utf-8"))}
-    return [", ".join(f"`{name}`" for name in sorted(found)) + "." if found else ""]
+    """A line for each type that has two ends: what it lists from both."""
+    texts = [path.read_text(encoding="utf-8") for path in code_of_library(crates)]
+    lists = {name: said for text in texts for said, name in LISTED.findall(text)}
+    found = sorted({name for text in texts for name in TWO_ENDS.findall(text)})
+    return ["| Type | From both ends it lists |\n|---|---|", *(f"| `{name}` | {lists.get(name, '–')} |" for name in found)] if found else [""]
 
 
 def tables(crates):

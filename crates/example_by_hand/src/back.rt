@@ -14,7 +14,7 @@ ghost use Rattle.fallible_iterator.specs.declared.sources.convert.Convert.{Conve
 
 use fallible_iterator::laws::{
     answers_at, law_after_front, law_back_convert, law_draws, law_interleave, law_listed_vec,
-    law_lists_chain, law_lists_filter, law_lists_map,
+    law_lists, law_lists_chain, law_lists_filter, law_lists_map,
 };
 use fallible_iterator::{
     Answer, Convert, DoubleEndedFallibleIterator, FallibleIterator, Fault, Side, convert,
@@ -146,9 +146,9 @@ pub fn last_but_one(readings: Vec<Result<u32, u8>>) -> Result<Option<u64>, u8>
 {
     let doubled = convert(readings.into_iter()).map(|reading| Ok(u64::from(reading) * 2));
     law_listed_vec::<u32, u8>();
-    law_lists_map(&doubled);
+    law_lists(&doubled);
     let mut above = doubled.filter(|double| Ok(*double > 1000));
-    law_lists_filter(&above);
+    law_lists(&above);
     last_but_one_of(&mut above)
 }
 
@@ -166,7 +166,7 @@ pub fn last_after_three(readings: Vec<Result<u32, u8>>) -> Result<Option<u64>, u
 {
     let mut it = convert(readings.into_iter()).map(|reading| Ok(u64::from(reading) * 2));
     law_listed_vec::<u32, u8>();
-    law_lists_map(&it);
+    law_lists(&it);
     match it.nth(2)? {
         Some(_) => it.draw_back(),
         None => Ok(None),

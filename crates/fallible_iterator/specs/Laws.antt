@@ -1,5 +1,6 @@
 -- What follows from the definitions: the lemmas that ghost members cite. Those of the crates below are reexported.
 pub mod Gathering
+pub mod Listing
 pub mod Showing
 pub mod ShowingEnds
 pub mod Sources

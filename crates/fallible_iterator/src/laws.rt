@@ -17,7 +17,7 @@ mod traces;
 pub use bound::{law_bound, law_bound_ends};
 pub use bridges::{law_back_iterator, law_iterator, law_unwrap};
 pub use comparing::law_eq_is_cmp_equal;
-pub use draws::{law_next, law_peek};
+pub use draws::{law_headline_folds, law_next, law_peek};
 pub use ends::{
     law_after_front, law_draws, law_interleave, law_interleave_folds, law_interleave_nest,
     law_rev_rev,
@@ -30,14 +30,10 @@ pub use joining::{
     law_cycle_taken, law_cycle_until_refused, law_flat_map_finite, law_flatten_finite,
 };
 pub use listed::{
-    law_listed, law_listed_borrowed, law_listed_chain, law_listed_cloned, law_listed_each,
-    law_listed_filter, law_listed_filter_map, law_listed_inspect, law_listed_map,
-    law_listed_map_err, law_listed_rev, law_lists_chain, law_lists_filter, law_lists_map,
+    Listed, law_listed, law_listed_source, law_lists, law_lists_chain, law_lists_filter,
+    law_lists_map,
 };
 pub use nests::{law_nest, law_nest_of_three};
-pub use peeking::{law_listed_peekable, law_peekable};
-pub use sources::{
-    law_back_convert, law_back_into_fallible, law_listed_convert, law_listed_empty,
-    law_listed_into_fallible, law_listed_once, law_listed_once_err, law_listed_vec,
-};
+pub use peeking::law_peekable;
+pub use sources::{law_back_convert, law_back_into_fallible, law_listed_vec};
 pub use traces::{answers, answers_at};

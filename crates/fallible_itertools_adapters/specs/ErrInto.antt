@@ -1,8 +1,10 @@
 -- `ErrInto`, by which failures are converted.
-use Rattle.std.specs.Prelude.{List, ⊤}
+use Rattle.std.specs.Prelude.{List, Result, ⊤}
 use Rattle.fallible_iterator.specs.Traces.{Answered}
 use Rattle.fallible_iterator.specs.Contract.{Contract, Inverse}
-use Rattle.fallible_iterator.specs.Failing.{FailingTrace, failing_contract}
+use Rattle.fallible_iterator.specs.Failing.{FailingTrace, failing_contract, failures_mapped}
+use Rattle.fallible_iterator.specs.Listing.{ListsChanged}
+use Rattle.fallible_iterator.specs.Lists.{Converts}
 use Rattle.fallible_itertools_adapters.specs.declared.err_into.ErrInto.{ErrInto}
 use Rattle.std.proofs.Common.{refl}
 
@@ -29,3 +31,9 @@ err_into_parts s = (err_into_source s, tt)
 -- and back
 pub err_into_made : {I E : Type 0} → Inverse (err_into_parts {I = I} {E = E})
 err_into_made = record { make = λ p. record { it = p.0; made = record {} }; made = λ s. refl; has = λ p. refl }
+
+-- ---- what it lists
+
+-- its source's list, with what each failure is converted to in its place, where the conversion has one result for each
+abbrev pub ListsConverted : {S X D E : Type 0} → (D → E → Type 0) → (S → List (Result X D) → Type 0) → ErrInto S E → List (Result X E) → Type 0
+ListsConverted {D = D} {E = E} from lists_source s l = (convert : D → E) × Converts from convert × ListsChanged err_into_source (failures_mapped convert) lists_source s l

@@ -17,6 +17,7 @@ pub mod HoldingTraces
 pub mod InspectErr
 pub mod Interleave
 pub mod Intersperse
+pub mod Listed
 pub mod Merge
 pub mod MergeBy
 pub mod MergeJoinBy

@@ -6,6 +6,8 @@ use Rattle.fallible_iterator.specs.Contract.{Contract, Inverse}
 use Rattle.fallible_iterator.specs.Closures.{call_by_value, takes_by_value}
 use Rattle.fallible_iterator.specs.Failing.{RecoveringTrace, recovering_contract}
 use Rattle.fallible_iterator.specs.Filtering.FilterMap.{filter_map_outcome, cons_some}
+use Rattle.fallible_iterator.specs.Listing.{ListsChanged}
+use Rattle.fallible_iterator.specs.Lists.{Acts}
 use Rattle.fallible_iterator.specs.Outcome.{Outcome}
 use Rattle.fallible_itertools_adapters.specs.declared.or_else.OrElse.{OrElse}
 use Rattle.std.proofs.Common.{refl}
@@ -45,3 +47,7 @@ unfoldable pub recovered : {X D E : Type 0} → (D → Result (Option X) E) → 
 recovered h [] = []
 recovered h (Ok x ∷ l) = Ok x ∷ recovered h l
 recovered h (Err d ∷ l) = cons_some (h d) (recovered h l)
+
+-- its source's list, each failure replaced by what its closure makes of it, if the closure acts as a function
+abbrev pub ListsRecovered : {S F X D E : Type 0} → (F → D → Result (Option X) E → F → Type 0) → (S → List (Result X D) → Type 0) → OrElse S F → List (Result X E) → Type 0
+ListsRecovered {X = X} {D = D} {E = E} call lists_source s l = (h : D → Result (Option X) E) × Acts call (or_else_closure s) h × ListsChanged or_else_source (recovered h) lists_source s l

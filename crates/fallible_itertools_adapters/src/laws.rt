@@ -10,6 +10,7 @@ mod holding;
 mod interleave;
 mod intersperse;
 mod lengths;
+mod listed;
 mod merge;
 mod merge_by;
 mod merge_join_by;
@@ -23,9 +24,7 @@ mod unique;
 mod zip_eq;
 mod zip_longest;
 
-pub use copied::{
-    law_hints_back_copied, law_hints_copied, law_hints_listed_copied, law_listed_copied,
-};
+pub use copied::{law_hints_back_copied, law_hints_copied, law_hints_listed_copied};
 pub use counting::{
     law_deduped_by_with_count, law_deduped_with_count, law_hints_dedup_by_with_count,
     law_hints_dedup_with_count,
@@ -34,7 +33,6 @@ pub use duplicates::{law_duplicates_of, law_hints_duplicates};
 pub use failing::{
     law_hints_back_err_into, law_hints_back_inspect_err, law_hints_err_into, law_hints_inspect_err,
     law_hints_listed_err_into, law_hints_listed_inspect_err, law_hints_or_else,
-    law_listed_err_into, law_listed_inspect_err, law_listed_or_else,
 };
 pub use fuse_at_failure::law_hints_fuse_at_failure;
 pub use grouping::{law_chunked, law_chunked_by, law_hints_chunk_by, law_hints_chunks};

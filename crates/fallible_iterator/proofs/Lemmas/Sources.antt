@@ -9,4 +9,3 @@ pub mod Repeat
 pub mod Std
 pub mod StdChains
 pub mod StdFold
-pub mod StdListed

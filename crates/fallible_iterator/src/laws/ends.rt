@@ -15,7 +15,7 @@ ghost use Rattle.fallible_iterator.specs.Listing.{DrawsInterleave, DrawsTheSame,
 ghost use Rattle.fallible_contract.specs.declared.answers.Side.{Side};
 ghost use Rattle.fallible_contract.specs.declared.answers.Side.TheVariants.{Front, Back};
 
-use super::listed::{law_listed_each, law_listed_filter, law_listed_map, law_listed_rev};
+use super::listed::law_listed;
 use fallible_core::ends::Rev;
 use fallible_core::filtering::Filter;
 use fallible_core::one_to_one::Map;
@@ -71,10 +71,9 @@ where
         ⟦<Rev<Filter<Map<I, F>, G>> as DoubleEndedFallibleIterator>⟧.ends.steps
         (reverse (filtered k (mapped h l))) s drawn t }
 {
-    law_listed_map::<I, B, F>();
-    law_listed_filter::<Map<I, F>, G>();
-    law_listed_rev::<Filter<Map<I, F>, G>>();
-    law_interleave::<Rev<Filter<Map<I, F>, G>>>();
+    law_listed::<Map<I, F>>();
+    law_listed::<Filter<Map<I, F>, G>>();
+    law_listed::<Rev<Filter<Map<I, F>, G>>>();
 }
 
 /// What both ends list, draw by draw: a draw from the front takes the first of it, and a draw from the back the last; and each end lists it.
@@ -88,9 +87,7 @@ pub fn law_draws<I: DoubleEndedFallibleIterator>()
         → ListsBothEnds I.contract.steps I.ends.steps s (l ++ y ∷ []) → I.ends.steps s r t
         → (r ≡ result_answer y) × ListsBothEnds I.contract.steps I.ends.steps t l }
     ensures each_end { ListsAtEachEnd I.contract.steps I.ends.steps }
-{
-    law_listed_each::<I>();
-}
+{}
 
 /// After draws from the front, as those of a search, a value that may be drawn from both ends still may be; and `nth` leaves what comes after the item, of what both ends list.
 pub fn law_after_front<I: DoubleEndedFallibleIterator>()

@@ -1,21 +1,16 @@
 //! What sources list, from both ends and from the back.
-ghost use Rattle.std.specs.Prelude.{◌≡◌, List, Option, Result, Some, Ok, Err, [], ◌∷◌};
+ghost use Rattle.std.specs.Prelude.{◌≡◌, List, Result, Ok};
 ghost use Rattle.std.specs.Vec.Iter.{into_iter_items};
 ghost use Rattle.fallible_contract.specs.Lists.{Lists, RunsReadBack, results, items, reversed};
 ghost use Rattle.fallible_contract.specs.BothEnds.{ListsBothEnds};
-ghost use Rattle.fallible_iterator.specs.Listing.{ListsElements};
 ghost use Rattle.fallible_iterator.specs.Sources.Convert.{convert_parts};
-ghost use Rattle.fallible_iterator.specs.Sources.IntoFallible.{into_fallible_parts, never};
-ghost use Rattle.fallible_iterator.specs.Sources.Once.{once_parts};
-ghost use Rattle.fallible_iterator.specs.Sources.OnceErr.{once_err_parts};
+ghost use Rattle.fallible_iterator.specs.Sources.IntoFallible.{into_fallible_parts};
 ghost use Rattle.std.specs.declared.vec.IntoIter.{IntoIter};
 ghost use Rattle.std.specs.declared.alloc.Global.{Global};
 ghost use Rattle.fallible_iterator.specs.declared.sources.convert.Convert.{Convert};
-ghost use Rattle.fallible_iterator.specs.declared.sources.empty.Empty.{Empty};
-ghost use Rattle.fallible_iterator.specs.declared.sources.once.Once.{Once};
-ghost use Rattle.fallible_iterator.specs.declared.sources.once_err.OnceErr.{OnceErr};
 
-use crate::sources::{Convert, Empty, IntoFallible, Once, OnceErr};
+use super::listed::law_listed;
+use crate::sources::{Convert, IntoFallible};
 use fallible_core::{DoubleEndedFallibleIterator, FallibleIterator};
 use std::alloc::Global;
 use std::vec;
@@ -38,13 +33,6 @@ pub fn law_back_into_fallible<T, I: std::iter::DoubleEndedIterator<Item = T>>()
         (reversed (items l)) }
 {}
 
-/// `Convert` lists what the std iterator lists, call by call from both ends; so also what is left of one whose state shows that, if each `next` returns the first of it and each `next_back` the last.
-pub fn law_listed_convert<T, E, I: std::iter::DoubleEndedIterator<Item = Result<T, E>>>()
-    ensures { ListsElements convert_parts Ok Err results I.next_gives I.next_back_gives
-        (ListsBothEnds ⟦<Convert<I> as FallibleIterator>⟧.contract.steps
-        ⟦<Convert<I> as DoubleEndedFallibleIterator>⟧.ends.steps) }
-{}
-
 /// `Convert` of a vector's iterator lists from both ends what is left of the vector.
 pub fn law_listed_vec<T: Drop, E: Drop>()
     ensures listed { (s : Convert (IntoIter (Result T E) Global)) (l : List (Result T E))
@@ -60,32 +48,5 @@ pub fn law_listed_vec<T: Drop, E: Drop>()
         ⟦<Convert<vec::IntoIter<Result<T, E>, Global>> as DoubleEndedFallibleIterator>⟧.ends.steps
         s (results l) }
 {
-    law_listed_convert::<T, E, vec::IntoIter<Result<T, E>, Global>>();
+    law_listed::<Convert<vec::IntoIter<Result<T, E>, Global>>>();
 }
-
-/// `IntoFallible` lists what the std iterator lists, each element an item; so also what is left of one whose state shows that.
-pub fn law_listed_into_fallible<T, I: std::iter::DoubleEndedIterator<Item = T>>()
-    ensures { ListsElements into_fallible_parts (λ x. x) never items I.next_gives I.next_back_gives
-        (ListsBothEnds ⟦<IntoFallible<I> as FallibleIterator>⟧.contract.steps
-        ⟦<IntoFallible<I> as DoubleEndedFallibleIterator>⟧.ends.steps) }
-{}
-
-/// From both ends `Once` lists its item.
-pub fn law_listed_once<T: Drop, E>()
-    ensures { (s : Once T E) (x : T) → once_parts s ≡ Some x
-        → ListsBothEnds ⟦<Once<T, E> as FallibleIterator>⟧.contract.steps
-        ⟦<Once<T, E> as DoubleEndedFallibleIterator>⟧.ends.steps s (Ok x ∷ []) }
-{}
-
-/// From both ends `OnceErr` lists its failure.
-pub fn law_listed_once_err<T, E: Drop>()
-    ensures { (s : OnceErr T E) (e : E) → once_err_parts s ≡ Some e
-        → ListsBothEnds ⟦<OnceErr<T, E> as FallibleIterator>⟧.contract.steps
-        ⟦<OnceErr<T, E> as DoubleEndedFallibleIterator>⟧.ends.steps s (Err e ∷ []) }
-{}
-
-/// From both ends `Empty` lists nothing.
-pub fn law_listed_empty<T, E>()
-    ensures { (s : Empty T E) → ListsBothEnds ⟦<Empty<T, E> as FallibleIterator>⟧.contract.steps
-        ⟦<Empty<T, E> as DoubleEndedFallibleIterator>⟧.ends.steps s [] }
-{}

@@ -3,16 +3,12 @@ use Rattle.std.specs.Prelude.{◌≡◌, Result, Ok, Err, List, [], ◌∷◌}
 use Rattle.std.specs.List.{FoldsTo}
 use Rattle.std.specs.Fn.{Mut}
 use Rattle.std.specs.Borrow.{Bor}
-use Rattle.std.proofs.Common.{refl, ap, sym, subst, ◌∙◌}
-use Rattle.fallible_iterator.specs.BothEnds.{ListsBothEnds}
+use Rattle.std.proofs.Common.{refl, ap, subst}
 use Rattle.fallible_iterator.specs.Closures.{call_by_reference, Reaches, IsCallable}
 use Rattle.fallible_iterator.specs.Contract.{Contract, parts_as}
-use Rattle.fallible_iterator.specs.Failing.{FailingAnswer, failing_step, failures_mapped}
+use Rattle.fallible_iterator.specs.Failing.{failures_mapped}
 use Rattle.fallible_iterator.specs.Laws.Closures.{reaches_reflexive, reaches_by_call_first}
-use Rattle.fallible_iterator.specs.Laws.Failing.{drawn_once_of_trace}
 use Rattle.fallible_iterator.specs.Lists.{Lists}
-use Rattle.fallible_iterator.specs.Traces.{Answered}
-use Rattle.fallible_iterator.proofs.Lemmas.BothEnds.{lists_both_ends_by_draws, takes_first_back, takes_first_front}
 use Rattle.fallible_iterator.proofs.Lemmas.Failing.{always_gives_failures_mapped}
 use Rattle.fallible_iterator.proofs.Lemmas.Lists.Passing.{lists_seen}
 use Rattle.fallible_itertools_adapters.specs.InspectErr.{inspect_err_contract, inspect_err_parts, seen_call}
@@ -38,18 +34,3 @@ pub lists_inspected_failures : {S F X D : Type 0} {it : S} (m : Contract S X D) 
     → Lists (parts_as inspect_err_parts (inspect_err_contract m g)).steps s l
 lists_inspected_failures {it = it} m g s f l parts i = lists_seen inspect_err_parts (inspect_err_contract m g).steps s parts (failures_mapped_by_identity_is_same l)
     (always_gives_failures_mapped (seen_call g) (λ k. Unit {0}) (λ d. d) (λ k d e n at called. (tt, called.1)) m.steps it f l tt i.runs)
-
--- ---- from both ends
-
-inspected_answer_same : {F X D : Type 0} (g : Mut F (Bor D × Unit {0}) (Unit {0})) (f h : F) (drawn r : Answered X D) → FailingAnswer (seen_call g) f drawn r h → r ≡ drawn
-inspected_answer_same g f h (Ok v) r made = made.0
-inspected_answer_same g f h (Err d) r made = made.2 ∙ ap (λ e. Err e) made.1.1
-
-module _ {S F X D : Type 0} (g : Mut F (Bor D × Unit {0}) (Unit {0})) where
-  -- each draw is one of the source, with the same answer
-  source_step_of_seen_step : (steps : S → Answered X D → S → Type 0) (p q : S × F) (r : Answered X D) → failing_step steps (seen_call g) p r q → steps p.0 r q.0
-  source_step_of_seen_step steps p q r step = let d = drawn_once_of_trace steps (seen_call g) p q r step in subst (λ (a : Answered X D). steps p.0 a q.0) (sym (inspected_answer_same g p.1 q.1 d.0 r d.2)) d.1
-
-  pub lists_both_ends_inspected_failures : (front back : S → Answered X D → S → Type 0) (p : S × F) (l : List (Result X D)) → ListsBothEnds front back p.0 l → ListsBothEnds (failing_step front (seen_call g)) (failing_step back (seen_call g)) p l
-  lists_both_ends_inspected_failures front back p l i = lists_both_ends_by_draws (failing_step front (seen_call g)) (failing_step back (seen_call g)) (λ q k. ListsBothEnds front back q.0 k)
-      (λ q k listed r u step. takes_first_front listed (source_step_of_seen_step front q u r step)) (λ q k listed r u step. takes_first_back listed (source_step_of_seen_step back q u r step)) p l i

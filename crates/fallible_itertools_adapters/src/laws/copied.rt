@@ -1,7 +1,6 @@
 // The laws of the adapter that copies what each item points to.
 ghost use Rattle.std.specs.Prelude.{List, Result};
 ghost use Rattle.std.specs.Borrow.{Bor};
-ghost use Rattle.fallible_iterator.specs.BothEnds.{ListsBothEnds};
 ghost use Rattle.fallible_iterator.specs.Ends.{from_back};
 ghost use Rattle.fallible_iterator.specs.Lists.{pointed_to};
 ghost use Rattle.fallible_iterator.specs.SoundHints.{KeepsBounds, HintsAsSoundAs};
@@ -24,15 +23,6 @@ where
         → HintsAsSoundAs (from_back ⟦<Copied<I> as FallibleIterator>⟧.contract
         ⟦<Copied<I> as DoubleEndedFallibleIterator>⟧.ends) s
         (from_back I.contract I.ends) (copied_source s) }
-{}
-
-/// From both ends `Copied` lists what the items of its source's list point to.
-pub fn law_listed_copied<'a, T: Copy + 'a, I: DoubleEndedFallibleIterator<Item = &'a T>>()
-where
-    ensures { (s : Copied I) (l : List (Result (Bor T) I.Error))
-        → ListsBothEnds I.contract.steps I.ends.steps (copied_source s) l
-        → ListsBothEnds ⟦<Copied<I> as FallibleIterator>⟧.contract.steps
-        ⟦<Copied<I> as DoubleEndedFallibleIterator>⟧.ends.steps s (pointed_to l) }
 {}
 
 /// Each hint of `Copied` bounds its list wherever a hint of its source bounds the source's list.

@@ -1,30 +1,19 @@
 -- What `Convert` lists.
-use Rattle.std.specs.Prelude.{◌≡◌, ℕ, IfSome, Option, Some, None, Result, Ok, Err, List, [], ◌∷◌, map, reverse, length, slice_index_or, zero, suc, ◌<◌}
+use Rattle.std.specs.Prelude.{◌≡◌, ℕ, IfSome, Option, Some, None, Result, Ok, Err, List, [], ◌∷◌, reverse, length, slice_index_or, zero, suc, ◌<◌}
 use Rattle.std.specs.List.{HoldsAt, slice_get}
 use Rattle.std.specs.Option.{option_map}
 use Rattle.std.proofs.Common.{refl, ap, sym, subst, ◌∙◌, arith}
 use Rattle.std.proofs.iter.runs.Lists.{none-some}
 use Rattle.std.proofs.iter.runs.Made.{at-is}
 use Rattle.std.specs.Iterator.{Count}
-use Rattle.fallible_contract.specs.Traces.{Answered}
 use Rattle.fallible_contract.specs.Contract.{parts_as}
-use Rattle.fallible_contract.specs.Lists.{Lists, RunsRead, RunsReadBack, result_answer, results, items, reversed}
+use Rattle.fallible_contract.specs.Lists.{Lists, RunsRead, RunsReadBack, results, items, reversed}
 use Rattle.fallible_contract.proofs.Lemmas.Lists.Passing.{lists_seen}
-use Rattle.fallible_iterator.specs.Sources.Std.{std_element}
 use Rattle.fallible_iterator.specs.Sources.Convert.{ItemsRead, convert_parts, convert_contract}
+use Rattle.fallible_iterator.specs.Laws.Sources.Listed.{map_id_is_results, map_is_items, answer_of_first_result}
 use Rattle.fallible_iterator.proofs.Lemmas.Sources.Std.{gives_read, runs_read_back}
 use Rattle.fallible_contract.proofs.Lemmas.BothEnds.Passing.{map-reverse}
 use Rattle.fallible_iterator.specs.declared.sources.convert.Convert.{Convert}
-
-pub map_id_is_results : {A E : Type 0} (l : List (Result A E)) → map (λ y. y) l ≡ results l
-unfolding results
-map_id_is_results [] = refl
-map_id_is_results (y ∷ l) = ap (λ t. y ∷ t) (map_id_is_results l)
-
-pub map_is_items : {A E : Type 0} (l : List A) → map (λ x. Ok x) l ≡ items {E = E} l
-unfolding items
-map_is_items [] = refl
-map_is_items {E = E} (x ∷ l) = ap (λ (t : List (Result _ E)). Ok x ∷ t) (map_is_items l)
 
 results_reversed : {A E : Type 0} (l : List (Result A E)) → results (reverse l) ≡ reversed (results l)
 unfolding results reversed
@@ -33,20 +22,6 @@ results_reversed l = refl
 pub items_reversed : {A E : Type 0} (l : List A) → items {E = E} (reverse l) ≡ reversed (items l)
 unfolding reversed
 items_reversed l = sym (map_is_items (reverse l)) ∙ map-reverse (λ x. Ok x) l ∙ ap reverse (map_is_items l)
-
-module _ {A E : Type 0} where
-  pub answer_of_first_result : (r : Answered A E) (y : Result A E) → std_element {A = A} {E = E} Ok Err r ≡ Some y → r ≡ result_answer y
-  answer_of_first_result (Ok (Some x)) (Ok y) e = cc
-  answer_of_first_result (Ok (Some x)) (Err y) e = absurd cc
-  answer_of_first_result (Err d) (Ok y) e = absurd cc
-  answer_of_first_result (Err d) (Err y) e = cc
-  answer_of_first_result (Ok None) (Ok y) e = absurd cc
-  answer_of_first_result (Ok None) (Err y) e = absurd cc
-
-  pub answer_is_end_where_no_element : (r : Answered A E) → std_element {A = A} {E = E} Ok Err r ≡ None → r ≡ Ok None
-  answer_is_end_where_no_element (Ok (Some x)) e = absurd cc
-  answer_is_end_where_no_element (Ok None) e = refl
-  answer_is_end_where_no_element (Err d) e = absurd cc
 
 module _ {S A E : Type 0} (can : S → Type 0) (gives : S → Option (Result A E) → S → Type 0) (remaining : S → Count) (s : Convert S) where
   pub lists_results : (l : List (Result A E)) → RunsRead gives (λ y. y) s.it l → Lists (parts_as convert_parts (convert_contract can gives remaining)).steps s (results l)

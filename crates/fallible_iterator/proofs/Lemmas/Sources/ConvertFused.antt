@@ -9,7 +9,7 @@ use Rattle.fallible_contract.proofs.Lemmas.Lists.ForGood.{lists_for_good_seen}
 use Rattle.fallible_iterator.specs.Sources.Std.{std_step, std_element}
 use Rattle.fallible_iterator.specs.Sources.Convert.{convert_parts, convert_contract}
 use Rattle.fallible_iterator.proofs.Lemmas.Sources.Std.{gives_read, answer_is_first_and_rest_is_read}
-use Rattle.fallible_iterator.proofs.Lemmas.Sources.Convert.{answer_of_first_result, answer_is_end_where_no_element, map_id_is_results, map_is_items}
+use Rattle.fallible_iterator.specs.Laws.Sources.Listed.{answer_of_first_result, answer_is_end_where_no_element, map_id_is_results, map_is_items}
 use Rattle.fallible_iterator.specs.declared.sources.convert.Convert.{Convert}
 
 -- What a std `Fuse` yields, where `iter` is its iterator and `done` says that a `None` came: `fuse_steps` of std, whose struct can't be named here.

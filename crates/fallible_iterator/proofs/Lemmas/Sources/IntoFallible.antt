@@ -1,27 +1,15 @@
 -- What `IntoFallible` lists.
-use Rattle.std.specs.Prelude.{◌≡◌, Option, Some, None, Ok, Err, List, reverse}
+use Rattle.std.specs.Prelude.{Option, Ok, List, reverse}
 use Rattle.std.specs.Iterator.{Count}
 use Rattle.std.proofs.Common.{refl, subst}
-use Rattle.fallible_contract.specs.Traces.{Answered}
 use Rattle.fallible_contract.specs.Contract.{parts_as}
-use Rattle.fallible_contract.specs.Lists.{Lists, RunsRead, RunsReadBack, result_answer, items, reversed}
+use Rattle.fallible_contract.specs.Lists.{Lists, RunsRead, RunsReadBack, items, reversed}
 use Rattle.fallible_contract.proofs.Lemmas.Lists.Passing.{lists_seen}
-use Rattle.fallible_iterator.specs.Sources.Std.{std_element}
 use Rattle.fallible_iterator.specs.Sources.IntoFallible.{into_fallible_parts, into_fallible_contract, never}
 use Rattle.fallible_iterator.proofs.Lemmas.Sources.Std.{gives_read, runs_read_back}
-use Rattle.fallible_iterator.proofs.Lemmas.Sources.Convert.{map_is_items, items_reversed}
-use Rattle.std.specs.declared.convert.Infallible.{Infallible}
+use Rattle.fallible_iterator.specs.Laws.Sources.Listed.{map_is_items, answer_is_item_where_element_given}
+use Rattle.fallible_iterator.proofs.Lemmas.Sources.Convert.{items_reversed}
 use Rattle.fallible_iterator.specs.declared.sources.into_fallible.IntoFallible.{IntoFallible}
-
-pub answer_is_item_where_element_given : {A : Type 0} (r : Answered A Infallible) (x : A) → std_element (λ y. y) never r ≡ Some x → r ≡ result_answer (Ok x)
-answer_is_item_where_element_given (Ok (Some y)) x e = cc
-answer_is_item_where_element_given (Ok None) x e = absurd cc
-answer_is_item_where_element_given (Err d) x e = elim d [ ]
-
-pub answer_is_end_where_none_given : {A : Type 0} (r : Answered A Infallible) → std_element (λ y. y) never r ≡ None → r ≡ Ok None
-answer_is_end_where_none_given (Ok (Some y)) e = absurd cc
-answer_is_end_where_none_given (Ok None) e = refl
-answer_is_end_where_none_given (Err d) e = elim d [ ]
 
 module _ {S A : Type 0} (can : S → Type 0) (gives : S → Option A → S → Type 0) (remaining : S → Count) (s : IntoFallible S) where
   pub lists_elements : (l : List A) → RunsRead gives (λ x. x) s.it l → Lists (parts_as into_fallible_parts (into_fallible_contract can gives remaining)).steps s (items l)

@@ -7,6 +7,7 @@ use Rattle.fallible_contract.specs.Traces.{Answered}
 use Rattle.fallible_contract.specs.Lists.{results}
 use Rattle.fallible_contract.specs.BothEnds.{ListsBothEnds}
 use Rattle.std.specs.declared.vec.IntoIter.{IntoIter}
+use Rattle.fallible_iterator.specs.Listing.{by_state}
 use Rattle.fallible_iterator.proofs.laws.sources.law_listed_vec.Goals as goal
 
 none_left : {X : Type 0} (xs : List X) → length xs ≡ 0 → xs ≡ []
@@ -26,7 +27,7 @@ lists_both_ends_of_equal : {S A E : Type 0} {front back : S → Answered A E →
 lists_both_ends_of_equal {front = front} {back = back} {s = s} same i = subst (λ (j : List _). ListsBothEnds front back s (results j)) same i
 
 pub returns-clause-results : goal.returns-clause-results
-returns-clause-results g c s l same = lists_both_ends_of_equal same (c.law_listed_convert.ensures.rest into_iter_items first last s)
+returns-clause-results g c s l same = lists_both_ends_of_equal same (c.law_listed.ensures.both s _ (by_state into_iter_items first last))
 
 pub returns-clause-listed : goal.returns-clause-listed
 unfolding results

@@ -3,7 +3,7 @@ use Rattle.std.proofs.Common.{refl}
 use Rattle.fallible_iterator.proofs.Lemmas.Hints.Drawn.{as_sound_where_one_of_one, as_sound_seen}
 use Rattle.fallible_iterator.proofs.Lemmas.Hints.Passing.{one_of_one_passing}
 use Rattle.fallible_itertools_adapters.specs.Copied.{copied_outcome, copied_parts}
-use Rattle.fallible_itertools_adapters.proofs.Lemmas.Copied.{copied_never_ends}
+use Rattle.fallible_itertools_adapters.specs.Laws.Listed.{copied_never_ends}
 use Rattle.fallible_itertools_adapters.proofs.laws.copied.law_hints_copied.Goals as goal
 
 pub returns : goal.returns

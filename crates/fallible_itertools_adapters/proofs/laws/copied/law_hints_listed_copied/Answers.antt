@@ -2,7 +2,7 @@
 use Rattle.std.proofs.Common.{refl}
 use Rattle.fallible_iterator.proofs.Lemmas.Hints.ListsBothEnds.{bounds_acting}
 use Rattle.fallible_itertools_adapters.specs.Copied.{copied_outcome}
-use Rattle.fallible_itertools_adapters.proofs.Lemmas.Copied.{copied_never_ends, passed_of_copied_is_pointed_to}
+use Rattle.fallible_itertools_adapters.specs.Laws.Listed.{copied_never_ends, passed_of_copied_is_pointed_to}
 use Rattle.fallible_itertools_adapters.proofs.laws.copied.law_hints_listed_copied.Goals as goal
 
 pub returns : goal.returns
