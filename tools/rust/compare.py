@@ -25,6 +25,8 @@ REASONS = [
     (r"errors\.rs", r"Display for NotOne\.fmt", "new", "what the error says"),
     (r"fallible_itertools_consumers/counts\.rs", r"Collect for Tally\.empty", "left out", "`counts` makes the empty map"),
     (r"fallible_itertools_consumers/group_map\.rs", r"Collect for GroupMap\.empty", "left out", "`into_group_map` makes the empty map"),
+    (r"fallible_itertools_consumers/total\.rs", r".*", "left out", "`sum` and `product` are std's"),
+    (r"fallible_itertools_consumers/until_failure\.rs", r"with_failure", "left out", "`collect_until_failure` is refused nothing"),
     (r"fallible_itertools_consumers/parted\.rs", r"without_fault", "left out", "`partition_failures` never fails"),
     (r"fallible_itertools_adapters/err_into\.rs", r"\w+ for ErrInto\.(clone|fmt)", "new", "what `derive_where` writes"),
     (r"fallible_itertools_consumers/partition_map\.rs", r".*\.empty", "left out", "`partition_map` fills whatever extends"),

@@ -12,7 +12,7 @@ LIKE = re.compile(r"\W*(?:requir\w*|memory|(?:in (?:a|the) )?proofs?|pre-?condit
 OF_A_KIND = re.compile(r"\brequires?\b|\bclauses?\b|\bproofs?\b|search finds|`Fault|\bAllocError\b|"
                        r"allocation fail|failed allocation|can't be allocated", re.I)
 # Calls whose signature is another in Rust.
-OTHER = {"collect", "partition", "unzip", "cycle", "chain", "counts", "counts_by", "into_group_map", "into_group_map_by", "partition_map",
+OTHER = {"collect", "partition", "unzip", "cycle", "chain", "counts", "counts_by", "fold_by_key", "sum", "product", "into_group_map", "into_group_map_by", "partition_map",
          "collect_until_failure", "partition_failures", "join", "sorted", "sorted_by", "sorted_by_key",
          "sorted_unstable", "sorted_unstable_by", "sorted_unstable_by_key",
          "unique", "unique_by", "duplicates", "all_unique", "drive_recovering", "drive_back_recovering", "number_of_either"}

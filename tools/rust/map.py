@@ -90,6 +90,14 @@ ITERTOOLS = [
     (CONSUMERS + r"/parted\.rs", r"^/// Returns the collection, or (?:.*\n)*?\}\n", "", 1),
     (CONSUMERS + r"/parted\.rs", r"^use fallible_iterator::\{FallibleIterator, Fault\};", "use fallible_iterator::FallibleIterator;", 1),
     (r"traits\.rs", r"::parted::\{Parted, without_fault\};", "::parted::Parted;", 1),
+    (CONSUMERS + r"/until_failure\.rs", r"^/// Returns the collection beside (?:.*\n)*?\}\n", "", 1),
+    (r"traits\.rs", r"::until_failure::\{PushTurn, with_failure\};", "::until_failure::PushTurn;", 1),
+    (CONSUMERS + r"/fold_by_key\.rs", r"\bB: Copy\b", "B: Clone", 1),
+    (CONSUMERS + r"/fold_by_key\.rs", r"\bFault<E>> for\b", "E> for", 1),
+    (CONSUMERS + r"/fold_by_key\.rs", r"^use fallible_iterator::\{Fault, Turn\};", "use fallible_iterator::Turn;", 1),
+    # std has its own sums and products.
+    (CONSUMERS + r"\.rs", r"^pub (?:mod total;|use total::Total;)\n", "", 2),
+    (r"lib\.rs", r",\s+Total\b", "", 1),
     (CONSUMERS + r"/k_smallest\.rs", r"^// (?:Where the item|Inserts the|Moves the|Sorts the items in|Cuts what is kept, and)(?:.*\n)*?\}\n\n", "", 5),
     # What no user sees.
     (CONSUMERS + r"/(?:keyed|parted)\.rs", r"^pub struct", "pub(crate) struct", 2),
@@ -109,8 +117,8 @@ ITERTOOLS = [
     (r"(?:traits|.*/double_ended|.*/peeking_take_while)\.rs", r"^(pub trait \w+: \w+) \{", r"\1 + Sized {", 3),
     # Features.
     (r"fallible_\w+\.rs", r"^pub (?:mod (?:chunk_by|chunks|join|k_smallest|sorted|sorted_unstable|tail);|use (?:chunk_by|chunks)::)", r'#[cfg(feature = "alloc")]\n\g<0>', 9),
-    (r"fallible_\w+\.rs", r"^pub (?:mod (?:all_unique|counts|duplicates|group_map|keyed|unique|unique_by);|use (?:duplicates|unique(?:_by)?)::)",
-     r'#[cfg(feature = "std")]\n\g<0>', 10),
+    (r"fallible_\w+\.rs", r"^pub (?:mod (?:all_unique|counts|duplicates|fold_by_key|group_map|keyed|unique|unique_by);|use (?:duplicates|unique(?:_by)?)::)",
+     r'#[cfg(feature = "std")]\n\g<0>', 11),
     (r"(?:lib|traits)\.rs", r"\bChunkBy,\s+Chunks,\s+|\bDuplicates,\s+|\bUnique,\s+UniqueBy,\s+", "", 6),
     (r"(?:lib|traits)\.rs", r"^((?:pub )?use crate::fallible_itertools_adapters::)\{",
      r'#[cfg(feature = "alloc")]\n\1{ChunkBy, Chunks};\n#[cfg(feature = "std")]\n\1{Duplicates, Unique, UniqueBy};\n\g<0>', 2),
@@ -123,8 +131,8 @@ ITERTOOLS = [
     (r"traits\.rs", r"^use (?:crate::fallible_itertools_consumers::(?:all_unique|counts|group_map|keyed)::|core::hash::|std::coll)",
      r'#[cfg(feature = "std")]\n\g<0>', 6),
     (r"traits\.rs", r"^    fn (?:chunks|chunk_by|join|k_smallest|sorted(?:_unstable)?(?:_by|_by_key)?|tail)\b", r'    #[cfg(feature = "alloc")]\n\g<0>', 11),
-    (r"traits\.rs", r"^    fn (?:all_unique|counts|counts_by|duplicates|into_group_map|into_group_map_by|unique|unique_by)\b",
-     r'    #[cfg(feature = "std")]\n\g<0>', 8),
+    (r"traits\.rs", r"^    fn (?:all_unique|counts|counts_by|duplicates|fold_by_key|into_group_map|into_group_map_by|unique|unique_by)\b",
+     r'    #[cfg(feature = "std")]\n\g<0>', 9),
     (r"lib\.rs", r"\A(?://!.*\n)+\n", HEAD + "mod errors;\nmod fallible_itertools_adapters;\nmod fallible_itertools_consumers;\n", 1),
     # What an adapter of one's own is made of, which no page tells.
     (r"lib\.rs", r" ZipLongest,\s+holding,\s+staging,\n\};\n",
@@ -143,5 +151,7 @@ def to_rust(crate, files):
     """Maps the files of one of the two crates."""
     if crate == "fallible-iterator":
         drop_files("map", files, LEFT_OUT)
+    else:
+        drop_files("map", files, ["fallible_itertools_consumers/total.rs"])
     apply("map", files, STD)
     apply("map", files, ITERATOR if crate == "fallible-iterator" else ITERTOOLS)

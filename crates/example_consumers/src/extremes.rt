@@ -1,10 +1,11 @@
 //! Callers of what is in `fallible_itertools` about extremes, counts, comparisons and the second end, with what they compute.
-ghost use Rattle.std.specs.Prelude.{◌≡◌, ◌-◌, ◌%◌, if◌then◌else◌, length, Ok, nat_eq, nat_lt, codes, List, Result, Option, None, Err, ℕ, is_some};
+ghost use Rattle.std.specs.Prelude.{◌≡◌, ◌+◌, ◌-◌, ◌^◌, ◌%◌, if◌then◌else◌, length, Ok, nat_eq, nat_lt, codes, List, Result, Option, None, Err, ℕ, is_some};
 ghost use Rattle.std.specs.Ordering.{nat_cmp};
 ghost use Rattle.fallible_iterator.specs.Clauses.{OverList};
 ghost use Rattle.fallible_iterator.specs.Lists.{CollectedAs, filtered, found, mapped, nth_of, results, reversed, taken, on_value, Lists};
 ghost use Rattle.fallible_itertools.specs.Counts.{IsCountsOf};
 ghost use Rattle.fallible_itertools.specs.ExactlyOne.{at_most_one_of, wanting_one, first_two};
+ghost use Rattle.fallible_itertools.specs.FoldByKey.{FoldedByKeyAs};
 ghost use Rattle.fallible_itertools.specs.GroupMap.{IsGroupMapOf};
 ghost use Rattle.fallible_itertools.specs.Keyed.{keyed};
 ghost use Rattle.fallible_itertools.specs.MinMax.{minmaxed, least_and_greatest};
@@ -181,6 +182,22 @@ pub fn grouped_by_last_digit(
         result }
 {
     convert(readings.into_iter()).into_group_map_by(alloc, |reading: &u32| Ok(*reading % 10))
+}
+
+/// The sum of the readings of each last digit, which wraps.
+pub fn sums_by_last_digit(
+    alloc: Global,
+    readings: Vec<Result<u32, u8>>,
+) -> Result<HashMap<u32, u32>, Fault<u8>>
+    ensures { FoldedByKeyAs nat_eq (λ sum x. Ok ((sum + x) % 2 ^ 32)) 0
+        (keyed (λ x. Ok (x % 10)) (results readings.items)) result }
+{
+    convert(readings.into_iter()).fold_by_key(
+        alloc,
+        |reading: &u32| Ok(*reading % 10),
+        0,
+        |sum: u32, reading: u32| Ok(sum.wrapping_add(reading)),
+    )
 }
 
 /// The readings up to 100, and how much the others are above 100.

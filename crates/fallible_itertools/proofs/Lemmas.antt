@@ -71,6 +71,7 @@ pub use Rattle.fallible_itertools_consumers.proofs.Lemmas.Counts
 pub use Rattle.fallible_itertools_consumers.proofs.Lemmas.Equal
 pub use Rattle.fallible_itertools_consumers.proofs.Lemmas.FindOrLast
 pub use Rattle.fallible_itertools_consumers.proofs.Lemmas.FindPosition
+pub use Rattle.fallible_itertools_consumers.proofs.Lemmas.FoldByKey
 pub use Rattle.fallible_itertools_consumers.proofs.Lemmas.FoldWhile
 pub use Rattle.fallible_itertools_consumers.proofs.Lemmas.FromBack
 pub use Rattle.fallible_itertools_consumers.proofs.Lemmas.GroupMap
@@ -90,4 +91,5 @@ pub use Rattle.fallible_itertools_consumers.proofs.Lemmas.PositionBest
 pub use Rattle.fallible_itertools_consumers.proofs.Lemmas.Sorted
 pub use Rattle.fallible_itertools_consumers.proofs.Lemmas.SortedUnstable
 pub use Rattle.fallible_itertools_consumers.proofs.Lemmas.Tail
+pub use Rattle.fallible_itertools_consumers.proofs.Lemmas.Total
 pub use Rattle.fallible_itertools_consumers.proofs.Lemmas.UntilFailure

@@ -51,6 +51,7 @@ pub use Rattle.fallible_itertools_consumers.specs.Equal
 pub use Rattle.fallible_itertools_consumers.specs.ExactlyOne
 pub use Rattle.fallible_itertools_consumers.specs.FindOrLast
 pub use Rattle.fallible_itertools_consumers.specs.FindPosition
+pub use Rattle.fallible_itertools_consumers.specs.FoldByKey
 pub use Rattle.fallible_itertools_consumers.specs.FoldWhile
 pub use Rattle.fallible_itertools_consumers.specs.FromBack
 pub use Rattle.fallible_itertools_consumers.specs.GroupMap
@@ -67,6 +68,7 @@ pub use Rattle.fallible_itertools_consumers.specs.PositionBest
 pub use Rattle.fallible_itertools_consumers.specs.Sorted
 pub use Rattle.fallible_itertools_consumers.specs.SortedUnstable
 pub use Rattle.fallible_itertools_consumers.specs.Tail
+pub use Rattle.fallible_itertools_consumers.specs.Total
 pub use Rattle.fallible_itertools_consumers.specs.UntilFailure
 pub use Rattle.fallible_itertools_adapters.specs.declared as AdapterTypes
 pub use Rattle.fallible_itertools_consumers.specs.declared as ConsumerTypes

@@ -14,6 +14,6 @@ pub use fallible_itertools_adapters::{
     Unique, UniqueBy, WithPosition, ZipEq, ZipLongest, holding, staging,
 };
 pub use fallible_itertools_consumers::{
-    CheckedTotal, DoubleEndedFallibleItertools, Either, FoldWhile, MinMaxResult, NotOne,
+    CheckedTotal, DoubleEndedFallibleItertools, Either, FoldWhile, MinMaxResult, NotOne, Total,
 };
 pub use traits::FallibleItertools;

@@ -4,7 +4,7 @@ ghost use Rattle.std.specs.HashMap.{get, spare};
 ghost use Rattle.std.specs.HashSet.{IsEmpty};
 ghost use Rattle.std.specs.Set.{ClonesAreEqual};
 ghost use Rattle.std.specs.VecDeque.{deque_capacity, deque_items, deque_len};
-ghost use Rattle.std.specs.Prelude.{◌≡◌, ℕ, ◌+◌, ◌≤◌, List, None, Result, ◌-◌, ◌^◌, ◌⊎◌, true, Option, Ok, Err, false, Bool, Some, IfOk, ⊤, ◌<◌, length, vec_items};
+ghost use Rattle.std.specs.Prelude.{◌≡◌, ℕ, ◌+◌, ◌≤◌, List, None, Result, [], ◌-◌, ◌^◌, ◌⊎◌, true, Option, Ok, Err, false, Bool, Some, IfOk, ⊤, ◌<◌, length, vec_items};
 ghost use Rattle.std.specs.Cmp.{IsStrictWeakOrder, IsTotalOrder};
 ghost use Rattle.std.specs.Fn.{ComparesAs, ComputesKey};
 ghost use Rattle.std.specs.Iterator.{IsFinite};
@@ -69,6 +69,7 @@ ghost use Rattle.fallible_itertools_consumers.specs.FindPosition.{find_position_
 ghost use Rattle.fallible_itertools_consumers.specs.IsSorted.{ItselfCall, OrderCall, in_order, in_order_by_key};
 ghost use Rattle.fallible_itertools_consumers.specs.IsSortedBy.{PairCall, in_order_by, takes_pair};
 ghost use Rattle.fallible_itertools_consumers.specs.Keyed.{keyed, keyed_contract};
+ghost use Rattle.fallible_itertools_consumers.specs.FoldByKey.{AddsValue, FoldedByKeyAs, FoldsByKey, IsKeyFoldOf, checked_folds, last_value};
 ghost use Rattle.fallible_itertools_consumers.specs.FoldWhile.{WhileCall, FoldWhileDrains, folded_while, rest_while};
 ghost use Rattle.fallible_itertools_consumers.specs.KSmallest.{IsSmallestOf, SmallestRefuses};
 ghost use Rattle.fallible_itertools_consumers.specs.Tail.{IsTailOf, TailRefuses};
@@ -82,6 +83,7 @@ ghost use Rattle.fallible_itertools_adapters.specs.Tuples.{tupled, tuples_contra
 ghost use Rattle.fallible_itertools_adapters.specs.Unique.{unique_contract, unique_of, unique_parts, unique_seen, unique_source};
 ghost use Rattle.fallible_itertools_adapters.specs.UniqueBy as unique_by;
 ghost use Rattle.fallible_itertools_adapters.specs.UnlessRefused.{ListsUnlessRefused};
+ghost use Rattle.fallible_itertools_consumers.specs.Total.{AddedDrains, added};
 ghost use Rattle.fallible_itertools_consumers.specs.UntilFailure.{CollectedUntilAs, CollectsUntil, rest_failure};
 ghost use Rattle.fallible_itertools_adapters.specs.WithPosition.{positioned, with_position_contract, with_position_parts};
 ghost use Rattle.fallible_itertools_adapters.specs.ZipEq as zip_eq;
@@ -854,6 +856,61 @@ pub trait FallibleItertools: FallibleIterator {
         let mut product = Self::Item::one();
         let answer = self.drive(&mut product, &ProductTurn);
         total_or_none(answer, product)
+    }
+
+    /// Returns the sum of the items, added in order. Of no items it returns 0, of floats -0.0.
+    ///
+    /// In Rattle it is of floats; `checked_sum` is of integers. In Rust it is of all that std's `sum` is of, and overflows as that does.
+    ///
+    /// It draws up to `Ok(None)` or the first failure. It fails with that failure. It consumes the iterator.
+    ///
+    /// Precondition: the iterator is finite.
+    ///
+    /// Requires: `next` may be called.
+    ///
+    /// Proof: no clause says what is left.
+    ///
+    /// ```
+    /// let prices = [Ok::<f64, u8>(1.5), Ok(0.25), Ok(2.0)];
+    /// assert_eq!(rt; convert(prices.into_iter()).sum::<f64>(), Ok(3.75));
+    /// ```
+    final fn sum<S>(mut self) -> Result<S, Self::Error>
+    where
+        Self: FallibleIterator<Item = S>,
+        S: fallible_itertools_consumers::Total,
+        requires can_next { Self.contract.can_next self }
+        requires finite { Self.contract.is_finite self }
+        ensures sum { AddedDrains S.plus Self.contract.steps S.zero self result }
+        ensures value { OverList Self.contract.steps self (λ l. result ≡ added S.plus S.zero l) }
+    {
+        let mut sum = S::zero();
+        let answer = self.drive(&mut sum, &fallible_itertools_consumers::total::AddTurn);
+        fallible_itertools_consumers::total::total_or_failure(answer, sum)
+    }
+
+    /// Returns the product of the items, multiplied in order. Of no items it returns 1.
+    ///
+    /// Types, draws, errors and precondition: as `sum`. It consumes the iterator too.
+    ///
+    /// ```
+    /// let rates = [Ok::<f64, u8>(1.5), Ok(0.5), Ok(2.0)];
+    /// assert_eq!(rt; convert(rates.into_iter()).product::<f64>(), Ok(1.5));
+    /// ```
+    final fn product<S>(mut self) -> Result<S, Self::Error>
+    where
+        Self: FallibleIterator<Item = S>,
+        S: fallible_itertools_consumers::Total,
+        requires can_next { Self.contract.can_next self }
+        requires finite { Self.contract.is_finite self }
+        ensures product { AddedDrains S.times Self.contract.steps S.one self result }
+        ensures value { OverList Self.contract.steps self (λ l. result ≡ added S.times S.one l) }
+    {
+        let mut product = S::one();
+        let answer = self.drive(
+            &mut product,
+            &fallible_itertools_consumers::total::MultiplyTurn,
+        );
+        fallible_itertools_consumers::total::total_or_failure(answer, product)
     }
 
     /// Folds the items, until the closure returns `Done`. It returns that `Done`, or `Continue` of the last value at `Ok(None)`.
@@ -1988,6 +2045,80 @@ pub trait FallibleItertools: FallibleIterator {
             → list.collected (keyed h l) ≡ Err e) }
     {
         Keyed { it: self, f }.into_group_map(alloc)
+    }
+
+    /// Returns for each key that the first closure makes of the items what the second folds its items to, as a map. A key of the map is the first of equal ones, its value the fold of the items with an equal key, in order, from `init` on.
+    ///
+    /// It draws up to `Ok(None)` or the first failure, of this iterator or of a closure. It fails with that failure. On each item the first closure is called, through a reference, and then the second, on the value so far of the item's key. It consumes the iterator.
+    ///
+    /// Precondition: the iterator is finite.
+    ///
+    /// Requires: `next` may be called, the first closure may be called on each item that may come, in each state that such calls bring it to, and the second on the value so far of its key and each item that may come.
+    ///
+    /// Memory: that failure is a `Fault::Source`. It also stops at an item that the map rejects: no item before has an equal key, and an allocation failed. Then it fails with `Fault::Memory`.
+    ///
+    /// Proof: no clause says what is left.
+    ///
+    /// ```
+    /// let readings = [Ok::<u32, u8>(150), Ok(7), Ok(157)];
+    /// let sums = convert(readings.into_iter()).fold_by_key(
+    ///     rt.alloc(),
+    ///     |reading: &u32| Ok(*reading / 100),
+    ///     0,
+    ///     |sum: u32, reading: u32| Ok(sum.wrapping_add(reading)),
+    /// )?;
+    /// assert_eq!(rt; (sums.get(&1), sums.get(&0)), (Some(&307), Some(&7)));
+    /// ```
+    final fn fold_by_key<K, B, F, G>(
+        self,
+        alloc: Global,
+        key: F,
+        init: B,
+        f: G,
+    ) -> Result<HashMap<K, B>, Fault<Self::Error>>
+    where
+        Self::Item: Drop,
+        K: Eq + Hash + Drop,
+        B: Copy + Drop,
+        F: FnMut(&Self::Item) -> Result<K, Self::Error>,
+        G: FnMut(B, Self::Item) -> Result<B, Self::Error>,
+        requires can_next { Self.contract.can_next self }
+        requires finite { Self.contract.is_finite self }
+        requires callable { IsCallable (call_by_reference F.FnMut) (takes_by_reference F.FnMut)
+            (Self.contract.may_give self) key }
+        requires callable_fold { fold.HoldsAtEachTurn (keyed_contract Self.contract F.FnMut).steps
+            (AddsValue (fold.call_with G.FnMut) K.eq init)
+            (λ p x. fold.takes_with G.FnMut p.1 (last_value K.eq init p.0 x.0) x.1)
+            (self, key) ([], f) }
+        ensures folded { FoldsByKey (fold.call_with G.FnMut) K.eq init
+            (keyed_contract Self.contract F.FnMut).steps (self, key) f result }
+        ensures value { OverListWith (list.Acts (call_by_reference F.FnMut) key) Self.contract.steps
+            self (λ k l. (h : B → Self.Item → Result B Self.Error)
+            → list.ActsWith (fold.call_with G.FnMut) f h
+            → FoldedByKeyAs K.eq h init (keyed k l) result) }
+        ensures contents { OverListWith (list.Acts (call_by_reference F.FnMut) key)
+            Self.contract.steps self (λ k l. (h : B → Self.Item → Result B Self.Error)
+            → list.ActsWith (fold.call_with G.FnMut) f h
+            → IfOk result (list.MadeOf (IsKeyFoldOf K.eq h init)
+            (list.collected (checked_folds K.eq h init [] (keyed k l))))) }
+        ensures failure { OverListWith (list.Acts (call_by_reference F.FnMut) key)
+            Self.contract.steps self (λ k l. (h : B → Self.Item → Result B Self.Error)
+            → list.ActsWith (fold.call_with G.FnMut) f h
+            → (e : Self.Error) → result ≡ Err (Source e)
+            → list.collected (checked_folds K.eq h init [] (keyed k l)) ≡ Err e) }
+    {
+        let mut it = Keyed { it: self, f: key };
+        let mut state = (HashMap::new(alloc), f);
+        let answer = it.drive(
+            &mut state,
+            &fallible_itertools_consumers::fold_by_key::FoldByKeyTurn { init },
+        );
+        let (folds, _) = state;
+        match answer {
+            Ok(None) => Ok(folds),
+            Ok(Some(fault)) => Err(fault),
+            Err(e) => Err(Fault::Source(e)),
+        }
     }
 
     /// Returns two collections of what the closure returns for the items: of the values of each `Either::Left`, and of those of each `Either::Right`, in order. Of equal values they keep what `collect` keeps.

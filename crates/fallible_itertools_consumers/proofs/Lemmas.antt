@@ -8,6 +8,7 @@ pub mod Counts
 pub mod Equal
 pub mod FindOrLast
 pub mod FindPosition
+pub mod FoldByKey
 pub mod FoldWhile
 pub mod FromBack
 pub mod GroupMap
@@ -27,4 +28,5 @@ pub mod PositionBest
 pub mod Sorted
 pub mod SortedUnstable
 pub mod Tail
+pub mod Total
 pub mod UntilFailure

@@ -8,6 +8,7 @@ pub mod Equal
 pub mod ExactlyOne
 pub mod FindOrLast
 pub mod FindPosition
+pub mod FoldByKey
 pub mod FoldWhile
 pub mod FromBack
 pub mod GroupMap
@@ -25,4 +26,5 @@ pub mod PositionBest
 pub mod Sorted
 pub mod SortedUnstable
 pub mod Tail
+pub mod Total
 pub mod UntilFailure

@@ -57,6 +57,8 @@ macro_rules! calls {
         say!("find_or_first", $rows.find_or_first(|x| Ok(*x > 5)));
         say!("checked_sum", $rows.checked_sum());
         say!("checked_product", $rows.checked_product());
+        say!("sum", $rows.sum::<i64>());
+        say!("product", $rows.take(4).product::<i64>());
         say!("fold_while", $rows.fold_while(0, |sum, x| Ok(if x > 8 { FoldWhile::Done(sum) } else { FoldWhile::Continue(sum + x) })).map(FoldWhile::into_inner));
         say!("is_sorted_by_key", $rows.is_sorted_by_key(|x| Ok(x / 10)));
         say!("is_sorted_by", $rows.is_sorted_by(|a, b| Ok(a <= b)));
@@ -89,6 +91,7 @@ macro_rules! calls {
         say!("counts_by", $rows.counts_by(|x| Ok(x / 10)).map(BTreeMap::from_iter));
         say!("into_group_map", $rows.map(|x| Ok((x / 10, x))).into_group_map().map(BTreeMap::from_iter));
         say!("into_group_map_by", $rows.into_group_map_by(|x| Ok(x / 10)).map(BTreeMap::from_iter));
+        say!("fold_by_key", $rows.fold_by_key(|x| Ok(x / 10), 0, |sum, x| Ok(sum + x)).map(BTreeMap::from_iter));
         let (kept, failure) = $rows.collect_until_failure::<Vec<_>>();
         say("collect_until_failure", format!("{kept:?} {:?}", failure.map(|e| $shown(e))));
         say!("partition_map", $rows.partition_map::<Vec<_>, Vec<_>, _, _, _>(|x| Ok(if x > 5 { Either::Left(x) } else { Either::Right(x) })));

@@ -26,17 +26,17 @@ module _ {K V : Type 0} where
       by_cases true h = ap (λ l. p.1 ∷ l) h
       by_cases false h = h
 
-  values_where_pushed : (test : K → Bool) (pairs : List (K × V)) (x : K) (value : V) (b : Bool) → test x ≡ b → values_where test (pairs ++ (x, value) ∷ []) ≡ cond b (values_where test pairs ++ value ∷ []) (values_where test pairs)
+  pub values_where_pushed : (test : K → Bool) (pairs : List (K × V)) (x : K) (value : V) (b : Bool) → test x ≡ b → values_where test (pairs ++ (x, value) ∷ []) ≡ cond b (values_where test pairs ++ value ∷ []) (values_where test pairs)
   values_where_pushed test pairs x value b is = values_where_append test pairs ((x, value) ∷ []) ∙ ap (λ c. values_where test pairs ++ cond c (value ∷ []) []) is ∙ by_cases b
     where
       by_cases : (b : Bool) → values_where test pairs ++ cond b (value ∷ []) [] ≡ cond b (values_where test pairs ++ value ∷ []) (values_where test pairs)
       by_cases true = refl
       by_cases false = append-nil (values_where test pairs)
 
-  values_where_is_same_where_tests_alike : (p q : K → Bool) → ((x : K) → p x ≡ q x) → (pairs : List (K × V)) → values_where p pairs ≡ values_where q pairs
+  pub values_where_is_same_where_tests_alike : (p q : K → Bool) → ((x : K) → p x ≡ q x) → (pairs : List (K × V)) → values_where p pairs ≡ values_where q pairs
   values_where_is_same_where_tests_alike p q same pairs = ap (λ test. values_where test pairs) (λ i x. same x i)
 
-unless_empty_of_one_more_is_some : {A : Type 0} (items : List A) (x : A) → unless_empty (items ++ x ∷ []) ≡ Some (items ++ x ∷ [])
+pub unless_empty_of_one_more_is_some : {A : Type 0} (items : List A) (x : A) → unless_empty (items ++ x ∷ []) ≡ Some (items ++ x ∷ [])
 unless_empty_of_one_more_is_some [] x = refl
 unless_empty_of_one_more_is_some (y ∷ items) x = refl
 

@@ -5,9 +5,6 @@ where
     C: Default + Extend<Self::Item>,
 {
     let mut made = Extended(C::default());
-    let answer = self.drive(&mut made, &PushTurn);
-    match with_failure(answer, made) {
-        Ok((made, failure)) => (made.0, failure),
-        Err(refused) => match refused {},
-    }
+    let failure = whole(self.drive(&mut made, &PushTurn)).err();
+    (made.0, failure)
 }
