@@ -104,6 +104,15 @@ pub fn grouped_by_last_digit(readings: Vec<Result<u32, u8>>) -> Result<HashMap<u
     convert(readings.into_iter()).into_group_map_by(|reading: &u32| Ok(*reading % 10))
 }
 
+/// The sum of the readings of each last digit, which wraps.
+pub fn sums_by_last_digit(readings: Vec<Result<u32, u8>>) -> Result<HashMap<u32, u32>, u8> {
+    convert(readings.into_iter()).fold_by_key(
+        |reading: &u32| Ok(*reading % 10),
+        0,
+        |sum: u32, reading: u32| Ok(sum.wrapping_add(reading)),
+    )
+}
+
 /// The readings up to 100, and how much the others are above 100.
 pub fn up_to_100_and_above(readings: Vec<Result<u32, u8>>) -> Result<(Vec<u32>, Vec<u32>), u8> {
     convert(readings.into_iter()).partition_map(|reading: u32| {

@@ -526,6 +526,18 @@ fn maps_by_a_closure_are_one_fold_each() {
     assert_eq!((counts.is_ok(), groups.is_ok(), log.take()), BOTH_MADE);
 }
 
+#[test]
+fn fold_by_key_is_one_fold() {
+    let log = Log::new();
+    let answers = [Ok(2), Ok(1), Ok(2)];
+    let folds = counted(&answers, &log).fold_by_key(
+        |x: &u32| Ok(*x),
+        0,
+        |sum: u32, x: u32| Ok(sum.wrapping_add(x)),
+    );
+    assert_eq!((folds.is_ok(), log.take()), (true, ONE_FOLD));
+}
+
 type Extremes = (Result<MinMaxResult<u32>, u32>, Calls);
 
 const EXTREMES: Extremes = (Ok(MinMax(1, 3)), TWO_NEXTS_ONE_FOLD);

@@ -306,3 +306,42 @@ fn grouped_by_a_closure() {
     }
     let _ = tested();
 }
+
+// The answers, and what the readings of the digits 5 and 2 come to, the sum of each ten times the one before with the reading added, unless a reading is 7; and how many digits there are.
+type FoldedByDigit = (Numbers, Result<(Option<u32>, Option<u32>, usize), u32>);
+
+const FOLDED: [FoldedByDigit; 4] = [
+    (&[], Ok((None, None, 0))),
+    (
+        &[Ok(15), Ok(2), Ok(5), Ok(25), Ok(12)],
+        Ok((Some(1575), Some(32), 2)),
+    ),
+    (&[Ok(5), Err(9), Ok(7)], Err(9)),
+    (&[Ok(5), Ok(7), Err(9)], Err(70)),
+];
+
+#[test]
+fn folded_by_a_key() {
+    fn tested() -> Result<(), Fail> {
+        for (answers, expected) in &FOLDED {
+            let folds = numbers(answers).fold_by_key(
+                |x: &u32| Ok(*x % 10),
+                0,
+                |sum: u32, x: u32| {
+                    if x == 7 {
+                        Err(70)
+                    } else {
+                        Ok(sum.wrapping_mul(10).wrapping_add(x))
+                    }
+                },
+            );
+            let made = match &folds {
+                Ok(folds) => Ok((folds.get(&5).copied(), folds.get(&2).copied(), folds.len())),
+                Err(e) => Err(*e),
+            };
+            expect_same(&made, expected)?;
+        }
+        Ok(())
+    }
+    let _ = tested();
+}

@@ -43,6 +43,41 @@ fn signed(numbers: &[i64]) -> (Option<i64>, Option<i64>) {
     (sum.unwrap_or(None), product.unwrap_or(None))
 }
 
+// Floats, their sum and their product, and what the next draw of each does.
+type Floats = (
+    &'static [Result<f64, u32>],
+    ([Result<f64, u32>; 2], [Result<Option<f64>, u32>; 2]),
+);
+
+const FLOATS: [Floats; 3] = [
+    (&[], ([Ok(0.0), Ok(1.0)], [Ok(None), Ok(None)])),
+    (
+        &[Ok(1.5), Ok(0.25), Ok(-4.0)],
+        ([Ok(-2.25), Ok(-1.5)], [Ok(None), Ok(None)]),
+    ),
+    (
+        &[Ok(1.5), Err(9), Ok(0.25)],
+        ([Err(9), Err(9)], [Ok(Some(0.25)), Ok(Some(0.25))]),
+    ),
+];
+
+#[test]
+fn plain_totals_of_floats() {
+    fn tested() -> Result<(), Fail> {
+        for (answers, expected) in &FLOATS {
+            let mut to_add = convert(answers.iter().copied());
+            let mut to_multiply = convert(answers.iter().copied());
+            let totals = [
+                to_add.by_ref().sum::<f64>(),
+                to_multiply.by_ref().product::<f64>(),
+            ];
+            expect_same(&(totals, [to_add.next(), to_multiply.next()]), expected)?;
+        }
+        Ok(())
+    }
+    let _ = tested();
+}
+
 #[test]
 fn totals_stop_at_the_first_item_with_which_they_do_not_fit() {
     fn tested() -> Result<(), Fail> {
