@@ -84,7 +84,7 @@ class Row:
                 inner = terms.split_at(terms.bare(parts[-1]), " ")
                 self.add(self.values, reading, inner[-1], held, word)
             elif over_list and word in ("CollectedAs", "CollectedUntilAs", "UnzippedAs", "PartitionedAs", "PartitionedFailuresAs",
-                                       "AllUniqueAs"):
+                                       "AllUniqueAs", "FoldedByKeyAs"):
                 self.add(self.values, reading, " ".join(parts[:-1]), held)
             elif over_list and len(sides) == 2 and re.fullmatch(r"result|v\.items", sides[0]):
                 self.add(self.values, reading, sides[1], held)

@@ -67,7 +67,8 @@ class Docs:
             public = f and (f.label in traits or s.startswith("pub fn", f.start))
             rows = m.group().splitlines(True)
             lines = [x.strip()[3:].removeprefix(" ") for x in rows]
-            new = self.comment(f.name if f else "", lines, proved.get((f.label, f.name), []) if public else [],
+            # The hints have a `sum` too, whose signature is the proved one.
+            new = self.comment(f.name if f and (f.label or f.name != "sum") else "", lines, proved.get((f.label, f.name), []) if public else [],
                                lambda k: text.at(m.start() + sum(map(len, rows[:k]))))
             indent = rows[0][:rows[0].index("/")]
             s = s[:m.start()] + "".join((indent + "/// " + x).rstrip() + "\n" for x in new) + s[m.end():]

@@ -93,7 +93,7 @@ ITERTOOLS = [
     (CONSUMERS + r"/until_failure\.rs", r"^/// Returns the collection beside (?:.*\n)*?\}\n", "", 1),
     (r"traits\.rs", r"::until_failure::\{PushTurn, with_failure\};", "::until_failure::PushTurn;", 1),
     (CONSUMERS + r"/fold_by_key\.rs", r"\bB: Copy\b", "B: Clone", 1),
-    (CONSUMERS + r"/fold_by_key\.rs", r"\bFault<E>> for\b", "E> for", 1),
+    (CONSUMERS + r"/fold_by_key\.rs", r"\bFault<E>(?=[,>])", "E", 1),
     (CONSUMERS + r"/fold_by_key\.rs", r"^use fallible_iterator::\{Fault, Turn\};", "use fallible_iterator::Turn;", 1),
     # std has its own sums and products.
     (CONSUMERS + r"\.rs", r"^pub (?:mod total;|use total::Total;)\n", "", 2),

@@ -48,7 +48,7 @@ use crate::fallible_itertools_consumers::minmax_by::{find_both_by, find_both_by_
 use crate::fallible_itertools_consumers::parted::Parted;
 use crate::fallible_itertools_consumers::partition_map::Either;
 use crate::fallible_itertools_consumers::position_best::{first_is_less, place_alone};
-use crate::fallible_itertools_consumers::until_failure::{PushTurn, with_failure};
+use crate::fallible_itertools_consumers::until_failure::PushTurn;
 #[cfg(feature = "alloc")]
 use crate::fallible_itertools_consumers::{k_smallest, sorted, sorted_unstable, tail};
 #[cfg(feature = "alloc")]
@@ -948,6 +948,70 @@ pub trait FallibleItertools: FallibleIterator + Sized {
         let mut product = Self::Item::one();
         let answer = self.fold_by(&mut product, &ProductTurn);
         total_or_none(answer, product)
+    }
+
+    /// Returns the sum of the items, added in order. Of no items it returns 0, of floats -0.0.
+    ///
+    /// In Rattle it is of floats; `checked_sum` is of integers. In Rust it is of all that std's `sum` is of, and overflows as that does.
+    ///
+    /// It draws up to `Ok(None)` or the first failure. It fails with that failure. It consumes the iterator.
+    ///
+    /// Precondition, which is not checked: the iterator is finite.
+    ///
+    /// ```
+    /// # use fallible_iterator::{FallibleIterator, convert};
+    /// # use fallible_itertools::DoubleEndedFallibleItertools;
+    /// # use fallible_itertools::FallibleItertools;
+    /// let prices = [Ok::<f64, u8>(1.5), Ok(0.25), Ok(2.0)];
+    /// assert_eq!(convert(prices.into_iter()).sum::<f64>(), Ok(3.75));
+    /// ```
+    ///
+    /// <details><summary>Contract</summary>
+    ///
+    /// As it is proved, where its signature is another, in [these words](crate::words):
+    ///
+    /// ```text
+    /// requires can_next { Self.contract.can_next self }
+    /// requires finite { Self.contract.is_finite self }
+    /// ensures sum { AddedDrains S.plus Self.contract.steps S.zero self result }
+    /// ensures value { OverList Self.contract.steps self (λ l. result ≡ added S.plus S.zero l) }
+    /// ```
+    /// </details>
+    fn sum<S>(self) -> Result<S, Self::Error>
+    where
+        S: core::iter::Sum<Self::Item>,
+    {
+        self.iterator().sum()
+    }
+
+    /// Returns the product of the items, multiplied in order. Of no items it returns 1.
+    ///
+    /// Types, draws, errors and precondition: as `sum`. It consumes the iterator too.
+    ///
+    /// ```
+    /// # use fallible_iterator::{FallibleIterator, convert};
+    /// # use fallible_itertools::DoubleEndedFallibleItertools;
+    /// # use fallible_itertools::FallibleItertools;
+    /// let rates = [Ok::<f64, u8>(1.5), Ok(0.5), Ok(2.0)];
+    /// assert_eq!(convert(rates.into_iter()).product::<f64>(), Ok(1.5));
+    /// ```
+    ///
+    /// <details><summary>Contract</summary>
+    ///
+    /// As it is proved, where its signature is another, in [these words](crate::words):
+    ///
+    /// ```text
+    /// requires can_next { Self.contract.can_next self }
+    /// requires finite { Self.contract.is_finite self }
+    /// ensures product { AddedDrains S.times Self.contract.steps S.one self result }
+    /// ensures value { OverList Self.contract.steps self (λ l. result ≡ added S.times S.one l) }
+    /// ```
+    /// </details>
+    fn product<S>(self) -> Result<S, Self::Error>
+    where
+        S: core::iter::Product<Self::Item>,
+    {
+        self.iterator().product()
     }
 
     /// Folds the items, until the closure returns `Done`. It returns that `Done`, or `Continue` of the last value at `Ok(None)`.
@@ -2241,11 +2305,8 @@ pub trait FallibleItertools: FallibleIterator + Sized {
         C: Default + Extend<Self::Item>,
     {
         let mut made = Extended(C::default());
-        let answer = self.fold_by(&mut made, &PushTurn);
-        match with_failure(answer, made) {
-            Ok((made, failure)) => (made.0, failure),
-            Err(refused) => match refused {},
-        }
+        let failure = whole(self.fold_by(&mut made, &PushTurn)).err();
+        (made.0, failure)
     }
 
     /// Returns the items by the keys that the closure makes of them, as a map. A key of the map is the first of equal ones, its value a `Vec` of the items with an equal key, in order.
@@ -2293,6 +2354,77 @@ pub trait FallibleItertools: FallibleIterator + Sized {
         F: FnMut(&Self::Item) -> Result<K, Self::Error>,
     {
         Keyed { it: self, f }.into_group_map()
+    }
+
+    /// Returns for each key that the first closure makes of the items what the second folds its items to, as a map. A key of the map is the first of equal ones, its value the fold of the items with an equal key, in order, from `init` on.
+    ///
+    /// It draws up to `Ok(None)` or the first failure, of this iterator or of a closure. It fails with that failure. On each item the first closure is called, through a reference, and then the second, on the value so far of the item's key. It consumes the iterator.
+    ///
+    /// Precondition, which is not checked: the iterator is finite.
+    ///
+    /// ```
+    /// # use fallible_iterator::{FallibleIterator, convert};
+    /// # use fallible_itertools::DoubleEndedFallibleItertools;
+    /// # use fallible_itertools::FallibleItertools;
+    /// let readings = [Ok::<u32, u8>(150), Ok(7), Ok(157)];
+    /// let sums = convert(readings.into_iter()).fold_by_key(|reading: &u32| Ok(*reading / 100),
+    ///     0,
+    ///     |sum: u32, reading: u32| Ok(sum.wrapping_add(reading)),
+    /// )?;
+    /// assert_eq!((sums.get(&1), sums.get(&0)), (Some(&307), Some(&7)));
+    /// # Ok::<(), u8>(())
+    /// ```
+    ///
+    /// <details><summary>Contract</summary>
+    ///
+    /// As it is proved, where its signature is another, in [these words](crate::words):
+    ///
+    /// ```text
+    /// requires can_next { Self.contract.can_next self }
+    /// requires finite { Self.contract.is_finite self }
+    /// requires callable { IsCallable (call_by_reference F.FnMut) (takes_by_reference F.FnMut)
+    ///     (Self.contract.may_give self) key }
+    /// requires callable_fold { fold.HoldsAtEachTurn (keyed_contract Self.contract F.FnMut).steps
+    ///     (AddsValue (fold.call_with G.FnMut) K.eq init)
+    ///     (λ p x. fold.takes_with G.FnMut p.1 (last_value K.eq init p.0 x.0) x.1)
+    ///     (self, key) ([], f) }
+    /// ensures folded { FoldsByKey (fold.call_with G.FnMut) K.eq init
+    ///     (keyed_contract Self.contract F.FnMut).steps (self, key) f result }
+    /// ensures value { OverListWith (list.Acts (call_by_reference F.FnMut) key) Self.contract.steps
+    ///     self (λ k l. (h : B → Self.Item → Result B Self.Error)
+    ///     → list.ActsWith (fold.call_with G.FnMut) f h
+    ///     → FoldedByKeyAs K.eq h init (keyed k l) result) }
+    /// ensures contents { OverListWith (list.Acts (call_by_reference F.FnMut) key)
+    ///     Self.contract.steps self (λ k l. (h : B → Self.Item → Result B Self.Error)
+    ///     → list.ActsWith (fold.call_with G.FnMut) f h
+    ///     → IfOk result (list.MadeOf (IsKeyFoldOf K.eq h init)
+    ///     (list.collected (checked_folds K.eq h init [] (keyed k l))))) }
+    /// ensures failure { OverListWith (list.Acts (call_by_reference F.FnMut) key)
+    ///     Self.contract.steps self (λ k l. (h : B → Self.Item → Result B Self.Error)
+    ///     → list.ActsWith (fold.call_with G.FnMut) f h
+    ///     → (e : Self.Error) → result ≡ Err (Source e)
+    ///     → list.collected (checked_folds K.eq h init [] (keyed k l)) ≡ Err e) }
+    /// ```
+    /// </details>
+    #[cfg(feature = "std")]
+    fn fold_by_key<K, B, F, G>(self, key: F, init: B, f: G) -> Result<HashMap<K, B>, Self::Error>
+    where
+        K: Eq + Hash,
+        B: Clone,
+        F: FnMut(&Self::Item) -> Result<K, Self::Error>,
+        G: FnMut(B, Self::Item) -> Result<B, Self::Error>,
+    {
+        let mut it = Keyed { it: self, f: key };
+        let mut state = (HashMap::new(), f);
+        let answer = it.fold_by(
+            &mut state,
+            &crate::fallible_itertools_consumers::fold_by_key::FoldByKeyTurn { init },
+        );
+        let (folds, _) = state;
+        match answer {
+            Ok(None) => Ok(folds),
+            Ok(Some(e)) | Err(e) => Err(e),
+        }
     }
 
     /// Returns two collections of what the closure returns for the items: of the values of each `Either::Left`, and of those of each `Either::Right`, in order. Of equal values they keep what `collect` keeps.
@@ -2388,10 +2520,9 @@ pub trait FallibleItertools: FallibleIterator + Sized {
         D: Default + Extend<Self::Error>,
     {
         let mut both = (Extended(C::default()), Extended(D::default()));
-        match whole((Parted { it: self }).fold_by(&mut both, &CollectTurn)) {
-            Ok(()) => (both.0.0, both.1.0),
-            Err(never) => match never {},
-        }
+        // Its failure has no value.
+        let _ = whole((Parted { it: self }).fold_by(&mut both, &CollectTurn));
+        (both.0.0, both.1.0)
     }
 
     /// Returns the items in a `Vec`, in order. Equal items keep their order.

@@ -17,24 +17,3 @@ impl<A, C: Collect<A>> Turn<C, A, AllocError> for PushTurn {
         }
     }
 }
-
-/// Returns the collection beside the failure that the fold met, if it met one.
-///
-/// <details><summary>Contract</summary>
-///
-/// As it is proved, in [these words](crate::words):
-///
-/// ```text
-/// ensures { result ≡ with_failure_of answer made }
-/// ```
-/// </details>
-pub fn with_failure<C, E>(
-    answer: Result<Option<AllocError>, E>,
-    made: C,
-) -> Result<(C, Option<E>), AllocError> {
-    match answer {
-        Ok(None) => Ok((made, None)),
-        Ok(Some(refused)) => Err(refused),
-        Err(e) => Ok((made, Some(e))),
-    }
-}
