@@ -49,7 +49,7 @@ ghost use Rattle.fallible_itertools_consumers.specs.GroupMap.{GroupRefuses, IsGr
 ghost use Rattle.fallible_itertools_adapters.specs.InspectErr.{inspect_err_contract, inspect_err_parts, seen_call};
 ghost use Rattle.fallible_itertools_adapters.specs.OrElse.{or_else_contract, or_else_parts, recovered};
 ghost use Rattle.fallible_itertools_adapters.specs.Interleave as interleave;
-ghost use Rattle.fallible_itertools_adapters.specs.Intersperse.{intersperse_contract, intersperse_parts, interspersed, interspersed_by};
+ghost use Rattle.fallible_itertools_adapters.specs.Intersperse.{intersperse_contract, intersperse_parts, intersperse_plan, interspersed, interspersed_by};
 ghost use Rattle.fallible_itertools_adapters.specs.IntersperseWith as intersperse_with;
 ghost use Rattle.fallible_iterator.specs.Sources.FromFn.{call_of_none};
 ghost use Rattle.fallible_itertools_consumers.specs.Join.{JoinedAs};
@@ -60,6 +60,7 @@ ghost use Rattle.fallible_itertools_consumers.specs.MinMax.{MinMaxDrains, minmax
 ghost use Rattle.fallible_itertools_consumers.specs.MinMaxBy.{MinMaxCall, MinMaxKeyCall, MinMaxKeyDrains, minmaxed_by, minmaxed_by_key, takes_beside};
 ghost use Rattle.fallible_itertools_adapters.specs.PadUsing as pad_using;
 ghost use Rattle.fallible_itertools_consumers.specs.PositionBest.{PlaceDrains, position_greatest, position_least};
+ghost use Rattle.fallible_itertools_adapters.specs.Plan.{passes, plan_can};
 ghost use Rattle.fallible_itertools_adapters.specs.Positions.{positions_contract, positions_parts, positions_source, positions_where};
 ghost use Rattle.fallible_itertools_adapters.specs.RunCounts.{deduped_by_with_count, deduped_with_count};
 ghost use Rattle.fallible_itertools_consumers.specs.Parted.{PartitionedFailuresAs, parted_step, without_source};
@@ -76,6 +77,7 @@ ghost use Rattle.fallible_itertools_consumers.specs.Tail.{IsTailOf, TailRefuses}
 ghost use Rattle.fallible_itertools_consumers.specs.Sorted.{CollectsSorted, HasItems, IsSortedByCalls, IsSortedByComparisons, IsSortedByKeyOf, IsSortedByTest, IsSortedOf};
 ghost use Rattle.fallible_itertools_consumers.specs.SortedUnstable.{CollectsInPlace, HasItemsInOrder, HasItemsInOrderByCalls, HasItemsInOrderByComparisons, HasItemsInOrderByKey, HasItemsInOrderByTest};
 ghost use Rattle.fallible_itertools_adapters.specs.StopAfter.{stop_after_contract, stop_after_items, stop_after_parts, stopped_after};
+ghost use Rattle.fallible_itertools_adapters.specs.Staging.{MayMeet};
 ghost use Rattle.fallible_itertools_adapters.specs.TakeWhileInclusive as inclusive;
 ghost use Rattle.fallible_itertools_consumers.specs.CheckedSum.{TotalDrains, totalled};
 ghost use Rattle.fallible_itertools_adapters.specs.TupleWindows.{HasSecondCloned, tuple_windows_contract, tuple_windows_parts, windowed};
@@ -1105,6 +1107,8 @@ pub trait FallibleItertools: FallibleIterator {
         requires { IsCallable (call_by_reference P.FnMut) (takes_by_reference P.FnMut)
             (Self.contract.may_give self) predicate }
         ensures parts { inclusive.inclusive_parts result ≡ (self, ((tt, predicate), None)) }
+        ensures callable { plan_can (call_by_reference P.FnMut) inclusive.inclusive_plan passes
+            (takes_by_reference P.FnMut) (MayMeet Self.contract self) (tt, predicate) }
         ensures lists { OverListWith (list.Acts (call_by_reference P.FnMut) predicate) Self.contract.steps
             self (λ h l. list.Lists (seen_as inclusive.inclusive_parts
             (inclusive.inclusive_contract P.FnMut Self.contract)).steps
@@ -2819,6 +2823,8 @@ pub trait FallibleItertools: FallibleIterator {
         requires callable { IsCallable (call_of_none F.FnMut) (λ g _. F.pre g) (λ _. ⊤) f }
         ensures parts { intersperse_with.intersperse_with_parts result
             ≡ (self, ((false, f), None)) }
+        ensures callable { plan_can (call_of_none F.FnMut) intersperse_plan passes
+            (intersperse_with.takes_none F.FnMut) (MayMeet Self.contract self) (false, f) }
         ensures lists { (separator : Self.Item) → (l : List (Result Self.Item Self.Error))
             → list.Lists Self.contract.steps self l
             → list.Acts (call_of_none F.FnMut) f (λ _. Ok separator)

@@ -1247,6 +1247,8 @@ pub trait FallibleItertools: FallibleIterator + Sized {
     /// requires { IsCallable (call_by_reference P.FnMut) (takes_by_reference P.FnMut)
     ///     (Self.contract.may_give self) predicate }
     /// ensures parts { inclusive.inclusive_parts result ≡ (self, ((tt, predicate), None)) }
+    /// ensures callable { plan_can (call_by_reference P.FnMut) inclusive.inclusive_plan passes
+    ///     (takes_by_reference P.FnMut) (MayMeet Self.contract self) (tt, predicate) }
     /// ensures lists { OverListWith (list.Acts (call_by_reference P.FnMut) predicate) Self.contract.steps
     ///     self (λ h l. list.Lists (seen_as inclusive.inclusive_parts
     ///     (inclusive.inclusive_contract P.FnMut Self.contract)).steps
@@ -3181,6 +3183,8 @@ pub trait FallibleItertools: FallibleIterator + Sized {
     /// requires callable { IsCallable (call_of_none F.FnMut) (λ g _. F.pre g) (λ _. ⊤) f }
     /// ensures parts { intersperse_with.intersperse_with_parts result
     ///     ≡ (self, ((false, f), None)) }
+    /// ensures callable { plan_can (call_of_none F.FnMut) intersperse_plan passes
+    ///     (intersperse_with.takes_none F.FnMut) (MayMeet Self.contract self) (false, f) }
     /// ensures lists { (separator : Self.Item) → (l : List (Result Self.Item Self.Error))
     ///     → list.Lists Self.contract.steps self l
     ///     → list.Acts (call_of_none F.FnMut) f (λ _. Ok separator)

@@ -1,8 +1,9 @@
 -- What `Intersperse` and `IntersperseWith` list, and their hint.
-use Rattle.std.specs.Prelude.{◌≡◌, ℕ, suc, ◌+◌, ◌-◌, ◌^◌, ◌≤◌, ◌⊎◌, min, cond, ltb, Bool, true, false, Option, Some, None, Result, Ok, Err, IfSome, List, [], ◌∷◌, drop}
+use Rattle.std.specs.Prelude.{◌≡◌, ℕ, suc, ◌+◌, ◌-◌, ◌^◌, ◌≤◌, ◌⊎◌, min, cond, ltb, Bool, true, false, Option, Some, None, Result, Ok, Err, IfSome, List, [], ◌∷◌, drop, ⊤}
 use Rattle.std.specs.Fn.{Mut}
 use Rattle.std.proofs.Common.{refl, sym, ap, subst, inl, inr, arith, ◌∙◌}
 use Rattle.fallible_iterator.specs.Traces.{Answered}
+use Rattle.fallible_iterator.specs.Closures.{IsCallable}
 use Rattle.fallible_iterator.specs.Contract.{Contract, parts_as}
 use Rattle.fallible_iterator.specs.Lists.{Acts, Lists, result_answer}
 use Rattle.fallible_iterator.specs.Refusing.{AnswersRefusal, IsMadeOf, ListsUntilRefused}
@@ -11,11 +12,12 @@ use Rattle.fallible_iterator.specs.Sources.FromFn.{call_of_none}
 use Rattle.fallible_iterator.proofs.Lemmas.Lists.Passing.{lists_seen}
 use Rattle.fallible_iterator.proofs.Lemmas.Refusing.{lists_until_refused_seen}
 use Rattle.fallible_itertools_adapters.specs.Intersperse.{fitting, intersperse_contract, intersperse_hints, intersperse_parts, intersperse_plan, interspersed, interspersed_by, interspersed_high, interspersed_items, next_separator, separated_by, separator_cloned, unparted}
-use Rattle.fallible_itertools_adapters.specs.IntersperseWith.{CallsMakeShown, intersperse_with_contract, intersperse_with_parts}
+use Rattle.fallible_itertools_adapters.specs.IntersperseWith.{CallsMakeShown, intersperse_with_contract, intersperse_with_parts, takes_none}
 use Rattle.fallible_itertools_adapters.specs.Laws.Plan.{Always}
-use Rattle.fallible_itertools_adapters.specs.Plan.{none_held, passes, plan_hint, plan_meets}
+use Rattle.fallible_itertools_adapters.specs.Plan.{none_held, passes, plan_can, plan_hint, plan_meets}
 use Rattle.fallible_itertools_adapters.specs.Staged.{before_rest, plan_does, staged}
 use Rattle.fallible_itertools_adapters.specs.Staging.{EndsInStop, due_total, item_comes, items_of, made_total, stage_contract}
+use Rattle.fallible_itertools_adapters.proofs.Lemmas.Plan.{CallsOnAsked, plan_can_where_callable}
 use Rattle.fallible_itertools_adapters.proofs.Lemmas.PlanHints.{PlanMakes, hints_as_sound_plan}
 use Rattle.fallible_itertools_adapters.proofs.Lemmas.Staged.{MakesSame, gives_plan, gives_plan_until_refused}
 use Rattle.fallible_itertools_adapters.proofs.Lemmas.StagingHints.{DueFew, MadeFew}
@@ -126,6 +128,14 @@ module _ {S F A E : Type 0} (m : Contract S A E) (g : Mut F (Unit {0}) (Result A
   pub lists_interspersed_same : (z : A) → Acts (call_of_none g) f (λ _. Ok z) → Lists (parts_as intersperse_with_parts (intersperse_with_contract g m)).steps s (interspersed z l)
   unfolding interspersed
   lists_interspersed_same z acts = lists_interspersed_by (λ p k. (p ≡ f) × (k ≡ (λ n. Ok z))) (λ p k u v q is called. let d = acts u v q (subst (λ (c : F). call_of_none g c u v q) is.0 called) in (d.1 ∙ sym (ap (λ k. k 0) is.1), (d.0, ap (λ k. λ n. k (suc n)) is.1))) (λ n. Ok z) (refl, refl)
+
+-- where the closure may be called, so may the adapter
+pub plan_can_intersperse : {F A E : Type 0} (g : Mut F (Unit {0}) (Result A E)) (P : Answered A E → Type 0) (p : Bool × F) → IsCallable (call_of_none g) (takes_none g) (λ u. ⊤) p.1 → plan_can (call_of_none g) intersperse_plan passes (takes_none g) P p
+plan_can_intersperse {A = A} g P p c = plan_can_where_callable (call_of_none g) (takes_none g) intersperse_plan passes (λ u. ⊤) P calls_on_none p c
+  where
+    calls_on_none : (came : Bool) (x : A) → P (Ok (Some x)) → CallsOnAsked (call_of_none g) (takes_none g) intersperse_plan passes (λ u. ⊤) P (intersperse_plan came x)
+    calls_on_none false x may = tt
+    calls_on_none true x may = tt
 
 -- ---- the hint
 

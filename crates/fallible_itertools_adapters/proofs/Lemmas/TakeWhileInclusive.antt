@@ -6,17 +6,18 @@ use Rattle.std.proofs.Common.{refl, sym, ap, subst, inl, inr, ◌∙◌, arith}
 use Rattle.fallible_iterator.specs.Contract.{Contract, parts_as, seen_as}
 use Rattle.fallible_iterator.specs.Lists.{Acts, AlwaysGives, GivesForGood, Lists, ListsForGood, all_of, decided, searched}
 use Rattle.fallible_iterator.specs.Traces.{Answered, item}
-use Rattle.fallible_iterator.specs.Closures.{call_by_reference}
+use Rattle.fallible_iterator.specs.Closures.{IsCallable, call_by_reference, takes_by_reference}
 use Rattle.fallible_iterator.specs.Searching.{all_pick}
 use Rattle.fallible_iterator.specs.SoundHints.{Brackets, HintsAsSoundAs, SoundHints}
 use Rattle.fallible_iterator.proofs.Lemmas.Lists.ForGood.{lists_for_good_seen}
 use Rattle.fallible_iterator.proofs.Lemmas.Lists.Passing.{lists_seen}
 use Rattle.fallible_iterator.proofs.Lemmas.Hints.Drawn.{brackets_seen, brackets_zero_where_no_item, if_some_at_least_of_smaller}
 use Rattle.fallible_itertools_adapters.specs.Laws.Staging.{parts_equal_where_made_equal}
-use Rattle.fallible_itertools_adapters.specs.Plan.{HintBy, none_held, passes, plan_hint, plan_meets}
+use Rattle.fallible_itertools_adapters.specs.Plan.{HintBy, none_held, passes, plan_can, plan_hint, plan_meets}
 use Rattle.fallible_itertools_adapters.specs.Staged.{as_function, made_first, plan_does, staged}
-use Rattle.fallible_itertools_adapters.specs.Staging.{DrawsUpTo, EndsInStop, Made, due_total, ends_come, items_of, made_total, passes_over, stage_contract, stage_step, yields}
+use Rattle.fallible_itertools_adapters.specs.Staging.{DrawsUpTo, EndsInStop, Made, MayMeet, due_total, ends_come, items_of, made_total, passes_over, stage_contract, stage_step, yields}
 use Rattle.fallible_itertools_adapters.specs.TakeWhileInclusive.{inclusive_by, inclusive_contract, inclusive_hint, inclusive_parts, inclusive_plan, taken_while_inclusive}
+use Rattle.fallible_itertools_adapters.proofs.Lemmas.Plan.{plan_can_where_callable}
 use Rattle.fallible_itertools_adapters.proofs.Lemmas.PlanHints.{PlanMakes, hints_as_sound_plan}
 use Rattle.fallible_itertools_adapters.proofs.Lemmas.Staged.{ends_for_good_where_ends_due, gives_plan}
 use Rattle.fallible_itertools_adapters.proofs.Lemmas.StagingHints.{DueFew, MadeFew}
@@ -116,6 +117,10 @@ module _ {S F X E : Type 0} (steps : S → Answered X E → S → Type 0) (call 
 pub lists_for_good_inclusive : {S F X E : Type 0} {it : S} (m : Contract S X E) (g : Mut F (Bor X × Unit {0}) (Result Bool E)) (s : TakeWhileInclusive S F) (f : F) (h : X → Result Bool E) (l : List (Result X E)) → inclusive_parts s ≡ (it, ((tt, f), None)) → Acts (call_by_reference g) f h → Lists m.steps it l → all_of h l ≡ Ok false → ListsForGood (seen_as inclusive_parts (inclusive_contract g m)).steps s (taken_while_inclusive h l)
 unfolding all_of
 lists_for_good_inclusive {it = it} m g s f h l parts acts i rejects = lists_for_good_seen inclusive_parts (inclusive_contract g m).steps s parts refl (gives_for_good_inclusive m.steps (call_by_reference g) f h acts l 0 it rejects i.runs)
+
+-- where the predicate may be called on what comes, so may the adapter
+pub plan_can_inclusive : {S F X E : Type 0} (m : Contract S X E) (g : Mut F (Bor X × Unit {0}) (Result Bool E)) (s : S) (p : Unit {0} × F) → IsCallable (call_by_reference g) (takes_by_reference g) (m.may_give s) p.1 → plan_can (call_by_reference g) inclusive_plan passes (takes_by_reference g) (MayMeet m s) p
+plan_can_inclusive m g s p c = plan_can_where_callable (call_by_reference g) (takes_by_reference g) inclusive_plan passes (m.may_give s) (MayMeet m s) (λ u x may. may) p c
 
 -- ---- its hint
 
