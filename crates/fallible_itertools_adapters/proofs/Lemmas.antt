@@ -29,6 +29,7 @@ pub mod InspectErr
 pub mod Interleave
 pub mod Intersperse
 pub mod IntersperseWith
+pub mod KMergeBy
 pub mod Lengths
 pub mod LoopsMade
 pub mod MayCome
@@ -36,6 +37,7 @@ pub mod Merge
 pub mod MergeBy
 pub mod MergeJoinBy
 pub mod MergeJoined
+pub mod MergeTree
 pub mod Merged
 pub mod OrElse
 pub mod PadUsing

@@ -18,9 +18,11 @@ pub mod InspectErr
 pub mod Interleave
 pub mod Intersperse
 pub mod IntersperseWith
+pub mod KMergeBy
 pub mod Merge
 pub mod MergeBy
 pub mod MergeJoinBy
+pub mod MergeTree
 pub mod OrElse
 pub mod OverTraces
 pub mod PadUsing
