@@ -116,7 +116,7 @@ ITERTOOLS = [
      r'#[cfg(feature = "alloc")]\n\1{ChunkBy, Chunks};\n#[cfg(feature = "std")]\n\1{Duplicates, Unique, UniqueBy};\n\g<0>', 2),
     (r".*/(?:chunk_by|chunks|group_map|k_smallest|kmerge_by|sorted_unstable)\.rs", r"\A(//.*\n\n)", r"\1use alloc::vec::Vec;\n", 6),
     (r".*/(?:kmerge_by|merge_tree)\.rs", r"\A(//.*\n\n)", r"\1use alloc::boxed::Box;\n", 2),
-    (r"lib\.rs", r"^pub use crate::fallible_itertools_adapters::kmerge_by::kmerge_by;", r'#[cfg(feature = "alloc")]\npub use crate::fallible_itertools_adapters::kmerge_by::{KMergeBy, kmerge_by};', 1),
+    (r"lib\.rs", r"^pub use crate::fallible_itertools_adapters::kmerge_by::kmerge_by;", r'#[cfg(feature = "alloc")]\npub use crate::fallible_itertools_adapters::{KMergeBy, kmerge_by::kmerge_by};', 1),
     (r"traits\.rs", r"^use crate::fallible_itertools_consumers::(?:join::|\{k_smallest)", r'#[cfg(feature = "alloc")]\n\g<0>', 2),
     (r"traits\.rs", r"^use std::collections::\{HashMap, HashSet, VecDeque\};",
      r'#[cfg(feature = "alloc")]\nuse alloc::collections::VecDeque;\nuse std::collections::{HashMap, HashSet};', 1),

@@ -7,7 +7,7 @@ pub use fallible_itertools_adapters::laws::{
     law_hints_coalesce, law_hints_copied, law_hints_dedup, law_hints_dedup_by,
     law_hints_dedup_by_key, law_hints_dedup_by_with_count, law_hints_dedup_with_count,
     law_hints_duplicates, law_hints_err_into, law_hints_fuse_at_failure, law_hints_inspect_err,
-    law_hints_interleave, law_hints_intersperse, law_hints_intersperse_with,
+    law_hints_interleave, law_hints_intersperse, law_hints_intersperse_with, law_hints_kmerge_by,
     law_hints_listed_copied, law_hints_listed_err_into, law_hints_listed_inspect_err,
     law_hints_merge, law_hints_merge_by, law_hints_merge_join_by, law_hints_or_else,
     law_hints_pad_using, law_hints_peeking_take_while, law_hints_positions, law_hints_stop_after,
