@@ -13,7 +13,7 @@ pub use fallible_itertools_adapters::laws::{
     law_hints_pad_using, law_hints_peeking_take_while, law_hints_positions, law_hints_stop_after,
     law_hints_take_while_inclusive, law_hints_tuple_windows, law_hints_tuples, law_hints_unique,
     law_hints_unique_by, law_hints_with_position, law_hints_zip_eq, law_hints_zip_longest,
-    law_interleaved, law_interspersed, law_listed_copied, law_listed_err_into,
+    law_interleaved, law_interspersed, law_kmerged, law_listed_copied, law_listed_err_into,
     law_listed_inspect_err, law_listed_or_else, law_merge_joined, law_merged, law_merged_in_order,
     law_padded, law_positioned, law_rest_peeking_take_while, law_tupled, law_unique_by_of,
     law_unique_of, law_windowed, law_zipped_longest,
