@@ -28,6 +28,7 @@ pub use Rattle.fallible_itertools_adapters.proofs.Lemmas.HoldingTraces
 pub use Rattle.fallible_itertools_adapters.proofs.Lemmas.InspectErr
 pub use Rattle.fallible_itertools_adapters.proofs.Lemmas.Interleave
 pub use Rattle.fallible_itertools_adapters.proofs.Lemmas.Intersperse
+pub use Rattle.fallible_itertools_adapters.proofs.Lemmas.KMergeBy
 pub use Rattle.fallible_itertools_adapters.proofs.Lemmas.Lengths
 pub use Rattle.fallible_itertools_adapters.proofs.Lemmas.LoopsMade
 pub use Rattle.fallible_itertools_adapters.proofs.Lemmas.MayCome
@@ -35,6 +36,7 @@ pub use Rattle.fallible_itertools_adapters.proofs.Lemmas.Merge
 pub use Rattle.fallible_itertools_adapters.proofs.Lemmas.MergeBy
 pub use Rattle.fallible_itertools_adapters.proofs.Lemmas.MergeJoinBy
 pub use Rattle.fallible_itertools_adapters.proofs.Lemmas.MergeJoined
+pub use Rattle.fallible_itertools_adapters.proofs.Lemmas.MergeTree
 pub use Rattle.fallible_itertools_adapters.proofs.Lemmas.Merged
 pub use Rattle.fallible_itertools_adapters.proofs.Lemmas.OrElse
 pub use Rattle.fallible_itertools_adapters.proofs.Lemmas.PadUsing

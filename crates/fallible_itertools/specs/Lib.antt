@@ -19,10 +19,12 @@ pub use Rattle.fallible_itertools_adapters.specs.InspectErr
 pub use Rattle.fallible_itertools_adapters.specs.Interleave
 pub use Rattle.fallible_itertools_adapters.specs.Intersperse
 pub use Rattle.fallible_itertools_adapters.specs.IntersperseWith
+pub use Rattle.fallible_itertools_adapters.specs.KMergeBy
 pub use Rattle.fallible_itertools_adapters.specs.Laws
 pub use Rattle.fallible_itertools_adapters.specs.Merge
 pub use Rattle.fallible_itertools_adapters.specs.MergeBy
 pub use Rattle.fallible_itertools_adapters.specs.MergeJoinBy
+pub use Rattle.fallible_itertools_adapters.specs.MergeTree
 pub use Rattle.fallible_itertools_adapters.specs.OrElse
 pub use Rattle.fallible_itertools_adapters.specs.PadUsing
 pub use Rattle.fallible_itertools_adapters.specs.PeekingTakeWhile

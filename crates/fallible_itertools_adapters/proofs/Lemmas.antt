@@ -28,6 +28,7 @@ pub mod HoldingTraces
 pub mod InspectErr
 pub mod Interleave
 pub mod Intersperse
+pub mod KMergeBy
 pub mod Lengths
 pub mod LoopsMade
 pub mod MayCome
@@ -35,6 +36,7 @@ pub mod Merge
 pub mod MergeBy
 pub mod MergeJoinBy
 pub mod MergeJoined
+pub mod MergeTree
 pub mod Merged
 pub mod OrElse
 pub mod PadUsing

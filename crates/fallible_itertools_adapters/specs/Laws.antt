@@ -17,10 +17,12 @@ pub mod HoldingTraces
 pub mod InspectErr
 pub mod Interleave
 pub mod Intersperse
+pub mod KMergeBy
 pub mod Listed
 pub mod Merge
 pub mod MergeBy
 pub mod MergeJoinBy
+pub mod MergeTree
 pub mod OrElse
 pub mod OverTraces
 pub mod PadUsing

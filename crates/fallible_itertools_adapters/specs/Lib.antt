@@ -19,10 +19,12 @@ pub mod InspectErr
 pub mod Interleave
 pub mod Intersperse
 pub mod IntersperseWith
+pub mod KMergeBy
 pub mod Laws
 pub mod Merge
 pub mod MergeBy
 pub mod MergeJoinBy
+pub mod MergeTree
 pub mod OrElse
 pub mod PadUsing
 pub mod PeekingTakeWhile
