@@ -10,6 +10,8 @@ from refusals.source import arms, bare, functions, is_call
 # What says that there was no memory, beside std's error: variants of these names, and those that a conversion of it makes.
 VARIANTS = ("Memory", "OutOfMemory", "NoMemory")
 NAMED = re.compile(r"\s*\(\s*([a-z_]\w*)\s*\)")
+# A conversion, within a variant.
+CONVERTED = re.compile(r"\(\s*AllocError::from\(\w+\)\s*\)")
 # What a pattern binds to its own name where a call answers with a refusal.
 BINDS = re.compile(r"(?:Err|Ok\(Some|Ok\(Some\(Some|Err\(Fault::Memory|Fault::Memory)\((\w+)\)+")
 TYPES = re.compile(r"::<[^;{}()]*?>(?=\()|\blet [^=;]*?:[^=;]*=|(?<!\|)\|(?!\|)[^|;{}]*(?<!\|)\|(?!\|)|\bas \w+")
@@ -146,6 +148,8 @@ class Reading:
         elif found.group("variant") and name != "_" and name is not None:
             if not self.is_own(arm, name, place):
                 self.tell(place, function.name, f"{found.group()}({name}) is of no call's answer")
+        elif found.group("variant") and CONVERTED.match(after):
+            pass  # what is converted is judged where it stands
         elif not (found.group("variant") and (self.answers(arm) or self.is_mapped(place, after))):
             self.judge_reason(function, place, found, arm)
 

@@ -34,6 +34,8 @@ pub use crate::fallible_itertools_adapters::{
 };
 #[cfg(feature = "std")]
 pub use crate::fallible_itertools_adapters::{Duplicates, Unique, UniqueBy};
+#[cfg(feature = "alloc")]
+pub use crate::fallible_itertools_adapters::{KMergeBy, kmerge_by::kmerge_by};
 pub use crate::fallible_itertools_consumers::{
     CheckedTotal, DoubleEndedFallibleItertools, Either, FoldWhile, MinMaxResult, NotOne,
 };
