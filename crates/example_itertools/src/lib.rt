@@ -7,6 +7,7 @@ pub mod failing;
 pub mod holding;
 pub mod interspersing;
 pub mod joining;
+pub mod merging_many;
 pub mod ordering;
 pub mod passing;
 pub mod reading;
