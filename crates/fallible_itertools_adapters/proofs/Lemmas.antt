@@ -29,6 +29,7 @@ pub mod InspectErr
 pub mod Interleave
 pub mod Intersperse
 pub mod IntersperseWith
+pub mod KMerge
 pub mod KMergeBy
 pub mod Lengths
 pub mod LoopsMade
