@@ -116,15 +116,15 @@ ITERTOOLS = [
     # The trait of the Rust crate is for types without a size too.
     (r"(?:traits|.*/double_ended|.*/peeking_take_while)\.rs", r"^(pub trait \w+: \w+) \{", r"\1 + Sized {", 3),
     # Features.
-    (r"fallible_\w+\.rs", r"^pub (?:mod (?:chunk_by|chunks|join|k_smallest|kmerge_by|merge_tree|sorted|sorted_unstable|tail);|use (?:chunk_by|chunks|kmerge_by)::)", r'#[cfg(feature = "alloc")]\n\g<0>', 12),
+    (r"fallible_\w+\.rs", r"^pub (?:mod (?:chunk_by|chunks|join|k_smallest|kmerge|kmerge_by|merge_tree|sorted|sorted_unstable|tail);|use (?:chunk_by|chunks|kmerge|kmerge_by)::)", r'#[cfg(feature = "alloc")]\n\g<0>', 14),
     (r"fallible_\w+\.rs", r"^pub (?:mod (?:all_unique|counts|duplicates|fold_by_key|group_map|keyed|unique|unique_by);|use (?:duplicates|unique(?:_by)?)::)",
      r'#[cfg(feature = "std")]\n\g<0>', 11),
-    (r"(?:lib|traits)\.rs", r"\bChunkBy,\s+Chunks,\s+|\bDuplicates,\s+|\bKMergeBy,\s+|\bUnique,\s+UniqueBy,\s+", "", 7),
+    (r"(?:lib|traits)\.rs", r"\bChunkBy,\s+Chunks,\s+|\bDuplicates,\s+|\bKMerge,\s+KMergeBy,\s+|\bUnique,\s+UniqueBy,\s+", "", 7),
     (r"(?:lib|traits)\.rs", r"^((?:pub )?use crate::fallible_itertools_adapters::)\{",
      r'#[cfg(feature = "alloc")]\n\1{ChunkBy, Chunks};\n#[cfg(feature = "std")]\n\1{Duplicates, Unique, UniqueBy};\n\g<0>', 2),
     (r".*/(?:chunk_by|chunks|group_map|k_smallest|kmerge_by|sorted_unstable)\.rs", r"\A(//.*\n\n)", r"\1use alloc::vec::Vec;\n", 6),
     (r".*/(?:kmerge_by|merge_tree)\.rs", r"\A(//.*\n\n)", r"\1use alloc::boxed::Box;\n", 2),
-    (r"lib\.rs", r"^pub use crate::fallible_itertools_adapters::kmerge_by::kmerge_by;", r'#[cfg(feature = "alloc")]\npub use crate::fallible_itertools_adapters::{KMergeBy, kmerge_by::kmerge_by};', 1),
+    (r"lib\.rs", r"^pub use crate::fallible_itertools_adapters::kmerge_by::\{kmerge, kmerge_by\};", r'#[cfg(feature = "alloc")]\npub use crate::fallible_itertools_adapters::{KMerge, KMergeBy, kmerge_by::{kmerge, kmerge_by}};', 1),
     (r"traits\.rs", r"^use crate::fallible_itertools_consumers::(?:join::|\{k_smallest)", r'#[cfg(feature = "alloc")]\n\g<0>', 2),
     (r"traits\.rs", r"^use std::collections::\{HashMap, HashSet, VecDeque\};",
      r'#[cfg(feature = "alloc")]\nuse alloc::collections::VecDeque;\nuse std::collections::{HashMap, HashSet};', 1),

@@ -61,7 +61,7 @@ NEVER_REFUSED = [
     ("BufReader::new", "BufReader::new"), ("BufReader::with_capacity", "BufReader::with_capacity"),
     (".push_back", ".push_back"), (".extend_from_slice", ".extend_from_slice"),
     (".collect_until_failure", ".collect_until_failure"), (".partition_failures", ".partition_failures"),
-    ("kmerge_by", "kmerge_by"),
+    ("kmerge_by", "kmerge_by"), ("kmerge", "kmerge"),
 ]
 
 

@@ -28,6 +28,7 @@ pub use Rattle.fallible_itertools_adapters.proofs.Lemmas.HoldingTraces
 pub use Rattle.fallible_itertools_adapters.proofs.Lemmas.InspectErr
 pub use Rattle.fallible_itertools_adapters.proofs.Lemmas.Interleave
 pub use Rattle.fallible_itertools_adapters.proofs.Lemmas.Intersperse
+pub use Rattle.fallible_itertools_adapters.proofs.Lemmas.KMerge
 pub use Rattle.fallible_itertools_adapters.proofs.Lemmas.KMergeBy
 pub use Rattle.fallible_itertools_adapters.proofs.Lemmas.Lengths
 pub use Rattle.fallible_itertools_adapters.proofs.Lemmas.LoopsMade

@@ -19,6 +19,7 @@ pub use Rattle.fallible_itertools_adapters.specs.InspectErr
 pub use Rattle.fallible_itertools_adapters.specs.Interleave
 pub use Rattle.fallible_itertools_adapters.specs.Intersperse
 pub use Rattle.fallible_itertools_adapters.specs.IntersperseWith
+pub use Rattle.fallible_itertools_adapters.specs.KMerge
 pub use Rattle.fallible_itertools_adapters.specs.KMergeBy
 pub use Rattle.fallible_itertools_adapters.specs.Laws
 pub use Rattle.fallible_itertools_adapters.specs.Merge

@@ -6,11 +6,11 @@
 pub mod laws;
 pub mod traits;
 
-pub use fallible_itertools_adapters::kmerge_by::kmerge_by;
+pub use fallible_itertools_adapters::kmerge_by::{kmerge, kmerge_by};
 pub use fallible_itertools_adapters::{
     ChunkBy, Chunks, Coalesce, Copied, Dedup, DedupBy, DedupByKey, DedupByWithCount,
     DedupWithCount, Duplicates, EitherOrBoth, ErrInto, FuseAtFailure, InspectErr, Interleave,
-    Intersperse, IntersperseWith, KMergeBy, Merge, MergeBy, MergeJoinBy, OrElse, PadUsing,
+    Intersperse, IntersperseWith, KMerge, KMergeBy, Merge, MergeBy, MergeJoinBy, OrElse, PadUsing,
     PeekingNext, PeekingTakeWhile, Position, Positions, StopAfter, TakeWhileInclusive,
     TupleWindows, Tuples, Unique, UniqueBy, WithPosition, ZipEq, ZipLongest, holding, staging,
 };

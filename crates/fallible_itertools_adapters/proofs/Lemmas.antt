@@ -28,6 +28,7 @@ pub mod HoldingTraces
 pub mod InspectErr
 pub mod Interleave
 pub mod Intersperse
+pub mod KMerge
 pub mod KMergeBy
 pub mod Lengths
 pub mod LoopsMade

@@ -17,6 +17,7 @@ pub mod HoldingTraces
 pub mod InspectErr
 pub mod Interleave
 pub mod Intersperse
+pub mod KMerge
 pub mod KMergeBy
 pub mod Listed
 pub mod Merge

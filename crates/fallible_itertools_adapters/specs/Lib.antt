@@ -19,6 +19,7 @@ pub mod InspectErr
 pub mod Interleave
 pub mod Intersperse
 pub mod IntersperseWith
+pub mod KMerge
 pub mod KMergeBy
 pub mod Laws
 pub mod Merge

@@ -44,7 +44,7 @@ pub use holding::{
 };
 pub use interleave::{law_hints_interleave, law_interleaved};
 pub use intersperse::{law_hints_intersperse, law_hints_intersperse_with};
-pub use kmerge_by::{law_hints_kmerge_by, law_kmerged};
+pub use kmerge_by::{law_hints_kmerge, law_hints_kmerge_by, law_kmerged, law_kmerged_in_order};
 pub use lengths::{
     law_interspersed, law_interspersed_by, law_tupled, law_windowed, law_zipped_longest,
 };
