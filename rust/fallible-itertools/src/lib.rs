@@ -35,7 +35,10 @@ pub use crate::fallible_itertools_adapters::{
 #[cfg(feature = "std")]
 pub use crate::fallible_itertools_adapters::{Duplicates, Unique, UniqueBy};
 #[cfg(feature = "alloc")]
-pub use crate::fallible_itertools_adapters::{KMergeBy, kmerge_by::kmerge_by};
+pub use crate::fallible_itertools_adapters::{
+    KMerge, KMergeBy,
+    kmerge_by::{kmerge, kmerge_by},
+};
 pub use crate::fallible_itertools_consumers::{
     CheckedTotal, DoubleEndedFallibleItertools, Either, FoldWhile, MinMaxResult, NotOne,
 };

@@ -15,7 +15,7 @@ fn each_iterator_has_what_it_keeps() {
         M => ChunkBy<Of<M>, (), ()>, Chunks<Of<M>>, Coalesce<Of<M>, ()>, Copied<M>, Dedup<Of<M>>, DedupBy<Of<M>, ()>,
             DedupByKey<Of<M>, (), ()>, DedupByWithCount<Of<M>, ()>, DedupWithCount<Of<M>>, Duplicates<Of<M>>, ErrInto<M, ()>, FuseAtFailure<M>, InspectErr<M, ()>, Interleave<M, ()>, Interleave<(), M>, Intersperse<Of<M>>,
             IntersperseWith<Of<M>, ()>,
-            KMergeBy<Of<M>, ()>, Merge<Of<M>, ()>, Merge<Of<()>, M>, MergeBy<Of<M>, (), ()>, MergeBy<Of<()>, M, ()>, MergeJoinBy<Of<M>, Of<()>, ()>, MergeJoinBy<Of<()>, Of<M>, ()>, OrElse<M, ()>,
+            KMerge<Of<M>>, KMergeBy<Of<M>, ()>, Merge<Of<M>, ()>, Merge<Of<()>, M>, MergeBy<Of<M>, (), ()>, MergeBy<Of<()>, M, ()>, MergeJoinBy<Of<M>, Of<()>, ()>, MergeJoinBy<Of<()>, Of<M>, ()>, OrElse<M, ()>,
             PadUsing<M, ()>, PeekingTakeWhile<M, ()>, Positions<M, ()>, StopAfter<M>, TakeWhileInclusive<M, ()>, TupleWindows<Of<M>>,
             Tuples<Of<M>>, Unique<Of<M>>, UniqueBy<M, (), ()>, WithPosition<Of<M>>, ZipEq<Of<M>, (), ()>, ZipEq<Of<()>, M, ()>, ZipLongest<Of<M>, ()>,
             ZipLongest<Of<()>, M>;
@@ -30,7 +30,7 @@ fn each_iterator_has_what_it_keeps() {
     // An item in hand, and a failure that is due.
     rows! { M;
         M => Coalesce<Source<(), M>, ()>, Dedup<Source<(), M>>, DedupBy<Source<(), M>, ()>, DedupByWithCount<Source<(), M>, ()>, DedupWithCount<Source<(), M>>, Intersperse<Source<(), M>>,
-            IntersperseWith<Source<(), M>, ()>, KMergeBy<Source<(), M>, ()>, Merge<Source<(), M>, ()>, MergeBy<Source<(), M>, (), ()>,
+            IntersperseWith<Source<(), M>, ()>, KMerge<Source<(), M>>, KMergeBy<Source<(), M>, ()>, Merge<Source<(), M>, ()>, MergeBy<Source<(), M>, (), ()>,
             MergeJoinBy<Source<(), M>, Of<()>, ()>, MergeJoinBy<Of<()>, Source<(), M>, ()>,
             TupleWindows<Source<(), M>>, Tuples<Source<(), M>>, WithPosition<Source<(), M>>,
             ZipEq<Source<(), M>, (), ()>, ZipLongest<Source<(), M>, ()>;
