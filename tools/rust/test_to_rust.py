@@ -181,7 +181,9 @@ class Refusals(unittest.TestCase):
             listed = re.search(r"^\| `%s`.*? \| (.*) \|$" % feature, page, re.M).group(1)
             calls = [re.match(r" *fn (\w+)", below).group(1) for line, below in zip(traits, traits[1:])
                      if line.strip() == '#[cfg(feature = "%s")]' % feature and below.startswith("    fn ")]
-            self.assertEqual(sorted(re.findall(r"`(\w+)`", listed)), sorted(calls + ["alloc"] * (feature == "std")))
+            handed = (self.out / "fallible-itertools/src/lib.rs").read_text().split('#[cfg(feature = "%s")]\npub use ' % feature)[1:]
+            functions = [name for used in handed for name in re.findall(r"\b[a-z]\w*(?=[,;}\s])", used.split(";")[0])]
+            self.assertEqual(sorted(re.findall(r"`(\w+)`", listed)), sorted(calls + functions + ["alloc"] * (feature == "std")))
         here = [row.split(" | ")[1] for row in page.split("| Looked for |")[1].split("\n\n")[0].split("\n")[2:]]
         named = re.findall(r"\b[a-z]\w*[^\W_]\b", " ".join(re.findall(r"`([^`]*)`", " ".join(here))))
         self.assertEqual([name for name in named if name not in words], [])
