@@ -1,16 +1,19 @@
 #!/usr/bin/env bash
 # Measures this repository's Rust crates beside others, by what each number takes.
 #
-#     tools/rust_bench.sh [chains|calls|all [MADE_FOLDER [ORIGINAL_FOLDER]]]
+#     tools/rust_bench.sh [--write] [chains|calls|compile|all [MADE_FOLDER [ORIGINAL_FOLDER]]]
 #
 # `chains` are those of release/rust-bench, over our fallible-iterator, over the original, and beside a loop written by hand.
 # `calls` are those of our fallible-itertools in release/rust-bench-itertools, over ours and over the original, beside those of
-# itertools, which has them over items that can't fail. MADE_FOLDER is what tools/to_rust wrote, else rust/. ORIGINAL_FOLDER is that of the original;
-# without it, and for itertools, Debian's packages are taken, from /usr/share/cargo/registry, or fetched by apt and not
-# installed. It prints the instructions for each number, by a fold and by `next`: those of 200,000 numbers less those of
-# none, by valgrind's callgrind. The status is 1 where an answer differs.
+# itertools, which has them over items that can't fail. `compile` is the processor time of `cargo build` from nothing.
+# MADE_FOLDER is what tools/to_rust wrote, else rust/. ORIGINAL_FOLDER is that of the original; without it, and for itertools,
+# Debian's packages are taken, from /usr/share/cargo/registry, or fetched by apt and not installed. It prints the instructions
+# for each number, by a fold and by `next`: those of 200,000 numbers less those of none, by valgrind's callgrind. With --write
+# what `calls` and `compile` print goes into release/rust-bench/FIGURES.md too. The status is 1 where an answer differs.
 set -eu
 repository=$(cd "$(dirname "$0")/.." && pwd)
+writes=
+[ "${1:-}" != --write ] || { writes=yes; shift; }
 what=${1:-all}
 made=${2:-$repository/rust}
 original=${3:-}
@@ -18,7 +21,7 @@ work=$(mktemp -d)
 trap 'rm -rf "$work"' EXIT
 count=200000
 differs=0
-case $what in chains | calls | all) ;; *) sed -n 2,11p "$0" >&2; exit 2 ;; esac
+case $what in chains | calls | compile | all) ;; *) sed -n 2,13p "$0" >&2; exit 2 ;; esac
 
 # The source of a crate of Debian's.
 source_of() {
@@ -102,25 +105,70 @@ calls() {
     either=$(source_of either)
     lay_calls "$work/calls" "$made/fallible-iterator"
     lay_calls "$work/beside" "$original"
-    echo "$(rustc --version); itertools $(version_of "$itertools"); the original: $(version_of "$original")"
+    echo "By $(rustc --version | cut -d' ' -f1,2), beside itertools $(version_of "$itertools"), and over $(version_of "$original") of the original:"
     echo
-    echo '| Call | By a fold: ours | Over the original | `itertools` | By `next`: ours | Over the original | `itertools` |'
-    echo '|---|---|---|---|---|---|---|'
+    echo '| Call | By a fold: ours | Over the original | Its rival | Ratio | By `next`: ours | Over the original | Its rival | Ratio |'
+    echo '|---|---|---|---|---|---|---|---|---|'
     while read -r name; do
         wanted=$("$ours" theirs-fold "$name" 1000)
         line="| $name |"
         for way in fold next; do
+            figures=
             for bench in "$ours ours-$way" "$beside ours-$way" "$ours theirs-$way"; do
                 # A word each: the executable and the way.
-                compare "$wanted" $bench "$name"
-                line="$line $(printf %.1f "$(figure $bench "$name")") |"
+                compare "$wanted" $bench "$name" >&2
+                figures="$figures $(figure $bench "$name")"
             done
+            # A call that the compiler does without a loop takes nothing for a number.
+            line="$line$(echo "$figures" | awk '{ printf " %.1f | %.1f | %.1f | %s |", $1, $2, $3, $3 < 0.05 ? "" : sprintf("%.2f", $1 / $3) }')"
         done
         echo "$line"
     done < <("$ours" names)
 }
 
-[ "$what" = calls ] || chains
+# The seconds of processor that `cargo build` takes for the crate of a folder, from nothing.
+seconds_to_build() {
+    local TIMEFORMAT='%U %S'
+    rm -rf "$1/target"
+    { time (cd "$1" && CARGO_INCREMENTAL=0 cargo build --offline --quiet ${2:+"$2"} 2>"$work/log" || cat "$work/log" >&2); } 2>&1 |
+        awk '{ printf "%.2f", $1 + $2 }'
+}
+
+compile() {
+    local folder name
+    original=${original:-$(source_of fallible-iterator)}
+    cp -r "$made" "$work/compiled"
+    cp -r "$original" "$work/compiled-original"
+    # Each is a workspace of its own here, and the second stands on the first.
+    rm -f "$work/compiled/Cargo.toml"
+    for folder in compiled/fallible-iterator compiled/fallible-itertools compiled-original; do
+        grep -q '^\[workspace\]' "$work/$folder/Cargo.toml" || printf '\n[workspace]\n' >> "$work/$folder/Cargo.toml"
+    done
+    printf '\n[patch.crates-io]\nfallible-iterator = { path = "../fallible-iterator" }\n' >> "$work/compiled/fallible-itertools/Cargo.toml"
+    echo '| Crate | Debug, seconds of processor | Release |'
+    echo '|---|---|---|'
+    for name in 'compiled-original:`fallible-iterator`, the original' 'compiled/fallible-iterator:ours' 'compiled/fallible-itertools:ours, with `fallible-itertools`'; do
+        folder=$work/${name%%:*}
+        echo "| ${name#*:} | $(seconds_to_build "$folder") | $(seconds_to_build "$folder" --release) |"
+    done
+}
+
+# Prints what $1 prints, and puts it into FIGURES.
+shown() {
+    local table=$work/$1.table
+    "$1" > >(tee "$table")
+    wait $!
+    [ -z "$writes" ] || python3 - "$1" "$table" "$repository/release/rust-bench/FIGURES.md" <<'END'
+import pathlib, sys
+name, table, page = sys.argv[1], pathlib.Path(sys.argv[2]), pathlib.Path(sys.argv[3])
+before, rest = page.read_text().split(f"<!-- made by tools/rust_bench.sh {name} -->\n")
+page.write_text(f"{before}<!-- made by tools/rust_bench.sh {name} -->\n{table.read_text()}<!-- end -->{rest.split('<!-- end -->', 1)[1]}")
+END
+}
+
+case $what in chains | all) chains ;; esac
 [ "$what" != all ] || echo
-[ "$what" = chains ] || calls
+case $what in calls | all) shown calls ;; esac
+[ "$what" != all ] || echo
+case $what in compile | all) shown compile ;; esac
 exit $differs

@@ -33,7 +33,7 @@ macro_rules! call {
     };
 }
 
-const CALLS: [(&str, [Call; 4]); 25] = [
+const CALLS: &[(&str, [Call; 4])] = &[
     call!("dedup, runs of 4", dedup),
     call!("dedup_by_key, runs of 4", dedup_by_key),
     call!("coalesce, runs of 4", coalesce),
@@ -59,6 +59,66 @@ const CALLS: [(&str, [Call; 4]); 25] = [
     call!("k_smallest, 100 of scattered", k_smallest_scattered_100),
     call!("k_smallest, 1000 of scattered", k_smallest_scattered_1000),
     call!("k_smallest, 10000 of scattered", k_smallest_scattered_10000),
+    call!("dedup_by, runs of 4", dedup_by),
+    call!("dedup_with_count, runs of 4", dedup_with_count),
+    call!("dedup_by_with_count, runs of 4", dedup_by_with_count),
+    call!("with_position", with_position),
+    call!("tuples", tuples),
+    call!("copied", copied),
+    call!("inspect_err", inspect_err),
+    call!("err_into", err_into),
+    call!("or_else, one of three left out", or_else),
+    call!("fuse_at_failure", fuse_at_failure),
+    call!("stop_after", stop_after),
+    call!("merge", merge),
+    call!("merge_join_by", merge_join_by),
+    call!("zip_eq", zip_eq),
+    call!("interleave", interleave),
+    call!("intersperse_with", intersperse_with),
+    call!("positions", positions),
+    call!("unique, 1000 of them", unique),
+    call!("unique_by, 1000 of them", unique_by),
+    call!("duplicates, 1000 of them", duplicates),
+    call!("kmerge of 8", kmerge_8),
+    call!("kmerge_by of 8", kmerge_by_8),
+    call!("peeking_take_while", peeking_take_while),
+    call!("try_for_each", try_for_each),
+    call!("try_find", try_find),
+    call!("try_position", try_position),
+    call!("contains", contains),
+    call!("all_equal", all_equal),
+    call!("all_equal_value", all_equal_value),
+    call!("all_unique", all_unique),
+    call!("find_position", find_position),
+    call!("find_or_first", find_or_first),
+    call!("find_or_last", find_or_last),
+    call!("checked_product", checked_product),
+    call!("sum of floats", sum),
+    call!("product of floats", product),
+    call!("fold_while", fold_while),
+    call!("is_sorted", is_sorted),
+    call!("is_sorted_by", is_sorted_by),
+    call!("is_sorted_by_key", is_sorted_by_key),
+    call!("at_most_one", at_most_one),
+    call!("exactly_one", exactly_one),
+    call!("position_min", position_min),
+    call!("counts_by, 1000 keys", counts_by),
+    call!("into_group_map, 1000 keys", into_group_map),
+    call!("into_group_map_by, 1000 keys", into_group_map_by),
+    call!("fold_by_key, 1000 keys", fold_by_key),
+    call!("collect_until_failure", collect_until_failure),
+    call!("partition_map", partition_map),
+    call!("partition_failures", partition_failures),
+    call!("sorted, scattered", sorted),
+    call!("sorted_by, scattered", sorted_by),
+    call!("sorted_by_key, scattered", sorted_by_key),
+    call!("sorted_unstable, scattered", sorted_unstable),
+    call!("sorted_unstable_by, scattered", sorted_unstable_by),
+    call!("sorted_unstable_by_key, scattered", sorted_unstable_by_key),
+    call!("tail, 100", tail_100),
+    call!("tail, 10000", tail_10000),
+    call!("cmp_by", cmp_by),
+    call!("eq_by", eq_by),
 ];
 
 fn main() {
@@ -73,9 +133,6 @@ fn main() {
         .iter()
         .position(|way| *way == arguments[1])
         .expect("a way");
-    let (_, call) = CALLS
-        .iter()
-        .find(|(name, _)| *name == arguments[2])
-        .expect("a call");
+    let (_, call) = CALLS.iter().find(|(name, _)| *name == arguments[2]).expect("a call");
     println!("{}", call[way](arguments[3].parse().expect("a number")));
 }
