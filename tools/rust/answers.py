@@ -41,6 +41,12 @@ PUBLISHED = [
     (r"main\.rs", r"^    drive::<(?:Over<)?filtering::(?!Places)\w+>*\(total\)(?:\?;|$)\n", "", 4),
     (r"main\.rs", r"^(    drive::<filtering::PlacesByCalls>\(total\))\?;$", r"\1", 1),
 ]
+# As a test of the crate, which fails where a comparison does.
+TESTED = [
+    (r"main\.rs", r"\A//! .*\n", "//! Drives each adapter by every script of at most four answers, and compares answers, draws and leftovers with a rule over whole lists.\n#![cfg(feature = \"std\")]\n// What is erased leaves imports behind, and one argument.\n#![allow(unused, clippy::all)]\n", 1),
+    (r"main\.rs", r"^fn main\(\)", "#[test]\nfn each_adapter_by_every_short_script()", 1),
+    (r"main\.rs", r"^    println!\(\"in all: .*\n", "    assert_eq!((cases, mismatches), (@CASES@, 0));\n", 1),
+]
 MANIFEST = """[package]
 name = "answers"
 version = "0.0.0"
@@ -57,17 +63,29 @@ fallible-iterator = { path = "%s" }
 """
 
 
-def program(top, below, above, published):
-    """The program's files by path, over the crate of the folder `below` and our second of `above`. `published` says whether
-    the first is the original."""
+def files_of(top, rules):
+    """The program's files in Rust by their names, with rules after those that erase."""
     files = {}
     for path in sorted((top / SCRIPTS / "src").glob("*.rt.txt")):
         text = read(path, "%s/src/%s" % (SCRIPTS, path.name))
         text.cut_all(r"^ *///.*\n *pub alloc: Global,\n")
         tests.as_rust(text)
         files[path.name.replace(".rt.txt", ".rs")] = text
-    apply("answers", files, ERASED + PUBLISHED * published)
-    return {"Cargo.toml": MANIFEST % (above, below), **{"src/" + name: text.s for name, text in files.items()}}
+    apply("answers", files, ERASED + rules)
+    return {name: text.s for name, text in files.items()}
+
+
+def program(top, below, above, published):
+    """The program's files by path, over the crate of the folder `below` and our second of `above`. `published` says whether
+    the first is the original."""
+    files = files_of(top, PUBLISHED * published)
+    return {"Cargo.toml": MANIFEST % (above, below), **{"src/" + name: s for name, s in files.items()}}
+
+
+def suite(top):
+    """The program as a test of the second crate, by path in it."""
+    cases = re.search(r"\d+", wanted(top, False)[-1]).group()
+    return {"tests/scripts/" + name: s.replace("@CASES@", cases) for name, s in files_of(top, TESTED).items()}
 
 
 def wanted(top, published):

@@ -396,7 +396,7 @@ pub fn find_position<W: Way>(n: u64) -> u64 {
 
 #[inline(never)]
 pub fn find_or_first<W: Way>(n: u64) -> u64 {
-    numbers(n).map(|x| Ok(mixed(x, 1))).find_or_first(|x| Ok(*x == 1)).unwrap().unwrap_or(0)
+    numbers(n).map(|x| Ok(scattered(x + 1))).find_or_first(|x| Ok(*x == 1)).unwrap().unwrap_or(0)
 }
 
 #[inline(never)]

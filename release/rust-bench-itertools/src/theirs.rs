@@ -378,7 +378,7 @@ pub fn find_position<W: Way>(n: u64) -> u64 {
 
 #[inline(never)]
 pub fn find_or_first<W: Way>(n: u64) -> u64 {
-    (0..n).map(|x| mixed(x, 1)).find_or_first(|x| *x == 1).unwrap_or(0)
+    (0..n).map(|x| scattered(x + 1)).find_or_first(|x| *x == 1).unwrap_or(0)
 }
 
 #[inline(never)]
