@@ -349,7 +349,7 @@ pub fn try_for_each<W: Way>(n: u64) -> u64 {
 #[inline(never)]
 pub fn try_find<W: Way>(n: u64) -> u64 {
     numbers(n)
-        .map(|x| Ok(mixed(x, 1)))
+        .map(|x| Ok(scattered(x + 1)))
         .try_find(|x| Ok::<bool, Failure>(*x == 1))
         .unwrap()
         .unwrap_or(0)
@@ -366,7 +366,7 @@ pub fn try_position<W: Way>(n: u64) -> u64 {
 
 #[inline(never)]
 pub fn contains<W: Way>(n: u64) -> u64 {
-    u64::from(numbers(n).map(|x| Ok(mixed(x, 1))).contains(&1).unwrap())
+    u64::from(numbers(n).map(|x| Ok(scattered(x + 1))).contains(&1).unwrap())
 }
 
 #[inline(never)]
@@ -390,7 +390,7 @@ pub fn all_unique<W: Way>(n: u64) -> u64 {
 
 #[inline(never)]
 pub fn find_position<W: Way>(n: u64) -> u64 {
-    let found = numbers(n).map(|x| Ok(mixed(x, 1))).find_position(|x| Ok(*x == 1)).unwrap();
+    let found = numbers(n).map(|x| Ok(scattered(x + 1))).find_position(|x| Ok(*x == 1)).unwrap();
     found.map_or(0, |(place, x)| x ^ place as u64)
 }
 
@@ -401,7 +401,7 @@ pub fn find_or_first<W: Way>(n: u64) -> u64 {
 
 #[inline(never)]
 pub fn find_or_last<W: Way>(n: u64) -> u64 {
-    numbers(n).map(|x| Ok(mixed(x, 1))).find_or_last(|x| Ok(*x == 1)).unwrap().unwrap_or(0)
+    numbers(n).map(|x| Ok(scattered(x + 1))).find_or_last(|x| Ok(*x == 1)).unwrap().unwrap_or(0)
 }
 
 #[inline(never)]
@@ -437,12 +437,12 @@ pub fn fold_while<W: Way>(n: u64) -> u64 {
 
 #[inline(never)]
 pub fn is_sorted<W: Way>(n: u64) -> u64 {
-    u64::from(numbers(n).is_sorted().unwrap())
+    u64::from(numbers(n).map(|x| Ok(x - x % 3)).is_sorted().unwrap())
 }
 
 #[inline(never)]
 pub fn is_sorted_by<W: Way>(n: u64) -> u64 {
-    u64::from(numbers(n).is_sorted_by(|x, y| Ok(x <= y)).unwrap())
+    u64::from(numbers(n).map(|x| Ok(x - x % 3)).is_sorted_by(|x, y| Ok(x <= y)).unwrap())
 }
 
 #[inline(never)]
@@ -452,12 +452,16 @@ pub fn is_sorted_by_key<W: Way>(n: u64) -> u64 {
 
 #[inline(never)]
 pub fn at_most_one<W: Way>(n: u64) -> u64 {
-    numbers(n).filter(|x| Ok(*x == u64::MAX)).at_most_one().unwrap().map_or(1, |x| x.unwrap_or(0))
+    numbers(n)
+        .filter(|x| Ok(scattered(*x) == 5))
+        .at_most_one()
+        .unwrap()
+        .map_or(1, |x| x.unwrap_or(0))
 }
 
 #[inline(never)]
 pub fn exactly_one<W: Way>(n: u64) -> u64 {
-    numbers(n).filter(|x| Ok(*x == 7)).exactly_one().unwrap().unwrap_or(1)
+    numbers(n).filter(|x| Ok(scattered(*x) == scattered(7))).exactly_one().unwrap().unwrap_or(1)
 }
 
 #[inline(never)]

@@ -335,7 +335,7 @@ pub fn try_for_each<W: Way>(n: u64) -> u64 {
 // std's `find`.
 #[inline(never)]
 pub fn try_find<W: Way>(n: u64) -> u64 {
-    (0..n).map(|x| mixed(x, 1)).find(|x| *x == 1).unwrap_or(0)
+    (0..n).map(|x| scattered(x + 1)).find(|x| *x == 1).unwrap_or(0)
 }
 
 // std's `position`.
@@ -346,7 +346,7 @@ pub fn try_position<W: Way>(n: u64) -> u64 {
 
 #[inline(never)]
 pub fn contains<W: Way>(n: u64) -> u64 {
-    u64::from((0..n).map(|x| mixed(x, 1)).contains(&1))
+    u64::from((0..n).map(|x| scattered(x + 1)).contains(&1))
 }
 
 #[inline(never)]
@@ -372,7 +372,7 @@ pub fn all_unique<W: Way>(n: u64) -> u64 {
 
 #[inline(never)]
 pub fn find_position<W: Way>(n: u64) -> u64 {
-    let found = (0..n).map(|x| mixed(x, 1)).find_position(|x| *x == 1);
+    let found = (0..n).map(|x| scattered(x + 1)).find_position(|x| *x == 1);
     found.map_or(0, |(place, x)| x ^ place as u64)
 }
 
@@ -383,7 +383,7 @@ pub fn find_or_first<W: Way>(n: u64) -> u64 {
 
 #[inline(never)]
 pub fn find_or_last<W: Way>(n: u64) -> u64 {
-    (0..n).map(|x| mixed(x, 1)).find_or_last(|x| *x == 1).unwrap_or(0)
+    (0..n).map(|x| scattered(x + 1)).find_or_last(|x| *x == 1).unwrap_or(0)
 }
 
 // It has none: std's `try_fold`.
@@ -420,13 +420,13 @@ pub fn fold_while<W: Way>(n: u64) -> u64 {
 // std's `is_sorted`.
 #[inline(never)]
 pub fn is_sorted<W: Way>(n: u64) -> u64 {
-    u64::from((0..n).is_sorted())
+    u64::from((0..n).map(|x| x - x % 3).is_sorted())
 }
 
 // std's `is_sorted_by`.
 #[inline(never)]
 pub fn is_sorted_by<W: Way>(n: u64) -> u64 {
-    u64::from((0..n).is_sorted_by(|x, y| x <= y))
+    u64::from((0..n).map(|x| x - x % 3).is_sorted_by(|x, y| x <= y))
 }
 
 // std's `is_sorted_by_key`.
@@ -437,12 +437,12 @@ pub fn is_sorted_by_key<W: Way>(n: u64) -> u64 {
 
 #[inline(never)]
 pub fn at_most_one<W: Way>(n: u64) -> u64 {
-    (0..n).filter(|x| *x == u64::MAX).at_most_one().map_or(1, |x| x.unwrap_or(0))
+    (0..n).filter(|x| scattered(*x) == 5).at_most_one().map_or(1, |x| x.unwrap_or(0))
 }
 
 #[inline(never)]
 pub fn exactly_one<W: Way>(n: u64) -> u64 {
-    (0..n).filter(|x| *x == 7).exactly_one().unwrap_or(1)
+    (0..n).filter(|x| scattered(*x) == scattered(7)).exactly_one().unwrap_or(1)
 }
 
 #[inline(never)]
