@@ -3,7 +3,7 @@ ghost use Rattle.std.specs.Prelude.{⊤, Option, Result, None, ◌≡◌};
 ghost use Rattle.fallible_iterator.specs.Contract.{parts_as};
 ghost use Rattle.fallible_iterator.specs.Laws.Contract.{lawful_parts};
 ghost use Rattle.fallible_itertools_adapters.specs.DedupWithCount.{dedup_with_count_asks, dedup_with_count_contract, dedup_with_count_made, dedup_with_count_parts};
-ghost use Rattle.fallible_itertools_adapters.specs.Holding.{held_one};
+ghost use Rattle.fallible_itertools_adapters.specs.BeforeStop.{held_one};
 ghost use Rattle.fallible_itertools_adapters.specs.Laws.DedupWithCount.{holds_dedup_with_count, lawful_dedup_with_count};
 
 use crate::holding::{Hold, drive_holding, with_held};

@@ -2,7 +2,8 @@
 ghost use Rattle.std.specs.Prelude.{◌≡◌, ⊤, Bool, None, Option, Result, Some};
 ghost use Rattle.fallible_iterator.specs.Contract.{parts_as};
 ghost use Rattle.fallible_iterator.specs.Laws.Contract.{lawful_parts};
-ghost use Rattle.fallible_itertools_adapters.specs.Holding.{held_one, holding_step};
+ghost use Rattle.fallible_itertools_adapters.specs.BeforeStop.{held_one};
+ghost use Rattle.fallible_itertools_adapters.specs.Holding.{holding_step};
 ghost use Rattle.fallible_itertools_adapters.specs.WithPosition.{position_asks, position_before_item, position_before_stop, with_position_contract, with_position_made, with_position_parts};
 ghost use Rattle.fallible_itertools_adapters.specs.Laws.WithPosition.{position_asks_holds_held_one, lawful_with_position};
 

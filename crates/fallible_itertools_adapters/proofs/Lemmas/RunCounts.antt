@@ -3,7 +3,7 @@ use Rattle.std.specs.Prelude.{◌≡◌, ℕ, ◌≤◌, Bool, true, false, Opti
 use Rattle.std.proofs.Common.{refl, ap, arith}
 use Rattle.fallible_iterator.specs.Lists.{mapped}
 use Rattle.fallible_itertools_adapters.specs.DedupBy.{deduped_by, deduped_by_from, same_before}
-use Rattle.fallible_itertools_adapters.specs.Holding.{held_one}
+use Rattle.fallible_itertools_adapters.specs.BeforeStop.{held_one}
 use Rattle.fallible_itertools_adapters.specs.RunCounts.{counted_before, counted_from, counted_same, deduped_by_with_count, one_more}
 use Rattle.fallible_itertools_adapters.proofs.Lemmas.HoldingLists.{by_outcome, held_list, splits_at_failure_where_is_held_list}
 use Rattle.fallible_iterator.specs.Outcome.{Outcome}

@@ -5,7 +5,8 @@ use Rattle.fallible_iterator.specs.Traces.{Answered, item}
 use Rattle.fallible_iterator.specs.Contract.{Contract, parts_as}
 use Rattle.fallible_iterator.specs.Lists.{Lists}
 use Rattle.fallible_iterator.proofs.Lemmas.Lists.Passing.{lists_seen}
-use Rattle.fallible_itertools_adapters.specs.Holding.{held_one, holding_step}
+use Rattle.fallible_itertools_adapters.specs.BeforeStop.{held_one}
+use Rattle.fallible_itertools_adapters.specs.Holding.{holding_step}
 use Rattle.fallible_itertools_adapters.specs.WithPosition.{position_asks, position_before_item, position_before_stop, positioned, positioned_at, with_position_contract, with_position_parts}
 use Rattle.fallible_itertools_adapters.proofs.Lemmas.HoldingHints.{GivesHeld}
 use Rattle.fallible_itertools_adapters.proofs.Lemmas.HoldingLists.{held_list, splits_at_failure_where_is_held_list, gives_held_list}

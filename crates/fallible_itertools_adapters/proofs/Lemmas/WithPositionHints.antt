@@ -3,7 +3,7 @@ use Rattle.std.specs.Prelude.{◌≡◌, ℕ, suc, ◌+◌, ◌-◌, ◌≤◌, 
 use Rattle.std.proofs.Common.{refl, ap, arith}
 use Rattle.fallible_iterator.specs.Contract.{Contract, parts_as}
 use Rattle.fallible_iterator.specs.Hints.{fitting_sum, hint_sum}
-use Rattle.fallible_itertools_adapters.specs.Holding.{HintsWhereHeld, held_one}
+use Rattle.fallible_itertools_adapters.specs.BeforeStop.{HintsWhereHeld, held_one}
 use Rattle.fallible_itertools_adapters.specs.WithPosition.{position_asks, with_position_contract, with_position_due, with_position_parts, with_position_source}
 use Rattle.fallible_itertools_adapters.specs.Laws.WithPosition.{position_asks_holds_held_one}
 use Rattle.fallible_itertools_adapters.proofs.Lemmas.HoldingHints.{KeepsFew, hints_where_held}

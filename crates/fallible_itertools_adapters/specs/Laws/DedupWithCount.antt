@@ -2,7 +2,8 @@
 use Rattle.std.specs.Prelude.{ℕ, Bool, true, false, Option, Some, None, Result, Ok, Err, ⊤}
 use Rattle.std.proofs.Common.{arith}
 use Rattle.fallible_iterator.specs.Contract.{Contract, Lawful}
-use Rattle.fallible_itertools_adapters.specs.Holding.{Holds, HeldAfter, held_one, one_at_least}
+use Rattle.fallible_itertools_adapters.specs.BeforeStop.{held_one}
+use Rattle.fallible_itertools_adapters.specs.Holding.{Holds, HeldAfter, one_at_least}
 use Rattle.fallible_itertools_adapters.specs.DedupWithCount.{dedup_with_count_asks, dedup_with_count_contract}
 use Rattle.fallible_itertools_adapters.specs.RunCounts.{counted_same}
 use Rattle.fallible_itertools_adapters.specs.Laws.Holding.{lawful_holding}

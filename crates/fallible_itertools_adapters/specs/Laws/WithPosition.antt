@@ -2,7 +2,8 @@
 use Rattle.std.specs.Prelude.{Some, None, ⊤}
 use Rattle.std.proofs.Common.{arith}
 use Rattle.fallible_iterator.specs.Contract.{Contract, Lawful}
-use Rattle.fallible_itertools_adapters.specs.Holding.{Holds, held_one}
+use Rattle.fallible_itertools_adapters.specs.BeforeStop.{held_one}
+use Rattle.fallible_itertools_adapters.specs.Holding.{Holds}
 use Rattle.fallible_itertools_adapters.specs.WithPosition.{position_asks, with_position_contract, with_position_hints}
 use Rattle.fallible_itertools_adapters.specs.Laws.Holding.{lawful_filling}
 

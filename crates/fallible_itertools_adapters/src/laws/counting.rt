@@ -6,7 +6,7 @@ ghost use Rattle.fallible_itertools_adapters.specs.Dedup.{deduped};
 ghost use Rattle.fallible_itertools_adapters.specs.DedupBy.{deduped_by};
 ghost use Rattle.fallible_itertools_adapters.specs.DedupByWithCount.{dedup_by_with_count_due, dedup_by_with_count_source};
 ghost use Rattle.fallible_itertools_adapters.specs.DedupWithCount.{dedup_with_count_due, dedup_with_count_source};
-ghost use Rattle.fallible_itertools_adapters.specs.Holding.{HintsWhereHeld};
+ghost use Rattle.fallible_itertools_adapters.specs.BeforeStop.{HintsWhereHeld};
 ghost use Rattle.fallible_itertools_adapters.specs.RunCounts.{deduped_by_with_count, deduped_with_count};
 
 use crate::dedup_by_with_count::DedupByWithCount;

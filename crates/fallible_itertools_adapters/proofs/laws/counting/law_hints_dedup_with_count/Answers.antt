@@ -1,7 +1,7 @@
 -- What is left out is held, and what is held comes before a stop.
 use Rattle.std.specs.Prelude.{⊤}
 use Rattle.fallible_itertools_adapters.specs.DedupWithCount.{dedup_with_count_parts, dedup_with_count_asks}
-use Rattle.fallible_itertools_adapters.specs.Holding.{held_one}
+use Rattle.fallible_itertools_adapters.specs.BeforeStop.{held_one}
 use Rattle.fallible_itertools_adapters.specs.Laws.DedupWithCount.{holds_dedup_with_count}
 use Rattle.fallible_itertools_adapters.proofs.Lemmas.DedupWithCount.{gives_held}
 use Rattle.fallible_itertools_adapters.proofs.Lemmas.HoldingHints.{hints_where_held_of_one_at_least}
