@@ -13,8 +13,6 @@ pub mod CountedGroups
 pub mod Dedup
 pub mod DedupBy
 pub mod DedupByKey
-pub mod DedupByWithCount
-pub mod DedupWithCount
 pub mod Deduped
 pub mod Duplicates
 pub mod DuplicatesOf
@@ -62,6 +60,5 @@ pub mod UniqueOf
 pub mod WindowHints
 pub mod UnlessRefused
 pub mod WithPosition
-pub mod WithPositionHints
 pub mod ZipEq
 pub mod ZipLongest
