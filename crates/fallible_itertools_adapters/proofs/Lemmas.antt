@@ -1,6 +1,7 @@
 -- The lemmas on each adapter, and on what adapters share.
 pub mod Adjacent
 pub mod Ahead
+pub mod BeforeStop
 pub mod ChunkBy
 pub mod Chunked
 pub mod ChunkedBy

@@ -6,7 +6,8 @@ use Rattle.fallible_iterator.specs.Closures.{IsCallable, call_by_reference, take
 use Rattle.fallible_iterator.specs.Traces.{Answered}
 use Rattle.fallible_iterator.specs.Contract.{Contract, Inverse}
 use Rattle.fallible_itertools_adapters.specs.Batch.{Grown, NoRoom, SameHeld, IsRefusal}
-use Rattle.fallible_itertools_adapters.specs.Holding.{HoldingTrace, OrStop, holding_contract, held_one, one_at_least}
+use Rattle.fallible_itertools_adapters.specs.BeforeStop.{held_one}
+use Rattle.fallible_itertools_adapters.specs.Holding.{HoldingTrace, OrStop, holding_contract, one_at_least}
 use Rattle.fallible_iterator.specs.Outcome.{Outcome}
 use Rattle.fallible_iterator.specs.Outcome.TheVariants.{Kept, LeftOut, Failure, End}
 use Rattle.std.specs.declared.vec.Vec.{Vec}

@@ -6,7 +6,7 @@ use Rattle.fallible_iterator.specs.Contract.{Contract}
 use Rattle.fallible_iterator.specs.Closures.{IsCallable}
 use Rattle.fallible_iterator.specs.Passing.{passing_step}
 use Rattle.fallible_iterator.specs.Hints.{fitting_sum}
-use Rattle.fallible_iterator.specs.SoundHints.{HintsAsSoundAs, SoundHints}
+use Rattle.fallible_itertools_adapters.specs.BeforeStop.{held_one}
 use Rattle.fallible_itertools_adapters.specs.Staging.{Made, stage_contract, stop_answer, stop_comes}
 use Rattle.fallible_iterator.specs.Outcome.{Outcome}
 use Rattle.fallible_iterator.specs.Outcome.TheVariants.{Kept, LeftOut, Failure, End}
@@ -144,11 +144,6 @@ holding_contract m asks pre held hints = record (filling_contract m asks pre hel
 
 -- ---- how many are held, and the hint
 
--- an answer that is held, or none
-abbrev pub held_one : {A : Type 0} → Option A → ℕ
-held_one (Some x) = 1
-held_one None = 0
-
 -- an answer that is held beside a closure, or none
 abbrev pub held_beside : {A F : Type 0} → Option A × F → ℕ
 held_beside p = held_one p.0
@@ -166,13 +161,3 @@ HintUnlessEnd None Q h = Q h
 -- The hint of an adapter that holds: none if an end is due, and otherwise `HintHeld` of the source's.
 abbrev pub one_at_least : {S P X E : Type 0} → Contract S X E → (P → ℕ) → S × (P × Option (Option E)) → ℕ × Option ℕ → Type 0
 one_at_least m held (s, (p, due)) h = HintUnlessEnd due (λ j. (k : ℕ × Option ℕ) × m.hints s k × HintHeld (held p) k j) h
-
--- If s returns the failure e, each hint that s may return is one that the value after it may return.
-abbrev pub HintsPastFailure : {S B E : Type 0} → Contract S B E → S → E → Type 0
-HintsPastFailure {S = S} m s e = (t : S) (h : ℕ × Option ℕ) → m.steps s (Err e) t → m.hints s h → m.hints t h
-
--- Each hint of an adapter that holds is as sound as the hint of its source that it is made of; if a stop is due it is sound by itself, and if that is a failure it is that of what comes after it. `due_of` is the stop that is due, and `it` the source.
-pub record HintsWhereHeld {V S X B E : Type 0} (m : Contract V B E) (due_of : V → Option (Option E)) (source : Contract S X E) (it : V → S) : Type 0 where
-  pub none_due : (s : V) → due_of s ≡ None → HintsAsSoundAs m s source (it s)
-  pub due : (s : V) (stop : Option E) → due_of s ≡ Some stop → SoundHints m s
-  pub failure_due : (s : V) (e : E) → due_of s ≡ Some (Some e) → HintsPastFailure m s e

@@ -2,6 +2,7 @@
 pub mod Adjacent
 pub mod Ahead
 pub mod Batch
+pub mod BeforeStop
 pub mod ChunkBy
 pub mod Chunks
 pub mod Coalesce

@@ -4,7 +4,8 @@ ghost use Rattle.fallible_iterator.specs.Contract.{parts_as};
 ghost use Rattle.fallible_iterator.specs.Laws.Contract.{lawful_parts};
 ghost use Rattle.fallible_itertools_adapters.specs.Batch.{NoRoom, SameHeld};
 ghost use Rattle.fallible_itertools_adapters.specs.Chunks.{Grows, LetsGo, batch_held, begun, room_left, chunks_asks, chunks_contract, chunks_made, chunks_parts};
-ghost use Rattle.fallible_itertools_adapters.specs.Holding.{held_one, holding_step};
+ghost use Rattle.fallible_itertools_adapters.specs.BeforeStop.{held_one};
+ghost use Rattle.fallible_itertools_adapters.specs.Holding.{holding_step};
 ghost use Rattle.fallible_itertools_adapters.specs.Laws.Chunks.{holds_chunks, lawful_chunks};
 
 use crate::holding::{Hold, at_stop, drive_holding, with_held};

@@ -8,7 +8,7 @@ use Rattle.fallible_iterator.specs.Contract.{Contract, parts_as}
 use Rattle.fallible_iterator.specs.Lists.{Acts, Lists}
 use Rattle.fallible_iterator.specs.Making.{ListsMade}
 use Rattle.fallible_itertools_adapters.specs.ChunkBy.{Group, MadeGroup, by_its_key, chunk_by_asks, chunk_by_contract, chunk_by_parts, chunked_by, chunked_by_from, group_at, group_at_stop, group_begun, group_by, group_grown, group_held, group_or}
-use Rattle.fallible_itertools_adapters.specs.Holding.{held_one}
+use Rattle.fallible_itertools_adapters.specs.BeforeStop.{held_one}
 use Rattle.fallible_iterator.proofs.Lemmas.Making.{lists_made_seen}
 use Rattle.fallible_itertools_adapters.proofs.Lemmas.HoldingHints.{GivesHeld}
 use Rattle.fallible_itertools_adapters.proofs.Lemmas.HoldingLists.{AnswersHeld, IsRefused, NoFailureAndIfKept, OutcomeMade, by_outcome, gives_made_of_held_list, held_list, splits_at_failure_where_is_held_list}

@@ -7,7 +7,7 @@ use Rattle.fallible_iterator.specs.Contract.{Contract, parts_as}
 use Rattle.fallible_itertools_adapters.specs.Chunks.{batch_held, begun, chunks_asks, chunks_contract, chunks_due, chunks_parts, chunks_source, room_left}
 use Rattle.fallible_itertools_adapters.specs.Batch.{Grown}
 use Rattle.fallible_iterator.specs.Hints.{fitting_sum}
-use Rattle.fallible_itertools_adapters.specs.Holding.{HintsWhereHeld, held_one}
+use Rattle.fallible_itertools_adapters.specs.BeforeStop.{HintsWhereHeld, held_one}
 use Rattle.fallible_itertools_adapters.specs.Laws.Chunks.{holds_chunks}
 use Rattle.fallible_itertools_adapters.proofs.Lemmas.HoldingHints.{KeepsFew, hints_where_held}
 use Rattle.std.specs.declared.vec.Vec.{Vec}

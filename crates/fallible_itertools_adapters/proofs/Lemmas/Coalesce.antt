@@ -8,7 +8,8 @@ use Rattle.fallible_iterator.specs.Lists.{ActsWith, Lists}
 use Rattle.fallible_iterator.proofs.Lemmas.Lists.Passing.{lists_seen}
 use Rattle.fallible_itertools_adapters.specs.Adjacent.{AdjacentItems}
 use Rattle.fallible_itertools_adapters.specs.Coalesce.{KeepsApart, OneOrBoth, coalesced_by, coalesce_asks, coalesced_at, coalesce_contract, coalesce_parts, coalesced, coalesced_from}
-use Rattle.fallible_itertools_adapters.specs.Holding.{held_beside, held_one}
+use Rattle.fallible_itertools_adapters.specs.BeforeStop.{held_one}
+use Rattle.fallible_itertools_adapters.specs.Holding.{held_beside}
 use Rattle.fallible_itertools_adapters.proofs.Lemmas.Adjacent.{EachNext, HoldsOfNext, adjacent_items_of_each_next}
 use Rattle.fallible_itertools_adapters.proofs.Lemmas.HoldingHints.{GivesHeld}
 use Rattle.fallible_itertools_adapters.proofs.Lemmas.HoldingLists.{by_outcome, held_list, splits_at_failure_where_is_held_list, gives_held_list}

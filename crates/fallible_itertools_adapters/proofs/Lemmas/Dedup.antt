@@ -5,7 +5,7 @@ use Rattle.fallible_iterator.specs.Contract.{Contract, parts_as}
 use Rattle.fallible_iterator.specs.Lists.{Lists}
 use Rattle.fallible_iterator.proofs.Lemmas.Lists.Passing.{lists_seen}
 use Rattle.fallible_itertools_adapters.specs.Dedup.{dedup_at, dedup_asks, dedup_before, dedup_contract, dedup_parts, deduped, deduped_at}
-use Rattle.fallible_itertools_adapters.specs.Holding.{held_one}
+use Rattle.fallible_itertools_adapters.specs.BeforeStop.{held_one}
 use Rattle.fallible_itertools_adapters.proofs.Lemmas.HoldingHints.{GivesHeld}
 use Rattle.fallible_itertools_adapters.proofs.Lemmas.HoldingLists.{by_outcome, held_list, splits_at_failure_where_is_held_list, gives_held_list}
 use Rattle.fallible_iterator.specs.Outcome.{Outcome}

@@ -9,7 +9,8 @@ use Rattle.fallible_iterator.specs.Picking.{call_at_two}
 use Rattle.fallible_iterator.proofs.Lemmas.Lists.Passing.{lists_seen}
 use Rattle.fallible_itertools_adapters.specs.Adjacent.{AdjacentItems}
 use Rattle.fallible_itertools_adapters.specs.DedupBy.{found_same, dedup_by_asks, same_before, dedup_by_contract, dedup_by_parts, deduped_by, deduped_by_from}
-use Rattle.fallible_itertools_adapters.specs.Holding.{held_beside, held_one}
+use Rattle.fallible_itertools_adapters.specs.BeforeStop.{held_one}
+use Rattle.fallible_itertools_adapters.specs.Holding.{held_beside}
 use Rattle.fallible_itertools_adapters.proofs.Lemmas.Adjacent.{EachNext, HoldsOfNext, adjacent_items_of_each_next}
 use Rattle.fallible_itertools_adapters.proofs.Lemmas.HoldingHints.{GivesHeld}
 use Rattle.fallible_itertools_adapters.proofs.Lemmas.HoldingLists.{by_outcome, held_list, splits_at_failure_where_is_held_list, gives_held_list}

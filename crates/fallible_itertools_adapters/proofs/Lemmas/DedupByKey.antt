@@ -8,7 +8,8 @@ use Rattle.fallible_iterator.specs.Closures.{IsCallable, call_by_reference}
 use Rattle.fallible_iterator.specs.Lists.{Acts, Lists}
 use Rattle.fallible_iterator.proofs.Lemmas.Lists.Passing.{lists_seen}
 use Rattle.fallible_itertools_adapters.specs.DedupByKey.{keyed_at, keyed_by, key_before, key_at, dedup_key_asks, dedup_key_takes, dedup_by_key_contract, dedup_by_key_parts, deduped_by_key, deduped_key_from}
-use Rattle.fallible_itertools_adapters.specs.Holding.{OrStop, held_beside, held_one}
+use Rattle.fallible_itertools_adapters.specs.BeforeStop.{held_one}
+use Rattle.fallible_itertools_adapters.specs.Holding.{OrStop, held_beside}
 use Rattle.fallible_itertools_adapters.proofs.Lemmas.Holding.{is_callable_beside}
 use Rattle.fallible_itertools_adapters.proofs.Lemmas.HoldingHints.{GivesHeld}
 use Rattle.fallible_itertools_adapters.proofs.Lemmas.HoldingLists.{by_outcome, held_list, splits_at_failure_where_is_held_list, gives_held_list}

@@ -8,7 +8,8 @@ use Rattle.fallible_iterator.proofs.Lemmas.Hints.Drawn.{as_sound_of_steps_within
 use Rattle.fallible_iterator.proofs.Lemmas.Hints.Joining.{if_some_fitting_sum_at_least_both}
 use Rattle.fallible_iterator.specs.Hints.{fitting_sum}
 use Rattle.fallible_itertools_adapters.specs.Staging.{Made, stage_step, stop_comes}
-use Rattle.fallible_itertools_adapters.specs.Holding.{HintHeld, HintUnlessEnd, HintsPastFailure, HintsWhereHeld, Holds, MadeOfItem, StopMade, filling_contract, holding_contract, holding_meets, holding_step, made_answers, one_at_least}
+use Rattle.fallible_itertools_adapters.specs.BeforeStop.{HintsPastFailure, HintsWhereHeld}
+use Rattle.fallible_itertools_adapters.specs.Holding.{HintHeld, HintUnlessEnd, Holds, MadeOfItem, StopMade, filling_contract, holding_contract, holding_meets, holding_step, made_answers, one_at_least}
 use Rattle.fallible_itertools_adapters.specs.Laws.Holding.{is_stage_holding, made_is_known_by_answers, made_is_none_where_no_answers}
 use Rattle.fallible_itertools_adapters.specs.Laws.HoldingTraces.{stage_step_of_holding_step}
 use Rattle.fallible_itertools_adapters.proofs.Lemmas.StagingHints.{MadeFew, MakesNoFewer, bounds_above_staged, bounds_below_staged, makes_at_most_items_and_held}

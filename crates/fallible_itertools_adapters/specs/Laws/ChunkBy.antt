@@ -8,7 +8,8 @@ use Rattle.fallible_iterator.specs.Contract.{Contract, Lawful}
 use Rattle.fallible_iterator.specs.Closures.{IsCallable, Reaches, call_by_reference, takes_by_reference}
 use Rattle.fallible_iterator.specs.Laws.Closures.{is_callable_after, reaches_reflexive, reaches_by_call_first}
 use Rattle.fallible_iterator.specs.Traces.{Answered}
-use Rattle.fallible_itertools_adapters.specs.Holding.{Holds, HeldAfter, MayBeAsked, OrStop, held_one, holding_meets, one_at_least}
+use Rattle.fallible_itertools_adapters.specs.BeforeStop.{held_one}
+use Rattle.fallible_itertools_adapters.specs.Holding.{Holds, HeldAfter, MayBeAsked, OrStop, holding_meets, one_at_least}
 use Rattle.fallible_itertools_adapters.specs.ChunkBy.{Group, group_at, group_begun, group_grown, group_by, group_at_stop, group_held, chunk_by_asks, chunk_by_contract, key_takes}
 use Rattle.fallible_itertools_adapters.specs.Laws.Holding.{invariant_holds_after_met, lawful_holding_where}
 use Rattle.fallible_itertools_adapters.specs.Laws.Staging.{kept_where_reached}

@@ -3,7 +3,8 @@ use Rattle.std.specs.Prelude.{◌≡◌, Option, Some, None, ⊤}
 use Rattle.std.proofs.Common.{refl, arith}
 use Rattle.fallible_iterator.specs.Contract.{Contract, Lawful}
 use Rattle.fallible_itertools_adapters.specs.Batch.{SameHeld}
-use Rattle.fallible_itertools_adapters.specs.Holding.{Holds, held_one}
+use Rattle.fallible_itertools_adapters.specs.BeforeStop.{held_one}
+use Rattle.fallible_itertools_adapters.specs.Holding.{Holds}
 use Rattle.fallible_itertools_adapters.specs.Chunks.{batch_held, chunks_asks, chunks_contract, chunks_hints}
 use Rattle.fallible_itertools_adapters.specs.Laws.Holding.{lawful_filling}
 use Rattle.fallible_iterator.specs.Outcome.TheVariants.{Kept, LeftOut, Failure, End}

@@ -4,7 +4,8 @@ use Rattle.std.specs.Fn.{Mut}
 use Rattle.std.proofs.Common.{arith}
 use Rattle.fallible_iterator.specs.Contract.{Contract, Lawful}
 use Rattle.fallible_iterator.specs.Folds.{call_with, takes_with}
-use Rattle.fallible_itertools_adapters.specs.Holding.{Holds, HeldAfter, held_one, held_beside, one_at_least}
+use Rattle.fallible_itertools_adapters.specs.BeforeStop.{held_one}
+use Rattle.fallible_itertools_adapters.specs.Holding.{Holds, HeldAfter, held_beside, one_at_least}
 use Rattle.fallible_itertools_adapters.specs.Coalesce.{OneOrBoth, coalesced_by, coalesce_asks, coalesce_takes, coalesce_contract}
 use Rattle.fallible_itertools_adapters.specs.Laws.Holding.{lawful_holding}
 use Rattle.fallible_iterator.specs.Outcome.{Outcome}

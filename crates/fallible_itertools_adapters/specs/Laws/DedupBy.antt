@@ -5,7 +5,8 @@ use Rattle.std.specs.Borrow.{Bor}
 use Rattle.std.proofs.Common.{arith}
 use Rattle.fallible_iterator.specs.Contract.{Contract, Lawful}
 use Rattle.fallible_iterator.specs.Picking.{call_at_two, takes_at_two}
-use Rattle.fallible_itertools_adapters.specs.Holding.{Holds, HeldAfter, held_one, held_beside, one_at_least}
+use Rattle.fallible_itertools_adapters.specs.BeforeStop.{held_one}
+use Rattle.fallible_itertools_adapters.specs.Holding.{Holds, HeldAfter, held_beside, one_at_least}
 use Rattle.fallible_itertools_adapters.specs.DedupBy.{found_same, dedup_by_asks, dedup_by_takes, dedup_by_contract}
 use Rattle.fallible_itertools_adapters.specs.Laws.Holding.{lawful_holding}
 use Rattle.fallible_iterator.specs.Outcome.{Outcome}

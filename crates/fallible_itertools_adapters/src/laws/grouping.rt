@@ -5,7 +5,7 @@ ghost use Rattle.fallible_iterator.specs.Lists.{items};
 ghost use Rattle.fallible_itertools_adapters.specs.Adjacent.{AdjacentItems, IsGroup};
 ghost use Rattle.fallible_itertools_adapters.specs.ChunkBy.{chunk_by_due, chunk_by_source, chunked_by};
 ghost use Rattle.fallible_itertools_adapters.specs.Chunks.{BatchesOf, BatchesUpTo, chunked, chunks_due, chunks_source, batches_joined};
-ghost use Rattle.fallible_itertools_adapters.specs.Holding.{HintsWhereHeld};
+ghost use Rattle.fallible_itertools_adapters.specs.BeforeStop.{HintsWhereHeld};
 
 use crate::chunk_by::ChunkBy;
 use crate::chunks::Chunks;

@@ -8,7 +8,7 @@ ghost use Rattle.fallible_itertools_adapters.specs.Coalesce.{KeepsApart, OneOrBo
 ghost use Rattle.fallible_itertools_adapters.specs.DedupBy.{dedup_by_due, dedup_by_source, deduped_by};
 ghost use Rattle.fallible_itertools_adapters.specs.DedupByKey.{dedup_by_key_due, dedup_by_key_source, deduped_by_key};
 ghost use Rattle.fallible_itertools_adapters.specs.Dedup.{dedup_due, dedup_source, deduped};
-ghost use Rattle.fallible_itertools_adapters.specs.Holding.{HintsWhereHeld};
+ghost use Rattle.fallible_itertools_adapters.specs.BeforeStop.{HintsWhereHeld};
 ghost use Rattle.fallible_itertools_adapters.specs.TupleWindows.{tuple_windows_source};
 ghost use Rattle.fallible_itertools_adapters.specs.Tuples.{tuples_source};
 ghost use Rattle.fallible_itertools_adapters.specs.WithPosition.{positioned, with_position_due, with_position_source};

@@ -1,7 +1,7 @@
 -- What is left out is held, and what is held comes before a stop.
 use Rattle.std.specs.Prelude.{⊤}
 use Rattle.fallible_itertools_adapters.specs.Dedup.{dedup_parts, dedup_asks}
-use Rattle.fallible_itertools_adapters.specs.Holding.{held_one}
+use Rattle.fallible_itertools_adapters.specs.BeforeStop.{held_one}
 use Rattle.fallible_itertools_adapters.specs.Laws.Dedup.{holds_dedup}
 use Rattle.fallible_itertools_adapters.proofs.Lemmas.Dedup.{gives_held}
 use Rattle.fallible_itertools_adapters.proofs.Lemmas.HoldingHints.{hints_where_held_of_one_at_least}
