@@ -1,6 +1,7 @@
 -- The lemmas of the two crates below, handed on.
 pub use Rattle.fallible_itertools_adapters.proofs.Lemmas.Adjacent
 pub use Rattle.fallible_itertools_adapters.proofs.Lemmas.Ahead
+pub use Rattle.fallible_itertools_adapters.proofs.Lemmas.BeforeStop
 pub use Rattle.fallible_itertools_adapters.proofs.Lemmas.ChunkBy
 pub use Rattle.fallible_itertools_adapters.proofs.Lemmas.Chunked
 pub use Rattle.fallible_itertools_adapters.proofs.Lemmas.ChunkedBy

@@ -47,6 +47,7 @@ pub mod Positions
 pub mod RunCounts
 pub mod Sides
 pub mod Staged
+pub mod StagedMade
 pub mod Staging
 pub mod StagingHints
 pub mod StagingLists
