@@ -14,8 +14,6 @@ pub mod CountedGroups
 pub mod Dedup
 pub mod DedupBy
 pub mod DedupByKey
-pub mod DedupByWithCount
-pub mod DedupWithCount
 pub mod Deduped
 pub mod Duplicates
 pub mod DuplicatesOf
@@ -64,6 +62,5 @@ pub mod UniqueOf
 pub mod WindowHints
 pub mod UnlessRefused
 pub mod WithPosition
-pub mod WithPositionHints
 pub mod ZipEq
 pub mod ZipLongest

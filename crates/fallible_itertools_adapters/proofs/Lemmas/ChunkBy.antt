@@ -1,5 +1,5 @@
 -- What `ChunkBy` makes of its source's answers, and what it lists.
-use Rattle.std.specs.Prelude.{◌≡◌, cond, Bool, true, false, Option, Some, None, Result, Ok, Err, List, [], ◌∷◌, ◌++◌, ◌⊎◌, vec_items}
+use Rattle.std.specs.Prelude.{◌≡◌, ℕ, cond, Bool, true, false, Option, Some, None, Result, Ok, Err, List, [], ◌∷◌, ◌++◌, ◌⊎◌, vec_items}
 use Rattle.std.specs.Fn.{Mut}
 use Rattle.std.specs.Borrow.{Bor}
 use Rattle.std.specs.List.{FoldsTo}
@@ -17,10 +17,10 @@ use Rattle.fallible_itertools_adapters.specs.ChunkBy.{Group, KeyedPut, MadeGroup
 use Rattle.fallible_itertools_adapters.specs.Laws.ChunkBy.{group_by_weighs}
 use Rattle.fallible_itertools_adapters.specs.Plan.{Makes, Making, plan_can}
 use Rattle.fallible_itertools_adapters.specs.Staging.{Made, MayMeet, one_made}
-use Rattle.fallible_itertools_adapters.proofs.Lemmas.BeforeStop.{HeldWhereNone, NoEnd, hints_where_one_held, no_end_before_failure, parted_by_failure}
+use Rattle.fallible_itertools_adapters.proofs.Lemmas.BeforeStop.{HeldWhereNone, NoEnd, end_before_stop, hints_where_one_held, no_end_before_failure, parted_by_failure}
 use Rattle.fallible_itertools_adapters.proofs.Lemmas.ChunkedBy.{group_by_is_made, group_made, grouped_from_is_never_nil}
 use Rattle.fallible_itertools_adapters.proofs.Lemmas.Plan.{plan_can_where_callable}
-use Rattle.fallible_itertools_adapters.proofs.Lemmas.StagedMade.{HeldMade, MadeAlike, PlansAlike, RefusalAfterHeld, before_stop_made, end_made_of_before_stop, gives_made_plan}
+use Rattle.fallible_itertools_adapters.proofs.Lemmas.StagedMade.{HeldMade, MadeAlike, PlansAlike, RefusalAfterHeld, before_stop_made, gives_made_plan}
 use Rattle.std.specs.declared.vec.Vec.{Vec}
 use Rattle.std.specs.declared.alloc.Global.{Global}
 use Rattle.std.specs.declared.alloc.AllocError.{AllocError}
@@ -100,7 +100,7 @@ module _ {F A K E : Type 0} (from : AllocError → E → Type 0) (eq : K → K �
 pub lists_up_to_refusal_chunked : {S F A K E : Type 0} {it : S} (m : Contract S A E) (from : AllocError → E → Type 0) (eq : K → K → Bool) (c : Mut F (Bor A × Unit {0}) (Result K E)) (f : F) (h : A → Result K E) → Acts (call_by_reference c) f h → (s : ChunkBy S K F A E) (l : List (Result A E)) → chunk_by_parts s ≡ (it, ((None, f), None)) → Lists m.steps it l → ListsMade MadeGroup (parts_as chunk_by_parts (chunk_by_contract from eq c m)).steps from s (chunked_by eq h l)
 unfolding chunked_by
 lists_up_to_refusal_chunked {E = E} {it = it} m from eq c f h acts s l parts i = lists_made_seen MadeGroup from chunk_by_parts (chunk_by_contract from eq c m).steps s _ _ _ parts refl
-    (gives_made_plan (puts_by_key from eq c) (chunk_by_plan eq) chunk_by_stops (put_of from eq c f h) (chunk_by_plan eq) chunk_by_stops MadeGroup from f (HeldAlike from eq c f h) (plans_alike from eq c f h acts) (stops_alike from eq c f h) m.steps (λ y. ((y.0, vec_items y.1), (refl, refl))) (λ a. end_made_of_before_stop E a) (λ a y l is. grouped_from_is_never_nil eq h a y l is) l it None None tt i.runs)
+    (gives_made_plan (puts_by_key from eq c) (chunk_by_plan eq) chunk_by_stops (put_of from eq c f h) (chunk_by_plan eq) chunk_by_stops MadeGroup from f (HeldAlike from eq c f h) (plans_alike from eq c f h acts) (stops_alike from eq c f h) m.steps (λ y. ((y.0, vec_items y.1), (refl, refl))) (λ a. end_before_stop E a) (λ a y l is. grouped_from_is_never_nil eq h a y l is) l it None None tt i.runs)
 
 -- ---- its hint, and where it may be called
 
