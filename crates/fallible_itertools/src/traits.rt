@@ -27,24 +27,23 @@ ghost use Rattle.fallible_iterator.specs.OneToOne.Map.{map_contract};
 ghost use Rattle.fallible_iterator.specs.Picking.{call_at_two, takes_at_two};
 ghost use Rattle.fallible_iterator.specs.Searching as search;
 ghost use Rattle.fallible_itertools_consumers.specs.AllUnique.{AllUniqueAs, AllUniqueDrains, rest_repeated};
-ghost use Rattle.fallible_itertools_adapters.specs.ChunkBy.{MadeGroup, chunk_by_contract, chunk_by_parts, chunked_by};
+ghost use Rattle.fallible_itertools_adapters.specs.ChunkBy.{MadeGroup, chunk_by_contract, chunk_by_parts, chunk_by_plan, chunk_by_stops, chunked_by, puts_by_key, takes_key};
 ghost use Rattle.fallible_itertools_adapters.specs.Chunks.{chunked, chunks_contract, chunks_parts};
 ghost use Rattle.fallible_itertools_adapters.specs.Coalesce as coalesce;
 ghost use Rattle.fallible_itertools_consumers.specs.CmpBy as comparing;
 ghost use Rattle.fallible_itertools_consumers.specs.Converting as trying;
 ghost use Rattle.fallible_itertools_adapters.specs.Copied.{copied_contract, copied_parts};
 ghost use Rattle.fallible_itertools_consumers.specs.Counts.{IsCountsOf};
-ghost use Rattle.fallible_itertools_adapters.specs.Dedup.{dedup_contract, dedup_parts, deduped};
-ghost use Rattle.fallible_itertools_adapters.specs.DedupBy.{dedup_by_asks, dedup_by_contract, dedup_by_parts, dedup_by_takes, deduped_by};
+ghost use Rattle.fallible_itertools_adapters.specs.Dedup.{dedup_contract, dedup_parts, dedup_stops, deduped};
+ghost use Rattle.fallible_itertools_adapters.specs.DedupBy.{dedup_by_contract, dedup_by_parts, dedup_by_plan, deduped_by, same_call, same_takes};
 ghost use Rattle.fallible_itertools_adapters.specs.DedupByKey as dedup_by_key;
-ghost use Rattle.fallible_itertools_adapters.specs.DedupByWithCount.{dedup_by_with_count_asks, dedup_by_with_count_contract, dedup_by_with_count_parts, dedup_by_with_count_takes};
+ghost use Rattle.fallible_itertools_adapters.specs.DedupByWithCount.{dedup_by_with_count_contract, dedup_by_with_count_parts};
 ghost use Rattle.fallible_itertools_adapters.specs.DedupWithCount.{dedup_with_count_contract, dedup_with_count_parts};
 ghost use Rattle.fallible_itertools_adapters.specs.Duplicates.{duplicates_came, duplicates_contract, duplicates_of, duplicates_parts, duplicates_source};
 ghost use Rattle.fallible_itertools_consumers.specs.Equal.{FirstCall, TestCall, contained, equal_to_first, equal_value, rest_contained, rest_unequal, unequal_pick, value_or_both};
 ghost use Rattle.fallible_itertools_adapters.specs.ErrInto.{err_into_contract, err_into_parts};
 ghost use Rattle.fallible_itertools_consumers.specs.ExactlyOne.{AtMostOneDrains, at_most_one_of, wanting_one};
 ghost use Rattle.fallible_itertools_adapters.specs.FuseAtFailure.{fuse_at_failure_contract, fuse_at_failure_parts, up_to_failure};
-ghost use Rattle.fallible_itertools_adapters.specs.Holding.{MayBeAsked};
 ghost use Rattle.fallible_itertools_consumers.specs.GroupMap.{GroupRefuses, IsGroupMapOf};
 ghost use Rattle.fallible_itertools_adapters.specs.InspectErr.{inspect_err_contract, inspect_err_parts, seen_call};
 ghost use Rattle.fallible_itertools_adapters.specs.OrElse.{or_else_contract, or_else_parts, recovered};
@@ -60,9 +59,9 @@ ghost use Rattle.fallible_itertools_consumers.specs.MinMax.{MinMaxDrains, minmax
 ghost use Rattle.fallible_itertools_consumers.specs.MinMaxBy.{MinMaxCall, MinMaxKeyCall, MinMaxKeyDrains, minmaxed_by, minmaxed_by_key, takes_beside};
 ghost use Rattle.fallible_itertools_adapters.specs.PadUsing as pad_using;
 ghost use Rattle.fallible_itertools_consumers.specs.PositionBest.{PlaceDrains, position_greatest, position_least};
-ghost use Rattle.fallible_itertools_adapters.specs.Plan.{passes, plan_can};
+ghost use Rattle.fallible_itertools_adapters.specs.Plan.{call_on_pair, passes, plan_can, takes_pair};
 ghost use Rattle.fallible_itertools_adapters.specs.Positions.{positions_contract, positions_parts, positions_source, positions_where};
-ghost use Rattle.fallible_itertools_adapters.specs.RunCounts.{deduped_by_with_count, deduped_with_count};
+ghost use Rattle.fallible_itertools_adapters.specs.RunCounts.{count_plan, count_stops, deduped_by_with_count, deduped_with_count};
 ghost use Rattle.fallible_itertools_consumers.specs.Parted.{PartitionedFailuresAs, parted_step, without_source};
 ghost use Rattle.fallible_itertools_consumers.specs.PartitionMap.{EitherRefused, MadeOfEithers};
 ghost use Rattle.fallible_itertools_consumers.specs.FindOrLast.{FoundOrFirst, FoundOrLast, found_or_first, found_or_last};
@@ -165,15 +164,14 @@ pub trait FallibleItertools: FallibleIterator {
             Self::Item,
             Self::Item,
         ) -> Result<Result<Self::Item, (Self::Item, Self::Item)>, Self::Error>,
-        requires callable { IsCallable (coalesce.coalesce_asks (fold.call_with F.FnMut))
-            (coalesce.coalesce_takes (fold.takes_with F.FnMut)) (MayBeAsked Self.contract self)
-            (None, f) }
+        requires callable { plan_can (coalesce.coalesce_call F.FnMut) coalesce.coalesce_plan dedup_stops
+            (coalesce.coalesce_takes F.FnMut) (MayMeet Self.contract self) (None, f) }
         ensures parts { coalesce.coalesce_parts result ≡ (self, ((None, f), None)) }
         ensures lists { (h : Self.Item → Self.Item → coalesce.OneOrBoth Self.Item Self.Error)
             (l : List (Result Self.Item Self.Error))
             → list.ActsWith (fold.call_with F.FnMut) f h → list.Lists Self.contract.steps self l
             → list.Lists (seen_as coalesce.coalesce_parts
-            (coalesce.coalesce_contract Self.contract F.FnMut)).steps result
+            (coalesce.coalesce_contract F.FnMut Self.contract)).steps result
             (coalesce.coalesced h l) }
     {
         Coalesce::new(self, f)
@@ -200,14 +198,14 @@ pub trait FallibleItertools: FallibleIterator {
         requires callable { IsCallable (call_by_reference F.FnMut) (takes_by_reference F.FnMut)
             (Self.contract.may_give self) f }
         ensures parts { dedup_by_key.dedup_by_key_parts result ≡ (self, ((None, f), None)) }
-        ensures callable { IsCallable (dedup_by_key.dedup_key_asks K.eq (call_by_reference F.FnMut))
-            (dedup_by_key.dedup_key_takes (takes_by_reference F.FnMut)) (MayBeAsked Self.contract self)
+        ensures callable { plan_can (call_by_reference F.FnMut) (dedup_by_key.dedup_key_plan K.eq)
+            dedup_by_key.dedup_key_stops (takes_by_reference F.FnMut) (MayMeet Self.contract self)
             (None, f) }
         ensures lists { (h : Self.Item → Result K Self.Error)
             (l : List (Result Self.Item Self.Error)) → list.Acts (call_by_reference F.FnMut) f h
             → list.Lists Self.contract.steps self l
             → list.Lists (seen_as dedup_by_key.dedup_by_key_parts
-            (dedup_by_key.dedup_by_key_contract K.eq Self.contract F.FnMut)).steps result
+            (dedup_by_key.dedup_by_key_contract K.eq F.FnMut Self.contract)).steps result
             (dedup_by_key.deduped_by_key K.eq h l) }
     {
         DedupByKey::new(self, f)
@@ -232,13 +230,13 @@ pub trait FallibleItertools: FallibleIterator {
         Self::Item: Drop,
         Self::Error: Drop,
         F: FnMut(&Self::Item, &Self::Item) -> Result<bool, Self::Error>,
-        requires callable { IsCallable (dedup_by_asks (call_at_two F.FnMut))
-            (dedup_by_takes (takes_at_two F.FnMut)) (MayBeAsked Self.contract self) (None, same) }
+        requires callable { plan_can (same_call F.FnMut) dedup_by_plan dedup_stops
+            (same_takes F.FnMut) (MayMeet Self.contract self) (None, same) }
         ensures parts { dedup_by_parts result ≡ (self, ((None, same), None)) }
         ensures lists { (h : Self.Item → Self.Item → Result Bool Self.Error)
             (l : List (Result Self.Item Self.Error))
             → list.ActsWith (call_at_two F.FnMut) same h → list.Lists Self.contract.steps self l
-            → list.Lists (seen_as dedup_by_parts (dedup_by_contract Self.contract F.FnMut)).steps
+            → list.Lists (seen_as dedup_by_parts (dedup_by_contract F.FnMut Self.contract)).steps
             result (deduped_by h l) }
     {
         DedupBy::new(self, same)
@@ -260,7 +258,7 @@ pub trait FallibleItertools: FallibleIterator {
     where
         Self::Item: PartialEq + Drop,
         Self::Error: Drop,
-        ensures parts { dedup_parts result ≡ (self, (None, None)) }
+        ensures parts { dedup_parts result ≡ (self, ((None, tt), None)) }
         ensures lists { (l : List (Result Self.Item Self.Error))
             → list.Lists Self.contract.steps self l
             → list.Lists (seen_as dedup_parts (dedup_contract Self.Item.eq Self.contract)).steps
@@ -288,7 +286,7 @@ pub trait FallibleItertools: FallibleIterator {
     where
         Self::Item: PartialEq + Drop,
         Self::Error: Drop,
-        ensures parts { dedup_with_count_parts result ≡ (self, (None, None)) }
+        ensures parts { dedup_with_count_parts result ≡ (self, ((None, tt), None)) }
         ensures lists { (l : List (Result Self.Item Self.Error))
             → list.Lists Self.contract.steps self l
             → list.Lists (seen_as dedup_with_count_parts
@@ -317,15 +315,14 @@ pub trait FallibleItertools: FallibleIterator {
         Self::Item: Drop,
         Self::Error: Drop,
         F: FnMut(&Self::Item, &Self::Item) -> Result<bool, Self::Error>,
-        requires callable { IsCallable (dedup_by_with_count_asks (call_at_two F.FnMut))
-            (dedup_by_with_count_takes (takes_at_two F.FnMut)) (MayBeAsked Self.contract self)
-            (None, same) }
+        requires callable { plan_can (call_on_pair (call_at_two F.FnMut)) count_plan count_stops
+            (takes_pair (takes_at_two F.FnMut)) (MayMeet Self.contract self) (None, same) }
         ensures parts { dedup_by_with_count_parts result ≡ (self, ((None, same), None)) }
         ensures lists { (h : Self.Item → Self.Item → Result Bool Self.Error)
             (l : List (Result Self.Item Self.Error))
             → list.ActsWith (call_at_two F.FnMut) same h → list.Lists Self.contract.steps self l
             → list.Lists (seen_as dedup_by_with_count_parts
-            (dedup_by_with_count_contract Self.contract F.FnMut)).steps result
+            (dedup_by_with_count_contract F.FnMut Self.contract)).steps result
             (deduped_by_with_count h l) }
     {
         DedupByWithCount::new(self, same)
@@ -349,7 +346,7 @@ pub trait FallibleItertools: FallibleIterator {
     where
         Self::Item: Drop,
         Self::Error: Drop,
-        ensures parts { with_position_parts result ≡ (self, (None, None)) }
+        ensures parts { with_position_parts result ≡ (self, ((None, tt), None)) }
         ensures lists { (l : List (Result Self.Item Self.Error))
             → list.Lists Self.contract.steps self l
             → list.Lists (seen_as with_position_parts (with_position_contract Self.contract)).steps
@@ -2703,7 +2700,7 @@ pub trait FallibleItertools: FallibleIterator {
         Self::Item: Drop,
         Self::Error: Drop + From<AllocError>,
         requires { 0 < n }
-        ensures parts { chunks_parts result ≡ (self, ((n, None), None)) }
+        ensures parts { chunks_parts result ≡ (self, (((n, None), tt), None)) }
         ensures lists { (l : List (Result Self.Item Self.Error))
             → list.Lists Self.contract.steps self l
             → ListsMade (λ xs v. vec_items v ≡ xs)
@@ -2738,7 +2735,10 @@ pub trait FallibleItertools: FallibleIterator {
         Self::Error: Drop + From<AllocError>,
         requires callable { IsCallable (call_by_reference F.FnMut) (takes_by_reference F.FnMut)
             (Self.contract.may_give self) key }
-        ensures parts { chunk_by_parts result ≡ (self, ((key, None), None)) }
+        ensures parts { chunk_by_parts result ≡ (self, ((None, key), None)) }
+        ensures callable { plan_can (puts_by_key Self.Error.from_gives K.eq F.FnMut)
+            (chunk_by_plan K.eq) chunk_by_stops (takes_key F.FnMut) (MayMeet Self.contract self)
+            (None, key) }
         ensures lists { (h : Self.Item → Result K Self.Error)
             → (l : List (Result Self.Item Self.Error))
             → list.Acts (call_by_reference F.FnMut) key h

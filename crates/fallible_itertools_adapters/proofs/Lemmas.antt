@@ -1,6 +1,7 @@
 -- The lemmas on each adapter, and on what adapters share.
 pub mod Adjacent
 pub mod Ahead
+pub mod BeforeStop
 pub mod ChunkBy
 pub mod Chunked
 pub mod ChunkedBy
@@ -13,18 +14,12 @@ pub mod CountedGroups
 pub mod Dedup
 pub mod DedupBy
 pub mod DedupByKey
-pub mod DedupByWithCount
-pub mod DedupWithCount
 pub mod Deduped
 pub mod Duplicates
 pub mod DuplicatesOf
 pub mod ErrInto
 pub mod FuseAtFailure
 pub mod Groups
-pub mod Holding
-pub mod HoldingHints
-pub mod HoldingLists
-pub mod HoldingTraces
 pub mod InspectErr
 pub mod Interleave
 pub mod Intersperse
@@ -48,6 +43,7 @@ pub mod Positions
 pub mod RunCounts
 pub mod Sides
 pub mod Staged
+pub mod StagedMade
 pub mod Staging
 pub mod StagingHints
 pub mod StagingLists
@@ -62,6 +58,5 @@ pub mod UniqueOf
 pub mod WindowHints
 pub mod UnlessRefused
 pub mod WithPosition
-pub mod WithPositionHints
 pub mod ZipEq
 pub mod ZipLongest

@@ -4,7 +4,7 @@ use Rattle.fallible_iterator.specs.Traces.{Answered, item}
 use Rattle.fallible_iterator.specs.Contract.{Contract, Inverse}
 use Rattle.fallible_iterator.specs.Lists.{result_answer}
 use Rattle.fallible_iterator.specs.Refusals.{RefusedAs}
-use Rattle.fallible_itertools_adapters.specs.Holding.{held_one}
+use Rattle.fallible_itertools_adapters.specs.BeforeStop.{held_one}
 use Rattle.fallible_itertools_adapters.specs.Plan.{HintPlan, Making, Plan, calls, makes, none_held, passes, plan_contract, plan_meets}
 use Rattle.fallible_itertools_adapters.specs.Staged.{plan_does, staged}
 use Rattle.fallible_itertools_adapters.specs.Staging.{StagedTrace, item_comes, made_before, one_made}

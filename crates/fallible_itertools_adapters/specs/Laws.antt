@@ -7,13 +7,9 @@ pub mod Copied
 pub mod Dedup
 pub mod DedupBy
 pub mod DedupByKey
-pub mod DedupByWithCount
-pub mod DedupWithCount
 pub mod Duplicates
 pub mod ErrInto
 pub mod FuseAtFailure
-pub mod Holding
-pub mod HoldingTraces
 pub mod InspectErr
 pub mod Interleave
 pub mod Intersperse
@@ -31,6 +27,7 @@ pub mod PeekingTakeWhile
 pub mod PeekingTraces
 pub mod Plan
 pub mod Positions
+pub mod RunCounts
 pub mod Sides
 pub mod SidesTraces
 pub mod Staged

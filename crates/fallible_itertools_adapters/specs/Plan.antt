@@ -19,6 +19,17 @@ pub data Plan (Q R T : Type 0) : Type 0 where
 abbrev pub passes : {H B L E : Type 0} → H → Option E → Making H B L E
 passes h stop = (one_made (stop_answer stop), h)
 
+-- nothing is called
+abbrev pub calls_nothing : {F Q R : Type 0} → F → Q → R → F → Type 0
+calls_nothing f q v g = ⊥
+
+-- a call on two values, as one on their pair; and where it may be made
+abbrev pub call_on_pair : {F A B R : Type 0} → (F → A → B → R → F → Type 0) → F → A × B → R → F → Type 0
+call_on_pair call f both v g = call f both.0 both.1 v g
+
+abbrev pub takes_pair : {F A B : Type 0} → (F → A → B → Type 0) → F → A × B → Type 0
+takes_pair takes f both = takes f both.0 both.1
+
 -- this is made, and this is held then
 abbrev pub Makes : {H B L E : Type 0} → Making H B L E → Made B L E → H → Type 0
 Makes t made h = (made ≡ t.0) × (h ≡ t.1)
@@ -67,6 +78,10 @@ HintBy m s (calls u by) h = (k : ℕ × Option ℕ) × m.hints s k × (h ≡ by 
 -- the hint, by what is held and what is due
 abbrev pub plan_hint : {S H F L X E : Type 0} → Contract S X E → (H → Option L → HintPlan) → S × ((H × F) × Option L) → ℕ × Option ℕ → Type 0
 plan_hint m hint p h = HintBy m p.0 (hint p.1.0.0 p.1.1) h
+
+-- The contract of a source of which one draw may make nothing, however often: it requires a bound besides.
+abbrev pub bounded : {S A E : Type 0} → Contract S A E → Contract S A E
+bounded m = record m { can_next = λ s. m.is_finite s × m.can_next s }
 
 -- The contract: at most `most` answers come of an item, and `held` are held. Its call may always be made; or it is a closure's.
 module _ {S H F Q R X B L E : Type 0} (m : Contract S X E) (comes : L → Option (Answered B E)) (call : F → Q → R → F → Type 0) where

@@ -2,13 +2,16 @@
 ghost use Rattle.std.specs.Prelude.{◌≡◌, ⊤, None, Option, Result};
 ghost use Rattle.fallible_iterator.specs.Contract.{parts_as};
 ghost use Rattle.fallible_iterator.specs.Laws.Contract.{lawful_parts};
-ghost use Rattle.fallible_itertools_adapters.specs.Dedup.{dedup_asks, dedup_contract, dedup_made, dedup_parts};
-ghost use Rattle.fallible_itertools_adapters.specs.Holding.{held_one, holding_step};
-ghost use Rattle.fallible_itertools_adapters.specs.Laws.Dedup.{holds_dedup, lawful_dedup};
+ghost use Rattle.fallible_itertools_adapters.specs.BeforeStop.{held_one};
+ghost use Rattle.fallible_itertools_adapters.specs.Dedup.{dedup_contract, dedup_made, dedup_parts, dedup_plan, dedup_stops};
+ghost use Rattle.fallible_itertools_adapters.specs.Laws.Dedup.{is_stage_dedup, lawful_dedup};
+ghost use Rattle.fallible_itertools_adapters.specs.Plan.{calls_nothing, plan_item, plan_stop};
+ghost use Rattle.fallible_itertools_adapters.specs.Staging.{stop_comes};
 
-use crate::holding::{Hold, at_stop, drive_holding, with_held};
-use crate::staging::stopped;
-use fallible_iterator::extending::Outcome;
+use crate::staging::{
+    AnswerAndDue, Made, Stage, Stop, drawn_until, drive_stage, let_go, one, put_due, stopped,
+    with_held,
+};
 use fallible_iterator::{FallibleIterator, Turn};
 
 /// The first of adjacent equal items. It is buffered until an item that differs comes, or a stop: `Ok(None)` or a failure, which the next call returns.
@@ -16,18 +19,18 @@ use fallible_iterator::{FallibleIterator, Turn};
 pub struct Dedup<I: FallibleIterator> {
     pub(crate) it: I,
     // the first of equal items, which wasn't yielded yet; and the stop that is due: `Ok(None)`, or a failure
-    pub(crate) stage: (Option<I::Item>, Option<Option<I::Error>>),
+    pub(crate) stage: ((Option<I::Item>, ()), Option<Stop<I::Error>>),
 }
 
 impl<I: FallibleIterator> Dedup<I> {
     /// Creates it. It draws nothing.
     #[inline(always)]
     pub fn new(it: I) -> Dedup<I>
-        ensures { dedup_parts result ≡ (it, (None, None)) }
+        ensures { dedup_parts result ≡ (it, ((None, tt), None)) }
     {
         Dedup {
             it,
-            stage: (None, None),
+            stage: ((None, ()), None),
         }
     }
 }
@@ -47,14 +50,21 @@ where
     fn next(&mut self) -> Result<Option<I::Item>, I::Error> {
         match self.stage.1.take() {
             Some(stop) => stopped(stop),
-            None => differing(&mut self.it, &mut self.stage.0, &mut self.stage.1),
+            None => {
+                // in a local, so that a compiler keeps it in a register
+                let mut held = (self.stage.0.0.take(), ());
+                let (answer, due) = drawn_until(&mut self.it, &mut held, &DedupStage);
+                self.stage.0.0 = held.0;
+                put_due(&mut self.stage.1, due);
+                answer
+            }
         }
     }
 
     fn size_hint(&self) -> (usize, Option<usize>) {
         match self.stage.1 {
             Some(None) => (0, Some(0)),
-            _ => with_held(self.it.size_hint(), self.stage.0.is_some()),
+            _ => with_held(self.it.size_hint(), self.stage.0.0.is_some()),
         }
     }
 
@@ -63,92 +73,63 @@ where
         state: &mut C,
         turn: &K,
     ) -> Result<Option<R>, I::Error> {
-        drive_holding(&mut self.it, &mut self.stage, &DedupHold, state, turn)
+        drive_stage(&mut self.it, &mut self.stage, &DedupStage, state, turn)
     }
 
     ghost lawful = { lawful_parts dedup_made (lawful_dedup I.Item.eq I.lawful) };
 }
 
-// Draws until an item differs from the buffered one, or a stop comes. No stop is due. What is buffered stands in a local, so that a compiler keeps it in a register.
-fn differing<I: FallibleIterator>(
-    it: &mut I,
-    held: &mut Option<I::Item>,
-    due: &mut Option<Option<I::Error>>,
-) -> Result<Option<I::Item>, I::Error>
-where
-    I::Item: PartialEq + Drop,
-    I::Error: Drop,
-    requires none_due { due.old ≡ None }
-    requires can_next { I.contract.can_next it.old }
-    requires finite { I.contract.is_finite it.old }
-    ensures { holding_step (dedup_asks I.Item.eq) I.contract.steps
-        (it.old, (held.old, None)) result (it.new, (held.new, due.new)) }
-{
-    let mut first = held.take();
-    let mut left = it.number();
-    loop {
-        match it.draw() {
-            Ok(Some(x)) => match DedupHold.ask(&mut first, Some(x)) {
-                Outcome::Kept(y) => {
-                    *held = first;
-                    return Ok(Some(y));
-                }
-                Outcome::LeftOut => left = left.one_less(),
-                Outcome::Failure(e) => {
-                    *held = first;
-                    return at_stop(Some(e), held, due, &DedupHold);
-                }
-                Outcome::End => unreachable!(),
-            },
-            Ok(None) => {
-                *held = first;
-                return at_stop(None, held, due, &DedupHold);
-            }
-            Err(e) => {
-                *held = first;
-                return at_stop(Some(e), held, due, &DedupHold);
-            }
-        }
-    }
-}
-
 // What becomes of an item after the buffered one.
 #[derive(Drop)]
-struct DedupHold;
+struct DedupStage;
 
-impl<X: PartialEq + Drop, E> Hold<Option<X>, X, E> for DedupHold {
+impl<X: PartialEq + Drop, E> Stage<(Option<X>, ()), X, E> for DedupStage {
     type Kept = X;
 
-    ghost can_ask = { λ _ p x. ⊤ };
+    type Due = Stop<E>;
 
-    ghost asks = { λ _ p x o q. dedup_asks X.eq p x o q };
+    ghost comes = { λ _ stop. stop_comes stop };
 
-    ghost held = { λ _ p. held_one p };
+    ghost can_meet = { λ _ p x. ⊤ };
+
+    ghost items = { λ _ p x made q. plan_item calls_nothing (dedup_plan X.eq) dedup_stops p x made q };
+
+    ghost stops = { λ _ p stop made q. plan_stop calls_nothing (dedup_plan X.eq) dedup_stops p stop made
+        q };
+
+    ghost most = { λ _. 1 };
+
+    ghost held = { λ _ p. held_one p.0 };
 
     #[inline(always)]
-    fn ask(&self, holds: &mut Option<X>, asked: Option<X>) -> Outcome<X, E>
-        ensures { dedup_asks X.eq holds.old asked result holds.new }
+    fn on_item(&self, p: &mut (Option<X>, ()), item: X) -> Made<X, Stop<E>, E>
+        ensures { plan_item calls_nothing (dedup_plan X.eq) dedup_stops p.old item result p.new }
     {
-        match (holds.take(), asked) {
-            (None, Some(x)) => {
-                *holds = Some(x);
-                Outcome::LeftOut
-            }
-            (Some(first), Some(x)) => {
-                if first == x {
-                    *holds = Some(first);
-                    Outcome::LeftOut
+        let (kept, made) = match p.0.take() {
+            None => (item, None),
+            Some(first) => {
+                if first == item {
+                    (first, None)
                 } else {
-                    *holds = Some(x);
-                    Outcome::Kept(first)
+                    (item, one(Ok(Some(first))))
                 }
             }
-            (Some(first), None) => Outcome::Kept(first),
-            (None, None) => Outcome::End,
-        }
+        };
+        p.0 = Some(kept);
+        made
     }
 
-    ghost can_stop = { λ _ p. tt };
+    #[inline(always)]
+    fn on_stop(&self, p: &mut (Option<X>, ()), stop: Stop<E>) -> Made<X, Stop<E>, E>
+        ensures { plan_stop calls_nothing (dedup_plan X.eq) dedup_stops p.old stop result p.new }
+    {
+        let_go(p.0.take(), stop)
+    }
 
-    ghost holds = { λ _. holds_dedup X.eq };
+    #[inline(always)]
+    fn answer_due(&self, due: Stop<E>) -> AnswerAndDue<X, Stop<E>, E> {
+        (stopped(due), None)
+    }
+
+    ghost is_stage = { λ _. is_stage_dedup X.eq };
 }

@@ -1,8 +1,9 @@
 //! Adapters of one source by what each of its answers makes: nothing, or one answer and what is due after it.
-ghost use Rattle.std.specs.Prelude.{◌≡◌, ℕ, Option, Result, Some, None, Ok, Err};
+ghost use Rattle.std.specs.Prelude.{◌≡◌, ℕ, if◌then◌else◌, Option, Result, Some, None, Ok, Err};
 ghost use Rattle.fallible_iterator.specs.Folds.{CallableDriving, Driven, TurnThrough, beside, beside_names};
 ghost use Rattle.fallible_iterator.specs.Passing.{IfItem};
-ghost use Rattle.fallible_itertools_adapters.specs.Staging.{DueTakes, DueTold, IsStage, MadeTakes, MadeTold, Met, MetTakes, PassesNoneOver, StageTurns, TakesAll, Told, due_comes, due_left, made_before, one_made, stage_meets, stage_step, stop_answer};
+ghost use Rattle.fallible_itertools_adapters.specs.BeforeStop.{before_stop, held_hint};
+ghost use Rattle.fallible_itertools_adapters.specs.Staging.{DrawsUpTo, DueTakes, DueTold, IsStage, MadeTakes, MadeTold, Met, MetTakes, PassesNoneOver, StageTurns, TakesAll, Told, due_comes, due_left, made_before, one_made, stage_meets, stage_step, stop_answer};
 ghost use Rattle.std.specs.declared.ops.ControlFlow.TheVariants.{Break};
 
 use fallible_iterator::extending::Beside;
@@ -44,6 +45,29 @@ pub fn stopped<B, E>(stop: Stop<E>) -> Result<Option<B>, E>
         None => Ok(None),
         Some(e) => Err(e),
     }
+}
+
+/// What a stop makes where this is buffered: the buffered item, after which the stop is due; or the stop, where none is buffered.
+#[inline(always)]
+pub fn let_go<B, E>(held: Option<B>, stop: Stop<E>) -> Made<B, Stop<E>, E>
+    ensures { result ≡ before_stop held stop }
+{
+    match held {
+        Some(y) => one_then(Ok(Some(y)), stop),
+        None => one(stopped(stop)),
+    }
+}
+
+/// The hint of an adapter that buffers an item or none, if no end is due: at least one item if the source has at least one or one is buffered, and at most the source's and what is buffered.
+pub fn with_held(hint: (usize, Option<usize>), is_held: bool) -> (usize, Option<usize>)
+    ensures { result ≡ held_hint (if is_held then 1 else 0) hint }
+{
+    let low = if hint.0 > 0 || is_held { 1 } else { 0 };
+    let high = match hint.1 {
+        Some(bound) => bound.checked_add(if is_held { 1 } else { 0 }),
+        None => None,
+    };
+    (low, high)
 }
 
 /// What an adapter makes of each answer of its source. It holds a `P`; the source yields `X`.
@@ -93,9 +117,9 @@ pub trait Stage<P, X, E> {
         (held stage) };
 }
 
-// What becomes of an answer of the source.
+/// What becomes of an answer of the source.
 #[inline(always)]
-fn made_of<P, X, E, G: Stage<P, X, E>>(
+pub fn made_of<P, X, E, G: Stage<P, X, E>>(
     answer: Result<Option<X>, E>,
     p: &mut P,
     stage: &G,
@@ -110,9 +134,9 @@ fn made_of<P, X, E, G: Stage<P, X, E>>(
     }
 }
 
-// What is due from now on, where nothing was.
+/// What is due from now on, where nothing was.
 #[inline(always)]
-fn put_due<D>(due: &mut Option<D>, next: Option<D>)
+pub fn put_due<D>(due: &mut Option<D>, next: Option<D>)
     requires { due.old ≡ None }
     ensures { due.new ≡ next }
 {
@@ -196,7 +220,8 @@ where
     requires can_next { I.contract.can_next it.old }
     requires takes { TakesAll I.contract (stage_meets (G.items adapter.now) (G.stops adapter.now))
         (G.can_meet adapter.now) it.old stage.old.0 }
-    requires makes { PassesNoneOver (stage_meets (G.items adapter.now) (G.stops adapter.now)) }
+    requires makes { PassesNoneOver (stage_meets (G.items adapter.now) (G.stops adapter.now))
+        stage.old.0 }
     ensures { stage_step (G.comes adapter.now)
         (stage_meets (G.items adapter.now) (G.stops adapter.now)) I.contract.steps
         (it.old, stage.old) result (it.new, stage.new) }
@@ -214,6 +239,60 @@ where
             }
             None => unreachable!(),
         },
+    }
+}
+
+/// One answer of an adapter of which one draw may make nothing: what is due, without a draw, or what draws make, of which the last makes something.
+pub fn next_until<I: FallibleIterator, P, G: Stage<P, I::Item, I::Error>>(
+    it: &mut I,
+    stage: &mut (P, Option<G::Due>),
+    adapter: &G,
+) -> Result<Option<G::Kept>, I::Error>
+where
+    requires can_next { I.contract.can_next it.old }
+    requires finite { I.contract.is_finite it.old }
+    requires takes { TakesAll I.contract (stage_meets (G.items adapter.now) (G.stops adapter.now))
+        (G.can_meet adapter.now) it.old stage.old.0 }
+    ensures { stage_step (G.comes adapter.now)
+        (stage_meets (G.items adapter.now) (G.stops adapter.now)) I.contract.steps
+        (it.old, stage.old) result (it.new, stage.new) }
+{
+    match stage.1.take() {
+        Some(due) => {
+            let (answer, left) = adapter.answer_due(due);
+            put_due(&mut stage.1, left);
+            answer
+        }
+        None => {
+            let (answer, due) = drawn_until(it, &mut stage.0, adapter);
+            put_due(&mut stage.1, due);
+            answer
+        }
+    }
+}
+
+/// Draws until a draw makes something, where nothing is due: the answer, and what is due after it.
+#[inline(always)]
+pub fn drawn_until<I: FallibleIterator, P, G: Stage<P, I::Item, I::Error>>(
+    it: &mut I,
+    held: &mut P,
+    adapter: &G,
+) -> AnswerAndDue<G::Kept, G::Due, I::Error>
+where
+    requires can_next { I.contract.can_next it.old }
+    requires finite { I.contract.is_finite it.old }
+    requires takes { TakesAll I.contract (stage_meets (G.items adapter.now) (G.stops adapter.now))
+        (G.can_meet adapter.now) it.old held.old }
+    ensures { DrawsUpTo (G.comes adapter.now)
+        (stage_meets (G.items adapter.now) (G.stops adapter.now)) I.contract.steps
+        it.old held.old result.0 it.new (held.new, result.1) }
+{
+    let mut left = it.number();
+    loop {
+        match made_of(it.draw(), held, adapter) {
+            Some(made) => return made,
+            None => left = left.one_less(),
+        }
     }
 }
 

@@ -1,5 +1,5 @@
 -- The fold of a stage: turns on what is due and on what is made are turns on the adapter's own answers.
-use Rattle.std.specs.Prelude.{◌≡◌, ℕ, List, [], ◌∷◌, ◌++◌, map, ⊤, Option, Some, None, Ok, Err}
+use Rattle.std.specs.Prelude.{◌≡◌, ◌<◌, ℕ, List, [], ◌∷◌, ◌++◌, map, ⊤, Option, Some, None, Ok, Err}
 use Rattle.std.specs.List.{FoldsTo}
 use Rattle.std.proofs.Common.{refl, sym, ap, subst, inl, inr}
 use Rattle.fallible_iterator.specs.Traces.{Answered, Run, Yields, item}
@@ -8,10 +8,10 @@ use Rattle.fallible_iterator.specs.Closures.{Reaches}
 use Rattle.fallible_iterator.specs.Passing.{IfItem}
 use Rattle.fallible_iterator.specs.Folds.{HoldsAtEachTurn, goes_on, DriveExit, Driven, TurnThrough, beside, beside_names}
 use Rattle.fallible_iterator.specs.Laws.Contract.{kept_by_draws_of_one_draw, kept_by_draws_of_no_draw, kept_by_draws_transitive}
-use Rattle.fallible_iterator.specs.Laws.Closures.{reaches_reflexive, reaches_weaken, reaches_by_call_first}
+use Rattle.fallible_iterator.specs.Laws.Closures.{reaches_reflexive, reaches_weaken, reaches_by_call_first, is_callable_after}
 use Rattle.fallible_iterator.proofs.Lemmas.Folds.{holds_at_first_turn, holds_each_turn_after_item, driven_by_item_first, driven_end, driven_failure, driven_stop, fold_of_references_drives_values, names_kept}
 use Rattle.fallible_iterator.proofs.Lemmas.Folding.{drained_by_same_steps, holds_each_turn_by_same_steps}
-use Rattle.fallible_itertools_adapters.specs.Staging.{Made, yields, passes_over, due_comes, due_left, stage_meets, stage_step, stop_answer, MayMeet, TakesAll, IsStage, IsStop, EndsInStop, Told, DueTold, MadeTold, DueTakes, MadeTakes, Met, MetTakes, StageTurns}
+use Rattle.fallible_itertools_adapters.specs.Staging.{DrawsUpTo, Made, yields, passes_over, due_comes, due_left, stage_meets, stage_step, stop_answer, MayMeet, TakesAll, IsStage, IsStop, EndsInStop, Told, DueTold, MadeTold, DueTakes, MadeTakes, Met, MetTakes, StageTurns}
 use Rattle.fallible_itertools_adapters.specs.Laws.Staging.{may_meet_of_answer, may_meet_before_draws}
 use Rattle.std.specs.declared.ops.ControlFlow.{ControlFlow}
 use Rattle.std.specs.declared.ops.ControlFlow.TheVariants.{Continue, Break}
@@ -163,9 +163,12 @@ module _ {S P X D B L E C R : Type 0} (comes : L → Option (Answered B E)) (mee
     driven_where_stage_turns_stop told w = stopped told w.last w.at.carried w.at.exit (up_to (Ok (Some told)) w)
 
 module _ {S P X D B L E : Type 0} (comes : L → Option (Answered B E)) (meets : P → Answered X D → Made B L E → P → Type 0) (steps : S → Answered X D → S → Type 0) where
-  -- where nothing is due, what a draw makes is one answer
+  -- where nothing is due, what draws make is one answer
+  pub step_of_draws : {s t : S} {p q : P × Option L} {r : Answered B E} → p.1 ≡ None → DrawsUpTo comes meets steps s p.0 r t q → stage_step comes meets steps (s, p) r (t, q)
+  step_of_draws {s = s} {t = t} {p = p} {q = q} {r = r} is drawn = subst (λ (d : Option L). stage_step comes meets steps (s, (p.0, d)) r (t, q)) (sym is) drawn
+
   pub step_of_met : {s t : S} {p : P × Option L} {h : P} {a : Answered X D} {r : Answered B E} {due : Option L} → p.1 ≡ None → steps s a t → meets p.0 a (Some (r, due)) h → stage_step comes meets steps (s, p) r (t, (h, due))
-  step_of_met {s = s} {t = t} {p = p} {h = h} {a = a} {r = r} {due = due} is step called = subst (λ (d : Option L). stage_step comes meets steps (s, (p.0, d)) r (t, (h, due))) (sym is) (yields a step called)
+  step_of_met is step called = step_of_draws is (yields _ step called)
 
 -- ---- the whole fold
 
@@ -259,3 +262,15 @@ module _ {B L E C R : Type 0} (comes : L → Option (Answered B E)) (turns : C �
 
     pub breaks_at_stop : (most : ℕ) (held : P → ℕ) → IsStage comes (stage_meets items stops) most held → {p q : P} (stop : Option D) (made : Made B L E) (c d : C) → stops p stop made q → MadeTold {R = R} turns comes c made (Continue tt) d → ⊥
     breaks_at_stop most held is {p = p} {q = q} stop made c d called told = made_stop_never_told_to_continue made c d ((is p (stop_answer stop) made q (met_of_stop stop called)).2 (stop_answer_is_stop X stop)) told
+
+-- ---- draws that make nothing
+
+module _ {S P X D B L E : Type 0} {m : Contract S X D} (l : Lawful m) (comes : L → Option (Answered B E)) (meets : P → Answered X D → Made B L E → P → Type 0) where
+  -- what made nothing was an item
+  pub one_fewer_where_none_made : (most : ℕ) (held : P → ℕ) → IsStage comes meets most held → {s t : S} {p q : P} (a : Answered X D) → m.can_next s → m.steps s a t → meets p a None q → (n : ℕ) → m.bound s n → (k : ℕ) × m.bound t k × (k < n)
+  one_fewer_where_none_made most held is {s = s} {t = t} (Ok (Some x)) c step called n b = (l.kept_by_draw s (Ok (Some x)) t c step).answer.1 n b
+  one_fewer_where_none_made most held is {p = p} {q = q} (Ok None) c step called n b = absurd ((is p (Ok None) None q called).2 tt)
+  one_fewer_where_none_made most held is {p = p} {q = q} (Err e) c step called n b = absurd ((is p (Err e) None q called).2 tt)
+
+  pub takes_all_after_draw : (takes : P → X → Type 0) {s t : S} {p q : P} (a : Answered X D) (made : Made B L E) → m.can_next s → m.steps s a t → meets p a made q → TakesAll m meets takes s p → TakesAll m meets takes t q
+  takes_all_after_draw takes {s = s} {t = t} {p = p} {q = q} a made c step called callable = let g = l.kept_by_draw s a t c step in is_callable_after {pre = λ h b. IfItem (takes h) b} (may_meet_before_draws m s t (kept_by_draws_of_one_draw g)) (reaches_by_call_first a made (may_meet_of_answer m s t a g.answer) called reaches_reflexive) callable

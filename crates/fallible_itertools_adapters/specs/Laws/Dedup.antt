@@ -1,22 +1,27 @@
 -- The contract of `Dedup` is lawful where the source's is.
-use Rattle.std.specs.Prelude.{Bool, true, false, Option, Some, None, ⊤}
-use Rattle.std.proofs.Common.{arith}
+use Rattle.std.specs.Prelude.{ℕ, Bool, true, false, Option, Some, None}
+use Rattle.std.proofs.Common.{arith, refl}
 use Rattle.fallible_iterator.specs.Contract.{Contract, Lawful}
-use Rattle.fallible_itertools_adapters.specs.Holding.{Holds, HeldAfter, held_one, one_at_least}
-use Rattle.fallible_itertools_adapters.specs.Dedup.{dedup_at, dedup_asks, dedup_contract}
-use Rattle.fallible_itertools_adapters.specs.Laws.Holding.{lawful_holding}
-use Rattle.fallible_iterator.specs.Outcome.{Outcome}
+use Rattle.fallible_itertools_adapters.specs.BeforeStop.{held_hints, held_one}
+use Rattle.fallible_itertools_adapters.specs.Dedup.{dedup_contract, dedup_plan, dedup_stops, unless_same}
+use Rattle.fallible_itertools_adapters.specs.Laws.Plan.{Always, ItemWeighs, StopWeighs, before_stop_weighs, is_stage_plan, lawful_bounded, lawful_plan}
+use Rattle.fallible_itertools_adapters.specs.Plan.{calls_nothing, plan_meets}
+use Rattle.fallible_itertools_adapters.specs.Staging.{IsStage, stop_comes}
 
-module _ {A E : Type 0} (eq : A → A → Bool) where
-  held_after_dedup_at : (y x : A) (b : Bool) (o : Outcome A E) (q : Option A) → dedup_at eq y x b o q → HeldAfter 1 (Some x) o (held_one q)
-  held_after_dedup_at y x true o q (is, at) = rw (is, at) (omega arith)
-  held_after_dedup_at y x false o q (is, at) = rw (is, at) (omega arith)
+module _ {A : Type 0} (E : Type 0) where
+  pub unless_same_weighs : (y x : A) (b : Bool) → ItemWeighs {E = E} stop_comes 1 held_one (Some y) (unless_same y x b)
+  unless_same_weighs y x true = (omega arith, omega arith)
+  unless_same_weighs y x false = (omega arith, omega arith)
 
-  pub holds_dedup : Holds {E = E} (dedup_asks eq) held_one
-  holds_dedup None (Some x) o q (is, at) = rw (is, at) (omega arith)
-  holds_dedup (Some y) (Some x) o q w = held_after_dedup_at y x (eq y x) o q w
-  holds_dedup None None o q (is, at) = rw (is, at) (omega arith)
-  holds_dedup (Some y) None o q (is, at) = rw (is, at) (omega arith)
+  pub dedup_stops_weighs : (held : Option A) (stop : Option E) → StopWeighs stop_comes 1 held_one held stop (dedup_stops held stop)
+  dedup_stops_weighs held stop = before_stop_weighs held_one held None held stop refl refl
+
+  pub dedup_plan_weighs : (eq : A → A → Bool) (held : Option A) (x : A) → Always (λ t. ItemWeighs {E = E} stop_comes 1 held_one held t) (dedup_plan eq held x)
+  dedup_plan_weighs eq None x = (omega arith, omega arith)
+  dedup_plan_weighs eq (Some y) x = unless_same_weighs y x (eq y x)
+
+pub is_stage_dedup : {A E : Type 0} (eq : A → A → Bool) → IsStage stop_comes (plan_meets (calls_nothing {F = Unit {0}}) (dedup_plan eq {E = E}) dedup_stops) 1 (λ p. held_one p.0)
+is_stage_dedup {E = E} eq = is_stage_plan stop_comes 1 held_one calls_nothing (dedup_plan eq) dedup_stops (dedup_plan_weighs E eq) (dedup_stops_weighs E)
 
 pub lawful_dedup : {S A E : Type 0} {m : Contract S A E} (eq : A → A → Bool) → Lawful m → Lawful (dedup_contract eq m)
-lawful_dedup {m = m} eq l = lawful_holding (dedup_asks eq) (λ p x. ⊤) held_one (one_at_least m held_one) (holds_dedup eq) l
+lawful_dedup eq l = lawful_plan (lawful_bounded l) stop_comes calls_nothing (dedup_plan eq) dedup_stops 1 held_one (held_hints held_one) (is_stage_dedup eq)

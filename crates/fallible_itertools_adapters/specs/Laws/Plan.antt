@@ -1,13 +1,14 @@
 -- The contracts of adapters by functions are lawful where the source's is: what is made weighs no more than what was held and drawn.
-use Rattle.std.specs.Prelude.{ℕ, ◌+◌, ◌*◌, ◌≤◌, ⊤, Option, Some, None, Ok, Err}
+use Rattle.std.specs.Prelude.{◌≡◌, ℕ, ◌+◌, ◌*◌, ◌≤◌, ⊤, Option, Some, None, Ok, Err}
 use Rattle.std.proofs.Common.{arith}
 use Rattle.fallible_iterator.specs.Traces.{Answered}
 use Rattle.fallible_iterator.specs.Contract.{Contract, Lawful}
 use Rattle.fallible_iterator.specs.Laws.Closures.{is_callable_after}
 use Rattle.fallible_iterator.specs.Passing.{IfItem}
-use Rattle.fallible_itertools_adapters.specs.Staging.{EndsInStop, IsStage, Made, items_of, made_total, stays_of}
+use Rattle.fallible_itertools_adapters.specs.Staging.{EndsInStop, IsStage, Made, items_of, made_total, stays_of, stop_comes}
 use Rattle.fallible_itertools_adapters.specs.Laws.Staging.{lawful_stage}
-use Rattle.fallible_itertools_adapters.specs.Plan.{Follows, HintPlan, Makes, Making, Plan, calls, closure_contract, makes, passes, plan_can, plan_contract, plan_hint, plan_meets, plan_takes}
+use Rattle.fallible_itertools_adapters.specs.BeforeStop.{before_stop, held_one}
+use Rattle.fallible_itertools_adapters.specs.Plan.{Follows, HintPlan, Makes, Making, Plan, bounded, calls, closure_contract, makes, passes, plan_can, plan_contract, plan_hint, plan_meets, plan_takes}
 
 -- P holds of what comes of a plan, whatever the call returns
 abbrev pub Always : {Q R T : Type 0} → (T → Type 0) → Plan Q R T → Type 0
@@ -47,7 +48,21 @@ pub passes_weighs : {L B E H : Type 0} (comes : L → Option (Answered B E)) (mo
 passes_weighs comes most some h None = (omega arith, omega arith, tt)
 passes_weighs comes most some h (Some e) = (omega arith, omega (arith, some), tt)
 
+-- what is held, and then a stop
+pub before_stop_weighs : {B E H : Type 0} (held : H → ℕ) (h k : H) (kept : Option B) (stop : Option E) → held h ≡ held_one kept → held k ≡ 0 → StopWeighs stop_comes 1 held h stop (before_stop kept stop, k)
+before_stop_weighs held h k None None was none = (omega (arith, none), omega (arith, none), tt)
+before_stop_weighs held h k None (Some e) was none = (omega (arith, none), omega (arith, none), tt)
+before_stop_weighs held h k (Some y) None was none = (omega (arith, was, none), omega (arith, was, none), tt)
+before_stop_weighs held h k (Some y) (Some e) was none = (omega (arith, was, none), omega (arith, was, none), tt)
+
 -- ---- lawful
+
+pub lawful_bounded : {S A E : Type 0} {m : Contract S A E} → Lawful m → Lawful (bounded m)
+lawful_bounded {m = m} l = record {
+  kept_by_draw = λ s r t c step. let k = l.kept_by_draw s r t c.1 step in record { can_next = (k.is_finite c.0, k.can_next); is_finite = k.is_finite; answer = k.answer; may_give = k.may_give; may_fail = k.may_fail; lenders = k.lenders };
+  bounded = l.bounded;
+  traced = l.traced;
+}
 
 module _ {S H F Q R X B L E : Type 0} {m : Contract S X E} (l : Lawful m) (comes : L → Option (Answered B E)) (call : F → Q → R → F → Type 0) (plan : H → X → Plan Q R (Making H B L E)) (stops : H → Option E → Making H B L E) (most : ℕ) (held : H → ℕ) (hint : H → Option L → HintPlan) (is : IsStage comes (plan_meets call plan stops) most (λ (p : H × F). held p.0)) where
   pub lawful_plan : Lawful (plan_contract m comes call plan stops most held hint)

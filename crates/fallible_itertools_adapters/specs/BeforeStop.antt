@@ -1,0 +1,44 @@
+-- Adapters that hold what they drew until a later item or a stop decides what becomes of it. At a stop what is held comes first: the stop is due then, and is the next answer.
+use Rattle.std.specs.Prelude.{◌≡◌, ℕ, ◌+◌, min, Option, Some, None, Err}
+use Rattle.fallible_iterator.specs.Traces.{item}
+use Rattle.fallible_iterator.specs.Contract.{Contract}
+use Rattle.fallible_iterator.specs.Hints.{fitting_sum}
+use Rattle.fallible_iterator.specs.SoundHints.{HintsAsSoundAs, SoundHints}
+use Rattle.fallible_itertools_adapters.specs.Plan.{HintPlan, calls, makes}
+use Rattle.fallible_itertools_adapters.specs.Staging.{Made, made_before, one_made, stop_answer}
+
+-- what a stop makes: the item that is held, after which the stop is due; or the stop, where none is held
+abbrev pub before_stop : {B E : Type 0} → Option B → Option E → Made B (Option E) E
+before_stop (Some y) stop = made_before (item y) stop
+before_stop None stop = one_made (stop_answer stop)
+
+-- an answer that is held, or none
+abbrev pub held_one : {A : Type 0} → Option A → ℕ
+held_one (Some x) = 1
+held_one None = 0
+
+-- ---- the hint
+
+-- Of the source's hint, where n are held: at least one if the source has one for certain or one is held, and at most what the source has and these, where that fits.
+abbrev pub held_hint : ℕ → ℕ × Option ℕ → ℕ × Option ℕ
+held_hint n k = (min (k.0 + n) 1, fitting_sum k.1 (Some n))
+
+-- Where an end is due, no item comes before it. Otherwise this is the hint, also where a failure is due, after which more may come.
+abbrev pub hint_unless_end : {E : Type 0} → HintPlan → Option (Option E) → HintPlan
+hint_unless_end hint (Some None) = makes (0, Some 0)
+hint_unless_end hint (Some (Some e)) = hint
+hint_unless_end hint None = hint
+
+-- the hint of an adapter that holds so many
+abbrev pub held_hints : {H E : Type 0} → (H → ℕ) → H → Option (Option E) → HintPlan
+held_hints held h due = hint_unless_end (calls tt (held_hint (held h))) due
+
+-- If s returns the failure e, each hint that s may return is one that the value after it may return.
+abbrev pub HintsPastFailure : {S B E : Type 0} → Contract S B E → S → E → Type 0
+HintsPastFailure {S = S} m s e = (t : S) (h : ℕ × Option ℕ) → m.steps s (Err e) t → m.hints s h → m.hints t h
+
+-- Each hint of an adapter that holds is as sound as the hint of its source that it is made of; if a stop is due it is sound by itself, and if that is a failure it is that of what comes after it. `due_of` is the stop that is due, and `it` the source.
+pub record HintsWhereHeld {V S X B E : Type 0} (m : Contract V B E) (due_of : V → Option (Option E)) (source : Contract S X E) (it : V → S) : Type 0 where
+  pub none_due : (s : V) → due_of s ≡ None → HintsAsSoundAs m s source (it s)
+  pub due : (s : V) (stop : Option E) → due_of s ≡ Some stop → SoundHints m s
+  pub failure_due : (s : V) (e : E) → due_of s ≡ Some (Some e) → HintsPastFailure m s e
