@@ -44,7 +44,6 @@ ghost use Rattle.fallible_itertools_consumers.specs.Equal.{FirstCall, TestCall, 
 ghost use Rattle.fallible_itertools_adapters.specs.ErrInto.{err_into_contract, err_into_parts};
 ghost use Rattle.fallible_itertools_consumers.specs.ExactlyOne.{AtMostOneDrains, at_most_one_of, wanting_one};
 ghost use Rattle.fallible_itertools_adapters.specs.FuseAtFailure.{fuse_at_failure_contract, fuse_at_failure_parts, up_to_failure};
-ghost use Rattle.fallible_itertools_adapters.specs.Holding.{MayBeAsked};
 ghost use Rattle.fallible_itertools_consumers.specs.GroupMap.{GroupRefuses, IsGroupMapOf};
 ghost use Rattle.fallible_itertools_adapters.specs.InspectErr.{inspect_err_contract, inspect_err_parts, seen_call};
 ghost use Rattle.fallible_itertools_adapters.specs.OrElse.{or_else_contract, or_else_parts, recovered};

@@ -4,7 +4,7 @@ use Rattle.fallible_iterator.specs.Traces.{Answered}
 use Rattle.fallible_iterator.specs.Contract.{Contract, Inverse}
 use Rattle.fallible_iterator.specs.Hints.{hint_kept}
 use Rattle.fallible_iterator.specs.Passing.{PassTrace, passing_contract}
-use Rattle.fallible_itertools_adapters.specs.Holding.{as_answered_item}
+use Rattle.fallible_itertools_adapters.specs.Outcomes.{as_answered_item}
 use Rattle.fallible_iterator.specs.Outcome.{Outcome}
 use Rattle.fallible_iterator.specs.Outcome.TheVariants.{Kept, LeftOut}
 use Rattle.fallible_itertools_adapters.specs.declared.tuples.Tuples.{Tuples}

@@ -3,7 +3,7 @@ ghost use Rattle.std.specs.Prelude.{◌≡◌, ⊤, Option, Result, Some, None};
 ghost use Rattle.fallible_iterator.specs.Contract.{parts_as};
 ghost use Rattle.fallible_iterator.specs.Laws.Contract.{lawful_parts};
 ghost use Rattle.fallible_iterator.specs.Passing.{passing_step};
-ghost use Rattle.fallible_itertools_adapters.specs.Holding.{as_answered_item};
+ghost use Rattle.fallible_itertools_adapters.specs.Outcomes.{as_answered_item};
 ghost use Rattle.fallible_itertools_adapters.specs.TupleWindows.{tuple_windows_contract, tuple_windows_made, tuple_windows_parts, window_at, windows_asks};
 ghost use Rattle.fallible_itertools_adapters.specs.Laws.TupleWindows.{lawful_tuple_windows};
 

@@ -3,7 +3,7 @@ ghost use Rattle.std.specs.Prelude.{◌≡◌, ⊤, Option, Result, Some, None};
 ghost use Rattle.fallible_iterator.specs.Contract.{parts_as};
 ghost use Rattle.fallible_iterator.specs.Laws.Contract.{lawful_parts};
 ghost use Rattle.fallible_iterator.specs.Passing.{passing_step};
-ghost use Rattle.fallible_itertools_adapters.specs.Holding.{as_answered_item};
+ghost use Rattle.fallible_itertools_adapters.specs.Outcomes.{as_answered_item};
 ghost use Rattle.fallible_itertools_adapters.specs.Tuples.{items_before_pair, tuples_asks, tuples_contract, tuples_made, tuples_parts};
 ghost use Rattle.fallible_itertools_adapters.specs.Laws.Tuples.{lawful_tuples};
 

@@ -14,7 +14,7 @@ use Rattle.fallible_iterator.proofs.Lemmas.Cutting.ByNumber.{leaves_one}
 use Rattle.fallible_iterator.proofs.Lemmas.Hints.ByNumber.{brackets_kept}
 use Rattle.fallible_iterator.proofs.Lemmas.Hints.Drawn.{OneOfOne, as_sound_of_brackets, as_sound_seen, brackets_where_one_of_one}
 use Rattle.fallible_iterator.proofs.Lemmas.Lists.Passing.{passed, gives_all, lists_seen}
-use Rattle.fallible_itertools_adapters.specs.Holding.{as_answered_item}
+use Rattle.fallible_itertools_adapters.specs.Outcomes.{as_answered_item}
 use Rattle.fallible_itertools_adapters.specs.Tuples.{items_before_pair, tupled, tupled_after, tuples_asks, tuples_contract, tuples_parts}
 use Rattle.fallible_iterator.specs.Outcome.{Outcome}
 use Rattle.fallible_iterator.specs.Outcome.TheVariants.{Kept, LeftOut, Failure, End}

@@ -8,7 +8,7 @@ use Rattle.fallible_iterator.specs.SoundHints.{Brackets, HintsAsSoundAs}
 use Rattle.fallible_iterator.specs.Passing.{passing_step}
 use Rattle.fallible_iterator.specs.Laws.Passing.{Passes, done, end_passes, failure_passes, keeps, refuses, closes, leaves_out, passes_of_pass_trace}
 use Rattle.fallible_iterator.proofs.Lemmas.Hints.Drawn.{as_sound_of_brackets, as_sound_seen, yields_appended_of_two_yields}
-use Rattle.fallible_itertools_adapters.specs.Holding.{as_answered_item}
+use Rattle.fallible_itertools_adapters.specs.Outcomes.{as_answered_item}
 use Rattle.fallible_itertools_adapters.specs.TupleWindows.{window_at, windows_asks, items_lacking, tuple_windows_contract}
 use Rattle.std.specs.declared.alloc.AllocError.{AllocError}
 use Rattle.fallible_iterator.specs.Outcome.{Outcome}

@@ -3,7 +3,7 @@ use Rattle.std.specs.Prelude.{◌≡◌, ℕ, Option, ⊤}
 use Rattle.fallible_iterator.specs.Contract.{Contract, Lawful}
 use Rattle.fallible_iterator.specs.Hints.{hint_less}
 use Rattle.fallible_iterator.specs.Laws.Passing.{lawful_passing}
-use Rattle.fallible_itertools_adapters.specs.Holding.{as_answered_item}
+use Rattle.fallible_itertools_adapters.specs.Outcomes.{as_answered_item}
 use Rattle.fallible_itertools_adapters.specs.TupleWindows.{windows_asks, items_lacking, tuple_windows_contract}
 use Rattle.std.specs.declared.alloc.AllocError.{AllocError}
 

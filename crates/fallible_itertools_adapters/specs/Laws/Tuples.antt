@@ -3,7 +3,7 @@ use Rattle.std.specs.Prelude.{◌≡◌, ℕ, Option, ⊤}
 use Rattle.fallible_iterator.specs.Contract.{Contract, Lawful}
 use Rattle.fallible_iterator.specs.Hints.{hint_kept}
 use Rattle.fallible_iterator.specs.Laws.Passing.{lawful_passing}
-use Rattle.fallible_itertools_adapters.specs.Holding.{as_answered_item}
+use Rattle.fallible_itertools_adapters.specs.Outcomes.{as_answered_item}
 use Rattle.fallible_itertools_adapters.specs.Tuples.{tuples_asks, items_before_pair, tuples_contract}
 
 pub lawful_tuples : {S A E : Type 0} {m : Contract S A E} → Lawful m → Lawful (tuples_contract m)
